@@ -1,0 +1,3 @@
+pub mod formers
+pub mod Bytes
+pub mod Steps
