@@ -2,11 +2,31 @@
 #![tactic(auto)]
 
 mod boxed;
+mod class;
+mod copy_class;
+mod copy_key;
+mod copy_syntax;
+mod kernel;
+mod key;
+mod limits;
 mod list;
 mod memory;
+mod program;
+mod same;
+mod syntax;
 mod text;
 
 pub use boxed::Boxed;
+pub use class::{Body, ClassDecl, ClassFace, Entry, Override, Sig, Variable, Way};
+pub use kernel::kernel_faces;
+pub use key::{ClassKey, MethodRef, Module, ValueType};
+pub use limits::{
+    DEFAULT_FUEL, MAX_BYTES, MAX_CLIENT_CLASSES, MAX_DEPTH, MAX_ENTRIES, MAX_FUEL,
+    MAX_LIBRARY_CLASSES, MAX_LOCALS, MAX_NAME, MAX_NESTING, MAX_OVERRIDES, MAX_PARAMETERS,
+    MAX_PARENTS, MAX_TEXT, MAX_VARIABLES, MAX_VERSION,
+};
 pub use list::List;
 pub use memory::NoMemory;
+pub use program::{ClientProgram, Fault, Interface, Release};
+pub use syntax::{Block, Expr, HostCode, Stmt};
 pub use text::Text;

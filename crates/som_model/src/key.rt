@@ -1,0 +1,38 @@
+use crate::{Boxed, List, Text};
+
+/// Where a named class stands: in the kernel, in the library, in a library above it, or in the client.
+#[derive(Clone, Copy, Debug, PartialEq, Eq)]
+pub enum Module {
+    Kernel,
+    Library,
+    /// A library above the lowest one, counted from it. No class has this module so far.
+    Upper(u8),
+    Client,
+}
+
+/// The name of a class: a declared one by its module and name, a made one by what it is made of.
+#[derive(Drop)]
+pub enum ClassKey {
+    Named { module: Module, name: Text },
+    /// The metaclass that is derived from several.
+    Derived { parents: List<ClassKey> },
+    /// The class of the proxies of a class.
+    Proxy { of: Boxed<ClassKey> },
+}
+
+/// The type of a value; `Void` is the result of a method that answers nothing.
+#[derive(Drop)]
+pub enum ValueType {
+    Void,
+    Long,
+    Boolean,
+    Str,
+    Class(ClassKey),
+}
+
+/// The name of a method: a class, and the name of one of its entries.
+#[derive(Drop)]
+pub struct MethodRef {
+    pub class: ClassKey,
+    pub name: Text,
+}

@@ -1,0 +1,39 @@
+use crate::List;
+use crate::class::{ClassDecl, ClassFace};
+use crate::syntax::Block;
+
+/// What a client is compiled against: the faces of a release's classes.
+#[derive(Drop)]
+pub struct Interface {
+    pub classes: List<ClassFace>,
+}
+
+/// A release of a class library.
+#[derive(Drop)]
+pub struct Release {
+    pub classes: List<ClassDecl>,
+}
+
+/// A client: what it was compiled against, classes of its own, and its main.
+#[derive(Drop)]
+pub struct ClientProgram {
+    pub base: Interface,
+    pub classes: List<ClassDecl>,
+    pub main: Block,
+}
+
+/// What a running program may do wrong.
+#[derive(Clone, Copy, Debug, PartialEq, Eq)]
+pub enum Fault {
+    Nil,
+    Freed,
+    Overflow,
+    DivideByZero,
+    Cast,
+    NoMethod,
+    BadArguments,
+    TextTooLong,
+    Depth,
+    ClassFree,
+    NotClass,
+}

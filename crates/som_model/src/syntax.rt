@@ -1,0 +1,131 @@
+use crate::key::{ClassKey, MethodRef, ValueType};
+use crate::{Boxed, List, Text};
+
+/// The procedures that a program may ask of its host.
+#[derive(Clone, Copy, Debug, PartialEq, Eq)]
+pub enum HostCode {
+    Min,
+    Max,
+    And,
+    Or,
+    Xor,
+    WrapAdd,
+}
+
+/// A body, or a part of one: statements in order.
+#[cycle(syntax)]
+#[derive(Drop)]
+pub struct Block {
+    pub statements: List<Stmt>,
+}
+
+/// A statement. A local goes by its place among the parameters and locals in scope, parameters first;
+/// a variable by its place among those of the body's class.
+#[cycle(syntax)]
+#[derive(Drop)]
+pub enum Stmt {
+    Var {
+        kind: ValueType,
+        value: Expr,
+    },
+    SetLocal {
+        local: u16,
+        value: Expr,
+    },
+    SetVariable {
+        variable: u8,
+        value: Expr,
+    },
+    /// Without an `else` the other block is empty.
+    If {
+        condition: Expr,
+        then: Block,
+        other: Block,
+    },
+    While {
+        condition: Expr,
+        block: Block,
+    },
+    Return,
+    ReturnValue {
+        value: Expr,
+    },
+    Print {
+        value: Expr,
+    },
+    Free {
+        value: Expr,
+    },
+    Call {
+        call: Expr,
+    },
+}
+
+/// An expression. The operators go by the numbers that an image has for them: of one operand minus, not,
+/// length and text, from 0; of two `+ - * / % == != < <= > >=`, and, or and `&`, from 0.
+#[derive(Drop)]
+pub enum Expr {
+    Long(i32),
+    Str(Text),
+    Boolean(bool),
+    Nil,
+    Local(u16),
+    Me,
+    Variable(u8),
+    Unary {
+        op: u8,
+        of: Boxed<Expr>,
+    },
+    Binary {
+        op: u8,
+        left: Boxed<Expr>,
+        right: Boxed<Expr>,
+    },
+    New(ClassKey),
+    Class(ClassKey),
+    Manager,
+    Cast {
+        class: ClassKey,
+        of: Boxed<Expr>,
+    },
+    Isa {
+        class: ClassKey,
+        of: Boxed<Expr>,
+    },
+    Proxy {
+        class: ClassKey,
+        of: Boxed<Expr>,
+    },
+    OffsetCall {
+        method: MethodRef,
+        receiver: Boxed<Expr>,
+        args: List<Expr>,
+    },
+    Lookup {
+        result: ValueType,
+        name: Text,
+        receiver: Boxed<Expr>,
+        args: List<Expr>,
+    },
+    Dispatch {
+        result: ValueType,
+        name: Text,
+        receiver: Boxed<Expr>,
+        args: List<Expr>,
+    },
+    /// A call of a parent's method on self; the parent goes by its place among those of the body's class.
+    ParentCall {
+        parent: u8,
+        method: MethodRef,
+        args: List<Expr>,
+    },
+    ParentsCall {
+        method: MethodRef,
+        args: List<Expr>,
+    },
+    Host {
+        code: HostCode,
+        a: Boxed<Expr>,
+        b: Boxed<Expr>,
+    },
+}
