@@ -1,0 +1,7 @@
+pub mod Outside
+pub mod Store
+pub mod Sink
+pub mod Line
+pub mod Calls
+pub mod MemStore
+pub mod MemSink
