@@ -160,7 +160,7 @@ tried at (Err f) = fault f at
 abbrev pub asked : {O : Type 0} {add : O → Event → O} {A : Type 0} → Place → (Heap → Tried A) → Act add A
 asked at test = reading (λ h. tried at (test h))
 
-abbrev with_one : World → ClassKey → Value → Heap → Heap
+abbrev pub with_one : World → ClassKey → Value → Heap → Heap
 with_one w k target h = record { objects = h.objects ++ (record { class = k; live = true; target = target; variables = zeros w }) ∷ []; statics = h.statics }
 
 -- one object more, with its variables at zero

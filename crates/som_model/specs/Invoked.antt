@@ -95,7 +95,7 @@ pub data KernelBody : Type 0 where
   Asks : Asking → KernelBody
 
 -- the kernel's bodies by the names of their methods
-abbrev table : List (List ℕ × KernelBody)
+abbrev pub table : List (List ℕ × KernelBody)
 table =
     (codes "somFree", Free) ∷ (codes "somNew", New) ∷ (codes "somNewNoInit", NewNoInit) ∷
     (codes "somGetClass", Asks GetClass) ∷
@@ -111,7 +111,7 @@ table =
     (codes "somFindClass", Asks FindClass) ∷ []
 
 -- somInit, somUninit, sommBeforeMethod and sommAfterMethod do nothing
-abbrev kernel_body : List (List ℕ × KernelBody) → List ℕ → KernelBody
+abbrev pub kernel_body : List (List ℕ × KernelBody) → List ℕ → KernelBody
 kernel_body [] name = Idle
 kernel_body (row ∷ rows) name = if bytes_eq row.0 name then row.1 else kernel_body rows name
 
@@ -125,7 +125,7 @@ module _ {O : Type 0} {add : O → Event → O} (w : World) (call : Calls add) (
     pure Nil
   free_body _ = fault faults.ClassFree at
 
-  abbrev new_body : Act add Value
+  abbrev pub new_body : Act add Value
   new_body = do
     k ← tried at (stands_for self)
     r ← make w k Nil
@@ -144,7 +144,7 @@ module _ {O : Type 0} {add : O → Event → O} (w : World) (call : Calls add) (
     on ← asked at (λ h. Ok (target_of h self))
     offset_call w call at Forward method on args
 
-  abbrev kernel_does : KernelBody → List Value → Act add Value
+  abbrev pub kernel_does : KernelBody → List Value → Act add Value
   kernel_does Idle args = pure Nil
   kernel_does Free args = free_body self
   kernel_does New args = new_body
@@ -152,7 +152,7 @@ module _ {O : Type 0} {add : O → Event → O} (w : World) (call : Calls add) (
   kernel_does (Asks q) args = asked at (asks w q self args)
 
 -- the zero value of a method's result
-abbrev result_zero : Option Sig → Value
+abbrev pub result_zero : Option Sig → Value
 result_zero None = Nil
 result_zero (Some sig) = zero_of sig.result
 

@@ -18,11 +18,11 @@ use Rattle.som_model.specs.Statements.{Flow, run_block}
 use Rattle.som_model.specs.Invoked.{body_does}
 
 -- the class whose body a call runs
-abbrev body_class : World → ClassKey → Request → Option ClassKey
+abbrev pub body_class : World → ClassKey → Request → Option ClassKey
 body_class w x q = elim q.parent [ None ↦ w.impl x q.method | Some p ↦ w.impl p q.method ]
 
 -- the hooks of a call on an object of class x: none in a parent call, and none where the kernel owns the method
-abbrev hooks_of : World → ClassKey → Request → List ClassKey
+abbrev pub hooks_of : World → ClassKey → Request → List ClassKey
 hooks_of w x q = elim q.parent [ None ↦ if is_kernel q.method.class then [] else w.hooks (w.meta x) | Some p ↦ [] ]
 
 module _ {O : Type 0} (add : O → Event → O) (w : World) where
@@ -33,16 +33,16 @@ module _ {O : Type 0} (add : O → Event → O) (w : World) where
     emit (Called method way x)
     body_does add w call body x method self args
 
-  abbrev invoke_held : Calls add → Manner → MethodRef → ClassKey → Option Held → Ref → List Value → Act add Value
+  abbrev pub invoke_held : Calls add → Manner → MethodRef → ClassKey → Option Held → Ref → List Value → Act add Value
   invoke_held call way method x None self args = pure Nil
   invoke_held call way method x (Some body) self args = invoke call way method x body self args
 
-  abbrev invoke_in : Calls add → Manner → MethodRef → Option ClassKey → Ref → List Value → Act add Value
+  abbrev pub invoke_in : Calls add → Manner → MethodRef → Option ClassKey → Ref → List Value → Act add Value
   invoke_in call way method None self args = pure Nil
   invoke_in call way method (Some x) self args = invoke_held call way method x (w.held x method) self args
 
   -- the bodies of their own that the hooks have for a method, on the class object
-  abbrev each_hook : Calls add → Manner → MethodRef → List ClassKey → Ref → List Value → Act add (Unit {0})
+  abbrev pub each_hook : Calls add → Manner → MethodRef → List ClassKey → Ref → List Value → Act add (Unit {0})
   each_hook call way method [] self args = pure tt
   each_hook call way method (k ∷ ks) self args = invoke_in call way method (Some k) self args >> each_hook call way method ks self args
 
@@ -73,7 +73,7 @@ abbrev pub beginning : World → ℕ → State
 beginning w fuel = record { fuel = fuel; events = []; heap = nothing_yet w }
 
 -- nothing is kept of an event: the events themselves are in the state
-abbrev nothing_kept : Unit {0} → Event → Unit {0}
+abbrev pub nothing_kept : Unit {0} → Event → Unit {0}
 nothing_kept o e = o
 
 -- what main does from the beginning, with so much fuel, among these classes
