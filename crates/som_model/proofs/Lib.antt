@@ -1,3 +1,5 @@
 pub mod KeyLaws
 pub mod SameLaws
+pub mod NamedLaws
 pub mod NewLaws
+pub mod PrintLaws

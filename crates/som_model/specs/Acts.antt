@@ -4,7 +4,7 @@ use Rattle.som_model.specs.declared.program.Fault.{Fault}
 use Rattle.std.specs.Prelude.{Ok, Err, length}
 use Rattle.som_model.specs.declared.key.ClassKey.{ClassKey}
 use Rattle.som_model.specs.World.{World}
-use Rattle.som_model.specs.State.{Value, Heap, Ref, Object, zeros, Place, Tried, Event, State, Faulted, Spent, Ran, Goes, Ends, end_of, follow, IsPrefix, with_more, IsMore, Lawful, Act, after, moved, added, Told, Kept, KGoes, KEnds, as_told, kept, kept_on, fresh}
+use Rattle.som_model.specs.State.{Instance, Value, Heap, Ref, Object, zeros, Place, Tried, Event, State, Faulted, Spent, Ran, Goes, Ends, end_of, follow, IsPrefix, with_more, IsMore, Lawful, Act, after, moved, added, Told, Kept, KGoes, KEnds, as_told, kept, kept_on, fresh}
 
 pub prefix_self : (a : List Event) → IsPrefix a a
 prefix_self a = ([], sym (append-nil a))
@@ -160,10 +160,15 @@ tried at (Err f) = fault f at
 abbrev pub asked : {O : Type 0} {add : O → Event → O} {A : Type 0} → Place → (Heap → Tried A) → Act add A
 asked at test = reading (λ h. tried at (test h))
 
-abbrev pub with_one : World → ClassKey → Value → Heap → Heap
-with_one w k target h = record { objects = h.objects ++ (record { class = k; live = true; target = target; variables = zeros w }) ∷ []; statics = h.statics }
+-- a new object of a class, with its variables at zero
+abbrev pub new_instance : World → ClassKey → Value → Instance
+new_instance w k target = record { class = k; live = true; target = target; variables = zeros w }
 
--- one object more, with its variables at zero
+-- the objects, and one more
+abbrev pub with_one : World → ClassKey → Value → Heap → Heap
+with_one w k target h = record { objects = h.objects ++ new_instance w k target ∷ []; statics = h.statics }
+
+-- one object more is made
 abbrev pub make : {O : Type 0} {add : O → Event → O} → World → ClassKey → Value → Act add Ref
 make w k target = reading (λ h. become (with_one w k target) >> pure (Object (length h.objects)))
 

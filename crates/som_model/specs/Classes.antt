@@ -59,7 +59,7 @@ greatest [] = 0
 greatest (n ∷ ns) = max n (greatest ns)
 
 -- a declared class is as high as its place, and a made one is higher than what it is made of
-abbrev height_step : List Class → ClassKey-F ℕ → ℕ
+abbrev pub height_step : List Class → ClassKey-F ℕ → ℕ
 height_step cs (ClassKey-F.Named m name) = place_of 1 cs (keys.Named m name)
 height_step cs (ClassKey-F.Derived hs) = greatest hs + 1
 height_step cs (ClassKey-F.Proxy h) = h + 1

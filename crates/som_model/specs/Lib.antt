@@ -28,3 +28,4 @@ pub mod Rules
 pub mod Typing
 pub mod Conforming
 pub mod Images
+pub mod Blocks

@@ -11,7 +11,7 @@ use Rattle.som_model.specs.Classes.{class_at, parents_of, place_of, greatest, hi
 use Rattle.som_model.specs.Implementation.{has_body}
 
 -- the rank of a declared class is its place, and that of a made one the greatest of what it is made of
-abbrev rank_step : List Class → ClassKey-F ℕ → ℕ
+abbrev pub rank_step : List Class → ClassKey-F ℕ → ℕ
 rank_step cs (ClassKey-F.Named m name) = place_of 0 cs (keys.Named m name)
 rank_step cs (ClassKey-F.Derived rs) = greatest rs
 rank_step cs (ClassKey-F.Proxy r) = r
