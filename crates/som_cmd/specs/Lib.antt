@@ -1,1 +1,3 @@
 pub mod FirstImages
+pub mod RunText
+pub mod Names

@@ -37,12 +37,12 @@ classes r p = kernel ++ library_classes r ++ client_classes p
 abbrev pub class_at : List Class → ClassKey → Option Class
 class_at cs k = find (λ (c : Class). same_key c.key k) cs
 
-abbrev parents_in : Option Class → List ClassKey
+abbrev pub parents_in : Option Class → List ClassKey
 parents_in (Some c) = c.decl.face.parents
 parents_in None = []
 
 -- the parents of Derived of a list are that list, and the parent of Proxy of a class is that class
-abbrev parents_by : List Class → ClassKey-F ClassKey → ClassKey → List ClassKey
+abbrev pub parents_by : List Class → ClassKey-F ClassKey → ClassKey → List ClassKey
 parents_by cs (ClassKey-F.Named m name) k = parents_in (class_at cs k)
 parents_by cs (ClassKey-F.Derived ks) k = ks
 parents_by cs (ClassKey-F.Proxy of) k = of ∷ []

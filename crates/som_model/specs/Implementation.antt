@@ -40,7 +40,7 @@ body_named (entries.Moved n to ∷ es) bs name = body_named es bs name
 body_named (entries.Introduced n sig way ∷ es) [] name = None
 body_named (entries.Introduced n sig way ∷ es) (b ∷ bs) name = if bytes_eq n name then Some (held_body b) else body_named es bs name
 
-abbrev is_kernel_layer : ClassKey-F ClassKey → Bool
+abbrev pub is_kernel_layer : ClassKey-F ClassKey → Bool
 is_kernel_layer (ClassKey-F.Named m name) = same_module m modules.Kernel
 is_kernel_layer (ClassKey-F.Derived ks) = false
 is_kernel_layer (ClassKey-F.Proxy of) = false
@@ -59,7 +59,7 @@ abbrev pub override_of : List Class → MethodRef → List Override → Option H
 override_of cs r [] = None
 override_of cs r (o ∷ os) = if same_method (owner cs o.method) r then Some (User o.block) else override_of cs r os
 
-abbrev declared_held : List Class → Option Class → MethodRef → Option Held
+abbrev pub declared_held : List Class → Option Class → MethodRef → Option Held
 declared_held cs None r = None
 declared_held cs (Some c) r = or_else (if same_key c.key r.class then introduced_body c r.name else None) (override_of cs r c.decl.overrides)
 
@@ -69,7 +69,7 @@ proxy_held cs c r =
     if same_method r som_init || same_method r som_uninit then Some Nothing
     else (if is_a cs c r.class && not (is_kernel r.class) && introduces cs r.name r.class then Some Forward else None)
 
-abbrev held_by : List Class → ClassKey-F ClassKey → ClassKey → MethodRef → Option Held
+abbrev pub held_by : List Class → ClassKey-F ClassKey → ClassKey → MethodRef → Option Held
 held_by cs (ClassKey-F.Named m name) k r = declared_held cs (class_at cs k) r
 held_by cs (ClassKey-F.Derived ks) k r = None
 held_by cs (ClassKey-F.Proxy c) k r = proxy_held cs c r

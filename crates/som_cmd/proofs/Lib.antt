@@ -1,0 +1,4 @@
+pub mod Doubles
+pub mod OneClass
+pub mod FirstMeaning
+pub mod Conforms
