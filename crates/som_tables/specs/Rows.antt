@@ -9,11 +9,16 @@ pub record Added (C : Type 0) : Type 0 where
   pub introduced : List C
   pub replaced : List ((ℕ × ℕ) × C)
 
+-- the class that is added with these
+abbrev pub class_with : {C : Type 0} → List ℕ → List C → List ((ℕ × ℕ) × C) → Added C
+class_with parents introduced replaced = record { parents = parents; introduced = introduced; replaced = replaced }
+
 -- the first answer along a list
 abbrev pub first_some : {A B : Type 0} → (A → Option B) → List A → Option B
 first_some f [] = None
 first_some f (x ∷ xs) = option_or (f x) (first_some f xs)
 
+-- both name the same place of the same class
 abbrev pub same_token : ℕ × ℕ → ℕ × ℕ → Bool
 same_token s t = (s.0 == t.0) && (s.1 == t.1)
 

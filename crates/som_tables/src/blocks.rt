@@ -61,7 +61,8 @@ fn copy_block<K: Kind>(
 ) -> Result<(), AllocError>
     requires { (p : ℕ) → p < count → from + p < length cells.old.items }
     ensures grown { Extends cells.old.items cells.new.items }
-    ensures copied { OnOk result ((p : ℕ) → p < count → slice_get cells.new.items (length cells.old.items + p) ≡ option_or (replaced_at replaced.now (class, p)) (slice_get cells.old.items (from + p))) }
+    ensures copied { OnOk result ((p : ℕ) → p < count → slice_get cells.new.items (length cells.old.items + p)
+        ≡ option_or (replaced_at replaced.now (class, p)) (slice_get cells.old.items (from + p))) }
 {
     for place in 0..count {
         let cell = match replaced_cell(replaced, class, place) {
@@ -87,7 +88,8 @@ fn next_block<K: Kind>(
     requires parents { AreBelow (length rows.now) parents.now }
     requires inherited { AreInherited rows.now parents.now replaced.now }
     ensures grown { Extends cells.old.items cells.new.items }
-    ensures block { IfOk result (λ start. IsBlock cells.new.items start (introduced_count rows.now class) (next_cell rows.now parents.now replaced.now class)) }
+    ensures block { IfOk result (λ start. IsBlock cells.new.items start (introduced_count rows.now class)
+        (next_cell rows.now parents.now replaced.now class)) }
 {
     let shared = first_start(starts, parents, class);
     if shared.is_some() && replaces_any(replaced, class) {
@@ -105,7 +107,7 @@ fn next_block<K: Kind>(
     }
 }
 
-/// The blocks for all the classes before, in the row that is added next.
+/// Lays the blocks for all the classes before in the row that is added next.
 fn lay_next_blocks<K: Kind>(
     rows: &[Row<K>],
     blocks: &mut Blocks<K>,
@@ -120,7 +122,8 @@ fn lay_next_blocks<K: Kind>(
     ensures starts { Extends blocks.old.starts.items blocks.new.starts.items }
     ensures cells { Extends blocks.old.cells.items blocks.new.cells.items }
     ensures exact { OnOk result (length blocks.new.starts.items ≡ triangle (length rows.now) + length rows.now) }
-    ensures blocks { OnOk result (HasBlocks rows.now parents.now replaced.now blocks.new.starts.items blocks.new.cells.items (length rows.now)) }
+    ensures blocks { OnOk result (HasBlocks rows.now parents.now replaced.now
+        blocks.new.starts.items blocks.new.cells.items (length rows.now)) }
 {
     for class in 0..rows.len() as u32 {
         let start = next_block(
@@ -136,7 +139,7 @@ fn lay_next_blocks<K: Kind>(
     Ok(())
 }
 
-/// The row that is added next, and on an error so much of it as there was memory for.
+/// Lays the row of the class that is added next, and on an error so much of it as there was memory for.
 fn extend_row<K: Kind>(
     rows: &[Row<K>],
     blocks: &mut Blocks<K>,

@@ -1,5 +1,5 @@
 ghost use Rattle.std.specs.Prelude.{◌≡◌, false, IfOk, None, ℕ, length};
-ghost use Rattle.som_tables.specs.Rows.{introduced_count, replaced_at};
+ghost use Rattle.som_tables.specs.Rows.{class_with, introduced_count, replaced_at};
 
 use crate::{ClassNo, Kind, Token};
 use std::alloc::{AllocError, Global};
@@ -28,7 +28,7 @@ impl<K: Kind> Row<K> {
         introduced: &[K::Cell],
         replaced: &[(Token<K>, K::Cell)],
     ) -> Result<Row<K>, AllocError>
-        ensures { IfOk result (λ row. row ≡ record { parents = parents.now; introduced = introduced.now; replaced = replaced.now }) }
+        ensures { IfOk result (λ row. row ≡ class_with parents.now introduced.now replaced.now) }
     {
         Ok(Row {
             parents: Vec::from_slice(alloc, parents)?,

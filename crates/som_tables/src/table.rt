@@ -1,5 +1,5 @@
 ghost use Rattle.std.specs.Prelude.{◌≡◌, ◌<◌, ◌≤◌, ◌+◌, ◌++◌, ◌∷◌, [], length, IfOk, OnOk, OnErr, Some};
-ghost use Rattle.som_tables.specs.Rows.{AddsRow, AddsTokens, AreBelow, AreDistinct, AreInherited, HasToken, KeepsRows, inherited, introduced_count};
+ghost use Rattle.som_tables.specs.Rows.{AddsRow, AddsTokens, AreBelow, AreDistinct, AreInherited, HasToken, KeepsRows, class_with, inherited, introduced_count};
 
 use crate::blocks::{Blocks, start_place};
 use crate::row::Row;
@@ -55,10 +55,10 @@ impl<K: Kind> Table<K> {
         requires distinct { AreDistinct replaced.now }
 
         ensures class { IfOk result (λ class. class ≡ length self.old) }
-        ensures added { OnOk result (self.new ≡ self.old ++ record { parents = parents.now; introduced = introduced.now; replaced = replaced.now } ∷ []) }
+        ensures added { OnOk result (self.new ≡ self.old ++ class_with parents.now introduced.now replaced.now ∷ []) }
         ensures earlier { OnOk result (KeepsRows self.old self.new) }
-        ensures row { OnOk result (AddsRow self.old self.new (record { parents = parents.now; introduced = introduced.now; replaced = replaced.now })) }
-        ensures tokens { OnOk result (AddsTokens self.old self.new (record { parents = parents.now; introduced = introduced.now; replaced = replaced.now })) }
+        ensures row { OnOk result (AddsRow self.old self.new (class_with parents.now introduced.now replaced.now)) }
+        ensures tokens { OnOk result (AddsTokens self.old self.new (class_with parents.now introduced.now replaced.now)) }
         ensures err { OnErr result (self.new ≡ self.old) }
     {
         let class = ClassNo::new(self.rows.len() as u32);

@@ -23,6 +23,7 @@ fn the_leftmost_parent_counts(rt: HostRuntime) -> Result<(), Fail> {
     Ok(())
 }
 
+// That it takes two steps is proved, since no run sees the count.
 fn resolve_in_two<L: Ledger>(
     table: &Table<DataKind>,
     class: ClassNo,

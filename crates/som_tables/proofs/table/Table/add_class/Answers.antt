@@ -1,4 +1,5 @@
 use Rattle.std.proofs.Common.{◌∷◌, []}
+use Rattle.som_tables.specs.Rows.{class_with}
 use Rattle.som_tables.proofs.Inherited.{inherited-append, inherited-push, HasToken-push}
 use Rattle.som_tables.proofs.table.Table.add_class.Goals as goal
 
@@ -9,11 +10,11 @@ returns-clause-earlier g c =
 pub returns-clause-row : goal.returns-clause-row
 returns-clause-row g c =
     rw (c.in_ok-push.ensures.items, c.reserve.ensures.items, c.in_ok-row.ensures, ← c.self.view_is)
-    (inherited-push c.self.inside.rows.items (record { parents = c.args.parents.now; introduced = c.args.introduced.now; replaced = c.args.replaced.now }) c.self.invariant.laid.order
+    (inherited-push c.self.inside.rows.items (class_with c.args.parents.now c.args.introduced.now c.args.replaced.now) c.self.invariant.laid.order
     (rw c.self.view_is c.requires.parents))
 
 pub returns-clause-tokens : goal.returns-clause-tokens
 returns-clause-tokens g c =
     rw (c.in_ok-push.ensures.items, c.reserve.ensures.items, c.in_ok-row.ensures, ← c.self.view_is)
-    (HasToken-push c.self.inside.rows.items (record { parents = c.args.parents.now; introduced = c.args.introduced.now; replaced = c.args.replaced.now }) c.self.invariant.laid.order
+    (HasToken-push c.self.inside.rows.items (class_with c.args.parents.now c.args.introduced.now c.args.replaced.now) c.self.invariant.laid.order
     (rw c.self.view_is c.requires.parents) (rw c.self.view_is c.requires.inherited))
