@@ -1,0 +1,19 @@
+//! Tables that answer, for a class and a token, the cell that the class has for it: its own, or one that it inherits.
+#![tactic(auto)]
+
+mod blocks;
+mod class_no;
+mod kind;
+mod row;
+mod start;
+mod steps;
+mod table;
+#[cfg(test)]
+mod tests;
+mod token;
+
+pub use class_no::ClassNo;
+pub use kind::{DataKind, Kind, MethodKind};
+pub use steps::Steps;
+pub use table::Table;
+pub use token::{DToken, MToken, Token};
