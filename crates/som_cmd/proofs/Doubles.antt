@@ -34,23 +34,24 @@ doubles_front m before (x ∷ xs) fresh none =
     let p = neither (bytes_eq m x) (among m xs) fresh in
     let q = none_at (some (bytes_eq x) before) x (doubles bytes_eq before xs) (doubles bytes_eq (before ++ x ∷ []) xs) none in
     ap (λ (b : Bool). if b then x ∷ doubles bytes_eq (m ∷ before) xs else doubles bytes_eq (m ∷ (before ++ x ∷ [])) xs)
-      (either_no (bytes_eq x m) (some (bytes_eq x) before) (bytes_sym x m ∙ p.0) q.0)
+    (either_no (bytes_eq x m) (some (bytes_eq x) before) (bytes_sym x m ∙ p.0) q.0)
     ∙ doubles_front m (before ++ x ∷ []) xs p.1 q.1
 
--- there is something
-pub data Some_ : List (List ℕ) → Type 0 where
-  some_ : (x : List ℕ) (xs : List (List ℕ)) → Some_ (x ∷ xs)
+-- the list isn't empty
+abbrev pub HasSome : List (List ℕ) → Type 0
+HasSome [] = ⊥
+HasSome (x ∷ xs) = Unit {0}
 
 found_at : (m x : List ℕ) (before xs : List (List ℕ)) (b c d : Bool) → bytes_eq x m ≡ b → some (bytes_eq x) before ≡ c → among m xs ≡ d
-    → (if b then true else d) ≡ true → (d ≡ true → Some_ (doubles bytes_eq (m ∷ (before ++ x ∷ [])) xs))
-    → Some_ (if (if b then true else c) then x ∷ doubles bytes_eq (m ∷ before) xs else doubles bytes_eq (m ∷ (before ++ x ∷ [])) xs)
-found_at m x before xs true c d p q r h rest = some_ x (doubles bytes_eq (m ∷ before) xs)
-found_at m x before xs false true d p q r h rest = some_ x (doubles bytes_eq (m ∷ before) xs)
+    → (if b then true else d) ≡ true → (d ≡ true → HasSome (doubles bytes_eq (m ∷ (before ++ x ∷ [])) xs))
+    → HasSome (if (if b then true else c) then x ∷ doubles bytes_eq (m ∷ before) xs else doubles bytes_eq (m ∷ (before ++ x ∷ [])) xs)
+found_at m x before xs true c d p q r h rest = tt
+found_at m x before xs false true d p q r h rest = tt
 found_at m x before xs false false d p q r h rest = rest h
 
 -- a name that is among the others makes one
-pub doubles_found : (m : List ℕ) (before xs : List (List ℕ)) → among m xs ≡ true → Some_ (doubles bytes_eq (m ∷ before) xs)
+pub doubles_found : (m : List ℕ) (before xs : List (List ℕ)) → among m xs ≡ true → HasSome (doubles bytes_eq (m ∷ before) xs)
 doubles_found m before [] h = absurd (true≢false (sym h))
 doubles_found m before (x ∷ xs) h =
     found_at m x before xs (bytes_eq x m) (some (bytes_eq x) before) (among m xs) refl refl refl
-      (ap (λ (b : Bool). if b then true else among m xs) (bytes_sym x m) ∙ h) (doubles_found m (before ++ x ∷ []) xs)
+    (ap (λ (b : Bool). if b then true else among m xs) (bytes_sym x m) ∙ h) (doubles_found m (before ++ x ∷ []) xs)

@@ -62,7 +62,7 @@ module _ (r : FirstRelease) where
       let call = calls nothing_kept w (suc (suc 62)) in
       ap (λ (a : Act nothing_kept Flow). a.does (beginning w (suc (suc (suc n))))) (run_block_is nothing_kept w call here (calling (method_of r.face) (key_of r.face) ∷ []) [])
       ∙ ap (λ (o : Ran Flow). follow (follow o (λ flow. (go_on {add = nothing_kept} flow (all_of [])).does)) (λ flow s. Goes (leave 0 flow) s))
-        (calling_does nothing_kept w 62 here (key_of r.face) (key_of r.face) (method_of r.face) r.text [] news runs n [] (nothing_yet w))
+      (calling_does nothing_kept w 62 here (key_of r.face) (key_of r.face) (method_of r.face) r.text [] news runs n [] (nothing_yet w))
 
   pub first_text : (n : ℕ) → run_text no_trace (means (release_of r) (program_of r.face) (suc (suc (suc n)))) ≡ r.text ++ 10 ∷ []
   first_text n = ap (run_text no_trace) (first_means n) ∙ append-nil (r.text ++ 10 ∷ [])

@@ -3,6 +3,7 @@ use Rattle.std.proofs.Common.{◌≡◌, ℕ, Bool, true, false, List, [], ◌�
 use Rattle.som_model.specs.declared.key.Module.TheVariants as modules
 use Rattle.som_model.specs.declared.key.ClassKey.{ClassKey}
 use Rattle.som_model.specs.declared.key.ClassKey.TheVariants as keys
+use Rattle.som_model.specs.declared.key.ValueType.TheVariants as types
 use Rattle.som_model.specs.declared.syntax.Block.{Block}
 use Rattle.som_model.specs.declared.class.Body.{Body}
 use Rattle.som_model.specs.declared.class.Body.TheVariants as bodies
@@ -12,7 +13,7 @@ use Rattle.som_model.specs.Ancestors.{anc_within}
 use Rattle.som_model.specs.Class.{Class, class_in}
 use Rattle.som_model.specs.Kernel.{kernel, som_object, som_class, som_new, som_init}
 use Rattle.som_model.specs.Classes.{class_at, hierarchy, place_of, ancestors, is_a}
-use Rattle.som_model.specs.Owner.{owner, entry_at}
+use Rattle.som_model.specs.Owner.{owner, sig_of}
 use Rattle.som_model.specs.Implementation.{held, has_body, implementation, is_kernel, OfKernel, User}
 use Rattle.som_model.specs.Metaclass.{meta, hooks, rank}
 use Rattle.som_model.proofs.NamedLaws.{same_named, bytes_self, height_named, rank_named, parents_named, kernel_named, held_named, hierarchy_parents, hierarchy_same}
@@ -81,6 +82,9 @@ module _ (f : FirstFace) (bs : List Body) where
 
   pub hooks_is : hooks cs som_class ≡ []
   hooks_is = simp (height_named, same_named, bytes_self, parents_named, hierarchy_parents, hierarchy_same)
+
+  pub sig_is : sig_of cs (method_of f) ≡ Some (record { result = types.Void; params = [] })
+  sig_is = simp (same_named, bytes_self)
 
   pub is_foreign : is_kernel k ≡ false
   is_foreign = kernel_named modules.Library f.class

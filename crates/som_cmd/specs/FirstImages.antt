@@ -26,7 +26,9 @@ method_of f = record { class = key_of f; name = f.method }
 -- one parent, SOMObject; no metaclass; one entry, which is introduced, answers nothing and has no parameters
 abbrev pub face_of : FirstFace → ClassFace
 face_of f = record {
-  name = f.class; major = f.major; minor = f.minor;
+  name = f.class;
+  major = f.major;
+  minor = f.minor;
   parents = som_object ∷ [];
   metaclass = None;
   entries = method f.method types.Void [] ∷ [];

@@ -1,4 +1,10 @@
-use som_model::Text;
+ghost use Rattle.som_cmd.specs.Names.{is_kernel_name, is_new, is_object_method};
+ghost use Rattle.som_cmd.specs.Reading.{Gives, client_at, face_at, library_at};
+ghost use Rattle.std.specs.Prelude.{◌≡◌};
+
+use crate::reading::{Unread, read_constant, read_text, read_version};
+use som_model::{List, Text};
+use std::alloc::Global;
 
 /// The face of a class under SOMObject with one method, which answers nothing and has no parameters.
 #[derive(Drop)]
@@ -14,4 +20,115 @@ pub struct FirstFace {
 pub struct FirstRelease {
     pub face: FirstFace,
     pub text: Text,
+}
+
+// `SOML`, version 1, one class.
+const LIBRARY_HEAD: &[u8] = b"SOML\x01\x00\x01";
+
+// `SOMC`, version 1, one class of the library.
+const CLIENT_HEAD: &[u8] = b"SOMC\x01\x00\x01";
+
+// One parent, the class of number 0; no metaclass; one entry.
+const FACE_SHAPE: &[u8] = b"\x01\x00\x00\x00\x00\x01";
+
+// Introduced, called by offset; answers nothing; no parameters.
+const ENTRY_SHAPE: &[u8] = b"\x00\x00\x00";
+
+// No variables; a block of one statement, which prints a text.
+const PART_SHAPE: &[u8] = b"\x00\x00\x00\x00\x00\x01\x08\x21";
+
+// No overrides.
+const NO_OVERRIDES: &[u8] = b"\x00\x00";
+
+// No class of the client's own; one statement, a call by offset of the method at slot 0 of the class of number 4,
+// on a new object of that class, without arguments.
+const MAIN_SHAPE: &[u8] = b"\x00\x00\x00\x00\x00\x01\x0a\x2f\x00\x04\x00\x00\x29\x00\x04\x00";
+
+fn is_kernel_name(name: &Text) -> bool
+    ensures { result ≡ is_kernel_name name.now }
+{
+    name.is(b"SOMObject")
+        || name.is(b"SOMClass")
+        || name.is(b"SOMClassMgr")
+        || name.is(b"SOMMBeforeAfter")
+}
+
+fn is_object_method(name: &Text) -> bool
+    ensures { result ≡ is_object_method name.now }
+{
+    name.is(b"somInit")
+        || name.is(b"somUninit")
+        || name.is(b"somFree")
+        || name.is(b"somGetClass")
+        || name.is(b"somGetClassName")
+        || name.is(b"somIsA")
+        || name.is(b"somIsInstanceOf")
+        || name.is(b"somRespondsTo")
+        || name.is(b"somDispatchName")
+}
+
+impl FirstFace {
+    /// Whether the class has no name of the kernel's, and the method none that SOMObject introduces.
+    fn is_new(&self) -> bool
+        ensures { result ≡ is_new self.now }
+    {
+        !is_kernel_name(&self.class) && !is_object_method(&self.method)
+    }
+}
+
+#[tactic(auto, unfolding(crate::specs::Reading::face_at))]
+fn read_face(alloc: Global, bytes: &[u8]) -> Result<(FirstFace, &[u8]), Unread>
+    ensures { Gives (λ x. (x.0, x.1.now)) result (face_at bytes.now) }
+{
+    let (class, rest) = read_text(alloc, bytes)?;
+    let (major, rest) = read_version(rest)?;
+    let (minor, rest) = read_version(rest)?;
+    let rest = read_constant(FACE_SHAPE, rest)?;
+    let (method, rest) = read_text(alloc, rest)?;
+    let rest = read_constant(ENTRY_SHAPE, rest)?;
+    let face = FirstFace {
+        class,
+        major,
+        minor,
+        method,
+    };
+    Ok((face, rest))
+}
+
+/// The release of a first library image, where the bytes are one.
+#[tactic(auto, unfolding(crate::specs::Reading::library_at))]
+pub fn read_library(alloc: Global, bytes: &List<u8>) -> Result<FirstRelease, Unread>
+    ensures { Gives (λ release. release) result (library_at bytes.now) }
+{
+    let rest = read_constant(LIBRARY_HEAD, bytes.as_slice())?;
+    let (face, rest) = read_face(alloc, rest)?;
+    let rest = read_constant(PART_SHAPE, rest)?;
+    let (text, rest) = read_text(alloc, rest)?;
+    let rest = read_constant(NO_OVERRIDES, rest)?;
+    if !rest.is_empty() {
+        return Err(Unread::OtherForm);
+    }
+    if face.is_new() {
+        Ok(FirstRelease { face, text })
+    } else {
+        Err(Unread::OtherForm)
+    }
+}
+
+/// The face of a first client image, where the bytes are one.
+#[tactic(auto, unfolding(crate::specs::Reading::client_at))]
+pub fn read_client(alloc: Global, bytes: &List<u8>) -> Result<FirstFace, Unread>
+    ensures { Gives (λ face. face) result (client_at bytes.now) }
+{
+    let rest = read_constant(CLIENT_HEAD, bytes.as_slice())?;
+    let (face, rest) = read_face(alloc, rest)?;
+    let rest = read_constant(MAIN_SHAPE, rest)?;
+    if !rest.is_empty() {
+        return Err(Unread::OtherForm);
+    }
+    if face.is_new() {
+        Ok(face)
+    } else {
+        Err(Unread::OtherForm)
+    }
 }

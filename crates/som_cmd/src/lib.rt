@@ -2,5 +2,7 @@
 #![tactic(auto)]
 
 mod first;
+mod reading;
 
-pub use first::{FirstFace, FirstRelease};
+pub use first::{FirstFace, FirstRelease, read_client, read_library};
+pub use reading::Unread;

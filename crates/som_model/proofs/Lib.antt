@@ -3,3 +3,4 @@ pub mod SameLaws
 pub mod NamedLaws
 pub mod NewLaws
 pub mod PrintLaws
+pub mod ImageLaws

@@ -68,10 +68,12 @@ counted w most spell xs = where_it_is (nat_le (length xs) most) (number w (lengt
 abbrev pub text : List ℕ → Spelled
 text t = where_it_is (nat_le (length t) MAX_TEXT) (number w16 (length t) then Some t)
 
-abbrev version : ℕ → Spelled
+-- a version
+abbrev pub version : ℕ → Spelled
 version n = where_it_is (nat_le n MAX_VERSION) (number w32 n)
 
-abbrev numbered : Option ℕ → Spelled
+-- the number of a place, if there is one
+abbrev pub numbered : Option ℕ → Spelled
 numbered None = None
 numbered (Some n) = number w16 n
 
@@ -79,7 +81,8 @@ numbered (Some n) = number w16 n
 abbrev pub class : List Class → ClassKey → Spelled
 class cs k = numbered (place_from 0 (λ (c : Class). same_key c.key k) cs)
 
-abbrev slot_in : Option Class → List ℕ → Option ℕ
+-- the slot of a name among the entries of a class
+abbrev pub slot_in : Option Class → List ℕ → Option ℕ
 slot_in None name = None
 slot_in (Some c) name = place_from 0 (λ e. bytes_eq (entry_name e) name) c.decl.face.entries
 
@@ -102,7 +105,7 @@ value_kind cs t = kind cs t
 abbrev pub sig : List Class → Sig → Spelled
 sig cs s = kind cs s.result then counted w8 MAX_PARAMETERS (value_kind cs) s.params
 
-abbrev way : Way → Spelled
+abbrev pub way : Way → Spelled
 way ways.Offset = tag 0
 way ways.Lookup = tag 1
 
@@ -110,7 +113,7 @@ abbrev pub entry : List Class → Entry → Spelled
 entry cs (entries.Introduced name s w) = text name then way w then sig cs s
 entry cs (entries.Moved name to) = text name then tag 2 then class cs to
 
-abbrev metaclass : List Class → Option ClassKey → Spelled
+abbrev pub metaclass : List Class → Option ClassKey → Spelled
 metaclass cs None = tag 0
 metaclass cs (Some k) = tag 1 then class cs k
 
@@ -128,11 +131,11 @@ abbrev pub AtLevel : Type 0
 AtLevel = ℕ → Spelled
 
 -- a tag at a level, and what follows it
-abbrev at_level : ℕ → ℕ → Spelled → Spelled
+abbrev pub at_level : ℕ → ℕ → Spelled → Spelled
 at_level level t rest = where_it_is (nat_le level MAX_NESTING) (tag t then rest)
 
 -- arguments, one level deeper
-abbrev args : ℕ → List AtLevel → Spelled
+abbrev pub args : ℕ → List AtLevel → Spelled
 args level es = counted w8 MAX_PARAMETERS (λ e. e (suc level)) es
 
 abbrev truth : Bool → Spelled
@@ -147,7 +150,8 @@ host hosts.Or = tag 3
 host hosts.Xor = tag 4
 host hosts.WrapAdd = tag 5
 
-abbrev expr_step : List Class → Expr-F AtLevel → AtLevel
+-- an expression, by how its parts are spelled
+abbrev pub expr_step : List Class → Expr-F AtLevel → AtLevel
 expr_step cs (Expr-F.Long z) l = at_level l 0x20 (number w32 (cast_unsigned w32 z))
 expr_step cs (Expr-F.Str t) l = at_level l 0x21 (text t)
 expr_step cs (Expr-F.Boolean b) l = at_level l 0x22 (truth b)
@@ -175,10 +179,11 @@ abbrev pub expr : List Class → Expr → AtLevel
 expr cs = fold-Expr AtLevel (expr_step cs)
 
 -- statements, one after another at one level, after their number
-abbrev block_step : Block-F AtLevel AtLevel → AtLevel
+abbrev pub block_step : Block-F AtLevel AtLevel → AtLevel
 block_step b l = where_it_is (nat_lt (length b.statements) (2 ^ 32)) (number w32 (length b.statements) then each (λ s. s l) b.statements)
 
-abbrev stmt_step : List Class → Stmt-F AtLevel AtLevel → AtLevel
+-- a statement, by how its blocks are spelled
+abbrev pub stmt_step : List Class → Stmt-F AtLevel AtLevel → AtLevel
 stmt_step cs (Stmt-F.Var t e) l = at_level l 0x01 (value_kind cs t then expr cs e (suc l))
 stmt_step cs (Stmt-F.SetLocal n e) l = at_level l 0x02 (number w16 n then expr cs e (suc l))
 stmt_step cs (Stmt-F.SetVariable n e) l = at_level l 0x03 (tag n then expr cs e (suc l))
@@ -199,7 +204,8 @@ block cs = fold-Block AtLevel AtLevel (stmt_step cs) block_step
 abbrev variable : List Class → Variable → Spelled
 variable cs v = text v.name then value_kind cs v.kind
 
-abbrev body : List Class → Body → Spelled
+-- a body of an introduced method
+abbrev pub body : List Class → Body → Spelled
 body cs (bodies.User b) = tag 0 then block cs b 1
 body cs (bodies.Get n) = tag 1 then tag n
 body cs (bodies.Set n) = tag 2 then tag n
