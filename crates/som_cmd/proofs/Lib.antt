@@ -6,3 +6,4 @@ pub mod FirstMeaning
 pub mod Conforms
 pub mod ImageOf
 pub mod FirstLaws
+pub mod RunAnswers

@@ -13,7 +13,7 @@ use Rattle.som_cmd.specs.declared.first.TheConstants.{LIBRARY_HEAD, CLIENT_HEAD,
 use Rattle.som_cmd.specs.declared.reading.Unread.{Unread}
 use Rattle.som_cmd.specs.declared.reading.Unread.TheVariants as unread
 use Rattle.som_cmd.specs.Names.{is_new}
-use Rattle.som_cmd.specs.Reading.{unless, constant_at, text_at, version_at, face_at, library_at, client_at, all_read}
+use Rattle.som_cmd.specs.Reading.{unless, constant_at, text_at, version_at, face_at, library_form_at, client_form_at, all_read}
 use Rattle.som_cmd.proofs.Fields.{bind_ok, unless_ok, where_ok, Takes, Takes-then, text, text_takes, text_again, version_takes, version_again, constant_takes, constant_again}
 
 -- a face that has a spelling
@@ -56,7 +56,7 @@ face_takes bytes x fits e =
     let e2 = Takes-then a.0.1 (to_be_bytes w32 b.0.0) b.0.1 (to_be_bytes w32 c.0.0 ++ (FACE_SHAPE.now ++ (text m.0.0 ++ ENTRY_SHAPE.now))) r.0 tb.0 e3 in
     let e1 = Takes-then bytes (text a.0.0) a.0.1 (to_be_bytes w32 b.0.0 ++ (to_be_bytes w32 c.0.0 ++ (FACE_SHAPE.now ++ (text m.0.0 ++ ENTRY_SHAPE.now)))) r.0 ta.0 e2 in
     subst (λ (y : FirstFace × List ℕ). Takes bytes (face_bytes y.0) y.1 × FaceFits y.0) (ok_is (made a.0.0 b.0.0 c.0.0 m.0.0, r.0) x r.2)
-      (e1, record { class = ta.1; major = tb.1; minor = tc.1; method = tm.1 })
+    (e1, record { class = ta.1; major = tb.1; minor = tc.1; method = tm.1 })
 
 regroup : (a b c d e f r : List ℕ) → (a ++ (b ++ (c ++ (d ++ (e ++ f))))) ++ r ≡ a ++ (b ++ (c ++ (d ++ (e ++ (f ++ r)))))
 regroup a b c d e f r = simp append_assoc
@@ -103,8 +103,8 @@ abbrev made_release : FirstFace → List ℕ → FirstRelease
 made_release f t = record { face = f; text = t }
 
 -- what is read is spelled so
-pub library_takes : (bytes : List ℕ) (r : FirstRelease) → AreBytes bytes → library_at bytes ≡ Ok r → (bytes ≡ library_bytes r) × LibraryFits r × (is_new r.face ≡ true)
-unfolding library_at
+pub library_takes : (bytes : List ℕ) (r : FirstRelease) → AreBytes bytes → library_form_at bytes ≡ Ok r → (bytes ≡ library_bytes r) × LibraryFits r × (is_new r.face ≡ true)
+unfolding library_form_at
 library_takes bytes r fits e =
     let a = bind_ok (constant_at LIBRARY_HEAD.now bytes) (λ head. face_at head >>= λ face. constant_at PART_SHAPE.now face.1 >>= λ part. text_at part >>= λ text. constant_at NO_OVERRIDES.now text.1 >>= λ rest. all_read (made_release face.0 text.0) rest >>= λ release. cond (is_new face.0) (Ok release) (Err unread.OtherForm)) r e in
     let b = bind_ok (face_at a.0) (λ face. constant_at PART_SHAPE.now face.1 >>= λ part. text_at part >>= λ text. constant_at NO_OVERRIDES.now text.1 >>= λ rest. all_read (made_release face.0 text.0) rest >>= λ release. cond (is_new face.0) (Ok release) (Err unread.OtherForm)) r a.2 in
@@ -129,8 +129,8 @@ library_takes bytes r fits e =
     subst (λ (x : FirstRelease). (bytes ≡ library_bytes x) × LibraryFits x × (is_new x.face ≡ true)) {x = one} is (whole, record { face = tb.1; text = td.1 }, n.0)
 
 -- what is spelled so is read
-pub library_again : (r : FirstRelease) → LibraryFits r → is_new r.face ≡ true → library_at (library_bytes r) ≡ Ok r
-unfolding library_at
+pub library_again : (r : FirstRelease) → LibraryFits r → is_new r.face ≡ true → library_form_at (library_bytes r) ≡ Ok r
+unfolding library_form_at
 library_again r fits new =
     let r3 = text r.text ++ NO_OVERRIDES.now in
     let r2 = PART_SHAPE.now ++ r3 in
@@ -141,8 +141,8 @@ library_again r fits new =
     ∙ ap (λ (x : Result (List ℕ × List ℕ) Unread). x >>= λ text. constant_at NO_OVERRIDES.now text.1 >>= λ rest. all_read (made_release r.face text.0) rest >>= λ release. cond (is_new r.face) (Ok release) (Err unread.OtherForm)) (text_again r.text NO_OVERRIDES.now fits.text)
     ∙ ap (λ (b : Bool). cond b (done r) (Err unread.OtherForm)) new
 
-pub client_takes : (bytes : List ℕ) (f : FirstFace) → AreBytes bytes → client_at bytes ≡ Ok f → (bytes ≡ client_bytes f) × FaceFits f × (is_new f ≡ true)
-unfolding client_at
+pub client_takes : (bytes : List ℕ) (f : FirstFace) → AreBytes bytes → client_form_at bytes ≡ Ok f → (bytes ≡ client_bytes f) × FaceFits f × (is_new f ≡ true)
+unfolding client_form_at
 client_takes bytes x fits e =
     let a = bind_ok (constant_at CLIENT_HEAD.now bytes) (λ head. face_at head >>= λ face. constant_at MAIN_SHAPE.now face.1 >>= λ rest. all_read face.0 rest >>= λ client. cond (is_new client) (Ok client) (Err unread.OtherForm)) x e in
     let b = bind_ok (face_at a.0) (λ face. constant_at MAIN_SHAPE.now face.1 >>= λ rest. all_read face.0 rest >>= λ client. cond (is_new client) (Ok client) (Err unread.OtherForm)) x a.2 in
@@ -159,8 +159,8 @@ client_takes bytes x fits e =
     let read : (bytes ≡ client_bytes g.0) × FaceFits g.0 = subst (λ (y : FirstFace). (bytes ≡ client_bytes y) × FaceFits y) {x = b.0.0} h.1 (whole, tb.1) in
     subst (λ (y : FirstFace). (bytes ≡ client_bytes y) × FaceFits y × (is_new y ≡ true)) {x = g.0} n.1 (read.0, read.1, n.0)
 
-pub client_again : (f : FirstFace) → FaceFits f → is_new f ≡ true → client_at (client_bytes f) ≡ Ok f
-unfolding client_at
+pub client_again : (f : FirstFace) → FaceFits f → is_new f ≡ true → client_form_at (client_bytes f) ≡ Ok f
+unfolding client_form_at
 client_again f fits new =
     ap (λ (x : Result (List ℕ) Unread). x >>= λ head. face_at head >>= λ face. constant_at MAIN_SHAPE.now face.1 >>= λ rest. all_read face.0 rest >>= λ client. cond (is_new client) (Ok client) (Err unread.OtherForm)) (constant_again CLIENT_HEAD.now (face_bytes f ++ MAIN_SHAPE.now))
     ∙ ap (λ (x : Result (FirstFace × List ℕ) Unread). x >>= λ face. constant_at MAIN_SHAPE.now face.1 >>= λ rest. all_read face.0 rest >>= λ client. cond (is_new client) (Ok client) (Err unread.OtherForm)) (face_again f MAIN_SHAPE.now fits)

@@ -10,6 +10,7 @@ use Rattle.som_model.specs.declared.class.ClassFace.{ClassFace}
 use Rattle.som_model.specs.declared.class.ClassDecl.{ClassDecl}
 use Rattle.som_model.specs.declared.program.Release.{Release}
 use Rattle.som_model.specs.declared.program.ClientProgram.{ClientProgram}
+use Rattle.som_model.specs.Bytes.{AreBytes}
 use Rattle.som_model.specs.Blocks.{printing, calling}
 use Rattle.som_model.specs.Kernel.{som_object, method}
 use Rattle.som_model.specs.Conforming.{ReleaseOk, ProgramOk}
@@ -57,12 +58,14 @@ program_of f = record {
 
 -- the bytes are a first library image: they spell this release, which has that form and conforms
 pub record IsFirstLibrary (bytes : List ℕ) (r : Release) : Type 0 where
+  pub bytes_are : AreBytes bytes
   pub spelled : library_image r ≡ Some bytes
   pub form : (f : FirstRelease) × (r ≡ release_of f)
   pub conforms : ReleaseOk r
 
 -- the bytes are a first client image: they spell this program, which has that form and conforms
 pub record IsFirstClient (bytes : List ℕ) (p : ClientProgram) : Type 0 where
+  pub bytes_are : AreBytes bytes
   pub spelled : client_image p ≡ Some bytes
   pub form : (f : FirstFace) × (p ≡ program_of f)
   pub conforms : ProgramOk p

@@ -5,6 +5,7 @@ use Rattle.std.specs.Int.{Width, w16, w32, byte_len, from_be_bytes}
 use Rattle.som_model.specs.declared.limits.TheConstants.{MAX_VERSION}
 use Rattle.som_model.specs.declared.program.Release.{Release}
 use Rattle.som_model.specs.declared.program.ClientProgram.{ClientProgram}
+use Rattle.som_model.specs.Lists.{every}
 use Rattle.som_model.specs.Steps.{◌>>=◌}
 use Rattle.som_cmd.specs.declared.first.FirstFace.{FirstFace}
 use Rattle.som_cmd.specs.declared.first.FirstRelease.{FirstRelease}
@@ -61,9 +62,9 @@ face_at bytes = do
 abbrev pub all_read : {A : Type 0} → A → List ℕ → Result A Unread
 all_read x rest = unless (nat_lt 0 (length rest)) x
 
--- a first library image
-unfoldable pub library_at : List ℕ → Result FirstRelease Unread
-library_at bytes = do
+-- the form of a first library image
+unfoldable pub library_form_at : List ℕ → Result FirstRelease Unread
+library_form_at bytes = do
   head ← constant_at LIBRARY_HEAD.now bytes
   face ← face_at head
   part ← constant_at PART_SHAPE.now face.1
@@ -72,11 +73,23 @@ library_at bytes = do
   release ← all_read (record { face = face.0; text = text.0 }) rest
   if is_new face.0 then Ok release else Err unread.OtherForm
 
--- a first client image
-unfoldable pub client_at : List ℕ → Result FirstFace Unread
-client_at bytes = do
+-- the form of a first client image
+unfoldable pub client_form_at : List ℕ → Result FirstFace Unread
+client_form_at bytes = do
   head ← constant_at CLIENT_HEAD.now bytes
   face ← face_at head
   rest ← constant_at MAIN_SHAPE.now face.1
   client ← all_read face.0 rest
   if is_new client then Ok client else Err unread.OtherForm
+
+-- whether each number is a byte
+abbrev pub are_bytes : List ℕ → Bool
+are_bytes bytes = every (λ b. nat_lt b 256) bytes
+
+-- a first library image: bytes of that form
+unfoldable pub library_at : List ℕ → Result FirstRelease Unread
+library_at bytes = if are_bytes bytes then library_form_at bytes else Err unread.OtherForm
+
+-- a first client image: bytes of that form
+unfoldable pub client_at : List ℕ → Result FirstFace Unread
+client_at bytes = if are_bytes bytes then client_form_at bytes else Err unread.OtherForm

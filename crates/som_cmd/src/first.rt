@@ -1,5 +1,5 @@
 ghost use Rattle.som_cmd.specs.Names.{is_kernel_name, is_new, is_object_method};
-ghost use Rattle.som_cmd.specs.Reading.{Gives, client_at, face_at, library_at};
+ghost use Rattle.som_cmd.specs.Reading.{Gives, client_at, client_form_at, face_at, library_at, library_form_at};
 ghost use Rattle.std.specs.Prelude.{◌≡◌};
 
 use crate::reading::{Unread, read_constant, read_text, read_version};
@@ -95,12 +95,11 @@ fn read_face(alloc: Global, bytes: &[u8]) -> Result<(FirstFace, &[u8]), Unread>
     Ok((face, rest))
 }
 
-/// The release of a first library image, where the bytes are one.
-#[tactic(auto, unfolding(crate::specs::Reading::library_at))]
-pub fn read_library(alloc: Global, bytes: &List<u8>) -> Result<FirstRelease, Unread>
-    ensures { Gives (λ release. release) result (library_at bytes.now) }
+#[tactic(auto, unfolding(crate::specs::Reading::library_form_at))]
+fn read_library_form(alloc: Global, bytes: &[u8]) -> Result<FirstRelease, Unread>
+    ensures { Gives (λ release. release) result (library_form_at bytes.now) }
 {
-    let rest = read_constant(LIBRARY_HEAD, bytes.as_slice())?;
+    let rest = read_constant(LIBRARY_HEAD, bytes)?;
     let (face, rest) = read_face(alloc, rest)?;
     let rest = read_constant(PART_SHAPE, rest)?;
     let (text, rest) = read_text(alloc, rest)?;
@@ -115,12 +114,11 @@ pub fn read_library(alloc: Global, bytes: &List<u8>) -> Result<FirstRelease, Unr
     }
 }
 
-/// The face of a first client image, where the bytes are one.
-#[tactic(auto, unfolding(crate::specs::Reading::client_at))]
-pub fn read_client(alloc: Global, bytes: &List<u8>) -> Result<FirstFace, Unread>
-    ensures { Gives (λ face. face) result (client_at bytes.now) }
+#[tactic(auto, unfolding(crate::specs::Reading::client_form_at))]
+fn read_client_form(alloc: Global, bytes: &[u8]) -> Result<FirstFace, Unread>
+    ensures { Gives (λ face. face) result (client_form_at bytes.now) }
 {
-    let rest = read_constant(CLIENT_HEAD, bytes.as_slice())?;
+    let rest = read_constant(CLIENT_HEAD, bytes)?;
     let (face, rest) = read_face(alloc, rest)?;
     let rest = read_constant(MAIN_SHAPE, rest)?;
     if !rest.is_empty() {
@@ -131,4 +129,18 @@ pub fn read_client(alloc: Global, bytes: &List<u8>) -> Result<FirstFace, Unread>
     } else {
         Err(Unread::OtherForm)
     }
+}
+
+/// The release of a first library image, where the bytes are one.
+pub fn read_library(alloc: Global, bytes: &List<u8>) -> Result<FirstRelease, Unread>
+    ensures { Gives (λ release. release) result (library_at bytes.now) }
+{
+    read_library_form(alloc, bytes.as_bytes())
+}
+
+/// The face of a first client image, where the bytes are one.
+pub fn read_client(alloc: Global, bytes: &List<u8>) -> Result<FirstFace, Unread>
+    ensures { Gives (λ face. face) result (client_at bytes.now) }
+{
+    read_client_form(alloc, bytes.as_bytes())
 }

@@ -2,7 +2,11 @@
 #![tactic(auto)]
 
 mod first;
+mod line;
 mod reading;
+mod run;
+mod stop;
+mod top;
+mod words;
 
-pub use first::{FirstFace, FirstRelease, read_client, read_library};
-pub use reading::Unread;
+pub use top::run_som;
