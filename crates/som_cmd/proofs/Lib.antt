@@ -7,3 +7,4 @@ pub mod Conforms
 pub mod ImageOf
 pub mod FirstLaws
 pub mod RunAnswers
+pub mod EndLaws

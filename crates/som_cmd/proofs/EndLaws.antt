@@ -1,0 +1,97 @@
+-- How the ends of a run are those of its answer.
+use Rattle.std.proofs.Common.{◌≡◌, ◌≢◌, ℕ, List, [], ◌++◌, Option, Some, None, Result, Ok, Err, refl, sym, ap, subst, ◌∙◌, inl}
+use Rattle.std.proofs.lemmas.List.{append-nil}
+use Rattle.som_model.specs.declared.limits.TheConstants.{DEFAULT_FUEL}
+use Rattle.som_model.specs.declared.program.Release.{Release}
+use Rattle.som_model.specs.declared.program.ClientProgram.{ClientProgram}
+use Rattle.som_model.specs.Bytes.{Files}
+use Rattle.som_model.specs.Means.{means}
+use Rattle.som_io.specs.Outside.{ShowsAll, ShowsFront}
+use Rattle.som_cmd.specs.declared.stop.Refusal.{Refusal}
+use Rattle.som_cmd.specs.declared.stop.Stop.{Stop}
+use Rattle.som_cmd.specs.declared.stop.Stop.TheVariants as stops
+use Rattle.som_cmd.specs.Status.{status_of}
+use Rattle.som_cmd.specs.Words.{Asked, Run, Bad}
+use Rattle.som_cmd.specs.Answer.{Ending, IsAnswer, bad_words, runs, ran, bad_line, refusing}
+use Rattle.som_cmd.specs.RunSteps.{FollowsTold, run_of}
+use Rattle.som_cmd.specs.Ends.{EndsAs, EndsAsTold, ShowsSome, AreImagesOf, RunsAs}
+use Rattle.som_cmd.proofs.RunAnswers.{ending, answer_to, run_answers, one_answer}
+
+-- what a step answered, as what the steps say
+abbrev as_steps : Result (List ℕ) Refusal → Result (List ℕ) Stop
+as_steps (Ok text) = Ok text
+as_steps (Err r) = Err (stops.Refused r)
+
+follows_is : (before : Files) (c l : List ℕ) (steps : Result (List ℕ) Refusal) → FollowsTold (Some before) (as_steps steps) (run_of c l) → run_of c l before ≡ steps
+follows_is before c l (Ok text) f = f
+follows_is before c l (Err r) f = f
+
+is_answer : (asked : Asked) (c l : List ℕ) → Run c l ≡ asked → (before : Files) (steps : Result (List ℕ) Refusal) → FollowsTold (Some before) (as_steps steps) (run_of c l) → IsAnswer before asked (ending before steps)
+is_answer asked c l e before steps f =
+    subst (λ (a : Asked). IsAnswer before a (ending before steps)) e
+      (subst (IsAnswer before (Run c l)) (ap (ending before) (follows_is before c l steps f)) (run_answers before c l))
+
+-- where the whole text of the answer was written, the call ends as the answer says
+pub ends : (asked : Asked) (c l : List ℕ) → Run c l ≡ asked → (files : Option Files) (steps : Result (List ℕ) Refusal) → FollowsTold files (as_steps steps) (run_of c l)
+    → (status : ℕ) → ((before : Files) → status ≡ (ending before steps).status) → (new_files : Option Files) → new_files ≡ files
+    → (old new : Option (List ℕ)) → ((before : Files) → ShowsAll old new (ending before steps).text) → EndsAsTold asked files status new_files old new
+ends asked c l e None steps f status is new_files same old new shown = tt
+ends asked c l e (Some before) steps f status is new_files same old new shown =
+    record { told = ending before steps; is_answer = is_answer asked c l e before steps f; status_is = is before; text_is = shown before; files_are = same ∙ kept steps }
+  where
+  kept : (steps : Result (List ℕ) Refusal) → Some before ≡ Some (ending before steps).files
+  kept (Ok text) = refl
+  kept (Err r) = refl
+
+-- a front of the answer's text was written
+pub fronts : (asked : Asked) (c l : List ℕ) → Run c l ≡ asked → (files : Option Files) (steps : Result (List ℕ) Refusal) → FollowsTold files (as_steps steps) (run_of c l)
+    → (count now : ℕ) (old new : Option (List ℕ)) → ((before : Files) → ShowsFront old new (ending before steps).text) → ShowsSome asked files count now old new
+fronts asked c l e None steps f count now old new front = tt
+fronts asked c l e (Some before) steps f count now old new front = inl (ending before steps, is_answer asked c l e before steps f, front before)
+
+shows_nothing : (written : Option (List ℕ)) (text : List ℕ) → ShowsFront written written text
+shows_nothing None text = (text, tt)
+shows_nothing (Some old) text = (text, ([], refl, ap (λ (t : List ℕ). Some t) (sym (append-nil old))))
+
+answers : (files : Files) (asked : Asked) → IsAnswer files asked (answer_to files asked)
+answers files (Run c l) = run_answers files c l
+answers files Bad = bad_words
+
+-- where nothing was written, a front of the answer's text was
+pub nothing_written : (asked : Asked) (files : Option Files) (count now : ℕ) (written : Option (List ℕ)) → ShowsSome asked files count now written written
+nothing_written asked None count now written = tt
+nothing_written asked (Some files) count now written = inl (answer_to files asked, answers files asked, shows_nothing written (answer_to files asked).text)
+
+-- the one line for words of no form
+pub bad_ends : (asked : Asked) → Bad ≡ asked → (files : Option Files) (status : ℕ) → status ≡ 2 → (new_files : Option Files) → new_files ≡ files
+    → (old new : Option (List ℕ)) → ShowsAll old new bad_line → EndsAsTold asked files status new_files old new
+bad_ends asked e None status is new_files same old new shown = tt
+bad_ends asked e (Some before) status is new_files same old new shown =
+    record { told = record { text = bad_line; status = 2; files = before }; is_answer = subst (λ (a : Asked). IsAnswer before a (record { text = bad_line; status = 2; files = before })) e bad_words; status_is = is; text_is = shown; files_are = same }
+
+pub bad_fronts : (asked : Asked) → Bad ≡ asked → (files : Option Files) (count now : ℕ) (old new : Option (List ℕ)) → ShowsFront old new bad_line → ShowsSome asked files count now old new
+bad_fronts asked e None count now old new front = tt
+bad_fronts asked e (Some before) count now old new front =
+    inl (record { text = bad_line; status = 2; files = before }, subst (λ (a : Asked). IsAnswer before a (record { text = bad_line; status = 2; files = before })) e bad_words, front)
+
+-- an end as the answer says is an end as the client means
+runs_as : (asked : Asked) (before : Files) (status : ℕ) (new_files : Option Files) (old new : Option (List ℕ)) (p : ClientProgram) (r : Release)
+    → EndsAs before asked status new_files old new → IsAnswer before asked (ran before (means r p DEFAULT_FUEL)) → RunsAs p r status old new
+runs_as asked before status new_files old new p r e is =
+    let same : e.told ≡ ran before (means r p DEFAULT_FUEL) = one_answer before asked e.told e.is_answer ∙ sym (one_answer before asked (ran before (means r p DEFAULT_FUEL)) is) in
+    record { text = subst (λ (x : Ending). ShowsAll old new x.text) same e.text_is; status_is = e.status_is ∙ ap (λ (x : Ending). x.status) same }
+
+pub means_by : (asked : Asked) (files : Option Files) (status : ℕ) (new_files : Option Files) (old new : Option (List ℕ)) (p : ClientProgram) (r : Release)
+    → EndsAsTold asked files status new_files old new → AreImagesOf asked files p r → RunsAs p r status old new
+means_by asked None status new_files old new p r e m = absurd (none_told m.told m.files_are)
+  where
+  none_told : (told : Files) → None ≡ Some told → ⊥
+  none_told told e = cc
+means_by asked (Some before) status new_files old new p r e m =
+    let same : before ≡ m.told = some_told before m.told m.files_are in
+    let is : IsAnswer m.told asked (ran m.told (means r p DEFAULT_FUEL)) = subst (λ (a : Asked). IsAnswer m.told a (ran m.told (means r p DEFAULT_FUEL))) (sym m.asked_is)
+          (runs m.client m.library m.client_bytes m.library_bytes m.client_is m.library_is p m.program r m.release m.compiled) in
+    runs_as asked before status new_files old new p r e (subst (λ (x : Files). IsAnswer x asked (ran x (means r p DEFAULT_FUEL))) (sym same) is)
+  where
+  some_told : (a b : Files) → Some a ≡ Some b → a ≡ b
+  some_told a b e = cc
