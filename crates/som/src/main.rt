@@ -1,0 +1,63 @@
+//! The program: words of the command line, files of the system, and standard output.
+#![tactic(auto)]
+
+mod files;
+mod standard_output;
+
+use files::FileStore;
+use som_cmd::run_som;
+use som_model::{List, NoMemory, Text};
+use standard_output::StandardOutput;
+use std::alloc::Global;
+use std::env::Env;
+use std::process::ExitCode;
+use std::{env, io};
+
+#[cfg(test)]
+mod tests;
+
+/// Why there are no words.
+#[derive(Drop)]
+enum NoWords {
+    /// An argument is no text.
+    Bad,
+    Memory,
+}
+
+impl From<NoMemory> for NoWords {
+    fn from(_e: NoMemory) -> NoWords {
+        NoWords::Memory
+    }
+}
+
+impl From<io::Error> for NoWords {
+    fn from(e: io::Error) -> NoWords {
+        if e.kind() == io::ErrorKind::OutOfMemory {
+            NoWords::Memory
+        } else {
+            NoWords::Bad
+        }
+    }
+}
+
+// The arguments after the program's name.
+fn words_of<R: Env + AllocGlobal>(rt: &R, alloc: Global) -> Result<List<Text>, NoWords> {
+    let mut words = List::new(alloc);
+    for argument in env::args(rt)?.skip(1) {
+        words.push(Text::from_slice(alloc, argument.as_bytes())?)?;
+    }
+    Ok(words)
+}
+
+fn main(rt: HostRuntime) -> ExitCode {
+    let alloc = rt.alloc();
+    let words = match words_of(&rt, alloc) {
+        Ok(words) => words,
+        // No words at all have no form either.
+        Err(NoWords::Bad) => List::new(alloc),
+        Err(NoWords::Memory) => return ExitCode::from(10),
+    };
+    let mut store = FileStore::new(&rt, alloc);
+    let mut out = StandardOutput::new(&rt);
+    ExitCode::from(run_som(alloc, &words, &mut store, &mut out))
+}
