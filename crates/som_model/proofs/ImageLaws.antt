@@ -1,7 +1,6 @@
 -- How blocks and statements of the plain forms are spelled.
-use Rattle.std.proofs.Common.{◌≡◌, ℕ, suc, List, [], ◌∷◌, map, Option, Some, None, refl, sym, ap, ◌∙◌}
-use Rattle.std.specs.Prelude.{nat_le}
-use Rattle.std.specs.Int.{w8, w32}
+use Rattle.std.proofs.Common.{◌≡◌, ℕ, suc, List, [], ◌∷◌, Some, sym, ap, ◌∙◌}
+use Rattle.std.specs.Int.{w32}
 use Rattle.som_model.specs.declared.key.ClassKey.{ClassKey}
 use Rattle.som_model.specs.declared.key.MethodRef.{MethodRef}
 use Rattle.som_model.specs.declared.syntax.Expr.{Expr, fold-roll-Expr}
@@ -12,10 +11,10 @@ use Rattle.som_model.specs.declared.syntax.Stmt.{Stmt, fold-Stmt, fold-roll-Stmt
 use Rattle.som_model.specs.declared.syntax.Stmt.TheVariants as stmts
 use Rattle.som_model.specs.declared.syntax.Stmt.TheVariants.{rolls-Print, rolls-Call}
 use Rattle.som_model.specs.declared.syntax.Stmt.TheOpen.{Stmt-F}
-use Rattle.som_model.specs.declared.syntax.Block.{Block, fold-roll-Block}
+use Rattle.som_model.specs.declared.syntax.Block.{fold-roll-Block}
 use Rattle.som_model.specs.Blocks.{printing, calling}
 use Rattle.som_model.specs.Class.{Class}
-use Rattle.som_model.specs.Images.{Spelled, AtLevel, ◌then◌, each, number, counted, text, class, method, at_level, args, expr, expr_step, stmt_step, block_step, block}
+use Rattle.som_model.specs.Images.{Spelled, AtLevel, ◌then◌, number, text, class, method, at_level, args, expr, expr_step, stmt_step, block_step, block}
 
 module _ (cs : List Class) where
   abbrev stmt : Stmt → AtLevel
@@ -51,5 +50,5 @@ module _ (cs : List Class) where
   calling_is r k =
       one_statement (calling r k) 1
       ∙ ap (λ (s : Spelled). number w32 1 then (s then Some []))
-        (call_is (exprs.OffsetCall r (exprs.New k) []) 1
-        ∙ ap (at_level 1 0x0a) (offset_call_is r (exprs.New k) 2 ∙ ap (λ (s : Spelled). at_level 2 0x2f (method cs r then s then args 2 [])) (new_is k 3)))
+      (call_is (exprs.OffsetCall r (exprs.New k) []) 1
+      ∙ ap (at_level 1 0x0a) (offset_call_is r (exprs.New k) 2 ∙ ap (λ (s : Spelled). at_level 2 0x2f (method cs r then s then args 2 [])) (new_is k 3)))

@@ -1,5 +1,5 @@
 -- What declared classes compute to: whether two are one, and their heights, ranks and parents.
-use Rattle.std.proofs.Common.{◌≡◌, ℕ, Bool, true, false, ◌&&◌, List, [], ◌∷◌, refl, sym, ap, ◌∙◌}
+use Rattle.std.proofs.Common.{◌≡◌, ℕ, Bool, true, ◌&&◌, List, refl, sym, ap, ◌∙◌}
 use Rattle.std.specs.Str.{bytes_eq}
 use Rattle.som_model.specs.declared.key.Module.{Module}
 use Rattle.som_model.specs.declared.key.ClassKey.{ClassKey, out-ClassKey, fold-roll-ClassKey, out-roll-ClassKey}
@@ -7,7 +7,6 @@ use Rattle.som_model.specs.declared.key.ClassKey.TheVariants as keys
 use Rattle.som_model.specs.declared.key.ClassKey.TheVariants.{rolls-Named}
 use Rattle.som_model.specs.declared.key.ClassKey.TheOpen.{ClassKey-F}
 use Rattle.som_model.specs.Keys.{same_module, same_step, same_key}
-use Rattle.som_model.specs.Hierarchy.{Hierarchy}
 use Rattle.som_model.specs.Class.{Class}
 use Rattle.som_model.specs.declared.key.Module.TheVariants as modules
 use Rattle.som_model.specs.declared.key.MethodRef.{MethodRef}

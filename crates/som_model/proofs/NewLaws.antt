@@ -1,18 +1,17 @@
 -- What `new C` does, and what a call by offset on the new object does, in one equation each, by what the classes answer.
-use Rattle.std.proofs.Common.{◌≡◌, ℕ, zero, suc, ◌+◌, Bool, true, false, if◌then◌else◌, List, [], ◌∷◌, ◌++◌, length, Result, Ok, Err, Option, Some, None, slice_get, refl, sym, ap, ◌∙◌, subst, arith, reverse, codes}
+use Rattle.std.proofs.Common.{◌≡◌, ℕ, suc, Bool, true, false, if◌then◌else◌, List, [], ◌∷◌, ◌++◌, length, Ok, Err, Option, Some, None, slice_get, refl, sym, ap, ◌∙◌, reverse, codes}
 use Rattle.som_model.specs.declared.key.ClassKey.{ClassKey}
 use Rattle.som_model.specs.declared.key.MethodRef.{MethodRef}
-use Rattle.som_model.specs.declared.syntax.Block.{Block}
-use Rattle.som_model.specs.declared.syntax.Expr.{Expr, fold-roll-Expr}
+use Rattle.som_model.specs.declared.syntax.Expr.{fold-roll-Expr}
 use Rattle.som_model.specs.declared.syntax.Expr.TheVariants as exprs
 use Rattle.som_model.specs.declared.syntax.Expr.TheVariants.{rolls-New, rolls-OffsetCall}
 use Rattle.som_model.specs.declared.syntax.Expr.TheOpen.{Expr-F}
 use Rattle.som_model.specs.declared.program.Fault.TheVariants as faults
 use Rattle.som_model.specs.Kernel.{som_object, som_class, som_new, som_init, before_method, after_method}
-use Rattle.som_model.specs.Implementation.{Held, User, OfKernel, is_kernel}
+use Rattle.som_model.specs.Implementation.{Held, OfKernel, is_kernel}
 use Rattle.som_model.specs.World.{World}
-use Rattle.som_model.specs.State.{Value, Nil, To, Str, Ref, Object, ClassObject, Heap, State, Place, InBody, Manner, Tried, receiver, Offset, Before, After, Event, Called, Printed, Ran, Goes, Ends, Act, Instance, Cut, follow, class_of, is_live, zeros}
-use Rattle.som_model.specs.Acts.{new_instance, with_one, pure, tried, asked, take_unit, ◌>>=◌, ◌>>◌}
+use Rattle.som_model.specs.State.{Value, Nil, To, Str, Ref, Object, ClassObject, Heap, State, Place, InBody, Manner, Offset, Before, After, Event, Called, Ran, Goes, Ends, Act, Instance, follow, class_of, is_live}
+use Rattle.som_model.specs.Acts.{new_instance, with_one, pure, tried, asked, ◌>>=◌, ◌>>◌}
 use Rattle.som_model.specs.Calls.{Calls, Here, Request, offset_call}
 use Rattle.som_model.specs.Expressions.{Frame, Evals, expr_step, eval}
 use Rattle.som_model.specs.Values.{cast}
@@ -127,14 +126,14 @@ module _ {O : Type 0} (add : O → Event → O) (w : World) where
   -- the kernel's body of somNew makes an object, and calls somInit on it
   new_body_does : (l : ℕ) (k : ClassKey) → NewRuns w k → (n : ℕ) (es : List Event) (h : Heap)
       → (body_does add w (calls add w (suc l)) (OfKernel (codes "somNew")) som_class som_new (ClassObject k) []).does (state (suc n) es h)
-        ≡ Goes (To (next_object h)) (state n (es ++ Called som_init Offset som_object ∷ []) (with_one w k Nil h))
+      ≡ Goes (To (next_object h)) (state n (es ++ Called som_init Offset som_object ∷ []) (with_one w k Nil h))
   new_body_does l k runs n es h =
       let h1 = with_one w k Nil h in
       let at = InBody som_class (codes "somNew") in
       ap (λ (r : Ran Value). follow r (λ v s. Goes (To (next_object h)) s))
-        (offset_does add w l at Offset som_init (next_object h) [] k som_object (OfKernel (codes "somInit")) n es h1
-          (made_live w k h) (made_class w k h) runs.init_owner (kernel_unwrapped w k (is_kernel som_object) runs.init_kernel) runs.init_impl runs.init_held
-        ∙ init_does add w (calls add w l) som_object som_init (next_object h) [] (state n (es ++ Called som_init Offset som_object ∷ []) h1))
+      (offset_does add w l at Offset som_init (next_object h) [] k som_object (OfKernel (codes "somInit")) n es h1
+      (made_live w k h) (made_class w k h) runs.init_owner (kernel_unwrapped w k (is_kernel som_object) runs.init_kernel) runs.init_impl runs.init_held
+      ∙ init_does add w (calls add w l) som_object som_init (next_object h) [] (state n (es ++ Called som_init Offset som_object ∷ []) h1))
 
   cast_does : (k : ClassKey) → NewRuns w k → (at : Place) (n : ℕ) (es : List Event) (h : Heap)
       → (asked {add = add} at (λ g. cast w k g (To (next_object h)))).does (state n es (with_one w k Nil h)) ≡ Goes (To (next_object h)) (state n es (with_one w k Nil h))
@@ -147,11 +146,11 @@ module _ {O : Type 0} (add : O → Event → O) (w : World) where
   -- `new C` takes two units, and answers the next object
   pub new_does : (l : ℕ) (here : Here) (k : ClassKey) (frame : Frame) → NewRuns w k → (n : ℕ) (es : List Event) (h : Heap)
       → (eval w (calls add w (suc (suc l))) here (exprs.New k) frame).does (state (suc (suc n)) es h)
-        ≡ Goes (To (next_object h)) (state n (new_events es) (with_one w k Nil h))
+      ≡ Goes (To (next_object h)) (state n (new_events es) (with_one w k Nil h))
   new_does l here k frame runs n es h =
       ap (λ (a : Act add Value). a.does (state (suc (suc n)) es h)) (eval_new (calls add w (suc (suc l))) here k frame)
       ∙ ap (λ (r : Ran Value). follow r (λ v. (asked {add = add} here.place (λ g. cast w k g v)).does))
-        (offset_does add w (suc l) here.place Offset som_new (ClassObject k) [] som_class som_class (OfKernel (codes "somNew")) (suc n) es h
-          refl runs.meta runs.new_owner (kernel_unwrapped w som_class (is_kernel som_class) runs.new_kernel) runs.new_impl runs.new_held
-        ∙ new_body_does l k runs n (es ++ Called som_new Offset som_class ∷ []) h)
+      (offset_does add w (suc l) here.place Offset som_new (ClassObject k) [] som_class som_class (OfKernel (codes "somNew")) (suc n) es h
+      refl runs.meta runs.new_owner (kernel_unwrapped w som_class (is_kernel som_class) runs.new_kernel) runs.new_impl runs.new_held
+      ∙ new_body_does l k runs n (es ++ Called som_new Offset som_class ∷ []) h)
       ∙ cast_does k runs here.place n (new_events es) h

@@ -1,5 +1,5 @@
 -- What a body does that prints a text, and a statement that calls such a body on a new object.
-use Rattle.std.proofs.Common.{◌≡◌, ℕ, zero, suc, ◌+◌, Bool, true, false, if◌then◌else◌, List, [], ◌∷◌, ◌++◌, length, map, take, Result, Ok, Err, Option, Some, None, refl, sym, ap, ◌∙◌, subst, arith, codes}
+use Rattle.std.proofs.Common.{◌≡◌, ℕ, suc, Bool, false, if◌then◌else◌, List, [], ◌∷◌, ◌++◌, length, map, Some, sym, ap, ◌∙◌}
 use Rattle.som_model.specs.declared.key.ClassKey.{ClassKey}
 use Rattle.som_model.specs.declared.key.MethodRef.{MethodRef}
 use Rattle.som_model.specs.declared.syntax.Expr.{Expr, fold-roll-Expr}
@@ -9,20 +9,19 @@ use Rattle.som_model.specs.declared.syntax.Expr.TheOpen.{Expr-F}
 use Rattle.som_model.specs.declared.syntax.Stmt.{Stmt, fold-roll-Stmt}
 use Rattle.som_model.specs.declared.syntax.Stmt.TheVariants as stmts
 use Rattle.som_model.specs.declared.syntax.Stmt.TheVariants.{rolls-Print, rolls-Call}
-use Rattle.som_model.specs.declared.syntax.Stmt.TheOpen.{Stmt-F, Block-F}
-use Rattle.som_model.specs.declared.syntax.Block.{Block, fold-roll-Block}
+use Rattle.som_model.specs.declared.syntax.Stmt.TheOpen.{Stmt-F}
+use Rattle.som_model.specs.declared.syntax.Block.{fold-roll-Block}
 use Rattle.som_model.specs.Blocks.{printing, calling}
-use Rattle.som_model.specs.Kernel.{som_class}
-use Rattle.som_model.specs.Implementation.{Held, User, is_kernel}
+use Rattle.som_model.specs.Implementation.{User, is_kernel}
 use Rattle.som_model.specs.World.{World}
-use Rattle.som_model.specs.State.{Value, Nil, To, Str, Ref, Heap, State, Place, InBody, Manner, Offset, Event, Called, Printed, Ran, Goes, Ends, Act, follow}
+use Rattle.som_model.specs.State.{Value, Nil, To, Str, Ref, Heap, InBody, Offset, Event, Called, Printed, Ran, Goes, Act, follow}
 use Rattle.som_model.specs.Acts.{with_one, pure, emit, ◌>>=◌, ◌>>◌}
 use Rattle.som_model.specs.Values.{text_of}
 use Rattle.som_model.specs.Calls.{Calls, Here, offset_call}
 use Rattle.som_model.specs.Expressions.{Frame, Evals, expr_step, eval, each_of}
 use Rattle.som_model.specs.Statements.{Flow, Next, Runs, go_on, all_of, leave, block_step, stmt_step, exec, run_block}
 use Rattle.som_model.specs.Invoked.{body_does, answer_of, result_zero}
-use Rattle.som_model.specs.Means.{calls, hooks_of}
+use Rattle.som_model.specs.Means.{calls}
 use Rattle.som_model.proofs.NewLaws.{state, NewRuns, next_object, new_events, new_does, offset_does, made_live, made_class}
 
 -- what the classes answer about a call by offset on a new object of class k: class d has the body, which prints a text
@@ -78,7 +77,7 @@ module _ {O : Type 0} (add : O → Event → O) (w : World) where
   -- the statement takes three units, and prints the text
   pub calling_does : (l : ℕ) (here : Here) (k d : ClassKey) (r : MethodRef) (t : List ℕ) (frame : Frame) → NewRuns w k → CallRuns w k r d t → (n : ℕ) (es : List Event) (h : Heap)
       → (exec add w (calls add w (suc (suc l))) here (calling r k) frame).does (state (suc (suc (suc n))) es h)
-        ≡ Goes (Next frame) (state n (call_events r d t es) (with_one w k Nil h))
+      ≡ Goes (Next frame) (state n (call_events r d t es) (with_one w k Nil h))
   calling_does l here k d r t frame news runs n es h =
       let call = calls add w (suc (suc l)) in
       let s = state (suc (suc (suc n))) es h in
@@ -87,6 +86,6 @@ module _ {O : Type 0} (add : O → Event → O) (w : World) where
       ∙ ap (λ (a : Act add Value). (a >>= λ v. pure (Next frame)).does s) (eval_offset_call call here r (exprs.New k) frame)
       ∙ ap (λ (o : Ran Value). follow (follow o (λ on. (offset_call w call here.place Offset r on []).does)) (λ v t. Goes (Next frame) t)) (new_does add w l here k frame news (suc n) es h)
       ∙ ap (λ (o : Ran Value). follow o (λ v t. Goes (Next frame) t))
-        (offset_does add w (suc l) here.place Offset r (next_object h) [] k d (User (printing t)) n (new_events es) h1
-          (made_live w k h) (made_class w k h) runs.owner (foreign_unwrapped w k (is_kernel r.class) runs.foreign runs.hooks) runs.impl runs.held
-        ∙ printing_does (calls add w (suc l)) d r t (next_object h) n (new_events es ++ Called r Offset d ∷ []) h1)
+      (offset_does add w (suc l) here.place Offset r (next_object h) [] k d (User (printing t)) n (new_events es) h1
+      (made_live w k h) (made_class w k h) runs.owner (foreign_unwrapped w k (is_kernel r.class) runs.foreign runs.hooks) runs.impl runs.held
+      ∙ printing_does (calls add w (suc l)) d r t (next_object h) n (new_events es ++ Called r Offset d ∷ []) h1)

@@ -4,7 +4,8 @@ use Rattle.som_model.specs.Lists.{first_some, find}
 use Rattle.som_model.specs.Hierarchy.{Hierarchy}
 use Rattle.som_model.specs.Ancestors.{anc, descends}
 
--- X where it has a body, else what its leftmost parent that descends from A has, up to so many levels
+-- X where it has a body, else what its leftmost parent that descends from A has, up to so many levels.
+-- Such a parent always has one where A itself has a body, so that it is the leftmost that answers.
 abbrev pub impl_within : {K : Type 0} → Hierarchy K → (has_body : K → Bool) → K → ℕ → K → Option K
 impl_within h has_body a zero x = if has_body x then Some x else None
 impl_within h has_body a (suc n) x =
