@@ -29,7 +29,7 @@ follows_is before c l (Err r) f = f
 is_answer : (asked : Asked) (c l : List ℕ) → Run c l ≡ asked → (before : Files) (steps : Result (List ℕ) Refusal) → FollowsTold (Some before) (as_steps steps) (run_of c l) → IsAnswer before asked (ending before steps)
 is_answer asked c l e before steps f =
     subst (λ (a : Asked). IsAnswer before a (ending before steps)) e
-      (subst (IsAnswer before (Run c l)) (ap (ending before) (follows_is before c l steps f)) (run_answers before c l))
+    (subst (IsAnswer before (Run c l)) (ap (ending before) (follows_is before c l steps f)) (run_answers before c l))
 
 -- where the whole text of the answer was written, the call ends as the answer says
 pub ends : (asked : Asked) (c l : List ℕ) → Run c l ≡ asked → (files : Option Files) (steps : Result (List ℕ) Refusal) → FollowsTold files (as_steps steps) (run_of c l)
@@ -39,9 +39,9 @@ ends asked c l e None steps f status is new_files same old new shown = tt
 ends asked c l e (Some before) steps f status is new_files same old new shown =
     record { told = ending before steps; is_answer = is_answer asked c l e before steps f; status_is = is before; text_is = shown before; files_are = same ∙ kept steps }
   where
-  kept : (steps : Result (List ℕ) Refusal) → Some before ≡ Some (ending before steps).files
-  kept (Ok text) = refl
-  kept (Err r) = refl
+    kept : (steps : Result (List ℕ) Refusal) → Some before ≡ Some (ending before steps).files
+    kept (Ok text) = refl
+    kept (Err r) = refl
 
 -- a front of the answer's text was written
 pub fronts : (asked : Asked) (c l : List ℕ) → Run c l ≡ asked → (files : Option Files) (steps : Result (List ℕ) Refusal) → FollowsTold files (as_steps steps) (run_of c l)
@@ -53,7 +53,7 @@ shows_nothing : (written : Option (List ℕ)) (text : List ℕ) → ShowsFront w
 shows_nothing None text = (text, tt)
 shows_nothing (Some old) text = (text, ([], refl, ap (λ (t : List ℕ). Some t) (sym (append-nil old))))
 
-answers : (files : Files) (asked : Asked) → IsAnswer files asked (answer_to files asked)
+pub answers : (files : Files) (asked : Asked) → IsAnswer files asked (answer_to files asked)
 answers files (Run c l) = run_answers files c l
 answers files Bad = bad_words
 
@@ -85,13 +85,13 @@ pub means_by : (asked : Asked) (files : Option Files) (status : ℕ) (new_files 
     → EndsAsTold asked files status new_files old new → AreImagesOf asked files p r → RunsAs p r status old new
 means_by asked None status new_files old new p r e m = absurd (none_told m.told m.files_are)
   where
-  none_told : (told : Files) → None ≡ Some told → ⊥
-  none_told told e = cc
+    none_told : (told : Files) → None ≡ Some told → ⊥
+    none_told told e = cc
 means_by asked (Some before) status new_files old new p r e m =
     let same : before ≡ m.told = some_told before m.told m.files_are in
     let is : IsAnswer m.told asked (ran m.told (means r p DEFAULT_FUEL)) = subst (λ (a : Asked). IsAnswer m.told a (ran m.told (means r p DEFAULT_FUEL))) (sym m.asked_is)
-          (runs m.client m.library m.client_bytes m.library_bytes m.client_is m.library_is p m.program r m.release m.compiled) in
+    (runs m.client m.library m.client_bytes m.library_bytes m.client_is m.library_is p m.program r m.release m.compiled) in
     runs_as asked before status new_files old new p r e (subst (λ (x : Files). IsAnswer x asked (ran x (means r p DEFAULT_FUEL))) (sym same) is)
   where
-  some_told : (a b : Files) → Some a ≡ Some b → a ≡ b
-  some_told a b e = cc
+    some_told : (a b : Files) → Some a ≡ Some b → a ≡ b
+    some_told a b e = cc

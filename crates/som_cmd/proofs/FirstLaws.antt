@@ -86,3 +86,18 @@ library_guard bytes h = sym (ap (λ (b : Bool). cond b (library_form_at bytes) (
 pub client_guard : (bytes : List ℕ) → AreBytes bytes → client_form_at bytes ≡ client_at bytes
 unfolding client_at
 client_guard bytes h = sym (ap (λ (b : Bool). cond b (client_form_at bytes) (Err unread.OtherForm)) (bytes_pass bytes h))
+
+-- ---- bytes are one image at most
+
+ok_apart : {A : Type 0} (x y : A) (r : Result A Unread) → r ≡ Ok x → r ≡ Ok y → x ≡ y
+ok_apart x y r p q = cc
+
+pub one_library : (bytes : List ℕ) (r s : Release) → IsFirstLibrary bytes r → IsFirstLibrary bytes s → r ≡ s
+one_library bytes r s is_r is_s =
+    let v = library_reads bytes r is_r in let w = library_reads bytes s is_s in
+    v.1 ∙ ap release_of (ok_apart v.0 w.0 (library_at bytes) v.2 w.2) ∙ sym w.1
+
+pub one_client : (bytes : List ℕ) (p q : ClientProgram) → IsFirstClient bytes p → IsFirstClient bytes q → p ≡ q
+one_client bytes p q is_p is_q =
+    let v = client_reads bytes p is_p in let w = client_reads bytes q is_q in
+    v.1 ∙ ap program_of (ok_apart v.0 w.0 (client_at bytes) v.2 w.2) ∙ sym w.1

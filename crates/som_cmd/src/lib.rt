@@ -2,6 +2,7 @@
 #![tactic(auto)]
 
 mod first;
+mod laws;
 mod line;
 mod reading;
 mod run;
@@ -9,4 +10,8 @@ mod stop;
 mod top;
 mod words;
 
+pub use laws::{answer_law, first_image_law};
 pub use top::run_som;
+
+#[cfg(test)]
+mod tests;
