@@ -35,22 +35,26 @@ module _ (classes : ℕ) (small : classes < 2 ^ 16) where
       let rest = Stands-join bytes name.next (2 ∷ []) flag.next (number w16 to.0.value) to.0.next flagged to.1 in
       came entry (FitsEntry classes) bytes place (entries.Moved name.value to.0.value) to.0.next r to.3 (Stands-join bytes place (text name.value) name.next (2 ∷ number w16 to.0.value) to.0.next named rest) (fits, to.2)
 
+  -- after the name and the flag
+  flagged_takes : (bytes : List ℕ) → AreBytes bytes → (place : ℕ) (name : Read (List ℕ)) (flag : Read ℕ) (r : Read WireEntry) → Stands bytes place (text name.value) name.next → FitsText name.value → Stands bytes name.next (number w8 flag.value) flag.next → flagged_at classes bytes name flag ≡ Ok r → Stands bytes place (entry r.value) r.next × FitsEntry classes r.value
+  flagged_takes bytes all place name flag r named fits flagged e =
+      elim (chosen (eqb flag.value 0) _ _ _ e) [
+        | inl w ↦ of_introduced bytes all place name flag ways.Offset r named fits (tagged bytes name.next flag 0 flagged w.0) w.1
+        | inr u ↦ elim (chosen (eqb flag.value 1) _ _ _ u.1) [
+          | inl w ↦ of_introduced bytes all place name flag ways.Lookup r named fits (tagged bytes name.next flag 1 flagged w.0) w.1
+          | inr u ↦ elim (chosen (eqb flag.value 2) _ _ _ u.1) [
+            | inl w ↦ of_moved bytes all place name flag r named fits (tagged bytes name.next flag 2 flagged w.0) w.1
+            | inr u ↦ absurd (let z = u.1 in cc)
+          ]
+        ]
+      ]
+
   entry_takes : (bytes : List ℕ) → AreBytes bytes → (place : ℕ) (r : Read WireEntry) → place ≤ length bytes → entry_at classes bytes place ≡ Ok r → Stands bytes place (entry r.value) r.next × FitsEntry classes r.value
   unfolding entry_at
   entry_takes bytes all place r le e =
       let n = took text_at text FitsText text_field bytes all place le (λ name. number_at w8 bytes name.next >>= flagged_at classes bytes name) r e in
       let f = took (number_at w8) (number w8) (λ n. n < 2 ^ 8) byte_field bytes all n.0.next n.1.within (flagged_at classes bytes n.0) r n.3 in
-      let flag = f.0 in
-      elim (chosen (eqb flag.value 0) _ _ _ f.3) [
-        | inl w ↦ of_introduced bytes all place n.0 flag ways.Offset r n.1 n.2 (tagged bytes n.0.next flag 0 f.1 w.0) w.1
-        | inr u ↦ elim (chosen (eqb flag.value 1) _ _ _ u.1) [
-          | inl w ↦ of_introduced bytes all place n.0 flag ways.Lookup r n.1 n.2 (tagged bytes n.0.next flag 1 f.1 w.0) w.1
-          | inr u ↦ elim (chosen (eqb flag.value 2) _ _ _ u.1) [
-            | inl w ↦ of_moved bytes all place n.0 flag r n.1 n.2 (tagged bytes n.0.next flag 2 f.1 w.0) w.1
-            | inr u ↦ absurd (let z = u.1 in cc)
-          ]
-        ]
-      ]
+      flagged_takes bytes all place n.0 f.0 r n.1 n.2 f.1 f.3
 
   regrouped : (bytes : List ℕ) (place : ℕ) (x y z : List ℕ) (next : ℕ) → Stands bytes place ((x ++ y) ++ z) next → Stands bytes place (x ++ (y ++ z)) next
   regrouped bytes place x y z next h = subst (λ (t : List ℕ). Stands bytes place t next) (append_assoc x y z) h

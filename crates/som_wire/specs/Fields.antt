@@ -18,13 +18,7 @@ done x next = Ok (record { value = x; next = next })
 -- a fault is the one that reading meets; want of memory may come at any time
 abbrev pub Fails : {X : Type 0} → ImageFault → Result X ImageFault → Type 0
 Fails faults.NoMemory read = Unit {0}
-Fails (faults.Magic offset) read = read ≡ Err (faults.Magic offset)
-Fails (faults.Version offset) read = read ≡ Err (faults.Version offset)
-Fails (faults.Cut offset) read = read ≡ Err (faults.Cut offset)
-Fails (faults.Tag offset) read = read ≡ Err (faults.Tag offset)
-Fails (faults.Number offset) read = read ≡ Err (faults.Number offset)
-Fails (faults.Trailing offset) read = read ≡ Err (faults.Trailing offset)
-Fails (faults.Nesting offset) read = read ≡ Err (faults.Nesting offset)
+Fails fault read = read ≡ Err fault
 
 -- what a reader answers is what reading comes to, unless memory runs out
 abbrev pub Gives : {X : Type 0} → Result X ImageFault → Result X ImageFault → Type 0

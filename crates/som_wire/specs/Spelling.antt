@@ -33,9 +33,9 @@ counted w spell xs = number w (length xs) ++ flat_map spell xs
 abbrev pub FitsCounted : {A : Type 0} → ℕ → ℕ → (A → Type 0) → List A → Type 0
 FitsCounted least most Fits xs = (least ≤ length xs) × (length xs ≤ most) × All Fits xs
 
--- the greatest number of 2 bytes: there are at most so many classes, and a class has at most so many entries
-abbrev pub most : ℕ
-most = 2 ^ 16 - 1
+-- the most classes that there can be, since their number has 2 bytes
+abbrev pub most_classes : ℕ
+most_classes = 2 ^ 16 - 1
 
 -- ---- types and signatures
 
@@ -116,5 +116,5 @@ pub record AreShort (ranges : Ranges) : Type 0 where
 
 -- a method that fits some ranges
 pub record FitsSomeRanges (m : WireMethod) : Type 0 where
-  pub class : m.class < most
-  pub slot : m.slot < most
+  pub class : m.class < most_classes
+  pub slot : m.slot < 2 ^ 16 - 1

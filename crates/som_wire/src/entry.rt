@@ -1,6 +1,6 @@
 ghost use Rattle.std.specs.Prelude.{◌≡◌, ◌≤◌, [], ◌∷◌, ◌++◌, ℕ, length, IfOk, OnOk, OnErr};
 ghost use Rattle.som_wire.specs.Fields.{Stands, Gives, done};
-ghost use Rattle.som_wire.specs.Spelling.{entry, FitsEntry, way as way_of, most};
+ghost use Rattle.som_wire.specs.Spelling.{entry, FitsEntry, way as way_of, most_classes};
 ghost use Rattle.som_wire.specs.Reading.{entry_at};
 
 use crate::number::read_below;
@@ -17,6 +17,7 @@ pub enum WireEntry {
     Moved { name: Text, to: u16 },
 }
 
+/// Reads an entry at a place.
 pub fn read_entry(
     alloc: Global,
     bytes: &List<u8>,
@@ -72,8 +73,9 @@ fn read_named(
     })
 }
 
+/// Appends an entry. It is spelled in a list of its own first, so that want of memory leaves `out` as it was.
 pub fn write_entry(alloc: Global, out: &mut List<u8>, value: &WireEntry) -> Result<(), NoMemory>
-    requires { FitsEntry most value.now }
+    requires { FitsEntry most_classes value.now }
     ensures ok { OnOk result (out.new ≡ out.old ++ entry value.now) }
     ensures err { OnErr result (out.new ≡ out.old) }
 {
@@ -84,7 +86,7 @@ pub fn write_entry(alloc: Global, out: &mut List<u8>, value: &WireEntry) -> Resu
 
 // After an error a part of the entry may have been appended.
 pub(crate) fn append_entry(out: &mut List<u8>, value: &WireEntry) -> Result<(), NoMemory>
-    requires { FitsEntry most value.now }
+    requires { FitsEntry most_classes value.now }
     ensures { OnOk result (out.new ≡ out.old ++ entry value.now) }
 {
     match value {

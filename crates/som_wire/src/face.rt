@@ -3,7 +3,7 @@ ghost use Rattle.std.specs.List.{flat_map};
 ghost use Rattle.std.specs.Int.{w8, w16};
 ghost use Rattle.som_model.specs.declared.limits.TheConstants.{MAX_PARENTS, MAX_ENTRIES};
 ghost use Rattle.som_wire.specs.Fields.{Stands, Gives, done, many_at, counted_at};
-ghost use Rattle.som_wire.specs.Spelling.{number, entry, FitsEntry, metaclass, face, FitsFace, most};
+ghost use Rattle.som_wire.specs.Spelling.{number, entry, FitsEntry, metaclass, face, FitsFace, most_classes};
 ghost use Rattle.som_wire.specs.Reading.{number_at, below_at, version_at, metaclass_at, entry_at, face_at};
 
 use crate::entry::append_entry;
@@ -27,6 +27,7 @@ pub struct WireFace {
     pub entries: List<WireEntry>,
 }
 
+/// Reads a face at a place.
 pub fn read_face(
     alloc: Global,
     bytes: &List<u8>,
@@ -169,8 +170,9 @@ fn read_entries(
     )
 }
 
+/// Appends a face. It is spelled in a list of its own first, so that want of memory leaves `out` as it was.
 pub fn write_face(alloc: Global, out: &mut List<u8>, value: &WireFace) -> Result<(), NoMemory>
-    requires { FitsFace most value.now }
+    requires { FitsFace most_classes value.now }
     ensures ok { OnOk result (out.new ≡ out.old ++ face value.now) }
     ensures err { OnErr result (out.new ≡ out.old) }
 {
@@ -180,8 +182,8 @@ pub fn write_face(alloc: Global, out: &mut List<u8>, value: &WireFace) -> Result
 }
 
 // After an error a part of the face may have been appended.
-pub(crate) fn append_face(out: &mut List<u8>, value: &WireFace) -> Result<(), NoMemory>
-    requires { FitsFace most value.now }
+fn append_face(out: &mut List<u8>, value: &WireFace) -> Result<(), NoMemory>
+    requires { FitsFace most_classes value.now }
     ensures { OnOk result (out.new ≡ out.old ++ face value.now) }
 {
     append_text(out, &value.name)?;
@@ -216,7 +218,7 @@ fn append_metaclass(out: &mut List<u8>, class: Option<u16>) -> Result<(), NoMemo
 }
 
 fn append_entries(out: &mut List<u8>, entries: &List<WireEntry>) -> Result<(), NoMemory>
-    requires { All (FitsEntry most) entries.now }
+    requires { All (FitsEntry most_classes) entries.now }
     ensures { OnOk result (out.new ≡ out.old ++ flat_map entry entries.now) }
 {
     for entry in entries.as_slice() {

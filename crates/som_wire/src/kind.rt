@@ -1,6 +1,6 @@
 ghost use Rattle.std.specs.Prelude.{◌≡◌, ◌≤◌, ◌++◌, ℕ, true, length, IfOk, OnOk, OnErr};
 ghost use Rattle.som_wire.specs.Fields.{Stands, done};
-ghost use Rattle.som_wire.specs.Spelling.{kind, FitsKind, most};
+ghost use Rattle.som_wire.specs.Spelling.{kind, FitsKind, most_classes};
 ghost use Rattle.som_wire.specs.Reading.{kind_at};
 
 use crate::number::read_below;
@@ -17,6 +17,7 @@ pub enum WireType {
     Class(u16),
 }
 
+/// Reads the type of a parameter, or of a result, at a place.
 pub fn read_type(
     bytes: &List<u8>,
     place: usize,
@@ -66,8 +67,9 @@ fn read_tagged(
     })
 }
 
+/// Appends a type.
 pub fn write_type(out: &mut List<u8>, value: &WireType) -> Result<(), NoMemory>
-    requires { FitsKind most true value.now }
+    requires { FitsKind most_classes true value.now }
     ensures ok { OnOk result (out.new ≡ out.old ++ kind value.now) }
     ensures err { OnErr result (out.new ≡ out.old) }
 {

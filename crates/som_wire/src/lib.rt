@@ -1,4 +1,9 @@
-//! The fields of images, from single numbers to faces: their one spelling, which is read from left to right and written.
+//! The fields of images, from single numbers to faces: how each is spelled, read from left to right, and written.
+//!
+//! A reader is given all bytes and a place. Its clauses say three things: what it `found` stands there in its one spelling and
+//! fits its ranges; what stands there and fits is what `only` can be read; and the fault is `exact`ly the first one, which
+//! `specs/Reading.antt` finds on the way from left to right. A writer appends the one spelling of `specs/Spelling.antt`.
+//! After want of memory `out` is as it was.
 #![tactic(auto)]
 
 mod entry;
@@ -11,6 +16,8 @@ mod method;
 mod number;
 mod read;
 mod sig;
+#[cfg(test)]
+mod tests;
 mod text;
 
 pub use entry::{WireEntry, read_entry, write_entry};

@@ -5,7 +5,7 @@ use crate::{ImageFault, Read};
 use som_model::List;
 use std::alloc::Global;
 
-/// So many fields, one after the other, each read at its place by the closure.
+/// Reads so many fields, one after the other, each by the closure at its place.
 pub fn read_many<T: Drop, F: Fn(usize) -> Result<Read<T>, ImageFault>>(
     alloc: Global,
     bytes: &List<u8>,

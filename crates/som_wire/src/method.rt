@@ -21,6 +21,7 @@ pub struct Ranges {
     pub entries: List<u16>,
 }
 
+/// Reads a method at a place.
 pub fn read_method(
     bytes: &List<u8>,
     place: usize,
@@ -75,6 +76,7 @@ fn read_class_and_slot(
     })
 }
 
+/// Appends a method.
 pub fn write_method(out: &mut List<u8>, value: &WireMethod) -> Result<(), NoMemory>
     requires { FitsSomeRanges value.now }
     ensures ok { OnOk result (out.new ≡ out.old ++ method value.now) }

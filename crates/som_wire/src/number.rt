@@ -7,6 +7,7 @@ ghost use Rattle.som_wire.specs.Reading.{number_at, below_at};
 use crate::{ImageFault, Read};
 use som_model::{List, NoMemory};
 
+/// Reads a number of one byte at a place.
 pub fn read_u8(bytes: &List<u8>, place: usize) -> Result<Read<u8>, ImageFault>
     requires { place ≤ length bytes.now }
     ensures found { IfOk result (λ r. Stands bytes.now place (number w8 r.value) r.next × (r.value < 2 ^ 8)) }
@@ -24,6 +25,7 @@ pub fn read_u8(bytes: &List<u8>, place: usize) -> Result<Read<u8>, ImageFault>
     })
 }
 
+/// Reads a number of 2 bytes at a place.
 pub fn read_u16(bytes: &List<u8>, place: usize) -> Result<Read<u16>, ImageFault>
     requires { place ≤ length bytes.now }
     ensures found { IfOk result (λ r. Stands bytes.now place (number w16 r.value) r.next × (r.value < 2 ^ 16)) }
@@ -42,6 +44,7 @@ pub fn read_u16(bytes: &List<u8>, place: usize) -> Result<Read<u16>, ImageFault>
     })
 }
 
+/// Reads a number of 4 bytes at a place.
 pub fn read_u32(bytes: &List<u8>, place: usize) -> Result<Read<u32>, ImageFault>
     requires { place ≤ length bytes.now }
     ensures found { IfOk result (λ r. Stands bytes.now place (number w32 r.value) r.next × (r.value < 2 ^ 32)) }
@@ -80,6 +83,7 @@ pub(crate) fn read_below(
     }
 }
 
+/// Appends a number of one byte.
 pub fn write_u8(out: &mut List<u8>, value: u8) -> Result<(), NoMemory>
     ensures ok { OnOk result (out.new ≡ out.old ++ number w8 value) }
     ensures err { OnErr result (out.new ≡ out.old) }
@@ -87,6 +91,7 @@ pub fn write_u8(out: &mut List<u8>, value: u8) -> Result<(), NoMemory>
     out.extend_from_slice(&value.to_be_bytes())
 }
 
+/// Appends a number of 2 bytes.
 pub fn write_u16(out: &mut List<u8>, value: u16) -> Result<(), NoMemory>
     ensures ok { OnOk result (out.new ≡ out.old ++ number w16 value) }
     ensures err { OnErr result (out.new ≡ out.old) }
@@ -94,6 +99,7 @@ pub fn write_u16(out: &mut List<u8>, value: u16) -> Result<(), NoMemory>
     out.extend_from_slice(&value.to_be_bytes())
 }
 
+/// Appends a number of 4 bytes.
 pub fn write_u32(out: &mut List<u8>, value: u32) -> Result<(), NoMemory>
     ensures ok { OnOk result (out.new ≡ out.old ++ number w32 value) }
     ensures err { OnErr result (out.new ≡ out.old) }

@@ -1,7 +1,7 @@
 ghost use Rattle.std.specs.Prelude.{◌≡◌, ◌≤◌, ◌++◌, ℕ, true, false, length, All, IfOk, OnOk, OnErr};
 ghost use Rattle.std.specs.List.{flat_map};
 ghost use Rattle.som_wire.specs.Fields.{Stands, Gives, done, many_at};
-ghost use Rattle.som_wire.specs.Spelling.{kind, FitsKind, sig, FitsSig, most};
+ghost use Rattle.som_wire.specs.Spelling.{kind, FitsKind, sig, FitsSig, most_classes};
 ghost use Rattle.som_wire.specs.Reading.{kind_at, sig_at};
 
 use crate::{ImageFault, Read, WireType, read_many, read_type, read_u8, write_type, write_u8};
@@ -15,6 +15,7 @@ pub struct WireSig {
     pub params: List<WireType>,
 }
 
+/// Reads a signature at a place.
 pub fn read_sig(
     alloc: Global,
     bytes: &List<u8>,
@@ -82,8 +83,9 @@ fn read_params(
     )
 }
 
+/// Appends a signature. It is spelled in a list of its own first, so that want of memory leaves `out` as it was.
 pub fn write_sig(alloc: Global, out: &mut List<u8>, value: &WireSig) -> Result<(), NoMemory>
-    requires { FitsSig most value.now }
+    requires { FitsSig most_classes value.now }
     ensures ok { OnOk result (out.new ≡ out.old ++ sig value.now) }
     ensures err { OnErr result (out.new ≡ out.old) }
 {
@@ -94,7 +96,7 @@ pub fn write_sig(alloc: Global, out: &mut List<u8>, value: &WireSig) -> Result<(
 
 // After an error a part of the signature may have been appended.
 pub(crate) fn append_sig(out: &mut List<u8>, value: &WireSig) -> Result<(), NoMemory>
-    requires { FitsSig most value.now }
+    requires { FitsSig most_classes value.now }
     ensures { OnOk result (out.new ≡ out.old ++ sig value.now) }
 {
     write_type(out, &value.result)?;
@@ -103,7 +105,7 @@ pub(crate) fn append_sig(out: &mut List<u8>, value: &WireSig) -> Result<(), NoMe
 }
 
 fn append_params(out: &mut List<u8>, params: &List<WireType>) -> Result<(), NoMemory>
-    requires { All (FitsKind most false) params.now }
+    requires { All (FitsKind most_classes false) params.now }
     ensures { OnOk result (out.new ≡ out.old ++ flat_map kind params.now) }
 {
     for param in params.as_slice() {

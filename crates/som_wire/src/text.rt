@@ -7,6 +7,7 @@ use crate::{ImageFault, Read, read_u16, write_u16};
 use som_model::{List, NoMemory, Text};
 use std::alloc::Global;
 
+/// Reads a text at a place. Its bytes are copied.
 #[tactic(auto, unfolding(crate::specs::Reading::text_at))]
 pub fn read_text(alloc: Global, bytes: &List<u8>, place: usize) -> Result<Read<Text>, ImageFault>
     requires { place ≤ length bytes.now }
@@ -29,6 +30,7 @@ pub fn read_text(alloc: Global, bytes: &List<u8>, place: usize) -> Result<Read<T
     })
 }
 
+/// Appends a text. It is spelled in a list of its own first, so that want of memory leaves `out` as it was.
 pub fn write_text(alloc: Global, out: &mut List<u8>, value: &Text) -> Result<(), NoMemory>
     requires { FitsText value.now }
     ensures ok { OnOk result (out.new ≡ out.old ++ text value.now) }
