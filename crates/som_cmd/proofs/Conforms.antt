@@ -2,7 +2,6 @@
 use Rattle.std.proofs.Common.{◌≡◌, ℕ, Bool, true, false, not, ◌&&◌, List, [], ◌∷◌, ◌++◌, map, if◌then◌else◌, Option, Some, None, is_some, inl, inr, refl, sym, ap, ◌∙◌, subst, true≢false, codes}
 use Rattle.std.specs.Prelude.{flat_map}
 use Rattle.std.specs.Str.{bytes_eq}
-use Rattle.som_model.specs.declared.key.ClassKey.{ClassKey}
 use Rattle.som_model.specs.declared.key.ValueType.TheVariants as types
 use Rattle.som_model.specs.declared.syntax.Block.{Block}
 use Rattle.som_model.specs.declared.syntax.Expr.TheVariants as exprs
@@ -13,11 +12,11 @@ use Rattle.som_model.specs.declared.class.Body.TheVariants as bodies
 use Rattle.som_model.specs.Blocks.{printing, calling}
 use Rattle.som_model.specs.Owner.{sig_of}
 use Rattle.som_model.specs.Typing.{AreTyped, and_then, no_more, prints_text, calls_by_offset, a_text, a_new, an_offset_call, none}
-use Rattle.som_model.specs.Lists.{among, doubles, first, or_else}
+use Rattle.som_model.specs.Lists.{doubles, first, or_else}
 use Rattle.som_model.specs.Class.{Class, introduced}
-use Rattle.som_model.specs.Kernel.{kernel, som_object, object_face}
+use Rattle.som_model.specs.Kernel.{kernel, object_face}
 use Rattle.som_model.specs.Classes.{ancestors}
-use Rattle.som_model.specs.Rules.{Breach, breach, demand, name_of, s1, s2, s3, s4, s5, s6, s7, s8, s9, s10, s14, introduced_by}
+use Rattle.som_model.specs.Rules.{Breach, breach, demand, s2, s8, introduced_by}
 use Rattle.som_model.specs.Conforming.{ReleaseOk, ProgramOk, first_of_names, first_of_members}
 use Rattle.som_model.proofs.NamedLaws.{same_named, bytes_self}
 use Rattle.som_cmd.specs.declared.first.FirstFace.{FirstFace}

@@ -1,5 +1,5 @@
 -- How the ends of a run are those of its answer.
-use Rattle.std.proofs.Common.{◌≡◌, ◌≢◌, ℕ, List, [], ◌++◌, Option, Some, None, Result, Ok, Err, refl, sym, ap, subst, ◌∙◌, inl}
+use Rattle.std.proofs.Common.{◌≡◌, ℕ, List, [], Option, Some, None, Result, Ok, Err, refl, sym, ap, subst, ◌∙◌, inl}
 use Rattle.std.proofs.lemmas.List.{append-nil}
 use Rattle.som_model.specs.declared.limits.TheConstants.{DEFAULT_FUEL}
 use Rattle.som_model.specs.declared.program.Release.{Release}
@@ -10,9 +10,8 @@ use Rattle.som_io.specs.Outside.{ShowsAll, ShowsFront}
 use Rattle.som_cmd.specs.declared.stop.Refusal.{Refusal}
 use Rattle.som_cmd.specs.declared.stop.Stop.{Stop}
 use Rattle.som_cmd.specs.declared.stop.Stop.TheVariants as stops
-use Rattle.som_cmd.specs.Status.{status_of}
 use Rattle.som_cmd.specs.Words.{Asked, Run, Bad}
-use Rattle.som_cmd.specs.Answer.{Ending, IsAnswer, bad_words, runs, ran, bad_line, refusing}
+use Rattle.som_cmd.specs.Answer.{Ending, IsAnswer, bad_words, runs, ran, bad_line}
 use Rattle.som_cmd.specs.RunSteps.{FollowsTold, run_of}
 use Rattle.som_cmd.specs.Ends.{EndsAs, EndsAsTold, ShowsSome, AreImagesOf, RunsAs}
 use Rattle.som_cmd.proofs.RunAnswers.{ending, answer_to, run_answers, one_answer}

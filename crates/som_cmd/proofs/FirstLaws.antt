@@ -1,12 +1,10 @@
 -- Reading answers the first images and nothing else.
-use Rattle.std.proofs.Common.{◌≡◌, ◌↔◌, ℕ, zero, suc, ◌<◌, Bool, true, false, cond, true≢false, List, [], ◌∷◌, arith, Option, Some, None, Result, Ok, Err, refl, sym, ap, subst, ◌∙◌}
+use Rattle.std.proofs.Common.{◌≡◌, ℕ, zero, suc, Bool, true, false, cond, true≢false, List, [], ◌∷◌, arith, Some, Result, Ok, Err, refl, sym, ap, subst, ◌∙◌}
 use Rattle.std.specs.Prelude.{nat_lt}
 use Rattle.std.proofs.lemmas.Bool.{ltb-true, lt-ltb}
 use Rattle.som_model.specs.declared.program.Release.{Release}
 use Rattle.som_model.specs.declared.program.ClientProgram.{ClientProgram}
 use Rattle.som_model.specs.Bytes.{AreBytes}
-use Rattle.som_model.specs.Conforming.{ReleaseOk, ProgramOk}
-use Rattle.som_model.specs.Images.{library_image, client_image}
 use Rattle.som_cmd.specs.declared.first.FirstFace.{FirstFace}
 use Rattle.som_cmd.specs.declared.first.FirstRelease.{FirstRelease}
 use Rattle.som_cmd.specs.declared.reading.Unread.{Unread}

@@ -1,22 +1,17 @@
 -- What the client of first images means among the classes of their release.
-use Rattle.std.proofs.Common.{◌≡◌, ℕ, suc, ◌+◌, Bool, true, false, List, [], ◌∷◌, ◌++◌, map, length, Option, Some, None, refl, sym, ap, ◌∙◌, codes}
+use Rattle.std.proofs.Common.{◌≡◌, ℕ, suc, List, [], ◌∷◌, ◌++◌, ap, ◌∙◌}
 use Rattle.std.proofs.lemmas.List.{append-nil}
-use Rattle.som_model.specs.declared.syntax.Stmt.{Stmt}
-use Rattle.som_model.specs.declared.limits.TheConstants.{MAX_DEPTH}
 use Rattle.som_model.specs.declared.class.Body.{Body}
 use Rattle.som_model.specs.declared.class.Body.TheVariants as bodies
 use Rattle.som_model.specs.Blocks.{printing, calling}
-use Rattle.som_model.specs.Kernel.{som_object, som_class}
-use Rattle.som_model.specs.Classes.{classes}
 use Rattle.som_model.specs.World.{World, world}
-use Rattle.som_model.specs.State.{Nil, Event, InMain, Ran, Goes, Act, follow}
-use Rattle.som_model.specs.Acts.{with_one, ◌>>=◌, pure}
+use Rattle.som_model.specs.State.{Nil, InMain, Ran, Goes, Act, follow}
+use Rattle.som_model.specs.Acts.{with_one}
 use Rattle.som_model.specs.Calls.{Here}
-use Rattle.som_model.specs.Statements.{Flow, Next, go_on, all_of, leave, exec}
+use Rattle.som_model.specs.Statements.{Flow, Next, go_on, all_of, leave}
 use Rattle.som_model.specs.Means.{calls, means, nothing_yet, nothing_kept, beginning}
 use Rattle.som_model.proofs.NewLaws.{state, NewRuns}
 use Rattle.som_model.proofs.PrintLaws.{CallRuns, call_events, calling_does, run_block_is}
-use Rattle.som_cmd.specs.declared.first.FirstFace.{FirstFace}
 use Rattle.som_cmd.specs.declared.first.FirstRelease.{FirstRelease}
 use Rattle.som_cmd.specs.FirstImages.{key_of, method_of, release_of, program_of}
 use Rattle.som_cmd.specs.RunText.{run_text, run_status, no_trace}

@@ -1,24 +1,24 @@
 -- The image of a first release, and that of a first client, are those bytes; one that doesn't fit has no image.
-use Rattle.std.proofs.Common.{◌≡◌, ℕ, suc, ◌≤◌, Bool, true, false, List, [], ◌∷◌, ◌++◌, length, Option, Some, None, refl, sym, ap, subst, ◌∙◌, append_assoc, arith, codes, true≢false, cond, leb}
+use Rattle.std.proofs.Common.{◌≡◌, ℕ, ◌≤◌, Bool, true, false, List, [], ◌∷◌, ◌++◌, length, Option, Some, None, refl, sym, ap, ◌∙◌, append_assoc, codes, cond}
 use Rattle.std.specs.Prelude.{nat_le}
 use Rattle.std.proofs.lemmas.List.{append-nil}
 use Rattle.std.proofs.lemmas.Bool.{le-leb, leb-true}
 use Rattle.std.specs.Int.{w8, w16, w32, to_be_bytes}
-use Rattle.som_model.specs.declared.limits.TheConstants.{MAX_TEXT, MAX_VERSION, MAX_PARENTS, MAX_ENTRIES, MAX_LIBRARY_CLASSES, MAX_OVERRIDES, MAX_VARIABLES, MAX_CLIENT_CLASSES}
+use Rattle.som_model.specs.declared.limits.TheConstants.{MAX_TEXT, MAX_VERSION}
 use Rattle.som_model.specs.declared.class.Body.{Body}
 use Rattle.som_model.specs.declared.class.Body.TheVariants as bodies
 use Rattle.som_model.specs.Blocks.{printing, calling}
 use Rattle.som_model.specs.Class.{Class}
 use Rattle.som_model.specs.Kernel.{som_object}
 use Rattle.som_model.specs.Classes.{class_at}
-use Rattle.som_model.specs.Images.{Spelled, ◌then◌, each, number, tag, counted, where_it_is, text, class, numbered, slot_in, method, at_level, args, block, library_image, client_image}
+use Rattle.som_model.specs.Images.{Spelled, ◌then◌, number, tag, where_it_is, class, numbered, slot_in, method, at_level, args, block, library_image, client_image}
 use Rattle.som_model.proofs.NamedLaws.{same_named, bytes_self}
 use Rattle.som_model.proofs.ImageLaws.{printing_is, calling_is}
 use Rattle.som_cmd.specs.declared.first.FirstFace.{FirstFace}
 use Rattle.som_cmd.specs.declared.first.FirstRelease.{FirstRelease}
-use Rattle.som_cmd.specs.FirstImages.{key_of, method_of, face_of, release_of, program_of}
-use Rattle.som_cmd.proofs.OneClass.{the_class, one_class, cs, class_is}
-use Rattle.som_cmd.proofs.Spelled.{FaceFits, LibraryFits, face_bytes, library_bytes, client_bytes}
+use Rattle.som_cmd.specs.FirstImages.{key_of, method_of, release_of, program_of}
+use Rattle.som_cmd.proofs.OneClass.{cs, class_is}
+use Rattle.som_cmd.proofs.Spelled.{FaceFits, LibraryFits, library_bytes, client_bytes}
 
 -- a text and a version, where the tests say whether they fit
 abbrev text_by : Bool → List ℕ → Spelled

@@ -1,4 +1,3 @@
-pub mod Fields
 pub mod Spelled
 pub mod Doubles
 pub mod OneClass

@@ -1,8 +1,7 @@
 -- What the classes of a first release answer.
-use Rattle.std.proofs.Common.{◌≡◌, ℕ, Bool, true, false, List, [], ◌∷◌, ◌++◌, map, if◌then◌else◌, Option, Some, None, refl, sym, ap, ◌∙◌, codes}
+use Rattle.std.proofs.Common.{◌≡◌, ℕ, Bool, true, false, List, [], ◌∷◌, ◌++◌, map, if◌then◌else◌, Some, ap, ◌∙◌, codes}
 use Rattle.som_model.specs.declared.key.Module.TheVariants as modules
 use Rattle.som_model.specs.declared.key.ClassKey.{ClassKey}
-use Rattle.som_model.specs.declared.key.ClassKey.TheVariants as keys
 use Rattle.som_model.specs.declared.key.ValueType.TheVariants as types
 use Rattle.som_model.specs.declared.syntax.Block.{Block}
 use Rattle.som_model.specs.declared.class.Body.{Body}
@@ -12,10 +11,10 @@ use Rattle.som_model.specs.Lists.{firsts, joined}
 use Rattle.som_model.specs.Ancestors.{anc_within}
 use Rattle.som_model.specs.Class.{Class, class_in}
 use Rattle.som_model.specs.Kernel.{kernel, som_object, som_class, som_new, som_init}
-use Rattle.som_model.specs.Classes.{class_at, hierarchy, place_of, ancestors, is_a}
+use Rattle.som_model.specs.Classes.{class_at, hierarchy, ancestors, is_a}
 use Rattle.som_model.specs.Owner.{owner, sig_of}
-use Rattle.som_model.specs.Implementation.{held, has_body, implementation, is_kernel, OfKernel, User}
-use Rattle.som_model.specs.Metaclass.{meta, hooks, rank}
+use Rattle.som_model.specs.Implementation.{held, implementation, is_kernel, OfKernel, User}
+use Rattle.som_model.specs.Metaclass.{meta, hooks}
 use Rattle.som_model.proofs.NamedLaws.{same_named, bytes_self, height_named, rank_named, parents_named, kernel_named, held_named, hierarchy_parents, hierarchy_same}
 use Rattle.som_cmd.specs.declared.first.FirstFace.{FirstFace}
 use Rattle.som_cmd.specs.FirstImages.{key_of, method_of, face_of}

@@ -1,5 +1,5 @@
 -- The steps of a run lead to the answer, and there is one answer.
-use Rattle.std.proofs.Common.{◌≡◌, ℕ, suc, Bool, true, false, cond, true≢false, List, [], ◌∷◌, ◌++◌, Option, Some, None, Result, Ok, Err, refl, sym, ap, subst, ◌∙◌}
+use Rattle.std.proofs.Common.{◌≡◌, ℕ, Bool, true, false, cond, true≢false, List, [], ◌∷◌, ◌++◌, Option, Some, None, Result, Ok, Err, refl, sym, ap, subst, ◌∙◌}
 use Rattle.std.specs.Prelude.{◌==◌, ◌&&◌}
 use Rattle.std.specs.Option.{ok_or}
 use Rattle.std.specs.FinMap.{get}
@@ -19,12 +19,12 @@ use Rattle.som_cmd.specs.declared.first.FirstFace.{FirstFace}
 use Rattle.som_cmd.specs.declared.first.FirstRelease.{FirstRelease}
 use Rattle.som_cmd.specs.declared.reading.Unread.{Unread}
 use Rattle.som_cmd.specs.declared.stop.Refusal.{Refusal}
-use Rattle.som_cmd.specs.FirstImages.{face_of, release_of, program_of, IsFirstLibrary, IsFirstClient}
+use Rattle.som_cmd.specs.FirstImages.{release_of, program_of, IsFirstLibrary, IsFirstClient}
 use Rattle.som_cmd.specs.Reading.{library_at, client_at}
-use Rattle.som_cmd.specs.RunText.{run_text, run_status, no_trace}
+use Rattle.som_cmd.specs.RunText.{run_text, no_trace}
 use Rattle.som_cmd.specs.Words.{Asked, Run, Bad}
 use Rattle.som_cmd.specs.Answer.{Ending, IsAnswer, bad_words, no_client, no_library, client_refused, library_refused, faces_differ, runs, bad_line, refusing, ran, absent, no_image, not_same}
-use Rattle.som_cmd.specs.RunSteps.{file_of, image_of, same_first, run_of}
+use Rattle.som_cmd.specs.RunSteps.{image_of, same_first, run_of}
 use Rattle.som_cmd.proofs.FirstMeaning.{first_text, first_status}
 use Rattle.som_cmd.proofs.FirstLaws.{library_found, library_reads, client_found, client_reads}
 

@@ -1,5 +1,5 @@
 -- What a call prints and answers, and the files that it leaves, where neither store nor sink fails and memory lasts.
-use Rattle.std.specs.Prelude.{◌≡◌, ℕ, List, [], ◌∷◌, ◌++◌, Option, Some, None, codes}
+use Rattle.std.specs.Prelude.{◌≡◌, ℕ, List, [], ◌∷◌, ◌++◌, Some, None, codes}
 use Rattle.std.specs.FinMap.{get}
 use Rattle.som_model.specs.declared.limits.TheConstants.{DEFAULT_FUEL}
 use Rattle.som_model.specs.declared.program.Release.{Release}

@@ -1,85 +1,98 @@
--- First images read from left to right. A step answers a value and the bytes after it, or that the bytes aren't of the form.
-use Rattle.std.specs.Prelude.{◌≡◌, ℕ, ◌&&◌, Bool, List, [], ◌∷◌, length, take, drop, Option, Some, None, Result, Ok, Err, nat_lt, nat_le, nat_eq, if◌then◌else◌, codes}
+-- First images read from left to right. A step answers a value and the place after it, or that the bytes have another form.
+use Rattle.std.specs.Prelude.{◌≡◌, ℕ, ◌+◌, ◌==◌, ◌&&◌, Bool, true, false, is_none, List, [], ◌∷◌, length, drop, Result, Ok, Err, nat_lt, nat_eq, if◌then◌else◌}
 use Rattle.std.specs.List.{starts_with}
-use Rattle.std.specs.Int.{Width, w16, w32, byte_len, from_be_bytes}
-use Rattle.som_model.specs.declared.limits.TheConstants.{MAX_VERSION}
-use Rattle.som_model.specs.declared.program.Release.{Release}
-use Rattle.som_model.specs.declared.program.ClientProgram.{ClientProgram}
+use Rattle.som_model.specs.declared.class.Way.TheVariants as ways
 use Rattle.som_model.specs.Lists.{every}
 use Rattle.som_model.specs.Steps.{◌>>=◌}
+use Rattle.som_wire.specs.declared.fault.ImageFault.{ImageFault}
+use Rattle.som_wire.specs.declared.read.Read.{Read}
+use Rattle.som_wire.specs.declared.kind.WireType.{WireType}
+use Rattle.som_wire.specs.declared.kind.WireType.TheVariants as types
+use Rattle.som_wire.specs.declared.sig.WireSig.{WireSig}
+use Rattle.som_wire.specs.declared.entry.WireEntry.{WireEntry}
+use Rattle.som_wire.specs.declared.entry.WireEntry.TheVariants as entries
+use Rattle.som_wire.specs.declared.face.WireFace.{WireFace}
+use Rattle.som_wire.specs.Reading.{text_at, face_at}
 use Rattle.som_cmd.specs.declared.first.FirstFace.{FirstFace}
 use Rattle.som_cmd.specs.declared.first.FirstRelease.{FirstRelease}
-use Rattle.som_cmd.specs.declared.first.TheConstants.{LIBRARY_HEAD, CLIENT_HEAD, FACE_SHAPE, ENTRY_SHAPE, PART_SHAPE, NO_OVERRIDES, MAIN_SHAPE}
+use Rattle.som_cmd.specs.declared.first.TheConstants.{LIBRARY_HEAD, CLIENT_HEAD, PART_SHAPE, NO_OVERRIDES, MAIN_SHAPE, CLASSES}
 use Rattle.som_cmd.specs.declared.reading.Unread.{Unread}
 use Rattle.som_cmd.specs.declared.reading.Unread.TheVariants as unread
 use Rattle.som_cmd.specs.Names.{is_new}
 
--- what a function answered, seen by view, is what reading gives, unless memory ran out
-abbrev pub Fails : {Y : Type 0} → Unread → Result Y Unread → Type 0
+-- what a function answered is what reading gives, unless memory ran out
+abbrev pub Fails : {X : Type 0} → Unread → Result X Unread → Type 0
 Fails unread.NoMemory read = Unit {0}
 Fails unread.OtherForm read = read ≡ Err unread.OtherForm
 
-abbrev pub Gives : {X Y : Type 0} → (X → Y) → Result X Unread → Result Y Unread → Type 0
-Gives view (Ok x) read = read ≡ Ok (view x)
-Gives view (Err e) read = Fails e read
+abbrev pub Gives : {X : Type 0} → Result X Unread → Result X Unread → Type 0
+Gives (Ok x) read = read ≡ Ok x
+Gives (Err e) read = Fails e read
 
 -- a value, unless the test fails
 abbrev pub unless : {A : Type 0} → Bool → A → Result A Unread
 unless fails x = if fails then Err unread.OtherForm else Ok x
 
--- these bytes
-abbrev pub constant_at : List ℕ → List ℕ → Result (List ℕ) Unread
-constant_at constant bytes = if starts_with nat_eq bytes constant then Ok (drop (length constant) bytes) else Err unread.OtherForm
+-- a field of an image; any fault of it is another form
+abbrev pub plain : {A : Type 0} → Result A ImageFault → Result A Unread
+plain (Ok x) = Ok x
+plain (Err fault) = Err unread.OtherForm
 
--- a number, its highest byte first
-abbrev pub number_at : Width → List ℕ → Result (ℕ × List ℕ) Unread
-number_at w bytes = unless (nat_lt (length bytes) (byte_len w)) (from_be_bytes w (take (byte_len w) bytes), drop (byte_len w) bytes)
+-- the place after these bytes
+abbrev pub constant_at : List ℕ → List ℕ → ℕ → Result ℕ Unread
+constant_at constant bytes place = if starts_with nat_eq (drop place bytes) constant then Ok (place + length constant) else Err unread.OtherForm
 
--- a length, and that many bytes
-unfoldable pub text_at : List ℕ → Result (List ℕ × List ℕ) Unread
-text_at bytes = do
-  n ← number_at w16 bytes
-  unless (nat_lt (length n.1) n.0) (take n.0 n.1, drop n.0 n.1)
+abbrev pub is_nothing : WireType → Bool
+is_nothing types.Void = true
+is_nothing _ = false
 
--- a version
-unfoldable pub version_at : List ℕ → Result (ℕ × List ℕ) Unread
-version_at bytes = do
-  n ← number_at w32 bytes
-  unless (nat_lt MAX_VERSION n.0) n
+-- it answers nothing and has no parameters
+abbrev pub is_plain : WireSig → Bool
+is_plain s = is_nothing s.result && (length s.params == 0)
 
--- the face of a first class
-unfoldable pub face_at : List ℕ → Result (FirstFace × List ℕ) Unread
-face_at bytes = do
-  class ← text_at bytes
-  major ← version_at class.1
-  minor ← version_at major.1
-  shape ← constant_at FACE_SHAPE.now minor.1
-  method ← text_at shape
-  rest ← constant_at ENTRY_SHAPE.now method.1
-  Ok (record { class = class.0; major = major.0; minor = minor.0; method = method.0 }, rest)
+-- the name of the one entry, which is introduced and called by offset
+abbrev pub the_method : List WireEntry → Result (List ℕ) Unread
+the_method (entries.Introduced name s ways.Offset ∷ []) = if is_plain s then Ok name else Err unread.OtherForm
+the_method _ = Err unread.OtherForm
 
--- nothing is left
-abbrev pub all_read : {A : Type 0} → A → List ℕ → Result A Unread
-all_read x rest = unless (nat_lt 0 (length rest)) x
+-- the one parent is the class of number 0, SOMObject
+abbrev pub is_under_object : List ℕ → Bool
+is_under_object (p ∷ []) = p == 0
+is_under_object _ = false
+
+-- a face that is a first one
+abbrev pub first_of : WireFace → Result FirstFace Unread
+first_of f = the_method f.entries >>= λ method.
+    if is_under_object f.parents && is_none f.metaclass then Ok (record { class = f.name; major = f.major; minor = f.minor; method = method }) else Err unread.OtherForm
+
+unfoldable pub first_face_at : List ℕ → ℕ → Result (Read FirstFace) Unread
+first_face_at bytes place = do
+  face ← plain (face_at CLASSES bytes place)
+  first ← first_of face.value
+  Ok (record { value = first; next = face.next })
+
+-- nothing is left from the place on
+abbrev pub all_read : {A : Type 0} → A → List ℕ → ℕ → Result A Unread
+all_read x bytes place = unless (nat_lt place (length bytes)) x
 
 -- the form of a first library image
 unfoldable pub library_form_at : List ℕ → Result FirstRelease Unread
 library_form_at bytes = do
-  head ← constant_at LIBRARY_HEAD.now bytes
-  face ← face_at head
-  part ← constant_at PART_SHAPE.now face.1
-  text ← text_at part
-  rest ← constant_at NO_OVERRIDES.now text.1
-  release ← all_read (record { face = face.0; text = text.0 }) rest
-  if is_new face.0 then Ok release else Err unread.OtherForm
+  head ← constant_at LIBRARY_HEAD.now bytes 0
+  face ← first_face_at bytes head
+  part ← constant_at PART_SHAPE.now bytes face.next
+  text ← plain (text_at bytes part)
+  rest ← constant_at NO_OVERRIDES.now bytes text.next
+  release ← all_read (record { face = face.value; text = text.value }) bytes rest
+  if is_new face.value then Ok release else Err unread.OtherForm
 
 -- the form of a first client image
 unfoldable pub client_form_at : List ℕ → Result FirstFace Unread
 client_form_at bytes = do
-  head ← constant_at CLIENT_HEAD.now bytes
-  face ← face_at head
-  rest ← constant_at MAIN_SHAPE.now face.1
-  client ← all_read face.0 rest
+  head ← constant_at CLIENT_HEAD.now bytes 0
+  face ← first_face_at bytes head
+  rest ← constant_at MAIN_SHAPE.now bytes face.next
+  client ← all_read face.value bytes rest
   if is_new client then Ok client else Err unread.OtherForm
 
 -- whether each number is a byte

@@ -4,7 +4,7 @@ use Rattle.som_model.specs.declared.key.ClassKey.{ClassKey}
 use Rattle.som_model.specs.declared.program.Fault.{Fault}
 use Rattle.som_model.specs.declared.program.Fault.TheVariants as faults
 use Rattle.som_model.specs.ClassNames.{class_name}
-use Rattle.som_model.specs.State.{Event, Printed, Called, Place, InMain, InBody, Manner, Offset, Lookup, Dispatch, Parent, Before, After, Forward, Cut, Faulted, Spent, State, Ran, Goes, Ends}
+use Rattle.som_model.specs.State.{Event, Printed, Called, Place, InMain, InBody, Manner, Offset, Lookup, Dispatch, Parent, Before, After, Forward, Cut, Faulted, Spent, Ran, Goes, Ends}
 
 -- how a body was reached, as the trace shows it
 abbrev way_name : Manner → List ℕ

@@ -1,9 +1,10 @@
 ghost use Rattle.som_cmd.specs.Names.{is_kernel_name, is_new, is_object_method};
-ghost use Rattle.som_cmd.specs.Reading.{Gives, client_at, client_form_at, face_at, library_at, library_form_at};
+ghost use Rattle.som_cmd.specs.Reading.{Gives, client_at, client_form_at, library_at, library_form_at};
 ghost use Rattle.std.specs.Prelude.{◌≡◌};
 
-use crate::reading::{Unread, read_constant, read_text, read_version};
+use crate::reading::{Unread, field, read_constant, read_first_face};
 use som_model::{List, Text};
+use som_wire::read_text;
 use std::alloc::Global;
 
 /// The face of a class under SOMObject with one method, which answers nothing and has no parameters.
@@ -28,11 +29,8 @@ const LIBRARY_HEAD: &[u8] = b"SOML\x01\x00\x01";
 // `SOMC`, version 1, one class of the library.
 const CLIENT_HEAD: &[u8] = b"SOMC\x01\x00\x01";
 
-// One parent, the class of number 0; no metaclass; one entry.
-const FACE_SHAPE: &[u8] = b"\x01\x00\x00\x00\x00\x01";
-
-// Introduced, called by offset; answers nothing; no parameters.
-const ENTRY_SHAPE: &[u8] = b"\x00\x00\x00";
+/// How many classes there are: the kernel's four, and the library's one.
+pub const CLASSES: u16 = 5;
 
 // No variables; a block of one statement, which prints a text.
 const PART_SHAPE: &[u8] = b"\x00\x00\x00\x00\x00\x01\x08\x21";
@@ -76,56 +74,40 @@ impl FirstFace {
     }
 }
 
-#[tactic(auto, unfolding(crate::specs::Reading::face_at))]
-fn read_face(alloc: Global, bytes: &[u8]) -> Result<(FirstFace, &[u8]), Unread>
-    ensures { Gives (λ x. (x.0, x.1.now)) result (face_at bytes.now) }
-{
-    let (class, rest) = read_text(alloc, bytes)?;
-    let (major, rest) = read_version(rest)?;
-    let (minor, rest) = read_version(rest)?;
-    let rest = read_constant(FACE_SHAPE, rest)?;
-    let (method, rest) = read_text(alloc, rest)?;
-    let rest = read_constant(ENTRY_SHAPE, rest)?;
-    let face = FirstFace {
-        class,
-        major,
-        minor,
-        method,
-    };
-    Ok((face, rest))
-}
-
 #[tactic(auto, unfolding(crate::specs::Reading::library_form_at))]
-fn read_library_form(alloc: Global, bytes: &[u8]) -> Result<FirstRelease, Unread>
-    ensures { Gives (λ release. release) result (library_form_at bytes.now) }
+fn read_library_form(alloc: Global, bytes: &List<u8>) -> Result<FirstRelease, Unread>
+    ensures { Gives result (library_form_at bytes.now) }
 {
-    let rest = read_constant(LIBRARY_HEAD, bytes)?;
-    let (face, rest) = read_face(alloc, rest)?;
-    let rest = read_constant(PART_SHAPE, rest)?;
-    let (text, rest) = read_text(alloc, rest)?;
-    let rest = read_constant(NO_OVERRIDES, rest)?;
-    if !rest.is_empty() {
+    let head = read_constant(bytes, 0, LIBRARY_HEAD)?;
+    let face = read_first_face(alloc, bytes, head)?;
+    let part = read_constant(bytes, face.next, PART_SHAPE)?;
+    let text = field(read_text(alloc, bytes, part))?;
+    let rest = read_constant(bytes, text.next, NO_OVERRIDES)?;
+    if rest < bytes.len() {
         return Err(Unread::OtherForm);
     }
-    if face.is_new() {
-        Ok(FirstRelease { face, text })
+    if face.value.is_new() {
+        Ok(FirstRelease {
+            face: face.value,
+            text: text.value,
+        })
     } else {
         Err(Unread::OtherForm)
     }
 }
 
 #[tactic(auto, unfolding(crate::specs::Reading::client_form_at))]
-fn read_client_form(alloc: Global, bytes: &[u8]) -> Result<FirstFace, Unread>
-    ensures { Gives (λ face. face) result (client_form_at bytes.now) }
+fn read_client_form(alloc: Global, bytes: &List<u8>) -> Result<FirstFace, Unread>
+    ensures { Gives result (client_form_at bytes.now) }
 {
-    let rest = read_constant(CLIENT_HEAD, bytes)?;
-    let (face, rest) = read_face(alloc, rest)?;
-    let rest = read_constant(MAIN_SHAPE, rest)?;
-    if !rest.is_empty() {
+    let head = read_constant(bytes, 0, CLIENT_HEAD)?;
+    let face = read_first_face(alloc, bytes, head)?;
+    let rest = read_constant(bytes, face.next, MAIN_SHAPE)?;
+    if rest < bytes.len() {
         return Err(Unread::OtherForm);
     }
-    if face.is_new() {
-        Ok(face)
+    if face.value.is_new() {
+        Ok(face.value)
     } else {
         Err(Unread::OtherForm)
     }
@@ -133,14 +115,16 @@ fn read_client_form(alloc: Global, bytes: &[u8]) -> Result<FirstFace, Unread>
 
 /// The release of a first library image, where the bytes are one.
 pub fn read_library(alloc: Global, bytes: &List<u8>) -> Result<FirstRelease, Unread>
-    ensures { Gives (λ release. release) result (library_at bytes.now) }
+    ensures { Gives result (library_at bytes.now) }
 {
-    read_library_form(alloc, bytes.as_bytes())
+    let _all = bytes.as_bytes();
+    read_library_form(alloc, bytes)
 }
 
 /// The face of a first client image, where the bytes are one.
 pub fn read_client(alloc: Global, bytes: &List<u8>) -> Result<FirstFace, Unread>
-    ensures { Gives (λ face. face) result (client_at bytes.now) }
+    ensures { Gives result (client_at bytes.now) }
 {
-    read_client_form(alloc, bytes.as_bytes())
+    let _all = bytes.as_bytes();
+    read_client_form(alloc, bytes)
 }

@@ -1,9 +1,20 @@
-ghost use Rattle.som_cmd.specs.Reading.{Gives, constant_at, number_at, text_at, version_at};
+ghost use Rattle.som_cmd.specs.Reading.{
+  Gives,
+  constant_at,
+  first_face_at,
+  first_of,
+  is_plain,
+  is_under_object,
+  plain,
+  the_method,
+};
 ghost use Rattle.som_cmd.specs.declared.reading.Unread.TheVariants as unread;
-ghost use Rattle.std.specs.Int.{w16, w32};
-ghost use Rattle.std.specs.Prelude.{◌≡◌};
+ghost use Rattle.som_wire.specs.Fields as fields;
+ghost use Rattle.std.specs.Prelude.{◌≡◌, ◌≤◌, IfOk, length};
 
-use som_model::{MAX_VERSION, NoMemory, Text};
+use crate::first::{CLASSES, FirstFace};
+use som_model::{List, NoMemory, Text, Way};
+use som_wire::{ImageFault, Read, WireEntry, WireFace, WireSig, WireType, read_face};
 use std::alloc::Global;
 
 /// Why a first image couldn't be read.
@@ -22,61 +33,106 @@ impl From<NoMemory> for Unread {
     }
 }
 
-/// The bytes after these, where they stand at the front.
-pub fn read_constant<'a>(constant: &[u8], bytes: &'a [u8]) -> Result<&'a [u8], Unread>
-    ensures { Gives (λ rest. rest.now) result (constant_at constant.now bytes.now) }
+/// A field of an image; any fault of it is another form.
+pub fn field<T: Drop>(read: Result<T, ImageFault>) -> Result<T, Unread>
+    ensures gives { (told : _) → fields.Gives read told → Gives result (plain told) }
+    ensures same { IfOk result (λ x. read ≡ Ok x) }
 {
-    if bytes.starts_with(constant) {
-        let (_, rest) = bytes.split_at(constant.len());
-        Ok(rest)
+    match read {
+        Ok(value) => Ok(value),
+        Err(ImageFault::NoMemory) => Err(Unread::NoMemory),
+        Err(_) => Err(Unread::OtherForm),
+    }
+}
+
+/// The place after these bytes, where they stand at a place.
+pub fn read_constant(bytes: &List<u8>, place: usize, constant: &[u8]) -> Result<usize, Unread>
+    requires { place ≤ length bytes.now }
+    ensures exact { Gives result (constant_at constant.now bytes.now place) }
+    ensures next { IfOk result (λ next. next ≤ length bytes.now) }
+{
+    let (_, rest) = bytes.as_slice().split_at(place);
+    if rest.starts_with(constant) {
+        Ok(place + constant.len())
     } else {
         Err(Unread::OtherForm)
     }
 }
 
-fn read_u16(bytes: &[u8]) -> Result<(u16, &[u8]), Unread>
-    ensures { Gives (λ x. (x.0, x.1.now)) result (number_at w16 bytes.now) }
+fn is_plain(sig: &WireSig) -> bool
+    ensures { result ≡ is_plain sig.now }
 {
-    if bytes.len() < 2 {
-        return Err(Unread::OtherForm);
-    }
-    let (front, rest) = bytes.split_at(2);
-    Ok((u16::from_be_bytes([front[0], front[1]]), rest))
+    matches!(&sig.result, WireType::Void) && sig.params.is_empty()
 }
 
-fn read_u32(bytes: &[u8]) -> Result<(u32, &[u8]), Unread>
-    ensures { Gives (λ x. (x.0, x.1.now)) result (number_at w32 bytes.now) }
+fn is_under_object(parents: &List<u16>) -> bool
+    ensures { result ≡ is_under_object parents.now }
 {
-    if bytes.len() < 4 {
-        return Err(Unread::OtherForm);
+    match parents.as_slice() {
+        [parent] => *parent == 0,
+        _ => false,
     }
-    let (front, rest) = bytes.split_at(4);
-    let number = u32::from_be_bytes([front[0], front[1], front[2], front[3]]);
-    Ok((number, rest))
 }
 
-/// A length, and that many bytes.
-#[tactic(auto, unfolding(crate::specs::Reading::text_at))]
-pub fn read_text(alloc: Global, bytes: &[u8]) -> Result<(Text, &[u8]), Unread>
-    ensures { Gives (λ x. (x.0, x.1.now)) result (text_at bytes.now) }
+// The name of the one entry, which is introduced and called by offset.
+fn the_method(alloc: Global, entries: &List<WireEntry>) -> Result<Text, Unread>
+    ensures { Gives result (the_method entries.now) }
 {
-    let (len, rest) = read_u16(bytes)?;
-    let len = len as usize;
-    if rest.len() < len {
-        return Err(Unread::OtherForm);
+    match entries.as_slice() {
+        [
+            WireEntry::Introduced {
+                name,
+                sig,
+                way: Way::Offset,
+            },
+        ] => {
+            if is_plain(sig) {
+                Ok(name.copy(alloc)?)
+            } else {
+                Err(Unread::OtherForm)
+            }
+        }
+        _ => Err(Unread::OtherForm),
     }
-    let (text, rest) = rest.split_at(len);
-    Ok((Text::from_slice(alloc, text)?, rest))
 }
 
-/// A number of a version.
-#[tactic(auto, unfolding(crate::specs::Reading::version_at))]
-pub fn read_version(bytes: &[u8]) -> Result<(u32, &[u8]), Unread>
-    ensures { Gives (λ x. (x.0, x.1.now)) result (version_at bytes.now) }
+fn first_of(alloc: Global, face: WireFace) -> Result<FirstFace, Unread>
+    ensures { Gives result (first_of face) }
 {
-    let (number, rest) = read_u32(bytes)?;
-    if MAX_VERSION < number {
-        return Err(Unread::OtherForm);
+    let WireFace {
+        name,
+        major,
+        minor,
+        parents,
+        metaclass,
+        entries,
+    } = face;
+    let method = the_method(alloc, &entries)?;
+    if is_under_object(&parents) && metaclass.is_none() {
+        Ok(FirstFace {
+            class: name,
+            major,
+            minor,
+            method,
+        })
+    } else {
+        Err(Unread::OtherForm)
     }
-    Ok((number, rest))
+}
+
+/// A face that is a first one, at a place.
+#[tactic(auto, unfolding(crate::specs::Reading::first_face_at))]
+pub fn read_first_face(
+    alloc: Global,
+    bytes: &List<u8>,
+    place: usize,
+) -> Result<Read<FirstFace>, Unread>
+    requires { place ≤ length bytes.now }
+    ensures exact { Gives result (first_face_at bytes.now place) }
+    ensures next { IfOk result (λ r. r.next ≤ length bytes.now) }
+{
+    let face = field(read_face(alloc, bytes, place, CLASSES))?;
+    let next = face.next;
+    let value = first_of(alloc, face.value)?;
+    Ok(Read { value, next })
 }

@@ -34,7 +34,7 @@ fn fetch<S: Store>(alloc: Global, name: &Text, store: &mut S) -> Result<List<u8>
 
 // The value of an image, or the refusal under its name.
 fn image<T: Drop>(alloc: Global, name: &Text, read: Result<T, Unread>) -> Result<T, Stop>
-    ensures follows { (told : _) → Gives (λ x. x) read told → Follows result (image_of name.now told) }
+    ensures follows { (told : _) → Gives read told → Follows result (image_of name.now told) }
     ensures quiet { IsQuiet result }
 {
     match read {

@@ -1,4 +1,4 @@
-use Rattle.std.proofs.Common.{◌≡◌, ℕ, List, Option, Ok, Err, refl, subst, ◌∙◌}
+use Rattle.std.proofs.Common.{ℕ, List, Ok, Err, refl, subst, ◌∙◌}
 use Rattle.som_io.specs.Outside.{ShowsAll, ShowsFront}
 use Rattle.som_cmd.specs.Words.{asked}
 use Rattle.som_cmd.proofs.EndLaws.{ends, fronts, nothing_written, bad_ends, bad_fronts, means_by}
