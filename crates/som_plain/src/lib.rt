@@ -9,6 +9,8 @@ mod resolution;
 mod rows;
 #[cfg(test)]
 mod tests;
+#[cfg(test)]
+mod tests_of_copies;
 mod theorems;
 
 pub use ancestry::ancestors;
