@@ -1,12 +1,23 @@
+use Rattle.std.proofs.Common.{◌<◌, ◌^◌}
+use Rattle.std.specs.Int.{w8, w16, w32}
 use Rattle.som_wire.specs.Spelling as spelling
 use Rattle.som_wire.specs.Spelling.{FitsText, FitsKind, FitsSig, FitsEntry, FitsFace}
-use Rattle.som_wire.specs.Reading.{text_at, kind_at, sig_at, entry_at, face_at}
-use Rattle.som_wire.proofs.NumberFields.{text_field}
+use Rattle.som_wire.specs.Reading.{number_at, text_at, kind_at, sig_at, entry_at, face_at}
+use Rattle.som_wire.proofs.NumberFields.{byte_field, short_field, long_field, text_field}
 use Rattle.som_wire.proofs.TypeFields.{kind_field, sig_field}
 use Rattle.som_wire.proofs.EntryFields.{entry_field}
 use Rattle.som_wire.proofs.FaceFields.{face_field}
 use Rattle.som_wire.proofs.Apart.{apart, method_apart}
 use Rattle.som_wire.proofs.laws.no_spelling_begins_another.Goals as goal
+
+pub returns-clause-byte : goal.returns-clause-byte
+returns-clause-byte c = apart (number_at w8) (spelling.number w8) (λ n. n < 2 ^ 8) byte_field
+
+pub returns-clause-short : goal.returns-clause-short
+returns-clause-short c = apart (number_at w16) (spelling.number w16) (λ n. n < 2 ^ 16) short_field
+
+pub returns-clause-long : goal.returns-clause-long
+returns-clause-long c = apart (number_at w32) (spelling.number w32) (λ n. n < 2 ^ 32) long_field
 
 pub returns-clause-text : goal.returns-clause-text
 returns-clause-text c = apart text_at spelling.text FitsText text_field
