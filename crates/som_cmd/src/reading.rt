@@ -10,6 +10,7 @@ ghost use Rattle.som_cmd.specs.Reading.{
 };
 ghost use Rattle.som_cmd.specs.declared.reading.Unread.TheVariants as unread;
 ghost use Rattle.som_wire.specs.Fields as fields;
+ghost use Rattle.som_wire.specs.declared.fault.ImageFault.TheVariants as faults;
 ghost use Rattle.std.specs.Prelude.{◌≡◌, ◌≤◌, IfOk, length};
 
 use crate::first::{CLASSES, FirstFace};
@@ -37,6 +38,7 @@ impl From<NoMemory> for Unread {
 pub fn field<T: Drop>(read: Result<T, ImageFault>) -> Result<T, Unread>
     ensures gives { (told : _) → fields.Gives read told → Gives result (plain told) }
     ensures same { IfOk result (λ x. read ≡ Ok x) }
+    ensures memory { result ≡ Err unread.NoMemory → read ≡ Err faults.NoMemory }
 {
     match read {
         Ok(value) => Ok(value),
@@ -48,7 +50,7 @@ pub fn field<T: Drop>(read: Result<T, ImageFault>) -> Result<T, Unread>
 /// The place after these bytes, where they stand at a place.
 pub fn read_constant(bytes: &List<u8>, place: usize, constant: &[u8]) -> Result<usize, Unread>
     requires { place ≤ length bytes.now }
-    ensures exact { Gives result (constant_at constant.now bytes.now place) }
+    ensures exact { result ≡ constant_at constant.now bytes.now place }
     ensures next { IfOk result (λ next. next ≤ length bytes.now) }
 {
     let (_, rest) = bytes.as_slice().split_at(place);
