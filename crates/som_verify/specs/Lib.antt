@@ -1,0 +1,5 @@
+pub mod Told
+pub mod Places
+pub mod Standing
+pub mod Walk
+pub mod Along
