@@ -133,3 +133,11 @@ known_is cs k limit None f = not_true (is_some (class_at (take limit cs) k)) (λ
     not_true : (b : Bool) → (b ≡ true → ⊥) → b ≡ false
     not_true true f = absurd (f refl)
     not_true false f = refl
+
+take_all : {A : Type 0} (xs : List A) → take (length xs) xs ≡ xs
+take_all [] = refl
+take_all (x ∷ xs) = ap (λ z. x ∷ z) (take_all xs)
+
+-- whether a class is known, by its place among all
+pub known_at_all : (cs : List Class) (k : ClassKey) (limit : ℕ) (o : Option ℕ) → limit ≡ length cs → Finds limit cs k o → is_some o ≡ is_some (class_at cs k)
+known_at_all cs k limit o e f = sym (ap (λ z. is_some (class_at z k)) (sym (ap (λ n. take n cs) e ∙ take_all cs)) ∙ known_is cs k limit o f)

@@ -3,3 +3,4 @@ pub mod Places
 pub mod Standing
 pub mod Walk
 pub mod Along
+pub mod Fitting
