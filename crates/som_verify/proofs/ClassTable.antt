@@ -1,25 +1,20 @@
 -- The names of classes by their places.
-use Rattle.std.proofs.Common.{◌≡◌, ℕ, zero, suc, ◌+◌, ◌-◌, ◌<◌, ◌≤◌, ◌⊎◌, inl, inr, Bool, true, false, not, ◌&&◌, nat_lt, if◌then◌else◌, List, [], ◌∷◌, ◌++◌, map, length, take, drop, Option, Some, None, IfSome, is_some, slice_index_or, codes, refl, sym, ap, ◌∙◌, subst, arith, true≢false, append_assoc, length-append}
+use Rattle.std.proofs.Common.{◌≡◌, ℕ, zero, suc, ◌+◌, ◌<◌, ◌≤◌, inl, inr, Bool, true, false, not, if◌then◌else◌, List, [], ◌∷◌, ◌++◌, map, length, take, drop, Some, None, slice_index_or, codes, refl, sym, ap, ◌∙◌, subst, arith, true≢false, append_assoc, length-append}
 use Rattle.std.proofs.lemmas.Bool.{cases_lt}
 use Rattle.std.proofs.lemmas.List.{append-nil}
 use Rattle.std.proofs.Math.ListN.{get_or-append}
 use Rattle.std.proofs.Math.Seq.{get_or-append_seam}
 use Rattle.std.specs.Str.{bytes_eq}
-use Rattle.som_model.specs.Lists.{first, or_else, among, some}
-use Rattle.som_model.specs.Keys.{same_key, same_module}
+use Rattle.som_model.specs.Lists.{first, or_else, among}
 use Rattle.som_model.specs.Class.{Class}
 use Rattle.som_model.specs.Kernel.{kernel}
 use Rattle.som_model.specs.Rules.{Breach, breach, name_of, s1}
 use Rattle.som_model.specs.Conforming.{each_after}
-use Rattle.som_model.specs.declared.key.Module.{Module}
-use Rattle.som_model.specs.declared.key.ClassKey.{ClassKey, out-ClassKey, out-roll-ClassKey}
-use Rattle.som_model.specs.declared.key.ClassKey.TheVariants as keys
 use Rattle.som_model.specs.declared.class.ClassDecl.{ClassDecl}
-use Rattle.som_model.proofs.KeyLaws.{exact_bytes, exact_keys, both}
-use Rattle.som_model.proofs.NamedLaws.{same_named}
+use Rattle.som_model.proofs.KeyLaws.{exact_bytes}
 use Rattle.som_order.specs.Names.{name_at}
 use Rattle.som_verify.specs.Told.{of_library, of_release}
-use Rattle.som_verify.specs.Places.{all_classes, nobody, class_of_place, key_at, module_at, AreOnce, IsTable, Finds}
+use Rattle.som_verify.specs.Places.{all_classes, AreOnce, IsTable}
 use Rattle.som_verify.proofs.Passes.{first_both}
 
 -- the classes before those at place i, and what a rule says from there on

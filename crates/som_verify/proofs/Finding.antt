@@ -1,11 +1,10 @@
 -- The place of a class by its key.
-use Rattle.std.proofs.Common.{◌≡◌, ℕ, zero, suc, ◌+◌, ◌<◌, ◌≤◌, Bool, true, false, ◌&&◌, nat_lt, if◌then◌else◌, List, [], ◌∷◌, ◌++◌, map, length, take, Option, Some, None, IfSome, is_some, slice_index_or, slice_get, refl, sym, ap, ◌∙◌, subst, arith, true≢false}
+use Rattle.std.proofs.Common.{◌≡◌, ℕ, zero, suc, ◌<◌, Bool, true, false, ◌&&◌, nat_lt, if◌then◌else◌, List, [], ◌∷◌, map, length, take, Option, Some, None, is_some, refl, sym, ap, ◌∙◌, subst, arith, true≢false}
 use Rattle.std.specs.Str.{bytes_eq}
-use Rattle.som_model.specs.Lists.{among, find}
+use Rattle.som_model.specs.Lists.{among}
 use Rattle.som_model.specs.Keys.{same_key, same_module}
 use Rattle.som_model.specs.Class.{Class}
 use Rattle.som_model.specs.Classes.{class_at}
-use Rattle.som_model.specs.Kernel.{kernel}
 use Rattle.som_model.specs.Rules.{name_of}
 use Rattle.som_model.specs.declared.key.Module.{Module}
 use Rattle.som_model.specs.declared.key.Module.TheVariants as modules
@@ -17,8 +16,8 @@ use Rattle.som_model.specs.declared.class.ClassDecl.{ClassDecl}
 use Rattle.som_model.proofs.KeyLaws.{exact_bytes, exact_keys, both}
 use Rattle.som_model.proofs.NamedLaws.{same_named, out_named}
 use Rattle.som_order.specs.Names.{name_at}
-use Rattle.som_verify.specs.Told.{of_library, of_release}
-use Rattle.som_verify.specs.Places.{all_classes, nobody, class_of_place, key_at, module_at, AreOnce, IsTable, Finds}
+use Rattle.som_verify.specs.Told.{of_release}
+use Rattle.som_verify.specs.Places.{all_classes, key_at, module_at, IsTable, Finds}
 
 library_key : (ds : List ClassDecl) (i : ℕ) → i < length (of_release ds) → key_at (of_release ds) i ≡ keys.Named modules.Library (name_at (map name_of (of_release ds)) i)
 library_key [] i lt = absurd (omega arith)

@@ -1,24 +1,21 @@
 -- The ancestors of a key are the keys of the ancestors of its place.
-use Rattle.std.proofs.Common.{◌≡◌, ℕ, zero, suc, ◌+◌, ◌<◌, ◌≤◌, ◌==◌, ◌⊎◌, inl, inr, Bool, true, false, if◌then◌else◌, List, [], ◌∷◌, length, map, slice_index_or, Option, Some, None, refl, sym, ap, ◌∙◌, subst, arith, true≢false}
+use Rattle.std.proofs.Common.{◌≡◌, ℕ, zero, suc, ◌+◌, ◌<◌, ◌≤◌, ◌==◌, inl, inr, Bool, true, false, List, [], ◌∷◌, length, map, Some, refl, sym, ap, ◌∙◌, arith, true≢false}
 use Rattle.std.proofs.lemmas.Bool.{eqb-true, eqb-false, cases_lt}
 use Rattle.std.proofs.lemmas.List.{get_or_past}
 use Rattle.std.specs.Prelude.{unwrap_or}
-use Rattle.som_model.specs.Lists.{Mem, place_from}
-use Rattle.som_model.specs.Hierarchy.{Hierarchy}
-use Rattle.som_model.specs.Ancestors.{anc}
+use Rattle.som_model.specs.Lists.{place_from}
 use Rattle.som_model.specs.Keys.{same_key}
 use Rattle.som_model.specs.Class.{Class}
 use Rattle.som_model.specs.Classes.{hierarchy, class_at, place_of, parents_of, parents_in}
 use Rattle.som_model.specs.Rules.{name_of}
 use Rattle.som_model.specs.declared.key.ClassKey.{ClassKey}
-use Rattle.som_model.specs.declared.key.ClassKey.TheVariants as keys
 use Rattle.som_model.specs.declared.class.ClassDecl.{ClassDecl}
-use Rattle.som_model.proofs.KeyLaws.{exact_keys, exact_numbers}
+use Rattle.som_model.proofs.KeyLaws.{exact_keys}
 use Rattle.som_model.proofs.NamedLaws.{height_named, hierarchy_parents, hierarchy_same, parents_named}
 use Rattle.som_order.specs.Names.{name_at}
 use Rattle.som_verify.specs.Places.{all_classes, class_of_place, key_at, face_at, module_at, IsTable, IsRows}
-use Rattle.som_verify.specs.Walk.{rows_of, AreLow, AreAncestors, AreLists}
-use Rattle.som_verify.proofs.Finding.{key_named, named_there, long_map}
+use Rattle.som_verify.specs.Walk.{rows_of, AreAncestors, AreLists}
+use Rattle.som_verify.proofs.Finding.{key_named, named_there}
 use Rattle.som_verify.proofs.Numbering.{numbered}
 use Rattle.som_verify.proofs.Listed.{known_low}
 

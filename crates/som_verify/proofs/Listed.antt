@@ -1,18 +1,16 @@
 -- Lists of ancestors by places.
-use Rattle.std.proofs.Common.{◌≡◌, ◌≢◌, ℕ, zero, suc, ◌+◌, ◌<◌, ◌≤◌, ◌==◌, ◌⊎◌, inl, inr, Bool, true, false, if◌then◌else◌, List, [], ◌∷◌, ◌++◌, length, map, drop, slice_index_or, slice_set, refl, sym, ap, ◌∙◌, subst, arith, true≢false, length-append}
+use Rattle.std.proofs.Common.{◌≡◌, ℕ, zero, suc, ◌+◌, ◌<◌, ◌≤◌, ◌==◌, inl, inr, Bool, true, false, if◌then◌else◌, List, [], ◌∷◌, ◌++◌, length, map, drop, slice_index_or, slice_set, refl, sym, ap, ◌∙◌, subst, arith, length-append}
 use Rattle.std.proofs.lemmas.Bool.{eqb-true, eqb-false, cases_lt}
 use Rattle.std.proofs.lemmas.List.{get_or-set_same, get_or-set_other, get_or_past, length-set}
 use Rattle.std.proofs.Math.ListN.{get_or-append}
 use Rattle.std.proofs.Math.Seq.{get_or-append_seam}
-use Rattle.som_model.specs.Lists.{Mem, some, firsts, joined}
-use Rattle.som_model.specs.Hierarchy.{Hierarchy, Tells, Falls}
+use Rattle.som_model.specs.Lists.{Mem, some, joined}
+use Rattle.som_model.specs.Hierarchy.{Tells, Falls}
 use Rattle.som_model.specs.Ancestors.{Descends, itself, by_parent, anc}
-use Rattle.som_model.specs.Class.{Class}
-use Rattle.som_model.specs.Classes.{hierarchy, class_at, place_of, parents_of, parents_in}
 use Rattle.som_model.proofs.KeyLaws.{exact_numbers}
 use Rattle.som_plain.proofs.Laws.{ancestors, ancestors_step}
 use Rattle.som_plain.proofs.Members.{map_on}
-use Rattle.som_verify.specs.Walk.{add_new, adds, rows_of, AreLow, AreMarks, AreAncestors}
+use Rattle.som_verify.specs.Walk.{adds, rows_of, AreLow, AreMarks, AreAncestors}
 use Rattle.som_verify.proofs.WalkLaw.{adds_both, firsts_adds}
 
 pub mem_at : (xs : List ℕ) (i d : ℕ) → i < length xs → Mem (slice_index_or xs i d) xs

@@ -1,12 +1,11 @@
 -- Names along the ancestors.
-use Rattle.std.proofs.Common.{◌≡◌, ℕ, zero, suc, ◌+◌, ◌-◌, ◌<◌, ◌≤◌, inl, inr, List, [], ◌∷◌, ◌++◌, length, map, flat_map, slice_get, slice_index_or, Some, Option, refl, sym, ap, ◌∙◌, subst, arith}
+use Rattle.std.proofs.Common.{◌≡◌, ℕ, zero, suc, ◌+◌, ◌-◌, ◌<◌, ◌≤◌, inl, inr, List, [], ◌∷◌, ◌++◌, length, map, flat_map, slice_get, slice_index_or, Some, refl, sym, ap, ◌∙◌, arith}
 use Rattle.std.specs.Str.{bytes_eq}
 use Rattle.som_model.specs.Lists.{Mem, doubles}
 use Rattle.som_model.specs.Ancestors.{anc}
-use Rattle.som_model.specs.Class.{Class, introduced}
+use Rattle.som_model.specs.Class.{Class}
 use Rattle.som_model.specs.Classes.{class_at, hierarchy}
 use Rattle.som_model.specs.Rules.{breach, introduced_by, s8}
-use Rattle.som_model.specs.declared.key.ClassKey.{ClassKey}
 use Rattle.som_model.specs.declared.class.ClassDecl.{ClassDecl}
 use Rattle.som_verify.specs.Told.{of_library, of_release}
 use Rattle.som_verify.specs.Along.{introduced_at, s8_at}

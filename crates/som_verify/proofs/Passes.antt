@@ -1,8 +1,7 @@
 -- A pass over the classes.
-use Rattle.std.proofs.Common.{◌≡◌, ℕ, zero, suc, ◌+◌, ◌<◌, List, [], ◌∷◌, ◌++◌, length, drop, map, flat_map, slice_get, Option, Some, None, Result, Ok, Err, refl, sym, ap, ◌∙◌, arith}
+use Rattle.std.proofs.Common.{◌≡◌, ℕ, zero, suc, ◌+◌, ◌<◌, List, [], ◌∷◌, ◌++◌, length, drop, map, flat_map, slice_get, Option, Some, None, Ok, Err, refl, sym, ap, ◌∙◌, arith}
 use Rattle.som_model.specs.Lists.{first, or_else}
 use Rattle.som_model.specs.Rules.{Breach}
-use Rattle.som_verify.specs.declared.types.Broken.{Broken}
 use Rattle.som_verify.specs.declared.types.VerifyFault.{VerifyFault}
 use Rattle.som_verify.specs.declared.types.VerifyFault.TheVariants as faults
 use Rattle.som_verify.specs.Told.{Tells}

@@ -1,5 +1,5 @@
 -- The rows of parents.
-use Rattle.std.proofs.Common.{◌≡◌, ℕ, zero, suc, ◌+◌, ◌<◌, ◌≤◌, ◌⊎◌, inl, inr, Bool, true, false, ◌&&◌, if◌then◌else◌, List, [], ◌∷◌, ◌++◌, map, length, take, drop, Option, Some, None, IfSome, is_some, Result, Ok, Err, slice_index_or, codes, refl, sym, ap, ◌∙◌, subst, arith, true≢false, append_assoc, length-append}
+use Rattle.std.proofs.Common.{◌≡◌, ℕ, zero, suc, ◌+◌, ◌<◌, ◌≤◌, inl, inr, Bool, true, false, ◌&&◌, if◌then◌else◌, List, [], ◌∷◌, ◌++◌, map, length, take, drop, Option, Some, None, is_some, Ok, Err, slice_index_or, codes, refl, sym, ap, ◌∙◌, subst, arith, length-append}
 use Rattle.std.proofs.lemmas.Bool.{cases_lt}
 use Rattle.std.proofs.lemmas.List.{get_or_past}
 use Rattle.std.proofs.Math.ListN.{get_or-append}
@@ -8,7 +8,7 @@ use Rattle.som_model.specs.Lists.{Mem, first, or_else, every, option_list}
 use Rattle.som_model.specs.Class.{Class}
 use Rattle.som_model.specs.Classes.{class_at}
 use Rattle.som_model.specs.Kernel.{kernel}
-use Rattle.som_model.specs.Rules.{Breach, breach, s2}
+use Rattle.som_model.specs.Rules.{breach, s2}
 use Rattle.som_model.specs.Conforming.{each_after}
 use Rattle.som_model.specs.declared.key.ClassKey.{ClassKey}
 use Rattle.som_model.specs.declared.class.ClassDecl.{ClassDecl}
@@ -16,11 +16,11 @@ use Rattle.som_plain.proofs.Members.{mem_split}
 use Rattle.som_verify.specs.declared.types.VerifyFault.{VerifyFault}
 use Rattle.som_verify.specs.declared.types.VerifyFault.TheVariants as faults
 use Rattle.som_verify.specs.Told.{Tells, of_library, of_release}
-use Rattle.som_verify.specs.Places.{all_classes, nobody, class_of_place, key_at, face_at, IsRows, Finds}
+use Rattle.som_verify.specs.Places.{all_classes, key_at, face_at, IsRows, Finds}
 use Rattle.som_verify.specs.Standing.{all_stand, RowStands, ClassStands, kernel_rows}
 use Rattle.som_verify.proofs.Passes.{tells_first}
 use Rattle.som_verify.proofs.Doubled.{take_last}
-use Rattle.som_verify.proofs.ClassTable.{front, front_more, after_more}
+use Rattle.som_verify.proofs.ClassTable.{front, after_more}
 use Rattle.som_verify.proofs.Finding.{known_is, long_map}
 
 map_last : {A B : Type 0} (f : A → B) (row : List A) (x : A) → map f (row ++ x ∷ []) ≡ map f row ++ f x ∷ []

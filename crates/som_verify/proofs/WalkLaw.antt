@@ -1,5 +1,5 @@
 -- First occurrences by a list of what was seen.
-use Rattle.std.proofs.Common.{◌≡◌, ◌⊎◌, inl, inr, Bool, true, false, if◌then◌else◌, List, [], ◌∷◌, ◌++◌, refl, sym, ap, ◌∙◌, subst, true≢false, append_assoc}
+use Rattle.std.proofs.Common.{◌≡◌, inl, inr, Bool, true, false, if◌then◌else◌, List, [], ◌∷◌, ◌++◌, refl, sym, ap, ◌∙◌, subst, append_assoc}
 use Rattle.std.proofs.lemmas.List.{append-nil}
 use Rattle.som_model.specs.Lists.{Mem, without, firsts, some}
 use Rattle.som_plain.proofs.Members.{mem_left, mem_right, mem_split, some_mem, mem_some, Apart, firsts_apart}

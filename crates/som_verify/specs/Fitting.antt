@@ -1,8 +1,8 @@
 -- Bodies and their signatures.
-use Rattle.std.specs.Prelude.{◌==◌, Bool, true, false, ◌&&◌, List, [], ◌∷◌, ◌++◌, length}
+use Rattle.std.specs.Prelude.{Bool, false, ◌&&◌, List, [], ◌∷◌, ◌++◌}
 use Rattle.som_model.specs.Same.{same_type}
-use Rattle.som_model.specs.Class.{Class, introduced}
-use Rattle.som_model.specs.Rules.{Breach, demand, demand_of, body_fits, is_void}
+use Rattle.som_model.specs.Class.{Class}
+use Rattle.som_model.specs.Rules.{Breach, demand_of, body_fits, is_void}
 use Rattle.som_model.specs.declared.key.ValueType.{ValueType}
 use Rattle.som_model.specs.declared.class.Sig.{Sig}
 use Rattle.som_model.specs.declared.class.Entry.{Entry}

@@ -1,12 +1,11 @@
 -- Classes by their places: the kernel's first, and then the release's.
-use Rattle.std.specs.Prelude.{◌≡◌, ℕ, suc, ◌<◌, ◌+◌, ◌==◌, nat_lt, Bool, if◌then◌else◌, List, [], ◌∷◌, ◌++◌, map, length, slice_index_or, Option, Some, None}
+use Rattle.std.specs.Prelude.{◌≡◌, ℕ, ◌<◌, nat_lt, if◌then◌else◌, List, [], ◌++◌, map, length, slice_index_or, Option, Some, None}
 use Rattle.som_model.specs.declared.key.Module.{Module}
 use Rattle.som_model.specs.declared.key.Module.TheVariants as modules
 use Rattle.som_model.specs.declared.key.ClassKey.{ClassKey}
 use Rattle.som_model.specs.declared.class.ClassDecl.{ClassDecl}
 use Rattle.som_model.specs.declared.class.ClassFace.{ClassFace}
 use Rattle.som_model.specs.Lists.{Mem}
-use Rattle.som_model.specs.Hierarchy.{Hierarchy}
 use Rattle.som_model.specs.Class.{Class, class_in, bare}
 use Rattle.som_model.specs.Kernel.{kernel, kernel_face}
 use Rattle.som_model.specs.Rules.{name_of}

@@ -1,6 +1,6 @@
 -- Parents and metaclasses that stand before their classes.
 use Rattle.std.specs.Prelude.{◌≡◌, ℕ, ◌<◌, Bool, true, false, List, [], ◌∷◌, map, take, Option, Some, None, is_some, Result, Ok, Err}
-use Rattle.som_model.specs.Lists.{Mem, every, first, option_list}
+use Rattle.som_model.specs.Lists.{Mem, every, first}
 use Rattle.som_model.specs.Class.{Class}
 use Rattle.som_model.specs.Classes.{class_at}
 use Rattle.som_model.specs.Rules.{s2}

@@ -1,5 +1,4 @@
-use Rattle.std.proofs.Common.{◌≡◌, arith, ap, sym, ◌∙◌, length, [], slice_index_or}
-use Rattle.std.proofs.Math.ListN.{get_or}
+use Rattle.std.proofs.Common.{arith, ap, length}
 use Rattle.som_verify.proofs.Listed.{known_low, next_of}
 use Rattle.som_verify.proofs.ancestry.ancestors.Goals as goal
 

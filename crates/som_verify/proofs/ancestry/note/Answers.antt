@@ -1,5 +1,3 @@
-use Rattle.std.proofs.Common.{◌≡◌}
-use Rattle.som_verify.specs.Walk.{AreMarks}
 use Rattle.som_verify.proofs.Listed.{marks_more}
 use Rattle.som_verify.proofs.ancestry.note.Goals as goal
 

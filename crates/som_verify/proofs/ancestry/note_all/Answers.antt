@@ -1,4 +1,4 @@
-use Rattle.std.proofs.Common.{◌≡◌, arith}
+use Rattle.std.proofs.Common.{arith}
 use Rattle.som_verify.proofs.Listed.{mem_at}
 use Rattle.som_verify.proofs.ancestry.note_all.Goals as goal
 

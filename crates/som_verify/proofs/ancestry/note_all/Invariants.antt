@@ -1,4 +1,4 @@
-use Rattle.std.proofs.Common.{◌≡◌, ◌==◌, drop, length, []}
+use Rattle.std.proofs.Common.{◌≡◌, ◌==◌, drop, length}
 use Rattle.som_verify.specs.Walk.{adds}
 use Rattle.som_verify.specs.Walk.{AreMarks}
 use Rattle.som_verify.proofs.ancestry.note_all.Given as goal

@@ -1,6 +1,4 @@
-use Rattle.std.proofs.Common.{◌≡◌, arith, ℕ, List, [], slice_index_or, ap, sym, ◌∙◌}
-use Rattle.som_model.specs.Lists.{joined}
-use Rattle.som_verify.specs.Walk.{adds}
+use Rattle.std.proofs.Common.{arith}
 use Rattle.som_verify.proofs.Listed.{mem_at, parent_more}
 use Rattle.som_verify.proofs.ancestry.note_parents.Goals as goal
 

@@ -1,4 +1,4 @@
-use Rattle.std.proofs.Common.{◌≡◌, ◌∙◌}
+use Rattle.std.proofs.Common.{◌∙◌}
 use Rattle.som_verify.proofs.Once.{entries_there}
 use Rattle.som_verify.proofs.introduced.entries_at.Goals as goal
 

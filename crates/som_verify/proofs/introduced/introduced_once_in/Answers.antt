@@ -1,10 +1,10 @@
-use Rattle.std.proofs.Common.{◌≡◌, ◌∙◌, subst, List, ℕ, arith}
+use Rattle.std.proofs.Common.{◌∙◌, subst, List, ℕ}
 use Rattle.std.proofs.lemmas.Option.{get_or_from_slice_get}
 use Rattle.som_model.specs.declared.class.ClassDecl.{ClassDecl}
 use Rattle.som_model.specs.Lists.{first}
 use Rattle.som_verify.specs.Along.{s8_at}
 use Rattle.som_verify.specs.Places.{all_classes}
-use Rattle.som_verify.specs.Told.{Tells, of_library, of_release}
+use Rattle.som_verify.specs.Told.{Tells, of_library}
 use Rattle.som_verify.proofs.Once.{place_within}
 use Rattle.som_verify.proofs.introduced.introduced_once_in.Goals as goal
 

@@ -1,4 +1,4 @@
-use Rattle.std.proofs.Common.{◌≡◌, subst, ap, Option}
+use Rattle.std.proofs.Common.{subst, ap, Option}
 use Rattle.som_model.specs.Lists.{first}
 use Rattle.som_model.specs.Rules.{Breach, s8}
 use Rattle.som_verify.specs.Places.{all_classes}

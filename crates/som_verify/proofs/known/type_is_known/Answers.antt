@@ -1,4 +1,4 @@
-use Rattle.std.proofs.Common.{◌≡◌, ◌∙◌}
+use Rattle.std.proofs.Common.{◌∙◌}
 use Rattle.som_verify.specs.Places.{all_classes}
 use Rattle.som_verify.proofs.Finding.{known_at_all}
 use Rattle.som_verify.proofs.known.type_is_known.Goals as goal

@@ -1,4 +1,4 @@
-use Rattle.std.proofs.Common.{◌≡◌, ◌∙◌}
+use Rattle.std.proofs.Common.{◌∙◌}
 use Rattle.std.proofs.lemmas.Result.{err_from_is_err_and}
 use Rattle.som_verify.proofs.Rows.{rows_next, rows_stop}
 use Rattle.som_verify.proofs.parents.parents_stand.Goals as goal

@@ -1,4 +1,4 @@
-use Rattle.std.proofs.Common.{◌≡◌, ◌∙◌, sym, subst, List, ℕ, Option, Some, None}
+use Rattle.std.proofs.Common.{sym, subst, List, ℕ, Option}
 use Rattle.som_model.specs.declared.key.ClassKey.{ClassKey}
 use Rattle.som_verify.specs.Places.{all_classes}
 use Rattle.som_verify.specs.Standing.{RowStands}

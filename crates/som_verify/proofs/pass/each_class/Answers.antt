@@ -1,4 +1,3 @@
-use Rattle.std.proofs.Common.{◌≡◌, Some, Ok, Err, List, slice_get, arith}
 use Rattle.std.proofs.lemmas.Result.{err_from_is_err_and}
 use Rattle.som_verify.specs.Told.{of_library}
 use Rattle.som_verify.proofs.Passes.{goes_on, stops}

@@ -1,4 +1,4 @@
-use Rattle.std.proofs.Common.{◌≡◌, ◌∙◌, sym, arith, true≢false}
+use Rattle.std.proofs.Common.{◌∙◌, sym, arith, true≢false}
 use Rattle.som_order.specs.Names.{texts}
 use Rattle.som_verify.proofs.Finding.{no_name, right_place, wrong_place}
 use Rattle.som_verify.proofs.table.find_named.Goals.{else-place-limit-via-then-place-limit+else-stands_in, else-place-limit-via-else-place-limit}
