@@ -1,0 +1,101 @@
+-- The ancestors of a key are the keys of the ancestors of its place.
+use Rattle.std.proofs.Common.{◌≡◌, ℕ, zero, suc, ◌+◌, ◌<◌, ◌≤◌, ◌==◌, inl, inr, Bool, true, false, List, [], ◌∷◌, length, map, Some, refl, sym, ap, ◌∙◌, arith, true≢false}
+use Rattle.std.proofs.lemmas.Bool.{eqb-true, eqb-false, cases_lt}
+use Rattle.std.proofs.lemmas.List.{get_or_past}
+use Rattle.std.specs.Prelude.{unwrap_or}
+use Rattle.som_model.specs.Lists.{place_from}
+use Rattle.som_model.specs.Keys.{same_key}
+use Rattle.som_model.specs.Class.{Class}
+use Rattle.som_model.specs.Classes.{hierarchy, class_at, place_of, parents_of, parents_in}
+use Rattle.som_model.specs.Rules.{name_of}
+use Rattle.som_model.specs.declared.key.ClassKey.{ClassKey}
+use Rattle.som_model.specs.declared.class.ClassDecl.{ClassDecl}
+use Rattle.som_model.proofs.KeyLaws.{exact_keys}
+use Rattle.som_model.proofs.NamedLaws.{height_named, hierarchy_parents, hierarchy_same, parents_named}
+use Rattle.som_order.specs.Names.{name_at}
+use Rattle.som_verify.specs.Places.{all_classes, class_of_place, key_at, face_at, module_at, IsTable, IsRows}
+use Rattle.som_verify.specs.Walk.{rows_of, AreAncestors, AreLists}
+use Rattle.som_verify.proofs.Finding.{key_named, named_there}
+use Rattle.som_verify.proofs.Numbering.{numbered}
+use Rattle.som_verify.proofs.Listed.{known_low}
+
+class_first : (cs : List Class) (k : ClassKey) (a : ℕ) → a < length cs → ((j : ℕ) → j < a → same_key (key_at cs j) k ≡ false) → same_key (key_at cs a) k ≡ true → class_at cs k ≡ Some (class_of_place cs a)
+class_first [] k a lt f e = absurd (omega arith)
+class_first (c ∷ cs) k zero lt f e = rw e refl
+class_first (c ∷ cs) k (suc a) lt f e = let fails : same_key c.key k ≡ false = f 0 (omega arith) in rw fails (class_first cs k a (omega arith) (λ j l. f (suc j) (omega (arith, l))) e)
+
+place_first : (n : ℕ) (cs : List Class) (k : ClassKey) (a : ℕ) → a < length cs → ((j : ℕ) → j < a → same_key (key_at cs j) k ≡ false) → same_key (key_at cs a) k ≡ true
+    → place_from n (λ (c : Class). same_key c.key k) cs ≡ Some (a + n)
+place_first n [] k a lt f e = absurd (omega arith)
+place_first n (c ∷ cs) k zero lt f e = let start : n ≡ 0 + n = omega arith in rw e (ap (λ z. Some z) start)
+place_first n (c ∷ cs) k (suc a) lt f e =
+    let fails : same_key c.key k ≡ false = f 0 (omega arith) in
+    let sum : a + suc n ≡ suc a + n = omega arith in
+    rw fails (place_first (suc n) cs k a (omega arith) (λ j l. f (suc j) (omega (arith, l))) e ∙ ap (λ z. Some z) sum)
+
+module _ (ds : List ClassDecl) (names : List (List ℕ)) (t : IsTable ds names) where
+  -- no key stands twice
+  pub keys_once : (i j : ℕ) → i < length (all_classes ds) → j < length (all_classes ds) → key_at (all_classes ds) i ≡ key_at (all_classes ds) j → i ≡ j
+  keys_once i j li lj e =
+      let all = map name_of (all_classes ds) in
+      let r = named_there ds names t (module_at j) (name_at all j) i li (e ∙ key_named ds j lj) in
+      let s = named_there ds names t (module_at j) (name_at all j) j lj (key_named ds j lj) in
+      t.once.by i j r.0 s.0 (r.2 ∙ sym s.2)
+
+  earlier : (a : ℕ) → a < length (all_classes ds) → (j : ℕ) → j < a → same_key (key_at (all_classes ds) j) (key_at (all_classes ds) a) ≡ false
+  earlier a lt j l = differ (same_key (key_at (all_classes ds) j) (key_at (all_classes ds) a)) refl
+    where
+      differ : (b : Bool) → same_key (key_at (all_classes ds) j) (key_at (all_classes ds) a) ≡ b → b ≡ false
+      differ true e = absurd (let same = keys_once j a (omega arith) lt (exact_keys.two _ _ e) in omega (arith, same, l))
+      differ false e = refl
+
+  -- the class of the key at a place
+  pub class_there : (a : ℕ) → a < length (all_classes ds) → class_at (all_classes ds) (key_at (all_classes ds) a) ≡ Some (class_of_place (all_classes ds) a)
+  class_there a lt = class_first (all_classes ds) (key_at (all_classes ds) a) a lt (earlier a lt) (exact_keys.one (key_at (all_classes ds) a))
+
+  place_there : (a : ℕ) → a < length (all_classes ds) → place_of 1 (all_classes ds) (key_at (all_classes ds) a) ≡ suc a
+  place_there a lt =
+      let sum : a + 1 ≡ suc a = omega arith in
+      ap (λ o. unwrap_or o 0) (place_first 1 (all_classes ds) (key_at (all_classes ds) a) a lt (earlier a lt) (exact_keys.one (key_at (all_classes ds) a))) ∙ sum
+
+  height_there : (a : ℕ) → a < length (all_classes ds) → suc a ≡ (hierarchy (all_classes ds)).height (key_at (all_classes ds) a)
+  height_there a lt =
+      let name = name_at (map name_of (all_classes ds)) a in
+      sym (
+      ap (hierarchy (all_classes ds)).height (key_named ds a lt)
+      ∙ height_named (all_classes ds) (module_at a) name
+      ∙ ap (place_of 1 (all_classes ds)) (sym (key_named ds a lt))
+      ∙ place_there a lt
+      )
+
+  parents_there : (a : ℕ) → a < length (all_classes ds) → (hierarchy (all_classes ds)).parents (key_at (all_classes ds) a) ≡ (face_at (all_classes ds) a).parents
+  parents_there a lt =
+      let name = name_at (map name_of (all_classes ds)) a in
+      hierarchy_parents (all_classes ds) (key_at (all_classes ds) a)
+      ∙ ap (parents_of (all_classes ds)) (key_named ds a lt)
+      ∙ parents_named (all_classes ds) (module_at a) name
+      ∙ ap (λ k. parents_in (class_at (all_classes ds) k)) (sym (key_named ds a lt))
+      ∙ ap parents_in (class_there a lt)
+
+  pub alike : (a b : ℕ) → a < length (all_classes ds) → b < length (all_classes ds) → (x y : Bool) → (a == b) ≡ x → same_key (key_at (all_classes ds) a) (key_at (all_classes ds) b) ≡ y → x ≡ y
+  alike a b la lb true true e f = refl
+  alike a b la lb false false e f = refl
+  alike a b la lb true false e f = absurd (true≢false (sym (exact_keys.one (key_at (all_classes ds) a)) ∙ ap (λ z. same_key (key_at (all_classes ds) a) (key_at (all_classes ds) z)) (eqb-true a b e) ∙ f))
+  alike a b la lb false true e f = absurd (eqb-false a b e (keys_once a b la lb (exact_keys.two _ _ f)))
+
+  pub are_lists : (rows all : List (List ℕ)) → IsRows (all_classes ds) (length (all_classes ds)) rows → AreAncestors rows (length rows) all → AreLists (all_classes ds) all
+  are_lists rows all table lists = record {
+    long = lists.long ∙ table.long;
+    low = λ i a m. elim (cases_lt i (length rows)) [
+      | inl lt ↦ (let l = known_low rows (length rows) all table.low lists i a m in omega (arith, l, lt, table.long))
+      | inr ge ↦ (let w : length all ≤ i = omega (arith, lists.long) in absurd (rw (get_or_past all i [] w) at m))
+    ];
+    found = class_there;
+    by = λ i lt. (let l : i < length rows = omega (arith, table.long) in
+        ap (map (key_at (all_classes ds))) (lists.by i l)
+        ∙ numbered (rows_of rows) (hierarchy (all_classes ds)) (key_at (all_classes ds)) (λ k. k < length (all_classes ds))
+        (λ a p g m. let q = table.low a p m in omega (arith, g, q))
+        (λ a g. table.by a g ∙ sym (parents_there a g))
+        (λ a b g k. alike a b g k (a == b) (same_key (key_at (all_classes ds) a) (key_at (all_classes ds) b)) refl refl ∙ sym (hierarchy_same (all_classes ds) (key_at (all_classes ds) a) (key_at (all_classes ds) b)))
+        height_there i lt);
+  }

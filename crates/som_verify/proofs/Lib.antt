@@ -1,0 +1,10 @@
+pub mod Passes
+pub mod Doubled
+pub mod ClassTable
+pub mod Finding
+pub mod Rows
+pub mod Numbering
+pub mod WalkLaw
+pub mod Listed
+pub mod KeyLists
+pub mod Once

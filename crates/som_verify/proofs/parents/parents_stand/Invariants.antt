@@ -1,0 +1,5 @@
+use Rattle.som_verify.proofs.Rows.{RowsSoFar}
+use Rattle.som_verify.proofs.parents.parents_stand.Given as goal
+
+abbrev pub invariant-loop-class : goal.invariant-loop-class
+invariant-loop-class l = RowsSoFar l.classes l.class-index l.rows.items

@@ -1,0 +1,6 @@
+pub mod Told
+pub mod Places
+pub mod Standing
+pub mod Walk
+pub mod Along
+pub mod Fitting

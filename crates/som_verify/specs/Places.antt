@@ -1,0 +1,54 @@
+-- Classes by their places: the kernel's first, and then the release's.
+use Rattle.std.specs.Prelude.{◌≡◌, ℕ, ◌<◌, nat_lt, if◌then◌else◌, List, [], ◌++◌, map, length, slice_index_or, Option, Some, None}
+use Rattle.som_model.specs.declared.key.Module.{Module}
+use Rattle.som_model.specs.declared.key.Module.TheVariants as modules
+use Rattle.som_model.specs.declared.key.ClassKey.{ClassKey}
+use Rattle.som_model.specs.declared.class.ClassDecl.{ClassDecl}
+use Rattle.som_model.specs.declared.class.ClassFace.{ClassFace}
+use Rattle.som_model.specs.Lists.{Mem}
+use Rattle.som_model.specs.Class.{Class, class_in, bare}
+use Rattle.som_model.specs.Kernel.{kernel, kernel_face}
+use Rattle.som_model.specs.Rules.{name_of}
+use Rattle.som_order.specs.Names.{name_at}
+use Rattle.som_verify.specs.Told.{of_release}
+
+-- the kernel's classes and a release's
+abbrev pub all_classes : List ClassDecl → List Class
+all_classes ds = kernel ++ of_release ds
+
+-- a class for the places at which there is none
+abbrev pub nobody : Class
+nobody = class_in modules.Kernel (bare (kernel_face [] [] []))
+
+abbrev pub class_of_place : List Class → ℕ → Class
+class_of_place cs place = slice_index_or cs place nobody
+
+abbrev pub key_at : List Class → ℕ → ClassKey
+key_at cs place = (class_of_place cs place).key
+
+abbrev pub face_at : List Class → ℕ → ClassFace
+face_at cs place = (class_of_place cs place).decl.face
+
+-- the module of the class at a place
+abbrev pub module_at : ℕ → Module
+module_at place = if nat_lt place 4 then modules.Kernel else modules.Library
+
+-- no name stands twice
+pub record AreOnce (names : List (List ℕ)) : Type 0 where
+  pub by : (i j : ℕ) → i < length names → j < length names → name_at names i ≡ name_at names j → i ≡ j
+
+-- the names of all classes by their places
+pub record IsTable (ds : List ClassDecl) (names : List (List ℕ)) : Type 0 where
+  pub are : names ≡ map name_of (all_classes ds)
+  pub once : AreOnce names
+
+-- the place below the limit at which a class of that key stands
+abbrev pub Finds : ℕ → List Class → ClassKey → Option ℕ → Type 0
+Finds limit cs k (Some place) = (place < limit) × (place < length cs) × (key_at cs place ≡ k)
+Finds limit cs k None = (place : ℕ) → place < limit → place < length cs → key_at cs place ≡ k → ⊥
+
+-- the rows of the first n classes: the parents of each by their places, and each parent stands before the class
+pub record IsRows (cs : List Class) (n : ℕ) (rows : List (List ℕ)) : Type 0 where
+  pub long : length rows ≡ n
+  pub low : (i p : ℕ) → Mem p (slice_index_or rows i []) → p < i
+  pub by : (i : ℕ) → i < n → map (key_at cs) (slice_index_or rows i []) ≡ (face_at cs i).parents
