@@ -1,4 +1,4 @@
-//! That the definitions of `som_model` say what they mean. No product code stands on this crate.
+//! That the definitions of `som_model` say what they mean. Proofs of other crates cite its laws, and no code calls it.
 //! Laws of the definitions are the contracts of functions with no body, and the definitions that a reader
 //! can follow by hand are programs, plain and slow, whose contracts are those definitions.
 #![tactic(auto)]
