@@ -1,0 +1,2 @@
+pub mod FirstImages
+pub mod FirstRuns

@@ -1,0 +1,9 @@
+//! First images: releases whose methods print a text, and clients that call them on new objects. What such a client means,
+//! and which body answers each of its calls, by tables of tokens.
+#![tactic(auto)]
+
+mod classes;
+
+pub use classes::{
+    FirstCall, FirstClass, FirstFace, FirstMethod, FirstOverride, FirstProgram, FirstRelease,
+};
