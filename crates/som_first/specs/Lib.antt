@@ -1,2 +1,3 @@
 pub mod FirstImages
 pub mod FirstRuns
+pub mod Linking

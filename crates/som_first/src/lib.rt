@@ -3,6 +3,8 @@
 #![tactic(auto)]
 
 mod classes;
+mod link;
+mod names;
 
 pub use classes::{
     FirstCall, FirstClass, FirstFace, FirstMethod, FirstOverride, FirstProgram, FirstRelease,

@@ -1,0 +1,77 @@
+-- How the classes of a first release stand in a table: the kernel's four first, which have no cells, and then the release's in order.
+use Rattle.std.specs.Prelude.{◌≡◌, ℕ, ◌+◌, ◌<◌, ◌≤◌, List, [], ◌∷◌, ◌++◌, map, length, slice_get, Option, Some, None, All}
+use Rattle.som_model.specs.declared.key.Module.TheVariants as modules
+use Rattle.som_model.specs.declared.key.ClassKey.{ClassKey}
+use Rattle.som_model.specs.declared.key.MethodRef.{MethodRef}
+use Rattle.som_model.specs.declared.limits.TheConstants.{MAX_ENTRIES, MAX_LIBRARY_CLASSES}
+use Rattle.som_model.specs.Blocks.{printing}
+use Rattle.som_model.specs.Class.{Class, class_in}
+use Rattle.som_model.specs.Kernel.{kernel}
+use Rattle.som_model.specs.Classes.{hierarchy}
+use Rattle.som_model.specs.Resolution.{answer}
+use Rattle.som_model.specs.Implementation.{User, held, has_body}
+use Rattle.som_tables.specs.Rows.{Added, inherited}
+use Rattle.som_first.specs.declared.classes.FirstMethod.{FirstMethod}
+use Rattle.som_first.specs.declared.classes.FirstOverride.{FirstOverride}
+use Rattle.som_first.specs.declared.classes.FirstClass.{FirstClass}
+use Rattle.som_first.specs.FirstImages.{library_key, decl_of}
+
+abbrev pub names_of : List FirstClass → List (List ℕ)
+names_of classes = map (λ c. c.name) classes
+
+abbrev pub method_names : List FirstMethod → List (List ℕ)
+method_names methods = map (λ m. m.name) methods
+
+-- the kernel's classes and these
+abbrev pub all_of : List FirstClass → List Class
+all_of classes = kernel ++ map (λ c. class_in modules.Library (decl_of c)) classes
+
+-- a method of a class of the library
+abbrev pub library_method : List ℕ → List ℕ → MethodRef
+library_method class name = record { class = library_key class; name = name }
+
+-- as many classes and methods as an image may have
+pub record AreWithin (classes : List FirstClass) : Type 0 where
+  pub few : length classes ≤ MAX_LIBRARY_CLASSES
+  pub methods : All (λ c. length c.methods ≤ MAX_ENTRIES) classes
+
+-- the token is that of a method that a class of the release introduces
+pub record IsMethod (classes : List FirstClass) (t : ℕ × ℕ) (class name : List ℕ) : Type 0 where
+  pub place : ℕ
+  pub number : t.0 ≡ place + 4
+  pub there : FirstClass
+  pub at : slice_get classes place ≡ Some there
+  pub class_is : there.name ≡ class
+  pub method : FirstMethod
+  pub slot : slice_get there.methods t.1 ≡ Some method
+  pub name_is : method.name ≡ name
+
+-- the cells of methods are the places of their texts
+abbrev pub AreOwn : List (List ℕ) → List FirstMethod → List ℕ → Type 0
+AreOwn texts [] [] = Unit {0}
+AreOwn texts (m ∷ ms) (cell ∷ cells) = (slice_get texts cell ≡ Some m.text) × AreOwn texts ms cells
+AreOwn texts _ _ = ⊥
+
+-- each override's method by its token, with the place of the text that replaces it
+abbrev pub AreReplaced : List FirstClass → List (List ℕ) → List FirstOverride → List ((ℕ × ℕ) × ℕ) → Type 0
+AreReplaced classes texts [] [] = Unit {0}
+AreReplaced classes texts (o ∷ os) (r ∷ rs) = IsMethod classes r.0 o.class o.method × (slice_get texts r.1 ≡ Some o.text) × AreReplaced classes texts os rs
+AreReplaced classes texts _ _ = ⊥
+
+-- what stood in the old list stands in the new one at the same place
+abbrev pub AreKept : List (List ℕ) → List (List ℕ) → Type 0
+AreKept old new = (i : ℕ) (text : List ℕ) → slice_get old i ≡ Some text → slice_get new i ≡ Some text
+
+-- the cell is the place of the text that the class's body for the method prints, or there is neither
+abbrev pub Answers : List Class → List (List ℕ) → MethodRef → Option ℕ → Option ClassKey → Type 0
+Answers cs texts m None None = Unit {0}
+Answers cs texts m (Some cell) (Some k) = (text : List ℕ) × (slice_get texts cell ≡ Some text) × (held cs k m ≡ Some (User (printing text)))
+Answers cs texts m _ _ = ⊥
+
+-- the first n classes are linked: in the row of each, the cell of each method is what the class answers for it
+pub record IsLinked (classes : List FirstClass) (n : ℕ) (rows : List (Added ℕ)) (texts : List (List ℕ)) : Type 0 where
+  pub long : length rows ≡ n + 4
+  pub kernel_rows : (i : ℕ) (t : ℕ × ℕ) → i < 4 → inherited rows i t ≡ None
+  pub cells : (i : ℕ) (c : FirstClass) (t : ℕ × ℕ) (class name : List ℕ) → i < n → slice_get classes i ≡ Some c → IsMethod classes t class name
+      → Answers (all_of classes) texts (library_method class name) (inherited rows (i + 4) t)
+      (answer (hierarchy (all_of classes)) (has_body (all_of classes) (library_method class name)) (library_key class) (library_key c.name))
