@@ -1,0 +1,3 @@
+pub mod FirstLists
+pub mod FirstOrder
+pub mod FirstClasses
