@@ -26,14 +26,11 @@ use Rattle.som_first.proofs.FirstLists.{class_of, classes_of, nothing, neither, 
 use Rattle.som_first.proofs.FirstOrder.{IsNamed, Ordered, Plain, AllPlain, falls, tells, owner_itself}
 
 -- a copy of how an entry is looked for
-abbrev entry_in : Option Class → List ℕ → Option Entry
+abbrev pub entry_in : Option Class → List ℕ → Option Entry
 entry_in None name = None
 entry_in (Some c) name = entry_of c.decl.face.entries name
 
-abbrev holds_of : Bool → Type 0
-holds_of b = b ≡ true
-
-not_false : (b : Bool) → not b ≡ true → b ≡ false
+pub not_false : (b : Bool) → not b ≡ true → b ≡ false
 not_false true e = sym e
 not_false false e = refl
 
@@ -130,10 +127,10 @@ parent_named : (o : Option (List ℕ)) → IsNamed (parent_key o)
 parent_named None = object_named
 parent_named (Some name) = (modules.Library, name, refl)
 
-one_known : (before : List Class) (k : ClassKey) → holds_of (every (λ z. is_some (class_at before z)) (k ∷ [])) → is_some (class_at before k) ≡ true
+one_known : (before : List Class) (k : ClassKey) → every (λ z. is_some (class_at before z)) (k ∷ []) ≡ true → is_some (class_at before k) ≡ true
 one_known before k e = by (is_some (class_at before k)) e
   where
-    by : (b : Bool) → holds_of (if b then true else false) → b ≡ true
+    by : (b : Bool) → (if b then true else false) ≡ true → b ≡ true
     by true e = refl
     by false e = e
 

@@ -1,3 +1,4 @@
 pub mod FirstLists
 pub mod FirstOrder
 pub mod FirstClasses
+pub mod FirstMembers
