@@ -1,3 +1,7 @@
+pub mod FirstLists
+pub mod FirstOrder
+pub mod FirstClasses
+pub mod FirstMembers
 mod Named
 mod Bodies
 mod Tokens

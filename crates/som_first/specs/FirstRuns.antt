@@ -1,10 +1,10 @@
 -- What the calls of a first client print, and how far its fuel goes.
-use Rattle.std.specs.Prelude.{◌≡◌, ℕ, suc, Bool, true, false, List, [], ◌∷◌, ◌++◌, Option, Some}
+use Rattle.std.specs.Prelude.{◌≡◌, ℕ, suc, Bool, true, false, List, [], ◌∷◌, Some}
 use Rattle.som_model.specs.declared.key.ClassKey.{ClassKey}
 use Rattle.som_model.specs.Blocks.{printing}
 use Rattle.som_model.specs.Class.{Class}
 use Rattle.som_model.specs.Implementation.{User, held, implementation}
-use Rattle.som_model.specs.State.{Event, Printed, Called, Ran, Goes, Ends, Cut, Spent}
+use Rattle.som_model.specs.State.{Event, Printed, Called, Ran, Goes, Ends, Spent}
 use Rattle.som_first.specs.declared.classes.FirstCall.{FirstCall}
 use Rattle.som_first.specs.FirstImages.{library_key, called}
 
