@@ -5,3 +5,5 @@ pub mod FirstMembers
 mod Named
 mod Bodies
 mod Tokens
+mod Linked
+mod Adding

@@ -5,16 +5,17 @@ use Rattle.som_model.specs.declared.key.ClassKey.{ClassKey}
 use Rattle.som_model.specs.declared.key.MethodRef.{MethodRef}
 use Rattle.som_model.specs.declared.limits.TheConstants.{MAX_ENTRIES, MAX_LIBRARY_CLASSES}
 use Rattle.som_model.specs.Blocks.{printing}
-use Rattle.som_model.specs.Class.{Class, class_in}
+use Rattle.som_model.specs.Class.{Class}
 use Rattle.som_model.specs.Kernel.{kernel}
-use Rattle.som_model.specs.Classes.{hierarchy}
+use Rattle.som_model.specs.Classes.{hierarchy, library_classes}
 use Rattle.som_model.specs.Resolution.{answer}
+use Rattle.som_model.specs.Conforming.{ReleaseOk}
 use Rattle.som_model.specs.Implementation.{User, held, has_body}
 use Rattle.som_tables.specs.Rows.{Added, inherited}
 use Rattle.som_first.specs.declared.classes.FirstMethod.{FirstMethod}
 use Rattle.som_first.specs.declared.classes.FirstOverride.{FirstOverride}
 use Rattle.som_first.specs.declared.classes.FirstClass.{FirstClass}
-use Rattle.som_first.specs.FirstImages.{library_key, decl_of}
+use Rattle.som_first.specs.FirstImages.{library_key, release_of}
 
 abbrev pub names_of : List FirstClass → List (List ℕ)
 names_of classes = map (λ c. c.name) classes
@@ -24,11 +25,15 @@ method_names methods = map (λ m. m.name) methods
 
 -- the kernel's classes and these
 abbrev pub all_of : List FirstClass → List Class
-all_of classes = kernel ++ map (λ c. class_in modules.Library (decl_of c)) classes
+all_of classes = kernel ++ library_classes (release_of (record { classes = classes }))
 
 -- a method of a class of the library
 abbrev pub library_method : List ℕ → List ℕ → MethodRef
 library_method class name = record { class = library_key class; name = name }
+
+-- the release of these classes conforms
+abbrev pub Conform : List FirstClass → Type 0
+Conform classes = ReleaseOk (release_of (record { classes = classes }))
 
 -- as many classes and methods as an image may have
 pub record AreWithin (classes : List FirstClass) : Type 0 where
@@ -57,6 +62,19 @@ abbrev pub AreReplaced : List FirstClass → List (List ℕ) → List FirstOverr
 AreReplaced classes texts [] [] = Unit {0}
 AreReplaced classes texts (o ∷ os) (r ∷ rs) = IsMethod classes r.0 o.class o.method × (slice_get texts r.1 ≡ Some o.text) × AreReplaced classes texts os rs
 AreReplaced classes texts _ _ = ⊥
+
+-- the number of the one parent: SOMObject's, where no class of the library is named
+abbrev pub IsParent : List FirstClass → Option (List ℕ) → ℕ → Type 0
+IsParent classes None n = n ≡ 0
+IsParent classes (Some name) n = (place : ℕ) × (there : FirstClass) × (slice_get classes place ≡ Some there) × (there.name ≡ name) × (n ≡ place + 4)
+
+-- what a class is added with
+pub record IsRow (classes : List FirstClass) (texts : List (List ℕ)) (c : FirstClass) (row : Added ℕ) : Type 0 where
+  pub parent : ℕ
+  pub parents_are : row.parents ≡ parent ∷ []
+  pub parent_is : IsParent classes c.parent parent
+  pub own : AreOwn texts c.methods row.introduced
+  pub replaced : AreReplaced classes texts c.overrides row.replaced
 
 -- what stood in the old list stands in the new one at the same place
 abbrev pub AreKept : List (List ℕ) → List (List ℕ) → Type 0
