@@ -153,12 +153,12 @@ module _ (fs : List FirstClass) (ok : FirstOk fs) where
         let h = hierarchy (known fs) in
         let s = override_stands fs ok i j c o at o_at in
         let apart : library_key c.name ≡ library_key o.class → ⊥ = λ e. (let same : h.height (library_key c.name) ≡ h.height (library_key o.class) = ap h.height e in
-            let lower : h.height (library_key o.class) ≡ s.place + 5 = ap (λ (x : List ℕ). h.height (library_key x)) (sym s.class_name) ∙ height_is fs ok s.place s.class s.stands in
-            omega (arith, same, lower, height_is fs ok i c at, s.before)) in
+        let lower : h.height (library_key o.class) ≡ s.place + 5 = ap (λ (x : List ℕ). h.height (library_key x)) (sym s.class_name) ∙ height_is fs ok s.place s.class s.stands in
+        omega (arith, same, lower, height_is fs ok i c at, s.before)) in
         let named : ref s.class.name s.method.name ≡ ref o.class o.method = ap (λ (x : List ℕ). ref x s.method.name) s.class_name ∙ ap (ref o.class) s.method_name in
         let own : has_body (known fs) (ref o.class o.method) (library_key o.class) ≡ true =
-            ap (λ (x : List ℕ). has_body (known fs) (ref o.class o.method) (library_key x)) (sym s.class_name)
-            ∙ ap (λ (r : MethodRef). is_some (held (known fs) (library_key s.class.name) r)) (sym named) ∙ ap is_some (held_own fs ok s.place s.slot s.class s.method s.stands s.introduced) in
+        ap (λ (x : List ℕ). has_body (known fs) (ref o.class o.method) (library_key x)) (sym s.class_name)
+        ∙ ap (λ (r : MethodRef). is_some (held (known fs) (library_key s.class.name) r)) (sym named) ∙ ap is_some (held_own fs ok s.place s.slot s.class s.method s.stands s.introduced) in
         some_cell fs texts (ref o.class o.method) (first_some (λ p. inherited rows p t) row.parents) (first_key (answer_of fs o.class o.method) (h.parents (library_key c.name)))
         (above_answers t o.class o.method is)
         (parents_answer h (has_body (known fs) (ref o.class o.method)) (library_key o.class) (all_tell fs ok) (all_fall fs ok) own (library_key c.name) s.below apart)
@@ -181,9 +181,10 @@ module _ (fs : List FirstClass) (ok : FirstOk fs) where
     each_distinct : (os : List FirstOverride) (rs : List ((ℕ × ℕ) × ℕ)) → AreReplaced fs texts os rs
         → ((j k : ℕ) (o p : FirstOverride) → slice_get os j ≡ Some o → slice_get os k ≡ Some p → ref_of o ≡ ref_of p → j ≡ k) → AreDistinct rs
     each_distinct [] [] all apart = tt
-    each_distinct (o ∷ os) (r ∷ rs) all apart =
-        (none_by os o r.0 (replaced_at rs r.0) (λ j p p_at e. (let one : 0 ≡ suc j = apart 0 (suc j) o p refl p_at e in omega (arith, one))) all.0 (replaced_found fs ok texts os rs all.2 r.0),
-        each_distinct os rs all.2 (λ j k p q p_at q_at e. (let one : suc j ≡ suc k = apart (suc j) (suc k) p q p_at q_at e in omega (arith, one))))
+    each_distinct (o ∷ os) (r ∷ rs) all apart = (
+      none_by os o r.0 (replaced_at rs r.0) (λ j p p_at e. (let one : 0 ≡ suc j = apart 0 (suc j) o p refl p_at e in omega (arith, one))) all.0 (replaced_found fs ok texts os rs all.2 r.0),
+      each_distinct os rs all.2 (λ j k p q p_at q_at e. (let one : suc j ≡ suc k = apart (suc j) (suc k) p q p_at q_at e in omega (arith, one))),
+    )
     each_distinct [] (r ∷ rs) all apart = absurd all
     each_distinct (o ∷ os) [] all apart = absurd all
 

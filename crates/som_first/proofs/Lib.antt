@@ -7,3 +7,4 @@ mod Bodies
 mod Tokens
 mod Linked
 mod Adding
+mod NextClass

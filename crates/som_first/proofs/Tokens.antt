@@ -99,6 +99,12 @@ module _ (classes : List FirstClass) (keys : List (List ℕ)) (t : ℕ × ℕ) (
   token_is d ms e slot lt named n is_n u is_u =
       let m = value_of_some (slice_get ms slot) (slice_get_some ms slot lt) in
       subst (λ (v : ℕ × ℕ). IsMethod classes v class name) (sym is_u) (record {
-        place = place; number = is_n; there = is.there; at = there_is; class_is = is.class_is;
-        method = m.0; slot = ap (λ (x : List FirstMethod). slice_get x slot) (sym (methods_are d ms e)) ∙ m.1; name_is = named m.0 m.1;
+        place = place;
+        number = is_n;
+        there = is.there;
+        at = there_is;
+        class_is = is.class_is;
+        method = m.0;
+        slot = ap (λ (x : List FirstMethod). slice_get x slot) (sym (methods_are d ms e)) ∙ m.1;
+        name_is = named m.0 m.1;
       })

@@ -1,5 +1,5 @@
 -- How the classes of a first release stand in a table: the kernel's four first, which have no cells, and then the release's in order.
-use Rattle.std.specs.Prelude.{◌≡◌, ℕ, ◌+◌, ◌<◌, ◌≤◌, List, [], ◌∷◌, ◌++◌, map, length, slice_get, Option, Some, None, All}
+use Rattle.std.specs.Prelude.{◌≡◌, true, ℕ, ◌+◌, ◌<◌, ◌≤◌, List, [], ◌∷◌, ◌++◌, map, length, slice_get, Option, Some, None, All}
 use Rattle.som_model.specs.declared.key.Module.TheVariants as modules
 use Rattle.som_model.specs.declared.key.ClassKey.{ClassKey}
 use Rattle.som_model.specs.declared.key.MethodRef.{MethodRef}
@@ -8,6 +8,7 @@ use Rattle.som_model.specs.Blocks.{printing}
 use Rattle.som_model.specs.Class.{Class}
 use Rattle.som_model.specs.Kernel.{kernel}
 use Rattle.som_model.specs.Classes.{hierarchy, library_classes}
+use Rattle.som_model.specs.Lists.{among}
 use Rattle.som_model.specs.Resolution.{answer}
 use Rattle.som_model.specs.Conforming.{ReleaseOk}
 use Rattle.som_model.specs.Implementation.{User, held, has_body}
@@ -67,6 +68,21 @@ AreReplaced classes texts _ _ = ⊥
 abbrev pub IsParent : List FirstClass → Option (List ℕ) → ℕ → Type 0
 IsParent classes None n = n ≡ 0
 IsParent classes (Some name) n = (place : ℕ) × (there : FirstClass) × (slice_get classes place ≡ Some there) × (there.name ≡ name) × (n ≡ place + 4)
+
+-- the parent is one of these names, where it is named
+abbrev pub IsKnown : List (List ℕ) → Option (List ℕ) → Type 0
+IsKnown names None = Unit {0}
+IsKnown names (Some name) = among name names ≡ true
+
+-- the number of the parent: its place among these names, after the kernel's classes
+abbrev pub HasPlace : List (List ℕ) → Option (List ℕ) → ℕ → Type 0
+HasPlace names None n = n ≡ 0
+HasPlace names (Some name) n = (place : ℕ) × (slice_get names place ≡ Some name) × (n ≡ place + 4)
+
+-- the rows of the kernel's classes, which have no cells
+pub record AreKernelRows (rows : List (Added ℕ)) : Type 0 where
+  pub long : length rows ≡ 4
+  pub none : (i : ℕ) (t : ℕ × ℕ) → i < 4 → inherited rows i t ≡ None
 
 -- what a class is added with
 pub record IsRow (classes : List FirstClass) (texts : List (List ℕ)) (c : FirstClass) (row : Added ℕ) : Type 0 where

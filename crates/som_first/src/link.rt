@@ -1,20 +1,22 @@
-ghost use Rattle.som_first.specs.FirstImages.{release_of};
 ghost use Rattle.som_first.specs.Linking.{
   AreKept,
+  AreKernelRows,
   AreOwn,
   AreReplaced,
   AreWithin,
+  Conform,
+  HasPlace,
+  IsKnown,
   IsLinked,
   IsMethod,
   names_of,
 };
 ghost use Rattle.som_first.specs.declared.classes.FirstOverride.{FirstOverride as Over};
-ghost use Rattle.som_model.specs.Conforming.{ReleaseOk};
 ghost use Rattle.som_model.specs.Lists.{Mem, doubles};
+ghost use Rattle.som_model.specs.declared.limits.TheConstants.{MAX_LIBRARY_CLASSES};
 ghost use Rattle.som_order.specs.Names.{texts as texts_of};
-ghost use Rattle.som_tables.specs.Rows.{Added};
 ghost use Rattle.std.specs.Str.{bytes_eq};
-ghost use Rattle.std.specs.Prelude.{◌≡◌, ◌<◌, ◌+◌, [], ℕ, length, slice_get, IfOk, OnOk, Some};
+ghost use Rattle.std.specs.Prelude.{◌≡◌, ◌<◌, ◌≤◌, ◌+◌, [], ℕ, length, slice_get, IfOk, OnOk, Some};
 
 use crate::classes::{FirstClass, FirstMethod, FirstOverride, FirstRelease};
 use crate::names::{class_names, place_of, slot_of};
@@ -23,11 +25,15 @@ use som_model::{NoMemory, Text};
 use som_tables::{ClassNo, MToken, MethodKind, Table, Token};
 use std::alloc::Global;
 
-/// The kernel's classes, by their parents' numbers.
-const KERNEL_PARENTS: &[&[u32]] = &[&[], &[0], &[0], &[1]];
-
 /// How many classes of the kernel stand before those of the library.
 pub const KERNEL_CLASSES: usize = 4;
+
+/// The rows of all classes, whose cells are places among the texts that bodies print.
+#[derive(Drop)]
+pub struct Linked<'a> {
+    pub table: Table<MethodKind>,
+    pub texts: Vec<&'a Text>,
+}
 
 /// A further text, and its place.
 fn add_text<'a>(texts: &mut Vec<&'a Text>, text: &'a Text) -> Result<u64, NoMemory>
@@ -89,4 +95,86 @@ fn override_bodies<'a>(
         cells.push((token, add_text(texts, &over.text)?))?;
     }
     Ok(cells)
+}
+
+// The number of the one parent of a class.
+fn parent_of(names: &IndexSet<&[u8]>, parent: &Option<Text>) -> ClassNo
+    requires few { length (texts_of names.now.keys) ≤ MAX_LIBRARY_CLASSES }
+    requires there { IsKnown (texts_of names.now.keys) parent.now }
+    ensures { HasPlace (texts_of names.now.keys) parent.now result }
+{
+    match parent {
+        None => ClassNo::new(0),
+        Some(name) => ClassNo::new((place_of(names, name) + KERNEL_CLASSES) as u32),
+    }
+}
+
+// Adds the class that comes next.
+fn add_next<'a>(
+    alloc: Global,
+    names: &IndexSet<&[u8]>,
+    classes: &'a [FirstClass],
+    place: usize,
+    table: &mut Table<MethodKind>,
+    texts: &mut Vec<&'a Text>,
+) -> Result<(), NoMemory>
+    requires names { texts_of names.now.keys ≡ names_of classes.now }
+    requires conform { Conform classes.now }
+    requires within { AreWithin classes.now }
+    requires place { place < length classes.now }
+    requires linked { IsLinked classes.now place table.old (texts_of texts.old.items) }
+    ensures { OnOk result (IsLinked classes.now (place + 1) table.new (texts_of texts.new.items)) }
+{
+    let class = &classes[place];
+    let parent = parent_of(names, &class.parent);
+    let own = own_bodies(alloc, class.methods.as_slice(), texts)?;
+    let replaced = override_bodies(alloc, names, classes, class.overrides.as_slice(), texts)?;
+    table.add_class(alloc, &[parent], own.as_slice(), replaced.as_slice())?;
+    Ok(())
+}
+
+// Adds the kernel's classes, of whose methods no first client calls any.
+fn add_kernel(alloc: Global, table: &mut Table<MethodKind>) -> Result<(), NoMemory>
+    requires { table.old ≡ [] }
+    ensures { OnOk result (AreKernelRows table.new) }
+{
+    let object = table.add_class(alloc, &[], &[], &[])?;
+    let class = table.add_class(alloc, &[object], &[], &[])?;
+    table.add_class(alloc, &[object], &[], &[])?;
+    table.add_class(alloc, &[class], &[], &[])?;
+    Ok(())
+}
+
+// Adds the classes of a release, in order.
+fn add_classes<'a>(
+    alloc: Global,
+    names: &IndexSet<&[u8]>,
+    classes: &'a [FirstClass],
+    table: &mut Table<MethodKind>,
+    texts: &mut Vec<&'a Text>,
+) -> Result<(), NoMemory>
+    requires names { texts_of names.now.keys ≡ names_of classes.now }
+    requires conform { Conform classes.now }
+    requires within { AreWithin classes.now }
+    requires kernel { AreKernelRows table.old }
+    ensures { OnOk result (IsLinked classes.now (length classes.now) table.new (texts_of texts.new.items)) }
+{
+    for place in 0..classes.len() {
+        add_next(alloc, names, classes, place, table, texts)?;
+    }
+    Ok(())
+}
+
+/// The classes of a release in a table, and the texts that their bodies print.
+pub fn link<'a>(alloc: Global, classes: &'a [FirstClass]) -> Result<Linked<'a>, NoMemory>
+    requires conform { Conform classes.now }
+    requires within { AreWithin classes.now }
+    ensures { IfOk result (λ l. IsLinked classes.now (length classes.now) l.table (texts_of l.texts.items)) }
+{
+    let names = class_names(alloc, classes)?;
+    let mut table = Table::new(alloc);
+    add_kernel(alloc, &mut table)?;
+    let mut texts = Vec::new(alloc);
+    add_classes(alloc, &names, classes, &mut table, &mut texts)?;
+    Ok(Linked { table, texts })
 }
