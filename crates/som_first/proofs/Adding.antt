@@ -23,7 +23,7 @@ use Rattle.som_first.specs.FirstImages.{library_key, parent_key}
 use Rattle.som_first.specs.Linking.{IsMethod, AreReplaced, AreKept, IsParent, IsRow, Answers, IsLinked, library_method}
 use Rattle.som_first.proofs.FirstClasses.{FirstOk, known, all_fall, all_tell, same_place, height_is, parents_is, parent_stands}
 use Rattle.som_first.proofs.FirstMembers.{ref_of, not_lower, override_stands, overrides_apart, held_own, held_from}
-use Rattle.som_first.proofs.Linked.{Fits, fits, FoundAt, NoneOf, replaced_found, method_once}
+use Rattle.som_first.proofs.CellLaws.{Fits, fits, FoundAt, NoneOf, replaced_found, method_once}
 
 abbrev ref : List ℕ → List ℕ → MethodRef
 ref class name = library_method class name

@@ -5,6 +5,6 @@ pub mod FirstMembers
 mod Named
 mod Bodies
 mod Tokens
-mod Linked
+mod CellLaws
 mod Adding
 mod NextClass

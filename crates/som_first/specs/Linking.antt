@@ -7,7 +7,7 @@ use Rattle.som_model.specs.declared.limits.TheConstants.{MAX_ENTRIES, MAX_LIBRAR
 use Rattle.som_model.specs.Blocks.{printing}
 use Rattle.som_model.specs.Class.{Class}
 use Rattle.som_model.specs.Kernel.{kernel}
-use Rattle.som_model.specs.Classes.{hierarchy, library_classes}
+use Rattle.som_model.specs.Classes.{hierarchy, library_classes, is_a}
 use Rattle.som_model.specs.Lists.{among}
 use Rattle.som_model.specs.Resolution.{answer}
 use Rattle.som_model.specs.Conforming.{ReleaseOk}
@@ -16,6 +16,8 @@ use Rattle.som_tables.specs.Rows.{Added, inherited}
 use Rattle.som_first.specs.declared.classes.FirstMethod.{FirstMethod}
 use Rattle.som_first.specs.declared.classes.FirstOverride.{FirstOverride}
 use Rattle.som_first.specs.declared.classes.FirstClass.{FirstClass}
+use Rattle.som_first.specs.declared.classes.FirstCall.{FirstCall}
+use Rattle.som_first.specs.declared.calls.CallPlace.{CallPlace}
 use Rattle.som_first.specs.FirstImages.{library_key, release_of}
 
 abbrev pub names_of : List FirstClass → List (List ℕ)
@@ -109,3 +111,19 @@ pub record IsLinked (classes : List FirstClass) (n : ℕ) (rows : List (Added �
   pub cells : (i : ℕ) (c : FirstClass) (t : ℕ × ℕ) (class name : List ℕ) → i < n → slice_get classes i ≡ Some c → IsMethod classes t class name
       → Answers (all_of classes) texts (library_method class name) (inherited rows (i + 4) t)
       (answer (hierarchy (all_of classes)) (has_body (all_of classes) (library_method class name)) (library_key class) (library_key c.name))
+
+-- the numbers are those of the call: its object's class, and the method; and the object's class descends from that of the method
+pub record CallIs (classes : List FirstClass) (at : CallPlace) (call : FirstCall) : Type 0 where
+  pub place : ℕ
+  pub number : at.object ≡ place + 4
+  pub there : FirstClass
+  pub stands : slice_get classes place ≡ Some there
+  pub object_is : there.name ≡ call.object
+  pub method : IsMethod classes (at.class, at.slot) call.class call.method
+  pub below : is_a (all_of classes) (library_key call.object) (library_key call.class) ≡ true
+
+-- each by the numbers at its place
+abbrev pub AreCalls : List FirstClass → List CallPlace → List FirstCall → Type 0
+AreCalls classes [] [] = Unit {0}
+AreCalls classes (at ∷ ats) (call ∷ calls) = CallIs classes at call × AreCalls classes ats calls
+AreCalls classes _ _ = ⊥

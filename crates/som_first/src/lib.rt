@@ -2,10 +2,13 @@
 //! and which body answers each of its calls, by tables of tokens.
 #![tactic(auto)]
 
+mod calls;
 mod classes;
 mod link;
 mod names;
 
+pub use calls::{CallPlace, Printing, print_calls};
 pub use classes::{
     FirstCall, FirstClass, FirstFace, FirstMethod, FirstOverride, FirstProgram, FirstRelease,
 };
+pub use link::{Linked, link_release};

@@ -31,6 +31,7 @@ pub const KERNEL_CLASSES: usize = 4;
 /// The rows of all classes, whose cells are places among the texts that bodies print.
 #[derive(Drop)]
 pub struct Linked<'a> {
+    pub classes: &'a [FirstClass],
     pub table: Table<MethodKind>,
     pub texts: Vec<&'a Text>,
 }
@@ -166,15 +167,20 @@ fn add_classes<'a>(
 }
 
 /// The classes of a release in a table, and the texts that their bodies print.
-pub fn link<'a>(alloc: Global, classes: &'a [FirstClass]) -> Result<Linked<'a>, NoMemory>
+pub fn link_release<'a>(alloc: Global, classes: &'a [FirstClass]) -> Result<Linked<'a>, NoMemory>
     requires conform { Conform classes.now }
     requires within { AreWithin classes.now }
-    ensures { IfOk result (λ l. IsLinked classes.now (length classes.now) l.table (texts_of l.texts.items)) }
+    ensures classes { IfOk result (λ l. l.classes.now ≡ classes.now) }
+    ensures linked { IfOk result (λ l. IsLinked classes.now (length classes.now) l.table (texts_of l.texts.items)) }
 {
     let names = class_names(alloc, classes)?;
     let mut table = Table::new(alloc);
     add_kernel(alloc, &mut table)?;
     let mut texts = Vec::new(alloc);
     add_classes(alloc, &names, classes, &mut table, &mut texts)?;
-    Ok(Linked { table, texts })
+    Ok(Linked {
+        classes,
+        table,
+        texts,
+    })
 }

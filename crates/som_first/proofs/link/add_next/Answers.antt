@@ -9,7 +9,7 @@ use Rattle.som_first.specs.declared.classes.FirstMethod.{FirstMethod}
 use Rattle.som_first.specs.Linking.{Conform, AreOwn, IsRow}
 use Rattle.som_first.proofs.FirstClasses.{FirstOk, first_ok}
 use Rattle.som_first.proofs.Bodies.{kept_on}
-use Rattle.som_first.proofs.Linked.{own_long}
+use Rattle.som_first.proofs.CellLaws.{own_long}
 use Rattle.som_first.proofs.Adding.{linked_more, all_inherited, all_distinct}
 use Rattle.som_first.proofs.NextClass.{names_differ, parent_known, parent_found, overrides_there, row_is, few_methods}
 use Rattle.som_first.proofs.link.add_next.Goals as goal
