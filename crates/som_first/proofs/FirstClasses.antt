@@ -65,7 +65,7 @@ first_ok r ok =
 pub classes_are : (r : FirstRelease) (p : FirstProgram) → classes (release_of r) (program_of p) ≡ known r.classes
 classes_are r p = append-nil (known r.classes)
 
-kernel_none : (name : List ℕ) → class_at kernel (library_key name) ≡ None
+pub kernel_none : (name : List ℕ) → class_at kernel (library_key name) ≡ None
 kernel_none name = simp same_named
 
 object_named : IsNamed som_object
@@ -182,7 +182,7 @@ module _ (fs : List FirstClass) (ok : FirstOk fs) where
   all_tell = tells (known fs)
 
   -- no class before it has its key
-  new_there : (i : ℕ) (c : FirstClass) → slice_get fs i ≡ Some c → class_at (classes_of (take i fs)) (library_key c.name) ≡ None
+  pub new_there : (i : ℕ) (c : FirstClass) → slice_get fs i ≡ Some c → class_at (classes_of (take i fs)) (library_key c.name) ≡ None
   new_there i c at =
       let names = map name_of (classes_of (take i fs)) in
       let new = if_made (not (among c.name (map name_of kernel ++ names))) (breach 1 (class_of c) (codes "-")) (each_at s1 kernel fs i c ok.once at) in

@@ -2,3 +2,4 @@ pub mod FirstLists
 pub mod FirstOrder
 pub mod FirstClasses
 pub mod FirstMembers
+pub mod FirstWorld
