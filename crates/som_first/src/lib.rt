@@ -3,7 +3,9 @@
 #![tactic(auto)]
 
 mod classes;
+mod laws;
 
 pub use classes::{
     FirstCall, FirstClass, FirstFace, FirstMethod, FirstOverride, FirstProgram, FirstRelease,
 };
+pub use laws::first_meaning_law;
