@@ -2,4 +2,4 @@ use Rattle.som_first.proofs.FirstMeans.{means_prints}
 use Rattle.som_first.proofs.laws.first_meaning_law.Goals as goal
 
 pub returns : goal.returns
-returns c r p texts fuel ok all = means_prints r p texts fuel ok all
+returns c = record { runs = means_prints }
