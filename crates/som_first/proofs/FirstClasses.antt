@@ -143,9 +143,13 @@ classes_ordered before (c ∷ fs) e =
     let now = both_empty (s2 before (class_of c)) (each_after s2 (before ++ class_of c ∷ []) (classes_of fs)) e in
     ((λ p m. only before (parent_key c.parent) p (parent_before before c now.0) (parent_named c.parent) m), classes_ordered (before ++ class_of c ∷ []) fs now.1)
 
+-- no entry is moved
+pub known_plain : (fs : List FirstClass) → AllPlain (known fs)
+known_plain fs = kernel_plain (classes_of fs) (classes_plain fs)
+
 -- a method is its own owner
 pub owner_is : (fs : List FirstClass) (r : MethodRef) → owner (known fs) r ≡ r
-owner_is fs r = owner_itself (known fs) (kernel_plain (classes_of fs) (classes_plain fs)) r
+owner_is fs r = owner_itself (known fs) (known_plain fs) r
 
 -- the entry of a name that a class introduces
 entry_there : (ms : List FirstMethod) (j : ℕ) (m : FirstMethod) → slice_get ms j ≡ Some m → entry_of (map plain_entry (map (λ x. x.name) ms)) m.name ≡ Some (plain_entry m.name)

@@ -74,7 +74,7 @@ module _ (xs : List Class) where
   meta_object zero = refl
   meta_object (suc n) = ap (λ (b : Bool). if b then som_class else made_of (lowest cs (firsts same_key (declared_metaclass (class_at cs som_object) ++ map (meta_within cs n) (parents_of cs som_object))))) object_low
 
-value_of : {A : Type 0} (o : Option A) → IsSome o → (a : A) × (o ≡ Some a)
+pub value_of : {A : Type 0} (o : Option A) → IsSome o → (a : A) × (o ≡ Some a)
 value_of None e = absurd (true≢false (sym e))
 value_of (Some a) e = (a, refl)
 
@@ -86,7 +86,7 @@ object_top : (h : Hierarchy ClassKey) → h.parents som_object ≡ [] → (x y :
 object_top h none x y e itself = e
 object_top h none x y e (by_parent p m d) = absurd (subst (Mem p) (ap h.parents e ∙ none) m)
 
-kernel_apart : (name : List ℕ) → som_object ≡ library_key name → ⊥
+pub kernel_apart : (name : List ℕ) → som_object ≡ library_key name → ⊥
 kernel_apart name e = true≢false (sym (exact_keys.one som_object) ∙ ap (same_key som_object) e ∙ same_named modules.Kernel modules.Library (codes "SOMObject") name)
 
 module _ (fs : List FirstClass) (ok : FirstOk fs) where
@@ -94,7 +94,7 @@ module _ (fs : List FirstClass) (ok : FirstOk fs) where
   h = hierarchy (known fs)
 
   -- a place of a class of the release
-  abbrev Stands : ClassKey → Type 0
+  abbrev pub Stands : ClassKey → Type 0
   Stands k = (i : ℕ) × (c : FirstClass) × (slice_get fs i ≡ Some c) × (k ≡ library_key c.name)
 
   -- the parent is SOMObject or a class that stands before

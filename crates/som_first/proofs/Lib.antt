@@ -5,3 +5,6 @@ pub mod FirstMembers
 pub mod FirstWorld
 pub mod SpentLaws
 pub mod FirstMeans
+pub mod TypedCalls
+pub mod SameFaces
+pub mod FirstAnswered
