@@ -22,7 +22,7 @@ use Rattle.som_first.specs.declared.classes.FirstClass.{FirstClass}
 use Rattle.som_first.specs.declared.classes.FirstRelease.{FirstRelease}
 use Rattle.som_first.specs.declared.classes.FirstProgram.{FirstProgram}
 use Rattle.som_first.specs.FirstImages.{library_key, parent_key, plain_entry, release_of, program_of}
-use Rattle.som_first.proofs.FirstLists.{class_of, classes_of, nothing, neither, both_empty, each_at, some_last, if_made, class_past, place_past, class_here, place_here, class_listed, class_new, taken}
+use Rattle.som_first.proofs.FirstLists.{class_of, classes_of, nothing, neither, both_empty, each_at, some_last, if_made, class_past, place_past, class_here, place_here, class_listed, class_new, one_name, taken}
 use Rattle.som_first.proofs.FirstOrder.{IsNamed, Ordered, Plain, AllPlain, falls, tells, owner_itself}
 
 -- a copy of how an entry is looked for
@@ -207,6 +207,10 @@ module _ (fs : List FirstClass) (ok : FirstOk fs) where
       let a = height_is i c at in let b = height_is j d bt in
       let same : (hierarchy (known fs)).height (library_key c.name) ≡ (hierarchy (known fs)).height (library_key d.name) = ap (λ (z : List ℕ). (hierarchy (known fs)).height (library_key z)) e in
       omega (arith, a, b, same)
+
+  -- keys at two places are different
+  pub keys_apart : (i j : ℕ) (c d : FirstClass) → slice_get fs i ≡ Some c → slice_get fs j ≡ Some d → library_key c.name ≡ library_key d.name → i ≡ j
+  keys_apart i j c d at bt e = same_place i j c d at bt (one_name c.name d.name e)
 
   -- a library class that is known stands somewhere
   pub class_stands : (name : List ℕ) → is_some (class_at (known fs) (library_key name)) ≡ true → (j : ℕ) × (b : FirstClass) × (slice_get fs j ≡ Some b) × (b.name ≡ name)

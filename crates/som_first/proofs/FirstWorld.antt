@@ -98,15 +98,16 @@ module _ (fs : List FirstClass) (ok : FirstOk fs) where
   Stands k = (i : ℕ) × (c : FirstClass) × (slice_get fs i ≡ Some c) × (k ≡ library_key c.name)
 
   -- the parent is SOMObject or a class that stands before
-  parent_by : (i : ℕ) (c : FirstClass) → slice_get fs i ≡ Some c → (o : Option (List ℕ)) → c.parent ≡ o
+  pub parent_by : (i : ℕ) (c : FirstClass) → slice_get fs i ≡ Some c → (o : Option (List ℕ)) → c.parent ≡ o
       → (parent_key c.parent ≡ som_object) ⊎ ((j : ℕ) × (b : FirstClass) × (j < i) × (slice_get fs j ≡ Some b) × (parent_key c.parent ≡ library_key b.name))
   parent_by i c at None e = inl (ap parent_key e)
   parent_by i c at (Some name) e = let r = parent_stands fs ok i c name at e in inr (r.0, r.1, r.2, r.3, ap parent_key e ∙ ap library_key (sym r.4))
 
-  in_parents : (i : ℕ) (c : FirstClass) → slice_get fs i ≡ Some c → Mem (parent_key c.parent) (h.parents (library_key c.name))
+  -- the parent is among the parents, and no other class is
+  pub in_parents : (i : ℕ) (c : FirstClass) → slice_get fs i ≡ Some c → Mem (parent_key c.parent) (h.parents (library_key c.name))
   in_parents i c at = subst (Mem (parent_key c.parent)) (sym (parents_is fs ok i c at)) (inl refl)
 
-  the_parent : (i : ℕ) (c : FirstClass) (p : ClassKey) → slice_get fs i ≡ Some c → Mem p (h.parents (library_key c.name)) → p ≡ parent_key c.parent
+  pub the_parent : (i : ℕ) (c : FirstClass) (p : ClassKey) → slice_get fs i ≡ Some c → Mem p (h.parents (library_key c.name)) → p ≡ parent_key c.parent
   the_parent i c p at m = elim (subst (Mem p) (parents_is fs ok i c at) m) [ inl e ↦ e | inr never ↦ absurd never ]
 
   reaches_within : (n i : ℕ) (c : FirstClass) → i < n → slice_get fs i ≡ Some c → Descends h (library_key c.name) som_object
@@ -165,6 +166,7 @@ module _ (fs : List FirstClass) (ok : FirstOk fs) where
         | inr o ↦ kernel_apart o.1.class (ap (λ (r : MethodRef). r.class) o.3)
       ]
 
+  -- SOMObject's body answers somInit
   init_impl_is : (i : ℕ) (c : FirstClass) → slice_get fs i ≡ Some c → implementation (known fs) (library_key c.name) som_init ≡ Some som_object
   init_impl_is i c at =
       let k = library_key c.name in let has = has_body (known fs) som_init in
