@@ -22,7 +22,7 @@ use Rattle.som_first.specs.declared.classes.FirstClass.{FirstClass}
 use Rattle.som_first.specs.declared.classes.FirstRelease.{FirstRelease}
 use Rattle.som_first.specs.declared.classes.FirstProgram.{FirstProgram}
 use Rattle.som_first.specs.FirstImages.{library_key, parent_key, plain_entry, release_of, program_of}
-use Rattle.som_first.proofs.FirstLists.{class_of, classes_of, nothing, neither, both_empty, each_at, some_last, if_made, class_past, place_past, class_here, place_here, class_listed, class_new, taken}
+use Rattle.som_first.proofs.FirstLists.{class_of, classes_of, nothing, neither, both_empty, each_at, some_last, if_made, class_past, place_past, class_here, place_here, class_listed, class_new, one_name, taken}
 use Rattle.som_first.proofs.FirstOrder.{IsNamed, Ordered, Plain, AllPlain, falls, tells, owner_itself}
 
 -- a copy of how an entry is looked for
@@ -65,7 +65,7 @@ first_ok r ok =
 pub classes_are : (r : FirstRelease) (p : FirstProgram) → classes (release_of r) (program_of p) ≡ known r.classes
 classes_are r p = append-nil (known r.classes)
 
-kernel_none : (name : List ℕ) → class_at kernel (library_key name) ≡ None
+pub kernel_none : (name : List ℕ) → class_at kernel (library_key name) ≡ None
 kernel_none name = simp same_named
 
 object_named : IsNamed som_object
@@ -143,9 +143,13 @@ classes_ordered before (c ∷ fs) e =
     let now = both_empty (s2 before (class_of c)) (each_after s2 (before ++ class_of c ∷ []) (classes_of fs)) e in
     ((λ p m. only before (parent_key c.parent) p (parent_before before c now.0) (parent_named c.parent) m), classes_ordered (before ++ class_of c ∷ []) fs now.1)
 
+-- no entry is moved
+pub known_plain : (fs : List FirstClass) → AllPlain (known fs)
+known_plain fs = kernel_plain (classes_of fs) (classes_plain fs)
+
 -- a method is its own owner
 pub owner_is : (fs : List FirstClass) (r : MethodRef) → owner (known fs) r ≡ r
-owner_is fs r = owner_itself (known fs) (kernel_plain (classes_of fs) (classes_plain fs)) r
+owner_is fs r = owner_itself (known fs) (known_plain fs) r
 
 -- the entry of a name that a class introduces
 entry_there : (ms : List FirstMethod) (j : ℕ) (m : FirstMethod) → slice_get ms j ≡ Some m → entry_of (map plain_entry (map (λ x. x.name) ms)) m.name ≡ Some (plain_entry m.name)
@@ -182,7 +186,7 @@ module _ (fs : List FirstClass) (ok : FirstOk fs) where
   all_tell = tells (known fs)
 
   -- no class before it has its key
-  new_there : (i : ℕ) (c : FirstClass) → slice_get fs i ≡ Some c → class_at (classes_of (take i fs)) (library_key c.name) ≡ None
+  pub new_there : (i : ℕ) (c : FirstClass) → slice_get fs i ≡ Some c → class_at (classes_of (take i fs)) (library_key c.name) ≡ None
   new_there i c at =
       let names = map name_of (classes_of (take i fs)) in
       let new = if_made (not (among c.name (map name_of kernel ++ names))) (breach 1 (class_of c) (codes "-")) (each_at s1 kernel fs i c ok.once at) in
@@ -203,6 +207,10 @@ module _ (fs : List FirstClass) (ok : FirstOk fs) where
       let a = height_is i c at in let b = height_is j d bt in
       let same : (hierarchy (known fs)).height (library_key c.name) ≡ (hierarchy (known fs)).height (library_key d.name) = ap (λ (z : List ℕ). (hierarchy (known fs)).height (library_key z)) e in
       omega (arith, a, b, same)
+
+  -- keys at two places are different
+  pub keys_apart : (i j : ℕ) (c d : FirstClass) → slice_get fs i ≡ Some c → slice_get fs j ≡ Some d → library_key c.name ≡ library_key d.name → i ≡ j
+  keys_apart i j c d at bt e = same_place i j c d at bt (one_name c.name d.name e)
 
   -- a library class that is known stands somewhere
   pub class_stands : (name : List ℕ) → is_some (class_at (known fs) (library_key name)) ≡ true → (j : ℕ) × (b : FirstClass) × (slice_get fs j ≡ Some b) × (b.name ≡ name)

@@ -131,6 +131,12 @@ place_here n (x ∷ fs) (suc i) c at e = by (same_key (library_key x.name) (libr
     by true f e = absurd (cc)
     by false f e = let sum : i + suc n ≡ suc i + n = omega arith in f e ∙ ap (λ (z : ℕ). Some z) sum
 
+-- keys of the library tell names apart
+pub one_name : (a b : List ℕ) → library_key a ≡ library_key b → a ≡ b
+one_name a b e =
+    let same : same_key (library_key a) (library_key b) ≡ true = ap (same_key (library_key a)) (sym e) ∙ exact_keys.one (library_key a) in
+    exact_bytes.two a b (sym (same_named modules.Library modules.Library a b) ∙ same)
+
 -- a library class that is known is one of them
 pub class_listed : (fs : List FirstClass) (name : List ℕ) → is_some (class_at (classes_of fs) (library_key name)) ≡ true → (j : ℕ) × (b : FirstClass) × (slice_get fs j ≡ Some b) × (b.name ≡ name)
 class_listed [] name e = absurd (true≢false (sym e))

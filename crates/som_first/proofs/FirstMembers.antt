@@ -166,7 +166,8 @@ one_of c r b rest f true (Some x) same g e =
 one_of c r b rest f true None same g e = let q = f e in inr (q.0, q.1, q.2, sym q.3, q.4)
 one_of c r b rest f false named same g e = let q = f e in inr (q.0, q.1, q.2, sym q.3, q.4)
 
-known_class : (cs : List Class) (k : ClassKey) (name : List ℕ) → introduces cs name k ≡ true → is_some (class_at cs k) ≡ true
+-- a class that introduces a name is known
+pub known_class : (cs : List Class) (k : ClassKey) (name : List ℕ) → introduces cs name k ≡ true → is_some (class_at cs k) ≡ true
 known_class cs k name e = by (class_at cs k) e
   where
     by : (o : Option Class) → is_some (introduced_sig (entry_in o name)) ≡ true → is_some o ≡ true

@@ -8,3 +8,9 @@ mod Tokens
 mod CellLaws
 mod Adding
 mod NextClass
+pub mod FirstWorld
+pub mod SpentLaws
+pub mod FirstMeans
+pub mod TypedCalls
+pub mod SameFaces
+pub mod FirstAnswered

@@ -4,6 +4,7 @@
 
 mod calls;
 mod classes;
+mod laws;
 mod link;
 mod names;
 
@@ -11,4 +12,5 @@ pub use calls::{CallPlace, Printing, print_calls};
 pub use classes::{
     FirstCall, FirstClass, FirstFace, FirstMethod, FirstOverride, FirstProgram, FirstRelease,
 };
+pub use laws::first_meaning_law;
 pub use link::{Linked, link_release};
