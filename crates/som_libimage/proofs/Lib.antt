@@ -1,0 +1,3 @@
+pub mod PartFields
+pub mod EachFields
+pub mod LibraryFields

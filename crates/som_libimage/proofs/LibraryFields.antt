@@ -1,0 +1,1 @@
+-- Reading a library image answers what the bytes spell, and nothing else.

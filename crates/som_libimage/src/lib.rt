@@ -1,0 +1,13 @@
+//! Library images: the bytes of a release, read from left to right.
+//!
+//! `decode` works in two steps. The bytes are read as a `WireRelease`, in which classes and methods go by their numbers and
+//! slots; then keys and names take their places. `specs/Reading.antt` says which fault is the first, `specs/Naming.antt` what
+//! numbers stand for.
+#![tactic(auto)]
+
+mod block;
+mod head;
+mod part;
+mod wire;
+
+pub use wire::{WireBody, WireOverride, WirePart, WireRelease, WireVariable};
