@@ -65,12 +65,16 @@ FitEach Fits (x ∷ xs) (y ∷ ys) = Fits x y × FitEach Fits xs ys
 FitEach Fits [] (y ∷ ys) = ⊥
 FitEach Fits (x ∷ xs) [] = ⊥
 
+-- as many faces as a library may have, each with numbers of its classes and the kernel's alone
+abbrev pub FitsFaces : List WireFace → Type 0
+FitsFaces fs = FitsCounted 0 MAX_LIBRARY_CLASSES (FitsFace (length fs + 4)) fs
+
 -- the classes after the head
 abbrev pub classes : WireRelease → List ℕ
 classes w = counted w16 face w.faces ++ flat_map part w.parts
 
 pub record FitsRelease (w : WireRelease) : Type 0 where
-  pub faces : FitsCounted 0 MAX_LIBRARY_CLASSES (FitsFace (length w.faces + 4)) w.faces
+  pub faces : FitsFaces w.faces
   pub parts : FitEach (FitsPart (ranges_of w.faces)) w.faces w.parts
 
 -- `SOML`, version 1, and the classes

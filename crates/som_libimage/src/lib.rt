@@ -8,6 +8,7 @@
 mod block;
 mod head;
 mod part;
+mod release;
 mod wire;
 
 pub use wire::{WireBody, WireOverride, WirePart, WireRelease, WireVariable};
