@@ -6,9 +6,11 @@
 #![tactic(auto)]
 
 mod block;
+mod directory;
 mod head;
 mod part;
 mod release;
 mod wire;
 
+pub use directory::Directory;
 pub use wire::{WireBody, WireOverride, WirePart, WireRelease, WireVariable};
