@@ -1,3 +1,4 @@
 pub mod PartFields
 pub mod EachFields
 pub mod LibraryFields
+pub mod Naming

@@ -8,9 +8,11 @@
 mod block;
 mod directory;
 mod head;
+mod named_face;
 mod part;
 mod release;
 mod wire;
 
 pub use directory::Directory;
+pub use named_face::{name_face, name_faces};
 pub use wire::{WireBody, WireOverride, WirePart, WireRelease, WireVariable};
