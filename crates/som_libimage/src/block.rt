@@ -7,6 +7,7 @@ use som_wire::{ImageFault, Read, read_many, read_text, read_u8, read_u32};
 use std::alloc::Global;
 
 const PRINT: u8 = 0x08;
+
 const TEXT: u8 = 0x21;
 
 // The one tag that can stand there.
@@ -26,11 +27,7 @@ fn read_tag(bytes: &List<u8>, place: usize, tag: u8) -> Result<Read<u8>, ImageFa
 
 // The text that a statement prints.
 #[tactic(auto, unfolding(crate::specs::Reading::statement_at))]
-fn read_statement(
-    alloc: Global,
-    bytes: &List<u8>,
-    place: usize,
-) -> Result<Read<Text>, ImageFault>
+fn read_statement(alloc: Global, bytes: &List<u8>, place: usize) -> Result<Read<Text>, ImageFault>
     requires { place ≤ length bytes.now }
     ensures exact { Gives result (statement_at bytes.now place) }
     ensures next { IfOk result (λ r. r.next ≤ length bytes.now) }

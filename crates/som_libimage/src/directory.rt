@@ -1,5 +1,11 @@
 ghost use Rattle.som_libimage.specs.Naming.{
-  kernel_directory, key_at, method_named, name_in, names_in, ranges_in, with_classes,
+  kernel_directory,
+  key_at,
+  method_named,
+  name_in,
+  names_in,
+  ranges_in,
+  with_classes,
 };
 ghost use Rattle.som_model.specs.Class.{entry_name};
 ghost use Rattle.som_wire.specs.Spelling.{FitsMethod};

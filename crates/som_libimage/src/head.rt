@@ -5,6 +5,7 @@ use som_model::List;
 use som_wire::{ImageFault, read_u8};
 
 const MAGIC: &[u8] = b"SOML";
+
 const VERSION: u8 = 1;
 
 fn read_magic(bytes: &List<u8>) -> Result<usize, ImageFault>

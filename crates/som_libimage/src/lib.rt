@@ -8,11 +8,14 @@
 mod block;
 mod directory;
 mod head;
+mod library;
 mod named_face;
+mod named_part;
 mod part;
 mod release;
 mod wire;
 
 pub use directory::Directory;
+pub use library::decode;
 pub use named_face::{name_face, name_faces};
 pub use wire::{WireBody, WireOverride, WirePart, WireRelease, WireVariable};

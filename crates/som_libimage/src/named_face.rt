@@ -1,5 +1,10 @@
 ghost use Rattle.som_libimage.specs.Naming.{
-  entry_named, face_named, key_at, kind_named, metaclass_named, sig_named,
+  entry_named,
+  face_named,
+  key_at,
+  kind_named,
+  metaclass_named,
+  sig_named,
 };
 ghost use Rattle.som_wire.specs.Spelling.{FitsEntry, FitsFace, FitsKind, FitsSig};
 ghost use Rattle.std.specs.Prelude.{◌≡◌, ◌<◌, ℕ, true, false, length, map, All, IfOk, IfSome};

@@ -1,5 +1,10 @@
 ghost use Rattle.som_libimage.specs.Reading.{
-  body_at, introduced_count, is_introduced, override_at, part_at, variable_at,
+  body_at,
+  introduced_count,
+  is_introduced,
+  override_at,
+  part_at,
+  variable_at,
 };
 ghost use Rattle.som_wire.specs.Fields.{Gives, counted_at, many_at};
 ghost use Rattle.som_wire.specs.Reading.{number_at};

@@ -1,5 +1,5 @@
 ghost use Rattle.som_libimage.specs.Reading.{classes_at, each_at, faces_at, part_at, ranges_of, wire_at};
-ghost use Rattle.som_libimage.specs.Spelling.{FitsFaces};
+ghost use Rattle.som_libimage.specs.Spelling.{FitsFaces, FitsRelease};
 ghost use Rattle.som_wire.specs.Fields.{Gives};
 ghost use Rattle.som_wire.specs.Reading.{face_at};
 ghost use Rattle.std.specs.Prelude.{◌≡◌, ◌≤◌, ◌+◌, ℕ, length, IfOk};
@@ -116,8 +116,16 @@ fn read_classes(
 }
 
 /// Reads a whole library image, as it has it.
-#[tactic(auto, unfolding(crate::specs::Reading::wire_at))]
 pub(crate) fn read_release(alloc: Global, bytes: &List<u8>) -> Result<WireRelease, ImageFault>
+    ensures exact { Gives result (wire_at bytes.now) }
+    ensures fits { IfOk result (λ wire. FitsRelease wire) }
+{
+    let _all = bytes.as_bytes();
+    read_to_the_end(alloc, bytes)
+}
+
+#[tactic(auto, unfolding(crate::specs::Reading::wire_at))]
+fn read_to_the_end(alloc: Global, bytes: &List<u8>) -> Result<WireRelease, ImageFault>
     ensures { Gives result (wire_at bytes.now) }
 {
     let place = read_head(bytes)?;
