@@ -5,3 +5,4 @@ pub mod Naming
 pub mod Places
 pub mod Spelled
 pub mod Numbers
+pub mod NamedFaces
