@@ -6,3 +6,4 @@ pub mod Places
 pub mod Spelled
 pub mod Numbers
 pub mod NamedFaces
+pub mod NamedParts

@@ -105,12 +105,6 @@ module _ (d : Directory) (cs : List Class) (tells : Tells d cs) where
     metaclass_forth None fits = refl
     metaclass_forth (Some n) fits = ap (λ (s : Spelled). tag 1 then s) (class_forth d cs tells single n fits)
 
-    abbrev after_name : ClassFace → Spelled → Spelled
-    after_name f s = s then images.version f.major then images.version f.minor
-        then where_it_is (not (length f.parents == 0)) (images.counted w8 MAX_PARENTS (images.class cs) f.parents)
-        then images.metaclass cs f.metaclass
-        then images.counted w16 MAX_ENTRIES (images.entry cs) f.entries
-
     parents_forth : (ps : List ℕ) → FitsCounted 1 MAX_PARENTS (λ n. n < classes) ps → where_it_is (not (length (map (key_at d.keys) ps) == 0)) (images.counted w8 MAX_PARENTS (images.class cs) (map (key_at d.keys) ps)) ≡ Some (wire.counted w8 (wire.number w16) ps)
     parents_forth ps fits =
         let each = all_map (λ n. n < classes) (Forth (images.class cs) (wire.number w16) (key_at d.keys)) (class_forth d cs tells single) ps (recursion_from_All (λ n. n < classes) ps fits.2) in
