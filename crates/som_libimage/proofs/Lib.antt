@@ -7,3 +7,4 @@ pub mod Spelled
 pub mod Numbers
 pub mod NamedFaces
 pub mod NamedParts
+pub mod NamedReleases
