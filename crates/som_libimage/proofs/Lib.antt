@@ -8,3 +8,4 @@ pub mod Numbers
 pub mod NamedFaces
 pub mod NamedParts
 pub mod NamedReleases
+pub mod Decoded

@@ -1,4 +1,4 @@
-ghost use Rattle.som_libimage.specs.Libraries.{library_at};
+ghost use Rattle.som_libimage.specs.Libraries.{NamesDiffer, PrintTexts, library_at};
 ghost use Rattle.som_libimage.specs.Naming.{
   classes_named,
   library_directory,
@@ -6,9 +6,11 @@ ghost use Rattle.som_libimage.specs.Naming.{
   release_named,
 };
 ghost use Rattle.som_libimage.specs.Spelling.{FitEach, FitsFaces, FitsPart, FitsRelease};
+ghost use Rattle.som_model.specs.Class.{interface_of};
+ghost use Rattle.som_model.specs.Images.{library_image};
 ghost use Rattle.som_wire.specs.Fields.{Gives};
 ghost use Rattle.som_wire.specs.Spelling.{FitsFace};
-ghost use Rattle.std.specs.Prelude.{◌≡◌, ℕ, All, length, IfOk};
+ghost use Rattle.std.specs.Prelude.{◌≡◌, ℕ, All, Some, Ok, length, IfOk};
 
 use crate::directory::Directory;
 use crate::named_part::name_class;
@@ -50,10 +52,21 @@ fn name_release(alloc: Global, wire: &WireRelease) -> Result<Release, NoMemory>
     })
 }
 
-/// Reads a library image.
-pub fn decode(alloc: Global, bytes: &List<u8>) -> Result<Release, ImageFault>
-    ensures exact { Gives result (library_at bytes.now) }
+fn read_and_name(alloc: Global, bytes: &List<u8>) -> Result<Release, ImageFault>
+    ensures { Gives result (library_at bytes.now) }
 {
     let wire = read_release(alloc, bytes)?;
     Ok(name_release(alloc, &wire)?)
+}
+
+/// Reads a library image. An image in which a name stands twice is read too, since rules on names are asked of what was
+/// read; such a release may have no image, or another one.
+pub fn decode(alloc: Global, bytes: &List<u8>) -> Result<Release, ImageFault>
+    ensures found { IfOk result (λ r. NamesDiffer (interface_of r).classes → library_image r ≡ Some bytes.now) }
+    ensures prints { IfOk result PrintTexts }
+    ensures only { (r : _) → library_image r ≡ Some bytes.now → PrintTexts r → Gives result (Ok r) }
+    ensures exact { Gives result (library_at bytes.now) }
+{
+    let _all = bytes.as_bytes();
+    read_and_name(alloc, bytes)
 }
