@@ -9,3 +9,5 @@ pub mod NamedFaces
 pub mod NamedParts
 pub mod NamedReleases
 pub mod Decoded
+pub mod NamedInterfaces
+pub mod Conforming

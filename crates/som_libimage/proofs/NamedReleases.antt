@@ -75,7 +75,7 @@ module _ (ks : List ClassKey) where
 
 -- ---- what a library's directory tells
 
-abbrev library_key : WireFace → ClassKey
+abbrev pub library_key : WireFace → ClassKey
 library_key f = keys.Named modules.Library f.name
 
 module _ (d : Directory) where
@@ -111,7 +111,7 @@ told d fs ps e = record {
   slots = ap (λ (ns : List (List (List ℕ))). kernel_directory.slots ++ ns) (slots_told d fs ps e);
 }
 
-as_many_keys : (fs : List WireFace) → length ((library_directory fs).keys) ≡ length fs + 4
+pub as_many_keys : (fs : List WireFace) → length ((library_directory fs).keys) ≡ length fs + 4
 as_many_keys fs = omega (arith, length-map fs library_key)
 
 -- ---- no doubles
@@ -127,7 +127,7 @@ mapped_names : (fs : List WireFace) → map (λ (name : List ℕ). keys.Named mo
 mapped_names [] = refl
 mapped_names (f ∷ fs) = ap (λ (ks : List ClassKey). library_key f ∷ ks) (mapped_names fs)
 
-no_doubles : (ks : List ClassKey) (fs : List WireFace) → Distinct ks fs → NoDoubles (library_directory fs)
+pub no_doubles : (ks : List ClassKey) (fs : List WireFace) → Distinct ks fs → NoDoubles (library_directory fs)
 no_doubles ks fs h =
     let own = subst (IsDistinct same_key) (mapped_names fs) (distinct_mapped bytes_eq same_key (λ (name : List ℕ). keys.Named modules.Library name) (λ x y e. same_named modules.Library modules.Library x y ∙ e) (map (λ (f : WireFace). f.name) fs) h.classes) in
     let across : AllByRecursion (λ x. AllByRecursion (λ y. same_key x y ≡ false) (map library_key fs)) kernel_directory.keys = (apart_from_library fs _, (apart_from_library fs _, (apart_from_library fs _, (apart_from_library fs _, tt)))) in
@@ -224,7 +224,7 @@ release_forth w fits differ =
     ∙ ap (λ (b : Bool). Some (codes "SOML") then tag 1 then where_it_is b (images.number w16 (length fs) then Some faces) then Some parts) (le-leb (length fs) MAX_LIBRARY_CLASSES fits.faces.1)
     ∙ ap some_bytes (append_assoc (codes "SOML" ++ 1 ∷ []) (wire.counted w16 wire.face fs) parts)
 
-abbrev directory_of : List ClassKey → List (List (List ℕ)) → Directory
+abbrev pub directory_of : List ClassKey → List (List (List ℕ)) → Directory
 directory_of ks ss = record { keys = ks; slots = ss }
 
 -- what an image is that a release is named from

@@ -20,6 +20,7 @@ use Rattle.som_model.specs.declared.class.Variable.{Variable}
 use Rattle.som_model.specs.declared.class.Override.{Override}
 use Rattle.som_model.specs.declared.class.ClassFace.{ClassFace}
 use Rattle.som_model.specs.declared.class.ClassDecl.{ClassDecl}
+use Rattle.som_model.specs.declared.program.Interface.{Interface}
 use Rattle.som_model.specs.declared.program.Release.{Release}
 use Rattle.som_model.specs.Class.{entry_name}
 use Rattle.som_model.specs.Kernel.{kernel, som_object}
@@ -141,3 +142,9 @@ classes_named d (f ∷ fs) [] = []
 
 abbrev pub release_named : WireRelease → Release
 release_named w = record { classes = classes_named (library_directory w.faces) w.faces w.parts }
+
+-- ---- interfaces
+
+-- the interface that faces stand for
+abbrev pub interface_named : List WireFace → Interface
+interface_named fs = record { classes = map (face_named (library_directory fs).keys) fs }

@@ -8,6 +8,7 @@
 mod block;
 mod directory;
 mod head;
+mod laws;
 mod library;
 mod named_face;
 mod named_part;
@@ -16,6 +17,7 @@ mod release;
 mod wire;
 
 pub use directory::Directory;
+pub use laws::{named_faces_are_spelled, names_of_a_conforming_release_differ};
 pub use library::decode;
 pub use named_face::{name_face, name_faces};
 pub use wire::{WireBody, WireOverride, WirePart, WireRelease, WireVariable};
