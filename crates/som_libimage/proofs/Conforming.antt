@@ -1,0 +1,91 @@
+-- In a release that conforms names differ.
+use Rattle.std.proofs.Common.{◌≡◌, ℕ, Bool, true, false, not, if◌then◌else◌, true≢false, List, [], ◌∷◌, ◌++◌, map, Option, Some, None, refl, sym, ap, subst, ◌∙◌}
+use Rattle.std.specs.Prelude.{flat_map}
+use Rattle.std.specs.List.{AllByRecursion}
+use Rattle.std.specs.Str.{bytes_eq}
+use Rattle.std.proofs.lemmas.List.Concat.{flat_map-cons}
+use Rattle.std.proofs.lemmas.List.Elements.{All-from_recursion}
+use Rattle.som_model.specs.declared.key.Module.TheVariants as modules
+use Rattle.som_model.specs.declared.class.ClassFace.{ClassFace}
+use Rattle.som_model.specs.declared.class.ClassDecl.{ClassDecl}
+use Rattle.som_model.specs.declared.program.Release.{Release}
+use Rattle.som_model.specs.Lists.{some, among, doubles, first, or_else}
+use Rattle.som_model.specs.Class.{Class, class_in, entry_name, interface_of}
+use Rattle.som_model.specs.Kernel.{kernel}
+use Rattle.som_model.specs.Rules.{Breach, name_of, breach, s1, s6}
+use Rattle.som_model.specs.Conforming.{each_after, release_breach, ReleaseOk}
+use Rattle.som_libimage.specs.Libraries.{Differ, NamesDiffer}
+
+-- ---- nothing is broken
+
+neither_is : {A : Type 0} (a b : Option A) → or_else a b ≡ None → (a ≡ None) × (b ≡ None)
+neither_is None b h = (refl, h)
+neither_is (Some x) b h = absurd cc
+
+none_first : {A : Type 0} (xs : List A) → first xs ≡ None → xs ≡ []
+none_first [] h = refl
+none_first (x ∷ xs) h = absurd cc
+
+both_empty : {A : Type 0} (xs ys : List A) → xs ++ ys ≡ [] → (xs ≡ []) × (ys ≡ [])
+both_empty [] ys h = (refl, h)
+both_empty (x ∷ xs) ys h = absurd cc
+
+none_mapped : {A B : Type 0} (f : A → B) (xs : List A) → map f xs ≡ [] → xs ≡ []
+none_mapped f [] h = refl
+none_mapped f (x ∷ xs) h = absurd cc
+
+-- a demand that isn't broken
+not_broken : (b : Bool) (x : Breach) → (if not b then [] else x ∷ []) ≡ [] → b ≡ false
+not_broken false x h = refl
+not_broken true x h = absurd cc
+
+-- ---- names of classes
+
+rest : (b c : Bool) → (if b then true else c) ≡ false → c ≡ false
+rest true c h = absurd (true≢false h)
+rest false c h = h
+
+some_back : {A : Type 0} (test : A → Bool) (xs ys : List A) → some test (xs ++ ys) ≡ false → some test ys ≡ false
+some_back test [] ys h = h
+some_back test (x ∷ xs) ys h = some_back test xs ys (rest (test x) (some test (xs ++ ys)) h)
+
+names_joined : (cs : List Class) (c : Class) → map name_of (cs ++ c ∷ []) ≡ map name_of cs ++ name_of c ∷ []
+names_joined [] c = refl
+names_joined (b ∷ cs) c = ap (λ (ns : List (List ℕ)). name_of b ∷ ns) (names_joined cs c)
+
+abbrev own : ClassDecl → Class
+own = class_in modules.Library
+
+abbrev class_names : List ClassDecl → List (List ℕ)
+class_names ds = map (λ (f : ClassFace). f.name) (map (λ (c : ClassDecl). c.face) ds)
+
+-- after the kernel's classes and those that were seen
+names_differ : (seen : List Class) (ds : List ClassDecl) → each_after s1 (kernel ++ seen) (map own ds) ≡ [] → doubles bytes_eq (map name_of seen) (class_names ds) ≡ []
+names_differ seen [] h = refl
+names_differ seen (c ∷ ds) h =
+    let name : List ℕ = c.face.name in
+    let b = both_empty (s1 (kernel ++ seen) (own c)) (each_after s1 (kernel ++ (seen ++ own c ∷ [])) (map own ds)) h in
+    let new : among name (map name_of kernel ++ map name_of seen) ≡ false = not_broken (among name (map name_of kernel ++ map name_of seen)) _ b.0 in
+    let fresh : some (bytes_eq name) (map name_of seen) ≡ false = some_back (bytes_eq name) (map name_of kernel) (map name_of seen) new in
+    let later = subst (λ (ns : List (List ℕ)). doubles bytes_eq ns (class_names ds) ≡ []) (names_joined seen (own c)) (names_differ (seen ++ own c ∷ []) ds b.1) in
+    ap (λ (x : Bool). if x then name ∷ doubles bytes_eq (map name_of seen) (class_names ds) else doubles bytes_eq (map name_of seen ++ name ∷ []) (class_names ds)) fresh ∙ later
+
+-- ---- names of entries
+
+entries_differ : (ds : List ClassDecl) → flat_map s6 (map own ds) ≡ [] → AllByRecursion (λ (f : ClassFace). Differ (map entry_name f.entries)) (map (λ (c : ClassDecl). c.face) ds)
+entries_differ [] h = tt
+entries_differ (c ∷ ds) h =
+    let b = both_empty (s6 (own c)) (flat_map s6 (map own ds)) (sym (flat_map-cons s6 (own c) (map own ds)) ∙ h) in
+    (none_mapped (breach 6 (own c)) (doubles bytes_eq [] (map entry_name c.face.entries)) b.0, entries_differ ds b.1)
+
+pub conforming_names : (r : Release) → ReleaseOk r → NamesDiffer (interface_of r).classes
+conforming_names r ok =
+    let names = neither_is _ _ ok.rules in
+    let s1_holds = neither_is _ _ names.0 in
+    let others = neither_is _ _ names.1 in
+    let members = neither_is _ _ others.1 in
+    let s6_holds = neither_is _ _ members.0 in
+    record {
+      classes = names_differ [] r.classes (none_first (each_after s1 kernel (map own r.classes)) s1_holds.0);
+      entries = All-from_recursion (λ (f : ClassFace). Differ (map entry_name f.entries)) (map (λ (c : ClassDecl). c.face) r.classes) (entries_differ r.classes (none_first (flat_map s6 (map own r.classes)) s6_holds.0));
+    }

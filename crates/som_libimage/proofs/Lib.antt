@@ -1,0 +1,13 @@
+pub mod PartFields
+pub mod EachFields
+pub mod LibraryFields
+pub mod Naming
+pub mod Places
+pub mod Spelled
+pub mod Numbers
+pub mod NamedFaces
+pub mod NamedParts
+pub mod NamedReleases
+pub mod Decoded
+pub mod NamedInterfaces
+pub mod Conforming

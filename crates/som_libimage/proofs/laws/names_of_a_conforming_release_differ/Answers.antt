@@ -1,0 +1,5 @@
+use Rattle.som_libimage.proofs.Conforming.{conforming_names}
+use Rattle.som_libimage.proofs.laws.names_of_a_conforming_release_differ.Goals as goal
+
+pub returns : goal.returns
+returns c = conforming_names

@@ -1,0 +1,123 @@
+ghost use Rattle.som_libimage.specs.Naming.{
+  kernel_directory,
+  key_at,
+  method_named,
+  name_in,
+  names_in,
+  ranges_in,
+  with_classes,
+};
+ghost use Rattle.som_model.specs.Class.{entry_name};
+ghost use Rattle.som_wire.specs.Spelling.{FitsMethod};
+ghost use Rattle.std.specs.Prelude.{◌≡◌, ◌<◌, length, map, IfOk, OnOk};
+
+use som_model::{ClassKey, Entry, List, MethodRef, Module, NoMemory, Text, kernel_faces};
+use som_wire::{WireEntry, WireFace, WireMethod};
+use std::alloc::Global;
+
+/// What class numbers and slots stand for: the key of each class, and the names of its entries.
+#[derive(Drop)]
+pub struct Directory {
+    pub keys: List<ClassKey>,
+    pub slots: List<List<Text>>,
+}
+
+impl Directory {
+    /// The kernel's classes.
+    pub fn of_kernel(alloc: Global) -> Result<Directory, NoMemory>
+        ensures { IfOk result (λ directory. directory ≡ kernel_directory) }
+    {
+        let kernel = kernel_faces(alloc)?;
+        let mut keys = List::new(alloc);
+        let mut slots = List::new(alloc);
+        for face in kernel.classes.as_slice() {
+            keys.push(ClassKey::Named {
+                module: Module::Kernel,
+                name: face.name.copy(alloc)?,
+            })?;
+            slots.push(entry_names(alloc, &face.entries)?)?;
+        }
+        Ok(Directory { keys, slots })
+    }
+
+    /// Adds the classes of a module with these faces. After an error a part of them may have been added.
+    pub fn add(
+        &mut self,
+        alloc: Global,
+        home: Module,
+        faces: &List<WireFace>,
+    ) -> Result<(), NoMemory>
+        ensures { OnOk result (self.new ≡ with_classes self.old home faces.now) }
+    {
+        for face in faces.as_slice() {
+            self.keys.push(ClassKey::Named {
+                module: home,
+                name: face.name.copy(alloc)?,
+            })?;
+            self.slots.push(wire_names(alloc, &face.entries)?)?;
+        }
+        Ok(())
+    }
+
+    /// The name of a method.
+    pub fn method(&self, alloc: Global, method: WireMethod) -> Result<MethodRef, NoMemory>
+        requires { FitsMethod (ranges_in self.now) method }
+        ensures { IfOk result (λ named. named ≡ method_named self.now method) }
+    {
+        let names = &self.slots.as_slice()[method.class as usize];
+        Ok(MethodRef {
+            class: key_of(alloc, &self.keys, method.class)?,
+            name: names.as_slice()[method.slot as usize].copy(alloc)?,
+        })
+    }
+}
+
+/// The key of the class of a number.
+pub(crate) fn key_of(
+    alloc: Global,
+    keys: &List<ClassKey>,
+    number: u16,
+) -> Result<ClassKey, NoMemory>
+    requires { number < length keys.now }
+    ensures { IfOk result (λ key. key ≡ key_at keys.now number) }
+{
+    keys.as_slice()[number as usize].copy(alloc)
+}
+
+fn entry_names(alloc: Global, entries: &List<Entry>) -> Result<List<Text>, NoMemory>
+    ensures { IfOk result (λ names. names ≡ map entry_name entries.now) }
+{
+    let mut names = List::new(alloc);
+    for entry in entries.as_slice() {
+        names.push(kernel_name(alloc, entry)?)?;
+    }
+    Ok(names)
+}
+
+fn kernel_name(alloc: Global, entry: &Entry) -> Result<Text, NoMemory>
+    ensures { IfOk result (λ name. name ≡ entry_name entry.now) }
+{
+    match entry {
+        Entry::Introduced { name, .. } => name.copy(alloc),
+        Entry::Moved { name, .. } => name.copy(alloc),
+    }
+}
+
+fn wire_names(alloc: Global, entries: &List<WireEntry>) -> Result<List<Text>, NoMemory>
+    ensures { IfOk result (λ names. names ≡ map name_in entries.now) }
+{
+    let mut names = List::new(alloc);
+    for entry in entries.as_slice() {
+        names.push(wire_name(alloc, entry)?)?;
+    }
+    Ok(names)
+}
+
+fn wire_name(alloc: Global, entry: &WireEntry) -> Result<Text, NoMemory>
+    ensures { IfOk result (λ name. name ≡ name_in entry.now) }
+{
+    match entry {
+        WireEntry::Introduced { name, .. } => name.copy(alloc),
+        WireEntry::Moved { name, .. } => name.copy(alloc),
+    }
+}

@@ -1,0 +1,24 @@
+ghost use Rattle.som_libimage.specs.Libraries.{NamedFrom, NamesDiffer, interface_image};
+ghost use Rattle.som_libimage.specs.Naming.{interface_named};
+ghost use Rattle.som_libimage.specs.Spelling.{FitsFaces};
+ghost use Rattle.som_model.specs.Class.{interface_of};
+ghost use Rattle.som_model.specs.Conforming.{ReleaseOk};
+ghost use Rattle.som_model.specs.declared.program.Interface.{Interface};
+ghost use Rattle.som_model.specs.declared.program.Release.{Release};
+ghost use Rattle.som_wire.specs.Spelling as wire;
+ghost use Rattle.std.specs.Int.{w16};
+ghost use Rattle.std.specs.Prelude.{◌≡◌, ℕ, List, Some};
+
+/// In a release that conforms names differ. So the image of a release that conforms and prints texts is decoded to it and
+/// to nothing else, and what decodes to a release that conforms is its image.
+pub fn names_of_a_conforming_release_differ()
+    ensures { (r : Release) → ReleaseOk r → NamesDiffer (interface_of r).classes }
+{}
+
+/// The faces that a client is compiled against are spelled as those with numbers that they are named from, where names
+/// differ; and whatever interface has a spelling is named from faces with numbers.
+pub fn named_faces_are_spelled()
+    ensures forth { (faces : _) → FitsFaces faces → NamesDiffer (interface_named faces).classes →
+        interface_image (interface_named faces) ≡ Some (wire.counted w16 wire.face faces) }
+    ensures back { (i : Interface) (bytes : List ℕ) → interface_image i ≡ Some bytes → NamedFrom i bytes }
+{}

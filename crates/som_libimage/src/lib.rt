@@ -1,0 +1,23 @@
+//! Library images: the bytes of a release, read from left to right.
+//!
+//! `decode` works in two steps. The bytes are read as a `WireRelease`, in which classes and methods go by their numbers and
+//! slots; then keys and names take their places. `specs/Reading.antt` says which fault is the first, `specs/Naming.antt` what
+//! numbers stand for.
+#![tactic(auto)]
+
+mod block;
+mod directory;
+mod head;
+mod laws;
+mod library;
+mod named_face;
+mod named_part;
+mod part;
+mod release;
+mod wire;
+
+pub use directory::Directory;
+pub use laws::{named_faces_are_spelled, names_of_a_conforming_release_differ};
+pub use library::decode;
+pub use named_face::{name_face, name_faces};
+pub use wire::{WireBody, WireOverride, WirePart, WireRelease, WireVariable};

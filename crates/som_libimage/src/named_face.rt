@@ -1,0 +1,155 @@
+ghost use Rattle.som_libimage.specs.Naming.{
+  entry_named,
+  face_named,
+  key_at,
+  kind_named,
+  metaclass_named,
+  sig_named,
+};
+ghost use Rattle.som_wire.specs.Spelling.{FitsEntry, FitsFace, FitsKind, FitsSig};
+ghost use Rattle.std.specs.Prelude.{◌≡◌, ◌<◌, ℕ, true, false, length, map, All, IfOk, IfSome};
+
+use crate::directory::key_of;
+use som_model::{ClassFace, ClassKey, Entry, List, NoMemory, Sig, ValueType};
+use som_wire::{WireEntry, WireFace, WireSig, WireType};
+use std::alloc::Global;
+
+/// The type that a type of an image stands for.
+pub(crate) fn name_kind(
+    alloc: Global,
+    keys: &List<ClassKey>,
+    kind: &WireType,
+) -> Result<ValueType, NoMemory>
+    requires { FitsKind (length keys.now) true kind.now }
+    ensures { IfOk result (λ named. named ≡ kind_named keys.now kind.now) }
+{
+    match *kind {
+        WireType::Void => Ok(ValueType::Void),
+        WireType::Long => Ok(ValueType::Long),
+        WireType::Boolean => Ok(ValueType::Boolean),
+        WireType::Str => Ok(ValueType::Str),
+        WireType::Class(number) => Ok(ValueType::Class(key_of(alloc, keys, number)?)),
+    }
+}
+
+#[tactic(auto, using(crate::proofs::Naming::as_result))]
+fn name_kinds(
+    alloc: Global,
+    keys: &List<ClassKey>,
+    kinds: &List<WireType>,
+) -> Result<List<ValueType>, NoMemory>
+    requires { All (FitsKind (length keys.now) false) kinds.now }
+    ensures { IfOk result (λ named. named ≡ map (kind_named keys.now) kinds.now) }
+{
+    let mut named = List::new(alloc);
+    for kind in kinds.as_slice() {
+        named.push(name_kind(alloc, keys, kind)?)?;
+    }
+    Ok(named)
+}
+
+fn name_sig(alloc: Global, keys: &List<ClassKey>, sig: &WireSig) -> Result<Sig, NoMemory>
+    requires { FitsSig (length keys.now) sig.now }
+    ensures { IfOk result (λ named. named ≡ sig_named keys.now sig.now) }
+{
+    Ok(Sig {
+        result: name_kind(alloc, keys, &sig.result)?,
+        params: name_kinds(alloc, keys, &sig.params)?,
+    })
+}
+
+fn name_entry(alloc: Global, keys: &List<ClassKey>, entry: &WireEntry) -> Result<Entry, NoMemory>
+    requires { FitsEntry (length keys.now) entry.now }
+    ensures { IfOk result (λ named. named ≡ entry_named keys.now entry.now) }
+{
+    match entry {
+        WireEntry::Introduced { name, sig, way } => Ok(Entry::Introduced {
+            name: name.copy(alloc)?,
+            sig: name_sig(alloc, keys, sig)?,
+            way: *way,
+        }),
+        WireEntry::Moved { name, to } => Ok(Entry::Moved {
+            name: name.copy(alloc)?,
+            to: key_of(alloc, keys, *to)?,
+        }),
+    }
+}
+
+fn name_entries(
+    alloc: Global,
+    keys: &List<ClassKey>,
+    entries: &List<WireEntry>,
+) -> Result<List<Entry>, NoMemory>
+    requires { All (FitsEntry (length keys.now)) entries.now }
+    ensures { IfOk result (λ named. named ≡ map (entry_named keys.now) entries.now) }
+{
+    let mut named = List::new(alloc);
+    for entry in entries.as_slice() {
+        named.push(name_entry(alloc, keys, entry)?)?;
+    }
+    Ok(named)
+}
+
+fn name_parents(
+    alloc: Global,
+    keys: &List<ClassKey>,
+    parents: &List<u16>,
+) -> Result<List<ClassKey>, NoMemory>
+    requires { All (λ n. n < length keys.now) parents.now }
+    ensures { IfOk result (λ named. named ≡ map (key_at keys.now) parents.now) }
+{
+    let mut named = List::new(alloc);
+    for &parent in parents.as_slice() {
+        named.push(key_of(alloc, keys, parent)?)?;
+    }
+    Ok(named)
+}
+
+fn name_metaclass(
+    alloc: Global,
+    keys: &List<ClassKey>,
+    metaclass: Option<u16>,
+) -> Result<Option<ClassKey>, NoMemory>
+    requires { IfSome metaclass (λ n. n < length keys.now) }
+    ensures { IfOk result (λ named. named ≡ metaclass_named keys.now metaclass) }
+{
+    match metaclass {
+        None => Ok(None),
+        Some(number) => Ok(Some(key_of(alloc, keys, number)?)),
+    }
+}
+
+/// The face that a face of an image stands for, where the class of each number has the key of that place.
+pub fn name_face(
+    alloc: Global,
+    keys: &List<ClassKey>,
+    face: &WireFace,
+) -> Result<ClassFace, NoMemory>
+    requires { FitsFace (length keys.now) face.now }
+    ensures { IfOk result (λ named. named ≡ face_named keys.now face.now) }
+{
+    Ok(ClassFace {
+        name: face.name.copy(alloc)?,
+        major: face.major,
+        minor: face.minor,
+        parents: name_parents(alloc, keys, &face.parents)?,
+        metaclass: name_metaclass(alloc, keys, face.metaclass)?,
+        entries: name_entries(alloc, keys, &face.entries)?,
+    })
+}
+
+/// The faces that faces of an image stand for.
+pub fn name_faces(
+    alloc: Global,
+    keys: &List<ClassKey>,
+    faces: &List<WireFace>,
+) -> Result<List<ClassFace>, NoMemory>
+    requires { All (FitsFace (length keys.now)) faces.now }
+    ensures { IfOk result (λ named. named ≡ map (face_named keys.now) faces.now) }
+{
+    let mut named = List::new(alloc);
+    for face in faces.as_slice() {
+        named.push(name_face(alloc, keys, face)?)?;
+    }
+    Ok(named)
+}

@@ -1,0 +1,139 @@
+ghost use Rattle.som_libimage.specs.Reading.{classes_at, each_at, faces_at, part_at, ranges_of, wire_at};
+ghost use Rattle.som_libimage.specs.Spelling.{FitsFaces, FitsRelease};
+ghost use Rattle.som_wire.specs.Fields.{Gives};
+ghost use Rattle.som_wire.specs.Reading.{face_at};
+ghost use Rattle.std.specs.Prelude.{◌≡◌, ◌≤◌, ◌+◌, ℕ, length, IfOk};
+
+use crate::head::read_head;
+use crate::part::read_part;
+use crate::wire::{WirePart, WireRelease};
+use som_model::{List, MAX_LIBRARY_CLASSES, NoMemory};
+use som_wire::{ImageFault, Ranges, Read, WireFace, read_face, read_many, read_u16};
+use std::alloc::Global;
+
+// How many entries the kernel's classes have.
+const KERNEL_ENTRIES: [u16; 4] = [9, 6, 1, 2];
+
+#[tactic(auto, unfolding(crate::specs::Reading::faces_at))]
+fn read_counted_faces(
+    alloc: Global,
+    bytes: &List<u8>,
+    place: usize,
+) -> Result<Read<List<WireFace>>, ImageFault>
+    requires { place ≤ length bytes.now }
+    ensures exact { Gives result (faces_at bytes.now place) }
+    ensures next { IfOk result (λ r. r.next ≤ length bytes.now) }
+{
+    let count = read_u16(bytes, place)?;
+    let faces = u32::from(count.value);
+    if faces > MAX_LIBRARY_CLASSES {
+        return Err(ImageFault::Number { offset: place });
+    }
+    let classes = count.value + 4;
+    read_many(
+        alloc,
+        bytes,
+        faces,
+        count.next,
+        |p: usize| -> Result<Read<WireFace>, ImageFault>
+            requires { p ≤ length bytes.now }
+            ensures exact { Gives result (face_at classes bytes.entry.now p) }
+            ensures next { IfOk result (λ r. r.next ≤ length bytes.entry.now) }
+        { read_face(alloc, bytes, p, classes) },
+    )
+}
+
+fn read_faces(
+    alloc: Global,
+    bytes: &List<u8>,
+    place: usize,
+) -> Result<Read<List<WireFace>>, ImageFault>
+    requires { place ≤ length bytes.now }
+    ensures exact { Gives result (faces_at bytes.now place) }
+    ensures next { IfOk result (λ r. r.next ≤ length bytes.now) }
+    ensures fits { IfOk result (λ r. FitsFaces r.value) }
+{
+    let _all = bytes.as_bytes();
+    read_counted_faces(alloc, bytes, place)
+}
+
+/// The ranges of methods in an image with these faces.
+pub(crate) fn ranges_of(alloc: Global, faces: &List<WireFace>) -> Result<Ranges, NoMemory>
+    requires { FitsFaces faces.now }
+    ensures { IfOk result (λ ranges. ranges ≡ ranges_of faces.now) }
+{
+    let mut entries = List::from_slice(alloc, &KERNEL_ENTRIES)?;
+    for face in faces.as_slice() {
+        entries.push(face.entries.len() as u16)?;
+    }
+    Ok(Ranges {
+        classes: faces.len() as u16 + 4,
+        entries,
+    })
+}
+
+fn read_parts(
+    alloc: Global,
+    bytes: &List<u8>,
+    place: usize,
+    faces: &List<WireFace>,
+) -> Result<Read<List<WirePart>>, ImageFault>
+    requires place { place ≤ length bytes.now }
+    requires faces { FitsFaces faces.now }
+    ensures exact { Gives result (each_at (λ face. part_at (ranges_of faces.now) face bytes.now) faces.now place) }
+    ensures next { IfOk result (λ r. r.next ≤ length bytes.now) }
+{
+    let ranges = ranges_of(alloc, faces)?;
+    let mut value = List::new(alloc);
+    let mut next = place;
+    for face in faces.as_slice() {
+        let part = read_part(alloc, bytes, next, &ranges, face)?;
+        value.push(part.value)?;
+        next = part.next;
+    }
+    Ok(Read { value, next })
+}
+
+#[tactic(auto, unfolding(crate::specs::Reading::classes_at))]
+fn read_classes(
+    alloc: Global,
+    bytes: &List<u8>,
+    place: usize,
+) -> Result<Read<WireRelease>, ImageFault>
+    requires { place ≤ length bytes.now }
+    ensures exact { Gives result (classes_at bytes.now place) }
+    ensures next { IfOk result (λ r. r.next ≤ length bytes.now) }
+{
+    let faces = read_faces(alloc, bytes, place)?;
+    let parts = read_parts(alloc, bytes, faces.next, &faces.value)?;
+    Ok(Read {
+        value: WireRelease {
+            faces: faces.value,
+            parts: parts.value,
+        },
+        next: parts.next,
+    })
+}
+
+/// Reads a whole library image, as it has it.
+pub(crate) fn read_release(alloc: Global, bytes: &List<u8>) -> Result<WireRelease, ImageFault>
+    ensures exact { Gives result (wire_at bytes.now) }
+    ensures fits { IfOk result (λ wire. FitsRelease wire) }
+{
+    let _all = bytes.as_bytes();
+    read_to_the_end(alloc, bytes)
+}
+
+#[tactic(auto, unfolding(crate::specs::Reading::wire_at))]
+fn read_to_the_end(alloc: Global, bytes: &List<u8>) -> Result<WireRelease, ImageFault>
+    ensures { Gives result (wire_at bytes.now) }
+{
+    let place = read_head(bytes)?;
+    let release = read_classes(alloc, bytes, place)?;
+    if release.next < bytes.len() {
+        return Err(ImageFault::Trailing {
+            offset: release.next,
+        });
+    }
+    Ok(release.value)
+}
