@@ -8,3 +8,7 @@ pub mod WalkLaw
 pub mod Listed
 pub mod KeyLists
 pub mod Once
+pub mod Before
+pub mod Descending
+pub mod Owners
+pub mod Inheriting

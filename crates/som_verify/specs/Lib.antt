@@ -4,3 +4,5 @@ pub mod Standing
 pub mod Walk
 pub mod Along
 pub mod Fitting
+pub mod Typed
+pub mod Inherited

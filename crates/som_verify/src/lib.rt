@@ -4,11 +4,16 @@
 mod ancestry;
 mod bodies;
 mod double;
+mod inherited;
 mod introduced;
 mod known;
 mod members;
+mod metaclasses;
+mod moved;
+mod overrides;
 mod parents;
 mod pass;
+mod signatures;
 mod table;
 mod types;
 
@@ -17,6 +22,10 @@ pub use bodies::bodies_fit;
 pub use introduced::names_introduced_once;
 pub use known::{type_is_known, type_is_of_value};
 pub use members::{entries_differ, parents_differ, variables_differ};
+pub use metaclasses::metaclasses_descend;
+pub use moved::entries_moved_up;
+pub use overrides::overrides_inherited;
 pub use parents::parents_stand;
+pub use signatures::types_known;
 pub use table::{class_names, find_class};
 pub use types::{Broken, VerifyFault};
