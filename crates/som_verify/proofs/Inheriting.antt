@@ -1,20 +1,15 @@
 -- Methods that come from proper ancestors, by places.
-use Rattle.std.proofs.Common.{◌≡◌, ℕ, zero, suc, ◌+◌, ◌<◌, ◌==◌, Bool, true, false, not, ◌&&◌, if◌then◌else◌, List, [], ◌∷◌, ◌++◌, map, length, drop, Option, Some, None, is_some, slice_index_or, refl, sym, ap, ◌∙◌, true≢false, arith}
-use Rattle.som_model.specs.Lists.{first, some}
+use Rattle.std.proofs.Common.{◌≡◌, ℕ, ◌<◌, ◌==◌, Bool, true, false, not, ◌&&◌, List, [], length, None, is_some, slice_index_or, refl, sym, ap, ◌∙◌, true≢false}
+use Rattle.som_model.specs.Lists.{some}
 use Rattle.som_model.specs.Keys.{same_key}
-use Rattle.som_model.specs.Class.{Class, entry_of, introduced_sig}
+use Rattle.som_model.specs.Class.{entry_of, introduced_sig}
 use Rattle.som_model.specs.Classes.{is_a}
-use Rattle.som_model.specs.Owner.{owner, introduces}
-use Rattle.som_model.specs.Rules.{Breach, breach, demand_of}
-use Rattle.som_model.specs.declared.key.MethodRef.{MethodRef}
-use Rattle.som_model.specs.declared.class.Override.{Override}
+use Rattle.som_model.specs.Owner.{introduces}
 use Rattle.som_model.specs.declared.key.ClassKey.{ClassKey}
 use Rattle.som_model.specs.declared.class.ClassDecl.{ClassDecl}
 use Rattle.som_verify.specs.Places.{all_classes, key_at, face_at, IsTable, Finds}
 use Rattle.som_verify.specs.Walk.{AreLists}
-use Rattle.som_verify.specs.declared.inherited.Method.{Method}
-use Rattle.som_verify.specs.Inherited.{inherits, may_override, method_of, overrides_from}
-use Rattle.som_verify.proofs.Numbering.{map_append}
+use Rattle.som_verify.specs.Inherited.{inherits}
 use Rattle.som_verify.proofs.KeyLists.{alike}
 use Rattle.som_verify.proofs.Descending.{is_a_place, is_a_none}
 use Rattle.som_verify.proofs.Owners.{entry_there}

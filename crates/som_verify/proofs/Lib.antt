@@ -12,3 +12,4 @@ pub mod Before
 pub mod Descending
 pub mod Owners
 pub mod Inheriting
+pub mod Conformity

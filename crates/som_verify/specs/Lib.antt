@@ -6,3 +6,5 @@ pub mod Along
 pub mod Fitting
 pub mod Typed
 pub mod Inherited
+pub mod Faces
+pub mod Printing
