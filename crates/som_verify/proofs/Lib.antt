@@ -13,3 +13,9 @@ pub mod Descending
 pub mod Owners
 pub mod Inheriting
 pub mod Conformity
+pub mod PlainLists
+pub mod PlainNames
+pub mod PlainMembers
+pub mod Falling
+pub mod PlainMoves
+pub mod PlainFaces
