@@ -29,7 +29,8 @@ pub fn is_prefix(old: &List<Entry>, new: &List<Entry>) -> Option<u16>
     None
 }
 
-fn name_of(entry: &Entry) -> &Text
+/// The name of an entry, introduced or moved.
+pub fn name_of(entry: &Entry) -> &Text
     ensures { result.now ≡ entry_name entry.now }
 {
     match entry {

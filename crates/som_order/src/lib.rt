@@ -8,7 +8,7 @@ mod names;
 #[cfg(test)]
 mod tests;
 
-pub use compare::{entry_at, is_prefix};
+pub use compare::{entry_at, is_prefix, name_of};
 pub use effective::effective_order;
 pub use laws::first_difference_law;
 pub use names::{find_name, note_name};

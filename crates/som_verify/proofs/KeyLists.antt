@@ -58,7 +58,7 @@ module _ (ds : List ClassDecl) (names : List (List ℕ)) (t : IsTable ds names) 
       let sum : a + 1 ≡ suc a = omega arith in
       ap (λ o. unwrap_or o 0) (place_first 1 (all_classes ds) (key_at (all_classes ds) a) a lt (earlier a lt) (exact_keys.one (key_at (all_classes ds) a))) ∙ sum
 
-  height_there : (a : ℕ) → a < length (all_classes ds) → suc a ≡ (hierarchy (all_classes ds)).height (key_at (all_classes ds) a)
+  pub height_there : (a : ℕ) → a < length (all_classes ds) → suc a ≡ (hierarchy (all_classes ds)).height (key_at (all_classes ds) a)
   height_there a lt =
       let name = name_at (map name_of (all_classes ds)) a in
       sym (

@@ -8,3 +8,14 @@ pub mod WalkLaw
 pub mod Listed
 pub mod KeyLists
 pub mod Once
+pub mod Before
+pub mod Descending
+pub mod Owners
+pub mod Inheriting
+pub mod Conformity
+pub mod PlainLists
+pub mod PlainNames
+pub mod PlainMembers
+pub mod Falling
+pub mod PlainMoves
+pub mod PlainFaces

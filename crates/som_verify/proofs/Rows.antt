@@ -117,7 +117,7 @@ take_map f xs zero = refl
 take_map f [] (suc i) = refl
 take_map f (x ∷ xs) (suc i) = ap (λ z. f x ∷ z) (take_map f xs i)
 
-take_front : (ds : List ClassDecl) (i : ℕ) → take (suc (suc (suc (suc i)))) (all_classes ds) ≡ front kernel ds i
+pub take_front : (ds : List ClassDecl) (i : ℕ) → take (suc (suc (suc (suc i)))) (all_classes ds) ≡ front kernel ds i
 take_front ds i = ap (λ z. kernel ++ z) (take_map of_library ds i)
 
 pub library_face : (ds : List ClassDecl) (i : ℕ) (d : ClassDecl) → i < length ds → face_at (of_release ds) i ≡ (slice_index_or ds i d).face
@@ -149,7 +149,7 @@ pub record RowsSoFar (ds : List ClassDecl) (i : ℕ) (rows : List (List ℕ)) : 
   pub same : first (each_after s2 (front kernel ds i) (of_release (drop i ds))) ≡ first (each_after s2 kernel (of_release ds))
   pub table : IsRows (all_classes ds) (suc (suc (suc (suc i)))) rows
 
-kernel_low : (i p : ℕ) → Mem p (slice_index_or kernel_rows i []) → p < i
+pub kernel_low : (i p : ℕ) → Mem p (slice_index_or kernel_rows i []) → p < i
 kernel_low zero p m = absurd m
 kernel_low (suc zero) p (inl e) = omega (arith, e)
 kernel_low (suc zero) p (inr m) = absurd m
@@ -159,7 +159,7 @@ kernel_low (suc (suc (suc zero))) p (inl e) = omega (arith, e)
 kernel_low (suc (suc (suc zero))) p (inr m) = absurd m
 kernel_low (suc (suc (suc (suc i)))) p m = absurd m
 
-kernel_by : (ds : List ClassDecl) (i : ℕ) → i < 4 → map (key_at (all_classes ds)) (slice_index_or kernel_rows i []) ≡ (face_at (all_classes ds) i).parents
+pub kernel_by : (ds : List ClassDecl) (i : ℕ) → i < 4 → map (key_at (all_classes ds)) (slice_index_or kernel_rows i []) ≡ (face_at (all_classes ds) i).parents
 kernel_by ds zero lt = refl
 kernel_by ds (suc zero) lt = refl
 kernel_by ds (suc (suc zero)) lt = refl

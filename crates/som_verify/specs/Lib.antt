@@ -4,3 +4,8 @@ pub mod Standing
 pub mod Walk
 pub mod Along
 pub mod Fitting
+pub mod Typed
+pub mod Inherited
+pub mod Faces
+pub mod Printing
+pub mod Plainly

@@ -8,7 +8,8 @@ ghost use Rattle.std.specs.Prelude.{◌≡◌, ◌<◌, length, flat_map, slice_
 use crate::double::{add, first_double, has_double};
 use crate::pass::{breach, each_class};
 use crate::types::VerifyFault;
-use som_model::{ClassDecl, Entry};
+use som_model::ClassDecl;
+use som_order::name_of;
 use std::alloc::Global;
 
 /// No parent stands twice.
@@ -53,7 +54,7 @@ fn own_entries_differ(alloc: Global, class: &ClassDecl) -> Result<(), VerifyFaul
 {
     let mut names = Vec::new(alloc);
     for entry in class.face.entries.as_slice() {
-        add(&mut names, name_of(entry))?;
+        add(&mut names, name_of(entry).as_slice())?;
     }
     match first_double(alloc, &names)? {
         None => Ok(()),
@@ -85,14 +86,5 @@ fn own_variables_differ(alloc: Global, class: &ClassDecl) -> Result<(), VerifyFa
     match first_double(alloc, &names)? {
         None => Ok(()),
         Some(name) => Err(breach(alloc, 7, class, name)?),
-    }
-}
-
-pub fn name_of(entry: &Entry) -> &[u8]
-    ensures { result.now ≡ entry_name entry.now }
-{
-    match entry {
-        Entry::Introduced { name, .. } => name.as_slice(),
-        Entry::Moved { name, .. } => name.as_slice(),
     }
 }

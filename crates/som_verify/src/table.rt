@@ -20,6 +20,9 @@ use std::alloc::Global;
 /// The number of the kernel's classes, which stand before those of the release.
 pub const KERNEL_CLASSES: usize = 4;
 
+/// The place of the class of classes.
+pub const SOM_CLASS: usize = 1;
+
 /// The names of the kernel's classes and of the release's, in order, if no two are one.
 pub fn class_names(alloc: Global, classes: &[ClassDecl]) -> Result<IndexSet<&[u8]>, VerifyFault>
     ensures tells { Tells (first (each_after s1 kernel (of_release classes.now))) result }

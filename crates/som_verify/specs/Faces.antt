@@ -1,0 +1,11 @@
+-- What the rules say of faces, variables and overrides.
+use Rattle.std.specs.Prelude.{◌++◌, List, flat_map, Option}
+use Rattle.som_model.specs.Lists.{first, or_else}
+use Rattle.som_model.specs.Class.{Class}
+use Rattle.som_model.specs.Kernel.{kernel}
+use Rattle.som_model.specs.Conforming.{first_of_names, first_of_members}
+use Rattle.som_model.specs.Rules.{Breach, s5}
+
+-- the first breach of the rules S1 to S10
+abbrev pub faces_breach : List Class → Option Breach
+faces_breach cs = or_else (first_of_names kernel cs) (or_else (first (flat_map (s5 (kernel ++ cs)) cs)) (first_of_members kernel cs))
