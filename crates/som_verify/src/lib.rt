@@ -3,6 +3,8 @@
 
 mod ancestry;
 mod bodies;
+#[cfg(test)]
+mod cases;
 mod double;
 mod inherited;
 mod introduced;
@@ -17,13 +19,15 @@ mod pass;
 mod release;
 mod signatures;
 mod table;
+#[cfg(test)]
+mod tests;
 mod types;
 
 pub use ancestry::ancestors;
 pub use bodies::bodies_fit;
 pub use introduced::names_introduced_once;
 pub use known::{type_is_known, type_is_of_value};
-pub use laws::{faces_law, parents_lower_law};
+pub use laws::{faces_law, parents_lower_law, rules_law};
 pub use members::{entries_differ, parents_differ, variables_differ};
 pub use metaclasses::metaclasses_descend;
 pub use moved::entries_moved_up;
