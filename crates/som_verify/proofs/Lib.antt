@@ -20,3 +20,4 @@ pub mod Falling
 pub mod PlainMoves
 pub mod PlainFaces
 pub mod PlainBodies
+pub mod Texts

@@ -51,7 +51,7 @@ pub fn release_ok(alloc: Global, release: &Release) -> Result<(), VerifyFault>
     rules_hold(alloc, release)
 }
 
-pub fn rules_hold(alloc: Global, release: &Release) -> Result<(), VerifyFault>
+fn rules_hold(alloc: Global, release: &Release) -> Result<(), VerifyFault>
     ensures { Tells (release_breach release.now) result }
 {
     let classes = release.classes.as_slice();

@@ -1,9 +1,10 @@
 use crate::cases::CASES;
-use crate::release::rules_hold;
+use crate::printing::prints_texts;
+use crate::release::release_ok;
 use crate::types::VerifyFault;
 use som_model::{
-    Block, Body, ClassDecl, ClassFace, ClassKey, Entry, List, MethodRef, Module, NoMemory,
-    Override, Release, Sig, Text, ValueType, Variable, Way,
+    Block, Body, ClassDecl, ClassFace, ClassKey, Entry, Expr, List, MethodRef, Module, NoMemory,
+    Override, Release, Sig, Stmt, Text, ValueType, Variable, Way,
 };
 use std::alloc::Global;
 use std::test::Fail;
@@ -62,14 +63,16 @@ fn overriding(alloc: Global, of: &str, name: &str) -> Result<Override, NoMemory>
             class: key(alloc, of)?,
             name: text(alloc, name)?,
         },
-        block: empty_block(alloc),
+        block: printing_block(alloc)?,
     })
 }
 
-fn empty_block(alloc: Global) -> Block {
-    Block {
-        statements: List::new(alloc),
-    }
+fn printing_block(alloc: Global) -> Result<Block, NoMemory> {
+    let mut statements = List::new(alloc);
+    statements.push(Stmt::Print {
+        value: Expr::Str(text(alloc, "wow")?),
+    })?;
+    Ok(Block { statements })
 }
 
 fn empty_class(alloc: Global) -> Result<ClassDecl, NoMemory> {
@@ -116,7 +119,7 @@ fn add(alloc: Global, class: &mut ClassDecl, words: &[&str]) -> Result<(), Fail>
             name: text(alloc, name)?,
             kind: kind(alloc, of)?,
         })?,
-        ["user"] => class.bodies.push(Body::User(empty_block(alloc)))?,
+        ["user"] => class.bodies.push(Body::User(printing_block(alloc)?))?,
         ["get", "0"] => class.bodies.push(Body::Get(0))?,
         ["set", "0"] => class.bodies.push(Body::Set(0))?,
         ["set", "1"] => class.bodies.push(Body::Set(1))?,
@@ -142,7 +145,11 @@ fn release(alloc: Global, short: &str) -> Result<Release, Fail> {
 
 // The first breach of a release, in words.
 fn first_breach(alloc: Global, short: &str) -> Result<String, Fail> {
-    match rules_hold(alloc, &release(alloc, short)?) {
+    let release = release(alloc, short)?;
+    if !prints_texts(&release) {
+        return Err(Fail::from("a block that prints no text"));
+    }
+    match release_ok(alloc, &release) {
         Ok(()) => Ok(format!(in alloc; "none")?),
         Err(VerifyFault::NoMemory) => Err(Fail::from("no memory")),
         Err(VerifyFault::Rule(b)) => {
