@@ -88,13 +88,12 @@ statement_back : (t bytes : List ℕ) → statement t ≡ Some bytes → (spelli
 statement_back t bytes e =
     let s = split (tag 0x08) (tag 0x21 then images.text t) bytes e in
     let u = split (tag 0x21) (images.text t) s.back s.second in
-    let x = text_back t u.back u.second in
-    (
+    let x = text_back t u.back u.second in (
       ap (λ (y : List ℕ). (0x08 ∷ []) ++ ((0x21 ∷ []) ++ y)) x.0
-      ∙ ap (λ (y : List ℕ). (0x08 ∷ []) ++ (y ++ u.back)) (bytes_are (0x21 ∷ []) u.front u.first)
-      ∙ ap (λ (y : List ℕ). (0x08 ∷ []) ++ y) u.whole
-      ∙ ap (λ (y : List ℕ). y ++ s.back) (bytes_are (0x08 ∷ []) s.front s.first)
-      ∙ s.whole,
+          ∙ ap (λ (y : List ℕ). (0x08 ∷ []) ++ (y ++ u.back)) (bytes_are (0x21 ∷ []) u.front u.first)
+          ∙ ap (λ (y : List ℕ). (0x08 ∷ []) ++ y) u.whole
+          ∙ ap (λ (y : List ℕ). y ++ s.back) (bytes_are (0x08 ∷ []) s.front s.first)
+          ∙ s.whole,
       x.1,
     )
 

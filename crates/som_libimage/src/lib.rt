@@ -14,6 +14,8 @@ mod named_face;
 mod named_part;
 mod part;
 mod release;
+#[cfg(test)]
+mod tests;
 mod wire;
 
 pub use directory::Directory;
