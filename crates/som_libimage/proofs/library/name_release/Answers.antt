@@ -11,6 +11,5 @@ use Rattle.som_libimage.proofs.library.name_release.Goals as goal
 pub name_classes-requires-clause-parts : goal.name_classes-requires-clause-parts
 name_classes-requires-clause-parts c =
     let faces = c.args.wire.now.faces in
-    let made : c.add.new.self ≡ library_directory faces = c.in_ok-add.ensures ∙ ap (λ (d : Directory). with_classes d modules.Library faces) c.in_ok-directory.ensures in
-    let same : ranges_of faces ≡ ranges_in c.add.new.self = sym (ap (λ (d : Directory). ranges_in d) made ∙ ranges_known faces) in
+    let same : ranges_of faces ≡ ranges_in c.in_ok-directory.directory = sym (ap (λ (d : Directory). ranges_in d) c.in_ok-directory.ensures ∙ ranges_known faces) in
     subst (λ (r : Ranges). FitEach (FitsPart r) faces c.args.wire.now.parts) same c.requires.parts
