@@ -1,10 +1,9 @@
 use Rattle.std.proofs.Common.{◌≡◌, sym, ap, subst, ◌∙◌}
-use Rattle.som_model.specs.declared.key.Module.TheVariants as modules
 use Rattle.som_wire.specs.declared.method.Ranges.{Ranges}
 use Rattle.som_libimage.specs.declared.directory.Directory.{Directory}
 use Rattle.som_libimage.specs.Spelling.{FitEach, FitsPart}
 use Rattle.som_libimage.specs.Reading.{ranges_of}
-use Rattle.som_libimage.specs.Naming.{ranges_in, library_directory, with_classes}
+use Rattle.som_libimage.specs.Naming.{ranges_in}
 use Rattle.som_libimage.proofs.Naming.{ranges_known}
 use Rattle.som_libimage.proofs.library.name_release.Goals as goal
 
