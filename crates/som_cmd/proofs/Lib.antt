@@ -1,9 +1,3 @@
-pub mod Spelled
-pub mod Doubles
-pub mod OneClass
-pub mod FirstMeaning
-pub mod Conforms
-pub mod ImageOf
-pub mod FirstLaws
-pub mod RunAnswers
-pub mod EndLaws
+mod FirstTexts
+mod LibraryLaws
+mod FuelLaws

@@ -1,7 +1,6 @@
 -- What a call prints and answers, and the files that it leaves, where neither store nor sink fails and memory lasts.
 use Rattle.std.specs.Prelude.{◌≡◌, ℕ, List, [], ◌∷◌, ◌++◌, Some, None, codes}
 use Rattle.std.specs.FinMap.{get}
-use Rattle.som_model.specs.declared.limits.TheConstants.{DEFAULT_FUEL}
 use Rattle.som_model.specs.declared.program.Release.{Release}
 use Rattle.som_model.specs.declared.program.ClientProgram.{ClientProgram}
 use Rattle.som_model.specs.Bytes.{Files}
@@ -12,7 +11,7 @@ use Rattle.som_cmd.specs.declared.stop.Refusal.{Refusal}
 use Rattle.som_cmd.specs.declared.stop.Why.TheVariants as why
 use Rattle.som_cmd.specs.Status.{status_of}
 use Rattle.som_cmd.specs.Words.{Asked, Run, Bad}
-use Rattle.som_cmd.specs.FirstImages.{IsFirstLibrary, IsFirstClient}
+use Rattle.som_first.specs.FirstImages.{IsFirstLibrary, IsFirstClient}
 use Rattle.som_cmd.specs.RunText.{run_text, run_status, no_trace}
 
 -- ---- lines
@@ -55,17 +54,17 @@ ran files run = record { text = run_text no_trace run; status = run_status run; 
 -- the client's image is read, the library's image is read, the faces are compared, and the client runs.
 pub data IsAnswer (files : Files) : Asked → Ending → Type 0 where
   bad_words : IsAnswer files Bad (record { text = bad_line; status = 2; files = files })
-  no_client : (c l : List ℕ) → get files c ≡ None → IsAnswer files (Run c l) (refusing files (absent c))
-  no_library : (c l cb : List ℕ) → get files c ≡ Some cb → get files l ≡ None → IsAnswer files (Run c l) (refusing files (absent l))
-  client_refused : (c l cb lb : List ℕ) → get files c ≡ Some cb → get files l ≡ Some lb
+  no_client : (c l : List ℕ) (fuel : ℕ) → get files c ≡ None → IsAnswer files (Run c l fuel) (refusing files (absent c))
+  no_library : (c l : List ℕ) (fuel : ℕ) (cb : List ℕ) → get files c ≡ Some cb → get files l ≡ None → IsAnswer files (Run c l fuel) (refusing files (absent l))
+  client_refused : (c l : List ℕ) (fuel : ℕ) (cb lb : List ℕ) → get files c ≡ Some cb → get files l ≡ Some lb
       → ((p : ClientProgram) → IsFirstClient cb p → ⊥)
-      → IsAnswer files (Run c l) (refusing files (no_image c))
-  library_refused : (c l cb lb : List ℕ) → get files c ≡ Some cb → get files l ≡ Some lb
+      → IsAnswer files (Run c l fuel) (refusing files (no_image c))
+  library_refused : (c l : List ℕ) (fuel : ℕ) (cb lb : List ℕ) → get files c ≡ Some cb → get files l ≡ Some lb
       → (p : ClientProgram) → IsFirstClient cb p → ((r : Release) → IsFirstLibrary lb r → ⊥)
-      → IsAnswer files (Run c l) (refusing files (no_image l))
-  faces_differ : (c l cb lb : List ℕ) → get files c ≡ Some cb → get files l ≡ Some lb
+      → IsAnswer files (Run c l fuel) (refusing files (no_image l))
+  faces_differ : (c l : List ℕ) (fuel : ℕ) (cb lb : List ℕ) → get files c ≡ Some cb → get files l ≡ Some lb
       → (p : ClientProgram) → IsFirstClient cb p → (r : Release) → IsFirstLibrary lb r → (p.base ≡ interface_of r → ⊥)
-      → IsAnswer files (Run c l) (refusing files (not_same l))
-  runs : (c l cb lb : List ℕ) → get files c ≡ Some cb → get files l ≡ Some lb
+      → IsAnswer files (Run c l fuel) (refusing files (not_same l))
+  runs : (c l : List ℕ) (fuel : ℕ) (cb lb : List ℕ) → get files c ≡ Some cb → get files l ≡ Some lb
       → (p : ClientProgram) → IsFirstClient cb p → (r : Release) → IsFirstLibrary lb r → p.base ≡ interface_of r
-      → IsAnswer files (Run c l) (ran files (means r p DEFAULT_FUEL))
+      → IsAnswer files (Run c l fuel) (ran files (means r p fuel))

@@ -18,7 +18,7 @@ Has (Some files) name = (bytes : List ℕ) × (get files name ≡ Some bytes)
 
 -- the line says that the get of a name failed which the command gets, and no step before that get refuses
 abbrev pub FailsOn : Option Files → Asked → List ℕ → Type 0
-FailsOn files (Run client library) line = (line ≡ store_failed client) ⊎ ((line ≡ store_failed library) × Has files client)
+FailsOn files (Run client library fuel) line = (line ≡ store_failed client) ⊎ ((line ≡ store_failed library) × Has files client)
 FailsOn files Bad line = ⊥
 
 abbrev pub StopHasCause : (List ℕ → Type 0) → ℕ → ℕ → Stop → Type 0

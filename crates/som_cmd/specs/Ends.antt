@@ -1,14 +1,13 @@
 -- How a call may end.
 use Rattle.std.specs.Prelude.{◌≡◌, ◌⊎◌, ℕ, List, Option, Some, None}
 use Rattle.std.specs.FinMap.{get}
-use Rattle.som_model.specs.declared.limits.TheConstants.{DEFAULT_FUEL}
 use Rattle.som_model.specs.declared.program.Release.{Release}
 use Rattle.som_model.specs.declared.program.ClientProgram.{ClientProgram}
 use Rattle.som_model.specs.Bytes.{Files}
 use Rattle.som_model.specs.Class.{interface_of}
 use Rattle.som_model.specs.Means.{means}
 use Rattle.som_io.specs.Outside.{Rose, ShowsAll, ShowsFront}
-use Rattle.som_cmd.specs.FirstImages.{IsFirstLibrary, IsFirstClient}
+use Rattle.som_first.specs.FirstImages.{IsFirstLibrary, IsFirstClient}
 use Rattle.som_cmd.specs.RunText.{run_text, run_status, no_trace}
 use Rattle.som_cmd.specs.Words.{Asked, Run}
 use Rattle.som_cmd.specs.Answer.{Ending, IsAnswer}
@@ -41,13 +40,13 @@ ShowsSome asked (Some files) before now old new =
     ((told : Ending) × IsAnswer files asked told × ShowsFront old new told.text)
     ⊎ (Rose before now × (line : List ℕ) × FailsOn (Some files) asked line × ShowsFront old new line)
 
--- the store holds the image of a client and that of the release that it was compiled against
-pub record AreImagesOf (asked : Asked) (files : Option Files) (p : ClientProgram) (r : Release) : Type 0 where
+-- a run with so much fuel is asked for, and the store holds the image of a client and that of the release that it was compiled against
+pub record AreImagesOf (asked : Asked) (files : Option Files) (p : ClientProgram) (r : Release) (fuel : ℕ) : Type 0 where
   pub told : Files
   pub files_are : files ≡ Some told
   pub client : List ℕ
   pub library : List ℕ
-  pub asked_is : asked ≡ Run client library
+  pub asked_is : asked ≡ Run client library fuel
   pub client_bytes : List ℕ
   pub client_is : get told client ≡ Some client_bytes
   pub library_bytes : List ℕ
@@ -57,6 +56,6 @@ pub record AreImagesOf (asked : Asked) (files : Option Files) (p : ClientProgram
   pub compiled : p.base ≡ interface_of r
 
 -- what was written is the text of what the client means among the classes of the release, and the status is that meaning's
-pub record RunsAs (p : ClientProgram) (r : Release) (status : ℕ) (old new : Option (List ℕ)) : Type 0 where
-  pub text : ShowsAll old new (run_text no_trace (means r p DEFAULT_FUEL))
-  pub status_is : status ≡ run_status (means r p DEFAULT_FUEL)
+pub record RunsAs (p : ClientProgram) (r : Release) (fuel : ℕ) (status : ℕ) (old new : Option (List ℕ)) : Type 0 where
+  pub text : ShowsAll old new (run_text no_trace (means r p fuel))
+  pub status_is : status ≡ run_status (means r p fuel)

@@ -1,10 +1,2 @@
-pub mod Names
-pub mod Reading
-pub mod FirstImages
-pub mod RunText
 pub mod Words
-pub mod Status
-pub mod Answer
-pub mod RunSteps
-pub mod Cause
-pub mod Ends
+pub mod Taking

@@ -11,4 +11,4 @@ status_of why.Absent = 7
 
 -- the statuses that come where neither store nor sink fails
 abbrev pub is_calm_status : ℕ → Bool
-is_calm_status n = (n == 0) || (n == 2) || (n == 4) || (n == 5) || (n == 7) || (n == 10)
+is_calm_status n = (n == 0) || (n == 2) || (n == 4) || (n == 5) || (n == 7) || (n == 9) || (n == 10)

@@ -1,21 +1,55 @@
 -- The forms of the words.
-use Rattle.std.specs.Prelude.{ℕ, List, [], ◌∷◌, ◌&&◌, not, length, codes, ◌==◌, if◌then◌else◌}
+use Rattle.std.specs.Prelude.{ℕ, ◌+◌, ◌-◌, ◌*◌, List, [], ◌∷◌, ◌&&◌, Bool, true, false, not, length, codes, ◌==◌, nat_le, nat_lt, Option, Some, None, if◌then◌else◌}
 use Rattle.std.specs.Str.{bytes_eq}
+use Rattle.som_model.specs.declared.limits.TheConstants.{DEFAULT_FUEL, MAX_FUEL}
+use Rattle.som_model.specs.Lists.{every}
 use Rattle.som_cmd.specs.declared.words.Command.{Command}
 use Rattle.som_cmd.specs.declared.words.Command.TheVariants as commands
 
--- what words ask for: to run a client image on a library image; or they have no form
+-- what words ask for: to run a client image on a library image with so much fuel; or they have no form
 pub data Asked : Type 0 where
-  Run : (client library : List ℕ) → Asked
+  Run : (client library : List ℕ) (fuel : ℕ) → Asked
   Bad : Asked
 
 -- what a command of the code asks for
 abbrev pub asked_by : Command → Asked
-asked_by (commands.Run client library) = Run client.now library.now
+asked_by (commands.Run client library fuel) = Run client.now library.now fuel
 asked_by commands.Bad = Bad
 
--- `run CLIENT LIBRARY`, where neither name is empty
+abbrev pub is_digit : ℕ → Bool
+is_digit d = nat_le 48 d && nat_le d 57
+
+-- the value of decimal digits that follow a number
+abbrev pub value_after : ℕ → List ℕ → ℕ
+value_after n [] = n
+value_after n (d ∷ ds) = value_after (n * 10 + (d - 48)) ds
+
+-- a zero before other digits
+abbrev pub leads_with_zero : List ℕ → Bool
+leads_with_zero [] = false
+leads_with_zero (d ∷ ds) = (d == 48) && not (length ds == 0)
+
+-- a number is some digits, with no zero before them
+abbrev pub is_number : List ℕ → Bool
+is_number word = not (length word == 0) && not (leads_with_zero word) && every is_digit word
+
+-- the number of a word that is one, of at most as much fuel as may be asked for
+abbrev pub fuel_of : List ℕ → Option ℕ
+fuel_of word = if is_number word && nat_le (value_after 0 word) MAX_FUEL then Some (value_after 0 word) else None
+
+-- the fuel that the words after the names ask for: `--fuel N`, or nothing
+abbrev pub fuel_in : List (List ℕ) → Option ℕ
+fuel_in [] = Some DEFAULT_FUEL
+fuel_in (flag ∷ word ∷ []) = if bytes_eq flag (codes "--fuel") then fuel_of word else None
+fuel_in _ = None
+
+-- a run with this fuel, if there is one
+abbrev pub run_with : List ℕ → List ℕ → Option ℕ → Asked
+run_with client library None = Bad
+run_with client library (Some fuel) = Run client library fuel
+
+-- `run CLIENT LIBRARY` or `run CLIENT LIBRARY --fuel N`, where neither name is empty
 abbrev pub asked : List (List ℕ) → Asked
-asked (word ∷ client ∷ library ∷ []) =
-    if bytes_eq word (codes "run") && not (length client == 0) && not (length library == 0) then Run client library else Bad
+asked (word ∷ client ∷ library ∷ rest) =
+    if bytes_eq word (codes "run") && not (length client == 0) && not (length library == 0) then run_with client library (fuel_in rest) else Bad
 asked words = Bad

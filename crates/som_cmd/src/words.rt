@@ -1,13 +1,17 @@
-ghost use Rattle.som_cmd.specs.Words.{asked, asked_by};
+ghost use Rattle.som_cmd.specs.Words.{asked, asked_by, fuel_in, fuel_of, is_digit, leads_with_zero};
 ghost use Rattle.std.specs.Str.{bytes_eq};
 ghost use Rattle.std.specs.Prelude.{◌≡◌, codes};
 
-use som_model::{List, Text};
+use som_model::{DEFAULT_FUEL, List, MAX_FUEL, Text};
 
 /// What the words ask for. The names are lent by the words.
 #[derive(Clone, Copy)]
 pub enum Command<'a> {
-    Run { client: &'a Text, library: &'a Text },
+    Run {
+        client: &'a Text,
+        library: &'a Text,
+        fuel: u32,
+    },
     /// The words have no form.
     Bad,
 }
@@ -18,14 +22,77 @@ fn is_run(word: &Text) -> bool
     word.is(b"run")
 }
 
+fn leads_with_zero(digits: &[u8]) -> bool
+    ensures { result ≡ leads_with_zero digits.now }
+{
+    match digits {
+        [first, rest @ ..] => *first == b'0' && !rest.is_empty(),
+        [] => false,
+    }
+}
+
+fn is_digit(byte: u8) -> bool
+    ensures { result ≡ is_digit byte }
+{
+    byte >= b'0' && byte <= b'9'
+}
+
+// The number of a word of decimal digits, if it isn't too great a fuel.
+fn value_of(digits: &[u8]) -> Option<u32>
+    ensures { result ≡ fuel_of digits.now }
+{
+    if digits.is_empty() || leads_with_zero(digits) {
+        return None;
+    }
+    let mut value: u64 = 0;
+    for digit in digits {
+        if !is_digit(*digit) {
+            return None;
+        }
+        if value > u64::from(MAX_FUEL) {
+            return None;
+        }
+        value = value * 10 + u64::from(*digit - b'0');
+    }
+    if value <= u64::from(MAX_FUEL) {
+        Some(value as u32)
+    } else {
+        None
+    }
+}
+
+// The fuel that the words after the names ask for.
+fn fuel_in(words: &[Text]) -> Option<u32>
+    ensures { result ≡ fuel_in words.now }
+{
+    match words {
+        [] => Some(DEFAULT_FUEL),
+        [flag, word] => {
+            if flag.is(b"--fuel") {
+                value_of(word.as_slice())
+            } else {
+                None
+            }
+        }
+        _ => None,
+    }
+}
+
 /// The command of these words.
 pub fn command_of(words: &List<Text>) -> Command<'_>
     ensures { asked_by result ≡ asked words.now }
 {
     match words.as_slice() {
-        [word, client, library] => {
+        [word, client, library, rest @ ..] => {
             if is_run(word) && !client.is_empty() && !library.is_empty() {
-                Command::Run { client, library }
+                match fuel_in(rest) {
+                    Some(fuel) => Command::Run {
+                        client,
+                        library,
+                        fuel,
+                    },
+                    None => Command::Bad,
+                }
             } else {
                 Command::Bad
             }

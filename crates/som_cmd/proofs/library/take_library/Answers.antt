@@ -1,0 +1,16 @@
+use Rattle.std.proofs.Common.{◌∙◌, ap, refl, sym, Err}
+use Rattle.som_cmd.proofs.LibraryLaws.{none_conforming, taken, form_prints}
+use Rattle.som_cmd.proofs.library.take_library.Goals as goal
+
+pub release_ok-requires : goal.release_ok-requires
+release_ok-requires c = form_prints c.in_ok-first.first c.in_ok-release.release c.in_ok-first.ensures.made
+
+pub returns-in-Ok : goal.returns-in-Ok
+returns-in-Ok c = record {
+  is = c.in_ok-first.ensures.made;
+  image = taken c.args.bytes.now c.as_bytes-all.ensures.bytes c.in_ok-release.release c.in_ok-first.first c.in_ok-release.ensures c.in_ok-first.ensures.made c.in-Ok.ensures.conforms;
+  within = ?;
+}
+
+pub returns-in-Err-Rule : goal.returns-in-Err-Rule
+returns-in-Err-Rule c = none_conforming c.args.bytes.now c.in_ok-release.release c.in_ok-release.ensures (c.in-Err-Rule.ensures.refuses c.in-Err-Rule.field-0-0 (ap Err c.in-Err-Rule.field-0-is))
