@@ -20,4 +20,5 @@ pub use directory::Directory;
 pub use laws::{named_faces_are_spelled, names_of_a_conforming_release_differ};
 pub use library::decode;
 pub use named_face::{name_face, name_faces};
+pub use release::read_faces;
 pub use wire::{WireBody, WireOverride, WirePart, WireRelease, WireVariable};

@@ -43,7 +43,8 @@ fn read_counted_faces(
     )
 }
 
-fn read_faces(
+/// Reads the number of faces at a place, and the faces.
+pub fn read_faces(
     alloc: Global,
     bytes: &List<u8>,
     place: usize,
