@@ -1,0 +1,2 @@
+pub mod CallFields
+pub mod ClientFields
