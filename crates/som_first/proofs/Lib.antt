@@ -14,3 +14,4 @@ pub mod FirstMeans
 pub mod TypedCalls
 pub mod SameFaces
 pub mod FirstAnswered
+mod CallLaws

@@ -19,16 +19,16 @@ use Rattle.som_model.specs.Classes.{class_at, is_a}
 use Rattle.som_model.specs.Owner.{owner, sig_of}
 use Rattle.som_model.specs.Typing.{HasType, a_text, a_new, an_offset_call, IsTyped, prints_text, calls_by_offset}
 
-out_text : (t : List ℕ) → out-Expr (exprs.Str t) ≡ Expr-F.Str t
+pub out_text : (t : List ℕ) → out-Expr (exprs.Str t) ≡ Expr-F.Str t
 out_text t = ap out-Expr (sym (rolls-Str t)) ∙ out-roll-Expr (Expr-F.Str t)
 
-out_new : (k : ClassKey) → out-Expr (exprs.New k) ≡ Expr-F.New k
+pub out_new : (k : ClassKey) → out-Expr (exprs.New k) ≡ Expr-F.New k
 out_new k = ap out-Expr (sym (rolls-New k)) ∙ out-roll-Expr (Expr-F.New k)
 
-out_call : (r : MethodRef) (e : Expr) (es : List Expr) → out-Expr (exprs.OffsetCall r e es) ≡ Expr-F.OffsetCall r e es
+pub out_call : (r : MethodRef) (e : Expr) (es : List Expr) → out-Expr (exprs.OffsetCall r e es) ≡ Expr-F.OffsetCall r e es
 out_call r e es = ap out-Expr (sym (rolls-OffsetCall r e es)) ∙ out-roll-Expr (Expr-F.OffsetCall r e es)
 
-out_print : (e : Expr) → out-Stmt (stmts.Print e) ≡ Stmt-F.Print e
+pub out_print : (e : Expr) → out-Stmt (stmts.Print e) ≡ Stmt-F.Print e
 out_print e = ap out-Stmt (sym (rolls-Print e)) ∙ out-roll-Stmt (Stmt-F.Print e)
 
 out_statement : (e : Expr) → out-Stmt (stmts.Call e) ≡ Stmt-F.Call e

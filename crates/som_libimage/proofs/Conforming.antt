@@ -13,7 +13,7 @@ use Rattle.som_model.specs.Lists.{some, among, doubles, first, or_else}
 use Rattle.som_model.specs.Class.{Class, class_in, entry_name, interface_of}
 use Rattle.som_model.specs.Kernel.{kernel}
 use Rattle.som_model.specs.Rules.{Breach, name_of, breach, s1, s6}
-use Rattle.som_model.specs.Conforming.{each_after, release_breach, ReleaseOk}
+use Rattle.som_model.specs.Conforming.{each_after, ReleaseOk}
 use Rattle.som_libimage.specs.Libraries.{Differ, NamesDiffer}
 
 -- ---- nothing is broken

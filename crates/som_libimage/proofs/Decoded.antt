@@ -1,5 +1,5 @@
 -- What reading a library image answers.
-use Rattle.std.proofs.Common.{◌≡◌, ℕ, List, Some, Result, Ok, Err, refl, sym, ap, subst, ◌∙◌}
+use Rattle.std.proofs.Common.{◌≡◌, ℕ, List, Some, Result, Ok, Err, sym, ap, subst, ◌∙◌}
 use Rattle.std.specs.Prelude.{IfOk}
 use Rattle.som_model.specs.declared.program.Release.{Release}
 use Rattle.som_model.specs.Bytes.{AreBytes}
@@ -11,7 +11,6 @@ use Rattle.som_wire.specs.Fields.{Gives}
 use Rattle.som_wire.proofs.Parts.{bind_ok}
 use Rattle.som_libimage.specs.declared.wire.WireRelease.{WireRelease}
 use Rattle.som_libimage.specs.Reading.{wire_at}
-use Rattle.som_libimage.specs.Spelling.{library}
 use Rattle.som_libimage.specs.Naming.{release_named}
 use Rattle.som_libimage.specs.Libraries.{NamesDiffer, PrintTexts, library_at}
 use Rattle.som_libimage.proofs.LibraryFields.{wire_takes, wire_again}

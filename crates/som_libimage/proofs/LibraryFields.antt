@@ -1,11 +1,11 @@
 -- Reading a library image answers what the bytes spell, and nothing else.
-use Rattle.std.proofs.Common.{◌≡◌, ℕ, zero, suc, ◌+◌, ◌^◌, ◌<◌, ◌≤◌, Bool, true, false, cond, eqb, ltb, List, [], ◌∷◌, ◌++◌, length, drop, map, Result, Ok, Err, refl, sym, ap, subst, ◌∙◌, append_assoc, arith}
+use Rattle.std.proofs.Common.{◌≡◌, ℕ, zero, suc, ◌+◌, ◌^◌, ◌<◌, ◌≤◌, Bool, true, false, cond, eqb, ltb, List, [], ◌∷◌, ◌++◌, length, drop, map, Result, Ok, Err, refl, sym, ap, subst, ◌∙◌, arith}
 use Rattle.std.specs.Prelude.{nat_lt, nat_eq, codes, slice_index, All}
 use Rattle.std.specs.List.{flat_map, starts_with, AllByRecursion}
 use Rattle.std.specs.Int.{w8, w16}
 use Rattle.std.proofs.lemmas.Bool.{ltb-false, le-ltb, eqb-true}
 use Rattle.std.proofs.lemmas.Bool.Decides.{Decides-eqb}
-use Rattle.std.proofs.lemmas.List.{append-nil, drop-drop, length-drop, length-append}
+use Rattle.std.proofs.lemmas.List.{append-nil, length-append}
 use Rattle.std.proofs.lemmas.List.Elements.{recursion_from_All}
 use Rattle.std.proofs.lemmas.Slice.Eq.{starts_is}
 use Rattle.std.proofs.Math.Seq.{drop-length}
@@ -16,9 +16,8 @@ use Rattle.som_wire.specs.declared.fault.ImageFault.{ImageFault}
 use Rattle.som_wire.specs.declared.fault.ImageFault.TheVariants as faults
 use Rattle.som_wire.specs.declared.read.Read.{Read}
 use Rattle.som_wire.specs.declared.face.WireFace.{WireFace}
-use Rattle.som_wire.specs.declared.method.Ranges.{Ranges}
 use Rattle.som_wire.specs.Fields.{Stands, done, many_at}
-use Rattle.som_wire.specs.Spelling.{number, counted, FitsCounted, face, FitsFace, AreShort}
+use Rattle.som_wire.specs.Spelling.{number, counted, face, FitsFace, AreShort}
 use Rattle.som_wire.specs.Reading.{number_at, face_at}
 use Rattle.som_wire.proofs.Parts.{IsField, Stands-join, Stands-back, Stands-front, bind_ok, guard_no, guard_yes, came, took, went}
 use Rattle.som_wire.proofs.NumberFields.{byte_field, short_field}

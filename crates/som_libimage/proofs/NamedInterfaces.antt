@@ -1,10 +1,9 @@
 -- The faces of an interface are spelled as those that they are named from.
-use Rattle.std.proofs.Common.{◌≡◌, ℕ, ◌+◌, ◌<◌, ◌≤◌, Bool, List, [], ◌∷◌, ◌++◌, length, map, Some, refl, sym, ap, subst, ◌∙◌, arith}
-use Rattle.std.specs.Prelude.{nat_le, All}
-use Rattle.std.specs.List.{flat_map, AllByRecursion}
+use Rattle.std.proofs.Common.{◌≡◌, ℕ, ◌+◌, List, [], ◌∷◌, ◌++◌, length, map, Some, refl, sym, ap, subst, ◌∙◌, arith}
+use Rattle.std.specs.Prelude.{All}
+use Rattle.std.specs.List.{AllByRecursion}
 use Rattle.std.specs.Int.{w16}
-use Rattle.std.proofs.lemmas.List.{length-map}
-use Rattle.std.proofs.lemmas.List.Elements.{All-from_recursion, recursion_from_All}
+use Rattle.std.proofs.lemmas.List.Elements.{recursion_from_All}
 use Rattle.som_model.specs.declared.limits.TheConstants.{MAX_LIBRARY_CLASSES}
 use Rattle.som_model.specs.declared.key.Module.TheVariants as modules
 use Rattle.som_model.specs.declared.key.ClassKey.{ClassKey}
@@ -12,7 +11,6 @@ use Rattle.som_model.specs.declared.class.ClassFace.{ClassFace}
 use Rattle.som_model.specs.declared.program.Interface.{Interface}
 use Rattle.som_model.specs.Class.{Class, class_in, bare}
 use Rattle.som_model.specs.Kernel.{kernel}
-use Rattle.som_model.specs.Classes.{interface_classes}
 use Rattle.som_model.specs.Images as images
 use Rattle.som_wire.specs.declared.face.WireFace.{WireFace}
 use Rattle.som_wire.specs.Spelling as wire
@@ -22,7 +20,7 @@ use Rattle.som_libimage.specs.Spelling.{FitsFaces}
 use Rattle.som_libimage.specs.Naming.{names_in, kernel_directory, library_directory, face_named, interface_named}
 use Rattle.som_libimage.specs.Libraries.{NamesDiffer, interface_image, NamedFrom}
 use Rattle.som_libimage.proofs.Places.{all_map, all_of}
-use Rattle.som_libimage.proofs.Spelled.{Forth, From, Back, counted_forth, counted_back}
+use Rattle.som_libimage.proofs.Spelled.{Forth, Back, counted_forth, counted_back}
 use Rattle.som_libimage.proofs.Numbers.{entry_names, Tells, NoDoubles}
 use Rattle.som_libimage.proofs.NamedFaces.{face_forth, face_back}
 use Rattle.som_libimage.proofs.NamedReleases.{names_kept, distinct_of, library_key, as_many_keys, no_doubles, directory_of}

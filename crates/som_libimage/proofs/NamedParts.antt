@@ -1,6 +1,6 @@
 -- Parts with names are spelled as those with numbers are.
-use Rattle.std.proofs.Common.{◌≡◌, ℕ, zero, suc, ◌+◌, ◌^◌, ◌<◌, ◌≤◌, Bool, true, false, cond, eqb, List, [], ◌∷◌, ◌++◌, length, map, Some, refl, sym, ap, subst, ◌∙◌, append_assoc, arith}
-use Rattle.std.specs.Prelude.{nat_lt, ◌==◌, All, slice_index}
+use Rattle.std.proofs.Common.{◌≡◌, ℕ, zero, suc, ◌+◌, ◌^◌, ◌<◌, Bool, true, cond, eqb, List, [], ◌∷◌, ◌++◌, length, map, Some, refl, sym, ap, subst, ◌∙◌, arith}
+use Rattle.std.specs.Prelude.{nat_lt}
 use Rattle.std.specs.List.{flat_map, count_by, AllByRecursion}
 use Rattle.std.specs.Int.{w8, w16, w32, to_be_bytes}
 use Rattle.std.proofs.lemmas.Bool.{ltb-true, lt-ltb, eqb-true}
@@ -23,7 +23,6 @@ use Rattle.som_model.specs.declared.syntax.Stmt.TheOpen.{Stmt-F}
 use Rattle.som_model.specs.declared.syntax.Block.{Block, fold-roll-Block}
 use Rattle.som_model.specs.declared.class.Body.{Body}
 use Rattle.som_model.specs.declared.class.Body.TheVariants as named_bodies
-use Rattle.som_model.specs.declared.class.Entry.{Entry}
 use Rattle.som_model.specs.declared.class.Variable.{Variable}
 use Rattle.som_model.specs.declared.class.Override.{Override}
 use Rattle.som_model.specs.declared.class.ClassFace.{ClassFace}
@@ -47,7 +46,7 @@ use Rattle.som_libimage.specs.declared.directory.Directory.{Directory}
 use Rattle.som_libimage.specs.Reading.{is_introduced}
 use Rattle.som_libimage.specs.Spelling as spelling
 use Rattle.som_libimage.specs.Spelling.{FitsBlock, FitsVariable, FitsBody, FitsOverride, FitsPart}
-use Rattle.som_libimage.specs.Naming.{kind_named, entry_named, face_named, print_of, block_named, variable_named, body_named, method_named, override_named, class_named, ranges_in}
+use Rattle.som_libimage.specs.Naming.{kind_named, entry_named, face_named, print_of, block_named, variable_named, body_named, override_named, class_named, ranges_in}
 use Rattle.som_libimage.specs.Libraries.{PrintsTexts, BodyPrints, ClassPrints}
 use Rattle.som_libimage.proofs.Places.{all_map, all_of}
 use Rattle.som_libimage.proofs.Spelled.{some_bytes, bytes_are, split, guarded, Forth, From, Back, each_forth, counted_forth, counted_back, text_forth, text_back}
@@ -88,13 +87,12 @@ statement_back : (t bytes : List ℕ) → statement t ≡ Some bytes → (spelli
 statement_back t bytes e =
     let s = split (tag 0x08) (tag 0x21 then images.text t) bytes e in
     let u = split (tag 0x21) (images.text t) s.back s.second in
-    let x = text_back t u.back u.second in
-    (
+    let x = text_back t u.back u.second in (
       ap (λ (y : List ℕ). (0x08 ∷ []) ++ ((0x21 ∷ []) ++ y)) x.0
-      ∙ ap (λ (y : List ℕ). (0x08 ∷ []) ++ (y ++ u.back)) (bytes_are (0x21 ∷ []) u.front u.first)
-      ∙ ap (λ (y : List ℕ). (0x08 ∷ []) ++ y) u.whole
-      ∙ ap (λ (y : List ℕ). y ++ s.back) (bytes_are (0x08 ∷ []) s.front s.first)
-      ∙ s.whole,
+          ∙ ap (λ (y : List ℕ). (0x08 ∷ []) ++ (y ++ u.back)) (bytes_are (0x21 ∷ []) u.front u.first)
+          ∙ ap (λ (y : List ℕ). (0x08 ∷ []) ++ y) u.whole
+          ∙ ap (λ (y : List ℕ). y ++ s.back) (bytes_are (0x08 ∷ []) s.front s.first)
+          ∙ s.whole,
       x.1,
     )
 

@@ -1,6 +1,6 @@
 -- A release is spelled as the image that it is named from, and each release with a spelling is named from one.
-use Rattle.std.proofs.Common.{◌≡◌, ℕ, suc, ◌+◌, ◌<◌, ◌≤◌, Bool, true, false, List, [], ◌∷◌, ◌++◌, length, map, Some, refl, sym, ap, subst, ◌∙◌, append_assoc, arith}
-use Rattle.std.specs.Prelude.{nat_le, codes, All}
+use Rattle.std.proofs.Common.{◌≡◌, ℕ, suc, ◌+◌, ◌≤◌, Bool, false, List, [], ◌∷◌, ◌++◌, length, map, Some, refl, sym, ap, subst, ◌∙◌, append_assoc, arith}
+use Rattle.std.specs.Prelude.{nat_le, codes}
 use Rattle.std.specs.List.{flat_map, AllByRecursion, IsDistinct}
 use Rattle.std.specs.Str.{bytes_eq}
 use Rattle.std.specs.Int.{w16, to_be_bytes}
@@ -13,7 +13,6 @@ use Rattle.som_model.specs.declared.key.Module.TheVariants as modules
 use Rattle.som_model.specs.declared.key.ClassKey.{ClassKey}
 use Rattle.som_model.specs.declared.key.ClassKey.TheVariants as keys
 use Rattle.som_model.specs.declared.syntax.Stmt.{Stmt}
-use Rattle.som_model.specs.declared.class.Body.{Body}
 use Rattle.som_model.specs.declared.class.ClassFace.{ClassFace}
 use Rattle.som_model.specs.declared.class.ClassDecl.{ClassDecl}
 use Rattle.som_model.specs.declared.program.Release.{Release}
@@ -44,7 +43,7 @@ use Rattle.som_libimage.specs.Naming.{name_in, names_in, kernel_directory, libra
 use Rattle.som_libimage.specs.Libraries.{PrintsTexts, BodyPrints, ClassPrints, PrintTexts, Differ, NamesDiffer}
 use Rattle.som_libimage.proofs.Naming.{fit_length, ranges_known}
 use Rattle.som_libimage.proofs.Places.{all_map, all_of, all_mapped, all_unmapped, all_joined, distinct_names, distinct_joined, distinct_mapped}
-use Rattle.som_libimage.proofs.Spelled.{some_bytes, bytes_are, split, guarded, From}
+use Rattle.som_libimage.proofs.Spelled.{some_bytes, bytes_are, split, guarded}
 use Rattle.som_libimage.proofs.Numbers.{entry_names, Tells, NoDoubles}
 use Rattle.som_libimage.proofs.NamedFaces.{face_forth, face_back}
 use Rattle.som_libimage.proofs.NamedParts.{front_bytes, back_bytes, part_forth, part_back}

@@ -1,6 +1,5 @@
 -- Numbers and the classes that they stand for, slots and the names that they stand for.
-use Rattle.std.proofs.Common.{◌≡◌, ℕ, ◌+◌, ◌<◌, Bool, true, List, [], ◌∷◌, ◌++◌, length, map, get_or, Option, Some, None, refl, sym, ap, subst, ◌∙◌, arith}
-use Rattle.std.specs.Prelude.{slice_index}
+use Rattle.std.proofs.Common.{◌≡◌, ℕ, ◌<◌, Bool, List, [], ◌++◌, length, map, get_or, Option, Some, None, refl, sym, ap, subst, ◌∙◌, arith}
 use Rattle.std.specs.List.{AllByRecursion, IsDistinct}
 use Rattle.std.specs.Str.{bytes_eq}
 use Rattle.std.specs.Int.{w16, to_be_bytes}
@@ -21,8 +20,8 @@ use Rattle.som_wire.specs.Spelling as wire
 use Rattle.som_wire.specs.Spelling.{FitsMethod}
 use Rattle.som_libimage.specs.declared.directory.Directory.{Directory}
 use Rattle.som_libimage.specs.Naming.{key_at, method_named, ranges_in}
-use Rattle.som_libimage.proofs.Places.{Found, place_of_map, place_found, own_place, all_at}
-use Rattle.som_libimage.proofs.Spelled.{some_bytes, bytes_are, none_some, Split, split, Forth, From, Back}
+use Rattle.som_libimage.proofs.Places.{place_of_map, place_found, own_place, all_at}
+use Rattle.som_libimage.proofs.Spelled.{bytes_are, none_some, split, Forth, Back}
 
 abbrev pub entry_names : Class → List (List ℕ)
 entry_names c = map entry_name c.decl.face.entries

@@ -1,5 +1,5 @@
 -- How a library image is read from left to right: each field at its place, and the first fault.
-use Rattle.std.specs.Prelude.{ℕ, ◌+◌, ◌==◌, nat_lt, nat_eq, Bool, true, false, if◌then◌else◌, List, [], ◌∷◌, ◌++◌, length, map, codes, Result, Ok, Err}
+use Rattle.std.specs.Prelude.{ℕ, ◌+◌, ◌==◌, nat_lt, nat_eq, Bool, true, false, if◌then◌else◌, List, [], ◌∷◌, length, map, codes, Result, Ok, Err}
 use Rattle.std.specs.List.{starts_with, count_by}
 use Rattle.std.specs.Int.{w8, w16, w32}
 use Rattle.som_model.specs.declared.limits.TheConstants.{MAX_LIBRARY_CLASSES, MAX_VARIABLES, MAX_OVERRIDES}

@@ -1,5 +1,6 @@
 ghost use Rattle.som_libimage.specs.Naming.{
   kernel_directory,
+  library_directory,
   key_at,
   method_named,
   name_in,
@@ -57,6 +58,15 @@ impl Directory {
             self.slots.push(wire_names(alloc, &face.entries)?)?;
         }
         Ok(())
+    }
+
+    /// The kernel's classes and those of a library with these faces.
+    pub fn of_library(alloc: Global, faces: &List<WireFace>) -> Result<Directory, NoMemory>
+        ensures { IfOk result (λ directory. directory ≡ library_directory faces.now) }
+    {
+        let mut directory = Directory::of_kernel(alloc)?;
+        directory.add(alloc, Module::Library, faces)?;
+        Ok(directory)
     }
 
     /// The name of a method.

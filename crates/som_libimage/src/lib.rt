@@ -14,11 +14,13 @@ mod named_face;
 mod named_part;
 mod part;
 mod release;
+#[cfg(test)]
+mod tests;
 mod wire;
 
 pub use directory::Directory;
 pub use laws::{named_faces_are_spelled, names_of_a_conforming_release_differ};
 pub use library::decode;
-pub use named_face::{name_face, name_faces};
+pub use named_face::{name_face, name_interface};
 pub use release::read_faces;
 pub use wire::{WireBody, WireOverride, WirePart, WireRelease, WireVariable};

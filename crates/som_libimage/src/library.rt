@@ -16,7 +16,7 @@ use crate::directory::Directory;
 use crate::named_part::name_class;
 use crate::release::read_release;
 use crate::wire::{WirePart, WireRelease};
-use som_model::{ClassDecl, List, Module, NoMemory, Release};
+use som_model::{ClassDecl, List, NoMemory, Release};
 use som_wire::{ImageFault, WireFace};
 use std::alloc::Global;
 
@@ -45,8 +45,7 @@ fn name_release(alloc: Global, wire: &WireRelease) -> Result<Release, NoMemory>
     requires { FitsRelease wire.now }
     ensures { IfOk result (λ named. named ≡ release_named wire.now) }
 {
-    let mut directory = Directory::of_kernel(alloc)?;
-    directory.add(alloc, Module::Library, &wire.faces)?;
+    let directory = Directory::of_library(alloc, &wire.faces)?;
     Ok(Release {
         classes: name_classes(alloc, &directory, &wire.faces, &wire.parts)?,
     })

@@ -1,16 +1,18 @@
 ghost use Rattle.som_libimage.specs.Naming.{
   entry_named,
+  interface_named,
   face_named,
   key_at,
   kind_named,
   metaclass_named,
   sig_named,
 };
+ghost use Rattle.som_libimage.specs.Spelling.{FitsFaces};
 ghost use Rattle.som_wire.specs.Spelling.{FitsEntry, FitsFace, FitsKind, FitsSig};
 ghost use Rattle.std.specs.Prelude.{◌≡◌, ◌<◌, ℕ, true, false, length, map, All, IfOk, IfSome};
 
-use crate::directory::key_of;
-use som_model::{ClassFace, ClassKey, Entry, List, NoMemory, Sig, ValueType};
+use crate::directory::{Directory, key_of};
+use som_model::{ClassFace, ClassKey, Entry, Interface, List, NoMemory, Sig, ValueType};
 use som_wire::{WireEntry, WireFace, WireSig, WireType};
 use std::alloc::Global;
 
@@ -138,8 +140,8 @@ pub fn name_face(
     })
 }
 
-/// The faces that faces of an image stand for.
-pub fn name_faces(
+// The faces that faces of an image stand for.
+fn name_faces(
     alloc: Global,
     keys: &List<ClassKey>,
     faces: &List<WireFace>,
@@ -152,4 +154,15 @@ pub fn name_faces(
         named.push(name_face(alloc, keys, face)?)?;
     }
     Ok(named)
+}
+
+/// The interface that the faces of a library stand for.
+pub fn name_interface(alloc: Global, faces: &List<WireFace>) -> Result<Interface, NoMemory>
+    requires { FitsFaces faces.now }
+    ensures { IfOk result (λ named. named ≡ interface_named faces.now) }
+{
+    let directory = Directory::of_library(alloc, faces)?;
+    Ok(Interface {
+        classes: name_faces(alloc, &directory.keys, faces)?,
+    })
 }

@@ -1,7 +1,9 @@
 ghost use Rattle.som_libimage.specs.Reading.{classes_at, each_at, faces_at, part_at, ranges_of, wire_at};
 ghost use Rattle.som_libimage.specs.Spelling.{FitsFaces, FitsRelease};
-ghost use Rattle.som_wire.specs.Fields.{Gives};
+ghost use Rattle.som_wire.specs.Fields.{Gives, Stands, done};
 ghost use Rattle.som_wire.specs.Reading.{face_at};
+ghost use Rattle.som_wire.specs.Spelling.{counted, face};
+ghost use Rattle.std.specs.Int.{w16};
 ghost use Rattle.std.specs.Prelude.{◌≡◌, ◌≤◌, ◌+◌, ℕ, length, IfOk};
 
 use crate::head::read_head;
@@ -43,16 +45,18 @@ fn read_counted_faces(
     )
 }
 
-/// Reads the number of faces at a place, and the faces.
+/// Reads the number of a library's classes at a place, and their faces, which may name those classes and the kernel's. So
+/// stand the faces in the image of a client too.
 pub fn read_faces(
     alloc: Global,
     bytes: &List<u8>,
     place: usize,
 ) -> Result<Read<List<WireFace>>, ImageFault>
     requires { place ≤ length bytes.now }
+    ensures found { IfOk result (λ r. Stands bytes.now place (counted w16 face r.value) r.next × FitsFaces r.value) }
+    ensures only { (faces : _) (next : ℕ) → Stands bytes.now place (counted w16 face faces) next →
+        FitsFaces faces → Gives result (done faces next) }
     ensures exact { Gives result (faces_at bytes.now place) }
-    ensures next { IfOk result (λ r. r.next ≤ length bytes.now) }
-    ensures fits { IfOk result (λ r. FitsFaces r.value) }
 {
     let _all = bytes.as_bytes();
     read_counted_faces(alloc, bytes, place)

@@ -1,16 +1,14 @@
 use Rattle.std.proofs.Common.{◌≡◌, sym, ap, subst, ◌∙◌}
-use Rattle.som_model.specs.declared.key.Module.TheVariants as modules
 use Rattle.som_wire.specs.declared.method.Ranges.{Ranges}
 use Rattle.som_libimage.specs.declared.directory.Directory.{Directory}
 use Rattle.som_libimage.specs.Spelling.{FitEach, FitsPart}
 use Rattle.som_libimage.specs.Reading.{ranges_of}
-use Rattle.som_libimage.specs.Naming.{ranges_in, library_directory, with_classes}
+use Rattle.som_libimage.specs.Naming.{ranges_in}
 use Rattle.som_libimage.proofs.Naming.{ranges_known}
 use Rattle.som_libimage.proofs.library.name_release.Goals as goal
 
 pub name_classes-requires-clause-parts : goal.name_classes-requires-clause-parts
 name_classes-requires-clause-parts c =
     let faces = c.args.wire.now.faces in
-    let made : c.add.new.self ≡ library_directory faces = c.in_ok-add.ensures ∙ ap (λ (d : Directory). with_classes d modules.Library faces) c.in_ok-directory.ensures in
-    let same : ranges_of faces ≡ ranges_in c.add.new.self = sym (ap (λ (d : Directory). ranges_in d) made ∙ ranges_known faces) in
+    let same : ranges_of faces ≡ ranges_in c.in_ok-directory.directory = sym (ap (λ (d : Directory). ranges_in d) c.in_ok-directory.ensures ∙ ranges_known faces) in
     subst (λ (r : Ranges). FitEach (FitsPart r) faces c.args.wire.now.parts) same c.requires.parts

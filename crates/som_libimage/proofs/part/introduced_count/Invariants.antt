@@ -1,4 +1,4 @@
-use Rattle.std.proofs.Common.{◌≡◌, ◌≤◌, ℕ, take}
+use Rattle.std.proofs.Common.{◌≡◌, ◌≤◌, take}
 use Rattle.std.specs.List.{count_by}
 use Rattle.som_libimage.specs.Reading.{is_introduced}
 use Rattle.som_libimage.proofs.part.introduced_count.Given as goal

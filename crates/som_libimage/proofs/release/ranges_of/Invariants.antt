@@ -1,5 +1,4 @@
 use Rattle.std.proofs.Common.{◌≡◌, ◌∷◌, length, map, take}
-use Rattle.som_libimage.specs.Reading.{ranges_of}
 use Rattle.som_libimage.proofs.release.ranges_of.Given as goal
 
 -- the numbers of entries of the kernel's classes and of those so far

@@ -1,4 +1,4 @@
-use Rattle.std.proofs.Common.{◌≡◌, ℕ, ◌<◌, List, [], length, drop, get_or, Result, Ok, Err, sym, ap, subst, ◌∙◌, arith}
+use Rattle.std.proofs.Common.{◌≡◌, ℕ, List, [], length, drop, get_or, Result, Ok, Err, ap, subst, ◌∙◌, arith}
 use Rattle.std.proofs.lemmas.List.{length-drop, nil_from_length}
 use Rattle.std.proofs.lemmas.Result.{err_from_is_err_and}
 use Rattle.som_wire.specs.declared.fault.ImageFault.{ImageFault}
@@ -8,7 +8,7 @@ use Rattle.som_wire.specs.declared.method.Ranges.{Ranges}
 use Rattle.som_wire.specs.Fields.{Gives}
 use Rattle.som_libimage.specs.declared.wire.WirePart.{WirePart}
 use Rattle.som_libimage.specs.Reading.{part_at, ranges_of}
-use Rattle.som_libimage.proofs.EachFields.{ReadsEach, goes_on, ends, is_done}
+use Rattle.som_libimage.proofs.EachFields.{goes_on, ends, is_done}
 use Rattle.som_libimage.proofs.release.read_parts.Goals as goal
 
 abbrev one_of : List WireFace → List ℕ → WireFace → ℕ → Result (Read WirePart) ImageFault

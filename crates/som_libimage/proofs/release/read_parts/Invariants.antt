@@ -1,4 +1,4 @@
-use Rattle.std.proofs.Common.{◌≡◌, ◌≤◌, length}
+use Rattle.std.proofs.Common.{◌≤◌, length}
 use Rattle.som_libimage.specs.Reading.{part_at, ranges_of}
 use Rattle.som_libimage.proofs.EachFields.{ReadsEach}
 use Rattle.som_libimage.proofs.release.read_parts.Given as goal

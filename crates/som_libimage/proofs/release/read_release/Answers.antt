@@ -1,4 +1,4 @@
-use Rattle.std.proofs.Common.{◌≡◌, ℕ, List, Result, Ok, Err}
+use Rattle.std.proofs.Common.{ℕ, List, Result, Ok, Err}
 use Rattle.std.specs.Prelude.{IfOk}
 use Rattle.som_model.specs.Bytes.{AreBytes}
 use Rattle.som_wire.specs.declared.fault.ImageFault.{ImageFault}
