@@ -170,15 +170,15 @@ head_again bytes next h =
 -- ---- whole images
 
 -- bytes in which a text stands from the first on, with nothing left, are that text
-all_bytes : (bytes t : List ℕ) (next : ℕ) → Stands bytes 0 t next → nat_lt next (length bytes) ≡ false → bytes ≡ t
+pub all_bytes : (bytes t : List ℕ) (next : ℕ) → Stands bytes 0 t next → nat_lt next (length bytes) ≡ false → bytes ≡ t
 all_bytes bytes t next h e =
     let end : length bytes ≡ next = omega (arith, h.within, ltb-false next (length bytes) e) in
     h.parts ∙ ap (λ (n : ℕ). t ++ drop n bytes) (sym end) ∙ ap (λ (l : List ℕ). t ++ l) (drop-length bytes) ∙ append-nil t
 
-stands_whole : (t : List ℕ) → Stands t 0 t (length t)
+pub stands_whole : (t : List ℕ) → Stands t 0 t (length t)
 stands_whole t = record { parts = sym (append-nil t) ∙ ap (λ (l : List ℕ). t ++ l) (sym (drop-length t)); moves = omega arith; within = omega arith }
 
-at_end : (n : ℕ) → nat_lt n n ≡ false
+pub at_end : (n : ℕ) → nat_lt n n ≡ false
 at_end n = le-ltb n n (omega arith)
 
 abbrev ending : List ℕ → Read WireRelease → Result WireRelease ImageFault

@@ -26,10 +26,10 @@ use Rattle.som_libimage.proofs.NamedFaces.{face_forth, face_back}
 use Rattle.som_libimage.proofs.NamedReleases.{names_kept, distinct_of, library_key, as_many_keys, no_doubles, directory_of}
 
 -- the kernel's classes and those of an interface
-abbrev known_by : List ClassFace → List Class
+abbrev pub known_by : List ClassFace → List Class
 known_by fs = kernel ++ map (λ f. class_in modules.Library (bare f)) fs
 
-abbrev a_class : ClassFace → Class
+abbrev pub a_class : ClassFace → Class
 a_class f = class_in modules.Library (bare f)
 
 module _ (ks : List ClassKey) where
@@ -43,7 +43,7 @@ module _ (ks : List ClassKey) where
       ap (λ (ns : List (List ℕ)). ns ∷ map entry_names (map a_class (map (face_named ks) fs))) (names_kept ks f.entries)
       ∙ ap (λ (ns : List (List (List ℕ))). names_in f ∷ ns) (slots_told fs)
 
-  told : (fs : List WireFace) → Tells (library_directory fs) (known_by (map (face_named ks) fs))
+  pub told : (fs : List WireFace) → Tells (library_directory fs) (known_by (map (face_named ks) fs))
   told fs = record {
     keys = ap (λ (x : List ClassKey). kernel_directory.keys ++ x) (keys_told fs);
     slots = ap (λ (ns : List (List (List ℕ))). kernel_directory.slots ++ ns) (slots_told fs);

@@ -1,0 +1,4 @@
+pub mod CallFields
+pub mod ClientFields
+pub mod NamedCalls
+pub mod NamedClients
