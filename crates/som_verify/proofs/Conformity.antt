@@ -25,7 +25,7 @@ regrouped (Some x) b c d = refl
 regrouped None (Some x) c d = refl
 regrouped None None c d = refl
 
-faces_first : (r : Release) → or_else (faces_breach (library_classes r)) (first (flat_map s14 (library_classes r))) ≡ release_breach r
+pub faces_first : (r : Release) → or_else (faces_breach (library_classes r)) (first (flat_map s14 (library_classes r))) ≡ release_breach r
 faces_first r =
     let cs = library_classes r in
     regrouped (first_of_names kernel cs) (first (flat_map (s5 (kernel ++ cs)) cs)) (first_of_members kernel cs) (first (flat_map s14 cs))

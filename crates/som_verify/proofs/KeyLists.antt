@@ -1,5 +1,5 @@
 -- The ancestors of a key are the keys of the ancestors of its place.
-use Rattle.std.proofs.Common.{◌≡◌, ℕ, zero, suc, ◌+◌, ◌<◌, ◌≤◌, ◌==◌, inl, inr, Bool, true, false, List, [], ◌∷◌, length, map, Some, refl, sym, ap, ◌∙◌, arith, true≢false}
+use Rattle.std.proofs.Common.{◌≡◌, ℕ, zero, suc, ◌+◌, ◌<◌, ◌≤◌, ◌==◌, inl, inr, Bool, true, false, List, [], ◌∷◌, length, map, Some, refl, sym, ap, ◌∙◌, subst, arith, true≢false}
 use Rattle.std.proofs.lemmas.Bool.{eqb-true, eqb-false, cases_lt}
 use Rattle.std.proofs.lemmas.List.{get_or_past}
 use Rattle.std.specs.Prelude.{unwrap_or}
@@ -99,3 +99,9 @@ module _ (ds : List ClassDecl) (names : List (List ℕ)) (t : IsTable ds names) 
         (λ a b g k. alike a b g k (a == b) (same_key (key_at (all_classes ds) a) (key_at (all_classes ds) b)) refl refl ∙ sym (hierarchy_same (all_classes ds) (key_at (all_classes ds) a) (key_at (all_classes ds) b)))
         height_there i lt);
   }
+
+-- the same, of lists that are borrowed
+pub lists_of : (ds : List ClassDecl) (names : List (List ℕ)) → IsTable ds names → (rows shown all lent : List (List ℕ)) → IsRows (all_classes ds) (length (all_classes ds)) rows
+    → shown ≡ rows → AreAncestors shown (length shown) all → lent ≡ all → AreLists (all_classes ds) lent
+lists_of ds names t rows shown all lent table e lists f =
+    rw f (are_lists ds names t rows all table (subst (λ (z : List (List ℕ)). AreAncestors z (length z) all) e lists))

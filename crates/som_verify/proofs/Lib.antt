@@ -19,3 +19,5 @@ pub mod PlainMembers
 pub mod Falling
 pub mod PlainMoves
 pub mod PlainFaces
+pub mod PlainBodies
+pub mod Texts

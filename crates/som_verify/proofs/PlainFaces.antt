@@ -13,11 +13,11 @@ use Rattle.som_verify.proofs.PlainNames.{names_say, say_names, parents_say, say_
 use Rattle.som_verify.proofs.PlainMembers.{types_say, say_types, entries_say, say_entries, variables_say, say_variables}
 use Rattle.som_verify.proofs.PlainMoves.{metaclasses_say, say_metaclasses, once_says, say_once, moved_says, say_moved, overrides_say, say_overrides}
 
-or_none : {A : Type 0} (a b : Option A) → or_else a b ≡ None → (a ≡ None) × (b ≡ None)
+pub or_none : {A : Type 0} (a b : Option A) → or_else a b ≡ None → (a ≡ None) × (b ≡ None)
 or_none None b e = (refl, e)
 or_none (Some x) b e = absurd (cc)
 
-none_or : {A : Type 0} (a b : Option A) → a ≡ None → b ≡ None → or_else a b ≡ None
+pub none_or : {A : Type 0} (a b : Option A) → a ≡ None → b ≡ None → or_else a b ≡ None
 none_or None b e f = f
 none_or (Some x) b e f = absurd (cc)
 

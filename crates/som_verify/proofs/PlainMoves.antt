@@ -178,11 +178,11 @@ apart_both (x ∷ xs) ys o =
     let r = apart_both xs ys o.1 in
     (r.0, λ a m n. elim m [ inl e ↦ o.0 (subst (λ z. Mem z (xs ++ ys)) e (mem_right a xs ys n)) | inr k ↦ r.1 a k n ])
 
-flat_mem : {A B : Type 0} (f : A → List B) (b : B) (xs : List A) → Mem b (flat_map f xs) → (x : A) × Mem x xs × Mem b (f x)
+pub flat_mem : {A B : Type 0} (f : A → List B) (b : B) (xs : List A) → Mem b (flat_map f xs) → (x : A) × Mem x xs × Mem b (f x)
 flat_mem f b [] m = absurd m
 flat_mem f b (x ∷ xs) m = elim (mem_split b (f x) (flat_map f xs) m) [ inl n ↦ (x, inl refl, n) | inr n ↦ (let r = flat_mem f b xs n in (r.0, inr r.1, r.2)) ]
 
-mem_flat : {A B : Type 0} (f : A → List B) (b : B) (x : A) (xs : List A) → Mem x xs → Mem b (f x) → Mem b (flat_map f xs)
+pub mem_flat : {A B : Type 0} (f : A → List B) (b : B) (x : A) (xs : List A) → Mem x xs → Mem b (f x) → Mem b (flat_map f xs)
 mem_flat f b x [] m n = absurd m
 mem_flat f b x (y ∷ xs) (inl e) n = mem_left b (f y) (flat_map f xs) (subst (λ z. Mem b (f z)) e n)
 mem_flat f b x (y ∷ xs) (inr m) n = mem_right b (f y) (flat_map f xs) (mem_flat f b x xs m n)

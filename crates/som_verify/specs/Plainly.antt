@@ -1,17 +1,22 @@
 -- The rules of a release, said of its classes and their members.
-use Rattle.std.specs.Prelude.{◌≡◌, ℕ, List, ◌++◌, take, slice_get, Some}
+use Rattle.std.specs.Prelude.{◌≡◌, ℕ, List, [], ◌∷◌, ◌++◌, length, take, slice_get, Some}
 use Rattle.som_model.specs.declared.key.ClassKey.{ClassKey}
 use Rattle.som_model.specs.declared.key.ValueType.{ValueType}
 use Rattle.som_model.specs.declared.key.ValueType.TheVariants as types
 use Rattle.som_model.specs.declared.class.Sig.{Sig}
 use Rattle.som_model.specs.declared.class.Way.{Way}
+use Rattle.som_model.specs.declared.class.Entry.{Entry}
 use Rattle.som_model.specs.declared.class.Entry.TheVariants as entries
+use Rattle.som_model.specs.declared.class.Body.{Body}
+use Rattle.som_model.specs.declared.class.Body.TheVariants as bodies
+use Rattle.som_model.specs.declared.syntax.Block.{Block}
 use Rattle.som_model.specs.declared.class.Variable.{Variable}
 use Rattle.som_model.specs.declared.class.Override.{Override}
 use Rattle.som_model.specs.declared.class.ClassDecl.{ClassDecl}
+use Rattle.som_model.specs.declared.program.Release.{Release}
 use Rattle.som_model.specs.Lists.{Mem}
 use Rattle.som_model.specs.Ancestors.{Descends}
-use Rattle.som_model.specs.Class.{Class, entry_name}
+use Rattle.som_model.specs.Class.{Class, entry_name, introduced}
 use Rattle.som_model.specs.Classes.{hierarchy}
 use Rattle.som_model.specs.Kernel.{kernel, som_class}
 use Rattle.som_model.specs.Owner.{owner}
@@ -112,3 +117,25 @@ pub record FacesHold (ds : List ClassDecl) : Type 0 where
   pub once : IntroducedOnce ds
   pub moved : MovedUp ds
   pub overrides : OverridesInherited ds
+
+-- the signatures of the entries that are introduced, in order
+abbrev pub signatures : List Entry → List Sig
+signatures [] = []
+signatures (entries.Introduced name sig way ∷ es) = sig ∷ signatures es
+signatures (entries.Moved name to ∷ es) = signatures es
+
+-- a body fits a signature: a block does, a reader takes nothing and answers its variable's type, and a writer takes that type and answers nothing
+pub data Fits (vs : List Variable) (sig : Sig) : Body → Type 0 where
+  a_block : (block : Block) → Fits vs sig (bodies.User block)
+  a_reader : (n : ℕ) (v : Variable) → slice_get vs n ≡ Some v → sig.result ≡ v.kind → sig.params ≡ [] → Fits vs sig (bodies.Get n)
+  a_writer : (n : ℕ) (v : Variable) → slice_get vs n ≡ Some v → sig.result ≡ types.Void → sig.params ≡ v.kind ∷ [] → Fits vs sig (bodies.Set n)
+
+-- S14: there are as many bodies as introduced entries, and each fits the signature of its entry
+pub record BodiesFit (ds : List ClassDecl) : Type 0 where
+  pub as_many : (d : ClassDecl) → Mem d ds → length d.bodies ≡ length (introduced d.face.entries)
+  pub fit : (d : ClassDecl) (i : ℕ) (sig : Sig) (b : Body) → Mem d ds → slice_get (signatures d.face.entries) i ≡ Some sig → slice_get d.bodies i ≡ Some b → Fits d.variables sig b
+
+-- the rules S1 to S14
+pub record RulesHold (r : Release) : Type 0 where
+  pub faces : FacesHold r.classes
+  pub bodies : BodiesFit r.classes

@@ -1,15 +1,22 @@
 ghost use Rattle.som_model.specs.Classes.{hierarchy};
+ghost use Rattle.som_model.specs.Conforming.{release_breach};
 ghost use Rattle.som_model.specs.Hierarchy.{Falls};
 ghost use Rattle.som_model.specs.declared.class.ClassDecl.{ClassDecl as Decl};
+ghost use Rattle.som_model.specs.declared.program.Release.{Release};
 ghost use Rattle.som_verify.specs.Faces.{faces_breach};
 ghost use Rattle.som_verify.specs.Places.{all_classes};
-ghost use Rattle.som_verify.specs.Plainly.{FacesHold, NamesDiffer, ParentsStand};
+ghost use Rattle.som_verify.specs.Plainly.{FacesHold, NamesDiffer, ParentsStand, RulesHold};
 ghost use Rattle.som_verify.specs.Told.{of_release};
 ghost use Rattle.std.specs.Prelude.{◌≡◌, ◌↔◌, List as Seq, None};
 
 /// The rules S1 to S10 have no breach exactly where each holds of every class and all of its members.
 pub fn faces_law()
     ensures { (ds : Seq Decl) → (faces_breach (of_release ds) ≡ None) ↔ FacesHold ds }
+{}
+
+/// A release breaks no rule exactly where each rule holds of every class and all of its members.
+pub fn rules_law()
+    ensures { (r : Release) → (release_breach r ≡ None) ↔ RulesHold r }
 {}
 
 /// Where parents stand before their classes, each parent is lower than its class, also of the classes that

@@ -3,6 +3,8 @@
 
 mod ancestry;
 mod bodies;
+#[cfg(test)]
+mod cases;
 mod double;
 mod inherited;
 mod introduced;
@@ -14,21 +16,25 @@ mod moved;
 mod overrides;
 mod parents;
 mod pass;
+mod printing;
 mod release;
 mod signatures;
 mod table;
+#[cfg(test)]
+mod tests;
 mod types;
 
 pub use ancestry::ancestors;
 pub use bodies::bodies_fit;
 pub use introduced::names_introduced_once;
 pub use known::{type_is_known, type_is_of_value};
-pub use laws::{faces_law, parents_lower_law};
+pub use laws::{faces_law, parents_lower_law, rules_law};
 pub use members::{entries_differ, parents_differ, variables_differ};
 pub use metaclasses::metaclasses_descend;
 pub use moved::entries_moved_up;
 pub use overrides::overrides_inherited;
 pub use parents::parents_stand;
+pub use printing::prints_texts;
 pub use release::{faces_ok, release_ok};
 pub use signatures::types_known;
 pub use table::{class_names, find_class};

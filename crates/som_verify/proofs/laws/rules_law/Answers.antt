@@ -1,0 +1,5 @@
+use Rattle.som_verify.proofs.PlainBodies.{rules_say, say_rules}
+use Rattle.som_verify.proofs.laws.rules_law.Goals as goal
+
+pub returns : goal.returns
+returns c = λ r. (rules_say r, say_rules r)
