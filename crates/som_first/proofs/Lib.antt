@@ -15,3 +15,4 @@ pub mod TypedCalls
 pub mod SameFaces
 pub mod FirstAnswered
 mod CallLaws
+pub mod FirstDecided
