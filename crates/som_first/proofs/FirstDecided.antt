@@ -2,7 +2,6 @@
 use Rattle.std.proofs.Common.{◌≡◌, ℕ, ◌⊎◌, inl, inr, Bool, true, false, List, [], ◌∷◌, map, Option, Some, None, refl, sym, ap, ◌∙◌, true≢false}
 use Rattle.som_model.specs.declared.key.Module.TheVariants as modules
 use Rattle.som_model.specs.declared.key.ClassKey.{ClassKey, out-ClassKey, roll-ClassKey, roll-out-ClassKey}
-use Rattle.som_model.specs.declared.key.ClassKey.TheVariants as keys
 use Rattle.som_model.specs.declared.key.ClassKey.TheVariants.{rolls-Named}
 use Rattle.som_model.specs.declared.key.ClassKey.TheOpen.{ClassKey-F}
 use Rattle.som_model.specs.declared.key.ValueType.{ValueType}
@@ -17,7 +16,6 @@ use Rattle.som_model.specs.declared.syntax.Stmt.TheVariants as stmts
 use Rattle.som_model.specs.declared.syntax.Stmt.TheVariants.{rolls-Print}
 use Rattle.som_model.specs.declared.syntax.Stmt.TheOpen.{Stmt-F}
 use Rattle.som_model.specs.declared.class.Sig.{Sig}
-use Rattle.som_model.specs.declared.class.Way.{Way}
 use Rattle.som_model.specs.declared.class.Way.TheVariants as ways
 use Rattle.som_model.specs.declared.class.Entry.{Entry}
 use Rattle.som_model.specs.declared.class.Entry.TheVariants as entries
@@ -34,11 +32,9 @@ use Rattle.som_model.specs.Keys.{same_key}
 use Rattle.som_model.proofs.KeyLaws.{exact_keys}
 use Rattle.som_model.proofs.NamedLaws.{out_named}
 use Rattle.som_first.specs.declared.classes.FirstMethod.{FirstMethod}
-use Rattle.som_first.specs.declared.classes.FirstOverride.{FirstOverride}
-use Rattle.som_first.specs.declared.classes.FirstClass.{FirstClass}
 use Rattle.som_first.specs.declared.classes.FirstFace.{FirstFace}
 use Rattle.som_first.specs.declared.classes.FirstRelease.{FirstRelease}
-use Rattle.som_first.specs.FirstImages.{library_key, parent_key, plain_entry, body_of, override_of, face_of, seen, decl_of, release_of}
+use Rattle.som_first.specs.FirstImages.{library_key, parent_key, plain_entry, body_of, override_of, face_of, decl_of, release_of}
 use Rattle.som_first.proofs.TypedCalls.{out_text, out_print}
 
 -- the function makes this value of something, or of nothing
@@ -53,9 +49,11 @@ lists_decided {A} {B} f each (b ∷ bs) = by (each b) (lists_decided f each bs)
     no_item : ((a : A) → f a ≡ b → ⊥) → (xs : List A) → map f xs ≡ b ∷ bs → ⊥
     no_item never [] e = cc
     no_item never (a ∷ xs) e = let here : f a ≡ b = cc in never a here
+
     no_rest : ((xs : List A) → map f xs ≡ bs → ⊥) → (xs : List A) → map f xs ≡ b ∷ bs → ⊥
     no_rest never [] e = cc
     no_rest never (a ∷ xs) e = let rest : map f xs ≡ bs = cc in never xs rest
+
     by : Decided f b → Decided (map f) bs → Decided (map f) (b ∷ bs)
     by (inl (a, e)) (inl (xs, es)) = inl (a ∷ xs, cc)
     by (inr never) rest = inr (no_item never)
@@ -88,6 +86,7 @@ parent_decided k = by (same_key som_object k) refl (library_decided k)
     neither : same_key som_object k ≡ false → ((x : List ℕ) → library_key x ≡ k → ⊥) → (o : Option (List ℕ)) → parent_key o ≡ k → ⊥
     neither e never None is = true≢false (sym (exact_keys.one som_object) ∙ ap (same_key som_object) is ∙ e)
     neither e never (Some x) is = never x is
+
     by : (b : Bool) → same_key som_object k ≡ b → Decided library_key k → Decided parent_key k
     by true e d = inl (None, exact_keys.two som_object k e)
     by false e (inl (x, is)) = inl (Some x, is)
@@ -179,9 +178,11 @@ print_decided s = by (print_layer (out-Stmt s))
   where
     printed : (t : List ℕ) → prints t ≡ s → Stmt-F.Print (exprs.Str t) ≡ out-Stmt s
     printed t same = sym (out_print (exprs.Str t)) ∙ ap out-Stmt same
+
     of_text : (e : Expr) → Stmt-F.Print e ≡ out-Stmt s → Decided exprs.Str e → Decided prints s
     of_text e is (inl (t, text)) = inl (t, ap stmts.Print text ∙ sym (rolls-Print e) ∙ ap roll-Stmt is ∙ roll-out-Stmt s)
     of_text e is (inr never) = inr (λ t same. let p = printed t same ∙ sym is in let here : exprs.Str t ≡ e = cc in never t here)
+
     by : Decided (λ (e : Expr). Stmt-F.Print e) (out-Stmt s) → Decided prints s
     by (inl (e, is)) = of_text e is (text_decided e)
     by (inr never) = inr (λ t same. never (exprs.Str t) (printed t same))
@@ -254,6 +255,7 @@ members_decided (d ∷ es) (b ∷ bs) = by (entry_decided d) (body_decided b) (m
         let s : map plain_entry (map (λ x. x.name) ms) ≡ es = cc in
         let t : map body_of ms ≡ bs = cc in
         (m, ms, cc, cc, ap (λ (z : List Entry). (z, map body_of ms)) s ∙ ap (λ (z : List Body). (es, z)) t)
+
     by : Decided plain_entry d → Decided user_body b → Decided members_of (es, bs) → Decided members_of (d ∷ es, b ∷ bs)
     by (inl (name, e)) (inl (text, f)) (inl (ms, rest)) = inl (
       record { name = name; text = text } ∷ ms,

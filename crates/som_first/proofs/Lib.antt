@@ -16,3 +16,4 @@ pub mod SameFaces
 pub mod FirstAnswered
 mod CallLaws
 pub mod FirstDecided
+pub mod CallsDecided
