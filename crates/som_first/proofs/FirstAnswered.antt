@@ -28,7 +28,7 @@ use Rattle.som_first.proofs.FirstWorld.{value_of, Stands, above_is}
 use Rattle.som_first.proofs.TypedCalls.{TypedCall, statement_typed}
 use Rattle.som_first.proofs.SameFaces.{face_only, is_a_faces, sig_faces, known_faces, faces_are}
 
-faces_plain : (cs : List Class) → AllPlain cs → AllPlain (map face_only cs)
+pub faces_plain : (cs : List Class) → AllPlain cs → AllPlain (map face_only cs)
 faces_plain [] p = tt
 faces_plain (c ∷ cs) p = (p.0, faces_plain cs p.1)
 

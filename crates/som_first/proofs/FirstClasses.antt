@@ -178,6 +178,22 @@ entry_listed (x ∷ ms) name e = by (bytes_eq x.name name) refl (entry_listed ms
     by true same f e = (0, x, refl, exact_bytes.two x.name name same)
     by false same f e = let r = f e in (suc r.0, r.1, r.2, r.3)
 
+module _ (fs : List FirstClass) (once : each_after s1 kernel (classes_of fs) ≡ []) where
+  -- where no name stands twice, no class before it has its key
+  pub new_once : (i : ℕ) (c : FirstClass) → slice_get fs i ≡ Some c → class_at (classes_of (take i fs)) (library_key c.name) ≡ None
+  new_once i c at =
+      let names = map name_of (classes_of (take i fs)) in
+      let new = if_made (not (among c.name (map name_of kernel ++ names))) (breach 1 (class_of c) (codes "-")) (each_at s1 kernel fs i c once at) in
+      class_new (take i fs) c.name (some_last (bytes_eq c.name) (map name_of kernel) names (not_false (among c.name (map name_of kernel ++ names)) new))
+
+  -- and each class is found by its key
+  pub class_once : (i : ℕ) (c : FirstClass) → slice_get fs i ≡ Some c → class_at (known fs) (library_key c.name) ≡ Some (class_of c)
+  class_once i c at = class_past kernel (classes_of fs) (library_key c.name) (kernel_none c.name) ∙ class_here fs i c at (new_once i c at)
+
+  -- with its entries
+  pub entry_once : (i j : ℕ) (c : FirstClass) (m : FirstMethod) → slice_get fs i ≡ Some c → slice_get c.methods j ≡ Some m → entry_at (known fs) (library_key c.name) m.name ≡ Some (plain_entry m.name)
+  entry_once i j c m at bt = ap (λ (o : Option Class). entry_in o m.name) (class_once i c at) ∙ entry_there c.methods j m bt
+
 module _ (fs : List FirstClass) (ok : FirstOk fs) where
   pub all_fall : Falls (hierarchy (known fs))
   all_fall = falls (known fs) (kernel_ordered (classes_of fs) (classes_ordered kernel fs ok.before))
@@ -187,14 +203,11 @@ module _ (fs : List FirstClass) (ok : FirstOk fs) where
 
   -- no class before it has its key
   pub new_there : (i : ℕ) (c : FirstClass) → slice_get fs i ≡ Some c → class_at (classes_of (take i fs)) (library_key c.name) ≡ None
-  new_there i c at =
-      let names = map name_of (classes_of (take i fs)) in
-      let new = if_made (not (among c.name (map name_of kernel ++ names))) (breach 1 (class_of c) (codes "-")) (each_at s1 kernel fs i c ok.once at) in
-      class_new (take i fs) c.name (some_last (bytes_eq c.name) (map name_of kernel) names (not_false (among c.name (map name_of kernel ++ names)) new))
+  new_there = new_once fs ok.once
 
   -- each class is found by its key
   pub class_is : (i : ℕ) (c : FirstClass) → slice_get fs i ≡ Some c → class_at (known fs) (library_key c.name) ≡ Some (class_of c)
-  class_is i c at = class_past kernel (classes_of fs) (library_key c.name) (kernel_none c.name) ∙ class_here fs i c at (new_there i c at)
+  class_is = class_once fs ok.once
 
   -- its height
   pub height_is : (i : ℕ) (c : FirstClass) → slice_get fs i ≡ Some c → (hierarchy (known fs)).height (library_key c.name) ≡ i + 5
@@ -232,7 +245,7 @@ module _ (fs : List FirstClass) (ok : FirstOk fs) where
 
   -- an entry of a class
   pub entry_is : (i j : ℕ) (c : FirstClass) (m : FirstMethod) → slice_get fs i ≡ Some c → slice_get c.methods j ≡ Some m → entry_at (known fs) (library_key c.name) m.name ≡ Some (plain_entry m.name)
-  entry_is i j c m at bt = ap (λ (o : Option Class). entry_in o m.name) (class_is i c at) ∙ entry_there c.methods j m bt
+  entry_is = entry_once fs ok.once
 
   -- a class introduces a name where one of its methods has it
   pub introduces_is : (i : ℕ) (c : FirstClass) (name : List ℕ) → slice_get fs i ≡ Some c → introduces (known fs) name (library_key c.name) ≡ true

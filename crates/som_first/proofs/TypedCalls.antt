@@ -1,5 +1,5 @@
 -- What a call on a new object says that is well typed.
-use Rattle.std.proofs.Common.{◌≡◌, ℕ, true, List, [], Option, Some, None, is_some, sym, ap, ◌∙◌}
+use Rattle.std.proofs.Common.{◌≡◌, ℕ, true, List, [], Option, Some, None, is_some, refl, sym, ap, ◌∙◌}
 use Rattle.som_model.specs.declared.key.ClassKey.{ClassKey}
 use Rattle.som_model.specs.declared.key.MethodRef.{MethodRef}
 use Rattle.som_model.specs.declared.key.ValueType.{ValueType}
@@ -17,7 +17,7 @@ use Rattle.som_model.specs.Blocks.{calling}
 use Rattle.som_model.specs.Class.{Class}
 use Rattle.som_model.specs.Classes.{class_at, is_a}
 use Rattle.som_model.specs.Owner.{owner, sig_of}
-use Rattle.som_model.specs.Typing.{HasType, a_text, a_new, an_offset_call, IsTyped, prints_text, calls_by_offset}
+use Rattle.som_model.specs.Typing.{HasType, HaveTypes, none, a_text, a_new, an_offset_call, IsTyped, prints_text, calls_by_offset}
 
 pub out_text : (t : List ℕ) → out-Expr (exprs.Str t) ≡ Expr-F.Str t
 out_text t = ap out-Expr (sym (rolls-Str t)) ∙ out-roll-Expr (Expr-F.Str t)
@@ -57,12 +57,13 @@ none_apart a e = cc
 same_some : {A : Type 0} (a b : A) → Some a ≡ Some b → a ≡ b
 same_some a b e = cc
 
--- what a well typed call says: the class is known and descends from the method's, and the owner introduces the method
+-- what a well typed call says: the class is known and descends from the method's, and the owner introduces the method, without parameters
 pub record TypedCall (cs : List Class) (r : MethodRef) (k : ClassKey) : Type 0 where
   pub known : is_some (class_at cs k) ≡ true
   pub below : is_a cs k r.class ≡ true
   pub sig : Sig
   pub introduced : sig_of cs (owner cs r) ≡ Some sig
+  pub takes_none : sig.params ≡ []
 
 new_typed : (cs : List Class) (e : Expr) (t : ValueType) → HasType cs e t → (k : ClassKey) → e ≡ exprs.New k → (is_some (class_at cs k) ≡ true) × (t ≡ types.Class k)
 new_typed cs e t (a_text s) k is =
@@ -72,6 +73,9 @@ new_typed cs e t (a_new c known) k is =
     (ap (λ (z : ClassKey). is_some (class_at cs z)) (sym same) ∙ known, ap types.Class same)
 new_typed cs e t (an_offset_call r on args c sig on_typed below introduced fit) k is =
     absurd (none_apart k (sym (ap made_in (out_call r on args)) ∙ ap (λ (x : Expr). made_in (out-Expr x)) is ∙ ap made_in (out_new k)))
+
+no_types : (cs : List Class) (es : List Expr) (ts : List ValueType) → HaveTypes cs es ts → ts ≡ []
+no_types cs es ts none = refl
 
 call_typed : (cs : List Class) (e : Expr) (t : ValueType) → HasType cs e t → (r : MethodRef) (k : ClassKey) → e ≡ exprs.OffsetCall r (exprs.New k) [] → TypedCall cs r k
 call_typed cs e t (a_text s) r k is =
@@ -88,6 +92,7 @@ call_typed cs e t (an_offset_call q on args c sig on_typed below introduced fit)
       below = ap (λ (z : ClassKey). is_a cs z r.class) (sym class) ∙ ap (λ (z : MethodRef). is_a cs c z.class) (sym method) ∙ below;
       sig = sig;
       introduced = ap (λ (z : MethodRef). sig_of cs (owner cs z)) (sym method) ∙ introduced;
+      takes_none = no_types cs args sig.params fit;
     }
 
 -- a statement that calls a method on a new object
