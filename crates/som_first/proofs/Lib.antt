@@ -15,3 +15,5 @@ pub mod TypedCalls
 pub mod SameFaces
 pub mod FirstAnswered
 mod CallLaws
+mod Forms
+pub mod Within
