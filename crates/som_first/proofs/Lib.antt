@@ -17,3 +17,5 @@ pub mod FirstAnswered
 mod CallLaws
 pub mod FirstDecided
 pub mod CallsDecided
+mod Forms
+pub mod Within

@@ -14,7 +14,7 @@ pub use calls::{CallPlace, Printing, print_calls};
 pub use classes::{
     FirstCall, FirstClass, FirstFace, FirstMethod, FirstOverride, FirstProgram, FirstRelease,
 };
-pub use form::first_release;
+pub use form::{are_first_faces, first_release};
 pub use laws::first_meaning_law;
 pub use link::{Linked, link_release};
 pub use unread::Unread;
