@@ -33,8 +33,8 @@ use Rattle.som_first.specs.declared.calls.CallPlace.{CallPlace}
 use Rattle.som_first.specs.declared.classes.FirstCall.{FirstCall}
 use Rattle.som_first.specs.FirstImages.{call_of}
 use Rattle.som_firstclient.specs.declared.image.ClientImage.{ClientImage}
-use Rattle.som_firstclient.specs.declared.image.Unread.{Unread}
-use Rattle.som_firstclient.specs.declared.image.Unread.TheVariants as unread
+use Rattle.som_first.specs.declared.unread.Unread.{Unread}
+use Rattle.som_first.specs.declared.unread.Unread.TheVariants as unread
 use Rattle.som_firstclient.specs.Clients.{class_entries, program_named, CallFits, FitsClient, AnswersProgram}
 use Rattle.som_firstclient.specs.Reading.{client_at, Reads}
 use Rattle.som_firstclient.proofs.CallFields.{FitsPlace, FitsCalls, calls}

@@ -9,8 +9,8 @@ use Rattle.som_first.specs.declared.calls.CallPlace.{CallPlace}
 use Rattle.som_first.specs.declared.classes.FirstCall.{FirstCall}
 use Rattle.som_first.specs.FirstImages.{call_of}
 use Rattle.som_firstclient.specs.declared.image.ClientImage.{ClientImage}
-use Rattle.som_firstclient.specs.declared.image.Unread.{Unread}
-use Rattle.som_firstclient.specs.declared.image.Unread.TheVariants as unread
+use Rattle.som_first.specs.declared.unread.Unread.{Unread}
+use Rattle.som_first.specs.declared.unread.Unread.TheVariants as unread
 
 -- the name of the class of a number, whose face stands four places before, since the kernel's classes come first
 abbrev pub class_name : List ClassFace → ℕ → List ℕ

@@ -13,8 +13,8 @@ use Rattle.som_libimage.specs.Reading.{faces_at}
 use Rattle.som_libimage.specs.Naming.{interface_named}
 use Rattle.som_first.specs.declared.calls.CallPlace.{CallPlace}
 use Rattle.som_firstclient.specs.declared.image.ClientImage.{ClientImage}
-use Rattle.som_firstclient.specs.declared.image.Unread.{Unread}
-use Rattle.som_firstclient.specs.declared.image.Unread.TheVariants as unread
+use Rattle.som_first.specs.declared.unread.Unread.{Unread}
+use Rattle.som_first.specs.declared.unread.Unread.TheVariants as unread
 use Rattle.som_firstclient.specs.Clients.{class_entries}
 
 -- the place after these bytes, where they stand

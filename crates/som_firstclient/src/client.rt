@@ -12,7 +12,8 @@ ghost use Rattle.std.specs.Prelude.{◌≡◌, List as Seq, Some, [], map, IfOk}
 
 use crate::call::read_calls;
 use crate::constant::read_constant;
-use crate::image::{ClientImage, Unread};
+use crate::image::ClientImage;
+use som_first::Unread;
 use som_libimage::{Directory, name_faces, read_faces};
 use som_model::{Interface, List, Module, NoMemory};
 use som_wire::{ImageFault, WireFace};

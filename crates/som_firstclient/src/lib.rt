@@ -10,4 +10,4 @@ mod constant;
 mod image;
 
 pub use client::read_client;
-pub use image::{ClientImage, Unread};
+pub use image::ClientImage;
