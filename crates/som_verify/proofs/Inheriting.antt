@@ -27,7 +27,7 @@ module _ (ds : List ClassDecl) (names : List (List ℕ)) (t : IsTable ds names) 
   -- nothing comes from a class that isn't known
   pub from_nobody : (place limit : ℕ) (from : ClassKey) (name : List ℕ) → place < length (all_classes ds) → limit ≡ length (all_classes ds) → Finds limit (all_classes ds) from None
       → false ≡ inherits (all_classes ds) (key_at (all_classes ds) place) from name
-  from_nobody place limit from name lt e f = middle (not (same_key from (key_at (all_classes ds) place))) _ (introduces (all_classes ds) name from) (is_a_none ds names t all lists place limit lt from e f)
+  from_nobody place limit from name lt e f = middle (not (same_key from (key_at (all_classes ds) place))) _ (introduces (all_classes ds) name from) (is_a_none (all_classes ds) all lists place limit lt from e f)
 
   from_place : (place ancestor : ℕ) (name : List ℕ) → place < length (all_classes ds) → ancestor < length (all_classes ds)
       → ((not (ancestor == place) && some (λ a. ancestor == a) (slice_index_or all place [])) && is_some (introduced_sig (entry_of (face_at (all_classes ds) ancestor).entries name)))
@@ -35,8 +35,8 @@ module _ (ds : List ClassDecl) (names : List (List ℕ)) (t : IsTable ds names) 
   from_place place ancestor name lp la =
       let own = is_some (introduced_sig (entry_of (face_at (all_classes ds) ancestor).entries name)) in
       let k = key_at (all_classes ds) in
-      ap (λ b. (not b && some (λ a. ancestor == a) (slice_index_or all place [])) && own) (alike ds names t ancestor place la lp (ancestor == place) (same_key (k ancestor) (k place)) refl refl)
-      ∙ ap (λ b. (not (same_key (k ancestor) (k place)) && b) && own) (sym (is_a_place ds names t all lists place ancestor lp la))
+      ap (λ b. (not b && some (λ a. ancestor == a) (slice_index_or all place [])) && own) (alike (all_classes ds) lists.once ancestor place la lp (ancestor == place) (same_key (k ancestor) (k place)) refl refl)
+      ∙ ap (λ b. (not (same_key (k ancestor) (k place)) && b) && own) (sym (is_a_place (all_classes ds) all lists place ancestor lp la))
       ∙ ap (λ o. (not (same_key (k ancestor) (k place)) && is_a (all_classes ds) (k place) (k ancestor)) && is_some (introduced_sig o)) (sym (entry_there ds names t ancestor name la))
 
   -- what comes from the class at another place

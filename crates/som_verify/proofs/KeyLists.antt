@@ -33,6 +33,14 @@ place_first n (c ∷ cs) k (suc a) lt f e =
     let sum : a + suc n ≡ suc a + n = omega arith in
     rw fails (place_first (suc n) cs k a (omega arith) (λ j l. f (suc j) (omega (arith, l))) e ∙ ap (λ z. Some z) sum)
 
+-- places are one exactly where their keys are, if no key stands twice
+pub alike : (cs : List Class) → ((i j : ℕ) → i < length cs → j < length cs → key_at cs i ≡ key_at cs j → i ≡ j) → (a b : ℕ) → a < length cs → b < length cs
+    → (x y : Bool) → (a == b) ≡ x → same_key (key_at cs a) (key_at cs b) ≡ y → x ≡ y
+alike cs once a b la lb true true e f = refl
+alike cs once a b la lb false false e f = refl
+alike cs once a b la lb true false e f = absurd (true≢false (sym (exact_keys.one (key_at cs a)) ∙ ap (λ z. same_key (key_at cs a) (key_at cs z)) (eqb-true a b e) ∙ f))
+alike cs once a b la lb false true e f = absurd (eqb-false a b e (once a b la lb (exact_keys.two _ _ f)))
+
 module _ (ds : List ClassDecl) (names : List (List ℕ)) (t : IsTable ds names) where
   -- no key stands twice
   pub keys_once : (i j : ℕ) → i < length (all_classes ds) → j < length (all_classes ds) → key_at (all_classes ds) i ≡ key_at (all_classes ds) j → i ≡ j
@@ -77,12 +85,6 @@ module _ (ds : List ClassDecl) (names : List (List ℕ)) (t : IsTable ds names) 
       ∙ ap (λ k. parents_in (class_at (all_classes ds) k)) (sym (key_named ds a lt))
       ∙ ap parents_in (class_there a lt)
 
-  pub alike : (a b : ℕ) → a < length (all_classes ds) → b < length (all_classes ds) → (x y : Bool) → (a == b) ≡ x → same_key (key_at (all_classes ds) a) (key_at (all_classes ds) b) ≡ y → x ≡ y
-  alike a b la lb true true e f = refl
-  alike a b la lb false false e f = refl
-  alike a b la lb true false e f = absurd (true≢false (sym (exact_keys.one (key_at (all_classes ds) a)) ∙ ap (λ z. same_key (key_at (all_classes ds) a) (key_at (all_classes ds) z)) (eqb-true a b e) ∙ f))
-  alike a b la lb false true e f = absurd (eqb-false a b e (keys_once a b la lb (exact_keys.two _ _ f)))
-
   pub are_lists : (rows all : List (List ℕ)) → IsRows (all_classes ds) (length (all_classes ds)) rows → AreAncestors rows (length rows) all → AreLists (all_classes ds) all
   are_lists rows all table lists = record {
     long = lists.long ∙ table.long;
@@ -90,13 +92,14 @@ module _ (ds : List ClassDecl) (names : List (List ℕ)) (t : IsTable ds names) 
       | inl lt ↦ (let l = known_low rows (length rows) all table.low lists i a m in omega (arith, l, lt, table.long))
       | inr ge ↦ (let w : length all ≤ i = omega (arith, lists.long) in absurd (rw (get_or_past all i [] w) at m))
     ];
+    once = keys_once;
     found = class_there;
     by = λ i lt. (let l : i < length rows = omega (arith, table.long) in
         ap (map (key_at (all_classes ds))) (lists.by i l)
         ∙ numbered (rows_of rows) (hierarchy (all_classes ds)) (key_at (all_classes ds)) (λ k. k < length (all_classes ds))
         (λ a p g m. let q = table.low a p m in omega (arith, g, q))
         (λ a g. table.by a g ∙ sym (parents_there a g))
-        (λ a b g k. alike a b g k (a == b) (same_key (key_at (all_classes ds) a) (key_at (all_classes ds) b)) refl refl ∙ sym (hierarchy_same (all_classes ds) (key_at (all_classes ds) a) (key_at (all_classes ds) b)))
+        (λ a b g k. alike (all_classes ds) keys_once a b g k (a == b) (same_key (key_at (all_classes ds) a) (key_at (all_classes ds) b)) refl refl ∙ sym (hierarchy_same (all_classes ds) (key_at (all_classes ds) a) (key_at (all_classes ds) b)))
         height_there i lt);
   }
 

@@ -5,6 +5,7 @@ mod ancestry;
 mod bodies;
 #[cfg(test)]
 mod cases;
+mod descent;
 mod double;
 mod inherited;
 mod introduced;
@@ -26,6 +27,7 @@ mod types;
 
 pub use ancestry::ancestors;
 pub use bodies::bodies_fit;
+pub use descent::{ancestor_lists, is_listed};
 pub use introduced::names_introduced_once;
 pub use known::{type_is_known, type_is_of_value};
 pub use laws::{faces_law, parents_lower_law, rules_law};

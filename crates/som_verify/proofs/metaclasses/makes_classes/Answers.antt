@@ -2,7 +2,6 @@ use Rattle.std.proofs.Common.{◌==◌, ◌+◌, length, None, sym, ap, ◌∙�
 use Rattle.som_model.specs.Kernel.{som_class}
 use Rattle.som_model.specs.Lists.{some}
 use Rattle.som_model.specs.Classes.{is_a}
-use Rattle.som_order.specs.Names.{texts}
 use Rattle.som_verify.specs.Places.{all_classes}
 use Rattle.som_verify.specs.Told.{of_library}
 use Rattle.som_verify.proofs.Finding.{known_at_all, long_map}
@@ -20,5 +19,5 @@ returns-in-Some c =
     let f = c.in-Some.ensures ds c.requires.table in
     c.has_place.ensures
     ∙ ap (some (λ a. 1 == a)) c.item.ensures
-    ∙ sym (is_a_place ds (texts c.args.table.now.keys) c.requires.table c.args.lists.now c.requires.lists c.in-Some.place 1 f.1 (omega (arith, long_map of_library ds)))
+    ∙ sym (is_a_place (all_classes ds) c.args.lists.now c.requires.lists c.in-Some.place 1 f.1 (omega (arith, long_map of_library ds)))
     ∙ ap (λ k. is_a (all_classes ds) k som_class) f.2

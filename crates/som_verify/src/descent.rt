@@ -1,0 +1,47 @@
+ghost use Rattle.som_model.specs.Classes.{is_a};
+ghost use Rattle.som_model.specs.declared.class.ClassDecl.{ClassDecl as Decl};
+ghost use Rattle.som_verify.specs.Faces.{faces_breach};
+ghost use Rattle.som_verify.specs.Places.{all_classes, key_at};
+ghost use Rattle.som_verify.specs.Told.{of_release};
+ghost use Rattle.som_verify.specs.Walk.{AreLists};
+ghost use Rattle.som_verify.specs.declared.types.VerifyFault.TheVariants as faults;
+ghost use Rattle.std.specs.Prelude.{◌≡◌, ◌<◌, List as Seq, length, IfErr, IfOk, None};
+
+use crate::ancestry::{ancestors, item};
+use crate::metaclasses::has_place;
+use crate::parents::parents_stand;
+use crate::table::class_names;
+use crate::types::VerifyFault;
+use som_model::{ClassDecl, List, NoMemory};
+use std::alloc::Global;
+
+/// The ancestors of the kernel's classes and of a release's, by places, for a release that breaks no rule of faces.
+pub fn ancestor_lists(alloc: Global, classes: &[ClassDecl]) -> Result<Vec<List<usize>>, NoMemory>
+    requires { faces_breach (of_release classes.now) ≡ None }
+    ensures { IfOk result (λ lists. AreLists (all_classes classes.now) lists.items) }
+{
+    match walk(alloc, classes) {
+        Ok(lists) => Ok(lists),
+        Err(VerifyFault::NoMemory) => Err(NoMemory),
+        Err(VerifyFault::Rule(_)) => unreachable!(),
+    }
+}
+
+fn walk(alloc: Global, classes: &[ClassDecl]) -> Result<Vec<List<usize>>, VerifyFault>
+    requires { faces_breach (of_release classes.now) ≡ None }
+    ensures lists { IfOk result (λ lists. AreLists (all_classes classes.now) lists.items) }
+    ensures fault { IfErr result (λ e. e ≡ faults.NoMemory) }
+{
+    let table = class_names(alloc, classes)?;
+    let rows = parents_stand(alloc, &table, classes)?;
+    Ok(ancestors(alloc, &rows)?)
+}
+
+/// Whether the class at a place descends from that at another.
+pub fn is_listed(lists: &[List<usize>], class: usize, ancestor: usize) -> bool
+    requires { class < length lists.now }
+    ensures { (ds : Seq Decl) → AreLists (all_classes ds) lists.now → ancestor < length (all_classes ds) →
+        result ≡ is_a (all_classes ds) (key_at (all_classes ds) class) (key_at (all_classes ds) ancestor) }
+{
+    has_place(item(lists, class), ancestor)
+}
