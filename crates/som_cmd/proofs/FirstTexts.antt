@@ -37,10 +37,13 @@ overrides_all (o ∷ os) = (block_all o.text, overrides_all os)
 
 classes_all : (cs : List FirstClass) → AllByRecursion libimage.ClassPrints (map decl_of cs)
 classes_all [] = tt
-classes_all (c ∷ cs) = (record {
-  bodies = All-from_recursion libimage.BodyPrints (map body_of c.methods) (bodies_all c.methods);
-  overrides = All-from_recursion (λ (o : Override). libimage.PrintsTexts o.block) (map override_of c.overrides) (overrides_all c.overrides);
-}, classes_all cs)
+classes_all (c ∷ cs) = (
+  record {
+    bodies = All-from_recursion libimage.BodyPrints (map body_of c.methods) (bodies_all c.methods);
+    overrides = All-from_recursion (λ (o : Override). libimage.PrintsTexts o.block) (map override_of c.overrides) (overrides_all c.overrides);
+  },
+  classes_all cs,
+)
 
 pub prints_in_images : (f : FirstRelease) → libimage.PrintTexts (release_of f)
 prints_in_images f = All-from_recursion libimage.ClassPrints (map decl_of f.classes) (classes_all f.classes)

@@ -40,3 +40,6 @@ none_conforming bytes r d breaks s is = breaks (subst (λ (x : Release). Release
 -- the release that is taken
 pub taken : (bytes : List ℕ) → AreBytes bytes → (r : Release) (f : FirstRelease) → Decodes bytes (Ok r) → release_of f ≡ r → ReleaseOk r → IsFirstLibrary bytes r
 taken bytes all r f d is ok = record { bytes_are = all; spelled = d.0 (conforming_names r ok); form = (f, sym is); conforms = ok }
+
+pub taken_spelled : (bytes : List ℕ) (r : Release) (f : FirstRelease) → Decodes bytes (Ok r) → release_of f ≡ r → ReleaseOk r → library_image (release_of f) ≡ Some bytes
+taken_spelled bytes r f d is ok = ap library_image is ∙ d.0 (conforming_names r ok)

@@ -1,12 +1,20 @@
 -- What is taken for a first image.
-use Rattle.std.specs.Prelude.{◌≡◌, ℕ, List, Some, Result, Ok, Err}
+use Rattle.std.specs.Prelude.{◌≡◌, Bool, true, false, ℕ, List, Some, Result, Ok, Err}
 use Rattle.som_model.specs.declared.program.Release.{Release}
+use Rattle.som_model.specs.declared.class.ClassDecl.{ClassDecl}
 use Rattle.som_model.specs.Class.{interface_of}
+use Rattle.som_model.specs.Classes.{is_a}
+use Rattle.som_model.specs.Conforming.{ProgramOk}
+use Rattle.som_verify.specs.Places.{all_classes, key_at}
+use Rattle.som_firstclient.specs.declared.image.ClientImage.{ClientImage}
+use Rattle.som_firstclient.specs.Clients.{program_named, FitsClient}
 use Rattle.som_model.specs.Images.{library_image}
 use Rattle.som_libimage.specs.Libraries.{NamesDiffer, PrintTexts}
 use Rattle.som_first.specs.declared.unread.Unread.{Unread}
 use Rattle.som_first.specs.declared.unread.Unread.TheVariants as unread
-use Rattle.som_first.specs.FirstImages.{IsFirstLibrary, release_of}
+use Rattle.som_first.specs.declared.calls.CallPlace.{CallPlace}
+use Rattle.som_first.specs.declared.classes.FirstProgram.{FirstProgram}
+use Rattle.som_first.specs.FirstImages.{IsFirstLibrary, IsFirstClient, release_of, program_of}
 use Rattle.som_first.specs.Linking.{AreWithin}
 use Rattle.som_cmd.specs.declared.library.Library.{Library}
 
@@ -31,3 +39,28 @@ pub record IsLibrary (bytes : List ℕ) (l : Library) : Type 0 where
 abbrev pub TakesLibrary : List ℕ → Result Library Unread → Type 0
 TakesLibrary bytes (Ok l) = IsLibrary bytes l
 TakesLibrary bytes (Err u) = IsNone IsFirstLibrary bytes u
+
+-- the class of the new object descends from that of the method, among the kernel's classes and these
+abbrev pub descends_in : List ClassDecl → CallPlace → Bool
+descends_in ds c = is_a (all_classes ds) (key_at (all_classes ds) c.object) (key_at (all_classes ds) c.class)
+
+-- the program that the image stands for has the first form, and conforms
+pub record ConformsAsFirst (i : ClientImage) : Type 0 where
+  pub first : FirstProgram
+  pub is : program_named i ≡ program_of first
+  pub conforms : ProgramOk (program_named i)
+
+-- whether it does
+abbrev pub ClientTells : ClientImage → Bool → Type 0
+ClientTells i true = ConformsAsFirst i
+ClientTells i false = ConformsAsFirst i → ⊥
+
+-- the client is that of the bytes
+pub record IsClient (bytes : List ℕ) (i : ClientImage) : Type 0 where
+  pub image : IsFirstClient bytes (program_named i)
+  pub fits : FitsClient i
+
+-- the client of the bytes, or they are no first client image, unless memory ran out
+abbrev pub TakesClient : List ℕ → Result ClientImage Unread → Type 0
+TakesClient bytes (Ok i) = IsClient bytes i
+TakesClient bytes (Err u) = IsNone IsFirstClient bytes u

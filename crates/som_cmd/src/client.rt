@@ -1,14 +1,11 @@
-ghost use Rattle.som_cmd.specs.Taking.{IsDescent, TakesClient};
-ghost use Rattle.som_first.specs.FirstImages.{face_of};
-ghost use Rattle.som_first.specs.declared.classes.FirstFace.{FirstFace as Face};
-ghost use Rattle.som_firstclient.specs.Clients.{CallFits};
+ghost use Rattle.som_cmd.specs.Taking.{ClientTells, TakesClient, descends_in};
+ghost use Rattle.som_firstclient.specs.Clients.{FitsClient};
 ghost use Rattle.som_model.specs.Class.{bare};
 ghost use Rattle.som_model.specs.Lists.{every};
 ghost use Rattle.som_verify.specs.Faces.{faces_breach};
 ghost use Rattle.som_verify.specs.Places.{all_classes};
 ghost use Rattle.som_verify.specs.Told.{of_release};
-ghost use Rattle.som_verify.specs.Walk.{AreLists};
-ghost use Rattle.std.specs.Prelude.{◌≡◌, List as Seq, None, map, All, IfOk};
+ghost use Rattle.std.specs.Prelude.{◌≡◌, ◌<◌, None, length, map, All, IfOk};
 
 use som_first::{CallPlace, Unread, are_first_faces};
 use som_firstclient::{ClientImage, read_client};
@@ -33,17 +30,36 @@ fn bare_classes(alloc: Global, faces: &[ClassFace]) -> Result<List<ClassDecl>, N
 }
 
 // Whether the class of each new object descends from that of the method that is called on it.
-fn all_descend(lists: &[List<usize>], calls: &[CallPlace]) -> bool
-    requires { All (λ c. c.object < length lists.now) calls.now }
-    ensures { (ds : Seq Decl) → AreLists (all_classes ds) lists.now → All (λ c. c.class < length (all_classes ds)) calls.now →
-        result ≡ every (descends_in ds) calls.now }
+fn all_descend(alloc: Global, classes: &[ClassDecl], calls: &[CallPlace]) -> Result<bool, NoMemory>
+    requires holds { faces_breach (of_release classes.now) ≡ None }
+    requires fit { All (λ c. (c.object < length (all_classes classes.now)) × (c.class < length (all_classes classes.now))) calls.now }
+    ensures { IfOk result (λ all. all ≡ every (descends_in classes.now) calls.now) }
 {
+    let lists = ancestor_lists(alloc, classes)?;
+    let lists = lists.as_slice();
     for call in calls {
-        if !is_listed(lists, usize::from(call.object), usize::from(call.class)) {
-            return false;
+        if !is_listed(lists, call.object as usize, call.class as usize) {
+            return Ok(false);
         }
     }
-    true
+    Ok(true)
+}
+
+// Whether a client of the first form conforms.
+fn conforms(alloc: Global, client: &ClientImage) -> Result<bool, NoMemory>
+    requires { FitsClient client.now }
+    ensures { IfOk result (λ told. ClientTells client.now told) }
+{
+    let faces = client.base.classes.as_slice();
+    if !are_first_faces(faces) {
+        return Ok(false);
+    }
+    let classes = bare_classes(alloc, faces)?;
+    match faces_ok(alloc, classes.as_slice()) {
+        Ok(()) => all_descend(alloc, classes.as_slice(), client.calls.as_slice()),
+        Err(VerifyFault::Rule(_)) => Ok(false),
+        Err(VerifyFault::NoMemory) => Err(NoMemory),
+    }
 }
 
 /// The client of a first client image.
@@ -52,13 +68,9 @@ pub fn take_client(alloc: Global, bytes: &List<u8>) -> Result<ClientImage, Unrea
 {
     let _all = bytes.as_bytes();
     let client = read_client(alloc, bytes)?;
-    if !are_first_faces(client.base.classes.as_slice()) {
-        return Err(Unread::OtherForm);
-    }
-    let classes = bare_classes(alloc, client.base.classes.as_slice())?;
-    match faces_ok(alloc, classes.as_slice()) {
-        Ok(()) => calls_fit(alloc, classes.as_slice(), client),
-        Err(VerifyFault::Rule(_)) => Err(Unread::OtherForm),
-        Err(VerifyFault::NoMemory) => Err(Unread::NoMemory),
+    if conforms(alloc, &client)? {
+        Ok(client)
+    } else {
+        Err(Unread::OtherForm)
     }
 }

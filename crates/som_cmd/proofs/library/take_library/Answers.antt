@@ -1,5 +1,6 @@
 use Rattle.std.proofs.Common.{◌∙◌, ap, refl, sym, Err}
-use Rattle.som_cmd.proofs.LibraryLaws.{none_conforming, taken, form_prints}
+use Rattle.som_first.proofs.Within.{within}
+use Rattle.som_cmd.proofs.LibraryLaws.{none_conforming, taken, taken_spelled, form_prints}
 use Rattle.som_cmd.proofs.library.take_library.Goals as goal
 
 pub release_ok-requires : goal.release_ok-requires
@@ -9,7 +10,7 @@ pub returns-in-Ok : goal.returns-in-Ok
 returns-in-Ok c = record {
   is = c.in_ok-first.ensures.made;
   image = taken c.args.bytes.now c.as_bytes-all.ensures.bytes c.in_ok-release.release c.in_ok-first.first c.in_ok-release.ensures c.in_ok-first.ensures.made c.in-Ok.ensures.conforms;
-  within = ?;
+  within = within c.in_ok-first.first c.args.bytes.now (taken_spelled c.args.bytes.now c.in_ok-release.release c.in_ok-first.first c.in_ok-release.ensures c.in_ok-first.ensures.made c.in-Ok.ensures.conforms);
 }
 
 pub returns-in-Err-Rule : goal.returns-in-Err-Rule
