@@ -1,9 +1,8 @@
 -- Reading a client image answers what the bytes spell, and nothing else.
-use Rattle.std.proofs.Common.{◌≡◌, ℕ, ◌+◌, ◌<◌, ◌≤◌, Bool, cond, List, [], ◌∷◌, ◌++◌, length, Result, Ok, Err, refl, sym, ap, subst, ◌∙◌, arith}
+use Rattle.std.proofs.Common.{◌≡◌, ℕ, ◌+◌, Bool, cond, List, [], ◌∷◌, ◌++◌, length, Result, Ok, Err, refl, ap, subst, ◌∙◌, arith}
 use Rattle.std.specs.Prelude.{nat_lt, codes}
 use Rattle.std.specs.Int.{w16}
 use Rattle.som_model.specs.declared.class.ClassFace.{ClassFace}
-use Rattle.som_model.specs.declared.program.Interface.{Interface}
 use Rattle.som_model.specs.Bytes.{AreBytes}
 use Rattle.som_model.specs.Steps.{◌>>=◌}
 use Rattle.som_wire.specs.declared.fault.ImageFault.{ImageFault}

@@ -1,11 +1,11 @@
 -- Calls with names are spelled as those with numbers are.
-use Rattle.std.proofs.Common.{◌≡◌, ℕ, zero, suc, ◌+◌, ◌-◌, ◌^◌, ◌<◌, ◌≤◌, Bool, true, false, true≢false, List, [], ◌∷◌, ◌++◌, length, map, get_or, Some, None, refl, sym, ap, subst, ◌∙◌, arith}
+use Rattle.std.proofs.Common.{◌≡◌, ℕ, zero, suc, ◌+◌, ◌-◌, ◌^◌, ◌<◌, ◌≤◌, Bool, false, true≢false, List, [], ◌∷◌, ◌++◌, length, map, get_or, Some, None, refl, sym, ap, subst, ◌∙◌, arith}
 use Rattle.std.specs.Prelude.{nat_lt, codes, All}
-use Rattle.std.specs.List.{flat_map, AllByRecursion}
+use Rattle.std.specs.List.{flat_map}
 use Rattle.std.specs.Int.{w16, w32, to_be_bytes}
 use Rattle.std.proofs.lemmas.Bool.{ltb-true, lt-ltb}
 use Rattle.std.proofs.lemmas.List.{length-map}
-use Rattle.std.proofs.lemmas.List.Elements.{All-from_recursion, recursion_from_All}
+use Rattle.std.proofs.lemmas.List.Elements.{recursion_from_All}
 use Rattle.som_model.specs.declared.key.Module.TheVariants as modules
 use Rattle.som_model.specs.declared.key.ClassKey.{ClassKey}
 use Rattle.som_model.specs.declared.key.MethodRef.{MethodRef}
@@ -27,7 +27,7 @@ use Rattle.som_wire.specs.Spelling.{FitsMethod}
 use Rattle.som_libimage.specs.declared.directory.Directory.{Directory}
 use Rattle.som_libimage.specs.Naming.{key_at, method_named, ranges_in}
 use Rattle.som_libimage.proofs.Places.{all_map, all_of, all_mapped}
-use Rattle.som_libimage.proofs.Spelled.{some_bytes, bytes_are, none_some, split, guarded, Forth, From, Back, each_forth, many_back}
+use Rattle.som_libimage.proofs.Spelled.{some_bytes, bytes_are, split, guarded, Forth, From, Back, each_forth, many_back}
 use Rattle.som_libimage.proofs.Numbers.{entry_names, Tells, NoDoubles, class_forth, method_forth, class_back, method_back}
 use Rattle.som_libimage.proofs.NamedReleases.{directory_of}
 use Rattle.som_libimage.proofs.NamedInterfaces.{known_by, a_class}

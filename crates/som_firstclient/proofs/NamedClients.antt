@@ -1,14 +1,11 @@
 -- A client program is spelled as the image that it is named from, and each one of calls on new objects is named from one.
-use Rattle.std.proofs.Common.{◌≡◌, ℕ, zero, suc, ◌+◌, ◌-◌, ◌^◌, ◌<◌, ◌≤◌, List, [], ◌∷◌, ◌++◌, length, map, get_or, Some, Result, Ok, Err, refl, sym, ap, subst, ◌∙◌, append_assoc, arith}
+use Rattle.std.proofs.Common.{◌≡◌, ℕ, zero, suc, ◌+◌, ◌-◌, ◌≤◌, List, [], ◌∷◌, ◌++◌, length, map, get_or, Some, Result, Ok, Err, sym, ap, subst, ◌∙◌, append_assoc, arith}
 use Rattle.std.specs.Prelude.{codes, All, IfOk}
 use Rattle.std.specs.List.{AllByRecursion}
 use Rattle.std.proofs.lemmas.List.{append-nil, length-map}
 use Rattle.std.proofs.lemmas.List.Elements.{All-from_recursion, recursion_from_All}
-use Rattle.som_model.specs.declared.limits.TheConstants.{MAX_LIBRARY_CLASSES}
 use Rattle.som_model.specs.declared.key.ClassKey.{ClassKey}
 use Rattle.som_model.specs.declared.syntax.Stmt.{Stmt}
-use Rattle.som_model.specs.declared.syntax.Block.{Block}
-use Rattle.som_model.specs.declared.class.Entry.{Entry}
 use Rattle.som_model.specs.declared.class.ClassDecl.{ClassDecl}
 use Rattle.som_model.specs.declared.class.ClassFace.{ClassFace}
 use Rattle.som_model.specs.declared.program.Interface.{Interface}
@@ -20,7 +17,6 @@ use Rattle.som_model.specs.Images.{Spelled, ◌then◌, tag, client_image}
 use Rattle.som_wire.specs.declared.fault.ImageFault.{ImageFault}
 use Rattle.som_wire.specs.declared.face.WireFace.{WireFace}
 use Rattle.som_wire.specs.Spelling.{FitsFace}
-use Rattle.som_libimage.specs.declared.directory.Directory.{Directory}
 use Rattle.som_libimage.specs.Libraries.{NamesDiffer, interface_image, NamedFrom}
 use Rattle.som_libimage.specs.Naming.{entry_named, face_named, interface_named, library_directory}
 use Rattle.som_libimage.specs.Spelling.{FitsFaces}

@@ -3,8 +3,6 @@ ghost use Rattle.som_first.specs.declared.classes.FirstCall.{FirstCall};
 ghost use Rattle.som_firstclient.specs.Clients.{AnswersProgram, FitsClient, program_named};
 ghost use Rattle.som_firstclient.specs.Reading.{Reads, client_at};
 ghost use Rattle.som_libimage.specs.Libraries.{NamesDiffer};
-ghost use Rattle.som_libimage.specs.Naming.{interface_named};
-ghost use Rattle.som_libimage.specs.Spelling.{FitsFaces};
 ghost use Rattle.som_model.specs.Images.{client_image};
 ghost use Rattle.som_model.specs.declared.program.ClientProgram.{ClientProgram};
 ghost use Rattle.som_wire.specs.Fields.{Gives};
@@ -14,27 +12,13 @@ use crate::call::read_calls;
 use crate::constant::read_constant;
 use crate::image::ClientImage;
 use som_first::Unread;
-use som_libimage::{Directory, name_faces, read_faces};
-use som_model::{Interface, List, Module, NoMemory};
-use som_wire::{ImageFault, WireFace};
+use som_libimage::{name_interface, read_faces};
 use std::alloc::Global;
 
 // The magic bytes, and version 1.
 const HEAD: &[u8] = b"SOMC\x01";
 
 const NO_CLASSES: &[u8] = b"\x00\x00";
-
-// The interface that faces of an image stand for.
-fn name_interface(alloc: Global, faces: &List<WireFace>) -> Result<Interface, NoMemory>
-    requires { FitsFaces faces.now }
-    ensures { IfOk result (λ named. named ≡ interface_named faces.now) }
-{
-    let mut directory = Directory::of_kernel(alloc)?;
-    directory.add(alloc, Module::Library, faces)?;
-    Ok(Interface {
-        classes: name_faces(alloc, &directory.keys, faces)?,
-    })
-}
 
 #[tactic(auto, unfolding(crate::specs::Reading::client_at))]
 fn read_to_the_end(alloc: Global, bytes: &List<u8>) -> Result<ClientImage, ImageFault>
