@@ -1,3 +1,4 @@
 mod FirstTexts
 mod LibraryLaws
 mod FuelLaws
+mod ClientLaws

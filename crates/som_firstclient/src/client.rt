@@ -13,6 +13,8 @@ use crate::constant::read_constant;
 use crate::image::ClientImage;
 use som_first::Unread;
 use som_libimage::{name_interface, read_faces};
+use som_model::List;
+use som_wire::ImageFault;
 use std::alloc::Global;
 
 // The magic bytes, and version 1.

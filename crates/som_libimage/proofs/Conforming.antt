@@ -18,11 +18,11 @@ use Rattle.som_libimage.specs.Libraries.{Differ, NamesDiffer}
 
 -- ---- nothing is broken
 
-neither_is : {A : Type 0} (a b : Option A) → or_else a b ≡ None → (a ≡ None) × (b ≡ None)
+pub neither_is : {A : Type 0} (a b : Option A) → or_else a b ≡ None → (a ≡ None) × (b ≡ None)
 neither_is None b h = (refl, h)
 neither_is (Some x) b h = absurd cc
 
-none_first : {A : Type 0} (xs : List A) → first xs ≡ None → xs ≡ []
+pub none_first : {A : Type 0} (xs : List A) → first xs ≡ None → xs ≡ []
 none_first [] h = refl
 none_first (x ∷ xs) h = absurd cc
 
@@ -78,6 +78,13 @@ entries_differ (c ∷ ds) h =
     let b = both_empty (s6 (own c)) (flat_map s6 (map own ds)) (sym (flat_map-cons s6 (own c) (map own ds)) ∙ h) in
     (none_mapped (breach 6 (own c)) (doubles bytes_eq [] (map entry_name c.face.entries)) b.0, entries_differ ds b.1)
 
+-- where S1 and S6 hold, names differ
+pub faces_names : (ds : List ClassDecl) → each_after s1 kernel (map own ds) ≡ [] → flat_map s6 (map own ds) ≡ [] → NamesDiffer (map (λ (c : ClassDecl). c.face) ds)
+faces_names ds once entries = record {
+  classes = names_differ [] ds once;
+  entries = All-from_recursion (λ (f : ClassFace). Differ (map entry_name f.entries)) (map (λ (c : ClassDecl). c.face) ds) (entries_differ ds entries);
+}
+
 pub conforming_names : (r : Release) → ReleaseOk r → NamesDiffer (interface_of r).classes
 conforming_names r ok =
     let names = neither_is _ _ ok.rules in
@@ -85,7 +92,4 @@ conforming_names r ok =
     let others = neither_is _ _ names.1 in
     let members = neither_is _ _ others.1 in
     let s6_holds = neither_is _ _ members.0 in
-    record {
-      classes = names_differ [] r.classes (none_first (each_after s1 kernel (map own r.classes)) s1_holds.0);
-      entries = All-from_recursion (λ (f : ClassFace). Differ (map entry_name f.entries)) (map (λ (c : ClassDecl). c.face) r.classes) (entries_differ r.classes (none_first (flat_map s6 (map own r.classes)) s6_holds.0));
-    }
+    faces_names r.classes (none_first (each_after s1 kernel (map own r.classes)) s1_holds.0) (none_first (flat_map s6 (map own r.classes)) s6_holds.0)

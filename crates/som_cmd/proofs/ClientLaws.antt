@@ -1,0 +1,186 @@
+-- Which bytes are taken for a first client image.
+use Rattle.std.proofs.Common.{◌≡◌, ℕ, zero, suc, ◌+◌, ◌-◌, ◌<◌, ◌≤◌, ◌⊎◌, inl, inr, Bool, true, false, if◌then◌else◌, List, [], ◌∷◌, ◌++◌, length, map, take, drop, Option, Some, None, Result, Ok, Err, slice_get, slice_index_or, refl, sym, ap, ◌∙◌, subst, arith, true≢false}
+use Rattle.std.specs.List.{All, AllByRecursion}
+use Rattle.std.specs.Prelude.{flat_map, get_or}
+use Rattle.std.proofs.lemmas.List.{append-nil}
+use Rattle.std.proofs.lemmas.List.Elements.{recursion_from_All, All-get_or}
+use Rattle.som_model.specs.declared.key.ClassKey.{ClassKey}
+use Rattle.som_model.specs.declared.key.Module.TheVariants as modules
+use Rattle.som_model.specs.declared.syntax.Stmt.{Stmt}
+use Rattle.som_model.specs.declared.class.ClassFace.{ClassFace}
+use Rattle.som_model.specs.declared.class.ClassDecl.{ClassDecl}
+use Rattle.som_model.specs.declared.class.Entry.{Entry}
+use Rattle.som_model.specs.declared.program.Interface.{Interface}
+use Rattle.som_model.specs.declared.program.ClientProgram.{ClientProgram}
+use Rattle.som_model.specs.declared.program.Release.{Release}
+use Rattle.som_model.specs.Bytes.{AreBytes}
+use Rattle.som_model.specs.Lists.{or_else, first, every, Mem}
+use Rattle.som_model.specs.Class.{Class, class_in, bare, entry_name}
+use Rattle.som_model.specs.Kernel.{kernel}
+use Rattle.som_model.specs.Classes.{interface_classes, client_classes, is_a}
+use Rattle.som_model.specs.Rules.{Breach, s1, s5, s6}
+use Rattle.som_model.specs.Typing.{IsTyped, AreTyped, no_more, and_then}
+use Rattle.som_model.specs.Conforming.{ProgramOk, program_breach, first_of_names, first_of_members, each_after}
+use Rattle.som_model.specs.Images.{client_image}
+use Rattle.som_libimage.specs.Libraries.{NamesDiffer}
+use Rattle.som_libimage.proofs.Conforming.{faces_names, neither_is, none_first}
+use Rattle.som_verify.specs.Faces.{faces_breach}
+use Rattle.som_verify.specs.Places.{all_classes, key_at}
+use Rattle.som_verify.specs.Told.{of_release}
+use Rattle.som_first.specs.declared.classes.FirstFace.{FirstFace}
+use Rattle.som_first.specs.declared.classes.FirstCall.{FirstCall}
+use Rattle.som_first.specs.declared.classes.FirstProgram.{FirstProgram}
+use Rattle.som_first.specs.declared.calls.CallPlace.{CallPlace}
+use Rattle.som_first.specs.declared.unread.Unread.{Unread}
+use Rattle.som_first.specs.declared.unread.Unread.TheVariants as unread
+use Rattle.som_first.specs.FirstImages.{library_key, face_of, call_of, program_of, plain_entry, IsFirstClient}
+
+use Rattle.som_first.proofs.CallsDecided.{faced, IsPlaced, typed_below, below_typed}
+use Rattle.som_firstclient.specs.declared.image.ClientImage.{ClientImage}
+use Rattle.som_firstclient.specs.Clients.{class_name, class_entries, call_named, program_named, IsOfLibrary, CallFits, FitsClient, AnswersProgram}
+use Rattle.som_cmd.specs.Taking.{IsNone, descends_in, ConformsAsFirst, ClientTells, IsClient}
+
+-- ---- the rules of a client without classes of its own are those of its faces
+
+lone : (o : Option Breach) → or_else o None ≡ o
+lone None = refl
+lone (Some b) = refl
+
+bare_are : (faces : List ClassFace) → of_release (map bare faces) ≡ interface_classes (record { classes = faces })
+bare_are [] = refl
+bare_are (f ∷ faces) = ap (λ (l : List Class). class_in modules.Library (bare f) ∷ l) (bare_are faces)
+
+-- the first breach, by its parts
+abbrev breach_by : List Class → List Breach → List Class → Option Breach → Option Breach
+breach_by names types members bodies = or_else (first_of_names kernel names) (or_else (first types) (or_else (first_of_members kernel members) bodies))
+
+pub program_faces : (i : ClientImage) → program_breach (program_named i) ≡ faces_breach (of_release (map bare i.base.classes))
+program_faces i =
+    let base = interface_classes i.base in
+    let types = flat_map (s5 (kernel ++ base)) base in
+    ap (λ (l : List Class). breach_by l (types ++ []) (base ++ []) None) (append-nil base)
+    ∙ ap (λ (l : List Breach). breach_by base l (base ++ []) None) (append-nil types)
+    ∙ ap (λ (l : List Class). breach_by base types l None) (append-nil base)
+    ∙ ap (λ (o : Option Breach). or_else (first_of_names kernel base) (or_else (first types) o)) (lone (first_of_members kernel base))
+    ∙ ap faces_breach (sym (bare_are i.base.classes))
+
+-- ---- what holds where there is no breach
+
+faces_of_bare : (faces : List ClassFace) → map (λ (c : ClassDecl). c.face) (map bare faces) ≡ faces
+faces_of_bare [] = refl
+faces_of_bare (f ∷ faces) = ap (λ (l : List ClassFace). f ∷ l) (faces_of_bare faces)
+
+-- S1 and S6 of the faces
+pub record FacesDiffer (faces : List ClassFace) : Type 0 where
+  pub once : each_after s1 kernel (interface_classes (record { classes = faces })) ≡ []
+  pub names : NamesDiffer faces
+
+pub faces_differ : (faces : List ClassFace) → faces_breach (of_release (map bare faces)) ≡ None → FacesDiffer faces
+faces_differ faces none =
+    let cs = of_release (map bare faces) in
+    let a = neither_is (first_of_names kernel cs) (or_else (first (flat_map (s5 (kernel ++ cs)) cs)) (first_of_members kernel cs)) none in
+    let b = neither_is (first (each_after s1 kernel cs)) _ a.0 in
+    let c = neither_is (first (flat_map (s5 (kernel ++ cs)) cs)) (first_of_members kernel cs) a.1 in
+    let d = neither_is (first (flat_map s6 cs)) _ c.1 in
+    let once = none_first (each_after s1 kernel cs) b.0 in
+    record {
+      once = ap (each_after s1 kernel) (sym (bare_are faces)) ∙ once;
+      names = subst (λ (l : List ClassFace). NamesDiffer l) (faces_of_bare faces) (faces_names (map bare faces) once (none_first (flat_map s6 cs) d.0));
+    }
+
+-- ---- calls
+
+-- a list's item at a place below its length
+at_of : {A : Type 0} (xs : List A) (i : ℕ) → i < length xs → (x : A) × (slice_get xs i ≡ Some x)
+at_of [] i lt = absurd (omega arith)
+at_of (x ∷ xs) zero lt = (x, refl)
+at_of (x ∷ xs) (suc i) lt = at_of xs i (omega arith)
+
+name_there : (fs : List FirstFace) (i : ℕ) (f : FirstFace) → slice_get fs i ≡ Some f → get_or (map (λ (c : ClassFace). c.name) (map face_of fs)) i [] ≡ f.name
+name_there [] i f e = absurd cc
+name_there (g ∷ fs) zero f e = let same : g ≡ f = cc in ap (λ (x : FirstFace). x.name) same
+name_there (g ∷ fs) (suc i) f e = name_there fs i f e
+
+entries_there : (fs : List FirstFace) (i : ℕ) (f : FirstFace) → slice_get fs i ≡ Some f → get_or (map (λ (c : ClassFace). c.entries) (map face_of fs)) i [] ≡ map plain_entry f.methods
+entries_there [] i f e = absurd cc
+entries_there (g ∷ fs) zero f e = let same : g ≡ f = cc in ap (λ (x : FirstFace). map plain_entry x.methods) same
+entries_there (g ∷ fs) (suc i) f e = entries_there fs i f e
+
+long_plain : (names : List (List ℕ)) → length (map plain_entry names) ≡ length names
+long_plain [] = refl
+long_plain (n ∷ names) = ap suc (long_plain names)
+
+long_faces : (fs : List FirstFace) → length (map face_of fs) ≡ length fs
+long_faces [] = refl
+long_faces (f ∷ fs) = ap suc (long_faces fs)
+
+slot_there : (names : List (List ℕ)) (j : ℕ) (n : List ℕ) → slice_get names j ≡ Some n → get_or (map entry_name (map plain_entry names)) j [] ≡ n
+slot_there [] j n e = absurd cc
+slot_there (m ∷ names) zero n e = cc
+slot_there (m ∷ names) (suc j) n e = slot_there names j n e
+
+module _ (fs : List FirstFace) (at : CallPlace) (fits : CallFits (map face_of fs) at) where
+  abbrev named : FirstCall
+  named = call_named (map face_of fs) at
+
+  -- the call names faces and a method by their places
+  pub placed : IsPlaced fs named
+  placed =
+      let o = at_of fs (at.object - 4) (omega (arith, fits.object.0, fits.object.1, long_faces fs)) in
+      let c = at_of fs (at.class - 4) (omega (arith, fits.class.0, fits.class.1, long_faces fs)) in
+      let entries = entries_there fs (at.class - 4) c.0 c.1 in
+      let slot : at.slot < length c.0.methods = omega (arith, fits.slot, ap length entries, long_plain c.0.methods) in
+      let m = at_of c.0.methods at.slot slot in
+      let method : named.method ≡ m.0 = ap (λ (es : List Entry). get_or (map entry_name es) at.slot []) entries ∙ slot_there c.0.methods at.slot m.0 m.1 in
+      record {
+        object_place = at.object - 4; object = o.0; object_at = o.1; object_is = sym (name_there fs (at.object - 4) o.0 o.1);
+        class_place = at.class - 4; class = c.0; class_stands = c.1; class_is = sym (name_there fs (at.class - 4) c.0 c.1);
+        slot = at.slot; method_at = m.1 ∙ ap (λ (n : List ℕ). Some n) (sym method);
+      }
+
+-- the key at the place of a library class
+key_there : (faces : List ClassFace) (i : ℕ) → i < length faces → key_at (all_classes (map bare faces)) (suc (suc (suc (suc i)))) ≡ library_key (get_or (map (λ (c : ClassFace). c.name) faces) i [])
+key_there [] i lt = absurd (omega arith)
+key_there (f ∷ faces) zero lt = refl
+key_there (f ∷ faces) (suc i) lt = key_there faces i (omega arith)
+
+key_of_number : (faces : List ClassFace) (n : ℕ) → IsOfLibrary faces n → key_at (all_classes (map bare faces)) n ≡ library_key (class_name faces n)
+key_of_number faces n is =
+    let e : n ≡ suc (suc (suc (suc (n - 4)))) = omega (arith, is.0) in
+    ap (key_at (all_classes (map bare faces))) e ∙ key_there faces (n - 4) (omega (arith, is.0, is.1))
+
+all_bare : (faces : List ClassFace) → all_classes (map bare faces) ≡ kernel ++ interface_classes (record { classes = faces })
+all_bare faces = ap (λ (l : List Class). kernel ++ l) (bare_are faces)
+
+-- the test of descent by numbers is that by names
+pub descends_is : (fs : List FirstFace) (at : CallPlace) → CallFits (map face_of fs) at → descends_in (map bare (map face_of fs)) at ≡ is_a (faced fs) (library_key (call_named (map face_of fs) at).object) (library_key (call_named (map face_of fs) at).class)
+descends_is fs at fits =
+    let faces = map face_of fs in
+    ap (λ (k : ClassKey). is_a (all_classes (map bare faces)) k (key_at (all_classes (map bare faces)) at.class)) (key_of_number faces at.object fits.object)
+    ∙ ap (is_a (all_classes (map bare faces)) (library_key (class_name faces at.object))) (key_of_number faces at.class fits.class)
+    ∙ ap (λ (cs : List Class). is_a cs (library_key (class_name faces at.object)) (library_key (class_name faces at.class))) (all_bare faces)
+
+module _ (fs : List FirstFace) (once : each_after s1 kernel (interface_classes (record { classes = map face_of fs })) ≡ []) where
+  abbrev statement : CallPlace → Stmt
+  statement at = call_of (call_named (map face_of fs) at)
+
+  both_hold : (b c : Bool) → b ≡ true → c ≡ true → (if b then c else false) ≡ true
+  both_hold true c e f = f
+  both_hold false c e f = absurd (true≢false (sym e))
+
+  one_holds : (b c : Bool) → (if b then c else false) ≡ true → (b ≡ true) × (c ≡ true)
+  one_holds true c e = (refl, e)
+  one_holds false c e = absurd (true≢false (sym e))
+
+  -- calls whose objects descend from their methods' classes are well typed, and no others
+  pub typed_where : (ats : List CallPlace) → AllByRecursion (CallFits (map face_of fs)) ats → every (descends_in (map bare (map face_of fs))) ats ≡ true → AreTyped (faced fs) (map statement ats)
+  typed_where [] fit e = no_more
+  typed_where (at ∷ ats) fit e =
+      let p = one_holds (descends_in (map bare (map face_of fs)) at) (every (descends_in (map bare (map face_of fs))) ats) e in
+      and_then (statement at) (map statement ats) (below_typed fs once (call_named (map face_of fs) at) (placed fs at fit.0) (sym (descends_is fs at fit.0) ∙ p.0)) (typed_where ats fit.1 p.1)
+
+  pub where_typed : (ats : List CallPlace) → AllByRecursion (CallFits (map face_of fs)) ats → AreTyped (faced fs) (map statement ats) → every (descends_in (map bare (map face_of fs))) ats ≡ true
+  where_typed [] fit typed = refl
+  where_typed (at ∷ ats) fit (and_then s ss one more) =
+      both_hold (descends_in (map bare (map face_of fs)) at) (every (descends_in (map bare (map face_of fs))) ats)
+      (descends_is fs at fit.0 ∙ typed_below fs once (call_named (map face_of fs) at) (placed fs at fit.0) one) (where_typed ats fit.1 more)
