@@ -4,7 +4,7 @@ use Rattle.std.specs.Prelude.{nat_lt, codes, All}
 use Rattle.std.specs.List.{flat_map}
 use Rattle.std.specs.Int.{w16, w32, to_be_bytes}
 use Rattle.std.proofs.lemmas.Bool.{ltb-true, lt-ltb}
-use Rattle.std.proofs.lemmas.List.{length-map}
+use Rattle.std.proofs.lemmas.List.{append-nil, length-map}
 use Rattle.std.proofs.lemmas.List.Elements.{recursion_from_All}
 use Rattle.som_model.specs.declared.key.Module.TheVariants as modules
 use Rattle.som_model.specs.declared.key.ClassKey.{ClassKey}
@@ -77,15 +77,11 @@ stmt cs = fold-Stmt AtLevel AtLevel (stmt_step cs) block_step
 one_statement : (cs : List Class) (s : Stmt) → images.block cs (record { statements = s ∷ [] }) 1 ≡ (images.number w32 1 then (stmt cs s 1 then Some []))
 one_statement cs s = ap (λ (f : AtLevel). f 1) (fold-roll-Block AtLevel AtLevel (stmt_step cs) block_step (record { statements = s ∷ [] }))
 
-no_more : (x : List ℕ) → x ++ [] ≡ x
-no_more [] = refl
-no_more (b ∷ x) = ap (λ (l : List ℕ). b ∷ l) (no_more x)
-
 -- blocks of one statement that are spelled as one have statements that are
 same_spelled : (a b : Spelled) → (images.number w32 1 then (a then Some [])) ≡ (images.number w32 1 then (b then Some [])) → a ≡ b
 same_spelled (Some x) (Some y) e =
     let same : x ++ [] ≡ y ++ [] = (let z = e in cc) in
-    ap some_bytes (sym (no_more x) ∙ same ∙ no_more y)
+    ap some_bytes (sym (append-nil x) ∙ same ∙ append-nil y)
 same_spelled (Some x) None e = absurd cc
 same_spelled None (Some y) e = absurd cc
 same_spelled None None e = refl
