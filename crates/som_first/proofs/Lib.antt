@@ -17,3 +17,4 @@ pub mod FirstAnswered
 mod CallLaws
 mod Forms
 pub mod Within
+mod WorkedLaws
