@@ -19,3 +19,4 @@ pub mod FirstDecided
 pub mod CallsDecided
 mod Forms
 pub mod Within
+mod WorkedLaws

@@ -1,3 +1,4 @@
 pub mod FirstImages
 pub mod FirstRuns
 pub mod Linking
+pub mod Worked

@@ -8,6 +8,8 @@ mod form;
 mod laws;
 mod link;
 mod names;
+#[cfg(test)]
+mod tests;
 mod unread;
 
 pub use calls::{CallPlace, Printing, print_calls};
