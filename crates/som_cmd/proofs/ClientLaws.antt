@@ -161,7 +161,7 @@ descends_is fs at fits =
     ∙ ap (λ (cs : List Class). is_a cs (library_key (class_name faces at.object)) (library_key (class_name faces at.class))) (all_bare faces)
 
 module _ (fs : List FirstFace) (once : each_after s1 kernel (interface_classes (record { classes = map face_of fs })) ≡ []) where
-  abbrev statement : CallPlace → Stmt
+  abbrev pub statement : CallPlace → Stmt
   statement at = call_of (call_named (map face_of fs) at)
 
   both_hold : (b c : Bool) → b ≡ true → c ≡ true → (if b then c else false) ≡ true
@@ -184,3 +184,87 @@ module _ (fs : List FirstFace) (once : each_after s1 kernel (interface_classes (
   where_typed (at ∷ ats) fit (and_then s ss one more) =
       both_hold (descends_in (map bare (map face_of fs)) at) (every (descends_in (map bare (map face_of fs))) ats)
       (descends_is fs at fit.0 ∙ typed_below fs once (call_named (map face_of fs) at) (placed fs at fit.0) one) (where_typed ats fit.1 more)
+
+-- ---- a client image that is read
+
+-- an image of first faces
+abbrev image_of : List FirstFace → List CallPlace → ClientImage
+image_of fs ats = record { base = record { classes = map face_of fs }; calls = ats }
+
+calls_named : (faces : List ClassFace) (ats : List CallPlace) → map (λ at. call_of (call_named faces at)) ats ≡ map call_of (map (call_named faces) ats)
+calls_named faces [] = refl
+calls_named faces (at ∷ ats) = ap (λ (l : List Stmt). call_of (call_named faces at) ∷ l) (calls_named faces ats)
+
+-- the first program that it stands for
+abbrev first_program : List FirstFace → List CallPlace → FirstProgram
+first_program fs ats = record { faces = fs; calls = map (call_named (map face_of fs)) ats }
+
+abbrev with_main : Interface → List Stmt → ClientProgram
+with_main base statements = record { base = base; classes = []; main = record { statements = statements } }
+
+program_is : (fs : List FirstFace) (ats : List CallPlace) → program_named (image_of fs ats) ≡ program_of (first_program fs ats)
+program_is fs ats = ap (with_main (record { classes = map face_of fs })) (calls_named (map face_of fs) ats)
+
+no_classes : (fs : List FirstFace) → faced fs ≡ kernel ++ interface_classes (record { classes = map face_of fs }) ++ []
+no_classes fs = ap (λ (l : List Class). kernel ++ l) (sym (append-nil (interface_classes (record { classes = map face_of fs }))))
+
+first_tells : (fs : List FirstFace) (ats : List CallPlace) → FitsClient (image_of fs ats) → faces_breach (of_release (map bare (map face_of fs))) ≡ None → (told : Bool) → told ≡ every (descends_in (map bare (map face_of fs))) ats
+    → ClientTells (image_of fs ats) told
+first_tells fs ats fits none true e =
+    let differ = faces_differ (map face_of fs) none in
+    record {
+      first = first_program fs ats;
+      is = program_is fs ats;
+      conforms = record {
+        rules = program_faces (image_of fs ats) ∙ none;
+        blocks = λ b m. absurd m;
+        main = subst (λ (cs : List Class). AreTyped cs (map (statement fs differ.once) ats)) (no_classes fs) (typed_where fs differ.once ats (recursion_from_All (CallFits (map face_of fs)) ats fits.calls) (sym e));
+      };
+    }
+first_tells fs ats fits none false e =
+    let differ = faces_differ (map face_of fs) none in
+    λ ok. true≢false (sym (where_typed fs differ.once ats (recursion_from_All (CallFits (map face_of fs)) ats fits.calls)
+    (subst (λ (cs : List Class). AreTyped cs (map (statement fs differ.once) ats)) (sym (no_classes fs)) ok.conforms.main)) ∙ sym e)
+
+-- whether a client of first faces conforms
+pub client_tells : (i : ClientImage) (fs : List FirstFace) (faces : List ClassFace) (ds : List ClassDecl) → map face_of fs ≡ faces → faces ≡ i.base.classes → ds ≡ map bare faces → FitsClient i → faces_breach (of_release ds) ≡ None
+    → (told : Bool) → told ≡ every (descends_in ds) i.calls → ClientTells i told
+client_tells i fs faces ds is_fs is_faces is_ds fits none told e =
+    let here : i.base.classes ≡ map face_of fs = sym is_faces ∙ sym is_fs in
+    let there : ds ≡ map bare (map face_of fs) = is_ds ∙ ap (map bare) (sym is_fs) in
+    let is : image_of fs i.calls ≡ i = ap (λ (l : List ClassFace). record { base = record { classes = l }; calls = i.calls }) (sym here) in
+    subst (λ (x : ClientImage). ClientTells x told) is
+    (first_tells fs i.calls (subst (λ (x : ClientImage). FitsClient x) (sym is) fits) (ap (λ (l : List ClassDecl). faces_breach (of_release l)) (sym there) ∙ none) told
+    (e ∙ ap (λ (l : List ClassDecl). every (descends_in l) i.calls) there))
+
+some_none : (b : Breach) → Some b ≡ None → ⊥
+some_none b e = cc
+
+-- a client that breaks a rule of faces doesn't conform
+pub breaks : (i : ClientImage) (faces : List ClassFace) (ds : List ClassDecl) (b : Breach) → faces ≡ i.base.classes → ds ≡ map bare faces → faces_breach (of_release ds) ≡ Some b → ConformsAsFirst i → ⊥
+breaks i faces ds b is_faces is_ds e ok =
+    some_none b (sym e ∙ ap (λ (l : List ClassDecl). faces_breach (of_release l)) (is_ds ∙ ap (map bare) is_faces) ∙ sym (program_faces i) ∙ ok.conforms.rules)
+
+abbrev Only : List ℕ → Result ClientImage Unread → Type 0
+Only bytes result = (p : ClientProgram) → p.classes ≡ [] → (calls : List FirstCall) → p.main.statements ≡ map call_of calls → client_image p ≡ Some bytes → AnswersProgram result p
+
+asked_of : (bytes : List ℕ) (result : Result ClientImage Unread) → Only bytes result → (p : ClientProgram) → IsFirstClient bytes p → AnswersProgram result p
+asked_of bytes result only p is =
+    only p (ap (λ (x : ClientProgram). x.classes) is.form.1) is.form.0.calls (ap (λ (x : ClientProgram). x.main.statements) is.form.1) is.spelled
+
+-- bytes that can't be read are no first image
+pub none_read : (bytes : List ℕ) (u : Unread) → Only bytes (Err u) → IsNone IsFirstClient bytes u
+none_read bytes unread.OtherForm only = asked_of bytes (Err unread.OtherForm) only
+none_read bytes unread.NoMemory only = tt
+
+-- nor are those that stand for a program that doesn't conform
+pub none_conforming : (bytes : List ℕ) (i : ClientImage) → Only bytes (Ok i) → (ConformsAsFirst i → ⊥) → (p : ClientProgram) → IsFirstClient bytes p → ⊥
+none_conforming bytes i only never p is =
+    let same : program_named i ≡ p = asked_of bytes (Ok i) only p is in
+    never (record { first = is.form.0; is = same ∙ is.form.1; conforms = subst (λ (x : ClientProgram). ProgramOk x) (sym same) is.conforms })
+
+-- the program that is taken
+pub client_taken : (bytes : List ℕ) → AreBytes bytes → (i : ClientImage) → (NamesDiffer i.base.classes → client_image (program_named i) ≡ Some bytes) → ConformsAsFirst i → IsFirstClient bytes (program_named i)
+client_taken bytes all i found ok =
+    let differ = faces_differ i.base.classes (sym (program_faces i) ∙ ok.conforms.rules) in
+    record { bytes_are = all; spelled = found differ.names; form = (ok.first, ok.is); conforms = ok.conforms }

@@ -63,6 +63,7 @@ fn conforms(alloc: Global, client: &ClientImage) -> Result<bool, NoMemory>
 }
 
 /// The client of a first client image.
+#[tactic(auto, using(crate::proofs::ClientLaws::none_read, crate::proofs::ClientLaws::none_conforming))]
 pub fn take_client(alloc: Global, bytes: &List<u8>) -> Result<ClientImage, Unread>
     ensures { TakesClient bytes.now result }
 {
