@@ -34,7 +34,6 @@ use Rattle.som_first.specs.declared.calls.CallPlace.{CallPlace}
 use Rattle.som_first.specs.declared.unread.Unread.{Unread}
 use Rattle.som_first.specs.declared.unread.Unread.TheVariants as unread
 use Rattle.som_first.specs.FirstImages.{library_key, face_of, call_of, program_of, plain_entry, IsFirstClient}
-
 use Rattle.som_first.proofs.CallsDecided.{faced, IsPlaced, typed_below, below_typed}
 use Rattle.som_firstclient.specs.declared.image.ClientImage.{ClientImage}
 use Rattle.som_firstclient.specs.Clients.{class_name, class_entries, call_named, program_named, IsOfLibrary, CallFits, FitsClient, AnswersProgram}
@@ -133,9 +132,16 @@ module _ (fs : List FirstFace) (at : CallPlace) (fits : CallFits (map face_of fs
       let m = at_of c.0.methods at.slot slot in
       let method : named.method ≡ m.0 = ap (λ (es : List Entry). get_or (map entry_name es) at.slot []) entries ∙ slot_there c.0.methods at.slot m.0 m.1 in
       record {
-        object_place = at.object - 4; object = o.0; object_at = o.1; object_is = sym (name_there fs (at.object - 4) o.0 o.1);
-        class_place = at.class - 4; class = c.0; class_stands = c.1; class_is = sym (name_there fs (at.class - 4) c.0 c.1);
-        slot = at.slot; method_at = m.1 ∙ ap (λ (n : List ℕ). Some n) (sym method);
+        object_place = at.object - 4;
+        object = o.0;
+        object_at = o.1;
+        object_is = sym (name_there fs (at.object - 4) o.0 o.1);
+        class_place = at.class - 4;
+        class = c.0;
+        class_stands = c.1;
+        class_is = sym (name_there fs (at.class - 4) c.0 c.1);
+        slot = at.slot;
+        method_at = m.1 ∙ ap (λ (n : List ℕ). Some n) (sym method);
       }
 
 -- the key at the place of a library class

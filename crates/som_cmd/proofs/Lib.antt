@@ -2,3 +2,4 @@ mod FirstTexts
 mod LibraryLaws
 mod FuelLaws
 mod ClientLaws
+mod RunLaws

@@ -2,5 +2,16 @@
 #![tactic(auto)]
 
 mod client;
+mod laws;
 mod library;
+mod line;
+mod run;
+mod stop;
+mod top;
 mod words;
+
+pub use laws::{answer_law, first_image_law, fuel_law};
+pub use top::run_som;
+
+#[cfg(test)]
+mod tests;

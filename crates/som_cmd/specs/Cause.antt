@@ -1,0 +1,42 @@
+-- When a command may say that the store failed, and with which line.
+use Rattle.std.specs.Prelude.{◌≡◌, ◌⊎◌, ℕ, List, Option, Some, None, Result, Ok, Err, codes}
+use Rattle.std.specs.FinMap.{get}
+use Rattle.som_io.specs.Outside.{Rose}
+use Rattle.som_model.specs.Bytes.{Files}
+use Rattle.som_cmd.specs.declared.stop.Stop.{Stop}
+use Rattle.som_cmd.specs.declared.stop.Stop.TheVariants as stops
+use Rattle.som_cmd.specs.Words.{Asked, Run, Bad}
+use Rattle.som_cmd.specs.Answer.{named}
+
+abbrev pub store_failed : List ℕ → List ℕ
+store_failed name = named (codes "store failed ") name
+
+-- the files, where they are told, have something under a name
+abbrev pub Has : Option Files → List ℕ → Type 0
+Has None name = Unit {0}
+Has (Some files) name = (bytes : List ℕ) × (get files name ≡ Some bytes)
+
+-- the line says that the get of a name failed which the command gets, and no step before that get refuses
+abbrev pub FailsOn : Option Files → Asked → List ℕ → Type 0
+FailsOn files (Run client library fuel) line = (line ≡ store_failed client) ⊎ ((line ≡ store_failed library) × Has files client)
+FailsOn files Bad line = ⊥
+
+abbrev pub StopHasCause : (List ℕ → Type 0) → ℕ → ℕ → Stop → Type 0
+StopHasCause is_line before now (stops.StoreFailed line) = Rose before now × is_line line
+StopHasCause is_line before now (stops.Refused r) = Unit {0}
+StopHasCause is_line before now stops.NoMemory = Unit {0}
+
+-- a step says that the store failed only where its count rose, and then with such a line
+abbrev pub HasCause : {A : Type 0} → (List ℕ → Type 0) → ℕ → ℕ → Result A Stop → Type 0
+HasCause is_line before now (Ok x) = Unit {0}
+HasCause is_line before now (Err stop) = StopHasCause is_line before now stop
+
+abbrev pub IsQuietStop : Stop → Type 0
+IsQuietStop (stops.StoreFailed line) = ⊥
+IsQuietStop (stops.Refused r) = Unit {0}
+IsQuietStop stops.NoMemory = Unit {0}
+
+-- a step doesn't say that the store failed
+abbrev pub IsQuiet : {A : Type 0} → Result A Stop → Type 0
+IsQuiet (Ok x) = Unit {0}
+IsQuiet (Err stop) = IsQuietStop stop

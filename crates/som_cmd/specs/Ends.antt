@@ -1,0 +1,61 @@
+-- How a call may end.
+use Rattle.std.specs.Prelude.{◌≡◌, ◌⊎◌, ℕ, List, Option, Some, None}
+use Rattle.std.specs.FinMap.{get}
+use Rattle.som_model.specs.declared.program.Release.{Release}
+use Rattle.som_model.specs.declared.program.ClientProgram.{ClientProgram}
+use Rattle.som_model.specs.Bytes.{Files}
+use Rattle.som_model.specs.Class.{interface_of}
+use Rattle.som_model.specs.Means.{means}
+use Rattle.som_io.specs.Outside.{Rose, ShowsAll, ShowsFront}
+use Rattle.som_first.specs.FirstImages.{IsFirstLibrary, IsFirstClient}
+use Rattle.som_cmd.specs.RunText.{run_text, run_status, no_trace}
+use Rattle.som_cmd.specs.Words.{Asked, Run}
+use Rattle.som_cmd.specs.Answer.{Ending, IsAnswer}
+use Rattle.som_cmd.specs.Cause.{FailsOn}
+
+-- as the answer says: its status, all of its text, its files
+pub record EndsAs (before : Files) (asked : Asked) (status : ℕ) (files : Option Files) (old new : Option (List ℕ)) : Type 0 where
+  pub told : Ending
+  pub is_answer : IsAnswer before asked told
+  pub status_is : status ≡ told.status
+  pub text_is : ShowsAll old new told.text
+  pub files_are : files ≡ Some told.files
+
+-- the same over a store, where it told its files
+abbrev pub EndsAsTold : Asked → Option Files → ℕ → Option Files → Option (List ℕ) → Option (List ℕ) → Type 0
+EndsAsTold asked None status files old new = Unit {0}
+EndsAsTold asked (Some before) status files old new = EndsAs before asked status files old new
+
+-- the store has failed, and the line that says so is all that was written
+pub record StoreFails (asked : Asked) (files : Option Files) (before now : ℕ) (old new : Option (List ℕ)) : Type 0 where
+  pub rose : Rose before now
+  pub line : List ℕ
+  pub is_line : FailsOn files asked line
+  pub written : ShowsAll old new line
+
+-- a front of the answer's text was written, or, where the store has failed, of the line that says so
+abbrev pub ShowsSome : Asked → Option Files → ℕ → ℕ → Option (List ℕ) → Option (List ℕ) → Type 0
+ShowsSome asked None before now old new = Unit {0}
+ShowsSome asked (Some files) before now old new =
+    ((told : Ending) × IsAnswer files asked told × ShowsFront old new told.text)
+    ⊎ (Rose before now × (line : List ℕ) × FailsOn (Some files) asked line × ShowsFront old new line)
+
+-- a run with so much fuel is asked for, and the store holds the image of a client and that of the release that it was compiled against
+pub record AreImagesOf (asked : Asked) (files : Option Files) (p : ClientProgram) (r : Release) (fuel : ℕ) : Type 0 where
+  pub told : Files
+  pub files_are : files ≡ Some told
+  pub client : List ℕ
+  pub library : List ℕ
+  pub asked_is : asked ≡ Run client library fuel
+  pub client_bytes : List ℕ
+  pub client_is : get told client ≡ Some client_bytes
+  pub library_bytes : List ℕ
+  pub library_is : get told library ≡ Some library_bytes
+  pub program : IsFirstClient client_bytes p
+  pub release : IsFirstLibrary library_bytes r
+  pub compiled : p.base ≡ interface_of r
+
+-- what was written is the text of what the client means among the classes of the release, and the status is that meaning's
+pub record RunsAs (p : ClientProgram) (r : Release) (fuel : ℕ) (status : ℕ) (old new : Option (List ℕ)) : Type 0 where
+  pub text : ShowsAll old new (run_text no_trace (means r p fuel))
+  pub status_is : status ≡ run_status (means r p fuel)

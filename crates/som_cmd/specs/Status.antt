@@ -1,0 +1,14 @@
+-- Statuses.
+use Rattle.std.specs.Prelude.{ℕ, ◌==◌, Bool, ◌||◌}
+use Rattle.som_cmd.specs.declared.stop.Why.{Why}
+use Rattle.som_cmd.specs.declared.stop.Why.TheVariants as why
+
+-- the status of each refusal
+abbrev pub status_of : Why → ℕ
+status_of why.Incompatible = 4
+status_of why.Image = 5
+status_of why.Absent = 7
+
+-- the statuses that come where neither store nor sink fails
+abbrev pub is_calm_status : ℕ → Bool
+is_calm_status n = (n == 0) || (n == 2) || (n == 4) || (n == 5) || (n == 7) || (n == 9) || (n == 10)

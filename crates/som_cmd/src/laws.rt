@@ -1,0 +1,26 @@
+ghost use Rattle.som_cmd.specs.Answer.{Ending, IsAnswer};
+ghost use Rattle.som_first.specs.FirstImages.{IsFirstClient, IsFirstLibrary};
+ghost use Rattle.som_cmd.specs.Words.{Asked, fuel_of};
+ghost use Rattle.som_model.specs.Bytes.{Files};
+ghost use Rattle.som_model.specs.declared.program.ClientProgram.{ClientProgram};
+ghost use Rattle.som_model.specs.declared.limits.TheConstants.{MAX_FUEL};
+ghost use Rattle.som_model.specs.declared.program.Release.{Release};
+ghost use Rattle.std.specs.Fmt.{decimal};
+ghost use Rattle.std.specs.Prelude.{◌≡◌, ◌↔◌, ◌≤◌, ℕ, List, Some};
+
+/// Whatever is asked for and whatever the files are, there is one answer, and no other.
+pub fn answer_law()
+    ensures some { (files : Files) (asked : Asked) → (told : Ending) × IsAnswer files asked told }
+    ensures one { (files : Files) (asked : Asked) (a b : Ending) → IsAnswer files asked a → IsAnswer files asked b → a ≡ b }
+{}
+
+/// Bytes are the first image of one release at most, and of one client program at most.
+pub fn first_image_law()
+    ensures library { (bytes : List ℕ) (r s : Release) → IsFirstLibrary bytes r → IsFirstLibrary bytes s → r ≡ s }
+    ensures client { (bytes : List ℕ) (p q : ClientProgram) → IsFirstClient bytes p → IsFirstClient bytes q → p ≡ q }
+{}
+
+/// The fuel of a word is the number of which the word is the decimal spelling, if it is no greater than may be asked for.
+pub fn fuel_law()
+    ensures { (word : List ℕ) (n : ℕ) → (fuel_of word ≡ Some n) ↔ ((word ≡ decimal n) × (n ≤ MAX_FUEL)) }
+{}

@@ -1,0 +1,97 @@
+ghost use Rattle.som_cmd.specs.Answer.{no_image};
+ghost use Rattle.som_cmd.specs.Cause.{FailsOn, HasCause, IsQuiet, store_failed};
+ghost use Rattle.som_cmd.specs.RunSteps.{AnswersTold, FollowsTold, RunsOn, TakesOr, file_of};
+ghost use Rattle.som_cmd.specs.Taking.{IsClient, IsLibrary};
+ghost use Rattle.som_cmd.specs.Words.{Run};
+ghost use Rattle.std.specs.Prelude.{◌≡◌, ◌≤◌, ℕ, List as Seq};
+
+use crate::client::take_client;
+use crate::library::{Library, take_library};
+use crate::line::named_line;
+use crate::stop::{Refusal, Stop, Why};
+use som_first::{Printing, Unread, link_release, print_calls};
+use som_firstclient::ClientImage;
+use som_io::{Got, Store};
+use som_model::{List, Text};
+use std::alloc::Global;
+
+// The bytes under a name.
+fn fetch<S: Store>(alloc: Global, name: &Text, store: &mut S) -> Result<List<u8>, Stop>
+    ensures answer { FollowsTold (S.files store.old) result (file_of name.now) }
+    ensures files { S.files store.new ≡ S.files store.old }
+    ensures later { S.faults store.old ≤ S.faults store.new }
+    ensures cause { HasCause (λ line. line ≡ store_failed name.now) (S.faults store.old) (S.faults store.new) result }
+    ensures calm { S.calm store.old → S.calm store.new }
+    ensures quiet { S.calm store.old → IsQuiet result }
+{
+    match store.get(name) {
+        Got::Bytes(bytes) => Ok(bytes),
+        Got::Absent => Err(Stop::Refused(Refusal {
+            line: named_line(alloc, b"absent ", name)?,
+            why: Why::Absent,
+        })),
+        Got::Failed => Err(Stop::StoreFailed(named_line(alloc, b"store failed ", name)?)),
+        Got::NoMemory => Err(Stop::NoMemory),
+    }
+}
+
+// The value of an image, or the refusal under its name.
+fn image<T: Drop>(alloc: Global, name: &Text, read: Result<T, Unread>) -> Result<T, Stop>
+    ensures takes { TakesOr name.now read result }
+    ensures quiet { IsQuiet result }
+{
+    match read {
+        Ok(value) => Ok(value),
+        Err(Unread::NoMemory) => Err(Stop::NoMemory),
+        Err(Unread::OtherForm) => Err(Stop::Refused(Refusal {
+            line: named_line(alloc, b"image 0 ", name)?,
+            why: Why::Image,
+        })),
+    }
+}
+
+// What a client prints on the library that it was compiled against.
+fn run_on(
+    alloc: Global,
+    name: &Text,
+    client: &ClientImage,
+    library: &Library,
+    fuel: u32,
+) -> Result<Printing, Stop>
+    requires client { (bytes : Seq ℕ) × IsClient bytes client.now }
+    requires library { (bytes : Seq ℕ) × IsLibrary bytes library.now }
+    ensures runs { RunsOn name.now client.now library.now fuel result }
+    ensures quiet { IsQuiet result }
+{
+    let interface = library.release.interface(alloc)?;
+    if client.base.is(&interface) {
+        let linked = link_release(alloc, library.first.classes.as_slice())?;
+        Ok(print_calls(alloc, &linked, client.calls.as_slice(), fuel)?)
+    } else {
+        Err(Stop::Refused(Refusal {
+            line: named_line(alloc, b"not the same as ", name)?,
+            why: Why::Incompatible,
+        }))
+    }
+}
+
+/// What a client prints on a library.
+pub fn run<S: Store>(
+    alloc: Global,
+    client: &Text,
+    library: &Text,
+    fuel: u32,
+    store: &mut S,
+) -> Result<Printing, Stop>
+    ensures answer { AnswersTold (S.files store.old) (Run client.now library.now fuel) result }
+    ensures files { S.files store.new ≡ S.files store.old }
+    ensures later { S.faults store.old ≤ S.faults store.new }
+    ensures cause { HasCause (FailsOn (S.files store.old) (Run client.now library.now fuel)) (S.faults store.old) (S.faults store.new) result }
+    ensures quiet { S.calm store.old → IsQuiet result }
+{
+    let client_bytes = fetch(alloc, client, store)?;
+    let library_bytes = fetch(alloc, library, store)?;
+    let program = image(alloc, client, take_client(alloc, &client_bytes))?;
+    let taken = image(alloc, library, take_library(alloc, &library_bytes))?;
+    run_on(alloc, library, &program, &taken, fuel)
+}

@@ -1,0 +1,52 @@
+ghost use Rattle.som_cmd.specs.declared.stop.Stop.TheVariants as stops;
+ghost use Rattle.std.specs.Prelude.{◌≡◌};
+
+use som_model::{NoMemory, Text};
+
+/// Why a step refuses.
+#[derive(Clone, Copy, Debug, PartialEq, Eq)]
+pub enum Why {
+    Incompatible,
+    Image,
+    Absent,
+}
+
+impl Why {
+    ghost use Rattle.som_cmd.specs.Status.{status_of};
+
+    /// The status of the program.
+    pub fn status(self) -> u8
+        ensures { result ≡ status_of self }
+    {
+        match self {
+            Why::Incompatible => 4,
+            Why::Image => 5,
+            Why::Absent => 7,
+        }
+    }
+}
+
+/// A step that refuses: the line to print, and why.
+#[derive(Drop)]
+pub struct Refusal {
+    pub line: Text,
+    pub why: Why,
+}
+
+/// Why a command goes no further.
+#[derive(Drop)]
+pub enum Stop {
+    /// A step refuses.
+    Refused(Refusal),
+    /// A call on the store failed, with the line to print.
+    StoreFailed(Text),
+    NoMemory,
+}
+
+impl From<NoMemory> for Stop {
+    ghost from_gives = { λ _ e. e ≡ stops.NoMemory };
+
+    fn from(_e: NoMemory) -> Stop {
+        Stop::NoMemory
+    }
+}
