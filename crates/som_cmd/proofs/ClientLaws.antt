@@ -194,7 +194,7 @@ module _ (fs : List FirstFace) (once : each_after s1 kernel (interface_classes (
 -- ---- a client image that is read
 
 -- an image of first faces
-abbrev image_of : List FirstFace → List CallPlace → ClientImage
+abbrev pub image_of : List FirstFace → List CallPlace → ClientImage
 image_of fs ats = record { base = record { classes = map face_of fs }; calls = ats }
 
 calls_named : (faces : List ClassFace) (ats : List CallPlace) → map (λ at. call_of (call_named faces at)) ats ≡ map call_of (map (call_named faces) ats)
@@ -202,13 +202,13 @@ calls_named faces [] = refl
 calls_named faces (at ∷ ats) = ap (λ (l : List Stmt). call_of (call_named faces at) ∷ l) (calls_named faces ats)
 
 -- the first program that it stands for
-abbrev first_program : List FirstFace → List CallPlace → FirstProgram
+abbrev pub first_program : List FirstFace → List CallPlace → FirstProgram
 first_program fs ats = record { faces = fs; calls = map (call_named (map face_of fs)) ats }
 
 abbrev with_main : Interface → List Stmt → ClientProgram
 with_main base statements = record { base = base; classes = []; main = record { statements = statements } }
 
-program_is : (fs : List FirstFace) (ats : List CallPlace) → program_named (image_of fs ats) ≡ program_of (first_program fs ats)
+pub program_is : (fs : List FirstFace) (ats : List CallPlace) → program_named (image_of fs ats) ≡ program_of (first_program fs ats)
 program_is fs ats = ap (with_main (record { classes = map face_of fs })) (calls_named (map face_of fs) ats)
 
 no_classes : (fs : List FirstFace) → faced fs ≡ kernel ++ interface_classes (record { classes = map face_of fs }) ++ []

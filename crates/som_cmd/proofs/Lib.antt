@@ -2,4 +2,5 @@ mod FirstTexts
 mod LibraryLaws
 mod FuelLaws
 mod ClientLaws
+mod RunMeaning
 mod RunLaws

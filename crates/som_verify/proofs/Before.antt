@@ -1,6 +1,7 @@
 -- What a rule that looks at the classes before each class says of every class.
-use Rattle.std.proofs.Common.{◌≡◌, ℕ, zero, suc, ◌<◌, inl, inr, Bool, true, false, if◌then◌else◌, List, [], ◌∷◌, ◌++◌, length, take, Some, None, is_some, slice_index_or, refl, sym, ap, ◌∙◌, subst, arith, true≢false, append_assoc}
+use Rattle.std.proofs.Common.{◌≡◌, ℕ, zero, suc, ◌<◌, inl, inr, Bool, true, false, if◌then◌else◌, List, [], ◌∷◌, ◌++◌, length, take, Some, None, is_some, slice_index_or, refl, sym, ap, ◌∙◌, subst, true≢false, append_assoc, slice_get}
 use Rattle.std.proofs.lemmas.List.{append-nil}
+use Rattle.std.proofs.lemmas.Option.{slice_get-get_or}
 use Rattle.som_model.specs.Lists.{Mem, first, find, some, every, option_list}
 use Rattle.som_model.specs.Keys.{same_key}
 use Rattle.som_model.specs.Class.{Class}
@@ -24,14 +25,16 @@ pub both_none : {A : Type 0} (xs ys : List A) → first xs ≡ None → first ys
 both_none [] ys e f = f
 both_none (x ∷ xs) ys e f = cc
 
-pub after_each : (rule : List Class → Class → List Breach) (k : List Class) (ds : List ClassDecl) (i : ℕ) (d : ClassDecl)
-    → first (each_after rule k (of_release ds)) ≡ None → i < length ds → first (rule (front k ds i) (of_library (slice_index_or ds i d))) ≡ None
-after_each rule k [] i d e lt = absurd (omega arith)
-after_each rule k (x ∷ ds) zero d e lt =
-    subst (λ (z : List Class). first (rule z (of_library x)) ≡ None) (sym (append-nil k)) (none_both (rule k (of_library x)) (each_after rule (k ++ of_library x ∷ []) (of_release ds)) e).0
-after_each rule k (x ∷ ds) (suc i) d e lt =
-    subst (λ (z : List Class). first (rule z (of_library (slice_index_or ds i d))) ≡ None) (append_assoc k (of_library x ∷ []) (of_release (take i ds)))
-    (after_each rule (k ++ of_library x ∷ []) ds i d (none_both (rule k (of_library x)) (each_after rule (k ++ of_library x ∷ []) (of_release ds)) e).1 (omega arith))
+pub after_says : (rule : List Class → Class → List Breach) (k : List Class) (ds : List ClassDecl) → first (each_after rule k (of_release ds)) ≡ None
+    → (i : ℕ) (d : ClassDecl) → slice_get ds i ≡ Some d → first (rule (k ++ of_release (take i ds)) (of_library d)) ≡ None
+after_says rule k [] e i d at = absurd (cc)
+after_says rule k (x ∷ ds) e zero d at =
+    let same : x ≡ d = cc in
+    subst (λ (z : ClassDecl). first (rule (k ++ []) (of_library z)) ≡ None) same
+    (subst (λ (z : List Class). first (rule z (of_library x)) ≡ None) (sym (append-nil k)) (none_both (rule k (of_library x)) (each_after rule (k ++ of_library x ∷ []) (of_release ds)) e).0)
+after_says rule k (x ∷ ds) e (suc i) d at =
+    subst (λ (z : List Class). first (rule z (of_library d)) ≡ None) (append_assoc k (of_library x ∷ []) (of_release (take i ds)))
+    (after_says rule (k ++ of_library x ∷ []) ds (none_both (rule k (of_library x)) (each_after rule (k ++ of_library x ∷ []) (of_release ds)) e).1 i d at)
 
 pub demanded : (n : ℕ) (c : Class) (b : Bool) → first (demand n c b) ≡ None → b ≡ true
 demanded n c true e = refl
@@ -84,13 +87,12 @@ mem_front ds i c m = elim (mem_split c kernel (of_release (take i ds)) m) [
 ]
 
 -- each parent and the metaclass of a class is known, where they stand before it
-pub known_by_s2 : (ds : List ClassDecl) (i : ℕ) (d : ClassDecl) → first (each_after s2 kernel (of_release ds)) ≡ None → i < length ds
-    → (k : ClassKey) → Mem k ((slice_index_or ds i d).face.parents ++ option_list (slice_index_or ds i d).face.metaclass) → is_some (class_at (all_classes ds) k) ≡ true
-known_by_s2 ds i d e lt k m =
-    let c = of_library (slice_index_or ds i d) in
-    let stands : every (λ k. is_some (class_at (front kernel ds i) k)) (c.decl.face.parents ++ option_list c.decl.face.metaclass) ≡ true =
-    demanded 2 c _ (after_each s2 kernel ds i d e lt) in
-    let r = known_mem (front kernel ds i) k (every_mem (λ k. is_some (class_at (front kernel ds i) k)) k (c.decl.face.parents ++ option_list c.decl.face.metaclass) stands m) in
+known_by_s2 : (ds : List ClassDecl) (i : ℕ) (d : ClassDecl) → first (each_after s2 kernel (of_release ds)) ≡ None → slice_get ds i ≡ Some d
+    → (k : ClassKey) → Mem k (d.face.parents ++ option_list d.face.metaclass) → is_some (class_at (all_classes ds) k) ≡ true
+known_by_s2 ds i d e at k m =
+    let stands : every (λ k. is_some (class_at (front kernel ds i) k)) (d.face.parents ++ option_list d.face.metaclass) ≡ true =
+    demanded 2 (of_library d) _ (after_says s2 kernel ds e i d at) in
+    let r = known_mem (front kernel ds i) k (every_mem (λ k. is_some (class_at (front kernel ds i) k)) k (d.face.parents ++ option_list d.face.metaclass) stands m) in
     mem_known (all_classes ds) k r.0 (mem_front ds i r.0 r.1) r.2
 
 -- the metaclass is known
@@ -98,4 +100,4 @@ pub metaclass_known : (ds : List ClassDecl) (i : ℕ) (d : ClassDecl) → first 
     → every (λ k. is_some (class_at (all_classes ds) k)) (option_list d.face.metaclass) ≡ true
 metaclass_known ds i d e lt is =
     mem_every (λ k. is_some (class_at (all_classes ds) k)) (option_list d.face.metaclass) (λ k m.
-    known_by_s2 ds i d e lt k (subst (λ (z : ClassDecl). Mem k (z.face.parents ++ option_list z.face.metaclass)) is (mem_right k d.face.parents (option_list d.face.metaclass) m)))
+    known_by_s2 ds i d e (slice_get-get_or ds i d lt ∙ ap (λ z. Some z) (sym is)) k (mem_right k d.face.parents (option_list d.face.metaclass) m))

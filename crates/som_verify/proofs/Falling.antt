@@ -17,7 +17,7 @@ use Rattle.som_verify.specs.Plainly.{IsAmong, ParentsStand}
 use Rattle.som_verify.proofs.Finding.{long_map}
 use Rattle.som_verify.proofs.KeyLists.{class_there, height_there}
 use Rattle.som_verify.proofs.Rows.{kernel_low, kernel_by, take_front}
-use Rattle.som_verify.proofs.PlainLists.{map_mem}
+use Rattle.som_verify.proofs.PlainLists.{mem_map, map_mem}
 use Rattle.som_verify.proofs.PlainNames.{known_among}
 
 -- a member has a place
@@ -44,11 +44,6 @@ greatest_mem : (ns : List ℕ) (n : ℕ) → Mem n ns → n ≤ greatest ns
 greatest_mem [] n m = absurd m
 greatest_mem (x ∷ ns) n (inl e) = omega (arith, e)
 greatest_mem (x ∷ ns) n (inr m) = let h = greatest_mem ns n m in omega (arith, h)
-
-mem_heights : (f : ClassKey → ℕ) (k : ClassKey) (ks : List ClassKey) → Mem k ks → Mem (f k) (map f ks)
-mem_heights f k [] m = m
-mem_heights f k (x ∷ ks) (inl e) = inl (ap f e)
-mem_heights f k (x ∷ ks) (inr m) = inr (mem_heights f k ks m)
 
 height_derived : (cs : List Class) (ks : List ClassKey) → (hierarchy cs).height (roll-ClassKey (ClassKey-F.Derived ks)) ≡ greatest (map (hierarchy cs).height ks) + 1
 unfolding hierarchy
@@ -97,7 +92,7 @@ module _ (ds : List ClassDecl) (names : List (List ℕ)) (t : IsTable ds names) 
   layer_falls x p (ClassKey-F.Derived ks) e k =
       let h = (hierarchy (all_classes ds)).height in
       let high = ap h (sym (roll-out-ClassKey x) ∙ ap roll-ClassKey e) ∙ height_derived (all_classes ds) ks in
-      omega (arith, high, greatest_mem (map h ks) (h p) (mem_heights h p ks k))
+      omega (arith, high, greatest_mem (map h ks) (h p) (mem_map h p ks k))
   layer_falls x p (ClassKey-F.Proxy of) e (inl is) =
       let h = (hierarchy (all_classes ds)).height in
       let high = ap h (sym (roll-out-ClassKey x) ∙ ap roll-ClassKey e) ∙ height_proxy (all_classes ds) of in

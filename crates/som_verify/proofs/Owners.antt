@@ -52,7 +52,7 @@ moved_is None to e = absurd (cc)
 moved_is (Some (entries.Introduced x sig way)) to e = absurd (cc)
 moved_is (Some (entries.Moved x k)) to e = let same : k ≡ to = cc in (x, ap (λ z. Some (entries.Moved x z)) same)
 
-mem_middle : {A : Type 0} (xs before after : List A) (a : A) → xs ≡ before ++ a ∷ after → Mem a xs
+pub mem_middle : {A : Type 0} (xs before after : List A) (a : A) → xs ≡ before ++ a ∷ after → Mem a xs
 mem_middle xs before after a e = subst (λ z. Mem a z) (sym e) (mem_right a before (a ∷ after) (inl refl))
 
 introduced_stays : (o : Option Entry) → is_some (introduced_sig o) ≡ true → moved_to o ≡ None

@@ -12,7 +12,7 @@ use Rattle.som_plain.proofs.Members.{mem_left, mem_right, mem_some, Apart, apart
 use Rattle.som_verify.specs.Told.{of_library, of_release}
 use Rattle.som_verify.specs.Plainly.{Differ}
 use Rattle.som_verify.proofs.Numbering.{map_append}
-use Rattle.som_verify.proofs.Before.{none_both, both_none}
+use Rattle.som_verify.proofs.Before.{both_none}
 use Rattle.som_verify.proofs.Owners.{flat_none}
 
 pub none_flat : {A B : Type 0} (f : A → List B) (xs : List A) → ((x : A) → Mem x xs → first (f x) ≡ None) → first (flat_map f xs) ≡ None
@@ -44,17 +44,6 @@ says_after rule k (d ∷ ds) f =
     (subst (λ (z : List Class). first (rule z (of_library d)) ≡ None) (append-nil k) (f 0 d refl))
     (says_after rule (k ++ of_library d ∷ []) ds (λ i e at.
     subst (λ (z : List Class). first (rule z (of_library e)) ≡ None) (sym (append_assoc k (of_library d ∷ []) (of_release (take i ds)))) (f (suc i) e at)))
-
-pub after_says : (rule : List Class → Class → List Breach) (k : List Class) (ds : List ClassDecl) → first (each_after rule k (of_release ds)) ≡ None
-    → (i : ℕ) (d : ClassDecl) → slice_get ds i ≡ Some d → first (rule (k ++ of_release (take i ds)) (of_library d)) ≡ None
-after_says rule k [] e i d at = absurd (cc)
-after_says rule k (x ∷ ds) e zero d at =
-    let same : x ≡ d = cc in
-    subst (λ (z : ClassDecl). first (rule (k ++ []) (of_library z)) ≡ None) same
-    (subst (λ (z : List Class). first (rule z (of_library x)) ≡ None) (sym (append-nil k)) (none_both (rule k (of_library x)) (each_after rule (k ++ of_library x ∷ []) (of_release ds)) e).0)
-after_says rule k (x ∷ ds) e (suc i) d at =
-    subst (λ (z : List Class). first (rule z (of_library d)) ≡ None) (append_assoc k (of_library x ∷ []) (of_release (take i ds)))
-    (after_says rule (k ++ of_library x ∷ []) ds (none_both (rule k (of_library x)) (each_after rule (k ++ of_library x ∷ []) (of_release ds)) e).1 i d at)
 
 -- nothing stands a second time
 

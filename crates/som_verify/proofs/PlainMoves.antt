@@ -29,7 +29,7 @@ use Rattle.som_verify.specs.Plainly.{Introduces, IsAbove, NamesDiffer, ParentsSt
 use Rattle.som_verify.proofs.Before.{none_both, both_none, demanded, every_mem, mem_every}
 use Rattle.som_verify.proofs.ClassTable.{is_table}
 use Rattle.som_verify.proofs.KeyLists.{class_there}
-use Rattle.som_verify.proofs.Owners.{flat_none, demanded_of, entry_unknown}
+use Rattle.som_verify.proofs.Owners.{flat_none, demanded_of, entry_unknown, mem_middle}
 use Rattle.som_verify.proofs.Falling.{mem_there, falls}
 use Rattle.som_verify.proofs.PlainLists.{mem_map, map_mem, none_flat, each_says, says_each, none_map, map_none, apart_by, by_apart, apart_differ, differ_apart}
 use Rattle.som_verify.proofs.PlainNames.{say_names, demand_none, option_mem}
@@ -48,13 +48,10 @@ introduced_is None e = absurd (true≢false (sym e))
 introduced_is (Some (entries.Introduced x sig way)) e = (x, sig, way, refl)
 introduced_is (Some (entries.Moved x to)) e = absurd (true≢false (sym e))
 
-mem_parts : {A : Type 0} (xs before after : List A) (a : A) → xs ≡ before ++ a ∷ after → Mem a xs
-mem_parts xs before after a e = subst (λ z. Mem a z) (sym e) (mem_right a before (a ∷ after) (inl refl))
-
 found_mem : (cs : List Class) (k : ClassKey) (c : Class) → class_at cs k ≡ Some c → Mem c cs × (c.key ≡ k)
 found_mem cs k c e =
     let f = find_first (λ (z : Class). same_key z.key k) cs c e in
-    (mem_parts cs f.before f.after c f.parts, exact_keys.two c.key k f.passes)
+    (mem_middle cs f.before f.after c f.parts, exact_keys.two c.key k f.passes)
 
 in_class : (cs : List Class) (k : ClassKey) (name : List ℕ) (c : Class) → class_at cs k ≡ Some c → introduces cs name k ≡ true → Introduces cs k name
 in_class cs k name c e i =
@@ -68,7 +65,7 @@ in_class cs k name c e i =
       named = m.1;
       sig = r.1;
       way = r.2;
-      entry = subst (λ z. Mem (entries.Introduced z r.1 r.2) c.decl.face.entries) (exact_bytes.two r.0 name f.passes) (mem_parts c.decl.face.entries f.before f.after (entries.Introduced r.0 r.1 r.2) f.parts);
+      entry = subst (λ z. Mem (entries.Introduced z r.1 r.2) c.decl.face.entries) (exact_bytes.two r.0 name f.passes) (mem_middle c.decl.face.entries f.before f.after (entries.Introduced r.0 r.1 r.2) f.parts);
     }
 
 by_class : (cs : List Class) (k : ClassKey) (name : List ℕ) (o : Option Class) → class_at cs k ≡ o → introduces cs name k ≡ true → Introduces cs k name

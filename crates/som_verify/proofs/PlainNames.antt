@@ -14,8 +14,8 @@ use Rattle.som_model.proofs.KeyLaws.{exact_bytes, exact_keys}
 use Rattle.som_plain.proofs.Members.{mem_left, mem_right, mem_split, Apart, apart_doubles}
 use Rattle.som_verify.specs.Told.{of_library, of_release}
 use Rattle.som_verify.specs.Plainly.{IsAmong, NamesDiffer, ParentsStand, ParentsDiffer}
-use Rattle.som_verify.proofs.Before.{demanded, every_mem, mem_every, known_mem, mem_known}
-use Rattle.som_verify.proofs.PlainLists.{mem_map, map_mem, each_says, says_each, says_after, after_says, none_map, map_none, apart_by, fresh_by, apart_after, by_apart, apart_differ, differ_apart, s1_doubles}
+use Rattle.som_verify.proofs.Before.{after_says, demanded, every_mem, mem_every, known_mem, mem_known}
+use Rattle.som_verify.proofs.PlainLists.{mem_map, map_mem, each_says, says_each, says_after, none_map, map_none, apart_by, fresh_by, apart_after, by_apart, apart_differ, differ_apart, s1_doubles}
 
 library_names : (ds : List ClassDecl) → map name_of (of_release ds) ≡ map (λ (d : ClassDecl). d.face.name) ds
 library_names [] = refl

@@ -1,5 +1,5 @@
 -- Which releases print texts alone, by tests.
-use Rattle.std.proofs.Common.{◌≡◌, ℕ, inl, inr, Bool, true, false, ◌&&◌, List, [], ◌∷◌, ◌++◌, flat_map, refl, sym, ap, ◌∙◌, subst, true≢false}
+use Rattle.std.proofs.Common.{◌≡◌, ℕ, inl, inr, true, List, [], ◌∷◌, flat_map, refl, sym, ap, ◌∙◌, subst, true≢false}
 use Rattle.som_model.specs.Lists.{Mem, every}
 use Rattle.som_model.specs.Class.{Class}
 use Rattle.som_model.specs.Classes.{library_classes}
@@ -21,7 +21,7 @@ use Rattle.som_model.specs.declared.program.Release.{Release}
 use Rattle.som_model.proofs.KeyLaws.{both}
 use Rattle.som_plain.proofs.Members.{mem_left, mem_right, mem_split}
 use Rattle.som_verify.specs.Told.{of_library}
-use Rattle.som_verify.specs.Printing.{PrintsText, PrintTexts, is_text, is_literal, layer_prints, prints, block_prints, body_prints, class_prints}
+use Rattle.som_verify.specs.Printing.{PrintsText, PrintTexts, is_text, layer_prints, prints, block_prints, body_prints, class_prints}
 use Rattle.som_verify.proofs.Before.{every_mem, mem_every}
 use Rattle.som_verify.proofs.PlainLists.{mem_map, map_mem}
 use Rattle.som_verify.proofs.PlainMembers.{both_true}

@@ -1,5 +1,5 @@
 ghost use Rattle.std.specs.Prelude.{◌≡◌, ◌==◌, ℕ, ◌+◌, ◌<◌, ◌≤◌, ◌∷◌, [], map, length, slice_index_or, IfOk, OnOk};
-ghost use Rattle.som_model.specs.Lists.{Mem, joined};
+ghost use Rattle.som_model.specs.Lists.{Mem, joined, some};
 ghost use Rattle.som_verify.specs.Walk.{AreAncestors, AreLow, AreMarks, add_new, adds};
 
 use som_model::{List, NoMemory};
@@ -87,4 +87,16 @@ pub fn item(known: &[List<usize>], place: usize) -> &[usize]
     ensures { result.now ≡ slice_index_or known.now place [] }
 {
     known[place].as_slice()
+}
+
+/// Whether a place is on a list.
+pub fn has_place(list: &[usize], place: usize) -> bool
+    ensures { result ≡ some (λ a. place == a) list.now }
+{
+    for other in list {
+        if place == *other {
+            return true;
+        }
+    }
+    false
 }

@@ -7,9 +7,8 @@ ghost use Rattle.som_verify.specs.Places.{IsTable, all_classes, key_at};
 ghost use Rattle.som_verify.specs.Walk.{AreLists};
 ghost use Rattle.std.specs.Prelude.{◌≡◌, ◌==◌, ◌&&◌, ◌<◌, not, length, is_some, option_copied, slice_index_or, []};
 
-use crate::ancestry::item;
+use crate::ancestry::{has_place, item};
 use crate::introduced::entries_at;
-use crate::metaclasses::has_place;
 use crate::table::{KERNEL_CLASSES, find_class};
 use indexmap::IndexSet;
 use som_model::{ClassDecl, ClassFace, ClassKey, Entry, List, Text};

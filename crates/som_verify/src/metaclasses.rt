@@ -1,16 +1,16 @@
 ghost use Rattle.som_model.specs.Classes.{class_at, is_a};
 ghost use Rattle.som_model.specs.Conforming.{each_after};
 ghost use Rattle.som_model.specs.Kernel.{kernel, som_class};
-ghost use Rattle.som_model.specs.Lists.{every, first, option_list, some};
+ghost use Rattle.som_model.specs.Lists.{every, first, option_list};
 ghost use Rattle.som_model.specs.Rules.{s2, s4};
 ghost use Rattle.som_model.specs.declared.class.ClassDecl.{ClassDecl as Decl};
 ghost use Rattle.som_order.specs.Names.{texts};
 ghost use Rattle.som_verify.specs.Places.{IsTable, all_classes};
 ghost use Rattle.som_verify.specs.Told.{Tells, of_library, of_release};
 ghost use Rattle.som_verify.specs.Walk.{AreLists};
-ghost use Rattle.std.specs.Prelude.{◌≡◌, ◌==◌, ◌<◌, true, length, flat_map, is_some, slice_get, None, Some};
+ghost use Rattle.std.specs.Prelude.{◌≡◌, ◌<◌, true, length, flat_map, is_some, slice_get, None, Some};
 
-use crate::ancestry::item;
+use crate::ancestry::{has_place, item};
 use crate::pass::{breach, each_class};
 use crate::table::{KERNEL_CLASSES, SOM_CLASS, find_class};
 use crate::types::VerifyFault;
@@ -95,15 +95,4 @@ fn makes_classes(
         None => false,
         Some(place) => has_place(item(lists, place), SOM_CLASS),
     }
-}
-
-pub fn has_place(list: &[usize], place: usize) -> bool
-    ensures { result ≡ some (λ a. place == a) list.now }
-{
-    for other in list {
-        if place == *other {
-            return true;
-        }
-    }
-    false
 }

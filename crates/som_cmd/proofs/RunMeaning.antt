@@ -1,0 +1,96 @@
+-- What is printed on a library is what the client means among its classes.
+use Rattle.std.proofs.Common.{◌≡◌, ℕ, zero, suc, ◌+◌, ◌-◌, ◌<◌, ◌≤◌, List, [], ◌∷◌, ◌++◌, length, map, Bool, true, false, not, if◌then◌else◌, Option, Some, None, slice_get, refl, sym, ap, ◌∙◌, subst, arith, append_assoc}
+use Rattle.std.specs.List.{AllByRecursion}
+use Rattle.std.proofs.lemmas.List.{append-nil}
+use Rattle.std.proofs.lemmas.List.Elements.{recursion_from_All}
+use Rattle.som_model.specs.declared.class.ClassFace.{ClassFace}
+use Rattle.som_model.specs.declared.program.Interface.{Interface}
+use Rattle.som_model.specs.declared.program.Release.{Release}
+use Rattle.som_model.specs.declared.program.ClientProgram.{ClientProgram}
+use Rattle.som_model.specs.declared.syntax.Stmt.{Stmt}
+use Rattle.som_model.specs.Class.{Class, interface_of}
+use Rattle.som_model.specs.Kernel.{kernel}
+use Rattle.som_model.specs.Classes.{classes, interface_classes, is_a}
+use Rattle.som_model.specs.Conforming.{ReleaseOk, ProgramOk}
+use Rattle.som_model.specs.Typing.{AreTyped, no_more, and_then}
+use Rattle.som_model.specs.State.{Event, Printed, Called, Ran, Goes, Ends, Spent, Faulted}
+use Rattle.som_model.specs.Means.{means}
+use Rattle.som_first.specs.declared.calls.CallPlace.{CallPlace}
+use Rattle.som_first.specs.declared.calls.Printing.{Printing}
+use Rattle.som_first.specs.declared.classes.FirstMethod.{FirstMethod}
+use Rattle.som_first.specs.declared.classes.FirstClass.{FirstClass}
+use Rattle.som_first.specs.declared.classes.FirstRelease.{FirstRelease}
+use Rattle.som_first.specs.declared.classes.FirstFace.{FirstFace}
+use Rattle.som_first.specs.declared.classes.FirstCall.{FirstCall}
+use Rattle.som_first.specs.FirstImages.{library_key, face_of, seen, decl_of, release_of, program_of, call_of}
+use Rattle.som_first.specs.FirstRuns.{AllPrint, RunPrints, prints, lines, lasting, lasts}
+use Rattle.som_first.specs.Linking.{IsMethod, CallIs, AreCalls, all_of}
+use Rattle.som_first.proofs.FirstClasses.{known, classes_are}
+use Rattle.som_first.proofs.SameFaces.{face_only, is_a_faces, faces_are}
+use Rattle.som_first.proofs.CallsDecided.{IsPlaced, typed_call}
+use Rattle.som_first.proofs.FirstMeans.{means_prints}
+use Rattle.som_first.proofs.FirstAnswered.{all_answered}
+use Rattle.som_firstclient.specs.declared.image.ClientImage.{ClientImage}
+use Rattle.som_firstclient.specs.Clients.{call_named, program_named, CallFits, FitsClient}
+use Rattle.som_cmd.specs.declared.library.Library.{Library}
+use Rattle.som_cmd.specs.RunText.{event_text, events_text, run_text, run_status, no_trace}
+use Rattle.som_cmd.specs.Taking.{IsClient, IsLibrary}
+use Rattle.som_cmd.specs.RunSteps.{spent_status, PrintsMeaning}
+use Rattle.som_cmd.proofs.ClientLaws.{placed, first_program, program_is}
+
+-- ---- the text of a run
+
+events_shown : (es : List Event) → events_text no_trace es ≡ lines (prints es)
+events_shown [] = refl
+events_shown (Printed t ∷ es) = ap (λ (x : List ℕ). (t ++ 10 ∷ []) ++ x) (events_shown es) ∙ append_assoc t (10 ∷ []) (lines (prints es))
+events_shown (Called r way k ∷ es) = events_shown es
+
+run_shows : {A : Type 0} (texts : List (List ℕ)) (b : Bool) (run : Ran A) → RunPrints texts b run → (run_text no_trace run ≡ lines texts) × (run_status run ≡ spent_status (not b))
+run_shows texts true (Goes a s) e = (events_shown s.events ∙ ap lines e, refl)
+run_shows texts false (Ends Spent s) e = (append-nil (events_text no_trace s.events) ∙ events_shown s.events ∙ ap lines e, refl)
+run_shows texts true (Ends c s) e = absurd e
+run_shows texts false (Goes a s) e = absurd e
+run_shows texts false (Ends (Faulted f at) s) e = absurd e
+
+-- ---- calls by their numbers
+
+class_back : (cs : List FirstClass) (i : ℕ) (f : FirstFace) → slice_get (map seen cs) i ≡ Some f → (c : FirstClass) × (slice_get cs i ≡ Some c) × (seen c ≡ f)
+class_back [] i f e = absurd cc
+class_back (c ∷ cs) zero f e = (c, refl, cc)
+class_back (c ∷ cs) (suc i) f e = class_back cs i f e
+
+method_back : (ms : List FirstMethod) (j : ℕ) (n : List ℕ) → slice_get (map (λ (m : FirstMethod). m.name) ms) j ≡ Some n → (m : FirstMethod) × (slice_get ms j ≡ Some m) × (m.name ≡ n)
+method_back [] j n e = absurd cc
+method_back (m ∷ ms) zero n e = (m, refl, cc)
+method_back (m ∷ ms) (suc j) n e = method_back ms j n e
+
+faces_seen : (cs : List FirstClass) → (interface_of (release_of (record { classes = cs }))).classes ≡ map face_of (map seen cs)
+faces_seen [] = refl
+faces_seen (c ∷ cs) = ap (λ (l : List ClassFace). face_of (seen c) ∷ l) (faces_seen cs)
+
+module _ (cs : List FirstClass) where
+  abbrev faces : List ClassFace
+  faces = map face_of (map seen cs)
+
+  call_is : (at : CallPlace) → CallFits faces at → is_a (all_of cs) (library_key (call_named faces at).object) (library_key (call_named faces at).class) ≡ true → CallIs cs at (call_named faces at)
+  call_is at fits below =
+      let p = placed (map seen cs) at fits in
+      let o = class_back cs p.object_place p.object p.object_at in
+      let c = class_back cs p.class_place p.class p.class_stands in
+      let names : slice_get (map (λ (m : FirstMethod). m.name) c.0.methods) p.slot ≡ Some (call_named faces at).method = ap (λ (f : FirstFace). slice_get f.methods p.slot) c.2 ∙ p.method_at in
+      let m = method_back c.0.methods p.slot (call_named faces at).method names in
+      record {
+        place = p.object_place; number = omega (arith, fits.object.0); there = o.0; stands = o.1; object_is = ap (λ (f : FirstFace). f.name) o.2 ∙ p.object_is;
+        method = record { place = p.class_place; number = omega (arith, fits.class.0); there = c.0; at = c.1; class_is = ap (λ (f : FirstFace). f.name) c.2 ∙ p.class_is; method = m.0; slot = m.1; name_is = m.2 };
+        below = below;
+      }
+
+  -- calls that are well typed among the faces
+  calls_by : (known_faces : List Class) → known_faces ≡ map face_only (all_of cs) → (ats : List CallPlace) → AllByRecursion (CallFits faces) ats → AreTyped known_faces (map (λ at. call_of (call_named faces at)) ats)
+      → AreCalls cs ats (map (call_named faces) ats)
+  calls_by known_faces same [] fit typed = tt
+  calls_by known_faces same (at ∷ ats) fit (and_then s ss one more) =
+      let call = call_named faces at in
+      let below : is_a (all_of cs) (library_key call.object) (library_key call.class) ≡ true =
+          sym (is_a_faces (all_of cs) (library_key call.object) (library_key call.class)) ∙ ap (λ (l : List Class). is_a l (library_key call.object) (library_key call.class)) (sym same) ∙ (typed_call known_faces call one).2 in
+      (call_is at fit.0 below, calls_by known_faces same ats fit.1 more)
