@@ -27,6 +27,7 @@ pub fn ancestor_lists(alloc: Global, classes: &[ClassDecl]) -> Result<Vec<List<u
     }
 }
 
+// The same, through passes that would tell a breach.
 fn walk(alloc: Global, classes: &[ClassDecl]) -> Result<Vec<List<usize>>, VerifyFault>
     requires { faces_breach (of_release classes.now) ≡ None }
     ensures lists { IfOk result (λ lists. AreLists (all_classes classes.now) lists.items) }

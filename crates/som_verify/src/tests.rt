@@ -1,6 +1,7 @@
 use crate::cases::CASES;
+use crate::descent::{ancestor_lists, is_listed};
 use crate::printing::prints_texts;
-use crate::release::release_ok;
+use crate::release::{faces_ok, release_ok};
 use crate::types::VerifyFault;
 use som_model::{
     Block, Body, ClassDecl, ClassFace, ClassKey, Entry, Expr, List, MethodRef, Module, NoMemory,
@@ -166,6 +167,52 @@ fn the_first_breach_is_told(rt: HostRuntime) -> Result<(), Fail> {
         for (what, short, want) in cases {
             assert_eq!(rt; first_breach(rt.alloc(), short)?.as_str(), *want, "{what}");
         }
+    }
+    Ok(())
+}
+
+fn lists_of(alloc: Global, short: &str) -> Result<Vec<List<usize>>, Fail> {
+    let release = release(alloc, short)?;
+    let classes = release.classes.as_slice();
+    match faces_ok(alloc, classes) {
+        Ok(()) => Ok(ancestor_lists(alloc, classes)?),
+        Err(_) => Err(Fail::from("a rule is broken")),
+    }
+}
+
+// The kernel's four classes, and then Animal, Dog, Cat and Both.
+const DESCENTS: [(usize, usize, bool); 14] = [
+    (0, 0, true),
+    (0, 1, false),
+    (2, 0, true),
+    (2, 1, false),
+    (3, 0, true),
+    (3, 1, true),
+    (4, 1, false),
+    (5, 4, true),
+    (4, 5, false),
+    (5, 6, false),
+    (7, 7, true),
+    (7, 5, true),
+    (7, 4, true),
+    (7, 0, true),
+];
+
+#[test]
+fn descent_is_listed(rt: HostRuntime) -> Result<(), Fail> {
+    let lists = lists_of(
+        rt.alloc(),
+        "class Animal, is SOMObject; class Dog, is Animal; class Cat, is Animal; class Both, is Cat, is Dog",
+    )?;
+    for (class, ancestor, descends) in DESCENTS {
+        if class >= lists.len() {
+            return Err(Fail::from("a place past the lists"));
+        }
+        assert_eq!(rt;
+            is_listed(&lists, class, ancestor),
+            descends,
+            "{class} {ancestor}"
+        );
     }
     Ok(())
 }
