@@ -67,7 +67,7 @@ both_there files later c l cb lb same f g =
     record { client = found_by (get files c) c cb f; library = found_by (get files l) l lb (subst (λ (x : Option Files). FollowsTold x (Ok lb) (file_of l)) same g) }
 
 -- the refusal of an image is that of bytes that are none
-refused_by : {A : Type 0} (IsImage : List ℕ → A → Type 0) (bytes name : List ℕ) (u : Unread) (stop : Stop) → IsNone IsImage bytes u → TakesOr {A = A} name (Err u) (Err stop) → (r : Refusal) → stop ≡ stops.Refused r
+refused_by : {A B : Type 0} (IsImage : List ℕ → A → Type 0) (bytes name : List ℕ) (u : Unread) (stop : Stop) → IsNone IsImage bytes u → TakesOr {A = B} name (Err u) (Err stop) → (r : Refusal) → stop ≡ stops.Refused r
     → ((x : A) → IsImage bytes x → ⊥) × (r ≡ no_image name)
 refused_by IsImage bytes name unread.OtherForm (stops.Refused q) none takes r e = (none, (let same : q ≡ r = cc in sym same ∙ err_same q (no_image name) takes))
   where
@@ -75,10 +75,80 @@ refused_by IsImage bytes name unread.OtherForm (stops.Refused q) none takes r e 
     err_same a b e = cc
 refused_by IsImage bytes name unread.OtherForm (stops.StoreFailed line) none takes r e = absurd cc
 refused_by IsImage bytes name unread.OtherForm stops.NoMemory none takes r e = absurd cc
-refused_by {A} IsImage bytes name unread.NoMemory stop none takes r e = absurd (never stop r (err_stop stop stops.NoMemory takes ∙ refl) e)
+refused_by {A} {B} IsImage bytes name unread.NoMemory stop none takes r e = absurd (never stop r (err_stop stop stops.NoMemory takes ∙ refl) e)
   where
-    err_stop : (a b : Stop) → Err {A = A} a ≡ Err b → a ≡ b
+    err_stop : (a b : Stop) → Err {A = B} a ≡ Err b → a ≡ b
     err_stop a b e = cc
 
     never : (a : Stop) (q : Refusal) → a ≡ stops.NoMemory → a ≡ stops.Refused q → ⊥
     never a q p k = cc
+
+client_none : (files : Files) (c l : List ℕ) (fuel : ℕ) (cb lb : List ℕ) → Both files c l cb lb → (u : Unread) → IsNone IsFirstClient cb u → (stop : Stop) → TakesOr {A = ClientImage} c (Err u) (Err stop) → Answers files (Run c l fuel) (Err stop)
+client_none files c l fuel cb lb both u none (stops.Refused r) takes =
+    let m = refused_by {B = ClientImage} IsFirstClient cb c u (stops.Refused r) none takes r refl in
+    subst (λ (x : Refusal). IsAnswer files (Run c l fuel) (refusing files x)) (sym m.1) (client_refused c l fuel cb lb both.client both.library m.0)
+client_none files c l fuel cb lb both u none (stops.StoreFailed line) takes = tt
+client_none files c l fuel cb lb both u none stops.NoMemory takes = tt
+
+ok_err : {A E : Type 0} (x : A) (e : E) → Err e ≡ Ok x → ⊥
+ok_err x e p = cc
+
+-- the client is no first client image
+pub client_refused_by : (files later : Option Files) (c l : List ℕ) (fuel : ℕ) (cb lb : List ℕ) (taken : Result ClientImage Unread) (stop : Stop) → later ≡ files → FollowsTold files (Ok cb) (file_of c) → FollowsTold later (Ok lb) (file_of l)
+    → TakesClient cb taken → TakesOr c taken (Err stop) → AnswersTold files (Run c l fuel) (Err stop)
+client_refused_by None later c l fuel cb lb taken stop same f g is takes = tt
+client_refused_by (Some files) later c l fuel cb lb (Ok i) stop same f g is takes = absurd (ok_err i stop takes)
+client_refused_by (Some files) later c l fuel cb lb (Err u) stop same f g is takes = client_none files c l fuel cb lb (both_there files later c l cb lb same f g) u is stop takes
+
+library_none : (files : Files) (c l : List ℕ) (fuel : ℕ) (cb lb : List ℕ) → Both files c l cb lb → (i : ClientImage) → IsClient cb i → (u : Unread) → IsNone IsFirstLibrary lb u → (stop : Stop) → TakesOr {A = Library} l (Err u) (Err stop)
+    → Answers files (Run c l fuel) (Err stop)
+library_none files c l fuel cb lb both i is u none (stops.Refused r) takes =
+    let m = refused_by {B = Library} IsFirstLibrary lb l u (stops.Refused r) none takes r refl in
+    subst (λ (x : Refusal). IsAnswer files (Run c l fuel) (refusing files x)) (sym m.1) (library_refused c l fuel cb lb both.client both.library (program_named i) is.image m.0)
+library_none files c l fuel cb lb both i is u none (stops.StoreFailed line) takes = tt
+library_none files c l fuel cb lb both i is u none stops.NoMemory takes = tt
+
+client_there : (cb c : List ℕ) (taken : Result ClientImage Unread) (i : ClientImage) → TakesClient cb taken → TakesOr c taken (Ok i) → IsClient cb i
+client_there cb c (Ok x) i is takes = (let same : x ≡ i = cc in subst (λ (y : ClientImage). IsClient cb y) same is)
+client_there cb c (Err unread.OtherForm) i is takes = absurd takes
+client_there cb c (Err unread.NoMemory) i is takes = absurd (ok_err i stops.NoMemory (sym takes))
+
+library_there : (lb l : List ℕ) (taken : Result Library Unread) (x : Library) → TakesLibrary lb taken → TakesOr l taken (Ok x) → IsLibrary lb x
+library_there lb l (Ok y) x is takes = (let same : y ≡ x = cc in subst (λ (z : Library). IsLibrary lb z) same is)
+library_there lb l (Err unread.OtherForm) x is takes = absurd takes
+library_there lb l (Err unread.NoMemory) x is takes = absurd (ok_err x stops.NoMemory (sym takes))
+
+-- the library is no first library image
+pub library_refused_by : (files later : Option Files) (c l : List ℕ) (fuel : ℕ) (cb lb : List ℕ) (taken : Result ClientImage Unread) (i : ClientImage) (library : Result Library Unread) (stop : Stop) → later ≡ files
+    → FollowsTold files (Ok cb) (file_of c) → FollowsTold later (Ok lb) (file_of l) → TakesClient cb taken → TakesOr c taken (Ok i) → TakesLibrary lb library → TakesOr l library (Err stop) → AnswersTold files (Run c l fuel) (Err stop)
+library_refused_by None later c l fuel cb lb taken i library stop same f g is takes is_l takes_l = tt
+library_refused_by (Some files) later c l fuel cb lb taken i (Ok x) stop same f g is takes is_l takes_l = absurd (ok_err x stop takes_l)
+library_refused_by (Some files) later c l fuel cb lb taken i (Err u) stop same f g is takes is_l takes_l =
+    library_none files c l fuel cb lb (both_there files later c l cb lb same f g) i (client_there cb c taken i is takes) u is_l stop takes_l
+
+-- both are taken
+pub client_known : (cb c : List ℕ) (taken : Result ClientImage Unread) (i : ClientImage) → TakesClient cb taken → TakesOr c taken (Ok i) → (bytes : List ℕ) × IsClient bytes i
+client_known cb c taken i is takes = (cb, client_there cb c taken i is takes)
+
+pub library_known : (lb l : List ℕ) (taken : Result Library Unread) (x : Library) → TakesLibrary lb taken → TakesOr l taken (Ok x) → (bytes : List ℕ) × IsLibrary bytes x
+library_known lb l taken x is takes = (lb, library_there lb l taken x is takes)
+
+run_by : (files : Files) (c l : List ℕ) (fuel : ℕ) (cb lb : List ℕ) → Both files c l cb lb → (i : ClientImage) → IsClient cb i → (x : Library) → IsLibrary lb x → (result : Result Printing Stop) → RunsOn l i x fuel result
+    → Answers files (Run c l fuel) result
+run_by files c l fuel cb lb both i is_i x is_x (Ok p) on =
+    let same : printed files p ≡ ran files (means x.release (program_named i) fuel) =
+        ap (λ (t : List ℕ). record { text = t; status = spent_status p.spent; files = files }) on.text
+        ∙ ap (λ (n : ℕ). record { text = run_text no_trace (means x.release (program_named i) fuel); status = n; files = files }) on.status in
+    subst (IsAnswer files (Run c l fuel)) (sym same) (runs c l fuel cb lb both.client both.library (program_named i) is_i.image x.release is_x.image on.compiled)
+run_by files c l fuel cb lb both i is_i x is_x (Err (stops.Refused r)) on =
+    subst (λ (q : Refusal). IsAnswer files (Run c l fuel) (refusing files q)) (sym on.0) (faces_differ c l fuel cb lb both.client both.library (program_named i) is_i.image x.release is_x.image on.1)
+run_by files c l fuel cb lb both i is_i x is_x (Err (stops.StoreFailed line)) on = tt
+run_by files c l fuel cb lb both i is_i x is_x (Err stops.NoMemory) on = tt
+
+-- the client runs, or the faces differ
+pub run_answers : (files later : Option Files) (c l : List ℕ) (fuel : ℕ) (cb lb : List ℕ) (taken : Result ClientImage Unread) (i : ClientImage) (library : Result Library Unread) (x : Library) (result : Result Printing Stop) → later ≡ files
+    → FollowsTold files (Ok cb) (file_of c) → FollowsTold later (Ok lb) (file_of l) → TakesClient cb taken → TakesOr c taken (Ok i) → TakesLibrary lb library → TakesOr l library (Ok x) → RunsOn l i x fuel result
+    → AnswersTold files (Run c l fuel) result
+run_answers None later c l fuel cb lb taken i library x result same f g is takes is_l takes_l on = tt
+run_answers (Some files) later c l fuel cb lb taken i library x result same f g is takes is_l takes_l on =
+    run_by files c l fuel cb lb (both_there files later c l cb lb same f g) i (client_there cb c taken i is takes) x (library_there lb l library x is_l takes_l) result on

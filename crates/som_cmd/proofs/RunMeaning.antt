@@ -22,6 +22,7 @@ use Rattle.som_first.specs.declared.classes.FirstClass.{FirstClass}
 use Rattle.som_first.specs.declared.classes.FirstRelease.{FirstRelease}
 use Rattle.som_first.specs.declared.classes.FirstFace.{FirstFace}
 use Rattle.som_first.specs.declared.classes.FirstCall.{FirstCall}
+use Rattle.som_first.specs.declared.classes.FirstProgram.{FirstProgram}
 use Rattle.som_first.specs.FirstImages.{library_key, face_of, seen, decl_of, release_of, program_of, call_of}
 use Rattle.som_first.specs.FirstRuns.{AllPrint, RunPrints, prints, lines, lasting, lasts}
 use Rattle.som_first.specs.Linking.{IsMethod, CallIs, AreCalls, all_of}
@@ -36,7 +37,7 @@ use Rattle.som_cmd.specs.declared.library.Library.{Library}
 use Rattle.som_cmd.specs.RunText.{event_text, events_text, run_text, run_status, no_trace}
 use Rattle.som_cmd.specs.Taking.{IsClient, IsLibrary}
 use Rattle.som_cmd.specs.RunSteps.{spent_status, PrintsMeaning}
-use Rattle.som_cmd.proofs.ClientLaws.{placed, first_program, program_is}
+use Rattle.som_cmd.proofs.ClientLaws.{placed, image_of, first_program, program_is}
 
 -- ---- the text of a run
 
@@ -94,3 +95,72 @@ module _ (cs : List FirstClass) where
       let below : is_a (all_of cs) (library_key call.object) (library_key call.class) ≡ true =
           sym (is_a_faces (all_of cs) (library_key call.object) (library_key call.class)) ∙ ap (λ (l : List Class). is_a l (library_key call.object) (library_key call.class)) (sym same) ∙ (typed_call known_faces call one).2 in
       (call_is at fit.0 below, calls_by known_faces same ats fit.1 more)
+
+-- ---- the client among the classes of the library
+
+module _ (r : FirstRelease) (ok : ReleaseOk (release_of r)) (ats : List CallPlace) where
+  abbrev program : FirstProgram
+  program = first_program (map seen r.classes) ats
+
+  -- the client of first faces
+  abbrev client : ClientImage
+  client = image_of (map seen r.classes) ats
+
+  abbrev calls : List FirstCall
+  calls = map (call_named (faces r.classes)) ats
+
+  base_is : (program_of program).base ≡ interface_of (release_of r)
+  base_is = ap (λ (l : List ClassFace). record { classes = l }) (sym (faces_seen r.classes))
+
+  faces_known : kernel ++ interface_classes (record { classes = faces r.classes }) ++ [] ≡ map face_only (all_of r.classes)
+  faces_known = ap (λ (l : List ClassFace). kernel ++ interface_classes (record { classes = l }) ++ []) (sym (faces_seen r.classes)) ∙ faces_are r
+
+  module _ (conforms : ProgramOk (program_named client)) (fits : FitsClient client) where
+    first_calls : AreCalls r.classes ats calls
+    first_calls = calls_by r.classes (kernel ++ interface_classes (record { classes = faces r.classes }) ++ []) faces_known ats (recursion_from_All (CallFits (faces r.classes)) ats fits.calls) conforms.main
+
+    first_answered : (texts : List (List ℕ)) × AllPrint (all_of r.classes) calls texts
+    first_answered =
+        let a = all_answered r program ok (subst (λ (p : ClientProgram). ProgramOk p) (program_is (map seen r.classes) ats) conforms) base_is in
+        (a.0, subst (λ (cs : List Class). AllPrint cs calls a.0) (classes_are r program) a.1)
+
+    -- what is printed is the meaning
+    first_prints : (fuel : ℕ) (p : Printing)
+        → ((named : List FirstCall) (texts : List (List ℕ)) → AreCalls r.classes ats named → AllPrint (all_of r.classes) named texts → (p.text ≡ lines (lasting fuel texts)) × (p.spent ≡ not (lasts fuel texts)))
+        → (p.text ≡ run_text no_trace (means (release_of r) (program_named client) fuel)) × (spent_status p.spent ≡ run_status (means (release_of r) (program_named client) fuel))
+    first_prints fuel p told =
+        let a = first_answered in
+        let q = told calls a.0 first_calls a.1 in
+        let means_so = means_prints r program a.0 fuel ok (subst (λ (cs : List Class). AllPrint cs calls a.0) (sym (classes_are r program)) a.1) in
+        let shown = run_shows (lasting fuel a.0) (lasts fuel a.0) (means (release_of r) (program_of program) fuel) means_so in
+        (q.0 ∙ sym shown.0 ∙ ap (λ (x : ClientProgram). run_text no_trace (means (release_of r) x fuel)) (sym (program_is (map seen r.classes) ats)),
+        ap spent_status q.1 ∙ sym shown.1 ∙ ap (λ (x : ClientProgram). run_status (means (release_of r) x fuel)) (sym (program_is (map seen r.classes) ats)))
+
+-- a client that was compiled against a library is that of its faces
+client_is : (i : ClientImage) (l : Library) (lb : List ℕ) → IsLibrary lb l → i.base ≡ interface_of l.release → image_of (map seen l.first.classes) i.calls ≡ i
+client_is i l lb is base =
+    let same : i.base.classes ≡ map face_of (map seen l.first.classes) = ap (λ (x : Interface). x.classes) (base ∙ ap interface_of (sym is.is)) ∙ faces_seen l.first.classes in
+    ap (λ (x : List ClassFace). record { base = record { classes = x }; calls = i.calls }) (sym same)
+
+library_conforms : (l : Library) (lb : List ℕ) → IsLibrary lb l → ReleaseOk (release_of l.first)
+library_conforms l lb is = subst (λ (r : Release). ReleaseOk r) (sym is.is) is.image.conforms
+
+-- its calls are those that its numbers name
+pub calls_there : (i : ClientImage) (l : Library) (cb lb : List ℕ) → IsClient cb i → IsLibrary lb l → i.base ≡ interface_of l.release → (named : List FirstCall) × AreCalls l.first.classes i.calls named
+calls_there i l cb lb is_i is_l base =
+    let here = client_is i l lb is_l base in
+    (calls l.first (library_conforms l lb is_l) i.calls,
+    first_calls l.first (library_conforms l lb is_l) i.calls (subst (λ (x : ClientImage). ProgramOk (program_named x)) (sym here) is_i.image.conforms) (subst (λ (x : ClientImage). FitsClient x) (sym here) is_i.fits))
+
+-- and what they print is its meaning
+pub prints_meaning : (i : ClientImage) (l : Library) (cb lb : List ℕ) → IsClient cb i → IsLibrary lb l → i.base ≡ interface_of l.release → (fuel : ℕ) (p : Printing)
+    → ((named : List FirstCall) (texts : List (List ℕ)) → AreCalls l.first.classes i.calls named → AllPrint (all_of l.first.classes) named texts → (p.text ≡ lines (lasting fuel texts)) × (p.spent ≡ not (lasts fuel texts)))
+    → PrintsMeaning i l fuel p
+prints_meaning i l cb lb is_i is_l base fuel p told =
+    let here = client_is i l lb is_l base in
+    let q = first_prints l.first (library_conforms l lb is_l) i.calls (subst (λ (x : ClientImage). ProgramOk (program_named x)) (sym here) is_i.image.conforms) (subst (λ (x : ClientImage). FitsClient x) (sym here) is_i.fits) fuel p told in
+    record {
+      compiled = base;
+      text = q.0 ∙ ap (λ (x : ClientImage). run_text no_trace (means (release_of l.first) (program_named x) fuel)) here ∙ ap (λ (r : Release). run_text no_trace (means r (program_named i) fuel)) is_l.is;
+      status = q.1 ∙ ap (λ (x : ClientImage). run_status (means (release_of l.first) (program_named x) fuel)) here ∙ ap (λ (r : Release). run_status (means r (program_named i) fuel)) is_l.is;
+    }

@@ -7,8 +7,7 @@ ghost use Rattle.som_verify.specs.Walk.{AreLists};
 ghost use Rattle.som_verify.specs.declared.types.VerifyFault.TheVariants as faults;
 ghost use Rattle.std.specs.Prelude.{◌≡◌, ◌<◌, List as Seq, length, IfErr, IfOk, None};
 
-use crate::ancestry::{ancestors, item};
-use crate::metaclasses::has_place;
+use crate::ancestry::{ancestors, has_place, item};
 use crate::parents::parents_stand;
 use crate::table::class_names;
 use crate::types::VerifyFault;
