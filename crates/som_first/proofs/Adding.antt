@@ -1,22 +1,18 @@
 -- One class more is linked.
-use Rattle.std.proofs.Common.{◌≡◌, ℕ, zero, suc, ◌+◌, ◌<◌, ◌≤◌, ◌⊎◌, inl, inr, Bool, true, false, if◌then◌else◌, List, [], ◌∷◌, ◌++◌, length, Option, Some, None, IsSome, IsNone, is_some, slice_get, refl, sym, ap, ◌∙◌, subst, arith, true≢false, length-append}
+use Rattle.std.proofs.Common.{◌≡◌, ℕ, suc, ◌+◌, ◌<◌, ◌⊎◌, inl, inr, Bool, true, false, if◌then◌else◌, List, [], ◌∷◌, ◌++◌, length, Option, Some, None, IsSome, IsNone, is_some, slice_get, refl, sym, ap, ◌∙◌, subst, arith, true≢false, length-append}
 use Rattle.std.specs.Option.{option_or}
 use Rattle.std.proofs.lemmas.Bool.{cases_lt}
-use Rattle.std.proofs.lemmas.Option.{slice_get_within}
-use Rattle.som_model.specs.declared.key.Module.TheVariants as modules
 use Rattle.som_model.specs.declared.key.ClassKey.{ClassKey}
 use Rattle.som_model.specs.declared.key.MethodRef.{MethodRef}
-use Rattle.som_model.specs.Blocks.{printing}
 use Rattle.som_model.specs.Lists.{or_else, first_some as first_key}
 use Rattle.som_model.specs.Ancestors.{Descends, itself, descends}
 use Rattle.som_model.specs.Kernel.{som_object}
 use Rattle.som_model.specs.Classes.{hierarchy}
 use Rattle.som_model.specs.Resolution.{answer, impl}
-use Rattle.som_model.specs.Implementation.{Held, User, held, has_body}
+use Rattle.som_model.specs.Implementation.{Held, held, has_body}
 use Rattle.som_model.proofs.NamedLaws.{height_named, same_named}
-use Rattle.som_plain.proofs.Laws.{answer_step, parents_answer, answer_some, implementation_exists, descends_test}
-use Rattle.som_tables.specs.Rows.{Added, first_some, replaced_at, own_at, row_cell, inherited, HasToken, SomeHasToken, AreInherited, AreDistinct, KeepsRows, AddsRow}
-use Rattle.som_first.specs.declared.classes.FirstMethod.{FirstMethod}
+use Rattle.som_plain.proofs.Laws.{answer_step, parents_answer, descends_test}
+use Rattle.som_tables.specs.Rows.{Added, first_some, replaced_at, own_at, row_cell, inherited, SomeHasToken, AreInherited, AreDistinct, KeepsRows, AddsRow}
 use Rattle.som_first.specs.declared.classes.FirstOverride.{FirstOverride}
 use Rattle.som_first.specs.declared.classes.FirstClass.{FirstClass}
 use Rattle.som_first.specs.FirstImages.{library_key, parent_key}

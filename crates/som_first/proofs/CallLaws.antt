@@ -1,31 +1,28 @@
 -- What the cell of a call is, and what calls print as long as the fuel lasts.
-use Rattle.std.proofs.Common.{◌≡◌, ℕ, zero, suc, ◌+◌, ◌-◌, ◌<◌, ◌≤◌, Bool, true, false, not, if◌then◌else◌, List, [], ◌∷◌, ◌++◌, length, drop, Option, Some, None, IsSome, is_some, slice_get, slice_index_or, refl, sym, ap, ◌∙◌, subst, arith, true≢false, append_assoc}
+use Rattle.std.proofs.Common.{◌≡◌, ℕ, zero, suc, ◌+◌, ◌-◌, ◌<◌, ◌≤◌, true, false, not, List, [], ◌∷◌, ◌++◌, length, drop, Option, Some, None, IsSome, is_some, slice_get, slice_index_or, refl, sym, ap, ◌∙◌, subst, arith, true≢false, append_assoc}
 use Rattle.std.proofs.lemmas.List.{append-nil}
 use Rattle.som_model.specs.declared.key.ClassKey.{ClassKey}
 use Rattle.som_model.specs.declared.key.MethodRef.{MethodRef}
 use Rattle.som_model.specs.declared.syntax.Block.{Block}
 use Rattle.som_model.specs.declared.syntax.Expr.{Expr, out-Expr}
 use Rattle.som_model.specs.declared.syntax.Expr.TheVariants as exprs
-use Rattle.som_model.specs.declared.syntax.Expr.TheOpen.{Expr-F}
 use Rattle.som_model.specs.declared.syntax.Stmt.{Stmt, out-Stmt}
 use Rattle.som_model.specs.declared.syntax.Stmt.TheVariants as stmts
-use Rattle.som_model.specs.declared.syntax.Stmt.TheOpen.{Stmt-F}
 use Rattle.som_model.specs.Blocks.{printing}
 use Rattle.som_model.specs.Ancestors.{Descends}
 use Rattle.som_model.specs.Classes.{hierarchy}
-use Rattle.som_model.specs.Resolution.{answer, impl}
-use Rattle.som_model.specs.Implementation.{Held, User, held, has_body, implementation}
+use Rattle.som_model.specs.Resolution.{answer}
+use Rattle.som_model.specs.Implementation.{User, held, has_body, implementation}
 use Rattle.som_plain.proofs.Laws.{answer_some, implementation_exists, descends_test}
 use Rattle.som_tables.specs.Rows.{Added, inherited, HasToken}
 use Rattle.std.specs.Borrow.{Bor}
 use Rattle.som_order.specs.Names.{texts as texts_of}
 use Rattle.som_first.specs.declared.classes.FirstClass.{FirstClass}
-use Rattle.som_first.specs.declared.classes.FirstMethod.{FirstMethod}
 use Rattle.som_first.specs.declared.classes.FirstCall.{FirstCall}
 use Rattle.som_first.specs.declared.calls.CallPlace.{CallPlace}
-use Rattle.som_first.specs.FirstImages.{library_key, called}
+use Rattle.som_first.specs.FirstImages.{library_key}
 use Rattle.som_first.specs.FirstRuns.{Prints, AllPrint, no_more, and_then, lines, lasting, lasts}
-use Rattle.som_first.specs.Linking.{IsMethod, Answers, IsLinked, CallIs, AreCalls, all_of, library_method}
+use Rattle.som_first.specs.Linking.{Answers, IsLinked, CallIs, AreCalls, all_of, library_method}
 use Rattle.som_first.proofs.FirstClasses.{FirstOk, known, all_fall, all_tell}
 use Rattle.som_first.proofs.FirstMembers.{held_own}
 use Rattle.som_first.proofs.TypedCalls.{out_text, out_print}

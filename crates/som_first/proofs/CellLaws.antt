@@ -1,27 +1,18 @@
 -- Every cell is what its class answers: by induction over the classes as they are added.
-use Rattle.std.proofs.Common.{◌≡◌, ℕ, zero, suc, ◌+◌, ◌<◌, ◌≤◌, ◌⊎◌, inl, inr, ◌==◌, Bool, true, false, if◌then◌else◌, List, [], ◌∷◌, ◌++◌, length, Option, Some, None, IsSome, IsNone, is_some, slice_get, refl, sym, ap, ◌∙◌, subst, arith, true≢false, length-append}
+use Rattle.std.proofs.Common.{◌≡◌, ℕ, zero, suc, ◌+◌, ◌⊎◌, inl, inr, ◌==◌, Bool, true, false, if◌then◌else◌, List, [], ◌∷◌, length, Option, Some, None, slice_get, refl, sym, ap, ◌∙◌, subst, arith, true≢false}
 use Rattle.std.specs.Option.{option_or}
-use Rattle.std.proofs.lemmas.Bool.{eqb-true, eq-eqb, ne_eqb, and_parts, and_from, cases_lt}
-use Rattle.std.proofs.lemmas.Option.{slice_get_within}
-use Rattle.som_model.specs.declared.key.ClassKey.{ClassKey}
+use Rattle.std.proofs.lemmas.Bool.{eqb-true, eq-eqb, and_parts, and_from}
 use Rattle.som_model.specs.declared.key.MethodRef.{MethodRef}
 use Rattle.som_model.specs.Blocks.{printing}
-use Rattle.som_model.specs.Lists.{or_else, first_some as first_key}
-use Rattle.som_model.specs.Hierarchy.{Falls, Tells}
-use Rattle.som_model.specs.Ancestors.{Descends, itself, descends}
-use Rattle.som_model.specs.Kernel.{som_object}
-use Rattle.som_model.specs.Classes.{hierarchy}
-use Rattle.som_model.specs.Resolution.{answer, impl}
-use Rattle.som_model.specs.Implementation.{Held, User, held, has_body}
-use Rattle.som_plain.proofs.Laws.{answer_step, parents_answer, answer_some, implementation_exists, descends_test}
-use Rattle.som_tables.specs.Rows.{Added, first_some, same_token, replaced_at, own_at, row_cell, inherited, HasToken, SomeHasToken, AreInherited, AreDistinct, KeepsRows, AddsRow}
+use Rattle.som_model.specs.Implementation.{Held, User, held}
+use Rattle.som_tables.specs.Rows.{Added, same_token, replaced_at, own_at}
 use Rattle.som_first.specs.declared.classes.FirstMethod.{FirstMethod}
 use Rattle.som_first.specs.declared.classes.FirstOverride.{FirstOverride}
 use Rattle.som_first.specs.declared.classes.FirstClass.{FirstClass}
-use Rattle.som_first.specs.FirstImages.{library_key, parent_key}
-use Rattle.som_first.specs.Linking.{IsMethod, AreOwn, AreReplaced, AreKept, IsParent, IsRow, Answers, IsLinked, library_method}
-use Rattle.som_first.proofs.FirstClasses.{FirstOk, known, all_fall, all_tell, same_place, height_is, parents_is, parent_stands}
-use Rattle.som_first.proofs.FirstMembers.{ref_of, not_lower, OverrideStands, OwnBody, OverrideBody, slots_apart, overrides_apart, override_stands, held_own, held_override, held_from}
+use Rattle.som_first.specs.FirstImages.{library_key}
+use Rattle.som_first.specs.Linking.{IsMethod, AreOwn, AreReplaced, IsRow, library_method}
+use Rattle.som_first.proofs.FirstClasses.{FirstOk, known, same_place}
+use Rattle.som_first.proofs.FirstMembers.{ref_of, slots_apart, held_own, held_override, held_from}
 
 same_pair : (u t : ℕ × ℕ) → same_token u t ≡ true → u ≡ t
 same_pair u t e = let h = and_parts (u.0 == t.0) (u.1 == t.1) e in ap (λ a. (a, u.1)) (eqb-true u.0 t.0 h.0) ∙ ap (λ b. (t.0, b)) (eqb-true u.1 t.1 h.1)

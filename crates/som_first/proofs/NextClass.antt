@@ -1,6 +1,5 @@
 -- What the next class is added with, from what its parts are.
-use Rattle.std.proofs.Common.{◌≡◌, ℕ, zero, suc, ◌+◌, ◌<◌, ◌≤◌, inl, inr, Bool, true, false, not, if◌then◌else◌, List, [], ◌∷◌, ◌++◌, length, map, Option, Some, None, slice_get, slice_index_or, refl, sym, ap, ◌∙◌, subst, arith, append_assoc}
-use Rattle.std.specs.List.{All}
+use Rattle.std.proofs.Common.{◌≡◌, ℕ, zero, suc, ◌+◌, ◌<◌, ◌≤◌, inl, inr, Bool, true, false, not, if◌then◌else◌, List, [], ◌∷◌, ◌++◌, length, map, Option, Some, None, slice_get, refl, sym, ap, ◌∙◌, subst, arith, append_assoc}
 use Rattle.std.proofs.lemmas.Option.{get_or_from_slice_get, slice_get_within}
 use Rattle.std.proofs.lemmas.List.Elements.{All-get_or}
 use Rattle.std.specs.Prelude.{codes}
@@ -10,7 +9,7 @@ use Rattle.som_model.specs.Class.{Class}
 use Rattle.som_model.specs.Kernel.{kernel}
 use Rattle.som_model.specs.Rules.{name_of, breach, s1}
 use Rattle.som_model.specs.Conforming.{each_after}
-use Rattle.som_tables.specs.Rows.{Added, class_with}
+use Rattle.som_tables.specs.Rows.{class_with}
 use Rattle.som_first.specs.declared.classes.FirstMethod.{FirstMethod}
 use Rattle.som_first.specs.declared.classes.FirstOverride.{FirstOverride}
 use Rattle.som_first.specs.declared.classes.FirstClass.{FirstClass}

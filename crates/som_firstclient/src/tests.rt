@@ -1,4 +1,5 @@
 use super::*;
+use som_first::Unread;
 use som_model::List;
 use std::alloc::Global;
 use std::test::Fail;

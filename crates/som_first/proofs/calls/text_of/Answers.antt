@@ -1,9 +1,7 @@
-use Rattle.std.proofs.Common.{◌≡◌, ◌<◌, ℕ, List, Some, length, ◌∙◌, sym, ap, refl, subst, arith}
-use Rattle.std.specs.Borrow.{Bor}
+use Rattle.std.proofs.Common.{ℕ, length, ◌∙◌, sym, ap, subst, arith}
 use Rattle.std.proofs.lemmas.Option.{slice_get_within}
 use Rattle.som_order.specs.Names.{texts}
 use Rattle.som_tables.specs.Rows.{HasToken, inherited}
-use Rattle.som_first.specs.declared.classes.FirstCall.{FirstCall}
 use Rattle.som_first.proofs.FirstClasses.{first_ok}
 use Rattle.som_first.proofs.Bodies.{texts_long}
 use Rattle.som_first.proofs.CallLaws.{has_token, some_text, text_is, same_texts}

@@ -1,4 +1,4 @@
-use Rattle.std.proofs.Common.{◌≡◌, ℕ, List, ◌∷◌, [], ◌≤◌, ◌<◌, refl, sym, ap, ◌∙◌, subst, slice_get, slice_index_or, Some, length, arith}
+use Rattle.std.proofs.Common.{◌≡◌, ℕ, List, ◌∷◌, [], ◌<◌, refl, ap, subst, slice_get, slice_index_or, Some, length, arith}
 use Rattle.std.proofs.lemmas.Option.{slice_get_read}
 use Rattle.som_model.specs.Lists.{Mem}
 use Rattle.som_order.specs.Names.{texts}
@@ -6,7 +6,7 @@ use Rattle.som_tables.specs.Rows.{class_with}
 use Rattle.som_first.specs.declared.classes.FirstClass.{FirstClass}
 use Rattle.som_first.specs.declared.classes.FirstOverride.{FirstOverride}
 use Rattle.som_first.specs.declared.classes.FirstMethod.{FirstMethod}
-use Rattle.som_first.specs.Linking.{Conform, AreOwn, IsRow}
+use Rattle.som_first.specs.Linking.{Conform, AreOwn}
 use Rattle.som_first.proofs.FirstClasses.{FirstOk, first_ok}
 use Rattle.som_first.proofs.Bodies.{kept_on}
 use Rattle.som_first.proofs.CellLaws.{own_long}

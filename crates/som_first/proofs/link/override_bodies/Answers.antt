@@ -1,6 +1,4 @@
-use Rattle.std.proofs.Common.{take, subst}
 use Rattle.som_order.specs.Names.{texts}
-use Rattle.som_first.specs.declared.classes.FirstOverride.{FirstOverride}
 use Rattle.som_first.proofs.Bodies.{kept_on, replaced_more}
 use Rattle.som_first.proofs.Named.{mem_item}
 use Rattle.som_first.proofs.link.override_bodies.Goals as goal

@@ -1,4 +1,3 @@
-use Rattle.std.proofs.Common.{take}
 use Rattle.som_order.specs.Names.{texts}
 use Rattle.som_first.proofs.Bodies.{kept_on, own_more}
 use Rattle.som_first.proofs.link.own_bodies.Goals as goal

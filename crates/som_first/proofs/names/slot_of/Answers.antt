@@ -1,4 +1,4 @@
-use Rattle.std.proofs.Common.{ℕ, List, sym, ap, ◌∙◌}
+use Rattle.std.proofs.Common.{sym, ap, ◌∙◌}
 use Rattle.std.specs.Str.{bytes_eq}
 use Rattle.som_model.proofs.KeyLaws.{exact_bytes}
 use Rattle.som_first.specs.declared.classes.FirstMethod.{FirstMethod}
