@@ -118,31 +118,39 @@ slot_there [] j n e = absurd cc
 slot_there (m ∷ names) zero n e = cc
 slot_there (m ∷ names) (suc j) n e = slot_there names j n e
 
-module _ (fs : List FirstFace) (at : CallPlace) (fits : CallFits (map face_of fs) at) where
-  abbrev named : FirstCall
-  named = call_named (map face_of fs) at
+-- where the classes and the method of a call stand among the faces
+pub record Standing (fs : List FirstFace) (at : CallPlace) : Type 0 where
+  pub object : FirstFace
+  pub object_at : slice_get fs (at.object - 4) ≡ Some object
+  pub object_is : object.name ≡ (call_named (map face_of fs) at).object
+  pub class : FirstFace
+  pub class_stands : slice_get fs (at.class - 4) ≡ Some class
+  pub class_is : class.name ≡ (call_named (map face_of fs) at).class
+  pub method_at : slice_get class.methods at.slot ≡ Some (call_named (map face_of fs) at).method
 
-  -- the call names faces and a method by their places
-  pub placed : IsPlaced fs named
-  placed =
-      let o = at_of fs (at.object - 4) (omega (arith, fits.object.0, fits.object.1, long_faces fs)) in
-      let c = at_of fs (at.class - 4) (omega (arith, fits.class.0, fits.class.1, long_faces fs)) in
-      let entries = entries_there fs (at.class - 4) c.0 c.1 in
-      let slot : at.slot < length c.0.methods = omega (arith, fits.slot, ap length entries, long_plain c.0.methods) in
-      let m = at_of c.0.methods at.slot slot in
-      let method : named.method ≡ m.0 = ap (λ (es : List Entry). get_or (map entry_name es) at.slot []) entries ∙ slot_there c.0.methods at.slot m.0 m.1 in
-      record {
-        object_place = at.object - 4;
-        object = o.0;
-        object_at = o.1;
-        object_is = sym (name_there fs (at.object - 4) o.0 o.1);
-        class_place = at.class - 4;
-        class = c.0;
-        class_stands = c.1;
-        class_is = sym (name_there fs (at.class - 4) c.0 c.1);
-        slot = at.slot;
-        method_at = m.1 ∙ ap (λ (n : List ℕ). Some n) (sym method);
-      }
+pub standing : (fs : List FirstFace) (at : CallPlace) → CallFits (map face_of fs) at → Standing fs at
+standing fs at fits =
+    let o = at_of fs (at.object - 4) (omega (arith, fits.object.0, fits.object.1, long_faces fs)) in
+    let c = at_of fs (at.class - 4) (omega (arith, fits.class.0, fits.class.1, long_faces fs)) in
+    let entries = entries_there fs (at.class - 4) c.0 c.1 in
+    let slot : at.slot < length c.0.methods = omega (arith, fits.slot, ap length entries, long_plain c.0.methods) in
+    let m = at_of c.0.methods at.slot slot in
+    let method : (call_named (map face_of fs) at).method ≡ m.0 = ap (λ (es : List Entry). get_or (map entry_name es) at.slot []) entries ∙ slot_there c.0.methods at.slot m.0 m.1 in
+    record {
+      object = o.0; object_at = o.1; object_is = sym (name_there fs (at.object - 4) o.0 o.1);
+      class = c.0; class_stands = c.1; class_is = sym (name_there fs (at.class - 4) c.0 c.1);
+      method_at = m.1 ∙ ap (λ (n : List ℕ). Some n) (sym method);
+    }
+
+-- the call names faces and a method by their places
+placed : (fs : List FirstFace) (at : CallPlace) → CallFits (map face_of fs) at → IsPlaced fs (call_named (map face_of fs) at)
+placed fs at fits =
+    let s = standing fs at fits in
+    record {
+      object_place = at.object - 4; object = s.object; object_at = s.object_at; object_is = s.object_is;
+      class_place = at.class - 4; class = s.class; class_stands = s.class_stands; class_is = s.class_is;
+      slot = at.slot; method_at = s.method_at;
+    }
 
 -- the key at the place of a library class
 key_there : (faces : List ClassFace) (i : ℕ) → i < length faces → key_at (all_classes (map bare faces)) (suc (suc (suc (suc i)))) ≡ library_key (get_or (map (λ (c : ClassFace). c.name) faces) i [])

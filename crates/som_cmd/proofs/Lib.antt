@@ -4,3 +4,7 @@ mod FuelLaws
 mod ClientLaws
 mod RunMeaning
 mod RunLaws
+mod OneAnswer
+mod Telling
+mod RunAnswers
+mod EndLaws

@@ -17,7 +17,7 @@ use Rattle.som_cmd.specs.Taking.{IsNone, Decodes, IsLibrary}
 use Rattle.som_cmd.proofs.FirstTexts.{prints_in_images, prints_by_rules}
 
 -- a first release prints texts
-first_prints : (bytes : List ℕ) (r : Release) → IsFirstLibrary bytes r → PrintTexts r
+pub first_prints : (bytes : List ℕ) (r : Release) → IsFirstLibrary bytes r → PrintTexts r
 first_prints bytes r is = subst (λ (x : Release). PrintTexts x) (sym is.form.1) (prints_in_images is.form.0)
 
 pub form_prints : (f : FirstRelease) (r : Release) → release_of f ≡ r → verify.PrintTexts r

@@ -66,26 +66,23 @@ both_there : (files : Files) (later : Option Files) (c l cb lb : List ℕ) → l
 both_there files later c l cb lb same f g =
     record { client = found_by (get files c) c cb f; library = found_by (get files l) l lb (subst (λ (x : Option Files). FollowsTold x (Ok lb) (file_of l)) same g) }
 
--- the refusal of an image is that of bytes that are none
-refused_by : {A B : Type 0} (IsImage : List ℕ → A → Type 0) (bytes name : List ℕ) (u : Unread) (stop : Stop) → IsNone IsImage bytes u → TakesOr {A = B} name (Err u) (Err stop) → (r : Refusal) → stop ≡ stops.Refused r
-    → ((x : A) → IsImage bytes x → ⊥) × (r ≡ no_image name)
-refused_by IsImage bytes name unread.OtherForm (stops.Refused q) none takes r e = (none, (let same : q ≡ r = cc in sym same ∙ err_same q (no_image name) takes))
-  where
-    err_same : (a b : Refusal) → Err {A = Unit {0}} b ≡ Err a → a ≡ b
-    err_same a b e = cc
-refused_by IsImage bytes name unread.OtherForm (stops.StoreFailed line) none takes r e = absurd cc
-refused_by IsImage bytes name unread.OtherForm stops.NoMemory none takes r e = absurd cc
-refused_by {A} {B} IsImage bytes name unread.NoMemory stop none takes r e = absurd (never stop r (err_stop stop stops.NoMemory takes ∙ refl) e)
-  where
-    err_stop : (a b : Stop) → Err {A = B} a ≡ Err b → a ≡ b
-    err_stop a b e = cc
+same_refusal : (a b : Refusal) → ◌≡◌ {A = Result (Unit {0}) Refusal} (Err a) (Err b) → b ≡ a
+same_refusal a b e = cc
 
-    never : (a : Stop) (q : Refusal) → a ≡ stops.NoMemory → a ≡ stops.Refused q → ⊥
-    never a q p k = cc
+not_refused : {B : Type 0} (stop : Stop) (r : Refusal) → ◌≡◌ {A = Result B Stop} (Err stop) (Err stops.NoMemory) → stop ≡ stops.Refused r → ⊥
+not_refused stop r e f = cc
+
+-- the refusal of an image is that of bytes that are none
+refused_by : {A : Type 0} (B : Type 0) (IsImage : List ℕ → A → Type 0) (bytes name : List ℕ) (u : Unread) (stop : Stop) → IsNone IsImage bytes u → TakesOr {A = B} name (Err u) (Err stop) → (r : Refusal) → stop ≡ stops.Refused r
+    → ((x : A) → IsImage bytes x → ⊥) × (r ≡ no_image name)
+refused_by B IsImage bytes name unread.OtherForm (stops.Refused q) none takes r e = (none, (let same : q ≡ r = cc in sym same ∙ same_refusal (no_image name) q takes))
+refused_by B IsImage bytes name unread.OtherForm (stops.StoreFailed line) none takes r e = absurd cc
+refused_by B IsImage bytes name unread.OtherForm stops.NoMemory none takes r e = absurd cc
+refused_by B IsImage bytes name unread.NoMemory stop none takes r e = absurd (not_refused {B = B} stop r takes e)
 
 client_none : (files : Files) (c l : List ℕ) (fuel : ℕ) (cb lb : List ℕ) → Both files c l cb lb → (u : Unread) → IsNone IsFirstClient cb u → (stop : Stop) → TakesOr {A = ClientImage} c (Err u) (Err stop) → Answers files (Run c l fuel) (Err stop)
 client_none files c l fuel cb lb both u none (stops.Refused r) takes =
-    let m = refused_by {B = ClientImage} IsFirstClient cb c u (stops.Refused r) none takes r refl in
+    let m = refused_by ClientImage IsFirstClient cb c u (stops.Refused r) none takes r refl in
     subst (λ (x : Refusal). IsAnswer files (Run c l fuel) (refusing files x)) (sym m.1) (client_refused c l fuel cb lb both.client both.library m.0)
 client_none files c l fuel cb lb both u none (stops.StoreFailed line) takes = tt
 client_none files c l fuel cb lb both u none stops.NoMemory takes = tt
@@ -103,7 +100,7 @@ client_refused_by (Some files) later c l fuel cb lb (Err u) stop same f g is tak
 library_none : (files : Files) (c l : List ℕ) (fuel : ℕ) (cb lb : List ℕ) → Both files c l cb lb → (i : ClientImage) → IsClient cb i → (u : Unread) → IsNone IsFirstLibrary lb u → (stop : Stop) → TakesOr {A = Library} l (Err u) (Err stop)
     → Answers files (Run c l fuel) (Err stop)
 library_none files c l fuel cb lb both i is u none (stops.Refused r) takes =
-    let m = refused_by {B = Library} IsFirstLibrary lb l u (stops.Refused r) none takes r refl in
+    let m = refused_by Library IsFirstLibrary lb l u (stops.Refused r) none takes r refl in
     subst (λ (x : Refusal). IsAnswer files (Run c l fuel) (refusing files x)) (sym m.1) (library_refused c l fuel cb lb both.client both.library (program_named i) is.image m.0)
 library_none files c l fuel cb lb both i is u none (stops.StoreFailed line) takes = tt
 library_none files c l fuel cb lb both i is u none stops.NoMemory takes = tt

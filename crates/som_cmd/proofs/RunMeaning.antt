@@ -28,7 +28,7 @@ use Rattle.som_first.specs.FirstRuns.{AllPrint, RunPrints, prints, lines, lastin
 use Rattle.som_first.specs.Linking.{IsMethod, CallIs, AreCalls, all_of}
 use Rattle.som_first.proofs.FirstClasses.{known, classes_are}
 use Rattle.som_first.proofs.SameFaces.{face_only, is_a_faces, faces_are}
-use Rattle.som_first.proofs.CallsDecided.{IsPlaced, typed_call}
+use Rattle.som_first.proofs.CallsDecided.{typed_call}
 use Rattle.som_first.proofs.FirstMeans.{means_prints}
 use Rattle.som_first.proofs.FirstAnswered.{all_answered}
 use Rattle.som_firstclient.specs.declared.image.ClientImage.{ClientImage}
@@ -37,7 +37,7 @@ use Rattle.som_cmd.specs.declared.library.Library.{Library}
 use Rattle.som_cmd.specs.RunText.{event_text, events_text, run_text, run_status, no_trace}
 use Rattle.som_cmd.specs.Taking.{IsClient, IsLibrary}
 use Rattle.som_cmd.specs.RunSteps.{spent_status, PrintsMeaning}
-use Rattle.som_cmd.proofs.ClientLaws.{placed, image_of, first_program, program_is}
+use Rattle.som_cmd.proofs.ClientLaws.{standing, image_of, first_program, program_is}
 
 -- ---- the text of a run
 
@@ -75,14 +75,14 @@ module _ (cs : List FirstClass) where
 
   call_is : (at : CallPlace) → CallFits faces at → is_a (all_of cs) (library_key (call_named faces at).object) (library_key (call_named faces at).class) ≡ true → CallIs cs at (call_named faces at)
   call_is at fits below =
-      let p = placed (map seen cs) at fits in
-      let o = class_back cs p.object_place p.object p.object_at in
-      let c = class_back cs p.class_place p.class p.class_stands in
-      let names : slice_get (map (λ (m : FirstMethod). m.name) c.0.methods) p.slot ≡ Some (call_named faces at).method = ap (λ (f : FirstFace). slice_get f.methods p.slot) c.2 ∙ p.method_at in
-      let m = method_back c.0.methods p.slot (call_named faces at).method names in
+      let p = standing (map seen cs) at fits in
+      let o = class_back cs (at.object - 4) p.object p.object_at in
+      let c = class_back cs (at.class - 4) p.class p.class_stands in
+      let names : slice_get (map (λ (m : FirstMethod). m.name) c.0.methods) at.slot ≡ Some (call_named faces at).method = ap (λ (f : FirstFace). slice_get f.methods at.slot) c.2 ∙ p.method_at in
+      let m = method_back c.0.methods at.slot (call_named faces at).method names in
       record {
-        place = p.object_place; number = omega (arith, fits.object.0); there = o.0; stands = o.1; object_is = ap (λ (f : FirstFace). f.name) o.2 ∙ p.object_is;
-        method = record { place = p.class_place; number = omega (arith, fits.class.0); there = c.0; at = c.1; class_is = ap (λ (f : FirstFace). f.name) c.2 ∙ p.class_is; method = m.0; slot = m.1; name_is = m.2 };
+        place = at.object - 4; number = omega (arith, fits.object.0); there = o.0; stands = o.1; object_is = ap (λ (f : FirstFace). f.name) o.2 ∙ p.object_is;
+        method = record { place = at.class - 4; number = omega (arith, fits.class.0); there = c.0; at = c.1; class_is = ap (λ (f : FirstFace). f.name) c.2 ∙ p.class_is; method = m.0; slot = m.1; name_is = m.2 };
         below = below;
       }
 
