@@ -15,3 +15,7 @@ pub use top::run_som;
 
 #[cfg(test)]
 mod tests;
+#[cfg(test)]
+mod tests_of_refusals;
+#[cfg(test)]
+mod tests_of_runs;

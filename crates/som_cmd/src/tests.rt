@@ -6,14 +6,14 @@ use som_model::{List, Text};
 use std::alloc::Global;
 use std::test::Fail;
 
-const LIBRARY: [u8; 66] = [
+pub const LIBRARY: [u8; 66] = [
     0x53, 0x4f, 0x4d, 0x4c, 1, 0, 1, 0, 5, 0x48, 0x65, 0x6c, 0x6c, 0x6f, 0, 0, 0, 1, 0, 0, 0, 0, 1,
     0, 0, 0, 0, 1, 0, 8, 0x73, 0x61, 0x79, 0x48, 0x65, 0x6c, 0x6c, 0x6f, 0, 0, 0, 0, 0, 0, 0, 0, 1,
     8, 0x21, 0, 0xd, 0x48, 0x65, 0x6c, 0x6c, 0x6f, 0x2c, 0x20, 0x57, 0x6f, 0x72, 0x6c, 0x64, 0x21,
     0, 0,
 ];
 
-const CLIENT: [u8; 57] = [
+pub const CLIENT: [u8; 57] = [
     0x53, 0x4f, 0x4d, 0x43, 1, 0, 1, 0, 5, 0x48, 0x65, 0x6c, 0x6c, 0x6f, 0, 0, 0, 1, 0, 0, 0, 0, 1,
     0, 0, 0, 0, 1, 0, 8, 0x73, 0x61, 0x79, 0x48, 0x65, 0x6c, 0x6c, 0x6f, 0, 0, 0, 0, 0, 0, 0, 0, 1,
     0x0a, 0x2f, 0, 4, 0, 0, 0x29, 0, 4, 0,
@@ -21,7 +21,7 @@ const CLIENT: [u8; 57] = [
 
 const RUN: [&[u8]; 3] = [b"run", b"hello.cli", b"hello.img"];
 
-fn put(alloc: Global, store: &mut MemStore, name: &[u8], bytes: &[u8]) -> Result<(), Fail> {
+pub fn put(alloc: Global, store: &mut MemStore, name: &[u8], bytes: &[u8]) -> Result<(), Fail> {
     let name = Text::from_slice(alloc, name)?;
     let bytes = List::from_slice(alloc, bytes)?;
     if store.put(&name, &bytes) == Put::Done {
@@ -31,7 +31,7 @@ fn put(alloc: Global, store: &mut MemStore, name: &[u8], bytes: &[u8]) -> Result
     }
 }
 
-fn words_of(alloc: Global, words: &[&[u8]]) -> Result<List<Text>, Fail> {
+pub fn words_of(alloc: Global, words: &[&[u8]]) -> Result<List<Text>, Fail> {
     let mut all = List::new(alloc);
     for word in words {
         all.push(Text::from_slice(alloc, word)?)?;
@@ -40,7 +40,7 @@ fn words_of(alloc: Global, words: &[&[u8]]) -> Result<List<Text>, Fail> {
 }
 
 // The status, where what was printed is as it should be.
-fn status<S: Store>(
+pub fn status<S: Store>(
     alloc: Global,
     words: &[&[u8]],
     store: &mut S,
@@ -56,7 +56,12 @@ fn status<S: Store>(
 }
 
 // The status of a run over these two images.
-fn run_status(alloc: Global, client: &[u8], library: &[u8], printed: &[u8]) -> Result<u8, Fail> {
+pub fn run_status(
+    alloc: Global,
+    client: &[u8],
+    library: &[u8],
+    printed: &[u8],
+) -> Result<u8, Fail> {
     let mut store = MemStore::new(alloc);
     put(alloc, &mut store, b"hello.cli", client)?;
     put(alloc, &mut store, b"hello.img", library)?;
@@ -64,7 +69,7 @@ fn run_status(alloc: Global, client: &[u8], library: &[u8], printed: &[u8]) -> R
 }
 
 // An image with another byte at a place.
-fn changed(alloc: Global, image: &[u8], place: usize, byte: u8) -> Result<Vec<u8>, Fail> {
+pub fn changed(alloc: Global, image: &[u8], place: usize, byte: u8) -> Result<Vec<u8>, Fail> {
     let mut bytes = Vec::from_slice(alloc, image)?;
     if let Some(old) = bytes.get_mut(place) {
         *old = byte;
@@ -84,14 +89,20 @@ fn hello_is_printed(rt: HostRuntime) -> Result<(), Fail> {
 #[test]
 fn words_of_no_form_are_refused(rt: HostRuntime) -> Result<(), Fail> {
     let alloc = rt.alloc();
-    let all: [&[&[u8]]; 9] = [
+    let all: [&[&[u8]]; 15] = [
         &[],
         &[b"run"],
         &[b"run", b"a"],
         &[b"run", b"", b"b"],
         &[b"run", b"a", b""],
         &[b"run", b"a", b"b", b"c"],
-        &[b"run", b"a", b"b", b"--fuel", b"3"],
+        &[b"run", b"a", b"b", b"--fuel"],
+        &[b"run", b"a", b"b", b"3"],
+        &[b"run", b"a", b"b", b"--Fuel", b"3"],
+        &[b"run", b"a", b"b", b"--fuel", b"3", b"4"],
+        &[b"run", b"", b"b", b"--fuel", b"3"],
+        &[b"run", b"a", b"", b"--fuel", b"3"],
+        &[b"--fuel", b"3", b"run", b"a", b"b"],
         &[b"Run", b"a", b"b"],
         &[b"show", b"a", b"b"],
     ];
