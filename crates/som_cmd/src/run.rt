@@ -76,12 +76,7 @@ fn run_on(
 }
 
 /// What a client prints on a library.
-#[tactic(auto, using(
-    crate::proofs::RunLaws::client_missing,
-    crate::proofs::RunLaws::library_missing,
-    crate::proofs::RunLaws::client_refused_by,
-    crate::proofs::RunLaws::library_refused_by
-))]
+#[tactic(auto, using(crate::proofs::RunLaws::client_missing, crate::proofs::RunLaws::library_missing, crate::proofs::RunLaws::client_refused_by, crate::proofs::RunLaws::library_refused_by))]
 pub fn run<S: Store>(
     alloc: Global,
     client: &Text,
