@@ -1,9 +1,9 @@
 -- Which bytes are taken for a first client image.
-use Rattle.std.proofs.Common.{◌≡◌, ℕ, zero, suc, ◌+◌, ◌-◌, ◌<◌, ◌≤◌, ◌⊎◌, inl, inr, Bool, true, false, if◌then◌else◌, List, [], ◌∷◌, ◌++◌, length, map, take, drop, Option, Some, None, Result, Ok, Err, slice_get, slice_index_or, refl, sym, ap, ◌∙◌, subst, arith, true≢false}
-use Rattle.std.specs.List.{All, AllByRecursion}
+use Rattle.std.proofs.Common.{◌≡◌, ℕ, zero, suc, ◌-◌, ◌<◌, Bool, true, false, if◌then◌else◌, List, [], ◌∷◌, ◌++◌, length, map, Option, Some, None, Result, Ok, Err, slice_get, refl, sym, ap, ◌∙◌, subst, arith, true≢false}
+use Rattle.std.specs.List.{AllByRecursion}
 use Rattle.std.specs.Prelude.{flat_map, get_or}
 use Rattle.std.proofs.lemmas.List.{append-nil}
-use Rattle.std.proofs.lemmas.List.Elements.{recursion_from_All, All-get_or}
+use Rattle.std.proofs.lemmas.List.Elements.{recursion_from_All}
 use Rattle.som_model.specs.declared.key.ClassKey.{ClassKey}
 use Rattle.som_model.specs.declared.key.Module.TheVariants as modules
 use Rattle.som_model.specs.declared.syntax.Stmt.{Stmt}
@@ -12,14 +12,13 @@ use Rattle.som_model.specs.declared.class.ClassDecl.{ClassDecl}
 use Rattle.som_model.specs.declared.class.Entry.{Entry}
 use Rattle.som_model.specs.declared.program.Interface.{Interface}
 use Rattle.som_model.specs.declared.program.ClientProgram.{ClientProgram}
-use Rattle.som_model.specs.declared.program.Release.{Release}
 use Rattle.som_model.specs.Bytes.{AreBytes}
-use Rattle.som_model.specs.Lists.{or_else, first, every, Mem}
+use Rattle.som_model.specs.Lists.{or_else, first, every}
 use Rattle.som_model.specs.Class.{Class, class_in, bare, entry_name}
 use Rattle.som_model.specs.Kernel.{kernel}
-use Rattle.som_model.specs.Classes.{interface_classes, client_classes, is_a}
+use Rattle.som_model.specs.Classes.{interface_classes, is_a}
 use Rattle.som_model.specs.Rules.{Breach, s1, s5, s6}
-use Rattle.som_model.specs.Typing.{IsTyped, AreTyped, no_more, and_then}
+use Rattle.som_model.specs.Typing.{AreTyped, no_more, and_then}
 use Rattle.som_model.specs.Conforming.{ProgramOk, program_breach, first_of_names, first_of_members, each_after}
 use Rattle.som_model.specs.Images.{client_image}
 use Rattle.som_libimage.specs.Libraries.{NamesDiffer}
@@ -36,8 +35,8 @@ use Rattle.som_first.specs.declared.unread.Unread.TheVariants as unread
 use Rattle.som_first.specs.FirstImages.{library_key, face_of, call_of, program_of, plain_entry, IsFirstClient}
 use Rattle.som_first.proofs.CallsDecided.{faced, IsPlaced, typed_below, below_typed}
 use Rattle.som_firstclient.specs.declared.image.ClientImage.{ClientImage}
-use Rattle.som_firstclient.specs.Clients.{class_name, class_entries, call_named, program_named, IsOfLibrary, CallFits, FitsClient, AnswersProgram}
-use Rattle.som_cmd.specs.Taking.{IsNone, descends_in, ConformsAsFirst, ClientTells, IsClient}
+use Rattle.som_firstclient.specs.Clients.{class_name, call_named, program_named, IsOfLibrary, CallFits, FitsClient, AnswersProgram}
+use Rattle.som_cmd.specs.Taking.{IsNone, descends_in, ConformsAsFirst, ClientTells}
 
 -- ---- the rules of a client without classes of its own are those of its faces
 
@@ -137,8 +136,12 @@ standing fs at fits =
     let m = at_of c.0.methods at.slot slot in
     let method : (call_named (map face_of fs) at).method ≡ m.0 = ap (λ (es : List Entry). get_or (map entry_name es) at.slot []) entries ∙ slot_there c.0.methods at.slot m.0 m.1 in
     record {
-      object = o.0; object_at = o.1; object_is = sym (name_there fs (at.object - 4) o.0 o.1);
-      class = c.0; class_stands = c.1; class_is = sym (name_there fs (at.class - 4) c.0 c.1);
+      object = o.0;
+      object_at = o.1;
+      object_is = sym (name_there fs (at.object - 4) o.0 o.1);
+      class = c.0;
+      class_stands = c.1;
+      class_is = sym (name_there fs (at.class - 4) c.0 c.1);
       method_at = m.1 ∙ ap (λ (n : List ℕ). Some n) (sym method);
     }
 
@@ -147,9 +150,16 @@ placed : (fs : List FirstFace) (at : CallPlace) → CallFits (map face_of fs) at
 placed fs at fits =
     let s = standing fs at fits in
     record {
-      object_place = at.object - 4; object = s.object; object_at = s.object_at; object_is = s.object_is;
-      class_place = at.class - 4; class = s.class; class_stands = s.class_stands; class_is = s.class_is;
-      slot = at.slot; method_at = s.method_at;
+      object_place = at.object - 4;
+      object = s.object;
+      object_at = s.object_at;
+      object_is = s.object_is;
+      class_place = at.class - 4;
+      class = s.class;
+      class_stands = s.class_stands;
+      class_is = s.class_is;
+      slot = at.slot;
+      method_at = s.method_at;
     }
 
 -- the key at the place of a library class

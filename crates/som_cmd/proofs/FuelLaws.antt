@@ -1,10 +1,10 @@
 -- The fuel that is asked for, digit by digit.
-use Rattle.std.proofs.Common.{◌≡◌, ℕ, ◌+◌, ◌-◌, ◌*◌, ◌<◌, ◌≤◌, Bool, true, false, ◌&&◌, if◌then◌else◌, List, [], ◌∷◌, drop, Option, Some, None, refl, sym, arith, true≢false}
-use Rattle.std.specs.Prelude.{nat_le, nat_lt}
-use Rattle.std.proofs.lemmas.Bool.{le-leb, leb-true}
+use Rattle.std.proofs.Common.{◌≡◌, ℕ, ◌+◌, ◌-◌, ◌*◌, ◌<◌, ◌≤◌, Bool, true, false, ◌&&◌, if◌then◌else◌, List, [], ◌∷◌, drop, Some, None, refl, sym, arith, true≢false}
+use Rattle.std.specs.Prelude.{nat_le}
+use Rattle.std.proofs.lemmas.Bool.{leb-true}
 use Rattle.som_model.specs.declared.limits.TheConstants.{MAX_FUEL}
 use Rattle.som_model.specs.Lists.{every}
-use Rattle.som_cmd.specs.Words.{is_digit, value_after, leads_with_zero, is_number, fuel_of}
+use Rattle.som_cmd.specs.Words.{is_digit, value_after, is_number, fuel_of}
 
 -- the digits so far are digits, and their value is this
 pub record DigitsSoFar (word : List ℕ) (i value : ℕ) : Type 0 where

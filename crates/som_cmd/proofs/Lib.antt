@@ -8,3 +8,4 @@ mod OneAnswer
 mod Telling
 mod RunAnswers
 mod EndLaws
+mod FuelSpelled

@@ -1,19 +1,17 @@
 -- Which bytes are taken for a first library image.
-use Rattle.std.proofs.Common.{◌≡◌, ℕ, List, Some, None, Result, Ok, Err, IfOk, refl, sym, ap, ◌∙◌, subst}
+use Rattle.std.proofs.Common.{◌≡◌, ℕ, List, Some, Ok, Err, refl, sym, ap, ◌∙◌, subst}
 use Rattle.som_model.specs.declared.program.Release.{Release}
 use Rattle.som_model.specs.Bytes.{AreBytes}
-use Rattle.som_model.specs.Class.{interface_of}
 use Rattle.som_model.specs.Conforming.{ReleaseOk}
 use Rattle.som_model.specs.Images.{library_image}
-use Rattle.som_libimage.specs.Libraries.{NamesDiffer, PrintTexts}
+use Rattle.som_libimage.specs.Libraries.{PrintTexts}
 use Rattle.som_libimage.proofs.Conforming.{conforming_names}
 use Rattle.som_verify.specs.Printing as verify
 use Rattle.som_first.specs.declared.classes.FirstRelease.{FirstRelease}
 use Rattle.som_first.specs.declared.unread.Unread.{Unread}
 use Rattle.som_first.specs.declared.unread.Unread.TheVariants as unread
 use Rattle.som_first.specs.FirstImages.{release_of, IsFirstLibrary}
-use Rattle.som_cmd.specs.declared.library.Library.{Library}
-use Rattle.som_cmd.specs.Taking.{IsNone, Decodes, IsLibrary}
+use Rattle.som_cmd.specs.Taking.{IsNone, Decodes}
 use Rattle.som_cmd.proofs.FirstTexts.{prints_in_images, prints_by_rules}
 
 -- a first release prints texts

@@ -1,25 +1,15 @@
 -- Whatever is asked for, there is one answer.
-use Rattle.std.proofs.Common.{◌≡◌, ℕ, ◌⊎◌, inl, inr, Bool, true, false, true≢false, List, [], ◌∷◌, ◌++◌, map, Option, Some, None, Result, Ok, Err, refl, sym, ap, subst, ◌∙◌}
+use Rattle.std.proofs.Common.{◌≡◌, ℕ, ◌⊎◌, inl, inr, Bool, true, false, true≢false, List, Option, Some, None, refl, sym, ap, ◌∙◌}
 use Rattle.std.specs.FinMap.{get}
-use Rattle.std.specs.Prelude.{nat_lt, nat_le}
-use Rattle.som_model.specs.declared.class.ClassFace.{ClassFace}
 use Rattle.som_model.specs.declared.program.Interface.{Interface}
 use Rattle.som_model.specs.declared.program.Release.{Release}
 use Rattle.som_model.specs.declared.program.ClientProgram.{ClientProgram}
-use Rattle.som_model.specs.Bytes.{Files, AreBytes}
-use Rattle.som_model.specs.Lists.{every}
-use Rattle.som_model.specs.Class.{Class, interface_of, bare}
+use Rattle.som_model.specs.Bytes.{Files}
+use Rattle.som_model.specs.Class.{interface_of}
 use Rattle.som_model.specs.Same.{same_interface}
 use Rattle.som_model.proofs.SameLaws.{exact_interfaces}
-use Rattle.som_model.specs.Rules.{Breach}
-use Rattle.som_model.specs.Conforming.{ReleaseOk, release_breach}
 use Rattle.som_model.specs.Means.{means}
-use Rattle.som_model.specs.Images.{library_image, client_image}
-use Rattle.som_wire.specs.declared.fault.ImageFault.{ImageFault}
-use Rattle.som_libimage.specs.Libraries.{library_at, PrintTexts}
-use Rattle.som_libimage.proofs.Decoded.{found, library_again}
-use Rattle.som_first.specs.declared.classes.FirstRelease.{FirstRelease}
-use Rattle.som_first.specs.FirstImages.{release_of, program_of, IsFirstLibrary, IsFirstClient}
+use Rattle.som_first.specs.FirstImages.{IsFirstLibrary, IsFirstClient}
 use Rattle.som_cmd.specs.Words.{Asked, Run, Bad}
 use Rattle.som_cmd.specs.Answer.{Ending, IsAnswer, bad_words, no_client, no_library, client_refused, library_refused, faces_differ, runs, bad_line, refusing, ran, absent, no_image, not_same}
 

@@ -1,11 +1,8 @@
 -- What each step of a run answers is the ending of what is asked.
-use Rattle.std.proofs.Common.{◌≡◌, ℕ, List, [], ◌∷◌, ◌++◌, map, Bool, true, false, not, if◌then◌else◌, Option, Some, None, Result, Ok, Err, refl, sym, ap, subst, ◌∙◌}
+use Rattle.std.proofs.Common.{◌≡◌, ℕ, List, Option, Some, None, Result, Ok, Err, refl, sym, ap, subst, ◌∙◌}
 use Rattle.std.specs.Option.{ok_or}
 use Rattle.std.specs.FinMap.{get}
-use Rattle.som_model.specs.declared.program.Release.{Release}
-use Rattle.som_model.specs.declared.program.ClientProgram.{ClientProgram}
 use Rattle.som_model.specs.Bytes.{Files}
-use Rattle.som_model.specs.Class.{interface_of}
 use Rattle.som_model.specs.Means.{means}
 use Rattle.som_first.specs.declared.calls.Printing.{Printing}
 use Rattle.som_first.specs.declared.unread.Unread.{Unread}
@@ -17,11 +14,11 @@ use Rattle.som_cmd.specs.declared.library.Library.{Library}
 use Rattle.som_cmd.specs.declared.stop.Refusal.{Refusal}
 use Rattle.som_cmd.specs.declared.stop.Stop.{Stop}
 use Rattle.som_cmd.specs.declared.stop.Stop.TheVariants as stops
-use Rattle.som_cmd.specs.RunText.{run_text, run_status, no_trace}
-use Rattle.som_cmd.specs.Words.{Asked, Run}
+use Rattle.som_cmd.specs.RunText.{run_text, no_trace}
+use Rattle.som_cmd.specs.Words.{Run}
 use Rattle.som_cmd.specs.Taking.{IsNone, TakesLibrary, TakesClient, IsLibrary, IsClient}
-use Rattle.som_cmd.specs.Answer.{Ending, IsAnswer, no_client, no_library, client_refused, library_refused, faces_differ, runs, refusing, ran, absent, no_image, not_same}
-use Rattle.som_cmd.specs.RunSteps.{file_of, FollowsTold, TakesOr, spent_status, printed, PrintsMeaning, RunsOn, Answers, AnswersTold}
+use Rattle.som_cmd.specs.Answer.{IsAnswer, no_client, no_library, client_refused, library_refused, faces_differ, runs, refusing, ran, absent, no_image}
+use Rattle.som_cmd.specs.RunSteps.{file_of, FollowsTold, TakesOr, spent_status, printed, RunsOn, Answers, AnswersTold}
 
 missing_by : (o : Option (List ℕ)) (name : List ℕ) (r : Refusal) → ok_or o (absent name) ≡ Err r → (o ≡ None) × (r ≡ absent name)
 missing_by None name r e = (refl, cc)
@@ -134,8 +131,8 @@ run_by : (files : Files) (c l : List ℕ) (fuel : ℕ) (cb lb : List ℕ) → Bo
     → Answers files (Run c l fuel) result
 run_by files c l fuel cb lb both i is_i x is_x (Ok p) on =
     let same : printed files p ≡ ran files (means x.release (program_named i) fuel) =
-        ap (λ (t : List ℕ). record { text = t; status = spent_status p.spent; files = files }) on.text
-        ∙ ap (λ (n : ℕ). record { text = run_text no_trace (means x.release (program_named i) fuel); status = n; files = files }) on.status in
+    ap (λ (t : List ℕ). record { text = t; status = spent_status p.spent; files = files }) on.text
+    ∙ ap (λ (n : ℕ). record { text = run_text no_trace (means x.release (program_named i) fuel); status = n; files = files }) on.status in
     subst (IsAnswer files (Run c l fuel)) (sym same) (runs c l fuel cb lb both.client both.library (program_named i) is_i.image x.release is_x.image on.compiled)
 run_by files c l fuel cb lb both i is_i x is_x (Err (stops.Refused r)) on =
     subst (λ (q : Refusal). IsAnswer files (Run c l fuel) (refusing files q)) (sym on.0) (faces_differ c l fuel cb lb both.client both.library (program_named i) is_i.image x.release is_x.image on.1)

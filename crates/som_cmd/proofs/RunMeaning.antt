@@ -1,5 +1,5 @@
 -- What is printed on a library is what the client means among its classes.
-use Rattle.std.proofs.Common.{◌≡◌, ℕ, zero, suc, ◌+◌, ◌-◌, ◌<◌, ◌≤◌, List, [], ◌∷◌, ◌++◌, length, map, Bool, true, false, not, if◌then◌else◌, Option, Some, None, slice_get, refl, sym, ap, ◌∙◌, subst, arith, append_assoc}
+use Rattle.std.proofs.Common.{◌≡◌, ℕ, zero, suc, ◌-◌, List, [], ◌∷◌, ◌++◌, map, Bool, true, false, not, Some, slice_get, refl, sym, ap, ◌∙◌, subst, arith, append_assoc}
 use Rattle.std.specs.List.{AllByRecursion}
 use Rattle.std.proofs.lemmas.List.{append-nil}
 use Rattle.std.proofs.lemmas.List.Elements.{recursion_from_All}
@@ -7,12 +7,11 @@ use Rattle.som_model.specs.declared.class.ClassFace.{ClassFace}
 use Rattle.som_model.specs.declared.program.Interface.{Interface}
 use Rattle.som_model.specs.declared.program.Release.{Release}
 use Rattle.som_model.specs.declared.program.ClientProgram.{ClientProgram}
-use Rattle.som_model.specs.declared.syntax.Stmt.{Stmt}
 use Rattle.som_model.specs.Class.{Class, interface_of}
 use Rattle.som_model.specs.Kernel.{kernel}
-use Rattle.som_model.specs.Classes.{classes, interface_classes, is_a}
+use Rattle.som_model.specs.Classes.{interface_classes, is_a}
 use Rattle.som_model.specs.Conforming.{ReleaseOk, ProgramOk}
-use Rattle.som_model.specs.Typing.{AreTyped, no_more, and_then}
+use Rattle.som_model.specs.Typing.{AreTyped, and_then}
 use Rattle.som_model.specs.State.{Event, Printed, Called, Ran, Goes, Ends, Spent, Faulted}
 use Rattle.som_model.specs.Means.{means}
 use Rattle.som_first.specs.declared.calls.CallPlace.{CallPlace}
@@ -23,10 +22,10 @@ use Rattle.som_first.specs.declared.classes.FirstRelease.{FirstRelease}
 use Rattle.som_first.specs.declared.classes.FirstFace.{FirstFace}
 use Rattle.som_first.specs.declared.classes.FirstCall.{FirstCall}
 use Rattle.som_first.specs.declared.classes.FirstProgram.{FirstProgram}
-use Rattle.som_first.specs.FirstImages.{library_key, face_of, seen, decl_of, release_of, program_of, call_of}
+use Rattle.som_first.specs.FirstImages.{library_key, face_of, seen, release_of, program_of, call_of}
 use Rattle.som_first.specs.FirstRuns.{AllPrint, RunPrints, prints, lines, lasting, lasts}
-use Rattle.som_first.specs.Linking.{IsMethod, CallIs, AreCalls, all_of}
-use Rattle.som_first.proofs.FirstClasses.{known, classes_are}
+use Rattle.som_first.specs.Linking.{CallIs, AreCalls, all_of}
+use Rattle.som_first.proofs.FirstClasses.{classes_are}
 use Rattle.som_first.proofs.SameFaces.{face_only, is_a_faces, faces_are}
 use Rattle.som_first.proofs.CallsDecided.{typed_call}
 use Rattle.som_first.proofs.FirstMeans.{means_prints}
@@ -34,7 +33,7 @@ use Rattle.som_first.proofs.FirstAnswered.{all_answered}
 use Rattle.som_firstclient.specs.declared.image.ClientImage.{ClientImage}
 use Rattle.som_firstclient.specs.Clients.{call_named, program_named, CallFits, FitsClient}
 use Rattle.som_cmd.specs.declared.library.Library.{Library}
-use Rattle.som_cmd.specs.RunText.{event_text, events_text, run_text, run_status, no_trace}
+use Rattle.som_cmd.specs.RunText.{events_text, run_text, run_status, no_trace}
 use Rattle.som_cmd.specs.Taking.{IsClient, IsLibrary}
 use Rattle.som_cmd.specs.RunSteps.{spent_status, PrintsMeaning}
 use Rattle.som_cmd.proofs.ClientLaws.{standing, image_of, first_program, program_is}
@@ -81,7 +80,11 @@ module _ (cs : List FirstClass) where
       let names : slice_get (map (λ (m : FirstMethod). m.name) c.0.methods) at.slot ≡ Some (call_named faces at).method = ap (λ (f : FirstFace). slice_get f.methods at.slot) c.2 ∙ p.method_at in
       let m = method_back c.0.methods at.slot (call_named faces at).method names in
       record {
-        place = at.object - 4; number = omega (arith, fits.object.0); there = o.0; stands = o.1; object_is = ap (λ (f : FirstFace). f.name) o.2 ∙ p.object_is;
+        place = at.object - 4;
+        number = omega (arith, fits.object.0);
+        there = o.0;
+        stands = o.1;
+        object_is = ap (λ (f : FirstFace). f.name) o.2 ∙ p.object_is;
         method = record { place = at.class - 4; number = omega (arith, fits.class.0); there = c.0; at = c.1; class_is = ap (λ (f : FirstFace). f.name) c.2 ∙ p.class_is; method = m.0; slot = m.1; name_is = m.2 };
         below = below;
       }
@@ -93,7 +96,7 @@ module _ (cs : List FirstClass) where
   calls_by known_faces same (at ∷ ats) fit (and_then s ss one more) =
       let call = call_named faces at in
       let below : is_a (all_of cs) (library_key call.object) (library_key call.class) ≡ true =
-          sym (is_a_faces (all_of cs) (library_key call.object) (library_key call.class)) ∙ ap (λ (l : List Class). is_a l (library_key call.object) (library_key call.class)) (sym same) ∙ (typed_call known_faces call one).2 in
+      sym (is_a_faces (all_of cs) (library_key call.object) (library_key call.class)) ∙ ap (λ (l : List Class). is_a l (library_key call.object) (library_key call.class)) (sym same) ∙ (typed_call known_faces call one).2 in
       (call_is at fit.0 below, calls_by known_faces same ats fit.1 more)
 
 -- ---- the client among the classes of the library
@@ -132,9 +135,10 @@ module _ (r : FirstRelease) (ok : ReleaseOk (release_of r)) (ats : List CallPlac
         let a = first_answered in
         let q = told calls a.0 first_calls a.1 in
         let means_so = means_prints r program a.0 fuel ok (subst (λ (cs : List Class). AllPrint cs calls a.0) (sym (classes_are r program)) a.1) in
-        let shown = run_shows (lasting fuel a.0) (lasts fuel a.0) (means (release_of r) (program_of program) fuel) means_so in
-        (q.0 ∙ sym shown.0 ∙ ap (λ (x : ClientProgram). run_text no_trace (means (release_of r) x fuel)) (sym (program_is (map seen r.classes) ats)),
-        ap spent_status q.1 ∙ sym shown.1 ∙ ap (λ (x : ClientProgram). run_status (means (release_of r) x fuel)) (sym (program_is (map seen r.classes) ats)))
+        let shown = run_shows (lasting fuel a.0) (lasts fuel a.0) (means (release_of r) (program_of program) fuel) means_so in (
+          q.0 ∙ sym shown.0 ∙ ap (λ (x : ClientProgram). run_text no_trace (means (release_of r) x fuel)) (sym (program_is (map seen r.classes) ats)),
+          ap spent_status q.1 ∙ sym shown.1 ∙ ap (λ (x : ClientProgram). run_status (means (release_of r) x fuel)) (sym (program_is (map seen r.classes) ats)),
+        )
 
 -- a client that was compiled against a library is that of its faces
 client_is : (i : ClientImage) (l : Library) (lb : List ℕ) → IsLibrary lb l → i.base ≡ interface_of l.release → image_of (map seen l.first.classes) i.calls ≡ i
@@ -148,9 +152,10 @@ library_conforms l lb is = subst (λ (r : Release). ReleaseOk r) (sym is.is) is.
 -- its calls are those that its numbers name
 pub calls_there : (i : ClientImage) (l : Library) (cb lb : List ℕ) → IsClient cb i → IsLibrary lb l → i.base ≡ interface_of l.release → (named : List FirstCall) × AreCalls l.first.classes i.calls named
 calls_there i l cb lb is_i is_l base =
-    let here = client_is i l lb is_l base in
-    (calls l.first (library_conforms l lb is_l) i.calls,
-    first_calls l.first (library_conforms l lb is_l) i.calls (subst (λ (x : ClientImage). ProgramOk (program_named x)) (sym here) is_i.image.conforms) (subst (λ (x : ClientImage). FitsClient x) (sym here) is_i.fits))
+    let here = client_is i l lb is_l base in (
+      calls l.first (library_conforms l lb is_l) i.calls,
+      first_calls l.first (library_conforms l lb is_l) i.calls (subst (λ (x : ClientImage). ProgramOk (program_named x)) (sym here) is_i.image.conforms) (subst (λ (x : ClientImage). FitsClient x) (sym here) is_i.fits),
+    )
 
 -- and what they print is its meaning
 pub prints_meaning : (i : ClientImage) (l : Library) (cb lb : List ℕ) → IsClient cb i → IsLibrary lb l → i.base ≡ interface_of l.release → (fuel : ℕ) (p : Printing)

@@ -1,16 +1,14 @@
 -- Bytes are the first image of one release or client program, or of none.
-use Rattle.std.proofs.Common.{◌≡◌, ℕ, zero, suc, ◌<◌, ◌⊎◌, inl, inr, Bool, true, false, if◌then◌else◌, true≢false, List, [], ◌∷◌, map, Option, Some, None, Result, Ok, Err, refl, sym, ap, subst, ◌∙◌, arith}
+use Rattle.std.proofs.Common.{◌≡◌, ℕ, zero, suc, ◌⊎◌, inl, inr, Bool, true, false, if◌then◌else◌, true≢false, List, [], ◌∷◌, map, Option, Some, None, Result, Ok, Err, refl, sym, ap, ◌∙◌, arith}
 use Rattle.std.specs.Prelude.{nat_lt}
 use Rattle.std.proofs.lemmas.Bool.{lt-ltb, ltb-true}
 use Rattle.som_model.specs.declared.program.Release.{Release}
 use Rattle.som_model.specs.declared.program.ClientProgram.{ClientProgram}
-use Rattle.som_model.specs.declared.class.ClassDecl.{ClassDecl}
-use Rattle.som_model.specs.declared.class.ClassFace.{ClassFace}
 use Rattle.som_model.specs.Bytes.{AreBytes}
 use Rattle.som_model.specs.Lists.{every}
 use Rattle.som_model.specs.Class.{bare}
 use Rattle.som_model.specs.Rules.{Breach}
-use Rattle.som_model.specs.Conforming.{ReleaseOk, release_breach}
+use Rattle.som_model.specs.Conforming.{release_breach}
 use Rattle.som_wire.specs.declared.fault.ImageFault.{ImageFault}
 use Rattle.som_libimage.specs.Libraries.{library_at}
 use Rattle.som_libimage.proofs.Decoded.{found, library_again}
@@ -18,19 +16,17 @@ use Rattle.som_verify.specs.Faces.{faces_breach}
 use Rattle.som_verify.specs.Told.{of_release}
 use Rattle.som_verify.proofs.Conformity as conformity
 use Rattle.som_first.specs.declared.classes.FirstFace.{FirstFace}
-use Rattle.som_first.specs.declared.classes.FirstCall.{FirstCall}
 use Rattle.som_first.specs.declared.classes.FirstRelease.{FirstRelease}
 use Rattle.som_first.specs.declared.unread.Unread.{Unread}
 use Rattle.som_first.specs.declared.unread.Unread.TheVariants as unread
-use Rattle.som_first.specs.FirstImages.{release_of, program_of, call_of, face_of, IsFirstLibrary, IsFirstClient}
+use Rattle.som_first.specs.FirstImages.{release_of, face_of, IsFirstLibrary, IsFirstClient}
 use Rattle.som_first.proofs.FirstDecided.{release_decided, faces_decided}
 use Rattle.som_firstclient.specs.declared.image.ClientImage.{ClientImage}
 use Rattle.som_firstclient.specs.Clients.{program_named, FitsClient, AnswersProgram}
 use Rattle.som_firstclient.specs.Reading.{client_at, Reads}
 use Rattle.som_firstclient.proofs.NamedClients.{reads_fitting, reads_found, reads_only}
 use Rattle.som_cmd.specs.Taking.{ConformsAsFirst, ClientTells, descends_in}
-use Rattle.som_cmd.proofs.FirstTexts.{prints_in_images, prints_by_rules}
-use Rattle.som_cmd.proofs.LibraryLaws.{first_prints, form_prints, taken, none_conforming}
+use Rattle.som_cmd.proofs.LibraryLaws.{first_prints, form_prints, taken}
 use Rattle.som_cmd.proofs.ClientLaws as clients
 use Rattle.som_cmd.proofs.OneAnswer.{Told}
 

@@ -1,4 +1,4 @@
-use Rattle.std.proofs.Common.{Bool, ◌≡◌, List, Option, Some, None, Result, Ok, Err, IfOk, sym, ap, subst, ◌∙◌, map}
+use Rattle.std.proofs.Common.{Bool, ◌≡◌, List, Option, Some, Result, Ok, Err, IfOk, sym, ap, subst, ◌∙◌}
 use Rattle.som_model.specs.declared.memory.NoMemory.{NoMemory}
 use Rattle.som_model.specs.declared.class.ClassDecl.{ClassDecl}
 use Rattle.som_model.specs.Lists.{every}

@@ -1,4 +1,4 @@
-use Rattle.std.proofs.Common.{◌∙◌, ap, refl, sym, Err}
+use Rattle.std.proofs.Common.{ap, Err}
 use Rattle.som_first.proofs.Within.{within}
 use Rattle.som_cmd.proofs.LibraryLaws.{none_conforming, taken, taken_spelled, form_prints}
 use Rattle.som_cmd.proofs.library.take_library.Goals as goal

@@ -1,11 +1,10 @@
-use Rattle.std.proofs.Common.{◌∙◌, ap, sym, refl, subst, true≢false, List, ℕ, ◌≡◌, Bool, true, false}
+use Rattle.std.proofs.Common.{◌∙◌, ap, sym, subst, true≢false, List, ℕ, ◌≡◌, true, false}
 use Rattle.som_model.specs.declared.program.Interface.{Interface}
 use Rattle.som_model.specs.declared.program.Release.{Release}
 use Rattle.som_model.specs.declared.class.ClassFace.{ClassFace}
 use Rattle.som_model.specs.Class.{interface_of}
 use Rattle.som_model.specs.Same.{same_interface}
 use Rattle.som_model.proofs.SameLaws.{exact_interfaces}
-use Rattle.som_first.specs.declared.classes.FirstCall.{FirstCall}
 use Rattle.som_first.specs.declared.classes.FirstClass.{FirstClass}
 use Rattle.som_first.specs.declared.calls.CallPlace.{CallPlace}
 use Rattle.som_first.specs.Linking.{AreCalls, all_of}
@@ -28,9 +27,11 @@ pub print_calls-requires-clause-calls : goal.print_calls-requires-clause-calls
 print_calls-requires-clause-calls c =
     let i = c.args.client.now in let l = c.args.library.now in
     let base = are_same i.base c.in_ok-interface.interface l.release c.in_ok-interface.ensures (sym c.is.ensures ∙ c.if-is.true) in
-    let there = calls_there i l c.requires.client.0 c.requires.library.0 c.requires.client.1 c.requires.library.1 base in
-    (there.0, subst (λ (ats : List CallPlace). AreCalls c.in_ok-linked.linked.classes.now ats there.0) (sym c.as_slice-then-is.ensures)
-    (subst (λ (cs : List FirstClass). AreCalls cs i.calls there.0) (sym (c.in_ok-linked.ensures.classes ∙ c.as_slice.ensures)) there.1))
+    let there = calls_there i l c.requires.client.0 c.requires.library.0 c.requires.client.1 c.requires.library.1 base in (
+      there.0,
+      subst (λ (ats : List CallPlace). AreCalls c.in_ok-linked.linked.classes.now ats there.0) (sym c.as_slice-then-is.ensures)
+          (subst (λ (cs : List FirstClass). AreCalls cs i.calls there.0) (sym (c.in_ok-linked.ensures.classes ∙ c.as_slice.ensures)) there.1),
+    )
 
 pub returns-then-is-clause-runs : goal.returns-then-is-clause-runs
 returns-then-is-clause-runs c =
