@@ -96,12 +96,15 @@ const TWO_FACES: &[u8] = b"SOMC\x01\0\x02";
 
 const THREE_FACES: &[u8] = b"SOMC\x01\0\x03";
 
-// The client is refused before the library, which is no image at all.
+// C.c on a new A; A.a on a new C, and C.c on a new B
+const ON_A: &[u8] = b"\0\0\0\0\0\x01\x0a\x2f\0\x06\0\0\x29\0\x04\0";
+
+const ON_B: &[u8] = b"\0\0\0\0\0\x02\x0a\x2f\0\x04\0\0\x29\0\x06\0\x0a\x2f\0\x06\0\0\x29\0\x05\0";
+
+// The client is refused before the library, which is another's or no image at all.
 #[test]
 fn other_clients_are_refused(rt: HostRuntime) -> Result<(), Fail> {
     let alloc = rt.alloc();
-    let on_a: &[u8] = b"\0\0\0\0\0\x01\x0a\x2f\0\x06\0\0\x29\0\x04\0";
-    let on_b: &[u8] = b"\0\0\0\0\0\x02\x0a\x2f\0\x04\0\0\x29\0\x06\0\x0a\x2f\0\x06\0\0\x29\0\x05\0";
     let all: [&[&[u8]]; 14] = [
         &[TWO_FACES, FACE_A, TWO_PARENTS, NO_CALLS],
         &[ONE_FACE, METACLASS, NO_CALLS],
@@ -113,8 +116,8 @@ fn other_clients_are_refused(rt: HostRuntime) -> Result<(), Fail> {
         &[ONE_FACE, TWICE_A, NO_CALLS],
         &[TWO_FACES, FACE_A, A_AGAIN, NO_CALLS],
         // objects whose class doesn't descend from that of the method
-        &[THREE_FACES, FACE_A, FACE_B, FACE_C, on_a],
-        &[THREE_FACES, FACE_A, FACE_B, FACE_C, on_b],
+        &[THREE_FACES, FACE_A, FACE_B, FACE_C, ON_A],
+        &[THREE_FACES, FACE_A, FACE_B, FACE_C, ON_B],
         // somInit on a new A, a statement that prints, and a class of the client
         &[
             ONE_FACE,
@@ -142,23 +145,29 @@ fn other_clients_are_refused(rt: HostRuntime) -> Result<(), Fail> {
     Ok(())
 }
 
+// C with another version, parent or method, and a class under it
+const MAJOR: &[u8] = b"\0\x01C\0\0\0\x03\0\0\0\x03\x01\0\x05\0\0\x01\0\x01c\0\0\0";
+
+const MINOR: &[u8] = b"\0\x01C\0\0\0\x02\0\0\0\x04\x01\0\x05\0\0\x01\0\x01c\0\0\0";
+
+const PARENT: &[u8] = b"\0\x01C\0\0\0\x02\0\0\0\x03\x01\0\x04\0\0\x01\0\x01c\0\0\0";
+
+const METHOD: &[u8] = b"\0\x01C\0\0\0\x02\0\0\0\x03\x01\0\x05\0\0\x01\0\x01d\0\0\0";
+
+const FURTHER: &[u8] = b"\0\x01D\0\0\0\x01\0\0\0\0\x01\0\x06\0\0\0";
+
 // The client's faces are those of another library than the chain of A, B and C.
 #[test]
 fn clients_of_other_faces_do_not_run(rt: HostRuntime) -> Result<(), Fail> {
     let alloc = rt.alloc();
-    let major: &[u8] = b"\0\x01C\0\0\0\x03\0\0\0\x03\x01\0\x05\0\0\x01\0\x01c\0\0\0";
-    let minor: &[u8] = b"\0\x01C\0\0\0\x02\0\0\0\x04\x01\0\x05\0\0\x01\0\x01c\0\0\0";
-    let parent: &[u8] = b"\0\x01C\0\0\0\x02\0\0\0\x03\x01\0\x04\0\0\x01\0\x01c\0\0\0";
-    let method: &[u8] = b"\0\x01C\0\0\0\x02\0\0\0\x03\x01\0\x05\0\0\x01\0\x01d\0\0\0";
-    let further: &[u8] = b"\0\x01D\0\0\0\x01\0\0\0\0\x01\0\x06\0\0\0";
     let all: [&[&[u8]]; 7] = [
-        &[THREE_FACES, FACE_A, FACE_B, major, NO_CALLS],
-        &[THREE_FACES, FACE_A, FACE_B, minor, NO_CALLS],
-        &[THREE_FACES, FACE_A, FACE_B, parent, NO_CALLS],
-        &[THREE_FACES, FACE_A, FACE_B, method, NO_CALLS],
+        &[THREE_FACES, FACE_A, FACE_B, MAJOR, NO_CALLS],
+        &[THREE_FACES, FACE_A, FACE_B, MINOR, NO_CALLS],
+        &[THREE_FACES, FACE_A, FACE_B, PARENT, NO_CALLS],
+        &[THREE_FACES, FACE_A, FACE_B, METHOD, NO_CALLS],
         &[TWO_FACES, FACE_A, FACE_B, NO_CALLS],
         &[b"SOMC\x01\0\0", NO_CALLS],
-        &[b"SOMC\x01\0\x04", FACE_A, FACE_B, FACE_C, further, NO_CALLS],
+        &[b"SOMC\x01\0\x04", FACE_A, FACE_B, FACE_C, FURTHER, NO_CALLS],
     ];
     let library = joined(alloc, &CHAIN)?;
     for (place, pieces) in all.into_iter().enumerate() {
