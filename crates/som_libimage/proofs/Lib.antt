@@ -2,6 +2,7 @@ pub mod PartFields
 pub mod EachFields
 pub mod LibraryFields
 pub mod Naming
+pub mod Numbering
 pub mod Places
 pub mod Spelled
 pub mod Numbers
@@ -11,3 +12,6 @@ pub mod NamedReleases
 pub mod Decoded
 pub mod NamedInterfaces
 pub mod Conforming
+pub mod NumberedFaces
+pub mod NumberedParts
+pub mod NumberedReleases

@@ -62,7 +62,7 @@ slot_is : (c : Class) (name : List ℕ) → slot_in (Some c) name ≡ place_from
 slot_is c name = place_of_map entry_name (λ x. bytes_eq x name) 0 c.decl.face.entries
 
 module _ (d : Directory) (cs : List Class) (tells : Tells d cs) where
-  known : (k : ClassKey) (n : ℕ) → place_from 0 (has_key k) cs ≡ Some n → Known d cs k n
+  pub known : (k : ClassKey) (n : ℕ) → place_from 0 (has_key k) cs ≡ Some n → Known d cs k n
   known k n e =
       let f = place_found (has_key k) cs 0 n e in
       let at : f.at ≡ n = omega (arith, f.is_at) in

@@ -2,3 +2,5 @@ pub mod Reading
 pub mod Spelling
 pub mod Naming
 pub mod Libraries
+pub mod Limits
+pub mod Numbering

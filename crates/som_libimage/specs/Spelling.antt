@@ -5,7 +5,7 @@ use Rattle.std.specs.Int.{w8, w16, w32}
 use Rattle.som_model.specs.declared.limits.TheConstants.{MAX_LIBRARY_CLASSES, MAX_VARIABLES, MAX_OVERRIDES}
 use Rattle.som_wire.specs.declared.face.WireFace.{WireFace}
 use Rattle.som_wire.specs.declared.method.Ranges.{Ranges}
-use Rattle.som_wire.specs.Spelling.{number, text, FitsText, counted, FitsCounted, kind, FitsKind, face, FitsFace, method, FitsMethod}
+use Rattle.som_wire.specs.Spelling.{number, text, FitsText, counted, FitsCounted, most_classes, kind, FitsKind, face, FitsFace, method, FitsMethod, FitsSomeRanges}
 use Rattle.som_libimage.specs.declared.wire.WireVariable.{WireVariable}
 use Rattle.som_libimage.specs.declared.wire.WireBody.{WireBody}
 use Rattle.som_libimage.specs.declared.wire.WireBody.TheVariants as bodies
@@ -49,6 +49,11 @@ pub record FitsOverride (ranges : Ranges) (o : WireOverride) : Type 0 where
   pub method : FitsMethod ranges o.method
   pub block : FitsBlock o.block
 
+-- an override that fits some ranges
+pub record FitsSomeOverride (o : WireOverride) : Type 0 where
+  pub method : FitsSomeRanges o.method
+  pub block : FitsBlock o.block
+
 abbrev pub part : WirePart → List ℕ
 part p = counted w8 variable p.variables ++ flat_map body p.bodies ++ counted w16 overridden p.overrides
 
@@ -57,6 +62,12 @@ pub record FitsPart (ranges : Ranges) (f : WireFace) (p : WirePart) : Type 0 whe
   pub variables : FitsCounted 0 MAX_VARIABLES (FitsVariable ranges.classes) p.variables
   pub bodies : (length p.bodies ≡ introduced_count f) × All FitsBody p.bodies
   pub overrides : FitsCounted 0 MAX_OVERRIDES (FitsOverride ranges) p.overrides
+
+-- a part that fits some ranges, and some face
+pub record FitsSomePart (p : WirePart) : Type 0 where
+  pub variables : FitsCounted 0 MAX_VARIABLES (FitsVariable most_classes) p.variables
+  pub bodies : All FitsBody p.bodies
+  pub overrides : FitsCounted 0 MAX_OVERRIDES FitsSomeOverride p.overrides
 
 -- each fits the other of its place, and there are as many
 abbrev pub FitEach : {A B : Type 0} → (A → B → Type 0) → List A → List B → Type 0

@@ -8,11 +8,14 @@ ghost use Rattle.som_libimage.specs.Naming.{
   ranges_in,
   with_classes,
 };
+ghost use Rattle.som_libimage.specs.Numbering.{release_directory};
 ghost use Rattle.som_model.specs.Class.{entry_name};
 ghost use Rattle.som_wire.specs.Spelling.{FitsMethod};
 ghost use Rattle.std.specs.Prelude.{◌≡◌, ◌<◌, length, map, IfOk, OnOk};
 
-use som_model::{ClassKey, Entry, List, MethodRef, Module, NoMemory, Text, kernel_faces};
+use som_model::{
+    ClassKey, Entry, List, MethodRef, Module, NoMemory, Release, Text, kernel_faces,
+};
 use som_wire::{WireEntry, WireFace, WireMethod};
 use std::alloc::Global;
 
@@ -66,6 +69,23 @@ impl Directory {
     {
         let mut directory = Directory::of_kernel(alloc)?;
         directory.add(alloc, Module::Library, faces)?;
+        Ok(directory)
+    }
+
+    /// The kernel's classes and those of a release.
+    pub(crate) fn of_release(alloc: Global, release: &Release) -> Result<Directory, NoMemory>
+        ensures { IfOk result (λ directory. directory ≡ release_directory release.now) }
+    {
+        let mut directory = Directory::of_kernel(alloc)?;
+        for class in release.classes.as_slice() {
+            directory.keys.push(ClassKey::Named {
+                module: Module::Library,
+                name: class.face.name.copy(alloc)?,
+            })?;
+            directory
+                .slots
+                .push(entry_names(alloc, &class.face.entries)?)?;
+        }
         Ok(directory)
     }
 

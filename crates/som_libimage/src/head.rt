@@ -1,8 +1,9 @@
 ghost use Rattle.som_libimage.specs.Reading.{head_at, magic_at};
-ghost use Rattle.std.specs.Prelude.{◌≡◌, ◌≤◌, ℕ, length, IfOk};
+ghost use Rattle.std.specs.Prelude.{◌≡◌, ◌≤◌, ◌++◌, ◌∷◌, [], ℕ, length, codes, IfOk};
 
-use som_model::List;
+use som_model::{List, NoMemory};
 use som_wire::{ImageFault, read_u8};
+use std::alloc::Global;
 
 const MAGIC: &[u8] = b"SOML";
 
@@ -35,4 +36,13 @@ pub(crate) fn read_head(bytes: &List<u8>) -> Result<usize, ImageFault>
     } else {
         Err(ImageFault::Version { offset: place })
     }
+}
+
+/// The beginning of an image: the magic bytes and the version.
+pub(crate) fn new_image(alloc: Global) -> Result<List<u8>, NoMemory>
+    ensures { IfOk result (λ image. image ≡ codes "SOML" ++ 1 ∷ []) }
+{
+    let mut image = List::from_slice(alloc, MAGIC)?;
+    image.push(VERSION)?;
+    Ok(image)
 }

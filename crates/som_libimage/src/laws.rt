@@ -1,13 +1,21 @@
-ghost use Rattle.som_libimage.specs.Libraries.{NamedFrom, NamesDiffer, interface_image};
+ghost use Rattle.som_libimage.specs.Libraries.{
+  NamedFrom,
+  NamesDiffer,
+  PrintTexts,
+  interface_image,
+  library_at,
+};
+ghost use Rattle.som_libimage.specs.Limits.{IsWithinLimits};
 ghost use Rattle.som_libimage.specs.Naming.{interface_named};
 ghost use Rattle.som_libimage.specs.Spelling.{FitsFaces};
 ghost use Rattle.som_model.specs.Class.{interface_of};
 ghost use Rattle.som_model.specs.Conforming.{ReleaseOk};
+ghost use Rattle.som_model.specs.Images.{library_image};
 ghost use Rattle.som_model.specs.declared.program.Interface.{Interface};
 ghost use Rattle.som_model.specs.declared.program.Release.{Release};
 ghost use Rattle.som_wire.specs.Spelling as wire;
 ghost use Rattle.std.specs.Int.{w16};
-ghost use Rattle.std.specs.Prelude.{◌≡◌, ℕ, List, Some};
+ghost use Rattle.std.specs.Prelude.{◌≡◌, ℕ, List, Ok, Some};
 
 /// In a release that conforms names differ. So the image of a release that conforms and prints texts is decoded to it and
 /// to nothing else, and what decodes to a release that conforms is its image.
@@ -21,4 +29,10 @@ pub fn named_faces_are_spelled()
     ensures forth { (faces : _) → FitsFaces faces → NamesDiffer (interface_named faces).classes →
         interface_image (interface_named faces) ≡ Some (wire.counted w16 wire.face faces) }
     ensures back { (i : Interface) (bytes : List ℕ) → interface_image i ≡ Some bytes → NamedFrom i bytes }
+{}
+
+/// A release that conforms, prints texts and is within the limits has an image, and what is read from it is that release.
+pub fn image_exists()
+    ensures { (r : Release) → ReleaseOk r → PrintTexts r → IsWithinLimits r →
+        (bytes : List ℕ) × (library_image r ≡ Some bytes) × (library_at bytes ≡ Ok r) }
 {}

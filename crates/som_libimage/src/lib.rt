@@ -1,8 +1,11 @@
-//! Library images: the bytes of a release, read from left to right.
+//! Library images: the bytes of a release, read from left to right and written.
 //!
 //! `decode` works in two steps. The bytes are read as a `WireRelease`, in which classes and methods go by their numbers and
 //! slots; then keys and names take their places. `specs/Reading.antt` says which fault is the first, `specs/Naming.antt` what
 //! numbers stand for.
+//!
+//! `encode` goes back in two steps: keys and names become numbers and slots (`specs/Numbering.antt`), and each field is
+//! written in its one spelling (`specs/Spelling.antt`). `specs/Limits.antt` says what an image has room for.
 #![tactic(auto)]
 
 mod block;
@@ -10,8 +13,12 @@ mod directory;
 mod head;
 mod laws;
 mod library;
+mod lookup;
 mod named_face;
 mod named_part;
+mod numbered;
+mod numbered_face;
+mod numbered_part;
 mod part;
 mod release;
 #[cfg(test)]
@@ -19,8 +26,8 @@ mod tests;
 mod wire;
 
 pub use directory::Directory;
-pub use laws::{named_faces_are_spelled, names_of_a_conforming_release_differ};
-pub use library::decode;
+pub use laws::{image_exists, named_faces_are_spelled, names_of_a_conforming_release_differ};
+pub use library::{decode, encode};
 pub use named_face::{name_face, name_interface};
 pub use release::read_faces;
 pub use wire::{WireBody, WireOverride, WirePart, WireRelease, WireVariable};

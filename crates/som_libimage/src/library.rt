@@ -1,4 +1,5 @@
 ghost use Rattle.som_libimage.specs.Libraries.{NamesDiffer, PrintTexts, library_at};
+ghost use Rattle.som_libimage.specs.Limits.{IsWithinLimits};
 ghost use Rattle.som_libimage.specs.Naming.{
   classes_named,
   library_directory,
@@ -7,6 +8,7 @@ ghost use Rattle.som_libimage.specs.Naming.{
 };
 ghost use Rattle.som_libimage.specs.Spelling.{FitEach, FitsFaces, FitsPart, FitsRelease};
 ghost use Rattle.som_model.specs.Class.{interface_of};
+ghost use Rattle.som_model.specs.Conforming.{ReleaseOk};
 ghost use Rattle.som_model.specs.Images.{library_image};
 ghost use Rattle.som_wire.specs.Fields.{Gives};
 ghost use Rattle.som_wire.specs.Spelling.{FitsFace};
@@ -14,10 +16,11 @@ ghost use Rattle.std.specs.Prelude.{◌≡◌, ℕ, All, Some, Ok, length, IfOk}
 
 use crate::directory::Directory;
 use crate::named_part::name_class;
-use crate::release::read_release;
+use crate::numbered::number_release;
+use crate::release::{read_release, write_release};
 use crate::wire::{WirePart, WireRelease};
 use som_model::{ClassDecl, List, NoMemory, Release};
-use som_wire::{ImageFault, WireFace};
+use som_wire::{EncodeFault, ImageFault, WireFace};
 use std::alloc::Global;
 
 // The classes that faces and the parts of their places stand for.
@@ -63,9 +66,22 @@ fn read_and_name(alloc: Global, bytes: &List<u8>) -> Result<Release, ImageFault>
 pub fn decode(alloc: Global, bytes: &List<u8>) -> Result<Release, ImageFault>
     ensures found { IfOk result (λ r. NamesDiffer (interface_of r).classes → library_image r ≡ Some bytes.now) }
     ensures prints { IfOk result PrintTexts }
+    ensures within { IfOk result IsWithinLimits }
     ensures only { (r : _) → library_image r ≡ Some bytes.now → PrintTexts r → Gives result (Ok r) }
     ensures exact { Gives result (library_at bytes.now) }
 {
     let _all = bytes.as_bytes();
     read_and_name(alloc, bytes)
+}
+
+/// Writes the library image of a release. `decode` reads it back: it answers the release, unless memory runs out.
+pub fn encode(alloc: Global, release: &Release) -> Result<List<u8>, EncodeFault>
+    requires conforms { ReleaseOk release.now }
+    requires prints { PrintTexts release.now }
+    requires within { IsWithinLimits release.now }
+    ensures image { IfOk result (λ bytes. library_image release.now ≡ Some bytes) }
+    ensures read_back { IfOk result (λ bytes. library_at bytes ≡ Ok release.now) }
+{
+    let wire = number_release(alloc, release)?;
+    Ok(write_release(alloc, &wire)?)
 }

@@ -6,18 +6,22 @@ ghost use Rattle.som_libimage.specs.Reading.{
   part_at,
   variable_at,
 };
+ghost use Rattle.som_libimage.specs.Spelling.{FitsBody, FitsSomeOverride, FitsSomePart, FitsVariable};
+ghost use Rattle.som_libimage.specs.Spelling as spelling;
 ghost use Rattle.som_wire.specs.Fields.{Gives, counted_at, many_at};
 ghost use Rattle.som_wire.specs.Reading.{number_at};
+ghost use Rattle.som_wire.specs.Spelling.{most_classes};
 ghost use Rattle.som_model.specs.declared.limits.TheConstants.{MAX_VARIABLES, MAX_OVERRIDES};
 ghost use Rattle.std.specs.Int.{w8, w16};
-ghost use Rattle.std.specs.Prelude.{◌≡◌, ◌≤◌, ℕ, length, IfOk};
+ghost use Rattle.std.specs.List.{flat_map};
+ghost use Rattle.std.specs.Prelude.{◌≡◌, ◌≤◌, ◌++◌, ℕ, length, All, IfOk, OnOk, OnErr};
 
-use crate::block::read_block;
+use crate::block::{append_block, read_block};
 use crate::wire::{WireBody, WireOverride, WirePart, WireVariable};
-use som_model::{List, MAX_OVERRIDES, MAX_VARIABLES};
+use som_model::{List, MAX_OVERRIDES, MAX_VARIABLES, NoMemory};
 use som_wire::{
     ImageFault, Ranges, Read, WireEntry, WireFace, read_many, read_method, read_text, read_type,
-    read_u8, read_u16,
+    read_u8, read_u16, write_method, write_text, write_type, write_u8, write_u16,
 };
 use std::alloc::Global;
 
@@ -221,4 +225,117 @@ pub(crate) fn read_part(
         },
         next: overrides.next,
     })
+}
+
+fn append_variable(
+    alloc: Global,
+    out: &mut List<u8>,
+    variable: &WireVariable,
+) -> Result<(), NoMemory>
+    requires { FitsVariable most_classes variable.now }
+    ensures { OnOk result (out.new ≡ out.old ++ spelling.variable variable.now) }
+{
+    write_text(alloc, out, &variable.name)?;
+    write_type(out, &variable.kind)
+}
+
+fn append_variables(
+    alloc: Global,
+    out: &mut List<u8>,
+    variables: &List<WireVariable>,
+) -> Result<(), NoMemory>
+    requires { All (FitsVariable most_classes) variables.now }
+    ensures { OnOk result (out.new ≡ out.old ++ flat_map spelling.variable variables.now) }
+{
+    for variable in variables.as_slice() {
+        append_variable(alloc, out, variable)?;
+    }
+    Ok(())
+}
+
+fn append_body(alloc: Global, out: &mut List<u8>, body: &WireBody) -> Result<(), NoMemory>
+    requires { FitsBody body.now }
+    ensures { OnOk result (out.new ≡ out.old ++ spelling.body body.now) }
+{
+    match body {
+        WireBody::User(texts) => {
+            write_u8(out, 0)?;
+            append_block(alloc, out, texts)
+        }
+        WireBody::Get(variable) => {
+            write_u8(out, 1)?;
+            write_u8(out, *variable)
+        }
+        WireBody::Set(variable) => {
+            write_u8(out, 2)?;
+            write_u8(out, *variable)
+        }
+    }
+}
+
+fn append_bodies(
+    alloc: Global,
+    out: &mut List<u8>,
+    bodies: &List<WireBody>,
+) -> Result<(), NoMemory>
+    requires { All FitsBody bodies.now }
+    ensures { OnOk result (out.new ≡ out.old ++ flat_map spelling.body bodies.now) }
+{
+    for body in bodies.as_slice() {
+        append_body(alloc, out, body)?;
+    }
+    Ok(())
+}
+
+fn append_override(
+    alloc: Global,
+    out: &mut List<u8>,
+    replaced: &WireOverride,
+) -> Result<(), NoMemory>
+    requires { FitsSomeOverride replaced.now }
+    ensures { OnOk result (out.new ≡ out.old ++ spelling.overridden replaced.now) }
+{
+    write_method(out, &replaced.method)?;
+    append_block(alloc, out, &replaced.block)
+}
+
+fn append_overrides(
+    alloc: Global,
+    out: &mut List<u8>,
+    overrides: &List<WireOverride>,
+) -> Result<(), NoMemory>
+    requires { All FitsSomeOverride overrides.now }
+    ensures { OnOk result (out.new ≡ out.old ++ flat_map spelling.overridden overrides.now) }
+{
+    for replaced in overrides.as_slice() {
+        append_override(alloc, out, replaced)?;
+    }
+    Ok(())
+}
+
+// After an error a part of it may have been appended.
+fn append_part(alloc: Global, out: &mut List<u8>, part: &WirePart) -> Result<(), NoMemory>
+    requires { FitsSomePart part.now }
+    ensures { OnOk result (out.new ≡ out.old ++ spelling.part part.now) }
+{
+    write_u8(out, part.variables.len() as u8)?;
+    append_variables(alloc, out, &part.variables)?;
+    append_bodies(alloc, out, &part.bodies)?;
+    write_u16(out, part.overrides.len() as u16)?;
+    append_overrides(alloc, out, &part.overrides)
+}
+
+/// Appends the part of a class. It is spelled in a list of its own first, so that want of memory leaves `out` as it was.
+pub(crate) fn write_part(
+    alloc: Global,
+    out: &mut List<u8>,
+    part: &WirePart,
+) -> Result<(), NoMemory>
+    requires { FitsSomePart part.now }
+    ensures ok { OnOk result (out.new ≡ out.old ++ spelling.part part.now) }
+    ensures err { OnErr result (out.new ≡ out.old) }
+{
+    let mut spelled = List::new(alloc);
+    append_part(alloc, &mut spelled, part)?;
+    out.extend_from_slice(spelled.as_slice())
 }

@@ -1,16 +1,20 @@
 ghost use Rattle.som_libimage.specs.Reading.{classes_at, each_at, faces_at, part_at, ranges_of, wire_at};
-ghost use Rattle.som_libimage.specs.Spelling.{FitsFaces, FitsRelease};
+ghost use Rattle.som_libimage.specs.Spelling.{FitsFaces, FitsRelease, FitsSomePart};
+ghost use Rattle.som_libimage.specs.Spelling as spelling;
 ghost use Rattle.som_wire.specs.Fields.{Gives, Stands, done};
 ghost use Rattle.som_wire.specs.Reading.{face_at};
-ghost use Rattle.som_wire.specs.Spelling.{counted, face};
+ghost use Rattle.som_wire.specs.Spelling.{FitsFace, counted, face, most_classes};
 ghost use Rattle.std.specs.Int.{w16};
-ghost use Rattle.std.specs.Prelude.{◌≡◌, ◌≤◌, ◌+◌, ℕ, length, IfOk};
+ghost use Rattle.std.specs.List.{flat_map};
+ghost use Rattle.std.specs.Prelude.{◌≡◌, ◌≤◌, ◌+◌, ◌++◌, ℕ, length, All, IfOk, OnOk};
 
-use crate::head::read_head;
-use crate::part::read_part;
+use crate::head::{new_image, read_head};
+use crate::part::{read_part, write_part};
 use crate::wire::{WirePart, WireRelease};
 use som_model::{List, MAX_LIBRARY_CLASSES, NoMemory};
-use som_wire::{ImageFault, Ranges, Read, WireFace, read_face, read_many, read_u16};
+use som_wire::{
+    ImageFault, Ranges, Read, WireFace, read_face, read_many, read_u16, write_face, write_u16,
+};
 use std::alloc::Global;
 
 // How many entries the kernel's classes have.
@@ -141,4 +145,46 @@ fn read_to_the_end(alloc: Global, bytes: &List<u8>) -> Result<WireRelease, Image
         });
     }
     Ok(release.value)
+}
+
+// After an error a part of the faces may have been appended.
+fn append_faces(
+    alloc: Global,
+    out: &mut List<u8>,
+    faces: &List<WireFace>,
+) -> Result<(), NoMemory>
+    requires { All (FitsFace most_classes) faces.now }
+    ensures { OnOk result (out.new ≡ out.old ++ flat_map face faces.now) }
+{
+    for face in faces.as_slice() {
+        write_face(alloc, out, face)?;
+    }
+    Ok(())
+}
+
+// After an error some of the parts may have been appended.
+fn append_parts(
+    alloc: Global,
+    out: &mut List<u8>,
+    parts: &List<WirePart>,
+) -> Result<(), NoMemory>
+    requires { All FitsSomePart parts.now }
+    ensures { OnOk result (out.new ≡ out.old ++ flat_map spelling.part parts.now) }
+{
+    for part in parts.as_slice() {
+        write_part(alloc, out, part)?;
+    }
+    Ok(())
+}
+
+/// The library image that has a release.
+pub(crate) fn write_release(alloc: Global, wire: &WireRelease) -> Result<List<u8>, NoMemory>
+    requires { FitsRelease wire.now }
+    ensures { IfOk result (λ image. image ≡ spelling.library wire.now) }
+{
+    let mut image = new_image(alloc)?;
+    write_u16(&mut image, wire.faces.len() as u16)?;
+    append_faces(alloc, &mut image, &wire.faces)?;
+    append_parts(alloc, &mut image, &wire.parts)?;
+    Ok(image)
 }

@@ -1,0 +1,140 @@
+-- Numbers and slots are named back to what they were made of, and they fit: classes, methods and faces.
+use Rattle.std.proofs.Common.{◌≡◌, ℕ, ◌<◌, ◌≤◌, List, [], ◌∷◌, length, map, get_or, Option, Some, None, refl, sym, ap, subst, ◌∙◌, arith}
+use Rattle.std.specs.Prelude.{All, IfSome}
+use Rattle.std.specs.List.{AllByRecursion}
+use Rattle.std.specs.Str.{bytes_eq}
+use Rattle.std.proofs.Math.ListN.{get_or-map as get_or_mapped}
+use Rattle.std.proofs.lemmas.List.{length-map}
+use Rattle.std.proofs.lemmas.List.Elements.{All-from_recursion, recursion_from_All}
+use Rattle.som_model.specs.declared.limits.TheConstants.{MAX_PARAMETERS, MAX_PARENTS, MAX_ENTRIES}
+use Rattle.som_model.specs.declared.key.ClassKey.{ClassKey}
+use Rattle.som_model.specs.declared.key.MethodRef.{MethodRef}
+use Rattle.som_model.specs.declared.key.ValueType.{ValueType}
+use Rattle.som_model.specs.declared.key.ValueType.TheVariants as values
+use Rattle.som_model.specs.declared.class.Sig.{Sig}
+use Rattle.som_model.specs.declared.class.Entry.{Entry}
+use Rattle.som_model.specs.declared.class.Entry.TheVariants as named_entries
+use Rattle.som_model.specs.declared.class.ClassFace.{ClassFace}
+use Rattle.som_model.specs.Lists.{Mem}
+use Rattle.som_model.specs.Keys.{same_key}
+use Rattle.som_model.specs.Kernel.{som_object}
+use Rattle.som_model.proofs.KeyLaws.{exact_bytes, exact_keys}
+use Rattle.som_wire.specs.declared.kind.WireType.{WireType}
+use Rattle.som_wire.specs.declared.method.WireMethod.{WireMethod}
+use Rattle.som_wire.specs.Spelling.{FitsKind, FitsSig, FitsEntry, FitsFace, FitsMethod, FitsCounted}
+use Rattle.som_libimage.specs.declared.directory.Directory.{Directory}
+use Rattle.som_libimage.specs.Naming.{key_at, kind_named, sig_named, entry_named, metaclass_named, face_named, method_named, ranges_in}
+use Rattle.som_libimage.specs.Limits.{EntryWithin, FaceWithin}
+use Rattle.som_libimage.specs.Numbering.{number_of, slot_of, method_numbered, MethodKnown, kind_numbered, IsKnown, IsValue, sig_numbered, SigKnown, entry_numbered, EntryKnown, metaclass_numbered, face_numbered, FaceKnown}
+use Rattle.som_libimage.proofs.Numbering.{placed}
+
+-- ---- one value, and many
+
+-- what a value is numbered to fits, and is named from it
+pub record TurnsBack {A W : Type 0} (Fits : W → Type 0) (named : W → A) (numbered : A → W) (v : A) : Type 0 where
+  pub fits : Fits (numbered v)
+  pub names : named (numbered v) ≡ v
+
+pub all_both : {A : Type 0} (P Q R : A → Type 0) → ((x : A) → P x → Q x → R x) → (xs : List A) → All P xs → All Q xs → AllByRecursion R xs
+all_both P Q R f xs p q = by xs (recursion_from_All P xs p) (recursion_from_All Q xs q)
+  where
+    by : (ys : List _) → AllByRecursion P ys → AllByRecursion Q ys → AllByRecursion R ys
+    by [] p q = tt
+    by (y ∷ ys) p q = (f y p.0 q.0, by ys p.1 q.1)
+
+pub each_of : {A : Type 0} (P R : A → Type 0) → ((x : A) → P x → R x) → (xs : List A) → All P xs → AllByRecursion R xs
+each_of P R f xs p = all_both P P R (λ x h k. f x h) xs p p
+
+module _ {A W : Type 0} (Fits : W → Type 0) (named : W → A) (numbered : A → W) where
+  each_fits : (vs : List A) → AllByRecursion (TurnsBack Fits named numbered) vs → AllByRecursion Fits (map numbered vs)
+  each_fits [] h = tt
+  each_fits (v ∷ vs) h = (h.0.fits, each_fits vs h.1)
+
+  each_named : (vs : List A) → AllByRecursion (TurnsBack Fits named numbered) vs → map named (map numbered vs) ≡ vs
+  each_named [] h = refl
+  each_named (v ∷ vs) h = ap (λ (x : A). x ∷ map named (map numbered vs)) h.0.names ∙ ap (λ (xs : List A). v ∷ xs) (each_named vs h.1)
+
+  -- so many values
+  pub counted_turn : (least most : ℕ) (vs : List A) → least ≤ length vs → length vs ≤ most → AllByRecursion (TurnsBack Fits named numbered) vs → TurnsBack (FitsCounted least most Fits) (map named) (map numbered) vs
+  counted_turn least most vs few many h = record {
+    fits = (omega (arith, few, length-map vs numbered), omega (arith, many, length-map vs numbered), All-from_recursion Fits (map numbered vs) (each_fits vs h));
+    names = each_named vs h;
+  }
+
+-- ---- classes and methods
+
+abbrev a_method : ClassKey → List ℕ → MethodRef
+a_method k name = record { class = k; name = name }
+
+pub key_turns : (ks : List ClassKey) (k : ClassKey) → Mem k ks → TurnsBack (λ n. n < length ks) (key_at ks) (number_of ks) k
+key_turns ks k known = let s = placed same_key exact_keys k ks known in record { fits = s.within; names = s.there som_object }
+
+pub method_turns : (d : Directory) (r : MethodRef) → MethodKnown d r → TurnsBack (FitsMethod (ranges_in d)) (method_named d) (method_numbered d) r
+method_turns d r known =
+    let n : ℕ = number_of d.keys r.class in
+    let names : List (List ℕ) = get_or d.slots n [] in
+    let k = key_turns d.keys r.class known.class in
+    let s = placed bytes_eq exact_bytes r.name names known.name in
+    record {
+      fits = record { class = k.fits; slot = omega (arith, s.within, get_or_mapped (λ (ns : List (List ℕ)). length ns) d.slots n []) };
+      names = ap (λ (x : ClassKey). a_method x (get_or names (slot_of names r.name) [])) k.names ∙ ap (λ (x : List ℕ). a_method r.class x) (s.there []);
+    }
+
+-- ---- faces
+
+abbrev a_sig : ValueType → List ValueType → Sig
+a_sig result params = record { result = result; params = params }
+
+abbrev a_face : ClassFace → List ClassKey → Option ClassKey → List Entry → ClassFace
+a_face f ps m es = record { name = f.name; major = f.major; minor = f.minor; parents = ps; metaclass = m; entries = es }
+
+module _ (ks : List ClassKey) where
+  abbrev classes : ℕ
+  classes = length ks
+
+  kind_turns : (t : ValueType) → IsKnown ks t → TurnsBack (FitsKind classes true) (kind_named ks) (kind_numbered ks) t
+  kind_turns values.Void known = record { fits = refl; names = refl }
+  kind_turns values.Long known = record { fits = tt; names = refl }
+  kind_turns values.Boolean known = record { fits = tt; names = refl }
+  kind_turns values.Str known = record { fits = tt; names = refl }
+  kind_turns (values.Class k) known = let b = key_turns ks k known in record { fits = b.fits; names = ap values.Class b.names }
+
+  pub value_turns : (t : ValueType) → IsValue ks t → TurnsBack (FitsKind classes false) (kind_named ks) (kind_numbered ks) t
+  value_turns values.Void known = absurd known
+  value_turns values.Long known = record { fits = tt; names = refl }
+  value_turns values.Boolean known = record { fits = tt; names = refl }
+  value_turns values.Str known = record { fits = tt; names = refl }
+  value_turns (values.Class k) known = let b = key_turns ks k known in record { fits = b.fits; names = ap values.Class b.names }
+
+  sig_turns : (s : Sig) → SigKnown ks s → length s.params ≤ MAX_PARAMETERS → TurnsBack (FitsSig classes) (sig_named ks) (sig_numbered ks) s
+  sig_turns s known few =
+      let r = kind_turns s.result known.result in
+      let ps = counted_turn (FitsKind classes false) (kind_named ks) (kind_numbered ks) 0 MAX_PARAMETERS s.params (omega arith) few (each_of (IsValue ks) (TurnsBack (FitsKind classes false) (kind_named ks) (kind_numbered ks)) value_turns s.params known.params) in
+      record {
+        fits = record { result = r.fits; params = ps.fits };
+        names = ap (λ (t : ValueType). a_sig t (map (kind_named ks) (map (kind_numbered ks) s.params))) r.names ∙ ap (λ (ts : List ValueType). a_sig s.result ts) ps.names;
+      }
+
+  entry_turns : (e : Entry) → EntryKnown ks e → EntryWithin e → TurnsBack (FitsEntry classes) (entry_named ks) (entry_numbered ks) e
+  entry_turns (named_entries.Introduced name s w) known within =
+      let b = sig_turns s known within.1 in
+      record { fits = (within.0, b.fits); names = ap (λ (x : Sig). named_entries.Introduced name x w) b.names }
+  entry_turns (named_entries.Moved name to) known within =
+      let b = key_turns ks to known in
+      record { fits = (within, b.fits); names = ap (λ (k : ClassKey). named_entries.Moved name k) b.names }
+
+  metaclass_turns : (m : Option ClassKey) → IfSome m (λ k. Mem k ks) → TurnsBack (λ (w : Option ℕ). IfSome w (λ n. n < classes)) (metaclass_named ks) (metaclass_numbered ks) m
+  metaclass_turns None known = record { fits = tt; names = refl }
+  metaclass_turns (Some k) known = let b = key_turns ks k known in record { fits = b.fits; names = ap (λ (x : ClassKey). Some x) b.names }
+
+  pub face_turns : (f : ClassFace) → FaceKnown ks f → FaceWithin f → TurnsBack (FitsFace classes) (face_named ks) (face_numbered ks) f
+  face_turns f known within =
+      let ps = counted_turn (λ n. n < classes) (key_at ks) (number_of ks) 1 MAX_PARENTS f.parents within.some_parent within.parents (each_of (λ k. Mem k ks) (TurnsBack (λ n. n < classes) (key_at ks) (number_of ks)) (key_turns ks) f.parents known.parents) in
+      let m = metaclass_turns f.metaclass known.metaclass in
+      let es = counted_turn (FitsEntry classes) (entry_named ks) (entry_numbered ks) 0 MAX_ENTRIES f.entries (omega arith) within.entries (all_both (EntryKnown ks) EntryWithin (TurnsBack (FitsEntry classes) (entry_named ks) (entry_numbered ks)) entry_turns f.entries known.entries within.each_entry) in
+      record {
+        fits = record { name = within.name; major = within.major; minor = within.minor; parents = ps.fits; metaclass = m.fits; entries = es.fits };
+        names = ap (λ (x : List ClassKey). a_face f x (metaclass_named ks (metaclass_numbered ks f.metaclass)) (map (entry_named ks) (map (entry_numbered ks) f.entries))) ps.names
+            ∙ ap (λ (x : Option ClassKey). a_face f f.parents x (map (entry_named ks) (map (entry_numbered ks) f.entries))) m.names
+            ∙ ap (λ (x : List Entry). a_face f f.parents f.metaclass x) es.names;
+      }

@@ -1,0 +1,57 @@
+-- How much of each thing an image has room for. The rules say nothing of it, but for a release that was read it holds.
+use Rattle.std.specs.Prelude.{◌≡◌, ℕ, ◌<◌, ◌≤◌, ◌^◌, List, length, All}
+use Rattle.som_model.specs.declared.limits.TheConstants.{MAX_TEXT, MAX_VERSION, MAX_PARENTS, MAX_ENTRIES, MAX_PARAMETERS, MAX_VARIABLES, MAX_OVERRIDES, MAX_LIBRARY_CLASSES}
+use Rattle.som_model.specs.declared.syntax.Stmt.{Stmt}
+use Rattle.som_model.specs.declared.syntax.Block.{Block}
+use Rattle.som_model.specs.declared.class.Entry.{Entry}
+use Rattle.som_model.specs.declared.class.Entry.TheVariants as entries
+use Rattle.som_model.specs.declared.class.Body.{Body}
+use Rattle.som_model.specs.declared.class.Body.TheVariants as bodies
+use Rattle.som_model.specs.declared.class.ClassFace.{ClassFace}
+use Rattle.som_model.specs.declared.class.ClassDecl.{ClassDecl}
+use Rattle.som_model.specs.declared.program.Release.{Release}
+use Rattle.som_libimage.specs.Naming.{print_of}
+
+abbrev pub TextWithin : List ℕ → Type 0
+TextWithin t = length t ≤ MAX_TEXT
+
+-- a name that isn't too long, and not too many parameters
+abbrev pub EntryWithin : Entry → Type 0
+EntryWithin (entries.Introduced name sig way) = TextWithin name × (length sig.params ≤ MAX_PARAMETERS)
+EntryWithin (entries.Moved name to) = TextWithin name
+
+-- a class has one parent at least: nothing else says so
+pub record FaceWithin (f : ClassFace) : Type 0 where
+  pub name : TextWithin f.name
+  pub major : f.major ≤ MAX_VERSION
+  pub minor : f.minor ≤ MAX_VERSION
+  pub some_parent : 1 ≤ length f.parents
+  pub parents : length f.parents ≤ MAX_PARENTS
+  pub entries : length f.entries ≤ MAX_ENTRIES
+  pub each_entry : All EntryWithin f.entries
+
+-- the text that a statement prints, if it prints one, isn't too long
+abbrev pub StatementWithin : Stmt → Type 0
+StatementWithin s = (t : List ℕ) → s ≡ print_of t → TextWithin t
+
+pub record BlockWithin (b : Block) : Type 0 where
+  pub statements : length b.statements < 2 ^ 32
+  pub each_statement : All StatementWithin b.statements
+
+abbrev pub BodyWithin : Body → Type 0
+BodyWithin (bodies.User b) = BlockWithin b
+BodyWithin (bodies.Get n) = Unit {0}
+BodyWithin (bodies.Set n) = Unit {0}
+
+pub record ClassWithin (c : ClassDecl) : Type 0 where
+  pub face : FaceWithin c.face
+  pub variables : length c.variables ≤ MAX_VARIABLES
+  pub each_variable : All (λ v. TextWithin v.name) c.variables
+  pub each_body : All BodyWithin c.bodies
+  pub overrides : length c.overrides ≤ MAX_OVERRIDES
+  pub each_override : All (λ o. BlockWithin o.block) c.overrides
+
+-- a release that an image has room for
+pub record IsWithinLimits (r : Release) : Type 0 where
+  pub classes : length r.classes ≤ MAX_LIBRARY_CLASSES
+  pub each_class : All ClassWithin r.classes
