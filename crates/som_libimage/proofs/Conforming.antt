@@ -26,7 +26,7 @@ pub none_first : {A : Type 0} (xs : List A) → first xs ≡ None → xs ≡ []
 none_first [] h = refl
 none_first (x ∷ xs) h = absurd cc
 
-both_empty : {A : Type 0} (xs ys : List A) → xs ++ ys ≡ [] → (xs ≡ []) × (ys ≡ [])
+pub both_empty : {A : Type 0} (xs ys : List A) → xs ++ ys ≡ [] → (xs ≡ []) × (ys ≡ [])
 both_empty [] ys h = (refl, h)
 both_empty (x ∷ xs) ys h = absurd cc
 
@@ -35,7 +35,7 @@ none_mapped f [] h = refl
 none_mapped f (x ∷ xs) h = absurd cc
 
 -- a demand that isn't broken
-not_broken : (b : Bool) (x : Breach) → (if not b then [] else x ∷ []) ≡ [] → b ≡ false
+pub not_broken : (b : Bool) (x : Breach) → (if not b then [] else x ∷ []) ≡ [] → b ≡ false
 not_broken false x h = refl
 not_broken true x h = absurd cc
 
@@ -49,7 +49,7 @@ some_back : {A : Type 0} (test : A → Bool) (xs ys : List A) → some test (xs 
 some_back test [] ys h = h
 some_back test (x ∷ xs) ys h = some_back test xs ys (rest (test x) (some test (xs ++ ys)) h)
 
-names_joined : (cs : List Class) (c : Class) → map name_of (cs ++ c ∷ []) ≡ map name_of cs ++ name_of c ∷ []
+pub names_joined : (cs : List Class) (c : Class) → map name_of (cs ++ c ∷ []) ≡ map name_of cs ++ name_of c ∷ []
 names_joined [] c = refl
 names_joined (b ∷ cs) c = ap (λ (ns : List (List ℕ)). name_of b ∷ ns) (names_joined cs c)
 

@@ -15,3 +15,5 @@ pub mod Conforming
 pub mod NumberedFaces
 pub mod NumberedParts
 pub mod NumberedReleases
+pub mod Ready
+pub mod Encoded

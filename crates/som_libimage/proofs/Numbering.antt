@@ -1,9 +1,10 @@
 -- Names that are looked up: where each class and each entry stands.
 use Rattle.std.proofs.Common.{◌≡◌, ℕ, zero, suc, ◌+◌, ◌<◌, ◌≤◌, inl, inr, Bool, true, false, not, if◌then◌else◌, true≢false, List, [], ◌∷◌, ◌++◌, length, map, drop, get_or, slice_index_or, Option, Some, None, is_some, refl, sym, ap, subst, ◌∙◌, append_assoc, arith}
-use Rattle.std.specs.Prelude.{unwrap_or}
+use Rattle.std.specs.Prelude.{unwrap_or, All}
 use Rattle.std.specs.List.{IsDistinct}
 use Rattle.std.specs.Str.{bytes_eq}
 use Rattle.std.proofs.lemmas.List.{append-nil}
+use Rattle.std.proofs.lemmas.List.Elements.{All-get_or}
 use Rattle.som_model.specs.declared.key.Module.{Module}
 use Rattle.som_model.specs.declared.key.ClassKey.{ClassKey, out-ClassKey, out-roll-ClassKey}
 use Rattle.som_model.specs.declared.key.ClassKey.TheOpen.{ClassKey-F}
@@ -93,7 +94,7 @@ pub record StandsAt {A : Type 0} (xs : List A) (x : A) (n : ℕ) : Type 0 where
   pub there : (d : A) → get_or xs n d ≡ x
 
 -- a member has a first place
-first_place : {A : Type 0} (same : A → A → Bool) → Exact same → (x : A) (xs : List A) (start : ℕ) → Mem x xs → is_some (place_from start (λ y. same y x) xs) ≡ true
+pub first_place : {A : Type 0} (same : A → A → Bool) → Exact same → (x : A) (xs : List A) (start : ℕ) → Mem x xs → is_some (place_from start (λ y. same y x) xs) ≡ true
 first_place same exact x [] start m = absurd m
 first_place same exact x (y ∷ ys) start (inl e) =
     let here : same y x ≡ true = ap (λ z. same z x) (sym e) ∙ exact.one x in
@@ -233,3 +234,8 @@ not_derived names k ps is known = no_derived ps names (subst (λ z. Mem z (keys_
 
 pub not_proxy : (names : List (List ℕ)) (k of : ClassKey) → k ≡ keys.Proxy of → Mem k (keys_by names) → ⊥
 not_proxy names k of is known = no_proxy of names (subst (λ z. Mem z (keys_by names)) is known)
+
+-- ---- items of a list behind a slice
+
+pub item_all : {A : Type 0} (P : A → Type 0) (xs ys : List A) (i : ℕ) (x : A) → ys ≡ xs → i < length ys → x ≡ get_or ys i x → All P xs → P x
+item_all {A} P xs ys i x same lt is h = subst P (sym is) (All-get_or P ys i x lt (subst (λ (zs : List A). All P zs) (sym same) h))
