@@ -14,7 +14,9 @@ use Rattle.som_libimage.specs.Reading.{wire_at}
 use Rattle.som_libimage.specs.Naming.{release_named}
 use Rattle.som_libimage.specs.Libraries.{NamesDiffer, PrintTexts, library_at}
 use Rattle.som_libimage.proofs.LibraryFields.{wire_takes, wire_again}
+use Rattle.som_libimage.specs.Limits.{IsWithinLimits}
 use Rattle.som_libimage.proofs.NamedReleases.{release_forth, release_back, release_prints}
+use Rattle.som_libimage.proofs.Turned.{release_within}
 
 abbrev read : Release → Result Release ImageFault
 read r = Ok r
@@ -26,20 +28,33 @@ same_release x y e = cc
 abbrev Found : List ℕ → Release → Type 0
 Found bytes r = NamesDiffer (interface_of r).classes → library_image r ≡ Some bytes
 
-found_one : (bytes : List ℕ) → AreBytes bytes → (r : Release) → library_at bytes ≡ Ok r → Found bytes r × PrintTexts r
-found_one bytes all r e =
+-- and what else is known of it
+record Read (bytes : List ℕ) (r : Release) : Type 0 where
+  found : Found bytes r
+  prints : PrintTexts r
+  within : IsWithinLimits r
+
+read_one : (bytes : List ℕ) → AreBytes bytes → (r : Release) → library_at bytes ≡ Ok r → Read bytes r
+read_one bytes all r e =
     let w = bind_ok (wire_at bytes) (λ (w : WireRelease). read (release_named w)) r e in
     let t = wire_takes bytes all w.0 w.1 in
-    subst (λ (x : Release). Found bytes x × PrintTexts x) (same_release (release_named w.0) r w.2)
-    ((λ differ. release_forth w.0 t.1 differ ∙ ap (λ (b : List ℕ). Some b) (sym t.0)), release_prints w.0)
+    subst (Read bytes) (same_release (release_named w.0) r w.2) (record {
+      found = λ differ. release_forth w.0 t.1 differ ∙ ap (λ (b : List ℕ). Some b) (sym t.0);
+      prints = release_prints w.0;
+      within = release_within w.0 t.1;
+    })
 
 pub found : (bytes : List ℕ) → AreBytes bytes → (result : Result Release ImageFault) → Gives result (library_at bytes) → IfOk result (λ r. Found bytes r)
-found bytes all (Ok r) given = (found_one bytes all r given).0
+found bytes all (Ok r) given = (read_one bytes all r given).found
 found bytes all (Err fault) given = tt
 
 pub prints : (bytes : List ℕ) → AreBytes bytes → (result : Result Release ImageFault) → Gives result (library_at bytes) → IfOk result PrintTexts
-prints bytes all (Ok r) given = (found_one bytes all r given).1
+prints bytes all (Ok r) given = (read_one bytes all r given).prints
 prints bytes all (Err fault) given = tt
+
+pub within : (bytes : List ℕ) → AreBytes bytes → (result : Result Release ImageFault) → Gives result (library_at bytes) → IfOk result IsWithinLimits
+within bytes all (Ok r) given = (read_one bytes all r given).within
+within bytes all (Err fault) given = tt
 
 -- a release that has a spelling is read from it
 pub library_again : (bytes : List ℕ) → AreBytes bytes → (r : Release) → library_image r ≡ Some bytes → PrintTexts r → library_at bytes ≡ Ok r

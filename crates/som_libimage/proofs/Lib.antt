@@ -17,3 +17,4 @@ pub mod NumberedParts
 pub mod NumberedReleases
 pub mod Ready
 pub mod Encoded
+pub mod Turned

@@ -31,10 +31,13 @@ use Rattle.som_model.specs.Owner.{entry_at, introduces, owner, owner_within}
 use Rattle.som_model.specs.Rules.{Breach, name_of, breach, demand, demand_of, is_known, is_value_type, is_proper, body_fits, s1, s2, s5, s6, s7, s8, s9, s10, s14}
 use Rattle.som_model.specs.Conforming.{each_after, ReleaseOk}
 use Rattle.som_model.proofs.KeyLaws.{both, exact_bytes, exact_keys}
+use Rattle.som_wire.specs.declared.face.WireFace.{WireFace}
+use Rattle.som_libimage.specs.declared.wire.WirePart.{WirePart}
+use Rattle.som_libimage.specs.declared.wire.WireRelease.{WireRelease}
 use Rattle.som_libimage.specs.declared.directory.Directory.{Directory}
 use Rattle.som_libimage.specs.Libraries.{ClassPrints, Differ, PrintsTexts, PrintTexts}
 use Rattle.som_libimage.specs.Limits.{ClassWithin, IsWithinLimits}
-use Rattle.som_libimage.specs.Numbering.{class_names, AreNames, IsDirectory, release_directory, number_of, MethodKnown, IsKnown, IsValue, SigKnown, EntryKnown, FaceKnown, OverrideKnown, ClassKnown}
+use Rattle.som_libimage.specs.Numbering.{class_names, AreNames, IsDirectory, release_directory, number_of, MethodKnown, IsKnown, IsValue, SigKnown, EntryKnown, FaceKnown, OverrideKnown, ClassKnown, face_numbered, part_numbered, release_numbered}
 use Rattle.som_libimage.proofs.Conforming.{neither_is, none_first, both_empty, not_broken, names_joined}
 use Rattle.som_libimage.proofs.Places.{all_map, place_of_map}
 use Rattle.som_libimage.proofs.Numbers.{Tells, Known, known, entry_names}
@@ -393,3 +396,29 @@ ready r ok prints within =
       classes = All-from_recursion (ClassKnown (release_directory r)) ds (all_map (ClassReady (release_directory r)) (ClassKnown (release_directory r)) (λ c w. w.known) ds each);
       turns = release_turns r within.classes each;
     }
+
+-- ---- with what was made of the release
+
+abbrev wire : List WireFace → List WirePart → WireRelease
+wire fs ps = record { faces = fs; parts = ps }
+
+module _ (r : Release) (ds : List ClassDecl) (same : ds ≡ r.classes) (is : IsReady r) where
+  pub classes_differ : Differ (class_names ds)
+  classes_differ = subst (λ (l : List ClassDecl). Differ (class_names l)) (sym same) is.names.differ
+
+  pub names_ready : (names : List (List ℕ)) → names ≡ class_names ds → AreNames names
+  names_ready names e = subst AreNames (sym (e ∙ ap class_names same)) is.names
+
+  pub directory_ready : (names : List (List ℕ)) (d : Directory) → names ≡ class_names ds → d ≡ release_directory r → IsDirectory names d
+  directory_ready names d e f = subst (IsDirectory names) (sym f) (subst (λ (l : List (List ℕ)). IsDirectory l (release_directory r)) (sym (e ∙ ap class_names same)) is.directory)
+
+  pub known_ready : (d : Directory) → d ≡ release_directory r → All (ClassKnown d) ds
+  known_ready d f = subst (λ (l : List ClassDecl). All (ClassKnown d) l) (sym same) (subst (λ (x : Directory). All (ClassKnown x) r.classes) (sym f) is.classes)
+
+  -- the faces and the parts are those of the release
+  pub numbered_is : (d : Directory) (fs : List WireFace) (ps : List WirePart) → d ≡ release_directory r → fs ≡ map (λ (c : ClassDecl). face_numbered d.keys c.face) ds → ps ≡ map (part_numbered d) ds → wire fs ps ≡ release_numbered r
+  numbered_is d fs ps f faces parts =
+      let all = ap (λ (x : Directory). wire (map (λ (c : ClassDecl). face_numbered x.keys c.face) r.classes) (map (part_numbered x) r.classes)) f in
+      ap (λ (l : List WireFace). wire l ps) (faces ∙ ap (map (λ (c : ClassDecl). face_numbered d.keys c.face)) same)
+      ∙ ap (λ (l : List WirePart). wire (map (λ (c : ClassDecl). face_numbered d.keys c.face) r.classes) l) (parts ∙ ap (map (part_numbered d)) same)
+      ∙ all

@@ -83,5 +83,6 @@ pub fn encode(alloc: Global, release: &Release) -> Result<List<u8>, EncodeFault>
     ensures read_back { IfOk result (λ bytes. library_at bytes ≡ Ok release.now) }
 {
     let wire = number_release(alloc, release)?;
-    Ok(write_release(alloc, &wire)?)
+    let image = write_release(alloc, &wire)?;
+    Ok(image)
 }

@@ -80,8 +80,7 @@ fn number_all(alloc: Global, release: &Release) -> Result<WireRelease, NoMemory>
     let classes = release.classes.as_slice();
     let names = class_names(alloc, classes)?;
     let directory = Directory::of_release(alloc, release)?;
-    Ok(WireRelease {
-        faces: number_faces(alloc, &names, &directory, classes)?,
-        parts: number_parts(alloc, &names, &directory, classes)?,
-    })
+    let faces = number_faces(alloc, &names, &directory, classes)?;
+    let parts = number_parts(alloc, &names, &directory, classes)?;
+    Ok(WireRelease { faces, parts })
 }

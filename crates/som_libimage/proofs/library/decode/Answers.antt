@@ -1,4 +1,4 @@
-use Rattle.som_libimage.proofs.Decoded.{found, prints, only}
+use Rattle.som_libimage.proofs.Decoded.{found, prints, within, only}
 use Rattle.som_libimage.proofs.library.decode.Goals as goal
 
 pub returns-clause-found : goal.returns-clause-found
@@ -9,3 +9,6 @@ returns-clause-prints c = prints c.args.bytes.now c.as_bytes-all.ensures.bytes c
 
 pub returns-clause-only : goal.returns-clause-only
 returns-clause-only c = only c.args.bytes.now c.as_bytes-all.ensures.bytes c.read_and_name.result c.read_and_name.ensures
+
+pub returns-clause-within : goal.returns-clause-within
+returns-clause-within c = within c.args.bytes.now c.as_bytes-all.ensures.bytes c.read_and_name.result c.read_and_name.ensures
