@@ -87,11 +87,7 @@ pub(crate) fn append_block(
     append_statements(alloc, out, texts)
 }
 
-fn append_statements(
-    alloc: Global,
-    out: &mut List<u8>,
-    texts: &List<Text>,
-) -> Result<(), NoMemory>
+fn append_statements(alloc: Global, out: &mut List<u8>, texts: &List<Text>) -> Result<(), NoMemory>
     requires { All FitsText texts.now }
     ensures { OnOk result (out.new ≡ out.old ++ flat_map spelling.statement texts.now) }
 {

@@ -13,9 +13,7 @@ ghost use Rattle.som_model.specs.Class.{entry_name};
 ghost use Rattle.som_wire.specs.Spelling.{FitsMethod};
 ghost use Rattle.std.specs.Prelude.{◌≡◌, ◌<◌, length, map, IfOk, OnOk};
 
-use som_model::{
-    ClassKey, Entry, List, MethodRef, Module, NoMemory, Release, Text, kernel_faces,
-};
+use som_model::{ClassKey, Entry, List, MethodRef, Module, NoMemory, Release, Text, kernel_faces};
 use som_wire::{WireEntry, WireFace, WireMethod};
 use std::alloc::Global;
 

@@ -19,10 +19,7 @@ use som_order::{find_name, note_name};
 use std::alloc::Global;
 
 /// The names of the kernel's classes and of these, by which the number of each is looked up once.
-pub(crate) fn class_names(
-    alloc: Global,
-    classes: &[ClassDecl],
-) -> Result<IndexSet<&[u8]>, NoMemory>
+pub(crate) fn class_names(alloc: Global, classes: &[ClassDecl]) -> Result<IndexSet<&[u8]>, NoMemory>
     requires { Differ (class_names classes.now) }
     ensures { IfOk result (λ names. texts names.keys ≡ class_names classes.now) }
 {

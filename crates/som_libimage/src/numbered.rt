@@ -15,9 +15,9 @@ ghost use Rattle.som_order.specs.Names.{texts};
 ghost use Rattle.std.specs.Prelude.{◌≡◌, map, All, IfOk};
 
 use crate::directory::Directory;
+use crate::lookup::class_names;
 use crate::numbered_face::number_face;
 use crate::numbered_part::number_part;
-use crate::lookup::class_names;
 use crate::wire::{WirePart, WireRelease};
 use indexmap::IndexSet;
 use som_model::{ClassDecl, List, NoMemory, Release};

@@ -20,8 +20,8 @@ ghost use Rattle.som_order.specs.Names.{texts};
 ghost use Rattle.std.specs.Prelude.{◌≡◌, ℕ, List as Seq, map, All, IfOk};
 
 use crate::directory::Directory;
-use crate::numbered_face::number_kind;
 use crate::lookup::{number_of, slot_of};
+use crate::numbered_face::number_kind;
 use crate::wire::{WireBody, WireOverride, WirePart, WireVariable};
 use indexmap::IndexSet;
 use som_model::{
@@ -108,11 +108,7 @@ fn number_bodies(alloc: Global, bodies: &List<Body>) -> Result<List<WireBody>, N
     Ok(numbered)
 }
 
-fn number_method(
-    names: &IndexSet<&[u8]>,
-    directory: &Directory,
-    method: &MethodRef,
-) -> WireMethod
+fn number_method(names: &IndexSet<&[u8]>, directory: &Directory, method: &MethodRef) -> WireMethod
     requires names { AreNames (texts names.now.keys) }
     requires directory { IsDirectory (texts names.now.keys) directory.now }
     requires known { MethodKnown directory.now method.now }

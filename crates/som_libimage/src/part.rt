@@ -273,11 +273,7 @@ fn append_body(alloc: Global, out: &mut List<u8>, body: &WireBody) -> Result<(),
     }
 }
 
-fn append_bodies(
-    alloc: Global,
-    out: &mut List<u8>,
-    bodies: &List<WireBody>,
-) -> Result<(), NoMemory>
+fn append_bodies(alloc: Global, out: &mut List<u8>, bodies: &List<WireBody>) -> Result<(), NoMemory>
     requires { All FitsBody bodies.now }
     ensures { OnOk result (out.new ≡ out.old ++ flat_map spelling.body bodies.now) }
 {
@@ -326,11 +322,7 @@ fn append_part(alloc: Global, out: &mut List<u8>, part: &WirePart) -> Result<(),
 }
 
 /// Appends the part of a class. It is spelled in a list of its own first, so that want of memory leaves `out` as it was.
-pub(crate) fn write_part(
-    alloc: Global,
-    out: &mut List<u8>,
-    part: &WirePart,
-) -> Result<(), NoMemory>
+pub(crate) fn write_part(alloc: Global, out: &mut List<u8>, part: &WirePart) -> Result<(), NoMemory>
     requires { FitsSomePart part.now }
     ensures ok { OnOk result (out.new ≡ out.old ++ spelling.part part.now) }
     ensures err { OnErr result (out.new ≡ out.old) }

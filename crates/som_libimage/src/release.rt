@@ -148,11 +148,7 @@ fn read_to_the_end(alloc: Global, bytes: &List<u8>) -> Result<WireRelease, Image
 }
 
 // After an error a part of the faces may have been appended.
-fn append_faces(
-    alloc: Global,
-    out: &mut List<u8>,
-    faces: &List<WireFace>,
-) -> Result<(), NoMemory>
+fn append_faces(alloc: Global, out: &mut List<u8>, faces: &List<WireFace>) -> Result<(), NoMemory>
     requires { All (FitsFace most_classes) faces.now }
     ensures { OnOk result (out.new ≡ out.old ++ flat_map face faces.now) }
 {
@@ -163,11 +159,7 @@ fn append_faces(
 }
 
 // After an error some of the parts may have been appended.
-fn append_parts(
-    alloc: Global,
-    out: &mut List<u8>,
-    parts: &List<WirePart>,
-) -> Result<(), NoMemory>
+fn append_parts(alloc: Global, out: &mut List<u8>, parts: &List<WirePart>) -> Result<(), NoMemory>
     requires { All FitsSomePart parts.now }
     ensures { OnOk result (out.new ≡ out.old ++ flat_map spelling.part parts.now) }
 {

@@ -23,34 +23,145 @@ const THREE: [u8; 121] = [
     0, 0, 0, 0, 0, 1, 0x08, 0x21, 0, 1, b'b',
 ];
 
-// Tags in THREE, each with a byte that can't stand there.
-const TAGS: [(usize, u8); 9] = [
-    (21, 2),
-    (46, 3),
-    (47, 5),
-    (63, 255),
-    (85, 0),
-    (86, 3),
-    (91, 0x09),
-    (92, 0x22),
-    (104, 3),
+// What is told of THREE with FF in the place of one byte: from the first place to the last, this fault. At all other places
+// stand bytes of names, texts and versions, and the number of a variable, which may be FF.
+const WITH_FF: &[(usize, usize, ImageFault)] = &[
+    (0, 3, ImageFault::Magic { offset: 0 }),
+    (4, 4, ImageFault::Version { offset: 4 }),
+    (5, 5, ImageFault::Number { offset: 5 }),
+    // 255 classes: the fourth face begins where the first part stood, and has no parents.
+    (6, 6, ImageFault::Number { offset: 88 }),
+    (7, 8, ImageFault::Cut { offset: 121 }),
+    (10, 10, ImageFault::Number { offset: 10 }),
+    (14, 14, ImageFault::Number { offset: 14 }),
+    (18, 18, ImageFault::Number { offset: 18 }),
+    (19, 20, ImageFault::Number { offset: 19 }),
+    (21, 21, ImageFault::Tag { offset: 21 }),
+    (22, 22, ImageFault::Number { offset: 22 }),
+    // 255 entries, the second of which has a name of 256 bytes; and names that are too long.
+    (23, 25, ImageFault::Cut { offset: 121 }),
+    (27, 27, ImageFault::Number { offset: 27 }),
+    (31, 31, ImageFault::Number { offset: 31 }),
+    (35, 35, ImageFault::Number { offset: 35 }),
+    (36, 37, ImageFault::Number { offset: 36 }),
+    (38, 38, ImageFault::Tag { offset: 38 }),
+    (39, 40, ImageFault::Number { offset: 39 }),
+    (41, 41, ImageFault::Number { offset: 41 }),
+    (42, 44, ImageFault::Cut { offset: 121 }),
+    (46, 46, ImageFault::Tag { offset: 46 }),
+    (47, 47, ImageFault::Tag { offset: 47 }),
+    (48, 48, ImageFault::Number { offset: 48 }),
+    (49, 50, ImageFault::Cut { offset: 121 }),
+    (52, 52, ImageFault::Number { offset: 52 }),
+    (56, 56, ImageFault::Number { offset: 56 }),
+    (60, 60, ImageFault::Number { offset: 60 }),
+    (61, 62, ImageFault::Number { offset: 61 }),
+    (63, 63, ImageFault::Tag { offset: 63 }),
+    (64, 64, ImageFault::Number { offset: 64 }),
+    (65, 67, ImageFault::Cut { offset: 121 }),
+    (69, 69, ImageFault::Tag { offset: 69 }),
+    (70, 71, ImageFault::Number { offset: 70 }),
+    (72, 73, ImageFault::Cut { offset: 121 }),
+    (75, 75, ImageFault::Tag { offset: 75 }),
+    (76, 76, ImageFault::Tag { offset: 76 }),
+    (77, 77, ImageFault::Number { offset: 77 }),
+    (78, 78, ImageFault::Number { offset: 78 }),
+    (79, 79, ImageFault::Number { offset: 79 }),
+    // 255 overrides, the first of a method of class 256.
+    (80, 80, ImageFault::Number { offset: 81 }),
+    (81, 81, ImageFault::Number { offset: 81 }),
+    (82, 83, ImageFault::Cut { offset: 121 }),
+    (85, 85, ImageFault::Tag { offset: 85 }),
+    (86, 86, ImageFault::Tag { offset: 86 }),
+    // Many statements, the second of which isn't one.
+    (87, 90, ImageFault::Tag { offset: 97 }),
+    (91, 91, ImageFault::Tag { offset: 91 }),
+    (92, 92, ImageFault::Tag { offset: 92 }),
+    (93, 94, ImageFault::Cut { offset: 121 }),
+    (97, 97, ImageFault::Number { offset: 97 }),
+    (98, 98, ImageFault::Number { offset: 99 }),
+    (99, 99, ImageFault::Number { offset: 99 }),
+    (100, 101, ImageFault::Cut { offset: 121 }),
+    (103, 103, ImageFault::Tag { offset: 103 }),
+    (104, 104, ImageFault::Tag { offset: 104 }),
+    (106, 106, ImageFault::Number { offset: 106 }),
+    (107, 107, ImageFault::Cut { offset: 121 }),
+    (108, 109, ImageFault::Number { offset: 108 }),
+    (110, 111, ImageFault::Number { offset: 110 }),
+    (112, 115, ImageFault::Cut { offset: 121 }),
+    (116, 116, ImageFault::Tag { offset: 116 }),
+    (117, 117, ImageFault::Tag { offset: 117 }),
+    (118, 119, ImageFault::Cut { offset: 121 }),
 ];
 
-// Numbers of 2 bytes in THREE that are out of range: of classes, of entries and overrides, and a slot.
-const NUMBERS: [(usize, u16); 9] = [
-    (5, 1_025),
-    (19, 7),
-    (36, 7),
-    (39, 7),
-    (41, 257),
-    (70, 7),
-    (106, 257),
-    (108, 7),
-    (110, 1),
+// Fields of THREE that are out of their range by one. Numbers: the count of classes, versions, counts of parents, a parent, a
+// metaclass, counts of entries and parameters, the class of a moved entry, counts of variables and overrides, the class and the
+// slot of a method. The other tags stand in tables of tags, or next to them.
+const OUT_OF_RANGE: &[(usize, &[u8], ImageFault)] = &[
+    (5, b"\x04\x01", ImageFault::Number { offset: 5 }),
+    (10, b"\x80\0\0\0", ImageFault::Number { offset: 10 }),
+    (14, b"\x80\0\0\0", ImageFault::Number { offset: 14 }),
+    (18, b"\0", ImageFault::Number { offset: 18 }),
+    (18, b"\x11", ImageFault::Number { offset: 18 }),
+    (19, b"\0\x07", ImageFault::Number { offset: 19 }),
+    (21, b"\x02", ImageFault::Tag { offset: 21 }),
+    (39, b"\0\x07", ImageFault::Number { offset: 39 }),
+    (41, b"\x01\x01", ImageFault::Number { offset: 41 }),
+    (46, b"\x03", ImageFault::Tag { offset: 46 }),
+    (47, b"\x05", ImageFault::Tag { offset: 47 }),
+    (48, b"\x11", ImageFault::Number { offset: 48 }),
+    (70, b"\0\x07", ImageFault::Number { offset: 70 }),
+    (81, b"\x41", ImageFault::Number { offset: 81 }),
+    (85, b"\0", ImageFault::Tag { offset: 85 }),
+    (85, b"\x05", ImageFault::Tag { offset: 85 }),
+    (86, b"\x03", ImageFault::Tag { offset: 86 }),
+    (91, b"\x07", ImageFault::Tag { offset: 91 }),
+    (91, b"\x09", ImageFault::Tag { offset: 91 }),
+    (92, b"\x20", ImageFault::Tag { offset: 92 }),
+    (92, b"\x22", ImageFault::Tag { offset: 92 }),
+    (104, b"\x03", ImageFault::Tag { offset: 104 }),
+    (106, b"\x01\x01", ImageFault::Number { offset: 106 }),
+    (108, b"\0\x07", ImageFault::Number { offset: 108 }),
+    (110, b"\0\x01", ImageFault::Number { offset: 110 }),
 ];
 
-// The kernel's classes, each with its last slot.
-const KERNEL: [(u16, u16); 4] = [(0, 8), (1, 5), (2, 0), (3, 1)];
+// The highest counts and tags of THREE that move what follows. With 1,024 classes the fourth face has no parents; the fourth
+// of 16 parents is class 321; the second of 256 entries has a name of 256 bytes; the first of 16 parameters is void, and so is
+// the second of 64 variables; the second of 256 overrides is cut. A metaclass, a class for a type and an entry that was moved
+// take two bytes more or one more than what stood there.
+const HIGHEST: &[(usize, &[u8], ImageFault)] = &[
+    (5, b"\x04\0", ImageFault::Number { offset: 88 }),
+    (18, b"\x10", ImageFault::Number { offset: 25 }),
+    (21, b"\x01", ImageFault::Cut { offset: 121 }),
+    (22, b"\x01\0", ImageFault::Cut { offset: 121 }),
+    (46, b"\x02", ImageFault::Tag { offset: 94 }),
+    (47, b"\x04", ImageFault::Tag { offset: 51 }),
+    (48, b"\x10", ImageFault::Tag { offset: 49 }),
+    (81, b"\x40", ImageFault::Tag { offset: 88 }),
+    (85, b"\x04", ImageFault::Tag { offset: 93 }),
+    (106, b"\x01\0", ImageFault::Cut { offset: 121 }),
+];
+
+// The highest values of versions, class numbers and tags that leave all else in its place.
+const TAKEN: &[(usize, &[u8])] = &[
+    (10, b"\x7f\xff\xff\xff"),
+    (14, b"\x7f\xff\xff\xff"),
+    (19, b"\0\x06"),
+    (39, b"\0\x06"),
+    (70, b"\0\x06"),
+    (76, b"\x03"),
+    (85, b"\x03"),
+    (104, b"\x02"),
+    (105, b"\xff"),
+];
+
+// The kernel's classes, each with its last slot and the one after it.
+const KERNEL: [([u8; 4], [u8; 4]); 4] = [
+    ([0, 0, 0, 8], [0, 0, 0, 9]),
+    ([0, 1, 0, 5], [0, 1, 0, 6]),
+    ([0, 2, 0, 0], [0, 2, 0, 1]),
+    ([0, 3, 0, 1], [0, 3, 0, 2]),
+];
 
 // How many classes an image has.
 fn classes(alloc: Global, bytes: &[u8]) -> Result<usize, ImageFault> {
@@ -58,20 +169,23 @@ fn classes(alloc: Global, bytes: &[u8]) -> Result<usize, ImageFault> {
     Ok(decode(alloc, &list)?.classes.len())
 }
 
-// These bytes with another number of 2 bytes at a place.
-fn changed(alloc: Global, bytes: &[u8], at: usize, number: u16) -> Result<List<u8>, NoMemory> {
-    let new = number.to_be_bytes();
+// THREE with other bytes at a place.
+fn changed(alloc: Global, at: usize, new: &[u8]) -> Result<List<u8>, NoMemory> {
     let mut out = List::new(alloc);
-    for i in 0..bytes.len() {
-        if i == at {
-            out.push(new[0])?;
-        } else if i > 0 && i - 1 == at {
-            out.push(new[1])?;
+    for i in 0..THREE.len() {
+        if i >= at && i - at < new.len() {
+            out.push(new[i - at])?;
         } else {
-            out.push(bytes[i])?;
+            out.push(THREE[i])?;
         }
     }
     Ok(out)
+}
+
+// What is told of THREE with other bytes at a place.
+fn told(alloc: Global, at: usize, new: &[u8]) -> Result<usize, ImageFault> {
+    let bytes = changed(alloc, at, new)?;
+    Ok(decode(alloc, &bytes)?.classes.len())
 }
 
 #[test]
@@ -89,23 +203,31 @@ fn an_image_that_ends_early_is_cut(rt: HostRuntime) -> Result<(), Fail> {
     Ok(())
 }
 
+// The fault that the table has for a place.
+fn fault_at(place: usize) -> Option<ImageFault> {
+    for &(first, last, fault) in WITH_FF {
+        if first <= place && place <= last {
+            return Some(fault);
+        }
+    }
+    None
+}
+
 #[test]
-fn the_first_fault_is_told(rt: HostRuntime) -> Result<(), Fail> {
+fn each_byte_is_looked_at(rt: HostRuntime) -> Result<(), Fail> {
+    for place in 0..THREE.len() {
+        let expected = match fault_at(place) {
+            Some(fault) => Err(fault),
+            None => Ok(3),
+        };
+        assert_eq!(rt; told(rt.alloc(), place, b"\xff"), expected, "FF at {place}");
+    }
+    Ok(())
+}
+
+#[test]
+fn the_head_is_told_from_the_left(rt: HostRuntime) -> Result<(), Fail> {
     let alloc = rt.alloc();
-    for &(at, tag) in &TAGS {
-        let bytes = changed(alloc, &THREE, at, u16::from(tag) * 256)?;
-        let read = classes(alloc, bytes.as_slice());
-        assert_eq!(rt; read, Err(ImageFault::Tag { offset: at }), "{tag} at {at}");
-    }
-    for &(at, number) in &NUMBERS {
-        let bytes = changed(alloc, &THREE, at, number)?;
-        let read = classes(alloc, bytes.as_slice());
-        assert_eq!(rt;
-            read,
-            Err(ImageFault::Number { offset: at }),
-            "{number} at {at}"
-        );
-    }
     assert_eq!(rt;
         classes(alloc, b"SOMC\x09"),
         Err(ImageFault::Magic { offset: 0 })
@@ -128,32 +250,21 @@ fn the_first_fault_is_told(rt: HostRuntime) -> Result<(), Fail> {
 }
 
 #[test]
-fn counts_and_slots_have_bounds(rt: HostRuntime) -> Result<(), Fail> {
+fn each_range_has_its_bound(rt: HostRuntime) -> Result<(), Fail> {
     let alloc = rt.alloc();
-    // 64 variables are looked for, and the second would be of type void; 65 are too many.
-    let most = changed(alloc, &THREE, 81, 64 * 256)?;
-    assert_eq!(rt;
-        classes(alloc, most.as_slice()),
-        Err(ImageFault::Tag { offset: 88 })
-    );
-    let more = changed(alloc, &THREE, 81, 65 * 256)?;
-    assert_eq!(rt;
-        classes(alloc, more.as_slice()),
-        Err(ImageFault::Number { offset: 81 })
-    );
-    // 256 overrides are looked for, of which the second is cut.
-    let most = changed(alloc, &THREE, 106, 256)?;
-    assert_eq!(rt;
-        classes(alloc, most.as_slice()),
-        Err(ImageFault::Cut { offset: 121 })
-    );
-    for &(class, last) in &KERNEL {
-        let named = changed(alloc, &THREE, 108, class)?;
-        let bytes = changed(alloc, named.as_slice(), 110, last)?;
-        assert_eq!(rt; classes(alloc, bytes.as_slice()), Ok(3));
-        let bytes = changed(alloc, named.as_slice(), 110, last.saturating_add(1))?;
+    for &(at, new, fault) in OUT_OF_RANGE {
+        assert_eq!(rt; told(alloc, at, new), Err(fault), "out of range at {at}");
+    }
+    for &(at, new, fault) in HIGHEST {
+        assert_eq!(rt; told(alloc, at, new), Err(fault), "the highest at {at}");
+    }
+    for &(at, new) in TAKEN {
+        assert_eq!(rt; told(alloc, at, new), Ok(3), "taken at {at}");
+    }
+    for (last, next) in &KERNEL {
+        assert_eq!(rt; told(alloc, 108, last), Ok(3));
         assert_eq!(rt;
-            classes(alloc, bytes.as_slice()),
+            told(alloc, 108, next),
             Err(ImageFault::Number { offset: 110 })
         );
     }
