@@ -42,7 +42,7 @@ const EACH_FORM: [u8; 113] = [
 fn written_again(alloc: Global, bytes: &[u8]) -> Result<List<u8>, Fail>
     ensures { IfOk result (λ image. image ≡ bytes.now) }
 {
-    let image = List::from_slice(alloc, bytes).map_err(|_| "memory")?;
+    let image = List::from_slice(alloc, bytes)?;
     let release = decode(alloc, &image)?;
     if !prints_texts(&release) {
         return Err(Fail::from("it prints no texts"));
