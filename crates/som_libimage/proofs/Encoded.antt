@@ -1,5 +1,5 @@
 -- What writing a library image answers.
-use Rattle.std.proofs.Common.{◌≡◌, ℕ, List, Some, Result, Ok, sym, ap, subst, ◌∙◌}
+use Rattle.std.proofs.Common.{◌≡◌, ℕ, List, Some, Result, Ok, ap, subst, ◌∙◌}
 use Rattle.som_model.specs.declared.program.Release.{Release}
 use Rattle.som_model.specs.Steps.{◌>>=◌}
 use Rattle.som_model.specs.Class.{interface_of}

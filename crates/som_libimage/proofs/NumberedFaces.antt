@@ -1,5 +1,5 @@
 -- Numbers and slots are named back to what they were made of, and they fit: classes, methods and faces.
-use Rattle.std.proofs.Common.{◌≡◌, ℕ, ◌<◌, ◌≤◌, true, false, List, [], ◌∷◌, length, map, get_or, Option, Some, None, refl, sym, ap, subst, ◌∙◌, arith}
+use Rattle.std.proofs.Common.{◌≡◌, ℕ, ◌<◌, ◌≤◌, true, false, List, [], ◌∷◌, length, map, get_or, Option, Some, None, refl, ap, ◌∙◌, arith}
 use Rattle.std.specs.Prelude.{All, IfSome}
 use Rattle.std.specs.List.{AllByRecursion}
 use Rattle.std.specs.Str.{bytes_eq}
@@ -19,8 +19,6 @@ use Rattle.som_model.specs.Lists.{Mem}
 use Rattle.som_model.specs.Keys.{same_key}
 use Rattle.som_model.specs.Kernel.{som_object}
 use Rattle.som_model.proofs.KeyLaws.{exact_bytes, exact_keys}
-use Rattle.som_wire.specs.declared.kind.WireType.{WireType}
-use Rattle.som_wire.specs.declared.method.WireMethod.{WireMethod}
 use Rattle.som_wire.specs.Spelling.{FitsKind, FitsSig, FitsEntry, FitsFace, FitsMethod, FitsCounted}
 use Rattle.som_libimage.specs.declared.directory.Directory.{Directory}
 use Rattle.som_libimage.specs.Naming.{key_at, kind_named, sig_named, entry_named, metaclass_named, face_named, method_named, ranges_in}

@@ -1,23 +1,20 @@
 -- Parts with numbers and slots are named back to what they were made of, and they fit.
-use Rattle.std.proofs.Common.{◌≡◌, ℕ, ◌<◌, ◌≤◌, ◌^◌, List, [], ◌∷◌, length, map, refl, sym, ap, subst, ◌∙◌, arith}
+use Rattle.std.proofs.Common.{◌≡◌, ℕ, ◌<◌, ◌^◌, List, length, map, refl, sym, ap, subst, ◌∙◌, arith}
 use Rattle.std.specs.Prelude.{All}
 use Rattle.std.specs.List.{count_by, AllByRecursion}
 use Rattle.std.proofs.lemmas.List.{length-map}
 use Rattle.std.proofs.lemmas.List.Elements.{All-from_recursion}
 use Rattle.som_model.specs.declared.limits.TheConstants.{MAX_VARIABLES, MAX_OVERRIDES}
-use Rattle.som_model.specs.declared.key.ClassKey.{ClassKey}
 use Rattle.som_model.specs.declared.key.MethodRef.{MethodRef}
 use Rattle.som_model.specs.declared.key.ValueType.{ValueType}
-use Rattle.som_model.specs.declared.syntax.Expr.{Expr, out-Expr, out-roll-Expr}
+use Rattle.som_model.specs.declared.syntax.Expr.{out-Expr, out-roll-Expr}
 use Rattle.som_model.specs.declared.syntax.Expr.TheVariants as exprs
 use Rattle.som_model.specs.declared.syntax.Expr.TheVariants.{rolls-Str}
 use Rattle.som_model.specs.declared.syntax.Expr.TheOpen.{Expr-F}
 use Rattle.som_model.specs.declared.syntax.Stmt.{Stmt, out-Stmt, out-roll-Stmt}
-use Rattle.som_model.specs.declared.syntax.Stmt.TheVariants as stmts
 use Rattle.som_model.specs.declared.syntax.Stmt.TheVariants.{rolls-Print}
 use Rattle.som_model.specs.declared.syntax.Stmt.TheOpen.{Stmt-F}
 use Rattle.som_model.specs.declared.syntax.Block.{Block}
-use Rattle.som_model.specs.declared.class.Entry.{Entry}
 use Rattle.som_model.specs.declared.class.Body.{Body}
 use Rattle.som_model.specs.declared.class.Body.TheVariants as named_bodies
 use Rattle.som_model.specs.declared.class.Variable.{Variable}
@@ -29,12 +26,12 @@ use Rattle.som_wire.specs.Spelling.{FitsText, FitsFace}
 use Rattle.som_libimage.specs.declared.directory.Directory.{Directory}
 use Rattle.som_libimage.specs.Reading.{is_introduced}
 use Rattle.som_libimage.specs.Spelling.{FitsBlock, FitsVariable, FitsBody, FitsOverride, FitsPart}
-use Rattle.som_libimage.specs.Naming.{entry_named, face_named, print_of, block_named, variable_named, body_named, override_named, class_named, ranges_in}
+use Rattle.som_libimage.specs.Naming.{print_of, block_named, variable_named, body_named, override_named, class_named, ranges_in}
 use Rattle.som_libimage.specs.Libraries.{PrintsTexts, BodyPrints}
 use Rattle.som_libimage.specs.Limits.{TextWithin, StatementWithin, BlockWithin, BodyWithin, ClassWithin}
 use Rattle.som_libimage.specs.Numbering.{IsValue, text_of, printed_by, text_in, block_numbered, variable_numbered, body_numbered, override_numbered, OverrideKnown, entry_numbered, face_numbered, part_numbered, ClassKnown}
 use Rattle.som_libimage.proofs.NamedParts.{introduced_is}
-use Rattle.som_libimage.proofs.NumberedFaces.{TurnsBack, all_both, each_of, counted_turn, method_turns, value_turns, face_turns}
+use Rattle.som_libimage.proofs.NumberedFaces.{TurnsBack, all_both, counted_turn, method_turns, value_turns, face_turns}
 
 -- ---- blocks
 

@@ -1,5 +1,5 @@
 -- A release that was numbered fits an image, and is named back to the release.
-use Rattle.std.proofs.Common.{◌≡◌, ℕ, zero, suc, ◌+◌, ◌≤◌, Bool, false, List, [], ◌∷◌, ◌++◌, length, map, refl, sym, ap, subst, ◌∙◌, arith}
+use Rattle.std.proofs.Common.{◌≡◌, ℕ, suc, ◌+◌, ◌≤◌, false, List, [], ◌∷◌, ◌++◌, length, map, refl, sym, ap, subst, ◌∙◌, arith}
 use Rattle.std.specs.Prelude.{nat_lt}
 use Rattle.std.specs.List.{AllByRecursion}
 use Rattle.std.proofs.lemmas.List.{length-map}
@@ -20,14 +20,13 @@ use Rattle.som_wire.specs.declared.method.Ranges.{Ranges}
 use Rattle.som_wire.specs.Spelling.{FitsFace}
 use Rattle.som_libimage.specs.declared.wire.WirePart.{WirePart}
 use Rattle.som_libimage.specs.declared.directory.Directory.{Directory}
-use Rattle.som_libimage.specs.Reading.{ranges_of}
 use Rattle.som_libimage.specs.Spelling.{FitsPart, FitEach, FitsRelease}
 use Rattle.som_libimage.specs.Naming.{name_in, names_in, kernel_directory, library_directory, ranges_in, classes_named, release_named}
 use Rattle.som_libimage.specs.Numbering.{class_names, keys_from, keys_by, release_directory, IsDirectory, entry_numbered, face_numbered, part_numbered, release_numbered}
 use Rattle.som_libimage.proofs.Naming.{ranges_known}
-use Rattle.som_libimage.proofs.Places.{all_mapped, all_joined, all_of}
+use Rattle.som_libimage.proofs.Places.{all_joined}
 use Rattle.som_libimage.proofs.Numbers.{entry_names, Tells}
-use Rattle.som_libimage.proofs.NumberedParts.{ClassReady, ClassTurns, class_turns}
+use Rattle.som_libimage.proofs.NumberedParts.{ClassReady, class_turns}
 
 -- ---- the directory of a release
 

@@ -1,5 +1,5 @@
 -- A release that conforms, prints texts and is within the limits names nothing that isn't there: so it can be numbered.
-use Rattle.std.proofs.Common.{◌≡◌, ℕ, zero, suc, ◌+◌, ◌<◌, ◌≤◌, ◌^◌, ◌==◌, inl, inr, Bool, true, false, not, ◌&&◌, if◌then◌else◌, true≢false, List, [], ◌∷◌, ◌++◌, length, map, get_or, Option, Some, None, is_some, slice_get, refl, sym, ap, subst, ◌∙◌, append_assoc, arith}
+use Rattle.std.proofs.Common.{◌≡◌, ℕ, zero, suc, ◌<◌, ◌≤◌, ◌==◌, inl, inr, Bool, true, false, not, ◌&&◌, if◌then◌else◌, true≢false, List, [], ◌∷◌, ◌++◌, length, map, Option, Some, None, is_some, slice_get, refl, sym, ap, subst, ◌∙◌, append_assoc, arith}
 use Rattle.std.specs.Prelude.{flat_map, All, IfSome, unwrap_or}
 use Rattle.std.specs.List.{AllByRecursion}
 use Rattle.std.specs.Str.{bytes_eq}
@@ -7,7 +7,7 @@ use Rattle.std.proofs.lemmas.Bool.{eqb-true}
 use Rattle.std.proofs.lemmas.List.{length-map}
 use Rattle.std.proofs.lemmas.List.Concat.{flat_map-cons}
 use Rattle.std.proofs.lemmas.List.Elements.{All-from_recursion, recursion_from_All}
-use Rattle.som_model.specs.declared.limits.TheConstants.{MAX_LIBRARY_CLASSES, MAX_ENTRIES, MAX_VARIABLES}
+use Rattle.som_model.specs.declared.limits.TheConstants.{MAX_ENTRIES, MAX_VARIABLES}
 use Rattle.som_model.specs.declared.key.Module.TheVariants as modules
 use Rattle.som_model.specs.declared.key.ClassKey.{ClassKey}
 use Rattle.som_model.specs.declared.key.MethodRef.{MethodRef}
@@ -28,7 +28,7 @@ use Rattle.som_model.specs.Class.{Class, class_in, entry_name, entry_of, introdu
 use Rattle.som_model.specs.Classes.{class_at, hierarchy, library_classes}
 use Rattle.som_model.specs.Kernel.{kernel}
 use Rattle.som_model.specs.Owner.{entry_at, introduces, owner, owner_within}
-use Rattle.som_model.specs.Rules.{Breach, name_of, breach, demand, demand_of, is_known, is_value_type, is_proper, body_fits, s1, s2, s5, s6, s7, s8, s9, s10, s14}
+use Rattle.som_model.specs.Rules.{Breach, name_of, demand, demand_of, is_known, is_value_type, is_proper, body_fits, s1, s2, s5, s6, s7, s8, s9, s10, s14}
 use Rattle.som_model.specs.Conforming.{each_after, ReleaseOk}
 use Rattle.som_model.proofs.KeyLaws.{both, exact_bytes, exact_keys}
 use Rattle.som_wire.specs.declared.face.WireFace.{WireFace}
@@ -37,12 +37,12 @@ use Rattle.som_libimage.specs.declared.wire.WireRelease.{WireRelease}
 use Rattle.som_libimage.specs.declared.directory.Directory.{Directory}
 use Rattle.som_libimage.specs.Libraries.{ClassPrints, Differ, PrintsTexts, PrintTexts}
 use Rattle.som_libimage.specs.Limits.{ClassWithin, IsWithinLimits}
-use Rattle.som_libimage.specs.Numbering.{class_names, AreNames, IsDirectory, release_directory, number_of, MethodKnown, IsKnown, IsValue, SigKnown, EntryKnown, FaceKnown, OverrideKnown, ClassKnown, face_numbered, part_numbered, release_numbered}
+use Rattle.som_libimage.specs.Numbering.{class_names, AreNames, IsDirectory, keys_by, release_directory, MethodKnown, IsKnown, IsValue, EntryKnown, FaceKnown, OverrideKnown, ClassKnown, face_numbered, part_numbered, release_numbered}
 use Rattle.som_libimage.proofs.Conforming.{neither_is, none_first, both_empty, not_broken, names_joined}
 use Rattle.som_libimage.proofs.Places.{all_map, place_of_map}
 use Rattle.som_libimage.proofs.Numbers.{Tells, Known, known, entry_names}
 use Rattle.som_libimage.proofs.Numbering.{first_place}
-use Rattle.som_libimage.proofs.NumberedFaces.{all_both, each_of}
+use Rattle.som_libimage.proofs.NumberedFaces.{all_both}
 use Rattle.som_libimage.proofs.NumberedParts.{IsByte, ClassReady}
 use Rattle.som_libimage.proofs.NumberedReleases.{told, is_directory, ReleaseTurns, release_turns}
 
@@ -415,10 +415,24 @@ module _ (r : Release) (ds : List ClassDecl) (same : ds ≡ r.classes) (is : IsR
   pub known_ready : (d : Directory) → d ≡ release_directory r → All (ClassKnown d) ds
   known_ready d f = subst (λ (l : List ClassDecl). All (ClassKnown d) l) (sym same) (subst (λ (x : Directory). All (ClassKnown x) r.classes) (sym f) is.classes)
 
+  -- the keys of the directory are those of the names
+  keys_ready : (names : List (List ℕ)) → names ≡ class_names ds → (release_directory r).keys ≡ keys_by names
+  keys_ready names e = (directory_ready names (release_directory r) e refl).keys
+
+  abbrev faces_known : List ClassKey → Type 0
+  faces_known l = All (λ (c : ClassDecl). FaceKnown l c.face) ds
+
+  pub faces_ready : (names : List (List ℕ)) → names ≡ class_names ds → faces_known (keys_by names)
+  faces_ready names e =
+      let each = all_map (ClassKnown (release_directory r)) (λ (c : ClassDecl). FaceKnown ((release_directory r).keys) c.face) (λ c k. k.face) ds (recursion_from_All (ClassKnown (release_directory r)) ds (known_ready (release_directory r) refl)) in
+      subst faces_known (keys_ready names e) (All-from_recursion (λ (c : ClassDecl). FaceKnown ((release_directory r).keys) c.face) ds each)
+
+  abbrev faces_by : List ClassKey → List ClassDecl → List WireFace
+  faces_by l cs = map (λ (c : ClassDecl). face_numbered l c.face) cs
+
   -- the faces and the parts are those of the release
-  pub numbered_is : (d : Directory) (fs : List WireFace) (ps : List WirePart) → d ≡ release_directory r → fs ≡ map (λ (c : ClassDecl). face_numbered d.keys c.face) ds → ps ≡ map (part_numbered d) ds → wire fs ps ≡ release_numbered r
-  numbered_is d fs ps f faces parts =
-      let all = ap (λ (x : Directory). wire (map (λ (c : ClassDecl). face_numbered x.keys c.face) r.classes) (map (part_numbered x) r.classes)) f in
-      ap (λ (l : List WireFace). wire l ps) (faces ∙ ap (map (λ (c : ClassDecl). face_numbered d.keys c.face)) same)
-      ∙ ap (λ (l : List WirePart). wire (map (λ (c : ClassDecl). face_numbered d.keys c.face) r.classes) l) (parts ∙ ap (map (part_numbered d)) same)
-      ∙ all
+  pub numbered_is : (names : List (List ℕ)) (d : Directory) (fs : List WireFace) (ps : List WirePart) → names ≡ class_names ds → d ≡ release_directory r → fs ≡ map (λ (c : ClassDecl). face_numbered (keys_by names) c.face) ds → ps ≡ map (part_numbered d) ds → wire fs ps ≡ release_numbered r
+  numbered_is names d fs ps e f faces parts =
+      let own : Directory = release_directory r in
+      ap (λ (l : List WireFace). wire l ps) (faces ∙ ap (λ (l : List ClassKey). faces_by l ds) (sym (keys_ready names e)) ∙ ap (faces_by own.keys) same)
+      ∙ ap (λ (l : List WirePart). wire (faces_by own.keys r.classes) l) (parts ∙ ap (λ (x : Directory). map (part_numbered x) ds) f ∙ ap (map (part_numbered own)) same)

@@ -1,10 +1,9 @@
 -- What was numbered can be written, whatever the ranges; and what is read is within the limits.
-use Rattle.std.proofs.Common.{◌≡◌, ℕ, zero, suc, ◌+◌, ◌<◌, ◌≤◌, ◌^◌, Bool, true, false, List, [], ◌∷◌, length, map, get_or, Result, Ok, Err, refl, sym, ap, subst, ◌∙◌, arith}
-use Rattle.std.specs.Prelude.{All, IfOk, IfSome, slice_index}
+use Rattle.std.proofs.Common.{◌≡◌, ℕ, zero, suc, ◌+◌, ◌≤◌, Bool, false, List, [], ◌∷◌, length, map, Result, Ok, Err, sym, ap, subst, ◌∙◌, arith}
+use Rattle.std.specs.Prelude.{All, IfOk, slice_index}
 use Rattle.std.specs.List.{AllByRecursion}
 use Rattle.std.proofs.lemmas.List.{length-map}
 use Rattle.std.proofs.lemmas.List.Elements.{All-from_recursion, recursion_from_All}
-use Rattle.som_model.specs.declared.limits.TheConstants.{MAX_LIBRARY_CLASSES, MAX_ENTRIES, MAX_PARENTS, MAX_VARIABLES, MAX_OVERRIDES}
 use Rattle.som_model.specs.declared.memory.NoMemory.{NoMemory}
 use Rattle.som_model.specs.declared.key.ClassKey.{ClassKey}
 use Rattle.som_model.specs.declared.class.Override.{Override}
@@ -12,13 +11,11 @@ use Rattle.som_model.specs.declared.class.Variable.{Variable}
 use Rattle.som_model.specs.declared.program.Release.{Release}
 use Rattle.som_wire.specs.declared.kind.WireType.{WireType}
 use Rattle.som_wire.specs.declared.kind.WireType.TheVariants as types
-use Rattle.som_wire.specs.declared.sig.WireSig.{WireSig}
 use Rattle.som_wire.specs.declared.entry.WireEntry.{WireEntry}
 use Rattle.som_wire.specs.declared.entry.WireEntry.TheVariants as entries
 use Rattle.som_wire.specs.declared.face.WireFace.{WireFace}
-use Rattle.som_wire.specs.declared.method.WireMethod.{WireMethod}
 use Rattle.som_wire.specs.declared.method.Ranges.{Ranges}
-use Rattle.som_wire.specs.Spelling.{most_classes, FitsText, FitsKind, FitsEntry, FitsFace, FitsMethod, FitsSomeRanges}
+use Rattle.som_wire.specs.Spelling.{most_classes, FitsText, FitsKind, FitsEntry, FitsFace}
 use Rattle.som_libimage.specs.declared.wire.WireVariable.{WireVariable}
 use Rattle.som_libimage.specs.declared.wire.WireBody.{WireBody}
 use Rattle.som_libimage.specs.declared.wire.WireBody.TheVariants as bodies
@@ -28,7 +25,7 @@ use Rattle.som_libimage.specs.declared.wire.WireRelease.{WireRelease}
 use Rattle.som_libimage.specs.declared.directory.Directory.{Directory}
 use Rattle.som_libimage.specs.Reading.{ranges_of}
 use Rattle.som_libimage.specs.Spelling.{FitsBlock, FitsVariable, FitsBody, FitsOverride, FitsPart, FitsSomeOverride, FitsSomePart, FitEach, FitsFaces, FitsRelease}
-use Rattle.som_libimage.specs.Naming.{library_directory, key_at, kind_named, sig_named, entry_named, face_named, print_of, block_named, variable_named, body_named, override_named, class_named, classes_named, release_named}
+use Rattle.som_libimage.specs.Naming.{library_directory, key_at, kind_named, entry_named, face_named, print_of, block_named, variable_named, body_named, override_named, class_named, classes_named, release_named}
 use Rattle.som_libimage.specs.Limits.{TextWithin, EntryWithin, FaceWithin, StatementWithin, BlockWithin, BodyWithin, ClassWithin, IsWithinLimits}
 use Rattle.som_libimage.specs.Numbering.{text_of, release_numbered}
 use Rattle.som_libimage.proofs.Places.{all_map, all_mapped}

@@ -117,12 +117,12 @@ fn entry_names(alloc: Global, entries: &List<Entry>) -> Result<List<Text>, NoMem
 {
     let mut names = List::new(alloc);
     for entry in entries.as_slice() {
-        names.push(kernel_name(alloc, entry)?)?;
+        names.push(name_of_entry(alloc, entry)?)?;
     }
     Ok(names)
 }
 
-fn kernel_name(alloc: Global, entry: &Entry) -> Result<Text, NoMemory>
+fn name_of_entry(alloc: Global, entry: &Entry) -> Result<Text, NoMemory>
     ensures { IfOk result (λ name. name ≡ entry_name entry.now) }
 {
     match entry {

@@ -4,8 +4,10 @@ ghost use Rattle.som_libimage.specs.Naming.{release_named};
 ghost use Rattle.som_libimage.specs.Numbering.{
   AreNames,
   ClassKnown,
+  FaceKnown,
   IsDirectory,
   face_numbered,
+  keys_by,
   part_numbered,
   release_numbered,
 };
@@ -27,13 +29,11 @@ use std::alloc::Global;
 fn number_faces(
     alloc: Global,
     names: &IndexSet<&[u8]>,
-    directory: &Directory,
     classes: &[ClassDecl],
 ) -> Result<List<WireFace>, NoMemory>
     requires names { AreNames (texts names.now.keys) }
-    requires directory { IsDirectory (texts names.now.keys) directory.now }
-    requires known { All (ClassKnown directory.now) classes.now }
-    ensures { IfOk result (λ faces. faces ≡ map (λ c. face_numbered directory.now.keys c.face) classes.now) }
+    requires known { All (λ c. FaceKnown (keys_by (texts names.now.keys)) c.face) classes.now }
+    ensures { IfOk result (λ faces. faces ≡ map (λ c. face_numbered (keys_by (texts names.now.keys)) c.face) classes.now) }
 {
     let mut faces = List::new(alloc);
     for class in classes {
@@ -79,8 +79,8 @@ fn number_all(alloc: Global, release: &Release) -> Result<WireRelease, NoMemory>
 {
     let classes = release.classes.as_slice();
     let names = class_names(alloc, classes)?;
+    let faces = number_faces(alloc, &names, classes)?;
     let directory = Directory::of_release(alloc, release)?;
-    let faces = number_faces(alloc, &names, &directory, classes)?;
     let parts = number_parts(alloc, &names, &directory, classes)?;
     Ok(WireRelease { faces, parts })
 }

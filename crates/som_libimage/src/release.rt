@@ -169,7 +169,7 @@ fn append_parts(alloc: Global, out: &mut List<u8>, parts: &List<WirePart>) -> Re
     Ok(())
 }
 
-/// The library image that has a release.
+/// The library image of a release with numbers.
 pub(crate) fn write_release(alloc: Global, wire: &WireRelease) -> Result<List<u8>, NoMemory>
     requires { FitsRelease wire.now }
     ensures { IfOk result (λ image. image ≡ spelling.library wire.now) }

@@ -1,4 +1,4 @@
-use Rattle.std.proofs.Common.{sym, ap, ◌∙◌}
+use Rattle.std.proofs.Common.{ap, ◌∙◌}
 use Rattle.som_model.specs.Lists.{among}
 use Rattle.som_order.specs.Names.{texts}
 use Rattle.som_libimage.proofs.Numbering.{name_there, found_there, not_derived, not_proxy}
