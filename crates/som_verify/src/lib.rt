@@ -20,6 +20,8 @@ mod parents;
 mod pass;
 mod printing;
 mod program;
+#[cfg(test)]
+mod program_cases;
 mod release;
 mod signatures;
 mod table;
