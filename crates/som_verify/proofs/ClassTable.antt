@@ -10,54 +10,55 @@ use Rattle.som_model.specs.Class.{Class}
 use Rattle.som_model.specs.Kernel.{kernel}
 use Rattle.som_model.specs.Rules.{Breach, breach, name_of, s1}
 use Rattle.som_model.specs.Conforming.{each_after}
-use Rattle.som_model.specs.declared.class.ClassDecl.{ClassDecl}
 use Rattle.som_model.proofs.KeyLaws.{exact_bytes}
 use Rattle.som_order.specs.Names.{name_at}
-use Rattle.som_verify.specs.Told.{of_library, of_release}
-use Rattle.som_verify.specs.Places.{all_classes, AreOnce, IsTable}
+use Rattle.som_verify.specs.declared.types.Declared.{Declared}
+use Rattle.som_verify.specs.Modules.{class_of, classes_of, AreDeclared}
+use Rattle.som_verify.specs.Places.{with_kernel, AreOnce, IsTable}
+use Rattle.som_verify.proofs.DeclaredClasses.{long_map, item_of, are_declared}
 use Rattle.som_verify.proofs.Passes.{first_both}
 
 -- the classes before those at place i, and what a rule says from there on
-abbrev pub front : List Class → List ClassDecl → ℕ → List Class
-front k ds i = k ++ of_release (take i ds)
+abbrev pub front : List Class → List Class → ℕ → List Class
+front k cs i = k ++ take i cs
 
-last_front : (ds : List ClassDecl) (i : ℕ) (d : ClassDecl) → i < length ds → of_release (take (i + 1) ds) ≡ of_release (take i ds) ++ of_library (slice_index_or ds i d) ∷ []
-last_front [] i d lt = absurd (omega arith)
-last_front (x ∷ ds) zero d lt = refl
-last_front (x ∷ ds) (suc i) d lt = let e : suc i + 1 ≡ suc (i + 1) = omega arith in rw e (ap (λ z. of_library x ∷ z) (last_front ds i d (omega arith)))
+last_front : (cs : List Class) (i : ℕ) (c : Class) → i < length cs → take (i + 1) cs ≡ take i cs ++ slice_index_or cs i c ∷ []
+last_front [] i c lt = absurd (omega arith)
+last_front (x ∷ cs) zero c lt = refl
+last_front (x ∷ cs) (suc i) c lt = let e : suc i + 1 ≡ suc (i + 1) = omega arith in rw e (ap (λ z. x ∷ z) (last_front cs i c (omega arith)))
 
-pub front_more : (k : List Class) (ds : List ClassDecl) (i : ℕ) (d : ClassDecl) → i < length ds → front k ds (i + 1) ≡ front k ds i ++ of_library (slice_index_or ds i d) ∷ []
-front_more k ds i d lt = ap (λ z. k ++ z) (last_front ds i d lt) ∙ sym (append_assoc k (of_release (take i ds)) (of_library (slice_index_or ds i d) ∷ []))
+pub front_more : (k : List Class) (cs : List Class) (i : ℕ) (c : Class) → i < length cs → front k cs (i + 1) ≡ front k cs i ++ slice_index_or cs i c ∷ []
+front_more k cs i c lt = ap (λ z. k ++ z) (last_front cs i c lt) ∙ sym (append_assoc k (take i cs) (slice_index_or cs i c ∷ []))
 
-after_at : (rule : List Class → Class → List Breach) (before : List Class) (ds : List ClassDecl) (i : ℕ) (d : ClassDecl) → i < length ds
-    → each_after rule before (of_release (drop i ds)) ≡ rule before (of_library (slice_index_or ds i d)) ++ each_after rule (before ++ of_library (slice_index_or ds i d) ∷ []) (of_release (drop (i + 1) ds))
-after_at rule before [] i d lt = absurd (omega arith)
-after_at rule before (x ∷ ds) zero d lt = refl
-after_at rule before (x ∷ ds) (suc i) d lt = let e : suc i + 1 ≡ suc (i + 1) = omega arith in rw e (after_at rule before ds i d (omega arith))
+after_at : (rule : List Class → Class → List Breach) (before : List Class) (cs : List Class) (i : ℕ) (c : Class) → i < length cs
+    → each_after rule before (drop i cs) ≡ rule before (slice_index_or cs i c) ++ each_after rule (before ++ slice_index_or cs i c ∷ []) (drop (i + 1) cs)
+after_at rule before [] i c lt = absurd (omega arith)
+after_at rule before (x ∷ cs) zero c lt = refl
+after_at rule before (x ∷ cs) (suc i) c lt = let e : suc i + 1 ≡ suc (i + 1) = omega arith in rw e (after_at rule before cs i c (omega arith))
 
 -- one class more
-pub after_more : (rule : List Class → Class → List Breach) (k : List Class) (ds : List ClassDecl) (i : ℕ) (d : ClassDecl) → i < length ds
-    → first (each_after rule (front k ds i) (of_release (drop i ds))) ≡ or_else (first (rule (front k ds i) (of_library (slice_index_or ds i d)))) (first (each_after rule (front k ds (i + 1)) (of_release (drop (i + 1) ds))))
-after_more rule k ds i d lt =
-    ap first (after_at rule (front k ds i) ds i d lt)
-    ∙ first_both (rule (front k ds i) (of_library (slice_index_or ds i d))) _
-    ∙ ap (λ z. or_else (first (rule (front k ds i) (of_library (slice_index_or ds i d)))) (first (each_after rule z (of_release (drop (i + 1) ds))))) (sym (front_more k ds i d lt))
+pub after_more : (rule : List Class → Class → List Breach) (k : List Class) (cs : List Class) (i : ℕ) (c : Class) → i < length cs
+    → first (each_after rule (front k cs i) (drop i cs)) ≡ or_else (first (rule (front k cs i) (slice_index_or cs i c))) (first (each_after rule (front k cs (i + 1)) (drop (i + 1) cs)))
+after_more rule k cs i c lt =
+    ap first (after_at rule (front k cs i) cs i c lt)
+    ∙ first_both (rule (front k cs i) (slice_index_or cs i c)) _
+    ∙ ap (λ z. or_else (first (rule (front k cs i) (slice_index_or cs i c))) (first (each_after rule z (drop (i + 1) cs)))) (sym (front_more k cs i c lt))
 
 map_append : {A B : Type 0} (f : A → B) (xs ys : List A) → map f (xs ++ ys) ≡ map f xs ++ map f ys
 map_append f [] ys = refl
 map_append f (x ∷ xs) ys = ap (λ z. f x ∷ z) (map_append f xs ys)
 
-names_more : (k : List Class) (ds : List ClassDecl) (i : ℕ) (d : ClassDecl) → i < length ds → map name_of (front k ds (i + 1)) ≡ map name_of (front k ds i) ++ (slice_index_or ds i d).face.name ∷ []
-names_more k ds i d lt = ap (map name_of) (front_more k ds i d lt) ∙ map_append name_of (front k ds i) (of_library (slice_index_or ds i d) ∷ [])
+names_more : (k : List Class) (cs : List Class) (i : ℕ) (c : Class) → i < length cs → map name_of (front k cs (i + 1)) ≡ map name_of (front k cs i) ++ (slice_index_or cs i c).decl.face.name ∷ []
+names_more k cs i c lt = ap (map name_of) (front_more k cs i c lt) ∙ map_append name_of (front k cs i) (slice_index_or cs i c ∷ [])
 
-pub record NamesSoFar (k : List Class) (ds : List ClassDecl) (i : ℕ) (names : List (List ℕ)) : Type 0 where
-  pub are : names ≡ map name_of (front k ds i)
-  pub same : first (each_after s1 (front k ds i) (of_release (drop i ds))) ≡ first (each_after s1 k (of_release ds))
+pub record NamesSoFar (k : List Class) (cs : List Class) (i : ℕ) (names : List (List ℕ)) : Type 0 where
+  pub are : names ≡ map name_of (front k cs i)
+  pub same : first (each_after s1 (front k cs i) (drop i cs)) ≡ first (each_after s1 k cs)
 
-fresh_by : (k : List Class) (ds : List ClassDecl) (i : ℕ) (c : ClassDecl) (b : Bool) → among c.face.name (map name_of (front k ds i)) ≡ b → b ≡ false → s1 (front k ds i) (of_library c) ≡ []
-fresh_by k ds i c b e f = let g = e ∙ f in rw g refl
+fresh_by : (k : List Class) (cs : List Class) (i : ℕ) (c : Class) (b : Bool) → among c.decl.face.name (map name_of (front k cs i)) ≡ b → b ≡ false → s1 (front k cs i) c ≡ []
+fresh_by k cs i c b e f = let g = e ∙ f in rw g refl
 
-taken : (before : List Class) (c : ClassDecl) → among c.face.name (map name_of before) ≡ true → s1 before (of_library c) ≡ breach 1 (of_library c) (codes "-") ∷ []
+taken : (before : List Class) (c : Class) → among c.decl.face.name (map name_of before) ≡ true → s1 before c ≡ breach 1 c (codes "-") ∷ []
 taken before c e = rw e refl
 
 if_new : (b a : Bool) (before seen : List (List ℕ)) (x : List ℕ) → b ≡ true → b ≡ not a → seen ≡ (if b then before ++ x ∷ [] else before) → (a ≡ false) × (seen ≡ before ++ x ∷ [])
@@ -65,16 +66,16 @@ if_new true true before seen x t e g = cc
 if_new true false before seen x t e g = (refl, g)
 if_new false a before seen x t e g = cc
 
-pub names_next : (k : List Class) (ds : List ClassDecl) (i : ℕ) (names seen : List (List ℕ)) (c : ClassDecl) (is_new : Bool) → i < length ds → c ≡ slice_index_or ds i c
-    → is_new ≡ true → is_new ≡ not (among c.face.name names) → seen ≡ (if is_new then names ++ c.face.name ∷ [] else names) → NamesSoFar k ds i names → NamesSoFar k ds (i + 1) seen
-names_next k ds i names seen c is_new lt is yes_ new kept so =
-    let r = if_new is_new (among c.face.name names) names seen c.face.name yes_ new kept in
+next_name : (k : List Class) (cs : List Class) (i : ℕ) (names seen : List (List ℕ)) (c : Class) (is_new : Bool) → i < length cs → c ≡ slice_index_or cs i c
+    → is_new ≡ true → is_new ≡ not (among c.decl.face.name names) → seen ≡ (if is_new then names ++ c.decl.face.name ∷ [] else names) → NamesSoFar k cs i names → NamesSoFar k cs (i + 1) seen
+next_name k cs i names seen c is_new lt is yes_ new kept so =
+    let r = if_new is_new (among c.decl.face.name names) names seen c.decl.face.name yes_ new kept in
     record {
-      are = r.1 ∙ ap (λ z. z ++ c.face.name ∷ []) so.are ∙ ap (λ (z : ClassDecl). map name_of (front k ds i) ++ z.face.name ∷ []) is ∙ sym (names_more k ds i c lt);
+      are = r.1 ∙ ap (λ z. z ++ c.decl.face.name ∷ []) so.are ∙ ap (λ (z : Class). map name_of (front k cs i) ++ z.decl.face.name ∷ []) is ∙ sym (names_more k cs i c lt);
       same = sym (
-          after_more s1 k ds i c lt
-          ∙ ap (λ (z : ClassDecl). or_else (first (s1 (front k ds i) (of_library z))) (first (each_after s1 (front k ds (i + 1)) (of_release (drop (i + 1) ds))))) (sym is)
-          ∙ ap (λ z. or_else (first z) (first (each_after s1 (front k ds (i + 1)) (of_release (drop (i + 1) ds))))) (fresh_by k ds i c (among c.face.name names) (ap (among c.face.name) (sym so.are)) r.0)
+          after_more s1 k cs i c lt
+          ∙ ap (λ (z : Class). or_else (first (s1 (front k cs i) z)) (first (each_after s1 (front k cs (i + 1)) (drop (i + 1) cs)))) (sym is)
+          ∙ ap (λ z. or_else (first z) (first (each_after s1 (front k cs (i + 1)) (drop (i + 1) cs)))) (fresh_by k cs i c (among c.decl.face.name names) (ap (among c.decl.face.name) (sym so.are)) r.0)
           ) ∙ so.same;
     }
 
@@ -83,12 +84,12 @@ is_old true a f e = cc
 is_old false true f e = refl
 is_old false false f e = cc
 
-pub names_stop : (k : List Class) (ds : List ClassDecl) (i : ℕ) (names : List (List ℕ)) (c : ClassDecl) (is_new : Bool) → i < length ds → c ≡ slice_index_or ds i c
-    → is_new ≡ false → is_new ≡ not (among c.face.name names) → NamesSoFar k ds i names → first (each_after s1 k (of_release ds)) ≡ Some (breach 1 (of_library c) (codes "-"))
-names_stop k ds i names c is_new lt is no_ new so =
-    sym so.same ∙ after_more s1 k ds i c lt
-    ∙ ap (λ (z : ClassDecl). or_else (first (s1 (front k ds i) (of_library z))) (first (each_after s1 (front k ds (i + 1)) (of_release (drop (i + 1) ds))))) (sym is)
-    ∙ ap (λ z. or_else (first z) (first (each_after s1 (front k ds (i + 1)) (of_release (drop (i + 1) ds))))) (taken (front k ds i) c (ap (among c.face.name) (sym so.are) ∙ is_old is_new (among c.face.name names) no_ new))
+old_name : (k : List Class) (cs : List Class) (i : ℕ) (names : List (List ℕ)) (c : Class) (is_new : Bool) → i < length cs → c ≡ slice_index_or cs i c
+    → is_new ≡ false → is_new ≡ not (among c.decl.face.name names) → NamesSoFar k cs i names → first (each_after s1 k cs) ≡ Some (breach 1 c (codes "-"))
+old_name k cs i names c is_new lt is no_ new so =
+    sym so.same ∙ after_more s1 k cs i c lt
+    ∙ ap (λ (z : Class). or_else (first (s1 (front k cs i) z)) (first (each_after s1 (front k cs (i + 1)) (drop (i + 1) cs)))) (sym is)
+    ∙ ap (λ z. or_else (first z) (first (each_after s1 (front k cs (i + 1)) (drop (i + 1) cs)))) (taken (front k cs i) c (ap (among c.decl.face.name) (sym so.are) ∙ is_old is_new (among c.decl.face.name names) no_ new))
 
 -- names that differ
 
@@ -133,8 +134,8 @@ once_after before (c ∷ cs) once e =
 kernel_once : AreOnce (map name_of kernel)
 kernel_once = once_after [] kernel (record { by = λ i j li lj e. absurd (omega arith) }) refl
 
-pub is_table : (ds : List ClassDecl) (names : List (List ℕ)) → names ≡ map name_of (all_classes ds) → first (each_after s1 kernel (of_release ds)) ≡ None → IsTable ds names
-is_table ds names e f = record { are = e; once = subst AreOnce (sym e) (once_after kernel (of_release ds) kernel_once f) }
+pub is_table : (cs : List Class) (names : List (List ℕ)) → AreDeclared cs → names ≡ map name_of (with_kernel cs) → first (each_after s1 kernel cs) ≡ None → IsTable cs names
+is_table cs names o e f = record { are = e; once = subst AreOnce (sym e) (once_after kernel cs kernel_once f); declared = o }
 
 drop_end : {A : Type 0} (xs : List A) (i : ℕ) → length xs ≤ i → drop i xs ≡ []
 drop_end [] zero le = refl
@@ -148,8 +149,27 @@ take_end [] (suc i) le = refl
 take_end (x ∷ xs) zero le = absurd (omega arith)
 take_end (x ∷ xs) (suc i) le = ap (λ z. x ∷ z) (take_end xs i (omega arith))
 
+-- the same of declared classes
+
+pub names_next : (k : List Class) (ds : List Declared) (i : ℕ) (names seen : List (List ℕ)) (d : Declared) (is_new : Bool) → i < length ds → d ≡ slice_index_or ds i d
+    → is_new ≡ true → is_new ≡ not (among d.decl.now.face.name names) → seen ≡ (if is_new then names ++ d.decl.now.face.name ∷ [] else names)
+    → NamesSoFar k (classes_of ds) i names → NamesSoFar k (classes_of ds) (i + 1) seen
+names_next k ds i names seen d is_new lt is yes_ new kept so =
+    next_name k (classes_of ds) i names seen (class_of d) is_new (omega (arith, long_map class_of ds)) (ap class_of is ∙ item_of ds i d lt) yes_ new kept so
+
+pub names_stop : (k : List Class) (ds : List Declared) (i : ℕ) (names : List (List ℕ)) (d : Declared) (is_new : Bool) → i < length ds → d ≡ slice_index_or ds i d
+    → is_new ≡ false → is_new ≡ not (among d.decl.now.face.name names) → NamesSoFar k (classes_of ds) i names → first (each_after s1 k (classes_of ds)) ≡ Some (breach 1 (class_of d) (codes "-"))
+names_stop k ds i names d is_new lt is no_ new so =
+    old_name k (classes_of ds) i names (class_of d) is_new (omega (arith, long_map class_of ds)) (ap class_of is ∙ item_of ds i d lt) no_ new so
+
 -- the table, where all classes have been noted
-pub names_end : (ds : List ClassDecl) (i : ℕ) (names : List (List ℕ)) → length ds ≤ i → NamesSoFar kernel ds i names → IsTable ds names
+pub names_end : (ds : List Declared) (i : ℕ) (names : List (List ℕ)) → length ds ≤ i → NamesSoFar kernel (classes_of ds) i names → IsTable (classes_of ds) names
 names_end ds i names le so =
-    is_table ds names (so.are ∙ ap (λ z. map name_of (kernel ++ of_release z)) (take_end ds i le))
-    (sym so.same ∙ ap (λ z. first (each_after s1 (front kernel ds i) (of_release z))) (drop_end ds i le))
+    let cs = classes_of ds in
+    let past : length cs ≤ i = omega (arith, long_map class_of ds) in
+    is_table cs names (are_declared ds) (so.are ∙ ap (λ z. map name_of (kernel ++ z)) (take_end cs i past))
+    (sym so.same ∙ ap (λ z. first (each_after s1 (front kernel cs i) z)) (drop_end cs i past))
+
+-- no name stands twice
+pub names_told : (ds : List Declared) (i : ℕ) (names : List (List ℕ)) → length ds ≤ i → NamesSoFar kernel (classes_of ds) i names → first (each_after s1 kernel (classes_of ds)) ≡ None
+names_told ds i names le so = sym so.same ∙ ap (λ z. first (each_after s1 (front kernel (classes_of ds) i) z)) (drop_end (classes_of ds) i (omega (arith, long_map class_of ds)))

@@ -10,17 +10,18 @@ use Rattle.som_model.specs.Rules.{s5, s14}
 use Rattle.som_model.specs.Typing.{a_text, IsTyped, prints_text, AreTyped, no_more, and_then}
 use Rattle.som_model.specs.declared.syntax.Stmt.{Stmt}
 use Rattle.som_model.specs.declared.syntax.Expr.TheVariants as exprs
-use Rattle.som_model.specs.declared.class.ClassDecl.{ClassDecl}
 use Rattle.som_model.specs.declared.program.Release.{Release}
 use Rattle.som_verify.specs.declared.types.Broken.{Broken}
 use Rattle.som_verify.specs.declared.types.VerifyFault.{VerifyFault}
 use Rattle.som_verify.specs.declared.types.VerifyFault.TheVariants as faults
-use Rattle.som_verify.specs.Faces.{faces_breach}
+use Rattle.som_verify.specs.Faces.{classes_breach, faces_breach}
 use Rattle.som_verify.specs.Printing.{PrintsText, PrintTexts}
-use Rattle.som_verify.specs.Told.{Tells, of_release}
+use Rattle.som_verify.specs.Told.{Tells}
+use Rattle.som_verify.specs.declared.types.Declared.{Declared}
+use Rattle.som_verify.specs.Modules.{classes_of}
 use Rattle.som_verify.proofs.Passes.{tells_first}
 
-regrouped : {A : Type 0} (a b c d : Option A) → or_else (or_else a (or_else b c)) d ≡ or_else a (or_else b (or_else c d))
+pub regrouped : {A : Type 0} (a b c d : Option A) → or_else (or_else a (or_else b c)) d ≡ or_else a (or_else b (or_else c d))
 regrouped (Some x) b c d = refl
 regrouped None (Some x) c d = refl
 regrouped None None c d = refl
@@ -30,19 +31,22 @@ faces_first r =
     let cs = library_classes r in
     regrouped (first_of_names kernel cs) (first (flat_map (s5 (kernel ++ cs)) cs)) (first_of_members kernel cs) (first (flat_map s14 cs))
 
--- a breach of the faces is the release's
-pub faces_tell : (r : Release) (ds : List ClassDecl) (e : VerifyFault) → ds ≡ r.classes → Tells {A = Unit {0}} (faces_breach (of_release ds)) (Err e) → Tells {A = Unit {0}} (release_breach r) (Err e)
-faces_tell r ds e same t =
-    tells_first (faces_breach (library_classes r)) (first (flat_map s14 (library_classes r))) (release_breach r) e
-    (subst (λ (z : List ClassDecl). Tells {A = Unit {0}} (faces_breach (of_release z)) (Err e)) same t) (faces_first r)
+-- a breach of the classes is that of the faces
+pub faces_tell : (cs : List Class) (ds : List Declared) (result : Result (Unit {0}) VerifyFault) → classes_of ds ≡ cs → Tells (classes_breach 0 (classes_of ds)) result → Tells (faces_breach cs) result
+faces_tell cs ds result same t = subst (λ (z : List Class). Tells (faces_breach z) result) same t
 
--- where the faces have none, a breach of the bodies is the release's
-pub bodies_tell : (r : Release) (ds : List ClassDecl) (result : Result (Unit {0}) VerifyFault) → ds ≡ r.classes → faces_breach (of_release ds) ≡ None
-    → Tells (first (flat_map s14 (of_release ds))) result → Tells (release_breach r) result
+-- and the release's
+pub release_tells : (r : Release) (ds : List Declared) (e : VerifyFault) → classes_of ds ≡ library_classes r → Tells {A = Unit {0}} (classes_breach 0 (classes_of ds)) (Err e) → Tells {A = Unit {0}} (release_breach r) (Err e)
+release_tells r ds e same t =
+    tells_first (faces_breach (library_classes r)) (first (flat_map s14 (library_classes r))) (release_breach r) e (faces_tell (library_classes r) ds (Err e) same t) (faces_first r)
+
+-- where the classes have none, a breach of the bodies is the release's
+pub bodies_tell : (r : Release) (ds : List Declared) (result : Result (Unit {0}) VerifyFault) → classes_of ds ≡ library_classes r → classes_breach 0 (classes_of ds) ≡ None
+    → Tells (first (flat_map s14 (classes_of ds))) result → Tells (release_breach r) result
 bodies_tell r ds result same none t =
-    let faces : faces_breach (library_classes r) ≡ None = ap (λ z. faces_breach (of_release z)) (sym same) ∙ none in
+    let faces : faces_breach (library_classes r) ≡ None = ap faces_breach (sym same) ∙ none in
     subst (λ o. Tells o result)
-    (ap (λ z. first (flat_map s14 (of_release z))) same ∙ sym (ap (λ o. or_else o (first (flat_map s14 (library_classes r)))) faces) ∙ faces_first r) t
+    (ap (λ z. first (flat_map s14 z)) same ∙ sym (ap (λ o. or_else o (first (flat_map s14 (library_classes r)))) faces) ∙ faces_first r) t
 
 all_typed : (known : List Class) (ss : List Stmt) → ((s : Stmt) → Mem s ss → PrintsText s) → AreTyped known ss
 all_typed known [] f = no_more

@@ -8,13 +8,10 @@ use Rattle.som_model.specs.Classes.{class_at, hierarchy, height_step, greatest, 
 use Rattle.som_model.specs.declared.key.ClassKey.{ClassKey, out-ClassKey, roll-ClassKey, roll-out-ClassKey, fold-roll-ClassKey}
 use Rattle.som_model.specs.declared.key.ClassKey.TheOpen.{ClassKey-F}
 use Rattle.som_model.specs.declared.class.ClassFace.{ClassFace}
-use Rattle.som_model.specs.declared.class.ClassDecl.{ClassDecl}
 use Rattle.som_model.proofs.NamedLaws.{hierarchy_parents}
-use Rattle.som_verify.specs.Told.{of_library, of_release}
-use Rattle.som_verify.specs.Places.{all_classes, class_of_place, key_at, face_at, IsTable}
+use Rattle.som_verify.specs.Places.{with_kernel, class_of_place, key_at, face_at, IsTable}
 use Rattle.som_verify.specs.Standing.{kernel_rows}
-use Rattle.som_verify.specs.Plainly.{IsAmong, ParentsStand}
-use Rattle.som_verify.proofs.Finding.{long_map}
+use Rattle.som_verify.specs.Plainly.{IsAmong, ParentsBefore}
 use Rattle.som_verify.proofs.KeyLists.{class_there, height_there}
 use Rattle.som_verify.proofs.Rows.{kernel_low, kernel_by, take_front}
 use Rattle.som_verify.proofs.PlainLists.{mem_map, map_mem}
@@ -53,52 +50,52 @@ height_proxy : (cs : List Class) (k : ClassKey) → (hierarchy cs).height (roll-
 unfolding hierarchy
 height_proxy cs k = fold-roll-ClassKey ℕ (height_step cs) (ClassKey-F.Proxy k)
 
-at_place : (ds : List ClassDecl) (i : ℕ) → i < length ds → (d : ClassDecl) × (slice_get ds i ≡ Some d) × (face_at (of_release ds) i ≡ d.face)
+at_place : (cs : List Class) (i : ℕ) → i < length cs → (c : Class) × (slice_get cs i ≡ Some c) × (face_at cs i ≡ c.decl.face)
 at_place [] i lt = absurd (omega arith)
-at_place (d ∷ ds) zero lt = (d, refl, refl)
-at_place (d ∷ ds) (suc i) lt = at_place ds i (omega arith)
+at_place (c ∷ cs) zero lt = (c, refl, refl)
+at_place (c ∷ cs) (suc i) lt = at_place cs i (omega arith)
 
-module _ (ds : List ClassDecl) (names : List (List ℕ)) (t : IsTable ds names) (rule : ParentsStand ds) where
-  past_kernel : (i : ℕ) (p : ClassKey) → i < length ds → Mem p (face_at (of_release ds) i).parents → (j : ℕ) × (j < suc (suc (suc (suc i)))) × (key_at (all_classes ds) j ≡ p)
+module _ (cs : List Class) (names : List (List ℕ)) (t : IsTable cs names) (rule : ParentsBefore cs) where
+  past_kernel : (i : ℕ) (p : ClassKey) → i < length cs → Mem p (face_at cs i).parents → (j : ℕ) × (j < suc (suc (suc (suc i)))) × (key_at (with_kernel cs) j ≡ p)
   past_kernel i p lt m =
-      let r = at_place ds i lt in
+      let r = at_place cs i lt in
       let own = rule.parents i r.0 p r.1 (subst (λ (f : ClassFace). Mem p f.parents) r.2 m) in
-      among_first (all_classes ds) (suc (suc (suc (suc i)))) p (subst (λ (z : List Class). IsAmong z p) (sym (take_front ds i)) own)
+      among_first (with_kernel cs) (suc (suc (suc (suc i)))) p (subst (λ (z : List Class). IsAmong z p) (sym (take_front cs i)) own)
 
   -- a parent of the class at a place stands before it
-  parent_there : (i : ℕ) (p : ClassKey) → i < length (all_classes ds) → Mem p (face_at (all_classes ds) i).parents → (j : ℕ) × (j < i) × (key_at (all_classes ds) j ≡ p)
+  parent_there : (i : ℕ) (p : ClassKey) → i < length (with_kernel cs) → Mem p (face_at (with_kernel cs) i).parents → (j : ℕ) × (j < i) × (key_at (with_kernel cs) j ≡ p)
   parent_there i p lt m = elim (cases_lt i 4) [
-    | inl low ↦ (let r = map_mem (key_at (all_classes ds)) p (slice_index_or kernel_rows i []) (subst (λ z. Mem p z) (sym (kernel_by ds i low)) m) in (r.0, kernel_low i r.0 r.1, sym r.2))
+    | inl low ↦ (let r = map_mem (key_at (with_kernel cs)) p (slice_index_or kernel_rows i []) (subst (λ z. Mem p z) (sym (kernel_by cs i low)) m) in (r.0, kernel_low i r.0 r.1, sym r.2))
     | inr high ↦ (let e : suc (suc (suc (suc (i - 4)))) ≡ i = omega arith in
-        let within : i - 4 < length ds = omega (arith, long_map of_library ds) in
-        subst (λ (z : ℕ). (j : ℕ) × (j < z) × (key_at (all_classes ds) j ≡ p)) e
-        (past_kernel (i - 4) p within (subst (λ (z : ℕ). Mem p (face_at (all_classes ds) z).parents) (sym e) m)))
+        let within : i - 4 < length cs = omega arith in
+        subst (λ (z : ℕ). (j : ℕ) × (j < z) × (key_at (with_kernel cs) j ≡ p)) e
+        (past_kernel (i - 4) p within (subst (λ (z : ℕ). Mem p (face_at (with_kernel cs) z).parents) (sym e) m)))
   ]
 
-  named_falls : (x p : ClassKey) (o : Option Class) → class_at (all_classes ds) x ≡ o → Mem p (parents_in o) → (hierarchy (all_classes ds)).height p < (hierarchy (all_classes ds)).height x
+  named_falls : (x p : ClassKey) (o : Option Class) → class_at (with_kernel cs) x ≡ o → Mem p (parents_in o) → (hierarchy (with_kernel cs)).height p < (hierarchy (with_kernel cs)).height x
   named_falls x p None e m = absurd m
   named_falls x p (Some c) e m =
-      let cs = all_classes ds in
-      let a = known_among cs x (ap is_some e) in
-      let r = mem_there cs a.class a.there in
-      let key : key_at cs r.0 ≡ x = ap (λ (z : Class). z.key) r.2 ∙ a.named in
-      let face : parents_in (Some c) ≡ (face_at cs r.0).parents = ap parents_in (sym e ∙ ap (class_at cs) (sym key) ∙ class_there ds names t r.0 r.1) in
+      let all = with_kernel cs in
+      let a = known_among all x (ap is_some e) in
+      let r = mem_there all a.class a.there in
+      let key : key_at all r.0 ≡ x = ap (λ (z : Class). z.key) r.2 ∙ a.named in
+      let face : parents_in (Some c) ≡ (face_at all r.0).parents = ap parents_in (sym e ∙ ap (class_at all) (sym key) ∙ class_there cs names t r.0 r.1) in
       let s = parent_there r.0 p r.1 (subst (λ z. Mem p z) face m) in
-      let below : s.0 < length cs = omega (arith, s.1, r.1) in
-      omega (arith, s.1, height_there ds names t s.0 below ∙ ap (hierarchy cs).height s.2, height_there ds names t r.0 r.1 ∙ ap (hierarchy cs).height key)
+      let below : s.0 < length all = omega (arith, s.1, r.1) in
+      omega (arith, s.1, height_there cs names t s.0 below ∙ ap (hierarchy all).height s.2, height_there cs names t r.0 r.1 ∙ ap (hierarchy all).height key)
 
-  layer_falls : (x p : ClassKey) (l : ClassKey-F ClassKey) → out-ClassKey x ≡ l → Mem p (parents_by (all_classes ds) l x) → (hierarchy (all_classes ds)).height p < (hierarchy (all_classes ds)).height x
-  layer_falls x p (ClassKey-F.Named m n) e k = named_falls x p (class_at (all_classes ds) x) refl k
+  layer_falls : (x p : ClassKey) (l : ClassKey-F ClassKey) → out-ClassKey x ≡ l → Mem p (parents_by (with_kernel cs) l x) → (hierarchy (with_kernel cs)).height p < (hierarchy (with_kernel cs)).height x
+  layer_falls x p (ClassKey-F.Named m n) e k = named_falls x p (class_at (with_kernel cs) x) refl k
   layer_falls x p (ClassKey-F.Derived ks) e k =
-      let h = (hierarchy (all_classes ds)).height in
-      let high = ap h (sym (roll-out-ClassKey x) ∙ ap roll-ClassKey e) ∙ height_derived (all_classes ds) ks in
+      let h = (hierarchy (with_kernel cs)).height in
+      let high = ap h (sym (roll-out-ClassKey x) ∙ ap roll-ClassKey e) ∙ height_derived (with_kernel cs) ks in
       omega (arith, high, greatest_mem (map h ks) (h p) (mem_map h p ks k))
   layer_falls x p (ClassKey-F.Proxy of) e (inl is) =
-      let h = (hierarchy (all_classes ds)).height in
-      let high = ap h (sym (roll-out-ClassKey x) ∙ ap roll-ClassKey e) ∙ height_proxy (all_classes ds) of in
+      let h = (hierarchy (with_kernel cs)).height in
+      let high = ap h (sym (roll-out-ClassKey x) ∙ ap roll-ClassKey e) ∙ height_proxy (with_kernel cs) of in
       omega (arith, high, ap h is)
   layer_falls x p (ClassKey-F.Proxy of) e (inr k) = absurd k
 
   -- each parent stands lower
-  pub falls : Falls (hierarchy (all_classes ds))
-  falls x p m = layer_falls x p (out-ClassKey x) refl (subst (λ z. Mem p z) (hierarchy_parents (all_classes ds) x) m)
+  pub falls : Falls (hierarchy (with_kernel cs))
+  falls x p m = layer_falls x p (out-ClassKey x) refl (subst (λ z. Mem p z) (hierarchy_parents (with_kernel cs) x) m)

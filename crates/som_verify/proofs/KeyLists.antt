@@ -9,11 +9,10 @@ use Rattle.som_model.specs.Class.{Class}
 use Rattle.som_model.specs.Classes.{hierarchy, class_at, place_of, parents_of, parents_in}
 use Rattle.som_model.specs.Rules.{name_of}
 use Rattle.som_model.specs.declared.key.ClassKey.{ClassKey}
-use Rattle.som_model.specs.declared.class.ClassDecl.{ClassDecl}
 use Rattle.som_model.proofs.KeyLaws.{exact_keys}
 use Rattle.som_model.proofs.NamedLaws.{height_named, hierarchy_parents, hierarchy_same, parents_named}
 use Rattle.som_order.specs.Names.{name_at}
-use Rattle.som_verify.specs.Places.{all_classes, class_of_place, key_at, face_at, module_at, IsTable, IsRows}
+use Rattle.som_verify.specs.Places.{with_kernel, class_of_place, key_at, face_at, module_at, IsTable, IsRows}
 use Rattle.som_verify.specs.Walk.{rows_of, AreAncestors, AreLists}
 use Rattle.som_verify.proofs.Finding.{key_named, named_there}
 use Rattle.som_verify.proofs.Numbering.{numbered}
@@ -41,51 +40,51 @@ alike cs once a b la lb false false e f = refl
 alike cs once a b la lb true false e f = absurd (true≢false (sym (exact_keys.one (key_at cs a)) ∙ ap (λ z. same_key (key_at cs a) (key_at cs z)) (eqb-true a b e) ∙ f))
 alike cs once a b la lb false true e f = absurd (eqb-false a b e (once a b la lb (exact_keys.two _ _ f)))
 
-module _ (ds : List ClassDecl) (names : List (List ℕ)) (t : IsTable ds names) where
+module _ (cs : List Class) (names : List (List ℕ)) (t : IsTable cs names) where
   -- no key stands twice
-  pub keys_once : (i j : ℕ) → i < length (all_classes ds) → j < length (all_classes ds) → key_at (all_classes ds) i ≡ key_at (all_classes ds) j → i ≡ j
+  pub keys_once : (i j : ℕ) → i < length (with_kernel cs) → j < length (with_kernel cs) → key_at (with_kernel cs) i ≡ key_at (with_kernel cs) j → i ≡ j
   keys_once i j li lj e =
-      let all = map name_of (all_classes ds) in
-      let r = named_there ds names t (module_at j) (name_at all j) i li (e ∙ key_named ds j lj) in
-      let s = named_there ds names t (module_at j) (name_at all j) j lj (key_named ds j lj) in
+      let all = map name_of (with_kernel cs) in
+      let r = named_there cs names t (module_at (with_kernel cs) j) (name_at all j) i li (e ∙ key_named cs t.declared j lj) in
+      let s = named_there cs names t (module_at (with_kernel cs) j) (name_at all j) j lj (key_named cs t.declared j lj) in
       t.once.by i j r.0 s.0 (r.2 ∙ sym s.2)
 
-  earlier : (a : ℕ) → a < length (all_classes ds) → (j : ℕ) → j < a → same_key (key_at (all_classes ds) j) (key_at (all_classes ds) a) ≡ false
-  earlier a lt j l = differ (same_key (key_at (all_classes ds) j) (key_at (all_classes ds) a)) refl
+  earlier : (a : ℕ) → a < length (with_kernel cs) → (j : ℕ) → j < a → same_key (key_at (with_kernel cs) j) (key_at (with_kernel cs) a) ≡ false
+  earlier a lt j l = differ (same_key (key_at (with_kernel cs) j) (key_at (with_kernel cs) a)) refl
     where
-      differ : (b : Bool) → same_key (key_at (all_classes ds) j) (key_at (all_classes ds) a) ≡ b → b ≡ false
+      differ : (b : Bool) → same_key (key_at (with_kernel cs) j) (key_at (with_kernel cs) a) ≡ b → b ≡ false
       differ true e = absurd (let same = keys_once j a (omega arith) lt (exact_keys.two _ _ e) in omega (arith, same, l))
       differ false e = refl
 
   -- the class of the key at a place
-  pub class_there : (a : ℕ) → a < length (all_classes ds) → class_at (all_classes ds) (key_at (all_classes ds) a) ≡ Some (class_of_place (all_classes ds) a)
-  class_there a lt = class_first (all_classes ds) (key_at (all_classes ds) a) a lt (earlier a lt) (exact_keys.one (key_at (all_classes ds) a))
+  pub class_there : (a : ℕ) → a < length (with_kernel cs) → class_at (with_kernel cs) (key_at (with_kernel cs) a) ≡ Some (class_of_place (with_kernel cs) a)
+  class_there a lt = class_first (with_kernel cs) (key_at (with_kernel cs) a) a lt (earlier a lt) (exact_keys.one (key_at (with_kernel cs) a))
 
-  place_there : (a : ℕ) → a < length (all_classes ds) → place_of 1 (all_classes ds) (key_at (all_classes ds) a) ≡ suc a
+  place_there : (a : ℕ) → a < length (with_kernel cs) → place_of 1 (with_kernel cs) (key_at (with_kernel cs) a) ≡ suc a
   place_there a lt =
       let sum : a + 1 ≡ suc a = omega arith in
-      ap (λ o. unwrap_or o 0) (place_first 1 (all_classes ds) (key_at (all_classes ds) a) a lt (earlier a lt) (exact_keys.one (key_at (all_classes ds) a))) ∙ sum
+      ap (λ o. unwrap_or o 0) (place_first 1 (with_kernel cs) (key_at (with_kernel cs) a) a lt (earlier a lt) (exact_keys.one (key_at (with_kernel cs) a))) ∙ sum
 
-  pub height_there : (a : ℕ) → a < length (all_classes ds) → suc a ≡ (hierarchy (all_classes ds)).height (key_at (all_classes ds) a)
+  pub height_there : (a : ℕ) → a < length (with_kernel cs) → suc a ≡ (hierarchy (with_kernel cs)).height (key_at (with_kernel cs) a)
   height_there a lt =
-      let name = name_at (map name_of (all_classes ds)) a in
+      let name = name_at (map name_of (with_kernel cs)) a in
       sym (
-      ap (hierarchy (all_classes ds)).height (key_named ds a lt)
-      ∙ height_named (all_classes ds) (module_at a) name
-      ∙ ap (place_of 1 (all_classes ds)) (sym (key_named ds a lt))
+      ap (hierarchy (with_kernel cs)).height (key_named cs t.declared a lt)
+      ∙ height_named (with_kernel cs) (module_at (with_kernel cs) a) name
+      ∙ ap (place_of 1 (with_kernel cs)) (sym (key_named cs t.declared a lt))
       ∙ place_there a lt
       )
 
-  parents_there : (a : ℕ) → a < length (all_classes ds) → (hierarchy (all_classes ds)).parents (key_at (all_classes ds) a) ≡ (face_at (all_classes ds) a).parents
+  parents_there : (a : ℕ) → a < length (with_kernel cs) → (hierarchy (with_kernel cs)).parents (key_at (with_kernel cs) a) ≡ (face_at (with_kernel cs) a).parents
   parents_there a lt =
-      let name = name_at (map name_of (all_classes ds)) a in
-      hierarchy_parents (all_classes ds) (key_at (all_classes ds) a)
-      ∙ ap (parents_of (all_classes ds)) (key_named ds a lt)
-      ∙ parents_named (all_classes ds) (module_at a) name
-      ∙ ap (λ k. parents_in (class_at (all_classes ds) k)) (sym (key_named ds a lt))
+      let name = name_at (map name_of (with_kernel cs)) a in
+      hierarchy_parents (with_kernel cs) (key_at (with_kernel cs) a)
+      ∙ ap (parents_of (with_kernel cs)) (key_named cs t.declared a lt)
+      ∙ parents_named (with_kernel cs) (module_at (with_kernel cs) a) name
+      ∙ ap (λ k. parents_in (class_at (with_kernel cs) k)) (sym (key_named cs t.declared a lt))
       ∙ ap parents_in (class_there a lt)
 
-  pub are_lists : (rows all : List (List ℕ)) → IsRows (all_classes ds) (length (all_classes ds)) rows → AreAncestors rows (length rows) all → AreLists (all_classes ds) all
+  pub are_lists : (rows all : List (List ℕ)) → IsRows (with_kernel cs) (length (with_kernel cs)) rows → AreAncestors rows (length rows) all → AreLists (with_kernel cs) all
   are_lists rows all table lists = record {
     long = lists.long ∙ table.long;
     low = λ i a m. elim (cases_lt i (length rows)) [
@@ -95,16 +94,16 @@ module _ (ds : List ClassDecl) (names : List (List ℕ)) (t : IsTable ds names) 
     once = keys_once;
     found = class_there;
     by = λ i lt. (let l : i < length rows = omega (arith, table.long) in
-        ap (map (key_at (all_classes ds))) (lists.by i l)
-        ∙ numbered (rows_of rows) (hierarchy (all_classes ds)) (key_at (all_classes ds)) (λ k. k < length (all_classes ds))
+        ap (map (key_at (with_kernel cs))) (lists.by i l)
+        ∙ numbered (rows_of rows) (hierarchy (with_kernel cs)) (key_at (with_kernel cs)) (λ k. k < length (with_kernel cs))
         (λ a p g m. let q = table.low a p m in omega (arith, g, q))
         (λ a g. table.by a g ∙ sym (parents_there a g))
-        (λ a b g k. alike (all_classes ds) keys_once a b g k (a == b) (same_key (key_at (all_classes ds) a) (key_at (all_classes ds) b)) refl refl ∙ sym (hierarchy_same (all_classes ds) (key_at (all_classes ds) a) (key_at (all_classes ds) b)))
+        (λ a b g k. alike (with_kernel cs) keys_once a b g k (a == b) (same_key (key_at (with_kernel cs) a) (key_at (with_kernel cs) b)) refl refl ∙ sym (hierarchy_same (with_kernel cs) (key_at (with_kernel cs) a) (key_at (with_kernel cs) b)))
         height_there i lt);
   }
 
 -- the same, of lists that are borrowed
-pub lists_of : (ds : List ClassDecl) (names : List (List ℕ)) → IsTable ds names → (rows shown all lent : List (List ℕ)) → IsRows (all_classes ds) (length (all_classes ds)) rows
-    → shown ≡ rows → AreAncestors shown (length shown) all → lent ≡ all → AreLists (all_classes ds) lent
-lists_of ds names t rows shown all lent table e lists f =
-    rw f (are_lists ds names t rows all table (subst (λ (z : List (List ℕ)). AreAncestors z (length z) all) e lists))
+pub lists_of : (cs : List Class) (names : List (List ℕ)) → IsTable cs names → (rows shown all lent : List (List ℕ)) → IsRows (with_kernel cs) (length (with_kernel cs)) rows
+    → shown ≡ rows → AreAncestors shown (length shown) all → lent ≡ all → AreLists (with_kernel cs) lent
+lists_of cs names t rows shown all lent table e lists f =
+    rw f (are_lists cs names t rows all table (subst (λ (z : List (List ℕ)). AreAncestors z (length z) all) e lists))

@@ -1,3 +1,4 @@
+pub mod DeclaredClasses
 pub mod Passes
 pub mod Doubled
 pub mod ClassTable
@@ -10,6 +11,7 @@ pub mod KeyLists
 pub mod Once
 pub mod Before
 pub mod Descending
+pub mod Sets
 pub mod Owners
 pub mod Inheriting
 pub mod Conformity
@@ -20,4 +22,6 @@ pub mod Falling
 pub mod PlainMoves
 pub mod PlainFaces
 pub mod PlainBodies
+pub mod PlainWhole
+pub mod Programs
 pub mod Texts

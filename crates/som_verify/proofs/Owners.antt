@@ -1,5 +1,5 @@
 -- Owners, where each moved entry names a class that introduces its name.
-use Rattle.std.proofs.Common.{◌≡◌, ℕ, zero, suc, ◌<◌, inl, inr, Bool, true, false, List, [], ◌∷◌, ◌++◌, length, flat_map, Option, Some, None, is_some, refl, sym, ap, ◌∙◌, subst, arith, true≢false}
+use Rattle.std.proofs.Common.{◌≡◌, ℕ, zero, suc, ◌<◌, inl, inr, Bool, true, false, List, [], ◌∷◌, ◌++◌, length, flat_map, Option, Some, None, is_some, refl, sym, ap, ◌∙◌, subst, true≢false}
 use Rattle.std.specs.Str.{bytes_eq}
 use Rattle.som_model.specs.Lists.{Mem, first, every}
 use Rattle.som_model.specs.Class.{Class, entry_name, entry_of, introduced_sig}
@@ -9,15 +9,13 @@ use Rattle.som_model.specs.Owner.{entry_at, owner, owner_within, introduces}
 use Rattle.som_model.specs.Rules.{demand_of, s9}
 use Rattle.som_model.specs.declared.key.ClassKey.{ClassKey}
 use Rattle.som_model.specs.declared.key.MethodRef.{MethodRef}
-use Rattle.som_model.specs.declared.class.ClassDecl.{ClassDecl}
 use Rattle.som_model.specs.declared.class.Entry.{Entry}
 use Rattle.som_model.specs.declared.class.Entry.TheVariants as entries
 use Rattle.som_model.proofs.KeyLaws.{exact_bytes, both}
 use Rattle.som_plain.proofs.Members.{mem_right, mem_split, find_first}
-use Rattle.som_verify.specs.Told.{of_release}
-use Rattle.som_verify.specs.Places.{all_classes, class_of_place, key_at, face_at, IsTable, Finds}
+use Rattle.som_verify.specs.Places.{with_kernel, class_of_place, key_at, face_at, IsTable, Finds}
 use Rattle.som_verify.specs.Inherited.{inherits, moved_entry, moved_to}
-use Rattle.som_verify.proofs.Finding.{known_at_all}
+use Rattle.som_verify.proofs.Finding.{known_at_all, mem_place}
 use Rattle.som_verify.proofs.KeyLists.{class_there, height_there}
 use Rattle.som_verify.proofs.Before.{none_both, every_mem}
 
@@ -25,11 +23,6 @@ pub flat_none : {A B : Type 0} (f : A → List B) (xs : List A) (x : A) → firs
 flat_none f [] x e m = absurd m
 flat_none f (y ∷ ys) x e (inl is) = subst (λ z. first (f z) ≡ None) (sym is) (none_both (f y) (flat_map f ys) e).0
 flat_none f (y ∷ ys) x e (inr m) = flat_none f ys x (none_both (f y) (flat_map f ys) e).1 m
-
-pub mem_place : (cs : List Class) (p : ℕ) → p < length cs → Mem (class_of_place cs p) cs
-mem_place [] p lt = absurd (omega arith)
-mem_place (c ∷ cs) zero lt = inl refl
-mem_place (c ∷ cs) (suc p) lt = inr (mem_place cs p (omega arith))
 
 pub demanded_of : (n : ℕ) (c : Class) (member : List ℕ) (b : Bool) → first (demand_of n c member b) ≡ None → b ≡ true
 demanded_of n c member true e = refl
@@ -80,40 +73,40 @@ pub owner_unknown : (cs : List Class) (r : MethodRef) (limit : ℕ) → limit �
 owner_unknown cs r limit e f =
     stays cs ((hierarchy cs).height r.class) r (ap moved_to (entry_unknown cs r.class r.name (nothing_there (class_at cs r.class) (known_at_all cs r.class limit None e f))))
 
-module _ (ds : List ClassDecl) (names : List (List ℕ)) (t : IsTable ds names) where
-  pub entry_there : (p : ℕ) (name : List ℕ) → p < length (all_classes ds) → entry_at (all_classes ds) (key_at (all_classes ds) p) name ≡ entry_of (face_at (all_classes ds) p).entries name
-  entry_there p name lt = let e = class_there ds names t p lt in rw e refl
+module _ (cs : List Class) (names : List (List ℕ)) (t : IsTable cs names) where
+  pub entry_there : (p : ℕ) (name : List ℕ) → p < length (with_kernel cs) → entry_at (with_kernel cs) (key_at (with_kernel cs) p) name ≡ entry_of (face_at (with_kernel cs) p).entries name
+  entry_there p name lt = let e = class_there cs names t p lt in rw e refl
 
   -- the entry of a known class that wasn't moved
-  pub owner_here : (p : ℕ) (r : MethodRef) → p < length (all_classes ds) → key_at (all_classes ds) p ≡ r.class
-      → moved_to (entry_of (face_at (all_classes ds) p).entries r.name) ≡ None → owner (all_classes ds) r ≡ r
+  pub owner_here : (p : ℕ) (r : MethodRef) → p < length (with_kernel cs) → key_at (with_kernel cs) p ≡ r.class
+      → moved_to (entry_of (face_at (with_kernel cs) p).entries r.name) ≡ None → owner (with_kernel cs) r ≡ r
   owner_here p r lt is e =
-      stays (all_classes ds) ((hierarchy (all_classes ds)).height r.class) r
-      (ap (λ k. moved_to (entry_at (all_classes ds) k r.name)) (sym is) ∙ ap moved_to (entry_there p r.name lt) ∙ e)
+      stays (with_kernel cs) ((hierarchy (with_kernel cs)).height r.class) r
+      (ap (λ k. moved_to (entry_at (with_kernel cs) k r.name)) (sym is) ∙ ap moved_to (entry_there p r.name lt) ∙ e)
 
-  module _ (s9_holds : first (flat_map (s9 (all_classes ds)) (of_release ds)) ≡ None) where
-    entry_by : (c : Class) (x name : List ℕ) (to : ClassKey) → Mem c (all_classes ds) → Mem (entries.Moved x to) c.decl.face.entries → introduces (all_classes ds) x to ≡ true
-    entry_by c x name to m n = elim (mem_split c kernel (of_release ds) m) [
+  module _ (s9_holds : first (flat_map (s9 (with_kernel cs)) cs) ≡ None) where
+    entry_by : (c : Class) (x name : List ℕ) (to : ClassKey) → Mem c (with_kernel cs) → Mem (entries.Moved x to) c.decl.face.entries → introduces (with_kernel cs) x to ≡ true
+    entry_by c x name to m n = elim (mem_split c kernel cs m) [
       | inl k ↦ absurd (kernel_unmoved c x to k n)
-      | inr k ↦ (let e = flat_none (moved_entry (all_classes ds) c.key c) c.decl.face.entries (entries.Moved x to) (flat_none (s9 (all_classes ds)) (of_release ds) c s9_holds k) n in
-          (both _ _ (demanded_of 9 c x (inherits (all_classes ds) c.key to x) e)).1)
+      | inr k ↦ (let e = flat_none (moved_entry (with_kernel cs) c.key c) c.decl.face.entries (entries.Moved x to) (flat_none (s9 (with_kernel cs)) cs c s9_holds k) n in
+          (both _ _ (demanded_of 9 c x (inherits (with_kernel cs) c.key to x) e)).1)
     ]
 
     -- a moved entry leads to where its name is introduced
-    moved_introduced : (p : ℕ) (name : List ℕ) (to : ClassKey) → p < length (all_classes ds) → moved_to (entry_of (face_at (all_classes ds) p).entries name) ≡ Some to
-        → introduces (all_classes ds) name to ≡ true
+    moved_introduced : (p : ℕ) (name : List ℕ) (to : ClassKey) → p < length (with_kernel cs) → moved_to (entry_of (face_at (with_kernel cs) p).entries name) ≡ Some to
+        → introduces (with_kernel cs) name to ≡ true
     moved_introduced p name to lt e =
-        let r = moved_is (entry_of (face_at (all_classes ds) p).entries name) to e in
-        let first_one = find_first (λ e. bytes_eq (entry_name e) name) (face_at (all_classes ds) p).entries (entries.Moved r.0 to) r.1 in
-        let there = mem_middle (face_at (all_classes ds) p).entries first_one.before first_one.after (entries.Moved r.0 to) first_one.parts in
-        subst (λ z. introduces (all_classes ds) z to ≡ true) (exact_bytes.two r.0 name first_one.passes)
-        (entry_by (class_of_place (all_classes ds) p) r.0 name to (mem_place (all_classes ds) p lt) there)
+        let r = moved_is (entry_of (face_at (with_kernel cs) p).entries name) to e in
+        let first_one = find_first (λ e. bytes_eq (entry_name e) name) (face_at (with_kernel cs) p).entries (entries.Moved r.0 to) r.1 in
+        let there = mem_middle (face_at (with_kernel cs) p).entries first_one.before first_one.after (entries.Moved r.0 to) first_one.parts in
+        subst (λ z. introduces (with_kernel cs) z to ≡ true) (exact_bytes.two r.0 name first_one.passes)
+        (entry_by (class_of_place (with_kernel cs) p) r.0 name to (mem_place (with_kernel cs) p lt) there)
 
     -- the entry of a known class that was moved
-    pub owner_moved : (p : ℕ) (r : MethodRef) (to : ClassKey) → p < length (all_classes ds) → key_at (all_classes ds) p ≡ r.class
-        → moved_to (entry_of (face_at (all_classes ds) p).entries r.name) ≡ Some to → owner (all_classes ds) r ≡ record { class = to; name = r.name }
+    pub owner_moved : (p : ℕ) (r : MethodRef) (to : ClassKey) → p < length (with_kernel cs) → key_at (with_kernel cs) p ≡ r.class
+        → moved_to (entry_of (face_at (with_kernel cs) p).entries r.name) ≡ Some to → owner (with_kernel cs) r ≡ record { class = to; name = r.name }
     owner_moved p r to lt is e =
-        let high : (hierarchy (all_classes ds)).height r.class ≡ suc p = ap (hierarchy (all_classes ds)).height (sym is) ∙ sym (height_there ds names t p lt) in
-        ap (λ n. owner_within (all_classes ds) n r) high
-        ∙ moves (all_classes ds) p r to (ap (λ k. moved_to (entry_at (all_classes ds) k r.name)) (sym is) ∙ ap moved_to (entry_there p r.name lt) ∙ e)
-        ∙ stays (all_classes ds) p (record { class = to; name = r.name }) (introduced_stays (entry_at (all_classes ds) to r.name) (moved_introduced p r.name to lt e))
+        let high : (hierarchy (with_kernel cs)).height r.class ≡ suc p = ap (hierarchy (with_kernel cs)).height (sym is) ∙ sym (height_there cs names t p lt) in
+        ap (λ n. owner_within (with_kernel cs) n r) high
+        ∙ moves (with_kernel cs) p r to (ap (λ k. moved_to (entry_at (with_kernel cs) k r.name)) (sym is) ∙ ap moved_to (entry_there p r.name lt) ∙ e)
+        ∙ stays (with_kernel cs) p (record { class = to; name = r.name }) (introduced_stays (entry_at (with_kernel cs) to r.name) (moved_introduced p r.name to lt e))

@@ -1,5 +1,5 @@
 -- A pass over the classes.
-use Rattle.std.proofs.Common.{◌≡◌, ℕ, zero, suc, ◌+◌, ◌<◌, List, [], ◌∷◌, ◌++◌, length, drop, map, flat_map, slice_get, Option, Some, None, Ok, Err, refl, sym, ap, ◌∙◌, arith}
+use Rattle.std.proofs.Common.{◌≡◌, ℕ, zero, suc, ◌+◌, ◌<◌, ◌≤◌, List, [], ◌∷◌, ◌++◌, length, drop, map, flat_map, slice_get, Option, Some, None, Ok, Err, refl, sym, ap, ◌∙◌, arith}
 use Rattle.som_model.specs.Lists.{first, or_else}
 use Rattle.som_model.specs.Rules.{Breach}
 use Rattle.som_verify.specs.declared.types.VerifyFault.{VerifyFault}
@@ -19,16 +19,23 @@ at_place one g (c ∷ cs) (suc i) lt = let r = at_place one g cs i (omega arith)
 none_first : {A : Type 0} (o r : Option A) → o ≡ None → or_else o r ≡ r
 none_first o r e = rw e refl
 
-pub goes_on : {A B : Type 0} (one : B → List Breach) (g : A → B) (cs : List A) (i : ℕ) (x : Unit {0}) → i < length cs
+pub goes_on : {A B : Type 0} (one : B → List Breach) (g : A → B) (cs : List A) (whole : Option Breach) (i : ℕ) (x : Unit {0}) → i < length cs
     → ((c : A) → slice_get cs i ≡ Some c → Tells (first (one (g c))) (Ok x))
-    → first (flat_map one (map g (drop i cs))) ≡ first (flat_map one (map g cs)) → first (flat_map one (map g (drop (i + 1) cs))) ≡ first (flat_map one (map g cs))
-goes_on one g cs i x lt f same = let r = at_place one g cs i lt in sym (none_first _ _ (f r.0 r.1)) ∙ sym r.2 ∙ same
+    → first (flat_map one (map g (drop i cs))) ≡ whole → first (flat_map one (map g (drop (i + 1) cs))) ≡ whole
+goes_on one g cs whole i x lt f same = let r = at_place one g cs i lt in sym (none_first _ _ (f r.0 r.1)) ∙ sym r.2 ∙ same
 
 pub tells_first : (o r whole : Option Breach) (e : VerifyFault) → Tells {A = Unit {0}} o (Err e) → or_else o r ≡ whole → Tells {A = Unit {0}} whole (Err e)
 tells_first o r whole (faults.Rule b) t same = sym same ∙ ap (λ z. or_else z r) t
 tells_first o r whole faults.NoMemory t same = tt
 
-pub stops : {A B : Type 0} (one : B → List Breach) (g : A → B) (cs : List A) (i : ℕ) (e : VerifyFault) → i < length cs
+pub stops : {A B : Type 0} (one : B → List Breach) (g : A → B) (cs : List A) (whole : Option Breach) (i : ℕ) (e : VerifyFault) → i < length cs
     → ((c : A) → slice_get cs i ≡ Some c → Tells {A = Unit {0}} (first (one (g c))) (Err e))
-    → first (flat_map one (map g (drop i cs))) ≡ first (flat_map one (map g cs)) → Tells {A = Unit {0}} (first (flat_map one (map g cs))) (Err e)
-stops one g cs i e lt f same = let r = at_place one g cs i lt in tells_first (first (one (g r.0))) _ _ e (f r.0 r.1) (sym r.2 ∙ same)
+    → first (flat_map one (map g (drop i cs))) ≡ whole → Tells {A = Unit {0}} whole (Err e)
+stops one g cs whole i e lt f same = let r = at_place one g cs i lt in tells_first (first (one (g r.0))) _ _ e (f r.0 r.1) (sym r.2 ∙ same)
+
+-- all classes were asked
+pub all_pass : {A B : Type 0} (one : B → List Breach) (g : A → B) (cs : List A) (whole : Option Breach) (i : ℕ) → length cs ≤ i → first (flat_map one (map g (drop i cs))) ≡ whole → whole ≡ None
+all_pass one g [] whole zero le same = sym same
+all_pass one g [] whole (suc i) le same = sym same
+all_pass one g (c ∷ cs) whole zero le same = absurd (omega arith)
+all_pass one g (c ∷ cs) whole (suc i) le same = all_pass one g cs whole i (omega arith) same

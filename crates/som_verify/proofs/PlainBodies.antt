@@ -1,10 +1,8 @@
--- The rule S14, and what it says of each body; and all rules together.
+-- The rule S14, and what it says of each body.
 use Rattle.std.proofs.Common.{◌≡◌, ℕ, zero, suc, ◌==◌, Bool, true, false, ◌&&◌, List, [], ◌∷◌, map, flat_map, length, Option, Some, None, slice_get, refl, sym, ap, ◌∙◌, true≢false}
 use Rattle.som_model.specs.Lists.{Mem, first}
 use Rattle.som_model.specs.Same.{same_type}
 use Rattle.som_model.specs.Class.{Class, introduced}
-use Rattle.som_model.specs.Classes.{library_classes}
-use Rattle.som_model.specs.Conforming.{release_breach}
 use Rattle.som_model.specs.Rules.{demand, demand_of, is_void, body_fits, s14}
 use Rattle.som_model.specs.declared.key.ValueType.{ValueType}
 use Rattle.som_model.specs.declared.key.ValueType.TheVariants as types
@@ -14,21 +12,15 @@ use Rattle.som_model.specs.declared.class.Entry.TheVariants as entries
 use Rattle.som_model.specs.declared.class.Body.{Body}
 use Rattle.som_model.specs.declared.class.Body.TheVariants as bodies
 use Rattle.som_model.specs.declared.class.Variable.{Variable}
-use Rattle.som_model.specs.declared.class.ClassDecl.{ClassDecl}
-use Rattle.som_model.specs.declared.program.Release.{Release}
 use Rattle.som_model.proofs.KeyLaws.{exact_numbers, both}
 use Rattle.som_model.proofs.SameLaws.{exact_types}
 use Rattle.som_verify.specs.Fitting.{bodies_from}
-use Rattle.som_verify.specs.Faces.{faces_breach}
-use Rattle.som_verify.specs.Told.{of_library, of_release}
-use Rattle.som_verify.specs.Plainly.{signatures, Fits, a_block, a_reader, a_writer, BodiesFit, RulesHold}
+use Rattle.som_verify.specs.Plainly.{signatures, Fits, a_block, a_reader, a_writer, BodiesFit}
 use Rattle.som_verify.proofs.Before.{none_both, both_none, demanded}
 use Rattle.som_verify.proofs.Owners.{demanded_of}
 use Rattle.som_verify.proofs.PlainLists.{each_says, says_each}
 use Rattle.som_verify.proofs.PlainNames.{demand_none}
 use Rattle.som_verify.proofs.PlainMembers.{demand_of_none, both_true}
-use Rattle.som_verify.proofs.PlainFaces.{or_none, none_or, faces_say, say_faces}
-use Rattle.som_verify.proofs.Conformity.{faces_first}
 
 abbrev kinds : List Variable → List ValueType
 kinds vs = map (λ v. v.kind) vs
@@ -122,24 +114,16 @@ says_from c (entries.Introduced name s way ∷ es) (x ∷ bs) f =
     (demand_of_none 14 c name (body_fits c.decl.variables s x) (says_fits c.decl.variables s x (f 0 s x refl refl)))
     (says_from c es bs (λ i sig b at there. f (suc i) sig b at there))
 
-bodies_say : (ds : List ClassDecl) → first (flat_map s14 (of_release ds)) ≡ None → BodiesFit ds
-bodies_say ds e =
-    let parts = λ (d : ClassDecl) (m : Mem d ds). none_both (demand 14 (of_library d) (length d.bodies == length (introduced d.face.entries))) (bodies_from (of_library d) d.face.entries d.bodies) (each_says s14 ds e d m) in
+pub bodies_say : (cs : List Class) → first (flat_map s14 cs) ≡ None → BodiesFit cs
+bodies_say cs e =
+    let parts = λ (c : Class) (m : Mem c cs). none_both (demand 14 c (length c.decl.bodies == length (introduced c.decl.face.entries))) (bodies_from c c.decl.face.entries c.decl.bodies) (each_says s14 cs e c m) in
     record {
-      as_many = λ d m. exact_numbers.two (length d.bodies) (length (introduced d.face.entries)) (demanded 14 (of_library d) _ (parts d m).0);
-      fit = λ d i sig b m f g. from_says (of_library d) d.face.entries d.bodies (parts d m).1 i sig b f g;
+      as_many = λ c m. exact_numbers.two (length c.decl.bodies) (length (introduced c.decl.face.entries)) (demanded 14 c _ (parts c m).0);
+      fit = λ c i sig b m f g. from_says c c.decl.face.entries c.decl.bodies (parts c m).1 i sig b f g;
     }
 
-say_bodies : (ds : List ClassDecl) → BodiesFit ds → first (flat_map s14 (of_release ds)) ≡ None
-say_bodies ds rule = says_each s14 ds (λ d m.
-    both_none (demand 14 (of_library d) (length d.bodies == length (introduced d.face.entries))) (bodies_from (of_library d) d.face.entries d.bodies)
-    (demand_none 14 (of_library d) _ (ap (λ n. n == length (introduced d.face.entries)) (rule.as_many d m) ∙ exact_numbers.one (length (introduced d.face.entries))))
-    (says_from (of_library d) d.face.entries d.bodies (λ i sig b f g. rule.fit d i sig b m f g)))
-
-pub rules_say : (r : Release) → release_breach r ≡ None → RulesHold r
-rules_say r e =
-    let p = or_none (faces_breach (library_classes r)) (first (flat_map s14 (library_classes r))) (faces_first r ∙ e) in
-    record { faces = faces_say r.classes p.0; bodies = bodies_say r.classes p.1 }
-
-pub say_rules : (r : Release) → RulesHold r → release_breach r ≡ None
-say_rules r h = sym (faces_first r) ∙ none_or (faces_breach (library_classes r)) (first (flat_map s14 (library_classes r))) (say_faces r.classes h.faces) (say_bodies r.classes h.bodies)
+pub say_bodies : (cs : List Class) → BodiesFit cs → first (flat_map s14 cs) ≡ None
+say_bodies cs rule = says_each s14 cs (λ c m.
+    both_none (demand 14 c (length c.decl.bodies == length (introduced c.decl.face.entries))) (bodies_from c c.decl.face.entries c.decl.bodies)
+    (demand_none 14 c _ (ap (λ n. n == length (introduced c.decl.face.entries)) (rule.as_many c m) ∙ exact_numbers.one (length (introduced c.decl.face.entries))))
+    (says_from c c.decl.face.entries c.decl.bodies (λ i sig b f g. rule.fit c i sig b m f g)))

@@ -6,10 +6,8 @@ use Rattle.som_model.specs.Lists.{Mem, first, doubles, some, among}
 use Rattle.som_model.specs.Class.{Class}
 use Rattle.som_model.specs.Conforming.{each_after}
 use Rattle.som_model.specs.Rules.{Breach, name_of, s1}
-use Rattle.som_model.specs.declared.class.ClassDecl.{ClassDecl}
 use Rattle.som_model.proofs.KeyLaws.{Exact}
 use Rattle.som_plain.proofs.Members.{mem_left, mem_right, mem_some, Apart, apart_doubles}
-use Rattle.som_verify.specs.Told.{of_library, of_release}
 use Rattle.som_verify.specs.Plainly.{Differ}
 use Rattle.som_verify.proofs.Numbering.{map_append}
 use Rattle.som_verify.proofs.Before.{both_none}
@@ -30,20 +28,20 @@ map_mem f b (x ∷ xs) (inl e) = (x, inl refl, e)
 map_mem f b (x ∷ xs) (inr m) = let r = map_mem f b xs m in (r.0, inr r.1, r.2)
 
 -- a rule at each class
-pub each_says : (one : Class → List Breach) (ds : List ClassDecl) → first (flat_map one (of_release ds)) ≡ None → (d : ClassDecl) → Mem d ds → first (one (of_library d)) ≡ None
-each_says one ds e d m = flat_none one (of_release ds) (of_library d) e (mem_map of_library d ds m)
+pub each_says : (one : Class → List Breach) (cs : List Class) → first (flat_map one cs) ≡ None → (c : Class) → Mem c cs → first (one c) ≡ None
+each_says one cs e c m = flat_none one cs c e m
 
-pub says_each : (one : Class → List Breach) (ds : List ClassDecl) → ((d : ClassDecl) → Mem d ds → first (one (of_library d)) ≡ None) → first (flat_map one (of_release ds)) ≡ None
-says_each one ds f = none_flat one (of_release ds) (λ c m. let r = map_mem of_library c ds m in subst (λ z. first (one z) ≡ None) (sym r.2) (f r.0 r.1))
+pub says_each : (one : Class → List Breach) (cs : List Class) → ((c : Class) → Mem c cs → first (one c) ≡ None) → first (flat_map one cs) ≡ None
+says_each one cs f = none_flat one cs f
 
-pub says_after : (rule : List Class → Class → List Breach) (k : List Class) (ds : List ClassDecl)
-    → ((i : ℕ) (d : ClassDecl) → slice_get ds i ≡ Some d → first (rule (k ++ of_release (take i ds)) (of_library d)) ≡ None) → first (each_after rule k (of_release ds)) ≡ None
+pub says_after : (rule : List Class → Class → List Breach) (k : List Class) (cs : List Class)
+    → ((i : ℕ) (c : Class) → slice_get cs i ≡ Some c → first (rule (k ++ take i cs) c) ≡ None) → first (each_after rule k cs) ≡ None
 says_after rule k [] f = refl
-says_after rule k (d ∷ ds) f =
-    both_none (rule k (of_library d)) (each_after rule (k ++ of_library d ∷ []) (of_release ds))
-    (subst (λ (z : List Class). first (rule z (of_library d)) ≡ None) (append-nil k) (f 0 d refl))
-    (says_after rule (k ++ of_library d ∷ []) ds (λ i e at.
-    subst (λ (z : List Class). first (rule z (of_library e)) ≡ None) (sym (append_assoc k (of_library d ∷ []) (of_release (take i ds)))) (f (suc i) e at)))
+says_after rule k (c ∷ cs) f =
+    both_none (rule k c) (each_after rule (k ++ c ∷ []) cs)
+    (subst (λ (z : List Class). first (rule z c) ≡ None) (append-nil k) (f 0 c refl))
+    (says_after rule (k ++ c ∷ []) cs (λ i e at.
+    subst (λ (z : List Class). first (rule z e) ≡ None) (sym (append_assoc k (c ∷ []) (take i cs))) (f (suc i) e at)))
 
 -- nothing stands a second time
 

@@ -10,10 +10,7 @@ use Rattle.som_model.specs.declared.class.Entry.{Entry}
 use Rattle.som_model.specs.declared.class.Entry.TheVariants as entries
 use Rattle.som_model.specs.declared.class.Sig.{Sig}
 use Rattle.som_model.specs.declared.class.Variable.{Variable}
-use Rattle.som_model.specs.declared.class.ClassDecl.{ClassDecl}
 use Rattle.som_model.proofs.KeyLaws.{exact_bytes, both}
-use Rattle.som_verify.specs.Told.{of_library, of_release}
-use Rattle.som_verify.specs.Places.{all_classes}
 use Rattle.som_verify.specs.Typed.{sig_types, entry_types, variable_types}
 use Rattle.som_verify.specs.Plainly.{IsNamed, IsValue, TypesKnown, EntriesDiffer, VariablesDiffer}
 use Rattle.som_verify.proofs.Before.{none_both, both_none, every_mem, mem_every}
@@ -50,54 +47,52 @@ says_value cs (types.Class k) n = among_known cs k (n.named.by k refl)
 pub both_true : (a b : Bool) → a ≡ true → b ≡ true → (a && b) ≡ true
 both_true a b e f = rw e f
 
-sig_says : (ds : List ClassDecl) (d : ClassDecl) (name : List ℕ) (sig : Sig) (way : _) → first (flat_map (s5 (all_classes ds)) (of_release ds)) ≡ None → Mem d ds
-    → Mem (entries.Introduced name sig way) d.face.entries → sig_types (all_classes ds) sig ≡ true
-sig_says ds d name sig way e m n =
-    let c = of_library d in
-    let own = none_both (flat_map (entry_types (all_classes ds) c) d.face.entries) (flat_map (variable_types (all_classes ds) c) d.variables) (each_says (s5 (all_classes ds)) ds e d m) in
-    demanded_of 5 c name (sig_types (all_classes ds) sig) (flat_none (entry_types (all_classes ds) c) d.face.entries (entries.Introduced name sig way) own.0 n)
+sig_says : (known cs : List Class) (c : Class) (name : List ℕ) (sig : Sig) (way : _) → first (flat_map (s5 known) cs) ≡ None → Mem c cs
+    → Mem (entries.Introduced name sig way) c.decl.face.entries → sig_types known sig ≡ true
+sig_says known cs c name sig way e m n =
+    let own = none_both (flat_map (entry_types known c) c.decl.face.entries) (flat_map (variable_types known c) c.decl.variables) (each_says (s5 known) cs e c m) in
+    demanded_of 5 c name (sig_types known sig) (flat_none (entry_types known c) c.decl.face.entries (entries.Introduced name sig way) own.0 n)
 
-pub types_say : (ds : List ClassDecl) → first (flat_map (s5 (all_classes ds)) (of_release ds)) ≡ None → TypesKnown ds
-types_say ds e = record {
-  results = λ d name sig way m n. known_named (all_classes ds) sig.result (both _ _ (sig_says ds d name sig way e m n)).0;
-  params = λ d name sig way t m n k. value_says (all_classes ds) t (every_mem (is_value_type (all_classes ds)) t sig.params (both _ _ (sig_says ds d name sig way e m n)).1 k);
-  variables = λ d v m n.
-      (let c = of_library d in
-      let own = none_both (flat_map (entry_types (all_classes ds) c) d.face.entries) (flat_map (variable_types (all_classes ds) c) d.variables) (each_says (s5 (all_classes ds)) ds e d m) in
-      value_says (all_classes ds) v.kind (demanded_of 5 c v.name (is_value_type (all_classes ds) v.kind) (flat_none (variable_types (all_classes ds) c) d.variables v own.1 n)));
+pub types_say : (known cs : List Class) → first (flat_map (s5 known) cs) ≡ None → TypesKnown known cs
+types_say known cs e = record {
+  results = λ c name sig way m n. known_named known sig.result (both _ _ (sig_says known cs c name sig way e m n)).0;
+  params = λ c name sig way t m n k. value_says known t (every_mem (is_value_type known) t sig.params (both _ _ (sig_says known cs c name sig way e m n)).1 k);
+  variables = λ c v m n.
+      (let own = none_both (flat_map (entry_types known c) c.decl.face.entries) (flat_map (variable_types known c) c.decl.variables) (each_says (s5 known) cs e c m) in
+      value_says known v.kind (demanded_of 5 c v.name (is_value_type known v.kind) (flat_none (variable_types known c) c.decl.variables v own.1 n)));
 }
 
-entry_has : (ds : List ClassDecl) (d : ClassDecl) → TypesKnown ds → Mem d ds → (e : Entry) → Mem e d.face.entries → first (entry_types (all_classes ds) (of_library d) e) ≡ None
-entry_has ds d rule m (entries.Moved name to) n = refl
-entry_has ds d rule m (entries.Introduced name sig way) n =
-    demand_of_none 5 (of_library d) name (sig_types (all_classes ds) sig) (both_true _ _
-    (named_known (all_classes ds) sig.result (rule.results d name sig way m n))
-    (mem_every (is_value_type (all_classes ds)) sig.params (λ t k. says_value (all_classes ds) t (rule.params d name sig way t m n k))))
+entry_has : (known cs : List Class) (c : Class) → TypesKnown known cs → Mem c cs → (e : Entry) → Mem e c.decl.face.entries → first (entry_types known c e) ≡ None
+entry_has known cs c rule m (entries.Moved name to) n = refl
+entry_has known cs c rule m (entries.Introduced name sig way) n =
+    demand_of_none 5 c name (sig_types known sig) (both_true _ _
+    (named_known known sig.result (rule.results c name sig way m n))
+    (mem_every (is_value_type known) sig.params (λ t k. says_value known t (rule.params c name sig way t m n k))))
 
-pub say_types : (ds : List ClassDecl) → TypesKnown ds → first (flat_map (s5 (all_classes ds)) (of_release ds)) ≡ None
-say_types ds rule = says_each (s5 (all_classes ds)) ds (λ d m.
-    both_none (flat_map (entry_types (all_classes ds) (of_library d)) d.face.entries) (flat_map (variable_types (all_classes ds) (of_library d)) d.variables)
-    (none_flat (entry_types (all_classes ds) (of_library d)) d.face.entries (entry_has ds d rule m))
-    (none_flat (variable_types (all_classes ds) (of_library d)) d.variables (λ v n.
-    demand_of_none 5 (of_library d) v.name (is_value_type (all_classes ds) v.kind) (says_value (all_classes ds) v.kind (rule.variables d v m n)))))
+pub say_types : (known cs : List Class) → TypesKnown known cs → first (flat_map (s5 known) cs) ≡ None
+say_types known cs rule = says_each (s5 known) cs (λ c m.
+    both_none (flat_map (entry_types known c) c.decl.face.entries) (flat_map (variable_types known c) c.decl.variables)
+    (none_flat (entry_types known c) c.decl.face.entries (entry_has known cs c rule m))
+    (none_flat (variable_types known c) c.decl.variables (λ v n.
+    demand_of_none 5 c v.name (is_value_type known v.kind) (says_value known v.kind (rule.variables c v m n)))))
 
-pub entries_say : (ds : List ClassDecl) → first (flat_map s6 (of_release ds)) ≡ None → EntriesDiffer ds
-entries_say ds e = record {
-  by = λ d m. apart_differ entry_name d.face.entries (apart_by bytes_eq exact_bytes (map entry_name d.face.entries)
-      (none_map _ (doubles bytes_eq [] (map entry_name d.face.entries)) (each_says s6 ds e d m)));
+pub entries_say : (cs : List Class) → first (flat_map s6 cs) ≡ None → EntriesDiffer cs
+entries_say cs e = record {
+  by = λ c m. apart_differ entry_name c.decl.face.entries (apart_by bytes_eq exact_bytes (map entry_name c.decl.face.entries)
+      (none_map _ (doubles bytes_eq [] (map entry_name c.decl.face.entries)) (each_says s6 cs e c m)));
 }
 
-pub say_entries : (ds : List ClassDecl) → EntriesDiffer ds → first (flat_map s6 (of_release ds)) ≡ None
-say_entries ds rule = says_each s6 ds (λ d m.
-    map_none _ (doubles bytes_eq [] (map entry_name d.face.entries)) (by_apart bytes_eq exact_bytes (map entry_name d.face.entries) (differ_apart entry_name d.face.entries (rule.by d m))))
+pub say_entries : (cs : List Class) → EntriesDiffer cs → first (flat_map s6 cs) ≡ None
+say_entries cs rule = says_each s6 cs (λ c m.
+    map_none _ (doubles bytes_eq [] (map entry_name c.decl.face.entries)) (by_apart bytes_eq exact_bytes (map entry_name c.decl.face.entries) (differ_apart entry_name c.decl.face.entries (rule.by c m))))
 
-pub variables_say : (ds : List ClassDecl) → first (flat_map s7 (of_release ds)) ≡ None → VariablesDiffer ds
-variables_say ds e = record {
-  by = λ d m. apart_differ (λ (v : Variable). v.name) d.variables (apart_by bytes_eq exact_bytes (map (λ (v : Variable). v.name) d.variables)
-      (none_map _ (doubles bytes_eq [] (map (λ (v : Variable). v.name) d.variables)) (each_says s7 ds e d m)));
+pub variables_say : (cs : List Class) → first (flat_map s7 cs) ≡ None → VariablesDiffer cs
+variables_say cs e = record {
+  by = λ c m. apart_differ (λ (v : Variable). v.name) c.decl.variables (apart_by bytes_eq exact_bytes (map (λ (v : Variable). v.name) c.decl.variables)
+      (none_map _ (doubles bytes_eq [] (map (λ (v : Variable). v.name) c.decl.variables)) (each_says s7 cs e c m)));
 }
 
-pub say_variables : (ds : List ClassDecl) → VariablesDiffer ds → first (flat_map s7 (of_release ds)) ≡ None
-say_variables ds rule = says_each s7 ds (λ d m.
-    map_none _ (doubles bytes_eq [] (map (λ (v : Variable). v.name) d.variables)) (by_apart bytes_eq exact_bytes (map (λ (v : Variable). v.name) d.variables)
-    (differ_apart (λ (v : Variable). v.name) d.variables (rule.by d m))))
+pub say_variables : (cs : List Class) → VariablesDiffer cs → first (flat_map s7 cs) ≡ None
+say_variables cs rule = says_each s7 cs (λ c m.
+    map_none _ (doubles bytes_eq [] (map (λ (v : Variable). v.name) c.decl.variables)) (by_apart bytes_eq exact_bytes (map (λ (v : Variable). v.name) c.decl.variables)
+    (differ_apart (λ (v : Variable). v.name) c.decl.variables (rule.by c m))))

@@ -17,21 +17,20 @@ use Rattle.som_model.specs.declared.class.Way.{Way}
 use Rattle.som_model.specs.declared.class.Entry.{Entry}
 use Rattle.som_model.specs.declared.class.Entry.TheVariants as entries
 use Rattle.som_model.specs.declared.class.Override.{Override}
-use Rattle.som_model.specs.declared.class.ClassDecl.{ClassDecl}
 use Rattle.som_model.proofs.KeyLaws.{Exact, exact_bytes, exact_keys, both}
 use Rattle.som_model.proofs.NamedLaws.{hierarchy_same}
 use Rattle.som_plain.proofs.Members.{mem_left, mem_right, mem_split, mem_some, some_mem, not_true, find_first, Apart}
 use Rattle.som_plain.proofs.Laws.{ancestors, ancestors_apart, descends_test}
-use Rattle.som_verify.specs.Told.{of_library, of_release}
-use Rattle.som_verify.specs.Places.{all_classes, key_at, IsTable}
+use Rattle.som_verify.specs.Modules.{AreDeclared}
+use Rattle.som_verify.specs.Places.{with_kernel, key_at, IsTable}
 use Rattle.som_verify.specs.Inherited.{inherits, moved_entry, may_override, overrides_from}
-use Rattle.som_verify.specs.Plainly.{Introduces, IsAbove, NamesDiffer, ParentsStand, MetaclassesDescend, EntriesDiffer, IntroducedOnce, MovedUp, OverridesInherited}
+use Rattle.som_verify.specs.Plainly.{Introduces, IsAbove, NamesApart, ParentsBefore, MetaclassesDescend, EntriesDiffer, IntroducedOnce, MovedUp, OverridesInherited}
 use Rattle.som_verify.proofs.Before.{none_both, both_none, demanded, every_mem, mem_every}
 use Rattle.som_verify.proofs.ClassTable.{is_table}
 use Rattle.som_verify.proofs.KeyLists.{class_there}
 use Rattle.som_verify.proofs.Owners.{flat_none, demanded_of, entry_unknown, mem_middle}
 use Rattle.som_verify.proofs.Falling.{mem_there, falls}
-use Rattle.som_verify.proofs.PlainLists.{mem_map, map_mem, none_flat, each_says, says_each, none_map, map_none, apart_by, by_apart, apart_differ, differ_apart}
+use Rattle.som_verify.proofs.PlainLists.{mem_map, none_flat, each_says, says_each, none_map, map_none, apart_by, by_apart, apart_differ, differ_apart}
 use Rattle.som_verify.proofs.PlainNames.{say_names, demand_none, option_mem}
 use Rattle.som_verify.proofs.PlainMembers.{demand_of_none, both_true}
 
@@ -83,11 +82,11 @@ find_apart f (y ∷ xs) x o (inr m) =
     rw fails (find_apart f xs x o.1 m)
 
 -- no name stands twice among the entries of a class, the kernel's too
-entries_apart : (ds : List ClassDecl) → EntriesDiffer ds → (c : Class) → Mem c (all_classes ds) → Apart (map entry_name c.decl.face.entries)
-entries_apart ds rule c m = elim (mem_split c kernel (of_release ds) m) [
+entries_apart : (cs : List Class) → EntriesDiffer cs → (c : Class) → Mem c (with_kernel cs) → Apart (map entry_name c.decl.face.entries)
+entries_apart cs rule c m = elim (mem_split c kernel cs m) [
   | inl k ↦ apart_by bytes_eq exact_bytes (map entry_name c.decl.face.entries)
       (none_map _ (doubles bytes_eq [] (map entry_name c.decl.face.entries)) (flat_none s6 kernel c refl k))
-  | inr k ↦ (let r = map_mem of_library c ds k in subst (λ (z : Class). Apart (map entry_name z.decl.face.entries)) (sym r.2) (differ_apart entry_name r.0.face.entries (rule.by r.0 r.1)))
+  | inr k ↦ differ_apart entry_name c.decl.face.entries (rule.by c k)
 ]
 
 exact_methods : Exact same_method
@@ -205,121 +204,120 @@ by_says cs k name (Some c) e m =
     let f = found_mem cs k c e in
     record { class = c; there = f.0; named = f.1; sig = r.0; way = r.1; entry = r.2 }
 
-module _ (ds : List ClassDecl) (differ : NamesDiffer ds) (stand : ParentsStand ds) where
-  table : IsTable ds (map name_of (all_classes ds))
-  table = is_table ds (map name_of (all_classes ds)) refl (say_names ds differ)
+module _ (cs : List Class) (declared : AreDeclared cs) (differ : NamesApart cs) (stand : ParentsBefore cs) where
+  table : IsTable cs (map name_of (with_kernel cs))
+  table = is_table cs (map name_of (with_kernel cs)) declared refl (say_names cs differ)
 
-  pub lower : Falls (hierarchy (all_classes ds))
-  lower = falls ds (map name_of (all_classes ds)) table stand
+  pub lower : Falls (hierarchy (with_kernel cs))
+  lower = falls cs (map name_of (with_kernel cs)) table stand
 
-  tells : Tells (hierarchy (all_classes ds))
+  tells : Tells (hierarchy (with_kernel cs))
   tells = record {
-    one = λ x. hierarchy_same (all_classes ds) x x ∙ exact_keys.one x;
-    two = λ x y e. exact_keys.two x y (sym (hierarchy_same (all_classes ds) x y) ∙ e);
+    one = λ x. hierarchy_same (with_kernel cs) x x ∙ exact_keys.one x;
+    two = λ x y e. exact_keys.two x y (sym (hierarchy_same (with_kernel cs) x y) ∙ e);
   }
 
-  descent : (x a : ClassKey) → (is_a (all_classes ds) x a ≡ true) ↔ Descends (hierarchy (all_classes ds)) x a
-  descent x a = descends_test (hierarchy (all_classes ds)) tells lower x a
+  descent : (x a : ClassKey) → (is_a (with_kernel cs) x a ≡ true) ↔ Descends (hierarchy (with_kernel cs)) x a
+  descent x a = descends_test (hierarchy (with_kernel cs)) tells lower x a
 
   -- S4
-  pub metaclasses_say : first (flat_map (s4 (all_classes ds)) (of_release ds)) ≡ None → MetaclassesDescend ds
+  pub metaclasses_say : first (flat_map (s4 (with_kernel cs)) cs) ≡ None → MetaclassesDescend cs
   metaclasses_say e = record {
-    by = λ d k m is. (descent k som_class).0 (every_mem (λ k. is_a (all_classes ds) k som_class) k (option_list d.face.metaclass)
-        (demanded 4 (of_library d) _ (each_says (s4 (all_classes ds)) ds e d m)) (subst (λ (o : Option ClassKey). Mem k (option_list o)) (sym is) (inl refl)));
+    by = λ c k m is. (descent k som_class).0 (every_mem (λ k. is_a (with_kernel cs) k som_class) k (option_list c.decl.face.metaclass)
+        (demanded 4 c _ (each_says (s4 (with_kernel cs)) cs e c m)) (subst (λ (o : Option ClassKey). Mem k (option_list o)) (sym is) (inl refl)));
   }
 
-  pub say_metaclasses : MetaclassesDescend ds → first (flat_map (s4 (all_classes ds)) (of_release ds)) ≡ None
-  say_metaclasses rule = says_each (s4 (all_classes ds)) ds (λ d m.
-      demand_none 4 (of_library d) _ (mem_every (λ k. is_a (all_classes ds) k som_class) (option_list d.face.metaclass)
-      (λ k n. (descent k som_class).1 (rule.by d k m (option_mem d.face.metaclass k n)))))
+  pub say_metaclasses : MetaclassesDescend cs → first (flat_map (s4 (with_kernel cs)) cs) ≡ None
+  say_metaclasses rule = says_each (s4 (with_kernel cs)) cs (λ c m.
+      demand_none 4 c _ (mem_every (λ k. is_a (with_kernel cs) k som_class) (option_list c.decl.face.metaclass)
+      (λ k n. (descent k som_class).1 (rule.by c k m (option_mem c.decl.face.metaclass k n)))))
 
-  class_of : (k : ClassKey) (c : Class) → Mem c (all_classes ds) → c.key ≡ k → class_at (all_classes ds) k ≡ Some c
-  class_of k c m e =
-      let r = mem_there (all_classes ds) c m in
-      let key : key_at (all_classes ds) r.0 ≡ k = ap (λ (z : Class). z.key) r.2 ∙ e in
-      ap (class_at (all_classes ds)) (sym key) ∙ class_there ds (map name_of (all_classes ds)) table r.0 r.1 ∙ ap (λ z. Some z) r.2
+  class_named : (k : ClassKey) (c : Class) → Mem c (with_kernel cs) → c.key ≡ k → class_at (with_kernel cs) k ≡ Some c
+  class_named k c m e =
+      let r = mem_there (with_kernel cs) c m in
+      let key : key_at (with_kernel cs) r.0 ≡ k = ap (λ (z : Class). z.key) r.2 ∙ e in
+      ap (class_at (with_kernel cs)) (sym key) ∙ class_there cs (map name_of (with_kernel cs)) table r.0 r.1 ∙ ap (λ z. Some z) r.2
 
-  says_introduces : EntriesDiffer ds → (k : ClassKey) (name : List ℕ) → Introduces (all_classes ds) k name → introduces (all_classes ds) name k ≡ true
+  says_introduces : EntriesDiffer cs → (k : ClassKey) (name : List ℕ) → Introduces (with_kernel cs) k name → introduces (with_kernel cs) name k ≡ true
   says_introduces rule k name i =
-      let at = class_of k i.class i.there i.named in
-      let here : entry_at (all_classes ds) k name ≡ entry_of i.class.decl.face.entries name = rw at refl in
-      ap (λ o. is_some (introduced_sig o)) (here ∙ find_apart entry_name i.class.decl.face.entries (entries.Introduced name i.sig i.way) (entries_apart ds rule i.class i.there) i.entry)
+      let at = class_named k i.class i.there i.named in
+      let here : entry_at (with_kernel cs) k name ≡ entry_of i.class.decl.face.entries name = rw at refl in
+      ap (λ o. is_some (introduced_sig o)) (here ∙ find_apart entry_name i.class.decl.face.entries (entries.Introduced name i.sig i.way) (entries_apart cs rule i.class i.there) i.entry)
 
-  inherits_says : (d : ClassDecl) (k : ClassKey) (name : List ℕ) → inherits (all_classes ds) (of_library d).key k name ≡ true → IsAbove ds d k × Introduces (all_classes ds) k name
-  inherits_says d k name e =
-      let p = both _ (introduces (all_classes ds) name k) e in
-      let q = both (not (same_key k (of_library d).key)) (is_a (all_classes ds) (of_library d).key k) p.0 in
-      (record { other = other_says k (of_library d).key q.0; above = (descent (of_library d).key k).0 q.1 }, introduces_says (all_classes ds) k name p.1)
+  inherits_says : (c : Class) (k : ClassKey) (name : List ℕ) → inherits (with_kernel cs) c.key k name ≡ true → IsAbove cs c k × Introduces (with_kernel cs) k name
+  inherits_says c k name e =
+      let p = both _ (introduces (with_kernel cs) name k) e in
+      let q = both (not (same_key k c.key)) (is_a (with_kernel cs) c.key k) p.0 in
+      (record { other = other_says k c.key q.0; above = (descent c.key k).0 q.1 }, introduces_says (with_kernel cs) k name p.1)
 
-  says_inherits : EntriesDiffer ds → (d : ClassDecl) (k : ClassKey) (name : List ℕ) → IsAbove ds d k → Introduces (all_classes ds) k name → inherits (all_classes ds) (of_library d).key k name ≡ true
-  says_inherits rule d k name a i =
-      both_true (not (same_key k (of_library d).key) && is_a (all_classes ds) (of_library d).key k) (introduces (all_classes ds) name k)
-      (both_true (not (same_key k (of_library d).key)) (is_a (all_classes ds) (of_library d).key k) (says_other k (of_library d).key a.other) ((descent (of_library d).key k).1 a.above))
+  says_inherits : EntriesDiffer cs → (c : Class) (k : ClassKey) (name : List ℕ) → IsAbove cs c k → Introduces (with_kernel cs) k name → inherits (with_kernel cs) c.key k name ≡ true
+  says_inherits rule c k name a i =
+      both_true (not (same_key k c.key) && is_a (with_kernel cs) c.key k) (introduces (with_kernel cs) name k)
+      (both_true (not (same_key k c.key)) (is_a (with_kernel cs) c.key k) (says_other k c.key a.other) ((descent c.key k).1 a.above))
       (says_introduces rule k name i)
 
   -- S8
-  pub once_says : EntriesDiffer ds → first (flat_map (s8 (all_classes ds)) (of_release ds)) ≡ None → IntroducedOnce ds
+  pub once_says : EntriesDiffer cs → first (flat_map (s8 (with_kernel cs)) cs) ≡ None → IntroducedOnce cs
   once_says rule e = record {
-    by = λ d a b name m p q i j.
-        let h = hierarchy (all_classes ds) in
-        let list = anc h (of_library d).key in
-        let apart = apart_by bytes_eq exact_bytes (flat_map (introduced_by (all_classes ds)) list) (none_map _ (doubles bytes_eq [] (flat_map (introduced_by (all_classes ds)) list)) (each_says (s8 (all_classes ds)) ds e d m)) in
-        apart_flat (introduced_by (all_classes ds)) list apart a b name ((ancestors h tells lower (of_library d).key a).1 p) ((ancestors h tells lower (of_library d).key b).1 q) (says_by a name i) (says_by b name j);
+    by = λ c a b name m p q i j.
+        let h = hierarchy (with_kernel cs) in
+        let list = anc h c.key in
+        let apart = apart_by bytes_eq exact_bytes (flat_map (introduced_by (with_kernel cs)) list) (none_map _ (doubles bytes_eq [] (flat_map (introduced_by (with_kernel cs)) list)) (each_says (s8 (with_kernel cs)) cs e c m)) in
+        apart_flat (introduced_by (with_kernel cs)) list apart a b name ((ancestors h tells lower c.key a).1 p) ((ancestors h tells lower c.key b).1 q) (says_by a name i) (says_by b name j);
   }
     where
-      says_by : (k : ClassKey) (name : List ℕ) → Introduces (all_classes ds) k name → Mem name (introduced_by (all_classes ds) k)
-      says_by k name i = let at = class_of k i.class i.there i.named in rw at (mem_introduced i.class.decl.face.entries name i.sig i.way i.entry)
+      says_by : (k : ClassKey) (name : List ℕ) → Introduces (with_kernel cs) k name → Mem name (introduced_by (with_kernel cs) k)
+      says_by k name i = let at = class_named k i.class i.there i.named in rw at (mem_introduced i.class.decl.face.entries name i.sig i.way i.entry)
 
-  by_apart_at : EntriesDiffer ds → (k : ClassKey) (o : Option Class) → class_at (all_classes ds) k ≡ o → Apart (introduced_by (all_classes ds) k)
+  by_apart_at : EntriesDiffer cs → (k : ClassKey) (o : Option Class) → class_at (with_kernel cs) k ≡ o → Apart (introduced_by (with_kernel cs) k)
   by_apart_at rule k None e = rw e tt
-  by_apart_at rule k (Some c) e = rw e (introduced_apart c.decl.face.entries (entries_apart ds rule c (found_mem (all_classes ds) k c e).0))
+  by_apart_at rule k (Some c) e = rw e (introduced_apart c.decl.face.entries (entries_apart cs rule c (found_mem (with_kernel cs) k c e).0))
 
-  pub say_once : EntriesDiffer ds → IntroducedOnce ds → first (flat_map (s8 (all_classes ds)) (of_release ds)) ≡ None
-  say_once rule once = says_each (s8 (all_classes ds)) ds (λ d m.
-      let h = hierarchy (all_classes ds) in
-      let list = anc h (of_library d).key in
-      map_none _ (doubles bytes_eq [] (flat_map (introduced_by (all_classes ds)) list)) (by_apart bytes_eq exact_bytes (flat_map (introduced_by (all_classes ds)) list)
-      (flat_apart (introduced_by (all_classes ds)) list (ancestors_apart h tells (of_library d).key)
-      (λ k n. by_apart_at rule k (class_at (all_classes ds) k) refl)
-      (λ a b name p q i j. once.by d a b name m ((ancestors h tells lower (of_library d).key a).0 p) ((ancestors h tells lower (of_library d).key b).0 q)
-      (by_says (all_classes ds) a name (class_at (all_classes ds) a) refl i) (by_says (all_classes ds) b name (class_at (all_classes ds) b) refl j)))))
+  pub say_once : EntriesDiffer cs → IntroducedOnce cs → first (flat_map (s8 (with_kernel cs)) cs) ≡ None
+  say_once rule once = says_each (s8 (with_kernel cs)) cs (λ c m.
+      let h = hierarchy (with_kernel cs) in
+      let list = anc h c.key in
+      map_none _ (doubles bytes_eq [] (flat_map (introduced_by (with_kernel cs)) list)) (by_apart bytes_eq exact_bytes (flat_map (introduced_by (with_kernel cs)) list)
+      (flat_apart (introduced_by (with_kernel cs)) list (ancestors_apart h tells c.key)
+      (λ k n. by_apart_at rule k (class_at (with_kernel cs) k) refl)
+      (λ a b name p q i j. once.by c a b name m ((ancestors h tells lower c.key a).0 p) ((ancestors h tells lower c.key b).0 q)
+      (by_says (with_kernel cs) a name (class_at (with_kernel cs) a) refl i) (by_says (with_kernel cs) b name (class_at (with_kernel cs) b) refl j)))))
 
   -- S9
-  moved_at : (d : ClassDecl) (name : List ℕ) (to : ClassKey) → first (flat_map (s9 (all_classes ds)) (of_release ds)) ≡ None → Mem d ds → Mem (entries.Moved name to) d.face.entries
-      → IsAbove ds d to × Introduces (all_classes ds) to name
-  moved_at d name to e m n =
-      let c = of_library d in
-      inherits_says d to name (demanded_of 9 c name (inherits (all_classes ds) c.key to name)
-      (flat_none (moved_entry (all_classes ds) c.key c) d.face.entries (entries.Moved name to) (each_says (s9 (all_classes ds)) ds e d m) n))
+  moved_at : (c : Class) (name : List ℕ) (to : ClassKey) → first (flat_map (s9 (with_kernel cs)) cs) ≡ None → Mem c cs → Mem (entries.Moved name to) c.decl.face.entries
+      → IsAbove cs c to × Introduces (with_kernel cs) to name
+  moved_at c name to e m n =
+      inherits_says c to name (demanded_of 9 c name (inherits (with_kernel cs) c.key to name)
+      (flat_none (moved_entry (with_kernel cs) c.key c) c.decl.face.entries (entries.Moved name to) (each_says (s9 (with_kernel cs)) cs e c m) n))
 
-  pub moved_says : first (flat_map (s9 (all_classes ds)) (of_release ds)) ≡ None → MovedUp ds
+  pub moved_says : first (flat_map (s9 (with_kernel cs)) cs) ≡ None → MovedUp cs
   moved_says e = record {
-    above = λ d name to m n. (moved_at d name to e m n).0;
-    introduced = λ d name to m n. (moved_at d name to e m n).1;
+    above = λ c name to m n. (moved_at c name to e m n).0;
+    introduced = λ c name to m n. (moved_at c name to e m n).1;
   }
 
-  entry_moved : EntriesDiffer ds → MovedUp ds → (d : ClassDecl) → Mem d ds → (e : Entry) → Mem e d.face.entries → first (moved_entry (all_classes ds) (of_library d).key (of_library d) e) ≡ None
-  entry_moved rule up d m (entries.Introduced name sig way) n = refl
-  entry_moved rule up d m (entries.Moved name to) n =
-      demand_of_none 9 (of_library d) name (inherits (all_classes ds) (of_library d).key to name) (says_inherits rule d to name (up.above d name to m n) (up.introduced d name to m n))
+  entry_moved : EntriesDiffer cs → MovedUp cs → (c : Class) → Mem c cs → (e : Entry) → Mem e c.decl.face.entries → first (moved_entry (with_kernel cs) c.key c e) ≡ None
+  entry_moved rule up c m (entries.Introduced name sig way) n = refl
+  entry_moved rule up c m (entries.Moved name to) n =
+      demand_of_none 9 c name (inherits (with_kernel cs) c.key to name) (says_inherits rule c to name (up.above c name to m n) (up.introduced c name to m n))
 
-  pub say_moved : EntriesDiffer ds → MovedUp ds → first (flat_map (s9 (all_classes ds)) (of_release ds)) ≡ None
-  say_moved rule up = says_each (s9 (all_classes ds)) ds (λ d m. none_flat (moved_entry (all_classes ds) (of_library d).key (of_library d)) d.face.entries (entry_moved rule up d m))
+  pub say_moved : EntriesDiffer cs → MovedUp cs → first (flat_map (s9 (with_kernel cs)) cs) ≡ None
+  say_moved rule up = says_each (s9 (with_kernel cs)) cs (λ c m. none_flat (moved_entry (with_kernel cs) c.key c) c.decl.face.entries (entry_moved rule up c m))
 
   -- S10
-  pub overrides_say : first (flat_map (s10 (all_classes ds)) (of_release ds)) ≡ None → OverridesInherited ds
+  pub overrides_say : first (flat_map (s10 (with_kernel cs)) cs) ≡ None → OverridesInherited cs
   overrides_say e =
-      let at = λ (d : ClassDecl) (m : Mem d ds). overrides_says (all_classes ds) (of_library d).key (of_library d) [] d.overrides (each_says (s10 (all_classes ds)) ds e d m) in
+      let at = λ (c : Class) (m : Mem c cs). overrides_says (with_kernel cs) c.key c [] c.decl.overrides (each_says (s10 (with_kernel cs)) cs e c m) in
       record {
-        above = λ d o m n. (inherits_says d (own (all_classes ds) o).class (own (all_classes ds) o).name ((at d m).0 o n)).0;
-        introduced = λ d o m n. (inherits_says d (own (all_classes ds) o).class (own (all_classes ds) o).name ((at d m).0 o n)).1;
-        once = λ d m. apart_differ (own (all_classes ds)) d.overrides (at d m).1;
+        above = λ c o m n. (inherits_says c (own (with_kernel cs) o).class (own (with_kernel cs) o).name ((at c m).0 o n)).0;
+        introduced = λ c o m n. (inherits_says c (own (with_kernel cs) o).class (own (with_kernel cs) o).name ((at c m).0 o n)).1;
+        once = λ c m. apart_differ (own (with_kernel cs)) c.decl.overrides (at c m).1;
       }
 
-  pub say_overrides : EntriesDiffer ds → OverridesInherited ds → first (flat_map (s10 (all_classes ds)) (of_release ds)) ≡ None
-  say_overrides rule over = says_each (s10 (all_classes ds)) ds (λ d m.
-      says_overrides (all_classes ds) (of_library d).key (of_library d) [] d.overrides (
-        (λ o n. says_inherits rule d (own (all_classes ds) o).class (own (all_classes ds) o).name (over.above d o m n) (over.introduced d o m n)),
-        differ_apart (own (all_classes ds)) d.overrides (over.once d m),
+  pub say_overrides : EntriesDiffer cs → OverridesInherited cs → first (flat_map (s10 (with_kernel cs)) cs) ≡ None
+  say_overrides rule over = says_each (s10 (with_kernel cs)) cs (λ c m.
+      says_overrides (with_kernel cs) c.key c [] c.decl.overrides (
+        (λ o n. says_inherits rule c (own (with_kernel cs) o).class (own (with_kernel cs) o).name (over.above c o m n) (over.introduced c o m n)),
+        differ_apart (own (with_kernel cs)) c.decl.overrides (over.once c m),
         (λ r n k. n),
       ))

@@ -9,35 +9,28 @@ use Rattle.som_model.specs.Kernel.{kernel}
 use Rattle.som_model.specs.Conforming.{each_after}
 use Rattle.som_model.specs.Rules.{demand, name_of, s1, s2, s3}
 use Rattle.som_model.specs.declared.key.ClassKey.{ClassKey}
-use Rattle.som_model.specs.declared.class.ClassDecl.{ClassDecl}
 use Rattle.som_model.proofs.KeyLaws.{exact_bytes, exact_keys}
 use Rattle.som_plain.proofs.Members.{mem_left, mem_right, mem_split, Apart, apart_doubles}
-use Rattle.som_verify.specs.Told.{of_library, of_release}
-use Rattle.som_verify.specs.Plainly.{IsAmong, NamesDiffer, ParentsStand, ParentsDiffer}
+use Rattle.som_verify.specs.Plainly.{IsAmong, NamesApart, ParentsBefore, ParentsDiffer}
 use Rattle.som_verify.proofs.Before.{after_says, demanded, every_mem, mem_every, known_mem, mem_known}
 use Rattle.som_verify.proofs.PlainLists.{mem_map, map_mem, each_says, says_each, says_after, none_map, map_none, apart_by, fresh_by, apart_after, by_apart, apart_differ, differ_apart, s1_doubles}
 
-library_names : (ds : List ClassDecl) → map name_of (of_release ds) ≡ map (λ (d : ClassDecl). d.face.name) ds
-library_names [] = refl
-library_names (d ∷ ds) = ap (λ z. d.face.name ∷ z) (library_names ds)
-
-pub names_say : (ds : List ClassDecl) → first (each_after s1 kernel (of_release ds)) ≡ None → NamesDiffer ds
-names_say ds e =
-    let apart = (s1_doubles kernel (of_release ds)).0 e in
+pub names_say : (cs : List Class) → first (each_after s1 kernel cs) ≡ None → NamesApart cs
+names_say cs e =
+    let apart = (s1_doubles kernel cs).0 e in
     record {
-      own = apart_differ (λ (d : ClassDecl). d.face.name) ds (subst Apart (library_names ds) (apart_after bytes_eq exact_bytes (map name_of kernel) (map name_of (of_release ds)) apart));
-      kernels = λ c d m n same. fresh_by bytes_eq exact_bytes (map name_of kernel) (map name_of (of_release ds)) apart (name_of c) (mem_map name_of c kernel m)
-          (subst (λ z. Mem z (map name_of (of_release ds))) (sym same) (mem_map name_of (of_library d) (of_release ds) (mem_map of_library d ds n)));
+      own = apart_differ name_of cs (apart_after bytes_eq exact_bytes (map name_of kernel) (map name_of cs) apart);
+      kernels = λ c d m n same. fresh_by bytes_eq exact_bytes (map name_of kernel) (map name_of cs) apart (name_of c) (mem_map name_of c kernel m)
+          (subst (λ z. Mem z (map name_of cs)) (sym same) (mem_map name_of d cs n));
     }
 
-pub say_names : (ds : List ClassDecl) → NamesDiffer ds → first (each_after s1 kernel (of_release ds)) ≡ None
-say_names ds rule = (s1_doubles kernel (of_release ds)).1 (apart_doubles bytes_eq exact_bytes.two (map name_of kernel) (map name_of (of_release ds))
+pub say_names : (cs : List Class) → NamesApart cs → first (each_after s1 kernel cs) ≡ None
+say_names cs rule = (s1_doubles kernel cs).1 (apart_doubles bytes_eq exact_bytes.two (map name_of kernel) (map name_of cs)
     (λ a m n.
     let c = map_mem name_of a kernel m in
-    let l = map_mem name_of a (of_release ds) n in
-    let d = map_mem of_library l.0 ds l.1 in
-    rule.kernels c.0 d.0 c.1 d.1 (sym c.2 ∙ l.2 ∙ ap name_of d.2))
-    (subst Apart (sym (library_names ds)) (differ_apart (λ (d : ClassDecl). d.face.name) ds rule.own)))
+    let d = map_mem name_of a cs n in
+    rule.kernels c.0 d.0 c.1 d.1 (sym c.2 ∙ d.2))
+    (differ_apart name_of cs rule.own))
 
 pub demand_none : (n : ℕ) (c : Class) (b : Bool) → b ≡ true → first (demand n c b) ≡ None
 demand_none n c b e = rw e refl
@@ -53,36 +46,36 @@ among_known cs k a = mem_known cs k a.class a.there a.named
 pub known_among : (cs : List Class) (k : ClassKey) → is_some (class_at cs k) ≡ true → IsAmong cs k
 known_among cs k e = let r = known_mem cs k e in record { class = r.0; there = r.1; named = r.2 }
 
-stand_at : (before : List Class) (d : ClassDecl) (k : ClassKey) → first (s2 before (of_library d)) ≡ None → Mem k (d.face.parents ++ option_list d.face.metaclass) → IsAmong before k
-stand_at before d k e m =
-    known_among before k (every_mem (λ k. is_some (class_at before k)) k (d.face.parents ++ option_list d.face.metaclass) (demanded 2 (of_library d) _ e) m)
+stand_at : (before : List Class) (c : Class) (k : ClassKey) → first (s2 before c) ≡ None → Mem k (c.decl.face.parents ++ option_list c.decl.face.metaclass) → IsAmong before k
+stand_at before c k e m =
+    known_among before k (every_mem (λ k. is_some (class_at before k)) k (c.decl.face.parents ++ option_list c.decl.face.metaclass) (demanded 2 c _ e) m)
 
-pub parents_say : (ds : List ClassDecl) → first (each_after s2 kernel (of_release ds)) ≡ None → ParentsStand ds
-parents_say ds e = record {
-  parents = λ i d k at m. stand_at (kernel ++ of_release (take i ds)) d k (after_says s2 kernel ds e i d at) (mem_left k d.face.parents (option_list d.face.metaclass) m);
-  metaclass = λ i d k at is. stand_at (kernel ++ of_release (take i ds)) d k (after_says s2 kernel ds e i d at)
-      (mem_right k d.face.parents (option_list d.face.metaclass) (subst (λ (o : Option ClassKey). Mem k (option_list o)) (sym is) (inl refl)));
+pub parents_say : (cs : List Class) → first (each_after s2 kernel cs) ≡ None → ParentsBefore cs
+parents_say cs e = record {
+  parents = λ i c k at m. stand_at (kernel ++ take i cs) c k (after_says s2 kernel cs e i c at) (mem_left k c.decl.face.parents (option_list c.decl.face.metaclass) m);
+  metaclass = λ i c k at is. stand_at (kernel ++ take i cs) c k (after_says s2 kernel cs e i c at)
+      (mem_right k c.decl.face.parents (option_list c.decl.face.metaclass) (subst (λ (o : Option ClassKey). Mem k (option_list o)) (sym is) (inl refl)));
 }
 
-pub say_parents : (ds : List ClassDecl) → ParentsStand ds → first (each_after s2 kernel (of_release ds)) ≡ None
-say_parents ds rule = says_after s2 kernel ds (λ i d at.
-    demand_none 2 (of_library d) _ (mem_every (λ k. is_some (class_at (kernel ++ of_release (take i ds)) k)) (d.face.parents ++ option_list d.face.metaclass)
-    (λ k m. elim (mem_split k d.face.parents (option_list d.face.metaclass) m) [
-      | inl n ↦ among_known (kernel ++ of_release (take i ds)) k (rule.parents i d k at n)
-      | inr n ↦ among_known (kernel ++ of_release (take i ds)) k (rule.metaclass i d k at (option_mem d.face.metaclass k n))
+pub say_parents : (cs : List Class) → ParentsBefore cs → first (each_after s2 kernel cs) ≡ None
+say_parents cs rule = says_after s2 kernel cs (λ i c at.
+    demand_none 2 c _ (mem_every (λ k. is_some (class_at (kernel ++ take i cs) k)) (c.decl.face.parents ++ option_list c.decl.face.metaclass)
+    (λ k m. elim (mem_split k c.decl.face.parents (option_list c.decl.face.metaclass) m) [
+      | inl n ↦ among_known (kernel ++ take i cs) k (rule.parents i c k at n)
+      | inr n ↦ among_known (kernel ++ take i cs) k (rule.metaclass i c k at (option_mem c.decl.face.metaclass k n))
     ])))
 
 map_same : {A : Type 0} (xs : List A) → map (λ (x : A). x) xs ≡ xs
 map_same [] = refl
 map_same (x ∷ xs) = ap (λ z. x ∷ z) (map_same xs)
 
-pub parents_differ_say : (ds : List ClassDecl) → first (flat_map s3 (of_release ds)) ≡ None → ParentsDiffer ds
-parents_differ_say ds e = record {
-  by = λ d m. apart_differ (λ (k : ClassKey). k) d.face.parents (subst Apart (sym (map_same d.face.parents))
-      (apart_by same_key exact_keys d.face.parents (none_map _ (doubles same_key [] d.face.parents) (each_says s3 ds e d m))));
+pub parents_differ_say : (cs : List Class) → first (flat_map s3 cs) ≡ None → ParentsDiffer cs
+parents_differ_say cs e = record {
+  by = λ c m. apart_differ (λ (k : ClassKey). k) c.decl.face.parents (subst Apart (sym (map_same c.decl.face.parents))
+      (apart_by same_key exact_keys c.decl.face.parents (none_map _ (doubles same_key [] c.decl.face.parents) (each_says s3 cs e c m))));
 }
 
-pub say_parents_differ : (ds : List ClassDecl) → ParentsDiffer ds → first (flat_map s3 (of_release ds)) ≡ None
-say_parents_differ ds rule = says_each s3 ds (λ d m.
-    map_none _ (doubles same_key [] d.face.parents) (by_apart same_key exact_keys d.face.parents
-    (subst Apart (map_same d.face.parents) (differ_apart (λ (k : ClassKey). k) d.face.parents (rule.by d m)))))
+pub say_parents_differ : (cs : List Class) → ParentsDiffer cs → first (flat_map s3 cs) ≡ None
+say_parents_differ cs rule = says_each s3 cs (λ c m.
+    map_none _ (doubles same_key [] c.decl.face.parents) (by_apart same_key exact_keys c.decl.face.parents
+    (subst Apart (map_same c.decl.face.parents) (differ_apart (λ (k : ClassKey). k) c.decl.face.parents (rule.by c m)))))

@@ -11,17 +11,19 @@ use Rattle.som_model.specs.Kernel.{kernel}
 use Rattle.som_model.specs.Rules.{breach, s2}
 use Rattle.som_model.specs.Conforming.{each_after}
 use Rattle.som_model.specs.declared.key.ClassKey.{ClassKey}
-use Rattle.som_model.specs.declared.class.ClassDecl.{ClassDecl}
 use Rattle.som_plain.proofs.Members.{mem_split}
 use Rattle.som_verify.specs.declared.types.VerifyFault.{VerifyFault}
 use Rattle.som_verify.specs.declared.types.VerifyFault.TheVariants as faults
-use Rattle.som_verify.specs.Told.{Tells, of_library, of_release}
-use Rattle.som_verify.specs.Places.{all_classes, key_at, face_at, IsRows, Finds}
+use Rattle.som_verify.specs.declared.types.Declared.{Declared}
+use Rattle.som_verify.specs.Told.{Tells}
+use Rattle.som_verify.specs.Modules.{class_of, classes_of}
+use Rattle.som_verify.specs.Places.{with_kernel, key_at, face_at, IsRows, Finds}
 use Rattle.som_verify.specs.Standing.{all_stand, RowStands, ClassStands, kernel_rows}
+use Rattle.som_verify.proofs.DeclaredClasses.{long_map, item_of}
 use Rattle.som_verify.proofs.Passes.{tells_first}
 use Rattle.som_verify.proofs.Doubled.{take_last}
 use Rattle.som_verify.proofs.ClassTable.{front, after_more}
-use Rattle.som_verify.proofs.Finding.{known_is, long_map}
+use Rattle.som_verify.proofs.Finding.{known_is}
 
 map_last : {A B : Type 0} (f : A → B) (row : List A) (x : A) → map f (row ++ x ∷ []) ≡ map f row ++ f x ∷ []
 map_last f [] x = refl
@@ -57,7 +59,7 @@ row_stops cs place parents i row k lt is found so =
     let known : is_some (class_at (take place cs) (slice_index_or parents i k)) ≡ false = ap (λ z. is_some (class_at (take place cs) z)) (sym is) ∙ known_is cs k place None found in
     sym so.same ∙ every_at (λ k. is_some (class_at (take place cs) k)) parents i k lt ∙ ap (λ (b : Bool). if b then all_stand cs place (drop (i + 1) parents) else false) known
 
-take_whole : {A : Type 0} (xs : List A) (i : ℕ) → length xs ≤ i → take i xs ≡ xs
+pub take_whole : {A : Type 0} (xs : List A) (i : ℕ) → length xs ≤ i → take i xs ≡ xs
 take_whole [] zero le = refl
 take_whole [] (suc i) le = refl
 take_whole (x ∷ xs) zero le = absurd (omega arith)
@@ -91,39 +93,34 @@ every_both test (x ∷ xs) ys = by (test x) (every_both test xs ys)
     by true e = e
     by false e = refl
 
-stands_with : (cs : List Class) (place : ℕ) (d : ClassDecl) (a b : Bool) → all_stand cs place d.face.parents ≡ a → all_stand cs place (option_list d.face.metaclass) ≡ b
-    → s2 (take place cs) (of_library d) ≡ (if a && b then [] else breach 2 (of_library d) (codes "-") ∷ [])
-stands_with cs place d a b e f =
-    let both : all_stand cs place (d.face.parents ++ option_list d.face.metaclass) ≡ (a && b) =
-    every_both (λ k. is_some (class_at (take place cs) k)) d.face.parents (option_list d.face.metaclass)
-    ∙ ap (λ z. z && all_stand cs place (option_list d.face.metaclass)) e ∙ ap (λ z. a && z) f in
-    ap (λ (z : Bool). if z then [] else breach 2 (of_library d) (codes "-") ∷ []) both
+stands_with : (cs : List Class) (place : ℕ) (c : Class) (a b : Bool) → all_stand cs place c.decl.face.parents ≡ a → all_stand cs place (option_list c.decl.face.metaclass) ≡ b
+    → s2 (take place cs) c ≡ (if a && b then [] else breach 2 c (codes "-") ∷ [])
+stands_with cs place c a b e f =
+    let both : all_stand cs place (c.decl.face.parents ++ option_list c.decl.face.metaclass) ≡ (a && b) =
+    every_both (λ k. is_some (class_at (take place cs) k)) c.decl.face.parents (option_list c.decl.face.metaclass)
+    ∙ ap (λ z. z && all_stand cs place (option_list c.decl.face.metaclass)) e ∙ ap (λ z. a && z) f in
+    ap (λ (z : Bool). if z then [] else breach 2 c (codes "-") ∷ []) both
 
-pub no_parent : (cs : List Class) (place : ℕ) (d : ClassDecl) → all_stand cs place d.face.parents ≡ false → first (s2 (take place cs) (of_library d)) ≡ Some (breach 2 (of_library d) (codes "-"))
-no_parent cs place d e = ap first (stands_with cs place d false (all_stand cs place (option_list d.face.metaclass)) e refl)
+pub no_parent : (cs : List Class) (place : ℕ) (c : Class) → all_stand cs place c.decl.face.parents ≡ false → first (s2 (take place cs) c) ≡ Some (breach 2 c (codes "-"))
+no_parent cs place c e = ap first (stands_with cs place c false (all_stand cs place (option_list c.decl.face.metaclass)) e refl)
 
-pub no_meta : (cs : List Class) (place : ℕ) (d : ClassDecl) → all_stand cs place d.face.parents ≡ true → all_stand cs place (option_list d.face.metaclass) ≡ false
-    → first (s2 (take place cs) (of_library d)) ≡ Some (breach 2 (of_library d) (codes "-"))
-no_meta cs place d e f = ap first (stands_with cs place d true false e f)
+pub no_meta : (cs : List Class) (place : ℕ) (c : Class) → all_stand cs place c.decl.face.parents ≡ true → all_stand cs place (option_list c.decl.face.metaclass) ≡ false
+    → first (s2 (take place cs) c) ≡ Some (breach 2 c (codes "-"))
+no_meta cs place c e f = ap first (stands_with cs place c true false e f)
 
-pub stands : (cs : List Class) (place : ℕ) (d : ClassDecl) → all_stand cs place d.face.parents ≡ true → all_stand cs place (option_list d.face.metaclass) ≡ true
-    → first (s2 (take place cs) (of_library d)) ≡ None
-stands cs place d e f = ap first (stands_with cs place d true true e f)
+pub stands : (cs : List Class) (place : ℕ) (c : Class) → all_stand cs place c.decl.face.parents ≡ true → all_stand cs place (option_list c.decl.face.metaclass) ≡ true
+    → first (s2 (take place cs) c) ≡ None
+stands cs place c e f = ap first (stands_with cs place c true true e f)
 
 -- all rows so far
 
-take_map : {A B : Type 0} (f : A → B) (xs : List A) (i : ℕ) → take i (map f xs) ≡ map f (take i xs)
-take_map f xs zero = refl
-take_map f [] (suc i) = refl
-take_map f (x ∷ xs) (suc i) = ap (λ z. f x ∷ z) (take_map f xs i)
+pub take_front : (cs : List Class) (i : ℕ) → take (suc (suc (suc (suc i)))) (with_kernel cs) ≡ front kernel cs i
+take_front cs i = refl
 
-pub take_front : (ds : List ClassDecl) (i : ℕ) → take (suc (suc (suc (suc i)))) (all_classes ds) ≡ front kernel ds i
-take_front ds i = ap (λ z. kernel ++ z) (take_map of_library ds i)
-
-pub library_face : (ds : List ClassDecl) (i : ℕ) (d : ClassDecl) → i < length ds → face_at (of_release ds) i ≡ (slice_index_or ds i d).face
-library_face [] i d lt = absurd (omega arith)
-library_face (x ∷ ds) zero d lt = refl
-library_face (x ∷ ds) (suc i) d lt = library_face ds i d (omega arith)
+pub face_there : (cs : List Class) (i : ℕ) (c : Class) → i < length cs → face_at cs i ≡ (slice_index_or cs i c).decl.face
+face_there [] i c lt = absurd (omega arith)
+face_there (x ∷ cs) zero c lt = refl
+face_there (x ∷ cs) (suc i) c lt = face_there cs i c (omega arith)
 
 rows_more : (cs : List Class) (n : ℕ) (rows : List (List ℕ)) (row : List ℕ) → IsRows cs n rows
     → ((p : ℕ) → Mem p row → p < n) → map (key_at cs) row ≡ (face_at cs n).parents → IsRows cs (suc n) (rows ++ row ∷ [])
@@ -145,9 +142,9 @@ rows_more cs n rows row so low is = record {
   ];
 }
 
-pub record RowsSoFar (ds : List ClassDecl) (i : ℕ) (rows : List (List ℕ)) : Type 0 where
-  pub same : first (each_after s2 (front kernel ds i) (of_release (drop i ds))) ≡ first (each_after s2 kernel (of_release ds))
-  pub table : IsRows (all_classes ds) (suc (suc (suc (suc i)))) rows
+pub record RowsSoFar (cs : List Class) (i : ℕ) (rows : List (List ℕ)) : Type 0 where
+  pub same : first (each_after s2 (front kernel cs i) (drop i cs)) ≡ first (each_after s2 kernel cs)
+  pub table : IsRows (with_kernel cs) (suc (suc (suc (suc i)))) rows
 
 pub kernel_low : (i p : ℕ) → Mem p (slice_index_or kernel_rows i []) → p < i
 kernel_low zero p m = absurd m
@@ -159,45 +156,60 @@ kernel_low (suc (suc (suc zero))) p (inl e) = omega (arith, e)
 kernel_low (suc (suc (suc zero))) p (inr m) = absurd m
 kernel_low (suc (suc (suc (suc i)))) p m = absurd m
 
-pub kernel_by : (ds : List ClassDecl) (i : ℕ) → i < 4 → map (key_at (all_classes ds)) (slice_index_or kernel_rows i []) ≡ (face_at (all_classes ds) i).parents
-kernel_by ds zero lt = refl
-kernel_by ds (suc zero) lt = refl
-kernel_by ds (suc (suc zero)) lt = refl
-kernel_by ds (suc (suc (suc zero))) lt = refl
-kernel_by ds (suc (suc (suc (suc i)))) lt = absurd (omega arith)
+pub kernel_by : (cs : List Class) (i : ℕ) → i < 4 → map (key_at (with_kernel cs)) (slice_index_or kernel_rows i []) ≡ (face_at (with_kernel cs) i).parents
+kernel_by cs zero lt = refl
+kernel_by cs (suc zero) lt = refl
+kernel_by cs (suc (suc zero)) lt = refl
+kernel_by cs (suc (suc (suc zero))) lt = refl
+kernel_by cs (suc (suc (suc (suc i)))) lt = absurd (omega arith)
 
-pub rows_start : (ds : List ClassDecl) → RowsSoFar ds 0 kernel_rows
-rows_start ds = record { same = refl; table = record { long = refl; low = kernel_low; by = kernel_by ds } }
+pub rows_start : (cs : List Class) → RowsSoFar cs 0 kernel_rows
+rows_start cs = record { same = refl; table = record { long = refl; low = kernel_low; by = kernel_by cs } }
 
-here : (ds : List ClassDecl) (i place : ℕ) (d : ClassDecl) → place ≡ suc (suc (suc (suc i))) → i < length ds
-    → s2 (take place (all_classes ds)) (of_library d) ≡ s2 (front kernel ds i) (of_library d)
-here ds i place d e lt = ap (λ z. s2 z (of_library d)) (ap (λ n. take n (all_classes ds)) e ∙ take_front ds i)
+here : (cs : List Class) (i place : ℕ) (c : Class) → place ≡ suc (suc (suc (suc i))) → i < length cs
+    → s2 (take place (with_kernel cs)) c ≡ s2 (front kernel cs i) c
+here cs i place c e lt = ap (λ z. s2 z c) (ap (λ n. take n (with_kernel cs)) e ∙ take_front cs i)
 
-step : (ds : List ClassDecl) (i : ℕ) (d : ClassDecl) → i < length ds → d ≡ slice_index_or ds i d
-    → first (each_after s2 (front kernel ds i) (of_release (drop i ds))) ≡ or_else (first (s2 (front kernel ds i) (of_library d))) (first (each_after s2 (front kernel ds (i + 1)) (of_release (drop (i + 1) ds))))
-step ds i d lt is = after_more s2 kernel ds i d lt ∙ ap (λ (z : ClassDecl). or_else (first (s2 (front kernel ds i) (of_library z))) (first (each_after s2 (front kernel ds (i + 1)) (of_release (drop (i + 1) ds))))) (sym is)
+step : (cs : List Class) (i : ℕ) (c : Class) → i < length cs → c ≡ slice_index_or cs i c
+    → first (each_after s2 (front kernel cs i) (drop i cs)) ≡ or_else (first (s2 (front kernel cs i) c)) (first (each_after s2 (front kernel cs (i + 1)) (drop (i + 1) cs)))
+step cs i c lt is = after_more s2 kernel cs i c lt ∙ ap (λ (z : Class). or_else (first (s2 (front kernel cs i) z)) (first (each_after s2 (front kernel cs (i + 1)) (drop (i + 1) cs)))) (sym is)
 
-pub rows_next : (ds : List ClassDecl) (i place : ℕ) (rows : List (List ℕ)) (row : List ℕ) (d : ClassDecl) → i < length ds → d ≡ slice_index_or ds i d → place ≡ length rows
-    → ClassStands (all_classes ds) place d (Ok row) → RowsSoFar ds i rows → RowsSoFar ds (i + 1) (rows ++ row ∷ [])
-rows_next ds i place rows row d lt is at_end tells so =
+next_rows : (cs : List Class) (i place : ℕ) (rows : List (List ℕ)) (row : List ℕ) (c : Class) → i < length cs → c ≡ slice_index_or cs i c → place ≡ length rows
+    → ClassStands (with_kernel cs) place c (Ok row) → RowsSoFar cs i rows → RowsSoFar cs (i + 1) (rows ++ row ∷ [])
+next_rows cs i place rows row c lt is at_end tells so =
     let e : place ≡ suc (suc (suc (suc i))) = at_end ∙ so.table.long in
-    let none : first (s2 (front kernel ds i) (of_library d)) ≡ None = ap first (sym (here ds i place d e lt)) ∙ tells.0 in
-    let more = rows_more (all_classes ds) (suc (suc (suc (suc i)))) rows row so.table (λ p m. let l = tells.2 p m in omega (arith, l, e))
-    (tells.1 ∙ ap (λ (z : ClassDecl). z.face.parents) is ∙ ap (λ (z : _). z.parents) (sym (library_face ds i d lt))) in
+    let none : first (s2 (front kernel cs i) c) ≡ None = ap first (sym (here cs i place c e lt)) ∙ tells.0 in
+    let more = rows_more (with_kernel cs) (suc (suc (suc (suc i)))) rows row so.table (λ p m. let l = tells.2 p m in omega (arith, l, e))
+    (tells.1 ∙ ap (λ (z : Class). z.decl.face.parents) is ∙ ap (λ (z : _). z.parents) (sym (face_there cs i c lt))) in
     let n : suc (suc (suc (suc (suc i)))) ≡ suc (suc (suc (suc (i + 1)))) = omega arith in
     record {
-      same = sym (step ds i d lt is ∙ ap (λ z. or_else z (first (each_after s2 (front kernel ds (i + 1)) (of_release (drop (i + 1) ds))))) none) ∙ so.same;
-      table = subst (λ z. IsRows (all_classes ds) z (rows ++ row ∷ [])) n more;
+      same = sym (step cs i c lt is ∙ ap (λ z. or_else z (first (each_after s2 (front kernel cs (i + 1)) (drop (i + 1) cs)))) none) ∙ so.same;
+      table = subst (λ z. IsRows (with_kernel cs) z (rows ++ row ∷ [])) n more;
     }
 
-pub rows_stop : (ds : List ClassDecl) (i place : ℕ) (rows : List (List ℕ)) (d : ClassDecl) (e : VerifyFault) → i < length ds → d ≡ slice_index_or ds i d → place ≡ length rows
-    → ClassStands (all_classes ds) place d (Err e) → RowsSoFar ds i rows → Tells {A = Unit {0}} (first (each_after s2 kernel (of_release ds))) (Err e)
-rows_stop ds i place rows d (faults.Rule b) lt is at_end tells so =
+stop_rows : (cs : List Class) (i place : ℕ) (rows : List (List ℕ)) (c : Class) (e : VerifyFault) → i < length cs → c ≡ slice_index_or cs i c → place ≡ length rows
+    → ClassStands (with_kernel cs) place c (Err e) → RowsSoFar cs i rows → Tells {A = Unit {0}} (first (each_after s2 kernel cs)) (Err e)
+stop_rows cs i place rows c (faults.Rule b) lt is at_end tells so =
     let e : place ≡ suc (suc (suc (suc i))) = at_end ∙ so.table.long in
-    tells_first (first (s2 (front kernel ds i) (of_library d))) _ _ (faults.Rule b) (ap first (sym (here ds i place d e lt)) ∙ tells) (sym (step ds i d lt is) ∙ so.same)
-rows_stop ds i place rows d faults.NoMemory lt is at_end tells so = tt
+    tells_first (first (s2 (front kernel cs i) c)) _ _ (faults.Rule b) (ap first (sym (here cs i place c e lt)) ∙ tells) (sym (step cs i c lt is) ∙ so.same)
+stop_rows cs i place rows c faults.NoMemory lt is at_end tells so = tt
 
-pub rows_end : (ds : List ClassDecl) (i : ℕ) (rows : List (List ℕ)) → i ≡ length ds → RowsSoFar ds i rows → IsRows (all_classes ds) (length (all_classes ds)) rows
+-- the same of declared classes
+
+pub rows_next : (ds : List Declared) (i place : ℕ) (rows : List (List ℕ)) (row : List ℕ) (d : Declared) → i < length ds → d ≡ slice_index_or ds i d → place ≡ length rows
+    → ClassStands (with_kernel (classes_of ds)) place (class_of d) (Ok row) → RowsSoFar (classes_of ds) i rows → RowsSoFar (classes_of ds) (i + 1) (rows ++ row ∷ [])
+rows_next ds i place rows row d lt is at_end tells so =
+    next_rows (classes_of ds) i place rows row (class_of d) (omega (arith, long_map class_of ds)) (ap class_of is ∙ item_of ds i d lt) at_end tells so
+
+pub rows_stop : (ds : List Declared) (i place : ℕ) (rows : List (List ℕ)) (d : Declared) (e : VerifyFault) → i < length ds → d ≡ slice_index_or ds i d → place ≡ length rows
+    → ClassStands (with_kernel (classes_of ds)) place (class_of d) (Err e) → RowsSoFar (classes_of ds) i rows → Tells {A = Unit {0}} (first (each_after s2 kernel (classes_of ds))) (Err e)
+rows_stop ds i place rows d e lt is at_end tells so =
+    stop_rows (classes_of ds) i place rows (class_of d) e (omega (arith, long_map class_of ds)) (ap class_of is ∙ item_of ds i d lt) at_end tells so
+
+pub rows_end : (ds : List Declared) (i : ℕ) (rows : List (List ℕ)) → i ≡ length ds → RowsSoFar (classes_of ds) i rows → IsRows (with_kernel (classes_of ds)) (length (with_kernel (classes_of ds))) rows
 rows_end ds i rows e so =
-    let n : suc (suc (suc (suc i))) ≡ length (all_classes ds) = omega (arith, e, long_map of_library ds) in
-    subst (λ z. IsRows (all_classes ds) z rows) n so.table
+    subst (λ z. IsRows (with_kernel (classes_of ds)) z rows) (ap (λ n. suc (suc (suc (suc n)))) (e ∙ sym (long_map class_of ds))) so.table
+
+pub rows_told : (ds : List Declared) (i : ℕ) (rows : List (List ℕ)) → length ds ≤ i → RowsSoFar (classes_of ds) i rows → first (each_after s2 kernel (classes_of ds)) ≡ None
+rows_told ds i rows le so =
+    sym so.same ∙ ap (λ z. first (each_after s2 (front kernel (classes_of ds) i) z)) (drop_whole (classes_of ds) i (omega (arith, long_map class_of ds)))

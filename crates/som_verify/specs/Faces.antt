@@ -1,5 +1,5 @@
 -- What the rules say of faces, variables and overrides.
-use Rattle.std.specs.Prelude.{◌++◌, List, flat_map, Option}
+use Rattle.std.specs.Prelude.{ℕ, ◌++◌, List, take, drop, flat_map, Option}
 use Rattle.som_model.specs.Lists.{first, or_else}
 use Rattle.som_model.specs.Class.{Class}
 use Rattle.som_model.specs.Kernel.{kernel}
@@ -9,3 +9,10 @@ use Rattle.som_model.specs.Rules.{Breach, s5}
 -- the first breach of the rules S1 to S10
 abbrev pub faces_breach : List Class → Option Breach
 faces_breach cs = or_else (first_of_names kernel cs) (or_else (first (flat_map (s5 (kernel ++ cs)) cs)) (first_of_members kernel cs))
+
+-- the same, where the types of the first n classes name no class after them
+abbrev pub classes_breach : ℕ → List Class → Option Breach
+classes_breach n cs =
+    or_else (first_of_names kernel cs)
+    (or_else (first (flat_map (s5 (kernel ++ take n cs)) (take n cs) ++ flat_map (s5 (kernel ++ cs)) (drop n cs)))
+    (first_of_members kernel cs))

@@ -1,4 +1,5 @@
 pub mod Told
+pub mod Modules
 pub mod Places
 pub mod Standing
 pub mod Walk

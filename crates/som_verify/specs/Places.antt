@@ -1,5 +1,5 @@
--- Classes by their places: the kernel's first, and then the release's.
-use Rattle.std.specs.Prelude.{◌≡◌, ℕ, ◌<◌, nat_lt, if◌then◌else◌, List, [], ◌++◌, map, length, slice_index_or, Option, Some, None}
+-- Classes by their places: the kernel's first, and then the declared ones.
+use Rattle.std.specs.Prelude.{◌≡◌, ℕ, ◌<◌, List, [], ◌++◌, map, length, slice_index_or, Option, Some, None}
 use Rattle.som_model.specs.declared.key.Module.{Module}
 use Rattle.som_model.specs.declared.key.Module.TheVariants as modules
 use Rattle.som_model.specs.declared.key.ClassKey.{ClassKey}
@@ -11,10 +11,15 @@ use Rattle.som_model.specs.Kernel.{kernel, kernel_face}
 use Rattle.som_model.specs.Rules.{name_of}
 use Rattle.som_order.specs.Names.{name_at}
 use Rattle.som_verify.specs.Told.{of_release}
+use Rattle.som_verify.specs.Modules.{AreDeclared, module_of}
+
+-- the kernel's classes, and then these
+abbrev pub with_kernel : List Class → List Class
+with_kernel cs = kernel ++ cs
 
 -- the kernel's classes and a release's
 abbrev pub all_classes : List ClassDecl → List Class
-all_classes ds = kernel ++ of_release ds
+all_classes ds = with_kernel (of_release ds)
 
 -- a class for the places at which there is none
 abbrev pub nobody : Class
@@ -30,17 +35,18 @@ abbrev pub face_at : List Class → ℕ → ClassFace
 face_at cs place = (class_of_place cs place).decl.face
 
 -- the module of the class at a place
-abbrev pub module_at : ℕ → Module
-module_at place = if nat_lt place 4 then modules.Kernel else modules.Library
+abbrev pub module_at : List Class → ℕ → Module
+module_at cs place = module_of (class_of_place cs place)
 
 -- no name stands twice
 pub record AreOnce (names : List (List ℕ)) : Type 0 where
   pub by : (i j : ℕ) → i < length names → j < length names → name_at names i ≡ name_at names j → i ≡ j
 
--- the names of all classes by their places
-pub record IsTable (ds : List ClassDecl) (names : List (List ℕ)) : Type 0 where
-  pub are : names ≡ map name_of (all_classes ds)
+-- the names of the kernel's classes and of these by their places
+pub record IsTable (cs : List Class) (names : List (List ℕ)) : Type 0 where
+  pub are : names ≡ map name_of (with_kernel cs)
   pub once : AreOnce names
+  pub declared : AreDeclared cs
 
 -- the place below the limit at which a class of that key stands
 abbrev pub Finds : ℕ → List Class → ClassKey → Option ℕ → Type 0

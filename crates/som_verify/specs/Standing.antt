@@ -5,8 +5,7 @@ use Rattle.som_model.specs.Class.{Class}
 use Rattle.som_model.specs.Classes.{class_at}
 use Rattle.som_model.specs.Rules.{s2}
 use Rattle.som_model.specs.declared.key.ClassKey.{ClassKey}
-use Rattle.som_model.specs.declared.class.ClassDecl.{ClassDecl}
-use Rattle.som_verify.specs.Told.{Tells, of_library}
+use Rattle.som_verify.specs.Told.{Tells}
 use Rattle.som_verify.specs.Places.{key_at}
 use Rattle.som_verify.specs.declared.types.VerifyFault.{VerifyFault}
 
@@ -20,9 +19,9 @@ RowStands cs place parents (Some row) = (all_stand cs place parents ≡ true) ×
 RowStands cs place parents None = all_stand cs place parents ≡ false
 
 -- the row of a class whose parents and metaclass stand before it
-abbrev pub ClassStands : List Class → ℕ → ClassDecl → Result (List ℕ) VerifyFault → Type 0
-ClassStands cs place d (Ok row) = (first (s2 (take place cs) (of_library d)) ≡ None) × (map (key_at cs) row ≡ d.face.parents) × ((p : ℕ) → Mem p row → p < place)
-ClassStands cs place d (Err e) = Tells {A = List ℕ} (first (s2 (take place cs) (of_library d))) (Err e)
+abbrev pub ClassStands : List Class → ℕ → Class → Result (List ℕ) VerifyFault → Type 0
+ClassStands cs place c (Ok row) = (first (s2 (take place cs) c) ≡ None) × (map (key_at cs) row ≡ c.decl.face.parents) × ((p : ℕ) → Mem p row → p < place)
+ClassStands cs place c (Err e) = Tells {A = List ℕ} (first (s2 (take place cs) c)) (Err e)
 
 -- the rows of the kernel's classes
 abbrev pub kernel_rows : List (List ℕ)

@@ -1,35 +1,38 @@
 ghost use Rattle.som_model.specs.Class.{introduced};
 ghost use Rattle.som_model.specs.Lists.{first};
 ghost use Rattle.som_model.specs.Rules.{body_fits, s14};
-ghost use Rattle.som_model.specs.declared.class.ClassDecl.{ClassDecl as Decl};
 ghost use Rattle.som_verify.specs.Fitting.{bodies_from, takes};
-ghost use Rattle.som_verify.specs.Told.{Tells, of_library, of_release};
+ghost use Rattle.som_verify.specs.Modules.{class_of, classes_of};
+ghost use Rattle.som_verify.specs.Told.{Tells};
+ghost use Rattle.som_verify.specs.declared.types.Declared.{Declared as Known};
 ghost use Rattle.std.specs.Prelude.{◌≡◌, ◌<◌, length, flat_map, slice_get, Some};
 
 use crate::pass::{breach, each_class};
-use crate::types::VerifyFault;
-use som_model::{Body, ClassDecl, Entry, Sig, ValueType, Variable};
+use crate::types::{Declared, VerifyFault};
+use som_model::{Body, Entry, Sig, ValueType, Variable};
 use std::alloc::Global;
 
 /// There are as many bodies as introduced entries, and each fits its signature.
-pub fn bodies_fit(alloc: Global, classes: &[ClassDecl]) -> Result<(), VerifyFault>
-    ensures { Tells (first (flat_map s14 (of_release classes.now))) result }
+pub fn bodies_fit(alloc: Global, classes: &[Declared]) -> Result<(), VerifyFault>
+    ensures { Tells (first (flat_map s14 (classes_of classes.now))) result }
 {
     each_class(
         classes,
+        0,
         |place: usize| -> Result<(), VerifyFault>
             requires { place < length classes.now }
-            ensures { (class : Decl) → slice_get classes.entry.now place ≡ Some class →
-                Tells (first (s14 (of_library class))) result }
+            ensures { (class : Known) → slice_get classes.entry.now place ≡ Some class →
+                Tells (first (s14 (class_of class))) result }
         { own_bodies_fit(alloc, &classes[place]) },
     )
 }
 
-fn own_bodies_fit(alloc: Global, class: &ClassDecl) -> Result<(), VerifyFault>
-    ensures { Tells (first (s14 (of_library class.now))) result }
+fn own_bodies_fit(alloc: Global, class: &Declared) -> Result<(), VerifyFault>
+    ensures { Tells (first (s14 (class_of class.now))) result }
 {
-    if class.bodies.len() != number_introduced(class.face.entries.as_slice()) {
-        return Err(breach(alloc, 14, class, b"-")?);
+    let decl = class.decl;
+    if decl.bodies.len() != number_introduced(decl.face.entries.as_slice()) {
+        return Err(breach(alloc, 14, decl, b"-")?);
     }
     each_body_fits(alloc, class)
 }
@@ -46,17 +49,18 @@ fn number_introduced(entries: &[Entry]) -> usize
     number
 }
 
-fn each_body_fits(alloc: Global, class: &ClassDecl) -> Result<(), VerifyFault>
-    ensures { Tells (first (bodies_from (of_library class.now) class.now.face.entries class.now.bodies)) result }
+fn each_body_fits(alloc: Global, class: &Declared) -> Result<(), VerifyFault>
+    ensures { Tells (first (bodies_from (class_of class.now) class.now.decl.now.face.entries class.now.decl.now.bodies)) result }
 {
-    let mut bodies = class.bodies.as_slice();
-    for entry in class.face.entries.as_slice() {
+    let decl = class.decl;
+    let mut bodies = decl.bodies.as_slice();
+    for entry in decl.face.entries.as_slice() {
         if let Entry::Introduced { name, sig, .. } = entry {
             match bodies {
                 [] => return Ok(()),
                 [body, later @ ..] => {
-                    if !fits(class.variables.as_slice(), sig, body) {
-                        return Err(breach(alloc, 14, class, name.as_slice())?);
+                    if !fits(decl.variables.as_slice(), sig, body) {
+                        return Err(breach(alloc, 14, decl, name.as_slice())?);
                     }
                     bodies = later;
                 }

@@ -3,15 +3,17 @@ ghost use Rattle.som_model.specs.Kernel.{kernel_interface};
 ghost use Rattle.som_model.specs.Lists.{some};
 ghost use Rattle.som_order.specs.Names.{texts};
 ghost use Rattle.som_verify.specs.Inherited.{inherits, moved_to as moved};
-ghost use Rattle.som_verify.specs.Places.{IsTable, all_classes, key_at};
+ghost use Rattle.som_verify.specs.Modules.{classes_of};
+ghost use Rattle.som_verify.specs.Places.{IsTable, key_at, with_kernel};
 ghost use Rattle.som_verify.specs.Walk.{AreLists};
 ghost use Rattle.std.specs.Prelude.{◌≡◌, ◌==◌, ◌&&◌, ◌<◌, not, length, is_some, option_copied, slice_index_or, []};
 
 use crate::ancestry::{has_place, item};
 use crate::introduced::entries_at;
 use crate::table::{KERNEL_CLASSES, find_class};
+use crate::types::Declared;
 use indexmap::IndexSet;
-use som_model::{ClassDecl, ClassFace, ClassKey, Entry, List, Text};
+use som_model::{ClassFace, ClassKey, Entry, List, Text};
 use som_order::name_of;
 
 /// A method by a class and a name.
@@ -25,19 +27,19 @@ pub struct Method<'a> {
 pub fn is_inherited(
     table: &IndexSet<&[u8]>,
     kernel: &[ClassFace],
-    classes: &[ClassDecl],
+    classes: &[Declared],
     lists: &[List<usize>],
     place: usize,
     method: &Method,
 ) -> bool
-    requires table { IsTable classes.now (texts table.now.keys) }
+    requires table { IsTable (classes_of classes.now) (texts table.now.keys) }
     requires kernel { kernel.now ≡ kernel_interface.classes }
-    requires lists { AreLists (all_classes classes.now) lists.now }
-    requires place { place < length (all_classes classes.now) }
-    ensures { result ≡ inherits (all_classes classes.now) (key_at (all_classes classes.now) place)
+    requires lists { AreLists (with_kernel (classes_of classes.now)) lists.now }
+    requires place { place < length (with_kernel (classes_of classes.now)) }
+    ensures { result ≡ inherits (with_kernel (classes_of classes.now)) (key_at (with_kernel (classes_of classes.now)) place)
         method.now.class.now method.now.name.now }
 {
-    match find_class(table, method.class, classes.len() + KERNEL_CLASSES) {
+    match find_class(table, classes, method.class, classes.len() + KERNEL_CLASSES) {
         None => false,
         Some(ancestor) => {
             stands_above(lists, place, ancestor)

@@ -2,42 +2,46 @@ ghost use Rattle.som_model.specs.Class.{introduced};
 ghost use Rattle.som_model.specs.Kernel.{kernel_interface};
 ghost use Rattle.som_model.specs.Lists.{Mem, first};
 ghost use Rattle.som_model.specs.Rules.{s8};
-ghost use Rattle.som_model.specs.declared.class.ClassDecl.{ClassDecl as Decl};
 ghost use Rattle.som_order.specs.Names.{texts};
 ghost use Rattle.som_verify.specs.Along.{introduced_at, s8_at};
-ghost use Rattle.som_verify.specs.Places.{all_classes, face_at};
-ghost use Rattle.som_verify.specs.Told.{Tells, of_library, of_release};
+ghost use Rattle.som_verify.specs.Modules.{class_of, classes_of};
+ghost use Rattle.som_verify.specs.Places.{face_at, with_kernel};
+ghost use Rattle.som_verify.specs.Told.{Tells};
 ghost use Rattle.som_verify.specs.Walk.{AreLists};
-ghost use Rattle.std.specs.Prelude.{◌≡◌, ◌<◌, ◌+◌, ◌++◌, ℕ, [], length, flat_map, slice_get, slice_index_or, OnOk, Some};
+ghost use Rattle.som_verify.specs.declared.types.Declared.{Declared as Known};
+ghost use Rattle.std.specs.Prelude.{◌≡◌, ◌<◌, ◌+◌, ◌++◌, ℕ, [], drop, length, flat_map, slice_get, slice_index_or, OnOk, Some};
 
 use crate::ancestry::item;
 use crate::double::{add, first_double};
 use crate::pass::{breach, each_class};
 use crate::table::KERNEL_CLASSES;
-use crate::types::VerifyFault;
-use som_model::{ClassDecl, ClassFace, Entry, List, NoMemory};
+use crate::types::{Declared, VerifyFault};
+use som_model::{ClassFace, Entry, List, NoMemory};
 use std::alloc::Global;
 
-/// Each name is introduced by at most one class among the ancestors of a class.
+/// Each name is introduced by at most one class among the ancestors of a class. It is asked of the classes from
+/// a place on.
 pub fn names_introduced_once(
     alloc: Global,
     kernel: &[ClassFace],
-    classes: &[ClassDecl],
+    classes: &[Declared],
     lists: &[List<usize>],
+    from: usize,
 ) -> Result<(), VerifyFault>
     requires kernel { kernel.now ≡ kernel_interface.classes }
-    requires lists { AreLists (all_classes classes.now) lists.now }
-    ensures { Tells (first (flat_map (s8 (all_classes classes.now)) (of_release classes.now))) result }
+    requires lists { AreLists (with_kernel (classes_of classes.now)) lists.now }
+    ensures { Tells (first (flat_map (s8 (with_kernel (classes_of classes.now))) (classes_of (drop from classes.now)))) result }
 {
     each_class(
         classes,
+        from,
         |place: usize| -> Result<(), VerifyFault>
             requires place { place < length classes.now }
             requires kernel { kernel.now ≡ kernel_interface.classes }
-            requires lists { AreLists (all_classes classes.now) lists.now }
-            ensures { (class : Decl) → slice_get classes.entry.now place ≡ Some class →
-                Tells (first (s8_at (all_classes classes.entry.now)
-                (slice_index_or lists.entry.now (place + 4) []) (of_library class))) result }
+            requires lists { AreLists (with_kernel (classes_of classes.now)) lists.now }
+            ensures { (class : Known) → slice_get classes.entry.now place ≡ Some class →
+                Tells (first (s8_at (with_kernel (classes_of classes.entry.now))
+                (slice_index_or lists.entry.now (place + 4) []) (class_of class))) result }
         { introduced_once_in(alloc, kernel, classes, lists, place) },
     )
 }
@@ -45,16 +49,16 @@ pub fn names_introduced_once(
 fn introduced_once_in(
     alloc: Global,
     kernel: &[ClassFace],
-    classes: &[ClassDecl],
+    classes: &[Declared],
     lists: &[List<usize>],
     place: usize,
 ) -> Result<(), VerifyFault>
     requires place { place < length classes.now }
     requires kernel { kernel.now ≡ kernel_interface.classes }
-    requires lists { AreLists (all_classes classes.now) lists.now }
-    ensures { (class : Decl) → slice_get classes.now place ≡ Some class →
-        Tells (first (s8_at (all_classes classes.now)
-        (slice_index_or lists.now (place + 4) []) (of_library class))) result }
+    requires lists { AreLists (with_kernel (classes_of classes.now)) lists.now }
+    ensures { (class : Known) → slice_get classes.now place ≡ Some class →
+        Tells (first (s8_at (with_kernel (classes_of classes.now))
+        (slice_index_or lists.now (place + 4) []) (class_of class))) result }
 {
     let list = item(lists, place + KERNEL_CLASSES);
     introduced_once_along(alloc, kernel, classes, list, &classes[place])
@@ -63,32 +67,32 @@ fn introduced_once_in(
 fn introduced_once_along(
     alloc: Global,
     kernel: &[ClassFace],
-    classes: &[ClassDecl],
+    classes: &[Declared],
     list: &[usize],
-    class: &ClassDecl,
+    class: &Declared,
 ) -> Result<(), VerifyFault>
     requires kernel { kernel.now ≡ kernel_interface.classes }
-    requires list { (a : ℕ) → Mem a list.now → a < length (all_classes classes.now) }
-    ensures { Tells (first (s8_at (all_classes classes.now) list.now (of_library class.now))) result }
+    requires list { (a : ℕ) → Mem a list.now → a < length (with_kernel (classes_of classes.now)) }
+    ensures { Tells (first (s8_at (with_kernel (classes_of classes.now)) list.now (class_of class.now))) result }
 {
     let mut names = Vec::new(alloc);
     add_along(&mut names, kernel, classes, list)?;
     match first_double(alloc, &names)? {
         None => Ok(()),
-        Some(name) => Err(breach(alloc, 8, class, name)?),
+        Some(name) => Err(breach(alloc, 8, class.decl, name)?),
     }
 }
 
 fn add_along<'a>(
     names: &mut Vec<&'a [u8]>,
     kernel: &'a [ClassFace],
-    classes: &'a [ClassDecl],
+    classes: &[Declared<'a>],
     list: &[usize],
 ) -> Result<(), NoMemory>
     requires kernel { kernel.now ≡ kernel_interface.classes }
-    requires list { (a : ℕ) → Mem a list.now → a < length (all_classes classes.now) }
+    requires list { (a : ℕ) → Mem a list.now → a < length (with_kernel (classes_of classes.now)) }
     ensures { OnOk result (texts names.new.items ≡
-        texts names.old.items ++ flat_map (introduced_at (all_classes classes.now)) list.now) }
+        texts names.old.items ++ flat_map (introduced_at (with_kernel (classes_of classes.now))) list.now) }
 {
     for place in list {
         add_introduced(names, entries_at(kernel, classes, *place))?;
@@ -110,16 +114,17 @@ fn add_introduced<'a>(names: &mut Vec<&'a [u8]>, entries: &'a [Entry]) -> Result
 /// The entries of the class at a place.
 pub fn entries_at<'a>(
     kernel: &'a [ClassFace],
-    classes: &'a [ClassDecl],
+    classes: &[Declared<'a>],
     place: usize,
 ) -> &'a [Entry]
     requires kernel { kernel.now ≡ kernel_interface.classes }
-    requires place { place < length (all_classes classes.now) }
-    ensures { result.now ≡ (face_at (all_classes classes.now) place).entries }
+    requires place { place < length (with_kernel (classes_of classes.now)) }
+    ensures { result.now ≡ (face_at (with_kernel (classes_of classes.now)) place).entries }
 {
     if place < KERNEL_CLASSES {
         kernel[place].entries.as_slice()
     } else {
-        classes[place - KERNEL_CLASSES].face.entries.as_slice()
+        let decl = classes[place - KERNEL_CLASSES].decl;
+        decl.face.entries.as_slice()
     }
 }

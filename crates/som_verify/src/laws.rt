@@ -1,11 +1,14 @@
+ghost use Rattle.som_model.specs.Class.{Class};
 ghost use Rattle.som_model.specs.Classes.{hierarchy};
-ghost use Rattle.som_model.specs.Conforming.{release_breach};
+ghost use Rattle.som_model.specs.Conforming.{program_breach, release_breach};
 ghost use Rattle.som_model.specs.Hierarchy.{Falls};
 ghost use Rattle.som_model.specs.declared.class.ClassDecl.{ClassDecl as Decl};
+ghost use Rattle.som_model.specs.declared.program.ClientProgram.{ClientProgram};
 ghost use Rattle.som_model.specs.declared.program.Release.{Release};
 ghost use Rattle.som_verify.specs.Faces.{faces_breach};
-ghost use Rattle.som_verify.specs.Places.{all_classes};
-ghost use Rattle.som_verify.specs.Plainly.{FacesHold, NamesDiffer, ParentsStand, RulesHold};
+ghost use Rattle.som_verify.specs.Modules.{AreDeclared};
+ghost use Rattle.som_verify.specs.Places.{all_classes, with_kernel};
+ghost use Rattle.som_verify.specs.Plainly.{FacesHold, NamesApart, NamesDiffer, ParentsBefore, ParentsStand, ProgramHolds, RulesHold};
 ghost use Rattle.som_verify.specs.Told.{of_release};
 ghost use Rattle.std.specs.Prelude.{◌≡◌, ◌↔◌, List as Seq, None};
 
@@ -19,8 +22,19 @@ pub fn rules_law()
     ensures { (r : Release) → (release_breach r ≡ None) ↔ RulesHold r }
 {}
 
+/// A client program breaks no rule that looks at no block exactly where each such rule holds of every class and
+/// all of its members.
+pub fn program_law()
+    ensures { (p : ClientProgram) → (program_breach p ≡ None) ↔ ProgramHolds p }
+{}
+
 /// Where parents stand before their classes, each parent is lower than its class, also of the classes that
 /// are made of others.
 pub fn parents_lower_law()
     ensures { (ds : Seq Decl) → NamesDiffer ds → ParentsStand ds → Falls (hierarchy (all_classes ds)) }
+{}
+
+/// The same, of classes in any modules.
+pub fn declared_lower_law()
+    ensures { (cs : Seq Class) → AreDeclared cs → NamesApart cs → ParentsBefore cs → Falls (hierarchy (with_kernel cs)) }
 {}

@@ -1,10 +1,11 @@
-//! Whether a release keeps the rules, and the first that it breaks.
+//! Whether a release or a client program keeps the rules, and the first that it breaks.
 #![tactic(auto)]
 
 mod ancestry;
 mod bodies;
 #[cfg(test)]
 mod cases;
+mod classes;
 mod descent;
 mod double;
 mod inherited;
@@ -18,6 +19,9 @@ mod overrides;
 mod parents;
 mod pass;
 mod printing;
+mod program;
+#[cfg(test)]
+mod program_cases;
 mod release;
 mod signatures;
 mod table;
@@ -27,17 +31,19 @@ mod types;
 
 pub use ancestry::ancestors;
 pub use bodies::bodies_fit;
-pub use descent::{ancestor_lists, is_listed};
+pub use classes::{classes_hold, declare};
+pub use descent::{ancestor_lists, declared_ancestors, descends_by, is_listed};
 pub use introduced::names_introduced_once;
 pub use known::{type_is_known, type_is_of_value};
-pub use laws::{faces_law, parents_lower_law, rules_law};
+pub use laws::{declared_lower_law, faces_law, parents_lower_law, program_law, rules_law};
 pub use members::{entries_differ, parents_differ, variables_differ};
 pub use metaclasses::metaclasses_descend;
 pub use moved::entries_moved_up;
 pub use overrides::overrides_inherited;
 pub use parents::parents_stand;
 pub use printing::prints_texts;
+pub use program::{bare_classes, declare_program, program_rules};
 pub use release::{faces_ok, release_ok};
 pub use signatures::types_known;
 pub use table::{class_names, find_class};
-pub use types::{Broken, VerifyFault};
+pub use types::{Broken, Declared, VerifyFault};

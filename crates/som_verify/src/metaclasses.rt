@@ -3,42 +3,45 @@ ghost use Rattle.som_model.specs.Conforming.{each_after};
 ghost use Rattle.som_model.specs.Kernel.{kernel, som_class};
 ghost use Rattle.som_model.specs.Lists.{every, first, option_list};
 ghost use Rattle.som_model.specs.Rules.{s2, s4};
-ghost use Rattle.som_model.specs.declared.class.ClassDecl.{ClassDecl as Decl};
 ghost use Rattle.som_order.specs.Names.{texts};
-ghost use Rattle.som_verify.specs.Places.{IsTable, all_classes};
-ghost use Rattle.som_verify.specs.Told.{Tells, of_library, of_release};
+ghost use Rattle.som_verify.specs.Modules.{class_of, classes_of};
+ghost use Rattle.som_verify.specs.Places.{IsTable, with_kernel};
+ghost use Rattle.som_verify.specs.Told.{Tells};
 ghost use Rattle.som_verify.specs.Walk.{AreLists};
-ghost use Rattle.std.specs.Prelude.{◌≡◌, ◌<◌, true, length, flat_map, is_some, slice_get, None, Some};
+ghost use Rattle.som_verify.specs.declared.types.Declared.{Declared as Known};
+ghost use Rattle.std.specs.Prelude.{◌≡◌, ◌<◌, true, drop, length, flat_map, is_some, slice_get, None, Some};
 
 use crate::ancestry::{has_place, item};
 use crate::pass::{breach, each_class};
 use crate::table::{KERNEL_CLASSES, SOM_CLASS, find_class};
-use crate::types::VerifyFault;
+use crate::types::{Declared, VerifyFault};
 use indexmap::IndexSet;
-use som_model::{ClassDecl, ClassKey, List};
+use som_model::{ClassKey, List};
 use std::alloc::Global;
 
-/// Each metaclass descends from SOMClass.
+/// Each metaclass descends from SOMClass. It is asked of the classes from a place on.
 pub fn metaclasses_descend(
     alloc: Global,
     table: &IndexSet<&[u8]>,
-    classes: &[ClassDecl],
+    classes: &[Declared],
     lists: &[List<usize>],
+    from: usize,
 ) -> Result<(), VerifyFault>
-    requires table { IsTable classes.now (texts table.now.keys) }
-    requires lists { AreLists (all_classes classes.now) lists.now }
-    requires stand { first (each_after s2 kernel (of_release classes.now)) ≡ None }
-    ensures { Tells (first (flat_map (s4 (all_classes classes.now)) (of_release classes.now))) result }
+    requires table { IsTable (classes_of classes.now) (texts table.now.keys) }
+    requires lists { AreLists (with_kernel (classes_of classes.now)) lists.now }
+    requires stand { first (each_after s2 kernel (classes_of classes.now)) ≡ None }
+    ensures { Tells (first (flat_map (s4 (with_kernel (classes_of classes.now))) (classes_of (drop from classes.now)))) result }
 {
     each_class(
         classes,
+        from,
         |place: usize| -> Result<(), VerifyFault>
             requires place { place < length classes.now }
-            requires table { IsTable classes.now (texts table.now.keys) }
-            requires lists { AreLists (all_classes classes.now) lists.now }
-            requires stand { first (each_after s2 kernel (of_release classes.now)) ≡ None }
-            ensures { (class : Decl) → slice_get classes.entry.now place ≡ Some class →
-                Tells (first (s4 (all_classes classes.entry.now) (of_library class))) result }
+            requires table { IsTable (classes_of classes.now) (texts table.now.keys) }
+            requires lists { AreLists (with_kernel (classes_of classes.now)) lists.now }
+            requires stand { first (each_after s2 kernel (classes_of classes.now)) ≡ None }
+            ensures { (class : Known) → slice_get classes.entry.now place ≡ Some class →
+                Tells (first (s4 (with_kernel (classes_of classes.entry.now)) (class_of class))) result }
         { own_metaclass_descends(alloc, table, classes, lists, &classes[place]) },
     )
 }
@@ -46,32 +49,33 @@ pub fn metaclasses_descend(
 fn own_metaclass_descends(
     alloc: Global,
     table: &IndexSet<&[u8]>,
-    classes: &[ClassDecl],
+    classes: &[Declared],
     lists: &[List<usize>],
-    class: &ClassDecl,
+    class: &Declared,
 ) -> Result<(), VerifyFault>
-    requires table { IsTable classes.now (texts table.now.keys) }
-    requires lists { AreLists (all_classes classes.now) lists.now }
-    requires known { every (λ k. is_some (class_at (all_classes classes.now) k))
-        (option_list class.now.face.metaclass) ≡ true }
-    ensures { Tells (first (s4 (all_classes classes.now) (of_library class.now))) result }
+    requires table { IsTable (classes_of classes.now) (texts table.now.keys) }
+    requires lists { AreLists (with_kernel (classes_of classes.now)) lists.now }
+    requires known { every (λ k. is_some (class_at (with_kernel (classes_of classes.now)) k))
+        (option_list class.now.decl.now.face.metaclass) ≡ true }
+    ensures { Tells (first (s4 (with_kernel (classes_of classes.now)) (class_of class.now))) result }
 {
-    if !descends(table, classes, lists, &class.face.metaclass) {
-        return Err(breach(alloc, 4, class, b"-")?);
+    let decl = class.decl;
+    if !descends(table, classes, lists, &decl.face.metaclass) {
+        return Err(breach(alloc, 4, decl, b"-")?);
     }
     Ok(())
 }
 
 fn descends(
     table: &IndexSet<&[u8]>,
-    classes: &[ClassDecl],
+    classes: &[Declared],
     lists: &[List<usize>],
     metaclass: &Option<ClassKey>,
 ) -> bool
-    requires table { IsTable classes.now (texts table.now.keys) }
-    requires lists { AreLists (all_classes classes.now) lists.now }
-    requires known { every (λ k. is_some (class_at (all_classes classes.now) k)) (option_list metaclass.now) ≡ true }
-    ensures { result ≡ every (λ k. is_a (all_classes classes.now) k som_class) (option_list metaclass.now) }
+    requires table { IsTable (classes_of classes.now) (texts table.now.keys) }
+    requires lists { AreLists (with_kernel (classes_of classes.now)) lists.now }
+    requires known { every (λ k. is_some (class_at (with_kernel (classes_of classes.now)) k)) (option_list metaclass.now) ≡ true }
+    ensures { result ≡ every (λ k. is_a (with_kernel (classes_of classes.now)) k som_class) (option_list metaclass.now) }
 {
     match metaclass {
         None => true,
@@ -82,16 +86,16 @@ fn descends(
 // Whether a class that is known descends from SOMClass.
 fn makes_classes(
     table: &IndexSet<&[u8]>,
-    classes: &[ClassDecl],
+    classes: &[Declared],
     lists: &[List<usize>],
     key: &ClassKey,
 ) -> bool
-    requires table { IsTable classes.now (texts table.now.keys) }
-    requires lists { AreLists (all_classes classes.now) lists.now }
-    requires known { is_some (class_at (all_classes classes.now) key.now) ≡ true }
-    ensures { result ≡ is_a (all_classes classes.now) key.now som_class }
+    requires table { IsTable (classes_of classes.now) (texts table.now.keys) }
+    requires lists { AreLists (with_kernel (classes_of classes.now)) lists.now }
+    requires known { is_some (class_at (with_kernel (classes_of classes.now)) key.now) ≡ true }
+    ensures { result ≡ is_a (with_kernel (classes_of classes.now)) key.now som_class }
 {
-    match find_class(table, key, classes.len() + KERNEL_CLASSES) {
+    match find_class(table, classes, key, classes.len() + KERNEL_CLASSES) {
         None => false,
         Some(place) => has_place(item(lists, place), SOM_CLASS),
     }

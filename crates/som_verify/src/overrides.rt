@@ -3,49 +3,52 @@ ghost use Rattle.som_model.specs.Keys.{same_method};
 ghost use Rattle.som_model.specs.Lists.{first, some};
 ghost use Rattle.som_model.specs.Owner.{owner};
 ghost use Rattle.som_model.specs.Rules.{s9, s10};
-ghost use Rattle.som_model.specs.declared.class.ClassDecl.{ClassDecl as Decl};
 ghost use Rattle.som_order.specs.Names.{texts};
 ghost use Rattle.som_verify.specs.Inherited.{may_override as allowed, method_of, overrides_from};
-ghost use Rattle.som_verify.specs.Places.{IsTable, all_classes, key_at};
-ghost use Rattle.som_verify.specs.Told.{Tells, of_library, of_release};
+ghost use Rattle.som_verify.specs.Modules.{class_of, classes_of};
+ghost use Rattle.som_verify.specs.Places.{IsTable, key_at, with_kernel};
+ghost use Rattle.som_verify.specs.Told.{Tells};
 ghost use Rattle.som_verify.specs.Walk.{AreLists};
-ghost use Rattle.std.specs.Prelude.{◌≡◌, ◌<◌, ◌+◌, [], length, map, flat_map, slice_get, None, Some};
+ghost use Rattle.som_verify.specs.declared.types.Declared.{Declared as Known};
+ghost use Rattle.std.specs.Prelude.{◌≡◌, ◌<◌, ◌+◌, [], drop, length, map, flat_map, slice_get, None, Some};
 
 use crate::inherited::{Method, is_inherited, moved_to};
 use crate::introduced::entries_at;
 use crate::pass::{breach, each_class};
 use crate::table::{KERNEL_CLASSES, find_class};
-use crate::types::VerifyFault;
+use crate::types::{Declared, VerifyFault};
 use indexmap::IndexSet;
-use som_model::{ClassDecl, ClassFace, List, MethodRef};
+use som_model::{ClassFace, List, MethodRef};
 use std::alloc::Global;
 
 /// Each override is of a method that a proper ancestor introduces, and none is overridden twice; methods go
-/// by their owners.
+/// by their owners. It is asked of the classes from a place on.
 pub fn overrides_inherited(
     alloc: Global,
     table: &IndexSet<&[u8]>,
     kernel: &[ClassFace],
-    classes: &[ClassDecl],
+    classes: &[Declared],
     lists: &[List<usize>],
+    from: usize,
 ) -> Result<(), VerifyFault>
-    requires table { IsTable classes.now (texts table.now.keys) }
+    requires table { IsTable (classes_of classes.now) (texts table.now.keys) }
     requires kernel { kernel.now ≡ kernel_interface.classes }
-    requires lists { AreLists (all_classes classes.now) lists.now }
-    requires moved { first (flat_map (s9 (all_classes classes.now)) (of_release classes.now)) ≡ None }
-    ensures { Tells (first (flat_map (s10 (all_classes classes.now)) (of_release classes.now))) result }
+    requires lists { AreLists (with_kernel (classes_of classes.now)) lists.now }
+    requires moved { first (flat_map (s9 (with_kernel (classes_of classes.now))) (classes_of classes.now)) ≡ None }
+    ensures { Tells (first (flat_map (s10 (with_kernel (classes_of classes.now))) (classes_of (drop from classes.now)))) result }
 {
     each_class(
         classes,
+        from,
         |place: usize| -> Result<(), VerifyFault>
             requires place { place < length classes.now }
-            requires table { IsTable classes.now (texts table.now.keys) }
+            requires table { IsTable (classes_of classes.now) (texts table.now.keys) }
             requires kernel { kernel.now ≡ kernel_interface.classes }
-            requires lists { AreLists (all_classes classes.now) lists.now }
-            requires moved { first (flat_map (s9 (all_classes classes.now)) (of_release classes.now)) ≡ None }
-            ensures { (class : Decl) → slice_get classes.entry.now place ≡ Some class →
-                Tells (first (overrides_from (all_classes classes.entry.now)
-                (key_at (all_classes classes.entry.now) (place + 4)) (of_library class) [] class.overrides)) result }
+            requires lists { AreLists (with_kernel (classes_of classes.now)) lists.now }
+            requires moved { first (flat_map (s9 (with_kernel (classes_of classes.now))) (classes_of classes.now)) ≡ None }
+            ensures { (class : Known) → slice_get classes.entry.now place ≡ Some class →
+                Tells (first (overrides_from (with_kernel (classes_of classes.entry.now))
+                (key_at (with_kernel (classes_of classes.entry.now)) (place + 4)) (class_of class) [] class.decl.now.overrides)) result }
         {
             let class = &classes[place];
             own_overrides_inherited(
@@ -65,24 +68,25 @@ fn own_overrides_inherited(
     alloc: Global,
     table: &IndexSet<&[u8]>,
     kernel: &[ClassFace],
-    classes: &[ClassDecl],
+    classes: &[Declared],
     lists: &[List<usize>],
     place: usize,
-    class: &ClassDecl,
+    class: &Declared,
 ) -> Result<(), VerifyFault>
-    requires table { IsTable classes.now (texts table.now.keys) }
+    requires table { IsTable (classes_of classes.now) (texts table.now.keys) }
     requires kernel { kernel.now ≡ kernel_interface.classes }
-    requires lists { AreLists (all_classes classes.now) lists.now }
-    requires moved { first (flat_map (s9 (all_classes classes.now)) (of_release classes.now)) ≡ None }
-    requires place { place < length (all_classes classes.now) }
-    ensures { Tells (first (overrides_from (all_classes classes.now)
-        (key_at (all_classes classes.now) place) (of_library class.now) [] class.now.overrides)) result }
+    requires lists { AreLists (with_kernel (classes_of classes.now)) lists.now }
+    requires moved { first (flat_map (s9 (with_kernel (classes_of classes.now))) (classes_of classes.now)) ≡ None }
+    requires place { place < length (with_kernel (classes_of classes.now)) }
+    ensures { Tells (first (overrides_from (with_kernel (classes_of classes.now))
+        (key_at (with_kernel (classes_of classes.now)) place) (class_of class.now) [] class.now.decl.now.overrides)) result }
 {
     let mut before = Vec::new(alloc);
-    for item in class.overrides.as_slice() {
+    let decl = class.decl;
+    for item in decl.overrides.as_slice() {
         let method = owner_of(table, kernel, classes, &item.method);
         if !may_override(table, kernel, classes, lists, place, &before, &method) {
-            return Err(breach(alloc, 10, class, item.method.name.as_slice())?);
+            return Err(breach(alloc, 10, decl, item.method.name.as_slice())?);
         }
         before.push(method)?;
     }
@@ -93,17 +97,17 @@ fn own_overrides_inherited(
 fn may_override(
     table: &IndexSet<&[u8]>,
     kernel: &[ClassFace],
-    classes: &[ClassDecl],
+    classes: &[Declared],
     lists: &[List<usize>],
     place: usize,
     before: &[Method],
     method: &Method,
 ) -> bool
-    requires table { IsTable classes.now (texts table.now.keys) }
+    requires table { IsTable (classes_of classes.now) (texts table.now.keys) }
     requires kernel { kernel.now ≡ kernel_interface.classes }
-    requires lists { AreLists (all_classes classes.now) lists.now }
-    requires place { place < length (all_classes classes.now) }
-    ensures { result ≡ allowed (all_classes classes.now) (key_at (all_classes classes.now) place)
+    requires lists { AreLists (with_kernel (classes_of classes.now)) lists.now }
+    requires place { place < length (with_kernel (classes_of classes.now)) }
+    ensures { result ≡ allowed (with_kernel (classes_of classes.now)) (key_at (with_kernel (classes_of classes.now)) place)
         (map method_of before.now) (method_of method.now) }
 {
     is_inherited(table, kernel, classes, lists, place, method) && !is_among(before, method)
@@ -130,16 +134,21 @@ fn is_same(method: &Method, other: &Method) -> bool
 fn owner_of<'a>(
     table: &IndexSet<&[u8]>,
     kernel: &'a [ClassFace],
-    classes: &'a [ClassDecl],
+    classes: &[Declared<'a>],
     method: &'a MethodRef,
 ) -> Method<'a>
-    requires table { IsTable classes.now (texts table.now.keys) }
+    requires table { IsTable (classes_of classes.now) (texts table.now.keys) }
     requires kernel { kernel.now ≡ kernel_interface.classes }
-    requires moved { first (flat_map (s9 (all_classes classes.now)) (of_release classes.now)) ≡ None }
-    ensures { method_of result ≡ owner (all_classes classes.now) method.now }
+    requires moved { first (flat_map (s9 (with_kernel (classes_of classes.now))) (classes_of classes.now)) ≡ None }
+    ensures { method_of result ≡ owner (with_kernel (classes_of classes.now)) method.now }
 {
     let name = &method.name;
-    match find_class(table, &method.class, classes.len() + KERNEL_CLASSES) {
+    match find_class(
+        table,
+        classes,
+        &method.class,
+        classes.len() + KERNEL_CLASSES,
+    ) {
         None => Method {
             class: &method.class,
             name,

@@ -1,13 +1,14 @@
 ghost use Rattle.som_model.specs.Rules.{Breach};
 ghost use Rattle.som_model.specs.Class.{Class};
 ghost use Rattle.som_model.specs.Lists.{first};
-ghost use Rattle.som_model.specs.declared.class.ClassDecl.{ClassDecl as Decl};
-ghost use Rattle.som_verify.specs.Told.{Tells, of_library, of_release, told};
+ghost use Rattle.som_verify.specs.Modules.{class_of, classes_of};
+ghost use Rattle.som_verify.specs.Told.{Tells, told};
+ghost use Rattle.som_verify.specs.declared.types.Declared.{Declared as Known};
 ghost use Rattle.som_verify.specs.declared.types.VerifyFault.{VerifyFault as Fault};
 ghost use Rattle.som_verify.specs.declared.types.VerifyFault.TheVariants as faults;
-ghost use Rattle.std.specs.Prelude.{◌≡◌, ◌<◌, ℕ, List as Seq, length, flat_map, slice_get, IfOk, Result, Some};
+ghost use Rattle.std.specs.Prelude.{◌≡◌, ◌<◌, ℕ, List as Seq, drop, length, flat_map, slice_get, IfOk, Result, Some};
 
-use crate::types::{Broken, VerifyFault};
+use crate::types::{Broken, Declared, VerifyFault};
 use som_model::{ClassDecl, NoMemory, Text};
 use std::alloc::Global;
 
@@ -28,18 +29,19 @@ pub fn breach(
     }))
 }
 
-/// A rule at each class, in order, by the classes' places.
+/// A rule at each class from a place on, in order, by the classes' places.
 pub fn each_class<F: Fn(usize) -> Result<(), VerifyFault>>(
-    classes: &[ClassDecl],
+    classes: &[Declared],
+    from: usize,
     rule: F,
 ) -> Result<(), VerifyFault>
     requires callable { (place : ℕ) → place < length classes.now → F.pre rule place }
     ensures { (one : Class → Seq Breach) →
-        ((place : ℕ) (class : Decl) (r : Result (Unit {0}) Fault) → slice_get classes.now place ≡ Some class →
-        F.post rule place r → Tells (first (one (of_library class))) r) →
-        Tells (first (flat_map one (of_release classes.now))) result }
+        ((place : ℕ) (class : Known) (r : Result (Unit {0}) Fault) → slice_get classes.now place ≡ Some class →
+        F.post rule place r → Tells (first (one (class_of class))) r) →
+        Tells (first (flat_map one (classes_of (drop from classes.now)))) result }
 {
-    for place in 0..classes.len() {
+    for place in from..classes.len() {
         rule(place)?;
     }
     Ok(())

@@ -1,5 +1,12 @@
-use som_model::{NoMemory, Text};
+use som_model::{ClassDecl, Module, NoMemory, Text};
 use std::alloc::AllocFailed;
+
+/// A class as it is declared, and the module that it stands in.
+#[derive(Drop)]
+pub struct Declared<'a> {
+    pub module: Module,
+    pub decl: &'a ClassDecl,
+}
 
 /// A rule that is broken, the class, and the member; a member that doesn't apply is `-`.
 #[derive(Drop)]

@@ -1,9 +1,10 @@
 use Rattle.std.proofs.Common.{◌≡◌, ◌++◌, drop, flat_map}
 use Rattle.som_order.specs.Names.{texts}
 use Rattle.som_verify.specs.Along.{introduced_at}
-use Rattle.som_verify.specs.Places.{all_classes}
+use Rattle.som_verify.specs.Modules.{classes_of}
+use Rattle.som_verify.specs.Places.{with_kernel}
 use Rattle.som_verify.proofs.introduced.add_along.Given as goal
 
 abbrev pub invariant-loop-place : goal.invariant-loop-place
-invariant-loop-place l = texts l.names.items ++ flat_map (introduced_at (all_classes l.classes)) (drop l.place-index l.list)
-    ≡ texts l.fn.names.items ++ flat_map (introduced_at (all_classes l.classes)) l.list
+invariant-loop-place l = texts l.names.items ++ flat_map (introduced_at (with_kernel (classes_of l.classes))) (drop l.place-index l.list)
+    ≡ texts l.fn.names.items ++ flat_map (introduced_at (with_kernel (classes_of l.classes))) l.list

@@ -1,4 +1,4 @@
-use Rattle.som_verify.proofs.PlainFaces.{faces_say, say_faces}
+use Rattle.som_verify.proofs.PlainWhole.{faces_say, say_faces}
 use Rattle.som_verify.proofs.laws.faces_law.Goals as goal
 
 pub returns : goal.returns

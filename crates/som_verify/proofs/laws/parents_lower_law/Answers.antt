@@ -1,5 +1,5 @@
-use Rattle.som_verify.proofs.PlainMoves.{lower}
+use Rattle.som_verify.proofs.PlainWhole.{release_falls}
 use Rattle.som_verify.proofs.laws.parents_lower_law.Goals as goal
 
 pub returns : goal.returns
-returns c = lower
+returns c = release_falls

@@ -4,4 +4,4 @@ use Rattle.som_order.specs.Names.{texts}
 use Rattle.som_verify.proofs.members.own_entries_differ.Given as goal
 
 abbrev pub invariant-loop-entry : goal.invariant-loop-entry
-invariant-loop-entry l = texts l.names.items ++ map entry_name (drop l.entry-index l.class.face.entries) ≡ map entry_name l.class.face.entries
+invariant-loop-entry l = texts l.names.items ++ map entry_name (drop l.entry-index l.class.decl.now.face.entries) ≡ map entry_name l.class.decl.now.face.entries
