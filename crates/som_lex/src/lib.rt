@@ -2,6 +2,8 @@
 #![tactic(auto)]
 
 mod alphabet;
+#[cfg(test)]
+mod cases;
 mod comment;
 mod cut;
 mod fault;
@@ -11,6 +13,10 @@ mod laws;
 mod lexeme;
 mod line;
 mod literal;
+#[cfg(test)]
+mod tests;
+#[cfg(test)]
+mod tests_of_directives;
 mod token;
 mod value;
 mod word;
