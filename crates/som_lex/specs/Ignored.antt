@@ -1,5 +1,5 @@
 -- Which directives are accepted, and then ignored.
-use Rattle.std.specs.Prelude.{ℕ, Bool, true, false, ◌||◌, ◌&&◌, ◌==◌, not, if◌then◌else◌, List, [], ◌∷◌, ◌-◌, length, drop, slice_index, codes, take_while}
+use Rattle.std.specs.Prelude.{ℕ, Bool, false, ◌||◌, ◌&&◌, ◌==◌, not, if◌then◌else◌, List, [], ◌∷◌, ◌-◌, length, drop, slice_index, codes, take_while}
 use Rattle.std.specs.List.{prefix_len}
 use Rattle.std.specs.Str.{bytes_eq}
 use Rattle.som_lex.specs.Alphabet.{hash, backslash, is_letter, is_word_byte, is_inner_blank}

@@ -86,5 +86,8 @@ fn blanks_len(bytes: &[u8]) -> usize
     ensures value { result ≡ prefix_len is_inner_blank_of bytes.now }
     ensures within { result ≤ length bytes.now }
 {
-    bytes.iter().take_while(|byte| is_inner_blank(**byte)).count()
+    bytes
+        .iter()
+        .take_while(|byte| is_inner_blank(**byte))
+        .count()
 }

@@ -40,7 +40,9 @@ fn shown(alloc: Global, bytes: &[u8]) -> Result<String, Fail> {
         Err(LexFault::BadByte { offset }) => Ok(format!(in alloc; "BadByte {offset}")?),
         Err(LexFault::OpenText { offset }) => Ok(format!(in alloc; "OpenText {offset}")?),
         Err(LexFault::OpenComment { offset }) => Ok(format!(in alloc; "OpenComment {offset}")?),
-        Err(LexFault::NumberTooLarge { offset }) => Ok(format!(in alloc; "NumberTooLarge {offset}")?),
+        Err(LexFault::NumberTooLarge { offset }) => Ok(format!(in alloc;
+            "NumberTooLarge {offset}"
+        )?),
         Err(LexFault::NameTooLong { offset }) => Ok(format!(in alloc; "NameTooLong {offset}")?),
         Err(LexFault::TextTooLong { offset }) => Ok(format!(in alloc; "TextTooLong {offset}")?),
         Err(LexFault::NoMemory) => Ok(format!(in alloc; "NoMemory")?),
@@ -48,7 +50,13 @@ fn shown(alloc: Global, bytes: &[u8]) -> Result<String, Fail> {
 }
 
 // Bytes, then some more of them many times, then others.
-fn repeated(alloc: Global, before: &[u8], many: &[u8], times: usize, after: &[u8]) -> Result<List<u8>, NoMemory> {
+fn repeated(
+    alloc: Global,
+    before: &[u8],
+    many: &[u8],
+    times: usize,
+    after: &[u8],
+) -> Result<List<u8>, NoMemory> {
     let mut bytes = List::from_slice(alloc, before)?;
     for _ in 0..times {
         bytes.extend_from_slice(many)?;
@@ -109,12 +117,36 @@ fn each_byte_has_its_meaning(rt: HostRuntime) -> Result<(), Fail> {
     let alloc = rt.alloc();
     for byte in 0..=255u8 {
         assert_eq!(rt; shown(alloc, &[byte])?.as_str(), alone(byte), "{byte}");
-        assert_eq!(rt; shown(alloc, &[b'"', byte, b'"'])?.as_str(), quoted(byte), "{byte}");
-        assert_eq!(rt; shown(alloc, &[b'"', b'\\', byte, b'"'])?.as_str(), after_backslash(byte), "{byte}");
-        assert_eq!(rt; shown(alloc, &[b'/', b'*', byte, b'*', b'/', b'a'])?.as_str(), "W5-6", "{byte}");
-        assert_eq!(rt; shown(alloc, &[b'/', b'/', byte, b'\n', b'a'])?.as_str(), "W4-5", "{byte}");
-        let directive = if byte == b'\n' || byte == b'\r' { "D0-1" } else { "D0-2" };
-        assert_eq!(rt; shown(alloc, &[b'#', byte, b'\n'])?.as_str(), directive, "{byte}");
+        assert_eq!(rt;
+            shown(alloc, &[b'"', byte, b'"'])?.as_str(),
+            quoted(byte),
+            "{byte}"
+        );
+        assert_eq!(rt;
+            shown(alloc, &[b'"', b'\\', byte, b'"'])?.as_str(),
+            after_backslash(byte),
+            "{byte}"
+        );
+        assert_eq!(rt;
+            shown(alloc, &[b'/', b'*', byte, b'*', b'/', b'a'])?.as_str(),
+            "W5-6",
+            "{byte}"
+        );
+        assert_eq!(rt;
+            shown(alloc, &[b'/', b'/', byte, b'\n', b'a'])?.as_str(),
+            "W4-5",
+            "{byte}"
+        );
+        let directive = if byte == b'\n' || byte == b'\r' {
+            "D0-1"
+        } else {
+            "D0-2"
+        };
+        assert_eq!(rt;
+            shown(alloc, &[b'#', byte, b'\n'])?.as_str(),
+            directive,
+            "{byte}"
+        );
     }
     Ok(())
 }
@@ -164,6 +196,9 @@ fn tokens_have_their_bytes_and_values(rt: HostRuntime) -> Result<(), Fail> {
     assert_eq!(rt; number_value(b"40"), 40);
     assert_eq!(rt; number_value(b"2147483647"), 2_147_483_647);
     assert_eq!(rt; literal_text(alloc, b"\"\"")?.as_slice(), b"".as_slice());
-    assert_eq!(rt; literal_text(alloc, expected[2])?.as_slice(), b"x\"y\n\t\\".as_slice());
+    assert_eq!(rt;
+        literal_text(alloc, expected[2])?.as_slice(),
+        b"x\"y\n\t\\".as_slice()
+    );
     Ok(())
 }
