@@ -107,7 +107,7 @@ digit_first : (c : ℕ) (cs : List ℕ) (v : Bool) → is_digit c ≡ v → nat_
 digit_first c cs true e = rw e (grind (arith, common_steps))
 digit_first c cs false e = rw e refl
 
-digit_follows : (bs : List ℕ) → nat_lt 0 (prefix_len is_digit bs) ≡ starts_with_digit bs
+pub digit_follows : (bs : List ℕ) → nat_lt 0 (prefix_len is_digit bs) ≡ starts_with_digit bs
 digit_follows [] = refl
 digit_follows (c ∷ cs) = digit_first c cs (is_digit c) refl
 

@@ -20,8 +20,8 @@ abbrev pub after_word : List ℕ → List ℕ
 after_word bs = after_blanks (drop (length (first_word bs)) bs)
 
 -- whether these bytes begin with the words of a directive that is ignored
-abbrev pub is_kept : List ℕ → Bool
-is_kept bs =
+abbrev pub has_ignored_words : List ℕ → Bool
+has_ignored_words bs =
     bytes_eq (first_word bs) (codes "include") || bytes_eq (first_word bs) (codes "define") || bytes_eq (first_word bs) (codes "endif")
     || (bytes_eq (first_word bs) (codes "ifndef") && starts_word (after_word bs))
     || (bytes_eq (first_word bs) (codes "ifdef") && (bytes_eq (first_word (after_word bs)) (codes "__SOMIDL__") || bytes_eq (first_word (after_word bs)) (codes "__PRIVATE__")))
@@ -33,4 +33,4 @@ goes_on bs = slice_index bs (length bs - 1) == backslash
 -- whether a directive is accepted and ignored
 abbrev pub is_ignored : List ℕ → Bool
 is_ignored [] = false
-is_ignored (b ∷ bs) = b == hash && not (goes_on bs) && is_kept (after_blanks bs)
+is_ignored (b ∷ bs) = b == hash && not (goes_on bs) && has_ignored_words (after_blanks bs)
