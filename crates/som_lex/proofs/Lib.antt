@@ -1,0 +1,15 @@
+pub mod Digits
+pub mod Classes
+pub mod Runs
+pub mod Inverted
+pub mod Longest
+pub mod Signs
+pub mod Literals
+pub mod Comments
+pub mod Fronts
+pub mod Steps
+pub mod Spans
+pub mod FirstBytes
+pub mod Reread
+pub mod OneFront
+pub mod OneCut

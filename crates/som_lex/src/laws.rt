@@ -1,0 +1,11 @@
+ghost use Rattle.std.specs.Prelude.{◌≡◌, ℕ, List};
+ghost use Rattle.som_lex.specs.declared.token.LexToken.{LexToken as Token};
+ghost use Rattle.som_lex.specs.declared.fault.LexFault.{LexFault as Fault};
+ghost use Rattle.som_lex.specs.Cut.{IsCut, Stops};
+
+/// A text has one list of tokens at most or one first fault at most, and never both. With what `lex` answers, exactly one.
+pub fn one_answer_law()
+    ensures tokens { (source : List ℕ) (ts us : List Token) → IsCut source 0 ts → IsCut source 0 us → ts ≡ us }
+    ensures fault { (source : List ℕ) (f g : Fault) → Stops source 0 f → Stops source 0 g → f ≡ g }
+    ensures apart { (source : List ℕ) (ts : List Token) (f : Fault) → IsCut source 0 ts → Stops source 0 f → ⊥ }
+{}
