@@ -1,0 +1,11 @@
+//! The lines that show a release: its classes, and the release order of each.
+#![tactic(auto)]
+
+mod entry;
+mod face;
+mod name;
+mod release;
+#[cfg(test)]
+mod tests;
+
+pub use release::shown;
