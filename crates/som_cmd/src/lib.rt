@@ -3,6 +3,7 @@
 
 mod client;
 mod fetch;
+mod image;
 mod laws;
 mod library;
 mod line;

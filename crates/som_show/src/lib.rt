@@ -8,4 +8,5 @@ mod release;
 #[cfg(test)]
 mod tests;
 
+pub use name::add_number;
 pub use release::shown;

@@ -6,8 +6,7 @@ ghost use Rattle.std.specs.Prelude.{◌≡◌, ◌++◌, map, OnOk};
 use itoa::Buffer;
 use som_model::{ClassKey, NoMemory, ValueType};
 
-// Each function writes at the end of a line.
-
+/// Writes a number at the end of a line.
 pub fn add_number(line: &mut Vec<u8>, number: u64) -> Result<(), NoMemory>
     ensures { OnOk result (line.new.items ≡ line.old.items ++ decimal number) }
 {
@@ -16,7 +15,7 @@ pub fn add_number(line: &mut Vec<u8>, number: u64) -> Result<(), NoMemory>
     Ok(())
 }
 
-/// The name of a class.
+/// Writes the name of a class.
 #[cycle(names)]
 pub fn add_class(line: &mut Vec<u8>, key: &ClassKey) -> Result<(), NoMemory>
     ensures { OnOk result (line.new.items ≡ line.old.items ++ class_name key.now) }
@@ -37,7 +36,7 @@ pub fn add_class(line: &mut Vec<u8>, key: &ClassKey) -> Result<(), NoMemory>
     Ok(())
 }
 
-/// The names of classes, with commas between.
+/// Writes the names of classes, with commas between.
 #[cycle(names)]
 pub fn add_classes(line: &mut Vec<u8>, keys: &[ClassKey]) -> Result<(), NoMemory>
     ensures { OnOk result (line.new.items ≡ line.old.items ++ name_list (map class_name keys.now)) }
@@ -52,7 +51,7 @@ pub fn add_classes(line: &mut Vec<u8>, keys: &[ClassKey]) -> Result<(), NoMemory
     Ok(())
 }
 
-/// A type.
+/// Writes a type.
 pub fn add_type(line: &mut Vec<u8>, kind: &ValueType) -> Result<(), NoMemory>
     ensures { OnOk result (line.new.items ≡ line.old.items ++ type_name kind.now) }
 {
@@ -66,7 +65,7 @@ pub fn add_type(line: &mut Vec<u8>, kind: &ValueType) -> Result<(), NoMemory>
     Ok(())
 }
 
-/// Types, with commas between.
+/// Writes types, with commas between.
 pub fn add_types(line: &mut Vec<u8>, kinds: &[ValueType]) -> Result<(), NoMemory>
     ensures { OnOk result (line.new.items ≡ line.old.items ++ name_list (map type_name kinds.now)) }
 {
