@@ -1,52 +1,39 @@
--- How the ends of a run are those of its answer.
-use Rattle.std.proofs.Common.{◌≡◌, ℕ, List, [], Option, Some, None, Result, Ok, Err, refl, sym, ap, subst, ◌∙◌, inl}
+-- How the ends of a call are those of its answer.
+use Rattle.std.proofs.Common.{◌≡◌, ℕ, List, [], Option, Some, None, Result, Ok, Err, refl, sym, ap, subst, ◌∙◌, inl, inr}
 use Rattle.std.proofs.lemmas.List.{append-nil}
 use Rattle.som_model.specs.declared.program.Release.{Release}
 use Rattle.som_model.specs.declared.program.ClientProgram.{ClientProgram}
 use Rattle.som_model.specs.Bytes.{Files}
 use Rattle.som_model.specs.Means.{means}
 use Rattle.som_io.specs.Outside.{ShowsAll, ShowsFront}
-use Rattle.som_cmd.specs.declared.stop.Refusal.{Refusal}
+use Rattle.som_libimage.proofs.Decoded.{library_again}
+use Rattle.som_cmd.specs.declared.output.Output.{Output}
 use Rattle.som_cmd.specs.declared.stop.Stop.{Stop}
 use Rattle.som_cmd.specs.declared.stop.Stop.TheVariants as stops
-use Rattle.som_cmd.specs.Words.{Asked, Run, Bad}
-use Rattle.som_first.specs.declared.calls.Printing.{Printing}
-use Rattle.som_cmd.specs.Answer.{Ending, IsAnswer, bad_words, runs, ran, refusing, bad_line}
-use Rattle.som_cmd.specs.RunSteps.{printed, AnswersTold}
-use Rattle.som_cmd.specs.Ends.{EndsAs, EndsAsTold, ShowsSome, AreImagesOf, RunsAs}
+use Rattle.som_cmd.specs.Words.{Asked, Bad}
+use Rattle.som_cmd.specs.Answer.{Ending, IsAnswer, bad_words, runs, shows, ran, showing, refusing, bad_line}
+use Rattle.som_cmd.specs.Cause.{FailsOn, HasCause}
+use Rattle.som_cmd.specs.Steps.{printed, AnswersTold}
+use Rattle.som_cmd.specs.Saying.{SaysAll, SaysFront}
+use Rattle.som_cmd.specs.Ends.{EndsAs, EndsAsTold, ShowsSome, AreImagesOf, RunsAs, IsImageOf, ShowsRelease}
 use Rattle.som_cmd.proofs.RunAnswers.{answer_to, answers, one_answer}
 
--- what a run answered: what it printed, or a refusal
-abbrev as_steps : Result Printing Refusal → Result Printing Stop
-as_steps (Ok p) = Ok p
-as_steps (Err r) = Err (stops.Refused r)
+-- ---- what a command came to
 
--- the ending that it comes to
-abbrev pub ending : Files → Result Printing Refusal → Ending
-ending files (Ok p) = printed files p
-ending files (Err r) = refusing files r
+module _ (asked by : Asked) (is : by ≡ asked) where
+  answer_of : (before : Files) (e : Ending) → IsAnswer before by e → IsAnswer before asked e
+  answer_of before e a = subst (λ (x : Asked). IsAnswer before x e) is a
 
-is_answer : (asked : Asked) (c l : List ℕ) (fuel : ℕ) → Run c l fuel ≡ asked → (before : Files) (steps : Result Printing Refusal) → AnswersTold (Some before) (Run c l fuel) (as_steps steps) → IsAnswer before asked (ending before steps)
-is_answer asked c l fuel e before (Ok p) f = subst (λ (a : Asked). IsAnswer before a (printed before p)) e f
-is_answer asked c l fuel e before (Err r) f = subst (λ (a : Asked). IsAnswer before a (refusing before r)) e f
-
--- where the whole text of the answer was written, the call ends as the answer says
-pub ends : (asked : Asked) (c l : List ℕ) (fuel : ℕ) → Run c l fuel ≡ asked → (files : Option Files) (steps : Result Printing Refusal) → AnswersTold files (Run c l fuel) (as_steps steps)
-    → (status : ℕ) → ((before : Files) → status ≡ (ending before steps).status) → (new_files : Option Files) → new_files ≡ files
-    → (old new : Option (List ℕ)) → ((before : Files) → ShowsAll old new (ending before steps).text) → EndsAsTold asked files status new_files old new
-ends asked c l fuel e None steps f status is new_files same old new shown = tt
-ends asked c l fuel e (Some before) steps f status is new_files same old new shown =
-    record { told = ending before steps; is_answer = is_answer asked c l fuel e before steps f; status_is = is before; text_is = shown before; files_are = same ∙ kept steps }
-  where
-    kept : (steps : Result Printing Refusal) → Some before ≡ Some (ending before steps).files
-    kept (Ok p) = refl
-    kept (Err r) = refl
-
--- a front of the answer's text was written
-pub fronts : (asked : Asked) (c l : List ℕ) (fuel : ℕ) → Run c l fuel ≡ asked → (files : Option Files) (steps : Result Printing Refusal) → AnswersTold files (Run c l fuel) (as_steps steps)
-    → (count now : ℕ) (old new : Option (List ℕ)) → ((before : Files) → ShowsFront old new (ending before steps).text) → ShowsSome asked files count now old new
-fronts asked c l fuel e None steps f count now old new front = tt
-fronts asked c l fuel e (Some before) steps f count now old new front = inl (ending before steps, is_answer asked c l fuel e before steps f, front before)
+  -- where all of it was printed, the call ends as the answer says
+  pub ends : (files : Option Files) (outcome : Result Output Stop) → AnswersTold files by outcome → (status : ℕ) (new_files : Option Files) → new_files ≡ files
+      → (old new : Option (List ℕ)) → SaysAll outcome status old new → EndsAsTold asked files status new_files old new
+  ends None outcome f status new_files same old new says = tt
+  ends (Some before) (Ok o) f status new_files same old new says =
+      record { told = printed before o; is_answer = answer_of before (printed before o) f; status_is = says.0; text_is = says.1; files_are = same }
+  ends (Some before) (Err (stops.Refused r)) f status new_files same old new says =
+      record { told = refusing before r; is_answer = answer_of before (refusing before r) f; status_is = says.0; text_is = says.1; files_are = same }
+  ends (Some before) (Err (stops.StoreFailed line)) f status new_files same old new says = absurd says
+  ends (Some before) (Err stops.NoMemory) f status new_files same old new says = absurd says
 
 shows_nothing : (written : Option (List ℕ)) (text : List ℕ) → ShowsFront written written text
 shows_nothing None text = (text, tt)
@@ -57,7 +44,19 @@ pub nothing_written : (asked : Asked) (files : Option Files) (count now : ℕ) (
 nothing_written asked None count now written = tt
 nothing_written asked (Some files) count now written = inl (answer_to files asked, answers files asked, shows_nothing written (answer_to files asked).text)
 
--- the one line for words of no form
+-- a front of what there is to print was written
+pub fronts : (asked by : Asked) → by ≡ asked → (files : Option Files) (outcome : Result Output Stop) → AnswersTold files by outcome → (count now : ℕ) → HasCause (FailsOn files by) count now outcome
+    → (old new : Option (List ℕ)) → SaysFront outcome old new → ShowsSome asked files count now old new
+fronts asked by is None outcome f count now cause old new says = tt
+fronts asked by is (Some before) (Ok o) f count now cause old new says = inl (printed before o, answer_of asked by is before (printed before o) f, says)
+fronts asked by is (Some before) (Err (stops.Refused r)) f count now cause old new says = inl (refusing before r, answer_of asked by is before (refusing before r) f, says)
+fronts asked by is (Some before) (Err (stops.StoreFailed line)) f count now cause old new says =
+    inr (cause.0, line, subst (λ (x : Asked). FailsOn (Some before) x line) is cause.1, says)
+fronts asked by is (Some before) (Err stops.NoMemory) f count now cause old new says =
+    subst (λ (x : Option (List ℕ)). ShowsSome asked (Some before) count now old x) (sym says) (nothing_written asked (Some before) count now old)
+
+-- ---- words of no form
+
 pub bad_ends : (asked : Asked) → Bad ≡ asked → (files : Option Files) (status : ℕ) → status ≡ 2 → (new_files : Option Files) → new_files ≡ files
     → (old new : Option (List ℕ)) → ShowsAll old new bad_line → EndsAsTold asked files status new_files old new
 bad_ends asked e None status is new_files same old new shown = tt
@@ -69,24 +68,42 @@ bad_fronts asked e None count now old new front = tt
 bad_fronts asked e (Some before) count now old new front =
     inl (record { text = bad_line; status = 2; files = before }, subst (λ (a : Asked). IsAnswer before a (record { text = bad_line; status = 2; files = before })) e bad_words, front)
 
--- an end as the answer says is an end as the client means
-runs_as : (asked : Asked) (before : Files) (status : ℕ) (new_files : Option Files) (old new : Option (List ℕ)) (p : ClientProgram) (r : Release) (fuel : ℕ)
-    → EndsAs before asked status new_files old new → IsAnswer before asked (ran before (means r p fuel)) → RunsAs p r fuel status old new
-runs_as asked before status new_files old new p r fuel e is =
-    let same : e.told ≡ ran before (means r p fuel) = one_answer before asked e.told e.is_answer ∙ sym (one_answer before asked (ran before (means r p fuel)) is) in
-    record { text = subst (λ (x : Ending). ShowsAll old new x.text) same e.text_is; status_is = e.status_is ∙ ap (λ (x : Ending). x.status) same }
+-- ---- an end as the answer says
 
+none_told : (told : Files) → None ≡ Some told → ⊥
+none_told told e = cc
+
+some_told : (a b : Files) → Some a ≡ Some b → a ≡ b
+some_told a b e = cc
+
+-- it is that of any other answer
+module _ (asked : Asked) (before : Files) (status : ℕ) (new_files : Option Files) (old new : Option (List ℕ)) (e : EndsAs before asked status new_files old new) (other : Ending) (is : IsAnswer before asked other) where
+  same_ending : e.told ≡ other
+  same_ending = one_answer before asked e.told e.is_answer ∙ sym (one_answer before asked other is)
+
+  text_of : ShowsAll old new other.text
+  text_of = subst (λ (x : Ending). ShowsAll old new x.text) same_ending e.text_is
+
+  status_of : status ≡ other.status
+  status_of = e.status_is ∙ ap (λ (x : Ending). x.status) same_ending
+
+-- is an end as the client means
 pub means_by : (asked : Asked) (files : Option Files) (status : ℕ) (new_files : Option Files) (old new : Option (List ℕ)) (p : ClientProgram) (r : Release) (fuel : ℕ)
     → EndsAsTold asked files status new_files old new → AreImagesOf asked files p r fuel → RunsAs p r fuel status old new
 means_by asked None status new_files old new p r fuel e m = absurd (none_told m.told m.files_are)
-  where
-    none_told : (told : Files) → None ≡ Some told → ⊥
-    none_told told e = cc
 means_by asked (Some before) status new_files old new p r fuel e m =
     let same : before ≡ m.told = some_told before m.told m.files_are in
     let is : IsAnswer m.told asked (ran m.told (means r p fuel)) = subst (λ (a : Asked). IsAnswer m.told a (ran m.told (means r p fuel))) (sym m.asked_is)
     (runs m.client m.library fuel m.client_bytes m.library_bytes m.client_is m.library_is p m.program r m.release m.compiled) in
-    runs_as asked before status new_files old new p r fuel e (subst (λ (x : Files). IsAnswer x asked (ran x (means r p fuel))) (sym same) is)
-  where
-    some_told : (a b : Files) → Some a ≡ Some b → a ≡ b
-    some_told a b e = cc
+    let answer = subst (λ (x : Files). IsAnswer x asked (ran x (means r p fuel))) (sym same) is in
+    record { text = text_of asked before status new_files old new e (ran before (means r p fuel)) answer; status_is = status_of asked before status new_files old new e (ran before (means r p fuel)) answer }
+
+-- is an end that shows the release
+pub shows_by : (asked : Asked) (files : Option Files) (status : ℕ) (new_files : Option Files) (old new : Option (List ℕ)) (r : Release) → EndsAsTold asked files status new_files old new → IsImageOf asked files r → ShowsRelease r status old new
+shows_by asked None status new_files old new r e m = absurd (none_told m.told m.files_are)
+shows_by asked (Some before) status new_files old new r e m =
+    let same : before ≡ m.told = some_told before m.told m.files_are in
+    let is : IsAnswer m.told asked (showing m.told r) = subst (λ (a : Asked). IsAnswer m.told a (showing m.told r)) (sym m.asked_is)
+    (shows m.name m.bytes r m.image_is (library_again m.bytes m.bytes_are r m.spelled m.prints) m.conforms) in
+    let answer = subst (λ (x : Files). IsAnswer x asked (showing x r)) (sym same) is in
+    record { text = text_of asked before status new_files old new e (showing before r) answer; status_is = status_of asked before status new_files old new e (showing before r) answer }

@@ -47,7 +47,7 @@ prints_in_images f = All-from_recursion libimage.ClassPrints (map decl_of f.clas
 
 -- ---- as the rules have them
 
-text_test : (t : List ℕ) → verify.prints (stmts.Print (exprs.Str t)) ≡ true
+pub text_test : (t : List ℕ) → verify.prints (stmts.Print (exprs.Str t)) ≡ true
 text_test t = ap verify.layer_prints (out_print (exprs.Str t)) ∙ ap verify.is_text (out_text t)
 
 block_test : (t : List ℕ) → verify.block_prints (printing t) ≡ true

@@ -4,6 +4,8 @@ mod FuelLaws
 mod ClientLaws
 mod RunMeaning
 mod RunLaws
+mod ShowLaws
+mod SayLaws
 mod OneAnswer
 mod Telling
 mod RunAnswers

@@ -4,27 +4,30 @@ use Rattle.std.specs.Option.{ok_or}
 use Rattle.std.specs.FinMap.{get}
 use Rattle.som_model.specs.Bytes.{Files}
 use Rattle.som_model.specs.Means.{means}
-use Rattle.som_first.specs.declared.calls.Printing.{Printing}
 use Rattle.som_first.specs.declared.unread.Unread.{Unread}
 use Rattle.som_first.specs.declared.unread.Unread.TheVariants as unread
 use Rattle.som_first.specs.FirstImages.{IsFirstLibrary, IsFirstClient}
 use Rattle.som_firstclient.specs.declared.image.ClientImage.{ClientImage}
 use Rattle.som_firstclient.specs.Clients.{program_named}
+use Rattle.std.specs.List.{concat}
 use Rattle.som_cmd.specs.declared.library.Library.{Library}
+use Rattle.som_cmd.specs.declared.output.Output.{Output}
 use Rattle.som_cmd.specs.declared.stop.Refusal.{Refusal}
 use Rattle.som_cmd.specs.declared.stop.Stop.{Stop}
 use Rattle.som_cmd.specs.declared.stop.Stop.TheVariants as stops
 use Rattle.som_cmd.specs.RunText.{run_text, no_trace}
+use Rattle.som_cmd.specs.Status.{end_status}
 use Rattle.som_cmd.specs.Words.{Run}
 use Rattle.som_cmd.specs.Taking.{IsNone, TakesLibrary, TakesClient, IsLibrary, IsClient}
 use Rattle.som_cmd.specs.Answer.{IsAnswer, no_client, no_library, client_refused, library_refused, faces_differ, runs, refusing, ran, absent, no_image}
-use Rattle.som_cmd.specs.RunSteps.{file_of, FollowsTold, TakesOr, spent_status, printed, RunsOn, Answers, AnswersTold}
+use Rattle.som_cmd.specs.Steps.{file_of, FollowsTold, printed, Answers, AnswersTold}
+use Rattle.som_cmd.specs.RunSteps.{TakesOr, RunsOn}
 
-missing_by : (o : Option (List ℕ)) (name : List ℕ) (r : Refusal) → ok_or o (absent name) ≡ Err r → (o ≡ None) × (r ≡ absent name)
+pub missing_by : (o : Option (List ℕ)) (name : List ℕ) (r : Refusal) → ok_or o (absent name) ≡ Err r → (o ≡ None) × (r ≡ absent name)
 missing_by None name r e = (refl, cc)
 missing_by (Some b) name r e = absurd cc
 
-found_by : (o : Option (List ℕ)) (name b : List ℕ) → ok_or o (absent name) ≡ Ok b → o ≡ Some b
+pub found_by : (o : Option (List ℕ)) (name b : List ℕ) → ok_or o (absent name) ≡ Ok b → o ≡ Some b
 found_by None name b e = absurd cc
 found_by (Some a) name b e = let same : a ≡ b = cc in ap (λ (x : List ℕ). Some x) same
 
@@ -127,11 +130,11 @@ client_known cb c taken i is takes = (cb, client_there cb c taken i is takes)
 pub library_known : (lb l : List ℕ) (taken : Result Library Unread) (x : Library) → TakesLibrary lb taken → TakesOr l taken (Ok x) → (bytes : List ℕ) × IsLibrary bytes x
 library_known lb l taken x is takes = (lb, library_there lb l taken x is takes)
 
-run_by : (files : Files) (c l : List ℕ) (fuel : ℕ) (cb lb : List ℕ) → Both files c l cb lb → (i : ClientImage) → IsClient cb i → (x : Library) → IsLibrary lb x → (result : Result Printing Stop) → RunsOn l i x fuel result
+run_by : (files : Files) (c l : List ℕ) (fuel : ℕ) (cb lb : List ℕ) → Both files c l cb lb → (i : ClientImage) → IsClient cb i → (x : Library) → IsLibrary lb x → (result : Result Output Stop) → RunsOn l i x fuel result
     → Answers files (Run c l fuel) result
-run_by files c l fuel cb lb both i is_i x is_x (Ok p) on =
-    let same : printed files p ≡ ran files (means x.release (program_named i) fuel) =
-    ap (λ (t : List ℕ). record { text = t; status = spent_status p.spent; files = files }) on.text
+run_by files c l fuel cb lb both i is_i x is_x (Ok o) on =
+    let same : printed files o ≡ ran files (means x.release (program_named i) fuel) =
+    ap (λ (l : List (List ℕ)). record { text = concat l; status = end_status o.end; files = files }) on.lines
     ∙ ap (λ (n : ℕ). record { text = run_text no_trace (means x.release (program_named i) fuel); status = n; files = files }) on.status in
     subst (IsAnswer files (Run c l fuel)) (sym same) (runs c l fuel cb lb both.client both.library (program_named i) is_i.image x.release is_x.image on.compiled)
 run_by files c l fuel cb lb both i is_i x is_x (Err (stops.Refused r)) on =
@@ -140,7 +143,7 @@ run_by files c l fuel cb lb both i is_i x is_x (Err (stops.StoreFailed line)) on
 run_by files c l fuel cb lb both i is_i x is_x (Err stops.NoMemory) on = tt
 
 -- the client runs, or the faces differ
-pub run_answers : (files later : Option Files) (c l : List ℕ) (fuel : ℕ) (cb lb : List ℕ) (taken : Result ClientImage Unread) (i : ClientImage) (library : Result Library Unread) (x : Library) (result : Result Printing Stop) → later ≡ files
+pub run_answers : (files later : Option Files) (c l : List ℕ) (fuel : ℕ) (cb lb : List ℕ) (taken : Result ClientImage Unread) (i : ClientImage) (library : Result Library Unread) (x : Library) (result : Result Output Stop) → later ≡ files
     → FollowsTold files (Ok cb) (file_of c) → FollowsTold later (Ok lb) (file_of l) → TakesClient cb taken → TakesOr c taken (Ok i) → TakesLibrary lb library → TakesOr l library (Ok x) → RunsOn l i x fuel result
     → AnswersTold files (Run c l fuel) result
 run_answers None later c l fuel cb lb taken i library x result same f g is takes is_l takes_l on = tt

@@ -1,5 +1,5 @@
 -- What is printed on a library is what the client means among its classes.
-use Rattle.std.proofs.Common.{◌≡◌, ℕ, zero, suc, ◌-◌, List, [], ◌∷◌, ◌++◌, map, Bool, true, false, not, Some, slice_get, refl, sym, ap, ◌∙◌, subst, arith, append_assoc}
+use Rattle.std.proofs.Common.{◌≡◌, ℕ, zero, suc, ◌-◌, List, [], ◌∷◌, ◌++◌, map, Bool, true, false, not, Some, slice_get, refl, sym, ap, ◌∙◌, subst, arith}
 use Rattle.std.specs.List.{AllByRecursion}
 use Rattle.std.proofs.lemmas.List.{append-nil}
 use Rattle.std.proofs.lemmas.List.Elements.{recursion_from_All}
@@ -33,21 +33,23 @@ use Rattle.som_first.proofs.FirstAnswered.{all_answered}
 use Rattle.som_firstclient.specs.declared.image.ClientImage.{ClientImage}
 use Rattle.som_firstclient.specs.Clients.{call_named, program_named, CallFits, FitsClient}
 use Rattle.som_cmd.specs.declared.library.Library.{Library}
-use Rattle.som_cmd.specs.RunText.{events_text, run_text, run_status, no_trace}
+use Rattle.som_cmd.specs.declared.output.Output.{Output}
+use Rattle.som_cmd.specs.RunText.{events_lines, run_lines, run_status, no_trace}
+use Rattle.som_cmd.specs.Status.{end_status}
 use Rattle.som_cmd.specs.Taking.{IsClient, IsLibrary}
 use Rattle.som_cmd.specs.RunSteps.{spent_status, PrintsMeaning}
 use Rattle.som_cmd.proofs.ClientLaws.{standing, image_of, first_program, program_is}
 
--- ---- the text of a run
+-- ---- the lines of a run
 
-events_shown : (es : List Event) → events_text no_trace es ≡ lines (prints es)
+events_shown : (es : List Event) → events_lines no_trace es ≡ lines (prints es)
 events_shown [] = refl
-events_shown (Printed t ∷ es) = ap (λ (x : List ℕ). (t ++ 10 ∷ []) ++ x) (events_shown es) ∙ append_assoc t (10 ∷ []) (lines (prints es))
+events_shown (Printed t ∷ es) = ap (λ (l : List (List ℕ)). (t ++ 10 ∷ []) ∷ l) (events_shown es)
 events_shown (Called r way k ∷ es) = events_shown es
 
-run_shows : {A : Type 0} (texts : List (List ℕ)) (b : Bool) (run : Ran A) → RunPrints texts b run → (run_text no_trace run ≡ lines texts) × (run_status run ≡ spent_status (not b))
+run_shows : {A : Type 0} (texts : List (List ℕ)) (b : Bool) (run : Ran A) → RunPrints texts b run → (run_lines no_trace run ≡ lines texts) × (run_status run ≡ spent_status (not b))
 run_shows texts true (Goes a s) e = (events_shown s.events ∙ ap lines e, refl)
-run_shows texts false (Ends Spent s) e = (append-nil (events_text no_trace s.events) ∙ events_shown s.events ∙ ap lines e, refl)
+run_shows texts false (Ends Spent s) e = (append-nil (events_lines no_trace s.events) ∙ events_shown s.events ∙ ap lines e, refl)
 run_shows texts true (Ends c s) e = absurd e
 run_shows texts false (Goes a s) e = absurd e
 run_shows texts false (Ends (Faulted f at) s) e = absurd e
@@ -129,14 +131,14 @@ module _ (r : FirstRelease) (ok : ReleaseOk (release_of r)) (ats : List CallPlac
 
     -- what is printed is the meaning
     first_prints : (fuel : ℕ) (p : Printing)
-        → ((named : List FirstCall) (texts : List (List ℕ)) → AreCalls r.classes ats named → AllPrint (all_of r.classes) named texts → (p.text ≡ lines (lasting fuel texts)) × (p.spent ≡ not (lasts fuel texts)))
-        → (p.text ≡ run_text no_trace (means (release_of r) (program_named client) fuel)) × (spent_status p.spent ≡ run_status (means (release_of r) (program_named client) fuel))
+        → ((named : List FirstCall) (texts : List (List ℕ)) → AreCalls r.classes ats named → AllPrint (all_of r.classes) named texts → (p.lines ≡ lines (lasting fuel texts)) × (p.spent ≡ not (lasts fuel texts)))
+        → (p.lines ≡ run_lines no_trace (means (release_of r) (program_named client) fuel)) × (spent_status p.spent ≡ run_status (means (release_of r) (program_named client) fuel))
     first_prints fuel p told =
         let a = first_answered in
         let q = told calls a.0 first_calls a.1 in
         let means_so = means_prints r program a.0 fuel ok (subst (λ (cs : List Class). AllPrint cs calls a.0) (sym (classes_are r program)) a.1) in
         let shown = run_shows (lasting fuel a.0) (lasts fuel a.0) (means (release_of r) (program_of program) fuel) means_so in (
-          q.0 ∙ sym shown.0 ∙ ap (λ (x : ClientProgram). run_text no_trace (means (release_of r) x fuel)) (sym (program_is (map seen r.classes) ats)),
+          q.0 ∙ sym shown.0 ∙ ap (λ (x : ClientProgram). run_lines no_trace (means (release_of r) x fuel)) (sym (program_is (map seen r.classes) ats)),
           ap spent_status q.1 ∙ sym shown.1 ∙ ap (λ (x : ClientProgram). run_status (means (release_of r) x fuel)) (sym (program_is (map seen r.classes) ats)),
         )
 
@@ -159,13 +161,13 @@ calls_there i l cb lb is_i is_l base =
 
 -- and what they print is its meaning
 pub prints_meaning : (i : ClientImage) (l : Library) (cb lb : List ℕ) → IsClient cb i → IsLibrary lb l → i.base ≡ interface_of l.release → (fuel : ℕ) (p : Printing)
-    → ((named : List FirstCall) (texts : List (List ℕ)) → AreCalls l.first.classes i.calls named → AllPrint (all_of l.first.classes) named texts → (p.text ≡ lines (lasting fuel texts)) × (p.spent ≡ not (lasts fuel texts)))
-    → PrintsMeaning i l fuel p
-prints_meaning i l cb lb is_i is_l base fuel p told =
+    → ((named : List FirstCall) (texts : List (List ℕ)) → AreCalls l.first.classes i.calls named → AllPrint (all_of l.first.classes) named texts → (p.lines ≡ lines (lasting fuel texts)) × (p.spent ≡ not (lasts fuel texts)))
+    → (o : Output) → o.lines ≡ p.lines → end_status o.end ≡ spent_status p.spent → PrintsMeaning i l fuel o
+prints_meaning i l cb lb is_i is_l base fuel p told o lines_are end_is =
     let here = client_is i l lb is_l base in
     let q = first_prints l.first (library_conforms l lb is_l) i.calls (subst (λ (x : ClientImage). ProgramOk (program_named x)) (sym here) is_i.image.conforms) (subst (λ (x : ClientImage). FitsClient x) (sym here) is_i.fits) fuel p told in
     record {
       compiled = base;
-      text = q.0 ∙ ap (λ (x : ClientImage). run_text no_trace (means (release_of l.first) (program_named x) fuel)) here ∙ ap (λ (r : Release). run_text no_trace (means r (program_named i) fuel)) is_l.is;
-      status = q.1 ∙ ap (λ (x : ClientImage). run_status (means (release_of l.first) (program_named x) fuel)) here ∙ ap (λ (r : Release). run_status (means r (program_named i) fuel)) is_l.is;
+      lines = lines_are ∙ q.0 ∙ ap (λ (x : ClientImage). run_lines no_trace (means (release_of l.first) (program_named x) fuel)) here ∙ ap (λ (r : Release). run_lines no_trace (means r (program_named i) fuel)) is_l.is;
+      status = end_is ∙ q.1 ∙ ap (λ (x : ClientImage). run_status (means (release_of l.first) (program_named x) fuel)) here ∙ ap (λ (r : Release). run_status (means r (program_named i) fuel)) is_l.is;
     }

@@ -5,7 +5,7 @@ use Rattle.som_io.specs.Outside.{Rose}
 use Rattle.som_model.specs.Bytes.{Files}
 use Rattle.som_cmd.specs.declared.stop.Stop.{Stop}
 use Rattle.som_cmd.specs.declared.stop.Stop.TheVariants as stops
-use Rattle.som_cmd.specs.Words.{Asked, Run, Bad}
+use Rattle.som_cmd.specs.Words.{Asked, Run, Show, Bad}
 use Rattle.som_cmd.specs.Answer.{named}
 
 abbrev pub store_failed : List ℕ → List ℕ
@@ -19,6 +19,7 @@ Has (Some files) name = (bytes : List ℕ) × (get files name ≡ Some bytes)
 -- the line says that the get of a name failed which the command gets, and no step before that get refuses
 abbrev pub FailsOn : Option Files → Asked → List ℕ → Type 0
 FailsOn files (Run client library fuel) line = (line ≡ store_failed client) ⊎ ((line ≡ store_failed library) × Has files client)
+FailsOn files (Show image) line = line ≡ store_failed image
 FailsOn files Bad line = ⊥
 
 abbrev pub StopHasCause : (List ℕ → Type 0) → ℕ → ℕ → Stop → Type 0

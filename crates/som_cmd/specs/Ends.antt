@@ -1,15 +1,20 @@
 -- How a call may end.
 use Rattle.std.specs.Prelude.{◌≡◌, ◌⊎◌, ℕ, List, Option, Some, None}
 use Rattle.std.specs.FinMap.{get}
+use Rattle.std.specs.List.{concat}
 use Rattle.som_model.specs.declared.program.Release.{Release}
 use Rattle.som_model.specs.declared.program.ClientProgram.{ClientProgram}
-use Rattle.som_model.specs.Bytes.{Files}
+use Rattle.som_model.specs.Bytes.{AreBytes, Files}
 use Rattle.som_model.specs.Class.{interface_of}
 use Rattle.som_model.specs.Means.{means}
+use Rattle.som_model.specs.Conforming.{ReleaseOk}
+use Rattle.som_model.specs.Images.{library_image}
+use Rattle.som_libimage.specs.Libraries.{PrintTexts}
+use Rattle.som_show.specs.Shown.{shown_lines}
 use Rattle.som_io.specs.Outside.{Rose, ShowsAll, ShowsFront}
 use Rattle.som_first.specs.FirstImages.{IsFirstLibrary, IsFirstClient}
 use Rattle.som_cmd.specs.RunText.{run_text, run_status, no_trace}
-use Rattle.som_cmd.specs.Words.{Asked, Run}
+use Rattle.som_cmd.specs.Words.{Asked, Run, Show}
 use Rattle.som_cmd.specs.Answer.{Ending, IsAnswer}
 use Rattle.som_cmd.specs.Cause.{FailsOn}
 
@@ -59,3 +64,21 @@ pub record AreImagesOf (asked : Asked) (files : Option Files) (p : ClientProgram
 pub record RunsAs (p : ClientProgram) (r : Release) (fuel : ℕ) (status : ℕ) (old new : Option (List ℕ)) : Type 0 where
   pub text : ShowsAll old new (run_text no_trace (means r p fuel))
   pub status_is : status ≡ run_status (means r p fuel)
+
+-- an image is to be shown, and the store holds that of the release, which prints texts and conforms
+pub record IsImageOf (asked : Asked) (files : Option Files) (r : Release) : Type 0 where
+  pub told : Files
+  pub files_are : files ≡ Some told
+  pub name : List ℕ
+  pub asked_is : asked ≡ Show name
+  pub bytes : List ℕ
+  pub image_is : get told name ≡ Some bytes
+  pub bytes_are : AreBytes bytes
+  pub spelled : library_image r ≡ Some bytes
+  pub prints : PrintTexts r
+  pub conforms : ReleaseOk r
+
+-- what was written shows the release, and the status is 0
+pub record ShowsRelease (r : Release) (status : ℕ) (old new : Option (List ℕ)) : Type 0 where
+  pub text : ShowsAll old new (concat (shown_lines r))
+  pub status_is : status ≡ 0

@@ -3,6 +3,9 @@ pub mod Words
 pub mod Status
 pub mod Taking
 pub mod Answer
+pub mod Steps
 pub mod RunSteps
+pub mod ShowSteps
+pub mod Saying
 pub mod Cause
 pub mod Ends

@@ -1,5 +1,6 @@
--- The text of a run, and its status.
-use Rattle.std.specs.Prelude.{ℕ, List, [], ◌∷◌, ◌++◌, codes, Bool, false, if◌then◌else◌}
+-- The lines of a run, its text, and its status.
+use Rattle.std.specs.Prelude.{ℕ, List, [], ◌∷◌, ◌++◌, codes, flat_map, Bool, false, if◌then◌else◌}
+use Rattle.std.specs.List.{concat}
 use Rattle.som_model.specs.declared.key.ClassKey.{ClassKey}
 use Rattle.som_model.specs.declared.program.Fault.{Fault}
 use Rattle.som_model.specs.declared.program.Fault.TheVariants as faults
@@ -39,25 +40,28 @@ abbrev place_name : Place → List ℕ
 place_name InMain = codes "main"
 place_name (InBody k name) = member_name k name
 
--- the line of an event; of a call where the trace shows the class whose body it is
-abbrev pub event_text : (ClassKey → Bool) → Event → List ℕ
-event_text shows (Printed t) = t ++ 10 ∷ []
-event_text shows (Called r way k) = if shows k then codes "# call " ++ member_name r.class r.name ++ codes " " ++ way_name way ++ codes " " ++ class_name k ++ 10 ∷ [] else []
+-- the line of an event, with its end; of a call where the trace shows the class whose body it is
+abbrev pub event_lines : (ClassKey → Bool) → Event → List (List ℕ)
+event_lines shows (Printed t) = (t ++ 10 ∷ []) ∷ []
+event_lines shows (Called r way k) = if shows k then (codes "# call " ++ member_name r.class r.name ++ codes " " ++ way_name way ++ codes " " ++ class_name k ++ 10 ∷ []) ∷ [] else []
 
 -- the lines of events
-abbrev pub events_text : (ClassKey → Bool) → List Event → List ℕ
-events_text shows [] = []
-events_text shows (e ∷ es) = event_text shows e ++ events_text shows es
+abbrev pub events_lines : (ClassKey → Bool) → List Event → List (List ℕ)
+events_lines shows es = flat_map (event_lines shows) es
 
 -- the last line, of a fault
-abbrev end_text : Cut → List ℕ
-end_text (Faulted f at) = codes "fault " ++ fault_name f ++ codes " in " ++ place_name at ++ 10 ∷ []
-end_text Spent = []
+abbrev end_lines : Cut → List (List ℕ)
+end_lines (Faulted f at) = (codes "fault " ++ fault_name f ++ codes " in " ++ place_name at ++ 10 ∷ []) ∷ []
+end_lines Spent = []
 
--- the text of a run
+-- the lines of a run
+abbrev pub run_lines : {A : Type 0} → (ClassKey → Bool) → Ran A → List (List ℕ)
+run_lines shows (Goes a s) = events_lines shows s.events
+run_lines shows (Ends c s) = events_lines shows s.events ++ end_lines c
+
+-- the text of a run: its lines, one after the other
 abbrev pub run_text : {A : Type 0} → (ClassKey → Bool) → Ran A → List ℕ
-run_text shows (Goes a s) = events_text shows s.events
-run_text shows (Ends c s) = events_text shows s.events ++ end_text c
+run_text shows run = concat (run_lines shows run)
 
 -- the status of a run that was cut short
 abbrev cut_status : Cut → ℕ

@@ -2,12 +2,19 @@
 use Rattle.std.specs.Prelude.{ℕ, ◌==◌, Bool, ◌||◌}
 use Rattle.som_cmd.specs.declared.stop.Why.{Why}
 use Rattle.som_cmd.specs.declared.stop.Why.TheVariants as why
+use Rattle.som_cmd.specs.declared.output.End.{End}
+use Rattle.som_cmd.specs.declared.output.End.TheVariants as ends
 
 -- the status of each refusal
 abbrev pub status_of : Why → ℕ
 status_of why.Incompatible = 4
 status_of why.Image = 5
 status_of why.Absent = 7
+
+-- the status of each end of a command that no step refuses
+abbrev pub end_status : End → ℕ
+end_status ends.Done = 0
+end_status ends.Spent = 9
 
 -- the statuses that come where neither store nor sink fails
 abbrev pub is_calm_status : ℕ → Bool

@@ -2,10 +2,15 @@
 #![tactic(auto)]
 
 mod client;
+mod fetch;
+mod image;
 mod laws;
 mod library;
 mod line;
+mod output;
 mod run;
+mod say;
+mod show;
 mod stop;
 mod top;
 mod words;
@@ -16,6 +21,12 @@ pub use top::run_som;
 #[cfg(test)]
 mod tests;
 #[cfg(test)]
+mod tests_of_images;
+#[cfg(test)]
+mod tests_of_lines;
+#[cfg(test)]
 mod tests_of_refusals;
 #[cfg(test)]
 mod tests_of_runs;
+#[cfg(test)]
+mod tests_of_show;

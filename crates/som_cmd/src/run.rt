@@ -1,39 +1,22 @@
-ghost use Rattle.som_cmd.specs.Answer.{no_image};
-ghost use Rattle.som_cmd.specs.Cause.{FailsOn, HasCause, IsQuiet, store_failed};
-ghost use Rattle.som_cmd.specs.RunSteps.{AnswersTold, FollowsTold, RunsOn, TakesOr, file_of};
+ghost use Rattle.som_cmd.specs.Cause.{FailsOn, HasCause, IsQuiet};
+ghost use Rattle.som_cmd.specs.RunSteps.{RunsOn, TakesOr, spent_status};
+ghost use Rattle.som_cmd.specs.Status.{end_status};
+ghost use Rattle.som_cmd.specs.Steps.{AnswersTold};
 ghost use Rattle.som_cmd.specs.Taking.{IsClient, IsLibrary};
 ghost use Rattle.som_cmd.specs.Words.{Run};
 ghost use Rattle.std.specs.Prelude.{◌≡◌, ◌≤◌, ℕ, List as Seq};
 
 use crate::client::take_client;
+use crate::fetch::fetch;
 use crate::library::{Library, take_library};
 use crate::line::named_line;
+use crate::output::{End, Output};
 use crate::stop::{Refusal, Stop, Why};
 use som_first::{Printing, Unread, link_release, print_calls};
 use som_firstclient::ClientImage;
-use som_io::{Got, Store};
-use som_model::{List, Text};
+use som_io::Store;
+use som_model::Text;
 use std::alloc::Global;
-
-// The bytes under a name.
-fn fetch<S: Store>(alloc: Global, name: &Text, store: &mut S) -> Result<List<u8>, Stop>
-    ensures answer { FollowsTold (S.files store.old) result (file_of name.now) }
-    ensures files { S.files store.new ≡ S.files store.old }
-    ensures later { S.faults store.old ≤ S.faults store.new }
-    ensures cause { HasCause (λ line. line ≡ store_failed name.now) (S.faults store.old) (S.faults store.new) result }
-    ensures calm { S.calm store.old → S.calm store.new }
-    ensures quiet { S.calm store.old → IsQuiet result }
-{
-    match store.get(name) {
-        Got::Bytes(bytes) => Ok(bytes),
-        Got::Absent => Err(Stop::Refused(Refusal {
-            line: named_line(alloc, b"absent ", name)?,
-            why: Why::Absent,
-        })),
-        Got::Failed => Err(Stop::StoreFailed(named_line(alloc, b"store failed ", name)?)),
-        Got::NoMemory => Err(Stop::NoMemory),
-    }
-}
 
 // The value of an image, or the refusal under its name.
 fn image<T: Drop>(alloc: Global, name: &Text, read: Result<T, Unread>) -> Result<T, Stop>
@@ -50,6 +33,21 @@ fn image<T: Drop>(alloc: Global, name: &Text, read: Result<T, Unread>) -> Result
     }
 }
 
+// What calls print, with the end of the run.
+fn output_of(printing: Printing) -> Output
+    ensures lines { result.lines ≡ printing.lines }
+    ensures end { end_status result.end ≡ spent_status printing.spent }
+{
+    Output {
+        lines: printing.lines,
+        end: if printing.spent {
+            End::Spent
+        } else {
+            End::Done
+        },
+    }
+}
+
 // What a client prints on the library that it was compiled against.
 fn run_on(
     alloc: Global,
@@ -57,7 +55,7 @@ fn run_on(
     client: &ClientImage,
     library: &Library,
     fuel: u32,
-) -> Result<Printing, Stop>
+) -> Result<Output, Stop>
     requires client { (bytes : Seq ℕ) × IsClient bytes client.now }
     requires library { (bytes : Seq ℕ) × IsLibrary bytes library.now }
     ensures runs { RunsOn name.now client.now library.now fuel result }
@@ -66,7 +64,8 @@ fn run_on(
     let interface = library.release.interface(alloc)?;
     if client.base.is(&interface) {
         let linked = link_release(alloc, library.first.classes.as_slice())?;
-        Ok(print_calls(alloc, &linked, client.calls.as_slice(), fuel)?)
+        let printing = print_calls(alloc, &linked, client.calls.as_slice(), fuel)?;
+        Ok(output_of(printing))
     } else {
         Err(Stop::Refused(Refusal {
             line: named_line(alloc, b"not the same as ", name)?,
@@ -83,7 +82,7 @@ pub fn run<S: Store>(
     library: &Text,
     fuel: u32,
     store: &mut S,
-) -> Result<Printing, Stop>
+) -> Result<Output, Stop>
     ensures answer { AnswersTold (S.files store.old) (Run client.now library.now fuel) result }
     ensures files { S.files store.new ≡ S.files store.old }
     ensures later { S.faults store.old ≤ S.faults store.new }

@@ -89,7 +89,7 @@ fn hello_is_printed(rt: HostRuntime) -> Result<(), Fail> {
 #[test]
 fn words_of_no_form_are_refused(rt: HostRuntime) -> Result<(), Fail> {
     let alloc = rt.alloc();
-    let all: [&[&[u8]]; 15] = [
+    let all: [&[&[u8]]; 18] = [
         &[],
         &[b"run"],
         &[b"run", b"a"],
@@ -104,7 +104,10 @@ fn words_of_no_form_are_refused(rt: HostRuntime) -> Result<(), Fail> {
         &[b"run", b"a", b"", b"--fuel", b"3"],
         &[b"--fuel", b"3", b"run", b"a", b"b"],
         &[b"Run", b"a", b"b"],
+        &[b"show"],
+        &[b"show", b""],
         &[b"show", b"a", b"b"],
+        &[b"Show", b"a"],
     ];
     for words in all {
         let mut store = MemStore::new(alloc);

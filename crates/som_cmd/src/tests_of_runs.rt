@@ -28,7 +28,7 @@ pub const CHAIN: [&[u8]; 7] = [
 ];
 
 // A.a on A, A.a on B, A.a on C, A.b on C and C.c on C.
-const CALLS: [&[u8]; 10] = [
+pub const CALLS: [&[u8]; 10] = [
     b"SOMC\x01\0\x03",
     FACE_A,
     FACE_B,

@@ -12,6 +12,9 @@ pub enum Command<'a> {
         library: &'a Text,
         fuel: u32,
     },
+    Show {
+        image: &'a Text,
+    },
     /// The words have no form.
     Bad,
 }
@@ -20,6 +23,12 @@ fn is_run(word: &Text) -> bool
     ensures { result ≡ bytes_eq word.now (codes "run") }
 {
     word.is(b"run")
+}
+
+fn is_show(word: &Text) -> bool
+    ensures { result ≡ bytes_eq word.now (codes "show") }
+{
+    word.is(b"show")
 }
 
 fn leads_with_zero(digits: &[u8]) -> bool
@@ -83,6 +92,13 @@ pub fn command_of(words: &List<Text>) -> Command<'_>
     ensures { asked_by result ≡ asked words.now }
 {
     match words.as_slice() {
+        [word, image] => {
+            if is_show(word) && !image.is_empty() {
+                Command::Show { image }
+            } else {
+                Command::Bad
+            }
+        }
         [word, client, library, rest @ ..] => {
             if is_run(word) && !client.is_empty() && !library.is_empty() {
                 match fuel_in(rest) {

@@ -114,10 +114,10 @@ module _ (fs : List FirstClass) (ok : FirstOk fs) (rows : List (Added ℕ)) (tex
 -- ---- the calls in turn
 
 -- what was printed is the front of what is to be printed, with the fuel that is left
-pub record PrintedSoFar (fs : List FirstClass) (ats : List CallPlace) (fuel left i : ℕ) (text : List ℕ) : Type 0 where
+pub record PrintedSoFar (fs : List FirstClass) (ats : List CallPlace) (fuel left i : ℕ) (printed : List (List ℕ)) : Type 0 where
   pub by : (calls : List FirstCall) (texts : List (List ℕ)) → AreCalls fs ats calls → AllPrint (all_of fs) calls texts
       → (rest : List FirstCall) × (others : List (List ℕ)) × AreCalls fs (drop i ats) rest × AllPrint (all_of fs) rest others
-      × (text ++ lines (lasting left others) ≡ lines (lasting fuel texts)) × (lasts left others ≡ lasts fuel texts)
+      × (printed ++ lines (lasting left others) ≡ lines (lasting fuel texts)) × (lasts left others ≡ lasts fuel texts)
 
 pub begun : (fs : List FirstClass) (ats : List CallPlace) (fuel : ℕ) → PrintedSoFar fs ats fuel fuel 0 []
 begun fs ats fuel = record { by = λ calls texts are print. (calls, texts, are, print, refl, refl) }
@@ -143,7 +143,7 @@ lasts_short (suc zero) t texts lt = refl
 lasts_short (suc (suc zero)) t texts lt = refl
 lasts_short (suc (suc (suc n))) t texts lt = absurd (omega arith)
 
-lasting_more : (left : ℕ) (t : List ℕ) (texts : List (List ℕ)) → 3 ≤ left → lines (lasting left (t ∷ texts)) ≡ t ++ 10 ∷ lines (lasting (left - 3) texts)
+lasting_more : (left : ℕ) (t : List ℕ) (texts : List (List ℕ)) → 3 ≤ left → lines (lasting left (t ∷ texts)) ≡ (t ++ 10 ∷ []) ∷ lines (lasting (left - 3) texts)
 lasting_more left t texts le = let e : left ≡ suc (suc (suc (left - 3))) = omega arith in ap (λ (n : ℕ). lines (lasting n (t ∷ texts))) e
 
 lasts_more : (left : ℕ) (t : List ℕ) (texts : List (List ℕ)) → 3 ≤ left → lasts left (t ∷ texts) ≡ lasts (left - 3) texts
@@ -175,29 +175,29 @@ call_there fs (a ∷ ats) [] are i d lt = absurd are
 call_there fs (a ∷ ats) (c ∷ cs) are zero d lt = (c, are.0)
 call_there fs (a ∷ ats) (c ∷ cs) are (suc i) d lt = call_there fs ats cs are.1 i d (omega arith)
 
-module _ (fs : List FirstClass) (ats : List CallPlace) (fuel left i : ℕ) (text : List ℕ) (so : PrintedSoFar fs ats fuel left i text) where
+module _ (fs : List FirstClass) (ats : List CallPlace) (fuel left i : ℕ) (printed : List (List ℕ)) (so : PrintedSoFar fs ats fuel left i printed) where
   -- no fuel is left for a further call
   pub cut_short : (d : CallPlace) → i < length ats → left < 3 → (calls : List FirstCall) (texts : List (List ℕ)) → AreCalls fs ats calls → AllPrint (all_of fs) calls texts
-      → (text ≡ lines (lasting fuel texts)) × (true ≡ not (lasts fuel texts))
+      → (printed ≡ lines (lasting fuel texts)) × (true ≡ not (lasts fuel texts))
   cut_short d lt short calls texts are print =
       let r = so.by calls texts are print in
       let n = next_call fs (slice_index_or ats i d) (drop (i + 1) ats) r.0 r.1 (subst (λ (l : List CallPlace). AreCalls fs l r.0) (drop_at ats i d lt) r.2) r.3 in (
-        sym (append-nil text) ∙ ap (λ (l : List (List ℕ)). text ++ lines l) (sym (lasting_short left r.1 short)) ∙ r.4,
+        sym (append-nil printed) ∙ ap (λ (l : List (List ℕ)). printed ++ lines l) (sym (lasting_short left r.1 short)) ∙ r.4,
         ap not (sym (lasts_short left n.2 n.3 short) ∙ ap (lasts left) (sym n.9) ∙ r.5),
       )
 
   -- all calls are done
-  pub all_done : length ats ≤ i → (calls : List FirstCall) (texts : List (List ℕ)) → AreCalls fs ats calls → AllPrint (all_of fs) calls texts → (text ≡ lines (lasting fuel texts)) × (false ≡ not (lasts fuel texts))
+  pub all_done : length ats ≤ i → (calls : List FirstCall) (texts : List (List ℕ)) → AreCalls fs ats calls → AllPrint (all_of fs) calls texts → (printed ≡ lines (lasting fuel texts)) × (false ≡ not (lasts fuel texts))
   all_done over calls texts are print =
       let r = so.by calls texts are print in
       let none = none_left fs r.0 r.1 (subst (λ (l : List CallPlace). AreCalls fs l r.0) (drop_over ats i over) r.2) r.3 in (
-        sym (append-nil text) ∙ ap (λ (l : List (List ℕ)). text ++ lines l) (sym (ap (lasting left) none ∙ lasting_none left)) ∙ r.4,
+        sym (append-nil printed) ∙ ap (λ (l : List (List ℕ)). printed ++ lines l) (sym (ap (lasting left) none ∙ lasting_none left)) ∙ r.4,
         ap not (sym (ap (lasts left) none) ∙ r.5),
       )
 
   -- one call more
   pub printed_more : (d : CallPlace) → i < length ats → 3 ≤ left → (line : List ℕ) → ((call : FirstCall) (t : List ℕ) → CallIs fs (slice_index_or ats i d) call → Prints (all_of fs) call t → line ≡ t)
-      → PrintedSoFar fs ats fuel (left - 3) (i + 1) ((text ++ line) ++ 10 ∷ [])
+      → PrintedSoFar fs ats fuel (left - 3) (i + 1) (printed ++ (line ++ 10 ∷ []) ∷ [])
   printed_more d lt enough line lines_is = record {
     by = λ calls texts are print.
         let r = so.by calls texts are print in
@@ -207,8 +207,8 @@ module _ (fs : List FirstClass) (ats : List CallPlace) (fuel left i : ℕ) (text
           n.3,
           n.5,
           n.7,
-          append_assoc (text ++ line) (10 ∷ []) (lines (lasting (left - 3) n.3)) ∙ append_assoc text line (10 ∷ lines (lasting (left - 3) n.3))
-              ∙ ap (λ (x : List ℕ). text ++ (x ++ 10 ∷ lines (lasting (left - 3) n.3))) e ∙ ap (λ (x : List ℕ). text ++ x) (sym (lasting_more left n.2 n.3 enough)) ∙ ap (λ (l : List (List ℕ)). text ++ lines (lasting left l)) (sym n.9) ∙ r.4,
+          append_assoc printed ((line ++ 10 ∷ []) ∷ []) (lines (lasting (left - 3) n.3))
+              ∙ ap (λ (x : List ℕ). printed ++ ((x ++ 10 ∷ []) ∷ lines (lasting (left - 3) n.3))) e ∙ ap (λ (x : List (List ℕ)). printed ++ x) (sym (lasting_more left n.2 n.3 enough)) ∙ ap (λ (l : List (List ℕ)). printed ++ lines (lasting left l)) (sym n.9) ∙ r.4,
           sym (lasts_more left n.2 n.3 enough) ∙ ap (lasts left) (sym n.9) ∙ r.5,
         );
   }

@@ -1,5 +1,5 @@
 -- What the calls of a first client print, and how far its fuel goes.
-use Rattle.std.specs.Prelude.{◌≡◌, ℕ, suc, Bool, true, false, List, [], ◌∷◌, ◌++◌, Some}
+use Rattle.std.specs.Prelude.{◌≡◌, ℕ, suc, Bool, true, false, List, [], ◌∷◌, ◌++◌, map, Some}
 use Rattle.som_model.specs.declared.key.ClassKey.{ClassKey}
 use Rattle.som_model.specs.Blocks.{printing}
 use Rattle.som_model.specs.Class.{Class}
@@ -20,10 +20,9 @@ pub data AllPrint (cs : List Class) : List FirstCall → List (List ℕ) → Typ
   and_then : (c : FirstCall) (calls : List FirstCall) (text : List ℕ) (texts : List (List ℕ))
       → Prints cs c text → AllPrint cs calls texts → AllPrint cs (c ∷ calls) (text ∷ texts)
 
--- each text on a line of its own
-abbrev pub lines : List (List ℕ) → List ℕ
-lines [] = []
-lines (text ∷ texts) = text ++ 10 ∷ lines texts
+-- each text as a line of its own, with its end
+abbrev pub lines : List (List ℕ) → List (List ℕ)
+lines texts = map (λ text. text ++ 10 ∷ []) texts
 
 -- the texts that the fuel lasts for: a call takes three units
 abbrev pub lasting : ℕ → List (List ℕ) → List (List ℕ)

@@ -2,10 +2,10 @@ ghost use Rattle.som_first.specs.FirstRuns.{AllPrint, Prints, lasting, lasts, li
 ghost use Rattle.som_first.specs.Linking.{AreCalls, CallIs, Conform, IsLinked, all_of};
 ghost use Rattle.som_first.specs.declared.classes.FirstCall.{FirstCall as Call};
 ghost use Rattle.som_order.specs.Names.{texts as texts_of};
-ghost use Rattle.std.specs.Prelude.{◌≡◌, ◌<◌, ℕ, List as Seq, Some, length, not, slice_get, IfOk};
+ghost use Rattle.std.specs.Prelude.{◌≡◌, ◌<◌, [], ◌∷◌, ◌++◌, ℕ, List as Seq, Some, length, not, slice_get, IfOk};
 
 use crate::link::Linked;
-use som_model::{NoMemory, Text};
+use som_model::{List, NoMemory, Text};
 use som_tables::{ClassNo, Token};
 use std::alloc::Global;
 
@@ -18,10 +18,10 @@ pub struct CallPlace {
     pub slot: u16,
 }
 
-/// What calls printed, and whether they were cut short because the fuel was spent.
+/// The lines that calls printed, each with its end, and whether they were cut short because the fuel was spent.
 #[derive(Drop)]
 pub struct Printing {
-    pub text: Text,
+    pub lines: List<Text>,
     pub spent: bool,
 }
 
@@ -50,6 +50,15 @@ fn text_of<'a>(linked: &Linked<'a>, call: CallPlace) -> &'a Text
     text_at(linked.texts.as_slice(), body)
 }
 
+// A text as a line of its own.
+fn line_of(alloc: Global, text: &Text) -> Result<Text, NoMemory>
+    ensures { IfOk result (λ line. line ≡ text.now ++ 10 ∷ []) }
+{
+    let mut line = Vec::from_slice(alloc, text.as_slice())?;
+    line.push(b'\n')?;
+    Ok(Text::from_vec(line))
+}
+
 /// What these calls print, one after the other, as long as the fuel lasts.
 pub fn print_calls(
     alloc: Global,
@@ -62,23 +71,19 @@ pub fn print_calls(
     requires calls { (named : Seq Call) × AreCalls linked.now.classes.now calls.now named }
     ensures { IfOk result (λ p. (named : Seq Call) (texts : Seq (Seq ℕ)) → AreCalls linked.now.classes.now calls.now named →
         AllPrint (all_of linked.now.classes.now) named texts →
-        (p.text ≡ lines (lasting fuel texts)) × (p.spent ≡ not (lasts fuel texts))) }
+        (p.lines ≡ lines (lasting fuel texts)) × (p.spent ≡ not (lasts fuel texts))) }
 {
-    let mut text = Vec::new(alloc);
+    let mut lines = List::new(alloc);
     let mut left = fuel;
     for call in calls {
         if left < UNITS {
-            return Ok(Printing {
-                text: Text::from_vec(text),
-                spent: true,
-            });
+            return Ok(Printing { lines, spent: true });
         }
         left -= UNITS;
-        text.extend_from_slice(text_of(linked, *call).as_slice())?;
-        text.push(b'\n')?;
+        lines.push(line_of(alloc, text_of(linked, *call))?)?;
     }
     Ok(Printing {
-        text: Text::from_vec(text),
+        lines,
         spent: false,
     })
 }

@@ -38,10 +38,11 @@ returns-then-is-clause-runs c =
     let i = c.args.client.now in let l = c.args.library.now in
     let base = are_same i.base c.in_ok-interface.interface l.release c.in_ok-interface.ensures (sym c.is.ensures ∙ c.if-is.true) in
     let classes = c.in_ok-linked.ensures.classes ∙ c.as_slice.ensures in
-    prints_meaning i l c.requires.client.0 c.requires.library.0 c.requires.client.1 c.requires.library.1 base c.args.fuel c.in_ok-print_calls.field-0
-    (λ named texts are print. c.in_ok-print_calls.ensures named texts
+    prints_meaning i l c.requires.client.0 c.requires.library.0 c.requires.client.1 c.requires.library.1 base c.args.fuel c.in_ok-printing.printing
+    (λ named texts are print. c.in_ok-printing.ensures named texts
     (subst (λ (ats : List CallPlace). AreCalls c.in_ok-linked.linked.classes.now ats named) (sym c.as_slice-then-is.ensures) (subst (λ (cs : List FirstClass). AreCalls cs i.calls named) (sym classes) are))
     (subst (λ (cs : List FirstClass). AllPrint (all_of cs) named texts) (sym classes) print))
+    c.output_of.result c.output_of.ensures.lines c.output_of.ensures.end
 
 pub returns-clause-runs : goal.returns-clause-runs
 returns-clause-runs c = (

@@ -2,7 +2,7 @@ use Rattle.std.proofs.Common.{◌≡◌, ℕ, List, Some, sym, ◌∙◌}
 use Rattle.som_model.specs.declared.program.Release.{Release}
 use Rattle.som_model.specs.Images.{library_image}
 use Rattle.som_libimage.proofs.Conforming.{conforming_names}
-use Rattle.som_library_tests.proofs.tests.written_again.Goals as goal
+use Rattle.som_cmd.proofs.tests_of_images.written_again.Goals as goal
 
 -- a release has one image
 one_image : (r : Release) (a b c : List ℕ) → library_image r ≡ Some a → library_image r ≡ Some b → b ≡ c → a ≡ c

@@ -1,0 +1,65 @@
+ghost use Rattle.som_cmd.specs.Cause.{IsQuiet};
+ghost use Rattle.som_cmd.specs.Saying.{SaysAll, SaysFailure, SaysFront};
+ghost use Rattle.som_cmd.specs.Status.{is_calm_status};
+ghost use Rattle.som_io.specs.Outside.{Rose, ShowsAll, ShowsFront};
+ghost use Rattle.std.specs.List.{concat};
+ghost use Rattle.std.specs.Prelude.{◌≡◌, ◌≢◌, ◌⊎◌, IsTrue};
+
+use crate::output::Output;
+use crate::stop::Stop;
+use som_io::{Sending, Sink, send};
+use som_model::Text;
+
+/// Writes one line, and answers the status that goes with it, or that of the sink's failure or of want of memory.
+pub fn say<K: Sink>(out: &mut K, line: &Text, status: u8) -> u8
+    requires sink { status ≢ 8 }
+    requires memory { status ≢ 10 }
+    ensures all { result ≢ 8 → result ≢ 10 → ShowsAll (K.written out.old) (K.written out.new) line.now }
+    ensures status { result ≢ 8 → result ≢ 10 → result ≡ status }
+    ensures sink_failed { result ≡ 8 → Rose (K.faults out.old) (K.faults out.new) }
+    ensures front { ShowsFront (K.written out.old) (K.written out.new) line.now }
+    ensures calm { K.calm out.old → (result ≡ status) ⊎ (result ≡ 10) }
+{
+    match send(out, line.as_slice()) {
+        Sending::Whole => status,
+        Sending::Failed => 8,
+        Sending::NoMemory => 10,
+    }
+}
+
+// The same of lines, one after the other: a line is written once those before it are.
+fn say_lines<K: Sink>(out: &mut K, lines: &[Text], status: u8) -> u8
+    requires sink { status ≢ 8 }
+    requires memory { status ≢ 10 }
+    ensures all { result ≢ 8 → result ≢ 10 → ShowsAll (K.written out.old) (K.written out.new) (concat lines.now) }
+    ensures status { result ≢ 8 → result ≢ 10 → result ≡ status }
+    ensures sink_failed { result ≡ 8 → Rose (K.faults out.old) (K.faults out.new) }
+    ensures front { ShowsFront (K.written out.old) (K.written out.new) (concat lines.now) }
+    ensures calm { K.calm out.old → (result ≡ status) ⊎ (result ≡ 10) }
+{
+    for line in lines {
+        match send(out, line.as_slice()) {
+            Sending::Whole => {}
+            Sending::Failed => return 8,
+            Sending::NoMemory => return 10,
+        }
+    }
+    status
+}
+
+/// Writes what a command came to, and answers the status.
+pub fn tell<K: Sink>(out: &mut K, outcome: &Result<Output, Stop>) -> u8
+    ensures all { result ≢ 6 → result ≢ 8 → result ≢ 10 → SaysAll outcome.now result (K.written out.old) (K.written out.new) }
+    ensures store_failed { result ≡ 6 → SaysFailure outcome.now (K.written out.old) (K.written out.new) }
+    ensures sink_failed { result ≡ 8 → Rose (K.faults out.old) (K.faults out.new) }
+    ensures front { SaysFront outcome.now (K.written out.old) (K.written out.new) }
+    ensures words { result ≢ 2 }
+    ensures calm { K.calm out.old → IsQuiet outcome.now → IsTrue (is_calm_status result) }
+{
+    match outcome {
+        Ok(output) => say_lines(out, output.lines.as_slice(), output.end.status()),
+        Err(Stop::Refused(refusal)) => say(out, &refusal.line, refusal.why.status()),
+        Err(Stop::StoreFailed(line)) => say(out, line, 6),
+        Err(Stop::NoMemory) => 10,
+    }
+}
