@@ -49,7 +49,7 @@ fn written_again(alloc: Global, bytes: &[u8]) -> Result<List<u8>, Fail>
     }
     match release_ok(alloc, &release) {
         Ok(()) => Ok(encode(alloc, &release)?),
-        Err(_) => Err(Fail::from("it breaks a rule")),
+        Err(_) => Err(Fail::from("it breaks a rule, or memory ran out")),
     }
 }
 
