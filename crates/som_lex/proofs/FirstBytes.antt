@@ -1,12 +1,12 @@
 -- The first byte of a token tells its kind.
-use Rattle.std.proofs.Common.{◌≡◌, ℕ, zero, suc, ◌<◌, ◌≤◌, Bool, true, false, if◌then◌else◌, ◌==◌, nat_le, List, [], ◌∷◌, take, refl, sym, ap, subst, ◌∙◌, arith}
+use Rattle.std.proofs.Common.{◌≡◌, ℕ, zero, suc, ◌<◌, Bool, true, false, if◌then◌else◌, ◌==◌, nat_le, List, [], ◌∷◌, take, refl, sym, ◌∙◌, arith}
 use Rattle.std.proofs.lemmas.Grind.{common_steps}
 use Rattle.std.proofs.lemmas.Bool.{leb-true, leb-false}
 use Rattle.som_lex.specs.declared.token.TokenKind.{TokenKind}
 use Rattle.som_lex.specs.declared.token.TokenKind.TheVariants as kinds
-use Rattle.som_lex.specs.Alphabet.{quote, hash, zero_digit, is_letter, is_digit, is_blank, is_single, is_double}
+use Rattle.som_lex.specs.Alphabet.{quote, hash, is_letter, is_digit, is_blank, is_single, is_double}
 use Rattle.som_lex.specs.Spelling.{Spells, a_word, a_zero, a_number, a_literal, a_sign, a_double, a_directive}
-use Rattle.som_lex.specs.Front.{Stands, IsLongest}
+use Rattle.som_lex.specs.Front.{IsLongest}
 use Rattle.som_lex.proofs.Classes.{blank_single, blank_letter}
 
 -- the kind of a token that begins with this byte

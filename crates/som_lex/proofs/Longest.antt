@@ -118,7 +118,7 @@ zero_by fresh at bs false e = (1, refl, record { longest = zero_longest fresh bs
 number_by : (fresh : Bool) (at : ℕ) (left : List ℕ) (n : ℕ) → IsLongest fresh left kinds.Number n → opens_comment left ≡ false → runs_on_from_zero left ≡ false → (v : Bool) → nat_le (number_of (take n left)) MAX_NUMBER ≡ v
     → Told fresh at left (if v then token kinds.Number (at + n) else Err (faults.NumberTooLarge at))
 number_by fresh at left n longest c z true e = (n, refl, record { longest = longest; fits = le_from (number_of (take n left)) MAX_NUMBER e; no_comment = c; no_digit = z })
-number_by fresh at left n longest c z false e = a_large_number n longest (lt_from (number_of (take n left)) MAX_NUMBER e) z
+number_by fresh at left n longest c z false e = a_large_number n longest (lt_from (number_of (take n left)) MAX_NUMBER e)
 
 at_zero : (fresh : Bool) (at : ℕ) (bs : List ℕ) → Told fresh at (zero_digit ∷ bs) (if nat_lt 0 (prefix_len is_digit bs) then Err (faults.BadByte (at + 1)) else token kinds.Number (at + 1))
 at_zero fresh at bs = zero_by fresh at bs (nat_lt 0 (prefix_len is_digit bs)) (sym (digit_follows bs))

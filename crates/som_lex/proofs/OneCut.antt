@@ -1,5 +1,5 @@
 -- A text has one list of tokens, or one first fault.
-use Rattle.std.proofs.Common.{◌≡◌, ℕ, ◌+◌, ◌≤◌, List, [], ◌∷◌, length, take, drop, Bool, Some, None, Result, Ok, Err, refl, sym, ap, subst, ◌∙◌, arith}
+use Rattle.std.proofs.Common.{◌≡◌, ℕ, ◌+◌, List, [], ◌∷◌, length, take, drop, Bool, Some, None, Result, Ok, Err, refl, sym, ap, subst, ◌∙◌, arith}
 use Rattle.std.proofs.lemmas.List.{drop_all}
 use Rattle.som_lex.specs.declared.lexeme.Lexeme.{Lexeme}
 use Rattle.som_lex.specs.declared.token.TokenKind.{TokenKind}
@@ -79,7 +79,7 @@ no_fault_left fresh at _ _ e (no_token _ _ _) = cc
 no_fault_left fresh at _ _ e (a_digit_after_zero _) = cc
 no_fault_left fresh at _ _ e (in_literal _) = cc
 no_fault_left fresh at _ _ e (open_comment _) = cc
-no_fault_left fresh at left _ e (a_large_number n l _ _) = no_front kinds.Number n (subst (λ w. Spells kinds.Number (take n w)) e l.stands.spelled)
+no_fault_left fresh at left _ e (a_large_number n l _) = no_front kinds.Number n (subst (λ w. Spells kinds.Number (take n w)) e l.stands.spelled)
 no_fault_left fresh at left _ e (a_long_name n l _) = no_front kinds.Word n (subst (λ w. Spells kinds.Word (take n w)) e l.stands.spelled)
 
 module _ (source : List ℕ) where

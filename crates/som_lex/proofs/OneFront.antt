@@ -1,6 +1,5 @@
 -- One thing stands first: what the language says is what is read.
-use Rattle.std.proofs.Common.{◌≡◌, ℕ, zero, suc, ◌+◌, ◌<◌, ◌≤◌, Bool, true, false, if◌then◌else◌, ◌&&◌, ◌==◌, not, nat_lt, List, [], ◌∷◌, ◌++◌, length, take, drop, Option, Some, None, Result, Ok, Err, refl, sym, ap, subst, ◌∙◌, append_assoc, arith}
-use Rattle.std.proofs.lemmas.Grind.{common_steps}
+use Rattle.std.proofs.Common.{◌≡◌, ℕ, zero, suc, ◌+◌, ◌<◌, ◌≤◌, Bool, true, false, if◌then◌else◌, ◌==◌, not, nat_lt, List, [], ◌∷◌, ◌++◌, length, take, drop, Option, Some, None, Result, Ok, Err, refl, sym, ap, subst, ◌∙◌, append_assoc, arith}
 use Rattle.std.proofs.lemmas.List.{take-append-drop, length-take-le}
 use Rattle.std.specs.List.{prefix_len}
 use Rattle.som_model.specs.declared.limits.TheConstants.{MAX_NAME, MAX_TEXT}
@@ -14,8 +13,8 @@ use Rattle.som_lex.specs.Alphabet.{quote, slash, star, zero_digit, line_feed, is
 use Rattle.som_lex.specs.Values.{number_of, text_of, inside_of}
 use Rattle.som_lex.specs.Lexeme.{token, gap, lexeme_at, literal_at, number_at, block_at}
 use Rattle.som_lex.specs.Spelling.{Means, Spells, FitsLimit, a_sign}
-use Rattle.som_lex.specs.Front.{Stands, IsLongest, IsToken, IsGap, IsFault, IsFront, IsTextFault, runs_on_from_zero, a_blank, a_line_comment, a_block_comment, no_token, a_digit_after_zero, in_literal, open_comment, a_large_number, a_long_name}
-use Rattle.som_lex.proofs.Inverted.{from_quote}
+use Rattle.som_lex.specs.Front.{Stands, IsLongest, IsToken, IsGap, IsFault, IsFront, IsTextFault, a_blank, a_line_comment, a_block_comment, no_token, a_digit_after_zero, in_literal, open_comment, a_large_number, a_long_name}
+use Rattle.som_lex.proofs.Inverted.{from_quote, from_zero}
 use Rattle.som_lex.proofs.Longest.{Told, differ, digit_follows, zero_longest}
 use Rattle.som_lex.proofs.Literals.{inside_means}
 use Rattle.som_lex.proofs.FirstBytes.{kind_of, kind_first, one_kind, one_length, blank_none}
@@ -126,7 +125,7 @@ fault_token fresh at _ _ (no_token _ _ none) kind n t = none kind n t.longest.st
 fault_token fresh at _ _ (a_digit_after_zero e) kind n t = differ e t.no_digit
 fault_token fresh at _ _ (in_literal {bs = bs} {f = f} h) kind n t = in_text_none fresh at bs f kind n h t
 fault_token fresh at _ _ (open_comment _) kind n t = differ refl t.no_comment
-fault_token fresh at left _ (a_large_number m l gt _) kind n t = too_large fresh left kind n m t l gt
+fault_token fresh at left _ (a_large_number m l gt) kind n t = too_large fresh left kind n m t l gt
 fault_token fresh at left _ (a_long_name m l gt) kind n t = too_long fresh left kind n m t l gt
 
 -- ---- tokens
@@ -156,7 +155,7 @@ no_token_by fresh at b bs e q none _ same _ (no_token _ _ _) = refl
 no_token_by fresh at b bs e q none _ same _ (a_digit_after_zero {bs = cs} _) = absurd (none kinds.Number 1 (subst (λ w. Stands fresh w kinds.Number 1) same (zero_longest fresh cs).stands))
 no_token_by fresh at b bs e q none _ same _ (in_literal {bs = cs} _) = let k : quote ≡ b = cc in absurd (differ (ap (λ c. c == quote) (sym k)) q)
 no_token_by fresh at b bs e q none _ same _ (open_comment {bs = cs} _) = absurd (none kinds.Sign 1 (subst (λ w. Stands fresh w kinds.Sign 1) same (slash_stands fresh (star ∷ cs))))
-no_token_by fresh at b bs e q none left same _ (a_large_number n l _ _) = absurd (none kinds.Number n (subst (λ w. Stands fresh w kinds.Number n) same l.stands))
+no_token_by fresh at b bs e q none left same _ (a_large_number n l _) = absurd (none kinds.Number n (subst (λ w. Stands fresh w kinds.Number n) same l.stands))
 no_token_by fresh at b bs e q none left same _ (a_long_name n l _) = absurd (none kinds.Word n (subst (λ w. Stands fresh w kinds.Word n) same l.stands))
 
 no_token_front : (fresh : Bool) (at b : ℕ) (bs : List ℕ) → is_blank b ≡ false → ((kind : TokenKind) (n : ℕ) → Stands fresh (b ∷ bs) kind n → ⊥) → (end : ℕ) (o : Option TokenKind) → IsFront fresh at (b ∷ bs) (record { token = o; end = end }) → ⊥
@@ -187,33 +186,40 @@ number_word fresh left n m l k =
 first_is : (kind : TokenKind) (b : ℕ) (bs : List ℕ) (n : ℕ) → Spells kind (take n (b ∷ bs)) → kind ≡ kind_of b
 first_is kind b bs n s = kind_first b bs kind n s
 
-large_by : (fresh : Bool) (at : ℕ) (left : List ℕ) (n : ℕ) → IsLongest fresh left kinds.Number n → runs_on_from_zero left ≡ false → (f : LexFault) → IsFault fresh at left f → f ≡ faults.NumberTooLarge at
-large_by fresh at _ n l z _ (no_token _ _ none) = absurd (none kinds.Number n l.stands)
-large_by fresh at _ n l z _ (a_digit_after_zero e) = absurd (differ e z)
-large_by fresh at _ n l z _ (in_literal {bs = bs} _) = let e : kinds.Number ≡ kinds.Literal = first_is kinds.Number quote bs n l.stands.spelled in cc
-large_by fresh at _ n l z _ (open_comment {bs = bs} _) = let e : kinds.Number ≡ kinds.Sign = first_is kinds.Number slash (star ∷ bs) n l.stands.spelled in cc
-large_by fresh at left n l z _ (a_large_number _ _ _ _) = refl
-large_by fresh at left n l z _ (a_long_name m k _) = absurd (number_word fresh left n m l k)
+zero_small : (n : ℕ) (bs : List ℕ) → Spells kinds.Number (take n (zero_digit ∷ bs)) → MAX_NUMBER < number_of (take n (zero_digit ∷ bs)) → ⊥
+zero_small zero bs s gt = no_bytes kinds.Number s
+zero_small (suc n) bs s gt =
+    let e : take n bs ≡ [] = from_zero (take n bs) kinds.Number s in
+    let v : number_of (zero_digit ∷ take n bs) ≡ 0 = ap (λ u. number_of (zero_digit ∷ u)) e in
+    absurd (omega arith)
+
+large_by : (fresh : Bool) (at : ℕ) (left : List ℕ) (n : ℕ) → IsLongest fresh left kinds.Number n → MAX_NUMBER < number_of (take n left) → (f : LexFault) → IsFault fresh at left f → f ≡ faults.NumberTooLarge at
+large_by fresh at _ n l gt _ (no_token _ _ none) = absurd (none kinds.Number n l.stands)
+large_by fresh at _ n l gt _ (a_digit_after_zero {bs = bs} e) = absurd (zero_small n bs l.stands.spelled gt)
+large_by fresh at _ n l gt _ (in_literal {bs = bs} _) = let e : kinds.Number ≡ kinds.Literal = first_is kinds.Number quote bs n l.stands.spelled in cc
+large_by fresh at _ n l gt _ (open_comment {bs = bs} _) = let e : kinds.Number ≡ kinds.Sign = first_is kinds.Number slash (star ∷ bs) n l.stands.spelled in cc
+large_by fresh at left n l gt _ (a_large_number _ _ _) = refl
+large_by fresh at left n l gt _ (a_long_name m k _) = absurd (number_word fresh left n m l k)
 
 long_by : (fresh : Bool) (at : ℕ) (left : List ℕ) (n : ℕ) → IsLongest fresh left kinds.Word n → (f : LexFault) → IsFault fresh at left f → f ≡ faults.NameTooLong at
 long_by fresh at _ n l _ (no_token _ _ none) = absurd (none kinds.Word n l.stands)
 long_by fresh at _ n l _ (a_digit_after_zero {bs = bs} _) = let e : kinds.Word ≡ kinds.Number = first_is kinds.Word zero_digit bs n l.stands.spelled in cc
 long_by fresh at _ n l _ (in_literal {bs = bs} _) = let e : kinds.Word ≡ kinds.Literal = first_is kinds.Word quote bs n l.stands.spelled in cc
 long_by fresh at _ n l _ (open_comment {bs = bs} _) = let e : kinds.Word ≡ kinds.Sign = first_is kinds.Word slash (star ∷ bs) n l.stands.spelled in cc
-long_by fresh at left n l _ (a_large_number m k _ _) = absurd (number_word fresh left m n k l)
+long_by fresh at left n l _ (a_large_number m k _) = absurd (number_word fresh left m n k l)
 long_by fresh at left n l _ (a_long_name _ _ _) = refl
 
-large_read : (fresh : Bool) (at : ℕ) (left : List ℕ) (n : ℕ) → IsLongest fresh left kinds.Number n → MAX_NUMBER < number_of (take n left) → runs_on_from_zero left ≡ false → (r : Result Lexeme LexFault) → Told fresh at left r → r ≡ Err (faults.NumberTooLarge at)
-large_read fresh at left n l gt z (Ok x) told = absurd (past_limit_front fresh at left kinds.Number n l number_no_sign (λ other m t. too_large fresh left other m n t l gt) x.end x.token told)
-large_read fresh at left n l gt z (Err f) told = ap Err (large_by fresh at left n l z f told)
+large_read : (fresh : Bool) (at : ℕ) (left : List ℕ) (n : ℕ) → IsLongest fresh left kinds.Number n → MAX_NUMBER < number_of (take n left) → (r : Result Lexeme LexFault) → Told fresh at left r → r ≡ Err (faults.NumberTooLarge at)
+large_read fresh at left n l gt (Ok x) told = absurd (past_limit_front fresh at left kinds.Number n l number_no_sign (λ other m t. too_large fresh left other m n t l gt) x.end x.token told)
+large_read fresh at left n l gt (Err f) told = ap Err (large_by fresh at left n l gt f told)
 
 long_read : (fresh : Bool) (at : ℕ) (left : List ℕ) (n : ℕ) → IsLongest fresh left kinds.Word n → MAX_NAME < n → (r : Result Lexeme LexFault) → Told fresh at left r → r ≡ Err (faults.NameTooLong at)
 long_read fresh at left n l gt (Ok x) told = absurd (past_limit_front fresh at left kinds.Word n l word_no_sign (λ other m t. too_long fresh left other m n t l gt) x.end x.token told)
 long_read fresh at left n l gt (Err f) told = ap Err (long_by fresh at left n l f told)
 
-large_some : (fresh : Bool) (at : ℕ) (left : List ℕ) (n : ℕ) → IsLongest fresh left kinds.Number n → MAX_NUMBER < number_of (take n left) → runs_on_from_zero left ≡ false → lexeme_at fresh at left ≡ Err (faults.NumberTooLarge at)
-large_some fresh at [] n l gt z = absurd (no_front kinds.Number n l.stands.spelled)
-large_some fresh at (b ∷ bs) n l gt z = large_read fresh at (b ∷ bs) n l gt z (lexeme_at fresh at (b ∷ bs)) (front_told fresh at b bs)
+large_some : (fresh : Bool) (at : ℕ) (left : List ℕ) (n : ℕ) → IsLongest fresh left kinds.Number n → MAX_NUMBER < number_of (take n left) → lexeme_at fresh at left ≡ Err (faults.NumberTooLarge at)
+large_some fresh at [] n l gt = absurd (no_front kinds.Number n l.stands.spelled)
+large_some fresh at (b ∷ bs) n l gt = large_read fresh at (b ∷ bs) n l gt (lexeme_at fresh at (b ∷ bs)) (front_told fresh at b bs)
 
 long_some : (fresh : Bool) (at : ℕ) (left : List ℕ) (n : ℕ) → IsLongest fresh left kinds.Word n → MAX_NAME < n → lexeme_at fresh at left ≡ Err (faults.NameTooLong at)
 long_some fresh at [] n l gt = absurd (no_front kinds.Word n l.stands.spelled)
@@ -225,5 +231,5 @@ fault_read fresh at _ _ (no_token {b = b} {bs = bs} e q none) = no_token_read fr
 fault_read fresh at _ _ (a_digit_after_zero {bs = bs} e) = zero_read fresh at bs ∙ ap (λ v. if v then Err (faults.BadByte (at + 1)) else token kinds.Number (at + 1)) (digit_follows bs ∙ e)
 fault_read fresh at _ _ (in_literal {bs = bs} {f = f} h) = literal_read fresh at bs ∙ text_fault_run at bs f h
 fault_read fresh at _ _ (open_comment {bs = bs} h) = block_read fresh at bs ∙ block_open at (at + 2) false bs refl h
-fault_read fresh at left _ (a_large_number n l gt z) = large_some fresh at left n l gt z
+fault_read fresh at left _ (a_large_number n l gt) = large_some fresh at left n l gt
 fault_read fresh at left _ (a_long_name n l gt) = long_some fresh at left n l gt

@@ -1,5 +1,5 @@
 -- What the language says stands first is read so: comments and text literals.
-use Rattle.std.proofs.Common.{◌≡◌, ℕ, zero, suc, ◌+◌, ◌<◌, ◌≤◌, one-add, add-zero, Bool, true, false, if◌then◌else◌, ◌||◌, ◌&&◌, ◌==◌, not, nat_lt, List, [], ◌∷◌, ◌++◌, length, Result, Ok, Err, refl, sym, ap, subst, ◌∙◌, arith}
+use Rattle.std.proofs.Common.{◌≡◌, ℕ, suc, ◌+◌, ◌<◌, ◌≤◌, one-add, add-zero, Bool, true, false, if◌then◌else◌, ◌||◌, ◌&&◌, ◌==◌, not, nat_lt, List, [], ◌∷◌, ◌++◌, length, Result, Err, refl, ap, ◌∙◌, arith}
 use Rattle.std.proofs.lemmas.Grind.{common_steps}
 use Rattle.std.specs.List.{prefix_len, list_all}
 use Rattle.som_model.specs.declared.limits.TheConstants.{MAX_TEXT}
@@ -99,7 +99,7 @@ plain_read : (start n at b : ℕ) (bs : List ℕ) → is_plain b ≡ true → li
 unfolding literal_at
 plain_read start n at b bs p =
     plain_tests (token kinds.Literal (at + 1)) (Err (faults.OpenText start)) (literal_at start true n (at + 1) bs) (literal_at start false (n + 1) (at + 1) bs) (Err (faults.TextTooLong start)) (Err (faults.BadByte at))
-      (b == quote) (b == line_feed) (b == backslash) (is_plain b) (nat_lt n MAX_TEXT) (plain_quote b p) (plain_feed b p) (plain_backslash b p) p
+    (b == quote) (b == line_feed) (b == backslash) (is_plain b) (nat_lt n MAX_TEXT) (plain_quote b p) (plain_feed b p) (plain_backslash b p) p
 
 escape_read : (start n at b : ℕ) (bs : List ℕ) → is_escape b ≡ true → literal_at start false n at (backslash ∷ b ∷ bs) ≡ more_at start n (at + 1) bs
 unfolding literal_at

@@ -12,10 +12,11 @@ starts_word (b ∷ bs) = is_letter b
 abbrev pub first_word : List ℕ → List ℕ
 first_word bs = if starts_word bs then take_while is_word_byte bs else []
 
--- what follows the word at the front and the blanks after it
+-- what follows the blanks at the front
 abbrev pub after_blanks : List ℕ → List ℕ
 after_blanks bs = drop (prefix_len is_inner_blank bs) bs
 
+-- what follows the word at the front and the blanks after it
 abbrev pub after_word : List ℕ → List ℕ
 after_word bs = after_blanks (drop (length (first_word bs)) bs)
 

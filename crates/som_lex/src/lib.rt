@@ -29,7 +29,7 @@ mod word;
 pub use cut::lex;
 pub use fault::LexFault;
 pub use ignored::is_ignored;
-pub use laws::one_answer_law;
+pub use laws::{literal_law, one_answer_law};
 pub use lexeme::MAX_NUMBER;
 pub use token::{LexToken, TokenKind, Tokens};
 pub use value::{literal_text, number_value};
