@@ -6,6 +6,7 @@ mod RunMeaning
 mod RunLaws
 mod ShowLaws
 mod SayLaws
+mod FaultLaws
 mod OneAnswer
 mod Telling
 mod RunAnswers

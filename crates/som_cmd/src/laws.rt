@@ -1,12 +1,14 @@
 ghost use Rattle.som_cmd.specs.Answer.{Ending, IsAnswer};
 ghost use Rattle.som_first.specs.FirstImages.{IsFirstClient, IsFirstLibrary};
 ghost use Rattle.som_cmd.specs.Words.{Asked, fuel_of};
+ghost use Rattle.som_libimage.specs.Libraries.{library_at};
 ghost use Rattle.som_model.specs.Bytes.{Files};
 ghost use Rattle.som_model.specs.declared.program.ClientProgram.{ClientProgram};
 ghost use Rattle.som_model.specs.declared.limits.TheConstants.{MAX_FUEL};
 ghost use Rattle.som_model.specs.declared.program.Release.{Release};
+ghost use Rattle.som_wire.specs.declared.fault.ImageFault.TheVariants as faults;
 ghost use Rattle.std.specs.Fmt.{decimal};
-ghost use Rattle.std.specs.Prelude.{◌≡◌, ◌↔◌, ◌≤◌, ℕ, List, Some};
+ghost use Rattle.std.specs.Prelude.{◌≡◌, ◌↔◌, ◌≤◌, ℕ, Err, List, Some};
 
 /// Whatever is asked for and whatever the files are, there is one answer, and no other.
 pub fn answer_law()
@@ -23,4 +25,9 @@ pub fn first_image_law()
 /// The fuel of a word is the number of which the word is the decimal spelling, if it is no greater than may be asked for.
 pub fn fuel_law()
     ensures { (word : List ℕ) (n : ℕ) → (fuel_of word ≡ Some n) ↔ ((word ≡ decimal n) × (n ≤ MAX_FUEL)) }
+{}
+
+/// No bytes are read as want of memory, so a line that tells a fault of bytes has one of the numbers from 1 on.
+pub fn fault_law()
+    ensures { (bytes : List ℕ) → library_at bytes ≡ Err faults.NoMemory → ⊥ }
 {}

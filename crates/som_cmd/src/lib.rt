@@ -15,7 +15,7 @@ mod stop;
 mod top;
 mod words;
 
-pub use laws::{answer_law, first_image_law, fuel_law};
+pub use laws::{answer_law, fault_law, first_image_law, fuel_law};
 pub use top::run_som;
 
 #[cfg(test)]
