@@ -1,0 +1,4 @@
+pub mod Tokens
+pub mod Languages
+pub mod Readers
+pub mod Answer
