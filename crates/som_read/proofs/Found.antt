@@ -9,8 +9,8 @@ use Rattle.som_read.specs.declared.token.Token.{Token}
 use Rattle.som_read.specs.declared.token.Token.TheVariants as token
 use Rattle.som_read.specs.Languages.{Lang, Listed, the_first, the_next, Repeated, nothing_yet, one_kept, one_left_out, Kept, it_is_kept}
 use Rattle.som_read.specs.Readers.{Outcome, Parser, and_then, ◌>>=◌, expect, keyword, number, take_word, go, turns, repeat, another, listed, with_kept, one_more, repeated, keeping}
-use Rattle.som_read.specs.Tokens.{head, is_sign}
-use Rattle.som_read.proofs.Steps.{same_sign_self, same_key_self}
+use Rattle.som_read.specs.Tokens.{head, is_sign, is_key}
+use Rattle.som_read.proofs.Steps.{same_sign_self, same_key_self, apart_key}
 use Rattle.som_read.proofs.Turns.{IsLong}
 
 pub expect_found : (s : Sign) (z : List Token) → expect s (token.Mark s ∷ z) ≡ Ok (tt, z)
@@ -104,3 +104,26 @@ module _ {A : Type 0} (ends : Option Token → Bool) (L : Lang (Option A)) (p : 
 pub keeping_found : {A : Type 0} (L : Lang A) (p : Parser A) → ((v : List Token) (a : A) (z : List Token) → L v a → p (v ++ z) ≡ Ok (a, z))
     → (v : List Token) (o : Option A) (z : List Token) → Kept L v o → keeping p (v ++ z) ≡ Ok (o, z)
 keeping_found L p found v o z (it_is_kept {a = a} h) = rw (found v a z h) refl
+
+-- ---- first tokens
+
+-- the first token is a word that passes the test
+pub record StartsWith (f : Key → Bool) (u : List Token) : Type 0 where
+  pub first : Key
+  pub place : ℕ
+  pub others : List Token
+  pub is : u ≡ token.Word first place ∷ others
+  pub passes : f first ≡ true
+
+pub starts_more : {f : Key → Bool} {u : List Token} (v : List Token) → StartsWith f u → StartsWith f (u ++ v)
+starts_more v s = record { first = s.first; place = s.place; others = s.others ++ v; is = ap (λ y. y ++ v) s.is; passes = s.passes }
+
+pub not_key : (f : Key → Bool) (k : Key) (u z : List Token) → StartsWith f u → f k ≡ false → is_key k (head (u ++ z)) ≡ false
+not_key f k u z s e = rw (s.is) (apart_key f s.first k s.passes e)
+
+pub not_sign : (f : Key → Bool) (s : Sign) (u z : List Token) → StartsWith f u → is_sign s (head (u ++ z)) ≡ false
+not_sign f s u z h = rw (h.is) refl
+
+pub listed_starts : {A : Type 0} {L : Lang A} (f : Key → Bool) → ((v : List Token) (a : A) → L v a → StartsWith f v) → {u : List Token} {all : List A} → Listed L u all → StartsWith f u
+listed_starts f starts (the_first {u = u} {a = a} h) = starts u a h
+listed_starts f starts (the_next {v = v} h i) = starts_more (token.Mark sign.Comma ∷ v) (listed_starts f starts h)

@@ -1,6 +1,6 @@
 -- The laws of the readers of single tokens, each with what follows it.
-use Rattle.std.proofs.Common.{◌≡◌, ℕ, List, [], ◌∷◌, ◌++◌, true, Option, Some, None, Err, refl, ap, rules}
-use denote.Enum.Bare.{same_true, true_same}
+use Rattle.std.proofs.Common.{◌≡◌, ◌≢◌, ℕ, Bool, List, false, [], ◌∷◌, ◌++◌, true, Option, Some, None, Err, refl, ap, subst, rules}
+use denote.Enum.Bare.{same_true, true_same, same_false, false_same}
 use Rattle.som_read.specs.contracts.token.Key.{the_type as key_type}
 use Rattle.som_read.specs.contracts.token.Sign.{the_type as sign_type}
 use Rattle.som_read.specs.declared.cursor.Stop.TheVariants.{Syntax}
@@ -28,6 +28,18 @@ same_sign_self s = true_same sign_type s s refl
 pub same_key_self : (k : Key) → same_key k k ≡ true
 unfolding same_key
 same_key_self k = true_same key_type k k refl
+
+pub same_key_differs : (j k : Key) → same_key j k ≡ false → j ≢ k
+unfolding same_key
+same_key_differs j k h = same_false key_type j k h
+
+pub differs_key : (j k : Key) → j ≢ k → same_key j k ≡ false
+unfolding same_key
+differs_key j k h = false_same key_type (search rules) j k h
+
+-- keys that a test tells apart
+pub apart_key : (f : Key → Bool) (j k : Key) → f j ≡ true → f k ≡ false → same_key j k ≡ false
+apart_key f j k here there = differs_key j k (λ e. let both : f k ≡ true = subst (λ y. f y ≡ true) e here in cc)
 
 pub is_sign_true : (s : Sign) (t : Token) → is_sign s (Some t) ≡ true → t ≡ token.Mark s
 is_sign_true s (token.Mark t) h = ap (λ x. token.Mark x) (same_sign_is t s h)
