@@ -4,3 +4,4 @@ pub mod Turns
 pub mod Repetition
 pub mod Found
 pub mod Loops
+pub mod Places
