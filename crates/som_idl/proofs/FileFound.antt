@@ -29,13 +29,15 @@ module _ (text_at : ℕ → List ℕ) where
   unfolding r.section
   section_found g.section_none z = refl
   section_found (g.section_some {p = p} {u = u} {v = v} h i) z =
-      rw (same_key_self key.Implementation,
+      rw (
+        same_key_self key.Implementation,
         expect_found sign.OpenBrace ((u ++ token.Mark sign.CloseBrace ∷ token.Mark sign.Semicolon ∷ v) ++ token.Mark sign.CloseBrace ∷ z),
         append_assoc u (token.Mark sign.CloseBrace ∷ token.Mark sign.Semicolon ∷ v) (token.Mark sign.CloseBrace ∷ z),
         items_found text_at h (token.Mark sign.Semicolon ∷ (v ++ token.Mark sign.CloseBrace ∷ z)),
         expect_found sign.CloseBrace (token.Mark sign.Semicolon ∷ (v ++ token.Mark sign.CloseBrace ∷ z)),
         expect_found sign.Semicolon (v ++ token.Mark sign.CloseBrace ∷ z),
-        exports_found text_at i (token.Mark sign.CloseBrace ∷ z) (brace_ends z)) refl
+        exports_found text_at i (token.Mark sign.CloseBrace ∷ z) (brace_ends z),
+      ) refl
 
   section_ends : {u : List Token} {s : List Item × List Export} → g.IsSection text_at u s → (z : List Token) → r.ends_exports (head (u ++ token.Mark sign.CloseBrace ∷ z)) ≡ true
   section_ends g.section_none z = brace_ends z
@@ -54,15 +56,17 @@ module _ (text_at : ℕ → List ℕ) where
   interface_found : {v w x : List Token} (n : Word) {ps : List Word} {es : List Export} {s : List Item × List Export}
       → g.IsParents text_at v ps → Repeated (Kept (g.IsExport text_at)) w es → g.IsSection text_at x s → (z : List Token)
       → r.interface_of text_at n (v ++ token.Mark sign.OpenBrace ∷ (w ++ (x ++ token.Mark sign.CloseBrace ∷ token.Mark sign.Semicolon ∷ z)))
-        ≡ Ok (Some (record { name = n; parents = ps; before = es; items = s.0; after = s.1 }), z)
+      ≡ Ok (Some (record { name = n; parents = ps; before = es; items = s.0; after = s.1 }), z)
   unfolding r.interface_of
   interface_found {v = v} {w = w} {x = x} n h i j z =
-      rw (parents_found h (w ++ (x ++ token.Mark sign.CloseBrace ∷ token.Mark sign.Semicolon ∷ z)),
+      rw (
+        parents_found h (w ++ (x ++ token.Mark sign.CloseBrace ∷ token.Mark sign.Semicolon ∷ z)),
         expect_found sign.OpenBrace (w ++ (x ++ token.Mark sign.CloseBrace ∷ token.Mark sign.Semicolon ∷ z)),
         exports_found text_at i (x ++ token.Mark sign.CloseBrace ∷ token.Mark sign.Semicolon ∷ z) (section_ends j (token.Mark sign.Semicolon ∷ z)),
         section_found j (token.Mark sign.Semicolon ∷ z),
         expect_found sign.CloseBrace (token.Mark sign.Semicolon ∷ z),
-        expect_found sign.Semicolon z) refl
+        expect_found sign.Semicolon z,
+      ) refl
 
   regroup : (u v w x : List Token) (s t c : Token) (z : List Token)
       → (u ++ (v ++ s ∷ (w ++ (x ++ t ∷ c ∷ [])))) ++ z ≡ u ++ (v ++ s ∷ (w ++ (x ++ t ∷ c ∷ z)))
@@ -72,13 +76,19 @@ module _ (text_at : ℕ → List ℕ) where
   unfolding r.entry
   entry_found (g.entry_interface {p = p} {u = u} {v = v} {w = w} {x = x} {n = n} h i j k) z =
       let rest : List Token = v ++ token.Mark sign.OpenBrace ∷ (w ++ (x ++ token.Mark sign.CloseBrace ∷ token.Mark sign.Semicolon ∷ z)) in
-      rw (keyword_found key.Interface p ((u ++ (v ++ token.Mark sign.OpenBrace ∷ (w ++ (x ++ token.Mark sign.CloseBrace ∷ token.Mark sign.Semicolon ∷ [])))) ++ z),
+      rw (
+        keyword_found key.Interface p ((u ++ (v ++ token.Mark sign.OpenBrace ∷ (w ++ (x ++ token.Mark sign.CloseBrace ∷ token.Mark sign.Semicolon ∷ [])))) ++ z),
         regroup u v w x (token.Mark sign.OpenBrace) (token.Mark sign.CloseBrace) (token.Mark sign.Semicolon) z,
         name_found text_at h (v ++ token.Mark sign.OpenBrace ∷ (w ++ (x ++ token.Mark sign.CloseBrace ∷ token.Mark sign.Semicolon ∷ z))),
-        no_forward i (w ++ (x ++ token.Mark sign.CloseBrace ∷ token.Mark sign.Semicolon ∷ z))) (interface_found n i j k z)
+        no_forward i (w ++ (x ++ token.Mark sign.CloseBrace ∷ token.Mark sign.Semicolon ∷ z)),
+      ) (interface_found n i j k z)
   entry_found (g.entry_forward {p = p} {u = u} h) z =
-      rw (keyword_found key.Interface p ((u ++ token.Mark sign.Semicolon ∷ []) ++ z), append_assoc u (token.Mark sign.Semicolon ∷ []) z,
-        name_found text_at h (token.Mark sign.Semicolon ∷ z), same_sign_self sign.Semicolon) refl
+      rw (
+        keyword_found key.Interface p ((u ++ token.Mark sign.Semicolon ∷ []) ++ z),
+        append_assoc u (token.Mark sign.Semicolon ∷ []) z,
+        name_found text_at h (token.Mark sign.Semicolon ∷ z),
+        same_sign_self sign.Semicolon,
+      ) refl
 
   entry_starts : {u : List Token} {o : Option IdlInterface} → g.IsEntry text_at u o → (z : List Token) → r.ends_file (head (u ++ z)) ≡ false
   entry_starts (g.entry_interface h i j k) z = refl

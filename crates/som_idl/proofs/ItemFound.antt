@@ -14,6 +14,8 @@ use Rattle.som_read.specs.declared.tree.Word.{Word}
 use Rattle.som_idl.specs.declared.tree.Item.{Item}
 use Rattle.som_idl.specs.declared.tree.Item.TheVariants as items
 use Rattle.som_idl.specs.declared.tree.Modifier.{Modifier}
+use Rattle.som_idl.specs.declared.item.Setting.{Setting}
+use Rattle.som_idl.specs.declared.item.Setting.TheVariants as settings
 use Rattle.som_idl.specs.Grammar as g
 use Rattle.som_idl.specs.Reading as r
 use Rattle.som_read.proofs.Steps.{same_key_self, same_sign_self, apart_key, differs_key}
@@ -60,20 +62,20 @@ module _ (text_at : ℕ → List ℕ) where
   ignored_found (g.ignored_name (g.a_name k p e)) z = rw (name_found text_at (g.a_name k p e) z) refl
   ignored_found g.ignored_text z = refl
 
-  left_out_found : {u : List Token} → g.IsIgnored text_at u → (z : List Token) → r.assigned text_at r.SetIgnored ((u ++ token.Mark sign.Semicolon ∷ []) ++ z) ≡ Ok (None, z)
+  left_out_found : {u : List Token} → g.IsIgnored text_at u → (z : List Token) → r.assigned text_at settings.Ignored ((u ++ token.Mark sign.Semicolon ∷ []) ++ z) ≡ Ok (None, z)
   left_out_found {u = u} h z = rw (append_assoc u (token.Mark sign.Semicolon ∷ []) z, ignored_found h (token.Mark sign.Semicolon ∷ z), expect_found sign.Semicolon z) refl
 
-  metaclass_found : {u : List Token} {n : Word} → g.IsName text_at u n → (z : List Token) → r.assigned text_at r.SetMetaclass ((u ++ token.Mark sign.Semicolon ∷ []) ++ z) ≡ Ok (Some (items.Metaclass n), z)
+  metaclass_found : {u : List Token} {n : Word} → g.IsName text_at u n → (z : List Token) → r.assigned text_at settings.Metaclass ((u ++ token.Mark sign.Semicolon ∷ []) ++ z) ≡ Ok (Some (items.Metaclass n), z)
   metaclass_found {u = u} h z = rw (append_assoc u (token.Mark sign.Semicolon ∷ []) z, name_found text_at h (token.Mark sign.Semicolon ∷ z), expect_found sign.Semicolon z) refl
 
-  major_found : (n : ℕ) (z : List Token) → r.assigned text_at r.SetMajor (token.Number n ∷ token.Mark sign.Semicolon ∷ z) ≡ Ok (Some (items.Major n), z)
+  major_found : (n : ℕ) (z : List Token) → r.assigned text_at settings.Major (token.Number n ∷ token.Mark sign.Semicolon ∷ z) ≡ Ok (Some (items.Major n), z)
   major_found n z = rw (number_found n (token.Mark sign.Semicolon ∷ z), expect_found sign.Semicolon z) refl
 
-  minor_found : (n : ℕ) (z : List Token) → r.assigned text_at r.SetMinor (token.Number n ∷ token.Mark sign.Semicolon ∷ z) ≡ Ok (Some (items.Minor n), z)
+  minor_found : (n : ℕ) (z : List Token) → r.assigned text_at settings.Minor (token.Number n ∷ token.Mark sign.Semicolon ∷ z) ≡ Ok (Some (items.Minor n), z)
   minor_found n z = rw (number_found n (token.Mark sign.Semicolon ∷ z), expect_found sign.Semicolon z) refl
 
   -- ---- an item that begins with a name
-  set_passed : (o : Option r.Setting) (p : ℕ) (ts : List Token) → is_sign sign.Assign (head ts) ≡ false → r.set text_at o p ts ≡ r.variables text_at (types.Class (word text_at p)) ts
+  set_passed : (o : Option Setting) (p : ℕ) (ts : List Token) → is_sign sign.Assign (head ts) ≡ false → r.set text_at o p ts ≡ r.variables text_at (types.Class (word text_at p)) ts
   set_passed (Some s) p ts e = rw e refl
   set_passed None p ts e = refl
 
@@ -86,7 +88,7 @@ module _ (text_at : ℕ → List ℕ) where
   unfolding r.named_item
   colon_found k p z = rw (same_sign_self sign.Colon) refl
 
-  assign_found : (k : Key) (p : ℕ) (s : r.Setting) (z : List Token) → r.setting_of k ≡ Some s → r.named_item text_at k p (token.Mark sign.Assign ∷ z) ≡ r.assigned text_at s z
+  assign_found : (k : Key) (p : ℕ) (s : Setting) (z : List Token) → r.setting_of k ≡ Some s → r.named_item text_at k p (token.Mark sign.Assign ∷ z) ≡ r.assigned text_at s z
   unfolding r.named_item same_sign
   assign_found k p s z e = rw e refl
 
@@ -96,12 +98,12 @@ module _ (text_at : ℕ → List ℕ) where
   names_follow k p {v = v} h z =
       let s = starts_more (token.Mark sign.Semicolon ∷ []) (names_start text_at h) in
       rw (not_sign g.is_name sign.Colon (v ++ token.Mark sign.Semicolon ∷ []) z s)
-        (set_passed (r.setting_of k) p ((v ++ token.Mark sign.Semicolon ∷ []) ++ z) (not_sign g.is_name sign.Assign (v ++ token.Mark sign.Semicolon ∷ []) z s) ∙ variables_found (types.Class (word text_at p)) h z)
+      (set_passed (r.setting_of k) p ((v ++ token.Mark sign.Semicolon ∷ []) ++ z) (not_sign g.is_name sign.Assign (v ++ token.Mark sign.Semicolon ∷ []) z s) ∙ variables_found (types.Class (word text_at p)) h z)
 
-  file_word_found : {k : Key} → g.IsFileWord text_at k → (p : ℕ) (z : List Token) → r.item text_at (token.Word k p ∷ token.Mark sign.Assign ∷ z) ≡ r.assigned text_at r.SetIgnored z
-  file_word_found g.word_filestem p z = unnamed key.FileStem p (token.Mark sign.Assign ∷ z) refl ∙ assign_found key.FileStem p r.SetIgnored z refl
-  file_word_found g.word_dllname p z = unnamed key.DllName p (token.Mark sign.Assign ∷ z) refl ∙ assign_found key.DllName p r.SetIgnored z refl
-  file_word_found g.word_functionprefix p z = unnamed key.FunctionPrefix p (token.Mark sign.Assign ∷ z) refl ∙ assign_found key.FunctionPrefix p r.SetIgnored z refl
+  file_word_found : {k : Key} → g.IsFileWord text_at k → (p : ℕ) (z : List Token) → r.item text_at (token.Word k p ∷ token.Mark sign.Assign ∷ z) ≡ r.assigned text_at settings.Ignored z
+  file_word_found g.word_filestem p z = unnamed key.FileStem p (token.Mark sign.Assign ∷ z) refl ∙ assign_found key.FileStem p settings.Ignored z refl
+  file_word_found g.word_dllname p z = unnamed key.DllName p (token.Mark sign.Assign ∷ z) refl ∙ assign_found key.DllName p settings.Ignored z refl
+  file_word_found g.word_functionprefix p z = unnamed key.FunctionPrefix p (token.Mark sign.Assign ∷ z) refl ∙ assign_found key.FunctionPrefix p settings.Ignored z refl
 
   typed_found : {u v : List Token} {t : TypeName} {ns : List Word} → g.IsType text_at u t → Listed (g.IsName text_at) v ns → (z : List Token)
       → r.item text_at (u ++ ((v ++ token.Mark sign.Semicolon ∷ []) ++ z)) ≡ Ok (Some (items.Variables t ns), z)
@@ -114,9 +116,9 @@ module _ (text_at : ℕ → List ℕ) where
   pub item_found : {u : List Token} {o : Option Item} → g.IsItem text_at u o → (z : List Token) → r.item text_at (u ++ z) ≡ Ok (o, z)
   item_found (g.item_order {p = p} {u = u} h) z =
       unnamed key.ReleaseOrder p _ refl ∙ colon_found key.ReleaseOrder p _ ∙ rw (same_key_self key.ReleaseOrder) (release_order_found h z)
-  item_found (g.item_metaclass {p = p} h) z = unnamed key.Metaclass p _ refl ∙ assign_found key.Metaclass p r.SetMetaclass _ refl ∙ metaclass_found h z
-  item_found (g.item_major {p = p} {n = n}) z = unnamed key.MajorVersion p _ refl ∙ assign_found key.MajorVersion p r.SetMajor _ refl ∙ major_found n z
-  item_found (g.item_minor {p = p} {n = n}) z = unnamed key.MinorVersion p _ refl ∙ assign_found key.MinorVersion p r.SetMinor _ refl ∙ minor_found n z
+  item_found (g.item_metaclass {p = p} h) z = unnamed key.Metaclass p _ refl ∙ assign_found key.Metaclass p settings.Metaclass _ refl ∙ metaclass_found h z
+  item_found (g.item_major {p = p} {n = n}) z = unnamed key.MajorVersion p _ refl ∙ assign_found key.MajorVersion p settings.Major _ refl ∙ major_found n z
+  item_found (g.item_minor {p = p} {n = n}) z = unnamed key.MinorVersion p _ refl ∙ assign_found key.MinorVersion p settings.Minor _ refl ∙ minor_found n z
   item_found (g.item_ignored {p = p} w h) z = file_word_found w p _ ∙ left_out_found h z
   item_found (g.item_method k p e d h) z = unnamed k p _ e ∙ colon_found k p _ ∙ rw (differs_key k key.ReleaseOrder d) (method_found p h z)
   item_found (g.item_variables {u = u} {v = v} h i) z = rw (append_assoc u (v ++ token.Mark sign.Semicolon ∷ []) z) (typed_found h i z)

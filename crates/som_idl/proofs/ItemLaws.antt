@@ -13,6 +13,8 @@ use Rattle.som_read.specs.declared.tree.TypeName.TheVariants as types
 use Rattle.som_idl.specs.declared.tree.Item.{Item}
 use Rattle.som_idl.specs.declared.tree.Item.TheVariants as items
 use Rattle.som_idl.specs.declared.tree.Modifier.TheVariants as modifiers
+use Rattle.som_idl.specs.declared.item.Setting.{Setting}
+use Rattle.som_idl.specs.declared.item.Setting.TheVariants as settings
 use Rattle.som_idl.specs.Grammar as g
 use Rattle.som_idl.specs.Reading as r
 use Rattle.som_read.proofs.Laws.{Lawful, wider, bind_law, pure_law, stop_law, when_law, after_law}
@@ -69,13 +71,13 @@ module _ (text_at : ℕ → List ℕ) where
       → Lawful (λ v. g.IsItem text_at (token.Word k p ∷ token.Mark sign.Assign ∷ (u ++ v))) (λ ts. r.semicolon_none ts)
   past_ignored k p w (it_is_ignored h) = expect_then _ _ sign.Semicolon (pure_law _ _ (g.item_ignored w h))
 
-  file_word_law : (k : Key) (p : ℕ) → g.IsFileWord text_at k → Lawful (λ u. g.IsItem text_at (token.Word k p ∷ token.Mark sign.Assign ∷ u)) (r.assigned text_at r.SetIgnored)
+  file_word_law : (k : Key) (p : ℕ) → g.IsFileWord text_at k → Lawful (λ u. g.IsItem text_at (token.Word k p ∷ token.Mark sign.Assign ∷ u)) (r.assigned text_at settings.Ignored)
   file_word_law k p w = bind_law Ignored _ _ _ ignored_law (λ u a h. past_ignored k p w h)
 
   unset_law : (k : Key) (p : ℕ) → g.is_name k ≡ true → Lawful (λ u. g.IsItem text_at (token.Word k p ∷ u)) (r.variables text_at (types.Class (word text_at p)))
   unset_law k p n = variables_law (types.Class (word text_at p)) (token.Word k p ∷ []) (g.type_class (g.a_name k p n))
 
-  metaclass_law : (p : ℕ) → Lawful (λ u. g.IsItem text_at (token.Word key.Metaclass p ∷ token.Mark sign.Assign ∷ u)) (r.assigned text_at r.SetMetaclass)
+  metaclass_law : (p : ℕ) → Lawful (λ u. g.IsItem text_at (token.Word key.Metaclass p ∷ token.Mark sign.Assign ∷ u)) (r.assigned text_at settings.Metaclass)
   metaclass_law p = bind_law (g.IsName text_at) _ _ _ (name_law text_at) (λ u n h. expect_then _ _ sign.Semicolon (pure_law _ _ (g.item_metaclass h)))
 
   major_of : (p : ℕ) {u : List Token} {n : ℕ} → IsNumber u n → g.IsItem text_at (token.Word key.MajorVersion p ∷ token.Mark sign.Assign ∷ (u ++ token.Mark sign.Semicolon ∷ [])) (Some (items.Major n))
@@ -84,10 +86,10 @@ module _ (text_at : ℕ → List ℕ) where
   minor_of : (p : ℕ) {u : List Token} {n : ℕ} → IsNumber u n → g.IsItem text_at (token.Word key.MinorVersion p ∷ token.Mark sign.Assign ∷ (u ++ token.Mark sign.Semicolon ∷ [])) (Some (items.Minor n))
   minor_of p the_number = g.item_minor
 
-  major_law : (p : ℕ) → Lawful (λ u. g.IsItem text_at (token.Word key.MajorVersion p ∷ token.Mark sign.Assign ∷ u)) (r.assigned text_at r.SetMajor)
+  major_law : (p : ℕ) → Lawful (λ u. g.IsItem text_at (token.Word key.MajorVersion p ∷ token.Mark sign.Assign ∷ u)) (r.assigned text_at settings.Major)
   major_law p = bind_law IsNumber _ _ _ number_law (λ u n h. expect_then _ _ sign.Semicolon (pure_law _ _ (major_of p h)))
 
-  minor_law : (p : ℕ) → Lawful (λ u. g.IsItem text_at (token.Word key.MinorVersion p ∷ token.Mark sign.Assign ∷ u)) (r.assigned text_at r.SetMinor)
+  minor_law : (p : ℕ) → Lawful (λ u. g.IsItem text_at (token.Word key.MinorVersion p ∷ token.Mark sign.Assign ∷ u)) (r.assigned text_at settings.Minor)
   minor_law p = bind_law IsNumber _ _ _ number_law (λ u n h. expect_then _ _ sign.Semicolon (pure_law _ _ (minor_of p h)))
 
   set_law : (k : Key) (p : ℕ) → g.is_name k ≡ true → Lawful (λ u. g.IsItem text_at (token.Word k p ∷ u)) (r.set text_at (r.setting_of k) p)

@@ -4,3 +4,4 @@ pub mod FileLaws
 pub mod NameFound
 pub mod ItemFound
 pub mod FileFound
+pub mod Theorem

@@ -121,8 +121,13 @@ module _ (text_at : ℕ → List ℕ) where
   unfolding r.params
   params_found g.params_none z = rw (expect_found sign.Open (token.Mark sign.Close ∷ z), same_sign_self sign.Close) refl
   params_found (g.params_some {u = u} h) z =
-      rw (expect_found sign.Open ((u ++ token.Mark sign.Close ∷ []) ++ z), append_assoc u (token.Mark sign.Close ∷ []) z,
-        not_sign is_in sign.Close u (token.Mark sign.Close ∷ z) (listed_starts is_in (λ v a i. param_starts i) h), listed_params h z, expect_found sign.Close z) refl
+      rw (
+        expect_found sign.Open ((u ++ token.Mark sign.Close ∷ []) ++ z),
+        append_assoc u (token.Mark sign.Close ∷ []) z,
+        not_sign is_in sign.Close u (token.Mark sign.Close ∷ z) (listed_starts is_in (λ v a i. param_starts i) h),
+        listed_params h z,
+        expect_found sign.Close z,
+      ) refl
 
   -- ---- exports
   pub listed_names : {u : List Token} {ns : List Word} → Listed (g.IsName text_at) u ns → (z : List Token) → listed (r.name text_at) (u ++ token.Mark sign.Semicolon ∷ z) ≡ Ok (ns, token.Mark sign.Semicolon ∷ z)
@@ -132,23 +137,38 @@ module _ (text_at : ℕ → List ℕ) where
   attribute_found : {readonly : Bool} {u : List Token} {e : Export} → g.IsAttribute text_at readonly u e → (z : List Token) → r.attribute text_at readonly (u ++ z) ≡ Ok (e, z)
   unfolding r.attribute
   attribute_found (g.an_attribute {p = p} {u = u} {v = v} h i) z =
-      rw (keyword_found key.Attribute p ((u ++ (v ++ token.Mark sign.Semicolon ∷ [])) ++ z), append_assoc u (v ++ token.Mark sign.Semicolon ∷ []) z, append_assoc v (token.Mark sign.Semicolon ∷ []) z,
-        kind_found h (v ++ token.Mark sign.Semicolon ∷ z), listed_names i z, expect_found sign.Semicolon z) refl
+      rw (
+        keyword_found key.Attribute p ((u ++ (v ++ token.Mark sign.Semicolon ∷ [])) ++ z),
+        append_assoc u (v ++ token.Mark sign.Semicolon ∷ []) z,
+        append_assoc v (token.Mark sign.Semicolon ∷ []) z,
+        kind_found h (v ++ token.Mark sign.Semicolon ∷ z),
+        listed_names i z,
+        expect_found sign.Semicolon z,
+      ) refl
 
   operation_found : {u v w : List Token} {t : Option TypeName} {n : Word} {ps : List Param} → g.IsResult text_at u t → g.IsName text_at v n → g.IsParams text_at w ps → (z : List Token)
       → r.operation text_at ((u ++ (v ++ (w ++ token.Mark sign.Semicolon ∷ []))) ++ z) ≡ Ok (exports.Operation t n ps, z)
   unfolding r.operation
   operation_found {u = u} {v = v} {w = w} h i j z =
-      rw (append_assoc u (v ++ (w ++ token.Mark sign.Semicolon ∷ [])) z, append_assoc v (w ++ token.Mark sign.Semicolon ∷ []) z, append_assoc w (token.Mark sign.Semicolon ∷ []) z,
-        outcome_found h (v ++ (w ++ token.Mark sign.Semicolon ∷ z)), name_found i (w ++ token.Mark sign.Semicolon ∷ z), params_found j (token.Mark sign.Semicolon ∷ z), expect_found sign.Semicolon z) refl
+      rw (
+        append_assoc u (v ++ (w ++ token.Mark sign.Semicolon ∷ [])) z,
+        append_assoc v (w ++ token.Mark sign.Semicolon ∷ []) z,
+        append_assoc w (token.Mark sign.Semicolon ∷ []) z,
+        outcome_found h (v ++ (w ++ token.Mark sign.Semicolon ∷ z)),
+        name_found i (w ++ token.Mark sign.Semicolon ∷ z),
+        params_found j (token.Mark sign.Semicolon ∷ z),
+        expect_found sign.Semicolon z,
+      ) refl
 
   pub export_found : {u : List Token} {e : Export} → g.IsExport text_at u e → (z : List Token) → r.export text_at (u ++ z) ≡ Ok (e, z)
   unfolding r.export same_key
   export_found (g.export_writable (g.an_attribute h i)) z = attribute_found (g.an_attribute h i) z
   export_found (g.export_readonly h) z = attribute_found h z
   export_found (g.export_operation {u = u} {v = v} {w = w} h i j) z =
-      rw (not_key begins_result key.Readonly (u ++ (v ++ (w ++ token.Mark sign.Semicolon ∷ []))) z (starts_more (v ++ (w ++ token.Mark sign.Semicolon ∷ [])) (result_starts h)) refl,
-        not_key begins_result key.Attribute (u ++ (v ++ (w ++ token.Mark sign.Semicolon ∷ []))) z (starts_more (v ++ (w ++ token.Mark sign.Semicolon ∷ [])) (result_starts h)) refl) (operation_found h i j z)
+      rw (
+        not_key begins_result key.Readonly (u ++ (v ++ (w ++ token.Mark sign.Semicolon ∷ []))) z (starts_more (v ++ (w ++ token.Mark sign.Semicolon ∷ [])) (result_starts h)) refl,
+        not_key begins_result key.Attribute (u ++ (v ++ (w ++ token.Mark sign.Semicolon ∷ []))) z (starts_more (v ++ (w ++ token.Mark sign.Semicolon ∷ [])) (result_starts h)) refl,
+      ) (operation_found h i j z)
 
   goes_on : {v : List Token} {o : Option Export} → Kept (g.IsExport text_at) v o → (z : List Token) → r.ends_exports (head (v ++ z)) ≡ false
   goes_on {v = v} (it_is_kept h) z = rw (not_sign begins_export sign.CloseBrace v z (export_starts h), not_key begins_export key.Implementation v z (export_starts h) refl) refl

@@ -133,7 +133,7 @@ module _ (text_at : ℕ → List ℕ) where
     entry_interface : {p : ℕ} {u v w x : List Token} {n : Word} {ps : List Word} {es : List Export} {s : List Item × List Export}
         → IsName u n → IsParents v ps → Repeated (Kept IsExport) w es → IsSection x s
         → IsEntry (token.Word key.Interface p ∷ (u ++ (v ++ token.Mark sign.OpenBrace ∷ (w ++ (x ++ token.Mark sign.CloseBrace ∷ token.Mark sign.Semicolon ∷ [])))))
-            (Some (record { name = n; parents = ps; before = es; items = s.0; after = s.1 }))
+        (Some (record { name = n; parents = ps; before = es; items = s.0; after = s.1 }))
     entry_forward : {p : ℕ} {u : List Token} {n : Word} → IsName u n → IsEntry (token.Word key.Interface p ∷ (u ++ token.Mark sign.Semicolon ∷ [])) None
 
   -- { interface | forward }

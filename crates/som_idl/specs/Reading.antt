@@ -12,6 +12,8 @@ use Rattle.som_read.specs.declared.tree.TypeName.{TypeName}
 use Rattle.som_read.specs.declared.tree.TypeName.TheVariants as types
 use Rattle.som_read.specs.declared.tree.Word.{Word}
 use Rattle.som_idl.specs.Grammar.{is_name}
+use Rattle.som_idl.specs.declared.item.Setting.{Setting}
+use Rattle.som_idl.specs.declared.item.Setting.TheVariants as settings
 use Rattle.som_idl.specs.declared.tree.Export.{Export}
 use Rattle.som_idl.specs.declared.tree.Export.TheVariants as exports
 use Rattle.som_idl.specs.declared.tree.IdlFile.{IdlFile}
@@ -25,20 +27,14 @@ use Rattle.som_idl.specs.declared.tree.Param.{Param}
 unfoldable pub modifier : Parser Modifier
 modifier = after (is_key key.Override) (pure modifiers.Override) (after (is_key key.NameLookup) (pure modifiers.NameLookup) (after (is_key key.Offset) (pure modifiers.Offset) (stop Syntax)))
 
--- what the words are that have a meaning of their own before "="
-pub data Setting : Type 0 where
-  SetMetaclass : Setting
-  SetMajor : Setting
-  SetMinor : Setting
-  SetIgnored : Setting
-
+-- what a word sets that stands directly before "="
 abbrev pub setting_of : Key → Option Setting
-setting_of key.Metaclass = Some SetMetaclass
-setting_of key.MajorVersion = Some SetMajor
-setting_of key.MinorVersion = Some SetMinor
-setting_of key.FileStem = Some SetIgnored
-setting_of key.DllName = Some SetIgnored
-setting_of key.FunctionPrefix = Some SetIgnored
+setting_of key.Metaclass = Some settings.Metaclass
+setting_of key.MajorVersion = Some settings.Major
+setting_of key.MinorVersion = Some settings.Minor
+setting_of key.FileStem = Some settings.Ignored
+setting_of key.DllName = Some settings.Ignored
+setting_of key.FunctionPrefix = Some settings.Ignored
 setting_of _ = None
 
 abbrev pub is_literal : Option Token → Bool
@@ -108,10 +104,10 @@ module _ (text_at : ℕ → List ℕ) where
   ignored = after is_literal (pure tt) (name >>= λ n. pure tt)
 
   abbrev pub assigned : Setting → Parser (Option Item)
-  assigned SetMetaclass = name >>= λ n. expect sign.Semicolon >> pure (Some (items.Metaclass n))
-  assigned SetMajor = number >>= λ n. expect sign.Semicolon >> pure (Some (items.Major n))
-  assigned SetMinor = number >>= λ n. expect sign.Semicolon >> pure (Some (items.Minor n))
-  assigned SetIgnored = ignored >> semicolon_none
+  assigned settings.Metaclass = name >>= λ n. expect sign.Semicolon >> pure (Some (items.Metaclass n))
+  assigned settings.Major = number >>= λ n. expect sign.Semicolon >> pure (Some (items.Major n))
+  assigned settings.Minor = number >>= λ n. expect sign.Semicolon >> pure (Some (items.Minor n))
+  assigned settings.Ignored = ignored >> semicolon_none
 
   -- after a word that may be set, or not
   abbrev pub set : Option Setting → ℕ → Parser (Option Item)

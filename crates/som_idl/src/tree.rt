@@ -42,12 +42,26 @@ pub struct Param {
 /// An item of an implementation section.
 #[derive(Drop)]
 pub enum Item {
-    ReleaseOrder { names: List<Word> },
-    Metaclass { name: Word },
-    Major { number: u32 },
-    Minor { number: u32 },
-    Method { name: Word, modifiers: List<Modifier> },
-    Variables { kind: TypeName, names: List<Word> },
+    ReleaseOrder {
+        names: List<Word>,
+    },
+    Metaclass {
+        name: Word,
+    },
+    Major {
+        number: u32,
+    },
+    Minor {
+        number: u32,
+    },
+    Method {
+        name: Word,
+        modifiers: List<Modifier>,
+    },
+    Variables {
+        kind: TypeName,
+        names: List<Word>,
+    },
 }
 
 /// What an item says of a method of this class.

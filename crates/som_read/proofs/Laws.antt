@@ -7,11 +7,12 @@ use Rattle.som_read.specs.Languages.{Lang}
 use Rattle.som_read.specs.Readers.{Outcome, Parser, and_then, ◌>>=◌, pure, stop, when, after}
 use Rattle.som_read.specs.Tokens.{head}
 
--- a reader that stops at a level too many stands at a token that still begins a member
+-- A reader that stops at a level too many stands at a token that still begins a member. None stops for want of memory.
 abbrev pub Shares : Stop → List Token → List Token → Type 0
 Shares Nesting [] r = ⊥
 Shares Nesting (t ∷ w) r = head r ≡ Some t
-Shares _ w r = Unit {0}
+Shares Syntax w r = Unit {0}
+Shares Memory w r = ⊥
 
 pub record Took {A : Type 0} (L : Lang A) (p : Parser A) (ts : List Token) (a : A) (r : List Token) : Type 0 where
   pub taken : List Token
@@ -50,7 +51,7 @@ pub shares_append : (f : Stop) (w v r : List Token) → Shares f w r → Shares 
 shares_append Nesting [] v r h = absurd h
 shares_append Nesting (t ∷ w) v r h = h
 shares_append Syntax w v r h = tt
-shares_append Memory w v r h = tt
+shares_append Memory w v r h = absurd h
 
 -- a wider language
 module _ {A : Type 0} (L M : Lang A) (p : Parser A) (wide : (ts : List Token) (a : A) → L ts a → M ts a) where

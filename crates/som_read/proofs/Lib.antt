@@ -5,3 +5,5 @@ pub mod Repetition
 pub mod Found
 pub mod Loops
 pub mod Places
+pub mod Whole
+pub mod FirstFault

@@ -23,6 +23,11 @@ module _ {A B : Type 0} (turn : A → Parser (Turn A B)) (n i : ℕ) (a : A) (ts
   pub turn_none : n ≤ i → o ≡ Err (Syntax, ts)
   turn_none le = let e : n - i ≡ 0 = omega arith in so_far ∙ ap (λ k. turns turn k a ts) e
 
+-- a loop that begins with this value
+pub turn_start : {A B : Type 0} (turn : A → Parser (Turn A B)) (a y : A) (r : List Token) (n : ℕ) → y ≡ a → n ≡ length r + 1 → repeat turn a r ≡ turns turn n y r
+unfolding repeat
+turn_start turn a y r n same count = let m : suc (length r) ≡ n = omega arith in ap (λ k. turns turn k a r) m ∙ ap (λ z. turns turn n z r) (sym same)
+
 -- the first turn
 pub turn_first : {A B : Type 0} (turn : A → Parser (Turn A B)) (p : Outcome A) (a : A) (r : List Token) (n : ℕ) → p ≡ Ok (a, r) → n ≡ length r + 1 → and_then p (repeat turn) ≡ turns turn n a r
 unfolding repeat

@@ -4,3 +4,4 @@ pub mod Readers
 pub mod Answer
 pub mod Words
 pub mod Seen
+pub mod Faults

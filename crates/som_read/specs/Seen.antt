@@ -1,12 +1,12 @@
 -- The tokens of a text as grammars see them: ignored directives are left out, and words and literals know their place in the list of all tokens.
-use Rattle.std.specs.Prelude.{ℕ, ◌+◌, Bool, true, false, if◌then◌else◌, List, [], ◌∷◌, length, slice_index_or, take}
+use Rattle.std.specs.Prelude.{ℕ, ◌+◌, Bool, false, if◌then◌else◌, List, [], ◌∷◌, take}
 use Rattle.std.specs.List.{slice_get}
 use Rattle.std.specs.Option.{option_map_or}
 use Rattle.som_lex.specs.declared.token.LexToken.{LexToken}
 use Rattle.som_lex.specs.declared.token.TokenKind.{TokenKind}
 use Rattle.som_lex.specs.declared.token.TokenKind.TheVariants as kinds
 use Rattle.som_lex.specs.declared.token.Tokens.{Tokens}
-use Rattle.som_lex.specs.Directives.{is_ignored}
+use Rattle.som_lex.specs.Ignored.{is_ignored}
 use Rattle.som_lex.specs.Spans.{bytes_of}
 use Rattle.som_lex.specs.Values.{number_of}
 use Rattle.som_read.specs.Words.{key_of, sign_of}

@@ -1,15 +1,13 @@
 //! The tokens of a text as grammars see them.
 
 ghost use Rattle.som_lex.specs.Spans.{IsSpelled, bytes_of as bytes_in};
-ghost use Rattle.som_lex.specs.Values.{number_of};
 ghost use Rattle.som_read.specs.Seen.{is_left_out as is_ignored_of, places_from, seen_from, text_at, token_of as token_from};
 ghost use Rattle.som_read.specs.Tokens.{word};
-ghost use Rattle.std.specs.Prelude.{◌≡◌, ◌≤◌, [], ◌∷◌, ◌++◌, All, IfOk, OnOk};
+ghost use Rattle.std.specs.Prelude.{◌≡◌, ◌-◌, length, slice_index_or, [], ◌∷◌, ◌++◌, All, IfOk, OnOk};
 
-use crate::Token;
 use crate::words::{key_of, sign_of};
-use crate::{Stop, Word};
-use som_lex::{LexToken, TokenKind, Tokens, is_ignored};
+use crate::{Cursor, Token, Word};
+use som_lex::{LexToken, TokenKind, Tokens, is_ignored, number_value};
 use som_model::{NoMemory, Text};
 use std::alloc::Global;
 
@@ -20,24 +18,25 @@ pub struct Seen {
     pub places: Vec<usize>,
 }
 
+impl Seen {
+    /// The place of the token in hand in the list of all tokens, or the length of that list at the end.
+    pub fn place_of(&self, tokens: &Tokens, left: &Cursor<'_>) -> usize
+        ensures { result ≡ slice_index_or self.now.places.items (length self.now.tokens.items - length left.now.rest.now) (length tokens.now.list) }
+    {
+        let before = self.tokens.as_slice().len().saturating_sub(left.rest.len());
+        match self.places.as_slice().get(before) {
+            Some(place) => *place,
+            None => tokens.list.len(),
+        }
+    }
+}
+
 fn bytes_of<'a>(source: &'a [u8], token: LexToken) -> &'a [u8]
     ensures { result.now ≡ bytes_in source.now token }
 {
     let rest = &source[token.start.min(source.len())..];
     let len = token.end.saturating_sub(token.start);
     &rest[..len.min(rest.len())]
-}
-
-// The value of a number that is at most the greatest one.
-fn value_of(digits: &[u8]) -> u32
-    requires { number_of digits.now ≤ 2147483647 }
-    ensures { result ≡ number_of digits.now }
-{
-    digits.iter().fold(0u32, |value, digit| {
-        value
-            .saturating_mul(10)
-            .saturating_add(u32::from(digit.saturating_sub(b'0')))
-    })
 }
 
 #[tactic(auto, unfolding(crate::specs::Seen::is_left_out))]
@@ -55,7 +54,7 @@ fn token_of(source: &[u8], place: usize, token: LexToken) -> Token
     let bytes = bytes_of(source, token);
     match token.kind {
         TokenKind::Word => Token::Word(key_of(bytes), place),
-        TokenKind::Number => Token::Number(value_of(bytes)),
+        TokenKind::Number => Token::Number(number_value(bytes)),
         TokenKind::Literal => Token::Literal(place),
         TokenKind::Sign => Token::Mark(sign_of(bytes)),
         TokenKind::Directive => Token::Directive,
@@ -63,12 +62,7 @@ fn token_of(source: &[u8], place: usize, token: LexToken) -> Token
 }
 
 // Adds a token, unless it is an ignored directive.
-fn note(
-    seen: &mut Seen,
-    source: &[u8],
-    place: usize,
-    token: LexToken,
-) -> Result<(), NoMemory>
+fn note(seen: &mut Seen, source: &[u8], place: usize, token: LexToken) -> Result<(), NoMemory>
     requires { IsSpelled source.now token }
     ensures tokens { OnOk result (seen.new.tokens.items ≡ seen.old.tokens.items ++ seen_from source.now place (token ∷ [])) }
     ensures places { OnOk result (seen.new.places.items ≡ seen.old.places.items ++ places_from source.now place (token ∷ [])) }
@@ -100,7 +94,7 @@ pub fn see(alloc: Global, tokens: &Tokens) -> Result<Seen, NoMemory>
 }
 
 /// The word at a place, with a copy of its text.
-pub fn word_at(alloc: Global, tokens: &Tokens, place: usize) -> Result<Word, Stop>
+pub fn word_at(alloc: Global, tokens: &Tokens, place: usize) -> Result<Word, NoMemory>
     ensures { IfOk result (λ w. w ≡ word (text_at tokens.now) place) }
 {
     let bytes = match tokens.list.as_slice().get(place) {

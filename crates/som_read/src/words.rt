@@ -16,21 +16,45 @@ fn is(word: &[u8], text: &[u8]) -> bool
 fn is_refused_declaration(word: &[u8]) -> bool
     ensures { result ≡ spec.is_refused_declaration word.now }
 {
-    is(word, b"module") || is(word, b"typedef") || is(word, b"struct") || is(word, b"union") || is(word, b"enum") || is(word, b"sequence") || is(word, b"const") || is(word, b"exception") || is(word, b"raises") || is(word, b"context")
+    is(word, b"module")
+        || is(word, b"typedef")
+        || is(word, b"struct")
+        || is(word, b"union")
+        || is(word, b"enum")
+        || is(word, b"sequence")
+        || is(word, b"const")
+        || is(word, b"exception")
+        || is(word, b"raises")
+        || is(word, b"context")
 }
 
 #[tactic(auto, unfolding(crate::specs::Words::is_refused_type))]
 fn is_refused_type(word: &[u8]) -> bool
     ensures { result ≡ spec.is_refused_type word.now }
 {
-    is(word, b"oneway") || is(word, b"out") || is(word, b"inout") || is(word, b"short") || is(word, b"unsigned") || is(word, b"float") || is(word, b"double") || is(word, b"char") || is(word, b"octet")
+    is(word, b"oneway")
+        || is(word, b"out")
+        || is(word, b"inout")
+        || is(word, b"short")
+        || is(word, b"unsigned")
+        || is(word, b"float")
+        || is(word, b"double")
+        || is(word, b"char")
+        || is(word, b"octet")
 }
 
 #[tactic(auto, unfolding(crate::specs::Words::is_refused_modifier))]
 fn is_refused_modifier(word: &[u8]) -> bool
     ensures { result ≡ spec.is_refused_modifier word.now }
 {
-    is(word, b"any") || is(word, b"passthru") || is(word, b"nodata") || is(word, b"noget") || is(word, b"noset") || is(word, b"procedure") || is(word, b"nooverride") || is(word, b"callstyle")
+    is(word, b"any")
+        || is(word, b"passthru")
+        || is(word, b"nodata")
+        || is(word, b"noget")
+        || is(word, b"noset")
+        || is(word, b"procedure")
+        || is(word, b"nooverride")
+        || is(word, b"callstyle")
 }
 
 #[tactic(auto, unfolding(crate::specs::Words::expression_word))]
