@@ -1,7 +1,7 @@
 -- Which bytes are apart.
-use Rattle.std.proofs.Common.{◌≡◌, ℕ, true, false, ◌==◌, arith}
+use Rattle.std.proofs.Common.{◌≡◌, ℕ, true, arith}
 use Rattle.std.proofs.lemmas.Grind.{common_steps}
-use Rattle.som_lex.specs.Alphabet.{is_letter, is_digit, is_blank, is_single, is_double, is_plain, is_escape, quote, hash, slash}
+use Rattle.som_lex.specs.Alphabet.{is_letter, is_digit, is_blank, is_single, is_double}
 
 pub letter_digit : (b : ℕ) → is_letter b ≡ true → is_digit b ≡ true → ⊥
 letter_digit b l s = grind (arith, common_steps)

@@ -1,9 +1,9 @@
 -- Comments.
-use Rattle.std.proofs.Common.{◌≡◌, ℕ, zero, suc, ◌+◌, ◌<◌, ◌≤◌, one-add, Bool, true, false, if◌then◌else◌, ◌||◌, ◌&&◌, ◌==◌, not, cond, List, [], ◌∷◌, ◌++◌, length, take, drop, None, Result, Ok, Err, refl, sym, ap, subst, ◌∙◌, arith}
-use Rattle.std.proofs.lemmas.List.{length-take-le, take-append-drop}
+use Rattle.std.proofs.Common.{◌≡◌, ℕ, suc, ◌+◌, one-add, Bool, true, false, if◌then◌else◌, ◌&&◌, ◌==◌, not, cond, List, [], ◌∷◌, ◌++◌, length, take, drop, None, Result, Ok, Err, refl, sym, ap, subst, ◌∙◌, arith}
+use Rattle.std.proofs.lemmas.List.{take-append-drop}
 use Rattle.std.proofs.lemmas.List.Folds.{length-prefix_len}
 use Rattle.std.proofs.lemmas.Bool.{eqb-true}
-use Rattle.std.specs.List.{prefix_len, list_all}
+use Rattle.std.specs.List.{prefix_len}
 use Rattle.som_lex.specs.declared.lexeme.Lexeme.{Lexeme}
 use Rattle.som_lex.specs.declared.fault.LexFault.{LexFault}
 use Rattle.som_lex.specs.declared.fault.LexFault.TheVariants as faults
@@ -11,7 +11,7 @@ use Rattle.som_lex.specs.Alphabet.{slash, star, line_feed}
 use Rattle.som_lex.specs.Line.{next_is}
 use Rattle.som_lex.specs.Lexeme.{gap, block_at, line_comment_at}
 use Rattle.som_lex.specs.Front.{IsGap, IsFront, has_close, starts_line_end, a_line_comment, a_block_comment, open_comment}
-use Rattle.som_lex.proofs.Runs.{prefix_passes, first_passes}
+use Rattle.som_lex.proofs.Runs.{prefix_passes}
 use Rattle.som_lex.proofs.Longest.{Told}
 
 -- ---- up to the end of the line
@@ -32,7 +32,7 @@ line_gap bs =
     let u = take (prefix_len in_line bs) bs in
     let rest = drop (prefix_len in_line bs) bs in
     subst (λ w. IsGap (slash ∷ slash ∷ w) (2 + prefix_len in_line bs)) (take-append-drop (prefix_len in_line bs) bs)
-      (subst (λ n. IsGap (slash ∷ slash ∷ (u ++ rest)) (2 + n)) (length-prefix_len in_line bs) (a_line_comment u rest (prefix_passes in_line bs) (stops bs)))
+    (subst (λ n. IsGap (slash ∷ slash ∷ (u ++ rest)) (2 + n)) (length-prefix_len in_line bs) (a_line_comment u rest (prefix_passes in_line bs) (stops bs)))
 
 two_more : (bs : List ℕ) → prefix_len in_line (slash ∷ slash ∷ bs) ≡ 2 + prefix_len in_line bs
 two_more bs = omega arith
@@ -90,7 +90,8 @@ plain_by start at b bs p s false e = one_later start at b bs (block_at start fal
 starred_by : (start at b : ℕ) (bs : List ℕ) → BlockTold start (at + 1 + 1) bs (block_at start false (at + 1 + 1) bs) → BlockTold start (at + 1) (star ∷ bs) (block_at start true (at + 1 + 1) bs) → (v : Bool) → (b == slash) ≡ v
     → BlockTold start at (star ∷ b ∷ bs) (if v then gap (at + 1 + 1) else block_at start (b == star) (at + 1 + 1) bs)
 starred_by start at b bs p s true e = record {
-  inside = []; rest = bs;
+  inside = [];
+  rest = bs;
   splits = ap (λ c. star ∷ c ∷ bs) (eqb-true b slash e);
   no_close = refl;
   is = ap (λ n. gap_end n) (two_on at);
@@ -100,6 +101,7 @@ starred_by start at b bs p s false e =
 
 mutual
   unfolding block_at
+
   plain_told : (start at : ℕ) (bs : List ℕ) → BlockTold start at bs (block_at start false at bs)
   plain_told start at [] = (refl, refl)
   plain_told start at (b ∷ bs) = plain_by start at b bs (plain_told start (at + 1) bs) (starred_told start at bs) (b == star) refl
@@ -111,7 +113,7 @@ mutual
 block_here : (fresh : Bool) (at : ℕ) (bs : List ℕ) (r : Result Lexeme LexFault) → BlockTold at (at + 2) bs r → Told fresh at (slash ∷ star ∷ bs) r
 block_here fresh at bs (Ok x) t =
     subst (λ y. IsFront fresh at (slash ∷ star ∷ bs) y) (sym t.is)
-      (4 + length t.inside, omega arith, subst (λ w. IsGap (slash ∷ star ∷ w) (4 + length t.inside)) (sym t.splits) (a_block_comment t.inside t.rest t.no_close))
+    (4 + length t.inside, omega arith, subst (λ w. IsGap (slash ∷ star ∷ w) (4 + length t.inside)) (sym t.splits) (a_block_comment t.inside t.rest t.no_close))
 block_here fresh at bs (Err f) t = subst (λ g. Told fresh at (slash ∷ star ∷ bs) (Err g)) (sym t.1) (open_comment t.0)
 
 pub block_told : (fresh : Bool) (at : ℕ) (bs : List ℕ) → Told fresh at (slash ∷ star ∷ bs) (block_at at false (at + 2) bs)

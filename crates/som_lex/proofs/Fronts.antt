@@ -1,16 +1,16 @@
 -- What stands first is what the language says.
-use Rattle.std.proofs.Common.{◌≡◌, ◌≢◌, ℕ, ◌+◌, Bool, true, false, if◌then◌else◌, ◌||◌, ◌&&◌, ◌==◌, List, [], ◌∷◌, drop, Result, Ok, Err, refl, sym, ap, subst, ◌∙◌}
+use Rattle.std.proofs.Common.{◌≡◌, ◌≢◌, ℕ, ◌+◌, Bool, true, false, if◌then◌else◌, ◌||◌, ◌&&◌, ◌==◌, List, [], ◌∷◌, drop, Result, Ok, Err, refl, sym, ap, subst}
 use Rattle.std.proofs.lemmas.Bool.{eqb-true}
 use Rattle.som_lex.specs.declared.lexeme.Lexeme.{Lexeme}
 use Rattle.som_lex.specs.declared.fault.LexFault.{LexFault}
 use Rattle.som_lex.specs.Alphabet.{quote, hash, slash, star, is_letter, is_digit, is_blank}
 use Rattle.som_lex.specs.Line.{next_is}
 use Rattle.som_lex.specs.Lexeme.{gap, word_at, number_at, literal_at, line_comment_at, block_at, directive_at, sign_at, lexeme_at}
-use Rattle.som_lex.specs.Front.{IsFront, IsFault, opens_comment, a_blank}
-use Rattle.som_lex.proofs.Longest.{Told, differ, word_told, number_told, directive_told}
+use Rattle.som_lex.specs.Front.{IsFront, IsFault, a_blank}
+use Rattle.som_lex.proofs.Longest.{Told, word_told, number_told, directive_told}
 use Rattle.som_lex.proofs.Literals.{literal_told}
 use Rattle.som_lex.proofs.Comments.{line_comment_told, block_told}
-use Rattle.som_lex.proofs.Signs.{IsOther, sign_told}
+use Rattle.som_lex.proofs.Signs.{sign_told}
 
 both_parts : (v w : Bool) → (v && w) ≡ true → (v ≡ true) × (w ≡ true)
 both_parts true w e = (refl, e)
@@ -27,14 +27,19 @@ neither false x y e f = refl
 module _ (fresh : Bool) (at b : ℕ) (bs : List ℕ) where
   abbrev last : Result Lexeme LexFault
   last = if fresh && b == hash then directive_at at (b ∷ bs) else sign_at at b bs
+
   abbrev after_line : Result Lexeme LexFault
   after_line = if b == slash && next_is star bs then block_at at false (at + 2) (drop 1 bs) else last
+
   abbrev after_quote : Result Lexeme LexFault
   after_quote = if b == slash && next_is slash bs then line_comment_at at (b ∷ bs) else after_line
+
   abbrev after_digit : Result Lexeme LexFault
   after_digit = if b == quote then literal_at at false 0 (at + 1) bs else after_quote
+
   abbrev after_letter : Result Lexeme LexFault
   after_letter = if is_digit b then number_at at (b ∷ bs) else after_digit
+
   abbrev after_blank : Result Lexeme LexFault
   after_blank = if is_letter b then word_at at (b ∷ bs) else after_letter
 
@@ -52,7 +57,7 @@ module _ (fresh : Bool) (at b : ℕ) (bs : List ℕ) where
       let p = both_parts (b == slash) (next_is star bs) e in
       let r = second_is star bs p.1 in
       subst (λ c. Told fresh at (c ∷ bs) (block_at at false (at + 2) (drop 1 bs))) (sym (eqb-true b slash p.0))
-        (subst (λ cs. Told fresh at (slash ∷ cs) (block_at at false (at + 2) (drop 1 cs))) (sym r.1) (block_told fresh at r.0))
+      (subst (λ cs. Told fresh at (slash ∷ cs) (block_at at false (at + 2) (drop 1 cs))) (sym r.1) (block_told fresh at r.0))
   block_by k l d q s false e = hash_by k l d q s e (fresh && b == hash) refl
 
   line_by : is_blank b ≡ false → is_letter b ≡ false → is_digit b ≡ false → (b == quote) ≡ false → (v : Bool) → (b == slash && next_is slash bs) ≡ v
@@ -61,7 +66,7 @@ module _ (fresh : Bool) (at b : ℕ) (bs : List ℕ) where
       let p = both_parts (b == slash) (next_is slash bs) e in
       let r = second_is slash bs p.1 in
       subst (λ c. Told fresh at (c ∷ bs) (line_comment_at at (c ∷ bs))) (sym (eqb-true b slash p.0))
-        (subst (λ cs. Told fresh at (slash ∷ cs) (line_comment_at at (slash ∷ cs))) (sym r.1) (line_comment_told fresh at r.0))
+      (subst (λ cs. Told fresh at (slash ∷ cs) (line_comment_at at (slash ∷ cs))) (sym r.1) (line_comment_told fresh at r.0))
   line_by k l d q false e = block_by k l d q e (b == slash && next_is star bs) refl
 
   quote_by : is_blank b ≡ false → is_letter b ≡ false → is_digit b ≡ false → (v : Bool) → (b == quote) ≡ v → Told fresh at (b ∷ bs) (if v then literal_at at false 0 (at + 1) bs else after_quote fresh at b bs)

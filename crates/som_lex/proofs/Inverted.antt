@@ -1,10 +1,9 @@
 -- What a token can be, by its first byte.
-use Rattle.std.proofs.Common.{◌≡◌, ◌≢◌, ℕ, Bool, true, false, List, [], ◌∷◌, ◌++◌, ◌==◌, ◌⊎◌, inl, inr, not, refl, sym, arith}
+use Rattle.std.proofs.Common.{◌≡◌, ℕ, true, false, List, [], ◌∷◌, ◌++◌, ◌==◌, refl}
 use Rattle.std.specs.List.{list_all}
-use Rattle.std.proofs.lemmas.Grind.{common_steps}
 use Rattle.som_lex.specs.declared.token.TokenKind.{TokenKind}
 use Rattle.som_lex.specs.declared.token.TokenKind.TheVariants as kinds
-use Rattle.som_lex.specs.Alphabet.{quote, hash, zero_digit, line_feed, is_letter, is_digit, is_word_byte, is_single, is_double}
+use Rattle.som_lex.specs.Alphabet.{quote, hash, zero_digit, is_letter, is_digit, is_word_byte, is_single, is_double}
 use Rattle.som_lex.specs.Spelling.{Means, Spells, a_word, a_zero, a_number, a_literal, a_sign, a_double, a_directive}
 use Rattle.som_lex.proofs.Classes.{letter_digit, letter_single, letter_double, digit_single, digit_double}
 

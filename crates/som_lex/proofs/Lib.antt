@@ -9,3 +9,7 @@ pub mod Comments
 pub mod Fronts
 pub mod Steps
 pub mod Spans
+pub mod FirstBytes
+pub mod Reread
+pub mod OneFront
+pub mod OneCut

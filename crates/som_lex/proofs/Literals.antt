@@ -1,7 +1,7 @@
 -- Text literals.
 use Rattle.std.proofs.Common.{◌≡◌, ℕ, zero, suc, ◌+◌, ◌<◌, ◌≤◌, add-one, Bool, true, false, if◌then◌else◌, ◌==◌, nat_lt, List, [], ◌∷◌, ◌++◌, length, take, drop, Some, Result, Ok, Err, refl, sym, ap, subst, ◌∙◌, append_assoc, arith}
 use Rattle.std.proofs.lemmas.Grind.{common_steps}
-use Rattle.std.proofs.lemmas.List.{append-nil, length-append, length-take-le, take-append-drop}
+use Rattle.std.proofs.lemmas.List.{length-append, length-take-le, take-append-drop}
 use Rattle.std.proofs.lemmas.Bool.{eqb-true}
 use Rattle.som_model.specs.declared.limits.TheConstants.{MAX_TEXT}
 use Rattle.som_lex.specs.declared.lexeme.Lexeme.{Lexeme}
@@ -13,7 +13,7 @@ use Rattle.som_lex.specs.Alphabet.{quote, backslash, line_feed, is_plain, is_esc
 use Rattle.som_lex.specs.Values.{inside_of, text_of}
 use Rattle.som_lex.specs.Lexeme.{token, literal_at}
 use Rattle.som_lex.specs.Spelling.{Means, nothing, a_plain, an_escape, Spells, a_literal}
-use Rattle.som_lex.specs.Front.{EndsOpen, at_end, at_line_feed, escaped_end, escaped_line_feed, IsTextFault, a_bad_byte, a_bad_escape, unclosed, too_long, IsLongest, IsToken, IsFront, in_literal}
+use Rattle.som_lex.specs.Front.{at_end, at_line_feed, escaped_end, escaped_line_feed, IsTextFault, a_bad_byte, a_bad_escape, unclosed, too_long, IsLongest, IsToken, IsFront, in_literal}
 use Rattle.som_lex.proofs.Inverted.{from_quote}
 use Rattle.som_lex.proofs.Longest.{Told, differ}
 
@@ -48,23 +48,23 @@ one_close : (u v w x y z : List ℕ) → Means u v → Means w x → u ++ quote 
 one_close _ _ _ _ y z nothing nothing e = refl
 one_close _ _ _ _ y z nothing (a_plain {b = b} p m) e = absurd (no_quote b p (cc))
   where
-  no_quote : (c : ℕ) → is_plain c ≡ true → quote ≡ c → ⊥
-  no_quote c p e = differ p (ap is_plain (sym e))
+    no_quote : (c : ℕ) → is_plain c ≡ true → quote ≡ c → ⊥
+    no_quote c p e = differ p (ap is_plain (sym e))
 one_close _ _ _ _ y z nothing (an_escape p m) e = cc
 one_close _ _ _ _ y z (a_plain {b = b} p m) nothing e = absurd (no_quote b p (cc))
   where
-  no_quote : (c : ℕ) → is_plain c ≡ true → c ≡ quote → ⊥
-  no_quote c p e = differ p (ap is_plain e)
+    no_quote : (c : ℕ) → is_plain c ≡ true → c ≡ quote → ⊥
+    no_quote c p e = differ p (ap is_plain e)
 one_close _ _ _ _ y z (a_plain {u = u} {v = v} p m) (a_plain {u = w} {v = x} q n) e = ap suc (one_close u v w x y z m n (cc))
 one_close _ _ _ _ y z (a_plain {b = b} p m) (an_escape q n) e = absurd (no_backslash b p (cc))
   where
-  no_backslash : (c : ℕ) → is_plain c ≡ true → c ≡ backslash → ⊥
-  no_backslash c p e = differ p (ap is_plain e)
+    no_backslash : (c : ℕ) → is_plain c ≡ true → c ≡ backslash → ⊥
+    no_backslash c p e = differ p (ap is_plain e)
 one_close _ _ _ _ y z (an_escape p m) nothing e = cc
 one_close _ _ _ _ y z (an_escape p m) (a_plain {b = b} q n) e = absurd (no_backslash b q (cc))
   where
-  no_backslash : (c : ℕ) → is_plain c ≡ true → backslash ≡ c → ⊥
-  no_backslash c p e = differ p (ap is_plain (sym e))
+    no_backslash : (c : ℕ) → is_plain c ≡ true → backslash ≡ c → ⊥
+    no_backslash c p e = differ p (ap is_plain (sym e))
 one_close _ _ _ _ y z (an_escape {u = u} {v = v} p m) (an_escape {u = w} {v = x} q n) e = ap (λ k. suc (suc k)) (one_close u v w x y z m n (cc))
 
 -- ---- reading on
@@ -121,10 +121,10 @@ within n v len few = subst (λ k. k ≤ MAX_TEXT) (sym len) few
 module _ (start b : ℕ) (bs : List ℕ) (again : PlainTold start bs) (n at : ℕ) (u v : List ℕ) (m : Means u v) (len : length v ≡ n) (few : n ≤ MAX_TEXT) (here : start + 1 + length u ≡ at) where
   room_told : is_plain b ≡ true → (t : Bool) → nat_lt n MAX_TEXT ≡ t → TextTold start (u ++ b ∷ bs) (if t then literal_at start false (n + 1) (at + 1) bs else Err (faults.TextTooLong start))
   room_told p true e =
-    subst (λ w. TextTold start w (literal_at start false (n + 1) (at + 1) bs)) (append_assoc u (b ∷ []) bs)
+      subst (λ w. TextTold start w (literal_at start false (n + 1) (at + 1) bs)) (append_assoc u (b ∷ []) bs)
       (again (n + 1) (at + 1) (u ++ b ∷ []) (v ++ b ∷ []) (plain_more u v b m p) (longer v b ∙ ap (λ j. j + 1) len) (room n e) (next start at u b here))
   room_told p false e =
-    subst (λ w. IsTextFault start w (faults.TextTooLong start)) (append_assoc u (b ∷ []) bs)
+      subst (λ w. IsTextFault start w (faults.TextTooLong start)) (append_assoc u (b ∷ []) bs)
       (too_long (u ++ b ∷ []) (v ++ b ∷ []) bs (plain_more u v b m p) (longer v b ∙ ap (λ j. j + 1) (full n v len few e)))
 
   member_told : (b == quote) ≡ false → (b == line_feed) ≡ false → (b == backslash) ≡ false → (t : Bool) → is_plain b ≡ t
@@ -135,10 +135,10 @@ module _ (start b : ℕ) (bs : List ℕ) (again : PlainTold start bs) (n at : �
   escape_room : is_escape b ≡ true → (t : Bool) → nat_lt n MAX_TEXT ≡ t
       → TextTold start (u ++ backslash ∷ b ∷ bs) (if t then literal_at start false (n + 1) (at + 1 + 1) bs else Err (faults.TextTooLong start))
   escape_room p true e =
-    subst (λ w. TextTold start w (literal_at start false (n + 1) (at + 1 + 1) bs)) (append_assoc u (backslash ∷ b ∷ []) bs)
+      subst (λ w. TextTold start w (literal_at start false (n + 1) (at + 1 + 1) bs)) (append_assoc u (backslash ∷ b ∷ []) bs)
       (again (n + 1) (at + 1 + 1) (u ++ backslash ∷ b ∷ []) (v ++ escaped b ∷ []) (escape_more u v b m p) (longer v (escaped b) ∙ ap (λ j. j + 1) len) (room n e) (next_two start at u b here))
   escape_room p false e =
-    subst (λ w. IsTextFault start w (faults.TextTooLong start)) (append_assoc u (backslash ∷ b ∷ []) bs)
+      subst (λ w. IsTextFault start w (faults.TextTooLong start)) (append_assoc u (backslash ∷ b ∷ []) bs)
       (too_long (u ++ backslash ∷ b ∷ []) (v ++ escaped b ∷ []) bs (escape_more u v b m p) (longer v (escaped b) ∙ ap (λ j. j + 1) (full n v len few e)))
 
   escape_told : (b == line_feed) ≡ false → (t : Bool) → is_escape b ≡ t
@@ -148,34 +148,36 @@ module _ (start b : ℕ) (bs : List ℕ) (again : PlainTold start bs) (n at : �
 
   escaped_feed : (t : Bool) → (b == line_feed) ≡ t
       → TextTold start (u ++ backslash ∷ b ∷ bs) (if t then Err (faults.OpenText start) else (
-        if is_escape b then (if nat_lt n MAX_TEXT then literal_at start false (n + 1) (at + 1 + 1) bs else Err (faults.TextTooLong start)) else Err (faults.BadByte (at + 1))))
+      if is_escape b then (if nat_lt n MAX_TEXT then literal_at start false (n + 1) (at + 1 + 1) bs else Err (faults.TextTooLong start)) else Err (faults.BadByte (at + 1))))
   escaped_feed true e = subst (λ c. IsTextFault start (u ++ backslash ∷ c ∷ bs) (faults.OpenText start)) (sym (eqb-true b line_feed e)) (unclosed u v (backslash ∷ line_feed ∷ bs) m (within n v len few) escaped_line_feed)
   escaped_feed false e = escape_told e (is_escape b) refl
 
   module _ (after : EscapedTold start bs) where
     backslash_told : (b == quote) ≡ false → (b == line_feed) ≡ false → (t : Bool) → (b == backslash) ≡ t
         → TextTold start (u ++ b ∷ bs) (if t then literal_at start true n (at + 1) bs else (
-          if is_plain b then (if nat_lt n MAX_TEXT then literal_at start false (n + 1) (at + 1) bs else Err (faults.TextTooLong start)) else
-          Err (faults.BadByte at)))
+        if is_plain b then (if nat_lt n MAX_TEXT then literal_at start false (n + 1) (at + 1) bs else Err (faults.TextTooLong start)) else
+        Err (faults.BadByte at)))
     backslash_told q l true e = subst (λ c. TextTold start (u ++ c ∷ bs) (literal_at start true n (at + 1) bs)) (sym (eqb-true b backslash e)) (after n at u v m len few here)
     backslash_told q l false e = member_told q l e (is_plain b) refl
 
     feed_told : (b == quote) ≡ false → (t : Bool) → (b == line_feed) ≡ t
         → TextTold start (u ++ b ∷ bs) (if t then Err (faults.OpenText start) else (
-          if b == backslash then literal_at start true n (at + 1) bs else (
-          if is_plain b then (if nat_lt n MAX_TEXT then literal_at start false (n + 1) (at + 1) bs else Err (faults.TextTooLong start)) else
-          Err (faults.BadByte at))))
+        if b == backslash then literal_at start true n (at + 1) bs else (
+        if is_plain b then (if nat_lt n MAX_TEXT then literal_at start false (n + 1) (at + 1) bs else Err (faults.TextTooLong start)) else
+        Err (faults.BadByte at))))
     feed_told q true e = subst (λ c. IsTextFault start (u ++ c ∷ bs) (faults.OpenText start)) (sym (eqb-true b line_feed e)) (unclosed u v (line_feed ∷ bs) m (within n v len few) at_line_feed)
     feed_told q false e = backslash_told q e (b == backslash) refl
 
     quote_told : (t : Bool) → (b == quote) ≡ t
         → TextTold start (u ++ b ∷ bs) (if t then token kinds.Literal (at + 1) else (
-          if b == line_feed then Err (faults.OpenText start) else (
-          if b == backslash then literal_at start true n (at + 1) bs else (
-          if is_plain b then (if nat_lt n MAX_TEXT then literal_at start false (n + 1) (at + 1) bs else Err (faults.TextTooLong start)) else
-          Err (faults.BadByte at)))))
+        if b == line_feed then Err (faults.OpenText start) else (
+        if b == backslash then literal_at start true n (at + 1) bs else (
+        if is_plain b then (if nat_lt n MAX_TEXT then literal_at start false (n + 1) (at + 1) bs else Err (faults.TextTooLong start)) else
+        Err (faults.BadByte at)))))
     quote_told true e = record {
-      inside = u; text = v; rest = bs;
+      inside = u;
+      text = v;
+      rest = bs;
       splits = ap (λ c. u ++ c ∷ bs) (eqb-true b quote e);
       means = m;
       few = within n v len few;
@@ -187,18 +189,19 @@ both_told : (start : ℕ) (bs : List ℕ) → PlainTold start bs × EscapedTold 
 unfolding literal_at
 both_told start [] = ((λ n at u v m len few here. unclosed u v [] m (within n v len few) at_end), (λ n at u v m len few here. unclosed u v (backslash ∷ []) m (within n v len few) escaped_end))
 both_told start (b ∷ bs) =
-    let rest = both_told start bs in
-    ((λ n at u v m len few here. quote_told start b bs rest.0 n at u v m len few here rest.1 (b == quote) refl),
-     (λ n at u v m len few here. escaped_feed start b bs rest.0 n at u v m len few here (b == line_feed) refl))
+    let rest = both_told start bs in (
+      (λ n at u v m len few here. quote_told start b bs rest.0 n at u v m len few here rest.1 (b == quote) refl),
+      (λ n at u v m len few here. escaped_feed start b bs rest.0 n at u v m len few here (b == line_feed) refl),
+    )
 
 -- ---- a literal is the longest token
 
 literal_front : (inside rest : List ℕ) → take (suc (suc (length inside))) (quote ∷ (inside ++ quote ∷ rest)) ≡ quote ∷ (inside ++ quote ∷ [])
 literal_front inside rest = ap (λ u. quote ∷ u) (front inside rest)
   where
-  front : (u r : List ℕ) → take (suc (length u)) (u ++ quote ∷ r) ≡ u ++ quote ∷ []
-  front [] r = refl
-  front (c ∷ cs) r = ap (λ w. c ∷ w) (front cs r)
+    front : (u r : List ℕ) → take (suc (length u)) (u ++ quote ∷ r) ≡ u ++ quote ∷ []
+    front [] r = refl
+    front (c ∷ cs) r = ap (λ w. c ∷ w) (front cs r)
 
 literal_ends : (inside text rest : List ℕ) → Means inside text → (other : TokenKind) (m : ℕ) → suc (suc (length inside)) < m → m ≤ length (quote ∷ (inside ++ quote ∷ rest)) → Spells other (take m (quote ∷ (inside ++ quote ∷ rest))) → ⊥
 literal_ends inside text rest means other zero lt le s = absurd (omega arith)
@@ -232,7 +235,7 @@ literal_by : (fresh : Bool) (at : ℕ) (bs : List ℕ) (r : Result Lexeme LexFau
 literal_by fresh at bs (Err f) t = in_literal t
 literal_by fresh at bs (Ok x) t =
     subst (λ y. IsFront fresh at (quote ∷ bs) y) (sym t.is)
-      (suc (suc (length t.inside)), omega arith, subst (λ w. IsToken fresh (quote ∷ w) kinds.Literal (suc (suc (length t.inside)))) (sym t.splits) (literal_here fresh t.inside t.text t.rest t.means t.few))
+    (suc (suc (length t.inside)), omega arith, subst (λ w. IsToken fresh (quote ∷ w) kinds.Literal (suc (suc (length t.inside)))) (sym t.splits) (literal_here fresh t.inside t.text t.rest t.means t.few))
 
 pub literal_told : (fresh : Bool) (at : ℕ) (bs : List ℕ) → Told fresh at (quote ∷ bs) (literal_at at false 0 (at + 1) bs)
 literal_told fresh at bs = literal_by fresh at bs (literal_at at false 0 (at + 1) bs) ((both_told at bs).0 0 (at + 1) [] [] nothing refl (omega arith) (omega arith))

@@ -1,5 +1,5 @@
 -- Words, numbers, signs and directives that stand first are the longest tokens there.
-use Rattle.std.proofs.Common.{◌≡◌, ℕ, zero, suc, ◌+◌, ◌<◌, ◌≤◌, one-add, not, Bool, true, false, if◌then◌else◌, ◌&&◌, ◌||◌, ◌==◌, nat_le, nat_lt, List, [], ◌∷◌, length, take, Option, Some, None, Result, Ok, Err, refl, sym, ap, subst, ◌∙◌, arith}
+use Rattle.std.proofs.Common.{◌≡◌, ℕ, zero, suc, ◌+◌, ◌<◌, ◌≤◌, one-add, not, Bool, true, false, if◌then◌else◌, ◌||◌, ◌==◌, nat_le, nat_lt, List, [], ◌∷◌, length, take, Result, Ok, Err, refl, sym, ap, subst, ◌∙◌, arith}
 use Rattle.std.proofs.lemmas.Grind.{common_steps}
 use Rattle.std.proofs.lemmas.Bool.{eqb-true}
 use Rattle.std.proofs.lemmas.List.{length-take-le}
@@ -12,14 +12,14 @@ use Rattle.som_lex.specs.declared.token.TokenKind.{TokenKind}
 use Rattle.som_lex.specs.declared.token.TokenKind.TheVariants as kinds
 use Rattle.som_lex.specs.declared.fault.LexFault.{LexFault}
 use Rattle.som_lex.specs.declared.fault.LexFault.TheVariants as faults
-use Rattle.som_lex.specs.Alphabet.{slash, star, quote, hash, zero_digit, line_feed, is_letter, is_digit, is_word_byte, is_blank, is_single, is_double}
+use Rattle.som_lex.specs.Alphabet.{slash, hash, zero_digit, line_feed, is_letter, is_digit, is_word_byte}
 use Rattle.som_lex.specs.Values.{number_of}
-use Rattle.som_lex.specs.Line.{line_end, line_ends, next_is}
-use Rattle.som_lex.specs.Lexeme.{token, word_at, number_at, sign_at, starts_double, directive_at}
-use Rattle.som_lex.specs.Spelling.{Spells, FitsLimit, a_word, a_zero, a_number, a_sign, a_double, a_directive}
-use Rattle.som_lex.specs.Front.{Stands, IsLongest, IsToken, IsFront, IsFault, opens_comment, runs_on_from_zero, starts_with_digit, no_token, a_digit_after_zero, a_large_number, a_long_name}
+use Rattle.som_lex.specs.Line.{line_end, line_ends}
+use Rattle.som_lex.specs.Lexeme.{token, word_at, number_at, directive_at}
+use Rattle.som_lex.specs.Spelling.{Spells, a_word, a_zero, a_number, a_directive}
+use Rattle.som_lex.specs.Front.{Stands, IsLongest, IsFront, IsFault, opens_comment, runs_on_from_zero, starts_with_digit, a_digit_after_zero, a_large_number, a_long_name}
 use Rattle.som_lex.proofs.Runs.{prefix_passes, prefix_ends, first_passes}
-use Rattle.som_lex.proofs.Inverted.{from_letter, from_digit, from_zero, from_hash, from_other, IsSignOf, one, two, directive}
+use Rattle.som_lex.proofs.Inverted.{from_letter, from_digit, from_zero, from_hash}
 
 -- an answer is what the language says
 abbrev pub Told : Bool → ℕ → List ℕ → Result Lexeme LexFault → Type 0
@@ -75,7 +75,7 @@ unfolding word_at
 word_told fresh at b bs l =
     let n = prefix_len is_word_byte (b ∷ bs) in
     word_by fresh at (b ∷ bs) n (subst (λ k. IsLongest fresh (b ∷ bs) kinds.Word k) (sym (first_passes is_word_byte b bs (letter_in_word b l))) (word_longest fresh b bs l))
-      (no_slash b bs (letter_slash b l)) (no_zero b bs (letter_zero b l)) (nat_le n MAX_NAME) refl
+    (no_slash b bs (letter_slash b l)) (no_zero b bs (letter_zero b l)) (nat_le n MAX_NAME) refl
 
 -- ---- numbers
 
@@ -107,7 +107,7 @@ digit_first : (c : ℕ) (cs : List ℕ) (v : Bool) → is_digit c ≡ v → nat_
 digit_first c cs true e = rw e (grind (arith, common_steps))
 digit_first c cs false e = rw e refl
 
-digit_follows : (bs : List ℕ) → nat_lt 0 (prefix_len is_digit bs) ≡ starts_with_digit bs
+pub digit_follows : (bs : List ℕ) → nat_lt 0 (prefix_len is_digit bs) ≡ starts_with_digit bs
 digit_follows [] = refl
 digit_follows (c ∷ cs) = digit_first c cs (is_digit c) refl
 
@@ -118,7 +118,7 @@ zero_by fresh at bs false e = (1, refl, record { longest = zero_longest fresh bs
 number_by : (fresh : Bool) (at : ℕ) (left : List ℕ) (n : ℕ) → IsLongest fresh left kinds.Number n → opens_comment left ≡ false → runs_on_from_zero left ≡ false → (v : Bool) → nat_le (number_of (take n left)) MAX_NUMBER ≡ v
     → Told fresh at left (if v then token kinds.Number (at + n) else Err (faults.NumberTooLarge at))
 number_by fresh at left n longest c z true e = (n, refl, record { longest = longest; fits = le_from (number_of (take n left)) MAX_NUMBER e; no_comment = c; no_digit = z })
-number_by fresh at left n longest c z false e = a_large_number n longest (lt_from (number_of (take n left)) MAX_NUMBER e) z
+number_by fresh at left n longest c z false e = a_large_number n longest (lt_from (number_of (take n left)) MAX_NUMBER e)
 
 at_zero : (fresh : Bool) (at : ℕ) (bs : List ℕ) → Told fresh at (zero_digit ∷ bs) (if nat_lt 0 (prefix_len is_digit bs) then Err (faults.BadByte (at + 1)) else token kinds.Number (at + 1))
 at_zero fresh at bs = zero_by fresh at bs (nat_lt 0 (prefix_len is_digit bs)) (sym (digit_follows bs))
@@ -131,7 +131,7 @@ digits_by fresh at b bs d true e =
 digits_by fresh at b bs d false e =
     let n = prefix_len is_digit (b ∷ bs) in
     number_by fresh at (b ∷ bs) n (subst (λ k. IsLongest fresh (b ∷ bs) kinds.Number k) (sym (first_passes is_digit b bs d)) (number_longest fresh b bs d e))
-      (no_slash b bs (digit_slash b d)) (no_zero b bs e) (nat_le (number_of (take n (b ∷ bs))) MAX_NUMBER) refl
+    (no_slash b bs (digit_slash b d)) (no_zero b bs e) (nat_le (number_of (take n (b ∷ bs))) MAX_NUMBER) refl
 
 pub number_told : (fresh : Bool) (at b : ℕ) (bs : List ℕ) → is_digit b ≡ true → Told fresh at (b ∷ bs) (number_at at (b ∷ bs))
 unfolding number_at

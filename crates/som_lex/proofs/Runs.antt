@@ -1,5 +1,5 @@
 -- The longest front whose bytes all pass a test.
-use Rattle.std.proofs.Common.{◌≡◌, ◌<◌, ◌≤◌, ℕ, zero, suc, one-add, Bool, true, false, cond, List, [], ◌∷◌, length, take, drop, ◌&&◌, ◌+◌, refl, arith}
+use Rattle.std.proofs.Common.{◌≡◌, ◌<◌, ◌≤◌, ℕ, zero, suc, one-add, Bool, true, false, cond, List, [], ◌∷◌, length, take, ◌&&◌, ◌+◌, refl, arith}
 use Rattle.std.specs.List.{prefix_len, list_all}
 
 passes_by : (p : ℕ → Bool) (x : ℕ) (xs : List ℕ) (b : Bool) → p x ≡ b → list_all p (take (prefix_len p xs) xs) ≡ true → list_all p (take (cond b (1 + prefix_len p xs) 0) (x ∷ xs)) ≡ true

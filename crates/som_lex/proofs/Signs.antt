@@ -1,16 +1,14 @@
 -- Signs that stand first are the longest tokens there, and where nothing else stands either, no token begins.
-use Rattle.std.proofs.Common.{◌≡◌, ℕ, zero, suc, ◌+◌, ◌<◌, ◌≤◌, Bool, true, false, if◌then◌else◌, ◌&&◌, ◌||◌, ◌==◌, List, [], ◌∷◌, length, take, Ok, Err, refl, sym, ap, subst, ◌∙◌, arith}
+use Rattle.std.proofs.Common.{◌≡◌, ℕ, zero, suc, ◌+◌, ◌<◌, ◌≤◌, Bool, true, false, if◌then◌else◌, ◌&&◌, ◌==◌, List, [], ◌∷◌, length, take, Err, refl, arith}
 use Rattle.std.proofs.lemmas.Grind.{common_steps}
 use Rattle.std.proofs.lemmas.List.{length-take-le}
-use Rattle.std.proofs.lemmas.Bool.{eqb-true, eq-eqb}
 use Rattle.som_lex.specs.declared.token.TokenKind.{TokenKind}
 use Rattle.som_lex.specs.declared.token.TokenKind.TheVariants as kinds
 use Rattle.som_lex.specs.declared.fault.LexFault.TheVariants as faults
-use Rattle.som_lex.specs.Alphabet.{slash, star, quote, hash, zero_digit, is_letter, is_digit, is_blank, is_single, is_double}
-use Rattle.som_lex.specs.Line.{next_is}
+use Rattle.som_lex.specs.Alphabet.{quote, hash, zero_digit, is_letter, is_digit, is_blank, is_single, is_double}
 use Rattle.som_lex.specs.Lexeme.{token, sign_at, starts_double}
 use Rattle.som_lex.specs.Spelling.{Spells, a_sign, a_double}
-use Rattle.som_lex.specs.Front.{Stands, IsLongest, IsToken, opens_comment, runs_on_from_zero, no_token}
+use Rattle.som_lex.specs.Front.{Stands, opens_comment, runs_on_from_zero, no_token}
 use Rattle.som_lex.proofs.Inverted.{from_other, IsSignOf, one, two, directive}
 use Rattle.som_lex.proofs.Longest.{Told, differ}
 
@@ -78,22 +76,36 @@ none_by b (c ∷ cs) fresh kind (suc k) le o e d s t = no_two fresh b c cs (take
 none_here : (fresh : Bool) (b : ℕ) (bs : List ℕ) → IsOther fresh b bs → is_single b ≡ false → starts_double b bs ≡ false → (kind : TokenKind) (n : ℕ) → Stands fresh (b ∷ bs) kind n → ⊥
 none_here fresh b bs o e d kind zero s = nothing kind s.spelled
   where
-  nothing : (j : TokenKind) → Spells j [] → ⊥
-  nothing j h = elim h [ ]
+    nothing : (j : TokenKind) → Spells j [] → ⊥
+    nothing j h = elim h [ ]
 none_here fresh b bs o e d kind (suc k) s = none_by b bs fresh kind k s.within o e d s (spelled fresh b bs o (take k bs) kind s.spelled)
 
 sign_by : (fresh : Bool) (at b : ℕ) (bs : List ℕ) → IsOther fresh b bs → starts_double b bs ≡ false → (v : Bool) → is_single b ≡ v → Told fresh at (b ∷ bs) (if v then token kinds.Sign (at + 1) else Err (faults.BadByte at))
-sign_by fresh at b bs o d true e = (1, refl, record {
-  longest = record { stands = record { within = omega arith; spelled = a_sign e; placed = tt }; longest = one_ends fresh b bs o e d };
-  fits = tt; no_comment = o.comment; no_digit = no_zero b bs o.digit })
+sign_by fresh at b bs o d true e = (
+  1,
+  refl,
+  record {
+    longest = record { stands = record { within = omega arith; spelled = a_sign e; placed = tt }; longest = one_ends fresh b bs o e d };
+    fits = tt;
+    no_comment = o.comment;
+    no_digit = no_zero b bs o.digit;
+  },
+)
 sign_by fresh at b bs o d false e = no_token o.blank o.quoted (none_here fresh b bs o e d)
 
 signs_by : (fresh : Bool) (at b : ℕ) (bs : List ℕ) → IsOther fresh b bs → (v : Bool) → starts_double b bs ≡ v
     → Told fresh at (b ∷ bs) (if v then token kinds.Sign (at + 2) else (if is_single b then token kinds.Sign (at + 1) else Err (faults.BadByte at)))
 signs_by fresh at b [] o true e = absurd (differ e refl)
-signs_by fresh at b (c ∷ cs) o true e = (2, refl, record {
-  longest = record { stands = record { within = omega arith; spelled = a_double e; placed = tt }; longest = two_ends fresh b c cs o e };
-  fits = tt; no_comment = o.comment; no_digit = no_zero b (c ∷ cs) o.digit })
+signs_by fresh at b (c ∷ cs) o true e = (
+  2,
+  refl,
+  record {
+    longest = record { stands = record { within = omega arith; spelled = a_double e; placed = tt }; longest = two_ends fresh b c cs o e };
+    fits = tt;
+    no_comment = o.comment;
+    no_digit = no_zero b (c ∷ cs) o.digit;
+  },
+)
 signs_by fresh at b bs o false e = sign_by fresh at b bs o e (is_single b) refl
 
 pub sign_told : (fresh : Bool) (at b : ℕ) (bs : List ℕ) → IsOther fresh b bs → Told fresh at (b ∷ bs) (sign_at at b bs)

@@ -1,14 +1,14 @@
 -- Tokens that a text was cut into stand in order and are spelled as they should be.
-use Rattle.std.proofs.Common.{◌≡◌, ℕ, zero, suc, ◌+◌, ◌-◌, ◌<◌, ◌≤◌, List, [], ◌∷◌, length, take, drop, get_or, All, refl, sym, ap, subst, ◌∙◌, arith}
+use Rattle.std.proofs.Common.{◌≡◌, ℕ, zero, suc, ◌+◌, ◌-◌, ◌<◌, ◌≤◌, List, [], ◌∷◌, length, take, drop, get_or, All, sym, subst, arith}
 use Rattle.std.proofs.lemmas.List.{length-drop}
 use Rattle.std.proofs.lemmas.List.Elements.{All-nil, All-cons}
 use Rattle.som_lex.specs.declared.token.TokenKind.{TokenKind}
 use Rattle.som_lex.specs.declared.token.LexToken.{LexToken}
 use Rattle.som_lex.specs.Line.{is_fresh}
 use Rattle.som_lex.specs.Spelling.{Spells, FitsLimit}
-use Rattle.som_lex.specs.Front.{IsGap, IsToken, a_blank, a_line_comment, a_block_comment}
+use Rattle.som_lex.specs.Front.{IsToken}
 use Rattle.som_lex.specs.Cut.{IsCut, ended, a_gap, a_token, token_from}
-use Rattle.som_lex.specs.Spans.{bytes_of, AreInOrder, IsSpelled}
+use Rattle.som_lex.specs.Spans.{AreInOrder, IsSpelled}
 use Rattle.som_lex.proofs.Longest.{some_bytes}
 
 place_within : (source : List ℕ) (at n : ℕ) → 0 < n → n ≤ length (drop at source) → at + n ≤ length source

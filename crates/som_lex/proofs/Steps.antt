@@ -1,5 +1,5 @@
 -- A step of the loop that cuts a text.
-use Rattle.std.proofs.Common.{◌≡◌, ◌≢◌, ℕ, ◌+◌, ◌-◌, ◌<◌, ◌≤◌, List, [], ◌∷◌, ◌++◌, length, take, drop, Ok, Err, Option, Some, None, Bool, true, refl, sym, ap, subst, ◌∙◌, append_assoc, arith}
+use Rattle.std.proofs.Common.{◌≡◌, ◌≢◌, ℕ, ◌+◌, ◌-◌, ◌≤◌, List, [], ◌++◌, length, take, drop, Ok, Err, Option, Some, None, Bool, true, sym, ap, subst, ◌∙◌, append_assoc, arith}
 use Rattle.std.proofs.lemmas.List.{append-nil, drop-drop}
 use Rattle.std.proofs.lemmas.List.Sums.{fold-append}
 use Rattle.std.proofs.Math.Seq.{take-add}
@@ -9,7 +9,7 @@ use Rattle.som_lex.specs.declared.token.LexToken.{LexToken}
 use Rattle.som_lex.specs.declared.fault.LexFault.{LexFault}
 use Rattle.som_lex.specs.Line.{is_fresh, fresh_after, stays_fresh}
 use Rattle.som_lex.specs.Lexeme.{lexeme_at, token_in}
-use Rattle.som_lex.specs.Front.{IsFront, IsFault}
+use Rattle.som_lex.specs.Front.{IsFront}
 use Rattle.som_lex.specs.Cut.{IsCut, Stops, ended, a_gap, a_token, here, after_gap, after_token}
 use Rattle.som_lex.proofs.Fronts.{token_told, fault_told}
 

@@ -1,5 +1,5 @@
 -- Bytes of texts.
-use Rattle.std.specs.Prelude.{ℕ, Bool, true, false, ◌||◌, ◌&&◌, ◌==◌, not, if◌then◌else◌, nat_le, List, [], ◌∷◌, codes}
+use Rattle.std.specs.Prelude.{ℕ, Bool, ◌||◌, ◌&&◌, ◌==◌, not, if◌then◌else◌, nat_le, codes}
 use Rattle.std.specs.List.{list_any}
 
 abbrev pub quote : ℕ

@@ -1,5 +1,5 @@
 -- What stands at a place of a text, and which fault, in the words of the language.
-use Rattle.std.specs.Prelude.{◌≡◌, ℕ, ◌+◌, ◌<◌, ◌≤◌, ⊤, Bool, true, false, ◌||◌, ◌&&◌, ◌==◌, not, List, [], ◌∷◌, ◌++◌, length, take, Option, Some, None, Result, Ok, Err}
+use Rattle.std.specs.Prelude.{◌≡◌, ℕ, ◌+◌, ◌<◌, ◌≤◌, ⊤, Bool, true, false, ◌||◌, ◌&&◌, ◌==◌, not, List, [], ◌∷◌, ◌++◌, length, take, Option, Some, None}
 use Rattle.std.specs.List.{list_all}
 use Rattle.som_model.specs.declared.limits.TheConstants.{MAX_NAME, MAX_TEXT}
 use Rattle.som_lex.specs.declared.lexeme.TheConstants.{MAX_NUMBER}
@@ -47,7 +47,7 @@ abbrev pub runs_on_from_zero : List ℕ → Bool
 runs_on_from_zero [] = false
 runs_on_from_zero (b ∷ bs) = b == zero_digit && starts_with_digit bs
 
--- the token that stands first, of n bytes
+-- The token that stands first, of n bytes: the longest, within its limit. No comment opens there, and it is no 0 before a digit.
 pub record IsToken (fresh : Bool) (left : List ℕ) (kind : TokenKind) (n : ℕ) : Type 0 where
   pub longest : IsLongest fresh left kind n
   pub fits : FitsLimit kind (take n left)
@@ -97,11 +97,12 @@ pub data IsTextFault (at : ℕ) : List ℕ → LexFault → Type 0 where
   unclosed : (u v rest : List ℕ) → Means u v → length v ≤ MAX_TEXT → EndsOpen rest → IsTextFault at (u ++ rest) (faults.OpenText at)
   too_long : (u v rest : List ℕ) → Means u v → length v ≡ MAX_TEXT + 1 → IsTextFault at (u ++ rest) (faults.TextTooLong at)
 
--- the fault of what stands first, at this place
+-- The fault of what stands first, at this place: a byte that begins no token; a digit after the number 0; the fault of a text literal; a
+-- comment that isn't closed; a number or a word, as long as it is, above its limit.
 pub data IsFault (fresh : Bool) (at : ℕ) : List ℕ → LexFault → Type 0 where
   no_token : {b : ℕ} {bs : List ℕ} → is_blank b ≡ false → (b == quote) ≡ false → ((kind : TokenKind) (n : ℕ) → Stands fresh (b ∷ bs) kind n → ⊥) → IsFault fresh at (b ∷ bs) (faults.BadByte at)
   a_digit_after_zero : {bs : List ℕ} → starts_with_digit bs ≡ true → IsFault fresh at (zero_digit ∷ bs) (faults.BadByte (at + 1))
   in_literal : {bs : List ℕ} {f : LexFault} → IsTextFault at bs f → IsFault fresh at (quote ∷ bs) f
   open_comment : {bs : List ℕ} → has_close bs ≡ false → IsFault fresh at (slash ∷ star ∷ bs) (faults.OpenComment at)
-  a_large_number : {left : List ℕ} (n : ℕ) → IsLongest fresh left kinds.Number n → MAX_NUMBER < number_of (take n left) → runs_on_from_zero left ≡ false → IsFault fresh at left (faults.NumberTooLarge at)
+  a_large_number : {left : List ℕ} (n : ℕ) → IsLongest fresh left kinds.Number n → MAX_NUMBER < number_of (take n left) → IsFault fresh at left (faults.NumberTooLarge at)
   a_long_name : {left : List ℕ} (n : ℕ) → IsLongest fresh left kinds.Word n → MAX_NAME < n → IsFault fresh at left (faults.NameTooLong at)

@@ -3,8 +3,8 @@ ghost use Rattle.som_lex.specs.Lexeme.{lexeme_at, sign_at};
 
 use crate::alphabet::{is_blank, is_digit, is_letter, is_single, next_is, starts_double};
 use crate::comment::{block_comment, line_comment_len};
-use crate::line::line_len;
 use crate::lexeme::Lexeme;
+use crate::line::line_len;
 use crate::literal::literal;
 use crate::word::{number, word};
 use crate::{LexFault, TokenKind};

@@ -14,7 +14,7 @@ pub fn is_ignored(directive: &[u8]) -> bool
     match directive {
         [] => false,
         [first, others @ ..] => {
-            *first == b'#' && !goes_on(others) && is_kept(after_blanks(others))
+            *first == b'#' && !goes_on(others) && has_ignored_words(after_blanks(others))
         }
     }
 }
@@ -28,8 +28,8 @@ fn goes_on(bytes: &[u8]) -> bool
     }
 }
 
-fn is_kept(bytes: &[u8]) -> bool
-    ensures { result ≡ spec.is_kept bytes.now }
+fn has_ignored_words(bytes: &[u8]) -> bool
+    ensures { result ≡ spec.has_ignored_words bytes.now }
 {
     let word = first_word(bytes);
     let (_, rest) = bytes.split_at(word.len());
@@ -86,5 +86,8 @@ fn blanks_len(bytes: &[u8]) -> usize
     ensures value { result ≡ prefix_len is_inner_blank_of bytes.now }
     ensures within { result ≤ length bytes.now }
 {
-    bytes.iter().take_while(|byte| is_inner_blank(**byte)).count()
+    bytes
+        .iter()
+        .take_while(|byte| is_inner_blank(**byte))
+        .count()
 }

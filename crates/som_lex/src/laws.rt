@@ -1,11 +1,19 @@
-ghost use Rattle.std.specs.Prelude.{◌≡◌, ◌≢◌, ℕ, Bool, List, [], Ok, Err};
-ghost use Rattle.som_lex.specs.declared.lexeme.Lexeme.{Lexeme as Front};
+ghost use Rattle.std.specs.Prelude.{◌≡◌, ℕ, List, ◌∷◌, ◌++◌};
+ghost use Rattle.som_lex.specs.declared.token.LexToken.{LexToken as Token};
 ghost use Rattle.som_lex.specs.declared.fault.LexFault.{LexFault as Fault};
-ghost use Rattle.som_lex.specs.Lexeme.{lexeme_at};
-ghost use Rattle.som_lex.specs.Front.{IsFront, IsFault};
+ghost use Rattle.som_lex.specs.Alphabet.{quote};
+ghost use Rattle.som_lex.specs.Values.{text_of};
+ghost use Rattle.som_lex.specs.Spelling.{Means};
+ghost use Rattle.som_lex.specs.Cut.{IsCut, Stops};
 
-/// What stands first is what the language says: the longest token, a blank or a comment, or the fault.
-pub fn front_law()
-    ensures token { (fresh : Bool) (at : ℕ) (left : List ℕ) (x : Front) → lexeme_at fresh at left ≡ Ok x → IsFront fresh at left x }
-    ensures fault { (fresh : Bool) (at : ℕ) (left : List ℕ) (f : Fault) → left ≢ [] → lexeme_at fresh at left ≡ Err f → IsFault fresh at left f }
+/// A text has one list of tokens at most or one first fault at most, and never both. With what `lex` answers, exactly one.
+pub fn one_answer_law()
+    ensures tokens { (source : List ℕ) (ts us : List Token) → IsCut source 0 ts → IsCut source 0 us → ts ≡ us }
+    ensures fault { (source : List ℕ) (f g : Fault) → Stops source 0 f → Stops source 0 g → f ≡ g }
+    ensures apart { (source : List ℕ) (ts : List Token) (f : Fault) → IsCut source 0 ts → Stops source 0 f → ⊥ }
+{}
+
+/// The text of a literal is what the plain bytes and escapes between its quotes mean.
+pub fn literal_law()
+    ensures { (inside text rest : List ℕ) → Means inside text → text_of (quote ∷ (inside ++ quote ∷ rest)) ≡ text }
 {}

@@ -1,7 +1,14 @@
-//! Texts cut into tokens.
+//! Texts cut into tokens, from left to right, each as long as possible, or refused at their first fault.
+//!
+//! `lex` answers the tokens with their source, and `one_answer_law` says that no other answer is right. What spells a token,
+//! what stands first and which bytes make each fault is said in `specs/Spelling` and `specs/Front`; `specs/Lexeme` says it once
+//! more by the first bytes, as the code reads them. Which directives are ignored is said here too; refusing the others is the
+//! parsers' work.
 #![tactic(auto)]
 
 mod alphabet;
+#[cfg(test)]
+mod cases;
 mod comment;
 mod cut;
 mod fault;
@@ -11,6 +18,10 @@ mod laws;
 mod lexeme;
 mod line;
 mod literal;
+#[cfg(test)]
+mod tests;
+#[cfg(test)]
+mod tests_of_directives;
 mod token;
 mod value;
 mod word;
@@ -18,7 +29,7 @@ mod word;
 pub use cut::lex;
 pub use fault::LexFault;
 pub use ignored::is_ignored;
-pub use laws::front_law;
+pub use laws::{literal_law, one_answer_law};
 pub use lexeme::MAX_NUMBER;
 pub use token::{LexToken, TokenKind, Tokens};
 pub use value::{literal_text, number_value};

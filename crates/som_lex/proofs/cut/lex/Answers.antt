@@ -1,4 +1,3 @@
-use Rattle.std.proofs.Common.{sym}
 use Rattle.som_lex.proofs.Spans.{in_order, all_spelled}
 use Rattle.som_lex.proofs.cut.lex.Goals as goal
 
