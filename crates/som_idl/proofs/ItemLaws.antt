@@ -13,7 +13,6 @@ use Rattle.som_read.specs.declared.tree.TypeName.TheVariants as types
 use Rattle.som_idl.specs.declared.tree.Item.{Item}
 use Rattle.som_idl.specs.declared.tree.Item.TheVariants as items
 use Rattle.som_idl.specs.declared.tree.Modifier.TheVariants as modifiers
-use Rattle.som_idl.specs.declared.item.Setting.{Setting}
 use Rattle.som_idl.specs.declared.item.Setting.TheVariants as settings
 use Rattle.som_idl.specs.Grammar as g
 use Rattle.som_idl.specs.Reading as r

@@ -1,9 +1,9 @@
 -- What reading a whole file comes to, in the grammar's words.
-use Rattle.std.proofs.Common.{◌≡◌, ◌≢◌, ℕ, ◌+◌, ◌-◌, List, [], ◌∷◌, ◌++◌, length, get_or, Bool, true, false, Option, Some, None, Result, Ok, Err, refl, sym, ◌∙◌, ap, subst}
+use Rattle.std.proofs.Common.{◌≡◌, ◌≢◌, ℕ, ◌-◌, List, [], length, get_or, true, false, Result, Ok, Err, refl, sym, ◌∙◌, ap, subst}
 use Rattle.som_lex.specs.declared.token.Tokens.{Tokens}
 use Rattle.som_read.specs.Faults.{IsFirstFault, seen_at}
 use Rattle.som_read.specs.Readers.{repeated}
-use Rattle.som_read.specs.Seen.{seen, seen_from, places_from, text_at}
+use Rattle.som_read.specs.Seen.{seen, places_from, text_at}
 use Rattle.som_read.specs.Tokens.{head}
 use Rattle.som_read.specs.declared.cursor.Stop.{Stop}
 use Rattle.som_read.specs.declared.token.Token.{Token}

@@ -1,5 +1,5 @@
 -- What `parse_idl` may answer.
-use Rattle.std.specs.Prelude.{◌≡◌, Bool, true, false, Option, Some, None, Result, Ok, Err}
+use Rattle.std.specs.Prelude.{◌≡◌, Bool, true, false, Option, Some, Result, Ok, Err}
 use Rattle.som_lex.specs.declared.token.Tokens.{Tokens}
 use Rattle.som_read.specs.Faults.{IsFirstFault, seen_at}
 use Rattle.som_read.specs.Seen.{seen, text_at}

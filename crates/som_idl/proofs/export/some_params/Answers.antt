@@ -1,15 +1,11 @@
-use Rattle.std.proofs.Common.{◌≡◌, ◌≢◌, ◌∷◌, [], rules, arith}
+use Rattle.std.proofs.Common.{◌≢◌, ◌∷◌, [], rules, arith}
 use Rattle.std.proofs.lemmas.Grind.{common_steps}
 use Rattle.std.proofs.lemmas.Result.{err_from_is_err_and}
-use Rattle.som_read.proofs.Loops.{turn_first_from, turn_start, turn_done, turn_more, turn_stops, turn_none}
+use Rattle.som_read.proofs.Loops.{turn_first_from, turn_done, turn_more, turn_stops, turn_none}
 use Rattle.som_read.specs.declared.cursor.Stop.TheVariants.{Memory}
-use Rattle.som_read.specs.declared.tree.Word.{Word}
-use Rattle.som_idl.specs.declared.tree.Modifier.{Modifier}
 use Rattle.som_idl.specs.declared.tree.Param.{Param}
-use Rattle.som_read.specs.Readers.{listed, repeated, another, one_more, keeping, turns}
+use Rattle.som_read.specs.Readers.{listed, another}
 use Rattle.som_read.specs.Seen.{text_at}
-use Rattle.som_read.specs.Tokens.{is_sign}
-use Rattle.som_read.specs.declared.token.Sign.TheVariants as sign
 use Rattle.som_idl.specs.Reading as spec
 use Rattle.som_idl.proofs.export.some_params.Goals as goal
 

@@ -1,8 +1,6 @@
 use Rattle.std.proofs.Common.{◌≡◌, ◌-◌}
-use Rattle.som_read.specs.Readers.{listed, repeated, another, one_more, keeping, turns}
+use Rattle.som_read.specs.Readers.{listed, another, turns}
 use Rattle.som_read.specs.Seen.{text_at}
-use Rattle.som_read.specs.Tokens.{is_sign}
-use Rattle.som_read.specs.declared.token.Sign.TheVariants as sign
 use Rattle.som_idl.specs.Reading as spec
 use Rattle.som_idl.proofs.export.some_params.Given as goal
 

@@ -1,5 +1,5 @@
 use Rattle.std.proofs.Common.{◌≡◌, ◌-◌}
-use Rattle.som_read.specs.Readers.{listed, repeated, another, one_more, keeping, turns}
+use Rattle.som_read.specs.Readers.{one_more, turns}
 use Rattle.som_read.specs.Seen.{text_at}
 use Rattle.som_read.specs.Tokens.{is_sign}
 use Rattle.som_read.specs.declared.token.Sign.TheVariants as sign

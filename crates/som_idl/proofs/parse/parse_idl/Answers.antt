@@ -1,4 +1,4 @@
-use Rattle.std.proofs.Common.{◌≡◌, ◌∙◌}
+use Rattle.std.proofs.Common.{◌∙◌}
 use Rattle.som_idl.proofs.Theorem.{text_read}
 use Rattle.som_idl.proofs.parse.parse_idl.Goals as goal
 

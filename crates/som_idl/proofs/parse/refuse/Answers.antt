@@ -1,4 +1,4 @@
-use Rattle.std.proofs.Common.{◌≡◌, ◌∙◌, ap, sym}
+use Rattle.std.proofs.Common.{◌∙◌, ap, sym}
 use Rattle.som_idl.proofs.Theorem.{fault_told}
 use Rattle.som_idl.specs.Answer.{is_refused}
 use Rattle.som_idl.proofs.parse.refuse.Goals as goal
