@@ -1,0 +1,7 @@
+pub mod NameLaws
+pub mod ItemLaws
+pub mod FileLaws
+pub mod NameFound
+pub mod ItemFound
+pub mod FileFound
+pub mod Theorem

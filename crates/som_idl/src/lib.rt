@@ -1,0 +1,22 @@
+//! Interface files: their trees, and the reader that answers the one tree of a text or the first token that doesn't fit.
+//!
+//! `specs/Grammar.antt` is the grammar, and `specs/Answer.antt` says what is answered. `specs/Reading.antt` has the readers that
+//! the code follows; `proofs` shows that they read the grammar.
+#![tactic(auto)]
+
+#[cfg(test)]
+mod cases;
+mod export;
+mod file;
+mod item;
+mod laws;
+mod name;
+mod parse;
+#[cfg(test)]
+mod tests;
+mod tree;
+
+pub use laws::{one_answer, one_tree};
+pub use parse::parse_idl;
+pub use som_read::{SyntaxFault, TypeName, Word};
+pub use tree::{Export, IdlFile, IdlInterface, Item, Modifier, Param};

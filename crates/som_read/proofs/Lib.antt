@@ -1,0 +1,9 @@
+pub mod Laws
+pub mod Steps
+pub mod Turns
+pub mod Repetition
+pub mod Found
+pub mod Loops
+pub mod Places
+pub mod Whole
+pub mod FirstFault
