@@ -27,5 +27,6 @@ pub mod Same
 pub mod Rules
 pub mod Typing
 pub mod Conforming
+pub mod Compatible
 pub mod Images
 pub mod Blocks

@@ -1,0 +1,16 @@
+pub mod Known
+pub mod MetaLaw
+pub mod Plain
+pub mod Transitive
+pub mod Placed
+pub mod Filled
+pub mod Marking
+pub mod Below
+pub mod Viewing
+pub mod Signing
+pub mod Changing
+pub mod Lost
+pub mod Fronts
+pub mod Declaring
+pub mod Ending
+pub mod Listing

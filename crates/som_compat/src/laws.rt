@@ -1,0 +1,32 @@
+ghost use Rattle.som_compat.specs.Conditions.{Conforms};
+ghost use Rattle.som_compat.specs.Metaclasses.{Declares, IsDeclared};
+ghost use Rattle.som_compat.specs.Plainly.{Keeps};
+ghost use Rattle.som_model.specs.Ancestors.{Descends};
+ghost use Rattle.som_model.specs.Classes.{hierarchy};
+ghost use Rattle.som_model.specs.Compatible.{Compatible, release_of};
+ghost use Rattle.som_model.specs.Kernel.{som_class};
+ghost use Rattle.som_model.specs.Metaclass.{meta};
+ghost use Rattle.som_model.specs.declared.key.ClassKey.{ClassKey};
+ghost use Rattle.som_model.specs.declared.program.Interface.{Interface};
+ghost use Rattle.std.specs.Prelude.{◌↔◌, ◌⊎◌};
+
+/// Nothing breaks a rule exactly where each rule holds of every class and all of its members.
+pub fn compatible_law()
+    ensures { (old new : Interface) → Conforms old → Conforms new →
+        Compatible old new ↔ Keeps old new }
+{}
+
+/// Compatibility goes along: what an interface keeps of one before, a later one that is compatible with it
+/// keeps too.
+pub fn compatible_along_law()
+    ensures { (old mid new : Interface) → Conforms old → Conforms mid → Conforms new →
+        Compatible old mid → Compatible mid new → Compatible old new }
+{}
+
+/// The metaclass of a class descends from a declared class exactly where SOMClass does, or the metaclass
+/// that the class or one of its ancestors declares.
+pub fn metaclass_law()
+    ensures { (i : Interface) → Conforms i → (x n : ClassKey) → IsDeclared n →
+        Descends (hierarchy (release_of i)) (meta (release_of i) x) n ↔
+        (Descends (hierarchy (release_of i)) som_class n ⊎ Declares (release_of i) x n) }
+{}
