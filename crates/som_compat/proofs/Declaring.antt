@@ -14,7 +14,7 @@ use Rattle.som_plain.proofs.Laws.{descends_test}
 use Rattle.som_verify.specs.Places.{class_of_place, key_at, face_at, Finds}
 use Rattle.som_verify.specs.Plainly.{IsAmong}
 use Rattle.som_verify.proofs.Falling.{mem_there}
-use Rattle.som_verify.proofs.Owners.{mem_place}
+use Rattle.som_verify.proofs.Finding.{mem_place}
 use Rattle.som_compat.specs.declared.rows.Row.{Row}
 use Rattle.som_compat.specs.Metaclasses.{IsDeclared, Declares}
 use Rattle.som_compat.specs.Views.{AreRows, IsRow, IsWithin, key_of}

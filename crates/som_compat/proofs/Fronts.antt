@@ -14,7 +14,7 @@ use Rattle.som_plain.proofs.Laws.{ancestors as ancestors_are, descends_test, des
 use Rattle.som_verify.specs.Places.{class_of_place, key_at, face_at, Finds}
 use Rattle.som_verify.specs.Plainly.{IsAmong}
 use Rattle.som_verify.specs.Walk.{adds}
-use Rattle.som_verify.proofs.Finding.{long_map}
+use Rattle.som_verify.proofs.DeclaredClasses.{long_map}
 use Rattle.som_verify.proofs.PlainLists.{mem_map, map_mem}
 use Rattle.som_compat.specs.declared.rows.Row.{Row}
 use Rattle.som_compat.specs.Views.{AreRows}

@@ -27,15 +27,16 @@ use Rattle.som_verify.specs.Told.{of_library, of_release}
 use Rattle.som_verify.specs.Places.{all_classes, class_of_place, key_at, face_at, module_at, AreOnce, IsTable}
 use Rattle.som_verify.specs.Standing.{kernel_rows}
 use Rattle.som_verify.specs.Plainly.{IsAmong, Introduces, Differ, FacesHold}
-use Rattle.som_verify.proofs.Finding.{key_named, long_map}
+use Rattle.som_verify.specs.Modules.{AreDeclared}
+use Rattle.som_verify.proofs.DeclaredClasses.{map_declared}
+use Rattle.som_verify.proofs.Finding.{key_named, mem_place}
 use Rattle.som_verify.proofs.KeyLists.{keys_once, class_there, height_there}
 use Rattle.som_verify.proofs.Falling.{mem_there, falls}
-use Rattle.som_verify.proofs.Rows.{kernel_low, kernel_by, library_face}
+use Rattle.som_verify.proofs.Rows.{kernel_low, kernel_by}
 use Rattle.som_verify.proofs.ClassTable.{is_table}
-use Rattle.som_verify.proofs.Owners.{mem_place}
 use Rattle.som_verify.proofs.PlainLists.{mem_map, map_mem, apart_by, apart_differ}
 use Rattle.som_verify.proofs.PlainNames.{say_names}
-use Rattle.som_verify.proofs.PlainFaces.{faces_say}
+use Rattle.som_verify.proofs.PlainWhole.{faces_say}
 use Rattle.som_compat.specs.Conditions.{IsCounted, Conforms}
 use Rattle.som_compat.specs.Views.{shown}
 
@@ -47,7 +48,7 @@ pub record IsKnown (cs : List Class) : Type 0 where
   pub found : (p : ℕ) → p < length cs → class_at cs (key_at cs p) ≡ Some (class_of_place cs p)
   pub height : (p : ℕ) → p < length cs → (hierarchy cs).height (key_at cs p) ≡ suc p
   pub parents : (p : ℕ) → p < length cs → (hierarchy cs).parents (key_at cs p) ≡ (face_at cs p).parents
-  pub named : (p : ℕ) → p < length cs → (x : List ℕ) × (key_at cs p ≡ keys.Named (module_at p) x)
+  pub named : (p : ℕ) → p < length cs → (x : List ℕ) × (key_at cs p ≡ keys.Named (module_at cs p) x)
   pub stand : (p : ℕ) (k : ClassKey) → p < length cs → Mem k (face_at cs p).parents → (q : ℕ) × (q < p) × (key_at cs q ≡ k)
   pub metaclass : (p : ℕ) (k : ClassKey) → p < length cs → (face_at cs p).metaclass ≡ Some k → (q : ℕ) × (q < length cs) × (key_at cs q ≡ k)
   pub differ : (p : ℕ) → p < length cs → Differ entry_name (face_at cs p).entries
@@ -71,60 +72,66 @@ stays (entries.Moved x k) = false
 
 -- the rules, by places
 module _ (ds : List ClassDecl) (rules : FacesHold ds) (some : (d : ClassDecl) → Mem d ds → 1 ≤ length d.face.parents) where
+  abbrev cs : List Class
+  cs = of_release ds
+
   abbrev all : List Class
   all = all_classes ds
 
   abbrev names : List (List ℕ)
   names = map name_of all
 
-  table : IsTable ds names
-  table = is_table ds names refl (say_names ds rules.names)
+  declared : AreDeclared cs
+  declared = map_declared modules.Library ds
+
+  table : IsTable cs names
+  table = is_table cs names declared refl (say_names cs rules.classes.names)
 
   -- a class of the kernel or one of the interface
-  two_kinds : (p : ℕ) → p < length all → (p < 4) ⊎ ((d : ClassDecl) × (i : ℕ) × (p ≡ suc (suc (suc (suc i)))) × (slice_get ds i ≡ Some d) × Mem d ds × (class_of_place all p ≡ of_library d))
+  two_kinds : (p : ℕ) → p < length all → (p < 4) ⊎ ((c : Class) × (i : ℕ) × (p ≡ suc (suc (suc (suc i)))) × (slice_get cs i ≡ Some c) × Mem c cs × (class_of_place all p ≡ c))
   two_kinds zero lt = inl (omega arith)
   two_kinds (suc zero) lt = inl (omega arith)
   two_kinds (suc (suc zero)) lt = inl (omega arith)
   two_kinds (suc (suc (suc zero))) lt = inl (omega arith)
-  two_kinds (suc (suc (suc (suc i)))) lt = let r = at ds i (omega (arith, long_map of_library ds)) in inr (r.0, i, refl, r.1, r.2, r.3)
+  two_kinds (suc (suc (suc (suc i)))) lt = let r = at cs i (omega arith) in inr (r.0, i, refl, r.1, r.2, r.3)
     where
-      at : (xs : List ClassDecl) (j : ℕ) → j < length xs → (d : ClassDecl) × (slice_get xs j ≡ Some d) × Mem d xs × (class_of_place (of_release xs) j ≡ of_library d)
+      at : (xs : List Class) (j : ℕ) → j < length xs → (c : Class) × (slice_get xs j ≡ Some c) × Mem c xs × (class_of_place xs j ≡ c)
       at [] j lt = absurd (omega arith)
       at (x ∷ xs) zero lt = (x, refl, inl refl, refl)
       at (x ∷ xs) (suc j) lt = let r = at xs j (omega arith) in (r.0, r.1, inr r.2, r.3)
 
-  known_place : (n : ℕ) (k : ClassKey) → IsAmong (kernel ++ of_release (take n ds)) k → (q : ℕ) × (q < length all) × (key_at all q ≡ k)
+  known_place : (n : ℕ) (k : ClassKey) → IsAmong (kernel ++ take n cs) k → (q : ℕ) × (q < length all) × (key_at all q ≡ k)
   known_place n k a =
-      let m : Mem a.class all = elim (mem_split a.class kernel (of_release (take n ds)) a.there) [
-        | inl k ↦ mem_left a.class kernel (of_release ds) k
-        | inr k ↦ (let r = map_mem of_library a.class (take n ds) k in mem_right a.class kernel (of_release ds) (subst (λ z. Mem z (of_release ds)) (sym r.2) (mem_map of_library r.0 ds (front n ds r.0 r.1))))
+      let m : Mem a.class all = elim (mem_split a.class kernel (take n cs) a.there) [
+        | inl k ↦ mem_left a.class kernel cs k
+        | inr k ↦ mem_right a.class kernel cs (front n cs a.class k)
       ] in
       let r = mem_there all a.class m in
       (r.0, r.1, ap (λ (c : Class). c.key) r.2 ∙ a.named)
     where
-      front : (n : ℕ) (xs : List ClassDecl) (d : ClassDecl) → Mem d (take n xs) → Mem d xs
-      front zero xs d m = absurd m
-      front (suc n) [] d m = absurd m
-      front (suc n) (x ∷ xs) d (inl e) = inl e
-      front (suc n) (x ∷ xs) d (inr m) = inr (front n xs d m)
+      front : (n : ℕ) (xs : List Class) (c : Class) → Mem c (take n xs) → Mem c xs
+      front zero xs c m = absurd m
+      front (suc n) [] c m = absurd m
+      front (suc n) (x ∷ xs) c (inl e) = inl e
+      front (suc n) (x ∷ xs) c (inr m) = inr (front n xs c m)
 
   parents_at : (p : ℕ) → p < length all → (hierarchy all).parents (key_at all p) ≡ (face_at all p).parents
   parents_at p lt =
       hierarchy_parents all (key_at all p)
-      ∙ ap (parents_of all) (key_named ds p lt)
-      ∙ parents_named all (module_at p) _
-      ∙ ap (λ k. parents_in (class_at all k)) (sym (key_named ds p lt))
-      ∙ ap parents_in (class_there ds names table p lt)
+      ∙ ap (parents_of all) (key_named cs declared p lt)
+      ∙ parents_named all (module_at all p) _
+      ∙ ap (λ k. parents_in (class_at all k)) (sym (key_named cs declared p lt))
+      ∙ ap parents_in (class_there cs names table p lt)
 
   height_at : (p : ℕ) → p < length all → (hierarchy all).height (key_at all p) ≡ suc p
-  height_at p lt = sym (height_there ds names table p lt)
+  height_at p lt = sym (height_there cs names table p lt)
 
   stands : (p : ℕ) (k : ClassKey) → p < length all → Mem k (face_at all p).parents → (q : ℕ) × (q < p) × (key_at all q ≡ k)
   stands p k lt m = elim (two_kinds p lt) [
-    | inl low ↦ (let r = map_mem (key_at all) k (slice_index_or kernel_rows p []) (subst (λ z. Mem k z) (sym (kernel_by ds p low)) m) in (r.0, kernel_low p r.0 r.1, sym r.2))
+    | inl low ↦ (let r = map_mem (key_at all) k (slice_index_or kernel_rows p []) (subst (λ z. Mem k z) (sym (kernel_by cs p low)) m) in (r.0, kernel_low p r.0 r.1, sym r.2))
     | inr (d, i, e, at, here, is) ↦ (
-        let r = known_place i k (rules.stand.parents i d k at (subst (λ (c : Class). Mem k c.decl.face.parents) is m)) in
-        let lower = falls ds names table rules.stand (key_at all p) k (subst (λ z. Mem k z) (sym (parents_at p lt)) m) in
+        let r = known_place i k (rules.classes.stand.parents i d k at (subst (λ (c : Class). Mem k c.decl.face.parents) is m)) in
+        let lower = falls cs names table rules.classes.stand (key_at all p) k (subst (λ z. Mem k z) (sym (parents_at p lt)) m) in
         let high = height_at p lt in
         let low = height_at r.0 r.1 in
         let same = ap (hierarchy all).height r.2 in
@@ -134,7 +141,7 @@ module _ (ds : List ClassDecl) (rules : FacesHold ds) (some : (d : ClassDecl) �
   metaclass_at : (p : ℕ) (k : ClassKey) → p < length all → (face_at all p).metaclass ≡ Some k → (q : ℕ) × (q < length all) × (key_at all q ≡ k)
   metaclass_at p k lt e = elim (two_kinds p lt) [
     | inl low ↦ absurd (kernel_none p low (e))
-    | inr (d, i, f, at, here, is) ↦ known_place i k (rules.stand.metaclass i d k at (ap (λ (c : Class). c.decl.face.metaclass) (sym is) ∙ e))
+    | inr (d, i, f, at, here, is) ↦ known_place i k (rules.classes.stand.metaclass i d k at (ap (λ (c : Class). c.decl.face.metaclass) (sym is) ∙ e))
   ]
     where
       kernel_none : (p : ℕ) → p < 4 → (face_at all p).metaclass ≡ Some k → ⊥
@@ -147,7 +154,7 @@ module _ (ds : List ClassDecl) (rules : FacesHold ds) (some : (d : ClassDecl) �
   differ_at : (p : ℕ) → p < length all → Differ entry_name (face_at all p).entries
   differ_at p lt = elim (two_kinds p lt) [
     | inl low ↦ kernel_differ p low
-    | inr (d, i, f, at, here, is) ↦ subst (λ (c : Class). Differ entry_name c.decl.face.entries) (sym is) (rules.entries.by d here)
+    | inr (d, i, f, at, here, is) ↦ subst (λ (c : Class). Differ entry_name c.decl.face.entries) (sym is) (rules.classes.entries.by d here)
   ]
     where
       kernel_differ : (p : ℕ) → p < 4 → Differ entry_name (face_at all p).entries
@@ -160,7 +167,7 @@ module _ (ds : List ClassDecl) (rules : FacesHold ds) (some : (d : ClassDecl) �
   moved_at : (p : ℕ) (name : List ℕ) (to : ClassKey) → p < length all → Mem (entries.Moved name to) (face_at all p).entries → Introduces all to name
   moved_at p name to lt m = elim (two_kinds p lt) [
     | inl low ↦ absurd (kernel_stays p low m)
-    | inr (d, i, f, at, here, is) ↦ rules.moved.introduced d name to here (subst (λ (c : Class). Mem (entries.Moved name to) c.decl.face.entries) is m)
+    | inr (d, i, f, at, here, is) ↦ rules.classes.moved.introduced d name to here (subst (λ (c : Class). Mem (entries.Moved name to) c.decl.face.entries) is m)
   ]
     where
       no_moved : (es : List Entry) → every stays es ≡ true → Mem (entries.Moved name to) es → ⊥
@@ -183,18 +190,18 @@ module _ (ds : List ClassDecl) (rules : FacesHold ds) (some : (d : ClassDecl) �
   some_at : (p : ℕ) → p < length all → 4 ≤ p → 1 ≤ length (face_at all p).parents
   some_at p lt ge = elim (two_kinds p lt) [
     | inl low ↦ absurd (omega arith)
-    | inr (d, i, f, at, here, is) ↦ subst (λ (c : Class). 1 ≤ length c.decl.face.parents) (sym is) (some d here)
+    | inr (c, i, f, at, here, is) ↦ (let r = map_mem of_library c ds here in subst (λ (z : Class). 1 ≤ length z.decl.face.parents) (sym (is ∙ r.2)) (some r.0 r.1))
   ]
 
   all_known : IsKnown all
   all_known = record {
-    falls = falls ds names table rules.stand;
+    falls = falls cs names table rules.classes.stand;
     tells = record { one = λ x. hierarchy_same all x x ∙ exact_keys.one x; two = λ x y e. exact_keys.two x y (sym (hierarchy_same all x y) ∙ e) };
-    once = keys_once ds names table;
-    found = class_there ds names table;
+    once = keys_once cs names table;
+    found = class_there cs names table;
     height = height_at;
     parents = parents_at;
-    named = λ p lt. (_, key_named ds p lt);
+    named = λ p lt. (_, key_named cs declared p lt);
     stand = stands;
     metaclass = metaclass_at;
     differ = differ_at;

@@ -19,7 +19,7 @@ use Rattle.som_model.specs.Compatible.{release_of}
 use Rattle.som_model.proofs.NamedLaws.{out_named}
 use Rattle.som_verify.specs.Places.{class_of_place, key_at, nobody, Finds}
 use Rattle.som_verify.specs.Plainly.{IsAmong}
-use Rattle.som_verify.proofs.Finding.{long_map}
+use Rattle.som_verify.proofs.DeclaredClasses.{long_map}
 use Rattle.som_verify.proofs.Falling.{mem_there}
 use Rattle.som_compat.specs.Finding.{FindsName, face_names}
 use Rattle.som_compat.specs.Views.{shown, interface, classes_of}

@@ -19,7 +19,7 @@ use Rattle.som_plain.proofs.Laws.{descends_through}
 use Rattle.som_verify.specs.Places.{class_of_place, key_at, face_at}
 use Rattle.som_verify.specs.Plainly.{IsAmong}
 use Rattle.som_verify.proofs.Falling.{mem_there}
-use Rattle.som_verify.proofs.Owners.{mem_place}
+use Rattle.som_verify.proofs.Finding.{mem_place}
 use Rattle.som_verify.proofs.PlainLists.{map_mem, mem_map}
 use Rattle.som_compat.specs.Conditions.{Conforms}
 use Rattle.som_compat.specs.Metaclasses.{IsDeclared, Declares}
