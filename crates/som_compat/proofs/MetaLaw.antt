@@ -22,7 +22,8 @@ use Rattle.som_plain.proofs.Members.{mem_left, mem_right, mem_split, mem_some, s
 use Rattle.som_plain.proofs.Laws.{mem_firsts, descends_test, descends_through}
 use Rattle.som_verify.specs.Places.{class_of_place, key_at, face_at}
 use Rattle.som_verify.proofs.Falling.{mem_there}
-use Rattle.som_verify.proofs.Owners.{mem_place, mem_middle}
+use Rattle.som_verify.proofs.Owners.{mem_middle}
+use Rattle.som_verify.proofs.Finding.{mem_place}
 use Rattle.som_verify.proofs.PlainLists.{mem_map, map_mem}
 use Rattle.som_verify.proofs.PlainNames.{option_mem}
 use Rattle.som_compat.specs.Metaclasses.{IsDeclared, Declares}
