@@ -31,19 +31,23 @@ pub record AboveSoFar (rows : List (List ℕ)) (top : ℕ) (above : List Bool) (
 
 pub above_first : (rows : List (List ℕ)) (top : ℕ) (above : List Bool) → AreLow rows → top < length above → ((k : ℕ) → Marked above k → ⊥) → AboveSoFar rows top (slice_set above top true) (top + 1)
 above_first rows top above low lt clear = record {
-    sound = λ x m. elim ((marked_set above top x lt).0 m) [ inl n ↦ absurd (clear x n) | inr e ↦ subst (λ (z : ℕ). Descends (rows_of rows) z top) (sym e) itself ];
-    whole = λ x less d. (marked_set above top x lt).1 (inr (let l = low_end rows low x top d in omega arith)) }
+  sound = λ x m. elim ((marked_set above top x lt).0 m) [ inl n ↦ absurd (clear x n) | inr e ↦ subst (λ (z : ℕ). Descends (rows_of rows) z top) (sym e) itself ];
+  whole = λ x less d. (marked_set above top x lt).1 (inr (let l = low_end rows low x top d in omega arith));
+}
 
 -- a parent is marked exactly where the class descends
 pub above_set : (rows : List (List ℕ)) (top k : ℕ) (above : List Bool) → AreLow rows → top < k → k < length above → some_marked (slice_index_or rows k []) above ≡ true
     → AboveSoFar rows top above k → AboveSoFar rows top (slice_set above k true) (k + 1)
 above_set rows top k above low gt lt is so = record {
-    sound = λ x m. elim ((marked_set above k x lt).0 m) [
-        inl n ↦ so.sound x n
-      | inr e ↦ (let r = some_is (slice_index_or rows k []) above is in subst (λ (z : ℕ). Descends (rows_of rows) z top) (sym e) (by_parent r.0 r.1 (so.sound r.0 r.2))) ];
-    whole = λ x less d. elim (cases_lt x k) [
-        inl l ↦ (marked_set above k x lt).1 (inl (so.whole x l d))
-      | inr ge ↦ (marked_set above k x lt).1 (inr (omega arith)) ] }
+  sound = λ x m. elim ((marked_set above k x lt).0 m) [
+    | inl n ↦ so.sound x n
+    | inr e ↦ (let r = some_is (slice_index_or rows k []) above is in subst (λ (z : ℕ). Descends (rows_of rows) z top) (sym e) (by_parent r.0 r.1 (so.sound r.0 r.2)))
+  ];
+  whole = λ x less d. elim (cases_lt x k) [
+    | inl l ↦ (marked_set above k x lt).1 (inl (so.whole x l d))
+    | inr ge ↦ (marked_set above k x lt).1 (inr (omega arith))
+  ];
+}
 
 no_parent : (rows : List (List ℕ)) (top x k : ℕ) (above : List Bool) → AreLow rows → x ≡ k → top < k → some_marked (slice_index_or rows k []) above ≡ false → AboveSoFar rows top above k → Descends (rows_of rows) x top → ⊥
 no_parent rows top x k above low e gt is so itself = omega arith
@@ -55,7 +59,9 @@ no_parent rows top x k above low e gt is so (by_parent p m d) =
 pub above_kept : (rows : List (List ℕ)) (top k : ℕ) (above : List Bool) → AreLow rows → top < k → some_marked (slice_index_or rows k []) above ≡ false
     → AboveSoFar rows top above k → AboveSoFar rows top above (k + 1)
 above_kept rows top k above low gt is so = record {
-    sound = so.sound;
-    whole = λ x less d. elim (cases_lt x k) [
-        inl l ↦ so.whole x l d
-      | inr ge ↦ (let e : x ≡ k = omega arith in absurd (no_parent rows top x k above low e gt is so d)) ] }
+  sound = so.sound;
+  whole = λ x less d. elim (cases_lt x k) [
+    | inl l ↦ so.whole x l d
+    | inr ge ↦ (let e : x ≡ k = omega arith in absurd (no_parent rows top x k above low e gt is so d))
+  ];
+}

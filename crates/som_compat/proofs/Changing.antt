@@ -100,9 +100,9 @@ changed_is olds news k (x ∷ xs) (y ∷ ys) n f g e =
     let name = exact_bytes.two _ _ s.0 in
     let in_new : signature news k (entry_name x) ≡ entry_sig news y = ap (signature news k) name ∙ g y (inl refl) in
     let test : same_option same_sig (signature olds k (entry_name x)) (signature news k (entry_name x)) ≡ same_option same_sig (entry_sig olds x) (entry_sig news y) =
-      ap (λ z. same_option same_sig z (signature news k (entry_name x))) (f x (inl refl)) ∙ ap (same_option same_sig (entry_sig olds x)) in_new in
+    ap (λ z. same_option same_sig z (signature news k (entry_name x))) (f x (inl refl)) ∙ ap (same_option same_sig (entry_sig olds x)) in_new in
     same_by olds news (λ name. same_option same_sig (signature olds k name) (signature news k name)) n x y xs ys _ test refl
-      (changed_is olds news k xs ys (n + 1) (λ a m. f a (inr m)) (λ a m. g a (inr m)) s.1)
+    (changed_is olds news k xs ys (n + 1) (λ a m. f a (inr m)) (λ a m. g a (inr m)) s.1)
 
 pub k5_is : (olds news : List ClassFace) (f g : ClassFace) → Conforms (interface olds) → Conforms (interface news) → IsShown olds news f g → first (k4 (shown f) (shown g)) ≡ None
     → first (k5 (classes_of olds) (classes_of news) (shown f)) ≡ first (map (λ p. incompatible 5 (shown f) (Some p.0) p.1) (changed (classes_of olds) (classes_of news) 0 f.entries g.entries))
@@ -112,7 +112,7 @@ k5_is olds news f g old_ok new_ok pair order =
     let key_old : key_at O pair.place ≡ (shown f).key = ap (λ (c : Class). c.key) pair.old_one in
     let key_new : key_at N pair.other ≡ (shown f).key = ap (λ (c : Class). c.key) pair.new_one ∙ pair.same in
     ap (λ z. first (map (λ p. incompatible 5 (shown f) (Some p.0) p.1) z))
-      (changed_is O N (shown f).key f.entries g.entries 0
-        (λ e m. ap (λ k. signature O k (entry_name e)) (sym key_old) ∙ signature_is O (known_of olds old_ok) pair.place e pair.within (subst (λ (c : Class). Mem e c.decl.face.entries) (sym pair.old_one) m))
-        (λ e m. ap (λ k. signature N k (entry_name e)) (sym key_new) ∙ signature_is N (known_of news new_ok) pair.other e pair.other_within (subst (λ (c : Class). Mem e c.decl.face.entries) (sym pair.new_one) m))
-        (map_empty _ _ order))
+    (changed_is O N (shown f).key f.entries g.entries 0
+    (λ e m. ap (λ k. signature O k (entry_name e)) (sym key_old) ∙ signature_is O (known_of olds old_ok) pair.place e pair.within (subst (λ (c : Class). Mem e c.decl.face.entries) (sym pair.old_one) m))
+    (λ e m. ap (λ k. signature N k (entry_name e)) (sym key_new) ∙ signature_is N (known_of news new_ok) pair.other e pair.other_within (subst (λ (c : Class). Mem e c.decl.face.entries) (sym pair.new_one) m))
+    (map_empty _ _ order))

@@ -151,9 +151,13 @@ module _ (cs : List Class) (known : IsKnown cs) where
               let m = row_metaclass d.place d.metaclass lp d.is in
               let marked : Marked marks d.place = subst (λ (z : ℕ). Marked marks z) at d.marked in
               inr (record {
-                class = class_of_place cs d.place; there = mem_place cs d.place lp;
+                class = class_of_place cs d.place;
+                there = mem_place cs d.place lp;
                 above = (descends_test (hierarchy cs) known.tells known.falls x (key_at cs d.place)).0 (sym (above.by d.place lp) ∙ marked);
-                metaclass = key_at cs d.metaclass; declared = m.1; below = one_below d.metaclass m.0 d.below_it }))
+                metaclass = key_at cs d.metaclass;
+                declared = m.1;
+                below = one_below d.metaclass m.0 d.below_it;
+              }))
         ]
 
         of_law : Descends (hierarchy cs) som_class (key_at cs top) ⊎ Declares cs x (key_at cs top) → (slice_index_or below 1 false || some_declares 0 rows marks below) ≡ true
@@ -165,7 +169,7 @@ module _ (cs : List Class) (known : IsKnown cs) where
             let at : r.0 ≡ r.0 + 0 = omega arith in
             let marked : Marked marks r.0 = above.by r.0 r.1 ∙ (descends_test (hierarchy cs) known.tells known.falls x (key_at cs r.0)).1 (subst (λ z. Descends (hierarchy cs) x z) (sym key) d.above) in
             or_right _ _ (declares_one 0 r.0 m.0 rows marks below (in_rows r.0 r.1) (subst (λ (z : ℕ). Marked marks z) at marked) m.1
-              (below_one m.0 m.2 (subst (λ z. Descends (hierarchy cs) z (key_at cs top)) (sym m.3) d.below)))
+            (below_one m.0 m.2 (subst (λ z. Descends (hierarchy cs) z (key_at cs top)) (sym m.3) d.below)))
 
 -- what K6 says of one declared metaclass
 pub k6_none : (cs : List Class) (c : Class) → c.decl.face.metaclass ≡ None → first (k6 cs c) ≡ None

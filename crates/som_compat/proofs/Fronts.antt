@@ -99,18 +99,19 @@ module _ (cs : List Class) (known : IsKnown cs) where
       → Marked marks q ↔ (Marked was q ⊎ Mem (key_at cs q) (take i ks)) → Marked (slice_set marks p true) q ↔ (Marked was q ⊎ Mem (key_at cs q) (take (i + 1) ks))
   keys_more marks was ks i p q k lm lp lq key lk is before =
       let set = marked_set marks p q lm in
-      let more : take (i + 1) ks ≡ take i ks ++ k ∷ [] = next_take ks i k lk is in
-      ((λ m. elim (set.0 m) [
+      let more : take (i + 1) ks ≡ take i ks ++ k ∷ [] = next_take ks i k lk is in (
+        (λ m. elim (set.0 m) [
           | inl n ↦ elim (before.0 n) [ inl o ↦ inl o | inr o ↦ inr (subst (λ z. Mem (key_at cs q) z) (sym more) (mem_left (key_at cs q) (take i ks) (k ∷ []) o)) ]
           | inr e ↦ inr (subst (λ z. Mem (key_at cs q) z) (sym more) (mem_right (key_at cs q) (take i ks) (k ∷ []) (inl (ap (key_at cs) e ∙ key))))
         ]),
-       (λ m. set.1 (elim m [
+        (λ m. set.1 (elim m [
           | inl o ↦ inl (before.1 (inl o))
           | inr o ↦ elim (mem_split (key_at cs q) (take i ks) (k ∷ []) (subst (λ z. Mem (key_at cs q) z) more o)) [
             | inl n ↦ inl (before.1 (inr n))
             | inr n ↦ elim n [ inl e ↦ inr (known.once q p lq lp (e ∙ sym key)) | inr z ↦ absurd z ]
           ]
-        ])))
+        ])),
+      )
 
   module _ (rows : List Row) (are : AreRows cs rows) where
     above_within : (x a : ℕ) → x < length cs → Above rows x a → a < length cs
@@ -191,9 +192,9 @@ module _ (olds news : List Class) (ko : IsKnown olds) (kn : IsKnown news) (c : C
       let ks = c.decl.face.parents in
       let s = splits_at news c.key d ks n e in
       first_mapped (λ p. incompatible 3 c (declared_name p.0) p.1) _ _
-        (lost_at (hierarchy olds) ko.tells ko.falls (is_a news c.key) c.key (slice_index_or ks n d) (take n ks) s.back (parents_are ∙ s.parts) ((new_is c.key c.key).1 itself) s.lost
-          (λ a m. (let r = joined_mem (ancestors olds) a (take n ks) m in
-              kept_above r.0 a (subst (λ (z : List ClassKey). Mem r.0 z) (sym s.parts) (mem_left r.0 (take n ks) _ r.1)) (s.front r.0 r.1) r.2)))
+      (lost_at (hierarchy olds) ko.tells ko.falls (is_a news c.key) c.key (slice_index_or ks n d) (take n ks) s.back (parents_are ∙ s.parts) ((new_is c.key c.key).1 itself) s.lost
+      (λ a m. (let r = joined_mem (ancestors olds) a (take n ks) m in
+      kept_above r.0 a (subst (λ (z : List ClassKey). Mem r.0 z) (sym s.parts) (mem_left r.0 (take n ks) _ r.1)) (s.front r.0 r.1) r.2)))
 
   same_told : (o o2 : Option (List ℕ)) (p p2 : ℕ) → o ≡ o2 → p ≡ p2 → incompatible 3 c o2 p2 ≡ incompatible 3 c o p
   same_told o o2 p p2 e g = ap (λ z. incompatible 3 c z p2) (sym e) ∙ ap (λ z. incompatible 3 c o z) (sym g)

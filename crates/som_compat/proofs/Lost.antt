@@ -100,8 +100,8 @@ module _ {A : Type 0} (same : A → A → Bool) (one : (x : A) → same x x ≡ 
       let more = adds_prefix xs (seen ++ p ∷ []) in
       let n : 0 + length seen ≡ length seen = omega arith in
       ap (λ z. first (failing test 0 z)) (
-        ap (λ z. adds same z xs) (new_end (some (same p) seen) p seen refl (λ m. true≢false (sym (f p m) ∙ is)))
-        ∙ more.1 ∙ append_assoc seen (p ∷ []) more.0)
+      ap (λ z. adds same z xs) (new_end (some (same p) seen) p seen refl (λ m. true≢false (sym (f p m) ∙ is)))
+      ∙ more.1 ∙ append_assoc seen (p ∷ []) more.0)
       ∙ ap first (past test 0 seen (p ∷ more.0) f)
       ∙ fails_here test (0 + length seen) p more.0 is
       ∙ ap (λ k. Some (p, k)) n
@@ -117,12 +117,12 @@ module _ {K : Type 0} (h : Hierarchy K) (tells : Tells h) (falls : Falls h) wher
       let b = begins p in
       let seen = adds h.same (x ∷ []) (joined (map (anc h) front)) in
       ap (λ z. first (failing test 0 z)) (
-        ancestors_step h falls x ∙ firsts_adds h.same tells.one tells.two (x ∷ joined (map (anc h) (h.parents x)))
-        ∙ ap (λ (z : List K). adds h.same (x ∷ []) (joined (map (anc h) z))) is_parents
-        ∙ ap (λ (z : List (List K)). adds h.same (x ∷ []) (joined z)) (map_append (anc h) front (p ∷ back))
-        ∙ ap (adds h.same (x ∷ [])) (joined_append (map (anc h) front) (anc h p ∷ map (anc h) back))
-        ∙ adds_both h.same (joined (map (anc h) front)) (anc h p ++ joined (map (anc h) back)) (x ∷ [])
-        ∙ ap (λ (z : List K). adds h.same seen (z ++ joined (map (anc h) back))) b.1)
+      ancestors_step h falls x ∙ firsts_adds h.same tells.one tells.two (x ∷ joined (map (anc h) (h.parents x)))
+      ∙ ap (λ (z : List K). adds h.same (x ∷ []) (joined (map (anc h) z))) is_parents
+      ∙ ap (λ (z : List (List K)). adds h.same (x ∷ []) (joined z)) (map_append (anc h) front (p ∷ back))
+      ∙ ap (adds h.same (x ∷ [])) (joined_append (map (anc h) front) (anc h p ∷ map (anc h) back))
+      ∙ adds_both h.same (joined (map (anc h) front)) (anc h p ++ joined (map (anc h) back)) (x ∷ [])
+      ∙ ap (λ (z : List K). adds h.same seen (z ++ joined (map (anc h) back))) b.1)
       ∙ found_at h.same tells.one tells.two test p seen (b.0 ++ joined (map (anc h) back)) is (λ a m. elim (adds_from h.same tells.one tells.two a (joined (map (anc h) front)) (x ∷ []) m) [
         | inl n ↦ elim n [ inl e ↦ ap test e ∙ keeps | inr z ↦ absurd z ]
         | inr n ↦ f a n
@@ -176,10 +176,16 @@ split_by : (cs : List Class) (x k d : ClassKey) (ks : List ClassKey) (m n : ℕ)
     → (lost_from cs x (m + 1) ks ≡ Some n → (m + 1 ≤ n) × SplitsAt cs x ks (n - (m + 1)) d) → (m ≤ n) × SplitsAt cs x (k ∷ ks) (n - m) d
 split_by cs x k d ks m n true t e f =
     let r = f e in
-    let at : n - m ≡ suc (n - (m + 1)) = omega (arith, r.0) in
-    (omega (arith, r.0), rw at (record {
-      back = r.1.back; within = omega (arith, r.1.within); parts = ap (λ z. k ∷ z) r.1.parts;
-      front = λ a y. elim y [ inl g ↦ ap (is_a cs x) g ∙ t | inr g ↦ r.1.front a g ]; lost = r.1.lost }))
+    let at : n - m ≡ suc (n - (m + 1)) = omega (arith, r.0) in (
+      omega (arith, r.0),
+      rw at (record {
+        back = r.1.back;
+        within = omega (arith, r.1.within);
+        parts = ap (λ z. k ∷ z) r.1.parts;
+        front = λ a y. elim y [ inl g ↦ ap (is_a cs x) g ∙ t | inr g ↦ r.1.front a g ];
+        lost = r.1.lost;
+      }),
+    )
 split_by cs x k d ks m n false t e f =
     let same : m ≡ n = cc in
     let at : n - m ≡ 0 = omega arith in

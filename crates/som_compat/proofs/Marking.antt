@@ -23,7 +23,8 @@ take_more (x ∷ xs) (suc i) d k lt =
     let e : suc i + 1 ≡ suc (i + 1) = omega arith in
     rw e (
       (λ m. elim m [ inl e ↦ inl (inl e) | inr n ↦ (elim (more.0 n) [ inl h ↦ inl (inr h) | inr h ↦ inr h ]) ]),
-      (λ m. elim m [ inl n ↦ (elim n [ inl e ↦ inl e | inr h ↦ inr (more.1 (inl h)) ]) | inr h ↦ inr (more.1 (inr h)) ]))
+      (λ m. elim m [ inl n ↦ (elim n [ inl e ↦ inl e | inr h ↦ inr (more.1 (inl h)) ]) | inr h ↦ inr (more.1 (inr h)) ]),
+    )
 
 pub marked_set : (marks : List Bool) (p k : ℕ) → p < length marks → Marked (slice_set marks p true) k ↔ (Marked marks k ⊎ (k ≡ p))
 marked_set [] p k lt = absurd (omega arith)
@@ -31,9 +32,10 @@ marked_set (m ∷ ms) zero zero lt = (λ h. inr refl, λ h. refl)
 marked_set (m ∷ ms) zero (suc k) lt = (λ h. inl h, λ h. elim h [ inl n ↦ n | inr e ↦ absurd (omega arith) ])
 marked_set (m ∷ ms) (suc p) zero lt = (λ h. inl h, λ h. elim h [ inl n ↦ n | inr e ↦ absurd (omega arith) ])
 marked_set (m ∷ ms) (suc p) (suc k) lt =
-    let more = marked_set ms p k (omega arith) in
-    ((λ h. elim (more.0 h) [ inl n ↦ inl n | inr e ↦ inr (ap suc e) ]),
-     (λ h. elim h [ inl n ↦ more.1 (inl n) | inr e ↦ more.1 (inr (omega arith)) ]))
+    let more = marked_set ms p k (omega arith) in (
+      (λ h. elim (more.0 h) [ inl n ↦ inl n | inr e ↦ inr (ap suc e) ]),
+      (λ h. elim h [ inl n ↦ more.1 (inl n) | inr e ↦ more.1 (inr (omega arith)) ]),
+    )
 
 pub none_marked : (n k : ℕ) → Marked (replicate n false) k → ⊥
 none_marked zero k m = true≢false (sym m)

@@ -231,8 +231,8 @@ module _ (cs : List Class) (known : IsKnown cs) where
 
       not_declared : (zs : List ClassKey) (a : ClassKey) → IsDeclared a → a ≡ keys.Derived zs → ⊥
       not_declared zs a d e = true≢false (
-        sym (ap is_named (out_named d.module_ d.name)) ∙ ap (λ z. is_named (out-ClassKey z)) (sym d.is ∙ e)
-        ∙ ap is_named (ap out-ClassKey (sym (rolls-Derived zs)) ∙ out-roll-ClassKey (ClassKey-F.Derived zs)))
+          sym (ap is_named (out_named d.module_ d.name)) ∙ ap (λ z. is_named (out-ClassKey z)) (sym d.is ∙ e)
+          ∙ ap is_named (ap out-ClassKey (sym (rolls-Derived zs)) ∙ out-roll-ClassKey (ClassKey-F.Derived zs)))
 
       down : (a b : ClassKey) → a ≡ keys.Derived (x ∷ y ∷ ks) → IsDeclared b → Descends h a b → (c : ClassKey) × Mem c (x ∷ y ∷ ks) × Descends h c b
       down a b is dec itself = absurd (not_declared (x ∷ y ∷ ks) a dec is)
@@ -323,15 +323,16 @@ module _ (cs : List Class) (known : IsKnown cs) where
         let in_all = mem_firsts h known.tells (meta_within cs lv p.0) (candidates lv x) (from_parent lv x p.0 p.1) in
         let same : firsts h.same (candidates lv x) ≡ firsts same_key (candidates lv x) = firsts_same (candidates lv x) in
         let s = stays_above (firsts same_key (candidates lv x)) (meta_within cs lv p.0) (subst (λ z. Mem (meta_within cs lv p.0) z) same in_all) in
-        let one = made_descends (lowest cs (firsts same_key (candidates lv x))) s.0 n s.1 dec in
-        (λ d. let c = one.0 d in
-            elim (mem_split c.0 (declared_in (class_at cs x)) (map (meta_within cs lv) (parents_of cs x)) (firsts_mem same_key c.0 (candidates lv x) (without_mem (is_above cs (firsts same_key (candidates lv x))) c.0 (firsts same_key (candidates lv x)) c.1))) [
-              | inl md ↦ inr (x, c.0, itself, md, c.2)
-              | inr mp ↦ (let q = map_mem (meta_within cs lv) c.0 (parents_of cs x) mp in up x q.0 (of_parents x q.0 q.1) ((f q.0 (of_parents x q.0 q.1)).0 (subst (λ z. Descends h z n) q.2 c.2)))
-            ],
-        λ r. let c = candidate lv x high f r in
-            let t = stays_above (firsts same_key (candidates lv x)) c.0 (subst (λ z. Mem c.0 z) same (mem_firsts h known.tells c.0 (candidates lv x) c.1)) in
-            one.1 (t.0, t.1, descends_through h t.0 c.0 n t.2 c.2))
+        let one = made_descends (lowest cs (firsts same_key (candidates lv x))) s.0 n s.1 dec in (
+          λ d. let c = one.0 d in
+              elim (mem_split c.0 (declared_in (class_at cs x)) (map (meta_within cs lv) (parents_of cs x)) (firsts_mem same_key c.0 (candidates lv x) (without_mem (is_above cs (firsts same_key (candidates lv x))) c.0 (firsts same_key (candidates lv x)) c.1))) [
+                | inl md ↦ inr (x, c.0, itself, md, c.2)
+                | inr mp ↦ (let q = map_mem (meta_within cs lv) c.0 (parents_of cs x) mp in up x q.0 (of_parents x q.0 q.1) ((f q.0 (of_parents x q.0 q.1)).0 (subst (λ z. Descends h z n) q.2 c.2)))
+              ],
+          λ r. let c = candidate lv x high f r in
+              let t = stays_above (firsts same_key (candidates lv x)) c.0 (subst (λ z. Mem c.0 z) same (mem_firsts h known.tells c.0 (candidates lv x) c.1)) in
+              one.1 (t.0, t.1, descends_through h t.0 c.0 n t.2 c.2),
+        )
 
     within : (lv : ℕ) (x : ClassKey) → h.height x ≤ lv → Descends h (meta_within cs lv x) n ↔ Reaches x n
     within zero x le =
@@ -356,6 +357,7 @@ module _ (cs : List Class) (known : IsKnown cs) where
       (d.class.key, d.metaclass, d.above, subst (λ (o : Option Class). Mem d.metaclass (declared_in o)) (sym at) (subst (λ (o : Option ClassKey). Mem d.metaclass (option_list o)) (sym d.declared) (inl refl)), d.below)
 
   pub meta_law : (x n : ClassKey) → IsDeclared n → Descends h (meta cs x) n ↔ (Descends h som_class n ⊎ Declares cs x n)
-  meta_law x n dec =
-      (λ d. elim ((meta_reaches n dec x).0 d) [ inl r ↦ inl r | inr (d, c, e, md, dc) ↦ inr (to_declares x n d c (class_at cs d) refl e md dc) ],
-       λ r. (meta_reaches n dec x).1 (elim r [ inl e ↦ inl e | inr d ↦ inr (of_declares x n d) ]))
+  meta_law x n dec = (
+    λ d. elim ((meta_reaches n dec x).0 d) [ inl r ↦ inl r | inr (d, c, e, md, dc) ↦ inr (to_declares x n d c (class_at cs d) refl e md dc) ],
+    λ r. (meta_reaches n dec x).1 (elim r [ inl e ↦ inl e | inr d ↦ inr (of_declares x n d) ]),
+  )

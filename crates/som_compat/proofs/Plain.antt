@@ -203,10 +203,10 @@ module _ (old new : Interface) (old_ok : Conforms old) (new_ok : Conforms new) w
       let n = a.class in
       let p : IsPair old new c n = record { old_one = m; new_one = a.there; same = a.named } in
       none_breaks c n (class_at N c.key) refl (is_pair c n p)
-        (none_if _ _ (ok_version _ _ _ _ (k.major c n p) (k.minor c n p)))
-        (empty_map _ _ (fails_none (is_a N c.key) 0 (ancestors O c.key) (λ x x_in. (descends_new c.key x).1 (k.ancestors c x m ((old_ancestor c.key x).0 x_in)))))
-        (empty_map _ _ (strays_none 0 (order_of c) (order_of n) (λ i x at. k.places c n i x p at)))
-        (empty_map _ _ (fails_none (λ x. same_option same_sig (signature O c.key x) (signature N c.key x)) 0 (order_of c)
-          (λ x x_in. ap (same_option same_sig (signature O c.key x)) (sym (k.signatures c x m x_in)) ∙ sigs.one (signature O c.key x))))
-        (empty_map _ _ (fails_none (is_a N (meta N c.key)) 0 (option_list c.decl.face.metaclass)
-          (λ x x_in. (descends_new (meta N c.key) x).1 (k.metaclasses c x m (option_mem c.decl.face.metaclass x x_in))))))
+      (none_if _ _ (ok_version _ _ _ _ (k.major c n p) (k.minor c n p)))
+      (empty_map _ _ (fails_none (is_a N c.key) 0 (ancestors O c.key) (λ x x_in. (descends_new c.key x).1 (k.ancestors c x m ((old_ancestor c.key x).0 x_in)))))
+      (empty_map _ _ (strays_none 0 (order_of c) (order_of n) (λ i x at. k.places c n i x p at)))
+      (empty_map _ _ (fails_none (λ x. same_option same_sig (signature O c.key x) (signature N c.key x)) 0 (order_of c)
+      (λ x x_in. ap (same_option same_sig (signature O c.key x)) (sym (k.signatures c x m x_in)) ∙ sigs.one (signature O c.key x))))
+      (empty_map _ _ (fails_none (is_a N (meta N c.key)) 0 (option_list c.decl.face.metaclass)
+      (λ x x_in. (descends_new (meta N c.key) x).1 (k.metaclasses c x m (option_mem c.decl.face.metaclass x x_in))))))

@@ -125,8 +125,13 @@ module _ (old mid new : Interface) (old_ok : Conforms old) (mid_ok : Conforms mi
             elim ((meta_law N kn e.class.key e.metaclass (among_declared M km e.metaclass f_in)).0 (b.metaclasses e.class e.metaclass e_in e.declared)) [
               | inl r ↦ (meta_law N kn c.key d is_declared).1 (inl (descends_through hn som_class e.metaclass d r fd))
               | inr g ↦ (meta_law N kn c.key d is_declared).1 (inr (record {
-                  class = g.class; there = g.there; above = descends_through hn c.key e.class.key g.class.key ce g.above;
-                  metaclass = g.metaclass; declared = g.declared; below = descends_through hn g.metaclass e.metaclass d g.below fd }))
+                class = g.class;
+                there = g.there;
+                above = descends_through hn c.key e.class.key g.class.key ce g.above;
+                metaclass = g.metaclass;
+                declared = g.declared;
+                below = descends_through hn g.metaclass e.metaclass d g.below fd;
+              }))
             ])
       ]
 

@@ -13,13 +13,22 @@ pub const PAIRS: [&[Pair]; 7] = [
 ];
 
 const ZOO1: &str = "class Animal, is SOMObject, new eat void; class Dog, is Animal, new speak void";
-const ZOO2: &str = "class Animal, is SOMObject, new eat void; class Pet, is Animal; class Dog, is Pet, new speak void, new fetch void";
-const ZOO3: &str = "class Animal, is SOMObject, new eat void, new speak void; class Dog, is Animal, moved speak Animal";
-const ZOO4: &str = "class Animal, is SOMObject, new eat void, new speak void long; class Dog, is Animal, moved speak Animal";
-const ZOO5: &str = "class Animal, is SOMObject, new eat void; class Log, is SOMMBeforeAfter; class Dog, is Animal, made by Log, new speak void";
+
+const ZOO2: &str =
+    "class Animal, is SOMObject, new eat void; class Pet, is Animal; class Dog, is Pet, new speak void, new fetch void";
+
+const ZOO3: &str =
+    "class Animal, is SOMObject, new eat void, new speak void; class Dog, is Animal, moved speak Animal";
+
+const ZOO4: &str =
+    "class Animal, is SOMObject, new eat void, new speak void long; class Dog, is Animal, moved speak Animal";
+
+const ZOO5: &str =
+    "class Animal, is SOMObject, new eat void; class Log, is SOMMBeforeAfter; class Dog, is Animal, made by Log, new speak void";
 
 // Three classes in a row, each with two methods.
-const THREE: &str = "class A, is SOMObject, new a void, new b void; class B, is A, new c void, new d void; class C, is B, new e void, new f void";
+const THREE: &str =
+    "class A, is SOMObject, new a void, new b void; class B, is A, new c void, new d void; class C, is B, new e void, new f void";
 
 const CLASSES: [Pair; 8] = [
     ("nothing before", "", ZOO1, "none"),
@@ -27,7 +36,12 @@ const CLASSES: [Pair; 8] = [
     ("the same", ZOO2, ZOO2, "none"),
     ("a class between, and a method more", ZOO1, ZOO2, "none"),
     ("a method that moved up", ZOO1, ZOO3, "none"),
-    ("a class in the middle that is gone", ZOO2, ZOO3, "K1 Pet - 0"),
+    (
+        "a class in the middle that is gone",
+        ZOO2,
+        ZOO3,
+        "K1 Pet - 0",
+    ),
     (
         "the last class that is gone",
         THREE,
@@ -178,7 +192,12 @@ const ORDERS: [Pair; 7] = [
 ];
 
 const SIGNATURES: [Pair; 11] = [
-    ("another signature of a moved entry", ZOO1, ZOO4, "K5 Dog speak 0"),
+    (
+        "another signature of a moved entry",
+        ZOO1,
+        ZOO4,
+        "K5 Dog speak 0",
+    ),
     (
         "another result",
         "class A, is SOMObject, new a void, new b long",

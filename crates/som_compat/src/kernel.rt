@@ -187,7 +187,10 @@ fn is_kernel_class(key: &ClassKey, expected: &[u8]) -> bool
     ensures { result ≡ same_key key.now (kernel_key expected.now) }
 {
     match key {
-        ClassKey::Named { module: Module::Kernel, name } => name.is(expected),
+        ClassKey::Named {
+            module: Module::Kernel,
+            name,
+        } => name.is(expected),
         _ => false,
     }
 }

@@ -164,7 +164,11 @@ fn first_breach(alloc: Global, old: &str, new: &str) -> Result<String, Fail> {
 fn the_first_breach_of_a_pair_is_told(rt: HostRuntime) -> Result<(), Fail> {
     for pairs in PAIRS {
         for (what, old, new, want) in pairs {
-            assert_eq!(rt; first_breach(rt.alloc(), old, new)?.as_str(), *want, "{what}");
+            assert_eq!(rt;
+                first_breach(rt.alloc(), old, new)?.as_str(),
+                *want,
+                "{what}"
+            );
         }
     }
     Ok(())

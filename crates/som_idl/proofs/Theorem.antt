@@ -1,8 +1,8 @@
 -- What reading a whole file comes to, in the grammar's words.
-use Rattle.std.proofs.Common.{◌≡◌, ◌≢◌, ℕ, ◌-◌, List, [], length, get_or, true, false, Result, Ok, Err, refl, sym, ◌∙◌, ap, subst}
+use Rattle.std.proofs.Common.{◌≡◌, ◌≢◌, ℕ, ◌-◌, List, [], length, get_or, Bool, true, false, Result, Ok, Err, refl, sym, ◌∙◌, ap, subst}
 use Rattle.som_lex.specs.declared.token.Tokens.{Tokens}
 use Rattle.som_read.specs.Faults.{IsFirstFault, seen_at}
-use Rattle.som_read.specs.Readers.{repeated}
+use Rattle.som_read.specs.Readers.{Outcome, repeated}
 use Rattle.som_read.specs.Seen.{seen, places_from, text_at}
 use Rattle.som_read.specs.Tokens.{head}
 use Rattle.som_read.specs.declared.cursor.Stop.{Stop}
@@ -64,3 +64,17 @@ module _ (t : Tokens) where
   one_answer a (Err (faults.Nesting k)) x y p q = absurd y
   one_answer (Err faults.NoMemory) b x y p q = absurd (p refl)
   one_answer a (Err faults.NoMemory) x y p q = absurd (q refl)
+
+  -- ---- some answer
+  told_as : (k : ℕ) (b : Bool) → IsFirstFault (g.IsFile (text_at t)) t k → is_refused (seen_at t k) ≡ b → (a : Result IdlFile SyntaxFault) × IsAnswer t a × (a ≢ Err faults.NoMemory)
+  told_as k true f e = (Err (faults.NotInProfile k), (f, e), λ same. cc)
+  told_as k false f e = (Err (faults.Syntax k), (f, e), λ same. cc)
+
+  answered : (o : Outcome IdlFile) → r.file (text_at t) (seen t) ≡ o → (a : Result IdlFile SyntaxFault) × IsAnswer t a × (a ≢ Err faults.NoMemory)
+  answered (Ok x) e = (Ok x.0, text_read (seen t) x.1 x.0 refl e, λ same. cc)
+  answered (Err x) e =
+      let k : ℕ = get_or (places_from t.source 0 t.list) (length (seen t) - length x.1) (length t.list) in
+      told_as k (is_refused (seen_at t k)) (fault_told (seen t) x.1 (places_from t.source 0 t.list) x.0 k refl refl refl e).0 refl
+
+  pub some_answer : (a : Result IdlFile SyntaxFault) × IsAnswer t a × (a ≢ Err faults.NoMemory)
+  some_answer = answered (r.file (text_at t) (seen t)) refl

@@ -20,3 +20,8 @@ pub fn one_tree()
 pub fn one_answer()
     ensures { (t : Tokens) (a b : Result IdlFile SyntaxFault) → IsAnswer t a → IsAnswer t b → a ≢ Err faults.NoMemory → b ≢ Err faults.NoMemory → a ≡ b }
 {}
+
+/// Each list of tokens has an answer that isn't want of memory.
+pub fn some_answer()
+    ensures { (t : Tokens) → (a : Result IdlFile SyntaxFault) × IsAnswer t a × (a ≢ Err faults.NoMemory) }
+{}

@@ -16,7 +16,7 @@ mod parse;
 mod tests;
 mod tree;
 
-pub use laws::{one_answer, one_tree};
+pub use laws::{one_answer, one_tree, some_answer};
 pub use parse::parse_idl;
 pub use som_read::{SyntaxFault, TypeName, Word};
 pub use tree::{Export, IdlFile, IdlInterface, Item, Modifier, Param};

@@ -24,7 +24,7 @@ returns-in-None c =
     let news = c.args.new.now.faces.now in
     let x = (shown c.args.class.now).key in
     sym (k3_none (classes_of olds) (classes_of news) (known_of olds c.requires.old.conforms) (known_of news c.requires.new) (shown c.args.class.now) (c.args.place + 4) c.requires.place c.requires.class c.requires.earlier
-      (sym (c.in-None.ensures.first x c.requires.known c.requires.marks ∙ ap (lost_from (classes_of news) x 0) c.as_slice-parents.ensures)))
+    (sym (c.in-None.ensures.first x c.requires.known c.requires.marks ∙ ap (lost_from (classes_of news) x 0) c.as_slice-parents.ensures)))
 
 pub returns-in-Some : goal.returns-in-Some
 returns-in-Some c =
@@ -34,9 +34,9 @@ returns-in-Some c =
     let n = c.in-Some.number in
     let items = c.as_slice-parents.ensures in
     sym (k3_some (classes_of olds) (classes_of news) (known_of olds c.requires.old.conforms) (known_of news c.requires.new) (shown c.args.class.now) (c.args.place + 4) c.requires.place c.requires.class c.requires.earlier
-      n c.index-parents-number.result _ _
-      (sym (c.in-Some.ensures.first x c.requires.known c.requires.marks ∙ ap (lost_from (classes_of news) x 0) items))
-      (c.declared_text.ensures ∙ (ap declared_name c.index-parents-number.is ∙ ap (λ (z : List ClassKey). declared_name (slice_index_or z n c.index-parents-number.result)) items))
-      (c.count_before.ensures.is
-        ∙ (ap (λ (z : Class). length (adds same_key (z.key ∷ []) (joined (map (ancestors (classes_of olds)) (take n c.as_slice-parents.result.now))))) c.requires.class
-        ∙ ap (λ (z : List ClassKey). length (adds same_key (x ∷ []) (joined (map (ancestors (classes_of olds)) (take n z))))) items)))
+    n c.index-parents-number.result _ _
+    (sym (c.in-Some.ensures.first x c.requires.known c.requires.marks ∙ ap (lost_from (classes_of news) x 0) items))
+    (c.declared_text.ensures ∙ (ap declared_name c.index-parents-number.is ∙ ap (λ (z : List ClassKey). declared_name (slice_index_or z n c.index-parents-number.result)) items))
+    (c.count_before.ensures.is
+    ∙ (ap (λ (z : Class). length (adds same_key (z.key ∷ []) (joined (map (ancestors (classes_of olds)) (take n c.as_slice-parents.result.now))))) c.requires.class
+    ∙ ap (λ (z : List ClassKey). length (adds same_key (x ∷ []) (joined (map (ancestors (classes_of olds)) (take n z))))) items)))

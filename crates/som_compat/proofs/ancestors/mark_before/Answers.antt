@@ -22,7 +22,7 @@ pub mark_reached-requires-clause-before : goal.mark_reached-requires-clause-befo
 mark_reached-requires-clause-before c = λ k m.
     let fs = c.args.view.now.lookup.faces.now in
     (starts_before (classes_of fs) (known_of fs c.requires.view.conforms) c.args.view.now.rows.now c.requires.view.rows c.args.own c.args.front.now c.args.marks.now c.mark_keys.new.marks
-      c.requires.own c.requires.front c.requires.clear c.mark_keys.ensures.within c.mark_keys.ensures.past k m).0
+    c.requires.own c.requires.front c.requires.clear c.mark_keys.ensures.within c.mark_keys.ensures.past k m).0
 
 pub bounds-marks-own : goal.bounds-marks-own
 bounds-marks-own c =
@@ -36,4 +36,4 @@ returns c =
     let h = c.mark_keys.auto.marks in let j = c.mark_reached.auto.marks in let w = c.requires.long in let o = c.requires.own in
     let lm : c.args.own < length c.mark_reached.new.marks = omega (arith, e, f, h, j, w, o) in
     is_front (classes_of fs) (known_of fs c.requires.view.conforms) c.args.view.now.rows.now c.requires.view.rows c.args.own c.args.front.now c.args.marks.now c.mark_keys.new.marks c.mark_reached.new.marks
-      c.requires.own lm c.requires.front c.requires.clear c.mark_keys.ensures.within c.mark_keys.ensures.past c.mark_reached.ensures
+    c.requires.own lm c.requires.front c.requires.clear c.mark_keys.ensures.within c.mark_keys.ensures.past c.mark_reached.ensures

@@ -15,9 +15,11 @@ loop-p-preserved c =
     let lt : slice_index_or c.args.row.now c.loop-p.p-index 0 < length c.loop-p.marks = omega (arith, h) in
     record {
       marked = λ k.
-        let was = c.loop-p.invariant.marked k in
-        let set = marked_set c.loop-p.marks (slice_index_or c.args.row.now c.loop-p.p-index 0) k lt in
-        let more = take_more c.args.row.now c.loop-p.p-index 0 k c.loop-p-test.true in
-        (λ m. elim (set.0 m) [ inl n ↦ (elim (was.0 n) [ inl o ↦ inl o | inr o ↦ inr (more.1 (inl o)) ]) | inr e ↦ inr (more.1 (inr e)) ],
-         λ m. set.1 (elim m [ inl o ↦ inl (was.1 (inl o)) | inr o ↦ (elim (more.0 o) [ inl n ↦ inl (was.1 (inr n)) | inr e ↦ inr e ]) ]));
-      long = grind (arith, common_steps) }
+          let was = c.loop-p.invariant.marked k in
+          let set = marked_set c.loop-p.marks (slice_index_or c.args.row.now c.loop-p.p-index 0) k lt in
+          let more = take_more c.args.row.now c.loop-p.p-index 0 k c.loop-p-test.true in (
+            λ m. elim (set.0 m) [ inl n ↦ (elim (was.0 n) [ inl o ↦ inl o | inr o ↦ inr (more.1 (inl o)) ]) | inr e ↦ inr (more.1 (inr e)) ],
+            λ m. set.1 (elim m [ inl o ↦ inl (was.1 (inl o)) | inr o ↦ (elim (more.0 o) [ inl n ↦ inl (was.1 (inr n)) | inr e ↦ inr e ]) ]),
+          );
+      long = grind (arith, common_steps);
+    }

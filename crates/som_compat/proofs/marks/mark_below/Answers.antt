@@ -17,9 +17,10 @@ loop-place-preserved c =
     let so : AboveSoFar (lists_of c.args.rows.now) c.args.top c.loop-place.marks c.loop-place.place = record { sound = i.sound; whole = i.whole } in
     let test = sym (ap (λ (z : List ℕ). some_marked z c.loop-place.marks) e) ∙ sym c.is_any_marked.ensures in
     elim c.if-is_any_marked.branch [
-      then-is_any_marked w ↦ rw w.marks-is (
-        let r = above_set (lists_of c.args.rows.now) c.args.top c.loop-place.place c.loop-place.marks c.requires.low (omega arith) (omega (arith, i.long)) (test ∙ w.if-is_any_marked.true) so in
-        record { sound = r.sound; whole = r.whole; long = grind (arith, common_steps) })
-    | else-is_any_marked w ↦ rw w.marks-is (
-        let r = above_kept (lists_of c.args.rows.now) c.args.top c.loop-place.place c.loop-place.marks c.requires.low (omega arith) (test ∙ w.if-is_any_marked.false) so in
-        record { sound = r.sound; whole = r.whole; long = i.long }) ]
+      | then-is_any_marked w ↦ rw w.marks-is (
+          let r = above_set (lists_of c.args.rows.now) c.args.top c.loop-place.place c.loop-place.marks c.requires.low (omega arith) (omega (arith, i.long)) (test ∙ w.if-is_any_marked.true) so in
+          record { sound = r.sound; whole = r.whole; long = grind (arith, common_steps) })
+      | else-is_any_marked w ↦ rw w.marks-is (
+          let r = above_kept (lists_of c.args.rows.now) c.args.top c.loop-place.place c.loop-place.marks c.requires.low (omega arith) (test ∙ w.if-is_any_marked.false) so in
+          record { sound = r.sound; whole = r.whole; long = i.long })
+    ]

@@ -12,9 +12,9 @@ returns-in-None c = sym (k6_none (classes_of c.args.new.now.lookup.faces.now) (s
 pub returns-then-metaclass_descends : goal.returns-then-metaclass_descends
 returns-then-metaclass_descends c =
     sym (k6_kept (classes_of c.args.new.now.lookup.faces.now) (shown c.args.class.now) c.in-Some.key c.in-Some.is
-      (sym (c.metaclass_descends.ensures (shown c.args.class.now).key c.requires.known c.requires.marks) ∙ c.if-metaclass_descends.true))
+    (sym (c.metaclass_descends.ensures (shown c.args.class.now).key c.requires.known c.requires.marks) ∙ c.if-metaclass_descends.true))
 
 pub returns-else-metaclass_descends : goal.returns-else-metaclass_descends
 returns-else-metaclass_descends c =
     sym (k6_lost (classes_of c.args.new.now.lookup.faces.now) (shown c.args.class.now) c.in-Some.key _ c.in-Some.is
-      (sym (c.metaclass_descends.ensures (shown c.args.class.now).key c.requires.known c.requires.marks) ∙ c.if-metaclass_descends.false) c.declared_text.ensures)
+    (sym (c.metaclass_descends.ensures (shown c.args.class.now).key c.requires.known c.requires.marks) ∙ c.if-metaclass_descends.false) c.declared_text.ensures)

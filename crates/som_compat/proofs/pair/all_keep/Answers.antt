@@ -17,7 +17,7 @@ returns-in_err-class_keeps c =
     let p = err_from_is_err_and c.from_residual.result c.from_residual.ensures.1 in
     let b = told c.in_err-class_keeps.field-0.0 in
     rw (p.1, p.2) (stops (F (shown x)) (flat_map F (map shown (drop (i + 1) xs))) b c.in_err-class_keeps.ensures
-      ∙ (ap first (sym (step_list F xs i x c.loop-place-test.true c.class_at.ensures)) ∙ c.loop-place.invariant.same))
+    ∙ (ap first (sym (step_list F xs i x c.loop-place-test.true c.class_at.ensures)) ∙ c.loop-place.invariant.same))
 
 pub loop-place-preserved : goal.loop-place-preserved
 loop-place-preserved c =

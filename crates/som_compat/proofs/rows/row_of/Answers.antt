@@ -10,7 +10,7 @@ pub known_place-requires : goal.known_place-requires
 known_place-requires c =
     let items = c.as_slice-parent-items.ensures in
     c.requires.parents c.parent-item.result (subst (λ (z : List ClassKey). Mem c.parent-item.result z) items
-      (mem_at c.as_slice-parent-items.result.now c.loop-parent.parent-index c.parent-item.result c.loop-parent-test.true c.parent-item.is))
+    (mem_at c.as_slice-parent-items.result.now c.loop-parent.parent-index c.parent-item.result c.loop-parent-test.true c.parent-item.is))
 
 pub loop-parent-preserved : goal.loop-parent-preserved
 loop-parent-preserved c =

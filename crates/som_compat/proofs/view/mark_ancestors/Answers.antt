@@ -25,4 +25,4 @@ returns c =
     let e = long_classes fs in let f = c.requires.view.conforms.classes in
     let set = λ (k : ℕ). marked_set c.args.marks.now c.args.place k (omega (arith, e, f)) in
     are_above (classes_of fs) (known_of fs c.requires.view.conforms) c.args.view.now.rows.now c.requires.view.rows c.args.place (slice_set c.args.marks.now c.args.place true) c.mark_reached.new.marks
-      c.requires.place ((set c.args.place).1 (inr refl)) (λ k m. elim ((set k).0 m) [ inl n ↦ absurd (c.requires.clear k n) | inr n ↦ n ]) c.mark_reached.ensures
+    c.requires.place ((set c.args.place).1 (inr refl)) (λ k m. elim ((set k).0 m) [ inl n ↦ absurd (c.requires.clear k n) | inr n ↦ n ]) c.mark_reached.ensures

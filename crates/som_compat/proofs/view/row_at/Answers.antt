@@ -22,4 +22,3 @@ row_of-requires-clause-metaclass c = λ k is.
     let e = long_classes fs in
     let lt : c.args.place < length (classes_of fs) = omega (arith, e) in
     metaclass_among (classes_of fs) (known_of fs c.requires.conforms) c.args.place k lt (ap (λ (z : Class). z.decl.face.metaclass) c.face.ensures ∙ is)
-
