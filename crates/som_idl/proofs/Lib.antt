@@ -1,0 +1,6 @@
+pub mod NameLaws
+pub mod ItemLaws
+pub mod FileLaws
+pub mod NameFound
+pub mod ItemFound
+pub mod FileFound

@@ -1,0 +1,11 @@
+pub mod Digits
+pub mod Classes
+pub mod Runs
+pub mod Inverted
+pub mod Longest
+pub mod Signs
+pub mod Literals
+pub mod Comments
+pub mod Fronts
+pub mod Steps
+pub mod Spans

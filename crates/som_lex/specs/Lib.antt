@@ -1,0 +1,9 @@
+pub mod Alphabet
+pub mod Values
+pub mod Line
+pub mod Spelling
+pub mod Front
+pub mod Cut
+pub mod Spans
+pub mod Ignored
+pub mod Lexeme
