@@ -51,7 +51,7 @@ pub fn classes_hold(alloc: Global, classes: &[Declared], base: usize) -> Result<
     let lists = ancestors(alloc, &rows)?;
     let lists = lists.as_slice();
     metaclasses_descend(alloc, &table, classes, lists, 0)?;
-    base_types_known(alloc, &table, classes, base)?;
+    all_types_known(alloc, &table, classes, base)?;
     entries_differ(alloc, classes)?;
     variables_differ(alloc, classes)?;
     names_introduced_once(alloc, kernel, classes, lists, 0)?;
@@ -60,7 +60,7 @@ pub fn classes_hold(alloc: Global, classes: &[Declared], base: usize) -> Result<
 }
 
 // The types of the first classes name no class after them; those of the others name any.
-fn base_types_known(
+fn all_types_known(
     alloc: Global,
     table: &IndexSet<&[u8]>,
     classes: &[Declared],

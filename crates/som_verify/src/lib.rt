@@ -20,6 +20,8 @@ mod parents;
 mod pass;
 mod printing;
 mod program;
+#[cfg(test)]
+mod program_cases;
 mod release;
 mod signatures;
 mod table;
@@ -40,7 +42,7 @@ pub use moved::entries_moved_up;
 pub use overrides::overrides_inherited;
 pub use parents::parents_stand;
 pub use printing::prints_texts;
-pub use program::{bare_classes, program_rules};
+pub use program::{bare_classes, declare_program, program_rules};
 pub use release::{faces_ok, release_ok};
 pub use signatures::types_known;
 pub use table::{class_names, find_class};

@@ -1,11 +1,13 @@
 ghost use Rattle.som_model.specs.Class.{bare};
 ghost use Rattle.som_model.specs.Conforming.{program_breach};
+ghost use Rattle.som_verify.specs.Modules.{classes_of};
+ghost use Rattle.som_verify.specs.Plainly.{program_classes};
 ghost use Rattle.som_verify.specs.Told.{Tells};
 ghost use Rattle.std.specs.Prelude.{◌≡◌, map, IfOk};
 
 use crate::bodies::bodies_fit;
 use crate::classes::{classes_hold, declare};
-use crate::types::VerifyFault;
+use crate::types::{Declared, VerifyFault};
 use som_model::{ClassDecl, ClassFace, ClientProgram, List, Module, NoMemory};
 use std::alloc::Global;
 
@@ -15,13 +17,26 @@ pub fn program_rules(alloc: Global, program: &ClientProgram) -> Result<(), Verif
     ensures { Tells (program_breach program.now) result }
 {
     let base = bare_classes(alloc, program.base.classes.as_slice())?;
-    let mut declared = Vec::new(alloc);
-    declare(&mut declared, Module::Library, base.as_slice())?;
-    declare(&mut declared, Module::Client, program.classes.as_slice())?;
+    let declared = declare_program(alloc, base.as_slice(), program)?;
     let declared = declared.as_slice();
     let number = program.base.classes.as_slice().len();
     classes_hold(alloc, declared, number)?;
     bodies_fit(alloc, &declared[number..])
+}
+
+/// The classes that a client program knows, of which those of its base are given as bare ones.
+pub fn declare_program<'a>(
+    alloc: Global,
+    base: &'a [ClassDecl],
+    program: &'a ClientProgram,
+) -> Result<Vec<Declared<'a>>, NoMemory>
+    requires { base.now ≡ map bare program.now.base.classes }
+    ensures { IfOk result (λ declared. classes_of declared.items ≡ program_classes program.now) }
+{
+    let mut declared = Vec::new(alloc);
+    declare(&mut declared, Module::Library, base)?;
+    declare(&mut declared, Module::Client, program.classes.as_slice())?;
+    Ok(declared)
 }
 
 /// Classes of which the faces alone are known.

@@ -1,11 +1,13 @@
 use crate::cases::CASES;
 use crate::descent::{ancestor_lists, is_listed};
 use crate::printing::prints_texts;
+use crate::program::program_rules;
+use crate::program_cases::PROGRAMS;
 use crate::release::{faces_ok, release_ok};
 use crate::types::VerifyFault;
 use som_model::{
-    Block, Body, ClassDecl, ClassFace, ClassKey, Entry, Expr, List, MethodRef, Module, NoMemory,
-    Override, Release, Sig, Stmt, Text, ValueType, Variable, Way,
+    Block, Body, ClassDecl, ClassFace, ClassKey, ClientProgram, Entry, Expr, Interface, List,
+    MethodRef, Module, NoMemory, Override, Release, Sig, Stmt, Text, ValueType, Variable, Way,
 };
 use std::alloc::Global;
 use std::test::Fail;
@@ -144,13 +146,9 @@ fn release(alloc: Global, short: &str) -> Result<Release, Fail> {
     Ok(Release { classes })
 }
 
-// The first breach of a release, in words.
-fn first_breach(alloc: Global, short: &str) -> Result<String, Fail> {
-    let release = release(alloc, short)?;
-    if !prints_texts(&release) {
-        return Err(Fail::from("a block that prints no text"));
-    }
-    match release_ok(alloc, &release) {
+// The first breach that is told, in words.
+fn told(alloc: Global, answer: Result<(), VerifyFault>) -> Result<String, Fail> {
+    match answer {
         Ok(()) => Ok(format!(in alloc; "none")?),
         Err(VerifyFault::NoMemory) => Err(Fail::from("no memory")),
         Err(VerifyFault::Rule(b)) => {
@@ -161,12 +159,47 @@ fn first_breach(alloc: Global, short: &str) -> Result<String, Fail> {
     }
 }
 
+fn first_breach(alloc: Global, short: &str) -> Result<String, Fail> {
+    let release = release(alloc, short)?;
+    if !prints_texts(&release) {
+        return Err(Fail::from("a block that prints no text"));
+    }
+    told(alloc, release_ok(alloc, &release))
+}
+
 #[test]
 fn the_first_breach_is_told(rt: HostRuntime) -> Result<(), Fail> {
     for cases in CASES {
         for (what, short, want) in cases {
             assert_eq!(rt; first_breach(rt.alloc(), short)?.as_str(), *want, "{what}");
         }
+    }
+    Ok(())
+}
+
+// The client of these classes that was compiled against these faces.
+fn program(alloc: Global, base: &str, own: &str) -> Result<ClientProgram, Fail> {
+    let library = release(alloc, base)?;
+    let mut faces = List::new(alloc);
+    for class in library.classes.as_slice() {
+        faces.push(class.face.copy(alloc)?)?;
+    }
+    let Release { classes } = release(alloc, own)?;
+    Ok(ClientProgram {
+        base: Interface { classes: faces },
+        classes,
+        main: Block {
+            statements: List::new(alloc),
+        },
+    })
+}
+
+#[test]
+fn the_first_breach_of_a_program_is_told(rt: HostRuntime) -> Result<(), Fail> {
+    for (what, base, own, want) in &PROGRAMS {
+        let program = program(rt.alloc(), base, own)?;
+        let breach = told(rt.alloc(), program_rules(rt.alloc(), &program))?;
+        assert_eq!(rt; breach.as_str(), *want, "{what}");
     }
     Ok(())
 }

@@ -2,7 +2,7 @@ use Rattle.std.proofs.Common.{refl}
 use Rattle.std.proofs.lemmas.Result.{err_from_is_err_and}
 use Rattle.som_verify.proofs.DeclaredClasses.{known_number}
 use Rattle.som_verify.proofs.Sets.{base_stops, own_tells, rest_is}
-use Rattle.som_verify.proofs.classes.base_types_known.Goals as goal
+use Rattle.som_verify.proofs.classes.all_types_known.Goals as goal
 
 pub returns-in_err-types_known : goal.returns-in_err-types_known
 returns-in_err-types_known c =
