@@ -1,0 +1,113 @@
+-- From sketches to declarations.
+use Rattle.std.proofs.Common.{◌≡◌, ℕ, zero, suc, ◌+◌, ◌-◌, ◌<◌, ◌≤◌, inl, inr, slice_index_or, List, [], ◌∷◌, ◌++◌, length, map, take, drop, refl, sym, ap, ◌∙◌, subst, arith, append_assoc, length-append}
+use Rattle.som_model.specs.Class.{Class, bare, class_in}
+use Rattle.som_model.specs.Classes.{interface_classes}
+use Rattle.som_model.specs.Kernel.{kernel}
+use Rattle.som_model.specs.declared.key.Module.{Module}
+use Rattle.som_model.specs.declared.key.Module.TheVariants as modules
+use Rattle.som_model.specs.declared.class.ClassDecl.{ClassDecl}
+use Rattle.som_model.specs.declared.class.ClassFace.{ClassFace}
+use Rattle.som_model.specs.declared.program.Interface.{Interface}
+use Rattle.som_verify.specs.Modules.{AreDeclared, class_of, classes_of}
+use Rattle.som_verify.specs.Places.{class_of_place, face_at, key_at, module_at, with_kernel}
+use Rattle.som_verify.proofs.Finding.{kernel_declared, mem_place}
+use Rattle.som_model.specs.declared.key.ClassKey.TheVariants as keys
+use Rattle.som_verify.specs.declared.types.Declared.{Declared}
+use Rattle.som_verify.proofs.DeclaredClasses.{are_declared, item_of, long_map, map_declared}
+use Rattle.som_verify.proofs.Rows.{face_there}
+use Rattle.som_plain.proofs.Members.{mem_split}
+use Rattle.som_sema.specs.Building.{after_base, declared_all, moved_breach, sketch_breach}
+use Rattle.som_sema.proofs.Composing.{front_is, rest_is}
+use Rattle.som_sema.specs.Finished.{declare, declare_at, declared_from}
+use Rattle.som_sema.specs.Sketch.{Drawn, sketches}
+use Rattle.som_sema.specs.Walks.{IsWalked}
+use Rattle.som_sema.specs.declared.walked.Walked.{Walked}
+use Rattle.som_sema.proofs.Noting.{at_end}
+use Rattle.som_sema.proofs.Alike.{alike_both, alike_declared, alike_self, alike_walked}
+
+-- the classes stand at the places that follow each other
+keys_from : (m : Module) (cs front : List Class) (ds : List Drawn) (place : ℕ) → place ≡ length front → cs ≡ front ++ map (class_in m) (sketches ds)
+    → declared_from cs place ds ≡ map (declare cs m) ds
+keys_from m cs front [] place at is = refl
+keys_from m cs front (d ∷ ds) place at is =
+    let c = class_in m d.class in
+    let key : key_at cs place ≡ c.key =
+    ap (key_at cs) at ∙ ap (λ z. key_at z (length front)) is ∙ ap (λ (z : Class). z.key) (at_end front (map (class_in m) (sketches ds)) c _) in
+    let next : suc place ≡ length (front ++ c ∷ []) = omega (arith, at, length-append front (c ∷ [])) in
+    ap (λ k. declare_at cs k d ∷ declared_from cs (suc place) ds) key
+    ∙ ap (λ z. declare cs m d ∷ z) (keys_from m cs (front ++ c ∷ []) ds (suc place) next (is ∙ sym (append_assoc front (c ∷ []) (map (class_in m) (sketches ds)))))
+
+pub declared_is : (m : Module) (base : List Class) (ds : List Drawn) (cs : List Class) (place : ℕ) → cs ≡ after_base m base (sketches ds) → place ≡ length base + 4
+    → declared_from (with_kernel cs) place ds ≡ declared_all m base ds
+declared_is m base ds cs place e at =
+    let four : place ≡ length (with_kernel base) = omega (arith, at) in
+    ap (λ z. declared_from (with_kernel z) place ds) e
+    ∙ keys_from m (with_kernel (after_base m base (sketches ds))) (with_kernel base) ds place four refl
+
+both_declared : (m : Module) (bs os : List ClassDecl) → AreDeclared (after_base m (map (class_in modules.Library) bs) os)
+both_declared m bs os = record {
+  by = λ c n. elim (mem_split c (map (class_in modules.Library) bs) (map (class_in m) os) n) [
+    | inl k ↦ (map_declared modules.Library bs).by c k
+    | inr k ↦ (map_declared m os).by c k
+  ];
+}
+
+-- the declarations have the names and the ancestors that their sketches have
+pub finished_walked : (m : Module) (bs : List ClassDecl) (ds : List Drawn) (cs : List Class) (all : List ClassDecl) (w : Walked)
+    → cs ≡ after_base m (map (class_in modules.Library) bs) (sketches ds) → all ≡ declared_all m (map (class_in modules.Library) bs) ds
+    → IsWalked cs w → IsWalked (after_base m (map (class_in modules.Library) bs) all) w
+finished_walked m bs ds cs all w e f h =
+    let base = map (class_in modules.Library) bs in
+    let full = with_kernel (after_base m base (sketches ds)) in
+    subst (λ (z : List ClassDecl). IsWalked (after_base m base z) w) (sym f)
+    (alike_walked (after_base m base (sketches ds)) (after_base m base (map (declare full m) ds)) w
+    (alike_both base base (map (class_in m) (sketches ds)) (map (class_in m) (map (declare full m) ds)) (alike_self base) (alike_declared m full ds))
+    (both_declared m bs (map (declare full m) ds))
+    (subst (λ (z : List Class). IsWalked z w) e h))
+
+pub bare_is : (fs : List ClassFace) → map (class_in modules.Library) (map bare fs) ≡ map (λ f. class_in modules.Library (bare f)) fs
+bare_is [] = refl
+bare_is (f ∷ fs) = ap (λ z. class_in modules.Library (bare f) ∷ z) (bare_is fs)
+
+pub base_is : (base : Interface) (ds : List ClassDecl) (fs : List ClassFace) → ds ≡ map bare fs → fs ≡ base.classes → map (class_in modules.Library) ds ≡ interface_classes base
+base_is base ds fs e f = ap (map (class_in modules.Library)) e ∙ bare_is fs ∙ ap (map (λ f. class_in modules.Library (bare f))) f
+
+-- the face of a declared class
+pub face_there_in : (ds : List Declared) (p : ℕ) (d : Declared) → 4 ≤ p → p < length (with_kernel (classes_of ds)) → (slice_index_or ds (p - 4) d).decl.now.face ≡ face_at (with_kernel (classes_of ds)) p
+face_there_in ds p d le lt =
+    let cs = classes_of ds in
+    let e : p ≡ suc (suc (suc (suc (p - 4)))) = omega (arith, le) in
+    let own : p - 4 < length ds = omega (arith, le, lt, long_map class_of ds) in
+    let within : p - 4 < length cs = omega (arith, le, lt) in
+    ap (λ (c : Class). c.decl.face) (item_of ds (p - 4) d own)
+    ∙ sym (face_there cs (p - 4) (class_of d) within)
+    ∙ ap (λ z. face_at (with_kernel cs) z) (sym e)
+
+-- the key of a class by its module and its name
+pub key_there : (ds : List Declared) (p : ℕ) → p < length (with_kernel (classes_of ds))
+    → key_at (with_kernel (classes_of ds)) p ≡ keys.Named (module_at (with_kernel (classes_of ds)) p) (face_at (with_kernel (classes_of ds)) p).name
+key_there ds p lt = (kernel_declared (classes_of ds) (are_declared ds)).by (class_of_place (with_kernel (classes_of ds)) p) (mem_place (with_kernel (classes_of ds)) p lt)
+
+-- what the sketches break, by the classes that were declared
+pub sketch_is : (home : List ℕ → Module) (m : Module) (ds : List Declared) (bs : List ClassDecl) (draws : List Drawn) (n : ℕ) → classes_of ds ≡ after_base m (map (class_in modules.Library) bs) (sketches draws) → n ≡ length bs
+    → sketch_breach home (classes_of ds) (classes_of (take n ds)) (classes_of (drop n ds)) draws
+    ≡ sketch_breach home (after_base m (map (class_in modules.Library) bs) (sketches draws)) (map (class_in modules.Library) bs) (map (class_in m) (sketches draws)) draws
+sketch_is home m ds bs draws n e l =
+    let base = map (class_in modules.Library) bs in
+    let own = map (class_in m) (sketches draws) in
+    let long : n ≡ length base = l ∙ sym (long_map (class_in modules.Library) bs) in
+    ap (λ z. sketch_breach home z (classes_of (take n ds)) (classes_of (drop n ds)) draws) e
+    ∙ ap (λ z. sketch_breach home (after_base m base (sketches draws)) z (classes_of (drop n ds)) draws) (front_is ds base own n e long)
+    ∙ ap (λ z. sketch_breach home (after_base m base (sketches draws)) base z draws) (rest_is ds base own n e long)
+
+pub base_front : (m : Module) (ds : List Declared) (bs os : List ClassDecl) (n : ℕ) → classes_of ds ≡ after_base m (map (class_in modules.Library) bs) os → n ≡ length bs → classes_of (take n ds) ≡ map (class_in modules.Library) bs
+base_front m ds bs os n e l = front_is ds (map (class_in modules.Library) bs) (map (class_in m) os) n e (l ∙ sym (long_map (class_in modules.Library) bs))
+
+pub own_rest : (m : Module) (ds : List Declared) (bs os : List ClassDecl) (n : ℕ) → classes_of ds ≡ after_base m (map (class_in modules.Library) bs) os → n ≡ length bs → classes_of (drop n ds) ≡ map (class_in m) os
+own_rest m ds bs os n e l = rest_is ds (map (class_in modules.Library) bs) (map (class_in m) os) n e (l ∙ sym (long_map (class_in modules.Library) bs))
+
+pub moved_is : (m : Module) (ds : List Declared) (bs os : List ClassDecl) (n : ℕ) → classes_of ds ≡ after_base m (map (class_in modules.Library) bs) os → n ≡ length bs
+    → moved_breach (classes_of ds) (classes_of (drop n ds)) ≡ moved_breach (after_base m (map (class_in modules.Library) bs) os) (map (class_in m) os)
+moved_is m ds bs os n e l =
+    ap (λ z. moved_breach z (classes_of (drop n ds))) e
+    ∙ ap (moved_breach (after_base m (map (class_in modules.Library) bs) os)) (own_rest m ds bs os n e l)

@@ -1,0 +1,12 @@
+pub mod OneTable
+pub mod Noting
+pub mod Introducers
+pub mod Alike
+pub mod BaseLaws
+pub mod TextBases
+pub mod Unknown
+pub mod Composing
+pub mod Finishing
+pub mod Telling
+pub mod Answered
+pub mod TextLaws

@@ -1,0 +1,107 @@
+-- Parents and metaclasses that texts name.
+use Rattle.std.proofs.Common.{◌≡◌, ℕ, zero, suc, ◌+◌, ◌<◌, inl, inr, Bool, true, false, if◌then◌else◌, List, [], ◌∷◌, ◌++◌, length, map, flat_map, take, drop, slice_index_or, Option, Some, None, is_some, option_map, Err, refl, sym, ap, ◌∙◌, subst, arith, append_assoc, length-append}
+use Rattle.som_model.specs.Lists.{Mem, every, first, option_list, or_else}
+use Rattle.som_model.specs.Class.{Class, class_in}
+use Rattle.som_model.specs.Classes.{class_at}
+use Rattle.som_model.specs.Conforming.{each_after}
+use Rattle.som_model.specs.Rules.{Breach, s2}
+use Rattle.som_model.specs.declared.key.Module.{Module}
+use Rattle.som_model.specs.declared.key.ClassKey.{ClassKey}
+use Rattle.som_plain.proofs.Members.{mem_left, mem_right, mem_split}
+use Rattle.som_verify.proofs.Before.{both_none, mem_every, none_both}
+use Rattle.som_verify.proofs.Owners.{flat_none}
+use Rattle.som_verify.proofs.PlainLists.{map_mem}
+use Rattle.som_verify.proofs.PlainNames.{demand_none}
+use Rattle.som_idl.specs.declared.tree.IdlInterface.{IdlInterface}
+use Rattle.som_verify.specs.declared.types.VerifyFault.{VerifyFault}
+use Rattle.som_verify.specs.Told.{Tells}
+use Rattle.som_verify.proofs.Passes.{first_both, tells_first}
+use Rattle.som_sema.specs.declared.sketch.Drawing.{Drawing}
+use Rattle.som_sema.specs.Home.{key_of}
+use Rattle.som_sema.specs.Items.{metaclass_names, or_object}
+use Rattle.som_sema.specs.Sketch.{Drawn, drawings, drawn, seen, sketch, sketches}
+use Rattle.som_sema.specs.TextRules.{base_stands, bases, text_breach, text_demand, text_s2, text_s2_from}
+use Rattle.som_sema.specs.Walks.{AreDrawn}
+
+pub demanded_text : (n : ℕ) (d : Drawn) (member : List ℕ) (b : Bool) → first (text_demand n d member b) ≡ None → b ≡ true
+demanded_text n d member true e = refl
+demanded_text n d member false e = cc
+
+first_mem : {A B : Type 0} (f : A → B) (xs : List A) (b : B) → Mem b (option_list (option_map f (first xs))) → Mem b (map f xs)
+first_mem f [] b m = absurd m
+first_mem f (x ∷ xs) b (inl e) = inl e
+first_mem f (x ∷ xs) b (inr m) = absurd m
+
+module _ (home : List ℕ → Module) (m : Module) where
+  named_stands : (before : List Class) (d : Drawn) → first (text_s2 home before d) ≡ None → (name : List ℕ) → Mem name (bases d.text) → is_some (class_at before (key_of home name)) ≡ true
+  named_stands before d e name n = demanded_text 2 d name _ (flat_none (base_stands home before d) (bases d.text) name e n)
+
+  key_stands : (before : List Class) (d : Drawn) (k : ClassKey) → first (text_s2 home before d) ≡ None
+      → Mem k (map (key_of home) (or_object d.text.parents) ++ option_list (option_map (key_of home) (first (metaclass_names d.text.items)))) → is_some (class_at before k) ≡ true
+  key_stands before d k e n = elim (mem_split k (map (key_of home) (or_object d.text.parents)) (option_list (option_map (key_of home) (first (metaclass_names d.text.items)))) n) [
+    | inl p ↦ (let r = map_mem (key_of home) k (or_object d.text.parents) p in
+        ap (λ z. is_some (class_at before z)) r.2 ∙ named_stands before d e r.0 (mem_left r.0 (or_object d.text.parents) (metaclass_names d.text.items) r.1))
+    | inr p ↦ (let r = map_mem (key_of home) k (metaclass_names d.text.items) (first_mem (key_of home) (metaclass_names d.text.items) k p) in
+        ap (λ z. is_some (class_at before z)) r.2 ∙ named_stands before d e r.0 (mem_right r.0 (or_object d.text.parents) (metaclass_names d.text.items) r.1))
+  ]
+
+  drawn_stands : (before : List Class) (d : Drawn) → d.class ≡ sketch home d.text → first (text_s2 home before d) ≡ None → first (s2 before (class_in m d.class)) ≡ None
+  drawn_stands before d is e =
+      demand_none 2 (class_in m d.class) _ (
+      subst (λ z. every (λ k. is_some (class_at before k)) (z.face.parents ++ option_list z.face.metaclass) ≡ true) (sym is)
+      (mem_every (λ k. is_some (class_at before k)) (map (key_of home) (or_object d.text.parents) ++ option_list (option_map (key_of home) (first (metaclass_names d.text.items))))
+      (λ k n. key_stands before d k e n)))
+
+  take_front : (xs ys : List Class) → take (length xs) (xs ++ ys) ≡ xs
+  take_front [] ys = refl
+  take_front (x ∷ xs) ys = ap (λ z. x ∷ z) (take_front xs ys)
+
+  -- the rule of texts is that of classes
+  pub texts_stand : (cs before : List Class) (ds : List Drawn) (place : ℕ) → ((d : Drawn) → Mem d ds → d.class ≡ sketch home d.text)
+      → place ≡ length before → cs ≡ before ++ map (class_in m) (sketches ds)
+      → first (text_s2_from home cs place ds) ≡ None → first (each_after s2 before (map (class_in m) (sketches ds))) ≡ None
+  texts_stand cs before [] place are at is e = refl
+  texts_stand cs before (d ∷ ds) place are at is e =
+      let c = class_in m d.class in
+      let p = none_both (text_s2 home (take place cs) d) (text_s2_from home cs (suc place) ds) e in
+      let front : take place cs ≡ before = ap (λ n. take n cs) at ∙ ap (take (length before)) is ∙ take_front before (map (class_in m) (sketches (d ∷ ds))) in
+      let here : first (text_s2 home before d) ≡ None = subst (λ (z : List Class). first (text_s2 home z d) ≡ None) front p.0 in
+      let next : suc place ≡ length (before ++ c ∷ []) = omega (arith, at, length-append before (c ∷ [])) in
+      both_none (s2 before c) (each_after s2 (before ++ c ∷ []) (map (class_in m) (sketches ds)))
+      (drawn_stands before d (are d (inl refl)) here)
+      (texts_stand cs (before ++ c ∷ []) ds (suc place) (λ x n. are x (inr n)) next (is ∙ sym (append_assoc before (c ∷ []) (map (class_in m) (sketches ds)))) p.1)
+
+-- each sketch is that of its text
+pub are_drawn : (home : List ℕ → Module) (is : List IdlInterface) (ds : List Drawn) → ds ≡ map (drawn home) is → AreDrawn home ds
+are_drawn home is ds e = record {
+  by = λ d m. (let r = map_mem (drawn home) d is (subst (λ (z : List Drawn). Mem d z) e m) in
+      subst (λ (z : Drawn). z.class ≡ sketch home z.text) (sym r.2) refl);
+}
+
+-- one class more
+next_bases : (home : List ℕ → Module) (cs : List Class) (ds : List Drawing) (i place : ℕ) (d : Drawing) → i < length ds
+    → first (text_s2_from home cs place (drawings (drop i ds))) ≡ or_else (first (text_s2 home (take place cs) (seen (slice_index_or ds i d)))) (first (text_s2_from home cs (place + 1) (drawings (drop (i + 1) ds))))
+next_bases home cs [] i place d lt = absurd (omega arith)
+next_bases home cs (x ∷ ds) zero place d lt =
+    let e : suc place ≡ place + 1 = omega arith in
+    first_both (text_s2 home (take place cs) (seen x)) (text_s2_from home cs (suc place) (drawings ds))
+    ∙ ap (λ n. or_else (first (text_s2 home (take place cs) (seen x))) (first (text_s2_from home cs n (drawings ds)))) e
+next_bases home cs (x ∷ ds) (suc i) place d lt = let e : suc i + 1 ≡ suc (i + 1) = omega arith in rw e (next_bases home cs ds i place d (omega arith))
+
+none_first : {A : Type 0} (o r : Option A) → o ≡ None → or_else o r ≡ r
+none_first o r e = rw e refl
+
+pub bases_more : (home : List ℕ → Module) (cs : List Class) (ds : List Drawing) (i place : ℕ) (d : Drawing) (whole : Option Breach) → i < length ds → d ≡ slice_index_or ds i d
+    → first (text_s2 home (take place cs) (seen d)) ≡ None
+    → first (text_s2_from home cs place (drawings (drop i ds))) ≡ whole → first (text_s2_from home cs (place + 1) (drawings (drop (i + 1) ds))) ≡ whole
+bases_more home cs ds i place d whole lt is none same =
+    let here : first (text_s2 home (take place cs) (seen (slice_index_or ds i d))) ≡ None = subst (λ (z : Drawing). first (text_s2 home (take place cs) (seen z)) ≡ None) is none in
+    sym (none_first _ _ here) ∙ sym (next_bases home cs ds i place d lt) ∙ same
+
+pub bases_stop : (home : List ℕ → Module) (cs : List Class) (ds : List Drawing) (i place : ℕ) (d : Drawing) (whole : Option Breach) (e : VerifyFault) → i < length ds → d ≡ slice_index_or ds i d
+    → Tells {A = Unit {0}} (first (text_s2 home (take place cs) (seen d))) (Err e)
+    → first (text_s2_from home cs place (drawings (drop i ds))) ≡ whole → Tells {A = Unit {0}} whole (Err e)
+bases_stop home cs ds i place d whole e lt is t same =
+    tells_first (first (text_s2 home (take place cs) (seen (slice_index_or ds i d)))) _ whole e
+    (subst (λ (z : Drawing). Tells {A = Unit {0}} (first (text_s2 home (take place cs) (seen z))) (Err e)) is t)
+    (sym (next_bases home cs ds i place d lt) ∙ same)

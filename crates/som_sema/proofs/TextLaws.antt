@@ -1,0 +1,313 @@
+-- From lists of breaches to plain words and back.
+use Rattle.std.proofs.Common.{◌≡◌, ◌↔◌, ℕ, zero, suc, ◌+◌, inl, inr, ◌⊎◌, Bool, true, false, not, ◌&&◌, if◌then◌else◌, List, [], ◌∷◌, ◌++◌, map, flat_map, take, Some, None, is_some, slice_get, refl, sym, ap, ◌∙◌, subst, arith, true≢false}
+use Rattle.std.specs.Prelude.{codes}
+use Rattle.std.specs.Str.{bytes_eq}
+use Rattle.som_model.specs.declared.key.Module.{Module}
+use Rattle.som_model.specs.Lists.{Mem, among, doubles, first, some}
+use Rattle.som_model.specs.Hierarchy.{Falls, Tells}
+use Rattle.som_model.specs.Ancestors.{Descends}
+use Rattle.som_model.specs.Class.{Class, introduced}
+use Rattle.som_model.specs.Classes.{class_at, hierarchy, is_a}
+use Rattle.som_model.specs.Kernel.{som_class}
+use Rattle.som_model.specs.Rules.{Breach}
+use Rattle.som_model.proofs.KeyLaws.{both, exact_bytes, exact_keys}
+use Rattle.som_model.proofs.NamedLaws.{hierarchy_same}
+use Rattle.som_plain.proofs.Laws.{among_mem, descends_test}
+use Rattle.som_plain.proofs.Members.{mem_left, mem_right, mem_split}
+use Rattle.som_read.specs.declared.tree.Word.{Word}
+use Rattle.som_idl.specs.declared.tree.Item.{Item}
+use Rattle.som_idl.specs.declared.tree.Item.TheVariants as items
+use Rattle.som_idl.specs.declared.tree.Modifier.{Modifier}
+use Rattle.som_idl.specs.declared.tree.Modifier.TheVariants as modifiers
+use Rattle.som_verify.specs.Plainly.{Differ, IsAmong}
+use Rattle.som_verify.specs.Walk.{add_new, adds}
+use Rattle.som_verify.proofs.Before.{both_none, none_both}
+use Rattle.som_verify.proofs.Owners.{flat_none}
+use Rattle.som_verify.proofs.PlainLists.{apart_by, apart_differ, by_apart, differ_apart, map_mem, map_none, mem_map, none_flat, none_map}
+use Rattle.som_verify.proofs.PlainMoves.{flat_mem, mem_flat}
+use Rattle.som_verify.proofs.PlainNames.{among_known, known_among}
+use Rattle.som_sema.specs.Home.{key_of}
+use Rattle.som_sema.specs.Items.{Given, given, is_call, is_override, item_words, listed, metaclass_in, metaclass_names, or_object, with_modifier}
+use Rattle.som_sema.specs.Words.{once}
+use Rattle.som_sema.specs.Sketch.{Drawn}
+use Rattle.som_sema.specs.TextRules.{base_stands, bases, makes_classes, may_be, misplaced, second, text_breach, text_demand, text_s2, text_s2_from, text_s4, text_s6, text_s11, text_s12}
+use Rattle.som_sema.specs.PlainTexts.{BasesStand, ItemsDiffer, MetaclassesDescend, ModifiersStand, NamesDiffer}
+use Rattle.som_sema.proofs.TextBases.{demanded_text}
+
+says_text : (n : ℕ) (d : Drawn) (member : List ℕ) (b : Bool) → b ≡ true → first (text_demand n d member b) ≡ None
+says_text n d member b e = rw e refl
+
+map_same : {A : Type 0} (xs : List A) → map (λ (x : A). x) xs ≡ xs
+map_same [] = refl
+map_same (x ∷ xs) = ap (λ z. x ∷ z) (map_same xs)
+
+-- nothing stands a second time
+
+second_says : (n : ℕ) (d : Drawn) (names : List (List ℕ)) → first (second n d names) ≡ None → Differ (λ (name : List ℕ). name) names
+second_says n d names e =
+    apart_differ (λ (name : List ℕ). name) names (rw (map_same names) (apart_by bytes_eq exact_bytes names (none_map (text_breach n d) (doubles bytes_eq [] names) e)))
+
+says_second : (n : ℕ) (d : Drawn) (names : List (List ℕ)) → Differ (λ (name : List ℕ). name) names → first (second n d names) ≡ None
+says_second n d names r =
+    map_none (text_breach n d) (doubles bytes_eq [] names) (by_apart bytes_eq exact_bytes names (rw (map_same names) at (differ_apart (λ (name : List ℕ). name) names r)))
+
+-- S6
+pub names_law : (ds : List Drawn) → (first (flat_map text_s6 ds) ≡ None) ↔ NamesDiffer ds
+names_law ds = (
+  (λ e. record {
+    introduced = λ d m. second_says 6 d _ (none_both (second 6 d (introduced d.class.face.entries)) (second 6 d (listed d.text.items)) (flat_none text_s6 ds d e m)).0;
+    listed = λ d m. second_says 6 d _ (none_both (second 6 d (introduced d.class.face.entries)) (second 6 d (listed d.text.items)) (flat_none text_s6 ds d e m)).1;
+  }),
+  (λ r. none_flat text_s6 ds (λ d m.
+      both_none (second 6 d (introduced d.class.face.entries)) (second 6 d (listed d.text.items)) (says_second 6 d _ (r.introduced d m)) (says_second 6 d _ (r.listed d m)))),
+)
+
+-- S12
+pub items_law : (ds : List Drawn) → (first (flat_map text_s12 ds) ≡ None) ↔ ItemsDiffer ds
+items_law ds = (
+  (λ e. record { by = λ d m. second_says 12 d (item_words d.text.items) (flat_none text_s12 ds d e m) }),
+  (λ r. none_flat text_s12 ds (λ d m. says_second 12 d (item_words d.text.items) (r.by d m))),
+)
+
+-- metaclass items
+
+item_named : (w : Word) (is : List Item) → Mem (items.Metaclass w) is → Mem w.text (metaclass_names is)
+item_named w is m = mem_flat metaclass_in w.text (items.Metaclass w) is m (inl refl)
+
+named_in : (x : Item) (name : List ℕ) → Mem name (metaclass_in x) → (w : Word) × (x ≡ items.Metaclass w) × (name ≡ w.text)
+named_in (items.Metaclass w) name (inl e) = (w, refl, e)
+named_in (items.Metaclass w) name (inr m) = absurd m
+named_in (items.ReleaseOrder ws) name m = absurd m
+named_in (items.Major n) name m = absurd m
+named_in (items.Minor n) name m = absurd m
+named_in (items.Method w ms) name m = absurd m
+named_in (items.Variables t ws) name m = absurd m
+
+named_item : (is : List Item) (name : List ℕ) → Mem name (metaclass_names is) → (w : Word) × Mem (items.Metaclass w) is × (name ≡ w.text)
+named_item is name m =
+    let r = flat_mem metaclass_in name is m in
+    let s = named_in r.0 name r.2 in
+    (s.0, subst (λ (z : Item). Mem z is) s.1 r.1, s.2)
+
+-- S4
+module _ (home : List ℕ → Module) (cs : List Class) (low : Falls (hierarchy cs)) where
+  tells : Tells (hierarchy cs)
+  tells = record {
+    one = λ x. hierarchy_same cs x x ∙ exact_keys.one x;
+    two = λ x y e. exact_keys.two x y (sym (hierarchy_same cs x y) ∙ e);
+  }
+
+  pub metaclasses_law : (ds : List Drawn) → (first (flat_map (text_s4 home cs) ds) ≡ None) ↔ MetaclassesDescend home cs ds
+  metaclasses_law ds = (
+    (λ e. record {
+      by = λ d w m n. (descends_test (hierarchy cs) tells low (key_of home w.text) som_class).0
+          (demanded_text 4 d (codes "-") (is_a cs (key_of home w.text) som_class)
+          (flat_none (makes_classes home cs d) (metaclass_names d.text.items) w.text (flat_none (text_s4 home cs) ds d e m) (item_named w d.text.items n)));
+    }),
+    (λ r. none_flat (text_s4 home cs) ds (λ d m. none_flat (makes_classes home cs d) (metaclass_names d.text.items) (λ name n.
+        (let s = named_item d.text.items name n in
+        says_text 4 d (codes "-") (is_a cs (key_of home name) som_class)
+        ((descends_test (hierarchy cs) tells low (key_of home name) som_class).1
+        (subst (λ (z : List ℕ). Descends (hierarchy cs) (key_of home z) som_class) (sym s.2) (r.by d s.0 m s.1))))))),
+  )
+
+-- S2
+
+word_named : (w : Word) (ws : List Word) → Mem w ws → Mem w.text (or_object ws)
+word_named w [] m = absurd m
+word_named w (x ∷ ws) m = mem_map (λ (w : Word). w.text) w (x ∷ ws) m
+
+named_word : (ws : List Word) (name : List ℕ) → Mem name (or_object ws) → ((ws ≡ []) × (name ≡ codes "SOMObject")) ⊎ ((w : Word) × Mem w ws × (name ≡ w.text))
+named_word [] name (inl e) = inl (refl, e)
+named_word [] name (inr m) = absurd m
+named_word (x ∷ ws) name m = inr (map_mem (λ (w : Word). w.text) name (x ∷ ws) m)
+
+stands_at : (home : List ℕ → Module) (cs : List Class) (n : ℕ) (ds : List Drawn) → first (text_s2_from home cs n ds) ≡ None → (i : ℕ) (d : Drawn) → slice_get ds i ≡ Some d → first (text_s2 home (take (i + n) cs) d) ≡ None
+stands_at home cs n [] e i d at = absurd (cc)
+stands_at home cs n (x ∷ ds) e zero d at =
+    let same : x ≡ d = cc in
+    let here : 0 + n ≡ n = omega arith in
+    subst (λ (z : Drawn). first (text_s2 home (take (0 + n) cs) z) ≡ None) same
+    (subst (λ k. first (text_s2 home (take k cs) x) ≡ None) (sym here) (none_both (text_s2 home (take n cs) x) (text_s2_from home cs (suc n) ds) e).0)
+stands_at home cs n (x ∷ ds) e (suc i) d at =
+    let sum : i + suc n ≡ suc i + n = omega arith in
+    subst (λ k. first (text_s2 home (take k cs) d) ≡ None) sum (stands_at home cs (suc n) ds (none_both (text_s2 home (take n cs) x) (text_s2_from home cs (suc n) ds) e).1 i d at)
+
+at_stands : (home : List ℕ → Module) (cs : List Class) (n : ℕ) (ds : List Drawn) → ((i : ℕ) (d : Drawn) → slice_get ds i ≡ Some d → first (text_s2 home (take (i + n) cs) d) ≡ None) → first (text_s2_from home cs n ds) ≡ None
+at_stands home cs n [] f = refl
+at_stands home cs n (x ∷ ds) f =
+    let here : 0 + n ≡ n = omega arith in
+    both_none (text_s2 home (take n cs) x) (text_s2_from home cs (suc n) ds)
+    (subst (λ k. first (text_s2 home (take k cs) x) ≡ None) here (f 0 x refl))
+    (at_stands home cs (suc n) ds (λ i d at. (let sum : suc i + n ≡ i + suc n = omega arith in subst (λ k. first (text_s2 home (take k cs) d) ≡ None) sum (f (suc i) d at))))
+
+module _ (home : List ℕ → Module) where
+  base_says : (before : List Class) (d : Drawn) (name : List ℕ) → first (text_s2 home before d) ≡ None → Mem name (bases d.text) → IsAmong before (key_of home name)
+  base_says before d name e m = known_among before (key_of home name) (demanded_text 2 d name _ (flat_none (base_stands home before d) (bases d.text) name e m))
+
+  says_base : (before : List Class) (d : Drawn) → ((name : List ℕ) → Mem name (bases d.text) → IsAmong before (key_of home name)) → first (text_s2 home before d) ≡ None
+  says_base before d f = none_flat (base_stands home before d) (bases d.text) (λ name m. says_text 2 d name _ (among_known before (key_of home name) (f name m)))
+
+  pub bases_law : (cs : List Class) (n : ℕ) (ds : List Drawn) → (first (text_s2_from home cs n ds) ≡ None) ↔ BasesStand home cs n ds
+  bases_law cs n ds = (
+    (λ e. record {
+      parents = λ i d w at m. base_says (take (i + n) cs) d w.text (stands_at home cs n ds e i d at) (mem_left w.text (or_object d.text.parents) (metaclass_names d.text.items) (word_named w d.text.parents m));
+      object = λ i d at none. base_says (take (i + n) cs) d (codes "SOMObject") (stands_at home cs n ds e i d at)
+          (mem_left (codes "SOMObject") (or_object d.text.parents) (metaclass_names d.text.items) (subst (λ (z : List Word). Mem (codes "SOMObject") (or_object z)) (sym none) (inl refl)));
+      metaclasses = λ i d w at m. base_says (take (i + n) cs) d w.text (stands_at home cs n ds e i d at) (mem_right w.text (or_object d.text.parents) (metaclass_names d.text.items) (item_named w d.text.items m));
+    }),
+    (λ r. at_stands home cs n ds (λ i d at. says_base (take (i + n) cs) d (λ name m.
+        elim (mem_split name (or_object d.text.parents) (metaclass_names d.text.items) m) [
+          | inl p ↦ (elim (named_word d.text.parents name p) [
+            | inl o ↦ subst (λ (z : List ℕ). IsAmong (take (i + n) cs) (key_of home z)) (sym o.1) (r.object i d at o.0)
+            | inr q ↦ subst (λ (z : List ℕ). IsAmong (take (i + n) cs) (key_of home z)) (sym q.2) (r.parents i d q.0 at q.1)
+          ])
+          | inr p ↦ (let s = named_item d.text.items name p in subst (λ (z : List ℕ). IsAmong (take (i + n) cs) (key_of home z)) (sym s.2) (r.metaclasses i d s.0 at s.1))
+        ]))),
+  )
+
+-- S11
+
+allowed : (b : Bool) (x : List ℕ) → first (if b then [] else x ∷ []) ≡ None → b ≡ true
+allowed true x e = refl
+allowed false x e = absurd (cc)
+
+new_name : (b : Bool) → not b ≡ true → b ≡ false
+new_name true e = absurd (true≢false (sym e))
+new_name false e = refl
+
+one_double : (b : Bool) (x : List ℕ) (before ys : List (List ℕ)) → (if b then x ∷ doubles bytes_eq before ys else doubles bytes_eq (before ++ x ∷ []) ys) ≡ [] → (b ≡ false) × (doubles bytes_eq (before ++ x ∷ []) ys ≡ [])
+one_double true x before ys e = absurd (cc)
+one_double false x before ys e = (refl, e)
+
+no_double : (x : List ℕ) (before ys : List (List ℕ)) → among x before ≡ false → doubles bytes_eq (before ++ x ∷ []) ys ≡ [] → doubles bytes_eq before (x ∷ ys) ≡ []
+no_double x before ys n e = rw n e
+
+record Placed (own over called : List (List ℕ)) (overridden asked : List (List ℕ)) : Type 0 where
+  once_over : doubles bytes_eq over overridden ≡ []
+  once_asked : doubles bytes_eq called asked ≡ []
+  known : (name : List ℕ) → Mem name asked → among name own ≡ true
+
+asked_by : (own over called : List (List ℕ)) (x : List ℕ) (gs : List Given)
+    → ((o c : List (List ℕ)) → first (misplaced own o c gs) ≡ None → Placed own o c (with_modifier is_override gs) (with_modifier is_call gs))
+    → first ((if among x own && not (among x called) then [] else x ∷ []) ++ misplaced own over (called ++ x ∷ []) gs) ≡ None
+    → Placed own over called (with_modifier is_override gs) (x ∷ with_modifier is_call gs)
+asked_by own over called x gs f e =
+    let p = none_both (if among x own && not (among x called) then [] else x ∷ []) (misplaced own over (called ++ x ∷ []) gs) e in
+    let q = both (among x own) (not (among x called)) (allowed (among x own && not (among x called)) x p.0) in
+    let r = f over (called ++ x ∷ []) p.1 in
+    record {
+      once_over = r.once_over;
+      once_asked = no_double x called (with_modifier is_call gs) (new_name (among x called) q.1) r.once_asked;
+      known = λ name m. elim m [ inl is ↦ subst (λ z. among z own ≡ true) (sym is) q.0 | inr n ↦ r.known name n ];
+    }
+
+placed_by : (m : Modifier) (own over called : List (List ℕ)) (x : List ℕ) (gs : List Given)
+    → ((o c : List (List ℕ)) → first (misplaced own o c gs) ≡ None → Placed own o c (with_modifier is_override gs) (with_modifier is_call gs))
+    → first ((if may_be own over called x m then [] else x ∷ []) ++ misplaced own (if is_override m then over ++ x ∷ [] else over) (if is_override m then called else called ++ x ∷ []) gs) ≡ None
+    → Placed own over called ((if is_override m then x ∷ [] else []) ++ with_modifier is_override gs) ((if is_call m then x ∷ [] else []) ++ with_modifier is_call gs)
+placed_by modifiers.Override own over called x gs f e =
+    let p = none_both (if not (among x over) then [] else x ∷ []) (misplaced own (over ++ x ∷ []) called gs) e in
+    let r = f (over ++ x ∷ []) called p.1 in
+    record {
+      once_over = no_double x over (with_modifier is_override gs) (new_name (among x over) (allowed (not (among x over)) x p.0)) r.once_over;
+      once_asked = r.once_asked;
+      known = r.known;
+    }
+placed_by modifiers.NameLookup own over called x gs f e = asked_by own over called x gs f e
+placed_by modifiers.Offset own over called x gs f e = asked_by own over called x gs f e
+
+placed_says : (own over called : List (List ℕ)) (gs : List Given) → first (misplaced own over called gs) ≡ None → Placed own over called (with_modifier is_override gs) (with_modifier is_call gs)
+placed_says own over called [] e = record { once_over = refl; once_asked = refl; known = λ name m. absurd m }
+placed_says own over called (g ∷ gs) e = placed_by g.modifier own over called g.method gs (λ o c. placed_says own o c gs) e
+
+by_asked : (own over called : List (List ℕ)) (x : List ℕ) (gs : List Given)
+    → ((o c : List (List ℕ)) → Placed own o c (with_modifier is_override gs) (with_modifier is_call gs) → first (misplaced own o c gs) ≡ None)
+    → Placed own over called (with_modifier is_override gs) (x ∷ with_modifier is_call gs)
+    → first ((if among x own && not (among x called) then [] else x ∷ []) ++ misplaced own over (called ++ x ∷ []) gs) ≡ None
+by_asked own over called x gs f p =
+    let d = one_double (among x called) x called (with_modifier is_call gs) p.once_asked in
+    let mine = p.known x (inl refl) in
+    let rest = f over (called ++ x ∷ []) (record { once_over = p.once_over; once_asked = d.1; known = λ name m. p.known name (inr m) }) in
+    let new = d.0 in
+    rw (mine, new) rest
+
+by_placed : (m : Modifier) (own over called : List (List ℕ)) (x : List ℕ) (gs : List Given)
+    → ((o c : List (List ℕ)) → Placed own o c (with_modifier is_override gs) (with_modifier is_call gs) → first (misplaced own o c gs) ≡ None)
+    → Placed own over called ((if is_override m then x ∷ [] else []) ++ with_modifier is_override gs) ((if is_call m then x ∷ [] else []) ++ with_modifier is_call gs)
+    → first ((if may_be own over called x m then [] else x ∷ []) ++ misplaced own (if is_override m then over ++ x ∷ [] else over) (if is_override m then called else called ++ x ∷ []) gs) ≡ None
+by_placed modifiers.Override own over called x gs f p =
+    let d = one_double (among x over) x over (with_modifier is_override gs) p.once_over in
+    let rest = f (over ++ x ∷ []) called (record { once_over = d.1; once_asked = p.once_asked; known = p.known }) in
+    let new = d.0 in
+    rw new rest
+by_placed modifiers.NameLookup own over called x gs f p = by_asked own over called x gs f p
+by_placed modifiers.Offset own over called x gs f p = by_asked own over called x gs f p
+
+says_placed : (own over called : List (List ℕ)) (gs : List Given) → Placed own over called (with_modifier is_override gs) (with_modifier is_call gs) → first (misplaced own over called gs) ≡ None
+says_placed own over called [] p = refl
+says_placed own over called (g ∷ gs) p = by_placed g.modifier own over called g.method gs (λ o c. says_placed own o c gs) p
+
+-- names, each once, are the names
+
+new_split : (b : Bool) (a x : List ℕ) (seen : List (List ℕ)) → Mem a (if b then seen else seen ++ x ∷ []) → Mem a seen ⊎ (a ≡ x)
+new_split true a x seen m = inl m
+new_split false a x seen m = elim (mem_split a seen (x ∷ []) m) [ inl n ↦ inl n | inr n ↦ elim n [ inl e ↦ inr e | inr z ↦ absurd z ] ]
+
+once_says : (a : List ℕ) (seen xs : List (List ℕ)) → Mem a (adds bytes_eq seen xs) → Mem a seen ⊎ Mem a xs
+once_says a seen [] m = inl m
+once_says a seen (x ∷ xs) m = elim (once_says a (add_new bytes_eq seen x) xs m) [
+  | inl n ↦ elim (new_split (some (bytes_eq x) seen) a x seen n) [ inl k ↦ inl k | inr e ↦ inr (inl e) ]
+  | inr n ↦ inr (inr n)
+]
+
+seen_new : (b : Bool) (a x : List ℕ) (seen : List (List ℕ)) → Mem a seen → Mem a (if b then seen else seen ++ x ∷ [])
+seen_new true a x seen m = m
+seen_new false a x seen m = mem_left a seen (x ∷ []) m
+
+seen_once : (a : List ℕ) (seen xs : List (List ℕ)) → Mem a seen → Mem a (adds bytes_eq seen xs)
+seen_once a seen [] m = m
+seen_once a seen (x ∷ xs) m = seen_once a (add_new bytes_eq seen x) xs (seen_new (some (bytes_eq x) seen) a x seen m)
+
+new_there : (b : Bool) (x : List ℕ) (seen : List (List ℕ)) → among x seen ≡ b → Mem x (if b then seen else seen ++ x ∷ [])
+new_there true x seen e = (among_mem x seen).0 e
+new_there false x seen e = mem_right x seen (x ∷ []) (inl refl)
+
+says_once : (a : List ℕ) (seen xs : List (List ℕ)) → Mem a xs → Mem a (adds bytes_eq seen xs)
+says_once a seen [] m = absurd m
+says_once a seen (x ∷ xs) (inl e) = seen_once a (add_new bytes_eq seen x) xs (subst (λ z. Mem z (add_new bytes_eq seen x)) (sym e) (new_there (among x seen) x seen refl))
+says_once a seen (x ∷ xs) (inr m) = says_once a (add_new bytes_eq seen x) xs m
+
+mem_of_once : (a : List ℕ) (xs : List (List ℕ)) → among a (once xs) ≡ true → Mem a xs
+mem_of_once a xs e = elim (once_says a [] xs ((among_mem a (once xs)).0 e)) [ inl z ↦ absurd z | inr m ↦ m ]
+
+differ_once : (names : List (List ℕ)) → doubles bytes_eq [] names ≡ [] → Differ (λ (name : List ℕ). name) names
+differ_once names e = apart_differ (λ (name : List ℕ). name) names (rw (map_same names) (apart_by bytes_eq exact_bytes names e))
+
+once_differ : (names : List (List ℕ)) → Differ (λ (name : List ℕ). name) names → doubles bytes_eq [] names ≡ []
+once_differ names r = by_apart bytes_eq exact_bytes names (rw (map_same names) at (differ_apart (λ (name : List ℕ). name) names r))
+
+own_placed : (d : Drawn) → first (text_s11 d) ≡ None → Placed (once (introduced d.class.face.entries)) [] [] (with_modifier is_override (given d.text.items)) (with_modifier is_call (given d.text.items))
+own_placed d e = placed_says (once (introduced d.class.face.entries)) [] [] (given d.text.items)
+    (ap first (none_map (text_breach 11 d) (misplaced (once (introduced d.class.face.entries)) [] [] (given d.text.items)) e))
+
+empty : {A : Type 0} (xs : List A) → first xs ≡ None → xs ≡ []
+empty [] e = refl
+empty (x ∷ xs) e = absurd (cc)
+
+pub modifiers_law : (ds : List Drawn) → (first (flat_map text_s11 ds) ≡ None) ↔ ModifiersStand ds
+modifiers_law ds = (
+  (λ e. record {
+    overridden = λ d m. differ_once (with_modifier is_override (given d.text.items)) (own_placed d (flat_none text_s11 ds d e m)).once_over;
+    called = λ d m. differ_once (with_modifier is_call (given d.text.items)) (own_placed d (flat_none text_s11 ds d e m)).once_asked;
+    own = λ d name m n. mem_of_once name (introduced d.class.face.entries) ((own_placed d (flat_none text_s11 ds d e m)).known name n);
+  }),
+  (λ r. none_flat text_s11 ds (λ d m.
+      map_none (text_breach 11 d) (misplaced (once (introduced d.class.face.entries)) [] [] (given d.text.items))
+      (empty (misplaced (once (introduced d.class.face.entries)) [] [] (given d.text.items))
+      (says_placed (once (introduced d.class.face.entries)) [] [] (given d.text.items) (record {
+        once_over = once_differ (with_modifier is_override (given d.text.items)) (r.overridden d m);
+        once_asked = once_differ (with_modifier is_call (given d.text.items)) (r.called d m);
+        known = λ name n. (among_mem name (once (introduced d.class.face.entries))).1 (says_once name [] (introduced d.class.face.entries) (r.own d name m n));
+      }))))),
+)

@@ -1,0 +1,24 @@
+use Rattle.std.proofs.Common.{length, ◌+◌, sym, ap, ◌∙◌, arith, subst, ◌≡◌, false}
+use Rattle.std.specs.Prelude.{Option, None}
+use Rattle.som_model.specs.Kernel.{som_class}
+use Rattle.som_model.specs.Classes.{is_a}
+use Rattle.som_model.specs.declared.key.ClassKey.{ClassKey}
+use Rattle.som_verify.specs.Modules.{classes_of}
+use Rattle.som_verify.specs.Places.{Finds, with_kernel}
+use Rattle.som_verify.proofs.DeclaredClasses.{known_number}
+use Rattle.som_sema.specs.Home.{home_in}
+use Rattle.som_sema.proofs.Unknown.{unknown_class}
+use Rattle.som_sema.proofs.bases.makes_classes.Goals as goal
+
+pub returns-in-None : goal.returns-in-None
+returns-in-None c =
+    let ds = c.args.classes.now in
+    sym (unknown_class (classes_of ds) (home_in c.args.scope.now c.args.name.now) c.args.name.now (length ds + 4) (known_number ds)
+    (subst (λ (k : ClassKey). Finds (length ds + 4) (with_kernel (classes_of ds)) k None) c.in_ok-key.ensures c.in-None.ensures))
+
+pub returns : goal.returns
+returns c =
+    let cs = with_kernel (classes_of c.args.classes.now) in
+    let f = c.in-Some.ensures in
+    c.descends_by.ensures cs c.requires.lists (omega (arith, known_number c.args.classes.now))
+    ∙ ap (λ k. is_a cs k som_class) (f.2 ∙ c.in_ok-key.ensures)

@@ -1,0 +1,13 @@
+use Rattle.std.proofs.Common.{◌≡◌, drop, take, flat_map}
+use Rattle.som_model.specs.Lists.{first}
+use Rattle.som_order.specs.Names.{texts}
+use Rattle.som_sema.specs.Home.{home_in}
+use Rattle.som_sema.specs.Sketch.{seen}
+use Rattle.som_sema.specs.TextRules.{base_stands}
+use Rattle.som_verify.specs.Modules.{classes_of}
+use Rattle.som_verify.specs.Places.{with_kernel}
+use Rattle.som_sema.proofs.bases.own_bases_stand.Given as goal
+
+abbrev pub invariant-loop-name : goal.invariant-loop-name
+invariant-loop-name l = first (flat_map (base_stands (home_in l.scope) (take l.place (with_kernel (classes_of l.classes))) (seen l.drawing)) (texts (drop l.name-index l.name-items)))
+    ≡ first (flat_map (base_stands (home_in l.scope) (take l.place (with_kernel (classes_of l.classes))) (seen l.drawing)) (texts l.name-items))

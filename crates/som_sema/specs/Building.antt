@@ -1,0 +1,88 @@
+-- The declarations that texts stand for, and what is told of them.
+use Rattle.std.specs.Prelude.{◌≡◌, ℕ, ◌+◌, ◌<◌, ◌≤◌, List, [], ◌++◌, map, flat_map, length, codes, Option, None, Some, Result, Ok, Err}
+use Rattle.som_model.specs.declared.key.Module.{Module}
+use Rattle.som_model.specs.declared.key.Module.TheVariants as modules
+use Rattle.som_model.specs.declared.class.ClassDecl.{ClassDecl}
+use Rattle.som_model.specs.declared.program.Interface.{Interface}
+use Rattle.som_model.specs.declared.limits.TheConstants.{MAX_CLIENT_CLASSES, MAX_LIBRARY_CLASSES}
+use Rattle.som_model.specs.Lists.{first, or_else}
+use Rattle.som_model.specs.Class.{Class, class_in}
+use Rattle.som_model.specs.Classes.{interface_classes}
+use Rattle.som_model.specs.Kernel.{kernel}
+use Rattle.som_model.specs.Conforming.{each_after}
+use Rattle.som_model.specs.Rules.{Breach, s1, s3, s5, s7, s8, s9, s10}
+use Rattle.som_idl.specs.declared.tree.IdlInterface.{IdlInterface}
+use Rattle.som_verify.specs.Places.{with_kernel}
+use Rattle.som_verify.specs.Told.{told}
+use Rattle.som_verify.specs.declared.types.VerifyFault.{VerifyFault}
+use Rattle.som_verify.specs.declared.types.VerifyFault.TheVariants as verify
+use Rattle.som_sema.specs.declared.types.Refused.{Refused}
+use Rattle.som_sema.specs.declared.types.Refused.TheVariants as faults
+use Rattle.som_sema.specs.Words.{interface_names, once}
+use Rattle.som_sema.specs.Home.{face_names, home, kernel_names}
+use Rattle.som_sema.specs.Sketch.{Drawn, drawn, sketches}
+use Rattle.som_sema.specs.Finished.{declare}
+use Rattle.som_sema.specs.TextRules.{text_s2_from, text_s4, text_s6, text_s11, text_s12}
+
+-- where the names in the texts of a module lead, which is compiled against a base
+abbrev pub home_of : Module → Interface → List IdlInterface → List ℕ → Module
+home_of m base is = home m (once (interface_names is)) (once (face_names base.classes)) kernel_names
+
+-- the classes of a module after those of its base
+abbrev pub after_base : Module → List Class → List ClassDecl → List Class
+after_base m base ds = base ++ map (class_in m) ds
+
+-- the declarations that go with these sketches
+abbrev pub declared_all : Module → List Class → List Drawn → List ClassDecl
+declared_all m base ds = map (declare (with_kernel (after_base m base (sketches ds))) m) ds
+
+-- the first breach of the rules S1 to S7, which look at no other class's entries: of all classes, those of the base, the own ones, and their texts
+abbrev pub sketch_breach : (List ℕ → Module) → List Class → List Class → List Class → List Drawn → Option Breach
+sketch_breach home cs base own ds =
+    or_else (first (each_after s1 (with_kernel base) own))
+    (or_else (first (text_s2_from home (with_kernel cs) (length (with_kernel base)) ds))
+    (or_else (first (flat_map s3 own))
+    (or_else (first (flat_map (text_s4 home (with_kernel cs)) ds))
+    (or_else (first (flat_map (s5 (with_kernel cs)) own))
+    (or_else (first (flat_map text_s6 ds))
+    (first (flat_map s7 own)))))))
+
+-- the first breach of the rules S8 to S10
+abbrev pub moved_breach : List Class → List Class → Option Breach
+moved_breach cs own =
+    or_else (first (flat_map (s8 (with_kernel cs)) own))
+    (or_else (first (flat_map (s9 (with_kernel cs)) own))
+    (first (flat_map (s10 (with_kernel cs)) own)))
+
+-- the first breach of the rules S1 to S12: the lowest rule, its first class, and there the first member
+abbrev pub drawn_breach : (List ℕ → Module) → Module → List Class → List Drawn → Option Breach
+drawn_breach home m base ds =
+    or_else (sketch_breach home (after_base m base (sketches ds)) base (map (class_in m) (sketches ds)) ds)
+    (or_else (moved_breach (after_base m base (declared_all m base ds)) (map (class_in m) (declared_all m base ds)))
+    (or_else (first (flat_map text_s11 ds))
+    (first (flat_map text_s12 ds))))
+
+-- what the texts declare
+abbrev pub declarations : Module → Interface → List IdlInterface → List ClassDecl
+declarations m base is = declared_all m (interface_classes base) (map (drawn (home_of m base is)) is)
+
+-- the first rule that they break
+abbrev pub texts_breach : Module → Interface → List IdlInterface → Option Breach
+texts_breach m base is = drawn_breach (home_of m base is) m (interface_classes base) (map (drawn (home_of m base is)) is)
+
+-- how many classes a module may have
+abbrev pub most_classes : Module → ℕ
+most_classes modules.Client = MAX_CLIENT_CLASSES
+most_classes _ = MAX_LIBRARY_CLASSES
+
+-- a breach or want of memory, as it is answered
+abbrev pub refused_by : VerifyFault → Refused
+refused_by (verify.Rule b) = faults.Rule b
+refused_by verify.NoMemory = faults.NoMemory
+
+-- the declarations exactly where the limit of classes and the rules hold, and else the first of these that fails; want of memory says nothing
+abbrev pub FacesTold : Module → Interface → List IdlInterface → Result (List ClassDecl) Refused → Type 0
+FacesTold m base is (Ok ds) = (length is ≤ most_classes m) × (texts_breach m base is ≡ None) × (ds ≡ declarations m base is)
+FacesTold m base is (Err (faults.Rule b)) = (length is ≤ most_classes m) × (texts_breach m base is ≡ Some (told b))
+FacesTold m base is (Err (faults.Limit quantity number)) = (most_classes m < length is) × (quantity ≡ codes "classes") × (number ≡ most_classes m)
+FacesTold m base is (Err faults.NoMemory) = Unit {0}

@@ -1,0 +1,49 @@
+-- What an interface declares, with the classes that introduce what was moved up and what is overridden.
+use Rattle.std.specs.Prelude.{ℕ, suc, List, [], ◌∷◌, map, Option, Some, None, unwrap_or}
+use Rattle.som_model.specs.declared.key.Module.{Module}
+use Rattle.som_model.specs.declared.key.ClassKey.{ClassKey}
+use Rattle.som_model.specs.declared.class.Entry.{Entry}
+use Rattle.som_model.specs.declared.class.Entry.TheVariants as entries
+use Rattle.som_model.specs.declared.class.Override.{Override}
+use Rattle.som_model.specs.declared.class.ClassDecl.{ClassDecl}
+use Rattle.som_model.specs.Lists.{among, find}
+use Rattle.som_model.specs.Class.{Class, class_in, entry_of, introduced}
+use Rattle.som_model.specs.Classes.{ancestors}
+use Rattle.som_model.specs.EffectiveOrder.{effective_order}
+use Rattle.som_model.specs.Rules.{introduced_by}
+use Rattle.som_verify.specs.Places.{key_at}
+use Rattle.som_sema.specs.Items.{listed, overridden}
+use Rattle.som_sema.specs.Sketch.{Drawn}
+
+-- the first ancestor of a class that introduces the name, and the class itself where none does
+abbrev pub introducer : List Class → ClassKey → List ℕ → ClassKey
+introducer cs k name = unwrap_or (find (λ a. among name (introduced_by cs a)) (ancestors cs k)) k
+
+abbrev pub entry_or_moved : ClassKey → List ℕ → Option Entry → Entry
+entry_or_moved to name None = entries.Moved name to
+entry_or_moved to name (Some e) = e
+
+-- the entry of a name in the release order: what the class introduces, and else the name moved to its introducer
+abbrev pub entry_for : List Class → ClassKey → List Entry → List ℕ → Entry
+entry_for cs k own name = entry_or_moved (introducer cs k name) name (entry_of own name)
+
+abbrev pub override_of : List Class → ClassKey → List ℕ → Override
+override_of cs k name = record { method = record { class = introducer cs k name; name = name }; block = record { statements = [] } }
+
+-- the declaration of the class of a key: its entries in the effective order, and an override with an empty block for each that the text has
+abbrev pub declare_at : List Class → ClassKey → Drawn → ClassDecl
+declare_at cs k d = record {
+  face = record d.class.face { entries = map (entry_for cs k d.class.face.entries) (effective_order (listed d.text.items) (introduced d.class.face.entries)) };
+  variables = d.class.variables;
+  bodies = [];
+  overrides = map (override_of cs k) (overridden d.text.items);
+}
+
+-- the declaration of a class of a module
+abbrev pub declare : List Class → Module → Drawn → ClassDecl
+declare cs m d = declare_at cs (class_in m d.class).key d
+
+-- the declarations of classes by the keys that they have from a place on
+abbrev pub declared_from : List Class → ℕ → List Drawn → List ClassDecl
+declared_from cs place [] = []
+declared_from cs place (d ∷ ds) = declare_at cs (key_at cs place) d ∷ declared_from cs (suc place) ds

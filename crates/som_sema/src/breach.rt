@@ -1,0 +1,47 @@
+ghost use Rattle.som_model.specs.Rules.{Breach};
+ghost use Rattle.som_model.specs.Lists.{first};
+ghost use Rattle.som_sema.specs.Sketch.{Drawn, drawings as drawn, seen};
+ghost use Rattle.som_sema.specs.declared.sketch.Drawing.{Drawing as Known};
+ghost use Rattle.som_verify.specs.Told.{Tells};
+ghost use Rattle.som_verify.specs.declared.types.VerifyFault.{VerifyFault as Fault};
+ghost use Rattle.som_verify.specs.declared.types.VerifyFault.TheVariants as faults;
+ghost use Rattle.std.specs.Prelude.{◌≡◌, ◌<◌, ℕ, List as Seq, length, flat_map, slice_get, IfOk, Result, Some};
+
+use crate::sketch::Drawing;
+use som_model::{NoMemory, Text};
+use som_verify::{Broken, VerifyFault};
+use std::alloc::Global;
+
+/// The breach of a rule by a member of a class, as an error.
+pub fn breach(
+    alloc: Global,
+    rule: u8,
+    drawing: &Drawing,
+    member: &[u8],
+) -> Result<VerifyFault, NoMemory>
+    ensures { IfOk result (λ e. e ≡ faults.Rule
+        (record { rule = rule; class = drawing.now.decl.face.name; member = member.now })) }
+{
+    Ok(VerifyFault::Rule(Broken {
+        rule,
+        class: drawing.decl.face.name.copy(alloc)?,
+        member: Text::from_slice(alloc, member)?,
+    }))
+}
+
+/// A rule at each class in order, by the classes' places.
+pub fn each_drawing<F: Fn(usize) -> Result<(), VerifyFault>>(
+    drawings: &[Drawing],
+    rule: F,
+) -> Result<(), VerifyFault>
+    requires callable { (place : ℕ) → place < length drawings.now → F.pre rule place }
+    ensures { (one : Drawn → Seq Breach) →
+        ((place : ℕ) (d : Known) (r : Result (Unit {0}) Fault) → slice_get drawings.now place ≡ Some d →
+        F.post rule place r → Tells (first (one (seen d))) r) →
+        Tells (first (flat_map one (drawn drawings.now))) result }
+{
+    for place in 0..drawings.len() {
+        rule(place)?;
+    }
+    Ok(())
+}

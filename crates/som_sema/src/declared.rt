@@ -1,0 +1,283 @@
+ghost use Rattle.som_model.specs.Class.{entry_of, introduced};
+ghost use Rattle.som_model.specs.Kernel.{kernel_interface};
+ghost use Rattle.som_order.specs.Names.{texts};
+ghost use Rattle.som_sema.specs.Finished as spec;
+ghost use Rattle.som_sema.specs.Finished.{declare_at, entry_for, override_of};
+ghost use Rattle.som_sema.specs.Items as spec_items;
+ghost use Rattle.som_sema.specs.Items.{listed as listed_names};
+ghost use Rattle.som_sema.specs.Noted as names_first;
+ghost use Rattle.som_sema.specs.Noted.{At, IsKnown, all_at, along, counted};
+ghost use Rattle.som_sema.specs.Sketch.{drawings as drawn, seen};
+ghost use Rattle.som_verify.specs.Modules.{classes_of};
+ghost use Rattle.som_verify.specs.Places.{key_at as key_at_place, with_kernel};
+ghost use Rattle.som_verify.specs.Walk.{AreLists};
+ghost use Rattle.std.specs.Prelude.{◌≡◌, ◌<◌, ◌+◌, [], List as Seq, length, map, slice_get, slice_index_or, option_copied, unwrap_or, IfOk};
+ghost use Rattle.som_model.specs.EffectiveOrder as orders;
+
+use crate::faces::{introduced_along, key_at};
+use crate::items::listed;
+use crate::marks::marks;
+use crate::places::{Noted, Places, first_place, note, place_table};
+use crate::sketch::Drawing;
+use crate::tables::overridden;
+use som_idl::Item;
+use som_model::{
+    Block, ClassDecl, ClassFace, ClassKey, Entry, List, MethodRef, NoMemory, Override, Text,
+    Variable,
+};
+use som_order::{effective_order, name_of};
+use som_verify::Declared;
+use std::alloc::Global;
+
+/// The declarations of a module's classes, the first of which stands at a place.
+pub fn declarations(
+    alloc: Global,
+    kernel: &[ClassFace],
+    classes: &[Declared],
+    lists: &[List<usize>],
+    drawings: &[Drawing],
+    from: usize,
+) -> Result<List<ClassDecl>, NoMemory>
+    requires kernel { kernel.now ≡ kernel_interface.classes }
+    requires lists { AreLists (with_kernel (classes_of classes.now)) lists.now }
+    requires from { from + length drawings.now ≡ length (with_kernel (classes_of classes.now)) }
+    ensures { IfOk result (λ ds. ds ≡ spec.declared_from (with_kernel (classes_of classes.now)) from (drawn drawings.now)) }
+{
+    let mut all = List::new(alloc);
+    let mut place = from;
+    for drawing in drawings {
+        let decl = declaration(alloc, kernel, classes, lists, drawing, place)?;
+        all.push(decl)?;
+        place += 1;
+    }
+    Ok(all)
+}
+
+fn declaration(
+    alloc: Global,
+    kernel: &[ClassFace],
+    classes: &[Declared],
+    lists: &[List<usize>],
+    drawing: &Drawing,
+    place: usize,
+) -> Result<ClassDecl, NoMemory>
+    requires kernel { kernel.now ≡ kernel_interface.classes }
+    requires lists { AreLists (with_kernel (classes_of classes.now)) lists.now }
+    requires place { place < length (with_kernel (classes_of classes.now)) }
+    ensures { IfOk result (λ d. d ≡ declare_at (with_kernel (classes_of classes.now))
+        (key_at_place (with_kernel (classes_of classes.now)) place) (seen drawing.now)) }
+{
+    let list = list_at(lists, place);
+    let along = introduced_along(alloc, kernel, classes, list)?;
+    let above = place_table(alloc, &along)?;
+    let face = &drawing.decl.face;
+    Ok(ClassDecl {
+        face: ClassFace {
+            name: face.name.copy(alloc)?,
+            major: face.major,
+            minor: face.minor,
+            parents: keys(alloc, face.parents.as_slice())?,
+            metaclass: optional_key(alloc, &face.metaclass)?,
+            entries: entries(alloc, kernel, classes, lists, &above, drawing, place)?,
+        },
+        variables: variables(alloc, drawing.decl.variables.as_slice())?,
+        bodies: List::new(alloc),
+        overrides: overrides(alloc, kernel, classes, lists, &above, drawing, place)?,
+    })
+}
+
+fn list_at(lists: &[List<usize>], place: usize) -> &[usize]
+    requires { place < length lists.now }
+    ensures { result.now ≡ slice_index_or lists.now place [] }
+{
+    lists[place].as_slice()
+}
+
+fn keys(alloc: Global, keys: &[ClassKey]) -> Result<List<ClassKey>, NoMemory>
+    ensures { IfOk result (λ copies. copies ≡ keys.now) }
+{
+    let mut copies = List::new(alloc);
+    for key in keys {
+        copies.push(key.copy(alloc)?)?;
+    }
+    Ok(copies)
+}
+
+fn optional_key(alloc: Global, key: &Option<ClassKey>) -> Result<Option<ClassKey>, NoMemory>
+    ensures { IfOk result (λ copy. copy ≡ key.now) }
+{
+    match key {
+        None => Ok(None),
+        Some(key) => Ok(Some(key.copy(alloc)?)),
+    }
+}
+
+fn variables(alloc: Global, variables: &[Variable]) -> Result<List<Variable>, NoMemory>
+    ensures { IfOk result (λ copies. copies ≡ variables.now) }
+{
+    let mut copies = List::new(alloc);
+    for variable in variables {
+        copies.push(variable.copy(alloc)?)?;
+    }
+    Ok(copies)
+}
+
+// The entries of a class in the effective order.
+fn entries(
+    alloc: Global,
+    kernel: &[ClassFace],
+    classes: &[Declared],
+    lists: &[List<usize>],
+    above: &Places,
+    drawing: &Drawing,
+    place: usize,
+) -> Result<List<Entry>, NoMemory>
+    requires kernel { kernel.now ≡ kernel_interface.classes }
+    requires lists { AreLists (with_kernel (classes_of classes.now)) lists.now }
+    requires place { place < length (with_kernel (classes_of classes.now)) }
+    requires above { IsKnown (along (with_kernel (classes_of classes.now)) (slice_index_or lists.now place [])) above.now }
+    ensures { IfOk result (λ es. es ≡ map (entry_for (with_kernel (classes_of classes.now))
+        (key_at_place (with_kernel (classes_of classes.now)) place) drawing.now.decl.face.entries)
+        (orders.effective_order (listed_names drawing.now.text.now.items) (introduced drawing.now.decl.face.entries))) }
+{
+    let own = drawing.decl.face.entries.as_slice();
+    let order = order_of(alloc, drawing.text.items.as_slice(), own)?;
+    let own_places = place_table(alloc, &numbered(alloc, own)?)?;
+    let mut all = List::new(alloc);
+    for name in order.as_slice() {
+        let entry = match entry_at(own, &own_places, name.as_slice()) {
+            Some(entry) => entry.copy(alloc)?,
+            None => Entry::Moved {
+                name: name.copy(alloc)?,
+                to: introducer(alloc, kernel, classes, lists, above, place, name.as_slice())?,
+            },
+        };
+        all.push(entry)?;
+    }
+    Ok(all)
+}
+
+// The effective order of the names that are listed and of those that are introduced.
+fn order_of(alloc: Global, items: &[Item], own: &[Entry]) -> Result<List<Text>, NoMemory>
+    ensures { IfOk result (λ names. names ≡ orders.effective_order (listed_names items.now) (introduced own.now)) }
+{
+    let names = listed(alloc, items)?;
+    let listed = copies(alloc, &names)?;
+    let introduced = introduced_names(alloc, own)?;
+    effective_order(alloc, &listed, &introduced)
+}
+
+fn copies(alloc: Global, names: &[&[u8]]) -> Result<List<Text>, NoMemory>
+    ensures { IfOk result (λ copies. copies ≡ texts names.now) }
+{
+    let mut copies = List::new(alloc);
+    for name in names {
+        copies.push(Text::from_slice(alloc, *name)?)?;
+    }
+    Ok(copies)
+}
+
+fn introduced_names(alloc: Global, entries: &[Entry]) -> Result<List<Text>, NoMemory>
+    ensures { IfOk result (λ names. names ≡ introduced entries.now) }
+{
+    let mut names = List::new(alloc);
+    for entry in entries {
+        if let Entry::Introduced { name, .. } = entry {
+            names.push(name.copy(alloc)?)?;
+        }
+    }
+    Ok(names)
+}
+
+// The names of entries with their places.
+fn numbered<'a>(alloc: Global, entries: &'a [Entry]) -> Result<Vec<Noted<'a>>, NoMemory>
+    ensures { IfOk result (λ all. all_at all.items ≡ counted 0 entries.now) }
+{
+    let mut all = Vec::new(alloc);
+    for place in 0..entries.len() {
+        note(&mut all, name_of(&entries[place]).as_slice(), place)?;
+    }
+    Ok(all)
+}
+
+fn entry_at<'a>(entries: &'a [Entry], places: &Places, name: &[u8]) -> Option<&'a Entry>
+    requires { IsKnown (counted 0 entries.now) places.now }
+    ensures { option_copied result ≡ entry_of entries.now name.now }
+{
+    match first_place(places, name) {
+        None => None,
+        Some(place) => entry_in(entries, place),
+    }
+}
+
+fn entry_in(entries: &[Entry], place: usize) -> Option<&Entry>
+    ensures { option_copied result ≡ slice_get entries.now place }
+{
+    entries.get(place)
+}
+
+// The class of the first ancestor that introduces a name, and the class itself where none does.
+fn introducer(
+    alloc: Global,
+    kernel: &[ClassFace],
+    classes: &[Declared],
+    lists: &[List<usize>],
+    above: &Places,
+    place: usize,
+    name: &[u8],
+) -> Result<ClassKey, NoMemory>
+    requires kernel { kernel.now ≡ kernel_interface.classes }
+    requires lists { AreLists (with_kernel (classes_of classes.now)) lists.now }
+    requires place { place < length (with_kernel (classes_of classes.now)) }
+    requires above { IsKnown (along (with_kernel (classes_of classes.now)) (slice_index_or lists.now place [])) above.now }
+    ensures { IfOk result (λ key. key ≡ spec.introducer (with_kernel (classes_of classes.now))
+        (key_at_place (with_kernel (classes_of classes.now)) place) name.now) }
+{
+    let at = introducer_place(above, place, name);
+    let key = key_at(alloc, kernel, classes, at)?;
+    Ok(key)
+}
+
+fn introducer_place(above: &Places, place: usize, name: &[u8]) -> usize
+    ensures { (ps : Seq At) → IsKnown ps above.now → result ≡ unwrap_or (names_first.first_place ps name.now) place }
+{
+    match first_place(above, name) {
+        Some(found) => found,
+        None => place,
+    }
+}
+
+// An override with an empty block for each method that is overridden.
+fn overrides(
+    alloc: Global,
+    kernel: &[ClassFace],
+    classes: &[Declared],
+    lists: &[List<usize>],
+    above: &Places,
+    drawing: &Drawing,
+    place: usize,
+) -> Result<List<Override>, NoMemory>
+    requires kernel { kernel.now ≡ kernel_interface.classes }
+    requires lists { AreLists (with_kernel (classes_of classes.now)) lists.now }
+    requires place { place < length (with_kernel (classes_of classes.now)) }
+    requires above { IsKnown (along (with_kernel (classes_of classes.now)) (slice_index_or lists.now place [])) above.now }
+    ensures { IfOk result (λ os. os ≡ map (override_of (with_kernel (classes_of classes.now))
+        (key_at_place (with_kernel (classes_of classes.now)) place)) (spec_items.overridden drawing.now.text.now.items)) }
+{
+    let marks = marks(alloc, drawing.text.items.as_slice())?;
+    let names = overridden(alloc, &marks)?;
+    let mut all = List::new(alloc);
+    for name in names.as_slice() {
+        let class = introducer(alloc, kernel, classes, lists, above, place, *name)?;
+        all.push(Override {
+            method: MethodRef {
+                class,
+                name: Text::from_slice(alloc, *name)?,
+            },
+            block: Block {
+                statements: List::new(alloc),
+            },
+        })?;
+    }
+    Ok(all)
+}

@@ -1,0 +1,91 @@
+ghost use Rattle.som_model.specs.Kernel.{kernel_interface};
+ghost use Rattle.som_model.specs.Lists.{Mem};
+ghost use Rattle.som_sema.specs.Noted.{all_at, along, at_one};
+ghost use Rattle.som_model.specs.Class.{introduced};
+ghost use Rattle.som_verify.specs.Modules.{classes_of};
+ghost use Rattle.som_verify.specs.Places.{face_at, key_at as key_at_place, module_at, with_kernel};
+ghost use Rattle.std.specs.Prelude.{◌≡◌, ◌<◌, ◌++◌, ℕ, length, IfOk, OnOk};
+
+use crate::places::{Noted, note};
+use som_model::{ClassFace, ClassKey, Entry, Module, NoMemory};
+use som_verify::Declared;
+use std::alloc::Global;
+
+/// The number of the kernel's classes, which stand before the declared ones.
+pub const KERNEL_CLASSES: usize = 4;
+
+/// The face of the class at a place.
+pub fn face_of<'a>(kernel: &'a [ClassFace], classes: &[Declared<'a>], place: usize) -> &'a ClassFace
+    requires kernel { kernel.now ≡ kernel_interface.classes }
+    requires place { place < length (with_kernel (classes_of classes.now)) }
+    ensures { result.now ≡ face_at (with_kernel (classes_of classes.now)) place }
+{
+    if place < KERNEL_CLASSES {
+        &kernel[place]
+    } else {
+        let decl = classes[place - KERNEL_CLASSES].decl;
+        &decl.face
+    }
+}
+
+fn module_of(classes: &[Declared], place: usize) -> Module
+    requires { place < length (with_kernel (classes_of classes.now)) }
+    ensures { result ≡ module_at (with_kernel (classes_of classes.now)) place }
+{
+    if place < KERNEL_CLASSES {
+        Module::Kernel
+    } else {
+        classes[place - KERNEL_CLASSES].module
+    }
+}
+
+/// The key of the class at a place.
+pub fn key_at(
+    alloc: Global,
+    kernel: &[ClassFace],
+    classes: &[Declared],
+    place: usize,
+) -> Result<ClassKey, NoMemory>
+    requires kernel { kernel.now ≡ kernel_interface.classes }
+    requires place { place < length (with_kernel (classes_of classes.now)) }
+    ensures { IfOk result (λ key. key ≡ key_at_place (with_kernel (classes_of classes.now)) place) }
+{
+    let home = module_of(classes, place);
+    let face = face_of(kernel, classes, place);
+    let name = face.name.copy(alloc)?;
+    Ok(ClassKey::Named { module: home, name })
+}
+
+/// The names that classes introduce, with the classes' places, along a list of places.
+pub fn introduced_along<'a>(
+    alloc: Global,
+    kernel: &'a [ClassFace],
+    classes: &[Declared<'a>],
+    list: &[usize],
+) -> Result<Vec<Noted<'a>>, NoMemory>
+    requires kernel { kernel.now ≡ kernel_interface.classes }
+    requires list { (a : ℕ) → Mem a list.now → a < length (with_kernel (classes_of classes.now)) }
+    ensures { IfOk result (λ all. all_at all.items ≡ along (with_kernel (classes_of classes.now)) list.now) }
+{
+    let mut all = Vec::new(alloc);
+    for place in list {
+        let face = face_of(kernel, classes, *place);
+        note_introduced(&mut all, face.entries.as_slice(), *place)?;
+    }
+    Ok(all)
+}
+
+fn note_introduced<'a>(
+    all: &mut Vec<Noted<'a>>,
+    entries: &'a [Entry],
+    place: usize,
+) -> Result<(), NoMemory>
+    ensures { OnOk result (all_at all.new.items ≡ all_at all.old.items ++ at_one place (introduced entries.now)) }
+{
+    for entry in entries {
+        if let Entry::Introduced { name, .. } = entry {
+            note(all, name.as_slice(), place)?;
+        }
+    }
+    Ok(())
+}

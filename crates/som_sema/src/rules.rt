@@ -1,0 +1,142 @@
+ghost use Rattle.som_model.specs.Class.{class_in};
+ghost use Rattle.som_model.specs.Conforming.{each_after};
+ghost use Rattle.som_model.specs.Kernel.{kernel_interface};
+ghost use Rattle.som_model.specs.Lists.{first};
+ghost use Rattle.som_model.specs.Rules.{s1, s3, s5, s7};
+ghost use Rattle.som_order.specs.Names.{texts};
+ghost use Rattle.som_sema.specs.Building.{moved_breach, sketch_breach};
+ghost use Rattle.som_sema.specs.Home.{home_in};
+ghost use Rattle.som_sema.specs.Sketch.{drawings as drawn, sketches};
+ghost use Rattle.som_sema.specs.TextRules.{text_s2_from};
+ghost use Rattle.som_sema.specs.Walks.{AreDrawn, IsWalked};
+ghost use Rattle.som_verify.specs.Faces.{faces_breach};
+ghost use Rattle.som_verify.specs.Modules.{classes_of};
+ghost use Rattle.som_verify.specs.Places.{IsTable, with_kernel};
+ghost use Rattle.som_verify.specs.Told.{Tells};
+ghost use Rattle.std.specs.Prelude.{◌≡◌, ◌≤◌, ◌+◌, length, map, take, drop, flat_map, IfOk, None};
+
+use crate::bases::{bases_stand, metaclasses_descend};
+use crate::faces::KERNEL_CLASSES;
+use crate::members::names_differ;
+use crate::scope::Scope;
+use crate::sketch::Drawing;
+use crate::walked::{Walked, ancestor_lists};
+use indexmap::IndexSet;
+use som_model::ClassFace;
+use som_verify::{
+    Declared, VerifyFault, class_names, entries_moved_up, names_introduced_once,
+    overrides_inherited, parents_differ, types_known, variables_differ,
+};
+use std::alloc::Global;
+
+/// The rules S1 to S7 of a module's classes, which stand after those of a base that conforms.
+pub fn sketches_hold<'a>(
+    alloc: Global,
+    scope: &Scope,
+    classes: &[Declared<'a>],
+    base: usize,
+    drawings: &[Drawing],
+) -> Result<Walked<'a>, VerifyFault>
+    requires base { base + length drawings.now ≡ length classes.now }
+    requires conforms { faces_breach (classes_of (take base classes.now)) ≡ None }
+    requires drawn { AreDrawn (home_in scope.now) (drawn drawings.now) }
+    requires own { classes_of (drop base classes.now) ≡ map (class_in scope.now.module) (sketches (drawn drawings.now)) }
+    ensures tells { Tells (sketch_breach (home_in scope.now) (classes_of classes.now) (classes_of (take base classes.now))
+        (classes_of (drop base classes.now)) (drawn drawings.now)) result }
+    ensures walked { IfOk result (IsWalked (classes_of classes.now)) }
+{
+    let table = own_names_differ(alloc, classes, base)?;
+    own_bases_stand(alloc, scope, &table, classes, base, drawings)?;
+    own_parents_differ(alloc, classes, base)?;
+    let lists = ancestor_lists(alloc, &table, classes)?;
+    metaclasses_descend(alloc, scope, &table, classes, lists.as_slice(), drawings)?;
+    own_types_known(alloc, &table, classes, base)?;
+    names_differ(alloc, drawings)?;
+    own_variables_differ(alloc, classes, base)?;
+    Ok(Walked { table, lists })
+}
+
+// The names of the own classes differ from all before them.
+fn own_names_differ<'a>(
+    alloc: Global,
+    classes: &[Declared<'a>],
+    base: usize,
+) -> Result<IndexSet<&'a [u8]>, VerifyFault>
+    requires { faces_breach (classes_of (take base classes.now)) ≡ None }
+    ensures tells { Tells (first (each_after s1 (with_kernel (classes_of (take base classes.now))) (classes_of (drop base classes.now)))) result }
+    ensures table { IfOk result (λ table. IsTable (classes_of classes.now) (texts table.keys)) }
+{
+    class_names(alloc, classes)
+}
+
+// The parents and metaclass items of the own classes stand before them.
+fn own_bases_stand(
+    alloc: Global,
+    scope: &Scope,
+    table: &IndexSet<&[u8]>,
+    classes: &[Declared],
+    base: usize,
+    drawings: &[Drawing],
+) -> Result<(), VerifyFault>
+    requires table { IsTable (classes_of classes.now) (texts table.now.keys) }
+    requires base { base + length drawings.now ≡ length classes.now }
+    ensures { Tells (first (text_s2_from (home_in scope.now) (with_kernel (classes_of classes.now))
+        (length (with_kernel (classes_of (take base classes.now)))) (drawn drawings.now))) result }
+{
+    bases_stand(
+        alloc,
+        scope,
+        table,
+        classes,
+        drawings,
+        base + KERNEL_CLASSES,
+    )
+}
+
+fn own_parents_differ(alloc: Global, classes: &[Declared], base: usize) -> Result<(), VerifyFault>
+    requires { base ≤ length classes.now }
+    ensures { Tells (first (flat_map s3 (classes_of (drop base classes.now)))) result }
+{
+    parents_differ(alloc, &classes[base..])
+}
+
+fn own_variables_differ(alloc: Global, classes: &[Declared], base: usize) -> Result<(), VerifyFault>
+    requires { base ≤ length classes.now }
+    ensures { Tells (first (flat_map s7 (classes_of (drop base classes.now)))) result }
+{
+    variables_differ(alloc, &classes[base..])
+}
+
+// The types of the own classes are known.
+fn own_types_known(
+    alloc: Global,
+    table: &IndexSet<&[u8]>,
+    classes: &[Declared],
+    base: usize,
+) -> Result<(), VerifyFault>
+    requires table { IsTable (classes_of classes.now) (texts table.now.keys) }
+    requires base { base ≤ length classes.now }
+    ensures { Tells (first (flat_map (s5 (with_kernel (classes_of classes.now))) (classes_of (drop base classes.now)))) result }
+{
+    let number = classes.len() + KERNEL_CLASSES;
+    types_known(alloc, table, classes, number, &classes[base..])
+}
+
+/// The rules S8 to S10 of a module's classes, which stand after those of a base that conforms.
+pub fn moves_hold(
+    alloc: Global,
+    kernel: &[ClassFace],
+    walked: &Walked,
+    classes: &[Declared],
+    base: usize,
+) -> Result<(), VerifyFault>
+    requires kernel { kernel.now ≡ kernel_interface.classes }
+    requires walked { IsWalked (classes_of classes.now) walked.now }
+    requires conforms { faces_breach (classes_of (take base classes.now)) ≡ None }
+    ensures { Tells (moved_breach (classes_of classes.now) (classes_of (drop base classes.now))) result }
+{
+    let lists = walked.lists.as_slice();
+    names_introduced_once(alloc, kernel, classes, lists, base)?;
+    entries_moved_up(alloc, &walked.table, kernel, classes, lists, base)?;
+    overrides_inherited(alloc, &walked.table, kernel, classes, lists, base)
+}
