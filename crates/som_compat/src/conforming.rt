@@ -6,8 +6,7 @@ use som_model::{ClassDecl, ClassFace, Interface, List, NoMemory};
 use som_verify::{VerifyFault, faces_ok};
 use std::alloc::Global;
 
-/// Whether an interface may be compared: it breaks no rule, and is within the counts. A release that
-/// conforms has such an interface; this is for one of which no release is at hand.
+/// Whether an interface may be compared: it breaks no rule that looks at faces, and is within the counts.
 pub fn conforms(alloc: Global, interface: &Interface) -> Result<bool, NoMemory>
     ensures { IfOk result (λ answer. IsTrue answer ↔ Conforms interface.now) }
 {
