@@ -1,3 +1,7 @@
+ghost use Rattle.som_model.specs.Classes.{interface_classes};
+ghost use Rattle.som_verify.specs.Faces.{faces_breach};
+ghost use Rattle.std.specs.Prelude.{◌≡◌, None, IfOk};
+
 use crate::build::build_faces;
 use crate::cases::{CASES, CLIENTS, FACES};
 use crate::types::Refused;
@@ -6,6 +10,7 @@ use som_model::{
     ClassDecl, ClassFace, ClassKey, Entry, Interface, List, Module, NoMemory, Sig, Text, ValueType,
     Way,
 };
+use som_verify::{bare_classes, faces_ok};
 use std::alloc::Global;
 use std::test::Fail;
 
@@ -310,7 +315,9 @@ fn told(
     }
 }
 
-fn no_base(alloc: Global) -> Interface {
+fn no_base(alloc: Global) -> Interface
+    ensures { faces_breach (interface_classes result) ≡ None }
+{
     Interface {
         classes: List::new(alloc),
     }
@@ -340,7 +347,20 @@ fn faces_are_declared(rt: HostRuntime) -> Result<(), Fail> {
     Ok(())
 }
 
-fn library_faces(alloc: Global, short: &str) -> Result<Interface, Fail> {
+// The faces, if they break no rule.
+fn kept(alloc: Global, base: Interface) -> Result<Interface, Fail>
+    ensures { IfOk result (λ base. faces_breach (interface_classes base) ≡ None) }
+{
+    let classes = bare_classes(alloc, base.classes.as_slice())?;
+    match faces_ok(alloc, classes.as_slice()) {
+        Ok(()) => Ok(base),
+        Err(_) => Err(Fail::from("faces that break a rule")),
+    }
+}
+
+fn library_faces(alloc: Global, short: &str) -> Result<Interface, Fail>
+    ensures { IfOk result (λ base. faces_breach (interface_classes base) ≡ None) }
+{
     let files = files(alloc, short)?;
     match build_faces(alloc, &files, &no_base(alloc), Module::Library) {
         Ok(classes) => {
@@ -348,7 +368,7 @@ fn library_faces(alloc: Global, short: &str) -> Result<Interface, Fail> {
             for class in classes.as_slice() {
                 faces.push(class.face.copy(alloc)?)?;
             }
-            Ok(Interface { classes: faces })
+            kept(alloc, Interface { classes: faces })
         }
         Err(_) => Err(Fail::from("a base that breaks a rule")),
     }
