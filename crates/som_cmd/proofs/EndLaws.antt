@@ -70,10 +70,10 @@ bad_fronts asked e (Some before) count now old new front =
 
 -- ---- an end as the answer says
 
-none_told : (told : Files) → None ≡ Some told → ⊥
+pub none_told : (told : Files) → None ≡ Some told → ⊥
 none_told told e = cc
 
-some_told : (a b : Files) → Some a ≡ Some b → a ≡ b
+pub some_told : (a b : Files) → Some a ≡ Some b → a ≡ b
 some_told a b e = cc
 
 -- it is that of any other answer
@@ -81,11 +81,14 @@ module _ (asked : Asked) (before : Files) (status : ℕ) (new_files : Option Fil
   same_ending : e.told ≡ other
   same_ending = one_answer before asked e.told e.is_answer ∙ sym (one_answer before asked other is)
 
-  text_of : ShowsAll old new other.text
+  pub text_of : ShowsAll old new other.text
   text_of = subst (λ (x : Ending). ShowsAll old new x.text) same_ending e.text_is
 
-  status_of : status ≡ other.status
-  status_of = e.status_is ∙ ap (λ (x : Ending). x.status) same_ending
+  pub status_is : status ≡ other.status
+  status_is = e.status_is ∙ ap (λ (x : Ending). x.status) same_ending
+
+  pub files_of : new_files ≡ Some other.files
+  files_of = e.files_are ∙ ap (λ (x : Ending). Some x.files) same_ending
 
 -- is an end as the client means
 pub means_by : (asked : Asked) (files : Option Files) (status : ℕ) (new_files : Option Files) (old new : Option (List ℕ)) (p : ClientProgram) (r : Release) (fuel : ℕ)
@@ -96,7 +99,7 @@ means_by asked (Some before) status new_files old new p r fuel e m =
     let is : IsAnswer m.told asked (ran m.told (means r p fuel)) = subst (λ (a : Asked). IsAnswer m.told a (ran m.told (means r p fuel))) (sym m.asked_is)
     (runs m.client m.library fuel m.client_bytes m.library_bytes m.client_is m.library_is p m.program r m.release m.compiled) in
     let answer = subst (λ (x : Files). IsAnswer x asked (ran x (means r p fuel))) (sym same) is in
-    record { text = text_of asked before status new_files old new e (ran before (means r p fuel)) answer; status_is = status_of asked before status new_files old new e (ran before (means r p fuel)) answer }
+    record { text = text_of asked before status new_files old new e (ran before (means r p fuel)) answer; status_is = status_is asked before status new_files old new e (ran before (means r p fuel)) answer }
 
 -- is an end that shows the release
 pub shows_by : (asked : Asked) (files : Option Files) (status : ℕ) (new_files : Option Files) (old new : Option (List ℕ)) (r : Release) → EndsAsTold asked files status new_files old new → IsImageOf asked files r → ShowsRelease r status old new
@@ -106,4 +109,4 @@ shows_by asked (Some before) status new_files old new r e m =
     let is : IsAnswer m.told asked (showing m.told r) = subst (λ (a : Asked). IsAnswer m.told a (showing m.told r)) (sym m.asked_is)
     (shows m.name m.bytes r m.image_is (library_again m.bytes m.bytes_are r m.spelled m.prints) m.conforms) in
     let answer = subst (λ (x : Files). IsAnswer x asked (showing x r)) (sym same) is in
-    record { text = text_of asked before status new_files old new e (showing before r) answer; status_is = status_of asked before status new_files old new e (showing before r) answer }
+    record { text = text_of asked before status new_files old new e (showing before r) answer; status_is = status_is asked before status new_files old new e (showing before r) answer }

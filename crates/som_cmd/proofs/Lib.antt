@@ -6,9 +6,13 @@ mod RunMeaning
 mod RunLaws
 mod ShowLaws
 mod SayLaws
+mod TextLaws
+mod CompileLaws
+mod LibraryAnswered
 mod FaultLaws
 mod OneAnswer
 mod Telling
 mod RunAnswers
 mod EndLaws
+mod LibraryEndLaws
 mod FuelSpelled

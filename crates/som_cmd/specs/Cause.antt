@@ -1,11 +1,13 @@
 -- When a command may say that the store failed, and with which line.
-use Rattle.std.specs.Prelude.{◌≡◌, ◌⊎◌, ℕ, List, Option, Some, None, Result, Ok, Err, codes}
+use Rattle.std.specs.Prelude.{◌≡◌, ◌⊎◌, ℕ, List, ◌∷◌, ◌++◌, Option, Some, None, Result, Ok, Err, codes}
 use Rattle.std.specs.FinMap.{get}
 use Rattle.som_io.specs.Outside.{Rose}
 use Rattle.som_model.specs.Bytes.{Files}
 use Rattle.som_cmd.specs.declared.stop.Stop.{Stop}
 use Rattle.som_cmd.specs.declared.stop.Stop.TheVariants as stops
-use Rattle.som_cmd.specs.Words.{Asked, Run, Show, Bad}
+use Rattle.som_compile.specs.declared.source.Source.{Source}
+use Rattle.som_cmd.specs.Words.{Asked, Run, Show, Library, Bad}
+use Rattle.som_cmd.specs.LibraryAnswer.{texts_in, AreCompiled}
 use Rattle.som_cmd.specs.Answer.{named}
 
 abbrev pub store_failed : List ℕ → List ℕ
@@ -16,10 +18,30 @@ abbrev pub Has : Option Files → List ℕ → Type 0
 Has None name = Unit {0}
 Has (Some files) name = (bytes : List ℕ) × (get files name ≡ Some bytes)
 
--- the line says that the get of a name failed which the command gets, and no step before that get refuses
+-- the files, where they are told, have texts under these names, which aren't too long
+abbrev pub AreGot : Option Files → List (List ℕ) → Type 0
+AreGot None names = Unit {0}
+AreGot (Some files) names = (ss : List Source) × (texts_in names files ≡ Ok ss)
+
+-- and they are compiled to an image
+abbrev pub HaveImage : Option Files → List (List ℕ) → Type 0
+HaveImage None names = Unit {0}
+HaveImage (Some files) names = (image : List ℕ) × AreCompiled files names image
+
+-- the line says that the get of one of these names failed, and those before it are got
+pub record FailsGettingTexts (files : Option Files) (names : List (List ℕ)) (line : List ℕ) : Type 0 where
+  pub before : List (List ℕ)
+  pub name : List ℕ
+  pub after : List (List ℕ)
+  pub names_are : names ≡ before ++ name ∷ after
+  pub got : AreGot files before
+  pub line_is : line ≡ store_failed name
+
+-- the line says that the get or put of a name failed which the command gets or puts, and no step before refuses
 abbrev pub FailsOn : Option Files → Asked → List ℕ → Type 0
 FailsOn files (Run client library fuel) line = (line ≡ store_failed client) ⊎ ((line ≡ store_failed library) × Has files client)
 FailsOn files (Show image) line = line ≡ store_failed image
+FailsOn files (Library out names) line = FailsGettingTexts files names line ⊎ ((line ≡ store_failed out) × HaveImage files names)
 FailsOn files Bad line = ⊥
 
 abbrev pub StopHasCause : (List ℕ → Type 0) → ℕ → ℕ → Stop → Type 0

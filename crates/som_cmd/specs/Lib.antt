@@ -2,10 +2,14 @@ pub mod RunText
 pub mod Words
 pub mod Status
 pub mod Taking
+pub mod Endings
+pub mod ShowSteps
+pub mod LibraryAnswer
 pub mod Answer
 pub mod Steps
 pub mod RunSteps
-pub mod ShowSteps
+pub mod LibrarySteps
 pub mod Saying
 pub mod Cause
 pub mod Ends
+pub mod LibraryEnds

@@ -1,21 +1,24 @@
 -- The forms of the words.
-use Rattle.std.specs.Prelude.{ℕ, ◌+◌, ◌-◌, ◌*◌, List, [], ◌∷◌, ◌&&◌, Bool, false, not, length, codes, ◌==◌, nat_le, Option, Some, None, if◌then◌else◌}
+use Rattle.std.specs.Prelude.{ℕ, ◌+◌, ◌-◌, ◌*◌, List, [], ◌∷◌, ◌&&◌, Bool, false, not, length, codes, ◌==◌, nat_eq, nat_le, Option, Some, None, if◌then◌else◌}
 use Rattle.std.specs.Str.{bytes_eq}
+use Rattle.std.specs.List.{ends_with}
 use Rattle.som_model.specs.declared.limits.TheConstants.{DEFAULT_FUEL, MAX_FUEL}
 use Rattle.som_model.specs.Lists.{every}
 use Rattle.som_cmd.specs.declared.words.Command.{Command}
 use Rattle.som_cmd.specs.declared.words.Command.TheVariants as commands
 
--- what words ask for: to run a client image on a library image with so much fuel; to show an image; or they have no form
+-- what words ask for: to run a client image on a library image with so much fuel; to show an image; to compile texts to a library image; or they have no form
 pub data Asked : Type 0 where
   Run : (client library : List ℕ) (fuel : ℕ) → Asked
   Show : (image : List ℕ) → Asked
+  Library : (out : List ℕ) (files : List (List ℕ)) → Asked
   Bad : Asked
 
 -- what a command of the code asks for
 abbrev pub asked_by : Command → Asked
 asked_by (commands.Run client library fuel) = Run client.now library.now fuel
 asked_by (commands.Show image) = Show image.now
+asked_by (commands.Library out files) = Library out.now files.now
 asked_by commands.Bad = Bad
 
 abbrev pub is_digit : ℕ → Bool
@@ -50,9 +53,20 @@ abbrev pub run_with : List ℕ → List ℕ → Option ℕ → Asked
 run_with client library None = Bad
 run_with client library (Some fuel) = Run client library fuel
 
--- `show IMAGE`, `run CLIENT LIBRARY` or `run CLIENT LIBRARY --fuel N`, where no name is empty
+abbrev pub is_name : List ℕ → Bool
+is_name word = not (length word == 0)
+
+-- the name of a file of interfaces
+abbrev pub is_idl : List ℕ → Bool
+is_idl word = ends_with nat_eq word (codes ".idl")
+
+-- what a word asks for with a name and others: `library`, where none is empty and the others are files of interfaces
+abbrev pub library_asked : List ℕ → List ℕ → List (List ℕ) → Asked
+library_asked word out files = if bytes_eq word (codes "library") && is_name out && every is_idl files then Library out files else Bad
+
+-- `show IMAGE`, `run CLIENT LIBRARY`, `run CLIENT LIBRARY --fuel N` or `library OUT FILE ..`, where no name is empty
 abbrev pub asked : List (List ℕ) → Asked
 asked (word ∷ image ∷ []) = if bytes_eq word (codes "show") && not (length image == 0) then Show image else Bad
 asked (word ∷ client ∷ library ∷ rest) =
-    if bytes_eq word (codes "run") && not (length client == 0) && not (length library == 0) then run_with client library (fuel_in rest) else Bad
+    if bytes_eq word (codes "run") && not (length client == 0) && not (length library == 0) then run_with client library (fuel_in rest) else library_asked word client (library ∷ rest)
 asked words = Bad

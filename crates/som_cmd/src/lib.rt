@@ -2,6 +2,7 @@
 #![tactic(auto)]
 
 mod client;
+mod compile;
 mod fetch;
 mod image;
 mod laws;
@@ -12,6 +13,7 @@ mod run;
 mod say;
 mod show;
 mod stop;
+mod texts;
 mod top;
 mod words;
 

@@ -1,9 +1,10 @@
 ghost use Rattle.som_cmd.specs.Cause.{IsQuiet};
+ghost use Rattle.som_cmd.specs.LibrarySteps.{nothing};
 ghost use Rattle.som_cmd.specs.Saying.{SaysAll, SaysFailure, SaysFront};
 ghost use Rattle.som_cmd.specs.Status.{is_calm_status};
 ghost use Rattle.som_io.specs.Outside.{Rose, ShowsAll, ShowsFront};
 ghost use Rattle.std.specs.List.{concat};
-ghost use Rattle.std.specs.Prelude.{◌≡◌, ◌≢◌, ◌⊎◌, IsTrue};
+ghost use Rattle.std.specs.Prelude.{◌≡◌, ◌≢◌, ◌⊎◌, [], IsTrue, Ok};
 
 use crate::output::Output;
 use crate::stop::Stop;
@@ -35,6 +36,7 @@ fn say_lines<K: Sink>(out: &mut K, lines: &[Text], status: u8) -> u8
     ensures status { result ≢ 8 → result ≢ 10 → result ≡ status }
     ensures sink_failed { result ≡ 8 → Rose (K.faults out.old) (K.faults out.new) }
     ensures front { ShowsFront (K.written out.old) (K.written out.new) (concat lines.now) }
+    ensures nothing { lines.now ≡ [] → result ≡ status }
     ensures calm { K.calm out.old → (result ≡ status) ⊎ (result ≡ 10) }
 {
     for line in lines {
@@ -53,6 +55,7 @@ pub fn tell<K: Sink>(out: &mut K, outcome: &Result<Output, Stop>) -> u8
     ensures store_failed { result ≡ 6 → SaysFailure outcome.now (K.written out.old) (K.written out.new) }
     ensures sink_failed { result ≡ 8 → Rose (K.faults out.old) (K.faults out.new) }
     ensures front { SaysFront outcome.now (K.written out.old) (K.written out.new) }
+    ensures nothing { outcome.now ≡ Ok nothing → result ≡ 0 }
     ensures words { result ≢ 2 }
     ensures calm { K.calm out.old → IsQuiet outcome.now → IsTrue (is_calm_status result) }
 {

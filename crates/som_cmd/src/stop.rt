@@ -6,9 +6,13 @@ use som_model::{NoMemory, Text};
 /// Why a step refuses.
 #[derive(Clone, Copy, Debug, PartialEq, Eq)]
 pub enum Why {
+    /// Texts can't be read, or break a rule.
+    Texts,
     Incompatible,
     Image,
     Absent,
+    /// Texts pass a limit.
+    Limit,
 }
 
 impl Why {
@@ -19,9 +23,11 @@ impl Why {
         ensures { result ≡ status_of self }
     {
         match self {
+            Why::Texts => 3,
             Why::Incompatible => 4,
             Why::Image => 5,
             Why::Absent => 7,
+            Why::Limit => 11,
         }
     }
 }

@@ -7,13 +7,15 @@ ghost use Rattle.som_cmd.specs.Ends.{
   ShowsSome,
   StoreFails,
 };
+ghost use Rattle.som_cmd.specs.LibraryEnds.{AreTextsOf, KeepsFiles, PutsRelease};
 ghost use Rattle.som_cmd.specs.Status.{is_calm_status};
 ghost use Rattle.som_cmd.specs.Words.{Bad, asked};
 ghost use Rattle.som_io.specs.Outside.{Rose};
 ghost use Rattle.som_model.specs.declared.program.ClientProgram.{ClientProgram};
 ghost use Rattle.som_model.specs.declared.program.Release.{Release};
-ghost use Rattle.std.specs.Prelude.{◌≡◌, ◌≢◌, ◌⊎◌, ℕ, IsTrue};
+ghost use Rattle.std.specs.Prelude.{◌≡◌, ◌≢◌, ◌⊎◌, ℕ, IsTrue, List as Seq};
 
+use crate::compile::compile;
 use crate::line::line_of;
 use crate::run::run;
 use crate::say::{say, tell};
@@ -59,8 +61,12 @@ pub fn run_som<S: Store, K: Sink>(
     // Over a store and a sink of which nothing is set to fail, neither is said to fail.
     ensures calm { S.calm store.old → K.calm out.old → IsTrue (is_calm_status result) }
 
-    // No file is changed.
-    ensures files { S.files store.new ≡ S.files store.old }
+    // Texts that stand for a release are compiled to its image, which then stands under the name; no other file is changed.
+    ensures compiled { (out : Seq ℕ) (r : Release) → AreTextsOf (asked words.now) (S.files store.old) out r
+        → result ≢ 6 → result ≢ 8 → result ≢ 10 → PutsRelease (S.files store.old) out r result (S.files store.new) (K.written out.old) (K.written out.new) }
+
+    // No file is changed, but by `library`, which puts its image at status 0, or whose put failed in this call.
+    ensures files { KeepsFiles (asked words.now) (S.files store.old) (S.faults store.old) (S.faults store.new) result (S.files store.new) }
 {
     match command_of(words) {
         Command::Run {
@@ -69,6 +75,7 @@ pub fn run_som<S: Store, K: Sink>(
             fuel,
         } => tell(out, &run(alloc, client, library, fuel, store)),
         Command::Show { image } => tell(out, &show(alloc, image, store)),
+        Command::Library { out: name, files } => tell(out, &compile(alloc, name, files, store)),
         Command::Bad => match line_of(alloc, b"som: bad command line") {
             Ok(line) => say(out, &line, 2),
             Err(_) => 10,

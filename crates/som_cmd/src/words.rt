@@ -1,4 +1,5 @@
-ghost use Rattle.som_cmd.specs.Words.{asked, asked_by, fuel_in, fuel_of, is_digit, leads_with_zero};
+ghost use Rattle.som_cmd.specs.Words.{asked, asked_by, fuel_in, fuel_of, is_digit, is_idl, leads_with_zero, library_asked};
+ghost use Rattle.som_model.specs.Lists.{every};
 ghost use Rattle.std.specs.Str.{bytes_eq};
 ghost use Rattle.std.specs.Prelude.{◌≡◌, codes};
 
@@ -15,6 +16,10 @@ pub enum Command<'a> {
     Show {
         image: &'a Text,
     },
+    Library {
+        out: &'a Text,
+        files: &'a [Text],
+    },
     /// The words have no form.
     Bad,
 }
@@ -29,6 +34,41 @@ fn is_show(word: &Text) -> bool
     ensures { result ≡ bytes_eq word.now (codes "show") }
 {
     word.is(b"show")
+}
+
+fn is_library(word: &Text) -> bool
+    ensures { result ≡ bytes_eq word.now (codes "library") }
+{
+    word.is(b"library")
+}
+
+fn is_idl(word: &Text) -> bool
+    ensures { result ≡ is_idl word.now }
+{
+    word.as_slice().ends_with(b".idl")
+}
+
+// Whether each word names a file of interfaces.
+fn are_idl(words: &[Text]) -> bool
+    ensures { result ≡ every is_idl words.now }
+{
+    for word in words {
+        if !is_idl(word) {
+            return false;
+        }
+    }
+    true
+}
+
+// What a word asks for with a name and others.
+fn library_with<'a>(word: &Text, out: &'a Text, files: &'a [Text]) -> Command<'a>
+    ensures { asked_by result ≡ library_asked word.now out.now files.now }
+{
+    if is_library(word) && !out.is_empty() && are_idl(files) {
+        Command::Library { out, files }
+    } else {
+        Command::Bad
+    }
 }
 
 fn leads_with_zero(digits: &[u8]) -> bool
@@ -110,7 +150,7 @@ pub fn command_of(words: &List<Text>) -> Command<'_>
                     None => Command::Bad,
                 }
             } else {
-                Command::Bad
+                library_with(word, client, &words.as_slice()[2..])
             }
         }
         _ => Command::Bad,

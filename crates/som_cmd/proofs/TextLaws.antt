@@ -1,0 +1,188 @@
+-- The texts under names, one after the other.
+use Rattle.std.proofs.Common.{◌≡◌, ℕ, ◌+◌, ◌-◌, ◌<◌, ◌≤◌, Bool, true, false, if◌then◌else◌, nat_le, List, [], ◌∷◌, ◌++◌, length, take, drop, get_or, codes, Option, Some, None, Result, Ok, Err, refl, sym, ap, subst, ◌∙◌, append_assoc, add-assoc, arith}
+use Rattle.std.proofs.lemmas.Grind.{common_steps}
+use Rattle.std.proofs.lemmas.List.{append-nil, take_more, take_all, take-append-drop}
+use Rattle.std.specs.FinMap.{get}
+use Rattle.som_io.specs.Outside.{Rose}
+use Rattle.som_model.specs.declared.limits.TheConstants.{MAX_BYTES}
+use Rattle.som_model.specs.Bytes.{Files}
+use Rattle.som_model.specs.Steps.{◌>>=◌}
+use Rattle.som_compile.specs.declared.source.Source.{Source}
+use Rattle.som_cmd.specs.declared.stop.Refusal.{Refusal}
+use Rattle.som_cmd.specs.declared.stop.Stop.{Stop}
+use Rattle.som_cmd.specs.declared.stop.Stop.TheVariants as stops
+use Rattle.som_cmd.specs.Endings.{file_of}
+use Rattle.som_cmd.specs.LibraryAnswer.{bytes_kept, text_in, texts_after, texts_in, too_many}
+use Rattle.som_cmd.specs.Cause.{AreGot, FailsGettingTexts, StopHasCause, HasCause, store_failed}
+use Rattle.som_cmd.specs.Steps.{Stops, FollowsTold}
+use Rattle.som_cmd.proofs.ShowLaws.{stops_first}
+
+-- ---- one text
+
+abbrev text_from : List ℕ → List ℕ → Source
+text_from name bytes = record { name = name; bytes = bytes }
+
+abbrev after_file : ℕ → List ℕ → List ℕ → Result Source Refusal
+after_file before name bytes = bytes_kept (before + length bytes) >>= λ kept. Ok (text_from name bytes)
+
+-- it can't be got
+pub text_absent : (files : Option Files) (before : ℕ) (name : List ℕ) (stop : Stop) → FollowsTold {A = List ℕ} files (Err stop) (file_of name) → FollowsTold {A = Source} files (Err stop) (text_in before name)
+text_absent None before name stop f = tt
+text_absent (Some files) before name stop f = stops_first stop (file_of name files) (after_file before name) f
+
+abbrev kept_if : Bool → Result (Unit {0}) Refusal
+kept_if b = if b then Ok tt else Err (too_many (codes "bytes") MAX_BYTES)
+
+past : (count : ℕ) → MAX_BYTES < count → nat_le count MAX_BYTES ≡ false
+past count lt = grind (arith, common_steps)
+
+not_past : (count : ℕ) → count ≤ MAX_BYTES → nat_le count MAX_BYTES ≡ true
+not_past count le = grind (arith, common_steps)
+
+-- with it the bytes are too many
+pub text_too_long : (files : Option Files) (before : ℕ) (name bytes : List ℕ) (r : Refusal) → FollowsTold files (Ok bytes) (file_of name) → MAX_BYTES < before + length bytes → r ≡ too_many (codes "bytes") MAX_BYTES
+    → FollowsTold {A = Source} files (Err (stops.Refused r)) (text_in before name)
+text_too_long None before name bytes r f lt is = tt
+text_too_long (Some files) before name bytes r f lt is =
+    ap (λ (x : Result (List ℕ) Refusal). x >>= after_file before name) f
+    ∙ ap (λ (b : Bool). kept_if b >>= λ kept. Ok (text_from name bytes)) (past (before + length bytes) lt)
+    ∙ ap (λ (x : Refusal). Err x) (sym is)
+
+-- it is there, and the bytes aren't too many
+pub text_got : (files : Option Files) (before : ℕ) (name bytes : List ℕ) (s : Source) → FollowsTold files (Ok bytes) (file_of name) → before + length bytes ≤ MAX_BYTES → s ≡ text_from name bytes
+    → FollowsTold files (Ok s) (text_in before name)
+text_got None before name bytes s f le is = tt
+text_got (Some files) before name bytes s f le is =
+    ap (λ (x : Result (List ℕ) Refusal). x >>= after_file before name) f
+    ∙ ap (λ (b : Bool). kept_if b >>= λ kept. Ok (text_from name bytes)) (not_past (before + length bytes) le)
+    ∙ ap (λ (x : Source). Ok x) (sym is)
+
+-- ---- all texts
+
+-- the bytes of texts together
+abbrev pub size : List Source → ℕ
+size [] = 0
+size (s ∷ ss) = length s.bytes + size ss
+
+abbrev Texts : Type 0
+Texts = Result (List Source) Refusal
+
+abbrev before_all : List Source → Texts → Texts
+before_all ss rest = rest >>= λ more. Ok (ss ++ more)
+
+abbrev after_text : ℕ → List (List ℕ) → Files → Source → Texts
+after_text before ns files s = texts_after (before + length s.bytes) ns files >>= λ ss. Ok (s ∷ ss)
+
+before_none : (rest : Texts) → rest ≡ before_all [] rest
+before_none (Ok ss) = refl
+before_none (Err r) = refl
+
+before_one_more : (s : Source) (ss : List Source) (rest : Texts) → (before_all ss rest >>= λ all. Ok (s ∷ all)) ≡ before_all (s ∷ ss) rest
+before_one_more s ss (Ok more) = refl
+before_one_more s ss (Err r) = refl
+
+some_texts : (ss ts : List Source) → ◌≡◌ {A = Texts} (Ok ss) (Ok ts) → ss ≡ ts
+some_texts ss ts e = cc
+
+-- the first of some texts that are there, and the others
+pub record Parts (before : ℕ) (n : List ℕ) (ns : List (List ℕ)) (files : Files) (ss : List Source) : Type 0 where
+  pub first : Source
+  pub others : List Source
+  pub first_is : text_in before n files ≡ Ok first
+  pub others_are : texts_after (before + length first.bytes) ns files ≡ Ok others
+  pub all : ss ≡ first ∷ others
+
+parts_by : (before : ℕ) (n : List ℕ) (ns : List (List ℕ)) (files : Files) (ss : List Source) (s : Result Source Refusal) → text_in before n files ≡ s
+    → (s >>= after_text before ns files) ≡ Ok ss → Parts before n ns files ss
+parts_by before n ns files ss (Ok s) is e = others_by (texts_after (before + length s.bytes) ns files) refl e
+  where
+    others_by : (o : Texts) → texts_after (before + length s.bytes) ns files ≡ o → (o >>= λ all. Ok (s ∷ all)) ≡ Ok ss → Parts before n ns files ss
+    others_by (Ok others) is_o h = record { first = s; others = others; first_is = is; others_are = is_o; all = sym (some_texts (s ∷ others) ss h) }
+    others_by (Err r) is_o h = absurd cc
+parts_by before n ns files ss (Err r) is e = absurd cc
+
+-- texts that are there, and then others
+pub texts_more : (before : ℕ) (ns ms : List (List ℕ)) (files : Files) (ss : List Source) → texts_after before ns files ≡ Ok ss
+    → texts_after before (ns ++ ms) files ≡ before_all ss (texts_after (before + size ss) ms files)
+texts_more before [] ms files ss e =
+    let none : [] ≡ ss = some_texts [] ss e in
+    subst (λ (x : List Source). texts_after before ms files ≡ before_all x (texts_after (before + size x) ms files)) none (before_none (texts_after before ms files))
+texts_more before (n ∷ ns) ms files ss e =
+    let p = parts_by before n ns files ss (text_in before n files) refl e in
+    let further = texts_more (before + length p.first.bytes) ns ms files p.others p.others_are in
+    subst (λ (x : List Source). texts_after before (n ∷ (ns ++ ms)) files ≡ before_all x (texts_after (before + size x) ms files)) (sym p.all)
+    (ap (λ (x : Result Source Refusal). x >>= after_text before (ns ++ ms) files) p.first_is
+    ∙ ap (λ (x : Texts). x >>= λ all. Ok (p.first ∷ all)) further
+    ∙ before_one_more p.first p.others (texts_after (before + length p.first.bytes + size p.others) ms files)
+    ∙ ap (λ (k : ℕ). before_all (p.first ∷ p.others) (texts_after k ms files)) (add-assoc before (length p.first.bytes) (size p.others)))
+
+-- ---- the loop
+
+rose_earlier : (count later now : ℕ) → count ≤ later → Rose later now → Rose count now
+rose_earlier count later now le r = omega arith
+
+-- the texts under these names are there, where the files are told
+abbrev pub Got : Option Files → List (List ℕ) → List Source → Type 0
+Got None ns ss = Unit {0}
+Got (Some files) ns ss = texts_in ns files ≡ Ok ss
+
+pub nothing_got : (files : Option Files) → Got files [] []
+nothing_got None = tt
+nothing_got (Some files) = refl
+
+-- a text stands at the place, after those that were got
+module _ (files : Option Files) (names : List (List ℕ)) (ss : List Source) (i : ℕ) (n : List ℕ) (lt : i < length names) (at : n ≡ get_or names i n) (got : Got files (take i names) ss) where
+  up_to : take (i + 1) names ≡ take i names ++ n ∷ []
+  up_to = take_more names i n lt ∙ ap (λ (x : List ℕ). take i names ++ x ∷ []) (sym at)
+
+  parted : names ≡ take i names ++ n ∷ drop (i + 1) names
+  parted =
+      sym (take-append-drop (i + 1) names) ∙ ap (λ (x : List (List ℕ)). x ++ drop (i + 1) names) up_to ∙ append_assoc (take i names) (n ∷ []) (drop (i + 1) names)
+
+  one_text : (told : Files) → files ≡ Some told → (before : ℕ) → before ≡ size ss → (r : Result Source Refusal) → text_in before n told ≡ r → (rest : List (List ℕ))
+      → texts_in (take i names ++ n ∷ rest) told ≡ before_all ss (r >>= after_text (size ss) rest told)
+  one_text told is before count r e rest =
+      texts_more 0 (take i names) (n ∷ rest) told ss (subst (λ (x : Option Files). Got x (take i names) ss) is got)
+      ∙ ap (λ (x : Result Source Refusal). before_all ss (x >>= after_text (size ss) rest told)) (ap (λ (k : ℕ). text_in k n told) (sym count) ∙ e)
+
+  -- it can't be got
+  pub text_stops : (before : ℕ) → before ≡ size ss → (stop : Stop) → FollowsTold {A = Source} files (Err stop) (text_in before n) → FollowsTold {A = List Source} files (Err stop) (texts_in names)
+  text_stops before count stop f = by_files files refl stop f
+    where
+      by_files : (o : Option Files) → files ≡ o → (stop : Stop) → FollowsTold {A = Source} o (Err stop) (text_in before n) → FollowsTold {A = List Source} o (Err stop) (texts_in names)
+      by_files None is stop f = tt
+      by_files (Some told) is (stops.Refused r) f = ap (λ (ns : List (List ℕ)). texts_in ns told) parted ∙ one_text told is before count (Err r) f (drop (i + 1) names)
+      by_files (Some told) is (stops.StoreFailed line) f = tt
+      by_files (Some told) is stops.NoMemory f = tt
+
+  -- it is there
+  pub text_more : (before : ℕ) → before ≡ size ss → (s : Source) → FollowsTold files (Ok s) (text_in before n) → Got files (take (i + 1) names) (ss ++ s ∷ [])
+  text_more before count s f = by_files files refl f
+    where
+      by_files : (o : Option Files) → files ≡ o → FollowsTold o (Ok s) (text_in before n) → Got o (take (i + 1) names) (ss ++ s ∷ [])
+      by_files None is f = tt
+      by_files (Some told) is f = ap (λ (ns : List (List ℕ)). texts_in ns told) up_to ∙ one_text told is before count (Ok s) f []
+
+  are_got : AreGot files (take i names)
+  are_got = by_files files got
+    where
+      by_files : (o : Option Files) → Got o (take i names) ss → AreGot o (take i names)
+      by_files None g = tt
+      by_files (Some told) g = (ss, g)
+
+  -- the store failed there
+  pub text_fails : (count now_count now : ℕ) → count ≤ now_count → (stop : Stop) → HasCause {A = Source} (λ line. line ≡ store_failed n) now_count now (Err stop)
+      → HasCause {A = List Source} (FailsGettingTexts files names) count now (Err stop)
+  text_fails count now_count now le (stops.StoreFailed line) cause =
+      (rose_earlier count now_count now le cause.0, record { before = take i names; name = n; after = drop (i + 1) names; names_are = parted; got = are_got; line_is = cause.1 })
+  text_fails count now_count now le (stops.Refused r) cause = tt
+  text_fails count now_count now le stops.NoMemory cause = tt
+
+pub size_more : (ss : List Source) (s : Source) → size (ss ++ s ∷ []) ≡ size ss + length s.bytes
+size_more [] s = omega arith
+size_more (t ∷ ss) s = let e = size_more ss s in omega arith
+
+-- all are there
+pub all_got : (files : Option Files) (names : List (List ℕ)) (ss : List Source) (i : ℕ) → length names ≤ i → Got files (take i names) ss → FollowsTold files (Ok ss) (texts_in names)
+all_got None names ss i over g = tt
+all_got (Some told) names ss i over g = ap (λ (ns : List (List ℕ)). texts_in ns told) (sym (take_all i names over)) ∙ g

@@ -1,0 +1,195 @@
+-- Reading texts comes to one thing, and the code's loop to that.
+use Rattle.std.proofs.Common.{◌≡◌, ◌≢◌, ℕ, ◌+◌, ◌⊎◌, inl, inr, Bool, List, [], ◌∷◌, ◌++◌, drop, codes, Option, Some, None, Result, Ok, Err, refl, sym, ap, subst, ◌∙◌}
+use Rattle.som_model.specs.declared.limits.TheConstants.{MAX_NAME, MAX_TEXT}
+use Rattle.som_lex.specs.declared.token.LexToken.{LexToken}
+use Rattle.som_lex.specs.declared.token.Tokens.{Tokens}
+use Rattle.som_lex.specs.declared.fault.LexFault.{LexFault}
+use Rattle.som_lex.specs.Line.{is_fresh}
+use Rattle.som_lex.specs.Front.{IsFault, IsTextFault, no_token, a_digit_after_zero, in_literal, open_comment, a_large_number, a_long_name, a_bad_byte, a_bad_escape, unclosed, too_long}
+use Rattle.som_lex.specs.Cut.{IsCut, Stops, here, after_gap, after_token}
+use Rattle.som_lex.specs.Spans.{AreTokens}
+use Rattle.som_lex.proofs.OneCut.{one_cut, one_fault, cut_apart}
+use Rattle.som_read.specs.declared.tree.SyntaxFault.{SyntaxFault}
+use Rattle.som_read.specs.declared.tree.SyntaxFault.TheVariants as parsing
+use Rattle.som_idl.specs.declared.tree.IdlFile.{IdlFile}
+use Rattle.som_idl.specs.Answer.{IsAnswer}
+use Rattle.som_idl.proofs.Theorem.{one_answer, some_answer}
+use Rattle.som_compile.specs.declared.fault.ReadingFault.TheVariants as reading
+use Rattle.som_compile.specs.declared.fault.TextFault.{TextFault}
+use Rattle.som_compile.specs.declared.fault.TextFault.TheVariants as texts
+use Rattle.som_compile.specs.declared.source.Source.{Source}
+use Rattle.som_compile.specs.Reading.{lexing_told, parsing_told, Reads, no_tokens, no_tree, a_tree, ReadsAll, no_more, one_more, refused, refused_later}
+use Rattle.som_compile.proofs.Lexed.{Lexes, lexed}
+
+-- ---- one text
+
+abbrev not_parsed : SyntaxFault → Result IdlFile SyntaxFault
+not_parsed f = Err f
+
+abbrev a_parsed : IdlFile → Result IdlFile SyntaxFault
+a_parsed f = Ok f
+
+text_fault_told : (name : List ℕ) (at : ℕ) (u : List ℕ) (f : LexFault) → IsTextFault at u f → (w : TextFault) × (lexing_told name f ≡ Some w)
+text_fault_told name at _ _ (a_bad_byte u v b rest m le p q k l) = (texts.Unread reading.BadByte name, refl)
+text_fault_told name at _ _ (a_bad_escape u v b rest m le e l) = (texts.Unread reading.BadByte name, refl)
+text_fault_told name at _ _ (unclosed u v rest m le e) = (texts.Unread reading.OpenText name, refl)
+text_fault_told name at _ _ (too_long u v rest m le) = (texts.Limit (codes "text") MAX_TEXT, refl)
+
+front_fault_told : (name : List ℕ) (fresh : Bool) (at : ℕ) (left : List ℕ) (f : LexFault) → IsFault fresh at left f → (w : TextFault) × (lexing_told name f ≡ Some w)
+front_fault_told name fresh at _ _ (no_token k q none) = (texts.Unread reading.BadByte name, refl)
+front_fault_told name fresh at _ _ (a_digit_after_zero e) = (texts.Unread reading.BadByte name, refl)
+front_fault_told name fresh at _ f (in_literal {bs = bs} h) = text_fault_told name at bs f h
+front_fault_told name fresh at _ _ (open_comment e) = (texts.Unread reading.OpenComment name, refl)
+front_fault_told name fresh at _ _ (a_large_number n l gt) = (texts.Unread reading.NumberTooLarge name, refl)
+front_fault_told name fresh at _ _ (a_long_name n l gt) = (texts.Limit (codes "name") MAX_NAME, refl)
+
+-- each fault of bytes is told
+lex_fault_told : (name source : List ℕ) (at : ℕ) (f : LexFault) → Stops source at f → (w : TextFault) × (lexing_told name f ≡ Some w)
+lex_fault_told name source at f (here h) = front_fault_told name (is_fresh source at) at (drop at source) f h
+lex_fault_told name source at f (after_gap {n = n} g s) = lex_fault_told name source (at + n) f s
+lex_fault_told name source at f (after_token {n = n} t s) = lex_fault_told name source (at + n) f s
+
+-- each fault of tokens is told, but for want of memory
+parse_fault_told : (name : List ℕ) (t : Tokens) (f : SyntaxFault) → IsAnswer t (Err f) → not_parsed f ≢ not_parsed parsing.NoMemory → (w : TextFault) × (parsing_told name f ≡ Some w)
+parse_fault_told name t (parsing.Syntax k) a some = (texts.Unread reading.Syntax name, refl)
+parse_fault_told name t (parsing.NotInProfile k) a some = (texts.Unread reading.NotInProfile name, refl)
+parse_fault_told name t (parsing.Nesting k) a some = absurd a
+parse_fault_told name t parsing.NoMemory a some = absurd (some refl)
+
+-- what is told is no want of memory
+no_want : (name : List ℕ) (f : SyntaxFault) (w : TextFault) → parsing_told name f ≡ Some w → not_parsed f ≢ not_parsed parsing.NoMemory
+no_want name (parsing.Syntax k) w e same = cc
+no_want name (parsing.NotInProfile k) w e same = cc
+no_want name (parsing.Nesting k) w e same = cc
+no_want name parsing.NoMemory w e same = cc
+
+tree_told : (f : IdlFile) → Ok f ≢ Err parsing.NoMemory
+tree_told f e = cc
+
+abbrev tokens_from : List ℕ → List LexToken → Tokens
+tokens_from source list = record { source = source; list = list }
+
+-- a text has some tree or some fault
+parsed : (s : Source) (t : Tokens) → t.source ≡ s.bytes → AreTokens t → (a : Result IdlFile SyntaxFault) → IsAnswer t a → a ≢ Err parsing.NoMemory → (r : Result IdlFile TextFault) × Reads s r
+parsed s t e c (Ok f) a some = (Ok f, a_tree t f e c a)
+parsed s t e c (Err f) a some = let w = parse_fault_told s.name t f a some in (Err w.0, no_tree t f w.0 e c a w.1)
+
+pub some_reading : (s : Source) → (r : Result IdlFile TextFault) × Reads s r
+some_reading s = by_tokens s (lexed s.bytes)
+  where
+    by_tokens : (s : Source) → Lexes s.bytes 0 → (r : Result IdlFile TextFault) × Reads s r
+    by_tokens s (inl (ts, c)) = let a = some_answer (tokens_from s.bytes ts) in parsed s (tokens_from s.bytes ts) refl c a.0 a.1.0 a.1.1
+    by_tokens s (inr (f, stops)) = let w = lex_fault_told s.name s.bytes 0 f stops in (Err w.0, no_tokens f w.0 stops w.1)
+
+-- and one at most
+same_tokens : (bytes : List ℕ) (t u : Tokens) → t.source ≡ bytes → u.source ≡ bytes → AreTokens t → AreTokens u → t ≡ u
+same_tokens bytes t u e f c d =
+    let s : t.source ≡ u.source = e ∙ sym f in
+    let l : t.list ≡ u.list = one_cut u.source t.list u.list (subst (λ (x : List ℕ). IsCut x 0 t.list) s c) d in
+    ap (λ (x : List ℕ). tokens_from x t.list) s ∙ ap (tokens_from u.source) l
+
+cut_or_stops : {A : Type 0} (bytes : List ℕ) (t : Tokens) (f : LexFault) → t.source ≡ bytes → AreTokens t → Stops bytes 0 f → A
+cut_or_stops bytes t f e c s = absurd (cut_apart bytes t.list f (subst (λ (x : List ℕ). IsCut x 0 t.list) e c) s)
+
+one_told : (o : Option TextFault) (v w : TextFault) → o ≡ Some v → o ≡ Some w → v ≡ w
+one_told o v w e f = let h : Some v ≡ Some w = sym e ∙ f in cc
+
+abbrev failed : TextFault → Result IdlFile TextFault
+failed w = Err w
+
+one_fault_told : (s : Source) (f g : LexFault) (v w : TextFault) → Stops s.bytes 0 f → Stops s.bytes 0 g → lexing_told s.name f ≡ Some v → lexing_told s.name g ≡ Some w → failed v ≡ failed w
+one_fault_told s f g v w p q e h =
+    ap failed (one_told (lexing_told s.name f) v w e (ap (lexing_told s.name) (one_fault s.bytes f g p q) ∙ h))
+
+same_answer : (bytes : List ℕ) (t u : Tokens) (a b : Result IdlFile SyntaxFault) → t.source ≡ bytes → u.source ≡ bytes → AreTokens t → AreTokens u → IsAnswer t a → IsAnswer u b → a ≢ Err parsing.NoMemory → b ≢ Err parsing.NoMemory → a ≡ b
+same_answer bytes t u a b e f c d x y p q = one_answer u a b (subst (λ (k : Tokens). IsAnswer k a) (same_tokens bytes t u e f c d) x) y p q
+
+syntax_err : (f g : SyntaxFault) → not_parsed f ≡ not_parsed g → f ≡ g
+syntax_err f g e = cc
+
+syntax_ok : (f : IdlFile) (g : SyntaxFault) → Ok f ≡ Err g → ⊥
+syntax_ok f g e = cc
+
+pub one_reading : (s : Source) (a b : Result IdlFile TextFault) → Reads s a → Reads s b → a ≡ b
+one_reading s _ _ (no_tokens f v p e) (no_tokens g w q h) = one_fault_told s f g v w p q e h
+one_reading s _ _ (no_tokens f v p e) (no_tree u g w h d y k) = cut_or_stops s.bytes u f h d p
+one_reading s _ _ (no_tokens f v p e) (a_tree u g h d y) = cut_or_stops s.bytes u f h d p
+one_reading s _ _ (no_tree t f v e c x k) (no_tokens g w q h) = cut_or_stops s.bytes t g e c q
+one_reading s _ _ (a_tree t f e c x) (no_tokens g w q h) = cut_or_stops s.bytes t g e c q
+one_reading s _ _ (no_tree t f v e c x k) (no_tree u g w h d y l) =
+    let same = syntax_err f g (same_answer s.bytes t u (Err f) (Err g) e h c d x y (no_want s.name f v k) (no_want s.name g w l)) in
+    ap failed (one_told (parsing_told s.name f) v w k (ap (parsing_told s.name) same ∙ l))
+one_reading s _ _ (no_tree t f v e c x k) (a_tree u g h d y) =
+    absurd (syntax_ok g f (sym (same_answer s.bytes t u (Err f) (Ok g) e h c d x y (no_want s.name f v k) (tree_told g))))
+one_reading s _ _ (a_tree t f e c x) (no_tree u g w h d y l) =
+    absurd (syntax_ok f g (same_answer s.bytes t u (Ok f) (Err g) e h c d x y (tree_told f) (no_want s.name g w l)))
+one_reading s _ _ (a_tree t f e c x) (a_tree u g h d y) =
+    let same : a_parsed f ≡ a_parsed g = same_answer s.bytes t u (Ok f) (Ok g) e h c d x y (tree_told f) (tree_told g) in
+    let trees : f ≡ g = cc in
+    ap (λ (k : IdlFile). Ok k) trees
+
+-- ---- all texts
+
+abbrev Trees : Type 0
+Trees = Result (List IdlFile) TextFault
+
+after_text : (s : Source) (ss : List Source) (r : Result IdlFile TextFault) → Reads s r → (x : Trees) → ReadsAll ss x → (told : Trees) × ReadsAll (s ∷ ss) told
+after_text s ss (Err w) r x all = (Err w, refused r)
+after_text s ss (Ok f) r (Ok fs) all = (Ok (f ∷ fs), one_more r all)
+after_text s ss (Ok f) r (Err w) all = (Err w, refused_later r all)
+
+pub some_readings : (ss : List Source) → (told : Trees) × ReadsAll ss told
+some_readings [] = (Ok [], no_more)
+some_readings (s ∷ ss) = let r = some_reading s in let x = some_readings ss in after_text s ss r.0 r.1 x.0 x.1
+
+abbrev read : IdlFile → Result IdlFile TextFault
+read f = Ok f
+
+abbrev all_failed : TextFault → Trees
+all_failed w = Err w
+
+abbrev all_read : List IdlFile → Trees
+all_read fs = Ok fs
+
+one_tree_read : (s : Source) (f g : IdlFile) → Reads s (Ok f) → Reads s (Ok g) → f ≡ g
+one_tree_read s f g x y = let h : read f ≡ read g = one_reading s (Ok f) (Ok g) x y in cc
+
+one_fault_read : (s : Source) (v w : TextFault) → Reads s (Err v) → Reads s (Err w) → v ≡ w
+one_fault_read s v w x y = let h : failed v ≡ failed w = one_reading s (Err v) (Err w) x y in cc
+
+never_both : {A : Type 0} (s : Source) (f : IdlFile) (w : TextFault) → Reads s (Ok f) → Reads s (Err w) → A
+never_both s f w x y = let h : read f ≡ failed w = one_reading s (Ok f) (Err w) x y in cc
+
+trees_ok : (fs gs : List IdlFile) → all_read fs ≡ all_read gs → fs ≡ gs
+trees_ok fs gs e = cc
+
+trees_err : (v w : TextFault) → all_failed v ≡ all_failed w → v ≡ w
+trees_err v w e = cc
+
+trees_apart : {A : Type 0} (fs : List IdlFile) (w : TextFault) → all_read fs ≡ all_failed w → A
+trees_apart fs w e = cc
+
+pub one_readings : (ss : List Source) (a b : Trees) → ReadsAll ss a → ReadsAll ss b → a ≡ b
+one_readings _ _ _ no_more no_more = refl
+one_readings (s ∷ ss) _ _ (one_more {f = f} {fs = fs} x p) (one_more {f = g} {fs = gs} y q) =
+    ap (λ (k : IdlFile). all_read (k ∷ fs)) (one_tree_read s f g x y) ∙ ap (λ (ks : List IdlFile). all_read (g ∷ ks)) (trees_ok fs gs (one_readings ss (Ok fs) (Ok gs) p q))
+one_readings (s ∷ ss) _ _ (one_more {f = f} x p) (refused {w = w} y) = never_both s f w x y
+one_readings (s ∷ ss) _ _ (one_more {fs = fs} x p) (refused_later {w = w} y q) = trees_apart fs w (one_readings ss (Ok fs) (Err w) p q)
+one_readings (s ∷ ss) _ _ (refused {w = v} x) (one_more {f = g} y q) = never_both s g v y x
+one_readings (s ∷ ss) _ _ (refused {w = v} x) (refused {w = w} y) = ap all_failed (one_fault_read s v w x y)
+one_readings (s ∷ ss) _ _ (refused {w = v} x) (refused_later {f = g} y q) = never_both s g v y x
+one_readings (s ∷ ss) _ _ (refused_later {w = v} x p) (one_more {fs = gs} y q) = trees_apart gs v (one_readings ss (Ok gs) (Err v) q p)
+one_readings (s ∷ ss) _ _ (refused_later {f = f} x p) (refused {w = w} y) = never_both s f w x y
+one_readings (s ∷ ss) _ _ (refused_later {w = v} x p) (refused_later {w = w} y q) = ap all_failed (trees_err v w (one_readings ss (Err v) (Err w) p q))
+
+-- ---- the loop
+
+-- one text more is read
+pub read_more : (ss : List Source) (fs : List IdlFile) (s : Source) (f : IdlFile) → ReadsAll ss (Ok fs) → Reads s (Ok f) → ReadsAll (ss ++ s ∷ []) (Ok (fs ++ f ∷ []))
+read_more _ _ s f no_more x = one_more x no_more
+read_more _ _ s f (one_more {ss = ss} {fs = fs} y p) x = one_more y (read_more ss fs s f p x)
+
+-- the next text can't be read
+pub stops_here : (ss : List Source) (fs : List IdlFile) (s : Source) (w : TextFault) (rest : List Source) → ReadsAll ss (Ok fs) → Reads s (Err w) → ReadsAll (ss ++ s ∷ rest) (Err w)
+stops_here _ _ s w rest no_more x = refused x
+stops_here _ _ s w rest (one_more {ss = ss} {fs = fs} y p) x = refused_later y (stops_here ss fs s w rest p x)

@@ -1,0 +1,12 @@
+//! From texts to an image, or what is first wrong with them.
+#![tactic(auto)]
+
+mod fault;
+mod laws;
+mod read;
+mod source;
+
+pub use fault::{CompileFault, ReadingFault, TextFault};
+pub use laws::reading_law;
+pub use read::read_interfaces;
+pub use source::Source;

@@ -1,0 +1,85 @@
+ghost use Rattle.som_compile.specs.Reading.{Reads, ReadsAll, Says, Tells, lexing_told, parsing_told};
+ghost use Rattle.som_compile.specs.declared.fault.TextFault.TheVariants as texts;
+ghost use Rattle.std.specs.Prelude.{Some};
+
+use crate::{CompileFault, ReadingFault, Source, TextFault};
+use som_idl::{IdlFile, SyntaxFault, parse_idl};
+use som_lex::{LexFault, lex};
+use som_model::{List, MAX_NAME, MAX_NESTING, MAX_TEXT, NoMemory, Text};
+use std::alloc::Global;
+
+// The text of this name can't be read.
+fn unread(alloc: Global, name: &Text, fault: ReadingFault) -> CompileFault
+    ensures { Tells (Some (texts.Unread fault name.now)) result }
+{
+    match name.copy(alloc) {
+        Ok(name) => CompileFault::Text(TextFault::Unread { fault, name }),
+        Err(NoMemory) => CompileFault::NoMemory,
+    }
+}
+
+// A quantity passes its limit.
+fn passed(alloc: Global, quantity: &[u8], number: u32) -> CompileFault
+    ensures { Tells (Some (texts.Limit quantity.now number)) result }
+{
+    match Text::from_slice(alloc, quantity) {
+        Ok(quantity) => CompileFault::Text(TextFault::Limit { quantity, number }),
+        Err(NoMemory) => CompileFault::NoMemory,
+    }
+}
+
+// What is told of the bytes of a text.
+fn unlexed(alloc: Global, name: &Text, fault: LexFault) -> CompileFault
+    ensures { Tells (lexing_told name.now fault) result }
+{
+    match fault {
+        LexFault::BadByte { .. } => unread(alloc, name, ReadingFault::BadByte),
+        LexFault::OpenText { .. } => unread(alloc, name, ReadingFault::OpenText),
+        LexFault::OpenComment { .. } => unread(alloc, name, ReadingFault::OpenComment),
+        LexFault::NumberTooLarge { .. } => unread(alloc, name, ReadingFault::NumberTooLarge),
+        LexFault::NameTooLong { .. } => passed(alloc, b"name", MAX_NAME),
+        LexFault::TextTooLong { .. } => passed(alloc, b"text", MAX_TEXT),
+        LexFault::NoMemory => CompileFault::NoMemory,
+    }
+}
+
+// What is told of the tokens of a text.
+fn unparsed(alloc: Global, name: &Text, fault: SyntaxFault) -> CompileFault
+    ensures { Tells (parsing_told name.now fault) result }
+{
+    match fault {
+        SyntaxFault::Syntax { .. } => unread(alloc, name, ReadingFault::Syntax),
+        SyntaxFault::NotInProfile { .. } => unread(alloc, name, ReadingFault::NotInProfile),
+        SyntaxFault::Nesting { .. } => passed(alloc, b"nesting", MAX_NESTING),
+        SyntaxFault::NoMemory => CompileFault::NoMemory,
+    }
+}
+
+// The interfaces of a text, or its first fault.
+fn read_text(alloc: Global, source: &Source) -> Result<IdlFile, CompileFault>
+    ensures { Says (Reads source.now) result }
+{
+    let tokens = match lex(alloc, &source.bytes) {
+        Ok(tokens) => tokens,
+        Err(fault) => return Err(unlexed(alloc, &source.name, fault)),
+    };
+    match parse_idl(alloc, &tokens) {
+        Ok(tree) => Ok(tree),
+        Err(fault) => Err(unparsed(alloc, &source.name, fault)),
+    }
+}
+
+/// The interfaces of each text in order, or what is wrong with the first that can't be read. A fault of the bytes of a text
+/// comes before those of its tokens.
+pub fn read_interfaces(
+    alloc: Global,
+    sources: &List<Source>,
+) -> Result<List<IdlFile>, CompileFault>
+    ensures { Says (ReadsAll sources.now) result }
+{
+    let mut trees = List::new(alloc);
+    for source in sources.as_slice() {
+        trees.push(read_text(alloc, source)?)?;
+    }
+    Ok(trees)
+}
