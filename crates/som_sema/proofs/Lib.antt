@@ -10,3 +10,11 @@ pub mod Finishing
 pub mod Telling
 pub mod Answered
 pub mod TextLaws
+pub mod Accessing
+pub mod Limiting
+pub mod Releasing
+pub mod Fitting
+pub mod ReleaseLaws
+pub mod Bodiless
+pub mod ReleaseBodies
+pub mod Conformed

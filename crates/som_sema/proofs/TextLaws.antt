@@ -34,10 +34,10 @@ use Rattle.som_sema.specs.TextRules.{base_stands, bases, makes_classes, may_be, 
 use Rattle.som_sema.specs.PlainTexts.{BasesStand, ItemsDiffer, MetaclassesDescend, ModifiersStand, NamesDiffer}
 use Rattle.som_sema.proofs.TextBases.{demanded_text}
 
-says_text : (n : ℕ) (d : Drawn) (member : List ℕ) (b : Bool) → b ≡ true → first (text_demand n d member b) ≡ None
+pub says_text : (n : ℕ) (d : Drawn) (member : List ℕ) (b : Bool) → b ≡ true → first (text_demand n d member b) ≡ None
 says_text n d member b e = rw e refl
 
-map_same : {A : Type 0} (xs : List A) → map (λ (x : A). x) xs ≡ xs
+pub map_same : {A : Type 0} (xs : List A) → map (λ (x : A). x) xs ≡ xs
 map_same [] = refl
 map_same (x ∷ xs) = ap (λ z. x ∷ z) (map_same xs)
 
@@ -273,12 +273,12 @@ new_there : (b : Bool) (x : List ℕ) (seen : List (List ℕ)) → among x seen 
 new_there true x seen e = (among_mem x seen).0 e
 new_there false x seen e = mem_right x seen (x ∷ []) (inl refl)
 
-says_once : (a : List ℕ) (seen xs : List (List ℕ)) → Mem a xs → Mem a (adds bytes_eq seen xs)
+pub says_once : (a : List ℕ) (seen xs : List (List ℕ)) → Mem a xs → Mem a (adds bytes_eq seen xs)
 says_once a seen [] m = absurd m
 says_once a seen (x ∷ xs) (inl e) = seen_once a (add_new bytes_eq seen x) xs (subst (λ z. Mem z (add_new bytes_eq seen x)) (sym e) (new_there (among x seen) x seen refl))
 says_once a seen (x ∷ xs) (inr m) = says_once a (add_new bytes_eq seen x) xs m
 
-mem_of_once : (a : List ℕ) (xs : List (List ℕ)) → among a (once xs) ≡ true → Mem a xs
+pub mem_of_once : (a : List ℕ) (xs : List (List ℕ)) → among a (once xs) ≡ true → Mem a xs
 mem_of_once a xs e = elim (once_says a [] xs ((among_mem a (once xs)).0 e)) [ inl z ↦ absurd z | inr m ↦ m ]
 
 differ_once : (names : List (List ℕ)) → doubles bytes_eq [] names ≡ [] → Differ (λ (name : List ℕ). name) names

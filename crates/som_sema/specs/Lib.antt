@@ -8,3 +8,6 @@ pub mod TextRules
 pub mod Walks
 pub mod Building
 pub mod PlainTexts
+pub mod Releases
+pub mod Released
+pub mod PlainReleases

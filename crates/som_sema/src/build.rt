@@ -56,7 +56,8 @@ pub fn build_faces(
     }
 }
 
-fn refused(fault: VerifyFault) -> Refused
+/// A breach or want of memory, as it is answered.
+pub fn refused(fault: VerifyFault) -> Refused
     ensures { result ≡ refused_by fault }
 {
     match fault {
@@ -76,8 +77,8 @@ fn most_classes(home: Module) -> u32
     }
 }
 
-// The interfaces of all files, in order.
-fn all_interfaces(alloc: Global, files: &[IdlFile]) -> Result<Vec<&IdlInterface>, NoMemory>
+/// The interfaces of all files, in order.
+pub fn all_interfaces(alloc: Global, files: &[IdlFile]) -> Result<Vec<&IdlInterface>, NoMemory>
     ensures { IfOk result (λ all. lent all.items ≡ interfaces_of files.now) }
 {
     let mut all = Vec::new(alloc);

@@ -154,7 +154,8 @@ fn writer(
     Ok(introduce(by_name, prefixed(alloc, b"_set_", name)?, sig))
 }
 
-fn prefixed(alloc: Global, prefix: &[u8], name: &[u8]) -> Result<Text, NoMemory>
+/// A name after a prefix.
+pub fn prefixed(alloc: Global, prefix: &[u8], name: &[u8]) -> Result<Text, NoMemory>
     ensures { IfOk result (λ text. text ≡ prefix.now ++ name.now) }
 {
     let mut bytes = Vec::from_slice(alloc, prefix)?;

@@ -1,7 +1,9 @@
 //! The faces that interface files stand for, or the first rule that they break.
 #![tactic(auto)]
 
+mod accessors;
 mod bases;
+mod bodies;
 mod breach;
 mod build;
 #[cfg(test)]
@@ -12,20 +14,29 @@ mod exports;
 mod faces;
 mod items;
 mod laws;
+mod limits;
 mod marks;
 mod members;
 mod modifiers;
 mod places;
+mod release;
+#[cfg(test)]
+mod release_cases;
+mod release_laws;
 mod rules;
 mod scope;
 mod sketch;
 mod tables;
 #[cfg(test)]
 mod tests;
+#[cfg(test)]
+mod tests_of_releases;
 mod types;
 mod variables;
 mod walked;
 
 pub use build::build_faces;
+pub use release::build_release;
+pub use release_laws::release_rules_law;
 pub use laws::text_rules_law;
 pub use types::Refused;

@@ -160,8 +160,8 @@ fn add(
     Ok(after)
 }
 
-// Files are parted by ` & `, interfaces by `; `, what they say by `, `.
-fn files(alloc: Global, short: &str) -> Result<List<IdlFile>, Fail> {
+/// Files are parted by ` & `, interfaces by `; `, what they say by `, `.
+pub fn files(alloc: Global, short: &str) -> Result<List<IdlFile>, Fail> {
     let mut list = List::new(alloc);
     for file in &cut(alloc, short, " & ")? {
         list.push(IdlFile {
@@ -260,7 +260,8 @@ fn show_face(alloc: Global, home: Module, out: &mut String, face: &ClassFace) ->
     Ok(())
 }
 
-fn show_class(
+/// A class with its variables and overrides, but without bodies.
+pub fn show_declared(
     alloc: Global,
     home: Module,
     out: &mut String,
@@ -282,10 +283,34 @@ fn show_class(
             return Err(Fail::from("a block that isn't empty"));
         }
     }
+    Ok(())
+}
+
+fn show_class(
+    alloc: Global,
+    home: Module,
+    out: &mut String,
+    class: &ClassDecl,
+) -> Result<(), Fail> {
+    show_declared(alloc, home, out, class)?;
     if !class.bodies.is_empty() {
         return Err(Fail::from("bodies"));
     }
     Ok(())
+}
+
+/// Why texts are refused.
+pub fn told_refused(alloc: Global, fault: &Refused) -> Result<String, Fail> {
+    match fault {
+        Refused::NoMemory => Err(Fail::from("no memory")),
+        Refused::Limit { quantity, number } => {
+            Ok(format!(in alloc; "limit {} {}", shown(alloc, quantity)?, *number)?)
+        }
+        Refused::Rule(b) => {
+            let class = shown(alloc, &b.class)?;
+            Ok(format!(in alloc; "{} {} {}", b.rule, class, shown(alloc, &b.member)?)?)
+        }
+    }
 }
 
 fn told(
@@ -304,14 +329,7 @@ fn told(
             }
             Ok(out)
         }
-        Err(Refused::NoMemory) => Err(Fail::from("no memory")),
-        Err(Refused::Limit { quantity, number }) => {
-            Ok(format!(in alloc; "limit {} {}", shown(alloc, &quantity)?, number)?)
-        }
-        Err(Refused::Rule(b)) => {
-            let class = shown(alloc, &b.class)?;
-            Ok(format!(in alloc; "{} {} {}", b.rule, class, shown(alloc, &b.member)?)?)
-        }
+        Err(fault) => told_refused(alloc, &fault),
     }
 }
 
@@ -386,8 +404,8 @@ fn a_client_sees_its_base(rt: HostRuntime) -> Result<(), Fail> {
     Ok(())
 }
 
-// One file with so many classes, of which the last has the name of the first.
-fn many(alloc: Global, count: usize) -> Result<List<IdlFile>, Fail> {
+/// One file with so many classes, of which the last has the name of the first.
+pub fn many(alloc: Global, count: usize) -> Result<List<IdlFile>, Fail> {
     let mut list = List::new(alloc);
     for number in 1..count {
         let mut interface = empty_interface(alloc)?;
