@@ -62,8 +62,8 @@ pub fn run_som<S: Store, K: Sink>(
     ensures calm { S.calm store.old → K.calm out.old → IsTrue (is_calm_status result) }
 
     // Texts that stand for a release are compiled to its image, which then stands under the name; no other file is changed.
-    ensures compiled { (out : Seq ℕ) (r : Release) → AreTextsOf (asked words.now) (S.files store.old) out r
-        → result ≢ 6 → result ≢ 8 → result ≢ 10 → PutsRelease (S.files store.old) out r result (S.files store.new) (K.written out.old) (K.written out.new) }
+    ensures compiled { (name : Seq ℕ) (r : Release) → AreTextsOf (asked words.now) (S.files store.old) name r
+        → result ≢ 6 → result ≢ 8 → result ≢ 10 → PutsRelease (S.files store.old) name r result (S.files store.new) (K.written out.old) (K.written out.new) }
 
     // No file is changed, but by `library`, which puts its image at status 0, or whose put failed in this call.
     ensures files { KeepsFiles (asked words.now) (S.files store.old) (S.faults store.old) (S.faults store.new) result (S.files store.new) }

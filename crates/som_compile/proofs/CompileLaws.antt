@@ -10,6 +10,7 @@ use Rattle.som_compile.specs.Compiling.{StandFor, Compiles, unread, an_image, em
 use Rattle.som_compile.proofs.ReadLaws.{some_readings, one_readings}
 
 empty_image : (image : List ℕ) × (library_image empty_release ≡ Some image)
+unfolding library_image
 empty_image = (_, refl)
 
 pub stands_image : (ss : List Source) (r : Release) → StandFor ss r → (image : List ℕ) × (library_image r ≡ Some image)

@@ -1,2 +1,3 @@
 pub mod Lexed
 pub mod ReadLaws
+pub mod CompileLaws

@@ -1,9 +1,11 @@
 -- Reading texts comes to one thing, and the code's loop to that.
-use Rattle.std.proofs.Common.{◌≡◌, ◌≢◌, ℕ, ◌+◌, ◌⊎◌, inl, inr, Bool, List, [], ◌∷◌, ◌++◌, drop, codes, Option, Some, None, Result, Ok, Err, refl, sym, ap, subst, ◌∙◌}
+use Rattle.std.proofs.Common.{◌≡◌, ◌≢◌, ℕ, ◌+◌, ◌<◌, ◌≤◌, ◌⊎◌, inl, inr, Bool, List, [], ◌∷◌, ◌++◌, length, take, drop, get_or, codes, Option, Some, None, Result, Ok, Err, refl, sym, ap, subst, ◌∙◌, append_assoc}
+use Rattle.std.proofs.lemmas.List.{take_more, take_all, take-append-drop}
 use Rattle.som_model.specs.declared.limits.TheConstants.{MAX_NAME, MAX_TEXT}
 use Rattle.som_lex.specs.declared.token.LexToken.{LexToken}
 use Rattle.som_lex.specs.declared.token.Tokens.{Tokens}
 use Rattle.som_lex.specs.declared.fault.LexFault.{LexFault}
+use Rattle.som_lex.specs.declared.fault.LexFault.TheVariants as lexing
 use Rattle.som_lex.specs.Line.{is_fresh}
 use Rattle.som_lex.specs.Front.{IsFault, IsTextFault, no_token, a_digit_after_zero, in_literal, open_comment, a_large_number, a_long_name, a_bad_byte, a_bad_escape, unclosed, too_long}
 use Rattle.som_lex.specs.Cut.{IsCut, Stops, here, after_gap, after_token}
@@ -18,7 +20,9 @@ use Rattle.som_compile.specs.declared.fault.ReadingFault.TheVariants as reading
 use Rattle.som_compile.specs.declared.fault.TextFault.{TextFault}
 use Rattle.som_compile.specs.declared.fault.TextFault.TheVariants as texts
 use Rattle.som_compile.specs.declared.source.Source.{Source}
-use Rattle.som_compile.specs.Reading.{lexing_told, parsing_told, Reads, no_tokens, no_tree, a_tree, ReadsAll, no_more, one_more, refused, refused_later}
+use Rattle.som_compile.specs.declared.fault.CompileFault.{CompileFault}
+use Rattle.som_compile.specs.declared.fault.CompileFault.TheVariants as faults
+use Rattle.som_compile.specs.Reading.{lexing_told, parsing_told, Tells, Says, Reads, no_tokens, no_tree, a_tree, ReadsAll, no_more, one_more, refused, refused_later}
 use Rattle.som_compile.proofs.Lexed.{Lexes, lexed}
 
 -- ---- one text
@@ -78,7 +82,7 @@ pub some_reading : (s : Source) → (r : Result IdlFile TextFault) × Reads s r
 some_reading s = by_tokens s (lexed s.bytes)
   where
     by_tokens : (s : Source) → Lexes s.bytes 0 → (r : Result IdlFile TextFault) × Reads s r
-    by_tokens s (inl (ts, c)) = let a = some_answer (tokens_from s.bytes ts) in parsed s (tokens_from s.bytes ts) refl c a.0 a.1.0 a.1.1
+    by_tokens s (inl (ts, c)) = let a = some_answer (tokens_from s.bytes ts) in parsed s (tokens_from s.bytes ts) refl c a.0 a.1 a.2
     by_tokens s (inr (f, stops)) = let w = lex_fault_told s.name s.bytes 0 f stops in (Err w.0, no_tokens f w.0 stops w.1)
 
 -- and one at most
@@ -127,6 +131,25 @@ one_reading s _ _ (a_tree t f e c x) (a_tree u g h d y) =
     let same : a_parsed f ≡ a_parsed g = same_answer s.bytes t u (Ok f) (Ok g) e h c d x y (tree_told f) (tree_told g) in
     let trees : f ≡ g = cc in
     ap (λ (k : IdlFile). Ok k) trees
+
+-- ---- what the code answers
+
+told_no_want : (name : List ℕ) (f : LexFault) (w : TextFault) → lexing_told name f ≡ Some w → f ≢ lexing.NoMemory
+told_no_want name f w e same = let h : None ≡ Some w = ap (lexing_told name) (sym same) ∙ e in cc
+
+-- the bytes of the text are no tokens
+pub lex_refused : (s : Source) (f : LexFault) (r : CompileFault) → (f ≢ lexing.NoMemory → Stops s.bytes 0 f) → Tells (lexing_told s.name f) r → Says {A = IdlFile} (Reads s) (Err r)
+lex_refused s f (faults.Text w) stops e = no_tokens f w (stops (told_no_want s.name f w e)) e
+lex_refused s f faults.NoMemory stops e = tt
+
+-- its tokens are no text of the grammar
+pub parse_refused : (s : Source) (t : Tokens) (f : SyntaxFault) (r : CompileFault) → t.source ≡ s.bytes → AreTokens t → IsAnswer t (Err f) → Tells (parsing_told s.name f) r → Says {A = IdlFile} (Reads s) (Err r)
+parse_refused s t f (faults.Text w) e c a told = no_tree t f w e c a told
+parse_refused s t f faults.NoMemory e c a told = tt
+
+-- they have a tree
+pub tree_read : (s : Source) (t : Tokens) (f : IdlFile) → t.source ≡ s.bytes → AreTokens t → IsAnswer t (Ok f) → Says (Reads s) (Ok f)
+tree_read s t f e c a = a_tree t f e c a
 
 -- ---- all texts
 
@@ -193,3 +216,27 @@ read_more _ _ s f (one_more {ss = ss} {fs = fs} y p) x = one_more y (read_more s
 pub stops_here : (ss : List Source) (fs : List IdlFile) (s : Source) (w : TextFault) (rest : List Source) → ReadsAll ss (Ok fs) → Reads s (Err w) → ReadsAll (ss ++ s ∷ rest) (Err w)
 stops_here _ _ s w rest no_more x = refused x
 stops_here _ _ s w rest (one_more {ss = ss} {fs = fs} y p) x = refused_later y (stops_here ss fs s w rest p x)
+
+pub none_read : (ss : List Source) (fs : List IdlFile) → fs ≡ [] → ReadsAll (take 0 ss) (Ok fs)
+none_read ss fs e = subst (λ (gs : List IdlFile). ReadsAll [] (Ok gs)) (sym e) no_more
+
+pub all_texts : (ss : List Source) (fs : List IdlFile) (i : ℕ) → length ss ≤ i → ReadsAll (take i ss) (Ok fs) → Says (ReadsAll ss) (Ok fs)
+all_texts ss fs i over x = subst (λ (l : List Source). ReadsAll l (Ok fs)) (take_all i ss over) x
+
+-- a text stands at the place, after those that were read
+module _ (ss : List Source) (fs : List IdlFile) (i : ℕ) (s : Source) (lt : i < length ss) (at : s ≡ get_or ss i s) (read_so : ReadsAll (take i ss) (Ok fs)) where
+  up_to : take (i + 1) ss ≡ take i ss ++ s ∷ []
+  up_to = take_more ss i s lt ∙ ap (λ (x : Source). take i ss ++ x ∷ []) (sym at)
+
+  parted : ss ≡ take i ss ++ s ∷ drop (i + 1) ss
+  parted = sym (take-append-drop (i + 1) ss) ∙ ap (λ (l : List Source). l ++ drop (i + 1) ss) up_to ∙ append_assoc (take i ss) (s ∷ []) (drop (i + 1) ss)
+
+  -- it is read
+  pub next_read : (f : IdlFile) → Says (Reads s) (Ok f) → ReadsAll (take (i + 1) ss) (Ok (fs ++ f ∷ []))
+  next_read f x = subst (λ (l : List Source). ReadsAll l (Ok (fs ++ f ∷ []))) (sym up_to) (read_more (take i ss) fs s f read_so x)
+
+  -- it can't be read
+  pub next_refused : (r : CompileFault) → Says {A = IdlFile} (Reads s) (Err r) → Says {A = List IdlFile} (ReadsAll ss) (Err r)
+  next_refused (faults.Text w) x = subst (λ (l : List Source). ReadsAll l (Err w)) (sym parted) (stops_here (take i ss) fs s w (drop (i + 1) ss) read_so x)
+  next_refused faults.NoMemory x = tt
+

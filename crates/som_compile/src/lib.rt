@@ -1,11 +1,13 @@
 //! From texts to an image, or what is first wrong with them.
 #![tactic(auto)]
 
+mod compile;
 mod fault;
 mod laws;
 mod read;
 mod source;
 
+pub use compile::compile_library;
 pub use fault::{CompileFault, ReadingFault, TextFault};
 pub use laws::reading_law;
 pub use read::read_interfaces;

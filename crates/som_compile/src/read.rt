@@ -56,6 +56,7 @@ fn unparsed(alloc: Global, name: &Text, fault: SyntaxFault) -> CompileFault
 }
 
 // The interfaces of a text, or its first fault.
+#[tactic(auto, using(crate::proofs::ReadLaws::lex_refused, crate::proofs::ReadLaws::parse_refused, crate::proofs::ReadLaws::tree_read))]
 fn read_text(alloc: Global, source: &Source) -> Result<IdlFile, CompileFault>
     ensures { Says (Reads source.now) result }
 {
@@ -71,14 +72,16 @@ fn read_text(alloc: Global, source: &Source) -> Result<IdlFile, CompileFault>
 
 /// The interfaces of each text in order, or what is wrong with the first that can't be read. A fault of the bytes of a text
 /// comes before those of its tokens.
+#[tactic(auto, using(crate::proofs::ReadLaws::all_texts, crate::proofs::ReadLaws::next_read, crate::proofs::ReadLaws::next_refused))]
 pub fn read_interfaces(
     alloc: Global,
     sources: &List<Source>,
 ) -> Result<List<IdlFile>, CompileFault>
     ensures { Says (ReadsAll sources.now) result }
 {
+    let sources = sources.as_slice();
     let mut trees = List::new(alloc);
-    for source in sources.as_slice() {
+    for source in sources {
         trees.push(read_text(alloc, source)?)?;
     }
     Ok(trees)

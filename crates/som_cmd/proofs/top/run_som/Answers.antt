@@ -1,7 +1,8 @@
 use Rattle.std.proofs.Common.{ℕ, List, refl, subst}
 use Rattle.som_io.specs.Outside.{ShowsAll, ShowsFront}
-use Rattle.som_cmd.specs.Words.{asked, Run, Show}
+use Rattle.som_cmd.specs.Words.{asked, Run, Show, Library}
 use Rattle.som_cmd.proofs.EndLaws.{ends, fronts, nothing_written, bad_ends, bad_fronts, means_by, shows_by}
+use Rattle.som_cmd.proofs.LibraryEndLaws.{library_ends, library_fronts, library_keeps, run_keeps, show_keeps, bad_keeps, puts_by}
 use Rattle.som_cmd.proofs.top.run_som.Goals as goal
 
 -- ---- a run
@@ -24,6 +25,11 @@ returns-in-Run-clause-front g c = λ _.
     fronts (asked c.args.words.now) (Run c.in-Run.client.now c.in-Run.library.now c.in-Run.fuel) c.in-Run.ensures (g.S.Store.files c.args.store.now) c.run.result c.run.ensures.answer
     (g.S.Store.faults c.args.store.now) (g.S.Store.faults c.run.new.store) c.run.ensures.cause (g.K.Sink.written c.args.out.now) (g.K.Sink.written c.tell.new.out) c.tell.ensures.front
 
+pub returns-in-Run-clause-files : goal.returns-in-Run-clause-files
+returns-in-Run-clause-files g c =
+    run_keeps (asked c.args.words.now) c.in-Run.client.now c.in-Run.library.now c.in-Run.fuel c.in-Run.ensures (g.S.Store.files c.args.store.now) (g.S.Store.files c.run.new.store)
+    (g.S.Store.faults c.args.store.now) (g.S.Store.faults c.run.new.store) c.tell.result c.run.ensures.files
+
 -- ---- an image that is shown
 
 answered_show : goal.returns-in-Show-clause-answered
@@ -44,6 +50,37 @@ returns-in-Show-clause-front g c = λ _.
     fronts (asked c.args.words.now) (Show c.in-Show.image.now) c.in-Show.ensures (g.S.Store.files c.args.store.now) c.show.result c.show.ensures.answer
     (g.S.Store.faults c.args.store.now) (g.S.Store.faults c.show.new.store) c.show.ensures.cause (g.K.Sink.written c.args.out.now) (g.K.Sink.written c.tell-in-Show.new.out) c.tell-in-Show.ensures.front
 
+pub returns-in-Show-clause-files : goal.returns-in-Show-clause-files
+returns-in-Show-clause-files g c =
+    show_keeps (asked c.args.words.now) c.in-Show.image.now c.in-Show.ensures (g.S.Store.files c.args.store.now) (g.S.Store.files c.show.new.store)
+    (g.S.Store.faults c.args.store.now) (g.S.Store.faults c.show.new.store) c.tell-in-Show.result c.show.ensures.files
+
+-- ---- texts that are compiled
+
+answered_library : goal.returns-in-Library-clause-answered
+answered_library g c = λ not6 not8 not10.
+    library_ends (asked c.args.words.now) c.in-Library.name.now c.in-Library.files.now c.in-Library.ensures (g.S.Store.files c.args.store.now) c.compile.result (g.S.Store.files c.compile.new.store) c.compile.ensures.puts
+    c.tell-in-Library.result (g.K.Sink.written c.args.out.now) (g.K.Sink.written c.tell-in-Library.new.out) (c.tell-in-Library.ensures.all not6 not8 not10)
+
+pub returns-in-Library-clause-answered : goal.returns-in-Library-clause-answered
+returns-in-Library-clause-answered = answered_library
+
+pub returns-in-Library-clause-compiled : goal.returns-in-Library-clause-compiled
+returns-in-Library-clause-compiled g c = λ out r texts not6 not8 not10.
+    puts_by (asked c.args.words.now) (g.S.Store.files c.args.store.now) c.tell-in-Library.result (g.S.Store.files c.compile.new.store) (g.K.Sink.written c.args.out.now) (g.K.Sink.written c.tell-in-Library.new.out) out r
+    (answered_library g c not6 not8 not10) texts
+
+pub returns-in-Library-clause-front : goal.returns-in-Library-clause-front
+returns-in-Library-clause-front g c = λ _.
+    library_fronts (asked c.args.words.now) c.in-Library.name.now c.in-Library.files.now c.in-Library.ensures (g.S.Store.files c.args.store.now) c.compile.result (g.S.Store.files c.compile.new.store) c.compile.ensures.puts
+    (g.S.Store.faults c.args.store.now) (g.S.Store.faults c.compile.new.store) c.compile.ensures.cause (g.K.Sink.written c.args.out.now) (g.K.Sink.written c.tell-in-Library.new.out) c.tell-in-Library.ensures.front
+
+pub returns-in-Library-clause-files : goal.returns-in-Library-clause-files
+returns-in-Library-clause-files g c =
+    library_keeps (asked c.args.words.now) c.in-Library.name.now c.in-Library.files.now c.in-Library.ensures (g.S.Store.files c.args.store.now) c.compile.result (g.S.Store.files c.compile.new.store) c.compile.ensures.puts
+    (g.S.Store.faults c.args.store.now) (g.S.Store.faults c.compile.new.store) c.tell-in-Library.result c.compile.ensures.cause (g.K.Sink.written c.args.out.now) (g.K.Sink.written c.tell-in-Library.new.out)
+    c.tell-in-Library.ensures.all c.tell-in-Library.ensures.nothing
+
 -- ---- words of no form
 
 pub returns-in-Ok-clause-answered : goal.returns-in-Ok-clause-answered
@@ -61,3 +98,11 @@ returns-in-Ok-clause-front g c = λ _.
 pub returns-in-Err-clause-front : goal.returns-in-Err-clause-front
 returns-in-Err-clause-front g c = λ _.
     nothing_written (asked c.args.words.now) (g.S.Store.files c.args.store.now) (g.S.Store.faults c.args.store.now) (g.S.Store.faults c.args.store.now) (g.K.Sink.written c.args.out.now)
+
+pub returns-in-Ok-clause-files : goal.returns-in-Ok-clause-files
+returns-in-Ok-clause-files g c =
+    bad_keeps (asked c.args.words.now) c.in-Bad.ensures (g.S.Store.files c.args.store.now) (g.S.Store.files c.args.store.now) (g.S.Store.faults c.args.store.now) (g.S.Store.faults c.args.store.now) c.say.result refl
+
+pub returns-in-Err-clause-files : goal.returns-in-Err-clause-files
+returns-in-Err-clause-files g c =
+    bad_keeps (asked c.args.words.now) c.in-Bad.ensures (g.S.Store.files c.args.store.now) (g.S.Store.files c.args.store.now) (g.S.Store.faults c.args.store.now) (g.S.Store.faults c.args.store.now) 10 refl

@@ -3,4 +3,4 @@ use Rattle.som_compile.specs.Reading.{ReadsAll}
 use Rattle.som_compile.proofs.read.read_interfaces.Given as goal
 
 abbrev pub invariant-loop-source : goal.invariant-loop-source
-invariant-loop-source l = ReadsAll (take l.source-index l.as_slice) (Ok l.trees)
+invariant-loop-source l = ReadsAll (take l.source-index l.sources) (Ok l.trees)
