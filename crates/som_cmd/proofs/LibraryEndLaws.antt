@@ -89,9 +89,9 @@ module _ (asked : Asked) (out : List ℕ) (names : List (List ℕ)) (is : Librar
 
   -- the line that says so was written whole or in part, or not at all
   failing : (status : ℕ) → (status ≢ 6 → status ≢ 8 → status ≢ 10 → ⊥) → (a b c : Bool) → (status == 6) ≡ a → (status == 8) ≡ b → (status == 10) ≡ c → (status ≡ 6) ⊎ (status ≡ 8) ⊎ (status ≡ 10)
-  failing status says true b c e f g = inl (inl (eqb-true status 6 e))
-  failing status says false true c e f g = inl (inr (eqb-true status 8 f))
-  failing status says false false true e f g = inr (eqb-true status 10 g)
+  failing status says true b c e f g = inl (eqb-true status 6 e)
+  failing status says false true c e f g = inr (inl (eqb-true status 8 f))
+  failing status says false false true e f g = inr (inr (eqb-true status 10 g))
   failing status says false false false e f g = absurd (says (differs status 6 e) (differs status 8 f) (differs status 10 g))
 
   keeps : (files : Files) (outcome : Result Output Stop) (new_files : Option Files) → Puts files out names outcome new_files → (count now status : ℕ) → HasCause (FailsOn (Some files) (Library out names)) count now outcome

@@ -1,5 +1,5 @@
 -- The texts under names, one after the other.
-use Rattle.std.proofs.Common.{◌≡◌, ℕ, ◌+◌, ◌-◌, ◌<◌, ◌≤◌, Bool, true, false, if◌then◌else◌, nat_le, List, [], ◌∷◌, ◌++◌, length, take, drop, get_or, codes, Option, Some, None, Result, Ok, Err, refl, sym, ap, subst, ◌∙◌, append_assoc, add-assoc, arith}
+use Rattle.std.proofs.Common.{◌≡◌, ℕ, ◌+◌, ◌-◌, ◌<◌, ◌≤◌, Bool, true, false, if◌then◌else◌, nat_le, List, [], ◌∷◌, ◌++◌, length, take, drop, get_or, codes, Option, Some, None, Result, Ok, Err, refl, sym, ap, subst, ◌∙◌, append_assoc, arith}
 use Rattle.std.proofs.lemmas.Grind.{common_steps}
 use Rattle.std.proofs.lemmas.List.{append-nil, take_more, take_all, take-append-drop}
 use Rattle.std.specs.FinMap.{get}
@@ -101,12 +101,21 @@ parts_by before n ns files ss (Ok s) is e = others_by (texts_after (before + len
     others_by (Err r) is_o h = absurd cc
 parts_by before n ns files ss (Err r) is e = absurd cc
 
+plus_none : (n : ℕ) → n ≡ n + 0
+plus_none n = omega arith
+
+zero_plus : (n : ℕ) → 0 + n ≡ n
+zero_plus n = omega arith
+
+sum_parts : (a b c : ℕ) → a + b + c ≡ a + (b + c)
+sum_parts a b c = omega arith
+
 -- texts that are there, and then others
 pub texts_more : (before : ℕ) (ns ms : List (List ℕ)) (files : Files) (ss : List Source) → texts_after before ns files ≡ Ok ss
     → texts_after before (ns ++ ms) files ≡ before_all ss (texts_after (before + size ss) ms files)
 texts_more before [] ms files ss e =
     let none : [] ≡ ss = some_texts [] ss e in
-    subst (λ (x : List Source). texts_after before ms files ≡ before_all x (texts_after (before + size x) ms files)) none (before_none (texts_after before ms files))
+    subst (λ (x : List Source). texts_after before ms files ≡ before_all x (texts_after (before + size x) ms files)) none (before_none (texts_after before ms files) ∙ ap (λ (k : ℕ). before_all [] (texts_after k ms files)) (plus_none before))
 texts_more before (n ∷ ns) ms files ss e =
     let p = parts_by before n ns files ss (text_in before n files) refl e in
     let further = texts_more (before + length p.first.bytes) ns ms files p.others p.others_are in
@@ -114,7 +123,7 @@ texts_more before (n ∷ ns) ms files ss e =
     (ap (λ (x : Result Source Refusal). x >>= after_text before (ns ++ ms) files) p.first_is
     ∙ ap (λ (x : Texts). x >>= λ all. Ok (p.first ∷ all)) further
     ∙ before_one_more p.first p.others (texts_after (before + length p.first.bytes + size p.others) ms files)
-    ∙ ap (λ (k : ℕ). before_all (p.first ∷ p.others) (texts_after k ms files)) (add-assoc before (length p.first.bytes) (size p.others)))
+    ∙ ap (λ (k : ℕ). before_all (p.first ∷ p.others) (texts_after k ms files)) (sum_parts before (length p.first.bytes) (size p.others)))
 
 -- ---- the loop
 
@@ -131,7 +140,7 @@ nothing_got None = tt
 nothing_got (Some files) = refl
 
 -- a text stands at the place, after those that were got
-module _ (files : Option Files) (names : List (List ℕ)) (ss : List Source) (i : ℕ) (n : List ℕ) (lt : i < length names) (at : n ≡ get_or names i n) (got : Got files (take i names) ss) where
+module _ (names : List (List ℕ)) (i : ℕ) (n : List ℕ) (lt : i < length names) (at : n ≡ get_or names i n) where
   up_to : take (i + 1) names ≡ take i names ++ n ∷ []
   up_to = take_more names i n lt ∙ ap (λ (x : List ℕ). take i names ++ x ∷ []) (sym at)
 
@@ -139,48 +148,50 @@ module _ (files : Option Files) (names : List (List ℕ)) (ss : List Source) (i 
   parted =
       sym (take-append-drop (i + 1) names) ∙ ap (λ (x : List (List ℕ)). x ++ drop (i + 1) names) up_to ∙ append_assoc (take i names) (n ∷ []) (drop (i + 1) names)
 
-  one_text : (told : Files) → files ≡ Some told → (before : ℕ) → before ≡ size ss → (r : Result Source Refusal) → text_in before n told ≡ r → (rest : List (List ℕ))
+  one_text : (told : Files) (ss : List Source) → texts_in (take i names) told ≡ Ok ss → (before : ℕ) → before ≡ size ss → (r : Result Source Refusal) → text_in before n told ≡ r → (rest : List (List ℕ))
       → texts_in (take i names ++ n ∷ rest) told ≡ before_all ss (r >>= after_text (size ss) rest told)
-  one_text told is before count r e rest =
-      texts_more 0 (take i names) (n ∷ rest) told ss (subst (λ (x : Option Files). Got x (take i names) ss) is got)
+  one_text told ss got before count r e rest =
+      texts_more 0 (take i names) (n ∷ rest) told ss got
+      ∙ ap (λ (k : ℕ). before_all ss (texts_after k (n ∷ rest) told)) (zero_plus (size ss))
       ∙ ap (λ (x : Result Source Refusal). before_all ss (x >>= after_text (size ss) rest told)) (ap (λ (k : ℕ). text_in k n told) (sym count) ∙ e)
 
-  -- it can't be got
-  pub text_stops : (before : ℕ) → before ≡ size ss → (stop : Stop) → FollowsTold {A = Source} files (Err stop) (text_in before n) → FollowsTold {A = List Source} files (Err stop) (texts_in names)
-  text_stops before count stop f = by_files files refl stop f
-    where
-      by_files : (o : Option Files) → files ≡ o → (stop : Stop) → FollowsTold {A = Source} o (Err stop) (text_in before n) → FollowsTold {A = List Source} o (Err stop) (texts_in names)
-      by_files None is stop f = tt
-      by_files (Some told) is (stops.Refused r) f = ap (λ (ns : List (List ℕ)). texts_in ns told) parted ∙ one_text told is before count (Err r) f (drop (i + 1) names)
-      by_files (Some told) is (stops.StoreFailed line) f = tt
-      by_files (Some told) is stops.NoMemory f = tt
+-- it can't be got
+pub text_stops : (files now : Option Files) (names : List (List ℕ)) (ss : List Source) (i : ℕ) (n : List ℕ) (before : ℕ) (stop : Stop) → now ≡ files → i < length names → n ≡ get_or names i n
+    → Got files (take i names) ss → before ≡ size ss → FollowsTold {A = Source} now (Err stop) (text_in before n) → FollowsTold {A = List Source} files (Err stop) (texts_in names)
+text_stops None now names ss i n before stop same lt at got count f = tt
+text_stops (Some told) now names ss i n before (stops.Refused r) same lt at got count f =
+    let here = subst (λ (x : Option Files). FollowsTold {A = Source} x (Err (stops.Refused r)) (text_in before n)) same f in
+    ap (λ (ns : List (List ℕ)). texts_in ns told) (parted names i n lt at) ∙ one_text names i n lt at told ss got before count (Err r) here (drop (i + 1) names)
+text_stops (Some told) now names ss i n before (stops.StoreFailed line) same lt at got count f = tt
+text_stops (Some told) now names ss i n before stops.NoMemory same lt at got count f = tt
 
-  -- it is there
-  pub text_more : (before : ℕ) → before ≡ size ss → (s : Source) → FollowsTold files (Ok s) (text_in before n) → Got files (take (i + 1) names) (ss ++ s ∷ [])
-  text_more before count s f = by_files files refl f
-    where
-      by_files : (o : Option Files) → files ≡ o → FollowsTold o (Ok s) (text_in before n) → Got o (take (i + 1) names) (ss ++ s ∷ [])
-      by_files None is f = tt
-      by_files (Some told) is f = ap (λ (ns : List (List ℕ)). texts_in ns told) up_to ∙ one_text told is before count (Ok s) f []
+-- it is there
+pub text_more : (files now : Option Files) (names : List (List ℕ)) (ss : List Source) (i : ℕ) (n : List ℕ) (before : ℕ) (s : Source) (new : List Source) → now ≡ files → i < length names → n ≡ get_or names i n
+    → Got files (take i names) ss → before ≡ size ss → FollowsTold now (Ok s) (text_in before n) → new ≡ ss ++ s ∷ [] → Got files (take (i + 1) names) new
+text_more None now names ss i n before s new same lt at got count f is = tt
+text_more (Some told) now names ss i n before s new same lt at got count f is =
+    let here = subst (λ (x : Option Files). FollowsTold x (Ok s) (text_in before n)) same f in
+    ap (λ (ns : List (List ℕ)). texts_in ns told) (up_to names i n lt at) ∙ one_text names i n lt at told ss got before count (Ok s) here [] ∙ ap (λ (x : List Source). Ok x) (sym is)
 
-  are_got : AreGot files (take i names)
-  are_got = by_files files got
-    where
-      by_files : (o : Option Files) → Got o (take i names) ss → AreGot o (take i names)
-      by_files None g = tt
-      by_files (Some told) g = (ss, g)
+are_got : (files : Option Files) (names : List (List ℕ)) (ss : List Source) → Got files names ss → AreGot files names
+are_got None names ss g = tt
+are_got (Some told) names ss g = (ss, g)
 
-  -- the store failed there
-  pub text_fails : (count now_count now : ℕ) → count ≤ now_count → (stop : Stop) → HasCause {A = Source} (λ line. line ≡ store_failed n) now_count now (Err stop)
-      → HasCause {A = List Source} (FailsGettingTexts files names) count now (Err stop)
-  text_fails count now_count now le (stops.StoreFailed line) cause =
-      (rose_earlier count now_count now le cause.0, record { before = take i names; name = n; after = drop (i + 1) names; names_are = parted; got = are_got; line_is = cause.1 })
-  text_fails count now_count now le (stops.Refused r) cause = tt
-  text_fails count now_count now le stops.NoMemory cause = tt
+-- the store failed there
+pub text_fails : (files : Option Files) (names : List (List ℕ)) (ss : List Source) (i : ℕ) (n : List ℕ) (count mid now : ℕ) (stop : Stop) → i < length names → n ≡ get_or names i n
+    → Got files (take i names) ss → count ≤ mid → HasCause {A = Source} (λ line. line ≡ store_failed n) mid now (Err stop) → HasCause {A = List Source} (FailsGettingTexts files names) count now (Err stop)
+text_fails files names ss i n count mid now (stops.StoreFailed line) lt at got le cause =
+    (rose_earlier count mid now le cause.0, record { before = take i names; name = n; after = drop (i + 1) names; names_are = parted names i n lt at; got = are_got files (take i names) ss got; line_is = cause.1 })
+text_fails files names ss i n count mid now (stops.Refused r) lt at got le cause = tt
+text_fails files names ss i n count mid now stops.NoMemory lt at got le cause = tt
 
-pub size_more : (ss : List Source) (s : Source) → size (ss ++ s ∷ []) ≡ size ss + length s.bytes
-size_more [] s = omega arith
-size_more (t ∷ ss) s = let e = size_more ss s in omega arith
+size_after : (ss : List Source) (s : Source) → size (ss ++ s ∷ []) ≡ size ss + length s.bytes
+size_after [] s = omega arith
+size_after (t ∷ ss) s = let e = size_after ss s in omega (arith, e)
+
+-- with it there are so many bytes
+pub size_more : (before count : ℕ) (ss : List Source) (s : Source) (new : List Source) → before ≡ size ss → count ≡ length s.bytes → new ≡ ss ++ s ∷ [] → before + count ≡ size new
+size_more before count ss s new e f is = let h = size_after ss s in let k : size new ≡ size (ss ++ s ∷ []) = ap size is in omega (arith, e, f, h, k)
 
 -- all are there
 pub all_got : (files : Option Files) (names : List (List ℕ)) (ss : List Source) (i : ℕ) → length names ≤ i → Got files (take i names) ss → FollowsTold files (Ok ss) (texts_in names)

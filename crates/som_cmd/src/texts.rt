@@ -56,6 +56,7 @@ fn fetch_text<S: Store>(
 }
 
 /// The texts under names, in order, whose bytes together aren't too many.
+#[tactic(auto, using(crate::proofs::TextLaws::all_got, crate::proofs::TextLaws::text_stops, crate::proofs::TextLaws::text_fails))]
 pub fn fetch_texts<S: Store>(
     alloc: Global,
     names: &[Text],
