@@ -20,9 +20,9 @@ found_if : (b m : Bool) (a : Access) (o : Option Access) (f : Access → Body) �
 found_if true m a o f e = refl
 found_if false m a o f e = e
 
-found_named : (as : List Access) (name : List ℕ) (f : Access → Body) → among name (map (λ (a : Access). a.name) as) ≡ is_some (option_map f (find (λ (a : Access). bytes_eq name a.name) as))
+found_named : (all : List Access) (name : List ℕ) (f : Access → Body) → among name (map (λ (a : Access). a.name) all) ≡ is_some (option_map f (find (λ (a : Access). bytes_eq name a.name) all))
 found_named [] name f = refl
-found_named (a ∷ as) name f = found_if (bytes_eq name a.name) (among name (map (λ (a : Access). a.name) as)) a (find (λ (a : Access). bytes_eq name a.name) as) f (found_named as name f)
+found_named (a ∷ all) name f = found_if (bytes_eq name a.name) (among name (map (λ (a : Access). a.name) all)) a (find (λ (a : Access). bytes_eq name a.name) all) f (found_named all name f)
 
 -- a method has a body where its name is among those of the accessors
 pub has_body_by : (d : Drawn) (name : List ℕ) (keys : List (List ℕ)) → keys ≡ once (map (λ (a : Access). a.name) (accessors_of d.text)) → among name keys ≡ is_some (body_of d name)

@@ -1,5 +1,5 @@
 -- Limits one after the other.
-use Rattle.std.proofs.Common.{◌≡◌, ℕ, ◌≤◌, Bool, true, false, if◌then◌else◌, nat_le, List, [], ◌∷◌, ◌++◌, length, map, flat_map, Option, None, Result, Err, refl, sym, ap, ◌∙◌, subst, arith}
+use Rattle.std.proofs.Common.{◌≡◌, ℕ, ◌≤◌, Bool, true, false, if◌then◌else◌, nat_le, List, [], ◌∷◌, ◌++◌, length, map, flat_map, Option, None, Result, Err, refl, sym, ap, ◌∙◌, subst, leb-true}
 use Rattle.std.specs.Prelude.{codes, All}
 use Rattle.som_model.specs.Lists.{first, or_else}
 use Rattle.som_model.specs.declared.class.ClassDecl.{ClassDecl}
@@ -31,4 +31,4 @@ within true q n e = refl
 within false q n e = cc
 
 pub is_at_most : (q : List ℕ) (n count : ℕ) → first (at_most q n count) ≡ None → count ≤ n
-is_at_most q n count e = omega (arith, within (nat_le count n) q n e)
+is_at_most q n count e = leb-true count n (within (nat_le count n) q n e)

@@ -1,5 +1,5 @@
 -- The rule S14 of texts and the limits, from lists to plain words and back.
-use Rattle.std.proofs.Common.{◌≡◌, ◌↔◌, ℕ, ◌≤◌, inl, inr, Bool, true, false, if◌then◌else◌, nat_le, List, [], ◌∷◌, ◌++◌, length, map, flat_map, None, is_some, refl, sym, ap, ◌∙◌, subst, arith}
+use Rattle.std.proofs.Common.{◌≡◌, ◌↔◌, ℕ, zero, suc, ◌<◌, ◌≤◌, slice_index_or, inl, inr, Bool, true, false, if◌then◌else◌, nat_le, List, [], ◌∷◌, ◌++◌, length, map, flat_map, None, is_some, refl, sym, ap, ◌∙◌, subst, arith, le-leb}
 use Rattle.std.specs.Prelude.{codes}
 use Rattle.som_model.specs.Lists.{Mem, first}
 use Rattle.som_model.specs.Class.{introduced}
@@ -18,9 +18,10 @@ use Rattle.som_verify.proofs.Before.{both_none, none_both}
 use Rattle.som_verify.proofs.Owners.{flat_none}
 use Rattle.som_verify.proofs.PlainLists.{map_mem, map_none, mem_map, none_flat, none_map}
 use Rattle.som_verify.proofs.PlainMoves.{mem_flat}
+use Rattle.som_sema.specs.declared.sketch.Drawing.{Drawing}
 use Rattle.som_sema.specs.PlainReleases.{BodiesStand, IsAccessor, LimitsKept, a_getter, a_setter}
 use Rattle.som_sema.specs.Releases.{Access, accessors_of, at_most, attribute_accessors, body_of, class_limits, entry_limits, export_accessors, has_body, limit_passed, text_s14}
-use Rattle.som_sema.specs.Sketch.{Drawn, getter, setter}
+use Rattle.som_sema.specs.Sketch.{Drawn, drawings, getter, setter, sketches}
 use Rattle.som_sema.specs.TextRules.{text_breach, text_demand}
 use Rattle.som_sema.proofs.Accessing.{body_named, named_body}
 use Rattle.som_sema.proofs.Fitting.{both_flat, made}
@@ -75,7 +76,7 @@ bodies_law ds =
 -- limits
 
 says_at_most : (q : List ℕ) (n count : ℕ) → count ≤ n → first (at_most q n count) ≡ None
-says_at_most q n count le = let t : nat_le count n ≡ true = omega (arith, le) in rw t refl
+says_at_most q n count le = let t : nat_le count n ≡ true = le-leb count n le in rw t refl
 
 entry_says : (e : Entry) (name : List ℕ) (sig : Sig) (way : Way) → e ≡ entries.Introduced name sig way → first (entry_limits e) ≡ None → length sig.params ≤ MAX_PARAMETERS
 entry_says e name sig way is n = is_at_most (codes "parameters") MAX_PARAMETERS (length sig.params) (rw is at n)
@@ -111,6 +112,12 @@ class_says c e =
 
 pub few_variables : (c : ClassDecl) → first (class_limits c) ≡ None → length c.variables ≤ MAX_VARIABLES
 few_variables c e = (class_says c e).variables
+
+-- the same of classes with their texts, at a place
+pub few_at : (ds : List Drawing) (k : ℕ) (d : Drawing) → limit_passed (sketches (drawings ds)) ≡ None → k < length ds → length (slice_index_or ds k d).decl.variables ≤ MAX_VARIABLES
+few_at [] k d e lt = absurd (omega (arith, lt))
+few_at (x ∷ ds) zero d e lt = few_variables x.decl (none_both (class_limits x.decl) (flat_map class_limits (sketches (drawings ds))) e).0
+few_at (x ∷ ds) (suc k) d e lt = few_at ds k d (none_both (class_limits x.decl) (flat_map class_limits (sketches (drawings ds))) e).1 (omega (arith, lt))
 
 says_class : (c : ClassDecl) → Kept c → first (class_limits c) ≡ None
 says_class c k =

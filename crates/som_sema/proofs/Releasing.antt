@@ -1,5 +1,6 @@
 -- From declarations to the answer.
-use Rattle.std.proofs.Common.{◌≡◌, ℕ, suc, ◌≤◌, inl, inr, List, [], ◌∷◌, length, map, flat_map, zip, Option, None, Result, Ok, Err, refl, sym, ap, ◌∙◌, subst, arith, length-map}
+use Rattle.std.proofs.Common.{◌≡◌, ℕ, suc, ◌≤◌, inl, inr, List, [], ◌∷◌, length, map, flat_map, zip, Option, None, Result, Ok, Err, refl, sym, ap, ◌∙◌, subst, arith}
+use Rattle.std.proofs.lemmas.List.{length-map}
 use Rattle.std.specs.Borrow.{Bor}
 use Rattle.som_model.specs.Lists.{first, or_else}
 use Rattle.som_model.specs.declared.key.Module.TheVariants as modules
@@ -20,6 +21,10 @@ use Rattle.som_sema.specs.Words.{lent}
 -- an interface and a declaration that are passed together
 abbrev pub paired : (Bor IdlInterface) × ClassDecl → Drawn
 paired p = record { text = p.0.now; class = p.1 }
+
+-- the same, with one borrow less
+abbrev pub one_less : (Bor (Bor IdlInterface)) × ClassDecl → (Bor IdlInterface) × ClassDecl
+one_less p = (p.0.now, p.1)
 
 pub paired_beside : (is : List (Bor IdlInterface)) (cs : List ClassDecl) → map paired (zip is cs) ≡ beside (lent is) cs
 paired_beside [] cs = refl

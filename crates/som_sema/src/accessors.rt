@@ -42,14 +42,24 @@ fn add_exports<'a>(
     ensures { OnOk result (map access all.new.items ≡ map access all.old.items ++ flat_map export_accessors exports.now) }
 {
     for export in exports {
-        if let Export::Attribute {
-            readonly, names, ..
-        } = export
-        {
-            add_attributes(alloc, all, *readonly, names.as_slice())?;
-        }
+        add_export(alloc, all, export)?;
     }
     Ok(())
+}
+
+fn add_export<'a>(
+    alloc: Global,
+    all: &mut Vec<Accessor<'a>>,
+    export: &'a Export,
+) -> Result<(), NoMemory>
+    ensures { OnOk result (map access all.new.items ≡ map access all.old.items ++ export_accessors export.now) }
+{
+    match export {
+        Export::Attribute {
+            readonly, names, ..
+        } => add_attributes(alloc, all, *readonly, names.as_slice()),
+        Export::Operation { .. } => Ok(()),
+    }
 }
 
 fn add_attributes<'a>(

@@ -79,7 +79,7 @@ fn overridden_have_bodies(alloc: Global, drawing: &Drawing) -> Result<(), Verify
 /// The declarations with the bodies of their accessors.
 pub fn with_bodies(alloc: Global, drawings: Vec<Drawing>) -> Result<List<ClassDecl>, NoMemory>
     requires { All (λ (d : Known). length d.decl.variables ≤ LIMIT) drawings.items }
-    ensures { IfOk result (λ ds. ds ≡ map spec.with_bodies (drawn drawings.items)) }
+    ensures { IfOk result (λ ds. ds ≡ map spec.with_bodies (drawn drawings.entry.items)) }
 {
     let mut all = List::new(alloc);
     for drawing in drawings {
@@ -90,7 +90,7 @@ pub fn with_bodies(alloc: Global, drawings: Vec<Drawing>) -> Result<List<ClassDe
 
 fn with_own_bodies(alloc: Global, drawing: Drawing) -> Result<ClassDecl, NoMemory>
     requires { length drawing.decl.variables ≤ LIMIT }
-    ensures { IfOk result (λ d. d ≡ spec.with_bodies (seen drawing)) }
+    ensures { IfOk result (λ d. d ≡ spec.with_bodies (seen drawing.entry)) }
 {
     let bodies = bodies(alloc, &drawing)?;
     let Drawing { decl, .. } = drawing;

@@ -48,7 +48,7 @@ fn beside<'a>(
 }
 
 fn released(alloc: Global, drawings: Vec<Drawing>) -> Result<Release, Refused>
-    ensures { BodiesTold (drawn drawings.items) result }
+    ensures { BodiesTold (drawn drawings.entry.items) result }
 {
     match bodies_stand(alloc, &drawings) {
         Ok(()) => within_limits(alloc, drawings),
@@ -57,7 +57,7 @@ fn released(alloc: Global, drawings: Vec<Drawing>) -> Result<Release, Refused>
 }
 
 fn within_limits(alloc: Global, drawings: Vec<Drawing>) -> Result<Release, Refused>
-    ensures { LimitsTold (drawn drawings.items) result }
+    ensures { LimitsTold (drawn drawings.entry.items) result }
 {
     limits_kept(alloc, &drawings)?;
     Ok(Release {
