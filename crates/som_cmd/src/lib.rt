@@ -25,6 +25,8 @@ mod tests;
 #[cfg(test)]
 mod tests_of_images;
 #[cfg(test)]
+mod tests_of_library;
+#[cfg(test)]
 mod tests_of_lines;
 #[cfg(test)]
 mod tests_of_refusals;

@@ -1,3 +1,4 @@
 pub mod Lexed
 pub mod ReadLaws
+pub mod ReleaseWithin
 pub mod CompileLaws
