@@ -19,7 +19,7 @@ use Rattle.som_sema.specs.Building.{texts_breach}
 use Rattle.som_sema.specs.Releases.{ReleaseTold, library_breach, library_declarations, library_drawn, no_base, release_of_texts, text_s14, with_bodies}
 use Rattle.som_sema.specs.Sketch.{Drawn, sketches}
 use Rattle.som_sema.proofs.Bodiless.{classes_other, plain, types_other}
-use Rattle.som_sema.proofs.ReleaseBodies.{bodies_fit, no_blocks}
+use Rattle.som_sema.proofs.ReleaseBodies.{bodies_fit, names_and_variables, no_blocks}
 use Rattle.som_sema.proofs.Releasing.{library_classes_are}
 
 -- bodies apart, the classes are those that are declared
@@ -37,3 +37,18 @@ faces_hold is e =
       classes = classes_other (of_release (library_declarations is)) (of_release (release_of_texts is).classes) (plain_release is) h.classes;
       types = types_other (of_release (library_declarations is)) (of_release (release_of_texts is).classes) (plain_release is) h.types;
     }
+
+pub release_holds : (is : List IdlInterface) → faces_breach (of_release (library_declarations is)) ≡ None → library_breach is ≡ None → ReleaseOk (release_of_texts is)
+release_holds is faces e =
+    let p = or_none (texts_breach modules.Library no_base is) (first (flat_map text_s14 (library_drawn is))) e in
+    let q = names_and_variables is p.0 in
+    record {
+      rules = say_rules (release_of_texts is) (record { faces = faces_hold is faces; bodies = bodies_fit is q.0 q.1 p.1 });
+      blocks = no_blocks is q.0 q.1 p.1 _;
+    }
+
+pub conforms : (is : List IdlInterface) → (texts_breach modules.Library no_base is ≡ None → faces_breach (of_release (library_declarations is)) ≡ None) → (r : Result Release Refused) → ReleaseTold is r → IfOk r ReleaseOk
+conforms is faces (Ok r) t =
+    let p = or_none (texts_breach modules.Library no_base is) (first (flat_map text_s14 (library_drawn is))) t.1 in
+    subst ReleaseOk (sym t.3) (release_holds is (faces p.0) t.1)
+conforms is faces (Err e) t = tt
