@@ -10,19 +10,19 @@ use Rattle.som_model.specs.declared.key.ClassKey.TheVariants as keys
 use Rattle.som_model.specs.Lists.{Mem, doubles, every, find, first, firsts, joined, option_list, place_from, some}
 use Rattle.som_model.specs.Keys.{same_key}
 use Rattle.som_model.specs.Hierarchy.{Falls, Tells}
-use Rattle.som_model.specs.Ancestors.{Descends, anc, anc_within, by_parent, itself}
+use Rattle.som_model.specs.Ancestors.{Descends, anc_within, by_parent, itself}
 use Rattle.som_model.specs.Class.{Class, bare, class_in}
-use Rattle.som_model.specs.Classes.{ancestors, class_at, hierarchy, is_a, parents_in, parents_of, place_of}
+use Rattle.som_model.specs.Classes.{ancestors, class_at, hierarchy, is_a, parents_in, place_of}
 use Rattle.som_model.specs.Conforming.{each_after}
 use Rattle.som_model.specs.Kernel.{class_face, kernel, object_face, som_class, som_object}
-use Rattle.som_model.specs.Rules.{Breach, breach, demand, introduced_by, name_of, s2, s4, s8}
+use Rattle.som_model.specs.Rules.{breach, demand, introduced_by, name_of, s2, s4, s8}
 use Rattle.som_model.proofs.KeyLaws.{exact_keys}
 use Rattle.som_model.proofs.NamedLaws.{height_named, hierarchy_parents, hierarchy_same, parents_named}
 use Rattle.som_plain.proofs.Laws as plain
 use Rattle.som_plain.proofs.Members.{find_first, map_on, mem_left, mem_right, mem_split}
 use Rattle.som_verify.specs.Modules.{AreDeclared, module_of}
 use Rattle.som_verify.specs.Plainly.{IsAmong}
-use Rattle.som_verify.proofs.Before.{demanded, every_mem, mem_every, none_both}
+use Rattle.som_verify.proofs.Before.{demanded, every_mem, none_both}
 use Rattle.som_verify.proofs.Owners.{mem_middle}
 use Rattle.som_verify.proofs.PlainLists.{says_each, each_says}
 use Rattle.som_verify.proofs.PlainNames.{among_known, known_among}

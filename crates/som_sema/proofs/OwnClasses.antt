@@ -9,7 +9,7 @@ use Rattle.som_model.specs.declared.class.Entry.TheVariants as entries
 use Rattle.som_model.specs.declared.class.Sig.{Sig}
 use Rattle.som_model.specs.declared.class.Way.{Way}
 use Rattle.som_model.specs.declared.class.ClassDecl.{ClassDecl}
-use Rattle.som_model.specs.Lists.{Mem, among, doubles, every, find, first, option_list, without}
+use Rattle.som_model.specs.Lists.{Mem, among, doubles, every, first, option_list, without}
 use Rattle.som_model.specs.Class.{Class, class_in, entry_name, entry_of, introduced}
 use Rattle.som_model.specs.Classes.{is_a}
 use Rattle.som_model.specs.EffectiveOrder.{effective_order}
@@ -21,7 +21,7 @@ use Rattle.som_plain.proofs.Members.{Apart, find_first, mem_split, without_fails
 use Rattle.som_verify.specs.Plainly.{IsAmong, IsNamed, IsValue, TypesKnown}
 use Rattle.som_verify.proofs.Before.{both_none, none_both}
 use Rattle.som_verify.proofs.Owners.{mem_middle}
-use Rattle.som_verify.proofs.PlainLists.{apart_by, by_apart, map_mem, map_none, mem_map, none_map}
+use Rattle.som_verify.proofs.PlainLists.{apart_by, by_apart, map_mem, map_none, none_map}
 use Rattle.som_verify.proofs.PlainNames.{demand_none}
 use Rattle.som_sema.specs.Home.{key_of}
 use Rattle.som_sema.specs.Items.{listed, metaclass_names}
