@@ -3,13 +3,6 @@ ghost use Rattle.som_model.specs.declared.class.ClassDecl.{ClassDecl as Decl};
 ghost use Rattle.som_sema.specs.PlainReleases.{BodiesStand, LimitsKept};
 ghost use Rattle.som_sema.specs.Releases.{limit_passed, text_s14};
 ghost use Rattle.som_sema.specs.Sketch.{Drawn};
-ghost use Rattle.som_model.specs.declared.key.Module.TheVariants as modules;
-ghost use Rattle.som_model.specs.Conforming.{ReleaseOk};
-ghost use Rattle.som_idl.specs.declared.tree.IdlInterface.{IdlInterface as Text};
-ghost use Rattle.som_sema.specs.Building.{texts_breach};
-ghost use Rattle.som_verify.specs.Faces.{faces_breach};
-ghost use Rattle.som_verify.specs.Told.{of_release};
-ghost use Rattle.som_sema.specs.Releases.{library_breach, library_declarations, no_base, release_of_texts};
 ghost use Rattle.std.specs.Prelude.{◌≡◌, ◌↔◌, List as Seq, flat_map, None};
 
 /// No method lacks a body exactly where each that is introduced is an accessor and none is overridden, and no limit is
@@ -17,8 +10,4 @@ ghost use Rattle.std.specs.Prelude.{◌≡◌, ◌↔◌, List as Seq, flat_map,
 pub fn release_rules_law()
     ensures bodies { (ds : Seq Drawn) → (first (flat_map text_s14 ds) ≡ None) ↔ BodiesStand ds }
     ensures limits { (cs : Seq Decl) → (limit_passed cs ≡ None) ↔ LimitsKept cs }
-{}
-
-pub fn trial_law()
-    ensures { (is : Seq Text) → (texts_breach modules.Library no_base is ≡ None → faces_breach (of_release (library_declarations is)) ≡ None) → library_breach is ≡ None → ReleaseOk (release_of_texts is) }
 {}
