@@ -18,3 +18,7 @@ pub mod ReleaseLaws
 pub mod Bodiless
 pub mod ReleaseBodies
 pub mod Conformed
+pub mod Outlines
+pub mod BaseKept
+pub mod TextsConform
+pub mod OwnClasses

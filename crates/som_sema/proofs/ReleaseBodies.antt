@@ -11,12 +11,13 @@ use Rattle.som_model.specs.declared.class.Entry.TheVariants as entries
 use Rattle.som_model.specs.declared.class.Variable.{Variable}
 use Rattle.som_model.specs.declared.class.Override.{Override}
 use Rattle.som_model.specs.declared.class.Body.{Body}
+use Rattle.som_model.specs.declared.class.Body.TheVariants as bodies
 use Rattle.som_model.specs.declared.class.ClassDecl.{ClassDecl}
 use Rattle.som_model.specs.Lists.{Mem, find, first, option_list, or_else}
 use Rattle.som_model.specs.Class.{Class, class_in, entry_name, entry_of, introduced}
 use Rattle.som_model.specs.Classes.{interface_classes, library_classes}
-use Rattle.som_model.specs.Conforming.{BlocksAreTyped, block_in, blocks_of}
-use Rattle.som_model.specs.Rules.{s7}
+use Rattle.som_model.specs.Conforming.{BlocksAreTyped, blocks_of, each_after}
+use Rattle.som_model.specs.Rules.{s1, s3, s5, s7}
 use Rattle.som_plain.proofs.Members.{Apart, find_first, mem_right, mem_split}
 use Rattle.som_idl.specs.declared.tree.IdlInterface.{IdlInterface}
 use Rattle.som_verify.specs.Places.{with_kernel}
@@ -27,15 +28,21 @@ use Rattle.som_verify.proofs.PlainFaces.{or_none}
 use Rattle.som_verify.proofs.PlainLists.{differ_apart, map_mem, mem_map}
 use Rattle.som_verify.proofs.PlainMembers.{variables_say}
 use Rattle.som_verify.proofs.PlainMoves.{flat_mem}
-use Rattle.som_sema.specs.Building.{after_base, home_of, texts_breach}
+use Rattle.som_sema.specs.Building.{after_base, declared_all, home_of, moved_breach, texts_breach}
 use Rattle.som_sema.specs.Finished.{declare, entry_for, entry_or_moved, introducer}
 use Rattle.som_sema.specs.Releases.{Access, accessor_body, beside, body_of, has_body, library_drawn, no_base, release_of_texts, text_s14, with_bodies}
 use Rattle.som_sema.specs.Sketch.{Drawn, drawn, introduces, sketch, sketches, variables}
-use Rattle.som_sema.specs.TextRules.{text_breach, text_s6}
+use Rattle.som_sema.specs.TextRules.{text_breach, text_s2_from, text_s4, text_s6, text_s11, text_s12}
 use Rattle.som_sema.proofs.Fitting.{Accessed, accessed, accessor_fits, as_many, each_fits}
 use Rattle.som_sema.proofs.ReleaseLaws.{bodies_law}
 use Rattle.som_sema.proofs.TextBases.{demanded_text}
 use Rattle.som_sema.proofs.TextLaws.{map_same, names_law}
+
+-- the blocks of a body
+abbrev block_in : Body → List Block
+block_in (bodies.User b) = b ∷ []
+block_in (bodies.Get n) = []
+block_in (bodies.Set n) = []
 
 -- each interface with its declaration, one by one
 
@@ -87,6 +94,33 @@ variables_apart is e i m =
     ((variables_say (map (class_in modules.Library) (sketches (library_sketches is))) e).by (class_in modules.Library (sketch (library_home is) i))
     (mem_map (class_in modules.Library) (sketch (library_home is) i) (sketches (library_sketches is))
     (mem_map (λ (d : Drawn). d.class) (drawn (library_home is) i) (library_sketches is) (mem_map (drawn (library_home is)) i is m))))
+
+pub names_and_variables : (is : List IdlInterface) → texts_breach modules.Library no_base is ≡ None
+    → (first (flat_map text_s6 (library_sketches is)) ≡ None) × (first (flat_map s7 (map (class_in modules.Library) (sketches (library_sketches is)))) ≡ None)
+names_and_variables is e =
+    let home = library_home is in
+    let ds = library_sketches is in
+    let base = interface_classes no_base in
+    let cs = with_kernel (after_base modules.Library base (sketches ds)) in
+    let own = map (class_in modules.Library) (sketches ds) in
+    let all = declared_all modules.Library base ds in
+    let six = first (flat_map text_s6 ds) in
+    let seven = first (flat_map s7 own) in
+    let five = first (flat_map (s5 cs) own) in
+    let four = first (flat_map (text_s4 home cs) ds) in
+    let three = first (flat_map s3 own) in
+    let two = first (text_s2_from home cs (length (with_kernel base)) ds) in
+    let one = first (each_after s1 (with_kernel base) own) in
+    let later = or_else (moved_breach (after_base modules.Library base all) (map (class_in modules.Library) all)) (or_else (first (flat_map text_s11 ds)) (first (flat_map text_s12 ds))) in
+    let from_two = or_else two (or_else three (or_else four (or_else five (or_else six seven)))) in
+    let p = or_none (or_else one from_two) later e in
+    let q = or_none one from_two p.0 in
+    let r = or_none two (or_else three (or_else four (or_else five (or_else six seven)))) q.1 in
+    let s = or_none three (or_else four (or_else five (or_else six seven))) r.1 in
+    let t = or_none four (or_else five (or_else six seven)) s.1 in
+    let u = or_none five (or_else six seven) t.1 in
+    let v = or_none six seven u.1 in
+    (v.0, v.1)
 
 module _ (is : List IdlInterface) (names : first (flat_map text_s6 (library_sketches is)) ≡ None) (apart : first (flat_map s7 (map (class_in modules.Library) (sketches (library_sketches is)))) ≡ None)
     (stand : first (flat_map text_s14 (library_drawn is)) ≡ None) where

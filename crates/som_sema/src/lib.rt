@@ -1,4 +1,4 @@
-//! The faces that interface files stand for, or the first rule that they break.
+//! The faces and the release that interface files stand for, or the first rule that they break.
 #![tactic(auto)]
 
 mod accessors;
@@ -36,7 +36,7 @@ mod variables;
 mod walked;
 
 pub use build::build_faces;
+pub use laws::{declarations_law, text_rules_law};
 pub use release::build_release;
 pub use release_laws::release_rules_law;
-pub use laws::text_rules_law;
 pub use types::Refused;

@@ -19,6 +19,7 @@ use std::alloc::Global;
 /// first rule that they break or limit that they pass.
 pub fn build_release(alloc: Global, idl: &List<IdlFile>) -> Result<Release, Refused>
     ensures told { ReleaseTold (interfaces_of idl.now) result }
+    ensures conforms { IfOk result ReleaseOk }
 {
     let base = Interface {
         classes: List::new(alloc),
