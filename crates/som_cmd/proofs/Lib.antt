@@ -6,6 +6,10 @@ mod RunMeaning
 mod RunLaws
 mod ShowLaws
 mod SayLaws
+mod CheckLaws
+mod CheckLoops
+mod CheckMeaning
+mod Comparing
 mod FaultLaws
 mod OneAnswer
 mod Telling

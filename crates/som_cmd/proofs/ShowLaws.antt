@@ -170,7 +170,7 @@ bytes_shown (Some files) n b lines f g = subst (λ (x : Result (List (List ℕ))
 
 -- ---- one step after another
 
-stops_first : {A B : Type 0} (stop : Stop) (s : Result A Refusal) (f : A → Result B Refusal) → Stops stop s → Stops stop (s >>= f)
+pub stops_first : {A B : Type 0} (stop : Stop) (s : Result A Refusal) (f : A → Result B Refusal) → Stops stop s → Stops stop (s >>= f)
 stops_first (stops.Refused r) s f e = ap (λ x. x >>= f) e
 stops_first (stops.StoreFailed line) s f e = tt
 stops_first stops.NoMemory s f e = tt

@@ -1,11 +1,11 @@
 -- When a command may say that the store failed, and with which line.
-use Rattle.std.specs.Prelude.{◌≡◌, ◌⊎◌, ℕ, List, Option, Some, None, Result, Ok, Err, codes}
+use Rattle.std.specs.Prelude.{◌≡◌, ◌⊎◌, ℕ, List, [], ◌∷◌, Option, Some, None, Result, Ok, Err, codes}
 use Rattle.std.specs.FinMap.{get}
 use Rattle.som_io.specs.Outside.{Rose}
 use Rattle.som_model.specs.Bytes.{Files}
 use Rattle.som_cmd.specs.declared.stop.Stop.{Stop}
 use Rattle.som_cmd.specs.declared.stop.Stop.TheVariants as stops
-use Rattle.som_cmd.specs.Words.{Asked, Run, Show, Bad}
+use Rattle.som_cmd.specs.Words.{Asked, Run, Show, Check, Bad}
 use Rattle.som_cmd.specs.Answer.{named}
 
 abbrev pub store_failed : List ℕ → List ℕ
@@ -16,10 +16,16 @@ abbrev pub Has : Option Files → List ℕ → Type 0
 Has None name = Unit {0}
 Has (Some files) name = (bytes : List ℕ) × (get files name ≡ Some bytes)
 
+-- the line says that the get of one of these names failed, which are got in order, and those before it are there
+abbrev pub FailsGetting : Option Files → List (List ℕ) → List ℕ → Type 0
+FailsGetting files [] line = ⊥
+FailsGetting files (n ∷ ns) line = (line ≡ store_failed n) ⊎ (Has files n × FailsGetting files ns line)
+
 -- the line says that the get of a name failed which the command gets, and no step before that get refuses
 abbrev pub FailsOn : Option Files → Asked → List ℕ → Type 0
 FailsOn files (Run client library fuel) line = (line ≡ store_failed client) ⊎ ((line ≡ store_failed library) × Has files client)
 FailsOn files (Show image) line = line ≡ store_failed image
+FailsOn files (Check names) line = FailsGetting files names line
 FailsOn files Bad line = ⊥
 
 abbrev pub StopHasCause : (List ℕ → Type 0) → ℕ → ℕ → Stop → Type 0

@@ -2,10 +2,13 @@ pub mod RunText
 pub mod Words
 pub mod Status
 pub mod Taking
+pub mod Endings
+pub mod ShowSteps
+pub mod CheckAnswer
 pub mod Answer
 pub mod Steps
 pub mod RunSteps
-pub mod ShowSteps
+pub mod CheckSteps
 pub mod Saying
 pub mod Cause
 pub mod Ends

@@ -8,7 +8,7 @@ use Rattle.som_wire.specs.declared.fault.ImageFault.{ImageFault}
 use Rattle.som_libimage.specs.Libraries.{library_at}
 use Rattle.som_show.specs.Shown.{shown_lines}
 use Rattle.som_cmd.specs.declared.stop.Refusal.{Refusal}
-use Rattle.som_cmd.specs.Answer.{unread, broken}
+use Rattle.som_cmd.specs.Endings.{unread, broken}
 
 -- what was read, or the refusal under a name
 abbrev pub read_or : List ℕ → Result Release ImageFault → Result Release Refusal

@@ -1,8 +1,6 @@
 -- What the steps of a command answer.
 use Rattle.std.specs.Prelude.{◌≡◌, ℕ, List, Option, Some, None, Result, Ok, Err}
-use Rattle.std.specs.Option.{ok_or}
 use Rattle.std.specs.List.{concat}
-use Rattle.std.specs.FinMap.{get}
 use Rattle.som_model.specs.Bytes.{Files}
 use Rattle.som_cmd.specs.declared.output.Output.{Output}
 use Rattle.som_cmd.specs.declared.stop.Refusal.{Refusal}
@@ -10,11 +8,8 @@ use Rattle.som_cmd.specs.declared.stop.Stop.{Stop}
 use Rattle.som_cmd.specs.declared.stop.Stop.TheVariants as stops
 use Rattle.som_cmd.specs.Status.{end_status}
 use Rattle.som_cmd.specs.Words.{Asked}
-use Rattle.som_cmd.specs.Answer.{Ending, IsAnswer, refusing, absent}
-
--- the bytes under a name
-abbrev pub file_of : List ℕ → Files → Result (List ℕ) Refusal
-file_of name files = ok_or (get files name) (absent name)
+use Rattle.som_cmd.specs.Answer.{Ending, IsAnswer, refusing}
+pub use Rattle.som_cmd.specs.Endings.{file_of}
 
 abbrev pub Stops : {A : Type 0} → Stop → Result A Refusal → Type 0
 Stops (stops.Refused r) steps = steps ≡ Err r

@@ -6,16 +6,18 @@ use Rattle.som_model.specs.Lists.{every}
 use Rattle.som_cmd.specs.declared.words.Command.{Command}
 use Rattle.som_cmd.specs.declared.words.Command.TheVariants as commands
 
--- what words ask for: to run a client image on a library image with so much fuel; to show an image; or they have no form
+-- what words ask for: to run a client image on a library image with so much fuel; to show an image; to check images; or they have no form
 pub data Asked : Type 0 where
   Run : (client library : List ℕ) (fuel : ℕ) → Asked
   Show : (image : List ℕ) → Asked
+  Check : (images : List (List ℕ)) → Asked
   Bad : Asked
 
 -- what a command of the code asks for
 abbrev pub asked_by : Command → Asked
 asked_by (commands.Run client library fuel) = Run client.now library.now fuel
 asked_by (commands.Show image) = Show image.now
+asked_by (commands.Check images) = Check images.now
 asked_by commands.Bad = Bad
 
 abbrev pub is_digit : ℕ → Bool
@@ -50,9 +52,16 @@ abbrev pub run_with : List ℕ → List ℕ → Option ℕ → Asked
 run_with client library None = Bad
 run_with client library (Some fuel) = Run client library fuel
 
--- `show IMAGE`, `run CLIENT LIBRARY` or `run CLIENT LIBRARY --fuel N`, where no name is empty
+abbrev pub is_name : List ℕ → Bool
+is_name word = not (length word == 0)
+
+-- what a word asks for with two or more names: `check`, where none is empty
+abbrev pub asked_of : List ℕ → List (List ℕ) → Asked
+asked_of word names = if bytes_eq word (codes "check") && every is_name names then Check names else Bad
+
+-- `show IMAGE`, `run CLIENT LIBRARY`, `run CLIENT LIBRARY --fuel N` or `check IMAGE IMAGE ..`, where no name is empty
 abbrev pub asked : List (List ℕ) → Asked
 asked (word ∷ image ∷ []) = if bytes_eq word (codes "show") && not (length image == 0) then Show image else Bad
 asked (word ∷ client ∷ library ∷ rest) =
-    if bytes_eq word (codes "run") && not (length client == 0) && not (length library == 0) then run_with client library (fuel_in rest) else Bad
+    if bytes_eq word (codes "run") && not (length client == 0) && not (length library == 0) then run_with client library (fuel_in rest) else asked_of word (client ∷ library ∷ rest)
 asked words = Bad

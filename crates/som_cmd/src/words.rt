@@ -1,5 +1,6 @@
-ghost use Rattle.som_cmd.specs.Words.{asked, asked_by, fuel_in, fuel_of, is_digit, leads_with_zero};
+ghost use Rattle.som_cmd.specs.Words.{asked, asked_by, asked_of, fuel_in, fuel_of, is_digit, is_name, leads_with_zero};
 ghost use Rattle.std.specs.Str.{bytes_eq};
+ghost use Rattle.som_model.specs.Lists.{every};
 ghost use Rattle.std.specs.Prelude.{◌≡◌, codes};
 
 use som_model::{DEFAULT_FUEL, List, MAX_FUEL, Text};
@@ -15,6 +16,9 @@ pub enum Command<'a> {
     Show {
         image: &'a Text,
     },
+    Check {
+        images: &'a [Text],
+    },
     /// The words have no form.
     Bad,
 }
@@ -29,6 +33,35 @@ fn is_show(word: &Text) -> bool
     ensures { result ≡ bytes_eq word.now (codes "show") }
 {
     word.is(b"show")
+}
+
+fn is_check(word: &Text) -> bool
+    ensures { result ≡ bytes_eq word.now (codes "check") }
+{
+    word.is(b"check")
+}
+
+// Whether none of the words is empty.
+fn are_names(words: &[Text]) -> bool
+    ensures { result ≡ every is_name words.now }
+{
+    for word in words {
+        if word.is_empty() {
+            return false;
+        }
+    }
+    true
+}
+
+// What a word asks for with two or more names.
+fn command_with<'a>(word: &Text, names: &'a [Text]) -> Command<'a>
+    ensures { asked_by result ≡ asked_of word.now names.now }
+{
+    if is_check(word) && are_names(names) {
+        Command::Check { images: names }
+    } else {
+        Command::Bad
+    }
 }
 
 fn leads_with_zero(digits: &[u8]) -> bool
@@ -110,7 +143,7 @@ pub fn command_of(words: &List<Text>) -> Command<'_>
                     None => Command::Bad,
                 }
             } else {
-                Command::Bad
+                command_with(word, &words.as_slice()[1..])
             }
         }
         _ => Command::Bad,
