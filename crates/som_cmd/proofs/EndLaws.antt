@@ -1,21 +1,25 @@
 -- How the ends of a call are those of its answer.
-use Rattle.std.proofs.Common.{◌≡◌, ℕ, List, [], Option, Some, None, Result, Ok, Err, refl, sym, ap, subst, ◌∙◌, inl, inr}
+use Rattle.std.proofs.Common.{◌≡◌, ℕ, List, [], arith, Option, Some, None, Result, Ok, Err, refl, sym, ap, subst, ◌∙◌, inl, inr}
 use Rattle.std.proofs.lemmas.List.{append-nil}
 use Rattle.som_model.specs.declared.program.Release.{Release}
 use Rattle.som_model.specs.declared.program.ClientProgram.{ClientProgram}
 use Rattle.som_model.specs.Bytes.{Files}
 use Rattle.som_model.specs.Means.{means}
+use Rattle.som_model.specs.Compatible.{Accepted, Incompatible}
+use Rattle.som_order.specs.Names.{name_at}
 use Rattle.som_io.specs.Outside.{ShowsAll, ShowsFront}
 use Rattle.som_libimage.proofs.Decoded.{library_again}
 use Rattle.som_cmd.specs.declared.output.Output.{Output}
 use Rattle.som_cmd.specs.declared.stop.Stop.{Stop}
 use Rattle.som_cmd.specs.declared.stop.Stop.TheVariants as stops
-use Rattle.som_cmd.specs.Words.{Asked, Bad}
-use Rattle.som_cmd.specs.Answer.{Ending, IsAnswer, bad_words, runs, shows, ran, showing, refusing, bad_line}
+use Rattle.som_cmd.specs.Words.{Asked, Check, Bad}
+use Rattle.som_cmd.specs.CheckAnswer.{IsCheckAnswer, not_kept, first_not_kept, accepting}
+use Rattle.som_cmd.specs.Answer.{Ending, IsAnswer, bad_words, runs, shows, checks, ran, showing, refusing, bad_line}
 use Rattle.som_cmd.specs.Cause.{FailsOn, HasCause}
 use Rattle.som_cmd.specs.Steps.{printed, AnswersTold}
-use Rattle.som_cmd.specs.Saying.{SaysAll, SaysFront}
-use Rattle.som_cmd.specs.Ends.{EndsAs, EndsAsTold, ShowsSome, AreImagesOf, RunsAs, IsImageOf, ShowsRelease}
+use Rattle.som_cmd.specs.Saying.{SaysAll, SaysFailure, SaysFront}
+use Rattle.som_cmd.specs.Ends.{EndsAs, EndsAsTold, StoreFails, ShowsSome, AreImagesOf, RunsAs, IsImageOf, ShowsRelease, AreChecked, TellsAccepted, TellsBreach}
+use Rattle.som_cmd.proofs.CheckMeaning.{accepted_if, none_if, under_conform, accepts_under, refuses_under}
 use Rattle.som_cmd.proofs.RunAnswers.{answer_to, answers, one_answer}
 
 -- ---- what a command came to
@@ -55,6 +59,15 @@ fronts asked by is (Some before) (Err (stops.StoreFailed line)) f count now caus
 fronts asked by is (Some before) (Err stops.NoMemory) f count now cause old new says =
     subst (λ (x : Option (List ℕ)). ShowsSome asked (Some before) count now old x) (sym says) (nothing_written asked (Some before) count now old)
 
+-- the line that says that the store failed was written
+pub fails : (asked by : Asked) → by ≡ asked → (files : Option Files) (outcome : Result Output Stop) (count now : ℕ) → HasCause (FailsOn files by) count now outcome
+    → (old new : Option (List ℕ)) → SaysFailure outcome old new → StoreFails asked files count now old new
+fails asked by is files (Ok o) count now cause old new says = absurd says
+fails asked by is files (Err (stops.Refused r)) count now cause old new says = absurd says
+fails asked by is files (Err (stops.StoreFailed line)) count now cause old new says =
+    record { rose = cause.0; line = line; is_line = subst (λ (x : Asked). FailsOn files x line) is cause.1; written = says }
+fails asked by is files (Err stops.NoMemory) count now cause old new says = absurd says
+
 -- ---- words of no form
 
 pub bad_ends : (asked : Asked) → Bad ≡ asked → (files : Option Files) (status : ℕ) → status ≡ 2 → (new_files : Option Files) → new_files ≡ files
@@ -75,6 +88,12 @@ none_told told e = cc
 
 pub some_told : (a b : Files) → Some a ≡ Some b → a ≡ b
 some_told a b e = cc
+
+never_both : (rs : List Release) (number : ℕ) (b : Incompatible) → first_not_kept rs ≡ None → first_not_kept rs ≡ Some (number, b) → ⊥
+never_both rs number b e f = cc
+
+not_zero : (status : ℕ) → status ≡ 0 → status ≡ 4 → ⊥
+not_zero status e f = omega arith
 
 -- it is that of any other answer
 module _ (asked : Asked) (before : Files) (status : ℕ) (new_files : Option Files) (old new : Option (List ℕ)) (e : EndsAs before asked status new_files old new) (other : Ending) (is : IsAnswer before asked other) where
@@ -110,3 +129,46 @@ shows_by asked (Some before) status new_files old new r e m =
     (shows m.name m.bytes r m.image_is (library_again m.bytes m.bytes_are r m.spelled m.prints) m.conforms) in
     let answer = subst (λ (x : Files). IsAnswer x asked (showing x r)) (sym same) is in
     record { text = text_of asked before status new_files old new e (showing before r) answer; status_is = status_is asked before status new_files old new e (showing before r) answer }
+
+-- ---- images that are checked
+
+module _ (asked : Asked) (before : Files) (status : ℕ) (new_files : Option Files) (old new : Option (List ℕ)) (e : EndsAs before asked status new_files old new) (names : List (List ℕ)) (rs : List Release) (m : AreChecked asked (Some before) names rs) where
+  -- what is answered of them, over the files that are told
+  is_answer : (ending : Files → Ending) → IsCheckAnswer m.told names (ending m.told) → IsAnswer before asked (ending before)
+  is_answer ending is =
+      subst (λ (x : Files). IsAnswer x asked (ending x)) (sym (some_told before m.told m.files_are))
+      (subst (λ (a : Asked). IsAnswer m.told a (ending m.told)) (sym m.asked_is) (checks names (ending m.told) is))
+
+  refuses_so : (number : ℕ) (b : Incompatible) → first_not_kept rs ≡ Some (number, b) → TellsBreach names number b status old new
+  refuses_so number b told =
+      let ending : Files → Ending = λ files. refusing files (not_kept (name_at names number) b) in
+      let is = is_answer ending (refuses_under m.told names rs number b m.under told) in
+      record { text = text_of asked before status new_files old new e (ending before) is; status_is = status_is asked before status new_files old new e (ending before) is }
+
+  accepts_so : (o : Option (ℕ × Incompatible)) → first_not_kept rs ≡ o → TellsAccepted rs status old new
+  accepts_so None none =
+      let is = is_answer accepting (accepts_under m.told names rs m.under none) in
+      record {
+        status_is = λ _. status_is asked before status new_files old new e (accepting before) is;
+        text = λ _. text_of asked before status new_files old new e (accepting before) is;
+        only = λ _. accepted_if rs m.two (under_conform m.told names rs m.under) none;
+      }
+  accepts_so (Some (number, b)) told =
+      let never : Accepted rs → ⊥ = λ a. never_both rs number b (none_if rs a) told in
+      record {
+        status_is = λ a. absurd (never a);
+        text = λ a. absurd (never a);
+        only = λ zero. absurd (not_zero status zero (refuses_so number b told).status_is);
+      }
+
+-- is an end that accepts exactly the lists that are to be accepted
+pub accepted_by : (asked : Asked) (files : Option Files) (status : ℕ) (new_files : Option Files) (old new : Option (List ℕ)) (names : List (List ℕ)) (rs : List Release)
+    → EndsAsTold asked files status new_files old new → AreChecked asked files names rs → TellsAccepted rs status old new
+accepted_by asked None status new_files old new names rs e m = absurd (none_told m.told m.files_are)
+accepted_by asked (Some before) status new_files old new names rs e m = accepts_so asked before status new_files old new e names rs m (first_not_kept rs) refl
+
+-- and that tells what isn't kept in the others
+pub breach_by : (asked : Asked) (files : Option Files) (status : ℕ) (new_files : Option Files) (old new : Option (List ℕ)) (names : List (List ℕ)) (rs : List Release) (number : ℕ) (b : Incompatible)
+    → EndsAsTold asked files status new_files old new → AreChecked asked files names rs → first_not_kept rs ≡ Some (number, b) → TellsBreach names number b status old new
+breach_by asked None status new_files old new names rs number b e m told = absurd (none_told m.told m.files_are)
+breach_by asked (Some before) status new_files old new names rs number b e m told = refuses_so asked before status new_files old new e names rs m number b told

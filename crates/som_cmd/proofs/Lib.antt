@@ -9,6 +9,10 @@ mod SayLaws
 mod TextLaws
 mod CompileLaws
 mod LibraryAnswered
+mod CheckLaws
+mod CheckLoops
+mod CheckMeaning
+mod Comparing
 mod FaultLaws
 mod OneAnswer
 mod Telling

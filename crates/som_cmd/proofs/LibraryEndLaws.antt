@@ -15,7 +15,7 @@ use Rattle.som_cmd.specs.declared.stop.Why.TheVariants as why
 use Rattle.som_cmd.specs.declared.stop.Stop.{Stop}
 use Rattle.som_cmd.specs.declared.stop.Stop.TheVariants as stops
 use Rattle.som_cmd.specs.Status.{status_of, end_status}
-use Rattle.som_cmd.specs.Words.{Asked, Run, Show, Library, Bad}
+use Rattle.som_cmd.specs.Words.{Asked, Run, Show, Check, Library, Bad}
 use Rattle.som_cmd.specs.Endings.{Ending, refusing}
 use Rattle.som_cmd.specs.Answer.{IsAnswer, compiles}
 use Rattle.som_cmd.specs.Cause.{FailsOn, HasCause}
@@ -116,6 +116,9 @@ run_keeps asked client library fuel is files new_files count now status same = s
 
 pub show_keeps : (asked : Asked) (image : List ℕ) → Show image ≡ asked → (files new_files : Option Files) (count now status : ℕ) → new_files ≡ files → KeepsFiles asked files count now status new_files
 show_keeps asked image is files new_files count now status same = subst (λ (x : Asked). KeepsFiles x files count now status new_files) is same
+
+pub check_keeps : (asked : Asked) (images : List (List ℕ)) → Check images ≡ asked → (files new_files : Option Files) (count now status : ℕ) → new_files ≡ files → KeepsFiles asked files count now status new_files
+check_keeps asked images is files new_files count now status same = subst (λ (x : Asked). KeepsFiles x files count now status new_files) is same
 
 pub bad_keeps : (asked : Asked) → Bad ≡ asked → (files new_files : Option Files) (count now status : ℕ) → new_files ≡ files → KeepsFiles asked files count now status new_files
 bad_keeps asked is files new_files count now status same = subst (λ (x : Asked). KeepsFiles x files count now status new_files) is same

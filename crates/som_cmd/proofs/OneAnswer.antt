@@ -10,8 +10,9 @@ use Rattle.som_model.specs.Same.{same_interface}
 use Rattle.som_model.proofs.SameLaws.{exact_interfaces}
 use Rattle.som_model.specs.Means.{means}
 use Rattle.som_first.specs.FirstImages.{IsFirstLibrary, IsFirstClient}
-use Rattle.som_cmd.specs.Words.{Asked, Run, Show, Library, Bad}
-use Rattle.som_cmd.specs.Answer.{Ending, IsAnswer, bad_words, no_client, no_library, client_refused, library_refused, faces_differ, runs, no_image_shown, shown_unread, shown_broken, shows, compiles, bad_line, refusing, ran, absent, no_image, not_same}
+use Rattle.som_cmd.specs.Words.{Asked, Run, Show, Check, Library, Bad}
+use Rattle.som_cmd.specs.Answer.{Ending, IsAnswer, bad_words, no_client, no_library, client_refused, library_refused, faces_differ, runs, no_image_shown, shown_unread, shown_broken, shows, checks, compiles, bad_line, refusing, ran, absent, no_image, not_same}
+use Rattle.som_cmd.proofs.CheckLaws.{check_ending, check_answer, one_check}
 use Rattle.som_cmd.proofs.LibraryAnswered.{compiled_ending, compiled_answer, compiled_one}
 use Rattle.som_cmd.proofs.ShowLaws.{file_ending, file_answer, absent_ends, unread_ends, ruled_ends}
 
@@ -44,6 +45,7 @@ module _ (one_library : (bytes : List ℕ) (r s : Release) → IsFirstLibrary by
   abbrev pub answer_to : Asked → Ending
   answer_to (Run c l fuel) = files_ending c l fuel (get files c) (get files l)
   answer_to (Show n) = file_ending files n (get files n)
+  answer_to (Check ns) = check_ending files ns
   answer_to (Library out names) = compiled_ending files out names
   answer_to Bad = record { text = bad_line; status = 2; files = files }
 
@@ -70,6 +72,7 @@ module _ (one_library : (bytes : List ℕ) (r s : Release) → IsFirstLibrary by
   pub some_answer : (asked : Asked) → IsAnswer files asked (answer_to asked)
   some_answer (Run c l fuel) = files_is c l fuel (get files c) (get files l) refl refl
   some_answer (Show n) = file_answer files n (get files n) refl
+  some_answer (Check ns) = checks ns (check_ending files ns) (check_answer files ns)
   some_answer (Library out names) = compiles out names (compiled_ending files out names) (compiled_answer files out names)
   some_answer Bad = bad_words
 
@@ -104,6 +107,7 @@ module _ (one_library : (bytes : List ℕ) (r s : Release) → IsFirstLibrary by
   one_answer (Show n) e (shown_unread _ b fault has is) = unread_ends files n b fault has is
   one_answer (Show n) e (shown_broken _ b r x has is breaks) = ruled_ends files n b r (Some x) has is breaks
   one_answer (Show n) e (shows _ b r has is ok) = ruled_ends files n b r None has is ok.rules
+  one_answer (Check ns) e (checks _ _ is) = one_check files ns e is
   one_answer (Run c l fuel) e (no_client _ _ _ has) = ending_is c l fuel None (get files l) has refl
   one_answer (Run c l fuel) e (no_library _ _ _ cb has_c has_l) = ending_is c l fuel (Some cb) None has_c has_l
   one_answer (Run c l fuel) e (client_refused _ _ _ cb lb has_c has_l never) = none_client c l fuel cb lb never (tell_client cb) ∙ ending_is c l fuel (Some cb) (Some lb) has_c has_l

@@ -10,14 +10,15 @@ use Rattle.som_model.specs.Rules.{Breach}
 use Rattle.som_model.specs.Conforming.{ReleaseOk, release_breach}
 use Rattle.som_wire.specs.declared.fault.ImageFault.{ImageFault}
 use Rattle.som_libimage.specs.Libraries.{library_at}
-use Rattle.som_cmd.specs.Words.{Asked, Run, Show, Library, Bad}
+use Rattle.som_cmd.specs.Words.{Asked, Run, Show, Check, Library, Bad}
+use Rattle.som_cmd.specs.CheckAnswer.{IsCheckAnswer}
 use Rattle.som_cmd.specs.LibraryAnswer.{IsLibraryAnswer}
 use Rattle.som_first.specs.FirstImages.{IsFirstLibrary, IsFirstClient}
 pub use Rattle.som_cmd.specs.Endings.{Ending, named, bad_line, absent, no_image, not_same, fault_number, fault_place, unread, broken, refusing, ran, showing}
 
 -- The ending of what is asked for, by the first step that refuses: words of no form; then for a run the client is got, the library is got,
 -- the client's image is read, the library's image is read, the faces are compared, and the client runs. To show an image it is got and
--- read, and its rules are looked at. How a library is compiled stands in a file of its own.
+-- read, and its rules are looked at. How images are checked and how a library is compiled stand in files of their own.
 pub data IsAnswer (files : Files) : Asked → Ending → Type 0 where
   bad_words : IsAnswer files Bad (record { text = bad_line; status = 2; files = files })
   no_client : (c l : List ℕ) (fuel : ℕ) → get files c ≡ None → IsAnswer files (Run c l fuel) (refusing files (absent c))
@@ -39,4 +40,5 @@ pub data IsAnswer (files : Files) : Asked → Ending → Type 0 where
   shown_broken : (n b : List ℕ) (r : Release) (breach : Breach) → get files n ≡ Some b → library_at b ≡ Ok r → release_breach r ≡ Some breach
       → IsAnswer files (Show n) (refusing files (broken n breach))
   shows : (n b : List ℕ) (r : Release) → get files n ≡ Some b → library_at b ≡ Ok r → ReleaseOk r → IsAnswer files (Show n) (showing files r)
+  checks : (names : List (List ℕ)) (e : Ending) → IsCheckAnswer files names e → IsAnswer files (Check names) e
   compiles : (out : List ℕ) (names : List (List ℕ)) (e : Ending) → IsLibraryAnswer files out names e → IsAnswer files (Library out names) e

@@ -1,12 +1,12 @@
 -- When a command may say that the store failed, and with which line.
-use Rattle.std.specs.Prelude.{◌≡◌, ◌⊎◌, ℕ, List, ◌∷◌, ◌++◌, Option, Some, None, Result, Ok, Err, codes}
+use Rattle.std.specs.Prelude.{◌≡◌, ◌⊎◌, ℕ, List, [], ◌∷◌, ◌++◌, Option, Some, None, Result, Ok, Err, codes}
 use Rattle.std.specs.FinMap.{get}
 use Rattle.som_io.specs.Outside.{Rose}
 use Rattle.som_model.specs.Bytes.{Files}
 use Rattle.som_cmd.specs.declared.stop.Stop.{Stop}
 use Rattle.som_cmd.specs.declared.stop.Stop.TheVariants as stops
 use Rattle.som_compile.specs.declared.source.Source.{Source}
-use Rattle.som_cmd.specs.Words.{Asked, Run, Show, Library, Bad}
+use Rattle.som_cmd.specs.Words.{Asked, Run, Show, Check, Library, Bad}
 use Rattle.som_cmd.specs.LibraryAnswer.{texts_in, AreCompiled}
 use Rattle.som_cmd.specs.Answer.{named}
 
@@ -17,6 +17,11 @@ store_failed name = named (codes "store failed ") name
 abbrev pub Has : Option Files → List ℕ → Type 0
 Has None name = Unit {0}
 Has (Some files) name = (bytes : List ℕ) × (get files name ≡ Some bytes)
+
+-- the line says that the get of one of these names failed, which are got in order, and those before it are there
+abbrev pub FailsGetting : Option Files → List (List ℕ) → List ℕ → Type 0
+FailsGetting files [] line = ⊥
+FailsGetting files (n ∷ ns) line = (line ≡ store_failed n) ⊎ (Has files n × FailsGetting files ns line)
 
 -- the files, where they are told, have texts under these names, which aren't too long
 abbrev pub AreGot : Option Files → List (List ℕ) → Type 0
@@ -41,6 +46,7 @@ pub record FailsGettingTexts (files : Option Files) (names : List (List ℕ)) (l
 abbrev pub FailsOn : Option Files → Asked → List ℕ → Type 0
 FailsOn files (Run client library fuel) line = (line ≡ store_failed client) ⊎ ((line ≡ store_failed library) × Has files client)
 FailsOn files (Show image) line = line ≡ store_failed image
+FailsOn files (Check names) line = FailsGetting files names line
 FailsOn files (Library out names) line = FailsGettingTexts files names line ⊎ ((line ≡ store_failed out) × HaveImage files names)
 FailsOn files Bad line = ⊥
 

@@ -1,5 +1,5 @@
 -- How a call may end.
-use Rattle.std.specs.Prelude.{◌≡◌, ◌⊎◌, ℕ, List, Option, Some, None}
+use Rattle.std.specs.Prelude.{◌≡◌, ◌≤◌, ◌⊎◌, ℕ, List, [], ◌∷◌, length, Option, Some, None}
 use Rattle.std.specs.FinMap.{get}
 use Rattle.std.specs.List.{concat}
 use Rattle.som_model.specs.declared.program.Release.{Release}
@@ -7,14 +7,17 @@ use Rattle.som_model.specs.declared.program.ClientProgram.{ClientProgram}
 use Rattle.som_model.specs.Bytes.{AreBytes, Files}
 use Rattle.som_model.specs.Class.{interface_of}
 use Rattle.som_model.specs.Means.{means}
+use Rattle.som_model.specs.Compatible.{Accepted, Incompatible}
 use Rattle.som_model.specs.Conforming.{ReleaseOk}
 use Rattle.som_model.specs.Images.{library_image}
 use Rattle.som_libimage.specs.Libraries.{PrintTexts}
+use Rattle.som_order.specs.Names.{name_at}
 use Rattle.som_show.specs.Shown.{shown_lines}
 use Rattle.som_io.specs.Outside.{Rose, ShowsAll, ShowsFront}
 use Rattle.som_first.specs.FirstImages.{IsFirstLibrary, IsFirstClient}
 use Rattle.som_cmd.specs.RunText.{run_text, run_status, no_trace}
-use Rattle.som_cmd.specs.Words.{Asked, Run, Show}
+use Rattle.som_cmd.specs.Words.{Asked, Run, Show, Check}
+use Rattle.som_cmd.specs.CheckAnswer.{accepted_line, not_kept, first_not_kept}
 use Rattle.som_cmd.specs.Answer.{Ending, IsAnswer}
 use Rattle.som_cmd.specs.Cause.{FailsOn}
 
@@ -82,3 +85,38 @@ pub record IsImageOf (asked : Asked) (files : Option Files) (r : Release) : Type
 pub record ShowsRelease (r : Release) (status : ℕ) (old new : Option (List ℕ)) : Type 0 where
   pub text : ShowsAll old new (concat (shown_lines r))
   pub status_is : status ≡ 0
+
+-- the store holds the image of the release under the name, and the release prints texts and conforms
+pub record IsUnder (files : Files) (name : List ℕ) (r : Release) : Type 0 where
+  pub bytes : List ℕ
+  pub image_is : get files name ≡ Some bytes
+  pub bytes_are : AreBytes bytes
+  pub spelled : library_image r ≡ Some bytes
+  pub prints : PrintTexts r
+  pub conforms : ReleaseOk r
+
+-- the same of each release and its name
+abbrev pub AreUnder : Files → List (List ℕ) → List Release → Type 0
+AreUnder files [] [] = Unit {0}
+AreUnder files [] (r ∷ rs) = ⊥
+AreUnder files (n ∷ ns) [] = ⊥
+AreUnder files (n ∷ ns) (r ∷ rs) = IsUnder files n r × AreUnder files ns rs
+
+-- images are to be checked, and the store holds those of these releases, of two or more
+pub record AreChecked (asked : Asked) (files : Option Files) (names : List (List ℕ)) (rs : List Release) : Type 0 where
+  pub told : Files
+  pub files_are : files ≡ Some told
+  pub asked_is : asked ≡ Check names
+  pub two : 2 ≤ length rs
+  pub under : AreUnder told names rs
+
+-- the releases are accepted exactly where the status is 0, and then what was written says so
+pub record TellsAccepted (rs : List Release) (status : ℕ) (old new : Option (List ℕ)) : Type 0 where
+  pub status_is : Accepted rs → status ≡ 0
+  pub text : Accepted rs → ShowsAll old new accepted_line
+  pub only : status ≡ 0 → Accepted rs
+
+-- what was written tells what a release doesn't keep, under the name of the newer one, and the status is 4
+pub record TellsBreach (names : List (List ℕ)) (number : ℕ) (b : Incompatible) (status : ℕ) (old new : Option (List ℕ)) : Type 0 where
+  pub text : ShowsAll old new (not_kept (name_at names number) b).line
+  pub status_is : status ≡ 4

@@ -4,10 +4,12 @@ pub mod Status
 pub mod Taking
 pub mod Endings
 pub mod ShowSteps
+pub mod CheckAnswer
 pub mod LibraryAnswer
 pub mod Answer
 pub mod Steps
 pub mod RunSteps
+pub mod CheckSteps
 pub mod LibrarySteps
 pub mod Saying
 pub mod Cause

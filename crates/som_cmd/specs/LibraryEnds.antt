@@ -7,7 +7,7 @@ use Rattle.som_model.specs.Bytes.{Files}
 use Rattle.som_model.specs.Images.{library_image}
 use Rattle.som_compile.specs.declared.source.Source.{Source}
 use Rattle.som_compile.specs.Compiling.{StandFor}
-use Rattle.som_cmd.specs.Words.{Asked, Run, Show, Library, Bad}
+use Rattle.som_cmd.specs.Words.{Asked, Run, Show, Check, Library, Bad}
 use Rattle.som_cmd.specs.LibraryAnswer.{texts_in, AreCompiled}
 use Rattle.som_cmd.specs.LibrarySteps.{PutFails}
 
@@ -23,6 +23,7 @@ pub data LeavesFiles (files : Files) (out : List ℕ) (names : List (List ℕ)) 
 abbrev pub KeepsFiles : Asked → Option Files → ℕ → ℕ → ℕ → Option Files → Type 0
 KeepsFiles (Run client library fuel) files before now status new = new ≡ files
 KeepsFiles (Show image) files before now status new = new ≡ files
+KeepsFiles (Check images) files before now status new = new ≡ files
 KeepsFiles Bad files before now status new = new ≡ files
 KeepsFiles (Library out names) None before now status new = Unit {0}
 KeepsFiles (Library out names) (Some files) before now status new = LeavesFiles files out names before now status new

@@ -7,10 +7,12 @@ use Rattle.som_model.specs.Lists.{every}
 use Rattle.som_cmd.specs.declared.words.Command.{Command}
 use Rattle.som_cmd.specs.declared.words.Command.TheVariants as commands
 
--- what words ask for: to run a client image on a library image with so much fuel; to show an image; to compile texts to a library image; or they have no form
+-- what words ask for: to run a client image on a library image with so much fuel; to show an image; to check images; to compile texts to a library image;
+-- or they have no form
 pub data Asked : Type 0 where
   Run : (client library : List ℕ) (fuel : ℕ) → Asked
   Show : (image : List ℕ) → Asked
+  Check : (images : List (List ℕ)) → Asked
   Library : (out : List ℕ) (files : List (List ℕ)) → Asked
   Bad : Asked
 
@@ -18,6 +20,7 @@ pub data Asked : Type 0 where
 abbrev pub asked_by : Command → Asked
 asked_by (commands.Run client library fuel) = Run client.now library.now fuel
 asked_by (commands.Show image) = Show image.now
+asked_by (commands.Check images) = Check images.now
 asked_by (commands.Library out files) = Library out.now files.now
 asked_by commands.Bad = Bad
 
@@ -60,13 +63,18 @@ is_name word = not (length word == 0)
 abbrev pub is_idl : List ℕ → Bool
 is_idl word = ends_with nat_eq word (codes ".idl")
 
--- what a word asks for with a name and others: `library`, where none is empty and the others are files of interfaces
-abbrev pub library_asked : List ℕ → List ℕ → List (List ℕ) → Asked
-library_asked word out files = if bytes_eq word (codes "library") && is_name out && every is_idl files then Library out files else Bad
+-- what a word asks for with two or more names: `check`, where none is empty
+abbrev pub asked_of : List ℕ → List (List ℕ) → Asked
+asked_of word names = if bytes_eq word (codes "check") && every is_name names then Check names else Bad
 
--- `show IMAGE`, `run CLIENT LIBRARY`, `run CLIENT LIBRARY --fuel N` or `library OUT FILE ..`, where no name is empty
+-- what `library` asks for with a name that isn't empty and files of interfaces
+abbrev pub library_asked : List ℕ → List (List ℕ) → Asked
+library_asked out files = if is_name out && every is_idl files then Library out files else Bad
+
+-- `show IMAGE`, `run CLIENT LIBRARY`, `run CLIENT LIBRARY --fuel N`, `check IMAGE IMAGE ..` or `library OUT FILE ..`, where no name is empty
 abbrev pub asked : List (List ℕ) → Asked
 asked (word ∷ image ∷ []) = if bytes_eq word (codes "show") && not (length image == 0) then Show image else Bad
 asked (word ∷ client ∷ library ∷ rest) =
-    if bytes_eq word (codes "run") && not (length client == 0) && not (length library == 0) then run_with client library (fuel_in rest) else library_asked word client (library ∷ rest)
+    if bytes_eq word (codes "run") && not (length client == 0) && not (length library == 0) then run_with client library (fuel_in rest) else (
+    if bytes_eq word (codes "library") then library_asked client (library ∷ rest) else asked_of word (client ∷ library ∷ rest))
 asked words = Bad

@@ -3,6 +3,8 @@ ghost use Rattle.som_cmd.specs.Cause.{IsQuiet};
 ghost use Rattle.som_cmd.specs.ShowSteps.{release_in, rules_kept};
 ghost use Rattle.som_cmd.specs.Steps.{Follows};
 ghost use Rattle.som_libimage.specs.Libraries.{PrintTexts};
+ghost use Rattle.som_libimage.specs.Limits.{IsWithinLimits};
+ghost use Rattle.som_model.specs.Conforming.{ReleaseOk};
 ghost use Rattle.som_verify.specs.Told.{told};
 ghost use Rattle.std.specs.Prelude.{◌≡◌, IfOk};
 
@@ -86,6 +88,7 @@ fn refuse_release(alloc: Global, name: &Text, rule: &Broken) -> Result<Refusal, 
 pub fn read_release(alloc: Global, name: &Text, bytes: &List<u8>) -> Result<Release, Stop>
     ensures follows { Follows result (release_in name.now bytes.now) }
     ensures prints { IfOk result PrintTexts }
+    ensures within { IfOk result IsWithinLimits }
     ensures quiet { IsQuiet result }
 {
     match decode(alloc, bytes) {
@@ -99,6 +102,7 @@ pub fn read_release(alloc: Global, name: &Text, bytes: &List<u8>) -> Result<Rele
 pub fn look_at_rules(alloc: Global, name: &Text, release: &Release) -> Result<(), Stop>
     requires { PrintTexts release.now }
     ensures follows { Follows result (rules_kept name.now release.now) }
+    ensures conforms { IfOk result (λ _. ReleaseOk release.now) }
     ensures quiet { IsQuiet result }
 {
     match release_ok(alloc, release) {

@@ -1,6 +1,7 @@
 //! The top call: what the program does with words, a store of files and a sink.
 #![tactic(auto)]
 
+mod check;
 mod client;
 mod compile;
 mod fetch;
@@ -22,6 +23,8 @@ pub use top::run_som;
 
 #[cfg(test)]
 mod tests;
+#[cfg(test)]
+mod tests_of_checks;
 #[cfg(test)]
 mod tests_of_images;
 #[cfg(test)]

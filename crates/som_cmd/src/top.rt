@@ -1,4 +1,5 @@
 ghost use Rattle.som_cmd.specs.Ends.{
+  AreChecked,
   AreImagesOf,
   EndsAsTold,
   IsImageOf,
@@ -6,15 +7,20 @@ ghost use Rattle.som_cmd.specs.Ends.{
   ShowsRelease,
   ShowsSome,
   StoreFails,
+  TellsAccepted,
+  TellsBreach,
 };
+ghost use Rattle.som_cmd.specs.CheckAnswer.{first_not_kept};
 ghost use Rattle.som_cmd.specs.LibraryEnds.{AreTextsOf, KeepsFiles, PutsRelease};
 ghost use Rattle.som_cmd.specs.Status.{is_calm_status};
 ghost use Rattle.som_cmd.specs.Words.{Bad, asked};
 ghost use Rattle.som_io.specs.Outside.{Rose};
+ghost use Rattle.som_model.specs.Compatible.{Incompatible};
 ghost use Rattle.som_model.specs.declared.program.ClientProgram.{ClientProgram};
 ghost use Rattle.som_model.specs.declared.program.Release.{Release};
-ghost use Rattle.std.specs.Prelude.{◌≡◌, ◌≢◌, ◌⊎◌, ℕ, IsTrue, List as Seq};
+ghost use Rattle.std.specs.Prelude.{◌≡◌, ◌≢◌, ◌⊎◌, ℕ, IsTrue, List as Seq, Some};
 
+use crate::check::check;
 use crate::compile::compile;
 use crate::line::line_of;
 use crate::run::run;
@@ -45,6 +51,19 @@ pub fn run_som<S: Store, K: Sink>(
     ensures shown { (r : Release) → IsImageOf (asked words.now) (S.files store.old) r
         → result ≢ 6 → result ≢ 8 → result ≢ 10 → ShowsRelease r result (K.written out.old) (K.written out.new) }
 
+    // Images of releases that conform are accepted exactly where each release is accepted against the one before it.
+    ensures accepted { (names : Seq (Seq ℕ)) (rs : Seq Release) → AreChecked (asked words.now) (S.files store.old) names rs
+        → result ≢ 6 → result ≢ 8 → result ≢ 10 → TellsAccepted rs result (K.written out.old) (K.written out.new) }
+
+    // Of any others the first thing is told that a release doesn't keep of the one before it.
+    ensures breach { (names : Seq (Seq ℕ)) (rs : Seq Release) (number : ℕ) (b : Incompatible) → AreChecked (asked words.now) (S.files store.old) names rs
+        → first_not_kept rs ≡ Some (number, b)
+        → result ≢ 6 → result ≢ 8 → result ≢ 10 → TellsBreach names number b result (K.written out.old) (K.written out.new) }
+
+    // Texts that stand for a release are compiled to its image, which then stands under the name; no other file is changed.
+    ensures compiled { (name : Seq ℕ) (r : Release) → AreTextsOf (asked words.now) (S.files store.old) name r
+        → result ≢ 6 → result ≢ 8 → result ≢ 10 → PutsRelease (S.files store.old) name r result (S.files store.new) (K.written out.old) (K.written out.new) }
+
     // The store failed in this call, and the line that says so is all that was written.
     ensures store_failed { result ≡ 6 → StoreFails (asked words.now) (S.files store.old) (S.faults store.old) (S.faults store.new) (K.written out.old) (K.written out.new) }
 
@@ -61,10 +80,6 @@ pub fn run_som<S: Store, K: Sink>(
     // Over a store and a sink of which nothing is set to fail, neither is said to fail.
     ensures calm { S.calm store.old → K.calm out.old → IsTrue (is_calm_status result) }
 
-    // Texts that stand for a release are compiled to its image, which then stands under the name; no other file is changed.
-    ensures compiled { (name : Seq ℕ) (r : Release) → AreTextsOf (asked words.now) (S.files store.old) name r
-        → result ≢ 6 → result ≢ 8 → result ≢ 10 → PutsRelease (S.files store.old) name r result (S.files store.new) (K.written out.old) (K.written out.new) }
-
     // No file is changed, but by `library`, which puts its image at status 0, or whose put failed in this call.
     ensures files { KeepsFiles (asked words.now) (S.files store.old) (S.faults store.old) (S.faults store.new) result (S.files store.new) }
 {
@@ -75,6 +90,7 @@ pub fn run_som<S: Store, K: Sink>(
             fuel,
         } => tell(out, &run(alloc, client, library, fuel, store)),
         Command::Show { image } => tell(out, &show(alloc, image, store)),
+        Command::Check { images } => tell(out, &check(alloc, images, store)),
         Command::Library { out: name, files } => tell(out, &compile(alloc, name, files, store)),
         Command::Bad => match line_of(alloc, b"som: bad command line") {
             Ok(line) => say(out, &line, 2),

@@ -1,6 +1,6 @@
-ghost use Rattle.som_cmd.specs.Words.{asked, asked_by, fuel_in, fuel_of, is_digit, is_idl, leads_with_zero, library_asked};
-ghost use Rattle.som_model.specs.Lists.{every};
+ghost use Rattle.som_cmd.specs.Words.{asked, asked_by, asked_of, fuel_in, fuel_of, is_digit, is_idl, is_name, leads_with_zero, library_asked};
 ghost use Rattle.std.specs.Str.{bytes_eq};
+ghost use Rattle.som_model.specs.Lists.{every};
 ghost use Rattle.std.specs.Prelude.{◌≡◌, codes};
 
 use som_model::{DEFAULT_FUEL, List, MAX_FUEL, Text};
@@ -15,6 +15,9 @@ pub enum Command<'a> {
     },
     Show {
         image: &'a Text,
+    },
+    Check {
+        images: &'a [Text],
     },
     Library {
         out: &'a Text,
@@ -34,6 +37,12 @@ fn is_show(word: &Text) -> bool
     ensures { result ≡ bytes_eq word.now (codes "show") }
 {
     word.is(b"show")
+}
+
+fn is_check(word: &Text) -> bool
+    ensures { result ≡ bytes_eq word.now (codes "check") }
+{
+    word.is(b"check")
 }
 
 fn is_library(word: &Text) -> bool
@@ -60,11 +69,34 @@ fn are_idl(words: &[Text]) -> bool
     true
 }
 
-// What a word asks for with a name and others.
-fn library_with<'a>(word: &Text, out: &'a Text, files: &'a [Text]) -> Command<'a>
-    ensures { asked_by result ≡ library_asked word.now out.now files.now }
+// Whether none of the words is empty.
+fn are_names(words: &[Text]) -> bool
+    ensures { result ≡ every is_name words.now }
 {
-    if is_library(word) && !out.is_empty() && are_idl(files) {
+    for word in words {
+        if word.is_empty() {
+            return false;
+        }
+    }
+    true
+}
+
+// What a word asks for with two or more names.
+fn command_with<'a>(word: &Text, names: &'a [Text]) -> Command<'a>
+    ensures { asked_by result ≡ asked_of word.now names.now }
+{
+    if is_check(word) && are_names(names) {
+        Command::Check { images: names }
+    } else {
+        Command::Bad
+    }
+}
+
+// What `library` asks for with a name and files.
+fn library_with<'a>(out: &'a Text, files: &'a [Text]) -> Command<'a>
+    ensures { asked_by result ≡ library_asked out.now files.now }
+{
+    if !out.is_empty() && are_idl(files) {
         Command::Library { out, files }
     } else {
         Command::Bad
@@ -149,8 +181,10 @@ pub fn command_of(words: &List<Text>) -> Command<'_>
                     },
                     None => Command::Bad,
                 }
+            } else if is_library(word) {
+                library_with(client, &words.as_slice()[2..])
             } else {
-                library_with(word, client, &words.as_slice()[2..])
+                command_with(word, &words.as_slice()[1..])
             }
         }
         _ => Command::Bad,

@@ -24,6 +24,7 @@ use Rattle.som_sema.specs.declared.types.Refused.{Refused}
 use Rattle.som_sema.specs.declared.types.Refused.TheVariants as refusals
 use Rattle.som_sema.specs.Releases.{Passed, ReleaseTold, library_breach, library_declarations, limit_passed, release_of_texts}
 use Rattle.som_sema.specs.Words.{interfaces_of}
+use Rattle.som_sema.proofs.Conformed.{conforms}
 use Rattle.som_compile.specs.declared.fault.TextFault.{TextFault}
 use Rattle.som_compile.specs.declared.fault.TextFault.TheVariants as texts
 use Rattle.som_compile.specs.declared.fault.CompileFault.{CompileFault}
@@ -144,12 +145,9 @@ stands_within ss fs r x t =
 pub stands_prints : (fs : List IdlFile) (r : Release) → ReleaseTold (interfaces_of fs) (Ok r) → PrintTexts r
 stands_prints fs r t = let is = interfaces_of fs in subst PrintTexts (sym t.3) (prints_texts is (bodies_stand is t.1))
 
-release_conforms : (is : List IdlInterface) (r : Release) → ReleaseTold is (Ok r) → ReleaseOk r
-release_conforms is r t = ?
-
 pub stands_image : (ss : List Source) (r : Release) → StandFor ss r → (image : List ℕ) × (library_image r ≡ Some image)
 stands_image ss r s =
-    let i = image_there r (release_conforms (interfaces_of s.trees) r s.built) (stands_prints s.trees r s.built) (stands_within ss s.trees r s.read s.built) in
+    let i = image_there r (conforms (interfaces_of s.trees) (Ok r) s.built) (stands_prints s.trees r s.built) (stands_within ss s.trees r s.read s.built) in
     (i.0, i.1)
 
 -- ---- one answer

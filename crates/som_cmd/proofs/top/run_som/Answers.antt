@@ -1,8 +1,8 @@
 use Rattle.std.proofs.Common.{ℕ, List, refl, subst}
 use Rattle.som_io.specs.Outside.{ShowsAll, ShowsFront}
-use Rattle.som_cmd.specs.Words.{asked, Run, Show, Library}
-use Rattle.som_cmd.proofs.EndLaws.{ends, fronts, nothing_written, bad_ends, bad_fronts, means_by, shows_by}
-use Rattle.som_cmd.proofs.LibraryEndLaws.{library_ends, library_fronts, library_keeps, run_keeps, show_keeps, bad_keeps, puts_by}
+use Rattle.som_cmd.specs.Words.{asked, Run, Show, Check, Library}
+use Rattle.som_cmd.proofs.EndLaws.{ends, fails, fronts, nothing_written, bad_ends, bad_fronts, means_by, shows_by, accepted_by, breach_by}
+use Rattle.som_cmd.proofs.LibraryEndLaws.{library_ends, library_fronts, library_keeps, run_keeps, show_keeps, check_keeps, bad_keeps, puts_by}
 use Rattle.som_cmd.proofs.top.run_som.Goals as goal
 
 -- ---- a run
@@ -54,6 +54,41 @@ pub returns-in-Show-clause-files : goal.returns-in-Show-clause-files
 returns-in-Show-clause-files g c =
     show_keeps (asked c.args.words.now) c.in-Show.image.now c.in-Show.ensures (g.S.Store.files c.args.store.now) (g.S.Store.files c.show.new.store)
     (g.S.Store.faults c.args.store.now) (g.S.Store.faults c.show.new.store) c.tell-in-Show.result c.show.ensures.files
+
+-- ---- images that are checked
+
+answered_check : goal.returns-in-Check-clause-answered
+answered_check g c = λ not6 not8 not10.
+    ends (asked c.args.words.now) (Check c.in-Check.images.now) c.in-Check.ensures (g.S.Store.files c.args.store.now) c.check.result c.check.ensures.answer
+    c.tell-in-Check.result (g.S.Store.files c.check.new.store) c.check.ensures.files (g.K.Sink.written c.args.out.now) (g.K.Sink.written c.tell-in-Check.new.out) (c.tell-in-Check.ensures.all not6 not8 not10)
+
+pub returns-in-Check-clause-answered : goal.returns-in-Check-clause-answered
+returns-in-Check-clause-answered = answered_check
+
+pub returns-in-Check-clause-accepted : goal.returns-in-Check-clause-accepted
+returns-in-Check-clause-accepted g c = λ names rs checked not6 not8 not10.
+    accepted_by (asked c.args.words.now) (g.S.Store.files c.args.store.now) c.tell-in-Check.result (g.S.Store.files c.check.new.store) (g.K.Sink.written c.args.out.now) (g.K.Sink.written c.tell-in-Check.new.out) names rs
+    (answered_check g c not6 not8 not10) checked
+
+pub returns-in-Check-clause-breach : goal.returns-in-Check-clause-breach
+returns-in-Check-clause-breach g c = λ names rs number b checked told not6 not8 not10.
+    breach_by (asked c.args.words.now) (g.S.Store.files c.args.store.now) c.tell-in-Check.result (g.S.Store.files c.check.new.store) (g.K.Sink.written c.args.out.now) (g.K.Sink.written c.tell-in-Check.new.out) names rs number b
+    (answered_check g c not6 not8 not10) checked told
+
+pub returns-in-Check-clause-store_failed : goal.returns-in-Check-clause-store_failed
+returns-in-Check-clause-store_failed g c = λ six.
+    fails (asked c.args.words.now) (Check c.in-Check.images.now) c.in-Check.ensures (g.S.Store.files c.args.store.now) c.check.result (g.S.Store.faults c.args.store.now) (g.S.Store.faults c.check.new.store) c.check.ensures.cause
+    (g.K.Sink.written c.args.out.now) (g.K.Sink.written c.tell-in-Check.new.out) (c.tell-in-Check.ensures.store_failed six)
+
+pub returns-in-Check-clause-front : goal.returns-in-Check-clause-front
+returns-in-Check-clause-front g c = λ _.
+    fronts (asked c.args.words.now) (Check c.in-Check.images.now) c.in-Check.ensures (g.S.Store.files c.args.store.now) c.check.result c.check.ensures.answer
+    (g.S.Store.faults c.args.store.now) (g.S.Store.faults c.check.new.store) c.check.ensures.cause (g.K.Sink.written c.args.out.now) (g.K.Sink.written c.tell-in-Check.new.out) c.tell-in-Check.ensures.front
+
+pub returns-in-Check-clause-files : goal.returns-in-Check-clause-files
+returns-in-Check-clause-files g c =
+    check_keeps (asked c.args.words.now) c.in-Check.images.now c.in-Check.ensures (g.S.Store.files c.args.store.now) (g.S.Store.files c.check.new.store)
+    (g.S.Store.faults c.args.store.now) (g.S.Store.faults c.check.new.store) c.tell-in-Check.result c.check.ensures.files
 
 -- ---- texts that are compiled
 
