@@ -1,9 +1,7 @@
 -- Rules that look at no body hold of classes that differ in bodies alone.
 use Rattle.std.proofs.Common.{◌≡◌, ℕ, zero, suc, inl, inr, Bool, true, false, if◌then◌else◌, List, [], ◌∷◌, ◌++◌, length, map, take, slice_get, Option, Some, None, option_map, unwrap_or, is_some, refl, sym, ap, ◌∙◌, subst}
 use Rattle.std.specs.Str.{bytes_eq}
-use Rattle.som_model.specs.declared.key.ClassKey.{ClassKey, fold-ClassKey, out-ClassKey}
-use Rattle.som_model.specs.declared.key.ClassKey.TheVariants as keys
-use Rattle.som_model.specs.declared.key.ClassKey.TheOpen.{ClassKey-F}
+use Rattle.som_model.specs.declared.key.ClassKey.{ClassKey}
 use Rattle.som_model.specs.declared.key.MethodRef.{MethodRef}
 use Rattle.som_model.specs.declared.key.ValueType.{ValueType}
 use Rattle.som_model.specs.declared.key.ValueType.TheVariants as types
@@ -13,24 +11,23 @@ use Rattle.som_model.specs.declared.class.Override.{Override}
 use Rattle.som_model.specs.declared.class.Variable.{Variable}
 use Rattle.som_model.specs.declared.class.ClassDecl.{ClassDecl}
 use Rattle.som_model.specs.declared.class.ClassFace.{ClassFace}
-use Rattle.som_model.specs.Lists.{Mem, find, place_from}
+use Rattle.som_model.specs.Lists.{Mem, find}
 use Rattle.som_model.specs.Keys.{same_key}
 use Rattle.som_model.specs.Hierarchy.{Hierarchy}
 use Rattle.som_model.specs.Ancestors.{Descends}
 use Rattle.som_model.specs.Class.{Class, entry_name}
-use Rattle.som_model.specs.Classes.{class_at, hierarchy, height_step, parents_by, parents_in, parents_of, place_of}
+use Rattle.som_model.specs.Classes.{class_at, hierarchy}
 use Rattle.som_model.specs.Kernel.{kernel, som_class}
 use Rattle.som_model.specs.Owner.{entry_at, owner, owner_within}
 use Rattle.som_model.specs.Rules.{name_of}
 use Rattle.som_verify.specs.Places.{with_kernel}
 use Rattle.som_verify.specs.Plainly.{ClassesHold, Differ, Introduces, IsAbove, IsAmong, IsNamed, IsValue, TypesKnown}
 use Rattle.som_verify.proofs.PlainLists.{map_mem, mem_map}
+use Rattle.som_sema.proofs.Outlines.{hierarchy_outline, outline}
 
 -- a class without its bodies
 abbrev pub plain : Class → Class
 plain c = record { key = c.key; decl = record c.decl { bodies = [] } }
-
--- hierarchies
 
 find_if : (b : Bool) (c : Class) (o p : Option Class) → p ≡ option_map plain o → (if b then Some (plain c) else p) ≡ option_map plain (if b then Some c else o)
 find_if true c o p e = refl
@@ -40,34 +37,14 @@ plain_at : (cs : List Class) (k : ClassKey) → class_at (map plain cs) k ≡ op
 plain_at [] k = refl
 plain_at (c ∷ cs) k = find_if (same_key c.key k) c (class_at cs k) (class_at (map plain cs) k) (plain_at cs k)
 
-plain_parents : (o : Option Class) → parents_in (option_map plain o) ≡ parents_in o
-plain_parents None = refl
-plain_parents (Some c) = refl
+-- hierarchies
 
-parents_point : (cs : List Class) (o : ClassKey-F ClassKey) (k : ClassKey) → parents_by (map plain cs) o k ≡ parents_by cs o k
-parents_point cs (ClassKey-F.Named m name) k = ap parents_in (plain_at cs k) ∙ plain_parents (class_at cs k)
-parents_point cs (ClassKey-F.Derived ks) k = refl
-parents_point cs (ClassKey-F.Proxy of) k = refl
-
-place_if : (b : Bool) (n : ℕ) (o p : Option ℕ) → o ≡ p → (if b then Some n else o) ≡ (if b then Some n else p)
-place_if true n o p e = refl
-place_if false n o p e = e
-
-plain_place : (n : ℕ) (cs : List Class) (k : ClassKey) → place_from n (λ (c : Class). same_key c.key k) (map plain cs) ≡ place_from n (λ (c : Class). same_key c.key k) cs
-plain_place n [] k = refl
-plain_place n (c ∷ cs) k = place_if (same_key c.key k) n _ _ (plain_place (suc n) cs k)
-
-height_point : (cs : List Class) (o : ClassKey-F ℕ) → height_step (map plain cs) o ≡ height_step cs o
-height_point cs (ClassKey-F.Named m name) = ap (λ (z : Option ℕ). unwrap_or z 0) (plain_place 1 cs (keys.Named m name))
-height_point cs (ClassKey-F.Derived hs) = refl
-height_point cs (ClassKey-F.Proxy h) = refl
+plain_outline : (cs : List Class) → map outline (map plain cs) ≡ map outline cs
+plain_outline [] = refl
+plain_outline (c ∷ cs) = ap (λ z. outline c ∷ z) (plain_outline cs)
 
 plain_hierarchy : (cs : List Class) → hierarchy (map plain cs) ≡ hierarchy cs
-unfolding hierarchy
-plain_hierarchy cs =
-    let parents : parents_of (map plain cs) ≡ parents_of cs = λ i k. parents_point cs (out-ClassKey k) k i in
-    let heights : height_step (map plain cs) ≡ height_step cs = λ i o. height_point cs o i in
-    λ i. record { parents = parents i; height = fold-ClassKey ℕ (heights i); same = same_key }
+plain_hierarchy cs = sym (hierarchy_outline (map plain cs)) ∙ ap hierarchy (plain_outline cs) ∙ hierarchy_outline cs
 
 -- owners
 

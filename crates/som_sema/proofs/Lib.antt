@@ -11,7 +11,6 @@ pub mod Telling
 pub mod Answered
 pub mod TextLaws
 pub mod Accessing
-pub mod Limiting
 pub mod Releasing
 pub mod Fitting
 pub mod ReleaseLaws

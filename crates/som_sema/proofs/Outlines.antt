@@ -48,7 +48,7 @@ height_same cs (ClassKey-F.Named m name) = ap (λ (o : Option ℕ). unwrap_or o 
 height_same cs (ClassKey-F.Derived hs) = refl
 height_same cs (ClassKey-F.Proxy height) = refl
 
-hierarchy_outline : (cs : List Class) → hierarchy (map outline cs) ≡ hierarchy cs
+pub hierarchy_outline : (cs : List Class) → hierarchy (map outline cs) ≡ hierarchy cs
 unfolding hierarchy
 hierarchy_outline cs =
     ap (λ (f : ClassKey → List ClassKey). record { parents = f; height = fold-ClassKey ℕ (height_step (map outline cs)); same = same_key }) (fun_ext (λ k. parents_by_same cs (out-ClassKey k) k))

@@ -1,5 +1,5 @@
 -- The bodies of a release that texts stand for.
-use Rattle.std.proofs.Common.{◌≡◌, ℕ, inl, inr, Bool, true, List, [], ◌∷◌, ◌++◌, length, map, flat_map, Option, Some, None, is_some, refl, sym, ap, ◌∙◌, subst}
+use Rattle.std.proofs.Common.{◌≡◌, ℕ, inl, inr, Bool, true, false, List, [], ◌∷◌, ◌++◌, length, map, flat_map, Option, Some, None, is_some, refl, sym, ap, ◌∙◌, subst}
 use Rattle.som_model.specs.declared.key.ClassKey.{ClassKey}
 use Rattle.som_model.specs.declared.key.Module.{Module}
 use Rattle.som_model.specs.declared.key.Module.TheVariants as modules
@@ -181,10 +181,10 @@ module _ (is : List IdlInterface) (names : first (flat_map text_s6 (library_sket
   no_block i m b n =
       elim (mem_split b (flat_map block_in (with_bodies (own i)).bodies) (flat_map (λ (o : Override). o.block ∷ []) (own i).class.overrides) n) [
         | inl p ↦ (
-          let r = flat_mem block_in b (with_bodies (own i)).bodies p in
-          let s = flat_mem (λ name. option_list (body_of (own i) name)) r.0 (introduced (own i).class.face.entries) r.1 in
-          let a = accessed (own i) s.0 r.0 (option_there (body_of (own i) s.0) r.0 s.2) in
-          accessor_block (own i).class.variables a.accessor a.accessor.sets b refl (subst (λ (z : Body). Mem b (block_in z)) (sym a.is) r.2))
+            let r = flat_mem block_in b (with_bodies (own i)).bodies p in
+            let s = flat_mem (λ name. option_list (body_of (own i) name)) r.0 (introduced (own i).class.face.entries) r.1 in
+            let a = accessed (own i) s.0 r.0 (option_there (body_of (own i) s.0) r.0 s.2) in
+            accessor_block (own i).class.variables a.accessor a.accessor.sets b refl (subst (λ (z : Body). Mem b (block_in z)) (sym a.is) r.2))
         | inr p ↦ subst (λ (z : List Override). Mem b (flat_map (λ (o : Override). o.block ∷ []) z)) (((bodies_law (library_drawn is)).0 stand).overridden (own i) (own_there i m)) p
       ]
 

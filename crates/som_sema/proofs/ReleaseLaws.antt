@@ -1,5 +1,5 @@
 -- The rule S14 of texts and the limits, from lists to plain words and back.
-use Rattle.std.proofs.Common.{◌≡◌, ◌↔◌, ℕ, zero, suc, ◌<◌, ◌≤◌, slice_index_or, inl, inr, Bool, true, false, if◌then◌else◌, nat_le, List, [], ◌∷◌, ◌++◌, length, map, flat_map, None, is_some, refl, sym, ap, ◌∙◌, subst, arith, le-leb}
+use Rattle.std.proofs.Common.{◌≡◌, ◌↔◌, ℕ, zero, suc, ◌<◌, ◌≤◌, slice_index_or, inl, inr, Bool, true, false, if◌then◌else◌, nat_le, List, [], ◌∷◌, ◌++◌, length, map, flat_map, None, is_some, refl, sym, ap, ◌∙◌, subst, arith, le-leb, leb-true}
 use Rattle.std.specs.Prelude.{codes}
 use Rattle.som_model.specs.Lists.{Mem, first}
 use Rattle.som_model.specs.Class.{introduced}
@@ -20,12 +20,11 @@ use Rattle.som_verify.proofs.PlainLists.{map_mem, map_none, mem_map, none_flat, 
 use Rattle.som_verify.proofs.PlainMoves.{mem_flat}
 use Rattle.som_sema.specs.declared.sketch.Drawing.{Drawing}
 use Rattle.som_sema.specs.PlainReleases.{BodiesStand, IsAccessor, LimitsKept, a_getter, a_setter}
-use Rattle.som_sema.specs.Releases.{Access, accessors_of, at_most, attribute_accessors, body_of, class_limits, entry_limits, export_accessors, has_body, limit_passed, text_s14}
+use Rattle.som_sema.specs.Releases.{Access, Passed, accessors_of, at_most, attribute_accessors, body_of, class_limits, entry_limits, export_accessors, has_body, limit_passed, text_s14}
 use Rattle.som_sema.specs.Sketch.{Drawn, drawings, getter, setter, sketches}
 use Rattle.som_sema.specs.TextRules.{text_breach, text_demand}
 use Rattle.som_sema.proofs.Accessing.{body_named, named_body}
 use Rattle.som_sema.proofs.Fitting.{both_flat, made}
-use Rattle.som_sema.proofs.Limiting.{is_at_most}
 use Rattle.som_sema.proofs.TextBases.{demanded_text}
 use Rattle.som_sema.proofs.TextLaws.{says_text}
 
@@ -74,6 +73,13 @@ bodies_law ds =
     )
 
 -- limits
+
+kept_by : (b : Bool) (p : Passed) → first (if b then [] else p ∷ []) ≡ None → b ≡ true
+kept_by true p e = refl
+kept_by false p e = cc
+
+is_at_most : (q : List ℕ) (n count : ℕ) → first (at_most q n count) ≡ None → count ≤ n
+is_at_most q n count e = leb-true count n (kept_by (nat_le count n) (record { quantity = q; number = n }) e)
 
 says_at_most : (q : List ℕ) (n count : ℕ) → count ≤ n → first (at_most q n count) ≡ None
 says_at_most q n count le = let t : nat_le count n ≡ true = le-leb count n le in rw t refl

@@ -56,7 +56,9 @@ fn add_export<'a>(
 {
     match export {
         Export::Attribute {
-            readonly, names, ..
+            readonly,
+            names,
+            ..
         } => add_attributes(alloc, all, *readonly, names.as_slice()),
         Export::Operation { .. } => Ok(()),
     }

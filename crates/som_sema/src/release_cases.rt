@@ -50,8 +50,16 @@ pub const RELEASES: [Case; 10] = [
 
 /// What lacks a body, and what comes before that.
 pub const BODIES: [Case; 15] = [
-    ("an operation", "class Hello, op sayHello void", "14 Hello sayHello"),
-    ("an override", "class A, impl, is somFree over", "14 A somFree"),
+    (
+        "an operation",
+        "class Hello, op sayHello void",
+        "14 Hello sayHello",
+    ),
+    (
+        "an override",
+        "class A, impl, is somFree over",
+        "14 A somFree",
+    ),
     (
         "an operation before an override",
         "class A, impl, is somFree over, op f void",

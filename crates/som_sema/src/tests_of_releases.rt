@@ -77,7 +77,10 @@ fn limit(alloc: Global, short: &str) -> Result<String, Fail> {
 // The limit that is passed by a class that says so many parts, and then more.
 fn limit_of(alloc: Global, part: &str, count: usize, more: &str) -> Result<String, Fail> {
     let parts = counted(alloc, part, count)?;
-    limit(alloc, format!(in alloc; "class C{}{}", parts, more)?.as_str())
+    limit(
+        alloc,
+        format!(in alloc; "class C{}{}", parts, more)?.as_str(),
+    )
 }
 
 #[test]
@@ -87,9 +90,24 @@ fn variables_are_counted_with_attributes(rt: HostRuntime) -> Result<(), Fail> {
         (", read long x", 64, "", "none"),
         (", read long x", 65, "", "limit variables 64"),
         (", attr long x", 64, "", "none"),
-        (", attr long x", 60, ", impl, var long y z, attr long a b", "none"),
-        (", attr long x", 60, ", impl, var long y z, attr long a b c", "limit variables 64"),
-        (", read long x", 60, ", impl, var long a b c d e", "limit variables 64"),
+        (
+            ", attr long x",
+            60,
+            ", impl, var long y z, attr long a b",
+            "none",
+        ),
+        (
+            ", attr long x",
+            60,
+            ", impl, var long y z, attr long a b c",
+            "limit variables 64",
+        ),
+        (
+            ", read long x",
+            60,
+            ", impl, var long a b c d e",
+            "limit variables 64",
+        ),
     ] {
         assert_eq!(rt; limit_of(alloc, part, count, more)?.as_str(), want);
     }
@@ -135,7 +153,11 @@ fn moved(alloc: Global, own: usize) -> Result<String, Fail> {
 #[test]
 fn entries_are_counted_with_moved_ones(rt: HostRuntime) -> Result<(), Fail> {
     let alloc = rt.alloc();
-    for (own, want) in [(0, "none"), (1, "limit entries 256"), (65, "limit entries 256")] {
+    for (own, want) in [
+        (0, "none"),
+        (1, "limit entries 256"),
+        (65, "limit entries 256"),
+    ] {
         let short = moved(alloc, own)?;
         assert_eq!(rt; limit(alloc, short.as_str())?.as_str(), want);
     }
