@@ -167,7 +167,7 @@ building_no_want refusals.NoMemory w e same = cc
 
 by_building : (ss : List Source) (fs : List IdlFile) → ReadsAll ss (Ok fs) → (b : Built) → ReleaseTold (interfaces_of fs) b → b ≢ Err refusals.NoMemory → (told : Compiling) × Compiles ss told
 by_building ss fs x (Ok r) t some =
-    let s = record { trees = fs; read = x; built = t } in
+    let s : StandFor ss r = record { trees = fs; read = x; built = t } in
     let i = stands_image ss r s in
     (Ok i.0, an_image r i.0 s i.1)
 by_building ss fs x (Err f) t some = let w = building_some f some in (Err w.0, unbuilt fs f w.0 x t w.1)

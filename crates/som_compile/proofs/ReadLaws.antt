@@ -239,4 +239,3 @@ module _ (ss : List Source) (fs : List IdlFile) (i : ℕ) (s : Source) (lt : i <
   pub next_refused : (r : CompileFault) → Says {A = IdlFile} (Reads s) (Err r) → Says {A = List IdlFile} (ReadsAll ss) (Err r)
   next_refused (faults.Text w) x = subst (λ (l : List Source). ReadsAll l (Err w)) (sym parted) (stops_here (take i ss) fs s w (drop (i + 1) ss) read_so x)
   next_refused faults.NoMemory x = tt
-
