@@ -1,5 +1,5 @@
 -- The release that interface files stand for prints texts, and an image has room for it.
-use Rattle.std.proofs.Common.{◌≡◌, ℕ, ◌+◌, ◌≤◌, inl, inr, Bool, true, false, if◌then◌else◌, List, [], ◌∷◌, ◌++◌, length, map, flat_map, codes, Option, Some, None, unwrap_or, option_map, All, refl, sym, ap, subst, ◌∙◌, arith, length-append}
+use Rattle.std.proofs.Common.{◌≡◌, ℕ, ◌≤◌, inl, inr, Bool, true, false, if◌then◌else◌, List, [], ◌∷◌, ◌++◌, length, map, flat_map, codes, Option, Some, None, unwrap_or, option_map, All, refl, sym, ap, subst, ◌∙◌, arith, length-append}
 use Rattle.std.proofs.lemmas.List.{length-map}
 use Rattle.std.specs.List.{AllByRecursion}
 use Rattle.std.specs.Str.{bytes_eq}
@@ -18,7 +18,6 @@ use Rattle.som_model.specs.declared.class.Body.{Body}
 use Rattle.som_model.specs.declared.class.Body.TheVariants as bodies
 use Rattle.som_model.specs.declared.class.Override.{Override}
 use Rattle.som_model.specs.declared.class.ClassDecl.{ClassDecl}
-use Rattle.som_model.specs.declared.program.Release.{Release}
 use Rattle.som_model.specs.Lists.{Mem, among, find, first, first_some, option_list, or_else, without}
 use Rattle.som_model.specs.Class.{Class, class_in, entry_name, entry_of, introduced}
 use Rattle.som_model.specs.Classes.{interface_classes}
@@ -34,7 +33,7 @@ use Rattle.som_verify.specs.Places.{with_kernel}
 use Rattle.som_verify.proofs.PlainFaces.{or_none}
 use Rattle.som_verify.proofs.PlainLists.{mem_map}
 use Rattle.som_libimage.specs.Libraries.{BodyPrints, ClassPrints, PrintTexts, PrintsTexts}
-use Rattle.som_libimage.specs.Limits.{TextWithin, EntryWithin, FaceWithin, BodyWithin, BlockWithin, ClassWithin, IsWithinLimits}
+use Rattle.som_libimage.specs.Limits.{TextWithin, EntryWithin, BodyWithin, BlockWithin, ClassWithin, IsWithinLimits}
 use Rattle.som_sema.specs.Building.{after_base, home_of, texts_breach}
 use Rattle.som_sema.specs.Finished.{declare, entry_for, entry_or_moved, introducer}
 use Rattle.som_sema.specs.Home.{key_of, type_of}
