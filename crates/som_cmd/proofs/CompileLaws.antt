@@ -1,11 +1,8 @@
 -- What each step of compiling a library answers and leaves is what the command does.
-use Rattle.std.proofs.Common.{◌≡◌, ℕ, ◌≤◌, List, [], Option, Some, None, Result, Ok, Err, refl, sym, ap, subst, ◌∙◌, inl, inr, arith}
-use Rattle.std.specs.FinMap.{insert}
+use Rattle.std.proofs.Common.{◌≡◌, ℕ, ◌≤◌, List, Option, Some, None, Result, Ok, Err, sym, subst, inl, inr, arith}
 use Rattle.som_io.specs.Outside.{Rose}
 use Rattle.som_model.specs.Bytes.{Files}
-use Rattle.som_compile.specs.declared.fault.TextFault.{TextFault}
 use Rattle.som_compile.specs.declared.source.Source.{Source}
-use Rattle.som_compile.specs.Compiling.{Compiles}
 use Rattle.som_cmd.specs.declared.output.Output.{Output}
 use Rattle.som_cmd.specs.declared.stop.Refusal.{Refusal}
 use Rattle.som_cmd.specs.declared.stop.Stop.{Stop}
@@ -14,8 +11,8 @@ use Rattle.som_cmd.specs.Words.{Library}
 use Rattle.som_cmd.specs.Endings.{refusing}
 use Rattle.som_cmd.specs.Cause.{FailsOn, FailsGettingTexts, HaveImage, HasCause, IsQuietStop, store_failed}
 use Rattle.som_cmd.specs.Steps.{FollowsTold}
-use Rattle.som_cmd.specs.LibraryAnswer.{texts_in, AreCompiled, IsLibraryAnswer, not_got, not_compiled, puts, text_refused}
-use Rattle.som_cmd.specs.LibrarySteps.{Compiled, PutFails, StoredTold, PutsTold, nothing}
+use Rattle.som_cmd.specs.LibraryAnswer.{texts_in, AreCompiled, IsLibraryAnswer, not_got, not_compiled}
+use Rattle.som_cmd.specs.LibrarySteps.{Compiled, StoredTold, PutsTold}
 
 -- the texts can't be got
 pub texts_refused : (files new : Option Files) (out : List ℕ) (names : List (List ℕ)) (stop : Stop) → new ≡ files → FollowsTold {A = List Source} files (Err stop) (texts_in names)

@@ -1,5 +1,5 @@
 -- Whatever texts there are, compiling a library has one answer.
-use Rattle.std.proofs.Common.{◌≡◌, ℕ, List, [], Result, Ok, Err, refl, sym, ap, subst, ◌∙◌}
+use Rattle.std.proofs.Common.{◌≡◌, ℕ, List, Result, Ok, Err, refl, sym, ap, ◌∙◌}
 use Rattle.som_model.specs.Bytes.{Files}
 use Rattle.som_compile.specs.declared.fault.TextFault.{TextFault}
 use Rattle.som_compile.specs.declared.source.Source.{Source}
@@ -7,7 +7,7 @@ use Rattle.som_compile.specs.Compiling.{Compiles}
 use Rattle.som_compile.proofs.CompileLaws.{some_compiling, one_compiling}
 use Rattle.som_cmd.specs.declared.stop.Refusal.{Refusal}
 use Rattle.som_cmd.specs.Endings.{Ending, refusing}
-use Rattle.som_cmd.specs.LibraryAnswer.{texts_in, AreCompiled, IsLibraryAnswer, not_got, not_compiled, puts, text_refused, putting}
+use Rattle.som_cmd.specs.LibraryAnswer.{texts_in, IsLibraryAnswer, not_got, not_compiled, puts, text_refused, putting}
 
 abbrev Texts : Type 0
 Texts = Result (List Source) Refusal

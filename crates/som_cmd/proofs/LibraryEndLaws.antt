@@ -1,14 +1,14 @@
 -- How the ends of a call that compiles a library are those of its answer, and what it leaves.
-use Rattle.std.proofs.Common.{◌≡◌, ◌≢◌, ℕ, ◌⊎◌, Bool, true, false, ◌==◌, List, [], Option, Some, None, Result, Ok, Err, refl, sym, ap, subst, ◌∙◌, inl, inr, arith}
+use Rattle.std.proofs.Common.{◌≡◌, ◌≢◌, ℕ, ◌⊎◌, Bool, true, false, ◌==◌, List, Option, Some, None, Result, Ok, Err, refl, sym, ap, subst, ◌∙◌, inl, inr, arith}
 use Rattle.std.proofs.lemmas.Bool.{eqb-true}
 use Rattle.std.proofs.lemmas.Grind.{common_steps}
 use Rattle.std.specs.FinMap.{insert}
 use Rattle.std.specs.List.{concat}
-use Rattle.som_io.specs.Outside.{Rose, ShowsAll, ShowsFront}
+use Rattle.som_io.specs.Outside.{ShowsAll, ShowsFront}
 use Rattle.som_model.specs.declared.program.Release.{Release}
 use Rattle.som_model.specs.Bytes.{Files}
 use Rattle.som_compile.proofs.CompileLaws.{stands_image}
-use Rattle.som_compile.specs.Compiling.{Compiles, an_image}
+use Rattle.som_compile.specs.Compiling.{an_image}
 use Rattle.som_cmd.specs.declared.output.Output.{Output}
 use Rattle.som_cmd.specs.declared.stop.Why.{Why}
 use Rattle.som_cmd.specs.declared.stop.Why.TheVariants as why
@@ -19,11 +19,11 @@ use Rattle.som_cmd.specs.Words.{Asked, Run, Show, Check, Library, Bad}
 use Rattle.som_cmd.specs.Endings.{Ending, refusing}
 use Rattle.som_cmd.specs.Answer.{IsAnswer, compiles}
 use Rattle.som_cmd.specs.Cause.{FailsOn, HasCause}
-use Rattle.som_cmd.specs.LibraryAnswer.{AreCompiled, putting, puts}
-use Rattle.som_cmd.specs.LibrarySteps.{PutFails, Puts, PutsTold, nothing}
+use Rattle.som_cmd.specs.LibraryAnswer.{putting, puts}
+use Rattle.som_cmd.specs.LibrarySteps.{Puts, PutsTold, nothing}
 use Rattle.som_cmd.specs.LibraryEnds.{LeavesFiles, as_they_were, with_image, put_failed, KeepsFiles, AreTextsOf, PutsRelease}
 use Rattle.som_cmd.specs.Saying.{SaysAll, SaysFront}
-use Rattle.som_cmd.specs.Ends.{EndsAs, EndsAsTold, ShowsSome}
+use Rattle.som_cmd.specs.Ends.{EndsAsTold, ShowsSome}
 use Rattle.som_cmd.proofs.EndLaws.{nothing_written, none_told, some_told, text_of, status_is, files_of}
 
 module _ (asked : Asked) (out : List ℕ) (names : List (List ℕ)) (is : Library out names ≡ asked) where

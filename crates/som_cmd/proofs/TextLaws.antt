@@ -1,8 +1,7 @@
 -- The texts under names, one after the other.
-use Rattle.std.proofs.Common.{◌≡◌, ℕ, ◌+◌, ◌-◌, ◌<◌, ◌≤◌, Bool, true, false, if◌then◌else◌, nat_le, List, [], ◌∷◌, ◌++◌, length, take, drop, get_or, codes, Option, Some, None, Result, Ok, Err, refl, sym, ap, subst, ◌∙◌, append_assoc, arith}
+use Rattle.std.proofs.Common.{◌≡◌, ℕ, ◌+◌, ◌<◌, ◌≤◌, Bool, true, false, if◌then◌else◌, nat_le, List, [], ◌∷◌, ◌++◌, length, take, drop, get_or, codes, Option, Some, None, Result, Ok, Err, refl, sym, ap, subst, ◌∙◌, append_assoc, arith}
 use Rattle.std.proofs.lemmas.Grind.{common_steps}
-use Rattle.std.proofs.lemmas.List.{append-nil, take_more, take_all, take-append-drop}
-use Rattle.std.specs.FinMap.{get}
+use Rattle.std.proofs.lemmas.List.{take_more, take_all, take-append-drop}
 use Rattle.som_io.specs.Outside.{Rose}
 use Rattle.som_model.specs.declared.limits.TheConstants.{MAX_BYTES}
 use Rattle.som_model.specs.Bytes.{Files}
@@ -13,8 +12,8 @@ use Rattle.som_cmd.specs.declared.stop.Stop.{Stop}
 use Rattle.som_cmd.specs.declared.stop.Stop.TheVariants as stops
 use Rattle.som_cmd.specs.Endings.{file_of}
 use Rattle.som_cmd.specs.LibraryAnswer.{bytes_kept, text_in, texts_after, texts_in, too_many}
-use Rattle.som_cmd.specs.Cause.{AreGot, FailsGettingTexts, StopHasCause, HasCause, store_failed}
-use Rattle.som_cmd.specs.Steps.{Stops, FollowsTold}
+use Rattle.som_cmd.specs.Cause.{AreGot, FailsGettingTexts, HasCause, store_failed}
+use Rattle.som_cmd.specs.Steps.{FollowsTold}
 use Rattle.som_cmd.proofs.ShowLaws.{stops_first}
 
 -- ---- one text

@@ -13,7 +13,7 @@ use Rattle.som_compile.specs.declared.source.Source.{Source}
 use Rattle.som_compile.specs.Compiling.{Compiles}
 use Rattle.som_cmd.specs.declared.stop.Refusal.{Refusal}
 use Rattle.som_cmd.specs.declared.stop.Why.TheVariants as why
-use Rattle.som_cmd.specs.Endings.{Ending, named, refusing, file_of}
+use Rattle.som_cmd.specs.Endings.{Ending, refusing, file_of}
 
 -- ---- lines
 

@@ -9,7 +9,8 @@ const COUNTER: &[u8] = b"interface Counter { attribute long n; };";
 const COUNTER_SHOWN: &[u8] =
     b"library 1\nclass Counter 0.0 : SOMObject\n  0 long _get_n()\n  1 void _set_n(long)\n";
 
-const HELLO: &[u8] = b"#ifndef hello_idl\n#define hello_idl\n#include <somobj.idl>\ninterface Hello : SOMObject\n{\n  void sayHello();\n#ifdef __SOMIDL__\n  implementation\n  {\n    releaseorder: sayHello;\n    filestem = hello;\n    majorversion = 1;\n    minorversion = 0;\n  };\n#endif\n};\n#endif\n";
+const HELLO: &[u8] =
+    b"#ifndef hello_idl\n#define hello_idl\n#include <somobj.idl>\ninterface Hello : SOMObject\n{\n  void sayHello();\n#ifdef __SOMIDL__\n  implementation\n  {\n    releaseorder: sayHello;\n    filestem = hello;\n    majorversion = 1;\n    minorversion = 0;\n  };\n#endif\n};\n#endif\n";
 
 const ONE: [&[u8]; 3] = [b"library", b"o.img", b"t.idl"];
 
@@ -94,14 +95,8 @@ fn the_rule_that_texts_break_is_told(rt: HostRuntime) -> Result<(), Fail> {
             b"interface A { }; interface B { }; interface A { };",
             b"refused S1 A -\n",
         ),
-        (
-            b"interface A : B { void f(); };",
-            b"refused S2 A B\n",
-        ),
-        (
-            b"interface A { attribute B n; };",
-            b"refused S5 A _get_n\n",
-        ),
+        (b"interface A : B { void f(); };", b"refused S2 A B\n"),
+        (b"interface A { attribute B n; };", b"refused S5 A _get_n\n"),
         (
             b"interface A { implementation { somInit: override; }; };",
             b"refused S14 A somInit\n",
@@ -118,7 +113,10 @@ fn the_fault_of_a_text_is_told(rt: HostRuntime) -> Result<(), Fail> {
     let alloc = rt.alloc();
     let all: [(&[u8], &[u8]); 13] = [
         (b"interface A { @ };", b"refused L1 t.idl\n"),
-        (b"interface A { implementation { majorversion = 01; }; };", b"refused L1 t.idl\n"),
+        (
+            b"interface A { implementation { majorversion = 01; }; };",
+            b"refused L1 t.idl\n",
+        ),
         (b"interface A { \"", b"refused L2 t.idl\n"),
         (b"interface A { \"x\n\" };", b"refused L2 t.idl\n"),
         (b"interface A { /* };", b"refused L3 t.idl\n"),
@@ -131,7 +129,10 @@ fn the_fault_of_a_text_is_told(rt: HostRuntime) -> Result<(), Fail> {
         // a fault of bytes comes before those of tokens, wherever it stands
         (b"interface { }; @", b"refused L1 t.idl\n"),
         // and a fault of tokens before the rules
-        (b"interface A : B { }; interface { };", b"refused P1 t.idl\n"),
+        (
+            b"interface A : B { }; interface { };",
+            b"refused P1 t.idl\n",
+        ),
     ];
     for (text, line) in all {
         assert_eq!(rt; text_status(alloc, text, line)?, 3, "{text:?}");

@@ -1,15 +1,12 @@
 -- Compiling texts comes to one thing, and the code to that.
-use Rattle.std.proofs.Common.{◌≡◌, ◌≢◌, ℕ, ◌≤◌, ◌<◌, ◌⊎◌, inl, inr, Bool, true, false, nat_le, List, length, codes, Option, Some, None, Result, Ok, Err, refl, sym, ap, subst, ◌∙◌, arith}
+use Rattle.std.proofs.Common.{◌≡◌, ◌≢◌, ℕ, ◌≤◌, ◌<◌, inl, inr, Bool, true, false, nat_le, List, length, codes, Option, Some, None, Result, Ok, Err, refl, sym, ap, subst, ◌∙◌, arith}
 use Rattle.std.proofs.lemmas.Grind.{common_steps}
 use Rattle.std.specs.List.{AllByRecursion}
 use Rattle.std.proofs.lemmas.List.Elements.{recursion_from_All}
 use Rattle.som_model.specs.declared.limits.TheConstants.{MAX_LIBRARY_CLASSES}
 use Rattle.som_model.specs.declared.program.Release.{Release}
-use Rattle.som_model.specs.Conforming.{ReleaseOk}
 use Rattle.som_model.specs.Images.{library_image}
 use Rattle.som_model.specs.Rules.{Breach}
-use Rattle.som_lex.specs.declared.token.Tokens.{Tokens}
-use Rattle.som_lex.specs.Spans.{AreTokens}
 use Rattle.som_lex.proofs.Spans.{all_spelled}
 use Rattle.som_idl.specs.declared.tree.IdlFile.{IdlFile}
 use Rattle.som_idl.specs.declared.tree.IdlInterface.{IdlInterface}
@@ -30,7 +27,7 @@ use Rattle.som_compile.specs.declared.fault.TextFault.TheVariants as texts
 use Rattle.som_compile.specs.declared.fault.CompileFault.{CompileFault}
 use Rattle.som_compile.specs.declared.fault.CompileFault.TheVariants as faults
 use Rattle.som_compile.specs.declared.source.Source.{Source}
-use Rattle.som_compile.specs.Reading.{Reads, no_tokens, no_tree, a_tree, ReadsAll, no_more, one_more, refused, refused_later, Says, Tells}
+use Rattle.som_compile.specs.Reading.{Reads, a_tree, ReadsAll, no_more, one_more, Says, Tells}
 use Rattle.som_compile.specs.Compiling.{StandFor, Compiles, unread, unbuilt, an_image, building_told}
 use Rattle.som_compile.proofs.ReadLaws.{some_readings, one_readings}
 use Rattle.som_compile.proofs.ReleaseWithin.{all_join, is_within, prints_texts, bodies_stand, limits_kept}
@@ -167,7 +164,7 @@ building_no_want refusals.NoMemory w e same = cc
 
 by_building : (ss : List Source) (fs : List IdlFile) → ReadsAll ss (Ok fs) → (b : Built) → ReleaseTold (interfaces_of fs) b → b ≢ Err refusals.NoMemory → (told : Compiling) × Compiles ss told
 by_building ss fs x (Ok r) t some =
-    let s = record { trees = fs; read = x; built = t } in
+    let s : StandFor ss r = record { trees = fs; read = x; built = t } in
     let i = stands_image ss r s in
     (Ok i.0, an_image r i.0 s i.1)
 by_building ss fs x (Err f) t some = let w = building_some f some in (Err w.0, unbuilt fs f w.0 x t w.1)

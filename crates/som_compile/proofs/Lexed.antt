@@ -1,13 +1,13 @@
 -- Whatever its bytes are, a text has tokens or a first fault.
-use Rattle.std.proofs.Common.{◌≡◌, ◌≢◌, ℕ, zero, suc, ◌+◌, ◌-◌, ◌<◌, ◌≤◌, ◌⊎◌, inl, inr, List, [], ◌∷◌, ◌++◌, length, drop, Option, Some, None, Result, Ok, Err, refl, sym, ap, subst, ◌∙◌, arith, length-append}
-use Rattle.std.proofs.lemmas.List.{length-drop, drop_all}
+use Rattle.std.proofs.Common.{◌≡◌, ℕ, zero, suc, ◌+◌, ◌-◌, ◌<◌, ◌≤◌, ◌⊎◌, inl, inr, List, [], ◌∷◌, length, drop, Option, Some, None, Result, Ok, Err, refl, sym, ap, subst, arith, length-append}
+use Rattle.std.proofs.lemmas.List.{length-drop}
 use Rattle.som_lex.specs.declared.lexeme.Lexeme.{Lexeme}
 use Rattle.som_lex.specs.declared.token.TokenKind.{TokenKind}
 use Rattle.som_lex.specs.declared.token.LexToken.{LexToken}
 use Rattle.som_lex.specs.declared.fault.LexFault.{LexFault}
 use Rattle.som_lex.specs.Line.{is_fresh}
 use Rattle.som_lex.specs.Lexeme.{lexeme_at}
-use Rattle.som_lex.specs.Front.{IsGap, IsToken, IsPiece, IsFront, IsFault, a_blank, a_line_comment, a_block_comment}
+use Rattle.som_lex.specs.Front.{IsGap, IsToken, IsPiece, a_blank, a_line_comment, a_block_comment}
 use Rattle.som_lex.specs.Cut.{IsCut, Stops, ended, a_gap, a_token, here, after_gap, after_token, token_from}
 use Rattle.som_lex.proofs.Longest.{Told, some_bytes}
 use Rattle.som_lex.proofs.Fronts.{front_told}

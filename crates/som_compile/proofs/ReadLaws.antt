@@ -1,5 +1,5 @@
 -- Reading texts comes to one thing, and the code's loop to that.
-use Rattle.std.proofs.Common.{◌≡◌, ◌≢◌, ℕ, ◌+◌, ◌<◌, ◌≤◌, ◌⊎◌, inl, inr, Bool, List, [], ◌∷◌, ◌++◌, length, take, drop, get_or, codes, Option, Some, None, Result, Ok, Err, refl, sym, ap, subst, ◌∙◌, append_assoc}
+use Rattle.std.proofs.Common.{◌≡◌, ◌≢◌, ℕ, ◌+◌, ◌<◌, ◌≤◌, inl, inr, Bool, List, [], ◌∷◌, ◌++◌, length, take, drop, get_or, codes, Option, Some, None, Result, Ok, Err, refl, sym, ap, subst, ◌∙◌, append_assoc}
 use Rattle.std.proofs.lemmas.List.{take_more, take_all, take-append-drop}
 use Rattle.som_model.specs.declared.limits.TheConstants.{MAX_NAME, MAX_TEXT}
 use Rattle.som_lex.specs.declared.token.LexToken.{LexToken}
@@ -239,4 +239,3 @@ module _ (ss : List Source) (fs : List IdlFile) (i : ℕ) (s : Source) (lt : i <
   pub next_refused : (r : CompileFault) → Says {A = IdlFile} (Reads s) (Err r) → Says {A = List IdlFile} (ReadsAll ss) (Err r)
   next_refused (faults.Text w) x = subst (λ (l : List Source). ReadsAll l (Err w)) (sym parted) (stops_here (take i ss) fs s w (drop (i + 1) ss) read_so x)
   next_refused faults.NoMemory x = tt
-

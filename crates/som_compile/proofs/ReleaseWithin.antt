@@ -1,5 +1,6 @@
 -- The release that interface files stand for prints texts, and an image has room for it.
-use Rattle.std.proofs.Common.{◌≡◌, ℕ, ◌+◌, ◌≤◌, inl, inr, Bool, true, false, if◌then◌else◌, List, [], ◌∷◌, ◌++◌, length, map, flat_map, codes, Option, Some, None, unwrap_or, option_map, All, refl, sym, ap, subst, ◌∙◌, arith, length-append, length-map}
+use Rattle.std.proofs.Common.{◌≡◌, ℕ, ◌≤◌, inl, inr, Bool, true, false, if◌then◌else◌, List, [], ◌∷◌, ◌++◌, length, map, flat_map, codes, Option, Some, None, unwrap_or, option_map, All, refl, sym, ap, subst, ◌∙◌, arith, length-append}
+use Rattle.std.proofs.lemmas.List.{length-map}
 use Rattle.std.specs.List.{AllByRecursion}
 use Rattle.std.specs.Str.{bytes_eq}
 use Rattle.std.proofs.lemmas.List.Elements.{recursion_from_All, All-from_recursion}
@@ -17,7 +18,6 @@ use Rattle.som_model.specs.declared.class.Body.{Body}
 use Rattle.som_model.specs.declared.class.Body.TheVariants as bodies
 use Rattle.som_model.specs.declared.class.Override.{Override}
 use Rattle.som_model.specs.declared.class.ClassDecl.{ClassDecl}
-use Rattle.som_model.specs.declared.program.Release.{Release}
 use Rattle.som_model.specs.Lists.{Mem, among, find, first, first_some, option_list, or_else, without}
 use Rattle.som_model.specs.Class.{Class, class_in, entry_name, entry_of, introduced}
 use Rattle.som_model.specs.Classes.{interface_classes}
@@ -33,7 +33,7 @@ use Rattle.som_verify.specs.Places.{with_kernel}
 use Rattle.som_verify.proofs.PlainFaces.{or_none}
 use Rattle.som_verify.proofs.PlainLists.{mem_map}
 use Rattle.som_libimage.specs.Libraries.{BodyPrints, ClassPrints, PrintTexts, PrintsTexts}
-use Rattle.som_libimage.specs.Limits.{TextWithin, EntryWithin, FaceWithin, BodyWithin, BlockWithin, ClassWithin, IsWithinLimits}
+use Rattle.som_libimage.specs.Limits.{TextWithin, EntryWithin, BodyWithin, BlockWithin, ClassWithin, IsWithinLimits}
 use Rattle.som_sema.specs.Building.{after_base, home_of, texts_breach}
 use Rattle.som_sema.specs.Finished.{declare, entry_for, entry_or_moved, introducer}
 use Rattle.som_sema.specs.Home.{key_of, type_of}
@@ -48,31 +48,32 @@ use Rattle.som_sema.proofs.ReleaseLaws.{bodies_law, limits_law}
 -- ---- lists
 
 module _ {A : Type 0} (P : A → Type 0) where
-  all_join : (xs ys : List A) → AllByRecursion P xs → AllByRecursion P ys → AllByRecursion P (xs ++ ys)
+  pub all_join : (xs ys : List A) → AllByRecursion P xs → AllByRecursion P ys → AllByRecursion P (xs ++ ys)
   all_join [] ys p q = q
   all_join (x ∷ xs) ys p q = (p.0, all_join xs ys p.1 q)
 
+  kept_or_not : (x : A) (xs : List A) → P x → AllByRecursion P xs → (b : Bool) → AllByRecursion P (if b then xs else x ∷ xs)
+  kept_or_not x xs p ps true = ps
+  kept_or_not x xs p ps false = (p, ps)
+
   all_without : (test : A → Bool) (xs : List A) → AllByRecursion P xs → AllByRecursion P (without test xs)
   all_without test [] p = tt
-  all_without test (x ∷ xs) p = by_test (test x)
-    where
-      by_test : (b : Bool) → AllByRecursion P (if b then without test xs else x ∷ without test xs)
-      by_test true = all_without test xs p.1
-      by_test false = (p.0, all_without test xs p.1)
+  all_without test (x ∷ xs) p = kept_or_not x (without test xs) p.0 (all_without test xs p.1) (test x)
+
+  here_or_later : (y x : A) (later : Option A) → P y → (later ≡ Some x → P x) → (b : Bool) → (if b then Some y else later) ≡ Some x → P x
+  here_or_later y x later p f true e = let same : y ≡ x = cc in subst P same p
+  here_or_later y x later p f false e = f e
 
   all_found : (test : A → Bool) (xs : List A) (x : A) → AllByRecursion P xs → find test xs ≡ Some x → P x
   all_found test [] x p e = absurd cc
-  all_found test (y ∷ ys) x p e = by_test (test y) e
-    where
-      by_test : (b : Bool) → (if b then Some y else find test ys) ≡ Some x → P x
-      by_test true h = let same : y ≡ x = cc in subst P same p.0
-      by_test false h = all_found test ys x p.1 h
+  all_found test (y ∷ ys) x p e = here_or_later y x (find test ys) p.0 (λ h. all_found test ys x p.1 h) (test y) e
 
   all_members : (xs : List A) → ((x : A) → Mem x xs → P x) → AllByRecursion P xs
   all_members [] f = tt
   all_members (x ∷ xs) f = (f x (inl refl), all_members xs (λ y m. f y (inr m)))
 
   member_of_all : (xs : List A) (x : A) → AllByRecursion P xs → Mem x xs → P x
+  member_of_all [] x p m = absurd m
   member_of_all (y ∷ ys) x p (inl e) = subst P (sym e) p.0
   member_of_all (y ∷ ys) x p (inr m) = member_of_all ys x p.1 m
 
@@ -108,7 +109,7 @@ words_named ws all = all_map WordWithin TextWithin (λ (w : Word). w.text) word_
 module _ (home : List ℕ → Module) (by : List (List ℕ)) where
   accessors_named : (readonly : Bool) (kind : ValueType) (name : List ℕ) → length name ≤ MAX_NAME → AllByRecursion Named (accessors by readonly kind name)
   accessors_named true kind name le = (getter_within name le, tt)
-  accessors_named false kind name le = (getter_within name le, setter_within name le, tt)
+  accessors_named false kind name le = (getter_within name le, (setter_within name le, tt))
 
   export_named : (x : Export) → ExportWithin x → AllByRecursion Named (export_entries home by x)
   export_named (exports.Attribute readonly kind names) p =
@@ -170,13 +171,13 @@ all_variables home i p =
     (all_flat ItemWithin Within (item_variables home) (item_variables_named home) i.items (recursion_from_All ItemWithin i.items p.items)))
     (all_flat ExportWithin Within (export_variables home) (export_variables_named home) i.after (recursion_from_All ExportWithin i.after p.after))
 
+by_first : (o later : Option ℕ) → ((n : ℕ) → o ≡ Some n → n ≤ MAX_VERSION) → unwrap_or later 0 ≤ MAX_VERSION → unwrap_or (or_else o later) 0 ≤ MAX_VERSION
+by_first None later f g = g
+by_first (Some n) later f g = f n refl
+
 number_within : (number : Item → Option ℕ) → ((x : Item) (n : ℕ) → ItemWithin x → number x ≡ Some n → n ≤ MAX_VERSION) → (is : List Item) → AllByRecursion ItemWithin is → number_of number is ≤ MAX_VERSION
 number_within number f [] p = omega arith
-number_within number f (x ∷ is) p = by_first (number x) refl
-  where
-    by_first : (o : Option ℕ) → number x ≡ o → unwrap_or (or_else o (first_some number is)) 0 ≤ MAX_VERSION
-    by_first None e = number_within number f is p.1
-    by_first (Some n) e = f x n p.0 e
+number_within number f (x ∷ is) p = by_first (number x) (first_some number is) (λ n e. f x n p.0 e) (number_within number f is p.1)
 
 same_number : (m n : ℕ) → ◌≡◌ {A = Option ℕ} (Some m) (Some n) → m ≡ n
 same_number m n e = cc
@@ -278,8 +279,8 @@ module _ (is : List IdlInterface) (within : AllByRecursion InterfaceWithin is) (
           parents = kept.parents d.class c;
           entries = kept.entries d.class c;
           each_entry = All-from_recursion EntryWithin d.class.face.entries (all_members EntryWithin d.class.face.entries (λ e n.
-          entry_within e (member_of_all Named d.class.face.entries e (entries_named i p) n)
-          (λ name sig way same. kept.parameters d.class name sig way c (subst (λ (x : Entry). Mem x d.class.face.entries) same n))));
+              entry_within e (member_of_all Named d.class.face.entries e (entries_named i p) n)
+              (λ name sig way same. kept.parameters d.class name sig way c (subst (λ (x : Entry). Mem x d.class.face.entries) same n))));
         };
         variables = kept.variables d.class c;
         each_variable = All-from_recursion (λ (v : Variable). TextWithin v.name) d.class.variables (all_variables home i p);

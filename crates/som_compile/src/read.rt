@@ -73,10 +73,7 @@ fn read_text(alloc: Global, source: &Source) -> Result<IdlFile, CompileFault>
 /// The interfaces of each text in order, or what is wrong with the first that can't be read. A fault of the bytes of a text
 /// comes before those of its tokens.
 #[tactic(auto, using(crate::proofs::ReadLaws::all_texts, crate::proofs::ReadLaws::next_read, crate::proofs::ReadLaws::next_refused))]
-pub fn read_interfaces(
-    alloc: Global,
-    sources: &List<Source>,
-) -> Result<List<IdlFile>, CompileFault>
+pub fn read_interfaces(alloc: Global, sources: &List<Source>) -> Result<List<IdlFile>, CompileFault>
     ensures { Says (ReadsAll sources.now) result }
 {
     let sources = sources.as_slice();

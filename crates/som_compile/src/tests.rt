@@ -17,7 +17,8 @@ fn sources(alloc: Global, all: &[(&[u8], &[u8])]) -> Result<List<Source>, NoMemo
 
 const COUNTER: &[u8] = b"interface Counter { attribute long n; };";
 
-const IMAGE: &[u8] = b"SOML\x01\0\x01\0\x07Counter\0\0\0\0\0\0\0\0\x01\0\0\0\0\x02\0\x06_get_n\0\x01\0\0\x06_set_n\0\0\x01\x01\x01\0\x01n\x01\x01\0\x02\0\0\0";
+const IMAGE: &[u8] =
+    b"SOML\x01\0\x01\0\x07Counter\0\0\0\0\0\0\0\0\x01\0\0\0\0\x02\0\x06_get_n\0\x01\0\0\x06_set_n\0\0\x01\x01\x01\0\x01n\x01\x01\0\x02\0\0\0";
 
 #[test]
 fn a_text_is_compiled(rt: HostRuntime) -> Result<(), Fail> {

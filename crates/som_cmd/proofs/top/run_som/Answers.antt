@@ -1,6 +1,6 @@
 use Rattle.std.proofs.Common.{ℕ, List, refl, subst}
 use Rattle.som_io.specs.Outside.{ShowsAll, ShowsFront}
-use Rattle.som_cmd.specs.Words.{asked, Run, Show, Check, Library}
+use Rattle.som_cmd.specs.Words.{asked, Run, Show, Check}
 use Rattle.som_cmd.proofs.EndLaws.{ends, fails, fronts, nothing_written, bad_ends, bad_fronts, means_by, shows_by, accepted_by, breach_by}
 use Rattle.som_cmd.proofs.LibraryEndLaws.{library_ends, library_fronts, library_keeps, run_keeps, show_keeps, check_keeps, bad_keeps, puts_by}
 use Rattle.som_cmd.proofs.top.run_som.Goals as goal
