@@ -1,21 +1,20 @@
 -- Classes with the same names, parents and metaclasses.
-use Rattle.std.proofs.Common.{◌≡◌, ℕ, zero, suc, ◌+◌, ◌<◌, inl, inr, Bool, true, false, not, if◌then◌else◌, List, [], ◌∷◌, ◌++◌, length, map, slice_index_or, Option, Some, None, is_some, refl, sym, ap, ◌∙◌, subst, arith}
-use Rattle.som_model.specs.Lists.{Mem, every, find, first, option_list}
+use Rattle.std.proofs.Common.{◌≡◌, ℕ, zero, suc, Bool, true, false, if◌then◌else◌, List, [], ◌∷◌, ◌++◌, length, map, slice_index_or, Option, Some, None, is_some, refl, sym, ap, ◌∙◌, arith}
+use Rattle.som_model.specs.Lists.{every, first, option_list}
 use Rattle.som_model.specs.Keys.{same_key}
 use Rattle.som_model.specs.Class.{Class, class_in}
 use Rattle.som_model.specs.Classes.{class_at}
 use Rattle.som_model.specs.Conforming.{each_after}
 use Rattle.som_model.specs.Kernel.{kernel}
-use Rattle.som_model.specs.Rules.{Breach, demand, name_of, s1, s2}
+use Rattle.som_model.specs.Rules.{name_of, s2}
 use Rattle.som_model.specs.declared.key.Module.{Module}
 use Rattle.som_model.specs.declared.key.ClassKey.{ClassKey}
-use Rattle.som_model.specs.declared.class.ClassDecl.{ClassDecl}
-use Rattle.som_verify.specs.Places.{IsRows, face_at, key_at, with_kernel}
+use Rattle.som_verify.specs.Places.{key_at, with_kernel}
 use Rattle.som_verify.specs.Modules.{AreDeclared}
 use Rattle.som_verify.proofs.PlainLists.{s1_doubles}
 use Rattle.som_verify.proofs.Before.{none_both, both_none, demanded, every_mem, mem_every}
 use Rattle.som_verify.proofs.PlainNames.{demand_none}
-use Rattle.som_sema.specs.Walks.{IsWalked, Walks}
+use Rattle.som_sema.specs.Walks.{IsWalked}
 use Rattle.som_sema.specs.declared.walked.Walked.{Walked}
 use Rattle.som_sema.specs.Sketch.{Drawn, sketches}
 use Rattle.som_sema.specs.Finished.{declare}

@@ -10,7 +10,6 @@ use Rattle.som_verify.specs.Told.{Tells}
 use Rattle.som_verify.specs.declared.types.VerifyFault.{VerifyFault}
 use Rattle.som_verify.specs.declared.types.VerifyFault.TheVariants as verify
 use Rattle.som_sema.specs.declared.types.Refused.{Refused}
-use Rattle.som_sema.specs.declared.types.Refused.TheVariants as faults
 use Rattle.som_sema.specs.Building.{FacesTold, declarations, declared_all, drawn_breach, home_of, most_classes, refused_by, texts_breach}
 use Rattle.som_sema.specs.Sketch.{Drawn, drawn}
 

@@ -1,14 +1,14 @@
 -- A base that conforms, and the classes after it.
-use Rattle.std.proofs.Common.{◌≡◌, ◌↔◌, ℕ, inl, inr, Bool, true, false, not, ◌&&◌, if◌then◌else◌, List, [], ◌∷◌, ◌++◌, flat_map, Option, Some, None, is_some, refl, sym, ap, ◌∙◌, subst, append_assoc, true≢false}
+use Rattle.std.proofs.Common.{◌≡◌, ℕ, Bool, true, false, not, ◌&&◌, if◌then◌else◌, List, [], ◌∷◌, ◌++◌, flat_map, Option, Some, None, refl, sym, ap, ◌∙◌, subst, append_assoc, true≢false}
 use Rattle.som_model.specs.Lists.{Mem, find, first, or_else}
 use Rattle.som_model.specs.Hierarchy.{Falls, Tells}
 use Rattle.som_model.specs.Ancestors.{Descends, by_parent, itself}
 use Rattle.som_model.specs.Keys.{same_key}
-use Rattle.som_model.specs.Class.{Class, introduced_sig}
-use Rattle.som_model.specs.Classes.{class_at, hierarchy, is_a, parents_by, parents_in, parents_of}
+use Rattle.som_model.specs.Class.{Class}
+use Rattle.som_model.specs.Classes.{class_at, hierarchy, is_a, parents_by, parents_in}
 use Rattle.som_model.specs.Conforming.{each_after, first_of_members, first_of_names}
 use Rattle.som_model.specs.Kernel.{kernel}
-use Rattle.som_model.specs.Owner.{entry_at, introduces}
+use Rattle.som_model.specs.Owner.{introduces}
 use Rattle.som_model.specs.Rules.{Breach, s1, s2, s3, s4, s5, s6, s7, s8, s9, s10}
 use Rattle.som_model.specs.declared.key.ClassKey.{ClassKey, out-ClassKey}
 use Rattle.som_model.specs.declared.key.ClassKey.TheOpen.{ClassKey-F}
@@ -19,15 +19,11 @@ use Rattle.som_model.proofs.NamedLaws.{hierarchy_parents, hierarchy_same}
 use Rattle.som_plain.proofs.Laws.{descends_test}
 use Rattle.som_verify.specs.Faces.{faces_breach}
 use Rattle.som_verify.specs.Inherited.{inherits, moved_entry}
-use Rattle.som_verify.specs.Modules.{AreDeclared}
 use Rattle.som_verify.specs.Places.{with_kernel}
-use Rattle.som_verify.specs.Plainly.{NamesApart, ParentsBefore}
-use Rattle.som_verify.proofs.Before.{both_none, none_both}
 use Rattle.som_verify.proofs.Owners.{demanded_of, flat_none}
 use Rattle.som_verify.proofs.PlainFaces.{or_none}
 use Rattle.som_verify.proofs.PlainLists.{each_says, none_flat, says_each}
 use Rattle.som_verify.proofs.PlainMembers.{both_true, demand_of_none}
-use Rattle.som_verify.proofs.PlainMoves.{lower}
 
 -- a rule that looks at the classes before each, at two lists
 pub each_both : (rule : List Class → Class → List Breach) (k xs ys : List Class) → each_after rule k (xs ++ ys) ≡ each_after rule k xs ++ each_after rule (k ++ xs) ys

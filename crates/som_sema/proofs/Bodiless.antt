@@ -1,23 +1,20 @@
 -- Rules that look at no body hold of classes that differ in bodies alone.
-use Rattle.std.proofs.Common.{◌≡◌, ℕ, zero, suc, inl, inr, Bool, true, false, if◌then◌else◌, List, [], ◌∷◌, ◌++◌, length, map, take, slice_get, Option, Some, None, option_map, unwrap_or, is_some, refl, sym, ap, ◌∙◌, subst}
+use Rattle.std.proofs.Common.{◌≡◌, ℕ, zero, suc, Bool, true, false, if◌then◌else◌, List, [], ◌∷◌, ◌++◌, map, take, slice_get, Option, Some, None, option_map, refl, sym, ap, ◌∙◌, subst}
 use Rattle.std.specs.Str.{bytes_eq}
 use Rattle.som_model.specs.declared.key.ClassKey.{ClassKey}
 use Rattle.som_model.specs.declared.key.MethodRef.{MethodRef}
 use Rattle.som_model.specs.declared.key.ValueType.{ValueType}
-use Rattle.som_model.specs.declared.key.ValueType.TheVariants as types
 use Rattle.som_model.specs.declared.class.Entry.TheVariants as entries
 use Rattle.som_model.specs.declared.class.Entry.{Entry}
 use Rattle.som_model.specs.declared.class.Override.{Override}
 use Rattle.som_model.specs.declared.class.Variable.{Variable}
-use Rattle.som_model.specs.declared.class.ClassDecl.{ClassDecl}
-use Rattle.som_model.specs.declared.class.ClassFace.{ClassFace}
 use Rattle.som_model.specs.Lists.{Mem, find}
 use Rattle.som_model.specs.Keys.{same_key}
 use Rattle.som_model.specs.Hierarchy.{Hierarchy}
 use Rattle.som_model.specs.Ancestors.{Descends}
 use Rattle.som_model.specs.Class.{Class, entry_name}
 use Rattle.som_model.specs.Classes.{class_at, hierarchy}
-use Rattle.som_model.specs.Kernel.{kernel, som_class}
+use Rattle.som_model.specs.Kernel.{kernel}
 use Rattle.som_model.specs.Owner.{entry_at, owner, owner_within}
 use Rattle.som_model.specs.Rules.{name_of}
 use Rattle.som_verify.specs.Places.{with_kernel}

@@ -1,12 +1,12 @@
 -- The classes of a base and those after them, and what the passes over them tell together.
-use Rattle.std.proofs.Common.{◌≡◌, ℕ, zero, suc, ◌+◌, ◌<◌, ◌≤◌, List, [], ◌∷◌, ◌++◌, length, map, flat_map, take, drop, Option, None, Result, refl, sym, ap, ◌∙◌, subst, arith, append_assoc}
+use Rattle.std.proofs.Common.{◌≡◌, ℕ, zero, suc, ◌+◌, ◌≤◌, List, [], ◌∷◌, ◌++◌, length, map, flat_map, take, drop, None, Result, refl, sym, ap, ◌∙◌, subst, arith, append_assoc}
 use Rattle.som_model.specs.Lists.{first}
 use Rattle.som_model.specs.Hierarchy.{Falls}
 use Rattle.som_model.specs.Class.{Class, class_in}
 use Rattle.som_model.specs.Classes.{hierarchy}
 use Rattle.som_model.specs.Conforming.{each_after}
 use Rattle.som_model.specs.Kernel.{kernel}
-use Rattle.som_model.specs.Rules.{Breach, name_of, s1, s2, s5, s9}
+use Rattle.som_model.specs.Rules.{Breach, s1, s2, s5, s9}
 use Rattle.som_model.specs.declared.key.Module.{Module}
 use Rattle.som_order.specs.Names.{texts}
 use Rattle.som_verify.specs.declared.types.Declared.{Declared}
@@ -18,7 +18,7 @@ use Rattle.som_verify.specs.Told.{Tells}
 use Rattle.som_verify.specs.Walk.{AreLists}
 use Rattle.som_verify.proofs.Before.{both_none}
 use Rattle.som_verify.proofs.ClassTable.{is_table}
-use Rattle.som_verify.proofs.DeclaredClasses.{are_declared, drop_map, known_number, long_map, take_map}
+use Rattle.som_verify.proofs.DeclaredClasses.{are_declared, drop_map, known_number, take_map}
 use Rattle.som_verify.proofs.Finding.{take_all}
 use Rattle.som_verify.proofs.KeyLists.{lists_of}
 use Rattle.som_verify.proofs.PlainMoves.{lower}

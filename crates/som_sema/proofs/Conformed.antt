@@ -1,13 +1,11 @@
 -- Texts that break no rule stand for a release that conforms.
-use Rattle.std.proofs.Common.{◌≡◌, ℕ, List, [], ◌∷◌, map, flat_map, None, Result, Ok, Err, refl, sym, ap, ◌∙◌, subst}
+use Rattle.std.proofs.Common.{◌≡◌, List, [], ◌∷◌, map, flat_map, None, Result, Ok, Err, refl, sym, ap, ◌∙◌, subst}
 use Rattle.std.specs.Prelude.{IfOk}
 use Rattle.som_model.specs.declared.key.Module.TheVariants as modules
 use Rattle.som_model.specs.declared.program.Release.{Release}
-use Rattle.som_model.specs.Lists.{first, or_else}
+use Rattle.som_model.specs.Lists.{first}
 use Rattle.som_model.specs.Class.{class_in}
-use Rattle.som_model.specs.Classes.{library_classes}
 use Rattle.som_model.specs.Conforming.{ReleaseOk}
-use Rattle.som_model.specs.Kernel.{kernel}
 use Rattle.som_idl.specs.declared.tree.IdlInterface.{IdlInterface}
 use Rattle.som_verify.specs.Faces.{faces_breach}
 use Rattle.som_verify.specs.Plainly.{FacesHold}

@@ -1,8 +1,7 @@
 -- From sketches to declarations.
-use Rattle.std.proofs.Common.{◌≡◌, ℕ, zero, suc, ◌+◌, ◌-◌, ◌<◌, ◌≤◌, inl, inr, slice_index_or, List, [], ◌∷◌, ◌++◌, length, map, take, drop, refl, sym, ap, ◌∙◌, subst, arith, append_assoc, length-append}
+use Rattle.std.proofs.Common.{◌≡◌, ℕ, suc, ◌+◌, ◌-◌, ◌<◌, ◌≤◌, inl, inr, slice_index_or, List, [], ◌∷◌, ◌++◌, length, map, take, drop, refl, sym, ap, ◌∙◌, subst, arith, append_assoc, length-append}
 use Rattle.som_model.specs.Class.{Class, bare, class_in}
 use Rattle.som_model.specs.Classes.{interface_classes}
-use Rattle.som_model.specs.Kernel.{kernel}
 use Rattle.som_model.specs.declared.key.Module.{Module}
 use Rattle.som_model.specs.declared.key.Module.TheVariants as modules
 use Rattle.som_model.specs.declared.class.ClassDecl.{ClassDecl}

@@ -2,7 +2,6 @@
 use Rattle.std.proofs.Common.{◌≡◌, ℕ, zero, suc, inl, inr, Bool, true, false, if◌then◌else◌, List, [], ◌∷◌, ◌++◌, length, map, flat_map, slice_get, Option, Some, None, is_some, option_map, refl, sym, ap, ◌∙◌, subst, true≢false}
 use Rattle.std.specs.Str.{bytes_eq}
 use Rattle.som_model.specs.declared.key.Module.{Module}
-use Rattle.som_model.specs.declared.key.ValueType.{ValueType}
 use Rattle.som_model.specs.declared.key.ValueType.TheVariants as types
 use Rattle.som_model.specs.declared.class.Sig.{Sig}
 use Rattle.som_model.specs.declared.class.Way.{Way}
@@ -14,7 +13,7 @@ use Rattle.som_model.specs.declared.class.Body.TheVariants as bodies
 use Rattle.som_model.specs.Lists.{Mem, find, option_list}
 use Rattle.som_model.specs.Class.{introduced, introduced_sig, entry_name}
 use Rattle.som_model.proofs.KeyLaws.{exact_bytes}
-use Rattle.som_plain.proofs.Members.{Apart, find_first, mem_left, mem_right, mem_split, not_true}
+use Rattle.som_plain.proofs.Members.{Apart, find_first, mem_left, mem_right, mem_split}
 use Rattle.som_read.specs.declared.tree.Word.{Word}
 use Rattle.som_read.specs.declared.tree.TypeName.{TypeName}
 use Rattle.som_idl.specs.declared.tree.IdlInterface.{IdlInterface}

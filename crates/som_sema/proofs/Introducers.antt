@@ -1,17 +1,14 @@
 -- The classes that introduce what others inherit, by places and by keys.
-use Rattle.std.proofs.Common.{◌≡◌, ℕ, ◌<◌, inl, inr, Bool, true, false, if◌then◌else◌, List, [], ◌∷◌, ◌++◌, length, map, slice_index_or, Option, Some, None, option_map, refl, sym, ap, ◌∙◌, arith}
+use Rattle.std.proofs.Common.{◌≡◌, ℕ, ◌<◌, inl, inr, Bool, true, false, if◌then◌else◌, List, [], ◌∷◌, length, map, slice_index_or, Option, Some, None, option_map, refl, sym, ap, ◌∙◌, arith}
 use Rattle.std.specs.Prelude.{unwrap_or}
 use Rattle.std.specs.Str.{bytes_eq}
 use Rattle.som_model.specs.Lists.{Mem, among, find, or_else}
-use Rattle.som_model.specs.Class.{Class, introduced}
-use Rattle.som_model.specs.Classes.{ancestors, class_at, hierarchy}
-use Rattle.som_model.specs.Ancestors.{anc}
+use Rattle.som_model.specs.Class.{Class}
 use Rattle.som_model.specs.Rules.{introduced_by}
-use Rattle.som_model.specs.declared.key.ClassKey.{ClassKey}
 use Rattle.som_verify.specs.Along.{introduced_at}
-use Rattle.som_verify.specs.Places.{class_of_place, key_at}
+use Rattle.som_verify.specs.Places.{key_at}
 use Rattle.som_verify.specs.Walk.{AreLists}
-use Rattle.som_sema.specs.Noted.{At, along, at_one, first_place}
+use Rattle.som_sema.specs.Noted.{along, at_one, first_place}
 use Rattle.som_sema.specs.Finished.{introducer}
 use Rattle.som_sema.proofs.Noting.{place_both}
 

@@ -1,5 +1,5 @@
 -- The bodies of a release that texts stand for.
-use Rattle.std.proofs.Common.{◌≡◌, ℕ, inl, inr, Bool, true, false, List, [], ◌∷◌, ◌++◌, length, map, flat_map, Option, Some, None, is_some, refl, sym, ap, ◌∙◌, subst}
+use Rattle.std.proofs.Common.{◌≡◌, ℕ, inl, inr, Bool, true, false, List, [], ◌∷◌, length, map, flat_map, Option, Some, None, is_some, refl, sym, ap, ◌∙◌, subst}
 use Rattle.som_model.specs.declared.key.ClassKey.{ClassKey}
 use Rattle.som_model.specs.declared.key.Module.{Module}
 use Rattle.som_model.specs.declared.key.Module.TheVariants as modules
@@ -14,7 +14,7 @@ use Rattle.som_model.specs.declared.class.Body.{Body}
 use Rattle.som_model.specs.declared.class.Body.TheVariants as bodies
 use Rattle.som_model.specs.declared.class.ClassDecl.{ClassDecl}
 use Rattle.som_model.specs.Lists.{Mem, find, first, option_list, or_else}
-use Rattle.som_model.specs.Class.{Class, class_in, entry_name, entry_of, introduced}
+use Rattle.som_model.specs.Class.{Class, class_in, entry_of, introduced}
 use Rattle.som_model.specs.Classes.{interface_classes, library_classes}
 use Rattle.som_model.specs.Conforming.{BlocksAreTyped, blocks_of, each_after}
 use Rattle.som_model.specs.Rules.{s1, s3, s5, s7}
@@ -33,7 +33,7 @@ use Rattle.som_sema.specs.Finished.{declare, entry_for, entry_or_moved, introduc
 use Rattle.som_sema.specs.Releases.{Access, accessor_body, beside, body_of, has_body, library_drawn, no_base, release_of_texts, text_s14, with_bodies}
 use Rattle.som_sema.specs.Sketch.{Drawn, drawn, introduces, sketch, sketches, variables}
 use Rattle.som_sema.specs.TextRules.{text_breach, text_s2_from, text_s4, text_s6, text_s11, text_s12}
-use Rattle.som_sema.proofs.Fitting.{Accessed, accessed, accessor_fits, as_many, each_fits}
+use Rattle.som_sema.proofs.Fitting.{accessed, accessor_fits, as_many, each_fits}
 use Rattle.som_sema.proofs.ReleaseLaws.{bodies_law}
 use Rattle.som_sema.proofs.TextBases.{demanded_text}
 use Rattle.som_sema.proofs.TextLaws.{map_same, names_law}

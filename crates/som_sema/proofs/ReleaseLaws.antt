@@ -1,5 +1,5 @@
 -- The rule S14 of texts and the limits, from lists to plain words and back.
-use Rattle.std.proofs.Common.{◌≡◌, ◌↔◌, ℕ, zero, suc, ◌<◌, ◌≤◌, slice_index_or, inl, inr, Bool, true, false, if◌then◌else◌, nat_le, List, [], ◌∷◌, ◌++◌, length, map, flat_map, None, is_some, refl, sym, ap, ◌∙◌, subst, arith, le-leb, leb-true}
+use Rattle.std.proofs.Common.{◌≡◌, ◌↔◌, ℕ, zero, suc, ◌<◌, ◌≤◌, slice_index_or, inl, inr, Bool, true, false, if◌then◌else◌, nat_le, List, [], ◌∷◌, ◌++◌, length, map, flat_map, None, is_some, refl, sym, subst, arith, le-leb, leb-true}
 use Rattle.std.specs.Prelude.{codes}
 use Rattle.som_model.specs.Lists.{Mem, first}
 use Rattle.som_model.specs.Class.{introduced}
@@ -22,7 +22,7 @@ use Rattle.som_sema.specs.declared.sketch.Drawing.{Drawing}
 use Rattle.som_sema.specs.PlainReleases.{BodiesStand, IsAccessor, LimitsKept, a_getter, a_setter}
 use Rattle.som_sema.specs.Releases.{Access, Passed, accessors_of, at_most, attribute_accessors, body_of, class_limits, entry_limits, export_accessors, has_body, limit_passed, text_s14}
 use Rattle.som_sema.specs.Sketch.{Drawn, drawings, getter, setter, sketches}
-use Rattle.som_sema.specs.TextRules.{text_breach, text_demand}
+use Rattle.som_sema.specs.TextRules.{text_breach}
 use Rattle.som_sema.proofs.Accessing.{body_named, named_body}
 use Rattle.som_sema.proofs.Fitting.{both_flat, made}
 use Rattle.som_sema.proofs.TextBases.{demanded_text}

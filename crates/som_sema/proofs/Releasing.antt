@@ -1,5 +1,5 @@
 -- From declarations to the answer.
-use Rattle.std.proofs.Common.{◌≡◌, ℕ, suc, ◌≤◌, inl, inr, List, [], ◌∷◌, length, map, flat_map, zip, Option, None, Result, Ok, Err, refl, sym, ap, ◌∙◌, subst, arith}
+use Rattle.std.proofs.Common.{◌≡◌, ◌≤◌, inl, inr, List, [], ◌∷◌, length, map, flat_map, zip, None, Result, Ok, Err, refl, sym, ap, ◌∙◌, subst, arith}
 use Rattle.std.proofs.lemmas.List.{length-map}
 use Rattle.std.specs.Borrow.{Bor}
 use Rattle.som_model.specs.Lists.{first, or_else}
@@ -14,7 +14,7 @@ use Rattle.som_sema.specs.declared.types.Refused.{Refused}
 use Rattle.som_sema.specs.declared.types.Refused.TheVariants as faults
 use Rattle.som_sema.specs.Building.{FacesTold, texts_breach}
 use Rattle.som_sema.specs.Released.{BodiesTold}
-use Rattle.som_sema.specs.Releases.{ReleaseTold, beside, library_breach, library_declarations, library_drawn, limit_passed, no_base, text_s14}
+use Rattle.som_sema.specs.Releases.{ReleaseTold, beside, library_declarations, library_drawn, limit_passed, no_base, text_s14}
 use Rattle.som_sema.specs.Sketch.{Drawn, sketches}
 use Rattle.som_sema.specs.Words.{lent}
 

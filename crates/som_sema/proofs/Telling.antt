@@ -1,5 +1,5 @@
 -- What rules tell one after the other.
-use Rattle.std.proofs.Common.{◌≡◌, Option, Some, None, Err, refl, sym, ap, ◌∙◌}
+use Rattle.std.proofs.Common.{◌≡◌, Option, None, Err, sym, ap, ◌∙◌}
 use Rattle.som_model.specs.Lists.{or_else}
 use Rattle.som_model.specs.Rules.{Breach}
 use Rattle.som_verify.specs.declared.types.VerifyFault.{VerifyFault}

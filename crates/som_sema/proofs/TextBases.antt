@@ -1,5 +1,5 @@
 -- Parents and metaclasses that texts name.
-use Rattle.std.proofs.Common.{◌≡◌, ℕ, zero, suc, ◌+◌, ◌<◌, inl, inr, Bool, true, false, if◌then◌else◌, List, [], ◌∷◌, ◌++◌, length, map, flat_map, take, drop, slice_index_or, Option, Some, None, is_some, option_map, Err, refl, sym, ap, ◌∙◌, subst, arith, append_assoc, length-append}
+use Rattle.std.proofs.Common.{◌≡◌, ℕ, zero, suc, ◌+◌, ◌<◌, inl, inr, Bool, true, false, List, [], ◌∷◌, ◌++◌, length, map, take, drop, slice_index_or, Option, None, is_some, option_map, Err, refl, sym, ap, ◌∙◌, subst, arith, append_assoc, length-append}
 use Rattle.som_model.specs.Lists.{Mem, every, first, option_list, or_else}
 use Rattle.som_model.specs.Class.{Class, class_in}
 use Rattle.som_model.specs.Classes.{class_at}
@@ -20,7 +20,7 @@ use Rattle.som_sema.specs.declared.sketch.Drawing.{Drawing}
 use Rattle.som_sema.specs.Home.{key_of}
 use Rattle.som_sema.specs.Items.{metaclass_names, or_object}
 use Rattle.som_sema.specs.Sketch.{Drawn, drawings, drawn, seen, sketch, sketches}
-use Rattle.som_sema.specs.TextRules.{base_stands, bases, text_breach, text_demand, text_s2, text_s2_from}
+use Rattle.som_sema.specs.TextRules.{base_stands, bases, text_demand, text_s2, text_s2_from}
 use Rattle.som_sema.specs.Walks.{AreDrawn}
 
 pub demanded_text : (n : ℕ) (d : Drawn) (member : List ℕ) (b : Bool) → first (text_demand n d member b) ≡ None → b ≡ true

@@ -1,5 +1,5 @@
 -- From lists of breaches to plain words and back.
-use Rattle.std.proofs.Common.{◌≡◌, ◌↔◌, ℕ, zero, suc, ◌+◌, inl, inr, ◌⊎◌, Bool, true, false, not, ◌&&◌, if◌then◌else◌, List, [], ◌∷◌, ◌++◌, map, flat_map, take, Some, None, is_some, slice_get, refl, sym, ap, ◌∙◌, subst, arith, true≢false}
+use Rattle.std.proofs.Common.{◌≡◌, ◌↔◌, ℕ, zero, suc, ◌+◌, inl, inr, ◌⊎◌, Bool, true, false, not, ◌&&◌, if◌then◌else◌, List, [], ◌∷◌, ◌++◌, map, flat_map, take, Some, None, slice_get, refl, sym, ap, ◌∙◌, subst, arith, true≢false}
 use Rattle.std.specs.Prelude.{codes}
 use Rattle.std.specs.Str.{bytes_eq}
 use Rattle.som_model.specs.declared.key.Module.{Module}
@@ -7,9 +7,8 @@ use Rattle.som_model.specs.Lists.{Mem, among, doubles, first, some}
 use Rattle.som_model.specs.Hierarchy.{Falls, Tells}
 use Rattle.som_model.specs.Ancestors.{Descends}
 use Rattle.som_model.specs.Class.{Class, introduced}
-use Rattle.som_model.specs.Classes.{class_at, hierarchy, is_a}
+use Rattle.som_model.specs.Classes.{hierarchy, is_a}
 use Rattle.som_model.specs.Kernel.{som_class}
-use Rattle.som_model.specs.Rules.{Breach}
 use Rattle.som_model.proofs.KeyLaws.{both, exact_bytes, exact_keys}
 use Rattle.som_model.proofs.NamedLaws.{hierarchy_same}
 use Rattle.som_plain.proofs.Laws.{among_mem, descends_test}

@@ -2,7 +2,6 @@
 use Rattle.std.specs.Prelude.{ℕ, Bool, true, false, if◌then◌else◌, List, [], ◌∷◌, map, flat_map, codes, Option, Some, None, unwrap_or}
 use Rattle.som_model.specs.Lists.{first_some}
 use Rattle.som_read.specs.declared.tree.Word.{Word}
-use Rattle.som_idl.specs.declared.tree.IdlInterface.{IdlInterface}
 use Rattle.som_idl.specs.declared.tree.Item.{Item}
 use Rattle.som_idl.specs.declared.tree.Item.TheVariants as items
 use Rattle.som_idl.specs.declared.tree.Modifier.{Modifier}

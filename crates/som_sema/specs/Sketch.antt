@@ -1,19 +1,16 @@
 -- What an interface declares: its face with the methods that it introduces in the order of declaration, and its variables.
-use Rattle.std.specs.Prelude.{ℕ, Bool, if◌then◌else◌, List, [], ◌∷◌, ◌++◌, map, flat_map, codes, Option, Some, None, option_map}
+use Rattle.std.specs.Prelude.{ℕ, Bool, if◌then◌else◌, List, [], ◌∷◌, ◌++◌, map, flat_map, codes, option_map}
 use Rattle.som_model.specs.declared.key.Module.{Module}
 use Rattle.som_model.specs.declared.key.ValueType.{ValueType}
 use Rattle.som_model.specs.declared.key.ValueType.TheVariants as types
-use Rattle.som_model.specs.declared.class.Sig.{Sig}
 use Rattle.som_model.specs.declared.class.Way.{Way}
 use Rattle.som_model.specs.declared.class.Way.TheVariants as ways
 use Rattle.som_model.specs.declared.class.Entry.{Entry}
 use Rattle.som_model.specs.declared.class.Entry.TheVariants as entries
 use Rattle.som_model.specs.declared.class.Variable.{Variable}
-use Rattle.som_model.specs.declared.class.ClassFace.{ClassFace}
 use Rattle.som_model.specs.declared.class.ClassDecl.{ClassDecl}
 use Rattle.som_model.specs.Lists.{among, first}
 use Rattle.som_read.specs.declared.tree.Word.{Word}
-use Rattle.som_read.specs.declared.tree.TypeName.{TypeName}
 use Rattle.som_idl.specs.declared.tree.IdlInterface.{IdlInterface}
 use Rattle.som_idl.specs.declared.tree.Param.{Param}
 use Rattle.som_idl.specs.declared.tree.Export.{Export}

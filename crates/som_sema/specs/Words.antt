@@ -1,5 +1,5 @@
 -- The interfaces of files, and the texts of words.
-use Rattle.std.specs.Prelude.{ℕ, List, [], ◌∷◌, map, flat_map}
+use Rattle.std.specs.Prelude.{ℕ, List, [], map, flat_map}
 use Rattle.std.specs.Str.{bytes_eq}
 use Rattle.std.specs.Borrow.{Bor}
 use Rattle.som_verify.specs.Walk.{adds}

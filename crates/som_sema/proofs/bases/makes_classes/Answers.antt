@@ -1,5 +1,5 @@
-use Rattle.std.proofs.Common.{length, ◌+◌, sym, ap, ◌∙◌, arith, subst, ◌≡◌, false}
-use Rattle.std.specs.Prelude.{Option, None}
+use Rattle.std.proofs.Common.{length, ◌+◌, sym, ap, ◌∙◌, arith, subst}
+use Rattle.std.specs.Prelude.{None}
 use Rattle.som_model.specs.Kernel.{som_class}
 use Rattle.som_model.specs.Classes.{is_a}
 use Rattle.som_model.specs.declared.key.ClassKey.{ClassKey}

@@ -1,4 +1,4 @@
-use Rattle.std.proofs.Common.{drop, flat_map}
+use Rattle.std.proofs.Common.{flat_map}
 use Rattle.std.proofs.lemmas.Result.{err_from_is_err_and}
 use Rattle.som_model.specs.Lists.{first}
 use Rattle.som_sema.specs.Sketch.{drawings, seen}

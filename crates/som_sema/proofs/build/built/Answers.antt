@@ -1,6 +1,6 @@
-use Rattle.std.proofs.Common.{◌≡◌, List, None, ap, map, length, ◌+◌, arith, sym, ◌∙◌, subst, refl}
+use Rattle.std.proofs.Common.{List, ap, map, arith, sym, ◌∙◌, refl}
 use Rattle.std.proofs.lemmas.Result.{err_from_is_err_and}
-use Rattle.som_model.specs.Class.{Class, class_in}
+use Rattle.som_model.specs.Class.{class_in}
 use Rattle.som_model.specs.declared.key.Module.TheVariants as modules
 use Rattle.som_verify.specs.Faces.{faces_breach}
 use Rattle.som_verify.specs.Modules.{classes_of}

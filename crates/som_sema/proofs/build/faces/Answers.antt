@@ -1,4 +1,4 @@
-use Rattle.std.proofs.Common.{◌≡◌, List, ap, map, sym, ◌∙◌, subst, refl}
+use Rattle.std.proofs.Common.{◌≡◌, List, ap, map, ◌∙◌, subst}
 use Rattle.std.specs.Prelude.{IfOk}
 use Rattle.som_model.specs.Class.{class_in}
 use Rattle.som_model.specs.declared.class.ClassDecl.{ClassDecl}

@@ -1,4 +1,4 @@
-use Rattle.std.proofs.Common.{◌≡◌, List, ap, sym, ◌∙◌, subst, refl}
+use Rattle.std.proofs.Common.{List, ap, sym, ◌∙◌, subst, refl}
 use Rattle.som_model.specs.Class.{Class}
 use Rattle.som_verify.specs.Faces.{faces_breach}
 use Rattle.som_verify.specs.Modules.{classes_of}

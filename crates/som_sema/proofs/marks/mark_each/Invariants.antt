@@ -1,5 +1,5 @@
 use Rattle.std.proofs.Common.{◌≡◌, ◌++◌, drop, map}
-use Rattle.som_sema.specs.Items.{Given, given_by}
+use Rattle.som_sema.specs.Items.{given_by}
 use Rattle.som_idl.specs.declared.tree.Modifier.{Modifier}
 use Rattle.som_sema.proofs.marks.mark_each.Given as goal
 

@@ -1,4 +1,4 @@
-use Rattle.std.proofs.Common.{Err, ap, ◌∙◌}
+use Rattle.std.proofs.Common.{ap, ◌∙◌}
 use Rattle.som_model.specs.declared.program.Interface.{Interface}
 use Rattle.som_sema.specs.Releases.{ReleaseTold}
 use Rattle.som_sema.specs.Sketch.{drawings}

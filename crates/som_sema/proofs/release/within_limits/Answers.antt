@@ -1,4 +1,4 @@
-use Rattle.std.proofs.Common.{◌≡◌, ap, sym, ◌∙◌, None}
+use Rattle.std.proofs.Common.{ap, sym, ◌∙◌}
 use Rattle.som_sema.specs.Releases.{limit_passed}
 use Rattle.som_sema.specs.Sketch.{drawings, sketches}
 use Rattle.som_sema.proofs.ReleaseLaws.{few_at}
