@@ -3,7 +3,6 @@ use Rattle.std.proofs.Common.{◌≡◌, ℕ, inl, inr, List, [], ◌∷◌, ◌
 use Rattle.std.proofs.lemmas.List.{append-nil}
 use Rattle.som_model.specs.declared.program.Release.{Release}
 use Rattle.som_model.specs.Bytes.{Files}
-use Rattle.som_model.specs.Lists.{Mem}
 use Rattle.som_model.specs.Rules.{Breach}
 use Rattle.som_model.specs.Compatible.{Incompatible}
 use Rattle.som_model.specs.Conforming.{ReleaseOk, release_breach}
@@ -15,10 +14,10 @@ use Rattle.som_cmd.specs.declared.stop.Refusal.{Refusal}
 use Rattle.som_cmd.specs.declared.stop.Stop.{Stop}
 use Rattle.som_cmd.specs.declared.stop.Stop.TheVariants as stops
 use Rattle.som_cmd.specs.Words.{Check}
-use Rattle.som_cmd.specs.Endings.{Ending, refusing, file_of}
+use Rattle.som_cmd.specs.Endings.{Ending, refusing}
 use Rattle.som_cmd.specs.ShowSteps.{read_or, kept_or, release_in, rules_kept}
-use Rattle.som_cmd.specs.CheckAnswer.{IsCheckAnswer, image_absent, image_unread, image_broken, refuses, accepts, accepted_line, not_kept, images_in, releases_in, all_rules_kept, AllConform, first_not_kept, accepting}
-use Rattle.som_cmd.specs.Answer.{IsAnswer, checks}
+use Rattle.som_cmd.specs.CheckAnswer.{IsCheckAnswer, image_absent, image_unread, image_broken, refuses, accepts, images_in, releases_in, all_rules_kept, AllConform, first_not_kept}
+use Rattle.som_cmd.specs.Answer.{checks}
 use Rattle.som_cmd.specs.CheckSteps.{accepted_or, line_checked}
 use Rattle.som_cmd.specs.Steps.{Stops, Follows, FollowsTold, Answers, AnswersTold}
 use Rattle.som_cmd.proofs.ShowLaws.{read_conforms, stops_first}

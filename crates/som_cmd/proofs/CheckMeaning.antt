@@ -1,9 +1,9 @@
 -- Which lists of releases are accepted, and what is answered of their images.
-use Rattle.std.proofs.Common.{◌≡◌, ℕ, ◌+◌, ◌≤◌, inl, inr, List, [], ◌∷◌, ◌++◌, map, length, Option, Some, None, Result, Ok, Err, refl, sym, ap, subst, ◌∙◌, arith}
+use Rattle.std.proofs.Common.{◌≡◌, ℕ, ◌+◌, ◌≤◌, inl, inr, List, [], ◌∷◌, ◌++◌, map, length, Option, Some, None, Result, Ok, refl, sym, ap, subst, ◌∙◌, arith}
 use Rattle.std.specs.Option.{ok_or}
 use Rattle.som_model.specs.declared.program.Release.{Release}
 use Rattle.som_model.specs.Bytes.{Files}
-use Rattle.som_model.specs.Lists.{Mem, first}
+use Rattle.som_model.specs.Lists.{first}
 use Rattle.som_model.specs.Class.{interface_of}
 use Rattle.som_model.specs.Compatible.{Incompatible, Compatible, breaks, list_breaks, EachNext, Accepted}
 use Rattle.som_model.specs.Conforming.{ReleaseOk}

@@ -1,5 +1,5 @@
 -- Interfaces of releases that are compared one after the other.
-use Rattle.std.proofs.Common.{◌≡◌, ℕ, zero, suc, ◌+◌, ◌<◌, ◌≤◌, ◌⊎◌, inl, inr, List, [], ◌∷◌, ◌++◌, map, length, get_or, slice_index_or, Option, Some, None, Result, Ok, Err, refl, sym, ap, subst, ◌∙◌, arith}
+use Rattle.std.proofs.Common.{◌≡◌, ℕ, ◌+◌, ◌<◌, ◌⊎◌, inl, inr, List, [], ◌∷◌, ◌++◌, map, length, get_or, Option, Some, None, Ok, Err, sym, ap, subst, ◌∙◌, arith}
 use Rattle.std.proofs.lemmas.List.{length-map}
 use Rattle.std.specs.Prelude.{All}
 use Rattle.std.proofs.lemmas.List.Elements.{All-head, All-tail}
@@ -15,7 +15,6 @@ use Rattle.som_libimage.specs.Limits.{ClassWithin, IsWithinLimits}
 use Rattle.som_compat.specs.Conditions.{Conforms, IsCounted}
 use Rattle.som_compat.proofs.Released.{interface_conforms}
 use Rattle.som_cmd.specs.declared.stop.Refusal.{Refusal}
-use Rattle.som_cmd.specs.declared.stop.Stop.{Stop}
 use Rattle.som_cmd.specs.declared.stop.Stop.TheVariants as stops
 use Rattle.som_cmd.specs.CheckAnswer.{accepted_line, not_kept, first_not_kept}
 use Rattle.som_cmd.specs.CheckSteps.{accepted_or}

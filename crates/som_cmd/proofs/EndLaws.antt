@@ -12,7 +12,7 @@ use Rattle.som_libimage.proofs.Decoded.{library_again}
 use Rattle.som_cmd.specs.declared.output.Output.{Output}
 use Rattle.som_cmd.specs.declared.stop.Stop.{Stop}
 use Rattle.som_cmd.specs.declared.stop.Stop.TheVariants as stops
-use Rattle.som_cmd.specs.Words.{Asked, Check, Bad}
+use Rattle.som_cmd.specs.Words.{Asked, Bad}
 use Rattle.som_cmd.specs.CheckAnswer.{IsCheckAnswer, not_kept, first_not_kept, accepting}
 use Rattle.som_cmd.specs.Answer.{Ending, IsAnswer, bad_words, runs, shows, checks, ran, showing, refusing, bad_line}
 use Rattle.som_cmd.specs.Cause.{FailsOn, HasCause}

@@ -1,5 +1,5 @@
 -- Reading never comes to want of memory.
-use Rattle.std.proofs.Common.{◌≡◌, ℕ, zero, suc, ◌+◌, ◌==◌, ◌&&◌, ◌||◌, nat_lt, nat_le, nat_eq, Bool, true, false, if◌then◌else◌, List, [], ◌∷◌, Option, length, slice_index, Result, Ok, Err, subst}
+use Rattle.std.proofs.Common.{◌≡◌, ℕ, zero, suc, ◌+◌, ◌==◌, ◌&&◌, ◌||◌, nat_lt, nat_le, nat_eq, Bool, true, false, if◌then◌else◌, List, [], ◌∷◌, length, slice_index, Result, Ok, Err, subst}
 use Rattle.std.specs.Prelude.{codes}
 use Rattle.std.specs.List.{starts_with}
 use Rattle.std.specs.Int.{Width, w8, w16, w32, byte_len}

@@ -17,7 +17,7 @@ use Rattle.som_io.specs.Outside.{Rose, ShowsAll, ShowsFront}
 use Rattle.som_first.specs.FirstImages.{IsFirstLibrary, IsFirstClient}
 use Rattle.som_cmd.specs.RunText.{run_text, run_status, no_trace}
 use Rattle.som_cmd.specs.Words.{Asked, Run, Show, Check}
-use Rattle.som_cmd.specs.CheckAnswer.{accepted_line, not_kept, first_not_kept}
+use Rattle.som_cmd.specs.CheckAnswer.{accepted_line, not_kept}
 use Rattle.som_cmd.specs.Answer.{Ending, IsAnswer}
 use Rattle.som_cmd.specs.Cause.{FailsOn}
 

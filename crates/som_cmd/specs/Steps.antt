@@ -1,5 +1,5 @@
 -- What the steps of a command answer.
-use Rattle.std.specs.Prelude.{◌≡◌, ℕ, List, Option, Some, None, Result, Ok, Err}
+use Rattle.std.specs.Prelude.{◌≡◌, Option, Some, None, Result, Ok, Err}
 use Rattle.std.specs.List.{concat}
 use Rattle.som_model.specs.Bytes.{Files}
 use Rattle.som_cmd.specs.declared.output.Output.{Output}
