@@ -1,5 +1,5 @@
 -- The interface of a release that conforms may be compared.
-use Rattle.std.proofs.Common.{◌≡◌, ℕ, ◌≤◌, Bool, not, ◌&&◌, if◌then◌else◌, List, [], ◌∷◌, ◌++◌, length, map, flat_map, Option, None, is_some, refl, sym, ap, ◌∙◌, subst}
+use Rattle.std.proofs.Common.{◌≡◌, ℕ, ◌≤◌, Bool, not, ◌&&◌, List, [], ◌∷◌, ◌++◌, length, map, flat_map, None, refl, sym, ap, ◌∙◌, subst}
 use Rattle.std.proofs.Math.Path.{fun_ext}
 use Rattle.std.specs.Prelude.{All}
 use Rattle.std.specs.Str.{bytes_eq}
@@ -12,9 +12,9 @@ use Rattle.som_model.specs.declared.class.Entry.{Entry}
 use Rattle.som_model.specs.declared.class.Entry.TheVariants as entries
 use Rattle.som_model.specs.declared.class.ClassDecl.{ClassDecl}
 use Rattle.som_model.specs.declared.program.Release.{Release}
-use Rattle.som_model.specs.Lists.{Mem, among, doubles, every, first, option_list, or_else}
+use Rattle.som_model.specs.Lists.{among, doubles, every, first, option_list, or_else}
 use Rattle.som_model.specs.Class.{Class, bare, class_in, interface_of}
-use Rattle.som_model.specs.Classes.{ancestors, class_at, interface_classes, is_a, library_classes}
+use Rattle.som_model.specs.Classes.{ancestors, is_a, library_classes}
 use Rattle.som_model.specs.Conforming.{ReleaseOk, each_after, first_of_members, first_of_names, release_breach}
 use Rattle.som_model.specs.Kernel.{kernel, som_class}
 use Rattle.som_model.specs.Keys.{same_key}

@@ -1,5 +1,5 @@
 -- The tokens of a text are within their limits, and so is what the grammar derives of them.
-use Rattle.std.proofs.Common.{◌≡◌, ℕ, suc, ◌+◌, ◌≤◌, Bool, true, false, cond, List, [], ◌∷◌, ◌++◌, length, Option, Some, None, IfSome, refl, sym, ◌∙◌, ap, subst, arith, add-one, zero-add}
+use Rattle.std.proofs.Common.{◌≡◌, ℕ, suc, ◌+◌, ◌≤◌, Bool, true, false, cond, List, [], ◌∷◌, ◌++◌, length, Option, Some, IfSome, refl, sym, ap, subst, arith, zero-add}
 use Rattle.std.specs.Prelude.{⊤, All}
 use Rattle.std.specs.List.{slice_get}
 use Rattle.std.specs.Option.{option_map_or}
@@ -12,7 +12,6 @@ use Rattle.som_lex.specs.Spans.{IsSpelled, bytes_of}
 use Rattle.som_lex.specs.Spelling.{FitsLimit}
 use Rattle.som_read.specs.Languages.{Lang, Listed, Repeated, Kept, the_first, the_next, nothing_yet, one_kept, one_left_out, it_is_kept}
 use Rattle.som_read.specs.Seen.{seen, seen_as, seen_from, text_at, token_of, is_left_out}
-use Rattle.som_read.specs.declared.token.Key.TheVariants as key
 use Rattle.som_read.specs.declared.token.Token.{Token}
 use Rattle.som_read.specs.declared.token.Token.TheVariants as token
 use Rattle.som_read.specs.declared.tree.TypeName.{TypeName}
