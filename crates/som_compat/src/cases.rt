@@ -56,7 +56,7 @@ const CLASSES: [Pair; 8] = [
     ),
 ];
 
-const VERSIONS: [Pair; 6] = [
+const VERSIONS: [Pair; 7] = [
     (
         "a lower minor version",
         "class A 1 2, is SOMObject",
@@ -82,6 +82,12 @@ const VERSIONS: [Pair; 6] = [
         "K2 A - 0",
     ),
     (
+        "at the first class",
+        "class A 1 1, is SOMObject; class B 1 1, is SOMObject; class C 1 1, is SOMObject",
+        "class A 1 0, is SOMObject; class B 1 1, is SOMObject; class C 1 1, is SOMObject",
+        "K2 A - 0",
+    ),
+    (
         "in the middle",
         "class A 1 1, is SOMObject; class B 1 1, is SOMObject; class C 1 1, is SOMObject",
         "class A 1 1, is SOMObject; class B 1 0, is SOMObject; class C 1 1, is SOMObject",
@@ -95,7 +101,7 @@ const VERSIONS: [Pair; 6] = [
     ),
 ];
 
-const ANCESTORS: [Pair; 8] = [
+const ANCESTORS: [Pair; 10] = [
     (
         "a parent that is lost",
         "class A, is SOMObject; class B, is A",
@@ -139,6 +145,18 @@ const ANCESTORS: [Pair; 8] = [
         "K3 A SOMClass 1",
     ),
     (
+        "the first of two parents",
+        "class A, is SOMObject; class B, is SOMObject; class C, is A, is B",
+        "class A, is SOMObject; class B, is SOMObject; class C, is B",
+        "K3 C A 1",
+    ),
+    (
+        "at the first class",
+        "class A, is SOMClass; class B, is A; class C, is B",
+        "class A, is SOMObject; class B, is A; class C, is B",
+        "K3 A SOMClass 1",
+    ),
+    (
         "a class above the parent that is lost is told of the parent",
         "class A, is SOMObject; class B, is A; class C, is B",
         "class A, is SOMObject; class B, is SOMObject; class C, is B",
@@ -146,7 +164,7 @@ const ANCESTORS: [Pair; 8] = [
     ),
 ];
 
-const ORDERS: [Pair; 7] = [
+const ORDERS: [Pair; 8] = [
     (
         "two methods exchanged",
         "class Bell, is SOMObject, new ring void, new stop void",
@@ -178,6 +196,12 @@ const ORDERS: [Pair; 7] = [
         "K4 Bell ring 0",
     ),
     (
+        "at the first class and place",
+        THREE,
+        "class A, is SOMObject, new b void, new a void; class B, is A, new c void; class C, is B, new e void",
+        "K4 A a 0",
+    ),
+    (
         "in the middle",
         THREE,
         "class A, is SOMObject, new a void, new b void; class B, is A, new c void; class C, is B, new e void, new f void",
@@ -191,7 +215,7 @@ const ORDERS: [Pair; 7] = [
     ),
 ];
 
-const SIGNATURES: [Pair; 11] = [
+const SIGNATURES: [Pair; 13] = [
     (
         "another signature of a moved entry",
         ZOO1,
@@ -247,6 +271,18 @@ const SIGNATURES: [Pair; 11] = [
         "none",
     ),
     (
+        "the middle one of three entries",
+        "class A, is SOMObject, new a void, new b void, new c void",
+        "class A, is SOMObject, new a void, new b string, new c long",
+        "K5 A b 1",
+    ),
+    (
+        "at the first class and place",
+        THREE,
+        "class A, is SOMObject, new a long, new b long; class B, is A, new c long, new d void; class C, is B, new e void, new f void",
+        "K5 A a 0",
+    ),
+    (
         "in the middle",
         THREE,
         "class A, is SOMObject, new a void, new b void; class B, is A, new c long, new d long; class C, is B, new e void, new f void",
@@ -260,7 +296,7 @@ const SIGNATURES: [Pair; 11] = [
     ),
 ];
 
-const METACLASSES: [Pair; 8] = [
+const METACLASSES: [Pair; 10] = [
     ("a metaclass more", ZOO1, ZOO5, "none"),
     (
         "a metaclass that is gone",
@@ -297,6 +333,18 @@ const METACLASSES: [Pair; 8] = [
         "class Dog, is SOMObject, made by SOMClass",
         "class Dog, is SOMObject",
         "none",
+    ),
+    (
+        "at the first class",
+        "class Dog, is SOMObject, made by SOMMBeforeAfter; class Cat, is SOMObject, made by SOMMBeforeAfter",
+        "class Dog, is SOMObject; class Cat, is SOMObject",
+        "K6 Dog SOMMBeforeAfter 0",
+    ),
+    (
+        "in the middle",
+        "class Log2, is SOMClass; class Cat, is SOMObject, made by Log2; class Dog, is SOMObject, made by Log2",
+        "class Log2, is SOMClass; class Cat, is SOMObject; class Dog, is SOMObject",
+        "K6 Cat Log2 0",
     ),
     (
         "at the last class",
