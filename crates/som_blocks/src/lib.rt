@@ -16,6 +16,8 @@ mod pair;
 mod part;
 mod stmt;
 mod syntax;
+#[cfg(test)]
+mod tests;
 
 pub use block::read_block;
 pub use laws::no_spelling_begins_another;
