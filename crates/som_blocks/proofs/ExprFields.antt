@@ -1,5 +1,5 @@
 -- Expressions are fields.
-use Rattle.std.proofs.Common.{◌≡◌, ℕ, ℤ, zero, suc, ◌+◌, ◌<◌, ◌≤◌, ◌^◌, Bool, true, false, cond, eqb, ltb, List, [], ◌∷◌, ◌++◌, length, map, Result, Ok, Err, refl, sym, ap, subst, ◌∙◌, arith}
+use Rattle.std.proofs.Common.{◌≡◌, ℕ, ℤ, zero, suc, ◌<◌, ◌≤◌, ◌^◌, Bool, true, false, cond, eqb, ltb, List, [], ◌∷◌, ◌++◌, length, map, Result, Ok, Err, refl, sym, ap, subst, ◌∙◌, arith}
 use Rattle.std.specs.Prelude.{FitsSigned, IsTrue}
 use Rattle.std.specs.List.{flat_map}
 use Rattle.std.specs.Int.{w8, w16, w32, cast_signed, cast_unsigned}
@@ -20,7 +20,7 @@ use Rattle.som_wire.specs.declared.kind.WireType.{WireType}
 use Rattle.som_wire.specs.declared.method.WireMethod.{WireMethod}
 use Rattle.som_wire.specs.declared.method.Ranges.{Ranges}
 use Rattle.som_wire.specs.Fields.{Stands, done}
-use Rattle.som_wire.specs.Spelling.{number, text, FitsText, counted, FitsCounted, kind, FitsKind, method, FitsMethod, AreShort}
+use Rattle.som_wire.specs.Spelling.{number, text, FitsText, counted, kind, FitsKind, method, FitsMethod, AreShort}
 use Rattle.som_wire.specs.Reading.{number_at, text_at, below_at, kind_at, method_at}
 use Rattle.som_wire.proofs.Parts.{IsField, guard_yes, same_read, came, took}
 use Rattle.som_wire.proofs.NumberFields.{byte_field, short_field, long_field, below_field, text_field}
@@ -34,7 +34,7 @@ use Rattle.som_blocks.specs.declared.syntax.WireExpr.TheOpen.{WireExpr-F}
 use Rattle.som_blocks.specs.Making.{Reads, of_one, of_two, of_three, of_four}
 use Rattle.som_blocks.specs.Spelling.{truth, host, args, expr_step, expr}
 use Rattle.som_blocks.specs.Fitting.{FitsArgs, FitsExprParts, FitsExpr, calls, FitsCall}
-use Rattle.som_blocks.specs.Reading.{signed_at, operator_at, truth_at, host_after, host_at, too_deep, args_at, parent_call_after, call_after, pair_after, operation_after, expr_after, is_call_tag, is_expr_tag, expr_at, call_at}
+use Rattle.som_blocks.specs.Reading.{signed_at, operator_at, truth_at, host_after, host_at, too_deep, args_at, call_after, expr_after, is_call_tag, is_expr_tag, expr_at, call_at}
 use Rattle.som_blocks.proofs.Made.{IsMade, made_none, made_one, made_two, made_three, made_four, fits_alike, IsCase, a_case, pick}
 
 -- ---- operators, flags and numbers with a sign

@@ -1,7 +1,6 @@
 -- Reading where a level is left.
-use Rattle.std.proofs.Common.{◌≡◌, ℕ, zero, suc, ◌-◌, Bool, true, false, nat_eq, List, Result, Ok, refl, sym, ap, subst, arith}
+use Rattle.std.proofs.Common.{◌≡◌, ℕ, zero, suc, ◌-◌, List, Result, Ok, refl, subst, arith}
 use Rattle.std.specs.Int.{w8}
-use Rattle.som_model.specs.Steps.{◌>>=◌}
 use Rattle.som_wire.specs.declared.fault.ImageFault.{ImageFault}
 use Rattle.som_wire.specs.declared.read.Read.{Read}
 use Rattle.som_wire.specs.declared.method.Ranges.{Ranges}

@@ -1,10 +1,9 @@
 -- What the part of a class holds are fields.
-use Rattle.std.proofs.Common.{◌≡◌, ℕ, ◌+◌, ◌<◌, ◌≤◌, ◌^◌, eqb, List, ◌∷◌, ◌++◌, length, Result, Ok, refl, arith}
+use Rattle.std.proofs.Common.{◌≡◌, ℕ, ◌<◌, ◌≤◌, ◌^◌, eqb, List, ◌++◌, length, Result, Ok, refl, arith}
 use Rattle.std.specs.Prelude.{false, All}
 use Rattle.std.specs.List.{flat_map}
 use Rattle.std.specs.Int.{w8, w16}
 use Rattle.som_model.specs.Bytes.{AreBytes}
-use Rattle.som_model.specs.Steps.{◌>>=◌}
 use Rattle.som_model.specs.declared.limits.TheConstants.{MAX_VARIABLES, MAX_OVERRIDES}
 use Rattle.som_wire.specs.declared.fault.ImageFault.{ImageFault}
 use Rattle.som_wire.specs.declared.read.Read.{Read}
@@ -24,8 +23,7 @@ use Rattle.som_blocks.specs.declared.syntax.WireVariable.{WireVariable}
 use Rattle.som_blocks.specs.declared.syntax.WireBody.{WireBody}
 use Rattle.som_blocks.specs.declared.syntax.WireBody.TheVariants as bodies
 use Rattle.som_blocks.specs.declared.syntax.WireOverride.{WireOverride}
-use Rattle.som_blocks.specs.declared.syntax.WirePart.{WirePart}
-use Rattle.som_blocks.specs.Making.{Reads, of_one, of_two, of_three}
+use Rattle.som_blocks.specs.Making.{Reads, of_one}
 use Rattle.som_blocks.specs.Spelling.{block, variable, body, overridden, part}
 use Rattle.som_blocks.specs.Fitting.{levels_left, FitsBlock, FitsVariable, FitsBody, FitsOverride, FitsPart}
 use Rattle.som_blocks.specs.Reading.{block_at, variable_at, body_after, body_at, override_at, variables_at, bodies_at, overrides_at, part_at}

@@ -1,5 +1,5 @@
 -- Statements and blocks are fields.
-use Rattle.std.proofs.Common.{◌≡◌, ℕ, zero, suc, ◌+◌, ◌<◌, ◌≤◌, ◌^◌, true, false, eqb, List, [], ◌∷◌, ◌++◌, length, map, Result, Ok, refl, sym, ap, subst, ◌∙◌, arith}
+use Rattle.std.proofs.Common.{◌≡◌, ℕ, zero, suc, ◌+◌, ◌<◌, ◌≤◌, ◌^◌, false, eqb, List, [], ◌∷◌, ◌++◌, length, map, Result, Ok, refl, sym, ap, subst, ◌∙◌, arith}
 use Rattle.std.specs.Prelude.{All}
 use Rattle.std.specs.List.{flat_map}
 use Rattle.std.specs.Int.{w8, w16, w32}
@@ -26,7 +26,7 @@ use Rattle.som_blocks.specs.declared.syntax.WireBlock.{WireBlock, fold-roll-Wire
 use Rattle.som_blocks.specs.Making.{Reads, of_one, of_two, of_three}
 use Rattle.som_blocks.specs.Spelling.{expr, block_step, stmt_step, stmt, block}
 use Rattle.som_blocks.specs.Fitting.{FitsExpr, FitsCall, FitsStmtParts, FitsStatements, FitsStmt, FitsBlock}
-use Rattle.som_blocks.specs.Reading.{expr_at, call_at, statements_at, flow_after, stmt_after, is_stmt_tag, stmt_at, block_at}
+use Rattle.som_blocks.specs.Reading.{expr_at, call_at, statements_at, stmt_after, is_stmt_tag, stmt_at, block_at}
 use Rattle.som_blocks.proofs.Made.{IsMade, made_none, made_one, made_two, made_three, IsCase, a_case, pick}
 use Rattle.som_blocks.proofs.ExprFields.{flat_of, none_deep, expr_field, call_field}
 

@@ -1,5 +1,5 @@
 -- How expressions, statements, blocks and parts are read at a place, where so many levels are left: each field in order, and the first fault.
-use Rattle.std.specs.Prelude.{ℕ, ℤ, zero, suc, ◌+◌, ◌==◌, nat_lt, nat_le, ◌&&◌, Bool, true, false, if◌then◌else◌, List, [], ◌∷◌, Result, Ok, Err}
+use Rattle.std.specs.Prelude.{ℕ, ℤ, zero, suc, ◌==◌, nat_lt, nat_le, ◌&&◌, Bool, true, false, if◌then◌else◌, List, Result, Ok, Err}
 use Rattle.std.specs.Int.{w8, w16, w32, cast_signed}
 use Rattle.som_model.specs.declared.limits.TheConstants.{MAX_PARAMETERS, MAX_VARIABLES, MAX_OVERRIDES}
 use Rattle.som_model.specs.declared.syntax.HostCode.{HostCode}
