@@ -14,3 +14,5 @@ pub mod Fronts
 pub mod Declaring
 pub mod Ending
 pub mod Listing
+pub mod FacesOnly
+pub mod Released

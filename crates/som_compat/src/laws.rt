@@ -1,14 +1,18 @@
-ghost use Rattle.som_compat.specs.Conditions.{Conforms};
+ghost use Rattle.som_compat.specs.Conditions.{Conforms, IsCounted};
 ghost use Rattle.som_compat.specs.Metaclasses.{Declares, IsDeclared};
 ghost use Rattle.som_compat.specs.Plainly.{Keeps};
 ghost use Rattle.som_model.specs.Ancestors.{Descends};
+ghost use Rattle.som_model.specs.Class.{interface_of};
 ghost use Rattle.som_model.specs.Classes.{hierarchy};
 ghost use Rattle.som_model.specs.Compatible.{Compatible, release_of};
+ghost use Rattle.som_model.specs.Conforming.{release_breach};
 ghost use Rattle.som_model.specs.Kernel.{som_class};
 ghost use Rattle.som_model.specs.Metaclass.{meta};
+ghost use Rattle.som_model.specs.declared.class.ClassDecl.{ClassDecl};
 ghost use Rattle.som_model.specs.declared.key.ClassKey.{ClassKey};
 ghost use Rattle.som_model.specs.declared.program.Interface.{Interface};
-ghost use Rattle.std.specs.Prelude.{◌↔◌, ◌⊎◌};
+ghost use Rattle.som_model.specs.declared.program.Release.{Release};
+ghost use Rattle.std.specs.Prelude.{◌≡◌, ◌≤◌, ◌↔◌, ◌⊎◌, All, None, length};
 
 /// Nothing breaks a rule exactly where each rule holds of every class and all of its members.
 pub fn compatible_law()
@@ -29,4 +33,10 @@ pub fn metaclass_law()
     ensures { (i : Interface) → Conforms i → (x n : ClassKey) → IsDeclared n →
         Descends (hierarchy (release_of i)) (meta (release_of i) x) n ↔
         (Descends (hierarchy (release_of i)) som_class n ⊎ Declares (release_of i) x n) }
+{}
+
+/// The interface of a release that breaks no rule, and is within the counts, may be compared.
+pub fn release_law()
+    ensures { (r : Release) → release_breach r ≡ None → length r.classes ≤ 4096 →
+        All (λ (d : ClassDecl). IsCounted d.face) r.classes → Conforms (interface_of r) }
 {}

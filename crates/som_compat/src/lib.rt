@@ -22,6 +22,6 @@ mod view;
 
 pub use breach::Breach;
 pub use conforming::conforms;
-pub use laws::{compatible_along_law, compatible_law, metaclass_law};
+pub use laws::{compatible_along_law, compatible_law, metaclass_law, release_law};
 pub use list::check_list;
 pub use pair::compatible;

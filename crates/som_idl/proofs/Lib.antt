@@ -5,3 +5,4 @@ pub mod NameFound
 pub mod ItemFound
 pub mod FileFound
 pub mod Theorem
+pub mod WithinLimits

@@ -3,10 +3,11 @@
 ghost use Rattle.som_idl.specs.Answer.{IsAnswer, is_refused as is_refused_of};
 ghost use Rattle.som_lex.specs.Spans.{IsSpelled};
 ghost use Rattle.som_idl.specs.Reading as spec;
+ghost use Rattle.som_idl.specs.Within.{FileWithin};
 ghost use Rattle.som_read.specs.Seen.{places_from, seen_from, text_at};
 ghost use Rattle.som_read.specs.Tokens.{head};
 ghost use Rattle.som_read.specs.declared.cursor.Stop.TheVariants as stops;
-ghost use Rattle.std.specs.Prelude.{◌≡◌, ◌≢◌, All};
+ghost use Rattle.std.specs.Prelude.{◌≡◌, ◌≢◌, All, IfOk};
 
 use crate::file::file;
 use crate::{IdlFile, SyntaxFault};
@@ -43,10 +44,12 @@ fn refuse(tokens: &Tokens, seen: &Seen, left: &Cursor<'_>, stop: Stop) -> Syntax
     }
 }
 
-/// The tree of an interface file, or the place of the first token that no text goes on with. The tokens are those of a text.
+/// The tree of an interface file, or the place of the first token that no text goes on with. The tokens are those of a text, and
+/// so names and version numbers of the tree are within their limits.
 pub fn parse_idl(alloc: Global, tokens: &Tokens) -> Result<IdlFile, SyntaxFault>
     requires { All (IsSpelled tokens.now.source) tokens.now.list }
-    ensures { IsAnswer tokens.now result }
+    ensures answer { IsAnswer tokens.now result }
+    ensures within { IfOk result FileWithin }
 {
     let Ok(seen) = see(alloc, tokens) else {
         return Err(SyntaxFault::NoMemory);

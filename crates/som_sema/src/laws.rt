@@ -1,12 +1,18 @@
+ghost use Rattle.som_idl.specs.declared.tree.IdlInterface.{IdlInterface};
 ghost use Rattle.som_model.specs.Class.{Class};
-ghost use Rattle.som_model.specs.Classes.{hierarchy};
+ghost use Rattle.som_model.specs.Classes.{hierarchy, interface_classes};
 ghost use Rattle.som_model.specs.Hierarchy.{Falls};
 ghost use Rattle.som_model.specs.Lists.{first};
 ghost use Rattle.som_model.specs.declared.key.Module.{Module};
+ghost use Rattle.som_model.specs.declared.key.Module.TheVariants as modules;
+ghost use Rattle.som_model.specs.declared.program.Interface.{Interface};
+ghost use Rattle.som_sema.specs.Building.{after_base, declarations, texts_breach};
 ghost use Rattle.som_sema.specs.PlainTexts.{BasesStand, ItemsDiffer, MetaclassesDescend, ModifiersStand, NamesDiffer};
 ghost use Rattle.som_sema.specs.Sketch.{Drawn};
 ghost use Rattle.som_sema.specs.TextRules.{text_s2_from, text_s4, text_s6, text_s11, text_s12};
-ghost use Rattle.std.specs.Prelude.{◌≡◌, ◌↔◌, ℕ, List as Seq, flat_map, None};
+ghost use Rattle.som_verify.specs.Faces.{classes_breach, faces_breach};
+ghost use Rattle.som_verify.specs.Told.{of_release};
+ghost use Rattle.std.specs.Prelude.{◌≡◌, ◌↔◌, ℕ, List as Seq, [], flat_map, length, None};
 
 /// The rules that texts have in a form of their own have no breach exactly where each holds of every interface and of
 /// all that it says. Each parent is lower than its class where parents stand before their classes.
@@ -18,4 +24,14 @@ pub fn text_rules_law()
     ensures names { (ds : Seq Drawn) → (first (flat_map text_s6 ds) ≡ None) ↔ NamesDiffer ds }
     ensures modifiers { (ds : Seq Drawn) → (first (flat_map text_s11 ds) ≡ None) ↔ ModifiersStand ds }
     ensures items { (ds : Seq Drawn) → (first (flat_map text_s12 ds) ≡ None) ↔ ItemsDiffer ds }
+{}
+
+/// Texts that break none of the rules S1 to S12 declare classes that break none of the rules S1 to S10 as images have them: over
+/// a base whose faces break none, where the types of the base name no class that the texts declare, and over none at all.
+pub fn declarations_law()
+    ensures over_base { (m : Module) (base : Interface) (texts : Seq IdlInterface) →
+        faces_breach (interface_classes base) ≡ None → texts_breach m base texts ≡ None →
+        classes_breach (length base.classes) (after_base m (interface_classes base) (declarations m base texts)) ≡ None }
+    ensures alone { (texts : Seq IdlInterface) → texts_breach modules.Library (record { classes = [] }) texts ≡ None →
+        faces_breach (of_release (declarations modules.Library (record { classes = [] }) texts)) ≡ None }
 {}

@@ -27,5 +27,5 @@ mod variables;
 mod walked;
 
 pub use build::build_faces;
-pub use laws::text_rules_law;
+pub use laws::{declarations_law, text_rules_law};
 pub use types::Refused;

@@ -1,0 +1,55 @@
+-- Trees whose names and version numbers are within their limits, as those of texts are.
+use Rattle.std.specs.Prelude.{ℕ, ◌≤◌, ⊤, length, All, Option, IfSome}
+use Rattle.som_model.specs.declared.limits.TheConstants.{MAX_NAME, MAX_VERSION}
+use Rattle.som_read.specs.declared.tree.TypeName.{TypeName}
+use Rattle.som_read.specs.declared.tree.TypeName.TheVariants as types
+use Rattle.som_read.specs.declared.tree.Word.{Word}
+use Rattle.som_idl.specs.declared.tree.Export.{Export}
+use Rattle.som_idl.specs.declared.tree.Export.TheVariants as exports
+use Rattle.som_idl.specs.declared.tree.IdlFile.{IdlFile}
+use Rattle.som_idl.specs.declared.tree.IdlInterface.{IdlInterface}
+use Rattle.som_idl.specs.declared.tree.Item.{Item}
+use Rattle.som_idl.specs.declared.tree.Item.TheVariants as items
+use Rattle.som_idl.specs.declared.tree.Param.{Param}
+
+abbrev pub WordWithin : Word → Type 0
+WordWithin w = length w.text ≤ MAX_NAME
+
+abbrev pub VersionWithin : ℕ → Type 0
+VersionWithin n = n ≤ MAX_VERSION
+
+abbrev pub TypeWithin : TypeName → Type 0
+TypeWithin types.Long = ⊤
+TypeWithin types.Boolean = ⊤
+TypeWithin types.Str = ⊤
+TypeWithin (types.Class w) = WordWithin w
+
+abbrev pub ResultWithin : Option TypeName → Type 0
+ResultWithin o = IfSome o TypeWithin
+
+pub record ParamWithin (p : Param) : Type 0 where
+  pub kind : TypeWithin p.kind
+  pub name : WordWithin p.name
+
+abbrev pub ExportWithin : Export → Type 0
+ExportWithin (exports.Attribute readonly kind names) = TypeWithin kind × All WordWithin names
+ExportWithin (exports.Operation result name params) = ResultWithin result × WordWithin name × All ParamWithin params
+
+abbrev pub ItemWithin : Item → Type 0
+ItemWithin (items.ReleaseOrder names) = All WordWithin names
+ItemWithin (items.Metaclass name) = WordWithin name
+ItemWithin (items.Major n) = VersionWithin n
+ItemWithin (items.Minor n) = VersionWithin n
+ItemWithin (items.Method name modifiers) = WordWithin name
+ItemWithin (items.Variables kind names) = TypeWithin kind × All WordWithin names
+
+pub record InterfaceWithin (i : IdlInterface) : Type 0 where
+  pub name : WordWithin i.name
+  pub parents : All WordWithin i.parents
+  pub before : All ExportWithin i.before
+  pub items : All ItemWithin i.items
+  pub after : All ExportWithin i.after
+
+-- each name of the file is at most as long as a name may be, and each version number is one that a class may have
+pub record FileWithin (f : IdlFile) : Type 0 where
+  pub interfaces : All InterfaceWithin f.interfaces
