@@ -1,0 +1,5 @@
+pub mod Levels
+pub mod Made
+pub mod ExprFields
+pub mod StmtFields
+pub mod PartFields

@@ -1,0 +1,18 @@
+use Rattle.som_wire.specs.Spelling.{FitsMethod}
+use Rattle.som_wire.proofs.Apart.{apart}
+use Rattle.som_blocks.specs.Fitting.{FitsExpr, FitsBlock, FitsPart}
+use Rattle.som_blocks.specs.Reading.{expr_at, block_at, part_at}
+use Rattle.som_blocks.specs.Spelling as spelling
+use Rattle.som_blocks.proofs.ExprFields.{expr_field}
+use Rattle.som_blocks.proofs.StmtFields.{block_field}
+use Rattle.som_blocks.proofs.PartFields.{part_field}
+use Rattle.som_blocks.proofs.laws.no_spelling_begins_another.Goals as goal
+
+pub returns-clause-expr : goal.returns-clause-expr
+returns-clause-expr c = λ ranges left known. apart (expr_at left ranges) spelling.expr (FitsExpr left ranges.classes (FitsMethod ranges)) (expr_field ranges known left)
+
+pub returns-clause-block : goal.returns-clause-block
+returns-clause-block c = λ ranges left known. apart (block_at left ranges) spelling.block (FitsBlock left ranges.classes (FitsMethod ranges)) (block_field ranges known left)
+
+pub returns-clause-part : goal.returns-clause-part
+returns-clause-part c = λ ranges introduced known. apart (part_at ranges introduced) spelling.part (FitsPart ranges introduced) (part_field ranges known introduced)

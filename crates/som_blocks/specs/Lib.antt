@@ -1,0 +1,4 @@
+pub mod Making
+pub mod Spelling
+pub mod Fitting
+pub mod Reading

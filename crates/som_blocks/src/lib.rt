@@ -1,0 +1,25 @@
+//! Blocks, bodies and parts of images, with numbers for classes and methods: how each is spelled, read from left to right, and
+//! written.
+//!
+//! A reader is given all bytes and a place, as those of `som_wire`, and so many levels: a statement of a body has level 1,
+//! and what stands in a statement or an expression one more. Its clauses say three things: what it `found` stands there in its one
+//! spelling and fits; what stands there and fits is what `only` can be read; and the fault is `exact`ly the first one, which
+//! `specs/Reading.antt` finds on the way from left to right.
+#![tactic(auto)]
+
+mod block;
+mod call;
+mod expr;
+mod laws;
+mod operand;
+mod pair;
+mod part;
+mod stmt;
+mod syntax;
+#[cfg(test)]
+mod tests;
+
+pub use block::read_block;
+pub use laws::no_spelling_begins_another;
+pub use part::read_part;
+pub use syntax::{WireBlock, WireBody, WireExpr, WireOverride, WirePart, WireStmt, WireVariable};
