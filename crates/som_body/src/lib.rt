@@ -1,0 +1,16 @@
+//! Bodies of methods and mains of clients: their trees, and the readers that answer the one tree of a text or the first token that
+//! doesn't fit or nests too deep.
+//!
+//! `specs/Grammar.antt` is the grammar, and `specs/Answer.antt` says what is answered. `specs/Reading.antt` has the readers that
+//! the code follows; `proofs` shows that they read the grammar.
+#![tactic(auto)]
+
+mod operators;
+mod tree;
+
+pub use operators::{
+    ADD, AND, DIVIDE, EQUAL, GREATER, GREATER_EQUAL, JOIN, LENGTH, LESS, LESS_EQUAL, MINUS,
+    MULTIPLY, NOT, NOT_EQUAL, OR, REMAINDER, SUBTRACT, TEXT,
+};
+pub use som_read::{SyntaxFault, TypeName, Word};
+pub use tree::{BlockText, BodyFile, BodyText, ExprText, MainFile, StmtText};
