@@ -5,6 +5,7 @@
 //! the code follows; `proofs` shows that they read the grammar.
 #![tactic(auto)]
 
+mod level;
 mod operators;
 mod tree;
 
