@@ -1,0 +1,5 @@
+pub mod Grammar
+pub mod Statements
+pub mod Reading
+pub mod StatementReading
+pub mod Answer
