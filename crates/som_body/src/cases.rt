@@ -41,7 +41,10 @@ pub const FORMS: &[(&str, &str)] = &[
     ("length(\"a\" & \"b\")", "[u2 [13 \"a\" \"b\"]]"),
     ("isa(a or b, A)", "isa(A#9 [12 a#5 b#7])"),
     ("proxy(A, a or b)", "proxy(A#5 [12 a#7 b#9])"),
-    ("host min(a or b, not c)", "host(min [12 a#6 b#8] [u1 c#11])"),
+    (
+        "host min(a or b, not c)",
+        "host(min [12 a#6 b#8] [u1 c#11])",
+    ),
     ("text(length(x))", "[u3 [u2 x#7]]"),
     ("(a or b)", "[12 a#4 b#6]"),
 ];
@@ -56,18 +59,39 @@ pub const NAMED: &[(&str, &str)] = &[
     ("dispatch A x.m(2, 3)", "dispatch(A#4 x#5 m#7 2 3)"),
     ("dispatch void x.m()", "dispatch(void x#5 m#7)"),
     ("lookup long x.m().n()", "lookup(long call(x#5 m#7) n#11)"),
-    ("lookup long x.k(1).m(2).n(3)", "lookup(long call(call(x#5 k#7 1) m#12 2) n#17 3)"),
-    ("dispatch long x.m().n(1)", "dispatch(long call(x#5 m#7) n#11 1)"),
-    ("lookup long (lookup A x.m()).n()", "lookup(long lookup(A#7 x#8 m#10) n#15)"),
+    (
+        "lookup long x.k(1).m(2).n(3)",
+        "lookup(long call(call(x#5 k#7 1) m#12 2) n#17 3)",
+    ),
+    (
+        "dispatch long x.m().n(1)",
+        "dispatch(long call(x#5 m#7) n#11 1)",
+    ),
+    (
+        "lookup long (lookup A x.m()).n()",
+        "lookup(long lookup(A#7 x#8 m#10) n#15)",
+    ),
     ("(lookup A x.m()).n()", "call(lookup(A#5 x#6 m#8) n#13)"),
-    ("lookup long (dispatch A x.m()).n()", "lookup(long dispatch(A#7 x#8 m#10) n#15)"),
-    ("lookup long parent P.m().n()", "lookup(long parent(P#6 m#8) n#12)"),
-    ("lookup long parents.m().n()", "lookup(long parents(m#7) n#11)"),
+    (
+        "lookup long (dispatch A x.m()).n()",
+        "lookup(long dispatch(A#7 x#8 m#10) n#15)",
+    ),
+    (
+        "lookup long parent P.m().n()",
+        "lookup(long parent(P#6 m#8) n#12)",
+    ),
+    (
+        "lookup long parents.m().n()",
+        "lookup(long parents(m#7) n#11)",
+    ),
     ("lookup long somThis.v.m()", "lookup(long .v#7 m#9)"),
     ("lookup long new A.m()", "lookup(long new(A#6) m#8)"),
     ("lookup long (x as A).m()", "lookup(long as(A#8 x#6) m#11)"),
     ("lookup long a.m() as B", "as(B#11 lookup(long a#5 m#7))"),
-    ("-lookup long a.m() * b", "[2 [u0 lookup(long a#6 m#8)] b#12]"),
+    (
+        "-lookup long a.m() * b",
+        "[2 [u0 lookup(long a#6 m#8)] b#12]",
+    ),
 ];
 
 /// Calls by offset.
@@ -134,8 +158,14 @@ pub const MORE_PAIRS: &[(&str, &str)] = &[
     ("a - (b - c)", "[1 a#3 [1 b#6 c#8]]"),
     ("not a < b or c", "[12 [u1 [7 a#4 b#6]] c#8]"),
     ("-2147483647", "[u0 2147483647]"),
-    ("a or not b == -c * d as E", "[12 a#3 [u1 [5 b#6 [2 [u0 c#9] as(E#13 d#11)]]]]"),
-    ("a.m() * b.n() + c", "[0 [2 call(a#3 m#5) call(b#9 n#11)] c#15]"),
+    (
+        "a or not b == -c * d as E",
+        "[12 a#3 [u1 [5 b#6 [2 [u0 c#9] as(E#13 d#11)]]]]",
+    ),
+    (
+        "a.m() * b.n() + c",
+        "[0 [2 call(a#3 m#5) call(b#9 n#11)] c#15]",
+    ),
     ("a as B == nil", "[5 as(B#5 a#3) nil]"),
     ("new A as B", "as(B#6 new(A#4))"),
 ];
@@ -164,24 +194,48 @@ pub const GROUPED: &[(&str, &str)] = &[
 pub const MAINS: &[(&str, &str)] = &[
     ("main {}", "{}"),
     ("main { var x: long = 5; }", "{var x#3 long = 5;}"),
-    ("main { var x: boolean = TRUE; }", "{var x#3 boolean = TRUE;}"),
-    ("main { var x: string = \"a\"; }", "{var x#3 string = \"a\";}"),
+    (
+        "main { var x: boolean = TRUE; }",
+        "{var x#3 boolean = TRUE;}",
+    ),
+    (
+        "main { var x: string = \"a\"; }",
+        "{var x#3 string = \"a\";}",
+    ),
     ("main { var x: A = y; }", "{var x#3 A#5 = y#7;}"),
     ("main { x = 5; }", "{x#2 = 5;}"),
     ("main { somThis.v = 5; }", "{.v#4 = 5;}"),
     ("main { somThis.v.m(); }", "{call(.v#4 m#6);}"),
     ("main { x.m(); }", "{call(x#2 m#4);}"),
     ("main { if (x) {} }", "{if x#4 {}{}}"),
-    ("main { if (x) { a = 1; } else { b = 2; } }", "{if x#4 {a#7 = 1;}{b#14 = 2;}}"),
-    ("main { if (x) {} else if (y) {} else { z = 1; } }", "{if x#4 {}{if y#11 {}{z#17 = 1;}}}"),
-    ("main { if (x) {} else if (y) {} }", "{if x#4 {}{if y#11 {}{}}}"),
-    ("main { if (x) {} else { if (y) {} } }", "{if x#4 {}{if y#12 {}{}}}"),
-    ("main { while (x) { y.m(); } }", "{while x#4 {call(y#7 m#9);}}"),
+    (
+        "main { if (x) { a = 1; } else { b = 2; } }",
+        "{if x#4 {a#7 = 1;}{b#14 = 2;}}",
+    ),
+    (
+        "main { if (x) {} else if (y) {} else { z = 1; } }",
+        "{if x#4 {}{if y#11 {}{z#17 = 1;}}}",
+    ),
+    (
+        "main { if (x) {} else if (y) {} }",
+        "{if x#4 {}{if y#11 {}{}}}",
+    ),
+    (
+        "main { if (x) {} else { if (y) {} } }",
+        "{if x#4 {}{if y#12 {}{}}}",
+    ),
+    (
+        "main { while (x) { y.m(); } }",
+        "{while x#4 {call(y#7 m#9);}}",
+    ),
     ("main { return; }", "{return;}"),
     ("main { return x + 1; }", "{return [0 x#3 1];}"),
     ("main { print \"Hello\"; }", "{print \"Hello\";}"),
     ("main { free x; }", "{free x#3;}"),
-    ("main { x = y; y = x; x.m(); return; }", "{x#2 = y#4;y#6 = x#8;call(x#10 m#12);return;}"),
+    (
+        "main { x = y; y = x; x.m(); return; }",
+        "{x#2 = y#4;y#6 = x#8;call(x#10 m#12);return;}",
+    ),
 ];
 
 /// Statements that are calls.
@@ -204,8 +258,14 @@ pub const CALLS: &[(&str, &str)] = &[
     ("main { isa(x, A).m(); }", "{call(isa(A#6 x#4) m#9);}"),
     ("main { parents.m().n(); }", "{call(parents(m#4) n#8);}"),
     ("main { x.m().n(); }", "{call(call(x#2 m#4) n#8);}"),
-    ("main { somThis.v.m().n(); }", "{call(call(.v#4 m#6) n#10);}"),
-    ("#include <a>\nmain {\n#ifdef __PRIVATE__\nx = 1;\n#endif\n}", "{x#4 = 1;}"),
+    (
+        "main { somThis.v.m().n(); }",
+        "{call(call(.v#4 m#6) n#10);}",
+    ),
+    (
+        "#include <a>\nmain {\n#ifdef __PRIVATE__\nx = 1;\n#endif\n}",
+        "{x#4 = 1;}",
+    ),
 ];
 
 /// Files of bodies.
@@ -213,15 +273,27 @@ pub const BODIES: &[(&str, &str)] = &[
     ("", ""),
     ("A::m() {}", "A#0::m#2(){}"),
     ("A::m(a) {}", "A#0::m#2( a#4){}"),
-    ("A::m(a, b) { return a; }", "A#0::m#2( a#4 b#6){return a#10;}"),
+    (
+        "A::m(a, b) { return a; }",
+        "A#0::m#2( a#4 b#6){return a#10;}",
+    ),
     ("A::m() {} B::n() {}", "A#0::m#2(){}B#7::n#9(){}"),
     ("self::if() {}", "self#0::if#2(){}"),
     ("main::main() {}", "main#0::main#2(){}"),
     ("var::long(a) {}", "var#0::long#2( a#4){}"),
-    ("A::m(short, min, offset) {}", "A#0::m#2( short#4 min#6 offset#8){}"),
+    (
+        "A::m(short, min, offset) {}",
+        "A#0::m#2( short#4 min#6 offset#8){}",
+    ),
     ("#endif\nA::m() {}\n#define X\n", "A#1::m#3(){}"),
-    ("A::m() { x = y; } A::m() { x = y; }", "A#0::m#2(){x#6 = y#8;}A#11::m#13(){x#17 = y#19;}"),
-    ("Animal::eat() { print \"eats\"; }\nDog::speak(times) { while (times > 0) { print \"woof\"; times = times - 1; } }", "Animal#0::eat#2(){print \"eats\";}Dog#10::speak#12( times#14){while [9 times#19 0] {print \"woof\";times#27 = [1 times#29 1];}}"),
+    (
+        "A::m() { x = y; } A::m() { x = y; }",
+        "A#0::m#2(){x#6 = y#8;}A#11::m#13(){x#17 = y#19;}",
+    ),
+    (
+        "Animal::eat() { print \"eats\"; }\nDog::speak(times) { while (times > 0) { print \"woof\"; times = times - 1; } }",
+        "Animal#0::eat#2(){print \"eats\";}Dog#10::speak#12( times#14){while [9 times#19 0] {print \"woof\";times#27 = [1 times#29 1];}}",
+    ),
 ];
 
 /// Faults of expressions, in `main { print E; }`.

@@ -34,8 +34,8 @@ fn show_type(alloc: Global, out: &mut String, kind: &TypeName) -> Result<(), Fai
     Ok(())
 }
 
-fn show_result(alloc: Global, out: &mut String, result: &Option<TypeName>) -> Result<(), Fail> {
-    match result {
+fn show_outcome(alloc: Global, out: &mut String, outcome: &Option<TypeName>) -> Result<(), Fail> {
+    match outcome {
         None => out.push_str("void ")?,
         Some(kind) => show_type(alloc, out, kind)?,
     }
@@ -156,7 +156,7 @@ pub(crate) fn show_expr(alloc: Global, out: &mut String, expr: &ExprText) -> Res
             args,
         } => {
             out.push_str("lookup(")?;
-            show_result(alloc, out, result)?;
+            show_outcome(alloc, out, result)?;
             show_call(alloc, out, receiver.get(), method, args)?;
         }
         ExprText::Dispatch {
@@ -166,7 +166,7 @@ pub(crate) fn show_expr(alloc: Global, out: &mut String, expr: &ExprText) -> Res
             args,
         } => {
             out.push_str("dispatch(")?;
-            show_result(alloc, out, result)?;
+            show_outcome(alloc, out, result)?;
             show_call(alloc, out, receiver.get(), method, args)?;
         }
         ExprText::Parent {
@@ -203,12 +203,7 @@ pub(crate) fn show_block(alloc: Global, out: &mut String, block: &BlockText) -> 
     Ok(())
 }
 
-fn show_value(
-    alloc: Global,
-    out: &mut String,
-    form: &str,
-    value: &ExprText,
-) -> Result<(), Fail> {
+fn show_value(alloc: Global, out: &mut String, form: &str, value: &ExprText) -> Result<(), Fail> {
     out.push_str(form)?;
     show_expr(alloc, out, value)?;
     out.push_str(";")?;

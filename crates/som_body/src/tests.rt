@@ -90,7 +90,11 @@ fn expressions_have_these_trees(rt: HostRuntime) -> Result<(), Fail> {
         for (expr, tree) in table {
             let text = format!(in alloc; "main {{ print {expr}; }}")?;
             let want = format!(in alloc; "{{print {tree};}}")?;
-            assert_eq!(rt; main_shown(alloc, text.as_str())?.as_str(), want.as_str(), "{expr}");
+            assert_eq!(rt;
+                main_shown(alloc, text.as_str())?.as_str(),
+                want.as_str(),
+                "{expr}"
+            );
         }
     }
     Ok(())
@@ -102,7 +106,11 @@ fn expressions_have_these_faults(rt: HostRuntime) -> Result<(), Fail> {
     for table in [EXPRESSION_FAULTS, STEP_FAULTS, FORM_FAULTS, NAMED_FAULTS] {
         for (expr, fault) in table {
             let text = format!(in alloc; "main {{ print {expr}; }}")?;
-            assert_eq!(rt; main_shown(alloc, text.as_str())?.as_str(), *fault, "{expr}");
+            assert_eq!(rt;
+                main_shown(alloc, text.as_str())?.as_str(),
+                *fault,
+                "{expr}"
+            );
         }
     }
     Ok(())
@@ -160,7 +168,11 @@ fn texts_nest_so_deep(rt: HostRuntime) -> Result<(), Fail> {
             push_times(&mut text, closing, *times)?;
             text.push_str(after)?;
             let shown = main_shown(alloc, text.as_str())?;
-            let got = if shown.as_str().starts_with("{") { "ok" } else { shown.as_str() };
+            let got = if shown.as_str().starts_with("{") {
+                "ok"
+            } else {
+                shown.as_str()
+            };
             assert_eq!(rt; got, *answer, "{text}");
         }
     }
@@ -192,12 +204,20 @@ fn words_are_names_or_not(rt: HostRuntime) -> Result<(), Fail> {
         for word in NO_NAMES.split_whitespace() {
             let text = format!(in alloc; "{before}{word}{after}")?;
             let fault = format!(in alloc; "syntax {place}")?;
-            assert_eq!(rt; main_shown(alloc, text.as_str())?.as_str(), fault.as_str(), "{text}");
+            assert_eq!(rt;
+                main_shown(alloc, text.as_str())?.as_str(),
+                fault.as_str(),
+                "{text}"
+            );
         }
         for word in TYPES.split_whitespace() {
             let text = format!(in alloc; "{before}{word}{after}")?;
             let fault = format!(in alloc; "syntax {place}")?;
-            assert_eq!(rt; main_shown(alloc, text.as_str())?.as_str(), fault.as_str(), "{text}");
+            assert_eq!(rt;
+                main_shown(alloc, text.as_str())?.as_str(),
+                fault.as_str(),
+                "{text}"
+            );
         }
         for word in NAMES.split_whitespace() {
             let text = format!(in alloc; "{before}{word}{after}")?;
@@ -216,7 +236,11 @@ fn words_are_params_or_not(rt: HostRuntime) -> Result<(), Fail> {
         for word in NO_NAMES.split_whitespace() {
             let text = format!(in alloc; "{before}{word}{after}")?;
             let fault = format!(in alloc; "syntax {place}")?;
-            assert_eq!(rt; bodies_shown(alloc, text.as_str())?.as_str(), fault.as_str(), "{text}");
+            assert_eq!(rt;
+                bodies_shown(alloc, text.as_str())?.as_str(),
+                fault.as_str(),
+                "{text}"
+            );
         }
         for word in NAMES.split_whitespace() {
             let text = format!(in alloc; "{before}{word}{after}")?;
@@ -235,7 +259,11 @@ fn words_are_types_or_not(rt: HostRuntime) -> Result<(), Fail> {
         for word in NO_NAMES.split_whitespace() {
             let text = format!(in alloc; "{before}{word}{after}")?;
             let fault = format!(in alloc; "syntax {place}")?;
-            assert_eq!(rt; main_shown(alloc, text.as_str())?.as_str(), fault.as_str(), "{text}");
+            assert_eq!(rt;
+                main_shown(alloc, text.as_str())?.as_str(),
+                fault.as_str(),
+                "{text}"
+            );
         }
         for word in NAMES.split_whitespace() {
             let text = format!(in alloc; "{before}{word}{after}")?;
@@ -266,7 +294,10 @@ fn each_word_is_a_word(rt: HostRuntime) -> Result<(), Fail> {
     for (before, after, place) in WORD_PLACES {
         for words in [NO_NAMES, TYPES, NAMES] {
             for word in words.split_whitespace() {
-                assert!(rt; is_word_in_place(alloc, before, word, after, place)?, "{before}{word}{after}");
+                assert!(rt;
+                    is_word_in_place(alloc, before, word, after, place)?,
+                    "{before}{word}{after}"
+                );
             }
         }
     }
@@ -277,8 +308,14 @@ fn each_word_is_a_word(rt: HostRuntime) -> Result<(), Fail> {
 fn each_name_begins_an_assignment(rt: HostRuntime) -> Result<(), Fail> {
     let alloc = rt.alloc();
     for word in NAMES.split_whitespace() {
-        assert!(rt; is_word_in_place(alloc, "main { ", word, " = 1; }", 2)?, "{word}");
-        assert!(rt; is_word_in_place(alloc, "main { ", word, ".m(); }", 2)?, "{word}");
+        assert!(rt;
+            is_word_in_place(alloc, "main { ", word, " = 1; }", 2)?,
+            "{word}"
+        );
+        assert!(rt;
+            is_word_in_place(alloc, "main { ", word, ".m(); }", 2)?,
+            "{word}"
+        );
     }
     Ok(())
 }
@@ -290,7 +327,11 @@ fn words_begin_classes_and_methods(rt: HostRuntime) -> Result<(), Fail> {
         for word in words.split_whitespace() {
             let text = format!(in alloc; "{word}::{word}() {{}}")?;
             let want = format!(in alloc; "{word}#0::{word}#2(){{}}")?;
-            assert_eq!(rt; bodies_shown(alloc, text.as_str())?.as_str(), want.as_str(), "{text}");
+            assert_eq!(rt;
+                bodies_shown(alloc, text.as_str())?.as_str(),
+                want.as_str(),
+                "{text}"
+            );
         }
     }
     Ok(())
