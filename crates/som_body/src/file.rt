@@ -11,7 +11,7 @@ ghost use Rattle.std.specs.Prelude.{◌≡◌};
 
 use crate::block::block;
 use crate::word::{any_word, name};
-use crate::{BodyFile, BodyText, MainFile};
+use crate::{BlockText, BodyFile, BodyText, MainFile};
 use som_lex::Tokens;
 use som_model::{List, MAX_NESTING};
 use som_read::{Cursor, Key, Sign, Stop, Turn, Word};
@@ -65,6 +65,13 @@ fn params(alloc: Global, tokens: &Tokens, left: &mut Cursor<'_>) -> Result<List<
     Ok(names)
 }
 
+// The block of a body or a main.
+fn whole_block(alloc: Global, tokens: &Tokens, left: &mut Cursor<'_>) -> Result<BlockText, Stop>
+    ensures { Answers (spec.block (text_at tokens.now) (spec.statement_at (text_at tokens.now) MAX_NESTING) (spec.if_at (text_at tokens.now) MAX_NESTING) left.old.rest.now) result left.new.rest.now }
+{
+    block(alloc, tokens, left, MAX_NESTING as usize)
+}
+
 #[tactic(auto, unfolding(crate::specs::StatementReading::body))]
 fn body(alloc: Global, tokens: &Tokens, left: &mut Cursor<'_>) -> Result<BodyText, Stop>
     ensures { Answers (spec.body (text_at tokens.now) MAX_NESTING left.old.rest.now) result left.new.rest.now }
@@ -73,7 +80,7 @@ fn body(alloc: Global, tokens: &Tokens, left: &mut Cursor<'_>) -> Result<BodyTex
     left.expect(Sign::DoubleColon)?;
     let method = any_word(alloc, tokens, left)?;
     let params = params(alloc, tokens, left)?;
-    let block = block(alloc, tokens, left, MAX_NESTING as usize)?;
+    let block = whole_block(alloc, tokens, left)?;
     Ok(BodyText {
         class,
         method,
@@ -146,7 +153,7 @@ pub(crate) fn main_file(
     ensures { Answers (spec.main_file (text_at tokens.now) MAX_NESTING left.old.rest.now) result left.new.rest.now }
 {
     left.keyword(Key::Main)?;
-    let block = block(alloc, tokens, left, MAX_NESTING as usize)?;
+    let block = whole_block(alloc, tokens, left)?;
     left.end()?;
     Ok(MainFile { block })
 }

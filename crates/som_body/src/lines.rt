@@ -35,7 +35,7 @@ fn combined(alloc: Global, op: u8, first: Tall, second: Tall) -> Result<Tall, No
 // An operator of one operand.
 fn changed(alloc: Global, op: u8, operand: Tall) -> Result<Tall, NoMemory>
     requires { operand.height ≤ 64 }
-    ensures { IfOk result (λ a. a ≡ spec.tall (spec.expr.Unary op operand.tree) (operand.height + 1)) }
+    ensures { IfOk result (λ a. a ≡ spec.tall (ExprText.Unary op operand.tree) (operand.height + 1)) }
 {
     let of = Boxed::new(alloc, operand.tree)?;
     Ok(Tall {

@@ -175,7 +175,7 @@ pub(crate) fn printed(
     depth: usize,
 ) -> Result<StmtText, Stop>
     requires { depth ≤ 32 }
-    ensures { Answers (spec.ending (text_at tokens.now) depth (λ a. spec.stmt.Print a) left.old.rest.now) result left.new.rest.now }
+    ensures { Answers (spec.ending (text_at tokens.now) depth (λ a. StmtText.Print a) left.old.rest.now) result left.new.rest.now }
 {
     let value = line_at(alloc, tokens, left, depth, Line::Expr)?;
     left.expect(Sign::Semicolon)?;
@@ -191,7 +191,7 @@ pub(crate) fn freed(
     depth: usize,
 ) -> Result<StmtText, Stop>
     requires { depth ≤ 32 }
-    ensures { Answers (spec.ending (text_at tokens.now) depth (λ a. spec.stmt.Free a) left.old.rest.now) result left.new.rest.now }
+    ensures { Answers (spec.ending (text_at tokens.now) depth (λ a. StmtText.Free a) left.old.rest.now) result left.new.rest.now }
 {
     let value = line_at(alloc, tokens, left, depth, Line::Expr)?;
     left.expect(Sign::Semicolon)?;
