@@ -1,0 +1,5 @@
+pub mod OperatorLaws
+pub mod WordLaws
+pub mod PrimaryLaws
+pub mod StartLaws
+pub mod LineLaws
