@@ -3,3 +3,9 @@ pub mod WordLaws
 pub mod PrimaryLaws
 pub mod StartLaws
 pub mod LineLaws
+pub mod CallForms
+pub mod StatementLaws
+pub mod LevelFound
+pub mod WordFound
+pub mod Strengths
+pub mod FormsFound

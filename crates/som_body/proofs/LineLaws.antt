@@ -41,7 +41,7 @@ module _ (ops : Token → Option ℕ) (R : Lang Tall) where
   long_operation a c u (an_operation t e h) = omega arith
 
 module _ (text_at : ℕ → List ℕ) where
-  abbrev Stepped : Lang Tall
+  abbrev pub Stepped : Lang Tall
   Stepped u a = g.IsStepped text_at a.height u a.tree
 
   -- a step, or none
@@ -162,7 +162,7 @@ module _ (text_at : ℕ → List ℕ) where
         (wider Stepped (OnLine text_at line.Postfix) _ (λ u a h. g.a_stepped h) stepped_law))
 
     cast_step_law : (a : Tall) → Lawful (CastStep a) (r.cast_step text_at inner d a)
-    cast_step_law a = pushed_key (CastStep a) d a.height _ _ key.As (λ x. bind_law (g.IsName text_at) _ _ _ (name_law text_at) (λ u n h. pure_law _ _ (rw append-nil (a_cast_step x h)))) (pure_law _ _ no_cast_step)
+    cast_step_law a = pushed_key (CastStep a) d a.height _ _ key.As (λ x. bind_law (g.IsName text_at) _ _ _ (name_law text_at) (λ u n h. pure_law _ (More (tall (expr.Cast n a.tree) (a.height + 1))) (rw append-nil (a_cast_step x h)))) (pure_law _ _ no_cast_step)
 
     cast_law : Lawful (OnLine text_at line.Cast) (r.cast text_at inner d)
     unfolding r.cast

@@ -1,5 +1,5 @@
 -- What begins each line begins a text of it, so stopping there for want of levels is lawful.
-use Rattle.std.proofs.Common.{◌≡◌, ℕ, zero, suc, ◌+◌, max, List, [], ◌∷◌, ◌++◌, Bool, true, false, Option, Some, None, refl}
+use Rattle.std.proofs.Common.{◌≡◌, ℕ, zero, suc, ◌+◌, max, List, [], ◌∷◌, ◌++◌, Bool, true, false, cond, Option, Some, None, refl}
 use Rattle.som_model.specs.declared.syntax.HostCode.TheVariants as host
 use Rattle.som_read.specs.Tokens.{word}
 use Rattle.som_read.specs.declared.token.Key.{Key}
@@ -20,11 +20,11 @@ use Rattle.som_body.specs.declared.tree.ExprText.TheVariants as expr
 use Rattle.som_body.proofs.OperatorLaws.{too_deep_law}
 use Rattle.som_body.proofs.PrimaryLaws.{OnLine, some_primary}
 
-abbrev open : Token
-open = token.Mark sign.Open
+abbrev opening : Token
+opening = token.Mark sign.Open
 
-abbrev close : Token
-close = token.Mark sign.Close
+abbrev closing : Token
+closing = token.Mark sign.Close
 
 abbrev comma : Token
 comma = token.Mark sign.Comma
@@ -37,6 +37,10 @@ a_word = token.Word key.Plain 0
 
 abbrev zero_token : Token
 zero_token = token.Number 0
+
+named_if : (b : Bool) (a : ExprText) → b ≡ true → cond b (Some a) None ≡ Some a
+named_if true a e = refl
+named_if false a e = cc
 
 module _ (text_at : ℕ → List ℕ) where
   -- ---- 0 on each line
@@ -79,7 +83,7 @@ module _ (text_at : ℕ → List ℕ) where
   named_atom key.Nil p e = cc
   named_atom key.Me p e = cc
   named_atom key.Manager p e = cc
-  named_atom k p e = rw e refl
+  named_atom k p e = named_if (g.is_name k) (expr.Name (word text_at p)) e
 
   atom_starts : (t : Token) (a : ExprText) → g.atom text_at t ≡ Some a → Member (λ u. OnLine text_at line.Primary (t ∷ u))
   atom_starts t a e = record { tokens = []; value = tall a 1; reads = g.an_atom t e }
@@ -94,31 +98,31 @@ module _ (text_at : ℕ → List ℕ) where
   word_starts key.Me p e = atom_starts (token.Word key.Me p) _ refl
   word_starts key.Manager p e = atom_starts (token.Word key.Manager p) _ refl
   word_starts key.SomThis p e = record { tokens = dot ∷ a_word ∷ []; value = tall (expr.Variable plain) 1; reads = g.a_variable plain_word }
-  word_starts key.Length p e = record { tokens = open ∷ zero_token ∷ close ∷ []; value = tall (expr.Unary 2 (expr.Number 0)) (1 + 1); reads = g.a_length zero_expr }
-  word_starts key.TextOf p e = record { tokens = open ∷ zero_token ∷ close ∷ []; value = tall (expr.Unary 3 (expr.Number 0)) (1 + 1); reads = g.a_text zero_expr }
+  word_starts key.Length p e = record { tokens = opening ∷ zero_token ∷ closing ∷ []; value = tall (expr.Unary 2 (expr.Number 0)) (1 + 1); reads = g.a_length zero_expr }
+  word_starts key.TextOf p e = record { tokens = opening ∷ zero_token ∷ closing ∷ []; value = tall (expr.Unary 3 (expr.Number 0)) (1 + 1); reads = g.a_text zero_expr }
   word_starts key.New p e = record { tokens = a_word ∷ []; value = tall (expr.New plain) 1; reads = g.a_new plain_name }
   word_starts key.Class p e = record { tokens = a_word ∷ []; value = tall (expr.Class plain) 1; reads = g.a_class plain_name }
-  word_starts key.Isa p e = record { tokens = open ∷ zero_token ∷ comma ∷ a_word ∷ close ∷ []; value = tall (expr.Isa plain (expr.Number 0)) (1 + 1); reads = g.an_isa zero_expr plain_name }
-  word_starts key.Proxy p e = record { tokens = open ∷ a_word ∷ comma ∷ zero_token ∷ close ∷ []; value = tall (expr.Proxy plain (expr.Number 0)) (1 + 1); reads = g.a_proxy plain_name zero_expr }
+  word_starts key.Isa p e = record { tokens = opening ∷ zero_token ∷ comma ∷ a_word ∷ closing ∷ []; value = tall (expr.Isa plain (expr.Number 0)) (1 + 1); reads = g.an_isa zero_expr plain_name }
+  word_starts key.Proxy p e = record { tokens = opening ∷ a_word ∷ comma ∷ zero_token ∷ closing ∷ []; value = tall (expr.Proxy plain (expr.Number 0)) (1 + 1); reads = g.a_proxy plain_name zero_expr }
   word_starts key.Host p e = record {
-    tokens = token.Word key.Min 0 ∷ open ∷ zero_token ∷ comma ∷ zero_token ∷ close ∷ [];
+    tokens = token.Word key.Min 0 ∷ opening ∷ zero_token ∷ comma ∷ zero_token ∷ closing ∷ [];
     value = tall (expr.Host host.Min (expr.Number 0) (expr.Number 0)) (max 1 1 + 1);
     reads = g.a_host_call (g.a_host key.Min 0 refl) zero_expr zero_expr;
   }
-  word_starts key.Parent p e = record { tokens = a_word ∷ dot ∷ a_word ∷ open ∷ close ∷ []; value = tall (expr.Parent plain plain []) (0 + 1); reads = g.a_parent_call plain_name plain_word g.no_arguments }
-  word_starts key.Parents p e = record { tokens = dot ∷ a_word ∷ open ∷ close ∷ []; value = tall (expr.Parents plain []) (0 + 1); reads = g.a_parents_call plain_word g.no_arguments }
+  word_starts key.Parent p e = record { tokens = a_word ∷ dot ∷ a_word ∷ opening ∷ closing ∷ []; value = tall (expr.Parent plain plain []) (0 + 1); reads = g.a_parent_call plain_name plain_word g.no_arguments }
+  word_starts key.Parents p e = record { tokens = dot ∷ a_word ∷ opening ∷ closing ∷ []; value = tall (expr.Parents plain []) (0 + 1); reads = g.a_parents_call plain_word g.no_arguments }
   word_starts k p e = named_starts k p e
 
   primary_starts : (t : Token) → r.begins_primary (Some t) ≡ true → Member (λ u. OnLine text_at line.Primary (t ∷ u))
   primary_starts (token.Number n) e = atom_starts (token.Number n) _ refl
   primary_starts (token.Literal p) e = atom_starts (token.Literal p) _ refl
-  primary_starts (token.Mark sign.Open) e = record { tokens = zero_token ∷ close ∷ []; value = tall (expr.Number 0) (1 + 1); reads = g.a_group zero_expr }
+  primary_starts (token.Mark sign.Open) e = record { tokens = zero_token ∷ closing ∷ []; value = tall (expr.Number 0) (1 + 1); reads = g.a_group zero_expr }
   primary_starts (token.Word k p) e = word_starts k p e
   primary_starts t e = cc
 
   -- ---- the other lines
   by_name_tokens : List Token
-  by_name_tokens = token.Word key.Void 0 ∷ zero_token ∷ dot ∷ a_word ∷ open ∷ close ∷ []
+  by_name_tokens = token.Word key.Void 0 ∷ zero_token ∷ dot ∷ a_word ∷ opening ∷ closing ∷ []
 
   module _ (t : Token) where
     postfix_by : Member (λ u. OnLine text_at line.Primary (t ∷ u)) → Member (λ u. OnLine text_at line.Postfix (t ∷ u))
