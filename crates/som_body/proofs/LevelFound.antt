@@ -29,18 +29,18 @@ now e = record { fits = λ le. e; deep = λ gt. absurd (omega arith) }
 pub single : {A : Type 0} {d : ℕ} {x : A} {z : List Token} {o : Outcome A} → o ≡ Ok (x, z) → Found (suc d) 1 x z o
 single e = record { fits = λ le. e; deep = λ gt. absurd (omega arith) }
 
-module _ {A B : Type 0} {d h k : ℕ} {x : A} {y : B} {z w : List Token} {o : Outcome A} {f : A → Parser B} where
-  second_deep : o ≡ Ok (x, z) → Deep (f x z) → Deep (and_then o f)
+module _ {A B : Type 0} (f : A → Parser B) where
+  pub second_deep : {x : A} {z : List Token} {o : Outcome A} → o ≡ Ok (x, z) → Deep (f x z) → Deep (and_then o f)
   second_deep e n = record { rest = n.rest; is = ap (λ o. and_then o f) e ∙ n.is }
 
-  next_deep : Found d h x z o → Found d k y w (f x z) → d < max h k → Deep (and_then o f)
-  next_deep m n gt = elim (cases_lt d h) [ inl first ↦ deep_bind f (m.deep first) | inr le ↦ second_deep (m.fits le) (n.deep (omega arith)) ]
+  next_deep : {d h k : ℕ} {x : A} {y : B} {z w : List Token} {o : Outcome A} → Found d h x z o → Found d k y w (f x z) → d < max h k → Deep (and_then o f)
+  next_deep {d = d} {h = h} m n gt = elim (cases_lt d h) [ inl first ↦ deep_bind f (m.deep first) | inr le ↦ second_deep (m.fits le) (n.deep (omega arith)) ]
 
-  next_fits : Found d h x z o → Found d k y w (f x z) → max h k ≤ d → and_then o f ≡ Ok (y, w)
-  next_fits m n le = let le_h : h ≤ d = omega arith in let le_k : k ≤ d = omega arith in ap (λ o. and_then o f) (m.fits le_h) ∙ n.fits le_k
+  next_fits : {d h k : ℕ} {x : A} {y : B} {z w : List Token} {o : Outcome A} → Found d h x z o → Found d k y w (f x z) → max h k ≤ d → and_then o f ≡ Ok (y, w)
+  next_fits {d = d} {h = h} {k = k} m n le = let le_h : h ≤ d = omega arith in let le_k : k ≤ d = omega arith in ap (λ o. and_then o f) (m.fits le_h) ∙ n.fits le_k
 
   -- one after the other
-  pub next : Found d h x z o → Found d k y w (f x z) → Found d (max h k) y w (and_then o f)
+  pub next : {d h k : ℕ} {x : A} {y : B} {z w : List Token} {o : Outcome A} → Found d h x z o → Found d k y w (f x z) → Found d (max h k) y w (and_then o f)
   next m n = record { fits = λ le. next_fits m n le; deep = λ gt. next_deep m n gt }
 
 -- one level down

@@ -9,3 +9,7 @@ pub mod LevelFound
 pub mod WordFound
 pub mod Strengths
 pub mod FormsFound
+pub mod StartsOf
+pub mod LineFound
+pub mod CallFound
+pub mod StatementFound

@@ -123,8 +123,8 @@ unfolding r.too_deep
 starts_deep {u = u} z s = record { rest = u ++ z; is = rw (s.is) (rw (s.begins) refl) }
 
 -- what the first token is not
-pub starts_not : {test other : Option Token → Bool} {h : ℕ} {u : List Token} (z : List Token) → Starts test h u → ((t : Token) → test (Some t) ≡ true → other (Some t) ≡ false) → other (head (u ++ z)) ≡ false
-starts_not z s f = rw (s.is) (f s.first s.begins)
+pub starts_not : {test : Option Token → Bool} (other : Option Token → Bool) {h : ℕ} {u : List Token} (z : List Token) → Starts test h u → ((t : Token) → test (Some t) ≡ true → other (Some t) ≡ false) → other (head (u ++ z)) ≡ false
+starts_not other z s f = rw (s.is) (f s.first s.begins)
 
 pub postfix_wide : (t : Token) → r.begins_primary (Some t) ≡ true → r.begins_postfix (Some t) ≡ true
 postfix_wide (token.Word key.Lookup p) e = refl
