@@ -3,13 +3,14 @@ use Rattle.std.proofs.Common.{◌≡◌, ℕ, zero, suc, ◌+◌, ◌-◌, ◌<�
 use Rattle.std.proofs.lemmas.List.{append-nil}
 use Rattle.som_read.specs.Readers.{Outcome, Parser, and_then, ◌>>=◌, pure, repeat}
 use Rattle.som_read.specs.Tokens.{head, is_sign, is_key, same_key, same_sign, word}
+use Rattle.som_read.specs.declared.cursor.Turn.TheVariants.{Done}
 use Rattle.som_read.specs.declared.token.Key.{Key}
 use Rattle.som_read.specs.declared.token.Key.TheVariants as key
 use Rattle.som_read.specs.declared.token.Sign.TheVariants as sign
 use Rattle.som_read.specs.declared.token.Token.{Token}
 use Rattle.som_read.specs.declared.token.Token.TheVariants as token
 use Rattle.som_read.specs.declared.tree.Word.{Word}
-use Rattle.som_read.proofs.Found.{expect_found}
+use Rattle.som_read.proofs.Found.{climb_first, expect_found}
 use Rattle.som_read.proofs.Steps.{apart_key, same_sign_self}
 use Rattle.som_body.specs.Grammar as g
 use Rattle.som_body.specs.Reading as r
@@ -25,7 +26,7 @@ use Rattle.som_body.specs.declared.tree.ExprText.TheVariants.{rolls-Name, rolls-
 use Rattle.som_body.specs.declared.tree.StmtText.{StmtText}
 use Rattle.som_body.specs.declared.tree.StmtText.TheVariants as stmt
 use Rattle.som_body.proofs.FormsFound.{dot, inner, step, step_climbs, pushed_none}
-use Rattle.som_body.proofs.LevelFound.{Deep, Found, deep_bind, now, next, lifted, same_levels, Climbs, climbs_first, climbs_end}
+use Rattle.som_body.proofs.LevelFound.{Deep, Found, climb_out, now, next, lifted, same_levels, Climbs, climbs_first, climbs_end}
 use Rattle.som_body.proofs.FormsFound.{pushed_end}
 use Rattle.som_body.proofs.LineFound.{Below, arguments_found, postfix_found}
 use Rattle.som_body.proofs.StartLaws.{named_atom}
@@ -106,17 +107,18 @@ module _ (text_at : ℕ → List ℕ) where
 
   -- the steps after a first part of one level, of which there are some
   one_step_deep : (a : ExprText) (w z : List Token) → Deep (sr.steps_from text_at 0 (tall a 1) (dot ∷ (w ++ z)))
-  unfolding repeat
-  one_step_deep a w z =
-      let n = pushed_none (is_sign sign.Dot) 0 1 (r.step_taken text_at (r.at text_at 0) (tall a 1)) (pure _) dot (w ++ z) (same_sign_self sign.Dot) (omega arith) in
-      record { rest = n.rest; is = rw (n.is) refl }
+  one_step_deep a w z = climb_out (r.step text_at (r.at text_at 0) 0) (tall a 1) (dot ∷ (w ++ z)) _ (climb_first (r.step text_at (r.at text_at 0) 0) (tall a 1) (dot ∷ (w ++ z)))
+      (pushed_none (is_sign sign.Dot) 0 1 (r.step_taken text_at (r.at text_at 0) (tall a 1)) (pure (Done (tall a 1))) dot (w ++ z) (same_sign_self sign.Dot) (omega arith))
 
   module _ {h : ℕ} {a b : ExprText} (w z : List Token) (tall_is : 0 < h) (low : strength (head z) < 7)
       (climbs : (d : ℕ) (o : Outcome Tall) → Climbs (step text_at d) (suc d) 1 (tall b 1) ((dot ∷ w) ++ z) o → Climbs (step text_at d) (suc d) h (tall a h) z o) where
     chain_found : (e : ℕ) → Found e h (tall a h) z (sr.steps_from text_at e (tall b 1) (dot ∷ (w ++ z)))
     chain_found zero = record { fits = λ le. absurd (omega (arith, tall_is)); deep = λ gt. one_step_deep b w z }
-    chain_found (suc d) = climbs_end (step text_at d) (suc d) h (tall a h) (tall a h) z _ (climbs d _ (climbs_first (step text_at d) (suc d) 1 (tall b 1) (dot ∷ (w ++ z)) (omega arith)))
-        (pushed_end (is_sign sign.Dot) (suc d) h (r.step_taken text_at (inner text_at d) (tall a h)) (pure _) z (no_dot (head z) low))
+    chain_found (suc d) =
+        let m : d ≡ suc d - 1 = omega arith in
+        subst (λ n. Found (suc d) h (tall a h) z (repeat (r.step text_at (r.at text_at n) (suc d)) (tall b 1) (dot ∷ (w ++ z)))) m
+        (climbs_end (step text_at d) (suc d) h (tall a h) (tall a h) z _ (climbs d _ (climbs_first (step text_at d) (suc d) 1 (tall b 1) (dot ∷ (w ++ z)) (omega arith)))
+        (pushed_end (is_sign sign.Dot) (suc d) h (r.step_taken text_at (inner text_at d) (tall a h)) (pure (Done (tall a h))) z (no_dot (head z) low)))
 
   -- ---- what the statement begins with
   pub data Opens : ℕ → List Token → ExprText → Type 0 where
@@ -129,7 +131,7 @@ module _ (text_at : ℕ → List ℕ) where
 
   word_opens : (b : Bool) (k : Key) (p : ℕ) (a : ExprText) → g.is_name k ≡ b → g.word_atom text_at k p ≡ Some a → Opens 1 (token.Word k p ∷ []) a
   word_opens true k p a is e = subst (Opens 1 (token.Word k p ∷ [])) (named_value k p a is e) (opens_name (g.a_name k p is))
-  word_opens false k p a is e = opens_other (token.Word k p) [] is (no_som_this k p a e)
+  word_opens false k p a is e = opens_other (token.Word k p) [] is (no_som_this text_at k p a e)
 
   atom_opens : (t : Token) (a : ExprText) → g.atom text_at t ≡ Some a → Opens 1 (t ∷ []) a
   atom_opens (token.Number n) a e = opens_other (token.Number n) [] refl refl
@@ -158,7 +160,7 @@ module _ (text_at : ℕ → List ℕ) where
     abbrev reading : List Token → Outcome StmtText
     reading = sr.statement text_at in' in_if e
 
-    name_first : {u : List Token} {n : Word} (z : List Token) → g.IsName text_at u n → reading (u ++ z) ≡ sr.named_statement text_at e (u ++ z)
+    pub name_first : {u : List Token} {n : Word} (z : List Token) → g.IsName text_at u n → reading (u ++ z) ≡ sr.named_statement text_at e (u ++ z)
     unfolding sr.statement
     name_first z (g.a_name k p is) =
         rw (
@@ -217,23 +219,22 @@ module _ (text_at : ℕ → List ℕ) where
         let b : r.begins_postfix (Some t) ≡ true = ap (λ c. r.begins_postfix (Some c)) (sym first) ∙ x.begins in
         rw is (other_first t (y ++ z) b n m)
 
-    module _ {h : ℕ} {a : ExprText} (z : List Token) (is : s.is_call a ≡ true) where
-      by_opening : {k : ℕ} {u t whole : List Token} {b : ExprText} → Opens k u b → Rest b t a → whole ≡ u ++ t → g.IsStepped text_at h whole a
-          → ((d : ℕ) (y : List Token) (o : Outcome Tall) → Climbs (step text_at d) (suc d) k (tall b k) (t ++ y) o → Climbs (step text_at d) (suc d) h (tall a h) y o)
-          → Found (suc e) (h + 1) (stmt.Call a) z (reading (whole ++ semicolon ∷ z))
-      by_opening (opens_name {n = n} i) no_rest same x climbs = let no : s.is_call (expr.Name n) ≡ false = name_is_no_call n in absurd cc
-      by_opening (opens_variable p {n = n} i) no_rest same x climbs = let no : s.is_call (expr.Variable n) ≡ false = variable_is_no_call n in absurd cc
-      by_opening {u = u} (opens_name i) (some_rest w) same x climbs =
-          rw (same, append_assoc u (dot ∷ w) (semicolon ∷ z), name_first (dot ∷ (w ++ semicolon ∷ z)) i)
-          (named_call' z is w (stepped_starts text_at x).tall i (λ d o. climbs d (semicolon ∷ z) o))
-      by_opening (opens_variable p {u = u} i) (some_rest w) same x climbs =
-          rw (same, append_assoc u (dot ∷ w) (semicolon ∷ z), own_first p (dot ∷ (u ++ dot ∷ (w ++ semicolon ∷ z))))
-          (own_call z is w (stepped_starts text_at x).tall i (λ d o. climbs d (semicolon ∷ z) o))
-      by_opening {t = rest} {whole = whole} (opens_other t v n m) more same x climbs =
-          rw (other_way t (v ++ rest) (semicolon ∷ z) (starts_wider postfix_wide (stepped_starts text_at x)) same n m) (other_call z is (g.a_stepped x))
+    by_opening : {h k : ℕ} {u t whole : List Token} {a b : ExprText} (z : List Token) → s.is_call a ≡ true → Opens k u b → Rest b t a → whole ≡ u ++ t → g.IsStepped text_at h whole a
+        → ((d : ℕ) (y : List Token) (o : Outcome Tall) → Climbs (step text_at d) (suc d) k (tall b k) (t ++ y) o → Climbs (step text_at d) (suc d) h (tall a h) y o)
+        → Found (suc e) (h + 1) (stmt.Call a) z (reading (whole ++ semicolon ∷ z))
+    by_opening z is (opens_name {n = n} i) no_rest same x climbs = let no : s.is_call (expr.Name n) ≡ false = name_is_no_call n in absurd cc
+    by_opening z is (opens_variable p {n = n} i) no_rest same x climbs = let no : s.is_call (expr.Variable n) ≡ false = variable_is_no_call n in absurd cc
+    by_opening {u = u} z is (opens_name i) (some_rest w) same x climbs =
+        rw (same, append_assoc u (dot ∷ w) (semicolon ∷ z), name_first (dot ∷ (w ++ semicolon ∷ z)) i)
+        (named_call' z is w (stepped_starts text_at x).tall i (λ d o. climbs d (semicolon ∷ z) o))
+    by_opening z is (opens_variable p {u = u} i) (some_rest w) same x climbs =
+        rw (same, append_assoc u (dot ∷ w) (semicolon ∷ z), own_first p (dot ∷ (u ++ dot ∷ (w ++ semicolon ∷ z))))
+        (own_call z is w (stepped_starts text_at x).tall i (λ d o. climbs d (semicolon ∷ z) o))
+    by_opening {t = rest} {whole = whole} z is (opens_other t v n m) more same x climbs =
+        rw (other_way t (v ++ rest) (semicolon ∷ z) (starts_wider postfix_wide (stepped_starts text_at x)) same n m) (other_call z is (g.a_stepped x))
 
-      pub call_found : {u : List Token} → g.IsPostfix text_at h u a → Found (suc e) (h + 1) (stmt.Call a) z (reading (u ++ semicolon ∷ z))
-      unfolding same_key
-      call_found (g.a_stepped x) = let p = parted x in by_opening (opens p.first) p.more p.is x p.climbs
-      call_found (g.a_lookup {p = p} i x j y) = rw (other_first (token.Word key.Lookup p) _ refl refl refl) (other_call z is (g.a_lookup i x j y))
-      call_found (g.a_dispatch {p = p} i x j y) = rw (other_first (token.Word key.Dispatch p) _ refl refl refl) (other_call z is (g.a_dispatch i x j y))
+    pub call_found : {h : ℕ} {u : List Token} {a : ExprText} (z : List Token) → s.is_call a ≡ true → g.IsPostfix text_at h u a → Found (suc e) (h + 1) (stmt.Call a) z (reading (u ++ semicolon ∷ z))
+    unfolding same_key
+    call_found z is (g.a_stepped x) = let p = parted x in by_opening z is (opens p.first) p.more p.is x p.climbs
+    call_found z is (g.a_lookup {p = p} i x j y) = rw (other_first (token.Word key.Lookup p) _ refl refl refl) (other_call z is (g.a_lookup i x j y))
+    call_found z is (g.a_dispatch {p = p} i x j y) = rw (other_first (token.Word key.Dispatch p) _ refl refl refl) (other_call z is (g.a_dispatch i x j y))

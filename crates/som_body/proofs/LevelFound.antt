@@ -65,7 +65,7 @@ module _ {A B : Type 0} (turn : A → Parser (Turn A B)) where
   out_by a w o zero lt same deep = absurd (omega arith)
   out_by a w o (suc n) lt same deep = record { rest = deep.rest; is = same ∙ ap (λ y. and_then y (go (turns turn n))) deep.is }
 
-  climb_out : (a : A) (w : List Token) (o : Outcome B) → Climbing turn a w o → Deep (turn a w) → Deep o
+  pub climb_out : (a : A) (w : List Token) (o : Outcome B) → Climbing turn a w o → Deep (turn a w) → Deep o
   climb_out a w o m deep = out_by a w o m.fuel m.enough m.same deep
 
   pub climbs_first : (d h : ℕ) (a : A) (z : List Token) → h ≤ d → Climbs turn d h a z (repeat turn a z)

@@ -26,7 +26,7 @@ no_value : {A : Type 0} {x : A} {y z : List Token} {f : Stop} {o : Outcome A} �
 no_value e g = cc
 
 one_stop : {A : Type 0} {f k : Stop} {y z : List Token} {o : Outcome A} → o ≡ Err (f, y) → o ≡ Err (k, z) → f ≡ k
-one_stop e g = let x : ◌≡◌ {A = Stop × List Token} (_, _) (_, _) = cc in ap (λ (p : Stop × List Token). p.0) x
+one_stop {f = f} {k = k} {y = y} {z = z} e g = let x : ◌≡◌ {A = Stop × List Token} (f, y) (k, z) = cc in ap (λ (p : Stop × List Token). p.0) x
 
 module _ {A : Type 0} (L : Leveled A) (p : ℕ → Parser A) (law : (d : ℕ) → Lawful (Texts L) (p d)) (found : (d h : ℕ) (u : List Token) (a : A) → L h u a → Found d h a [] (p d u)) where
   deep_stop : {d : ℕ} {u z : List Token} {f : Stop} → Deep (p d u) → p d u ≡ Err (f, z) → Nesting ≡ f

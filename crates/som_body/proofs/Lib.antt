@@ -13,3 +13,7 @@ pub mod StartsOf
 pub mod LineFound
 pub mod CallFound
 pub mod StatementFound
+pub mod FileLaws
+pub mod FileFound
+pub mod LevelWhole
+pub mod Theorem

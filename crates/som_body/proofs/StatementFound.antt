@@ -201,7 +201,7 @@ module _ (text_at : ℕ → List ℕ) where
 
     no_else_found : (z : List Token) → NoElse z → Found d 0 (block_of []) z (sr.else_part text_at within within_if z)
     unfolding sr.else_part
-    no_else_found z no = now (rw no refl)
+    no_else_found z safe = now (rw safe refl)
 
     else_block_found : (p : ℕ) {h : ℕ} {b : BlockText} (y z : List Token) → Found d h b z (sr.block text_at within within_if (token.Mark sign.OpenBrace ∷ y)) → Found d h b z (sr.else_part text_at within within_if (token.Word key.Else p ∷ token.Mark sign.OpenBrace ∷ y))
     unfolding sr.else_part same_key same_sign
@@ -215,48 +215,48 @@ module _ (text_at : ℕ → List ℕ) where
   stmt_by : {h : ℕ} (u : List Token) {x : StmtText} → Starts sr.begins_stmt h u → ((e : ℕ) (z : List Token) → NoElse z → Found (suc e) h x z (sr.statement text_at (sr.statement_at text_at e) (sr.if_at text_at e) e (u ++ z)))
       → (d : ℕ) (z : List Token) → NoElse z → Found d h x z (sr.statement_at text_at d (u ++ z))
   unfolding sr.statement_at
-  stmt_by u starts m zero z no = record { fits = λ le. absurd (omega (arith, starts.tall)); deep = λ gt. starts_deep z starts }
-  stmt_by u starts m (suc e) z no = m e z no
+  stmt_by u starts m zero z safe = record { fits = λ le. absurd (omega (arith, starts.tall)); deep = λ gt. starts_deep z starts }
+  stmt_by u starts m (suc e) z safe = m e z safe
 
   if_by : {h : ℕ} (u : List Token) {x : StmtText} → Starts (is_key key.If) h u → ((e : ℕ) (z : List Token) → NoElse z → Found (suc e) h x z (sr.if_statement text_at (sr.statement_at text_at e) (sr.if_at text_at e) e (u ++ z)))
       → (d : ℕ) (z : List Token) → NoElse z → Found d h x z (sr.if_at text_at d (u ++ z))
   unfolding sr.statement_at
-  if_by u starts m zero z no = record { fits = λ le. absurd (omega (arith, starts.tall)); deep = λ gt. starts_deep z starts }
-  if_by u starts m (suc e) z no = m e z no
+  if_by u starts m zero z safe = record { fits = λ le. absurd (omega (arith, starts.tall)); deep = λ gt. starts_deep z starts }
+  if_by u starts m (suc e) z safe = m e z safe
 
   mutual
     stmt_read : {h : ℕ} {u : List Token} {x : StmtText} → s.IsStmt text_at h u x → (e : ℕ) (z : List Token) → NoElse z → Found (suc e) h x z (sr.statement text_at (sr.statement_at text_at e) (sr.if_at text_at e) e (u ++ z))
-    stmt_read (s.a_var {p = p} {u = u} {v = v} {w = w} i j k) e z no =
+    stmt_read (s.a_var {p = p} {u = u} {v = v} {w = w} i j k) e z safe =
         rw (append_assoc u (token.Mark sign.Colon ∷ (v ++ token.Mark sign.Assign ∷ (w ++ semicolon ∷ []))) z, append_assoc v (token.Mark sign.Assign ∷ (w ++ semicolon ∷ [])) z, append_assoc w (semicolon ∷ []) z)
         (var_read (sr.statement_at text_at e) (sr.if_at text_at e) e p u v w z i j k)
-    stmt_read (s.a_set {u = u} {v = v} i j) e z no =
+    stmt_read (s.a_set {u = u} {v = v} i j) e z safe =
         rw (append_assoc u (token.Mark sign.Assign ∷ (v ++ semicolon ∷ [])) z, append_assoc v (semicolon ∷ []) z, name_first text_at (sr.statement_at text_at e) (sr.if_at text_at e) e (token.Mark sign.Assign ∷ (v ++ semicolon ∷ z)) i)
         (set_read (sr.statement_at text_at e) (sr.if_at text_at e) e u v z i j)
-    stmt_read (s.a_set_variable {p = p} {u = u} {v = v} i j) e z no =
+    stmt_read (s.a_set_variable {p = p} {u = u} {v = v} i j) e z safe =
         rw (append_assoc u (token.Mark sign.Assign ∷ (v ++ semicolon ∷ [])) z, append_assoc v (semicolon ∷ []) z) (set_variable_read (sr.statement_at text_at e) (sr.if_at text_at e) e p u v z i j)
-    stmt_read (s.an_if (s.the_if {p = p} {u = u} {v = v} {w = w} i j k)) e z no =
+    stmt_read (s.an_if (s.the_if {p = p} {u = u} {v = v} {w = w} i j k)) e z safe =
         rw (append_assoc u (closing ∷ (v ++ w)) z, append_assoc v w z, if_first (sr.statement_at text_at e) (sr.if_at text_at e) e p (opening ∷ (u ++ closing ∷ (v ++ (w ++ z)))))
-        (if_read (sr.statement_at text_at e) (sr.if_at text_at e) e p u v w z i (block_read j e (w ++ z)) (else_read k e z no))
-    stmt_read (s.a_while {p = p} {u = u} {v = v} i j) e z no = rw (append_assoc u (closing ∷ v) z) (while_read (sr.statement_at text_at e) (sr.if_at text_at e) e p u v z i (block_read j e z))
-    stmt_read (s.a_return {p = p}) e z no = return_read (sr.statement_at text_at e) (sr.if_at text_at e) e p z
-    stmt_read (s.a_return_value {p = p} {u = u} i) e z no = rw (append_assoc u (semicolon ∷ []) z) (return_value_read (sr.statement_at text_at e) (sr.if_at text_at e) e p u z i)
-    stmt_read (s.a_print {p = p} {u = u} i) e z no = rw (append_assoc u (semicolon ∷ []) z) (print_read (sr.statement_at text_at e) (sr.if_at text_at e) e p u z i)
-    stmt_read (s.a_free {p = p} {u = u} i) e z no = rw (append_assoc u (semicolon ∷ []) z) (free_read (sr.statement_at text_at e) (sr.if_at text_at e) e p u z i)
-    stmt_read (s.a_call {u = u} i is) e z no = rw (append_assoc u (semicolon ∷ []) z) (call_found text_at (sr.statement_at text_at e) (sr.if_at text_at e) e z is i)
+        (if_read (sr.statement_at text_at e) (sr.if_at text_at e) e p u v w z i (block_read j e (w ++ z)) (else_read k e z safe))
+    stmt_read (s.a_while {p = p} {u = u} {v = v} i j) e z safe = rw (append_assoc u (closing ∷ v) z) (while_read (sr.statement_at text_at e) (sr.if_at text_at e) e p u v z i (block_read j e z))
+    stmt_read (s.a_return {p = p}) e z safe = return_read (sr.statement_at text_at e) (sr.if_at text_at e) e p z
+    stmt_read (s.a_return_value {p = p} {u = u} i) e z safe = rw (append_assoc u (semicolon ∷ []) z) (return_value_read (sr.statement_at text_at e) (sr.if_at text_at e) e p u z i)
+    stmt_read (s.a_print {p = p} {u = u} i) e z safe = rw (append_assoc u (semicolon ∷ []) z) (print_read (sr.statement_at text_at e) (sr.if_at text_at e) e p u z i)
+    stmt_read (s.a_free {p = p} {u = u} i) e z safe = rw (append_assoc u (semicolon ∷ []) z) (free_read (sr.statement_at text_at e) (sr.if_at text_at e) e p u z i)
+    stmt_read (s.a_call {u = u} i is) e z safe = rw (append_assoc u (semicolon ∷ []) z) (call_found text_at (sr.statement_at text_at e) (sr.if_at text_at e) e z is i)
 
     if_part_read : {h : ℕ} {u : List Token} {x : StmtText} → s.IsIf text_at h u x → (e : ℕ) (z : List Token) → NoElse z → Found (suc e) h x z (sr.if_statement text_at (sr.statement_at text_at e) (sr.if_at text_at e) e (u ++ z))
-    if_part_read (s.the_if {p = p} {u = u} {v = v} {w = w} i j k) e z no =
-        rw (append_assoc u (closing ∷ (v ++ w)) z, append_assoc v w z) (if_read (sr.statement_at text_at e) (sr.if_at text_at e) e p u v w z i (block_read j e (w ++ z)) (else_read k e z no))
+    if_part_read (s.the_if {p = p} {u = u} {v = v} {w = w} i j k) e z safe =
+        rw (append_assoc u (closing ∷ (v ++ w)) z, append_assoc v w z) (if_read (sr.statement_at text_at e) (sr.if_at text_at e) e p u v w z i (block_read j e (w ++ z)) (else_read k e z safe))
 
     else_read : {h : ℕ} {u : List Token} {b : BlockText} → s.IsElse text_at h u b → (d : ℕ) (z : List Token) → NoElse z → Found d h b z (sr.else_part text_at (sr.statement_at text_at d) (sr.if_at text_at d) (u ++ z))
-    else_read s.no_else d z no = no_else_found d z no
-    else_read (s.else_block {p = p} (s.a_block {u = u} x)) d z no = else_block_found d p ((u ++ token.Mark sign.CloseBrace ∷ []) ++ z) z (rw (append_assoc u (token.Mark sign.CloseBrace ∷ []) z) (block_found d u z (stmts_climbs x d)))
-    else_read (s.else_if {p = p} {u = u} x) d z no = else_if_found d p u z (if_starts x) (if_by u (if_starts x) (if_part_read x) d z no)
+    else_read s.no_else d z safe = no_else_found d z safe
+    else_read (s.else_block {p = p} (s.a_block {u = u} x)) d z safe = else_block_found d p ((u ++ token.Mark sign.CloseBrace ∷ []) ++ z) z (rw (append_assoc u (token.Mark sign.CloseBrace ∷ []) z) (block_found d u z (stmts_climbs x d)))
+    else_read (s.else_if {p = p} {u = u} x) d z safe = else_if_found d p u z (if_starts x) (if_by u (if_starts x) (if_part_read x) d z safe)
 
     pub block_read : {h : ℕ} {u : List Token} {b : BlockText} → s.IsBlock text_at h u b → (d : ℕ) (z : List Token) → Found d h b z (sr.block text_at (sr.statement_at text_at d) (sr.if_at text_at d) (u ++ z))
     block_read (s.a_block {u = u} x) d z = rw (append_assoc u (token.Mark sign.CloseBrace ∷ []) z) (block_found d u z (stmts_climbs x d))
 
     stmts_climbs : {h : ℕ} {u : List Token} {xs : List StmtText} → s.IsStmts text_at h u xs → (d : ℕ) → StmtsClimb d h u xs
-    stmts_climbs s.no_statement d z no = none_climbs d z
-    stmts_climbs (s.one_statement {u = u} {v = v} x y) d z no = rw (append_assoc u v z)
-        (one_climbs d v z _ (stmt_starts y) (stmts_climbs x d (v ++ z) (starts_not (is_key key.Else) z (stmt_starts y) no_else)) (stmt_by v (stmt_starts y) (stmt_read y) d z no))
+    stmts_climbs s.no_statement d z safe = none_climbs d z
+    stmts_climbs (s.one_statement {u = u} {v = v} x y) d z safe = rw (append_assoc u v z)
+        (one_climbs d v z _ (stmt_starts y) (stmts_climbs x d (v ++ z) (starts_not (is_key key.Else) z (stmt_starts y) no_else)) (stmt_by v (stmt_starts y) (stmt_read y) d z safe))

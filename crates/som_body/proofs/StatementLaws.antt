@@ -35,7 +35,7 @@ use Rattle.som_body.proofs.PrimaryLaws.{OnLine}
 use Rattle.som_body.proofs.StartLaws.{named_atom, postfix_starts, zero_expr}
 use Rattle.som_body.proofs.WordLaws.{any_word_law, name_law, kind_law}
 
-all_kept : {A : Type 0} {L : Lang A} {u : List Token} {o : Option A} → Kept L u o → o ≡ None → ⊥
+pub all_kept : {A : Type 0} {L : Lang A} {u : List Token} {o : Option A} → Kept L u o → o ≡ None → ⊥
 all_kept (it_is_kept h) e = cc
 
 module _ (text_at : ℕ → List ℕ) where
