@@ -13,6 +13,7 @@ mod cases;
 #[cfg(test)]
 mod deep_cases;
 mod file;
+mod laws;
 mod level;
 mod lines;
 mod operators;
@@ -28,6 +29,10 @@ mod tests;
 mod tree;
 mod word;
 
+pub use laws::{
+    no_bodies_nesting, no_main_nesting, one_bodies_answer, one_bodies_tree, one_main_answer,
+    one_main_tree, some_bodies_answer, some_main_answer,
+};
 pub use operators::{
     ADD, AND, DIVIDE, EQUAL, GREATER, GREATER_EQUAL, JOIN, LENGTH, LESS, LESS_EQUAL, MINUS,
     MULTIPLY, NOT, NOT_EQUAL, OR, REMAINDER, SUBTRACT, TEXT,
