@@ -18,3 +18,4 @@ pub mod FileLaws
 pub mod FileFound
 pub mod LevelWhole
 pub mod Theorem
+pub mod Stopping

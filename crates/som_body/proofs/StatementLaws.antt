@@ -62,8 +62,11 @@ module _ (text_at : ℕ → List ℕ) where
 
   -- any postfix without a call goes on to one
   stepped_on : (u : List Token) (h : ℕ) (a : ExprText) → g.IsStepped text_at h u a → Statement (u ++ (step_tokens ++ token.Mark sign.Semicolon ∷ [])) (stmt.Call (expr.Call a (word text_at 0) []))
-  stepped_on u h a x = (max h 0 + 1 + 1, subst (λ y. s.IsStmt text_at (max h 0 + 1 + 1) y (stmt.Call (expr.Call a (word text_at 0) []))) (append_assoc u step_tokens (token.Mark sign.Semicolon ∷ []))
-      (s.a_call (g.a_stepped (g.a_step x (g.a_word key.Plain 0) g.no_arguments)) (step_is_call a (word text_at 0) [])))
+  stepped_on u h a x = (
+    max h 0 + 1 + 1,
+    subst (λ y. s.IsStmt text_at (max h 0 + 1 + 1) y (stmt.Call (expr.Call a (word text_at 0) []))) (append_assoc u step_tokens (token.Mark sign.Semicolon ∷ []))
+        (s.a_call (g.a_stepped (g.a_step x (g.a_word key.Plain 0) g.no_arguments)) (step_is_call a (word text_at 0) [])),
+  )
 
   some_call : {h : ℕ} {u : List Token} {a : ExprText} → g.IsPostfix text_at h u a → s.is_call a ≡ false → Member (λ v. Statement (u ++ v))
   some_call (g.a_stepped {h = h} {u = u} {a = a} x) e = record { tokens = step_tokens ++ token.Mark sign.Semicolon ∷ []; value = stmt.Call (expr.Call a (word text_at 0) []); reads = stepped_on u h a x }

@@ -173,9 +173,16 @@ impl<'t, F: Fn(Global, &Tokens, &mut Cursor<'_>, usize, Line) -> Result<Tall, St
         ensures reads { Answers (spec.compared (text_at self.now.tokens.now) (spec.at (text_at self.now.tokens.now) self.now.depth) (self.now.depth + 1) first left.old.rest.now) result left.new.rest.now }
         ensures low { IfOk result (λ a. a.height ≤ self.now.depth + 1) }
     {
-        match self.operation(left, Line::Cmp, first)? {
-            Turn::More(whole) | Turn::Done(whole) => Ok(whole),
+        let Some(op) = operator(Line::Cmp, left.peek()) else {
+            return Ok(first);
+        };
+        if !self.has_room(first.height) {
+            return Err(Stop::Nesting);
         }
+        left.skip();
+        let second = self.below(left, Line::Sum)?;
+        let whole = combined(self.alloc, op, first, second)?;
+        Ok(whole)
     }
 
     #[tactic(auto, unfolding(crate::specs::Reading::cmp))]

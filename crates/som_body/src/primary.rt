@@ -4,7 +4,7 @@ ghost use Rattle.som_body.specs.Inner.{Reads};
 ghost use Rattle.som_body.specs.Reading as spec;
 ghost use Rattle.som_read.specs.Answer.{Answers};
 ghost use Rattle.som_read.specs.Seen.{text_at};
-ghost use Rattle.std.specs.Prelude.{◌≡◌, ◌≤◌, ◌+◌, IfOk};
+ghost use Rattle.std.specs.Prelude.{◌≡◌, ◌≤◌, ◌+◌, max, IfOk};
 
 use crate::ExprText;
 use crate::level::{Line, Tall};
@@ -12,7 +12,7 @@ use crate::operators::{LENGTH, TEXT};
 use crate::rules::Rules;
 use crate::word::{any_word, atom, host, name};
 use som_lex::Tokens;
-use som_model::Boxed;
+use som_model::{Boxed, HostCode, NoMemory};
 use som_read::{Cursor, Key, Sign, Stop};
 use std::alloc::Global;
 
@@ -21,6 +21,20 @@ fn low(tree: ExprText) -> Tall
     ensures { result ≡ spec.tall tree 1 }
 {
     Tall { tree, height: 1 }
+}
+
+fn hosted(alloc: Global, code: HostCode, first: Tall, second: Tall) -> Result<Tall, NoMemory>
+    requires first { first.height ≤ 64 }
+    requires second { second.height ≤ 64 }
+    ensures { IfOk result (λ call. call ≡ spec.tall (ExprText.Host code first.tree second.tree) (max first.height second.height + 1)) }
+{
+    let height = first.height.max(second.height) + 1;
+    let a = Boxed::new(alloc, first.tree)?;
+    let b = Boxed::new(alloc, second.tree)?;
+    Ok(Tall {
+        tree: ExprText::Host { code, a, b },
+        height,
+    })
 }
 
 impl<'t, F: Fn(Global, &Tokens, &mut Cursor<'_>, usize, Line) -> Result<Tall, Stop>> Rules<'t, F> {
@@ -138,12 +152,8 @@ impl<'t, F: Fn(Global, &Tokens, &mut Cursor<'_>, usize, Line) -> Result<Tall, St
         left.expect(Sign::Comma)?;
         let second = self.below(left, Line::Expr)?;
         left.expect(Sign::Close)?;
-        let a = Boxed::new(self.alloc, first.tree)?;
-        let b = Boxed::new(self.alloc, second.tree)?;
-        Ok(Tall {
-            tree: ExprText::Host { code, a, b },
-            height: first.height.max(second.height) + 1,
-        })
+        let call = hosted(self.alloc, code, first, second)?;
+        Ok(call)
     }
 
     #[tactic(auto, unfolding(crate::specs::Reading::parent_call))]
