@@ -1,3 +1,4 @@
+pub mod Deeper
 pub mod LevelLists
 pub mod OperatorLaws
 pub mod WordLaws

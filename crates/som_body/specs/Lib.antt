@@ -4,3 +4,4 @@ pub mod Statements
 pub mod Reading
 pub mod StatementReading
 pub mod Answer
+pub mod Inner
