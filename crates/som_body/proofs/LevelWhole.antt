@@ -10,7 +10,7 @@ use Rattle.som_read.specs.declared.cursor.Stop.TheVariants.{Memory, Syntax, Nest
 use Rattle.som_read.specs.declared.token.Token.{Token}
 use Rattle.som_read.proofs.Laws.{Lawful, Met, Took, Stopped, Shares}
 use Rattle.som_read.proofs.Whole.{Fails}
-use Rattle.som_body.specs.Answer.{Leveled, Texts, AreLow, AreDeep}
+use Rattle.som_body.specs.Answer.{Leveled, Texts, NoneDeep, SomeDeep}
 use Rattle.som_body.specs.Levels.{top}
 use Rattle.som_body.proofs.CallFound.{split_off}
 use Rattle.som_body.proofs.LevelLists.{top_take, top_part}
@@ -19,7 +19,7 @@ use Rattle.som_body.proofs.LevelFound.{Deep, Found}
 -- where reading stopped, the tokens before it begin a text, and with the one in hand, or the end there, none; no construct is too deep so far
 pub record LeavesAt {A : Type 0} (L : Leveled A) (d : ℕ) (ts z : List Token) : Type 0 where
   pub fails : Fails (Texts L) ts z
-  pub low : AreLow L d fails.taken
+  pub low : NoneDeep L d fails.taken
 
 -- the tokens up to and with the one in hand begin a text, and with it the first construct is too deep
 pub record NestsAt {A : Type 0} (L : Leveled A) (d : ℕ) (ts z : List Token) : Type 0 where
@@ -28,8 +28,8 @@ pub record NestsAt {A : Type 0} (L : Leveled A) (d : ℕ) (ts z : List Token) : 
   pub first : Token
   pub here : head z ≡ Some first
   pub before : Begins (Texts L) (taken ++ first ∷ [])
-  pub low : AreLow L d taken
-  pub deep : AreDeep L d (taken ++ first ∷ [])
+  pub low : NoneDeep L d taken
+  pub deep : SomeDeep L d (taken ++ first ∷ [])
 
 no_value : {A : Type 0} {x : A} {y z : List Token} {f : Stop} {o : Outcome A} → o ≡ Ok (x, y) → o ≡ Err (f, z) → ⊥
 no_value e g = cc
@@ -69,7 +69,7 @@ module _ {A : Type 0} (L : Leveled A) (p : ℕ → Parser A) (law : (d : ℕ) �
         let n : Stopped (Texts L) (p d) (u ++ w) Nesting m.rest = subst (Met (Texts L) (p d) (u ++ w)) m.is ((law d).at (u ++ w)) in
         elim (cases_lt (length m.front) (length u)) [ inl lt ↦ absurd (not_before w l _ m n lt) | inr far ↦ (let e = top_take (length u) (length m.front) l far in omega (arith, e, m.low)) ]
 
-    low_so_far : AreLow L d u
+    low_so_far : NoneDeep L d u
     low_so_far w l a x = elim (cases_lt d (top l)) [ inl gt ↦ low_at w l a x gt | inr le ↦ (let e = top_part (length u) l in omega (arith, e, le)) ]
 
   module _ (d : ℕ) (ts : List Token) where

@@ -18,7 +18,7 @@ use Rattle.som_read.proofs.FirstFault.{place_of, begins_later, first_fault, faul
 use Rattle.som_read.proofs.Laws.{Lawful}
 use Rattle.som_read.proofs.Places.{CutAt, cut}
 use Rattle.som_read.proofs.Whole.{Fails, ends}
-use Rattle.som_body.specs.Answer.{Leveled, Texts, AreLow, AreDeep, IsNestingFault, IsSyntaxFault, IsAnswer, is_refused}
+use Rattle.som_body.specs.Answer.{Leveled, Texts, NoneDeep, SomeDeep, IsNestingFault, IsSyntaxFault, IsAnswer, is_refused}
 use Rattle.som_body.specs.Levels.{top}
 use Rattle.som_body.specs.StatementReading as sr
 use Rattle.som_body.specs.Statements as s
@@ -65,8 +65,8 @@ module _ (t : Tokens) where
         record {
           within = lt;
           before = subst (Begins (Texts L)) (sym front) m.before;
-          low = subst (AreLow L d) (sym c.front) m.low;
-          deep = subst (AreDeep L d) (sym front) m.deep;
+          low = subst (NoneDeep L d) (sym c.front) m.low;
+          deep = subst (SomeDeep L d) (sym front) m.deep;
         }
 
     pub nesting_fault : (z : List Token) → NestsAt L d (seen t) z → IsNestingFault L d t (place_of t z)
@@ -79,7 +79,7 @@ module _ (t : Tokens) where
         let c = cut t.source 0 t.list m.fails.taken z m.fails.splits in
         let at : place_of t z ≡ c.place = place_is m.fails.taken z m.fails.splits c in
         let told = first_fault t (Texts L) z m.fails in
-        (record { first = told.0; low = subst (λ k. AreLow L d (seen_before t k)) (sym at) (subst (AreLow L d) (sym c.front) m.low) }, told.1)
+        (record { first = told.0; low = subst (λ k. NoneDeep L d (seen_before t k)) (sym at) (subst (NoneDeep L d) (sym c.front) m.low) }, told.1)
 
 -- ---- a reader of whole texts, and what is answered
 
@@ -137,7 +137,7 @@ module _ (t : Tokens) {A : Type 0} (L : Leveled A) (p : ℕ → Parser A) (law :
       omega (arith, x.deep (y.0 ++ w) l a text, more)
 
   -- so no text that isn't too deep begins with these tokens
-  no_later : {B : Type 0} (k j : ℕ) → Nests k → k + 1 ≤ j → Begins (Texts L) (seen_before t j) → AreLow L MAX_NESTING (seen_before t j) → B
+  no_later : {B : Type 0} (k j : ℕ) → Nests k → k + 1 ≤ j → Begins (Texts L) (seen_before t j) → NoneDeep L MAX_NESTING (seen_before t j) → B
   no_later k j x le b low = absurd (omega (arith, deep_later k j b.0 b.2.0 b.1 x le b.2.1, low b.0 b.2.0 b.1 b.2.1))
 
   text_nests : {B : Type 0} (k : ℕ) (a : A) → IsAnswer L t (Ok a) → Nests k → B

@@ -28,24 +28,24 @@ is_refused (Some token.Directive) = true
 is_refused _ = false
 
 -- with these tokens read so far, no construct has a level above the limit, whatever follows
-abbrev pub AreLow : {A : Type 0} → Leveled A → ℕ → List Token → Type 0
-AreLow {A = A} L limit u = (w : List Token) (l : List ℕ) (a : A) → L l (u ++ w) a → top (take (length u) l) ≤ limit
+abbrev pub NoneDeep : {A : Type 0} → Leveled A → ℕ → List Token → Type 0
+NoneDeep {A = A} L limit u = (w : List Token) (l : List ℕ) (a : A) → L l (u ++ w) a → top (take (length u) l) ≤ limit
 
 -- with these tokens read so far, some construct has one, whatever follows
-abbrev pub AreDeep : {A : Type 0} → Leveled A → ℕ → List Token → Type 0
-AreDeep {A = A} L limit u = (w : List Token) (l : List ℕ) (a : A) → L l (u ++ w) a → limit < top (take (length u) l)
+abbrev pub SomeDeep : {A : Type 0} → Leveled A → ℕ → List Token → Type 0
+SomeDeep {A = A} L limit u = (w : List Token) (l : List ℕ) (a : A) → L l (u ++ w) a → limit < top (take (length u) l)
 
 -- The tokens up to and with the one at place k begin some text, and with it, for the first time, a construct so far has a level above the limit.
 pub record IsNestingFault {A : Type 0} (L : Leveled A) (limit : ℕ) (t : Tokens) (k : ℕ) : Type 0 where
   pub within : k < length t.list
   pub before : Begins (Texts L) (seen_before t (k + 1))
-  pub low : AreLow L limit (seen_before t k)
-  pub deep : AreDeep L limit (seen_before t (k + 1))
+  pub low : NoneDeep L limit (seen_before t k)
+  pub deep : SomeDeep L limit (seen_before t (k + 1))
 
 -- The token at place k is the first that leaves the grammar, and no construct before it has a level above the limit.
 pub record IsSyntaxFault {A : Type 0} (L : Leveled A) (limit : ℕ) (t : Tokens) (k : ℕ) : Type 0 where
   pub first : IsFirstFault (Texts L) t k
-  pub low : AreLow L limit (seen_before t k)
+  pub low : NoneDeep L limit (seen_before t k)
 
 -- The tree of the tokens without ignored directives, where no construct has a level above the limit; or the place of the first token that leaves the grammar or nests too deep, and whether a token that leaves it is refused. Want of memory says nothing.
 abbrev pub IsAnswer : {A : Type 0} → Leveled A → Tokens → Result A SyntaxFault → Type 0
