@@ -1,4 +1,5 @@
 pub mod Deeper
+pub mod LevelLists
 pub mod OperatorLaws
 pub mod WordLaws
 pub mod PrimaryLaws
@@ -6,15 +7,15 @@ pub mod StartLaws
 pub mod LineLaws
 pub mod CallForms
 pub mod StatementLaws
+pub mod FileLaws
 pub mod LevelFound
-pub mod WordFound
 pub mod Strengths
-pub mod FormsFound
+pub mod WordFound
 pub mod StartsOf
+pub mod FormsFound
 pub mod LineFound
 pub mod CallFound
 pub mod StatementFound
-pub mod FileLaws
 pub mod FileFound
 pub mod LevelWhole
 pub mod Theorem

@@ -1,5 +1,5 @@
 -- How tight operators bind, and what each line of the grammar begins with.
-use Rattle.std.proofs.Common.{◌≡◌, ℕ, zero, suc, ◌+◌, ◌<◌, ◌≤◌, max, List, [], ◌∷◌, ◌++◌, Bool, true, false, Option, Some, None, refl, ap, arith}
+use Rattle.std.proofs.Common.{◌≡◌, ℕ, zero, suc, ◌+◌, ◌<◌, ◌≤◌, max, List, [], ◌∷◌, ◌++◌, take, Bool, true, false, Option, Some, None, refl, ap, arith}
 use Rattle.som_read.specs.Tokens.{head, is_sign, is_key, same_sign, same_key}
 use Rattle.som_read.specs.declared.token.Key.{Key}
 use Rattle.som_read.specs.declared.token.Key.TheVariants as key
@@ -10,7 +10,9 @@ use Rattle.som_read.proofs.Steps.{apart_key}
 use Rattle.som_body.specs.Grammar as g
 use Rattle.som_body.specs.Reading as r
 use Rattle.som_body.specs.Reading.{found}
+use Rattle.som_body.specs.Levels.{top, down}
 use Rattle.som_body.proofs.LevelFound.{Deep}
+use Rattle.som_body.proofs.LevelLists.{top_part}
 
 -- of the operator that the token in hand is, or 0
 abbrev pub strength : Option Token → ℕ
@@ -104,26 +106,36 @@ no_or o lt = refl
 
 -- ---- first tokens
 
--- a text of h levels begins with a token that passes the test
-pub record Starts (test : Option Token → Bool) (h : ℕ) (u : List Token) : Type 0 where
+-- a text with levels l begins with a token that passes the test, and with a construct
+pub record Starts (test : Option Token → Bool) (l : List ℕ) (u : List Token) : Type 0 where
   pub first : Token
   pub others : List Token
   pub is : u ≡ first ∷ others
   pub begins : test (Some first) ≡ true
-  pub tall : 0 < h
+  pub high : 0 < top (take 1 l)
 
-pub starts_more : {test : Option Token → Bool} {h k : ℕ} {u : List Token} (v : List Token) → Starts test h u → h ≤ k → Starts test k (u ++ v)
-starts_more v s le = record { first = s.first; others = s.others ++ v; is = ap (λ y. y ++ v) s.is; begins = s.begins; tall = omega (arith, s.tall) }
+first_more : (l m : List ℕ) → 0 < top (take 1 l) → 0 < top (take 1 (l ++ m))
+first_more [] m lt = absurd (omega (arith, lt))
+first_more (n ∷ l) m lt = lt
 
-pub starts_wider : {test wide : Option Token → Bool} {h : ℕ} {u : List Token} → ((t : Token) → test (Some t) ≡ true → wide (Some t) ≡ true) → Starts test h u → Starts wide h u
-starts_wider f s = record { first = s.first; others = s.others; is = s.is; begins = f s.first s.begins; tall = s.tall }
+pub starts_more : {test : Option Token → Bool} {l : List ℕ} {u : List Token} (m : List ℕ) (v : List Token) → Starts test l u → Starts test (l ++ m) (u ++ v)
+starts_more {l = l} m v s = record { first = s.first; others = s.others ++ v; is = ap (λ y. y ++ v) s.is; begins = s.begins; high = first_more l m s.high }
 
-pub starts_deep : {A : Type 0} {test : Option Token → Bool} {h : ℕ} {u : List Token} (z : List Token) → Starts test h u → Deep {A = A} (r.too_deep test (u ++ z))
+pub starts_wider : {test wide : Option Token → Bool} {l : List ℕ} {u : List Token} → ((t : Token) → test (Some t) ≡ true → wide (Some t) ≡ true) → Starts test l u → Starts wide l u
+starts_wider f s = record { first = s.first; others = s.others; is = s.is; begins = f s.first s.begins; high = s.high }
+
+pub starts_deep : {A : Type 0} {test : Option Token → Bool} {l : List ℕ} {u : List Token} (z : List Token) → Starts test l u → Deep {A = A} 0 l (u ++ z) (r.too_deep test (u ++ z))
 unfolding r.too_deep
-starts_deep {u = u} z s = record { rest = u ++ z; is = rw (s.is) (rw (s.begins) refl) }
+starts_deep {u = u} z s = record { front = []; rest = u ++ z; splits = refl; is = rw (s.is) (rw (s.begins) refl); low = omega arith; high = s.high }
+
+pub starts_low : {B : Type 0} {test : Option Token → Bool} {l : List ℕ} {u : List Token} → Starts test l u → top l ≤ 0 → B
+starts_low {l = l} s le = absurd (omega (arith, s.high, le, top_part 1 l))
+
+pub starts_high : {test : Option Token → Bool} {l : List ℕ} {u : List Token} → Starts test l u → 0 < top l
+starts_high {l = l} s = omega (arith, s.high, top_part 1 l)
 
 -- what the first token is not
-pub starts_not : {test : Option Token → Bool} (other : Option Token → Bool) {h : ℕ} {u : List Token} (z : List Token) → Starts test h u → ((t : Token) → test (Some t) ≡ true → other (Some t) ≡ false) → other (head (u ++ z)) ≡ false
+pub starts_not : {test : Option Token → Bool} (other : Option Token → Bool) {l : List ℕ} {u : List Token} (z : List Token) → Starts test l u → ((t : Token) → test (Some t) ≡ true → other (Some t) ≡ false) → other (head (u ++ z)) ≡ false
 starts_not other z s f = rw (s.is) (f s.first s.begins)
 
 pub postfix_wide : (t : Token) → r.begins_primary (Some t) ≡ true → r.begins_postfix (Some t) ≡ true

@@ -1,5 +1,5 @@
--- The grammar of expressions in method bodies. `IsExpr text_at h u a`: the tokens u are an expression, a is its tree and h the number of its levels, where text_at gives the text of the token at each place.
-use Rattle.std.specs.Prelude.{◌≡◌, ℕ, ◌+◌, max, Bool, true, false, if◌then◌else◌, List, [], ◌∷◌, ◌++◌, Option, Some, None}
+-- The grammar of expressions in method bodies. `IsExpr text_at l u a`: the tokens u are an expression, a is its tree, and l the levels with each of the tokens, where text_at gives the text of the token at each place.
+use Rattle.std.specs.Prelude.{◌≡◌, ℕ, suc, Bool, true, false, if◌then◌else◌, List, [], ◌∷◌, ◌++◌, Option, Some, None}
 use Rattle.som_lex.specs.Values.{text_of}
 use Rattle.som_model.specs.declared.syntax.HostCode.{HostCode}
 use Rattle.som_model.specs.declared.syntax.HostCode.TheVariants as host
@@ -12,6 +12,7 @@ use Rattle.som_read.specs.declared.token.Token.TheVariants as token
 use Rattle.som_read.specs.declared.tree.TypeName.{TypeName}
 use Rattle.som_read.specs.declared.tree.TypeName.TheVariants as types
 use Rattle.som_read.specs.declared.tree.Word.{Word}
+use Rattle.som_body.specs.Levels.{top, down}
 use Rattle.som_body.specs.declared.tree.ExprText.{ExprText}
 use Rattle.som_body.specs.declared.tree.ExprText.TheVariants as expr
 
@@ -134,98 +135,105 @@ module _ (text_at : ℕ → List ℕ) where
 
   mutual
     -- A pair of parentheses around an expression is a level, and leaves no trace in the tree.
-    pub data IsPrimary : ℕ → List Token → ExprText → Type 0 where
-      an_atom : (t : Token) {a : ExprText} → atom t ≡ Some a → IsPrimary 1 (t ∷ []) a
+    pub data IsPrimary : List ℕ → List Token → ExprText → Type 0 where
+      an_atom : (t : Token) {a : ExprText} → atom t ≡ Some a → IsPrimary (down (0 ∷ [])) (t ∷ []) a
       -- "somThis" "." WORD
-      a_variable : {p : ℕ} {u : List Token} {w : Word} → IsWord u w → IsPrimary 1 (token.Word key.SomThis p ∷ token.Mark sign.Dot ∷ u) (expr.Variable w)
+      a_variable : {p : ℕ} {u : List Token} {w : Word} → IsWord u w → IsPrimary (down (0 ∷ 0 ∷ 0 ∷ [])) (token.Word key.SomThis p ∷ token.Mark sign.Dot ∷ u) (expr.Variable w)
       -- "(" expr ")"
-      a_group : {h : ℕ} {u : List Token} {a : ExprText} → IsExpr h u a → IsPrimary (h + 1) (token.Mark sign.Open ∷ (u ++ token.Mark sign.Close ∷ [])) a
+      a_group : {l : List ℕ} {u : List Token} {a : ExprText} → IsExpr l u a → IsPrimary (down (0 ∷ (l ++ 0 ∷ []))) (token.Mark sign.Open ∷ (u ++ token.Mark sign.Close ∷ [])) a
       -- "length" "(" expr ")"
-      a_length : {p h : ℕ} {u : List Token} {a : ExprText} → IsExpr h u a
-          → IsPrimary (h + 1) (token.Word key.Length p ∷ token.Mark sign.Open ∷ (u ++ token.Mark sign.Close ∷ [])) (expr.Unary 2 a)
+      a_length : {p : ℕ} {l : List ℕ} {u : List Token} {a : ExprText} → IsExpr l u a
+          → IsPrimary (down (0 ∷ 0 ∷ (l ++ 0 ∷ []))) (token.Word key.Length p ∷ token.Mark sign.Open ∷ (u ++ token.Mark sign.Close ∷ [])) (expr.Unary 2 a)
       -- "text" "(" expr ")"
-      a_text : {p h : ℕ} {u : List Token} {a : ExprText} → IsExpr h u a
-          → IsPrimary (h + 1) (token.Word key.TextOf p ∷ token.Mark sign.Open ∷ (u ++ token.Mark sign.Close ∷ [])) (expr.Unary 3 a)
+      a_text : {p : ℕ} {l : List ℕ} {u : List Token} {a : ExprText} → IsExpr l u a
+          → IsPrimary (down (0 ∷ 0 ∷ (l ++ 0 ∷ []))) (token.Word key.TextOf p ∷ token.Mark sign.Open ∷ (u ++ token.Mark sign.Close ∷ [])) (expr.Unary 3 a)
       -- "new" NAME
-      a_new : {p : ℕ} {u : List Token} {n : Word} → IsName u n → IsPrimary 1 (token.Word key.New p ∷ u) (expr.New n)
+      a_new : {p : ℕ} {u : List Token} {n : Word} → IsName u n → IsPrimary (down (0 ∷ 0 ∷ [])) (token.Word key.New p ∷ u) (expr.New n)
       -- "class" NAME
-      a_class : {p : ℕ} {u : List Token} {n : Word} → IsName u n → IsPrimary 1 (token.Word key.Class p ∷ u) (expr.Class n)
+      a_class : {p : ℕ} {u : List Token} {n : Word} → IsName u n → IsPrimary (down (0 ∷ 0 ∷ [])) (token.Word key.Class p ∷ u) (expr.Class n)
       -- "isa" "(" expr "," NAME ")"
-      an_isa : {p h : ℕ} {u v : List Token} {a : ExprText} {n : Word} → IsExpr h u a → IsName v n
-          → IsPrimary (h + 1) (token.Word key.Isa p ∷ token.Mark sign.Open ∷ (u ++ token.Mark sign.Comma ∷ (v ++ token.Mark sign.Close ∷ []))) (expr.Isa n a)
+      an_isa : {p : ℕ} {l : List ℕ} {u v : List Token} {a : ExprText} {n : Word} → IsExpr l u a → IsName v n
+          → IsPrimary (down (0 ∷ 0 ∷ (l ++ 0 ∷ 0 ∷ 0 ∷ []))) (token.Word key.Isa p ∷ token.Mark sign.Open ∷ (u ++ token.Mark sign.Comma ∷ (v ++ token.Mark sign.Close ∷ []))) (expr.Isa n a)
       -- "proxy" "(" NAME "," expr ")"
-      a_proxy : {p h : ℕ} {u v : List Token} {n : Word} {a : ExprText} → IsName u n → IsExpr h v a
-          → IsPrimary (h + 1) (token.Word key.Proxy p ∷ token.Mark sign.Open ∷ (u ++ token.Mark sign.Comma ∷ (v ++ token.Mark sign.Close ∷ []))) (expr.Proxy n a)
+      a_proxy : {p : ℕ} {l : List ℕ} {u v : List Token} {n : Word} {a : ExprText} → IsName u n → IsExpr l v a
+          → IsPrimary (down (0 ∷ 0 ∷ 0 ∷ 0 ∷ (l ++ 0 ∷ []))) (token.Word key.Proxy p ∷ token.Mark sign.Open ∷ (u ++ token.Mark sign.Comma ∷ (v ++ token.Mark sign.Close ∷ []))) (expr.Proxy n a)
       -- "host" HOST "(" expr "," expr ")"
-      a_host_call : {p h k : ℕ} {u v w : List Token} {c : HostCode} {a b : ExprText} → IsHost u c → IsExpr h v a → IsExpr k w b
-          → IsPrimary (max h k + 1) (token.Word key.Host p ∷ (u ++ token.Mark sign.Open ∷ (v ++ token.Mark sign.Comma ∷ (w ++ token.Mark sign.Close ∷ [])))) (expr.Host c a b)
+      a_host_call : {p : ℕ} {l m : List ℕ} {u v w : List Token} {c : HostCode} {a b : ExprText} → IsHost u c → IsExpr l v a → IsExpr m w b
+          → IsPrimary (down (0 ∷ 0 ∷ 0 ∷ (l ++ 0 ∷ (m ++ 0 ∷ [])))) (token.Word key.Host p ∷ (u ++ token.Mark sign.Open ∷ (v ++ token.Mark sign.Comma ∷ (w ++ token.Mark sign.Close ∷ [])))) (expr.Host c a b)
       -- "parent" NAME "." WORD args
-      a_parent_call : {p h : ℕ} {u v w : List Token} {n m : Word} {g : List ExprText} → IsName u n → IsWord v m → IsArguments h w g
-          → IsPrimary (h + 1) (token.Word key.Parent p ∷ (u ++ token.Mark sign.Dot ∷ (v ++ w))) (expr.Parent n m g)
+      a_parent_call : {p : ℕ} {l : List ℕ} {u v w : List Token} {n m : Word} {g : List ExprText} → IsName u n → IsWord v m → IsArguments l w g
+          → IsPrimary (down (0 ∷ 0 ∷ 0 ∷ 0 ∷ l)) (token.Word key.Parent p ∷ (u ++ token.Mark sign.Dot ∷ (v ++ w))) (expr.Parent n m g)
       -- "parents" "." WORD args
-      a_parents_call : {p h : ℕ} {u v : List Token} {m : Word} {g : List ExprText} → IsWord u m → IsArguments h v g
-          → IsPrimary (h + 1) (token.Word key.Parents p ∷ token.Mark sign.Dot ∷ (u ++ v)) (expr.Parents m g)
+      a_parents_call : {p : ℕ} {l : List ℕ} {u v : List Token} {m : Word} {g : List ExprText} → IsWord u m → IsArguments l v g
+          → IsPrimary (down (0 ∷ 0 ∷ 0 ∷ l)) (token.Word key.Parents p ∷ token.Mark sign.Dot ∷ (u ++ v)) (expr.Parents m g)
 
-    -- primary { "." WORD args }, where the primary is neither `lookup` nor `dispatch` without parentheses
-    pub data IsStepped : ℕ → List Token → ExprText → Type 0 where
-      no_step : {h : ℕ} {u : List Token} {a : ExprText} → IsPrimary h u a → IsStepped h u a
-      a_step : {h k : ℕ} {u v w : List Token} {a : ExprText} {m : Word} {g : List ExprText} → IsStepped h u a → IsWord v m → IsArguments k w g
-          → IsStepped (max h k + 1) (u ++ token.Mark sign.Dot ∷ (v ++ w)) (expr.Call a m g)
+    -- primary { "." WORD args }, where the primary is neither `lookup` nor `dispatch` without parentheses. The "." pushes its receiver one level down.
+    pub data IsStepped : List ℕ → List Token → ExprText → Type 0 where
+      no_step : {l : List ℕ} {u : List Token} {a : ExprText} → IsPrimary l u a → IsStepped l u a
+      a_step : {l m : List ℕ} {u v w : List Token} {a : ExprText} {n : Word} {g : List ExprText} → IsStepped l u a → IsWord v n → IsArguments m w g
+          → IsStepped (l ++ down (top l ∷ 0 ∷ m)) (u ++ token.Mark sign.Dot ∷ (v ++ w)) (expr.Call a n g)
 
-    pub data IsPostfix : ℕ → List Token → ExprText → Type 0 where
-      a_stepped : {h : ℕ} {u : List Token} {a : ExprText} → IsStepped h u a → IsPostfix h u a
-      -- ( "lookup" | "dispatch" ) result primary "." WORD args { "." WORD args }: the last step is the call by name, the earlier steps belong to its receiver
-      a_lookup : {p h k : ℕ} {r u v w : List Token} {t : Option TypeName} {a : ExprText} {m : Word} {g : List ExprText} → IsResult r t → IsStepped h u a → IsWord v m → IsArguments k w g
-          → IsPostfix (max h k + 1) (token.Word key.Lookup p ∷ (r ++ (u ++ token.Mark sign.Dot ∷ (v ++ w)))) (expr.Lookup t a m g)
-      a_dispatch : {p h k : ℕ} {r u v w : List Token} {t : Option TypeName} {a : ExprText} {m : Word} {g : List ExprText} → IsResult r t → IsStepped h u a → IsWord v m → IsArguments k w g
-          → IsPostfix (max h k + 1) (token.Word key.Dispatch p ∷ (r ++ (u ++ token.Mark sign.Dot ∷ (v ++ w)))) (expr.Dispatch t a m g)
+    -- primary "." WORD args { "." WORD args }, where the primary is neither `lookup` nor `dispatch` without parentheses: the last step is a call by name on what stands before it, which each further "." pushes one level down
+    pub data IsNamedCall : List ℕ → List Token → ExprText → Word → List ExprText → Type 0 where
+      a_first_step : {l m : List ℕ} {u v w : List Token} {a : ExprText} {n : Word} {g : List ExprText} → IsPrimary l u a → IsWord v n → IsArguments m w g
+          → IsNamedCall (l ++ 0 ∷ 0 ∷ m) (u ++ token.Mark sign.Dot ∷ (v ++ w)) a n g
+      a_further_step : {l m : List ℕ} {u v w : List Token} {a : ExprText} {n k : Word} {g x : List ExprText} → IsNamedCall l u a n g → IsWord v k → IsArguments m w x
+          → IsNamedCall (l ++ suc (top l) ∷ 0 ∷ m) (u ++ token.Mark sign.Dot ∷ (v ++ w)) (expr.Call a n g) k x
+
+    -- primary { "." WORD args } | ( "lookup" | "dispatch" ) result primary "." WORD args { "." WORD args }
+    pub data IsPostfix : List ℕ → List Token → ExprText → Type 0 where
+      a_stepped : {l : List ℕ} {u : List Token} {a : ExprText} → IsStepped l u a → IsPostfix l u a
+      a_lookup : {p : ℕ} {l : List ℕ} {r u : List Token} {t : Option TypeName} {a : ExprText} {n : Word} {g : List ExprText} → IsResult r t → IsNamedCall l u a n g
+          → IsPostfix (down (0 ∷ 0 ∷ l)) (token.Word key.Lookup p ∷ (r ++ u)) (expr.Lookup t a n g)
+      a_dispatch : {p : ℕ} {l : List ℕ} {r u : List Token} {t : Option TypeName} {a : ExprText} {n : Word} {g : List ExprText} → IsResult r t → IsNamedCall l u a n g
+          → IsPostfix (down (0 ∷ 0 ∷ l)) (token.Word key.Dispatch p ∷ (r ++ u)) (expr.Dispatch t a n g)
 
     -- "(" [ expr { "," expr } ] ")"
-    pub data IsArguments : ℕ → List Token → List ExprText → Type 0 where
-      no_arguments : IsArguments 0 (token.Mark sign.Open ∷ token.Mark sign.Close ∷ []) []
-      some_arguments : {h : ℕ} {u : List Token} {g : List ExprText} → IsExprs h u g → IsArguments h (token.Mark sign.Open ∷ (u ++ token.Mark sign.Close ∷ [])) g
+    pub data IsArguments : List ℕ → List Token → List ExprText → Type 0 where
+      no_arguments : IsArguments (0 ∷ 0 ∷ []) (token.Mark sign.Open ∷ token.Mark sign.Close ∷ []) []
+      some_arguments : {l : List ℕ} {u : List Token} {g : List ExprText} → IsExprs l u g → IsArguments (0 ∷ (l ++ 0 ∷ [])) (token.Mark sign.Open ∷ (u ++ token.Mark sign.Close ∷ [])) g
 
     -- expr { "," expr }
-    pub data IsExprs : ℕ → List Token → List ExprText → Type 0 where
-      first_argument : {h : ℕ} {u : List Token} {a : ExprText} → IsExpr h u a → IsExprs h u (a ∷ [])
-      next_argument : {h k : ℕ} {u v : List Token} {g : List ExprText} {a : ExprText} → IsExprs h u g → IsExpr k v a → IsExprs (max h k) (u ++ token.Mark sign.Comma ∷ v) (g ++ a ∷ [])
+    pub data IsExprs : List ℕ → List Token → List ExprText → Type 0 where
+      first_argument : {l : List ℕ} {u : List Token} {a : ExprText} → IsExpr l u a → IsExprs l u (a ∷ [])
+      next_argument : {l m : List ℕ} {u v : List Token} {g : List ExprText} {a : ExprText} → IsExprs l u g → IsExpr m v a → IsExprs (l ++ 0 ∷ m) (u ++ token.Mark sign.Comma ∷ v) (g ++ a ∷ [])
 
-    -- postfix { "as" NAME }
-    pub data IsCast : ℕ → List Token → ExprText → Type 0 where
-      no_cast : {h : ℕ} {u : List Token} {a : ExprText} → IsPostfix h u a → IsCast h u a
-      a_cast : (p : ℕ) {h : ℕ} {u v : List Token} {a : ExprText} {n : Word} → IsCast h u a → IsName v n → IsCast (h + 1) (u ++ token.Word key.As p ∷ v) (expr.Cast n a)
+    -- postfix { "as" NAME }. Here and below, the operator pushes its first operand one level down.
+    pub data IsCast : List ℕ → List Token → ExprText → Type 0 where
+      no_cast : {l : List ℕ} {u : List Token} {a : ExprText} → IsPostfix l u a → IsCast l u a
+      a_cast : (p : ℕ) {l : List ℕ} {u v : List Token} {a : ExprText} {n : Word} → IsCast l u a → IsName v n → IsCast (l ++ down (top l ∷ 0 ∷ [])) (u ++ token.Word key.As p ∷ v) (expr.Cast n a)
 
     -- "-" unary | cast
-    pub data IsUnary : ℕ → List Token → ExprText → Type 0 where
-      no_minus : {h : ℕ} {u : List Token} {a : ExprText} → IsCast h u a → IsUnary h u a
-      a_minus : {h : ℕ} {u : List Token} {a : ExprText} → IsUnary h u a → IsUnary (h + 1) (token.Mark sign.Minus ∷ u) (expr.Unary 0 a)
+    pub data IsUnary : List ℕ → List Token → ExprText → Type 0 where
+      no_minus : {l : List ℕ} {u : List Token} {a : ExprText} → IsCast l u a → IsUnary l u a
+      a_minus : {l : List ℕ} {u : List Token} {a : ExprText} → IsUnary l u a → IsUnary (down (0 ∷ l)) (token.Mark sign.Minus ∷ u) (expr.Unary 0 a)
 
     -- unary { ( "*" | "/" | "%" ) unary }, grouped from the left
-    pub data IsProd : ℕ → List Token → ExprText → Type 0 where
-      no_product : {h : ℕ} {u : List Token} {a : ExprText} → IsUnary h u a → IsProd h u a
-      a_product : (t : Token) {op h k : ℕ} {u v : List Token} {a b : ExprText} → product_operator t ≡ Some op → IsProd h u a → IsUnary k v b → IsProd (max h k + 1) (u ++ t ∷ v) (expr.Binary op a b)
+    pub data IsProd : List ℕ → List Token → ExprText → Type 0 where
+      no_product : {l : List ℕ} {u : List Token} {a : ExprText} → IsUnary l u a → IsProd l u a
+      a_product : (t : Token) {op : ℕ} {l m : List ℕ} {u v : List Token} {a b : ExprText} → product_operator t ≡ Some op → IsProd l u a → IsUnary m v b → IsProd (l ++ down (top l ∷ m)) (u ++ t ∷ v) (expr.Binary op a b)
 
     -- prod { ( "+" | "-" | "&" ) prod }, grouped from the left
-    pub data IsSum : ℕ → List Token → ExprText → Type 0 where
-      no_sum : {h : ℕ} {u : List Token} {a : ExprText} → IsProd h u a → IsSum h u a
-      a_sum : (t : Token) {op h k : ℕ} {u v : List Token} {a b : ExprText} → sum_operator t ≡ Some op → IsSum h u a → IsProd k v b → IsSum (max h k + 1) (u ++ t ∷ v) (expr.Binary op a b)
+    pub data IsSum : List ℕ → List Token → ExprText → Type 0 where
+      no_sum : {l : List ℕ} {u : List Token} {a : ExprText} → IsProd l u a → IsSum l u a
+      a_sum : (t : Token) {op : ℕ} {l m : List ℕ} {u v : List Token} {a b : ExprText} → sum_operator t ≡ Some op → IsSum l u a → IsProd m v b → IsSum (l ++ down (top l ∷ m)) (u ++ t ∷ v) (expr.Binary op a b)
 
     -- sum [ ( "==" | "!=" | "<" | "<=" | ">" | ">=" ) sum ]
-    pub data IsCmp : ℕ → List Token → ExprText → Type 0 where
-      no_comparison : {h : ℕ} {u : List Token} {a : ExprText} → IsSum h u a → IsCmp h u a
-      a_comparison : (t : Token) {op h k : ℕ} {u v : List Token} {a b : ExprText} → comparison t ≡ Some op → IsSum h u a → IsSum k v b → IsCmp (max h k + 1) (u ++ t ∷ v) (expr.Binary op a b)
+    pub data IsCmp : List ℕ → List Token → ExprText → Type 0 where
+      no_comparison : {l : List ℕ} {u : List Token} {a : ExprText} → IsSum l u a → IsCmp l u a
+      a_comparison : (t : Token) {op : ℕ} {l m : List ℕ} {u v : List Token} {a b : ExprText} → comparison t ≡ Some op → IsSum l u a → IsSum m v b → IsCmp (l ++ down (top l ∷ m)) (u ++ t ∷ v) (expr.Binary op a b)
 
     -- "not" neg | cmp
-    pub data IsNeg : ℕ → List Token → ExprText → Type 0 where
-      no_not : {h : ℕ} {u : List Token} {a : ExprText} → IsCmp h u a → IsNeg h u a
-      a_not : {p h : ℕ} {u : List Token} {a : ExprText} → IsNeg h u a → IsNeg (h + 1) (token.Word key.Not p ∷ u) (expr.Unary 1 a)
+    pub data IsNeg : List ℕ → List Token → ExprText → Type 0 where
+      no_not : {l : List ℕ} {u : List Token} {a : ExprText} → IsCmp l u a → IsNeg l u a
+      a_not : {p : ℕ} {l : List ℕ} {u : List Token} {a : ExprText} → IsNeg l u a → IsNeg (down (0 ∷ l)) (token.Word key.Not p ∷ u) (expr.Unary 1 a)
 
     -- neg { "and" neg }, grouped from the left
-    pub data IsConj : ℕ → List Token → ExprText → Type 0 where
-      no_and : {h : ℕ} {u : List Token} {a : ExprText} → IsNeg h u a → IsConj h u a
-      an_and : (t : Token) {op h k : ℕ} {u v : List Token} {a b : ExprText} → and_operator t ≡ Some op → IsConj h u a → IsNeg k v b → IsConj (max h k + 1) (u ++ t ∷ v) (expr.Binary op a b)
+    pub data IsConj : List ℕ → List Token → ExprText → Type 0 where
+      no_and : {l : List ℕ} {u : List Token} {a : ExprText} → IsNeg l u a → IsConj l u a
+      an_and : (t : Token) {op : ℕ} {l m : List ℕ} {u v : List Token} {a b : ExprText} → and_operator t ≡ Some op → IsConj l u a → IsNeg m v b → IsConj (l ++ down (top l ∷ m)) (u ++ t ∷ v) (expr.Binary op a b)
 
     -- conj { "or" conj }, grouped from the left
-    pub data IsExpr : ℕ → List Token → ExprText → Type 0 where
-      no_or : {h : ℕ} {u : List Token} {a : ExprText} → IsConj h u a → IsExpr h u a
-      an_or : (t : Token) {op h k : ℕ} {u v : List Token} {a b : ExprText} → or_operator t ≡ Some op → IsExpr h u a → IsConj k v b → IsExpr (max h k + 1) (u ++ t ∷ v) (expr.Binary op a b)
+    pub data IsExpr : List ℕ → List Token → ExprText → Type 0 where
+      no_or : {l : List ℕ} {u : List Token} {a : ExprText} → IsConj l u a → IsExpr l u a
+      an_or : (t : Token) {op : ℕ} {l m : List ℕ} {u v : List Token} {a b : ExprText} → or_operator t ≡ Some op → IsExpr l u a → IsConj m v b → IsExpr (l ++ down (top l ∷ m)) (u ++ t ∷ v) (expr.Binary op a b)

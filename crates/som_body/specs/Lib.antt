@@ -1,3 +1,4 @@
+pub mod Levels
 pub mod Grammar
 pub mod Statements
 pub mod Reading

@@ -9,7 +9,7 @@ ghost use Rattle.som_read.specs.Seen.{text_at};
 ghost use Rattle.som_read.specs.declared.token.Token.{Token};
 ghost use Rattle.som_read.specs.declared.tree.SyntaxFault.{SyntaxFault};
 ghost use Rattle.som_read.specs.declared.tree.SyntaxFault.TheVariants as faults;
-ghost use Rattle.std.specs.Prelude.{◌≡◌, ◌≢◌, ℕ, List, Result, Ok, Err};
+ghost use Rattle.std.specs.Prelude.{◌≡◌, ◌≢◌, List, Result, Err};
 
 /// The grammar derives no tokens as two files of bodies, with whatever levels.
 pub fn one_bodies_tree()
@@ -21,27 +21,15 @@ pub fn one_main_tree()
     ensures { (t : Tokens) (u : List Token) (a b : MainFile) → Texts (IsMainFile (text_at t)) u a → Texts (IsMainFile (text_at t)) u b → a ≡ b }
 {}
 
-/// There is one answer for a text of bodies, but for want of memory and for nesting: its tree is answered only where it has one, and
-/// else the one first fault of the grammar.
+/// There is one answer for a text of bodies, but for want of memory: so its tree is answered exactly where it has one that isn't too
+/// deep, and else the one first fault.
 pub fn one_bodies_answer()
-    ensures { (t : Tokens) (a b : Result BodyFile SyntaxFault) → AreBodies t a → AreBodies t b → a ≢ Err faults.NoMemory → b ≢ Err faults.NoMemory
-        → ((k : ℕ) → a ≢ Err (faults.Nesting k)) → ((k : ℕ) → b ≢ Err (faults.Nesting k)) → a ≡ b }
+    ensures { (t : Tokens) (a b : Result BodyFile SyntaxFault) → AreBodies t a → AreBodies t b → a ≢ Err faults.NoMemory → b ≢ Err faults.NoMemory → a ≡ b }
 {}
 
-/// There is one answer for a text of a main, but for want of memory and for nesting.
+/// There is one answer for a text of a main, but for want of memory.
 pub fn one_main_answer()
-    ensures { (t : Tokens) (a b : Result MainFile SyntaxFault) → IsMain t a → IsMain t b → a ≢ Err faults.NoMemory → b ≢ Err faults.NoMemory
-        → ((k : ℕ) → a ≢ Err (faults.Nesting k)) → ((k : ℕ) → b ≢ Err (faults.Nesting k)) → a ≡ b }
-{}
-
-/// Where the tree of a text of bodies may be answered, no fault of nesting may.
-pub fn no_bodies_nesting()
-    ensures { (t : Tokens) (k : ℕ) (a : BodyFile) → AreBodies t (Ok a) → AreBodies t (Err (faults.Nesting k)) → ⊥ }
-{}
-
-/// Where the tree of a main may be answered, no fault of nesting may.
-pub fn no_main_nesting()
-    ensures { (t : Tokens) (k : ℕ) (a : MainFile) → IsMain t (Ok a) → IsMain t (Err (faults.Nesting k)) → ⊥ }
+    ensures { (t : Tokens) (a b : Result MainFile SyntaxFault) → IsMain t a → IsMain t b → a ≢ Err faults.NoMemory → b ≢ Err faults.NoMemory → a ≡ b }
 {}
 
 /// Each list of tokens has an answer as bodies that isn't want of memory.

@@ -30,8 +30,8 @@ mod tree;
 mod word;
 
 pub use laws::{
-    no_bodies_nesting, no_main_nesting, one_bodies_answer, one_bodies_tree, one_main_answer,
-    one_main_tree, some_bodies_answer, some_main_answer,
+    one_bodies_answer, one_bodies_tree, one_main_answer, one_main_tree, some_bodies_answer,
+    some_main_answer,
 };
 pub use operators::{
     ADD, AND, DIVIDE, EQUAL, GREATER, GREATER_EQUAL, JOIN, LENGTH, LESS, LESS_EQUAL, MINUS,
