@@ -1,9 +1,13 @@
 -- What the code's reader of expressions is made of: chains of operators by their line, and a function that reads lines one level down.
-use Rattle.std.specs.Prelude.{◌≡◌, ◌≤◌, ℕ, Option, Some, None, Result, IfOk}
+use Rattle.std.specs.Prelude.{◌≡◌, ◌≤◌, ℕ, List, Option, Some, None, Result, IfOk}
 use denote.Ref.{Bor, MutBor}
 use Rattle.std.specs.declared.alloc.Global.{Global}
 use Rattle.som_lex.specs.declared.token.Tokens.{Tokens}
 use Rattle.som_read.specs.Answer.{Answers}
+use Rattle.som_read.specs.Readers.{Parser, ◌>>=◌, after}
+use Rattle.som_read.specs.Tokens.{is_sign}
+use Rattle.som_read.specs.declared.token.Sign.TheVariants as sign
+use Rattle.som_read.specs.declared.tree.Word.{Word}
 use Rattle.som_read.specs.Seen.{text_at}
 use Rattle.som_read.specs.declared.cursor.Cursor.{Cursor}
 use Rattle.som_read.specs.declared.cursor.Stop.{Stop}
@@ -11,12 +15,16 @@ use Rattle.som_read.specs.declared.cursor.Turn.{Turn}
 use Rattle.som_read.specs.declared.cursor.Turn.TheVariants.{More, Done}
 use Rattle.som_read.specs.declared.token.Token.{Token}
 use Rattle.som_body.specs.Grammar.{or_operator, and_operator, comparison, sum_operator, product_operator}
-use Rattle.som_body.specs.Reading.{at, named_height}
+use Rattle.som_body.specs.Reading.{at, named_height, tall}
+use Rattle.som_body.specs.StatementReading.{ending, steps_from, finish}
 use Rattle.som_body.specs.declared.level.Given.{Given}
 use Rattle.som_body.specs.declared.level.Line.{Line}
 use Rattle.som_body.specs.declared.level.Line.TheVariants as line
 use Rattle.som_body.specs.declared.level.NamedCall.{NamedCall}
 use Rattle.som_body.specs.declared.level.Tall.{Tall}
+use Rattle.som_body.specs.declared.tree.ExprText.TheVariants as expr
+use Rattle.som_body.specs.declared.tree.StmtText.{StmtText}
+use Rattle.som_body.specs.declared.tree.StmtText.TheVariants as stmt
 
 -- the operators of a line
 abbrev pub operators_of : Line → Token → Option ℕ
@@ -55,3 +63,7 @@ pub record Reads (t : Tokens) (depth : ℕ) (pre : Global → Bor Tokens → Mut
   pub reads : (alloc : Global) (tokens : Bor Tokens) (old new : MutBor Cursor) (l : Line) (r : Result Tall Stop) → tokens.now ≡ t → post alloc tokens old depth l r new
       → Answers (at (text_at t) depth l old.now.rest.now) r new.now.rest.now
   pub low : (alloc : Global) (tokens : Bor Tokens) (old new : MutBor Cursor) (l : Line) (r : Result Tall Stop) → post alloc tokens old depth l r new → IfOk r (λ a. a.height ≤ depth)
+
+-- a statement after "somThis", "." and the word
+abbrev pub own_rest : (ℕ → List ℕ) → ℕ → Word → Parser StmtText
+own_rest text_at e m = after (is_sign sign.Assign) (ending text_at e (λ a. stmt.SetVariable m a)) (steps_from text_at e (tall (expr.Variable m) 1) >>= finish)

@@ -239,11 +239,11 @@ fn statement_at(
     ensures { Answers (spec.statement_at (text_at tokens.now) depth left.old.rest.now) result left.new.rest.now }
 {
     if depth == 0 {
-        return Err(if begins_stmt(left) {
-            Stop::Nesting
+        return if begins_stmt(left) {
+            Err(Stop::Nesting)
         } else {
-            Stop::Syntax
-        });
+            Err(Stop::Syntax)
+        };
     }
     statement(alloc, tokens, left, depth - 1)
 }
@@ -260,11 +260,11 @@ fn if_at(
     ensures { Answers (spec.if_at (text_at tokens.now) depth left.old.rest.now) result left.new.rest.now }
 {
     if depth == 0 {
-        return Err(if left.sees_word(Key::If) {
-            Stop::Nesting
+        return if left.sees_word(Key::If) {
+            Err(Stop::Nesting)
         } else {
-            Stop::Syntax
-        });
+            Err(Stop::Syntax)
+        };
     }
     if_statement(alloc, tokens, left, depth - 1)
 }

@@ -268,11 +268,11 @@ pub(crate) fn line_at(
     ensures low { IfOk result (λ a. a.height ≤ depth) }
 {
     if depth == 0 {
-        return Err(if begins(line, left.peek()) {
-            Stop::Nesting
+        return if begins(line, left.peek()) {
+            Err(Stop::Nesting)
         } else {
-            Stop::Syntax
-        });
+            Err(Stop::Syntax)
+        };
     }
     Rules {
         alloc,

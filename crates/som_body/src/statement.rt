@@ -1,5 +1,6 @@
 //! Statements without blocks.
 
+ghost use Rattle.som_body.specs.Inner.{own_rest as own_rest_of};
 ghost use Rattle.som_body.specs.Reading as expression;
 ghost use Rattle.som_body.specs.StatementReading as spec;
 ghost use Rattle.som_body.specs.Statements.{is_call as is_call_of};
@@ -13,7 +14,7 @@ use crate::rules::Rules;
 use crate::word::{any_word, kind, name};
 use crate::{ExprText, StmtText};
 use som_lex::Tokens;
-use som_read::{Cursor, Sign, Stop};
+use som_read::{Cursor, Sign, Stop, Word};
 use std::alloc::Global;
 
 #[tactic(auto, unfolding(crate::specs::Statements::is_call))]
@@ -118,19 +119,18 @@ pub(crate) fn named(
     })
 }
 
-// After `somThis`.
-#[tactic(auto, unfolding(crate::specs::StatementReading::own_statement, crate::specs::StatementReading::ending))]
-pub(crate) fn own(
+// After `somThis`, `.` and the word.
+#[tactic(auto, unfolding(crate::specs::StatementReading::ending))]
+fn own_rest(
     alloc: Global,
     tokens: &Tokens,
     left: &mut Cursor<'_>,
     depth: usize,
+    name: Word,
 ) -> Result<StmtText, Stop>
     requires { depth ≤ 32 }
-    ensures { Answers (spec.own_statement (text_at tokens.now) depth left.old.rest.now) result left.new.rest.now }
+    ensures { Answers (own_rest_of (text_at tokens.now) depth name left.old.rest.now) result left.new.rest.now }
 {
-    left.expect(Sign::Dot)?;
-    let name = any_word(alloc, tokens, left)?;
     if !left.sees(Sign::Assign) {
         let whole = steps_from(alloc, tokens, left, depth, ExprText::Variable(name))?;
         return finish(left, whole);
@@ -142,6 +142,22 @@ pub(crate) fn own(
         name,
         value: value.tree,
     })
+}
+
+// After `somThis`.
+#[tactic(auto, unfolding(crate::specs::StatementReading::own_statement))]
+pub(crate) fn own(
+    alloc: Global,
+    tokens: &Tokens,
+    left: &mut Cursor<'_>,
+    depth: usize,
+) -> Result<StmtText, Stop>
+    requires { depth ≤ 32 }
+    ensures { Answers (spec.own_statement (text_at tokens.now) depth left.old.rest.now) result left.new.rest.now }
+{
+    left.expect(Sign::Dot)?;
+    let name = any_word(alloc, tokens, left)?;
+    own_rest(alloc, tokens, left, depth, name)
 }
 
 // After `return`.

@@ -9,6 +9,7 @@ use Rattle.som_body.proofs.Deeper.{statement_deeper, if_deeper}
 use Rattle.som_read.specs.declared.cursor.Stop.TheVariants.{Memory}
 use Rattle.som_read.specs.Tokens.{is_sign}
 use Rattle.som_read.specs.declared.token.Sign.TheVariants as sign
+use Rattle.som_body.specs.Reading.{too_deep}
 use Rattle.som_body.specs.StatementReading as spec
 use Rattle.som_body.proofs.block.+statements.Goals as goal
 
@@ -35,3 +36,19 @@ statement_at-returns t c = subst (λ o. Answers o c.statement.result c.statement
 
 pub if_at-returns : goal.if_at-returns
 if_at-returns t c = subst (λ o. Answers o c.if_statement.result c.if_statement.new.left.rest.now) (if_deeper (text_at c.args.tokens.now) c.args.depth (c.args.depth - 1) c.args.left.now.rest.now (omega arith)) c.if_statement.ensures
+
+pub statement_at-returns-then-begins_stmt : goal.statement_at-returns-then-begins_stmt
+unfolding spec.statement_at too_deep
+statement_at-returns-then-begins_stmt t c = let none : c.args.depth ≡ 0 = omega arith in rw none (first_of (search rules, grind (arith, common_steps)))
+
+pub statement_at-returns-else-begins_stmt : goal.statement_at-returns-else-begins_stmt
+unfolding spec.statement_at too_deep
+statement_at-returns-else-begins_stmt t c = let none : c.args.depth ≡ 0 = omega arith in rw none (first_of (search rules, grind (arith, common_steps)))
+
+pub if_at-returns-then-sees_word : goal.if_at-returns-then-sees_word
+unfolding spec.statement_at too_deep
+if_at-returns-then-sees_word t c = let none : c.args.depth ≡ 0 = omega arith in rw none (first_of (search rules, grind (arith, common_steps)))
+
+pub if_at-returns-else-sees_word : goal.if_at-returns-else-sees_word
+unfolding spec.statement_at too_deep
+if_at-returns-else-sees_word t c = let none : c.args.depth ≡ 0 = omega arith in rw none (first_of (search rules, grind (arith, common_steps)))
