@@ -1,0 +1,5 @@
+use Rattle.som_body.proofs.Theorem.{one_main_answer}
+use Rattle.som_body.proofs.laws.one_main_answer.Goals as goal
+
+pub returns : goal.returns
+returns c = one_main_answer

@@ -1,0 +1,19 @@
+use Rattle.std.proofs.Common.{◌≡◌, ◌+◌, ◌-◌, subst, rules, arith}
+use Rattle.std.proofs.lemmas.Grind.{common_steps}
+use Rattle.som_read.specs.Answer.{Answers}
+use Rattle.som_read.specs.Readers.{repeat}
+use Rattle.som_read.specs.Seen.{text_at}
+use Rattle.som_body.specs.Reading as spec
+use Rattle.som_body.proofs.Deeper.{steps_deeper}
+use Rattle.som_body.proofs.statement.steps_from.Goals as goal
+
+pub returns : goal.returns
+returns c = subst (λ o. Answers o c.steps.result c.steps.new.left.rest.now) (steps_deeper (text_at c.args.tokens.now) c.args.depth (spec.tall c.args.tree 1) c.args.left.now.rest.now (omega arith)) c.steps.ensures.reads
+
+pub returns-then-sees : goal.returns-then-sees
+unfolding repeat
+returns-then-sees c = let none : c.args.depth ≡ 0 = omega arith in rw none (first_of (search rules, grind (arith, common_steps)))
+
+pub returns-else-sees : goal.returns-else-sees
+unfolding repeat
+returns-else-sees c = let none : c.args.depth ≡ 0 = omega arith in rw none (first_of (search rules, grind (arith, common_steps)))

@@ -1,0 +1,230 @@
+//! Statements without blocks.
+
+ghost use Rattle.som_body.specs.Inner.{own_rest as own_rest_of};
+ghost use Rattle.som_body.specs.Reading as expression;
+ghost use Rattle.som_body.specs.StatementReading as spec;
+ghost use Rattle.som_body.specs.Statements.{is_call as is_call_of};
+ghost use Rattle.som_read.specs.Answer.{Answers};
+ghost use Rattle.som_read.specs.Seen.{text_at};
+ghost use Rattle.std.specs.Prelude.{◌≡◌, ◌≤◌, ◌+◌};
+
+use crate::level::{Line, Tall};
+use crate::lines::line_at;
+use crate::rules::Rules;
+use crate::word::{any_word, kind, name};
+use crate::{ExprText, StmtText};
+use som_lex::Tokens;
+use som_read::{Cursor, Sign, Stop, Word};
+use std::alloc::Global;
+
+#[tactic(auto, unfolding(crate::specs::Statements::is_call))]
+fn is_call(expr: &ExprText) -> bool
+    ensures { result ≡ is_call_of expr.now }
+{
+    match expr {
+        ExprText::Call { .. }
+        | ExprText::Lookup { .. }
+        | ExprText::Dispatch { .. }
+        | ExprText::Parent { .. }
+        | ExprText::Parents { .. } => true,
+        _ => false,
+    }
+}
+
+// The end of a statement that is an expression, which has to be a call.
+fn finish(left: &mut Cursor<'_>, whole: Tall) -> Result<StmtText, Stop>
+    ensures { Answers (spec.finish whole left.old.rest.now) result left.new.rest.now }
+{
+    if !is_call(&whole.tree) {
+        return Err(Stop::Syntax);
+    }
+    left.expect(Sign::Semicolon)?;
+    Ok(StmtText::Call { call: whole.tree })
+}
+
+// Further steps on what was read, where `depth` levels are left for it.
+fn steps_from(
+    alloc: Global,
+    tokens: &Tokens,
+    left: &mut Cursor<'_>,
+    depth: usize,
+    tree: ExprText,
+) -> Result<Tall, Stop>
+    requires { depth ≤ 32 }
+    ensures { Answers (spec.steps_from (text_at tokens.now) depth (expression.tall tree 1) left.old.rest.now) result left.new.rest.now }
+{
+    let first = Tall { tree, height: 1 };
+    if depth == 0 {
+        return if left.sees(Sign::Dot) {
+            Err(Stop::Nesting)
+        } else {
+            Ok(first)
+        };
+    }
+    Rules {
+        alloc,
+        tokens,
+        depth: depth - 1,
+        inner: line_at,
+    }
+    .steps(left, first)
+}
+
+// After `var`.
+#[tactic(auto, unfolding(crate::specs::StatementReading::variable, crate::specs::StatementReading::ending))]
+pub(crate) fn variable(
+    alloc: Global,
+    tokens: &Tokens,
+    left: &mut Cursor<'_>,
+    depth: usize,
+) -> Result<StmtText, Stop>
+    requires { depth ≤ 32 }
+    ensures { Answers (spec.variable (text_at tokens.now) depth left.old.rest.now) result left.new.rest.now }
+{
+    let name = name(alloc, tokens, left)?;
+    left.expect(Sign::Colon)?;
+    let kind = kind(alloc, tokens, left)?;
+    left.expect(Sign::Assign)?;
+    let value = line_at(alloc, tokens, left, depth, Line::Expr)?;
+    left.expect(Sign::Semicolon)?;
+    Ok(StmtText::Var {
+        name,
+        kind,
+        value: value.tree,
+    })
+}
+
+// A statement that begins with a name.
+#[tactic(auto, unfolding(crate::specs::StatementReading::named_statement, crate::specs::StatementReading::ending))]
+pub(crate) fn named(
+    alloc: Global,
+    tokens: &Tokens,
+    left: &mut Cursor<'_>,
+    depth: usize,
+) -> Result<StmtText, Stop>
+    requires { depth ≤ 32 }
+    ensures { Answers (spec.named_statement (text_at tokens.now) depth left.old.rest.now) result left.new.rest.now }
+{
+    let name = name(alloc, tokens, left)?;
+    if !left.sees(Sign::Assign) {
+        let whole = steps_from(alloc, tokens, left, depth, ExprText::Name(name))?;
+        return finish(left, whole);
+    }
+    left.skip();
+    let value = line_at(alloc, tokens, left, depth, Line::Expr)?;
+    left.expect(Sign::Semicolon)?;
+    Ok(StmtText::Set {
+        name,
+        value: value.tree,
+    })
+}
+
+// After `somThis`, `.` and the word.
+#[tactic(auto, unfolding(crate::specs::StatementReading::ending))]
+fn own_rest(
+    alloc: Global,
+    tokens: &Tokens,
+    left: &mut Cursor<'_>,
+    depth: usize,
+    name: Word,
+) -> Result<StmtText, Stop>
+    requires { depth ≤ 32 }
+    ensures { Answers (own_rest_of (text_at tokens.now) depth name left.old.rest.now) result left.new.rest.now }
+{
+    if !left.sees(Sign::Assign) {
+        let whole = steps_from(alloc, tokens, left, depth, ExprText::Variable(name))?;
+        return finish(left, whole);
+    }
+    left.skip();
+    let value = line_at(alloc, tokens, left, depth, Line::Expr)?;
+    left.expect(Sign::Semicolon)?;
+    Ok(StmtText::SetVariable {
+        name,
+        value: value.tree,
+    })
+}
+
+// After `somThis`.
+#[tactic(auto, unfolding(crate::specs::StatementReading::own_statement))]
+pub(crate) fn own(
+    alloc: Global,
+    tokens: &Tokens,
+    left: &mut Cursor<'_>,
+    depth: usize,
+) -> Result<StmtText, Stop>
+    requires { depth ≤ 32 }
+    ensures { Answers (spec.own_statement (text_at tokens.now) depth left.old.rest.now) result left.new.rest.now }
+{
+    left.expect(Sign::Dot)?;
+    let name = any_word(alloc, tokens, left)?;
+    own_rest(alloc, tokens, left, depth, name)
+}
+
+// After `return`.
+#[tactic(auto, unfolding(crate::specs::StatementReading::returned, crate::specs::StatementReading::ending))]
+pub(crate) fn returned(
+    alloc: Global,
+    tokens: &Tokens,
+    left: &mut Cursor<'_>,
+    depth: usize,
+) -> Result<StmtText, Stop>
+    requires { depth ≤ 32 }
+    ensures { Answers (spec.returned (text_at tokens.now) depth left.old.rest.now) result left.new.rest.now }
+{
+    if left.sees(Sign::Semicolon) {
+        left.skip();
+        return Ok(StmtText::Return { value: None });
+    }
+    let value = line_at(alloc, tokens, left, depth, Line::Expr)?;
+    left.expect(Sign::Semicolon)?;
+    Ok(StmtText::Return {
+        value: Some(value.tree),
+    })
+}
+
+// After `print`.
+#[tactic(auto, unfolding(crate::specs::StatementReading::ending))]
+pub(crate) fn printed(
+    alloc: Global,
+    tokens: &Tokens,
+    left: &mut Cursor<'_>,
+    depth: usize,
+) -> Result<StmtText, Stop>
+    requires { depth ≤ 32 }
+    ensures { Answers (spec.ending (text_at tokens.now) depth (λ a. StmtText.Print a) left.old.rest.now) result left.new.rest.now }
+{
+    let value = line_at(alloc, tokens, left, depth, Line::Expr)?;
+    left.expect(Sign::Semicolon)?;
+    Ok(StmtText::Print { value: value.tree })
+}
+
+// After `free`.
+#[tactic(auto, unfolding(crate::specs::StatementReading::ending))]
+pub(crate) fn freed(
+    alloc: Global,
+    tokens: &Tokens,
+    left: &mut Cursor<'_>,
+    depth: usize,
+) -> Result<StmtText, Stop>
+    requires { depth ≤ 32 }
+    ensures { Answers (spec.ending (text_at tokens.now) depth (λ a. StmtText.Free a) left.old.rest.now) result left.new.rest.now }
+{
+    let value = line_at(alloc, tokens, left, depth, Line::Expr)?;
+    left.expect(Sign::Semicolon)?;
+    Ok(StmtText::Free { value: value.tree })
+}
+
+// A statement that begins with another expression.
+#[tactic(auto, unfolding(crate::specs::StatementReading::call_statement))]
+pub(crate) fn call(
+    alloc: Global,
+    tokens: &Tokens,
+    left: &mut Cursor<'_>,
+    depth: usize,
+) -> Result<StmtText, Stop>
+    requires { depth ≤ 32 }
+    ensures { Answers (spec.call_statement (text_at tokens.now) depth left.old.rest.now) result left.new.rest.now }
+{
+    let whole = line_at(alloc, tokens, left, depth, Line::Postfix)?;
+    finish(left, whole)
+}
