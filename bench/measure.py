@@ -14,14 +14,14 @@ Each class declares four attributes and so eight methods. The newer release for 
 class. `run` takes images whose methods print a text, which are made here byte by byte: the client calls a method of
 each class once.
 
-A row gives the least seconds of the repeats, the peak of memory, the bytes that the command reads, and the ratio of the
-seconds to those of the row above it, beside the ratio of the bytes.
+A row gives the least processor seconds of the repeats (so that other work on the machine counts little), the peak of
+memory, the bytes that the command reads, and the ratio of the seconds to those of the row above it, beside the ratio of
+the bytes.
 """
 import os
 import struct
 import sys
 import tempfile
-import time
 
 SIZES = (100, 400, 1000)
 ATTRIBUTES = 4
@@ -80,8 +80,7 @@ def plain_client(n):
 # ---- measuring
 
 def once(program, words, folder):
-    """The seconds, the peak of memory in kilobytes and the status of one run."""
-    began = time.monotonic()
+    """The processor seconds, the peak of memory in kilobytes and the status of one run."""
     child = os.fork()
     if child == 0:
         os.chdir(folder)
@@ -89,7 +88,7 @@ def once(program, words, folder):
         os.dup2(silent, 1)
         os.execv(program, [program, *words])
     _, status, usage = os.wait4(child, 0)
-    return time.monotonic() - began, usage.ru_maxrss, os.waitstatus_to_exitcode(status)
+    return usage.ru_utime + usage.ru_stime, usage.ru_maxrss, os.waitstatus_to_exitcode(status)
 
 
 def measure(program, words, folder, repeats):
