@@ -80,20 +80,6 @@ fn show_of(
     Ok(())
 }
 
-#[cycle(show_expr)]
-fn show_call(
-    alloc: Global,
-    out: &mut String,
-    receiver: &ExprText,
-    method: &Word,
-    args: &List<ExprText>,
-) -> Result<(), Fail> {
-    show_expr(alloc, out, receiver)?;
-    out.push_str(" ")?;
-    show_word(alloc, out, method)?;
-    show_args(alloc, out, args)
-}
-
 fn show_form(alloc: Global, out: &mut String, form: &str, word: &Word) -> Result<(), Fail> {
     out.push_str(form)?;
     show_word(alloc, out, word)
@@ -147,7 +133,9 @@ pub(crate) fn show_expr(alloc: Global, out: &mut String, expr: &ExprText) -> Res
             args,
         } => {
             out.push_str("call(")?;
-            show_call(alloc, out, receiver.get(), method, args)?;
+            show_expr(alloc, out, receiver.get())?;
+            show_form(alloc, out, " ", method)?;
+            show_args(alloc, out, args)?;
         }
         ExprText::Lookup {
             result,
@@ -157,7 +145,9 @@ pub(crate) fn show_expr(alloc: Global, out: &mut String, expr: &ExprText) -> Res
         } => {
             out.push_str("lookup(")?;
             show_outcome(alloc, out, result)?;
-            show_call(alloc, out, receiver.get(), method, args)?;
+            show_expr(alloc, out, receiver.get())?;
+            show_form(alloc, out, " ", method)?;
+            show_args(alloc, out, args)?;
         }
         ExprText::Dispatch {
             result,
@@ -167,7 +157,9 @@ pub(crate) fn show_expr(alloc: Global, out: &mut String, expr: &ExprText) -> Res
         } => {
             out.push_str("dispatch(")?;
             show_outcome(alloc, out, result)?;
-            show_call(alloc, out, receiver.get(), method, args)?;
+            show_expr(alloc, out, receiver.get())?;
+            show_form(alloc, out, " ", method)?;
+            show_args(alloc, out, args)?;
         }
         ExprText::Parent {
             parent,
