@@ -3,7 +3,7 @@ use Rattle.std.specs.Prelude.{◌≡◌, ℕ, zero, suc, ◌-◌, ◌<◌, ◌^�
 use Rattle.std.specs.Int.{w32}
 use Rattle.som_model.specs.declared.limits.TheConstants.{MAX_PARAMETERS, MAX_VARIABLES, MAX_OVERRIDES}
 use Rattle.som_wire.specs.declared.method.WireMethod.{WireMethod}
-use Rattle.som_wire.specs.Spelling.{FitsText, FitsCounted, FitsKind, FitsMethod, FitsSomeRanges, most_classes}
+use Rattle.som_wire.specs.Spelling.{FitsText, FitsCounted, FitsKind, FitsMethod}
 use Rattle.som_wire.specs.declared.method.Ranges.{Ranges}
 use Rattle.som_blocks.specs.declared.syntax.WireVariable.{WireVariable}
 use Rattle.som_blocks.specs.declared.syntax.WireBody.{WireBody}
@@ -91,10 +91,6 @@ FitsBlock left classes Method b = FitsStatements (FitsStmt left classes Method) 
 abbrev pub levels_left : ℕ → ℕ
 levels_left level = 33 - level
 
--- a block that can stand somewhere: at level 1, where there are most classes and entries
-abbrev pub FitsSomeBlock : WireBlock → Type 0
-FitsSomeBlock b = FitsBlock (levels_left 1) most_classes FitsSomeRanges b
-
 -- ---- parts of classes
 
 pub record FitsVariable (classes : ℕ) (v : WireVariable) : Type 0 where
@@ -116,9 +112,3 @@ pub record FitsPart (ranges : Ranges) (introduced : ℕ) (p : WirePart) : Type 0
   pub variables : FitsCounted 0 MAX_VARIABLES (FitsVariable ranges.classes) p.variables
   pub bodies : (length p.bodies ≡ introduced) × All (FitsBody ranges.classes (FitsMethod ranges)) p.bodies
   pub overrides : FitsCounted 0 MAX_OVERRIDES (FitsOverride ranges.classes (FitsMethod ranges)) p.overrides
-
--- a part that can stand somewhere, with as many bodies as are due there
-pub record FitsSomePart (p : WirePart) : Type 0 where
-  pub variables : FitsCounted 0 MAX_VARIABLES (FitsVariable most_classes) p.variables
-  pub bodies : (length p.bodies < 2 ^ 16) × All (FitsBody most_classes FitsSomeRanges) p.bodies
-  pub overrides : FitsCounted 0 MAX_OVERRIDES (FitsOverride most_classes FitsSomeRanges) p.overrides

@@ -1,5 +1,5 @@
-//! Blocks, bodies and parts of images, with numbers for classes and methods: how each is spelled, read from left to right, and
-//! written.
+//! Blocks, bodies and parts of images, with numbers for classes and methods: how each is spelled, and how it is read from left
+//! to right. Nothing writes them here so far.
 //!
 //! A reader is given all bytes and a place, as those of `som_wire`, and so many levels: a statement of a body has level 1,
 //! and what stands in a statement or an expression one more. Its clauses say three things: what it `found` stands there in its one
