@@ -4,3 +4,4 @@ pub mod NamedLaws
 pub mod NewLaws
 pub mod PrintLaws
 pub mod ImageLaws
+pub mod TypingLaws

@@ -1,16 +1,22 @@
 -- Which releases and client programs conform, and the first rule that is broken where one is.
-use Rattle.std.specs.Prelude.{◌≡◌, List, [], ◌∷◌, ◌++◌, flat_map, Option, None}
+use Rattle.std.specs.Prelude.{◌≡◌, ℕ, List, [], ◌∷◌, ◌++◌, flat_map, Option, Some, None, Ok, Err, codes}
 use Rattle.som_model.specs.declared.syntax.Block.{Block}
+use Rattle.som_model.specs.declared.class.Sig.{Sig}
+use Rattle.som_model.specs.declared.class.Entry.{Entry}
+use Rattle.som_model.specs.declared.class.Entry.TheVariants as entries
+use Rattle.som_model.specs.declared.class.Override.{Override}
 use Rattle.som_model.specs.declared.class.Body.{Body}
 use Rattle.som_model.specs.declared.class.Body.TheVariants as bodies
 use Rattle.som_model.specs.declared.program.Release.{Release}
 use Rattle.som_model.specs.declared.program.ClientProgram.{ClientProgram}
-use Rattle.som_model.specs.Lists.{first, or_else, Mem}
+use Rattle.som_model.specs.Lists.{first, or_else}
 use Rattle.som_model.specs.Class.{Class}
 use Rattle.som_model.specs.Kernel.{kernel}
 use Rattle.som_model.specs.Classes.{library_classes, interface_classes, client_classes}
-use Rattle.som_model.specs.Rules.{Breach, s1, s2, s3, s4, s5, s6, s7, s8, s9, s10, s14}
-use Rattle.som_model.specs.Typing.{AreTyped}
+use Rattle.som_model.specs.Owner.{owner, sig_of}
+use Rattle.som_model.specs.Rules.{Breach, breach, s1, s2, s3, s4, s5, s6, s7, s8, s9, s10, s14}
+use Rattle.som_model.specs.Typing.{Ruled, class_facts, in_body, in_main}
+use Rattle.som_model.specs.TypedBlocks.{Scope, block_scope}
 
 -- what breaks a rule that looks at the classes before each class
 abbrev pub each_after : (List Class → Class → List Breach) → List Class → List Class → List Breach
@@ -34,42 +40,86 @@ first_of_members before cs =
     (or_else (first (flat_map (s9 (before ++ cs)) cs))
     (first (flat_map (s10 (before ++ cs)) cs)))))
 
--- the first breach of a release
-abbrev pub release_breach : Release → Option Breach
-release_breach r = let cs = library_classes r in
+-- the first breach of the rules of a release that look into no block
+abbrev pub declared_breach : Release → Option Breach
+declared_breach r = let cs = library_classes r in
     or_else (first_of_names kernel cs)
     (or_else (first (flat_map (s5 (kernel ++ cs)) cs))
     (or_else (first_of_members kernel cs)
     (first (flat_map s14 cs))))
 
--- the first breach of a client program: the faces that it was compiled against come first, and their types name no class of the client
-abbrev pub program_breach : ClientProgram → Option Breach
-program_breach p = let base = interface_classes p.base in let own = client_classes p in
+-- the same of a client program: the faces that it was compiled against come first, and their types name no class of the client
+abbrev pub declared_program_breach : ClientProgram → Option Breach
+declared_program_breach p = let base = interface_classes p.base in let own = client_classes p in
     or_else (first_of_names kernel (base ++ own))
     (or_else (first (flat_map (s5 (kernel ++ base)) base ++ flat_map (s5 (kernel ++ base ++ own)) own))
     (or_else (first_of_members kernel (base ++ own))
     (first (flat_map s14 own))))
 
--- the blocks of a class's bodies
-abbrev block_in : Body → List Block
-block_in (bodies.User b) = b ∷ []
-block_in (bodies.Get n) = []
-block_in (bodies.Set n) = []
+-- ---- S16 to S20, body by body: in images nothing can break S15
 
-abbrev pub blocks_of : Class → List Block
-blocks_of c = flat_map block_in c.decl.bodies ++ flat_map (λ o. o.block ∷ []) c.decl.overrides
+-- a method's body that breaks a rule
+abbrev body_breach : Class → List ℕ → Ruled Scope → List Breach
+body_breach c name (Ok scope) = []
+body_breach c name (Err rule) = breach rule c name ∷ []
 
--- each block of these classes is well typed
-abbrev pub BlocksAreTyped : List Class → List Class → Type 0
-BlocksAreTyped known cs = (b : Block) → Mem b (flat_map blocks_of cs) → AreTyped known b.statements
+-- what the body of a method breaks, where its parameters are in scope
+abbrev pub block_breach : List Class → Class → List ℕ → Sig → Block → List Breach
+block_breach cs c name sig block = body_breach c name (block_scope (class_facts cs) (in_body c sig.result) block sig.params)
+
+-- the bodies of introduced entries, in order
+abbrev pub bodies_typed : List Class → Class → List Entry → List Body → List Breach
+bodies_typed cs c [] bs = []
+bodies_typed cs c (entries.Moved name to ∷ es) bs = bodies_typed cs c es bs
+bodies_typed cs c (entries.Introduced name sig way ∷ es) [] = []
+bodies_typed cs c (entries.Introduced name sig way ∷ es) (bodies.User block ∷ bs) = block_breach cs c name sig block ++ bodies_typed cs c es bs
+bodies_typed cs c (entries.Introduced name sig way ∷ es) (bodies.Get n ∷ bs) = bodies_typed cs c es bs
+bodies_typed cs c (entries.Introduced name sig way ∷ es) (bodies.Set n ∷ bs) = bodies_typed cs c es bs
+
+abbrev override_breach : List Class → Class → Override → Option Sig → List Breach
+override_breach cs c o None = []
+override_breach cs c o (Some sig) = block_breach cs c o.method.name sig o.block
+
+-- an override has the signature of the method that it replaces
+abbrev pub override_typed : List Class → Class → Override → List Breach
+override_typed cs c o = override_breach cs c o (sig_of cs (owner cs o.method))
+
+-- what the bodies of a class break, among all these classes
+abbrev pub class_typed : List Class → Class → List Breach
+class_typed cs c = bodies_typed cs c c.decl.face.entries c.decl.bodies ++ flat_map (override_typed cs c) c.decl.overrides
+
+-- main that breaks a rule
+abbrev main_breach : Ruled Scope → List Breach
+main_breach (Ok scope) = []
+main_breach (Err rule) = record { rule = rule; class = codes "main"; member = codes "-" } ∷ []
+
+-- what main breaks
+abbrev pub main_typed : List Class → Block → List Breach
+main_typed cs main = main_breach (block_scope (class_facts cs) in_main main [])
+
+-- all classes of a release and of a client program, the kernel's among them
+abbrev pub all_of_release : Release → List Class
+all_of_release r = kernel ++ library_classes r
+
+abbrev pub all_of_program : ClientProgram → List Class
+all_of_program p = kernel ++ interface_classes p.base ++ client_classes p
+
+-- ---- all rules
+
+-- the first breach of a release
+abbrev pub release_breach : Release → Option Breach
+release_breach r = or_else (declared_breach r) (first (flat_map (class_typed (all_of_release r)) (library_classes r)))
+
+-- the first breach of a client program; main comes last
+abbrev pub program_breach : ClientProgram → Option Breach
+program_breach p = or_else (declared_program_breach p) (first (flat_map (class_typed (all_of_program p)) (client_classes p) ++ main_typed (all_of_program p) p.main))
 
 -- a release conforms where it breaks no rule
 pub record ReleaseOk (r : Release) : Type 0 where
-  pub rules : release_breach r ≡ None
-  pub blocks : BlocksAreTyped (kernel ++ library_classes r) (library_classes r)
+  pub rules : declared_breach r ≡ None
+  pub blocks : first (flat_map (class_typed (all_of_release r)) (library_classes r)) ≡ None
 
 -- a client program conforms where it breaks no rule
 pub record ProgramOk (p : ClientProgram) : Type 0 where
-  pub rules : program_breach p ≡ None
-  pub blocks : BlocksAreTyped (kernel ++ interface_classes p.base ++ client_classes p) (client_classes p)
-  pub main : AreTyped (kernel ++ interface_classes p.base ++ client_classes p) p.main.statements
+  pub rules : declared_program_breach p ≡ None
+  pub blocks : first (flat_map (class_typed (all_of_program p)) (client_classes p) ++ main_typed (all_of_program p) p.main) ≡ None

@@ -28,6 +28,7 @@ use Rattle.som_model.specs.declared.program.ClientProgram.{ClientProgram}
 use Rattle.som_model.specs.declared.limits.TheConstants.{MAX_TEXT, MAX_VERSION, MAX_PARAMETERS, MAX_PARENTS, MAX_ENTRIES, MAX_VARIABLES, MAX_OVERRIDES, MAX_NESTING, MAX_LIBRARY_CLASSES, MAX_CLIENT_CLASSES}
 use Rattle.som_model.specs.Lists.{place_from}
 use Rattle.som_model.specs.Keys.{same_key}
+use Rattle.som_model.specs.Blocks.{is_call}
 use Rattle.som_model.specs.Class.{Class, entry_name, introduced}
 use Rattle.som_model.specs.Kernel.{kernel}
 use Rattle.som_model.specs.Classes.{class_at, library_classes, interface_classes, client_classes}
@@ -193,7 +194,7 @@ stmt_step cs Stmt-F.Return l = at_level l 0x06 (Some [])
 stmt_step cs (Stmt-F.ReturnValue e) l = at_level l 0x07 (expr cs e (suc l))
 stmt_step cs (Stmt-F.Print e) l = at_level l 0x08 (expr cs e (suc l))
 stmt_step cs (Stmt-F.Free e) l = at_level l 0x09 (expr cs e (suc l))
-stmt_step cs (Stmt-F.Call e) l = at_level l 0x0a (expr cs e (suc l))
+stmt_step cs (Stmt-F.Call e) l = at_level l 0x0a (where_it_is (is_call e) (expr cs e (suc l)))
 
 -- a block whose statements stand at a level
 abbrev pub block : List Class → Block → AtLevel

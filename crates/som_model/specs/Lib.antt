@@ -26,6 +26,7 @@ pub mod Means
 pub mod Same
 pub mod Rules
 pub mod Typing
+pub mod TypedBlocks
 pub mod Conforming
 pub mod Compatible
 pub mod Images
