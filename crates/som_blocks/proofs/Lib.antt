@@ -3,3 +3,5 @@ pub mod Made
 pub mod ExprFields
 pub mod StmtFields
 pub mod PartFields
+pub mod Fits
+pub mod Written

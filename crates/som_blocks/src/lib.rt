@@ -18,8 +18,10 @@ mod stmt;
 mod syntax;
 #[cfg(test)]
 mod tests;
+mod write_expr;
+mod write_stmt;
 
-pub use block::read_block;
+pub use block::{read_block, write_block};
 pub use laws::no_spelling_begins_another;
 pub use part::read_part;
 pub use syntax::{WireBlock, WireBody, WireExpr, WireOverride, WirePart, WireStmt, WireVariable};
