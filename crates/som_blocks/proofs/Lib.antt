@@ -5,3 +5,5 @@ pub mod StmtFields
 pub mod PartFields
 pub mod Fits
 pub mod Written
+pub mod SomeFits
+pub mod ReadBack

@@ -1,9 +1,10 @@
 -- What is appended in two steps is the spelling.
-use Rattle.std.proofs.Common.{◌≡◌, ℕ, List, [], ◌∷◌, ◌++◌, map, Result, Ok, Err, refl, sym, ap, ◌∙◌, append_assoc}
+use Rattle.std.proofs.Common.{◌≡◌, ℕ, ◌≤◌, List, [], ◌∷◌, ◌++◌, length, take, map, Result, Ok, Err, refl, sym, ap, ◌∙◌, append_assoc, arith}
 use Rattle.std.specs.Prelude.{OnOk}
 use Rattle.std.specs.Int.{w8, w32}
-use Rattle.std.proofs.lemmas.List.{append-nil}
-use Rattle.som_wire.specs.Spelling.{counted}
+use Rattle.std.proofs.lemmas.List.{append-nil, take_all}
+use Rattle.std.specs.List.{flat_map}
+use Rattle.som_wire.specs.Spelling.{number, counted}
 use Rattle.som_blocks.specs.declared.syntax.WireExpr.{WireExpr, out-WireExpr, roll-WireExpr, roll-out-WireExpr, fold-roll-WireExpr}
 use Rattle.som_blocks.specs.declared.syntax.WireExpr.TheOpen.{WireExpr-F}
 use Rattle.som_blocks.specs.declared.syntax.WireStmt.{WireStmt, out-WireStmt, roll-WireStmt, roll-out-WireStmt, fold-roll-WireStmt}
@@ -12,6 +13,7 @@ use Rattle.som_blocks.specs.declared.syntax.WireBlock.{WireBlock}
 use Rattle.som_blocks.specs.Spelling.{args, expr_step, expr, block_step, stmt_step, stmt, block}
 use Rattle.som_blocks.specs.Writing.{head_of, operands_of, expr_head, expr_operands, front_of, blocks_of, stmt_front, stmt_blocks}
 use Rattle.som_blocks.proofs.ExprFields.{args_are}
+use Rattle.som_blocks.proofs.StmtFields.{block_is}
 
 -- two texts that were appended are the one that they make
 appended : (before between after x y whole : List ℕ) → whole ≡ x ++ y → between ≡ before ++ x → after ≡ between ++ y → after ≡ before ++ whole
@@ -69,3 +71,10 @@ stmt_whole s = ap stmt (sym (roll-out-WireStmt s)) ∙ stmt_step_whole (out-Wire
 pub stmt_appended : {A E : Type 0} (before between after : List ℕ) (s : WireStmt) (result : Result A E) → between ≡ before ++ stmt_front s → OnOk result (after ≡ between ++ stmt_blocks s) → OnOk result (after ≡ before ++ stmt s)
 stmt_appended before between after s (Ok x) first second = appended before between after (stmt_front s) (stmt_blocks s) (stmt s) (stmt_whole s) first second
 stmt_appended before between after s (Err x) first second = tt
+
+-- all statements after their number are the block
+pub block_appended : (before after : List ℕ) (b : WireBlock) (items : List WireStmt) (i : ℕ) → items ≡ b.statements → length items ≤ i → after ≡ before ++ (number w32 (length b.statements) ++ flat_map stmt (take i b.statements)) → after ≡ before ++ block b
+block_appended before after b items i same all is =
+    is
+    ∙ ap (λ (ss : List WireStmt). before ++ (number w32 (length b.statements) ++ flat_map stmt ss)) (take_all i b.statements (omega (arith, all, ap length same)))
+    ∙ ap (λ (t : List ℕ). before ++ t) (sym (block_is b.statements))

@@ -72,6 +72,19 @@ pub fn write_block(alloc: Global, out: &mut List<u8>, value: &WireBlock) -> Resu
     ensures err { OnErr result (out.new ≡ out.old) }
 {
     let mut spelling = List::new(alloc);
-    append_block(alloc, &mut spelling, value)?;
+    append_block_of_body(alloc, &mut spelling, value)?;
     out.extend_from_slice(spelling.as_slice())
+}
+
+/// Appends a block whose statements have level 1. After an error a part of it may have been appended.
+#[tactic(auto, using(crate::proofs::Fits::some_block))]
+pub(crate) fn append_block_of_body(
+    alloc: Global,
+    out: &mut List<u8>,
+    value: &WireBlock,
+) -> Result<(), NoMemory>
+    requires { FitsSomeBlock value.now }
+    ensures { OnOk result (out.new ≡ out.old ++ block value.now) }
+{
+    append_block(alloc, out, value)
 }
