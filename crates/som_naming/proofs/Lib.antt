@@ -5,3 +5,7 @@ pub mod Naming
 pub mod Numbering
 pub mod NamedKinds
 pub mod NumberedKinds
+pub mod BlockForms
+pub mod NamedExprs
+pub mod NamedCalls
+pub mod NamedStmts

@@ -6,11 +6,13 @@
 #![tactic(auto)]
 
 mod directory;
+mod laws;
 mod lookup;
 mod named;
 mod named_block;
 mod named_expr;
 
 pub use directory::Directory;
+pub use laws::named_blocks_are_spelled;
 pub use named::{key_of, name_kind};
 pub use named_block::name_block;
