@@ -5,3 +5,6 @@ pub mod Naming
 pub mod Numbering
 pub mod NamedKinds
 pub mod NumberedKinds
+pub mod TypedBlocks
+pub mod KnownMethods
+pub mod TurnedBlocks
