@@ -9,3 +9,6 @@ pub mod BlockForms
 pub mod NamedExprs
 pub mod NamedCalls
 pub mod NamedStmts
+pub mod TypedBlocks
+pub mod KnownMethods
+pub mod TurnedBlocks
