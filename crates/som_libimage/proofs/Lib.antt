@@ -2,10 +2,6 @@ pub mod PartFields
 pub mod EachFields
 pub mod LibraryFields
 pub mod Naming
-pub mod Numbering
-pub mod Places
-pub mod Spelled
-pub mod Numbers
 pub mod NamedFaces
 pub mod NamedParts
 pub mod NamedReleases

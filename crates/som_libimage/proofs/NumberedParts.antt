@@ -23,15 +23,18 @@ use Rattle.som_model.specs.declared.class.ClassFace.{ClassFace}
 use Rattle.som_model.specs.declared.class.ClassDecl.{ClassDecl}
 use Rattle.som_model.specs.Class.{introduced}
 use Rattle.som_wire.specs.Spelling.{FitsText, FitsFace}
-use Rattle.som_libimage.specs.declared.directory.Directory.{Directory}
+use Rattle.som_naming.specs.declared.directory.Directory.{Directory}
 use Rattle.som_libimage.specs.Reading.{is_introduced}
 use Rattle.som_libimage.specs.Spelling.{FitsBlock, FitsVariable, FitsBody, FitsOverride, FitsPart}
-use Rattle.som_libimage.specs.Naming.{print_of, block_named, variable_named, body_named, override_named, class_named, ranges_in}
+use Rattle.som_naming.specs.Naming.{ranges_in}
+use Rattle.som_libimage.specs.Naming.{print_of, block_named, variable_named, body_named, override_named, class_named}
 use Rattle.som_libimage.specs.Libraries.{PrintsTexts, BodyPrints}
 use Rattle.som_libimage.specs.Limits.{TextWithin, StatementWithin, BlockWithin, BodyWithin, ClassWithin}
-use Rattle.som_libimage.specs.Numbering.{IsValue, text_of, printed_by, text_in, block_numbered, variable_numbered, body_numbered, override_numbered, OverrideKnown, entry_numbered, face_numbered, part_numbered, ClassKnown}
+use Rattle.som_naming.specs.Numbering.{IsValue}
+use Rattle.som_libimage.specs.Numbering.{text_of, printed_by, text_in, block_numbered, variable_numbered, body_numbered, override_numbered, OverrideKnown, entry_numbered, face_numbered, part_numbered, ClassKnown}
 use Rattle.som_libimage.proofs.NamedParts.{introduced_is}
-use Rattle.som_libimage.proofs.NumberedFaces.{TurnsBack, all_both, counted_turn, method_turns, value_turns, face_turns}
+use Rattle.som_naming.proofs.NumberedKinds.{TurnsBack, all_both, counted_turn, method_turns, value_turns}
+use Rattle.som_libimage.proofs.NumberedFaces.{face_turns}
 
 -- ---- blocks
 

@@ -14,18 +14,21 @@ use Rattle.som_model.specs.declared.class.ClassDecl.{ClassDecl}
 use Rattle.som_model.specs.declared.program.Release.{Release}
 use Rattle.som_model.specs.Class.{Class, class_in, entry_name}
 use Rattle.som_model.specs.Kernel.{kernel}
+use Rattle.som_model.specs.Rules.{name_of}
 use Rattle.som_model.specs.Classes.{library_classes}
 use Rattle.som_wire.specs.declared.face.WireFace.{WireFace}
 use Rattle.som_wire.specs.declared.method.Ranges.{Ranges}
 use Rattle.som_wire.specs.Spelling.{FitsFace}
 use Rattle.som_libimage.specs.declared.wire.WirePart.{WirePart}
-use Rattle.som_libimage.specs.declared.directory.Directory.{Directory}
+use Rattle.som_naming.specs.declared.directory.Directory.{Directory}
 use Rattle.som_libimage.specs.Spelling.{FitsPart, FitEach, FitsRelease}
-use Rattle.som_libimage.specs.Naming.{name_in, names_in, kernel_directory, library_directory, ranges_in, classes_named, release_named}
-use Rattle.som_libimage.specs.Numbering.{class_names, keys_from, keys_by, release_directory, IsDirectory, entry_numbered, face_numbered, part_numbered, release_numbered}
+use Rattle.som_naming.specs.Naming.{name_in, names_in, kernel_directory, library_directory, ranges_in, entry_names, Tells}
+use Rattle.som_libimage.specs.Naming.{classes_named, release_named}
+use Rattle.som_naming.specs.Numbering.{Differ, key_name, IsDeclared, class_names, AreNamed, release_directory, IsDirectory}
+use Rattle.som_naming.proofs.Numbering.{named_first, name_of_named}
+use Rattle.som_libimage.specs.Numbering.{entry_numbered, face_numbered, part_numbered, release_numbered}
 use Rattle.som_libimage.proofs.Naming.{ranges_known}
-use Rattle.som_libimage.proofs.Places.{all_joined}
-use Rattle.som_libimage.proofs.Numbers.{entry_names, Tells}
+use Rattle.som_naming.proofs.Places.{all_joined}
 use Rattle.som_libimage.proofs.NumberedParts.{ClassReady, class_turns}
 
 -- ---- the directory of a release
@@ -50,19 +53,37 @@ told r = record {
   slots = ap (λ (ns : List (List (List ℕ))). kernel_directory.slots ++ ns) (slots_told r.classes);
 }
 
-past_kernel : (n : ℕ) → nat_lt (suc (suc (suc (suc n)))) 4 ≡ false
-past_kernel n = grind arith
+-- the names of the kernel's classes, and then of these
+abbrev pub names_of : List ClassDecl → List (List ℕ)
+names_of ds = map name_of kernel ++ map (λ (c : ClassDecl). c.face.name) ds
 
-library_keys : (n : ℕ) (ds : List ClassDecl) → keys_from (suc (suc (suc (suc n)))) (map (λ (c : ClassDecl). c.face.name) ds) ≡ map own_key ds
-library_keys n [] = refl
-library_keys n (c ∷ ds) = let e = past_kernel n in rw e (ap (λ (ks : List ClassKey). own_key c ∷ ks) (library_keys (suc n) ds))
+library_names : (ds : List ClassDecl) → map key_name (map own_key ds) ≡ map (λ (c : ClassDecl). c.face.name) ds
+library_names [] = refl
+library_names (c ∷ ds) = named_first (own_key c) c.face.name (name_of_named modules.Library c.face.name) (map own_key ds) (map (λ (c : ClassDecl). c.face.name) ds) (library_names ds)
 
-keys_are : (r : Release) → (release_directory r).keys ≡ keys_by (class_names r.classes)
-keys_are r = ap (λ (ks : List ClassKey). kernel_directory.keys ++ ks) (sym (library_keys 0 r.classes))
+pub names_are : (r : Release) → class_names (release_directory r) ≡ names_of r.classes
+names_are r =
+    named_first _ _ (name_of_named modules.Kernel _) _ _
+    (named_first _ _ (name_of_named modules.Kernel _) _ _
+    (named_first _ _ (name_of_named modules.Kernel _) _ _
+    (named_first _ _ (name_of_named modules.Kernel _) _ _ (library_names r.classes))))
 
-pub is_directory : (r : Release) → AllByRecursion (λ (c : ClassDecl). length c.face.entries ≤ MAX_ENTRIES) r.classes → IsDirectory (class_names r.classes) (release_directory r)
-is_directory r few = record {
-  keys = keys_are r;
+own_declared : (ds : List ClassDecl) → AllByRecursion IsDeclared (map own_key ds)
+own_declared [] = tt
+own_declared (c ∷ ds) = ((modules.Library, (c.face.name, refl)), own_declared ds)
+
+pub are_named : (r : Release) → length r.classes ≤ MAX_LIBRARY_CLASSES → Differ (names_of r.classes) → AreNamed (release_directory r)
+are_named r few differ = record {
+  declared = All-from_recursion IsDeclared ((release_directory r).keys)
+      ((modules.Kernel, (_, refl)), ((modules.Kernel, (_, refl)), ((modules.Kernel, (_, refl)), ((modules.Kernel, (_, refl)), own_declared r.classes))));
+  differ = subst Differ (sym (names_are r)) differ;
+  few = omega (arith, few, length-map r.classes own_key);
+}
+
+pub is_directory : (r : Release) → AreNamed (release_directory r) → AllByRecursion (λ (c : ClassDecl). length c.face.entries ≤ MAX_ENTRIES) r.classes → IsDirectory (class_names (release_directory r)) (release_directory r)
+is_directory r named few = record {
+  named = named;
+  are = refl;
   slots = omega (arith, length-map r.classes own_names, length-map r.classes own_key);
   few = All-from_recursion (λ (ns : List (List ℕ)). length ns ≤ MAX_ENTRIES) ((release_directory r).slots)
       (all_joined (λ (ns : List (List ℕ)). length ns ≤ MAX_ENTRIES) kernel_directory.slots (map own_names r.classes) (omega arith, (omega arith, (omega arith, (omega arith, tt)))) (few_own r.classes few));

@@ -34,17 +34,20 @@ use Rattle.som_model.proofs.KeyLaws.{both, exact_bytes, exact_keys}
 use Rattle.som_wire.specs.declared.face.WireFace.{WireFace}
 use Rattle.som_libimage.specs.declared.wire.WirePart.{WirePart}
 use Rattle.som_libimage.specs.declared.wire.WireRelease.{WireRelease}
-use Rattle.som_libimage.specs.declared.directory.Directory.{Directory}
-use Rattle.som_libimage.specs.Libraries.{ClassPrints, Differ, PrintsTexts, PrintTexts}
+use Rattle.som_naming.specs.declared.directory.Directory.{Directory}
+use Rattle.som_naming.specs.Numbering.{Differ}
+use Rattle.som_libimage.specs.Libraries.{ClassPrints, PrintsTexts, PrintTexts}
 use Rattle.som_libimage.specs.Limits.{ClassWithin, IsWithinLimits}
-use Rattle.som_libimage.specs.Numbering.{class_names, AreNames, IsDirectory, keys_by, release_directory, MethodKnown, IsKnown, IsValue, EntryKnown, FaceKnown, OverrideKnown, ClassKnown, face_numbered, part_numbered, release_numbered}
+use Rattle.som_naming.specs.Numbering.{class_names, AreNamed, IsDirectory, release_directory, MethodKnown, IsKnown, IsValue}
+use Rattle.som_libimage.specs.Numbering.{EntryKnown, FaceKnown, OverrideKnown, ClassKnown, face_numbered, part_numbered, release_numbered}
 use Rattle.som_libimage.proofs.Conforming.{neither_is, none_first, both_empty, not_broken, names_joined}
-use Rattle.som_libimage.proofs.Places.{all_map, place_of_map}
-use Rattle.som_libimage.proofs.Numbers.{Tells, Known, known, entry_names}
-use Rattle.som_libimage.proofs.Numbering.{first_place}
-use Rattle.som_libimage.proofs.NumberedFaces.{all_both}
+use Rattle.som_naming.proofs.Places.{all_map, place_of_map}
+use Rattle.som_naming.specs.Naming.{Tells, entry_names}
+use Rattle.som_naming.proofs.Numbers.{Known, known}
+use Rattle.som_naming.proofs.Numbering.{first_place}
+use Rattle.som_naming.proofs.NumberedKinds.{all_both}
 use Rattle.som_libimage.proofs.NumberedParts.{IsByte, ClassReady}
-use Rattle.som_libimage.proofs.NumberedReleases.{told, is_directory, ReleaseTurns, release_turns}
+use Rattle.som_libimage.proofs.NumberedReleases.{told, are_named, is_directory, ReleaseTurns, release_turns}
 
 -- ---- demands that hold
 
@@ -378,8 +381,7 @@ module _ (d : Directory) (cs : List Class) (tells : Tells d cs) where
 
 -- what numbering asks for
 pub record IsReady (r : Release) : Type 0 where
-  pub names : AreNames (class_names r.classes)
-  pub directory : IsDirectory (class_names r.classes) (release_directory r)
+  pub directory : IsDirectory (class_names (release_directory r)) (release_directory r)
   pub classes : All (ClassKnown (release_directory r)) r.classes
   pub turns : ReleaseTurns r
 
@@ -391,8 +393,7 @@ ready r ok prints within =
     let each : AllByRecursion (ClassReady (release_directory r)) ds =
     classes_ready (release_directory r) (kernel ++ library_classes r) (told r) ds (stand_before kernel ds h.parents) h.types h.moves h.overrides h.bodies (recursion_from_All ClassPrints ds prints) limits in
     record {
-      names = record { differ = names_new kernel ds h.names; few = omega (arith, within.classes, length-map ds (λ (c : ClassDecl). c.face.name)) };
-      directory = is_directory r (all_map ClassWithin (λ (c : ClassDecl). length c.face.entries ≤ MAX_ENTRIES) (λ c w. w.face.entries) ds limits);
+      directory = is_directory r (are_named r within.classes (names_new kernel ds h.names)) (all_map ClassWithin (λ (c : ClassDecl). length c.face.entries ≤ MAX_ENTRIES) (λ c w. w.face.entries) ds limits);
       classes = All-from_recursion (ClassKnown (release_directory r)) ds (all_map (ClassReady (release_directory r)) (ClassKnown (release_directory r)) (λ c w. w.known) ds each);
       turns = release_turns r within.classes each;
     }
@@ -403,36 +404,29 @@ abbrev wire : List WireFace → List WirePart → WireRelease
 wire fs ps = record { faces = fs; parts = ps }
 
 module _ (r : Release) (ds : List ClassDecl) (same : ds ≡ r.classes) (is : IsReady r) where
-  pub classes_differ : Differ (class_names ds)
-  classes_differ = subst (λ (l : List ClassDecl). Differ (class_names l)) (sym same) is.names.differ
+  pub named_ready : (d : Directory) → d ≡ release_directory r → AreNamed d
+  named_ready d f = subst AreNamed (sym f) is.directory.named
 
-  pub names_ready : (names : List (List ℕ)) → names ≡ class_names ds → AreNames names
-  names_ready names e = subst AreNames (sym (e ∙ ap class_names same)) is.names
-
-  pub directory_ready : (names : List (List ℕ)) (d : Directory) → names ≡ class_names ds → d ≡ release_directory r → IsDirectory names d
-  directory_ready names d e f = subst (IsDirectory names) (sym f) (subst (λ (l : List (List ℕ)). IsDirectory l (release_directory r)) (sym (e ∙ ap class_names same)) is.directory)
+  pub directory_ready : (names : List (List ℕ)) (d : Directory) → names ≡ class_names d → d ≡ release_directory r → IsDirectory names d
+  directory_ready names d e f = subst (λ (ns : List (List ℕ)). IsDirectory ns d) (sym e) (subst (λ (x : Directory). IsDirectory (class_names x) x) (sym f) is.directory)
 
   pub known_ready : (d : Directory) → d ≡ release_directory r → All (ClassKnown d) ds
   known_ready d f = subst (λ (l : List ClassDecl). All (ClassKnown d) l) (sym same) (subst (λ (x : Directory). All (ClassKnown x) r.classes) (sym f) is.classes)
 
-  -- the keys of the directory are those of the names
-  keys_ready : (names : List (List ℕ)) → names ≡ class_names ds → (release_directory r).keys ≡ keys_by names
-  keys_ready names e = (directory_ready names (release_directory r) e refl).keys
-
   abbrev faces_known : List ClassKey → Type 0
   faces_known l = All (λ (c : ClassDecl). FaceKnown l c.face) ds
 
-  pub faces_ready : (names : List (List ℕ)) → names ≡ class_names ds → faces_known (keys_by names)
-  faces_ready names e =
-      let each = all_map (ClassKnown (release_directory r)) (λ (c : ClassDecl). FaceKnown ((release_directory r).keys) c.face) (λ c k. k.face) ds (recursion_from_All (ClassKnown (release_directory r)) ds (known_ready (release_directory r) refl)) in
-      subst faces_known (keys_ready names e) (All-from_recursion (λ (c : ClassDecl). FaceKnown ((release_directory r).keys) c.face) ds each)
+  pub faces_ready : (d : Directory) → d ≡ release_directory r → faces_known d.keys
+  faces_ready d f =
+      let each = all_map (ClassKnown d) (λ (c : ClassDecl). FaceKnown d.keys c.face) (λ c k. k.face) ds (recursion_from_All (ClassKnown d) ds (known_ready d f)) in
+      All-from_recursion (λ (c : ClassDecl). FaceKnown d.keys c.face) ds each
 
   abbrev faces_by : List ClassKey → List ClassDecl → List WireFace
   faces_by l cs = map (λ (c : ClassDecl). face_numbered l c.face) cs
 
   -- the faces and the parts are those of the release
-  pub numbered_is : (names : List (List ℕ)) (d : Directory) (fs : List WireFace) (ps : List WirePart) → names ≡ class_names ds → d ≡ release_directory r → fs ≡ map (λ (c : ClassDecl). face_numbered (keys_by names) c.face) ds → ps ≡ map (part_numbered d) ds → wire fs ps ≡ release_numbered r
-  numbered_is names d fs ps e f faces parts =
+  pub numbered_is : (d : Directory) (fs : List WireFace) (ps : List WirePart) → d ≡ release_directory r → fs ≡ map (λ (c : ClassDecl). face_numbered d.keys c.face) ds → ps ≡ map (part_numbered d) ds → wire fs ps ≡ release_numbered r
+  numbered_is d fs ps f faces parts =
       let own : Directory = release_directory r in
-      ap (λ (l : List WireFace). wire l ps) (faces ∙ ap (λ (l : List ClassKey). faces_by l ds) (sym (keys_ready names e)) ∙ ap (faces_by own.keys) same)
+      ap (λ (l : List WireFace). wire l ps) (faces ∙ ap (λ (x : Directory). faces_by x.keys ds) f ∙ ap (faces_by own.keys) same)
       ∙ ap (λ (l : List WirePart). wire (faces_by own.keys r.classes) l) (parts ∙ ap (λ (x : Directory). map (part_numbered x) ds) f ∙ ap (map (part_numbered own)) same)

@@ -1,6 +1,5 @@
 -- What is said of the release of a library image.
-use Rattle.std.specs.Prelude.{◌≡◌, ℕ, List, [], ◌++◌, map, All, Result, Ok}
-use Rattle.std.specs.Str.{bytes_eq}
+use Rattle.std.specs.Prelude.{◌≡◌, ℕ, List, ◌++◌, map, All, Result, Ok}
 use Rattle.std.specs.Int.{w16}
 use Rattle.som_model.specs.declared.syntax.Block.{Block}
 use Rattle.som_model.specs.declared.class.Body.{Body}
@@ -10,7 +9,6 @@ use Rattle.som_model.specs.declared.class.ClassDecl.{ClassDecl}
 use Rattle.som_model.specs.declared.limits.TheConstants.{MAX_LIBRARY_CLASSES}
 use Rattle.som_model.specs.declared.program.Interface.{Interface}
 use Rattle.som_model.specs.declared.program.Release.{Release}
-use Rattle.som_model.specs.Lists.{doubles}
 use Rattle.som_model.specs.Steps.{◌>>=◌}
 use Rattle.som_model.specs.Class.{entry_name}
 use Rattle.som_model.specs.Kernel.{kernel}
@@ -20,6 +18,7 @@ use Rattle.som_model.specs.Images.{Spelled}
 use Rattle.som_wire.specs.declared.face.WireFace.{WireFace}
 use Rattle.som_wire.specs.Spelling as wire
 use Rattle.som_wire.specs.declared.fault.ImageFault.{ImageFault}
+use Rattle.som_naming.specs.Numbering.{Differ}
 use Rattle.som_libimage.specs.Reading.{wire_at}
 use Rattle.som_libimage.specs.Naming.{print_of, interface_named, release_named}
 use Rattle.som_libimage.specs.Spelling.{FitsFaces}
@@ -44,10 +43,6 @@ abbrev pub PrintTexts : Release → Type 0
 PrintTexts r = All ClassPrints r.classes
 
 -- ---- names
-
--- no name stands twice
-abbrev pub Differ : List (List ℕ) → Type 0
-Differ names = doubles bytes_eq [] names ≡ []
 
 -- no two of the classes have one name, and no two entries of a class
 pub record NamesDiffer (faces : List ClassFace) : Type 0 where

@@ -9,11 +9,9 @@
 #![tactic(auto)]
 
 mod block;
-mod directory;
 mod head;
 mod laws;
 mod library;
-mod lookup;
 mod named_face;
 mod named_part;
 mod numbered;
@@ -25,7 +23,6 @@ mod release;
 mod tests;
 mod wire;
 
-pub use directory::Directory;
 pub use laws::{image_exists, named_faces_are_spelled, names_of_a_conforming_release_differ};
 pub use library::{decode, encode};
 pub use named_face::{name_face, name_interface};

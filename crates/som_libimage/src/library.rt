@@ -1,12 +1,8 @@
 ghost use Rattle.som_libimage.specs.Libraries.{NamesDiffer, PrintTexts, library_at};
 ghost use Rattle.som_libimage.specs.Limits.{IsWithinLimits};
-ghost use Rattle.som_libimage.specs.Naming.{
-  classes_named,
-  library_directory,
-  ranges_in,
-  release_named,
-};
-ghost use Rattle.som_libimage.specs.Spelling.{FitEach, FitsFaces, FitsPart, FitsRelease};
+ghost use Rattle.som_naming.specs.Naming.{ranges_in};
+ghost use Rattle.som_libimage.specs.Naming.{classes_named, release_named};
+ghost use Rattle.som_libimage.specs.Spelling.{FitEach, FitsPart, FitsRelease};
 ghost use Rattle.som_model.specs.Class.{interface_of};
 ghost use Rattle.som_model.specs.Conforming.{ReleaseOk};
 ghost use Rattle.som_model.specs.Images.{library_image};
@@ -14,11 +10,11 @@ ghost use Rattle.som_wire.specs.Fields.{Gives};
 ghost use Rattle.som_wire.specs.Spelling.{FitsFace};
 ghost use Rattle.std.specs.Prelude.{◌≡◌, ℕ, All, Some, Ok, length, IfOk};
 
-use crate::directory::Directory;
 use crate::named_part::name_class;
 use crate::numbered::number_release;
 use crate::release::{read_release, write_release};
 use crate::wire::{WirePart, WireRelease};
+use som_naming::Directory;
 use som_model::{ClassDecl, List, NoMemory, Release};
 use som_wire::{EncodeFault, ImageFault, WireFace};
 use std::alloc::Global;

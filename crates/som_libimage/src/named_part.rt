@@ -1,23 +1,21 @@
+ghost use Rattle.som_naming.specs.Naming.{ranges_in};
 ghost use Rattle.som_libimage.specs.Naming.{
   block_named,
   body_named,
   class_named,
   override_named,
-  print_of,
-  ranges_in,
   variable_named,
 };
-ghost use Rattle.som_libimage.specs.Reading.{introduced_count};
 ghost use Rattle.som_libimage.specs.Spelling.{FitsOverride, FitsPart, FitsVariable};
 ghost use Rattle.som_wire.specs.Spelling.{FitsFace};
 ghost use Rattle.std.specs.Prelude.{◌≡◌, ◌<◌, ℕ, length, map, All, IfOk};
 
-use crate::directory::Directory;
-use crate::named_face::{name_face, name_kind};
+use crate::named_face::name_face;
 use crate::wire::{WireBody, WireOverride, WirePart, WireVariable};
 use som_model::{
     Block, Body, ClassDecl, ClassKey, Expr, List, NoMemory, Override, Stmt, Text, Variable,
 };
+use som_naming::{Directory, name_kind};
 use som_wire::WireFace;
 use std::alloc::Global;
 
@@ -34,7 +32,7 @@ fn name_block(alloc: Global, texts: &List<Text>) -> Result<Block, NoMemory>
     Ok(Block { statements })
 }
 
-#[tactic(auto, using(crate::proofs::Naming::as_result))]
+#[tactic(auto, using(som_naming::proofs::Naming::as_result))]
 fn name_variable(
     alloc: Global,
     keys: &List<ClassKey>,

@@ -1,13 +1,11 @@
 ghost use Rattle.som_libimage.specs.Libraries.{PrintTexts};
 ghost use Rattle.som_libimage.specs.Limits.{IsWithinLimits};
 ghost use Rattle.som_libimage.specs.Naming.{release_named};
+ghost use Rattle.som_naming.specs.Numbering.{IsDirectory};
 ghost use Rattle.som_libimage.specs.Numbering.{
-  AreNames,
   ClassKnown,
   FaceKnown,
-  IsDirectory,
   face_numbered,
-  keys_by,
   part_numbered,
   release_numbered,
 };
@@ -16,12 +14,11 @@ ghost use Rattle.som_model.specs.Conforming.{ReleaseOk};
 ghost use Rattle.som_order.specs.Names.{texts};
 ghost use Rattle.std.specs.Prelude.{◌≡◌, map, All, IfOk};
 
-use crate::directory::Directory;
-use crate::lookup::class_names;
 use crate::numbered_face::number_face;
 use crate::numbered_part::number_part;
 use crate::wire::{WirePart, WireRelease};
 use indexmap::IndexSet;
+use som_naming::Directory;
 use som_model::{ClassDecl, List, NoMemory, Release};
 use som_wire::WireFace;
 use std::alloc::Global;
@@ -29,15 +26,16 @@ use std::alloc::Global;
 fn number_faces(
     alloc: Global,
     names: &IndexSet<&[u8]>,
+    directory: &Directory,
     classes: &[ClassDecl],
 ) -> Result<List<WireFace>, NoMemory>
-    requires names { AreNames (texts names.now.keys) }
-    requires known { All (λ c. FaceKnown (keys_by (texts names.now.keys)) c.face) classes.now }
-    ensures { IfOk result (λ faces. faces ≡ map (λ c. face_numbered (keys_by (texts names.now.keys)) c.face) classes.now) }
+    requires directory { IsDirectory (texts names.now.keys) directory.now }
+    requires known { All (λ c. FaceKnown directory.now.keys c.face) classes.now }
+    ensures { IfOk result (λ faces. faces ≡ map (λ c. face_numbered directory.now.keys c.face) classes.now) }
 {
     let mut faces = List::new(alloc);
     for class in classes {
-        faces.push(number_face(alloc, names, &class.face)?)?;
+        faces.push(number_face(alloc, names, directory, &class.face)?)?;
     }
     Ok(faces)
 }
@@ -48,7 +46,6 @@ fn number_parts(
     directory: &Directory,
     classes: &[ClassDecl],
 ) -> Result<List<WirePart>, NoMemory>
-    requires names { AreNames (texts names.now.keys) }
     requires directory { IsDirectory (texts names.now.keys) directory.now }
     requires known { All (ClassKnown directory.now) classes.now }
     ensures { IfOk result (λ parts. parts ≡ map (part_numbered directory.now) classes.now) }
@@ -78,9 +75,9 @@ fn number_all(alloc: Global, release: &Release) -> Result<WireRelease, NoMemory>
     ensures { IfOk result (λ wire. wire ≡ release_numbered release.now) }
 {
     let classes = release.classes.as_slice();
-    let names = class_names(alloc, classes)?;
-    let faces = number_faces(alloc, &names, classes)?;
     let directory = Directory::of_release(alloc, release)?;
+    let names = directory.class_names(alloc)?;
+    let faces = number_faces(alloc, &names, &directory, classes)?;
     let parts = number_parts(alloc, &names, &directory, classes)?;
     Ok(WireRelease { faces, parts })
 }

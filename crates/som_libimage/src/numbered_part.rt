@@ -1,16 +1,11 @@
 ghost use Rattle.som_libimage.specs.Libraries.{BodyPrints, PrintsTexts};
 ghost use Rattle.som_libimage.specs.Naming.{print_of};
+ghost use Rattle.som_naming.specs.Numbering.{IsDirectory, IsValue};
 ghost use Rattle.som_libimage.specs.Numbering.{
-  AreNames,
   ClassKnown,
-  IsDirectory,
-  IsValue,
-  MethodKnown,
   OverrideKnown,
   block_numbered,
   body_numbered,
-  keys_by,
-  method_numbered,
   override_numbered,
   part_numbered,
   text_of,
@@ -19,15 +14,12 @@ ghost use Rattle.som_libimage.specs.Numbering.{
 ghost use Rattle.som_order.specs.Names.{texts};
 ghost use Rattle.std.specs.Prelude.{◌≡◌, ℕ, List as Seq, map, All, IfOk};
 
-use crate::directory::Directory;
-use crate::lookup::{number_of, slot_of};
-use crate::numbered_face::number_kind;
 use crate::wire::{WireBody, WireOverride, WirePart, WireVariable};
 use indexmap::IndexSet;
 use som_model::{
-    Block, Body, ClassDecl, Expr, List, MethodRef, NoMemory, Override, Stmt, Text, Variable,
+    Block, Body, ClassDecl, Expr, List, NoMemory, Override, Stmt, Text, Variable,
 };
-use som_wire::WireMethod;
+use som_naming::Directory;
 use std::alloc::Global;
 
 fn text_of(alloc: Global, statement: &Stmt) -> Result<Text, NoMemory>
@@ -54,34 +46,36 @@ fn number_block(alloc: Global, block: &Block) -> Result<List<Text>, NoMemory>
     Ok(numbered)
 }
 
-#[tactic(auto, using(crate::proofs::Numbering::as_type))]
+#[tactic(auto, using(som_naming::proofs::Numbering::as_type))]
 fn number_variable(
     alloc: Global,
     names: &IndexSet<&[u8]>,
+    directory: &Directory,
     variable: &Variable,
 ) -> Result<WireVariable, NoMemory>
-    requires names { AreNames (texts names.now.keys) }
-    requires known { IsValue (keys_by (texts names.now.keys)) variable.now.kind }
-    ensures { IfOk result (λ numbered. numbered ≡ variable_numbered (keys_by (texts names.now.keys)) variable.now) }
+    requires directory { IsDirectory (texts names.now.keys) directory.now }
+    requires known { IsValue directory.now.keys variable.now.kind }
+    ensures { IfOk result (λ numbered. numbered ≡ variable_numbered directory.now.keys variable.now) }
 {
     Ok(WireVariable {
         name: variable.name.copy(alloc)?,
-        kind: number_kind(names, &variable.kind),
+        kind: directory.number_kind(names, &variable.kind),
     })
 }
 
 fn number_variables(
     alloc: Global,
     names: &IndexSet<&[u8]>,
+    directory: &Directory,
     variables: &List<Variable>,
 ) -> Result<List<WireVariable>, NoMemory>
-    requires names { AreNames (texts names.now.keys) }
-    requires known { All (λ v. IsValue (keys_by (texts names.now.keys)) v.kind) variables.now }
-    ensures { IfOk result (λ numbered. numbered ≡ map (variable_numbered (keys_by (texts names.now.keys))) variables.now) }
+    requires directory { IsDirectory (texts names.now.keys) directory.now }
+    requires known { All (λ v. IsValue directory.now.keys v.kind) variables.now }
+    ensures { IfOk result (λ numbered. numbered ≡ map (variable_numbered directory.now.keys) variables.now) }
 {
     let mut numbered = List::new(alloc);
     for variable in variables.as_slice() {
-        numbered.push(number_variable(alloc, names, variable)?)?;
+        numbered.push(number_variable(alloc, names, directory, variable)?)?;
     }
     Ok(numbered)
 }
@@ -108,30 +102,18 @@ fn number_bodies(alloc: Global, bodies: &List<Body>) -> Result<List<WireBody>, N
     Ok(numbered)
 }
 
-fn number_method(names: &IndexSet<&[u8]>, directory: &Directory, method: &MethodRef) -> WireMethod
-    requires names { AreNames (texts names.now.keys) }
-    requires directory { IsDirectory (texts names.now.keys) directory.now }
-    requires known { MethodKnown directory.now method.now }
-    ensures { result ≡ method_numbered directory.now method.now }
-{
-    let class = number_of(names, &method.class);
-    let slot = slot_of(&directory.slots.as_slice()[class as usize], &method.name);
-    WireMethod { class, slot }
-}
-
 fn number_override(
     alloc: Global,
     names: &IndexSet<&[u8]>,
     directory: &Directory,
     replaced: &Override,
 ) -> Result<WireOverride, NoMemory>
-    requires names { AreNames (texts names.now.keys) }
     requires directory { IsDirectory (texts names.now.keys) directory.now }
     requires known { OverrideKnown directory.now replaced.now }
     ensures { IfOk result (λ numbered. numbered ≡ override_numbered directory.now replaced.now) }
 {
     Ok(WireOverride {
-        method: number_method(names, directory, &replaced.method),
+        method: directory.number_method(names, &replaced.method),
         block: number_block(alloc, &replaced.block)?,
     })
 }
@@ -142,7 +124,6 @@ fn number_overrides(
     directory: &Directory,
     overrides: &List<Override>,
 ) -> Result<List<WireOverride>, NoMemory>
-    requires names { AreNames (texts names.now.keys) }
     requires directory { IsDirectory (texts names.now.keys) directory.now }
     requires known { All (OverrideKnown directory.now) overrides.now }
     ensures { IfOk result (λ numbered. numbered ≡ map (override_numbered directory.now) overrides.now) }
@@ -161,13 +142,12 @@ pub(crate) fn number_part(
     directory: &Directory,
     class: &ClassDecl,
 ) -> Result<WirePart, NoMemory>
-    requires names { AreNames (texts names.now.keys) }
     requires directory { IsDirectory (texts names.now.keys) directory.now }
     requires known { ClassKnown directory.now class.now }
     ensures { IfOk result (λ numbered. numbered ≡ part_numbered directory.now class.now) }
 {
     Ok(WirePart {
-        variables: number_variables(alloc, names, &class.variables)?,
+        variables: number_variables(alloc, names, directory, &class.variables)?,
         bodies: number_bodies(alloc, &class.bodies)?,
         overrides: number_overrides(alloc, names, directory, &class.overrides)?,
     })

@@ -1,12 +1,16 @@
 ghost use Rattle.som_libimage.specs.Reading.{
   body_at,
   introduced_count,
-  is_introduced,
   override_at,
   part_at,
   variable_at,
 };
-ghost use Rattle.som_libimage.specs.Spelling.{FitsBody, FitsSomeOverride, FitsSomePart, FitsVariable};
+ghost use Rattle.som_libimage.specs.Spelling.{
+  FitsBody,
+  FitsSomeOverride,
+  FitsSomePart,
+  FitsVariable,
+};
 ghost use Rattle.som_libimage.specs.Spelling as spelling;
 ghost use Rattle.som_wire.specs.Fields.{Gives, counted_at, many_at};
 ghost use Rattle.som_wire.specs.Reading.{number_at};

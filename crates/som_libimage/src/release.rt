@@ -1,4 +1,11 @@
-ghost use Rattle.som_libimage.specs.Reading.{classes_at, each_at, faces_at, part_at, ranges_of, wire_at};
+ghost use Rattle.som_libimage.specs.Reading.{
+  classes_at,
+  each_at,
+  faces_at,
+  part_at,
+  ranges_of,
+  wire_at,
+};
 ghost use Rattle.som_libimage.specs.Spelling.{FitsFaces, FitsRelease, FitsSomePart};
 ghost use Rattle.som_libimage.specs.Spelling as spelling;
 ghost use Rattle.som_wire.specs.Fields.{Gives, Stands, done};

@@ -4,9 +4,10 @@ use Rattle.som_model.specs.declared.class.ClassDecl.{ClassDecl}
 use Rattle.som_wire.specs.declared.face.WireFace.{WireFace}
 use Rattle.som_wire.specs.declared.method.Ranges.{Ranges}
 use Rattle.som_libimage.specs.declared.wire.WirePart.{WirePart}
-use Rattle.som_libimage.specs.declared.directory.Directory.{Directory}
+use Rattle.som_naming.specs.declared.directory.Directory.{Directory}
 use Rattle.som_libimage.specs.Spelling.{FitEach, FitsPart}
-use Rattle.som_libimage.specs.Naming.{ranges_in, class_named, classes_named}
+use Rattle.som_naming.specs.Naming.{ranges_in}
+use Rattle.som_libimage.specs.Naming.{class_named, classes_named}
 use Rattle.som_libimage.proofs.Naming.{fit_length, fit_at, classes_more}
 use Rattle.som_libimage.proofs.library.name_classes.Goals as goal
 

@@ -1,9 +1,9 @@
 use Rattle.std.proofs.Common.{◌≡◌, sym, ap, subst, ◌∙◌}
 use Rattle.som_wire.specs.declared.method.Ranges.{Ranges}
-use Rattle.som_libimage.specs.declared.directory.Directory.{Directory}
+use Rattle.som_naming.specs.declared.directory.Directory.{Directory}
 use Rattle.som_libimage.specs.Spelling.{FitEach, FitsPart}
 use Rattle.som_libimage.specs.Reading.{ranges_of}
-use Rattle.som_libimage.specs.Naming.{ranges_in}
+use Rattle.som_naming.specs.Naming.{ranges_in}
 use Rattle.som_libimage.proofs.Naming.{ranges_known}
 use Rattle.som_libimage.proofs.library.name_release.Goals as goal
 

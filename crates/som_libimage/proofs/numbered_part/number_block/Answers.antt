@@ -1,6 +1,6 @@
 use Rattle.std.proofs.Common.{◌≡◌, ℕ, List}
 use Rattle.som_libimage.specs.Naming.{print_of}
-use Rattle.som_libimage.proofs.Numbering.{item_all}
+use Rattle.som_naming.proofs.Numbering.{item_all}
 use Rattle.som_libimage.proofs.numbered_part.number_block.Goals as goal
 
 pub text_of-requires : goal.text_of-requires

@@ -1,5 +1,5 @@
 use Rattle.som_libimage.specs.Numbering.{OverrideKnown}
-use Rattle.som_libimage.proofs.Numbering.{item_all}
+use Rattle.som_naming.proofs.Numbering.{item_all}
 use Rattle.som_libimage.proofs.numbered_part.number_overrides.Goals as goal
 
 pub number_override-requires-clause-known : goal.number_override-requires-clause-known

@@ -1,0 +1,17 @@
+pub mod Places
+pub mod Spelled
+pub mod Numbers
+pub mod Naming
+pub mod Numbering
+pub mod NamedKinds
+pub mod NumberedKinds
+pub mod FittingParts
+pub mod BlockForms
+pub mod NamedLayers
+pub mod NamedExprs
+pub mod NamedStmts
+pub mod ExprsBack
+pub mod StmtsBack
+pub mod TypedBlocks
+pub mod KnownMethods
+pub mod TurnedBlocks
