@@ -8,3 +8,4 @@ pub mod NumberedKinds
 pub mod TypedBlocks
 pub mod KnownMethods
 pub mod TurnedBlocks
+pub mod FoundNames
