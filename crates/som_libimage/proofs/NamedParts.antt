@@ -46,12 +46,12 @@ use Rattle.som_naming.specs.declared.directory.Directory.{Directory}
 use Rattle.som_libimage.specs.Reading.{is_introduced}
 use Rattle.som_libimage.specs.Spelling as spelling
 use Rattle.som_libimage.specs.Spelling.{FitsBlock, FitsVariable, FitsBody, FitsOverride, FitsPart}
-use Rattle.som_naming.specs.Naming.{kind_named, ranges_in}
+use Rattle.som_naming.specs.Naming.{kind_named, ranges_in, Tells, NoDoubles}
 use Rattle.som_libimage.specs.Naming.{entry_named, face_named, print_of, block_named, variable_named, body_named, override_named, class_named}
 use Rattle.som_libimage.specs.Libraries.{PrintsTexts, BodyPrints, ClassPrints}
 use Rattle.som_naming.proofs.Places.{all_map, all_of}
 use Rattle.som_naming.proofs.Spelled.{some_bytes, bytes_are, split, guarded, Forth, From, Back, each_forth, counted_forth, counted_back, text_forth, text_back}
-use Rattle.som_naming.proofs.Numbers.{Tells, NoDoubles, method_forth, method_back}
+use Rattle.som_naming.proofs.Numbers.{method_forth, method_back}
 use Rattle.som_naming.proofs.NamedKinds.{value_forth, value_back}
 
 -- ---- bytes of parts of a list

@@ -39,14 +39,13 @@ use Rattle.som_naming.specs.declared.directory.Directory.{Directory}
 use Rattle.som_libimage.specs.Reading.{ranges_of}
 use Rattle.som_libimage.specs.Spelling as spelling
 use Rattle.som_libimage.specs.Spelling.{FitsPart, FitEach, FitsRelease}
-use Rattle.som_naming.specs.Naming.{name_in, names_in, kernel_directory, library_directory, ranges_in}
+use Rattle.som_naming.specs.Naming.{name_in, names_in, kernel_directory, library_directory, ranges_in, entry_names, Tells, NoDoubles}
 use Rattle.som_libimage.specs.Naming.{entry_named, face_named, print_of, block_named, body_named, override_named, class_named, classes_named, release_named}
 use Rattle.som_naming.specs.Numbering.{Differ}
 use Rattle.som_libimage.specs.Libraries.{PrintsTexts, BodyPrints, ClassPrints, PrintTexts, NamesDiffer}
 use Rattle.som_libimage.proofs.Naming.{fit_length, ranges_known}
 use Rattle.som_naming.proofs.Places.{all_map, all_of, all_mapped, all_unmapped, all_joined, distinct_names, distinct_joined, distinct_mapped}
 use Rattle.som_naming.proofs.Spelled.{some_bytes, bytes_are, split, guarded}
-use Rattle.som_naming.proofs.Numbers.{entry_names, Tells, NoDoubles}
 use Rattle.som_libimage.proofs.NamedFaces.{face_forth, face_back}
 use Rattle.som_libimage.proofs.NamedParts.{front_bytes, back_bytes, part_forth, part_back}
 

@@ -42,7 +42,8 @@ use Rattle.som_naming.specs.Numbering.{class_names, AreNamed, IsDirectory, relea
 use Rattle.som_libimage.specs.Numbering.{EntryKnown, FaceKnown, OverrideKnown, ClassKnown, face_numbered, part_numbered, release_numbered}
 use Rattle.som_libimage.proofs.Conforming.{neither_is, none_first, both_empty, not_broken, names_joined}
 use Rattle.som_naming.proofs.Places.{all_map, place_of_map}
-use Rattle.som_naming.proofs.Numbers.{Tells, Known, known, entry_names}
+use Rattle.som_naming.specs.Naming.{Tells, entry_names}
+use Rattle.som_naming.proofs.Numbers.{Known, known}
 use Rattle.som_naming.proofs.Numbering.{first_place}
 use Rattle.som_naming.proofs.NumberedKinds.{all_both}
 use Rattle.som_libimage.proofs.NumberedParts.{IsByte, ClassReady}

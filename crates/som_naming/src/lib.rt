@@ -7,6 +7,7 @@
 
 mod directory;
 mod found;
+mod laws;
 mod lookup;
 mod named;
 mod named_block;
@@ -16,6 +17,7 @@ mod numbered_expr;
 mod numbered_laws;
 
 pub use directory::Directory;
+pub use laws::named_blocks_are_spelled;
 pub use named::{key_of, name_kind};
 pub use named_block::name_block;
 pub use numbered_block::number_block;
