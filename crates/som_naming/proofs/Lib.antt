@@ -16,3 +16,4 @@ pub mod TypedBlocks
 pub mod KnownMethods
 pub mod TurnedBlocks
 pub mod FoundNames
+pub mod NamedLimits
