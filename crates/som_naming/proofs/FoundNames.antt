@@ -1,5 +1,5 @@
 -- What is found has a number, and what is ready is found.
-use Rattle.std.proofs.Common.{◌≡◌, ℕ, zero, suc, inl, inr, Bool, true, false, ◌&&◌, if◌then◌else◌, true≢false, List, [], ◌∷◌, map, get_or, is_some, Option, Some, refl, sym, ap, ◌∙◌}
+use Rattle.std.proofs.Common.{◌≡◌, ℕ, zero, suc, inl, inr, Bool, true, false, ◌&&◌, if◌then◌else◌, true≢false, List, [], ◌∷◌, map, get_or, is_some, Some, refl, sym, ap, ◌∙◌}
 use Rattle.std.specs.List.{list_all, AllByRecursion}
 use Rattle.std.specs.Str.{bytes_eq}
 use Rattle.std.proofs.lemmas.List.Elements.{recursion_from_All}
@@ -17,7 +17,7 @@ use Rattle.som_model.specs.Keys.{same_key}
 use Rattle.som_model.proofs.KeyLaws.{Exact, both, exact_bytes, exact_keys}
 use Rattle.som_blocks.specs.Fitting.{levels_left}
 use Rattle.som_naming.specs.declared.directory.Directory.{Directory}
-use Rattle.som_naming.specs.Numbering.{number_of, MethodKnown, IsKnown, IsValue}
+use Rattle.som_naming.specs.Numbering.{number_of, MethodKnown, IsKnown}
 use Rattle.som_naming.specs.FoundNames.{has_number, has_slot, kind_found, all_found, found_step, expr_found, stmt_found_step, block_found_step, stmt_found, block_found, statements_found}
 use Rattle.som_naming.specs.BlockLimits.{ArgsWithin, StatementsWithin}
 use Rattle.som_naming.specs.ReadyBlocks.{ExprPartsReady, ExprReady, StmtPartsReady, StmtReady, BlockReady}
