@@ -7,8 +7,8 @@ pub mod NamedKinds
 pub mod NumberedKinds
 pub mod FittingParts
 pub mod BlockForms
+pub mod NamedLayers
 pub mod NamedExprs
-pub mod NamedCalls
 pub mod NamedStmts
 pub mod ExprsBack
 pub mod StmtsBack
