@@ -10,3 +10,5 @@ pub mod Inherited
 pub mod Faces
 pub mod Printing
 pub mod Plainly
+pub mod Kinds
+pub mod Knowing
