@@ -25,3 +25,5 @@ pub mod PlainBodies
 pub mod PlainWhole
 pub mod Programs
 pub mod Texts
+pub mod KindLaws
+pub mod ExprLaws

@@ -7,8 +7,8 @@ use crate::code_place::CodePlace;
 use crate::forms::{gives, is_nothing, is_object, is_reference};
 use crate::kind::Kind;
 use crate::knowledge::{
-    Knowledge, decl_at, descends_from, is_instance, kind_fits, kind_of, metaclass_of, owner, place_of,
-    signature_of, type_fits,
+    Knowledge, decl_at, descends_from, is_instance, kind_fits, kind_of, metaclass_of, owner,
+    place_of, signature_of, type_fits,
 };
 use crate::table::SOM_CLASS;
 use som_model::{ClassKey, MAX_PARAMETERS, MethodRef, Sig, ValueType};

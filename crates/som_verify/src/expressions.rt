@@ -157,12 +157,7 @@ fn binary(
 }
 
 #[cycle(kinds)]
-fn cast(
-    alloc: Global,
-    code: &Code,
-    class: &ClassKey,
-    of: &Boxed<Expr>,
-) -> Result<Kind, TypeFault>
+fn cast(alloc: Global, code: &Code, class: &ClassKey, of: &Boxed<Expr>) -> Result<Kind, TypeFault>
     requires { IsCode code.now }
     ensures { Types (classes_in code.now) (typing.value (typed_in code.now of.now) >>= typing.cast_type (facts_in code.now) class.now) result }
 {
@@ -171,12 +166,7 @@ fn cast(
 }
 
 #[cycle(kinds)]
-fn isa(
-    alloc: Global,
-    code: &Code,
-    class: &ClassKey,
-    of: &Boxed<Expr>,
-) -> Result<Kind, TypeFault>
+fn isa(alloc: Global, code: &Code, class: &ClassKey, of: &Boxed<Expr>) -> Result<Kind, TypeFault>
     requires { IsCode code.now }
     ensures { Types (classes_in code.now) (typing.value (typed_in code.now of.now) >>= typing.isa_type (facts_in code.now) class.now) result }
 {
@@ -185,12 +175,7 @@ fn isa(
 }
 
 #[cycle(kinds)]
-fn proxy(
-    alloc: Global,
-    code: &Code,
-    class: &ClassKey,
-    of: &Boxed<Expr>,
-) -> Result<Kind, TypeFault>
+fn proxy(alloc: Global, code: &Code, class: &ClassKey, of: &Boxed<Expr>) -> Result<Kind, TypeFault>
     requires { IsCode code.now }
     ensures { Types (classes_in code.now) (typing.value (typed_in code.now of.now) >>= typing.proxy_type (facts_in code.now) class.now) result }
 {

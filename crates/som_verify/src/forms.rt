@@ -88,22 +88,14 @@ pub fn are_alike(left: Kind, right: Kind) -> bool
 pub fn value(kind: Kind) -> Result<Kind, u8>
     ensures { (cs : Seq Class) → Stands cs kind → Comes cs (typing.value_of (kind_at cs kind)) result }
 {
-    if is_nothing(kind) {
-        Err(20)
-    } else {
-        Ok(kind)
-    }
+    if is_nothing(kind) { Err(20) } else { Ok(kind) }
 }
 
 /// What an operator gives where it takes its operands; rule 17 is broken where it doesn't.
 pub fn gives(takes: bool, kind: Kind) -> Result<Kind, u8>
     ensures { result ≡ (if takes then Ok kind else Err 17) }
 {
-    if takes {
-        Ok(kind)
-    } else {
-        Err(17)
-    }
+    if takes { Ok(kind) } else { Err(17) }
 }
 
 /// An operator of one operand, by its number.

@@ -37,9 +37,7 @@ mod types;
 
 pub use ancestry::ancestors;
 pub use bodies::bodies_fit;
-pub use calls::{
-    named_call_kind, offset_call_kind, parent_call_kind, parents_call_kind,
-};
+pub use calls::{named_call_kind, offset_call_kind, parent_call_kind, parents_call_kind};
 pub use classes::{classes_hold, declare};
 pub use code_place::{CodePlace, TypeFault};
 pub use descent::{ancestor_lists, declared_ancestors, descends_by, is_listed};
@@ -50,9 +48,7 @@ pub use forms::{
 };
 pub use introduced::names_introduced_once;
 pub use kind::Kind;
-pub use knowledge::{
-    Knowledge, kind_fits, kind_of, place_of, signature_of, type_fits,
-};
+pub use knowledge::{Knowledge, kind_fits, kind_of, place_of, signature_of, type_fits};
 pub use known::{type_is_known, type_is_of_value};
 pub use laws::{declared_lower_law, faces_law, parents_lower_law, program_law, rules_law};
 pub use members::{entries_differ, parents_differ, variables_differ};
