@@ -55,9 +55,21 @@ rest_types cs x f a k is comes = (part_there x f a is ∙ comes.0, comes.1)
 
 -- ---- lists of parts
 
--- a list of parts, after those that have kinds
-pub values_from : (x : Ruled (List ExprType)) (seen : List ExprType) → Ruled (List ExprType)
-values_from x seen = x >>= λ ts. Ok (seen ++ ts)
+-- parts that are left, after those that have kinds
+abbrev pub after_those : List ExprType → Ruled (List ExprType) → Ruled (List ExprType)
+after_those seen rest = rest >>= λ ts. Ok (seen ++ ts)
+
+pub values_start : (rest : Ruled (List ExprType)) → rest ≡ after_those [] rest
+values_start (Ok ts) = refl
+values_start (Err rule) = refl
+
+pub values_more : (seen : List ExprType) (part : Typed) (t : ExprType) (rest : Ruled (List ExprType)) → value part ≡ Ok t
+    → after_those seen (value part >>= λ t. rest >>= λ ts. Ok (t ∷ ts)) ≡ after_those (seen ++ t ∷ []) rest
+values_more seen part t (Ok ts) e = ap (after_those seen) (part_there (value part) (λ t. Ok (t ∷ ts)) t e) ∙ ap (λ z. Ok z) (sym (append_assoc seen (t ∷ []) ts))
+values_more seen part t (Err rule) e = ap (after_those seen) (part_there (value part) (λ t. Err rule) t e)
+
+pub values_end : (seen : List ExprType) → after_those seen (values []) ≡ Ok seen
+values_end seen = ap (λ z. Ok z) (append-nil seen)
 
 pub all_stand_nil : (cs : List Class) → AllStand cs []
 all_stand_nil cs = record { by = λ k m. absurd m }

@@ -27,3 +27,5 @@ pub mod Programs
 pub mod Texts
 pub mod KindLaws
 pub mod ExprLaws
+pub mod Facts
+pub mod NamesKnown

@@ -1,12 +1,15 @@
-ghost use Rattle.som_model.specs.Classes.{is_a};
-ghost use Rattle.som_model.specs.Owner.{owner as owner_in, sig_of};
 ghost use Rattle.som_model.specs.Typing.{descends_to, fits, kind_is_known};
 ghost use Rattle.som_model.specs.declared.key.ValueType.TheVariants as types;
 ghost use Rattle.som_verify.specs.Inherited.{method_of};
 ghost use Rattle.som_verify.specs.Kinds.{IsDeclared, IsType, Stands, kind_at, type_at};
 ghost use Rattle.som_verify.specs.Knowing.{IsKnowledge, all_of, facts_of, sig_is_known};
-ghost use Rattle.som_verify.specs.Places.{Finds, class_of_place, face_at, key_at};
-ghost use Rattle.std.specs.Prelude.{◌≡◌, ◌<◌, true, length, is_some, option_copied, IfSome};
+ghost use Rattle.som_model.specs.Kernel.{kernel_interface};
+ghost use Rattle.som_order.specs.Names.{texts};
+ghost use Rattle.som_verify.specs.Faces.{classes_breach};
+ghost use Rattle.som_verify.specs.Modules.{classes_of};
+ghost use Rattle.som_verify.specs.Walk.{AreLists};
+ghost use Rattle.som_verify.specs.Places.{Finds, IsTable, class_of_place, face_at, key_at, with_kernel};
+ghost use Rattle.std.specs.Prelude.{◌≡◌, ◌<◌, ℕ, None, true, length, is_some, option_copied, IfSome};
 
 use crate::descent::descends_by;
 use crate::forms::{is_boolean, is_long, is_nothing, is_string};
@@ -28,10 +31,33 @@ pub struct Knowledge<'a> {
     pub lists: &'a [List<usize>],
 }
 
+/// What is known of classes that break no rule on faces.
+pub fn know<'a>(
+    table: &'a IndexSet<&'a [u8]>,
+    kernel: &'a [ClassFace],
+    classes: &'a [Declared<'a>],
+    lists: &'a [List<usize>],
+) -> Knowledge<'a>
+    requires table { IsTable (classes_of classes.now) (texts table.now.keys) }
+    requires kernel { kernel.now ≡ kernel_interface.classes }
+    requires lists { AreLists (with_kernel (classes_of classes.now)) lists.now }
+    requires rules { (base : ℕ) × (classes_breach base (classes_of classes.now) ≡ None) }
+    ensures known { IsKnowledge result }
+    ensures classes { result.classes.now ≡ classes.now }
+{
+    Knowledge {
+        table,
+        kernel,
+        classes,
+        lists,
+    }
+}
+
 /// The place of a class, if it is known.
 pub fn place_of(known: &Knowledge, key: &ClassKey) -> Option<usize>
     requires { IsKnowledge known.now }
-    ensures { Finds (length (all_of known.now)) (all_of known.now) key.now result }
+    ensures finds { Finds (length (all_of known.now)) (all_of known.now) key.now result }
+    ensures known { is_some result ≡ (facts_of known.now).is_known key.now }
 {
     find_class(
         known.table,
@@ -95,18 +121,28 @@ pub fn metaclass_of<'a>(known: &Knowledge<'a>, place: usize) -> Option<&'a Class
 pub fn descends_from(known: &Knowledge, class: usize, ancestor: &ClassKey) -> bool
     requires known { IsKnowledge known.now }
     requires class { class < length (all_of known.now) }
-    ensures { result ≡ is_a (all_of known.now) (key_at (all_of known.now) class) ancestor.now }
+    ensures { result ≡ (facts_of known.now).is_a (key_at (all_of known.now) class) ancestor.now }
 {
     match place_of(known, ancestor) {
-        Some(place) => descends_by(known.lists, class, place),
+        Some(place) => is_below(known, class, place),
         None => false,
     }
+}
+
+/// The same, of an ancestor by its place.
+pub fn is_below(known: &Knowledge, class: usize, ancestor: usize) -> bool
+    requires known { IsKnowledge known.now }
+    requires class { class < length (all_of known.now) }
+    requires ancestor { ancestor < length (all_of known.now) }
+    ensures { result ≡ (facts_of known.now).is_a (key_at (all_of known.now) class) (key_at (all_of known.now) ancestor) }
+{
+    descends_by(known.lists, class, ancestor)
 }
 
 /// The method as the class has it that introduces it.
 pub fn owner<'a>(known: &Knowledge<'a>, method: &'a MethodRef) -> Method<'a>
     requires { IsKnowledge known.now }
-    ensures { method_of result ≡ owner_in (all_of known.now) method.now }
+    ensures { method_of result ≡ (facts_of known.now).owner method.now }
 {
     owner_of(known.table, known.kernel, known.classes, method)
 }
@@ -114,7 +150,7 @@ pub fn owner<'a>(known: &Knowledge<'a>, method: &'a MethodRef) -> Method<'a>
 /// The signature of a method, which its owner introduces.
 pub fn signature_of<'a>(known: &Knowledge<'a>, method: &'a MethodRef) -> Option<&'a Sig>
     requires { IsKnowledge known.now }
-    ensures is { option_copied result ≡ sig_of (all_of known.now) (owner_in (all_of known.now) method.now) }
+    ensures is { option_copied result ≡ (facts_of known.now).signature method.now }
     ensures known { IfSome result (λ sig. sig_is_known (all_of known.now) sig.now ≡ true) }
 {
     let method = owner(known, method);
@@ -149,7 +185,7 @@ fn class_fits(known: &Knowledge, ancestor: usize, given: Kind) -> bool
 {
     match given {
         Kind::Nil => true,
-        Kind::Class(class) => descends_by(known.lists, class, ancestor),
+        Kind::Class(class) => is_below(known, class, ancestor),
         _ => false,
     }
 }
