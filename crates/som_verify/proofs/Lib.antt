@@ -29,3 +29,4 @@ pub mod KindLaws
 pub mod ExprLaws
 pub mod Facts
 pub mod NamesKnown
+pub mod KnownLaws
