@@ -30,3 +30,4 @@ pub mod ExprLaws
 pub mod Facts
 pub mod NamesKnown
 pub mod KnownLaws
+pub mod CallLaws
