@@ -31,3 +31,5 @@ pub mod Facts
 pub mod NamesKnown
 pub mod KnownLaws
 pub mod CallLaws
+pub mod ArgLaws
+pub mod PartLaws
