@@ -24,13 +24,15 @@ map_more cs given k = sym (map-append (kind_at cs) given (k ∷ []))
 
 module _ (cs : List Class) (typed : Expr → Typed) (es : List Expr) (given : List Kind) (i : ℕ) (before : values (map typed es) ≡ after_those (map (kind_at cs) given) (values (map typed (drop i es)))) where
   -- a further argument has a kind
-  pub args_go_on : (e : Expr) (k : Kind) → i < length es → e ≡ slice_index_or es i e → value (typed e) ≡ Ok (kind_at cs k)
-      → values (map typed es) ≡ after_those (map (kind_at cs) (given ++ k ∷ [])) (values (map typed (drop (suc i) es)))
-  args_go_on e k lt is t =
+  pub args_go_on : (j : ℕ) (e : Expr) (k : Kind) (more : List Kind) → j ≡ suc i → i < length es → e ≡ slice_index_or es i e → value (typed e) ≡ Ok (kind_at cs k) → more ≡ given ++ k ∷ []
+      → values (map typed es) ≡ after_those (map (kind_at cs) more) (values (map typed (drop j es)))
+  args_go_on j e k more next lt is t pushed =
       before
       ∙ ap (λ z. after_those (map (kind_at cs) given) (values (map typed z))) (drop_at es i e lt is)
       ∙ values_more (map (kind_at cs) given) (typed e) (kind_at cs k) (values (map typed (drop (suc i) es))) t
       ∙ ap (λ z. after_those z (values (map typed (drop (suc i) es)))) (map_more cs given k)
+      ∙ ap (λ z. after_those (map (kind_at cs) z) (values (map typed (drop (suc i) es)))) (sym pushed)
+      ∙ ap (λ z. after_those (map (kind_at cs) more) (values (map typed (drop z es)))) (sym next)
 
   -- or none
   pub args_stop : (e : Expr) (fault : TypeFault) → i < length es → e ≡ slice_index_or es i e → Fails (value (typed e)) fault → Fails (values (map typed es)) fault

@@ -1,6 +1,7 @@
 -- Calls, by the types of their parts.
 use Rattle.std.proofs.Common.{◌≡◌, ℕ, zero, suc, ◌<◌, ◌≤◌, ◌==◌, inl, inr, Bool, true, false, not, ◌&&◌, List, [], ◌∷◌, drop, map, length, slice_get, slice_index_or, Option, Some, None, is_some, Ok, Err, refl, sym, ap, ◌∙◌, arith, true≢false}
 use Rattle.std.specs.Prelude.{unwrap_or}
+use Rattle.std.proofs.lemmas.Bool.{eqb-true}
 use Rattle.som_model.specs.declared.key.ClassKey.{ClassKey}
 use Rattle.som_model.specs.declared.key.ValueType.{ValueType}
 use Rattle.som_model.specs.declared.key.ValueType.TheVariants as types
@@ -14,7 +15,7 @@ use Rattle.som_model.specs.Kernel.{som_class}
 use Rattle.som_model.specs.Lists.{Mem, every}
 use Rattle.som_model.specs.Rules.{is_known}
 use Rattle.som_model.specs.Typing.{ClassFacts, ExprType, Of, all_fit, class_facts, class_type, fits, kind_is_known, own_variable}
-use Rattle.som_model.proofs.KeyLaws.{both}
+use Rattle.som_model.proofs.KeyLaws.{both, exact_keys}
 use Rattle.som_verify.specs.declared.kind.Kind.{Kind}
 use Rattle.som_verify.specs.declared.code_place.CodePlace.{CodePlace as Place}
 use Rattle.som_verify.specs.Kinds.{code_at, kind_at, parent_at}
@@ -95,7 +96,21 @@ pub above_none : (cs : List Class) (all : List (List ℕ)) (x : ℕ) (k : ClassK
     → false ≡ (not (same_key k (key_at cs x)) && (class_facts cs).is_a (key_at cs x) k)
 above_none cs all x k lists lt f = fails_both (not (same_key k (key_at cs x))) ((class_facts cs).is_a (key_at cs x) k) (descends_from_none cs all x k lists lt f)
 
-pub other_key : (cs : List Class) (all : List (List ℕ)) (x a : ℕ) (k : ClassKey) → AreLists cs all → x < length cs → a < length cs → key_at cs a ≡ k
-    → not (a == x) ≡ not (same_key k (key_at cs x))
-other_key cs all x a k lists lx la is =
-    ap not (alike cs lists.once a x la lx (a == x) (same_key (key_at cs a) (key_at cs x)) refl refl) ∙ ap (λ z. not (same_key z (key_at cs x))) is
+different : (a x : ℕ) → (a ≡ x → ⊥) → (a == x) ≡ false
+different a x f = by (a == x) refl
+  where
+    by : (b : Bool) → (a == x) ≡ b → b ≡ false
+    by true e = absurd (f (eqb-true a x e))
+    by false e = refl
+
+module _ (cs : List Class) (all : List (List ℕ)) (x a : ℕ) (k : ClassKey) (lists : AreLists cs all) (lx : x < length cs) (la : a < length cs) (is : key_at cs a ≡ k) where
+  one_key : (a == x) ≡ same_key k (key_at cs x)
+  one_key = alike cs lists.once a x la lx (a == x) (same_key (key_at cs a) (key_at cs x)) refl refl ∙ ap (λ z. same_key z (key_at cs x)) is
+
+  -- another class is above where it is an ancestor
+  pub above_other : (r : Bool) → (a ≡ x → ⊥) → r ≡ (class_facts cs).is_a (key_at cs x) (key_at cs a) → r ≡ (not (same_key k (key_at cs x)) && (class_facts cs).is_a (key_at cs x) k)
+  above_other r f e = let no_ : same_key k (key_at cs x) ≡ false = sym one_key ∙ different a x f in rw no_ (e ∙ ap (λ z. (class_facts cs).is_a (key_at cs x) z) is)
+
+  -- and no class is above itself
+  pub above_itself : a ≡ x → false ≡ (not (same_key k (key_at cs x)) && (class_facts cs).is_a (key_at cs x) k)
+  above_itself e = let same : same_key k (key_at cs x) ≡ true = ap (λ z. same_key z (key_at cs x)) (sym is ∙ ap (key_at cs) e) ∙ exact_keys.one (key_at cs x) in rw same refl

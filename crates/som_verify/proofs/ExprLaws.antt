@@ -1,5 +1,5 @@
 -- An expression's type, by the types of its parts.
-use Rattle.std.proofs.Common.{◌≡◌, ℕ, Bool, List, map, Ok, refl, sym, ap, ◌∙◌}
+use Rattle.std.proofs.Common.{◌≡◌, ℕ, ℤ, Bool, List, map, Ok, refl, sym, ap, ◌∙◌}
 use Rattle.som_model.specs.declared.key.ClassKey.{ClassKey}
 use Rattle.som_model.specs.declared.key.MethodRef.{MethodRef}
 use Rattle.som_model.specs.declared.key.ValueType.{ValueType}
