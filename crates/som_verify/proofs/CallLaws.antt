@@ -1,5 +1,5 @@
 -- Calls, by the types of their parts.
-use Rattle.std.proofs.Common.{◌≡◌, ℕ, zero, suc, ◌<◌, ◌≤◌, ◌==◌, inl, inr, Bool, true, false, not, ◌&&◌, List, [], ◌∷◌, drop, map, length, slice_get, slice_index_or, Option, Some, None, is_some, Ok, Err, refl, sym, ap, ◌∙◌, arith, true≢false}
+use Rattle.std.proofs.Common.{◌≡◌, ℕ, zero, suc, ◌<◌, ◌≤◌, ◌==◌, Bool, true, false, not, ◌&&◌, List, [], ◌∷◌, map, length, slice_get, slice_index_or, Option, Some, None, is_some, Ok, Err, refl, sym, ap, ◌∙◌, arith, true≢false}
 use Rattle.std.specs.Prelude.{unwrap_or}
 use Rattle.std.proofs.lemmas.Bool.{eqb-true}
 use Rattle.som_model.specs.declared.key.ClassKey.{ClassKey}
@@ -12,13 +12,12 @@ use Rattle.som_model.specs.Class.{Class}
 use Rattle.som_model.specs.Classes.{class_at}
 use Rattle.som_model.specs.Keys.{same_key}
 use Rattle.som_model.specs.Kernel.{som_class}
-use Rattle.som_model.specs.Lists.{Mem, every}
+use Rattle.som_model.specs.Lists.{every}
 use Rattle.som_model.specs.Rules.{is_known}
 use Rattle.som_model.specs.Typing.{ClassFacts, ExprType, Of, all_fit, class_facts, class_type, fits, kind_is_known, own_variable}
 use Rattle.som_model.proofs.KeyLaws.{both, exact_keys}
-use Rattle.som_verify.specs.declared.kind.Kind.{Kind}
 use Rattle.som_verify.specs.declared.code_place.CodePlace.{CodePlace as Place}
-use Rattle.som_verify.specs.Kinds.{code_at, kind_at, parent_at}
+use Rattle.som_verify.specs.Kinds.{code_at, parent_at}
 use Rattle.som_verify.specs.Knowing.{sig_is_known}
 use Rattle.som_verify.specs.Places.{Finds, class_of_place, face_at, key_at}
 use Rattle.som_verify.specs.Walk.{AreLists}
@@ -43,14 +42,6 @@ differ_in_length w [] (t ∷ ts) f = refl
 differ_in_length w (p ∷ ps) [] f = refl
 differ_in_length w (p ∷ ps) (t ∷ ts) f = fails_both (fits w p t) (all_fit w ps ts) (differ_in_length w ps ts (λ e. f (ap suc e)))
 
-pub fit_from : (cs : List Class) (w : ClassFacts) (ps : List ValueType) (args : List Kind) (i : ℕ) (p : ValueType) (k : Kind) → i < length ps → length ps ≡ length args
-    → all_fit w (drop i ps) (map (kind_at cs) (drop i args))
-    ≡ (fits w (slice_index_or ps i p) (kind_at cs (slice_index_or args i k)) && all_fit w (drop (suc i) ps) (map (kind_at cs) (drop (suc i) args)))
-fit_from cs w [] args i p k lt e = absurd (omega arith)
-fit_from cs w (q ∷ ps) [] i p k lt e = absurd (omega (arith, e))
-fit_from cs w (q ∷ ps) (a ∷ args) zero p k lt e = refl
-fit_from cs w (q ∷ ps) (a ∷ args) (suc i) p k lt e = fit_from cs w ps args i p k (omega arith) (omega (arith, e))
-
 -- ---- the object of a class
 
 pub object_there : (cs : List Class) (all : List (List ℕ)) (p : ℕ) (k : ClassKey) → AreLists cs all → p < length cs → key_at cs p ≡ k
@@ -61,11 +52,6 @@ pub class_typed_by : (w : ClassFacts) (k o : ClassKey) → true ≡ w.is_known k
 class_typed_by w k o known e = rw (sym known, e) refl
 
 -- ---- what the body's class declares
-
-pub index_mem : {A : Type 0} (xs : List A) (i : ℕ) (d : A) → i < length xs → Mem (slice_index_or xs i d) xs
-index_mem [] i d lt = absurd (omega arith)
-index_mem (x ∷ xs) zero d lt = inl refl
-index_mem (x ∷ xs) (suc i) d lt = inr (index_mem xs i d (omega arith))
 
 kind_got : (vs : List Variable) (n : ℕ) (d : Variable) → n < length vs → slice_get (map (λ v. v.kind) vs) n ≡ Some (slice_index_or vs n d).kind
 kind_got [] n d lt = absurd (omega arith)

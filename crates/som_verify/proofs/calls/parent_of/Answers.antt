@@ -4,8 +4,9 @@ use Rattle.som_model.specs.Lists.{Mem}
 use Rattle.som_model.specs.declared.key.ClassKey.{ClassKey}
 use Rattle.som_model.specs.declared.class.ClassDecl.{ClassDecl}
 use Rattle.som_verify.specs.Knowing.{all_of}
-use Rattle.som_verify.proofs.CallLaws.{index_mem, parents_there}
+use Rattle.som_verify.proofs.CallLaws.{parents_there}
 use Rattle.som_verify.proofs.Facts.{known_said}
+use Rattle.som_verify.proofs.KindLaws.{index_mem}
 use Rattle.som_verify.proofs.calls.parent_of.Goals as goal
 
 pub unreachable-requires : goal.unreachable-requires
