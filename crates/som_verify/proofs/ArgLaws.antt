@@ -25,4 +25,3 @@ module _ (cs : List Class) (typed : Expr → Typed) (es : List Expr) (given : Li
       ∙ ap (λ z. after_those z (values (map typed (drop (suc i) es)))) (map_more cs given k)
       ∙ ap (λ z. after_those (map (kind_at cs) z) (values (map typed (drop (suc i) es)))) (sym pushed)
       ∙ ap (λ z. after_those (map (kind_at cs) more) (values (map typed (drop z es)))) (sym next)
-

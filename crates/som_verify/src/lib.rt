@@ -15,6 +15,8 @@ mod forms;
 mod inherited;
 mod introduced;
 mod kind;
+#[cfg(test)]
+mod kind_cases;
 mod knowledge;
 mod known;
 mod laws;
@@ -33,11 +35,16 @@ mod signatures;
 mod table;
 #[cfg(test)]
 mod tests;
+#[cfg(test)]
+mod tests_of_kinds;
 mod types;
 
 pub use ancestry::ancestors;
 pub use bodies::bodies_fit;
-pub use calls::{named_call_kind, offset_call_kind, parent_call_kind, parents_call_kind};
+pub use calls::{
+    cast_kind, class_kind, isa_kind, named_call_kind, new_kind, offset_call_kind, parent_call_kind,
+    parents_call_kind, proxy_kind, self_kind, variable_kind,
+};
 pub use classes::{classes_hold, declare};
 pub use code_place::{CodePlace, TypeFault};
 pub use descent::{ancestor_lists, declared_ancestors, descends_by, is_listed};
@@ -48,7 +55,9 @@ pub use forms::{
 };
 pub use introduced::names_introduced_once;
 pub use kind::Kind;
-pub use knowledge::{Knowledge, kind_fits, kind_of, place_of, signature_of, type_fits};
+pub use knowledge::{
+    Knowledge, kind_fits, kind_of, know, owner, place_of, signature_of, type_fits,
+};
 pub use known::{type_is_known, type_is_of_value};
 pub use laws::{declared_lower_law, faces_law, parents_lower_law, program_law, rules_law};
 pub use members::{entries_differ, parents_differ, variables_differ};
