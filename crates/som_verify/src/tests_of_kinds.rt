@@ -1,5 +1,10 @@
+ghost use Rattle.som_verify.specs.Faces.{classes_breach};
 ghost use Rattle.som_verify.specs.Kinds.{ClassStands};
 ghost use Rattle.som_verify.specs.Knowing.{IsKnowledge, all_of};
+ghost use Rattle.som_verify.specs.Modules.{classes_of};
+ghost use Rattle.som_verify.specs.Places.{with_kernel};
+ghost use Rattle.som_verify.specs.Walk.{AreLists};
+ghost use Rattle.std.specs.Prelude.{◌≡◌, IfOk, None};
 
 use crate::classes::{classes_hold, declare};
 use crate::code_place::{CodePlace, TypeFault};
@@ -10,6 +15,7 @@ use crate::kind_cases::{CLASSES, IN_A_BODY, IN_MAIN};
 use crate::knowledge::{Knowledge, know};
 use crate::table::class_names;
 use crate::tests::{key, kind, release, text, words};
+use crate::types::Declared;
 use som_model::{Boxed, Expr, HostCode, List, MethodRef, Module, NoMemory, kernel_faces};
 use std::alloc::Global;
 use std::test::Fail;
@@ -212,6 +218,17 @@ fn come_to(
     )
 }
 
+// The ancestors of classes that break no rule.
+fn lists_of(alloc: Global, classes: &[Declared]) -> Result<Vec<List<usize>>, Fail>
+    ensures lists { IfOk result (λ lists. AreLists (with_kernel (classes_of classes.now)) lists.items) }
+    ensures rules { IfOk result (λ _. classes_breach 0 (classes_of classes.now) ≡ None) }
+{
+    match classes_hold(alloc, classes, 0) {
+        Ok(()) => Ok(declared_ancestors(alloc, classes)?),
+        Err(_) => Err(Fail::from("a rule is broken")),
+    }
+}
+
 // The place of Dog.
 const DOG: usize = 6;
 
@@ -225,10 +242,7 @@ fn expressions_have_kinds(rt: HostRuntime) -> Result<(), Fail> {
     let Ok(table) = class_names(alloc, declared) else {
         return Err(Fail::from("a name twice"));
     };
-    if let Err(_) = classes_hold(alloc, declared, 0) {
-        return Err(Fail::from("a rule is broken"));
-    }
-    let lists = declared_ancestors(alloc, declared)?;
+    let lists = lists_of(alloc, declared)?;
     let kernel = kernel_faces(alloc)?;
     let known = know(&table, kernel.classes.as_slice(), declared, &lists);
     if declared.len() + 4 <= DOG {
