@@ -98,5 +98,8 @@ module _ (cs : List Class) (all : List (List ℕ)) (x a : ℕ) (k : ClassKey) (l
   above_other r f e = let no_ : same_key k (key_at cs x) ≡ false = sym one_key ∙ different a x f in rw no_ (e ∙ ap (λ z. (class_facts cs).is_a (key_at cs x) z) is)
 
   -- and no class is above itself
-  pub above_itself : a ≡ x → false ≡ (not (same_key k (key_at cs x)) && (class_facts cs).is_a (key_at cs x) k)
-  above_itself e = let same : same_key k (key_at cs x) ≡ true = ap (λ z. same_key z (key_at cs x)) (sym is ∙ ap (key_at cs) e) ∙ exact_keys.one (key_at cs x) in rw same refl
+  pub above_itself : a ≡ x → not (a == x) ≡ (not (same_key k (key_at cs x)) && (class_facts cs).is_a (key_at cs x) k)
+  above_itself e =
+      let same : same_key k (key_at cs x) ≡ true = ap (λ z. same_key z (key_at cs x)) (sym is ∙ ap (key_at cs) e) ∙ exact_keys.one (key_at cs x) in
+      let itself : (a == x) ≡ true = one_key ∙ same in
+      rw (itself, same) refl
