@@ -24,7 +24,6 @@ pub mod PlainFaces
 pub mod PlainBodies
 pub mod PlainWhole
 pub mod Programs
-pub mod Texts
 pub mod KindLaws
 pub mod ExprLaws
 pub mod Facts
