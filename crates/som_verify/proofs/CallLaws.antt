@@ -1,5 +1,5 @@
 -- Calls, by the types of their parts.
-use Rattle.std.proofs.Common.{◌≡◌, ℕ, zero, suc, ◌<◌, ◌≤◌, ◌==◌, Bool, true, false, not, ◌&&◌, List, [], ◌∷◌, map, length, slice_get, slice_index_or, Option, Some, None, is_some, Ok, Err, refl, sym, ap, ◌∙◌, arith, true≢false}
+use Rattle.std.proofs.Common.{◌≡◌, ℕ, zero, suc, ◌<◌, ◌≤◌, ◌==◌, Bool, true, false, not, ◌&&◌, List, [], ◌∷◌, map, length, slice_get, slice_index_or, Some, None, Ok, Err, refl, sym, ap, ◌∙◌, arith}
 use Rattle.std.specs.Prelude.{unwrap_or}
 use Rattle.std.proofs.lemmas.Bool.{eqb-true}
 use Rattle.som_model.specs.declared.key.ClassKey.{ClassKey}
@@ -21,7 +21,6 @@ use Rattle.som_verify.specs.Kinds.{code_at, parent_at}
 use Rattle.som_verify.specs.Knowing.{sig_is_known}
 use Rattle.som_verify.specs.Places.{Finds, class_of_place, face_at, key_at}
 use Rattle.som_verify.specs.Walk.{AreLists}
-use Rattle.som_verify.proofs.DeclaredClasses.{long_map}
 use Rattle.som_verify.proofs.Facts.{kind_said, object_of, object_said}
 use Rattle.som_verify.proofs.KeyLists.{alike}
 use Rattle.som_verify.proofs.KnownLaws.{descends_from_none}

@@ -1,4 +1,4 @@
-use Rattle.std.proofs.Common.{◌≡◌, ◌<◌, ◌≤◌, List, length, slice_index_or, Some, Ok, sym, ap, ◌∙◌, subst, true≢false}
+use Rattle.std.proofs.Common.{◌<◌, ◌≤◌, List, length, slice_index_or, Some, Ok, sym, ap, ◌∙◌, subst, true≢false}
 use Rattle.som_model.specs.declared.class.Variable.{Variable}
 use Rattle.som_verify.specs.Knowing.{all_of}
 use Rattle.som_verify.proofs.CallLaws.{no_variable, variable_got, variable_there}
