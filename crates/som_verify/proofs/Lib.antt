@@ -24,4 +24,11 @@ pub mod PlainFaces
 pub mod PlainBodies
 pub mod PlainWhole
 pub mod Programs
-pub mod Texts
+pub mod KindLaws
+pub mod ExprLaws
+pub mod Facts
+pub mod NamesKnown
+pub mod KnownLaws
+pub mod CallLaws
+pub mod ArgLaws
+pub mod PartLaws

@@ -8,5 +8,6 @@ pub mod Fitting
 pub mod Typed
 pub mod Inherited
 pub mod Faces
-pub mod Printing
 pub mod Plainly
+pub mod Kinds
+pub mod Knowing
