@@ -1,4 +1,4 @@
--- The lines that show a release: its classes and their release orders.
+-- The lines that show a release or a client program: its classes and their release orders.
 use Rattle.std.specs.Prelude.{ℕ, suc, List, [], ◌∷◌, ◌++◌, map, flat_map, length, codes, Option, Some, None}
 use Rattle.std.specs.Fmt.{decimal}
 use Rattle.som_model.specs.declared.key.ClassKey.{ClassKey}
@@ -10,7 +10,9 @@ use Rattle.som_model.specs.declared.class.Way.TheVariants as ways
 use Rattle.som_model.specs.declared.class.Entry.{Entry}
 use Rattle.som_model.specs.declared.class.Entry.TheVariants as entries
 use Rattle.som_model.specs.declared.class.ClassFace.{ClassFace}
+use Rattle.som_model.specs.declared.class.ClassDecl.{ClassDecl}
 use Rattle.som_model.specs.declared.program.Release.{Release}
+use Rattle.som_model.specs.declared.program.ClientProgram.{ClientProgram}
 use Rattle.som_model.specs.ClassNames.{class_name, name_list}
 
 -- ---- types
@@ -69,6 +71,20 @@ face_lines f = class_line f ∷ metaclass_lines f.metaclass ++ entry_lines 0 f.e
 abbrev pub library_line : ℕ → List ℕ
 library_line count = codes "library " ++ decimal count ++ 10 ∷ []
 
+-- what is seen of declared classes
+abbrev pub class_lines : List ClassDecl → List (List ℕ)
+class_lines cs = flat_map (λ c. face_lines c.face) cs
+
 -- a release: how many classes it has, and then each; every line with its end
 abbrev pub shown_lines : Release → List (List ℕ)
-shown_lines r = library_line (length r.classes) ∷ flat_map (λ c. face_lines c.face) r.classes
+shown_lines r = library_line (length r.classes) ∷ class_lines r.classes
+
+-- ---- client programs
+
+-- `client` and the number of classes
+abbrev pub client_line : ℕ → List ℕ
+client_line count = codes "client " ++ decimal count ++ 10 ∷ []
+
+-- a client program: the classes that it was compiled against as those of a library, then how many classes it has of its own, and each
+abbrev pub client_lines : ClientProgram → List (List ℕ)
+client_lines p = (library_line (length p.base.classes) ∷ flat_map face_lines p.base.classes) ++ client_line (length p.classes) ∷ class_lines p.classes

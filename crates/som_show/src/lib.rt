@@ -1,6 +1,8 @@
-//! The lines that show a release: its classes, and the release order of each.
+//! The lines that show a release or a client program: its classes, and the release order of each.
 #![tactic(auto)]
 
+mod client;
+mod count;
 mod entry;
 mod face;
 mod name;
@@ -8,5 +10,6 @@ mod release;
 #[cfg(test)]
 mod tests;
 
+pub use client::shown_client;
 pub use name::add_number;
 pub use release::shown;

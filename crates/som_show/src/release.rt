@@ -1,20 +1,23 @@
-ghost use Rattle.som_show.specs.Shown.{library_line, shown_lines};
-ghost use Rattle.std.specs.Prelude.{◌≡◌, IfOk};
+ghost use Rattle.som_show.specs.Shown.{class_lines, shown_lines};
+ghost use Rattle.std.specs.Prelude.{◌≡◌, ◌++◌, IfOk, OnOk};
 
+use crate::count::library_count;
 use crate::face::add_face;
-use crate::name::add_number;
-use som_model::{List, NoMemory, Release, Text};
+use som_model::{ClassDecl, List, NoMemory, Release, Text};
 use std::alloc::Global;
 
-// How many classes a release has.
-fn shown_count(alloc: Global, count: usize) -> Result<Text, NoMemory>
-    ensures { IfOk result (λ line. line ≡ library_line count) }
+/// The lines of what is seen of declared classes, after those that are there.
+pub fn add_classes(
+    alloc: Global,
+    lines: &mut List<Text>,
+    classes: &[ClassDecl],
+) -> Result<(), NoMemory>
+    ensures { OnOk result (lines.new ≡ lines.old ++ class_lines classes.now) }
 {
-    let mut line = Vec::new(alloc);
-    line.extend_from_slice(b"library ")?;
-    add_number(&mut line, count as u64)?;
-    line.push(b'\n')?;
-    Ok(Text::from_vec(line))
+    for class in classes {
+        add_face(alloc, lines, &class.face)?;
+    }
+    Ok(())
 }
 
 /// The lines that show a release, each with its end.
@@ -23,9 +26,7 @@ pub fn shown(alloc: Global, release: &Release) -> Result<List<Text>, NoMemory>
 {
     let classes = release.classes.as_slice();
     let mut lines = List::new(alloc);
-    lines.push(shown_count(alloc, classes.len())?)?;
-    for class in classes {
-        add_face(alloc, &mut lines, &class.face)?;
-    }
+    lines.push(library_count(alloc, classes.len())?)?;
+    add_classes(alloc, &mut lines, classes)?;
     Ok(lines)
 }

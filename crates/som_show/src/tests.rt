@@ -1,7 +1,7 @@
 use super::*;
 use som_model::{
-    Boxed, ClassDecl, ClassFace, ClassKey, Entry, List, Module, NoMemory, Release, Sig, Text,
-    ValueType, Way,
+    Block, Boxed, ClassDecl, ClassFace, ClassKey, ClientProgram, Entry, Interface, List, Module,
+    NoMemory, Release, Sig, Text, ValueType, Way,
 };
 use std::alloc::Global;
 use std::test::Fail;
@@ -152,6 +152,35 @@ fn a_release_is_shown(rt: HostRuntime) -> Result<(), Fail> {
         b"  3 boolean is(Proxy(Bell))\n",
     ];
     assert!(rt; are_lines(&lines, &wanted));
+    Ok(())
+}
+
+#[test]
+fn a_client_is_shown(rt: HostRuntime) -> Result<(), Fail> {
+    let alloc = rt.alloc();
+    let mut faces = List::new(alloc);
+    faces.push(meta(alloc)?.face)?;
+    let mut classes = List::new(alloc);
+    classes.push(bell(alloc)?)?;
+    let program = ClientProgram {
+        base: Interface { classes: faces },
+        classes,
+        main: Block {
+            statements: List::new(alloc),
+        },
+    };
+    let wanted: [&[u8]; 9] = [
+        b"library 1\n",
+        b"class Meta 0.0 : SOMClass\n",
+        b"client 1\n",
+        b"class Bell 4294967295.10 : Meta,SOMObject\n",
+        b"  metaclass Meta\n",
+        b"  0 void ring()\n",
+        b"  1 hush -> Meta\n",
+        b"  2 string say(long,boolean,string,Bell,Derived(SOMClass,Meta)) namelookup\n",
+        b"  3 boolean is(Proxy(Bell))\n",
+    ];
+    assert!(rt; are_lines(&shown_client(alloc, &program)?, &wanted));
     Ok(())
 }
 
