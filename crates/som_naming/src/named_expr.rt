@@ -13,6 +13,7 @@ use std::alloc::Global;
 
 /// The expression that an expression of an image stands for.
 #[cycle(named_expr)]
+#[tactic(auto, using(crate::proofs::FittingParts::unary_of, crate::proofs::FittingParts::binary_left, crate::proofs::FittingParts::binary_right, crate::proofs::FittingParts::cast_of, crate::proofs::FittingParts::isa_of, crate::proofs::FittingParts::proxy_of, crate::proofs::FittingParts::offset_receiver, crate::proofs::FittingParts::offset_args, crate::proofs::FittingParts::lookup_receiver, crate::proofs::FittingParts::lookup_args, crate::proofs::FittingParts::dispatch_receiver, crate::proofs::FittingParts::dispatch_args, crate::proofs::FittingParts::parent_args, crate::proofs::FittingParts::parents_args, crate::proofs::FittingParts::host_a, crate::proofs::FittingParts::host_b))]
 pub(crate) fn name_expr(
     alloc: Global,
     directory: &Directory,

@@ -1,17 +1,7 @@
-use Rattle.std.proofs.Common.{rules}
 use Rattle.som_blocks.specs.declared.syntax.WireExpr.TheOpen.{WireExpr-F}
-use Rattle.som_blocks.specs.declared.syntax.WireExpr.TheVariants.{rolls-Unary, rolls-Binary, rolls-New, rolls-Class, rolls-Cast, rolls-Isa, rolls-Proxy, rolls-OffsetCall, rolls-Lookup, rolls-Dispatch, rolls-ParentCall, rolls-ParentsCall, rolls-Host}
+use Rattle.som_blocks.specs.declared.syntax.WireExpr.TheVariants.{rolls-New, rolls-Class, rolls-Cast, rolls-Isa, rolls-Proxy, rolls-OffsetCall, rolls-Lookup, rolls-Dispatch, rolls-ParentCall, rolls-ParentsCall}
 use Rattle.som_naming.proofs.FittingParts.{parts_of}
 use Rattle.som_naming.proofs.named_expr.+named_expr.Goals as goal
-
-pub name_expr-name_boxed-requires : goal.name_expr-name_boxed-requires
-name_expr-name_boxed-requires t c = let p = parts_of c.args.directory.now c.args.expr.now _ (WireExpr-F.Unary c.in-Unary.op c.in-Unary.of) c.in-Unary.is (rolls-Unary c.in-Unary.op c.in-Unary.of) c.requires in (search rules, p.1)
-
-pub name_expr-name_boxed-requires-in-Binary : goal.name_expr-name_boxed-requires-in-Binary
-name_expr-name_boxed-requires-in-Binary t c = let p = parts_of c.args.directory.now c.args.expr.now _ (WireExpr-F.Binary c.in-Binary.op c.in-Binary.left c.in-Binary.right) c.in-Binary.is (rolls-Binary c.in-Binary.op c.in-Binary.left c.in-Binary.right) c.requires in (search rules, p.1)
-
-pub name_expr-name_boxed-requires-in-Binary-2 : goal.name_expr-name_boxed-requires-in-Binary-2
-name_expr-name_boxed-requires-in-Binary-2 t c = let p = parts_of c.args.directory.now c.args.expr.now _ (WireExpr-F.Binary c.in-Binary.op c.in-Binary.left c.in-Binary.right) c.in-Binary.is (rolls-Binary c.in-Binary.op c.in-Binary.left c.in-Binary.right) c.requires in (search rules, p.2)
 
 pub name_expr-key_of-requires : goal.name_expr-key_of-requires
 name_expr-key_of-requires t c = let p = parts_of c.args.directory.now c.args.expr.now _ (WireExpr-F.New c.in-New.class) c.in-New.is (rolls-New c.in-New.class) c.requires in p
@@ -22,62 +12,23 @@ name_expr-key_of-requires-in-Class t c = let p = parts_of c.args.directory.now c
 pub name_expr-key_of-requires-in-Cast : goal.name_expr-key_of-requires-in-Cast
 name_expr-key_of-requires-in-Cast t c = let p = parts_of c.args.directory.now c.args.expr.now _ (WireExpr-F.Cast c.in-Cast.class c.in-Cast.of) c.in-Cast.is (rolls-Cast c.in-Cast.class c.in-Cast.of) c.requires in p.0
 
-pub name_expr-name_boxed-requires-in-Cast : goal.name_expr-name_boxed-requires-in-Cast
-name_expr-name_boxed-requires-in-Cast t c = let p = parts_of c.args.directory.now c.args.expr.now _ (WireExpr-F.Cast c.in-Cast.class c.in-Cast.of) c.in-Cast.is (rolls-Cast c.in-Cast.class c.in-Cast.of) c.requires in (search rules, p.1)
-
 pub name_expr-key_of-requires-in-Isa : goal.name_expr-key_of-requires-in-Isa
 name_expr-key_of-requires-in-Isa t c = let p = parts_of c.args.directory.now c.args.expr.now _ (WireExpr-F.Isa c.in-Isa.class c.in-Isa.of) c.in-Isa.is (rolls-Isa c.in-Isa.class c.in-Isa.of) c.requires in p.0
-
-pub name_expr-name_boxed-requires-in-Isa : goal.name_expr-name_boxed-requires-in-Isa
-name_expr-name_boxed-requires-in-Isa t c = let p = parts_of c.args.directory.now c.args.expr.now _ (WireExpr-F.Isa c.in-Isa.class c.in-Isa.of) c.in-Isa.is (rolls-Isa c.in-Isa.class c.in-Isa.of) c.requires in (search rules, p.1)
 
 pub name_expr-key_of-requires-in-Proxy : goal.name_expr-key_of-requires-in-Proxy
 name_expr-key_of-requires-in-Proxy t c = let p = parts_of c.args.directory.now c.args.expr.now _ (WireExpr-F.Proxy c.in-Proxy.class c.in-Proxy.of) c.in-Proxy.is (rolls-Proxy c.in-Proxy.class c.in-Proxy.of) c.requires in p.0
 
-pub name_expr-name_boxed-requires-in-Proxy : goal.name_expr-name_boxed-requires-in-Proxy
-name_expr-name_boxed-requires-in-Proxy t c = let p = parts_of c.args.directory.now c.args.expr.now _ (WireExpr-F.Proxy c.in-Proxy.class c.in-Proxy.of) c.in-Proxy.is (rolls-Proxy c.in-Proxy.class c.in-Proxy.of) c.requires in (search rules, p.1)
-
 pub name_expr-method-requires : goal.name_expr-method-requires
 name_expr-method-requires t c = let p = parts_of c.args.directory.now c.args.expr.now _ (WireExpr-F.OffsetCall c.in-OffsetCall.method c.in-OffsetCall.receiver c.in-OffsetCall.args) c.in-OffsetCall.is (rolls-OffsetCall c.in-OffsetCall.method c.in-OffsetCall.receiver c.in-OffsetCall.args) c.requires in p.0
-
-pub name_expr-name_boxed-requires-in-OffsetCall : goal.name_expr-name_boxed-requires-in-OffsetCall
-name_expr-name_boxed-requires-in-OffsetCall t c = let p = parts_of c.args.directory.now c.args.expr.now _ (WireExpr-F.OffsetCall c.in-OffsetCall.method c.in-OffsetCall.receiver c.in-OffsetCall.args) c.in-OffsetCall.is (rolls-OffsetCall c.in-OffsetCall.method c.in-OffsetCall.receiver c.in-OffsetCall.args) c.requires in (search rules, p.1)
-
-pub name_expr-name_exprs-requires : goal.name_expr-name_exprs-requires
-name_expr-name_exprs-requires t c = let p = parts_of c.args.directory.now c.args.expr.now _ (WireExpr-F.OffsetCall c.in-OffsetCall.method c.in-OffsetCall.receiver c.in-OffsetCall.args) c.in-OffsetCall.is (rolls-OffsetCall c.in-OffsetCall.method c.in-OffsetCall.receiver c.in-OffsetCall.args) c.requires in (search rules, p.2.2)
 
 pub name_expr-name_kind-requires : goal.name_expr-name_kind-requires
 name_expr-name_kind-requires t c = let p = parts_of c.args.directory.now c.args.expr.now _ (WireExpr-F.Lookup c.in-Lookup.kind c.in-Lookup.name c.in-Lookup.receiver c.in-Lookup.args) c.in-Lookup.is (rolls-Lookup c.in-Lookup.kind c.in-Lookup.name c.in-Lookup.receiver c.in-Lookup.args) c.requires in p.0
 
-pub name_expr-name_boxed-requires-in-Lookup : goal.name_expr-name_boxed-requires-in-Lookup
-name_expr-name_boxed-requires-in-Lookup t c = let p = parts_of c.args.directory.now c.args.expr.now _ (WireExpr-F.Lookup c.in-Lookup.kind c.in-Lookup.name c.in-Lookup.receiver c.in-Lookup.args) c.in-Lookup.is (rolls-Lookup c.in-Lookup.kind c.in-Lookup.name c.in-Lookup.receiver c.in-Lookup.args) c.requires in (search rules, p.2)
-
-pub name_expr-name_exprs-requires-in-Lookup : goal.name_expr-name_exprs-requires-in-Lookup
-name_expr-name_exprs-requires-in-Lookup t c = let p = parts_of c.args.directory.now c.args.expr.now _ (WireExpr-F.Lookup c.in-Lookup.kind c.in-Lookup.name c.in-Lookup.receiver c.in-Lookup.args) c.in-Lookup.is (rolls-Lookup c.in-Lookup.kind c.in-Lookup.name c.in-Lookup.receiver c.in-Lookup.args) c.requires in (search rules, p.3.2)
-
 pub name_expr-name_kind-requires-in-Dispatch : goal.name_expr-name_kind-requires-in-Dispatch
 name_expr-name_kind-requires-in-Dispatch t c = let p = parts_of c.args.directory.now c.args.expr.now _ (WireExpr-F.Dispatch c.in-Dispatch.kind c.in-Dispatch.name c.in-Dispatch.receiver c.in-Dispatch.args) c.in-Dispatch.is (rolls-Dispatch c.in-Dispatch.kind c.in-Dispatch.name c.in-Dispatch.receiver c.in-Dispatch.args) c.requires in p.0
-
-pub name_expr-name_boxed-requires-in-Dispatch : goal.name_expr-name_boxed-requires-in-Dispatch
-name_expr-name_boxed-requires-in-Dispatch t c = let p = parts_of c.args.directory.now c.args.expr.now _ (WireExpr-F.Dispatch c.in-Dispatch.kind c.in-Dispatch.name c.in-Dispatch.receiver c.in-Dispatch.args) c.in-Dispatch.is (rolls-Dispatch c.in-Dispatch.kind c.in-Dispatch.name c.in-Dispatch.receiver c.in-Dispatch.args) c.requires in (search rules, p.2)
-
-pub name_expr-name_exprs-requires-in-Dispatch : goal.name_expr-name_exprs-requires-in-Dispatch
-name_expr-name_exprs-requires-in-Dispatch t c = let p = parts_of c.args.directory.now c.args.expr.now _ (WireExpr-F.Dispatch c.in-Dispatch.kind c.in-Dispatch.name c.in-Dispatch.receiver c.in-Dispatch.args) c.in-Dispatch.is (rolls-Dispatch c.in-Dispatch.kind c.in-Dispatch.name c.in-Dispatch.receiver c.in-Dispatch.args) c.requires in (search rules, p.3.2)
 
 pub name_expr-method-requires-in-ParentCall : goal.name_expr-method-requires-in-ParentCall
 name_expr-method-requires-in-ParentCall t c = let p = parts_of c.args.directory.now c.args.expr.now _ (WireExpr-F.ParentCall c.in-ParentCall.parent c.in-ParentCall.method c.in-ParentCall.args) c.in-ParentCall.is (rolls-ParentCall c.in-ParentCall.parent c.in-ParentCall.method c.in-ParentCall.args) c.requires in p.1
 
-pub name_expr-name_exprs-requires-in-ParentCall : goal.name_expr-name_exprs-requires-in-ParentCall
-name_expr-name_exprs-requires-in-ParentCall t c = let p = parts_of c.args.directory.now c.args.expr.now _ (WireExpr-F.ParentCall c.in-ParentCall.parent c.in-ParentCall.method c.in-ParentCall.args) c.in-ParentCall.is (rolls-ParentCall c.in-ParentCall.parent c.in-ParentCall.method c.in-ParentCall.args) c.requires in (search rules, p.2.2)
-
 pub name_expr-method-requires-in-ParentsCall : goal.name_expr-method-requires-in-ParentsCall
 name_expr-method-requires-in-ParentsCall t c = let p = parts_of c.args.directory.now c.args.expr.now _ (WireExpr-F.ParentsCall c.in-ParentsCall.method c.in-ParentsCall.args) c.in-ParentsCall.is (rolls-ParentsCall c.in-ParentsCall.method c.in-ParentsCall.args) c.requires in p.0
-
-pub name_expr-name_exprs-requires-in-ParentsCall : goal.name_expr-name_exprs-requires-in-ParentsCall
-name_expr-name_exprs-requires-in-ParentsCall t c = let p = parts_of c.args.directory.now c.args.expr.now _ (WireExpr-F.ParentsCall c.in-ParentsCall.method c.in-ParentsCall.args) c.in-ParentsCall.is (rolls-ParentsCall c.in-ParentsCall.method c.in-ParentsCall.args) c.requires in (search rules, p.1.2)
-
-pub name_expr-name_boxed-requires-in-Host : goal.name_expr-name_boxed-requires-in-Host
-name_expr-name_boxed-requires-in-Host t c = let p = parts_of c.args.directory.now c.args.expr.now _ (WireExpr-F.Host c.in-Host.code c.in-Host.a c.in-Host.b) c.in-Host.is (rolls-Host c.in-Host.code c.in-Host.a c.in-Host.b) c.requires in (search rules, p.0)
-
-pub name_expr-name_boxed-requires-in-Host-2 : goal.name_expr-name_boxed-requires-in-Host-2
-name_expr-name_boxed-requires-in-Host-2 t c = let p = parts_of c.args.directory.now c.args.expr.now _ (WireExpr-F.Host c.in-Host.code c.in-Host.a c.in-Host.b) c.in-Host.is (rolls-Host c.in-Host.code c.in-Host.a c.in-Host.b) c.requires in (search rules, p.1)
