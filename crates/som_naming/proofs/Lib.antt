@@ -15,3 +15,5 @@ pub mod StmtsBack
 pub mod TypedBlocks
 pub mod KnownMethods
 pub mod TurnedBlocks
+pub mod FoundNames
+pub mod NamedLimits
