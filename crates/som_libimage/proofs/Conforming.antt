@@ -14,7 +14,8 @@ use Rattle.som_model.specs.Class.{Class, class_in, entry_name, interface_of}
 use Rattle.som_model.specs.Kernel.{kernel}
 use Rattle.som_model.specs.Rules.{Breach, name_of, breach, s1, s6}
 use Rattle.som_model.specs.Conforming.{each_after, ReleaseOk}
-use Rattle.som_libimage.specs.Libraries.{Differ, NamesDiffer}
+use Rattle.som_naming.specs.Numbering.{Differ}
+use Rattle.som_libimage.specs.Libraries.{NamesDiffer}
 
 -- ---- nothing is broken
 

@@ -19,13 +19,15 @@ use Rattle.som_wire.specs.declared.face.WireFace.{WireFace}
 use Rattle.som_wire.specs.declared.method.Ranges.{Ranges}
 use Rattle.som_wire.specs.Spelling.{FitsFace}
 use Rattle.som_libimage.specs.declared.wire.WirePart.{WirePart}
-use Rattle.som_libimage.specs.declared.directory.Directory.{Directory}
+use Rattle.som_naming.specs.declared.directory.Directory.{Directory}
 use Rattle.som_libimage.specs.Spelling.{FitsPart, FitEach, FitsRelease}
-use Rattle.som_libimage.specs.Naming.{name_in, names_in, kernel_directory, library_directory, ranges_in, classes_named, release_named}
-use Rattle.som_libimage.specs.Numbering.{class_names, keys_from, keys_by, release_directory, IsDirectory, entry_numbered, face_numbered, part_numbered, release_numbered}
+use Rattle.som_naming.specs.Naming.{name_in, names_in, kernel_directory, library_directory, ranges_in}
+use Rattle.som_libimage.specs.Naming.{classes_named, release_named}
+use Rattle.som_naming.specs.Numbering.{class_names, keys_from, keys_by, release_directory, IsDirectory}
+use Rattle.som_libimage.specs.Numbering.{entry_numbered, face_numbered, part_numbered, release_numbered}
 use Rattle.som_libimage.proofs.Naming.{ranges_known}
-use Rattle.som_libimage.proofs.Places.{all_joined}
-use Rattle.som_libimage.proofs.Numbers.{entry_names, Tells}
+use Rattle.som_naming.proofs.Places.{all_joined}
+use Rattle.som_naming.proofs.Numbers.{entry_names, Tells}
 use Rattle.som_libimage.proofs.NumberedParts.{ClassReady, class_turns}
 
 -- ---- the directory of a release

@@ -34,15 +34,17 @@ use Rattle.som_model.proofs.KeyLaws.{both, exact_bytes, exact_keys}
 use Rattle.som_wire.specs.declared.face.WireFace.{WireFace}
 use Rattle.som_libimage.specs.declared.wire.WirePart.{WirePart}
 use Rattle.som_libimage.specs.declared.wire.WireRelease.{WireRelease}
-use Rattle.som_libimage.specs.declared.directory.Directory.{Directory}
-use Rattle.som_libimage.specs.Libraries.{ClassPrints, Differ, PrintsTexts, PrintTexts}
+use Rattle.som_naming.specs.declared.directory.Directory.{Directory}
+use Rattle.som_naming.specs.Numbering.{Differ}
+use Rattle.som_libimage.specs.Libraries.{ClassPrints, PrintsTexts, PrintTexts}
 use Rattle.som_libimage.specs.Limits.{ClassWithin, IsWithinLimits}
-use Rattle.som_libimage.specs.Numbering.{class_names, AreNames, IsDirectory, keys_by, release_directory, MethodKnown, IsKnown, IsValue, EntryKnown, FaceKnown, OverrideKnown, ClassKnown, face_numbered, part_numbered, release_numbered}
+use Rattle.som_naming.specs.Numbering.{class_names, AreNames, IsDirectory, keys_by, release_directory, MethodKnown, IsKnown, IsValue}
+use Rattle.som_libimage.specs.Numbering.{EntryKnown, FaceKnown, OverrideKnown, ClassKnown, face_numbered, part_numbered, release_numbered}
 use Rattle.som_libimage.proofs.Conforming.{neither_is, none_first, both_empty, not_broken, names_joined}
-use Rattle.som_libimage.proofs.Places.{all_map, place_of_map}
-use Rattle.som_libimage.proofs.Numbers.{Tells, Known, known, entry_names}
-use Rattle.som_libimage.proofs.Numbering.{first_place}
-use Rattle.som_libimage.proofs.NumberedFaces.{all_both}
+use Rattle.som_naming.proofs.Places.{all_map, place_of_map}
+use Rattle.som_naming.proofs.Numbers.{Tells, Known, known, entry_names}
+use Rattle.som_naming.proofs.Numbering.{first_place}
+use Rattle.som_naming.proofs.NumberedKinds.{all_both}
 use Rattle.som_libimage.proofs.NumberedParts.{IsByte, ClassReady}
 use Rattle.som_libimage.proofs.NumberedReleases.{told, is_directory, ReleaseTurns, release_turns}
 

@@ -22,13 +22,14 @@ use Rattle.som_libimage.specs.declared.wire.WireBody.TheVariants as bodies
 use Rattle.som_libimage.specs.declared.wire.WireOverride.{WireOverride}
 use Rattle.som_libimage.specs.declared.wire.WirePart.{WirePart}
 use Rattle.som_libimage.specs.declared.wire.WireRelease.{WireRelease}
-use Rattle.som_libimage.specs.declared.directory.Directory.{Directory}
+use Rattle.som_naming.specs.declared.directory.Directory.{Directory}
 use Rattle.som_libimage.specs.Reading.{ranges_of}
 use Rattle.som_libimage.specs.Spelling.{FitsBlock, FitsVariable, FitsBody, FitsOverride, FitsPart, FitsSomeOverride, FitsSomePart, FitEach, FitsFaces, FitsRelease}
-use Rattle.som_libimage.specs.Naming.{library_directory, key_at, kind_named, entry_named, face_named, print_of, block_named, variable_named, body_named, override_named, class_named, classes_named, release_named}
+use Rattle.som_naming.specs.Naming.{library_directory, key_at, kind_named}
+use Rattle.som_libimage.specs.Naming.{entry_named, face_named, print_of, block_named, variable_named, body_named, override_named, class_named, classes_named, release_named}
 use Rattle.som_libimage.specs.Limits.{TextWithin, EntryWithin, FaceWithin, StatementWithin, BlockWithin, BodyWithin, ClassWithin, IsWithinLimits}
 use Rattle.som_libimage.specs.Numbering.{text_of, release_numbered}
-use Rattle.som_libimage.proofs.Places.{all_map, all_mapped}
+use Rattle.som_naming.proofs.Places.{all_map, all_mapped}
 use Rattle.som_libimage.proofs.NumberedParts.{text_printed}
 use Rattle.som_libimage.proofs.NumberedReleases.{ReleaseTurns}
 
