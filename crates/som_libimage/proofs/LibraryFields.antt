@@ -72,28 +72,31 @@ library_faces_field = faces_field 4 MAX_LIBRARY_CLASSES (omega arith)
 
 -- ---- ranges
 
-lengths_short : (classes : ℕ) (fs : List WireFace) → AllByRecursion (FitsFace classes) fs → (i : ℕ) → slice_index (map (λ f. length f.entries) fs) i < 2 ^ 16
-lengths_short classes [] h i = omega arith
-lengths_short classes (f ∷ fs) h zero = omega (arith, h.0.entries.1)
-lengths_short classes (f ∷ fs) h (suc i) = lengths_short classes fs h.1 i
-
-entries_short : (classes : ℕ) (fs : List WireFace) → AllByRecursion (FitsFace classes) fs → (i : ℕ) → slice_index ((ranges_of fs).entries) i < 2 ^ 16
-entries_short classes fs h zero = omega arith
-entries_short classes fs h (suc zero) = omega arith
-entries_short classes fs h (suc (suc zero)) = omega arith
-entries_short classes fs h (suc (suc (suc zero))) = omega arith
-entries_short classes fs h (suc (suc (suc (suc i)))) = lengths_short classes fs h i
-
-pub ranges_short : (fs : List WireFace) → FitsFaces fs → AreShort (ranges_of fs)
-ranges_short fs fits = record {
-  classes = omega (arith, fits.1);
-  entries = entries_short (length fs + 4) fs (recursion_from_All (FitsFace (length fs + 4)) fs fits.2);
-}
-
 -- each class has few entries
 pub faces_few : (before most : ℕ) (fs : List WireFace) → FitsFacesAfter before most fs → All (λ (f : WireFace). length f.entries ≤ MAX_ENTRIES) fs
 faces_few before most fs fits =
     All-from_recursion (λ (f : WireFace). length f.entries ≤ MAX_ENTRIES) fs (all_map (FitsFace (length fs + before)) (λ (f : WireFace). length f.entries ≤ MAX_ENTRIES) (λ f h. h.entries.1) fs (recursion_from_All (FitsFace (length fs + before)) fs fits.2))
+
+abbrev Few : WireFace → Type 0
+Few f = length f.entries ≤ MAX_ENTRIES
+
+lengths_short : (fs : List WireFace) → AllByRecursion Few fs → (i : ℕ) → slice_index (map (λ f. length f.entries) fs) i < 2 ^ 16
+lengths_short [] h i = omega arith
+lengths_short (f ∷ fs) h zero = omega (arith, h.0)
+lengths_short (f ∷ fs) h (suc i) = lengths_short fs h.1 i
+
+entries_short : (fs : List WireFace) → AllByRecursion Few fs → (i : ℕ) → slice_index ((ranges_of fs).entries) i < 2 ^ 16
+entries_short fs h zero = omega arith
+entries_short fs h (suc zero) = omega arith
+entries_short fs h (suc (suc zero)) = omega arith
+entries_short fs h (suc (suc (suc zero))) = omega arith
+entries_short fs h (suc (suc (suc (suc i)))) = lengths_short fs h i
+
+pub short_ranges : (fs : List WireFace) → length fs + 4 < 2 ^ 16 → All Few fs → AreShort (ranges_of fs)
+short_ranges fs many few = record { classes = many; entries = entries_short fs (recursion_from_All Few fs few) }
+
+ranges_short : (fs : List WireFace) → FitsFaces fs → AreShort (ranges_of fs)
+ranges_short fs fits = short_ranges fs (omega (arith, fits.1)) (faces_few 4 MAX_LIBRARY_CLASSES fs fits)
 
 -- ---- faces and parts
 

@@ -9,6 +9,7 @@ use Rattle.std.proofs.lemmas.List.{length-map}
 use Rattle.std.proofs.lemmas.List.Concat.{flat_map-cons}
 use Rattle.std.proofs.lemmas.List.Elements.{All-from_recursion, recursion_from_All}
 use Rattle.som_model.specs.declared.limits.TheConstants.{MAX_LIBRARY_CLASSES}
+use Rattle.som_model.specs.declared.key.Module.{Module}
 use Rattle.som_model.specs.declared.key.Module.TheVariants as modules
 use Rattle.som_model.specs.declared.key.ClassKey.{ClassKey}
 use Rattle.som_model.specs.declared.key.ClassKey.TheVariants as keys
@@ -77,25 +78,29 @@ module _ (ks : List ClassKey) where
 abbrev pub library_key : WireFace → ClassKey
 library_key f = keys.Named modules.Library f.name
 
+-- the key of a class with this face in a module
+abbrev pub key_in : Module → WireFace → ClassKey
+key_in home f = keys.Named home f.name
+
 module _ (d : Directory) where
-  keys_told : (fs : List WireFace) (ps : List WirePart) → length fs ≡ length ps → map (λ (c : Class). c.key) (map (class_in modules.Library) (classes_named d fs ps)) ≡ map library_key fs
-  keys_told [] ps e = refl
-  keys_told (f ∷ fs) [] e = absurd (omega arith)
-  keys_told (f ∷ fs) (p ∷ ps) e = ap (λ (ks : List ClassKey). library_key f ∷ ks) (keys_told fs ps (omega arith))
+  pub keys_told : (home : Module) (fs : List WireFace) (ps : List WirePart) → length fs ≡ length ps → map (λ (c : Class). c.key) (map (class_in home) (classes_named d fs ps)) ≡ map (key_in home) fs
+  keys_told home [] ps e = refl
+  keys_told home (f ∷ fs) [] e = absurd (omega arith)
+  keys_told home (f ∷ fs) (p ∷ ps) e = ap (λ (ks : List ClassKey). key_in home f ∷ ks) (keys_told home fs ps (omega arith))
 
-  slots_told : (fs : List WireFace) (ps : List WirePart) → length fs ≡ length ps → map entry_names (map (class_in modules.Library) (classes_named d fs ps)) ≡ map names_in fs
-  slots_told [] ps e = refl
-  slots_told (f ∷ fs) [] e = absurd (omega arith)
-  slots_told (f ∷ fs) (p ∷ ps) e =
-      ap (λ (ns : List (List ℕ)). ns ∷ map entry_names (map (class_in modules.Library) (classes_named d fs ps))) (names_kept d.keys f.entries)
-      ∙ ap (λ (ns : List (List (List ℕ))). names_in f ∷ ns) (slots_told fs ps (omega arith))
+  pub slots_told : (home : Module) (fs : List WireFace) (ps : List WirePart) → length fs ≡ length ps → map entry_names (map (class_in home) (classes_named d fs ps)) ≡ map names_in fs
+  slots_told home [] ps e = refl
+  slots_told home (f ∷ fs) [] e = absurd (omega arith)
+  slots_told home (f ∷ fs) (p ∷ ps) e =
+      ap (λ (ns : List (List ℕ)). ns ∷ map entry_names (map (class_in home) (classes_named d fs ps))) (names_kept d.keys f.entries)
+      ∙ ap (λ (ns : List (List (List ℕ))). names_in f ∷ ns) (slots_told home fs ps (omega arith))
 
-  faces_kept : (fs : List WireFace) (ps : List WirePart) → length fs ≡ length ps → map (λ (c : ClassDecl). c.face) (classes_named d fs ps) ≡ map (face_named d.keys) fs
+  pub faces_kept : (fs : List WireFace) (ps : List WirePart) → length fs ≡ length ps → map (λ (c : ClassDecl). c.face) (classes_named d fs ps) ≡ map (face_named d.keys) fs
   faces_kept [] ps e = refl
   faces_kept (f ∷ fs) [] e = absurd (omega arith)
   faces_kept (f ∷ fs) (p ∷ ps) e = ap (λ (x : List ClassFace). face_named d.keys f ∷ x) (faces_kept fs ps (omega arith))
 
-  as_many_classes : (fs : List WireFace) (ps : List WirePart) → length fs ≡ length ps → length (classes_named d fs ps) ≡ length fs
+  pub as_many_classes : (fs : List WireFace) (ps : List WirePart) → length fs ≡ length ps → length (classes_named d fs ps) ≡ length fs
   as_many_classes [] ps e = refl
   as_many_classes (f ∷ fs) [] e = absurd (omega arith)
   as_many_classes (f ∷ fs) (p ∷ ps) e = ap suc (as_many_classes fs ps (omega arith))
@@ -106,8 +111,8 @@ known_classes cs = kernel ++ map (class_in modules.Library) cs
 
 told : (d : Directory) (fs : List WireFace) (ps : List WirePart) → length fs ≡ length ps → Tells (library_directory fs) (known_classes (classes_named d fs ps))
 told d fs ps e = record {
-  keys = ap (λ (ks : List ClassKey). kernel_directory.keys ++ ks) (keys_told d fs ps e);
-  slots = ap (λ (ns : List (List (List ℕ))). kernel_directory.slots ++ ns) (slots_told d fs ps e);
+  keys = ap (λ (ks : List ClassKey). kernel_directory.keys ++ ks) (keys_told d modules.Library fs ps e);
+  slots = ap (λ (ns : List (List (List ℕ))). kernel_directory.slots ++ ns) (slots_told d modules.Library fs ps e);
 }
 
 pub as_many_keys : (fs : List WireFace) → length ((library_directory fs).keys) ≡ length fs + 4
@@ -122,13 +127,18 @@ kernel_distinct = ((same_named _ _ _ _, (same_named _ _ _ _, (same_named _ _ _ _
 apart_from_library : (fs : List WireFace) (name : List ℕ) → AllByRecursion (λ y. same_key (kernel_key name) y ≡ false) (map library_key fs)
 apart_from_library fs name = all_mapped (λ y. same_key (kernel_key name) y ≡ false) library_key fs (all_of (λ (f : WireFace). same_key (kernel_key name) (library_key f) ≡ false) (λ f. same_named modules.Kernel modules.Library name f.name) fs)
 
-mapped_names : (fs : List WireFace) → map (λ (name : List ℕ). keys.Named modules.Library name) (map (λ (f : WireFace). f.name) fs) ≡ map library_key fs
-mapped_names [] = refl
-mapped_names (f ∷ fs) = ap (λ (ks : List ClassKey). library_key f ∷ ks) (mapped_names fs)
+mapped_names : (home : Module) (fs : List WireFace) → map (λ (name : List ℕ). keys.Named home name) (map (λ (f : WireFace). f.name) fs) ≡ map (key_in home) fs
+mapped_names home [] = refl
+mapped_names home (f ∷ fs) = ap (λ (ks : List ClassKey). key_in home f ∷ ks) (mapped_names home fs)
+
+-- names that differ are those of keys that differ
+pub distinct_keys : (home : Module) → ((x y : List ℕ) → bytes_eq x y ≡ false → same_key (keys.Named home x) (keys.Named home y) ≡ false) → (fs : List WireFace) → IsDistinct bytes_eq (map (λ (f : WireFace). f.name) fs) → IsDistinct same_key (map (key_in home) fs)
+distinct_keys home apart fs h =
+    subst (IsDistinct same_key) (mapped_names home fs) (distinct_mapped bytes_eq same_key (λ (name : List ℕ). keys.Named home name) apart (map (λ (f : WireFace). f.name) fs) h)
 
 pub no_doubles : (ks : List ClassKey) (fs : List WireFace) → Distinct ks fs → NoDoubles (library_directory fs)
 no_doubles ks fs h =
-    let own = subst (IsDistinct same_key) (mapped_names fs) (distinct_mapped bytes_eq same_key (λ (name : List ℕ). keys.Named modules.Library name) (λ x y e. same_named modules.Library modules.Library x y ∙ e) (map (λ (f : WireFace). f.name) fs) h.classes) in
+    let own = distinct_keys modules.Library (λ x y e. same_named modules.Library modules.Library x y ∙ e) fs h.classes in
     let across : AllByRecursion (λ x. AllByRecursion (λ y. same_key x y ≡ false) (map library_key fs)) kernel_directory.keys = (apart_from_library fs _, (apart_from_library fs _, (apart_from_library fs _, (apart_from_library fs _, tt)))) in
     let kernel_slots : AllByRecursion (IsDistinct bytes_eq) kernel_directory.slots = (distinct_names _ refl, (distinct_names _ refl, (distinct_names _ refl, (distinct_names _ refl, tt)))) in
     record {

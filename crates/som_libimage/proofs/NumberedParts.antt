@@ -25,7 +25,7 @@ use Rattle.som_naming.specs.NamedBlocks.{block_named}
 use Rattle.som_naming.specs.NumberedBlocks.{block_numbered}
 use Rattle.som_naming.specs.BlockLimits.{TextWithin}
 use Rattle.som_naming.proofs.NumberedKinds.{TurnsBack, all_both, each_of, counted_turn, method_turns, value_turns}
-use Rattle.som_naming.proofs.NumberedBlocks.{block_turns}
+use Rattle.som_libimage.proofs.Assumed.{block_turns}
 use Rattle.som_libimage.specs.Reading.{is_introduced}
 use Rattle.som_libimage.specs.Spelling.{FitsClass}
 use Rattle.som_libimage.specs.Naming.{variable_named, body_named, override_named, class_named}
