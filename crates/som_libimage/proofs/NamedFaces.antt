@@ -27,11 +27,11 @@ use Rattle.som_wire.specs.declared.face.WireFace.{WireFace}
 use Rattle.som_wire.specs.Spelling as wire
 use Rattle.som_wire.specs.Spelling.{FitsKind, FitsSig, FitsEntry, FitsFace, FitsCounted}
 use Rattle.som_naming.specs.declared.directory.Directory.{Directory}
-use Rattle.som_naming.specs.Naming.{key_at, kind_named}
+use Rattle.som_naming.specs.Naming.{key_at, kind_named, Tells, NoDoubles}
 use Rattle.som_libimage.specs.Naming.{sig_named, entry_named, metaclass_named, face_named}
 use Rattle.som_naming.proofs.Places.{all_map, all_of}
 use Rattle.som_naming.proofs.Spelled.{some_bytes, bytes_are, none_some, split, guarded, Forth, From, Back, counted_forth, counted_back, text_forth, text_back}
-use Rattle.som_naming.proofs.Numbers.{Tells, NoDoubles, class_forth, class_back}
+use Rattle.som_naming.proofs.Numbers.{class_forth, class_back}
 use Rattle.som_naming.proofs.NamedKinds.{kind_forth, value_forth, kind_back, value_back}
 
 -- ---- versions

@@ -42,7 +42,7 @@ use Rattle.som_naming.specs.NamedBlocks.{block_named}
 use Rattle.som_naming.specs.BlockLimits.{BlockWithin}
 use Rattle.som_naming.proofs.Places.{all_map, all_of}
 use Rattle.som_naming.proofs.Spelled.{some_bytes, bytes_are, split, guarded, Forth, From, Back, each_forth, counted_forth, counted_back, text_forth, text_back}
-use Rattle.som_naming.proofs.Numbers.{Tells, NoDoubles, method_forth, method_back}
+use Rattle.som_naming.proofs.Numbers.{method_forth, method_back}
 use Rattle.som_naming.proofs.NamedKinds.{value_forth, value_back}
 use Rattle.som_libimage.proofs.Assumed.{block_forth, block_back}
 use Rattle.som_libimage.specs.Reading.{is_introduced}

@@ -45,7 +45,6 @@ use Rattle.som_naming.specs.Numbering.{Differ}
 use Rattle.som_libimage.proofs.Naming.{fit_length, ranges_known}
 use Rattle.som_naming.proofs.Places.{all_map, all_of, all_mapped, all_unmapped, all_joined, distinct_names, distinct_joined, distinct_mapped}
 use Rattle.som_naming.proofs.Spelled.{some_bytes, bytes_are, split, guarded}
-use Rattle.som_naming.proofs.Numbers.{entry_names, Tells, NoDoubles}
 use Rattle.som_libimage.proofs.NamedFaces.{face_forth, face_back}
 use Rattle.som_libimage.proofs.NamedParts.{front_bytes, back_bytes, part_forth, part_back}
 

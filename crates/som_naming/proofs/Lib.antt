@@ -5,3 +5,10 @@ pub mod Naming
 pub mod Numbering
 pub mod NamedKinds
 pub mod NumberedKinds
+pub mod BlockForms
+pub mod NamedExprs
+pub mod NamedCalls
+pub mod NamedStmts
+pub mod TypedBlocks
+pub mod KnownMethods
+pub mod TurnedBlocks

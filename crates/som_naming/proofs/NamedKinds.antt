@@ -12,9 +12,9 @@ use Rattle.som_wire.specs.declared.kind.WireType.TheVariants as types
 use Rattle.som_wire.specs.Spelling as wire
 use Rattle.som_wire.specs.Spelling.{FitsKind}
 use Rattle.som_naming.specs.declared.directory.Directory.{Directory}
-use Rattle.som_naming.specs.Naming.{kind_named}
+use Rattle.som_naming.specs.Naming.{kind_named, Tells, NoDoubles}
 use Rattle.som_naming.proofs.Spelled.{bytes_are, none_some, split, Forth, From, Back}
-use Rattle.som_naming.proofs.Numbers.{Tells, NoDoubles, class_forth, class_back}
+use Rattle.som_naming.proofs.Numbers.{class_forth, class_back}
 
 module _ (d : Directory) (cs : List Class) (tells : Tells d cs) where
   abbrev classes : ℕ

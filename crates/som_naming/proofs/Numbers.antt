@@ -1,6 +1,6 @@
 -- Numbers and the classes that they stand for, slots and the names that they stand for.
 use Rattle.std.proofs.Common.{◌≡◌, ℕ, ◌<◌, Bool, List, [], ◌++◌, length, map, get_or, Option, Some, None, refl, sym, ap, subst, ◌∙◌, arith}
-use Rattle.std.specs.List.{AllByRecursion, IsDistinct}
+use Rattle.std.specs.List.{IsDistinct}
 use Rattle.std.specs.Str.{bytes_eq}
 use Rattle.std.specs.Int.{w16, to_be_bytes}
 use Rattle.std.proofs.Math.ListN.{get_or-map as get_or_mapped}
@@ -19,25 +19,12 @@ use Rattle.som_wire.specs.declared.method.WireMethod.{WireMethod}
 use Rattle.som_wire.specs.Spelling as wire
 use Rattle.som_wire.specs.Spelling.{FitsMethod}
 use Rattle.som_naming.specs.declared.directory.Directory.{Directory}
-use Rattle.som_naming.specs.Naming.{key_at, method_named, ranges_in}
+use Rattle.som_naming.specs.Naming.{key_at, method_named, ranges_in, entry_names, Tells, NoDoubles}
 use Rattle.som_naming.proofs.Places.{place_of_map, place_found, own_place, all_at}
 use Rattle.som_naming.proofs.Spelled.{bytes_are, none_some, split, Forth, Back}
 
-abbrev pub entry_names : Class → List (List ℕ)
-entry_names c = map entry_name c.decl.face.entries
-
 abbrev some_number : ℕ → Option ℕ
 some_number n = Some n
-
--- a directory tells the keys of these classes, and the names of their entries
-pub record Tells (d : Directory) (cs : List Class) : Type 0 where
-  pub keys : map (λ c. c.key) cs ≡ d.keys
-  pub slots : map entry_names cs ≡ d.slots
-
--- no class stands twice, and in no class a name
-pub record NoDoubles (d : Directory) : Type 0 where
-  pub keys : IsDistinct same_key d.keys
-  pub slots : AllByRecursion (IsDistinct bytes_eq) d.slots
 
 abbrev has_key : ClassKey → Class → Bool
 has_key k c = same_key c.key k

@@ -1,3 +1,6 @@
 pub mod Naming
 pub mod Numbering
 pub mod NamedBlocks
+pub mod NumberedBlocks
+pub mod BlockLimits
+pub mod ReadyBlocks

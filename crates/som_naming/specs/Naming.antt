@@ -1,5 +1,7 @@
 -- What numbers and slots stand for: classes, methods and types.
-use Rattle.std.specs.Prelude.{ℕ, List, [], ◌∷◌, ◌++◌, length, map, get_or}
+use Rattle.std.specs.Prelude.{◌≡◌, ℕ, List, [], ◌++◌, length, map, get_or}
+use Rattle.std.specs.List.{AllByRecursion, IsDistinct}
+use Rattle.std.specs.Str.{bytes_eq}
 use Rattle.som_model.specs.declared.key.Module.{Module}
 use Rattle.som_model.specs.declared.key.Module.TheVariants as modules
 use Rattle.som_model.specs.declared.key.ClassKey.{ClassKey}
@@ -7,7 +9,8 @@ use Rattle.som_model.specs.declared.key.ClassKey.TheVariants as keys
 use Rattle.som_model.specs.declared.key.MethodRef.{MethodRef}
 use Rattle.som_model.specs.declared.key.ValueType.{ValueType}
 use Rattle.som_model.specs.declared.key.ValueType.TheVariants as values
-use Rattle.som_model.specs.Class.{entry_name}
+use Rattle.som_model.specs.Keys.{same_key}
+use Rattle.som_model.specs.Class.{Class, entry_name}
 use Rattle.som_model.specs.Kernel.{kernel, som_object}
 use Rattle.som_wire.specs.declared.kind.WireType.{WireType}
 use Rattle.som_wire.specs.declared.kind.WireType.TheVariants as types
@@ -43,6 +46,24 @@ library_directory fs = with_classes kernel_directory modules.Library fs
 -- how many classes there are, and how many entries each has
 abbrev pub ranges_in : Directory → Ranges
 ranges_in d = record { classes = length d.keys; entries = map (λ names. length names) d.slots }
+
+-- ---- the classes that a directory stands for
+
+-- the names of a class's entries, in order
+abbrev pub entry_names : Class → List (List ℕ)
+entry_names c = map entry_name c.decl.face.entries
+
+-- a directory tells the keys of these classes, and the names of their entries
+pub record Tells (d : Directory) (cs : List Class) : Type 0 where
+  pub keys : map (λ c. c.key) cs ≡ d.keys
+  pub slots : map entry_names cs ≡ d.slots
+
+-- no class stands twice, and in no class a name
+pub record NoDoubles (d : Directory) : Type 0 where
+  pub keys : IsDistinct same_key d.keys
+  pub slots : AllByRecursion (IsDistinct bytes_eq) d.slots
+
+-- ---- numbers
 
 -- the class of a number, which is its place
 abbrev pub key_at : List ClassKey → ℕ → ClassKey

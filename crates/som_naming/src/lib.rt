@@ -6,11 +6,15 @@
 #![tactic(auto)]
 
 mod directory;
+mod laws;
 mod lookup;
 mod named;
 mod named_block;
 mod named_expr;
+mod numbered_laws;
 
 pub use directory::Directory;
+pub use laws::named_blocks_are_spelled;
 pub use named::{key_of, name_kind};
 pub use named_block::name_block;
+pub use numbered_laws::{ready_blocks_turn_back, typed_blocks_are_ready};

@@ -1,0 +1,6 @@
+use Rattle.std.proofs.Common.{arith}
+use Rattle.som_naming.proofs.NamedStmts.{block_forth}
+use Rattle.som_naming.proofs.laws.named_blocks_are_spelled.Goals as goal
+
+pub returns-clause-forth : goal.returns-clause-forth
+returns-clause-forth c = λ d cs b tells single fits. block_forth d cs tells single 32 1 (omega arith) b fits

@@ -1,0 +1,18 @@
+ghost use Rattle.som_blocks.specs.Fitting.{FitsBlock, levels_left};
+ghost use Rattle.som_blocks.specs.Spelling.{block};
+ghost use Rattle.som_blocks.specs.declared.syntax.WireBlock.{WireBlock};
+ghost use Rattle.som_model.specs.Class.{Class};
+ghost use Rattle.som_model.specs.Images as images;
+ghost use Rattle.som_naming.specs.Naming.{NoDoubles, Tells, ranges_in};
+ghost use Rattle.som_naming.specs.NamedBlocks.{block_named};
+ghost use Rattle.som_naming.specs.declared.directory.Directory.{Directory};
+ghost use Rattle.som_wire.specs.Spelling.{FitsMethod};
+ghost use Rattle.std.specs.Prelude.{◌≡◌, List, Some};
+
+/// A block that fits the directory of some classes, in which no name stands twice, is spelled as the block that it stands
+/// for is among these classes.
+pub fn named_blocks_are_spelled()
+    ensures forth { (d : Directory) (cs : List Class) (b : WireBlock) → Tells d cs → NoDoubles d →
+        FitsBlock (levels_left 1) (ranges_in d).classes (FitsMethod (ranges_in d)) b →
+        images.block cs (block_named d b) 1 ≡ Some (block b) }
+{}
