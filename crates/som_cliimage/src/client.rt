@@ -1,4 +1,4 @@
-ghost use Rattle.som_cliimage.specs.Programs.{AreNumbersInRange, ProgramNamesDiffer, client_at};
+ghost use Rattle.som_cliimage.specs.Programs.{ProgramNamesDiffer, client_at};
 ghost use Rattle.som_cliimage.specs.Limits.{IsWithinLimits};
 ghost use Rattle.som_model.specs.Conforming.{ProgramOk};
 ghost use Rattle.som_model.specs.Images.{client_image};
@@ -24,7 +24,7 @@ fn read_and_name(alloc: Global, bytes: &List<u8>) -> Result<ClientProgram, Image
 pub fn decode(alloc: Global, bytes: &List<u8>) -> Result<ClientProgram, ImageFault>
     ensures found { IfOk result (λ p. ProgramNamesDiffer p → client_image p ≡ Some bytes.now) }
     ensures within { IfOk result IsWithinLimits }
-    ensures only { (p : _) → client_image p ≡ Some bytes.now → AreNumbersInRange p → Gives result (Ok p) }
+    ensures only { (p : _) → client_image p ≡ Some bytes.now → IsWithinLimits p → Gives result (Ok p) }
     ensures exact { Gives result (client_at bytes.now) }
 {
     let _all = bytes.as_bytes();

@@ -13,9 +13,9 @@ use Rattle.som_model.specs.declared.class.ClassDecl.{ClassDecl}
 use Rattle.som_model.specs.Class.{Class, class_in, entry_name}
 use Rattle.som_model.specs.Kernel.{kernel}
 use Rattle.som_model.specs.Rules.{name_of}
+use Rattle.som_naming.specs.Naming.{entry_names, Tells}
 use Rattle.som_naming.specs.declared.directory.Directory.{Directory}
 use Rattle.som_naming.specs.Numbering.{Differ, key_name, IsDeclared, class_names, IsDirectory}
-use Rattle.som_naming.proofs.Numbers.{entry_names, Tells}
 use Rattle.som_naming.proofs.Numbering.{name_of_named, named_first}
 
 -- a class that is declared in a module, under its own name

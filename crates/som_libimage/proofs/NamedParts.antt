@@ -1,9 +1,8 @@
 -- Parts with names are spelled as those with numbers are.
-use Rattle.std.proofs.Common.{◌≡◌, ℕ, zero, suc, ◌+◌, ◌^◌, ◌<◌, ◌≤◌, Bool, true, cond, eqb, List, [], ◌∷◌, ◌++◌, length, map, Some, refl, sym, ap, subst, ◌∙◌, arith}
+use Rattle.std.proofs.Common.{◌≡◌, ℕ, zero, suc, ◌+◌, ◌^◌, ◌<◌, Bool, true, cond, eqb, List, [], ◌∷◌, ◌++◌, length, map, Some, refl, sym, ap, subst, ◌∙◌, arith}
 use Rattle.std.specs.List.{flat_map, count_by, AllByRecursion}
-use Rattle.std.specs.Prelude.{nat_le}
-use Rattle.std.specs.Int.{Width, w8, w16, to_be_bytes}
-use Rattle.std.proofs.lemmas.Bool.{eqb-true, leb-true}
+use Rattle.std.specs.Int.{w8, w16}
+use Rattle.std.proofs.lemmas.Bool.{eqb-true}
 use Rattle.std.proofs.lemmas.List.{length-map}
 use Rattle.std.proofs.lemmas.List.Concat.{flat_map-cons}
 use Rattle.std.proofs.lemmas.List.Recursion.{is_count_by}
@@ -44,7 +43,8 @@ use Rattle.som_naming.proofs.Places.{all_map, all_of}
 use Rattle.som_naming.proofs.Spelled.{some_bytes, bytes_are, split, guarded, Forth, From, Back, each_forth, counted_forth, counted_back, text_forth, text_back}
 use Rattle.som_naming.proofs.Numbers.{method_forth, method_back}
 use Rattle.som_naming.proofs.NamedKinds.{value_forth, value_back}
-use Rattle.som_libimage.proofs.Assumed.{block_forth, block_back}
+use Rattle.som_libimage.proofs.Assumed.{block_forth}
+use Rattle.som_libimage.proofs.Assumed.{block_back}
 use Rattle.som_libimage.specs.Reading.{is_introduced}
 use Rattle.som_libimage.specs.Spelling.{FitsClass}
 use Rattle.som_libimage.specs.Naming.{entry_named, face_named, variable_named, body_named, override_named, class_named}
@@ -87,21 +87,6 @@ module _ {A W : Type 0} (spell : A → Spelled) (with_numbers : W → List ℕ) 
         names = ap (λ (x : A). x ∷ map named ws.it) w.names ∙ ap (λ (xs : List A). v ∷ xs) ws.names;
       }
 
-  pub counted_of_bytes : (width : Width) (most : ℕ) (vs : List A) → AllByRecursion BytesBack vs → (bytes : List ℕ) → AreBytes bytes → images.counted width most spell vs ≡ Some bytes → From (wire.counted width with_numbers) (FitsCounted 0 most Fits) (map named) vs bytes
-  counted_of_bytes width most vs back bytes h e =
-      let g = guarded (nat_le (length vs) most) (images.number width (length vs) then each spell vs) bytes e in
-      let s = split (images.number width (length vs)) (each spell vs) bytes g.1 in
-      let f = each_of_bytes vs back s.back (back_bytes s.front s.back bytes s.whole h) s.second in
-      let same : length f.it ≡ length vs = sym (length-map f.it named) ∙ ap (length {A = A}) f.names in
-      let count : to_be_bytes width (length vs) ≡ s.front = bytes_are (to_be_bytes width (length vs)) s.front s.first in
-      let le : length vs ≤ most = leb-true (length vs) most g.0 in
-      record {
-        it = f.it;
-        spelled = ap (λ (n : ℕ). to_be_bytes width n ++ flat_map with_numbers f.it) same ∙ ap (λ (x : List ℕ). x ++ flat_map with_numbers f.it) count ∙ ap (λ (y : List ℕ). s.front ++ y) f.spelled ∙ s.whole;
-        fits = (omega arith, omega (arith, same, le), All-from_recursion Fits f.it f.fits);
-        names = f.names;
-      }
-
 -- ---- bodies
 
 byte_is : (n : ℕ) → n < 2 ^ 8 → tag n ≡ Some (wire.number w8 n)
@@ -119,7 +104,7 @@ module _ (d : Directory) (cs : List Class) (tells : Tells d cs) where
   Fits = FitsBody (length d.keys) (FitsMethod (ranges_in d))
 
   body_forth : NoDoubles d → (b : WireBody) → Fits b → Forth (images.body cs) spelling.body (body_named d) b
-  body_forth single (bodies.User b) fits = ap (λ (s : Spelled). tag 0 then s) (block_forth d cs tells single b fits)
+  body_forth single (bodies.User b) fits = ap (λ (s : Spelled). tag 0 then s) (block_forth d cs tells single 32 1 (omega arith) b fits)
   body_forth single (bodies.Get n) fits = ap (λ (s : Spelled). tag 1 then s) (byte_is n fits)
   body_forth single (bodies.Set n) fits = ap (λ (s : Spelled). tag 2 then s) (byte_is n fits)
 
@@ -129,7 +114,7 @@ module _ (d : Directory) (cs : List Class) (tells : Tells d cs) where
   body_back : (b : Body) → BodyWithin b → (bytes : List ℕ) → AreBytes bytes → images.body cs b ≡ Some bytes → FromBody b bytes
   body_back (named_bodies.User b) within bytes h e =
       let s = split (tag 0) (images.block cs b 1) bytes e in
-      let r = block_back d cs tells b within s.back (back_bytes s.front s.back bytes s.whole h) s.second in
+      let r = block_back d cs tells b within s.back s.second in
       record {
         it = bodies.User r.it;
         spelled = ap (λ (x : List ℕ). (0 ∷ []) ++ x) r.spelled ∙ ap (λ (x : List ℕ). x ++ s.back) (bytes_are (0 ∷ []) s.front s.first) ∙ s.whole;
@@ -198,7 +183,7 @@ module _ (d : Directory) (cs : List Class) (tells : Tells d cs) where
     override_forth : (o : WireOverride) → FitsHere o → Forth overridden spelling.overridden (override_named d) o
     override_forth o fits =
         ap (λ (s : Spelled). s then images.block cs (block_named d o.block) 1) (method_forth d cs tells single o.method fits.method)
-        ∙ ap (λ (s : Spelled). Some (wire.method o.method) then s) (block_forth d cs tells single o.block fits.block)
+        ∙ ap (λ (s : Spelled). Some (wire.method o.method) then s) (block_forth d cs tells single 32 1 (omega arith) o.block fits.block)
 
     pub part_forth : (f : WireFace) (p : WirePart) → FitsClass (ranges_in d) f p → images.part cs (class_named d f p) ≡ Some (spelling.part p)
     part_forth f p fits =
@@ -230,11 +215,11 @@ module _ (d : Directory) (cs : List Class) (tells : Tells d cs) where
         names = ap (λ (x : ValueType). a_variable v.name x) k.names;
       }
 
-  override_back : (o : Override) → BlockWithin o.block → (bytes : List ℕ) → AreBytes bytes → overridden o ≡ Some bytes → From spelling.overridden FitsHere (override_named d) o bytes
-  override_back o within bytes h e =
+  override_back : (o : Override) → BlockWithin o.block → Back overridden spelling.overridden FitsHere (override_named d) o
+  override_back o within bytes e =
       let s = split (images.method cs o.method) (images.block cs o.block 1) bytes e in
       let m = method_back d cs tells o.method s.front s.first in
-      let b = block_back d cs tells o.block within s.back (back_bytes s.front s.back bytes s.whole h) s.second in
+      let b = block_back d cs tells o.block within s.back s.second in
       record {
         it = record { method = m.it; block = b.it };
         spelled = ap (λ (x : List ℕ). x ++ spelling.block b.it) m.spelled ∙ ap (λ (y : List ℕ). s.front ++ y) b.spelled ∙ s.whole;
@@ -258,7 +243,7 @@ module _ (d : Directory) (cs : List Class) (tells : Tells d cs) where
       let inner = back_bytes t.front t.back s.front t.whole (front_bytes s.front s.back bytes s.whole h) in
       let vs = counted_back variable spelling.variable (variable_named d.keys) (FitsVariable classes) w8 0 MAX_VARIABLES c.variables (omega arith) (all_of (Back variable spelling.variable (FitsVariable classes) (variable_named d.keys)) variable_back c.variables) t.front t.first in
       let bs = each_of_bytes (images.body cs) spelling.body (Fits d cs tells) (body_named d) c.bodies (all_map BodyWithin (BytesBack (images.body cs) spelling.body (Fits d cs tells) (body_named d)) (body_back d cs tells) c.bodies (recursion_from_All BodyWithin c.bodies within.each_body)) t.back inner g.1 in
-      let os = counted_of_bytes overridden spelling.overridden FitsHere (override_named d) w16 MAX_OVERRIDES c.overrides (all_map (λ o. BlockWithin o.block) (BytesBack overridden spelling.overridden FitsHere (override_named d)) override_back c.overrides (recursion_from_All (λ o. BlockWithin o.block) c.overrides within.each_override)) s.back (back_bytes s.front s.back bytes s.whole h) s.second in
+      let os = counted_back overridden spelling.overridden (override_named d) FitsHere w16 0 MAX_OVERRIDES c.overrides (omega arith) (all_map (λ o. BlockWithin o.block) (Back overridden spelling.overridden FitsHere (override_named d)) override_back c.overrides (recursion_from_All (λ o. BlockWithin o.block) c.overrides within.each_override)) s.back s.second in
       let as_entries : length (introduced c.face.entries) ≡ count_by is_introduced f.entries = ap (λ (x : ClassFace). length (introduced x.entries)) (sym face) ∙ introduced_is d.keys f.entries in
       let as_bodies : length bs.it ≡ length c.bodies = sym (length-map bs.it (body_named d)) ∙ ap (length {A = Body}) bs.names in
       record {

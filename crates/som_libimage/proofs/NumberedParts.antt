@@ -25,7 +25,7 @@ use Rattle.som_naming.specs.NamedBlocks.{block_named}
 use Rattle.som_naming.specs.NumberedBlocks.{block_numbered}
 use Rattle.som_naming.specs.BlockLimits.{TextWithin}
 use Rattle.som_naming.proofs.NumberedKinds.{TurnsBack, all_both, each_of, counted_turn, method_turns, value_turns}
-use Rattle.som_libimage.proofs.Assumed.{block_turns}
+use Rattle.som_naming.proofs.TurnedBlocks.{ready_turns}
 use Rattle.som_libimage.specs.Reading.{is_introduced}
 use Rattle.som_libimage.specs.Spelling.{FitsClass}
 use Rattle.som_libimage.specs.Naming.{variable_named, body_named, override_named, class_named}
@@ -59,14 +59,14 @@ module _ (d : Directory) where
       record { fits = record { name = within; kind = k.fits }; names = ap (λ (x : ValueType). a_variable v.name x) k.names }
 
   body_turns : (b : Body) → BodyReady d b → TurnsBack FitsBodyHere (body_named d) (body_numbered d) b
-  body_turns (named_bodies.User b) ready = let t = block_turns d b ready in record { fits = t.fits; names = ap named_bodies.User t.names }
+  body_turns (named_bodies.User b) ready = let t = ready_turns d b ready in record { fits = t.fits; names = ap named_bodies.User t.names }
   body_turns (named_bodies.Get n) ready = record { fits = ready; names = refl }
   body_turns (named_bodies.Set n) ready = record { fits = ready; names = refl }
 
   override_turns : (o : Override) → OverrideReady d o → TurnsBack FitsOverrideHere (override_named d) (override_numbered d) o
   override_turns o ready =
       let m = method_turns d o.method ready.method in
-      let b = block_turns d o.block ready.block in
+      let b = ready_turns d o.block ready.block in
       record {
         fits = record { method = m.fits; block = b.fits };
         names = ap (λ (x : MethodRef). an_override x (block_named d (block_numbered d o.block))) m.names ∙ ap (λ (x : Block). an_override o.method x) b.names;

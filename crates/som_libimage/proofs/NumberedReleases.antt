@@ -23,13 +23,12 @@ use Rattle.som_wire.specs.Spelling.{FitsFace}
 use Rattle.som_blocks.specs.declared.syntax.WirePart.{WirePart}
 use Rattle.som_naming.specs.declared.directory.Directory.{Directory}
 use Rattle.som_libimage.specs.Spelling.{FitsParts, FitsRelease}
-use Rattle.som_naming.specs.Naming.{name_in, names_in, kernel_directory, library_directory, ranges_in}
+use Rattle.som_naming.specs.Naming.{name_in, names_in, kernel_directory, library_directory, ranges_in, entry_names, Tells}
 use Rattle.som_libimage.specs.Naming.{classes_named, release_named}
 use Rattle.som_naming.specs.Numbering.{class_names, release_directory, IsDirectory}
 use Rattle.som_libimage.specs.Numbering.{entry_numbered, face_numbered, part_numbered, release_numbered}
 use Rattle.som_libimage.proofs.Naming.{ranges_known}
 use Rattle.som_naming.proofs.Places.{all_joined}
-use Rattle.som_naming.proofs.Numbers.{entry_names, Tells}
 use Rattle.som_libimage.proofs.Directories.{IsOwn, FewEntries, kernel_own, kernel_few, declared_own, directory_is}
 use Rattle.som_libimage.proofs.NumberedParts.{ClassReady, class_turns}
 

@@ -33,14 +33,14 @@ use Rattle.som_model.specs.Typing.{Ruled, CodePlace, class_facts}
 use Rattle.som_model.specs.TypedBlocks.{Scope, block_scope}
 use Rattle.som_model.specs.Conforming.{each_after, block_breach, bodies_typed, override_typed, class_typed}
 use Rattle.som_model.proofs.KeyLaws.{both, exact_bytes, exact_keys}
+use Rattle.som_naming.specs.Naming.{Tells, entry_names}
 use Rattle.som_naming.specs.declared.directory.Directory.{Directory}
 use Rattle.som_naming.specs.Numbering.{MethodKnown, IsKnown, IsValue}
 use Rattle.som_naming.specs.BlockLimits.{BlockWithin}
 use Rattle.som_naming.specs.ReadyBlocks.{BlockReady}
 use Rattle.som_naming.proofs.Places.{all_map, place_of_map}
-use Rattle.som_naming.proofs.Numbers.{Tells, Known, known, entry_names}
-use Rattle.som_naming.proofs.Numbering.{first_place}
-use Rattle.som_libimage.proofs.Assumed.{Covers, typed_is_ready}
+use Rattle.som_naming.proofs.KnownMethods.{keys_of, known_mem, some_known, has_entry, method_known, covers}
+use Rattle.som_naming.proofs.TypedBlocks.{typed_is_ready}
 use Rattle.som_libimage.specs.Limits.{BodyWithin, ClassWithin}
 use Rattle.som_libimage.specs.Numbering.{EntryKnown, FaceKnown, BodyReady, OverrideReady, ClassKnown}
 use Rattle.som_libimage.proofs.Conforming.{both_empty, not_broken, names_joined}
@@ -75,24 +75,10 @@ every_all test (x ∷ xs) h = by (test x) refl (every_all test xs) h
 
 -- ---- classes that are known
 
-abbrev keys_of : List Class → List ClassKey
-keys_of cs = map (λ (c : Class). c.key) cs
-
-known_mem : (cs : List Class) (k : ClassKey) → is_some (class_at cs k) ≡ true → Mem k (keys_of cs)
-known_mem [] k h = absurd (true≢false (sym h))
-known_mem (c ∷ cs) k h = by (same_key c.key k) refl (known_mem cs k) h
-  where
-    by : (b : Bool) → same_key c.key k ≡ b → (is_some (class_at cs k) ≡ true → Mem k (keys_of cs)) → is_some (if b then Some c else class_at cs k) ≡ true → Mem k (keys_of (c ∷ cs))
-    by true e f g = inl (sym (exact_keys.two c.key k e))
-    by false e f g = inr (f g)
-
 mem_front : (k : ClassKey) (before cs : List Class) → Mem k (keys_of before) → Mem k (keys_of (before ++ cs))
 mem_front k [] cs h = absurd h
 mem_front k (c ∷ before) cs (inl e) = inl e
 mem_front k (c ∷ before) cs (inr m) = inr (mem_front k before cs m)
-
-some_known : (cs : List Class) (k : ClassKey) (c : Class) → class_at cs k ≡ Some c → is_some (class_at cs k) ≡ true
-some_known cs k c e = rw e refl
 
 -- parents and the metaclass stand before their class
 abbrev pub NamesBefore : List ClassKey → ClassFace → Type 0
@@ -178,70 +164,14 @@ module _ (cs : List Class) where
 
   -- ---- overrides
 
-  stays : (n : ℕ) (r : MethodRef) → entry_at cs r.class r.name ≡ None → owner_within cs n r ≡ r
-  stays zero r e = refl
-  stays (suc n) r e = rw e refl
-
-  -- a method that is inherited is an entry of the class that it names
-  has_entry : (r : MethodRef) (o : Option Entry) → entry_at cs r.class r.name ≡ o → introduces cs (owner cs r).name (owner cs r).class ≡ true → is_some (entry_at cs r.class r.name) ≡ true
-  has_entry r (Some e) is h = rw is refl
-  has_entry r None is h =
-      let own : owner cs r ≡ r = stays ((hierarchy cs).height r.class) r is in
-      let here : introduces cs r.name r.class ≡ true = subst (λ (m : MethodRef). introduces cs m.name m.class ≡ true) own h in
-      let none : introduces cs r.name r.class ≡ false = rw is refl in
-      absurd (true≢false (sym here ∙ none))
-
-  has_class : (r : MethodRef) (o : Option Class) → class_at cs r.class ≡ o → is_some (entry_at cs r.class r.name) ≡ true → (c : Class) × (class_at cs r.class ≡ Some c) × (is_some (entry_of c.decl.face.entries r.name) ≡ true)
-  has_class r (Some c) is h = (c, is, rw is at h)
-  has_class r None is h = let none : is_some (entry_at cs r.class r.name) ≡ false = rw is refl in absurd (true≢false (sym h ∙ none))
-
-  entry_mem : (es : List Entry) (name : List ℕ) → is_some (entry_of es name) ≡ true → Mem name (map entry_name es)
-  entry_mem [] name h = absurd (true≢false (sym h))
-  entry_mem (e ∷ es) name h = by (bytes_eq (entry_name e) name) refl (entry_mem es name) h
-    where
-      by : (b : Bool) → bytes_eq (entry_name e) name ≡ b → (is_some (entry_of es name) ≡ true → Mem name (map entry_name es)) → is_some (if b then Some e else entry_of es name) ≡ true → Mem name (map entry_name (e ∷ es))
-      by true is f g = inl (sym (exact_bytes.two (entry_name e) name is))
-      by false is f g = inr (f g)
+  abbrev overrides_told : Class → List MethodRef → List Override → List Breach
+  overrides_told c before [] = []
+  overrides_told c before (o ∷ os) =
+      let r = owner cs o.method in
+      demand_of 10 c o.method.name (is_proper cs c r.class && introduces cs r.name r.class && not (some (same_method r) before))
+      ++ overrides_told c (before ++ r ∷ []) os
 
   module _ (d : Directory) (tells : Tells d cs) where
-    -- the number of a class that is there
-    numbered_at : (k : ClassKey) (o : Option ℕ) → place_from 0 (λ x. same_key x k) d.keys ≡ o → is_some o ≡ true → Known d cs k (unwrap_or o 0)
-    numbered_at k None e h = absurd (true≢false (sym h))
-    numbered_at k (Some n) e h =
-        known d cs tells k n (place_of_map (λ (c : Class). c.key) (λ x. same_key x k) 0 cs ∙ ap (λ (l : List ClassKey). place_from 0 (λ x. same_key x k) l) tells.keys ∙ e)
-
-    method_known : (r : MethodRef) → is_some (entry_at cs r.class r.name) ≡ true → MethodKnown d r
-    method_known r h =
-        let c = has_class r (class_at cs r.class) refl h in
-        let mem : Mem r.class d.keys = subst (Mem r.class) tells.keys (known_mem cs r.class (some_known cs r.class c.0 c.1)) in
-        let k = numbered_at r.class (place_from 0 (λ x. same_key x r.class) d.keys) refl (first_place same_key exact_keys r.class d.keys 0 mem) in
-        let same : k.class ≡ c.0 = one_class k.class c.0 (sym k.is ∙ c.1) in
-        record {
-          class = mem;
-          name = subst (Mem r.name) (sym (k.slots ∙ ap entry_names same)) (entry_mem c.0.decl.face.entries r.name c.2);
-        }
-      where
-        one_class : (a b : Class) → Some a ≡ Some b → a ≡ b
-        one_class a b e = cc
-
-    abbrev overrides_told : Class → List MethodRef → List Override → List Breach
-    overrides_told c before [] = []
-    overrides_told c before (o ∷ os) =
-        let r = owner cs o.method in
-        demand_of 10 c o.method.name (is_proper cs c r.class && introduces cs r.name r.class && not (some (same_method r) before))
-        ++ overrides_told c (before ++ r ∷ []) os
-
-    -- what these classes know, the directory has
-    covers : Covers (class_facts cs) d
-    unfolding class_facts
-    covers = record {
-      class = λ k h. subst (Mem k) tells.keys (known_mem cs k h);
-      method = λ r sig e. method_known r (has_entry r (entry_at cs r.class r.name) refl (signed r sig e));
-    }
-      where
-        signed : (r : MethodRef) (sig : Sig) → sig_of cs (owner cs r) ≡ Some sig → introduces cs (owner cs r).name (owner cs r).class ≡ true
-        signed r sig e = rw e refl
-
     -- ---- blocks
 
     abbrev typed_told : Class → List ℕ → Ruled Scope → List Breach
@@ -255,7 +185,7 @@ module _ (cs : List Class) where
     block_ready : (at : CodePlace) (scope : Scope) (c : Class) (name : List ℕ) (b : Block) → BlockWithin b → typed_told c name (block_scope (class_facts cs) at b scope) ≡ [] → BlockReady d b
     block_ready at scope c name b within h =
         let t = typed c name (block_scope (class_facts cs) at b scope) h in
-        typed_is_ready (class_facts cs) d covers at scope t.0 b within t.1
+        typed_is_ready (class_facts cs) d (covers cs d tells) at scope t.0 b within t.1
 
     abbrev override_told : Class → Override → Option Sig → List Breach
     override_told c o None = []
@@ -275,7 +205,7 @@ module _ (cs : List Class) where
         let p = both (is_proper cs c r.class && introduces cs r.name r.class) (not (some (same_method r) before)) (demanded_of 10 c o.method.name test b.0) in
         let i = both (is_proper cs c r.class) (introduces cs r.name r.class) p.0 in (
           record {
-            method = method_known o.method (has_entry o.method (entry_at cs o.method.class o.method.name) refl i.1);
+            method = method_known cs d tells o.method (has_entry cs o.method (entry_at cs o.method.class o.method.name) refl i.1);
             block = override_block c o (sig_of cs (owner cs o.method)) i.1 u.0 within.0;
           },
           overrides_ready c (before ++ r ∷ []) os b.1 u.1 within.1,

@@ -1,0 +1,5 @@
+pub mod ProgramFields
+pub mod NamedPrograms
+pub mod Naming
+pub mod Written
+pub mod Decoded
