@@ -2,7 +2,7 @@
 use Rattle.std.proofs.Common.{◌≡◌, ℕ, suc, ◌<◌, ◌≤◌, ◌^◌, Bool, true, false, List, [], ◌∷◌, ◌++◌, length, map, Some, refl, sym, ap, ◌∙◌, arith}
 use Rattle.std.specs.Prelude.{nat_le, nat_lt}
 use Rattle.std.specs.List.{flat_map}
-use Rattle.std.specs.Int.{Width, w8}
+use Rattle.std.specs.Int.{Width, w8, w16}
 use Rattle.std.proofs.lemmas.Bool.{le-leb, lt-ltb, ltb-true}
 use Rattle.std.proofs.lemmas.List.{length-map}
 use Rattle.som_model.specs.declared.limits.TheConstants.{MAX_NESTING}
@@ -30,6 +30,10 @@ two a b x y p q = ap (λ (s : Spelled). s then b) p ∙ ap (λ (s : Spelled). So
 -- a number of one byte
 pub byte_is : (n : ℕ) → n < 2 ^ 8 → tag n ≡ Some (wire.number w8 n)
 byte_is n lt = ap some_bytes (sym (number-w8 n lt))
+
+-- a number of two bytes
+pub short_is : (n : ℕ) → images.number w16 n ≡ Some (wire.number w16 n)
+short_is n = refl
 
 -- the number of an operator
 pub operator_is : (limit op : ℕ) → op < limit → limit ≤ 2 ^ 8 → where_it_is (nat_lt op limit) (tag op) ≡ Some (wire.number w8 op)

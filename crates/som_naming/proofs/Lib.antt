@@ -5,10 +5,13 @@ pub mod Naming
 pub mod Numbering
 pub mod NamedKinds
 pub mod NumberedKinds
+pub mod FittingParts
 pub mod BlockForms
 pub mod NamedExprs
 pub mod NamedCalls
 pub mod NamedStmts
+pub mod ExprsBack
+pub mod StmtsBack
 pub mod TypedBlocks
 pub mod KnownMethods
 pub mod TurnedBlocks

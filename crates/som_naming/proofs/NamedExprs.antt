@@ -120,7 +120,7 @@ module _ (d : Directory) (cs : List Class) (tells : Tells d cs) (single : NoDoub
         (ap (λ (f : AtLevel). f level) (fold-roll-Expr AtLevel (expr_step cs) (Expr-F.ParentsCall (method_named d m) (map (expr_named d) es))) ∙ tagged level 0x33 _ _ low (two _ _ _ _ (method_forth d cs tells single m h.0) (args_forth es h.1)))
     forth_layer (WireExpr-F.Host code a b) h =
         close (WireExpr-F.Host code a b) (Expr-F.Host code (expr_named d a) (expr_named d b)) (fold-roll-WireExpr Expr (expr_named_step d) (WireExpr-F.Host code a b) ∙ sym (rolls-Host code (expr_named d a) (expr_named d b))) _ (fold-roll-WireExpr (List ℕ) spelling.expr_step (WireExpr-F.Host code a b))
-        (ap (λ (f : AtLevel). f level) (fold-roll-Expr AtLevel (expr_step cs) (Expr-F.Host code (expr_named d a) (expr_named d b))) ∙ host_is cs level code _ _ ∙ tagged level 0x34 _ _ low (two _ _ _ _ (two _ _ _ _ (host_code code) (inner a h.0)) (inner b h.1)))
+        (ap (λ (f : AtLevel). f level) (fold-roll-Expr AtLevel (expr_step cs) (Expr-F.Host code (expr_named d a) (expr_named d b))) ∙ host_is cs level code (images.expr cs (expr_named d a)) (images.expr cs (expr_named d b)) ∙ tagged level 0x34 _ _ low (two _ _ _ _ (two _ _ _ _ (host_code code) (inner a h.0)) (inner b h.1)))
 
   pub expr_forth : (left level : ℕ) → left + level ≡ 33 → (e : WireExpr) → FitsExpr left classes Method e → ExprForth level e
   unfolding FitsExpr

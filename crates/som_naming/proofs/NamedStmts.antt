@@ -30,7 +30,7 @@ use Rattle.som_naming.specs.NamedBlocks.{expr_named, stmt_named, stmt_named_step
 use Rattle.som_naming.proofs.Places.{all_map}
 use Rattle.som_naming.proofs.Spelled.{some_bytes, Forth, each_forth}
 use Rattle.som_naming.proofs.NamedKinds.{value_forth}
-use Rattle.som_naming.proofs.BlockForms.{tagged, two, byte_is, map_twice}
+use Rattle.som_naming.proofs.BlockForms.{tagged, two, byte_is, short_is, map_twice}
 use Rattle.som_naming.proofs.NamedCalls.{call_named}
 use Rattle.som_naming.proofs.NamedExprs.{ExprForth, expr_forth}
 
@@ -92,7 +92,7 @@ module _ (d : Directory) (cs : List Class) (tells : Tells d cs) (single : NoDoub
         (ap (λ (f : AtLevel). f level) (fold-roll-Stmt AtLevel AtLevel (stmt_step cs) block_step (Stmt-F.Var (kind_named d.keys t) (expr_named d e))) ∙ tagged level 0x01 _ _ low (two _ _ _ _ (value_forth d cs tells single t h.0) (inner e h.1)))
     forth_layer (WireStmt-F.SetLocal n e) h =
         close (WireStmt-F.SetLocal n e) (Stmt-F.SetLocal n (expr_named d e)) (fold-roll-WireStmt Stmt Block (stmt_named_step d) block_named_step (WireStmt-F.SetLocal n e) ∙ sym (rolls-SetLocal n (expr_named d e))) _ (fold-roll-WireStmt (List ℕ) (List ℕ) spelling.stmt_step spelling.block_step (WireStmt-F.SetLocal n e))
-        (ap (λ (f : AtLevel). f level) (fold-roll-Stmt AtLevel AtLevel (stmt_step cs) block_step (Stmt-F.SetLocal n (expr_named d e))) ∙ tagged level 0x02 _ _ low (two _ _ _ _ refl (inner e h.1)))
+        (ap (λ (f : AtLevel). f level) (fold-roll-Stmt AtLevel AtLevel (stmt_step cs) block_step (Stmt-F.SetLocal n (expr_named d e))) ∙ tagged level 0x02 _ _ low (two _ _ _ _ (short_is n) (inner e h.1)))
     forth_layer (WireStmt-F.SetVariable n e) h =
         close (WireStmt-F.SetVariable n e) (Stmt-F.SetVariable n (expr_named d e)) (fold-roll-WireStmt Stmt Block (stmt_named_step d) block_named_step (WireStmt-F.SetVariable n e) ∙ sym (rolls-SetVariable n (expr_named d e))) _ (fold-roll-WireStmt (List ℕ) (List ℕ) spelling.stmt_step spelling.block_step (WireStmt-F.SetVariable n e))
         (ap (λ (f : AtLevel). f level) (fold-roll-Stmt AtLevel AtLevel (stmt_step cs) block_step (Stmt-F.SetVariable n (expr_named d e))) ∙ tagged level 0x03 _ _ low (two _ _ _ _ (byte_is n h.0) (inner e h.1)))
@@ -125,7 +125,7 @@ module _ (d : Directory) (cs : List Class) (tells : Tells d cs) (single : NoDoub
       let deeper : left + suc level ≡ 33 = omega (arith, sum) in
       subst (StmtForth level) (roll-out-WireStmt s)
       (forth_layer level (omega (arith, sum)) (FitsExpr left classes Method) (expr_forth d cs tells single left (suc level) deeper)
-        (FitsBlock left classes Method) (blocks_forth (suc level) (FitsStmt left classes Method) (stmt_forth left (suc level) deeper)) (out-WireStmt s) h)
+      (FitsBlock left classes Method) (blocks_forth (suc level) (FitsStmt left classes Method) (stmt_forth left (suc level) deeper)) (out-WireStmt s) h)
 
   -- a block with numbers is spelled at a level as the one with names
   pub block_forth : (left level : ℕ) → left + level ≡ 33 → (b : WireBlock) → FitsBlock left classes Method b → BlockForth level b
