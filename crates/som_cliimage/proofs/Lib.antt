@@ -3,3 +3,8 @@ pub mod NamedPrograms
 pub mod Naming
 pub mod Written
 pub mod Decoded
+pub mod NumberedPrograms
+pub mod BaseAncestors
+pub mod Holds
+pub mod Ready
+pub mod Encoded

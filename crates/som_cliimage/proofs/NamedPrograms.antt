@@ -38,6 +38,7 @@ use Rattle.som_naming.specs.NamedBlocks.{block_named}
 use Rattle.som_naming.proofs.Places.{all_of, all_mapped, all_joined, distinct_joined}
 use Rattle.som_naming.proofs.Spelled.{some_bytes, bytes_are, split, guarded}
 use Rattle.som_naming.proofs.NamedStmts.{block_forth}
+use Rattle.som_naming.proofs.StmtsBack.{block_back}
 use Rattle.som_libimage.specs.Reading.{ranges_of}
 use Rattle.som_libimage.specs.Spelling.{FitsParts, head}
 use Rattle.som_libimage.specs.Naming.{face_named, classes_named, interface_named}
@@ -243,7 +244,7 @@ program_back p bytes h within e =
     let n = split (images.number w16 (length p.classes)) faces u.back g.1 in
     let b = interface_back p.base v.back v.second in
     let own = pairs_back d cs tells p.classes (recursion_from_All ClassWithin p.classes within.each_class) n.back t.back (back_bytes t.front t.back s.front t.whole (front_bytes s.front s.back bytes s.whole h)) n.second t.second in
-    let m = block_back d cs tells p.main within.main s.back s.second in
+    let m = block_back d cs tells 32 1 p.main within.main s.back s.second in
     let start = bytes_are magic v.front v.first in
     let number = bytes_are (to_be_bytes w16 (length p.classes)) n.front n.first in
     finished p bytes v.back n.back t.back s.back (leb-true _ _ g.0)

@@ -2,13 +2,14 @@
 use Rattle.std.proofs.Common.{◌≡◌, ℕ, ◌+◌, ◌≤◌, List, ◌++◌, length, map, sym, ap, subst, refl, ◌∙◌, arith}
 use Rattle.std.specs.Prelude.{All}
 use Rattle.std.specs.List.{AllByRecursion}
-use Rattle.std.proofs.lemmas.List.{length-map, length-append}
+use Rattle.std.proofs.lemmas.List.{length-map}
 use Rattle.std.proofs.lemmas.List.Elements.{All-from_recursion, recursion_from_All}
 use Rattle.som_model.specs.declared.limits.TheConstants.{MAX_CLIENT_CLASSES}
 use Rattle.som_wire.specs.declared.face.WireFace.{WireFace}
 use Rattle.som_wire.specs.declared.method.Ranges.{Ranges}
-use Rattle.som_wire.specs.Spelling.{most_classes, FitsFace}
-use Rattle.som_blocks.specs.Fitting.{FitsSomePart, FitsSomeBlock}
+use Rattle.som_wire.specs.Spelling.{FitsFace}
+use Rattle.som_blocks.specs.Fitting.{levels_left, FitsSomePart, FitsSomeBlock}
+use Rattle.som_blocks.proofs.SomeFits.{block_some}
 use Rattle.som_naming.specs.declared.directory.Directory.{Directory}
 use Rattle.som_naming.specs.Naming.{library_directory}
 use Rattle.som_naming.proofs.Places.{all_map, all_mapped}
@@ -16,25 +17,22 @@ use Rattle.som_libimage.specs.Naming.{face_named, classes_named}
 use Rattle.som_libimage.specs.Limits.{FaceWithin, ClassWithin}
 use Rattle.som_libimage.proofs.LibraryFields.{faces_few}
 use Rattle.som_libimage.proofs.BlocksWithin.{block_within}
-use Rattle.som_libimage.proofs.Turned.{few_entries, parts_written, face_within, classes_within, few_classes, block_some}
+use Rattle.som_libimage.proofs.Turned.{parts_written, face_within, classes_within, few_classes}
 use Rattle.som_cliimage.specs.declared.wire.WireProgram.{WireProgram}
 use Rattle.som_cliimage.specs.Reading.{client_ranges}
 use Rattle.som_cliimage.specs.Spelling.{FitsProgram}
 use Rattle.som_cliimage.specs.Naming.{client_directory, program_named}
 use Rattle.som_cliimage.specs.Limits.{IsWithinLimits}
-use Rattle.som_cliimage.proofs.ProgramFields.{all_few}
+use Rattle.som_cliimage.proofs.ProgramFields.{ranges_short}
 use Rattle.som_cliimage.proofs.Naming.{parts_fit, main_fits}
 
 module _ (w : WireProgram) (fits : FitsProgram w) where
-  few_in_all : length (w.base ++ w.faces) + 4 ≤ most_classes
-  few_in_all = omega (arith, length-append w.base w.faces, fits.base.1, fits.faces.1)
-
   pub parts_written_of : All FitsSomePart w.parts
   parts_written_of =
-      parts_written (w.base ++ w.faces) w.faces w.parts few_in_all (all_few w.base w.faces fits.base fits.faces) (faces_few (length w.base + 4) MAX_CLIENT_CLASSES w.faces fits.faces) fits.parts
+      parts_written (client_ranges w.base w.faces) (ranges_short w.base w.faces fits.base fits.faces) w.faces w.parts (faces_few (length w.base + 4) MAX_CLIENT_CLASSES w.faces fits.faces) fits.parts
 
   pub main_written : FitsSomeBlock w.main
-  main_written = block_some (client_ranges w.base w.faces) few_in_all (few_entries (w.base ++ w.faces) (recursion_from_All _ (w.base ++ w.faces) (all_few w.base w.faces fits.base fits.faces))) w.main fits.main
+  main_written = block_some (client_ranges w.base w.faces) (ranges_short w.base w.faces fits.base fits.faces) (levels_left 1) (omega arith) w.main fits.main
 
   pub program_within : IsWithinLimits (program_named w)
   program_within =

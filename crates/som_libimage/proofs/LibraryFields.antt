@@ -95,7 +95,7 @@ entries_short fs h (suc (suc (suc (suc i)))) = lengths_short fs h i
 pub short_ranges : (fs : List WireFace) → length fs + 4 < 2 ^ 16 → All Few fs → AreShort (ranges_of fs)
 short_ranges fs many few = record { classes = many; entries = entries_short fs (recursion_from_All Few fs few) }
 
-ranges_short : (fs : List WireFace) → FitsFaces fs → AreShort (ranges_of fs)
+pub ranges_short : (fs : List WireFace) → FitsFaces fs → AreShort (ranges_of fs)
 ranges_short fs fits = short_ranges fs (omega (arith, fits.1)) (faces_few 4 MAX_LIBRARY_CLASSES fs fits)
 
 -- ---- faces and parts

@@ -43,8 +43,8 @@ use Rattle.som_naming.proofs.Places.{all_map, all_of}
 use Rattle.som_naming.proofs.Spelled.{some_bytes, bytes_are, split, guarded, Forth, From, Back, each_forth, counted_forth, counted_back, text_forth, text_back}
 use Rattle.som_naming.proofs.Numbers.{method_forth, method_back}
 use Rattle.som_naming.proofs.NamedKinds.{value_forth, value_back}
-use Rattle.som_libimage.proofs.Assumed.{block_forth}
-use Rattle.som_libimage.proofs.Assumed.{block_back}
+use Rattle.som_naming.proofs.NamedStmts.{block_forth}
+use Rattle.som_naming.proofs.StmtsBack.{block_back}
 use Rattle.som_libimage.specs.Reading.{is_introduced}
 use Rattle.som_libimage.specs.Spelling.{FitsClass}
 use Rattle.som_libimage.specs.Naming.{entry_named, face_named, variable_named, body_named, override_named, class_named}
@@ -114,7 +114,7 @@ module _ (d : Directory) (cs : List Class) (tells : Tells d cs) where
   body_back : (b : Body) → BodyWithin b → (bytes : List ℕ) → AreBytes bytes → images.body cs b ≡ Some bytes → FromBody b bytes
   body_back (named_bodies.User b) within bytes h e =
       let s = split (tag 0) (images.block cs b 1) bytes e in
-      let r = block_back d cs tells b within s.back s.second in
+      let r = block_back d cs tells 32 1 b within s.back s.second in
       record {
         it = bodies.User r.it;
         spelled = ap (λ (x : List ℕ). (0 ∷ []) ++ x) r.spelled ∙ ap (λ (x : List ℕ). x ++ s.back) (bytes_are (0 ∷ []) s.front s.first) ∙ s.whole;
@@ -219,7 +219,7 @@ module _ (d : Directory) (cs : List Class) (tells : Tells d cs) where
   override_back o within bytes e =
       let s = split (images.method cs o.method) (images.block cs o.block 1) bytes e in
       let m = method_back d cs tells o.method s.front s.first in
-      let b = block_back d cs tells o.block within s.back s.second in
+      let b = block_back d cs tells 32 1 o.block within s.back s.second in
       record {
         it = record { method = m.it; block = b.it };
         spelled = ap (λ (x : List ℕ). x ++ spelling.block b.it) m.spelled ∙ ap (λ (y : List ℕ). s.front ++ y) b.spelled ∙ s.whole;

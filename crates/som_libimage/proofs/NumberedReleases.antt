@@ -5,6 +5,7 @@ use Rattle.std.specs.Str.{bytes_eq}
 use Rattle.std.proofs.lemmas.List.{length-map}
 use Rattle.std.proofs.lemmas.List.Elements.{All-from_recursion}
 use Rattle.som_model.specs.declared.limits.TheConstants.{MAX_LIBRARY_CLASSES, MAX_ENTRIES}
+use Rattle.som_model.specs.declared.key.Module.{Module}
 use Rattle.som_model.specs.declared.key.Module.TheVariants as modules
 use Rattle.som_model.specs.declared.key.ClassKey.{ClassKey}
 use Rattle.som_model.specs.declared.key.ClassKey.TheVariants as keys
@@ -37,7 +38,7 @@ use Rattle.som_libimage.proofs.NumberedParts.{ClassReady, class_turns}
 abbrev own_key : ClassDecl → ClassKey
 own_key c = keys.Named modules.Library c.face.name
 
-abbrev own_names : ClassDecl → List (List ℕ)
+abbrev pub own_names : ClassDecl → List (List ℕ)
 own_names c = map entry_name c.face.entries
 
 keys_told : (ds : List ClassDecl) → map (λ (c : Class). c.key) (map (class_in modules.Library) ds) ≡ map own_key ds
@@ -54,32 +55,32 @@ told r = record {
   slots = ap (λ (ns : List (List (List ℕ))). kernel_directory.slots ++ ns) (slots_told r.classes);
 }
 
-pub few_own : (ds : List ClassDecl) → AllByRecursion (λ (c : ClassDecl). length c.face.entries ≤ MAX_ENTRIES) ds → AllByRecursion FewEntries (map (class_in modules.Library) ds)
-few_own [] h = tt
-few_own (c ∷ ds) h = (h.0, few_own ds h.1)
+pub few_own : (home : Module) (ds : List ClassDecl) → AllByRecursion (λ (c : ClassDecl). length c.face.entries ≤ MAX_ENTRIES) ds → AllByRecursion FewEntries (map (class_in home) ds)
+few_own home [] h = tt
+few_own home (c ∷ ds) h = (h.0, few_own home ds h.1)
 
 pub is_directory : (r : Release) → length r.classes ≤ MAX_LIBRARY_CLASSES → doubles bytes_eq (map name_of kernel) (map name_of (library_classes r)) ≡ [] → AllByRecursion (λ (c : ClassDecl). length c.face.entries ≤ MAX_ENTRIES) r.classes → IsDirectory (class_names (release_directory r)) (release_directory r)
 is_directory r many differ few =
     let own : List Class = library_classes r in
     directory_is (release_directory r) (kernel ++ own) (told r) (all_joined IsOwn kernel own kernel_own (declared_own modules.Library r.classes)) differ
-    (omega (arith, many, length-map r.classes (class_in modules.Library))) (all_joined FewEntries kernel own kernel_few (few_own r.classes few))
+    (omega (arith, many, length-map r.classes (class_in modules.Library))) (all_joined FewEntries kernel own kernel_few (few_own modules.Library r.classes few))
 
 -- ---- the directory of the faces with numbers
 
-abbrev faces_of : List ClassKey → List ClassDecl → List WireFace
+abbrev pub faces_of : List ClassKey → List ClassDecl → List WireFace
 faces_of ks ds = map (λ (c : ClassDecl). face_numbered ks c.face) ds
 
 module _ (ks : List ClassKey) where
-  keys_kept : (ds : List ClassDecl) → map (λ (f : WireFace). keys.Named modules.Library f.name) (faces_of ks ds) ≡ map own_key ds
-  keys_kept [] = refl
-  keys_kept (c ∷ ds) = ap (λ (l : List ClassKey). own_key c ∷ l) (keys_kept ds)
+  pub keys_kept : (home : Module) (ds : List ClassDecl) → map (λ (f : WireFace). keys.Named home f.name) (faces_of ks ds) ≡ map (λ (c : ClassDecl). keys.Named home c.face.name) ds
+  keys_kept home [] = refl
+  keys_kept home (c ∷ ds) = ap (λ (l : List ClassKey). keys.Named home c.face.name ∷ l) (keys_kept home ds)
 
-  names_kept : (es : List Entry) → map name_in (map (entry_numbered ks) es) ≡ map entry_name es
+  pub names_kept : (es : List Entry) → map name_in (map (entry_numbered ks) es) ≡ map entry_name es
   names_kept [] = refl
   names_kept (named_entries.Introduced name s w ∷ es) = ap (λ (ns : List (List ℕ)). name ∷ ns) (names_kept es)
   names_kept (named_entries.Moved name to ∷ es) = ap (λ (ns : List (List ℕ)). name ∷ ns) (names_kept es)
 
-  slots_kept : (ds : List ClassDecl) → map names_in (faces_of ks ds) ≡ map own_names ds
+  pub slots_kept : (ds : List ClassDecl) → map names_in (faces_of ks ds) ≡ map own_names ds
   slots_kept [] = refl
   slots_kept (c ∷ ds) =
       ap (λ (ns : List (List ℕ)). ns ∷ map names_in (faces_of ks ds)) (names_kept c.face.entries)
@@ -90,7 +91,7 @@ a_directory ks ss = record { keys = ks; slots = ss }
 
 directory_kept : (ks : List ClassKey) (r : Release) → library_directory (faces_of ks r.classes) ≡ release_directory r
 directory_kept ks r =
-    ap (λ (l : List ClassKey). a_directory (kernel_directory.keys ++ l) (kernel_directory.slots ++ map names_in (faces_of ks r.classes))) (keys_kept ks r.classes)
+    ap (λ (l : List ClassKey). a_directory (kernel_directory.keys ++ l) (kernel_directory.slots ++ map names_in (faces_of ks r.classes))) (keys_kept ks modules.Library r.classes)
     ∙ ap (λ (l : List (List (List ℕ))). a_directory (kernel_directory.keys ++ map own_key r.classes) (kernel_directory.slots ++ l)) (slots_kept ks r.classes)
 
 -- ---- all classes

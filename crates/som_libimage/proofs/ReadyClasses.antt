@@ -96,7 +96,7 @@ stand_before before (c ∷ cs) h =
       subst (λ (l : List Class). AllByRecursion (λ (x : Class). NamesBefore (keys_of l) x.decl.face) cs) (append_assoc before (c ∷ []) cs) later,
     )
 
-all_front : (P : ClassKey → Type 0) (xs ys : List ClassKey) → AllByRecursion P (xs ++ ys) → AllByRecursion P xs
+pub all_front : (P : ClassKey → Type 0) (xs ys : List ClassKey) → AllByRecursion P (xs ++ ys) → AllByRecursion P xs
 all_front P [] ys h = tt
 all_front P (x ∷ xs) ys h = (h.0, all_front P xs ys h.1)
 
@@ -128,6 +128,45 @@ module _ (cs : List Class) where
   value_known values.Str h = tt
   value_known (values.Class k) h = known_mem cs k h
 
+  -- what the rule on types tells of an entry
+  abbrev pub types_told : Class → Entry → List Breach
+  types_told c (entries.Introduced name sig way) = demand_of 5 c name (is_known cs sig.result && every (is_value_type cs) sig.params)
+  types_told c (entries.Moved name to) = []
+
+  -- among these classes and maybe more, where an ancestor that introduces the name of a moved entry is one of these
+  module _ (all : List Class) (c : Class) (ancestor : (to : ClassKey) (name : List ℕ) → is_proper all c to ≡ true → introduces all name to ≡ true → Mem to ks) where
+    abbrev moves_told : Entry → List Breach
+    moves_told (entries.Introduced name sig way) = []
+    moves_told (entries.Moved name to) = demand_of 9 c name (is_proper all c to && introduces all name to)
+
+    entry_known : (e : Entry) → types_told c e ≡ [] → moves_told e ≡ [] → EntryKnown ks e
+    entry_known (entries.Introduced name sig way) t m =
+        let b = both (is_known cs sig.result) (every (is_value_type cs) sig.params) (demanded_of 5 c name (is_known cs sig.result && every (is_value_type cs) sig.params) t) in
+        record {
+          result = kind_known sig.result b.0;
+          params = All-from_recursion (IsValue ks) sig.params (all_map (λ p. is_value_type cs p ≡ true) (IsValue ks) value_known sig.params (every_all (is_value_type cs) sig.params b.1));
+        }
+    entry_known (entries.Moved name to) t m =
+        let b = both (is_proper all c to) (introduces all name to) (demanded_of 9 c name (is_proper all c to && introduces all name to) m) in
+        ancestor to name b.0 b.1
+
+    entries_known : (es : List Entry) → flat_map (types_told c) es ≡ [] → flat_map moves_told es ≡ [] → AllByRecursion (EntryKnown ks) es
+    entries_known [] t m = tt
+    entries_known (e ∷ es) t m =
+        let a = both_empty (types_told c e) (flat_map (types_told c) es) (sym (flat_map-cons (types_told c) e es) ∙ t) in
+        let b = both_empty (moves_told e) (flat_map moves_told es) (sym (flat_map-cons moves_told e es) ∙ m) in
+        (entry_known e a.0 b.0, entries_known es a.1 b.1)
+
+    -- a face that breaks no rule on types and moved entries, with parents and a metaclass that are there
+    pub face_known : NamesBefore ks c.decl.face → flat_map (types_told c) c.decl.face.entries ≡ [] → s9 all c ≡ [] → FaceKnown ks c.decl.face
+    face_known before types moves =
+        let f : ClassFace = c.decl.face in
+        record {
+          parents = All-from_recursion (λ k. Mem k ks) f.parents (all_front (λ k. Mem k ks) f.parents (option_list f.metaclass) before);
+          metaclass = of_option (λ k. Mem k ks) f.metaclass (all_back (λ k. Mem k ks) f.parents (option_list f.metaclass) before);
+          entries = All-from_recursion (EntryKnown ks) f.entries (entries_known f.entries types moves);
+        }
+
   -- a class that isn't known introduces nothing
   introducer : (k : ClassKey) (name : List ℕ) (o : Option Class) → class_at cs k ≡ o → introduces cs name k ≡ true → is_some (class_at cs k) ≡ true
   introducer k name (Some c) e h = some_known cs k c e
@@ -135,32 +174,8 @@ module _ (cs : List Class) where
       let none : introduces cs name k ≡ false = rw e refl in
       absurd (true≢false (sym h ∙ none))
 
-  -- what the rules on types and on moved entries tell of an entry
-  abbrev types_told : Class → Entry → List Breach
-  types_told c (entries.Introduced name sig way) = demand_of 5 c name (is_known cs sig.result && every (is_value_type cs) sig.params)
-  types_told c (entries.Moved name to) = []
-
-  abbrev moves_told : Class → Entry → List Breach
-  moves_told c (entries.Introduced name sig way) = []
-  moves_told c (entries.Moved name to) = demand_of 9 c name (is_proper cs c to && introduces cs name to)
-
-  entry_known : (c : Class) (e : Entry) → types_told c e ≡ [] → moves_told c e ≡ [] → EntryKnown ks e
-  entry_known c (entries.Introduced name sig way) t m =
-      let b = both (is_known cs sig.result) (every (is_value_type cs) sig.params) (demanded_of 5 c name (is_known cs sig.result && every (is_value_type cs) sig.params) t) in
-      record {
-        result = kind_known sig.result b.0;
-        params = All-from_recursion (IsValue ks) sig.params (all_map (λ p. is_value_type cs p ≡ true) (IsValue ks) value_known sig.params (every_all (is_value_type cs) sig.params b.1));
-      }
-  entry_known c (entries.Moved name to) t m =
-      let b = both (is_proper cs c to) (introduces cs name to) (demanded_of 9 c name (is_proper cs c to && introduces cs name to) m) in
-      known_mem cs to (introducer to name (class_at cs to) refl b.1)
-
-  entries_known : (c : Class) (es : List Entry) → flat_map (types_told c) es ≡ [] → flat_map (moves_told c) es ≡ [] → AllByRecursion (EntryKnown ks) es
-  entries_known c [] t m = tt
-  entries_known c (e ∷ es) t m =
-      let a = both_empty (types_told c e) (flat_map (types_told c) es) (sym (flat_map-cons (types_told c) e es) ∙ t) in
-      let b = both_empty (moves_told c e) (flat_map (moves_told c) es) (sym (flat_map-cons (moves_told c) e es) ∙ m) in
-      (entry_known c e a.0 b.0, entries_known c es a.1 b.1)
+  introducer_known : (c : Class) (to : ClassKey) (name : List ℕ) → is_proper cs c to ≡ true → introduces cs name to ≡ true → Mem to ks
+  introducer_known c to name proper h = known_mem cs to (introducer to name (class_at cs to) refl h)
 
   -- ---- overrides
 
@@ -278,18 +293,7 @@ names_new seen (c ∷ cs) h =
     let later = subst (λ (ns : List (List ℕ)). doubles bytes_eq ns (map name_of cs) ≡ []) (names_joined seen c) (names_new (seen ++ c ∷ []) cs b.1) in
     ap (λ (x : Bool). if x then name ∷ doubles bytes_eq (map name_of seen) (map name_of cs) else doubles bytes_eq (map name_of seen ++ name ∷ []) (map name_of cs)) new ∙ later
 
--- ---- faces and classes
-
-module _ (cs : List Class) where
-  -- a face that breaks no rule on types and moved entries, with parents and a metaclass that are there
-  pub face_known : (c : Class) → NamesBefore (keys_of cs) c.decl.face → flat_map (types_told cs c) c.decl.face.entries ≡ [] → s9 cs c ≡ [] → FaceKnown (keys_of cs) c.decl.face
-  face_known c before types moves =
-      let f : ClassFace = c.decl.face in
-      record {
-        parents = All-from_recursion (λ k. Mem k (keys_of cs)) f.parents (all_front (λ k. Mem k (keys_of cs)) f.parents (option_list f.metaclass) before);
-        metaclass = of_option (λ k. Mem k (keys_of cs)) f.metaclass (all_back (λ k. Mem k (keys_of cs)) f.parents (option_list f.metaclass) before);
-        entries = All-from_recursion (EntryKnown (keys_of cs)) f.entries (entries_known cs c f.entries types moves);
-      }
+-- ---- classes
 
 -- what is asked of a class by the rules
 pub record KeepsRules (cs : List Class) (c : Class) : Type 0 where
@@ -312,7 +316,7 @@ module _ (d : Directory) (cs : List Class) (tells : Tells d cs) where
       let own : Class = class_in home c in
       let es = c.face.entries in
       let t = both_empty (flat_map (types_told cs own) es) (flat_map (λ (v : Variable). demand_of 5 own v.name (is_value_type cs v.kind)) c.variables) keeps.types in
-      let face = face_known cs own keeps.before t.0 keeps.moves in
+      let face = face_known cs cs own (introducer_known cs own) keeps.before t.0 keeps.moves in
       let kinds = all_map (λ (v : Variable). demand_of 5 own v.name (is_value_type cs v.kind) ≡ []) (λ (v : Variable). IsValue (keys_of cs) v.kind) (λ v e. value_known cs v.kind (demanded_of 5 own v.name (is_value_type cs v.kind) e)) c.variables (flat_none (λ (v : Variable). demand_of 5 own v.name (is_value_type cs v.kind)) c.variables t.1) in
       let b = both_empty (demand 14 own (length c.bodies == length (introduced es))) (bodies_told own es c.bodies) keeps.bodies in
       let many : length c.bodies ≡ length (introduced es) = eqb-true _ _ (demanded 14 own (length c.bodies == length (introduced es)) b.0) in

@@ -1,6 +1,6 @@
 -- What was numbered can be written, whatever the ranges; and what is read is within the limits.
-use Rattle.std.proofs.Common.{◌≡◌, ℕ, ◌+◌, ◌≤◌, ◌<◌, ◌^◌, zero, suc, List, [], ◌∷◌, length, map, Result, Ok, Err, sym, ap, subst, ◌∙◌, arith}
-use Rattle.std.specs.Prelude.{All, IfOk, false, slice_index}
+use Rattle.std.proofs.Common.{◌≡◌, ℕ, ◌+◌, ◌≤◌, ◌<◌, ◌^◌, List, [], ◌∷◌, length, map, Result, Ok, Err, sym, ap, subst, ◌∙◌, arith}
+use Rattle.std.specs.Prelude.{All, IfOk}
 use Rattle.std.specs.List.{AllByRecursion}
 use Rattle.std.proofs.lemmas.List.{length-map}
 use Rattle.std.proofs.lemmas.List.Sums.{count_by-le-length}
@@ -15,16 +15,13 @@ use Rattle.som_wire.specs.declared.entry.WireEntry.{WireEntry}
 use Rattle.som_wire.specs.declared.entry.WireEntry.TheVariants as entries
 use Rattle.som_wire.specs.declared.face.WireFace.{WireFace}
 use Rattle.som_wire.specs.declared.method.Ranges.{Ranges}
-use Rattle.som_wire.specs.declared.method.WireMethod.{WireMethod}
-use Rattle.som_wire.specs.Spelling.{most_classes, FitsEntry, FitsFace, FitsMethod, FitsSomeRanges}
+use Rattle.som_wire.specs.Spelling.{AreShort, FitsEntry, FitsFace, FitsMethod}
 use Rattle.som_blocks.specs.declared.syntax.WireBody.{WireBody}
 use Rattle.som_blocks.specs.declared.syntax.WireBody.TheVariants as bodies
 use Rattle.som_blocks.specs.declared.syntax.WireOverride.{WireOverride}
 use Rattle.som_blocks.specs.declared.syntax.WirePart.{WirePart}
-use Rattle.som_blocks.specs.declared.syntax.WireVariable.{WireVariable}
-use Rattle.som_blocks.specs.declared.syntax.WireBlock.{WireBlock}
-use Rattle.som_blocks.specs.Fitting.{levels_left, FitsBlock, FitsVariable, FitsBody, FitsOverride, FitsPart, FitsSomeBlock, FitsSomePart}
-use Rattle.som_blocks.proofs.Fits.{kind_more, block_more}
+use Rattle.som_blocks.specs.Fitting.{FitsVariable, FitsBody, FitsOverride, FitsSomePart}
+use Rattle.som_blocks.proofs.SomeFits.{part_some}
 use Rattle.som_naming.specs.declared.directory.Directory.{Directory}
 use Rattle.som_naming.specs.Naming.{library_directory, key_at, kind_named, ranges_in}
 use Rattle.som_naming.specs.BlockLimits.{TextWithin, BlockWithin}
@@ -36,7 +33,7 @@ use Rattle.som_libimage.specs.Naming.{entry_named, face_named, variable_named, b
 use Rattle.som_libimage.specs.Limits.{EntryWithin, FaceWithin, BodyWithin, ClassWithin, IsWithinLimits}
 use Rattle.som_libimage.specs.Numbering.{release_numbered}
 use Rattle.som_libimage.proofs.Naming.{ranges_known}
-use Rattle.som_libimage.proofs.LibraryFields.{faces_few}
+use Rattle.som_libimage.proofs.LibraryFields.{faces_few, ranges_short}
 use Rattle.som_libimage.proofs.BlocksWithin.{block_within}
 use Rattle.som_libimage.proofs.NumberedReleases.{ReleaseTurns}
 
@@ -52,62 +49,21 @@ turned_fits r t (Err x) e = tt
 
 -- ---- what fits some ranges can be written
 
-all_more : {A : Type 0} (P Q : A → Type 0) → ((x : A) → P x → Q x) → (xs : List A) → All P xs → All Q xs
-all_more P Q f xs h = All-from_recursion Q xs (all_map P Q f xs (recursion_from_All P xs h))
+few_bodies : (f : WireFace) → length f.entries ≤ MAX_ENTRIES → introduced_count f < 2 ^ 16
+few_bodies f h = let c = count_by-le-length is_introduced f.entries in omega (arith, c, h)
 
--- each class has few entries
-few_at : (ns : List ℕ) (i : ℕ) → AllByRecursion (λ n. n ≤ MAX_ENTRIES) ns → slice_index ns i ≤ MAX_ENTRIES
-few_at [] i h = omega arith
-few_at (n ∷ ns) zero h = h.0
-few_at (n ∷ ns) (suc i) h = few_at ns i h.1
+parts_some : (ranges : Ranges) → AreShort ranges → (fs : List WireFace) (ps : List WirePart) → AllByRecursion (λ (f : WireFace). length f.entries ≤ MAX_ENTRIES) fs → FitsParts ranges fs ps → AllByRecursion FitsSomePart ps
+parts_some ranges short [] [] entries h = tt
+parts_some ranges short [] (p ∷ ps) entries h = absurd h
+parts_some ranges short (f ∷ fs) [] entries h = absurd h
+parts_some ranges short (f ∷ fs) (p ∷ ps) entries h = (part_some ranges short (introduced_count f) (few_bodies f entries.0) p h.0, parts_some ranges short fs ps entries.1 h.1)
 
-module _ (ranges : Ranges) (classes : ranges.classes ≤ most_classes) (few : AllByRecursion (λ n. n ≤ MAX_ENTRIES) ranges.entries) where
-  method_some : (m : WireMethod) → FitsMethod ranges m → FitsSomeRanges m
-  method_some m h = let slot = few_at ranges.entries m.class few in record { class = omega (arith, h.class, classes); slot = omega (arith, h.slot, slot) }
-
-  pub block_some : (b : WireBlock) → FitsBlock (levels_left 1) ranges.classes (FitsMethod ranges) b → FitsSomeBlock b
-  block_some b h = block_more ranges.classes most_classes classes (FitsMethod ranges) FitsSomeRanges method_some (levels_left 1) (levels_left 1) (omega arith) b h
-
-  variable_some : (v : WireVariable) → FitsVariable ranges.classes v → FitsVariable most_classes v
-  variable_some v h = record { name = h.name; kind = kind_more ranges.classes most_classes false false classes (λ p. p) v.kind h.kind }
-
-  body_some : (b : WireBody) → FitsBody ranges.classes (FitsMethod ranges) b → FitsBody most_classes FitsSomeRanges b
-  body_some (bodies.User b) h = block_some b h
-  body_some (bodies.Get n) h = h
-  body_some (bodies.Set n) h = h
-
-  override_some : (o : WireOverride) → FitsOverride ranges.classes (FitsMethod ranges) o → FitsOverride most_classes FitsSomeRanges o
-  override_some o h = record { method = method_some o.method h.method; block = block_some o.block h.block }
-
-  part_some : (introduced : ℕ) → introduced < 2 ^ 16 → (p : WirePart) → FitsPart ranges introduced p → FitsSomePart p
-  part_some introduced small p h = record {
-    variables = (h.variables.0, h.variables.1, all_more (FitsVariable ranges.classes) (FitsVariable most_classes) variable_some p.variables h.variables.2);
-    bodies = (omega (arith, h.bodies.0, small), all_more (FitsBody ranges.classes (FitsMethod ranges)) (FitsBody most_classes FitsSomeRanges) body_some p.bodies h.bodies.1);
-    overrides = (h.overrides.0, h.overrides.1, all_more (FitsOverride ranges.classes (FitsMethod ranges)) (FitsOverride most_classes FitsSomeRanges) override_some p.overrides h.overrides.2);
-  }
-
-  few_bodies : (f : WireFace) → length f.entries ≤ MAX_ENTRIES → introduced_count f < 2 ^ 16
-  few_bodies f h = let c = count_by-le-length is_introduced f.entries in omega (arith, c, h)
-
-  pub parts_some : (fs : List WireFace) (ps : List WirePart) → AllByRecursion (λ (f : WireFace). length f.entries ≤ MAX_ENTRIES) fs → FitsParts ranges fs ps → AllByRecursion FitsSomePart ps
-  parts_some [] [] entries h = tt
-  parts_some [] (p ∷ ps) entries h = absurd h
-  parts_some (f ∷ fs) [] entries h = absurd h
-  parts_some (f ∷ fs) (p ∷ ps) entries h = (part_some (introduced_count f) (few_bodies f entries.0) p h.0, parts_some fs ps entries.1 h.1)
-
--- no class has more entries than a class may have
-pub few_entries : (fs : List WireFace) → AllByRecursion (λ (f : WireFace). length f.entries ≤ MAX_ENTRIES) fs → AllByRecursion (λ n. n ≤ MAX_ENTRIES) ((ranges_of fs).entries)
-few_entries fs few = (omega arith, (omega arith, (omega arith, (omega arith, all_mapped (λ n. n ≤ MAX_ENTRIES) (λ (f : WireFace). length f.entries) fs few))))
-
--- parts that fit the ranges of so many faces, of which these are some, can be written
-pub parts_written : (all fs : List WireFace) (ps : List WirePart) → length all + 4 ≤ most_classes → All (λ (f : WireFace). length f.entries ≤ MAX_ENTRIES) all → All (λ (f : WireFace). length f.entries ≤ MAX_ENTRIES) fs → FitsParts (ranges_of all) fs ps → All FitsSomePart ps
-parts_written all fs ps many few own fits =
-    All-from_recursion FitsSomePart ps (parts_some (ranges_of all) many (few_entries all (recursion_from_All (λ (f : WireFace). length f.entries ≤ MAX_ENTRIES) all few)) fs ps (recursion_from_All (λ (f : WireFace). length f.entries ≤ MAX_ENTRIES) fs own) fits)
+-- parts of such faces that fit some ranges can be written
+pub parts_written : (ranges : Ranges) → AreShort ranges → (fs : List WireFace) (ps : List WirePart) → All (λ (f : WireFace). length f.entries ≤ MAX_ENTRIES) fs → FitsParts ranges fs ps → All FitsSomePart ps
+parts_written ranges short fs ps few fits = All-from_recursion FitsSomePart ps (parts_some ranges short fs ps (recursion_from_All (λ (f : WireFace). length f.entries ≤ MAX_ENTRIES) fs few) fits)
 
 pub parts_fit_some : (w : WireRelease) → FitsRelease w → All FitsSomePart w.parts
-parts_fit_some w fits =
-    let few = faces_few 4 MAX_LIBRARY_CLASSES w.faces fits.faces in
-    parts_written w.faces w.faces w.parts (omega (arith, fits.faces.1)) few few fits.parts
+parts_fit_some w fits = parts_written (ranges_of w.faces) (ranges_short w.faces fits.faces) w.faces w.parts (faces_few 4 MAX_LIBRARY_CLASSES w.faces fits.faces) fits.parts
 
 -- ---- what is named is within the limits
 

@@ -1,4 +1,4 @@
-use Rattle.som_cliimage.proofs.Written.{parts_written_of, main_written, program_whole}
+use Rattle.som_cliimage.proofs.Written.{parts_written_of, main_written}
 use Rattle.som_cliimage.proofs.program.write_program.Goals as goal
 
 pub append_parts-requires : goal.append_parts-requires
