@@ -104,7 +104,7 @@ fn number_all(alloc: Global, program: &ClientProgram) -> Result<WireProgram, NoM
     let classes = program.classes.as_slice();
     let faces = number_faces(alloc, &names, &directory, classes)?;
     let parts = number_parts(alloc, &names, &directory, classes)?;
-    let main = number_block(alloc, &names, &directory, &program.main)?;
+    let main = number_block(alloc, &directory, &names, &program.main)?;
     Ok(WireProgram {
         base,
         faces,

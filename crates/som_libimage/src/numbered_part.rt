@@ -62,7 +62,7 @@ fn number_body(
     ensures { IfOk result (λ numbered. numbered ≡ body_numbered directory.now body.now) }
 {
     match body {
-        Body::User(block) => Ok(WireBody::User(number_block(alloc, names, directory, block)?)),
+        Body::User(block) => Ok(WireBody::User(number_block(alloc, directory, names, block)?)),
         Body::Get(variable) => Ok(WireBody::Get(*variable)),
         Body::Set(variable) => Ok(WireBody::Set(*variable)),
     }
@@ -97,7 +97,7 @@ fn number_override(
 {
     Ok(WireOverride {
         method: directory.number_method(names, &replaced.method),
-        block: number_block(alloc, names, directory, &replaced.block)?,
+        block: number_block(alloc, directory, names, &replaced.block)?,
     })
 }
 
