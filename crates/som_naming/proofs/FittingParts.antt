@@ -28,8 +28,12 @@ module _ (d : Directory) where
   abbrev At : ℕ → WireExpr → Type 0
   At left e = FitsExpr left classes Method e
 
+  fits_at : (left : ℕ) (e : WireExpr) → At left e → ExprFits d e
+  unfolding ExprFits
+  fits_at left e h = (left, h)
+
   args_some : (left : ℕ) (es : List WireExpr) → FitsArgs (At left) es → FitsArgs (ExprFits d) es
-  args_some left es h = (h.0, h.1, all_some (At left) (ExprFits d) (λ e k. (left, k)) es h.2)
+  args_some left es h = (h.0, h.1, all_some (At left) (ExprFits d) (fits_at left) es h.2)
 
   parts_some : (left : ℕ) (layer : WireExpr-F WireExpr) → FitsExprParts classes Method (At left) layer → FitsExprParts classes Method (ExprFits d) layer
   parts_some left (WireExpr-F.Long z) h = h
@@ -39,24 +43,24 @@ module _ (d : Directory) where
   parts_some left (WireExpr-F.Local n) h = h
   parts_some left WireExpr-F.Me h = h
   parts_some left (WireExpr-F.Variable n) h = h
-  parts_some left (WireExpr-F.Unary op e) h = (h.0, (left, h.1))
-  parts_some left (WireExpr-F.Binary op a b) h = (h.0, (left, h.1), (left, h.2))
+  parts_some left (WireExpr-F.Unary op e) h = (h.0, fits_at left e h.1)
+  parts_some left (WireExpr-F.Binary op a b) h = (h.0, fits_at left a h.1, fits_at left b h.2)
   parts_some left (WireExpr-F.New c) h = h
   parts_some left (WireExpr-F.Class c) h = h
   parts_some left WireExpr-F.Manager h = h
-  parts_some left (WireExpr-F.Cast c e) h = (h.0, (left, h.1))
-  parts_some left (WireExpr-F.Isa c e) h = (h.0, (left, h.1))
-  parts_some left (WireExpr-F.Proxy c e) h = (h.0, (left, h.1))
-  parts_some left (WireExpr-F.OffsetCall m e es) h = (h.0, (left, h.1), args_some left es h.2)
-  parts_some left (WireExpr-F.Lookup t name e es) h = (h.0, h.1, (left, h.2), args_some left es h.3)
-  parts_some left (WireExpr-F.Dispatch t name e es) h = (h.0, h.1, (left, h.2), args_some left es h.3)
+  parts_some left (WireExpr-F.Cast c e) h = (h.0, fits_at left e h.1)
+  parts_some left (WireExpr-F.Isa c e) h = (h.0, fits_at left e h.1)
+  parts_some left (WireExpr-F.Proxy c e) h = (h.0, fits_at left e h.1)
+  parts_some left (WireExpr-F.OffsetCall m e es) h = (h.0, fits_at left e h.1, args_some left es h.2)
+  parts_some left (WireExpr-F.Lookup t name e es) h = (h.0, h.1, fits_at left e h.2, args_some left es h.3)
+  parts_some left (WireExpr-F.Dispatch t name e es) h = (h.0, h.1, fits_at left e h.2, args_some left es h.3)
   parts_some left (WireExpr-F.ParentCall n m es) h = (h.0, h.1, args_some left es h.2)
   parts_some left (WireExpr-F.ParentsCall m es) h = (h.0, args_some left es h.1)
-  parts_some left (WireExpr-F.Host code a b) h = ((left, h.0), (left, h.1))
+  parts_some left (WireExpr-F.Host code a b) h = (fits_at left a h.0, fits_at left b h.1)
 
   -- the parts of an expression
   expr_parts : (e : WireExpr) → ExprFits d e → FitsExprParts classes Method (ExprFits d) (out-WireExpr e)
-  unfolding FitsExpr
+  unfolding FitsExpr ExprFits
   expr_parts e (zero, h) = absurd h
   expr_parts e (suc left, h) = parts_some left (out-WireExpr e) h
 
@@ -74,24 +78,28 @@ module _ (d : Directory) where
   abbrev StmtAt : ℕ → WireStmt → Type 0
   StmtAt left s = FitsStmt left classes Method s
 
+  stmt_fits_at : (left : ℕ) (s : WireStmt) → StmtAt left s → StmtFits d s
+  unfolding StmtFits
+  stmt_fits_at left s h = (left, h)
+
   -- statements that fit where so many levels are left fit
   pub block_some : (left : ℕ) (b : WireBlock) → FitsStatements (StmtAt left) b → BlockFits d b
-  block_some left b h = all_some (StmtAt left) (StmtFits d) (λ s k. (left, k)) b.statements h.1
+  block_some left b h = all_some (StmtAt left) (StmtFits d) (stmt_fits_at left) b.statements h.1
 
   stmt_parts_some : (left : ℕ) (layer : WireStmt-F WireStmt WireBlock) → FitsStmtParts classes (At left) (CallAt left) (FitsStatements (StmtAt left)) layer → FitsStmtParts classes (ExprFits d) CallFits (BlockFits d) layer
-  stmt_parts_some left (WireStmt-F.Var t e) h = (h.0, (left, h.1))
-  stmt_parts_some left (WireStmt-F.SetLocal n e) h = (h.0, (left, h.1))
-  stmt_parts_some left (WireStmt-F.SetVariable n e) h = (h.0, (left, h.1))
-  stmt_parts_some left (WireStmt-F.If e a b) h = ((left, h.0), block_some left a h.1, block_some left b h.2)
-  stmt_parts_some left (WireStmt-F.While e b) h = ((left, h.0), block_some left b h.1)
+  stmt_parts_some left (WireStmt-F.Var t e) h = (h.0, fits_at left e h.1)
+  stmt_parts_some left (WireStmt-F.SetLocal n e) h = (h.0, fits_at left e h.1)
+  stmt_parts_some left (WireStmt-F.SetVariable n e) h = (h.0, fits_at left e h.1)
+  stmt_parts_some left (WireStmt-F.If e a b) h = (fits_at left e h.0, block_some left a h.1, block_some left b h.2)
+  stmt_parts_some left (WireStmt-F.While e b) h = (fits_at left e h.0, block_some left b h.1)
   stmt_parts_some left WireStmt-F.Return h = h
-  stmt_parts_some left (WireStmt-F.ReturnValue e) h = (left, h)
-  stmt_parts_some left (WireStmt-F.Print e) h = (left, h)
-  stmt_parts_some left (WireStmt-F.Free e) h = (left, h)
-  stmt_parts_some left (WireStmt-F.Call e) h = ((left, h.0), h.1)
+  stmt_parts_some left (WireStmt-F.ReturnValue e) h = fits_at left e h
+  stmt_parts_some left (WireStmt-F.Print e) h = fits_at left e h
+  stmt_parts_some left (WireStmt-F.Free e) h = fits_at left e h
+  stmt_parts_some left (WireStmt-F.Call e) h = (fits_at left e h.0, h.1)
 
   stmt_parts : (s : WireStmt) → StmtFits d s → FitsStmtParts classes (ExprFits d) CallFits (BlockFits d) (out-WireStmt s)
-  unfolding FitsStmt
+  unfolding FitsStmt StmtFits
   stmt_parts s (zero, h) = absurd h
   stmt_parts s (suc left, h) = stmt_parts_some left (out-WireStmt s) h
 

@@ -72,10 +72,10 @@ block_named d = fold-WireBlock Stmt Block (stmt_named_step d) block_named_step
 -- ---- what can be named
 
 -- an expression that fits a directory, where some levels are left
-abbrev pub ExprFits : Directory → WireExpr → Type 0
+unfoldable pub ExprFits : Directory → WireExpr → Type 0
 ExprFits d e = (left : ℕ) × FitsExpr left (ranges_in d).classes (FitsMethod (ranges_in d)) e
 
-abbrev pub StmtFits : Directory → WireStmt → Type 0
+unfoldable pub StmtFits : Directory → WireStmt → Type 0
 StmtFits d s = (left : ℕ) × FitsStmt left (ranges_in d).classes (FitsMethod (ranges_in d)) s
 
 abbrev pub BlockFits : Directory → WireBlock → Type 0
