@@ -15,3 +15,4 @@ pub mod StmtsBack
 pub mod TypedBlocks
 pub mod KnownMethods
 pub mod TurnedBlocks
+pub mod FoundNames

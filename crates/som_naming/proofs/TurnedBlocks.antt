@@ -39,6 +39,10 @@ a_block ss = record { statements = ss }
 abbrev a_wire_block : List WireStmt → WireBlock
 a_wire_block ss = record { statements = ss }
 
+-- a block, by its statements
+pub block_is : (d : Directory) (b : Block) → block_numbered d b ≡ a_wire_block (map (stmt_numbered d) b.statements)
+block_is d b = fold-roll-Block WireStmt WireBlock (stmt_step d) block_step (record { statements = b.statements })
+
 module _ (d : Directory) where
   abbrev classes : ℕ
   classes = length d.keys
@@ -224,7 +228,7 @@ module _ (d : Directory) where
   block_turns : (Ready : Stmt → Type 0) (Fits : WireStmt → Type 0) → ((s : Stmt) → Ready s → TurnsBack Fits (stmt_named d) (stmt_numbered d) s) → (b : Block) → StatementsWithin Ready b → TurnsBack (FitsStatements Fits) (block_named d) (block_numbered d) b
   block_turns Ready Fits one b ready =
       let ss = counted_turn Fits (stmt_named d) (stmt_numbered d) 0 (length b.statements) b.statements (omega arith) (omega arith) (each_of Ready (TurnsBack Fits (stmt_named d) (stmt_numbered d)) one b.statements ready.1) in
-      let numbered : block_numbered d b ≡ a_wire_block (map (stmt_numbered d) b.statements) = fold-roll-Block WireStmt WireBlock (stmt_step d) block_step (record { statements = b.statements }) in
+      let numbered : block_numbered d b ≡ a_wire_block (map (stmt_numbered d) b.statements) = block_is d b in
       record {
         fits = subst (FitsStatements Fits) (sym numbered) (omega (arith, ready.0, length-map b.statements (stmt_numbered d)), ss.fits.2);
         names = ap (block_named d) numbered ∙ fold-roll-WireBlock Stmt Block (stmt_named_step d) block_named_step (record { statements = map (stmt_numbered d) b.statements }) ∙ ap a_block ss.names;

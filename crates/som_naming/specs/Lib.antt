@@ -4,3 +4,4 @@ pub mod NamedBlocks
 pub mod NumberedBlocks
 pub mod BlockLimits
 pub mod ReadyBlocks
+pub mod FoundNames

@@ -6,15 +6,19 @@
 #![tactic(auto)]
 
 mod directory;
+mod found;
 mod laws;
 mod lookup;
 mod named;
 mod named_block;
 mod named_expr;
+mod numbered_block;
+mod numbered_expr;
 mod numbered_laws;
 
 pub use directory::Directory;
 pub use laws::named_blocks_are_spelled;
 pub use named::{key_of, name_kind};
 pub use named_block::name_block;
+pub use numbered_block::number_block;
 pub use numbered_laws::{ready_blocks_turn_back, typed_blocks_are_ready};
