@@ -1,6 +1,6 @@
 -- A client program is spelled as the image that it is named from, and each program with a spelling is named from one.
-use Rattle.std.proofs.Common.{◌≡◌, ℕ, ◌+◌, ◌≤◌, Bool, false, List, [], ◌∷◌, ◌++◌, length, map, Some, refl, sym, ap, subst, ◌∙◌, append_assoc, arith}
-use Rattle.std.specs.Prelude.{nat_le, codes}
+use Rattle.std.proofs.Common.{◌≡◌, ℕ, ◌+◌, ◌≤◌, Bool, List, [], ◌∷◌, ◌++◌, length, map, Some, refl, sym, ap, subst, ◌∙◌, append_assoc, arith}
+use Rattle.std.specs.Prelude.{false, nat_le, codes}
 use Rattle.std.specs.List.{flat_map, AllByRecursion, IsDistinct}
 use Rattle.std.specs.Str.{bytes_eq}
 use Rattle.std.specs.Int.{w16, to_be_bytes}
@@ -40,7 +40,7 @@ use Rattle.som_naming.proofs.Spelled.{some_bytes, bytes_are, split, guarded}
 use Rattle.som_naming.proofs.NamedStmts.{block_forth}
 use Rattle.som_naming.proofs.StmtsBack.{block_back}
 use Rattle.som_libimage.specs.Reading.{ranges_of}
-use Rattle.som_libimage.specs.Spelling.{FitsParts, head}
+use Rattle.som_libimage.specs.Spelling.{FitsClass, FitsParts, head}
 use Rattle.som_libimage.specs.Naming.{face_named, classes_named, interface_named}
 use Rattle.som_libimage.specs.Libraries.{NamesDiffer, interface_image, NamedFrom}
 use Rattle.som_libimage.specs.Limits.{ClassWithin}
@@ -99,9 +99,6 @@ client_ranges_known base own =
 
 -- ---- no doubles
 
-client_key : WireFace → ClassKey
-client_key = key_in modules.Client
-
 abbrev Apart : List WireFace → ClassKey → Type 0
 Apart own x = AllByRecursion (λ y. same_key x y ≡ false) (map (key_in modules.Client) own)
 
@@ -141,7 +138,7 @@ program_forth w fits differ =
     let d : Directory = client_directory w.base fs in
     let p : ClientProgram = program_named w in
     let cs : List Class = known_to p in
-    let same : length fs ≡ length w.parts = fit_length _ fs w.parts fits.parts in
+    let same : length fs ≡ length w.parts = fit_length (FitsClass (client_ranges w.base fs)) fs w.parts fits.parts in
     let tells : Tells d cs = told (library_directory w.base).keys d w.base fs w.parts same in
     let base_distinct = distinct_of (library_directory w.base).keys w.base differ.base in
     let own_distinct = distinct_of d.keys fs (subst NamesDiffer (faces_kept d fs w.parts same) differ.own) in
@@ -181,7 +178,7 @@ a_program base cls main = record { base = base; classes = cls; main = main }
 abbrev a_directory : ClientProgram → Directory
 a_directory p = directory_of (map key_of (known_to p)) (map entry_names (known_to p))
 
-FitsHere : Directory → WireBlock → Type 0
+abbrev FitsHere : Directory → WireBlock → Type 0
 FitsHere d b = FitsBlock (levels_left 1) (length d.keys) (FitsMethod (ranges_in d)) b
 
 -- from the classes and the main of a program to the image
@@ -192,7 +189,7 @@ finished p bytes b x y m le whole base own main main_spelled main_fits main_name
     let fs : List WireFace = own.faces in
     let bs : List WireFace = base.faces in
     let d : Directory = a_directory p in
-    let same : length fs ≡ length own.parts = fit_length _ fs own.parts own.pairs in
+    let same : length fs ≡ length own.parts = fit_length (FitsClass (ranges_in d)) fs own.parts own.pairs in
     let tells_by = told (library_directory bs).keys d bs fs own.parts same in
     let tells : Tells (client_directory bs fs) (known_to p) =
     subst (λ (i : Interface). Tells (client_directory bs fs) (known_classes i.classes p.classes)) base.named (subst (λ (cls : List ClassDecl). Tells (client_directory bs fs) (known_classes (map (face_named (library_directory bs).keys) bs) cls)) own.names tells_by) in

@@ -25,7 +25,7 @@ use Rattle.som_blocks.proofs.StmtFields.{block_field}
 use Rattle.som_naming.proofs.Places.{all_joined}
 use Rattle.som_libimage.specs.Reading.{ranges_of, faces_after_at, faces_at, parts_at, head_at, at_end}
 use Rattle.som_libimage.specs.Spelling.{FitsFaces, FitsFacesAfter, FitsParts, head}
-use Rattle.som_libimage.proofs.LibraryFields.{faces_few, short_ranges, faces_field, library_faces_field, parts_field, head_takes, head_again, all_bytes, stands_whole, ends_there}
+use Rattle.som_libimage.proofs.LibraryFields.{faces_few, short_ranges, faces_after_field, faces_field, parts_field, head_takes, head_again, all_bytes, stands_whole, ends_there}
 use Rattle.som_cliimage.specs.declared.wire.WireProgram.{WireProgram}
 use Rattle.som_cliimage.specs.Reading.{client_ranges, own_faces_at, program_at, wire_at}
 use Rattle.som_cliimage.specs.Spelling.{FitsOwnFaces, FitsMain, bodies, program, FitsProgram, client}
@@ -71,9 +71,9 @@ after_base bytes base = own_faces_at base.value bytes base.next >>= after_own ba
 program_takes : (bytes : List ℕ) → AreBytes bytes → (place : ℕ) (r : Read WireProgram) → place ≤ length bytes → program_at bytes place ≡ Ok r → Stands bytes place (program r.value) r.next × FitsProgram r.value
 unfolding program_at
 program_takes bytes all place r le e =
-    let b = took faces_at spell_faces FitsFaces library_faces_field bytes all place le (after_base bytes) r e in
+    let b = took faces_at spell_faces FitsFaces faces_field bytes all place le (after_base bytes) r e in
     let base : List WireFace = b.0.value in
-    let o = took (own_faces_at base) spell_faces (FitsOwnFaces base) (faces_field (length base + 4) MAX_CLIENT_CLASSES (own_small base b.2)) bytes all b.0.next b.1.within (after_own base bytes) r b.3 in
+    let o = took (own_faces_at base) spell_faces (FitsOwnFaces base) (faces_after_field (length base + 4) MAX_CLIENT_CLASSES (own_small base b.2)) bytes all b.0.next b.1.within (after_own base bytes) r b.3 in
     let own : List WireFace = o.0.value in
     let ranges : Ranges = client_ranges base own in
     let short = ranges_short base own b.2 o.2 in
@@ -89,9 +89,9 @@ unfolding program_at
 program_again bytes place v next h fits =
     let ranges : Ranges = client_ranges v.base v.faces in
     let short = ranges_short v.base v.faces fits.base fits.faces in
-    let b = went faces_at spell_faces FitsFaces library_faces_field bytes place v.base (spell_faces v.faces ++ bodies v) next h fits.base in
+    let b = went faces_at spell_faces FitsFaces faces_field bytes place v.base (spell_faces v.faces ++ bodies v) next h fits.base in
     let p1 : ℕ = place + length (spell_faces v.base) in
-    let o = went (own_faces_at v.base) spell_faces (FitsOwnFaces v.base) (faces_field (length v.base + 4) MAX_CLIENT_CLASSES (own_small v.base fits.base)) bytes p1 v.faces (bodies v) next b.1 fits.faces in
+    let o = went (own_faces_at v.base) spell_faces (FitsOwnFaces v.base) (faces_after_field (length v.base + 4) MAX_CLIENT_CLASSES (own_small v.base fits.base)) bytes p1 v.faces (bodies v) next b.1 fits.faces in
     let p2 : ℕ = p1 + length (spell_faces v.faces) in
     let p = went (parts_at ranges v.faces) (flat_map part) (FitsPartsHere v.base v.faces) (parts_field ranges short v.faces) bytes p2 v.parts (block v.main) next o.1 fits.parts in
     let m = (block_field ranges short (levels_left 1)).again bytes (p2 + length (flat_map part v.parts)) v.main next p.1 fits.main in

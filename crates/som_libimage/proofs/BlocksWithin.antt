@@ -43,7 +43,7 @@ module _ (d : Directory) where
   -- ---- expressions, by those that can stand in them
 
   -- the outermost part of the expression that stands for one
-  expr_layer : WireExpr-F WireExpr → Expr-F Expr
+  abbrev expr_layer : WireExpr-F WireExpr → Expr-F Expr
   expr_layer (WireExpr-F.Long z) = Expr-F.Long z
   expr_layer (WireExpr-F.Str t) = Expr-F.Str t
   expr_layer (WireExpr-F.Boolean b) = Expr-F.Boolean b
@@ -134,7 +134,7 @@ module _ (d : Directory) where
   -- ---- statements, by what can stand in them
 
   -- the outermost part of the statement that stands for one
-  stmt_layer : WireStmt-F WireStmt WireBlock → Stmt-F Stmt Block
+  abbrev stmt_layer : WireStmt-F WireStmt WireBlock → Stmt-F Stmt Block
   stmt_layer (WireStmt-F.Var t e) = Stmt-F.Var (kind_named d.keys t) (expr_named d e)
   stmt_layer (WireStmt-F.SetLocal n e) = Stmt-F.SetLocal n (expr_named d e)
   stmt_layer (WireStmt-F.SetVariable n e) = Stmt-F.SetVariable n (expr_named d e)

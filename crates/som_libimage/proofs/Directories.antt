@@ -70,7 +70,7 @@ module _ (d : Directory) (cs : List Class) (tells : Tells d cs) where
           differ = subst Differ (sym names) differ;
           few = omega (arith, as_many_keys, many);
         };
-        names = refl;
+        are = refl;
         slots = as_many_slots ∙ sym as_many_keys;
         few = subst AllFew tells.slots (All-from_recursion (λ (ns : List (List ℕ)). length ns ≤ MAX_ENTRIES) (map entry_names cs) (all_few cs few));
       }

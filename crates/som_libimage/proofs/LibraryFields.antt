@@ -32,7 +32,7 @@ use Rattle.som_libimage.specs.declared.wire.WireRelease.{WireRelease}
 use Rattle.som_libimage.specs.Reading.{introduced_count, ranges_of, faces_after_at, faces_at, parts_at, classes_at, magic_at, head_at, at_end, wire_at}
 use Rattle.som_libimage.specs.Spelling.{FitsClass, FitsParts, FitsFacesAfter, FitsFaces, classes, FitsRelease, head, library}
 use Rattle.som_libimage.proofs.EachFields.{each_field}
-use Rattle.som_libimage.proofs.Places.{all_map}
+use Rattle.som_naming.proofs.Places.{all_map}
 
 -- ---- faces
 
@@ -64,11 +64,11 @@ module _ (before most : ℕ) (small : before + most < 2 ^ 16) where
       let many = (many_field (face_at (length v + before)) face (FitsFace (length v + before)) (face_field (length v + before) (omega (arith, small, few))) (length v)).again bytes (place + length (number w16 (length v))) v next n.1 (refl, fits.2) in
       rw (n.0, le-ltb most (length v) few, many) refl
 
-  pub faces_field : IsField (faces_after_at before most) spell_faces (FitsFacesAfter before most)
-  faces_field = record { takes = faces_takes; again = faces_again }
+  pub faces_after_field : IsField (faces_after_at before most) spell_faces (FitsFacesAfter before most)
+  faces_after_field = record { takes = faces_takes; again = faces_again }
 
-pub library_faces_field : IsField faces_at spell_faces FitsFaces
-library_faces_field = faces_field 4 MAX_LIBRARY_CLASSES (omega arith)
+pub faces_field : IsField faces_at spell_faces FitsFaces
+faces_field = faces_after_field 4 MAX_LIBRARY_CLASSES (omega arith)
 
 -- ---- ranges
 
@@ -112,14 +112,14 @@ after_faces bytes fs = parts_at (ranges_of fs.value) fs.value bytes fs.next >>= 
 classes_takes : (bytes : List ℕ) → AreBytes bytes → (place : ℕ) (r : Read WireRelease) → place ≤ length bytes → classes_at bytes place ≡ Ok r → Stands bytes place (classes r.value) r.next × FitsRelease r.value
 unfolding classes_at
 classes_takes bytes all place r le e =
-    let a = took faces_at spell_faces FitsFaces library_faces_field bytes all place le (after_faces bytes) r e in
+    let a = took faces_at spell_faces FitsFaces faces_field bytes all place le (after_faces bytes) r e in
     let b = took (parts_at (ranges_of a.0.value) a.0.value) (flat_map part) (FitsParts (ranges_of a.0.value) a.0.value) (parts_field (ranges_of a.0.value) (ranges_short a.0.value a.2) a.0.value) bytes all a.0.next a.1.within (after_parts a.0) r a.3 in
     came classes FitsRelease bytes place (record { faces = a.0.value; parts = b.0.value }) b.0.next r b.3 (Stands-join bytes place (spell_faces a.0.value) a.0.next (flat_map part b.0.value) b.0.next a.1 b.1) (record { faces = a.2; parts = b.2 })
 
 classes_again : (bytes : List ℕ) (place : ℕ) (v : WireRelease) (next : ℕ) → Stands bytes place (classes v) next → FitsRelease v → classes_at bytes place ≡ done v next
 unfolding classes_at
 classes_again bytes place v next h fits =
-    let a = went faces_at spell_faces FitsFaces library_faces_field bytes place v.faces (flat_map part v.parts) next h fits.faces in
+    let a = went faces_at spell_faces FitsFaces faces_field bytes place v.faces (flat_map part v.parts) next h fits.faces in
     let b = (parts_field (ranges_of v.faces) (ranges_short v.faces fits.faces) v.faces).again bytes (place + length (spell_faces v.faces)) v.parts next a.1 fits.parts in
     rw (a.0, b) refl
 
@@ -170,9 +170,11 @@ module _ (magic : List ℕ) where
   unfolding head_at
   head_again bytes next h =
       let place : ℕ = length magic in
-      let front : Stands bytes 0 magic place = Stands-front bytes 0 magic (1 ∷ []) next h in
+      let here : 0 + place ≡ place = omega arith in
+      let front = subst (λ (n : ℕ). Stands bytes 0 magic n) here (Stands-front bytes 0 magic (1 ∷ []) next h) in
+      let back = subst (λ (n : ℕ). Stands bytes n (1 ∷ []) next) here (Stands-back bytes 0 magic (1 ∷ []) next h) in
       let m = magic_again bytes place front in
-      let v = byte_field.again bytes place 1 next (Stands-back bytes 0 magic (1 ∷ []) next h) (omega arith) in
+      let v = byte_field.again bytes place 1 next back (omega arith) in
       rw (m, v) refl
 
 -- ---- whole images

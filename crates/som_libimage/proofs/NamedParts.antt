@@ -36,7 +36,7 @@ use Rattle.som_blocks.specs.declared.syntax.WirePart.{WirePart}
 use Rattle.som_blocks.specs.Spelling as spelling
 use Rattle.som_blocks.specs.Fitting.{FitsVariable, FitsBody, FitsOverride}
 use Rattle.som_naming.specs.declared.directory.Directory.{Directory}
-use Rattle.som_naming.specs.Naming.{kind_named, ranges_in}
+use Rattle.som_naming.specs.Naming.{kind_named, ranges_in, Tells, NoDoubles}
 use Rattle.som_naming.specs.NamedBlocks.{block_named}
 use Rattle.som_naming.specs.BlockLimits.{BlockWithin}
 use Rattle.som_naming.proofs.Places.{all_map, all_of}

@@ -36,8 +36,8 @@ use Rattle.som_naming.specs.declared.directory.Directory.{Directory}
 use Rattle.som_libimage.specs.Reading.{ranges_of}
 use Rattle.som_blocks.specs.Spelling as spelling
 use Rattle.som_libimage.specs.Spelling.{FitsClass, FitsParts, FitsRelease, library}
-use Rattle.som_naming.specs.Naming.{name_in, names_in, kernel_directory, library_directory, ranges_in}
-use Rattle.som_libimage.specs.Naming.{entry_named, face_named, print_of, block_named, body_named, override_named, class_named, classes_named, release_named}
+use Rattle.som_naming.specs.Naming.{name_in, names_in, kernel_directory, library_directory, ranges_in, entry_names, Tells, NoDoubles}
+use Rattle.som_libimage.specs.Naming.{entry_named, face_named, class_named, classes_named, release_named}
 use Rattle.som_naming.specs.Numbering.{Differ}
 use Rattle.som_libimage.specs.Libraries.{NamesDiffer}
 use Rattle.som_libimage.specs.Limits.{ClassWithin, IsWithinLimits}

@@ -29,7 +29,7 @@ use Rattle.som_model.specs.Class.{Class, class_in, entry_name, entry_of, introdu
 use Rattle.som_model.specs.Classes.{class_at, hierarchy}
 use Rattle.som_model.specs.Owner.{entry_at, introduces, owner, owner_within, sig_of}
 use Rattle.som_model.specs.Rules.{Breach, name_of, breach, demand, demand_of, is_known, is_value_type, is_proper, body_fits, s1, s2, s5, s9, s10, s14}
-use Rattle.som_model.specs.Typing.{Ruled, CodePlace, class_facts}
+use Rattle.som_model.specs.Typing.{Ruled, CodePlace, class_facts, in_body}
 use Rattle.som_model.specs.TypedBlocks.{Scope, block_scope}
 use Rattle.som_model.specs.Conforming.{each_after, block_breach, bodies_typed, override_typed, class_typed}
 use Rattle.som_model.proofs.KeyLaws.{both, exact_bytes, exact_keys}
@@ -207,7 +207,7 @@ module _ (cs : List Class) where
     override_told c o (Some sig) = block_breach cs c o.method.name sig o.block
 
     override_block : (c : Class) (o : Override) (s : Option Sig) → is_some s ≡ true → override_told c o s ≡ [] → BlockWithin o.block → BlockReady d o.block
-    override_block c o (Some sig) h t within = block_ready _ sig.params c o.method.name o.block within t
+    override_block c o (Some sig) h t within = block_ready (in_body c sig.result) sig.params c o.method.name o.block within t
     override_block c o None h t within = absurd (true≢false (sym h))
 
     overrides_ready : (c : Class) (before : List MethodRef) (os : List Override) → overrides_told c before os ≡ [] → flat_map (override_typed cs c) os ≡ [] → AllByRecursion (λ (o : Override). BlockWithin o.block) os → AllByRecursion (OverrideReady d) os
@@ -273,7 +273,7 @@ module _ (cs : List Class) (d : Directory) (tells : Tells d cs) where
   bodies_ready c (entries.Introduced name sig way ∷ es) (bodies.User b ∷ bs) few many h t within =
       let s = both_empty (demand_of 14 c name (body_fits c.decl.variables sig (bodies.User b))) (bodies_told c es bs) h in
       let u = both_empty (block_breach cs c name sig b) (bodies_typed cs c es bs) t in
-      (block_ready cs d tells _ sig.params c name b within.0 u.0, bodies_ready c es bs few (omega (arith, many)) s.1 u.1 within.1)
+      (block_ready cs d tells (in_body c sig.result) sig.params c name b within.0 u.0, bodies_ready c es bs few (omega (arith, many)) s.1 u.1 within.1)
   bodies_ready c (entries.Introduced name sig way ∷ es) (bodies.Get n ∷ bs) few many h t within =
       let s = both_empty (demand_of 14 c name (body_fits c.decl.variables sig (bodies.Get n))) (bodies_told c es bs) h in
       (body_byte c.decl.variables sig (bodies.Get n) few (demanded_of 14 c name (body_fits c.decl.variables sig (bodies.Get n)) s.0), bodies_ready c es bs few (omega (arith, many)) s.1 t within.1)

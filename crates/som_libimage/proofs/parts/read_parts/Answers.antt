@@ -22,7 +22,7 @@ read_at faces items bytes ranges face n i place r slice count is given =
 
 pub returns-in_err-part-clause-exact : goal.returns-in_err-part-clause-exact
 returns-in_err-part-clause-exact c =
-    let p = err_from_is_err_and c.from_residual-in_err-part.result c.from_residual-in_err-part.ensures.1 in
+    let p = err_from_is_err_and c.from_residual.result c.from_residual.ensures.1 in
     let faces = c.args.faces.now in
     let ranges = c.args.ranges.now in
     let h = read_at faces c.as_slice-face-items.result.now c.args.bytes.now ranges c.face-item.result c.introduced_count.result c.loop-face.face-index c.loop-face.next (Err c.in_err-part.field-0.0) c.as_slice-face-items.ensures c.introduced_count.ensures c.face-item.is c.in_err-part.ensures.exact in
