@@ -8,6 +8,7 @@
 #![tactic(auto)]
 
 mod client;
+mod directory;
 mod laws;
 mod named;
 mod numbered;

@@ -1,10 +1,6 @@
 ghost use Rattle.som_cliimage.specs.Limits.{IsWithinLimits};
 ghost use Rattle.som_cliimage.specs.Naming.{program_named};
-ghost use Rattle.som_cliimage.specs.Numbering.{
-  interface_directory,
-  program_directory,
-  program_numbered,
-};
+ghost use Rattle.som_cliimage.specs.Numbering.{program_numbered};
 ghost use Rattle.som_cliimage.specs.Spelling.{FitsProgram};
 ghost use Rattle.som_libimage.specs.Numbering.{FaceKnown, face_numbered};
 ghost use Rattle.som_model.specs.Conforming.{ProgramOk};
@@ -12,45 +8,14 @@ ghost use Rattle.som_naming.specs.Numbering.{IsDirectory};
 ghost use Rattle.som_order.specs.Names.{texts};
 ghost use Rattle.std.specs.Prelude.{◌≡◌, map, All, IfOk};
 
+use crate::directory::{interface_directory, program_directory};
 use crate::wire::WireProgram;
 use indexmap::IndexSet;
 use som_libimage::{number_face, number_faces, number_parts};
-use som_model::{ClassFace, ClassKey, ClientProgram, Interface, List, Module, NoMemory};
-use som_naming::{Directory, entry_names, number_block};
+use som_model::{ClassFace, ClientProgram, List, NoMemory};
+use som_naming::{Directory, number_block};
 use som_wire::WireFace;
 use std::alloc::Global;
-
-// The kernel's classes and those of an interface.
-fn interface_directory(alloc: Global, interface: &Interface) -> Result<Directory, NoMemory>
-    ensures { IfOk result (λ directory. directory ≡ interface_directory interface.now) }
-{
-    let mut directory = Directory::of_kernel(alloc)?;
-    for face in interface.classes.as_slice() {
-        directory.keys.push(ClassKey::Named {
-            module: Module::Library,
-            name: face.name.copy(alloc)?,
-        })?;
-        directory.slots.push(entry_names(alloc, &face.entries)?)?;
-    }
-    Ok(directory)
-}
-
-// The kernel's classes, those that a client was compiled against, and its own.
-fn program_directory(alloc: Global, program: &ClientProgram) -> Result<Directory, NoMemory>
-    ensures { IfOk result (λ directory. directory ≡ program_directory program.now) }
-{
-    let mut directory = interface_directory(alloc, &program.base)?;
-    for class in program.classes.as_slice() {
-        directory.keys.push(ClassKey::Named {
-            module: Module::Client,
-            name: class.face.name.copy(alloc)?,
-        })?;
-        directory
-            .slots
-            .push(entry_names(alloc, &class.face.entries)?)?;
-    }
-    Ok(directory)
-}
 
 fn number_each(
     alloc: Global,

@@ -50,7 +50,8 @@ fn read_counted_faces(
     )
 }
 
-/// Reads the number of some classes at a place, and their faces, which may name those classes and so many before them.
+/// Reads the number of some classes at a place, of which there are at most `most`, and their faces, which may name these
+/// classes and the `before` classes that have the numbers below.
 pub fn read_faces_after(
     alloc: Global,
     bytes: &List<u8>,

@@ -3,7 +3,7 @@ use Rattle.som_model.specs.declared.key.Module.TheVariants as modules
 use Rattle.som_model.specs.declared.key.ClassKey.TheVariants as keys
 use Rattle.som_model.specs.Class.{entry_name}
 use Rattle.som_cliimage.specs.Numbering.{interface_directory}
-use Rattle.som_cliimage.proofs.numbered.program_directory.Given as goal
+use Rattle.som_cliimage.proofs.directory.program_directory.Given as goal
 
 -- the keys and names of the base, and those so far
 abbrev pub invariant-loop-class : goal.invariant-loop-class
