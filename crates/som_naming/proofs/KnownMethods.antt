@@ -10,7 +10,7 @@ use Rattle.som_model.specs.Lists.{Mem, place_from}
 use Rattle.som_model.specs.Keys.{same_key}
 use Rattle.som_model.specs.Class.{Class, entry_name, entry_of}
 use Rattle.som_model.specs.Classes.{class_at, hierarchy}
-use Rattle.som_model.specs.Owner.{entry_at, introduces, owner, owner_within, sig_of}
+use Rattle.som_model.specs.Owner.{entry_at, introduces, owner, owner_within}
 use Rattle.som_model.specs.Typing.{class_facts}
 use Rattle.som_model.proofs.KeyLaws.{exact_bytes, exact_keys}
 use Rattle.som_naming.specs.declared.directory.Directory.{Directory}

@@ -49,6 +49,7 @@ fn name_statements(
 }
 
 #[cycle(named_block)]
+#[tactic(auto, using(crate::proofs::FittingParts::if_condition, crate::proofs::FittingParts::if_then, crate::proofs::FittingParts::if_other, crate::proofs::FittingParts::while_condition, crate::proofs::FittingParts::while_block))]
 fn name_stmt(alloc: Global, directory: &Directory, statement: &WireStmt) -> Result<Stmt, NoMemory>
     requires { StmtFits directory.now statement.now }
     ensures { IfOk result (λ named. named ≡ stmt_named directory.now statement.now) }

@@ -13,6 +13,7 @@ use std::alloc::Global;
 
 /// The expression that an expression of an image stands for.
 #[cycle(named_expr)]
+#[tactic(auto, using(crate::proofs::FittingParts::unary_of, crate::proofs::FittingParts::binary_left, crate::proofs::FittingParts::binary_right, crate::proofs::FittingParts::cast_of, crate::proofs::FittingParts::isa_of, crate::proofs::FittingParts::proxy_of, crate::proofs::FittingParts::offset_receiver, crate::proofs::FittingParts::offset_args, crate::proofs::FittingParts::lookup_receiver, crate::proofs::FittingParts::lookup_args, crate::proofs::FittingParts::dispatch_receiver, crate::proofs::FittingParts::dispatch_args, crate::proofs::FittingParts::parent_args, crate::proofs::FittingParts::parents_args, crate::proofs::FittingParts::host_a, crate::proofs::FittingParts::host_b))]
 pub(crate) fn name_expr(
     alloc: Global,
     directory: &Directory,
@@ -57,19 +58,33 @@ pub(crate) fn name_expr(
             method,
             receiver,
             args,
-        } => name_offset_call(alloc, directory, *method, receiver, args),
+        } => Ok(Expr::OffsetCall {
+            method: directory.method(alloc, *method)?,
+            receiver: name_boxed(alloc, directory, receiver)?,
+            args: name_exprs(alloc, directory, args)?,
+        }),
         WireExpr::Lookup {
             result: kind,
             name,
             receiver,
             args,
-        } => name_lookup(alloc, directory, kind, name, receiver, args),
+        } => Ok(Expr::Lookup {
+            result: name_kind(alloc, &directory.keys, kind)?,
+            name: name.copy(alloc)?,
+            receiver: name_boxed(alloc, directory, receiver)?,
+            args: name_exprs(alloc, directory, args)?,
+        }),
         WireExpr::Dispatch {
             result: kind,
             name,
             receiver,
             args,
-        } => name_dispatch(alloc, directory, kind, name, receiver, args),
+        } => Ok(Expr::Dispatch {
+            result: name_kind(alloc, &directory.keys, kind)?,
+            name: name.copy(alloc)?,
+            receiver: name_boxed(alloc, directory, receiver)?,
+            args: name_exprs(alloc, directory, args)?,
+        }),
         WireExpr::ParentCall {
             parent,
             method,
@@ -89,70 +104,6 @@ pub(crate) fn name_expr(
             b: name_boxed(alloc, directory, b)?,
         }),
     }
-}
-
-#[cycle(named_expr)]
-fn name_offset_call(
-    alloc: Global,
-    directory: &Directory,
-    method: WireMethod,
-    receiver: &Boxed<WireExpr>,
-    args: &List<WireExpr>,
-) -> Result<Expr, NoMemory>
-    requires method { FitsMethod (ranges_in directory.now) method }
-    requires receiver { ExprFits directory.now receiver.now }
-    requires args { All (ExprFits directory.now) args.now }
-    ensures { IfOk result (λ named. named ≡ exprs.OffsetCall (method_named directory.now method) (expr_named directory.now receiver.now) (map (expr_named directory.now) args.now)) }
-{
-    Ok(Expr::OffsetCall {
-        method: directory.method(alloc, method)?,
-        receiver: name_boxed(alloc, directory, receiver)?,
-        args: name_exprs(alloc, directory, args)?,
-    })
-}
-
-#[cycle(named_expr)]
-fn name_lookup(
-    alloc: Global,
-    directory: &Directory,
-    kind: &WireType,
-    name: &Text,
-    receiver: &Boxed<WireExpr>,
-    args: &List<WireExpr>,
-) -> Result<Expr, NoMemory>
-    requires kind { FitsKind (length directory.now.keys) true kind.now }
-    requires receiver { ExprFits directory.now receiver.now }
-    requires args { All (ExprFits directory.now) args.now }
-    ensures { IfOk result (λ named. named ≡ exprs.Lookup (kind_named directory.now.keys kind.now) name.now (expr_named directory.now receiver.now) (map (expr_named directory.now) args.now)) }
-{
-    Ok(Expr::Lookup {
-        result: name_kind(alloc, &directory.keys, kind)?,
-        name: name.copy(alloc)?,
-        receiver: name_boxed(alloc, directory, receiver)?,
-        args: name_exprs(alloc, directory, args)?,
-    })
-}
-
-#[cycle(named_expr)]
-fn name_dispatch(
-    alloc: Global,
-    directory: &Directory,
-    kind: &WireType,
-    name: &Text,
-    receiver: &Boxed<WireExpr>,
-    args: &List<WireExpr>,
-) -> Result<Expr, NoMemory>
-    requires kind { FitsKind (length directory.now.keys) true kind.now }
-    requires receiver { ExprFits directory.now receiver.now }
-    requires args { All (ExprFits directory.now) args.now }
-    ensures { IfOk result (λ named. named ≡ exprs.Dispatch (kind_named directory.now.keys kind.now) name.now (expr_named directory.now receiver.now) (map (expr_named directory.now) args.now)) }
-{
-    Ok(Expr::Dispatch {
-        result: name_kind(alloc, &directory.keys, kind)?,
-        name: name.copy(alloc)?,
-        receiver: name_boxed(alloc, directory, receiver)?,
-        args: name_exprs(alloc, directory, args)?,
-    })
 }
 
 #[cycle(named_expr)]

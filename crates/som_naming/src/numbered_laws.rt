@@ -1,4 +1,5 @@
 ghost use Rattle.som_blocks.specs.Fitting.{FitsBlock, levels_left};
+ghost use Rattle.som_blocks.specs.declared.syntax.WireBlock.{WireBlock};
 ghost use Rattle.som_model.specs.Class.{Class, entry_name};
 ghost use Rattle.som_model.specs.Typing.{CodePlace, class_facts};
 ghost use Rattle.som_model.specs.TypedBlocks.{Scope, block_scope};
@@ -26,4 +27,10 @@ pub fn ready_blocks_turn_back()
     ensures fits { (d : Directory) (b : Block) → BlockReady d b →
         FitsBlock (levels_left 1) (length d.keys) (FitsMethod (ranges_in d)) (block_numbered d b) }
     ensures names { (d : Directory) (b : Block) → BlockReady d b → block_named d (block_numbered d b) ≡ b }
+{}
+
+/// What fits is named to a block within the limits, whatever the directory says.
+pub fn named_blocks_are_within()
+    ensures { (d : Directory) (b : WireBlock) →
+        FitsBlock (levels_left 1) (length d.keys) (FitsMethod (ranges_in d)) b → BlockWithin (block_named d b) }
 {}

@@ -1,16 +1,10 @@
 use Rattle.som_blocks.specs.declared.syntax.WireStmt.TheOpen.{WireStmt-F}
-use Rattle.som_blocks.specs.declared.syntax.WireStmt.TheVariants.{rolls-Var, rolls-If, rolls-While, rolls-SetLocal, rolls-SetVariable, rolls-ReturnValue, rolls-Print, rolls-Free, rolls-Call}
+use Rattle.som_blocks.specs.declared.syntax.WireStmt.TheVariants.{rolls-Var, rolls-SetLocal, rolls-SetVariable, rolls-ReturnValue, rolls-Print, rolls-Free, rolls-Call}
 use Rattle.som_naming.proofs.FittingParts.{stmt_parts_of}
 use Rattle.som_naming.proofs.named_block.+named_block.Goals as goal
 
 pub name_stmt-name_var-requires : goal.name_stmt-name_var-requires
 name_stmt-name_var-requires t c = let p = stmt_parts_of c.args.directory.now c.args.statement.now _ (WireStmt-F.Var c.in-Var.kind c.in-Var.value) c.in-Var.is (rolls-Var c.in-Var.kind c.in-Var.value) c.requires in record { kind = p.0; value = p.1 }
-
-pub name_stmt-name_if-requires : goal.name_stmt-name_if-requires
-name_stmt-name_if-requires t c = let p = stmt_parts_of c.args.directory.now c.args.statement.now _ (WireStmt-F.If c.in-If.condition c.in-If.then c.in-If.other) c.in-If.is (rolls-If c.in-If.condition c.in-If.then c.in-If.other) c.requires in record { condition = p.0; then = p.1; other = p.2 }
-
-pub name_stmt-name_while-requires : goal.name_stmt-name_while-requires
-name_stmt-name_while-requires t c = let p = stmt_parts_of c.args.directory.now c.args.statement.now _ (WireStmt-F.While c.in-While.condition c.in-While.block) c.in-While.is (rolls-While c.in-While.condition c.in-While.block) c.requires in record { condition = p.0; block = p.1 }
 
 pub name_stmt-name_expr-requires : goal.name_stmt-name_expr-requires
 name_stmt-name_expr-requires t c = let p = stmt_parts_of c.args.directory.now c.args.statement.now _ (WireStmt-F.SetLocal c.in-SetLocal.local c.in-SetLocal.value) c.in-SetLocal.is (rolls-SetLocal c.in-SetLocal.local c.in-SetLocal.value) c.requires in p.1
