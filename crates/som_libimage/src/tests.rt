@@ -243,7 +243,10 @@ fn nested(alloc: Global, signs: usize) -> Result<usize, ImageFault> {
 #[test]
 fn level_33_is_too_deep(rt: HostRuntime) -> Result<(), Fail> {
     assert_eq!(rt; nested(rt.alloc(), 30), Ok(1));
-    assert_eq!(rt; nested(rt.alloc(), 31), Err(ImageFault::Nesting { offset: 110 }));
+    assert_eq!(rt;
+        nested(rt.alloc(), 31),
+        Err(ImageFault::Nesting { offset: 110 })
+    );
     Ok(())
 }
 
