@@ -135,7 +135,7 @@ const HIGHEST: &[(usize, &[u8], ImageFault)] = &[
     (18, b"\x10", ImageFault::Number { offset: 25 }),
     (21, b"\x01", ImageFault::Cut { offset: 121 }),
     (22, b"\x01\0", ImageFault::Cut { offset: 121 }),
-    (46, b"\x02", ImageFault::Tag { offset: 94 }),
+    (46, b"\x02", ImageFault::Tag { offset: 97 }),
     (47, b"\x04", ImageFault::Tag { offset: 51 }),
     (48, b"\x10", ImageFault::Tag { offset: 49 }),
     (81, b"\x40", ImageFault::Tag { offset: 88 }),
