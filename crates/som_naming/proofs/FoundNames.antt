@@ -52,7 +52,7 @@ kind_there d types.Boolean h = tt
 kind_there d types.Str h = tt
 kind_there d (types.Class k) h = number_there d k h
 
-and_true : (a b : Bool) → a ≡ true → b ≡ true → (a && b) ≡ true
+pub and_true : (a b : Bool) → a ≡ true → b ≡ true → (a && b) ≡ true
 and_true true b e f = f
 and_true false b e f = absurd (true≢false (sym e))
 
@@ -87,7 +87,7 @@ kind_found_if d types.Boolean known = refl
 kind_found_if d types.Str known = refl
 kind_found_if d (types.Class k) known = has_number_if d k known
 
-all_if : {A : Type 0} (Ready : A → Type 0) (test : A → Bool) → ((x : A) → Ready x → test x ≡ true) → (xs : List A) → AllByRecursion Ready xs → all_found (map test xs) ≡ true
+pub all_if : {A : Type 0} (Ready : A → Type 0) (test : A → Bool) → ((x : A) → Ready x → test x ≡ true) → (xs : List A) → AllByRecursion Ready xs → all_found (map test xs) ≡ true
 all_if Ready test f [] h = refl
 all_if Ready test f (x ∷ xs) h = and_true (test x) (all_found (map test xs)) (f x h.0) (all_if Ready test f xs h.1)
 

@@ -5,7 +5,6 @@ pub mod Naming
 pub mod Numbering
 pub mod NamedKinds
 pub mod NumberedKinds
-pub mod FittingParts
 pub mod BlockForms
 pub mod NamedLayers
 pub mod NamedExprs
@@ -17,3 +16,4 @@ pub mod KnownMethods
 pub mod TurnedBlocks
 pub mod FoundNames
 pub mod NamedLimits
+pub mod KnownNumbers

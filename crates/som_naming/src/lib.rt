@@ -7,6 +7,7 @@
 
 mod directory;
 mod found;
+mod known;
 mod laws;
 mod lookup;
 mod named;

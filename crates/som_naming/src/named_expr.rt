@@ -1,25 +1,23 @@
-ghost use Rattle.som_model.specs.declared.syntax.Expr.TheVariants as exprs;
-ghost use Rattle.som_naming.specs.Naming.{key_at, kind_named, method_named, ranges_in};
-ghost use Rattle.som_naming.specs.NamedBlocks.{ExprFits, expr_named};
-ghost use Rattle.som_wire.specs.Spelling.{FitsKind, FitsMethod};
-ghost use Rattle.std.specs.Prelude.{◌≡◌, ◌<◌, true, length, map, All, IfOk};
+ghost use Rattle.som_naming.specs.FoundNames.{all_found};
+ghost use Rattle.som_naming.specs.KnownNumbers.{expr_known};
+ghost use Rattle.som_naming.specs.NamedBlocks.{expr_named};
+ghost use Rattle.std.specs.List.{list_all};
+ghost use Rattle.std.specs.Prelude.{◌≡◌, true, map, IfOk};
 
 use crate::Directory;
-use crate::named::{key_of, name_kind};
+use crate::known::{name_class, name_method, name_type};
 use som_blocks::WireExpr;
-use som_model::{Boxed, Expr, HostCode, List, NoMemory, Text};
-use som_wire::{WireMethod, WireType};
+use som_model::{Boxed, Expr, List, NoMemory};
 use std::alloc::Global;
 
 /// The expression that an expression of an image stands for.
 #[cycle(named_expr)]
-#[tactic(auto, using(crate::proofs::FittingParts::unary_of, crate::proofs::FittingParts::binary_left, crate::proofs::FittingParts::binary_right, crate::proofs::FittingParts::cast_of, crate::proofs::FittingParts::isa_of, crate::proofs::FittingParts::proxy_of, crate::proofs::FittingParts::offset_receiver, crate::proofs::FittingParts::offset_args, crate::proofs::FittingParts::lookup_receiver, crate::proofs::FittingParts::lookup_args, crate::proofs::FittingParts::dispatch_receiver, crate::proofs::FittingParts::dispatch_args, crate::proofs::FittingParts::parent_args, crate::proofs::FittingParts::parents_args, crate::proofs::FittingParts::host_a, crate::proofs::FittingParts::host_b))]
 pub(crate) fn name_expr(
     alloc: Global,
     directory: &Directory,
     expr: &WireExpr,
 ) -> Result<Expr, NoMemory>
-    requires { ExprFits directory.now expr.now }
+    requires { expr_known directory.now expr.now ≡ true }
     ensures { IfOk result (λ named. named ≡ expr_named directory.now expr.now) }
 {
     match expr {
@@ -39,19 +37,19 @@ pub(crate) fn name_expr(
             left: name_boxed(alloc, directory, left)?,
             right: name_boxed(alloc, directory, right)?,
         }),
-        WireExpr::New(class) => Ok(Expr::New(key_of(alloc, &directory.keys, *class)?)),
-        WireExpr::Class(class) => Ok(Expr::Class(key_of(alloc, &directory.keys, *class)?)),
+        WireExpr::New(class) => Ok(Expr::New(name_class(alloc, directory, *class)?)),
+        WireExpr::Class(class) => Ok(Expr::Class(name_class(alloc, directory, *class)?)),
         WireExpr::Manager => Ok(Expr::Manager),
         WireExpr::Cast { class, of } => Ok(Expr::Cast {
-            class: key_of(alloc, &directory.keys, *class)?,
+            class: name_class(alloc, directory, *class)?,
             of: name_boxed(alloc, directory, of)?,
         }),
         WireExpr::Isa { class, of } => Ok(Expr::Isa {
-            class: key_of(alloc, &directory.keys, *class)?,
+            class: name_class(alloc, directory, *class)?,
             of: name_boxed(alloc, directory, of)?,
         }),
         WireExpr::Proxy { class, of } => Ok(Expr::Proxy {
-            class: key_of(alloc, &directory.keys, *class)?,
+            class: name_class(alloc, directory, *class)?,
             of: name_boxed(alloc, directory, of)?,
         }),
         WireExpr::OffsetCall {
@@ -59,7 +57,7 @@ pub(crate) fn name_expr(
             receiver,
             args,
         } => Ok(Expr::OffsetCall {
-            method: directory.method(alloc, *method)?,
+            method: name_method(alloc, directory, *method)?,
             receiver: name_boxed(alloc, directory, receiver)?,
             args: name_exprs(alloc, directory, args)?,
         }),
@@ -69,7 +67,7 @@ pub(crate) fn name_expr(
             receiver,
             args,
         } => Ok(Expr::Lookup {
-            result: name_kind(alloc, &directory.keys, kind)?,
+            result: name_type(alloc, directory, kind)?,
             name: name.copy(alloc)?,
             receiver: name_boxed(alloc, directory, receiver)?,
             args: name_exprs(alloc, directory, args)?,
@@ -80,7 +78,7 @@ pub(crate) fn name_expr(
             receiver,
             args,
         } => Ok(Expr::Dispatch {
-            result: name_kind(alloc, &directory.keys, kind)?,
+            result: name_type(alloc, directory, kind)?,
             name: name.copy(alloc)?,
             receiver: name_boxed(alloc, directory, receiver)?,
             args: name_exprs(alloc, directory, args)?,
@@ -91,11 +89,11 @@ pub(crate) fn name_expr(
             args,
         } => Ok(Expr::ParentCall {
             parent: *parent,
-            method: directory.method(alloc, *method)?,
+            method: name_method(alloc, directory, *method)?,
             args: name_exprs(alloc, directory, args)?,
         }),
         WireExpr::ParentsCall { method, args } => Ok(Expr::ParentsCall {
-            method: directory.method(alloc, *method)?,
+            method: name_method(alloc, directory, *method)?,
             args: name_exprs(alloc, directory, args)?,
         }),
         WireExpr::Host { code, a, b } => Ok(Expr::Host {
@@ -112,19 +110,32 @@ fn name_boxed(
     directory: &Directory,
     expr: &Boxed<WireExpr>,
 ) -> Result<Boxed<Expr>, NoMemory>
-    requires { ExprFits directory.now expr.now }
+    requires { expr_known directory.now expr.now ≡ true }
     ensures { IfOk result (λ named. named ≡ expr_named directory.now expr.now) }
 {
     Boxed::new(alloc, name_expr(alloc, directory, expr.get())?)
 }
 
 #[cycle(named_expr)]
+#[tactic(auto, using(crate::proofs::FoundNames::each_found))]
 fn name_exprs(
     alloc: Global,
     directory: &Directory,
     exprs: &List<WireExpr>,
 ) -> Result<List<Expr>, NoMemory>
-    requires { All (ExprFits directory.now) exprs.now }
+    requires { all_found (map (expr_known directory.now) exprs.now) ≡ true }
+    ensures { IfOk result (λ named. named ≡ map (expr_named directory.now) exprs.now) }
+{
+    name_each(alloc, directory, exprs)
+}
+
+#[cycle(named_expr)]
+fn name_each(
+    alloc: Global,
+    directory: &Directory,
+    exprs: &List<WireExpr>,
+) -> Result<List<Expr>, NoMemory>
+    requires { list_all (expr_known directory.now) exprs.now ≡ true }
     ensures { IfOk result (λ named. named ≡ map (expr_named directory.now) exprs.now) }
 {
     let mut named = List::new(alloc);
