@@ -1,10 +1,6 @@
 -- The release that comes of naming the numbers and slots of an image.
 use Rattle.std.specs.Prelude.{ℕ, List, [], ◌∷◌, map, Option, Some, None}
 use Rattle.som_model.specs.declared.key.ClassKey.{ClassKey}
-use Rattle.som_model.specs.declared.syntax.Expr.TheVariants as exprs
-use Rattle.som_model.specs.declared.syntax.Stmt.{Stmt}
-use Rattle.som_model.specs.declared.syntax.Stmt.TheVariants as stmts
-use Rattle.som_model.specs.declared.syntax.Block.{Block}
 use Rattle.som_model.specs.declared.class.Sig.{Sig}
 use Rattle.som_model.specs.declared.class.Entry.{Entry}
 use Rattle.som_model.specs.declared.class.Entry.TheVariants as named_entries
@@ -20,14 +16,15 @@ use Rattle.som_wire.specs.declared.sig.WireSig.{WireSig}
 use Rattle.som_wire.specs.declared.entry.WireEntry.{WireEntry}
 use Rattle.som_wire.specs.declared.entry.WireEntry.TheVariants as entries
 use Rattle.som_wire.specs.declared.face.WireFace.{WireFace}
-use Rattle.som_libimage.specs.declared.wire.WireVariable.{WireVariable}
-use Rattle.som_libimage.specs.declared.wire.WireBody.{WireBody}
-use Rattle.som_libimage.specs.declared.wire.WireBody.TheVariants as bodies
-use Rattle.som_libimage.specs.declared.wire.WireOverride.{WireOverride}
-use Rattle.som_libimage.specs.declared.wire.WirePart.{WirePart}
+use Rattle.som_blocks.specs.declared.syntax.WireVariable.{WireVariable}
+use Rattle.som_blocks.specs.declared.syntax.WireBody.{WireBody}
+use Rattle.som_blocks.specs.declared.syntax.WireBody.TheVariants as bodies
+use Rattle.som_blocks.specs.declared.syntax.WireOverride.{WireOverride}
+use Rattle.som_blocks.specs.declared.syntax.WirePart.{WirePart}
 use Rattle.som_libimage.specs.declared.wire.WireRelease.{WireRelease}
 use Rattle.som_naming.specs.declared.directory.Directory.{Directory}
 use Rattle.som_naming.specs.Naming.{library_directory, key_at, method_named, kind_named}
+use Rattle.som_naming.specs.NamedBlocks.{block_named}
 
 -- ---- faces
 
@@ -54,29 +51,22 @@ face_named ks f = record {
 
 -- ---- parts
 
--- a statement that prints a text
-abbrev pub print_of : List ℕ → Stmt
-print_of t = stmts.Print (exprs.Str t)
-
-abbrev pub block_named : List (List ℕ) → Block
-block_named ts = record { statements = map print_of ts }
-
 abbrev pub variable_named : List ClassKey → WireVariable → Variable
 variable_named ks v = record { name = v.name; kind = kind_named ks v.kind }
 
-abbrev pub body_named : WireBody → Body
-body_named (bodies.User b) = named_bodies.User (block_named b)
-body_named (bodies.Get n) = named_bodies.Get n
-body_named (bodies.Set n) = named_bodies.Set n
+abbrev pub body_named : Directory → WireBody → Body
+body_named d (bodies.User b) = named_bodies.User (block_named d b)
+body_named d (bodies.Get n) = named_bodies.Get n
+body_named d (bodies.Set n) = named_bodies.Set n
 
 abbrev pub override_named : Directory → WireOverride → Override
-override_named d o = record { method = method_named d o.method; block = block_named o.block }
+override_named d o = record { method = method_named d o.method; block = block_named d o.block }
 
 abbrev pub class_named : Directory → WireFace → WirePart → ClassDecl
 class_named d f p = record {
   face = face_named d.keys f;
   variables = map (variable_named d.keys) p.variables;
-  bodies = map body_named p.bodies;
+  bodies = map (body_named d) p.bodies;
   overrides = map (override_named d) p.overrides;
 }
 

@@ -1,11 +1,6 @@
 -- The image with numbers that comes of numbering a release.
-use Rattle.std.specs.Prelude.{ℕ, List, [], map, All, Option, Some, None, IfSome}
+use Rattle.std.specs.Prelude.{ℕ, ◌<◌, ◌^◌, List, map, All, Option, Some, None, IfSome}
 use Rattle.som_model.specs.declared.key.ClassKey.{ClassKey}
-use Rattle.som_model.specs.declared.syntax.Expr.{Expr, out-Expr}
-use Rattle.som_model.specs.declared.syntax.Expr.TheOpen.{Expr-F}
-use Rattle.som_model.specs.declared.syntax.Stmt.{Stmt, out-Stmt}
-use Rattle.som_model.specs.declared.syntax.Stmt.TheOpen.{Stmt-F}
-use Rattle.som_model.specs.declared.syntax.Block.{Block}
 use Rattle.som_model.specs.declared.class.Sig.{Sig}
 use Rattle.som_model.specs.declared.class.Entry.{Entry}
 use Rattle.som_model.specs.declared.class.Entry.TheVariants as named_entries
@@ -21,16 +16,16 @@ use Rattle.som_wire.specs.declared.sig.WireSig.{WireSig}
 use Rattle.som_wire.specs.declared.entry.WireEntry.{WireEntry}
 use Rattle.som_wire.specs.declared.entry.WireEntry.TheVariants as entries
 use Rattle.som_wire.specs.declared.face.WireFace.{WireFace}
-use Rattle.som_libimage.specs.declared.wire.WireVariable.{WireVariable}
-use Rattle.som_libimage.specs.declared.wire.WireBody.{WireBody}
-use Rattle.som_libimage.specs.declared.wire.WireBody.TheVariants as bodies
-use Rattle.som_libimage.specs.declared.wire.WireOverride.{WireOverride}
-use Rattle.som_libimage.specs.declared.wire.WirePart.{WirePart}
+use Rattle.som_blocks.specs.declared.syntax.WireVariable.{WireVariable}
+use Rattle.som_blocks.specs.declared.syntax.WireBody.{WireBody}
+use Rattle.som_blocks.specs.declared.syntax.WireBody.TheVariants as bodies
+use Rattle.som_blocks.specs.declared.syntax.WireOverride.{WireOverride}
+use Rattle.som_blocks.specs.declared.syntax.WirePart.{WirePart}
 use Rattle.som_libimage.specs.declared.wire.WireRelease.{WireRelease}
 use Rattle.som_naming.specs.declared.directory.Directory.{Directory}
 use Rattle.som_naming.specs.Numbering.{release_directory, number_of, method_numbered, MethodKnown, kind_numbered, IsKnown, IsValue}
-use Rattle.som_naming.specs.Numbering.{Differ}
-use Rattle.som_libimage.specs.Libraries.{PrintsTexts, BodyPrints}
+use Rattle.som_naming.specs.NumberedBlocks.{block_numbered}
+use Rattle.som_naming.specs.ReadyBlocks.{BlockReady}
 
 -- ---- faces
 
@@ -71,50 +66,40 @@ pub record FaceKnown (ks : List ClassKey) (f : ClassFace) : Type 0 where
 
 -- ---- parts
 
--- the text of a literal
-abbrev pub text_in : Expr-F Expr → List ℕ
-text_in (Expr-F.Str t) = t
-text_in _ = []
-
--- the text that is printed
-abbrev pub printed_by : Stmt-F Stmt Block → List ℕ
-printed_by (Stmt-F.Print e) = text_in (out-Expr e)
-printed_by _ = []
-
-abbrev pub text_of : Stmt → List ℕ
-text_of s = printed_by (out-Stmt s)
-
-abbrev pub block_numbered : Block → List (List ℕ)
-block_numbered b = map text_of b.statements
-
 abbrev pub variable_numbered : List ClassKey → Variable → WireVariable
 variable_numbered ks v = record { name = v.name; kind = kind_numbered ks v.kind }
 
-abbrev pub body_numbered : Body → WireBody
-body_numbered (named_bodies.User b) = bodies.User (block_numbered b)
-body_numbered (named_bodies.Get n) = bodies.Get n
-body_numbered (named_bodies.Set n) = bodies.Set n
+abbrev pub body_numbered : Directory → Body → WireBody
+body_numbered d (named_bodies.User b) = bodies.User (block_numbered d b)
+body_numbered d (named_bodies.Get n) = bodies.Get n
+body_numbered d (named_bodies.Set n) = bodies.Set n
+
+-- a body whose block can be numbered, or of whose variable the number is a byte
+abbrev pub BodyReady : Directory → Body → Type 0
+BodyReady d (named_bodies.User b) = BlockReady d b
+BodyReady d (named_bodies.Get n) = n < 2 ^ 8
+BodyReady d (named_bodies.Set n) = n < 2 ^ 8
 
 abbrev pub override_numbered : Directory → Override → WireOverride
-override_numbered d o = record { method = method_numbered d o.method; block = block_numbered o.block }
+override_numbered d o = record { method = method_numbered d o.method; block = block_numbered d o.block }
 
-pub record OverrideKnown (d : Directory) (o : Override) : Type 0 where
+pub record OverrideReady (d : Directory) (o : Override) : Type 0 where
   pub method : MethodKnown d o.method
-  pub block : PrintsTexts o.block
+  pub block : BlockReady d o.block
 
 abbrev pub part_numbered : Directory → ClassDecl → WirePart
 part_numbered d c = record {
   variables = map (variable_numbered d.keys) c.variables;
-  bodies = map body_numbered c.bodies;
+  bodies = map (body_numbered d) c.bodies;
   overrides = map (override_numbered d) c.overrides;
 }
 
--- a class that names nothing but what is there, and prints texts
+-- a class that names nothing but what is there, with blocks that can be numbered
 pub record ClassKnown (d : Directory) (c : ClassDecl) : Type 0 where
   pub face : FaceKnown d.keys c.face
   pub variables : All (λ v. IsValue d.keys v.kind) c.variables
-  pub bodies : All BodyPrints c.bodies
-  pub overrides : All (OverrideKnown d) c.overrides
+  pub bodies : All (BodyReady d) c.bodies
+  pub overrides : All (OverrideReady d) c.overrides
 
 -- ---- releases
 

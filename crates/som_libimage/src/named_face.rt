@@ -8,10 +8,10 @@ ghost use Rattle.som_libimage.specs.Naming.{
 };
 ghost use Rattle.som_libimage.specs.Spelling.{FitsFaces};
 ghost use Rattle.som_wire.specs.Spelling.{FitsEntry, FitsFace, FitsKind, FitsSig};
-ghost use Rattle.std.specs.Prelude.{◌≡◌, ◌<◌, ℕ, true, false, length, map, All, IfOk, IfSome};
+ghost use Rattle.std.specs.Prelude.{◌≡◌, ◌<◌, false, length, map, All, IfOk, IfSome};
 
-use som_naming::{Directory, key_of, name_kind};
 use som_model::{ClassFace, ClassKey, Entry, Interface, List, NoMemory, Sig, ValueType};
+use som_naming::{Directory, key_of, name_kind};
 use som_wire::{WireEntry, WireFace, WireSig, WireType};
 use std::alloc::Global;
 

@@ -1,36 +1,36 @@
-ghost use Rattle.som_libimage.specs.Libraries.{PrintTexts};
 ghost use Rattle.som_libimage.specs.Limits.{IsWithinLimits};
 ghost use Rattle.som_libimage.specs.Naming.{release_named};
-ghost use Rattle.som_naming.specs.Numbering.{IsDirectory};
 ghost use Rattle.som_libimage.specs.Numbering.{
   ClassKnown,
-  FaceKnown,
   face_numbered,
   part_numbered,
   release_numbered,
 };
 ghost use Rattle.som_libimage.specs.Spelling.{FitsRelease};
 ghost use Rattle.som_model.specs.Conforming.{ReleaseOk};
+ghost use Rattle.som_naming.specs.Numbering.{IsDirectory};
 ghost use Rattle.som_order.specs.Names.{texts};
 ghost use Rattle.std.specs.Prelude.{◌≡◌, map, All, IfOk};
 
 use crate::numbered_face::number_face;
 use crate::numbered_part::number_part;
-use crate::wire::{WirePart, WireRelease};
+use crate::wire::WireRelease;
 use indexmap::IndexSet;
-use som_naming::Directory;
+use som_blocks::WirePart;
 use som_model::{ClassDecl, List, NoMemory, Release};
+use som_naming::Directory;
 use som_wire::WireFace;
 use std::alloc::Global;
 
-fn number_faces(
+/// The faces of an image that stand for those of these classes.
+pub fn number_faces(
     alloc: Global,
     names: &IndexSet<&[u8]>,
     directory: &Directory,
     classes: &[ClassDecl],
 ) -> Result<List<WireFace>, NoMemory>
     requires directory { IsDirectory (texts names.now.keys) directory.now }
-    requires known { All (λ c. FaceKnown directory.now.keys c.face) classes.now }
+    requires known { All (ClassKnown directory.now) classes.now }
     ensures { IfOk result (λ faces. faces ≡ map (λ c. face_numbered directory.now.keys c.face) classes.now) }
 {
     let mut faces = List::new(alloc);
@@ -40,7 +40,8 @@ fn number_faces(
     Ok(faces)
 }
 
-fn number_parts(
+/// The parts of an image that stand for what these classes have beside their faces.
+pub fn number_parts(
     alloc: Global,
     names: &IndexSet<&[u8]>,
     directory: &Directory,
@@ -60,7 +61,6 @@ fn number_parts(
 /// The release with numbers and slots that a release is named from.
 pub(crate) fn number_release(alloc: Global, release: &Release) -> Result<WireRelease, NoMemory>
     requires conforms { ReleaseOk release.now }
-    requires prints { PrintTexts release.now }
     requires within { IsWithinLimits release.now }
     ensures names { IfOk result (λ wire. release_named wire ≡ release.now) }
     ensures fits { IfOk result FitsRelease }
@@ -70,13 +70,12 @@ pub(crate) fn number_release(alloc: Global, release: &Release) -> Result<WireRel
 
 fn number_all(alloc: Global, release: &Release) -> Result<WireRelease, NoMemory>
     requires conforms { ReleaseOk release.now }
-    requires prints { PrintTexts release.now }
     requires within { IsWithinLimits release.now }
     ensures { IfOk result (λ wire. wire ≡ release_numbered release.now) }
 {
-    let classes = release.classes.as_slice();
     let directory = Directory::of_release(alloc, release)?;
     let names = directory.class_names(alloc)?;
+    let classes = release.classes.as_slice();
     let faces = number_faces(alloc, &names, &directory, classes)?;
     let parts = number_parts(alloc, &names, &directory, classes)?;
     Ok(WireRelease { faces, parts })

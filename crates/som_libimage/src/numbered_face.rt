@@ -1,4 +1,10 @@
-ghost use Rattle.som_naming.specs.Numbering.{IsValue, kind_numbered, number_of};
+ghost use Rattle.som_naming.specs.Numbering.{
+  IsDirectory,
+  IsKnown,
+  IsValue,
+  kind_numbered,
+  number_of,
+};
 ghost use Rattle.som_libimage.specs.Numbering.{
   EntryKnown,
   FaceKnown,
@@ -13,8 +19,8 @@ ghost use Rattle.som_order.specs.Names.{texts};
 ghost use Rattle.std.specs.Prelude.{◌≡◌, map, All, IfOk, IfSome};
 
 use indexmap::IndexSet;
-use som_naming::Directory;
 use som_model::{ClassFace, ClassKey, Entry, List, NoMemory, Sig, ValueType};
+use som_naming::Directory;
 use som_wire::{WireEntry, WireFace, WireSig, WireType};
 use std::alloc::Global;
 
@@ -36,7 +42,12 @@ fn number_kinds(
     Ok(numbered)
 }
 
-fn number_sig(alloc: Global, names: &IndexSet<&[u8]>, directory: &Directory, sig: &Sig) -> Result<WireSig, NoMemory>
+fn number_sig(
+    alloc: Global,
+    names: &IndexSet<&[u8]>,
+    directory: &Directory,
+    sig: &Sig,
+) -> Result<WireSig, NoMemory>
     requires directory { IsDirectory (texts names.now.keys) directory.now }
     requires known { SigKnown directory.now.keys sig.now }
     ensures { IfOk result (λ numbered. numbered ≡ sig_numbered directory.now.keys sig.now) }
@@ -104,7 +115,11 @@ fn number_parents(
     Ok(numbered)
 }
 
-fn number_metaclass(names: &IndexSet<&[u8]>, directory: &Directory, metaclass: &Option<ClassKey>) -> Option<u16>
+fn number_metaclass(
+    names: &IndexSet<&[u8]>,
+    directory: &Directory,
+    metaclass: &Option<ClassKey>,
+) -> Option<u16>
     requires directory { IsDirectory (texts names.now.keys) directory.now }
     requires known { IfSome metaclass.now (λ k. Mem k directory.now.keys) }
     ensures { result ≡ metaclass_numbered directory.now.keys metaclass.now }
@@ -115,8 +130,8 @@ fn number_metaclass(names: &IndexSet<&[u8]>, directory: &Directory, metaclass: &
     }
 }
 
-/// The face of an image that stands for a face, by the directory of the classes and their names.
-pub(crate) fn number_face(
+/// The face of an image that stands for a face, which names classes of the directory alone.
+pub fn number_face(
     alloc: Global,
     names: &IndexSet<&[u8]>,
     directory: &Directory,

@@ -1,50 +1,21 @@
-ghost use Rattle.som_libimage.specs.Libraries.{BodyPrints, PrintsTexts};
-ghost use Rattle.som_libimage.specs.Naming.{print_of};
-ghost use Rattle.som_naming.specs.Numbering.{IsDirectory, IsValue};
 ghost use Rattle.som_libimage.specs.Numbering.{
+  BodyReady,
   ClassKnown,
-  OverrideKnown,
-  block_numbered,
+  OverrideReady,
   body_numbered,
   override_numbered,
   part_numbered,
-  text_of,
   variable_numbered,
 };
+ghost use Rattle.som_naming.specs.Numbering.{IsDirectory, IsValue};
 ghost use Rattle.som_order.specs.Names.{texts};
-ghost use Rattle.std.specs.Prelude.{◌≡◌, ℕ, List as Seq, map, All, IfOk};
+ghost use Rattle.std.specs.Prelude.{◌≡◌, map, All, IfOk};
 
-use crate::wire::{WireBody, WireOverride, WirePart, WireVariable};
 use indexmap::IndexSet;
-use som_model::{
-    Block, Body, ClassDecl, Expr, List, NoMemory, Override, Stmt, Text, Variable,
-};
-use som_naming::Directory;
+use som_blocks::{WireBody, WireOverride, WirePart, WireVariable};
+use som_model::{Body, ClassDecl, List, NoMemory, Override, Variable};
+use som_naming::{Directory, number_block};
 use std::alloc::Global;
-
-fn text_of(alloc: Global, statement: &Stmt) -> Result<Text, NoMemory>
-    requires { (t : Seq ℕ) × (statement.now ≡ print_of t) }
-    ensures { IfOk result (λ text. text ≡ text_of statement.now) }
-{
-    match statement {
-        Stmt::Print {
-            value: Expr::Str(text),
-        } => text.copy(alloc),
-        _ => unreachable!(),
-    }
-}
-
-// The texts that the statements of a block print.
-fn number_block(alloc: Global, block: &Block) -> Result<List<Text>, NoMemory>
-    requires { PrintsTexts block.now }
-    ensures { IfOk result (λ numbered. numbered ≡ block_numbered block.now) }
-{
-    let mut numbered = List::new(alloc);
-    for statement in block.statements.as_slice() {
-        numbered.push(text_of(alloc, statement)?)?;
-    }
-    Ok(numbered)
-}
 
 #[tactic(auto, using(som_naming::proofs::Numbering::as_type))]
 fn number_variable(
@@ -80,24 +51,36 @@ fn number_variables(
     Ok(numbered)
 }
 
-fn number_body(alloc: Global, body: &Body) -> Result<WireBody, NoMemory>
-    requires { BodyPrints body.now }
-    ensures { IfOk result (λ numbered. numbered ≡ body_numbered body.now) }
+fn number_body(
+    alloc: Global,
+    names: &IndexSet<&[u8]>,
+    directory: &Directory,
+    body: &Body,
+) -> Result<WireBody, NoMemory>
+    requires directory { IsDirectory (texts names.now.keys) directory.now }
+    requires ready { BodyReady directory.now body.now }
+    ensures { IfOk result (λ numbered. numbered ≡ body_numbered directory.now body.now) }
 {
     match body {
-        Body::User(block) => Ok(WireBody::User(number_block(alloc, block)?)),
+        Body::User(block) => Ok(WireBody::User(number_block(alloc, directory, names, block)?)),
         Body::Get(variable) => Ok(WireBody::Get(*variable)),
         Body::Set(variable) => Ok(WireBody::Set(*variable)),
     }
 }
 
-fn number_bodies(alloc: Global, bodies: &List<Body>) -> Result<List<WireBody>, NoMemory>
-    requires { All BodyPrints bodies.now }
-    ensures { IfOk result (λ numbered. numbered ≡ map body_numbered bodies.now) }
+fn number_bodies(
+    alloc: Global,
+    names: &IndexSet<&[u8]>,
+    directory: &Directory,
+    bodies: &List<Body>,
+) -> Result<List<WireBody>, NoMemory>
+    requires directory { IsDirectory (texts names.now.keys) directory.now }
+    requires ready { All (BodyReady directory.now) bodies.now }
+    ensures { IfOk result (λ numbered. numbered ≡ map (body_numbered directory.now) bodies.now) }
 {
     let mut numbered = List::new(alloc);
     for body in bodies.as_slice() {
-        numbered.push(number_body(alloc, body)?)?;
+        numbered.push(number_body(alloc, names, directory, body)?)?;
     }
     Ok(numbered)
 }
@@ -109,12 +92,12 @@ fn number_override(
     replaced: &Override,
 ) -> Result<WireOverride, NoMemory>
     requires directory { IsDirectory (texts names.now.keys) directory.now }
-    requires known { OverrideKnown directory.now replaced.now }
+    requires ready { OverrideReady directory.now replaced.now }
     ensures { IfOk result (λ numbered. numbered ≡ override_numbered directory.now replaced.now) }
 {
     Ok(WireOverride {
         method: directory.number_method(names, &replaced.method),
-        block: number_block(alloc, &replaced.block)?,
+        block: number_block(alloc, directory, names, &replaced.block)?,
     })
 }
 
@@ -125,7 +108,7 @@ fn number_overrides(
     overrides: &List<Override>,
 ) -> Result<List<WireOverride>, NoMemory>
     requires directory { IsDirectory (texts names.now.keys) directory.now }
-    requires known { All (OverrideKnown directory.now) overrides.now }
+    requires ready { All (OverrideReady directory.now) overrides.now }
     ensures { IfOk result (λ numbered. numbered ≡ map (override_numbered directory.now) overrides.now) }
 {
     let mut numbered = List::new(alloc);
@@ -136,7 +119,7 @@ fn number_overrides(
 }
 
 /// The part of an image that stands for what a class has beside its face.
-pub(crate) fn number_part(
+pub fn number_part(
     alloc: Global,
     names: &IndexSet<&[u8]>,
     directory: &Directory,
@@ -148,7 +131,7 @@ pub(crate) fn number_part(
 {
     Ok(WirePart {
         variables: number_variables(alloc, names, directory, &class.variables)?,
-        bodies: number_bodies(alloc, &class.bodies)?,
+        bodies: number_bodies(alloc, names, directory, &class.bodies)?,
         overrides: number_overrides(alloc, names, directory, &class.overrides)?,
     })
 }
