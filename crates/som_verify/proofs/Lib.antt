@@ -24,3 +24,13 @@ pub mod PlainFaces
 pub mod PlainBodies
 pub mod PlainWhole
 pub mod Programs
+pub mod KindLaws
+pub mod ExprLaws
+pub mod Facts
+pub mod NamesKnown
+pub mod TypedForms
+pub mod Keeping
+pub mod BlockSteps
+pub mod BodySteps
+pub mod Grounds
+pub mod Conforming
