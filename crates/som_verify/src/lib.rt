@@ -9,6 +9,8 @@ mod calls;
 mod cases;
 mod classes;
 mod code_place;
+#[cfg(test)]
+mod code_words;
 mod descent;
 mod double;
 mod expressions;
@@ -37,6 +39,8 @@ mod table;
 #[cfg(test)]
 mod tests;
 mod typed_bodies;
+#[cfg(test)]
+mod typed_cases;
 mod types;
 
 pub use ancestry::ancestors;
