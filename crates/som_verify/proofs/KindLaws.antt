@@ -1,5 +1,5 @@
 -- Kinds and the types that they are.
-use Rattle.std.proofs.Common.{◌≡◌, ℕ, zero, suc, ◌<◌, inl, inr, Bool, true, false, if◌then◌else◌, List, [], ◌∷◌, ◌++◌, map, length, slice_get, slice_index_or, Option, Some, None, Result, Ok, Err, refl, sym, ap, ◌∙◌, subst, append_assoc, append-nil, true≢false, arith}
+use Rattle.std.proofs.Common.{◌≡◌, ℕ, zero, suc, ◌<◌, ◌≤◌, inl, inr, Bool, true, false, if◌then◌else◌, List, [], ◌∷◌, ◌++◌, map, length, slice_get, slice_index_or, Option, Some, None, Result, Ok, Err, refl, sym, ap, ◌∙◌, subst, append_assoc, append-nil, true≢false, arith}
 use Rattle.som_model.specs.declared.key.ValueType.{ValueType}
 use Rattle.som_model.specs.Lists.{Mem}
 use Rattle.som_model.specs.Class.{Class}
@@ -90,3 +90,23 @@ all_stand_at cs given i d all lt = each given i all.by lt
     each [] i by lt = absurd (omega arith)
     each (x ∷ given) zero by lt = by x (inl refl)
     each (x ∷ given) (suc i) by lt = each given i (λ j m. by j (inr m)) (omega arith)
+
+-- ---- locals
+
+pub local_there : (cs : List Class) (scope : List Kind) (i : ℕ) (d : Kind) → i < length scope → there 16 (slice_get (map (type_at cs) scope) i) ≡ Ok (type_at cs (slice_index_or scope i d))
+local_there cs [] i d lt = absurd (omega arith)
+local_there cs (k ∷ scope) zero d lt = refl
+local_there cs (k ∷ scope) (suc i) d lt = local_there cs scope i d (omega arith)
+
+pub no_local : (cs : List Class) (scope : List Kind) (i : ℕ) → length scope ≤ i → there 16 (slice_get (map (type_at cs) scope) i) ≡ Err 16
+no_local cs [] i le = refl
+no_local cs (k ∷ scope) zero le = absurd (omega arith)
+no_local cs (k ∷ scope) (suc i) le = no_local cs scope i (omega arith)
+
+pub types_at : (cs : List Class) (scope : List Kind) (i : ℕ) (d : Kind) → AreTypes cs scope → i < length scope → IsType cs (slice_index_or scope i d)
+types_at cs scope i d are lt = each scope i are.by lt
+  where
+    each : (scope : List Kind) (i : ℕ) → ((j : Kind) → Mem j scope → IsType cs j) → i < length scope → IsType cs (slice_index_or scope i d)
+    each [] i by lt = absurd (omega arith)
+    each (x ∷ scope) zero by lt = by x (inl refl)
+    each (x ∷ scope) (suc i) by lt = each scope i (λ j m. by j (inr m)) (omega arith)

@@ -34,3 +34,4 @@ pub mod BlockSteps
 pub mod BodySteps
 pub mod Grounds
 pub mod Conforming
+pub mod KnownLaws

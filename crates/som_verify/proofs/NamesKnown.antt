@@ -1,5 +1,5 @@
 -- Where no rule on faces is broken, whatever classes name is known.
-use Rattle.std.proofs.Common.{◌≡◌, ℕ, zero, suc, ◌<◌, inl, inr, Bool, true, false, ◌&&◌, List, [], ◌∷◌, ◌++◌, take, drop, map, flat_map, length, slice_get, slice_index_or, Option, Some, None, is_some, refl, sym, ap, ◌∙◌, subst, arith, true≢false}
+use Rattle.std.proofs.Common.{◌≡◌, ℕ, zero, suc, ◌<◌, ◌⊎◌, inl, inr, Bool, true, false, ◌&&◌, List, [], ◌∷◌, ◌++◌, take, drop, map, flat_map, length, slice_get, slice_index_or, Option, Some, None, is_some, refl, sym, ap, ◌∙◌, subst, arith, true≢false}
 use Rattle.std.specs.Str.{bytes_eq}
 use Rattle.std.proofs.lemmas.List.{take-append-drop}
 use Rattle.std.proofs.lemmas.Option.{slice_get-get_or}
@@ -8,7 +8,7 @@ use Rattle.som_model.specs.Class.{Class, entry_name, entry_of, introduced_sig}
 use Rattle.som_model.specs.Classes.{class_at}
 use Rattle.som_model.specs.Conforming.{each_after, first_of_names, first_of_members}
 use Rattle.som_model.specs.Kernel.{kernel, som_class, som_object}
-use Rattle.som_model.specs.Rules.{is_known, is_value_type, s1, s2, s5, s9}
+use Rattle.som_model.specs.Rules.{is_known, is_value_type, s1, s2, s5, s6, s7, s8, s9}
 use Rattle.som_model.specs.declared.key.ClassKey.{ClassKey}
 use Rattle.som_model.specs.declared.key.ValueType.{ValueType}
 use Rattle.som_model.specs.declared.key.ValueType.TheVariants as types
@@ -93,18 +93,18 @@ known_by cs (types.Class k) f = let a = f k refl in mem_known cs k a.class a.the
 module _ (n : ℕ) (cs : List Class) (base : TypesKnown (kernel ++ take n cs) (take n cs)) (own : TypesKnown (with_kernel cs) (drop n cs)) where
   pub declared_sig : (c : Class) (name : List ℕ) (sig : Sig) (way : Way) → Mem c cs → Mem (entries.Introduced name sig way) c.decl.face.entries → sig_is_known (with_kernel cs) sig ≡ true
   declared_sig c name sig way m at = elim (mem_split c (take n cs) (drop n cs) (subst (λ z. Mem c z) (sym (take-append-drop n cs)) m)) [
-    | inl k ↦ both_true _ _
-        (known_by (with_kernel cs) sig.result (λ k e. among_more cs n k ((base.results c name sig way k at).by k e)))
-        (mem_every (is_known (with_kernel cs)) sig.params (λ t q. known_by (with_kernel cs) t (λ k e. among_more cs n k ((base.params c name sig way t k at q).named.by k e))))
-    | inr k ↦ both_true _ _
-        (known_by (with_kernel cs) sig.result (own.results c name sig way k at).by)
-        (mem_every (is_known (with_kernel cs)) sig.params (λ t q. known_by (with_kernel cs) t (own.params c name sig way t k at q).named.by))
+    | inl h ↦ both_true _ _
+        (known_by (with_kernel cs) sig.result (λ k e. among_more cs n k ((base.results c name sig way h at).by k e)))
+        (mem_every (is_known (with_kernel cs)) sig.params (λ t q. known_by (with_kernel cs) t (λ k e. among_more cs n k ((base.params c name sig way t h at q).named.by k e))))
+    | inr h ↦ both_true _ _
+        (known_by (with_kernel cs) sig.result (own.results c name sig way h at).by)
+        (mem_every (is_known (with_kernel cs)) sig.params (λ t q. known_by (with_kernel cs) t (own.params c name sig way t h at q).named.by))
   ]
 
   declared_variable : (c : Class) (v : Variable) → Mem c cs → Mem v c.decl.variables → is_known (with_kernel cs) v.kind ≡ true
   declared_variable c v m at = elim (mem_split c (take n cs) (drop n cs) (subst (λ z. Mem c z) (sym (take-append-drop n cs)) m)) [
-    | inl m ↦ known_by (with_kernel cs) v.kind (λ k e. among_more cs n k ((base.variables c v m at).named.by k e))
-    | inr m ↦ known_by (with_kernel cs) v.kind (own.variables c v m at).named.by
+    | inl h ↦ known_by (with_kernel cs) v.kind (λ k e. among_more cs n k ((base.variables c v h at).named.by k e))
+    | inr h ↦ known_by (with_kernel cs) v.kind (own.variables c v h at).named.by
   ]
 
 introduced_at : (es : List Entry) (name : List ℕ) (sig : Sig) → introduced_sig (entry_of es name) ≡ Some sig → (x : List ℕ) × (way : Way) × Mem (entries.Introduced x sig way) es
@@ -123,7 +123,16 @@ kind_mem [] i t e = absurd (cc)
 kind_mem (v ∷ vs) zero t e = (v, inl refl, cc)
 kind_mem (v ∷ vs) (suc i) t e = let r = kind_mem vs i t e in (r.0, inr r.1, r.2)
 
--- so do S2 and the kernel's faces
+-- moved entries lead to where their names are introduced
+pub moved_holds : (n : ℕ) (cs : List Class) → classes_breach n cs ≡ None → first (flat_map (s9 (with_kernel cs)) cs) ≡ None
+moved_holds n cs e =
+    let types = or_none _ (first_of_members kernel cs) (or_none (first_of_names kernel cs) _ e).1 in
+    let s6s = or_none (first (flat_map s6 cs)) _ types.1 in
+    let s7s = or_none (first (flat_map s7 cs)) _ s6s.1 in
+    let s8s = or_none (first (flat_map (s8 (kernel ++ cs)) cs)) _ s7s.1 in
+    (or_none (first (flat_map (s9 (kernel ++ cs)) cs)) _ s8s.1).0
+
+-- S2 says so of parents and metaclasses, and the kernel's faces name two of its own
 pub names_known : (n : ℕ) (cs : List Class) → classes_breach n cs ≡ None → NamesKnown (with_kernel cs)
 names_known n cs e =
     let names = or_none (first_of_names kernel cs) _ e in
