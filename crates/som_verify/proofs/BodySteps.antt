@@ -1,28 +1,39 @@
 -- Bodies one after the other, and the block of each.
-use Rattle.std.proofs.Common.{◌≡◌, ℕ, ◌+◌, ◌<◌, List, [], ◌∷◌, ◌++◌, length, drop, get_or, flat_map, Option, Some, None, Result, Ok, Err, refl, sym, ap, ◌∙◌, subst}
-use Rattle.std.proofs.lemmas.List.{at_drop_more}
+use Rattle.std.proofs.Common.{◌≡◌, ℕ, zero, suc, ◌+◌, ◌<◌, inl, inr, List, [], ◌∷◌, ◌++◌, length, take, drop, get_or, slice_index_or, flat_map, codes, Bool, true, Option, Some, None, Result, Ok, Err, refl, sym, ap, ◌∙◌, subst, arith}
+use Rattle.std.proofs.lemmas.List.{at_drop_more, take_more}
 use Rattle.som_model.specs.declared.syntax.Block.{Block}
+use Rattle.som_model.specs.declared.key.ValueType.{ValueType}
 use Rattle.som_model.specs.declared.class.Sig.{Sig}
+use Rattle.som_model.specs.declared.class.Override.{Override}
 use Rattle.som_model.specs.declared.class.Way.{Way}
 use Rattle.som_model.specs.declared.class.Entry.{Entry}
 use Rattle.som_model.specs.declared.class.Entry.TheVariants as entries
 use Rattle.som_model.specs.declared.class.Body.{Body}
 use Rattle.som_model.specs.declared.class.Body.TheVariants as bodies
-use Rattle.som_model.specs.Lists.{first, or_else}
+use Rattle.som_model.specs.Lists.{Mem, every, first, or_else}
 use Rattle.som_model.specs.Class.{Class}
-use Rattle.som_model.specs.Conforming.{bodies_typed, block_breach}
-use Rattle.som_model.specs.Rules.{Breach, breach}
+use Rattle.som_model.specs.Conforming.{bodies_typed, block_breach, main_typed, override_typed}
+use Rattle.som_model.specs.Rules.{Breach, breach, is_known}
 use Rattle.som_model.specs.Typing.{Ruled, class_facts, in_body}
 use Rattle.som_model.specs.TypedBlocks.{Scope, block_scope}
 use Rattle.som_verify.specs.declared.kind.Kind.{Kind}
+use Rattle.som_verify.specs.declared.kind.Kind.TheVariants as kinds
 use Rattle.som_verify.specs.declared.types.VerifyFault.{VerifyFault}
 use Rattle.som_verify.specs.declared.types.VerifyFault.TheVariants as faults
 use Rattle.som_verify.specs.declared.knowledge.Knowledge.{Knowledge}
-use Rattle.som_verify.specs.Bodies.{StandsAt, body_breaks}
-use Rattle.som_verify.specs.Kinds.{type_at}
-use Rattle.som_verify.specs.Knowing.{all_of, facts_of}
+use Rattle.som_verify.specs.Bodies.{AllSigsKnown, SigsKnown, StandsAt, body_breaks}
+use Rattle.som_verify.specs.declared.types.Declared.{Declared}
+use Rattle.som_verify.specs.Modules.{class_of, classes_of}
+use Rattle.som_verify.specs.Places.{class_of_place, nobody, with_kernel}
+use Rattle.som_verify.specs.Kinds.{AreTypes, IsType, type_at}
+use Rattle.som_verify.specs.Knowing.{all_of, facts_of, sig_is_known}
 use Rattle.som_verify.specs.Scopes.{Ends, blocked_by, scope_at}
 use Rattle.som_verify.specs.Told.{Tells}
+use Rattle.som_verify.proofs.DeclaredClasses.{item_of, long_map}
+use Rattle.som_model.proofs.KeyLaws.{both}
+use Rattle.som_plain.proofs.Members.{mem_split}
+use Rattle.som_verify.proofs.Facts.{signature_said}
+use Rattle.som_verify.proofs.Numbering.{map_append}
 use Rattle.som_verify.proofs.Passes.{first_both, tells_first}
 
 -- ---- one block
@@ -89,3 +100,83 @@ module _ (cs : List Class) (c : Class) where
 
     pub body_stops : (whole : Option Breach) (e : VerifyFault) → Tells {A = Unit {0}} (first (body_breaks cs c name sig b)) (Err e) → first (bodies_typed cs c (drop i es) bs) ≡ whole → Tells {A = Unit {0}} whole (Err e)
     body_stops whole e t same = tells_first (first (body_breaks cs c name sig b)) (first (bodies_typed cs c (drop (i + 1) es) later)) whole e t (sym body_next ∙ same)
+
+-- ---- one list of bodies and then another
+
+pub both_here : (xs ys : List Breach) (e : VerifyFault) → Tells {A = Unit {0}} (first xs) (Err e) → Tells {A = Unit {0}} (first (xs ++ ys)) (Err e)
+both_here xs ys e t = tells_first (first xs) (first ys) (first (xs ++ ys)) e t (sym (first_both xs ys))
+
+pub both_later : (xs ys : List Breach) (r : Result (Unit {0}) VerifyFault) → first xs ≡ None → Tells (first ys) r → Tells (first (xs ++ ys)) r
+both_later xs ys r none t = subst (λ o. Tells o r) (sym (first_both xs ys ∙ ap (λ o. or_else o (first ys)) none)) t
+
+-- ---- a declared class at its place
+
+any_or : (cs : List Class) (i : ℕ) (d e : Class) → i < length cs → slice_index_or cs i d ≡ slice_index_or cs i e
+any_or [] i d e lt = absurd (omega arith)
+any_or (x ∷ cs) zero d e lt = refl
+any_or (x ∷ cs) (suc i) d e lt = any_or cs i d e (omega arith)
+
+pub declared_stands : (ds : List Declared) (place : ℕ) (d : Declared) → place < length ds → d ≡ slice_index_or ds place d → StandsAt (with_kernel (classes_of ds)) (place + 4) (class_of d)
+declared_stands ds place d lt is =
+    let four : suc (suc (suc (suc place))) ≡ place + 4 = omega arith in
+    record {
+      there = (omega arith, omega (arith, lt, long_map class_of ds));
+      is = ap (class_of_place (with_kernel (classes_of ds))) (sym four) ∙ any_or (classes_of ds) place nobody (class_of d) (omega (arith, lt, long_map class_of ds)) ∙ sym (item_of ds place d lt) ∙ ap class_of (sym is);
+    }
+
+mem_of : (ds : List Declared) (place : ℕ) (d : Declared) → place < length ds → d ≡ slice_index_or ds place d → Mem (class_of d) (classes_of ds)
+mem_of [] place d lt is = absurd (omega arith)
+mem_of (x ∷ ds) zero d lt is = inl (ap class_of is)
+mem_of (x ∷ ds) (suc place) d lt is = inr (mem_of ds place d (omega arith) is)
+
+pub declared_sigs : (cs : List Class) (ds : List Declared) (place : ℕ) (d : Declared) → place < length ds → d ≡ slice_index_or ds place d → AllSigsKnown cs (classes_of ds) → SigsKnown cs (class_of d)
+declared_sigs cs ds place d lt is all = all.by (class_of d) (mem_of ds place d lt is)
+
+-- ---- an override by its signature
+
+abbrev by_sig : List Class → Class → Override → Option Sig → List Breach
+by_sig cs c o None = []
+by_sig cs c o (Some sig) = block_breach cs c o.method.name sig o.block
+
+pub unsigned : (cs : List Class) (c : Class) (o : Override) → None ≡ (class_facts cs).signature o.method → first (override_typed cs c o) ≡ None
+unsigned cs c o e = ap (λ z. first (by_sig cs c o z)) (sym (e ∙ signature_said cs o.method))
+
+pub signed : (cs : List Class) (c : Class) (o : Override) (sig : Sig) (r : Result (Unit {0}) VerifyFault) → Some sig ≡ (class_facts cs).signature o.method
+    → Tells (first (block_breach cs c o.method.name sig o.block)) r → Tells (first (override_typed cs c o)) r
+signed cs c o sig r e t = subst (λ z. Tells (first (by_sig cs c o z)) r) (e ∙ signature_said cs o.method) t
+
+-- ---- main
+
+-- what main that breaks a rule is told as
+abbrev main_told : Ruled Scope → List Breach
+main_told (Ok scope) = []
+main_told (Err rule) = record { rule = rule; class = codes "main"; member = codes "-" } ∷ []
+
+module _ (known : Knowledge) (main : Block) where
+  pub main_holds : (after : List Kind) → Ends (blocked_by known (record { class = None; result = kinds.Void }) [] main) [] after → first (main_typed (all_of known) main) ≡ None
+  main_holds after ends = ap (λ (z : Ruled Scope). first (main_told z)) ends.ends
+
+  pub main_breaks : (rule : ℕ) (class member : List ℕ) → blocked_by known (record { class = None; result = kinds.Void }) [] main ≡ Err rule → class ≡ codes "main" → member ≡ codes "-"
+      → Tells {A = Unit {0}} (first (main_typed (all_of known) main)) (Err (faults.Rule (record { rule = rule; class = class; member = member })))
+  main_breaks rule class member is named shown =
+      ap (λ (z : Ruled Scope). first (main_told z)) is ∙ ap (λ z. Some (record { rule = rule; class = z; member = codes "-" })) (sym named) ∙ ap (λ z. Some (record { rule = rule; class = class; member = z })) (sym shown)
+
+-- ---- the kinds of types
+
+pub no_types : (cs : List Class) → AreTypes cs []
+no_types cs = record { by = λ k m. absurd m }
+
+pub more_types : (cs : List Class) (kinds : List Kind) (k : Kind) → AreTypes cs kinds → IsType cs k → AreTypes cs (kinds ++ k ∷ [])
+more_types cs kinds k types is = record { by = λ x m. elim (mem_split x kinds (k ∷ []) m) [
+  | inl n ↦ types.by x n
+  | inr n ↦ elim n [ inl same ↦ subst (IsType cs) (sym same) is | inr z ↦ absurd z ]
+] }
+
+pub more_kinds : (cs : List Class) (kinds : List Kind) (k : Kind) (ts : List ValueType) (i : ℕ) (t : ValueType) → i < length ts → t ≡ get_or ts i t → type_at cs k ≡ t
+    → scope_at cs kinds ≡ take i ts → scope_at cs (kinds ++ k ∷ []) ≡ take (i + 1) ts
+more_kinds cs kinds k ts i t lt is kind so =
+    map_append (type_at cs) kinds (k ∷ []) ∙ ap (λ z. z ++ type_at cs k ∷ []) so ∙ ap (λ z. take i ts ++ z ∷ []) (kind ∙ is) ∙ sym (take_more ts i t lt)
+
+-- each type of a signature is known
+pub sig_parts : (cs : List Class) (sig : Sig) → sig_is_known cs sig ≡ true → (is_known cs sig.result ≡ true) × (every (is_known cs) sig.params ≡ true)
+sig_parts cs sig e = both (is_known cs sig.result) (every (is_known cs) sig.params) e
