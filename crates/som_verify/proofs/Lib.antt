@@ -35,3 +35,4 @@ pub mod BodySteps
 pub mod Grounds
 pub mod Conforming
 pub mod KnownLaws
+pub mod CallLaws

@@ -4,9 +4,10 @@ use Rattle.som_model.specs.declared.key.ValueType.{ValueType}
 use Rattle.som_model.specs.declared.key.ValueType.TheVariants as types
 use Rattle.som_model.specs.Lists.{Mem}
 use Rattle.som_model.specs.Class.{Class}
+use Rattle.som_model.specs.Steps.{◌>>=◌}
 use Rattle.som_model.specs.Keys.{same_key}
 use Rattle.som_model.specs.declared.key.ClassKey.{ClassKey}
-use Rattle.som_model.specs.Typing.{ClassFacts, CodePlace, ExprType, Of, PlainNil, Ruled, Typed}
+use Rattle.som_model.specs.Typing.{ClassFacts, CodePlace, ExprType, Of, PlainNil, Ruled, Typed, value, values}
 use Rattle.som_verify.specs.declared.kind.Kind.{Kind}
 use Rattle.som_verify.specs.declared.kind.Kind.TheVariants as kinds
 use Rattle.som_verify.specs.declared.code_place.CodePlace.{CodePlace as Place}
@@ -82,6 +83,13 @@ Types cs typed (Err fault) = Fails typed fault
 pub record AreTyped (cs : List Class) (typed : Ruled (List ExprType)) (given : List Kind) : Type 0 where
   pub types : typed ≡ Ok (map (kind_at cs) given)
   pub stand : AllStand cs given
+
+-- what a form comes to that looks at the type of one part, or at those of arguments
+abbrev pub of_one : Typed → (ExprType → Typed) → Typed
+of_one part form = value part >>= form
+
+abbrev pub of_all : List Typed → (List ExprType → Typed) → Typed
+of_all parts form = values parts >>= form
 
 abbrev pub class_by : List Class → Option ℕ → Option Class
 class_by cs None = None

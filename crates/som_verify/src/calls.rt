@@ -1,14 +1,16 @@
 ghost use Rattle.som_model.specs.Typing as typing;
 ghost use Rattle.som_verify.specs.Kinds.{AllStand, Comes, IsType, Names, PlaceStands, Stands, code_at, is_proper_at, key_of, kind_at, parent_at, type_at};
+ghost use Rattle.som_model.specs.Keys.{same_key};
+ghost use Rattle.som_verify.specs.Places.{key_at};
 ghost use Rattle.som_verify.specs.Knowing.{IsKnowledge, all_of, facts_of, sig_is_known};
-ghost use Rattle.std.specs.Prelude.{◌≡◌, ◌<◌, true, length, map, Ok, IfSome};
+ghost use Rattle.std.specs.Prelude.{◌≡◌, ◌<◌, ◌&&◌, not, true, length, map, Ok, IfSome};
 
 use crate::code_place::CodePlace;
 use crate::forms::{gives, is_nothing, is_object, is_reference};
 use crate::kind::Kind;
 use crate::knowledge::{
-    Knowledge, decl_at, descends_from, is_instance, kind_fits, kind_of, metaclass_of, owner,
-    place_of, signature_of, type_fits,
+    Knowledge, decl_at, descends_from, is_below, is_instance, kind_fits, kind_of, metaclass_of,
+    owner, place_of, signature_of, type_fits,
 };
 use crate::table::SOM_CLASS;
 use som_model::{ClassKey, MAX_PARAMETERS, MethodRef, Sig, ValueType};
@@ -259,9 +261,19 @@ fn is_proper(known: &Knowledge, at: &CodePlace, ancestor: &ClassKey) -> bool
     ensures { result ≡ is_proper_at (facts_of known.now) (code_at (all_of known.now) at.now).class ancestor.now }
 {
     match at.class {
-        Some(class) => {
-            place_of(known, ancestor) != Some(class) && descends_from(known, class, ancestor)
-        }
+        Some(class) => is_above(known, class, ancestor),
+        None => false,
+    }
+}
+
+fn is_above(known: &Knowledge, class: usize, ancestor: &ClassKey) -> bool
+    requires known { IsKnowledge known.now }
+    requires class { class < length (all_of known.now) }
+    ensures { result ≡ (not (same_key ancestor.now (key_at (all_of known.now) class))
+        && (facts_of known.now).is_a (key_at (all_of known.now) class) ancestor.now) }
+{
+    match place_of(known, ancestor) {
+        Some(place) => place != class && is_below(known, class, place),
         None => false,
     }
 }

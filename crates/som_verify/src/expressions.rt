@@ -1,6 +1,5 @@
-ghost use Rattle.som_model.specs.Steps.{◌>>=◌};
 ghost use Rattle.som_model.specs.Typing as typing;
-ghost use Rattle.som_verify.specs.Kinds.{AreTyped, AreTypes, Fails, PlaceStands, Types};
+ghost use Rattle.som_verify.specs.Kinds.{AreTyped, AreTypes, Fails, PlaceStands, Stands, Types, kind_at, of_all, of_one};
 ghost use Rattle.som_verify.specs.Knowing.{IsKnowledge, all_of, IsCode, classes_in, facts_in, place_in, typed_by, typed_in};
 ghost use Rattle.std.specs.Prelude.{IfErr, IfOk, map};
 
@@ -75,37 +74,52 @@ fn kind_in(alloc: Global, code: &Code, expr: &Expr) -> Result<Kind, TypeFault>
         Expr::Me => Ok(self_kind(&code.known, &code.at)?),
         Expr::Variable(place) => Ok(variable_kind(&code.known, &code.at, *place as usize)?),
         Expr::Unary { op, of } => unary(alloc, code, *op, of),
-        Expr::Binary { op, left, right } => binary(alloc, code, *op, left, right),
+        Expr::Binary { op, left, right } => {
+            let left = value_in(alloc, code, left.get())?;
+            binary(alloc, code, *op, left, right)
+        }
         Expr::New(class) => Ok(new_kind(&code.known, class)?),
         Expr::Class(class) => Ok(class_kind(&code.known, class)?),
         Expr::Manager => Ok(Kind::Class(SOM_CLASS_MGR)),
-        Expr::Cast { class, of } => cast(alloc, code, class, of),
-        Expr::Isa { class, of } => isa(alloc, code, class, of),
-        Expr::Proxy { class, of } => proxy(alloc, code, class, of),
+        Expr::Cast { class, of } => cast(alloc, code, of, class),
+        Expr::Isa { class, of } => isa(alloc, code, of, class),
+        Expr::Proxy { class, of } => proxy(alloc, code, of, class),
         Expr::OffsetCall {
             method,
             receiver,
             args,
-        } => offset_call(alloc, code, method, receiver, args),
+        } => {
+            let receiver = value_in(alloc, code, receiver.get())?;
+            offset_call(alloc, code, method, receiver, args)
+        }
         Expr::Lookup {
             result: answer,
             receiver,
             args,
             ..
-        } => named_call(alloc, code, answer, receiver, args),
+        } => {
+            let receiver = value_in(alloc, code, receiver.get())?;
+            named_call(alloc, code, answer, receiver, args)
+        }
         Expr::Dispatch {
             result: answer,
             receiver,
             args,
             ..
-        } => named_call(alloc, code, answer, receiver, args),
+        } => {
+            let receiver = value_in(alloc, code, receiver.get())?;
+            named_call(alloc, code, answer, receiver, args)
+        }
         Expr::ParentCall {
             parent,
             method,
             args,
         } => parent_call(alloc, code, *parent as usize, method, args),
         Expr::ParentsCall { method, args } => parents_call(alloc, code, method, args),
-        Expr::Host { a, b, .. } => host(alloc, code, a, b),
+        Expr::Host { a, b, .. } => {
+            let left = value_in(alloc, code, a.get())?;
+            host(alloc, code, left, b)
+        }
     }
 }
 
@@ -134,7 +148,7 @@ fn values_in(alloc: Global, code: &Code, args: &List<Expr>) -> Result<Vec<Kind>,
 #[cycle(kinds)]
 fn unary(alloc: Global, code: &Code, op: u8, of: &Boxed<Expr>) -> Result<Kind, TypeFault>
     requires { IsCode code.now }
-    ensures { Types (classes_in code.now) (typing.value (typed_in code.now of.now) >>= typing.unary_type op) result }
+    ensures { Types (classes_in code.now) (of_one (typed_in code.now of.now) (typing.unary_type op)) result }
 {
     let kind = value_in(alloc, code, of.get())?;
     Ok(unary_kind(op, kind)?)
@@ -145,51 +159,51 @@ fn binary(
     alloc: Global,
     code: &Code,
     op: u8,
-    left: &Boxed<Expr>,
+    left: Kind,
     right: &Boxed<Expr>,
 ) -> Result<Kind, TypeFault>
-    requires { IsCode code.now }
-    ensures { Types (classes_in code.now) (typing.value (typed_in code.now left.now) >>= λ s. typing.value (typed_in code.now right.now) >>= typing.binary_type op s) result }
+    requires code { IsCode code.now }
+    requires left { Stands (classes_in code.now) left }
+    ensures { Types (classes_in code.now) (of_one (typed_in code.now right.now) (typing.binary_type op (kind_at (classes_in code.now) left))) result }
 {
-    let left = value_in(alloc, code, left.get())?;
     let right = value_in(alloc, code, right.get())?;
     Ok(binary_kind(op, left, right)?)
 }
 
 #[cycle(kinds)]
-fn cast(alloc: Global, code: &Code, class: &ClassKey, of: &Boxed<Expr>) -> Result<Kind, TypeFault>
+fn cast(alloc: Global, code: &Code, of: &Boxed<Expr>, class: &ClassKey) -> Result<Kind, TypeFault>
     requires { IsCode code.now }
-    ensures { Types (classes_in code.now) (typing.value (typed_in code.now of.now) >>= typing.cast_type (facts_in code.now) class.now) result }
+    ensures { Types (classes_in code.now) (of_one (typed_in code.now of.now) (typing.cast_type (facts_in code.now) class.now)) result }
 {
     let kind = value_in(alloc, code, of.get())?;
     Ok(cast_kind(&code.known, class, kind)?)
 }
 
 #[cycle(kinds)]
-fn isa(alloc: Global, code: &Code, class: &ClassKey, of: &Boxed<Expr>) -> Result<Kind, TypeFault>
+fn isa(alloc: Global, code: &Code, of: &Boxed<Expr>, class: &ClassKey) -> Result<Kind, TypeFault>
     requires { IsCode code.now }
-    ensures { Types (classes_in code.now) (typing.value (typed_in code.now of.now) >>= typing.isa_type (facts_in code.now) class.now) result }
+    ensures { Types (classes_in code.now) (of_one (typed_in code.now of.now) (typing.isa_type (facts_in code.now) class.now)) result }
 {
     let kind = value_in(alloc, code, of.get())?;
     Ok(isa_kind(&code.known, class, kind)?)
 }
 
 #[cycle(kinds)]
-fn proxy(alloc: Global, code: &Code, class: &ClassKey, of: &Boxed<Expr>) -> Result<Kind, TypeFault>
+fn proxy(alloc: Global, code: &Code, of: &Boxed<Expr>, class: &ClassKey) -> Result<Kind, TypeFault>
     requires { IsCode code.now }
-    ensures { Types (classes_in code.now) (typing.value (typed_in code.now of.now) >>= typing.proxy_type (facts_in code.now) class.now) result }
+    ensures { Types (classes_in code.now) (of_one (typed_in code.now of.now) (typing.proxy_type (facts_in code.now) class.now)) result }
 {
     let kind = value_in(alloc, code, of.get())?;
     Ok(proxy_kind(&code.known, class, kind)?)
 }
 
 #[cycle(kinds)]
-fn host(alloc: Global, code: &Code, a: &Boxed<Expr>, b: &Boxed<Expr>) -> Result<Kind, TypeFault>
-    requires { IsCode code.now }
-    ensures { Types (classes_in code.now) (typing.value (typed_in code.now a.now) >>= λ s. typing.value (typed_in code.now b.now) >>= typing.host_type s) result }
+fn host(alloc: Global, code: &Code, left: Kind, right: &Boxed<Expr>) -> Result<Kind, TypeFault>
+    requires code { IsCode code.now }
+    requires left { Stands (classes_in code.now) left }
+    ensures { Types (classes_in code.now) (of_one (typed_in code.now right.now) (typing.host_type (kind_at (classes_in code.now) left))) result }
 {
-    let left = value_in(alloc, code, a.get())?;
-    let right = value_in(alloc, code, b.get())?;
+    let right = value_in(alloc, code, right.get())?;
     Ok(host_kind(left, right)?)
 }
 
@@ -198,13 +212,13 @@ fn offset_call(
     alloc: Global,
     code: &Code,
     method: &MethodRef,
-    receiver: &Boxed<Expr>,
+    receiver: Kind,
     args: &List<Expr>,
 ) -> Result<Kind, TypeFault>
-    requires { IsCode code.now }
-    ensures { Types (classes_in code.now) (typing.value (typed_in code.now receiver.now) >>= λ on. typing.values (map (typed_in code.now) args.now) >>= typing.offset_call_type (facts_in code.now) method.now on) result }
+    requires code { IsCode code.now }
+    requires receiver { Stands (classes_in code.now) receiver }
+    ensures { Types (classes_in code.now) (of_all (map (typed_in code.now) args.now) (typing.offset_call_type (facts_in code.now) method.now (kind_at (classes_in code.now) receiver))) result }
 {
-    let receiver = value_in(alloc, code, receiver.get())?;
     let args = values_in(alloc, code, args)?;
     Ok(offset_call_kind(&code.known, method, receiver, &args)?)
 }
@@ -214,13 +228,13 @@ fn named_call(
     alloc: Global,
     code: &Code,
     answer: &ValueType,
-    receiver: &Boxed<Expr>,
+    receiver: Kind,
     args: &List<Expr>,
 ) -> Result<Kind, TypeFault>
-    requires { IsCode code.now }
-    ensures { Types (classes_in code.now) (typing.value (typed_in code.now receiver.now) >>= λ on. typing.values (map (typed_in code.now) args.now) >>= typing.named_call_type (facts_in code.now) answer.now on) result }
+    requires code { IsCode code.now }
+    requires receiver { Stands (classes_in code.now) receiver }
+    ensures { Types (classes_in code.now) (of_all (map (typed_in code.now) args.now) (typing.named_call_type (facts_in code.now) answer.now (kind_at (classes_in code.now) receiver))) result }
 {
-    let receiver = value_in(alloc, code, receiver.get())?;
     let args = values_in(alloc, code, args)?;
     Ok(named_call_kind(&code.known, answer, receiver, &args)?)
 }
@@ -234,7 +248,7 @@ fn parent_call(
     args: &List<Expr>,
 ) -> Result<Kind, TypeFault>
     requires { IsCode code.now }
-    ensures { Types (classes_in code.now) (typing.values (map (typed_in code.now) args.now) >>= typing.parent_call_type (facts_in code.now) (place_in code.now) parent method.now) result }
+    ensures { Types (classes_in code.now) (of_all (map (typed_in code.now) args.now) (typing.parent_call_type (facts_in code.now) (place_in code.now) parent method.now)) result }
 {
     let args = values_in(alloc, code, args)?;
     Ok(parent_call_kind(&code.known, &code.at, parent, method, &args)?)
@@ -248,7 +262,7 @@ fn parents_call(
     args: &List<Expr>,
 ) -> Result<Kind, TypeFault>
     requires { IsCode code.now }
-    ensures { Types (classes_in code.now) (typing.values (map (typed_in code.now) args.now) >>= typing.parents_call_type (facts_in code.now) (place_in code.now) method.now) result }
+    ensures { Types (classes_in code.now) (of_all (map (typed_in code.now) args.now) (typing.parents_call_type (facts_in code.now) (place_in code.now) method.now)) result }
 {
     let args = values_in(alloc, code, args)?;
     Ok(parents_call_kind(&code.known, &code.at, method, &args)?)

@@ -14,7 +14,7 @@ returns-in-Some-clause-is c =
     c.introduced_by.ensures
     ∙ ap (λ es. introduced_sig (entry_of es m.name.now)) c.entries_of.ensures
     ∙ signature_there (classes_of known.classes.now) (texts known.table.now.keys) c.requires.table c.args.method.now (method_of m) c.owner-method.ensures
-      c.in-Some.place c.in-Some.ensures.finds.1 c.in-Some.ensures.finds.2
+    c.in-Some.place c.in-Some.ensures.finds.1 c.in-Some.ensures.finds.2
 
 pub returns-in-Some-clause-known : goal.returns-in-Some-clause-known
 returns-in-Some-clause-known c =
