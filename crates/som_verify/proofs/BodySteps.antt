@@ -34,6 +34,7 @@ use Rattle.som_model.proofs.KeyLaws.{both}
 use Rattle.som_plain.proofs.Members.{mem_split}
 use Rattle.som_verify.proofs.Facts.{signature_said}
 use Rattle.som_verify.proofs.Numbering.{map_append}
+use Rattle.som_verify.proofs.PlainLists.{mem_map}
 use Rattle.som_verify.proofs.Passes.{first_both, tells_first}
 
 -- ---- one block
@@ -62,6 +63,11 @@ module _ (known : Knowledge) (place : ℕ) (c : Class) (sig : Sig) (block : Bloc
       (ap (λ (z : Ruled Scope). first (told_of c name z)) (sym block_is ∙ is))
 
 -- ---- one member after the other
+
+pub item_mem : {A : Type 0} (xs : List A) (i : ℕ) (x : A) → i < length xs → x ≡ slice_index_or xs i x → Mem x xs
+item_mem [] i x lt is = absurd (omega arith)
+item_mem (y ∷ xs) zero x lt is = inl is
+item_mem (y ∷ xs) (suc i) x lt is = inr (item_mem xs i x (omega arith) is)
 
 module _ {A : Type 0} (one : A → List Breach) (xs : List A) (i : ℕ) (x : A) (lt : i < length xs) (is : x ≡ get_or xs i x) where
   next_is : first (flat_map one (drop i xs)) ≡ or_else (first (one x)) (first (flat_map one (drop (i + 1) xs)))
@@ -124,13 +130,8 @@ declared_stands ds place d lt is =
       is = ap (class_of_place (with_kernel (classes_of ds))) (sym four) ∙ any_or (classes_of ds) place nobody (class_of d) (omega (arith, lt, long_map class_of ds)) ∙ sym (item_of ds place d lt) ∙ ap class_of (sym is);
     }
 
-mem_of : (ds : List Declared) (place : ℕ) (d : Declared) → place < length ds → d ≡ slice_index_or ds place d → Mem (class_of d) (classes_of ds)
-mem_of [] place d lt is = absurd (omega arith)
-mem_of (x ∷ ds) zero d lt is = inl (ap class_of is)
-mem_of (x ∷ ds) (suc place) d lt is = inr (mem_of ds place d (omega arith) is)
-
 pub declared_sigs : (cs : List Class) (ds : List Declared) (place : ℕ) (d : Declared) → place < length ds → d ≡ slice_index_or ds place d → AllSigsKnown cs (classes_of ds) → SigsKnown cs (class_of d)
-declared_sigs cs ds place d lt is all = all.by (class_of d) (mem_of ds place d lt is)
+declared_sigs cs ds place d lt is all = all.by (class_of d) (mem_map class_of d ds (item_mem ds place d lt is))
 
 -- ---- an override by its signature
 
