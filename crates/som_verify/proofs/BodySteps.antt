@@ -1,5 +1,5 @@
 -- Bodies one after the other, and the block of each.
-use Rattle.std.proofs.Common.{◌≡◌, ℕ, zero, suc, ◌+◌, ◌<◌, inl, inr, List, [], ◌∷◌, ◌++◌, length, take, drop, get_or, slice_index_or, flat_map, codes, Bool, true, Option, Some, None, Result, Ok, Err, refl, sym, ap, ◌∙◌, subst, arith}
+use Rattle.std.proofs.Common.{◌≡◌, ℕ, zero, suc, ◌+◌, ◌-◌, ◌<◌, ◌≤◌, inl, inr, List, [], ◌∷◌, ◌++◌, length, take, drop, get_or, slice_index_or, flat_map, codes, Bool, true, Option, Some, None, Result, Ok, Err, refl, sym, ap, ◌∙◌, subst, arith}
 use Rattle.std.proofs.lemmas.List.{at_drop_more, take_more}
 use Rattle.som_model.specs.declared.syntax.Block.{Block}
 use Rattle.som_model.specs.declared.key.ValueType.{ValueType}
@@ -35,6 +35,7 @@ use Rattle.som_plain.proofs.Members.{mem_split}
 use Rattle.som_verify.proofs.Facts.{signature_said}
 use Rattle.som_verify.proofs.Numbering.{map_append}
 use Rattle.som_verify.proofs.PlainLists.{mem_map}
+use Rattle.som_verify.proofs.Rows.{take_whole}
 use Rattle.som_verify.proofs.Passes.{first_both, tells_first}
 
 -- ---- one block
@@ -83,6 +84,14 @@ module _ {A : Type 0} (one : A → List Breach) (xs : List A) (i : ℕ) (x : A) 
   next_breaks whole e t same = tells_first (first (one x)) (first (flat_map one (drop (i + 1) xs))) whole e t (sym next_is ∙ same)
 
 -- ---- introduced bodies
+
+pub entry_mem : (es : List Entry) (i : ℕ) (x : Entry) (name : List ℕ) (sig : Sig) (way : Way) → i < length es → x ≡ slice_index_or es i x → x ≡ entries.Introduced name sig way → Mem (entries.Introduced name sig way) es
+entry_mem es i x name sig way lt is form = subst (λ (z : Entry). Mem z es) form (item_mem es i x lt is)
+
+-- a list that isn't empty is its first and the rest
+pub first_and_rest : {A : Type 0} (xs : List A) (x : A) → 1 ≤ length xs → x ≡ slice_index_or xs 0 x → xs ≡ x ∷ take (length xs - 1) (drop 1 xs)
+first_and_rest [] x le is = absurd (omega arith)
+first_and_rest (y ∷ xs) x le is = ap (λ z. z ∷ xs) (sym is) ∙ ap (λ z. x ∷ z) (sym (take_whole xs (length (y ∷ xs) - 1) (omega arith)))
 
 module _ (cs : List Class) (c : Class) where
   body_first : (name : List ℕ) (sig : Sig) (way : Way) (es : List Entry) (b : Body) (bs : List Body)

@@ -1,6 +1,7 @@
 -- Calls, by the types of their parts.
-use Rattle.std.proofs.Common.{◌≡◌, ℕ, zero, suc, ◌<◌, ◌≤◌, ◌==◌, inl, inr, Bool, true, false, not, ◌&&◌, List, [], ◌∷◌, drop, map, length, slice_get, slice_index_or, Option, Some, None, is_some, Ok, Err, refl, sym, ap, ◌∙◌, arith, true≢false}
+use Rattle.std.proofs.Common.{◌≡◌, ℕ, zero, suc, ◌<◌, ◌≤◌, ◌==◌, Bool, true, false, not, ◌&&◌, List, [], ◌∷◌, map, length, slice_get, slice_index_or, Some, None, Ok, Err, refl, sym, ap, ◌∙◌, arith}
 use Rattle.std.specs.Prelude.{unwrap_or}
+use Rattle.std.proofs.lemmas.Bool.{eqb-true}
 use Rattle.som_model.specs.declared.key.ClassKey.{ClassKey}
 use Rattle.som_model.specs.declared.key.ValueType.{ValueType}
 use Rattle.som_model.specs.declared.key.ValueType.TheVariants as types
@@ -11,17 +12,15 @@ use Rattle.som_model.specs.Class.{Class}
 use Rattle.som_model.specs.Classes.{class_at}
 use Rattle.som_model.specs.Keys.{same_key}
 use Rattle.som_model.specs.Kernel.{som_class}
-use Rattle.som_model.specs.Lists.{Mem, every}
+use Rattle.som_model.specs.Lists.{every}
 use Rattle.som_model.specs.Rules.{is_known}
 use Rattle.som_model.specs.Typing.{ClassFacts, ExprType, Of, all_fit, class_facts, class_type, fits, kind_is_known, own_variable}
-use Rattle.som_model.proofs.KeyLaws.{both}
-use Rattle.som_verify.specs.declared.kind.Kind.{Kind}
+use Rattle.som_model.proofs.KeyLaws.{both, exact_keys}
 use Rattle.som_verify.specs.declared.code_place.CodePlace.{CodePlace as Place}
-use Rattle.som_verify.specs.Kinds.{code_at, kind_at, parent_at}
+use Rattle.som_verify.specs.Kinds.{code_at, parent_at}
 use Rattle.som_verify.specs.Knowing.{sig_is_known}
 use Rattle.som_verify.specs.Places.{Finds, class_of_place, face_at, key_at}
 use Rattle.som_verify.specs.Walk.{AreLists}
-use Rattle.som_verify.proofs.DeclaredClasses.{long_map}
 use Rattle.som_verify.proofs.Facts.{kind_said, object_of, object_said}
 use Rattle.som_verify.proofs.KeyLists.{alike}
 use Rattle.som_verify.proofs.KnownLaws.{descends_from_none}
@@ -42,14 +41,6 @@ differ_in_length w [] (t ∷ ts) f = refl
 differ_in_length w (p ∷ ps) [] f = refl
 differ_in_length w (p ∷ ps) (t ∷ ts) f = fails_both (fits w p t) (all_fit w ps ts) (differ_in_length w ps ts (λ e. f (ap suc e)))
 
-pub fit_from : (cs : List Class) (w : ClassFacts) (ps : List ValueType) (args : List Kind) (i : ℕ) (p : ValueType) (k : Kind) → i < length ps → length ps ≡ length args
-    → all_fit w (drop i ps) (map (kind_at cs) (drop i args))
-    ≡ (fits w (slice_index_or ps i p) (kind_at cs (slice_index_or args i k)) && all_fit w (drop (suc i) ps) (map (kind_at cs) (drop (suc i) args)))
-fit_from cs w [] args i p k lt e = absurd (omega arith)
-fit_from cs w (q ∷ ps) [] i p k lt e = absurd (omega (arith, e))
-fit_from cs w (q ∷ ps) (a ∷ args) zero p k lt e = refl
-fit_from cs w (q ∷ ps) (a ∷ args) (suc i) p k lt e = fit_from cs w ps args i p k (omega arith) (omega (arith, e))
-
 -- ---- the object of a class
 
 pub object_there : (cs : List Class) (all : List (List ℕ)) (p : ℕ) (k : ClassKey) → AreLists cs all → p < length cs → key_at cs p ≡ k
@@ -60,11 +51,6 @@ pub class_typed_by : (w : ClassFacts) (k o : ClassKey) → true ≡ w.is_known k
 class_typed_by w k o known e = rw (sym known, e) refl
 
 -- ---- what the body's class declares
-
-pub index_mem : {A : Type 0} (xs : List A) (i : ℕ) (d : A) → i < length xs → Mem (slice_index_or xs i d) xs
-index_mem [] i d lt = absurd (omega arith)
-index_mem (x ∷ xs) zero d lt = inl refl
-index_mem (x ∷ xs) (suc i) d lt = inr (index_mem xs i d (omega arith))
 
 kind_got : (vs : List Variable) (n : ℕ) (d : Variable) → n < length vs → slice_get (map (λ v. v.kind) vs) n ≡ Some (slice_index_or vs n d).kind
 kind_got [] n d lt = absurd (omega arith)
@@ -95,7 +81,24 @@ pub above_none : (cs : List Class) (all : List (List ℕ)) (x : ℕ) (k : ClassK
     → false ≡ (not (same_key k (key_at cs x)) && (class_facts cs).is_a (key_at cs x) k)
 above_none cs all x k lists lt f = fails_both (not (same_key k (key_at cs x))) ((class_facts cs).is_a (key_at cs x) k) (descends_from_none cs all x k lists lt f)
 
-pub other_key : (cs : List Class) (all : List (List ℕ)) (x a : ℕ) (k : ClassKey) → AreLists cs all → x < length cs → a < length cs → key_at cs a ≡ k
-    → not (a == x) ≡ not (same_key k (key_at cs x))
-other_key cs all x a k lists lx la is =
-    ap not (alike cs lists.once a x la lx (a == x) (same_key (key_at cs a) (key_at cs x)) refl refl) ∙ ap (λ z. not (same_key z (key_at cs x))) is
+different : (a x : ℕ) → (a ≡ x → ⊥) → (a == x) ≡ false
+different a x f = by (a == x) refl
+  where
+    by : (b : Bool) → (a == x) ≡ b → b ≡ false
+    by true e = absurd (f (eqb-true a x e))
+    by false e = refl
+
+module _ (cs : List Class) (all : List (List ℕ)) (x a : ℕ) (k : ClassKey) (lists : AreLists cs all) (lx : x < length cs) (la : a < length cs) (is : key_at cs a ≡ k) where
+  one_key : (a == x) ≡ same_key k (key_at cs x)
+  one_key = alike cs lists.once a x la lx (a == x) (same_key (key_at cs a) (key_at cs x)) refl refl ∙ ap (λ z. same_key z (key_at cs x)) is
+
+  -- another class is above where it is an ancestor
+  pub above_other : (r : Bool) → (a ≡ x → ⊥) → r ≡ (class_facts cs).is_a (key_at cs x) (key_at cs a) → r ≡ (not (same_key k (key_at cs x)) && (class_facts cs).is_a (key_at cs x) k)
+  above_other r f e = let no_ : same_key k (key_at cs x) ≡ false = sym one_key ∙ different a x f in rw no_ (e ∙ ap (λ z. (class_facts cs).is_a (key_at cs x) z) is)
+
+  -- and no class is above itself
+  pub above_itself : a ≡ x → not (a == x) ≡ (not (same_key k (key_at cs x)) && (class_facts cs).is_a (key_at cs x) k)
+  above_itself e =
+      let same : same_key k (key_at cs x) ≡ true = ap (λ z. same_key z (key_at cs x)) (sym is ∙ ap (key_at cs) e) ∙ exact_keys.one (key_at cs x) in
+      let itself : (a == x) ≡ true = one_key ∙ same in
+      rw (itself, same) refl

@@ -1,5 +1,5 @@
 -- What is known of classes, by their places.
-use Rattle.std.proofs.Common.{◌≡◌, ℕ, zero, suc, ◌<◌, ◌≤◌, ◌-◌, Bool, true, false, List, [], ◌∷◌, length, slice_index_or, option_copied, IfSome, Bor, arith, Option, Some, None, is_some, refl, sym, ap, ◌∙◌}
+use Rattle.std.proofs.Common.{◌≡◌, ℕ, zero, suc, ◌<◌, ◌≤◌, ◌-◌, true, false, List, [], ◌∷◌, length, slice_index_or, option_copied, IfSome, Bor, arith, Option, Some, None, is_some, refl, sym, ap, ◌∙◌}
 use Rattle.som_model.specs.declared.key.ClassKey.{ClassKey}
 use Rattle.som_model.specs.declared.key.MethodRef.{MethodRef}
 use Rattle.som_model.specs.declared.class.Sig.{Sig}
@@ -14,7 +14,7 @@ use Rattle.som_verify.specs.Places.{Finds, IsTable, class_of_place, face_at, key
 use Rattle.som_verify.specs.Walk.{AreLists}
 use Rattle.som_verify.proofs.DeclaredClasses.{long_map}
 use Rattle.som_verify.proofs.Descending.{is_a_none}
-use Rattle.som_verify.proofs.Facts.{descent_said, known_said, object_said, object_of, owner_said, signature_said}
+use Rattle.som_verify.proofs.Facts.{descent_said, owner_said, signature_said}
 use Rattle.som_verify.proofs.Finding.{known_at_all}
 use Rattle.som_verify.proofs.Owners.{entry_there, entry_unknown}
 

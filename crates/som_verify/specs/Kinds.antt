@@ -118,7 +118,7 @@ is_proper_at w (Some c) k = not (same_key k c.key) && w.is_a c.key k
 abbrev pub IsDeclared : List Class → ℕ → Type 0
 IsDeclared cs place = (4 ≤ place) × (place < length cs)
 
-abbrev ClassStands : List Class → Option ℕ → Type 0
+abbrev pub ClassStands : List Class → Option ℕ → Type 0
 ClassStands cs None = Unit {0}
 ClassStands cs (Some place) = IsDeclared cs place
 

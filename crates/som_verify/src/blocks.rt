@@ -49,6 +49,19 @@ pub fn blocks_typed(alloc: Global, classes: &[Declared], base: usize) -> Result<
     ensures { Tells (first (flat_map (typed_class (with_kernel (classes_of classes.now))) (classes_of (drop base classes.now)))) result }
 {
     let parts = parts_of(alloc, classes)?;
+    classes_typed(alloc, &parts, classes, base)
+}
+
+fn classes_typed(
+    alloc: Global,
+    parts: &Parts,
+    classes: &[Declared],
+    base: usize,
+) -> Result<(), VerifyFault>
+    requires parts { AreParts (classes_of classes.now) parts.now }
+    requires rules { rules_breach base (classes_of classes.now) ≡ None }
+    ensures { Tells (first (flat_map (typed_class (with_kernel (classes_of classes.now))) (classes_of (drop base classes.now)))) result }
+{
     let known = know(
         &parts.table,
         parts.kernel.classes.as_slice(),
@@ -71,6 +84,21 @@ pub fn program_typed(
         ++ typed_main (with_kernel (classes_of classes.now)) main.now)) result }
 {
     let parts = parts_of(alloc, classes)?;
+    classes_and_main_typed(alloc, &parts, classes, base, main)
+}
+
+fn classes_and_main_typed(
+    alloc: Global,
+    parts: &Parts,
+    classes: &[Declared],
+    base: usize,
+    main: &Block,
+) -> Result<(), VerifyFault>
+    requires parts { AreParts (classes_of classes.now) parts.now }
+    requires rules { rules_breach base (classes_of classes.now) ≡ None }
+    ensures { Tells (first (flat_map (typed_class (with_kernel (classes_of classes.now))) (classes_of (drop base classes.now))
+        ++ typed_main (with_kernel (classes_of classes.now)) main.now)) result }
+{
     let known = know(
         &parts.table,
         parts.kernel.classes.as_slice(),

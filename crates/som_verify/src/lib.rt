@@ -18,6 +18,8 @@ mod forms;
 mod inherited;
 mod introduced;
 mod kind;
+#[cfg(test)]
+mod kind_cases;
 mod knowledge;
 mod known;
 mod laws;
@@ -38,14 +40,22 @@ mod statements;
 mod table;
 #[cfg(test)]
 mod tests;
+<<<<<<< HEAD
 mod typed_bodies;
 #[cfg(test)]
 mod typed_cases;
+=======
+#[cfg(test)]
+mod tests_of_kinds;
+>>>>>>> 57bedf05528d8e4dcff32cc3b0247b193b8b64f1
 mod types;
 
 pub use ancestry::ancestors;
 pub use bodies::bodies_fit;
-pub use calls::{named_call_kind, offset_call_kind, parent_call_kind, parents_call_kind};
+pub use calls::{
+    cast_kind, class_kind, isa_kind, named_call_kind, new_kind, offset_call_kind, parent_call_kind,
+    parents_call_kind, proxy_kind, self_kind, variable_kind,
+};
 pub use classes::{classes_hold, declare};
 pub use code_place::{CodePlace, TypeFault};
 pub use descent::{ancestor_lists, declared_ancestors, descends_by, is_listed};
@@ -56,7 +66,9 @@ pub use forms::{
 };
 pub use introduced::names_introduced_once;
 pub use kind::Kind;
-pub use knowledge::{Knowledge, kind_fits, kind_of, place_of, signature_of, type_fits};
+pub use knowledge::{
+    Knowledge, kind_fits, kind_of, know, owner, place_of, signature_of, type_fits,
+};
 pub use known::{type_is_known, type_is_of_value};
 pub use laws::{
     client_law, declared_lower_law, faces_law, parents_lower_law, program_law, release_law, rules_law,

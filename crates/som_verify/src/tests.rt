@@ -16,12 +16,12 @@ use std::test::Fail;
 /// What a release is about, its classes in short, and the rule, the class and the member of its first breach.
 pub type Case = (&'static str, &'static str, &'static str);
 
-pub(crate) fn text(alloc: Global, name: &str) -> Result<Text, NoMemory> {
+pub fn text(alloc: Global, name: &str) -> Result<Text, NoMemory> {
     Text::from_slice(alloc, name.as_bytes())
 }
 
 // Names that begin with SOM are the kernel's, with `?` the client's, and with `!` the library's.
-pub(crate) fn key(alloc: Global, name: &str) -> Result<ClassKey, NoMemory> {
+pub fn key(alloc: Global, name: &str) -> Result<ClassKey, NoMemory> {
     let (module, name) = if let Some(rest) = name.strip_prefix("?") {
         (Module::Client, rest)
     } else if let Some(rest) = name.strip_prefix("!") {
@@ -37,7 +37,7 @@ pub(crate) fn key(alloc: Global, name: &str) -> Result<ClassKey, NoMemory> {
     })
 }
 
-pub(crate) fn kind(alloc: Global, name: &str) -> Result<ValueType, NoMemory> {
+pub fn kind(alloc: Global, name: &str) -> Result<ValueType, NoMemory> {
     match name {
         "void" => Ok(ValueType::Void),
         "long" => Ok(ValueType::Long),
@@ -93,7 +93,7 @@ fn empty_class(alloc: Global) -> Result<ClassDecl, NoMemory> {
     })
 }
 
-pub(crate) fn words<'a>(alloc: Global, line: &'a str, by: &str) -> Result<Vec<&'a str>, NoMemory> {
+pub fn words<'a>(alloc: Global, line: &'a str, by: &str) -> Result<Vec<&'a str>, NoMemory> {
     let mut words = Vec::new(alloc);
     for word in line.split(by) {
         words.push(word)?;
@@ -139,7 +139,7 @@ fn add(alloc: Global, class: &mut ClassDecl, words: &[&str]) -> Result<(), Fail>
     Ok(())
 }
 
-fn release(alloc: Global, short: &str) -> Result<Release, Fail> {
+pub fn release(alloc: Global, short: &str) -> Result<Release, Fail> {
     let mut classes = List::new(alloc);
     if !short.is_empty() {
         for line in &words(alloc, short, "; ")? {

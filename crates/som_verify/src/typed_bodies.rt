@@ -37,7 +37,8 @@ pub fn bodies_typed(alloc: Global, known: &Knowledge, from: usize) -> Result<(),
             ensures { (class : Known) → slice_get known.entry.now.classes.now place ≡ Some class →
                 Tells (first (typed_class (all_of known.entry.now) (class_of class))) result }
         {
-            let class = &known.classes[place];
+            let classes = known.classes;
+            let class = &classes[place];
             class_typed(alloc, known, place + KERNEL_CLASSES, class)
         },
     )
@@ -73,15 +74,14 @@ fn introduced_typed(
     let decl = class.decl;
     let mut bodies = decl.bodies.as_slice();
     for entry in decl.face.entries.as_slice() {
-        if let Entry::Introduced { name, sig, .. } = entry {
-            match bodies {
-                [] => return Ok(()),
-                [body, later @ ..] => {
-                    body_typed(alloc, known, place, class, name, sig, body)?;
-                    bodies = later;
-                }
-            }
-        }
+        let Entry::Introduced { name, sig, .. } = entry else {
+            continue;
+        };
+        let [body, later @ ..] = bodies else {
+            return Ok(());
+        };
+        body_typed(alloc, known, place, class, name, sig, body)?;
+        bodies = later;
     }
     Ok(())
 }

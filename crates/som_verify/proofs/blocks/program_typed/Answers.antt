@@ -1,13 +1,10 @@
-use Rattle.std.proofs.Common.{List, ◌++◌, drop, flat_map, sym, ap, ◌∙◌, subst}
+use Rattle.std.proofs.Common.{◌++◌, drop, flat_map}
 use Rattle.std.proofs.lemmas.Result.{err_from_is_err_and}
 use Rattle.som_model.specs.Conforming.{class_typed, main_typed}
 use Rattle.som_model.specs.Lists.{first}
-use Rattle.som_verify.specs.declared.types.Declared.{Declared}
-use Rattle.som_verify.specs.Bodies.{AllSigsKnown}
 use Rattle.som_verify.specs.Modules.{classes_of}
 use Rattle.som_verify.specs.Places.{with_kernel}
-use Rattle.som_verify.specs.Told.{Tells}
-use Rattle.som_verify.proofs.Grounds.{faces_none, names_none, sigs_known, wants_memory}
+use Rattle.som_verify.proofs.Grounds.{names_none, wants_memory}
 use Rattle.som_verify.proofs.blocks.program_typed.Goals as goal
 
 pub parts_of-requires : goal.parts_of-requires
@@ -17,17 +14,3 @@ pub returns-in_err-parts : goal.returns-in_err-parts
 returns-in_err-parts c =
     let p = err_from_is_err_and c.from_residual.result c.from_residual.ensures.1 in
     rw (p.1, p.2) (wants_memory (first (flat_map (class_typed (with_kernel (classes_of c.args.classes.now))) (classes_of (drop c.args.base c.args.classes.now)) ++ main_typed (with_kernel (classes_of c.args.classes.now)) c.args.main.now)) c.in_err-parts.field-0.0 c.in_err-parts.ensures.fault)
-
-pub know-requires : goal.know-requires
-know-requires c = record {
-  table = c.in_ok-parts.ensures.parts.table;
-  kernel = c.as_slice.ensures ∙ c.in_ok-parts.ensures.parts.kernel;
-  lists = rw c.as_slice-2.ensures.value c.in_ok-parts.ensures.parts.lists;
-  rules = (c.args.base, faces_none (classes_of c.args.classes.now) c.args.base c.requires.rules);
-}
-
-pub all_typed-requires-clause-signatures : goal.all_typed-requires-clause-signatures
-all_typed-requires-clause-signatures c = subst (λ (z : List Declared). AllSigsKnown (with_kernel (classes_of z)) (classes_of z)) (sym c.know-known.ensures.classes) (sigs_known (classes_of c.args.classes.now) c.args.base c.requires.rules)
-
-pub returns : goal.returns
-returns c = subst (λ (z : List Declared). Tells (first (flat_map (class_typed (with_kernel (classes_of z))) (classes_of (drop c.args.base z)) ++ main_typed (with_kernel (classes_of z)) c.args.main.now)) c.all_typed.result) c.know-known.ensures.classes c.all_typed.ensures

@@ -1,4 +1,4 @@
-use Rattle.std.proofs.Common.{sym, ap, ◌∙◌}
+use Rattle.std.proofs.Common.{ap, ◌∙◌}
 use Rattle.som_model.specs.Class.{entry_of, introduced_sig}
 use Rattle.som_order.specs.Names.{texts}
 use Rattle.som_verify.specs.Inherited.{method_of}

@@ -14,4 +14,4 @@ pub returns-then-not-kind_fits : goal.returns-then-not-kind_fits
 returns-then-not-kind_fits c = var_misfits (all_of c.args.known.now) (facts_of c.args.known.now) (valued_by c.args.known.now c.args.at.now c.args.scope.now.items c.args.value.now) (scope_at (all_of c.args.known.now) c.args.scope.now.items) c.args.kind.now c.in_ok-given.given c.in-Some.wanted (rw c.as_slice.ensures.value at c.in_ok-given.ensures).0 (sym c.in-Some.ensures.known) c.in-Some.ensures.is (sym c.kind_fits.ensures ∙ c.if-not-kind_fits.true)
 
 pub returns-in_ok-push-in-Some : goal.returns-in_ok-push-in-Some
-returns-in_ok-push-in-Some c = declares (all_of c.args.known.now) (facts_of c.args.known.now) (valued_by c.args.known.now c.args.at.now c.args.scope.now.items c.args.value.now) c.args.scope.now.items _ c.args.kind.now c.in_ok-given.given c.in-Some.wanted (rw c.as_slice.ensures.value at c.in_ok-given.ensures).0 (sym c.in-Some.ensures.known) c.in-Some.ensures.is (sym c.kind_fits.ensures ∙ c.if-not-kind_fits.false) c.in-Some.ensures.stands c.requires.scope c.in_ok-push.ensures.items
+returns-in_ok-push-in-Some c = declares (all_of c.args.known.now) (facts_of c.args.known.now) (valued_by c.args.known.now c.args.at.now c.args.scope.now.items c.args.value.now) c.args.scope.now.items _ c.args.kind.now c.in_ok-given.given c.in-Some.wanted (rw c.as_slice.ensures.value at c.in_ok-given.ensures).0 (sym c.in-Some.ensures.known) c.in-Some.ensures.is (sym c.kind_fits.ensures ∙ c.if-not-kind_fits.false) c.in-Some.ensures.stands c.requires.scope c.in_ok-push-in-Some.ensures.items
