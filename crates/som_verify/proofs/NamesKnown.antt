@@ -91,7 +91,7 @@ known_by cs (types.Class k) f = let a = f k refl in mem_known cs k a.class a.the
 
 -- S5 says that what a declared class names is known
 module _ (n : ℕ) (cs : List Class) (base : TypesKnown (kernel ++ take n cs) (take n cs)) (own : TypesKnown (with_kernel cs) (drop n cs)) where
-  declared_sig : (c : Class) (name : List ℕ) (sig : Sig) (way : Way) → Mem c cs → Mem (entries.Introduced name sig way) c.decl.face.entries → sig_is_known (with_kernel cs) sig ≡ true
+  pub declared_sig : (c : Class) (name : List ℕ) (sig : Sig) (way : Way) → Mem c cs → Mem (entries.Introduced name sig way) c.decl.face.entries → sig_is_known (with_kernel cs) sig ≡ true
   declared_sig c name sig way m at = elim (mem_split c (take n cs) (drop n cs) (subst (λ z. Mem c z) (sym (take-append-drop n cs)) m)) [
     | inl h ↦ both_true _ _
         (known_by (with_kernel cs) sig.result (λ k e. among_more cs n k ((base.results c name sig way h at).by k e)))

@@ -11,3 +11,5 @@ pub mod Faces
 pub mod Plainly
 pub mod Kinds
 pub mod Knowing
+pub mod Scopes
+pub mod Bodies
