@@ -1,4 +1,3 @@
-mod FirstTexts
 mod LibraryLaws
 mod FuelLaws
 mod ClientLaws
