@@ -88,7 +88,7 @@ mem_front cs i c m = elim (mem_split c kernel (take i cs) m) [
 ]
 
 -- each parent and the metaclass of a class is known, where they stand before it
-known_by_s2 : (cs : List Class) (i : ℕ) (c : Class) → first (each_after s2 kernel cs) ≡ None → slice_get cs i ≡ Some c
+pub known_by_s2 : (cs : List Class) (i : ℕ) (c : Class) → first (each_after s2 kernel cs) ≡ None → slice_get cs i ≡ Some c
     → (k : ClassKey) → Mem k (c.decl.face.parents ++ option_list c.decl.face.metaclass) → is_some (class_at (with_kernel cs) k) ≡ true
 known_by_s2 cs i c e at k m =
     let stands : every (λ k. is_some (class_at (front kernel cs i) k)) (c.decl.face.parents ++ option_list c.decl.face.metaclass) ≡ true =

@@ -24,4 +24,3 @@ pub mod PlainFaces
 pub mod PlainBodies
 pub mod PlainWhole
 pub mod Programs
-pub mod Texts

@@ -24,7 +24,7 @@ demand_of_none n c member b e = rw e refl
 known_named : (cs : List Class) (t : ValueType) → is_known cs t ≡ true → IsNamed cs t
 known_named cs t e = record { by = λ k is. known_among cs k (subst (λ z. is_known cs z ≡ true) is e) }
 
-named_known : (cs : List Class) (t : ValueType) → IsNamed cs t → is_known cs t ≡ true
+pub named_known : (cs : List Class) (t : ValueType) → IsNamed cs t → is_known cs t ≡ true
 named_known cs types.Void n = refl
 named_known cs types.Long n = refl
 named_known cs types.Boolean n = refl

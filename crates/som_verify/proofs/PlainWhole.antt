@@ -4,7 +4,7 @@ use Rattle.som_model.specs.Lists.{first, or_else}
 use Rattle.som_model.specs.Hierarchy.{Falls}
 use Rattle.som_model.specs.Classes.{client_classes, hierarchy, interface_classes, library_classes}
 use Rattle.som_model.specs.Kernel.{kernel}
-use Rattle.som_model.specs.Conforming.{first_of_names, first_of_members, release_breach, program_breach}
+use Rattle.som_model.specs.Conforming.{first_of_names, first_of_members, declared_breach, declared_program_breach}
 use Rattle.som_model.specs.Rules.{s5, s14}
 use Rattle.som_model.specs.declared.key.Module.TheVariants as modules
 use Rattle.som_model.specs.declared.class.ClassDecl.{ClassDecl}
@@ -42,12 +42,12 @@ say_faces ds h =
     none_or _ _ (say_names_rules cs (release_declared ds) h.classes)
     (none_or _ _ (say_types (all_classes ds) cs h.types) (say_member_rules cs (release_declared ds) h.classes))
 
-pub rules_say : (r : Release) → release_breach r ≡ None → RulesHold r
+pub rules_say : (r : Release) → declared_breach r ≡ None → RulesHold r
 rules_say r e =
     let p = or_none (faces_breach (library_classes r)) (first (flat_map s14 (library_classes r))) (faces_first r ∙ e) in
     record { faces = faces_say r.classes p.0; bodies = bodies_say (library_classes r) p.1 }
 
-pub say_rules : (r : Release) → RulesHold r → release_breach r ≡ None
+pub say_rules : (r : Release) → RulesHold r → declared_breach r ≡ None
 say_rules r h = sym (faces_first r) ∙ none_or (faces_breach (library_classes r)) (first (flat_map s14 (library_classes r))) (say_faces r.classes h.faces) (say_bodies (library_classes r) h.bodies)
 
 pub release_falls : (ds : List ClassDecl) → NamesDiffer ds → ParentsStand ds → Falls (hierarchy (all_classes ds))
@@ -63,7 +63,7 @@ program_declared p = record {
   ];
 }
 
-pub program_says : (p : ClientProgram) → program_breach p ≡ None → ProgramHolds p
+pub program_says : (p : ClientProgram) → declared_program_breach p ≡ None → ProgramHolds p
 program_says p e =
     let base = interface_classes p.base in
     let own = client_classes p in
@@ -81,7 +81,7 @@ program_says p e =
       bodies = bodies_say own d.1;
     }
 
-pub say_program : (p : ClientProgram) → ProgramHolds p → program_breach p ≡ None
+pub say_program : (p : ClientProgram) → ProgramHolds p → declared_program_breach p ≡ None
 say_program p h =
     let base = interface_classes p.base in
     let own = client_classes p in

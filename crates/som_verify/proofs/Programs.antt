@@ -4,7 +4,7 @@ use Rattle.som_model.specs.Lists.{first, or_else}
 use Rattle.som_model.specs.Class.{Class, bare, class_in}
 use Rattle.som_model.specs.Classes.{client_classes, interface_classes}
 use Rattle.som_model.specs.Kernel.{kernel}
-use Rattle.som_model.specs.Conforming.{first_of_names, first_of_members, program_breach}
+use Rattle.som_model.specs.Conforming.{first_of_names, first_of_members, declared_program_breach}
 use Rattle.som_model.specs.Rules.{Breach, s5, s14}
 use Rattle.som_model.specs.declared.key.Module.TheVariants as modules
 use Rattle.som_model.specs.declared.class.ClassDecl.{ClassDecl}
@@ -12,13 +12,12 @@ use Rattle.som_model.specs.declared.class.ClassFace.{ClassFace}
 use Rattle.som_model.specs.declared.program.ClientProgram.{ClientProgram}
 use Rattle.som_verify.specs.declared.types.Declared.{Declared}
 use Rattle.som_verify.specs.declared.types.VerifyFault.{VerifyFault}
-use Rattle.som_verify.specs.Faces.{classes_breach}
+use Rattle.som_verify.specs.Faces.{classes_breach, rules_breach}
 use Rattle.som_verify.specs.Modules.{class_of, classes_of}
 use Rattle.som_verify.specs.Plainly.{program_classes}
 use Rattle.som_verify.specs.Told.{Tells}
 use Rattle.som_verify.proofs.Conformity.{regrouped}
 use Rattle.som_verify.proofs.DeclaredClasses.{long_map, drop_map}
-use Rattle.som_verify.proofs.Passes.{tells_first}
 
 map_both : (fs : List ClassFace) → map (class_in modules.Library) (map bare fs) ≡ map (λ f. class_in modules.Library (bare f)) fs
 map_both [] = refl
@@ -62,19 +61,14 @@ module _ (p : ClientProgram) (ds : List Declared) (n : ℕ) (same : classes_of d
       ∙ ap (types_breach (classes_of ds) (interface_classes p.base)) rest_is
       ∙ ap (λ z. types_breach z (interface_classes p.base) (client_classes p)) same
 
-  parts : or_else (classes_breach n (classes_of ds)) (first (flat_map s14 (client_classes p))) ≡ program_breach p
+  parts : or_else (classes_breach n (classes_of ds)) (first (flat_map s14 (client_classes p))) ≡ declared_program_breach p
   parts =
       ap (λ o. or_else o (first (flat_map s14 (client_classes p)))) classes_part
       ∙ regrouped (first_of_names kernel (program_classes p)) _ (first_of_members kernel (program_classes p)) (first (flat_map s14 (client_classes p)))
 
-  -- a breach of the classes is the program's
-  pub program_tells : (e : VerifyFault) → Tells {A = Unit {0}} (classes_breach n (classes_of ds)) (Err e) → Tells {A = Unit {0}} (program_breach p) (Err e)
-  program_tells e t = tells_first (classes_breach n (classes_of ds)) (first (flat_map s14 (client_classes p))) (program_breach p) e t parts
+  rules_part : rules_breach n (classes_of ds) ≡ declared_program_breach p
+  rules_part = ap (λ z. or_else (classes_breach n (classes_of ds)) (first (flat_map s14 z))) rest_is ∙ parts
 
-  -- where the classes have none, a breach of its own bodies is the program's
-  pub own_bodies_tell : (others : List Declared) (r : Result (Unit {0}) VerifyFault) → others ≡ drop n ds → classes_breach n (classes_of ds) ≡ None
-      → Tells (first (flat_map s14 (classes_of others))) r → Tells (program_breach p) r
-  own_bodies_tell others r e none t =
-      subst (λ o. Tells o r)
-      (ap (λ z. first (flat_map s14 z)) (ap classes_of e ∙ sym (drop_map class_of ds n) ∙ rest_is)
-      ∙ sym (ap (λ o. or_else o (first (flat_map s14 (client_classes p)))) none) ∙ parts) t
+  -- what is told of the declared classes of a program is told of the program
+  pub program_tells : (r : Result (Unit {0}) VerifyFault) → Tells (rules_breach n (classes_of ds)) r → Tells (declared_program_breach p) r
+  program_tells r t = subst (λ o. Tells o r) rules_part t

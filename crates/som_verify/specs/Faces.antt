@@ -4,7 +4,7 @@ use Rattle.som_model.specs.Lists.{first, or_else}
 use Rattle.som_model.specs.Class.{Class}
 use Rattle.som_model.specs.Kernel.{kernel}
 use Rattle.som_model.specs.Conforming.{first_of_names, first_of_members}
-use Rattle.som_model.specs.Rules.{Breach, s5}
+use Rattle.som_model.specs.Rules.{Breach, s5, s14}
 
 -- the first breach of the rules S1 to S10
 abbrev pub faces_breach : List Class → Option Breach
@@ -16,3 +16,7 @@ classes_breach n cs =
     or_else (first_of_names kernel cs)
     (or_else (first (flat_map (s5 (kernel ++ take n cs)) (take n cs) ++ flat_map (s5 (kernel ++ cs)) (drop n cs)))
     (first_of_members kernel cs))
+
+-- the first breach of the rules S1 to S10 and S14, where the first n classes are known by their faces alone
+abbrev pub rules_breach : ℕ → List Class → Option Breach
+rules_breach n cs = or_else (classes_breach n cs) (first (flat_map s14 (drop n cs)))

@@ -8,5 +8,4 @@ pub mod Fitting
 pub mod Typed
 pub mod Inherited
 pub mod Faces
-pub mod Printing
 pub mod Plainly

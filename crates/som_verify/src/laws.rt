@@ -1,6 +1,6 @@
 ghost use Rattle.som_model.specs.Class.{Class};
 ghost use Rattle.som_model.specs.Classes.{hierarchy};
-ghost use Rattle.som_model.specs.Conforming.{program_breach, release_breach};
+ghost use Rattle.som_model.specs.Conforming.{declared_program_breach, declared_breach};
 ghost use Rattle.som_model.specs.Hierarchy.{Falls};
 ghost use Rattle.som_model.specs.declared.class.ClassDecl.{ClassDecl as Decl};
 ghost use Rattle.som_model.specs.declared.program.ClientProgram.{ClientProgram};
@@ -19,13 +19,13 @@ pub fn faces_law()
 
 /// A release breaks no rule exactly where each rule holds of every class and all of its members.
 pub fn rules_law()
-    ensures { (r : Release) → (release_breach r ≡ None) ↔ RulesHold r }
+    ensures { (r : Release) → (declared_breach r ≡ None) ↔ RulesHold r }
 {}
 
 /// A client program breaks no rule that looks at no block exactly where each such rule holds of every class and
 /// all of its members.
 pub fn program_law()
-    ensures { (p : ClientProgram) → (program_breach p ≡ None) ↔ ProgramHolds p }
+    ensures { (p : ClientProgram) → (declared_program_breach p ≡ None) ↔ ProgramHolds p }
 {}
 
 /// Where parents stand before their classes, each parent is lower than its class, also of the classes that

@@ -18,11 +18,11 @@ mod moved;
 mod overrides;
 mod parents;
 mod pass;
-mod printing;
 mod program;
 #[cfg(test)]
 mod program_cases;
 mod release;
+mod rules;
 mod signatures;
 mod table;
 #[cfg(test)]
@@ -41,9 +41,9 @@ pub use metaclasses::metaclasses_descend;
 pub use moved::entries_moved_up;
 pub use overrides::overrides_inherited;
 pub use parents::parents_stand;
-pub use printing::prints_texts;
 pub use program::{bare_classes, declare_program, program_rules};
-pub use release::{faces_ok, release_ok};
+pub use release::faces_ok;
+pub use rules::rules_hold;
 pub use signatures::types_known;
 pub use table::{class_names, find_class};
 pub use types::{Broken, Declared, VerifyFault};

@@ -1,12 +1,12 @@
 ghost use Rattle.som_model.specs.Class.{bare};
-ghost use Rattle.som_model.specs.Conforming.{program_breach};
+ghost use Rattle.som_model.specs.Conforming.{declared_program_breach};
 ghost use Rattle.som_verify.specs.Modules.{classes_of};
 ghost use Rattle.som_verify.specs.Plainly.{program_classes};
 ghost use Rattle.som_verify.specs.Told.{Tells};
 ghost use Rattle.std.specs.Prelude.{◌≡◌, map, IfOk};
 
-use crate::bodies::bodies_fit;
-use crate::classes::{classes_hold, declare};
+use crate::classes::declare;
+use crate::rules::rules_hold;
 use crate::types::{Declared, VerifyFault};
 use som_model::{ClassDecl, ClassFace, ClientProgram, List, Module, NoMemory};
 use std::alloc::Global;
@@ -14,14 +14,13 @@ use std::alloc::Global;
 /// Whether a client program breaks no rule that looks at no block, and else the first, with its class and member.
 /// The faces that it was compiled against come first.
 pub fn program_rules(alloc: Global, program: &ClientProgram) -> Result<(), VerifyFault>
-    ensures { Tells (program_breach program.now) result }
+    ensures { Tells (declared_program_breach program.now) result }
 {
     let base = bare_classes(alloc, program.base.classes.as_slice())?;
     let declared = declare_program(alloc, base.as_slice(), program)?;
     let declared = declared.as_slice();
     let number = program.base.classes.as_slice().len();
-    classes_hold(alloc, declared, number)?;
-    bodies_fit(alloc, &declared[number..])
+    rules_hold(alloc, declared, number)
 }
 
 /// The classes that a client program knows, of which those of its base are given as bare ones.

@@ -1,9 +1,8 @@
 use crate::cases::CASES;
 use crate::descent::{ancestor_lists, is_listed};
-use crate::printing::prints_texts;
 use crate::program::program_rules;
 use crate::program_cases::PROGRAMS;
-use crate::release::{faces_ok, release_ok};
+use crate::release::{declared_ok, faces_ok};
 use crate::types::VerifyFault;
 use som_model::{
     Block, Body, ClassDecl, ClassFace, ClassKey, ClientProgram, Entry, Expr, Interface, List,
@@ -161,10 +160,7 @@ fn told(alloc: Global, answer: Result<(), VerifyFault>) -> Result<String, Fail> 
 
 fn first_breach(alloc: Global, short: &str) -> Result<String, Fail> {
     let release = release(alloc, short)?;
-    if !prints_texts(&release) {
-        return Err(Fail::from("a block that prints no text"));
-    }
-    told(alloc, release_ok(alloc, &release))
+    told(alloc, declared_ok(alloc, &release))
 }
 
 #[test]
