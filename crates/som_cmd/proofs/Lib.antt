@@ -1,3 +1,4 @@
+mod FirstLimits
 mod LibraryLaws
 mod FuelLaws
 mod ClientLaws
