@@ -1,17 +1,15 @@
 -- What the steps of showing an image answer is the ending of what is asked.
 use Rattle.std.proofs.Common.{◌≡◌, ℕ, List, [], ◌∷◌, Option, Some, None, Result, Ok, Err, refl, sym, ap, subst, ◌∙◌}
-use Rattle.std.specs.List.{concat, flat_map}
+use Rattle.std.specs.List.{concat}
 use Rattle.std.specs.FinMap.{get}
 use Rattle.som_model.specs.declared.program.Release.{Release}
 use Rattle.som_model.specs.Bytes.{Files}
-use Rattle.som_model.specs.Lists.{first}
-use Rattle.som_model.specs.Classes.{library_classes}
 use Rattle.som_model.specs.Rules.{Breach}
-use Rattle.som_model.specs.Conforming.{ReleaseOk, all_of_release, class_typed, declared_breach, release_breach}
+use Rattle.som_model.specs.Conforming.{release_breach}
 use Rattle.som_model.specs.Steps.{◌>>=◌}
 use Rattle.som_wire.specs.declared.fault.ImageFault.{ImageFault}
 use Rattle.som_libimage.specs.Libraries.{library_at}
-use Rattle.som_verify.proofs.PlainFaces.{none_or, or_none}
+use Rattle.som_verify.proofs.Conforming.{release_conforms}
 use Rattle.som_show.specs.Shown.{shown_lines}
 use Rattle.som_cmd.specs.declared.output.End.TheVariants as the_end
 use Rattle.som_cmd.specs.declared.stop.Refusal.{Refusal}
@@ -22,16 +20,6 @@ use Rattle.som_cmd.specs.Answer.{Ending, IsAnswer, no_image_shown, shown_unread,
 use Rattle.som_cmd.specs.Steps.{file_of, Stops, Follows, FollowsTold, Answers, AnswersTold}
 use Rattle.som_cmd.specs.ShowSteps.{read_or, kept_or, release_in, rules_kept, lines_shown}
 use Rattle.som_cmd.proofs.RunLaws.{missing_by, found_by}
-
--- a release conforms where it breaks no rule
-pub breaks_none : (r : Release) → release_breach r ≡ None → ReleaseOk r
-breaks_none r none =
-    let p = or_none (declared_breach r) (first (flat_map (class_typed (all_of_release r)) (library_classes r))) none in
-    record { rules = p.0; blocks = p.1 }
-
--- and breaks none where it conforms
-pub kept_all : (r : Release) → ReleaseOk r → release_breach r ≡ None
-kept_all r ok = none_or (declared_breach r) (first (flat_map (class_typed (all_of_release r)) (library_classes r))) ok.rules ok.blocks
 
 -- ---- the ending that showing an image comes to
 
@@ -46,7 +34,7 @@ abbrev after_reading : List ℕ → Result Release ImageFault → Result (List (
 after_reading n x = read_or n x >>= λ r. rules_kept n r >>= λ kept. Ok (shown_lines r)
 
 rules_answer : (files : Files) (n b : List ℕ) (r : Release) → get files n ≡ Some b → library_at b ≡ Ok r → (o : Option Breach) → release_breach r ≡ o → IsAnswer files (Show n) (shown_ending files (after_rules n r o))
-rules_answer files n b r has e None none = shows n b r has e (breaks_none r none)
+rules_answer files n b r has e None none = shows n b r has e (release_conforms r none)
 rules_answer files n b r has e (Some x) is = shown_broken n b r x has e is
 
 reading_answer : (files : Files) (n b : List ℕ) → get files n ≡ Some b → (x : Result Release ImageFault) → library_at b ≡ x → IsAnswer files (Show n) (shown_ending files (after_reading n x))

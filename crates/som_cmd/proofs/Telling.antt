@@ -14,6 +14,7 @@ use Rattle.som_libimage.specs.Libraries.{library_at}
 use Rattle.som_libimage.proofs.Decoded.{found, library_again}
 use Rattle.som_verify.specs.Faces.{faces_breach}
 use Rattle.som_verify.specs.Told.{of_release}
+use Rattle.som_verify.proofs.Conforming.{conforms_release, release_conforms}
 use Rattle.som_first.specs.declared.classes.FirstFace.{FirstFace}
 use Rattle.som_first.specs.declared.classes.FirstRelease.{FirstRelease}
 use Rattle.som_first.specs.declared.unread.Unread.{Unread}
@@ -26,7 +27,6 @@ use Rattle.som_firstclient.specs.Reading.{client_at, Reads}
 use Rattle.som_firstclient.proofs.NamedClients.{reads_fitting, reads_found, reads_only}
 use Rattle.som_cmd.specs.Taking.{ConformsAsFirst, ClientTells, descends_in}
 use Rattle.som_cmd.proofs.LibraryLaws.{first_within, taken}
-use Rattle.som_cmd.proofs.ShowLaws.{breaks_none, kept_all}
 use Rattle.som_cmd.proofs.ClientLaws as clients
 use Rattle.som_cmd.proofs.OneAnswer.{Told}
 
@@ -69,9 +69,9 @@ one_library bytes r s is_r is_s = ok_once r s (library_at bytes) (library_only b
 -- a first release conforms, or breaks a rule
 tell_conforming : (bytes : List ℕ) → AreBytes bytes → (r : Release) → library_at bytes ≡ Ok r → (f : FirstRelease) → release_of f ≡ r → (o : Option Breach) → release_breach r ≡ o → Told (IsFirstLibrary bytes)
 tell_conforming bytes all r e f is None none =
-    inl (r, taken bytes all r f (found bytes all (Ok r) e, λ s spelled within. ok_once s r (library_at bytes) (library_again bytes all s spelled within) e) is (breaks_none r none))
+    inl (r, taken bytes all r f (found bytes all (Ok r) e, λ s spelled within. ok_once s r (library_at bytes) (library_again bytes all s spelled within) e) is (release_conforms r none))
 tell_conforming bytes all r e f is (Some b) broken =
-    inr (λ s is_s. let same : s ≡ r = ok_once s r (library_at bytes) (library_only bytes s is_s) e in none_some b (sym broken ∙ ap release_breach (sym same) ∙ kept_all s is_s.conforms))
+    inr (λ s is_s. let same : s ≡ r = ok_once s r (library_at bytes) (library_only bytes s is_s) e in none_some b (sym broken ∙ ap release_breach (sym same) ∙ conforms_release s is_s.conforms))
 
 tell_formed : (bytes : List ℕ) → AreBytes bytes → (r : Release) → library_at bytes ≡ Ok r → ((f : FirstRelease) × (release_of f ≡ r)) ⊎ ((f : FirstRelease) → release_of f ≡ r → ⊥) → Told (IsFirstLibrary bytes)
 tell_formed bytes all r e (inl (f, is)) = tell_conforming bytes all r e f is (release_breach r) refl
