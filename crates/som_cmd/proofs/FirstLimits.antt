@@ -151,11 +151,11 @@ module _ (cs : List Class) where
   classes_kept : (fs : List FirstClass) (bytes part_bytes : List ℕ) → each face_in (map decl_of fs) ≡ Some bytes → each (part cs) (map decl_of fs) ≡ Some part_bytes → AllByRecursion ClassWithin (map decl_of fs)
   classes_kept [] bytes part_bytes e f = tt
   classes_kept (c ∷ fs) bytes part_bytes e f =
-      let face = front (face_in (decl_of c)) (each face_in (map decl_of fs)) bytes e in
-      let faces = back (face_in (decl_of c)) (each face_in (map decl_of fs)) bytes e in
-      let part = front (part cs (decl_of c)) (each (part cs) (map decl_of fs)) part_bytes f in
-      let parts = back (part cs (decl_of c)) (each (part cs) (map decl_of fs)) part_bytes f in
-      (class_kept c face.0 part.0 face.1 part.1, classes_kept fs faces.0 parts.0 faces.1 parts.1)
+      let one = front (face_in (decl_of c)) (each face_in (map decl_of fs)) bytes e in
+      let more = back (face_in (decl_of c)) (each face_in (map decl_of fs)) bytes e in
+      let part_of_one = front (part cs (decl_of c)) (each (part cs) (map decl_of fs)) part_bytes f in
+      let more_parts = back (part cs (decl_of c)) (each (part cs) (map decl_of fs)) part_bytes f in
+      (class_kept c one.0 part_of_one.0 one.1 part_of_one.1, classes_kept fs more.0 more_parts.0 more.1 more_parts.1)
 
 module _ (r : FirstRelease) where
   abbrev its : List Class

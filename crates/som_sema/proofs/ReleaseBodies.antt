@@ -41,16 +41,16 @@ use Rattle.som_sema.proofs.TextLaws.{map_same, names_law}
 -- where no body is a block, and nothing is overridden, no block breaks a rule
 
 each_accessor : (known : List Class) (c : Class) (es : List Entry) (bs : List Body) → ((b : Block) → Mem (bodies.User b) bs → ⊥) → bodies_typed known c es bs ≡ []
-each_accessor known c [] bs no = refl
-each_accessor known c (entries.Moved name to ∷ es) bs no = each_accessor known c es bs no
-each_accessor known c (entries.Introduced name sig way ∷ es) [] no = refl
-each_accessor known c (entries.Introduced name sig way ∷ es) (bodies.User b ∷ bs) no = absurd (no b (inl refl))
-each_accessor known c (entries.Introduced name sig way ∷ es) (bodies.Get n ∷ bs) no = each_accessor known c es bs (λ b m. no b (inr m))
-each_accessor known c (entries.Introduced name sig way ∷ es) (bodies.Set n ∷ bs) no = each_accessor known c es bs (λ b m. no b (inr m))
+each_accessor known c [] bs never = refl
+each_accessor known c (entries.Moved name to ∷ es) bs never = each_accessor known c es bs never
+each_accessor known c (entries.Introduced name sig way ∷ es) [] never = refl
+each_accessor known c (entries.Introduced name sig way ∷ es) (bodies.User b ∷ bs) never = absurd (never b (inl refl))
+each_accessor known c (entries.Introduced name sig way ∷ es) (bodies.Get n ∷ bs) never = each_accessor known c es bs (λ b m. never b (inr m))
+each_accessor known c (entries.Introduced name sig way ∷ es) (bodies.Set n ∷ bs) never = each_accessor known c es bs (λ b m. never b (inr m))
 
 unblocked : (known : List Class) (c : Class) → ((b : Block) → Mem (bodies.User b) c.decl.bodies → ⊥) → c.decl.overrides ≡ [] → class_typed known c ≡ []
-unblocked known c no none =
-    ap (λ (l : List Breach). l ++ flat_map (override_typed known c) c.decl.overrides) (each_accessor known c c.decl.face.entries c.decl.bodies no)
+unblocked known c never none =
+    ap (λ (l : List Breach). l ++ flat_map (override_typed known c) c.decl.overrides) (each_accessor known c c.decl.face.entries c.decl.bodies never)
     ∙ ap (λ (os : List Override). flat_map (override_typed known c) os) none
 
 -- each interface with its declaration, one by one
