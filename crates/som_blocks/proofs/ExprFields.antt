@@ -138,7 +138,7 @@ pub flat_of : {A : Type 0} (f : A → List ℕ) (xs : List A) → flat_map (λ (
 flat_of f [] = refl
 flat_of f (x ∷ xs) = flat_map-cons (λ (t : List ℕ). t) (f x) (map f xs) ∙ ap (λ (t : List ℕ). f x ++ t) (flat_of f xs) ∙ sym (flat_map-cons f x xs)
 
-args_are : (es : List WireExpr) → args (map expr es) ≡ counted w8 expr es
+pub args_are : (es : List WireExpr) → args (map expr es) ≡ counted w8 expr es
 args_are es = ap (λ (n : ℕ). number w8 n ++ flat_map (λ (t : List ℕ). t) (map expr es)) (length-map es expr) ∙ ap (λ (t : List ℕ). number w8 (length es) ++ t) (flat_of expr es)
 
 -- what an expression is, by its outermost part

@@ -3,3 +3,7 @@ pub mod Made
 pub mod ExprFields
 pub mod StmtFields
 pub mod PartFields
+pub mod Fits
+pub mod Written
+pub mod SomeFits
+pub mod ReadBack

@@ -3,7 +3,7 @@ use Rattle.std.specs.Prelude.{◌≡◌, ℕ, zero, suc, ◌-◌, ◌<◌, ◌^�
 use Rattle.std.specs.Int.{w32}
 use Rattle.som_model.specs.declared.limits.TheConstants.{MAX_PARAMETERS, MAX_VARIABLES, MAX_OVERRIDES}
 use Rattle.som_wire.specs.declared.method.WireMethod.{WireMethod}
-use Rattle.som_wire.specs.Spelling.{FitsText, FitsCounted, FitsKind, FitsMethod}
+use Rattle.som_wire.specs.Spelling.{FitsText, FitsCounted, FitsKind, FitsMethod, FitsSomeRanges, most_classes}
 use Rattle.som_wire.specs.declared.method.Ranges.{Ranges}
 use Rattle.som_blocks.specs.declared.syntax.WireVariable.{WireVariable}
 use Rattle.som_blocks.specs.declared.syntax.WireBody.{WireBody}
@@ -91,6 +91,30 @@ FitsBlock left classes Method b = FitsStatements (FitsStmt left classes Method) 
 abbrev pub levels_left : ℕ → ℕ
 levels_left level = 33 - level
 
+-- ---- what can stand somewhere, where there are most classes and entries
+
+-- an expression at some level
+pub record FitsSomeExpr (e : WireExpr) : Type 0 where
+  pub left : ℕ
+  pub fits : FitsExpr left most_classes FitsSomeRanges e
+
+-- an expression's own fields, and the expressions in it
+abbrev pub FitsSomeExprParts : WireExpr → Type 0
+FitsSomeExprParts e = FitsExprParts most_classes FitsSomeRanges FitsSomeExpr (out-WireExpr e)
+
+-- a statement at some level
+pub record FitsSomeStmt (s : WireStmt) : Type 0 where
+  pub left : ℕ
+  pub fits : FitsStmt left most_classes FitsSomeRanges s
+
+-- a statement's own fields, and the expressions and blocks in it
+abbrev pub FitsSomeStmtParts : WireStmt → Type 0
+FitsSomeStmtParts s = FitsStmtParts most_classes FitsSomeExpr FitsSomeExpr (FitsStatements FitsSomeStmt) (out-WireStmt s)
+
+-- a block at level 1, where most levels are left
+abbrev pub FitsSomeBlock : WireBlock → Type 0
+FitsSomeBlock b = FitsBlock (levels_left 1) most_classes FitsSomeRanges b
+
 -- ---- parts of classes
 
 pub record FitsVariable (classes : ℕ) (v : WireVariable) : Type 0 where
@@ -112,3 +136,9 @@ pub record FitsPart (ranges : Ranges) (introduced : ℕ) (p : WirePart) : Type 0
   pub variables : FitsCounted 0 MAX_VARIABLES (FitsVariable ranges.classes) p.variables
   pub bodies : (length p.bodies ≡ introduced) × All (FitsBody ranges.classes (FitsMethod ranges)) p.bodies
   pub overrides : FitsCounted 0 MAX_OVERRIDES (FitsOverride ranges.classes (FitsMethod ranges)) p.overrides
+
+-- a part that can stand somewhere, with as many bodies as are due there
+pub record FitsSomePart (p : WirePart) : Type 0 where
+  pub variables : FitsCounted 0 MAX_VARIABLES (FitsVariable most_classes) p.variables
+  pub bodies : (length p.bodies < 2 ^ 16) × All (FitsBody most_classes FitsSomeRanges) p.bodies
+  pub overrides : FitsCounted 0 MAX_OVERRIDES (FitsOverride most_classes FitsSomeRanges) p.overrides

@@ -2,3 +2,4 @@ pub mod Making
 pub mod Spelling
 pub mod Fitting
 pub mod Reading
+pub mod Writing

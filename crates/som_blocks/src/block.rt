@@ -1,13 +1,14 @@
-ghost use Rattle.som_blocks.specs.Fitting.{FitsBlock, levels_left};
+ghost use Rattle.som_blocks.specs.Fitting.{FitsBlock, FitsSomeBlock, levels_left};
 ghost use Rattle.som_blocks.specs.Reading.{block_at};
 ghost use Rattle.som_blocks.specs.Spelling.{block};
 ghost use Rattle.som_wire.specs.Fields.{Stands, Gives, done};
 ghost use Rattle.som_wire.specs.Spelling.{FitsMethod, AreShort};
-ghost use Rattle.std.specs.Prelude.{◌≡◌, ◌<◌, ◌≤◌, ◌^◌, ℕ, length, slice_index, IfOk};
+ghost use Rattle.std.specs.Prelude.{◌≡◌, ◌<◌, ◌≤◌, ◌^◌, ◌++◌, ℕ, length, slice_index, IfOk, OnOk, OnErr};
 
 use crate::stmt::read_statements;
 use crate::syntax::WireBlock;
-use som_model::List;
+use crate::write_stmt::append_block;
+use som_model::{List, NoMemory};
 use som_wire::{ImageFault, Ranges, Read};
 use std::alloc::Global;
 
@@ -62,4 +63,28 @@ fn know_numbers(numbers: &[u16])
     ensures { (i : ℕ) → slice_index numbers.now i < 2 ^ 16 }
 {
     let _len = numbers.len();
+}
+
+/// Appends a block. It is spelled in a list of its own first, so that want of memory leaves `out` as it was.
+pub fn write_block(alloc: Global, out: &mut List<u8>, value: &WireBlock) -> Result<(), NoMemory>
+    requires { FitsSomeBlock value.now }
+    ensures ok { OnOk result (out.new ≡ out.old ++ block value.now) }
+    ensures err { OnErr result (out.new ≡ out.old) }
+{
+    let mut spelling = List::new(alloc);
+    append_block_of_body(alloc, &mut spelling, value)?;
+    out.extend_from_slice(spelling.as_slice())
+}
+
+/// Appends a block whose statements have level 1. After an error a part of it may have been appended.
+#[tactic(auto, using(crate::proofs::Fits::some_block))]
+pub(crate) fn append_block_of_body(
+    alloc: Global,
+    out: &mut List<u8>,
+    value: &WireBlock,
+) -> Result<(), NoMemory>
+    requires { FitsSomeBlock value.now }
+    ensures { OnOk result (out.new ≡ out.old ++ block value.now) }
+{
+    append_block(alloc, out, value)
 }

@@ -1,9 +1,19 @@
-ghost use Rattle.som_blocks.specs.Fitting.{FitsBlock, FitsExpr, FitsPart};
+ghost use Rattle.som_blocks.specs.Fitting.{
+  FitsBlock,
+  FitsExpr,
+  FitsPart,
+  FitsSomeBlock,
+  FitsSomePart,
+  levels_left,
+};
+ghost use Rattle.som_blocks.specs.Reading.{block_at, part_at};
 ghost use Rattle.som_blocks.specs.Spelling.{block, expr, part};
-ghost use Rattle.som_wire.specs.Fields.{NoneBeginsAnother};
+ghost use Rattle.som_blocks.specs.declared.syntax.WireBlock.{WireBlock};
+ghost use Rattle.som_blocks.specs.declared.syntax.WirePart.{WirePart};
+ghost use Rattle.som_wire.specs.Fields.{NoneBeginsAnother, done};
 ghost use Rattle.som_wire.specs.Spelling.{AreShort, FitsMethod};
 ghost use Rattle.som_wire.specs.declared.method.Ranges.{Ranges};
-ghost use Rattle.std.specs.Prelude.{ℕ};
+ghost use Rattle.std.specs.Prelude.{◌≡◌, ◌<◌, ◌≤◌, ◌^◌, ◌++◌, ℕ, List, length};
 
 /// An expression, a block or a part has at most one spelling, and none begins another.
 pub fn no_spelling_begins_another()
@@ -13,4 +23,22 @@ pub fn no_spelling_begins_another()
         NoneBeginsAnother block (FitsBlock left ranges.classes (FitsMethod ranges)) }
     ensures part { (ranges : Ranges) (introduced : ℕ) → AreShort ranges →
         NoneBeginsAnother part (FitsPart ranges introduced) }
+{}
+
+/// What can stand somewhere, among certain classes and entries, can be written.
+pub fn what_fits_can_be_written()
+    ensures block { (ranges : Ranges) (left : ℕ) → AreShort ranges → left ≤ levels_left 1 → (b : WireBlock) →
+        FitsBlock left ranges.classes (FitsMethod ranges) b → FitsSomeBlock b }
+    ensures part { (ranges : Ranges) (introduced : ℕ) → AreShort ranges → introduced < 2 ^ 16 → (p : WirePart) →
+        FitsPart ranges introduced p → FitsSomePart p }
+{}
+
+/// What was written is read again, whatever stands before it and after it.
+pub fn what_was_written_is_read()
+    ensures block { (ranges : Ranges) (left : ℕ) → AreShort ranges → (b : WireBlock) (before after : List ℕ) →
+        FitsBlock left ranges.classes (FitsMethod ranges) b →
+        block_at left ranges (before ++ block b ++ after) (length before) ≡ done b (length (before ++ block b)) }
+    ensures part { (ranges : Ranges) (introduced : ℕ) → AreShort ranges → (p : WirePart) (before after : List ℕ) →
+        FitsPart ranges introduced p →
+        part_at ranges introduced (before ++ part p ++ after) (length before) ≡ done p (length (before ++ part p)) }
 {}

@@ -18,8 +18,12 @@ mod stmt;
 mod syntax;
 #[cfg(test)]
 mod tests;
+mod write_expr;
+mod write_stmt;
 
-pub use block::read_block;
-pub use laws::no_spelling_begins_another;
-pub use part::read_part;
+pub use block::{read_block, write_block};
+pub use laws::{
+    no_spelling_begins_another, what_fits_can_be_written, what_was_written_is_read,
+};
+pub use part::{read_part, write_part};
 pub use syntax::{WireBlock, WireBody, WireExpr, WireOverride, WirePart, WireStmt, WireVariable};

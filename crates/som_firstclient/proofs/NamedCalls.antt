@@ -24,11 +24,11 @@ use Rattle.som_model.proofs.ImageLaws.{calling_is}
 use Rattle.som_wire.specs.declared.method.WireMethod.{WireMethod}
 use Rattle.som_wire.specs.Spelling as wire
 use Rattle.som_wire.specs.Spelling.{FitsMethod}
-use Rattle.som_libimage.specs.declared.directory.Directory.{Directory}
-use Rattle.som_libimage.specs.Naming.{key_at, method_named, ranges_in}
-use Rattle.som_libimage.proofs.Places.{all_map, all_of, all_mapped}
-use Rattle.som_libimage.proofs.Spelled.{some_bytes, bytes_are, split, guarded, Forth, From, Back, each_forth, many_back}
-use Rattle.som_libimage.proofs.Numbers.{entry_names, Tells, NoDoubles, class_forth, method_forth, class_back, method_back}
+use Rattle.som_naming.specs.declared.directory.Directory.{Directory}
+use Rattle.som_naming.specs.Naming.{key_at, method_named, ranges_in, entry_names, Tells, NoDoubles}
+use Rattle.som_naming.proofs.Places.{all_map, all_of, all_mapped}
+use Rattle.som_naming.proofs.Spelled.{some_bytes, bytes_are, split, guarded, Forth, From, Back, each_forth, many_back}
+use Rattle.som_naming.proofs.Numbers.{class_forth, method_forth, class_back, method_back}
 use Rattle.som_libimage.proofs.NamedReleases.{directory_of}
 use Rattle.som_libimage.proofs.NamedInterfaces.{known_by, a_class}
 use Rattle.som_first.specs.declared.calls.CallPlace.{CallPlace}

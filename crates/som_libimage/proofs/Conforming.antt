@@ -1,10 +1,12 @@
 -- In a release that conforms names differ.
-use Rattle.std.proofs.Common.{◌≡◌, ℕ, Bool, true, false, not, if◌then◌else◌, true≢false, List, [], ◌∷◌, ◌++◌, map, Option, Some, None, refl, sym, ap, subst, ◌∙◌}
+use Rattle.std.proofs.Common.{◌≡◌, ℕ, Bool, true, false, not, if◌then◌else◌, true≢false, List, [], ◌∷◌, ◌++◌, map, Option, Some, None, refl, sym, ap, subst, ◌∙◌, append_assoc}
 use Rattle.std.specs.Prelude.{flat_map}
 use Rattle.std.specs.List.{AllByRecursion}
 use Rattle.std.specs.Str.{bytes_eq}
+use Rattle.std.proofs.lemmas.List.{append-nil, map-append}
 use Rattle.std.proofs.lemmas.List.Concat.{flat_map-cons}
 use Rattle.std.proofs.lemmas.List.Elements.{All-from_recursion}
+use Rattle.som_model.specs.declared.key.Module.{Module}
 use Rattle.som_model.specs.declared.key.Module.TheVariants as modules
 use Rattle.som_model.specs.declared.class.ClassFace.{ClassFace}
 use Rattle.som_model.specs.declared.class.ClassDecl.{ClassDecl}
@@ -12,9 +14,11 @@ use Rattle.som_model.specs.declared.program.Release.{Release}
 use Rattle.som_model.specs.Lists.{some, among, doubles, first, or_else}
 use Rattle.som_model.specs.Class.{Class, class_in, entry_name, interface_of}
 use Rattle.som_model.specs.Kernel.{kernel}
+use Rattle.som_model.specs.Classes.{library_classes}
 use Rattle.som_model.specs.Rules.{Breach, name_of, breach, s1, s6}
 use Rattle.som_model.specs.Conforming.{each_after, ReleaseOk}
-use Rattle.som_libimage.specs.Libraries.{Differ, NamesDiffer}
+use Rattle.som_naming.specs.Numbering.{Differ}
+use Rattle.som_libimage.specs.Libraries.{NamesDiffer}
 
 -- ---- nothing is broken
 
@@ -53,37 +57,41 @@ pub names_joined : (cs : List Class) (c : Class) → map name_of (cs ++ c ∷ []
 names_joined [] c = refl
 names_joined (b ∷ cs) c = ap (λ (ns : List (List ℕ)). name_of b ∷ ns) (names_joined cs c)
 
-abbrev own : ClassDecl → Class
-own = class_in modules.Library
+names_kept : (cs : List Class) → map (λ (f : ClassFace). f.name) (map (λ (c : Class). c.decl.face) cs) ≡ map name_of cs
+names_kept [] = refl
+names_kept (c ∷ cs) = ap (λ (ns : List (List ℕ)). name_of c ∷ ns) (names_kept cs)
 
-abbrev class_names : List ClassDecl → List (List ℕ)
-class_names ds = map (λ (f : ClassFace). f.name) (map (λ (c : ClassDecl). c.face) ds)
-
--- after the kernel's classes and those that were seen
-names_differ : (seen : List Class) (ds : List ClassDecl) → each_after s1 (kernel ++ seen) (map own ds) ≡ [] → doubles bytes_eq (map name_of seen) (class_names ds) ≡ []
-names_differ seen [] h = refl
-names_differ seen (c ∷ ds) h =
-    let name : List ℕ = c.face.name in
-    let b = both_empty (s1 (kernel ++ seen) (own c)) (each_after s1 (kernel ++ (seen ++ own c ∷ [])) (map own ds)) h in
-    let new : among name (map name_of kernel ++ map name_of seen) ≡ false = not_broken (among name (map name_of kernel ++ map name_of seen)) _ b.0 in
-    let fresh : some (bytes_eq name) (map name_of seen) ≡ false = some_back (bytes_eq name) (map name_of kernel) (map name_of seen) new in
-    let later = subst (λ (ns : List (List ℕ)). doubles bytes_eq ns (class_names ds) ≡ []) (names_joined seen (own c)) (names_differ (seen ++ own c ∷ []) ds b.1) in
-    ap (λ (x : Bool). if x then name ∷ doubles bytes_eq (map name_of seen) (class_names ds) else doubles bytes_eq (map name_of seen ++ name ∷ []) (class_names ds)) fresh ∙ later
+-- after some classes and those that were seen
+names_differ : (before seen cs : List Class) → each_after s1 (before ++ seen) cs ≡ [] → doubles bytes_eq (map name_of seen) (map name_of cs) ≡ []
+names_differ before seen [] h = refl
+names_differ before seen (c ∷ cs) h =
+    let name : List ℕ = name_of c in
+    let b = both_empty (s1 (before ++ seen) c) (each_after s1 ((before ++ seen) ++ c ∷ []) cs) h in
+    let new : among name (map name_of (before ++ seen)) ≡ false = not_broken (among name (map name_of (before ++ seen))) _ b.0 in
+    let fresh : some (bytes_eq name) (map name_of seen) ≡ false = some_back (bytes_eq name) (map name_of before) (map name_of seen) (subst (λ (ns : List (List ℕ)). some (bytes_eq name) ns ≡ false) (map-append name_of before seen) new) in
+    let next : each_after s1 (before ++ (seen ++ c ∷ [])) cs ≡ [] = subst (λ (l : List Class). each_after s1 l cs ≡ []) (append_assoc before seen (c ∷ [])) b.1 in
+    let later = subst (λ (ns : List (List ℕ)). doubles bytes_eq ns (map name_of cs) ≡ []) (names_joined seen c) (names_differ before (seen ++ c ∷ []) cs next) in
+    ap (λ (x : Bool). if x then name ∷ doubles bytes_eq (map name_of seen) (map name_of cs) else doubles bytes_eq (map name_of seen ++ name ∷ []) (map name_of cs)) fresh ∙ later
 
 -- ---- names of entries
 
-entries_differ : (ds : List ClassDecl) → flat_map s6 (map own ds) ≡ [] → AllByRecursion (λ (f : ClassFace). Differ (map entry_name f.entries)) (map (λ (c : ClassDecl). c.face) ds)
+entries_differ : (cs : List Class) → flat_map s6 cs ≡ [] → AllByRecursion (λ (f : ClassFace). Differ (map entry_name f.entries)) (map (λ (c : Class). c.decl.face) cs)
 entries_differ [] h = tt
-entries_differ (c ∷ ds) h =
-    let b = both_empty (s6 (own c)) (flat_map s6 (map own ds)) (sym (flat_map-cons s6 (own c) (map own ds)) ∙ h) in
-    (none_mapped (breach 6 (own c)) (doubles bytes_eq [] (map entry_name c.face.entries)) b.0, entries_differ ds b.1)
+entries_differ (c ∷ cs) h =
+    let b = both_empty (s6 c) (flat_map s6 cs) (sym (flat_map-cons s6 c cs) ∙ h) in
+    (none_mapped (breach 6 c) (doubles bytes_eq [] (map entry_name c.decl.face.entries)) b.0, entries_differ cs b.1)
 
 -- where S1 and S6 hold, names differ
-pub faces_names : (ds : List ClassDecl) → each_after s1 kernel (map own ds) ≡ [] → flat_map s6 (map own ds) ≡ [] → NamesDiffer (map (λ (c : ClassDecl). c.face) ds)
-faces_names ds once entries = record {
-  classes = names_differ [] ds once;
-  entries = All-from_recursion (λ (f : ClassFace). Differ (map entry_name f.entries)) (map (λ (c : ClassDecl). c.face) ds) (entries_differ ds entries);
+pub faces_names : (before cs : List Class) → each_after s1 before cs ≡ [] → flat_map s6 cs ≡ [] → NamesDiffer (map (λ (c : Class). c.decl.face) cs)
+faces_names before cs once entries = record {
+  classes = subst Differ (sym (names_kept cs)) (names_differ before [] cs (subst (λ (l : List Class). each_after s1 l cs ≡ []) (sym (append-nil before)) once));
+  entries = All-from_recursion (λ (f : ClassFace). Differ (map entry_name f.entries)) (map (λ (c : Class). c.decl.face) cs) (entries_differ cs entries);
 }
+
+-- the faces of declared classes
+pub declared_faces : (home : Module) (ds : List ClassDecl) → map (λ (c : Class). c.decl.face) (map (class_in home) ds) ≡ map (λ (c : ClassDecl). c.face) ds
+declared_faces home [] = refl
+declared_faces home (c ∷ ds) = ap (λ (fs : List ClassFace). c.face ∷ fs) (declared_faces home ds)
 
 pub conforming_names : (r : Release) → ReleaseOk r → NamesDiffer (interface_of r).classes
 conforming_names r ok =
@@ -92,4 +100,5 @@ conforming_names r ok =
     let others = neither_is _ _ names.1 in
     let members = neither_is _ _ others.1 in
     let s6_holds = neither_is _ _ members.0 in
-    faces_names r.classes (none_first (each_after s1 kernel (map own r.classes)) s1_holds.0) (none_first (flat_map s6 (map own r.classes)) s6_holds.0)
+    let own : List Class = library_classes r in
+    subst NamesDiffer (declared_faces modules.Library r.classes) (faces_names kernel own (none_first (each_after s1 kernel own) s1_holds.0) (none_first (flat_map s6 own) s6_holds.0))

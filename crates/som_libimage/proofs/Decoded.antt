@@ -12,10 +12,10 @@ use Rattle.som_wire.proofs.Parts.{bind_ok}
 use Rattle.som_libimage.specs.declared.wire.WireRelease.{WireRelease}
 use Rattle.som_libimage.specs.Reading.{wire_at}
 use Rattle.som_libimage.specs.Naming.{release_named}
-use Rattle.som_libimage.specs.Libraries.{NamesDiffer, PrintTexts, library_at}
+use Rattle.som_libimage.specs.Libraries.{NamesDiffer, library_at}
 use Rattle.som_libimage.proofs.LibraryFields.{wire_takes, wire_again}
 use Rattle.som_libimage.specs.Limits.{IsWithinLimits}
-use Rattle.som_libimage.proofs.NamedReleases.{release_forth, release_back, release_prints}
+use Rattle.som_libimage.proofs.NamedReleases.{release_forth, release_back}
 use Rattle.som_libimage.proofs.Turned.{release_within}
 
 abbrev read : Release → Result Release ImageFault
@@ -31,7 +31,6 @@ Found bytes r = NamesDiffer (interface_of r).classes → library_image r ≡ Som
 -- and what else is known of it
 record Read (bytes : List ℕ) (r : Release) : Type 0 where
   found : Found bytes r
-  prints : PrintTexts r
   within : IsWithinLimits r
 
 read_one : (bytes : List ℕ) → AreBytes bytes → (r : Release) → library_at bytes ≡ Ok r → Read bytes r
@@ -40,7 +39,6 @@ read_one bytes all r e =
     let t = wire_takes bytes all w.0 w.1 in
     subst (Read bytes) (same_release (release_named w.0) r w.2) (record {
       found = λ differ. release_forth w.0 t.1 differ ∙ ap (λ (b : List ℕ). Some b) (sym t.0);
-      prints = release_prints w.0;
       within = release_within w.0 t.1;
     })
 
@@ -48,21 +46,17 @@ pub found : (bytes : List ℕ) → AreBytes bytes → (result : Result Release I
 found bytes all (Ok r) given = (read_one bytes all r given).found
 found bytes all (Err fault) given = tt
 
-pub prints : (bytes : List ℕ) → AreBytes bytes → (result : Result Release ImageFault) → Gives result (library_at bytes) → IfOk result PrintTexts
-prints bytes all (Ok r) given = (read_one bytes all r given).prints
-prints bytes all (Err fault) given = tt
-
 pub within : (bytes : List ℕ) → AreBytes bytes → (result : Result Release ImageFault) → Gives result (library_at bytes) → IfOk result IsWithinLimits
 within bytes all (Ok r) given = (read_one bytes all r given).within
 within bytes all (Err fault) given = tt
 
 -- a release that has a spelling is read from it
-pub library_again : (bytes : List ℕ) → AreBytes bytes → (r : Release) → library_image r ≡ Some bytes → PrintTexts r → library_at bytes ≡ Ok r
-library_again bytes all r spelled texts =
-    let n = release_back r bytes all texts spelled in
+pub library_again : (bytes : List ℕ) → AreBytes bytes → (r : Release) → library_image r ≡ Some bytes → IsWithinLimits r → library_at bytes ≡ Ok r
+library_again bytes all r spelled limits =
+    let n = release_back r bytes all limits spelled in
     ap library_at (sym n.spelled)
     ∙ ap (λ (x : Result WireRelease ImageFault). x >>= λ w. read (release_named w)) (wire_again n.wire n.fits)
     ∙ ap read n.names
 
-pub only : (bytes : List ℕ) → AreBytes bytes → (result : Result Release ImageFault) → Gives result (library_at bytes) → (r : Release) → library_image r ≡ Some bytes → PrintTexts r → Gives result (Ok r)
-only bytes all result given r spelled texts = subst (λ (x : Result Release ImageFault). Gives result x) (library_again bytes all r spelled texts) given
+pub only : (bytes : List ℕ) → AreBytes bytes → (result : Result Release ImageFault) → Gives result (library_at bytes) → (r : Release) → library_image r ≡ Some bytes → IsWithinLimits r → Gives result (Ok r)
+only bytes all result given r spelled limits = subst (λ (x : Result Release ImageFault). Gives result x) (library_again bytes all r spelled limits) given

@@ -10,7 +10,7 @@ use Rattle.som_libimage.specs.declared.wire.WireRelease.{WireRelease}
 use Rattle.som_libimage.specs.Naming.{release_named}
 use Rattle.som_libimage.specs.Spelling as spelling
 use Rattle.som_libimage.specs.Spelling.{FitsRelease}
-use Rattle.som_libimage.specs.Libraries.{NamesDiffer, PrintTexts, library_at}
+use Rattle.som_libimage.specs.Libraries.{NamesDiffer, library_at}
 use Rattle.som_libimage.specs.Limits.{IsWithinLimits}
 use Rattle.som_libimage.specs.Numbering.{release_numbered}
 use Rattle.som_libimage.proofs.LibraryFields.{wire_again}
@@ -33,7 +33,7 @@ read_back r w fits names =
 abbrev Image : Release → Type 0
 Image r = (bytes : List ℕ) × (library_image r ≡ Some bytes) × (library_at bytes ≡ Ok r)
 
-pub image_there : (r : Release) → ReleaseOk r → PrintTexts r → IsWithinLimits r → Image r
-image_there r ok prints within =
-    let t = (ready r ok prints within).turns in
+pub image_there : (r : Release) → ReleaseOk r → IsWithinLimits r → Image r
+image_there r ok within =
+    let t = (ready r ok within).turns in
     (spelling.library (release_numbered r), image_of r ok (release_numbered r) t.fits t.names, read_back r (release_numbered r) t.fits t.names)

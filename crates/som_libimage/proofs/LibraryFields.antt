@@ -6,16 +6,17 @@ use Rattle.std.specs.Int.{w8, w16}
 use Rattle.std.proofs.lemmas.Bool.{ltb-false, le-ltb, eqb-true}
 use Rattle.std.proofs.lemmas.Bool.Decides.{Decides-eqb}
 use Rattle.std.proofs.lemmas.List.{append-nil, length-append}
-use Rattle.std.proofs.lemmas.List.Elements.{recursion_from_All}
+use Rattle.std.proofs.lemmas.List.Elements.{All-from_recursion, recursion_from_All}
 use Rattle.std.proofs.lemmas.Slice.Eq.{starts_is}
 use Rattle.std.proofs.Math.Seq.{drop-length}
-use Rattle.som_model.specs.declared.limits.TheConstants.{MAX_LIBRARY_CLASSES}
+use Rattle.som_model.specs.declared.limits.TheConstants.{MAX_ENTRIES, MAX_LIBRARY_CLASSES}
 use Rattle.som_model.specs.Bytes.{AreBytes}
 use Rattle.som_model.specs.Steps.{◌>>=◌}
 use Rattle.som_wire.specs.declared.fault.ImageFault.{ImageFault}
 use Rattle.som_wire.specs.declared.fault.ImageFault.TheVariants as faults
 use Rattle.som_wire.specs.declared.read.Read.{Read}
 use Rattle.som_wire.specs.declared.face.WireFace.{WireFace}
+use Rattle.som_wire.specs.declared.method.Ranges.{Ranges}
 use Rattle.som_wire.specs.Fields.{Stands, done, many_at}
 use Rattle.som_wire.specs.Spelling.{number, counted, face, FitsFace, AreShort}
 use Rattle.som_wire.specs.Reading.{number_at, face_at}
@@ -23,94 +24,103 @@ use Rattle.som_wire.proofs.Parts.{IsField, Stands-join, Stands-back, Stands-fron
 use Rattle.som_wire.proofs.NumberFields.{byte_field, short_field}
 use Rattle.som_wire.proofs.ManyFields.{many_field}
 use Rattle.som_wire.proofs.FaceFields.{face_field}
-use Rattle.som_libimage.specs.declared.wire.WirePart.{WirePart}
+use Rattle.som_blocks.specs.declared.syntax.WirePart.{WirePart}
+use Rattle.som_blocks.specs.Reading.{part_at}
+use Rattle.som_blocks.specs.Spelling.{part}
+use Rattle.som_blocks.proofs.PartFields.{part_field}
 use Rattle.som_libimage.specs.declared.wire.WireRelease.{WireRelease}
-use Rattle.som_libimage.specs.Reading.{part_at, each_at, ranges_of, faces_at, classes_at, magic_at, head_at, wire_at}
-use Rattle.som_libimage.specs.Spelling.{part, FitsPart, FitEach, FitsFaces, classes, FitsRelease, library}
-use Rattle.som_libimage.proofs.PartFields.{part_field}
+use Rattle.som_libimage.specs.Reading.{introduced_count, ranges_of, faces_after_at, faces_at, parts_at, classes_at, magic_at, head_at, at_end, wire_at}
+use Rattle.som_libimage.specs.Spelling.{FitsClass, FitsParts, FitsFacesAfter, FitsFaces, classes, FitsRelease, head, library}
 use Rattle.som_libimage.proofs.EachFields.{each_field}
+use Rattle.som_naming.proofs.Places.{all_map}
 
 -- ---- faces
 
 abbrev spell_faces : List WireFace → List ℕ
 spell_faces fs = counted w16 face fs
 
-abbrev after_count : List ℕ → ℕ → Read ℕ → Result (Read (List WireFace)) ImageFault
-after_count bytes place count = cond (ltb MAX_LIBRARY_CLASSES count.value) (Err (faults.Number place)) (many_at (face_at (count.value + 4) bytes) count.value count.next)
+module _ (before most : ℕ) (small : before + most < 2 ^ 16) where
+  abbrev after_count : List ℕ → ℕ → Read ℕ → Result (Read (List WireFace)) ImageFault
+  after_count bytes place count = cond (ltb most count.value) (Err (faults.Number place)) (many_at (face_at (count.value + before) bytes) count.value count.next)
 
-faces_takes : (bytes : List ℕ) → AreBytes bytes → (place : ℕ) (r : Read (List WireFace)) → place ≤ length bytes → faces_at bytes place ≡ Ok r → Stands bytes place (spell_faces r.value) r.next × FitsFaces r.value
-unfolding faces_at
-faces_takes bytes all place r le e =
-    let n = took (number_at w16) (number w16) (λ n. n < 2 ^ 16) short_field bytes all place le (after_count bytes place) r e in
-    let count = n.0 in
-    let g = guard_no (ltb MAX_LIBRARY_CLASSES count.value) (faults.Number place) (many_at (face_at (count.value + 4) bytes) count.value count.next) r n.3 in
-    let most : count.value ≤ MAX_LIBRARY_CLASSES = ltb-false _ _ g.0 in
-    let t = (many_field (face_at (count.value + 4)) face (FitsFace (count.value + 4)) (face_field (count.value + 4) (omega arith)) count.value).takes bytes all count.next r n.1.within g.1 in
-    let same : length r.value ≡ count.value = t.1.0 in
-    let counted_n : Stands bytes place (number w16 (length r.value)) count.next = subst (λ (k : ℕ). Stands bytes place (number w16 k) count.next) (sym same) n.1 in
-    let each : All (FitsFace (length r.value + 4)) r.value = subst (λ (k : ℕ). All (FitsFace (k + 4)) r.value) (sym same) t.1.1 in
-    (Stands-join bytes place (number w16 (length r.value)) count.next (flat_map face r.value) r.next counted_n t.0, (omega arith, omega arith, each))
+  faces_takes : (bytes : List ℕ) → AreBytes bytes → (place : ℕ) (r : Read (List WireFace)) → place ≤ length bytes → faces_after_at before most bytes place ≡ Ok r → Stands bytes place (spell_faces r.value) r.next × FitsFacesAfter before most r.value
+  unfolding faces_after_at
+  faces_takes bytes all place r le e =
+      let n = took (number_at w16) (number w16) (λ n. n < 2 ^ 16) short_field bytes all place le (after_count bytes place) r e in
+      let count = n.0 in
+      let g = guard_no (ltb most count.value) (faults.Number place) (many_at (face_at (count.value + before) bytes) count.value count.next) r n.3 in
+      let few : count.value ≤ most = ltb-false _ _ g.0 in
+      let t = (many_field (face_at (count.value + before)) face (FitsFace (count.value + before)) (face_field (count.value + before) (omega (arith, small, few))) count.value).takes bytes all count.next r n.1.within g.1 in
+      let same : length r.value ≡ count.value = t.1.0 in
+      let counted_n : Stands bytes place (number w16 (length r.value)) count.next = subst (λ (k : ℕ). Stands bytes place (number w16 k) count.next) (sym same) n.1 in
+      let each : All (FitsFace (length r.value + before)) r.value = subst (λ (k : ℕ). All (FitsFace (k + before)) r.value) (sym same) t.1.1 in
+      (Stands-join bytes place (number w16 (length r.value)) count.next (flat_map face r.value) r.next counted_n t.0, (omega arith, omega (arith, same, few), each))
 
-faces_again : (bytes : List ℕ) (place : ℕ) (v : List WireFace) (next : ℕ) → Stands bytes place (spell_faces v) next → FitsFaces v → faces_at bytes place ≡ done v next
-unfolding faces_at
-faces_again bytes place v next h fits =
-    let most : length v ≤ MAX_LIBRARY_CLASSES = fits.1 in
-    let n = went (number_at w16) (number w16) (λ n. n < 2 ^ 16) short_field bytes place (length v) (flat_map face v) next h (omega arith) in
-    let many = (many_field (face_at (length v + 4)) face (FitsFace (length v + 4)) (face_field (length v + 4) (omega arith)) (length v)).again bytes (place + length (number w16 (length v))) v next n.1 (refl, fits.2) in
-    rw (n.0, le-ltb MAX_LIBRARY_CLASSES (length v) most, many) refl
+  faces_again : (bytes : List ℕ) (place : ℕ) (v : List WireFace) (next : ℕ) → Stands bytes place (spell_faces v) next → FitsFacesAfter before most v → faces_after_at before most bytes place ≡ done v next
+  unfolding faces_after_at
+  faces_again bytes place v next h fits =
+      let few : length v ≤ most = fits.1 in
+      let n = went (number_at w16) (number w16) (λ n. n < 2 ^ 16) short_field bytes place (length v) (flat_map face v) next h (omega (arith, small, few)) in
+      let many = (many_field (face_at (length v + before)) face (FitsFace (length v + before)) (face_field (length v + before) (omega (arith, small, few))) (length v)).again bytes (place + length (number w16 (length v))) v next n.1 (refl, fits.2) in
+      rw (n.0, le-ltb most (length v) few, many) refl
+
+  pub faces_after_field : IsField (faces_after_at before most) spell_faces (FitsFacesAfter before most)
+  faces_after_field = record { takes = faces_takes; again = faces_again }
 
 pub faces_field : IsField faces_at spell_faces FitsFaces
-faces_field = record { takes = faces_takes; again = faces_again }
+faces_field = faces_after_field 4 MAX_LIBRARY_CLASSES (omega arith)
 
 -- ---- ranges
 
-lengths_short : (classes : ℕ) (fs : List WireFace) → AllByRecursion (FitsFace classes) fs → (i : ℕ) → slice_index (map (λ f. length f.entries) fs) i < 2 ^ 16
-lengths_short classes [] h i = omega arith
-lengths_short classes (f ∷ fs) h zero = omega (arith, h.0.entries.1)
-lengths_short classes (f ∷ fs) h (suc i) = lengths_short classes fs h.1 i
+-- each class has few entries
+pub faces_few : (before most : ℕ) (fs : List WireFace) → FitsFacesAfter before most fs → All (λ (f : WireFace). length f.entries ≤ MAX_ENTRIES) fs
+faces_few before most fs fits =
+    All-from_recursion (λ (f : WireFace). length f.entries ≤ MAX_ENTRIES) fs (all_map (FitsFace (length fs + before)) (λ (f : WireFace). length f.entries ≤ MAX_ENTRIES) (λ f h. h.entries.1) fs (recursion_from_All (FitsFace (length fs + before)) fs fits.2))
 
-entries_short : (classes : ℕ) (fs : List WireFace) → AllByRecursion (FitsFace classes) fs → (i : ℕ) → slice_index ((ranges_of fs).entries) i < 2 ^ 16
-entries_short classes fs h zero = omega arith
-entries_short classes fs h (suc zero) = omega arith
-entries_short classes fs h (suc (suc zero)) = omega arith
-entries_short classes fs h (suc (suc (suc zero))) = omega arith
-entries_short classes fs h (suc (suc (suc (suc i)))) = lengths_short classes fs h i
+abbrev Few : WireFace → Type 0
+Few f = length f.entries ≤ MAX_ENTRIES
+
+lengths_short : (fs : List WireFace) → AllByRecursion Few fs → (i : ℕ) → slice_index (map (λ f. length f.entries) fs) i < 2 ^ 16
+lengths_short [] h i = omega arith
+lengths_short (f ∷ fs) h zero = omega (arith, h.0)
+lengths_short (f ∷ fs) h (suc i) = lengths_short fs h.1 i
+
+entries_short : (fs : List WireFace) → AllByRecursion Few fs → (i : ℕ) → slice_index ((ranges_of fs).entries) i < 2 ^ 16
+entries_short fs h zero = omega arith
+entries_short fs h (suc zero) = omega arith
+entries_short fs h (suc (suc zero)) = omega arith
+entries_short fs h (suc (suc (suc zero))) = omega arith
+entries_short fs h (suc (suc (suc (suc i)))) = lengths_short fs h i
+
+pub short_ranges : (fs : List WireFace) → length fs + 4 < 2 ^ 16 → All Few fs → AreShort (ranges_of fs)
+short_ranges fs many few = record { classes = many; entries = entries_short fs (recursion_from_All Few fs few) }
 
 pub ranges_short : (fs : List WireFace) → FitsFaces fs → AreShort (ranges_of fs)
-ranges_short fs fits = record {
-  classes = omega (arith, fits.1);
-  entries = entries_short (length fs + 4) fs (recursion_from_All (FitsFace (length fs + 4)) fs fits.2);
-}
+ranges_short fs fits = short_ranges fs (omega (arith, fits.1)) (faces_few 4 MAX_LIBRARY_CLASSES fs fits)
 
 -- ---- faces and parts
 
-abbrev parts_at : List WireFace → List ℕ → ℕ → Result (Read (List WirePart)) ImageFault
-parts_at fs bytes = each_at (λ f. part_at (ranges_of fs) f bytes) fs
-
-abbrev FitsParts : List WireFace → List WirePart → Type 0
-FitsParts fs = FitEach (FitsPart (ranges_of fs)) fs
-
-parts_field : (fs : List WireFace) → FitsFaces fs → IsField (parts_at fs) (flat_map part) (FitsParts fs)
-parts_field fs fits = each_field (part_at (ranges_of fs)) part (FitsPart (ranges_of fs)) (part_field (ranges_of fs) (ranges_short fs fits)) fs
+pub parts_field : (ranges : Ranges) → AreShort ranges → (fs : List WireFace) → IsField (parts_at ranges fs) (flat_map part) (FitsParts ranges fs)
+parts_field ranges short fs = each_field (λ f bytes place. part_at ranges (introduced_count f) bytes place) part (FitsClass ranges) (λ f. part_field ranges short (introduced_count f)) fs
 
 abbrev after_parts : Read (List WireFace) → Read (List WirePart) → Result (Read WireRelease) ImageFault
 after_parts fs ps = done (record { faces = fs.value; parts = ps.value }) ps.next
 
 abbrev after_faces : List ℕ → Read (List WireFace) → Result (Read WireRelease) ImageFault
-after_faces bytes fs = parts_at fs.value bytes fs.next >>= after_parts fs
+after_faces bytes fs = parts_at (ranges_of fs.value) fs.value bytes fs.next >>= after_parts fs
 
 classes_takes : (bytes : List ℕ) → AreBytes bytes → (place : ℕ) (r : Read WireRelease) → place ≤ length bytes → classes_at bytes place ≡ Ok r → Stands bytes place (classes r.value) r.next × FitsRelease r.value
 unfolding classes_at
 classes_takes bytes all place r le e =
     let a = took faces_at spell_faces FitsFaces faces_field bytes all place le (after_faces bytes) r e in
-    let b = took (parts_at a.0.value) (flat_map part) (FitsParts a.0.value) (parts_field a.0.value a.2) bytes all a.0.next a.1.within (after_parts a.0) r a.3 in
+    let b = took (parts_at (ranges_of a.0.value) a.0.value) (flat_map part) (FitsParts (ranges_of a.0.value) a.0.value) (parts_field (ranges_of a.0.value) (ranges_short a.0.value a.2) a.0.value) bytes all a.0.next a.1.within (after_parts a.0) r a.3 in
     came classes FitsRelease bytes place (record { faces = a.0.value; parts = b.0.value }) b.0.next r b.3 (Stands-join bytes place (spell_faces a.0.value) a.0.next (flat_map part b.0.value) b.0.next a.1 b.1) (record { faces = a.2; parts = b.2 })
 
 classes_again : (bytes : List ℕ) (place : ℕ) (v : WireRelease) (next : ℕ) → Stands bytes place (classes v) next → FitsRelease v → classes_at bytes place ≡ done v next
 unfolding classes_at
 classes_again bytes place v next h fits =
     let a = went faces_at spell_faces FitsFaces faces_field bytes place v.faces (flat_map part v.parts) next h fits.faces in
-    let b = (parts_field v.faces fits.faces).again bytes (place + length (spell_faces v.faces)) v.parts next a.1 fits.parts in
+    let b = (parts_field (ranges_of v.faces) (ranges_short v.faces fits.faces) v.faces).again bytes (place + length (spell_faces v.faces)) v.parts next a.1 fits.parts in
     rw (a.0, b) refl
 
 classes_field : IsField classes_at classes FitsRelease
@@ -118,54 +128,54 @@ classes_field = record { takes = classes_takes; again = classes_again }
 
 -- ---- the head
 
-abbrev soml : List ℕ
-soml = codes "SOML"
+module _ (magic : List ℕ) where
+  abbrev short_of : List ℕ → Result ℕ ImageFault
+  short_of bytes = cond (starts_with nat_eq magic bytes) (Err (faults.Cut (length bytes))) (Err (faults.Magic 0))
 
-abbrev short_of : List ℕ → Result ℕ ImageFault
-short_of bytes = cond (starts_with nat_eq soml bytes) (Err (faults.Cut (length bytes))) (Err (faults.Magic 0))
+  no_magic : (b c : Bool) (bytes : List ℕ) (next : ℕ) → cond b (Ok (length magic)) (cond c (Err (faults.Cut (length bytes))) (Err (faults.Magic 0))) ≡ Ok next → (b ≡ true) × (length magic ≡ next)
+  no_magic true c bytes next e = (refl, let z = e in cc)
+  no_magic false true bytes next e = absurd cc
+  no_magic false false bytes next e = absurd cc
 
-no_magic : (b c : Bool) (bytes : List ℕ) (next : ℕ) → cond b (Ok 4) (cond c (Err (faults.Cut (length bytes))) (Err (faults.Magic 0))) ≡ Ok next → (b ≡ true) × (4 ≡ next)
-no_magic true c bytes next e = (refl, let z = e in cc)
-no_magic false true bytes next e = absurd cc
-no_magic false false bytes next e = absurd cc
+  magic_takes : (bytes : List ℕ) (next : ℕ) → magic_at magic bytes ≡ Ok next → Stands bytes 0 magic next
+  magic_takes bytes next e =
+      let g = no_magic (starts_with nat_eq bytes magic) (starts_with nat_eq magic bytes) bytes next e in
+      let is = (starts_is Decides-eqb bytes magic (starts_with nat_eq bytes magic) refl).0 g.0 in
+      let parts : bytes ≡ magic ++ drop (length magic) bytes = is in
+      subst (λ (n : ℕ). Stands bytes 0 magic n) g.1
+      (record { parts = parts; moves = omega arith; within = omega (arith, length-append magic (drop (length magic) bytes), ap (length {A = ℕ}) parts) })
 
-magic_takes : (bytes : List ℕ) (next : ℕ) → magic_at bytes ≡ Ok next → Stands bytes 0 soml next
-magic_takes bytes next e =
-    let g = no_magic (starts_with nat_eq bytes soml) (starts_with nat_eq soml bytes) bytes next e in
-    let parts : bytes ≡ soml ++ drop 4 bytes = (starts_is Decides-eqb bytes soml (starts_with nat_eq bytes soml) refl).0 g.0 in
-    subst (λ (n : ℕ). Stands bytes 0 soml n) g.1
-    (record { parts = parts; moves = refl; within = omega (arith, length-append soml (drop 4 bytes), ap (length {A = ℕ}) parts) })
+  magic_again : (bytes : List ℕ) (next : ℕ) → Stands bytes 0 magic next → magic_at magic bytes ≡ Ok next
+  magic_again bytes next h =
+      let is : starts_with nat_eq bytes magic ≡ true = (starts_is Decides-eqb bytes magic (starts_with nat_eq bytes magic) refl).1 (drop next bytes) h.parts in
+      let moved : length magic ≡ next = omega (arith, h.moves) in
+      ap (λ (b : Bool). cond b (Ok (length magic)) (short_of bytes)) is ∙ ap (λ (n : ℕ). Ok n) moved
 
-magic_again : (bytes : List ℕ) (next : ℕ) → Stands bytes 0 soml next → magic_at bytes ≡ Ok next
-magic_again bytes next h =
-    let is : starts_with nat_eq bytes soml ≡ true = (starts_is Decides-eqb bytes soml (starts_with nat_eq bytes soml) refl).1 (drop next bytes) h.parts in
-    let moved : 4 ≡ next = h.moves in
-    ap (λ (b : Bool). cond b (Ok 4) (short_of bytes)) is ∙ ap (λ (n : ℕ). Ok n) moved
+  abbrev after_version : ℕ → Read ℕ → Result ℕ ImageFault
+  after_version place version = cond (eqb version.value 1) (Ok version.next) (Err (faults.Version place))
 
-abbrev head : List ℕ
-head = soml ++ 1 ∷ []
+  pub head_takes : (bytes : List ℕ) → AreBytes bytes → (next : ℕ) → head_at magic bytes ≡ Ok next → Stands bytes 0 (head magic) next
+  unfolding head_at
+  head_takes bytes all next e =
+      let a = bind_ok (magic_at magic bytes) (λ place. number_at w8 bytes place >>= after_version place) next e in
+      let m = magic_takes bytes a.0 a.1 in
+      let v = took (number_at w8) (number w8) (λ n. n < 2 ^ 8) byte_field bytes all a.0 m.within (after_version a.0) next a.2 in
+      let g = guard_yes (eqb v.0.value 1) (faults.Version a.0) (Ok v.0.next) next v.3 in
+      let one : Stands bytes a.0 (1 ∷ []) v.0.next = subst (λ (n : ℕ). Stands bytes a.0 (number w8 n) v.0.next) (eqb-true _ _ g.0) v.1 in
+      let both = Stands-join bytes 0 magic a.0 (1 ∷ []) v.0.next m one in
+      let same : v.0.next ≡ next = (let z = g.1 in cc) in
+      subst (λ (n : ℕ). Stands bytes 0 (head magic) n) same both
 
-abbrev after_version : ℕ → Read ℕ → Result ℕ ImageFault
-after_version place version = cond (eqb version.value 1) (Ok version.next) (Err (faults.Version place))
-
-head_takes : (bytes : List ℕ) → AreBytes bytes → (next : ℕ) → head_at bytes ≡ Ok next → Stands bytes 0 head next
-unfolding head_at
-head_takes bytes all next e =
-    let a = bind_ok (magic_at bytes) (λ place. number_at w8 bytes place >>= after_version place) next e in
-    let m = magic_takes bytes a.0 a.1 in
-    let v = took (number_at w8) (number w8) (λ n. n < 2 ^ 8) byte_field bytes all a.0 m.within (after_version a.0) next a.2 in
-    let g = guard_yes (eqb v.0.value 1) (faults.Version a.0) (Ok v.0.next) next v.3 in
-    let one : Stands bytes a.0 (1 ∷ []) v.0.next = subst (λ (n : ℕ). Stands bytes a.0 (number w8 n) v.0.next) (eqb-true _ _ g.0) v.1 in
-    let both = Stands-join bytes 0 soml a.0 (1 ∷ []) v.0.next m one in
-    let same : v.0.next ≡ next = (let z = g.1 in cc) in
-    subst (λ (n : ℕ). Stands bytes 0 head n) same both
-
-head_again : (bytes : List ℕ) (next : ℕ) → Stands bytes 0 head next → head_at bytes ≡ Ok next
-unfolding head_at
-head_again bytes next h =
-    let m = magic_again bytes 4 (Stands-front bytes 0 soml (1 ∷ []) next h) in
-    let v = byte_field.again bytes 4 1 next (Stands-back bytes 0 soml (1 ∷ []) next h) (omega arith) in
-    rw (m, v) refl
+  pub head_again : (bytes : List ℕ) (next : ℕ) → Stands bytes 0 (head magic) next → head_at magic bytes ≡ Ok next
+  unfolding head_at
+  head_again bytes next h =
+      let place : ℕ = length magic in
+      let here : 0 + place ≡ place = omega arith in
+      let front = subst (λ (n : ℕ). Stands bytes 0 magic n) here (Stands-front bytes 0 magic (1 ∷ []) next h) in
+      let back = subst (λ (n : ℕ). Stands bytes n (1 ∷ []) next) here (Stands-back bytes 0 magic (1 ∷ []) next h) in
+      let m = magic_again bytes place front in
+      let v = byte_field.again bytes place 1 next back (omega arith) in
+      rw (m, v) refl
 
 -- ---- whole images
 
@@ -178,11 +188,8 @@ all_bytes bytes t next h e =
 pub stands_whole : (t : List ℕ) → Stands t 0 t (length t)
 stands_whole t = record { parts = sym (append-nil t) ∙ ap (λ (l : List ℕ). t ++ l) (sym (drop-length t)); moves = omega arith; within = omega arith }
 
-pub at_end : (n : ℕ) → nat_lt n n ≡ false
-at_end n = le-ltb n n (omega arith)
-
-abbrev ending : List ℕ → Read WireRelease → Result WireRelease ImageFault
-ending bytes release = cond (nat_lt release.next (length bytes)) (Err (faults.Trailing release.next)) (Ok release.value)
+pub ends_there : (n : ℕ) → nat_lt n n ≡ false
+ends_there n = le-ltb n n (omega arith)
 
 abbrev answered : WireRelease → Result WireRelease ImageFault
 answered w = Ok w
@@ -190,15 +197,18 @@ answered w = Ok w
 ok_same : (x y : WireRelease) → answered x ≡ answered y → x ≡ y
 ok_same x y e = cc
 
+abbrev soml : List ℕ
+soml = codes "SOML"
+
 -- what is read is spelled so
 pub wire_takes : (bytes : List ℕ) → AreBytes bytes → (w : WireRelease) → wire_at bytes ≡ Ok w → (bytes ≡ library w) × FitsRelease w
 unfolding wire_at
 wire_takes bytes all w e =
-    let a = bind_ok (head_at bytes) (λ place. classes_at bytes place >>= ending bytes) w e in
-    let h = head_takes bytes all a.0 a.1 in
-    let c = took classes_at classes FitsRelease classes_field bytes all a.0 h.within (ending bytes) w a.2 in
+    let a = bind_ok (head_at soml bytes) (λ place. classes_at bytes place >>= at_end bytes) w e in
+    let h = head_takes soml bytes all a.0 a.1 in
+    let c = took classes_at classes FitsRelease classes_field bytes all a.0 h.within (at_end bytes) w a.2 in
     let g = guard_no (nat_lt c.0.next (length bytes)) (faults.Trailing c.0.next) (Ok c.0.value) w c.3 in
-    let both = Stands-join bytes 0 head a.0 (classes c.0.value) c.0.next h c.1 in
+    let both = Stands-join bytes 0 (head soml) a.0 (classes c.0.value) c.0.next h c.1 in
     let is : bytes ≡ library c.0.value = all_bytes bytes (library c.0.value) c.0.next both g.0 in
     let same : c.0.value ≡ w = ok_same c.0.value w g.1 in
     subst (λ (x : WireRelease). (bytes ≡ library x) × FitsRelease x) same (is, c.2)
@@ -209,6 +219,6 @@ unfolding wire_at
 wire_again w fits =
     let bytes : List ℕ = library w in
     let whole = stands_whole bytes in
-    let h = head_again bytes 5 (Stands-front bytes 0 head (classes w) (length bytes) whole) in
-    let c = classes_field.again bytes 5 w (length bytes) (Stands-back bytes 0 head (classes w) (length bytes) whole) fits in
-    rw (h, c, at_end (length bytes)) refl
+    let h = head_again soml bytes 5 (Stands-front bytes 0 (head soml) (classes w) (length bytes) whole) in
+    let c = classes_field.again bytes 5 w (length bytes) (Stands-back bytes 0 (head soml) (classes w) (length bytes) whole) fits in
+    rw (h, c, ends_there (length bytes)) refl

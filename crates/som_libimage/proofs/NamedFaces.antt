@@ -26,11 +26,13 @@ use Rattle.som_wire.specs.declared.entry.WireEntry.TheVariants as entries
 use Rattle.som_wire.specs.declared.face.WireFace.{WireFace}
 use Rattle.som_wire.specs.Spelling as wire
 use Rattle.som_wire.specs.Spelling.{FitsKind, FitsSig, FitsEntry, FitsFace, FitsCounted}
-use Rattle.som_libimage.specs.declared.directory.Directory.{Directory}
-use Rattle.som_libimage.specs.Naming.{key_at, kind_named, sig_named, entry_named, metaclass_named, face_named}
-use Rattle.som_libimage.proofs.Places.{all_map, all_of}
-use Rattle.som_libimage.proofs.Spelled.{some_bytes, bytes_are, none_some, split, guarded, Forth, From, Back, counted_forth, counted_back, text_forth, text_back}
-use Rattle.som_libimage.proofs.Numbers.{Tells, NoDoubles, class_forth, class_back}
+use Rattle.som_naming.specs.declared.directory.Directory.{Directory}
+use Rattle.som_naming.specs.Naming.{key_at, kind_named, Tells, NoDoubles}
+use Rattle.som_libimage.specs.Naming.{sig_named, entry_named, metaclass_named, face_named}
+use Rattle.som_naming.proofs.Places.{all_map, all_of}
+use Rattle.som_naming.proofs.Spelled.{some_bytes, bytes_are, none_some, split, guarded, Forth, From, Back, counted_forth, counted_back, text_forth, text_back}
+use Rattle.som_naming.proofs.Numbers.{class_forth, class_back}
+use Rattle.som_naming.proofs.NamedKinds.{kind_forth, value_forth, kind_back, value_back}
 
 -- ---- versions
 
@@ -67,27 +69,10 @@ module _ (d : Directory) (cs : List Class) (tells : Tells d cs) where
   classes = length d.keys
 
   module _ (single : NoDoubles d) where
-    abbrev KindForth : WireType → Type 0
-    KindForth k = Forth (images.kind cs) wire.kind (kind_named d.keys) k
-
-    pub kind_forth : (k : WireType) → FitsKind classes true k → KindForth k
-    kind_forth types.Void fits = refl
-    kind_forth types.Long fits = refl
-    kind_forth types.Boolean fits = refl
-    kind_forth types.Str fits = refl
-    kind_forth (types.Class n) fits = ap (λ (s : Spelled). tag 4 then s) (class_forth d cs tells single n fits)
-
-    pub value_forth : (k : WireType) → FitsKind classes false k → Forth (images.value_kind cs) wire.kind (kind_named d.keys) k
-    value_forth types.Void fits = absurd (true≢false (sym fits))
-    value_forth types.Long fits = refl
-    value_forth types.Boolean fits = refl
-    value_forth types.Str fits = refl
-    value_forth (types.Class n) fits = ap (λ (s : Spelled). tag 4 then s) (class_forth d cs tells single n fits)
-
     sig_forth : (s : WireSig) → FitsSig classes s → Forth (images.sig cs) wire.sig (sig_named d.keys) s
     sig_forth s fits =
-        let each = all_map (FitsKind classes false) (Forth (images.value_kind cs) wire.kind (kind_named d.keys)) value_forth s.params (recursion_from_All (FitsKind classes false) s.params fits.params.2) in
-        ap (λ (x : Spelled). x then images.counted w8 MAX_PARAMETERS (images.value_kind cs) (map (kind_named d.keys) s.params)) (kind_forth s.result fits.result)
+        let each = all_map (FitsKind classes false) (Forth (images.value_kind cs) wire.kind (kind_named d.keys)) (value_forth d cs tells single) s.params (recursion_from_All (FitsKind classes false) s.params fits.params.2) in
+        ap (λ (x : Spelled). x then images.counted w8 MAX_PARAMETERS (images.value_kind cs) (map (kind_named d.keys) s.params)) (kind_forth d cs tells single s.result fits.result)
         ∙ ap (λ (x : Spelled). Some (wire.kind s.result) then x) (counted_forth (images.value_kind cs) wire.kind (kind_named d.keys) w8 MAX_PARAMETERS s.params fits.params.1 each)
 
     entry_forth : (e : WireEntry) → FitsEntry classes e → Forth (images.entry cs) wire.entry (entry_named d.keys) e
@@ -134,43 +119,14 @@ module _ (d : Directory) (cs : List Class) (tells : Tells d cs) where
 
   -- ---- and back
 
-  abbrev KindBack : Bool → (ValueType → Spelled) → ValueType → Type 0
-  KindBack is_result spell t = Back spell wire.kind (FitsKind classes is_result) (kind_named d.keys) t
-
-  -- a class after its tag
-  class_kind : (is_result : Bool) (k : ClassKey) (bytes : List ℕ) → (tag 4 then images.class cs k) ≡ Some bytes → From wire.kind (FitsKind classes is_result) (kind_named d.keys) (values.Class k) bytes
-  class_kind is_result k bytes e =
-      let s = split (tag 4) (images.class cs k) bytes e in
-      let n = class_back d cs tells k s.back s.second in
-      record {
-        it = types.Class n.it;
-        spelled = ap (λ (x : List ℕ). x ++ wire.number w16 n.it) (bytes_are (4 ∷ []) s.front s.first) ∙ ap (λ (y : List ℕ). s.front ++ y) n.spelled ∙ s.whole;
-        fits = n.fits;
-        names = ap values.Class n.names;
-      }
-
-  kind_back : (t : ValueType) → KindBack true (images.kind cs) t
-  kind_back values.Void bytes e = record { it = types.Void; spelled = bytes_are (0 ∷ []) bytes e; fits = refl; names = refl }
-  kind_back values.Long bytes e = record { it = types.Long; spelled = bytes_are (1 ∷ []) bytes e; fits = tt; names = refl }
-  kind_back values.Boolean bytes e = record { it = types.Boolean; spelled = bytes_are (2 ∷ []) bytes e; fits = tt; names = refl }
-  kind_back values.Str bytes e = record { it = types.Str; spelled = bytes_are (3 ∷ []) bytes e; fits = tt; names = refl }
-  kind_back (values.Class k) bytes e = class_kind true k bytes e
-
-  pub value_back : (t : ValueType) → KindBack false (images.value_kind cs) t
-  value_back values.Void bytes e = none_some bytes e
-  value_back values.Long bytes e = record { it = types.Long; spelled = bytes_are (1 ∷ []) bytes e; fits = tt; names = refl }
-  value_back values.Boolean bytes e = record { it = types.Boolean; spelled = bytes_are (2 ∷ []) bytes e; fits = tt; names = refl }
-  value_back values.Str bytes e = record { it = types.Str; spelled = bytes_are (3 ∷ []) bytes e; fits = tt; names = refl }
-  value_back (values.Class k) bytes e = class_kind false k bytes e
-
   abbrev a_sig : ValueType → List ValueType → Sig
   a_sig result params = record { result = result; params = params }
 
   sig_back : (s : Sig) → Back (images.sig cs) wire.sig (FitsSig classes) (sig_named d.keys) s
   sig_back s bytes e =
       let p = split (images.kind cs s.result) (images.counted w8 MAX_PARAMETERS (images.value_kind cs) s.params) bytes e in
-      let r = kind_back s.result p.front p.first in
-      let each = all_of (Back (images.value_kind cs) wire.kind (FitsKind classes false) (kind_named d.keys)) value_back s.params in
+      let r = kind_back d cs tells s.result p.front p.first in
+      let each = all_of (Back (images.value_kind cs) wire.kind (FitsKind classes false) (kind_named d.keys)) (value_back d cs tells) s.params in
       let ps = counted_back (images.value_kind cs) wire.kind (kind_named d.keys) (FitsKind classes false) w8 0 MAX_PARAMETERS s.params (omega arith) each p.back p.second in
       record {
         it = record { result = r.it; params = ps.it };

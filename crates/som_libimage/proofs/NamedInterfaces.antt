@@ -15,13 +15,13 @@ use Rattle.som_model.specs.Images as images
 use Rattle.som_wire.specs.declared.face.WireFace.{WireFace}
 use Rattle.som_wire.specs.Spelling as wire
 use Rattle.som_wire.specs.Spelling.{FitsFace}
-use Rattle.som_libimage.specs.declared.directory.Directory.{Directory}
+use Rattle.som_naming.specs.declared.directory.Directory.{Directory}
 use Rattle.som_libimage.specs.Spelling.{FitsFaces}
-use Rattle.som_libimage.specs.Naming.{names_in, kernel_directory, library_directory, face_named, interface_named}
+use Rattle.som_naming.specs.Naming.{names_in, kernel_directory, library_directory, entry_names, Tells, NoDoubles}
+use Rattle.som_libimage.specs.Naming.{face_named, interface_named}
 use Rattle.som_libimage.specs.Libraries.{NamesDiffer, interface_image, NamedFrom}
-use Rattle.som_libimage.proofs.Places.{all_map, all_of}
-use Rattle.som_libimage.proofs.Spelled.{Forth, Back, counted_forth, counted_back}
-use Rattle.som_libimage.proofs.Numbers.{entry_names, Tells, NoDoubles}
+use Rattle.som_naming.proofs.Places.{all_map, all_of}
+use Rattle.som_naming.proofs.Spelled.{Forth, Back, counted_forth, counted_back}
 use Rattle.som_libimage.proofs.NamedFaces.{face_forth, face_back}
 use Rattle.som_libimage.proofs.NamedReleases.{names_kept, distinct_of, library_key, as_many_keys, no_doubles, directory_of}
 

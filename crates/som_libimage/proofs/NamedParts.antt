@@ -1,9 +1,8 @@
 -- Parts with names are spelled as those with numbers are.
 use Rattle.std.proofs.Common.{◌≡◌, ℕ, zero, suc, ◌+◌, ◌^◌, ◌<◌, Bool, true, cond, eqb, List, [], ◌∷◌, ◌++◌, length, map, Some, refl, sym, ap, subst, ◌∙◌, arith}
-use Rattle.std.specs.Prelude.{nat_lt}
 use Rattle.std.specs.List.{flat_map, count_by, AllByRecursion}
-use Rattle.std.specs.Int.{w8, w16, w32, to_be_bytes}
-use Rattle.std.proofs.lemmas.Bool.{ltb-true, lt-ltb, eqb-true}
+use Rattle.std.specs.Int.{w8, w16}
+use Rattle.std.proofs.lemmas.Bool.{eqb-true}
 use Rattle.std.proofs.lemmas.List.{length-map}
 use Rattle.std.proofs.lemmas.List.Concat.{flat_map-cons}
 use Rattle.std.proofs.lemmas.List.Recursion.{is_count_by}
@@ -12,15 +11,7 @@ use Rattle.som_model.specs.declared.limits.TheConstants.{MAX_VARIABLES, MAX_OVER
 use Rattle.som_model.specs.declared.key.MethodRef.{MethodRef}
 use Rattle.som_model.specs.declared.key.ValueType.{ValueType}
 use Rattle.som_model.specs.declared.key.ClassKey.{ClassKey}
-use Rattle.som_model.specs.declared.syntax.Expr.{Expr, fold-roll-Expr}
-use Rattle.som_model.specs.declared.syntax.Expr.TheVariants as exprs
-use Rattle.som_model.specs.declared.syntax.Expr.TheVariants.{rolls-Str}
-use Rattle.som_model.specs.declared.syntax.Expr.TheOpen.{Expr-F}
-use Rattle.som_model.specs.declared.syntax.Stmt.{Stmt, fold-Stmt, fold-roll-Stmt}
-use Rattle.som_model.specs.declared.syntax.Stmt.TheVariants as stmts
-use Rattle.som_model.specs.declared.syntax.Stmt.TheVariants.{rolls-Print}
-use Rattle.som_model.specs.declared.syntax.Stmt.TheOpen.{Stmt-F}
-use Rattle.som_model.specs.declared.syntax.Block.{Block, fold-roll-Block}
+use Rattle.som_model.specs.declared.syntax.Block.{Block}
 use Rattle.som_model.specs.declared.class.Body.{Body}
 use Rattle.som_model.specs.declared.class.Body.TheVariants as named_bodies
 use Rattle.som_model.specs.declared.class.Variable.{Variable}
@@ -30,28 +21,34 @@ use Rattle.som_model.specs.declared.class.ClassDecl.{ClassDecl}
 use Rattle.som_model.specs.Bytes.{AreBytes}
 use Rattle.som_model.specs.Class.{Class, introduced}
 use Rattle.som_model.specs.Images as images
-use Rattle.som_model.specs.Images.{Spelled, AtLevel, ◌then◌, each, tag, where_it_is, at_level, expr, expr_step, stmt_step, block_step}
+use Rattle.som_model.specs.Images.{Spelled, ◌then◌, each, tag, where_it_is}
 use Rattle.som_wire.specs.declared.entry.WireEntry.{WireEntry}
 use Rattle.som_wire.specs.declared.entry.WireEntry.TheVariants as entries
 use Rattle.som_wire.specs.declared.face.WireFace.{WireFace}
 use Rattle.som_wire.specs.Spelling as wire
-use Rattle.som_wire.specs.Spelling.{FitsText, FitsFace, FitsCounted}
+use Rattle.som_wire.specs.Spelling.{FitsCounted, FitsMethod}
 use Rattle.som_wire.proofs.NumberFields.{number-w8}
-use Rattle.som_libimage.specs.declared.wire.WireVariable.{WireVariable}
-use Rattle.som_libimage.specs.declared.wire.WireBody.{WireBody}
-use Rattle.som_libimage.specs.declared.wire.WireBody.TheVariants as bodies
-use Rattle.som_libimage.specs.declared.wire.WireOverride.{WireOverride}
-use Rattle.som_libimage.specs.declared.wire.WirePart.{WirePart}
-use Rattle.som_libimage.specs.declared.directory.Directory.{Directory}
+use Rattle.som_blocks.specs.declared.syntax.WireVariable.{WireVariable}
+use Rattle.som_blocks.specs.declared.syntax.WireBody.{WireBody}
+use Rattle.som_blocks.specs.declared.syntax.WireBody.TheVariants as bodies
+use Rattle.som_blocks.specs.declared.syntax.WireOverride.{WireOverride}
+use Rattle.som_blocks.specs.declared.syntax.WirePart.{WirePart}
+use Rattle.som_blocks.specs.Spelling as spelling
+use Rattle.som_blocks.specs.Fitting.{FitsVariable, FitsBody, FitsOverride}
+use Rattle.som_naming.specs.declared.directory.Directory.{Directory}
+use Rattle.som_naming.specs.Naming.{kind_named, ranges_in, Tells, NoDoubles}
+use Rattle.som_naming.specs.NamedBlocks.{block_named}
+use Rattle.som_naming.specs.BlockLimits.{BlockWithin}
+use Rattle.som_naming.proofs.Places.{all_map, all_of}
+use Rattle.som_naming.proofs.Spelled.{some_bytes, bytes_are, split, guarded, Forth, From, Back, each_forth, counted_forth, counted_back, text_forth, text_back}
+use Rattle.som_naming.proofs.Numbers.{method_forth, method_back}
+use Rattle.som_naming.proofs.NamedKinds.{value_forth, value_back}
+use Rattle.som_naming.proofs.NamedStmts.{block_forth}
+use Rattle.som_naming.proofs.StmtsBack.{block_back}
 use Rattle.som_libimage.specs.Reading.{is_introduced}
-use Rattle.som_libimage.specs.Spelling as spelling
-use Rattle.som_libimage.specs.Spelling.{FitsBlock, FitsVariable, FitsBody, FitsOverride, FitsPart}
-use Rattle.som_libimage.specs.Naming.{kind_named, entry_named, face_named, print_of, block_named, variable_named, body_named, override_named, class_named, ranges_in}
-use Rattle.som_libimage.specs.Libraries.{PrintsTexts, BodyPrints, ClassPrints}
-use Rattle.som_libimage.proofs.Places.{all_map, all_of}
-use Rattle.som_libimage.proofs.Spelled.{some_bytes, bytes_are, split, guarded, Forth, From, Back, each_forth, counted_forth, counted_back, text_forth, text_back}
-use Rattle.som_libimage.proofs.Numbers.{Tells, NoDoubles, method_forth, method_back}
-use Rattle.som_libimage.proofs.NamedFaces.{value_forth, value_back}
+use Rattle.som_libimage.specs.Spelling.{FitsClass}
+use Rattle.som_libimage.specs.Naming.{entry_named, face_named, variable_named, body_named, override_named, class_named}
+use Rattle.som_libimage.specs.Limits.{BodyWithin, ClassWithin}
 
 -- ---- bytes of parts of a list
 
@@ -70,151 +67,68 @@ front_bytes x y bytes e h = bytes_front x y (subst AreBytes (sym e) h)
 pub back_bytes : (x y bytes : List ℕ) → x ++ y ≡ bytes → AreBytes bytes → AreBytes y
 back_bytes x y bytes e h = bytes_back x y (subst AreBytes (sym e) h)
 
--- ---- blocks
+-- ---- values whose spelling are bytes
 
--- a statement that prints a text
-abbrev statement : List ℕ → Spelled
-statement t = tag 0x08 then (tag 0x21 then images.text t)
+module _ {A W : Type 0} (spell : A → Spelled) (with_numbers : W → List ℕ) (Fits : W → Type 0) (named : W → A) where
+  -- what a value is named from, where its spelling are bytes
+  abbrev pub BytesBack : A → Type 0
+  BytesBack v = (bytes : List ℕ) → AreBytes bytes → spell v ≡ Some bytes → From with_numbers Fits named v bytes
 
-each_statement : (ts : List (List ℕ)) → AllByRecursion FitsText ts → each statement ts ≡ Some (flat_map spelling.statement ts)
-each_statement [] h = refl
-each_statement (t ∷ ts) h =
-    ap (λ (s : Spelled). (tag 0x08 then (tag 0x21 then s)) then each statement ts) (text_forth t h.0)
-    ∙ ap (λ (s : Spelled). Some (spelling.statement t) then s) (each_statement ts h.1)
-    ∙ ap some_bytes (sym (flat_map-cons spelling.statement t ts))
-
-statement_back : (t bytes : List ℕ) → statement t ≡ Some bytes → (spelling.statement t ≡ bytes) × FitsText t
-statement_back t bytes e =
-    let s = split (tag 0x08) (tag 0x21 then images.text t) bytes e in
-    let u = split (tag 0x21) (images.text t) s.back s.second in
-    let x = text_back t u.back u.second in (
-      ap (λ (y : List ℕ). (0x08 ∷ []) ++ ((0x21 ∷ []) ++ y)) x.0
-          ∙ ap (λ (y : List ℕ). (0x08 ∷ []) ++ (y ++ u.back)) (bytes_are (0x21 ∷ []) u.front u.first)
-          ∙ ap (λ (y : List ℕ). (0x08 ∷ []) ++ y) u.whole
-          ∙ ap (λ (y : List ℕ). y ++ s.back) (bytes_are (0x08 ∷ []) s.front s.first)
-          ∙ s.whole,
-      x.1,
-    )
-
-statements_back : (ts : List (List ℕ)) (bytes : List ℕ) → each statement ts ≡ Some bytes → (flat_map spelling.statement ts ≡ bytes) × AllByRecursion FitsText ts
-statements_back [] bytes e = (bytes_are [] bytes e, tt)
-statements_back (t ∷ ts) bytes e =
-    let s = split (statement t) (each statement ts) bytes e in
-    let a = statement_back t s.front s.first in
-    let b = statements_back ts s.back s.second in
-    (flat_map-cons spelling.statement t ts ∙ ap (λ (x : List ℕ). x ++ flat_map spelling.statement ts) a.0 ∙ ap (λ (y : List ℕ). s.front ++ y) b.0 ∙ s.whole, (a.1, b.1))
-
--- the texts that the statements print
-texts_of : (ss : List Stmt) → AllByRecursion (λ s. (t : List ℕ) × (s ≡ print_of t)) ss → (ts : List (List ℕ)) × (ss ≡ map print_of ts)
-texts_of [] h = ([], refl)
-texts_of (s ∷ ss) h =
-    let r = texts_of ss h.1 in
-    (h.0.0 ∷ r.0, ap (λ (x : Stmt). x ∷ ss) h.0.1 ∙ ap (λ (xs : List Stmt). print_of h.0.0 ∷ xs) r.1)
-
-abbrev a_block : List Stmt → Block
-a_block ss = record { statements = ss }
-
-module _ (cs : List Class) where
-  abbrev stmt : Stmt → AtLevel
-  stmt = fold-Stmt AtLevel AtLevel (stmt_step cs) block_step
-
-  text_is : (t : List ℕ) → expr cs (exprs.Str t) 2 ≡ (tag 0x21 then images.text t)
-  text_is t = ap (λ (f : AtLevel). f 2) (ap (expr cs) (sym (rolls-Str t)) ∙ fold-roll-Expr AtLevel (expr_step cs) (Expr-F.Str t))
-
-  print_is : (e : Expr) → stmt (stmts.Print e) 1 ≡ (tag 0x08 then expr cs e 2)
-  print_is e = ap (λ (f : AtLevel). f 1) (ap stmt (sym (rolls-Print e)) ∙ fold-roll-Stmt AtLevel AtLevel (stmt_step cs) block_step (Stmt-F.Print e))
-
-  statement_is : (t : List ℕ) → stmt (print_of t) 1 ≡ statement t
-  statement_is t = print_is (exprs.Str t) ∙ ap (λ (s : Spelled). tag 0x08 then s) (text_is t)
-
-  each_is : (ts : List (List ℕ)) → each (λ (s : AtLevel). s 1) (map stmt (map print_of ts)) ≡ each statement ts
-  each_is [] = refl
-  each_is (t ∷ ts) = ap (λ (s : Spelled). s then each (λ (f : AtLevel). f 1) (map stmt (map print_of ts))) (statement_is t) ∙ ap (λ (s : Spelled). statement t then s) (each_is ts)
-
-  as_many_statements : (ts : List (List ℕ)) → length (map stmt (map print_of ts)) ≡ length ts
-  as_many_statements ts = length-map (map print_of ts) stmt ∙ length-map ts print_of
-
-  abbrev block_by : ℕ → Spelled → Spelled
-  block_by n s = where_it_is (nat_lt n (2 ^ 32)) (images.number w32 n then s)
-
-  block_is : (ts : List (List ℕ)) → images.block cs (block_named ts) 1 ≡ block_by (length ts) (each statement ts)
-  block_is ts =
-      ap (λ (f : AtLevel). f 1) (fold-roll-Block AtLevel AtLevel (stmt_step cs) block_step (record { statements = map print_of ts }))
-      ∙ ap (λ (n : ℕ). block_by n (each (λ (f : AtLevel). f 1) (map stmt (map print_of ts)))) (as_many_statements ts)
-      ∙ ap (λ (s : Spelled). block_by (length ts) s) (each_is ts)
-
-  block_forth : (ts : List (List ℕ)) → FitsBlock ts → images.block cs (block_named ts) 1 ≡ Some (spelling.block ts)
-  block_forth ts fits =
-      block_is ts
-      ∙ ap (λ (b : Bool). where_it_is b (images.number w32 (length ts) then each statement ts)) (lt-ltb (length ts) (2 ^ 32) fits.0)
-      ∙ ap (λ (s : Spelled). images.number w32 (length ts) then s) (each_statement ts (recursion_from_All FitsText ts fits.1))
-
-  block_back : (b : Block) → PrintsTexts b → (bytes : List ℕ) → images.block cs b 1 ≡ Some bytes → From spelling.block FitsBlock block_named b bytes
-  block_back b prints bytes e =
-      let t = texts_of b.statements (recursion_from_All (λ s. (t : List ℕ) × (s ≡ print_of t)) b.statements prints) in
-      let same : b ≡ block_named t.0 = ap a_block t.1 in
-      let is = sym (block_is t.0) ∙ ap (λ (x : Block). images.block cs x 1) (sym same) ∙ e in
-      let g = guarded (nat_lt (length t.0) (2 ^ 32)) (images.number w32 (length t.0) then each statement t.0) bytes is in
-      let s = split (images.number w32 (length t.0)) (each statement t.0) bytes g.1 in
-      let r = statements_back t.0 s.back s.second in
+  pub each_of_bytes : (vs : List A) → AllByRecursion BytesBack vs → (bytes : List ℕ) → AreBytes bytes → each spell vs ≡ Some bytes → From (flat_map with_numbers) (AllByRecursion Fits) (map named) vs bytes
+  each_of_bytes [] back bytes h e = record { it = []; spelled = bytes_are [] bytes e; fits = tt; names = refl }
+  each_of_bytes (v ∷ vs) back bytes h e =
+      let s = split (spell v) (each spell vs) bytes e in
+      let w = back.0 s.front (front_bytes s.front s.back bytes s.whole h) s.first in
+      let ws = each_of_bytes vs back.1 s.back (back_bytes s.front s.back bytes s.whole h) s.second in
       record {
-        it = t.0;
-        spelled = ap (λ (x : List ℕ). x ++ flat_map spelling.statement t.0) (bytes_are (to_be_bytes w32 (length t.0)) s.front s.first) ∙ ap (λ (y : List ℕ). s.front ++ y) r.0 ∙ s.whole;
-        fits = (ltb-true (length t.0) (2 ^ 32) g.0, All-from_recursion FitsText t.0 r.1);
-        names = sym same;
+        it = w.it ∷ ws.it;
+        spelled = flat_map-cons with_numbers w.it ws.it ∙ ap (λ (x : List ℕ). x ++ flat_map with_numbers ws.it) w.spelled ∙ ap (λ (y : List ℕ). s.front ++ y) ws.spelled ∙ s.whole;
+        fits = (w.fits, ws.fits);
+        names = ap (λ (x : A). x ∷ map named ws.it) w.names ∙ ap (λ (xs : List A). v ∷ xs) ws.names;
       }
 
-  -- ---- bodies
+-- ---- bodies
 
-  byte_is : (n : ℕ) → n < 2 ^ 8 → tag n ≡ Some (wire.number w8 n)
-  byte_is n lt = ap some_bytes (sym (number-w8 n lt))
+byte_is : (n : ℕ) → n < 2 ^ 8 → tag n ≡ Some (wire.number w8 n)
+byte_is n lt = ap some_bytes (sym (number-w8 n lt))
 
-  body_forth : (b : WireBody) → FitsBody b → Forth (images.body cs) spelling.body body_named b
-  body_forth (bodies.User ts) fits = ap (λ (s : Spelled). tag 0 then s) (block_forth ts fits)
-  body_forth (bodies.Get n) fits = ap (λ (s : Spelled). tag 1 then s) (byte_is n fits)
-  body_forth (bodies.Set n) fits = ap (λ (s : Spelled). tag 2 then s) (byte_is n fits)
+-- the variable of a getter or a setter is a byte
+second_is_byte : (k n : ℕ) (bytes : List ℕ) → AreBytes bytes → k ∷ n ∷ [] ≡ bytes → n < 2 ^ 8
+second_is_byte k n bytes h e = (subst AreBytes (sym e) h) 1
 
-  -- the variable of a getter or a setter is a byte
-  second_is_byte : (k n : ℕ) (bytes : List ℕ) → AreBytes bytes → k ∷ n ∷ [] ≡ bytes → n < 2 ^ 8
-  second_is_byte k n bytes h e = (subst AreBytes (sym e) h) 1
+accessor_spelled : (k n : ℕ) (bytes : List ℕ) → n < 2 ^ 8 → k ∷ n ∷ [] ≡ bytes → k ∷ wire.number w8 n ≡ bytes
+accessor_spelled k n bytes lt e = ap (λ (x : List ℕ). k ∷ x) (number-w8 n lt) ∙ e
 
-  accessor_spelled : (k n : ℕ) (bytes : List ℕ) → n < 2 ^ 8 → k ∷ n ∷ [] ≡ bytes → k ∷ wire.number w8 n ≡ bytes
-  accessor_spelled k n bytes lt e = ap (λ (x : List ℕ). k ∷ x) (number-w8 n lt) ∙ e
+module _ (d : Directory) (cs : List Class) (tells : Tells d cs) where
+  abbrev pub Fits : WireBody → Type 0
+  Fits = FitsBody (length d.keys) (FitsMethod (ranges_in d))
+
+  body_forth : NoDoubles d → (b : WireBody) → Fits b → Forth (images.body cs) spelling.body (body_named d) b
+  body_forth single (bodies.User b) fits = ap (λ (s : Spelled). tag 0 then s) (block_forth d cs tells single 32 1 (omega arith) b fits)
+  body_forth single (bodies.Get n) fits = ap (λ (s : Spelled). tag 1 then s) (byte_is n fits)
+  body_forth single (bodies.Set n) fits = ap (λ (s : Spelled). tag 2 then s) (byte_is n fits)
 
   abbrev FromBody : Body → List ℕ → Type 0
-  FromBody b bytes = From spelling.body FitsBody body_named b bytes
+  FromBody b bytes = From spelling.body Fits (body_named d) b bytes
 
-  body_back : (b : Body) → BodyPrints b → (bytes : List ℕ) → AreBytes bytes → images.body cs b ≡ Some bytes → FromBody b bytes
-  body_back (named_bodies.User b) prints bytes h e =
+  body_back : (b : Body) → BodyWithin b → (bytes : List ℕ) → AreBytes bytes → images.body cs b ≡ Some bytes → FromBody b bytes
+  body_back (named_bodies.User b) within bytes h e =
       let s = split (tag 0) (images.block cs b 1) bytes e in
-      let r = block_back b prints s.back s.second in
+      let r = block_back d cs tells 32 1 b within s.back s.second in
       record {
         it = bodies.User r.it;
         spelled = ap (λ (x : List ℕ). (0 ∷ []) ++ x) r.spelled ∙ ap (λ (x : List ℕ). x ++ s.back) (bytes_are (0 ∷ []) s.front s.first) ∙ s.whole;
         fits = r.fits;
         names = ap named_bodies.User r.names;
       }
-  body_back (named_bodies.Get n) prints bytes h e =
+  body_back (named_bodies.Get n) within bytes h e =
       let is = bytes_are (1 ∷ n ∷ []) bytes e in
       let lt = second_is_byte 1 n bytes h is in
       record { it = bodies.Get n; spelled = accessor_spelled 1 n bytes lt is; fits = lt; names = refl }
-  body_back (named_bodies.Set n) prints bytes h e =
+  body_back (named_bodies.Set n) within bytes h e =
       let is = bytes_are (2 ∷ n ∷ []) bytes e in
       let lt = second_is_byte 2 n bytes h is in
       record { it = bodies.Set n; spelled = accessor_spelled 2 n bytes lt is; fits = lt; names = refl }
-
-  bodies_back : (bs : List Body) → AllByRecursion BodyPrints bs → (bytes : List ℕ) → AreBytes bytes → each (images.body cs) bs ≡ Some bytes → From (flat_map spelling.body) (AllByRecursion FitsBody) (map body_named) bs bytes
-  bodies_back [] prints bytes h e = record { it = []; spelled = bytes_are [] bytes e; fits = tt; names = refl }
-  bodies_back (b ∷ bs) prints bytes h e =
-      let s = split (images.body cs b) (each (images.body cs) bs) bytes e in
-      let w = body_back b prints.0 s.front (front_bytes s.front s.back bytes s.whole h) s.first in
-      let ws = bodies_back bs prints.1 s.back (back_bytes s.front s.back bytes s.whole h) s.second in
-      record {
-        it = w.it ∷ ws.it;
-        spelled = flat_map-cons spelling.body w.it ws.it ∙ ap (λ (x : List ℕ). x ++ flat_map spelling.body ws.it) w.spelled ∙ ap (λ (y : List ℕ). s.front ++ y) ws.spelled ∙ s.whole;
-        fits = (w.fits, ws.fits);
-        names = ap (λ (x : Body). x ∷ map body_named ws.it) w.names ∙ ap (λ (xs : List Body). b ∷ xs) ws.names;
-      }
 
 -- ---- how many entries are introduced
 
@@ -254,6 +168,9 @@ module _ (d : Directory) (cs : List Class) (tells : Tells d cs) where
   abbrev overridden : Override → Spelled
   overridden o = images.method cs o.method then images.block cs o.block 1
 
+  abbrev FitsHere : WireOverride → Type 0
+  FitsHere = FitsOverride classes (FitsMethod (ranges_in d))
+
   abbrev part_by : Spelled → Bool → Spelled → Spelled → Spelled
   part_by variables b bs overrides = variables then where_it_is b bs then overrides
 
@@ -263,24 +180,24 @@ module _ (d : Directory) (cs : List Class) (tells : Tells d cs) where
         ap (λ (s : Spelled). s then images.value_kind cs (kind_named d.keys v.kind)) (text_forth v.name fits.name)
         ∙ ap (λ (s : Spelled). Some (wire.text v.name) then s) (value_forth d cs tells single v.kind fits.kind)
 
-    override_forth : (o : WireOverride) → FitsOverride (ranges_in d) o → Forth overridden spelling.overridden (override_named d) o
+    override_forth : (o : WireOverride) → FitsHere o → Forth overridden spelling.overridden (override_named d) o
     override_forth o fits =
-        ap (λ (s : Spelled). s then images.block cs (block_named o.block) 1) (method_forth d cs tells single o.method fits.method)
-        ∙ ap (λ (s : Spelled). Some (wire.method o.method) then s) (block_forth cs o.block fits.block)
+        ap (λ (s : Spelled). s then images.block cs (block_named d o.block) 1) (method_forth d cs tells single o.method fits.method)
+        ∙ ap (λ (s : Spelled). Some (wire.method o.method) then s) (block_forth d cs tells single 32 1 (omega arith) o.block fits.block)
 
-    pub part_forth : (f : WireFace) (p : WirePart) → FitsPart (ranges_in d) f p → images.part cs (class_named d f p) ≡ Some (spelling.part p)
+    pub part_forth : (f : WireFace) (p : WirePart) → FitsClass (ranges_in d) f p → images.part cs (class_named d f p) ≡ Some (spelling.part p)
     part_forth f p fits =
         let vs = all_map (FitsVariable classes) (Forth variable spelling.variable (variable_named d.keys)) variable_forth p.variables (recursion_from_All (FitsVariable classes) p.variables fits.variables.2) in
-        let bs = all_map FitsBody (Forth (images.body cs) spelling.body body_named) (body_forth cs) p.bodies (recursion_from_All FitsBody p.bodies fits.bodies.1) in
-        let os = all_map (FitsOverride (ranges_in d)) (Forth overridden spelling.overridden (override_named d)) override_forth p.overrides (recursion_from_All (FitsOverride (ranges_in d)) p.overrides fits.overrides.2) in
+        let bs = all_map (Fits d cs tells) (Forth (images.body cs) spelling.body (body_named d)) (body_forth d cs tells single) p.bodies (recursion_from_All (Fits d cs tells) p.bodies fits.bodies.1) in
+        let os = all_map FitsHere (Forth overridden spelling.overridden (override_named d)) override_forth p.overrides (recursion_from_All FitsHere p.overrides fits.overrides.2) in
         let variables = counted_forth variable spelling.variable (variable_named d.keys) w8 MAX_VARIABLES p.variables fits.variables.1 vs in
-        let same_number : eqb (length (map body_named p.bodies)) (count_of d.keys f.entries) ≡ true = numbers_are (length (map body_named p.bodies)) (count_of d.keys f.entries) (length-map p.bodies body_named ∙ fits.bodies.0 ∙ sym (introduced_is d.keys f.entries)) in
-        let bodies_are = each_forth (images.body cs) spelling.body body_named p.bodies bs in
+        let same_number : eqb (length (map (body_named d) p.bodies)) (count_of d.keys f.entries) ≡ true = numbers_are (length (map (body_named d) p.bodies)) (count_of d.keys f.entries) (length-map p.bodies (body_named d) ∙ fits.bodies.0 ∙ sym (introduced_is d.keys f.entries)) in
+        let bodies_are = each_forth (images.body cs) spelling.body (body_named d) p.bodies bs in
         let overrides = counted_forth overridden spelling.overridden (override_named d) w16 MAX_OVERRIDES p.overrides fits.overrides.1 os in
         let a : List ℕ = wire.counted w8 spelling.variable p.variables in
         let b : List ℕ = flat_map spelling.body p.bodies in
-        ap (λ (s : Spelled). part_by s (eqb (length (map body_named p.bodies)) (count_of d.keys f.entries)) (each (images.body cs) (map body_named p.bodies)) (images.counted w16 MAX_OVERRIDES overridden (map (override_named d) p.overrides))) variables
-        ∙ ap (λ (x : Bool). part_by (Some a) x (each (images.body cs) (map body_named p.bodies)) (images.counted w16 MAX_OVERRIDES overridden (map (override_named d) p.overrides))) same_number
+        ap (λ (s : Spelled). part_by s (eqb (length (map (body_named d) p.bodies)) (count_of d.keys f.entries)) (each (images.body cs) (map (body_named d) p.bodies)) (images.counted w16 MAX_OVERRIDES overridden (map (override_named d) p.overrides))) variables
+        ∙ ap (λ (x : Bool). part_by (Some a) x (each (images.body cs) (map (body_named d) p.bodies)) (images.counted w16 MAX_OVERRIDES overridden (map (override_named d) p.overrides))) same_number
         ∙ ap (λ (s : Spelled). part_by (Some a) true s (images.counted w16 MAX_OVERRIDES overridden (map (override_named d) p.overrides))) bodies_are
         ∙ ap (λ (s : Spelled). part_by (Some a) true (Some b) s) overrides
 
@@ -298,24 +215,24 @@ module _ (d : Directory) (cs : List Class) (tells : Tells d cs) where
         names = ap (λ (x : ValueType). a_variable v.name x) k.names;
       }
 
-  override_back : (o : Override) → PrintsTexts o.block → Back overridden spelling.overridden (FitsOverride (ranges_in d)) (override_named d) o
-  override_back o prints bytes e =
+  override_back : (o : Override) → BlockWithin o.block → Back overridden spelling.overridden FitsHere (override_named d) o
+  override_back o within bytes e =
       let s = split (images.method cs o.method) (images.block cs o.block 1) bytes e in
       let m = method_back d cs tells o.method s.front s.first in
-      let b = block_back cs o.block prints s.back s.second in
+      let b = block_back d cs tells 32 1 o.block within s.back s.second in
       record {
         it = record { method = m.it; block = b.it };
         spelled = ap (λ (x : List ℕ). x ++ spelling.block b.it) m.spelled ∙ ap (λ (y : List ℕ). s.front ++ y) b.spelled ∙ s.whole;
         fits = record { method = m.fits; block = b.fits };
-        names = ap (λ (x : MethodRef). an_override x (block_named b.it)) m.names ∙ ap (λ (x : Block). an_override o.method x) b.names;
+        names = ap (λ (x : MethodRef). an_override x (block_named d b.it)) m.names ∙ ap (λ (x : Block). an_override o.method x) b.names;
       }
 
   joined : (a b c a1 b1 c1 x y : List ℕ) → a ≡ a1 → b ≡ b1 → c ≡ c1 → a1 ++ b1 ≡ x → x ++ c1 ≡ y → a ++ b ++ c ≡ y
   joined a b c a1 b1 c1 x y ha hb hc hx hy = cc
 
   -- the part of a class whose face is known
-  pub part_back : (f : WireFace) (c : ClassDecl) → face_named d.keys f ≡ c.face → ClassPrints c → (bytes : List ℕ) → AreBytes bytes → images.part cs c ≡ Some bytes → From spelling.part (FitsPart (ranges_in d) f) (class_named d f) c bytes
-  part_back f c face prints bytes h e =
+  pub part_back : (f : WireFace) (c : ClassDecl) → face_named d.keys f ≡ c.face → ClassWithin c → (bytes : List ℕ) → AreBytes bytes → images.part cs c ≡ Some bytes → From spelling.part (FitsClass (ranges_in d) f) (class_named d f) c bytes
+  part_back f c face within bytes h e =
       let number : Bool = eqb (length c.bodies) (length (introduced c.face.entries)) in
       let bodies : Spelled = each (images.body cs) c.bodies in
       let variables : Spelled = images.counted w8 MAX_VARIABLES variable c.variables in
@@ -325,16 +242,16 @@ module _ (d : Directory) (cs : List Class) (tells : Tells d cs) where
       let g = guarded number bodies t.back t.second in
       let inner = back_bytes t.front t.back s.front t.whole (front_bytes s.front s.back bytes s.whole h) in
       let vs = counted_back variable spelling.variable (variable_named d.keys) (FitsVariable classes) w8 0 MAX_VARIABLES c.variables (omega arith) (all_of (Back variable spelling.variable (FitsVariable classes) (variable_named d.keys)) variable_back c.variables) t.front t.first in
-      let bs = bodies_back cs c.bodies (recursion_from_All BodyPrints c.bodies prints.bodies) t.back inner g.1 in
-      let os = counted_back overridden spelling.overridden (override_named d) (FitsOverride (ranges_in d)) w16 0 MAX_OVERRIDES c.overrides (omega arith) (all_map (λ o. PrintsTexts o.block) (Back overridden spelling.overridden (FitsOverride (ranges_in d)) (override_named d)) override_back c.overrides (recursion_from_All (λ o. PrintsTexts o.block) c.overrides prints.overrides)) s.back s.second in
+      let bs = each_of_bytes (images.body cs) spelling.body (Fits d cs tells) (body_named d) c.bodies (all_map BodyWithin (BytesBack (images.body cs) spelling.body (Fits d cs tells) (body_named d)) (body_back d cs tells) c.bodies (recursion_from_All BodyWithin c.bodies within.each_body)) t.back inner g.1 in
+      let os = counted_back overridden spelling.overridden (override_named d) FitsHere w16 0 MAX_OVERRIDES c.overrides (omega arith) (all_map (λ o. BlockWithin o.block) (Back overridden spelling.overridden FitsHere (override_named d)) override_back c.overrides (recursion_from_All (λ o. BlockWithin o.block) c.overrides within.each_override)) s.back s.second in
       let as_entries : length (introduced c.face.entries) ≡ count_by is_introduced f.entries = ap (λ (x : ClassFace). length (introduced x.entries)) (sym face) ∙ introduced_is d.keys f.entries in
-      let as_bodies : length bs.it ≡ length c.bodies = sym (length-map bs.it body_named) ∙ ap (length {A = Body}) bs.names in
+      let as_bodies : length bs.it ≡ length c.bodies = sym (length-map bs.it (body_named d)) ∙ ap (length {A = Body}) bs.names in
       record {
         it = record { variables = vs.it; bodies = bs.it; overrides = os.it };
         spelled = joined _ _ _ t.front t.back s.back s.front bytes vs.spelled bs.spelled os.spelled t.whole s.whole;
-        fits = record { variables = vs.fits; bodies = (as_bodies ∙ eqb-true _ _ g.0 ∙ as_entries, All-from_recursion FitsBody bs.it bs.fits); overrides = os.fits };
-        names = ap (λ (x : ClassFace). a_class x (map (variable_named d.keys) vs.it) (map body_named bs.it) (map (override_named d) os.it)) face
-            ∙ ap (λ (x : List Variable). a_class c.face x (map body_named bs.it) (map (override_named d) os.it)) vs.names
+        fits = record { variables = vs.fits; bodies = (as_bodies ∙ eqb-true _ _ g.0 ∙ as_entries, All-from_recursion (Fits d cs tells) bs.it bs.fits); overrides = os.fits };
+        names = ap (λ (x : ClassFace). a_class x (map (variable_named d.keys) vs.it) (map (body_named d) bs.it) (map (override_named d) os.it)) face
+            ∙ ap (λ (x : List Variable). a_class c.face x (map (body_named d) bs.it) (map (override_named d) os.it)) vs.names
             ∙ ap (λ (x : List Body). a_class c.face c.variables x (map (override_named d) os.it)) bs.names
             ∙ ap (λ (x : List Override). a_class c.face c.variables c.bodies x) os.names;
       }

@@ -9,10 +9,10 @@ use Rattle.std.proofs.lemmas.List.{length-map}
 use Rattle.std.proofs.lemmas.List.Concat.{flat_map-cons}
 use Rattle.std.proofs.lemmas.List.Elements.{All-from_recursion, recursion_from_All}
 use Rattle.som_model.specs.declared.limits.TheConstants.{MAX_LIBRARY_CLASSES}
+use Rattle.som_model.specs.declared.key.Module.{Module}
 use Rattle.som_model.specs.declared.key.Module.TheVariants as modules
 use Rattle.som_model.specs.declared.key.ClassKey.{ClassKey}
 use Rattle.som_model.specs.declared.key.ClassKey.TheVariants as keys
-use Rattle.som_model.specs.declared.syntax.Stmt.{Stmt}
 use Rattle.som_model.specs.declared.class.ClassFace.{ClassFace}
 use Rattle.som_model.specs.declared.class.ClassDecl.{ClassDecl}
 use Rattle.som_model.specs.declared.program.Release.{Release}
@@ -30,21 +30,21 @@ use Rattle.som_wire.specs.declared.face.WireFace.{WireFace}
 use Rattle.som_wire.specs.declared.method.Ranges.{Ranges}
 use Rattle.som_wire.specs.Spelling as wire
 use Rattle.som_wire.specs.Spelling.{FitsFace}
-use Rattle.som_libimage.specs.declared.wire.WireBody.{WireBody}
-use Rattle.som_libimage.specs.declared.wire.WireBody.TheVariants as bodies
-use Rattle.som_libimage.specs.declared.wire.WireOverride.{WireOverride}
-use Rattle.som_libimage.specs.declared.wire.WirePart.{WirePart}
+use Rattle.som_blocks.specs.declared.syntax.WirePart.{WirePart}
 use Rattle.som_libimage.specs.declared.wire.WireRelease.{WireRelease}
-use Rattle.som_libimage.specs.declared.directory.Directory.{Directory}
+use Rattle.som_naming.specs.declared.directory.Directory.{Directory}
 use Rattle.som_libimage.specs.Reading.{ranges_of}
-use Rattle.som_libimage.specs.Spelling as spelling
-use Rattle.som_libimage.specs.Spelling.{FitsPart, FitEach, FitsRelease}
-use Rattle.som_libimage.specs.Naming.{name_in, names_in, kernel_directory, library_directory, ranges_in, entry_named, face_named, print_of, block_named, body_named, override_named, class_named, classes_named, release_named}
-use Rattle.som_libimage.specs.Libraries.{PrintsTexts, BodyPrints, ClassPrints, PrintTexts, Differ, NamesDiffer}
+use Rattle.som_blocks.specs.Spelling as spelling
+use Rattle.som_libimage.specs.Spelling.{FitsClass, FitsParts, FitsRelease, library}
+use Rattle.som_naming.specs.Naming.{name_in, names_in, kernel_directory, library_directory, ranges_in, entry_names, Tells, NoDoubles}
+use Rattle.som_libimage.specs.Naming.{entry_named, face_named, class_named, classes_named, release_named}
+use Rattle.som_naming.specs.Numbering.{Differ}
+use Rattle.som_libimage.specs.Libraries.{NamesDiffer}
+use Rattle.som_libimage.specs.Limits.{ClassWithin, IsWithinLimits}
+use Rattle.som_naming.specs.Numbering.{Differ}
 use Rattle.som_libimage.proofs.Naming.{fit_length, ranges_known}
-use Rattle.som_libimage.proofs.Places.{all_map, all_of, all_mapped, all_unmapped, all_joined, distinct_names, distinct_joined, distinct_mapped}
-use Rattle.som_libimage.proofs.Spelled.{some_bytes, bytes_are, split, guarded}
-use Rattle.som_libimage.proofs.Numbers.{entry_names, Tells, NoDoubles}
+use Rattle.som_naming.proofs.Places.{all_map, all_of, all_mapped, all_unmapped, all_joined, distinct_names, distinct_joined, distinct_mapped}
+use Rattle.som_naming.proofs.Spelled.{some_bytes, bytes_are, split, guarded}
 use Rattle.som_libimage.proofs.NamedFaces.{face_forth, face_back}
 use Rattle.som_libimage.proofs.NamedParts.{front_bytes, back_bytes, part_forth, part_back}
 
@@ -77,25 +77,29 @@ module _ (ks : List ClassKey) where
 abbrev pub library_key : WireFace → ClassKey
 library_key f = keys.Named modules.Library f.name
 
+-- the key of a class with this face in a module
+abbrev pub key_in : Module → WireFace → ClassKey
+key_in home f = keys.Named home f.name
+
 module _ (d : Directory) where
-  keys_told : (fs : List WireFace) (ps : List WirePart) → length fs ≡ length ps → map (λ (c : Class). c.key) (map (class_in modules.Library) (classes_named d fs ps)) ≡ map library_key fs
-  keys_told [] ps e = refl
-  keys_told (f ∷ fs) [] e = absurd (omega arith)
-  keys_told (f ∷ fs) (p ∷ ps) e = ap (λ (ks : List ClassKey). library_key f ∷ ks) (keys_told fs ps (omega arith))
+  pub keys_told : (home : Module) (fs : List WireFace) (ps : List WirePart) → length fs ≡ length ps → map (λ (c : Class). c.key) (map (class_in home) (classes_named d fs ps)) ≡ map (key_in home) fs
+  keys_told home [] ps e = refl
+  keys_told home (f ∷ fs) [] e = absurd (omega arith)
+  keys_told home (f ∷ fs) (p ∷ ps) e = ap (λ (ks : List ClassKey). key_in home f ∷ ks) (keys_told home fs ps (omega arith))
 
-  slots_told : (fs : List WireFace) (ps : List WirePart) → length fs ≡ length ps → map entry_names (map (class_in modules.Library) (classes_named d fs ps)) ≡ map names_in fs
-  slots_told [] ps e = refl
-  slots_told (f ∷ fs) [] e = absurd (omega arith)
-  slots_told (f ∷ fs) (p ∷ ps) e =
-      ap (λ (ns : List (List ℕ)). ns ∷ map entry_names (map (class_in modules.Library) (classes_named d fs ps))) (names_kept d.keys f.entries)
-      ∙ ap (λ (ns : List (List (List ℕ))). names_in f ∷ ns) (slots_told fs ps (omega arith))
+  pub slots_told : (home : Module) (fs : List WireFace) (ps : List WirePart) → length fs ≡ length ps → map entry_names (map (class_in home) (classes_named d fs ps)) ≡ map names_in fs
+  slots_told home [] ps e = refl
+  slots_told home (f ∷ fs) [] e = absurd (omega arith)
+  slots_told home (f ∷ fs) (p ∷ ps) e =
+      ap (λ (ns : List (List ℕ)). ns ∷ map entry_names (map (class_in home) (classes_named d fs ps))) (names_kept d.keys f.entries)
+      ∙ ap (λ (ns : List (List (List ℕ))). names_in f ∷ ns) (slots_told home fs ps (omega arith))
 
-  faces_kept : (fs : List WireFace) (ps : List WirePart) → length fs ≡ length ps → map (λ (c : ClassDecl). c.face) (classes_named d fs ps) ≡ map (face_named d.keys) fs
+  pub faces_kept : (fs : List WireFace) (ps : List WirePart) → length fs ≡ length ps → map (λ (c : ClassDecl). c.face) (classes_named d fs ps) ≡ map (face_named d.keys) fs
   faces_kept [] ps e = refl
   faces_kept (f ∷ fs) [] e = absurd (omega arith)
   faces_kept (f ∷ fs) (p ∷ ps) e = ap (λ (x : List ClassFace). face_named d.keys f ∷ x) (faces_kept fs ps (omega arith))
 
-  as_many_classes : (fs : List WireFace) (ps : List WirePart) → length fs ≡ length ps → length (classes_named d fs ps) ≡ length fs
+  pub as_many_classes : (fs : List WireFace) (ps : List WirePart) → length fs ≡ length ps → length (classes_named d fs ps) ≡ length fs
   as_many_classes [] ps e = refl
   as_many_classes (f ∷ fs) [] e = absurd (omega arith)
   as_many_classes (f ∷ fs) (p ∷ ps) e = ap suc (as_many_classes fs ps (omega arith))
@@ -106,8 +110,8 @@ known_classes cs = kernel ++ map (class_in modules.Library) cs
 
 told : (d : Directory) (fs : List WireFace) (ps : List WirePart) → length fs ≡ length ps → Tells (library_directory fs) (known_classes (classes_named d fs ps))
 told d fs ps e = record {
-  keys = ap (λ (ks : List ClassKey). kernel_directory.keys ++ ks) (keys_told d fs ps e);
-  slots = ap (λ (ns : List (List (List ℕ))). kernel_directory.slots ++ ns) (slots_told d fs ps e);
+  keys = ap (λ (ks : List ClassKey). kernel_directory.keys ++ ks) (keys_told d modules.Library fs ps e);
+  slots = ap (λ (ns : List (List (List ℕ))). kernel_directory.slots ++ ns) (slots_told d modules.Library fs ps e);
 }
 
 pub as_many_keys : (fs : List WireFace) → length ((library_directory fs).keys) ≡ length fs + 4
@@ -122,13 +126,18 @@ kernel_distinct = ((same_named _ _ _ _, (same_named _ _ _ _, (same_named _ _ _ _
 apart_from_library : (fs : List WireFace) (name : List ℕ) → AllByRecursion (λ y. same_key (kernel_key name) y ≡ false) (map library_key fs)
 apart_from_library fs name = all_mapped (λ y. same_key (kernel_key name) y ≡ false) library_key fs (all_of (λ (f : WireFace). same_key (kernel_key name) (library_key f) ≡ false) (λ f. same_named modules.Kernel modules.Library name f.name) fs)
 
-mapped_names : (fs : List WireFace) → map (λ (name : List ℕ). keys.Named modules.Library name) (map (λ (f : WireFace). f.name) fs) ≡ map library_key fs
-mapped_names [] = refl
-mapped_names (f ∷ fs) = ap (λ (ks : List ClassKey). library_key f ∷ ks) (mapped_names fs)
+mapped_names : (home : Module) (fs : List WireFace) → map (λ (name : List ℕ). keys.Named home name) (map (λ (f : WireFace). f.name) fs) ≡ map (key_in home) fs
+mapped_names home [] = refl
+mapped_names home (f ∷ fs) = ap (λ (ks : List ClassKey). key_in home f ∷ ks) (mapped_names home fs)
+
+-- names that differ are those of keys that differ
+pub distinct_keys : (home : Module) → ((x y : List ℕ) → bytes_eq x y ≡ false → same_key (keys.Named home x) (keys.Named home y) ≡ false) → (fs : List WireFace) → IsDistinct bytes_eq (map (λ (f : WireFace). f.name) fs) → IsDistinct same_key (map (key_in home) fs)
+distinct_keys home apart fs h =
+    subst (IsDistinct same_key) (mapped_names home fs) (distinct_mapped bytes_eq same_key (λ (name : List ℕ). keys.Named home name) apart (map (λ (f : WireFace). f.name) fs) h)
 
 pub no_doubles : (ks : List ClassKey) (fs : List WireFace) → Distinct ks fs → NoDoubles (library_directory fs)
 no_doubles ks fs h =
-    let own = subst (IsDistinct same_key) (mapped_names fs) (distinct_mapped bytes_eq same_key (λ (name : List ℕ). keys.Named modules.Library name) (λ x y e. same_named modules.Library modules.Library x y ∙ e) (map (λ (f : WireFace). f.name) fs) h.classes) in
+    let own = distinct_keys modules.Library (λ x y e. same_named modules.Library modules.Library x y ∙ e) fs h.classes in
     let across : AllByRecursion (λ x. AllByRecursion (λ y. same_key x y ≡ false) (map library_key fs)) kernel_directory.keys = (apart_from_library fs _, (apart_from_library fs _, (apart_from_library fs _, (apart_from_library fs _, tt)))) in
     let kernel_slots : AllByRecursion (IsDistinct bytes_eq) kernel_directory.slots = (distinct_names _ refl, (distinct_names _ refl, (distinct_names _ refl, (distinct_names _ refl, tt)))) in
     record {
@@ -145,7 +154,7 @@ module _ (d : Directory) (cs : List Class) (tells : Tells d cs) where
   abbrev spell_face : ClassDecl → Spelled
   spell_face c = images.face cs c.face
 
-  faces_forth : NoDoubles d → (fs : List WireFace) (ps : List WirePart) → AllByRecursion (FitsFace classes) fs → FitEach (FitsPart (ranges_in d)) fs ps → each spell_face (classes_named d fs ps) ≡ Some (flat_map wire.face fs)
+  pub faces_forth : NoDoubles d → (fs : List WireFace) (ps : List WirePart) → AllByRecursion (FitsFace classes) fs → FitsParts (ranges_in d) fs ps → each spell_face (classes_named d fs ps) ≡ Some (flat_map wire.face fs)
   faces_forth single [] ps fits pairs = refl
   faces_forth single (f ∷ fs) [] fits pairs = absurd pairs
   faces_forth single (f ∷ fs) (p ∷ ps) fits pairs =
@@ -153,7 +162,7 @@ module _ (d : Directory) (cs : List Class) (tells : Tells d cs) where
       ∙ ap (λ (s : Spelled). Some (wire.face f) then s) (faces_forth single fs ps fits.1 pairs.1)
       ∙ ap some_bytes (sym (flat_map-cons wire.face f fs))
 
-  parts_forth : NoDoubles d → (fs : List WireFace) (ps : List WirePart) → FitEach (FitsPart (ranges_in d)) fs ps → each (images.part cs) (classes_named d fs ps) ≡ Some (flat_map spelling.part ps)
+  pub parts_forth : NoDoubles d → (fs : List WireFace) (ps : List WirePart) → FitsParts (ranges_in d) fs ps → each (images.part cs) (classes_named d fs ps) ≡ Some (flat_map spelling.part ps)
   parts_forth single [] [] pairs = refl
   parts_forth single [] (p ∷ ps) pairs = absurd pairs
   parts_forth single (f ∷ fs) [] pairs = absurd pairs
@@ -169,17 +178,17 @@ module _ (d : Directory) (cs : List Class) (tells : Tells d cs) where
     pub first : flat_map wire.face faces ≡ x
     pub second : flat_map spelling.part parts ≡ y
     pub fit : AllByRecursion (FitsFace classes) faces
-    pub pairs : FitEach (FitsPart (ranges_in d)) faces parts
+    pub pairs : FitsParts (ranges_in d) faces parts
     pub names : classes_named d faces parts ≡ cls
 
-  pairs_back : (cls : List ClassDecl) → AllByRecursion ClassPrints cls → (x y : List ℕ) → AreBytes y → each spell_face cls ≡ Some x → each (images.part cs) cls ≡ Some y → Pairs cls x y
-  pairs_back [] prints x y h e g = record { faces = []; parts = []; first = bytes_are [] x e; second = bytes_are [] y g; fit = tt; pairs = tt; names = refl }
-  pairs_back (c ∷ cls) prints x y h e g =
+  pub pairs_back : (cls : List ClassDecl) → AllByRecursion ClassWithin cls → (x y : List ℕ) → AreBytes y → each spell_face cls ≡ Some x → each (images.part cs) cls ≡ Some y → Pairs cls x y
+  pairs_back [] within x y h e g = record { faces = []; parts = []; first = bytes_are [] x e; second = bytes_are [] y g; fit = tt; pairs = tt; names = refl }
+  pairs_back (c ∷ cls) within x y h e g =
       let s = split (spell_face c) (each spell_face cls) x e in
       let t = split (images.part cs c) (each (images.part cs) cls) y g in
       let f = face_back d cs tells c.face s.front s.first in
-      let p = part_back d cs tells f.it c f.names prints.0 t.front (front_bytes t.front t.back y t.whole h) t.first in
-      let r = pairs_back cls prints.1 s.back t.back (back_bytes t.front t.back y t.whole h) s.second t.second in
+      let p = part_back d cs tells f.it c f.names within.0 t.front (front_bytes t.front t.back y t.whole h) t.first in
+      let r = pairs_back cls within.1 s.back t.back (back_bytes t.front t.back y t.whole h) s.second t.second in
       record {
         faces = f.it ∷ r.faces;
         parts = p.it ∷ r.parts;
@@ -203,17 +212,17 @@ unfolding library_image
 image_is r = refl
 
 -- the release of an image in which no name stands twice is spelled as it
-pub release_forth : (w : WireRelease) → FitsRelease w → NamesDiffer (map (λ (c : ClassDecl). c.face) ((release_named w).classes)) → library_image (release_named w) ≡ Some (spelling.library w)
+pub release_forth : (w : WireRelease) → FitsRelease w → NamesDiffer (map (λ (c : ClassDecl). c.face) ((release_named w).classes)) → library_image (release_named w) ≡ Some (library w)
 release_forth w fits differ =
     let fs : List WireFace = w.faces in
     let d : Directory = library_directory fs in
     let r : Release = release_named w in
     let cs : List Class = known_to r in
-    let same : length fs ≡ length w.parts = fit_length (FitsPart (ranges_of fs)) fs w.parts fits.parts in
+    let same : length fs ≡ length w.parts = fit_length (FitsClass (ranges_of fs)) fs w.parts fits.parts in
     let tells : Tells d cs = told d fs w.parts same in
     let single : NoDoubles d = no_doubles d.keys fs (distinct_of d.keys fs (subst NamesDiffer (faces_kept d fs w.parts same) differ)) in
     let known : AllByRecursion (FitsFace (length d.keys)) fs = subst (λ (n : ℕ). AllByRecursion (FitsFace n) fs) (sym (as_many_keys fs)) (recursion_from_All (FitsFace (length fs + 4)) fs fits.faces.2) in
-    let pairs : FitEach (FitsPart (ranges_in d)) fs w.parts = subst (λ (x : Ranges). FitEach (FitsPart x) fs w.parts) (sym (ranges_known fs)) fits.parts in
+    let pairs : FitsParts (ranges_in d) fs w.parts = subst (λ (x : Ranges). FitsParts x fs w.parts) (sym (ranges_known fs)) fits.parts in
     let faces : List ℕ = flat_map wire.face fs in
     let parts : List ℕ = flat_map spelling.part w.parts in
     image_is r
@@ -229,7 +238,7 @@ directory_of ks ss = record { keys = ks; slots = ss }
 -- what an image is that a release is named from
 pub record Named (r : Release) (bytes : List ℕ) : Type 0 where
   pub wire : WireRelease
-  pub spelled : spelling.library wire ≡ bytes
+  pub spelled : library wire ≡ bytes
   pub fits : FitsRelease wire
   pub names : release_named wire ≡ r
 
@@ -244,7 +253,7 @@ pub finished : (r : Release) (bytes : List ℕ) (x y : List ℕ) → length r.cl
 finished r bytes x y le whole p =
     let fs : List WireFace = p.faces in
     let d : Directory = a_directory r in
-    let same : length fs ≡ length p.parts = fit_length (FitsPart (ranges_in d)) fs p.parts p.pairs in
+    let same : length fs ≡ length p.parts = fit_length (FitsClass (ranges_in d)) fs p.parts p.pairs in
     let tells : Tells (library_directory fs) (known_to r) = subst (λ (cls : List ClassDecl). Tells (library_directory fs) (known_classes cls)) p.names (told d fs p.parts same) in
     let one : d ≡ library_directory fs = ap (λ (ks : List ClassKey). directory_of ks d.slots) tells.keys ∙ ap (λ (ss : List (List (List ℕ))). directory_of ((library_directory fs).keys) ss) tells.slots in
     let classes : length d.keys ≡ length fs + 4 = ap (λ (z : Directory). length z.keys) one ∙ as_many_keys fs in
@@ -258,14 +267,14 @@ finished r bytes x y le whole p =
           ∙ whole;
       fits = record {
         faces = (omega arith, omega (arith, number, le), All-from_recursion (FitsFace (length fs + 4)) fs (subst (λ (n : ℕ). AllByRecursion (FitsFace n) fs) classes p.fit));
-        parts = subst (λ (z : Ranges). FitEach (FitsPart z) fs p.parts) (ap ranges_in one ∙ ranges_known fs) p.pairs;
+        parts = subst (λ (z : Ranges). FitsParts z fs p.parts) (ap ranges_in one ∙ ranges_known fs) p.pairs;
       };
       names = ap (λ (z : Directory). a_release (classes_named z fs p.parts)) (sym one) ∙ ap a_release p.names;
     }
 
--- each release that has a spelling, and prints texts, is named from an image
-pub release_back : (r : Release) (bytes : List ℕ) → AreBytes bytes → PrintTexts r → library_image r ≡ Some bytes → Named r bytes
-release_back r bytes h prints e =
+-- each release that has a spelling, and is within the limits, is named from an image
+pub release_back : (r : Release) (bytes : List ℕ) → AreBytes bytes → IsWithinLimits r → library_image r ≡ Some bytes → Named r bytes
+release_back r bytes h within e =
     let cs : List Class = known_to r in
     let faces : Spelled = each (λ c. images.face cs c.face) r.classes in
     let parts : Spelled = each (images.part cs) r.classes in
@@ -274,33 +283,9 @@ release_back r bytes h prints e =
     let t = split (Some (codes "SOML" ++ 1 ∷ [])) counted s.front s.first in
     let g = guarded (nat_le (length r.classes) MAX_LIBRARY_CLASSES) (images.number w16 (length r.classes) then faces) t.back t.second in
     let u = split (images.number w16 (length r.classes)) faces t.back g.1 in
-    let p = pairs_back (a_directory r) cs (record { keys = refl; slots = refl }) r.classes (recursion_from_All ClassPrints r.classes prints) u.back s.back (back_bytes s.front s.back bytes s.whole h) u.second s.second in
+    let p = pairs_back (a_directory r) cs (record { keys = refl; slots = refl }) r.classes (recursion_from_All ClassWithin r.classes within.each_class) u.back s.back (back_bytes s.front s.back bytes s.whole h) u.second s.second in
     let head = bytes_are (codes "SOML" ++ 1 ∷ []) t.front t.first in
     let number = bytes_are (to_be_bytes w16 (length r.classes)) u.front u.first in
     finished r bytes u.back s.back (leb-true _ _ g.0)
     (ap (λ (z : List ℕ). z ++ (to_be_bytes w16 (length r.classes) ++ u.back) ++ s.back) head ∙ ap (λ (z : List ℕ). t.front ++ (z ++ u.back) ++ s.back) number ∙ ap (λ (z : List ℕ). t.front ++ z ++ s.back) u.whole ∙ ap (λ (z : List ℕ). z ++ s.back) t.whole ∙ s.whole)
     p
-
--- ---- what is named prints texts
-
-block_prints : (ts : List (List ℕ)) → PrintsTexts (block_named ts)
-block_prints ts = All-from_recursion (λ s. (t : List ℕ) × (s ≡ print_of t)) (map print_of ts) (all_mapped (λ (s : Stmt). (t : List ℕ) × (s ≡ print_of t)) print_of ts (all_of (λ (x : List ℕ). (t : List ℕ) × (print_of x ≡ print_of t)) (λ x. (x, refl)) ts))
-
-body_prints : (b : WireBody) → BodyPrints (body_named b)
-body_prints (bodies.User ts) = block_prints ts
-body_prints (bodies.Get n) = tt
-body_prints (bodies.Set n) = tt
-
-class_prints : (d : Directory) (f : WireFace) (p : WirePart) → ClassPrints (class_named d f p)
-class_prints d f p = record {
-  bodies = All-from_recursion BodyPrints (map body_named p.bodies) (all_mapped BodyPrints body_named p.bodies (all_of (λ (b : WireBody). BodyPrints (body_named b)) body_prints p.bodies));
-  overrides = All-from_recursion (λ o. PrintsTexts o.block) (map (override_named d) p.overrides) (all_mapped (λ o. PrintsTexts o.block) (override_named d) p.overrides (all_of (λ (o : WireOverride). PrintsTexts (block_named o.block)) (λ o. block_prints o.block) p.overrides));
-}
-
-classes_print : (d : Directory) (fs : List WireFace) (ps : List WirePart) → AllByRecursion ClassPrints (classes_named d fs ps)
-classes_print d [] ps = tt
-classes_print d (f ∷ fs) [] = tt
-classes_print d (f ∷ fs) (p ∷ ps) = (class_prints d f p, classes_print d fs ps)
-
-pub release_prints : (w : WireRelease) → PrintTexts (release_named w)
-release_prints w = All-from_recursion ClassPrints (classes_named (library_directory w.faces) w.faces w.parts) (classes_print (library_directory w.faces) w.faces w.parts)

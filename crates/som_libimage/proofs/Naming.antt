@@ -1,27 +1,17 @@
 -- What naming asks of numbers, and how a loop names classes.
-use Rattle.std.proofs.Common.{◌≡◌, ℕ, zero, suc, ◌+◌, ◌<◌, true, false, List, [], ◌∷◌, ◌++◌, length, map, take, get_or, refl, ap, ◌∙◌, arith}
+use Rattle.std.proofs.Common.{◌≡◌, ℕ, zero, suc, ◌+◌, ◌<◌, List, [], ◌∷◌, ◌++◌, length, map, take, get_or, refl, ap, ◌∙◌, arith}
 use Rattle.std.proofs.lemmas.List.{length-map}
 use Rattle.som_model.specs.declared.key.Module.TheVariants as modules
 use Rattle.som_model.specs.declared.key.ClassKey.TheVariants as keys
 use Rattle.som_model.specs.declared.class.ClassDecl.{ClassDecl}
-use Rattle.som_wire.specs.declared.kind.WireType.{WireType}
-use Rattle.som_wire.specs.declared.kind.WireType.TheVariants as types
 use Rattle.som_wire.specs.declared.face.WireFace.{WireFace}
 use Rattle.som_wire.specs.declared.method.Ranges.{Ranges}
-use Rattle.som_wire.specs.Spelling.{FitsKind}
-use Rattle.som_libimage.specs.declared.wire.WirePart.{WirePart}
-use Rattle.som_libimage.specs.declared.directory.Directory.{Directory}
+use Rattle.som_blocks.specs.declared.syntax.WirePart.{WirePart}
+use Rattle.som_naming.specs.declared.directory.Directory.{Directory}
 use Rattle.som_libimage.specs.Reading.{ranges_of}
 use Rattle.som_libimage.specs.Spelling.{FitEach}
-use Rattle.som_libimage.specs.Naming.{name_in, names_in, library_directory, ranges_in, class_named, classes_named}
-
--- what can be the type of a value can be that of a result
-pub as_result : (classes : ℕ) (k : WireType) → FitsKind classes false k → FitsKind classes true k
-as_result classes types.Void h = refl
-as_result classes types.Long h = tt
-as_result classes types.Boolean h = tt
-as_result classes types.Str h = tt
-as_result classes (types.Class n) h = h
+use Rattle.som_naming.specs.Naming.{name_in, names_in, library_directory, ranges_in}
+use Rattle.som_libimage.specs.Naming.{class_named, classes_named}
 
 -- ---- pairs of lists
 

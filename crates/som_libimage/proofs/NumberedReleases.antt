@@ -1,10 +1,11 @@
 -- A release that was numbered fits an image, and is named back to the release.
-use Rattle.std.proofs.Common.{◌≡◌, ℕ, suc, ◌+◌, ◌≤◌, false, List, [], ◌∷◌, ◌++◌, length, map, refl, sym, ap, subst, ◌∙◌, arith}
-use Rattle.std.specs.Prelude.{nat_lt}
+use Rattle.std.proofs.Common.{◌≡◌, ℕ, suc, ◌+◌, ◌≤◌, List, [], ◌∷◌, ◌++◌, length, map, refl, sym, ap, subst, ◌∙◌, arith}
 use Rattle.std.specs.List.{AllByRecursion}
+use Rattle.std.specs.Str.{bytes_eq}
 use Rattle.std.proofs.lemmas.List.{length-map}
 use Rattle.std.proofs.lemmas.List.Elements.{All-from_recursion}
 use Rattle.som_model.specs.declared.limits.TheConstants.{MAX_LIBRARY_CLASSES, MAX_ENTRIES}
+use Rattle.som_model.specs.declared.key.Module.{Module}
 use Rattle.som_model.specs.declared.key.Module.TheVariants as modules
 use Rattle.som_model.specs.declared.key.ClassKey.{ClassKey}
 use Rattle.som_model.specs.declared.key.ClassKey.TheVariants as keys
@@ -12,20 +13,24 @@ use Rattle.som_model.specs.declared.class.Entry.{Entry}
 use Rattle.som_model.specs.declared.class.Entry.TheVariants as named_entries
 use Rattle.som_model.specs.declared.class.ClassDecl.{ClassDecl}
 use Rattle.som_model.specs.declared.program.Release.{Release}
+use Rattle.som_model.specs.Lists.{doubles}
 use Rattle.som_model.specs.Class.{Class, class_in, entry_name}
+use Rattle.som_model.specs.Rules.{name_of}
 use Rattle.som_model.specs.Kernel.{kernel}
 use Rattle.som_model.specs.Classes.{library_classes}
 use Rattle.som_wire.specs.declared.face.WireFace.{WireFace}
 use Rattle.som_wire.specs.declared.method.Ranges.{Ranges}
 use Rattle.som_wire.specs.Spelling.{FitsFace}
-use Rattle.som_libimage.specs.declared.wire.WirePart.{WirePart}
-use Rattle.som_libimage.specs.declared.directory.Directory.{Directory}
-use Rattle.som_libimage.specs.Spelling.{FitsPart, FitEach, FitsRelease}
-use Rattle.som_libimage.specs.Naming.{name_in, names_in, kernel_directory, library_directory, ranges_in, classes_named, release_named}
-use Rattle.som_libimage.specs.Numbering.{class_names, keys_from, keys_by, release_directory, IsDirectory, entry_numbered, face_numbered, part_numbered, release_numbered}
+use Rattle.som_blocks.specs.declared.syntax.WirePart.{WirePart}
+use Rattle.som_naming.specs.declared.directory.Directory.{Directory}
+use Rattle.som_libimage.specs.Spelling.{FitsParts, FitsRelease}
+use Rattle.som_naming.specs.Naming.{name_in, names_in, kernel_directory, library_directory, ranges_in, entry_names, Tells}
+use Rattle.som_libimage.specs.Naming.{classes_named, release_named}
+use Rattle.som_naming.specs.Numbering.{class_names, release_directory, IsDirectory}
+use Rattle.som_libimage.specs.Numbering.{entry_numbered, face_numbered, part_numbered, release_numbered}
 use Rattle.som_libimage.proofs.Naming.{ranges_known}
-use Rattle.som_libimage.proofs.Places.{all_joined}
-use Rattle.som_libimage.proofs.Numbers.{entry_names, Tells}
+use Rattle.som_naming.proofs.Places.{all_joined}
+use Rattle.som_libimage.proofs.Directories.{IsOwn, FewEntries, kernel_own, kernel_few, declared_own, directory_is}
 use Rattle.som_libimage.proofs.NumberedParts.{ClassReady, class_turns}
 
 -- ---- the directory of a release
@@ -33,7 +38,7 @@ use Rattle.som_libimage.proofs.NumberedParts.{ClassReady, class_turns}
 abbrev own_key : ClassDecl → ClassKey
 own_key c = keys.Named modules.Library c.face.name
 
-abbrev own_names : ClassDecl → List (List ℕ)
+abbrev pub own_names : ClassDecl → List (List ℕ)
 own_names c = map entry_name c.face.entries
 
 keys_told : (ds : List ClassDecl) → map (λ (c : Class). c.key) (map (class_in modules.Library) ds) ≡ map own_key ds
@@ -50,44 +55,32 @@ told r = record {
   slots = ap (λ (ns : List (List (List ℕ))). kernel_directory.slots ++ ns) (slots_told r.classes);
 }
 
-past_kernel : (n : ℕ) → nat_lt (suc (suc (suc (suc n)))) 4 ≡ false
-past_kernel n = grind arith
+pub few_own : (home : Module) (ds : List ClassDecl) → AllByRecursion (λ (c : ClassDecl). length c.face.entries ≤ MAX_ENTRIES) ds → AllByRecursion FewEntries (map (class_in home) ds)
+few_own home [] h = tt
+few_own home (c ∷ ds) h = (h.0, few_own home ds h.1)
 
-library_keys : (n : ℕ) (ds : List ClassDecl) → keys_from (suc (suc (suc (suc n)))) (map (λ (c : ClassDecl). c.face.name) ds) ≡ map own_key ds
-library_keys n [] = refl
-library_keys n (c ∷ ds) = let e = past_kernel n in rw e (ap (λ (ks : List ClassKey). own_key c ∷ ks) (library_keys (suc n) ds))
-
-keys_are : (r : Release) → (release_directory r).keys ≡ keys_by (class_names r.classes)
-keys_are r = ap (λ (ks : List ClassKey). kernel_directory.keys ++ ks) (sym (library_keys 0 r.classes))
-
-pub is_directory : (r : Release) → AllByRecursion (λ (c : ClassDecl). length c.face.entries ≤ MAX_ENTRIES) r.classes → IsDirectory (class_names r.classes) (release_directory r)
-is_directory r few = record {
-  keys = keys_are r;
-  slots = omega (arith, length-map r.classes own_names, length-map r.classes own_key);
-  few = All-from_recursion (λ (ns : List (List ℕ)). length ns ≤ MAX_ENTRIES) ((release_directory r).slots)
-      (all_joined (λ (ns : List (List ℕ)). length ns ≤ MAX_ENTRIES) kernel_directory.slots (map own_names r.classes) (omega arith, (omega arith, (omega arith, (omega arith, tt)))) (few_own r.classes few));
-}
-  where
-    few_own : (ds : List ClassDecl) → AllByRecursion (λ (c : ClassDecl). length c.face.entries ≤ MAX_ENTRIES) ds → AllByRecursion (λ (ns : List (List ℕ)). length ns ≤ MAX_ENTRIES) (map own_names ds)
-    few_own [] h = tt
-    few_own (c ∷ ds) h = (omega (arith, length-map c.face.entries entry_name, h.0), few_own ds h.1)
+pub is_directory : (r : Release) → length r.classes ≤ MAX_LIBRARY_CLASSES → doubles bytes_eq (map name_of kernel) (map name_of (library_classes r)) ≡ [] → AllByRecursion (λ (c : ClassDecl). length c.face.entries ≤ MAX_ENTRIES) r.classes → IsDirectory (class_names (release_directory r)) (release_directory r)
+is_directory r many differ few =
+    let own : List Class = library_classes r in
+    directory_is (release_directory r) (kernel ++ own) (told r) (all_joined IsOwn kernel own kernel_own (declared_own modules.Library r.classes)) differ
+    (omega (arith, many, length-map r.classes (class_in modules.Library))) (all_joined FewEntries kernel own kernel_few (few_own modules.Library r.classes few))
 
 -- ---- the directory of the faces with numbers
 
-abbrev faces_of : List ClassKey → List ClassDecl → List WireFace
+abbrev pub faces_of : List ClassKey → List ClassDecl → List WireFace
 faces_of ks ds = map (λ (c : ClassDecl). face_numbered ks c.face) ds
 
 module _ (ks : List ClassKey) where
-  keys_kept : (ds : List ClassDecl) → map (λ (f : WireFace). keys.Named modules.Library f.name) (faces_of ks ds) ≡ map own_key ds
-  keys_kept [] = refl
-  keys_kept (c ∷ ds) = ap (λ (l : List ClassKey). own_key c ∷ l) (keys_kept ds)
+  pub keys_kept : (home : Module) (ds : List ClassDecl) → map (λ (f : WireFace). keys.Named home f.name) (faces_of ks ds) ≡ map (λ (c : ClassDecl). keys.Named home c.face.name) ds
+  keys_kept home [] = refl
+  keys_kept home (c ∷ ds) = ap (λ (l : List ClassKey). keys.Named home c.face.name ∷ l) (keys_kept home ds)
 
-  names_kept : (es : List Entry) → map name_in (map (entry_numbered ks) es) ≡ map entry_name es
+  pub names_kept : (es : List Entry) → map name_in (map (entry_numbered ks) es) ≡ map entry_name es
   names_kept [] = refl
   names_kept (named_entries.Introduced name s w ∷ es) = ap (λ (ns : List (List ℕ)). name ∷ ns) (names_kept es)
   names_kept (named_entries.Moved name to ∷ es) = ap (λ (ns : List (List ℕ)). name ∷ ns) (names_kept es)
 
-  slots_kept : (ds : List ClassDecl) → map names_in (faces_of ks ds) ≡ map own_names ds
+  pub slots_kept : (ds : List ClassDecl) → map names_in (faces_of ks ds) ≡ map own_names ds
   slots_kept [] = refl
   slots_kept (c ∷ ds) =
       ap (λ (ns : List (List ℕ)). ns ∷ map names_in (faces_of ks ds)) (names_kept c.face.entries)
@@ -98,21 +91,21 @@ a_directory ks ss = record { keys = ks; slots = ss }
 
 directory_kept : (ks : List ClassKey) (r : Release) → library_directory (faces_of ks r.classes) ≡ release_directory r
 directory_kept ks r =
-    ap (λ (l : List ClassKey). a_directory (kernel_directory.keys ++ l) (kernel_directory.slots ++ map names_in (faces_of ks r.classes))) (keys_kept ks r.classes)
+    ap (λ (l : List ClassKey). a_directory (kernel_directory.keys ++ l) (kernel_directory.slots ++ map names_in (faces_of ks r.classes))) (keys_kept ks modules.Library r.classes)
     ∙ ap (λ (l : List (List (List ℕ))). a_directory (kernel_directory.keys ++ map own_key r.classes) (kernel_directory.slots ++ l)) (slots_kept ks r.classes)
 
 -- ---- all classes
 
 module _ (d : Directory) where
-  faces_fit : (ds : List ClassDecl) → AllByRecursion (ClassReady d) ds → AllByRecursion (FitsFace (length d.keys)) (faces_of d.keys ds)
+  pub faces_fit : (ds : List ClassDecl) → AllByRecursion (ClassReady d) ds → AllByRecursion (FitsFace (length d.keys)) (faces_of d.keys ds)
   faces_fit [] h = tt
   faces_fit (c ∷ ds) h = ((class_turns d c h.0).face, faces_fit ds h.1)
 
-  parts_fit : (ds : List ClassDecl) → AllByRecursion (ClassReady d) ds → FitEach (FitsPart (ranges_in d)) (faces_of d.keys ds) (map (part_numbered d) ds)
+  pub parts_fit : (ds : List ClassDecl) → AllByRecursion (ClassReady d) ds → FitsParts (ranges_in d) (faces_of d.keys ds) (map (part_numbered d) ds)
   parts_fit [] h = tt
   parts_fit (c ∷ ds) h = ((class_turns d c h.0).fits, parts_fit ds h.1)
 
-  classes_back : (ds : List ClassDecl) → AllByRecursion (ClassReady d) ds → classes_named d (faces_of d.keys ds) (map (part_numbered d) ds) ≡ ds
+  pub classes_back : (ds : List ClassDecl) → AllByRecursion (ClassReady d) ds → classes_named d (faces_of d.keys ds) (map (part_numbered d) ds) ≡ ds
   classes_back [] h = refl
   classes_back (c ∷ ds) h =
       ap (λ (x : ClassDecl). x ∷ classes_named d (faces_of d.keys ds) (map (part_numbered d) ds)) (class_turns d c h.0).names
@@ -136,7 +129,7 @@ release_turns r few ready =
     record {
       fits = record {
         faces = (omega arith, omega (arith, many, few), All-from_recursion (FitsFace (length fs + 4)) fs (subst (λ (n : ℕ). AllByRecursion (FitsFace n) fs) number (faces_fit d r.classes ready)));
-        parts = subst (λ (x : Ranges). FitEach (FitsPart x) fs ps) (ap ranges_in (sym same) ∙ ranges_known fs) (parts_fit d r.classes ready);
+        parts = subst (λ (x : Ranges). FitsParts x fs ps) (ap ranges_in (sym same) ∙ ranges_known fs) (parts_fit d r.classes ready);
       };
       names = ap (λ (x : Directory). a_release (classes_named x fs ps)) same ∙ ap a_release (classes_back d r.classes ready);
     }

@@ -1,16 +1,10 @@
 -- What is said of the release of a library image.
-use Rattle.std.specs.Prelude.{◌≡◌, ℕ, List, [], ◌++◌, map, All, Result, Ok}
-use Rattle.std.specs.Str.{bytes_eq}
+use Rattle.std.specs.Prelude.{◌≡◌, ℕ, List, ◌++◌, map, All, Result, Ok}
 use Rattle.std.specs.Int.{w16}
-use Rattle.som_model.specs.declared.syntax.Block.{Block}
-use Rattle.som_model.specs.declared.class.Body.{Body}
-use Rattle.som_model.specs.declared.class.Body.TheVariants as bodies
 use Rattle.som_model.specs.declared.class.ClassFace.{ClassFace}
-use Rattle.som_model.specs.declared.class.ClassDecl.{ClassDecl}
 use Rattle.som_model.specs.declared.limits.TheConstants.{MAX_LIBRARY_CLASSES}
 use Rattle.som_model.specs.declared.program.Interface.{Interface}
 use Rattle.som_model.specs.declared.program.Release.{Release}
-use Rattle.som_model.specs.Lists.{doubles}
 use Rattle.som_model.specs.Steps.{◌>>=◌}
 use Rattle.som_model.specs.Class.{entry_name}
 use Rattle.som_model.specs.Kernel.{kernel}
@@ -20,34 +14,12 @@ use Rattle.som_model.specs.Images.{Spelled}
 use Rattle.som_wire.specs.declared.face.WireFace.{WireFace}
 use Rattle.som_wire.specs.Spelling as wire
 use Rattle.som_wire.specs.declared.fault.ImageFault.{ImageFault}
+use Rattle.som_naming.specs.Numbering.{Differ}
 use Rattle.som_libimage.specs.Reading.{wire_at}
-use Rattle.som_libimage.specs.Naming.{print_of, interface_named, release_named}
+use Rattle.som_libimage.specs.Naming.{interface_named, release_named}
 use Rattle.som_libimage.specs.Spelling.{FitsFaces}
 
--- ---- blocks
-
--- each statement prints a text
-abbrev pub PrintsTexts : Block → Type 0
-PrintsTexts b = All (λ s. (t : List ℕ) × (s ≡ print_of t)) b.statements
-
-abbrev pub BodyPrints : Body → Type 0
-BodyPrints (bodies.User b) = PrintsTexts b
-BodyPrints (bodies.Get n) = Unit {0}
-BodyPrints (bodies.Set n) = Unit {0}
-
-pub record ClassPrints (c : ClassDecl) : Type 0 where
-  pub bodies : All BodyPrints c.bodies
-  pub overrides : All (λ o. PrintsTexts o.block) c.overrides
-
--- each statement of each body and override prints a text
-abbrev pub PrintTexts : Release → Type 0
-PrintTexts r = All ClassPrints r.classes
-
 -- ---- names
-
--- no name stands twice
-abbrev pub Differ : List (List ℕ) → Type 0
-Differ names = doubles bytes_eq [] names ≡ []
 
 -- no two of the classes have one name, and no two entries of a class
 pub record NamesDiffer (faces : List ClassFace) : Type 0 where

@@ -1,8 +1,6 @@
 -- How much of each thing an image has room for. The rules say nothing of it, but for a release that was read it holds.
-use Rattle.std.specs.Prelude.{◌≡◌, ℕ, ◌<◌, ◌≤◌, ◌^◌, List, length, All}
-use Rattle.som_model.specs.declared.limits.TheConstants.{MAX_TEXT, MAX_VERSION, MAX_PARENTS, MAX_ENTRIES, MAX_PARAMETERS, MAX_VARIABLES, MAX_OVERRIDES, MAX_LIBRARY_CLASSES}
-use Rattle.som_model.specs.declared.syntax.Stmt.{Stmt}
-use Rattle.som_model.specs.declared.syntax.Block.{Block}
+use Rattle.std.specs.Prelude.{ℕ, ◌≤◌, List, length, All}
+use Rattle.som_model.specs.declared.limits.TheConstants.{MAX_VERSION, MAX_PARENTS, MAX_ENTRIES, MAX_PARAMETERS, MAX_VARIABLES, MAX_OVERRIDES, MAX_LIBRARY_CLASSES}
 use Rattle.som_model.specs.declared.class.Entry.{Entry}
 use Rattle.som_model.specs.declared.class.Entry.TheVariants as entries
 use Rattle.som_model.specs.declared.class.Body.{Body}
@@ -10,10 +8,7 @@ use Rattle.som_model.specs.declared.class.Body.TheVariants as bodies
 use Rattle.som_model.specs.declared.class.ClassFace.{ClassFace}
 use Rattle.som_model.specs.declared.class.ClassDecl.{ClassDecl}
 use Rattle.som_model.specs.declared.program.Release.{Release}
-use Rattle.som_libimage.specs.Naming.{print_of}
-
-abbrev pub TextWithin : List ℕ → Type 0
-TextWithin t = length t ≤ MAX_TEXT
+use Rattle.som_naming.specs.BlockLimits.{TextWithin, BlockWithin}
 
 -- a name that isn't too long, and not too many parameters
 abbrev pub EntryWithin : Entry → Type 0
@@ -29,14 +24,6 @@ pub record FaceWithin (f : ClassFace) : Type 0 where
   pub parents : length f.parents ≤ MAX_PARENTS
   pub entries : length f.entries ≤ MAX_ENTRIES
   pub each_entry : All EntryWithin f.entries
-
--- the text that a statement prints, if it prints one, isn't too long
-abbrev pub StatementWithin : Stmt → Type 0
-StatementWithin s = (t : List ℕ) → s ≡ print_of t → TextWithin t
-
-pub record BlockWithin (b : Block) : Type 0 where
-  pub statements : length b.statements < 2 ^ 32
-  pub each_statement : All StatementWithin b.statements
 
 abbrev pub BodyWithin : Body → Type 0
 BodyWithin (bodies.User b) = BlockWithin b

@@ -1,7 +1,6 @@
 ghost use Rattle.som_libimage.specs.Libraries.{
   NamedFrom,
   NamesDiffer,
-  PrintTexts,
   interface_image,
   library_at,
 };
@@ -17,8 +16,8 @@ ghost use Rattle.som_wire.specs.Spelling as wire;
 ghost use Rattle.std.specs.Int.{w16};
 ghost use Rattle.std.specs.Prelude.{◌≡◌, ℕ, List, Ok, Some};
 
-/// In a release that conforms names differ. So the image of a release that conforms and prints texts is decoded to it and
-/// to nothing else, and what decodes to a release that conforms is its image.
+/// In a release that conforms names differ. So the image of a release that conforms is decoded to it and to nothing else, and
+/// what decodes to a release that conforms is its image.
 pub fn names_of_a_conforming_release_differ()
     ensures { (r : Release) → ReleaseOk r → NamesDiffer (interface_of r).classes }
 {}
@@ -31,8 +30,8 @@ pub fn named_faces_are_spelled()
     ensures back { (i : Interface) (bytes : List ℕ) → interface_image i ≡ Some bytes → NamedFrom i bytes }
 {}
 
-/// A release that conforms, prints texts and is within the limits has an image, and what is read from it is that release.
+/// A release that conforms and is within the limits has an image, and what is read from it is that release.
 pub fn image_exists()
-    ensures { (r : Release) → ReleaseOk r → PrintTexts r → IsWithinLimits r →
+    ensures { (r : Release) → ReleaseOk r → IsWithinLimits r →
         (bytes : List ℕ) × (library_image r ≡ Some bytes) × (library_at bytes ≡ Ok r) }
 {}

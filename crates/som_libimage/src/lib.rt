@@ -8,26 +8,28 @@
 //! written in its one spelling (`specs/Spelling.antt`). `specs/Limits.antt` says what an image has room for.
 #![tactic(auto)]
 
-mod block;
-mod directory;
+mod faces;
 mod head;
 mod laws;
 mod library;
-mod lookup;
 mod named_face;
 mod named_part;
 mod numbered;
 mod numbered_face;
 mod numbered_part;
-mod part;
+mod parts;
 mod release;
 #[cfg(test)]
 mod tests;
 mod wire;
 
-pub use directory::Directory;
+pub use faces::{append_faces, ranges_of, read_faces, read_faces_after};
+pub use head::{new_image, read_head};
 pub use laws::{image_exists, named_faces_are_spelled, names_of_a_conforming_release_differ};
 pub use library::{decode, encode};
 pub use named_face::{name_face, name_interface};
-pub use release::read_faces;
-pub use wire::{WireBody, WireOverride, WirePart, WireRelease, WireVariable};
+pub use named_part::name_classes;
+pub use numbered::{number_faces, number_parts};
+pub use numbered_face::number_face;
+pub use parts::{append_parts, read_parts};
+pub use wire::WireRelease;

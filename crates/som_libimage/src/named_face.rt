@@ -1,40 +1,21 @@
+ghost use Rattle.som_naming.specs.Naming.{key_at, kind_named};
 ghost use Rattle.som_libimage.specs.Naming.{
   entry_named,
   interface_named,
   face_named,
-  key_at,
-  kind_named,
   metaclass_named,
   sig_named,
 };
 ghost use Rattle.som_libimage.specs.Spelling.{FitsFaces};
 ghost use Rattle.som_wire.specs.Spelling.{FitsEntry, FitsFace, FitsKind, FitsSig};
-ghost use Rattle.std.specs.Prelude.{◌≡◌, ◌<◌, ℕ, true, false, length, map, All, IfOk, IfSome};
+ghost use Rattle.std.specs.Prelude.{◌≡◌, ◌<◌, false, length, map, All, IfOk, IfSome};
 
-use crate::directory::{Directory, key_of};
 use som_model::{ClassFace, ClassKey, Entry, Interface, List, NoMemory, Sig, ValueType};
+use som_naming::{Directory, key_of, name_kind};
 use som_wire::{WireEntry, WireFace, WireSig, WireType};
 use std::alloc::Global;
 
-/// The type that a type of an image stands for.
-pub(crate) fn name_kind(
-    alloc: Global,
-    keys: &List<ClassKey>,
-    kind: &WireType,
-) -> Result<ValueType, NoMemory>
-    requires { FitsKind (length keys.now) true kind.now }
-    ensures { IfOk result (λ named. named ≡ kind_named keys.now kind.now) }
-{
-    match *kind {
-        WireType::Void => Ok(ValueType::Void),
-        WireType::Long => Ok(ValueType::Long),
-        WireType::Boolean => Ok(ValueType::Boolean),
-        WireType::Str => Ok(ValueType::Str),
-        WireType::Class(number) => Ok(ValueType::Class(key_of(alloc, keys, number)?)),
-    }
-}
-
-#[tactic(auto, using(crate::proofs::Naming::as_result))]
+#[tactic(auto, using(som_naming::proofs::Naming::as_result))]
 fn name_kinds(
     alloc: Global,
     keys: &List<ClassKey>,

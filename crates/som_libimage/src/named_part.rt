@@ -1,40 +1,24 @@
+ghost use Rattle.som_blocks.specs.Fitting.{FitsBody, FitsOverride, FitsVariable};
 ghost use Rattle.som_libimage.specs.Naming.{
-  block_named,
   body_named,
   class_named,
+  classes_named,
   override_named,
-  print_of,
-  ranges_in,
   variable_named,
 };
-ghost use Rattle.som_libimage.specs.Reading.{introduced_count};
-ghost use Rattle.som_libimage.specs.Spelling.{FitsOverride, FitsPart, FitsVariable};
-ghost use Rattle.som_wire.specs.Spelling.{FitsFace};
-ghost use Rattle.std.specs.Prelude.{◌≡◌, ◌<◌, ℕ, length, map, All, IfOk};
+ghost use Rattle.som_libimage.specs.Spelling.{FitsClass, FitsParts};
+ghost use Rattle.som_naming.specs.Naming.{ranges_in};
+ghost use Rattle.som_wire.specs.Spelling.{FitsFace, FitsMethod};
+ghost use Rattle.std.specs.Prelude.{◌≡◌, length, map, All, IfOk};
 
-use crate::directory::Directory;
-use crate::named_face::{name_face, name_kind};
-use crate::wire::{WireBody, WireOverride, WirePart, WireVariable};
-use som_model::{
-    Block, Body, ClassDecl, ClassKey, Expr, List, NoMemory, Override, Stmt, Text, Variable,
-};
+use crate::named_face::name_face;
+use som_blocks::{WireBody, WireOverride, WirePart, WireVariable};
+use som_model::{Body, ClassDecl, ClassKey, List, NoMemory, Override, Variable};
+use som_naming::{Directory, name_block, name_kind};
 use som_wire::WireFace;
 use std::alloc::Global;
 
-// The block whose statements print these texts.
-fn name_block(alloc: Global, texts: &List<Text>) -> Result<Block, NoMemory>
-    ensures { IfOk result (λ named. named ≡ block_named texts.now) }
-{
-    let mut statements = List::new(alloc);
-    for text in texts.as_slice() {
-        statements.push(Stmt::Print {
-            value: Expr::Str(text.copy(alloc)?),
-        })?;
-    }
-    Ok(Block { statements })
-}
-
-#[tactic(auto, using(crate::proofs::Naming::as_result))]
+#[tactic(auto, using(som_naming::proofs::Naming::as_result))]
 fn name_variable(
     alloc: Global,
     keys: &List<ClassKey>,
@@ -64,22 +48,32 @@ fn name_variables(
     Ok(named)
 }
 
-fn name_body(alloc: Global, body: &WireBody) -> Result<Body, NoMemory>
-    ensures { IfOk result (λ named. named ≡ body_named body.now) }
+fn name_body(
+    alloc: Global,
+    directory: &Directory,
+    body: &WireBody,
+) -> Result<Body, NoMemory>
+    requires { FitsBody (ranges_in directory.now).classes (FitsMethod (ranges_in directory.now)) body.now }
+    ensures { IfOk result (λ named. named ≡ body_named directory.now body.now) }
 {
     match body {
-        WireBody::User(texts) => Ok(Body::User(name_block(alloc, texts)?)),
+        WireBody::User(block) => Ok(Body::User(name_block(alloc, directory, block)?)),
         WireBody::Get(variable) => Ok(Body::Get(*variable)),
         WireBody::Set(variable) => Ok(Body::Set(*variable)),
     }
 }
 
-fn name_bodies(alloc: Global, bodies: &List<WireBody>) -> Result<List<Body>, NoMemory>
-    ensures { IfOk result (λ named. named ≡ map body_named bodies.now) }
+fn name_bodies(
+    alloc: Global,
+    directory: &Directory,
+    bodies: &List<WireBody>,
+) -> Result<List<Body>, NoMemory>
+    requires { All (FitsBody (ranges_in directory.now).classes (FitsMethod (ranges_in directory.now))) bodies.now }
+    ensures { IfOk result (λ named. named ≡ map (body_named directory.now) bodies.now) }
 {
     let mut named = List::new(alloc);
     for body in bodies.as_slice() {
-        named.push(name_body(alloc, body)?)?;
+        named.push(name_body(alloc, directory, body)?)?;
     }
     Ok(named)
 }
@@ -89,12 +83,12 @@ fn name_override(
     directory: &Directory,
     replaced: &WireOverride,
 ) -> Result<Override, NoMemory>
-    requires { FitsOverride (ranges_in directory.now) replaced.now }
+    requires { FitsOverride (ranges_in directory.now).classes (FitsMethod (ranges_in directory.now)) replaced.now }
     ensures { IfOk result (λ named. named ≡ override_named directory.now replaced.now) }
 {
     Ok(Override {
         method: directory.method(alloc, replaced.method)?,
-        block: name_block(alloc, &replaced.block)?,
+        block: name_block(alloc, directory, &replaced.block)?,
     })
 }
 
@@ -103,7 +97,7 @@ fn name_overrides(
     directory: &Directory,
     overrides: &List<WireOverride>,
 ) -> Result<List<Override>, NoMemory>
-    requires { All (FitsOverride (ranges_in directory.now)) overrides.now }
+    requires { All (FitsOverride (ranges_in directory.now).classes (FitsMethod (ranges_in directory.now))) overrides.now }
     ensures { IfOk result (λ named. named ≡ map (override_named directory.now) overrides.now) }
 {
     let mut named = List::new(alloc);
@@ -121,13 +115,33 @@ pub(crate) fn name_class(
     part: &WirePart,
 ) -> Result<ClassDecl, NoMemory>
     requires face { FitsFace (length directory.now.keys) face.now }
-    requires part { FitsPart (ranges_in directory.now) face.now part.now }
+    requires part { FitsClass (ranges_in directory.now) face.now part.now }
     ensures { IfOk result (λ named. named ≡ class_named directory.now face.now part.now) }
 {
     Ok(ClassDecl {
         face: name_face(alloc, &directory.keys, face)?,
         variables: name_variables(alloc, &directory.keys, &part.variables)?,
-        bodies: name_bodies(alloc, &part.bodies)?,
+        bodies: name_bodies(alloc, directory, &part.bodies)?,
         overrides: name_overrides(alloc, directory, &part.overrides)?,
     })
+}
+
+/// The classes that faces and the parts of their places stand for.
+pub fn name_classes(
+    alloc: Global,
+    directory: &Directory,
+    faces: &List<WireFace>,
+    parts: &List<WirePart>,
+) -> Result<List<ClassDecl>, NoMemory>
+    requires faces { All (FitsFace (length directory.now.keys)) faces.now }
+    requires parts { FitsParts (ranges_in directory.now) faces.now parts.now }
+    ensures { IfOk result (λ named. named ≡ classes_named directory.now faces.now parts.now) }
+{
+    let faces = faces.as_slice();
+    let parts = parts.as_slice();
+    let mut named = List::new(alloc);
+    for i in 0..faces.len() {
+        named.push(name_class(alloc, directory, &faces[i], &parts[i])?)?;
+    }
+    Ok(named)
 }

@@ -115,10 +115,11 @@ const OUT_OF_RANGE: &[(usize, &[u8], ImageFault)] = &[
     (85, b"\0", ImageFault::Tag { offset: 85 }),
     (85, b"\x05", ImageFault::Tag { offset: 85 }),
     (86, b"\x03", ImageFault::Tag { offset: 86 }),
-    (91, b"\x07", ImageFault::Tag { offset: 91 }),
-    (91, b"\x09", ImageFault::Tag { offset: 91 }),
-    (92, b"\x20", ImageFault::Tag { offset: 92 }),
-    (92, b"\x22", ImageFault::Tag { offset: 92 }),
+    (91, b"\0", ImageFault::Tag { offset: 91 }),
+    (91, b"\x0b", ImageFault::Tag { offset: 91 }),
+    (92, b"\x1f", ImageFault::Tag { offset: 92 }),
+    (92, b"\x35", ImageFault::Tag { offset: 92 }),
+    (91, b"\x0a", ImageFault::Tag { offset: 92 }),
     (104, b"\x03", ImageFault::Tag { offset: 104 }),
     (106, b"\x01\x01", ImageFault::Number { offset: 106 }),
     (108, b"\0\x07", ImageFault::Number { offset: 108 }),
@@ -128,7 +129,7 @@ const OUT_OF_RANGE: &[(usize, &[u8], ImageFault)] = &[
 // The highest counts and tags of THREE that move what follows. With 1,024 classes the fourth face has no parents; the fourth
 // of 16 parents is class 321; the second of 256 entries has a name of 256 bytes; the first of 16 parameters is void, and so is
 // the second of 64 variables; the second of 256 overrides is cut. A metaclass, a class for a type and an entry that was moved
-// take two bytes more or one more than what stood there.
+// take two bytes more or one more than what stood there. A boolean in the place of a text leaves 616 overrides.
 const HIGHEST: &[(usize, &[u8], ImageFault)] = &[
     (5, b"\x04\0", ImageFault::Number { offset: 88 }),
     (18, b"\x10", ImageFault::Number { offset: 25 }),
@@ -139,6 +140,7 @@ const HIGHEST: &[(usize, &[u8], ImageFault)] = &[
     (48, b"\x10", ImageFault::Tag { offset: 49 }),
     (81, b"\x40", ImageFault::Tag { offset: 88 }),
     (85, b"\x04", ImageFault::Tag { offset: 93 }),
+    (92, b"\x22", ImageFault::Number { offset: 94 }),
     (106, b"\x01\0", ImageFault::Cut { offset: 121 }),
 ];
 
@@ -151,6 +153,9 @@ const TAKEN: &[(usize, &[u8])] = &[
     (70, b"\0\x06"),
     (76, b"\x03"),
     (85, b"\x03"),
+    (91, b"\x07"),
+    (91, b"\x09"),
+    (92, b"\x20"),
     (104, b"\x02"),
     (105, b"\xff"),
 ];
@@ -222,6 +227,23 @@ fn each_byte_is_looked_at(rt: HostRuntime) -> Result<(), Fail> {
         };
         assert_eq!(rt; told(rt.alloc(), place, b"\xff"), expected, "FF at {place}");
     }
+    Ok(())
+}
+
+// What is told of HELLO where the method prints nil under so many signs.
+fn nested(alloc: Global, signs: usize) -> Result<usize, ImageFault> {
+    let mut bytes = List::from_slice(alloc, &HELLO[..48])?;
+    for _ in 0..signs {
+        bytes.extend_from_slice(b"\x27\0")?;
+    }
+    bytes.extend_from_slice(b"\x23\0\0")?;
+    Ok(decode(alloc, &bytes)?.classes.len())
+}
+
+#[test]
+fn level_33_is_too_deep(rt: HostRuntime) -> Result<(), Fail> {
+    assert_eq!(rt; nested(rt.alloc(), 30), Ok(1));
+    assert_eq!(rt; nested(rt.alloc(), 31), Err(ImageFault::Nesting { offset: 110 }));
     Ok(())
 }
 

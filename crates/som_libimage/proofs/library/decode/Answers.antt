@@ -1,11 +1,8 @@
-use Rattle.som_libimage.proofs.Decoded.{found, prints, within, only}
+use Rattle.som_libimage.proofs.Decoded.{found, within, only}
 use Rattle.som_libimage.proofs.library.decode.Goals as goal
 
 pub returns-clause-found : goal.returns-clause-found
 returns-clause-found c = found c.args.bytes.now c.as_bytes-all.ensures.bytes c.read_and_name.result c.read_and_name.ensures
-
-pub returns-clause-prints : goal.returns-clause-prints
-returns-clause-prints c = prints c.args.bytes.now c.as_bytes-all.ensures.bytes c.read_and_name.result c.read_and_name.ensures
 
 pub returns-clause-only : goal.returns-clause-only
 returns-clause-only c = only c.args.bytes.now c.as_bytes-all.ensures.bytes c.read_and_name.result c.read_and_name.ensures

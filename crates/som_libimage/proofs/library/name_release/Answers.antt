@@ -1,9 +1,9 @@
 use Rattle.std.proofs.Common.{◌≡◌, sym, ap, subst, ◌∙◌}
 use Rattle.som_wire.specs.declared.method.Ranges.{Ranges}
-use Rattle.som_libimage.specs.declared.directory.Directory.{Directory}
-use Rattle.som_libimage.specs.Spelling.{FitEach, FitsPart}
+use Rattle.som_naming.specs.declared.directory.Directory.{Directory}
+use Rattle.som_libimage.specs.Spelling.{FitsParts}
 use Rattle.som_libimage.specs.Reading.{ranges_of}
-use Rattle.som_libimage.specs.Naming.{ranges_in}
+use Rattle.som_naming.specs.Naming.{ranges_in}
 use Rattle.som_libimage.proofs.Naming.{ranges_known}
 use Rattle.som_libimage.proofs.library.name_release.Goals as goal
 
@@ -11,4 +11,4 @@ pub name_classes-requires-clause-parts : goal.name_classes-requires-clause-parts
 name_classes-requires-clause-parts c =
     let faces = c.args.wire.now.faces in
     let same : ranges_of faces ≡ ranges_in c.in_ok-directory.directory = sym (ap (λ (d : Directory). ranges_in d) c.in_ok-directory.ensures ∙ ranges_known faces) in
-    subst (λ (r : Ranges). FitEach (FitsPart r) faces c.args.wire.now.parts) same c.requires.parts
+    subst (λ (r : Ranges). FitsParts r faces c.args.wire.now.parts) same c.requires.parts

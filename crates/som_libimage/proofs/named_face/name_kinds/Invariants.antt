@@ -1,5 +1,5 @@
 use Rattle.std.proofs.Common.{◌≡◌, map, take}
-use Rattle.som_libimage.specs.Naming.{kind_named}
+use Rattle.som_naming.specs.Naming.{kind_named}
 use Rattle.som_libimage.proofs.named_face.name_kinds.Given as goal
 
 abbrev pub invariant-loop-kind : goal.invariant-loop-kind

@@ -1,5 +1,5 @@
 use Rattle.std.proofs.Common.{◌≡◌, map, take}
-use Rattle.som_libimage.specs.Naming.{key_at}
+use Rattle.som_naming.specs.Naming.{key_at}
 use Rattle.som_libimage.proofs.named_face.name_parents.Given as goal
 
 abbrev pub invariant-loop-parent : goal.invariant-loop-parent

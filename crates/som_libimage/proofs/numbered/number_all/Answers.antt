@@ -1,38 +1,33 @@
 use Rattle.som_order.specs.Names.{texts}
-use Rattle.som_libimage.proofs.Ready.{ready, classes_differ, names_ready, directory_ready, faces_ready, known_ready, numbered_is}
+use Rattle.som_libimage.proofs.Ready.{ready, named_ready, directory_ready, known_ready, numbered_is}
 use Rattle.som_libimage.proofs.numbered.number_all.Goals as goal
 
 pub class_names-requires : goal.class_names-requires
 class_names-requires c =
     let r = c.args.release.now in
-    classes_differ r c.as_slice-classes.result.now c.as_slice-classes.ensures (ready r c.requires.conforms c.requires.prints c.requires.within)
+    named_ready r (ready r c.requires.conforms c.requires.within) c.in_ok-directory.directory c.in_ok-directory.ensures
 
-pub number_faces-requires-clause-names : goal.number_faces-requires-clause-names
-number_faces-requires-clause-names c =
+pub number_faces-requires-clause-directory : goal.number_faces-requires-clause-directory
+number_faces-requires-clause-directory c =
     let r = c.args.release.now in
-    names_ready r c.as_slice-classes.result.now c.as_slice-classes.ensures (ready r c.requires.conforms c.requires.prints c.requires.within) (texts c.in_ok-names.names.keys) c.in_ok-names.ensures
+    directory_ready r (ready r c.requires.conforms c.requires.within) c.in_ok-directory.directory c.in_ok-directory.ensures (texts c.in_ok-names.names.keys) c.in_ok-names.ensures
 
 pub number_faces-requires-clause-known : goal.number_faces-requires-clause-known
 number_faces-requires-clause-known c =
     let r = c.args.release.now in
-    faces_ready r c.as_slice-classes.result.now c.as_slice-classes.ensures (ready r c.requires.conforms c.requires.prints c.requires.within) (texts c.in_ok-names.names.keys) c.in_ok-names.ensures
-
-pub number_parts-requires-clause-names : goal.number_parts-requires-clause-names
-number_parts-requires-clause-names c =
-    let r = c.args.release.now in
-    names_ready r c.as_slice-classes.result.now c.as_slice-classes.ensures (ready r c.requires.conforms c.requires.prints c.requires.within) (texts c.in_ok-names.names.keys) c.in_ok-names.ensures
+    known_ready r (ready r c.requires.conforms c.requires.within) c.in_ok-directory.directory c.in_ok-directory.ensures c.as_slice-classes.result.now c.as_slice-classes.ensures
 
 pub number_parts-requires-clause-directory : goal.number_parts-requires-clause-directory
 number_parts-requires-clause-directory c =
     let r = c.args.release.now in
-    directory_ready r c.as_slice-classes.result.now c.as_slice-classes.ensures (ready r c.requires.conforms c.requires.prints c.requires.within) (texts c.in_ok-names.names.keys) c.in_ok-directory.directory c.in_ok-names.ensures c.in_ok-directory.ensures
+    directory_ready r (ready r c.requires.conforms c.requires.within) c.in_ok-directory.directory c.in_ok-directory.ensures (texts c.in_ok-names.names.keys) c.in_ok-names.ensures
 
 pub number_parts-requires-clause-known : goal.number_parts-requires-clause-known
 number_parts-requires-clause-known c =
     let r = c.args.release.now in
-    known_ready r c.as_slice-classes.result.now c.as_slice-classes.ensures (ready r c.requires.conforms c.requires.prints c.requires.within) c.in_ok-directory.directory c.in_ok-directory.ensures
+    known_ready r (ready r c.requires.conforms c.requires.within) c.in_ok-directory.directory c.in_ok-directory.ensures c.as_slice-classes.result.now c.as_slice-classes.ensures
 
 pub returns : goal.returns
 returns c =
     let r = c.args.release.now in
-    numbered_is r c.as_slice-classes.result.now c.as_slice-classes.ensures (ready r c.requires.conforms c.requires.prints c.requires.within) (texts c.in_ok-names.names.keys) c.in_ok-directory.directory c.in_ok-faces.faces c.in_ok-parts.parts c.in_ok-names.ensures c.in_ok-directory.ensures c.in_ok-faces.ensures c.in_ok-parts.ensures
+    numbered_is r c.in_ok-directory.directory c.as_slice-classes.result.now c.in_ok-faces.faces c.in_ok-parts.parts c.in_ok-directory.ensures c.as_slice-classes.ensures c.in_ok-faces.ensures c.in_ok-parts.ensures

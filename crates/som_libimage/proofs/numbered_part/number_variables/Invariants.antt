@@ -1,7 +1,6 @@
 use Rattle.std.proofs.Common.{◌≡◌, map, take}
-use Rattle.som_order.specs.Names.{texts}
-use Rattle.som_libimage.specs.Numbering.{keys_by, variable_numbered}
+use Rattle.som_libimage.specs.Numbering.{variable_numbered}
 use Rattle.som_libimage.proofs.numbered_part.number_variables.Given as goal
 
 abbrev pub invariant-loop-variable : goal.invariant-loop-variable
-invariant-loop-variable l = l.numbered ≡ map (variable_numbered (keys_by (texts l.names.keys))) (take l.variable-index l.variables)
+invariant-loop-variable l = l.numbered ≡ map (variable_numbered l.directory.keys) (take l.variable-index l.variables)

@@ -1,0 +1,10 @@
+pub mod ProgramFields
+pub mod NamedPrograms
+pub mod Naming
+pub mod Written
+pub mod Decoded
+pub mod NumberedPrograms
+pub mod BaseAncestors
+pub mod Holds
+pub mod Ready
+pub mod Encoded

@@ -1,0 +1,27 @@
+-- What naming a client program asks for.
+use Rattle.std.proofs.Common.{◌≡◌, ℕ, ◌+◌, List, length, sym, ap, subst, ◌∙◌}
+use Rattle.std.specs.Prelude.{All}
+use Rattle.som_wire.specs.declared.face.WireFace.{WireFace}
+use Rattle.som_wire.specs.declared.method.Ranges.{Ranges}
+use Rattle.som_wire.specs.Spelling.{FitsFace}
+use Rattle.som_naming.specs.declared.directory.Directory.{Directory}
+use Rattle.som_naming.specs.Naming.{ranges_in}
+use Rattle.som_libimage.specs.Spelling.{FitsParts}
+use Rattle.som_cliimage.specs.declared.wire.WireProgram.{WireProgram}
+use Rattle.som_cliimage.specs.Reading.{client_ranges}
+use Rattle.som_cliimage.specs.Spelling.{FitsMain, FitsProgram}
+use Rattle.som_cliimage.specs.Naming.{client_directory}
+use Rattle.som_cliimage.proofs.NamedPrograms.{many_keys, client_ranges_known}
+
+module _ (w : WireProgram) (fits : FitsProgram w) (d : Directory) (made : d ≡ client_directory w.base w.faces) where
+  same_ranges : client_ranges w.base w.faces ≡ ranges_in d
+  same_ranges = sym (ap ranges_in made ∙ client_ranges_known w.base w.faces)
+
+  pub faces_fit : All (FitsFace (length d.keys)) w.faces
+  faces_fit = subst (λ (n : ℕ). All (FitsFace n) w.faces) (sym (ap (λ (x : Directory). length x.keys) made ∙ many_keys w.base w.faces)) fits.faces.2
+
+  pub parts_fit : FitsParts (ranges_in d) w.faces w.parts
+  parts_fit = subst (λ (x : Ranges). FitsParts x w.faces w.parts) same_ranges fits.parts
+
+  pub main_fits : FitsMain (ranges_in d) w.main
+  main_fits = subst (λ (x : Ranges). FitsMain x w.main) same_ranges fits.main

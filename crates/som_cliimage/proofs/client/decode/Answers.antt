@@ -1,0 +1,11 @@
+use Rattle.som_cliimage.proofs.Decoded.{found, within, only}
+use Rattle.som_cliimage.proofs.client.decode.Goals as goal
+
+pub returns-clause-found : goal.returns-clause-found
+returns-clause-found c = found c.args.bytes.now c.as_bytes-all.ensures.bytes c.read_and_name.result c.read_and_name.ensures
+
+pub returns-clause-within : goal.returns-clause-within
+returns-clause-within c = within c.args.bytes.now c.as_bytes-all.ensures.bytes c.read_and_name.result c.read_and_name.ensures
+
+pub returns-clause-only : goal.returns-clause-only
+returns-clause-only c = only c.args.bytes.now c.as_bytes-all.ensures.bytes c.read_and_name.result c.read_and_name.ensures

@@ -1,0 +1,6 @@
+pub mod Reading
+pub mod Spelling
+pub mod Naming
+pub mod Programs
+pub mod Limits
+pub mod Numbering

@@ -1,0 +1,17 @@
+-- What is said of the program of a client image.
+use Rattle.std.specs.Prelude.{ℕ, List, map, Result, Ok}
+use Rattle.som_model.specs.declared.program.ClientProgram.{ClientProgram}
+use Rattle.som_model.specs.Steps.{◌>>=◌}
+use Rattle.som_wire.specs.declared.fault.ImageFault.{ImageFault}
+use Rattle.som_libimage.specs.Libraries.{NamesDiffer}
+use Rattle.som_cliimage.specs.Reading.{wire_at}
+use Rattle.som_cliimage.specs.Naming.{program_named}
+
+-- no two of the classes that a client was compiled against have one name, no two of its own, and no two entries of a class
+pub record ProgramNamesDiffer (p : ClientProgram) : Type 0 where
+  pub base : NamesDiffer p.base.classes
+  pub own : NamesDiffer (map (λ c. c.face) p.classes)
+
+-- what the bytes are read as, with names in the place of numbers
+abbrev pub client_at : List ℕ → Result ClientProgram ImageFault
+client_at bytes = wire_at bytes >>= λ w. Ok (program_named w)

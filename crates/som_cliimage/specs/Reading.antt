@@ -1,0 +1,38 @@
+-- How a client image is read from left to right: each field at its place, and the first fault.
+use Rattle.std.specs.Prelude.{ℕ, ◌+◌, List, ◌++◌, length, codes, Result}
+use Rattle.som_model.specs.declared.limits.TheConstants.{MAX_CLIENT_CLASSES}
+use Rattle.som_model.specs.Steps.{◌>>=◌}
+use Rattle.som_wire.specs.declared.fault.ImageFault.{ImageFault}
+use Rattle.som_wire.specs.declared.read.Read.{Read}
+use Rattle.som_wire.specs.declared.face.WireFace.{WireFace}
+use Rattle.som_wire.specs.declared.method.Ranges.{Ranges}
+use Rattle.som_wire.specs.Fields.{done}
+use Rattle.som_blocks.specs.Fitting.{levels_left}
+use Rattle.som_blocks.specs.Reading.{block_at}
+use Rattle.som_libimage.specs.Reading.{ranges_of, faces_after_at, faces_at, parts_at, head_at, at_end}
+use Rattle.som_cliimage.specs.declared.wire.WireProgram.{WireProgram}
+
+-- the kernel's classes, those of the base, and the client's own, with as many entries as each has
+abbrev pub client_ranges : List WireFace → List WireFace → Ranges
+client_ranges base own = ranges_of (base ++ own)
+
+-- the client's own faces, which may name all classes
+abbrev pub own_faces_at : List WireFace → List ℕ → ℕ → Result (Read (List WireFace)) ImageFault
+own_faces_at base = faces_after_at (length base + 4) MAX_CLIENT_CLASSES
+
+-- the faces of the base, which name no class of the client, the client's own, a part for each of these, and main, whose
+-- statements have level 1
+unfoldable pub program_at : List ℕ → ℕ → Result (Read WireProgram) ImageFault
+program_at bytes place = do
+  base ← faces_at bytes place
+  own ← own_faces_at base.value bytes base.next
+  parts ← parts_at (client_ranges base.value own.value) own.value bytes own.next
+  main ← block_at (levels_left 1) (client_ranges base.value own.value) bytes parts.next
+  done (record { base = base.value; faces = own.value; parts = parts.value; main = main.value }) main.next
+
+-- `SOMC` and version 1, the program, and nothing more
+unfoldable pub wire_at : List ℕ → Result WireProgram ImageFault
+wire_at bytes = do
+  place ← head_at (codes "SOMC") bytes
+  program ← program_at bytes place
+  at_end bytes program

@@ -1,0 +1,44 @@
+ghost use Rattle.som_cliimage.specs.Programs.{ProgramNamesDiffer, client_at};
+ghost use Rattle.som_cliimage.specs.Limits.{IsWithinLimits};
+ghost use Rattle.som_model.specs.Conforming.{ProgramOk};
+ghost use Rattle.som_model.specs.Images.{client_image};
+ghost use Rattle.som_wire.specs.Fields.{Gives};
+ghost use Rattle.std.specs.Prelude.{◌≡◌, Some, Ok, IfOk};
+
+use crate::named::name_program;
+use crate::numbered::number_program;
+use crate::program::{read_program, write_program};
+use som_model::{ClientProgram, List};
+use som_wire::{EncodeFault, ImageFault};
+use std::alloc::Global;
+
+fn read_and_name(alloc: Global, bytes: &List<u8>) -> Result<ClientProgram, ImageFault>
+    ensures { Gives result (client_at bytes.now) }
+{
+    let wire = read_program(alloc, bytes)?;
+    Ok(name_program(alloc, &wire)?)
+}
+
+/// Reads a client image. An image in which a name stands twice is read too, since rules on names are asked of what was read;
+/// such a program may have no image, or another one.
+pub fn decode(alloc: Global, bytes: &List<u8>) -> Result<ClientProgram, ImageFault>
+    ensures found { IfOk result (λ p. ProgramNamesDiffer p → client_image p ≡ Some bytes.now) }
+    ensures within { IfOk result IsWithinLimits }
+    ensures only { (p : _) → client_image p ≡ Some bytes.now → IsWithinLimits p → Gives result (Ok p) }
+    ensures exact { Gives result (client_at bytes.now) }
+{
+    let _all = bytes.as_bytes();
+    read_and_name(alloc, bytes)
+}
+
+/// Writes the client image of a program. `decode` reads it back: it answers the program, unless memory runs out.
+pub fn encode(alloc: Global, program: &ClientProgram) -> Result<List<u8>, EncodeFault>
+    requires conforms { ProgramOk program.now }
+    requires within { IsWithinLimits program.now }
+    ensures image { IfOk result (λ bytes. client_image program.now ≡ Some bytes) }
+    ensures read_back { IfOk result (λ bytes. client_at bytes ≡ Ok program.now) }
+{
+    let wire = number_program(alloc, program)?;
+    let image = write_program(alloc, &wire)?;
+    Ok(image)
+}

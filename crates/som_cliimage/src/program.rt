@@ -1,0 +1,105 @@
+ghost use Rattle.som_cliimage.specs.Reading.{client_ranges, program_at, wire_at};
+ghost use Rattle.som_cliimage.specs.Spelling.{FitsOwnFaces, FitsProgram, client};
+ghost use Rattle.som_libimage.specs.Spelling.{FitsFaces};
+ghost use Rattle.som_wire.specs.Fields.{Gives};
+ghost use Rattle.std.specs.Prelude.{◌≡◌, ◌≤◌, length, IfOk};
+
+use crate::wire::WireProgram;
+use som_blocks::{read_block, write_block};
+use som_libimage::{
+    append_faces, append_parts, new_image, ranges_of, read_faces, read_faces_after, read_head,
+    read_parts,
+};
+use som_model::{List, MAX_CLIENT_CLASSES, NoMemory};
+use som_wire::{ImageFault, Ranges, Read, WireFace, write_u16};
+use std::alloc::Global;
+
+const MAGIC: &[u8] = b"SOMC";
+
+const KERNEL_CLASSES: u16 = 4;
+
+// How many classes there are, and how many entries each has.
+fn client_ranges(
+    alloc: Global,
+    base: &List<WireFace>,
+    own: &List<WireFace>,
+) -> Result<Ranges, NoMemory>
+    requires base { FitsFaces base.now }
+    requires own { FitsOwnFaces base.now own.now }
+    ensures { IfOk result (λ ranges. ranges ≡ client_ranges base.now own.now) }
+{
+    let library = ranges_of(alloc, base)?;
+    let mut entries = library.entries;
+    for face in own.as_slice() {
+        entries.push(face.entries.len() as u16)?;
+    }
+    Ok(Ranges {
+        classes: library.classes + own.len() as u16,
+        entries,
+    })
+}
+
+#[tactic(auto, unfolding(crate::specs::Reading::program_at))]
+fn read_classes_and_main(
+    alloc: Global,
+    bytes: &List<u8>,
+    place: usize,
+) -> Result<Read<WireProgram>, ImageFault>
+    requires { place ≤ length bytes.now }
+    ensures exact { Gives result (program_at bytes.now place) }
+    ensures next { IfOk result (λ r. r.next ≤ length bytes.now) }
+{
+    let base = read_faces(alloc, bytes, place)?;
+    let before = base.value.len() as u16 + KERNEL_CLASSES;
+    let own = read_faces_after(alloc, bytes, base.next, before, MAX_CLIENT_CLASSES)?;
+    let ranges = client_ranges(alloc, &base.value, &own.value)?;
+    let parts = read_parts(alloc, bytes, own.next, &ranges, &own.value)?;
+    let main = read_block(alloc, bytes, parts.next, &ranges, 1)?;
+    Ok(Read {
+        value: WireProgram {
+            base: base.value,
+            faces: own.value,
+            parts: parts.value,
+            main: main.value,
+        },
+        next: main.next,
+    })
+}
+
+#[tactic(auto, unfolding(crate::specs::Reading::wire_at))]
+fn read_to_the_end(alloc: Global, bytes: &List<u8>) -> Result<WireProgram, ImageFault>
+    ensures { Gives result (wire_at bytes.now) }
+{
+    let place = read_head(bytes, MAGIC)?;
+    let program = read_classes_and_main(alloc, bytes, place)?;
+    if program.next < bytes.len() {
+        return Err(ImageFault::Trailing {
+            offset: program.next,
+        });
+    }
+    Ok(program.value)
+}
+
+/// Reads a whole client image, as it has it.
+pub(crate) fn read_program(alloc: Global, bytes: &List<u8>) -> Result<WireProgram, ImageFault>
+    ensures exact { Gives result (wire_at bytes.now) }
+    ensures fits { IfOk result (λ wire. FitsProgram wire) }
+{
+    let _all = bytes.as_bytes();
+    read_to_the_end(alloc, bytes)
+}
+
+/// The client image of a program with numbers.
+pub(crate) fn write_program(alloc: Global, wire: &WireProgram) -> Result<List<u8>, NoMemory>
+    requires { FitsProgram wire.now }
+    ensures { IfOk result (λ image. image ≡ client wire.now) }
+{
+    let mut image = new_image(alloc, MAGIC)?;
+    write_u16(&mut image, wire.base.len() as u16)?;
+    append_faces(alloc, &mut image, &wire.base)?;
+    write_u16(&mut image, wire.faces.len() as u16)?;
+    append_faces(alloc, &mut image, &wire.faces)?;
+    append_parts(alloc, &mut image, &wire.parts)?;
+    write_block(alloc, &mut image, &wire.main)?;
+    Ok(image)
+}

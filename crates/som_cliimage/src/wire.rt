@@ -1,0 +1,13 @@
+use som_blocks::{WireBlock, WirePart};
+use som_model::List;
+use som_wire::WireFace;
+
+/// A client program as its image has it: the faces that it was compiled against, a face and a part for each class of its own,
+/// and main.
+#[derive(Drop)]
+pub struct WireProgram {
+    pub base: List<WireFace>,
+    pub faces: List<WireFace>,
+    pub parts: List<WirePart>,
+    pub main: WireBlock,
+}

@@ -1,0 +1,132 @@
+-- Statements and blocks with names are spelled as those with numbers are.
+use Rattle.std.proofs.Common.{◌≡◌, ℕ, zero, suc, ◌+◌, ◌<◌, ◌≤◌, ◌^◌, Bool, true, false, true≢false, List, [], ◌∷◌, ◌++◌, length, map, Some, refl, sym, ap, subst, ◌∙◌, arith}
+use Rattle.std.specs.Prelude.{nat_lt, IsTrue, All}
+use Rattle.std.specs.Int.{w16, w32}
+use Rattle.std.specs.List.{flat_map}
+use Rattle.std.proofs.lemmas.Bool.{lt-ltb}
+use Rattle.std.proofs.lemmas.List.{length-map}
+use Rattle.std.proofs.lemmas.List.Elements.{recursion_from_All}
+use Rattle.som_model.specs.declared.limits.TheConstants.{MAX_NESTING}
+use Rattle.som_model.specs.declared.syntax.Stmt.{Stmt, roll-Stmt, fold-Stmt, fold-roll-Stmt}
+use Rattle.som_model.specs.declared.syntax.Stmt.TheVariants.{rolls-Var, rolls-SetLocal, rolls-SetVariable, rolls-If, rolls-While, rolls-Return, rolls-ReturnValue, rolls-Print, rolls-Free, rolls-Call}
+use Rattle.som_model.specs.declared.syntax.Stmt.TheOpen.{Stmt-F}
+use Rattle.som_model.specs.declared.syntax.Block.{Block, fold-roll-Block}
+use Rattle.som_model.specs.Blocks.{is_call}
+use Rattle.som_model.specs.Class.{Class}
+use Rattle.som_model.specs.Images as images
+use Rattle.som_model.specs.Images.{Spelled, AtLevel, ◌then◌, each, where_it_is, stmt_step, block_step}
+use Rattle.som_wire.specs.Spelling.{FitsMethod}
+use Rattle.som_wire.specs.declared.method.WireMethod.{WireMethod}
+use Rattle.som_blocks.specs.declared.syntax.WireExpr.{WireExpr, out-WireExpr}
+use Rattle.som_blocks.specs.declared.syntax.WireStmt.{WireStmt, out-WireStmt, roll-WireStmt, roll-out-WireStmt, fold-roll-WireStmt}
+use Rattle.som_blocks.specs.declared.syntax.WireStmt.TheOpen.{WireStmt-F}
+use Rattle.som_blocks.specs.declared.syntax.WireBlock.{WireBlock, fold-roll-WireBlock}
+use Rattle.som_blocks.specs.Fitting.{FitsExpr, calls, FitsStmtParts, FitsStatements, FitsStmt, FitsBlock}
+use Rattle.som_blocks.specs.Spelling as spelling
+use Rattle.som_blocks.proofs.StmtFields.{block_is}
+use Rattle.som_naming.specs.declared.directory.Directory.{Directory}
+use Rattle.som_naming.specs.Naming.{kind_named, ranges_in, Tells, NoDoubles}
+use Rattle.som_naming.specs.NamedBlocks.{expr_named, stmt_named, stmt_named_step, block_named, block_named_step}
+use Rattle.som_naming.proofs.Places.{all_map}
+use Rattle.som_naming.proofs.Spelled.{some_bytes, Forth, each_forth}
+use Rattle.som_naming.proofs.NamedKinds.{value_forth}
+use Rattle.som_naming.proofs.BlockForms.{tagged, two, byte_is, short_is, map_twice}
+use Rattle.som_naming.proofs.NamedCalls.{call_named}
+use Rattle.som_naming.proofs.NamedExprs.{ExprForth, expr_forth}
+
+module _ (d : Directory) (cs : List Class) (tells : Tells d cs) (single : NoDoubles d) where
+  abbrev classes : ℕ
+  classes = length d.keys
+
+  abbrev Method : WireMethod → Type 0
+  Method m = FitsMethod (ranges_in d) m
+
+  abbrev spelled_stmt : Stmt → AtLevel
+  spelled_stmt = fold-Stmt AtLevel AtLevel (stmt_step cs) block_step
+
+  abbrev spelled_by : WireStmt → AtLevel
+  spelled_by s = spelled_stmt (stmt_named d s)
+
+  abbrev at : ℕ → AtLevel → Spelled
+  at level s = s level
+
+  -- a statement with numbers is spelled at a level as the one with names
+  abbrev StmtForth : ℕ → WireStmt → Type 0
+  StmtForth level s = spelled_by s level ≡ Some (spelling.stmt s)
+
+  abbrev pub BlockForth : ℕ → WireBlock → Type 0
+  BlockForth level b = images.block cs (block_named d b) level ≡ Some (spelling.block b)
+
+  abbrev a_block : List Stmt → Block
+  a_block ss = record { statements = ss }
+
+  abbrev statements_at : ℕ → List AtLevel → Spelled
+  statements_at level ss = where_it_is (nat_lt (length ss) (2 ^ 32)) (images.number w32 (length ss) then each (at level) ss)
+
+  blocks_forth : (level : ℕ) (Fits : WireStmt → Type 0) → ((s : WireStmt) → Fits s → StmtForth level s) → (b : WireBlock) → FitsStatements Fits b → BlockForth level b
+  blocks_forth level Fits one b fits =
+      let ss : List WireStmt = b.statements in
+      let every = all_map Fits (Forth (at level) spelling.stmt spelled_by) one ss (recursion_from_All Fits ss fits.1) in
+      let many : length (map spelled_by ss) ≡ length ss = length-map ss spelled_by in
+      ap (λ (x : Block). images.block cs x level) (fold-roll-WireBlock Stmt Block (stmt_named_step d) block_named_step (record { statements = ss }))
+      ∙ ap (λ (f : AtLevel). f level) (fold-roll-Block AtLevel AtLevel (stmt_step cs) block_step (record { statements = map (stmt_named d) ss }))
+      ∙ ap (statements_at level) (map_twice spelled_stmt (stmt_named d) ss)
+      ∙ ap (λ (n : ℕ). where_it_is (nat_lt n (2 ^ 32)) (images.number w32 n then each (at level) (map spelled_by ss))) many
+      ∙ ap (λ (x : Bool). where_it_is x (images.number w32 (length ss) then each (at level) (map spelled_by ss))) (lt-ltb (length ss) (2 ^ 32) fits.0)
+      ∙ ap (λ (s : Spelled). images.number w32 (length ss) then s) (each_forth (at level) spelling.stmt spelled_by ss every)
+      ∙ ap some_bytes (sym (block_is ss))
+
+  module _ (level : ℕ) (low : level ≤ MAX_NESTING) (Inner : WireExpr → Type 0) (inner : (e : WireExpr) → Inner e → ExprForth d cs tells single (suc level) e) (Within : WireBlock → Type 0) (within : (b : WireBlock) → Within b → BlockForth (suc level) b) where
+    call_forth : (e : WireExpr) → Inner e × IsTrue (calls (out-WireExpr e)) → where_it_is (is_call (expr_named d e)) (images.expr cs (expr_named d e) (suc level)) ≡ Some (spelling.expr e)
+    call_forth e h = ap (λ (b : Bool). where_it_is b (images.expr cs (expr_named d e) (suc level))) (call_named d e ∙ h.1) ∙ inner e h.0
+
+    close : (layer : WireStmt-F WireStmt WireBlock) (named : Stmt-F Stmt Block) → stmt_named d (roll-WireStmt layer) ≡ roll-Stmt named → (bytes : List ℕ) → spelling.stmt (roll-WireStmt layer) ≡ bytes → spelled_stmt (roll-Stmt named) level ≡ Some bytes → StmtForth level (roll-WireStmt layer)
+    close layer named is bytes spelled e = ap (λ (x : Stmt). spelled_stmt x level) is ∙ e ∙ ap some_bytes (sym spelled)
+
+    abbrev CallFits : WireExpr → Type 0
+    CallFits e = Inner e × IsTrue (calls (out-WireExpr e))
+
+    forth_layer : (layer : WireStmt-F WireStmt WireBlock) → FitsStmtParts classes Inner CallFits Within layer → StmtForth level (roll-WireStmt layer)
+    forth_layer (WireStmt-F.Var t e) h =
+        close (WireStmt-F.Var t e) (Stmt-F.Var (kind_named d.keys t) (expr_named d e)) (fold-roll-WireStmt Stmt Block (stmt_named_step d) block_named_step (WireStmt-F.Var t e) ∙ sym (rolls-Var (kind_named d.keys t) (expr_named d e))) _ (fold-roll-WireStmt (List ℕ) (List ℕ) spelling.stmt_step spelling.block_step (WireStmt-F.Var t e))
+        (ap (λ (f : AtLevel). f level) (fold-roll-Stmt AtLevel AtLevel (stmt_step cs) block_step (Stmt-F.Var (kind_named d.keys t) (expr_named d e))) ∙ tagged level 0x01 _ _ low (two _ _ _ _ (value_forth d cs tells single t h.0) (inner e h.1)))
+    forth_layer (WireStmt-F.SetLocal n e) h =
+        close (WireStmt-F.SetLocal n e) (Stmt-F.SetLocal n (expr_named d e)) (fold-roll-WireStmt Stmt Block (stmt_named_step d) block_named_step (WireStmt-F.SetLocal n e) ∙ sym (rolls-SetLocal n (expr_named d e))) _ (fold-roll-WireStmt (List ℕ) (List ℕ) spelling.stmt_step spelling.block_step (WireStmt-F.SetLocal n e))
+        (ap (λ (f : AtLevel). f level) (fold-roll-Stmt AtLevel AtLevel (stmt_step cs) block_step (Stmt-F.SetLocal n (expr_named d e))) ∙ tagged level 0x02 _ _ low (two _ _ _ _ (short_is n) (inner e h.1)))
+    forth_layer (WireStmt-F.SetVariable n e) h =
+        close (WireStmt-F.SetVariable n e) (Stmt-F.SetVariable n (expr_named d e)) (fold-roll-WireStmt Stmt Block (stmt_named_step d) block_named_step (WireStmt-F.SetVariable n e) ∙ sym (rolls-SetVariable n (expr_named d e))) _ (fold-roll-WireStmt (List ℕ) (List ℕ) spelling.stmt_step spelling.block_step (WireStmt-F.SetVariable n e))
+        (ap (λ (f : AtLevel). f level) (fold-roll-Stmt AtLevel AtLevel (stmt_step cs) block_step (Stmt-F.SetVariable n (expr_named d e))) ∙ tagged level 0x03 _ _ low (two _ _ _ _ (byte_is n h.0) (inner e h.1)))
+    forth_layer (WireStmt-F.If e a b) h =
+        close (WireStmt-F.If e a b) (Stmt-F.If (expr_named d e) (block_named d a) (block_named d b)) (fold-roll-WireStmt Stmt Block (stmt_named_step d) block_named_step (WireStmt-F.If e a b) ∙ sym (rolls-If (expr_named d e) (block_named d a) (block_named d b))) _ (fold-roll-WireStmt (List ℕ) (List ℕ) spelling.stmt_step spelling.block_step (WireStmt-F.If e a b))
+        (ap (λ (f : AtLevel). f level) (fold-roll-Stmt AtLevel AtLevel (stmt_step cs) block_step (Stmt-F.If (expr_named d e) (block_named d a) (block_named d b))) ∙ tagged level 0x04 _ _ low (two _ _ _ _ (two _ _ _ _ (inner e h.0) (within a h.1)) (within b h.2)))
+    forth_layer (WireStmt-F.While e b) h =
+        close (WireStmt-F.While e b) (Stmt-F.While (expr_named d e) (block_named d b)) (fold-roll-WireStmt Stmt Block (stmt_named_step d) block_named_step (WireStmt-F.While e b) ∙ sym (rolls-While (expr_named d e) (block_named d b))) _ (fold-roll-WireStmt (List ℕ) (List ℕ) spelling.stmt_step spelling.block_step (WireStmt-F.While e b))
+        (ap (λ (f : AtLevel). f level) (fold-roll-Stmt AtLevel AtLevel (stmt_step cs) block_step (Stmt-F.While (expr_named d e) (block_named d b))) ∙ tagged level 0x05 _ _ low (two _ _ _ _ (inner e h.0) (within b h.1)))
+    forth_layer WireStmt-F.Return h =
+        close WireStmt-F.Return Stmt-F.Return (fold-roll-WireStmt Stmt Block (stmt_named_step d) block_named_step WireStmt-F.Return ∙ sym rolls-Return) _ (fold-roll-WireStmt (List ℕ) (List ℕ) spelling.stmt_step spelling.block_step WireStmt-F.Return)
+        (ap (λ (f : AtLevel). f level) (fold-roll-Stmt AtLevel AtLevel (stmt_step cs) block_step Stmt-F.Return) ∙ tagged level 0x06 _ _ low refl)
+    forth_layer (WireStmt-F.ReturnValue e) h =
+        close (WireStmt-F.ReturnValue e) (Stmt-F.ReturnValue (expr_named d e)) (fold-roll-WireStmt Stmt Block (stmt_named_step d) block_named_step (WireStmt-F.ReturnValue e) ∙ sym (rolls-ReturnValue (expr_named d e))) _ (fold-roll-WireStmt (List ℕ) (List ℕ) spelling.stmt_step spelling.block_step (WireStmt-F.ReturnValue e))
+        (ap (λ (f : AtLevel). f level) (fold-roll-Stmt AtLevel AtLevel (stmt_step cs) block_step (Stmt-F.ReturnValue (expr_named d e))) ∙ tagged level 0x07 _ _ low (inner e h))
+    forth_layer (WireStmt-F.Print e) h =
+        close (WireStmt-F.Print e) (Stmt-F.Print (expr_named d e)) (fold-roll-WireStmt Stmt Block (stmt_named_step d) block_named_step (WireStmt-F.Print e) ∙ sym (rolls-Print (expr_named d e))) _ (fold-roll-WireStmt (List ℕ) (List ℕ) spelling.stmt_step spelling.block_step (WireStmt-F.Print e))
+        (ap (λ (f : AtLevel). f level) (fold-roll-Stmt AtLevel AtLevel (stmt_step cs) block_step (Stmt-F.Print (expr_named d e))) ∙ tagged level 0x08 _ _ low (inner e h))
+    forth_layer (WireStmt-F.Free e) h =
+        close (WireStmt-F.Free e) (Stmt-F.Free (expr_named d e)) (fold-roll-WireStmt Stmt Block (stmt_named_step d) block_named_step (WireStmt-F.Free e) ∙ sym (rolls-Free (expr_named d e))) _ (fold-roll-WireStmt (List ℕ) (List ℕ) spelling.stmt_step spelling.block_step (WireStmt-F.Free e))
+        (ap (λ (f : AtLevel). f level) (fold-roll-Stmt AtLevel AtLevel (stmt_step cs) block_step (Stmt-F.Free (expr_named d e))) ∙ tagged level 0x09 _ _ low (inner e h))
+    forth_layer (WireStmt-F.Call e) h =
+        close (WireStmt-F.Call e) (Stmt-F.Call (expr_named d e)) (fold-roll-WireStmt Stmt Block (stmt_named_step d) block_named_step (WireStmt-F.Call e) ∙ sym (rolls-Call (expr_named d e))) _ (fold-roll-WireStmt (List ℕ) (List ℕ) spelling.stmt_step spelling.block_step (WireStmt-F.Call e))
+        (ap (λ (f : AtLevel). f level) (fold-roll-Stmt AtLevel AtLevel (stmt_step cs) block_step (Stmt-F.Call (expr_named d e))) ∙ tagged level 0x0a _ _ low (call_forth e h))
+
+  stmt_forth : (left level : ℕ) → left + level ≡ 33 → (s : WireStmt) → FitsStmt left classes Method s → StmtForth level s
+  unfolding FitsStmt
+  stmt_forth zero level sum s h = absurd h
+  stmt_forth (suc left) level sum s h =
+      let deeper : left + suc level ≡ 33 = omega (arith, sum) in
+      subst (StmtForth level) (roll-out-WireStmt s)
+      (forth_layer level (omega (arith, sum)) (FitsExpr left classes Method) (expr_forth d cs tells single left (suc level) deeper)
+      (FitsBlock left classes Method) (blocks_forth (suc level) (FitsStmt left classes Method) (stmt_forth left (suc level) deeper)) (out-WireStmt s) h)
+
+  -- a block with numbers is spelled at a level as the one with names
+  pub block_forth : (left level : ℕ) → left + level ≡ 33 → (b : WireBlock) → FitsBlock left classes Method b → BlockForth level b
+  block_forth left level sum b fits = blocks_forth level (FitsStmt left classes Method) (stmt_forth left level sum) b fits

@@ -1,0 +1,181 @@
+-- What statements and blocks with names that have a spelling are named from.
+use Rattle.std.proofs.Common.{◌≡◌, ℕ, zero, suc, ◌<◌, ◌^◌, Bool, true, List, [], ◌∷◌, ◌++◌, length, map, Some, refl, sym, ap, subst, ◌∙◌, arith}
+use Rattle.std.specs.Prelude.{nat_lt, IsTrue, All}
+use Rattle.std.specs.Int.{w16, w32, to_be_bytes}
+use Rattle.std.specs.List.{flat_map}
+use Rattle.std.proofs.lemmas.Bool.{ltb-true}
+use Rattle.std.proofs.lemmas.List.{length-map}
+use Rattle.std.proofs.lemmas.List.Elements.{recursion_from_All}
+use Rattle.som_model.specs.declared.key.ValueType.{ValueType}
+use Rattle.som_model.specs.declared.syntax.Expr.{Expr}
+use Rattle.som_model.specs.declared.syntax.Stmt.{Stmt, out-Stmt, roll-Stmt, roll-out-Stmt, fold-Stmt, fold-roll-Stmt}
+use Rattle.som_model.specs.declared.syntax.Stmt.TheVariants as stmts
+use Rattle.som_model.specs.declared.syntax.Stmt.TheVariants.{rolls-Var, rolls-SetLocal, rolls-SetVariable, rolls-If, rolls-While, rolls-Return, rolls-ReturnValue, rolls-Print, rolls-Free, rolls-Call}
+use Rattle.som_model.specs.declared.syntax.Stmt.TheOpen.{Stmt-F}
+use Rattle.som_model.specs.declared.syntax.Block.{Block, fold-roll-Block}
+use Rattle.som_model.specs.Blocks.{is_call}
+use Rattle.som_model.specs.Class.{Class}
+use Rattle.som_model.specs.Images as images
+use Rattle.som_model.specs.Images.{Spelled, AtLevel, ◌then◌, each, tag, where_it_is, stmt_step, block_step}
+use Rattle.som_wire.specs.Spelling.{FitsMethod}
+use Rattle.som_wire.specs.declared.method.WireMethod.{WireMethod}
+use Rattle.som_blocks.specs.declared.syntax.WireExpr.{WireExpr, out-WireExpr}
+use Rattle.som_blocks.specs.declared.syntax.WireStmt.{WireStmt, out-WireStmt, roll-WireStmt, out-roll-WireStmt, fold-roll-WireStmt}
+use Rattle.som_blocks.specs.declared.syntax.WireStmt.TheOpen.{WireStmt-F}
+use Rattle.som_blocks.specs.declared.syntax.WireBlock.{WireBlock, fold-roll-WireBlock}
+use Rattle.som_blocks.specs.Fitting.{FitsExpr, calls, FitsStmtParts, FitsStatements, FitsStmt, FitsBlock}
+use Rattle.som_blocks.specs.Spelling as spelling
+use Rattle.som_blocks.proofs.StmtFields.{block_is}
+use Rattle.som_naming.specs.declared.directory.Directory.{Directory}
+use Rattle.som_naming.specs.Naming.{kind_named, ranges_in, Tells}
+use Rattle.som_naming.specs.NamedBlocks.{expr_named, stmt_named, stmt_named_step, block_named, block_named_step}
+use Rattle.som_naming.specs.BlockLimits.{ExprWithin, StmtPartsWithin, StatementsWithin, StmtWithin}
+use Rattle.som_naming.proofs.Places.{all_map}
+use Rattle.som_naming.proofs.Spelled.{bytes_are, split, guarded, From, Back, many_back}
+use Rattle.som_naming.proofs.NamedKinds.{value_back}
+use Rattle.som_naming.proofs.NamedCalls.{call_named}
+use Rattle.som_naming.proofs.BlockForms.{opened, join, number_back, byte_back, each_map}
+use Rattle.som_naming.proofs.ExprsBack.{ExprBack, expr_back}
+
+module _ (d : Directory) (cs : List Class) (tells : Tells d cs) where
+  abbrev classes : ℕ
+  classes = length d.keys
+
+  abbrev Method : WireMethod → Type 0
+  Method m = FitsMethod (ranges_in d) m
+
+  abbrev spelled_stmt : Stmt → AtLevel
+  spelled_stmt = fold-Stmt AtLevel AtLevel (stmt_step cs) block_step
+
+  abbrev at : ℕ → AtLevel → Spelled
+  at level s = s level
+
+  -- what a statement is named from, where so many levels are left
+  abbrev StmtBack : ℕ → ℕ → Stmt → Type 0
+  StmtBack left level s = Back (λ (x : Stmt). spelled_stmt x level) spelling.stmt (FitsStmt left classes Method) (stmt_named d) s
+
+  abbrev pub BlockBack : ℕ → ℕ → Block → Type 0
+  BlockBack left level b = Back (λ (x : Block). images.block cs x level) spelling.block (FitsBlock left classes Method) (block_named d) b
+
+  abbrev a_block : List Stmt → Block
+  a_block ss = record { statements = ss }
+
+  blocks_back : (left level : ℕ) (Within : Stmt → Type 0) → ((s : Stmt) → Within s → StmtBack left level s) → (b : Block) → StatementsWithin Within b → BlockBack left level b
+  blocks_back left level Within one b within bytes given =
+      let ss : List Stmt = b.statements in
+      let spell : Stmt → Spelled = λ s. spelled_stmt s level in
+      let parts : List AtLevel = map spelled_stmt ss in
+      let step : images.block cs b level ≡ where_it_is (nat_lt (length parts) (2 ^ 32)) (images.number w32 (length parts) then each (at level) parts) =
+      ap (λ (f : AtLevel). f level) (fold-roll-Block AtLevel AtLevel (stmt_step cs) block_step (record { statements = ss })) in
+      let g = guarded (nat_lt (length parts) (2 ^ 32)) (images.number w32 (length parts) then each (at level) parts) bytes (sym step ∙ given) in
+      let s = split (images.number w32 (length parts)) (each (at level) parts) bytes g.1 in
+      let every = all_map Within (StmtBack left level) one ss (recursion_from_All Within ss within.1) in
+      let f = many_back spell spelling.stmt (stmt_named d) (FitsStmt left classes Method) ss every s.back (sym (each_map (at level) spelled_stmt ss) ∙ s.second) in
+      let many : length f.it ≡ length parts = f.fits.0 ∙ sym (length-map ss spelled_stmt) in
+      let count : to_be_bytes w32 (length f.it) ≡ s.front = ap (to_be_bytes w32) many ∙ bytes_are (to_be_bytes w32 (length parts)) s.front s.first in
+      record {
+        it = record { statements = f.it };
+        spelled = block_is f.it ∙ join _ _ _ _ _ count f.spelled s.whole;
+        fits = (omega (arith, within.0, f.fits.0), f.fits.1);
+        names = fold-roll-WireBlock Stmt Block (stmt_named_step d) block_named_step (record { statements = f.it }) ∙ ap a_block f.names;
+      }
+
+  module _ (left level : ℕ) (InnerWithin : Expr → Type 0) (inner : (e : Expr) → InnerWithin e → ExprBack d cs tells left (suc level) e) (Within : Block → Type 0) (within : (b : Block) → Within b → BlockBack left (suc level) b) where
+    abbrev Inner : WireExpr → Type 0
+    Inner e = FitsExpr left classes Method e
+
+    abbrev CallFits : WireExpr → Type 0
+    CallFits e = Inner e × IsTrue (calls (out-WireExpr e))
+
+    call_back : (e : Expr) → InnerWithin e → Back (λ (x : Expr). where_it_is (is_call x) (images.expr cs x (suc level))) spelling.expr CallFits (expr_named d) e
+    call_back e h bytes given =
+        let g = guarded (is_call e) (images.expr cs e (suc level)) bytes given in
+        let w = inner e h bytes g.1 in
+        record { it = w.it; spelled = w.spelled; fits = (w.fits, sym (call_named d w.it) ∙ ap is_call w.names ∙ g.0); names = w.names }
+
+    abbrev FromStmt : Stmt → List ℕ → Type 0
+    FromStmt s bytes = From spelling.stmt (FitsStmt (suc left) classes Method) (stmt_named d) s bytes
+
+    build : (layer : WireStmt-F WireStmt WireBlock) (named : Stmt-F Stmt Block) (bytes : List ℕ) → FitsStmtParts classes Inner CallFits (FitsBlock left classes Method) layer → spelling.stmt (roll-WireStmt layer) ≡ bytes → stmt_named d (roll-WireStmt layer) ≡ roll-Stmt named → FromStmt (roll-Stmt named) bytes
+    unfolding FitsStmt
+    build layer named bytes fits spelled names = record {
+      it = roll-WireStmt layer;
+      spelled = spelled;
+      fits = subst (FitsStmtParts classes Inner CallFits (FitsBlock left classes Method)) (sym (out-roll-WireStmt layer)) fits;
+      names = names;
+    }
+
+    back_layer : (layer : Stmt-F Stmt Block) → StmtPartsWithin InnerWithin Within layer → (bytes : List ℕ) → spelled_stmt (roll-Stmt layer) level ≡ Some bytes → FromStmt (roll-Stmt layer) bytes
+    back_layer (Stmt-F.Var t e) h bytes given =
+        let o = opened level 0x01 ((images.value_kind cs t) then (images.expr cs e (suc level))) bytes (sym (ap (λ (f : AtLevel). f level) (fold-roll-Stmt AtLevel AtLevel (stmt_step cs) block_step (Stmt-F.Var t e))) ∙ given) in
+        let s1 = split (images.value_kind cs t) (images.expr cs e (suc level)) o.back o.second in
+        let u0 = value_back d cs tells t s1.front s1.first in
+        let u1 = inner e h s1.back s1.second in
+        build (WireStmt-F.Var u0.it u1.it) (Stmt-F.Var t e) bytes (u0.fits, u1.fits) (fold-roll-WireStmt (List ℕ) (List ℕ) spelling.stmt_step spelling.block_step (WireStmt-F.Var u0.it u1.it) ∙ ap (λ (x : List ℕ). 0x01 ∷ x) (join _ _ _ _ _ u0.spelled u1.spelled s1.whole) ∙ o.whole)
+        (fold-roll-WireStmt Stmt Block (stmt_named_step d) block_named_step (WireStmt-F.Var u0.it u1.it) ∙ ap (λ (y : ValueType). stmts.Var y (expr_named d u1.it)) u0.names ∙ ap (λ (y : Expr). stmts.Var t y) u1.names ∙ sym (rolls-Var t e))
+    back_layer (Stmt-F.SetLocal n e) h bytes given =
+        let o = opened level 0x02 ((images.number w16 n) then (images.expr cs e (suc level))) bytes (sym (ap (λ (f : AtLevel). f level) (fold-roll-Stmt AtLevel AtLevel (stmt_step cs) block_step (Stmt-F.SetLocal n e))) ∙ given) in
+        let s1 = split (images.number w16 n) (images.expr cs e (suc level)) o.back o.second in
+        let u0 = number_back w16 n s1.front s1.first in
+        let u1 = inner e h.1 s1.back s1.second in
+        build (WireStmt-F.SetLocal n u1.it) (Stmt-F.SetLocal n e) bytes (h.0, u1.fits) (fold-roll-WireStmt (List ℕ) (List ℕ) spelling.stmt_step spelling.block_step (WireStmt-F.SetLocal n u1.it) ∙ ap (λ (x : List ℕ). 0x02 ∷ x) (join _ _ _ _ _ u0 u1.spelled s1.whole) ∙ o.whole)
+        (fold-roll-WireStmt Stmt Block (stmt_named_step d) block_named_step (WireStmt-F.SetLocal n u1.it) ∙ ap (λ (y : Expr). stmts.SetLocal n y) u1.names ∙ sym (rolls-SetLocal n e))
+    back_layer (Stmt-F.SetVariable n e) h bytes given =
+        let o = opened level 0x03 ((tag n) then (images.expr cs e (suc level))) bytes (sym (ap (λ (f : AtLevel). f level) (fold-roll-Stmt AtLevel AtLevel (stmt_step cs) block_step (Stmt-F.SetVariable n e))) ∙ given) in
+        let s1 = split (tag n) (images.expr cs e (suc level)) o.back o.second in
+        let u0 = byte_back n s1.front h.0 s1.first in
+        let u1 = inner e h.1 s1.back s1.second in
+        build (WireStmt-F.SetVariable n u1.it) (Stmt-F.SetVariable n e) bytes (h.0, u1.fits) (fold-roll-WireStmt (List ℕ) (List ℕ) spelling.stmt_step spelling.block_step (WireStmt-F.SetVariable n u1.it) ∙ ap (λ (x : List ℕ). 0x03 ∷ x) (join _ _ _ _ _ u0 u1.spelled s1.whole) ∙ o.whole)
+        (fold-roll-WireStmt Stmt Block (stmt_named_step d) block_named_step (WireStmt-F.SetVariable n u1.it) ∙ ap (λ (y : Expr). stmts.SetVariable n y) u1.names ∙ sym (rolls-SetVariable n e))
+    back_layer (Stmt-F.If e a b) h bytes given =
+        let o = opened level 0x04 (((images.expr cs e (suc level)) then (images.block cs a (suc level))) then (images.block cs b (suc level))) bytes (sym (ap (λ (f : AtLevel). f level) (fold-roll-Stmt AtLevel AtLevel (stmt_step cs) block_step (Stmt-F.If e a b))) ∙ given) in
+        let s2 = split ((images.expr cs e (suc level)) then (images.block cs a (suc level))) (images.block cs b (suc level)) o.back o.second in
+        let s1 = split (images.expr cs e (suc level)) (images.block cs a (suc level)) s2.front s2.first in
+        let u0 = inner e h.0 s1.front s1.first in
+        let u1 = within a h.1 s1.back s1.second in
+        let u2 = within b h.2 s2.back s2.second in
+        build (WireStmt-F.If u0.it u1.it u2.it) (Stmt-F.If e a b) bytes (u0.fits, u1.fits, u2.fits) (fold-roll-WireStmt (List ℕ) (List ℕ) spelling.stmt_step spelling.block_step (WireStmt-F.If u0.it u1.it u2.it) ∙ ap (λ (x : List ℕ). 0x04 ∷ x) (join _ _ _ _ _ (join _ _ _ _ _ u0.spelled u1.spelled s1.whole) u2.spelled s2.whole) ∙ o.whole)
+        (fold-roll-WireStmt Stmt Block (stmt_named_step d) block_named_step (WireStmt-F.If u0.it u1.it u2.it) ∙ ap (λ (y : Expr). stmts.If y (block_named d u1.it) (block_named d u2.it)) u0.names ∙ ap (λ (y : Block). stmts.If e y (block_named d u2.it)) u1.names ∙ ap (λ (y : Block). stmts.If e a y) u2.names ∙ sym (rolls-If e a b))
+    back_layer (Stmt-F.While e b) h bytes given =
+        let o = opened level 0x05 ((images.expr cs e (suc level)) then (images.block cs b (suc level))) bytes (sym (ap (λ (f : AtLevel). f level) (fold-roll-Stmt AtLevel AtLevel (stmt_step cs) block_step (Stmt-F.While e b))) ∙ given) in
+        let s1 = split (images.expr cs e (suc level)) (images.block cs b (suc level)) o.back o.second in
+        let u0 = inner e h.0 s1.front s1.first in
+        let u1 = within b h.1 s1.back s1.second in
+        build (WireStmt-F.While u0.it u1.it) (Stmt-F.While e b) bytes (u0.fits, u1.fits) (fold-roll-WireStmt (List ℕ) (List ℕ) spelling.stmt_step spelling.block_step (WireStmt-F.While u0.it u1.it) ∙ ap (λ (x : List ℕ). 0x05 ∷ x) (join _ _ _ _ _ u0.spelled u1.spelled s1.whole) ∙ o.whole)
+        (fold-roll-WireStmt Stmt Block (stmt_named_step d) block_named_step (WireStmt-F.While u0.it u1.it) ∙ ap (λ (y : Expr). stmts.While y (block_named d u1.it)) u0.names ∙ ap (λ (y : Block). stmts.While e y) u1.names ∙ sym (rolls-While e b))
+    back_layer Stmt-F.Return h bytes given =
+        let o = opened level 0x06 (Some []) bytes (sym (ap (λ (f : AtLevel). f level) (fold-roll-Stmt AtLevel AtLevel (stmt_step cs) block_step Stmt-F.Return)) ∙ given) in
+        build WireStmt-F.Return Stmt-F.Return bytes tt (fold-roll-WireStmt (List ℕ) (List ℕ) spelling.stmt_step spelling.block_step WireStmt-F.Return ∙ ap (λ (x : List ℕ). 0x06 ∷ x) (bytes_are [] o.back o.second) ∙ o.whole)
+        (fold-roll-WireStmt Stmt Block (stmt_named_step d) block_named_step WireStmt-F.Return ∙ sym rolls-Return)
+    back_layer (Stmt-F.ReturnValue e) h bytes given =
+        let o = opened level 0x07 (images.expr cs e (suc level)) bytes (sym (ap (λ (f : AtLevel). f level) (fold-roll-Stmt AtLevel AtLevel (stmt_step cs) block_step (Stmt-F.ReturnValue e))) ∙ given) in
+        let u0 = inner e h o.back o.second in
+        build (WireStmt-F.ReturnValue u0.it) (Stmt-F.ReturnValue e) bytes u0.fits (fold-roll-WireStmt (List ℕ) (List ℕ) spelling.stmt_step spelling.block_step (WireStmt-F.ReturnValue u0.it) ∙ ap (λ (x : List ℕ). 0x07 ∷ x) u0.spelled ∙ o.whole)
+        (fold-roll-WireStmt Stmt Block (stmt_named_step d) block_named_step (WireStmt-F.ReturnValue u0.it) ∙ ap (λ (y : Expr). stmts.ReturnValue y) u0.names ∙ sym (rolls-ReturnValue e))
+    back_layer (Stmt-F.Print e) h bytes given =
+        let o = opened level 0x08 (images.expr cs e (suc level)) bytes (sym (ap (λ (f : AtLevel). f level) (fold-roll-Stmt AtLevel AtLevel (stmt_step cs) block_step (Stmt-F.Print e))) ∙ given) in
+        let u0 = inner e h o.back o.second in
+        build (WireStmt-F.Print u0.it) (Stmt-F.Print e) bytes u0.fits (fold-roll-WireStmt (List ℕ) (List ℕ) spelling.stmt_step spelling.block_step (WireStmt-F.Print u0.it) ∙ ap (λ (x : List ℕ). 0x08 ∷ x) u0.spelled ∙ o.whole)
+        (fold-roll-WireStmt Stmt Block (stmt_named_step d) block_named_step (WireStmt-F.Print u0.it) ∙ ap (λ (y : Expr). stmts.Print y) u0.names ∙ sym (rolls-Print e))
+    back_layer (Stmt-F.Free e) h bytes given =
+        let o = opened level 0x09 (images.expr cs e (suc level)) bytes (sym (ap (λ (f : AtLevel). f level) (fold-roll-Stmt AtLevel AtLevel (stmt_step cs) block_step (Stmt-F.Free e))) ∙ given) in
+        let u0 = inner e h o.back o.second in
+        build (WireStmt-F.Free u0.it) (Stmt-F.Free e) bytes u0.fits (fold-roll-WireStmt (List ℕ) (List ℕ) spelling.stmt_step spelling.block_step (WireStmt-F.Free u0.it) ∙ ap (λ (x : List ℕ). 0x09 ∷ x) u0.spelled ∙ o.whole)
+        (fold-roll-WireStmt Stmt Block (stmt_named_step d) block_named_step (WireStmt-F.Free u0.it) ∙ ap (λ (y : Expr). stmts.Free y) u0.names ∙ sym (rolls-Free e))
+    back_layer (Stmt-F.Call e) h bytes given =
+        let o = opened level 0x0a (where_it_is (is_call e) (images.expr cs e (suc level))) bytes (sym (ap (λ (f : AtLevel). f level) (fold-roll-Stmt AtLevel AtLevel (stmt_step cs) block_step (Stmt-F.Call e))) ∙ given) in
+        let u0 = call_back e h o.back o.second in
+        build (WireStmt-F.Call u0.it) (Stmt-F.Call e) bytes u0.fits (fold-roll-WireStmt (List ℕ) (List ℕ) spelling.stmt_step spelling.block_step (WireStmt-F.Call u0.it) ∙ ap (λ (x : List ℕ). 0x0a ∷ x) u0.spelled ∙ o.whole)
+        (fold-roll-WireStmt Stmt Block (stmt_named_step d) block_named_step (WireStmt-F.Call u0.it) ∙ ap (λ (y : Expr). stmts.Call y) u0.names ∙ sym (rolls-Call e))
+
+  stmt_back : (left level : ℕ) (s : Stmt) → StmtWithin left s → StmtBack left level s
+  unfolding StmtWithin
+  stmt_back zero level s within bytes given = absurd within
+  stmt_back (suc left) level s within bytes given =
+      subst (λ (x : Stmt). From spelling.stmt (FitsStmt (suc left) classes Method) (stmt_named d) x bytes) (roll-out-Stmt s)
+      (back_layer left level (ExprWithin left) (λ e w. expr_back d cs tells left (suc level) e w) (StatementsWithin (StmtWithin left))
+      (blocks_back left (suc level) (StmtWithin left) (λ x w. stmt_back left (suc level) x w)) (out-Stmt s) within bytes (ap (λ (x : Stmt). spelled_stmt x level) (roll-out-Stmt s) ∙ given))
+
+  -- what a block is named from, where so many levels are left
+  pub block_back : (left level : ℕ) (b : Block) → StatementsWithin (StmtWithin left) b → BlockBack left level b
+  block_back left level b within = blocks_back left level (StmtWithin left) (stmt_back left level) b within

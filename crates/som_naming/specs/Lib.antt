@@ -1,0 +1,7 @@
+pub mod Naming
+pub mod Numbering
+pub mod NamedBlocks
+pub mod NumberedBlocks
+pub mod BlockLimits
+pub mod ReadyBlocks
+pub mod FoundNames

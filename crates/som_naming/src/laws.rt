@@ -1,0 +1,22 @@
+ghost use Rattle.som_blocks.specs.Fitting.{FitsBlock, levels_left};
+ghost use Rattle.som_blocks.specs.Spelling.{block};
+ghost use Rattle.som_blocks.specs.declared.syntax.WireBlock.{WireBlock};
+ghost use Rattle.som_model.specs.Class.{Class};
+ghost use Rattle.som_model.specs.Images as images;
+ghost use Rattle.som_model.specs.declared.syntax.Block.{Block};
+ghost use Rattle.som_naming.specs.Naming.{NoDoubles, Tells, ranges_in};
+ghost use Rattle.som_naming.specs.BlockLimits.{BlockWithin};
+ghost use Rattle.som_naming.specs.NamedBlocks.{BlockFrom, block_named};
+ghost use Rattle.som_naming.specs.declared.directory.Directory.{Directory};
+ghost use Rattle.som_wire.specs.Spelling.{FitsMethod};
+ghost use Rattle.std.specs.Prelude.{◌≡◌, ℕ, List, Some};
+
+/// A block that fits the directory of some classes, in which no name stands twice, is spelled as the block that it stands
+/// for is among these classes; and whatever block has a spelling among them, within the limits, is named from one that fits.
+pub fn named_blocks_are_spelled()
+    ensures forth { (d : Directory) (cs : List Class) (b : WireBlock) → Tells d cs → NoDoubles d →
+        FitsBlock (levels_left 1) (ranges_in d).classes (FitsMethod (ranges_in d)) b →
+        images.block cs (block_named d b) 1 ≡ Some (block b) }
+    ensures back { (d : Directory) (cs : List Class) (b : Block) (bytes : List ℕ) → Tells d cs → BlockWithin b →
+        images.block cs b 1 ≡ Some bytes → BlockFrom d b bytes }
+{}
