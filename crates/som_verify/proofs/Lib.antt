@@ -24,3 +24,20 @@ pub mod PlainFaces
 pub mod PlainBodies
 pub mod PlainWhole
 pub mod Programs
+pub mod KindLaws
+pub mod ExprLaws
+pub mod Facts
+pub mod NamesKnown
+pub mod TypedForms
+pub mod Keeping
+pub mod BlockSteps
+pub mod BodySteps
+pub mod Grounds
+pub mod Conforming
+pub mod KnownLaws
+pub mod CallLaws
+<<<<<<< HEAD
+=======
+pub mod ArgLaws
+pub mod PartLaws
+>>>>>>> 57bedf05528d8e4dcff32cc3b0247b193b8b64f1

@@ -4,7 +4,7 @@ use Rattle.som_model.specs.Lists.{first, or_else}
 use Rattle.som_model.specs.Class.{Class, bare, class_in}
 use Rattle.som_model.specs.Classes.{client_classes, interface_classes}
 use Rattle.som_model.specs.Kernel.{kernel}
-use Rattle.som_model.specs.Conforming.{first_of_names, first_of_members, declared_program_breach}
+use Rattle.som_model.specs.Conforming.{first_of_names, first_of_members, declared_program_breach, program_breach, class_typed, main_typed}
 use Rattle.som_model.specs.Rules.{Breach, s5, s14}
 use Rattle.som_model.specs.declared.key.Module.TheVariants as modules
 use Rattle.som_model.specs.declared.class.ClassDecl.{ClassDecl}
@@ -14,6 +14,7 @@ use Rattle.som_verify.specs.declared.types.Declared.{Declared}
 use Rattle.som_verify.specs.declared.types.VerifyFault.{VerifyFault}
 use Rattle.som_verify.specs.Faces.{classes_breach, rules_breach}
 use Rattle.som_verify.specs.Modules.{class_of, classes_of}
+use Rattle.som_verify.specs.Places.{with_kernel}
 use Rattle.som_verify.specs.Plainly.{program_classes}
 use Rattle.som_verify.specs.Told.{Tells}
 use Rattle.som_verify.proofs.Conformity.{regrouped}
@@ -72,3 +73,13 @@ module _ (p : ClientProgram) (ds : List Declared) (n : ℕ) (same : classes_of d
   -- what is told of the declared classes of a program is told of the program
   pub program_tells : (r : Result (Unit {0}) VerifyFault) → Tells (rules_breach n (classes_of ds)) r → Tells (declared_program_breach p) r
   program_tells r t = subst (λ o. Tells o r) rules_part t
+
+  -- and the same of all rules
+  pub all_tell : (r : Result (Unit {0}) VerifyFault)
+      → Tells (or_else (rules_breach n (classes_of ds)) (first (flat_map (class_typed (with_kernel (classes_of ds))) (classes_of (drop n ds)) ++ main_typed (with_kernel (classes_of ds)) p.main))) r
+      → Tells (program_breach p) r
+  all_tell r t =
+      subst (λ o. Tells o r)
+      (ap (λ o. or_else o (first (flat_map (class_typed (with_kernel (classes_of ds))) (classes_of (drop n ds)) ++ main_typed (with_kernel (classes_of ds)) p.main))) rules_part
+      ∙ ap (λ z. or_else (declared_program_breach p) (first (flat_map (class_typed (with_kernel (classes_of ds))) z ++ main_typed (with_kernel (classes_of ds)) p.main))) (sym (drop_map class_of ds n) ∙ rest_is)
+      ∙ ap (λ z. or_else (declared_program_breach p) (first (flat_map (class_typed (with_kernel z)) (client_classes p) ++ main_typed (with_kernel z) p.main))) same) t

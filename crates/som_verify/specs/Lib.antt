@@ -9,3 +9,7 @@ pub mod Typed
 pub mod Inherited
 pub mod Faces
 pub mod Plainly
+pub mod Kinds
+pub mod Knowing
+pub mod Scopes
+pub mod Bodies

@@ -13,7 +13,7 @@ use crate::introduced::entries_at;
 use crate::table::{KERNEL_CLASSES, find_class};
 use crate::types::Declared;
 use indexmap::IndexSet;
-use som_model::{ClassFace, ClassKey, Entry, List, Text};
+use som_model::{ClassFace, ClassKey, Entry, List, Sig, Text};
 use som_order::name_of;
 
 /// A method by a class and a name.
@@ -71,6 +71,16 @@ pub fn moved_to<'a>(entries: &'a [Entry], name: &Text) -> Option<&'a ClassKey>
 {
     match find_entry(entries, name) {
         Some(Entry::Moved { to, .. }) => Some(to),
+        _ => None,
+    }
+}
+
+/// The signature that the entry of that name introduces, if it does.
+pub fn introduced_by<'a>(entries: &'a [Entry], name: &Text) -> Option<&'a Sig>
+    ensures { option_copied result ≡ introduced_sig (entry_of entries.now name.now) }
+{
+    match find_entry(entries, name) {
+        Some(Entry::Introduced { sig, .. }) => Some(sig),
         _ => None,
     }
 }

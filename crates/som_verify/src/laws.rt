@@ -1,6 +1,6 @@
 ghost use Rattle.som_model.specs.Class.{Class};
 ghost use Rattle.som_model.specs.Classes.{hierarchy};
-ghost use Rattle.som_model.specs.Conforming.{declared_program_breach, declared_breach};
+ghost use Rattle.som_model.specs.Conforming.{ProgramOk, ReleaseOk, declared_breach, declared_program_breach, program_breach, release_breach};
 ghost use Rattle.som_model.specs.Hierarchy.{Falls};
 ghost use Rattle.som_model.specs.declared.class.ClassDecl.{ClassDecl as Decl};
 ghost use Rattle.som_model.specs.declared.program.ClientProgram.{ClientProgram};
@@ -26,6 +26,16 @@ pub fn rules_law()
 /// all of its members.
 pub fn program_law()
     ensures { (p : ClientProgram) → (declared_program_breach p ≡ None) ↔ ProgramHolds p }
+{}
+
+/// A release conforms exactly where it has no breach.
+pub fn release_law()
+    ensures { (r : Release) → ReleaseOk r ↔ (release_breach r ≡ None) }
+{}
+
+/// A client program conforms exactly where it has no breach.
+pub fn client_law()
+    ensures { (p : ClientProgram) → ProgramOk p ↔ (program_breach p ≡ None) }
 {}
 
 /// Where parents stand before their classes, each parent is lower than its class, also of the classes that

@@ -2,14 +2,25 @@
 #![tactic(auto)]
 
 mod ancestry;
+mod blocks;
 mod bodies;
+mod calls;
 #[cfg(test)]
 mod cases;
 mod classes;
+mod code_place;
+#[cfg(test)]
+mod code_words;
 mod descent;
 mod double;
+mod expressions;
+mod forms;
 mod inherited;
 mod introduced;
+mod kind;
+#[cfg(test)]
+mod kind_cases;
+mod knowledge;
 mod known;
 mod laws;
 mod members;
@@ -18,31 +29,57 @@ mod moved;
 mod overrides;
 mod parents;
 mod pass;
+mod plain_statements;
 mod program;
 #[cfg(test)]
 mod program_cases;
 mod release;
 mod rules;
 mod signatures;
+mod statements;
 mod table;
 #[cfg(test)]
 mod tests;
+<<<<<<< HEAD
+mod typed_bodies;
+#[cfg(test)]
+mod typed_cases;
+=======
+#[cfg(test)]
+mod tests_of_kinds;
+>>>>>>> 57bedf05528d8e4dcff32cc3b0247b193b8b64f1
 mod types;
 
 pub use ancestry::ancestors;
 pub use bodies::bodies_fit;
+pub use calls::{
+    cast_kind, class_kind, isa_kind, named_call_kind, new_kind, offset_call_kind, parent_call_kind,
+    parents_call_kind, proxy_kind, self_kind, variable_kind,
+};
 pub use classes::{classes_hold, declare};
+pub use code_place::{CodePlace, TypeFault};
 pub use descent::{ancestor_lists, declared_ancestors, descends_by, is_listed};
+pub use expressions::{expr_kind, value_kind};
+pub use forms::{
+    are_alike, binary_kind, has_text, host_kind, is_boolean, is_long, is_nothing, is_object,
+    is_reference, is_string, local_kind, unary_kind, value,
+};
 pub use introduced::names_introduced_once;
+pub use kind::Kind;
+pub use knowledge::{
+    Knowledge, kind_fits, kind_of, know, owner, place_of, signature_of, type_fits,
+};
 pub use known::{type_is_known, type_is_of_value};
-pub use laws::{declared_lower_law, faces_law, parents_lower_law, program_law, rules_law};
+pub use laws::{
+    client_law, declared_lower_law, faces_law, parents_lower_law, program_law, release_law, rules_law,
+};
 pub use members::{entries_differ, parents_differ, variables_differ};
 pub use metaclasses::metaclasses_descend;
 pub use moved::entries_moved_up;
 pub use overrides::overrides_inherited;
 pub use parents::parents_stand;
-pub use program::{bare_classes, declare_program, program_rules};
-pub use release::faces_ok;
+pub use program::{bare_classes, declare_program, program_ok, program_rules};
+pub use release::{faces_ok, release_ok};
 pub use rules::rules_hold;
 pub use signatures::types_known;
 pub use table::{class_names, find_class};

@@ -131,7 +131,7 @@ fn is_same(method: &Method, other: &Method) -> bool
 }
 
 /// The method as the class has it that introduces it.
-fn owner_of<'a>(
+pub fn owner_of<'a>(
     table: &IndexSet<&[u8]>,
     kernel: &'a [ClassFace],
     classes: &[Declared<'a>],

@@ -1,10 +1,13 @@
 ghost use Rattle.som_model.specs.Class.{bare};
-ghost use Rattle.som_model.specs.Conforming.{declared_program_breach};
+ghost use Rattle.som_model.specs.Conforming.{ProgramOk, declared_program_breach, program_breach};
 ghost use Rattle.som_verify.specs.Modules.{classes_of};
 ghost use Rattle.som_verify.specs.Plainly.{program_classes};
 ghost use Rattle.som_verify.specs.Told.{Tells};
-ghost use Rattle.std.specs.Prelude.{◌≡◌, map, IfOk};
+ghost use Rattle.som_verify.specs.declared.types.Broken.{Broken as Breach};
+ghost use Rattle.som_verify.specs.declared.types.VerifyFault.TheVariants as faults;
+ghost use Rattle.std.specs.Prelude.{◌≡◌, map, Err, IfOk};
 
+use crate::blocks::program_typed;
 use crate::classes::declare;
 use crate::rules::rules_hold;
 use crate::types::{Declared, VerifyFault};
@@ -21,6 +24,27 @@ pub fn program_rules(alloc: Global, program: &ClientProgram) -> Result<(), Verif
     let declared = declared.as_slice();
     let number = program.base.classes.as_slice().len();
     rules_hold(alloc, declared, number)
+}
+
+/// Whether a client program conforms, and else the first rule that it breaks, with its class and member. The faces
+/// that it was compiled against come first, and main comes last.
+pub fn program_ok(alloc: Global, program: &ClientProgram) -> Result<(), VerifyFault>
+    ensures tells { Tells (program_breach program.now) result }
+    ensures conforms { IfOk result (λ _. ProgramOk program.now) }
+    ensures refuses { (b : Breach) → result ≡ Err (faults.Rule b) → ProgramOk program.now → ⊥ }
+{
+    all_rules_hold(alloc, program)
+}
+
+fn all_rules_hold(alloc: Global, program: &ClientProgram) -> Result<(), VerifyFault>
+    ensures { Tells (program_breach program.now) result }
+{
+    let base = bare_classes(alloc, program.base.classes.as_slice())?;
+    let declared = declare_program(alloc, base.as_slice(), program)?;
+    let declared = declared.as_slice();
+    let number = program.base.classes.as_slice().len();
+    rules_hold(alloc, declared, number)?;
+    program_typed(alloc, declared, number, &program.main)
 }
 
 /// The classes that a client program knows, of which those of its base are given as bare ones.

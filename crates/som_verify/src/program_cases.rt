@@ -226,3 +226,24 @@ pub const PROGRAMS: [ProgramCase; 38] = [
         "10 Pup purr",
     ),
 ];
+
+/// What a main is about, the faces and its own classes in short, its words, and the rule, the class and the member.
+pub type MainCase = (&'static str, &'static str, &'static str, &'static str, &'static str);
+
+pub const MAINS: [MainCase; 15] = [
+    ("nothing", "", "", "return", "none"),
+    ("a class of the base", "class Pet, is SOMObject, new age long, body long give", "", "new:Pet call:Pet:age:0 print long var:long local:0 print", "none"),
+    ("an own class", "", "class Dog, is SOMObject, new go void, body return", "new:?Dog call:?Dog:go:0 do", "none"),
+    ("self", "", "class Dog, is SOMObject", "self free", "20 main -"),
+    ("a variable", "", "class Dog, is SOMObject, var x long", "field:0 print", "16 main -"),
+    ("an assignment to a variable", "", "class Dog, is SOMObject, var x long", "long put:0", "16 main -"),
+    ("a parent", "", "class Dog, is SOMObject", "parent:0:SOMObject:somInit:0 do", "16 main -"),
+    ("parents", "", "class Dog, is SOMObject", "parents:SOMObject:somInit:0 do", "20 main -"),
+    ("arguments of parents", "", "class Dog, is SOMObject", "long parents:SOMObject:somInit:1 do", "18 main -"),
+    ("a value that is answered", "", "", "long give", "19 main -"),
+    ("a local after its block", "", "", "true { long var:long } { } if local:0 print", "16 main -"),
+    ("a body before main", "", "class Dog, is SOMObject, new go void, body long give", "local:0 print", "19 Dog go"),
+    ("an override before main", "", "class Dog, is SOMObject, over SOMObject somInit long give", "local:0 print", "19 Dog somInit"),
+    ("a lower rule", "", "class Dog, is SOMObject, new go void", "local:0 print", "14 Dog -"),
+    ("bodies of the base", "class Pet, is SOMObject, new age void, body long give", "class Dog, is Pet, new go void, body self call:Pet:age:0 do", "new:?Dog free", "none"),
+];

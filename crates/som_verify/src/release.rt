@@ -1,7 +1,11 @@
-ghost use Rattle.som_model.specs.Conforming.{declared_breach};
+ghost use Rattle.som_model.specs.Conforming.{ReleaseOk, release_breach};
 ghost use Rattle.som_verify.specs.Faces.{faces_breach};
 ghost use Rattle.som_verify.specs.Told.{Tells, of_release};
+ghost use Rattle.som_verify.specs.declared.types.Broken.{Broken as Breach};
+ghost use Rattle.som_verify.specs.declared.types.VerifyFault.TheVariants as faults;
+ghost use Rattle.std.specs.Prelude.{◌≡◌, Err, IfOk};
 
+use crate::blocks::blocks_typed;
 use crate::classes::{classes_hold, declare};
 use crate::rules::rules_hold;
 use crate::types::VerifyFault;
@@ -17,10 +21,21 @@ pub fn faces_ok(alloc: Global, classes: &[ClassDecl]) -> Result<(), VerifyFault>
     classes_hold(alloc, &declared, 0)
 }
 
-pub(crate) fn declared_ok(alloc: Global, release: &Release) -> Result<(), VerifyFault>
-    ensures { Tells (declared_breach release.now) result }
+/// Whether a release conforms, and else the first rule that it breaks, with its class and member.
+pub fn release_ok(alloc: Global, release: &Release) -> Result<(), VerifyFault>
+    ensures tells { Tells (release_breach release.now) result }
+    ensures conforms { IfOk result (λ _. ReleaseOk release.now) }
+    ensures refuses { (b : Breach) → result ≡ Err (faults.Rule b) → ReleaseOk release.now → ⊥ }
+{
+    all_rules_hold(alloc, release)
+}
+
+fn all_rules_hold(alloc: Global, release: &Release) -> Result<(), VerifyFault>
+    ensures { Tells (release_breach release.now) result }
 {
     let mut declared = Vec::new(alloc);
     declare(&mut declared, Module::Library, release.classes.as_slice())?;
-    rules_hold(alloc, &declared, 0)
+    let declared = declared.as_slice();
+    rules_hold(alloc, declared, 0)?;
+    blocks_typed(alloc, declared, 0)
 }

@@ -23,6 +23,9 @@ pub const KERNEL_CLASSES: usize = 4;
 /// The place of the class of classes.
 pub const SOM_CLASS: usize = 1;
 
+/// The place of the class of the class manager.
+pub const SOM_CLASS_MGR: usize = 2;
+
 /// The names of the kernel's classes and of these, in order, if no two are one.
 pub fn class_names<'a>(
     alloc: Global,

@@ -1,8 +1,10 @@
 use crate::cases::CASES;
+use crate::code_words::code;
 use crate::descent::{ancestor_lists, is_listed};
-use crate::program::program_rules;
-use crate::program_cases::PROGRAMS;
-use crate::release::{declared_ok, faces_ok};
+use crate::program::{program_ok, program_rules};
+use crate::program_cases::{MAINS, PROGRAMS};
+use crate::release::{faces_ok, release_ok};
+use crate::typed_cases::{BODIES, PETS, RELEASES};
 use crate::types::VerifyFault;
 use som_model::{
     Block, Body, ClassDecl, ClassFace, ClassKey, ClientProgram, Entry, Expr, Interface, List,
@@ -14,12 +16,12 @@ use std::test::Fail;
 /// What a release is about, its classes in short, and the rule, the class and the member of its first breach.
 pub type Case = (&'static str, &'static str, &'static str);
 
-fn text(alloc: Global, name: &str) -> Result<Text, NoMemory> {
+pub fn text(alloc: Global, name: &str) -> Result<Text, NoMemory> {
     Text::from_slice(alloc, name.as_bytes())
 }
 
 // Names that begin with SOM are the kernel's, with `?` the client's, and with `!` the library's.
-fn key(alloc: Global, name: &str) -> Result<ClassKey, NoMemory> {
+pub fn key(alloc: Global, name: &str) -> Result<ClassKey, NoMemory> {
     let (module, name) = if let Some(rest) = name.strip_prefix("?") {
         (Module::Client, rest)
     } else if let Some(rest) = name.strip_prefix("!") {
@@ -35,10 +37,11 @@ fn key(alloc: Global, name: &str) -> Result<ClassKey, NoMemory> {
     })
 }
 
-fn kind(alloc: Global, name: &str) -> Result<ValueType, NoMemory> {
+pub fn kind(alloc: Global, name: &str) -> Result<ValueType, NoMemory> {
     match name {
         "void" => Ok(ValueType::Void),
         "long" => Ok(ValueType::Long),
+        "boolean" => Ok(ValueType::Boolean),
         "string" => Ok(ValueType::Str),
         _ => Ok(ValueType::Class(key(alloc, name)?)),
     }
@@ -59,13 +62,10 @@ fn introduced(alloc: Global, name: &str, answer: &str, kinds: &[&str]) -> Result
     })
 }
 
-fn overriding(alloc: Global, of: &str, name: &str) -> Result<Override, NoMemory> {
-    Ok(Override {
-        method: MethodRef {
-            class: key(alloc, of)?,
-            name: text(alloc, name)?,
-        },
-        block: printing_block(alloc)?,
+pub(crate) fn method(alloc: Global, of: &str, name: &str) -> Result<MethodRef, NoMemory> {
+    Ok(MethodRef {
+        class: key(alloc, of)?,
+        name: text(alloc, name)?,
     })
 }
 
@@ -93,7 +93,7 @@ fn empty_class(alloc: Global) -> Result<ClassDecl, NoMemory> {
     })
 }
 
-fn words<'a>(alloc: Global, line: &'a str, by: &str) -> Result<Vec<&'a str>, NoMemory> {
+pub fn words<'a>(alloc: Global, line: &'a str, by: &str) -> Result<Vec<&'a str>, NoMemory> {
     let mut words = Vec::new(alloc);
     for word in line.split(by) {
         words.push(word)?;
@@ -125,13 +125,21 @@ fn add(alloc: Global, class: &mut ClassDecl, words: &[&str]) -> Result<(), Fail>
         ["get", "0"] => class.bodies.push(Body::Get(0))?,
         ["set", "0"] => class.bodies.push(Body::Set(0))?,
         ["set", "1"] => class.bodies.push(Body::Set(1))?,
-        ["over", of, name] => class.overrides.push(overriding(alloc, of, name)?)?,
+        ["body", block @ ..] => class.bodies.push(Body::User(code(alloc, block)?))?,
+        ["over", of, name] => class.overrides.push(Override {
+            method: method(alloc, of, name)?,
+            block: printing_block(alloc)?,
+        })?,
+        ["over", of, name, block @ ..] => class.overrides.push(Override {
+            method: method(alloc, of, name)?,
+            block: code(alloc, block)?,
+        })?,
         _ => return Err(Fail::from("an item")),
     }
     Ok(())
 }
 
-fn release(alloc: Global, short: &str) -> Result<Release, Fail> {
+pub fn release(alloc: Global, short: &str) -> Result<Release, Fail> {
     let mut classes = List::new(alloc);
     if !short.is_empty() {
         for line in &words(alloc, short, "; ")? {
@@ -160,7 +168,7 @@ fn told(alloc: Global, answer: Result<(), VerifyFault>) -> Result<String, Fail> 
 
 fn first_breach(alloc: Global, short: &str) -> Result<String, Fail> {
     let release = release(alloc, short)?;
-    told(alloc, declared_ok(alloc, &release))
+    told(alloc, release_ok(alloc, &release))
 }
 
 #[test]
@@ -173,8 +181,38 @@ fn the_first_breach_is_told(rt: HostRuntime) -> Result<(), Fail> {
     Ok(())
 }
 
+// What the body of a method of Dog breaks, by the types of the method.
+fn broken_by(alloc: Global, types: &str, block: &str) -> Result<String, Fail> {
+    let short = format!(in alloc; "{PETS}; class Dog, is Pet, var mate Pet, new go {types}, body {block}")?;
+    first_breach(alloc, short.as_str())
+}
+
+#[test]
+fn bodies_are_typed(rt: HostRuntime) -> Result<(), Fail> {
+    let alloc = rt.alloc();
+    for cases in BODIES {
+        for (what, types, block, rule) in cases {
+            let want = match *rule {
+                "none" => format!(in alloc; "none")?,
+                rule => format!(in alloc; "{rule} Dog go")?,
+            };
+            let told = broken_by(alloc, types, block)?;
+            assert_eq!(rt; told.as_str(), want.as_str(), "{what}");
+        }
+    }
+    Ok(())
+}
+
+#[test]
+fn bodies_are_typed_in_order(rt: HostRuntime) -> Result<(), Fail> {
+    for (what, short, want) in &RELEASES {
+        assert_eq!(rt; first_breach(rt.alloc(), short)?.as_str(), *want, "{what}");
+    }
+    Ok(())
+}
+
 // The client of these classes that was compiled against these faces.
-fn program(alloc: Global, base: &str, own: &str) -> Result<ClientProgram, Fail> {
+fn program(alloc: Global, base: &str, own: &str, main: &str) -> Result<ClientProgram, Fail> {
     let library = release(alloc, base)?;
     let mut faces = List::new(alloc);
     for class in library.classes.as_slice() {
@@ -184,17 +222,25 @@ fn program(alloc: Global, base: &str, own: &str) -> Result<ClientProgram, Fail> 
     Ok(ClientProgram {
         base: Interface { classes: faces },
         classes,
-        main: Block {
-            statements: List::new(alloc),
-        },
+        main: code(alloc, &words(alloc, main, " ")?)?,
     })
 }
 
 #[test]
 fn the_first_breach_of_a_program_is_told(rt: HostRuntime) -> Result<(), Fail> {
     for (what, base, own, want) in &PROGRAMS {
-        let program = program(rt.alloc(), base, own)?;
+        let program = program(rt.alloc(), base, own, "return")?;
         let breach = told(rt.alloc(), program_rules(rt.alloc(), &program))?;
+        assert_eq!(rt; breach.as_str(), *want, "{what}");
+    }
+    Ok(())
+}
+
+#[test]
+fn mains_are_typed(rt: HostRuntime) -> Result<(), Fail> {
+    for (what, base, own, main, want) in &MAINS {
+        let program = program(rt.alloc(), base, own, main)?;
+        let breach = told(rt.alloc(), program_ok(rt.alloc(), &program))?;
         assert_eq!(rt; breach.as_str(), *want, "{what}");
     }
     Ok(())
