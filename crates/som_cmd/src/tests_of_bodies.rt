@@ -22,8 +22,7 @@ const SHOWS: &[u8] = b"\0\0\0\0\x02\x04\x22\x01\0\0\0\x01\x08\x26\0\0\0\0\0\
 
 const TWO: [&[u8]; 4] = [ONE_CLASS, FACE_OF_TWO, COUNTS, SHOWS];
 
-const LINES: &[u8] =
-    b"library 1\nclass A 1.0 : SOMObject\n  0 long add(long)\n  1 void show()\n";
+const LINES: &[u8] = b"library 1\nclass A 1.0 : SOMObject\n  0 long add(long)\n  1 void show()\n";
 
 // The status of showing these bytes.
 fn show_status(alloc: Global, image: &[u8], printed: &[u8]) -> Result<u8, Fail> {
@@ -37,7 +36,10 @@ fn a_library_of_whole_bodies_is_taken(rt: HostRuntime) -> Result<(), Fail> {
     let alloc = rt.alloc();
     let image = joined(alloc, &TWO)?;
     assert_eq!(rt; show_status(alloc, image.as_slice(), LINES)?, 0);
-    assert_eq!(rt; written_again(alloc, image.as_slice())?.as_slice(), image.as_slice());
+    assert_eq!(rt;
+        written_again(alloc, image.as_slice())?.as_slice(),
+        image.as_slice()
+    );
     let mut store = MemStore::new(alloc);
     put(alloc, &mut store, b"a", image.as_slice())?;
     let words: [&[u8]; 3] = [b"check", b"a", b"a"];
@@ -55,15 +57,27 @@ const BROKEN: [(&[u8], &str, &str); 7] = [
     // prints nil
     (b"\0\0\0\0\0\x01\x08\x23\0\0", "S17", "f"),
     // calls f with an argument
-    (b"\0\0\0\0\0\x01\x0a\x2f\0\x04\0\0\x25\x01\x22\x01\0\0", "S18", "f"),
+    (
+        b"\0\0\0\0\0\x01\x0a\x2f\0\x04\0\0\x25\x01\x22\x01\0\0",
+        "S18",
+        "f",
+    ),
     // returns a value
     (b"\0\0\0\0\0\x01\x07\x22\x01\0\0", "S19", "f"),
     // prints what f answers
     (b"\0\0\0\0\0\x01\x08\x2f\0\x04\0\0\x25\0\0\0", "S20", "f"),
     // the override of somInit returns a value, after a body that breaks nothing
-    (b"\0\0\0\0\0\0\0\x01\0\0\0\0\0\0\0\x01\x07\x22\x01", "S19", "somInit"),
+    (
+        b"\0\0\0\0\0\0\0\x01\0\0\0\0\0\0\0\x01\x07\x22\x01",
+        "S19",
+        "somInit",
+    ),
     // the first of two bodies counts, though the second breaks a lower rule
-    (b"\0\0\0\0\0\x01\x07\x22\x01\0\x01\0\0\0\0\0\0\0\x01\x08\x23", "S19", "f"),
+    (
+        b"\0\0\0\0\0\x01\x07\x22\x01\0\x01\0\0\0\0\0\0\0\x01\x08\x23",
+        "S19",
+        "f",
+    ),
 ];
 
 #[test]
