@@ -9,6 +9,7 @@ use Rattle.som_model.specs.Conforming.{ReleaseOk, release_breach}
 use Rattle.som_model.specs.Steps.{◌>>=◌}
 use Rattle.som_wire.specs.declared.fault.ImageFault.{ImageFault}
 use Rattle.som_libimage.specs.Libraries.{library_at}
+use Rattle.som_verify.proofs.Conforming.{conforms_release, release_conforms}
 use Rattle.som_cmd.specs.declared.output.End.TheVariants as the_end
 use Rattle.som_cmd.specs.declared.stop.Refusal.{Refusal}
 use Rattle.som_cmd.specs.declared.stop.Stop.{Stop}
@@ -20,7 +21,7 @@ use Rattle.som_cmd.specs.CheckAnswer.{IsCheckAnswer, image_absent, image_unread,
 use Rattle.som_cmd.specs.Answer.{checks}
 use Rattle.som_cmd.specs.CheckSteps.{accepted_or, line_checked}
 use Rattle.som_cmd.specs.Steps.{Stops, Follows, FollowsTold, Answers, AnswersTold}
-use Rattle.som_cmd.proofs.ShowLaws.{read_conforms, stops_first}
+use Rattle.som_cmd.proofs.ShowLaws.{stops_first}
 
 -- ---- what is read, and what conforms
 
@@ -61,7 +62,7 @@ all_conform (n ∷ ns) (b ∷ bs) (s ∷ rs) e x kept r m =
     let read : library_at b ≡ Ok s = read_by n (library_at b) one.0 one.1 ∙ ap (λ (y : Release). Ok y) (same_head one.0 s others.0 rs others.2) in
     let tail : releases_in ns bs ≡ Ok rs = others.1 ∙ ap (λ (l : List Release). Ok l) (same_tail one.0 s others.0 rs others.2) in
     elim m as (λ _. ReleaseOk r) [
-      | inl is ↦ subst (λ (y : Release). ReleaseOk y) (sym is) (read_conforms b s read (kept_by n (release_breach s) rules.0 rules.1))
+      | inl is ↦ subst (λ (y : Release). ReleaseOk y) (sym is) (release_conforms s (kept_by n (release_breach s) rules.0 rules.1))
       | inr more ↦ all_conform ns bs rs tail x rules.2 r more
     ]
 
@@ -69,7 +70,7 @@ all_conform (n ∷ ns) (b ∷ bs) (s ∷ rs) e x kept r m =
 pub all_kept : (names : List (List ℕ)) (rs : List Release) → AllConform rs → all_rules_kept names rs ≡ Ok tt
 all_kept [] rs ok = refl
 all_kept (n ∷ ns) [] ok = refl
-all_kept (n ∷ ns) (r ∷ rs) ok = ap (λ (o : Option Breach). kept_or n o >>= λ kept. all_rules_kept ns rs) (ok r (inl refl)).rules ∙ all_kept ns rs (λ s m. ok s (inr m))
+all_kept (n ∷ ns) (r ∷ rs) ok = ap (λ (o : Option Breach). kept_or n o >>= λ kept. all_rules_kept ns rs) (conforms_release r (ok r (inl refl))) ∙ all_kept ns rs (λ s m. ok s (inr m))
 
 -- ---- the ending that checking images comes to
 

@@ -18,8 +18,7 @@ use Rattle.som_model.specs.Class.{Class, class_in, bare, entry_name}
 use Rattle.som_model.specs.Kernel.{kernel}
 use Rattle.som_model.specs.Classes.{interface_classes, is_a}
 use Rattle.som_model.specs.Rules.{Breach, s1, s5, s6}
-use Rattle.som_model.specs.Typing.{AreTyped, no_more, and_then}
-use Rattle.som_model.specs.Conforming.{ProgramOk, program_breach, first_of_names, first_of_members, each_after}
+use Rattle.som_model.specs.Conforming.{ProgramOk, all_of_program, declared_program_breach, first_of_names, first_of_members, each_after}
 use Rattle.som_model.specs.Images.{client_image}
 use Rattle.som_libimage.specs.Libraries.{NamesDiffer}
 use Rattle.som_libimage.proofs.Conforming.{faces_names, neither_is, none_first}
@@ -33,7 +32,8 @@ use Rattle.som_first.specs.declared.calls.CallPlace.{CallPlace}
 use Rattle.som_first.specs.declared.unread.Unread.{Unread}
 use Rattle.som_first.specs.declared.unread.Unread.TheVariants as unread
 use Rattle.som_first.specs.FirstImages.{library_key, face_of, call_of, program_of, plain_entry, IsFirstClient}
-use Rattle.som_first.proofs.CallsDecided.{faced, IsPlaced, typed_below, below_typed}
+use Rattle.som_first.proofs.PlacedCalls.{faced, IsPlaced, below_typed}
+use Rattle.som_first.proofs.TypedCalls.{TypedCalls, typed_kept, kept_typed}
 use Rattle.som_firstclient.specs.declared.image.ClientImage.{ClientImage}
 use Rattle.som_firstclient.specs.Clients.{class_name, call_named, program_named, IsOfLibrary, CallFits, FitsClient, AnswersProgram}
 use Rattle.som_cmd.specs.Taking.{IsNone, descends_in, ConformsAsFirst, ClientTells}
@@ -52,7 +52,7 @@ bare_are (f ∷ faces) = ap (λ (l : List Class). class_in modules.Library (bare
 abbrev breach_by : List Class → List Breach → List Class → Option Breach → Option Breach
 breach_by names types members bodies = or_else (first_of_names kernel names) (or_else (first types) (or_else (first_of_members kernel members) bodies))
 
-pub program_faces : (i : ClientImage) → program_breach (program_named i) ≡ faces_breach (of_release (map bare i.base.classes))
+pub program_faces : (i : ClientImage) → declared_program_breach (program_named i) ≡ faces_breach (of_release (map bare i.base.classes))
 program_faces i =
     let base = interface_classes i.base in
     let types = flat_map (s5 (kernel ++ base)) base in
@@ -185,8 +185,8 @@ descends_is fs at fits =
     ∙ ap (λ (cs : List Class). is_a cs (library_key (class_name faces at.object)) (library_key (class_name faces at.class))) (all_bare faces)
 
 module _ (fs : List FirstFace) (once : each_after s1 kernel (interface_classes (record { classes = map face_of fs })) ≡ []) where
-  abbrev pub statement : CallPlace → Stmt
-  statement at = call_of (call_named (map face_of fs) at)
+  abbrev pub named : CallPlace → FirstCall
+  named at = call_named (map face_of fs) at
 
   both_hold : (b c : Bool) → b ≡ true → c ≡ true → (if b then c else false) ≡ true
   both_hold true c e f = f
@@ -197,17 +197,17 @@ module _ (fs : List FirstFace) (once : each_after s1 kernel (interface_classes (
   one_holds false c e = absurd (true≢false (sym e))
 
   -- calls whose objects descend from their methods' classes are well typed, and no others
-  pub typed_where : (ats : List CallPlace) → AllByRecursion (CallFits (map face_of fs)) ats → every (descends_in (map bare (map face_of fs))) ats ≡ true → AreTyped (faced fs) (map statement ats)
-  typed_where [] fit e = no_more
+  pub typed_where : (ats : List CallPlace) → AllByRecursion (CallFits (map face_of fs)) ats → every (descends_in (map bare (map face_of fs))) ats ≡ true → TypedCalls (faced fs) (map named ats)
+  typed_where [] fit e = tt
   typed_where (at ∷ ats) fit e =
       let p = one_holds (descends_in (map bare (map face_of fs)) at) (every (descends_in (map bare (map face_of fs))) ats) e in
-      and_then (statement at) (map statement ats) (below_typed fs once (call_named (map face_of fs) at) (placed fs at fit.0) (sym (descends_is fs at fit.0) ∙ p.0)) (typed_where ats fit.1 p.1)
+      (below_typed fs once (named at) (placed fs at fit.0) (sym (descends_is fs at fit.0) ∙ p.0), typed_where ats fit.1 p.1)
 
-  pub where_typed : (ats : List CallPlace) → AllByRecursion (CallFits (map face_of fs)) ats → AreTyped (faced fs) (map statement ats) → every (descends_in (map bare (map face_of fs))) ats ≡ true
+  pub where_typed : (ats : List CallPlace) → AllByRecursion (CallFits (map face_of fs)) ats → TypedCalls (faced fs) (map named ats) → every (descends_in (map bare (map face_of fs))) ats ≡ true
   where_typed [] fit typed = refl
-  where_typed (at ∷ ats) fit (and_then s ss one more) =
+  where_typed (at ∷ ats) fit typed =
       both_hold (descends_in (map bare (map face_of fs)) at) (every (descends_in (map bare (map face_of fs))) ats)
-      (descends_is fs at fit.0 ∙ typed_below fs once (call_named (map face_of fs) at) (placed fs at fit.0) one) (where_typed ats fit.1 more)
+      (descends_is fs at fit.0 ∙ typed.0.below) (where_typed ats fit.1 typed.1)
 
 -- ---- a client image that is read
 
@@ -232,6 +232,22 @@ program_is fs ats = ap (with_main (record { classes = map face_of fs })) (calls_
 no_classes : (fs : List FirstFace) → faced fs ≡ kernel ++ interface_classes (record { classes = map face_of fs }) ++ []
 no_classes fs = ap (λ (l : List Class). kernel ++ l) (sym (append-nil (interface_classes (record { classes = map face_of fs }))))
 
+-- a client of first faces conforms where these hold and its calls are well typed
+calls_conform : (fs : List FirstFace) (ats : List CallPlace) → faces_breach (of_release (map bare (map face_of fs))) ≡ None → TypedCalls (faced fs) (first_program fs ats).calls → ProgramOk (program_named (image_of fs ats))
+calls_conform fs ats none typed =
+    let p = program_of (first_program fs ats) in
+    subst (λ (x : ClientProgram). ProgramOk x) (sym (program_is fs ats)) (record {
+      rules = program_faces (image_of fs ats) ∙ none;
+      blocks = typed_kept (all_of_program p) (first_program fs ats).calls (subst (λ (cs : List Class). TypedCalls cs (first_program fs ats).calls) (no_classes fs) typed);
+    })
+
+-- and its calls are well typed where it conforms
+conforms_calls : (fs : List FirstFace) (ats : List CallPlace) → ProgramOk (program_named (image_of fs ats)) → TypedCalls (faced fs) (first_program fs ats).calls
+conforms_calls fs ats ok =
+    let p = program_of (first_program fs ats) in
+    let there : ProgramOk p = subst (λ (x : ClientProgram). ProgramOk x) (program_is fs ats) ok in
+    subst (λ (cs : List Class). TypedCalls cs (first_program fs ats).calls) (sym (no_classes fs)) (kept_typed (all_of_program p) (first_program fs ats).calls there.blocks)
+
 first_tells : (fs : List FirstFace) (ats : List CallPlace) → FitsClient (image_of fs ats) → faces_breach (of_release (map bare (map face_of fs))) ≡ None → (told : Bool) → told ≡ every (descends_in (map bare (map face_of fs))) ats
     → ClientTells (image_of fs ats) told
 first_tells fs ats fits none true e =
@@ -239,16 +255,11 @@ first_tells fs ats fits none true e =
     record {
       first = first_program fs ats;
       is = program_is fs ats;
-      conforms = record {
-        rules = program_faces (image_of fs ats) ∙ none;
-        blocks = λ b m. absurd m;
-        main = subst (λ (cs : List Class). AreTyped cs (map (statement fs differ.once) ats)) (no_classes fs) (typed_where fs differ.once ats (recursion_from_All (CallFits (map face_of fs)) ats fits.calls) (sym e));
-      };
+      conforms = calls_conform fs ats none (typed_where fs differ.once ats (recursion_from_All (CallFits (map face_of fs)) ats fits.calls) (sym e));
     }
 first_tells fs ats fits none false e =
     let differ = faces_differ (map face_of fs) none in
-    λ ok. true≢false (sym (where_typed fs differ.once ats (recursion_from_All (CallFits (map face_of fs)) ats fits.calls)
-    (subst (λ (cs : List Class). AreTyped cs (map (statement fs differ.once) ats)) (sym (no_classes fs)) ok.conforms.main)) ∙ sym e)
+    λ ok. true≢false (sym (where_typed fs differ.once ats (recursion_from_All (CallFits (map face_of fs)) ats fits.calls) (conforms_calls fs ats ok.conforms)) ∙ sym e)
 
 -- whether a client of first faces conforms
 pub client_tells : (i : ClientImage) (fs : List FirstFace) (faces : List ClassFace) (ds : List ClassDecl) → map face_of fs ≡ faces → faces ≡ i.base.classes → ds ≡ map bare faces → FitsClient i → faces_breach (of_release ds) ≡ None

@@ -126,7 +126,7 @@ shows_by asked None status new_files old new r e m = absurd (none_told m.told m.
 shows_by asked (Some before) status new_files old new r e m =
     let same : before ≡ m.told = some_told before m.told m.files_are in
     let is : IsAnswer m.told asked (showing m.told r) = subst (λ (a : Asked). IsAnswer m.told a (showing m.told r)) (sym m.asked_is)
-    (shows m.name m.bytes r m.image_is (library_again m.bytes m.bytes_are r m.spelled m.prints) m.conforms) in
+    (shows m.name m.bytes r m.image_is (library_again m.bytes m.bytes_are r m.spelled m.within) m.conforms) in
     let answer = subst (λ (x : Files). IsAnswer x asked (showing x r)) (sym same) is in
     record { text = text_of asked before status new_files old new e (showing before r) answer; status_is = status_is asked before status new_files old new e (showing before r) answer }
 

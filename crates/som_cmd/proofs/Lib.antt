@@ -1,4 +1,4 @@
-mod FirstTexts
+mod FirstLimits
 mod LibraryLaws
 mod FuelLaws
 mod ClientLaws

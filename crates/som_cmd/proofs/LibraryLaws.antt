@@ -4,36 +4,34 @@ use Rattle.som_model.specs.declared.program.Release.{Release}
 use Rattle.som_model.specs.Bytes.{AreBytes}
 use Rattle.som_model.specs.Conforming.{ReleaseOk}
 use Rattle.som_model.specs.Images.{library_image}
-use Rattle.som_libimage.specs.Libraries.{PrintTexts}
+use Rattle.som_libimage.specs.Limits.{IsWithinLimits}
 use Rattle.som_libimage.proofs.Conforming.{conforming_names}
-use Rattle.som_verify.specs.Printing as verify
 use Rattle.som_first.specs.declared.classes.FirstRelease.{FirstRelease}
 use Rattle.som_first.specs.declared.unread.Unread.{Unread}
 use Rattle.som_first.specs.declared.unread.Unread.TheVariants as unread
 use Rattle.som_first.specs.FirstImages.{release_of, IsFirstLibrary}
 use Rattle.som_cmd.specs.Taking.{IsNone, Decodes}
-use Rattle.som_cmd.proofs.FirstTexts.{prints_in_images, prints_by_rules}
+use Rattle.som_cmd.proofs.FirstLimits.{first_limits}
 
--- a first release prints texts
-pub first_prints : (bytes : List ℕ) (r : Release) → IsFirstLibrary bytes r → PrintTexts r
-first_prints bytes r is = subst (λ (x : Release). PrintTexts x) (sym is.form.1) (prints_in_images is.form.0)
-
-pub form_prints : (f : FirstRelease) (r : Release) → release_of f ≡ r → verify.PrintTexts r
-form_prints f r e = subst (λ (x : Release). verify.PrintTexts x) e (prints_by_rules f)
+-- what has a first image is within the limits
+pub first_within : (bytes : List ℕ) (r : Release) → IsFirstLibrary bytes r → IsWithinLimits r
+first_within bytes r is =
+    let f = is.form in
+    subst (λ (x : Release). IsWithinLimits x) (sym f.1) (first_limits f.0 bytes (ap library_image (sym f.1) ∙ is.spelled))
 
 -- bytes that aren't decoded are no first image
 pub none_decoded : (bytes : List ℕ) (u : Unread) → Decodes bytes (Err u) → IsNone IsFirstLibrary bytes u
-none_decoded bytes unread.OtherForm d = λ r is. d r is.spelled (first_prints bytes r is)
+none_decoded bytes unread.OtherForm d = λ r is. d r is.spelled (first_within bytes r is)
 none_decoded bytes unread.NoMemory d = tt
 
 -- a release of another form is none
 pub none_formed : (bytes : List ℕ) (r : Release) (u : Unread) → Decodes bytes (Ok r) → (u ≡ unread.OtherForm → (f : FirstRelease) → release_of f ≡ r → ⊥) → IsNone IsFirstLibrary bytes u
-none_formed bytes r unread.OtherForm d other = λ s is. other refl is.form.0 (sym is.form.1 ∙ d.1 s is.spelled (first_prints bytes s is))
+none_formed bytes r unread.OtherForm d other = λ s is. other refl is.form.0 (sym is.form.1 ∙ d.1 s is.spelled (first_within bytes s is))
 none_formed bytes r unread.NoMemory d other = tt
 
 -- nor is one that breaks a rule
 pub none_conforming : (bytes : List ℕ) (r : Release) → Decodes bytes (Ok r) → (ReleaseOk r → ⊥) → (s : Release) → IsFirstLibrary bytes s → ⊥
-none_conforming bytes r d breaks s is = breaks (subst (λ (x : Release). ReleaseOk x) (d.1 s is.spelled (first_prints bytes s is)) is.conforms)
+none_conforming bytes r d breaks s is = breaks (subst (λ (x : Release). ReleaseOk x) (d.1 s is.spelled (first_within bytes s is)) is.conforms)
 
 -- the release that is taken
 pub taken : (bytes : List ℕ) → AreBytes bytes → (r : Release) (f : FirstRelease) → Decodes bytes (Ok r) → release_of f ≡ r → ReleaseOk r → IsFirstLibrary bytes r

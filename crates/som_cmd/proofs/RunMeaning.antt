@@ -10,8 +10,7 @@ use Rattle.som_model.specs.declared.program.ClientProgram.{ClientProgram}
 use Rattle.som_model.specs.Class.{Class, interface_of}
 use Rattle.som_model.specs.Kernel.{kernel}
 use Rattle.som_model.specs.Classes.{interface_classes, is_a}
-use Rattle.som_model.specs.Conforming.{ReleaseOk, ProgramOk}
-use Rattle.som_model.specs.Typing.{AreTyped, and_then}
+use Rattle.som_model.specs.Conforming.{ReleaseOk, ProgramOk, all_of_program}
 use Rattle.som_model.specs.State.{Event, Printed, Called, Ran, Goes, Ends, Spent, Faulted}
 use Rattle.som_model.specs.Means.{means}
 use Rattle.som_first.specs.declared.calls.CallPlace.{CallPlace}
@@ -22,12 +21,12 @@ use Rattle.som_first.specs.declared.classes.FirstRelease.{FirstRelease}
 use Rattle.som_first.specs.declared.classes.FirstFace.{FirstFace}
 use Rattle.som_first.specs.declared.classes.FirstCall.{FirstCall}
 use Rattle.som_first.specs.declared.classes.FirstProgram.{FirstProgram}
-use Rattle.som_first.specs.FirstImages.{library_key, face_of, seen, release_of, program_of, call_of}
+use Rattle.som_first.specs.FirstImages.{library_key, face_of, seen, release_of, program_of}
 use Rattle.som_first.specs.FirstRuns.{AllPrint, RunPrints, prints, lines, lasting, lasts}
 use Rattle.som_first.specs.Linking.{CallIs, AreCalls, all_of}
 use Rattle.som_first.proofs.FirstClasses.{classes_are}
 use Rattle.som_first.proofs.SameFaces.{face_only, is_a_faces, faces_are}
-use Rattle.som_first.proofs.CallsDecided.{typed_call}
+use Rattle.som_first.proofs.TypedCalls.{TypedCalls, kept_typed}
 use Rattle.som_first.proofs.FirstMeans.{means_prints}
 use Rattle.som_first.proofs.FirstAnswered.{all_answered}
 use Rattle.som_firstclient.specs.declared.image.ClientImage.{ClientImage}
@@ -92,14 +91,14 @@ module _ (cs : List FirstClass) where
       }
 
   -- calls that are well typed among the faces
-  calls_by : (known_faces : List Class) → known_faces ≡ map face_only (all_of cs) → (ats : List CallPlace) → AllByRecursion (CallFits faces) ats → AreTyped known_faces (map (λ at. call_of (call_named faces at)) ats)
+  calls_by : (known_faces : List Class) → known_faces ≡ map face_only (all_of cs) → (ats : List CallPlace) → AllByRecursion (CallFits faces) ats → TypedCalls known_faces (map (call_named faces) ats)
       → AreCalls cs ats (map (call_named faces) ats)
   calls_by known_faces same [] fit typed = tt
-  calls_by known_faces same (at ∷ ats) fit (and_then s ss one more) =
+  calls_by known_faces same (at ∷ ats) fit typed =
       let call = call_named faces at in
       let below : is_a (all_of cs) (library_key call.object) (library_key call.class) ≡ true =
-      sym (is_a_faces (all_of cs) (library_key call.object) (library_key call.class)) ∙ ap (λ (l : List Class). is_a l (library_key call.object) (library_key call.class)) (sym same) ∙ (typed_call known_faces call one).2 in
-      (call_is at fit.0 below, calls_by known_faces same ats fit.1 more)
+      sym (is_a_faces (all_of cs) (library_key call.object) (library_key call.class)) ∙ ap (λ (l : List Class). is_a l (library_key call.object) (library_key call.class)) (sym same) ∙ typed.0.below in
+      (call_is at fit.0 below, calls_by known_faces same ats fit.1 typed.1)
 
 -- ---- the client among the classes of the library
 
@@ -121,12 +120,16 @@ module _ (r : FirstRelease) (ok : ReleaseOk (release_of r)) (ats : List CallPlac
   faces_known = ap (λ (l : List ClassFace). kernel ++ interface_classes (record { classes = l }) ++ []) (sym (faces_seen r.classes)) ∙ faces_are r
 
   module _ (conforms : ProgramOk (program_named client)) (fits : FitsClient client) where
+    program_conforms : ProgramOk (program_of program)
+    program_conforms = subst (λ (p : ClientProgram). ProgramOk p) (program_is (map seen r.classes) ats) conforms
+
     first_calls : AreCalls r.classes ats calls
-    first_calls = calls_by r.classes (kernel ++ interface_classes (record { classes = faces r.classes }) ++ []) faces_known ats (recursion_from_All (CallFits (faces r.classes)) ats fits.calls) conforms.main
+    first_calls =
+        calls_by r.classes (all_of_program (program_of program)) faces_known ats (recursion_from_All (CallFits (faces r.classes)) ats fits.calls) (kept_typed (all_of_program (program_of program)) calls program_conforms.blocks)
 
     first_answered : (texts : List (List ℕ)) × AllPrint (all_of r.classes) calls texts
     first_answered =
-        let a = all_answered r program ok (subst (λ (p : ClientProgram). ProgramOk p) (program_is (map seen r.classes) ats) conforms) base_is in
+        let a = all_answered r program ok program_conforms base_is in
         (a.0, subst (λ (cs : List Class). AllPrint cs calls a.0) (classes_are r program) a.1)
 
     -- what is printed is the meaning

@@ -1,30 +1,15 @@
 -- What the steps of showing an image answer is the ending of what is asked.
-use Rattle.std.proofs.Common.{◌≡◌, ℕ, Bool, true, false, if◌then◌else◌, ◌&&◌, List, [], ◌∷◌, Option, Some, None, Result, Ok, Err, refl, sym, ap, subst, ◌∙◌}
-use Rattle.std.specs.List.{AllByRecursion, concat}
+use Rattle.std.proofs.Common.{◌≡◌, ℕ, List, [], ◌∷◌, Option, Some, None, Result, Ok, Err, refl, sym, ap, subst, ◌∙◌}
+use Rattle.std.specs.List.{concat}
 use Rattle.std.specs.FinMap.{get}
-use Rattle.std.proofs.lemmas.List.Elements.{recursion_from_All}
-use Rattle.som_model.specs.declared.syntax.Stmt.{Stmt}
-use Rattle.som_model.specs.declared.class.Body.{Body}
-use Rattle.som_model.specs.declared.class.Body.TheVariants as bodies
-use Rattle.som_model.specs.declared.class.Override.{Override}
-use Rattle.som_model.specs.declared.class.ClassDecl.{ClassDecl}
 use Rattle.som_model.specs.declared.program.Release.{Release}
 use Rattle.som_model.specs.Bytes.{Files}
-use Rattle.som_model.specs.Lists.{every}
 use Rattle.som_model.specs.Rules.{Breach}
-use Rattle.som_model.specs.Conforming.{ReleaseOk, release_breach}
+use Rattle.som_model.specs.Conforming.{release_breach}
 use Rattle.som_model.specs.Steps.{◌>>=◌}
 use Rattle.som_wire.specs.declared.fault.ImageFault.{ImageFault}
-use Rattle.som_wire.proofs.Parts.{bind_ok}
-use Rattle.som_libimage.specs.declared.wire.WireRelease.{WireRelease}
-use Rattle.som_libimage.specs.Reading.{wire_at}
-use Rattle.som_libimage.specs.Naming.{print_of, release_named}
-use Rattle.som_libimage.specs.Libraries as libimage
 use Rattle.som_libimage.specs.Libraries.{library_at}
-use Rattle.som_libimage.proofs.NamedReleases.{release_prints}
-use Rattle.som_verify.specs.Printing as verify
-use Rattle.som_verify.proofs.Texts.{texts_say}
-use Rattle.som_verify.proofs.Conformity as conformity
+use Rattle.som_verify.proofs.Conforming.{release_conforms}
 use Rattle.som_show.specs.Shown.{shown_lines}
 use Rattle.som_cmd.specs.declared.output.End.TheVariants as the_end
 use Rattle.som_cmd.specs.declared.stop.Refusal.{Refusal}
@@ -34,64 +19,7 @@ use Rattle.som_cmd.specs.Words.{Show}
 use Rattle.som_cmd.specs.Answer.{Ending, IsAnswer, no_image_shown, shown_unread, shown_broken, shows, refusing, absent, unread}
 use Rattle.som_cmd.specs.Steps.{file_of, Stops, Follows, FollowsTold, Answers, AnswersTold}
 use Rattle.som_cmd.specs.ShowSteps.{read_or, kept_or, release_in, rules_kept, lines_shown}
-use Rattle.som_cmd.proofs.FirstTexts.{text_test}
 use Rattle.som_cmd.proofs.RunLaws.{missing_by, found_by}
-
--- ---- blocks that print texts, as images and as the rules have them
-
-abbrev Prints : Stmt → Type 0
-Prints s = (t : List ℕ) × (s ≡ print_of t)
-
-statements_test : (ss : List Stmt) → AllByRecursion Prints ss → every verify.prints ss ≡ true
-statements_test [] p = refl
-statements_test (s ∷ ss) p = ap (λ (b : Bool). if b then every verify.prints ss else false) (ap verify.prints p.0.1 ∙ text_test p.0.0) ∙ statements_test ss p.1
-
-body_test : (b : Body) → libimage.BodyPrints b → verify.body_prints b ≡ true
-body_test (bodies.User b) p = statements_test b.statements (recursion_from_All Prints b.statements p)
-body_test (bodies.Get n) p = refl
-body_test (bodies.Set n) p = refl
-
-bodies_test : (bs : List Body) → AllByRecursion libimage.BodyPrints bs → every verify.body_prints bs ≡ true
-bodies_test [] p = refl
-bodies_test (b ∷ bs) p = ap (λ (x : Bool). if x then every verify.body_prints bs else false) (body_test b p.0) ∙ bodies_test bs p.1
-
-abbrev override_prints : Override → Bool
-override_prints o = verify.block_prints o.block
-
-overrides_test : (os : List Override) → AllByRecursion (λ (o : Override). libimage.PrintsTexts o.block) os → every override_prints os ≡ true
-overrides_test [] p = refl
-overrides_test (o ∷ os) p =
-    ap (λ (x : Bool). if x then every override_prints os else false) (statements_test o.block.statements (recursion_from_All Prints o.block.statements p.0)) ∙ overrides_test os p.1
-
-class_test : (d : ClassDecl) → libimage.ClassPrints d → verify.class_prints d ≡ true
-class_test d p =
-    ap (λ (x : Bool). x && every override_prints d.overrides) (bodies_test d.bodies (recursion_from_All libimage.BodyPrints d.bodies p.bodies))
-    ∙ overrides_test d.overrides (recursion_from_All (λ (o : Override). libimage.PrintsTexts o.block) d.overrides p.overrides)
-
-classes_test : (ds : List ClassDecl) → AllByRecursion libimage.ClassPrints ds → every verify.class_prints ds ≡ true
-classes_test [] p = refl
-classes_test (d ∷ ds) p = ap (λ (x : Bool). if x then every verify.class_prints ds else false) (class_test d p.0) ∙ classes_test ds p.1
-
--- a release of an image prints texts as the rules ask for
-pub prints_texts : (r : Release) → libimage.PrintTexts r → verify.PrintTexts r
-prints_texts r p = texts_say r (classes_test r.classes (recursion_from_All libimage.ClassPrints r.classes p))
-
--- ---- what is read
-
-abbrev read : Release → Result Release ImageFault
-read r = Ok r
-
-same_release : (x y : Release) → read x ≡ read y → x ≡ y
-same_release x y e = cc
-
-texts_read : (bytes : List ℕ) (r : Release) → library_at bytes ≡ Ok r → libimage.PrintTexts r
-texts_read bytes r e =
-    let w = bind_ok (wire_at bytes) (λ (w : WireRelease). read (release_named w)) r e in
-    subst (λ (x : Release). libimage.PrintTexts x) (same_release (release_named w.0) r w.2) (release_prints w.0)
-
--- a release that is read conforms where it breaks no rule
-pub read_conforms : (bytes : List ℕ) (r : Release) → library_at bytes ≡ Ok r → release_breach r ≡ None → ReleaseOk r
-read_conforms bytes r e none = conformity.conforms r (Ok tt) (prints_texts r (texts_read bytes r e)) none
 
 -- ---- the ending that showing an image comes to
 
@@ -106,7 +34,7 @@ abbrev after_reading : List ℕ → Result Release ImageFault → Result (List (
 after_reading n x = read_or n x >>= λ r. rules_kept n r >>= λ kept. Ok (shown_lines r)
 
 rules_answer : (files : Files) (n b : List ℕ) (r : Release) → get files n ≡ Some b → library_at b ≡ Ok r → (o : Option Breach) → release_breach r ≡ o → IsAnswer files (Show n) (shown_ending files (after_rules n r o))
-rules_answer files n b r has e None none = shows n b r has e (read_conforms b r e none)
+rules_answer files n b r has e None none = shows n b r has e (release_conforms r none)
 rules_answer files n b r has e (Some x) is = shown_broken n b r x has e is
 
 reading_answer : (files : Files) (n b : List ℕ) → get files n ≡ Some b → (x : Result Release ImageFault) → library_at b ≡ x → IsAnswer files (Show n) (shown_ending files (after_reading n x))

@@ -14,7 +14,7 @@ use Rattle.som_libimage.specs.Libraries.{library_at}
 use Rattle.som_libimage.proofs.Decoded.{found, library_again}
 use Rattle.som_verify.specs.Faces.{faces_breach}
 use Rattle.som_verify.specs.Told.{of_release}
-use Rattle.som_verify.proofs.Conformity as conformity
+use Rattle.som_verify.proofs.Conforming.{conforms_release, release_conforms}
 use Rattle.som_first.specs.declared.classes.FirstFace.{FirstFace}
 use Rattle.som_first.specs.declared.classes.FirstRelease.{FirstRelease}
 use Rattle.som_first.specs.declared.unread.Unread.{Unread}
@@ -26,7 +26,7 @@ use Rattle.som_firstclient.specs.Clients.{program_named, FitsClient, AnswersProg
 use Rattle.som_firstclient.specs.Reading.{client_at, Reads}
 use Rattle.som_firstclient.proofs.NamedClients.{reads_fitting, reads_found, reads_only}
 use Rattle.som_cmd.specs.Taking.{ConformsAsFirst, ClientTells, descends_in}
-use Rattle.som_cmd.proofs.LibraryLaws.{first_prints, form_prints, taken}
+use Rattle.som_cmd.proofs.LibraryLaws.{first_within, taken}
 use Rattle.som_cmd.proofs.ClientLaws as clients
 use Rattle.som_cmd.proofs.OneAnswer.{Told}
 
@@ -61,7 +61,7 @@ none_some b e = cc
 
 -- what is read is the release of the image
 library_only : (bytes : List ℕ) (r : Release) → IsFirstLibrary bytes r → library_at bytes ≡ Ok r
-library_only bytes r is = library_again bytes is.bytes_are r is.spelled (first_prints bytes r is)
+library_only bytes r is = library_again bytes is.bytes_are r is.spelled (first_within bytes r is)
 
 pub one_library : (bytes : List ℕ) (r s : Release) → IsFirstLibrary bytes r → IsFirstLibrary bytes s → r ≡ s
 one_library bytes r s is_r is_s = ok_once r s (library_at bytes) (library_only bytes r is_r) (library_only bytes s is_s)
@@ -69,10 +69,9 @@ one_library bytes r s is_r is_s = ok_once r s (library_at bytes) (library_only b
 -- a first release conforms, or breaks a rule
 tell_conforming : (bytes : List ℕ) → AreBytes bytes → (r : Release) → library_at bytes ≡ Ok r → (f : FirstRelease) → release_of f ≡ r → (o : Option Breach) → release_breach r ≡ o → Told (IsFirstLibrary bytes)
 tell_conforming bytes all r e f is None none =
-    let ok = conformity.conforms r (Ok tt) (form_prints f r is) none in
-    inl (r, taken bytes all r f (found bytes all (Ok r) e, λ s spelled prints. ok_once s r (library_at bytes) (library_again bytes all s spelled prints) e) is ok)
+    inl (r, taken bytes all r f (found bytes all (Ok r) e, λ s spelled within. ok_once s r (library_at bytes) (library_again bytes all s spelled within) e) is (release_conforms r none))
 tell_conforming bytes all r e f is (Some b) broken =
-    inr (λ s is_s. let same : s ≡ r = ok_once s r (library_at bytes) (library_only bytes s is_s) e in none_some b (sym broken ∙ ap release_breach (sym same) ∙ is_s.conforms.rules))
+    inr (λ s is_s. let same : s ≡ r = ok_once s r (library_at bytes) (library_only bytes s is_s) e in none_some b (sym broken ∙ ap release_breach (sym same) ∙ conforms_release s is_s.conforms))
 
 tell_formed : (bytes : List ℕ) → AreBytes bytes → (r : Release) → library_at bytes ≡ Ok r → ((f : FirstRelease) × (release_of f ≡ r)) ⊎ ((f : FirstRelease) → release_of f ≡ r → ⊥) → Told (IsFirstLibrary bytes)
 tell_formed bytes all r e (inl (f, is)) = tell_conforming bytes all r e f is (release_breach r) refl

@@ -10,8 +10,8 @@ use Rattle.som_model.specs.Means.{means}
 use Rattle.som_model.specs.Compatible.{Accepted, Incompatible}
 use Rattle.som_model.specs.Conforming.{ReleaseOk}
 use Rattle.som_model.specs.Images.{library_image}
-use Rattle.som_libimage.specs.Libraries.{PrintTexts}
 use Rattle.som_order.specs.Names.{name_at}
+use Rattle.som_libimage.specs.Limits.{IsWithinLimits}
 use Rattle.som_show.specs.Shown.{shown_lines}
 use Rattle.som_io.specs.Outside.{Rose, ShowsAll, ShowsFront}
 use Rattle.som_first.specs.FirstImages.{IsFirstLibrary, IsFirstClient}
@@ -68,7 +68,7 @@ pub record RunsAs (p : ClientProgram) (r : Release) (fuel : ℕ) (status : ℕ) 
   pub text : ShowsAll old new (run_text no_trace (means r p fuel))
   pub status_is : status ≡ run_status (means r p fuel)
 
--- an image is to be shown, and the store holds that of the release, which prints texts and conforms
+-- an image is to be shown, and the store holds that of the release, which is within the limits of images and conforms
 pub record IsImageOf (asked : Asked) (files : Option Files) (r : Release) : Type 0 where
   pub told : Files
   pub files_are : files ≡ Some told
@@ -78,7 +78,7 @@ pub record IsImageOf (asked : Asked) (files : Option Files) (r : Release) : Type
   pub image_is : get told name ≡ Some bytes
   pub bytes_are : AreBytes bytes
   pub spelled : library_image r ≡ Some bytes
-  pub prints : PrintTexts r
+  pub within : IsWithinLimits r
   pub conforms : ReleaseOk r
 
 -- what was written shows the release, and the status is 0
@@ -86,13 +86,13 @@ pub record ShowsRelease (r : Release) (status : ℕ) (old new : Option (List ℕ
   pub text : ShowsAll old new (concat (shown_lines r))
   pub status_is : status ≡ 0
 
--- the store holds the image of the release under the name, and the release prints texts and conforms
+-- the store holds the image of the release under the name, and the release is within the limits of images and conforms
 pub record IsUnder (files : Files) (name : List ℕ) (r : Release) : Type 0 where
   pub bytes : List ℕ
   pub image_is : get files name ≡ Some bytes
   pub bytes_are : AreBytes bytes
   pub spelled : library_image r ≡ Some bytes
-  pub prints : PrintTexts r
+  pub within : IsWithinLimits r
   pub conforms : ReleaseOk r
 
 -- the same of each release and its name

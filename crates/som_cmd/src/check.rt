@@ -4,7 +4,6 @@ ghost use Rattle.som_cmd.specs.CheckSteps.{accepted_or, line_checked};
 ghost use Rattle.som_cmd.specs.Steps.{AnswersTold, Follows, FollowsTold};
 ghost use Rattle.som_cmd.specs.Words.{Check};
 ghost use Rattle.som_compat.specs.Told.{told};
-ghost use Rattle.som_libimage.specs.Libraries.{PrintTexts};
 ghost use Rattle.som_libimage.specs.Limits.{IsWithinLimits};
 ghost use Rattle.som_model.specs.Class.{interface_of};
 ghost use Rattle.som_model.specs.Conforming.{ReleaseOk};
@@ -44,7 +43,6 @@ fn read_all(alloc: Global, names: &[Text], images: &[List<u8>]) -> Result<List<R
     requires { length images.now ≡ length names.now }
     ensures follows { Follows result (releases_in names.now images.now) }
     ensures long { IfOk result (λ rs. length rs ≡ length names.now) }
-    ensures prints { IfOk result (λ rs. All PrintTexts rs) }
     ensures within { IfOk result (λ rs. All IsWithinLimits rs) }
     ensures quiet { IsQuiet result }
 {
@@ -57,8 +55,7 @@ fn read_all(alloc: Global, names: &[Text], images: &[List<u8>]) -> Result<List<R
 
 // Goes on where no release breaks a rule.
 fn look_at_all_rules(alloc: Global, names: &[Text], releases: &[Release]) -> Result<(), Stop>
-    requires long { length releases.now ≡ length names.now }
-    requires prints { All PrintTexts releases.now }
+    requires { length releases.now ≡ length names.now }
     ensures follows { Follows result (all_rules_kept names.now releases.now) }
     ensures conform { IfOk result (λ _. All ReleaseOk releases.now) }
     ensures quiet { IsQuiet result }

@@ -2,7 +2,6 @@ ghost use Rattle.som_cmd.specs.Answer.{broken, fault_number, fault_place, unread
 ghost use Rattle.som_cmd.specs.Cause.{IsQuiet};
 ghost use Rattle.som_cmd.specs.ShowSteps.{release_in, rules_kept};
 ghost use Rattle.som_cmd.specs.Steps.{Follows};
-ghost use Rattle.som_libimage.specs.Libraries.{PrintTexts};
 ghost use Rattle.som_libimage.specs.Limits.{IsWithinLimits};
 ghost use Rattle.som_model.specs.Conforming.{ReleaseOk};
 ghost use Rattle.som_verify.specs.Told.{told};
@@ -87,7 +86,6 @@ fn refuse_release(alloc: Global, name: &Text, rule: &Broken) -> Result<Refusal, 
 /// The release of a library image, or the refusal that tells the first fault of the bytes.
 pub fn read_release(alloc: Global, name: &Text, bytes: &List<u8>) -> Result<Release, Stop>
     ensures follows { Follows result (release_in name.now bytes.now) }
-    ensures prints { IfOk result PrintTexts }
     ensures within { IfOk result IsWithinLimits }
     ensures quiet { IsQuiet result }
 {
@@ -100,7 +98,6 @@ pub fn read_release(alloc: Global, name: &Text, bytes: &List<u8>) -> Result<Rele
 
 /// Goes on where a release breaks no rule; else the refusal tells the first that it breaks.
 pub fn look_at_rules(alloc: Global, name: &Text, release: &Release) -> Result<(), Stop>
-    requires { PrintTexts release.now }
     ensures follows { Follows result (rules_kept name.now release.now) }
     ensures conforms { IfOk result (λ _. ReleaseOk release.now) }
     ensures quiet { IsQuiet result }

@@ -24,6 +24,8 @@ pub use top::run_som;
 #[cfg(test)]
 mod tests;
 #[cfg(test)]
+mod tests_of_bodies;
+#[cfg(test)]
 mod tests_of_checks;
 #[cfg(test)]
 mod tests_of_images;

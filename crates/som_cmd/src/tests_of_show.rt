@@ -110,7 +110,7 @@ const FAULTS: [(usize, u8, usize, usize); 6] = [
     (4, 9, 2, 4),
     (23, 1, 5, 23),
     (38, 3, 4, 38),
-    (47, 9, 4, 47),
+    (47, 0x0b, 4, 47),
 ];
 
 #[test]
@@ -134,6 +134,9 @@ fn a_fault_is_told_with_its_place(rt: HostRuntime) -> Result<(), Fail> {
 #[test]
 fn a_broken_rule_is_told(rt: HostRuntime) -> Result<(), Fail> {
     let alloc = rt.alloc();
+    let freed_text = changed(alloc, &LIBRARY, 47, 9)?;
+    let line = b"image S17 hello.img Hello sayHello\n";
+    assert_eq!(rt; show_status(alloc, freed_text.as_slice(), line)?, 5);
     let own_parent = changed(alloc, &LIBRARY, 24, 4)?;
     let line = b"image S2 hello.img Hello -\n";
     assert_eq!(rt; show_status(alloc, own_parent.as_slice(), line)?, 5);

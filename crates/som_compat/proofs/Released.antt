@@ -15,7 +15,7 @@ use Rattle.som_model.specs.declared.program.Release.{Release}
 use Rattle.som_model.specs.Lists.{among, doubles, every, first, option_list, or_else}
 use Rattle.som_model.specs.Class.{Class, bare, class_in, interface_of}
 use Rattle.som_model.specs.Classes.{ancestors, is_a, library_classes}
-use Rattle.som_model.specs.Conforming.{ReleaseOk, each_after, first_of_members, first_of_names, release_breach}
+use Rattle.som_model.specs.Conforming.{ReleaseOk, each_after, first_of_members, first_of_names, declared_breach}
 use Rattle.som_model.specs.Kernel.{kernel, som_class}
 use Rattle.som_model.specs.Keys.{same_key}
 use Rattle.som_model.specs.Owner.{introduces}
@@ -123,8 +123,8 @@ library_faces : (ds : List ClassDecl) → map (λ f. class_in modules.Library (b
 library_faces [] = refl
 library_faces (d ∷ ds) = ap (λ (l : List Class). class_in modules.Library (bare d.face) ∷ l) (library_faces ds)
 
--- a release that breaks no rule, and is within the counts, has an interface that may be compared
-pub may_be_compared : (r : Release) → release_breach r ≡ None → length r.classes ≤ 4096 → All (λ (d : ClassDecl). IsCounted d.face) r.classes → Conforms (interface_of r)
+-- a release that breaks no rule of its classes, and is within the counts, has an interface that may be compared
+pub may_be_compared : (r : Release) → declared_breach r ≡ None → length r.classes ≤ 4096 → All (λ (d : ClassDecl). IsCounted d.face) r.classes → Conforms (interface_of r)
 may_be_compared r e few counts = record {
   rules = ap faces_breach (library_faces r.classes)
       ∙ faces_none (library_classes r) (or_none (faces_breach (library_classes r)) (first (flat_map s14 (library_classes r))) (faces_first r ∙ e)).0;

@@ -5,7 +5,7 @@ ghost use Rattle.som_model.specs.Ancestors.{Descends};
 ghost use Rattle.som_model.specs.Class.{interface_of};
 ghost use Rattle.som_model.specs.Classes.{hierarchy};
 ghost use Rattle.som_model.specs.Compatible.{Compatible, release_of};
-ghost use Rattle.som_model.specs.Conforming.{release_breach};
+ghost use Rattle.som_model.specs.Conforming.{declared_breach};
 ghost use Rattle.som_model.specs.Kernel.{som_class};
 ghost use Rattle.som_model.specs.Metaclass.{meta};
 ghost use Rattle.som_model.specs.declared.class.ClassDecl.{ClassDecl};
@@ -35,8 +35,8 @@ pub fn metaclass_law()
         (Descends (hierarchy (release_of i)) som_class n ⊎ Declares (release_of i) x n) }
 {}
 
-/// The interface of a release that breaks no rule, and is within the counts, may be compared.
+/// The interface of a release that breaks no rule of its classes, and is within the counts, may be compared.
 pub fn release_law()
-    ensures { (r : Release) → release_breach r ≡ None → length r.classes ≤ 4096 →
+    ensures { (r : Release) → declared_breach r ≡ None → length r.classes ≤ 4096 →
         All (λ (d : ClassDecl). IsCounted d.face) r.classes → Conforms (interface_of r) }
 {}

@@ -12,7 +12,6 @@ use Rattle.som_idl.specs.declared.tree.IdlFile.{IdlFile}
 use Rattle.som_idl.specs.declared.tree.IdlInterface.{IdlInterface}
 use Rattle.som_idl.specs.Within.{FileWithin, InterfaceWithin}
 use Rattle.som_idl.proofs.WithinLimits.{tree_within}
-use Rattle.som_libimage.specs.Libraries.{PrintTexts}
 use Rattle.som_libimage.specs.Limits.{IsWithinLimits}
 use Rattle.som_libimage.proofs.Encoded.{image_there}
 use Rattle.som_verify.specs.declared.types.Broken.{Broken}
@@ -30,7 +29,7 @@ use Rattle.som_compile.specs.declared.source.Source.{Source}
 use Rattle.som_compile.specs.Reading.{Reads, a_tree, ReadsAll, no_more, one_more, Says, Tells}
 use Rattle.som_compile.specs.Compiling.{StandFor, Compiles, unread, unbuilt, an_image, building_told}
 use Rattle.som_compile.proofs.ReadLaws.{some_readings, one_readings}
-use Rattle.som_compile.proofs.ReleaseWithin.{all_join, is_within, prints_texts, bodies_stand, limits_kept}
+use Rattle.som_compile.proofs.ReleaseWithin.{all_join, is_within, bodies_stand, limits_kept}
 
 -- ---- what texts stand for
 
@@ -139,12 +138,9 @@ stands_within ss fs r x t =
     let is = interfaces_of fs in
     subst IsWithinLimits (sym t.3) (is_within is (texts_within ss fs x) (limits_kept is t.2) (bodies_stand is t.1) t.0)
 
-pub stands_prints : (fs : List IdlFile) (r : Release) → ReleaseTold (interfaces_of fs) (Ok r) → PrintTexts r
-stands_prints fs r t = let is = interfaces_of fs in subst PrintTexts (sym t.3) (prints_texts is (bodies_stand is t.1))
-
 pub stands_image : (ss : List Source) (r : Release) → StandFor ss r → (image : List ℕ) × (library_image r ≡ Some image)
 stands_image ss r s =
-    let i = image_there r (conforms (interfaces_of s.trees) (Ok r) s.built) (stands_prints s.trees r s.built) (stands_within ss s.trees r s.read s.built) in
+    let i = image_there r (conforms (interfaces_of s.trees) (Ok r) s.built) (stands_within ss s.trees r s.read s.built) in
     (i.0, i.1)
 
 -- ---- one answer

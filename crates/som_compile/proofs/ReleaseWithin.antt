@@ -1,4 +1,4 @@
--- The release that interface files stand for prints texts, and an image has room for it.
+-- An image has room for the release that interface files stand for.
 use Rattle.std.proofs.Common.{◌≡◌, ℕ, ◌≤◌, inl, inr, Bool, true, false, if◌then◌else◌, List, [], ◌∷◌, ◌++◌, length, map, flat_map, codes, Option, Some, None, unwrap_or, option_map, All, refl, sym, ap, subst, ◌∙◌, arith, length-append}
 use Rattle.std.proofs.lemmas.List.{length-map}
 use Rattle.std.specs.List.{AllByRecursion}
@@ -32,7 +32,6 @@ use Rattle.som_idl.specs.Within.{WordWithin, ExportWithin, ItemWithin, Interface
 use Rattle.som_verify.specs.Places.{with_kernel}
 use Rattle.som_verify.proofs.PlainFaces.{or_none}
 use Rattle.som_verify.proofs.PlainLists.{mem_map}
-use Rattle.som_libimage.specs.Libraries.{BodyPrints, ClassPrints, PrintTexts, PrintsTexts}
 use Rattle.som_libimage.specs.Limits.{TextWithin, EntryWithin, BodyWithin, BlockWithin, ClassWithin, IsWithinLimits}
 use Rattle.som_sema.specs.Building.{after_base, home_of, texts_breach}
 use Rattle.som_sema.specs.Finished.{declare, entry_for, entry_or_moved, introducer}
@@ -229,12 +228,6 @@ module _ (Q : Body → Type 0) (gets : (n : ℕ) → Q (bodies.Get n)) (sets : (
 no_overrides : (Q : Override → Type 0) (os : List Override) → os ≡ [] → All Q os
 no_overrides Q os e = subst (λ (xs : List Override). All Q xs) (sym e) (All-from_recursion Q [] tt)
 
-class_prints : (d : Drawn) → d.class.overrides ≡ [] → ClassPrints (with_bodies d)
-class_prints d none = record {
-  bodies = All-from_recursion BodyPrints (with_bodies d).bodies (bodies_so BodyPrints (λ n. tt) (λ n. tt) d (introduced d.class.face.entries));
-  overrides = no_overrides (λ (o : Override). PrintsTexts o.block) d.class.overrides none;
-}
-
 abbrev finished : List Class → (List ℕ → Module) → IdlInterface → Drawn
 finished cs home i = record { text = i; class = declare cs modules.Library (drawn home i) }
 
@@ -304,13 +297,6 @@ module _ (is : List IdlInterface) (within : AllByRecursion InterfaceWithin is) (
   is_within few =
       let long : length (map with_bodies (library_drawn is)) ≡ length is = length-map (library_drawn is) with_bodies ∙ ap (λ (ds : List Drawn). length ds) drawn_are ∙ length-map is (finished known home) in
       record { classes = omega (arith, few, long); each_class = All-from_recursion ClassWithin (map with_bodies (library_drawn is)) classes_within }
-
--- no block does anything
-pub prints_texts : (is : List IdlInterface) → BodiesStand (library_drawn is) → PrintTexts (release_of_texts is)
-prints_texts is bodies =
-    All-from_recursion ClassPrints (map with_bodies (library_drawn is))
-    (all_map (λ (d : Drawn). ClassPrints (with_bodies d)) ClassPrints with_bodies (λ d p. p) (library_drawn is)
-    (all_members (λ (d : Drawn). ClassPrints (with_bodies d)) (library_drawn is) (λ d m. class_prints d (bodies.overridden d m))))
 
 -- ---- texts that break no rule and pass no limit
 

@@ -25,7 +25,7 @@ use Rattle.som_first.specs.FirstRuns.{Prints, AllPrint, no_more, and_then, lines
 use Rattle.som_first.specs.Linking.{Answers, IsLinked, CallIs, AreCalls, all_of, library_method}
 use Rattle.som_first.proofs.FirstClasses.{FirstOk, known, all_fall, all_tell}
 use Rattle.som_first.proofs.FirstMembers.{held_own}
-use Rattle.som_first.proofs.TypedCalls.{out_text, out_print}
+use Rattle.som_first.proofs.PrintedTexts.{out_text, out_print}
 use Rattle.som_first.proofs.Named.{drop_at}
 
 -- a block that prints a text tells which

@@ -9,15 +9,14 @@ use Rattle.som_model.specs.Kernel.{kernel, som_object}
 use Rattle.som_model.specs.Classes.{classes, hierarchy, interface_classes}
 use Rattle.som_model.specs.Owner.{introduces, sig_of}
 use Rattle.som_model.specs.Implementation.{Held, User, held, has_body, implementation}
-use Rattle.som_model.specs.Typing.{AreTyped, and_then}
-use Rattle.som_model.specs.Conforming.{ReleaseOk, ProgramOk}
+use Rattle.som_model.specs.Conforming.{ReleaseOk, ProgramOk, all_of_program}
 use Rattle.som_model.proofs.NamedLaws.{same_named, held_named}
 use Rattle.som_plain.proofs.Laws.{descends_test, implementation_exists, implementation_body, implementation_above}
 use Rattle.som_first.specs.declared.classes.FirstClass.{FirstClass}
 use Rattle.som_first.specs.declared.classes.FirstCall.{FirstCall}
 use Rattle.som_first.specs.declared.classes.FirstRelease.{FirstRelease}
 use Rattle.som_first.specs.declared.classes.FirstProgram.{FirstProgram}
-use Rattle.som_first.specs.FirstImages.{library_key, called, call_of, release_of, program_of}
+use Rattle.som_first.specs.FirstImages.{library_key, called, release_of, program_of}
 use Rattle.som_first.specs.FirstRuns.{Prints, AllPrint}
 use Rattle.som_first.specs.FirstRuns as print
 use Rattle.som_first.proofs.FirstOrder.{AllPlain, owner_itself}
@@ -25,7 +24,7 @@ use Rattle.som_first.proofs.FirstLists.{classes_of}
 use Rattle.som_first.proofs.FirstClasses.{known, FirstOk, first_ok, classes_are, known_plain, all_fall, all_tell, class_stands, introduces_is}
 use Rattle.som_first.proofs.FirstMembers.{known_class, held_own, held_from}
 use Rattle.som_first.proofs.FirstWorld.{value_of, Stands, above_is}
-use Rattle.som_first.proofs.TypedCalls.{TypedCall, statement_typed}
+use Rattle.som_first.proofs.TypedCalls.{TypedCall, TypedCalls, kept_typed}
 use Rattle.som_first.proofs.SameFaces.{face_only, is_a_faces, sig_faces, known_faces, faces_are}
 
 pub faces_plain : (cs : List Class) → AllPlain cs → AllPlain (map face_only cs)
@@ -72,7 +71,7 @@ module _ (fs : List FirstClass) (ok : FirstOk fs) (c : FirstCall) where
       ∙ ap is_some (held_own fs ok a.0 m.0 a.1 m.1 a.2 m.2)
 
   -- a call that is well typed
-  pub typed_prints : TypedCall (map face_only (known fs)) (called c) (library_key c.object) → (text : List ℕ) × Prints (known fs) c text
+  pub typed_prints : TypedCall (map face_only (known fs)) c → (text : List ℕ) × Prints (known fs) c text
   typed_prints typed =
       let k = library_key c.object in let a = library_key c.class in
       let faces = map face_only (known fs) in
@@ -85,11 +84,11 @@ module _ (fs : List FirstClass) (ok : FirstOk fs) (c : FirstCall) where
       (above_is fs ok k who.0 (implementation_above h has a k who.0 who.1) there.0 there.1 there.2 (ap library_key (sym there.3)))
 
 -- calls that are well typed
-all_typed : (fs : List FirstClass) → FirstOk fs → (cs : List FirstCall) → AreTyped (map face_only (known fs)) (map call_of cs) → (texts : List (List ℕ)) × AllPrint (known fs) cs texts
+all_typed : (fs : List FirstClass) → FirstOk fs → (cs : List FirstCall) → TypedCalls (map face_only (known fs)) cs → (texts : List (List ℕ)) × AllPrint (known fs) cs texts
 all_typed fs ok [] typed = ([], print.no_more)
-all_typed fs ok (c ∷ cs) (and_then s ss one more) =
-    let p = typed_prints fs ok c (statement_typed (map face_only (known fs)) (call_of c) one (called c) (library_key c.object) refl) in
-    let ps = all_typed fs ok cs more in
+all_typed fs ok (c ∷ cs) typed =
+    let p = typed_prints fs ok c typed.0 in
+    let ps = all_typed fs ok cs typed.1 in
     (p.0 ∷ ps.0, print.and_then c cs p.0 ps.0 p.1 ps.1)
 
 -- the calls of a client that conforms to the release
@@ -97,6 +96,6 @@ pub all_answered : (r : FirstRelease) (p : FirstProgram) → ReleaseOk (release_
     → (texts : List (List ℕ)) × AllPrint (classes (release_of r) (program_of p)) p.calls texts
 all_answered r p ok conforms base =
     let faces = ap (λ (i : Interface). kernel ++ interface_classes i ++ []) base ∙ faces_are r in
-    let typed = subst (λ (cs : List Class). AreTyped cs (map call_of p.calls)) faces conforms.main in
+    let typed = subst (λ (cs : List Class). TypedCalls cs p.calls) faces (kept_typed (all_of_program (program_of p)) p.calls conforms.blocks) in
     let all = all_typed r.classes (first_ok r ok) p.calls typed in
     (all.0, subst (λ (cs : List Class). AllPrint cs p.calls all.0) (sym (classes_are r p)) all.1)

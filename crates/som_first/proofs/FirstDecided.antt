@@ -35,7 +35,7 @@ use Rattle.som_first.specs.declared.classes.FirstMethod.{FirstMethod}
 use Rattle.som_first.specs.declared.classes.FirstFace.{FirstFace}
 use Rattle.som_first.specs.declared.classes.FirstRelease.{FirstRelease}
 use Rattle.som_first.specs.FirstImages.{library_key, parent_key, plain_entry, body_of, override_of, face_of, decl_of, release_of}
-use Rattle.som_first.proofs.TypedCalls.{out_text, out_print}
+use Rattle.som_first.proofs.PrintedTexts.{out_text, out_print}
 
 -- the function makes this value of something, or of nothing
 abbrev pub Decided : {A B : Type 0} → (A → B) → B → Type 0

@@ -1,4 +1,5 @@
 pub mod FirstLists
+pub mod PrintedTexts
 pub mod FirstOrder
 pub mod FirstClasses
 pub mod FirstMembers
@@ -16,7 +17,7 @@ pub mod SameFaces
 pub mod FirstAnswered
 mod CallLaws
 pub mod FirstDecided
-pub mod CallsDecided
+pub mod PlacedCalls
 mod Forms
 pub mod Within
 mod WorkedLaws

@@ -1,104 +1,161 @@
--- What a call on a new object says that is well typed.
-use Rattle.std.proofs.Common.{◌≡◌, ℕ, true, List, [], Option, Some, None, is_some, refl, sym, ap, ◌∙◌}
+-- Which calls on new objects are well typed, and that main breaks no rule exactly where its calls are; what prints a text breaks none.
+use Rattle.std.proofs.Common.{◌≡◌, ◌⊎◌, ℕ, inl, inr, Bool, true, false, List, [], ◌∷◌, ◌++◌, map, Option, Some, None, Ok, Err, is_some, refl, sym, ap, ◌∙◌, subst, true≢false}
+use Rattle.std.specs.Prelude.{codes}
 use Rattle.som_model.specs.declared.key.ClassKey.{ClassKey}
 use Rattle.som_model.specs.declared.key.MethodRef.{MethodRef}
 use Rattle.som_model.specs.declared.key.ValueType.{ValueType}
 use Rattle.som_model.specs.declared.key.ValueType.TheVariants as types
-use Rattle.som_model.specs.declared.syntax.Expr.{Expr, out-Expr, out-roll-Expr}
-use Rattle.som_model.specs.declared.syntax.Expr.TheVariants as exprs
-use Rattle.som_model.specs.declared.syntax.Expr.TheVariants.{rolls-Str, rolls-New, rolls-OffsetCall}
-use Rattle.som_model.specs.declared.syntax.Expr.TheOpen.{Expr-F}
-use Rattle.som_model.specs.declared.syntax.Stmt.{Stmt, out-Stmt, out-roll-Stmt}
-use Rattle.som_model.specs.declared.syntax.Stmt.TheVariants as stmts
-use Rattle.som_model.specs.declared.syntax.Stmt.TheVariants.{rolls-Print, rolls-Call}
-use Rattle.som_model.specs.declared.syntax.Stmt.TheOpen.{Stmt-F}
+use Rattle.som_model.specs.declared.syntax.Block.{Block}
+use Rattle.som_model.specs.declared.syntax.Stmt.{Stmt}
 use Rattle.som_model.specs.declared.class.Sig.{Sig}
-use Rattle.som_model.specs.Blocks.{calling}
+use Rattle.som_model.specs.Lists.{first}
+use Rattle.som_model.specs.Steps.{◌>>=◌}
 use Rattle.som_model.specs.Class.{Class}
 use Rattle.som_model.specs.Classes.{class_at, is_a}
 use Rattle.som_model.specs.Owner.{owner, sig_of}
-use Rattle.som_model.specs.Typing.{HasType, HaveTypes, none, a_text, a_new, an_offset_call, IsTyped, prints_text, calls_by_offset}
-
-pub out_text : (t : List ℕ) → out-Expr (exprs.Str t) ≡ Expr-F.Str t
-out_text t = ap out-Expr (sym (rolls-Str t)) ∙ out-roll-Expr (Expr-F.Str t)
-
-pub out_new : (k : ClassKey) → out-Expr (exprs.New k) ≡ Expr-F.New k
-out_new k = ap out-Expr (sym (rolls-New k)) ∙ out-roll-Expr (Expr-F.New k)
-
-pub out_call : (r : MethodRef) (e : Expr) (es : List Expr) → out-Expr (exprs.OffsetCall r e es) ≡ Expr-F.OffsetCall r e es
-out_call r e es = ap out-Expr (sym (rolls-OffsetCall r e es)) ∙ out-roll-Expr (Expr-F.OffsetCall r e es)
-
-pub out_print : (e : Expr) → out-Stmt (stmts.Print e) ≡ Stmt-F.Print e
-out_print e = ap out-Stmt (sym (rolls-Print e)) ∙ out-roll-Stmt (Stmt-F.Print e)
-
-out_statement : (e : Expr) → out-Stmt (stmts.Call e) ≡ Stmt-F.Call e
-out_statement e = ap out-Stmt (sym (rolls-Call e)) ∙ out-roll-Stmt (Stmt-F.Call e)
-
--- what an expression calls, what it makes, and what a statement calls
-abbrev called_in : {A : Type 0} → Expr-F A → Option (MethodRef × A)
-called_in (Expr-F.OffsetCall r e es) = Some (r, e)
-called_in _ = None
-
-abbrev made_in : {A : Type 0} → Expr-F A → Option ClassKey
-made_in (Expr-F.New k) = Some k
-made_in _ = None
-
-abbrev call_in : {A B : Type 0} → Stmt-F A B → Option Expr
-call_in (Stmt-F.Call e) = Some e
-call_in _ = None
-
-abbrev class_in : ValueType → Option ClassKey
-class_in (types.Class k) = Some k
-class_in _ = None
-
-none_apart : {A : Type 0} (a : A) → None ≡ Some a → ⊥
-none_apart a e = cc
-
-same_some : {A : Type 0} (a b : A) → Some a ≡ Some b → a ≡ b
-same_some a b e = cc
+use Rattle.som_model.specs.Rules.{Breach}
+use Rattle.som_model.specs.Typing.{ClassFacts, ExprType, Of, Ruled, Typed, needs, there, value, all_fit, class_facts, in_main, offset_call_type}
+use Rattle.som_model.specs.TypedBlocks.{Scope, block_scope, in_turn, stmt_scope}
+use Rattle.som_model.specs.Conforming.{main_typed}
+use Rattle.som_model.proofs.TypingLaws.{block_typed, calling_typed}
+use Rattle.som_first.specs.declared.classes.FirstCall.{FirstCall}
+use Rattle.som_first.specs.FirstImages.{library_key, called, call_of}
+use Rattle.som_first.proofs.FirstLists.{nothing}
 
 -- what a well typed call says: the class is known and descends from the method's, and the owner introduces the method, without parameters
-pub record TypedCall (cs : List Class) (r : MethodRef) (k : ClassKey) : Type 0 where
-  pub known : is_some (class_at cs k) ≡ true
-  pub below : is_a cs k r.class ≡ true
+pub record TypedCall (cs : List Class) (c : FirstCall) : Type 0 where
+  pub known : is_some (class_at cs (library_key c.object)) ≡ true
+  pub below : is_a cs (library_key c.object) (library_key c.class) ≡ true
   pub sig : Sig
-  pub introduced : sig_of cs (owner cs r) ≡ Some sig
+  pub introduced : sig_of cs (owner cs (called c)) ≡ Some sig
   pub takes_none : sig.params ≡ []
 
-new_typed : (cs : List Class) (e : Expr) (t : ValueType) → HasType cs e t → (k : ClassKey) → e ≡ exprs.New k → (is_some (class_at cs k) ≡ true) × (t ≡ types.Class k)
-new_typed cs e t (a_text s) k is =
-    absurd (none_apart k (sym (ap made_in (out_text s)) ∙ ap (λ (x : Expr). made_in (out-Expr x)) is ∙ ap made_in (out_new k)))
-new_typed cs e t (a_new c known) k is =
-    let same : c ≡ k = same_some c k (sym (ap made_in (out_new c)) ∙ ap (λ (x : Expr). made_in (out-Expr x)) is ∙ ap made_in (out_new k)) in
-    (ap (λ (z : ClassKey). is_some (class_at cs z)) (sym same) ∙ known, ap types.Class same)
-new_typed cs e t (an_offset_call r on args c sig on_typed below introduced fit) k is =
-    absurd (none_apart k (sym (ap made_in (out_call r on args)) ∙ ap (λ (x : Expr). made_in (out-Expr x)) is ∙ ap made_in (out_new k)))
+-- each call is well typed
+abbrev pub TypedCalls : List Class → List FirstCall → Type 0
+TypedCalls cs [] = Unit {0}
+TypedCalls cs (c ∷ calls) = TypedCall cs c × TypedCalls cs calls
 
-no_types : (cs : List Class) (es : List Expr) (ts : List ValueType) → HaveTypes cs es ts → ts ≡ []
-no_types cs es ts none = refl
+-- ---- what one call comes to
 
-call_typed : (cs : List Class) (e : Expr) (t : ValueType) → HasType cs e t → (r : MethodRef) (k : ClassKey) → e ≡ exprs.OffsetCall r (exprs.New k) [] → TypedCall cs r k
-call_typed cs e t (a_text s) r k is =
-    absurd (none_apart (r, exprs.New k) (sym (ap called_in (out_text s)) ∙ ap (λ (x : Expr). called_in (out-Expr x)) is ∙ ap called_in (out_call r (exprs.New k) [])))
-call_typed cs e t (a_new c known) r k is =
-    absurd (none_apart (r, exprs.New k) (sym (ap called_in (out_new c)) ∙ ap (λ (x : Expr). called_in (out-Expr x)) is ∙ ap called_in (out_call r (exprs.New k) [])))
-call_typed cs e t (an_offset_call q on args c sig on_typed below introduced fit) r k is =
-    let same : (q, on) ≡ (r, exprs.New k) = same_some (q, on) (r, exprs.New k) (sym (ap called_in (out_call q on args)) ∙ ap (λ (x : Expr). called_in (out-Expr x)) is ∙ ap called_in (out_call r (exprs.New k) [])) in
-    let method : q ≡ r = ap (λ (z : MethodRef × Expr). z.0) same in
-    let made = new_typed cs on (types.Class c) on_typed k (ap (λ (z : MethodRef × Expr). z.1) same) in
-    let class : c ≡ k = same_some c k (ap class_in made.1) in
-    record {
-      known = made.0;
-      below = ap (λ (z : ClassKey). is_a cs z r.class) (sym class) ∙ ap (λ (z : MethodRef). is_a cs c z.class) (sym method) ∙ below;
-      sig = sig;
-      introduced = ap (λ (z : MethodRef). sig_of cs (owner cs z)) (sym method) ∙ introduced;
-      takes_none = no_types cs args sig.params fit;
-    }
+known_fact : (cs : List Class) (k : ClassKey) → (class_facts cs).is_known k ≡ is_some (class_at cs k)
+unfolding class_facts
+known_fact cs k = refl
 
--- a statement that calls a method on a new object
-pub statement_typed : (cs : List Class) (s : Stmt) → IsTyped cs s → (r : MethodRef) (k : ClassKey) → s ≡ calling r k → TypedCall cs r k
-statement_typed cs s (prints_text e typed) r k is =
-    absurd (none_apart (exprs.OffsetCall r (exprs.New k) []) (sym (ap call_in (out_print e)) ∙ ap (λ (x : Stmt). call_in (out-Stmt x)) is ∙ ap call_in (out_statement (exprs.OffsetCall r (exprs.New k) []))))
-statement_typed cs s (calls_by_offset q on args t typed) r k is =
-    call_typed cs (exprs.OffsetCall q on args) t typed r k
-    (same_some (exprs.OffsetCall q on args) (exprs.OffsetCall r (exprs.New k) []) (sym (ap call_in (out_statement (exprs.OffsetCall q on args))) ∙ ap (λ (x : Stmt). call_in (out-Stmt x)) is ∙ ap call_in (out_statement (exprs.OffsetCall r (exprs.New k) []))))
+is_a_fact : (cs : List Class) (k a : ClassKey) → (class_facts cs).is_a k a ≡ is_a cs k a
+unfolding class_facts
+is_a_fact cs k a = refl
+
+signature_fact : (cs : List Class) (r : MethodRef) → (class_facts cs).signature r ≡ sig_of cs (owner cs r)
+unfolding class_facts
+signature_fact cs r = refl
+
+-- the call of a method on an object, by what the signature and the classes are
+abbrev on_object : ClassFacts → Option Sig → Bool → Typed
+on_object w sig below = there 16 sig >>= λ s. needs 17 below (needs 18 (all_fit w s.params []) (Ok (Of s.result)))
+
+abbrev after_call : ClassFacts → Option Sig → Bool → Scope → Ruled Scope
+after_call w sig below scope = on_object w sig below >>= λ t. Ok scope
+
+-- a call on a new object of a class that is known, or not
+abbrev outcome : ClassFacts → Bool → Option Sig → Bool → Scope → Ruled Scope
+outcome w true sig below scope = after_call w sig below scope
+outcome w false sig below scope = Err 16
+
+made : (w : ClassFacts) (r : MethodRef) (k : ClassKey) (scope : Scope) (known : Bool)
+    → (value (needs 16 known (Ok (Of (types.Class k)))) >>= λ on. offset_call_type w r on [] >>= λ t. Ok scope) ≡ outcome w known (w.signature r) (w.is_a k r.class) scope
+made w r k scope true = refl
+made w r k scope false = refl
+
+abbrev comes : List Class → FirstCall → Scope → Ruled Scope
+comes cs c scope = outcome (class_facts cs) (is_some (class_at cs (library_key c.object))) (sig_of cs (owner cs (called c))) (is_a cs (library_key c.object) (library_key c.class)) scope
+
+call_comes : (cs : List Class) (c : FirstCall) (scope : Scope) → stmt_scope (class_facts cs) in_main (call_of c) scope ≡ comes cs c scope
+call_comes cs c scope =
+    let w : ClassFacts = class_facts cs in
+    let k : ClassKey = library_key c.object in
+    calling_typed w in_main (called c) k scope
+    ∙ made w (called c) k scope (w.is_known k)
+    ∙ ap (λ (b : Bool). outcome w b (w.signature (called c)) (w.is_a k (library_key c.class)) scope) (known_fact cs k)
+    ∙ ap (λ (o : Option Sig). outcome w (is_some (class_at cs k)) o (w.is_a k (library_key c.class)) scope) (signature_fact cs (called c))
+    ∙ ap (λ (b : Bool). outcome w (is_some (class_at cs k)) (sig_of cs (owner cs (called c))) b scope) (is_a_fact cs k (library_key c.class))
+
+fit_none : (w : ClassFacts) (kinds : List ValueType) → kinds ≡ [] → all_fit w kinds [] ≡ true
+fit_none w [] e = refl
+fit_none w (kind ∷ kinds) e = absurd (cc)
+
+-- a well typed call leaves the scope as it was
+typed_goes : (cs : List Class) (c : FirstCall) (scope : Scope) → TypedCall cs c → comes cs c scope ≡ Ok scope
+typed_goes cs c scope t =
+    let w : ClassFacts = class_facts cs in
+    let below : Bool = is_a cs (library_key c.object) (library_key c.class) in
+    ap (λ (b : Bool). outcome w b (sig_of cs (owner cs (called c))) below scope) t.known
+    ∙ ap (λ (o : Option Sig). outcome w true o below scope) t.introduced
+    ∙ ap (λ (b : Bool). outcome w true (Some t.sig) b scope) t.below
+    ∙ ap (λ (b : Bool). needs 18 b (Ok (Of t.sig.result)) >>= λ u. Ok scope) (fit_none w t.sig.params t.takes_none)
+
+err_ok : {A : Type 0} (rule : ℕ) (x : A) → Err rule ≡ Ok x → ⊥
+err_ok rule x e = cc
+
+abbrev goes_on : Scope → Ruled Scope
+goes_on scope = Ok scope
+
+same_scope : (x y : Scope) → goes_on x ≡ goes_on y → x ≡ y
+same_scope x y e = cc
+
+-- a call that goes on is well typed
+goes_typed : (cs : List Class) (c : FirstCall) (scope after : Scope) → comes cs c scope ≡ Ok after → TypedCall cs c × (scope ≡ after)
+goes_typed cs c scope after e = by (is_some (class_at cs (library_key c.object))) (sig_of cs (owner cs (called c))) (is_a cs (library_key c.object) (library_key c.class)) refl refl refl e
+  where
+    by_params : (sig : Sig) (kinds : List ValueType) → sig.params ≡ kinds → is_some (class_at cs (library_key c.object)) ≡ true → sig_of cs (owner cs (called c)) ≡ Some sig
+        → is_a cs (library_key c.object) (library_key c.class) ≡ true → (needs 18 (all_fit (class_facts cs) kinds []) (Ok (Of sig.result)) >>= λ t. Ok scope) ≡ Ok after → TypedCall cs c × (scope ≡ after)
+    by_params sig [] none known introduced below goes = (record { known = known; below = below; sig = sig; introduced = introduced; takes_none = none }, same_scope scope after goes)
+    by_params sig (kind ∷ kinds) none known introduced below goes = absurd (err_ok 18 after goes)
+
+    by : (known : Bool) (sig : Option Sig) (below : Bool) → is_some (class_at cs (library_key c.object)) ≡ known → sig_of cs (owner cs (called c)) ≡ sig → is_a cs (library_key c.object) (library_key c.class) ≡ below
+        → outcome (class_facts cs) known sig below scope ≡ Ok after → TypedCall cs c × (scope ≡ after)
+    by false sig below k s b goes = absurd (err_ok 16 after goes)
+    by true None below k s b goes = absurd (err_ok 16 after goes)
+    by true (Some sig) false k s b goes = absurd (err_ok 17 after goes)
+    by true (Some sig) true k s b goes = by_params sig sig.params refl k s b goes
+
+-- ---- a main of calls
+
+abbrev main_of : List FirstCall → Block
+main_of calls = record { statements = map call_of calls }
+
+abbrev turns : List Class → List FirstCall → Scope → Ruled Scope
+turns cs calls = in_turn (map (stmt_scope (class_facts cs) in_main) (map call_of calls))
+
+all_go : (cs : List Class) (calls : List FirstCall) (scope : Scope) → TypedCalls cs calls → turns cs calls scope ≡ Ok scope
+all_go cs [] scope t = refl
+all_go cs (c ∷ calls) scope t =
+    ap (λ (s : Ruled Scope). s >>= turns cs calls) (call_comes cs c scope ∙ typed_goes cs c scope t.0) ∙ all_go cs calls scope t.1
+
+all_typed : (cs : List Class) (calls : List FirstCall) (scope after : Scope) → turns cs calls scope ≡ Ok after → TypedCalls cs calls
+all_typed cs [] scope after e = tt
+all_typed cs (c ∷ calls) scope after e = by (comes cs c scope) refl (ap (λ (s : Ruled Scope). s >>= turns cs calls) (sym (call_comes cs c scope)) ∙ e) (all_typed cs calls)
+  where
+    by : (o : Ruled Scope) → comes cs c scope ≡ o → (o >>= turns cs calls) ≡ Ok after → ((next end : Scope) → turns cs calls next ≡ Ok end → TypedCalls cs calls) → TypedCalls cs (c ∷ calls)
+    by (Ok next) is goes more = ((goes_typed cs c scope next is).0, more next after goes)
+    by (Err rule) is goes more = absurd (err_ok rule after goes)
+
+-- a copy of what main tells that breaks a rule
+abbrev main_told : Ruled Scope → List Breach
+main_told (Ok scope) = []
+main_told (Err rule) = record { rule = rule; class = codes "main"; member = codes "-" } ∷ []
+
+some_none : (b : Breach) → Some b ≡ None → ⊥
+some_none b e = cc
+
+-- a main of calls that are well typed breaks no rule
+pub typed_kept : (cs : List Class) (calls : List FirstCall) → TypedCalls cs calls → first (main_typed cs (main_of calls)) ≡ None
+typed_kept cs calls t =
+    ap (λ (r : Ruled Scope). first (main_told r)) (ap (λ (f : Scope → Ruled Scope). f []) (block_typed (class_facts cs) in_main (map call_of calls)) ∙ all_go cs calls [] t)
+
+-- where main breaks none, its calls are well typed
+pub kept_typed : (cs : List Class) (calls : List FirstCall) → first (main_typed cs (main_of calls)) ≡ None → TypedCalls cs calls
+kept_typed cs calls e = by (turns cs calls []) refl (ap (λ (f : Scope → Ruled Scope). first (main_told (f []))) (sym (block_typed (class_facts cs) in_main (map call_of calls))) ∙ e)
+  where
+    by : (r : Ruled Scope) → turns cs calls [] ≡ r → first (main_told r) ≡ None → TypedCalls cs calls
+    by (Ok after) is none = all_typed cs calls [] after is
+    by (Err rule) is none = absurd (some_none (record { rule = rule; class = codes "main"; member = codes "-" }) none)

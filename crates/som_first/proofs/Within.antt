@@ -21,21 +21,21 @@ none_some : (bytes : List ℕ) → None ≡ Some bytes → ⊥
 none_some bytes e = cc
 
 -- where two fields are spelled, each is
-front : (a b : Spelled) (bytes : List ℕ) → (a then b) ≡ Some bytes → (x : List ℕ) × (a ≡ Some x)
+pub front : (a b : Spelled) (bytes : List ℕ) → (a then b) ≡ Some bytes → (x : List ℕ) × (a ≡ Some x)
 front (Some a) b bytes e = (a, refl)
 front None b bytes e = absurd (none_some bytes e)
 
-back : (a b : Spelled) (bytes : List ℕ) → (a then b) ≡ Some bytes → (x : List ℕ) × (b ≡ Some x)
+pub back : (a b : Spelled) (bytes : List ℕ) → (a then b) ≡ Some bytes → (x : List ℕ) × (b ≡ Some x)
 back (Some a) (Some b) bytes e = (b, refl)
 back (Some a) None bytes e = absurd (none_some bytes e)
 back None b bytes e = absurd (none_some bytes e)
 
-it_is : (b : Bool) (s : Spelled) (bytes : List ℕ) → where_it_is b s ≡ Some bytes → (b ≡ true) × (s ≡ Some bytes)
+pub it_is : (b : Bool) (s : Spelled) (bytes : List ℕ) → where_it_is b s ≡ Some bytes → (b ≡ true) × (s ≡ Some bytes)
 it_is true s bytes e = (refl, e)
 it_is false s bytes e = absurd (none_some bytes e)
 
 -- a counted list is no longer than its count may say, and its items are spelled
-counts : {A : Type 0} (w : Width) (most : ℕ) (spell : A → Spelled) (xs : List A) (bytes : List ℕ) → counted w most spell xs ≡ Some bytes → (length xs ≤ most) × (x : List ℕ) × (each spell xs ≡ Some x)
+pub counts : {A : Type 0} (w : Width) (most : ℕ) (spell : A → Spelled) (xs : List A) (bytes : List ℕ) → counted w most spell xs ≡ Some bytes → (length xs ≤ most) × (x : List ℕ) × (each spell xs ≡ Some x)
 counts w most spell xs bytes e =
     let t = it_is (nat_le (length xs) most) (number w (length xs) then each spell xs) bytes e in
     let items = back (number w (length xs)) (each spell xs) bytes t.1 in

@@ -1,12 +1,8 @@
 -- The worked case: its classes conform, and its calls are those of its numbers.
-use Rattle.std.proofs.Common.{◌≡◌, ℕ, Bool, true, false, if◌then◌else◌, List, [], ◌∷◌, ◌++◌, map, Option, None, inl, inr, refl, sym, ap, ◌∙◌, subst}
+use Rattle.std.proofs.Common.{◌≡◌, ℕ, Bool, true, false, if◌then◌else◌, List, [], ◌∷◌, ◌++◌, map, Option, None, refl, sym, ap, ◌∙◌, subst}
 use Rattle.std.specs.Prelude.{flat_map, codes}
-use Rattle.som_model.specs.declared.syntax.Block.{Block}
-use Rattle.som_model.specs.declared.syntax.Expr.TheVariants as exprs
-use Rattle.som_model.specs.declared.syntax.Stmt.TheVariants as stmts
-use Rattle.som_model.specs.Blocks.{printing}
 use Rattle.std.specs.Str.{bytes_eq}
-use Rattle.som_model.specs.Lists.{Mem, doubles, first, firsts, joined, or_else, without}
+use Rattle.som_model.specs.Lists.{doubles, first, firsts, joined, or_else, without}
 use Rattle.som_model.specs.Ancestors.{anc_within}
 use Rattle.som_model.specs.Keys.{same_key}
 use Rattle.som_model.specs.declared.key.ClassKey.{ClassKey}
@@ -14,8 +10,7 @@ use Rattle.som_model.specs.Class.{Class, introduced}
 use Rattle.som_model.specs.Kernel.{kernel, som_object, object_face}
 use Rattle.som_model.specs.Classes.{hierarchy, ancestors, is_a}
 use Rattle.som_model.specs.Rules.{Breach, breach, introduced_by, s1, s2, s3, s4, s5, s6, s7, s8, s9, s10, s14}
-use Rattle.som_model.specs.Conforming.{each_after, release_breach}
-use Rattle.som_model.specs.Typing.{AreTyped, and_then, no_more, prints_text, a_text}
+use Rattle.som_model.specs.Conforming.{each_after, declared_breach}
 use Rattle.som_model.proofs.NamedLaws.{same_named, height_named, parents_named, hierarchy_parents, hierarchy_same}
 use Rattle.som_first.specs.declared.classes.FirstClass.{FirstClass}
 use Rattle.som_first.specs.declared.calls.CallPlace.{CallPlace}
@@ -23,6 +18,7 @@ use Rattle.som_first.specs.FirstImages.{library_key, release_of}
 use Rattle.som_first.specs.Linking.{Conform, AreCalls, IsMethod, all_of}
 use Rattle.som_first.specs.Worked.{ring, stop, play, bell, gong, chime, chain, named_calls, call_places}
 use Rattle.som_first.proofs.FirstLists.{class_of, classes_of}
+use Rattle.som_first.proofs.PrintedTexts.{release_kept}
 
 abbrev known : List Class
 known = all_of chain
@@ -147,21 +143,14 @@ breach_by two eight ten =
     (or_else (or_else (first (flat_map s6 its)) (or_else (first (flat_map s7 its)) (or_else (first eight) (or_else (first (flat_map (s9 known) its)) (first ten)))))
     (first (flat_map s14 its))))
 
-rules : release_breach (release_of (record { classes = chain })) ≡ None
+rules : declared_breach (release_of (record { classes = chain })) ≡ None
 rules =
     ap (λ (l : List Breach). breach_by l (flat_map (s8 known) its) (flat_map (s10 known) its)) rule_2
     ∙ ap (λ (l : List Breach). breach_by [] l (flat_map (s10 known) its)) rule_8
     ∙ ap (breach_by [] []) rule_10
 
-all_typed : (texts : List (List ℕ)) (b : Block) → Mem b (map printing texts) → AreTyped known b.statements
-all_typed [] b m = absurd m
-all_typed (t ∷ texts) b m = elim m [
-  | inl e ↦ subst (λ (x : Block). AreTyped known x.statements) (sym e) (and_then (stmts.Print (exprs.Str t)) [] (prints_text (exprs.Str t) (a_text t)) no_more)
-  | inr more ↦ all_typed texts b more
-]
-
 pub conform : Conform chain
-conform = record { rules = rules; blocks = all_typed (codes "ding" ∷ codes "hush" ∷ codes "dong" ∷ codes "tune" ∷ []) }
+conform = record { rules = rules; blocks = release_kept (record { classes = chain }) }
 
 -- ---- the calls, by their numbers
 

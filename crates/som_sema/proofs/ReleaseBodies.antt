@@ -1,5 +1,5 @@
 -- The bodies of a release that texts stand for.
-use Rattle.std.proofs.Common.{◌≡◌, ℕ, inl, inr, Bool, true, false, List, [], ◌∷◌, length, map, flat_map, Option, Some, None, is_some, refl, sym, ap, ◌∙◌, subst}
+use Rattle.std.proofs.Common.{◌≡◌, ℕ, inl, inr, Bool, true, false, List, [], ◌∷◌, ◌++◌, length, map, flat_map, Option, Some, None, is_some, refl, sym, ap, ◌∙◌, subst}
 use Rattle.som_model.specs.declared.key.ClassKey.{ClassKey}
 use Rattle.som_model.specs.declared.key.Module.{Module}
 use Rattle.som_model.specs.declared.key.Module.TheVariants as modules
@@ -16,16 +16,16 @@ use Rattle.som_model.specs.declared.class.ClassDecl.{ClassDecl}
 use Rattle.som_model.specs.Lists.{Mem, find, first, option_list, or_else}
 use Rattle.som_model.specs.Class.{Class, class_in, entry_of, introduced}
 use Rattle.som_model.specs.Classes.{interface_classes, library_classes}
-use Rattle.som_model.specs.Conforming.{BlocksAreTyped, blocks_of, each_after}
-use Rattle.som_model.specs.Rules.{s1, s3, s5, s7}
-use Rattle.som_plain.proofs.Members.{Apart, find_first, mem_right, mem_split}
+use Rattle.som_model.specs.Conforming.{bodies_typed, class_typed, each_after, override_typed}
+use Rattle.som_model.specs.Rules.{Breach, s1, s3, s5, s7}
+use Rattle.som_plain.proofs.Members.{Apart, find_first, mem_right}
 use Rattle.som_idl.specs.declared.tree.IdlInterface.{IdlInterface}
 use Rattle.som_verify.specs.Places.{with_kernel}
 use Rattle.som_verify.specs.Plainly.{BodiesFit, Fits}
 use Rattle.som_verify.proofs.Before.{none_both}
 use Rattle.som_verify.proofs.Owners.{flat_none}
 use Rattle.som_verify.proofs.PlainFaces.{or_none}
-use Rattle.som_verify.proofs.PlainLists.{differ_apart, map_mem, mem_map}
+use Rattle.som_verify.proofs.PlainLists.{differ_apart, map_mem, mem_map, says_each}
 use Rattle.som_verify.proofs.PlainMembers.{variables_say}
 use Rattle.som_verify.proofs.PlainMoves.{flat_mem}
 use Rattle.som_sema.specs.Building.{after_base, declared_all, home_of, moved_breach, texts_breach}
@@ -38,11 +38,20 @@ use Rattle.som_sema.proofs.ReleaseLaws.{bodies_law}
 use Rattle.som_sema.proofs.TextBases.{demanded_text}
 use Rattle.som_sema.proofs.TextLaws.{map_same, names_law}
 
--- the blocks of a body
-abbrev block_in : Body → List Block
-block_in (bodies.User b) = b ∷ []
-block_in (bodies.Get n) = []
-block_in (bodies.Set n) = []
+-- where no body is a block, and nothing is overridden, no block breaks a rule
+
+each_accessor : (known : List Class) (c : Class) (es : List Entry) (bs : List Body) → ((b : Block) → Mem (bodies.User b) bs → ⊥) → bodies_typed known c es bs ≡ []
+each_accessor known c [] bs never = refl
+each_accessor known c (entries.Moved name to ∷ es) bs never = each_accessor known c es bs never
+each_accessor known c (entries.Introduced name sig way ∷ es) [] never = refl
+each_accessor known c (entries.Introduced name sig way ∷ es) (bodies.User b ∷ bs) never = absurd (never b (inl refl))
+each_accessor known c (entries.Introduced name sig way ∷ es) (bodies.Get n ∷ bs) never = each_accessor known c es bs (λ b m. never b (inr m))
+each_accessor known c (entries.Introduced name sig way ∷ es) (bodies.Set n ∷ bs) never = each_accessor known c es bs (λ b m. never b (inr m))
+
+unblocked : (known : List Class) (c : Class) → ((b : Block) → Mem (bodies.User b) c.decl.bodies → ⊥) → c.decl.overrides ≡ [] → class_typed known c ≡ []
+unblocked known c never none =
+    ap (λ (l : List Breach). l ++ flat_map (override_typed known c) c.decl.overrides) (each_accessor known c c.decl.face.entries c.decl.bodies never)
+    ∙ ap (λ (os : List Override). flat_map (override_typed known c) os) none
 
 -- each interface with its declaration, one by one
 
@@ -168,28 +177,27 @@ module _ (is : List IdlInterface) (names : first (flat_map text_s6 (library_sket
 
   -- there are no blocks
 
-  accessor_block : (vs : List Variable) (a : Access) (sets : Bool) (b : Block) → a.sets ≡ sets → Mem b (block_in (accessor_body vs a)) → ⊥
-  accessor_block vs a true b e m = rw e at m
-  accessor_block vs a false b e m = rw e at m
+  accessor_block : (vs : List Variable) (a : Access) (sets : Bool) (b : Block) → a.sets ≡ sets → bodies.User b ≡ accessor_body vs a → ⊥
+  accessor_block vs a true b e is = let user : bodies.User b ≡ bodies.Set _ = rw e at is in cc
+  accessor_block vs a false b e is = let user : bodies.User b ≡ bodies.Get _ = rw e at is in cc
 
   option_there : (o : Option Body) (b : Body) → Mem b (option_list o) → o ≡ Some b
   option_there None b m = absurd m
   option_there (Some x) b (inl e) = ap Some (sym e)
   option_there (Some x) b (inr m) = absurd m
 
-  no_block : (i : IdlInterface) → Mem i is → (b : Block) → Mem b (blocks_of (class_in modules.Library (with_bodies (own i)))) → ⊥
+  no_block : (i : IdlInterface) → Mem i is → (b : Block) → Mem (bodies.User b) (with_bodies (own i)).bodies → ⊥
   no_block i m b n =
-      elim (mem_split b (flat_map block_in (with_bodies (own i)).bodies) (flat_map (λ (o : Override). o.block ∷ []) (own i).class.overrides) n) [
-        | inl p ↦ (
-            let r = flat_mem block_in b (with_bodies (own i)).bodies p in
-            let s = flat_mem (λ name. option_list (body_of (own i) name)) r.0 (introduced (own i).class.face.entries) r.1 in
-            let a = accessed (own i) s.0 r.0 (option_there (body_of (own i) s.0) r.0 s.2) in
-            accessor_block (own i).class.variables a.accessor a.accessor.sets b refl (subst (λ (z : Body). Mem b (block_in z)) (sym a.is) r.2))
-        | inr p ↦ subst (λ (z : List Override). Mem b (flat_map (λ (o : Override). o.block ∷ []) z)) (((bodies_law (library_drawn is)).0 stand).overridden (own i) (own_there i m)) p
-      ]
+      let s = flat_mem (λ name. option_list (body_of (own i) name)) (bodies.User b) (introduced (own i).class.face.entries) n in
+      let a = accessed (own i) s.0 (bodies.User b) (option_there (body_of (own i) s.0) (bodies.User b) s.2) in
+      accessor_block (own i).class.variables a.accessor a.accessor.sets b refl (sym a.is)
 
-  pub no_blocks : (known : List Class) → BlocksAreTyped known (library_classes (release_of_texts is))
-  no_blocks known = λ b m.
-      (let r = flat_mem blocks_of b (library_classes (release_of_texts is)) m in
-      let s = of_text r.0 r.1 in
-      absurd (no_block s.0 s.1 b (subst (λ (z : Class). Mem b (blocks_of z)) s.2 r.2)))
+  text_kept : (known : List Class) (i : IdlInterface) → Mem i is → first (class_typed known (class_in modules.Library (with_bodies (own i)))) ≡ None
+  text_kept known i m =
+      let c = class_in modules.Library (with_bodies (own i)) in
+      ap first (unblocked known c (no_block i m) (((bodies_law (library_drawn is)).0 stand).overridden (own i) (own_there i m)))
+
+  pub no_blocks : (known : List Class) → first (flat_map (class_typed known) (library_classes (release_of_texts is))) ≡ None
+  no_blocks known = says_each (class_typed known) (library_classes (release_of_texts is)) (λ c m.
+      (let r = of_text c m in
+      subst (λ (z : Class). first (class_typed known z) ≡ None) (sym r.2) (text_kept known r.0 r.1)))

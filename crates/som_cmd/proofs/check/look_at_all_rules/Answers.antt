@@ -1,17 +1,12 @@
 use Rattle.std.proofs.Common.{◌<◌, length, arith}
-use Rattle.som_libimage.specs.Libraries.{PrintTexts}
 use Rattle.som_model.specs.declared.program.Release.{Release}
 use Rattle.som_model.specs.Conforming.{ReleaseOk}
-use Rattle.som_cmd.proofs.CheckLoops.{item_has, taken_more, taken_all, kept_more}
+use Rattle.som_cmd.proofs.CheckLoops.{taken_more, taken_all, kept_more}
 use Rattle.som_cmd.proofs.check.look_at_all_rules.Goals as goal
-
-pub look_at_rules-requires : goal.look_at_rules-requires
-look_at_rules-requires c =
-    item_has (λ (r : Release). PrintTexts r) c.args.releases.now c.loop-place.place c.index-releases-place.result (omega (arith, c.requires.long)) c.index-releases-place.is c.requires.prints
 
 pub loop-place-preserved : goal.loop-place-preserved
 loop-place-preserved c =
-    let within : c.loop-place.place < length c.args.releases.now = omega (arith, c.requires.long) in
+    let within : c.loop-place.place < length c.args.releases.now = omega (arith, c.requires) in
     record {
       kept = kept_more c.args.names.now c.args.releases.now c.loop-place.place c.index-names-place.result c.index-releases-place.result c.loop-place-test.true c.index-names-place.is within c.index-releases-place.is
           tt c.loop-place.invariant.kept c.in_ok-look_at_rules.ensures.follows;
@@ -19,4 +14,4 @@ loop-place-preserved c =
     }
 
 pub returns-clause-conform : goal.returns-clause-conform
-returns-clause-conform c = taken_all (λ (r : Release). ReleaseOk r) c.args.releases.now c.loop-place.place (omega (arith, c.requires.long)) c.loop-place.invariant.conform
+returns-clause-conform c = taken_all (λ (r : Release). ReleaseOk r) c.args.releases.now c.loop-place.place (omega (arith, c.requires)) c.loop-place.invariant.conform

@@ -1,6 +1,5 @@
 use Rattle.std.proofs.Common.{◌<◌, ◌≡◌, ◌++◌, ◌∷◌, [], length, length-append, arith}
 use Rattle.som_model.specs.declared.program.Release.{Release}
-use Rattle.som_libimage.specs.Libraries.{PrintTexts}
 use Rattle.som_libimage.specs.Limits.{IsWithinLimits}
 use Rattle.som_cmd.proofs.CheckLoops.{read_more, one_more_has}
 use Rattle.som_cmd.proofs.check.read_all.Goals as goal
@@ -13,6 +12,5 @@ loop-place-preserved c =
       read = read_more c.args.names.now c.args.images.now c.loop-place.place c.index-names-place.result c.index-images-place.result c.loop-place-test.true c.index-names-place.is within c.index-images-place.is
           c.loop-place.releases c.in_ok-read_release.field-0 c.loop-place.invariant.read c.in_ok-read_release.ensures.follows;
       long = let l = length-append c.loop-place.releases (c.in_ok-read_release.field-0 ∷ []) in omega (arith, l, c.loop-place.invariant.long);
-      prints = one_more_has (λ (r : Release). PrintTexts r) c.loop-place.releases c.in_ok-read_release.field-0 c.loop-place.invariant.prints c.in_ok-read_release.ensures.prints;
       within = one_more_has (λ (r : Release). IsWithinLimits r) c.loop-place.releases c.in_ok-read_release.field-0 c.loop-place.invariant.within c.in_ok-read_release.ensures.within;
     })

@@ -1,6 +1,5 @@
 use Rattle.std.proofs.Common.{◌≡◌, length}
 use Rattle.std.specs.Prelude.{All}
-use Rattle.som_libimage.specs.Libraries.{PrintTexts}
 use Rattle.som_libimage.specs.Limits.{IsWithinLimits}
 use Rattle.som_cmd.proofs.CheckLoops.{HasRead}
 use Rattle.som_cmd.proofs.check.read_all.Given as goal
@@ -9,6 +8,5 @@ abbrev pub invariant-loop-place : goal.invariant-loop-place
 invariant-loop-place l = record {
   read : HasRead l.names l.images l.place l.releases;
   long : length l.releases ≡ l.place;
-  prints : All PrintTexts l.releases;
   within : All IsWithinLimits l.releases;
 }

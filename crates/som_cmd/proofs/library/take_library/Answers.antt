@@ -1,10 +1,7 @@
 use Rattle.std.proofs.Common.{ap, Err}
 use Rattle.som_first.proofs.Within.{within}
-use Rattle.som_cmd.proofs.LibraryLaws.{none_conforming, taken, taken_spelled, form_prints}
+use Rattle.som_cmd.proofs.LibraryLaws.{none_conforming, taken, taken_spelled}
 use Rattle.som_cmd.proofs.library.take_library.Goals as goal
-
-pub release_ok-requires : goal.release_ok-requires
-release_ok-requires c = form_prints c.in_ok-first.first c.in_ok-release.release c.in_ok-first.ensures.made
 
 pub returns-in-Ok : goal.returns-in-Ok
 returns-in-Ok c = record {

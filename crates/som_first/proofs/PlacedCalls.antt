@@ -1,13 +1,9 @@
--- Whether calls on new objects are well typed, and what that asks of calls that name their classes and methods by faces.
-use Rattle.std.proofs.Common.{◌≡◌, ℕ, zero, suc, ◌⊎◌, inl, inr, Bool, true, false, not, if◌then◌else◌, List, [], ◌∷◌, ◌++◌, map, Option, Some, None, is_some, slice_get, refl, sym, ap, ◌∙◌, subst, true≢false}
+-- Calls that name their classes and methods by faces are well typed where the object's class descends from the method's.
+use Rattle.std.proofs.Common.{◌≡◌, ℕ, zero, suc, Bool, true, false, not, if◌then◌else◌, List, [], ◌∷◌, ◌++◌, map, Option, Some, None, is_some, slice_get, refl, sym, ap, ◌∙◌}
 use Rattle.std.specs.Prelude.{codes}
 use Rattle.std.proofs.lemmas.List.{map-append}
-use Rattle.som_model.specs.declared.key.ValueType.{ValueType}
 use Rattle.som_model.specs.declared.key.ValueType.TheVariants as types
 use Rattle.som_model.specs.declared.key.Module.TheVariants as modules
-use Rattle.som_model.specs.declared.syntax.Stmt.{Stmt}
-use Rattle.som_model.specs.declared.syntax.Expr.TheVariants as exprs
-use Rattle.som_model.specs.declared.class.Sig.{Sig}
 use Rattle.som_model.specs.declared.class.ClassFace.{ClassFace}
 use Rattle.som_model.specs.Lists.{among}
 use Rattle.som_model.specs.Class.{Class, class_in, bare, introduced_sig}
@@ -16,69 +12,17 @@ use Rattle.som_model.specs.Classes.{class_at, is_a, interface_classes}
 use Rattle.som_model.specs.Owner.{owner, sig_of}
 use Rattle.som_model.specs.Rules.{Breach, breach, name_of, s1}
 use Rattle.som_model.specs.Conforming.{each_after}
-use Rattle.som_model.specs.Typing.{HaveTypes, none, a_new, an_offset_call, IsTyped, calls_by_offset, AreTyped, no_more, and_then}
 use Rattle.som_first.specs.declared.classes.FirstMethod.{FirstMethod}
 use Rattle.som_first.specs.declared.classes.FirstClass.{FirstClass}
 use Rattle.som_first.specs.declared.classes.FirstFace.{FirstFace}
 use Rattle.som_first.specs.declared.classes.FirstCall.{FirstCall}
-use Rattle.som_first.specs.FirstImages.{library_key, called, call_of, face_of, seen}
+use Rattle.som_first.specs.FirstImages.{library_key, called, face_of, seen}
 use Rattle.som_first.proofs.FirstLists.{classes_of}
 use Rattle.som_first.proofs.FirstOrder.{owner_itself}
 use Rattle.som_first.proofs.FirstClasses.{known, known_plain, class_once, entry_once}
 use Rattle.som_first.proofs.FirstAnswered.{faces_plain}
 use Rattle.som_first.proofs.SameFaces.{face_only, sig_faces, known_faces}
-use Rattle.som_first.proofs.TypedCalls.{statement_typed}
-
--- a call of a method that is introduced without parameters, on a new object of a class that is known and descends from the method's
-pub call_typed : (cs : List Class) (c : FirstCall) (sig : Sig) → is_some (class_at cs (library_key c.object)) ≡ true → is_a cs (library_key c.object) (library_key c.class) ≡ true
-    → sig_of cs (owner cs (called c)) ≡ Some sig → sig.params ≡ [] → IsTyped cs (call_of c)
-call_typed cs c sig known below introduced takes =
-    let k = library_key c.object in
-    calls_by_offset (called c) (exprs.New k) [] sig.result
-    (an_offset_call (called c) (exprs.New k) [] k sig (a_new k known) below introduced (subst (λ (ts : List ValueType). HaveTypes cs [] ts) (sym takes) none))
-
--- a call that is well typed is one
-pub typed_call : (cs : List Class) (c : FirstCall) → IsTyped cs (call_of c)
-    → (sig : Sig) × (is_some (class_at cs (library_key c.object)) ≡ true) × (is_a cs (library_key c.object) (library_key c.class) ≡ true) × (sig_of cs (owner cs (called c)) ≡ Some sig) × (sig.params ≡ [])
-typed_call cs c typed =
-    let t = statement_typed cs (call_of c) typed (called c) (library_key c.object) refl in
-    (t.sig, t.known, t.below, t.introduced, t.takes_none)
-
-empty_decided : {A : Type 0} (xs : List A) → (xs ≡ []) ⊎ (xs ≡ [] → ⊥)
-empty_decided [] = inl refl
-empty_decided (x ∷ xs) = inr (λ e. cc)
-
-pub call_decided : (cs : List Class) (c : FirstCall) → IsTyped cs (call_of c) ⊎ (IsTyped cs (call_of c) → ⊥)
-call_decided cs c = by (is_some (class_at cs (library_key c.object))) (is_a cs (library_key c.object) (library_key c.class)) (sig_of cs (owner cs (called c))) refl refl refl
-  where
-    by_params : (sig : Sig) → is_some (class_at cs (library_key c.object)) ≡ true → is_a cs (library_key c.object) (library_key c.class) ≡ true → sig_of cs (owner cs (called c)) ≡ Some sig
-        → (sig.params ≡ []) ⊎ (sig.params ≡ [] → ⊥) → IsTyped cs (call_of c) ⊎ (IsTyped cs (call_of c) → ⊥)
-    by_params sig known below introduced (inl takes) = inl (call_typed cs c sig known below introduced takes)
-    by_params sig known below introduced (inr never) =
-        inr (λ t. let q = typed_call cs c t in let both : Some q.0 ≡ Some sig = sym q.3 ∙ introduced in let same : q.0 ≡ sig = cc in never (ap (λ (z : Sig). z.params) (sym same) ∙ q.4))
-
-    by : (a b : Bool) (o : Option Sig) → is_some (class_at cs (library_key c.object)) ≡ a → is_a cs (library_key c.object) (library_key c.class) ≡ b → sig_of cs (owner cs (called c)) ≡ o
-        → IsTyped cs (call_of c) ⊎ (IsTyped cs (call_of c) → ⊥)
-    by false b o e f g = inr (λ t. true≢false (sym (typed_call cs c t).1 ∙ e))
-    by true false o e f g = inr (λ t. true≢false (sym (typed_call cs c t).2 ∙ f))
-    by true true None e f g = inr (λ t. let q = typed_call cs c t in let both : Some q.0 ≡ None = sym q.3 ∙ g in cc)
-    by true true (Some sig) e f g = by_params sig e f g (empty_decided sig.params)
-
-parts_typed : (cs : List Class) (s : Stmt) (ss : List Stmt) → AreTyped cs (s ∷ ss) → IsTyped cs s × AreTyped cs ss
-parts_typed cs s ss (and_then t ts one more) = (one, more)
-
--- the calls of a main are well typed, or not
-pub calls_decided : (cs : List Class) (calls : List FirstCall) → AreTyped cs (map call_of calls) ⊎ (AreTyped cs (map call_of calls) → ⊥)
-calls_decided cs [] = inl no_more
-calls_decided cs (c ∷ calls) = by (call_decided cs c) (calls_decided cs calls)
-  where
-    by : IsTyped cs (call_of c) ⊎ (IsTyped cs (call_of c) → ⊥) → AreTyped cs (map call_of calls) ⊎ (AreTyped cs (map call_of calls) → ⊥)
-        → AreTyped cs (map call_of (c ∷ calls)) ⊎ (AreTyped cs (map call_of (c ∷ calls)) → ⊥)
-    by (inl one) (inl more) = inl (and_then (call_of c) (map call_of calls) one more)
-    by (inr never) more = inr (λ t. never (parts_typed cs (call_of c) (map call_of calls) t).0)
-    by (inl one) (inr never) = inr (λ t. never (parts_typed cs (call_of c) (map call_of calls) t).1)
-
--- ---- classes of which the faces are known
+use Rattle.som_first.proofs.TypedCalls.{TypedCall}
 
 -- a class with that face, whose methods print nothing
 abbrev pub silent : List ℕ → FirstMethod
@@ -161,9 +105,6 @@ module _ (fs : List FirstFace) (once : each_after s1 kernel (interface_classes (
       ∙ ap introduced_sig
       (entry_once ds first_once at.class_place at.slot (class_with at.class) (silent c.method) (stands_on class_with fs at.class_place at.class at.class_stands) (stands_on silent at.class.methods at.slot c.method at.method_at))
 
-  -- such a call is well typed exactly where the object's class descends from the method's
-  pub typed_below : IsTyped (faced fs) (call_of c) → is_a (faced fs) (library_key c.object) (library_key c.class) ≡ true
-  typed_below typed = (typed_call (faced fs) c typed).2
-
-  pub below_typed : is_a (faced fs) (library_key c.object) (library_key c.class) ≡ true → IsTyped (faced fs) (call_of c)
-  below_typed below = call_typed (faced fs) c (record { result = types.Void; params = [] }) object_known below method_introduced refl
+  -- such a call is well typed where the object's class descends from the method's
+  pub below_typed : is_a (faced fs) (library_key c.object) (library_key c.class) ≡ true → TypedCall (faced fs) c
+  below_typed below = record { known = object_known; below = below; sig = record { result = types.Void; params = [] }; introduced = method_introduced; takes_none = refl }
