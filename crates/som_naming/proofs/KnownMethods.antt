@@ -14,9 +14,9 @@ use Rattle.som_model.specs.Owner.{entry_at, introduces, owner, owner_within}
 use Rattle.som_model.specs.Typing.{class_facts}
 use Rattle.som_model.proofs.KeyLaws.{exact_bytes, exact_keys}
 use Rattle.som_naming.specs.declared.directory.Directory.{Directory}
+use Rattle.som_naming.specs.Naming.{Tells, entry_names}
 use Rattle.som_naming.specs.Numbering.{MethodKnown}
 use Rattle.som_naming.proofs.Places.{place_of_map}
-use Rattle.som_naming.specs.Naming.{Tells, entry_names}
 use Rattle.som_naming.proofs.Numbers.{Known, known}
 use Rattle.som_naming.proofs.Numbering.{first_place}
 use Rattle.som_naming.proofs.TypedBlocks.{Covers}
