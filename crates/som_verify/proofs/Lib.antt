@@ -36,8 +36,5 @@ pub mod Grounds
 pub mod Conforming
 pub mod KnownLaws
 pub mod CallLaws
-<<<<<<< HEAD
-=======
 pub mod ArgLaws
 pub mod PartLaws
->>>>>>> 57bedf05528d8e4dcff32cc3b0247b193b8b64f1

@@ -40,14 +40,11 @@ mod statements;
 mod table;
 #[cfg(test)]
 mod tests;
-<<<<<<< HEAD
+#[cfg(test)]
+mod tests_of_kinds;
 mod typed_bodies;
 #[cfg(test)]
 mod typed_cases;
-=======
-#[cfg(test)]
-mod tests_of_kinds;
->>>>>>> 57bedf05528d8e4dcff32cc3b0247b193b8b64f1
 mod types;
 
 pub use ancestry::ancestors;
