@@ -1,10 +1,11 @@
-//! Blocks, bodies and parts of images, with numbers for classes and methods: how each is spelled, and how it is read from left
-//! to right. Nothing writes them here so far.
+//! Blocks, bodies and parts of images, with numbers for classes and methods: how each is spelled, read from left to right, and
+//! written.
 //!
 //! A reader is given all bytes and a place, as those of `som_wire`, and so many levels: a statement of a body has level 1,
 //! and what stands in a statement or an expression one more. Its clauses say three things: what it `found` stands there in its one
 //! spelling and fits; what stands there and fits is what `only` can be read; and the fault is `exact`ly the first one, which
-//! `specs/Reading.antt` finds on the way from left to right.
+//! `specs/Reading.antt` finds on the way from left to right. A writer appends the one spelling of `specs/Spelling.antt`.
+//! After want of memory `out` is as it was.
 #![tactic(auto)]
 
 mod block;
@@ -22,8 +23,6 @@ mod write_expr;
 mod write_stmt;
 
 pub use block::{read_block, write_block};
-pub use laws::{
-    no_spelling_begins_another, what_fits_can_be_written, what_was_written_is_read,
-};
+pub use laws::{no_spelling_begins_another, what_fits_can_be_written, what_was_written_is_read};
 pub use part::{read_part, write_part};
 pub use syntax::{WireBlock, WireBody, WireExpr, WireOverride, WirePart, WireStmt, WireVariable};

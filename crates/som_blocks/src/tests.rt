@@ -1,6 +1,7 @@
 ghost use Rattle.std.specs.Prelude.{◌≡◌, ◌≤◌, length, IfOk};
 
 use super::*;
+use crate::block::know_ranges;
 use som_model::List;
 use som_wire::{ImageFault, Ranges};
 use std::alloc::Global;
@@ -66,6 +67,13 @@ const PART: [u8; 30] = [
     0xff, 0x02, 0x00, 0x00, 0x01, 0x00, 0x04, 0x00, 0x02, 0x00, 0x00, 0x00, 0x01, 0x06,
 ];
 
+// Blocks that are read and written: none, all statements and expressions, and one that is within another.
+const BLOCKS: [&[u8]; 3] = [
+    &[0, 0, 0, 0],
+    &BLOCK,
+    &[0, 0, 0, 1, 5, 0x23, 0, 0, 0, 2, 6, 8, 0x21, 0, 1, 0x6b],
+];
+
 // Five classes, with 1, 6, 2, 2 and 3 entries.
 fn ranges(alloc: Global) -> Result<Ranges, ImageFault>
     ensures { IfOk result (λ r. length r.entries ≡ r.classes) }
@@ -89,6 +97,28 @@ fn part_end(alloc: Global, bytes: &[u8]) -> Result<usize, ImageFault> {
     let list = List::from_slice(alloc, bytes)?;
     let ranges = ranges(alloc)?;
     Ok(read_part(alloc, &list, 0, &ranges, 3)?.next)
+}
+
+// What is written of a block that is read.
+fn block_written(alloc: Global, bytes: &[u8]) -> Result<List<u8>, ImageFault> {
+    let list = List::from_slice(alloc, bytes)?;
+    let ranges = ranges(alloc)?;
+    let block = read_block(alloc, &list, 0, &ranges, 1)?;
+    know_ranges(&ranges);
+    let mut out = List::new(alloc);
+    write_block(alloc, &mut out, &block.value)?;
+    Ok(out)
+}
+
+// The same of a part.
+fn part_written(alloc: Global, bytes: &[u8]) -> Result<List<u8>, ImageFault> {
+    let list = List::from_slice(alloc, bytes)?;
+    let ranges = ranges(alloc)?;
+    let part = read_part(alloc, &list, 0, &ranges, 3)?;
+    know_ranges(&ranges);
+    let mut out = List::new(alloc);
+    write_part(alloc, &mut out, &part.value)?;
+    Ok(out)
 }
 
 // The bytes with another byte at a place.
@@ -227,5 +257,16 @@ fn a_tag_that_cannot_stand_is_no_nesting(rt: HostRuntime) -> Result<(), Fail> {
     assert_eq!(rt; block_end(alloc, &[0, 0, 0, 1, 10, 0x33], 32), nesting(5));
     let end = block_end(alloc, &[0, 0, 0, 1, 10, 0x23], 32);
     assert_eq!(rt; end, Err(ImageFault::Tag { offset: 5 }));
+    Ok(())
+}
+
+#[test]
+fn what_is_read_is_written_again(rt: HostRuntime) -> Result<(), Fail> {
+    for bytes in &BLOCKS {
+        let written = block_written(rt.alloc(), bytes)?;
+        assert_eq!(rt; written.as_slice(), *bytes);
+    }
+    let written = part_written(rt.alloc(), &PART)?;
+    assert_eq!(rt; written.as_slice(), &PART[..]);
     Ok(())
 }

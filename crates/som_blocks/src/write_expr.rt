@@ -59,10 +59,14 @@ fn append_head(alloc: Global, out: &mut List<u8>, value: &WireExpr) -> Result<()
         WireExpr::Proxy { class, .. } => append_short(out, 0x2e, *class),
         WireExpr::OffsetCall { method, .. } => append_method(out, 0x2f, method),
         WireExpr::Lookup {
-            result: kind, name, ..
+            result: kind,
+            name,
+            ..
         } => append_named(alloc, out, 0x30, kind, name),
         WireExpr::Dispatch {
-            result: kind, name, ..
+            result: kind,
+            name,
+            ..
         } => append_named(alloc, out, 0x31, kind, name),
         WireExpr::ParentCall { parent, method, .. } => append_parent(out, 0x32, *parent, method),
         WireExpr::ParentsCall { method, .. } => append_method(out, 0x33, method),

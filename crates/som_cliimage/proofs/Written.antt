@@ -7,16 +7,16 @@ use Rattle.std.proofs.lemmas.List.Elements.{All-from_recursion, recursion_from_A
 use Rattle.som_model.specs.declared.limits.TheConstants.{MAX_CLIENT_CLASSES}
 use Rattle.som_wire.specs.declared.face.WireFace.{WireFace}
 use Rattle.som_wire.specs.declared.method.Ranges.{Ranges}
-use Rattle.som_wire.specs.Spelling.{FitsFace}
+use Rattle.som_wire.specs.Spelling.{FitsFace, FitsMethod}
 use Rattle.som_blocks.specs.Fitting.{levels_left, FitsSomePart, FitsSomeBlock}
 use Rattle.som_blocks.proofs.SomeFits.{block_some}
 use Rattle.som_naming.specs.declared.directory.Directory.{Directory}
-use Rattle.som_naming.specs.Naming.{library_directory}
+use Rattle.som_naming.specs.Naming.{library_directory, ranges_in}
 use Rattle.som_naming.proofs.Places.{all_map, all_mapped}
 use Rattle.som_libimage.specs.Naming.{face_named, classes_named}
 use Rattle.som_libimage.specs.Limits.{FaceWithin, ClassWithin}
 use Rattle.som_libimage.proofs.LibraryFields.{faces_few}
-use Rattle.som_libimage.proofs.BlocksWithin.{block_within}
+use Rattle.som_naming.proofs.NamedLimits.{named_is_within}
 use Rattle.som_libimage.proofs.Turned.{parts_written, face_within, classes_within, few_classes}
 use Rattle.som_cliimage.specs.declared.wire.WireProgram.{WireProgram}
 use Rattle.som_cliimage.specs.Reading.{client_ranges}
@@ -45,5 +45,5 @@ module _ (w : WireProgram) (fits : FitsProgram w) where
             (all_mapped FaceWithin (face_named (library_directory w.base).keys) w.base (all_map (FitsFace (length w.base + 4)) (λ f. FaceWithin (face_named (library_directory w.base).keys f)) (face_within (library_directory w.base).keys (length w.base + 4)) w.base (recursion_from_All (FitsFace (length w.base + 4)) w.base fits.base.2)));
         classes = omega (arith, fits.faces.1, few_classes d w.faces w.parts);
         each_class = All-from_recursion ClassWithin (classes_named d w.faces w.parts) (classes_within d (length w.faces + (length w.base + 4)) w.faces w.parts (recursion_from_All (FitsFace (length w.faces + (length w.base + 4))) w.faces fits.faces.2) parts);
-        main = block_within d w.main main;
+        main = named_is_within d (length d.keys) (FitsMethod (ranges_in d)) w.main main;
       }

@@ -7,7 +7,10 @@ use som_naming::Directory;
 use std::alloc::Global;
 
 /// The kernel's classes and those of an interface.
-pub(crate) fn interface_directory(alloc: Global, interface: &Interface) -> Result<Directory, NoMemory>
+pub(crate) fn interface_directory(
+    alloc: Global,
+    interface: &Interface,
+) -> Result<Directory, NoMemory>
     ensures { IfOk result (λ directory. directory ≡ interface_directory interface.now) }
 {
     let mut directory = Directory::of_kernel(alloc)?;

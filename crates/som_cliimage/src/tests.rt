@@ -135,7 +135,10 @@ const WRONG_CALLS: &[(&[u8], ImageFault)] = &[
     (b"\x2f\0\0\0\x09\x23\0", ImageFault::Number { offset: 51 }),
     (b"\x2f\0\x04\0\0\x23\x11", ImageFault::Number { offset: 54 }),
     (b"\x30\x05\0\0\x23\0", ImageFault::Tag { offset: 49 }),
-    (b"\x30\x04\0\x05\0\0\x23\0", ImageFault::Number { offset: 50 }),
+    (
+        b"\x30\x04\0\x05\0\0\x23\0",
+        ImageFault::Number { offset: 50 },
+    ),
     (b"\x31\x05\0\0\x23\0", ImageFault::Tag { offset: 49 }),
     (b"\x32\0\0\x04\0\x01\0", ImageFault::Number { offset: 52 }),
     (b"\x32\0\0\x04\0\0\x11", ImageFault::Number { offset: 54 }),
@@ -225,8 +228,14 @@ fn an_image_that_ends_early_is_cut(rt: HostRuntime) -> Result<(), Fail> {
 fn nothing_follows_main(rt: HostRuntime) -> Result<(), Fail> {
     let mut bytes = List::from_slice(rt.alloc(), &HELLO)?;
     bytes.push(0)?;
-    assert_eq!(rt; statements(rt.alloc(), &bytes), Err(ImageFault::Trailing { offset: 57 }));
-    assert_eq!(rt; told(rt.alloc(), b"SOML\x09"), Err(ImageFault::Magic { offset: 0 }));
+    assert_eq!(rt;
+        statements(rt.alloc(), &bytes),
+        Err(ImageFault::Trailing { offset: 57 })
+    );
+    assert_eq!(rt;
+        told(rt.alloc(), b"SOML\x09"),
+        Err(ImageFault::Magic { offset: 0 })
+    );
     Ok(())
 }
 
@@ -237,7 +246,11 @@ fn each_byte_is_looked_at(rt: HostRuntime) -> Result<(), Fail> {
             Some(fault) => Err(fault),
             None => Ok(1),
         };
-        assert_eq!(rt; changed(rt.alloc(), &HELLO, place, b"\xff"), expected, "FF at {place}");
+        assert_eq!(rt;
+            changed(rt.alloc(), &HELLO, place, b"\xff"),
+            expected,
+            "FF at {place}"
+        );
     }
     Ok(())
 }
@@ -267,7 +280,11 @@ fn each_tag_has_its_fields(rt: HostRuntime) -> Result<(), Fail> {
 #[test]
 fn classes_and_slots_are_those_that_are_there(rt: HostRuntime) -> Result<(), Fail> {
     for &(at, new, fault) in OUT_OF_RANGE {
-        assert_eq!(rt; changed(rt.alloc(), &OWN, at, new), Err(fault), "out of range at {at}");
+        assert_eq!(rt;
+            changed(rt.alloc(), &OWN, at, new),
+            Err(fault),
+            "out of range at {at}"
+        );
     }
     for &(at, new) in TAKEN {
         assert_eq!(rt; changed(rt.alloc(), &OWN, at, new), Ok(0), "taken at {at}");
@@ -289,7 +306,10 @@ fn nested(alloc: Global, signs: usize) -> Result<usize, ImageFault> {
 #[test]
 fn level_33_is_too_deep(rt: HostRuntime) -> Result<(), Fail> {
     assert_eq!(rt; nested(rt.alloc(), 30), Ok(1));
-    assert_eq!(rt; nested(rt.alloc(), 31), Err(ImageFault::Nesting { offset: 110 }));
+    assert_eq!(rt;
+        nested(rt.alloc(), 31),
+        Err(ImageFault::Nesting { offset: 110 })
+    );
     Ok(())
 }
 

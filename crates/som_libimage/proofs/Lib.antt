@@ -1,4 +1,3 @@
-pub mod BlocksWithin
 pub mod EachFields
 pub mod LibraryFields
 pub mod Naming

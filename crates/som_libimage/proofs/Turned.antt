@@ -34,7 +34,7 @@ use Rattle.som_libimage.specs.Limits.{EntryWithin, FaceWithin, BodyWithin, Class
 use Rattle.som_libimage.specs.Numbering.{release_numbered}
 use Rattle.som_libimage.proofs.Naming.{ranges_known}
 use Rattle.som_libimage.proofs.LibraryFields.{faces_few, ranges_short}
-use Rattle.som_libimage.proofs.BlocksWithin.{block_within}
+use Rattle.som_naming.proofs.NamedLimits.{named_is_within}
 use Rattle.som_libimage.proofs.NumberedReleases.{ReleaseTurns}
 
 -- ---- what was numbered
@@ -91,7 +91,7 @@ module _ (d : Directory) where
   Fits = FitsBody (length d.keys) (FitsMethod (ranges_in d))
 
   body_within : (b : WireBody) → Fits b → BodyWithin (body_named d b)
-  body_within (bodies.User b) h = block_within d b h
+  body_within (bodies.User b) h = named_is_within d (length d.keys) (FitsMethod (ranges_in d)) b h
   body_within (bodies.Get n) h = tt
   body_within (bodies.Set n) h = tt
 
@@ -105,7 +105,7 @@ module _ (d : Directory) where
     each_variable = all_named (FitsVariable (length d.keys)) (λ (v : Variable). TextWithin v.name) (variable_named d.keys) (λ v k. k.name) p.variables h.variables.2;
     each_body = all_named Fits BodyWithin (body_named d) body_within p.bodies h.bodies.1;
     overrides = omega (arith, h.overrides.1, length-map p.overrides (override_named d));
-    each_override = all_named FitsHere (λ (o : Override). BlockWithin o.block) (override_named d) (λ o k. block_within d o.block k.block) p.overrides h.overrides.2;
+    each_override = all_named FitsHere (λ (o : Override). BlockWithin o.block) (override_named d) (λ o k. named_is_within d (length d.keys) (FitsMethod (ranges_in d)) o.block k.block) p.overrides h.overrides.2;
   }
 
   pub classes_within : (n : ℕ) (fs : List WireFace) (ps : List WirePart) → AllByRecursion (FitsFace n) fs → FitsParts (ranges_in d) fs ps → AllByRecursion ClassWithin (classes_named d fs ps)

@@ -8,9 +8,7 @@ ghost use Rattle.std.specs.List.{flat_map};
 ghost use Rattle.std.specs.Prelude.{◌≡◌, ◌<◌, ◌≤◌, ◌+◌, ◌++◌, ◌^◌, ℕ, length, All, IfOk, OnOk};
 
 use som_model::{List, MAX_LIBRARY_CLASSES, NoMemory};
-use som_wire::{
-    ImageFault, Ranges, Read, WireFace, read_face, read_many, read_u16, write_face,
-};
+use som_wire::{ImageFault, Ranges, Read, WireFace, read_face, read_many, read_u16, write_face};
 use std::alloc::Global;
 
 const KERNEL_CLASSES: u16 = 4;

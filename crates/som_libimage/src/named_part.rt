@@ -48,11 +48,7 @@ fn name_variables(
     Ok(named)
 }
 
-fn name_body(
-    alloc: Global,
-    directory: &Directory,
-    body: &WireBody,
-) -> Result<Body, NoMemory>
+fn name_body(alloc: Global, directory: &Directory, body: &WireBody) -> Result<Body, NoMemory>
     requires { FitsBody (ranges_in directory.now).classes (FitsMethod (ranges_in directory.now)) body.now }
     ensures { IfOk result (λ named. named ≡ body_named directory.now body.now) }
 {

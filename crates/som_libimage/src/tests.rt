@@ -135,7 +135,7 @@ const HIGHEST: &[(usize, &[u8], ImageFault)] = &[
     (18, b"\x10", ImageFault::Number { offset: 25 }),
     (21, b"\x01", ImageFault::Cut { offset: 121 }),
     (22, b"\x01\0", ImageFault::Cut { offset: 121 }),
-    (46, b"\x02", ImageFault::Tag { offset: 94 }),
+    (46, b"\x02", ImageFault::Tag { offset: 97 }),
     (47, b"\x04", ImageFault::Tag { offset: 51 }),
     (48, b"\x10", ImageFault::Tag { offset: 49 }),
     (81, b"\x40", ImageFault::Tag { offset: 88 }),
@@ -243,7 +243,10 @@ fn nested(alloc: Global, signs: usize) -> Result<usize, ImageFault> {
 #[test]
 fn level_33_is_too_deep(rt: HostRuntime) -> Result<(), Fail> {
     assert_eq!(rt; nested(rt.alloc(), 30), Ok(1));
-    assert_eq!(rt; nested(rt.alloc(), 31), Err(ImageFault::Nesting { offset: 110 }));
+    assert_eq!(rt;
+        nested(rt.alloc(), 31),
+        Err(ImageFault::Nesting { offset: 110 })
+    );
     Ok(())
 }
 

@@ -1,5 +1,5 @@
 -- What is found has a number, and what is ready is found.
-use Rattle.std.proofs.Common.{◌≡◌, ℕ, zero, suc, inl, inr, Bool, true, false, ◌&&◌, if◌then◌else◌, true≢false, List, [], ◌∷◌, map, get_or, is_some, Option, Some, refl, sym, ap, ◌∙◌}
+use Rattle.std.proofs.Common.{◌≡◌, ℕ, zero, suc, inl, inr, Bool, true, false, ◌&&◌, if◌then◌else◌, true≢false, List, [], ◌∷◌, map, get_or, is_some, Some, refl, sym, ap, ◌∙◌}
 use Rattle.std.specs.List.{list_all, AllByRecursion}
 use Rattle.std.specs.Str.{bytes_eq}
 use Rattle.std.proofs.lemmas.List.Elements.{recursion_from_All}
@@ -17,8 +17,8 @@ use Rattle.som_model.specs.Keys.{same_key}
 use Rattle.som_model.proofs.KeyLaws.{Exact, both, exact_bytes, exact_keys}
 use Rattle.som_blocks.specs.Fitting.{levels_left}
 use Rattle.som_naming.specs.declared.directory.Directory.{Directory}
-use Rattle.som_naming.specs.Numbering.{number_of, MethodKnown, IsKnown, IsValue}
-use Rattle.som_naming.specs.FoundNames.{has_number, has_slot, kind_found, all_found, found_step, expr_found, stmt_found_step, block_found_step, stmt_found, block_found}
+use Rattle.som_naming.specs.Numbering.{number_of, MethodKnown, IsKnown}
+use Rattle.som_naming.specs.FoundNames.{has_number, has_slot, kind_found, all_found, found_step, expr_found, stmt_found_step, block_found_step, stmt_found, block_found, statements_found}
 use Rattle.som_naming.specs.BlockLimits.{ArgsWithin, StatementsWithin}
 use Rattle.som_naming.specs.ReadyBlocks.{ExprPartsReady, ExprReady, StmtPartsReady, StmtReady, BlockReady}
 use Rattle.som_naming.proofs.Numbering.{first_place, as_type}
@@ -52,7 +52,7 @@ kind_there d types.Boolean h = tt
 kind_there d types.Str h = tt
 kind_there d (types.Class k) h = number_there d k h
 
-and_true : (a b : Bool) → a ≡ true → b ≡ true → (a && b) ≡ true
+pub and_true : (a b : Bool) → a ≡ true → b ≡ true → (a && b) ≡ true
 and_true true b e f = f
 and_true false b e f = absurd (true≢false (sym e))
 
@@ -64,7 +64,8 @@ each_found test (x ∷ xs) h =
     and_true (test x) (list_all test xs) b.0 (each_found test xs b.1)
 
 -- a block, by its statements
-pub statements_there : (d : Directory) (b : Block) → block_found d b ≡ true → list_all (stmt_found d) b.statements ≡ true
+pub statements_there : (d : Directory) (b : Block) → block_found d b ≡ true → statements_found d b ≡ true
+unfolding statements_found
 statements_there d b h =
     each_found (stmt_found d) b.statements (sym (fold-roll-Block Bool Bool (stmt_found_step d) block_found_step (record { statements = b.statements })) ∙ h)
 
@@ -86,7 +87,7 @@ kind_found_if d types.Boolean known = refl
 kind_found_if d types.Str known = refl
 kind_found_if d (types.Class k) known = has_number_if d k known
 
-all_if : {A : Type 0} (Ready : A → Type 0) (test : A → Bool) → ((x : A) → Ready x → test x ≡ true) → (xs : List A) → AllByRecursion Ready xs → all_found (map test xs) ≡ true
+pub all_if : {A : Type 0} (Ready : A → Type 0) (test : A → Bool) → ((x : A) → Ready x → test x ≡ true) → (xs : List A) → AllByRecursion Ready xs → all_found (map test xs) ≡ true
 all_if Ready test f [] h = refl
 all_if Ready test f (x ∷ xs) h = and_true (test x) (all_found (map test xs)) (f x h.0) (all_if Ready test f xs h.1)
 
@@ -141,8 +142,8 @@ module _ (d : Directory) where
     statement_found (Stmt-F.Free e) ready = inner e ready
     statement_found (Stmt-F.Call e) ready = inner e ready.0
 
-  statements_found : (Ready : Stmt → Type 0) → ((s : Stmt) → Ready s → stmt_found d s ≡ true) → (b : Block) → StatementsWithin Ready b → block_found d b ≡ true
-  statements_found Ready one b ready =
+  each_statement : (Ready : Stmt → Type 0) → ((s : Stmt) → Ready s → stmt_found d s ≡ true) → (b : Block) → StatementsWithin Ready b → block_found d b ≡ true
+  each_statement Ready one b ready =
       fold-roll-Block Bool Bool (stmt_found_step d) block_found_step (record { statements = b.statements })
       ∙ all_if Ready (stmt_found d) one b.statements (recursion_from_All Ready b.statements ready.1)
 
@@ -151,7 +152,7 @@ module _ (d : Directory) where
   ready_stmt zero s ready = absurd ready
   ready_stmt (suc left) s ready =
       ap (stmt_found d) (sym (roll-out-Stmt s)) ∙ fold-roll-Stmt Bool Bool (stmt_found_step d) block_found_step (out-Stmt s)
-      ∙ statement_found (ExprReady left d) (ready_expr left) (StatementsWithin (StmtReady left d)) (statements_found (StmtReady left d) (ready_stmt left)) (out-Stmt s) ready
+      ∙ statement_found (ExprReady left d) (ready_expr left) (StatementsWithin (StmtReady left d)) (each_statement (StmtReady left d) (ready_stmt left)) (out-Stmt s) ready
 
   pub ready_is_found : (b : Block) → BlockReady d b → block_found d b ≡ true
-  ready_is_found b ready = statements_found (StmtReady (levels_left 1) d) (ready_stmt (levels_left 1)) b ready
+  ready_is_found b ready = each_statement (StmtReady (levels_left 1) d) (ready_stmt (levels_left 1)) b ready

@@ -10,13 +10,14 @@ use Rattle.som_model.specs.Lists.{Mem, place_from}
 use Rattle.som_model.specs.Keys.{same_key}
 use Rattle.som_model.specs.Class.{Class, entry_name, entry_of}
 use Rattle.som_model.specs.Classes.{class_at, hierarchy}
-use Rattle.som_model.specs.Owner.{entry_at, introduces, owner, owner_within, sig_of}
+use Rattle.som_model.specs.Owner.{entry_at, introduces, owner, owner_within}
 use Rattle.som_model.specs.Typing.{class_facts}
 use Rattle.som_model.proofs.KeyLaws.{exact_bytes, exact_keys}
 use Rattle.som_naming.specs.declared.directory.Directory.{Directory}
+use Rattle.som_naming.specs.Naming.{Tells, entry_names}
 use Rattle.som_naming.specs.Numbering.{MethodKnown}
 use Rattle.som_naming.proofs.Places.{place_of_map}
-use Rattle.som_naming.proofs.Numbers.{Tells, Known, known, entry_names}
+use Rattle.som_naming.proofs.Numbers.{Known, known}
 use Rattle.som_naming.proofs.Numbering.{first_place}
 use Rattle.som_naming.proofs.TypedBlocks.{Covers}
 

@@ -5,10 +5,9 @@ pub mod Naming
 pub mod Numbering
 pub mod NamedKinds
 pub mod NumberedKinds
-pub mod FittingParts
 pub mod BlockForms
+pub mod NamedLayers
 pub mod NamedExprs
-pub mod NamedCalls
 pub mod NamedStmts
 pub mod ExprsBack
 pub mod StmtsBack
@@ -16,3 +15,5 @@ pub mod TypedBlocks
 pub mod KnownMethods
 pub mod TurnedBlocks
 pub mod FoundNames
+pub mod NamedLimits
+pub mod KnownNumbers

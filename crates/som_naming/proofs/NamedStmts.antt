@@ -7,9 +7,7 @@ use Rattle.std.proofs.lemmas.Bool.{lt-ltb}
 use Rattle.std.proofs.lemmas.List.{length-map}
 use Rattle.std.proofs.lemmas.List.Elements.{recursion_from_All}
 use Rattle.som_model.specs.declared.limits.TheConstants.{MAX_NESTING}
-use Rattle.som_model.specs.declared.syntax.Stmt.{Stmt, roll-Stmt, fold-Stmt, fold-roll-Stmt}
-use Rattle.som_model.specs.declared.syntax.Stmt.TheVariants.{rolls-Var, rolls-SetLocal, rolls-SetVariable, rolls-If, rolls-While, rolls-Return, rolls-ReturnValue, rolls-Print, rolls-Free, rolls-Call}
-use Rattle.som_model.specs.declared.syntax.Stmt.TheOpen.{Stmt-F}
+use Rattle.som_model.specs.declared.syntax.Stmt.{Stmt, fold-Stmt, map-Stmt, fold-roll-Stmt}
 use Rattle.som_model.specs.declared.syntax.Block.{Block, fold-roll-Block}
 use Rattle.som_model.specs.Blocks.{is_call}
 use Rattle.som_model.specs.Class.{Class}
@@ -18,7 +16,7 @@ use Rattle.som_model.specs.Images.{Spelled, AtLevel, ◌then◌, each, where_it_
 use Rattle.som_wire.specs.Spelling.{FitsMethod}
 use Rattle.som_wire.specs.declared.method.WireMethod.{WireMethod}
 use Rattle.som_blocks.specs.declared.syntax.WireExpr.{WireExpr, out-WireExpr}
-use Rattle.som_blocks.specs.declared.syntax.WireStmt.{WireStmt, out-WireStmt, roll-WireStmt, roll-out-WireStmt, fold-roll-WireStmt}
+use Rattle.som_blocks.specs.declared.syntax.WireStmt.{WireStmt, out-WireStmt, roll-WireStmt, roll-out-WireStmt, map-WireStmt, fold-roll-WireStmt}
 use Rattle.som_blocks.specs.declared.syntax.WireStmt.TheOpen.{WireStmt-F}
 use Rattle.som_blocks.specs.declared.syntax.WireBlock.{WireBlock, fold-roll-WireBlock}
 use Rattle.som_blocks.specs.Fitting.{FitsExpr, calls, FitsStmtParts, FitsStatements, FitsStmt, FitsBlock}
@@ -31,7 +29,7 @@ use Rattle.som_naming.proofs.Places.{all_map}
 use Rattle.som_naming.proofs.Spelled.{some_bytes, Forth, each_forth}
 use Rattle.som_naming.proofs.NamedKinds.{value_forth}
 use Rattle.som_naming.proofs.BlockForms.{tagged, two, byte_is, short_is, map_twice}
-use Rattle.som_naming.proofs.NamedCalls.{call_named}
+use Rattle.som_naming.proofs.NamedLayers.{call_named, stmt_layer, stmt_is}
 use Rattle.som_naming.proofs.NamedExprs.{ExprForth, expr_forth}
 
 module _ (d : Directory) (cs : List Class) (tells : Tells d cs) (single : NoDoubles d) where
@@ -80,43 +78,28 @@ module _ (d : Directory) (cs : List Class) (tells : Tells d cs) (single : NoDoub
     call_forth : (e : WireExpr) → Inner e × IsTrue (calls (out-WireExpr e)) → where_it_is (is_call (expr_named d e)) (images.expr cs (expr_named d e) (suc level)) ≡ Some (spelling.expr e)
     call_forth e h = ap (λ (b : Bool). where_it_is b (images.expr cs (expr_named d e) (suc level))) (call_named d e ∙ h.1) ∙ inner e h.0
 
-    close : (layer : WireStmt-F WireStmt WireBlock) (named : Stmt-F Stmt Block) → stmt_named d (roll-WireStmt layer) ≡ roll-Stmt named → (bytes : List ℕ) → spelling.stmt (roll-WireStmt layer) ≡ bytes → spelled_stmt (roll-Stmt named) level ≡ Some bytes → StmtForth level (roll-WireStmt layer)
-    close layer named is bytes spelled e = ap (λ (x : Stmt). spelled_stmt x level) is ∙ e ∙ ap some_bytes (sym spelled)
-
     abbrev CallFits : WireExpr → Type 0
     CallFits e = Inner e × IsTrue (calls (out-WireExpr e))
 
-    forth_layer : (layer : WireStmt-F WireStmt WireBlock) → FitsStmtParts classes Inner CallFits Within layer → StmtForth level (roll-WireStmt layer)
-    forth_layer (WireStmt-F.Var t e) h =
-        close (WireStmt-F.Var t e) (Stmt-F.Var (kind_named d.keys t) (expr_named d e)) (fold-roll-WireStmt Stmt Block (stmt_named_step d) block_named_step (WireStmt-F.Var t e) ∙ sym (rolls-Var (kind_named d.keys t) (expr_named d e))) _ (fold-roll-WireStmt (List ℕ) (List ℕ) spelling.stmt_step spelling.block_step (WireStmt-F.Var t e))
-        (ap (λ (f : AtLevel). f level) (fold-roll-Stmt AtLevel AtLevel (stmt_step cs) block_step (Stmt-F.Var (kind_named d.keys t) (expr_named d e))) ∙ tagged level 0x01 _ _ low (two _ _ _ _ (value_forth d cs tells single t h.0) (inner e h.1)))
-    forth_layer (WireStmt-F.SetLocal n e) h =
-        close (WireStmt-F.SetLocal n e) (Stmt-F.SetLocal n (expr_named d e)) (fold-roll-WireStmt Stmt Block (stmt_named_step d) block_named_step (WireStmt-F.SetLocal n e) ∙ sym (rolls-SetLocal n (expr_named d e))) _ (fold-roll-WireStmt (List ℕ) (List ℕ) spelling.stmt_step spelling.block_step (WireStmt-F.SetLocal n e))
-        (ap (λ (f : AtLevel). f level) (fold-roll-Stmt AtLevel AtLevel (stmt_step cs) block_step (Stmt-F.SetLocal n (expr_named d e))) ∙ tagged level 0x02 _ _ low (two _ _ _ _ (short_is n) (inner e h.1)))
-    forth_layer (WireStmt-F.SetVariable n e) h =
-        close (WireStmt-F.SetVariable n e) (Stmt-F.SetVariable n (expr_named d e)) (fold-roll-WireStmt Stmt Block (stmt_named_step d) block_named_step (WireStmt-F.SetVariable n e) ∙ sym (rolls-SetVariable n (expr_named d e))) _ (fold-roll-WireStmt (List ℕ) (List ℕ) spelling.stmt_step spelling.block_step (WireStmt-F.SetVariable n e))
-        (ap (λ (f : AtLevel). f level) (fold-roll-Stmt AtLevel AtLevel (stmt_step cs) block_step (Stmt-F.SetVariable n (expr_named d e))) ∙ tagged level 0x03 _ _ low (two _ _ _ _ (byte_is n h.0) (inner e h.1)))
-    forth_layer (WireStmt-F.If e a b) h =
-        close (WireStmt-F.If e a b) (Stmt-F.If (expr_named d e) (block_named d a) (block_named d b)) (fold-roll-WireStmt Stmt Block (stmt_named_step d) block_named_step (WireStmt-F.If e a b) ∙ sym (rolls-If (expr_named d e) (block_named d a) (block_named d b))) _ (fold-roll-WireStmt (List ℕ) (List ℕ) spelling.stmt_step spelling.block_step (WireStmt-F.If e a b))
-        (ap (λ (f : AtLevel). f level) (fold-roll-Stmt AtLevel AtLevel (stmt_step cs) block_step (Stmt-F.If (expr_named d e) (block_named d a) (block_named d b))) ∙ tagged level 0x04 _ _ low (two _ _ _ _ (two _ _ _ _ (inner e h.0) (within a h.1)) (within b h.2)))
-    forth_layer (WireStmt-F.While e b) h =
-        close (WireStmt-F.While e b) (Stmt-F.While (expr_named d e) (block_named d b)) (fold-roll-WireStmt Stmt Block (stmt_named_step d) block_named_step (WireStmt-F.While e b) ∙ sym (rolls-While (expr_named d e) (block_named d b))) _ (fold-roll-WireStmt (List ℕ) (List ℕ) spelling.stmt_step spelling.block_step (WireStmt-F.While e b))
-        (ap (λ (f : AtLevel). f level) (fold-roll-Stmt AtLevel AtLevel (stmt_step cs) block_step (Stmt-F.While (expr_named d e) (block_named d b))) ∙ tagged level 0x05 _ _ low (two _ _ _ _ (inner e h.0) (within b h.1)))
-    forth_layer WireStmt-F.Return h =
-        close WireStmt-F.Return Stmt-F.Return (fold-roll-WireStmt Stmt Block (stmt_named_step d) block_named_step WireStmt-F.Return ∙ sym rolls-Return) _ (fold-roll-WireStmt (List ℕ) (List ℕ) spelling.stmt_step spelling.block_step WireStmt-F.Return)
-        (ap (λ (f : AtLevel). f level) (fold-roll-Stmt AtLevel AtLevel (stmt_step cs) block_step Stmt-F.Return) ∙ tagged level 0x06 _ _ low refl)
-    forth_layer (WireStmt-F.ReturnValue e) h =
-        close (WireStmt-F.ReturnValue e) (Stmt-F.ReturnValue (expr_named d e)) (fold-roll-WireStmt Stmt Block (stmt_named_step d) block_named_step (WireStmt-F.ReturnValue e) ∙ sym (rolls-ReturnValue (expr_named d e))) _ (fold-roll-WireStmt (List ℕ) (List ℕ) spelling.stmt_step spelling.block_step (WireStmt-F.ReturnValue e))
-        (ap (λ (f : AtLevel). f level) (fold-roll-Stmt AtLevel AtLevel (stmt_step cs) block_step (Stmt-F.ReturnValue (expr_named d e))) ∙ tagged level 0x07 _ _ low (inner e h))
-    forth_layer (WireStmt-F.Print e) h =
-        close (WireStmt-F.Print e) (Stmt-F.Print (expr_named d e)) (fold-roll-WireStmt Stmt Block (stmt_named_step d) block_named_step (WireStmt-F.Print e) ∙ sym (rolls-Print (expr_named d e))) _ (fold-roll-WireStmt (List ℕ) (List ℕ) spelling.stmt_step spelling.block_step (WireStmt-F.Print e))
-        (ap (λ (f : AtLevel). f level) (fold-roll-Stmt AtLevel AtLevel (stmt_step cs) block_step (Stmt-F.Print (expr_named d e))) ∙ tagged level 0x08 _ _ low (inner e h))
-    forth_layer (WireStmt-F.Free e) h =
-        close (WireStmt-F.Free e) (Stmt-F.Free (expr_named d e)) (fold-roll-WireStmt Stmt Block (stmt_named_step d) block_named_step (WireStmt-F.Free e) ∙ sym (rolls-Free (expr_named d e))) _ (fold-roll-WireStmt (List ℕ) (List ℕ) spelling.stmt_step spelling.block_step (WireStmt-F.Free e))
-        (ap (λ (f : AtLevel). f level) (fold-roll-Stmt AtLevel AtLevel (stmt_step cs) block_step (Stmt-F.Free (expr_named d e))) ∙ tagged level 0x09 _ _ low (inner e h))
-    forth_layer (WireStmt-F.Call e) h =
-        close (WireStmt-F.Call e) (Stmt-F.Call (expr_named d e)) (fold-roll-WireStmt Stmt Block (stmt_named_step d) block_named_step (WireStmt-F.Call e) ∙ sym (rolls-Call (expr_named d e))) _ (fold-roll-WireStmt (List ℕ) (List ℕ) spelling.stmt_step spelling.block_step (WireStmt-F.Call e))
-        (ap (λ (f : AtLevel). f level) (fold-roll-Stmt AtLevel AtLevel (stmt_step cs) block_step (Stmt-F.Call (expr_named d e))) ∙ tagged level 0x0a _ _ low (call_forth e h))
+    forth_layer : (layer : WireStmt-F WireStmt WireBlock) → FitsStmtParts classes Inner CallFits Within layer
+        → stmt_step cs (map-Stmt Stmt Block AtLevel AtLevel spelled_stmt (images.block cs) (stmt_layer d layer)) level ≡ Some (spelling.stmt_step (map-WireStmt WireStmt WireBlock (List ℕ) (List ℕ) spelling.stmt spelling.block layer))
+    forth_layer (WireStmt-F.Var t e) h = tagged level 0x01 _ _ low (two _ _ _ _ (value_forth d cs tells single t h.0) (inner e h.1))
+    forth_layer (WireStmt-F.SetLocal n e) h = tagged level 0x02 _ _ low (two _ _ _ _ (short_is n) (inner e h.1))
+    forth_layer (WireStmt-F.SetVariable n e) h = tagged level 0x03 _ _ low (two _ _ _ _ (byte_is n h.0) (inner e h.1))
+    forth_layer (WireStmt-F.If e a b) h = tagged level 0x04 _ _ low (two _ _ _ _ (two _ _ _ _ (inner e h.0) (within a h.1)) (within b h.2))
+    forth_layer (WireStmt-F.While e b) h = tagged level 0x05 _ _ low (two _ _ _ _ (inner e h.0) (within b h.1))
+    forth_layer WireStmt-F.Return h = tagged level 0x06 _ _ low refl
+    forth_layer (WireStmt-F.ReturnValue e) h = tagged level 0x07 _ _ low (inner e h)
+    forth_layer (WireStmt-F.Print e) h = tagged level 0x08 _ _ low (inner e h)
+    forth_layer (WireStmt-F.Free e) h = tagged level 0x09 _ _ low (inner e h)
+    forth_layer (WireStmt-F.Call e) h = tagged level 0x0a _ _ low (call_forth e h)
+
+    pub whole_forth : (layer : WireStmt-F WireStmt WireBlock) → FitsStmtParts classes Inner CallFits Within layer → StmtForth level (roll-WireStmt layer)
+    whole_forth layer h =
+        ap (λ (x : Stmt). spelled_stmt x level) (stmt_is d layer)
+        ∙ ap (λ (f : AtLevel). f level) (fold-roll-Stmt AtLevel AtLevel (stmt_step cs) block_step (stmt_layer d layer))
+        ∙ forth_layer layer h
+        ∙ ap some_bytes (sym (fold-roll-WireStmt (List ℕ) (List ℕ) spelling.stmt_step spelling.block_step layer))
 
   stmt_forth : (left level : ℕ) → left + level ≡ 33 → (s : WireStmt) → FitsStmt left classes Method s → StmtForth level s
   unfolding FitsStmt
@@ -124,7 +107,7 @@ module _ (d : Directory) (cs : List Class) (tells : Tells d cs) (single : NoDoub
   stmt_forth (suc left) level sum s h =
       let deeper : left + suc level ≡ 33 = omega (arith, sum) in
       subst (StmtForth level) (roll-out-WireStmt s)
-      (forth_layer level (omega (arith, sum)) (FitsExpr left classes Method) (expr_forth d cs tells single left (suc level) deeper)
+      (whole_forth level (omega (arith, sum)) (FitsExpr left classes Method) (expr_forth d cs tells single left (suc level) deeper)
       (FitsBlock left classes Method) (blocks_forth (suc level) (FitsStmt left classes Method) (stmt_forth left (suc level) deeper)) (out-WireStmt s) h)
 
   -- a block with numbers is spelled at a level as the one with names

@@ -155,7 +155,7 @@ name_among (k ∷ ks) m x (inr h) = by (bytes_eq x (key_name k)) (name_among ks 
 
 -- a class that is made of others isn't declared
 made_of_others : (k : ClassKey) (layer : ClassKey-F ClassKey) → out-ClassKey k ≡ layer → ((m : Module) (x : List ℕ) → layer ≡ ClassKey-F.Named m x → ⊥) → IsDeclared k → ⊥
-made_of_others k layer is other d = other d.0 d.1.0 (sym is ∙ ap out-ClassKey d.1.1 ∙ out_named d.0 d.1.0)
+made_of_others k layer is other d = other d.0 d.1 (sym is ∙ ap out-ClassKey d.2 ∙ out_named d.0 d.1)
 
 pub no_derived : (k : ClassKey) (ps : List ClassKey) → k ≡ keys.Derived ps → IsDeclared k → ⊥
 no_derived k ps is = made_of_others k (ClassKey-F.Derived ps) (ap out-ClassKey (is ∙ sym (rolls-Derived ps)) ∙ out-roll-ClassKey (ClassKey-F.Derived ps)) (λ m x e. cc)

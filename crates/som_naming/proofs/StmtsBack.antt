@@ -8,9 +8,7 @@ use Rattle.std.proofs.lemmas.List.{length-map}
 use Rattle.std.proofs.lemmas.List.Elements.{recursion_from_All}
 use Rattle.som_model.specs.declared.key.ValueType.{ValueType}
 use Rattle.som_model.specs.declared.syntax.Expr.{Expr}
-use Rattle.som_model.specs.declared.syntax.Stmt.{Stmt, out-Stmt, roll-Stmt, roll-out-Stmt, fold-Stmt, fold-roll-Stmt}
-use Rattle.som_model.specs.declared.syntax.Stmt.TheVariants as stmts
-use Rattle.som_model.specs.declared.syntax.Stmt.TheVariants.{rolls-Var, rolls-SetLocal, rolls-SetVariable, rolls-If, rolls-While, rolls-Return, rolls-ReturnValue, rolls-Print, rolls-Free, rolls-Call}
+use Rattle.som_model.specs.declared.syntax.Stmt.{Stmt, out-Stmt, roll-Stmt, roll-out-Stmt, fold-Stmt, map-Stmt, fold-roll-Stmt}
 use Rattle.som_model.specs.declared.syntax.Stmt.TheOpen.{Stmt-F}
 use Rattle.som_model.specs.declared.syntax.Block.{Block, fold-roll-Block}
 use Rattle.som_model.specs.Blocks.{is_call}
@@ -20,7 +18,7 @@ use Rattle.som_model.specs.Images.{Spelled, AtLevel, ◌then◌, each, tag, wher
 use Rattle.som_wire.specs.Spelling.{FitsMethod}
 use Rattle.som_wire.specs.declared.method.WireMethod.{WireMethod}
 use Rattle.som_blocks.specs.declared.syntax.WireExpr.{WireExpr, out-WireExpr}
-use Rattle.som_blocks.specs.declared.syntax.WireStmt.{WireStmt, out-WireStmt, roll-WireStmt, out-roll-WireStmt, fold-roll-WireStmt}
+use Rattle.som_blocks.specs.declared.syntax.WireStmt.{WireStmt, out-WireStmt, roll-WireStmt, out-roll-WireStmt, map-WireStmt, fold-roll-WireStmt}
 use Rattle.som_blocks.specs.declared.syntax.WireStmt.TheOpen.{WireStmt-F}
 use Rattle.som_blocks.specs.declared.syntax.WireBlock.{WireBlock, fold-roll-WireBlock}
 use Rattle.som_blocks.specs.Fitting.{FitsExpr, calls, FitsStmtParts, FitsStatements, FitsStmt, FitsBlock}
@@ -33,7 +31,7 @@ use Rattle.som_naming.specs.BlockLimits.{ExprWithin, StmtPartsWithin, Statements
 use Rattle.som_naming.proofs.Places.{all_map}
 use Rattle.som_naming.proofs.Spelled.{bytes_are, split, guarded, From, Back, many_back}
 use Rattle.som_naming.proofs.NamedKinds.{value_back}
-use Rattle.som_naming.proofs.NamedCalls.{call_named}
+use Rattle.som_naming.proofs.NamedLayers.{call_named, stmt_layer, stmt_is}
 use Rattle.som_naming.proofs.BlockForms.{opened, join, number_back, byte_back, each_map}
 use Rattle.som_naming.proofs.ExprsBack.{ExprBack, expr_back}
 
@@ -93,88 +91,81 @@ module _ (d : Directory) (cs : List Class) (tells : Tells d cs) where
         let w = inner e h bytes g.1 in
         record { it = w.it; spelled = w.spelled; fits = (w.fits, sym (call_named d w.it) ∙ ap is_call w.names ∙ g.0); names = w.names }
 
-    abbrev FromStmt : Stmt → List ℕ → Type 0
-    FromStmt s bytes = From spelling.stmt (FitsStmt (suc left) classes Method) (stmt_named d) s bytes
+    -- the same of the outermost part
+    abbrev FromLayer : Stmt-F Stmt Block → List ℕ → Type 0
+    FromLayer layer bytes = From (λ (w : WireStmt-F WireStmt WireBlock). spelling.stmt_step (map-WireStmt WireStmt WireBlock (List ℕ) (List ℕ) spelling.stmt spelling.block w)) (FitsStmtParts classes Inner CallFits (FitsBlock left classes Method)) (stmt_layer d) layer bytes
 
-    build : (layer : WireStmt-F WireStmt WireBlock) (named : Stmt-F Stmt Block) (bytes : List ℕ) → FitsStmtParts classes Inner CallFits (FitsBlock left classes Method) layer → spelling.stmt (roll-WireStmt layer) ≡ bytes → stmt_named d (roll-WireStmt layer) ≡ roll-Stmt named → FromStmt (roll-Stmt named) bytes
-    unfolding FitsStmt
-    build layer named bytes fits spelled names = record {
-      it = roll-WireStmt layer;
-      spelled = spelled;
-      fits = subst (FitsStmtParts classes Inner CallFits (FitsBlock left classes Method)) (sym (out-roll-WireStmt layer)) fits;
-      names = names;
-    }
-
-    back_layer : (layer : Stmt-F Stmt Block) → StmtPartsWithin InnerWithin Within layer → (bytes : List ℕ) → spelled_stmt (roll-Stmt layer) level ≡ Some bytes → FromStmt (roll-Stmt layer) bytes
+    back_layer : (layer : Stmt-F Stmt Block) → StmtPartsWithin InnerWithin Within layer → (bytes : List ℕ) → stmt_step cs (map-Stmt Stmt Block AtLevel AtLevel spelled_stmt (images.block cs) layer) level ≡ Some bytes → FromLayer layer bytes
     back_layer (Stmt-F.Var t e) h bytes given =
-        let o = opened level 0x01 ((images.value_kind cs t) then (images.expr cs e (suc level))) bytes (sym (ap (λ (f : AtLevel). f level) (fold-roll-Stmt AtLevel AtLevel (stmt_step cs) block_step (Stmt-F.Var t e))) ∙ given) in
+        let o = opened level 0x01 ((images.value_kind cs t) then (images.expr cs e (suc level))) bytes given in
         let s1 = split (images.value_kind cs t) (images.expr cs e (suc level)) o.back o.second in
         let u0 = value_back d cs tells t s1.front s1.first in
         let u1 = inner e h s1.back s1.second in
-        build (WireStmt-F.Var u0.it u1.it) (Stmt-F.Var t e) bytes (u0.fits, u1.fits) (fold-roll-WireStmt (List ℕ) (List ℕ) spelling.stmt_step spelling.block_step (WireStmt-F.Var u0.it u1.it) ∙ ap (λ (x : List ℕ). 0x01 ∷ x) (join _ _ _ _ _ u0.spelled u1.spelled s1.whole) ∙ o.whole)
-        (fold-roll-WireStmt Stmt Block (stmt_named_step d) block_named_step (WireStmt-F.Var u0.it u1.it) ∙ ap (λ (y : ValueType). stmts.Var y (expr_named d u1.it)) u0.names ∙ ap (λ (y : Expr). stmts.Var t y) u1.names ∙ sym (rolls-Var t e))
+        record { it = (WireStmt-F.Var u0.it u1.it); spelled = ap (λ (x : List ℕ). 0x01 ∷ x) (join _ _ _ _ _ u0.spelled u1.spelled s1.whole) ∙ o.whole; fits = (u0.fits, u1.fits); names = ap (λ (y : ValueType). Stmt-F.Var y (expr_named d u1.it)) u0.names ∙ ap (λ (y : Expr). Stmt-F.Var t y) u1.names }
     back_layer (Stmt-F.SetLocal n e) h bytes given =
-        let o = opened level 0x02 ((images.number w16 n) then (images.expr cs e (suc level))) bytes (sym (ap (λ (f : AtLevel). f level) (fold-roll-Stmt AtLevel AtLevel (stmt_step cs) block_step (Stmt-F.SetLocal n e))) ∙ given) in
+        let o = opened level 0x02 ((images.number w16 n) then (images.expr cs e (suc level))) bytes given in
         let s1 = split (images.number w16 n) (images.expr cs e (suc level)) o.back o.second in
         let u0 = number_back w16 n s1.front s1.first in
         let u1 = inner e h.1 s1.back s1.second in
-        build (WireStmt-F.SetLocal n u1.it) (Stmt-F.SetLocal n e) bytes (h.0, u1.fits) (fold-roll-WireStmt (List ℕ) (List ℕ) spelling.stmt_step spelling.block_step (WireStmt-F.SetLocal n u1.it) ∙ ap (λ (x : List ℕ). 0x02 ∷ x) (join _ _ _ _ _ u0 u1.spelled s1.whole) ∙ o.whole)
-        (fold-roll-WireStmt Stmt Block (stmt_named_step d) block_named_step (WireStmt-F.SetLocal n u1.it) ∙ ap (λ (y : Expr). stmts.SetLocal n y) u1.names ∙ sym (rolls-SetLocal n e))
+        record { it = (WireStmt-F.SetLocal n u1.it); spelled = ap (λ (x : List ℕ). 0x02 ∷ x) (join _ _ _ _ _ u0 u1.spelled s1.whole) ∙ o.whole; fits = (h.0, u1.fits); names = ap (λ (y : Expr). Stmt-F.SetLocal n y) u1.names }
     back_layer (Stmt-F.SetVariable n e) h bytes given =
-        let o = opened level 0x03 ((tag n) then (images.expr cs e (suc level))) bytes (sym (ap (λ (f : AtLevel). f level) (fold-roll-Stmt AtLevel AtLevel (stmt_step cs) block_step (Stmt-F.SetVariable n e))) ∙ given) in
+        let o = opened level 0x03 ((tag n) then (images.expr cs e (suc level))) bytes given in
         let s1 = split (tag n) (images.expr cs e (suc level)) o.back o.second in
         let u0 = byte_back n s1.front h.0 s1.first in
         let u1 = inner e h.1 s1.back s1.second in
-        build (WireStmt-F.SetVariable n u1.it) (Stmt-F.SetVariable n e) bytes (h.0, u1.fits) (fold-roll-WireStmt (List ℕ) (List ℕ) spelling.stmt_step spelling.block_step (WireStmt-F.SetVariable n u1.it) ∙ ap (λ (x : List ℕ). 0x03 ∷ x) (join _ _ _ _ _ u0 u1.spelled s1.whole) ∙ o.whole)
-        (fold-roll-WireStmt Stmt Block (stmt_named_step d) block_named_step (WireStmt-F.SetVariable n u1.it) ∙ ap (λ (y : Expr). stmts.SetVariable n y) u1.names ∙ sym (rolls-SetVariable n e))
+        record { it = (WireStmt-F.SetVariable n u1.it); spelled = ap (λ (x : List ℕ). 0x03 ∷ x) (join _ _ _ _ _ u0 u1.spelled s1.whole) ∙ o.whole; fits = (h.0, u1.fits); names = ap (λ (y : Expr). Stmt-F.SetVariable n y) u1.names }
     back_layer (Stmt-F.If e a b) h bytes given =
-        let o = opened level 0x04 (((images.expr cs e (suc level)) then (images.block cs a (suc level))) then (images.block cs b (suc level))) bytes (sym (ap (λ (f : AtLevel). f level) (fold-roll-Stmt AtLevel AtLevel (stmt_step cs) block_step (Stmt-F.If e a b))) ∙ given) in
+        let o = opened level 0x04 (((images.expr cs e (suc level)) then (images.block cs a (suc level))) then (images.block cs b (suc level))) bytes given in
         let s2 = split ((images.expr cs e (suc level)) then (images.block cs a (suc level))) (images.block cs b (suc level)) o.back o.second in
         let s1 = split (images.expr cs e (suc level)) (images.block cs a (suc level)) s2.front s2.first in
         let u0 = inner e h.0 s1.front s1.first in
         let u1 = within a h.1 s1.back s1.second in
         let u2 = within b h.2 s2.back s2.second in
-        build (WireStmt-F.If u0.it u1.it u2.it) (Stmt-F.If e a b) bytes (u0.fits, u1.fits, u2.fits) (fold-roll-WireStmt (List ℕ) (List ℕ) spelling.stmt_step spelling.block_step (WireStmt-F.If u0.it u1.it u2.it) ∙ ap (λ (x : List ℕ). 0x04 ∷ x) (join _ _ _ _ _ (join _ _ _ _ _ u0.spelled u1.spelled s1.whole) u2.spelled s2.whole) ∙ o.whole)
-        (fold-roll-WireStmt Stmt Block (stmt_named_step d) block_named_step (WireStmt-F.If u0.it u1.it u2.it) ∙ ap (λ (y : Expr). stmts.If y (block_named d u1.it) (block_named d u2.it)) u0.names ∙ ap (λ (y : Block). stmts.If e y (block_named d u2.it)) u1.names ∙ ap (λ (y : Block). stmts.If e a y) u2.names ∙ sym (rolls-If e a b))
+        record { it = (WireStmt-F.If u0.it u1.it u2.it); spelled = ap (λ (x : List ℕ). 0x04 ∷ x) (join _ _ _ _ _ (join _ _ _ _ _ u0.spelled u1.spelled s1.whole) u2.spelled s2.whole) ∙ o.whole; fits = (u0.fits, u1.fits, u2.fits); names = ap (λ (y : Expr). Stmt-F.If y (block_named d u1.it) (block_named d u2.it)) u0.names ∙ ap (λ (y : Block). Stmt-F.If e y (block_named d u2.it)) u1.names ∙ ap (λ (y : Block). Stmt-F.If e a y) u2.names }
     back_layer (Stmt-F.While e b) h bytes given =
-        let o = opened level 0x05 ((images.expr cs e (suc level)) then (images.block cs b (suc level))) bytes (sym (ap (λ (f : AtLevel). f level) (fold-roll-Stmt AtLevel AtLevel (stmt_step cs) block_step (Stmt-F.While e b))) ∙ given) in
+        let o = opened level 0x05 ((images.expr cs e (suc level)) then (images.block cs b (suc level))) bytes given in
         let s1 = split (images.expr cs e (suc level)) (images.block cs b (suc level)) o.back o.second in
         let u0 = inner e h.0 s1.front s1.first in
         let u1 = within b h.1 s1.back s1.second in
-        build (WireStmt-F.While u0.it u1.it) (Stmt-F.While e b) bytes (u0.fits, u1.fits) (fold-roll-WireStmt (List ℕ) (List ℕ) spelling.stmt_step spelling.block_step (WireStmt-F.While u0.it u1.it) ∙ ap (λ (x : List ℕ). 0x05 ∷ x) (join _ _ _ _ _ u0.spelled u1.spelled s1.whole) ∙ o.whole)
-        (fold-roll-WireStmt Stmt Block (stmt_named_step d) block_named_step (WireStmt-F.While u0.it u1.it) ∙ ap (λ (y : Expr). stmts.While y (block_named d u1.it)) u0.names ∙ ap (λ (y : Block). stmts.While e y) u1.names ∙ sym (rolls-While e b))
+        record { it = (WireStmt-F.While u0.it u1.it); spelled = ap (λ (x : List ℕ). 0x05 ∷ x) (join _ _ _ _ _ u0.spelled u1.spelled s1.whole) ∙ o.whole; fits = (u0.fits, u1.fits); names = ap (λ (y : Expr). Stmt-F.While y (block_named d u1.it)) u0.names ∙ ap (λ (y : Block). Stmt-F.While e y) u1.names }
     back_layer Stmt-F.Return h bytes given =
-        let o = opened level 0x06 (Some []) bytes (sym (ap (λ (f : AtLevel). f level) (fold-roll-Stmt AtLevel AtLevel (stmt_step cs) block_step Stmt-F.Return)) ∙ given) in
-        build WireStmt-F.Return Stmt-F.Return bytes tt (fold-roll-WireStmt (List ℕ) (List ℕ) spelling.stmt_step spelling.block_step WireStmt-F.Return ∙ ap (λ (x : List ℕ). 0x06 ∷ x) (bytes_are [] o.back o.second) ∙ o.whole)
-        (fold-roll-WireStmt Stmt Block (stmt_named_step d) block_named_step WireStmt-F.Return ∙ sym rolls-Return)
+        let o = opened level 0x06 (Some []) bytes given in
+        record { it = WireStmt-F.Return; spelled = ap (λ (x : List ℕ). 0x06 ∷ x) (bytes_are [] o.back o.second) ∙ o.whole; fits = tt; names = refl }
     back_layer (Stmt-F.ReturnValue e) h bytes given =
-        let o = opened level 0x07 (images.expr cs e (suc level)) bytes (sym (ap (λ (f : AtLevel). f level) (fold-roll-Stmt AtLevel AtLevel (stmt_step cs) block_step (Stmt-F.ReturnValue e))) ∙ given) in
+        let o = opened level 0x07 (images.expr cs e (suc level)) bytes given in
         let u0 = inner e h o.back o.second in
-        build (WireStmt-F.ReturnValue u0.it) (Stmt-F.ReturnValue e) bytes u0.fits (fold-roll-WireStmt (List ℕ) (List ℕ) spelling.stmt_step spelling.block_step (WireStmt-F.ReturnValue u0.it) ∙ ap (λ (x : List ℕ). 0x07 ∷ x) u0.spelled ∙ o.whole)
-        (fold-roll-WireStmt Stmt Block (stmt_named_step d) block_named_step (WireStmt-F.ReturnValue u0.it) ∙ ap (λ (y : Expr). stmts.ReturnValue y) u0.names ∙ sym (rolls-ReturnValue e))
+        record { it = (WireStmt-F.ReturnValue u0.it); spelled = ap (λ (x : List ℕ). 0x07 ∷ x) u0.spelled ∙ o.whole; fits = u0.fits; names = ap (λ (y : Expr). Stmt-F.ReturnValue y) u0.names }
     back_layer (Stmt-F.Print e) h bytes given =
-        let o = opened level 0x08 (images.expr cs e (suc level)) bytes (sym (ap (λ (f : AtLevel). f level) (fold-roll-Stmt AtLevel AtLevel (stmt_step cs) block_step (Stmt-F.Print e))) ∙ given) in
+        let o = opened level 0x08 (images.expr cs e (suc level)) bytes given in
         let u0 = inner e h o.back o.second in
-        build (WireStmt-F.Print u0.it) (Stmt-F.Print e) bytes u0.fits (fold-roll-WireStmt (List ℕ) (List ℕ) spelling.stmt_step spelling.block_step (WireStmt-F.Print u0.it) ∙ ap (λ (x : List ℕ). 0x08 ∷ x) u0.spelled ∙ o.whole)
-        (fold-roll-WireStmt Stmt Block (stmt_named_step d) block_named_step (WireStmt-F.Print u0.it) ∙ ap (λ (y : Expr). stmts.Print y) u0.names ∙ sym (rolls-Print e))
+        record { it = (WireStmt-F.Print u0.it); spelled = ap (λ (x : List ℕ). 0x08 ∷ x) u0.spelled ∙ o.whole; fits = u0.fits; names = ap (λ (y : Expr). Stmt-F.Print y) u0.names }
     back_layer (Stmt-F.Free e) h bytes given =
-        let o = opened level 0x09 (images.expr cs e (suc level)) bytes (sym (ap (λ (f : AtLevel). f level) (fold-roll-Stmt AtLevel AtLevel (stmt_step cs) block_step (Stmt-F.Free e))) ∙ given) in
+        let o = opened level 0x09 (images.expr cs e (suc level)) bytes given in
         let u0 = inner e h o.back o.second in
-        build (WireStmt-F.Free u0.it) (Stmt-F.Free e) bytes u0.fits (fold-roll-WireStmt (List ℕ) (List ℕ) spelling.stmt_step spelling.block_step (WireStmt-F.Free u0.it) ∙ ap (λ (x : List ℕ). 0x09 ∷ x) u0.spelled ∙ o.whole)
-        (fold-roll-WireStmt Stmt Block (stmt_named_step d) block_named_step (WireStmt-F.Free u0.it) ∙ ap (λ (y : Expr). stmts.Free y) u0.names ∙ sym (rolls-Free e))
+        record { it = (WireStmt-F.Free u0.it); spelled = ap (λ (x : List ℕ). 0x09 ∷ x) u0.spelled ∙ o.whole; fits = u0.fits; names = ap (λ (y : Expr). Stmt-F.Free y) u0.names }
     back_layer (Stmt-F.Call e) h bytes given =
-        let o = opened level 0x0a (where_it_is (is_call e) (images.expr cs e (suc level))) bytes (sym (ap (λ (f : AtLevel). f level) (fold-roll-Stmt AtLevel AtLevel (stmt_step cs) block_step (Stmt-F.Call e))) ∙ given) in
+        let o = opened level 0x0a (where_it_is (is_call e) (images.expr cs e (suc level))) bytes given in
         let u0 = call_back e h o.back o.second in
-        build (WireStmt-F.Call u0.it) (Stmt-F.Call e) bytes u0.fits (fold-roll-WireStmt (List ℕ) (List ℕ) spelling.stmt_step spelling.block_step (WireStmt-F.Call u0.it) ∙ ap (λ (x : List ℕ). 0x0a ∷ x) u0.spelled ∙ o.whole)
-        (fold-roll-WireStmt Stmt Block (stmt_named_step d) block_named_step (WireStmt-F.Call u0.it) ∙ ap (λ (y : Expr). stmts.Call y) u0.names ∙ sym (rolls-Call e))
+        record { it = (WireStmt-F.Call u0.it); spelled = ap (λ (x : List ℕ). 0x0a ∷ x) u0.spelled ∙ o.whole; fits = u0.fits; names = ap (λ (y : Expr). Stmt-F.Call y) u0.names }
+
+    pub whole_back : (layer : Stmt-F Stmt Block) → StmtPartsWithin InnerWithin Within layer → StmtBack (suc left) level (roll-Stmt layer)
+    unfolding FitsStmt
+    whole_back layer within bytes given =
+        let f = back_layer layer within bytes (sym (ap (λ (f : AtLevel). f level) (fold-roll-Stmt AtLevel AtLevel (stmt_step cs) block_step layer)) ∙ given) in
+        record {
+          it = roll-WireStmt f.it;
+          spelled = fold-roll-WireStmt (List ℕ) (List ℕ) spelling.stmt_step spelling.block_step f.it ∙ f.spelled;
+          fits = subst (FitsStmtParts classes Inner CallFits (FitsBlock left classes Method)) (sym (out-roll-WireStmt f.it)) f.fits;
+          names = stmt_is d f.it ∙ ap roll-Stmt f.names;
+        }
 
   stmt_back : (left level : ℕ) (s : Stmt) → StmtWithin left s → StmtBack left level s
   unfolding StmtWithin
-  stmt_back zero level s within bytes given = absurd within
-  stmt_back (suc left) level s within bytes given =
-      subst (λ (x : Stmt). From spelling.stmt (FitsStmt (suc left) classes Method) (stmt_named d) x bytes) (roll-out-Stmt s)
-      (back_layer left level (ExprWithin left) (λ e w. expr_back d cs tells left (suc level) e w) (StatementsWithin (StmtWithin left))
-      (blocks_back left (suc level) (StmtWithin left) (λ x w. stmt_back left (suc level) x w)) (out-Stmt s) within bytes (ap (λ (x : Stmt). spelled_stmt x level) (roll-out-Stmt s) ∙ given))
+  stmt_back zero level s within = absurd within
+  stmt_back (suc left) level s within =
+      subst (StmtBack (suc left) level) (roll-out-Stmt s)
+      (whole_back left level (ExprWithin left) (expr_back d cs tells left (suc level)) (StatementsWithin (StmtWithin left))
+      (blocks_back left (suc level) (StmtWithin left) (stmt_back left (suc level))) (out-Stmt s) within)
 
   -- what a block is named from, where so many levels are left
   pub block_back : (left level : ℕ) (b : Block) → StatementsWithin (StmtWithin left) b → BlockBack left level b

@@ -1,5 +1,5 @@
 -- What is ready is numbered to what fits, and is named back.
-use Rattle.std.proofs.Common.{◌≡◌, ℕ, zero, suc, ◌≤◌, Bool, List, length, map, refl, sym, ap, subst, ◌∙◌, arith}
+use Rattle.std.proofs.Common.{◌≡◌, ℕ, zero, suc, List, length, map, refl, sym, ap, subst, ◌∙◌, arith}
 use Rattle.std.specs.Prelude.{IsTrue}
 use Rattle.std.proofs.lemmas.List.{length-map}
 use Rattle.som_model.specs.declared.limits.TheConstants.{MAX_PARAMETERS}
@@ -15,7 +15,7 @@ use Rattle.som_model.specs.declared.syntax.Stmt.TheOpen.{Stmt-F}
 use Rattle.som_model.specs.declared.syntax.Block.{Block, fold-roll-Block}
 use Rattle.som_model.specs.Blocks.{is_call_form, is_call}
 use Rattle.som_wire.specs.declared.method.WireMethod.{WireMethod}
-use Rattle.som_wire.specs.Spelling.{FitsMethod, FitsCounted}
+use Rattle.som_wire.specs.Spelling.{FitsMethod}
 use Rattle.som_blocks.specs.declared.syntax.WireExpr.{WireExpr, out-WireExpr, roll-WireExpr, out-roll-WireExpr, map-WireExpr, fold-roll-WireExpr}
 use Rattle.som_blocks.specs.declared.syntax.WireExpr.TheVariants as wires
 use Rattle.som_blocks.specs.declared.syntax.WireExpr.TheOpen.{WireExpr-F}
@@ -23,9 +23,9 @@ use Rattle.som_blocks.specs.declared.syntax.WireStmt.{WireStmt, out-WireStmt, ro
 use Rattle.som_blocks.specs.declared.syntax.WireStmt.TheVariants as wire_stmts
 use Rattle.som_blocks.specs.declared.syntax.WireStmt.TheOpen.{WireStmt-F}
 use Rattle.som_blocks.specs.declared.syntax.WireBlock.{WireBlock, fold-roll-WireBlock}
-use Rattle.som_blocks.specs.Fitting.{FitsArgs, FitsExprParts, FitsExpr, calls, FitsCall, FitsStmtParts, FitsStatements, FitsStmt, FitsBlock, levels_left}
+use Rattle.som_blocks.specs.Fitting.{FitsArgs, FitsExprParts, FitsExpr, calls, FitsStmtParts, FitsStatements, FitsStmt, FitsBlock, levels_left}
 use Rattle.som_naming.specs.declared.directory.Directory.{Directory}
-use Rattle.som_naming.specs.Naming.{key_at, method_named, kind_named, ranges_in}
+use Rattle.som_naming.specs.Naming.{ranges_in}
 use Rattle.som_naming.specs.NamedBlocks.{expr_named_step, expr_named, stmt_named_step, block_named_step, stmt_named, block_named}
 use Rattle.som_naming.specs.Numbering.{number_of, method_numbered, kind_numbered}
 use Rattle.som_naming.specs.NumberedBlocks.{expr_step, expr_numbered, stmt_step, block_step, stmt_numbered, block_numbered}

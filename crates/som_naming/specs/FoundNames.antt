@@ -1,5 +1,5 @@
 -- Whether all that blocks name is in a directory: what numbering has to find.
-use Rattle.std.specs.Prelude.{ℕ, Bool, true, ◌&&◌, List, [], get_or, is_some}
+use Rattle.std.specs.Prelude.{Bool, true, ◌&&◌, List, [], get_or, is_some}
 use Rattle.std.specs.List.{list_all}
 use Rattle.std.specs.Str.{bytes_eq}
 use Rattle.som_model.specs.declared.key.ClassKey.{ClassKey}
@@ -81,3 +81,7 @@ stmt_found d = fold-Stmt Bool Bool (stmt_found_step d) block_found_step
 
 abbrev pub block_found : Directory → Block → Bool
 block_found d = fold-Block Bool Bool (stmt_found_step d) block_found_step
+
+-- the same, asked of each statement
+unfoldable pub statements_found : Directory → Block → Bool
+statements_found d b = list_all (stmt_found d) b.statements

@@ -5,3 +5,4 @@ pub mod NumberedBlocks
 pub mod BlockLimits
 pub mod ReadyBlocks
 pub mod FoundNames
+pub mod KnownNumbers

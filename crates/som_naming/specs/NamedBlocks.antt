@@ -1,5 +1,5 @@
 -- The expressions, statements and blocks that those of an image stand for.
-use Rattle.std.specs.Prelude.{◌≡◌, ℕ, List, All}
+use Rattle.std.specs.Prelude.{◌≡◌, ℕ, List}
 use Rattle.som_model.specs.declared.syntax.Expr.{Expr}
 use Rattle.som_model.specs.declared.syntax.Expr.TheVariants as exprs
 use Rattle.som_model.specs.declared.syntax.Stmt.{Stmt}
@@ -11,7 +11,7 @@ use Rattle.som_blocks.specs.declared.syntax.WireExpr.TheOpen.{WireExpr-F}
 use Rattle.som_blocks.specs.declared.syntax.WireStmt.{WireStmt, fold-WireStmt}
 use Rattle.som_blocks.specs.declared.syntax.WireStmt.TheOpen.{WireStmt-F, WireBlock-F}
 use Rattle.som_blocks.specs.declared.syntax.WireBlock.{WireBlock, fold-WireBlock}
-use Rattle.som_blocks.specs.Fitting.{FitsExpr, FitsStmt, FitsBlock, levels_left}
+use Rattle.som_blocks.specs.Fitting.{FitsBlock, levels_left}
 use Rattle.som_blocks.specs.Spelling as spelling
 use Rattle.som_naming.specs.declared.directory.Directory.{Directory}
 use Rattle.som_naming.specs.Naming.{key_at, method_named, kind_named, ranges_in}
@@ -69,17 +69,7 @@ stmt_named d = fold-WireStmt Stmt Block (stmt_named_step d) block_named_step
 abbrev pub block_named : Directory → WireBlock → Block
 block_named d = fold-WireBlock Stmt Block (stmt_named_step d) block_named_step
 
--- ---- what can be named
-
--- an expression that fits a directory, where some levels are left
-unfoldable pub ExprFits : Directory → WireExpr → Type 0
-ExprFits d e = (left : ℕ) × FitsExpr left (ranges_in d).classes (FitsMethod (ranges_in d)) e
-
-unfoldable pub StmtFits : Directory → WireStmt → Type 0
-StmtFits d s = (left : ℕ) × FitsStmt left (ranges_in d).classes (FitsMethod (ranges_in d)) s
-
-abbrev pub BlockFits : Directory → WireBlock → Type 0
-BlockFits d b = All (StmtFits d) b.statements
+-- ---- what a block is named from
 
 -- a block of an image that fits a directory, is spelled so, and stands for this block
 pub record BlockFrom (d : Directory) (b : Block) (bytes : List ℕ) : Type 0 where

@@ -1,5 +1,5 @@
 -- What numbering asks of blocks: an image has room for them, each class, method and type is one of the directory, and operators and calls are what an image can spell.
-use Rattle.std.specs.Prelude.{ℕ, zero, suc, ◌<◌, ◌^◌, IsTrue, FitsSigned, List}
+use Rattle.std.specs.Prelude.{ℕ, zero, suc, ◌<◌, ◌^◌, IsTrue, FitsSigned}
 use Rattle.std.specs.Int.{w32}
 use Rattle.som_model.specs.declared.syntax.Expr.{Expr, out-Expr}
 use Rattle.som_model.specs.declared.syntax.Expr.TheOpen.{Expr-F}

@@ -7,6 +7,7 @@
 
 mod directory;
 mod found;
+mod known;
 mod laws;
 mod lookup;
 mod named;
@@ -21,4 +22,4 @@ pub use laws::named_blocks_are_spelled;
 pub use named::{key_of, name_kind};
 pub use named_block::name_block;
 pub use numbered_block::number_block;
-pub use numbered_laws::{ready_blocks_turn_back, typed_blocks_are_ready};
+pub use numbered_laws::{named_blocks_are_within, ready_blocks_turn_back, typed_blocks_are_ready};

@@ -1,19 +1,13 @@
 ghost use Rattle.som_blocks.specs.Fitting.{FitsBlock, levels_left};
 ghost use Rattle.som_model.specs.declared.syntax.Stmt.TheVariants as stmts;
+ghost use Rattle.som_naming.specs.KnownNumbers.{block_known, expr_known, is_type, statements_known, stmt_known};
+ghost use Rattle.som_naming.specs.NamedBlocks.{block_named, expr_named, stmt_named};
 ghost use Rattle.som_naming.specs.Naming.{kind_named, ranges_in};
-ghost use Rattle.som_naming.specs.NamedBlocks.{
-  BlockFits,
-  ExprFits,
-  StmtFits,
-  block_named,
-  expr_named,
-  stmt_named,
-};
-ghost use Rattle.som_wire.specs.Spelling.{FitsKind, FitsMethod};
-ghost use Rattle.std.specs.Prelude.{◌≡◌, false, length, IfOk};
+ghost use Rattle.som_wire.specs.Spelling.{FitsMethod};
+ghost use Rattle.std.specs.Prelude.{◌≡◌, true, IfOk};
 
 use crate::Directory;
-use crate::named::name_kind;
+use crate::known::name_type;
 use crate::named_expr::name_expr;
 use som_blocks::{WireBlock, WireExpr, WireStmt};
 use som_model::{Block, List, NoMemory, Stmt};
@@ -29,16 +23,27 @@ pub fn name_block(
     requires { FitsBlock (levels_left 1) (ranges_in directory.now).classes (FitsMethod (ranges_in directory.now)) block.now }
     ensures { IfOk result (λ named. named ≡ block_named directory.now block.now) }
 {
+    name_inner(alloc, directory, block)
+}
+
+// A block that stands in another, or the outermost one.
+#[cycle(named_block)]
+#[tactic(auto, using(crate::proofs::KnownNumbers::statements_there))]
+fn name_inner(alloc: Global, directory: &Directory, block: &WireBlock) -> Result<Block, NoMemory>
+    requires { block_known directory.now block.now ≡ true }
+    ensures { IfOk result (λ named. named ≡ block_named directory.now block.now) }
+{
     name_statements(alloc, directory, block)
 }
 
 #[cycle(named_block)]
+#[tactic(auto, using(crate::proofs::NamedLayers::block_is), unfolding(crate::specs::KnownNumbers::statements_known))]
 fn name_statements(
     alloc: Global,
     directory: &Directory,
     block: &WireBlock,
 ) -> Result<Block, NoMemory>
-    requires { BlockFits directory.now block.now }
+    requires { statements_known directory.now block.now ≡ true }
     ensures { IfOk result (λ named. named ≡ block_named directory.now block.now) }
 {
     let mut statements = List::new(alloc);
@@ -50,7 +55,7 @@ fn name_statements(
 
 #[cycle(named_block)]
 fn name_stmt(alloc: Global, directory: &Directory, statement: &WireStmt) -> Result<Stmt, NoMemory>
-    requires { StmtFits directory.now statement.now }
+    requires { stmt_known directory.now statement.now ≡ true }
     ensures { IfOk result (λ named. named ≡ stmt_named directory.now statement.now) }
 {
     match statement {
@@ -85,18 +90,17 @@ fn name_stmt(alloc: Global, directory: &Directory, statement: &WireStmt) -> Resu
     }
 }
 
-#[tactic(auto, using(crate::proofs::Naming::as_result))]
 fn name_var(
     alloc: Global,
     directory: &Directory,
     kind: &WireType,
     value: &WireExpr,
 ) -> Result<Stmt, NoMemory>
-    requires kind { FitsKind (length directory.now.keys) false kind.now }
-    requires value { ExprFits directory.now value.now }
+    requires kind { is_type directory.now kind.now ≡ true }
+    requires value { expr_known directory.now value.now ≡ true }
     ensures { IfOk result (λ named. named ≡ stmts.Var (kind_named directory.now.keys kind.now) (expr_named directory.now value.now)) }
 {
-    let kind = name_kind(alloc, &directory.keys, kind)?;
+    let kind = name_type(alloc, directory, kind)?;
     let value = name_expr(alloc, directory, value)?;
     Ok(Stmt::Var { kind, value })
 }
@@ -109,14 +113,14 @@ fn name_if(
     then: &WireBlock,
     other: &WireBlock,
 ) -> Result<Stmt, NoMemory>
-    requires condition { ExprFits directory.now condition.now }
-    requires then { BlockFits directory.now then.now }
-    requires other { BlockFits directory.now other.now }
+    requires condition { expr_known directory.now condition.now ≡ true }
+    requires then { block_known directory.now then.now ≡ true }
+    requires other { block_known directory.now other.now ≡ true }
     ensures { IfOk result (λ named. named ≡ stmts.If (expr_named directory.now condition.now) (block_named directory.now then.now) (block_named directory.now other.now)) }
 {
     let condition = name_expr(alloc, directory, condition)?;
-    let then = name_statements(alloc, directory, then)?;
-    let other = name_statements(alloc, directory, other)?;
+    let then = name_inner(alloc, directory, then)?;
+    let other = name_inner(alloc, directory, other)?;
     Ok(Stmt::If {
         condition,
         then,
@@ -131,11 +135,11 @@ fn name_while(
     condition: &WireExpr,
     block: &WireBlock,
 ) -> Result<Stmt, NoMemory>
-    requires condition { ExprFits directory.now condition.now }
-    requires block { BlockFits directory.now block.now }
+    requires condition { expr_known directory.now condition.now ≡ true }
+    requires block { block_known directory.now block.now ≡ true }
     ensures { IfOk result (λ named. named ≡ stmts.While (expr_named directory.now condition.now) (block_named directory.now block.now)) }
 {
     let condition = name_expr(alloc, directory, condition)?;
-    let block = name_statements(alloc, directory, block)?;
+    let block = name_inner(alloc, directory, block)?;
     Ok(Stmt::While { condition, block })
 }

@@ -1,14 +1,13 @@
-ghost use Rattle.som_model.specs.declared.syntax.Expr.TheVariants as exprs;
-ghost use Rattle.som_naming.specs.Naming.{key_at, kind_named, method_named, ranges_in};
-ghost use Rattle.som_naming.specs.NamedBlocks.{ExprFits, expr_named};
-ghost use Rattle.som_wire.specs.Spelling.{FitsKind, FitsMethod};
-ghost use Rattle.std.specs.Prelude.{◌≡◌, ◌<◌, true, length, map, All, IfOk};
+ghost use Rattle.som_naming.specs.FoundNames.{all_found};
+ghost use Rattle.som_naming.specs.KnownNumbers.{expr_known};
+ghost use Rattle.som_naming.specs.NamedBlocks.{expr_named};
+ghost use Rattle.std.specs.List.{list_all};
+ghost use Rattle.std.specs.Prelude.{◌≡◌, true, map, IfOk};
 
 use crate::Directory;
-use crate::named::{key_of, name_kind};
+use crate::known::{name_class, name_method, name_type};
 use som_blocks::WireExpr;
-use som_model::{Boxed, Expr, HostCode, List, NoMemory, Text};
-use som_wire::{WireMethod, WireType};
+use som_model::{Boxed, Expr, List, NoMemory};
 use std::alloc::Global;
 
 /// The expression that an expression of an image stands for.
@@ -18,7 +17,7 @@ pub(crate) fn name_expr(
     directory: &Directory,
     expr: &WireExpr,
 ) -> Result<Expr, NoMemory>
-    requires { ExprFits directory.now expr.now }
+    requires { expr_known directory.now expr.now ≡ true }
     ensures { IfOk result (λ named. named ≡ expr_named directory.now expr.now) }
 {
     match expr {
@@ -38,49 +37,63 @@ pub(crate) fn name_expr(
             left: name_boxed(alloc, directory, left)?,
             right: name_boxed(alloc, directory, right)?,
         }),
-        WireExpr::New(class) => Ok(Expr::New(key_of(alloc, &directory.keys, *class)?)),
-        WireExpr::Class(class) => Ok(Expr::Class(key_of(alloc, &directory.keys, *class)?)),
+        WireExpr::New(class) => Ok(Expr::New(name_class(alloc, directory, *class)?)),
+        WireExpr::Class(class) => Ok(Expr::Class(name_class(alloc, directory, *class)?)),
         WireExpr::Manager => Ok(Expr::Manager),
         WireExpr::Cast { class, of } => Ok(Expr::Cast {
-            class: key_of(alloc, &directory.keys, *class)?,
+            class: name_class(alloc, directory, *class)?,
             of: name_boxed(alloc, directory, of)?,
         }),
         WireExpr::Isa { class, of } => Ok(Expr::Isa {
-            class: key_of(alloc, &directory.keys, *class)?,
+            class: name_class(alloc, directory, *class)?,
             of: name_boxed(alloc, directory, of)?,
         }),
         WireExpr::Proxy { class, of } => Ok(Expr::Proxy {
-            class: key_of(alloc, &directory.keys, *class)?,
+            class: name_class(alloc, directory, *class)?,
             of: name_boxed(alloc, directory, of)?,
         }),
         WireExpr::OffsetCall {
             method,
             receiver,
             args,
-        } => name_offset_call(alloc, directory, *method, receiver, args),
+        } => Ok(Expr::OffsetCall {
+            method: name_method(alloc, directory, *method)?,
+            receiver: name_boxed(alloc, directory, receiver)?,
+            args: name_exprs(alloc, directory, args)?,
+        }),
         WireExpr::Lookup {
             result: kind,
             name,
             receiver,
             args,
-        } => name_lookup(alloc, directory, kind, name, receiver, args),
+        } => Ok(Expr::Lookup {
+            result: name_type(alloc, directory, kind)?,
+            name: name.copy(alloc)?,
+            receiver: name_boxed(alloc, directory, receiver)?,
+            args: name_exprs(alloc, directory, args)?,
+        }),
         WireExpr::Dispatch {
             result: kind,
             name,
             receiver,
             args,
-        } => name_dispatch(alloc, directory, kind, name, receiver, args),
+        } => Ok(Expr::Dispatch {
+            result: name_type(alloc, directory, kind)?,
+            name: name.copy(alloc)?,
+            receiver: name_boxed(alloc, directory, receiver)?,
+            args: name_exprs(alloc, directory, args)?,
+        }),
         WireExpr::ParentCall {
             parent,
             method,
             args,
         } => Ok(Expr::ParentCall {
             parent: *parent,
-            method: directory.method(alloc, *method)?,
+            method: name_method(alloc, directory, *method)?,
             args: name_exprs(alloc, directory, args)?,
         }),
         WireExpr::ParentsCall { method, args } => Ok(Expr::ParentsCall {
-            method: directory.method(alloc, *method)?,
+            method: name_method(alloc, directory, *method)?,
             args: name_exprs(alloc, directory, args)?,
         }),
         WireExpr::Host { code, a, b } => Ok(Expr::Host {
@@ -92,88 +105,37 @@ pub(crate) fn name_expr(
 }
 
 #[cycle(named_expr)]
-fn name_offset_call(
-    alloc: Global,
-    directory: &Directory,
-    method: WireMethod,
-    receiver: &Boxed<WireExpr>,
-    args: &List<WireExpr>,
-) -> Result<Expr, NoMemory>
-    requires method { FitsMethod (ranges_in directory.now) method }
-    requires receiver { ExprFits directory.now receiver.now }
-    requires args { All (ExprFits directory.now) args.now }
-    ensures { IfOk result (λ named. named ≡ exprs.OffsetCall (method_named directory.now method) (expr_named directory.now receiver.now) (map (expr_named directory.now) args.now)) }
-{
-    Ok(Expr::OffsetCall {
-        method: directory.method(alloc, method)?,
-        receiver: name_boxed(alloc, directory, receiver)?,
-        args: name_exprs(alloc, directory, args)?,
-    })
-}
-
-#[cycle(named_expr)]
-fn name_lookup(
-    alloc: Global,
-    directory: &Directory,
-    kind: &WireType,
-    name: &Text,
-    receiver: &Boxed<WireExpr>,
-    args: &List<WireExpr>,
-) -> Result<Expr, NoMemory>
-    requires kind { FitsKind (length directory.now.keys) true kind.now }
-    requires receiver { ExprFits directory.now receiver.now }
-    requires args { All (ExprFits directory.now) args.now }
-    ensures { IfOk result (λ named. named ≡ exprs.Lookup (kind_named directory.now.keys kind.now) name.now (expr_named directory.now receiver.now) (map (expr_named directory.now) args.now)) }
-{
-    Ok(Expr::Lookup {
-        result: name_kind(alloc, &directory.keys, kind)?,
-        name: name.copy(alloc)?,
-        receiver: name_boxed(alloc, directory, receiver)?,
-        args: name_exprs(alloc, directory, args)?,
-    })
-}
-
-#[cycle(named_expr)]
-fn name_dispatch(
-    alloc: Global,
-    directory: &Directory,
-    kind: &WireType,
-    name: &Text,
-    receiver: &Boxed<WireExpr>,
-    args: &List<WireExpr>,
-) -> Result<Expr, NoMemory>
-    requires kind { FitsKind (length directory.now.keys) true kind.now }
-    requires receiver { ExprFits directory.now receiver.now }
-    requires args { All (ExprFits directory.now) args.now }
-    ensures { IfOk result (λ named. named ≡ exprs.Dispatch (kind_named directory.now.keys kind.now) name.now (expr_named directory.now receiver.now) (map (expr_named directory.now) args.now)) }
-{
-    Ok(Expr::Dispatch {
-        result: name_kind(alloc, &directory.keys, kind)?,
-        name: name.copy(alloc)?,
-        receiver: name_boxed(alloc, directory, receiver)?,
-        args: name_exprs(alloc, directory, args)?,
-    })
-}
-
-#[cycle(named_expr)]
 fn name_boxed(
     alloc: Global,
     directory: &Directory,
     expr: &Boxed<WireExpr>,
 ) -> Result<Boxed<Expr>, NoMemory>
-    requires { ExprFits directory.now expr.now }
+    requires { expr_known directory.now expr.now ≡ true }
     ensures { IfOk result (λ named. named ≡ expr_named directory.now expr.now) }
 {
     Boxed::new(alloc, name_expr(alloc, directory, expr.get())?)
 }
 
 #[cycle(named_expr)]
+#[tactic(auto, using(crate::proofs::FoundNames::each_found))]
 fn name_exprs(
     alloc: Global,
     directory: &Directory,
     exprs: &List<WireExpr>,
 ) -> Result<List<Expr>, NoMemory>
-    requires { All (ExprFits directory.now) exprs.now }
+    requires { all_found (map (expr_known directory.now) exprs.now) ≡ true }
+    ensures { IfOk result (λ named. named ≡ map (expr_named directory.now) exprs.now) }
+{
+    name_each(alloc, directory, exprs)
+}
+
+#[cycle(named_expr)]
+fn name_each(
+    alloc: Global,
+    directory: &Directory,
+    exprs: &List<WireExpr>,
+) -> Result<List<Expr>, NoMemory>
+    requires { list_all (expr_known directory.now) exprs.now ≡ true }
     ensures { IfOk result (λ named. named ≡ map (expr_named directory.now) exprs.now) }
 {
     let mut named = List::new(alloc);

@@ -1,10 +1,9 @@
 ghost use Rattle.som_blocks.specs.declared.syntax.WireStmt.TheVariants as stmts;
-ghost use Rattle.som_naming.specs.FoundNames.{block_found, expr_found, kind_found, stmt_found};
+ghost use Rattle.som_naming.specs.FoundNames.{block_found, expr_found, kind_found, statements_found, stmt_found};
 ghost use Rattle.som_naming.specs.Numbering.{IsDirectory, kind_numbered};
 ghost use Rattle.som_naming.specs.NumberedBlocks.{block_numbered, expr_numbered, stmt_numbered};
 ghost use Rattle.som_naming.specs.ReadyBlocks.{BlockReady};
 ghost use Rattle.som_order.specs.Names.{texts};
-ghost use Rattle.std.specs.List.{list_all};
 ghost use Rattle.std.specs.Prelude.{◌≡◌, true, IfOk};
 
 use crate::Directory;
@@ -47,7 +46,7 @@ fn number_inner(
 }
 
 #[cycle(numbered_block)]
-#[tactic(auto, using(crate::proofs::TurnedBlocks::block_is))]
+#[tactic(auto, using(crate::proofs::TurnedBlocks::block_is), unfolding(crate::specs::FoundNames::statements_found))]
 fn number_statements(
     alloc: Global,
     directory: &Directory,
@@ -55,7 +54,7 @@ fn number_statements(
     block: &Block,
 ) -> Result<WireBlock, NoMemory>
     requires directory { IsDirectory (texts names.now.keys) directory.now }
-    requires found { list_all (stmt_found directory.now) block.now.statements ≡ true }
+    requires found { statements_found directory.now block.now ≡ true }
     ensures { IfOk result (λ numbered. numbered ≡ block_numbered directory.now block.now) }
 {
     let mut statements = List::new(alloc);

@@ -1,23 +1,23 @@
 ghost use Rattle.som_blocks.specs.Fitting.{FitsBlock, levels_left};
-ghost use Rattle.som_model.specs.Class.{Class, entry_name};
+ghost use Rattle.som_blocks.specs.declared.syntax.WireBlock.{WireBlock};
+ghost use Rattle.som_model.specs.Class.{Class};
 ghost use Rattle.som_model.specs.Typing.{CodePlace, class_facts};
 ghost use Rattle.som_model.specs.TypedBlocks.{Scope, block_scope};
 ghost use Rattle.som_model.specs.declared.syntax.Block.{Block};
 ghost use Rattle.som_naming.specs.BlockLimits.{BlockWithin};
 ghost use Rattle.som_naming.specs.NamedBlocks.{block_named};
-ghost use Rattle.som_naming.specs.Naming.{ranges_in};
+ghost use Rattle.som_naming.specs.Naming.{Tells, ranges_in};
 ghost use Rattle.som_naming.specs.NumberedBlocks.{block_numbered};
 ghost use Rattle.som_naming.specs.ReadyBlocks.{BlockReady};
 ghost use Rattle.som_naming.specs.declared.directory.Directory.{Directory};
 ghost use Rattle.som_wire.specs.Spelling.{FitsMethod};
-ghost use Rattle.std.specs.Prelude.{◌≡◌, List, length, map, Ok};
+ghost use Rattle.std.specs.Prelude.{◌≡◌, List, length, Ok};
 
-/// A block that is well typed where it stands, among any classes, and within the limits is ready to be numbered by a
-/// directory of these classes and the names of their entries.
+/// A block that is well typed where it stands, among any classes, and within the limits is ready to be numbered by the
+/// directory of these classes.
 pub fn typed_blocks_are_ready()
     ensures { (cs : List Class) (d : Directory) →
-        map (λ c. c.key) cs ≡ d.keys → map (λ c. map entry_name c.decl.face.entries) cs ≡ d.slots →
-        (at : CodePlace) (scope after : Scope) (b : Block) →
+        (at : CodePlace) (scope after : Scope) (b : Block) → Tells d cs →
         BlockWithin b → block_scope (class_facts cs) at b scope ≡ Ok after → BlockReady d b }
 {}
 
@@ -26,4 +26,10 @@ pub fn ready_blocks_turn_back()
     ensures fits { (d : Directory) (b : Block) → BlockReady d b →
         FitsBlock (levels_left 1) (length d.keys) (FitsMethod (ranges_in d)) (block_numbered d b) }
     ensures names { (d : Directory) (b : Block) → BlockReady d b → block_named d (block_numbered d b) ≡ b }
+{}
+
+/// What fits is named to a block within the limits, whatever the directory says.
+pub fn named_blocks_are_within()
+    ensures { (d : Directory) (b : WireBlock) →
+        FitsBlock (levels_left 1) (length d.keys) (FitsMethod (ranges_in d)) b → BlockWithin (block_named d b) }
 {}

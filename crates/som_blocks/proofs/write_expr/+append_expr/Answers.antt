@@ -1,5 +1,4 @@
-use Rattle.std.proofs.Common.{rules, ◌++◌, sym, ap, ◌∙◌, append_assoc}
-use Rattle.som_blocks.specs.Spelling.{expr}
+use Rattle.std.proofs.Common.{rules}
 use Rattle.som_blocks.proofs.Fits.{some_expr_parts}
 use Rattle.som_blocks.proofs.Written.{expr_appended}
 use Rattle.som_blocks.proofs.write_expr.+append_expr.Goals as goal

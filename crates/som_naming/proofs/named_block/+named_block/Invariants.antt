@@ -8,13 +8,16 @@ abbrev pub invariant-name_statements-loop-statement : goal.invariant-name_statem
 invariant-name_statements-loop-statement l = l.statements ≡ map (stmt_named l.directory) (take l.statement-index l.block.statements)
 
 abbrev pub decreases-name_statements : goal.decreases-name_statements
-decreases-name_statements l = 2 * size-WireBlock l.block.now
+decreases-name_statements l = 3 * size-WireBlock l.block.now
 
 abbrev pub decreases-name_stmt : goal.decreases-name_stmt
-decreases-name_stmt l = 2 * size-WireStmt l.statement.now
+decreases-name_stmt l = 3 * size-WireStmt l.statement.now
 
 abbrev pub decreases-name_if : goal.decreases-name_if
-decreases-name_if l = 2 * max (size-WireBlock l.then.now) (size-WireBlock l.other.now) + 1
+decreases-name_if l = 3 * max (size-WireBlock l.then.now) (size-WireBlock l.other.now) + 2
 
 abbrev pub decreases-name_while : goal.decreases-name_while
-decreases-name_while l = 2 * size-WireBlock l.block.now + 1
+decreases-name_while l = 3 * size-WireBlock l.block.now + 2
+
+abbrev pub decreases-name_inner : goal.decreases-name_inner
+decreases-name_inner l = 3 * size-WireBlock l.block.now + 1

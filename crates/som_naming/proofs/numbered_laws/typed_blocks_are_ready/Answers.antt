@@ -4,4 +4,4 @@ use Rattle.som_naming.proofs.KnownMethods.{covers}
 use Rattle.som_naming.proofs.numbered_laws.typed_blocks_are_ready.Goals as goal
 
 pub returns : goal.returns
-returns c = λ cs d keys slots at scope after b within typed. typed_is_ready (class_facts cs) d (covers cs d (record { keys = keys; slots = slots })) at scope after b within typed
+returns c = λ cs d at scope after b tells within typed. typed_is_ready (class_facts cs) d (covers cs d tells) at scope after b within typed
