@@ -177,10 +177,12 @@ pub no_types : (cs : List Class) → AreTypes cs []
 no_types cs = record { by = λ k m. absurd m }
 
 pub more_types : (cs : List Class) (kinds : List Kind) (k : Kind) → AreTypes cs kinds → IsType cs k → AreTypes cs (kinds ++ k ∷ [])
-more_types cs kinds k types is = record { by = λ x m. elim (mem_split x kinds (k ∷ []) m) [
-  | inl n ↦ types.by x n
-  | inr n ↦ elim n [ inl same ↦ subst (IsType cs) (sym same) is | inr z ↦ absurd z ]
-] }
+more_types cs kinds k types is = record {
+  by = λ x m. elim (mem_split x kinds (k ∷ []) m) [
+    | inl n ↦ types.by x n
+    | inr n ↦ elim n [ inl same ↦ subst (IsType cs) (sym same) is | inr z ↦ absurd z ]
+  ];
+}
 
 pub more_kinds : (cs : List Class) (kinds : List Kind) (k : Kind) (ts : List ValueType) (i : ℕ) (t : ValueType) → i < length ts → t ≡ get_or ts i t → type_at cs k ≡ t
     → scope_at cs kinds ≡ take i ts → scope_at cs (kinds ++ k ∷ []) ≡ take (i + 1) ts

@@ -13,7 +13,7 @@ use Rattle.som_verify.specs.declared.types.VerifyFault.TheVariants as faults
 use Rattle.som_verify.specs.Faces.{rules_breach}
 use Rattle.som_verify.specs.Places.{with_kernel}
 use Rattle.som_verify.specs.Told.{Tells}
-use Rattle.som_verify.proofs.Conformity.{faces_first}
+use Rattle.som_verify.proofs.Conformity.{faces_first, tells_here}
 use Rattle.som_verify.proofs.PlainFaces.{or_none, none_or}
 
 -- releases
@@ -33,6 +33,9 @@ release_tells r cs result same t =
     subst (λ o. Tells o result)
     (ap (λ z. or_else (rules_breach 0 z) (first (flat_map (class_typed (with_kernel z)) z))) same
     ∙ ap (λ o. or_else o (first (flat_map (class_typed (all_of_release r)) (library_classes r)))) (faces_first r)) t
+
+pub release_tells_rules : (r : Release) (cs : List Class) (e : VerifyFault) → cs ≡ library_classes r → Tells {A = Unit {0}} (rules_breach 0 cs) (Err e) → Tells {A = Unit {0}} (release_breach r) (Err e)
+release_tells_rules r cs e same t = release_tells r cs (Err e) same (tells_here (rules_breach 0 cs) (first (flat_map (class_typed (with_kernel cs)) cs)) e t)
 
 pub release_if_ok : (r : Release) (result : Result (Unit {0}) VerifyFault) → Tells (release_breach r) result → IfOk result (λ _. ReleaseOk r)
 release_if_ok r (Ok x) t = release_conforms r t

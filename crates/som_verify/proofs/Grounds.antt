@@ -49,8 +49,8 @@ module _ (cs : List Class) (n : ℕ) (rules : rules_breach n cs ≡ None) where
   pub sigs_known : AllSigsKnown (with_kernel cs) cs
   sigs_known = record {
     by = λ c m. record {
-        by = λ name sig way k. declared_sig n cs
-            (types_say (kernel ++ take n cs) (take n cs) (none_both base_types own_types types_none).0)
-            (types_say (with_kernel cs) (drop n cs) (none_both base_types own_types types_none).1) c name sig way m k;
+      by = λ name sig way k. declared_sig n cs
+          (types_say (kernel ++ take n cs) (take n cs) (none_both base_types own_types types_none).0)
+          (types_say (with_kernel cs) (drop n cs) (none_both base_types own_types types_none).1) c name sig way m k;
     };
   }

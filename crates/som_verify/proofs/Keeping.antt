@@ -87,10 +87,12 @@ pub declares : (cs : List Class) (w : ClassFacts) (typed : Typed) (before after 
 declares cs w typed before after kind k wanted e f is g stands types more = record {
   scope = var_by cs w typed (scope_at cs before) kind k true true e f (ap (λ z. fits w z (kind_at cs k)) (sym is) ∙ g)
       ∙ ap (λ z. Ok (scope_at cs before ++ z ∷ [])) (sym is) ∙ ap (λ z. Ok z) (sym (map_append (type_at cs) before (wanted ∷ []))) ∙ ap (λ z. Ok (scope_at cs z)) (sym more);
-  types = subst (λ z. AreTypes cs z) (sym more) (record { by = λ x m. elim (mem_split x before (wanted ∷ []) m) [
-    | inl n ↦ types.by x n
-    | inr n ↦ elim n [ inl same ↦ subst (IsType cs) (sym same) stands | inr z ↦ absurd z ]
-  ] });
+  types = subst (λ z. AreTypes cs z) (sym more) (record {
+    by = λ x m. elim (mem_split x before (wanted ∷ []) m) [
+      | inl n ↦ types.by x n
+      | inr n ↦ elim n [ inl same ↦ subst (IsType cs) (sym same) stands | inr z ↦ absurd z ]
+    ];
+  });
   declared = wanted ∷ [];
   more = more;
 }

@@ -17,7 +17,7 @@ use Rattle.som_verify.specs.Modules.{class_of, classes_of}
 use Rattle.som_verify.specs.Places.{with_kernel}
 use Rattle.som_verify.specs.Plainly.{program_classes}
 use Rattle.som_verify.specs.Told.{Tells}
-use Rattle.som_verify.proofs.Conformity.{regrouped}
+use Rattle.som_verify.proofs.Conformity.{regrouped, tells_here}
 use Rattle.som_verify.proofs.DeclaredClasses.{long_map, drop_map}
 
 map_both : (fs : List ClassFace) → map (class_in modules.Library) (map bare fs) ≡ map (λ f. class_in modules.Library (bare f)) fs
@@ -83,3 +83,7 @@ module _ (p : ClientProgram) (ds : List Declared) (n : ℕ) (same : classes_of d
       (ap (λ o. or_else o (first (flat_map (class_typed (with_kernel (classes_of ds))) (classes_of (drop n ds)) ++ main_typed (with_kernel (classes_of ds)) p.main))) rules_part
       ∙ ap (λ z. or_else (declared_program_breach p) (first (flat_map (class_typed (with_kernel (classes_of ds))) z ++ main_typed (with_kernel (classes_of ds)) p.main))) (sym (drop_map class_of ds n) ∙ rest_is)
       ∙ ap (λ z. or_else (declared_program_breach p) (first (flat_map (class_typed (with_kernel z)) (client_classes p) ++ main_typed (with_kernel z) p.main))) same) t
+
+  pub rules_tell : (e : VerifyFault) → Tells {A = Unit {0}} (rules_breach n (classes_of ds)) (Err e) → Tells {A = Unit {0}} (program_breach p) (Err e)
+  rules_tell e t =
+      all_tell (Err e) (tells_here (rules_breach n (classes_of ds)) (first (flat_map (class_typed (with_kernel (classes_of ds))) (classes_of (drop n ds)) ++ main_typed (with_kernel (classes_of ds)) p.main)) e t)

@@ -108,12 +108,7 @@ fn classes_and_main_typed(
     all_typed(alloc, &known, base, main)
 }
 
-fn all_typed(
-    alloc: Global,
-    known: &Knowledge,
-    base: usize,
-    main: &Block,
-) -> Result<(), VerifyFault>
+fn all_typed(alloc: Global, known: &Knowledge, base: usize, main: &Block) -> Result<(), VerifyFault>
     requires known { IsKnowledge known.now }
     requires signatures { AllSigsKnown (all_of known.now) (classes_of known.now.classes.now) }
     ensures { Tells (first (flat_map (typed_class (all_of known.now)) (classes_of (drop base known.now.classes.now))

@@ -7,6 +7,7 @@ use std::alloc::Global;
 use std::test::Fail;
 
 /// Expressions and blocks that no word took so far, and the statements of the blocks that are open.
+#[derive(Drop)]
 struct Made {
     exprs: Vec<Expr>,
     blocks: Vec<Block>,

@@ -68,7 +68,8 @@ pub use knowledge::{
 };
 pub use known::{type_is_known, type_is_of_value};
 pub use laws::{
-    client_law, declared_lower_law, faces_law, parents_lower_law, program_law, release_law, rules_law,
+    client_law, declared_lower_law, faces_law, parents_lower_law, program_law, release_law,
+    rules_law,
 };
 pub use members::{entries_differ, parents_differ, variables_differ};
 pub use metaclasses::metaclasses_descend;

@@ -8,9 +8,9 @@ ghost use Rattle.som_verify.specs.Scopes.{Keeps, scope_at, then_scope, valued_by
 ghost use Rattle.som_verify.specs.declared.code_place.TypeFault.TheVariants as faults;
 ghost use Rattle.std.specs.Prelude.{◌≡◌, ◌&&◌, not, if◌then◌else◌, List as Seq, Ok, Err};
 
+use crate::calls::variable_kind;
 use crate::code_place::{CodePlace, TypeFault};
 use crate::expressions::{expr_kind, value_kind};
-use crate::calls::variable_kind;
 use crate::forms::{has_text, is_nothing, is_object, local_kind};
 use crate::kind::Kind;
 use crate::knowledge::{Knowledge, kind_fits};
@@ -21,7 +21,11 @@ use std::alloc::Global;
 pub(crate) fn demand(rule: u8, holds: bool) -> Result<(), TypeFault>
     ensures { result ≡ (if holds then Ok tt else Err (faults.Rule rule)) }
 {
-    if holds { Ok(()) } else { Err(TypeFault::Rule(rule)) }
+    if holds {
+        Ok(())
+    } else {
+        Err(TypeFault::Rule(rule))
+    }
 }
 
 /// A local that is in scope takes a value that fits it.

@@ -5,10 +5,13 @@ ghost use Rattle.som_verify.specs.Scopes.{Closes, Scopes, blocked_by, if_scope, 
 
 use crate::code_place::{CodePlace, TypeFault};
 use crate::expressions::value_kind;
-use crate::kind::Kind;
 use crate::forms::is_boolean;
+use crate::kind::Kind;
 use crate::knowledge::{Knowledge, kind_fits, kind_of};
-use crate::plain_statements::{call_stands, demand, is_freed, is_printed, return_stands, set_local, set_variable, value_returns};
+use crate::plain_statements::{
+    call_stands, demand, is_freed, is_printed, return_stands, set_local, set_variable,
+    value_returns,
+};
 use som_model::{Block, Expr, Stmt, ValueType};
 use std::alloc::Global;
 

@@ -183,7 +183,9 @@ fn the_first_breach_is_told(rt: HostRuntime) -> Result<(), Fail> {
 
 // What the body of a method of Dog breaks, by the types of the method.
 fn broken_by(alloc: Global, types: &str, block: &str) -> Result<String, Fail> {
-    let short = format!(in alloc; "{PETS}; class Dog, is Pet, var mate Pet, new go {types}, body {block}")?;
+    let short = format!(in alloc;
+        "{PETS}; class Dog, is Pet, var mate Pet, new go {types}, body {block}"
+    )?;
     first_breach(alloc, short.as_str())
 }
 

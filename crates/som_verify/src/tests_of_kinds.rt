@@ -1,8 +1,9 @@
+ghost use Rattle.som_order.specs.Names.{texts};
 ghost use Rattle.som_verify.specs.Faces.{classes_breach};
 ghost use Rattle.som_verify.specs.Kinds.{ClassStands};
 ghost use Rattle.som_verify.specs.Knowing.{IsKnowledge, all_of};
 ghost use Rattle.som_verify.specs.Modules.{classes_of};
-ghost use Rattle.som_verify.specs.Places.{with_kernel};
+ghost use Rattle.som_verify.specs.Places.{IsTable, with_kernel};
 ghost use Rattle.som_verify.specs.Walk.{AreLists};
 ghost use Rattle.std.specs.Prelude.{◌≡◌, IfOk, None};
 
@@ -16,6 +17,7 @@ use crate::knowledge::{Knowledge, know};
 use crate::table::class_names;
 use crate::tests::{key, kind, release, text, words};
 use crate::types::Declared;
+use indexmap::IndexSet;
 use som_model::{Boxed, Expr, HostCode, List, MethodRef, Module, NoMemory, kernel_faces};
 use std::alloc::Global;
 use std::test::Fail;
@@ -218,6 +220,25 @@ fn come_to(
     )
 }
 
+// The same, where classes that break no rule are known.
+fn told(
+    alloc: Global,
+    table: &IndexSet<&[u8]>,
+    classes: &[Declared],
+    lists: &[List<usize>],
+    class: Option<usize>,
+    short: &str,
+) -> Result<String, Fail>
+    requires table { IsTable (classes_of classes.now) (texts table.now.keys) }
+    requires lists { AreLists (with_kernel (classes_of classes.now)) lists.now }
+    requires rules { classes_breach 0 (classes_of classes.now) ≡ None }
+    requires class { ClassStands (with_kernel (classes_of classes.now)) class }
+{
+    let kernel = kernel_faces(alloc)?;
+    let known = know(table, kernel.classes.as_slice(), classes, lists);
+    come_to(alloc, &known, class, short)
+}
+
 // The ancestors of classes that break no rule.
 fn lists_of(alloc: Global, classes: &[Declared]) -> Result<Vec<List<usize>>, Fail>
     ensures lists { IfOk result (λ lists. AreLists (with_kernel (classes_of classes.now)) lists.items) }
@@ -243,20 +264,18 @@ fn expressions_have_kinds(rt: HostRuntime) -> Result<(), Fail> {
         return Err(Fail::from("a name twice"));
     };
     let lists = lists_of(alloc, declared)?;
-    let kernel = kernel_faces(alloc)?;
-    let known = know(&table, kernel.classes.as_slice(), declared, &lists);
     if declared.len() + 4 <= DOG {
         return Err(Fail::from("too few classes"));
     }
     for cases in IN_A_BODY {
         for (short, want) in cases {
-            let told = come_to(alloc, &known, Some(DOG), short)?;
-            assert_eq!(rt; told.as_str(), *want, "{short}");
+            let kind = told(alloc, &table, declared, &lists, Some(DOG), short)?;
+            assert_eq!(rt; kind.as_str(), *want, "{short}");
         }
     }
     for (short, want) in &IN_MAIN {
-        let told = come_to(alloc, &known, None, short)?;
-        assert_eq!(rt; told.as_str(), *want, "{short}");
+        let kind = told(alloc, &table, declared, &lists, None, short)?;
+        assert_eq!(rt; kind.as_str(), *want, "{short}");
     }
     Ok(())
 }

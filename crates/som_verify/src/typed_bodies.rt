@@ -193,11 +193,7 @@ pub fn main_typed(alloc: Global, known: &Knowledge, main: &Block) -> Result<(), 
 }
 
 // The kinds of types that are known.
-fn kinds_of(
-    alloc: Global,
-    known: &Knowledge,
-    types: &[ValueType],
-) -> Result<Vec<Kind>, NoMemory>
+fn kinds_of(alloc: Global, known: &Knowledge, types: &[ValueType]) -> Result<Vec<Kind>, NoMemory>
     requires known { IsKnowledge known.now }
     requires types { every (is_known (all_of known.now)) types.now ≡ true }
     ensures are { IfOk result (λ kinds. scope_at (all_of known.now) kinds.items ≡ types.now) }

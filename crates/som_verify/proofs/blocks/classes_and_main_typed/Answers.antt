@@ -9,8 +9,8 @@ use Rattle.som_verify.specs.Told.{Tells}
 use Rattle.som_verify.proofs.Grounds.{faces_none, sigs_known}
 use Rattle.som_verify.proofs.blocks.classes_and_main_typed.Goals as goal
 
-pub know-requires : goal.know-requires
-know-requires c = record {
+pub know-known-requires : goal.know-known-requires
+know-known-requires c = record {
   table = c.requires.parts.table;
   kernel = c.as_slice.ensures ∙ c.requires.parts.kernel;
   lists = rw c.as_slice-2.ensures.value c.requires.parts.lists;

@@ -2,8 +2,8 @@ use Rattle.std.proofs.Common.{ap, ◌∙◌, length, map}
 use Rattle.std.proofs.lemmas.Result.{err_from_is_err_and}
 use Rattle.som_model.specs.Class.{bare}
 use Rattle.som_verify.specs.Modules.{classes_of}
-use Rattle.som_verify.proofs.Conformity.{tells_here, tells_later}
-use Rattle.som_verify.proofs.Programs.{all_tell, few}
+use Rattle.som_verify.proofs.Conformity.{tells_later}
+use Rattle.som_verify.proofs.Programs.{all_tell, few, rules_tell}
 use Rattle.som_verify.proofs.program.all_rules_hold.Goals as goal
 
 pub declare_program-requires : goal.declare_program-requires
@@ -18,7 +18,7 @@ program_typed-requires-clause-base c = few c.args.program.now c.as_slice-declare
 pub returns-in_err-rules_hold : goal.returns-in_err-rules_hold
 returns-in_err-rules_hold c =
     let p = err_from_is_err_and c.from_residual-in_err-rules_hold.result c.from_residual-in_err-rules_hold.ensures.1 in
-    rw (p.1, p.2) (all_tell c.args.program.now c.as_slice-declared.result.now (length c.as_slice-number.result.now) (ap classes_of c.as_slice-declared.ensures.value ∙ c.in_ok-declared.ensures) (ap length c.as_slice-number.ensures) _ (tells_here _ _ c.in_err-rules_hold.field-0.0 c.in_err-rules_hold.ensures))
+    rw (p.1, p.2) (rules_tell c.args.program.now c.as_slice-declared.result.now (length c.as_slice-number.result.now) (ap classes_of c.as_slice-declared.ensures.value ∙ c.in_ok-declared.ensures) (ap length c.as_slice-number.ensures) c.in_err-rules_hold.field-0.0 c.in_err-rules_hold.ensures)
 
 pub returns : goal.returns
 returns c = all_tell c.args.program.now c.as_slice-declared.result.now (length c.as_slice-number.result.now) (ap classes_of c.as_slice-declared.ensures.value ∙ c.in_ok-declared.ensures) (ap length c.as_slice-number.ensures) c.program_typed.result (tells_later _ _ c.program_typed.result c.in_ok-rules_hold.ensures c.program_typed.ensures)

@@ -23,7 +23,7 @@ block_typed-returns-in_err-statement_typed t c =
     rw (p.1, p.2) (breaks (all_of c.args.known.now) (facts_of c.args.known.now) (code_at (all_of c.args.known.now) c.args.at.now) c.args.block.now c.loop-statement.statement-index c.statement-item.result c.args.scope.now.items c.loop-statement.scope.items c.in_err-statement_typed.field-0.0 (rw c.as_slice-statement-items.ensures at c.loop-statement-test.true) (rw c.as_slice-statement-items.ensures at c.statement-item.is) c.in_err-statement_typed.ensures c.loop-statement.invariant)
 
 pub block_typed-returns : goal.block_typed-returns
-block_typed-returns t c = rw c.truncate.ensures.items (ends (all_of c.args.known.now) (facts_of c.args.known.now) (code_at (all_of c.args.known.now) c.args.at.now) c.args.block.now c.loop-statement.statement-index c.args.scope.now.items c.loop-statement.scope.items (rw c.as_slice-statement-items.ensures at c.loop-statement-test.false) c.loop-statement.invariant)
+block_typed-returns t c = rw (c.truncate.ensures.items, c.as_slice-before.ensures.value) (ends (all_of c.args.known.now) (facts_of c.args.known.now) (code_at (all_of c.args.known.now) c.args.at.now) c.args.block.now c.loop-statement.statement-index c.args.scope.now.items c.loop-statement.scope.items (rw c.as_slice-statement-items.ensures at c.loop-statement-test.false) c.loop-statement.invariant)
 
 pub statement_typed-returns-in-Var : goal.statement_typed-returns-in-Var
 statement_typed-returns-in-Var t c =
@@ -37,7 +37,7 @@ statement_typed-returns-in-SetLocal t c =
 
 pub statement_typed-returns-in-SetVariable : goal.statement_typed-returns-in-SetVariable
 statement_typed-returns-in-SetVariable t c =
-    plainly (all_of c.args.known.now) (stated_by c.args.known.now c.args.at.now c.args.scope.now.items c.args.statement.now) (λ shown. then_scope (valued_by c.args.known.now c.args.at.now shown c.in-SetVariable.value) (variable_set (facts_of c.args.known.now) (code_at (all_of c.args.known.now) c.args.at.now) (scope_at (all_of c.args.known.now) shown) c.in-SetVariable.variable)) c.args.scope.now.items _ c.set_variable.result c.requires.scope c.as_slice.ensures.value
+    plainly (all_of c.args.known.now) (stated_by c.args.known.now c.args.at.now c.args.scope.now.items c.args.statement.now) (λ shown. then_scope (valued_by c.args.known.now c.args.at.now shown c.in-SetVariable.value) (variable_set (facts_of c.args.known.now) (code_at (all_of c.args.known.now) c.args.at.now) (scope_at (all_of c.args.known.now) shown) c.in-SetVariable.variable)) c.args.scope.now.items _ c.set_variable.result c.requires.scope c.as_slice-in-SetVariable.ensures.value
     (ap (stated_by c.args.known.now c.args.at.now c.args.scope.now.items) c.in-SetVariable.is ∙ forms.set_variable_typed (facts_of c.args.known.now) (code_at (all_of c.args.known.now) c.args.at.now) (scope_at (all_of c.args.known.now) c.args.scope.now.items) c.in-SetVariable.variable c.in-SetVariable.value) c.set_variable.ensures
 
 pub statement_typed-returns-in-If : goal.statement_typed-returns-in-If
@@ -57,22 +57,22 @@ statement_typed-returns-in-Return t c =
 
 pub statement_typed-returns-in-ReturnValue : goal.statement_typed-returns-in-ReturnValue
 statement_typed-returns-in-ReturnValue t c =
-    plainly (all_of c.args.known.now) (stated_by c.args.known.now c.args.at.now c.args.scope.now.items c.args.statement.now) (λ shown. then_scope (valued_by c.args.known.now c.args.at.now shown c.in-ReturnValue.value) (value_return (facts_of c.args.known.now) (code_at (all_of c.args.known.now) c.args.at.now) (scope_at (all_of c.args.known.now) shown))) c.args.scope.now.items _ c.value_returns.result c.requires.scope c.as_slice.ensures.value
+    plainly (all_of c.args.known.now) (stated_by c.args.known.now c.args.at.now c.args.scope.now.items c.args.statement.now) (λ shown. then_scope (valued_by c.args.known.now c.args.at.now shown c.in-ReturnValue.value) (value_return (facts_of c.args.known.now) (code_at (all_of c.args.known.now) c.args.at.now) (scope_at (all_of c.args.known.now) shown))) c.args.scope.now.items _ c.value_returns.result c.requires.scope c.as_slice-in-ReturnValue.ensures.value
     (ap (stated_by c.args.known.now c.args.at.now c.args.scope.now.items) c.in-ReturnValue.is ∙ forms.value_return_typed (facts_of c.args.known.now) (code_at (all_of c.args.known.now) c.args.at.now) (scope_at (all_of c.args.known.now) c.args.scope.now.items) c.in-ReturnValue.value) c.value_returns.ensures
 
 pub statement_typed-returns-in-Print : goal.statement_typed-returns-in-Print
 statement_typed-returns-in-Print t c =
-    plainly (all_of c.args.known.now) (stated_by c.args.known.now c.args.at.now c.args.scope.now.items c.args.statement.now) (λ shown. then_scope (valued_by c.args.known.now c.args.at.now shown c.in-Print.value) (λ t. needs 17 (has_text t) (Ok (scope_at (all_of c.args.known.now) shown)))) c.args.scope.now.items _ c.is_printed.result c.requires.scope c.as_slice.ensures.value
+    plainly (all_of c.args.known.now) (stated_by c.args.known.now c.args.at.now c.args.scope.now.items c.args.statement.now) (λ shown. then_scope (valued_by c.args.known.now c.args.at.now shown c.in-Print.value) (λ t. needs 17 (has_text t) (Ok (scope_at (all_of c.args.known.now) shown)))) c.args.scope.now.items _ c.is_printed.result c.requires.scope c.as_slice-in-Print.ensures.value
     (ap (stated_by c.args.known.now c.args.at.now c.args.scope.now.items) c.in-Print.is ∙ forms.print_typed (facts_of c.args.known.now) (code_at (all_of c.args.known.now) c.args.at.now) (scope_at (all_of c.args.known.now) c.args.scope.now.items) c.in-Print.value) c.is_printed.ensures
 
 pub statement_typed-returns-in-Free : goal.statement_typed-returns-in-Free
 statement_typed-returns-in-Free t c =
-    plainly (all_of c.args.known.now) (stated_by c.args.known.now c.args.at.now c.args.scope.now.items c.args.statement.now) (λ shown. then_scope (valued_by c.args.known.now c.args.at.now shown c.in-Free.value) (λ t. needs 17 (is_class t) (Ok (scope_at (all_of c.args.known.now) shown)))) c.args.scope.now.items _ c.is_freed.result c.requires.scope c.as_slice.ensures.value
+    plainly (all_of c.args.known.now) (stated_by c.args.known.now c.args.at.now c.args.scope.now.items c.args.statement.now) (λ shown. then_scope (valued_by c.args.known.now c.args.at.now shown c.in-Free.value) (λ t. needs 17 (is_class t) (Ok (scope_at (all_of c.args.known.now) shown)))) c.args.scope.now.items _ c.is_freed.result c.requires.scope c.as_slice-in-Free.ensures.value
     (ap (stated_by c.args.known.now c.args.at.now c.args.scope.now.items) c.in-Free.is ∙ forms.free_typed (facts_of c.args.known.now) (code_at (all_of c.args.known.now) c.args.at.now) (scope_at (all_of c.args.known.now) c.args.scope.now.items) c.in-Free.value) c.is_freed.ensures
 
 pub statement_typed-returns-in-Call : goal.statement_typed-returns-in-Call
 statement_typed-returns-in-Call t c =
-    plainly (all_of c.args.known.now) (stated_by c.args.known.now c.args.at.now c.args.scope.now.items c.args.statement.now) (λ shown. call_statement (facts_of c.args.known.now) (code_at (all_of c.args.known.now) c.args.at.now) (scope_at (all_of c.args.known.now) shown) c.in-Call.call) c.args.scope.now.items _ c.call_stands.result c.requires.scope c.as_slice.ensures.value
+    plainly (all_of c.args.known.now) (stated_by c.args.known.now c.args.at.now c.args.scope.now.items c.args.statement.now) (λ shown. call_statement (facts_of c.args.known.now) (code_at (all_of c.args.known.now) c.args.at.now) (scope_at (all_of c.args.known.now) shown) c.in-Call.call) c.args.scope.now.items _ c.call_stands.result c.requires.scope c.as_slice-in-Call.ensures.value
     (ap (stated_by c.args.known.now c.args.at.now c.args.scope.now.items) c.in-Call.is ∙ forms.call_typed (facts_of c.args.known.now) (code_at (all_of c.args.known.now) c.args.at.now) (scope_at (all_of c.args.known.now) c.args.scope.now.items) c.in-Call.call) c.call_stands.ensures
 
 pub if_typed-returns-in_err-tested : goal.if_typed-returns-in_err-tested
