@@ -1,5 +1,5 @@
 -- Calls that name their classes and methods by faces are well typed where the object's class descends from the method's.
-use Rattle.std.proofs.Common.{◌≡◌, ℕ, zero, suc, Bool, true, false, not, if◌then◌else◌, List, [], ◌∷◌, ◌++◌, map, Option, Some, None, is_some, slice_get, refl, sym, ap, ◌∙◌}
+use Rattle.std.proofs.Common.{◌≡◌, ℕ, zero, suc, true, not, if◌then◌else◌, List, [], ◌∷◌, ◌++◌, map, Some, is_some, slice_get, refl, sym, ap, ◌∙◌}
 use Rattle.std.specs.Prelude.{codes}
 use Rattle.std.proofs.lemmas.List.{map-append}
 use Rattle.som_model.specs.declared.key.ValueType.TheVariants as types

@@ -1,12 +1,11 @@
 -- Which calls on new objects are well typed, and that main breaks no rule exactly where its calls are; what prints a text breaks none.
-use Rattle.std.proofs.Common.{◌≡◌, ◌⊎◌, ℕ, inl, inr, Bool, true, false, List, [], ◌∷◌, ◌++◌, map, Option, Some, None, Ok, Err, is_some, refl, sym, ap, ◌∙◌, subst, true≢false}
+use Rattle.std.proofs.Common.{◌≡◌, ℕ, Bool, true, false, List, [], ◌∷◌, map, Option, Some, None, Ok, Err, is_some, refl, sym, ap, ◌∙◌}
 use Rattle.std.specs.Prelude.{codes}
 use Rattle.som_model.specs.declared.key.ClassKey.{ClassKey}
 use Rattle.som_model.specs.declared.key.MethodRef.{MethodRef}
 use Rattle.som_model.specs.declared.key.ValueType.{ValueType}
 use Rattle.som_model.specs.declared.key.ValueType.TheVariants as types
 use Rattle.som_model.specs.declared.syntax.Block.{Block}
-use Rattle.som_model.specs.declared.syntax.Stmt.{Stmt}
 use Rattle.som_model.specs.declared.class.Sig.{Sig}
 use Rattle.som_model.specs.Lists.{first}
 use Rattle.som_model.specs.Steps.{◌>>=◌}
@@ -14,13 +13,12 @@ use Rattle.som_model.specs.Class.{Class}
 use Rattle.som_model.specs.Classes.{class_at, is_a}
 use Rattle.som_model.specs.Owner.{owner, sig_of}
 use Rattle.som_model.specs.Rules.{Breach}
-use Rattle.som_model.specs.Typing.{ClassFacts, ExprType, Of, Ruled, Typed, needs, there, value, all_fit, class_facts, in_main, offset_call_type}
-use Rattle.som_model.specs.TypedBlocks.{Scope, block_scope, in_turn, stmt_scope}
+use Rattle.som_model.specs.Typing.{ClassFacts, Of, Ruled, Typed, needs, there, value, all_fit, class_facts, in_main, offset_call_type}
+use Rattle.som_model.specs.TypedBlocks.{Scope, in_turn, stmt_scope}
 use Rattle.som_model.specs.Conforming.{main_typed}
 use Rattle.som_model.proofs.TypingLaws.{block_typed, calling_typed}
 use Rattle.som_first.specs.declared.classes.FirstCall.{FirstCall}
 use Rattle.som_first.specs.FirstImages.{library_key, called, call_of}
-use Rattle.som_first.proofs.FirstLists.{nothing}
 
 -- what a well typed call says: the class is known and descends from the method's, and the owner introduces the method, without parameters
 pub record TypedCall (cs : List Class) (c : FirstCall) : Type 0 where
