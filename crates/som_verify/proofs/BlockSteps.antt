@@ -12,7 +12,7 @@ use Rattle.som_verify.specs.declared.kind.Kind.{Kind}
 use Rattle.som_verify.specs.declared.code_place.TypeFault.{TypeFault}
 use Rattle.som_verify.specs.declared.code_place.TypeFault.TheVariants as faults
 use Rattle.som_verify.specs.Kinds.{AreTypes, Fails, kind_at}
-use Rattle.som_verify.specs.Scopes.{Closes, Ends, Keeps, Leaves, Scopes, scope_at}
+use Rattle.som_verify.specs.Scopes.{Ends, Keeps, Leaves, Scopes, scope_at}
 use Rattle.som_verify.proofs.Keeping.{tested, then_fails}
 
 -- of a block these statements are left, and what was declared so far is in scope

@@ -1,5 +1,5 @@
 -- From all rules one by one to the conformity of a release and of a client program.
-use Rattle.std.proofs.Common.{◌≡◌, ◌++◌, List, drop, flat_map, Option, None, Result, Ok, Err, sym, ap, ◌∙◌, subst}
+use Rattle.std.proofs.Common.{◌≡◌, ◌++◌, List, flat_map, None, Result, Ok, Err, ap, ◌∙◌, subst}
 use Rattle.std.specs.Prelude.{IfOk}
 use Rattle.som_model.specs.Lists.{first, or_else}
 use Rattle.som_model.specs.Class.{Class}

@@ -1,5 +1,5 @@
 -- From the rules one by one to all rules of a release.
-use Rattle.std.proofs.Common.{◌≡◌, ◌++◌, List, drop, flat_map, Option, Some, None, Result, Ok, Err, refl, sym, ap, ◌∙◌, subst}
+use Rattle.std.proofs.Common.{◌≡◌, ◌++◌, List, flat_map, Option, Some, None, Result, Err, refl, sym, ap, ◌∙◌, subst}
 use Rattle.som_model.specs.Lists.{first, or_else}
 use Rattle.som_model.specs.Class.{Class}
 use Rattle.som_model.specs.Classes.{library_classes}
@@ -8,7 +8,6 @@ use Rattle.som_model.specs.Conforming.{first_of_names, first_of_members, declare
 use Rattle.som_model.specs.Rules.{Breach, s5, s14}
 use Rattle.som_model.specs.declared.program.Release.{Release}
 use Rattle.som_verify.specs.declared.types.VerifyFault.{VerifyFault}
-use Rattle.som_verify.specs.declared.types.VerifyFault.TheVariants as faults
 use Rattle.som_verify.specs.Faces.{classes_breach, faces_breach, rules_breach}
 use Rattle.som_verify.specs.Told.{Tells}
 use Rattle.som_verify.specs.declared.types.Declared.{Declared}

@@ -1,5 +1,5 @@
 -- What typing is to know of classes that break no rule which looks into no block.
-use Rattle.std.proofs.Common.{◌≡◌, ℕ, List, ◌++◌, take, drop, flat_map, Option, None, Result, Err, refl, sym, ◌∙◌, subst}
+use Rattle.std.proofs.Common.{◌≡◌, ℕ, List, ◌++◌, take, drop, flat_map, Option, None, Err, refl, sym, ◌∙◌, subst}
 use Rattle.som_model.specs.Lists.{first, or_else}
 use Rattle.som_model.specs.Class.{Class}
 use Rattle.som_model.specs.Conforming.{each_after, first_of_names, first_of_members}

@@ -1,5 +1,5 @@
 -- Where no rule on faces is broken, whatever classes name is known.
-use Rattle.std.proofs.Common.{◌≡◌, ℕ, zero, suc, ◌<◌, ◌⊎◌, inl, inr, Bool, true, false, ◌&&◌, List, [], ◌∷◌, ◌++◌, take, drop, map, flat_map, length, slice_get, slice_index_or, Option, Some, None, is_some, refl, sym, ap, ◌∙◌, subst, arith, true≢false}
+use Rattle.std.proofs.Common.{◌≡◌, ℕ, zero, suc, ◌<◌, ◌⊎◌, inl, inr, Bool, true, false, List, [], ◌∷◌, ◌++◌, take, drop, map, flat_map, length, slice_get, Option, Some, None, is_some, refl, sym, ap, ◌∙◌, subst, arith, true≢false}
 use Rattle.std.specs.Str.{bytes_eq}
 use Rattle.std.proofs.lemmas.List.{take-append-drop}
 use Rattle.std.proofs.lemmas.Option.{slice_get-get_or}
@@ -8,7 +8,7 @@ use Rattle.som_model.specs.Class.{Class, entry_name, entry_of, introduced_sig}
 use Rattle.som_model.specs.Classes.{class_at}
 use Rattle.som_model.specs.Conforming.{each_after, first_of_names, first_of_members}
 use Rattle.som_model.specs.Kernel.{kernel, som_class, som_object}
-use Rattle.som_model.specs.Rules.{is_known, is_value_type, s1, s2, s5, s6, s7, s8, s9}
+use Rattle.som_model.specs.Rules.{is_known, s1, s2, s5, s6, s7, s8, s9}
 use Rattle.som_model.specs.declared.key.ClassKey.{ClassKey}
 use Rattle.som_model.specs.declared.key.ValueType.{ValueType}
 use Rattle.som_model.specs.declared.key.ValueType.TheVariants as types
@@ -21,7 +21,7 @@ use Rattle.som_plain.proofs.Members.{find_first, mem_split, mem_left, mem_right}
 use Rattle.som_verify.specs.Faces.{classes_breach}
 use Rattle.som_verify.specs.Knowing.{NamesKnown, sig_is_known}
 use Rattle.som_verify.specs.Places.{class_of_place, face_at, nobody, with_kernel}
-use Rattle.som_verify.specs.Plainly.{IsAmong, IsNamed, IsValue, TypesKnown}
+use Rattle.som_verify.specs.Plainly.{IsAmong, TypesKnown}
 use Rattle.som_verify.proofs.Before.{every_mem, known_by_s2, mem_every, mem_known, none_both}
 use Rattle.som_verify.proofs.Owners.{mem_middle}
 use Rattle.som_verify.proofs.PlainFaces.{or_none}

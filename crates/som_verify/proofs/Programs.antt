@@ -1,5 +1,5 @@
 -- The classes of a client program, and its first breach.
-use Rattle.std.proofs.Common.{◌≡◌, ℕ, ◌≤◌, List, [], ◌∷◌, ◌++◌, length, map, take, drop, flat_map, Option, None, Result, Err, refl, sym, ap, ◌∙◌, subst, arith, length-append}
+use Rattle.std.proofs.Common.{◌≡◌, ℕ, ◌≤◌, List, [], ◌∷◌, ◌++◌, length, map, take, drop, flat_map, Option, Result, Err, refl, sym, ap, ◌∙◌, subst, arith, length-append}
 use Rattle.som_model.specs.Lists.{first, or_else}
 use Rattle.som_model.specs.Class.{Class, bare, class_in}
 use Rattle.som_model.specs.Classes.{client_classes, interface_classes}

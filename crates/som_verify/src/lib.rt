@@ -45,6 +45,8 @@ mod tests_of_kinds;
 mod typed_bodies;
 #[cfg(test)]
 mod typed_cases;
+#[cfg(test)]
+mod typed_orders;
 mod types;
 
 pub use ancestry::ancestors;

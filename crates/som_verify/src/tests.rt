@@ -4,7 +4,8 @@ use crate::descent::{ancestor_lists, is_listed};
 use crate::program::{program_ok, program_rules};
 use crate::program_cases::{MAINS, PROGRAMS};
 use crate::release::{faces_ok, release_ok};
-use crate::typed_cases::{BODIES, PETS, RELEASES};
+use crate::typed_cases::{BODIES, PETS};
+use crate::typed_orders::RELEASES;
 use crate::types::VerifyFault;
 use som_model::{
     Block, Body, ClassDecl, ClassFace, ClassKey, ClientProgram, Entry, Expr, Interface, List,

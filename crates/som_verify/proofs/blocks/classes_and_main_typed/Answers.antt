@@ -1,4 +1,4 @@
-use Rattle.std.proofs.Common.{List, ◌++◌, drop, flat_map, sym, ap, ◌∙◌, subst}
+use Rattle.std.proofs.Common.{List, ◌++◌, drop, flat_map, sym, ◌∙◌, subst}
 use Rattle.som_model.specs.Conforming.{class_typed, main_typed}
 use Rattle.som_model.specs.Lists.{first}
 use Rattle.som_verify.specs.declared.types.Declared.{Declared}

@@ -1,4 +1,4 @@
-use Rattle.std.proofs.Common.{ap, sym, ◌∙◌, refl}
+use Rattle.std.proofs.Common.{ap, ◌∙◌, refl}
 use Rattle.som_model.specs.Typing.{is_nothing}
 use Rattle.som_model.specs.TypedBlocks.{plain_return}
 use Rattle.som_verify.specs.Kinds.{code_at}

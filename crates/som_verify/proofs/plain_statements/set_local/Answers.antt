@@ -1,4 +1,4 @@
-use Rattle.std.proofs.Common.{map, slice_get}
+use Rattle.std.proofs.Common.{slice_get}
 use Rattle.std.proofs.lemmas.Result.{err_from_is_err_and}
 use Rattle.som_model.specs.Typing.{there}
 use Rattle.som_verify.specs.Knowing.{all_of, facts_of}

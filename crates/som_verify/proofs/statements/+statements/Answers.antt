@@ -1,9 +1,9 @@
-use Rattle.std.proofs.Common.{◌≡◌, List, drop, length, take, refl, sym, ap, ◌∙◌, subst, Ok}
+use Rattle.std.proofs.Common.{◌≡◌, List, refl, ap, ◌∙◌, subst, Ok}
 use Rattle.std.proofs.lemmas.Result.{err_from_is_err_and}
-use Rattle.som_model.specs.Typing.{is_boolean, has_text, is_class, needs}
+use Rattle.som_model.specs.Typing.{has_text, is_class, needs}
 use Rattle.som_model.specs.TypedBlocks.{call_statement, local_set, plain_return, value_return, variable_set}
 use Rattle.som_verify.specs.declared.kind.Kind.{Kind}
-use Rattle.som_verify.specs.Kinds.{AreTypes, Fails, code_at}
+use Rattle.som_verify.specs.Kinds.{Fails, code_at}
 use Rattle.som_verify.specs.Knowing.{all_of, facts_of}
 use Rattle.som_verify.specs.Scopes.{blocked_by, scope_at, stated_by, then_scope, valued_by}
 use Rattle.som_verify.proofs.BlockSteps.{after_block, after_part, begins, breaks, ends, formed, goes_on, if_kept, kept, plainly, while_kept}

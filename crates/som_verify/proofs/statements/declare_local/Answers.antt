@@ -1,4 +1,4 @@
-use Rattle.std.proofs.Common.{sym, ap, ◌∙◌}
+use Rattle.std.proofs.Common.{sym, ◌∙◌}
 use Rattle.std.proofs.lemmas.Result.{err_from_is_err_and}
 use Rattle.som_verify.specs.Knowing.{all_of, facts_of}
 use Rattle.som_verify.specs.Scopes.{scope_at, valued_by}

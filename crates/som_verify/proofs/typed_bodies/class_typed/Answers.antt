@@ -1,4 +1,4 @@
-use Rattle.std.proofs.Common.{flat_map, sym, subst}
+use Rattle.std.proofs.Common.{flat_map}
 use Rattle.std.proofs.lemmas.Result.{err_from_is_err_and}
 use Rattle.som_model.specs.Conforming.{bodies_typed, override_typed}
 use Rattle.som_verify.specs.Knowing.{all_of}

@@ -1,7 +1,7 @@
 use Rattle.som_model.specs.Rules.{is_known}
 use Rattle.som_verify.specs.Knowing.{all_of}
 use Rattle.som_verify.proofs.Before.{every_mem}
-use Rattle.som_verify.proofs.BodySteps.{item_mem, more_kinds, more_types, no_types}
+use Rattle.som_verify.proofs.BodySteps.{item_mem, more_kinds, more_types}
 use Rattle.som_verify.proofs.typed_bodies.kinds_of.Goals as goal
 
 pub known_kind-requires-clause-kind : goal.known_kind-requires-clause-kind

@@ -1,4 +1,4 @@
-use Rattle.std.proofs.Common.{sym, ◌∙◌}
+use Rattle.std.proofs.Common.{◌∙◌}
 use Rattle.som_verify.specs.Knowing.{all_of}
 use Rattle.som_verify.proofs.Facts.{kind_said}
 use Rattle.som_verify.proofs.typed_bodies.known_kind.Goals as goal

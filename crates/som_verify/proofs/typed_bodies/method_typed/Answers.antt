@@ -1,7 +1,7 @@
-use Rattle.std.proofs.Common.{ap, ◌∙◌}
+use Rattle.std.proofs.Common.{◌∙◌}
 use Rattle.som_verify.specs.Knowing.{all_of}
 use Rattle.som_verify.specs.Modules.{class_of}
-use Rattle.som_verify.proofs.BodySteps.{block_breaks, block_holds, sig_parts}
+use Rattle.som_verify.proofs.BodySteps.{block_holds, sig_parts}
 use Rattle.som_verify.proofs.typed_bodies.method_typed.Goals as goal
 
 pub kinds_of-requires-clause-types : goal.kinds_of-requires-clause-types

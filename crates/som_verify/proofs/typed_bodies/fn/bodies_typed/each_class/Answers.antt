@@ -4,7 +4,7 @@ use Rattle.som_model.specs.Conforming.{class_typed}
 use Rattle.som_model.specs.Lists.{first}
 use Rattle.som_verify.specs.declared.types.Declared.{Declared}
 use Rattle.som_verify.specs.Knowing.{all_of}
-use Rattle.som_verify.specs.Modules.{class_of, classes_of}
+use Rattle.som_verify.specs.Modules.{class_of}
 use Rattle.som_verify.specs.Told.{Tells}
 use Rattle.som_verify.proofs.BodySteps.{declared_stands, declared_sigs}
 use Rattle.som_verify.proofs.typed_bodies.fn.bodies_typed.each_class.Goals as goal
