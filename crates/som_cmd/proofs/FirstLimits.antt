@@ -1,5 +1,5 @@
 -- A first release that has an image is within the limits of images.
-use Rattle.std.proofs.Common.{◌≡◌, ℕ, ◌≤◌, List, [], ◌∷◌, length, map, Some, codes, refl, sym, ◌∙◌, arith}
+use Rattle.std.proofs.Common.{◌≡◌, ℕ, ◌+◌, ◌≤◌, List, [], ◌∷◌, ◌++◌, length, map, Some, codes, refl, sym, ◌∙◌, arith}
 use Rattle.std.specs.Int.{w8, w16, w32}
 use Rattle.std.specs.Prelude.{nat_le, not, ◌==◌}
 use Rattle.std.specs.List.{AllByRecursion}
