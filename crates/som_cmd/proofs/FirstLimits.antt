@@ -1,5 +1,5 @@
 -- A first release that has an image is within the limits of images.
-use Rattle.std.proofs.Common.{◌≡◌, ℕ, ◌≤◌, List, [], ◌∷◌, length, map, Some, codes, refl, sym, ◌∙◌, arith}
+use Rattle.std.proofs.Common.{◌≡◌, ℕ, suc, ◌≤◌, List, [], ◌∷◌, ◌++◌, length, map, Some, codes, refl, sym, subst, ◌∙◌, arith}
 use Rattle.std.specs.Int.{w8, w16, w32}
 use Rattle.std.specs.Prelude.{nat_le, not, ◌==◌}
 use Rattle.std.specs.List.{AllByRecursion}
@@ -11,6 +11,7 @@ use Rattle.som_model.specs.declared.syntax.Expr.TheVariants as exprs
 use Rattle.som_model.specs.declared.syntax.Stmt.TheVariants as stmts
 use Rattle.som_model.specs.declared.class.Way.TheVariants as ways
 use Rattle.som_model.specs.declared.class.Override.{Override}
+use Rattle.som_model.specs.declared.class.Variable.{Variable}
 use Rattle.som_model.specs.declared.class.ClassDecl.{ClassDecl}
 use Rattle.som_model.specs.Blocks.{printing}
 use Rattle.som_model.specs.Class.{Class, introduced}
@@ -18,7 +19,7 @@ use Rattle.som_model.specs.Kernel.{kernel}
 use Rattle.som_model.specs.Classes.{library_classes}
 use Rattle.som_model.specs.Images.{Spelled, ◌then◌, each, where_it_is, tag, number, counted, text, version, class, method, sig, way, metaclass, entry, face, at_level, block, body, part, library_image}
 use Rattle.som_model.proofs.ImageLaws.{printing_is}
-use Rattle.som_naming.specs.BlockLimits.{BlockWithin, ExprWithin, StmtWithin, TextWithin}
+use Rattle.som_naming.specs.BlockLimits.{BlockWithin, ExprPartsWithin, ExprWithin, StatementsWithin, StmtPartsWithin, StmtWithin, TextWithin}
 use Rattle.som_libimage.specs.Limits.{BodyWithin, ClassWithin, EntryWithin, FaceWithin, IsWithinLimits}
 use Rattle.som_first.specs.declared.classes.FirstMethod.{FirstMethod}
 use Rattle.som_first.specs.declared.classes.FirstOverride.{FirstOverride}
@@ -37,13 +38,13 @@ version_kept n bytes e = leb-true n MAX_VERSION (it_is (nat_le n MAX_VERSION) (n
 
 -- ---- a block that prints a text
 
-text_within : (left : ℕ) (t : List ℕ) → TextWithin t → ExprWithin (left + 1) (exprs.Str t)
+text_within : (left : ℕ) (t : List ℕ) → TextWithin t → ExprWithin (suc left) (exprs.Str t)
 unfolding ExprWithin
-text_within left t le = rw (out_text t) le
+text_within left t le = subst (ExprPartsWithin (ExprWithin left)) (sym (out_text t)) le
 
-print_within : (left : ℕ) (t : List ℕ) → TextWithin t → StmtWithin (left + 2) (stmts.Print (exprs.Str t))
+print_within : (left : ℕ) (t : List ℕ) → TextWithin t → StmtWithin (suc (suc left)) (stmts.Print (exprs.Str t))
 unfolding StmtWithin
-print_within left t le = rw (out_print (exprs.Str t)) (text_within left t le)
+print_within left t le = subst (StmtPartsWithin (ExprWithin (suc left)) (StatementsWithin (StmtWithin (suc left)))) (sym (out_print (exprs.Str t))) (text_within left t le)
 
 block_within : (t : List ℕ) → TextWithin t → BlockWithin (printing t)
 block_within t le = (omega arith, All-from_recursion (StmtWithin 32) ((printing t).statements) (print_within 30 t le, tt))
@@ -134,7 +135,7 @@ module _ (cs : List Class) where
       record {
         face = face_kept (seen c) bytes e;
         variables = omega arith;
-        each_variable = All-from_recursion (λ v. TextWithin v.name) d.variables tt;
+        each_variable = All-from_recursion (λ (v : Variable). TextWithin v.name) d.variables tt;
         each_body = All-from_recursion BodyWithin d.bodies (bodies_kept c.methods guarded.0 all.1);
         overrides = overrides.0;
         each_override = All-from_recursion OverrideWithin d.overrides (overrides_kept c.overrides overrides.1 overrides.2);

@@ -15,7 +15,7 @@ use Rattle.som_wire.proofs.Parts.{Stands-join, guard_no, took, went}
 use Rattle.som_libimage.specs.Reading.{faces_at}
 use Rattle.som_libimage.specs.Spelling.{FitsFaces}
 use Rattle.som_libimage.specs.Naming.{interface_named}
-use Rattle.som_libimage.proofs.LibraryFields.{faces_field, all_bytes, stands_whole, at_end}
+use Rattle.som_libimage.proofs.LibraryFields.{faces_field, all_bytes, stands_whole, ends_there}
 use Rattle.som_first.specs.declared.calls.CallPlace.{CallPlace}
 use Rattle.som_firstclient.specs.declared.image.ClientImage.{ClientImage}
 use Rattle.som_firstclient.specs.Reading.{constant_at, calls_at, client_at}
@@ -95,7 +95,7 @@ again bytes fs cs whole fits calls_fit =
     ∙ ap (λ (x : Result (Read (List WireFace)) ImageFault). x >>= after_faces bytes) f.0
     ∙ ap (λ (x : Result ℕ ImageFault). x >>= after_none bytes fs) n.0
     ∙ ap (λ (x : Result (Read (List CallPlace)) ImageFault). x >>= ending bytes fs) c
-    ∙ ap (λ (b : Bool). cond b (Err (faults.Trailing end)) (answered (an_image fs cs))) (at_end end)
+    ∙ ap (λ (b : Bool). cond b (Err (faults.Trailing end)) (answered (an_image fs cs))) (ends_there end)
 
 -- what is spelled so is read
 pub client_again : (fs : List WireFace) (cs : List CallPlace) → FitsFaces fs → FitsCalls (named fs) cs → client_at (client fs cs) ≡ answered (an_image fs cs)
