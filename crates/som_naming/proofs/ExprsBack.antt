@@ -1,11 +1,9 @@
 -- What an expression with names that has a spelling is named from.
-use Rattle.std.proofs.Common.{◌≡◌, ℕ, zero, suc, ◌+◌, ◌<◌, ◌≤◌, ◌^◌, Bool, true, false, List, [], ◌∷◌, ◌++◌, length, map, Some, refl, sym, ap, subst, ◌∙◌, arith}
+use Rattle.std.proofs.Common.{◌≡◌, ℕ, zero, suc, List, [], ◌∷◌, length, map, Some, refl, sym, ap, subst, ◌∙◌, arith}
 use Rattle.std.specs.Prelude.{nat_lt}
 use Rattle.std.specs.Int.{w8, w16, w32, cast_unsigned}
-use Rattle.std.specs.List.{AllByRecursion}
-use Rattle.std.proofs.lemmas.List.{length-map}
 use Rattle.std.proofs.lemmas.List.Elements.{recursion_from_All}
-use Rattle.som_model.specs.declared.limits.TheConstants.{MAX_NESTING, MAX_PARAMETERS}
+use Rattle.som_model.specs.declared.limits.TheConstants.{MAX_PARAMETERS}
 use Rattle.som_model.specs.declared.key.ClassKey.{ClassKey}
 use Rattle.som_model.specs.declared.key.MethodRef.{MethodRef}
 use Rattle.som_model.specs.declared.key.ValueType.{ValueType}
@@ -14,15 +12,14 @@ use Rattle.som_model.specs.declared.syntax.Expr.TheOpen.{Expr-F}
 use Rattle.som_model.specs.Class.{Class}
 use Rattle.som_model.specs.Images as images
 use Rattle.som_model.specs.Images.{Spelled, AtLevel, ◌then◌, tag, where_it_is, expr_step}
-use Rattle.som_wire.specs.Spelling as wire
 use Rattle.som_wire.specs.Spelling.{FitsMethod}
 use Rattle.som_wire.specs.declared.method.WireMethod.{WireMethod}
-use Rattle.som_blocks.specs.declared.syntax.WireExpr.{WireExpr, out-WireExpr, roll-WireExpr, out-roll-WireExpr, map-WireExpr, fold-roll-WireExpr}
+use Rattle.som_blocks.specs.declared.syntax.WireExpr.{WireExpr, roll-WireExpr, out-roll-WireExpr, map-WireExpr, fold-roll-WireExpr}
 use Rattle.som_blocks.specs.declared.syntax.WireExpr.TheOpen.{WireExpr-F}
 use Rattle.som_blocks.specs.Fitting.{FitsArgs, FitsExprParts, FitsExpr}
 use Rattle.som_blocks.specs.Spelling as spelling
 use Rattle.som_naming.specs.declared.directory.Directory.{Directory}
-use Rattle.som_naming.specs.Naming.{key_at, method_named, kind_named, ranges_in, Tells}
+use Rattle.som_naming.specs.Naming.{ranges_in, Tells}
 use Rattle.som_naming.specs.NamedBlocks.{expr_named}
 use Rattle.som_naming.specs.BlockLimits.{ArgsWithin, ExprPartsWithin, ExprWithin}
 use Rattle.som_naming.proofs.Places.{all_map}

@@ -1,12 +1,9 @@
 -- Expressions with names are spelled as those with numbers are.
-use Rattle.std.proofs.Common.{◌≡◌, ℕ, zero, suc, ◌+◌, ◌<◌, ◌≤◌, ◌^◌, Bool, true, false, List, [], ◌∷◌, ◌++◌, length, map, Some, refl, sym, ap, subst, ◌∙◌, arith}
-use Rattle.std.specs.Int.{w8, w16, w32}
-use Rattle.std.specs.List.{flat_map}
-use Rattle.std.proofs.lemmas.List.{length-map}
+use Rattle.std.proofs.Common.{◌≡◌, ℕ, zero, suc, ◌+◌, ◌≤◌, List, length, map, Some, refl, sym, ap, subst, ◌∙◌, arith}
+use Rattle.std.specs.Int.{w8}
 use Rattle.std.proofs.lemmas.List.Elements.{recursion_from_All}
 use Rattle.som_model.specs.declared.limits.TheConstants.{MAX_NESTING, MAX_PARAMETERS}
 use Rattle.som_model.specs.declared.syntax.Expr.{Expr, map-Expr, fold-roll-Expr}
-use Rattle.som_model.specs.declared.syntax.Expr.TheOpen.{Expr-F}
 use Rattle.som_model.specs.Class.{Class}
 use Rattle.som_model.specs.Images as images
 use Rattle.som_model.specs.Images.{Spelled, AtLevel, ◌then◌, tag, at_level, expr_step}
@@ -17,7 +14,7 @@ use Rattle.som_blocks.specs.declared.syntax.WireExpr.TheOpen.{WireExpr-F}
 use Rattle.som_blocks.specs.Fitting.{FitsArgs, FitsExprParts, FitsExpr}
 use Rattle.som_blocks.specs.Spelling as spelling
 use Rattle.som_naming.specs.declared.directory.Directory.{Directory}
-use Rattle.som_naming.specs.Naming.{key_at, method_named, kind_named, ranges_in, Tells, NoDoubles}
+use Rattle.som_naming.specs.Naming.{ranges_in, Tells, NoDoubles}
 use Rattle.som_naming.specs.NamedBlocks.{expr_named}
 use Rattle.som_naming.proofs.Places.{all_map}
 use Rattle.som_naming.proofs.Spelled.{some_bytes, Forth, counted_forth, text_forth}

@@ -1,5 +1,5 @@
 -- The outermost part of what an expression or a statement of an image stands for.
-use Rattle.std.proofs.Common.{◌≡◌, List, map, refl, sym, ap, subst, ◌∙◌}
+use Rattle.std.proofs.Common.{◌≡◌, List, map, refl, sym, ap, ◌∙◌}
 use Rattle.som_model.specs.declared.syntax.Expr.{Expr, out-Expr, roll-Expr, out-roll-Expr}
 use Rattle.som_model.specs.declared.syntax.Expr.TheVariants.{rolls-Long, rolls-Str, rolls-Boolean, rolls-Nil, rolls-Local, rolls-Me, rolls-Variable, rolls-Unary, rolls-Binary, rolls-New, rolls-Class, rolls-Manager, rolls-Cast, rolls-Isa, rolls-Proxy, rolls-OffsetCall, rolls-Lookup, rolls-Dispatch, rolls-ParentCall, rolls-ParentsCall, rolls-Host}
 use Rattle.som_model.specs.declared.syntax.Expr.TheOpen.{Expr-F}

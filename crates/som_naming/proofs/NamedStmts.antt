@@ -1,8 +1,7 @@
 -- Statements and blocks with names are spelled as those with numbers are.
-use Rattle.std.proofs.Common.{◌≡◌, ℕ, zero, suc, ◌+◌, ◌<◌, ◌≤◌, ◌^◌, Bool, true, false, true≢false, List, [], ◌∷◌, ◌++◌, length, map, Some, refl, sym, ap, subst, ◌∙◌, arith}
-use Rattle.std.specs.Prelude.{nat_lt, IsTrue, All}
-use Rattle.std.specs.Int.{w16, w32}
-use Rattle.std.specs.List.{flat_map}
+use Rattle.std.proofs.Common.{◌≡◌, ℕ, zero, suc, ◌+◌, ◌≤◌, ◌^◌, Bool, List, length, map, Some, refl, sym, ap, subst, ◌∙◌, arith}
+use Rattle.std.specs.Prelude.{nat_lt, IsTrue}
+use Rattle.std.specs.Int.{w32}
 use Rattle.std.proofs.lemmas.Bool.{lt-ltb}
 use Rattle.std.proofs.lemmas.List.{length-map}
 use Rattle.std.proofs.lemmas.List.Elements.{recursion_from_All}
@@ -23,7 +22,7 @@ use Rattle.som_blocks.specs.Fitting.{FitsExpr, calls, FitsStmtParts, FitsStateme
 use Rattle.som_blocks.specs.Spelling as spelling
 use Rattle.som_blocks.proofs.StmtFields.{block_is}
 use Rattle.som_naming.specs.declared.directory.Directory.{Directory}
-use Rattle.som_naming.specs.Naming.{kind_named, ranges_in, Tells, NoDoubles}
+use Rattle.som_naming.specs.Naming.{ranges_in, Tells, NoDoubles}
 use Rattle.som_naming.specs.NamedBlocks.{expr_named, stmt_named, stmt_named_step, block_named, block_named_step}
 use Rattle.som_naming.proofs.Places.{all_map}
 use Rattle.som_naming.proofs.Spelled.{some_bytes, Forth, each_forth}

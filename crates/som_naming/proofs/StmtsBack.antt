@@ -1,9 +1,7 @@
 -- What statements and blocks with names that have a spelling are named from.
-use Rattle.std.proofs.Common.{◌≡◌, ℕ, zero, suc, ◌<◌, ◌^◌, Bool, true, List, [], ◌∷◌, ◌++◌, length, map, Some, refl, sym, ap, subst, ◌∙◌, arith}
-use Rattle.std.specs.Prelude.{nat_lt, IsTrue, All}
+use Rattle.std.proofs.Common.{◌≡◌, ℕ, zero, suc, ◌^◌, List, [], ◌∷◌, length, map, Some, refl, sym, ap, subst, ◌∙◌, arith}
+use Rattle.std.specs.Prelude.{nat_lt, IsTrue}
 use Rattle.std.specs.Int.{w16, w32, to_be_bytes}
-use Rattle.std.specs.List.{flat_map}
-use Rattle.std.proofs.lemmas.Bool.{ltb-true}
 use Rattle.std.proofs.lemmas.List.{length-map}
 use Rattle.std.proofs.lemmas.List.Elements.{recursion_from_All}
 use Rattle.som_model.specs.declared.key.ValueType.{ValueType}
@@ -18,14 +16,14 @@ use Rattle.som_model.specs.Images.{Spelled, AtLevel, ◌then◌, each, tag, wher
 use Rattle.som_wire.specs.Spelling.{FitsMethod}
 use Rattle.som_wire.specs.declared.method.WireMethod.{WireMethod}
 use Rattle.som_blocks.specs.declared.syntax.WireExpr.{WireExpr, out-WireExpr}
-use Rattle.som_blocks.specs.declared.syntax.WireStmt.{WireStmt, out-WireStmt, roll-WireStmt, out-roll-WireStmt, map-WireStmt, fold-roll-WireStmt}
+use Rattle.som_blocks.specs.declared.syntax.WireStmt.{WireStmt, roll-WireStmt, out-roll-WireStmt, map-WireStmt, fold-roll-WireStmt}
 use Rattle.som_blocks.specs.declared.syntax.WireStmt.TheOpen.{WireStmt-F}
 use Rattle.som_blocks.specs.declared.syntax.WireBlock.{WireBlock, fold-roll-WireBlock}
-use Rattle.som_blocks.specs.Fitting.{FitsExpr, calls, FitsStmtParts, FitsStatements, FitsStmt, FitsBlock}
+use Rattle.som_blocks.specs.Fitting.{FitsExpr, calls, FitsStmtParts, FitsStmt, FitsBlock}
 use Rattle.som_blocks.specs.Spelling as spelling
 use Rattle.som_blocks.proofs.StmtFields.{block_is}
 use Rattle.som_naming.specs.declared.directory.Directory.{Directory}
-use Rattle.som_naming.specs.Naming.{kind_named, ranges_in, Tells}
+use Rattle.som_naming.specs.Naming.{ranges_in, Tells}
 use Rattle.som_naming.specs.NamedBlocks.{expr_named, stmt_named, stmt_named_step, block_named, block_named_step}
 use Rattle.som_naming.specs.BlockLimits.{ExprWithin, StmtPartsWithin, StatementsWithin, StmtWithin}
 use Rattle.som_naming.proofs.Places.{all_map}
