@@ -75,8 +75,8 @@ deep_fault : (place : ℕ) (b : Bool) → IsOfBytes (if b then faults.Nesting pl
 deep_fault place true = tt
 deep_fault place false = tt
 
-too_deep_reads : {A : Type 0} (is_tag : ℕ → Bool) (bytes : List ℕ) (place : ℕ) → Reads (too_deep {A = A} is_tag bytes place)
-too_deep_reads is_tag bytes place = then_reads (number_at w8 bytes place) _ (number_reads w8 bytes place) (λ tag. deep_fault place (is_tag tag.value))
+too_deep_reads : (A : Type 0) (is_tag : ℕ → Bool) (bytes : List ℕ) (place : ℕ) → Reads (too_deep {A = A} is_tag bytes place)
+too_deep_reads A is_tag bytes place = then_reads (number_at w8 bytes place) _ (number_reads w8 bytes place) (λ tag. deep_fault place (is_tag tag.value))
 
 -- ---- expressions
 
@@ -123,13 +123,13 @@ module _ (ranges : Ranges) (inner : making.Reads WireExpr) (h : Readable inner) 
 
 expr_reads : (left : ℕ) (ranges : Ranges) (bytes : List ℕ) (place : ℕ) → Reads (expr_at left ranges bytes place)
 unfolding expr_at
-expr_reads zero ranges bytes place = too_deep_reads is_expr_tag bytes place
+expr_reads zero ranges bytes place = too_deep_reads WireExpr is_expr_tag bytes place
 expr_reads (suc left) ranges bytes place =
     then_reads (number_at w8 bytes place) (expr_after ranges (expr_at left ranges) bytes place) (number_reads w8 bytes place) (expr_after_reads ranges (expr_at left ranges) (expr_reads left ranges) bytes place)
 
 call_reads : (left : ℕ) (ranges : Ranges) (bytes : List ℕ) (place : ℕ) → Reads (call_at left ranges bytes place)
 unfolding call_at
-call_reads zero ranges bytes place = too_deep_reads is_call_tag bytes place
+call_reads zero ranges bytes place = too_deep_reads WireExpr is_call_tag bytes place
 call_reads (suc left) ranges bytes place =
     then_reads (number_at w8 bytes place) (call_after ranges (expr_at left ranges) bytes place) (number_reads w8 bytes place) (call_after_reads ranges (expr_at left ranges) (expr_reads left ranges) bytes place)
 
@@ -158,7 +158,7 @@ module _ (ranges : Ranges) (inner call : making.Reads WireExpr) (block : making.
 
 stmt_reads : (left : ℕ) (ranges : Ranges) (bytes : List ℕ) (place : ℕ) → Reads (stmt_at left ranges bytes place)
 unfolding stmt_at
-stmt_reads zero ranges bytes place = too_deep_reads is_stmt_tag bytes place
+stmt_reads zero ranges bytes place = too_deep_reads WireStmt is_stmt_tag bytes place
 stmt_reads (suc left) ranges bytes place =
     let block = statements_at (stmt_at left ranges) in
     then_reads (number_at w8 bytes place) (stmt_after ranges (expr_at left ranges) (call_at left ranges) block bytes place) (number_reads w8 bytes place)
