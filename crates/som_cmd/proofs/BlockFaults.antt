@@ -1,8 +1,7 @@
 -- Reading expressions, statements, blocks and parts never comes to want of memory.
-use Rattle.std.proofs.Common.{ℕ, zero, suc, ◌==◌, nat_lt, Bool, true, false, if◌then◌else◌, List, Result, Err}
+use Rattle.std.proofs.Common.{ℕ, zero, suc, ◌==◌, nat_lt, Bool, true, false, if◌then◌else◌, List}
 use Rattle.std.specs.Int.{w8, w16, w32}
 use Rattle.som_model.specs.declared.limits.TheConstants.{MAX_PARAMETERS, MAX_VARIABLES, MAX_OVERRIDES}
-use Rattle.som_wire.specs.declared.fault.ImageFault.{ImageFault}
 use Rattle.som_wire.specs.declared.fault.ImageFault.TheVariants as faults
 use Rattle.som_wire.specs.declared.read.Read.{Read}
 use Rattle.som_wire.specs.declared.method.Ranges.{Ranges}
