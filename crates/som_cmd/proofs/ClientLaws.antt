@@ -21,7 +21,7 @@ use Rattle.som_model.specs.Rules.{Breach, s1, s5, s6}
 use Rattle.som_model.specs.Conforming.{ProgramOk, all_of_program, declared_program_breach, first_of_names, first_of_members, each_after}
 use Rattle.som_model.specs.Images.{client_image}
 use Rattle.som_libimage.specs.Libraries.{NamesDiffer}
-use Rattle.som_libimage.proofs.Conforming.{faces_names, neither_is, none_first}
+use Rattle.som_libimage.proofs.Conforming.{declared_faces, faces_names, neither_is, none_first}
 use Rattle.som_verify.specs.Faces.{faces_breach}
 use Rattle.som_verify.specs.Places.{all_classes, key_at}
 use Rattle.som_verify.specs.Told.{of_release}
@@ -83,7 +83,7 @@ faces_differ faces none =
     let once = none_first (each_after s1 kernel cs) b.0 in
     record {
       once = ap (each_after s1 kernel) (sym (bare_are faces)) ∙ once;
-      names = subst (λ (l : List ClassFace). NamesDiffer l) (faces_of_bare faces) (faces_names (map bare faces) once (none_first (flat_map s6 cs) d.0));
+      names = subst (λ (l : List ClassFace). NamesDiffer l) (declared_faces modules.Library (map bare faces) ∙ faces_of_bare faces) (faces_names kernel cs once (none_first (flat_map s6 cs) d.0));
     }
 
 -- ---- calls

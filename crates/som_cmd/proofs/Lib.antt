@@ -13,6 +13,8 @@ mod CheckLaws
 mod CheckLoops
 mod CheckMeaning
 mod Comparing
+mod FieldFaults
+mod BlockFaults
 mod FaultLaws
 mod OneAnswer
 mod Telling

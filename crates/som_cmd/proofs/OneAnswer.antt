@@ -9,6 +9,7 @@ use Rattle.som_model.specs.Class.{interface_of}
 use Rattle.som_model.specs.Same.{same_interface}
 use Rattle.som_model.proofs.SameLaws.{exact_interfaces}
 use Rattle.som_model.specs.Means.{means}
+use Rattle.som_verify.proofs.Conforming.{conforms_release}
 use Rattle.som_first.specs.FirstImages.{IsFirstLibrary, IsFirstClient}
 use Rattle.som_cmd.specs.Words.{Asked, Run, Show, Check, Library, Bad}
 use Rattle.som_cmd.specs.Answer.{Ending, IsAnswer, bad_words, no_client, no_library, client_refused, library_refused, faces_differ, runs, no_image_shown, shown_unread, shown_broken, shows, checks, compiles, bad_line, refusing, ran, absent, no_image, not_same}
@@ -106,7 +107,7 @@ module _ (one_library : (bytes : List ℕ) (r s : Release) → IsFirstLibrary by
   one_answer (Show n) e (no_image_shown _ has) = absent_ends files n has
   one_answer (Show n) e (shown_unread _ b fault has is) = unread_ends files n b fault has is
   one_answer (Show n) e (shown_broken _ b r x has is breaks) = ruled_ends files n b r (Some x) has is breaks
-  one_answer (Show n) e (shows _ b r has is ok) = ruled_ends files n b r None has is ok.rules
+  one_answer (Show n) e (shows _ b r has is ok) = ruled_ends files n b r None has is (conforms_release r ok)
   one_answer (Check ns) e (checks _ _ is) = one_check files ns e is
   one_answer (Run c l fuel) e (no_client _ _ _ has) = ending_is c l fuel None (get files l) has refl
   one_answer (Run c l fuel) e (no_library _ _ _ cb has_c has_l) = ending_is c l fuel (Some cb) None has_c has_l

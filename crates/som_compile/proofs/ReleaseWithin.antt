@@ -32,7 +32,8 @@ use Rattle.som_idl.specs.Within.{WordWithin, ExportWithin, ItemWithin, Interface
 use Rattle.som_verify.specs.Places.{with_kernel}
 use Rattle.som_verify.proofs.PlainFaces.{or_none}
 use Rattle.som_verify.proofs.PlainLists.{mem_map}
-use Rattle.som_libimage.specs.Limits.{TextWithin, EntryWithin, BodyWithin, BlockWithin, ClassWithin, IsWithinLimits}
+use Rattle.som_naming.specs.BlockLimits.{TextWithin, BlockWithin}
+use Rattle.som_libimage.specs.Limits.{EntryWithin, BodyWithin, ClassWithin, IsWithinLimits}
 use Rattle.som_sema.specs.Building.{after_base, home_of, texts_breach}
 use Rattle.som_sema.specs.Finished.{declare, entry_for, entry_or_moved, introducer}
 use Rattle.som_sema.specs.Home.{key_of, type_of}
