@@ -50,15 +50,12 @@ fn small(word: &str) -> Result<u8, Fail> {
 // So many expressions, in the order in which they were made.
 fn args(alloc: Global, made: &mut Made, word: &str) -> Result<List<Expr>, Fail> {
     let count = number(word)?;
-    let mut last_first = Vec::new(alloc);
+    let mut args = Vec::new(alloc);
     for _ in 0..count {
-        last_first.push(expr(made)?)?;
+        args.push(expr(made)?)?;
     }
-    let mut args = List::new(alloc);
-    while let Some(arg) = last_first.pop() {
-        args.push(arg)?;
-    }
-    Ok(args)
+    args.reverse();
+    Ok(List::from_vec(args))
 }
 
 fn state(made: &mut Made, statement: Stmt) -> Result<(), Fail> {
