@@ -1,22 +1,21 @@
 -- Entries whose signatures are compared place by place, and through their owners.
-use Rattle.std.proofs.Common.{◌≡◌, ℕ, zero, suc, ◌+◌, ◌<◌, inl, inr, Bool, true, false, if◌then◌else◌, List, [], ◌∷◌, map, length, Option, Some, None, slice_get, refl, sym, ap, ◌∙◌, subst, arith, true≢false}
+use Rattle.std.proofs.Common.{◌≡◌, ℕ, zero, suc, ◌+◌, ◌<◌, inl, inr, Bool, true, false, if◌then◌else◌, List, [], ◌∷◌, map, length, Some, None, slice_get, refl, sym, ap, ◌∙◌, subst, true≢false}
 use Rattle.std.specs.Str.{bytes_eq}
 use Rattle.som_model.specs.declared.key.ClassKey.{ClassKey}
 use Rattle.som_model.specs.declared.key.MethodRef.{MethodRef}
-use Rattle.som_model.specs.declared.class.Sig.{Sig}
 use Rattle.som_model.specs.declared.class.Entry.{Entry}
 use Rattle.som_model.specs.declared.class.Entry.TheVariants as entries
 use Rattle.som_model.specs.declared.class.ClassFace.{ClassFace}
-use Rattle.som_model.specs.Lists.{Mem, first, find}
+use Rattle.som_model.specs.Lists.{Mem, first}
 use Rattle.som_model.specs.Same.{same_option, same_sig}
 use Rattle.som_model.specs.Class.{Class, entry_name, entry_of, introduced_sig}
-use Rattle.som_model.specs.Classes.{class_at, hierarchy}
-use Rattle.som_model.specs.Owner.{entry_at, owner, owner_within, sig_of, introduces}
-use Rattle.som_model.specs.Compatible.{order_of, failing, strayed, signature, incompatible, k4, k5}
+use Rattle.som_model.specs.Classes.{hierarchy}
+use Rattle.som_model.specs.Owner.{entry_at, owner, owner_within, sig_of}
+use Rattle.som_model.specs.Compatible.{failing, strayed, signature, incompatible, k4, k5}
 use Rattle.som_model.proofs.KeyLaws.{exact_bytes}
 use Rattle.som_verify.specs.Inherited.{moved_to}
-use Rattle.som_verify.specs.Places.{class_of_place, key_at, face_at}
-use Rattle.som_verify.specs.Plainly.{Differ, Introduces}
+use Rattle.som_verify.specs.Places.{key_at, face_at}
+use Rattle.som_verify.specs.Plainly.{Differ}
 use Rattle.som_verify.proofs.Falling.{mem_there}
 use Rattle.som_compat.specs.Conditions.{Conforms}
 use Rattle.som_compat.specs.Views.{interface, classes_of, shown, IsShown}

@@ -1,13 +1,13 @@
 -- Metaclasses by the marks of classes.
-use Rattle.std.proofs.Common.{◌≡◌, ◌↔◌, ℕ, zero, suc, ◌+◌, ◌-◌, ◌<◌, ◌≤◌, ◌⊎◌, inl, inr, Bool, true, false, ◌&&◌, ◌||◌, if◌then◌else◌, List, [], ◌∷◌, length, map, Option, Some, None, slice_index_or, refl, sym, ap, ◌∙◌, subst, arith, true≢false}
+use Rattle.std.proofs.Common.{◌≡◌, ◌↔◌, ℕ, zero, suc, ◌+◌, ◌<◌, ◌⊎◌, inl, inr, Bool, true, false, ◌&&◌, ◌||◌, if◌then◌else◌, List, [], ◌∷◌, length, Option, Some, None, slice_index_or, refl, sym, ap, ◌∙◌, subst, arith, true≢false}
 use Rattle.som_model.specs.declared.key.ClassKey.{ClassKey}
-use Rattle.som_model.specs.Lists.{Mem, first, option_list}
+use Rattle.som_model.specs.Lists.{Mem, first}
 use Rattle.som_model.specs.Ancestors.{Descends}
 use Rattle.som_model.specs.Class.{Class}
 use Rattle.som_model.specs.Classes.{hierarchy, is_a}
-use Rattle.som_model.specs.Kernel.{kernel, som_class}
+use Rattle.som_model.specs.Kernel.{som_class}
 use Rattle.som_model.specs.Metaclass.{meta}
-use Rattle.som_model.specs.Compatible.{Incompatible, incompatible, declared_name, k6}
+use Rattle.som_model.specs.Compatible.{incompatible, declared_name, k6}
 use Rattle.som_model.proofs.KeyLaws.{both}
 use Rattle.som_plain.proofs.Members.{both_or_none, not_true}
 use Rattle.som_plain.proofs.Laws.{descends_test}
@@ -17,13 +17,13 @@ use Rattle.som_verify.proofs.Falling.{mem_there}
 use Rattle.som_verify.proofs.Finding.{mem_place}
 use Rattle.som_compat.specs.declared.rows.Row.{Row}
 use Rattle.som_compat.specs.Metaclasses.{IsDeclared, Declares}
-use Rattle.som_compat.specs.Views.{AreRows, IsRow, IsWithin, key_of}
+use Rattle.som_compat.specs.Views.{AreRows, IsWithin, key_of}
 use Rattle.som_compat.specs.Marks.{Marked, Above, AreAbove}
 use Rattle.som_compat.specs.Told.{metaclass_marked, some_declares}
 use Rattle.som_compat.proofs.Known.{IsKnown}
 use Rattle.som_compat.proofs.MetaLaw.{meta_law}
 use Rattle.som_compat.proofs.Placed.{among_place}
-use Rattle.som_compat.proofs.Viewing.{among_at, above_keys, keys_above, above_is}
+use Rattle.som_compat.proofs.Viewing.{among_at, above_keys, above_is}
 use Rattle.som_compat.proofs.Fronts.{descends_known}
 
 abbrev none_row : Row

@@ -1,5 +1,5 @@
 -- The rules for one class, one after the other.
-use Rattle.std.proofs.Common.{◌≡◌, ℕ, zero, suc, ◌+◌, ◌-◌, ◌<◌, ◌≤◌, ◌⊎◌, inl, inr, Bool, true, false, if◌then◌else◌, List, [], ◌∷◌, ◌++◌, drop, map, flat_map, length, Option, Some, None, slice_get, slice_index_or, refl, sym, ap, ◌∙◌, subst, arith, true≢false}
+use Rattle.std.proofs.Common.{◌≡◌, ℕ, zero, suc, ◌+◌, ◌-◌, ◌<◌, ◌≤◌, inl, inr, Bool, true, false, if◌then◌else◌, List, [], ◌∷◌, ◌++◌, drop, map, flat_map, length, Option, Some, None, slice_get, slice_index_or, refl, sym, ap, ◌∙◌, subst, arith}
 use Rattle.std.specs.Str.{bytes_eq}
 use Rattle.std.proofs.lemmas.Bool.{cases_lt}
 use Rattle.som_model.specs.declared.key.Module.TheVariants as modules
@@ -13,20 +13,18 @@ use Rattle.som_model.specs.Ancestors.{Descends}
 use Rattle.som_model.specs.Class.{Class, entry_name}
 use Rattle.som_model.specs.Classes.{class_at, hierarchy, ancestors, is_a}
 use Rattle.som_model.specs.Compatible.{Incompatible, incompatible, order_of, strayed, k2, k3, k4, k5, k6, class_breaks, first_break}
-use Rattle.som_model.proofs.KeyLaws.{exact_bytes}
 use Rattle.som_plain.proofs.Laws.{descends_test}
 use Rattle.som_order.specs.Names.{name_at}
 use Rattle.som_order.specs.Difference.{first_difference}
-use Rattle.som_verify.specs.Places.{class_of_place, key_at, face_at}
+use Rattle.som_verify.specs.Places.{class_of_place, key_at}
 use Rattle.som_verify.specs.Plainly.{IsAmong}
 use Rattle.som_compat.specs.Conditions.{IsCounted, Conforms}
 use Rattle.som_compat.specs.Finding.{FindsName, face_names}
 use Rattle.som_compat.specs.Metaclasses.{IsDeclared}
 use Rattle.som_compat.specs.Views.{shown, interface, classes_of, IsShown}
 use Rattle.som_compat.specs.Marks.{AreAbove}
-use Rattle.som_compat.proofs.Known.{IsKnown}
 use Rattle.som_compat.proofs.Plain.{none_fails, map_empty, class_keeps}
-use Rattle.som_compat.proofs.Placed.{shown_at, name_here, long_classes, library_missing, among_place}
+use Rattle.som_compat.proofs.Placed.{shown_at, name_here, long_classes, library_missing}
 use Rattle.som_compat.proofs.Transitive.{kernel_same}
 use Rattle.som_compat.proofs.Viewing.{known_of, among_at, unknown}
 use Rattle.som_compat.proofs.Fronts.{ancestor_is}

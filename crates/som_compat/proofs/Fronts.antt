@@ -1,13 +1,13 @@
 -- The ancestors of the parents before the first lost one, and how many there are.
-use Rattle.std.proofs.Common.{◌≡◌, ◌↔◌, ℕ, zero, suc, ◌+◌, ◌-◌, ◌<◌, ◌≤◌, ◌⊎◌, inl, inr, Bool, true, false, List, [], ◌∷◌, ◌++◌, length, take, map, Option, Some, None, slice_set, slice_index_or, refl, sym, ap, ◌∙◌, subst, arith, true≢false}
+use Rattle.std.proofs.Common.{◌≡◌, ◌↔◌, ℕ, ◌+◌, ◌<◌, ◌≤◌, ◌⊎◌, inl, inr, Bool, true, false, List, [], ◌∷◌, ◌++◌, length, take, map, Option, Some, None, slice_set, slice_index_or, refl, sym, ap, ◌∙◌, subst, arith}
 use Rattle.std.proofs.lemmas.Bool.{cases_lt}
 use Rattle.som_model.specs.declared.key.ClassKey.{ClassKey}
 use Rattle.som_model.specs.Lists.{Mem, first, joined}
 use Rattle.som_model.specs.Keys.{same_key}
-use Rattle.som_model.specs.Ancestors.{Descends, itself, by_parent, anc}
+use Rattle.som_model.specs.Ancestors.{Descends, itself, by_parent}
 use Rattle.som_model.specs.Class.{Class}
 use Rattle.som_model.specs.Classes.{hierarchy, ancestors, is_a}
-use Rattle.som_model.specs.Compatible.{Incompatible, incompatible, declared_name, failing, k3}
+use Rattle.som_model.specs.Compatible.{incompatible, declared_name, k3}
 use Rattle.som_model.proofs.KeyLaws.{exact_keys}
 use Rattle.som_plain.proofs.Members.{mem_left, mem_right, mem_split, joined_mem, mem_joined, not_true, Apart}
 use Rattle.som_plain.proofs.Laws.{ancestors as ancestors_are, descends_test, descends_through}
@@ -18,13 +18,13 @@ use Rattle.som_verify.proofs.DeclaredClasses.{long_map}
 use Rattle.som_verify.proofs.PlainLists.{mem_map, map_mem}
 use Rattle.som_compat.specs.declared.rows.Row.{Row}
 use Rattle.som_compat.specs.Views.{AreRows}
-use Rattle.som_compat.specs.Marks.{Marked, count, lost_from, lists_of, Above, AreLow, IsReached, AreAbove, IsFront}
+use Rattle.som_compat.specs.Marks.{Marked, count, lost_from, Above, IsReached, IsFront}
 use Rattle.som_compat.proofs.Known.{IsKnown}
 use Rattle.som_compat.proofs.Plain.{fails_none, empty_map}
 use Rattle.som_compat.proofs.Placed.{among_place}
 use Rattle.som_compat.proofs.Filled.{next_take}
 use Rattle.som_compat.proofs.Marking.{marked_set}
-use Rattle.som_compat.proofs.Viewing.{among_at, parent_among, low, above_keys, keys_above, number_key}
+use Rattle.som_compat.proofs.Viewing.{among_at, parent_among, above_keys, keys_above, number_key}
 use Rattle.som_compat.proofs.Lost.{adds_from, adds_left, adds_right, adds_apart, lost_at, counted, splits_at, none_lost}
 
 apart_map : {A B : Type 0} (f : A → B) (xs : List A) → Apart (map f xs) → Apart xs

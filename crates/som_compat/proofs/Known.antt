@@ -1,10 +1,7 @@
 -- What is known of the classes of an interface that conforms.
-use Rattle.std.proofs.Common.{◌≡◌, ◌↔◌, ℕ, zero, suc, ◌+◌, ◌-◌, ◌<◌, ◌≤◌, ◌⊎◌, inl, inr, Bool, true, false, List, [], ◌∷◌, ◌++◌, map, length, take, Option, Some, None, slice_get, slice_index_or, refl, sym, ap, ◌∙◌, subst, arith, true≢false}
-use Rattle.std.specs.Prelude.{All}
+use Rattle.std.proofs.Common.{◌≡◌, ℕ, zero, suc, ◌<◌, ◌≤◌, ◌⊎◌, inl, inr, Bool, true, false, List, [], ◌∷◌, ◌++◌, map, length, take, Some, slice_get, slice_index_or, refl, sym, ap, ◌∙◌, subst, arith, true≢false}
 use Rattle.std.specs.Str.{bytes_eq}
 use Rattle.som_verify.proofs.Before.{every_mem}
-use Rattle.std.proofs.lemmas.Bool.{cases_lt}
-use Rattle.som_model.specs.declared.key.Module.{Module}
 use Rattle.som_model.specs.declared.key.Module.TheVariants as modules
 use Rattle.som_model.specs.declared.key.ClassKey.{ClassKey}
 use Rattle.som_model.specs.declared.key.ClassKey.TheVariants as keys
@@ -14,9 +11,9 @@ use Rattle.som_model.specs.declared.class.ClassFace.{ClassFace}
 use Rattle.som_model.specs.declared.class.ClassDecl.{ClassDecl}
 use Rattle.som_model.specs.declared.program.Interface.{Interface}
 use Rattle.som_model.specs.Lists.{Mem, every}
-use Rattle.som_model.specs.Hierarchy.{Hierarchy, Falls, Tells}
-use Rattle.som_model.specs.Class.{Class, class_in, bare, entry_name}
-use Rattle.som_model.specs.Classes.{class_at, hierarchy, interface_classes, parents_of, parents_in}
+use Rattle.som_model.specs.Hierarchy.{Falls, Tells}
+use Rattle.som_model.specs.Class.{Class, bare, entry_name}
+use Rattle.som_model.specs.Classes.{class_at, hierarchy, parents_of, parents_in}
 use Rattle.som_model.specs.Kernel.{kernel}
 use Rattle.som_model.specs.Compatible.{release_of}
 use Rattle.som_model.specs.Rules.{name_of}
@@ -24,17 +21,17 @@ use Rattle.som_model.proofs.KeyLaws.{exact_bytes, exact_keys}
 use Rattle.som_model.proofs.NamedLaws.{hierarchy_parents, hierarchy_same, parents_named}
 use Rattle.som_plain.proofs.Members.{mem_left, mem_right, mem_split}
 use Rattle.som_verify.specs.Told.{of_library, of_release}
-use Rattle.som_verify.specs.Places.{all_classes, class_of_place, key_at, face_at, module_at, AreOnce, IsTable}
+use Rattle.som_verify.specs.Places.{all_classes, class_of_place, key_at, face_at, module_at, IsTable}
 use Rattle.som_verify.specs.Standing.{kernel_rows}
 use Rattle.som_verify.specs.Plainly.{IsAmong, Introduces, Differ, FacesHold}
 use Rattle.som_verify.specs.Modules.{AreDeclared}
 use Rattle.som_verify.proofs.DeclaredClasses.{map_declared}
-use Rattle.som_verify.proofs.Finding.{key_named, mem_place}
+use Rattle.som_verify.proofs.Finding.{key_named}
 use Rattle.som_verify.proofs.KeyLists.{keys_once, class_there, height_there}
 use Rattle.som_verify.proofs.Falling.{mem_there, falls}
 use Rattle.som_verify.proofs.Rows.{kernel_low, kernel_by}
 use Rattle.som_verify.proofs.ClassTable.{is_table}
-use Rattle.som_verify.proofs.PlainLists.{mem_map, map_mem, apart_by, apart_differ}
+use Rattle.som_verify.proofs.PlainLists.{map_mem, apart_by, apart_differ}
 use Rattle.som_verify.proofs.PlainNames.{say_names}
 use Rattle.som_verify.proofs.PlainWhole.{faces_say}
 use Rattle.som_compat.specs.Conditions.{IsCounted, Conforms}

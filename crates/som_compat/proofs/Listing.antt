@@ -1,5 +1,5 @@
 -- Lists of interfaces.
-use Rattle.std.proofs.Common.{◌≡◌, ℕ, ◌+◌, inl, inr, List, [], ◌∷◌, ◌++◌, map, Option, Some, None, Result, Ok, Err, refl, sym, ap, ◌∙◌}
+use Rattle.std.proofs.Common.{◌≡◌, ℕ, ◌+◌, List, [], ◌∷◌, map, None, Result, Ok, Err, sym, ap}
 use Rattle.std.specs.Prelude.{IfOk}
 use Rattle.som_model.specs.declared.program.Interface.{Interface}
 use Rattle.som_model.specs.Lists.{Mem, first}

@@ -1,21 +1,19 @@
 -- K3 by the parents: where it holds for each parent, the first lost ancestor is the first lost parent.
-use Rattle.std.proofs.Common.{◌≡◌, ◌↔◌, ℕ, zero, suc, ◌+◌, ◌-◌, ◌<◌, ◌≤◌, ◌⊎◌, inl, inr, Bool, true, false, if◌then◌else◌, List, [], ◌∷◌, ◌++◌, length, take, map, Option, Some, None, slice_set, slice_index_or, refl, sym, ap, ◌∙◌, subst, arith, true≢false, append_assoc}
+use Rattle.std.proofs.Common.{◌≡◌, ◌↔◌, ℕ, zero, suc, ◌+◌, ◌-◌, ◌<◌, ◌≤◌, ◌⊎◌, inl, inr, Bool, true, false, if◌then◌else◌, List, [], ◌∷◌, ◌++◌, length, take, map, Some, None, slice_set, slice_index_or, refl, sym, ap, ◌∙◌, subst, arith, true≢false, append_assoc}
 use Rattle.std.proofs.lemmas.List.{append-nil}
 use Rattle.som_model.specs.declared.key.ClassKey.{ClassKey}
 use Rattle.som_model.specs.Lists.{Mem, first, some, joined}
 use Rattle.som_model.specs.Hierarchy.{Hierarchy, Falls, Tells}
-use Rattle.som_model.specs.Ancestors.{Descends, itself, by_parent, anc}
+use Rattle.som_model.specs.Ancestors.{anc}
 use Rattle.som_model.specs.Class.{Class}
-use Rattle.som_model.specs.Classes.{hierarchy, ancestors, is_a}
-use Rattle.som_model.specs.Compatible.{Incompatible, incompatible, declared_name, failing, k3}
-use Rattle.som_plain.proofs.Members.{mem_left, mem_right, mem_split, joined_mem, mem_joined, some_mem, mem_some, Apart}
-use Rattle.som_plain.proofs.Laws.{ancestors as ancestors_are, ancestors_step, descends_test, descends_through}
-use Rattle.som_verify.specs.Places.{key_at}
+use Rattle.som_model.specs.Classes.{is_a}
+use Rattle.som_model.specs.Compatible.{failing}
+use Rattle.som_plain.proofs.Members.{mem_left, mem_right, mem_split, some_mem, mem_some, Apart}
+use Rattle.som_plain.proofs.Laws.{ancestors_step}
 use Rattle.som_verify.specs.Walk.{add_new, adds}
 use Rattle.som_verify.proofs.WalkLaw.{adds_both, firsts_adds}
 use Rattle.som_verify.proofs.Numbering.{map_append}
 use Rattle.som_compat.specs.Marks.{Marked, count, lost_from}
-use Rattle.som_compat.proofs.Plain.{fails_none, empty_map}
 
 choose_prefix : {A : Type 0} (b : Bool) (x : A) (seen : List A) → (more : List A) × ((if b then seen else seen ++ x ∷ []) ≡ seen ++ more)
 choose_prefix true x seen = ([], sym (append-nil seen))

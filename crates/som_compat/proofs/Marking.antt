@@ -1,14 +1,12 @@
 -- Members and marks.
-use Rattle.std.proofs.Common.{◌≡◌, ◌≢◌, ◌↔◌, ℕ, zero, suc, ◌+◌, ◌-◌, ◌<◌, ◌≤◌, ◌⊎◌, inl, inr, Bool, true, false, List, [], ◌∷◌, None, length, take, map, replicate, slice_index_or, slice_set, refl, sym, ap, ◌∙◌, subst, arith, true≢false, add-one}
-use Rattle.std.proofs.lemmas.List.{get_or-set_same, get_or-set_other}
+use Rattle.std.proofs.Common.{◌≡◌, ◌↔◌, ℕ, zero, suc, ◌+◌, ◌-◌, ◌<◌, ◌≤◌, ◌⊎◌, inl, inr, Bool, true, false, List, [], ◌∷◌, None, length, take, replicate, slice_index_or, slice_set, refl, sym, ap, arith, true≢false}
 use Rattle.std.proofs.lemmas.Bool.{cases_lt}
-use Rattle.std.proofs.lemmas.Grind.{common_steps}
 use Rattle.som_model.specs.Lists.{Mem}
 use Rattle.som_model.specs.Ancestors.{Descends, itself, by_parent}
 use Rattle.som_verify.specs.Walk.{rows_of}
 use Rattle.som_compat.specs.declared.rows.Row.{Row}
 use Rattle.som_compat.specs.Views.{numbers_of}
-use Rattle.som_compat.specs.Marks.{Marked, lists_of, AreLow, Above, IsReached}
+use Rattle.som_compat.specs.Marks.{Marked, lists_of}
 
 pub mem_at : (xs : List ℕ) (i d : ℕ) → i < length xs → Mem (slice_index_or xs i d) xs
 mem_at [] i d lt = absurd (omega arith)

@@ -1,5 +1,5 @@
 -- Where a metaclass descends from a declared class.
-use Rattle.std.proofs.Common.{◌≡◌, ◌↔◌, ℕ, zero, suc, ◌<◌, ◌≤◌, ◌+◌, ◌⊎◌, inl, inr, Bool, true, false, not, ◌&&◌, if◌then◌else◌, nat_lt, max, List, [], ◌∷◌, ◌++◌, map, length, Option, Some, None, slice_index_or, refl, sym, ap, ◌∙◌, subst, arith, true≢false}
+use Rattle.std.proofs.Common.{◌≡◌, ◌↔◌, ℕ, zero, suc, ◌<◌, ◌≤◌, ◌+◌, ◌⊎◌, inl, inr, Bool, true, false, not, ◌&&◌, if◌then◌else◌, nat_lt, List, [], ◌∷◌, ◌++◌, map, length, Option, Some, None, refl, sym, ap, ◌∙◌, subst, arith, true≢false}
 use Rattle.std.specs.Prelude.{unwrap_or}
 use Rattle.std.proofs.lemmas.Bool.{cases_lt}
 use Rattle.som_model.specs.declared.key.Module.{Module}
@@ -7,23 +7,21 @@ use Rattle.som_model.specs.declared.key.ClassKey.{ClassKey, out-ClassKey, roll-C
 use Rattle.som_model.specs.declared.key.ClassKey.TheOpen.{ClassKey-F}
 use Rattle.som_model.specs.declared.key.ClassKey.TheVariants as keys
 use Rattle.som_model.specs.declared.key.ClassKey.TheVariants.{rolls-Named, rolls-Derived, rolls-Proxy}
-use Rattle.som_model.specs.declared.class.ClassFace.{ClassFace}
-use Rattle.som_model.specs.Lists.{Mem, find, some, without, firsts, option_list, place_from}
+use Rattle.som_model.specs.Lists.{Mem, find, firsts, option_list, place_from}
 use Rattle.som_model.specs.Keys.{same_key}
-use Rattle.som_model.specs.Hierarchy.{Hierarchy, Falls, Tells}
-use Rattle.som_model.specs.Ancestors.{Descends, itself, by_parent, descends}
+use Rattle.som_model.specs.Hierarchy.{Hierarchy}
+use Rattle.som_model.specs.Ancestors.{Descends, itself, by_parent}
 use Rattle.som_model.specs.Class.{Class}
 use Rattle.som_model.specs.Classes.{class_at, parents_of, parents_in, parents_by, place_of, greatest, hierarchy, height_step, is_a}
 use Rattle.som_model.specs.Kernel.{kernel, som_class}
 use Rattle.som_model.specs.Metaclass.{rank, rank_step, is_low, is_above, lowest, meta_within, meta}
-use Rattle.som_model.proofs.KeyLaws.{exact_keys, both}
-use Rattle.som_model.proofs.NamedLaws.{out_named, height_named, rank_named, hierarchy_parents, hierarchy_same, parents_named}
-use Rattle.som_plain.proofs.Members.{mem_left, mem_right, mem_split, mem_some, some_mem, mem_without, without_mem, firsts_mem, find_first, find_none}
+use Rattle.som_model.proofs.KeyLaws.{exact_keys}
+use Rattle.som_model.proofs.NamedLaws.{out_named, height_named, rank_named, hierarchy_parents, parents_named}
+use Rattle.som_plain.proofs.Members.{mem_left, mem_right, mem_split, some_mem, mem_without, without_mem, firsts_mem, find_first}
 use Rattle.som_plain.proofs.Laws.{mem_firsts, descends_test, descends_through}
 use Rattle.som_verify.specs.Places.{class_of_place, key_at, face_at}
 use Rattle.som_verify.proofs.Falling.{mem_there}
 use Rattle.som_verify.proofs.Owners.{mem_middle}
-use Rattle.som_verify.proofs.Finding.{mem_place}
 use Rattle.som_verify.proofs.PlainLists.{mem_map, map_mem}
 use Rattle.som_verify.proofs.PlainNames.{option_mem}
 use Rattle.som_compat.specs.Metaclasses.{IsDeclared, Declares}

@@ -1,37 +1,32 @@
 -- From lists of what breaks a rule to plain words, and back.
-use Rattle.std.proofs.Common.{◌≡◌, ◌↔◌, ℕ, zero, suc, ◌≤◌, ◌+◌, ◌⊎◌, ◌==◌, nat_le, inl, inr, Bool, true, false, ◌&&◌, if◌then◌else◌, List, [], ◌∷◌, ◌++◌, map, flat_map, Option, Some, None, slice_get, refl, sym, ap, ◌∙◌, subst, arith, true≢false}
+use Rattle.std.proofs.Common.{◌≡◌, ◌↔◌, ℕ, zero, suc, ◌≤◌, ◌+◌, ◌==◌, nat_le, inl, inr, Bool, true, false, ◌&&◌, if◌then◌else◌, List, [], ◌∷◌, ◌++◌, map, Option, Some, None, slice_get, refl, sym, ap, ◌∙◌, subst, arith, true≢false}
 use Rattle.std.specs.Str.{bytes_eq}
-use Rattle.som_model.specs.declared.key.Module.TheVariants as modules
 use Rattle.som_model.specs.declared.key.ClassKey.{ClassKey}
-use Rattle.som_model.specs.declared.key.ClassKey.TheVariants as keys
-use Rattle.som_model.specs.declared.class.Sig.{Sig}
 use Rattle.som_model.specs.declared.class.ClassFace.{ClassFace}
 use Rattle.som_model.specs.declared.program.Interface.{Interface}
-use Rattle.som_model.specs.Lists.{Mem, first, find, some, option_list}
+use Rattle.som_model.specs.Lists.{Mem, first, some, option_list}
 use Rattle.som_model.specs.Keys.{same_key}
 use Rattle.som_model.specs.Same.{same_option, same_sig}
 use Rattle.som_model.specs.Ancestors.{Descends}
-use Rattle.som_model.specs.Class.{Class, class_in, bare}
+use Rattle.som_model.specs.Class.{Class}
 use Rattle.som_model.specs.Classes.{class_at, interface_classes, hierarchy, ancestors, is_a}
 use Rattle.som_model.specs.Kernel.{kernel}
 use Rattle.som_model.specs.Metaclass.{meta}
-use Rattle.som_model.specs.Compatible.{release_of, Incompatible, incompatible, declared_name, order_of, failing, strayed, signature, k2, k3, k4, k5, k6, class_breaks, breaks, first_break, Compatible}
+use Rattle.som_model.specs.Compatible.{release_of, Incompatible, incompatible, order_of, failing, strayed, signature, k2, k3, k4, k5, k6, class_breaks, Compatible}
 use Rattle.som_model.proofs.KeyLaws.{Exact, exact_keys, exact_bytes, both}
 use Rattle.som_model.proofs.SameLaws.{exact_option, exact_sigs}
 use Rattle.som_model.proofs.NamedLaws.{same_named}
-use Rattle.som_plain.proofs.Members.{mem_left, mem_right, mem_split, mem_some}
+use Rattle.som_plain.proofs.Members.{mem_right, mem_split, mem_some}
 use Rattle.som_plain.proofs.Laws.{ancestors as ancestors_are, descends_test}
-use Rattle.som_verify.specs.Plainly.{IsAmong}
-use Rattle.som_verify.specs.Places.{class_of_place, key_at}
 use Rattle.som_verify.proofs.Before.{none_both, both_none}
 use Rattle.som_verify.proofs.Falling.{mem_there}
 use Rattle.som_verify.proofs.Owners.{flat_none}
-use Rattle.som_verify.proofs.PlainLists.{none_flat, map_mem, mem_map}
+use Rattle.som_verify.proofs.PlainLists.{none_flat, map_mem}
 use Rattle.som_verify.proofs.PlainNames.{option_mem}
 use Rattle.som_compat.specs.Conditions.{Conforms}
 use Rattle.som_compat.specs.Plainly.{IsPair, Keeps}
 use Rattle.som_compat.specs.Views.{shown}
-use Rattle.som_compat.proofs.Known.{IsKnown, known}
+use Rattle.som_compat.proofs.Known.{known}
 use Rattle.som_compat.proofs.MetaLaw.{find_mem}
 
 pub map_empty : {A B : Type 0} (f : A → B) (xs : List A) → first (map f xs) ≡ None → xs ≡ []

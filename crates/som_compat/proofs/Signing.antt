@@ -1,5 +1,5 @@
 -- Signatures that are compared.
-use Rattle.std.proofs.Common.{◌≡◌, sym, subst, Bool, true}
+use Rattle.std.proofs.Common.{◌≡◌, sym, subst, true}
 use Rattle.som_model.specs.declared.class.Sig.{Sig}
 use Rattle.som_model.specs.Same.{same_sig}
 use Rattle.som_model.proofs.SameLaws.{exact_sigs}

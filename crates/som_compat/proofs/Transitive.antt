@@ -1,11 +1,6 @@
 -- Compatibility goes along a list of interfaces.
-use Rattle.std.proofs.Common.{◌≡◌, ◌↔◌, ℕ, zero, suc, ◌≤◌, ◌<◌, ◌⊎◌, inl, inr, Bool, true, false, List, [], ◌∷◌, ◌++◌, map, length, Option, Some, None, slice_get, slice_index_or, refl, sym, ap, ◌∙◌, subst, arith, true≢false}
-use Rattle.std.proofs.lemmas.Bool.{cases_lt}
-use Rattle.som_model.specs.declared.key.Module.{Module}
-use Rattle.som_model.specs.declared.key.Module.TheVariants as modules
+use Rattle.std.proofs.Common.{◌≡◌, ℕ, zero, suc, ◌<◌, inl, inr, List, [], ◌∷◌, length, Some, slice_get, refl, sym, ap, ◌∙◌, subst, arith}
 use Rattle.som_model.specs.declared.key.ClassKey.{ClassKey}
-use Rattle.som_model.specs.declared.key.ClassKey.TheVariants as keys
-use Rattle.som_model.specs.declared.class.ClassFace.{ClassFace}
 use Rattle.som_model.specs.declared.program.Interface.{Interface}
 use Rattle.som_model.specs.Lists.{Mem}
 use Rattle.som_model.specs.Ancestors.{Descends, itself, by_parent}
@@ -16,13 +11,12 @@ use Rattle.som_model.specs.Metaclass.{meta}
 use Rattle.som_model.specs.Compatible.{release_of, order_of, signature, Compatible, EachNext, EachLater}
 use Rattle.som_plain.proofs.Members.{mem_right, mem_split}
 use Rattle.som_plain.proofs.Laws.{descends_through}
-use Rattle.som_verify.specs.Places.{class_of_place, key_at, face_at}
+use Rattle.som_verify.specs.Places.{class_of_place, key_at}
 use Rattle.som_verify.specs.Plainly.{IsAmong}
 use Rattle.som_verify.proofs.Falling.{mem_there}
 use Rattle.som_verify.proofs.Finding.{mem_place}
-use Rattle.som_verify.proofs.PlainLists.{map_mem, mem_map}
 use Rattle.som_compat.specs.Conditions.{Conforms}
-use Rattle.som_compat.specs.Metaclasses.{IsDeclared, Declares}
+use Rattle.som_compat.specs.Metaclasses.{IsDeclared}
 use Rattle.som_compat.specs.Plainly.{IsPair, Keeps}
 use Rattle.som_compat.proofs.Known.{IsKnown, known}
 use Rattle.som_compat.proofs.MetaLaw.{meta_law}

@@ -1,21 +1,18 @@
 -- Classes by their places: rows, descent and marks.
-use Rattle.std.proofs.Common.{◌≡◌, ◌↔◌, ℕ, zero, suc, ◌+◌, ◌-◌, ◌<◌, ◌≤◌, ◌⊎◌, inl, inr, Bool, true, false, List, [], ◌∷◌, length, take, map, replicate, Option, Some, None, slice_set, slice_index_or, refl, sym, ap, ◌∙◌, subst, arith, true≢false}
+use Rattle.std.proofs.Common.{◌≡◌, ◌↔◌, ℕ, zero, suc, ◌+◌, ◌-◌, ◌<◌, ◌≤◌, inl, inr, Bool, true, List, [], ◌∷◌, length, take, map, replicate, Option, Some, None, slice_set, slice_index_or, refl, sym, ap, ◌∙◌, subst, arith}
 use Rattle.std.proofs.lemmas.Bool.{cases_lt}
 use Rattle.std.proofs.lemmas.List.{get_or_past, get_or-set_same, get_or-set_other, get_or-take}
 use Rattle.som_model.specs.declared.key.ClassKey.{ClassKey}
-use Rattle.som_model.specs.declared.class.Sig.{Sig}
 use Rattle.som_model.specs.declared.class.ClassFace.{ClassFace}
 use Rattle.som_model.specs.Lists.{Mem}
 use Rattle.som_model.specs.Ancestors.{Descends, itself, by_parent}
 use Rattle.som_model.specs.Class.{Class, entry_of, introduced_sig}
 use Rattle.som_model.specs.Classes.{class_at, hierarchy, is_a}
-use Rattle.som_model.specs.Kernel.{kernel}
 use Rattle.som_model.specs.Owner.{sig_of}
 use Rattle.som_plain.proofs.Members.{both_or_none}
 use Rattle.som_plain.proofs.Laws.{descends_test}
 use Rattle.som_verify.specs.Places.{class_of_place, key_at, face_at, Finds}
 use Rattle.som_verify.specs.Plainly.{IsAmong}
-use Rattle.som_verify.specs.Walk.{rows_of}
 use Rattle.som_verify.proofs.Finding.{mem_place}
 use Rattle.som_verify.proofs.Falling.{mem_there}
 use Rattle.som_verify.proofs.PlainLists.{mem_map, map_mem}
@@ -25,9 +22,8 @@ use Rattle.som_compat.specs.Conditions.{IsCounted, Conforms}
 use Rattle.som_compat.specs.Views.{shown, interface, classes_of, numbers_of, IsRow, AreRows}
 use Rattle.som_compat.specs.Marks.{Marked, lists_of, Above, AreLow, IsReached, AreAbove}
 use Rattle.som_compat.proofs.Known.{IsKnown, known}
-use Rattle.som_compat.proofs.MetaLaw.{find_mem}
 use Rattle.som_compat.proofs.Placed.{shown_at, long_classes}
-use Rattle.som_compat.proofs.Marking.{row_is, marked_set}
+use Rattle.som_compat.proofs.Marking.{row_is}
 use Rattle.som_compat.proofs.Plain.{found_is}
 
 pub known_of : (fs : List ClassFace) → Conforms (interface fs) → IsKnown (classes_of fs)

@@ -1,5 +1,5 @@
 -- Which interfaces are compared.
-use Rattle.std.specs.Prelude.{◌≡◌, ◌≤◌, ℕ, List, length, All, None}
+use Rattle.std.specs.Prelude.{◌≡◌, ◌≤◌, length, All, None}
 use Rattle.som_model.specs.declared.class.ClassFace.{ClassFace}
 use Rattle.som_model.specs.declared.program.Interface.{Interface}
 use Rattle.som_model.specs.Classes.{interface_classes}

@@ -1,4 +1,4 @@
-use Rattle.std.proofs.Common.{◌≡◌, ◌∙◌, sym}
+use Rattle.std.proofs.Common.{◌∙◌, sym}
 use Rattle.som_compat.specs.Views.{classes_of}
 use Rattle.som_compat.proofs.Marking.{none_marked}
 use Rattle.som_compat.proofs.Viewing.{known_of}

@@ -1,4 +1,4 @@
-use Rattle.std.proofs.Common.{◌≡◌, ◌≤◌, ◌+◌, length}
+use Rattle.std.proofs.Common.{◌≡◌, ◌+◌, length}
 use Rattle.som_model.specs.declared.key.ClassKey.{ClassKey}
 use Rattle.som_verify.specs.Plainly.{IsAmong}
 use Rattle.som_compat.specs.Marks.{AreAbove, lost_from}

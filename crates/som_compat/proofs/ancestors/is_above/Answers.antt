@@ -1,4 +1,4 @@
-use Rattle.std.proofs.Common.{◌≡◌, ◌∙◌, sym, ap}
+use Rattle.std.proofs.Common.{◌∙◌, sym, ap}
 use Rattle.som_model.specs.Classes.{is_a}
 use Rattle.som_compat.specs.Views.{classes_of}
 use Rattle.som_compat.proofs.Viewing.{known_of}

@@ -1,4 +1,4 @@
-use Rattle.std.proofs.Common.{◌≡◌, ◌∙◌, ◌∷◌, [], ◌+◌, List, Some, None, sym, ap, subst, length, map, take, slice_index_or}
+use Rattle.std.proofs.Common.{◌∙◌, ◌∷◌, [], ◌+◌, List, sym, ap, subst, length, map, take, slice_index_or}
 use Rattle.som_model.specs.declared.key.ClassKey.{ClassKey}
 use Rattle.som_model.specs.Lists.{Mem, joined}
 use Rattle.som_model.specs.Keys.{same_key}

@@ -1,4 +1,4 @@
-use Rattle.std.proofs.Common.{◌≡◌, ◌<◌, length, arith}
+use Rattle.std.proofs.Common.{◌<◌, length, arith}
 use Rattle.som_compat.specs.Views.{classes_of}
 use Rattle.som_compat.proofs.Placed.{long_classes}
 use Rattle.som_compat.proofs.Viewing.{known_of, parent_among, low}

@@ -1,6 +1,5 @@
-use Rattle.std.proofs.Common.{◌≡◌, ◌⊎◌, ◌<◌, inl, inr, true, length, arith}
+use Rattle.std.proofs.Common.{◌<◌, inl, inr, true, length, arith}
 use Rattle.std.proofs.lemmas.List.{length-set}
-use Rattle.som_compat.specs.Marks.{Marked}
 use Rattle.som_compat.specs.Views.{classes_of}
 use Rattle.som_compat.proofs.Marking.{marked_set}
 use Rattle.som_compat.proofs.Placed.{mem_at}

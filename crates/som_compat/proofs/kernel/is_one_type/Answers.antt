@@ -1,9 +1,7 @@
-use Rattle.std.proofs.Common.{◌≡◌, true, false, sym, ◌∙◌, ap}
+use Rattle.std.proofs.Common.{sym}
 use Rattle.som_model.specs.Kernel.{som_object, som_class}
-use Rattle.som_model.specs.Same.{same_type}
 use Rattle.som_model.proofs.KeyLaws.{exact_keys}
 use Rattle.som_model.proofs.NamedLaws.{same_named}
-use Rattle.som_compat.specs.KernelSigs.{type_of}
 use Rattle.som_compat.proofs.kernel.is_one_type.Goals as goal
 
 pub returns-in-Object-Object : goal.returns-in-Object-Object

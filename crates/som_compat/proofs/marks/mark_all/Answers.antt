@@ -1,8 +1,5 @@
-use Rattle.std.proofs.Common.{◌≡◌, ◌↔◌, ◌+◌, ◌<◌, ◌⊎◌, ℕ, inl, inr, true, false, length, take, slice_index_or, slice_set, arith}
+use Rattle.std.proofs.Common.{◌<◌, inl, inr, length, slice_index_or, arith}
 use Rattle.std.proofs.lemmas.Grind.{common_steps}
-use Rattle.std.proofs.lemmas.List.{length-set}
-use Rattle.som_compat.specs.Marks.{Marked}
-use Rattle.som_model.specs.Lists.{Mem}
 use Rattle.som_compat.proofs.Marking.{mem_at, take_more, marked_set}
 use Rattle.som_compat.proofs.marks.mark_all.Goals as goal
 

@@ -1,4 +1,4 @@
-use Rattle.std.proofs.Common.{◌≡◌, ◌<◌, ◌≤◌, ◌+◌, ◌∙◌, ap, sym, ℕ, List, Bool, true, false, length, arith}
+use Rattle.std.proofs.Common.{◌∙◌, ap, sym, ℕ, List, arith}
 use Rattle.std.proofs.lemmas.Grind.{common_steps}
 use Rattle.som_compat.specs.Marks.{lists_of, some_marked}
 use Rattle.som_compat.proofs.Marking.{row_is}

@@ -1,5 +1,5 @@
 use Rattle.std.proofs.Common.{◌≡◌, ◌<◌, ℕ, length}
-use Rattle.som_compat.specs.Marks.{Marked, Above, lists_of}
+use Rattle.som_compat.specs.Marks.{Marked, Above}
 use Rattle.som_compat.proofs.marks.mark_below.Given as goal
 
 abbrev pub invariant-loop-place : goal.invariant-loop-place

@@ -1,8 +1,8 @@
-use Rattle.std.proofs.Common.{◌≡◌, ◌↔◌, ◌+◌, ◌-◌, ◌<◌, ◌≤◌, ◌⊎◌, ℕ, [], None, refl, inl, inr, true, false, length, slice_index_or, slice_set, arith, sym, subst, ap, ◌∙◌, List}
+use Rattle.std.proofs.Common.{◌-◌, ℕ, [], refl, inl, inr, slice_index_or, arith, subst, ◌∙◌}
 use Rattle.std.proofs.lemmas.Grind.{common_steps}
 use Rattle.som_model.specs.Lists.{Mem}
 use Rattle.som_model.specs.Ancestors.{itself}
-use Rattle.som_compat.specs.Marks.{Marked, lists_of, IsReached}
+use Rattle.som_compat.specs.Marks.{lists_of}
 use Rattle.som_compat.proofs.Marking.{all_reached, further, down, row_is}
 use Rattle.som_compat.proofs.marks.mark_reached.Goals as goal
 

@@ -1,4 +1,4 @@
-use Rattle.std.proofs.Common.{◌≡◌, ◌≤◌, ◌↔◌, ℕ, [], length, slice_index_or}
+use Rattle.std.proofs.Common.{◌≡◌, ◌≤◌, ℕ, [], length, slice_index_or}
 use Rattle.som_model.specs.Lists.{Mem}
 use Rattle.som_compat.specs.Marks.{Marked, IsReached, lists_of}
 use Rattle.som_compat.proofs.marks.mark_reached.Given as goal

@@ -1,4 +1,4 @@
-use Rattle.std.proofs.Common.{◌≡◌, arith}
+use Rattle.std.proofs.Common.{arith}
 use Rattle.som_compat.specs.Views.{classes_of}
 use Rattle.som_compat.proofs.Marking.{none_marked}
 use Rattle.som_compat.proofs.Placed.{long_classes}

@@ -1,4 +1,4 @@
-use Rattle.std.proofs.Common.{◌≡◌, ◌∙◌, ◌||◌, sym, ap, Bool, false, slice_index_or, arith}
+use Rattle.std.proofs.Common.{◌∙◌, ◌||◌, sym, ap, Bool, arith}
 use Rattle.som_compat.specs.Told.{some_declares}
 use Rattle.som_compat.specs.Views.{classes_of}
 use Rattle.som_compat.proofs.Placed.{long_classes}

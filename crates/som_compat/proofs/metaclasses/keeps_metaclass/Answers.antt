@@ -1,4 +1,4 @@
-use Rattle.std.proofs.Common.{◌≡◌, ◌∙◌, sym, ap}
+use Rattle.std.proofs.Common.{◌∙◌, sym}
 use Rattle.som_compat.specs.Views.{classes_of, shown}
 use Rattle.som_compat.proofs.Declaring.{k6_none, k6_kept, k6_lost}
 use Rattle.som_compat.proofs.metaclasses.keeps_metaclass.Goals as goal

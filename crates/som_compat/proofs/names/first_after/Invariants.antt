@@ -1,4 +1,4 @@
-use Rattle.std.proofs.Common.{◌≡◌, ◌≤◌, ◌-◌, length}
+use Rattle.std.proofs.Common.{◌≤◌, ◌-◌, length}
 use Rattle.som_compat.proofs.names.first_after.Given as goal
 
 abbrev pub invariant-loop-low : goal.invariant-loop-low

@@ -1,4 +1,4 @@
-use Rattle.std.proofs.Common.{◌≡◌, ◌≤◌, ◌-◌, length}
+use Rattle.std.proofs.Common.{◌≡◌, ◌≤◌, length}
 use Rattle.som_compat.proofs.names.insert.Given as goal
 
 abbrev pub invariant-loop-free : goal.invariant-loop-free

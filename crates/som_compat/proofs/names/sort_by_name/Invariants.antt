@@ -1,4 +1,4 @@
-use Rattle.std.proofs.Common.{◌≡◌, ◌≤◌, ◌-◌, length}
+use Rattle.std.proofs.Common.{◌≡◌, length}
 use Rattle.som_compat.proofs.names.sort_by_name.Given as goal
 
 abbrev pub invariant-loop-place : goal.invariant-loop-place

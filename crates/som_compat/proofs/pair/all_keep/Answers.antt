@@ -1,11 +1,11 @@
-use Rattle.std.proofs.Common.{◌≡◌, ◌∙◌, ◌+◌, ◌<◌, inl, inr, ℕ, None, drop, map, flat_map, slice_index_or, sym, ap, subst, arith}
+use Rattle.std.proofs.Common.{◌≡◌, ◌∙◌, ◌+◌, inl, inr, ℕ, drop, map, flat_map, slice_index_or, sym, ap, arith}
 use Rattle.std.proofs.lemmas.Bool.{cases_lt}
 use Rattle.std.proofs.lemmas.Result.{err_from_is_err_and}
 use Rattle.som_model.specs.Lists.{first}
 use Rattle.som_model.specs.Compatible.{class_breaks}
 use Rattle.som_compat.specs.Views.{classes_of, shown}
 use Rattle.som_compat.specs.Told.{told}
-use Rattle.som_compat.proofs.Ending.{passes, stops, step_list, default_same}
+use Rattle.som_compat.proofs.Ending.{passes, stops, step_list}
 use Rattle.som_compat.proofs.pair.all_keep.Goals as goal
 
 pub returns-in_err-class_keeps : goal.returns-in_err-class_keeps

@@ -1,4 +1,4 @@
-use Rattle.std.proofs.Common.{◌≡◌, ◌∙◌, Some, sym, ap}
+use Rattle.std.proofs.Common.{◌∙◌, Some, sym, ap}
 use Rattle.som_compat.proofs.Ending.{get_name, get_none}
 use Rattle.som_compat.proofs.pair.entry_name_at.Goals as goal
 

@@ -1,4 +1,4 @@
-use Rattle.std.proofs.Common.{◌≡◌, sym}
+use Rattle.std.proofs.Common.{sym}
 use Rattle.som_compat.specs.Views.{shown}
 use Rattle.som_compat.proofs.Ending.{k4_none, k4_some}
 use Rattle.som_compat.proofs.pair.keeps_order.Goals as goal

@@ -1,4 +1,4 @@
-use Rattle.std.proofs.Common.{◌≡◌, ◌∙◌, sym, ap}
+use Rattle.std.proofs.Common.{◌∙◌, sym}
 use Rattle.som_compat.proofs.Changing.{k5_is}
 use Rattle.som_compat.proofs.signatures.keeps_signatures.Goals as goal
 

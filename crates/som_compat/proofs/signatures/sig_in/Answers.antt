@@ -1,8 +1,6 @@
-use Rattle.std.proofs.Common.{◌≡◌, ◌∙◌, sym, ap, arith}
+use Rattle.std.proofs.Common.{◌∙◌, sym, ap, arith}
 use Rattle.som_model.specs.Class.{Class, entry_of, introduced_sig}
-use Rattle.som_verify.specs.Places.{class_of_place}
 use Rattle.som_compat.specs.Views.{classes_of}
-use Rattle.som_compat.proofs.Known.{IsKnown}
 use Rattle.som_compat.proofs.Viewing.{known_of, sig_at, sig_none}
 use Rattle.som_compat.proofs.signatures.sig_in.Goals as goal
 

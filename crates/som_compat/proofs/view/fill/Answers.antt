@@ -1,5 +1,4 @@
-use Rattle.std.proofs.Common.{◌≡◌, ◌<◌, arith}
-use Rattle.std.proofs.lemmas.Grind.{common_steps}
+use Rattle.std.proofs.Common.{arith}
 use Rattle.std.proofs.lemmas.List.{length-set}
 use Rattle.som_compat.specs.Views.{classes_of}
 use Rattle.som_compat.proofs.Viewing.{filled_more, filled_rows}

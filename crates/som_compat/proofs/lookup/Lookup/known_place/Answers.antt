@@ -1,6 +1,5 @@
-use Rattle.std.proofs.Common.{arith}
 use Rattle.som_compat.specs.Views.{classes_of}
-use Rattle.som_compat.proofs.Placed.{among_place, long_classes}
+use Rattle.som_compat.proofs.Placed.{among_place}
 use Rattle.som_compat.proofs.lookup.Lookup.known_place.Goals as goal
 
 pub returns-in-None : goal.returns-in-None

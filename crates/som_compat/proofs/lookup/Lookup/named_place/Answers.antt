@@ -1,9 +1,3 @@
-use Rattle.std.proofs.Common.{◌≡◌, sym, subst, Some, None}
-use Rattle.som_model.specs.declared.key.Module.{Module}
-use Rattle.som_model.specs.declared.key.Module.TheVariants as modules
-use Rattle.som_model.specs.declared.key.ClassKey.TheVariants as keys
-use Rattle.som_verify.specs.Places.{Finds}
-use Rattle.som_compat.specs.Views.{classes_of}
 use Rattle.som_compat.proofs.Placed.{kernel_found, library_found, library_missing, other_module}
 use Rattle.som_compat.proofs.lookup.Lookup.named_place.Goals as goal
 
