@@ -14,5 +14,4 @@ pub mod Fronts
 pub mod Declaring
 pub mod Ending
 pub mod Listing
-pub mod FacesOnly
 pub mod Released

@@ -27,7 +27,7 @@ use Rattle.som_verify.proofs.Conformity.{faces_first}
 use Rattle.som_verify.proofs.DeclaredClasses.{long_map}
 use Rattle.som_verify.proofs.PlainFaces.{none_or, or_none}
 use Rattle.som_compat.specs.Conditions.{Conforms, IsCounted}
-use Rattle.som_compat.proofs.FacesOnly.{ancestors_faces, face_only, introduced_faces, introduces_faces, is_a_faces, known_faces, names_faces, type_faces, value_faces}
+use Rattle.som_verify.proofs.FacesOnly.{ancestors_faces, face_only, introduced_faces, introduces_faces, is_a_faces, known_faces, names_faces, type_faces, value_faces}
 
 faces_more : (before : List Class) (c : Class) → map face_only before ++ face_only c ∷ [] ≡ map face_only (before ++ c ∷ [])
 faces_more [] c = refl

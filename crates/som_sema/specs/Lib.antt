@@ -8,6 +8,8 @@ pub mod TextRules
 pub mod Walks
 pub mod Building
 pub mod PlainTexts
+pub mod Accessors
+pub mod Limits
 pub mod Releases
 pub mod Released
 pub mod PlainReleases

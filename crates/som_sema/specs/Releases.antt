@@ -26,38 +26,8 @@ use Rattle.som_sema.specs.Sketch.{Drawn, getter, setter}
 use Rattle.som_sema.specs.TextRules.{text_breach, text_demand}
 use Rattle.som_sema.specs.Building.{declarations, texts_breach}
 
--- a method that reads or sets an attribute
-pub record Access : Type 0 where
-  pub name : List ℕ
-  pub attribute : List ℕ
-  pub sets : Bool
-
-abbrev pub attribute_accessors : Bool → List ℕ → List Access
-attribute_accessors readonly name =
-    record { name = getter name; attribute = name; sets = false }
-    ∷ (if readonly then [] else record { name = setter name; attribute = name; sets = true } ∷ [])
-
-abbrev pub export_accessors : Export → List Access
-export_accessors (exports.Attribute readonly kind names) = flat_map (λ (w : Word). attribute_accessors readonly w.text) names
-export_accessors (exports.Operation result name params) = []
-
--- the accessors that an interface declares
-abbrev pub accessors_of : IdlInterface → List Access
-accessors_of i = flat_map export_accessors i.before ++ flat_map export_accessors i.after
-
--- the first place of a name
-abbrev pub place_of : List (List ℕ) → List ℕ → ℕ
-place_of [] name = 0
-place_of (n ∷ ns) name = if bytes_eq name n then 0 else suc (place_of ns name)
-
--- an accessor reads or writes the variable of its attribute's name
-abbrev pub accessor_body : List Variable → Access → Body
-accessor_body vs a =
-    if a.sets then bodies.Set (place_of (map (λ (v : Variable). v.name) vs) a.attribute) else bodies.Get (place_of (map (λ (v : Variable). v.name) vs) a.attribute)
-
--- the body of a method that a class introduces: an accessor has one, and an operation has none
-abbrev pub body_of : Drawn → List ℕ → Option Body
-body_of d name = option_map (accessor_body d.class.variables) (find (λ (a : Access). bytes_eq name a.name) (accessors_of d.text))
+pub use Rattle.som_sema.specs.Accessors.{Access, attribute_accessors, export_accessors, accessors_of, place_of, accessor_body, body_of}
+pub use Rattle.som_sema.specs.Limits.{Passed, at_most, entry_limits, class_limits, limit_passed}
 
 abbrev pub has_body : Drawn → List ℕ → List Breach
 has_body d name = text_demand 14 d name (is_some (body_of d name))
@@ -69,31 +39,6 @@ text_s14 d = flat_map (has_body d) (introduced d.class.face.entries) ++ map (λ 
 -- the declaration with the bodies of its accessors, in the release order
 abbrev pub with_bodies : Drawn → ClassDecl
 with_bodies d = record d.class { bodies = flat_map (λ name. option_list (body_of d name)) (introduced d.class.face.entries) }
-
--- a limit that is passed
-pub record Passed : Type 0 where
-  pub quantity : List ℕ
-  pub number : ℕ
-
-abbrev pub at_most : List ℕ → ℕ → ℕ → List Passed
-at_most quantity number count = if nat_le count number then [] else record { quantity = quantity; number = number } ∷ []
-
-abbrev pub entry_limits : Entry → List Passed
-entry_limits (entries.Introduced name sig way) = at_most (codes "parameters") MAX_PARAMETERS (length sig.params)
-entry_limits (entries.Moved name to) = []
-
--- the limits that a class passes
-abbrev pub class_limits : ClassDecl → List Passed
-class_limits c =
-    at_most (codes "parents") MAX_PARENTS (length c.face.parents)
-    ++ at_most (codes "entries") MAX_ENTRIES (length c.face.entries)
-    ++ at_most (codes "overrides") MAX_OVERRIDES (length c.overrides)
-    ++ at_most (codes "variables") MAX_VARIABLES (length c.variables)
-    ++ flat_map entry_limits c.face.entries
-
--- the first limit that one of these classes passes
-abbrev pub limit_passed : List ClassDecl → Option Passed
-limit_passed cs = first (flat_map class_limits cs)
 
 -- a library is compiled against no classes
 abbrev pub no_base : Interface

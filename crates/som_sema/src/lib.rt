@@ -35,8 +35,16 @@ mod types;
 mod variables;
 mod walked;
 
-pub use build::build_faces;
+pub use accessors::{Accessor, accessor_named, accessor_names};
+pub use breach::each_drawing;
+pub use build::{all_interfaces, build_faces, refused};
 pub use laws::{declarations_law, text_rules_law};
+pub use limits::limits_kept;
+pub use members::introduced_names;
+pub use places::{Noted, Places, first_place, note, place_table};
 pub use release::build_release;
 pub use release_laws::release_rules_law;
+pub use scope::{Scope, home_of, key_of, result_of, scope_of, type_of};
+pub use sketch::Drawing;
+pub use tables::table_of;
 pub use types::Refused;

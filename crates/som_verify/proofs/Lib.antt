@@ -38,3 +38,4 @@ pub mod KnownLaws
 pub mod CallLaws
 pub mod ArgLaws
 pub mod PartLaws
+pub mod FacesOnly

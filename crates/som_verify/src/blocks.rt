@@ -21,13 +21,14 @@ use std::alloc::Global;
 
 /// What typing is to know of classes: their names, the kernel's faces, and the ancestors of each by places.
 #[derive(Drop)]
-pub(crate) struct Parts<'a> {
-    table: IndexSet<&'a [u8]>,
-    kernel: Interface,
-    lists: Vec<List<usize>>,
+pub struct Parts<'a> {
+    pub table: IndexSet<&'a [u8]>,
+    pub kernel: Interface,
+    pub lists: Vec<List<usize>>,
 }
 
-fn parts_of<'a>(alloc: Global, classes: &[Declared<'a>]) -> Result<Parts<'a>, VerifyFault>
+/// The parts of classes whose names and parents break no rule.
+pub fn parts_of<'a>(alloc: Global, classes: &[Declared<'a>]) -> Result<Parts<'a>, VerifyFault>
     requires { first_of_names kernel (classes_of classes.now) ≡ None }
     ensures parts { IfOk result (AreParts (classes_of classes.now)) }
     ensures fault { IfErr result (λ e. e ≡ faults.NoMemory) }

@@ -85,7 +85,8 @@ pub fn introduced_by<'a>(entries: &'a [Entry], name: &Text) -> Option<&'a Sig>
     }
 }
 
-fn find_entry<'a>(entries: &'a [Entry], name: &Text) -> Option<&'a Entry>
+/// The entry of that name.
+pub fn find_entry<'a>(entries: &'a [Entry], name: &Text) -> Option<&'a Entry>
     ensures { option_copied result ≡ entry_of entries.now name.now }
 {
     for entry in entries {

@@ -50,9 +50,10 @@ mod typed_orders;
 mod types;
 
 pub use ancestry::ancestors;
+pub use blocks::{Parts, parts_of};
 pub use bodies::bodies_fit;
 pub use calls::{
-    cast_kind, class_kind, isa_kind, named_call_kind, new_kind, offset_call_kind, parent_call_kind,
+    all_fit, cast_kind, class_kind, isa_kind, named_call_kind, new_kind, offset_call_kind, parent_call_kind,
     parents_call_kind, proxy_kind, self_kind, variable_kind,
 };
 pub use classes::{classes_hold, declare};
@@ -63,10 +64,12 @@ pub use forms::{
     are_alike, binary_kind, has_text, host_kind, is_boolean, is_long, is_nothing, is_object,
     is_reference, is_string, local_kind, unary_kind, value,
 };
+pub use inherited::find_entry;
 pub use introduced::names_introduced_once;
 pub use kind::Kind;
 pub use knowledge::{
-    Knowledge, kind_fits, kind_of, know, owner, place_of, signature_of, type_fits,
+    Knowledge, decl_at, entries_of, kind_fits, kind_of, know, owner, place_of, signature_of,
+    type_fits,
 };
 pub use known::{type_is_known, type_is_of_value};
 pub use laws::{
@@ -78,9 +81,11 @@ pub use metaclasses::metaclasses_descend;
 pub use moved::entries_moved_up;
 pub use overrides::overrides_inherited;
 pub use parents::parents_stand;
+pub use plain_statements::is_call;
 pub use program::{bare_classes, declare_program, program_ok, program_rules};
 pub use release::{faces_ok, release_ok};
 pub use rules::rules_hold;
 pub use signatures::types_known;
-pub use table::{class_names, find_class};
+pub use table::{KERNEL_CLASSES, SOM_CLASS_MGR, class_names, find_class};
+pub use typed_bodies::{kinds_of, known_kind};
 pub use types::{Broken, Declared, VerifyFault};

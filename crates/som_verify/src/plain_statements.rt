@@ -162,8 +162,8 @@ pub(crate) fn call_stands(
     demand(20, is_call(call))
 }
 
-// Whether an expression is a call.
-fn is_call(call: &Expr) -> bool
+/// Whether an expression is a call.
+pub fn is_call(call: &Expr) -> bool
     ensures { result ≡ calls call.now }
 {
     match call {

