@@ -1,5 +1,5 @@
 -- The bodies of a class of texts: there are as many as it introduces methods, they fit, and they are well typed.
-use Rattle.std.proofs.Common.{◌≡◌, ℕ, zero, suc, inl, inr, Bool, true, false, if◌then◌else◌, List, [], ◌∷◌, ◌++◌, length, map, flat_map, slice_get, Option, Some, None, is_some, Result, Ok, Err, refl, sym, ap, ◌∙◌, subst, arith}
+use Rattle.std.proofs.Common.{◌≡◌, ℕ, zero, suc, inl, inr, Bool, true, false, if◌then◌else◌, List, [], ◌∷◌, ◌++◌, length, map, flat_map, slice_get, Option, Some, None, is_some, Ok, Err, refl, sym, ap, ◌∙◌, subst, arith}
 use Rattle.std.specs.Str.{bytes_eq}
 use Rattle.som_model.specs.declared.key.ClassKey.{ClassKey}
 use Rattle.som_model.specs.declared.key.MethodRef.{MethodRef}
@@ -33,17 +33,17 @@ use Rattle.som_sema.specs.Accessors.{Access, accessor_body, body_of}
 use Rattle.som_sema.specs.Building.{after_base, declarations, texts_breach}
 use Rattle.som_sema.specs.Sketch.{Drawn}
 use Rattle.som_sema.specs.Words.{words}
-use Rattle.som_elab.specs.Locals.{Names, kinds_of}
+use Rattle.som_elab.specs.Locals.{kinds_of}
 use Rattle.som_elab.specs.Expressions.{Among}
-use Rattle.som_elab.specs.Statements.{BodyBreach, Breaks, Told, elaborated_block}
+use Rattle.som_elab.specs.Statements.{Breaks, Told, elaborated_block}
 use Rattle.som_elab.specs.Bodies.{body_sig, classes_over, drawn_over, text_s13, texts_for}
-use Rattle.som_elab.specs.Elaboration.{Refusal, among_over, elaborated_body, elaborated_class, entry_bodies, entry_body, override_block, override_blocks, parameters, refused_at, text_block, with_blocks}
+use Rattle.som_elab.specs.Elaboration.{among_over, elaborated_body, elaborated_class, entry_bodies, entry_body, override_block, override_blocks, parameters, refused_at, text_block, with_blocks}
 use Rattle.som_elab.proofs.Declared.{body_fits, own}
 use Rattle.som_elab.proofs.Fitting.{accessed}
 use Rattle.som_elab.proofs.Plain.{emptied, plain, scope_other}
 use Rattle.som_elab.proofs.Signatures.{as_many, operation_signed, override_signed}
 use Rattle.som_elab.proofs.TypedBodies.{text_typed}
-use Rattle.som_elab.proofs.Went.{Went, same_answer, went}
+use Rattle.som_elab.proofs.Went.{same_answer, went}
 
 pub refused_ok : {A : Type 0} (class member : List ℕ) (x : Told A) (r : A) → refused_at class member x ≡ Ok r → x ≡ Ok r
 refused_ok class member (Ok a) r e = ap Ok (same_answer e)

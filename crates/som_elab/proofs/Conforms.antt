@@ -1,9 +1,7 @@
 -- What texts stand for conforms.
-use Rattle.std.proofs.Common.{◌≡◌, ℕ, inl, inr, List, [], ◌∷◌, ◌++◌, length, map, flat_map, take, drop, slice_get, Option, Some, None, Result, Ok, Err, refl, sym, ap, ◌∙◌, subst}
-use Rattle.som_model.specs.declared.key.MethodRef.{MethodRef}
+use Rattle.std.proofs.Common.{◌≡◌, inl, inr, List, [], ◌∷◌, ◌++◌, length, map, flat_map, take, drop, Option, Some, None, Result, Ok, Err, refl, sym, ap, ◌∙◌, subst}
 use Rattle.som_model.specs.declared.key.Module.{Module}
 use Rattle.som_model.specs.declared.key.Module.TheVariants as modules
-use Rattle.som_model.specs.declared.syntax.Block.{Block}
 use Rattle.som_model.specs.declared.class.ClassDecl.{ClassDecl}
 use Rattle.som_model.specs.declared.class.ClassFace.{ClassFace}
 use Rattle.som_model.specs.declared.program.ClientProgram.{ClientProgram}
@@ -12,10 +10,9 @@ use Rattle.som_model.specs.declared.program.Release.{Release}
 use Rattle.som_model.specs.Lists.{Mem, first, or_else}
 use Rattle.som_model.specs.Steps.{◌>>=◌}
 use Rattle.som_model.specs.Class.{Class, bare, class_in, introduced}
-use Rattle.som_model.specs.Classes.{client_classes, interface_classes, library_classes}
+use Rattle.som_model.specs.Classes.{client_classes, interface_classes}
 use Rattle.som_model.specs.Conforming.{ProgramOk, ReleaseOk, all_of_program, class_typed, first_of_members, first_of_names, main_typed}
 use Rattle.som_model.specs.Kernel.{kernel}
-use Rattle.som_model.specs.Owner.{owner, sig_of}
 use Rattle.som_model.specs.Rules.{Breach, s5}
 use Rattle.som_model.specs.Typing.{Ruled, class_facts, in_main}
 use Rattle.som_model.specs.TypedBlocks.{Scope, block_scope}
@@ -24,17 +21,17 @@ use Rattle.som_plain.proofs.Members.{mem_split}
 use Rattle.som_idl.specs.declared.tree.IdlInterface.{IdlInterface}
 use Rattle.som_body.specs.declared.tree.BlockText.{BlockText}
 use Rattle.som_body.specs.declared.tree.BodyText.{BodyText}
-use Rattle.som_verify.specs.Faces.{classes_breach, faces_breach}
+use Rattle.som_verify.specs.Faces.{faces_breach}
 use Rattle.som_verify.specs.Modules.{AreDeclared}
 use Rattle.som_verify.specs.Places.{with_kernel}
-use Rattle.som_verify.specs.Plainly.{BodiesFit, ClassesHold, Fits, TypesKnown, signatures}
+use Rattle.som_verify.specs.Plainly.{BodiesFit, ClassesHold, Fits, TypesKnown}
 use Rattle.som_verify.proofs.Before.{both_none, none_both}
 use Rattle.som_verify.proofs.DeclaredClasses.{faces_declared, long_map, map_declared}
 use Rattle.som_verify.proofs.PlainFaces.{classes_say, or_none}
 use Rattle.som_verify.proofs.PlainLists.{map_mem, says_each}
 use Rattle.som_verify.proofs.PlainMembers.{types_say}
 use Rattle.som_verify.proofs.PlainWhole.{say_program, say_rules}
-use Rattle.som_sema.specs.Building.{after_base, declarations, home_of, texts_breach}
+use Rattle.som_sema.specs.Building.{after_base, declarations, texts_breach}
 use Rattle.som_sema.specs.Limits.{Passed, limit_passed}
 use Rattle.som_sema.specs.Sketch.{Drawn, sketches}
 use Rattle.som_sema.proofs.TextsConform.{texts_conform}

@@ -11,11 +11,11 @@ use Rattle.som_model.specs.declared.class.Variable.{Variable}
 use Rattle.som_model.specs.declared.class.Body.{Body}
 use Rattle.som_model.specs.declared.class.ClassDecl.{ClassDecl}
 use Rattle.som_model.specs.declared.program.Interface.{Interface}
-use Rattle.som_model.specs.Lists.{Mem, among, find, first, or_else, some}
+use Rattle.som_model.specs.Lists.{Mem, among, find, first, or_else}
 use Rattle.som_model.specs.Class.{Class, class_in, entry_name, entry_of, introduced}
 use Rattle.som_model.specs.Classes.{interface_classes}
 use Rattle.som_model.specs.Conforming.{each_after}
-use Rattle.som_model.specs.Rules.{Breach, s1, s3, s5, s7}
+use Rattle.som_model.specs.Rules.{s1, s3, s5, s7}
 use Rattle.som_model.proofs.KeyLaws.{exact_bytes}
 use Rattle.som_plain.proofs.Members.{Apart, find_first, find_none, mem_left, mem_right, mem_some, mem_split}
 use Rattle.som_read.specs.declared.tree.Word.{Word}

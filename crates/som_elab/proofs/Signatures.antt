@@ -1,5 +1,5 @@
 -- The signature of a method that has a body in the texts, and that a body has as many parameters.
-use Rattle.std.proofs.Common.{◌≡◌, ℕ, zero, suc, ◌==◌, ◌&&◌, inl, inr, Bool, true, false, if◌then◌else◌, List, [], ◌∷◌, ◌++◌, length, map, flat_map, Option, Some, None, refl, sym, ap, ◌∙◌, subst, true≢false}
+use Rattle.std.proofs.Common.{◌≡◌, ℕ, zero, suc, ◌&&◌, inl, inr, Bool, true, false, if◌then◌else◌, List, [], ◌∷◌, ◌++◌, length, map, flat_map, Option, Some, None, refl, sym, ap, ◌∙◌, subst, true≢false}
 use Rattle.std.specs.Str.{bytes_eq}
 use Rattle.std.proofs.lemmas.Bool.{eqb-true}
 use Rattle.som_model.specs.declared.key.ClassKey.{ClassKey}
@@ -12,8 +12,7 @@ use Rattle.som_model.specs.declared.class.Entry.TheVariants as entries
 use Rattle.som_model.specs.declared.class.Override.{Override}
 use Rattle.som_model.specs.declared.program.Interface.{Interface}
 use Rattle.som_model.specs.Lists.{Mem, among, find, first, or_else}
-use Rattle.som_model.specs.Hierarchy.{Hierarchy}
-use Rattle.som_model.specs.Ancestors.{Descends, itself}
+use Rattle.som_model.specs.Ancestors.{itself}
 use Rattle.som_model.specs.Class.{Class, class_in, entry_name, entry_of, introduced_sig}
 use Rattle.som_model.specs.Classes.{hierarchy, interface_classes}
 use Rattle.som_model.specs.Kernel.{kernel}
@@ -23,13 +22,12 @@ use Rattle.som_model.proofs.KeyLaws.{both, exact_bytes}
 use Rattle.som_plain.proofs.Members.{Apart, find_first, find_none, mem_right}
 use Rattle.som_idl.specs.declared.tree.IdlInterface.{IdlInterface}
 use Rattle.som_body.specs.declared.tree.BodyText.{BodyText}
-use Rattle.som_verify.specs.Places.{with_kernel}
 use Rattle.som_verify.specs.Plainly.{ClassesHold, Introduces}
 use Rattle.som_verify.proofs.Owners.{flat_none}
 use Rattle.som_verify.proofs.PlainLists.{differ_apart, map_mem, mem_map}
 use Rattle.som_sema.specs.Accessors.{body_of}
 use Rattle.som_sema.specs.Building.{after_base, declarations}
-use Rattle.som_sema.specs.Finished.{introducer, override_of}
+use Rattle.som_sema.specs.Finished.{override_of}
 use Rattle.som_sema.specs.Items.{overridden}
 use Rattle.som_sema.specs.Sketch.{Drawn}
 use Rattle.som_elab.specs.Bodies.{body_sig, classes_over, drawn_named, drawn_over, operation_sig, operations, overridden_sig, override_sig, stands_for, takes_as_many, text_s13, texts_for}

@@ -1,7 +1,6 @@
 -- What a text of a block comes to is well typed where it stands.
-use Rattle.std.proofs.Common.{◌≡◌, ℕ, Bool, true, false, not, ◌&&◌, if◌then◌else◌, nat_lt, List, [], ◌∷◌, ◌++◌, length, map, slice_get, Option, Some, None, Result, Ok, Err, refl, sym, ap, ◌∙◌, subst}
+use Rattle.std.proofs.Common.{◌≡◌, ℕ, Bool, true, false, not, ◌&&◌, if◌then◌else◌, nat_lt, List, [], ◌∷◌, ◌++◌, length, map, slice_get, Option, Some, None, Ok, Err, refl, sym, ap, ◌∙◌, subst}
 use Rattle.som_model.specs.declared.key.ValueType.{ValueType}
-use Rattle.som_model.specs.declared.syntax.Expr.{Expr}
 use Rattle.som_model.specs.declared.syntax.Stmt.{Stmt, roll-Stmt, map-Stmt, fold-roll-Stmt}
 use Rattle.som_model.specs.declared.syntax.Stmt.TheVariants as stmts
 use Rattle.som_model.specs.declared.syntax.Stmt.TheOpen.{Stmt-F}
@@ -9,22 +8,22 @@ use Rattle.som_model.specs.declared.syntax.Block.{Block, fold-roll-Block}
 use Rattle.som_model.specs.declared.limits.TheConstants.{MAX_LOCALS}
 use Rattle.som_model.specs.Steps.{◌>>=◌}
 use Rattle.som_model.specs.Blocks.{is_call}
-use Rattle.som_model.specs.Typing.{ClassFacts, CodePlace, ExprType, Of, Ruled, Typed, needs, there, is_nothing, is_boolean, is_class, has_text, kind_is_known, fits, own_variable, value, expr_type}
+use Rattle.som_model.specs.Typing.{ClassFacts, CodePlace, Of, Ruled, Typed, needs, there, is_nothing, is_boolean, is_class, has_text, kind_is_known, fits, own_variable, value, expr_type}
 use Rattle.som_model.specs.TypedBlocks.{Scope, Scoped, var_scope, local_set, variable_set, stmt_scope, block_scope}
 use Rattle.som_model.specs.TypedBlocks.{stmt_step as typed_step}
 use Rattle.som_model.specs.TypedBlocks.{block_step as typed_block}
 use Rattle.som_model.specs.TypedBlocks.{in_turn as typed_in_turn}
 use Rattle.som_model.specs.TypedBlocks.{value_return as typed_return}
 use Rattle.som_body.specs.declared.tree.ExprText.{ExprText}
-use Rattle.som_body.specs.declared.tree.StmtText.{StmtText, roll-StmtText, map-StmtText, ind-StmtText, fold-roll-StmtText}
+use Rattle.som_body.specs.declared.tree.StmtText.{StmtText, roll-StmtText, map-StmtText, fold-roll-StmtText}
 use Rattle.som_body.specs.declared.tree.StmtText.TheOpen.{StmtText-F, BlockText-F}
 use Rattle.som_body.specs.declared.tree.BlockText.{BlockText, roll-BlockText, map-BlockText, ind-BlockText, fold-roll-BlockText}
 use Rattle.som_sema.specs.Home.{type_of}
 use Rattle.som_elab.specs.Locals.{Named, Names, in_scope, kinds_of, local_of}
 use Rattle.som_elab.specs.Methods.{variable_place}
-use Rattle.som_elab.specs.Expressions.{Among, Elab, Elaborated, elaborated, elaborated_value, facts_among}
-use Rattle.som_elab.specs.Statements.{BlockElab, BodyBreach, Breaks, ManyLocals, Placed, StmtElab, Told, block_step, call_statement, declared, elaborated_block, elaborated_stmt, freed, in_turn, placed, plain_return, printed, ruled, set_local, set_variable, stmt_step, value_return, with_local}
-use Rattle.som_elab.proofs.Went.{Went, held, same_answer, went}
+use Rattle.som_elab.specs.Expressions.{Among, Elaborated, elaborated, elaborated_value, facts_among}
+use Rattle.som_elab.specs.Statements.{BlockElab, ManyLocals, Placed, StmtElab, Told, block_step, call_statement, declared, elaborated_block, elaborated_stmt, freed, in_turn, placed, printed, ruled, set_local, set_variable, stmt_step, value_return, with_local}
+use Rattle.som_elab.proofs.Went.{held, same_answer, went}
 use Rattle.som_elab.proofs.TypedExpressions.{expr_typed, value_typed_by}
 
 ruled_ok : {A : Type 0} (x : Ruled A) (r : A) → ruled x ≡ Ok r → x ≡ Ok r
@@ -124,19 +123,49 @@ module _ (a : Among) (at : CodePlace) where
       stands (Stmt-F.SetVariable n.value p.expr) (stmts.SetVariable n.value p.expr) scope q (stmts.rolls-SetVariable n.value p.expr)
       (ap (λ x. x >>= variable_set facts at (kinds_of scope) n.value) v ∙ ap (λ x. x >>= λ kind. needs 17 (fits facts kind p.type) (Ok (kinds_of scope))) k.first ∙ needs_ok 17 (fits facts k.value p.type) scope f.0) f.1
 
+  -- a value of a text has its type
   value_there : (e : ExprText) (scope : Names) (p : Elaborated) → elaborated_value a at scope e ≡ Ok p → value (expr_type facts at (kinds_of scope) p.expr) ≡ Ok p.type
   value_there e scope p h = value_typed_by a at scope e p h
 
-  return_typed : (value_text : Option ExprText) (scope : Names) (q : Placed) → stmt_step a at (StmtText-F.Return value_text) scope ≡ Ok q → Stands scope q
-  return_typed None scope q h =
-      let f = held 19 (is_nothing (Of at.result)) (placed scope stmts.Return) q (ruled_ok _ q h) in
-      stands Stmt-F.Return stmts.Return scope q stmts.rolls-Return (needs_ok 19 (is_nothing (Of at.result)) scope f.0) f.1
-  return_typed (Some e) scope q h =
-      let p = went (elaborated_value a at scope e) (value_return a at scope) q (ruled_ok _ q h) in
-      let fit = not (is_nothing (Of at.result)) && fits facts at.result p.value.type in
-      let f = held 19 fit (placed scope (stmts.ReturnValue p.value.expr)) q p.further in
-      stands (Stmt-F.ReturnValue p.value.expr) (stmts.ReturnValue p.value.expr) scope q (stmts.rolls-ReturnValue p.value.expr)
-      (ap (λ x. x >>= typed_return facts at (kinds_of scope)) (value_there e scope p.value p.first) ∙ needs_ok 19 fit scope f.0) f.1
+  return_typed : (scope : Names) (p : Elaborated) (q : Placed) → value (expr_type facts at (kinds_of scope) p.expr) ≡ Ok p.type → value_return a at scope p ≡ Ok q → Stands scope q
+  return_typed scope p q v h =
+      let fit = not (is_nothing (Of at.result)) && fits facts at.result p.type in
+      let f = held 19 fit (placed scope (stmts.ReturnValue p.expr)) q h in
+      stands (Stmt-F.ReturnValue p.expr) (stmts.ReturnValue p.expr) scope q (stmts.rolls-ReturnValue p.expr) (ap (λ x. x >>= typed_return facts at (kinds_of scope)) v ∙ needs_ok 19 fit scope f.0) f.1
+
+  print_typed : (scope : Names) (p : Elaborated) (q : Placed) → value (expr_type facts at (kinds_of scope) p.expr) ≡ Ok p.type → printed scope p ≡ Ok q → Stands scope q
+  print_typed scope p q v h =
+      let f = held 17 (has_text p.type) (placed scope (stmts.Print p.expr)) q h in
+      stands (Stmt-F.Print p.expr) (stmts.Print p.expr) scope q (stmts.rolls-Print p.expr) (ap (λ x. x >>= λ t. needs 17 (has_text t) (Ok (kinds_of scope))) v ∙ needs_ok 17 (has_text p.type) scope f.0) f.1
+
+  free_typed : (scope : Names) (p : Elaborated) (q : Placed) → value (expr_type facts at (kinds_of scope) p.expr) ≡ Ok p.type → freed scope p ≡ Ok q → Stands scope q
+  free_typed scope p q v h =
+      let f = held 17 (is_class p.type) (placed scope (stmts.Free p.expr)) q h in
+      stands (Stmt-F.Free p.expr) (stmts.Free p.expr) scope q (stmts.rolls-Free p.expr) (ap (λ x. x >>= λ t. needs 17 (is_class t) (Ok (kinds_of scope))) v ∙ needs_ok 17 (is_class p.type) scope f.0) f.1
+
+  call_typed : (scope : Names) (p : Elaborated) (q : Placed) → expr_type facts at (kinds_of scope) p.expr ≡ Ok p.type → call_statement scope p ≡ Ok q → Stands scope q
+  call_typed scope p q v h =
+      let f = held 20 (is_call p.expr) (placed scope (stmts.Call p.expr)) q h in
+      stands (Stmt-F.Call p.expr) (stmts.Call p.expr) scope q (stmts.rolls-Call p.expr) (ap (λ (x : Typed). x >>= λ t. needs 20 (is_call p.expr) (Ok (kinds_of scope))) v ∙ needs_ok 20 (is_call p.expr) scope f.0) f.1
+
+  if_typed : (scope : Names) (p : Elaborated) (x y : Block) (k l : Scope) (q : Placed) → value (expr_type facts at (kinds_of scope) p.expr) ≡ Ok p.type → B x (kinds_of scope) ≡ Ok k → B y (kinds_of scope) ≡ Ok l
+      → needs 17 (is_boolean p.type) (placed scope (stmts.If p.expr x y)) ≡ Ok q → Stands scope q
+  if_typed scope p x y k l q v first second h =
+      let f = held 17 (is_boolean p.type) (placed scope (stmts.If p.expr x y)) q h in
+      stands (Stmt-F.If p.expr x y) (stmts.If p.expr x y) scope q (stmts.rolls-If p.expr x y)
+      (ap (λ z. z >>= λ t. B x (kinds_of scope) >>= λ _. B y (kinds_of scope) >>= λ _. needs 17 (is_boolean t) (Ok (kinds_of scope))) v
+      ∙ ap (λ z. z >>= λ _. B y (kinds_of scope) >>= λ _. needs 17 (is_boolean p.type) (Ok (kinds_of scope))) first
+      ∙ ap (λ z. z >>= λ _. needs 17 (is_boolean p.type) (Ok (kinds_of scope))) second
+      ∙ needs_ok 17 (is_boolean p.type) scope f.0) f.1
+
+  while_typed : (scope : Names) (p : Elaborated) (x : Block) (k : Scope) (q : Placed) → value (expr_type facts at (kinds_of scope) p.expr) ≡ Ok p.type → B x (kinds_of scope) ≡ Ok k
+      → needs 17 (is_boolean p.type) (placed scope (stmts.While p.expr x)) ≡ Ok q → Stands scope q
+  while_typed scope p x k q v body h =
+      let f = held 17 (is_boolean p.type) (placed scope (stmts.While p.expr x)) q h in
+      stands (Stmt-F.While p.expr x) (stmts.While p.expr x) scope q (stmts.rolls-While p.expr x)
+      (ap (λ z. z >>= λ t. B x (kinds_of scope) >>= λ _. needs 17 (is_boolean t) (Ok (kinds_of scope))) v
+      ∙ ap (λ z. z >>= λ _. needs 17 (is_boolean p.type) (Ok (kinds_of scope))) body
+      ∙ needs_ok 17 (is_boolean p.type) scope f.0) f.1
 
   layer_typed : (y : StmtText-F Kept KeptBlock) (scope : Names) (q : Placed)
       → stmt_step a at (map-StmtText StmtText BlockText StmtElab BlockElab (elaborated_stmt a at) (elaborated_block a at) (map-StmtText Kept KeptBlock StmtText BlockText (λ (k : Kept). k.0) (λ (k : KeptBlock). k.0) y)) scope ≡ Ok q
@@ -155,40 +184,29 @@ module _ (a : Among) (at : CodePlace) where
       (λ p. elaborated_block a at b.0 scope >>= λ x. elaborated_block a at c.0 scope >>= λ y. ruled (needs 17 (is_boolean p.type) (placed scope (stmts.If p.expr x y)))) q h in
       let x = went (elaborated_block a at b.0 scope) (λ x. elaborated_block a at c.0 scope >>= λ y. ruled (needs 17 (is_boolean p.value.type) (placed scope (stmts.If p.value.expr x y)))) q p.further in
       let y = went (elaborated_block a at c.0 scope) (λ y. ruled (needs 17 (is_boolean p.value.type) (placed scope (stmts.If p.value.expr x.value y)))) q x.further in
-      let f = held 17 (is_boolean p.value.type) (placed scope (stmts.If p.value.expr x.value y.value)) q (ruled_ok _ q y.further) in
-      let bs = b.1 scope x.value x.first in
-      let cs = c.1 scope y.value y.first in
-      stands (Stmt-F.If p.value.expr x.value y.value) (stmts.If p.value.expr x.value y.value) scope q (stmts.rolls-If p.value.expr x.value y.value)
-      (ap (λ v. v >>= λ t. B x.value (kinds_of scope) >>= λ _. B y.value (kinds_of scope) >>= λ _. needs 17 (is_boolean t) (Ok (kinds_of scope))) (value_there e scope p.value (ruled_ok _ p.value p.first))
-      ∙ ap (λ v. v >>= λ _. B y.value (kinds_of scope) >>= λ _. needs 17 (is_boolean p.value.type) (Ok (kinds_of scope))) bs.1
-      ∙ ap (λ v. v >>= λ _. needs 17 (is_boolean p.value.type) (Ok (kinds_of scope))) cs.1
-      ∙ needs_ok 17 (is_boolean p.value.type) scope f.0) f.1
+      let left = b.1 scope x.value x.first in
+      let right = c.1 scope y.value y.first in
+      if_typed scope p.value x.value y.value left.0 right.0 q (value_there e scope p.value (ruled_ok _ p.value p.first)) left.1 right.1 (ruled_ok _ q y.further)
   layer_typed (StmtText-F.While e b) scope q h =
-      let p = went (ruled (elaborated_value a at scope e))
-      (λ p. elaborated_block a at b.0 scope >>= λ x. ruled (needs 17 (is_boolean p.type) (placed scope (stmts.While p.expr x)))) q h in
+      let p = went (ruled (elaborated_value a at scope e)) (λ p. elaborated_block a at b.0 scope >>= λ x. ruled (needs 17 (is_boolean p.type) (placed scope (stmts.While p.expr x)))) q h in
       let x = went (elaborated_block a at b.0 scope) (λ x. ruled (needs 17 (is_boolean p.value.type) (placed scope (stmts.While p.value.expr x)))) q p.further in
-      let f = held 17 (is_boolean p.value.type) (placed scope (stmts.While p.value.expr x.value)) q (ruled_ok _ q x.further) in
-      let bs = b.1 scope x.value x.first in
-      stands (Stmt-F.While p.value.expr x.value) (stmts.While p.value.expr x.value) scope q (stmts.rolls-While p.value.expr x.value)
-      (ap (λ v. v >>= λ t. B x.value (kinds_of scope) >>= λ _. needs 17 (is_boolean t) (Ok (kinds_of scope))) (value_there e scope p.value (ruled_ok _ p.value p.first))
-      ∙ ap (λ v. v >>= λ _. needs 17 (is_boolean p.value.type) (Ok (kinds_of scope))) bs.1
-      ∙ needs_ok 17 (is_boolean p.value.type) scope f.0) f.1
-  layer_typed (StmtText-F.Return e) scope q h = return_typed e scope q h
+      let body = b.1 scope x.value x.first in
+      while_typed scope p.value x.value body.0 q (value_there e scope p.value (ruled_ok _ p.value p.first)) body.1 (ruled_ok _ q x.further)
+  layer_typed (StmtText-F.Return None) scope q h =
+      let f = held 19 (is_nothing (Of at.result)) (placed scope stmts.Return) q (ruled_ok _ q h) in
+      stands Stmt-F.Return stmts.Return scope q stmts.rolls-Return (needs_ok 19 (is_nothing (Of at.result)) scope f.0) f.1
+  layer_typed (StmtText-F.Return (Some e)) scope q h =
+      let p = went (elaborated_value a at scope e) (value_return a at scope) q (ruled_ok _ q h) in
+      return_typed scope p.value q (value_there e scope p.value p.first) p.further
   layer_typed (StmtText-F.Print e) scope q h =
       let p = went (elaborated_value a at scope e) (printed scope) q (ruled_ok _ q h) in
-      let f = held 17 (has_text p.value.type) (placed scope (stmts.Print p.value.expr)) q p.further in
-      stands (Stmt-F.Print p.value.expr) (stmts.Print p.value.expr) scope q (stmts.rolls-Print p.value.expr)
-      (ap (λ x. x >>= λ t. needs 17 (has_text t) (Ok (kinds_of scope))) (value_there e scope p.value p.first) ∙ needs_ok 17 (has_text p.value.type) scope f.0) f.1
+      print_typed scope p.value q (value_there e scope p.value p.first) p.further
   layer_typed (StmtText-F.Free e) scope q h =
       let p = went (elaborated_value a at scope e) (freed scope) q (ruled_ok _ q h) in
-      let f = held 17 (is_class p.value.type) (placed scope (stmts.Free p.value.expr)) q p.further in
-      stands (Stmt-F.Free p.value.expr) (stmts.Free p.value.expr) scope q (stmts.rolls-Free p.value.expr)
-      (ap (λ x. x >>= λ t. needs 17 (is_class t) (Ok (kinds_of scope))) (value_there e scope p.value p.first) ∙ needs_ok 17 (is_class p.value.type) scope f.0) f.1
+      free_typed scope p.value q (value_there e scope p.value p.first) p.further
   layer_typed (StmtText-F.Call e) scope q h =
       let p = went (elaborated a at scope e) (call_statement scope) q (ruled_ok _ q h) in
-      let f = held 20 (is_call p.value.expr) (placed scope (stmts.Call p.value.expr)) q p.further in
-      stands (Stmt-F.Call p.value.expr) (stmts.Call p.value.expr) scope q (stmts.rolls-Call p.value.expr)
-      (ap (λ (x : Typed). x >>= λ t. needs 20 (is_call p.value.expr) (Ok (kinds_of scope))) (expr_typed a at scope e p.value p.first) ∙ needs_ok 20 (is_call p.value.expr) scope f.0) f.1
+      call_typed scope p.value q (expr_typed a at scope e p.value p.first) p.further
 
   -- statements one after the other
   turn_typed : (ks : List Kept) (scope : Names) (ss : List Stmt) → in_turn (map (elaborated_stmt a at) (map (λ (k : Kept). k.0) ks)) scope ≡ Ok ss → (k : Scope) × (typed_in_turn (map S ss) (kinds_of scope) ≡ Ok k)

@@ -1,5 +1,5 @@
 -- What a text of an expression comes to has the type that is said.
-use Rattle.std.proofs.Common.{◌≡◌, ℕ, Bool, true, false, not, List, [], ◌∷◌, map, Option, Some, None, Ok, Err, refl, sym, ap, ◌∙◌, subst}
+use Rattle.std.proofs.Common.{◌≡◌, Bool, true, false, not, List, [], ◌∷◌, map, Ok, Err, refl, sym, ap, ◌∙◌, subst}
 use Rattle.std.specs.Int.{w32, cast_signed}
 use Rattle.som_model.specs.declared.key.ValueType.TheVariants as types
 use Rattle.som_model.specs.declared.syntax.Expr.{Expr, roll-Expr, map-Expr, fold-roll-Expr}
@@ -9,14 +9,14 @@ use Rattle.som_model.specs.declared.class.Way.{Way}
 use Rattle.som_model.specs.declared.class.Way.TheVariants as ways
 use Rattle.som_model.specs.Steps.{◌>>=◌}
 use Rattle.som_model.specs.Kernel.{som_class_mgr}
-use Rattle.som_model.specs.Typing.{ClassFacts, CodePlace, ExprType, Of, PlainNil, Ruled, Typed, needs, there, is_nothing, all_fit, value, value_of, values, local_type, own_variable, self_type, unary_type, binary_type, host_type, new_type, class_type, cast_type, isa_type, proxy_type, offset_call_type, named_call_type, parent_call_type, parents_call_type, expr_type}
+use Rattle.som_model.specs.Typing.{ClassFacts, CodePlace, ExprType, Of, PlainNil, Typed, needs, there, is_nothing, all_fit, value, value_of, values, local_type, own_variable, self_type, unary_type, binary_type, host_type, new_type, class_type, cast_type, isa_type, proxy_type, offset_call_type, named_call_type, parent_call_type, parents_call_type, expr_type}
 use Rattle.som_model.specs.Typing.{expr_step as typed_step}
 use Rattle.som_body.specs.declared.tree.ExprText.{ExprText, roll-ExprText, map-ExprText, ind-ExprText, fold-roll-ExprText}
 use Rattle.som_body.specs.declared.tree.ExprText.TheOpen.{ExprText-F}
 use Rattle.som_sema.specs.Home.{result_of}
 use Rattle.som_elab.specs.Locals.{Names, kinds_of, local_of}
 use Rattle.som_elab.specs.Methods.{Method, method_of, method_for, own_method, variable_place, parent_place}
-use Rattle.som_elab.specs.Expressions.{Among, Elab, Elaborated, binary_form, call_form, called_by, cast_form, class_form, class_named, dispatch_form, elaborated, elaborated_value, expr_step, exprs_of, facts_among, formed, host_form, isa_form, lookup_form, new_form, parent_form, parents_form, part, parts, proxy_form, types_of, unary_form, valued}
+use Rattle.som_elab.specs.Expressions.{Among, Elab, Elaborated, binary_form, call_form, called_by, cast_form, class_named, dispatch_form, elaborated, elaborated_value, expr_step, exprs_of, facts_among, formed, host_form, isa_form, lookup_form, parent_form, parents_form, part, parts, proxy_form, types_of, unary_form, valued}
 use Rattle.som_elab.proofs.Went.{both_steps, held, same_answer, went}
 
 is_false : (b : Bool) → not b ≡ true → b ≡ false

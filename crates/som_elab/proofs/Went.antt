@@ -1,7 +1,7 @@
 -- What steps came to that all went well.
-use Rattle.std.proofs.Common.{◌≡◌, ℕ, Bool, true, false, if◌then◌else◌, Option, Some, None, Result, Ok, Err, refl, ap, ◌∙◌}
+use Rattle.std.proofs.Common.{◌≡◌, ℕ, Bool, true, false, Result, Ok, Err, refl, ap, ◌∙◌}
 use Rattle.som_model.specs.Steps.{◌>>=◌}
-use Rattle.som_model.specs.Typing.{Ruled, needs, there}
+use Rattle.som_model.specs.Typing.{Ruled, needs}
 
 -- a step gave a value, and the next one went on with it
 pub record Went {A B E : Type 0} (x : Result A E) (next : A → Result B E) (r : B) : Type 0 where
