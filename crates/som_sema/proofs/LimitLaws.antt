@@ -1,78 +1,20 @@
--- The rule S14 of texts and the limits, from lists to plain words and back.
-use Rattle.std.proofs.Common.{◌≡◌, ◌↔◌, ℕ, zero, suc, ◌<◌, ◌≤◌, slice_index_or, inl, inr, Bool, true, false, if◌then◌else◌, nat_le, List, [], ◌∷◌, ◌++◌, length, map, flat_map, None, is_some, refl, sym, subst, arith, le-leb, leb-true}
+-- The limits, from lists to plain words and back.
+use Rattle.std.proofs.Common.{◌≡◌, ◌↔◌, ℕ, zero, suc, ◌<◌, ◌≤◌, slice_index_or, Bool, true, false, if◌then◌else◌, nat_le, List, [], ◌∷◌, ◌++◌, length, flat_map, None, refl, arith, le-leb, leb-true}
 use Rattle.std.specs.Prelude.{codes}
 use Rattle.som_model.specs.Lists.{Mem, first}
-use Rattle.som_model.specs.Class.{introduced}
 use Rattle.som_model.specs.declared.class.Sig.{Sig}
 use Rattle.som_model.specs.declared.class.Way.{Way}
 use Rattle.som_model.specs.declared.class.Entry.{Entry}
 use Rattle.som_model.specs.declared.class.Entry.TheVariants as entries
-use Rattle.som_model.specs.declared.class.Override.{Override}
 use Rattle.som_model.specs.declared.class.ClassDecl.{ClassDecl}
 use Rattle.som_model.specs.declared.limits.TheConstants.{MAX_ENTRIES, MAX_OVERRIDES, MAX_PARAMETERS, MAX_PARENTS, MAX_VARIABLES}
-use Rattle.som_read.specs.declared.tree.Word.{Word}
-use Rattle.som_read.specs.declared.tree.TypeName.{TypeName}
-use Rattle.som_idl.specs.declared.tree.IdlInterface.{IdlInterface}
-use Rattle.som_idl.specs.declared.tree.Export.TheVariants as exports
 use Rattle.som_verify.proofs.Before.{both_none, none_both}
 use Rattle.som_verify.proofs.Owners.{flat_none}
-use Rattle.som_verify.proofs.PlainLists.{map_mem, map_none, mem_map, none_flat, none_map}
-use Rattle.som_verify.proofs.PlainMoves.{mem_flat}
+use Rattle.som_verify.proofs.PlainLists.{none_flat}
 use Rattle.som_sema.specs.declared.sketch.Drawing.{Drawing}
-use Rattle.som_sema.specs.PlainReleases.{BodiesStand, IsAccessor, LimitsKept, a_getter, a_setter}
-use Rattle.som_sema.specs.Releases.{Access, Passed, accessors_of, at_most, attribute_accessors, body_of, class_limits, entry_limits, export_accessors, has_body, limit_passed, text_s14}
-use Rattle.som_sema.specs.Sketch.{Drawn, drawings, getter, setter, sketches}
-use Rattle.som_sema.specs.TextRules.{text_breach}
-use Rattle.som_sema.proofs.Accessing.{body_named, named_body}
-use Rattle.som_sema.proofs.Fitting.{both_flat, made}
-use Rattle.som_sema.proofs.TextBases.{demanded_text}
-use Rattle.som_sema.proofs.TextLaws.{says_text}
-
--- accessors
-
-abbrev named : Access → List ℕ
-named a = a.name
-
-is_accessor : (i : IdlInterface) (a : Access) (readonly : Bool) (kind : TypeName) (names : List Word) (w : Word) → Mem (exports.Attribute readonly kind names) (i.before ++ i.after) → Mem w names
-    → Mem a (attribute_accessors readonly w.text) → IsAccessor i a.name
-is_accessor i a readonly kind names w x n (inl e) = subst (λ (z : Access). IsAccessor i z.name) (sym e) (a_getter readonly kind names w x n)
-is_accessor i a true kind names w x n (inr k) = absurd k
-is_accessor i a false kind names w x n (inr (inl e)) = subst (λ (z : Access). IsAccessor i z.name) (sym e) (a_setter kind names w x n)
-is_accessor i a false kind names w x n (inr (inr k)) = absurd k
-
-accessor_says : (i : IdlInterface) (name : List ℕ) → Mem name (map named (accessors_of i)) → IsAccessor i name
-accessor_says i name m =
-    let r = map_mem named name (accessors_of i) m in
-    let d = made i r.0 r.1 in
-    subst (IsAccessor i) (sym r.2) (is_accessor i r.0 d.readonly d.kind d.names d.word d.export d.named d.is)
-
-made_there : (i : IdlInterface) (a : Access) (readonly : Bool) (kind : TypeName) (names : List Word) (w : Word) → Mem (exports.Attribute readonly kind names) (i.before ++ i.after) → Mem w names
-    → Mem a (attribute_accessors readonly w.text) → Mem a.name (map named (accessors_of i))
-made_there i a readonly kind names w x n m =
-    mem_map named a (accessors_of i)
-    (both_flat export_accessors a (exports.Attribute readonly kind names) i.before i.after x (mem_flat (λ (w : Word). attribute_accessors readonly w.text) a w names n m))
-
-says_accessor : (i : IdlInterface) (name : List ℕ) → IsAccessor i name → Mem name (map named (accessors_of i))
-says_accessor i _ (a_getter readonly kind names w x n) = made_there i (record { name = getter w.text; attribute = w.text; sets = false }) readonly kind names w x n (inl refl)
-says_accessor i _ (a_setter kind names w x n) = made_there i (record { name = setter w.text; attribute = w.text; sets = true }) false kind names w x n (inr (inl refl))
-
--- S14
-pub bodies_law : (ds : List Drawn) → (first (flat_map text_s14 ds) ≡ None) ↔ BodiesStand ds
-bodies_law ds =
-    let parts = λ (e : first (flat_map text_s14 ds) ≡ None) (d : Drawn) (m : Mem d ds).
-    none_both (flat_map (has_body d) (introduced d.class.face.entries)) (map (λ (o : Override). text_breach 14 d o.method.name) d.class.overrides) (flat_none text_s14 ds d e m) in (
-      (λ e. record {
-        introduced = λ d name m n.
-            accessor_says d.text name (body_named d name (demanded_text 14 d name (is_some (body_of d name)) (flat_none (has_body d) (introduced d.class.face.entries) name (parts e d m).0 n)));
-        overridden = λ d m. none_map (λ (o : Override). text_breach 14 d o.method.name) d.class.overrides (parts e d m).1;
-      }),
-      (λ r. none_flat text_s14 ds (λ d m.
-          both_none (flat_map (has_body d) (introduced d.class.face.entries)) (map (λ (o : Override). text_breach 14 d o.method.name) d.class.overrides)
-          (none_flat (has_body d) (introduced d.class.face.entries) (λ name n. says_text 14 d name (is_some (body_of d name)) (named_body d name (says_accessor d.text name (r.introduced d name m n)))))
-          (map_none (λ (o : Override). text_breach 14 d o.method.name) d.class.overrides (r.overridden d m)))),
-    )
-
--- limits
+use Rattle.som_sema.specs.PlainLimits.{LimitsKept}
+use Rattle.som_sema.specs.Limits.{Passed, at_most, class_limits, entry_limits, limit_passed}
+use Rattle.som_sema.specs.Sketch.{drawings, sketches}
 
 kept_by : (b : Bool) (p : Passed) → first (if b then [] else p ∷ []) ≡ None → b ≡ true
 kept_by true p e = refl

@@ -5,7 +5,7 @@ use Rattle.som_sema.specs.Sketch.{Drawn, drawings, seen}
 use Rattle.som_sema.specs.declared.sketch.Drawing.{Drawing}
 use Rattle.som_verify.specs.declared.types.VerifyFault.{VerifyFault}
 use Rattle.som_verify.specs.Told.{Tells}
-use Rattle.som_sema.proofs.breach.each_drawing.Given as goal
+use Rattle.som_sema.proofs.passes.each_drawing.Given as goal
 
 abbrev pub invariant-loop-place : goal.invariant-loop-place
 invariant-loop-place g l = (one : Drawn → List Breach)

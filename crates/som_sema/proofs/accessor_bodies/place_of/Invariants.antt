@@ -1,7 +1,7 @@
 use Rattle.std.proofs.Common.{◌≡◌, ◌+◌, drop, map}
 use Rattle.som_model.specs.declared.class.Variable.{Variable}
-use Rattle.som_sema.specs.Releases.{place_of}
-use Rattle.som_sema.proofs.bodies.place_of.Given as goal
+use Rattle.som_sema.specs.Accessors.{place_of}
+use Rattle.som_sema.proofs.accessor_bodies.place_of.Given as goal
 
 abbrev pub invariant-loop-variable : goal.invariant-loop-variable
 invariant-loop-variable l = record {
