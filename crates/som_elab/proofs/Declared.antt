@@ -34,11 +34,10 @@ use Rattle.som_sema.specs.Building.{after_base, declarations, declared_all, home
 use Rattle.som_sema.specs.Finished.{declare, entry_for, entry_or_moved, introducer}
 use Rattle.som_sema.specs.Home.{type_of}
 use Rattle.som_sema.specs.Items.{by_name}
-use Rattle.som_sema.specs.Releases.{beside}
 use Rattle.som_sema.specs.Sketch.{Drawn, accessors, drawn, export_entries, getter, introduces, setter, sketch, sketches, variables}
 use Rattle.som_sema.specs.TextRules.{text_s2_from, text_s4, text_s6, text_s11, text_s12}
 use Rattle.som_sema.proofs.TextLaws.{map_same, names_law}
-use Rattle.som_elab.specs.Bodies.{drawn_over, operation_name, operations}
+use Rattle.som_elab.specs.Bodies.{beside, drawn_over, operation_name, operations}
 use Rattle.som_elab.proofs.Fitting.{accessed, accessor_fits, both_flat}
 
 -- ---- the one of a name
