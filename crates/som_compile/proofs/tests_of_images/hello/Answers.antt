@@ -1,4 +1,4 @@
-use Rattle.std.proofs.Common.{◌≡◌, sym, ap, ◌∙◌}
+use Rattle.std.proofs.Common.{sym, ap, ◌∙◌}
 use Rattle.som_model.specs.declared.program.Interface.{Interface}
 use Rattle.som_verify.specs.Faces.{faces_breach}
 use Rattle.som_sema.proofs.Finishing.{base_is}
