@@ -7,6 +7,8 @@ mod expressions;
 mod fault;
 mod local;
 mod made;
+mod names;
+mod plain_statements;
 mod site;
 mod statements;
 
