@@ -1,0 +1,5 @@
+pub mod PartLaws
+pub mod MethodLaws
+pub mod NameLaws
+pub mod ElabLaws
+pub mod FormLaws

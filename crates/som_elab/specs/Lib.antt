@@ -5,3 +5,4 @@ pub mod Statements
 pub mod Bodies
 pub mod Elaboration
 pub mod Code
+pub mod Forms

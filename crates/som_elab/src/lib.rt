@@ -2,10 +2,17 @@
 #![tactic(auto)]
 
 mod build;
+mod calls;
 mod expressions;
 mod fault;
+mod leaves;
 mod local;
 mod made;
+mod methods;
+mod names;
+mod operators;
+mod parent_calls;
+mod parts;
 mod site;
 mod statements;
 
