@@ -3,3 +3,8 @@ pub mod Scoping
 pub mod TextForms
 pub mod TextSteps
 pub mod Parameters
+pub mod PartLaws
+pub mod MethodLaws
+pub mod NameLaws
+pub mod ElabLaws
+pub mod FormLaws

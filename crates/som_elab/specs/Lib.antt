@@ -6,3 +6,4 @@ pub mod Bodies
 pub mod Elaboration
 pub mod Code
 pub mod Stated
+pub mod Forms

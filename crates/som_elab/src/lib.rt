@@ -3,12 +3,19 @@
 
 mod body;
 mod build;
+mod calls;
 mod expressions;
 mod fault;
+mod leaves;
 mod local;
 mod made;
 mod names;
 mod plain_statements;
+mod methods;
+mod names;
+mod operators;
+mod parent_calls;
+mod parts;
 mod site;
 mod statements;
 
