@@ -8,3 +8,13 @@ pub mod Declared
 pub mod Signatures
 pub mod ClassBodies
 pub mod Conforms
+pub mod Stating
+pub mod Scoping
+pub mod TextForms
+pub mod TextSteps
+pub mod Parameters
+pub mod PartLaws
+pub mod MethodLaws
+pub mod NameLaws
+pub mod ElabLaws
+pub mod FormLaws
