@@ -1,6 +1,7 @@
 //! The named programs that texts stand for, or the first thing that is wrong with the texts.
 #![tactic(auto)]
 
+mod body;
 mod build;
 mod expressions;
 mod fault;
@@ -9,6 +10,7 @@ mod made;
 mod site;
 mod statements;
 
+pub use body::{main_body, method_body};
 pub use build::{build_release, elaborate};
 pub use expressions::{expression, value_expression};
 pub use fault::BodyFault;
