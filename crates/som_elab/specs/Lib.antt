@@ -5,3 +5,5 @@ pub mod Statements
 pub mod Bodies
 pub mod Elaboration
 pub mod Code
+pub mod Texts
+pub mod Grounds

@@ -1,14 +1,23 @@
 //! The named programs that texts stand for, or the first thing that is wrong with the texts.
 #![tactic(auto)]
 
+mod all_bodies;
 mod body;
 mod build;
+mod class_bodies;
+mod classes;
+mod counted_bodies;
 mod expressions;
 mod fault;
+mod ground;
 mod local;
 mod made;
+mod named_bodies;
+mod operations;
 mod site;
 mod statements;
+mod texts;
+mod whole;
 
 pub use body::{main_body, method_body};
 pub use build::{build_release, elaborate};
