@@ -4,6 +4,8 @@
 mod all_bodies;
 mod body;
 mod build;
+#[cfg(test)]
+mod cases;
 mod class_bodies;
 mod classes;
 mod counted_bodies;
@@ -16,6 +18,8 @@ mod named_bodies;
 mod operations;
 mod site;
 mod statements;
+#[cfg(test)]
+mod tests;
 mod texts;
 mod whole;
 
