@@ -5,3 +5,5 @@ pub mod BodyLaws
 pub mod Completing
 pub mod Grounding
 pub mod Wholes
+pub mod ClassSteps
+pub mod Programs

@@ -1,5 +1,5 @@
 -- Where the bodies of one class are looked at alone.
-use Rattle.std.proofs.Common.{◌≡◌, ℕ, Bool, true, false, ◌&&◌, ◌==◌, if◌then◌else◌, List, [], ◌∷◌, ◌++◌, length, flat_map, Option, Some, None, Result, Ok, Err, refl, sym, ap, ◌∙◌}
+use Rattle.std.proofs.Common.{◌≡◌, ℕ, Bool, true, false, ◌&&◌, ◌==◌, if◌then◌else◌, List, [], ◌∷◌, ◌++◌, length, flat_map, Option, Some, None, Result, Ok, Err, refl, sym, ap, ◌∙◌, subst}
 use Rattle.std.specs.Str.{bytes_eq}
 use Rattle.som_model.specs.declared.class.Sig.{Sig}
 use Rattle.som_model.specs.declared.class.Body.{Body}
@@ -7,17 +7,23 @@ use Rattle.som_model.specs.declared.class.Body.TheVariants as bodies
 use Rattle.som_model.specs.declared.class.Entry.{Entry}
 use Rattle.som_model.specs.declared.class.Entry.TheVariants as entries
 use Rattle.som_model.specs.declared.class.Override.{Override}
+use Rattle.som_model.specs.declared.class.ClassDecl.{ClassDecl}
+use Rattle.som_model.specs.Rules.{Breach}
 use Rattle.som_model.specs.Lists.{among, first}
 use Rattle.som_model.specs.Class.{Class, introduced}
 use Rattle.som_model.specs.Owner.{owner, sig_of}
 use Rattle.som_model.specs.Steps.{◌>>=◌}
 use Rattle.som_body.specs.declared.tree.BodyText.{BodyText}
+use Rattle.som_verify.specs.Told.{Tells}
+use Rattle.som_verify.specs.declared.types.VerifyFault.{VerifyFault}
+use Rattle.som_sema.specs.declared.types.Refused.{Refused}
 use Rattle.som_sema.specs.Accessors.{body_of}
 use Rattle.som_sema.specs.Sketch.{Drawn}
 use Rattle.som_sema.specs.TextRules.{text_demand}
 use Rattle.som_elab.specs.Bodies.{entry_has_one, has_one, operations, text_s14, texts_for}
 use Rattle.som_elab.specs.Expressions.{Among}
-use Rattle.som_elab.specs.Elaboration.{Refusal, entry_bodies, entry_body, override_block, override_blocks, text_block}
+use Rattle.som_elab.specs.declared.class_bodies.ClassBodies.{ClassBodies}
+use Rattle.som_elab.specs.Elaboration.{Answers, Refusal, entry_bodies, entry_body, override_block, override_blocks, text_block}
 use Rattle.som_elab.specs.Grounds.{class_steps}
 use Rattle.som_elab.specs.Texts.{of_class}
 
@@ -81,3 +87,15 @@ module _ (a : Among) (bs : List BodyText) (c : Class) where
   class_own d =
       ap (λ (z : Result (List Body) Refusal). z >>= λ own_bodies. override_blocks a own c d.class.overrides >>= λ others. Ok (record { bodies = own_bodies; overrides = others })) (entries_own d d.class.face.entries)
       ∙ ap (λ (z : Result (List Override) Refusal). entry_bodies a bs d c d.class.face.entries >>= λ own_bodies. z >>= λ others. Ok (record { bodies = own_bodies; overrides = others })) (overrides_own d.class.overrides)
+
+-- what is told of the bodies of one class is told of all bodies
+pub counted_told : (bs own shown : List BodyText) (d : Drawn) (name : List ℕ) (r : Result (Unit {0}) VerifyFault) → name ≡ d.class.face.name → own ≡ of_class bs name → shown ≡ own
+    → Tells (first (text_s14 shown d)) r → Tells (first (text_s14 bs d)) r
+counted_told bs own shown d name r named narrow same t =
+    subst (λ (z : List Breach). Tells (first z) r) (ap (λ (z : List BodyText). text_s14 z d) (same ∙ narrow ∙ ap (of_class bs) named) ∙ counted_own bs d) t
+
+pub class_told : (a : Among) (bs own shown : List BodyText) (d : Drawn) (c : Class) (name : List ℕ) (r : Result ClassBodies Refused) → c.decl ≡ d.class → name ≡ d.class.face.name → own ≡ of_class bs name → shown ≡ own
+    → Answers (class_steps a shown d c) r → Answers (class_steps a bs d c) r
+class_told a bs own shown d c name r is named narrow same t =
+    let whole : shown ≡ of_class bs c.decl.face.name = same ∙ narrow ∙ ap (of_class bs) (named ∙ ap (λ (z : ClassDecl). z.face.name) (sym is)) in
+    subst (λ (z : Result ClassBodies Refusal). Answers z r) (ap (λ (z : List BodyText). class_steps a z d c) whole ∙ class_own a bs c d) t
