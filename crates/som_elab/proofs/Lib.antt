@@ -7,3 +7,13 @@ pub mod Grounding
 pub mod Wholes
 pub mod ClassSteps
 pub mod Programs
+pub mod Went
+pub mod TypedExpressions
+pub mod TypedBodies
+pub mod Plain
+pub mod PlainRules
+pub mod Fitting
+pub mod Declared
+pub mod Signatures
+pub mod ClassBodies
+pub mod Conforms
