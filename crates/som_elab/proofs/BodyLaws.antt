@@ -31,6 +31,7 @@ use Rattle.som_elab.specs.declared.fault.BodyFault.{BodyFault}
 use Rattle.som_elab.specs.declared.fault.BodyFault.TheVariants as faults
 use Rattle.som_elab.specs.declared.ground.Ground.{Ground}
 use Rattle.som_elab.specs.Code.{Stops}
+use Rattle.som_elab.specs.Bodies.{texts_for}
 use Rattle.som_elab.specs.Expressions.{Among}
 use Rattle.som_elab.specs.Statements.{Told}
 use Rattle.som_elab.specs.Elaboration.{Answers, Refusal, elaborated_body, refused_at, text_block}
@@ -104,3 +105,11 @@ few_class cs few k sig name (Some c) is e = few_entry cs few c (found_mem (λ (x
 
 pub method_sig_few : (cs : List Class) → FewParameters cs → (r : MethodRef) (sig : Sig) → Some sig ≡ (class_facts cs).signature r → length sig.params ≤ MAX_PARAMETERS
 method_sig_few cs few r sig e = few_class cs few (owner cs r).class sig (owner cs r).name (class_at cs (owner cs r).class) refl (e ∙ signature_said cs r)
+
+-- the first text for a method is its body
+pub text_told : (a : Among) (c : Class) (name : List ℕ) (sig : Sig) (bs : List BodyText) (b : BodyText) (r : Result Block Refused) (class said member : List ℕ) → class ≡ c.decl.face.name → said ≡ name → member ≡ name
+    → Some b ≡ first (texts_for bs class said) → Answers (refused_at class member (elaborated_body a c sig b)) r → Answers (text_block a c name sig (texts_for bs c.decl.face.name name)) r
+text_told a c name sig bs b r class said member p q m e t =
+    one_text a c name sig (texts_for bs c.decl.face.name name) b r
+    (e ∙ ap (λ z. first (texts_for bs z said)) p ∙ ap (λ z. first (texts_for bs c.decl.face.name z)) q)
+    (subst (λ (z : List ℕ). Answers (refused_at c.decl.face.name z (elaborated_body a c sig b)) r) m (subst (λ (z : List ℕ). Answers (refused_at z member (elaborated_body a c sig b)) r) p t))
