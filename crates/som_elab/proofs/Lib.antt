@@ -1,3 +1,12 @@
+pub mod Gathering
+pub mod OwnTexts
+pub mod NamedClasses
+pub mod BodyLaws
+pub mod Completing
+pub mod Grounding
+pub mod Wholes
+pub mod ClassSteps
+pub mod Programs
 pub mod Went
 pub mod TypedExpressions
 pub mod TypedBodies

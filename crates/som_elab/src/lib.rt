@@ -1,11 +1,18 @@
 //! The named programs that texts stand for, or the first thing that is wrong with the texts.
 #![tactic(auto)]
 
+mod all_bodies;
 mod body;
 mod build;
 mod calls;
+#[cfg(test)]
+mod cases;
+mod class_bodies;
+mod classes;
+mod counted_bodies;
 mod expressions;
 mod fault;
+mod ground;
 mod laws;
 mod leaves;
 mod local;
@@ -16,8 +23,14 @@ mod operators;
 mod parent_calls;
 mod parts;
 mod plain_statements;
+mod named_bodies;
+mod operations;
 mod site;
 mod statements;
+#[cfg(test)]
+mod tests;
+mod texts;
+mod whole;
 
 pub use body::{main_body, method_body};
 pub use build::{build_release, elaborate};
