@@ -18,13 +18,13 @@ mod leaves;
 mod local;
 mod made;
 mod methods;
+mod named_bodies;
 mod names;
+mod operations;
 mod operators;
 mod parent_calls;
 mod parts;
 mod plain_statements;
-mod named_bodies;
-mod operations;
 mod site;
 mod statements;
 #[cfg(test)]
