@@ -27,3 +27,4 @@ pub mod MethodLaws
 pub mod NameLaws
 pub mod ElabLaws
 pub mod FormLaws
+pub mod Apart
