@@ -1,5 +1,5 @@
 -- Trees of bodies and mains whose words, numbers, literals, levels and statements are within their limits, as those of texts are.
-use Rattle.std.specs.Prelude.{ℕ, zero, suc, ◌<◌, ◌≤◌, ◌^◌, ⊤, List, length, All, Option, IfSome}
+use Rattle.std.specs.Prelude.{ℕ, zero, suc, ◌<◌, ◌≤◌, ◌^◌, ⊤, length, All, Option, IfSome}
 use Rattle.som_model.specs.declared.limits.TheConstants.{MAX_NAME, MAX_TEXT, MAX_NESTING}
 use Rattle.som_read.specs.declared.tree.TypeName.{TypeName}
 use Rattle.som_read.specs.declared.tree.TypeName.TheVariants as types
