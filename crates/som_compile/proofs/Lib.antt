@@ -1,6 +1,10 @@
+pub mod Counting
 pub mod Lexed
 pub mod ReadLaws
 pub mod ReleaseWithin
 pub mod CompileLaws
 pub mod FewTokens
 pub mod BlocksWithin
+pub mod Standing
+pub mod CompileLaws
+pub mod ClientLaws
