@@ -6,5 +6,4 @@ pub mod CompileLaws
 pub mod FewTokens
 pub mod BlocksWithin
 pub mod Standing
-pub mod CompileLaws
 pub mod ClientLaws
