@@ -36,7 +36,7 @@ pub fn expression(
             expr: Expr::Long(number.cast_signed()),
             kind: Kind::Long,
         }),
-        ExprText::Literal(text) => literal(alloc, text),
+        ExprText::Literal(value) => literal(alloc, value),
         ExprText::Boolean(value) => Ok(Made {
             expr: Expr::Boolean(*value),
             kind: Kind::Boolean,
