@@ -1,19 +1,21 @@
 -- What a call comes to, by what its parts come to.
 use Rattle.std.proofs.Common.{◌≡◌, ℕ, List, map, Option, Result, Ok, sym, ap, ◌∙◌, subst}
+use Rattle.som_model.specs.declared.key.ValueType.TheVariants as types
+use Rattle.som_model.specs.declared.syntax.Expr.TheVariants as exprs
 use Rattle.som_model.specs.Class.{Class}
 use Rattle.som_model.specs.Steps.{◌>>=◌}
-use Rattle.som_model.specs.Typing.{CodePlace}
+use Rattle.som_model.specs.Typing.{CodePlace, Of}
 use Rattle.som_verify.specs.declared.code_place.TypeFault.{TypeFault}
 use Rattle.som_verify.proofs.KindLaws.{part_there}
 use Rattle.som_read.specs.declared.tree.TypeName.{TypeName}
 use Rattle.som_read.specs.declared.tree.Word.{Word}
 use Rattle.som_body.specs.declared.tree.ExprText.{ExprText, fold-roll-ExprText}
 use Rattle.som_body.specs.declared.tree.ExprText.TheVariants as texts
-use Rattle.som_body.specs.declared.tree.ExprText.TheVariants.{rolls-Call, rolls-Lookup, rolls-Dispatch, rolls-Parent, rolls-Parents}
+use Rattle.som_body.specs.declared.tree.ExprText.TheVariants.{rolls-Literal, rolls-Call, rolls-Lookup, rolls-Dispatch, rolls-Parent, rolls-Parents}
 use Rattle.som_body.specs.declared.tree.ExprText.TheOpen.{ExprText-F}
 use Rattle.som_elab.specs.declared.made.Made.{Made}
 use Rattle.som_elab.specs.Locals.{Names}
-use Rattle.som_elab.specs.Expressions.{Among, Elab, Elaborated, call_form, dispatch_form, elaborated, expr_step, lookup_form, parent_form, parents_form, part, parts}
+use Rattle.som_elab.specs.Expressions.{Among, Elab, Elaborated, call_form, dispatch_form, elaborated, expr_step, formed, lookup_form, parent_form, parents_form, part, parts}
 use Rattle.som_elab.specs.Code.{Makes}
 use Rattle.som_elab.specs.Forms.{of_all}
 
@@ -24,6 +26,9 @@ makes_as cs elab e x form r is same makes = subst (λ z. Makes cs z r) (sym (ap 
 module _ (a : Among) (at : CodePlace) (scope : Names) where
   abbrev T : ExprText → Elab
   T e = elaborated a at scope e
+
+  pub literal_elab : (t : List ℕ) → T (texts.Literal t) ≡ formed (exprs.Str t) (Ok (Of types.Str))
+  literal_elab t = ap T (sym (rolls-Literal t)) ∙ fold-roll-ExprText Elab (expr_step a at scope) (ExprText-F.Literal t)
 
   call_elab : (e : ExprText) (w : Word) (es : List ExprText) → T (texts.Call e w es) ≡ (part (T e) >>= λ on. parts (map T es) >>= call_form a on w.text)
   call_elab e w es = ap T (sym (rolls-Call e w es)) ∙ fold-roll-ExprText Elab (expr_step a at scope) (ExprText-F.Call e w es)

@@ -1,5 +1,5 @@
 -- Forms by the parts that they are made of.
-use Rattle.std.proofs.Common.{◌≡◌, ℕ, List, map, Option, Some, None, Result, Ok, Err, sym, ap, ◌∙◌, subst}
+use Rattle.std.proofs.Common.{◌≡◌, ℕ, Bool, true, false, List, map, Option, Some, None, Result, Ok, Err, sym, ap, ◌∙◌, subst}
 use Rattle.som_model.specs.declared.key.ClassKey.{ClassKey}
 use Rattle.som_model.specs.declared.key.MethodRef.{MethodRef}
 use Rattle.som_model.specs.declared.key.ValueType.{ValueType}
@@ -8,19 +8,17 @@ use Rattle.som_model.specs.declared.syntax.Expr.{Expr}
 use Rattle.som_model.specs.declared.syntax.Expr.TheVariants as exprs
 use Rattle.som_model.specs.Class.{Class}
 use Rattle.som_model.specs.Steps.{◌>>=◌}
-use Rattle.som_model.specs.Typing.{ClassFacts, CodePlace, ExprType, Ruled, there, cast_type, class_type, isa_type, named_call_type, new_type, offset_call_type, parent_call_type, parents_call_type, proxy_type}
+use Rattle.som_model.specs.Typing.{ClassFacts, CodePlace, ExprType, all_fit, needs, there, cast_type, class_type, isa_type, named_call_type, new_type, offset_call_type, parent_call_type, parents_call_type, proxy_type}
 use Rattle.som_verify.specs.declared.kind.Kind.{Kind}
 use Rattle.som_verify.specs.declared.code_place.TypeFault.{TypeFault}
 use Rattle.som_verify.specs.Kinds.{kind_at}
-use Rattle.som_verify.specs.Places.{key_at}
 use Rattle.som_elab.specs.declared.made.Made.{Made}
-use Rattle.som_elab.specs.declared.methods.Found.{Found}
 use Rattle.som_elab.specs.declared.parts.Parts.{Parts}
 use Rattle.som_elab.specs.Methods.{Method, method_for, method_of, own_method, parent_place}
-use Rattle.som_elab.specs.Expressions.{Among, Elab, Elaborated, call_form, called_by, cast_form, class_form, class_named, facts_among, formed, isa_form, new_form, parent_form, parents_form, proxy_form}
+use Rattle.som_elab.specs.Expressions.{Among, Elab, Elaborated, call_form, called_by, cast_form, class_form, class_named, facts_among, formed, isa_form, new_form, parent_form, parents_form, proxy_form, types_of}
 use Rattle.som_elab.specs.Code.{Makes}
-use Rattle.som_elab.specs.Forms.{AreParts, dispatch_by, lookup_by, method_at, offset_by, parent_by, parents_by, parts_at}
-use Rattle.som_elab.proofs.PartLaws.{with_parts}
+use Rattle.som_elab.specs.Forms.{AreParts, dispatch_by, lookup_by, offset_by, parent_by, parent_from, parents_by, parts_at}
+use Rattle.som_elab.proofs.PartLaws.{types_back, with_parts}
 
 -- ---- classes that are named
 
@@ -91,37 +89,62 @@ module _ (cs : List Class) (w : ClassFacts) (args : Parts) (ks : List Kind) (r :
       (subst (λ z. Makes cs (formed (exprs.ParentsCall z args.exprs) (parents_call_type w at z (map (kind_at cs) args.kinds.items))) r) is
       (by_kinds (λ ts. formed (exprs.ParentsCall method args.exprs) (parents_call_type w at method ts)) m))
 
+  -- a call by name of a method that was declared so asks for arguments that fit
+  fit_is : (params qs : List ValueType) (b : Bool) → qs ≡ params → b ≡ all_fit w qs (map (kind_at cs) ks) → b ≡ all_fit w params (types_of (parts_at cs args))
+  fit_is params qs b is e =
+      e ∙ ap (λ z. all_fit w z (map (kind_at cs) ks)) is
+      ∙ ap (λ z. all_fit w params (map (kind_at cs) z)) kinds
+      ∙ ap (λ z. all_fit w params z) (sym (types_back cs args.exprs args.kinds.items are.long))
+
+  pub fitting_made : (m : Method) (on : Elaborated) (answer : ValueType) (qs : List ValueType) (b : Bool) → qs ≡ m.sig.params → b ≡ all_fit w qs (map (kind_at cs) ks) → b ≡ true → answer ≡ m.sig.result
+      → Makes cs (lookup_by w answer on m.ref.name (parts_at cs args)) r → Makes cs (called_by w on (parts_at cs args) m ways.Lookup) r
+  fitting_made m on answer qs b is e holds ans makes =
+      subst (λ z. Makes cs (needs 18 z (lookup_by w m.sig.result on m.ref.name (parts_at cs args))) r) (sym holds ∙ fit_is m.sig.params qs b is e)
+      (subst (λ z. Makes cs (lookup_by w z on m.ref.name (parts_at cs args)) r) ans makes)
+
+  pub fitting_fails : (m : Method) (on : Elaborated) (qs : List ValueType) (b : Bool) → qs ≡ m.sig.params → b ≡ all_fit w qs (map (kind_at cs) ks) → b ≡ false → called_by w on (parts_at cs args) m ways.Lookup ≡ Err 18
+  fitting_fails m on qs b is e fails = ap (λ z. needs 18 z (lookup_by w m.sig.result on m.ref.name (parts_at cs args))) (sym (fit_is m.sig.params qs b is e) ∙ fails)
+
 -- ---- methods that are found
 
-module _ (cs : List Class) (a : Among) (r : Result Made TypeFault) where
+module _ (cs : List Class) (a : Among) where
   abbrev by_way : Elaborated → List Elaborated → Method → Elab
   by_way on ps m = called_by (facts_among a) on ps m m.way
 
-  pub call_found_is : (on : Elaborated) (name : List ℕ) (ps : List Elaborated) (m : Method) → method_for a.classes on.type name ≡ Some m → Makes cs (called_by (facts_among a) on ps m m.way) r → Makes cs (call_form a on name ps) r
-  call_found_is on name ps m e makes = subst (λ o. Makes cs (there 16 o >>= by_way on ps) r) (sym e) makes
+  abbrev by_all : CodePlace → List Elaborated → Method → Elab
+  by_all at ps m = parents_by (facts_among a) at m.ref ps
 
-  pub parents_found_is : (at : CodePlace) (name : List ℕ) (ps : List Elaborated) (m : Method) → own_method a.classes at.class name ≡ Some m → Makes cs (parents_by (facts_among a) at m.ref ps) r → Makes cs (parents_form a at name ps) r
-  parents_found_is at name ps m e makes = subst (λ o. Makes cs (there 16 o >>= λ (m : Method). parents_by (facts_among a) at m.ref ps) r) (sym e) makes
+  abbrev by_one : CodePlace → ℕ → List Elaborated → Method → Elab
+  by_one at n ps m = parent_by (facts_among a) at n m.ref ps
 
-  abbrev by_parent : CodePlace → ClassKey → List ℕ → List Elaborated → ℕ → Elab
-  by_parent at k name ps n = there 16 (method_of a.classes k name) >>= λ (m : Method). parent_by (facts_among a) at n m.ref ps
+  pub call_missing : (on : Elaborated) (name : List ℕ) (ps : List Elaborated) → method_for a.classes on.type name ≡ None → call_form a on name ps ≡ Err 16
+  call_missing on name ps e = ap (λ o. there 16 o >>= by_way on ps) e
 
-  pub parent_found_is : (at : CodePlace) (parent name : List ℕ) (k : ClassKey) (ps : List Elaborated) (n : ℕ) (m : Method) → k ≡ class_named a parent → Some n ≡ parent_place at.class k → method_of a.classes k name ≡ Some m
-      → Makes cs (parent_by (facts_among a) at n m.ref ps) r → Makes cs (parent_form a at parent name ps) r
-  parent_found_is at parent name k ps n m is place e makes =
-      subst (λ z. Makes cs (there 16 (parent_place at.class z) >>= by_parent at z name ps) r) is
-      (subst (λ o. Makes cs (there 16 o >>= by_parent at k name ps) r) place
-      (subst (λ o. Makes cs (there 16 o >>= λ (m : Method). parent_by (facts_among a) at n m.ref ps) r) (sym e) makes))
+  pub parents_missing : (at : CodePlace) (name : List ℕ) (ps : List Elaborated) → own_method a.classes at.class name ≡ None → parents_form a at name ps ≡ Err 16
+  parents_missing at name ps e = ap (λ o. there 16 o >>= by_all at ps) e
 
-module _ (a : Among) (at : CodePlace) (parent name : List ℕ) (k : ClassKey) (ps : List Elaborated) (is : k ≡ class_named a parent) where
-  abbrev from_parent : ℕ → Elab
-  from_parent n = there 16 (method_of a.classes k name) >>= λ (m : Method). parent_by (facts_among a) at n m.ref ps
+  pub method_missing : (at : CodePlace) (k j : ClassKey) (name : List ℕ) (ps : List Elaborated) (n : ℕ) → j ≡ k → method_of a.classes j name ≡ None → parent_from a at k name ps n ≡ Err 16
+  method_missing at k j name ps n is e = ap (λ z. parent_from a at z name ps n) (sym is) ∙ ap (λ o. there 16 o >>= by_one at n ps) e
 
-  abbrev whole : ClassKey → Elab
-  whole z = there 16 (parent_place at.class z) >>= λ n. there 16 (method_of a.classes z name) >>= λ (m : Method). parent_by (facts_among a) at n m.ref ps
+  pub no_parent : (at : CodePlace) (parent name : List ℕ) (k : ClassKey) (ps : List Elaborated) → k ≡ class_named a parent → None ≡ parent_place at.class k → parent_form a at parent name ps ≡ Err 16
+  no_parent at parent name k ps is e =
+      sym (ap (λ z. there 16 (parent_place at.class z) >>= parent_from a at z name ps) is) ∙ ap (λ o. there 16 o >>= parent_from a at k name ps) (sym e)
 
-  pub no_parent : None ≡ parent_place at.class k → parent_form a at parent name ps ≡ Err 16
-  no_parent e = sym (ap whole is) ∙ ap (λ o. there 16 o >>= from_parent) (sym e)
+  module _ (r : Result Made TypeFault) where
+    pub call_found_is : (on : Elaborated) (name : List ℕ) (ps : List Elaborated) (m : Method) → method_for a.classes on.type name ≡ Some m → Makes cs (called_by (facts_among a) on ps m m.way) r → Makes cs (call_form a on name ps) r
+    call_found_is on name ps m e makes = subst (λ o. Makes cs (there 16 o >>= by_way on ps) r) (sym e) makes
 
-  pub no_method : (n : ℕ) → Some n ≡ parent_place at.class k → method_of a.classes k name ≡ None → parent_form a at parent name ps ≡ Err 16
-  no_method n place e = sym (ap whole is) ∙ ap (λ o. there 16 o >>= from_parent) (sym place) ∙ ap (λ o. there 16 o >>= λ (m : Method). parent_by (facts_among a) at n m.ref ps) e
+    pub parents_found_is : (at : CodePlace) (name : List ℕ) (ps : List Elaborated) (m : Method) → own_method a.classes at.class name ≡ Some m → Makes cs (parents_by (facts_among a) at m.ref ps) r → Makes cs (parents_form a at name ps) r
+    parents_found_is at name ps m e makes = subst (λ o. Makes cs (there 16 o >>= by_all at ps) r) (sym e) makes
+
+    pub method_found : (at : CodePlace) (k j : ClassKey) (name : List ℕ) (ps : List Elaborated) (n : ℕ) (m : Method) → j ≡ k → method_of a.classes j name ≡ Some m
+        → Makes cs (parent_by (facts_among a) at n m.ref ps) r → Makes cs (parent_from a at k name ps n) r
+    method_found at k j name ps n m is e makes =
+        subst (λ z. Makes cs (parent_from a at z name ps n) r) is
+        (subst (λ o. Makes cs (there 16 o >>= by_one at n ps) r) (sym e) makes)
+
+    pub parent_placed : (at : CodePlace) (parent name : List ℕ) (k : ClassKey) (ps : List Elaborated) (n : ℕ) → k ≡ class_named a parent → Some n ≡ parent_place at.class k
+        → Makes cs (parent_from a at k name ps n) r → Makes cs (parent_form a at parent name ps) r
+    parent_placed at parent name k ps n is place makes =
+        subst (λ z. Makes cs (there 16 (parent_place at.class z) >>= parent_from a at z name ps) r) is
+        (subst (λ o. Makes cs (there 16 o >>= parent_from a at k name ps) r) place makes)

@@ -1,5 +1,5 @@
 -- The places of locals, variables and parents, and what stands there.
-use Rattle.std.proofs.Common.{◌≡◌, ℕ, zero, suc, ◌<◌, Bool, true, false, if◌then◌else◌, inl, inr, List, [], ◌∷◌, map, length, slice_get, slice_index_or, Option, Some, None, is_some, Result, Ok, Err, refl, sym, ap, ◌∙◌, subst, true≢false, arith}
+use Rattle.std.proofs.Common.{◌≡◌, ℕ, zero, suc, ◌<◌, Bool, true, false, if◌then◌else◌, inl, inr, List, [], ◌∷◌, drop, length, slice_get, slice_index_or, Option, Some, None, is_some, Result, Ok, Err, refl, sym, ap, ◌∙◌, subst, true≢false, drop-cons, arith}
 use Rattle.std.specs.Str.{bytes_eq}
 use Rattle.som_model.specs.declared.key.ClassKey.{ClassKey}
 use Rattle.som_model.specs.declared.key.ValueType.{ValueType}
@@ -27,6 +27,15 @@ use Rattle.som_elab.specs.Methods.{parent_place, variable_place}
 use Rattle.som_elab.specs.Expressions.{Elab, Elaborated, formed, local_form, variable_form}
 use Rattle.som_elab.specs.Code.{AreLocals, Makes, names_at}
 use Rattle.som_elab.specs.Forms.{local_place, of_kind}
+
+-- ---- places
+
+-- what fails the test is passed over
+pub place_skips : {A : Type 0} (test : A → Bool) (xs : List A) (i j : ℕ) (d : A) → j ≡ suc i → i < length xs → test (slice_index_or xs i d) ≡ false
+    → place_from j test (drop j xs) ≡ place_from i test (drop i xs)
+place_skips test xs i j d next lt fails =
+    ap (λ z. place_from z test (drop z xs)) next
+    ∙ sym (ap (place_from i test) (drop-cons xs i d lt) ∙ ap (λ b. if b then Some i else place_from (suc i) test (drop (suc i) xs)) fails)
 
 -- ---- types that are kinds
 

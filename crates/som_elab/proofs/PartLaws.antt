@@ -7,14 +7,15 @@ use Rattle.som_model.specs.Steps.{◌>>=◌}
 use Rattle.som_model.specs.Typing.{ExprType, Ruled, Typed}
 use Rattle.som_verify.specs.declared.kind.Kind.{Kind}
 use Rattle.som_verify.specs.declared.code_place.TypeFault.{TypeFault}
-use Rattle.som_verify.specs.Kinds.{AllStand, Stands, kind_at}
+use Rattle.som_verify.specs.declared.code_place.TypeFault.TheVariants as faults
+use Rattle.som_verify.specs.Kinds.{AllStand, Fails, Stands, kind_at}
 use Rattle.som_verify.proofs.KindLaws.{all_stand_more, part_there}
 use Rattle.som_body.specs.declared.tree.ExprText.{ExprText}
 use Rattle.som_elab.specs.declared.made.Made.{Made}
 use Rattle.som_elab.specs.declared.parts.Parts.{Parts}
-use Rattle.som_elab.specs.Expressions.{Elab, Elaborated, exprs_of, formed, part, parts, types_of}
+use Rattle.som_elab.specs.Expressions.{Elab, Elaborated, exprs_of, formed, part, parts, types_of, valued}
 use Rattle.som_elab.specs.Code.{Makes, made_at}
-use Rattle.som_elab.specs.Forms.{Adds, AreMade, AreParts, parts_at, typed_parts}
+use Rattle.som_elab.specs.Forms.{Adds, AreParts, of_one, parts_at, typed_parts}
 
 -- ---- expressions and their types
 
@@ -23,7 +24,7 @@ exprs_back cs [] ks long = refl
 exprs_back cs (e ∷ es) [] long = absurd (omega (arith, long))
 exprs_back cs (e ∷ es) (k ∷ ks) long = ap (λ z. e ∷ z) (exprs_back cs es ks (omega (arith, long)))
 
-types_back : (cs : List Class) (es : List Expr) (ks : List Kind) → length es ≡ length ks → types_of (typed_parts cs es ks) ≡ map (kind_at cs) ks
+pub types_back : (cs : List Class) (es : List Expr) (ks : List Kind) → length es ≡ length ks → types_of (typed_parts cs es ks) ≡ map (kind_at cs) ks
 types_back cs [] [] long = refl
 types_back cs [] (k ∷ ks) long = absurd (omega (arith, long))
 types_back cs (e ∷ es) [] long = absurd (omega (arith, long))
@@ -47,9 +48,9 @@ adds cs p m q es ks are stands =
     let two = long_more p.kinds.items m.kind in
     record {
       parts =
-        ap (λ z. typed_parts cs z q.kinds.items) es
-        ∙ ap (λ z. typed_parts cs (p.exprs ++ m.expr ∷ []) z) ks
-        ∙ typed_more cs p.exprs p.kinds.items m.expr m.kind are.long;
+          ap (λ z. typed_parts cs z q.kinds.items) es
+          ∙ ap (λ z. typed_parts cs (p.exprs ++ m.expr ∷ []) z) ks
+          ∙ typed_more cs p.exprs p.kinds.items m.expr m.kind are.long;
       are = record {
         stand = subst (AllStand cs) (sym ks) (all_stand_more cs p.kinds.items m.kind are.stand stands);
         long = ap length es ∙ one ∙ ap suc are.long ∙ sym two ∙ ap length (sym ks);
@@ -81,7 +82,31 @@ module _ (cs : List Class) (elab : ExprText → Elab) (es : List ExprText) (give
       ∙ ap (λ z. after_parts z (parts (map elab (drop (suc i) es)))) (sym pushed)
       ∙ ap (λ z. after_parts more (parts (map elab (drop z es)))) (sym next)
 
+  -- a part fails, and nothing after it is looked at
+  pub parts_fail : (e : ExprText) (fault : TypeFault) → i < length es → e ≡ slice_index_or es i e → Fails (part (elab e)) fault → Fails (parts (map elab es)) fault
+  parts_fail e (faults.Rule rule) lt is told =
+      before
+      ∙ ap (λ z. after_parts given (parts (map elab z))) (drop_at es i e lt is)
+      ∙ ap (λ z. after_parts given (z >>= λ p. parts (map elab (drop (suc i) es)) >>= λ ps. Ok (p ∷ ps))) told
+  parts_fail e faults.NoMemory lt is told = told
+
+none_seen : (rest : Ruled (List Elaborated)) → rest ≡ after_parts [] rest
+none_seen (Ok ps) = refl
+none_seen (Err rule) = refl
+
+-- no part is made so far
+pub parts_start : (given : List Elaborated) (rest : Ruled (List Elaborated)) → given ≡ [] → rest ≡ after_parts given rest
+parts_start given rest none = subst (λ z. rest ≡ after_parts z rest) (sym none) (none_seen rest)
+
 -- ---- forms
+
+-- where a part is made, the rest decides
+pub part_goes_on : (cs : List Class) (e : Elab) (p : Elaborated) (r : Result Made TypeFault) → e ≡ Ok p → Makes cs (valued p) r → Makes cs (part e) r
+part_goes_on cs e p r is m = subst (λ z. Makes cs (z >>= valued) r) (sym is) m
+
+pub one_goes_on : (cs : List Class) (e x : ExprText) (elab : ExprText → Elab) (form : Elaborated → Elab) (p : Elaborated) (r : Result Made TypeFault) → e ≡ x → part (elab e) ≡ Ok p
+    → Makes cs (form p) r → Makes cs (of_one (elab x) form) r
+one_goes_on cs e x elab form p r is made m = subst (λ z. Makes cs (z >>= form) r) (sym (ap (λ z. part (elab z)) (sym is) ∙ made)) m
 
 -- an expression that is another comes to the same
 pub form_as : (cs : List Class) (e x : Expr) (type : Typed) (r : Result Made TypeFault) → e ≡ x → Makes cs (formed e type) r → Makes cs (formed x type) r

@@ -11,7 +11,7 @@ use Rattle.som_model.specs.Class.{Class}
 use Rattle.som_model.specs.Lists.{find, place_from}
 use Rattle.som_model.specs.Owner.{introduces}
 use Rattle.som_model.specs.Steps.{◌>>=◌}
-use Rattle.som_model.specs.Typing.{ClassFacts, CodePlace, Of, Ruled, Typed, named_call_type, offset_call_type, parent_call_type, parents_call_type}
+use Rattle.som_model.specs.Typing.{ClassFacts, CodePlace, Of, Ruled, Typed, named_call_type, offset_call_type, parent_call_type, parents_call_type, there}
 use Rattle.som_verify.specs.declared.kind.Kind.{Kind}
 use Rattle.som_verify.specs.Kinds.{AllStand, kind_at}
 use Rattle.som_verify.specs.Knowing.{facts_of}
@@ -22,8 +22,8 @@ use Rattle.som_elab.specs.declared.made.Made.{Made}
 use Rattle.som_elab.specs.declared.methods.Found.{Found}
 use Rattle.som_elab.specs.declared.parts.Parts.{Parts}
 use Rattle.som_elab.specs.declared.site.Site.{Site}
-use Rattle.som_elab.specs.Methods.{Method, introduced_method, method_by}
-use Rattle.som_elab.specs.Expressions.{Elab, Elaborated, elaborated, exprs_of, formed, part, parts, types_of}
+use Rattle.som_elab.specs.Methods.{Method, introduced_method, method_by, method_of}
+use Rattle.som_elab.specs.Expressions.{Among, Elab, Elaborated, elaborated, exprs_of, facts_among, formed, part, parts, types_of}
 use Rattle.som_elab.specs.Code.{among_at, classes_at, made_at, names_at, place_at}
 
 -- the facts of the classes
@@ -100,6 +100,10 @@ dispatch_by w answer on name args = formed (exprs.Dispatch answer name on.expr (
 -- a call of a parent's method, where both are found
 abbrev pub parent_by : ClassFacts → CodePlace → ℕ → MethodRef → List Elaborated → Elab
 parent_by w at n r args = formed (exprs.ParentCall n r (exprs_of args)) (parent_call_type w at n r (types_of args))
+
+-- the same of a parent by its key and its place
+abbrev pub parent_from : Among → CodePlace → ClassKey → List ℕ → List Elaborated → ℕ → Elab
+parent_from a at k name args n = there 16 (method_of a.classes k name) >>= λ m. parent_by (facts_among a) at n m.ref args
 
 -- the same of all parents
 abbrev pub parents_by : ClassFacts → CodePlace → MethodRef → List Elaborated → Elab

@@ -36,7 +36,7 @@ pub fn expression(
             expr: Expr::Long(number.cast_signed()),
             kind: Kind::Long,
         }),
-        ExprText::Literal(text) => literal(alloc, text),
+        ExprText::Literal(value) => literal(alloc, value),
         ExprText::Boolean(value) => Ok(Made {
             expr: Expr::Boolean(*value),
             kind: Kind::Boolean,
@@ -96,7 +96,14 @@ pub fn expression(
             parent,
             method,
             args,
-        } => parent_text(alloc, site, locals, args, parent.text.as_slice(), &method.text),
+        } => parent_text(
+            alloc,
+            site,
+            locals,
+            args,
+            parent.text.as_slice(),
+            &method.text,
+        ),
         ExprText::Parents { method, args } => {
             parents_text(alloc, site, locals, args, &method.text)
         }

@@ -1,6 +1,6 @@
 ghost use Rattle.som_elab.specs.Code.{IsSite, Makes, among_at, classes_at, place_at};
 ghost use Rattle.som_elab.specs.Expressions as spec;
-ghost use Rattle.som_elab.specs.Forms.{AreParts, facts_at, parent_by, parents_by, parts_at};
+ghost use Rattle.som_elab.specs.Forms.{AreParts, facts_at, parent_by, parent_from, parents_by, parts_at};
 ghost use Rattle.som_elab.specs.Methods as methods;
 ghost use Rattle.som_verify.specs.Kinds.{PlaceStands, code_at};
 ghost use Rattle.som_verify.specs.Knowing.{IsKnowledge, all_of};
@@ -30,10 +30,27 @@ pub fn parent_call(
     ensures { Makes (classes_at site.now) (spec.parent_form (among_at site.now) (place_at site.now) parent.now name.now (parts_at (classes_at site.now) args)) result }
 {
     let key = key_of(alloc, site.scope, parent)?;
-    let Some(number) = parent_place(&site.known, &site.at, &key) else {
-        return Err(TypeFault::Rule(16));
-    };
-    let class = class_of_parent(&site.known, &site.at, &key);
+    match parent_place(&site.known, &site.at, &key) {
+        None => Err(TypeFault::Rule(16)),
+        Some(number) => call_parent(alloc, site, number, &key, name, args),
+    }
+}
+
+// The same of a parent by its key and its place.
+fn call_parent(
+    alloc: Global,
+    site: &Site,
+    number: u8,
+    parent: &ClassKey,
+    name: &Text,
+    args: Parts,
+) -> Result<Made, TypeFault>
+    requires site { IsSite site.now }
+    requires parent { is_some (methods.parent_place (place_at site.now).class parent.now) ≡ true }
+    requires args { AreParts (classes_at site.now) args }
+    ensures { Makes (classes_at site.now) (parent_from (among_at site.now) (place_at site.now) parent.now name.now (parts_at (classes_at site.now) args) number) result }
+{
+    let class = class_of_parent(&site.known, &site.at, parent);
     match method_of(&site.known, class, name) {
         None => Err(TypeFault::Rule(16)),
         Some(method) => call_at(alloc, site, number, name, args, method.class),
@@ -88,12 +105,7 @@ fn call_at(
 }
 
 /// A call of the method that all parents have.
-pub fn parents_call(
-    alloc: Global,
-    site: &Site,
-    name: &Text,
-    args: Parts,
-) -> Result<Made, TypeFault>
+pub fn parents_call(alloc: Global, site: &Site, name: &Text, args: Parts) -> Result<Made, TypeFault>
     requires site { IsSite site.now }
     requires args { AreParts (classes_at site.now) args }
     ensures { Makes (classes_at site.now) (spec.parents_form (among_at site.now) (place_at site.now) name.now (parts_at (classes_at site.now) args)) result }
