@@ -9,13 +9,12 @@ mod fault;
 mod leaves;
 mod local;
 mod made;
-mod names;
-mod plain_statements;
 mod methods;
 mod names;
 mod operators;
 mod parent_calls;
 mod parts;
+mod plain_statements;
 mod site;
 mod statements;
 
