@@ -1,4 +1,9 @@
+pub mod Counting
 pub mod Lexed
 pub mod ReadLaws
 pub mod ReleaseWithin
 pub mod CompileLaws
+pub mod FewTokens
+pub mod BlocksWithin
+pub mod Standing
+pub mod ClientLaws

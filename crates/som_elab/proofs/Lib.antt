@@ -1,3 +1,22 @@
+pub mod Gathering
+pub mod OwnTexts
+pub mod NamedClasses
+pub mod BodyLaws
+pub mod Completing
+pub mod Grounding
+pub mod Wholes
+pub mod ClassSteps
+pub mod Programs
+pub mod Went
+pub mod TypedExpressions
+pub mod TypedBodies
+pub mod Plain
+pub mod PlainRules
+pub mod Fitting
+pub mod Declared
+pub mod Signatures
+pub mod ClassBodies
+pub mod Conforms
 pub mod Stating
 pub mod Scoping
 pub mod TextForms
@@ -8,3 +27,4 @@ pub mod MethodLaws
 pub mod NameLaws
 pub mod ElabLaws
 pub mod FormLaws
+pub mod Apart

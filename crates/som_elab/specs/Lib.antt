@@ -7,3 +7,5 @@ pub mod Elaboration
 pub mod Code
 pub mod Stated
 pub mod Forms
+pub mod Texts
+pub mod Grounds

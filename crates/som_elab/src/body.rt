@@ -24,10 +24,10 @@ use std::alloc::Global;
 
 /// The block that a text has for a method of the class at a place, or what is first wrong with it: a parameter with the
 /// name of one before, and then the statements.
-pub fn method_body<'a>(
+pub fn method_body(
     alloc: Global,
-    known: &Knowledge<'a>,
-    scope: &'a Scope<'a, 'a, 'a>,
+    known: &Knowledge,
+    scope: &Scope,
     class: usize,
     sig: &Sig,
     text: &BodyText,
@@ -36,8 +36,7 @@ pub fn method_body<'a>(
     requires class { IsDeclared (all_of known.now) class }
     requires fits { ClassFits (all_of known.now) (Some class) }
     requires sig { sig_is_known (all_of known.now) sig.now ≡ true }
-    requires params { length text.now.params ≡ length sig.now.params }
-    requires few { length text.now.params ≤ MAX_PARAMETERS }
+    requires few { length sig.now.params ≤ MAX_PARAMETERS }
     ensures { Blocks (elaborated_body (among_by known.now scope.now) (class_of_place (all_of known.now) class) sig.now text.now) result }
 {
     let types = sig.params.as_slice();
@@ -82,10 +81,10 @@ fn parameters<'a>(
 }
 
 /// The block of main, which has no parameters.
-pub fn main_body<'a>(
+pub fn main_body(
     alloc: Global,
-    known: &Knowledge<'a>,
-    scope: &'a Scope<'a, 'a, 'a>,
+    known: &Knowledge,
+    scope: &Scope,
     text: &BlockText,
 ) -> Result<Block, BodyFault>
     requires known { IsKnowledge known.now }
