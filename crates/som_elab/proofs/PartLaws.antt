@@ -47,9 +47,9 @@ adds cs p m q es ks are stands =
     let two = long_more p.kinds.items m.kind in
     record {
       parts =
-        ap (λ z. typed_parts cs z q.kinds.items) es
-        ∙ ap (λ z. typed_parts cs (p.exprs ++ m.expr ∷ []) z) ks
-        ∙ typed_more cs p.exprs p.kinds.items m.expr m.kind are.long;
+          ap (λ z. typed_parts cs z q.kinds.items) es
+          ∙ ap (λ z. typed_parts cs (p.exprs ++ m.expr ∷ []) z) ks
+          ∙ typed_more cs p.exprs p.kinds.items m.expr m.kind are.long;
       are = record {
         stand = subst (AllStand cs) (sym ks) (all_stand_more cs p.kinds.items m.kind are.stand stands);
         long = ap length es ∙ one ∙ ap suc are.long ∙ sym two ∙ ap length (sym ks);

@@ -96,7 +96,14 @@ pub fn expression(
             parent,
             method,
             args,
-        } => parent_text(alloc, site, locals, args, parent.text.as_slice(), &method.text),
+        } => parent_text(
+            alloc,
+            site,
+            locals,
+            args,
+            parent.text.as_slice(),
+            &method.text,
+        ),
         ExprText::Parents { method, args } => {
             parents_text(alloc, site, locals, args, &method.text)
         }

@@ -4,7 +4,7 @@ ghost use Rattle.som_model.specs.Class.{Class};
 ghost use Rattle.som_model.specs.Typing.{Of, self_type};
 ghost use Rattle.som_model.specs.declared.key.ValueType.TheVariants as types;
 ghost use Rattle.som_model.specs.declared.syntax.Expr.TheVariants as exprs;
-ghost use Rattle.std.specs.Prelude.{◌≡◌, List as Seq, Ok};
+ghost use Rattle.std.specs.Prelude.{List as Seq, Ok};
 
 use crate::local::Local;
 use crate::made::Made;

@@ -9,9 +9,9 @@ ghost use Rattle.som_model.specs.declared.key.MethodRef.{MethodRef as Ref};
 ghost use Rattle.som_verify.specs.Kinds.{PlaceStands, Stands, code_at, kind_at};
 ghost use Rattle.som_verify.specs.Knowing.{IsKnowledge, all_of};
 ghost use Rattle.som_verify.specs.Places.{face_at, key_at};
-ghost use Rattle.std.specs.Prelude.{◌≡◌, ◌<◌, ℕ, length, map, IfOk};
+ghost use Rattle.std.specs.Prelude.{◌≡◌, ◌<◌, ℕ, [], length, map, slice_index_or, IfOk};
 
-use som_model::{ClassKey, Entry, MethodRef, Module, NoMemory, Sig, Text, Way};
+use som_model::{ClassKey, Entry, List, MethodRef, Module, NoMemory, Sig, Text, Way};
 use som_verify::{CodePlace, KERNEL_CLASSES, Kind, Knowledge, entries_of, find_entry};
 use std::alloc::Global;
 
@@ -39,7 +39,14 @@ fn ancestors_of<'a>(known: &Knowledge<'a>, class: usize) -> &'a [usize]
     ensures low { (a : ℕ) → Mem a result.now → a < length (all_of known.now) }
     ensures are { map (key_at (all_of known.now)) result.now ≡ ancestors (all_of known.now) (key_at (all_of known.now) class) }
 {
-    known.lists[class].as_slice()
+    list_at(known.lists, class)
+}
+
+fn list_at(lists: &[List<usize>], place: usize) -> &[usize]
+    requires { place < length lists.now }
+    ensures { result.now ≡ slice_index_or lists.now place [] }
+{
+    lists[place].as_slice()
 }
 
 // The method of the first of these classes that introduces the name.
@@ -124,9 +131,9 @@ fn key_of_place(alloc: Global, known: &Knowledge, class: usize) -> Result<ClassK
         let face = &known.kernel[class];
         named(alloc, Module::Kernel, &face.name)
     } else {
-        let class = &known.classes[class - KERNEL_CLASSES];
-        let decl = class.decl;
-        named(alloc, class.module, &decl.face.name)
+        let declared = &known.classes[class - KERNEL_CLASSES];
+        let decl = declared.decl;
+        named(alloc, declared.module, &decl.face.name)
     }
 }
 

@@ -88,12 +88,7 @@ fn call_at(
 }
 
 /// A call of the method that all parents have.
-pub fn parents_call(
-    alloc: Global,
-    site: &Site,
-    name: &Text,
-    args: Parts,
-) -> Result<Made, TypeFault>
+pub fn parents_call(alloc: Global, site: &Site, name: &Text, args: Parts) -> Result<Made, TypeFault>
     requires site { IsSite site.now }
     requires args { AreParts (classes_at site.now) args }
     ensures { Makes (classes_at site.now) (spec.parents_form (among_at site.now) (place_at site.now) name.now (parts_at (classes_at site.now) args)) result }

@@ -30,7 +30,6 @@ pub fn no_parts(alloc: Global) -> Parts
 }
 
 /// One more part.
-#[tactic(auto, using(crate::proofs::PartLaws::adds))]
 pub fn add(parts: &mut Parts, made: Made) -> Result<(), NoMemory>
     ensures { OnOk result ((cs : Seq Class) → AreParts cs parts.old → Stands cs made.kind → Adds cs parts.old made parts.new) }
 {

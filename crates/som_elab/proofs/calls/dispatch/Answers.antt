@@ -13,4 +13,4 @@ returns c =
     let ks = c.as_slice.result.now in
     dispatch_made cs (facts_at s) c.args.args ks c.formed.result c.requires.args c.as_slice.ensures.value c.args.answer c.args.name.now c.in_ok-name.name
     (made_at cs c.args.on) c.in_ok-receiver.receiver c.in_ok-name.ensures c.in_ok-receiver.ensures
-    (c.formed.ensures cs (named_call_type (facts_at s) c.args.answer (kind_at cs c.args.on.kind) (map (kind_at cs) ks)) c.named_call_kind.ensures)
+    (c.formed.ensures cs (named_call_type (facts_at s) c.args.answer (kind_at cs c.args.on.kind) (map (kind_at cs) ks)) c.named_call_kind-kind.ensures)

@@ -15,4 +15,4 @@ returns c =
     let method = c.in_ok-method.method in
     offset_made cs (facts_at s) c.args.args ks c.formed.result c.requires.args c.as_slice.ensures.value (record { class = key_at cs c.args.class; name = c.args.name.now }) method
     (made_at cs c.args.on) c.in_ok-receiver.receiver c.in_ok-method.ensures c.in_ok-receiver.ensures
-    (c.formed.ensures cs (offset_call_type (facts_at s) method (kind_at cs c.args.on.kind) (map (kind_at cs) ks)) c.offset_call_kind.ensures)
+    (c.formed.ensures cs (offset_call_type (facts_at s) method (kind_at cs c.args.on.kind) (map (kind_at cs) ks)) c.offset_call_kind-kind.ensures)

@@ -11,4 +11,4 @@ returns c =
     let cs = classes_at s in
     let k = c.in_ok-class.class in
     cast_made cs (among_at s) c.args.name.now k c.formed.result c.in_ok-class.ensures (made_at cs c.args.part) c.in_ok-of.of c.in_ok-of.ensures
-    (c.formed.ensures cs (cast_type (facts_at s) k (kind_at cs c.args.part.kind)) c.cast_kind.ensures)
+    (c.formed.ensures cs (cast_type (facts_at s) k (kind_at cs c.args.part.kind)) c.cast_kind-kind.ensures)

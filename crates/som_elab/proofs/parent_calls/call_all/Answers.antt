@@ -15,4 +15,4 @@ returns c =
     let method = c.in_ok-method.method in
     parents_made cs (facts_at s) c.args.args ks c.formed.result c.requires.args c.as_slice.ensures.value (place_at s) (record { class = key_at cs c.args.class; name = c.args.name.now }) method
     c.in_ok-method.ensures
-    (c.formed.ensures cs (parents_call_type (facts_at s) (place_at s) method (map (kind_at cs) ks)) c.parents_call_kind.ensures)
+    (c.formed.ensures cs (parents_call_type (facts_at s) (place_at s) method (map (kind_at cs) ks)) c.parents_call_kind-kind.ensures)
