@@ -18,7 +18,7 @@ pub mod Signatures
 pub mod ClassBodies
 pub mod Conforms
 pub mod Stating
-pub mod Scoping
+pub mod NamesInScope
 pub mod TextForms
 pub mod TextSteps
 pub mod Parameters

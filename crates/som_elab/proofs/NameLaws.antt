@@ -62,7 +62,7 @@ looked_up cs ruled (Err rule) n = ap of_kind n
 
 -- ---- locals
 
-place_said : (cs : List Class) (ls : List Local) (name : List ℕ) (n : ℕ) → place_from n (bytes_eq name) (names_of (names_at cs ls)) ≡ place_from n (λ (l : Local). bytes_eq name l.name.now) ls
+pub place_said : (cs : List Class) (ls : List Local) (name : List ℕ) (n : ℕ) → place_from n (bytes_eq name) (names_of (names_at cs ls)) ≡ place_from n (λ (l : Local). bytes_eq name l.name.now) ls
 place_said cs [] name n = refl
 place_said cs (l ∷ ls) name n = ap (λ z. if bytes_eq name l.name.now then Some n else z) (place_said cs ls name (suc n))
 

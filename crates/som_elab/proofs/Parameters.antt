@@ -16,13 +16,13 @@ use Rattle.som_verify.specs.Kinds.{IsType, type_at}
 use Rattle.som_sema.specs.Words.{words}
 use Rattle.som_elab.specs.declared.local.Local.{Local}
 use Rattle.som_elab.specs.declared.fault.BodyFault.{BodyFault}
-use Rattle.som_elab.specs.Locals.{Named, Names, in_scope, local_of, names_of}
+use Rattle.som_elab.specs.Locals.{Named, Names, in_scope, names_of}
 use Rattle.som_elab.specs.Expressions.{Among}
 use Rattle.som_elab.specs.Statements.{Breaks, Told, elaborated_block}
 use Rattle.som_elab.specs.Elaboration.{elaborated_body, parameters}
 use Rattle.som_elab.specs.Code.{AreLocals, Stops, named_at, names_at}
 use Rattle.som_elab.specs.Stated.{first_locals}
-use Rattle.som_elab.proofs.Scoping.{few_placed, one_local, scope_by}
+use Rattle.som_elab.proofs.NamesInScope.{few_placed, one_local}
 use Rattle.som_elab.proofs.TextSteps.{then_stops}
 
 -- ---- one parameter after the other
@@ -61,10 +61,10 @@ module _ (cs : List Class) (ws : List Word) (kinds : List ValueType) where
         ∙ ap (λ z. first (doubles bytes_eq (names_of (names_at cs ls)) z)) (sym words_next)
         ∙ p.doubled
 
-    pub twice : is_some (local_of (names_at cs ls) w.text) ≡ true → first_locals ws kinds ≡ Err (Breaks 15)
-    twice e = ap (λ (z : Option (List ℕ)). if is_some z then Err (Breaks 15) else Ok (parameters ws kinds)) (sym (doubles_next true (sym (scope_by (names_at cs ls) w.text) ∙ e)))
+    pub twice : in_scope (names_at cs ls) w.text ≡ true → first_locals ws kinds ≡ Err (Breaks 15)
+    twice e = ap (λ (z : Option (List ℕ)). if is_some z then Err (Breaks 15) else Ok (parameters ws kinds)) (sym (doubles_next true e))
 
-    pub one_placed : (l : Local) → named_at cs l ≡ named_as w kind → IsType cs l.kind → length ws ≤ MAX_PARAMETERS → is_some (local_of (names_at cs ls) w.text) ≡ false → ArePlaced cs ws kinds (i + 1) (ls ++ l ∷ [])
+    pub one_placed : (l : Local) → named_at cs l ≡ named_as w kind → IsType cs l.kind → length ws ≤ MAX_PARAMETERS → in_scope (names_at cs ls) w.text ≡ false → ArePlaced cs ws kinds (i + 1) (ls ++ l ∷ [])
     one_placed l named type few e = record {
       names =
           ap (λ z. z ++ parameters (drop (i + 1) ws) (drop (i + 1) kinds)) (map_push (named_at cs) ls l)
@@ -76,7 +76,7 @@ module _ (cs : List Class) (ws : List Word) (kinds : List ValueType) where
           ap (λ z. first (doubles bytes_eq (names_of z) (words (drop (i + 1) ws)))) (map_push (named_at cs) ls l)
           ∙ ap (λ z. first (doubles bytes_eq z (words (drop (i + 1) ws)))) (map_push (λ (n : Named). n.name) (names_at cs ls) (named_at cs l))
           ∙ ap (λ (z : Named). first (doubles bytes_eq (names_of (names_at cs ls) ++ z.name ∷ []) (words (drop (i + 1) ws)))) named
-          ∙ doubles_next false (sym (scope_by (names_at cs ls) w.text) ∙ e);
+          ∙ doubles_next false e;
       locals = one_local cs ls l p.locals type (few_placed (length ls) i (length ws) p.long within few);
       long = length_push ls l ∙ ap (λ n. n + 1) p.long;
     }

@@ -12,7 +12,7 @@ ghost use Rattle.std.specs.Prelude.{◌≡◌, ◌≤◌, true, length, [], IfEr
 
 use crate::fault::BodyFault;
 use crate::local::Local;
-use crate::names::local_of;
+use crate::scoping::is_in_scope;
 use crate::site::Site;
 use crate::statements::block;
 use som_body::{BlockText, BodyText};
@@ -71,7 +71,7 @@ fn parameters<'a>(
     let mut locals = Vec::new(alloc);
     for (place, word) in words.iter().enumerate() {
         let name = word.text.as_slice();
-        if local_of(locals.as_slice(), name).is_some() {
+        if is_in_scope(locals.as_slice(), name) {
             return Err(BodyFault::Rule(15));
         }
         let kind = known_kind(known, &types[place]);

@@ -25,17 +25,6 @@ impl From<TypeFault> for BodyFault {
     }
 }
 
-impl From<u8> for BodyFault {
-    ghost use Rattle.std.specs.Prelude.{◌≡◌};
-    ghost use Rattle.som_elab.specs.declared.fault.BodyFault.TheVariants as faults;
-
-    ghost from_gives = { λ rule e. e ≡ faults.Rule rule };
-
-    fn from(rule: u8) -> BodyFault {
-        BodyFault::Rule(rule)
-    }
-}
-
 impl From<NoMemory> for BodyFault {
     ghost use Rattle.std.specs.Prelude.{◌≡◌};
     ghost use Rattle.som_elab.specs.declared.fault.BodyFault.TheVariants as faults;

@@ -25,6 +25,7 @@ mod operators;
 mod parent_calls;
 mod parts;
 mod plain_statements;
+mod scoping;
 mod site;
 mod statements;
 #[cfg(test)]

@@ -1,4 +1,4 @@
-ghost use Rattle.som_elab.specs.Code.{AreLocals, IsSite, among_at, classes_at, names_at, place_at};
+ghost use Rattle.som_elab.specs.Code.{AreLocals, IsSite, among_at, classes_at, made_at, names_at, place_at};
 ghost use Rattle.som_elab.specs.Locals as named;
 ghost use Rattle.som_elab.specs.Stated.{Keeps, by_value, expr_in, names_in, value_in};
 ghost use Rattle.som_elab.specs.Statements as forms;
@@ -17,7 +17,6 @@ use crate::names::{local_of, variable_place};
 use crate::site::Site;
 use som_body::ExprText;
 use som_model::Stmt;
-use som_read::Word;
 use som_verify::{Kind, has_text, is_call, is_nothing, is_object, kind_fits, variable_kind};
 use std::alloc::Global;
 
@@ -37,20 +36,33 @@ pub fn set_local(
     alloc: Global,
     site: &Site,
     locals: &[Local],
-    name: &Word,
+    name: &[u8],
     value: &ExprText,
 ) -> Result<Stmt, BodyFault>
     requires site { IsSite site.now }
     requires locals { AreLocals (classes_at site.now) locals.now }
     ensures { Keeps (classes_at site.now) (by_value (value_in site.now locals.now value.now)
-        (forms.set_local (among_at site.now) (names_in site.now locals.now) name.now.text)) locals.now result }
+        (forms.set_local (among_at site.now) (names_in site.now locals.now) name.now)) locals.now result }
 {
-    let Made { expr, kind } = value_expression(alloc, site, locals, value)?;
-    let Some(local) = local_of(locals, name.text.as_slice()) else {
-        return Err(BodyFault::Rule(16));
-    };
-    let fits = kind_fits(&site.known, kind_of_local(locals, local as usize), kind);
-    demanded(17, fits, Stmt::SetLocal { local, value: expr })
+    let made = value_expression(alloc, site, locals, value)?;
+    local_takes(site, locals, name, made)
+}
+
+fn local_takes(site: &Site, locals: &[Local], name: &[u8], made: Made) -> Result<Stmt, BodyFault>
+    requires site { IsSite site.now }
+    requires locals { AreLocals (classes_at site.now) locals.now }
+    requires made { Stands (classes_at site.now) made.kind }
+    ensures { Keeps (classes_at site.now) (forms.ruled (forms.set_local (among_at site.now) (names_in site.now locals.now) name.now
+        (made_at (classes_at site.now) made))) locals.now result }
+{
+    let Made { expr, kind } = made;
+    match local_of(locals, name) {
+        None => Err(BodyFault::Rule(16)),
+        Some(local) => {
+            let fits = kind_fits(&site.known, kind_of_local(locals, local as usize), kind);
+            demanded(17, fits, Stmt::SetLocal { local, value: expr })
+        }
+    }
 }
 
 fn kind_of_local(locals: &[Local], local: usize) -> Kind
@@ -66,21 +78,40 @@ pub fn set_variable(
     alloc: Global,
     site: &Site,
     locals: &[Local],
-    name: &Word,
+    name: &[u8],
     value: &ExprText,
 ) -> Result<Stmt, BodyFault>
     requires site { IsSite site.now }
     requires locals { AreLocals (classes_at site.now) locals.now }
     ensures { Keeps (classes_at site.now) (by_value (value_in site.now locals.now value.now)
-        (forms.set_variable (among_at site.now) (place_at site.now) (names_in site.now locals.now) name.now.text)) locals.now result }
+        (forms.set_variable (among_at site.now) (place_at site.now) (names_in site.now locals.now) name.now)) locals.now result }
 {
-    let Made { expr, kind } = value_expression(alloc, site, locals, value)?;
-    let Some(variable) = variable_place(&site.known, &site.at, name.text.as_slice()) else {
-        return Err(BodyFault::Rule(16));
-    };
-    let wanted = variable_kind(&site.known, &site.at, variable as usize)?;
-    let fits = kind_fits(&site.known, wanted, kind);
-    demanded(17, fits, Stmt::SetVariable { variable, value: expr })
+    let made = value_expression(alloc, site, locals, value)?;
+    variable_takes(site, locals, name, made)
+}
+
+fn variable_takes(
+    site: &Site,
+    locals: &[Local],
+    name: &[u8],
+    made: Made,
+) -> Result<Stmt, BodyFault>
+    requires site { IsSite site.now }
+    requires made { Stands (classes_at site.now) made.kind }
+    ensures { Keeps (classes_at site.now) (forms.ruled (forms.set_variable (among_at site.now) (place_at site.now) (names_in site.now locals.now) name.now
+        (made_at (classes_at site.now) made))) locals.now result }
+{
+    let Made { expr, kind } = made;
+    match variable_place(&site.known, &site.at, name) {
+        None => Err(BodyFault::Rule(16)),
+        Some(variable) => match variable_kind(&site.known, &site.at, variable as usize) {
+            Err(rule) => Err(BodyFault::Rule(rule)),
+            Ok(wanted) => {
+                let fits = kind_fits(&site.known, wanted, kind);
+                demanded(17, fits, Stmt::SetVariable { variable, value: expr })
+            }
+        },
+    }
 }
 
 /// A return, with a value or without.

@@ -1,9 +1,7 @@
 ghost use Rattle.som_elab.specs.Code.{AreLocals, Blocks, IsSite, among_at, classes_at, names_at, place_at};
-ghost use Rattle.som_elab.specs.Stated.{Opens, States, block_in, declared_by, if_by, names_in, stmt_in, value_in, while_by};
+ghost use Rattle.som_elab.specs.Stated.{States, block_in, declared_by, if_by, names_in, stmt_in, value_in, while_by};
 ghost use Rattle.som_elab.specs.Statements as forms;
 ghost use Rattle.som_elab.specs.Statements.{elaborated_block};
-ghost use Rattle.som_model.specs.declared.syntax.Expr.{Expr as Named};
-ghost use Rattle.som_verify.specs.Kinds.{Stands, kind_at};
 ghost use Rattle.som_sema.specs.Home.{home_in, type_of as type_named};
 ghost use Rattle.std.specs.Prelude.{◌≡◌, IfOk};
 
@@ -11,16 +9,16 @@ use crate::expressions::value_expression;
 use crate::fault::BodyFault;
 use crate::local::Local;
 use crate::made::Made;
-use crate::names::local_of;
 use crate::plain_statements::{
     answer, call, demanded, free, print, set_local, set_variable,
 };
+use crate::scoping::declared_kind;
 use crate::site::Site;
 use som_body::{BlockText, ExprText, StmtText};
-use som_model::{Block, List, MAX_LOCALS, Stmt, ValueType};
+use som_model::{Block, List, Stmt};
 use som_read::TypeName;
 use som_sema::type_of;
-use som_verify::{Kind, is_boolean, kind_fits, kind_of};
+use som_verify::is_boolean;
 use std::alloc::Global;
 
 /// The named block that a text stands for among the locals in scope, or what its first wrong construct breaks. What it
@@ -63,9 +61,11 @@ fn statement<'a>(
         StmtText::Var { name, kind, value } => {
             declare_local(alloc, site, locals, name.text.as_slice(), kind, value)
         }
-        StmtText::Set { name, value } => set_local(alloc, site, locals.as_slice(), name, value),
+        StmtText::Set { name, value } => {
+            set_local(alloc, site, locals.as_slice(), name.text.as_slice(), value)
+        }
         StmtText::SetVariable { name, value } => {
-            set_variable(alloc, site, locals.as_slice(), name, value)
+            set_variable(alloc, site, locals.as_slice(), name.text.as_slice(), value)
         }
         StmtText::If {
             condition,
@@ -142,42 +142,13 @@ fn declare_local<'a>(
     ensures { States (classes_at site.now) (declared_by (value_in site.now locals.old.items value.now)
         (forms.declared (among_at site.now) (names_in site.now locals.old.items) name.now (type_named (home_in site.now.scope.now) kind.now))) locals.old.items locals.new.items result }
 {
-    let made = value_expression(alloc, site, locals.as_slice(), value)?;
+    let before = locals.as_slice();
+    let made = value_expression(alloc, site, before, value)?;
     let kind = type_of(alloc, site.scope, kind)?;
-    let wanted = declared_kind(site, locals.as_slice(), name, &kind, made.kind)?;
+    let wanted = declared_kind(site, before, name, &kind, made.kind)?;
     locals.push(Local { name, kind: wanted })?;
     Ok(Stmt::Var {
         kind,
         value: made.expr,
     })
-}
-
-// The kind of a local, whose name is not in scope, whose type is known and which the value fits; the limit comes last.
-fn declared_kind(
-    site: &Site,
-    locals: &[Local],
-    name: &[u8],
-    kind: &ValueType,
-    given: Kind,
-) -> Result<Kind, BodyFault>
-    requires site { IsSite site.now }
-    requires locals { AreLocals (classes_at site.now) locals.now }
-    requires given { Stands (classes_at site.now) given }
-    ensures { (e : Named) → Opens (classes_at site.now) (forms.declared (among_at site.now) (names_in site.now locals.now) name.now kind.now (record { expr = e; type = kind_at (classes_at site.now) given }))
-        locals.now name.now kind.now e result }
-{
-    if local_of(locals, name).is_some() {
-        return Err(BodyFault::Rule(15));
-    }
-    let Some(wanted) = kind_of(&site.known, kind) else {
-        return Err(BodyFault::Rule(16));
-    };
-    if !kind_fits(&site.known, wanted, given) {
-        return Err(BodyFault::Rule(17));
-    }
-    if locals.len() < MAX_LOCALS as usize {
-        Ok(wanted)
-    } else {
-        Err(BodyFault::TooManyLocals)
-    }
 }

@@ -1,7 +1,6 @@
 -- Names in scope, and one more local among them.
 use Rattle.std.proofs.Common.{◌≡◌, ℕ, suc, ◌+◌, ◌<◌, ◌≤◌, Bool, true, false, not, if◌then◌else◌, nat_lt, inl, inr, List, [], ◌∷◌, ◌++◌, map, length, is_some, Option, Some, None, Result, Ok, Err, refl, sym, ap, ◌∙◌, subst, arith}
 use Rattle.std.specs.Str.{bytes_eq}
-use Rattle.std.proofs.lemmas.Bool.{le-ltb, lt-ltb}
 use Rattle.std.proofs.lemmas.List.{length_push, map_push}
 use Rattle.som_model.specs.declared.key.ValueType.{ValueType}
 use Rattle.som_model.specs.declared.syntax.Stmt.{Stmt}
@@ -71,22 +70,22 @@ module _ (cs : List Class) (a : Among) (ls : List Local) (name : List ℕ) (kind
       ap (λ (z : Bool). if z then Ok (record { stmt = stmts.Var kind p.expr; scope = names_at cs ls ++ (record { name = name; kind = kind }) ∷ [] }) else Err ManyLocals)
       (ap (λ n. nat_lt n MAX_LOCALS) (long_map (named_at cs) ls) ∙ e)
 
-  pub var_seen : is_some (local_of (names_at cs ls) name) ≡ true → declared a (names_at cs ls) name kind p ≡ Err (Breaks 15)
-  var_seen e = var_by true (kind_is_known (facts_among a) kind) (fits (facts_among a) kind p.type) (sym (scope_by (names_at cs ls) name) ∙ e) refl refl
+  pub var_seen : in_scope (names_at cs ls) name ≡ true → declared a (names_at cs ls) name kind p ≡ Err (Breaks 15)
+  var_seen e = var_by true (kind_is_known (facts_among a) kind) (fits (facts_among a) kind p.type) e refl refl
 
-  module _ (fresh : is_some (local_of (names_at cs ls) name) ≡ false) where
+  module _ (fresh : in_scope (names_at cs ls) name ≡ false) where
     pub var_unknown : kind_is_known (facts_among a) kind ≡ false → declared a (names_at cs ls) name kind p ≡ Err (Breaks 16)
-    var_unknown f = var_by false false (fits (facts_among a) kind p.type) (sym (scope_by (names_at cs ls) name) ∙ fresh) f refl
+    var_unknown f = var_by false false (fits (facts_among a) kind p.type) fresh f refl
 
     pub var_misfits : kind_is_known (facts_among a) kind ≡ true → fits (facts_among a) kind p.type ≡ false → declared a (names_at cs ls) name kind p ≡ Err (Breaks 17)
-    var_misfits f g = var_by false true false (sym (scope_by (names_at cs ls) name) ∙ fresh) f g
+    var_misfits f g = var_by false true false fresh f g
 
-    pub var_many : kind_is_known (facts_among a) kind ≡ true → fits (facts_among a) kind p.type ≡ true → MAX_LOCALS ≤ length ls → declared a (names_at cs ls) name kind p ≡ Err ManyLocals
-    var_many f g le = var_by false true true (sym (scope_by (names_at cs ls) name) ∙ fresh) f g ∙ var_limited false (le-ltb (length ls) MAX_LOCALS le)
+    pub var_many : kind_is_known (facts_among a) kind ≡ true → fits (facts_among a) kind p.type ≡ true → nat_lt (length ls) MAX_LOCALS ≡ false → declared a (names_at cs ls) name kind p ≡ Err ManyLocals
+    var_many f g le = var_by false true true fresh f g ∙ var_limited false le
 
-    pub var_opens : kind_is_known (facts_among a) kind ≡ true → fits (facts_among a) kind p.type ≡ true → length ls < MAX_LOCALS
+    pub var_opens : kind_is_known (facts_among a) kind ≡ true → fits (facts_among a) kind p.type ≡ true → nat_lt (length ls) MAX_LOCALS ≡ true
         → declared a (names_at cs ls) name kind p ≡ Ok (record { stmt = stmts.Var kind p.expr; scope = names_at cs ls ++ (record { name = name; kind = kind }) ∷ [] })
-    var_opens f g lt = var_by false true true (sym (scope_by (names_at cs ls) name) ∙ fresh) f g ∙ var_limited true (lt-ltb (length ls) MAX_LOCALS lt)
+    var_opens f g lt = var_by false true true fresh f g ∙ var_limited true lt
 
 -- a local that may be declared, where its value is there
 pub declares : (cs : List Class) (before after : List Local) (name : List ℕ) (kind : ValueType) (value : Elab) (f : Elaborated → Told Placed) (p : Elaborated) (l : Local)
