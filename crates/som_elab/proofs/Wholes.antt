@@ -156,3 +156,7 @@ among_is m base is cs bares ds home known bare drawn named =
     known ∙ ap (λ z. after_base m z (sketches ds)) bare ∙ ap (λ (z : List Drawn). after_base m (interface_classes base) (sketches z)) drawn ∙ ap (after_base m (interface_classes base)) (declared_over m base is) in
     ap (λ (z : List Class). let a : Among = record { classes = with_kernel z; home = home } in a) same
     ∙ ap (λ (z : List ℕ → Module). let a : Among = record { classes = classes_over m base is; home = z } in a) named
+
+-- want of memory tells nothing
+pub no_memory : {A : Type 0} (comes : Result A Refusal) (fault : VerifyFault) (r : Refused) → r ≡ refused_by fault → fault ≡ broken.NoMemory → Answers {A = A} comes (Err r)
+no_memory {A} comes fault r e f = subst (λ (z : Refused). Answers {A = A} comes (Err z)) (sym (e ∙ ap refused_by f)) tt
