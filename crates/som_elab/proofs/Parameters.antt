@@ -85,7 +85,7 @@ module _ (cs : List Class) (ws : List Word) (kinds : List ValueType) where
 -- ---- the block among them
 
 module _ (a : Among) (c : Class) (sig : Sig) (b : BodyText) where
-  body_by : Bool → Told Block
+  abbrev body_by : Bool → Told Block
   body_by double = if double then Err (Breaks 15) else elaborated_block a (in_body c sig.result) b.block (parameters b.params sig.params)
 
   pub body_doubled : true ≡ is_some (first (doubles bytes_eq [] (words b.params))) → elaborated_body a c sig b ≡ Err (Breaks 15)

@@ -9,7 +9,7 @@ ghost use Rattle.som_sema.specs.Words.{words as texts_of};
 ghost use Rattle.som_verify.specs.Kinds.{IsDeclared};
 ghost use Rattle.som_verify.specs.Knowing.{IsKnowledge, all_of, sig_is_known};
 ghost use Rattle.som_verify.specs.Places.{class_of_place};
-ghost use Rattle.std.specs.Prelude.{◌≡◌, ◌≤◌, true, length, is_some, [], IfOk, Some};
+ghost use Rattle.std.specs.Prelude.{◌≡◌, ◌≤◌, ◌⊎◌, true, length, is_some, [], IfOk, Some};
 ghost use Rattle.std.specs.Str.{bytes_eq};
 
 use crate::fault::BodyFault;
@@ -86,7 +86,7 @@ fn parameters<'a>(
     ensures names { IfOk result (λ locals. names_at (all_of known.now) locals.items ≡ spec.parameters words.now types.now) }
     ensures types { IfOk result (λ locals. AreLocals (all_of known.now) locals.items) }
 {
-    let count = words.len().min(types.len());
+    let count = shorter(words, types);
     let mut locals = Vec::new(alloc);
     for place in 0..count {
         let name = words[place].text.as_slice();
@@ -94,6 +94,19 @@ fn parameters<'a>(
         locals.push(Local { name, kind })?;
     }
     Ok(locals)
+}
+
+// The length of the shorter list.
+fn shorter(words: &[Word], types: &[ValueType]) -> usize
+    ensures words { result ≤ length words.now }
+    ensures types { result ≤ length types.now }
+    ensures all { (length words.now ≤ result) ⊎ (length types.now ≤ result) }
+{
+    if words.len() < types.len() {
+        words.len()
+    } else {
+        types.len()
+    }
 }
 
 /// The block of main, which has no parameters.
