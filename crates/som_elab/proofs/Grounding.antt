@@ -13,7 +13,10 @@ use Rattle.som_plain.proofs.Members.{mem_split}
 use Rattle.som_verify.specs.Bodies.{AllSigsKnown}
 use Rattle.som_verify.specs.Faces.{classes_breach}
 use Rattle.som_verify.specs.Kinds.{IsDeclared}
+use Rattle.som_verify.specs.Knowing.{IsKnowledge}
+use Rattle.som_verify.specs.Modules.{classes_of}
 use Rattle.som_verify.specs.Places.{class_of_place, nobody, with_kernel}
+use Rattle.som_verify.specs.declared.types.Declared.{Declared}
 use Rattle.som_verify.proofs.Before.{none_both}
 use Rattle.som_verify.proofs.BodySteps.{item_mem}
 use Rattle.som_verify.proofs.DeclaredClasses.{long_map}
@@ -26,7 +29,8 @@ use Rattle.som_sema.specs.Limits.{class_limits, limit_passed}
 use Rattle.som_sema.specs.Sketch.{Drawn, drawings, seen, sketches}
 use Rattle.som_sema.specs.declared.sketch.Drawing.{Drawing}
 use Rattle.som_sema.proofs.LimitLaws.{limits_law}
-use Rattle.som_elab.specs.Grounds.{FewParameters, IsFront}
+use Rattle.som_elab.specs.declared.ground.Ground.{Ground}
+use Rattle.som_elab.specs.Grounds.{FewParameters, IsBasis, IsFront, IsGround}
 
 -- ---- signatures are of known types
 
@@ -119,3 +123,15 @@ pub own_within : (ds : List Drawing) (i : ℕ) (d : Drawing) → i < length ds �
 own_within ds i d lt is e =
     flat_none class_limits (sketches (drawings ds)) d.decl e
     (mem_map (λ (z : Drawn). z.class) (seen d) (drawings ds) (mem_map seen d ds (item_mem ds i d lt is)))
+
+-- ---- what is known within the limits
+
+pub within_ground : (g : Ground) (ds : List Drawn) → IsBasis g ds → limit_passed (sketches ds) ≡ None → IsGround g
+within_ground g ds b e = record { known = b.known; signatures = b.signatures; few = all_few g.scope.now.module (classes_of g.known.classes.now) ds b.stand e }
+
+pub basis_of : (g : Ground) (cs : List Declared) (n : ℕ) (ds : List Drawn) → IsKnowledge g.known → g.known.classes.now ≡ cs → classes_breach n (classes_of cs) ≡ None → IsFront g.scope.now.module (classes_of cs) ds → IsBasis g ds
+basis_of g cs n ds known same rules stand = record {
+  known = known;
+  signatures = subst (λ (z : List Declared). AllSigsKnown (with_kernel (classes_of z)) (classes_of z)) (sym same) (signatures_known (classes_of cs) n rules);
+  stand = subst (λ (z : List Declared). IsFront g.scope.now.module (classes_of z) ds) (sym same) stand;
+}

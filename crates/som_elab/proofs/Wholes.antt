@@ -3,17 +3,19 @@ use Rattle.std.proofs.Common.{◌≡◌, ℕ, ◌<◌, ◌≤◌, Bool, true, fa
 use Rattle.std.specs.Prelude.{codes}
 use Rattle.std.proofs.lemmas.List.{length-map}
 use Rattle.som_model.specs.declared.key.Module.{Module}
+use Rattle.som_model.specs.declared.key.Module.TheVariants as modules
 use Rattle.som_model.specs.declared.syntax.Block.{Block}
 use Rattle.som_model.specs.declared.class.ClassDecl.{ClassDecl}
 use Rattle.som_model.specs.declared.program.Interface.{Interface}
 use Rattle.som_model.specs.Lists.{first, or_else}
 use Rattle.som_model.specs.Rules.{Breach}
-use Rattle.som_model.specs.Class.{Class}
+use Rattle.som_model.specs.Class.{Class, class_in}
 use Rattle.som_model.specs.Classes.{interface_classes}
 use Rattle.som_model.specs.Steps.{◌>>=◌}
 use Rattle.som_idl.specs.declared.tree.IdlInterface.{IdlInterface}
 use Rattle.som_body.specs.declared.tree.BodyText.{BodyText}
 use Rattle.som_body.specs.declared.tree.BlockText.{BlockText}
+use Rattle.som_verify.specs.Faces.{classes_breach, faces_breach}
 use Rattle.som_verify.specs.Places.{with_kernel}
 use Rattle.som_verify.specs.Told.{Tells}
 use Rattle.som_verify.specs.declared.types.VerifyFault.{VerifyFault}
@@ -29,7 +31,8 @@ use Rattle.som_elab.specs.declared.whole.Whole.{Whole}
 use Rattle.som_elab.specs.Bodies.{beside, bodies_breach, classes_over, drawn_over}
 use Rattle.som_elab.specs.Expressions.{Among}
 use Rattle.som_elab.specs.Elaboration.{Answers, Refusal, among_over, classes_passed, elaborated_each, keeping, obeying}
-use Rattle.som_elab.specs.Grounds.{checked_steps, completed, each_steps, elaborated_whole, main_block}
+use Rattle.som_sema.proofs.TextsConform.{texts_conform}
+use Rattle.som_elab.specs.Grounds.{FewParameters, checked_steps, completed, each_steps, elaborated_whole, main_block}
 use Rattle.som_elab.proofs.Completing.{each_completed}
 use Rattle.som_elab.proofs.Gathering.{stops}
 
@@ -148,11 +151,61 @@ module _ (m : Module) (base : Interface) (is : List IdlInterface) (bs : List Bod
       (keeping (limit_passed (declarations m base is)) (elaborated_each (among_over m base is) m bs (drawn_over m base is))))) >>= and_main) p
   faces_refused refusals.NoMemory t = tt
 
--- what is known is what the definition knows
-pub among_is : (m : Module) (base : Interface) (is : List IdlInterface) (cs bares : List Class) (ds : List Drawn) (home : List ℕ → Module) → cs ≡ after_base m bares (sketches ds) → bares ≡ interface_classes base
-    → ds ≡ drawn_over m base is → home ≡ home_of m base is → (let a : Among = record { classes = with_kernel cs; home = home } in a) ≡ among_over m base is
-among_is m base is cs bares ds home known bare drawn named =
-    let same : cs ≡ after_base m (interface_classes base) (declarations m base is) =
-    known ∙ ap (λ z. after_base m z (sketches ds)) bare ∙ ap (λ (z : List Drawn). after_base m (interface_classes base) (sketches z)) drawn ∙ ap (after_base m (interface_classes base)) (declared_over m base is) in
-    ap (λ (z : List Class). let a : Among = record { classes = with_kernel z; home = home } in a) same
-    ∙ ap (λ (z : List ℕ → Module). let a : Among = record { classes = classes_over m base is; home = z } in a) named
+-- want of memory tells nothing
+pub no_memory : {A : Type 0} (comes : Result A Refusal) (fault : VerifyFault) (r : Refused) → r ≡ refused_by fault → fault ≡ broken.NoMemory → Answers {A = A} comes (Err r)
+no_memory {A} comes fault r e f = subst (λ (z : Refused). Answers {A = A} comes (Err z)) (sym (e ∙ ap refused_by f)) tt
+
+-- ---- from the faces on
+
+module _ (m : Module) (base : Interface) (is shown : List IdlInterface) (cs : List ClassDecl) (ds : List Drawn) (faces : FacesTold m base is (Ok cs)) (same : shown ≡ is) (drawn : ds ≡ beside shown cs) where
+  pub faces_shown : texts_breach m base shown ≡ None
+  faces_shown = ap (texts_breach m base) same ∙ faces.1
+
+  pub drawn_shown : ds ≡ drawn_over m base shown
+  drawn_shown = drawn ∙ ap (beside shown) (faces.2 ∙ ap (declarations m base) (sym same))
+
+  drawn_is : ds ≡ drawn_over m base is
+  drawn_is = drawn_shown ∙ ap (drawn_over m base) same
+
+  module _ (bs texts : List BodyText) (main : Option BlockText) (given : texts ≡ bs) where
+    checked_is : checked_steps (among_over m base shown) m texts ds main ≡ checked_steps (among_over m base is) m bs (drawn_over m base is) main
+    checked_is =
+        ap (λ (z : List IdlInterface). checked_steps (among_over m base z) m texts ds main) same
+        ∙ ap (λ (z : List BodyText). checked_steps (among_over m base is) m z ds main) given
+        ∙ ap (λ (z : List Drawn). checked_steps (among_over m base is) m bs z main) drawn_is
+
+    pub shown_refused : (e : Refused) → Answers {A = AllBodies} (checked_steps (among_over m base shown) m texts ds main) (Err e) → Answers {A = Whole} (elaborated_whole m base is bs main) (Err e)
+    shown_refused e t = bodies_refused m base is bs main faces.0 e faces.1 (subst (λ (z : Result AllBodies Refusal). Answers {A = AllBodies} z (Err e)) checked_is t)
+
+    pub shown_made : (w : AllBodies) → checked_steps (among_over m base shown) m texts ds main ≡ Ok w → elaborated_whole m base is bs main ≡ Ok (record { classes = completed ds w.classes; main = w.main })
+    shown_made w t =
+        bodies_made m base is bs main faces.0 w faces.1 (sym checked_is ∙ t)
+        ∙ ap (λ (z : List Drawn). let r : Whole = record { classes = completed z w.classes; main = w.main } in Ok r) (sym drawn_is)
+
+-- ---- what is known over a base
+
+module _ (m : Module) (base : Interface) (is : List IdlInterface) (own : Module) (bares : List ClassDecl) (ds : List Drawn) (home : List ℕ → Module)
+    (at : own ≡ m) (known : map (class_in modules.Library) bares ≡ interface_classes base) (drawn : ds ≡ drawn_over m base is) (named : home ≡ home_of m base is) where
+  abbrev all_known : List Class
+  all_known = after_base own (map (class_in modules.Library) bares) (sketches ds)
+
+  known_are : all_known ≡ after_base m (interface_classes base) (declarations m base is)
+  known_are =
+      ap (λ z. after_base z (map (class_in modules.Library) bares) (sketches ds)) at
+      ∙ ap (λ z. after_base m z (sketches ds)) known
+      ∙ ap (λ (z : List Drawn). after_base m (interface_classes base) (sketches z)) drawn
+      ∙ ap (after_base m (interface_classes base)) (declared_over m base is)
+
+  pub rules_over : length bares ≡ length base.classes → faces_breach (interface_classes base) ≡ None → texts_breach m base is ≡ None → classes_breach (length bares) all_known ≡ None
+  rules_over long e f = ap (λ z. classes_breach z all_known) long ∙ ap (classes_breach (length base.classes)) known_are ∙ texts_conform m base is e f
+
+  pub few_over : FewParameters (interface_classes base) → FewParameters (map (class_in modules.Library) bares)
+  few_over few = subst FewParameters (sym known) few
+
+  pub steps_over : (bs : List BodyText) (main : Option BlockText) (r : Result AllBodies Refused) → Answers (checked_steps (record { classes = with_kernel all_known; home = home }) own bs ds main) r
+      → Answers (checked_steps (among_over m base is) m bs ds main) r
+  steps_over bs main r t =
+      subst (λ (z : Among). Answers (checked_steps z m bs ds main) r)
+      (ap (λ (z : List Class). let a : Among = record { classes = with_kernel z; home = home } in a) known_are
+      ∙ ap (λ (z : List ℕ → Module). let a : Among = record { classes = classes_over m base is; home = z } in a) named)
+      (subst (λ (z : Module). Answers (checked_steps (record { classes = with_kernel all_known; home = home }) z bs ds main) r) at t)

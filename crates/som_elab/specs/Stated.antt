@@ -64,10 +64,6 @@ abbrev pub if_by : Elab → Told Block → Told Block → Names → Told Placed
 if_by value chosen other scope =
     ruled value >>= λ p. chosen >>= λ b. other >>= λ c. ruled (needs 17 (is_boolean p.type) (placed scope (stmts.If p.expr b c)))
 
--- the parameters, which are the first locals; none has the name of one before
-abbrev pub first_locals : List Word → List ValueType → Told Names
-first_locals ws kinds = if is_some (first (doubles bytes_eq [] (words ws))) then Err (Breaks 15) else Ok (parameters ws kinds)
-
 -- a statement that is made, and the locals after it: those before, and what it declares
 pub record Leaves (cs : List Class) (comes : Told Placed) (s : Stmt) (before after : List Local) : Type 0 where
   pub makes : comes ≡ Ok (record { stmt = s; scope = names_at cs after })

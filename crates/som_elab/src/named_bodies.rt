@@ -9,7 +9,7 @@ ghost use Rattle.som_sema.specs.Sketch.{drawings as drawn, seen};
 ghost use Rattle.som_verify.specs.Knowing.{IsKnowledge, all_of};
 ghost use Rattle.som_verify.specs.Told.{Tells};
 ghost use Rattle.som_verify.specs.declared.types.VerifyFault.TheVariants as faults;
-ghost use Rattle.std.specs.Prelude.{◌≡◌, flat_map, option_copied, option_map, IfOk};
+ghost use Rattle.std.specs.Prelude.{◌≡◌, flat_map, option_copied, option_map, slice_get, IfOk};
 ghost use Rattle.std.specs.Str.{bytes_eq};
 
 use crate::operations::is_operation;
@@ -97,8 +97,14 @@ fn drawing_named<'a, 'b>(
 {
     match first_place(names, name) {
         None => None,
-        Some(place) => drawings.get(place),
+        Some(place) => drawing_at(drawings, place),
     }
+}
+
+fn drawing_at<'a, 'b>(drawings: &'a [Drawing<'b>], place: usize) -> Option<&'a Drawing<'b>>
+    ensures { option_copied result ≡ slice_get drawings.now place }
+{
+    drawings.get(place)
 }
 
 fn takes_as_many(known: &Knowledge, drawing: &Drawing, text: &BodyText) -> bool

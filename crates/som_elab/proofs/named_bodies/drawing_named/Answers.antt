@@ -8,4 +8,4 @@ pub returns-in-None : goal.returns-in-None
 returns-in-None c = sym (unnamed 0 (drawings c.args.drawings.now) c.args.name.now (sym (c.in-None.ensures (class_places 0 (drawings c.args.drawings.now)) c.requires)))
 
 pub returns-in-Some : goal.returns-in-Some
-returns-in-Some c = ap (option_map seen) c.get.ensures.lookup ∙ named c.args.drawings.now c.args.name.now c.in-Some.place (c.in-Some.ensures (class_places 0 (drawings c.args.drawings.now)) c.requires)
+returns-in-Some c = ap (option_map seen) c.drawing_at.ensures ∙ named c.args.drawings.now c.args.name.now c.in-Some.place (c.in-Some.ensures (class_places 0 (drawings c.args.drawings.now)) c.requires)
