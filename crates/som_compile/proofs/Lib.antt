@@ -6,4 +6,7 @@ pub mod CompileLaws
 pub mod FewTokens
 pub mod BlocksWithin
 pub mod Standing
+pub mod InterfacesWithin
+pub mod ClassesWithin
+pub mod TextsWithin
 pub mod ClientLaws
