@@ -10,6 +10,10 @@ main_one : (b : Bool) (n : ℕ) → (if b then suc n else n) ≡ n + (if b then 
 main_one true n = omega arith
 main_one false n = omega arith
 
+one_few : (b : Bool) → (if b then 1 else 0) ≤ 1
+one_few true = omega arith
+one_few false = omega arith
+
 mains_more : (ss : List Source) (s : Source) → mains_in (names_of (ss ++ s ∷ [])) ≡ mains_in (names_of ss) + (if is_main s.name then 1 else 0)
 mains_more [] s = main_one (is_main s.name) 0
 mains_more (r ∷ ss) s = by_name (is_main r.name) (mains_in (names_of (ss ++ s ∷ []))) (mains_in (names_of ss)) (if is_main s.name then 1 else 0) (mains_more ss s)
@@ -46,17 +50,11 @@ module _ (ss : List Source) (i : ℕ) (s : Source) (lt : i < length ss) (at : s 
   mains_to : mains_in (names_of (take (i + 1) ss)) ≡ mains_in (names_of (take i ss)) + (if is_main s.name then 1 else 0)
   mains_to = ap (λ (l : List Source). mains_in (names_of l)) up_to ∙ mains_more (take i ss) s
 
-  pub main_passed : (count : ℕ) → MainsPassed ss i count → is_main s.name ≡ true → MainsPassed ss (i + 1) (count + 1)
-  main_passed count p e =
-      let one = ap (λ (b : Bool). mains_in (names_of (take i ss)) + (if b then 1 else 0)) e in
+  pub main_passed : (count one : ℕ) → MainsPassed ss i count → one ≡ mains_in (s.name ∷ []) → MainsPassed ss (i + 1) (count + one)
+  main_passed count one p e =
       let sum = mains_to in
-      record { counted = omega (arith, p.counted, one, sum); few = omega (arith, p.few) }
-
-  pub other_passed : (count : ℕ) → MainsPassed ss i count → is_main s.name ≡ false → MainsPassed ss (i + 1) count
-  other_passed count p e =
-      let one = ap (λ (b : Bool). mains_in (names_of (take i ss)) + (if b then 1 else 0)) e in
-      let sum = mains_to in
-      record { counted = omega (arith, p.counted, one, sum); few = omega (arith, p.few) }
+      let few = one_few (is_main s.name) in
+      record { counted = omega (arith, p.counted, e, sum); few = omega (arith, p.few, e, few) }
 
   pub bytes_passed : (left : ℕ) → BytesPassed ss i left → length s.bytes ≤ left → BytesPassed ss (i + 1) (left - length s.bytes)
   bytes_passed left p le =

@@ -1,5 +1,5 @@
 -- What texts stand for conforms and has room in its image.
-use Rattle.std.proofs.Common.{◌≡◌, ℕ, ◌≤◌, List, [], ◌∷◌, Ok, subst}
+use Rattle.std.proofs.Common.{◌≡◌, ◌≤◌, List, [], ◌∷◌, subst}
 use Rattle.std.specs.List.{AllByRecursion}
 use Rattle.som_model.specs.declared.limits.TheConstants.{MAX_BYTES}
 use Rattle.som_model.specs.declared.program.ClientProgram.{ClientProgram}

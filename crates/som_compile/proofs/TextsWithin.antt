@@ -1,9 +1,9 @@
 -- Trees of texts are within their limits, and no block has more statements than its text has bytes.
-use Rattle.std.proofs.Common.{◌≡◌, ℕ, ◌+◌, ◌<◌, ◌≤◌, ◌^◌, List, [], ◌∷◌, length, Ok, All, ap, arith}
+use Rattle.std.proofs.Common.{◌≡◌, ℕ, ◌<◌, ◌≤◌, ◌^◌, List, length, Ok, All, ap, arith}
 use Rattle.std.specs.List.{AllByRecursion}
 use Rattle.som_model.specs.declared.limits.TheConstants.{MAX_BYTES}
 use Rattle.som_lex.specs.declared.token.Tokens.{Tokens}
-use Rattle.som_lex.specs.Spans.{AreTokens, IsSpelled}
+use Rattle.som_lex.specs.Spans.{IsSpelled}
 use Rattle.som_lex.proofs.Spans.{all_spelled}
 use Rattle.som_idl.specs.Within.{FileWithin}
 use Rattle.som_idl.proofs.WithinLimits.{tree_within}
