@@ -4,11 +4,13 @@ mod FuelLaws
 mod ClientLaws
 mod RunMeaning
 mod RunLaws
+mod ImageLaws
 mod ShowLaws
 mod SayLaws
 mod TextLaws
+mod PartLaws
 mod CompileLaws
-mod LibraryAnswered
+mod PutAnswered
 mod CheckLaws
 mod CheckLoops
 mod CheckMeaning
@@ -20,5 +22,5 @@ mod OneAnswer
 mod Telling
 mod RunAnswers
 mod EndLaws
-mod LibraryEndLaws
+mod PutEndLaws
 mod FuelSpelled

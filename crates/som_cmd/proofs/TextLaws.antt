@@ -11,10 +11,10 @@ use Rattle.som_cmd.specs.declared.stop.Refusal.{Refusal}
 use Rattle.som_cmd.specs.declared.stop.Stop.{Stop}
 use Rattle.som_cmd.specs.declared.stop.Stop.TheVariants as stops
 use Rattle.som_cmd.specs.Endings.{file_of}
-use Rattle.som_cmd.specs.LibraryAnswer.{bytes_kept, text_in, texts_after, texts_in, too_many}
+use Rattle.som_cmd.specs.Texts.{bytes_kept, text_in, texts_after, texts_in, too_many}
 use Rattle.som_cmd.specs.Cause.{AreGot, FailsGettingTexts, HasCause, store_failed}
 use Rattle.som_cmd.specs.Steps.{FollowsTold}
-use Rattle.som_cmd.proofs.ShowLaws.{stops_first}
+use Rattle.som_cmd.proofs.ImageLaws.{stops_first}
 
 -- ---- one text
 

@@ -1,15 +1,20 @@
 //! The top call: what the program does with words, a store of files and a sink.
 #![tactic(auto)]
 
+mod against;
 mod check;
 mod client;
 mod compile;
+mod faults;
 mod fetch;
 mod image;
 mod laws;
 mod library;
 mod line;
 mod output;
+mod parts;
+mod program;
+mod put;
 mod run;
 mod say;
 mod show;

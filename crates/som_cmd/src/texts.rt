@@ -1,5 +1,5 @@
 ghost use Rattle.som_cmd.specs.Cause.{FailsGettingTexts, HasCause, IsQuiet, store_failed};
-ghost use Rattle.som_cmd.specs.LibraryAnswer.{text_in, texts_in, too_many};
+ghost use Rattle.som_cmd.specs.Texts.{text_in, texts_in, too_many};
 ghost use Rattle.som_cmd.specs.Steps.{FollowsTold};
 ghost use Rattle.som_model.specs.declared.limits.TheConstants.{MAX_BYTES};
 ghost use Rattle.std.specs.Prelude.{◌≡◌, ◌+◌, ◌≤◌, IfOk, length};

@@ -1,0 +1,33 @@
+-- What compiling a client prints, answers and leaves: the first step that refuses, or the image under a name.
+use Rattle.std.specs.Prelude.{ℕ, List, Result, Ok, Err}
+use Rattle.som_model.specs.Bytes.{Files}
+use Rattle.som_model.specs.Class.{interface_of}
+use Rattle.som_model.specs.Steps.{◌>>=◌}
+use Rattle.som_compile.specs.declared.fault.TextFault.{TextFault}
+use Rattle.som_compile.specs.Compiling.{CompilesClient}
+use Rattle.som_cmd.specs.declared.parts.ClientParts.{ClientParts}
+use Rattle.som_cmd.specs.declared.stop.Refusal.{Refusal}
+use Rattle.som_cmd.specs.Endings.{Ending, file_of}
+use Rattle.som_cmd.specs.ImageSteps.{sound_release}
+use Rattle.som_cmd.specs.Texts.{texts_in}
+use Rattle.som_cmd.specs.PutAnswer.{IsMade, IsPutAnswer}
+
+-- the release under one name and the texts under others: all are got before the image is read and its rules are looked at
+abbrev pub parts_in : List ℕ → List (List ℕ) → Files → Result ClientParts Refusal
+parts_in library names files = do
+  bytes ← file_of library files
+  texts ← texts_in names files
+  base ← sound_release library bytes
+  Ok (record { base = base; texts = texts })
+
+-- the texts are compiled against what the release shows
+abbrev pub CompilesParts : ClientParts → Result (List ℕ) TextFault → Type 0
+CompilesParts parts told = CompilesClient (interface_of parts.base) parts.texts told
+
+-- what is under these names is compiled to this image
+abbrev pub IsClientCompiled : Files → List ℕ → List (List ℕ) → List ℕ → Type 0
+IsClientCompiled files library names image = IsMade CompilesParts (parts_in library names files) image
+
+-- The library and the texts are got, the library is tested, the texts are compiled against it, and the image is put under the name.
+abbrev pub IsClientAnswer : Files → List ℕ → List ℕ → List (List ℕ) → Ending → Type 0
+IsClientAnswer files out library names e = IsPutAnswer CompilesParts files out (parts_in library names files) e

@@ -1,0 +1,45 @@
+ghost use Rattle.som_cmd.specs.Cause.{FailsGettingParts, HasCause, IsQuiet};
+ghost use Rattle.som_cmd.specs.ClientAnswer.{parts_in};
+ghost use Rattle.som_cmd.specs.Steps.{FollowsTold};
+ghost use Rattle.som_libimage.specs.Limits.{IsWithinLimits};
+ghost use Rattle.som_model.specs.Conforming.{ReleaseOk};
+ghost use Rattle.std.specs.Prelude.{◌≡◌, ◌≤◌, IfOk};
+
+use crate::fetch::fetch;
+use crate::image::sound_release;
+use crate::stop::Stop;
+use crate::texts::fetch_texts;
+use som_compile::Source;
+use som_io::Store;
+use som_model::{List, Release, Text};
+use std::alloc::Global;
+
+/// What a client is compiled from: the release of a library, and texts.
+#[derive(Drop)]
+pub struct ClientParts {
+    pub base: Release,
+    pub texts: List<Source>,
+}
+
+/// The release under one name and the texts under others.
+#[tactic(auto, using(crate::proofs::PartLaws::library_missing, crate::proofs::PartLaws::texts_missing, crate::proofs::PartLaws::library_refused, crate::proofs::PartLaws::all_there, crate::proofs::PartLaws::library_fails, crate::proofs::PartLaws::texts_fail, crate::proofs::PartLaws::reading_fails))]
+pub fn fetch_parts<S: Store>(
+    alloc: Global,
+    library: &Text,
+    names: &[Text],
+    store: &mut S,
+) -> Result<ClientParts, Stop>
+    ensures answer { FollowsTold (S.files store.old) result (parts_in library.now names.now) }
+    ensures conforms { IfOk result (λ p. ReleaseOk p.base) }
+    ensures within { IfOk result (λ p. IsWithinLimits p.base) }
+    ensures files { S.files store.new ≡ S.files store.old }
+    ensures later { S.faults store.old ≤ S.faults store.new }
+    ensures cause { HasCause (FailsGettingParts (S.files store.old) library.now names.now) (S.faults store.old) (S.faults store.new) result }
+    ensures calm { S.calm store.old → S.calm store.new }
+    ensures quiet { S.calm store.old → IsQuiet result }
+{
+    let bytes = fetch(alloc, library, store)?;
+    let texts = fetch_texts(alloc, names, store)?;
+    let base = sound_release(alloc, library, &bytes)?;
+    Ok(ClientParts { base, texts })
+}
