@@ -1,2 +1,3 @@
+pub mod Sources
 pub mod Reading
 pub mod Compiling

@@ -1,5 +1,5 @@
 -- What reading texts comes to: their trees, or what is first wrong with them.
-use Rattle.std.specs.Prelude.{◌≡◌, ℕ, List, [], ◌∷◌, codes, Option, Some, None, Result, Ok, Err}
+use Rattle.std.specs.Prelude.{◌≡◌, ℕ, List, [], ◌∷◌, ◌++◌, codes, Option, Some, None, Result, Ok, Err}
 use Rattle.som_model.specs.declared.limits.TheConstants.{MAX_NAME, MAX_NESTING, MAX_TEXT}
 use Rattle.som_lex.specs.declared.fault.LexFault.{LexFault}
 use Rattle.som_lex.specs.declared.fault.LexFault.TheVariants as lexing
@@ -8,15 +8,21 @@ use Rattle.som_lex.specs.Cut.{Stops}
 use Rattle.som_lex.specs.Spans.{AreTokens}
 use Rattle.som_read.specs.declared.tree.SyntaxFault.{SyntaxFault}
 use Rattle.som_read.specs.declared.tree.SyntaxFault.TheVariants as parsing
-use Rattle.som_idl.specs.declared.tree.IdlFile.{IdlFile}
 use Rattle.som_idl.specs.Answer.{IsAnswer}
+use Rattle.som_body.specs.Answer.{AreBodies, IsMain}
 use Rattle.som_compile.specs.declared.fault.ReadingFault.{ReadingFault}
 use Rattle.som_compile.specs.declared.fault.ReadingFault.TheVariants as reading
 use Rattle.som_compile.specs.declared.fault.TextFault.{TextFault}
 use Rattle.som_compile.specs.declared.fault.TextFault.TheVariants as texts
 use Rattle.som_compile.specs.declared.fault.CompileFault.{CompileFault}
 use Rattle.som_compile.specs.declared.fault.CompileFault.TheVariants as faults
+use Rattle.som_compile.specs.declared.kind.SourceKind.{SourceKind}
+use Rattle.som_compile.specs.declared.kind.SourceKind.TheVariants as kinds
 use Rattle.som_compile.specs.declared.source.Source.{Source}
+use Rattle.som_compile.specs.declared.trees.TextTree.{TextTree}
+use Rattle.som_compile.specs.declared.trees.TextTree.TheVariants as trees
+use Rattle.som_compile.specs.declared.trees.Trees.{Trees}
+use Rattle.som_compile.specs.Sources.{kind_of}
 
 -- the text of this name can't be read
 abbrev unread : List ℕ → ReadingFault → Option TextFault
@@ -43,18 +49,45 @@ parsing_told name (parsing.NotInProfile token) = unread name reading.NotInProfil
 parsing_told name (parsing.Nesting token) = passed (codes "nesting") MAX_NESTING
 parsing_told name parsing.NoMemory = None
 
--- What reading a text comes to: its tree, or its first fault. A fault of its bytes comes before those of its tokens.
-pub data Reads (s : Source) : Result IdlFile TextFault → Type 0 where
-  no_tokens : (f : LexFault) (w : TextFault) → Stops s.bytes 0 f → lexing_told s.name f ≡ Some w → Reads s (Err w)
-  no_tree : (t : Tokens) (f : SyntaxFault) (w : TextFault) → t.source ≡ s.bytes → AreTokens t → IsAnswer t (Err f) → parsing_told s.name f ≡ Some w → Reads s (Err w)
-  a_tree : (t : Tokens) (f : IdlFile) → t.source ≡ s.bytes → AreTokens t → IsAnswer t (Ok f) → Reads s (Ok f)
+-- ---- trees
 
--- What reading texts comes to: the tree of each, or what is wrong with the first that has none.
-pub data ReadsAll : List Source → Result (List IdlFile) TextFault → Type 0 where
-  no_more : ReadsAll [] (Ok [])
-  one_more : {s : Source} {ss : List Source} {f : IdlFile} {fs : List IdlFile} → Reads s (Ok f) → ReadsAll ss (Ok fs) → ReadsAll (s ∷ ss) (Ok (f ∷ fs))
+abbrev pub no_trees : Trees
+no_trees = record { interfaces = []; bodies = []; mains = [] }
+
+-- the trees of a text and of those after it
+abbrev pub with_first : TextTree → Trees → Trees
+with_first (trees.Interfaces f) ts = record { interfaces = f ∷ ts.interfaces; bodies = ts.bodies; mains = ts.mains }
+with_first (trees.Bodies f) ts = record { interfaces = ts.interfaces; bodies = f ∷ ts.bodies; mains = ts.mains }
+with_first (trees.Main f) ts = record { interfaces = ts.interfaces; bodies = ts.bodies; mains = f ∷ ts.mains }
+
+-- the trees of texts and of the next one
+abbrev pub with_last : Trees → TextTree → Trees
+with_last ts (trees.Interfaces f) = record { interfaces = ts.interfaces ++ f ∷ []; bodies = ts.bodies; mains = ts.mains }
+with_last ts (trees.Bodies f) = record { interfaces = ts.interfaces; bodies = ts.bodies ++ f ∷ []; mains = ts.mains }
+with_last ts (trees.Main f) = record { interfaces = ts.interfaces; bodies = ts.bodies; mains = ts.mains ++ f ∷ [] }
+
+-- what the tokens of a text are answered with, by what stands in it
+abbrev pub IsParsed : SourceKind → Tokens → Result TextTree SyntaxFault → Type 0
+IsParsed kinds.Interfaces t (Ok (trees.Interfaces f)) = IsAnswer t (Ok f)
+IsParsed kinds.Interfaces t (Err f) = IsAnswer t (Err f)
+IsParsed kinds.Bodies t (Ok (trees.Bodies f)) = AreBodies t (Ok f)
+IsParsed kinds.Bodies t (Err f) = AreBodies t (Err f)
+IsParsed kinds.Main t (Ok (trees.Main f)) = IsMain t (Ok f)
+IsParsed kinds.Main t (Err f) = IsMain t (Err f)
+IsParsed _ t (Ok _) = ⊥
+
+-- What reading a text comes to: its tree, or its first fault. A fault of its bytes comes before those of its tokens.
+pub data Reads (s : Source) : Result TextTree TextFault → Type 0 where
+  no_tokens : (f : LexFault) (w : TextFault) → Stops s.bytes 0 f → lexing_told s.name f ≡ Some w → Reads s (Err w)
+  no_tree : (t : Tokens) (f : SyntaxFault) (w : TextFault) → t.source ≡ s.bytes → AreTokens t → IsParsed (kind_of s.name) t (Err f) → parsing_told s.name f ≡ Some w → Reads s (Err w)
+  a_tree : (t : Tokens) (f : TextTree) → t.source ≡ s.bytes → AreTokens t → IsParsed (kind_of s.name) t (Ok f) → Reads s (Ok f)
+
+-- What reading texts comes to: the trees of all, or what is wrong with the first that has none.
+pub data ReadsAll : List Source → Result Trees TextFault → Type 0 where
+  no_more : ReadsAll [] (Ok no_trees)
+  one_more : {s : Source} {ss : List Source} {f : TextTree} {ts : Trees} → Reads s (Ok f) → ReadsAll ss (Ok ts) → ReadsAll (s ∷ ss) (Ok (with_first f ts))
   refused : {s : Source} {ss : List Source} {w : TextFault} → Reads s (Err w) → ReadsAll (s ∷ ss) (Err w)
-  refused_later : {s : Source} {ss : List Source} {f : IdlFile} {w : TextFault} → Reads s (Ok f) → ReadsAll ss (Err w) → ReadsAll (s ∷ ss) (Err w)
+  refused_later : {s : Source} {ss : List Source} {f : TextTree} {w : TextFault} → Reads s (Ok f) → ReadsAll ss (Err w) → ReadsAll (s ∷ ss) (Err w)
 
 -- a fault of the code is what is told; want of memory says nothing
 abbrev pub Tells : Option TextFault → CompileFault → Type 0

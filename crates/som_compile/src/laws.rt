@@ -1,18 +1,29 @@
-ghost use Rattle.som_compile.specs.Compiling.{Compiles};
+//! Laws of reading and compiling.
+
+ghost use Rattle.som_compile.specs.Compiling.{Compiles, CompilesClient, IsBase};
 ghost use Rattle.som_compile.specs.Reading.{ReadsAll};
+ghost use Rattle.som_compile.specs.Sources.{bytes_in, mains_in, names_of};
 ghost use Rattle.som_compile.specs.declared.fault.TextFault.{TextFault};
 ghost use Rattle.som_compile.specs.declared.source.Source.{Source};
-ghost use Rattle.som_idl.specs.declared.tree.IdlFile.{IdlFile};
-ghost use Rattle.std.specs.Prelude.{◌≡◌, ℕ, List, Result};
+ghost use Rattle.som_compile.specs.declared.trees.Trees.{Trees};
+ghost use Rattle.som_model.specs.declared.limits.TheConstants.{MAX_BYTES};
+ghost use Rattle.som_model.specs.declared.program.Interface.{Interface};
+ghost use Rattle.std.specs.Prelude.{◌≡◌, ◌≤◌, ℕ, List, Result};
 
 /// Whatever the texts are, reading them comes to one thing, and to no other.
 pub fn reading_law()
-    ensures some { (ss : List Source) → (told : Result (List IdlFile) TextFault) × ReadsAll ss told }
-    ensures one { (ss : List Source) (a b : Result (List IdlFile) TextFault) → ReadsAll ss a → ReadsAll ss b → a ≡ b }
+    ensures some { (ss : List Source) → (told : Result Trees TextFault) × ReadsAll ss told }
+    ensures one { (ss : List Source) (a b : Result Trees TextFault) → ReadsAll ss a → ReadsAll ss b → a ≡ b }
 {}
 
-/// Whatever the texts are, compiling them comes to one thing, and to no other.
+/// Compiling a library's texts comes to one thing, and to no other.
 pub fn compiling_law()
-    ensures some { (ss : List Source) → (told : Result (List ℕ) TextFault) × Compiles ss told }
+    ensures some { (ss : List Source) → bytes_in ss ≤ MAX_BYTES → (told : Result (List ℕ) TextFault) × Compiles ss told }
     ensures one { (ss : List Source) (a b : Result (List ℕ) TextFault) → Compiles ss a → Compiles ss b → a ≡ b }
+{}
+
+/// Compiling a client's texts comes to one thing, and to no other.
+pub fn client_law()
+    ensures some { (base : Interface) (ss : List Source) → IsBase base → mains_in (names_of ss) ≡ 1 → bytes_in ss ≤ MAX_BYTES → (told : Result (List ℕ) TextFault) × CompilesClient base ss told }
+    ensures one { (base : Interface) (ss : List Source) (a b : Result (List ℕ) TextFault) → CompilesClient base ss a → CompilesClient base ss b → a ≡ b }
 {}

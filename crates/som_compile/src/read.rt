@@ -1,10 +1,14 @@
-ghost use Rattle.som_compile.specs.Reading.{Reads, ReadsAll, Says, Tells, lexing_told, parsing_told};
+ghost use Rattle.som_compile.specs.Reading.{IsParsed, Reads, ReadsAll, Says, Tells, lexing_told, parsing_told};
 ghost use Rattle.som_compile.specs.declared.fault.TextFault.TheVariants as texts;
-ghost use Rattle.std.specs.Prelude.{Some};
+ghost use Rattle.som_lex.specs.Spans.{IsSpelled};
+ghost use Rattle.std.specs.Prelude.{All, Some};
 
-use crate::{CompileFault, ReadingFault, Source, TextFault};
-use som_idl::{IdlFile, SyntaxFault, parse_idl};
-use som_lex::{LexFault, lex};
+use crate::{
+    CompileFault, ReadingFault, Source, SourceKind, TextFault, TextTree, Trees, kind_of,
+};
+use som_body::{parse_bodies, parse_main};
+use som_idl::{SyntaxFault, parse_idl};
+use som_lex::{LexFault, Tokens, lex};
 use som_model::{List, MAX_NAME, MAX_NESTING, MAX_TEXT, NoMemory, Text};
 use std::alloc::Global;
 
@@ -55,29 +59,50 @@ fn unparsed(alloc: Global, name: &Text, fault: SyntaxFault) -> CompileFault
     }
 }
 
-// The interfaces of a text, or its first fault.
+// The tree of the tokens of a text of this kind.
+fn parse(alloc: Global, kind: SourceKind, tokens: &Tokens) -> Result<TextTree, SyntaxFault>
+    requires { All (IsSpelled tokens.now.source) tokens.now.list }
+    ensures { IsParsed kind tokens.now result }
+{
+    match kind {
+        SourceKind::Interfaces => match parse_idl(alloc, tokens) {
+            Ok(file) => Ok(TextTree::Interfaces(file)),
+            Err(fault) => Err(fault),
+        },
+        SourceKind::Bodies => match parse_bodies(alloc, tokens) {
+            Ok(file) => Ok(TextTree::Bodies(file)),
+            Err(fault) => Err(fault),
+        },
+        SourceKind::Main => match parse_main(alloc, tokens) {
+            Ok(file) => Ok(TextTree::Main(file)),
+            Err(fault) => Err(fault),
+        },
+    }
+}
+
+// The tree of a text, or its first fault.
 #[tactic(auto, using(crate::proofs::ReadLaws::lex_refused, crate::proofs::ReadLaws::parse_refused, crate::proofs::ReadLaws::tree_read))]
-fn read_text(alloc: Global, source: &Source) -> Result<IdlFile, CompileFault>
+fn read_text(alloc: Global, source: &Source) -> Result<TextTree, CompileFault>
     ensures { Says (Reads source.now) result }
 {
     let tokens = match lex(alloc, &source.bytes) {
         Ok(tokens) => tokens,
         Err(fault) => return Err(unlexed(alloc, &source.name, fault)),
     };
-    match parse_idl(alloc, &tokens) {
+    match parse(alloc, kind_of(&source.name), &tokens) {
         Ok(tree) => Ok(tree),
         Err(fault) => Err(unparsed(alloc, &source.name, fault)),
     }
 }
 
-/// The interfaces of each text in order, or what is wrong with the first that can't be read. A fault of the bytes of a text
-/// comes before those of its tokens.
+/// The trees of the texts, each read in order as what its name says, or what is wrong with the first that can't be read. A fault
+/// of the bytes of a text comes before those of its tokens.
 #[tactic(auto, using(crate::proofs::ReadLaws::all_texts, crate::proofs::ReadLaws::next_read, crate::proofs::ReadLaws::next_refused))]
-pub fn read_interfaces(alloc: Global, sources: &List<Source>) -> Result<List<IdlFile>, CompileFault>
+pub fn read_texts(alloc: Global, sources: &List<Source>) -> Result<Trees, CompileFault>
     ensures { Says (ReadsAll sources.now) result }
 {
     let sources = sources.as_slice();
-    let mut trees = List::new(alloc);
+    let mut trees = Trees::new(alloc);
     for source in sources {
         trees.push(read_text(alloc, source)?)?;
     }

@@ -1,4 +1,4 @@
-use crate::{CompileFault, ReadingFault, Source, TextFault, compile_library, read_interfaces};
+use crate::{CompileFault, ReadingFault, Source, TextFault, compile_library, read_texts};
 use som_model::{List, NoMemory, Text};
 use std::alloc::Global;
 use std::test::Fail;
@@ -41,7 +41,7 @@ fn texts_are_read_in_order(rt: HostRuntime) -> Result<(), Fail> {
     let alloc = rt.alloc();
     let a: &[u8] = b"interface A { };";
     let b: &[u8] = b"interface B { }; interface C { };";
-    match read_interfaces(alloc, &sources(alloc, &[(b"b", b), (b"a", a)])?) {
+    match read_texts(alloc, &sources(alloc, &[(b"b", b), (b"a", a)])?) {
         Ok(trees) => {
             assert_eq!(rt; trees.len(), 2);
             for (tree, wanted) in trees.as_slice().iter().zip([2usize, 1]) {
