@@ -1,12 +1,14 @@
 -- What each step answers and leaves of a command that compiles something and puts its image is what the command does.
 use Rattle.std.proofs.Common.{◌≡◌, ℕ, ◌≤◌, List, Option, Some, None, Result, Ok, Err, refl, sym, subst, inl, inr, arith}
 use Rattle.som_io.specs.Outside.{Rose}
+use Rattle.som_model.specs.declared.program.Interface.{Interface}
 use Rattle.som_model.specs.Bytes.{Files}
+use Rattle.som_model.specs.Class.{interface_of}
 use Rattle.som_compile.specs.declared.fault.CompileFault.{CompileFault}
 use Rattle.som_compile.specs.declared.fault.CompileFault.TheVariants as compiling
 use Rattle.som_compile.specs.declared.fault.TextFault.{TextFault}
 use Rattle.som_compile.specs.declared.source.Source.{Source}
-use Rattle.som_compile.specs.Compiling.{Compiles}
+use Rattle.som_compile.specs.Compiling.{Compiles, CompilesClient}
 use Rattle.som_compile.specs.Reading.{Says}
 use Rattle.som_cmd.specs.declared.output.Output.{Output}
 use Rattle.som_cmd.specs.declared.parts.ClientParts.{ClientParts}
@@ -35,8 +37,13 @@ refused_as Told compiling.NoMemory stop told is = subst (λ (x : Stop). Compiled
 pub library_refused : (ss : List Source) (fault : CompileFault) (stop : Stop) → Says {A = List ℕ} (Compiles ss) (Err fault) → Refuses fault stop → Compiled (Compiles ss) (Err stop)
 library_refused ss fault stop told is = refused_as (Compiles ss) fault stop told is
 
-pub client_refused : (parts : ClientParts) (fault : CompileFault) (stop : Stop) → Says {A = List ℕ} (CompilesParts parts) (Err fault) → Refuses fault stop → Compiled (CompilesParts parts) (Err stop)
-client_refused parts fault stop told is = refused_as (CompilesParts parts) fault stop told is
+pub client_refused : (base : Interface) (parts : ClientParts) (fault : CompileFault) (stop : Stop) → base ≡ interface_of parts.base → Says {A = List ℕ} (CompilesClient base parts.texts) (Err fault) → Refuses fault stop
+    → Compiled (CompilesParts parts) (Err stop)
+client_refused base parts fault stop is told refuses =
+    refused_as (CompilesParts parts) fault stop (subst (λ (i : Interface). Says {A = List ℕ} (CompilesClient i parts.texts) (Err fault)) is told) refuses
+
+pub client_made : (base : Interface) (parts : ClientParts) (image : List ℕ) → base ≡ interface_of parts.base → CompilesClient base parts.texts (Ok image) → Compiled (CompilesParts parts) (Ok image)
+client_made base parts image is made = subst (λ (i : Interface). CompilesClient i parts.texts (Ok image)) is made
 
 pub quietly : (fault : CompileFault) (stop : Stop) → Refuses fault stop → IsQuietStop stop
 quietly (compiling.Text w) (stops.Refused r) is = tt

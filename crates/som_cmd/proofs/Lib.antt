@@ -4,11 +4,13 @@ mod FuelLaws
 mod ClientLaws
 mod RunMeaning
 mod RunLaws
+mod WordLaws
 mod ImageLaws
 mod ShowLaws
 mod SayLaws
 mod TextLaws
 mod PartLaws
+mod BaseLaws
 mod CompileLaws
 mod PutAnswered
 mod CheckLaws

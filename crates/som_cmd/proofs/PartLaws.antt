@@ -10,9 +10,8 @@ use Rattle.som_cmd.specs.declared.stop.Refusal.{Refusal}
 use Rattle.som_cmd.specs.declared.stop.Stop.{Stop}
 use Rattle.som_cmd.specs.declared.stop.Stop.TheVariants as stops
 use Rattle.som_cmd.specs.Endings.{file_of}
-use Rattle.som_cmd.specs.ImageSteps.{sound_release}
 use Rattle.som_cmd.specs.Texts.{texts_in}
-use Rattle.som_cmd.specs.ClientAnswer.{parts_in}
+use Rattle.som_cmd.specs.ClientAnswer.{base_in, parts_in}
 use Rattle.som_cmd.specs.Cause.{FailsGettingParts, FailsGettingTexts, Has, HasCause, IsQuietStop, store_failed}
 use Rattle.som_cmd.specs.Steps.{Stops, Follows, FollowsTold}
 use Rattle.som_cmd.proofs.ImageLaws.{stops_first}
@@ -28,7 +27,7 @@ parts_from base texts = record { base = base; texts = texts }
 
 module _ (library : List ℕ) (names : List (List ℕ)) (told : Files) where
   abbrev after_texts : List ℕ → List Source → Parts
-  after_texts bytes texts = sound_release library bytes >>= λ base. Ok (parts_from base texts)
+  after_texts bytes texts = base_in library bytes >>= λ base. Ok (parts_from base texts)
 
   abbrev after_library : List ℕ → Parts
   after_library bytes = texts_in names told >>= after_texts bytes
@@ -42,10 +41,10 @@ module _ (library : List ℕ) (names : List (List ℕ)) (told : Files) where
   no_texts : (bytes : List ℕ) (stop : Stop) → file_of library told ≡ Ok bytes → Stops stop (texts_in names told) → Stops stop (parts_in library names told)
   no_texts bytes stop f g = subst (Stops stop) (with_library bytes f) (stops_first stop (texts_in names told) (after_texts bytes) g)
 
-  no_base : (bytes : List ℕ) (texts : List Source) (stop : Stop) → file_of library told ≡ Ok bytes → texts_in names told ≡ Ok texts → Stops stop (sound_release library bytes) → Stops stop (parts_in library names told)
-  no_base bytes texts stop f g h = subst (Stops stop) (with_texts bytes texts f g) (stops_first stop (sound_release library bytes) (λ base. Ok (parts_from base texts)) h)
+  no_base : (bytes : List ℕ) (texts : List Source) (stop : Stop) → file_of library told ≡ Ok bytes → texts_in names told ≡ Ok texts → Stops stop (base_in library bytes) → Stops stop (parts_in library names told)
+  no_base bytes texts stop f g h = subst (Stops stop) (with_texts bytes texts f g) (stops_first stop (base_in library bytes) (λ base. Ok (parts_from base texts)) h)
 
-  all_parts : (bytes : List ℕ) (texts : List Source) (base : Release) → file_of library told ≡ Ok bytes → texts_in names told ≡ Ok texts → sound_release library bytes ≡ Ok base
+  pub all_parts : (bytes : List ℕ) (texts : List Source) (base : Release) → file_of library told ≡ Ok bytes → texts_in names told ≡ Ok texts → base_in library bytes ≡ Ok base
       → parts_in library names told ≡ Ok (parts_from base texts)
   all_parts bytes texts base f g h = sym (with_texts bytes texts f g) ∙ ap (λ (x : Result Release Refusal). x >>= λ r. Ok (parts_from r texts)) h
 
@@ -63,14 +62,14 @@ texts_missing (Some told) now library names bytes stop same f g =
 
 -- the library is no image, or breaks a rule
 pub library_refused : (files now : Option Files) (library : List ℕ) (names : List (List ℕ)) (bytes : List ℕ) (texts : List Source) (stop : Stop) → now ≡ files → FollowsTold files (Ok bytes) (file_of library)
-    → FollowsTold now (Ok texts) (texts_in names) → Follows {A = Release} (Err stop) (sound_release library bytes) → FollowsTold {A = ClientParts} files (Err stop) (parts_in library names)
+    → FollowsTold now (Ok texts) (texts_in names) → Follows {A = Release} (Err stop) (base_in library bytes) → FollowsTold {A = ClientParts} files (Err stop) (parts_in library names)
 library_refused None now library names bytes texts stop same f g h = tt
 library_refused (Some told) now library names bytes texts stop same f g h =
     no_base library names told bytes texts stop f (subst (λ (x : Option Files). FollowsTold x (Ok texts) (texts_in names)) same g) h
 
 -- all are there
 pub all_there : (files now : Option Files) (library : List ℕ) (names : List (List ℕ)) (bytes : List ℕ) (texts : List Source) (base : Release) → now ≡ files → FollowsTold files (Ok bytes) (file_of library)
-    → FollowsTold now (Ok texts) (texts_in names) → Follows (Ok base) (sound_release library bytes) → FollowsTold files (Ok (parts_from base texts)) (parts_in library names)
+    → FollowsTold now (Ok texts) (texts_in names) → Follows (Ok base) (base_in library bytes) → FollowsTold files (Ok (parts_from base texts)) (parts_in library names)
 all_there None now library names bytes texts base same f g h = tt
 all_there (Some told) now library names bytes texts base same f g h =
     all_parts library names told bytes texts base f (subst (λ (x : Option Files). FollowsTold x (Ok texts) (texts_in names)) same g) h

@@ -1,9 +1,10 @@
 -- The forms of the words.
 use Rattle.std.specs.Prelude.{ℕ, ◌+◌, ◌-◌, ◌*◌, List, [], ◌∷◌, ◌&&◌, ◌||◌, Bool, false, not, length, codes, ◌==◌, nat_eq, nat_le, Option, Some, None, if◌then◌else◌}
 use Rattle.std.specs.Str.{bytes_eq}
-use Rattle.std.specs.List.{count_by, ends_with}
+use Rattle.std.specs.List.{ends_with}
 use Rattle.som_model.specs.declared.limits.TheConstants.{DEFAULT_FUEL, MAX_FUEL}
 use Rattle.som_model.specs.Lists.{every}
+use Rattle.som_compile.specs.Sources.{is_bodies, is_main, mains_in}
 use Rattle.som_cmd.specs.declared.words.Command.{Command}
 use Rattle.som_cmd.specs.declared.words.Command.TheVariants as commands
 
@@ -69,21 +70,13 @@ is_idl word = ends_with nat_eq word (codes ".idl")
 abbrev pub asked_of : List ℕ → List (List ℕ) → Asked
 asked_of word names = if bytes_eq word (codes "check") && every is_name names then Check names else Bad
 
--- the name of a file of bodies
-abbrev pub is_bod : List ℕ → Bool
-is_bod word = ends_with nat_eq word (codes ".bod")
-
--- the name of a file with a main
-abbrev pub is_main : List ℕ → Bool
-is_main word = ends_with nat_eq word (codes ".main")
-
 -- the name of a file of any of the three kinds
 abbrev pub is_file : List ℕ → Bool
-is_file word = is_idl word || is_bod word || is_main word
+is_file word = is_idl word || is_bodies word || is_main word
 
--- names of files, of which so many are those of a main
+-- names of files, of which so many are those of mains
 abbrev pub are_files : ℕ → List (List ℕ) → Bool
-are_files mains files = every is_file files && (count_by is_main files == mains)
+are_files mains files = every is_file files && (mains_in files == mains)
 
 -- what `library` asks for with a name that isn't empty and files, none with a main
 abbrev pub library_asked : List ℕ → List (List ℕ) → Asked

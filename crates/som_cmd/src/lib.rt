@@ -33,6 +33,8 @@ mod tests_of_bodies;
 #[cfg(test)]
 mod tests_of_checks;
 #[cfg(test)]
+mod tests_of_clients;
+#[cfg(test)]
 mod tests_of_images;
 #[cfg(test)]
 mod tests_of_library;
@@ -44,3 +46,5 @@ mod tests_of_refusals;
 mod tests_of_runs;
 #[cfg(test)]
 mod tests_of_show;
+#[cfg(test)]
+mod tests_of_zoos;

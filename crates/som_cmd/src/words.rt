@@ -1,5 +1,5 @@
-ghost use Rattle.som_cmd.specs.Words.{are_files, asked, asked_by, asked_of, client_asked, fuel_in, fuel_of, is_digit, is_file, is_main, is_name, leads_with_zero, library_asked};
-ghost use Rattle.std.specs.List.{count_by};
+ghost use Rattle.som_cmd.specs.Words.{are_files, asked, asked_by, asked_of, client_asked, fuel_in, fuel_of, is_digit, is_file, is_name, leads_with_zero, library_asked};
+ghost use Rattle.som_compile.specs.Sources.{is_main, mains_in};
 ghost use Rattle.std.specs.Str.{bytes_eq};
 ghost use Rattle.som_model.specs.Lists.{every};
 ghost use Rattle.std.specs.Prelude.{◌≡◌, codes};
@@ -77,8 +77,9 @@ fn is_file(word: &Text) -> bool
 }
 
 // How many of the words name a file with a main.
+#[tactic(auto, using(crate::proofs::WordLaws::one_main, crate::proofs::WordLaws::no_main, crate::proofs::WordLaws::none_counted, crate::proofs::WordLaws::all_counted))]
 fn mains(words: &[Text]) -> usize
-    ensures { result ≡ count_by is_main words.now }
+    ensures { result ≡ mains_in words.now }
 {
     let mut count = 0usize;
     for word in words {
