@@ -1,2 +1,6 @@
+pub mod Counting
 pub mod Lexed
 pub mod ReadLaws
+pub mod Standing
+pub mod CompileLaws
+pub mod ClientLaws

@@ -215,9 +215,9 @@ one_reading s _ _ (no_tree t f v e c x k) (a_tree u g h d y) =
 one_reading s _ _ (a_tree t f e c x) (no_tree u g w h d y l) =
     absurd (syntax_ok f g (same_answer s t u (Ok f) (Err g) e h c d x y (tree_told f) (no_want s.name g w l)))
 one_reading s _ _ (a_tree t f e c x) (a_tree u g h d y) =
-    let same : a_parsed f ≡ a_parsed g = same_answer s t u (Ok f) (Ok g) e h c d x y (tree_told f) (tree_told g) in
-    let same_trees : f ≡ g = cc in
-    ap (λ (k : TextTree). Ok k) same_trees
+    let parses : a_parsed f ≡ a_parsed g = same_answer s t u (Ok f) (Ok g) e h c d x y (tree_told f) (tree_told g) in
+    let same : f ≡ g = cc in
+    ap (λ (k : TextTree). Ok k) same
 
 -- ---- what the code answers
 
@@ -291,6 +291,15 @@ one_readings (s ∷ ss) _ _ (refused {w = v} x) (refused_later {f = g} y q) = ne
 one_readings (s ∷ ss) _ _ (refused_later {w = v} x p) (one_more {ts = gs} y q) = trees_apart gs v (one_readings ss (Ok gs) (Err v) q p)
 one_readings (s ∷ ss) _ _ (refused_later {f = f} x p) (refused {w = w} y) = never_both s f w x y
 one_readings (s ∷ ss) _ _ (refused_later {w = v} x p) (refused_later {w = w} y q) = ap all_failed (trees_err v w (one_readings ss (Err v) (Err w) p q))
+
+pub same_trees : (ss : List Source) (ts us : Trees) → ReadsAll ss (Ok ts) → ReadsAll ss (Ok us) → ts ≡ us
+same_trees ss ts us x y = trees_ok ts us (one_readings ss (Ok ts) (Ok us) x y)
+
+pub same_unread : (ss : List Source) (v w : TextFault) → ReadsAll ss (Err v) → ReadsAll ss (Err w) → v ≡ w
+same_unread ss v w x y = trees_err v w (one_readings ss (Err v) (Err w) x y)
+
+pub read_or_not : {A : Type 0} (ss : List Source) (ts : Trees) (w : TextFault) → ReadsAll ss (Ok ts) → ReadsAll ss (Err w) → A
+read_or_not ss ts w x y = trees_apart ts w (one_readings ss (Ok ts) (Err w) x y)
 
 -- ---- the loop
 

@@ -8,6 +8,8 @@ use Rattle.som_model.specs.Classes.{interface_classes}
 use Rattle.som_model.specs.Images.{client_image, library_image}
 use Rattle.som_body.specs.declared.tree.MainFile.{MainFile}
 use Rattle.som_verify.specs.Faces.{faces_breach}
+use Rattle.som_sema.specs.declared.types.Refused.{Refused}
+use Rattle.som_sema.specs.declared.types.Refused.TheVariants as refusals
 use Rattle.som_sema.specs.Words.{interfaces_of}
 use Rattle.som_elab.specs.Bodies.{bodies_of}
 use Rattle.som_elab.specs.Elaboration.{Limit, Refusal, Rule, elaborated_program, elaborated_release}
@@ -22,6 +24,12 @@ use Rattle.som_compile.specs.Reading.{ReadsAll}
 abbrev pub refusal_told : Refusal → TextFault
 refusal_told (Rule b) = texts.Rule (record { rule = b.rule; class = b.class; member = b.member })
 refusal_told (Limit p) = texts.Limit p.quantity p.number
+
+-- the same of what the code answers; want of memory is no fault of the texts
+abbrev pub building_told : Refused → Option TextFault
+building_told (refusals.Rule b) = Some (texts.Rule b)
+building_told (refusals.Limit quantity number) = Some (texts.Limit quantity number)
+building_told refusals.NoMemory = None
 
 -- ---- libraries
 

@@ -1,4 +1,5 @@
 ghost use Rattle.som_compile.specs.Sources.{kind_of as kind_by_name};
+ghost use Rattle.std.specs.Prelude.{◌≡◌};
 
 use som_model::Text;
 

@@ -1,6 +1,8 @@
 //! From texts to an image, or what is first wrong with them.
 #![tactic(auto)]
 
+#[cfg(test)]
+mod cases;
 mod compile;
 mod fault;
 mod kind;
@@ -9,6 +11,8 @@ mod read;
 mod source;
 #[cfg(test)]
 mod tests;
+#[cfg(test)]
+mod tests_of_images;
 mod trees;
 
 pub use compile::{compile_client, compile_library};
