@@ -14,6 +14,9 @@ Each class declares four attributes and so eight methods. The newer release for 
 class. `run` takes images whose methods print a text, which are made here byte by byte: the client calls a method of
 each class once.
 
+`bodies` is `library` with texts of bodies: each class declares a method of ten statements, which calls a method of the
+root and one of its own, and overrides that of the root. `client` compiles a main that calls a method of each class.
+
 A row gives the least processor seconds of the repeats (so that other work on the machine counts little), the peak of
 memory, the bytes that the command reads, and the ratio of the seconds to those of the row above it, beside the ratio of
 the bytes.
@@ -42,6 +45,26 @@ def interface(shape, k, attributes):
     above = ", ".join(f"G{p}" for p in parents_in(shape, k)) or "SOMObject"
     lines = "".join(f"  attribute long a{k}_{i};\n" for i in range(attributes))
     return f"interface G{k} : {above}\n{{\n{lines}}};\n"
+
+
+def with_methods(shape, k):
+    """An interface with a method of its own; all but the first override that of the root."""
+    above = ", ".join(f"G{p}" for p in parents_in(shape, k)) or "SOMObject"
+    root = "  void tell(in long depth);\n" if k == 0 else ""
+    items = "" if k == 0 else "  implementation { tell: override; };\n"
+    return f"interface G{k} : {above}\n{{\n{root}  long m{k}(in long a, in string b);\n{items}}};\n"
+
+
+def body(k):
+    steps = "".join(f"  if (i < {step}) {{ s = s & text(i * {step} + a); }}\n" for step in range(1, 7))
+    own = f"G{k}::m{k}(a, b)\n{{\n  var i : long = a - 1;\n  var s : string = b;\n{steps}  self.tell(i);\n  return length(s);\n}}\n"
+    tells = f"G{k}::tell(depth) {{ if (depth > 0) {{ print self.m{k}(depth, \"x\"); }} }}\n"
+    return own + tells
+
+
+def main_of(n):
+    calls = "".join(f"  s = host wrapadd(s, (new G{k}).m{k}({k}, \"y\"));\n" for k in range(n))
+    return f"main\n{{\n  var s : long = 0;\n{calls}  print s;\n}}\n".encode()
 
 
 def interfaces(shape, n, attributes):
@@ -117,6 +140,11 @@ def commands(program, folder, shape, n):
     yield "show", ["show", "old"], ["old"]
     yield "check", ["check", "old", "new"], ["old", "new"]
     if shape == "tree":
+        write(folder, "m.idl", "".join(with_methods(shape, k) for k in range(n)).encode())
+        write(folder, "m.bod", "".join(body(k) for k in range(n)).encode())
+        write(folder, "c.main", main_of(n))
+        yield "bodies", ["library", "m", "m.idl", "m.bod"], ["m.idl", "m.bod"]
+        yield "client", ["client", "c", "m", "c.main"], ["m", "c.main"]
         write(folder, "plain", plain_library(n))
         write(folder, "client", plain_client(n))
         yield "run", ["run", "client", "plain"], ["client", "plain"]

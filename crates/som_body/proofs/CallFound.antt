@@ -40,11 +40,11 @@ use Rattle.som_body.proofs.WordFound.{any_word_found, name_found}
 abbrev semicolon : Token
 semicolon = token.Mark sign.Semicolon
 
-name_is_no_call : (n : Word) → s.is_call (expr.Name n) ≡ false
+pub name_is_no_call : (n : Word) → s.is_call (expr.Name n) ≡ false
 unfolding s.is_call
 name_is_no_call n = ap s.is_call_form (ap out-ExprText (sym (rolls-Name n)) ∙ out-roll-ExprText (ExprText-F.Name n))
 
-variable_is_no_call : (n : Word) → s.is_call (expr.Variable n) ≡ false
+pub variable_is_no_call : (n : Word) → s.is_call (expr.Variable n) ≡ false
 unfolding s.is_call
 variable_is_no_call n = ap s.is_call_form (ap out-ExprText (sym (rolls-Variable n)) ∙ out-roll-ExprText (ExprText-F.Variable n))
 
@@ -79,7 +79,7 @@ if_not : {A : Type 0} (b : Bool) (x y : A) → b ≡ false → cond b x y ≡ y
 if_not true x y e = cc
 if_not false x y e = refl
 
-name_begun : (k : Key) (p : ℕ) (u : List Token) (l : List ℕ) → g.is_name k ≡ true → s.as_begun_by (token.Word k p ∷ u) l ≡ 0 ∷ drop 1 l
+pub name_begun : (k : Key) (p : ℕ) (u : List Token) (l : List ℕ) → g.is_name k ≡ true → s.as_begun_by (token.Word k p ∷ u) l ≡ 0 ∷ drop 1 l
 name_begun key.SomThis p u l e = cc
 name_begun k p u l e = if_so (g.is_name k) (0 ∷ drop 1 l) l e
 
@@ -88,7 +88,7 @@ unfolding same_key
 word_begun key.SomThis p u l e f = cc
 word_begun k p u l e f = if_not (g.is_name k) (0 ∷ drop 1 l) l e
 
-other_begun : (t : Token) (u : List Token) (l : List ℕ) → sr.begins_name (Some t) ≡ false → is_key key.SomThis (Some t) ≡ false → s.as_begun_by (t ∷ u) l ≡ l
+pub other_begun : (t : Token) (u : List Token) (l : List ℕ) → sr.begins_name (Some t) ≡ false → is_key key.SomThis (Some t) ≡ false → s.as_begun_by (t ∷ u) l ≡ l
 other_begun (token.Word k p) u l e f = word_begun k p u l e f
 other_begun (token.Number n) u l e f = refl
 other_begun (token.Literal p) u l e f = refl
@@ -229,7 +229,7 @@ module _ (text_at : ℕ → List ℕ) where
   variable_opens : (p : ℕ) {u : List Token} {n : Word} → g.IsWord text_at u n → Opens (1 ∷ 1 ∷ 1 ∷ []) (token.Word key.SomThis p ∷ dot ∷ u) (expr.Variable n)
   variable_opens p (g.a_word k q) = opens_variable p k q
 
-  opens : {l : List ℕ} {u : List Token} {a : ExprText} → g.IsPrimary text_at l u a → Opens l u a
+  pub opens : {l : List ℕ} {u : List Token} {a : ExprText} → g.IsPrimary text_at l u a → Opens l u a
   unfolding same_key
   opens (g.an_atom t {a = a} e) = atom_opens t a e
   opens (g.a_variable {p = p} i) = variable_opens p i

@@ -20,3 +20,5 @@ pub mod FileFound
 pub mod LevelWhole
 pub mod Theorem
 pub mod Stopping
+pub mod TokensWithin
+pub mod WithinLimits

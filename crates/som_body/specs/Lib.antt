@@ -5,3 +5,4 @@ pub mod Reading
 pub mod StatementReading
 pub mod Answer
 pub mod Inner
+pub mod Within

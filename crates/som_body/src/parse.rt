@@ -2,12 +2,13 @@
 
 ghost use Rattle.som_body.specs.Answer.{AreBodies, IsMain, is_refused as is_refused_of};
 ghost use Rattle.som_body.specs.StatementReading.{body_file as body_file_of, main_file as main_file_of};
+ghost use Rattle.som_body.specs.Within.{BodyFileWithin, MainFileWithin};
 ghost use Rattle.som_lex.specs.Spans.{IsSpelled};
 ghost use Rattle.som_model.specs.declared.limits.TheConstants.{MAX_NESTING};
 ghost use Rattle.som_read.specs.Seen.{places_from, seen_from, text_at};
 ghost use Rattle.som_read.specs.Tokens.{head};
 ghost use Rattle.som_read.specs.declared.cursor.Stop.TheVariants as stops;
-ghost use Rattle.std.specs.Prelude.{◌≡◌, ◌≢◌, All};
+ghost use Rattle.std.specs.Prelude.{◌≡◌, ◌≢◌, All, IfOk, length};
 
 use crate::file::{body_file, main_file};
 use crate::{BodyFile, MainFile, SyntaxFault};
@@ -43,10 +44,11 @@ fn refuse(tokens: &Tokens, seen: &Seen, left: &Cursor<'_>, stop: Stop) -> Syntax
 }
 
 /// The tree of a file of bodies, or the place of the first token that no text goes on with or with which it nests too deep. The
-/// tokens are those of a text.
+/// tokens are those of a text, and so what the tree has is within its limits.
 pub fn parse_bodies(alloc: Global, tokens: &Tokens) -> Result<BodyFile, SyntaxFault>
     requires { All (IsSpelled tokens.now.source) tokens.now.list }
-    ensures { AreBodies tokens.now result }
+    ensures answer { AreBodies tokens.now result }
+    ensures within { IfOk result (BodyFileWithin (length tokens.now.list)) }
 {
     let Ok(seen) = see(alloc, tokens) else {
         return Err(SyntaxFault::NoMemory);
@@ -61,10 +63,11 @@ pub fn parse_bodies(alloc: Global, tokens: &Tokens) -> Result<BodyFile, SyntaxFa
 }
 
 /// The tree of a main, or the place of the first token that no text goes on with or with which it nests too deep. The tokens are
-/// those of a text.
+/// those of a text, and so what the tree has is within its limits.
 pub fn parse_main(alloc: Global, tokens: &Tokens) -> Result<MainFile, SyntaxFault>
     requires { All (IsSpelled tokens.now.source) tokens.now.list }
-    ensures { IsMain tokens.now result }
+    ensures answer { IsMain tokens.now result }
+    ensures within { IfOk result (MainFileWithin (length tokens.now.list)) }
 {
     let Ok(seen) = see(alloc, tokens) else {
         return Err(SyntaxFault::NoMemory);

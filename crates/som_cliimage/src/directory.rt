@@ -1,8 +1,7 @@
 ghost use Rattle.som_cliimage.specs.Numbering.{interface_directory, program_directory};
-ghost use Rattle.som_model.specs.Class.{entry_name};
-ghost use Rattle.std.specs.Prelude.{◌≡◌, map, IfOk};
+ghost use Rattle.std.specs.Prelude.{◌≡◌, IfOk};
 
-use som_model::{ClassKey, ClientProgram, Entry, Interface, List, Module, NoMemory, Text};
+use som_model::{ClientProgram, Interface, Module, NoMemory};
 use som_naming::Directory;
 use std::alloc::Global;
 
@@ -15,11 +14,7 @@ pub(crate) fn interface_directory(
 {
     let mut directory = Directory::of_kernel(alloc)?;
     for face in interface.classes.as_slice() {
-        directory.keys.push(ClassKey::Named {
-            module: Module::Library,
-            name: face.name.copy(alloc)?,
-        })?;
-        directory.slots.push(entry_names(alloc, &face.entries)?)?;
+        directory.add_face(alloc, Module::Library, face)?;
     }
     Ok(directory)
 }
@@ -33,32 +28,7 @@ pub(crate) fn program_directory(
 {
     let mut directory = interface_directory(alloc, &program.base)?;
     for class in program.classes.as_slice() {
-        directory.keys.push(ClassKey::Named {
-            module: Module::Client,
-            name: class.face.name.copy(alloc)?,
-        })?;
-        directory
-            .slots
-            .push(entry_names(alloc, &class.face.entries)?)?;
+        directory.add_face(alloc, Module::Client, &class.face)?;
     }
     Ok(directory)
-}
-
-fn entry_names(alloc: Global, entries: &List<Entry>) -> Result<List<Text>, NoMemory>
-    ensures { IfOk result (λ names. names ≡ map entry_name entries.now) }
-{
-    let mut names = List::new(alloc);
-    for entry in entries.as_slice() {
-        names.push(name_of_entry(alloc, entry)?)?;
-    }
-    Ok(names)
-}
-
-fn name_of_entry(alloc: Global, entry: &Entry) -> Result<Text, NoMemory>
-    ensures { IfOk result (λ name. name ≡ entry_name entry.now) }
-{
-    match entry {
-        Entry::Introduced { name, .. } => name.copy(alloc),
-        Entry::Moved { name, .. } => name.copy(alloc),
-    }
 }

@@ -1,6 +1,7 @@
 use super::*;
 use crate::program::{read_program, write_program};
 use som_model::{ClassDecl, ClassKey, Expr, List, MethodRef, Module, NoMemory, Stmt};
+use som_verify::program_ok;
 use som_wire::ImageFault;
 use std::alloc::Global;
 use std::test::Fail;
@@ -388,5 +389,30 @@ fn written_again(alloc: Global, bytes: &[u8]) -> Result<bool, ImageFault> {
 fn what_was_read_is_written_again(rt: HostRuntime) -> Result<(), Fail> {
     assert_eq!(rt; written_again(rt.alloc(), &HELLO), Ok(true));
     assert_eq!(rt; written_again(rt.alloc(), &OWN), Ok(true));
+    Ok(())
+}
+
+// The image of the program that an image spells.
+fn again(alloc: Global, image: &[u8]) -> Result<List<u8>, Fail> {
+    let Ok(program) = decode(alloc, &List::from_slice(alloc, image)?) else {
+        return Err(Fail::from("a client program"));
+    };
+    let Ok(()) = program_ok(alloc, &program) else {
+        return Err(Fail::from("a program that breaks no rule"));
+    };
+    match encode(alloc, &program) {
+        Ok(bytes) => Ok(bytes),
+        Err(_) => Err(Fail::from("an image")),
+    }
+}
+
+#[test]
+fn a_program_that_conforms_has_its_image(rt: HostRuntime) -> Result<(), Fail> {
+    let alloc = rt.alloc();
+    assert_eq!(rt;
+        again(alloc, HELLO.as_slice())?.as_slice(),
+        HELLO.as_slice()
+    );
+    assert_eq!(rt; again(alloc, OWN.as_slice())?.as_slice(), OWN.as_slice());
     Ok(())
 }

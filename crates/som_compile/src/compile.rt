@@ -37,7 +37,7 @@ fn only_main(mains: &List<MainFile>) -> &MainFile
 
 /// The image of the release that texts stand for, or what is first wrong with them: with the first that can't be read, and
 /// else the first rule that they break or limit that they pass. None of the texts is a main.
-#[tactic(auto, using(crate::proofs::CompileLaws::all_unread, crate::proofs::CompileLaws::none_built, crate::proofs::CompileLaws::one_written))]
+#[tactic(auto, using(crate::proofs::CompileLaws::all_unread, crate::proofs::CompileLaws::none_built, crate::proofs::CompileLaws::one_written, crate::proofs::CompileLaws::built_fits))]
 pub fn compile_library(alloc: Global, sources: &List<Source>) -> Result<List<u8>, CompileFault>
     requires no_main { mains_in (names_of sources.now) ≡ 0 }
     requires bytes { bytes_in sources.now ≤ MAX_BYTES }
@@ -56,7 +56,7 @@ pub fn compile_library(alloc: Global, sources: &List<Source>) -> Result<List<u8>
 
 /// The image of the client program that texts stand for which are compiled against a base, or what is first wrong with them.
 /// One of the texts is a main.
-#[tactic(auto, using(crate::proofs::ClientLaws::client_none_read, crate::proofs::ClientLaws::client_none_built, crate::proofs::ClientLaws::client_written, crate::proofs::ClientLaws::one_main_read))]
+#[tactic(auto, using(crate::proofs::ClientLaws::client_none_read, crate::proofs::ClientLaws::client_none_built, crate::proofs::ClientLaws::client_written, crate::proofs::ClientLaws::one_main_read, crate::proofs::ClientLaws::client_fits))]
 pub fn compile_client(
     alloc: Global,
     base: &Interface,

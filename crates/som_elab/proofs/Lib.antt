@@ -1,0 +1,10 @@
+pub mod Went
+pub mod TypedExpressions
+pub mod TypedBodies
+pub mod Plain
+pub mod PlainRules
+pub mod Fitting
+pub mod Declared
+pub mod Signatures
+pub mod ClassBodies
+pub mod Conforms

@@ -4,6 +4,7 @@ use Rattle.std.specs.Str.{bytes_eq}
 use Rattle.som_model.specs.declared.key.Module.{Module}
 use Rattle.som_model.specs.declared.class.Sig.{Sig}
 use Rattle.som_model.specs.declared.class.Override.{Override}
+use Rattle.som_model.specs.declared.class.ClassDecl.{ClassDecl}
 use Rattle.som_model.specs.declared.program.Interface.{Interface}
 use Rattle.som_model.specs.Lists.{among, find, first, or_else}
 use Rattle.som_model.specs.Class.{Class, entry_of, introduced, introduced_sig}
@@ -19,11 +20,16 @@ use Rattle.som_verify.specs.Places.{with_kernel}
 use Rattle.som_sema.specs.Sketch.{Drawn}
 use Rattle.som_sema.specs.TextRules.{text_demand}
 use Rattle.som_sema.specs.Building.{after_base, declarations}
-use Rattle.som_sema.specs.Releases.{beside}
 
 -- the bodies of all files, in order
 abbrev pub bodies_of : List BodyFile → List BodyText
 bodies_of files = flat_map (λ (f : BodyFile). f.bodies) files
+
+-- interfaces with declarations, one by one
+abbrev pub beside : List IdlInterface → List ClassDecl → List Drawn
+beside [] cs = []
+beside (i ∷ is) [] = []
+beside (i ∷ is) (c ∷ cs) = record { text = i; class = c } ∷ beside is cs
 
 -- each interface with its declaration
 abbrev pub drawn_over : Module → Interface → List IdlInterface → List Drawn

@@ -4,6 +4,7 @@
 mod build;
 mod expressions;
 mod fault;
+mod laws;
 mod local;
 mod made;
 mod site;
@@ -12,6 +13,7 @@ mod statements;
 pub use build::{build_release, elaborate};
 pub use expressions::{expression, value_expression};
 pub use fault::BodyFault;
+pub use laws::conforming_law;
 pub use local::Local;
 pub use made::Made;
 pub use site::Site;

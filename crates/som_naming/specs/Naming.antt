@@ -1,5 +1,5 @@
 -- What numbers and slots stand for: classes, methods and types.
-use Rattle.std.specs.Prelude.{◌≡◌, ℕ, List, [], ◌++◌, length, map, get_or}
+use Rattle.std.specs.Prelude.{◌≡◌, ℕ, List, [], ◌∷◌, ◌++◌, length, map, get_or}
 use Rattle.std.specs.List.{AllByRecursion, IsDistinct}
 use Rattle.std.specs.Str.{bytes_eq}
 use Rattle.som_model.specs.declared.key.Module.{Module}
@@ -9,6 +9,7 @@ use Rattle.som_model.specs.declared.key.ClassKey.TheVariants as keys
 use Rattle.som_model.specs.declared.key.MethodRef.{MethodRef}
 use Rattle.som_model.specs.declared.key.ValueType.{ValueType}
 use Rattle.som_model.specs.declared.key.ValueType.TheVariants as values
+use Rattle.som_model.specs.declared.class.ClassFace.{ClassFace}
 use Rattle.som_model.specs.Keys.{same_key}
 use Rattle.som_model.specs.Class.{Class, entry_name}
 use Rattle.som_model.specs.Kernel.{kernel, som_object}
@@ -38,6 +39,10 @@ kernel_directory = record { keys = map (λ c. c.key) kernel; slots = map (λ c. 
 -- these classes, and then those of a module with these faces
 abbrev pub with_classes : Directory → Module → List WireFace → Directory
 with_classes d m fs = record { keys = d.keys ++ map (λ f. keys.Named m f.name) fs; slots = d.slots ++ map names_in fs }
+
+-- these classes, and then one of a module
+abbrev pub with_face : Directory → Module → ClassFace → Directory
+with_face d m f = record { keys = d.keys ++ keys.Named m f.name ∷ []; slots = d.slots ++ map entry_name f.entries ∷ [] }
 
 -- the kernel's classes and a library's
 abbrev pub library_directory : List WireFace → Directory

@@ -4,12 +4,13 @@ ghost use Rattle.som_naming.specs.Naming.{
   name_in,
   names_in,
   with_classes,
+  with_face,
 };
 ghost use Rattle.som_naming.specs.Numbering.{release_directory};
 ghost use Rattle.som_model.specs.Class.{entry_name};
 ghost use Rattle.std.specs.Prelude.{◌≡◌, map, IfOk, OnOk};
 
-use som_model::{ClassKey, Entry, List, Module, NoMemory, Release, Text, kernel_faces};
+use som_model::{ClassFace, ClassKey, Entry, List, Module, NoMemory, Release, Text, kernel_faces};
 use som_wire::{WireEntry, WireFace};
 use std::alloc::Global;
 
@@ -26,16 +27,31 @@ impl Directory {
         ensures { IfOk result (λ directory. directory ≡ kernel_directory) }
     {
         let kernel = kernel_faces(alloc)?;
-        let mut keys = List::new(alloc);
-        let mut slots = List::new(alloc);
+        let mut directory = Directory {
+            keys: List::new(alloc),
+            slots: List::new(alloc),
+        };
         for face in kernel.classes.as_slice() {
-            keys.push(ClassKey::Named {
-                module: Module::Kernel,
-                name: face.name.copy(alloc)?,
-            })?;
-            slots.push(entry_names(alloc, &face.entries)?)?;
+            directory.add_face(alloc, Module::Kernel, face)?;
         }
-        Ok(Directory { keys, slots })
+        Ok(directory)
+    }
+
+    /// Adds a class of a module. After an error its key may have been added.
+    pub fn add_face(
+        &mut self,
+        alloc: Global,
+        home: Module,
+        face: &ClassFace,
+    ) -> Result<(), NoMemory>
+        ensures { OnOk result (self.new ≡ with_face self.old home face.now) }
+    {
+        self.keys.push(ClassKey::Named {
+            module: home,
+            name: face.name.copy(alloc)?,
+        })?;
+        self.slots.push(entry_names(alloc, &face.entries)?)?;
+        Ok(())
     }
 
     /// Adds the classes of a module with these faces. After an error a part of them may have been added.
@@ -72,13 +88,7 @@ impl Directory {
     {
         let mut directory = Directory::of_kernel(alloc)?;
         for class in release.classes.as_slice() {
-            directory.keys.push(ClassKey::Named {
-                module: Module::Library,
-                name: class.face.name.copy(alloc)?,
-            })?;
-            directory
-                .slots
-                .push(entry_names(alloc, &class.face.entries)?)?;
+            directory.add_face(alloc, Module::Library, &class.face)?;
         }
         Ok(directory)
     }

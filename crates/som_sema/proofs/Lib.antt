@@ -10,13 +10,7 @@ pub mod Finishing
 pub mod Telling
 pub mod Answered
 pub mod TextLaws
-pub mod Accessing
-pub mod Releasing
-pub mod Fitting
-pub mod ReleaseLaws
-pub mod Bodiless
-pub mod ReleaseBodies
-pub mod Conformed
+pub mod LimitLaws
 pub mod Outlines
 pub mod BaseKept
 pub mod TextsConform

@@ -9,6 +9,7 @@ use Rattle.som_read.specs.declared.tree.Word.{Word}
 use Rattle.som_idl.specs.declared.tree.IdlInterface.{IdlInterface}
 use Rattle.som_idl.specs.declared.tree.Export.{Export}
 use Rattle.som_idl.specs.declared.tree.Export.TheVariants as exports
+use Rattle.som_sema.specs.declared.accessors.Accessor.{Accessor}
 use Rattle.som_sema.specs.Sketch.{Drawn, getter, setter}
 
 -- a method that reads or sets an attribute
@@ -43,3 +44,7 @@ accessor_body vs a =
 -- the body of a method that a class introduces: an accessor has one, and an operation has none
 abbrev pub body_of : Drawn → List ℕ → Option Body
 body_of d name = option_map (accessor_body d.class.variables) (find (λ (a : Access). bytes_eq name a.name) (accessors_of d.text))
+
+-- an accessor of the code
+abbrev pub access : Accessor → Access
+access a = record { name = a.name; attribute = a.attribute.now; sets = a.sets }

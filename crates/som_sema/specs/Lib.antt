@@ -10,6 +10,4 @@ pub mod Building
 pub mod PlainTexts
 pub mod Accessors
 pub mod Limits
-pub mod Releases
-pub mod Released
-pub mod PlainReleases
+pub mod PlainLimits

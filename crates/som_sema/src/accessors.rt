@@ -1,17 +1,11 @@
-ghost use Rattle.som_sema.specs.Releases as spec;
-ghost use Rattle.som_sema.specs.Released.{access};
-ghost use Rattle.som_sema.specs.Releases.{Access, attribute_accessors, export_accessors};
+ghost use Rattle.som_sema.specs.Accessors as spec;
+ghost use Rattle.som_sema.specs.Accessors.{Access, access, attribute_accessors, export_accessors};
 ghost use Rattle.som_model.specs.Lists.{find};
-ghost use Rattle.som_order.specs.Names.{texts};
 ghost use Rattle.som_read.specs.declared.tree.Word.{Word as Named};
-ghost use Rattle.som_sema.specs.Words.{once};
 ghost use Rattle.std.specs.Prelude.{◌≡◌, ◌++◌, map, flat_map, option_map, option_copied, IfOk, OnOk};
 ghost use Rattle.std.specs.Str.{bytes_eq};
 
 use crate::exports::prefixed;
-use crate::items::add;
-use crate::tables::table_of;
-use indexmap::IndexSet;
 use som_idl::{Export, IdlInterface, Word};
 use som_model::{NoMemory, Text};
 use std::alloc::Global;
@@ -25,7 +19,7 @@ pub struct Accessor<'a> {
 }
 
 /// The accessors that an interface declares.
-pub fn accessors(alloc: Global, text: &IdlInterface) -> Result<Vec<Accessor<'_>>, NoMemory>
+pub fn accessors_of(alloc: Global, text: &IdlInterface) -> Result<Vec<Accessor<'_>>, NoMemory>
     ensures { IfOk result (λ all. map access all.items ≡ spec.accessors_of text.now) }
 {
     let mut all = Vec::new(alloc);
@@ -100,20 +94,6 @@ fn add_attribute<'a>(
         })?;
     }
     Ok(())
-}
-
-/// A table of the names of accessors.
-pub fn accessor_names<'a>(
-    alloc: Global,
-    accessors: &'a [Accessor],
-) -> Result<IndexSet<&'a [u8]>, NoMemory>
-    ensures { IfOk result (λ known. texts known.keys ≡ once (map (λ (a : Access). a.name) (map access accessors.now))) }
-{
-    let mut names = Vec::new(alloc);
-    for accessor in accessors {
-        add(&mut names, accessor.name.as_slice())?;
-    }
-    table_of(alloc, &names)
 }
 
 /// The accessor of a name.

@@ -13,8 +13,8 @@ ghost use Rattle.som_verify.specs.Told.{Tells};
 ghost use Rattle.som_verify.specs.Walk.{AreLists};
 ghost use Rattle.std.specs.Prelude.{◌≡◌, ◌<◌, ◌+◌, length, take, flat_map, is_some, slice_get, IfOk, Some};
 
-use crate::breach::{breach, each_drawing};
 use crate::items::{add_metaclasses, parent_names};
+use crate::passes::{breach, each_drawing};
 use crate::scope::{Scope, key_of};
 use crate::sketch::Drawing;
 use indexmap::IndexSet;

@@ -14,7 +14,6 @@ ghost use Rattle.som_verify.specs.Told.{Tells};
 ghost use Rattle.std.specs.Prelude.{◌≡◌, ◌++◌, map, IfOk, OnOk, None};
 
 use crate::declared::declarations;
-use crate::faces::KERNEL_CLASSES;
 use crate::members::items_differ;
 use crate::modifiers::modifiers_stand;
 use crate::rules::{moves_hold, sketches_hold};
@@ -27,7 +26,7 @@ use som_model::{
     ClassDecl, ClassFace, Interface, List, MAX_CLIENT_CLASSES, MAX_LIBRARY_CLASSES, Module,
     NoMemory, Text, kernel_faces,
 };
-use som_verify::{Declared, VerifyFault, bare_classes, declare};
+use som_verify::{Declared, KERNEL_CLASSES, VerifyFault, bare_classes, declare};
 use std::alloc::Global;
 
 /// The declarations that texts stand for, without bodies, or the first limit or rule that they break. They are compiled

@@ -6,7 +6,7 @@ ghost use Rattle.som_verify.specs.Told.{Tells};
 ghost use Rattle.std.specs.Prelude.{◌≡◌, [], IfOk, option_copied};
 ghost use Rattle.std.specs.Str.{bytes_eq};
 
-use crate::breach::breach;
+use crate::passes::breach;
 use crate::sketch::Drawing;
 use indexmap::IndexSet;
 use som_model::NoMemory;

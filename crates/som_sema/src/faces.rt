@@ -8,11 +8,8 @@ ghost use Rattle.std.specs.Prelude.{◌≡◌, ◌<◌, ◌++◌, ℕ, length, I
 
 use crate::places::{Noted, note};
 use som_model::{ClassFace, ClassKey, Entry, Module, NoMemory};
-use som_verify::Declared;
+use som_verify::{Declared, KERNEL_CLASSES};
 use std::alloc::Global;
-
-/// The number of the kernel's classes, which stand before the declared ones.
-pub const KERNEL_CLASSES: usize = 4;
 
 /// The face of the class at a place.
 pub fn face_of<'a>(kernel: &'a [ClassFace], classes: &[Declared<'a>], place: usize) -> &'a ClassFace

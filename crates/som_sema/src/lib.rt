@@ -1,10 +1,9 @@
-//! The faces and the release that interface files stand for, or the first rule that they break.
+//! The faces that interface files stand for, or the first rule that they break.
 #![tactic(auto)]
 
+mod accessor_bodies;
 mod accessors;
 mod bases;
-mod bodies;
-mod breach;
 mod build;
 #[cfg(test)]
 mod cases;
@@ -18,32 +17,26 @@ mod limits;
 mod marks;
 mod members;
 mod modifiers;
+mod passes;
 mod places;
-mod release;
-#[cfg(test)]
-mod release_cases;
-mod release_laws;
 mod rules;
 mod scope;
 mod sketch;
 mod tables;
 #[cfg(test)]
 mod tests;
-#[cfg(test)]
-mod tests_of_releases;
 mod types;
 mod variables;
 mod walked;
 
-pub use accessors::{Accessor, accessor_named, accessor_names};
-pub use breach::each_drawing;
+pub use accessor_bodies::body_named;
+pub use accessors::{Accessor, accessor_named, accessors_of};
 pub use build::{all_interfaces, build_faces, refused};
-pub use laws::{declarations_law, text_rules_law};
+pub use laws::{declarations_law, limits_law, text_rules_law};
 pub use limits::limits_kept;
 pub use members::introduced_names;
+pub use passes::{breach, each_drawing};
 pub use places::{Noted, Places, first_place, note, place_table};
-pub use release::build_release;
-pub use release_laws::release_rules_law;
 pub use scope::{Scope, home_of, key_of, result_of, scope_of, type_of};
 pub use sketch::Drawing;
 pub use tables::table_of;

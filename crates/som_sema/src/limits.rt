@@ -1,7 +1,6 @@
 ghost use Rattle.som_model.specs.Lists.{first};
-ghost use Rattle.som_sema.specs.Releases as spec;
-ghost use Rattle.som_sema.specs.Released.{KeepsLimit};
-ghost use Rattle.som_sema.specs.Releases.{class_limits, entry_limits, limit_passed};
+ghost use Rattle.som_sema.specs.Limits as spec;
+ghost use Rattle.som_sema.specs.Limits.{KeepsLimit, class_limits, entry_limits, limit_passed};
 ghost use Rattle.som_sema.specs.Sketch.{drawings as drawn, sketches};
 ghost use Rattle.std.specs.Prelude.{flat_map};
 

@@ -8,9 +8,9 @@ ghost use Rattle.som_sema.specs.declared.sketch.Drawing.{Drawing as Known};
 ghost use Rattle.som_verify.specs.Told.{Tells};
 ghost use Rattle.std.specs.Prelude.{◌≡◌, ◌<◌, length, flat_map, slice_get, IfOk, Some};
 
-use crate::breach::each_drawing;
 use crate::double::no_double;
 use crate::items::{add, item_words, listed};
+use crate::passes::each_drawing;
 use crate::sketch::Drawing;
 use som_model::{Entry, NoMemory};
 use som_verify::VerifyFault;

@@ -11,9 +11,9 @@ ghost use Rattle.som_verify.specs.Told.{Tells};
 ghost use Rattle.std.specs.Prelude.{◌≡◌, ◌<◌, ◌++◌, ◌∷◌, ◌&&◌, true, not, [], length, map, flat_map, slice_get, option_copied, IfOk, Some};
 ghost use Rattle.som_model.specs.Lists.{among};
 
-use crate::breach::{breach, each_drawing};
 use crate::marks::{Mark, marks};
 use crate::members::introduced_names;
+use crate::passes::{breach, each_drawing};
 use crate::sketch::Drawing;
 use crate::tables::table_of;
 use indexmap::IndexSet;

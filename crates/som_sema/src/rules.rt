@@ -16,7 +16,6 @@ ghost use Rattle.som_verify.specs.Told.{Tells};
 ghost use Rattle.std.specs.Prelude.{◌≡◌, ◌≤◌, ◌+◌, length, map, take, drop, flat_map, IfOk, None};
 
 use crate::bases::{bases_stand, metaclasses_descend};
-use crate::faces::KERNEL_CLASSES;
 use crate::members::names_differ;
 use crate::scope::Scope;
 use crate::sketch::Drawing;
@@ -24,7 +23,7 @@ use crate::walked::{Walked, ancestor_lists};
 use indexmap::IndexSet;
 use som_model::ClassFace;
 use som_verify::{
-    Declared, VerifyFault, class_names, entries_moved_up, names_introduced_once,
+    Declared, KERNEL_CLASSES, VerifyFault, class_names, entries_moved_up, names_introduced_once,
     overrides_inherited, parents_differ, types_known, variables_differ,
 };
 use std::alloc::Global;

@@ -161,7 +161,7 @@ fn add(
 }
 
 /// Files are parted by ` & `, interfaces by `; `, what they say by `, `.
-pub fn files(alloc: Global, short: &str) -> Result<List<IdlFile>, Fail> {
+fn files(alloc: Global, short: &str) -> Result<List<IdlFile>, Fail> {
     let mut list = List::new(alloc);
     for file in &cut(alloc, short, " & ")? {
         list.push(IdlFile {
@@ -261,7 +261,7 @@ fn show_face(alloc: Global, home: Module, out: &mut String, face: &ClassFace) ->
 }
 
 /// A class with its variables and overrides, but without bodies.
-pub fn show_declared(
+fn show_declared(
     alloc: Global,
     home: Module,
     out: &mut String,
@@ -300,7 +300,7 @@ fn show_class(
 }
 
 /// Why texts are refused.
-pub fn told_refused(alloc: Global, fault: &Refused) -> Result<String, Fail> {
+fn told_refused(alloc: Global, fault: &Refused) -> Result<String, Fail> {
     match fault {
         Refused::NoMemory => Err(Fail::from("no memory")),
         Refused::Limit { quantity, number } => {
@@ -405,7 +405,7 @@ fn a_client_sees_its_base(rt: HostRuntime) -> Result<(), Fail> {
 }
 
 /// One file with so many classes, of which the last has the name of the first.
-pub fn many(alloc: Global, count: usize) -> Result<List<IdlFile>, Fail> {
+fn many(alloc: Global, count: usize) -> Result<List<IdlFile>, Fail> {
     let mut list = List::new(alloc);
     for number in 1..count {
         let mut interface = empty_interface(alloc)?;

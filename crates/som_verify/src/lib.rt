@@ -53,8 +53,8 @@ pub use ancestry::ancestors;
 pub use blocks::{Parts, parts_of};
 pub use bodies::bodies_fit;
 pub use calls::{
-    all_fit, cast_kind, class_kind, isa_kind, named_call_kind, new_kind, offset_call_kind, parent_call_kind,
-    parents_call_kind, proxy_kind, self_kind, variable_kind,
+    all_fit, cast_kind, class_kind, isa_kind, named_call_kind, new_kind, offset_call_kind,
+    parent_call_kind, parents_call_kind, proxy_kind, self_kind, variable_kind,
 };
 pub use classes::{classes_hold, declare};
 pub use code_place::{CodePlace, TypeFault};

@@ -193,7 +193,11 @@ pub fn main_typed(alloc: Global, known: &Knowledge, main: &Block) -> Result<(), 
 }
 
 /// The kinds of types that are known.
-pub fn kinds_of(alloc: Global, known: &Knowledge, types: &[ValueType]) -> Result<Vec<Kind>, NoMemory>
+pub fn kinds_of(
+    alloc: Global,
+    known: &Knowledge,
+    types: &[ValueType],
+) -> Result<Vec<Kind>, NoMemory>
     requires known { IsKnowledge known.now }
     requires types { every (is_known (all_of known.now)) types.now ≡ true }
     ensures are { IfOk result (λ kinds. scope_at (all_of known.now) kinds.items ≡ types.now) }

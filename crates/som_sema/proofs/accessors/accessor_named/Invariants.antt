@@ -1,8 +1,7 @@
 use Rattle.std.proofs.Common.{◌≡◌, drop, map}
 use Rattle.std.specs.Str.{bytes_eq}
 use Rattle.som_model.specs.Lists.{find}
-use Rattle.som_sema.specs.Released.{access}
-use Rattle.som_sema.specs.Releases.{Access}
+use Rattle.som_sema.specs.Accessors.{Access, access}
 use Rattle.som_sema.proofs.accessors.accessor_named.Given as goal
 
 abbrev pub invariant-loop-accessor : goal.invariant-loop-accessor

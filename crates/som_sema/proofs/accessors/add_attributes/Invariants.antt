@@ -1,7 +1,6 @@
 use Rattle.std.proofs.Common.{◌≡◌, ◌++◌, drop, map, flat_map}
 use Rattle.som_read.specs.declared.tree.Word.{Word}
-use Rattle.som_sema.specs.Released.{access}
-use Rattle.som_sema.specs.Releases.{attribute_accessors}
+use Rattle.som_sema.specs.Accessors.{access, attribute_accessors}
 use Rattle.som_sema.proofs.accessors.add_attributes.Given as goal
 
 abbrev pub invariant-loop-word : goal.invariant-loop-word

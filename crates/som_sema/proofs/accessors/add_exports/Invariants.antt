@@ -1,6 +1,5 @@
 use Rattle.std.proofs.Common.{◌≡◌, ◌++◌, drop, map, flat_map}
-use Rattle.som_sema.specs.Released.{access}
-use Rattle.som_sema.specs.Releases.{export_accessors}
+use Rattle.som_sema.specs.Accessors.{access, export_accessors}
 use Rattle.som_sema.proofs.accessors.add_exports.Given as goal
 
 abbrev pub invariant-loop-export : goal.invariant-loop-export

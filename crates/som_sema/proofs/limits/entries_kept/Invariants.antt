@@ -1,6 +1,6 @@
 use Rattle.std.proofs.Common.{◌≡◌, drop, flat_map}
 use Rattle.som_model.specs.Lists.{first}
-use Rattle.som_sema.specs.Releases.{entry_limits}
+use Rattle.som_sema.specs.Limits.{entry_limits}
 use Rattle.som_sema.proofs.limits.entries_kept.Given as goal
 
 abbrev pub invariant-loop-entry : goal.invariant-loop-entry

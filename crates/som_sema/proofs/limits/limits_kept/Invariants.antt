@@ -1,5 +1,5 @@
 use Rattle.std.proofs.Common.{◌≡◌, drop}
-use Rattle.som_sema.specs.Releases.{limit_passed}
+use Rattle.som_sema.specs.Limits.{limit_passed}
 use Rattle.som_sema.specs.Sketch.{drawings, sketches}
 use Rattle.som_sema.proofs.limits.limits_kept.Given as goal
 

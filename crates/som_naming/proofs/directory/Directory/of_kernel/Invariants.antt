@@ -6,6 +6,6 @@ use Rattle.som_naming.proofs.directory.Directory.of_kernel.Given as goal
 -- the keys and the names so far
 abbrev pub invariant-loop-face : goal.invariant-loop-face
 invariant-loop-face l = record {
-  keys : l.keys ≡ map (λ f. kernel_key f.name) (take l.face-index l.face-items);
-  slots : l.slots ≡ map (λ f. map entry_name f.entries) (take l.face-index l.face-items);
+  keys : l.directory.keys ≡ map (λ f. kernel_key f.name) (take l.face-index l.face-items);
+  slots : l.directory.slots ≡ map (λ f. map entry_name f.entries) (take l.face-index l.face-items);
 }
