@@ -223,7 +223,7 @@ puts_client_by asked (Some before) status new_files old new out p e m =
     let read = library_again u.bytes u.bytes_are m.base u.spelled u.within in
     let parts : ClientParts = record { base = m.base; texts = m.texts } in
     let there : parts_in m.library m.names m.told ≡ Ok parts =
-        all_parts m.library m.names m.told u.bytes m.texts m.base (got_by (get m.told m.library) m.library u.bytes u.image_is) m.texts_are (base_under m.library u.bytes m.base u.bytes_are read u.conforms) in
+    all_parts m.library m.names m.told u.bytes m.texts m.base (got_by (get m.told m.library) m.library u.bytes u.image_is) m.texts_are (base_under m.library u.bytes m.base u.bytes_are read u.conforms) in
     let image = client_stands_image (interface_of m.base) m.texts p (shows_base m.base u.conforms u.within) (texts_known m.names m.told m.texts m.texts_are).1 m.stand in
     let is : IsAnswer m.told asked (putting m.told out image.0) = subst (λ (a : Asked). IsAnswer m.told a (putting m.told out image.0)) (sym m.asked_is)
     (compiles_client out m.library m.names (putting m.told out image.0) (puts image.0 (parts, there, a_client_image p image.0 m.stand image.1))) in

@@ -173,8 +173,7 @@ fn a_client_has_limits(rt: HostRuntime) -> Result<(), Fail> {
     for number in 0..257 {
         classes.push_str(format!(in alloc; "interface v{number} {{ }};\n")?.as_str())?;
     }
-    let files: [(&[u8], &[u8]); 2] =
-        [(b"k.idl", classes.as_str().as_bytes()), (b"k.main", main)];
+    let files: [(&[u8], &[u8]); 2] = [(b"k.idl", classes.as_str().as_bytes()), (b"k.main", main)];
     let line = b"limit classes 256\n";
     assert_eq!(rt; client_status(alloc, &files, &words, line)?, 11);
     // The bytes of all files count, and not those of the image.

@@ -3,32 +3,40 @@ use som_io::MemStore;
 use std::alloc::Global;
 use std::test::Fail;
 
-pub const ZOO1: &[u8] = b"interface Animal : SOMObject { void eat(); implementation { releaseorder: eat; }; };
+pub const ZOO1: &[u8] =
+    b"interface Animal : SOMObject { void eat(); implementation { releaseorder: eat; }; };
 interface Dog : Animal { void speak(); implementation { releaseorder: speak; eat: override; }; };";
 
 pub const BODIES1: &[u8] = b"Animal::eat() { print \"animal eats\"; }
 Dog::eat() { print \"dog eats\"; }   Dog::speak() { print \"woof\"; }";
 
-pub const ZOO2: &[u8] = b"interface Animal : SOMObject { void eat(); implementation { releaseorder: eat; }; };
+pub const ZOO2: &[u8] =
+    b"interface Animal : SOMObject { void eat(); implementation { releaseorder: eat; }; };
 interface Pet : Animal { implementation { eat: override; }; };
 interface Dog : Pet { void speak(); void fetch(); implementation { releaseorder: speak, fetch; }; };";
 
-pub const BODIES2: &[u8] = b"Animal::eat() { print \"animal eats\"; }   Pet::eat() { print \"pet eats\"; }
+pub const BODIES2: &[u8] =
+    b"Animal::eat() { print \"animal eats\"; }   Pet::eat() { print \"pet eats\"; }
 Dog::speak() { print \"WOOF\"; self.fetch(); }   Dog::fetch() { print \"dog fetches\"; }";
 
-pub const ZOO3: &[u8] = b"interface Animal : SOMObject { void eat(); void speak(); implementation { releaseorder: eat, speak; }; };
+pub const ZOO3: &[u8] =
+    b"interface Animal : SOMObject { void eat(); void speak(); implementation { releaseorder: eat, speak; }; };
 interface Dog : Animal { implementation { releaseorder: speak; eat: override; speak: override; }; };";
 
-pub const BODIES3: &[u8] = b"Animal::eat() { print \"animal eats\"; }   Animal::speak() { print \"animal speaks\"; }
+pub const BODIES3: &[u8] =
+    b"Animal::eat() { print \"animal eats\"; }   Animal::speak() { print \"animal speaks\"; }
 Dog::eat() { print \"dog eats\"; }   Dog::speak() { print \"woof\"; }";
 
-pub const ZOO4: &[u8] = b"interface Animal : SOMObject { void eat(); void speak(in long times); implementation { releaseorder: eat, speak; }; };
+pub const ZOO4: &[u8] =
+    b"interface Animal : SOMObject { void eat(); void speak(in long times); implementation { releaseorder: eat, speak; }; };
 interface Dog : Animal { implementation { releaseorder: speak; eat: override; speak: override; }; };";
 
-pub const BODIES4: &[u8] = b"Animal::eat() { print \"animal eats\"; }   Animal::speak(times) { print \"animal speaks\"; }
+pub const BODIES4: &[u8] =
+    b"Animal::eat() { print \"animal eats\"; }   Animal::speak(times) { print \"animal speaks\"; }
 Dog::eat() { print \"dog eats\"; }   Dog::speak(times) { print \"woof\"; }";
 
-pub const ZOO5: &[u8] = b"interface Animal : SOMObject { void eat(); implementation { releaseorder: eat; }; };
+pub const ZOO5: &[u8] =
+    b"interface Animal : SOMObject { void eat(); implementation { releaseorder: eat; }; };
 interface Log : SOMMBeforeAfter { implementation { sommBeforeMethod: override; }; };
 interface Dog : Animal { void speak(); implementation { releaseorder: speak; eat: override; metaclass = Log; }; };";
 
@@ -36,7 +44,8 @@ pub const BODIES5: &[u8] = b"Animal::eat() { print \"animal eats\"; }
 Log::sommBeforeMethod(o, n) { print \"log \" & n; }
 Dog::eat() { print \"dog eats\"; }   Dog::speak() { print \"woof\"; }";
 
-pub const ZOO6: &[u8] = b"interface Animal : SOMObject { void eat(); implementation { releaseorder: eat; }; };
+pub const ZOO6: &[u8] =
+    b"interface Animal : SOMObject { void eat(); implementation { releaseorder: eat; }; };
 interface Dog : Animal { void speak(); implementation { releaseorder: speak; eat: override; }; };
 interface Puppy : Animal { };";
 
@@ -50,7 +59,8 @@ pub const KIT: &[u8] = b"interface Kit : Dog { void fetch(); };";
 
 pub const KIT_BODIES: &[u8] = b"Kit::fetch() { print \"kit fetches\"; }";
 
-pub const KIT_MAIN: &[u8] = b"main { var k : Kit = new Kit; k.fetch(); k.speak(); lookup void k.fetch(); }";
+pub const KIT_MAIN: &[u8] =
+    b"main { var k : Kit = new Kit; k.fetch(); k.speak(); lookup void k.fetch(); }";
 
 /// The status of compiling a library of interfaces and bodies to an image under this name.
 pub fn library_status(
@@ -101,9 +111,7 @@ pub fn client_status(
     put(alloc, store, b"k.idl", interfaces)?;
     put(alloc, store, b"k.bod", bodies)?;
     put(alloc, store, b"k.main", main)?;
-    let words: [&[u8]; 6] = [
-        b"client", b"k.cli", library, b"k.idl", b"k.bod", b"k.main",
-    ];
+    let words: [&[u8]; 6] = [b"client", b"k.cli", library, b"k.idl", b"k.bod", b"k.main"];
     status(alloc, &words, store, printed)
 }
 
@@ -249,7 +257,8 @@ fn clients_with_classes_are_compiled(rt: HostRuntime) -> Result<(), Fail> {
     assert_eq!(rt; client_status(alloc, &mut store, b"zoo1", kit, b"")?, 0);
     let puppy: [&[u8]; 3] = [PUPPY, PUPPY_BODIES, PUPPY_MAIN];
     assert_eq!(rt; client_status(alloc, &mut store, b"zoo1", puppy, b"")?, 0);
-    let lines = b"library 2\nclass Animal 0.0 : SOMObject\n  0 void eat()\nclass Dog 0.0 : Animal\n  0 void speak()\nclient 1\nclass Puppy 0.0 : Dog\n";
+    let lines =
+        b"library 2\nclass Animal 0.0 : SOMObject\n  0 void eat()\nclass Dog 0.0 : Animal\n  0 void speak()\nclient 1\nclass Puppy 0.0 : Dog\n";
     let words: [&[u8]; 2] = [b"show", b"k.cli"];
     assert_eq!(rt; status(alloc, &words, &mut store, lines)?, 0);
     Ok(())
