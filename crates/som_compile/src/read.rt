@@ -3,9 +3,7 @@ ghost use Rattle.som_compile.specs.declared.fault.TextFault.TheVariants as texts
 ghost use Rattle.som_lex.specs.Spans.{IsSpelled};
 ghost use Rattle.std.specs.Prelude.{All, Some};
 
-use crate::{
-    CompileFault, ReadingFault, Source, SourceKind, TextFault, TextTree, Trees, kind_of,
-};
+use crate::{CompileFault, ReadingFault, Source, SourceKind, TextFault, TextTree, Trees, kind_of};
 use som_body::{parse_bodies, parse_main};
 use som_idl::{SyntaxFault, parse_idl};
 use som_lex::{LexFault, Tokens, lex};

@@ -99,17 +99,10 @@ fn the_first_text_that_cannot_be_read_is_told(rt: HostRuntime) -> Result<(), Fai
     Ok(())
 }
 
-// A limit that is passed.
-fn limit(rt: &HostRuntime, told: TextFault, quantity: &[u8], number: u32) -> Result<(), Fail> {
-    match told {
-        TextFault::Limit {
-            quantity: passed,
-            number: most,
-        } => {
-            assert_eq!(rt; passed.as_slice(), quantity);
-            assert_eq!(rt; most, number);
-            Ok(())
-        }
+// The limit that texts pass.
+fn limit(alloc: Global, texts: &List<Source>) -> Result<(Text, u32), Fail> {
+    match unread(alloc, texts)? {
+        TextFault::Limit { quantity, number } => Ok((quantity, number)),
         _ => Err(Fail::from("a limit")),
     }
 }
@@ -135,8 +128,9 @@ fn deep_texts_pass_the_limit_of_nesting(rt: HostRuntime) -> Result<(), Fail> {
         let most = deep(alloc, front, 30, back)?;
         let more = deep(alloc, front, 31, back)?;
         let _read = trees_of(alloc, &[(name, most.as_slice())])?;
-        let told = unread(alloc, &sources(alloc, &[(name, more.as_slice())])?)?;
-        limit(&rt, told, b"nesting", 32)?;
+        let (quantity, number) = limit(alloc, &sources(alloc, &[(name, more.as_slice())])?)?;
+        assert_eq!(rt; quantity.as_slice(), b"nesting".as_slice());
+        assert_eq!(rt; number, 32);
     }
     Ok(())
 }
@@ -155,8 +149,9 @@ fn long_words_pass_the_limit_of_names(rt: HostRuntime) -> Result<(), Fail> {
             bytes.push(b'a')?;
         }
         bytes.extend_from_slice(back)?;
-        let told = unread(alloc, &sources(alloc, &[(name, bytes.as_slice())])?)?;
-        limit(&rt, told, b"name", 255)?;
+        let (quantity, number) = limit(alloc, &sources(alloc, &[(name, bytes.as_slice())])?)?;
+        assert_eq!(rt; quantity.as_slice(), b"name".as_slice());
+        assert_eq!(rt; number, 255);
     }
     Ok(())
 }

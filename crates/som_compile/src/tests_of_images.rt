@@ -42,10 +42,7 @@ fn are_few(texts: &List<Source>) -> bool
 }
 
 // What the texts of a library come to.
-fn library(
-    alloc: Global,
-    all: &[(&[u8], &[u8])],
-) -> Result<Result<List<u8>, CompileFault>, Fail> {
+fn library(alloc: Global, all: &[(&[u8], &[u8])]) -> Result<Result<List<u8>, CompileFault>, Fail> {
     let texts = sources(alloc, all)?;
     if mains(&texts) == 0 && are_few(&texts) {
         Ok(compile_library(alloc, &texts))
@@ -70,10 +67,7 @@ fn hello(alloc: Global) -> Result<Interface, Fail>
 }
 
 // What the texts of a client come to.
-fn client(
-    alloc: Global,
-    all: &[(&[u8], &[u8])],
-) -> Result<Result<List<u8>, CompileFault>, Fail> {
+fn client(alloc: Global, all: &[(&[u8], &[u8])]) -> Result<Result<List<u8>, CompileFault>, Fail> {
     let base = hello(alloc)?;
     let texts = sources(alloc, all)?;
     if mains(&texts) == 1 && are_few(&texts) {
@@ -91,10 +85,15 @@ fn image(answer: Result<List<u8>, CompileFault>) -> Result<List<u8>, Fail> {
     }
 }
 
-const HELLO: [(&[u8], &[u8]); 2] = [(b"hello.idl", HELLO_INTERFACES), (b"hello.bod", HELLO_BODIES)];
+const HELLO: [(&[u8], &[u8]); 2] = [
+    (b"hello.idl", HELLO_INTERFACES),
+    (b"hello.bod", HELLO_BODIES),
+];
 
-const BODIES_FIRST: [(&[u8], &[u8]); 2] =
-    [(b"hello.bod", HELLO_BODIES), (b"hello.idl", HELLO_INTERFACES)];
+const BODIES_FIRST: [(&[u8], &[u8]); 2] = [
+    (b"hello.bod", HELLO_BODIES),
+    (b"hello.idl", HELLO_INTERFACES),
+];
 
 const MAIN: [(&[u8], &[u8]); 1] = [(b"hello.main", HELLO_MAIN)];
 
@@ -126,15 +125,45 @@ fn interfaces_alone_are_compiled(rt: HostRuntime) -> Result<(), Fail> {
 }
 
 // Two texts of a library or a client, with the rule, the class and the member that are told.
-type RuleCase = (&'static [u8], &'static [u8], u8, &'static [u8], &'static [u8]);
+type RuleCase = (
+    &'static [u8],
+    &'static [u8],
+    u8,
+    &'static [u8],
+    &'static [u8],
+);
 
 const LIBRARIES: [RuleCase; 6] = [
     (b"interface A { void f(); };", b"", 14, b"A", b"f"),
-    (b"interface A { void f(); };", b"A::f() { } A::f() { }", 14, b"A", b"f"),
-    (b"interface A { void f(); };", b"A::f(x) { }", 13, b"A", b"f"),
+    (
+        b"interface A { void f(); };",
+        b"A::f() { } A::f() { }",
+        14,
+        b"A",
+        b"f",
+    ),
+    (
+        b"interface A { void f(); };",
+        b"A::f(x) { }",
+        13,
+        b"A",
+        b"f",
+    ),
     (b"interface A { };", b"B::f() { }", 13, b"B", b"f"),
-    (b"interface A { void f(); };", b"A::f() { x = 1; }", 16, b"A", b"f"),
-    (b"interface A { }; interface A { void f(); };", b"", 1, b"A", b"-"),
+    (
+        b"interface A { void f(); };",
+        b"A::f() { x = 1; }",
+        16,
+        b"A",
+        b"f",
+    ),
+    (
+        b"interface A { }; interface A { void f(); };",
+        b"",
+        1,
+        b"A",
+        b"-",
+    ),
 ];
 
 const CLIENTS: [RuleCase; 4] = [

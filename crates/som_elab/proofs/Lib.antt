@@ -1,3 +1,4 @@
+pub mod Apart
 pub mod Went
 pub mod TypedExpressions
 pub mod TypedBodies

@@ -1,0 +1,261 @@
+-- The classes that texts declare, and the blocks of their bodies, are within the limits of images.
+use Rattle.std.proofs.Common.{◌≡◌, ℕ, ◌<◌, ◌≤◌, ◌^◌, ◌&&◌, inl, inr, Bool, true, false, if◌then◌else◌, nat_le, List, [], ◌∷◌, length, map, Option, Some, None, option_map, refl, sym, ap, subst, arith, leb-true}
+use Rattle.std.specs.List.{AllByRecursion}
+use Rattle.std.specs.Str.{bytes_eq}
+use Rattle.std.proofs.lemmas.List.Elements.{recursion_from_All, All-from_recursion}
+use Rattle.som_model.specs.declared.limits.TheConstants.{MAX_PARAMETERS, MAX_TEXT}
+use Rattle.som_model.specs.declared.key.ClassKey.{ClassKey}
+use Rattle.som_model.specs.declared.key.Module.{Module}
+use Rattle.som_model.specs.declared.key.Module.TheVariants as modules
+use Rattle.som_model.specs.declared.key.ValueType.{ValueType}
+use Rattle.som_model.specs.declared.syntax.Block.{Block}
+use Rattle.som_model.specs.declared.class.Sig.{Sig}
+use Rattle.som_model.specs.declared.class.Way.{Way}
+use Rattle.som_model.specs.declared.class.Entry.{Entry}
+use Rattle.som_model.specs.declared.class.Entry.TheVariants as entries
+use Rattle.som_model.specs.declared.class.Variable.{Variable}
+use Rattle.som_model.specs.declared.class.Body.{Body}
+use Rattle.som_model.specs.declared.class.Body.TheVariants as bodies
+use Rattle.som_model.specs.declared.class.Override.{Override}
+use Rattle.som_model.specs.declared.class.ClassFace.{ClassFace}
+use Rattle.som_model.specs.declared.class.ClassDecl.{ClassDecl}
+use Rattle.som_model.specs.declared.program.Interface.{Interface}
+use Rattle.som_model.specs.Lists.{Mem, every, find}
+use Rattle.som_model.specs.Class.{Class, bare, class_in, entry_of, introduced}
+use Rattle.som_model.specs.Classes.{interface_classes}
+use Rattle.som_model.specs.EffectiveOrder.{effective_order}
+use Rattle.som_model.specs.Kernel.{kernel}
+use Rattle.som_model.specs.Owner.{owner, sig_of}
+use Rattle.som_model.specs.Typing.{in_body}
+use Rattle.som_read.specs.declared.tree.Word.{Word}
+use Rattle.som_idl.specs.declared.tree.IdlInterface.{IdlInterface}
+use Rattle.som_idl.specs.Within.{ItemWithin, InterfaceWithin}
+use Rattle.som_body.specs.declared.tree.BodyText.{BodyText}
+use Rattle.som_body.specs.Within.{BodyTextWithin}
+use Rattle.som_verify.specs.Places.{with_kernel}
+use Rattle.som_verify.proofs.Before.{every_mem}
+use Rattle.som_verify.proofs.PlainLists.{mem_map}
+use Rattle.som_naming.specs.BlockLimits.{TextWithin, BlockWithin, StmtWithin}
+use Rattle.som_blocks.specs.Fitting.{levels_left}
+use Rattle.som_libimage.specs.Limits.{EntryWithin, BodyWithin, FaceWithin, ClassWithin}
+use Rattle.som_sema.specs.Accessors.{Access, accessor_body, accessors_of, body_of, place_of}
+use Rattle.som_sema.specs.Building.{after_base, declarations, home_of}
+use Rattle.som_sema.specs.Finished.{declare, entry_for, introducer, override_of}
+use Rattle.som_sema.specs.Items.{listed, major_in, minor_in, overridden}
+use Rattle.som_sema.specs.PlainLimits.{LimitsKept}
+use Rattle.som_sema.specs.Sketch.{Drawn, drawn, introduces, sketch, sketches}
+use Rattle.som_elab.specs.Expressions.{Among}
+use Rattle.som_elab.specs.Bodies.{beside, classes_over, drawn_over, texts_for}
+use Rattle.som_elab.specs.Elaboration.{parameters, with_blocks}
+use Rattle.som_elab.proofs.Apart.{TextApart, no_text, a_text, EntryApart, accessor, of_text, EntriesApart, no_entry, moved, introduced as one_introduced, OverrideApart, without_sig, with_sig, OverridesApart, no_override, an_override, ClassApart, EachApart, no_class, a_class, entries_apart, overrides_apart}
+use Rattle.som_compile.proofs.BlocksWithin.{PlaceFits, SigsFit, whole_block_within}
+use Rattle.som_compile.proofs.InterfacesWithin.{Named, all_join, all_map, all_members, member_of_all, all_variables, entry_named, introduces_named, major_within, minor_within, number_within, order_named, some_parent, word_within}
+
+-- a body whose statements can be counted, whatever file it is of
+pub record IsShort (b : BodyText) : Type 0 where
+  pub most : ℕ
+  pub few : most < 2 ^ 32
+  pub within : BodyTextWithin most b
+
+-- ---- bodies
+
+no_block : BlockWithin (record { statements = [] })
+no_block = (omega arith, All-from_recursion (StmtWithin (levels_left 1)) [] tt)
+
+parameters_few : (ws : List Word) (kinds : List ValueType) → length (parameters ws kinds) ≤ length kinds
+parameters_few [] kinds = omega arith
+parameters_few (w ∷ ws) [] = omega arith
+parameters_few (w ∷ ws) (kind ∷ kinds) = let le = parameters_few ws kinds in omega (arith, le)
+
+module _ (P : BodyText → Type 0) where
+  picked : (b : BodyText) (bs : List BodyText) → P b → AllByRecursion P bs → (test : Bool) → AllByRecursion P (if test then b ∷ bs else bs)
+  picked b bs p ps true = (p, ps)
+  picked b bs p ps false = ps
+
+  all_texts : (class name : List ℕ) (bs : List BodyText) → AllByRecursion P bs → AllByRecursion P (texts_for bs class name)
+  all_texts class name [] p = tt
+  all_texts class name (b ∷ bs) p = picked b (texts_for bs class name) p.0 (all_texts class name bs p.1) (bytes_eq b.class.text class && bytes_eq b.method.text name)
+
+-- an accessor's body has no block
+one_access : (vs : List Variable) (a : Access) → BodyWithin (accessor_body vs a)
+one_access vs a = by_kind a.sets
+  where
+    by_kind : (b : Bool) → BodyWithin (if b then bodies.Set (place_of (map (λ (v : Variable). v.name) vs) a.attribute) else bodies.Get (place_of (map (λ (v : Variable). v.name) vs) a.attribute))
+    by_kind true = tt
+    by_kind false = tt
+
+access_within : (vs : List Variable) (o : Option Access) (body : Body) → option_map (accessor_body vs) o ≡ Some body → BodyWithin body
+access_within vs None body e = absurd (let z = e in cc)
+access_within vs (Some a) body e = let same : accessor_body vs a ≡ body = (let z = e in cc) in subst BodyWithin same (one_access vs a)
+
+-- the bodies of a class, of which there is room for what its blocks name
+module _ (a : Among) (sigs : SigsFit a.classes) (c : Class) (place : PlaceFits (Some c)) (bs : List BodyText) (short : AllByRecursion IsShort bs) where
+  text_within : (sig : Sig) → length sig.params ≤ MAX_PARAMETERS → (ts : List BodyText) → AllByRecursion IsShort ts → (b : Block) → TextApart a c sig ts b → BlockWithin b
+  text_within sig few _ p _ no_text = no_block
+  text_within sig few _ p _ (a_text t ts b is) =
+      let le = parameters_few t.params sig.params in
+      whole_block_within a (in_body c sig.result) (record { sigs = sigs; place = place }) p.0.most p.0.few t.block (parameters t.params sig.params) b (omega (arith, le, few)) p.0.within.block is.is
+
+  texts_within : (name : List ℕ) (sig : Sig) → length sig.params ≤ MAX_PARAMETERS → (b : Block) → TextApart a c sig (texts_for bs c.decl.face.name name) b → BlockWithin b
+  texts_within name sig few b is = text_within sig few (texts_for bs c.decl.face.name name) (all_texts IsShort c.decl.face.name name bs short) b is
+
+  entry_body_within : (d : Drawn) (name : List ℕ) (sig : Sig) → length sig.params ≤ MAX_PARAMETERS → (o : Option Body) → body_of d name ≡ o → (body : Body) → EntryApart a bs c name sig o body → BodyWithin body
+  entry_body_within d name sig few _ e _ (accessor body) = access_within d.class.variables (find (λ (x : Access). bytes_eq name x.name) (accessors_of d.text)) body e
+  entry_body_within d name sig few _ e _ (of_text b is) = texts_within name sig few b is
+
+  entry_bodies_within : (d : Drawn) (es : List Entry) → AllByRecursion EntryWithin es → (own : List Body) → EntriesApart a bs d c es own → AllByRecursion BodyWithin own
+  entry_bodies_within d _ p _ no_entry = tt
+  entry_bodies_within d _ p _ (moved name to es more is) = entry_bodies_within d es p.1 more is
+  entry_bodies_within d _ p _ (one_introduced name sig way es body more one is) = (entry_body_within d name sig p.0.1 (body_of d name) refl body one, entry_bodies_within d es p.1 more is)
+
+  override_within : (o : Override) → BlockWithin o.block → (s : Option Sig) → sig_of a.classes (owner a.classes o.method) ≡ s → (p : Override) → OverrideApart a bs c o s p → BlockWithin p.block
+  override_within o empty _ e _ without_sig = empty
+  override_within o empty _ e _ (with_sig sig b is) = texts_within o.method.name sig (sigs (owner a.classes o.method) sig e) b is
+
+  overrides_within : (os : List Override) → AllByRecursion (λ (o : Override). BlockWithin o.block) os → (ps : List Override) → OverridesApart a bs c os ps
+      → AllByRecursion (λ (o : Override). BlockWithin o.block) ps × (length ps ≡ length os)
+  overrides_within _ q _ no_override = (tt, refl)
+  overrides_within _ q _ (an_override o os p more one is) =
+      let r = overrides_within os q.1 more is in
+      ((override_within o q.0 (sig_of a.classes (owner a.classes o.method)) refl p one, r.0), omega (arith, r.1))
+
+-- ---- entries of the kernel
+
+abbrev short_entry : Entry → Bool
+short_entry (entries.Introduced name sig way) = nat_le (length name) MAX_TEXT && nat_le (length sig.params) MAX_PARAMETERS
+short_entry (entries.Moved name to) = nat_le (length name) MAX_TEXT
+
+both_true : (a b : Bool) → (a && b) ≡ true → (a ≡ true) × (b ≡ true)
+both_true true true e = (refl, refl)
+both_true true false e = cc
+both_true false b e = cc
+
+short_within : (e : Entry) → short_entry e ≡ true → EntryWithin e
+short_within (entries.Introduced name sig way) e =
+    let p = both_true (nat_le (length name) MAX_TEXT) (nat_le (length sig.params) MAX_PARAMETERS) e in
+    (leb-true (length name) MAX_TEXT p.0, leb-true (length sig.params) MAX_PARAMETERS p.1)
+short_within (entries.Moved name to) e = leb-true (length name) MAX_TEXT e
+
+abbrev short_class : Class → Bool
+short_class c = every short_entry c.decl.face.entries
+
+abbrev pub EntriesFit : Class → Type 0
+EntriesFit c = AllByRecursion EntryWithin c.decl.face.entries
+
+kernel_short : every short_class kernel ≡ true
+kernel_short = refl
+
+kernel_within : AllByRecursion EntriesFit kernel
+kernel_within =
+    all_members EntriesFit kernel (λ c m. all_members EntryWithin c.decl.face.entries (λ e n.
+    short_within e (every_mem short_entry e c.decl.face.entries (every_mem short_class c kernel kernel_short m) n)))
+
+-- ---- declarations
+
+abbrev finished : List Class → (List ℕ → Module) → Module → IdlInterface → Drawn
+finished cs home m i = record { text = i; class = declare cs m (drawn home i) }
+
+entry_within : (e : Entry) → Named e → ((name : List ℕ) (sig : Sig) (way : Way) → e ≡ entries.Introduced name sig way → length sig.params ≤ MAX_PARAMETERS) → EntryWithin e
+entry_within (entries.Introduced name sig way) named few = (named, few name sig way refl)
+entry_within (entries.Moved name to) named few = named
+
+empty_overrides : (cs : List Class) (k : ClassKey) (names : List (List ℕ)) → AllByRecursion (λ (o : Override). BlockWithin o.block) (map (override_of cs k) names)
+empty_overrides cs k [] = tt
+empty_overrides cs k (name ∷ names) = (no_block, empty_overrides cs k names)
+
+-- where the counts of the declared classes are within the limits
+module _ (m : Module) (base : Interface) (is : List IdlInterface) (within : AllByRecursion InterfaceWithin is) (kept : LimitsKept (declarations m base is)) where
+  abbrev home : List ℕ → Module
+  home = home_of m base is
+
+  abbrev known : List Class
+  known = with_kernel (after_base m (interface_classes base) (sketches (map (drawn home) is)))
+
+  beside_map : (js : List IdlInterface) → beside js (map (declare known m) (map (drawn home) js)) ≡ map (finished known home m) js
+  beside_map [] = refl
+  beside_map (j ∷ js) = ap (λ z. finished known home m j ∷ z) (beside_map js)
+
+  drawn_are : drawn_over m base is ≡ map (finished known home m) is
+  drawn_are = beside_map is
+
+  declared_there : (i : IdlInterface) → Mem i is → Mem (finished known home m i).class (declarations m base is)
+  declared_there i there = mem_map (declare known m) (drawn home i) (map (drawn home) is) (mem_map (drawn home) i is there)
+
+  entries_named : (i : IdlInterface) → InterfaceWithin i → AllByRecursion Named (finished known home m i).class.face.entries
+  entries_named i p =
+      all_map TextWithin Named (entry_for known (class_in m (sketch home i)).key (introduces home i))
+      (λ name le. entry_named (introducer known (class_in m (sketch home i)).key name) name (introduces home i) (introduces_named home i p) le (entry_of (introduces home i) name) refl)
+      (effective_order (listed i.items) (introduced (introduces home i))) (order_named i p (introduces home i) (introduces_named home i p))
+
+  entries_within : (i : IdlInterface) → Mem i is → AllByRecursion EntryWithin (finished known home m i).class.face.entries
+  entries_within i there =
+      let d = finished known home m i in
+      all_members EntryWithin d.class.face.entries (λ e n.
+      entry_within e (member_of_all Named d.class.face.entries e (entries_named i (member_of_all InterfaceWithin is i within there)) n)
+      (λ name sig way same. kept.parameters d.class name sig way (declared_there i there) (subst (λ (x : Entry). Mem x d.class.face.entries) same n)))
+
+  face_within : (i : IdlInterface) → Mem i is → FaceWithin (finished known home m i).class.face
+  face_within i there =
+      let p = member_of_all InterfaceWithin is i within there in
+      let d = finished known home m i in
+      record {
+        name = word_within i.name p.name;
+        major = number_within major_in major_within i.items (recursion_from_All ItemWithin i.items p.items);
+        minor = number_within minor_in minor_within i.items (recursion_from_All ItemWithin i.items p.items);
+        some_parent = some_parent home i.parents;
+        parents = kept.parents d.class (declared_there i there);
+        entries = kept.entries d.class (declared_there i there);
+        each_entry = All-from_recursion EntryWithin d.class.face.entries (entries_within i there);
+      }
+
+  -- with bodies and overrides that are within the limits
+  class_within : (i : IdlInterface) → Mem i is → (own : List Body) (others : List Override) → AllByRecursion BodyWithin own → AllByRecursion (λ (o : Override). BlockWithin o.block) others
+      → length others ≡ length (finished known home m i).class.overrides → ClassWithin (with_blocks (finished known home m i).class own others)
+  class_within i there own others q r long =
+      let d = finished known home m i in
+      let few = kept.overrides d.class (declared_there i there) in
+      record {
+        face = face_within i there;
+        variables = kept.variables d.class (declared_there i there);
+        each_variable = All-from_recursion (λ (v : Variable). TextWithin v.name) d.class.variables (all_variables home i (member_of_all InterfaceWithin is i within there));
+        each_body = All-from_recursion BodyWithin own q;
+        overrides = omega (arith, few, long);
+        each_override = All-from_recursion (λ (o : Override). BlockWithin o.block) others r;
+      }
+
+  own_within : AllByRecursion EntriesFit (map (class_in m) (declarations m base is))
+  own_within =
+      let Fit = λ (d : ClassDecl). AllByRecursion EntryWithin d.face.entries in
+      all_map Fit EntriesFit (class_in m) (λ d p. p) (declarations m base is)
+      (all_map (λ (d : Drawn). Fit (declare known m d)) Fit (declare known m) (λ d p. p) (map (drawn home) is)
+      (all_map (λ (i : IdlInterface). Fit (declare known m (drawn home i))) (λ (d : Drawn). Fit (declare known m d)) (drawn home) (λ i p. p) is
+      (all_members (λ (i : IdlInterface). Fit (declare known m (drawn home i))) is entries_within)))
+
+  -- each class that texts are elaborated among has entries within the limits
+  pub entries_fit : AllByRecursion FaceWithin base.classes → AllByRecursion EntriesFit (classes_over m base is)
+  entries_fit faces =
+      all_join EntriesFit kernel (after_base m (interface_classes base) (declarations m base is)) kernel_within
+      (all_join EntriesFit (interface_classes base) (map (class_in m) (declarations m base is))
+      (all_map FaceWithin EntriesFit (λ (f : ClassFace). class_in modules.Library (bare f)) (λ f p. recursion_from_All EntryWithin f.entries p.each_entry) base.classes faces)
+      own_within)
+
+  module _ (a : Among) (sigs : SigsFit a.classes) (bs : List BodyText) (short : AllByRecursion IsShort bs) where
+    one_within : (i : IdlInterface) → Mem i is → (c : ClassDecl) → ClassApart a m bs (finished known home m i) c → ClassWithin c
+    one_within i there c apart =
+        let d = finished known home m i in
+        let k = class_in m d.class in
+        let place : PlaceFits (Some k) = (kept.variables d.class (declared_there i there), kept.parents d.class (declared_there i there)) in
+        let r = overrides_within a sigs k place bs short d.class.overrides (empty_overrides known (class_in m (sketch home i)).key (overridden i.items)) apart.others
+        (overrides_apart a bs k d.class.overrides apart.others apart.overrides) in
+        subst ClassWithin (sym apart.is) (class_within i there apart.own apart.others
+        (entry_bodies_within a sigs k place bs short d d.class.face.entries (entries_within i there) apart.own (entries_apart a bs d k d.class.face.entries apart.own apart.bodies)) r.0 r.1)
+
+    each_within : (js : List IdlInterface) → ((j : IdlInterface) → Mem j js → Mem j is) → (cs : List ClassDecl) → EachApart a m bs (map (finished known home m) js) cs
+        → AllByRecursion ClassWithin cs × (length cs ≡ length js)
+    each_within [] sub _ no_class = (tt, refl)
+    each_within (j ∷ js) sub _ (a_class d ds c cs one more) =
+        let r = each_within js (λ x n. sub x (inr n)) cs more in
+        ((one_within j (sub j (inl refl)) c one, r.0), omega (arith, r.1))
+
+    pub classes_within : (cs : List ClassDecl) → EachApart a m bs (drawn_over m base is) cs → AllByRecursion ClassWithin cs × (length cs ≡ length is)
+    classes_within cs each = each_within is (λ x n. n) cs (subst (λ (ds : List Drawn). EachApart a m bs ds cs) drawn_are each)
