@@ -5,6 +5,7 @@ use Rattle.std.proofs.lemmas.Bool.{lt-ltb, ltb-true}
 use Rattle.std.proofs.lemmas.List.{length-map}
 use Rattle.std.proofs.lemmas.List.Elements.{All-map}
 use Rattle.som_model.specs.declared.class.ClassDecl.{ClassDecl}
+use Rattle.som_model.specs.declared.class.ClassFace.{ClassFace}
 use Rattle.som_model.specs.declared.limits.TheConstants.{MAX_LIBRARY_CLASSES}
 use Rattle.som_model.specs.declared.program.Interface.{Interface}
 use Rattle.som_model.specs.declared.program.Release.{Release}
@@ -64,8 +65,11 @@ shows_base r ok w = record {
   each_face = face_within r w;
 }
 
-pub is_base : (i : Interface) (r : Release) → i ≡ interface_of r → ReleaseOk r → IsWithinLimits r → IsBase i
-is_base i r is ok w = subst IsBase (sym is) (shows_base r ok w)
+faces_of : (i : Interface) (r : Release) → i.classes ≡ (interface_of r).classes → i ≡ interface_of r
+faces_of i r e = ap (λ (l : List ClassFace). record { classes = l }) e
+
+pub is_base : (i : Interface) (r : Release) → i.classes ≡ (interface_of r).classes → ReleaseOk r → IsWithinLimits r → IsBase i
+is_base i r e ok w = subst IsBase (sym (faces_of i r e)) (shows_base r ok w)
 
 -- ---- what is known of a release that was read and looked at
 

@@ -37,11 +37,11 @@ no_main words i count w lt at is so =
     record { counted = omega (arith, e, c); few = omega (arith, f) }
 
 pub none_counted : (words : List (List ℕ)) → MainsSoFar words 0 0
-none_counted words = record { counted = refl; few = omega arith }
+none_counted words = record { counted = omega arith; few = omega arith }
 
 pub all_counted : (words : List (List ℕ)) (i count : ℕ) → length words ≤ i → MainsSoFar words i count → count ≡ mains_in words
 all_counted words i count over so =
-    let e : mains_in (drop i words) ≡ 0 = ap mains_in (drop_all words i over) in
+    let e : mains_in (drop i words) ≡ 0 = ap mains_in (drop_all i words over) in
     let c = so.counted in
     omega (arith, e, c)
 

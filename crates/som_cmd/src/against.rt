@@ -19,7 +19,7 @@ use som_model::{List, Text};
 use std::alloc::Global;
 
 // The image that the parts of a client are compiled to.
-#[tactic(auto, using(crate::proofs::CompileLaws::client_refused, crate::proofs::CompileLaws::client_made, crate::proofs::CompileLaws::quietly, crate::proofs::BaseLaws::is_base))]
+#[tactic(auto, using(crate::proofs::CompileLaws::client_refused, crate::proofs::CompileLaws::client_made, crate::proofs::CompileLaws::quietly))]
 fn image_of(alloc: Global, parts: &ClientParts) -> Result<List<u8>, Stop>
     requires conforms { ReleaseOk parts.now.base }
     requires within { IsWithinLimits parts.now.base }

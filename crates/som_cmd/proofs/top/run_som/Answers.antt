@@ -21,6 +21,11 @@ returns-in-Run-clause-meaning g c = λ p r fuel images not6 not8 not10.
     means_by (asked c.args.words.now) (g.S.Store.files c.args.store.now) c.tell.result (g.S.Store.files c.run.new.store) (g.K.Sink.written c.args.out.now) (g.K.Sink.written c.tell.new.out) p r fuel
     (answered_run g c not6 not8 not10) images
 
+pub returns-in-Run-clause-store_failed : goal.returns-in-Run-clause-store_failed
+returns-in-Run-clause-store_failed g c = λ six.
+    fails (asked c.args.words.now) (Run c.in-Run.client.now c.in-Run.library.now c.in-Run.fuel) c.in-Run.ensures (g.S.Store.files c.args.store.now) c.run.result (g.S.Store.faults c.args.store.now) (g.S.Store.faults c.run.new.store) c.run.ensures.cause
+    (g.K.Sink.written c.args.out.now) (g.K.Sink.written c.tell.new.out) (c.tell.ensures.store_failed six)
+
 pub returns-in-Run-clause-front : goal.returns-in-Run-clause-front
 returns-in-Run-clause-front g c = λ _.
     fronts (asked c.args.words.now) (Run c.in-Run.client.now c.in-Run.library.now c.in-Run.fuel) c.in-Run.ensures (asked_mains c.args.words.now) (g.S.Store.files c.args.store.now) c.run.result c.run.ensures.answer
@@ -114,6 +119,11 @@ returns-in-Library-clause-compiled g c = λ out r texts not6 not8 not10.
     puts_by (asked c.args.words.now) (g.S.Store.files c.args.store.now) c.tell-in-Library.result (g.S.Store.files c.compile.new.store) (g.K.Sink.written c.args.out.now) (g.K.Sink.written c.tell-in-Library.new.out) out r
     (answered_library g c not6 not8 not10) texts
 
+pub returns-in-Library-clause-store_failed : goal.returns-in-Library-clause-store_failed
+returns-in-Library-clause-store_failed g c = λ six.
+    fails (asked c.args.words.now) (Library c.in-Library.name.now c.in-Library.files.now) c.in-Library.ensures (g.S.Store.files c.args.store.now) c.compile.result (g.S.Store.faults c.args.store.now) (g.S.Store.faults c.compile.new.store) c.compile.ensures.cause
+    (g.K.Sink.written c.args.out.now) (g.K.Sink.written c.tell-in-Library.new.out) (c.tell-in-Library.ensures.store_failed six)
+
 pub returns-in-Library-clause-front : goal.returns-in-Library-clause-front
 returns-in-Library-clause-front g c = λ _.
     library_fronts (asked c.args.words.now) c.in-Library.name.now c.in-Library.files.now c.in-Library.ensures (asked_mains c.args.words.now) (g.S.Store.files c.args.store.now) c.compile.result (g.S.Store.files c.compile.new.store) c.compile.ensures.puts
@@ -142,6 +152,11 @@ pub returns-in-Client-clause-client_compiled : goal.returns-in-Client-clause-cli
 returns-in-Client-clause-client_compiled g c = λ out p texts not6 not8 not10.
     puts_client_by (asked c.args.words.now) (g.S.Store.files c.args.store.now) c.tell-in-Client.result (g.S.Store.files c.compile_against.new.store) (g.K.Sink.written c.args.out.now) (g.K.Sink.written c.tell-in-Client.new.out) out p
     (answered_client g c not6 not8 not10) texts
+
+pub returns-in-Client-clause-store_failed : goal.returns-in-Client-clause-store_failed
+returns-in-Client-clause-store_failed g c = λ six.
+    fails (asked c.args.words.now) (Client c.in-Client.name.now c.in-Client.library.now c.in-Client.files.now) c.in-Client.ensures (g.S.Store.files c.args.store.now) c.compile_against.result (g.S.Store.faults c.args.store.now) (g.S.Store.faults c.compile_against.new.store) c.compile_against.ensures.cause
+    (g.K.Sink.written c.args.out.now) (g.K.Sink.written c.tell-in-Client.new.out) (c.tell-in-Client.ensures.store_failed six)
 
 pub returns-in-Client-clause-front : goal.returns-in-Client-clause-front
 returns-in-Client-clause-front g c = λ _.
