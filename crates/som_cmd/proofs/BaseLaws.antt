@@ -1,6 +1,6 @@
 -- What a client is compiled against: the release of an image that breaks no rule.
-use Rattle.std.proofs.Common.{◌≡◌, ℕ, zero, suc, ◌≤◌, Bool, true, false, if◌then◌else◌, true≢false, List, [], ◌∷◌, length, get_or, Option, Some, None, Result, Ok, Err, refl, sym, ap, subst, ◌∙◌, arith}
-use Rattle.std.specs.Prelude.{All, IfOk, nat_lt}
+use Rattle.std.proofs.Common.{◌≡◌, ℕ, zero, suc, ◌≤◌, Bool, true, false, if◌then◌else◌, true≢false, List, [], ◌∷◌, Option, Some, None, Result, Ok, Err, refl, sym, ap, subst, ◌∙◌, arith}
+use Rattle.std.specs.Prelude.{All, nat_lt}
 use Rattle.std.proofs.lemmas.Bool.{lt-ltb, ltb-true}
 use Rattle.std.proofs.lemmas.List.{length-map}
 use Rattle.std.proofs.lemmas.List.Elements.{All-map}
@@ -18,7 +18,7 @@ use Rattle.som_wire.specs.declared.fault.ImageFault.{ImageFault}
 use Rattle.som_wire.specs.declared.fault.ImageFault.TheVariants as faults
 use Rattle.som_libimage.specs.Libraries.{library_at}
 use Rattle.som_libimage.specs.Limits.{FaceWithin, IsWithinLimits}
-use Rattle.som_libimage.proofs.Decoded.{library_again, within}
+use Rattle.som_libimage.proofs.Decoded.{within}
 use Rattle.som_verify.proofs.Conforming.{conforms_release, release_conforms}
 use Rattle.som_compile.specs.Compiling.{IsBase}
 use Rattle.som_cmd.specs.declared.stop.Refusal.{Refusal}

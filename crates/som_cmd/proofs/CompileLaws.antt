@@ -1,5 +1,5 @@
 -- What each step answers and leaves of a command that compiles something and puts its image is what the command does.
-use Rattle.std.proofs.Common.{◌≡◌, ℕ, ◌≤◌, List, Option, Some, None, Result, Ok, Err, refl, sym, subst, inl, inr, arith}
+use Rattle.std.proofs.Common.{◌≡◌, ℕ, ◌≤◌, List, Option, Some, None, Result, Ok, Err, sym, subst, inl, inr, arith}
 use Rattle.som_io.specs.Outside.{Rose}
 use Rattle.som_model.specs.declared.program.Interface.{Interface}
 use Rattle.som_model.specs.Bytes.{Files}
@@ -19,11 +19,10 @@ use Rattle.som_cmd.specs.Words.{Library, Client}
 use Rattle.som_cmd.specs.Endings.{refusing}
 use Rattle.som_cmd.specs.Cause.{FailsOn, FailsGettingParts, FailsGettingTexts, HaveImage, HasCause, IsQuietStop, store_failed}
 use Rattle.som_cmd.specs.Steps.{FollowsTold}
-use Rattle.som_cmd.specs.Texts.{texts_in, text_refused}
+use Rattle.som_cmd.specs.Texts.{texts_in}
 use Rattle.som_cmd.specs.PutAnswer.{Compiling, IsMade, IsPutAnswer, not_got, not_compiled}
 use Rattle.som_cmd.specs.PutSteps.{Compiled, Refuses, StoredTold, PutsTold}
-use Rattle.som_cmd.specs.LibraryAnswer.{AreCompiled}
-use Rattle.som_cmd.specs.ClientAnswer.{CompilesParts, IsClientCompiled, parts_in}
+use Rattle.som_cmd.specs.ClientAnswer.{CompilesParts, parts_in}
 
 -- ---- what the texts are compiled to
 

@@ -6,7 +6,7 @@ use Rattle.som_model.specs.Class.{interface_of}
 use Rattle.som_model.specs.Steps.{◌>>=◌}
 use Rattle.som_compile.specs.declared.fault.TextFault.{TextFault}
 use Rattle.som_compile.specs.declared.source.Source.{Source}
-use Rattle.som_compile.specs.Compiling.{Compiles, CompilesClient, IsBase}
+use Rattle.som_compile.specs.Compiling.{Compiles}
 use Rattle.som_compile.specs.Sources.{mains_in}
 use Rattle.som_compile.proofs.CompileLaws.{some_compiling, one_compiling}
 use Rattle.som_compile.proofs.ClientLaws.{some_client, one_client}

@@ -9,10 +9,8 @@ use Rattle.som_model.specs.declared.program.ClientProgram.{ClientProgram}
 use Rattle.som_model.specs.declared.program.Release.{Release}
 use Rattle.som_model.specs.Bytes.{Files}
 use Rattle.som_model.specs.Class.{interface_of}
-use Rattle.som_model.specs.Steps.{◌>>=◌}
 use Rattle.som_compile.proofs.ClientLaws.{client_stands_image}
 use Rattle.som_compile.proofs.CompileLaws.{stands_image}
-use Rattle.som_compile.specs.declared.source.Source.{Source}
 use Rattle.som_compile.specs.Compiling.{a_client_image, an_image}
 use Rattle.som_libimage.proofs.Decoded.{library_again}
 use Rattle.som_cmd.specs.declared.output.Output.{Output}
@@ -24,14 +22,13 @@ use Rattle.som_cmd.specs.declared.stop.Stop.{Stop}
 use Rattle.som_cmd.specs.declared.stop.Stop.TheVariants as stops
 use Rattle.som_cmd.specs.Status.{status_of, end_status}
 use Rattle.som_cmd.specs.Words.{Asked, Run, Show, Check, Library, Client, Bad}
-use Rattle.som_cmd.specs.Endings.{Ending, file_of, refusing}
+use Rattle.som_cmd.specs.Endings.{Ending, refusing}
 use Rattle.som_cmd.specs.Answer.{IsAnswer, compiles, compiles_client}
 use Rattle.som_cmd.specs.Cause.{FailsOn, HasCause}
 use Rattle.som_cmd.specs.Texts.{texts_in}
 use Rattle.som_cmd.specs.PutAnswer.{Compiling, IsMade, IsPutAnswer, putting, puts}
 use Rattle.som_cmd.specs.PutSteps.{Puts, PutsTold, nothing}
-use Rattle.som_cmd.specs.ClientAnswer.{CompilesParts, IsClientCompiled, base_in, parts_in}
-use Rattle.som_cmd.specs.LibraryAnswer.{AreCompiled}
+use Rattle.som_cmd.specs.ClientAnswer.{CompilesParts, parts_in}
 use Rattle.som_cmd.specs.PutEnds.{LeavesFiles, as_they_were, with_image, put_failed, KeepsFiles, AreTextsOf, AreClientTextsOf, PutsImage, PutsProgram, PutsRelease}
 use Rattle.som_cmd.specs.Saying.{SaysAll, SaysFront}
 use Rattle.som_cmd.specs.Ends.{EndsAs, EndsAsTold, ShowsSome}

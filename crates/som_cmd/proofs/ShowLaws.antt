@@ -6,7 +6,7 @@ use Rattle.som_model.specs.declared.program.Release.{Release}
 use Rattle.som_model.specs.declared.program.ClientProgram.{ClientProgram}
 use Rattle.som_model.specs.Bytes.{Files}
 use Rattle.som_model.specs.Rules.{Breach}
-use Rattle.som_model.specs.Conforming.{ProgramOk, program_breach, ReleaseOk, release_breach}
+use Rattle.som_model.specs.Conforming.{program_breach, release_breach}
 use Rattle.som_model.specs.Steps.{◌>>=◌}
 use Rattle.som_wire.specs.declared.fault.ImageFault.{ImageFault}
 use Rattle.som_libimage.specs.Libraries.{library_at}
@@ -18,7 +18,7 @@ use Rattle.som_cmd.specs.declared.stop.Refusal.{Refusal}
 use Rattle.som_cmd.specs.declared.stop.Stop.{Stop}
 use Rattle.som_cmd.specs.declared.stop.Stop.TheVariants as stops
 use Rattle.som_cmd.specs.Words.{Show}
-use Rattle.som_cmd.specs.Answer.{Ending, IsAnswer, no_image_shown, shown_unread, shown_broken, shows, client_unread, client_broken, shows_client, showing, showing_client, refusing, absent, unread, broken, is_client}
+use Rattle.som_cmd.specs.Answer.{Ending, IsAnswer, no_image_shown, shown_unread, shown_broken, shows, client_unread, client_broken, shows_client, showing, refusing, absent, unread, broken, is_client}
 use Rattle.som_cmd.specs.Steps.{file_of, Follows, FollowsTold, Answers, AnswersTold}
 use Rattle.som_cmd.specs.ImageSteps.{kept_or, sound, sound_program, sound_release}
 use Rattle.som_cmd.specs.ShowSteps.{lines_shown, program_lines, release_lines}

@@ -5,7 +5,7 @@ use Rattle.std.proofs.lemmas.List.{drop_more, drop_all}
 use Rattle.std.specs.Str.{bytes_eq}
 use Rattle.som_model.specs.Lists.{every}
 use Rattle.som_compile.specs.Sources.{is_main, mains_in}
-use Rattle.som_cmd.specs.Words.{Asked, Run, Show, Check, Library, Client, Bad, are_files, asked, asked_of, client_asked, fuel_in, is_file, is_name, library_asked, run_with}
+use Rattle.som_cmd.specs.Words.{Asked, Show, Check, Library, Client, Bad, are_files, asked, asked_of, client_asked, fuel_in, is_file, is_name, library_asked, run_with}
 
 -- ---- one word after the other
 

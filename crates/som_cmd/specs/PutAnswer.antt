@@ -1,5 +1,5 @@
 -- What a command prints, answers and leaves that compiles something to an image and puts that under a name.
-use Rattle.std.specs.Prelude.{◌≡◌, ℕ, List, [], Option, Some, None, Result, Ok, Err}
+use Rattle.std.specs.Prelude.{◌≡◌, ℕ, List, [], Result, Ok, Err}
 use Rattle.std.specs.FinMap.{insert}
 use Rattle.som_model.specs.Bytes.{Files}
 use Rattle.som_compile.specs.declared.fault.TextFault.{TextFault}

@@ -1,5 +1,5 @@
 -- What the steps of showing an image answer.
-use Rattle.std.specs.Prelude.{ℕ, ◌==◌, Bool, false, if◌then◌else◌, List, ◌∷◌, Result, Ok}
+use Rattle.std.specs.Prelude.{ℕ, if◌then◌else◌, List, Result, Ok}
 use Rattle.som_model.specs.Steps.{◌>>=◌}
 use Rattle.som_show.specs.Shown.{client_lines, shown_lines}
 use Rattle.som_cmd.specs.declared.stop.Refusal.{Refusal}
