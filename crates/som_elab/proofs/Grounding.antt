@@ -3,6 +3,7 @@ use Rattle.std.proofs.Common.{◌≡◌, ℕ, zero, suc, ◌+◌, ◌-◌, ◌<�
 use Rattle.som_model.specs.declared.key.Module.{Module}
 use Rattle.som_model.specs.declared.class.Sig.{Sig}
 use Rattle.som_model.specs.declared.class.Way.{Way}
+use Rattle.som_model.specs.declared.class.Entry.TheVariants as entries
 use Rattle.som_model.specs.declared.class.ClassDecl.{ClassDecl}
 use Rattle.som_model.specs.Lists.{Mem, first, or_else}
 use Rattle.som_model.specs.Class.{Class, class_in}
@@ -73,7 +74,7 @@ own_few m ds e = record {
   by = λ c name sig way k n.
       let r = map_mem (class_in m) c ds k in
       let kept = (limits_law ds).0 e in
-      kept.parameters r.0 name sig way r.1 (subst (λ (z : Class). Mem _ z.decl.face.entries) r.2 n);
+      kept.parameters r.0 name sig way r.1 (subst (λ (z : Class). Mem (entries.Introduced name sig way) z.decl.face.entries) r.2 n);
 }
 
 both_few : (xs ys : List Class) → FewParameters xs → FewParameters ys → FewParameters (xs ++ ys)
@@ -91,12 +92,14 @@ all_few m cs ds f e =
 
 -- ---- where the own classes stand
 
-at_end_of : (xs : List Class) (m : Module) (ds : List Drawing) (i : ℕ) (d : Drawing) → i < length ds → d ≡ get_or ds i d
-    → slice_index_or (xs ++ map (class_in m) (sketches (drawings ds))) (length xs + i) nobody ≡ class_in m d.decl
-at_end_of (x ∷ xs) m ds i d lt is = at_end_of xs m ds i d lt is
-at_end_of [] m [] i d lt is = absurd (omega arith)
-at_end_of [] m (y ∷ ds) zero d lt is = ap (λ (z : Drawing). class_in m z.decl) (sym is)
-at_end_of [] m (y ∷ ds) (suc i) d lt is = at_end_of [] m ds i d (omega arith) is
+past_front : (xs ys : List Class) (i : ℕ) → slice_index_or (xs ++ ys) (length xs + i) nobody ≡ slice_index_or ys i nobody
+past_front [] ys i = let e : 0 + i ≡ i = omega arith in ap (λ n. slice_index_or ys n nobody) e
+past_front (x ∷ xs) ys i = let e : length (x ∷ xs) + i ≡ suc (length xs + i) = omega arith in ap (λ n. slice_index_or (x ∷ xs ++ ys) n nobody) e ∙ past_front xs ys i
+
+own_at : (m : Module) (ds : List Drawing) (i : ℕ) (d : Drawing) → i < length ds → d ≡ get_or ds i d → slice_index_or (map (class_in m) (sketches (drawings ds))) i nobody ≡ class_in m d.decl
+own_at m [] i d lt is = absurd (omega arith)
+own_at m (y ∷ ds) zero d lt is = ap (λ (z : Drawing). class_in m z.decl) (sym is)
+own_at m (y ∷ ds) (suc i) d lt is = own_at m ds i d (omega arith) is
 
 pub front_long : (m : Module) (cs : List Class) (ds : List Drawing) → (f : IsFront m cs (drawings ds)) → length cs ≡ length f.front + length ds
 front_long m cs ds f =
@@ -116,7 +119,8 @@ module _ (m : Module) (cs : List Class) (ds : List Drawing) (f : IsFront m cs (d
   own_class =
       ap (class_of_place (with_kernel cs)) place_is
       ∙ ap (λ z. slice_index_or z (length f.front + i) nobody) f.are
-      ∙ at_end_of f.front m ds i d lt is
+      ∙ past_front f.front (map (class_in m) (sketches (drawings ds))) i
+      ∙ own_at m ds i d lt is
 
 -- a class of these passes no limit
 pub own_within : (ds : List Drawing) (i : ℕ) (d : Drawing) → i < length ds → d ≡ get_or ds i d → limit_passed (sketches (drawings ds)) ≡ None → first (class_limits d.decl) ≡ None

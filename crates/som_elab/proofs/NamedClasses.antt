@@ -64,13 +64,13 @@ module _ (text : IdlInterface) (name : List ℕ) where
   last_names = flat_map operation_name text.after
 
   pub declared_first : (b : Bool) (xs : List Export) → b ≡ true → xs ≡ text.before → b ≡ among name (flat_map operation_name xs) → b ≡ among name (operations text)
-  declared_first b xs yes same e =
-      let found : among name first_names ≡ true = ap (λ (z : List Export). among name (flat_map operation_name z)) (sym same) ∙ sym e ∙ yes in
-      yes ∙ sym (among_both name first_names last_names ∙ ap (λ (z : Bool). if z then true else among name last_names) found)
+  declared_first b xs held same e =
+      let found : among name first_names ≡ true = ap (λ (z : List Export). among name (flat_map operation_name z)) (sym same) ∙ sym e ∙ held in
+      held ∙ sym (among_both name first_names last_names ∙ ap (λ (z : Bool). if z then true else among name last_names) found)
 
   pub declared_last : (b c : Bool) (xs ys : List Export) → b ≡ false → xs ≡ text.before → b ≡ among name (flat_map operation_name xs) → ys ≡ text.after → c ≡ among name (flat_map operation_name ys) → c ≡ among name (operations text)
-  declared_last b c xs ys no same e also f =
-      let lost : among name first_names ≡ false = ap (λ (z : List Export). among name (flat_map operation_name z)) (sym same) ∙ sym e ∙ no in
+  declared_last b c xs ys missed same e also f =
+      let lost : among name first_names ≡ false = ap (λ (z : List Export). among name (flat_map operation_name z)) (sym same) ∙ sym e ∙ missed in
       f ∙ ap (λ (z : List Export). among name (flat_map operation_name z)) also ∙ sym (among_both name first_names last_names ∙ ap (λ (z : Bool). if z then true else among name last_names) lost)
 
 -- the signature of a method that is overridden

@@ -20,8 +20,13 @@ use Rattle.som_elab.specs.Locals.{Named, Names, in_scope, local_of, names_of}
 use Rattle.som_elab.specs.Expressions.{Among}
 use Rattle.som_elab.specs.Statements.{Breaks, Told, elaborated_block}
 use Rattle.som_elab.specs.Elaboration.{elaborated_body, parameters}
+<<<<<<< HEAD
 use Rattle.som_elab.specs.Code.{AreLocals, Stops, named_at, names_at}
 use Rattle.som_elab.proofs.NamesInScope.{few_placed, one_local}
+=======
+use Rattle.som_elab.specs.Code.{AreLocals, Blocks, named_at, names_at}
+use Rattle.som_elab.proofs.Scoping.{few_placed, one_local}
+>>>>>>> 5ab5630b8cd1aa700e6ed707a99167247a3866f9
 
 -- ---- the names of parameters
 
@@ -47,6 +52,10 @@ pub record ArePlaced (cs : List Class) (ws : List Word) (kinds : List ValueType)
 
 abbrev pub named_as : Word → ValueType → Named
 named_as w kind = record { name = w.text; kind = kind }
+
+-- a local with the name of a word and a type
+pub named_like : (cs : List Class) (l : Local) (w : Word) (kind : ValueType) → l.name.now ≡ w.text → type_at cs l.kind ≡ kind → named_at cs l ≡ named_as w kind
+named_like cs l w kind e f = ap (λ z. let n : Named = record { name = z; kind = type_at cs l.kind } in n) e ∙ ap (λ z. let n : Named = record { name = w.text; kind = z } in n) f
 
 no_parameters : (ws : List Word) → parameters ws [] ≡ []
 no_parameters [] = refl
@@ -97,3 +106,11 @@ module _ (a : Among) (c : Class) (sig : Sig) (b : BodyText) where
       ap body_by (sym e)
       ∙ ap (elaborated_block a (in_body c sig.result) b.block) (sym params)
       ∙ ap (λ z. elaborated_block a (in_body c z) b.block scope) (sym same)
+
+  -- what is told of the block among these locals is told of the body
+  pub body_told : (scope : Names) (kind : ValueType) (double : Bool) (ws : List Word) (kinds : List ValueType) (r : Result Block BodyFault) → double ≡ false → double ≡ is_some (first (doubles bytes_eq [] (words ws))) → ws ≡ b.params
+      → scope ≡ parameters ws kinds → kinds ≡ sig.params → kind ≡ sig.result → Blocks (elaborated_block a (in_body c kind) b.block scope) r → Blocks (elaborated_body a c sig b) r
+  body_told scope kind double ws kinds r none of same params typed answers t =
+      subst (λ (z : Told Block). Blocks z r)
+      (sym (body_is scope kind (sym none ∙ of ∙ ap (λ (z : List Word). is_some (first (doubles bytes_eq [] (words z)))) same)
+      (params ∙ ap (λ (z : List Word). parameters z kinds) same ∙ ap (parameters b.params) typed) answers)) t

@@ -85,11 +85,12 @@ fn entry_bodies(
     let accessors = accessors_of(alloc, drawing.text)?;
     let mut bodies = List::new(alloc);
     for entry in drawing.decl.face.entries.as_slice() {
-        if let Entry::Introduced { name, sig, .. } = entry {
-            let given = body_named(&accessors, drawing, name.as_slice());
-            let body = entry_body(alloc, ground, place, own, name, sig, given)?;
-            bodies.push(body)?;
-        }
+        let Entry::Introduced { name, sig, .. } = entry else {
+            continue;
+        };
+        let given = body_named(&accessors, drawing, name.as_slice());
+        let body = entry_body(alloc, ground, place, own, name, sig, given)?;
+        bodies.push(body)?;
     }
     Ok(bodies)
 }

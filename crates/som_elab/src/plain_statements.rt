@@ -90,12 +90,7 @@ pub fn set_variable(
     variable_takes(site, locals, name, made)
 }
 
-fn variable_takes(
-    site: &Site,
-    locals: &[Local],
-    name: &[u8],
-    made: Made,
-) -> Result<Stmt, BodyFault>
+fn variable_takes(site: &Site, locals: &[Local], name: &[u8], made: Made) -> Result<Stmt, BodyFault>
     requires site { IsSite site.now }
     requires made { Stands (classes_at site.now) made.kind }
     ensures { Keeps (classes_at site.now) (forms.ruled (forms.set_variable (among_at site.now) (place_at site.now) (names_in site.now locals.now) name.now
@@ -108,7 +103,14 @@ fn variable_takes(
             Err(rule) => Err(BodyFault::Rule(rule)),
             Ok(wanted) => {
                 let fits = kind_fits(&site.known, wanted, kind);
-                demanded(17, fits, Stmt::SetVariable { variable, value: expr })
+                demanded(
+                    17,
+                    fits,
+                    Stmt::SetVariable {
+                        variable,
+                        value: expr,
+                    },
+                )
             }
         },
     }

@@ -9,9 +9,7 @@ use crate::expressions::value_expression;
 use crate::fault::BodyFault;
 use crate::local::Local;
 use crate::made::Made;
-use crate::plain_statements::{
-    answer, call, demanded, free, print, set_local, set_variable,
-};
+use crate::plain_statements::{answer, call, demanded, free, print, set_local, set_variable};
 use crate::scoping::declared_kind;
 use crate::site::Site;
 use som_body::{BlockText, ExprText, StmtText};

@@ -1,11 +1,9 @@
-use Rattle.std.proofs.Common.{arith, inl, inr, ap, ◌∙◌}
+use Rattle.std.proofs.Common.{arith, inl, inr}
 use Rattle.som_model.specs.Rules.{is_known}
-use Rattle.som_verify.specs.Kinds.{type_at}
 use Rattle.som_verify.specs.Knowing.{all_of}
 use Rattle.som_verify.proofs.Before.{every_mem}
 use Rattle.som_verify.proofs.BodySteps.{item_mem}
-use Rattle.som_elab.specs.Locals.{Named}
-use Rattle.som_elab.proofs.Parameters.{all_placed, one_placed}
+use Rattle.som_elab.proofs.Parameters.{all_placed, named_like, one_placed}
 use Rattle.som_elab.proofs.body.parameters.Goals as goal
 
 pub known_kind-kind-requires-clause-kind : goal.known_kind-kind-requires-clause-kind
@@ -17,8 +15,7 @@ pub loop-place-preserved : goal.loop-place-preserved
 loop-place-preserved c =
     rw c.in_ok-push.ensures.items (one_placed (all_of c.args.known.now) c.args.words.now c.args.types.now c.loop-place.place c.loop-place.locals.items c.index-words-place.result c.index-types-place.result
     (omega (arith, c.loop-place-test.true, c.shorter-count.ensures.words)) (omega (arith, c.loop-place-test.true, c.shorter-count.ensures.types)) c.index-words-place.is c.index-types-place.is c.loop-place.invariant _
-    (ap (λ z. let n : Named = record { name = z; kind = type_at (all_of c.args.known.now) c.known_kind-kind.result } in n) c.as_slice-name.ensures
-    ∙ ap (λ z. let n : Named = record { name = c.index-words-place.result.text; kind = z } in n) c.known_kind-kind.ensures.is)
+    (named_like (all_of c.args.known.now) _ c.index-words-place.result c.index-types-place.result c.as_slice-name.ensures c.known_kind-kind.ensures.is)
     c.known_kind-kind.ensures.a_type c.requires.few)
 
 pub returns-clause-names : goal.returns-clause-names

@@ -7,7 +7,7 @@ use Rattle.som_elab.proofs.build.elaborate.Goals as goal
 
 pub returns-in_err-made-clause-answers : goal.returns-in_err-made-clause-answers
 returns-in_err-made-clause-answers c =
-    let p = err_from_is_err_and c.from_residual-in_err-made.result c.from_residual-in_err-made.ensures.1 in
+    let p = err_from_is_err_and c.from_residual.result c.from_residual.ensures.1 in
     rw (p.1, p.2) (program_refused c.args.base.now (interfaces_of c.args.idl.now) (bodies_of c.args.bodies.now) c.args.main.now.block c.in_err-made.field-0.0 c.in_err-made.ensures)
 
 pub returns : goal.returns

@@ -1,4 +1,4 @@
-use Rattle.std.proofs.Common.{map, ap, ◌∙◌}
+use Rattle.std.proofs.Common.{map, ap, ◌∙◌, arith}
 use Rattle.std.proofs.lemmas.Iterator.{YieldsList-from_zip}
 use Rattle.std.proofs.lemmas.Iterator.Consumers.{YieldsList-at, YieldsList-end}
 use Rattle.std.proofs.lemmas.Iterator.Adapters.{YieldsList-from_vec}
@@ -9,7 +9,7 @@ use Rattle.som_elab.proofs.classes.completed_classes.Goals as goal
 
 pub returns : goal.returns
 returns c =
-    let classes = YieldsList-at c.zip-drawing-items.ensures.first (YieldsList-from_vec c.args.drawings.items c.into_iter.ensures.0 (c.into_iter.ensures.1 ∙ c.args.drawings.ok.0)) in
+    let classes = YieldsList-at c.zip-drawing-items.ensures.first (YieldsList-from_vec c.args.drawings.items c.into_iter.ensures.rest (omega (arith, c.into_iter.ensures.len, c.args.drawings.ok.0))) in
     let own = YieldsList-from_vec c.into_vec.result.items c.zip-drawing-items.ensures.second.0 (c.zip-drawing-items.ensures.second.1 ∙ c.into_vec.result.ok.0) in
     let all = YieldsList-at c.into_iter-drawing-iterator.ensures.into_iter_gives (YieldsList-from_zip classes own) in
     c.loop-drawing.invariant

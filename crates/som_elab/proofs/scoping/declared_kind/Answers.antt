@@ -19,10 +19,10 @@ returns-then-not-kind_fits c = λ e. var_misfits (classes_at c.args.site.now) (a
 
 pub returns-then-has_room : goal.returns-then-has_room
 returns-then-has_room c = λ e. (
-    var_opens (classes_at c.args.site.now) (among_at c.args.site.now) c.args.locals.now c.args.name.now c.args.kind.now (record { expr = e; type = kind_at (classes_at c.args.site.now) c.args.given }) (sym (c.is_in_scope.ensures (classes_at c.args.site.now)) ∙ c.if-is_in_scope.false) (sym c.in-Some.ensures.known) (ap (λ z. fits (facts_of c.args.site.now.known) z (kind_at (classes_at c.args.site.now) c.args.given)) (sym c.in-Some.ensures.is) ∙ sym c.kind_fits.ensures ∙ c.if-not-kind_fits.false) (sym c.has_room.ensures ∙ c.if-has_room.true),
-    c.in-Some.ensures.is,
-    c.in-Some.ensures.stands,
-    ltb-true (length c.args.locals.now) MAX_LOCALS (sym c.has_room.ensures ∙ c.if-has_room.true),
+  var_opens (classes_at c.args.site.now) (among_at c.args.site.now) c.args.locals.now c.args.name.now c.args.kind.now (record { expr = e; type = kind_at (classes_at c.args.site.now) c.args.given }) (sym (c.is_in_scope.ensures (classes_at c.args.site.now)) ∙ c.if-is_in_scope.false) (sym c.in-Some.ensures.known) (ap (λ z. fits (facts_of c.args.site.now.known) z (kind_at (classes_at c.args.site.now) c.args.given)) (sym c.in-Some.ensures.is) ∙ sym c.kind_fits.ensures ∙ c.if-not-kind_fits.false) (sym c.has_room.ensures ∙ c.if-has_room.true),
+  c.in-Some.ensures.is,
+  c.in-Some.ensures.stands,
+  ltb-true (length c.args.locals.now) MAX_LOCALS (sym c.has_room.ensures ∙ c.if-has_room.true),
 )
 
 pub returns-else-has_room : goal.returns-else-has_room
