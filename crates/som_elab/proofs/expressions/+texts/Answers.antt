@@ -98,7 +98,7 @@ parts_of_texts-returns-in_err-one-clause-fault t c =
     let e = c.text-item.result in
     let lt = subst (λ (z : List ExprText). i < length z) c.as_slice-text-items.ensures c.loop-text-test.true in
     let is = c.text-item.is ∙ ap (λ (z : List ExprText). slice_index_or z i e) c.as_slice-text-items.ensures in
-    let p = err_from_is_err_and c.from_residual-in_err-one.result c.from_residual-in_err-one.ensures.1 in
+    let p = err_from_is_err_and c.from_residual.result c.from_residual.ensures.1 in
     rw (p.1, p.2) (parts_fail (classes_at s) (elab_at s ls) es (parts_at (classes_at s) c.loop-text.made) i c.loop-text.invariant.made e c.in_err-one.field-0.0 lt is c.in_err-one.ensures)
 
 pub value_expression-returns : goal.value_expression-returns
