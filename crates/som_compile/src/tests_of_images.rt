@@ -23,7 +23,7 @@ fn main_count(name: &Text) -> usize
 }
 
 // How many of the texts are mains.
-#[tactic(auto, using(crate::proofs::Counting::mains_passed, crate::proofs::Counting::main_passed))]
+#[tactic(auto, using(crate::proofs::Counting::mains_passed))]
 fn mains(texts: &List<Source>) -> usize
     ensures { result ≡ mains_in (names_of texts.now) }
 {

@@ -20,13 +20,8 @@ use Rattle.som_elab.specs.Locals.{Named, Names, in_scope, local_of, names_of}
 use Rattle.som_elab.specs.Expressions.{Among}
 use Rattle.som_elab.specs.Statements.{Breaks, Told, elaborated_block}
 use Rattle.som_elab.specs.Elaboration.{elaborated_body, parameters}
-<<<<<<< HEAD
-use Rattle.som_elab.specs.Code.{AreLocals, Stops, named_at, names_at}
-use Rattle.som_elab.proofs.NamesInScope.{few_placed, one_local}
-=======
 use Rattle.som_elab.specs.Code.{AreLocals, Blocks, named_at, names_at}
-use Rattle.som_elab.proofs.Scoping.{few_placed, one_local}
->>>>>>> 5ab5630b8cd1aa700e6ed707a99167247a3866f9
+use Rattle.som_elab.proofs.NamesInScope.{few_placed, one_local}
 
 -- ---- the names of parameters
 
