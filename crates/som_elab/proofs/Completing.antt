@@ -32,6 +32,10 @@ paired_beside (i ∷ is) [] = refl
 paired_beside (i ∷ is) (c ∷ cs) = ap (λ z. paired (i, c) ∷ z) (paired_beside is cs)
 
 -- a class and its bodies that are passed together
+abbrev pub passed : Drawing × ClassBodies → Drawing × ClassBodies
+passed p = (p.0, p.1)
+
+-- the class that they make
 abbrev pub filled : Drawing × ClassBodies → ClassDecl
 filled p = with_blocks p.0.decl p.1.bodies p.1.overrides
 
