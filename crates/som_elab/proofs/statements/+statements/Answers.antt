@@ -11,21 +11,21 @@ use Rattle.som_elab.proofs.TextSteps.{as_before, begins, breaks, ends, formed, g
 use Rattle.som_elab.proofs.statements.+statements.Goals as goal
 
 pub block-loop-part-init : goal.block-loop-part-init
-block-loop-part-init t c = begins (classes_at c.args.site.now) (elaborated_stmt (among_at c.args.site.now) (place_at c.args.site.now)) c.args.text.now.statements c.args.locals.now.items c.requires.locals
+block-loop-part-init t c = rw c.new-statements.ensures (begins (classes_at c.args.site.now) (elaborated_stmt (among_at c.args.site.now) (place_at c.args.site.now)) c.args.text.now.statements c.args.locals.now.items c.requires.locals)
 
 pub block-loop-part-preserved : goal.block-loop-part-preserved
-block-loop-part-preserved t c = goes_on (classes_at c.args.site.now) (elaborated_stmt (among_at c.args.site.now) (place_at c.args.site.now)) c.args.text.now.statements c.loop-part.part-index c.part-item.result c.args.locals.now.items c.loop-part.locals.items _ c.loop-part.statements c.in_ok-made.made (rw c.as_slice-part-items.ensures at c.loop-part-test.true) (rw c.as_slice-part-items.ensures at c.part-item.is) c.in_ok-made.ensures c.loop-part.invariant
+block-loop-part-preserved t c = rw c.in_ok-push.ensures.ok (goes_on (classes_at c.args.site.now) (elaborated_stmt (among_at c.args.site.now) (place_at c.args.site.now)) c.args.text.now.statements c.loop-part.part-index c.part-item.result c.args.locals.now.items c.loop-part.locals.items _ c.loop-part.statements c.in_ok-made.made (rw c.as_slice-part-items.ensures at c.loop-part-test.true) (rw c.as_slice-part-items.ensures at c.part-item.is) c.in_ok-made.ensures c.loop-part.invariant)
 
-pub block-returns-in_err-made : goal.block-returns-in_err-made
-block-returns-in_err-made t c =
+pub block-returns-in_err-made-clause-makes : goal.block-returns-in_err-made-clause-makes
+block-returns-in_err-made-clause-makes t c =
     let p = err_from_is_err_and c.from_residual-in_err-made.result c.from_residual-in_err-made.ensures.1 in
     rw (p.1, p.2) (breaks (classes_at c.args.site.now) (among_at c.args.site.now) (place_at c.args.site.now) c.args.text.now c.loop-part.part-index c.part-item.result c.args.locals.now.items c.loop-part.locals.items c.loop-part.statements c.in_err-made.field-0.0 (rw c.as_slice-part-items.ensures at c.loop-part-test.true) (rw c.as_slice-part-items.ensures at c.part-item.is) c.in_err-made.ensures c.loop-part.invariant)
 
-pub block-returns : goal.block-returns
-block-returns t c = record {
-  makes = ends (classes_at c.args.site.now) (among_at c.args.site.now) (place_at c.args.site.now) c.args.text.now c.loop-part.part-index c.args.locals.now.items c.loop-part.locals.items c.loop-part.statements (rw c.as_slice-part-items.ensures at c.loop-part-test.false) c.loop-part.invariant;
-  scope = rw (c.truncate.ensures.items, c.as_slice-before.ensures.value) (as_before (classes_at c.args.site.now) (elaborated_stmt (among_at c.args.site.now) (place_at c.args.site.now)) c.args.text.now.statements _ c.args.locals.now.items c.loop-part.locals.items c.loop-part.statements c.loop-part.invariant);
-}
+pub block-returns-clause-makes : goal.block-returns-clause-makes
+block-returns-clause-makes t c = ends (classes_at c.args.site.now) (among_at c.args.site.now) (place_at c.args.site.now) c.args.text.now c.loop-part.part-index c.args.locals.now.items c.loop-part.locals.items c.loop-part.statements (rw c.as_slice-part-items.ensures at c.loop-part-test.false) c.loop-part.invariant
+
+pub block-returns-clause-scope : goal.block-returns-clause-scope
+block-returns-clause-scope t c = rw (c.truncate.ensures.items, c.as_slice-before.ensures.value) (as_before (classes_at c.args.site.now) (elaborated_stmt (among_at c.args.site.now) (place_at c.args.site.now)) c.args.text.now.statements _ c.args.locals.now.items c.loop-part.locals.items c.loop-part.statements c.loop-part.invariant)
 
 pub statement-returns-in-Var : goal.statement-returns-in-Var
 statement-returns-in-Var t c =
