@@ -163,7 +163,7 @@ stmt_reads (suc left) ranges bytes place =
     then_reads (number_at w8 bytes place) (stmt_after ranges (expr_at left ranges) (call_at left ranges) block bytes place) (number_reads w8 bytes place)
     (stmt_after_reads ranges (expr_at left ranges) (call_at left ranges) block (expr_reads left ranges) (call_reads left ranges) (statements_reads (stmt_at left ranges) (stmt_reads left ranges)) bytes place)
 
-block_reads : (left : ℕ) (ranges : Ranges) (bytes : List ℕ) (place : ℕ) → Reads (block_at left ranges bytes place)
+pub block_reads : (left : ℕ) (ranges : Ranges) (bytes : List ℕ) (place : ℕ) → Reads (block_at left ranges bytes place)
 unfolding block_at
 block_reads left ranges bytes place = statements_reads (stmt_at left ranges) (stmt_reads left ranges) bytes place
 

@@ -16,12 +16,12 @@ use Rattle.som_cmd.specs.declared.stop.Stop.{Stop}
 use Rattle.som_cmd.specs.declared.stop.Stop.TheVariants as stops
 use Rattle.som_cmd.specs.Words.{Check}
 use Rattle.som_cmd.specs.Endings.{Ending, refusing}
-use Rattle.som_cmd.specs.ShowSteps.{read_or, kept_or, release_in, rules_kept}
+use Rattle.som_cmd.specs.ImageSteps.{read_or, kept_or, release_in, rules_kept}
 use Rattle.som_cmd.specs.CheckAnswer.{IsCheckAnswer, image_absent, image_unread, image_broken, refuses, accepts, images_in, releases_in, all_rules_kept, AllConform, first_not_kept}
 use Rattle.som_cmd.specs.Answer.{checks}
 use Rattle.som_cmd.specs.CheckSteps.{accepted_or, line_checked}
 use Rattle.som_cmd.specs.Steps.{Stops, Follows, FollowsTold, Answers, AnswersTold}
-use Rattle.som_cmd.proofs.ShowLaws.{stops_first}
+use Rattle.som_cmd.proofs.ImageLaws.{stops_first}
 
 -- ---- what is read, and what conforms
 

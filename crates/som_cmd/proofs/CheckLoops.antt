@@ -12,7 +12,7 @@ use Rattle.som_cmd.specs.declared.stop.Refusal.{Refusal}
 use Rattle.som_cmd.specs.declared.stop.Stop.{Stop}
 use Rattle.som_cmd.specs.declared.stop.Stop.TheVariants as stops
 use Rattle.som_cmd.specs.Endings.{file_of}
-use Rattle.som_cmd.specs.ShowSteps.{release_in, rules_kept}
+use Rattle.som_cmd.specs.ImageSteps.{release_in, rules_kept}
 use Rattle.som_cmd.specs.CheckAnswer.{images_in, releases_in, all_rules_kept}
 use Rattle.som_cmd.specs.Cause.{Has, FailsGetting, store_failed}
 use Rattle.som_cmd.specs.Steps.{Stops, FollowsTold}

@@ -16,7 +16,7 @@ use Rattle.som_verify.proofs.Before.{none_both}
 use Rattle.som_compat.proofs.Plain.{map_empty}
 use Rattle.som_cmd.specs.declared.stop.Refusal.{Refusal}
 use Rattle.som_cmd.specs.Endings.{absent, refusing}
-use Rattle.som_cmd.specs.ShowSteps.{read_or}
+use Rattle.som_cmd.specs.ImageSteps.{read_or}
 use Rattle.som_cmd.specs.CheckAnswer.{IsCheckAnswer, refuses, accepts, not_kept, images_in, releases_in, AllConform, first_not_kept, accepting}
 use Rattle.som_cmd.specs.Ends.{AreUnder}
 

@@ -25,7 +25,7 @@ use Rattle.som_cmd.specs.Steps.{Follows}
 counted : (d : ClassDecl) → ClassWithin d → IsCounted d.face
 counted d w = record { some = w.face.some_parent; parents = w.face.parents; entries = w.face.entries }
 
-may_be : (r : Release) → ReleaseOk r → IsWithinLimits r → Conforms (interface_of r)
+pub may_be : (r : Release) → ReleaseOk r → IsWithinLimits r → Conforms (interface_of r)
 may_be r ok within = interface_conforms r ok (let few = within.classes in omega (arith, few)) (λ k d lt. counted (get_or r.classes k d) (within.each_class k d lt))
 
 pub may_compare : (rs : List Release) → All (λ (r : Release). ReleaseOk r) rs → All (λ (r : Release). IsWithinLimits r) rs → (i : Interface) → Mem i (map interface_of rs) → Conforms i

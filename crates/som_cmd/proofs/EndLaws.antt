@@ -9,18 +9,21 @@ use Rattle.som_model.specs.Compatible.{Accepted, Incompatible}
 use Rattle.som_order.specs.Names.{name_at}
 use Rattle.som_io.specs.Outside.{ShowsAll, ShowsFront}
 use Rattle.som_libimage.proofs.Decoded.{library_again}
+use Rattle.som_cliimage.proofs.Decoded.{client_again}
 use Rattle.som_cmd.specs.declared.output.Output.{Output}
 use Rattle.som_cmd.specs.declared.stop.Stop.{Stop}
 use Rattle.som_cmd.specs.declared.stop.Stop.TheVariants as stops
 use Rattle.som_cmd.specs.Words.{Asked, Bad}
 use Rattle.som_cmd.specs.CheckAnswer.{IsCheckAnswer, not_kept, first_not_kept, accepting}
-use Rattle.som_cmd.specs.Answer.{Ending, IsAnswer, bad_words, runs, shows, checks, ran, showing, refusing, bad_line}
+use Rattle.som_cmd.specs.Answer.{Ending, IsAnswer, bad_words, runs, shows, shows_client, checks, ran, showing, showing_client, refusing, bad_line}
 use Rattle.som_cmd.specs.Cause.{FailsOn, HasCause}
 use Rattle.som_cmd.specs.Steps.{printed, AnswersTold}
 use Rattle.som_cmd.specs.Saying.{SaysAll, SaysFailure, SaysFront}
-use Rattle.som_cmd.specs.Ends.{EndsAs, EndsAsTold, StoreFails, ShowsSome, AreImagesOf, RunsAs, IsImageOf, ShowsRelease, AreChecked, TellsAccepted, TellsBreach}
+use Rattle.som_cmd.specs.Ends.{EndsAs, EndsAsTold, StoreFails, ShowsSome, AreImagesOf, RunsAs, IsImageOf, IsImageOfClient, ShowsProgram, ShowsRelease, AreChecked, TellsAccepted, TellsBreach}
 use Rattle.som_cmd.proofs.CheckMeaning.{accepted_if, none_if, under_conform, accepts_under, refuses_under}
-use Rattle.som_cmd.proofs.RunAnswers.{answer_to, answers, one_answer}
+use Rattle.som_cmd.proofs.ImageLaws.{of_client, of_library}
+use Rattle.som_cmd.proofs.RunAnswers.{some_answer, one_answer}
+use Rattle.som_cmd.proofs.WordLaws.{HasMains}
 
 -- ---- what a command came to
 
@@ -44,20 +47,20 @@ shows_nothing None text = (text, tt)
 shows_nothing (Some old) text = (text, ([], refl, ap (λ (t : List ℕ). Some t) (sym (append-nil old))))
 
 -- where nothing was written, a front of the answer's text was
-pub nothing_written : (asked : Asked) (files : Option Files) (count now : ℕ) (written : Option (List ℕ)) → ShowsSome asked files count now written written
-nothing_written asked None count now written = tt
-nothing_written asked (Some files) count now written = inl (answer_to files asked, answers files asked, shows_nothing written (answer_to files asked).text)
+pub nothing_written : (asked : Asked) → HasMains asked → (files : Option Files) (count now : ℕ) (written : Option (List ℕ)) → ShowsSome asked files count now written written
+nothing_written asked mains None count now written = tt
+nothing_written asked mains (Some files) count now written = let a = some_answer files asked mains in inl (a.0, a.1, shows_nothing written a.0.text)
 
 -- a front of what there is to print was written
-pub fronts : (asked by : Asked) → by ≡ asked → (files : Option Files) (outcome : Result Output Stop) → AnswersTold files by outcome → (count now : ℕ) → HasCause (FailsOn files by) count now outcome
+pub fronts : (asked by : Asked) → by ≡ asked → HasMains asked → (files : Option Files) (outcome : Result Output Stop) → AnswersTold files by outcome → (count now : ℕ) → HasCause (FailsOn files by) count now outcome
     → (old new : Option (List ℕ)) → SaysFront outcome old new → ShowsSome asked files count now old new
-fronts asked by is None outcome f count now cause old new says = tt
-fronts asked by is (Some before) (Ok o) f count now cause old new says = inl (printed before o, answer_of asked by is before (printed before o) f, says)
-fronts asked by is (Some before) (Err (stops.Refused r)) f count now cause old new says = inl (refusing before r, answer_of asked by is before (refusing before r) f, says)
-fronts asked by is (Some before) (Err (stops.StoreFailed line)) f count now cause old new says =
+fronts asked by is mains None outcome f count now cause old new says = tt
+fronts asked by is mains (Some before) (Ok o) f count now cause old new says = inl (printed before o, answer_of asked by is before (printed before o) f, says)
+fronts asked by is mains (Some before) (Err (stops.Refused r)) f count now cause old new says = inl (refusing before r, answer_of asked by is before (refusing before r) f, says)
+fronts asked by is mains (Some before) (Err (stops.StoreFailed line)) f count now cause old new says =
     inr (cause.0, line, subst (λ (x : Asked). FailsOn (Some before) x line) is cause.1, says)
-fronts asked by is (Some before) (Err stops.NoMemory) f count now cause old new says =
-    subst (λ (x : Option (List ℕ)). ShowsSome asked (Some before) count now old x) (sym says) (nothing_written asked (Some before) count now old)
+fronts asked by is mains (Some before) (Err stops.NoMemory) f count now cause old new says =
+    subst (λ (x : Option (List ℕ)). ShowsSome asked (Some before) count now old x) (sym says) (nothing_written asked mains (Some before) count now old)
 
 -- the line that says that the store failed was written
 pub fails : (asked by : Asked) → by ≡ asked → (files : Option Files) (outcome : Result Output Stop) (count now : ℕ) → HasCause (FailsOn files by) count now outcome
@@ -98,7 +101,7 @@ not_zero status e f = omega arith
 -- it is that of any other answer
 module _ (asked : Asked) (before : Files) (status : ℕ) (new_files : Option Files) (old new : Option (List ℕ)) (e : EndsAs before asked status new_files old new) (other : Ending) (is : IsAnswer before asked other) where
   same_ending : e.told ≡ other
-  same_ending = one_answer before asked e.told e.is_answer ∙ sym (one_answer before asked other is)
+  same_ending = one_answer before asked e.told other e.is_answer is
 
   pub text_of : ShowsAll old new other.text
   text_of = subst (λ (x : Ending). ShowsAll old new x.text) same_ending e.text_is
@@ -126,9 +129,20 @@ shows_by asked None status new_files old new r e m = absurd (none_told m.told m.
 shows_by asked (Some before) status new_files old new r e m =
     let same : before ≡ m.told = some_told before m.told m.files_are in
     let is : IsAnswer m.told asked (showing m.told r) = subst (λ (a : Asked). IsAnswer m.told a (showing m.told r)) (sym m.asked_is)
-    (shows m.name m.bytes r m.image_is (library_again m.bytes m.bytes_are r m.spelled m.within) m.conforms) in
+    (shows m.name m.bytes r m.image_is (of_library r m.bytes m.spelled) (library_again m.bytes m.bytes_are r m.spelled m.within) m.conforms) in
     let answer = subst (λ (x : Files). IsAnswer x asked (showing x r)) (sym same) is in
     record { text = text_of asked before status new_files old new e (showing before r) answer; status_is = status_is asked before status new_files old new e (showing before r) answer }
+
+-- is an end that shows the client program
+pub shows_client_by : (asked : Asked) (files : Option Files) (status : ℕ) (new_files : Option Files) (old new : Option (List ℕ)) (p : ClientProgram) → EndsAsTold asked files status new_files old new → IsImageOfClient asked files p
+    → ShowsProgram p status old new
+shows_client_by asked None status new_files old new p e m = absurd (none_told m.told m.files_are)
+shows_client_by asked (Some before) status new_files old new p e m =
+    let same : before ≡ m.told = some_told before m.told m.files_are in
+    let is : IsAnswer m.told asked (showing_client m.told p) = subst (λ (a : Asked). IsAnswer m.told a (showing_client m.told p)) (sym m.asked_is)
+    (shows_client m.name m.bytes p m.image_is (of_client p m.bytes m.spelled) (client_again m.bytes m.bytes_are p m.spelled m.within) m.conforms) in
+    let answer = subst (λ (x : Files). IsAnswer x asked (showing_client x p)) (sym same) is in
+    record { text = text_of asked before status new_files old new e (showing_client before p) answer; status_is = status_is asked before status new_files old new e (showing_client before p) answer }
 
 -- ---- images that are checked
 

@@ -4,11 +4,15 @@ mod FuelLaws
 mod ClientLaws
 mod RunMeaning
 mod RunLaws
+mod WordLaws
+mod ImageLaws
 mod ShowLaws
 mod SayLaws
 mod TextLaws
+mod PartLaws
+mod BaseLaws
 mod CompileLaws
-mod LibraryAnswered
+mod PutAnswered
 mod CheckLaws
 mod CheckLoops
 mod CheckMeaning
@@ -20,5 +24,5 @@ mod OneAnswer
 mod Telling
 mod RunAnswers
 mod EndLaws
-mod LibraryEndLaws
+mod PutEndLaws
 mod FuelSpelled

@@ -9,13 +9,13 @@ use Rattle.som_model.specs.Class.{interface_of}
 use Rattle.som_model.specs.Same.{same_interface}
 use Rattle.som_model.proofs.SameLaws.{exact_interfaces}
 use Rattle.som_model.specs.Means.{means}
-use Rattle.som_verify.proofs.Conforming.{conforms_release}
 use Rattle.som_first.specs.FirstImages.{IsFirstLibrary, IsFirstClient}
-use Rattle.som_cmd.specs.Words.{Asked, Run, Show, Check, Library, Bad}
-use Rattle.som_cmd.specs.Answer.{Ending, IsAnswer, bad_words, no_client, no_library, client_refused, library_refused, faces_differ, runs, no_image_shown, shown_unread, shown_broken, shows, checks, compiles, bad_line, refusing, ran, absent, no_image, not_same}
+use Rattle.som_cmd.specs.Words.{Asked, Run, Show, Check, Library, Client, Bad}
+use Rattle.som_cmd.specs.Answer.{Ending, IsAnswer, bad_words, no_client, no_library, client_refused, library_refused, faces_differ, runs, checks, compiles, compiles_client, bad_line, refusing, ran, absent, no_image, not_same}
 use Rattle.som_cmd.proofs.CheckLaws.{check_ending, check_answer, one_check}
-use Rattle.som_cmd.proofs.LibraryAnswered.{compiled_ending, compiled_answer, compiled_one}
-use Rattle.som_cmd.proofs.ShowLaws.{file_ending, file_answer, absent_ends, unread_ends, ruled_ends}
+use Rattle.som_cmd.proofs.PutAnswered.{library_answer, client_answer, one_library_answer, one_client_answer}
+use Rattle.som_cmd.proofs.ShowLaws.{file_ending, file_answer, one_shown}
+use Rattle.som_cmd.proofs.WordLaws.{HasMains}
 
 -- there is a value of which this holds, or there is none
 abbrev pub Told : {A : Type 0} → (A → Type 0) → Type 0
@@ -42,13 +42,9 @@ module _ (one_library : (bytes : List ℕ) (r s : Release) → IsFirstLibrary by
   files_ending c l fuel (Some cb) None = refusing files (absent l)
   files_ending c l fuel (Some cb) (Some lb) = client_ending c l fuel cb lb (tell_client cb)
 
-  -- the ending of what is asked for
-  abbrev pub answer_to : Asked → Ending
-  answer_to (Run c l fuel) = files_ending c l fuel (get files c) (get files l)
-  answer_to (Show n) = file_ending files n (get files n)
-  answer_to (Check ns) = check_ending files ns
-  answer_to (Library out names) = compiled_ending files out names
-  answer_to Bad = record { text = bad_line; status = 2; files = files }
+  -- the ending of a run
+  abbrev run_to : (c l : List ℕ) (fuel : ℕ) → Ending
+  run_to c l fuel = files_ending c l fuel (get files c) (get files l)
 
   -- it is an answer
   run_is : (c l : List ℕ) (fuel : ℕ) (cb lb : List ℕ) → get files c ≡ Some cb → get files l ≡ Some lb → (p : ClientProgram) → IsFirstClient cb p → (r : Release) → IsFirstLibrary lb r → (b : Bool) → same_interface p.base (interface_of r) ≡ b
@@ -70,15 +66,17 @@ module _ (one_library : (bytes : List ℕ) (r s : Release) → IsFirstLibrary by
   files_is c l fuel (Some cb) None has_c has_l = no_library c l fuel cb has_c has_l
   files_is c l fuel (Some cb) (Some lb) has_c has_l = client_is c l fuel cb lb has_c has_l (tell_client cb)
 
-  pub some_answer : (asked : Asked) → IsAnswer files asked (answer_to asked)
-  some_answer (Run c l fuel) = files_is c l fuel (get files c) (get files l) refl refl
-  some_answer (Show n) = file_answer files n (get files n) refl
-  some_answer (Check ns) = checks ns (check_ending files ns) (check_answer files ns)
-  some_answer (Library out names) = compiles out names (compiled_ending files out names) (compiled_answer files out names)
-  some_answer Bad = bad_words
+  -- there is an answer to what has as many files with a main as it needs
+  pub some_answer : (asked : Asked) → HasMains asked → (told : Ending) × IsAnswer files asked told
+  some_answer (Run c l fuel) mains = (run_to c l fuel, files_is c l fuel (get files c) (get files l) refl refl)
+  some_answer (Show n) mains = (file_ending files n (get files n), file_answer files n (get files n) refl)
+  some_answer (Check ns) mains = (check_ending files ns, checks ns (check_ending files ns) (check_answer files ns))
+  some_answer (Library out names) mains = let a = library_answer files out names in (a.0, compiles out names a.0 a.1)
+  some_answer (Client out library names) mains = let a = client_answer files out library names mains in (a.0, compiles_client out library names a.0 a.1)
+  some_answer Bad mains = (record { text = bad_line; status = 2; files = files }, bad_words)
 
   -- and each answer is it
-  ending_is : (c l : List ℕ) (fuel : ℕ) (o p : Option (List ℕ)) → get files c ≡ o → get files l ≡ p → files_ending c l fuel o p ≡ answer_to (Run c l fuel)
+  ending_is : (c l : List ℕ) (fuel : ℕ) (o p : Option (List ℕ)) → get files c ≡ o → get files l ≡ p → files_ending c l fuel o p ≡ run_to c l fuel
   ending_is c l fuel o p has_c has_l = ap (λ (x : Option (List ℕ)). files_ending c l fuel x p) (sym has_c) ∙ ap (λ (x : Option (List ℕ)). files_ending c l fuel (get files c) x) (sym has_l)
 
   none_client : (c l : List ℕ) (fuel : ℕ) (cb lb : List ℕ) → ((p : ClientProgram) → IsFirstClient cb p → ⊥) → (t : Told (IsFirstClient cb)) → refusing files (no_image c) ≡ client_ending c l fuel cb lb t
@@ -101,22 +99,23 @@ module _ (one_library : (bytes : List ℕ) (r s : Release) → IsFirstLibrary by
   not_true true f = absurd (f refl)
   not_true false f = refl
 
-  pub one_answer : (asked : Asked) (e : Ending) → IsAnswer files asked e → e ≡ answer_to asked
-  one_answer Bad e bad_words = refl
-  one_answer (Library out names) e (compiles _ _ _ is) = compiled_one files out names e is
-  one_answer (Show n) e (no_image_shown _ has) = absent_ends files n has
-  one_answer (Show n) e (shown_unread _ b fault has is) = unread_ends files n b fault has is
-  one_answer (Show n) e (shown_broken _ b r x has is breaks) = ruled_ends files n b r (Some x) has is breaks
-  one_answer (Show n) e (shows _ b r has is ok) = ruled_ends files n b r None has is (conforms_release r ok)
-  one_answer (Check ns) e (checks _ _ is) = one_check files ns e is
-  one_answer (Run c l fuel) e (no_client _ _ _ has) = ending_is c l fuel None (get files l) has refl
-  one_answer (Run c l fuel) e (no_library _ _ _ cb has_c has_l) = ending_is c l fuel (Some cb) None has_c has_l
-  one_answer (Run c l fuel) e (client_refused _ _ _ cb lb has_c has_l never) = none_client c l fuel cb lb never (tell_client cb) ∙ ending_is c l fuel (Some cb) (Some lb) has_c has_l
-  one_answer (Run c l fuel) e (library_refused _ _ _ cb lb has_c has_l p is_p never) =
+  one_run : (c l : List ℕ) (fuel : ℕ) (e : Ending) → IsAnswer files (Run c l fuel) e → e ≡ run_to c l fuel
+  one_run c l fuel e (no_client _ _ _ has) = ending_is c l fuel None (get files l) has refl
+  one_run c l fuel e (no_library _ _ _ cb has_c has_l) = ending_is c l fuel (Some cb) None has_c has_l
+  one_run c l fuel e (client_refused _ _ _ cb lb has_c has_l never) = none_client c l fuel cb lb never (tell_client cb) ∙ ending_is c l fuel (Some cb) (Some lb) has_c has_l
+  one_run c l fuel e (library_refused _ _ _ cb lb has_c has_l p is_p never) =
       none_library c l fuel lb p never (tell_library lb) ∙ this_client c l fuel cb lb p is_p (tell_client cb) ∙ ending_is c l fuel (Some cb) (Some lb) has_c has_l
-  one_answer (Run c l fuel) e (faces_differ _ _ _ cb lb has_c has_l p is_p r is_r never) =
+  one_run c l fuel e (faces_differ _ _ _ cb lb has_c has_l p is_p r is_r never) =
       ap (run_ending c l fuel p r) (sym (not_true (same_interface p.base (interface_of r)) (λ same. never (exact_interfaces.two p.base (interface_of r) same))))
       ∙ this_library c l fuel lb p r is_r (tell_library lb) ∙ this_client c l fuel cb lb p is_p (tell_client cb) ∙ ending_is c l fuel (Some cb) (Some lb) has_c has_l
-  one_answer (Run c l fuel) e (runs _ _ _ cb lb has_c has_l p is_p r is_r same) =
+  one_run c l fuel e (runs _ _ _ cb lb has_c has_l p is_p r is_r same) =
       ap (run_ending c l fuel p r) (sym (ap (λ (x : Interface). same_interface x (interface_of r)) same ∙ exact_interfaces.one (interface_of r)))
       ∙ this_library c l fuel lb p r is_r (tell_library lb) ∙ this_client c l fuel cb lb p is_p (tell_client cb) ∙ ending_is c l fuel (Some cb) (Some lb) has_c has_l
+
+  pub one_answer : (asked : Asked) (a b : Ending) → IsAnswer files asked a → IsAnswer files asked b → a ≡ b
+  one_answer (Run c l fuel) a b x y = one_run c l fuel a x ∙ sym (one_run c l fuel b y)
+  one_answer (Show n) a b x y = one_shown files n a x ∙ sym (one_shown files n b y)
+  one_answer (Check ns) a b (checks _ _ x) (checks _ _ y) = one_check files ns a x ∙ sym (one_check files ns b y)
+  one_answer (Library out names) a b (compiles _ _ _ x) (compiles _ _ _ y) = one_library_answer files out names a b x y
+  one_answer (Client out library names) a b (compiles_client _ _ _ _ x) (compiles_client _ _ _ _ y) = one_client_answer files out library names a b x y
+  one_answer Bad a b bad_words bad_words = refl

@@ -5,12 +5,10 @@ use Rattle.som_cmd.specs.Words.{Asked}
 use Rattle.som_cmd.specs.Answer.{Ending, IsAnswer}
 use Rattle.som_cmd.proofs.OneAnswer as one
 use Rattle.som_cmd.proofs.Telling.{one_library, one_client, tell_library, tell_client}
+use Rattle.som_cmd.proofs.WordLaws.{HasMains}
 
-abbrev pub answer_to : Files → Asked → Ending
-answer_to files asked = one.answer_to one_library one_client tell_library tell_client files asked
+pub some_answer : (files : Files) (asked : Asked) → HasMains asked → (told : Ending) × IsAnswer files asked told
+some_answer files asked mains = one.some_answer one_library one_client tell_library tell_client files asked mains
 
-pub answers : (files : Files) (asked : Asked) → IsAnswer files asked (answer_to files asked)
-answers files asked = one.some_answer one_library one_client tell_library tell_client files asked
-
-pub one_answer : (files : Files) (asked : Asked) (e : Ending) → IsAnswer files asked e → e ≡ answer_to files asked
-one_answer files asked e is = one.one_answer one_library one_client tell_library tell_client files asked e is
+pub one_answer : (files : Files) (asked : Asked) (a b : Ending) → IsAnswer files asked a → IsAnswer files asked b → a ≡ b
+one_answer files asked a b is_a is_b = one.one_answer one_library one_client tell_library tell_client files asked a b is_a is_b

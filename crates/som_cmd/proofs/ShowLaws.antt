@@ -1,49 +1,85 @@
 -- What the steps of showing an image answer is the ending of what is asked.
-use Rattle.std.proofs.Common.{◌≡◌, ℕ, List, Option, Some, None, Result, Ok, Err, refl, sym, ap, subst, ◌∙◌}
+use Rattle.std.proofs.Common.{◌≡◌, ℕ, Bool, true, false, if◌then◌else◌, List, Option, Some, None, Result, Ok, Err, refl, sym, ap, subst, ◌∙◌}
 use Rattle.std.specs.List.{concat}
 use Rattle.std.specs.FinMap.{get}
 use Rattle.som_model.specs.declared.program.Release.{Release}
+use Rattle.som_model.specs.declared.program.ClientProgram.{ClientProgram}
 use Rattle.som_model.specs.Bytes.{Files}
 use Rattle.som_model.specs.Rules.{Breach}
-use Rattle.som_model.specs.Conforming.{release_breach}
+use Rattle.som_model.specs.Conforming.{program_breach, release_breach}
 use Rattle.som_model.specs.Steps.{◌>>=◌}
 use Rattle.som_wire.specs.declared.fault.ImageFault.{ImageFault}
 use Rattle.som_libimage.specs.Libraries.{library_at}
-use Rattle.som_verify.proofs.Conforming.{release_conforms}
-use Rattle.som_show.specs.Shown.{shown_lines}
+use Rattle.som_cliimage.specs.Programs.{client_at}
+use Rattle.som_verify.proofs.Conforming.{conforms_program, conforms_release, program_conforms, release_conforms}
+use Rattle.som_show.specs.Shown.{client_lines, shown_lines}
 use Rattle.som_cmd.specs.declared.output.End.TheVariants as the_end
 use Rattle.som_cmd.specs.declared.stop.Refusal.{Refusal}
 use Rattle.som_cmd.specs.declared.stop.Stop.{Stop}
 use Rattle.som_cmd.specs.declared.stop.Stop.TheVariants as stops
 use Rattle.som_cmd.specs.Words.{Show}
-use Rattle.som_cmd.specs.Answer.{Ending, IsAnswer, no_image_shown, shown_unread, shown_broken, shows, refusing, absent, unread}
-use Rattle.som_cmd.specs.Steps.{file_of, Stops, Follows, FollowsTold, Answers, AnswersTold}
-use Rattle.som_cmd.specs.ShowSteps.{read_or, kept_or, release_in, rules_kept, lines_shown}
+use Rattle.som_cmd.specs.Answer.{Ending, IsAnswer, no_image_shown, shown_unread, shown_broken, shows, client_unread, client_broken, shows_client, showing, refusing, absent, unread, broken, is_client}
+use Rattle.som_cmd.specs.Steps.{file_of, Follows, FollowsTold, Answers, AnswersTold}
+use Rattle.som_cmd.specs.ImageSteps.{kept_or, sound, sound_program, sound_release}
+use Rattle.som_cmd.specs.ShowSteps.{lines_shown, program_lines, release_lines}
+use Rattle.som_cmd.proofs.ImageLaws.{stops_first}
 use Rattle.som_cmd.proofs.RunLaws.{missing_by, found_by}
 
 -- ---- the ending that showing an image comes to
 
-abbrev pub shown_ending : Files → Result (List (List ℕ)) Refusal → Ending
+abbrev pub Lines : Type 0
+Lines = Result (List (List ℕ)) Refusal
+
+abbrev pub shown_ending : Files → Lines → Ending
 shown_ending files (Ok lines) = record { text = concat lines; status = 0; files = files }
 shown_ending files (Err r) = refusing files r
 
-abbrev after_rules : List ℕ → Release → Option Breach → Result (List (List ℕ)) Refusal
-after_rules n r o = kept_or n o >>= λ kept. Ok (shown_lines r)
+-- what is read of one kind of image, looked at and shown
+module _ (files : Files) (n : List ℕ) {A : Type 0} (breach : A → Option Breach) (show : A → List (List ℕ)) where
+  abbrev lines_of : Result A ImageFault → Lines
+  lines_of read = sound breach n read >>= λ x. Ok (show x)
 
-abbrev after_reading : List ℕ → Result Release ImageFault → Result (List (List ℕ)) Refusal
-after_reading n x = read_or n x >>= λ r. rules_kept n r >>= λ kept. Ok (shown_lines r)
+  abbrev ruled_lines : A → Option Breach → Lines
+  ruled_lines x o = (kept_or n o >>= λ kept. Ok x) >>= λ y. Ok (show y)
 
-rules_answer : (files : Files) (n b : List ℕ) (r : Release) → get files n ≡ Some b → library_at b ≡ Ok r → (o : Option Breach) → release_breach r ≡ o → IsAnswer files (Show n) (shown_ending files (after_rules n r o))
-rules_answer files n b r has e None none = shows n b r has e (release_conforms r none)
-rules_answer files n b r has e (Some x) is = shown_broken n b r x has e is
+  module _ (read : Result A ImageFault) where
+    -- it is an answer
+    module _ (unread_is : (fault : ImageFault) → read ≡ Err fault → IsAnswer files (Show n) (refusing files (unread n fault)))
+        (broken_is : (x : A) (b : Breach) → read ≡ Ok x → breach x ≡ Some b → IsAnswer files (Show n) (refusing files (broken n b)))
+        (shown_is : (x : A) → read ≡ Ok x → breach x ≡ None → IsAnswer files (Show n) (shown_ending files (Ok (show x)))) where
+      by_rules : (x : A) → read ≡ Ok x → (o : Option Breach) → breach x ≡ o → IsAnswer files (Show n) (shown_ending files (ruled_lines x o))
+      by_rules x e None none = shown_is x e none
+      by_rules x e (Some b) is = broken_is x b e is
 
-reading_answer : (files : Files) (n b : List ℕ) → get files n ≡ Some b → (x : Result Release ImageFault) → library_at b ≡ x → IsAnswer files (Show n) (shown_ending files (after_reading n x))
-reading_answer files n b has (Ok r) e = rules_answer files n b r has e (release_breach r) refl
-reading_answer files n b has (Err fault) e = shown_unread n b fault has e
+      by_reading : (r : Result A ImageFault) → read ≡ r → IsAnswer files (Show n) (shown_ending files (lines_of r))
+      by_reading (Ok x) e = by_rules x e (breach x) refl
+      by_reading (Err fault) e = unread_is fault e
 
--- what the steps come to is an answer
-bytes_answer : (files : Files) (n b : List ℕ) → get files n ≡ Some b → IsAnswer files (Show n) (shown_ending files (lines_shown n b))
-bytes_answer files n b has = reading_answer files n b has (library_at b) refl
+      lines_answer : IsAnswer files (Show n) (shown_ending files (lines_of read))
+      lines_answer = by_reading read refl
+
+    -- and the only one
+    unread_so : (fault : ImageFault) → read ≡ Err fault → refusing files (unread n fault) ≡ shown_ending files (lines_of read)
+    unread_so fault e = ap (λ (x : Result A ImageFault). shown_ending files (lines_of x)) (sym e)
+
+    ruled_so : (x : A) (o : Option Breach) → read ≡ Ok x → breach x ≡ o → shown_ending files (ruled_lines x o) ≡ shown_ending files (lines_of read)
+    ruled_so x o e is = ap (λ (y : Option Breach). shown_ending files (ruled_lines x y)) (sym is) ∙ ap (λ (y : Result A ImageFault). shown_ending files (lines_of y)) (sym e)
+
+-- ---- both kinds
+
+abbrev by_kind : List ℕ → List ℕ → Bool → Lines
+by_kind n b c = if c then program_lines n b else release_lines n b
+
+module _ (files : Files) (n b : List ℕ) (has : get files n ≡ Some b) where
+  kind_answer : (c : Bool) → is_client b ≡ c → IsAnswer files (Show n) (shown_ending files (by_kind n b c))
+  kind_answer true is = lines_answer files n program_breach client_lines (client_at b) (λ fault e. client_unread n b fault has is e) (λ p x e f. client_broken n b p x has is e f)
+      (λ p e f. shows_client n b p has is e (program_conforms p f))
+  kind_answer false is = lines_answer files n release_breach shown_lines (library_at b) (λ fault e. shown_unread n b fault has is e) (λ r x e f. shown_broken n b r x has is e f)
+      (λ r e f. shows n b r has is e (release_conforms r f))
+
+  -- what the steps come to is an answer
+  bytes_answer : IsAnswer files (Show n) (shown_ending files (lines_shown n b))
+  bytes_answer = kind_answer (is_client b) refl
 
 -- the ending, by what the store has under the name
 abbrev pub file_ending : Files → List ℕ → Option (List ℕ) → Ending
@@ -54,20 +90,18 @@ pub file_answer : (files : Files) (n : List ℕ) (o : Option (List ℕ)) → get
 file_answer files n None has = no_image_shown n has
 file_answer files n (Some b) has = bytes_answer files n b has
 
+of_kind : (files : Files) (n b : List ℕ) → get files n ≡ Some b → (c : Bool) → is_client b ≡ c → shown_ending files (by_kind n b c) ≡ file_ending files n (get files n)
+of_kind files n b has c kind = ap (λ (x : Bool). shown_ending files (by_kind n b x)) (sym kind) ∙ ap (file_ending files n) (sym has)
+
 -- and each answer is it
-abbrev Ends : Files → List ℕ → Ending → Type 0
-Ends files n e = e ≡ file_ending files n (get files n)
-
-pub absent_ends : (files : Files) (n : List ℕ) → get files n ≡ None → Ends files n (refusing files (absent n))
-absent_ends files n has = ap (file_ending files n) (sym has)
-
-pub unread_ends : (files : Files) (n b : List ℕ) (fault : ImageFault) → get files n ≡ Some b → library_at b ≡ Err fault → Ends files n (refusing files (unread n fault))
-unread_ends files n b fault has e = ap (λ (x : Result Release ImageFault). shown_ending files (after_reading n x)) (sym e) ∙ ap (file_ending files n) (sym has)
-
-pub ruled_ends : (files : Files) (n b : List ℕ) (r : Release) (o : Option Breach) → get files n ≡ Some b → library_at b ≡ Ok r → release_breach r ≡ o → Ends files n (shown_ending files (after_rules n r o))
-ruled_ends files n b r o has e is =
-    ap (λ (x : Option Breach). shown_ending files (after_rules n r x)) (sym is)
-    ∙ ap (λ (x : Result Release ImageFault). shown_ending files (after_reading n x)) (sym e) ∙ ap (file_ending files n) (sym has)
+pub one_shown : (files : Files) (n : List ℕ) (e : Ending) → IsAnswer files (Show n) e → e ≡ file_ending files n (get files n)
+one_shown files n e (no_image_shown _ has) = ap (file_ending files n) (sym has)
+one_shown files n e (shown_unread _ b fault has kind is) = unread_so files n release_breach shown_lines (library_at b) fault is ∙ of_kind files n b has false kind
+one_shown files n e (shown_broken _ b r x has kind is breaks) = ruled_so files n release_breach shown_lines (library_at b) r (Some x) is breaks ∙ of_kind files n b has false kind
+one_shown files n e (shows _ b r has kind is ok) = ruled_so files n release_breach shown_lines (library_at b) r None is (conforms_release r ok) ∙ of_kind files n b has false kind
+one_shown files n e (client_unread _ b fault has kind is) = unread_so files n program_breach client_lines (client_at b) fault is ∙ of_kind files n b has true kind
+one_shown files n e (client_broken _ b p x has kind is breaks) = ruled_so files n program_breach client_lines (client_at b) p (Some x) is breaks ∙ of_kind files n b has true kind
+one_shown files n e (shows_client _ b p has kind is ok) = ruled_so files n program_breach client_lines (client_at b) p None is (conforms_program p ok) ∙ of_kind files n b has true kind
 
 -- ---- what the code answers
 
@@ -82,7 +116,7 @@ image_missing None n stop f = tt
 image_missing (Some files) n stop f = missing files n stop f
 
 stopped : (files : Files) (n b : List ℕ) → get files n ≡ Some b → (stop : Stop) → Follows {A = List (List ℕ)} (Err stop) (lines_shown n b) → Answers files (Show n) (Err stop)
-stopped files n b has (stops.Refused r) f = subst (λ (x : Result (List (List ℕ)) Refusal). IsAnswer files (Show n) (shown_ending files x)) f (bytes_answer files n b has)
+stopped files n b has (stops.Refused r) f = subst (λ (x : Lines). IsAnswer files (Show n) (shown_ending files x)) f (bytes_answer files n b has)
 stopped files n b has (stops.StoreFailed line) f = tt
 stopped files n b has stops.NoMemory f = tt
 
@@ -94,30 +128,32 @@ bytes_refused (Some files) n b stop f g = stopped files n b (found_by (get files
 -- they are shown
 pub bytes_shown : (files : Option Files) (n b : List ℕ) (lines : List (List ℕ)) → FollowsTold files (Ok b) (file_of n) → Follows (Ok lines) (lines_shown n b) → AnswersTold files (Show n) (Ok (record { lines = lines; end = the_end.Done }))
 bytes_shown None n b lines f g = tt
-bytes_shown (Some files) n b lines f g = subst (λ (x : Result (List (List ℕ)) Refusal). IsAnswer files (Show n) (shown_ending files x)) g (bytes_answer files n b (found_by (get files n) n b f))
+bytes_shown (Some files) n b lines f g = subst (λ (x : Lines). IsAnswer files (Show n) (shown_ending files x)) g (bytes_answer files n b (found_by (get files n) n b f))
 
--- ---- one step after another
+-- ---- one kind of image
 
-pub stops_first : {A B : Type 0} (stop : Stop) (s : Result A Refusal) (f : A → Result B Refusal) → Stops stop s → Stops stop (s >>= f)
-stops_first (stops.Refused r) s f e = ap (λ x. x >>= f) e
-stops_first (stops.StoreFailed line) s f e = tt
-stops_first stops.NoMemory s f e = tt
+abbrev release_shown : Release → Lines
+release_shown r = Ok (shown_lines r)
 
-abbrev ruled : List ℕ → Release → Result (List (List ℕ)) Refusal
-ruled n r = rules_kept n r >>= λ kept. Ok (shown_lines r)
+abbrev program_shown : ClientProgram → Lines
+program_shown p = Ok (client_lines p)
 
--- the bytes can't be read
-pub unread_first : (n b : List ℕ) (stop : Stop) → Follows {A = Release} (Err stop) (release_in n b) → Follows {A = List (List ℕ)} (Err stop) (lines_shown n b)
-unread_first n b stop f = stops_first stop (release_in n b) (ruled n) f
+pub release_stops : (n b : List ℕ) (stop : Stop) → Follows {A = Release} (Err stop) (sound_release n b) → Follows {A = List (List ℕ)} (Err stop) (release_lines n b)
+release_stops n b stop f = stops_first stop (sound_release n b) release_shown f
 
-after_read : (n b : List ℕ) (r : Release) → Follows (Ok r) (release_in n b) → ruled n r ≡ lines_shown n b
-after_read n b r f = ap (λ (x : Result Release Refusal). x >>= ruled n) (sym f)
+pub release_is_shown : (n b : List ℕ) (r : Release) (lines : List (List ℕ)) → Follows (Ok r) (sound_release n b) → lines ≡ shown_lines r → Follows (Ok lines) (release_lines n b)
+release_is_shown n b r lines f is = ap (λ (x : Result Release Refusal). x >>= release_shown) f ∙ ap (λ (l : List (List ℕ)). Ok l) (sym is)
 
--- a rule is broken
-pub broken_first : (n b : List ℕ) (r : Release) (stop : Stop) → Follows (Ok r) (release_in n b) → Follows {A = Unit {0}} (Err stop) (rules_kept n r) → Follows {A = List (List ℕ)} (Err stop) (lines_shown n b)
-broken_first n b r stop f g = subst (Stops stop) (after_read n b r f) (stops_first stop (rules_kept n r) (λ kept. Ok (shown_lines r)) g)
+pub program_stops : (n b : List ℕ) (stop : Stop) → Follows {A = ClientProgram} (Err stop) (sound_program n b) → Follows {A = List (List ℕ)} (Err stop) (program_lines n b)
+program_stops n b stop f = stops_first stop (sound_program n b) program_shown f
 
--- no rule is
-pub all_kept : (n b : List ℕ) (r : Release) (x : Unit {0}) (lines : List (List ℕ)) → Follows (Ok r) (release_in n b) → Follows (Ok x) (rules_kept n r) → lines ≡ shown_lines r → Follows (Ok lines) (lines_shown n b)
-all_kept n b r x lines f g is =
-    sym (after_read n b r f) ∙ ap (λ (y : Result (Unit {0}) Refusal). y >>= λ kept. Ok (shown_lines r)) g ∙ ap (λ (l : List (List ℕ)). Ok l) (sym is)
+pub program_is_shown : (n b : List ℕ) (p : ClientProgram) (lines : List (List ℕ)) → Follows (Ok p) (sound_program n b) → lines ≡ client_lines p → Follows (Ok lines) (program_lines n b)
+program_is_shown n b p lines f is = ap (λ (x : Result ClientProgram Refusal). x >>= program_shown) f ∙ ap (λ (l : List (List ℕ)). Ok l) (sym is)
+
+-- ---- an image of either kind
+
+pub as_client : (n b : List ℕ) (result : Result (List (List ℕ)) Stop) → is_client b ≡ true → Follows result (program_lines n b) → Follows result (lines_shown n b)
+as_client n b result is f = subst (λ (c : Bool). Follows result (by_kind n b c)) (sym is) f
+
+pub as_library : (n b : List ℕ) (result : Result (List (List ℕ)) Stop) → is_client b ≡ false → Follows result (release_lines n b) → Follows result (lines_shown n b)
+as_library n b result is f = subst (λ (c : Bool). Follows result (by_kind n b c)) (sym is) f

@@ -1,7 +1,5 @@
 -- Bytes are the first image of one release or client program, or of none.
-use Rattle.std.proofs.Common.{◌≡◌, ℕ, zero, suc, ◌⊎◌, inl, inr, Bool, true, false, if◌then◌else◌, true≢false, List, [], ◌∷◌, map, Option, Some, None, Result, Ok, Err, refl, sym, ap, ◌∙◌, arith}
-use Rattle.std.specs.Prelude.{nat_lt}
-use Rattle.std.proofs.lemmas.Bool.{lt-ltb, ltb-true}
+use Rattle.std.proofs.Common.{◌≡◌, ℕ, ◌⊎◌, inl, inr, Bool, true, false, true≢false, List, map, Option, Some, None, Result, Ok, Err, refl, sym, ap, ◌∙◌}
 use Rattle.som_model.specs.declared.program.Release.{Release}
 use Rattle.som_model.specs.declared.program.ClientProgram.{ClientProgram}
 use Rattle.som_model.specs.Bytes.{AreBytes}
@@ -26,27 +24,11 @@ use Rattle.som_firstclient.specs.Clients.{program_named, FitsClient, AnswersProg
 use Rattle.som_firstclient.specs.Reading.{client_at, Reads}
 use Rattle.som_firstclient.proofs.NamedClients.{reads_fitting, reads_found, reads_only}
 use Rattle.som_cmd.specs.Taking.{ConformsAsFirst, ClientTells, descends_in}
+use Rattle.som_cmd.specs.ClientAnswer.{are_bytes}
+use Rattle.som_cmd.proofs.BaseLaws.{bytes_below, bytes_pass}
 use Rattle.som_cmd.proofs.LibraryLaws.{first_within, taken}
 use Rattle.som_cmd.proofs.ClientLaws as clients
 use Rattle.som_cmd.proofs.OneAnswer.{Told}
-
--- ---- bytes
-
-abbrev are_bytes : List ℕ → Bool
-are_bytes bytes = every (λ b. nat_lt b 256) bytes
-
-both_say : (b c : Bool) → (if b then c else false) ≡ true → (b ≡ true) × (c ≡ true)
-both_say true c h = (refl, h)
-both_say false c h = absurd (true≢false (sym h))
-
-bytes_below : (bytes : List ℕ) → are_bytes bytes ≡ true → AreBytes bytes
-bytes_below [] h i = omega arith
-bytes_below (b ∷ bs) h zero = ltb-true b 256 (both_say (nat_lt b 256) (are_bytes bs) h).0
-bytes_below (b ∷ bs) h (suc i) = bytes_below bs (both_say (nat_lt b 256) (are_bytes bs) h).1 i
-
-bytes_pass : (bytes : List ℕ) → AreBytes bytes → are_bytes bytes ≡ true
-bytes_pass [] h = refl
-bytes_pass (b ∷ bs) h = ap (λ (x : Bool). if x then are_bytes bs else false) (lt-ltb b 256 (h 0)) ∙ bytes_pass bs (λ i. h (suc i))
 
 -- ---- libraries
 

@@ -1,20 +1,21 @@
 -- The texts under names, one after the other.
 use Rattle.std.proofs.Common.{◌≡◌, ℕ, ◌+◌, ◌<◌, ◌≤◌, Bool, true, false, if◌then◌else◌, nat_le, List, [], ◌∷◌, ◌++◌, length, take, drop, get_or, codes, Option, Some, None, Result, Ok, Err, refl, sym, ap, subst, ◌∙◌, append_assoc, arith}
 use Rattle.std.proofs.lemmas.Grind.{common_steps}
-use Rattle.std.proofs.lemmas.List.{take_more, take_all, take-append-drop}
+use Rattle.std.proofs.lemmas.List.{map-append, take_more, take_all, take-append-drop}
 use Rattle.som_io.specs.Outside.{Rose}
 use Rattle.som_model.specs.declared.limits.TheConstants.{MAX_BYTES}
 use Rattle.som_model.specs.Bytes.{Files}
 use Rattle.som_model.specs.Steps.{◌>>=◌}
 use Rattle.som_compile.specs.declared.source.Source.{Source}
+use Rattle.som_compile.specs.Sources.{bytes_in, mains_in, names_of}
 use Rattle.som_cmd.specs.declared.stop.Refusal.{Refusal}
 use Rattle.som_cmd.specs.declared.stop.Stop.{Stop}
 use Rattle.som_cmd.specs.declared.stop.Stop.TheVariants as stops
 use Rattle.som_cmd.specs.Endings.{file_of}
-use Rattle.som_cmd.specs.LibraryAnswer.{bytes_kept, text_in, texts_after, texts_in, too_many}
+use Rattle.som_cmd.specs.Texts.{bytes_kept, text_in, texts_after, texts_in, too_many}
 use Rattle.som_cmd.specs.Cause.{AreGot, FailsGettingTexts, HasCause, store_failed}
 use Rattle.som_cmd.specs.Steps.{FollowsTold}
-use Rattle.som_cmd.proofs.ShowLaws.{stops_first}
+use Rattle.som_cmd.proofs.ImageLaws.{stops_first}
 
 -- ---- one text
 
@@ -56,12 +57,33 @@ text_got (Some files) before name bytes s f le is =
     ∙ ap (λ (b : Bool). kept_if b >>= λ kept. Ok (text_from name bytes)) (not_past (before + length bytes) le)
     ∙ ap (λ (x : Source). Ok x) (sym is)
 
--- ---- all texts
+-- what is known of a text that is there
+pub record Known (before : ℕ) (name : List ℕ) (s : Source) : Type 0 where
+  pub named : s.name ≡ name
+  pub within : before + length s.bytes ≤ MAX_BYTES
 
--- the bytes of texts together
-abbrev pub size : List Source → ℕ
-size [] = 0
-size (s ∷ ss) = length s.bytes + size ss
+abbrev a_text : Source → Result Source Refusal
+a_text s = Ok s
+
+same_text : (s t : Source) → a_text s ≡ a_text t → s ≡ t
+same_text s t e = cc
+
+below : (count : ℕ) → nat_le count MAX_BYTES ≡ true → count ≤ MAX_BYTES
+below count e = grind (arith, common_steps)
+
+known_kept : (before : ℕ) (name bytes : List ℕ) (s : Source) (b : Bool) → nat_le (before + length bytes) MAX_BYTES ≡ b → (kept_if b >>= λ kept. Ok (text_from name bytes)) ≡ Ok s → Known before name s
+known_kept before name bytes s true e is =
+    subst (Known before name) (same_text (text_from name bytes) s is) (record { named = refl; within = below (before + length bytes) e })
+known_kept before name bytes s false e is = absurd cc
+
+known_file : (before : ℕ) (name : List ℕ) (s : Source) (r : Result (List ℕ) Refusal) → (r >>= after_file before name) ≡ Ok s → Known before name s
+known_file before name s (Ok bytes) is = known_kept before name bytes s (nat_le (before + length bytes) MAX_BYTES) refl is
+known_file before name s (Err r) is = absurd cc
+
+known_text : (before : ℕ) (name : List ℕ) (files : Files) (s : Source) → text_in before name files ≡ Ok s → Known before name s
+known_text before name files s is = known_file before name s (file_of name files) is
+
+-- ---- all texts
 
 abbrev Texts : Type 0
 Texts = Result (List Source) Refusal
@@ -100,6 +122,29 @@ parts_by before n ns files ss (Ok s) is e = others_by (texts_after (before + len
     others_by (Err r) is_o h = absurd cc
 parts_by before n ns files ss (Err r) is e = absurd cc
 
+-- what is known of all texts that are there
+pub record AllKnown (before : ℕ) (names : List (List ℕ)) (ss : List Source) : Type 0 where
+  pub named : names_of ss ≡ names
+  pub within : before + bytes_in ss ≤ MAX_BYTES
+
+pub known_texts : (before : ℕ) (names : List (List ℕ)) (files : Files) (ss : List Source) → before ≤ MAX_BYTES → texts_after before names files ≡ Ok ss → AllKnown before names ss
+known_texts before [] files ss le e = subst (AllKnown before []) (some_texts [] ss e) (record { named = refl; within = omega (arith, le) })
+known_texts before (n ∷ ns) files ss le e =
+    let p = parts_by before n ns files ss (text_in before n files) refl e in
+    let k = known_text before n files p.first p.first_is in
+    let more = known_texts (before + length p.first.bytes) ns files p.others k.within p.others_are in
+    let w = more.within in
+    subst (AllKnown before (n ∷ ns)) (sym p.all) (record {
+      named = ap (λ (x : List ℕ). x ∷ names_of p.others) k.named ∙ ap (λ (x : List (List ℕ)). n ∷ x) more.named;
+      within = omega (arith, w);
+    })
+
+pub texts_known : (names : List (List ℕ)) (files : Files) (ss : List Source) → texts_in names files ≡ Ok ss → (names_of ss ≡ names) × (bytes_in ss ≤ MAX_BYTES)
+texts_known names files ss e =
+    let k = known_texts 0 names files ss (omega arith) e in
+    let w = k.within in
+    (k.named, omega (arith, w))
+
 plus_none : (n : ℕ) → n ≡ n + 0
 plus_none n = omega arith
 
@@ -111,18 +156,18 @@ sum_parts a b c = omega arith
 
 -- texts that are there, and then others
 pub texts_more : (before : ℕ) (ns ms : List (List ℕ)) (files : Files) (ss : List Source) → texts_after before ns files ≡ Ok ss
-    → texts_after before (ns ++ ms) files ≡ before_all ss (texts_after (before + size ss) ms files)
+    → texts_after before (ns ++ ms) files ≡ before_all ss (texts_after (before + bytes_in ss) ms files)
 texts_more before [] ms files ss e =
     let none : [] ≡ ss = some_texts [] ss e in
-    subst (λ (x : List Source). texts_after before ms files ≡ before_all x (texts_after (before + size x) ms files)) none (before_none (texts_after before ms files) ∙ ap (λ (k : ℕ). before_all [] (texts_after k ms files)) (plus_none before))
+    subst (λ (x : List Source). texts_after before ms files ≡ before_all x (texts_after (before + bytes_in x) ms files)) none (before_none (texts_after before ms files) ∙ ap (λ (k : ℕ). before_all [] (texts_after k ms files)) (plus_none before))
 texts_more before (n ∷ ns) ms files ss e =
     let p = parts_by before n ns files ss (text_in before n files) refl e in
     let further = texts_more (before + length p.first.bytes) ns ms files p.others p.others_are in
-    subst (λ (x : List Source). texts_after before (n ∷ (ns ++ ms)) files ≡ before_all x (texts_after (before + size x) ms files)) (sym p.all)
+    subst (λ (x : List Source). texts_after before (n ∷ (ns ++ ms)) files ≡ before_all x (texts_after (before + bytes_in x) ms files)) (sym p.all)
     (ap (λ (x : Result Source Refusal). x >>= after_text before (ns ++ ms) files) p.first_is
     ∙ ap (λ (x : Texts). x >>= λ all. Ok (p.first ∷ all)) further
-    ∙ before_one_more p.first p.others (texts_after (before + length p.first.bytes + size p.others) ms files)
-    ∙ ap (λ (k : ℕ). before_all (p.first ∷ p.others) (texts_after k ms files)) (sum_parts before (length p.first.bytes) (size p.others)))
+    ∙ before_one_more p.first p.others (texts_after (before + length p.first.bytes + bytes_in p.others) ms files)
+    ∙ ap (λ (k : ℕ). before_all (p.first ∷ p.others) (texts_after k ms files)) (sum_parts before (length p.first.bytes) (bytes_in p.others)))
 
 -- ---- the loop
 
@@ -147,16 +192,16 @@ module _ (names : List (List ℕ)) (i : ℕ) (n : List ℕ) (lt : i < length nam
   parted =
       sym (take-append-drop (i + 1) names) ∙ ap (λ (x : List (List ℕ)). x ++ drop (i + 1) names) up_to ∙ append_assoc (take i names) (n ∷ []) (drop (i + 1) names)
 
-  one_text : (told : Files) (ss : List Source) → texts_in (take i names) told ≡ Ok ss → (before : ℕ) → before ≡ size ss → (r : Result Source Refusal) → text_in before n told ≡ r → (rest : List (List ℕ))
-      → texts_in (take i names ++ n ∷ rest) told ≡ before_all ss (r >>= after_text (size ss) rest told)
+  one_text : (told : Files) (ss : List Source) → texts_in (take i names) told ≡ Ok ss → (before : ℕ) → before ≡ bytes_in ss → (r : Result Source Refusal) → text_in before n told ≡ r → (rest : List (List ℕ))
+      → texts_in (take i names ++ n ∷ rest) told ≡ before_all ss (r >>= after_text (bytes_in ss) rest told)
   one_text told ss got before count r e rest =
       texts_more 0 (take i names) (n ∷ rest) told ss got
-      ∙ ap (λ (k : ℕ). before_all ss (texts_after k (n ∷ rest) told)) (zero_plus (size ss))
-      ∙ ap (λ (x : Result Source Refusal). before_all ss (x >>= after_text (size ss) rest told)) (ap (λ (k : ℕ). text_in k n told) (sym count) ∙ e)
+      ∙ ap (λ (k : ℕ). before_all ss (texts_after k (n ∷ rest) told)) (zero_plus (bytes_in ss))
+      ∙ ap (λ (x : Result Source Refusal). before_all ss (x >>= after_text (bytes_in ss) rest told)) (ap (λ (k : ℕ). text_in k n told) (sym count) ∙ e)
 
 -- it can't be got
 pub text_stops : (files now : Option Files) (names : List (List ℕ)) (ss : List Source) (i : ℕ) (n : List ℕ) (before : ℕ) (stop : Stop) → now ≡ files → i < length names → n ≡ get_or names i n
-    → Got files (take i names) ss → before ≡ size ss → FollowsTold {A = Source} now (Err stop) (text_in before n) → FollowsTold {A = List Source} files (Err stop) (texts_in names)
+    → Got files (take i names) ss → before ≡ bytes_in ss → FollowsTold {A = Source} now (Err stop) (text_in before n) → FollowsTold {A = List Source} files (Err stop) (texts_in names)
 text_stops None now names ss i n before stop same lt at got count f = tt
 text_stops (Some told) now names ss i n before (stops.Refused r) same lt at got count f =
     let here = subst (λ (x : Option Files). FollowsTold {A = Source} x (Err (stops.Refused r)) (text_in before n)) same f in
@@ -166,7 +211,7 @@ text_stops (Some told) now names ss i n before stops.NoMemory same lt at got cou
 
 -- it is there
 pub text_more : (files now : Option Files) (names : List (List ℕ)) (ss : List Source) (i : ℕ) (n : List ℕ) (before : ℕ) (s : Source) (new : List Source) → now ≡ files → i < length names → n ≡ get_or names i n
-    → Got files (take i names) ss → before ≡ size ss → FollowsTold now (Ok s) (text_in before n) → new ≡ ss ++ s ∷ [] → Got files (take (i + 1) names) new
+    → Got files (take i names) ss → before ≡ bytes_in ss → FollowsTold now (Ok s) (text_in before n) → new ≡ ss ++ s ∷ [] → Got files (take (i + 1) names) new
 text_more None now names ss i n before s new same lt at got count f is = tt
 text_more (Some told) now names ss i n before s new same lt at got count f is =
     let here = subst (λ (x : Option Files). FollowsTold x (Ok s) (text_in before n)) same f in
@@ -184,13 +229,26 @@ text_fails files names ss i n count mid now (stops.StoreFailed line) lt at got l
 text_fails files names ss i n count mid now (stops.Refused r) lt at got le cause = tt
 text_fails files names ss i n count mid now stops.NoMemory lt at got le cause = tt
 
-size_after : (ss : List Source) (s : Source) → size (ss ++ s ∷ []) ≡ size ss + length s.bytes
+size_after : (ss : List Source) (s : Source) → bytes_in (ss ++ s ∷ []) ≡ bytes_in ss + length s.bytes
 size_after [] s = omega arith
 size_after (t ∷ ss) s = let e = size_after ss s in omega (arith, e)
 
 -- with it there are so many bytes
-pub size_more : (before count : ℕ) (ss : List Source) (s : Source) (new : List Source) → before ≡ size ss → count ≡ length s.bytes → new ≡ ss ++ s ∷ [] → before + count ≡ size new
-size_more before count ss s new e f is = let h = size_after ss s in let k : size new ≡ size (ss ++ s ∷ []) = ap size is in omega (arith, e, f, h, k)
+pub size_more : (before count : ℕ) (ss : List Source) (s : Source) (new : List Source) → before ≡ bytes_in ss → count ≡ length s.bytes → new ≡ ss ++ s ∷ [] → before + count ≡ bytes_in new
+size_more before count ss s new e f is = let h = size_after ss s in let k : bytes_in new ≡ bytes_in (ss ++ s ∷ []) = ap bytes_in is in omega (arith, e, f, h, k)
+
+-- it has the next name
+pub named_more : (names : List (List ℕ)) (ss : List Source) (i : ℕ) (n : List ℕ) (s : Source) (new : List Source) → i < length names → n ≡ get_or names i n → names_of ss ≡ take i names → s.name ≡ n → new ≡ ss ++ s ∷ []
+    → names_of new ≡ take (i + 1) names
+named_more names ss i n s new lt at named is all =
+    ap names_of all ∙ map-append (λ (x : Source). x.name) ss (s ∷ []) ∙ ap (λ (x : List (List ℕ)). x ++ s.name ∷ []) named ∙ ap (λ (x : List ℕ). take i names ++ x ∷ []) is ∙ sym (up_to names i n lt at)
+
+-- all are there, under their names
+pub all_named : (names : List (List ℕ)) (ss : List Source) (i : ℕ) → length names ≤ i → names_of ss ≡ take i names → names_of ss ≡ names
+all_named names ss i over named = named ∙ take_all i names over
+
+pub mains_named : (names : List (List ℕ)) (ss : List Source) (n : ℕ) → names_of ss ≡ names → mains_in names ≡ n → mains_in (names_of ss) ≡ n
+mains_named names ss n named e = ap mains_in named ∙ e
 
 -- all are there
 pub all_got : (files : Option Files) (names : List (List ℕ)) (ss : List Source) (i : ℕ) → length names ≤ i → Got files (take i names) ss → FollowsTold files (Ok ss) (texts_in names)

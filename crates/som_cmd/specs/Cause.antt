@@ -6,8 +6,10 @@ use Rattle.som_model.specs.Bytes.{Files}
 use Rattle.som_cmd.specs.declared.stop.Stop.{Stop}
 use Rattle.som_cmd.specs.declared.stop.Stop.TheVariants as stops
 use Rattle.som_compile.specs.declared.source.Source.{Source}
-use Rattle.som_cmd.specs.Words.{Asked, Run, Show, Check, Library, Bad}
-use Rattle.som_cmd.specs.LibraryAnswer.{texts_in, AreCompiled}
+use Rattle.som_cmd.specs.Words.{Asked, Run, Show, Check, Library, Client, Bad}
+use Rattle.som_cmd.specs.Texts.{texts_in}
+use Rattle.som_cmd.specs.LibraryAnswer.{AreCompiled}
+use Rattle.som_cmd.specs.ClientAnswer.{IsClientCompiled}
 use Rattle.som_cmd.specs.Answer.{named}
 
 abbrev pub store_failed : List ℕ → List ℕ
@@ -28,10 +30,10 @@ abbrev pub AreGot : Option Files → List (List ℕ) → Type 0
 AreGot None names = Unit {0}
 AreGot (Some files) names = (ss : List Source) × (texts_in names files ≡ Ok ss)
 
--- and they are compiled to an image
-abbrev pub HaveImage : Option Files → List (List ℕ) → Type 0
-HaveImage None names = Unit {0}
-HaveImage (Some files) names = (image : List ℕ) × AreCompiled files names image
+-- there is an image of this kind, where the files are told
+abbrev pub HaveImage : Option Files → (Files → List ℕ → Type 0) → Type 0
+HaveImage None IsImage = Unit {0}
+HaveImage (Some files) IsImage = (image : List ℕ) × IsImage files image
 
 -- the line says that the get of one of these names failed, and those before it are got
 pub record FailsGettingTexts (files : Option Files) (names : List (List ℕ)) (line : List ℕ) : Type 0 where
@@ -42,12 +44,18 @@ pub record FailsGettingTexts (files : Option Files) (names : List (List ℕ)) (l
   pub got : AreGot files before
   pub line_is : line ≡ store_failed name
 
+-- the line says that the get of a library or of one of these names failed, and those before it are got
+abbrev pub FailsGettingParts : Option Files → List ℕ → List (List ℕ) → List ℕ → Type 0
+FailsGettingParts files library names line = (line ≡ store_failed library) ⊎ (Has files library × FailsGettingTexts files names line)
+
 -- the line says that the get or put of a name failed which the command gets or puts, and no step before refuses
 abbrev pub FailsOn : Option Files → Asked → List ℕ → Type 0
 FailsOn files (Run client library fuel) line = (line ≡ store_failed client) ⊎ ((line ≡ store_failed library) × Has files client)
 FailsOn files (Show image) line = line ≡ store_failed image
 FailsOn files (Check names) line = FailsGetting files names line
-FailsOn files (Library out names) line = FailsGettingTexts files names line ⊎ ((line ≡ store_failed out) × HaveImage files names)
+FailsOn files (Library out names) line = FailsGettingTexts files names line ⊎ ((line ≡ store_failed out) × HaveImage files (λ told. AreCompiled told names))
+FailsOn files (Client out library names) line =
+    FailsGettingParts files library names line ⊎ ((line ≡ store_failed out) × HaveImage files (λ told. IsClientCompiled told library names))
 FailsOn files Bad line = ⊥
 
 abbrev pub StopHasCause : (List ℕ → Type 0) → ℕ → ℕ → Stop → Type 0

@@ -12,7 +12,7 @@ use Rattle.som_order.specs.Names.{name_at}
 use Rattle.som_cmd.specs.declared.stop.Refusal.{Refusal}
 use Rattle.som_cmd.specs.declared.stop.Why.TheVariants as why
 use Rattle.som_cmd.specs.Endings.{Ending, refusing, file_of}
-use Rattle.som_cmd.specs.ShowSteps.{release_in, rules_kept}
+use Rattle.som_cmd.specs.ImageSteps.{release_in, rules_kept}
 
 -- ---- lines
 

@@ -1,16 +1,17 @@
 -- Lines that refuse, and how a call may end.
-use Rattle.std.specs.Prelude.{ℕ, List, [], ◌∷◌, ◌++◌, Result, codes}
+use Rattle.std.specs.Prelude.{ℕ, ◌==◌, Bool, false, List, [], ◌∷◌, ◌++◌, Result, codes}
 use Rattle.std.specs.FinMap.{get}
 use Rattle.std.specs.Fmt.{decimal}
 use Rattle.std.specs.List.{concat}
 use Rattle.std.specs.Option.{ok_or}
 use Rattle.som_model.specs.declared.program.Release.{Release}
+use Rattle.som_model.specs.declared.program.ClientProgram.{ClientProgram}
 use Rattle.som_model.specs.Bytes.{Files}
 use Rattle.som_model.specs.State.{Ran}
 use Rattle.som_model.specs.Rules.{Breach}
 use Rattle.som_wire.specs.declared.fault.ImageFault.{ImageFault}
 use Rattle.som_wire.specs.declared.fault.ImageFault.TheVariants as faults
-use Rattle.som_show.specs.Shown.{shown_lines}
+use Rattle.som_show.specs.Shown.{client_lines, shown_lines}
 use Rattle.som_cmd.specs.declared.stop.Refusal.{Refusal}
 use Rattle.som_cmd.specs.declared.stop.Why.TheVariants as why
 use Rattle.som_cmd.specs.Status.{status_of}
@@ -66,7 +67,7 @@ unread name fault = record {
   why = why.Image;
 }
 
--- the release that the store has under a name breaks this rule
+-- what the store has under a name breaks this rule
 abbrev pub broken : List ℕ → Breach → Refusal
 broken name b = record {
   line = codes "image S" ++ decimal b.rule ++ codes " " ++ name ++ codes " " ++ b.class ++ codes " " ++ b.member ++ 10 ∷ [];
@@ -92,8 +93,17 @@ ran files run = record { text = run_text no_trace run; status = run_status run; 
 abbrev pub showing : Files → Release → Ending
 showing files r = record { text = concat (shown_lines r); status = 0; files = files }
 
+-- what shows a client program
+abbrev pub showing_client : Files → ClientProgram → Ending
+showing_client files p = record { text = concat (client_lines p); status = 0; files = files }
+
 -- ---- files
 
 -- the bytes under a name
 abbrev pub file_of : List ℕ → Files → Result (List ℕ) Refusal
 file_of name files = ok_or (get files name) (absent name)
+
+-- whether bytes are read as a client image and not as a library image: the fourth says so
+abbrev pub is_client : List ℕ → Bool
+is_client (a ∷ b ∷ c ∷ kind ∷ rest) = kind == 67
+is_client bytes = false

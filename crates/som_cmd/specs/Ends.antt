@@ -8,11 +8,12 @@ use Rattle.som_model.specs.Bytes.{AreBytes, Files}
 use Rattle.som_model.specs.Class.{interface_of}
 use Rattle.som_model.specs.Means.{means}
 use Rattle.som_model.specs.Compatible.{Accepted, Incompatible}
-use Rattle.som_model.specs.Conforming.{ReleaseOk}
-use Rattle.som_model.specs.Images.{library_image}
+use Rattle.som_model.specs.Conforming.{ProgramOk, ReleaseOk}
+use Rattle.som_model.specs.Images.{client_image, library_image}
 use Rattle.som_order.specs.Names.{name_at}
 use Rattle.som_libimage.specs.Limits.{IsWithinLimits}
-use Rattle.som_show.specs.Shown.{shown_lines}
+use Rattle.som_cliimage.specs.Limits as client
+use Rattle.som_show.specs.Shown.{client_lines, shown_lines}
 use Rattle.som_io.specs.Outside.{Rose, ShowsAll, ShowsFront}
 use Rattle.som_first.specs.FirstImages.{IsFirstLibrary, IsFirstClient}
 use Rattle.som_cmd.specs.RunText.{run_text, run_status, no_trace}
@@ -81,10 +82,31 @@ pub record IsImageOf (asked : Asked) (files : Option Files) (r : Release) : Type
   pub within : IsWithinLimits r
   pub conforms : ReleaseOk r
 
--- what was written shows the release, and the status is 0
-pub record ShowsRelease (r : Release) (status : ℕ) (old new : Option (List ℕ)) : Type 0 where
-  pub text : ShowsAll old new (concat (shown_lines r))
+-- the same of a client program
+pub record IsImageOfClient (asked : Asked) (files : Option Files) (p : ClientProgram) : Type 0 where
+  pub told : Files
+  pub files_are : files ≡ Some told
+  pub name : List ℕ
+  pub asked_is : asked ≡ Show name
+  pub bytes : List ℕ
+  pub image_is : get told name ≡ Some bytes
+  pub bytes_are : AreBytes bytes
+  pub spelled : client_image p ≡ Some bytes
+  pub within : client.IsWithinLimits p
+  pub conforms : ProgramOk p
+
+-- what was written are these lines, and the status is 0
+pub record ShowsLines (lines : List (List ℕ)) (status : ℕ) (old new : Option (List ℕ)) : Type 0 where
+  pub text : ShowsAll old new (concat lines)
   pub status_is : status ≡ 0
+
+-- what was written shows the release
+abbrev pub ShowsRelease : Release → ℕ → Option (List ℕ) → Option (List ℕ) → Type 0
+ShowsRelease r status old new = ShowsLines (shown_lines r) status old new
+
+-- what was written shows the client program
+abbrev pub ShowsProgram : ClientProgram → ℕ → Option (List ℕ) → Option (List ℕ) → Type 0
+ShowsProgram p status old new = ShowsLines (client_lines p) status old new
 
 -- the store holds the image of the release under the name, and the release is within the limits of images and conforms
 pub record IsUnder (files : Files) (name : List ℕ) (r : Release) : Type 0 where

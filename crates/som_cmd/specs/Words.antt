@@ -1,19 +1,21 @@
 -- The forms of the words.
-use Rattle.std.specs.Prelude.{ℕ, ◌+◌, ◌-◌, ◌*◌, List, [], ◌∷◌, ◌&&◌, Bool, false, not, length, codes, ◌==◌, nat_eq, nat_le, Option, Some, None, if◌then◌else◌}
+use Rattle.std.specs.Prelude.{ℕ, ◌+◌, ◌-◌, ◌*◌, List, [], ◌∷◌, ◌&&◌, ◌||◌, Bool, false, not, length, codes, ◌==◌, nat_eq, nat_le, Option, Some, None, if◌then◌else◌}
 use Rattle.std.specs.Str.{bytes_eq}
 use Rattle.std.specs.List.{ends_with}
 use Rattle.som_model.specs.declared.limits.TheConstants.{DEFAULT_FUEL, MAX_FUEL}
 use Rattle.som_model.specs.Lists.{every}
+use Rattle.som_compile.specs.Sources.{is_bodies, is_main, mains_in}
 use Rattle.som_cmd.specs.declared.words.Command.{Command}
 use Rattle.som_cmd.specs.declared.words.Command.TheVariants as commands
 
--- what words ask for: to run a client image on a library image with so much fuel; to show an image; to check images; to compile texts to a library image;
--- or they have no form
+-- what words ask for: to run a client image on a library image with so much fuel; to show an image; to check images; to compile texts to a library image,
+-- or to a client image against a library image; or they have no form
 pub data Asked : Type 0 where
   Run : (client library : List ℕ) (fuel : ℕ) → Asked
   Show : (image : List ℕ) → Asked
   Check : (images : List (List ℕ)) → Asked
   Library : (out : List ℕ) (files : List (List ℕ)) → Asked
+  Client : (out library : List ℕ) (files : List (List ℕ)) → Asked
   Bad : Asked
 
 -- what a command of the code asks for
@@ -22,6 +24,7 @@ asked_by (commands.Run client library fuel) = Run client.now library.now fuel
 asked_by (commands.Show image) = Show image.now
 asked_by (commands.Check images) = Check images.now
 asked_by (commands.Library out files) = Library out.now files.now
+asked_by (commands.Client out library files) = Client out.now library.now files.now
 asked_by commands.Bad = Bad
 
 abbrev pub is_digit : ℕ → Bool
@@ -67,14 +70,28 @@ is_idl word = ends_with nat_eq word (codes ".idl")
 abbrev pub asked_of : List ℕ → List (List ℕ) → Asked
 asked_of word names = if bytes_eq word (codes "check") && every is_name names then Check names else Bad
 
--- what `library` asks for with a name that isn't empty and files of interfaces
-abbrev pub library_asked : List ℕ → List (List ℕ) → Asked
-library_asked out files = if is_name out && every is_idl files then Library out files else Bad
+-- the name of a file of any of the three kinds
+abbrev pub is_file : List ℕ → Bool
+is_file word = is_idl word || is_bodies word || is_main word
 
--- `show IMAGE`, `run CLIENT LIBRARY`, `run CLIENT LIBRARY --fuel N`, `check IMAGE IMAGE ..` or `library OUT FILE ..`, where no name is empty
+-- names of files, of which so many are those of mains
+abbrev pub are_files : ℕ → List (List ℕ) → Bool
+are_files mains files = every is_file files && (mains_in files == mains)
+
+-- what `library` asks for with a name that isn't empty and files, none with a main
+abbrev pub library_asked : List ℕ → List (List ℕ) → Asked
+library_asked out files = if is_name out && are_files 0 files then Library out files else Bad
+
+-- what `client` asks for with two names that aren't empty and files, one of them with a main
+abbrev pub client_asked : List ℕ → List ℕ → List (List ℕ) → Asked
+client_asked out library files = if is_name out && is_name library && are_files 1 files then Client out library files else Bad
+
+-- `show IMAGE`, `run CLIENT LIBRARY`, `run CLIENT LIBRARY --fuel N`, `check IMAGE IMAGE ..`, `library OUT FILE ..` or `client OUT LIBRARY FILE ..`,
+-- where no name is empty
 abbrev pub asked : List (List ℕ) → Asked
 asked (word ∷ image ∷ []) = if bytes_eq word (codes "show") && not (length image == 0) then Show image else Bad
 asked (word ∷ client ∷ library ∷ rest) =
     if bytes_eq word (codes "run") && not (length client == 0) && not (length library == 0) then run_with client library (fuel_in rest) else (
-    if bytes_eq word (codes "library") then library_asked client (library ∷ rest) else asked_of word (client ∷ library ∷ rest))
+    if bytes_eq word (codes "library") then library_asked client (library ∷ rest) else (
+    if bytes_eq word (codes "client") then client_asked client library rest else asked_of word (client ∷ library ∷ rest)))
 asked words = Bad

@@ -1,6 +1,6 @@
 ghost use Rattle.som_cmd.specs.Answer.{broken, fault_number, fault_place, unread};
 ghost use Rattle.som_cmd.specs.Cause.{IsQuiet};
-ghost use Rattle.som_cmd.specs.ShowSteps.{release_in, rules_kept};
+ghost use Rattle.som_cmd.specs.ImageSteps.{release_in, rules_kept, sound_release};
 ghost use Rattle.som_cmd.specs.Steps.{Follows};
 ghost use Rattle.som_libimage.specs.Limits.{IsWithinLimits};
 ghost use Rattle.som_model.specs.Conforming.{ReleaseOk};
@@ -45,8 +45,8 @@ fn place_of(fault: ImageFault) -> usize
     }
 }
 
-// The refusal of bytes that can't be read.
-fn refuse_bytes(alloc: Global, name: &Text, fault: ImageFault) -> Result<Refusal, NoMemory>
+/// The refusal of bytes that can't be read.
+pub fn refuse_bytes(alloc: Global, name: &Text, fault: ImageFault) -> Result<Refusal, NoMemory>
     ensures { IfOk result (λ r. r ≡ unread name.now fault) }
 {
     let mut line = Vec::new(alloc);
@@ -63,8 +63,8 @@ fn refuse_bytes(alloc: Global, name: &Text, fault: ImageFault) -> Result<Refusal
     })
 }
 
-// The refusal of a release that breaks a rule.
-fn refuse_release(alloc: Global, name: &Text, rule: &Broken) -> Result<Refusal, NoMemory>
+/// The refusal of what breaks a rule.
+pub fn refuse_broken(alloc: Global, name: &Text, rule: &Broken) -> Result<Refusal, NoMemory>
     ensures { IfOk result (λ r. r ≡ broken name.now (told rule.now)) }
 {
     let mut line = Vec::new(alloc);
@@ -104,7 +104,20 @@ pub fn look_at_rules(alloc: Global, name: &Text, release: &Release) -> Result<()
 {
     match release_ok(alloc, release) {
         Ok(()) => Ok(()),
-        Err(VerifyFault::Rule(rule)) => { Err(Stop::Refused(refuse_release(alloc, name, &rule)?)) }
+        Err(VerifyFault::Rule(rule)) => { Err(Stop::Refused(refuse_broken(alloc, name, &rule)?)) }
         Err(VerifyFault::NoMemory) => Err(Stop::NoMemory),
     }
+}
+
+/// The release of a library image that breaks no rule.
+#[tactic(auto, using(crate::proofs::ImageLaws::unread_first, crate::proofs::ImageLaws::broken_first, crate::proofs::ImageLaws::is_sound))]
+pub fn sound_release(alloc: Global, name: &Text, bytes: &List<u8>) -> Result<Release, Stop>
+    ensures follows { Follows result (sound_release name.now bytes.now) }
+    ensures conforms { IfOk result ReleaseOk }
+    ensures within { IfOk result IsWithinLimits }
+    ensures quiet { IsQuiet result }
+{
+    let release = read_release(alloc, name, bytes)?;
+    look_at_rules(alloc, name, &release)?;
+    Ok(release)
 }

@@ -1,6 +1,7 @@
 ghost use Rattle.som_cmd.specs.Answer.{Ending, IsAnswer};
 ghost use Rattle.som_first.specs.FirstImages.{IsFirstClient, IsFirstLibrary};
-ghost use Rattle.som_cmd.specs.Words.{Asked, fuel_of};
+ghost use Rattle.som_cmd.specs.Words.{Asked, asked, fuel_of};
+ghost use Rattle.som_cliimage.specs.Programs.{client_at};
 ghost use Rattle.som_libimage.specs.Libraries.{library_at};
 ghost use Rattle.som_model.specs.Bytes.{Files};
 ghost use Rattle.som_model.specs.declared.program.ClientProgram.{ClientProgram};
@@ -10,10 +11,10 @@ ghost use Rattle.som_wire.specs.declared.fault.ImageFault.TheVariants as faults;
 ghost use Rattle.std.specs.Fmt.{decimal};
 ghost use Rattle.std.specs.Prelude.{◌≡◌, ◌↔◌, ◌≤◌, ℕ, Err, List, Some};
 
-/// Whatever is asked for and whatever the files are, there is one answer, and no other.
+/// Whatever the words and the files are, there is one answer, and no other.
 pub fn answer_law()
-    ensures some { (files : Files) (asked : Asked) → (told : Ending) × IsAnswer files asked told }
-    ensures one { (files : Files) (asked : Asked) (a b : Ending) → IsAnswer files asked a → IsAnswer files asked b → a ≡ b }
+    ensures some { (files : Files) (words : List (List ℕ)) → (told : Ending) × IsAnswer files (asked words) told }
+    ensures one { (files : Files) (what : Asked) (a b : Ending) → IsAnswer files what a → IsAnswer files what b → a ≡ b }
 {}
 
 /// Bytes are the first image of one release at most, and of one client program at most.
@@ -29,5 +30,6 @@ pub fn fuel_law()
 
 /// No bytes are read as want of memory, so a line that tells a fault of bytes has one of the numbers from 1 on.
 pub fn fault_law()
-    ensures { (bytes : List ℕ) → library_at bytes ≡ Err faults.NoMemory → ⊥ }
+    ensures library { (bytes : List ℕ) → library_at bytes ≡ Err faults.NoMemory → ⊥ }
+    ensures client { (bytes : List ℕ) → client_at bytes ≡ Err faults.NoMemory → ⊥ }
 {}

@@ -1,15 +1,20 @@
 //! The top call: what the program does with words, a store of files and a sink.
 #![tactic(auto)]
 
+mod against;
 mod check;
 mod client;
 mod compile;
+mod faults;
 mod fetch;
 mod image;
 mod laws;
 mod library;
 mod line;
 mod output;
+mod parts;
+mod program;
+mod put;
 mod run;
 mod say;
 mod show;
@@ -28,6 +33,8 @@ mod tests_of_bodies;
 #[cfg(test)]
 mod tests_of_checks;
 #[cfg(test)]
+mod tests_of_clients;
+#[cfg(test)]
 mod tests_of_images;
 #[cfg(test)]
 mod tests_of_library;
@@ -39,3 +46,5 @@ mod tests_of_refusals;
 mod tests_of_runs;
 #[cfg(test)]
 mod tests_of_show;
+#[cfg(test)]
+mod tests_of_zoos;

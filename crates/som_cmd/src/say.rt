@@ -1,5 +1,5 @@
 ghost use Rattle.som_cmd.specs.Cause.{IsQuiet};
-ghost use Rattle.som_cmd.specs.LibrarySteps.{nothing};
+ghost use Rattle.som_cmd.specs.PutSteps.{nothing};
 ghost use Rattle.som_cmd.specs.Saying.{SaysAll, SaysFailure, SaysFront};
 ghost use Rattle.som_cmd.specs.Status.{is_calm_status};
 ghost use Rattle.som_io.specs.Outside.{Rose, ShowsAll, ShowsFront};

@@ -9,7 +9,7 @@ const COUNTER: &[u8] = b"interface Counter { attribute long n; };";
 const COUNTER_SHOWN: &[u8] =
     b"library 1\nclass Counter 0.0 : SOMObject\n  0 long _get_n()\n  1 void _set_n(long)\n";
 
-const HELLO: &[u8] =
+pub const HELLO: &[u8] =
     b"#ifndef hello_idl\n#define hello_idl\n#include <somobj.idl>\ninterface Hello : SOMObject\n{\n  void sayHello();\n#ifdef __SOMIDL__\n  implementation\n  {\n    releaseorder: sayHello;\n    filestem = hello;\n    majorversion = 1;\n    minorversion = 0;\n  };\n#endif\n};\n#endif\n";
 
 const ONE: [&[u8]; 3] = [b"library", b"o.img", b"t.idl"];
@@ -167,7 +167,7 @@ fn the_first_text_with_a_fault_is_told(rt: HostRuntime) -> Result<(), Fail> {
 }
 
 // So many bytes after a front, and then an end.
-fn filled(
+pub fn filled(
     alloc: Global,
     front: &[u8],
     byte: u8,
@@ -290,14 +290,15 @@ fn classes_and_parents_have_a_limit(rt: HostRuntime) -> Result<(), Fail> {
 }
 
 #[test]
-fn only_files_of_interfaces_are_compiled(rt: HostRuntime) -> Result<(), Fail> {
+fn files_of_other_kinds_are_not_compiled(rt: HostRuntime) -> Result<(), Fail> {
     let alloc = rt.alloc();
-    let all: [&[&[u8]]; 10] = [
+    let all: [&[&[u8]]; 11] = [
         &[b"library"],
         &[b"library", b"o.img"],
-        &[b"library", b"o.img", b"t.bod"],
-        &[b"library", b"o.img", b"t.idl", b"t.bod"],
+        &[b"library", b"o.img", b"t.txt"],
+        &[b"library", b"o.img", b"t.idl", b"t.bodies"],
         &[b"library", b"o.img", b"t.main"],
+        &[b"library", b"o.img", b"t.idl", b"t.main"],
         &[b"library", b"o.img", b"t.IDL"],
         &[b"library", b"o.img", b"idl"],
         &[b"library", b"", b"t.idl"],
@@ -311,9 +312,19 @@ fn only_files_of_interfaces_are_compiled(rt: HostRuntime) -> Result<(), Fail> {
     }
     // The name under which the image is put may be any.
     let files: [(&[u8], &[u8]); 1] = [(b"t.idl", COUNTER)];
-    let words: [&[u8]; 3] = [b"library", b"t.bod", b"t.idl"];
+    let words: [&[u8]; 3] = [b"library", b"t.main", b"t.idl"];
     assert_eq!(rt; library_status(alloc, &files, &words, b"")?, 0);
     let words: [&[u8]; 3] = [b"library", b"t.idl", b"t.idl"];
+    assert_eq!(rt; library_status(alloc, &files, &words, b"")?, 0);
+    // Bodies may stand before their interfaces, and alone.
+    let words: [&[u8]; 3] = [b"library", b"o.img", b"t.bod"];
+    let files: [(&[u8], &[u8]); 1] = [(b"t.bod", b"")];
+    assert_eq!(rt; library_status(alloc, &files, &words, b"")?, 0);
+    let words: [&[u8]; 4] = [b"library", b"o.img", b"t.bod", b"t.idl"];
+    let files: [(&[u8], &[u8]); 2] = [
+        (b"t.bod", b"A::f() { }"),
+        (b"t.idl", b"interface A { void f(); };"),
+    ];
     assert_eq!(rt; library_status(alloc, &files, &words, b"")?, 0);
     Ok(())
 }

@@ -1,6 +1,7 @@
 ghost use Rattle.som_cmd.specs.Cause.{FailsGettingTexts, HasCause, IsQuiet, store_failed};
-ghost use Rattle.som_cmd.specs.LibraryAnswer.{text_in, texts_in, too_many};
+ghost use Rattle.som_cmd.specs.Texts.{text_in, texts_in, too_many};
 ghost use Rattle.som_cmd.specs.Steps.{FollowsTold};
+ghost use Rattle.som_compile.specs.Sources.{bytes_in, names_of};
 ghost use Rattle.som_model.specs.declared.limits.TheConstants.{MAX_BYTES};
 ghost use Rattle.std.specs.Prelude.{◌≡◌, ◌+◌, ◌≤◌, IfOk, length};
 
@@ -39,6 +40,7 @@ fn fetch_text<S: Store>(
     requires { before ≤ MAX_BYTES }
     ensures answer { FollowsTold (S.files store.old) result (text_in before name.now) }
     ensures within { IfOk result (λ s. before + length s.bytes ≤ MAX_BYTES) }
+    ensures named { IfOk result (λ s. s.name ≡ name.now) }
     ensures files { S.files store.new ≡ S.files store.old }
     ensures later { S.faults store.old ≤ S.faults store.new }
     ensures cause { HasCause (λ line. line ≡ store_failed name.now) (S.faults store.old) (S.faults store.new) result }
@@ -56,13 +58,15 @@ fn fetch_text<S: Store>(
 }
 
 /// The texts under names, in order, whose bytes together aren't too many.
-#[tactic(auto, using(crate::proofs::TextLaws::all_got, crate::proofs::TextLaws::text_stops, crate::proofs::TextLaws::text_fails))]
+#[tactic(auto, using(crate::proofs::TextLaws::all_got, crate::proofs::TextLaws::all_named, crate::proofs::TextLaws::text_stops, crate::proofs::TextLaws::text_fails))]
 pub fn fetch_texts<S: Store>(
     alloc: Global,
     names: &[Text],
     store: &mut S,
 ) -> Result<List<Source>, Stop>
     ensures answer { FollowsTold (S.files store.old) result (texts_in names.now) }
+    ensures named { IfOk result (λ ss. names_of ss ≡ names.now) }
+    ensures within { IfOk result (λ ss. bytes_in ss ≤ MAX_BYTES) }
     ensures files { S.files store.new ≡ S.files store.old }
     ensures later { S.faults store.old ≤ S.faults store.new }
     ensures cause { HasCause (FailsGettingTexts (S.files store.old) names.now) (S.faults store.old) (S.faults store.new) result }

@@ -3,7 +3,9 @@ ghost use Rattle.som_cmd.specs.Ends.{
   AreImagesOf,
   EndsAsTold,
   IsImageOf,
+  IsImageOfClient,
   RunsAs,
+  ShowsProgram,
   ShowsRelease,
   ShowsSome,
   StoreFails,
@@ -11,7 +13,7 @@ ghost use Rattle.som_cmd.specs.Ends.{
   TellsBreach,
 };
 ghost use Rattle.som_cmd.specs.CheckAnswer.{first_not_kept};
-ghost use Rattle.som_cmd.specs.LibraryEnds.{AreTextsOf, KeepsFiles, PutsRelease};
+ghost use Rattle.som_cmd.specs.PutEnds.{AreClientTextsOf, AreTextsOf, KeepsFiles, PutsProgram, PutsRelease};
 ghost use Rattle.som_cmd.specs.Status.{is_calm_status};
 ghost use Rattle.som_cmd.specs.Words.{Bad, asked};
 ghost use Rattle.som_io.specs.Outside.{Rose};
@@ -20,6 +22,7 @@ ghost use Rattle.som_model.specs.declared.program.ClientProgram.{ClientProgram};
 ghost use Rattle.som_model.specs.declared.program.Release.{Release};
 ghost use Rattle.std.specs.Prelude.{◌≡◌, ◌≢◌, ◌⊎◌, ℕ, IsTrue, List as Seq, Some};
 
+use crate::against::compile_against;
 use crate::check::check;
 use crate::compile::compile;
 use crate::line::line_of;
@@ -51,6 +54,10 @@ pub fn run_som<S: Store, K: Sink>(
     ensures shown { (r : Release) → IsImageOf (asked words.now) (S.files store.old) r
         → result ≢ 6 → result ≢ 8 → result ≢ 10 → ShowsRelease r result (K.written out.old) (K.written out.new) }
 
+    // The image of a client program that conforms is shown as that program.
+    ensures shown_client { (p : ClientProgram) → IsImageOfClient (asked words.now) (S.files store.old) p
+        → result ≢ 6 → result ≢ 8 → result ≢ 10 → ShowsProgram p result (K.written out.old) (K.written out.new) }
+
     // Images of releases that conform are accepted exactly where each release is accepted against the one before it.
     ensures accepted { (names : Seq (Seq ℕ)) (rs : Seq Release) → AreChecked (asked words.now) (S.files store.old) names rs
         → result ≢ 6 → result ≢ 8 → result ≢ 10 → TellsAccepted rs result (K.written out.old) (K.written out.new) }
@@ -63,6 +70,10 @@ pub fn run_som<S: Store, K: Sink>(
     // Texts that stand for a release are compiled to its image, which then stands under the name; no other file is changed.
     ensures compiled { (name : Seq ℕ) (r : Release) → AreTextsOf (asked words.now) (S.files store.old) name r
         → result ≢ 6 → result ≢ 8 → result ≢ 10 → PutsRelease (S.files store.old) name r result (S.files store.new) (K.written out.old) (K.written out.new) }
+
+    // Texts that stand for a client program against the release of an image are compiled to its image, which then stands under the name.
+    ensures client_compiled { (name : Seq ℕ) (p : ClientProgram) → AreClientTextsOf (asked words.now) (S.files store.old) name p
+        → result ≢ 6 → result ≢ 8 → result ≢ 10 → PutsProgram (S.files store.old) name p result (S.files store.new) (K.written out.old) (K.written out.new) }
 
     // The store failed in this call, and the line that says so is all that was written.
     ensures store_failed { result ≡ 6 → StoreFails (asked words.now) (S.files store.old) (S.faults store.old) (S.faults store.new) (K.written out.old) (K.written out.new) }
@@ -80,7 +91,7 @@ pub fn run_som<S: Store, K: Sink>(
     // Over a store and a sink of which nothing is set to fail, neither is said to fail.
     ensures calm { S.calm store.old → K.calm out.old → IsTrue (is_calm_status result) }
 
-    // No file is changed, but by `library`, which puts its image at status 0, or whose put failed in this call.
+    // No file is changed, but by `library` and `client`, which put an image at status 0, or whose put failed in this call.
     ensures files { KeepsFiles (asked words.now) (S.files store.old) (S.faults store.old) (S.faults store.new) result (S.files store.new) }
 {
     match command_of(words) {
@@ -92,6 +103,11 @@ pub fn run_som<S: Store, K: Sink>(
         Command::Show { image } => tell(out, &show(alloc, image, store)),
         Command::Check { images } => tell(out, &check(alloc, images, store)),
         Command::Library { out: name, files } => tell(out, &compile(alloc, name, files, store)),
+        Command::Client {
+            out: name,
+            library,
+            files,
+        } => tell(out, &compile_against(alloc, name, library, files, store)),
         Command::Bad => match line_of(alloc, b"som: bad command line") {
             Ok(line) => say(out, &line, 2),
             Err(_) => 10,

@@ -1,4 +1,5 @@
-ghost use Rattle.som_cmd.specs.Words.{asked, asked_by, asked_of, fuel_in, fuel_of, is_digit, is_idl, is_name, leads_with_zero, library_asked};
+ghost use Rattle.som_cmd.specs.Words.{are_files, asked, asked_by, asked_of, client_asked, fuel_in, fuel_of, is_digit, is_file, is_name, leads_with_zero, library_asked};
+ghost use Rattle.som_compile.specs.Sources.{is_main, mains_in};
 ghost use Rattle.std.specs.Str.{bytes_eq};
 ghost use Rattle.som_model.specs.Lists.{every};
 ghost use Rattle.std.specs.Prelude.{◌≡◌, codes};
@@ -21,6 +22,11 @@ pub enum Command<'a> {
     },
     Library {
         out: &'a Text,
+        files: &'a [Text],
+    },
+    Client {
+        out: &'a Text,
+        library: &'a Text,
         files: &'a [Text],
     },
     /// The words have no form.
@@ -51,22 +57,49 @@ fn is_library(word: &Text) -> bool
     word.is(b"library")
 }
 
-fn is_idl(word: &Text) -> bool
-    ensures { result ≡ is_idl word.now }
+fn is_client(word: &Text) -> bool
+    ensures { result ≡ bytes_eq word.now (codes "client") }
 {
-    word.as_slice().ends_with(b".idl")
+    word.is(b"client")
 }
 
-// Whether each word names a file of interfaces.
-fn are_idl(words: &[Text]) -> bool
-    ensures { result ≡ every is_idl words.now }
+fn is_main(word: &Text) -> bool
+    ensures { result ≡ is_main word.now }
+{
+    word.as_slice().ends_with(b".main")
+}
+
+fn is_file(word: &Text) -> bool
+    ensures { result ≡ is_file word.now }
+{
+    let name = word.as_slice();
+    name.ends_with(b".idl") || name.ends_with(b".bod") || is_main(word)
+}
+
+// How many of the words name a file with a main.
+#[tactic(auto, using(crate::proofs::WordLaws::one_main, crate::proofs::WordLaws::no_main, crate::proofs::WordLaws::none_counted, crate::proofs::WordLaws::all_counted))]
+fn mains(words: &[Text]) -> usize
+    ensures { result ≡ mains_in words.now }
+{
+    let mut count = 0usize;
+    for word in words {
+        if is_main(word) {
+            count += 1;
+        }
+    }
+    count
+}
+
+// Whether each word names a file, and so many of them one with a main.
+fn are_files(wanted: usize, words: &[Text]) -> bool
+    ensures { result ≡ are_files wanted words.now }
 {
     for word in words {
-        if !is_idl(word) {
+        if !is_file(word) {
             return false;
         }
     }
-    true
+    mains(words) == wanted
 }
 
 // Whether none of the words is empty.
@@ -96,8 +129,23 @@ fn command_with<'a>(word: &Text, names: &'a [Text]) -> Command<'a>
 fn library_with<'a>(out: &'a Text, files: &'a [Text]) -> Command<'a>
     ensures { asked_by result ≡ library_asked out.now files.now }
 {
-    if !out.is_empty() && are_idl(files) {
+    if !out.is_empty() && are_files(0, files) {
         Command::Library { out, files }
+    } else {
+        Command::Bad
+    }
+}
+
+// What `client` asks for with two names and files.
+fn client_with<'a>(out: &'a Text, library: &'a Text, files: &'a [Text]) -> Command<'a>
+    ensures { asked_by result ≡ client_asked out.now library.now files.now }
+{
+    if !out.is_empty() && !library.is_empty() && are_files(1, files) {
+        Command::Client {
+            out,
+            library,
+            files,
+        }
     } else {
         Command::Bad
     }
@@ -183,6 +231,8 @@ pub fn command_of(words: &List<Text>) -> Command<'_>
                 }
             } else if is_library(word) {
                 library_with(client, &words.as_slice()[2..])
+            } else if is_client(word) {
+                client_with(client, library, rest)
             } else {
                 command_with(word, &words.as_slice()[1..])
             }

@@ -1,12 +1,12 @@
 pub mod Counting
 pub mod Lexed
 pub mod ReadLaws
+pub mod ReleaseWithin
+pub mod CompileLaws
 pub mod FewTokens
 pub mod BlocksWithin
+pub mod Standing
 pub mod InterfacesWithin
 pub mod ClassesWithin
-pub mod ReleaseWithin
 pub mod TextsWithin
-pub mod Standing
-pub mod CompileLaws
 pub mod ClientLaws

@@ -226,7 +226,7 @@ pub program_apart : (base : Interface) (is : List IdlInterface) (bs : List BodyT
 unfolding elaborated_program
 program_apart base is bs main p e =
     let v = went (elaborated_classes modules.Client base is bs)
-        (λ (cs : List ClassDecl). elaborated_main (among_over modules.Client base is) main >>= λ block. Ok (record { base = base; classes = cs; main = block })) p e in
+    (λ (cs : List ClassDecl). elaborated_main (among_over modules.Client base is) main >>= λ block. Ok (record { base = base; classes = cs; main = block })) p e in
     let w = went (elaborated_main (among_over modules.Client base is) main) (λ (block : Block). Ok (record { base = base; classes = v.value; main = block })) p v.further in
     subst (ProgramApart base is bs main) (same_ok {E = Refusal} (record { base = base; classes = v.value; main = w.value }) p w.further)
     (program_by base is bs main v.value w.value (classes_apart modules.Client base is bs v.value v.first)

@@ -149,9 +149,9 @@ module _ (a : Among) (at : CodePlace) where
       stands (Stmt-F.Call p.expr) (stmts.Call p.expr) scope q (stmts.rolls-Call p.expr) (ap (λ (x : Typed). x >>= λ t. needs 20 (is_call p.expr) (Ok (kinds_of scope))) v ∙ needs_ok 20 (is_call p.expr) scope f.0) f.1
 
   if_typed : (scope : Names) (p : Elaborated) (x y : Block) (k l : Scope) (q : Placed) → value (expr_type facts at (kinds_of scope) p.expr) ≡ Ok p.type → B x (kinds_of scope) ≡ Ok k → B y (kinds_of scope) ≡ Ok l
-      → needs 17 (is_boolean p.type) (placed scope (stmts.If p.expr x y)) ≡ Ok q → Stands scope q
+      → ruled (needs 17 (is_boolean p.type) (placed scope (stmts.If p.expr x y))) ≡ Ok q → Stands scope q
   if_typed scope p x y k l q v first second h =
-      let f = held 17 (is_boolean p.type) (placed scope (stmts.If p.expr x y)) q h in
+      let f = held 17 (is_boolean p.type) (placed scope (stmts.If p.expr x y)) q (ruled_ok _ q h) in
       stands (Stmt-F.If p.expr x y) (stmts.If p.expr x y) scope q (stmts.rolls-If p.expr x y)
       (ap (λ z. z >>= λ t. B x (kinds_of scope) >>= λ _. B y (kinds_of scope) >>= λ _. needs 17 (is_boolean t) (Ok (kinds_of scope))) v
       ∙ ap (λ z. z >>= λ _. B y (kinds_of scope) >>= λ _. needs 17 (is_boolean p.type) (Ok (kinds_of scope))) first
@@ -159,9 +159,9 @@ module _ (a : Among) (at : CodePlace) where
       ∙ needs_ok 17 (is_boolean p.type) scope f.0) f.1
 
   while_typed : (scope : Names) (p : Elaborated) (x : Block) (k : Scope) (q : Placed) → value (expr_type facts at (kinds_of scope) p.expr) ≡ Ok p.type → B x (kinds_of scope) ≡ Ok k
-      → needs 17 (is_boolean p.type) (placed scope (stmts.While p.expr x)) ≡ Ok q → Stands scope q
+      → ruled (needs 17 (is_boolean p.type) (placed scope (stmts.While p.expr x))) ≡ Ok q → Stands scope q
   while_typed scope p x k q v body h =
-      let f = held 17 (is_boolean p.type) (placed scope (stmts.While p.expr x)) q h in
+      let f = held 17 (is_boolean p.type) (placed scope (stmts.While p.expr x)) q (ruled_ok _ q h) in
       stands (Stmt-F.While p.expr x) (stmts.While p.expr x) scope q (stmts.rolls-While p.expr x)
       (ap (λ z. z >>= λ t. B x (kinds_of scope) >>= λ _. needs 17 (is_boolean t) (Ok (kinds_of scope))) v
       ∙ ap (λ z. z >>= λ _. needs 17 (is_boolean p.type) (Ok (kinds_of scope))) body
@@ -186,12 +186,12 @@ module _ (a : Among) (at : CodePlace) where
       let y = went (elaborated_block a at c.0 scope) (λ y. ruled (needs 17 (is_boolean p.value.type) (placed scope (stmts.If p.value.expr x.value y)))) q x.further in
       let left = b.1 scope x.value x.first in
       let right = c.1 scope y.value y.first in
-      if_typed scope p.value x.value y.value left.0 right.0 q (value_there e scope p.value (ruled_ok _ p.value p.first)) left.1 right.1 (ruled_ok _ q y.further)
+      if_typed scope p.value x.value y.value left.0 right.0 q (value_there e scope p.value (ruled_ok _ p.value p.first)) left.1 right.1 y.further
   layer_typed (StmtText-F.While e b) scope q h =
       let p = went (ruled (elaborated_value a at scope e)) (λ p. elaborated_block a at b.0 scope >>= λ x. ruled (needs 17 (is_boolean p.type) (placed scope (stmts.While p.expr x)))) q h in
       let x = went (elaborated_block a at b.0 scope) (λ x. ruled (needs 17 (is_boolean p.value.type) (placed scope (stmts.While p.value.expr x)))) q p.further in
       let body = b.1 scope x.value x.first in
-      while_typed scope p.value x.value body.0 q (value_there e scope p.value (ruled_ok _ p.value p.first)) body.1 (ruled_ok _ q x.further)
+      while_typed scope p.value x.value body.0 q (value_there e scope p.value (ruled_ok _ p.value p.first)) body.1 x.further
   layer_typed (StmtText-F.Return None) scope q h =
       let f = held 19 (is_nothing (Of at.result)) (placed scope stmts.Return) q (ruled_ok _ q h) in
       stands Stmt-F.Return stmts.Return scope q stmts.rolls-Return (needs_ok 19 (is_nothing (Of at.result)) scope f.0) f.1

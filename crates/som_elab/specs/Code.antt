@@ -8,8 +8,10 @@ use Rattle.som_model.specs.Typing.{CodePlace}
 use Rattle.som_verify.specs.Places.{class_of_place}
 use Rattle.som_verify.specs.Kinds.{Fails, IsType, PlaceStands, Stands, code_at, kind_at, type_at}
 use Rattle.som_verify.specs.Knowing.{IsKnowledge, all_of}
+use Rattle.som_verify.specs.declared.knowledge.Knowledge.{Knowledge}
 use Rattle.som_verify.specs.declared.code_place.TypeFault.{TypeFault}
 use Rattle.som_verify.specs.declared.code_place.TypeFault.TheVariants as types
+use Rattle.som_sema.specs.declared.scope.Scope.{Scope}
 use Rattle.som_sema.specs.Home.{home_in}
 use Rattle.som_elab.specs.declared.made.Made.{Made}
 use Rattle.som_elab.specs.declared.local.Local.{Local}
@@ -25,8 +27,12 @@ use Rattle.som_elab.specs.Statements.{Breaks, ManyLocals, Placed, Told}
 abbrev pub classes_at : Site → List Class
 classes_at s = all_of s.known
 
+-- what bodies are elaborated among, where this is known and names stand for this
+abbrev pub among_by : Knowledge → Scope → Among
+among_by known scope = record { classes = all_of known; home = home_in scope }
+
 abbrev pub among_at : Site → Among
-among_at s = record { classes = all_of s.known; home = home_in s.scope.now }
+among_at s = among_by s.known s.scope.now
 
 abbrev pub place_at : Site → CodePlace
 place_at s = code_at (all_of s.known) s.at

@@ -5,3 +5,7 @@ pub mod Statements
 pub mod Bodies
 pub mod Elaboration
 pub mod Code
+pub mod Stated
+pub mod Forms
+pub mod Texts
+pub mod Grounds

@@ -1,14 +1,16 @@
 ghost use Rattle.som_elab.specs.Bodies.{bodies_of};
 ghost use Rattle.som_elab.specs.Elaboration.{Answers, elaborated_program, elaborated_release};
+ghost use Rattle.som_elab.specs.Grounds.{FewParameters};
 ghost use Rattle.som_model.specs.Classes.{interface_classes};
 ghost use Rattle.som_model.specs.Conforming.{ProgramOk, ReleaseOk};
 ghost use Rattle.som_sema.specs.Words.{interfaces_of};
 ghost use Rattle.som_verify.specs.Faces.{faces_breach};
 ghost use Rattle.std.specs.Prelude.{◌≡◌, IfOk, None};
 
+use crate::whole::{Whole, whole_of};
 use som_body::{BodyFile, MainFile};
 use som_idl::IdlFile;
-use som_model::{ClientProgram, Interface, List, Release};
+use som_model::{ClientProgram, Interface, List, Module, Release};
 use som_sema::Refused;
 use std::alloc::Global;
 
@@ -21,7 +23,13 @@ pub fn build_release(
     ensures answers { Answers (elaborated_release (interfaces_of idl.now) (bodies_of bodies.now)) result }
     ensures conforms { IfOk result ReleaseOk }
 {
-    Err(Refused::NoMemory)
+    let base = Interface {
+        classes: List::new(alloc),
+    };
+    let made = whole_of(alloc, Module::Library, &base, idl, bodies, None)?;
+    Ok(Release {
+        classes: made.classes,
+    })
 }
 
 /// The client program that texts stand for which are compiled against a base that conforms, or the first rule that they
@@ -33,9 +41,18 @@ pub fn elaborate(
     bodies: &List<BodyFile>,
     main: &MainFile,
 ) -> Result<ClientProgram, Refused>
-    requires { faces_breach (interface_classes base.now) ≡ None }
+    requires conforms { faces_breach (interface_classes base.now) ≡ None }
+    requires few { FewParameters (interface_classes base.now) }
     ensures answers { Answers (elaborated_program base.now (interfaces_of idl.now) (bodies_of bodies.now) main.now.block) result }
     ensures conforms { IfOk result ProgramOk }
 {
-    Err(Refused::NoMemory)
+    let main = Some(&main.block);
+    let made = whole_of(alloc, Module::Client, base, idl, bodies, main)?;
+    let base = base.copy(alloc)?;
+    let Whole { classes, main } = made;
+    Ok(ClientProgram {
+        base,
+        classes,
+        main,
+    })
 }

@@ -4,8 +4,8 @@ use som_verify::{CodePlace, Knowledge};
 /// Where the text of a body stands: what is known of all classes, what the names of classes stand for, and the place of
 /// the code.
 #[derive(Clone, Copy)]
-pub struct Site<'a> {
+pub struct Site<'a, 's, 'o, 'b, 'k> {
     pub known: Knowledge<'a>,
-    pub scope: &'a Scope<'a, 'a, 'a>,
+    pub scope: &'s Scope<'o, 'b, 'k>,
     pub at: CodePlace,
 }

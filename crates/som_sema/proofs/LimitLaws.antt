@@ -1,5 +1,5 @@
 -- The limits, from lists to plain words and back.
-use Rattle.std.proofs.Common.{◌≡◌, ◌↔◌, ℕ, zero, suc, ◌<◌, ◌≤◌, slice_index_or, Bool, true, false, if◌then◌else◌, nat_le, List, [], ◌∷◌, ◌++◌, length, flat_map, None, refl, arith, le-leb, leb-true}
+use Rattle.std.proofs.Common.{◌≡◌, ◌↔◌, ℕ, zero, suc, ◌<◌, ◌≤◌, slice_index_or, Bool, true, false, if◌then◌else◌, nat_le, List, [], ◌∷◌, ◌++◌, length, flat_map, None, refl, subst, arith, le-leb, leb-true}
 use Rattle.std.specs.Prelude.{codes}
 use Rattle.som_model.specs.Lists.{Mem, first}
 use Rattle.som_model.specs.declared.class.Sig.{Sig}

@@ -1,9 +1,10 @@
-use Rattle.std.proofs.Common.{sym, ◌∙◌}
-use Rattle.som_cmd.proofs.RunAnswers.{answer_to, answers, one_answer}
+use Rattle.som_cmd.specs.Words.{asked}
+use Rattle.som_cmd.proofs.RunAnswers.{some_answer, one_answer}
+use Rattle.som_cmd.proofs.WordLaws.{asked_mains}
 use Rattle.som_cmd.proofs.laws.answer_law.Goals as goal
 
 pub returns-clause-some : goal.returns-clause-some
-returns-clause-some c files asked = (answer_to files asked, answers files asked)
+returns-clause-some c files words = some_answer files (asked words) (asked_mains words)
 
 pub returns-clause-one : goal.returns-clause-one
-returns-clause-one c files asked a b is_a is_b = one_answer files asked a is_a ∙ sym (one_answer files asked b is_b)
+returns-clause-one c files asked a b is_a is_b = one_answer files asked a b is_a is_b

@@ -1,5 +1,8 @@
-use Rattle.som_cmd.proofs.FaultLaws.{no_want}
+use Rattle.som_cmd.proofs.FaultLaws.{no_want, no_client_want}
 use Rattle.som_cmd.proofs.laws.fault_law.Goals as goal
 
-pub returns : goal.returns
-returns c = no_want
+pub returns-clause-library : goal.returns-clause-library
+returns-clause-library c = no_want
+
+pub returns-clause-client : goal.returns-clause-client
+returns-clause-client c = no_client_want

@@ -1,0 +1,93 @@
+-- The words name as many files with a main as what they ask for needs.
+use Rattle.std.proofs.Common.{◌≡◌, ℕ, suc, ◌+◌, ◌<◌, ◌≤◌, ◌==◌, Bool, true, false, ◌&&◌, if◌then◌else◌, List, [], ◌∷◌, length, drop, get_or, codes, Option, Some, None, refl, sym, ap, subst, ◌∙◌, arith}
+use Rattle.std.proofs.lemmas.Bool.{eqb-true}
+use Rattle.std.proofs.lemmas.List.{drop_more, drop_all}
+use Rattle.std.specs.Str.{bytes_eq}
+use Rattle.som_model.specs.Lists.{every}
+use Rattle.som_compile.specs.Sources.{is_main, mains_in}
+use Rattle.som_cmd.specs.Words.{Asked, Show, Check, Library, Client, Bad, are_files, asked, asked_of, client_asked, fuel_in, is_file, is_name, library_asked, run_with}
+
+-- ---- one word after the other
+
+-- so many mains are there before a place
+pub record MainsSoFar (words : List (List ℕ)) (i count : ℕ) : Type 0 where
+  pub counted : count + mains_in (drop i words) ≡ mains_in words
+  pub few : count ≤ i
+
+abbrev with_main : Bool → ℕ → ℕ
+with_main b n = if b then suc n else n
+
+module _ (words : List (List ℕ)) (i : ℕ) (w : List ℕ) (lt : i < length words) (at : w ≡ get_or words i w) where
+  mains_from : (b : Bool) → is_main w ≡ b → mains_in (drop i words) ≡ with_main b (mains_in (drop (i + 1) words))
+  mains_from b is =
+      ap mains_in (drop_more words i w lt) ∙ ap (λ (x : List ℕ). mains_in (x ∷ drop (i + 1) words)) (sym at) ∙ ap (λ (x : Bool). with_main x (mains_in (drop (i + 1) words))) is
+
+pub one_main : (words : List (List ℕ)) (i count : ℕ) (w : List ℕ) → i < length words → w ≡ get_or words i w → is_main w ≡ true → MainsSoFar words i count → MainsSoFar words (i + 1) (count + 1)
+one_main words i count w lt at is so =
+    let e = mains_from words i w lt at true is in
+    let c = so.counted in
+    let f = so.few in
+    record { counted = omega (arith, e, c); few = omega (arith, f) }
+
+pub no_main : (words : List (List ℕ)) (i count : ℕ) (w : List ℕ) → i < length words → w ≡ get_or words i w → is_main w ≡ false → MainsSoFar words i count → MainsSoFar words (i + 1) count
+no_main words i count w lt at is so =
+    let e = mains_from words i w lt at false is in
+    let c = so.counted in
+    let f = so.few in
+    record { counted = omega (arith, e, c); few = omega (arith, f) }
+
+pub none_counted : (words : List (List ℕ)) → MainsSoFar words 0 0
+none_counted words = record { counted = omega arith; few = omega arith }
+
+pub all_counted : (words : List (List ℕ)) (i count : ℕ) → length words ≤ i → MainsSoFar words i count → count ≡ mains_in words
+all_counted words i count over so =
+    let e : mains_in (drop i words) ≡ 0 = ap mains_in (drop_all i words over) in
+    let c = so.counted in
+    omega (arith, e, c)
+
+-- ---- what is asked for
+
+-- it has as many files with a main as it needs: none for a library, one for a client
+abbrev pub HasMains : Asked → Type 0
+HasMains (Library out files) = mains_in files ≡ 0
+HasMains (Client out library files) = mains_in files ≡ 1
+HasMains _ = Unit {0}
+
+if_mains : (b : Bool) (x y : Asked) → HasMains x → HasMains y → HasMains (if b then x else y)
+if_mains true x y h k = h
+if_mains false x y h k = k
+
+second : (a b : Bool) → (a && b) ≡ true → b ≡ true
+second true b e = e
+second false b e = absurd cc
+
+as_many : (n : ℕ) (files : List (List ℕ)) → are_files n files ≡ true → mains_in files ≡ n
+as_many n files e = eqb-true (mains_in files) n (second (every is_file files) (mains_in files == n) e)
+
+library_mains : (out : List ℕ) (files : List (List ℕ)) (a b : Bool) → are_files 0 files ≡ b → HasMains (if a && b then Library out files else Bad)
+library_mains out files true true e = as_many 0 files e
+library_mains out files true false e = tt
+library_mains out files false b e = tt
+
+client_mains : (out library : List ℕ) (files : List (List ℕ)) (a b c : Bool) → are_files 1 files ≡ c → HasMains (if a && b && c then Client out library files else Bad)
+client_mains out library files true true true e = as_many 1 files e
+client_mains out library files true true false e = tt
+client_mains out library files true false c e = tt
+client_mains out library files false b c e = tt
+
+run_mains : (client library : List ℕ) (fuel : Option ℕ) → HasMains (run_with client library fuel)
+run_mains client library None = tt
+run_mains client library (Some fuel) = tt
+
+pub asked_mains : (words : List (List ℕ)) → HasMains (asked words)
+asked_mains [] = tt
+asked_mains (word ∷ []) = tt
+asked_mains (word ∷ image ∷ []) = if_mains _ (Show image) Bad tt tt
+asked_mains (word ∷ client ∷ library ∷ rest) =
+    if_mains _ (run_with client library (fuel_in rest)) _ (run_mains client library (fuel_in rest))
+    (if_mains (bytes_eq word (codes "library")) (library_asked client (library ∷ rest)) _ (library_mains client (library ∷ rest) (is_name client) (are_files 0 (library ∷ rest)) refl)
+    (if_mains (bytes_eq word (codes "client")) (client_asked client library rest) (asked_of word (client ∷ library ∷ rest)) (client_mains client library rest (is_name client) (is_name library) (are_files 1 rest) refl)
+    (if_mains _ (Check (client ∷ library ∷ rest)) Bad tt tt)))
+
+pub mains_by : (words : List (List ℕ)) (by : Asked) → by ≡ asked words → HasMains by
+mains_by words by is = subst HasMains (sym is) (asked_mains words)

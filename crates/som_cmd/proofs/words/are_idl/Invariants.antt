@@ -1,7 +1,0 @@
-use Rattle.std.proofs.Common.{◌≡◌, drop}
-use Rattle.som_model.specs.Lists.{every}
-use Rattle.som_cmd.specs.Words.{is_idl}
-use Rattle.som_cmd.proofs.words.are_idl.Given as goal
-
-abbrev pub invariant-loop-word : goal.invariant-loop-word
-invariant-loop-word l = every is_idl (drop l.word-index l.words) ≡ every is_idl l.words
