@@ -18,7 +18,7 @@ block-loop-part-preserved t c = rw c.in_ok-push.ensures.ok (goes_on (classes_at 
 
 pub block-returns-in_err-made-clause-makes : goal.block-returns-in_err-made-clause-makes
 block-returns-in_err-made-clause-makes t c =
-    let p = err_from_is_err_and c.from_residual-in_err-made.result c.from_residual-in_err-made.ensures.1 in
+    let p = err_from_is_err_and c.from_residual.result c.from_residual.ensures.1 in
     rw (p.1, p.2) (breaks (classes_at c.args.site.now) (among_at c.args.site.now) (place_at c.args.site.now) c.args.text.now c.loop-part.part-index c.part-item.result c.args.locals.now.items c.loop-part.locals.items c.loop-part.statements c.in_err-made.field-0.0 (rw c.as_slice-part-items.ensures at c.loop-part-test.true) (rw c.as_slice-part-items.ensures at c.part-item.is) c.in_err-made.ensures c.loop-part.invariant)
 
 pub block-returns-clause-makes : goal.block-returns-clause-makes
@@ -30,17 +30,17 @@ block-returns-clause-scope t c = rw (c.truncate.ensures.items, c.as_slice-before
 pub statement-returns-in-Var : goal.statement-returns-in-Var
 statement-returns-in-Var t c =
     formed (classes_at c.args.site.now) (stmt_in c.args.site.now c.args.locals.now.items c.args.text.now) _ c.args.locals.now.items _ c.declare_local.result
-    (ap (stmt_in c.args.site.now c.args.locals.now.items) c.in-Var.is ∙ forms.var_is (among_at c.args.site.now) (place_at c.args.site.now) (names_in c.args.site.now c.args.locals.now.items) c.in-Var.name c.in-Var.kind c.in-Var.value) c.declare_local.ensures
+    (ap (stmt_in c.args.site.now c.args.locals.now.items) c.in-Var.is ∙ forms.var_is (among_at c.args.site.now) (place_at c.args.site.now) (names_in c.args.site.now c.args.locals.now.items) c.in-Var.name c.in-Var.kind c.in-Var.value) (rw c.as_slice.ensures at c.declare_local.ensures)
 
 pub statement-returns-in-Set : goal.statement-returns-in-Set
 statement-returns-in-Set t c =
-    plainly (classes_at c.args.site.now) (stmt_in c.args.site.now c.args.locals.now.items c.args.text.now) (λ shown. by_value (value_in c.args.site.now shown c.in-Set.value) (set_local (among_at c.args.site.now) (names_in c.args.site.now shown) c.in-Set.name.text)) c.args.locals.now.items _ c.set_local.result c.requires.locals c.as_slice.ensures.value
-    (ap (stmt_in c.args.site.now c.args.locals.now.items) c.in-Set.is ∙ forms.set_is (among_at c.args.site.now) (place_at c.args.site.now) (names_in c.args.site.now c.args.locals.now.items) c.in-Set.name c.in-Set.value) c.set_local.ensures
+    plainly (classes_at c.args.site.now) (stmt_in c.args.site.now c.args.locals.now.items c.args.text.now) (λ shown. by_value (value_in c.args.site.now shown c.in-Set.value) (set_local (among_at c.args.site.now) (names_in c.args.site.now shown) c.in-Set.name.text)) c.args.locals.now.items _ c.set_local.result c.requires.locals c.as_slice-in-Set.ensures.value
+    (ap (stmt_in c.args.site.now c.args.locals.now.items) c.in-Set.is ∙ forms.set_is (among_at c.args.site.now) (place_at c.args.site.now) (names_in c.args.site.now c.args.locals.now.items) c.in-Set.name c.in-Set.value) (rw c.as_slice-in-Set-2.ensures at c.set_local.ensures)
 
 pub statement-returns-in-SetVariable : goal.statement-returns-in-SetVariable
 statement-returns-in-SetVariable t c =
     plainly (classes_at c.args.site.now) (stmt_in c.args.site.now c.args.locals.now.items c.args.text.now) (λ shown. by_value (value_in c.args.site.now shown c.in-SetVariable.value) (set_variable (among_at c.args.site.now) (place_at c.args.site.now) (names_in c.args.site.now shown) c.in-SetVariable.name.text)) c.args.locals.now.items _ c.set_variable.result c.requires.locals c.as_slice-in-SetVariable.ensures.value
-    (ap (stmt_in c.args.site.now c.args.locals.now.items) c.in-SetVariable.is ∙ forms.set_variable_is (among_at c.args.site.now) (place_at c.args.site.now) (names_in c.args.site.now c.args.locals.now.items) c.in-SetVariable.name c.in-SetVariable.value) c.set_variable.ensures
+    (ap (stmt_in c.args.site.now c.args.locals.now.items) c.in-SetVariable.is ∙ forms.set_variable_is (among_at c.args.site.now) (place_at c.args.site.now) (names_in c.args.site.now c.args.locals.now.items) c.in-SetVariable.name c.in-SetVariable.value) (rw c.as_slice-in-SetVariable-2.ensures at c.set_variable.ensures)
 
 pub statement-returns-in-If : goal.statement-returns-in-If
 statement-returns-in-If t c =
