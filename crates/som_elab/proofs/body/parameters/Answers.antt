@@ -4,6 +4,7 @@ use Rattle.som_read.specs.declared.tree.Word.{Word}
 use Rattle.som_verify.specs.Knowing.{all_of}
 use Rattle.som_verify.proofs.Before.{every_mem}
 use Rattle.som_verify.proofs.BodySteps.{item_mem}
+use Rattle.som_elab.specs.declared.local.Local.{Local}
 use Rattle.som_elab.proofs.Parameters.{all_placed, named_like, one_placed}
 use Rattle.som_elab.proofs.body.parameters.Goals as goal
 
@@ -14,9 +15,10 @@ known_kind-kind-requires-clause-kind c =
 
 pub loop-place-preserved : goal.loop-place-preserved
 loop-place-preserved c =
+    let l : Local = record { name = c.as_slice-name.result; kind = c.known_kind-kind.result } in
     rw c.in_ok-push.ensures.items (one_placed (all_of c.args.known.now) c.args.words.now c.args.types.now c.loop-place.place c.loop-place.locals.items c.index-words-place.result c.index-types-place.result
-    (omega (arith, c.loop-place-test.true, c.shorter-count.ensures.words)) (omega (arith, c.loop-place-test.true, c.shorter-count.ensures.types)) c.index-words-place.is c.index-types-place.is c.loop-place.invariant _
-    (named_like (all_of c.args.known.now) _ c.index-words-place.result c.index-types-place.result (c.as_slice-name.ensures ∙ ap (λ (w : Word). w.text) (sym c.index-words-place.is)) c.known_kind-kind.ensures.is)
+    (omega (arith, c.loop-place-test.true, c.shorter-count.ensures.words)) (omega (arith, c.loop-place-test.true, c.shorter-count.ensures.types)) c.index-words-place.is c.index-types-place.is c.loop-place.invariant l
+    (named_like (all_of c.args.known.now) l c.index-words-place.result c.index-types-place.result (c.as_slice-name.ensures ∙ ap (λ (w : Word). w.text) (sym c.index-words-place.is)) c.known_kind-kind.ensures.is)
     c.known_kind-kind.ensures.a_type c.requires.few)
 
 pub returns-clause-names : goal.returns-clause-names
