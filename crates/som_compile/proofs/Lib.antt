@@ -4,6 +4,7 @@ pub mod ReadLaws
 pub mod ReleaseWithin
 pub mod CompileLaws
 pub mod FewTokens
+pub mod FewParameters
 pub mod BlocksWithin
 pub mod Standing
 pub mod InterfacesWithin
