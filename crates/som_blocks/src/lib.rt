@@ -17,8 +17,6 @@ mod pair;
 mod part;
 mod stmt;
 mod syntax;
-#[cfg(test)]
-mod tests;
 mod write_expr;
 mod write_stmt;
 

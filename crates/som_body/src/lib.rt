@@ -8,10 +8,6 @@
 
 mod begins;
 mod block;
-#[cfg(test)]
-mod cases;
-#[cfg(test)]
-mod deep_cases;
 mod file;
 mod laws;
 mod level;
@@ -21,11 +17,7 @@ mod parse;
 mod postfix;
 mod primary;
 mod rules;
-#[cfg(test)]
-mod show;
 mod statement;
-#[cfg(test)]
-mod tests;
 mod tree;
 mod word;
 

@@ -13,8 +13,6 @@ mod laws;
 mod named;
 mod numbered;
 mod program;
-#[cfg(test)]
-mod tests;
 mod wire;
 
 pub use client::{decode, encode};

@@ -26,25 +26,3 @@ mod words;
 pub use laws::{answer_law, fault_law, first_image_law, fuel_law};
 pub use top::run_som;
 
-#[cfg(test)]
-mod tests;
-#[cfg(test)]
-mod tests_of_bodies;
-#[cfg(test)]
-mod tests_of_checks;
-#[cfg(test)]
-mod tests_of_clients;
-#[cfg(test)]
-mod tests_of_images;
-#[cfg(test)]
-mod tests_of_library;
-#[cfg(test)]
-mod tests_of_lines;
-#[cfg(test)]
-mod tests_of_refusals;
-#[cfg(test)]
-mod tests_of_runs;
-#[cfg(test)]
-mod tests_of_show;
-#[cfg(test)]
-mod tests_of_zoos;

@@ -3,8 +3,6 @@
 
 mod ancestors;
 mod breach;
-#[cfg(test)]
-mod cases;
 mod conforming;
 mod kernel;
 mod laws;
@@ -16,8 +14,6 @@ mod names;
 mod pair;
 mod rows;
 mod signatures;
-#[cfg(test)]
-mod tests;
 mod view;
 
 pub use breach::Breach;

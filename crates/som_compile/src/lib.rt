@@ -1,18 +1,12 @@
 //! From texts to an image, or what is first wrong with them.
 #![tactic(auto)]
 
-#[cfg(test)]
-mod cases;
 mod compile;
 mod fault;
 mod kind;
 mod laws;
 mod read;
 mod source;
-#[cfg(test)]
-mod tests;
-#[cfg(test)]
-mod tests_of_images;
 mod trees;
 
 pub use compile::{compile_client, compile_library};

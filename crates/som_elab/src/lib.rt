@@ -5,8 +5,6 @@ mod all_bodies;
 mod body;
 mod build;
 mod calls;
-#[cfg(test)]
-mod cases;
 mod class_bodies;
 mod classes;
 mod counted_bodies;
@@ -28,8 +26,6 @@ mod plain_statements;
 mod scoping;
 mod site;
 mod statements;
-#[cfg(test)]
-mod tests;
 mod texts;
 mod whole;
 

@@ -8,8 +8,6 @@ mod form;
 mod laws;
 mod link;
 mod names;
-#[cfg(test)]
-mod tests;
 mod unread;
 
 pub use calls::{CallPlace, Printing, print_calls};

@@ -8,8 +8,6 @@ mod call;
 mod client;
 mod constant;
 mod image;
-#[cfg(test)]
-mod tests;
 
 pub use client::read_client;
 pub use image::ClientImage;

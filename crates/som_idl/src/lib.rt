@@ -4,16 +4,12 @@
 //! the code follows; `proofs` shows that they read the grammar.
 #![tactic(auto)]
 
-#[cfg(test)]
-mod cases;
 mod export;
 mod file;
 mod item;
 mod laws;
 mod name;
 mod parse;
-#[cfg(test)]
-mod tests;
 mod tree;
 
 pub use laws::{one_answer, one_tree, some_answer};

@@ -8,8 +8,6 @@ mod mem_sink;
 mod mem_store;
 mod sink;
 mod store;
-#[cfg(test)]
-mod tests;
 
 pub use line::{Sending, send};
 pub use mem_sink::MemSink;

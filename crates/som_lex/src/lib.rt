@@ -7,8 +7,6 @@
 #![tactic(auto)]
 
 mod alphabet;
-#[cfg(test)]
-mod cases;
 mod comment;
 mod cut;
 mod fault;
@@ -18,10 +16,6 @@ mod laws;
 mod lexeme;
 mod line;
 mod literal;
-#[cfg(test)]
-mod tests;
-#[cfg(test)]
-mod tests_of_directives;
 mod token;
 mod value;
 mod word;

@@ -19,8 +19,6 @@ mod numbered_face;
 mod numbered_part;
 mod parts;
 mod release;
-#[cfg(test)]
-mod tests;
 mod wire;
 
 pub use faces::{append_faces, ranges_of, read_faces, read_faces_after};

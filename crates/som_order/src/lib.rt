@@ -5,8 +5,6 @@ mod compare;
 mod effective;
 mod laws;
 mod names;
-#[cfg(test)]
-mod tests;
 
 pub use compare::{entry_at, is_prefix, name_of};
 pub use effective::effective_order;

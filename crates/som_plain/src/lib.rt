@@ -7,10 +7,6 @@ mod ancestry;
 mod order;
 mod resolution;
 mod rows;
-#[cfg(test)]
-mod tests;
-#[cfg(test)]
-mod tests_of_copies;
 mod theorems;
 
 pub use ancestry::ancestors;

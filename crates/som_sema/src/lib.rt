@@ -5,8 +5,6 @@ mod accessor_bodies;
 mod accessors;
 mod bases;
 mod build;
-#[cfg(test)]
-mod cases;
 mod declared;
 mod double;
 mod exports;
@@ -23,8 +21,6 @@ mod rules;
 mod scope;
 mod sketch;
 mod tables;
-#[cfg(test)]
-mod tests;
 mod types;
 mod variables;
 mod walked;

@@ -7,8 +7,6 @@ mod entry;
 mod face;
 mod name;
 mod release;
-#[cfg(test)]
-mod tests;
 
 pub use client::shown_client;
 pub use name::add_number;

@@ -8,8 +8,6 @@ mod row;
 mod start;
 mod steps;
 mod table;
-#[cfg(test)]
-mod tests;
 mod token;
 
 pub use class_no::ClassNo;

@@ -5,12 +5,8 @@ mod ancestry;
 mod blocks;
 mod bodies;
 mod calls;
-#[cfg(test)]
-mod cases;
 mod classes;
 mod code_place;
-#[cfg(test)]
-mod code_words;
 mod descent;
 mod double;
 mod expressions;
@@ -18,8 +14,6 @@ mod forms;
 mod inherited;
 mod introduced;
 mod kind;
-#[cfg(test)]
-mod kind_cases;
 mod knowledge;
 mod known;
 mod laws;
@@ -31,22 +25,12 @@ mod parents;
 mod pass;
 mod plain_statements;
 mod program;
-#[cfg(test)]
-mod program_cases;
 mod release;
 mod rules;
 mod signatures;
 mod statements;
 mod table;
-#[cfg(test)]
-mod tests;
-#[cfg(test)]
-mod tests_of_kinds;
 mod typed_bodies;
-#[cfg(test)]
-mod typed_cases;
-#[cfg(test)]
-mod typed_orders;
 mod types;
 
 pub use ancestry::ancestors;

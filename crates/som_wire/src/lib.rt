@@ -16,8 +16,6 @@ mod method;
 mod number;
 mod read;
 mod sig;
-#[cfg(test)]
-mod tests;
 mod text;
 
 pub use entry::{WireEntry, read_entry, write_entry};
