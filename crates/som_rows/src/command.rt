@@ -1,0 +1,124 @@
+use crate::files::{File, Files};
+use som_cmd::run_som;
+use som_io::{Got, MemSink, MemStore, Put, Store};
+use som_model::{List, NoMemory, Text};
+use std::alloc::Global;
+
+/// The calls of the next command that fail, counted from 0.
+#[derive(Drop)]
+pub struct Failing {
+    pub store: Vec<u64>,
+    pub sink: Vec<u64>,
+}
+
+impl Failing {
+    pub fn new(alloc: Global) -> Failing {
+        Failing {
+            store: Vec::new(alloc),
+            sink: Vec::new(alloc),
+        }
+    }
+}
+
+/// What a command came to.
+#[derive(Drop)]
+pub struct Outcome {
+    pub status: u8,
+    pub printed: List<u8>,
+    /// The files that hold something else than before.
+    pub changed: Vec<File>,
+}
+
+/// Runs a command over the files.
+pub fn outcome_of(
+    alloc: Global,
+    words: &List<Text>,
+    files: &Files,
+    failing: &Failing,
+) -> Result<Outcome, NoMemory> {
+    let mut store = store_of(alloc, files, failing.store.as_slice())?;
+    let mut out = MemSink::new(alloc);
+    for call in &failing.sink {
+        out.fail(*call)?;
+    }
+    let status = run_som(alloc, words, &mut store, &mut out);
+    let mut after = After {
+        alloc,
+        store,
+        files,
+        failing: failing.store.len(),
+        changed: Vec::new(alloc),
+    };
+    for file in files.as_slice() {
+        after.look(&file.name)?;
+    }
+    for word in words.as_slice() {
+        after.look(word)?;
+    }
+    Ok(Outcome {
+        status,
+        printed: out.bytes().copy(alloc)?,
+        changed: after.into_changed(),
+    })
+}
+
+// A store that holds the files, of which these calls fail.
+fn store_of(alloc: Global, files: &Files, failing: &[u64]) -> Result<MemStore, NoMemory> {
+    let mut store = MemStore::new(alloc);
+    let mut made = 0u64;
+    for file in files.as_slice() {
+        if store.put(&file.name, &file.bytes) != Put::Done {
+            return Err(NoMemory);
+        }
+        made = made.saturating_add(1);
+    }
+    for call in failing {
+        store.fail(made.saturating_add(*call))?;
+    }
+    Ok(store)
+}
+
+// The store after a command, and the files that were found to be changed.
+#[derive(Drop)]
+struct After<'f> {
+    alloc: Global,
+    store: MemStore,
+    files: &'f Files,
+    failing: usize,
+    changed: Vec<File>,
+}
+
+impl After<'_> {
+    // What a name holds. Calls that were to fail and weren't made by the command are passed over.
+    fn get(&mut self, name: &Text) -> Result<Option<List<u8>>, NoMemory> {
+        for _ in 0..self.failing {
+            match self.store.get(name) {
+                Got::Failed => {}
+                Got::Bytes(bytes) => return Ok(Some(bytes)),
+                Got::Absent => return Ok(None),
+                Got::NoMemory => return Err(NoMemory),
+            }
+        }
+        match self.store.get(name) {
+            Got::Bytes(bytes) => Ok(Some(bytes)),
+            Got::NoMemory => Err(NoMemory),
+            Got::Absent | Got::Failed => Ok(None),
+        }
+    }
+
+    fn look(&mut self, name: &Text) -> Result<(), NoMemory> {
+        let Some(bytes) = self.get(name)? else {
+            return Ok(());
+        };
+        if self.files.get(name.as_slice()) != Some(bytes.as_slice()) {
+            let name = name.copy(self.alloc)?;
+            self.changed.push(File { name, bytes })?;
+        }
+        Ok(())
+    }
+
+    fn into_changed(self) -> Vec<File> {
+        let After { changed, .. } = self;
+        changed
+    }
+}

@@ -1,0 +1,193 @@
+use crate::words::{number_of, push_number, until_no_letter};
+use crate::wrong::Wrong;
+use som_model::Text;
+use std::alloc::Global;
+
+/// A variable of an `each`, with its value: a text in which at most the forms of single bytes are left.
+#[derive(Drop)]
+pub struct Variable {
+    pub name: Text,
+    pub value: Vec<u8>,
+}
+
+/// The numbers of the turns of the repetitions around a place.
+#[derive(Clone, Copy)]
+pub struct Turns {
+    inner: Option<u64>,
+    outer: Option<u64>,
+}
+
+impl Turns {
+    /// No repetition.
+    pub const NONE: Turns = Turns {
+        inner: None,
+        outer: None,
+    };
+
+    fn within(&self, turn: u64) -> Turns {
+        Turns {
+            inner: Some(turn),
+            outer: self.inner,
+        }
+    }
+
+    // The number that a name stands for in a repetition.
+    fn named(&self, name: &[u8]) -> Option<u64> {
+        match name {
+            b"i" => self.inner,
+            b"j" => self.outer,
+            _ => None,
+        }
+    }
+}
+
+// What a form comes to.
+#[derive(Clone, Copy)]
+enum Form<'a> {
+    // It has been written, and this comes after it.
+    Written(&'a [u8]),
+    // The body is to be written so often.
+    Repeated {
+        count: u64,
+        body: &'a [u8],
+        after: &'a [u8],
+    },
+}
+
+/// Replaces the forms of texts: repetitions, variables and numbers.
+#[derive(Clone, Copy)]
+pub struct Expansion<'v> {
+    pub alloc: Global,
+    pub variables: &'v [Variable],
+}
+
+impl Expansion<'_> {
+    /// Adds a text with its repetitions, variables and numbers replaced. The forms of single bytes stay.
+    pub fn expand(&self, text: &[u8], turns: Turns, out: &mut Vec<u8>) -> Result<(), Wrong> {
+        let mut rest = text;
+        while let Some(place) = rest.iter().position(|byte| *byte == b'$') {
+            let (plain, form) = rest.split_at(place);
+            out.extend_from_slice(plain)?;
+            match self.form(form, turns, out)? {
+                Form::Written(after) => rest = after,
+                Form::Repeated { count, body, after } => {
+                    for turn in 0..count {
+                        self.expand(body, turns.within(turn), out)?;
+                    }
+                    rest = after;
+                }
+            }
+        }
+        out.extend_from_slice(rest)?;
+        Ok(())
+    }
+
+    // The form that a text begins with.
+    fn form<'a>(&self, text: &'a [u8], turns: Turns, out: &mut Vec<u8>) -> Result<Form<'a>, Wrong> {
+        match text {
+            [b'$', b'[', after @ ..] => self.repetition(after, turns),
+            [b'$', b'(', after @ ..] => {
+                let (sum, after) = split_at_byte(after, b')').ok_or(Wrong::Unclear)?;
+                self.sum(sum, turns, out)?;
+                Ok(Form::Written(after))
+            }
+            [b'$', b'$' | b'.', after @ ..] => {
+                out.extend_from_slice(&text[..2])?;
+                Ok(Form::Written(after))
+            }
+            [b'$', b'x', _, _, after @ ..] => {
+                out.extend_from_slice(&text[..4])?;
+                Ok(Form::Written(after))
+            }
+            [b'$', after @ ..] => {
+                let (name, after) = until_no_letter(after);
+                self.value(name, turns, out)?;
+                Ok(Form::Written(after))
+            }
+            _ => Err(Wrong::Unclear),
+        }
+    }
+
+    // A repetition, from behind its bracket on.
+    fn repetition<'a>(&self, text: &'a [u8], turns: Turns) -> Result<Form<'a>, Wrong> {
+        let (count, body) = split_at_byte(text, b':').ok_or(Wrong::Unclear)?;
+        let (body, after) = split_at_end(body).ok_or(Wrong::Unclear)?;
+        let count = match number_of(count) {
+            Some(count) => count,
+            None => {
+                let mut digits = Vec::new(self.alloc);
+                self.sum(count, turns, &mut digits)?;
+                number_of(digits.as_slice()).ok_or(Wrong::Unclear)?
+            }
+        };
+        Ok(Form::Repeated { count, body, after })
+    }
+
+    // Adds the value of a variable, or a number from it and another number.
+    fn sum(&self, text: &[u8], turns: Turns, out: &mut Vec<u8>) -> Result<(), Wrong> {
+        let (name, rest) = until_no_letter(text);
+        let [sign, number @ ..] = rest else {
+            return self.value(name, turns, out);
+        };
+        let mut digits = Vec::new(self.alloc);
+        self.value(name, turns, &mut digits)?;
+        let left = number_of(digits.as_slice()).ok_or(Wrong::Unclear)?;
+        let right = number_of(number).ok_or(Wrong::Unclear)?;
+        let number = match sign {
+            b'+' => left.checked_add(right),
+            b'-' => left.checked_sub(right),
+            b'*' => left.checked_mul(right),
+            b'/' => left.checked_div(right),
+            b'%' => left.checked_rem(right),
+            _ => None,
+        };
+        push_number(self.alloc, out, number.ok_or(Wrong::Unclear)?)
+    }
+
+    // Adds the value of a name.
+    fn value(&self, name: &[u8], turns: Turns, out: &mut Vec<u8>) -> Result<(), Wrong> {
+        if let Some(turn) = turns.named(name) {
+            return push_number(self.alloc, out, turn);
+        }
+        for variable in self.variables.iter().rev() {
+            if variable.name.is(name) {
+                out.extend_from_slice(variable.value.as_slice())?;
+                return Ok(());
+            }
+        }
+        Err(Wrong::Unclear)
+    }
+}
+
+// The text before a byte, and that after it.
+fn split_at_byte(text: &[u8], byte: u8) -> Option<(&[u8], &[u8])> {
+    let place = text.iter().position(|each| *each == byte)?;
+    let (before, after) = text.split_at(place);
+    let (_, after) = after.split_first()?;
+    Some((before, after))
+}
+
+// The body of a repetition, and what comes after its end.
+fn split_at_end(text: &[u8]) -> Option<(&[u8], &[u8])> {
+    let mut open = 0u64;
+    let mut rest = text;
+    loop {
+        rest = match rest {
+            [b']', b'$', after @ ..] if open == 0 => {
+                let (body, _) = text.split_at_checked(text.len().saturating_sub(rest.len()))?;
+                return Some((body, after));
+            }
+            [b']', b'$', after @ ..] => {
+                open = open.saturating_sub(1);
+                after
+            }
+            [b'$', b'[', after @ ..] => {
+                open = open.saturating_add(1);
+                after
+            }
+            [b'$', _, after @ ..] => after,
+            [_, after @ ..] => after,
+            [] => return None,
+        };
+    }
+}
