@@ -116,7 +116,7 @@ fn while_statement(
     left.expect(Sign::Close)?;
     let block = block(alloc, tokens, left, depth)?;
     Ok(StmtText::While {
-        condition: condition.tree,
+        condition: condition.tree.into_inner(),
         block,
     })
 }
@@ -164,7 +164,7 @@ fn if_statement(
     let then = block(alloc, tokens, left, depth)?;
     let other = else_part(alloc, tokens, left, depth)?;
     Ok(StmtText::If {
-        condition: condition.tree,
+        condition: condition.tree.into_inner(),
         then,
         other,
     })

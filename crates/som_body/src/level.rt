@@ -1,8 +1,12 @@
 //! The lines of the grammar of expressions, and what their readers carry beside a tree.
 
+ghost use Rattle.som_body.specs.Reading.{tall};
+ghost use Rattle.std.specs.Prelude.{◌≡◌, IfOk};
+
 use crate::ExprText;
-use som_model::List;
+use som_model::{Boxed, List, NoMemory};
 use som_read::Word;
+use std::alloc::Global;
 
 /// A line of the grammar, by what binds loosest in it.
 #[derive(Clone, Copy, Debug, PartialEq, Eq)]
@@ -19,11 +23,20 @@ pub(crate) enum Line {
     Primary,
 }
 
-/// An expression, and how many levels it takes.
+/// An expression, as a part of another one, and how many levels it takes.
 #[derive(Drop)]
 pub(crate) struct Tall {
-    pub(crate) tree: ExprText,
+    pub(crate) tree: Boxed<ExprText>,
     pub(crate) height: usize,
+}
+
+impl Tall {
+    pub(crate) fn new(alloc: Global, tree: ExprText, height: usize) -> Result<Tall, NoMemory>
+        ensures { IfOk result (λ a. a ≡ tall tree height) }
+    {
+        let tree = Boxed::new(alloc, tree)?;
+        Ok(Tall { tree, height })
+    }
 }
 
 /// Arguments, and how many levels the deepest takes.

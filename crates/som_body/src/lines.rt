@@ -14,7 +14,7 @@ use crate::operators::{MINUS, NOT};
 use crate::rules::Rules;
 use crate::word::name;
 use som_lex::Tokens;
-use som_model::{Boxed, NoMemory};
+use som_model::NoMemory;
 use som_read::{Cursor, Key, Sign, Stop, Turn};
 use std::alloc::Global;
 
@@ -24,12 +24,8 @@ fn combined(alloc: Global, op: u8, first: Tall, second: Tall) -> Result<Tall, No
     ensures { IfOk result (λ a. a ≡ spec.combined op first second) }
 {
     let height = first.height.max(second.height) + 1;
-    let left = Boxed::new(alloc, first.tree)?;
-    let right = Boxed::new(alloc, second.tree)?;
-    Ok(Tall {
-        tree: ExprText::Binary { op, left, right },
-        height,
-    })
+    let (left, right) = (first.tree, second.tree);
+    Tall::new(alloc, ExprText::Binary { op, left, right }, height)
 }
 
 // An operator of one operand.
@@ -37,11 +33,8 @@ fn changed(alloc: Global, op: u8, operand: Tall) -> Result<Tall, NoMemory>
     requires { operand.height ≤ 64 }
     ensures { IfOk result (λ a. a ≡ spec.tall (ExprText.Unary op operand.tree) (operand.height + 1)) }
 {
-    let of = Boxed::new(alloc, operand.tree)?;
-    Ok(Tall {
-        tree: ExprText::Unary { op, of },
-        height: operand.height + 1,
-    })
+    let Tall { tree, height } = operand;
+    Tall::new(alloc, ExprText::Unary { op, of: tree }, height + 1)
 }
 
 impl<'t, F: Fn(Global, &Tokens, &mut Cursor<'_>, usize, Line) -> Result<Tall, Stop>> Rules<'t, F> {
@@ -60,11 +53,8 @@ impl<'t, F: Fn(Global, &Tokens, &mut Cursor<'_>, usize, Line) -> Result<Tall, St
         left.skip();
         let class = name(self.alloc, self.tokens, left)?;
         let Tall { tree, height } = so_far;
-        let of = Boxed::new(self.alloc, tree)?;
-        Ok(Turn::More(Tall {
-            tree: ExprText::Cast { class, of },
-            height: height + 1,
-        }))
+        let whole = Tall::new(self.alloc, ExprText::Cast { class, of: tree }, height + 1)?;
+        Ok(Turn::More(whole))
     }
 
     #[tactic(auto, unfolding(crate::specs::Reading::cast, som_read::specs::Readers::repeat))]

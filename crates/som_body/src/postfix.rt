@@ -12,7 +12,7 @@ use crate::level::{Given, Line, NamedCall, Tall};
 use crate::rules::Rules;
 use crate::word::{any_word, outcome};
 use som_lex::Tokens;
-use som_model::{Boxed, NoMemory};
+use som_model::NoMemory;
 use som_read::{Cursor, Key, Sign, Stop, Turn, Word};
 use std::alloc::Global;
 
@@ -22,15 +22,12 @@ fn called(alloc: Global, receiver: Tall, method: Word, given: Given) -> Result<T
     ensures { IfOk result (λ a. a ≡ spec.called receiver method given) }
 {
     let height = receiver.height.max(given.height) + 1;
-    let receiver = Boxed::new(alloc, receiver.tree)?;
-    Ok(Tall {
-        tree: ExprText::Call {
-            receiver,
-            method,
-            args: given.args,
-        },
-        height,
-    })
+    let tree = ExprText::Call {
+        receiver: receiver.tree,
+        method,
+        args: given.args,
+    };
+    Tall::new(alloc, tree, height)
 }
 
 fn named_height(call: &NamedCall) -> usize
@@ -177,16 +174,14 @@ impl<'t, F: Fn(Global, &Tokens, &mut Cursor<'_>, usize, Line) -> Result<Tall, St
         let result = outcome(self.alloc, self.tokens, left)?;
         let call = self.call_by_name(left)?;
         let height = named_height(&call);
-        let receiver = Boxed::new(self.alloc, call.receiver.tree)?;
-        Ok(Tall {
-            tree: ExprText::Lookup {
-                result,
-                receiver,
-                method: call.method,
-                args: call.given.args,
-            },
-            height,
-        })
+        let tree = ExprText::Lookup {
+            result,
+            receiver: call.receiver.tree,
+            method: call.method,
+            args: call.given.args,
+        };
+        let whole = Tall::new(self.alloc, tree, height)?;
+        Ok(whole)
     }
 
     // After `dispatch`.
@@ -200,16 +195,14 @@ impl<'t, F: Fn(Global, &Tokens, &mut Cursor<'_>, usize, Line) -> Result<Tall, St
         let result = outcome(self.alloc, self.tokens, left)?;
         let call = self.call_by_name(left)?;
         let height = named_height(&call);
-        let receiver = Boxed::new(self.alloc, call.receiver.tree)?;
-        Ok(Tall {
-            tree: ExprText::Dispatch {
-                result,
-                receiver,
-                method: call.method,
-                args: call.given.args,
-            },
-            height,
-        })
+        let tree = ExprText::Dispatch {
+            result,
+            receiver: call.receiver.tree,
+            method: call.method,
+            args: call.given.args,
+        };
+        let whole = Tall::new(self.alloc, tree, height)?;
+        Ok(whole)
     }
 
     #[tactic(auto, unfolding(crate::specs::Reading::postfix))]

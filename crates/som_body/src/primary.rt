@@ -7,21 +7,14 @@ ghost use Rattle.som_read.specs.Seen.{text_at};
 ghost use Rattle.std.specs.Prelude.{◌≡◌, ◌≤◌, ◌+◌, max, IfOk};
 
 use crate::ExprText;
-use crate::level::{Line, Tall};
+use crate::level::{Given, Line, Tall};
 use crate::operators::{LENGTH, TEXT};
 use crate::rules::Rules;
 use crate::word::{any_word, atom, host, name};
 use som_lex::Tokens;
-use som_model::{Boxed, HostCode, NoMemory};
+use som_model::{HostCode, NoMemory};
 use som_read::{Cursor, Key, Sign, Stop};
 use std::alloc::Global;
-
-// An expression of one level.
-fn low(tree: ExprText) -> Tall
-    ensures { result ≡ spec.tall tree 1 }
-{
-    Tall { tree, height: 1 }
-}
 
 fn hosted(alloc: Global, code: HostCode, first: Tall, second: Tall) -> Result<Tall, NoMemory>
     requires first { first.height ≤ 64 }
@@ -29,12 +22,8 @@ fn hosted(alloc: Global, code: HostCode, first: Tall, second: Tall) -> Result<Ta
     ensures { IfOk result (λ call. call ≡ spec.tall (ExprText.Host code first.tree second.tree) (max first.height second.height + 1)) }
 {
     let height = first.height.max(second.height) + 1;
-    let a = Boxed::new(alloc, first.tree)?;
-    let b = Boxed::new(alloc, second.tree)?;
-    Ok(Tall {
-        tree: ExprText::Host { code, a, b },
-        height,
-    })
+    let (a, b) = (first.tree, second.tree);
+    Tall::new(alloc, ExprText::Host { code, a, b }, height)
 }
 
 impl<'t, F: Fn(Global, &Tokens, &mut Cursor<'_>, usize, Line) -> Result<Tall, Stop>> Rules<'t, F> {
@@ -46,7 +35,8 @@ impl<'t, F: Fn(Global, &Tokens, &mut Cursor<'_>, usize, Line) -> Result<Tall, St
     {
         left.expect(Sign::Dot)?;
         let variable = any_word(self.alloc, self.tokens, left)?;
-        Ok(low(ExprText::Variable(variable)))
+        let whole = Tall::new(self.alloc, ExprText::Variable(variable), 1)?;
+        Ok(whole)
     }
 
     // After `(`. A pair of parentheses is a level.
@@ -76,11 +66,8 @@ impl<'t, F: Fn(Global, &Tokens, &mut Cursor<'_>, usize, Line) -> Result<Tall, St
         left.expect(Sign::Open)?;
         let Tall { tree, height } = self.below(left, Line::Expr)?;
         left.expect(Sign::Close)?;
-        let of = Boxed::new(self.alloc, tree)?;
-        Ok(Tall {
-            tree: ExprText::Unary { op, of },
-            height: height + 1,
-        })
+        let whole = Tall::new(self.alloc, ExprText::Unary { op, of: tree }, height + 1)?;
+        Ok(whole)
     }
 
     #[tactic(auto, unfolding(crate::specs::Reading::new_object))]
@@ -89,7 +76,8 @@ impl<'t, F: Fn(Global, &Tokens, &mut Cursor<'_>, usize, Line) -> Result<Tall, St
         ensures low { IfOk result (λ a. a.height ≤ self.now.depth + 1) }
     {
         let class = name(self.alloc, self.tokens, left)?;
-        Ok(low(ExprText::New(class)))
+        let whole = Tall::new(self.alloc, ExprText::New(class), 1)?;
+        Ok(whole)
     }
 
     #[tactic(auto, unfolding(crate::specs::Reading::class_object))]
@@ -98,7 +86,8 @@ impl<'t, F: Fn(Global, &Tokens, &mut Cursor<'_>, usize, Line) -> Result<Tall, St
         ensures low { IfOk result (λ a. a.height ≤ self.now.depth + 1) }
     {
         let class = name(self.alloc, self.tokens, left)?;
-        Ok(low(ExprText::Class(class)))
+        let whole = Tall::new(self.alloc, ExprText::Class(class), 1)?;
+        Ok(whole)
     }
 
     #[tactic(auto, unfolding(crate::specs::Reading::isa))]
@@ -113,11 +102,8 @@ impl<'t, F: Fn(Global, &Tokens, &mut Cursor<'_>, usize, Line) -> Result<Tall, St
         left.expect(Sign::Comma)?;
         let class = name(self.alloc, self.tokens, left)?;
         left.expect(Sign::Close)?;
-        let of = Boxed::new(self.alloc, tree)?;
-        Ok(Tall {
-            tree: ExprText::Isa { class, of },
-            height: height + 1,
-        })
+        let whole = Tall::new(self.alloc, ExprText::Isa { class, of: tree }, height + 1)?;
+        Ok(whole)
     }
 
     #[tactic(auto, unfolding(crate::specs::Reading::proxy))]
@@ -132,11 +118,8 @@ impl<'t, F: Fn(Global, &Tokens, &mut Cursor<'_>, usize, Line) -> Result<Tall, St
         left.expect(Sign::Comma)?;
         let Tall { tree, height } = self.below(left, Line::Expr)?;
         left.expect(Sign::Close)?;
-        let of = Boxed::new(self.alloc, tree)?;
-        Ok(Tall {
-            tree: ExprText::Proxy { class, of },
-            height: height + 1,
-        })
+        let whole = Tall::new(self.alloc, ExprText::Proxy { class, of: tree }, height + 1)?;
+        Ok(whole)
     }
 
     #[tactic(auto, unfolding(crate::specs::Reading::host_call))]
@@ -166,15 +149,14 @@ impl<'t, F: Fn(Global, &Tokens, &mut Cursor<'_>, usize, Line) -> Result<Tall, St
         let parent = name(self.alloc, self.tokens, left)?;
         left.expect(Sign::Dot)?;
         let method = any_word(self.alloc, self.tokens, left)?;
-        let given = self.arguments(left)?;
-        Ok(Tall {
-            tree: ExprText::Parent {
-                parent,
-                method,
-                args: given.args,
-            },
-            height: given.height + 1,
-        })
+        let Given { args, height } = self.arguments(left)?;
+        let tree = ExprText::Parent {
+            parent,
+            method,
+            args,
+        };
+        let whole = Tall::new(self.alloc, tree, height + 1)?;
+        Ok(whole)
     }
 
     #[tactic(auto, unfolding(crate::specs::Reading::parents_call))]
@@ -186,14 +168,9 @@ impl<'t, F: Fn(Global, &Tokens, &mut Cursor<'_>, usize, Line) -> Result<Tall, St
     {
         left.expect(Sign::Dot)?;
         let method = any_word(self.alloc, self.tokens, left)?;
-        let given = self.arguments(left)?;
-        Ok(Tall {
-            tree: ExprText::Parents {
-                method,
-                args: given.args,
-            },
-            height: given.height + 1,
-        })
+        let Given { args, height } = self.arguments(left)?;
+        let whole = Tall::new(self.alloc, ExprText::Parents { method, args }, height + 1)?;
+        Ok(whole)
     }
 
     // A form that begins with a word of its own.
@@ -271,7 +248,8 @@ impl<'t, F: Fn(Global, &Tokens, &mut Cursor<'_>, usize, Line) -> Result<Tall, St
         match atom(self.alloc, self.tokens, left.peek())? {
             Some(tree) => {
                 left.skip();
-                Ok(low(tree))
+                let whole = Tall::new(self.alloc, tree, 1)?;
+                Ok(whole)
             }
             None => self.compound(left),
         }

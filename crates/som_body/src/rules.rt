@@ -9,7 +9,7 @@ ghost use Rattle.std.specs.Prelude.{◌≡◌, ◌≤◌, ◌+◌, ℕ, nat_le, 
 
 use crate::level::{Given, Line, Tall};
 use som_lex::Tokens;
-use som_model::{Boxed, List};
+use som_model::List;
 use som_read::{Cursor, Sign, Stop, Turn};
 use std::alloc::Global;
 
@@ -58,7 +58,7 @@ impl<'t, F: Fn(Global, &Tokens, &mut Cursor<'_>, usize, Line) -> Result<Tall, St
             mut args,
             height: tallest,
         } = so_far;
-        args.push(tree)?;
+        args.push(tree.into_inner())?;
         Ok(Turn::More(Given {
             args,
             height: tallest.max(height),
@@ -74,7 +74,7 @@ impl<'t, F: Fn(Global, &Tokens, &mut Cursor<'_>, usize, Line) -> Result<Tall, St
     {
         let Tall { tree, height } = self.below(left, Line::Expr)?;
         let mut args = List::new(self.alloc);
-        args.push(tree)?;
+        args.push(tree.into_inner())?;
         let mut so_far = Given { args, height };
         for _turn in 0..left.rest.len() + 1 {
             match self.next_argument(left, so_far)? {

@@ -35,11 +35,13 @@ fn is_call(expr: &ExprText) -> bool
 fn finish(left: &mut Cursor<'_>, whole: Tall) -> Result<StmtText, Stop>
     ensures { Answers (spec.finish whole left.old.rest.now) result left.new.rest.now }
 {
-    if !is_call(&whole.tree) {
+    if !is_call(whole.tree.get()) {
         return Err(Stop::Syntax);
     }
     left.expect(Sign::Semicolon)?;
-    Ok(StmtText::Call { call: whole.tree })
+    Ok(StmtText::Call {
+        call: whole.tree.into_inner(),
+    })
 }
 
 // Further steps on what was read, where `depth` levels are left for it.
@@ -53,7 +55,7 @@ fn steps_from(
     requires { depth ≤ 32 }
     ensures { Answers (spec.steps_from (text_at tokens.now) depth (expression.tall tree 1) left.old.rest.now) result left.new.rest.now }
 {
-    let first = Tall { tree, height: 1 };
+    let first = Tall::new(alloc, tree, 1)?;
     if depth == 0 {
         return if left.sees(Sign::Dot) {
             Err(Stop::Nesting)
@@ -90,7 +92,7 @@ pub(crate) fn variable(
     Ok(StmtText::Var {
         name,
         kind,
-        value: value.tree,
+        value: value.tree.into_inner(),
     })
 }
 
@@ -115,7 +117,7 @@ pub(crate) fn named(
     left.expect(Sign::Semicolon)?;
     Ok(StmtText::Set {
         name,
-        value: value.tree,
+        value: value.tree.into_inner(),
     })
 }
 
@@ -140,7 +142,7 @@ fn own_rest(
     left.expect(Sign::Semicolon)?;
     Ok(StmtText::SetVariable {
         name,
-        value: value.tree,
+        value: value.tree.into_inner(),
     })
 }
 
@@ -178,7 +180,7 @@ pub(crate) fn returned(
     let value = line_at(alloc, tokens, left, depth, Line::Expr)?;
     left.expect(Sign::Semicolon)?;
     Ok(StmtText::Return {
-        value: Some(value.tree),
+        value: Some(value.tree.into_inner()),
     })
 }
 
@@ -195,7 +197,9 @@ pub(crate) fn printed(
 {
     let value = line_at(alloc, tokens, left, depth, Line::Expr)?;
     left.expect(Sign::Semicolon)?;
-    Ok(StmtText::Print { value: value.tree })
+    Ok(StmtText::Print {
+        value: value.tree.into_inner(),
+    })
 }
 
 // After `free`.
@@ -211,7 +215,9 @@ pub(crate) fn freed(
 {
     let value = line_at(alloc, tokens, left, depth, Line::Expr)?;
     left.expect(Sign::Semicolon)?;
-    Ok(StmtText::Free { value: value.tree })
+    Ok(StmtText::Free {
+        value: value.tree.into_inner(),
+    })
 }
 
 // A statement that begins with another expression.

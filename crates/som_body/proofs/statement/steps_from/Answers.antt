@@ -1,14 +1,18 @@
-use Rattle.std.proofs.Common.{◌≡◌, ◌+◌, ◌-◌, subst, rules, arith}
+use Rattle.std.proofs.Common.{◌≡◌, ◌+◌, ◌-◌, ◌∙◌, ap, subst, rules, arith}
 use Rattle.std.proofs.lemmas.Grind.{common_steps}
 use Rattle.som_read.specs.Answer.{Answers}
 use Rattle.som_read.specs.Readers.{repeat}
 use Rattle.som_read.specs.Seen.{text_at}
 use Rattle.som_body.specs.Reading as spec
+use Rattle.som_body.specs.StatementReading as statements
 use Rattle.som_body.proofs.Deeper.{steps_deeper}
 use Rattle.som_body.proofs.statement.steps_from.Goals as goal
 
 pub returns : goal.returns
-returns c = subst (λ o. Answers o c.steps.result c.steps.new.left.rest.now) (steps_deeper (text_at c.args.tokens.now) c.args.depth (spec.tall c.args.tree 1) c.args.left.now.rest.now (omega arith)) c.steps.ensures.reads
+returns c =
+    let text = text_at c.args.tokens.now in
+    let same = ap (λ a. statements.steps_from text c.args.depth a c.args.left.now.rest.now) c.in_ok-first.ensures in
+    subst (λ o. Answers o c.steps.result c.steps.new.left.rest.now) (steps_deeper text c.args.depth c.in_ok-first.first c.args.left.now.rest.now (omega arith) ∙ same) c.steps.ensures.reads
 
 pub returns-then-sees : goal.returns-then-sees
 unfolding repeat
