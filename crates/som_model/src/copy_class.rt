@@ -119,8 +119,8 @@ impl Override {
         ensures { IfOk result (λ replaced. replaced ≡ self.now) }
     {
         Ok(Override {
-            method: self.method.copy(alloc)?,
             block: self.block.copy(alloc)?,
+            method: self.method.copy(alloc)?,
         })
     }
 }

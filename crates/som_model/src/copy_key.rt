@@ -53,8 +53,8 @@ impl MethodRef {
         ensures { IfOk result (λ method. method ≡ self.now) }
     {
         Ok(MethodRef {
-            class: self.class.copy(alloc)?,
             name: self.name.copy(alloc)?,
+            class: self.class.copy(alloc)?,
         })
     }
 }

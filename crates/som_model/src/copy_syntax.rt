@@ -1,6 +1,8 @@
 ghost use Rattle.std.specs.Prelude.{◌≡◌, IfOk};
 
-use crate::{Block, Boxed, Expr, List, NoMemory, Stmt, ValueType};
+use crate::{
+    Block, Boxed, ClassKey, Expr, HostCode, List, MethodRef, NoMemory, Stmt, Text, ValueType,
+};
 use std::alloc::Global;
 
 impl Expr {
@@ -20,77 +22,180 @@ impl Expr {
                 op: *op,
                 of: copy_boxed(alloc, of)?,
             }),
-            Expr::Binary { op, left, right } => Ok(Expr::Binary {
-                op: *op,
-                left: copy_boxed(alloc, left)?,
-                right: copy_boxed(alloc, right)?,
-            }),
+            Expr::Binary { op, left, right } => copy_binary(alloc, *op, left, right),
             Expr::New(key) => Ok(Expr::New(key.copy(alloc)?)),
             Expr::Class(key) => Ok(Expr::Class(key.copy(alloc)?)),
             Expr::Manager => Ok(Expr::Manager),
-            Expr::Cast { class, of } => Ok(Expr::Cast {
-                class: class.copy(alloc)?,
-                of: copy_boxed(alloc, of)?,
-            }),
-            Expr::Isa { class, of } => Ok(Expr::Isa {
-                class: class.copy(alloc)?,
-                of: copy_boxed(alloc, of)?,
-            }),
-            Expr::Proxy { class, of } => Ok(Expr::Proxy {
-                class: class.copy(alloc)?,
-                of: copy_boxed(alloc, of)?,
-            }),
+            Expr::Cast { class, of } => copy_cast(alloc, of, class),
+            Expr::Isa { class, of } => copy_isa(alloc, of, class),
+            Expr::Proxy { class, of } => copy_proxy(alloc, of, class),
             Expr::OffsetCall {
                 method,
                 receiver,
                 args,
-            } => Ok(Expr::OffsetCall {
-                method: method.copy(alloc)?,
-                receiver: copy_boxed(alloc, receiver)?,
-                args: copy_exprs(alloc, args)?,
-            }),
+            } => copy_offset_call(alloc, method, args, receiver),
             Expr::Lookup {
                 result: kind,
                 name,
                 receiver,
                 args,
-            } => Ok(Expr::Lookup {
-                result: kind.copy(alloc)?,
-                name: name.copy(alloc)?,
-                receiver: copy_boxed(alloc, receiver)?,
-                args: copy_exprs(alloc, args)?,
-            }),
+            } => copy_lookup(alloc, kind, name, args, receiver),
             Expr::Dispatch {
                 result: kind,
                 name,
                 receiver,
                 args,
-            } => Ok(Expr::Dispatch {
-                result: kind.copy(alloc)?,
-                name: name.copy(alloc)?,
-                receiver: copy_boxed(alloc, receiver)?,
-                args: copy_exprs(alloc, args)?,
-            }),
+            } => copy_dispatch(alloc, kind, name, args, receiver),
             Expr::ParentCall {
                 parent,
                 method,
                 args,
-            } => Ok(Expr::ParentCall {
-                parent: *parent,
-                method: method.copy(alloc)?,
-                args: copy_exprs(alloc, args)?,
-            }),
-            Expr::ParentsCall { method, args } => Ok(Expr::ParentsCall {
-                method: method.copy(alloc)?,
-                args: copy_exprs(alloc, args)?,
-            }),
-            Expr::Host { code, a, b } => Ok(Expr::Host {
-                code: *code,
-                a: copy_boxed(alloc, a)?,
-                b: copy_boxed(alloc, b)?,
-            }),
+            } => copy_parent_call(alloc, *parent, method, args),
+            Expr::ParentsCall { method, args } => copy_parents_call(alloc, method, args),
+            Expr::Host { code, a, b } => copy_host(alloc, *code, a, b),
         }
     }
+}
+
+// What is cheap to let go is copied first, since each failure after it lets go of it.
+#[cycle(copy_expr)]
+fn copy_binary(
+    alloc: Global,
+    op: u8,
+    left: &Boxed<Expr>,
+    right: &Boxed<Expr>,
+) -> Result<Expr, NoMemory>
+    ensures { IfOk result (λ e. e ≡ Expr.Binary op left.now right.now) }
+{
+    Ok(Expr::Binary {
+        op,
+        left: copy_boxed(alloc, left)?,
+        right: copy_boxed(alloc, right)?,
+    })
+}
+
+#[cycle(copy_expr)]
+fn copy_host(
+    alloc: Global,
+    code: HostCode,
+    a: &Boxed<Expr>,
+    b: &Boxed<Expr>,
+) -> Result<Expr, NoMemory>
+    ensures { IfOk result (λ e. e ≡ Expr.Host code a.now b.now) }
+{
+    Ok(Expr::Host {
+        code,
+        a: copy_boxed(alloc, a)?,
+        b: copy_boxed(alloc, b)?,
+    })
+}
+
+#[cycle(copy_expr)]
+fn copy_cast(alloc: Global, of: &Boxed<Expr>, class: &ClassKey) -> Result<Expr, NoMemory>
+    ensures { IfOk result (λ e. e ≡ Expr.Cast class.now of.now) }
+{
+    Ok(Expr::Cast {
+        of: copy_boxed(alloc, of)?,
+        class: class.copy(alloc)?,
+    })
+}
+
+#[cycle(copy_expr)]
+fn copy_isa(alloc: Global, of: &Boxed<Expr>, class: &ClassKey) -> Result<Expr, NoMemory>
+    ensures { IfOk result (λ e. e ≡ Expr.Isa class.now of.now) }
+{
+    Ok(Expr::Isa {
+        of: copy_boxed(alloc, of)?,
+        class: class.copy(alloc)?,
+    })
+}
+
+#[cycle(copy_expr)]
+fn copy_proxy(alloc: Global, of: &Boxed<Expr>, class: &ClassKey) -> Result<Expr, NoMemory>
+    ensures { IfOk result (λ e. e ≡ Expr.Proxy class.now of.now) }
+{
+    Ok(Expr::Proxy {
+        of: copy_boxed(alloc, of)?,
+        class: class.copy(alloc)?,
+    })
+}
+
+#[cycle(copy_expr)]
+fn copy_offset_call(
+    alloc: Global,
+    method: &MethodRef,
+    args: &List<Expr>,
+    receiver: &Boxed<Expr>,
+) -> Result<Expr, NoMemory>
+    ensures { IfOk result (λ e. e ≡ Expr.OffsetCall method.now receiver.now args.now) }
+{
+    Ok(Expr::OffsetCall {
+        args: copy_exprs(alloc, args)?,
+        receiver: copy_boxed(alloc, receiver)?,
+        method: method.copy(alloc)?,
+    })
+}
+
+#[cycle(copy_expr)]
+fn copy_lookup(
+    alloc: Global,
+    kind: &ValueType,
+    name: &Text,
+    args: &List<Expr>,
+    receiver: &Boxed<Expr>,
+) -> Result<Expr, NoMemory>
+    ensures { IfOk result (λ e. e ≡ Expr.Lookup kind.now name.now receiver.now args.now) }
+{
+    Ok(Expr::Lookup {
+        args: copy_exprs(alloc, args)?,
+        receiver: copy_boxed(alloc, receiver)?,
+        name: name.copy(alloc)?,
+        result: kind.copy(alloc)?,
+    })
+}
+
+#[cycle(copy_expr)]
+fn copy_dispatch(
+    alloc: Global,
+    kind: &ValueType,
+    name: &Text,
+    args: &List<Expr>,
+    receiver: &Boxed<Expr>,
+) -> Result<Expr, NoMemory>
+    ensures { IfOk result (λ e. e ≡ Expr.Dispatch kind.now name.now receiver.now args.now) }
+{
+    Ok(Expr::Dispatch {
+        args: copy_exprs(alloc, args)?,
+        receiver: copy_boxed(alloc, receiver)?,
+        name: name.copy(alloc)?,
+        result: kind.copy(alloc)?,
+    })
+}
+
+#[cycle(copy_expr)]
+fn copy_parent_call(
+    alloc: Global,
+    parent: u8,
+    method: &MethodRef,
+    args: &List<Expr>,
+) -> Result<Expr, NoMemory>
+    ensures { IfOk result (λ e. e ≡ Expr.ParentCall parent method.now args.now) }
+{
+    Ok(Expr::ParentCall {
+        parent,
+        args: copy_exprs(alloc, args)?,
+        method: method.copy(alloc)?,
+    })
+}
+
+#[cycle(copy_expr)]
+fn copy_parents_call(alloc: Global, method: &MethodRef, args: &List<Expr>) -> Result<Expr, NoMemory>
+    ensures { IfOk result (λ e. e ≡ Expr.ParentsCall method.now args.now) }
+{
+    Ok(Expr::ParentsCall {
+        args: copy_exprs(alloc, args)?,
+        method: method.copy(alloc)?,
+    })
 }
 
 #[cycle(copy_expr)]
@@ -174,9 +279,9 @@ fn copy_var(alloc: Global, kind: &ValueType, value: &Expr) -> Result<Stmt, NoMem
 fn copy_if(alloc: Global, condition: &Expr, then: &Block, other: &Block) -> Result<Stmt, NoMemory>
     ensures { IfOk result (λ statement. statement ≡ Stmt.If condition.now then.now other.now) }
 {
-    let condition = condition.copy(alloc)?;
     let then = then.copy(alloc)?;
     let other = other.copy(alloc)?;
+    let condition = condition.copy(alloc)?;
     Ok(Stmt::If {
         condition,
         then,
@@ -188,7 +293,7 @@ fn copy_if(alloc: Global, condition: &Expr, then: &Block, other: &Block) -> Resu
 fn copy_while(alloc: Global, condition: &Expr, block: &Block) -> Result<Stmt, NoMemory>
     ensures { IfOk result (λ statement. statement ≡ Stmt.While condition.now block.now) }
 {
-    let condition = condition.copy(alloc)?;
     let block = block.copy(alloc)?;
+    let condition = condition.copy(alloc)?;
     Ok(Stmt::While { condition, block })
 }
