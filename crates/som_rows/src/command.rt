@@ -110,7 +110,11 @@ impl After<'_> {
         let Some(bytes) = self.get(name)? else {
             return Ok(());
         };
-        if self.files.get(name.as_slice()) != Some(bytes.as_slice()) {
+        let same = match self.files.get(name.as_slice()) {
+            Some(before) => before.as_slice() == bytes.as_slice(),
+            None => false,
+        };
+        if !same {
             let name = name.copy(self.alloc)?;
             self.changed.push(File { name, bytes })?;
         }

@@ -54,6 +54,9 @@ enum Form<'a> {
     },
 }
 
+// How many copies of a body are added at a time.
+const AT_A_TIME: u64 = 1_000;
+
 /// Replaces the forms of texts: repetitions, variables and numbers.
 #[derive(Clone, Copy)]
 pub struct Expansion<'v> {
@@ -71,14 +74,35 @@ impl Expansion<'_> {
             match self.form(form, turns, out)? {
                 Form::Written(after) => rest = after,
                 Form::Repeated { count, body, after } => {
-                    for turn in 0..count {
-                        self.expand(body, turns.within(turn), out)?;
+                    if body.contains(&b'$') {
+                        for turn in 0..count {
+                            self.expand(body, turns.within(turn), out)?;
+                        }
+                    } else {
+                        self.add_copies(body, count, out)?;
                     }
                     rest = after;
                 }
             }
         }
         out.extend_from_slice(rest)?;
+        Ok(())
+    }
+
+    // Adds a body without forms so often, as many at a time as there can be.
+    fn add_copies(&self, body: &[u8], count: u64, out: &mut Vec<u8>) -> Result<(), Wrong> {
+        if count >= AT_A_TIME {
+            let mut copies = Vec::new(self.alloc);
+            for _ in 0..AT_A_TIME {
+                copies.extend_from_slice(body)?;
+            }
+            for _ in 0..count / AT_A_TIME {
+                out.extend_from_slice(copies.as_slice())?;
+            }
+        }
+        for _ in 0..count % AT_A_TIME {
+            out.extend_from_slice(body)?;
+        }
         Ok(())
     }
 

@@ -98,7 +98,8 @@ impl Fields<'_> {
         match word {
             [b't', b':', bytes @ ..] => push_text(bytes, out),
             [b'=', name @ ..] => {
-                out.extend_from_slice(self.files.get(name).ok_or(Wrong::Unclear)?)?;
+                let bytes = self.files.get(name).ok_or(Wrong::Unclear)?;
+                out.extend_from_slice(bytes.as_slice())?;
                 Ok(())
             }
             [b'u', b'1', b'6', b':', number @ ..] => push_u16(number, out),

@@ -56,21 +56,21 @@ impl Files {
     }
 
     /// What a name holds.
-    pub fn get(&self, name: &[u8]) -> Option<&[u8]> {
+    pub fn get(&self, name: &[u8]) -> Option<&List<u8>> {
         held_by(self.entries.as_slice(), name)
     }
 
     /// What a name held when there were so many files.
-    pub fn get_among(&self, len: usize, name: &[u8]) -> Option<&[u8]> {
+    pub fn get_among(&self, len: usize, name: &[u8]) -> Option<&List<u8>> {
         held_by(self.entries.as_slice().get(..len)?, name)
     }
 }
 
 // What a name holds, by the last file of that name.
-fn held_by<'a>(files: &'a [File], name: &[u8]) -> Option<&'a [u8]> {
+fn held_by<'a>(files: &'a [File], name: &[u8]) -> Option<&'a List<u8>> {
     for file in files.iter().rev() {
         if file.name.is(name) {
-            return Some(file.bytes.as_slice());
+            return Some(&file.bytes);
         }
     }
     None

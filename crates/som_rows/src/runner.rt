@@ -9,6 +9,7 @@ use crate::table::{Kind, Line};
 use crate::words::{first_word, number_of, words_in};
 use crate::wrong::Wrong;
 use som_model::{List, NoMemory, Text};
+use som_trees::shown;
 use std::alloc::Global;
 
 /// Files that later cases can use by a name.
@@ -137,7 +138,8 @@ impl Runner {
             Kind::Command => self.run_command(line, after),
             Kind::Status => self.pass_status(line.rest),
             Kind::Wanted => self.check_file(line),
-            Kind::Shown | Kind::Each | Kind::Case | Kind::Unclear => Err(Wrong::Unclear),
+            Kind::Shown => self.check_shown(line),
+            Kind::Each | Kind::Case | Kind::Unclear => Err(Wrong::Unclear),
         }
     }
 
@@ -198,7 +200,7 @@ impl Runner {
                 let (other, change) = first_word(other);
                 let other = single_bytes(self.alloc, other)?;
                 let bytes = self.files.get(other.as_slice()).ok_or(Wrong::Unclear)?;
-                self.changed(bytes, change)
+                self.changed(bytes.as_slice(), change)
             }
             _ => Err(Wrong::Unclear),
         }
@@ -304,7 +306,6 @@ impl Runner {
     }
 
     fn check_file(&mut self, line: &Line<'_>) -> Result<(), Wrong> {
-        let last = self.last.ok_or(Wrong::Unclear)?;
         let head = self.expanded(line.rest)?;
         let (name, rest) = first_word(head.as_slice());
         let name = single_bytes(self.alloc, name)?;
@@ -317,6 +318,7 @@ impl Runner {
         match rest {
             b"absent" => self.report.compare(place, Value::Absent, got)?,
             b"same" => {
+                let last = self.last.ok_or(Wrong::Unclear)?;
                 let before = self.files.get_among(last.before, name.as_slice());
                 self.report.compare(place, value_of(before), got)?;
             }
@@ -326,6 +328,19 @@ impl Runner {
                     .compare(place, Value::Bytes(wanted.as_slice()), got)?;
             }
         }
+        Ok(())
+    }
+
+    // Compares the tokens or the tree of a file.
+    fn check_shown(&mut self, line: &Line<'_>) -> Result<(), Wrong> {
+        let head = self.expanded(line.rest)?;
+        let (kind, name) = first_word(head.as_slice());
+        let wanted = self.filled(line.block.as_slice())?;
+        let name = single_bytes(self.alloc, name)?;
+        let bytes = self.files.get(name.as_slice()).ok_or(Wrong::Unclear)?;
+        let got = shown(self.alloc, kind, bytes)?.ok_or(Wrong::Unclear)?;
+        let wanted = Value::Bytes(wanted.as_slice());
+        self.compare(line.number, kind, wanted, Value::Bytes(got.as_slice()))?;
         Ok(())
     }
 
@@ -345,9 +360,9 @@ impl Runner {
     }
 }
 
-fn value_of(bytes: Option<&[u8]>) -> Value<'_> {
+fn value_of(bytes: Option<&List<u8>>) -> Value<'_> {
     match bytes {
-        Some(bytes) => Value::Bytes(bytes),
+        Some(bytes) => Value::Bytes(bytes.as_slice()),
         None => Value::Absent,
     }
 }
