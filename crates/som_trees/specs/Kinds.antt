@@ -1,12 +1,12 @@
 -- The names of what may be asked for.
-use Rattle.std.specs.Prelude.{ℕ, List, Bool, codes, ◌or◌}
+use Rattle.std.specs.Prelude.{ℕ, List, Bool, codes, ◌||◌}
 use Rattle.std.specs.Str.{bytes_eq}
 
 -- whether something is shown under this name
 abbrev pub is_kind : List ℕ → Bool
 is_kind name =
     bytes_eq name (codes "tokens")
-    or bytes_eq name (codes "texts")
-    or bytes_eq name (codes "idl")
-    or bytes_eq name (codes "bodies")
-    or bytes_eq name (codes "main")
+    || bytes_eq name (codes "texts")
+    || bytes_eq name (codes "idl")
+    || bytes_eq name (codes "bodies")
+    || bytes_eq name (codes "main")

@@ -4,14 +4,14 @@ use crate::lines::Lines;
 use som_body::{ExprText, TypeName, Word};
 use som_model::{HostCode, List, NoMemory};
 
-fn host_form(code: HostCode) -> &'static str {
+fn host_name(code: HostCode) -> &'static str {
     match code {
-        HostCode::Min => "host(min ",
-        HostCode::Max => "host(max ",
-        HostCode::And => "host(and ",
-        HostCode::Or => "host(or ",
-        HostCode::Xor => "host(xor ",
-        HostCode::WrapAdd => "host(wrapadd ",
+        HostCode::Min => "host(min",
+        HostCode::Max => "host(max",
+        HostCode::And => "host(and",
+        HostCode::Or => "host(or",
+        HostCode::Xor => "host(xor",
+        HostCode::WrapAdd => "host(wrapadd",
     }
 }
 
@@ -26,8 +26,17 @@ impl Lines {
             ExprText::Name(word) => self.add_word(word),
             ExprText::Me => self.add("self"),
             ExprText::Variable(word) => self.add_part(".", word),
-            ExprText::Unary { op, of } => self.add_unary(*op, of.get()),
-            ExprText::Binary { op, left, right } => self.add_binary(*op, left.get(), right.get()),
+            ExprText::Unary { op, of } => {
+                self.add_operator("[u", *op)?;
+                self.add_next(of.get())?;
+                self.add("]")
+            }
+            ExprText::Binary { op, left, right } => {
+                self.add_operator("[", *op)?;
+                self.add_next(left.get())?;
+                self.add_next(right.get())?;
+                self.add("]")
+            }
             ExprText::New(word) => self.add_class("new(", word),
             ExprText::Class(word) => self.add_class("class(", word),
             ExprText::Manager => self.add("manager"),
@@ -40,7 +49,8 @@ impl Lines {
                 args,
             } => {
                 self.add("call(")?;
-                self.add_call(receiver.get(), method, args)
+                self.add_on(receiver.get(), method)?;
+                self.add_args(args)
             }
             ExprText::Lookup {
                 result,
@@ -49,7 +59,8 @@ impl Lines {
                 args,
             } => {
                 self.add_named("lookup(", result)?;
-                self.add_call(receiver.get(), method, args)
+                self.add_on(receiver.get(), method)?;
+                self.add_args(args)
             }
             ExprText::Dispatch {
                 result,
@@ -58,7 +69,8 @@ impl Lines {
                 args,
             } => {
                 self.add_named("dispatch(", result)?;
-                self.add_call(receiver.get(), method, args)
+                self.add_on(receiver.get(), method)?;
+                self.add_args(args)
             }
             ExprText::Parent {
                 parent,
@@ -74,50 +86,22 @@ impl Lines {
                 self.add_args(args)
             }
             ExprText::Host { code, a, b } => {
-                self.add(host_form(*code))?;
-                self.add_pair(a.get(), b.get())?;
+                self.add(host_name(*code))?;
+                self.add_next(a.get())?;
+                self.add_next(b.get())?;
                 self.add(")")
             }
         }
     }
 
-    #[cycle(expressions)]
-    fn add_pair(&mut self, left: &ExprText, right: &ExprText) -> Result<(), NoMemory> {
-        self.add_expr(left)?;
-        self.add(" ")?;
-        self.add_expr(right)
-    }
-
     // An operator goes by its number.
-    #[cycle(expressions)]
-    fn add_unary(&mut self, op: u8, of: &ExprText) -> Result<(), NoMemory> {
-        self.add("[u")?;
-        self.add_number(op as usize)?;
-        self.add(" ")?;
-        self.add_expr(of)?;
-        self.add("]")
-    }
-
-    #[cycle(expressions)]
-    fn add_binary(&mut self, op: u8, left: &ExprText, right: &ExprText) -> Result<(), NoMemory> {
-        self.add("[")?;
-        self.add_number(op as usize)?;
-        self.add(" ")?;
-        self.add_pair(left, right)?;
-        self.add("]")
+    fn add_operator(&mut self, form: &str, op: u8) -> Result<(), NoMemory> {
+        self.add(form)?;
+        self.add_number(op as usize)
     }
 
     fn add_class(&mut self, form: &str, class: &Word) -> Result<(), NoMemory> {
         self.add_part(form, class)?;
-        self.add(")")
-    }
-
-    // An expression of another, with a class.
-    #[cycle(expressions)]
-    fn add_of(&mut self, form: &str, class: &Word, of: &ExprText) -> Result<(), NoMemory> {
-        self.add_part(form, class)?;
-        self.add(" ")?;
-        self.add_expr(of)?;
         self.add(")")
     }
 
@@ -126,24 +110,33 @@ impl Lines {
         self.add_outcome(outcome)
     }
 
-    // The rest of a call, after what says which it is.
+    // A part of an expression, after a blank.
     #[cycle(expressions)]
-    fn add_call(
-        &mut self,
-        receiver: &ExprText,
-        method: &Word,
-        args: &List<ExprText>,
-    ) -> Result<(), NoMemory> {
-        self.add_expr(receiver)?;
-        self.add_part(" ", method)?;
-        self.add_args(args)
+    fn add_next(&mut self, part: &ExprText) -> Result<(), NoMemory> {
+        self.add(" ")?;
+        self.add_expr(part)
     }
 
+    // A form of a class and an expression.
+    #[cycle(expressions)]
+    fn add_of(&mut self, form: &str, class: &Word, of: &ExprText) -> Result<(), NoMemory> {
+        self.add_part(form, class)?;
+        self.add_next(of)?;
+        self.add(")")
+    }
+
+    // What a method is called on, and the method.
+    #[cycle(expressions)]
+    fn add_on(&mut self, receiver: &ExprText, method: &Word) -> Result<(), NoMemory> {
+        self.add_expr(receiver)?;
+        self.add_part(" ", method)
+    }
+
+    // Arguments, and the end of a call.
     #[cycle(expressions)]
     fn add_args(&mut self, args: &List<ExprText>) -> Result<(), NoMemory> {
         for arg in args.as_slice() {
-            self.add(" ")?;
-            self.add_expr(arg)?;
+            self.add_next(arg)?;
         }
         self.add(")")
     }

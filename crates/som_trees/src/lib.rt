@@ -5,9 +5,9 @@ mod expressions;
 mod interfaces;
 mod kind;
 mod lines;
-mod shown;
+mod show;
 mod statements;
 mod tokens;
 mod words;
 
-pub use shown::shown;
+pub use show::shown;
