@@ -137,7 +137,7 @@ kernel_once = once_after [] kernel (record { by = λ i j li lj e. absurd (omega 
 pub is_table : (cs : List Class) (names : List (List ℕ)) → AreDeclared cs → names ≡ map name_of (with_kernel cs) → first (each_after s1 kernel cs) ≡ None → IsTable cs names
 is_table cs names o e f = record { are = e; once = subst AreOnce (sym e) (once_after kernel cs kernel_once f); declared = o }
 
-drop_end : {A : Type 0} (xs : List A) (i : ℕ) → length xs ≤ i → drop i xs ≡ []
+pub drop_end : {A : Type 0} (xs : List A) (i : ℕ) → length xs ≤ i → drop i xs ≡ []
 drop_end [] zero le = refl
 drop_end [] (suc i) le = refl
 drop_end (x ∷ xs) zero le = absurd (omega arith)
@@ -148,6 +148,13 @@ take_end [] zero le = refl
 take_end [] (suc i) le = refl
 take_end (x ∷ xs) zero le = absurd (omega arith)
 take_end (x ∷ xs) (suc i) le = ap (λ z. x ∷ z) (take_end xs i (omega arith))
+
+-- a name that isn't known is added to those that are
+pub name_added : (seen new known : List (List ℕ)) (name : List ℕ) (is_new : Bool) → seen ≡ known → among name known ≡ false → is_new ≡ not (among name seen)
+    → new ≡ (if is_new then seen ++ name ∷ [] else seen) → new ≡ known ++ name ∷ []
+name_added seen new known name is_new same fresh is kept =
+    let e : is_new ≡ true = is ∙ ap (λ z. not (among name z)) same ∙ ap not fresh in
+    (if_new is_new (among name seen) seen new name e is kept).1 ∙ ap (λ z. z ++ name ∷ []) same
 
 -- the same of declared classes
 

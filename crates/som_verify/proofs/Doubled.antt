@@ -1,9 +1,13 @@
 -- What stands a second time.
-use Rattle.std.proofs.Common.{◌≡◌, ℕ, zero, suc, ◌+◌, ◌<◌, Bool, true, false, if◌then◌else◌, List, [], ◌∷◌, ◌++◌, length, take, drop, Some, slice_index_or, refl, ap, arith}
+use Rattle.std.proofs.Common.{◌≡◌, ℕ, zero, suc, ◌+◌, ◌<◌, Bool, true, false, if◌then◌else◌, List, [], ◌∷◌, ◌++◌, length, take, drop, Some, slice_index_or, Result, refl, ap, subst, arith}
 use Rattle.std.specs.Borrow.{Bor}
 use Rattle.std.specs.Str.{bytes_eq}
 use Rattle.som_model.specs.Lists.{first, doubles, some, among}
+use Rattle.som_model.specs.Class.{Class}
 use Rattle.som_order.specs.Names.{texts}
+use Rattle.som_verify.specs.declared.types.VerifyFault.{VerifyFault}
+use Rattle.som_verify.specs.Along.{doubles_breach}
+use Rattle.som_verify.specs.Told.{Tells}
 
 first_if : {A : Type 0} (b : Bool) (x : A) (xs ys : List A) → first (if b then x ∷ xs else ys) ≡ (if b then Some x else first ys)
 first_if true x xs ys = refl
@@ -28,3 +32,8 @@ pub take_last : {A : Type 0} (xs : List A) (i : ℕ) (d : A) → i < length xs �
 take_last [] i d lt = absurd (omega arith)
 take_last (x ∷ xs) zero d lt = refl
 take_last (x ∷ xs) (suc i) d lt = let e : suc i + 1 ≡ suc (i + 1) = omega arith in rw e (ap (λ z. x ∷ z) (take_last xs i d (omega arith)))
+
+-- what is told of names is told of the same names
+pub doubles_tell : (rule : ℕ) (c : Class) (shown names : List (List ℕ)) (r : Result (Unit {0}) VerifyFault) → shown ≡ names
+    → Tells (first (doubles_breach rule c shown)) r → Tells (first (doubles_breach rule c names)) r
+doubles_tell rule c shown names r is t = subst (λ (z : List (List ℕ)). Tells (first (doubles_breach rule c z)) r) is t

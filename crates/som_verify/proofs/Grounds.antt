@@ -1,5 +1,5 @@
 -- What typing is to know of classes that break no rule which looks into no block.
-use Rattle.std.proofs.Common.{◌≡◌, ℕ, List, ◌++◌, take, drop, flat_map, Option, None, Err, refl, sym, ◌∙◌, subst}
+use Rattle.std.proofs.Common.{◌≡◌, ℕ, List, ◌++◌, take, drop, flat_map, Option, None, Result, Ok, Err, IfErr, refl, sym, ◌∙◌, subst}
 use Rattle.som_model.specs.Lists.{first, or_else}
 use Rattle.som_model.specs.Class.{Class}
 use Rattle.som_model.specs.Conforming.{each_after, first_of_names, first_of_members}
@@ -8,10 +8,11 @@ use Rattle.som_model.specs.Rules.{Breach, s1, s2, s3, s4, s5, s14}
 use Rattle.som_verify.specs.declared.types.VerifyFault.{VerifyFault}
 use Rattle.som_verify.specs.declared.types.VerifyFault.TheVariants as faults
 use Rattle.som_verify.specs.Bodies.{AllSigsKnown}
-use Rattle.som_verify.specs.Faces.{classes_breach, rules_breach}
+use Rattle.som_verify.specs.Faces.{classes_breach, rules_breach, standing_breach}
 use Rattle.som_verify.specs.Places.{with_kernel}
 use Rattle.som_verify.specs.Told.{Tells}
 use Rattle.som_verify.proofs.Before.{none_both}
+use Rattle.som_verify.proofs.Conformity.{both_none}
 use Rattle.som_verify.proofs.NamesKnown.{declared_sig}
 use Rattle.som_verify.proofs.PlainFaces.{or_none}
 use Rattle.som_verify.proofs.PlainMembers.{types_say}
@@ -27,6 +28,17 @@ wants_memory o e is = subst (λ (z : VerifyFault). Tells {A = Unit {0}} o (Err z
 
 pub names_apart : (cs : List Class) → first_of_names kernel cs ≡ None → first (each_after s1 kernel cs) ≡ None
 names_apart cs e = (or_none (first (each_after s1 kernel cs)) (or_else (first (each_after s2 kernel cs)) (or_else (first (flat_map s3 cs)) (first (flat_map (s4 (with_kernel cs)) cs)))) e).0
+
+pub parents_apart : (cs : List Class) → first_of_names kernel cs ≡ None → standing_breach cs ≡ None
+parents_apart cs e =
+    let later = (or_none (first (each_after s1 kernel cs)) (or_else (first (each_after s2 kernel cs)) (or_else (first (flat_map s3 cs)) (first (flat_map (s4 (with_kernel cs)) cs)))) e).1 in
+    let two = or_none (first (each_after s2 kernel cs)) (or_else (first (flat_map s3 cs)) (first (flat_map (s4 (with_kernel cs)) cs))) later in
+    both_none (first (each_after s2 kernel cs)) (first (flat_map s3 cs)) two.0 (or_none (first (flat_map s3 cs)) (first (flat_map (s4 (with_kernel cs)) cs)) two.1).0
+
+-- the same of what a pass answers
+pub only_memory : {A : Type 0} (o : Option Breach) (r : Result A VerifyFault) → o ≡ None → Tells o r → IfErr r (λ e. e ≡ faults.NoMemory)
+only_memory o (Ok x) none t = tt
+only_memory o (Err e) none t = no_breach o e none t
 
 module _ (cs : List Class) (n : ℕ) (rules : rules_breach n cs ≡ None) where
   pub faces_none : classes_breach n cs ≡ None

@@ -14,6 +14,7 @@ pub mod Descending
 pub mod Sets
 pub mod Owners
 pub mod Inheriting
+pub mod Overriding
 pub mod Conformity
 pub mod PlainLists
 pub mod PlainNames

@@ -13,3 +13,7 @@ introduced_at cs place = introduced (face_at cs place).entries
 -- what breaks S8, by the places of a class's ancestors
 abbrev pub s8_at : List Class → List ℕ → Class → List Breach
 s8_at cs list c = map (breach 8 c) (doubles bytes_eq [] (flat_map (introduced_at cs) list))
+
+-- what breaks a rule that names differ
+abbrev pub doubles_breach : ℕ → Class → List (List ℕ) → List Breach
+doubles_breach rule c names = map (breach rule c) (doubles bytes_eq [] names)

@@ -91,6 +91,14 @@ of_one part form = value part >>= form
 abbrev pub of_all : List Typed → (List ExprType → Typed) → Typed
 of_all parts form = values parts >>= form
 
+-- what a form comes to, by what its part does
+abbrev pub then : {A : Type 0} → Ruled A → (A → Typed) → Typed
+then part form = part >>= form
+
+-- the type of an expression, by a type that is looked up
+abbrev pub as_type : Ruled ValueType → Typed
+as_type ruled = ruled >>= λ kind. Ok (Of kind)
+
 abbrev pub class_by : List Class → Option ℕ → Option Class
 class_by cs None = None
 class_by cs (Some place) = Some (class_of_place cs place)

@@ -33,9 +33,9 @@ pub fn parts_of<'a>(alloc: Global, classes: &[Declared<'a>]) -> Result<Parts<'a>
     ensures parts { IfOk result (AreParts (classes_of classes.now)) }
     ensures fault { IfErr result (λ e. e ≡ faults.NoMemory) }
 {
+    let lists = declared_ancestors(alloc, classes)?;
     let kernel = kernel_faces(alloc)?;
     let table = class_names(alloc, classes)?;
-    let lists = declared_ancestors(alloc, classes)?;
     Ok(Parts {
         table,
         kernel,

@@ -11,9 +11,8 @@ ghost use Rattle.som_verify.specs.Walk.{AreLists};
 ghost use Rattle.som_verify.specs.declared.types.VerifyFault.TheVariants as faults;
 ghost use Rattle.std.specs.Prelude.{◌≡◌, ◌<◌, List as Seq, length, IfErr, IfOk, None};
 
-use crate::ancestry::{ancestors, has_place, item};
-use crate::classes::declare;
-use crate::parents::parents_stand;
+use crate::ancestry::{has_place, item};
+use crate::classes::{declare, standing_ancestors};
 use crate::table::class_names;
 use crate::types::{Declared, VerifyFault};
 use som_model::{ClassDecl, List, Module, NoMemory};
@@ -48,8 +47,7 @@ fn walk(alloc: Global, classes: &[Declared]) -> Result<Vec<List<usize>>, VerifyF
     ensures fault { IfErr result (λ e. e ≡ faults.NoMemory) }
 {
     let table = class_names(alloc, classes)?;
-    let rows = parents_stand(alloc, &table, classes)?;
-    Ok(ancestors(alloc, &rows)?)
+    standing_ancestors(alloc, &table, classes)
 }
 
 /// Whether the class at a place descends from that at another.

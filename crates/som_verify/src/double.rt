@@ -10,13 +10,23 @@ use som_order::note_name;
 use std::alloc::Global;
 
 /// The first name that stands a second time.
-#[tactic(auto, using(crate::proofs::Doubled::doubled))]
 pub fn first_double<'a>(alloc: Global, names: &[&'a [u8]]) -> Result<Option<&'a [u8]>, NoMemory>
     ensures { IfOk result (λ double. option_copied double ≡ first (doubles bytes_eq [] (texts names.now))) }
 {
     let mut seen = IndexSet::new(alloc);
+    double_after(&mut seen, names)
+}
+
+// The first name that stands a second time, after those that were seen.
+#[tactic(auto, using(crate::proofs::Doubled::doubled))]
+fn double_after<'a>(
+    seen: &mut IndexSet<&'a [u8]>,
+    names: &[&'a [u8]],
+) -> Result<Option<&'a [u8]>, NoMemory>
+    ensures { IfOk result (λ double. option_copied double ≡ first (doubles bytes_eq (texts seen.old.keys) (texts names.now))) }
+{
     for name in names {
-        if !note_name(&mut seen, *name)? {
+        if !note_name(seen, *name)? {
             return Ok(Some(*name));
         }
     }

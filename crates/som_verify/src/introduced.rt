@@ -12,8 +12,9 @@ ghost use Rattle.som_verify.specs.declared.types.Declared.{Declared as Known};
 ghost use Rattle.std.specs.Prelude.{◌≡◌, ◌<◌, ◌+◌, ◌++◌, ℕ, [], drop, length, flat_map, slice_get, slice_index_or, OnOk, Some};
 
 use crate::ancestry::item;
-use crate::double::{add, first_double};
-use crate::pass::{breach, each_class};
+use crate::double::add;
+use crate::members::each_once;
+use crate::pass::each_class;
 use crate::table::KERNEL_CLASSES;
 use crate::types::{Declared, VerifyFault};
 use som_model::{ClassFace, Entry, List, NoMemory};
@@ -64,10 +65,10 @@ fn introduced_once_in(
     introduced_once_along(alloc, kernel, classes, list, &classes[place])
 }
 
-fn introduced_once_along(
+fn introduced_once_along<'a>(
     alloc: Global,
-    kernel: &[ClassFace],
-    classes: &[Declared],
+    kernel: &'a [ClassFace],
+    classes: &[Declared<'a>],
     list: &[usize],
     class: &Declared,
 ) -> Result<(), VerifyFault>
@@ -77,10 +78,7 @@ fn introduced_once_along(
 {
     let mut names = Vec::new(alloc);
     add_along(&mut names, kernel, classes, list)?;
-    match first_double(alloc, &names)? {
-        None => Ok(()),
-        Some(name) => Err(breach(alloc, 8, class.decl, name)?),
-    }
+    each_once(alloc, 8, class, &names)
 }
 
 fn add_along<'a>(

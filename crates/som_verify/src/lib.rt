@@ -22,6 +22,7 @@ mod metaclasses;
 mod moved;
 mod overrides;
 mod parents;
+mod parts;
 mod pass;
 mod plain_statements;
 mod program;

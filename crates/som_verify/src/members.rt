@@ -1,14 +1,17 @@
-ghost use Rattle.som_model.specs.Class.{entry_name, introduced};
+ghost use Rattle.som_model.specs.Class.{entry_name};
 ghost use Rattle.som_model.specs.Lists.{first};
 ghost use Rattle.som_model.specs.Rules.{s3, s6, s7};
+ghost use Rattle.som_order.specs.Names.{texts};
+ghost use Rattle.som_verify.specs.Along.{doubles_breach};
 ghost use Rattle.som_verify.specs.Modules.{class_of, classes_of};
-ghost use Rattle.som_verify.specs.Told.{Tells, told};
+ghost use Rattle.som_verify.specs.Told.{Tells};
 ghost use Rattle.som_verify.specs.declared.types.Declared.{Declared as Known};
-ghost use Rattle.std.specs.Prelude.{◌≡◌, ◌<◌, length, flat_map, slice_get, Some};
+ghost use Rattle.std.specs.Prelude.{◌≡◌, ◌<◌, length, map, flat_map, slice_get, IfOk, Some};
 
 use crate::double::{add, first_double, has_double};
 use crate::pass::{breach, each_class};
 use crate::types::{Declared, VerifyFault};
+use som_model::{Entry, NoMemory, Variable};
 use som_order::name_of;
 use std::alloc::Global;
 
@@ -54,14 +57,18 @@ pub fn entries_differ(alloc: Global, classes: &[Declared]) -> Result<(), VerifyF
 fn own_entries_differ(alloc: Global, class: &Declared) -> Result<(), VerifyFault>
     ensures { Tells (first (s6 (class_of class.now))) result }
 {
+    let names = entry_names(alloc, class.decl.face.entries.as_slice())?;
+    each_once(alloc, 6, class, &names)
+}
+
+fn entry_names(alloc: Global, entries: &[Entry]) -> Result<Vec<&[u8]>, NoMemory>
+    ensures { IfOk result (λ names. texts names.items ≡ map entry_name entries.now) }
+{
     let mut names = Vec::new(alloc);
-    for entry in class.decl.face.entries.as_slice() {
+    for entry in entries {
         add(&mut names, name_of(entry).as_slice())?;
     }
-    match first_double(alloc, &names)? {
-        None => Ok(()),
-        Some(name) => Err(breach(alloc, 6, class.decl, name)?),
-    }
+    Ok(names)
 }
 
 /// The names of a class's variables are distinct.
@@ -82,12 +89,31 @@ pub fn variables_differ(alloc: Global, classes: &[Declared]) -> Result<(), Verif
 fn own_variables_differ(alloc: Global, class: &Declared) -> Result<(), VerifyFault>
     ensures { Tells (first (s7 (class_of class.now))) result }
 {
+    let names = variable_names(alloc, class.decl.variables.as_slice())?;
+    each_once(alloc, 7, class, &names)
+}
+
+fn variable_names(alloc: Global, variables: &[Variable]) -> Result<Vec<&[u8]>, NoMemory>
+    ensures { IfOk result (λ names. texts names.items ≡ map (λ v. v.name) variables.now) }
+{
     let mut names = Vec::new(alloc);
-    for variable in class.decl.variables.as_slice() {
+    for variable in variables {
         add(&mut names, variable.name.as_slice())?;
     }
-    match first_double(alloc, &names)? {
+    Ok(names)
+}
+
+/// A rule that no name stands twice, for some names of a class.
+pub fn each_once(
+    alloc: Global,
+    rule: u8,
+    class: &Declared,
+    names: &[&[u8]],
+) -> Result<(), VerifyFault>
+    ensures { Tells (first (doubles_breach rule (class_of class.now) (texts names.now))) result }
+{
+    match first_double(alloc, names)? {
         None => Ok(()),
-        Some(name) => Err(breach(alloc, 7, class.decl, name)?),
+        Some(name) => Err(breach(alloc, rule, class.decl, name)?),
     }
 }

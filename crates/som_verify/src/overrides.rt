@@ -64,14 +64,14 @@ pub fn overrides_inherited(
     )
 }
 
-fn own_overrides_inherited(
+fn own_overrides_inherited<'a>(
     alloc: Global,
     table: &IndexSet<&[u8]>,
-    kernel: &[ClassFace],
-    classes: &[Declared],
+    kernel: &'a [ClassFace],
+    classes: &[Declared<'a>],
     lists: &[List<usize>],
     place: usize,
-    class: &Declared,
+    class: &Declared<'a>,
 ) -> Result<(), VerifyFault>
     requires table { IsTable (classes_of classes.now) (texts table.now.keys) }
     requires kernel { kernel.now ≡ kernel_interface.classes }
@@ -82,10 +82,41 @@ fn own_overrides_inherited(
         (key_at (with_kernel (classes_of classes.now)) place) (class_of class.now) [] class.now.decl.now.overrides)) result }
 {
     let mut before = Vec::new(alloc);
+    overrides_follow(
+        alloc,
+        table,
+        kernel,
+        classes,
+        lists,
+        place,
+        class,
+        &mut before,
+    )
+}
+
+// The same, after the overrides of these methods.
+fn overrides_follow<'a>(
+    alloc: Global,
+    table: &IndexSet<&[u8]>,
+    kernel: &'a [ClassFace],
+    classes: &[Declared<'a>],
+    lists: &[List<usize>],
+    place: usize,
+    class: &Declared<'a>,
+    before: &mut Vec<Method<'a>>,
+) -> Result<(), VerifyFault>
+    requires table { IsTable (classes_of classes.now) (texts table.now.keys) }
+    requires kernel { kernel.now ≡ kernel_interface.classes }
+    requires lists { AreLists (with_kernel (classes_of classes.now)) lists.now }
+    requires moved { first (flat_map (s9 (with_kernel (classes_of classes.now))) (classes_of classes.now)) ≡ None }
+    requires place { place < length (with_kernel (classes_of classes.now)) }
+    ensures { Tells (first (overrides_from (with_kernel (classes_of classes.now))
+        (key_at (with_kernel (classes_of classes.now)) place) (class_of class.now) (map method_of before.old.items) class.now.decl.now.overrides)) result }
+{
     let decl = class.decl;
     for item in decl.overrides.as_slice() {
         let method = owner_of(table, kernel, classes, &item.method);
-        if !may_override(table, kernel, classes, lists, place, &before, &method) {
+        if !may_override(table, kernel, classes, lists, place, before, &method) {
             return Err(breach(alloc, 10, decl, item.method.name.as_slice())?);
         }
         before.push(method)?;

@@ -8,7 +8,7 @@ ghost use Rattle.som_order.specs.Names.{texts};
 ghost use Rattle.som_verify.specs.Modules.{classes_of};
 ghost use Rattle.som_verify.specs.Places.{Finds, IsTable, module_at, with_kernel};
 ghost use Rattle.som_verify.specs.Told.{Tells};
-ghost use Rattle.std.specs.Prelude.{◌≡◌, ◌<◌, length, map, IfOk};
+ghost use Rattle.std.specs.Prelude.{◌≡◌, ◌<◌, [], length, map, IfOk, OnOk};
 
 use crate::pass::breach;
 use crate::types::{Declared, VerifyFault};
@@ -35,24 +35,46 @@ pub fn class_names<'a>(
     ensures table { IfOk result (λ table. IsTable (classes_of classes.now) (texts table.keys)) }
 {
     let mut seen = kernel_names(alloc)?;
+    note_classes(alloc, &mut seen, classes)?;
+    Ok(seen)
+}
+
+// Notes the names of classes after the kernel's, if no two are one.
+fn note_classes<'a>(
+    alloc: Global,
+    seen: &mut IndexSet<&'a [u8]>,
+    classes: &[Declared<'a>],
+) -> Result<(), VerifyFault>
+    requires { texts seen.old.keys ≡ map name_of kernel }
+    ensures tells { Tells (first (each_after s1 kernel (classes_of classes.now))) result }
+    ensures table { OnOk result (IsTable (classes_of classes.now) (texts seen.new.keys)) }
+{
     for class in classes {
         let decl = class.decl;
-        if !note_name(&mut seen, decl.face.name.as_slice())? {
+        if !note_name(seen, decl.face.name.as_slice())? {
             return Err(breach(alloc, 1, decl, b"-")?);
         }
     }
-    Ok(seen)
+    Ok(())
 }
 
 fn kernel_names<'a>(alloc: Global) -> Result<IndexSet<&'a [u8]>, NoMemory>
     ensures { IfOk result (λ names. texts names.keys ≡ map name_of kernel) }
 {
     let mut names = IndexSet::new(alloc);
-    let _first = note_name(&mut names, b"SOMObject")?;
-    let _second = note_name(&mut names, b"SOMClass")?;
-    let _third = note_name(&mut names, b"SOMClassMgr")?;
-    let _fourth = note_name(&mut names, b"SOMMBeforeAfter")?;
+    note_kernel(&mut names)?;
     Ok(names)
+}
+
+fn note_kernel<'a>(names: &mut IndexSet<&'a [u8]>) -> Result<(), NoMemory>
+    requires { texts names.old.keys ≡ [] }
+    ensures { OnOk result (texts names.new.keys ≡ map name_of kernel) }
+{
+    let _first = note_name(names, b"SOMObject")?;
+    let _second = note_name(names, b"SOMClass")?;
+    let _third = note_name(names, b"SOMClassMgr")?;
+    let _fourth = note_name(names, b"SOMMBeforeAfter")?;
+    Ok(())
 }
 
 /// The place of a class, if it is below the limit.

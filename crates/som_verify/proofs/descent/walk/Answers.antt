@@ -1,12 +1,12 @@
-use Rattle.std.proofs.Common.{refl}
-use Rattle.som_order.specs.Names.{texts}
+use Rattle.std.proofs.lemmas.Result.{err_from_is_err_and}
 use Rattle.som_verify.specs.Modules.{classes_of}
-use Rattle.som_verify.proofs.KeyLists.{lists_of}
+use Rattle.som_verify.proofs.Grounds.{names_apart, no_breach, only_memory, parents_apart}
 use Rattle.som_verify.proofs.descent.walk.Goals as goal
 
-pub ancestors-requires : goal.ancestors-requires
-ancestors-requires c = λ i p m. c.in_ok-rows.ensures.rows.low i p (rw c.deref.ensures.value at m)
+pub returns-in_err-table-clause-fault : goal.returns-in_err-table-clause-fault
+returns-in_err-table-clause-fault c =
+    let p = err_from_is_err_and c.from_residual.result c.from_residual.ensures.1 in
+    rw (p.1, p.2) (no_breach _ c.in_err-table.field-0.0 (names_apart (classes_of c.args.classes.now) c.requires) c.in_err-table.ensures.tells)
 
-pub returns-clause-lists : goal.returns-clause-lists
-returns-clause-lists c = lists_of (classes_of c.args.classes.now) (texts c.in_ok-table.table.keys) c.in_ok-table.ensures.table c.in_ok-rows.rows.items c.deref.result.now c.in_ok-ancestors.field-0.items
-    c.in_ok-ancestors.field-0.items c.in_ok-rows.ensures.rows c.deref.ensures.value c.in_ok-ancestors.ensures refl
+pub returns-clause-fault : goal.returns-clause-fault
+returns-clause-fault c = only_memory _ c.standing_ancestors.result (parents_apart (classes_of c.args.classes.now) c.requires) c.standing_ancestors.ensures.tells
