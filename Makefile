@@ -5,7 +5,12 @@ HELLO = ../../examples/hello
 ZOO = ../../examples/zoo
 RELEASES = zoo1 zoo2 zoo3 zoo4 zoo5 zoo6
 
-.PHONY: hello examples test
+.PHONY: try hello examples test
+
+# shows a few commands with what they print, and runs them with no proof: the run tells where what comes differs
+try:
+	cat crates/som_rows/data/try.rows
+	cd crates/som_rows && rt try --steps 1 --data fixtures.rows=data/fixtures.rows --data try.rows=data/try.rows -- fixtures.rows try.rows
 
 # builds the proved program, compiles the first two images from their texts, looks whether they are those that stand byte by
 # byte in docs/IMAGES.md, and runs them
