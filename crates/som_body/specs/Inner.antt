@@ -4,8 +4,9 @@ use denote.Ref.{Bor, MutBor}
 use Rattle.std.specs.declared.alloc.Global.{Global}
 use Rattle.som_lex.specs.declared.token.Tokens.{Tokens}
 use Rattle.som_read.specs.Answer.{Answers}
-use Rattle.som_read.specs.Readers.{Parser, ◌>>=◌, after}
-use Rattle.som_read.specs.Tokens.{is_sign}
+use Rattle.som_read.specs.Readers.{Parser, ◌>>=◌, after, when}
+use Rattle.som_read.specs.Tokens.{is_sign, is_key}
+use Rattle.som_read.specs.declared.token.Key.TheVariants as key
 use Rattle.som_read.specs.declared.token.Sign.TheVariants as sign
 use Rattle.som_read.specs.declared.tree.Word.{Word}
 use Rattle.som_read.specs.Seen.{text_at}
@@ -16,7 +17,7 @@ use Rattle.som_read.specs.declared.cursor.Turn.TheVariants.{More, Done}
 use Rattle.som_read.specs.declared.token.Token.{Token}
 use Rattle.som_body.specs.Grammar.{or_operator, and_operator, comparison, sum_operator, product_operator}
 use Rattle.som_body.specs.Reading.{at, named_height, tall}
-use Rattle.som_body.specs.StatementReading.{ending, steps_from, finish}
+use Rattle.som_body.specs.StatementReading.{ending, returned, begins_name, own_statement, named_statement, call_statement, steps_from, finish}
 use Rattle.som_body.specs.declared.level.Given.{Given}
 use Rattle.som_body.specs.declared.level.Line.{Line}
 use Rattle.som_body.specs.declared.level.Line.TheVariants as line
@@ -67,3 +68,8 @@ pub record Reads (t : Tokens) (depth : ℕ) (pre : Global → Bor Tokens → Mut
 -- a statement after "somThis", "." and the word
 abbrev pub own_rest : (ℕ → List ℕ) → ℕ → Word → Parser StmtText
 own_rest text_at e m = after (is_sign sign.Assign) (ending text_at e (λ a. stmt.SetVariable m a)) (steps_from text_at e (tall (expr.Variable m) 1) >>= finish)
+
+-- a statement that begins with "return", "print", "free" or an expression
+abbrev pub plain_statement : (ℕ → List ℕ) → ℕ → Parser StmtText
+plain_statement text_at e = after (is_key key.Return) (returned text_at e) (after (is_key key.Print) (ending text_at e (λ a. stmt.Print a)) (after (is_key key.Free) (ending text_at e (λ a. stmt.Free a))
+    (after (is_key key.SomThis) (own_statement text_at e) (when begins_name (named_statement text_at e) (call_statement text_at e)))))

@@ -1,5 +1,6 @@
 //! Statements and blocks, which hold one another.
 
+ghost use Rattle.som_body.specs.Inner.{plain_statement as plain_statement_of};
 ghost use Rattle.som_body.specs.StatementReading as spec;
 ghost use Rattle.som_read.specs.Answer.{Answers};
 ghost use Rattle.som_read.specs.Readers.{keeping, one_more, repeated};
@@ -170,15 +171,28 @@ fn if_statement(
     })
 }
 
-fn other_statement(
+// A statement that begins with `return`, `print`, `free` or an expression.
+fn plain_statement(
     alloc: Global,
     tokens: &Tokens,
     left: &mut Cursor<'_>,
     depth: usize,
 ) -> Result<StmtText, Stop>
     requires { depth ≤ 32 }
-    ensures { Answers (spec.other_statement (text_at tokens.now) (spec.statement_at (text_at tokens.now) depth) (spec.if_at (text_at tokens.now) depth) depth left.old.rest.now) result left.new.rest.now }
+    ensures { Answers (plain_statement_of (text_at tokens.now) depth left.old.rest.now) result left.new.rest.now }
 {
+    if left.sees_word(Key::Return) {
+        left.skip();
+        return returned(alloc, tokens, left, depth);
+    }
+    if left.sees_word(Key::Print) {
+        left.skip();
+        return printed(alloc, tokens, left, depth);
+    }
+    if left.sees_word(Key::Free) {
+        left.skip();
+        return freed(alloc, tokens, left, depth);
+    }
     if left.sees_word(Key::SomThis) {
         left.skip();
         return own(alloc, tokens, left, depth);
@@ -212,19 +226,7 @@ fn statement(
         left.skip();
         return while_statement(alloc, tokens, left, depth);
     }
-    if left.sees_word(Key::Return) {
-        left.skip();
-        return returned(alloc, tokens, left, depth);
-    }
-    if left.sees_word(Key::Print) {
-        left.skip();
-        return printed(alloc, tokens, left, depth);
-    }
-    if left.sees_word(Key::Free) {
-        left.skip();
-        return freed(alloc, tokens, left, depth);
-    }
-    other_statement(alloc, tokens, left, depth)
+    plain_statement(alloc, tokens, left, depth)
 }
 
 // A statement where `depth` levels are left.

@@ -9,7 +9,7 @@ use som_read::Word;
 use std::alloc::Global;
 
 /// A line of the grammar, by what binds loosest in it.
-#[derive(Clone, Copy, Debug, PartialEq, Eq)]
+#[derive(Clone, Copy)]
 pub(crate) enum Line {
     Expr,
     Conj,

@@ -108,18 +108,13 @@ impl<'t, F: Fn(Global, &Tokens, &mut Cursor<'_>, usize, Line) -> Result<Tall, St
             return Err(Stop::Nesting);
         }
         left.skip();
-        let last = any_word(self.alloc, self.tokens, left)?;
-        let args = self.arguments(left)?;
-        let NamedCall {
+        let receiver = called(self.alloc, so_far.receiver, so_far.method, so_far.given)?;
+        let method = any_word(self.alloc, self.tokens, left)?;
+        let given = self.arguments(left)?;
+        Ok(Turn::More(NamedCall {
             receiver,
             method,
             given,
-        } = so_far;
-        let receiver = called(self.alloc, receiver, method, given)?;
-        Ok(Turn::More(NamedCall {
-            receiver,
-            method: last,
-            given: args,
         }))
     }
 
