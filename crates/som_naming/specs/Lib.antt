@@ -6,3 +6,4 @@ pub mod BlockLimits
 pub mod ReadyBlocks
 pub mod FoundNames
 pub mod KnownNumbers
+pub mod Forms

@@ -118,9 +118,9 @@ fn name_if(
     requires other { block_known directory.now other.now ≡ true }
     ensures { IfOk result (λ named. named ≡ stmts.If (expr_named directory.now condition.now) (block_named directory.now then.now) (block_named directory.now other.now)) }
 {
-    let condition = name_expr(alloc, directory, condition)?;
     let then = name_inner(alloc, directory, then)?;
     let other = name_inner(alloc, directory, other)?;
+    let condition = name_expr(alloc, directory, condition)?;
     Ok(Stmt::If {
         condition,
         then,
@@ -139,7 +139,7 @@ fn name_while(
     requires block { block_known directory.now block.now ≡ true }
     ensures { IfOk result (λ named. named ≡ stmts.While (expr_named directory.now condition.now) (block_named directory.now block.now)) }
 {
-    let condition = name_expr(alloc, directory, condition)?;
     let block = name_inner(alloc, directory, block)?;
+    let condition = name_expr(alloc, directory, condition)?;
     Ok(Stmt::While { condition, block })
 }

@@ -141,9 +141,9 @@ fn number_if(
     requires other { block_found directory.now other.now ≡ true }
     ensures { IfOk result (λ numbered. numbered ≡ stmts.If (expr_numbered directory.now condition.now) (block_numbered directory.now then.now) (block_numbered directory.now other.now)) }
 {
-    let condition = number_expr(alloc, directory, names, condition)?;
     let then = number_inner(alloc, directory, names, then)?;
     let other = number_inner(alloc, directory, names, other)?;
+    let condition = number_expr(alloc, directory, names, condition)?;
     Ok(WireStmt::If {
         condition,
         then,
@@ -164,7 +164,7 @@ fn number_while(
     requires block { block_found directory.now block.now ≡ true }
     ensures { IfOk result (λ numbered. numbered ≡ stmts.While (expr_numbered directory.now condition.now) (block_numbered directory.now block.now)) }
 {
-    let condition = number_expr(alloc, directory, names, condition)?;
     let block = number_inner(alloc, directory, names, block)?;
+    let condition = number_expr(alloc, directory, names, condition)?;
     Ok(WireStmt::While { condition, block })
 }

@@ -1,7 +1,6 @@
-ghost use Rattle.som_blocks.specs.declared.syntax.WireExpr.TheVariants as exprs;
-ghost use Rattle.som_model.specs.Blocks.{is_call};
-ghost use Rattle.som_naming.specs.FoundNames.{all_found, expr_found, has_number, has_slot, kind_found};
-ghost use Rattle.som_naming.specs.Numbering.{IsDirectory, kind_numbered, method_numbered, number_of};
+ghost use Rattle.som_naming.specs.Forms.{is_operation, is_receiver_call};
+ghost use Rattle.som_naming.specs.FoundNames.{all_found, expr_found};
+ghost use Rattle.som_naming.specs.Numbering.{IsDirectory};
 ghost use Rattle.som_naming.specs.NumberedBlocks.{expr_numbered};
 ghost use Rattle.som_order.specs.Names.{texts};
 ghost use Rattle.std.specs.List.{list_all};
@@ -11,7 +10,7 @@ use crate::Directory;
 use crate::found::{number_class, number_kind, number_method};
 use indexmap::IndexSet;
 use som_blocks::WireExpr;
-use som_model::{Boxed, ClassKey, Expr, HostCode, List, MethodRef, NoMemory, Text, ValueType};
+use som_model::{Boxed, Expr, List, NoMemory};
 use std::alloc::Global;
 
 /// The expression of an image that stands for an expression.
@@ -34,298 +33,125 @@ pub(crate) fn number_expr(
         Expr::Local(local) => Ok(WireExpr::Local(*local)),
         Expr::Me => Ok(WireExpr::Me),
         Expr::Variable(variable) => Ok(WireExpr::Variable(*variable)),
-        Expr::Unary { op, of } => number_unary(alloc, directory, names, of, *op),
-        Expr::Binary { op, left, right } => {
-            let left = number_boxed(alloc, directory, names, left)?;
-            number_binary(alloc, directory, names, right, *op, left)
-        }
+        Expr::Unary { .. } => number_operation(alloc, directory, names, expr),
+        Expr::Binary { .. } => number_operation(alloc, directory, names, expr),
         Expr::New(class) => Ok(WireExpr::New(number_class(directory, names, class))),
         Expr::Class(class) => Ok(WireExpr::Class(number_class(directory, names, class))),
         Expr::Manager => Ok(WireExpr::Manager),
-        Expr::Cast { class, of } => number_cast(alloc, directory, names, of, class),
-        Expr::Isa { class, of } => number_isa(alloc, directory, names, of, class),
-        Expr::Proxy { class, of } => number_proxy(alloc, directory, names, of, class),
-        Expr::OffsetCall { .. } => number_call(alloc, directory, names, expr),
-        Expr::Lookup { .. } => number_call(alloc, directory, names, expr),
-        Expr::Dispatch { .. } => number_call(alloc, directory, names, expr),
-        Expr::ParentCall { .. } => number_call(alloc, directory, names, expr),
-        Expr::ParentsCall { .. } => number_call(alloc, directory, names, expr),
-        Expr::Host { code, a, b } => {
-            let a = number_boxed(alloc, directory, names, a)?;
-            number_host(alloc, directory, names, b, *code, a)
-        }
+        Expr::Cast { .. } => number_operation(alloc, directory, names, expr),
+        Expr::Isa { .. } => number_operation(alloc, directory, names, expr),
+        Expr::Proxy { .. } => number_operation(alloc, directory, names, expr),
+        Expr::OffsetCall { .. } => number_receiver_call(alloc, directory, names, expr),
+        Expr::Lookup { .. } => number_receiver_call(alloc, directory, names, expr),
+        Expr::Dispatch { .. } => number_receiver_call(alloc, directory, names, expr),
+        Expr::ParentCall {
+            parent,
+            method,
+            args,
+        } => Ok(WireExpr::ParentCall {
+            parent: *parent,
+            method: number_method(directory, names, method),
+            args: number_exprs(alloc, directory, names, args)?,
+        }),
+        Expr::ParentsCall { method, args } => Ok(WireExpr::ParentsCall {
+            method: number_method(directory, names, method),
+            args: number_exprs(alloc, directory, names, args)?,
+        }),
+        Expr::Host { .. } => number_operation(alloc, directory, names, expr),
     }
 }
 
+// An operation on other expressions.
 #[cycle(numbered_expr)]
-fn number_call(
+fn number_operation(
     alloc: Global,
     directory: &Directory,
     names: &IndexSet<&[u8]>,
-    call: &Expr,
+    expr: &Expr,
 ) -> Result<WireExpr, NoMemory>
     requires directory { IsDirectory (texts names.now.keys) directory.now }
-    requires call { is_call call.now ≡ true }
-    requires found { expr_found directory.now call.now ≡ true }
-    ensures { IfOk result (λ numbered. numbered ≡ expr_numbered directory.now call.now) }
+    requires operation { is_operation expr.now ≡ true }
+    requires found { expr_found directory.now expr.now ≡ true }
+    ensures { IfOk result (λ numbered. numbered ≡ expr_numbered directory.now expr.now) }
 {
-    match call {
+    match expr {
+        Expr::Unary { op, of } => Ok(WireExpr::Unary {
+            op: *op,
+            of: number_boxed(alloc, directory, names, of)?,
+        }),
+        Expr::Binary { op, left, right } => Ok(WireExpr::Binary {
+            op: *op,
+            left: number_boxed(alloc, directory, names, left)?,
+            right: number_boxed(alloc, directory, names, right)?,
+        }),
+        Expr::Cast { class, of } => Ok(WireExpr::Cast {
+            class: number_class(directory, names, class),
+            of: number_boxed(alloc, directory, names, of)?,
+        }),
+        Expr::Isa { class, of } => Ok(WireExpr::Isa {
+            class: number_class(directory, names, class),
+            of: number_boxed(alloc, directory, names, of)?,
+        }),
+        Expr::Proxy { class, of } => Ok(WireExpr::Proxy {
+            class: number_class(directory, names, class),
+            of: number_boxed(alloc, directory, names, of)?,
+        }),
+        Expr::Host { code, a, b } => Ok(WireExpr::Host {
+            code: *code,
+            a: number_boxed(alloc, directory, names, a)?,
+            b: number_boxed(alloc, directory, names, b)?,
+        }),
+        _ => unreachable!(),
+    }
+}
+
+// A call on a receiver.
+#[cycle(numbered_expr)]
+fn number_receiver_call(
+    alloc: Global,
+    directory: &Directory,
+    names: &IndexSet<&[u8]>,
+    expr: &Expr,
+) -> Result<WireExpr, NoMemory>
+    requires directory { IsDirectory (texts names.now.keys) directory.now }
+    requires call { is_receiver_call expr.now ≡ true }
+    requires found { expr_found directory.now expr.now ≡ true }
+    ensures { IfOk result (λ numbered. numbered ≡ expr_numbered directory.now expr.now) }
+{
+    match expr {
         Expr::OffsetCall {
             method,
             receiver,
             args,
-        } => {
-            let receiver = number_boxed(alloc, directory, names, receiver)?;
-            number_offset_call(alloc, directory, names, args, method, receiver)
-        }
+        } => Ok(WireExpr::OffsetCall {
+            method: number_method(directory, names, method),
+            receiver: number_boxed(alloc, directory, names, receiver)?,
+            args: number_exprs(alloc, directory, names, args)?,
+        }),
         Expr::Lookup {
             result: kind,
             name,
             receiver,
             args,
-        } => {
-            let receiver = number_boxed(alloc, directory, names, receiver)?;
-            number_lookup(alloc, directory, names, args, kind, name, receiver)
-        }
+        } => Ok(WireExpr::Lookup {
+            result: number_kind(directory, names, kind),
+            name: name.copy(alloc)?,
+            receiver: number_boxed(alloc, directory, names, receiver)?,
+            args: number_exprs(alloc, directory, names, args)?,
+        }),
         Expr::Dispatch {
             result: kind,
             name,
             receiver,
             args,
-        } => {
-            let receiver = number_boxed(alloc, directory, names, receiver)?;
-            number_dispatch(alloc, directory, names, args, kind, name, receiver)
-        }
-        Expr::ParentCall {
-            parent,
-            method,
-            args,
-        } => number_parent_call(alloc, directory, names, args, *parent, method),
-        Expr::ParentsCall { method, args } => number_parents_call(
-            alloc, directory, names, args, method,
-        ),
+        } => Ok(WireExpr::Dispatch {
+            result: number_kind(directory, names, kind),
+            name: name.copy(alloc)?,
+            receiver: number_boxed(alloc, directory, names, receiver)?,
+            args: number_exprs(alloc, directory, names, args)?,
+        }),
         _ => unreachable!(),
     }
-}
-
-#[cycle(numbered_expr)]
-fn number_unary(
-    alloc: Global,
-    directory: &Directory,
-    names: &IndexSet<&[u8]>,
-    of: &Boxed<Expr>,
-    op: u8,
-) -> Result<WireExpr, NoMemory>
-    requires directory { IsDirectory (texts names.now.keys) directory.now }
-    requires of { expr_found directory.now of.now ≡ true }
-    ensures { IfOk result (λ numbered. numbered ≡ exprs.Unary op (expr_numbered directory.now of.now)) }
-{
-    let of = number_boxed(alloc, directory, names, of)?;
-    Ok(WireExpr::Unary { op, of })
-}
-
-#[cycle(numbered_expr)]
-fn number_binary(
-    alloc: Global,
-    directory: &Directory,
-    names: &IndexSet<&[u8]>,
-    right: &Boxed<Expr>,
-    op: u8,
-    left: Boxed<WireExpr>,
-) -> Result<WireExpr, NoMemory>
-    requires directory { IsDirectory (texts names.now.keys) directory.now }
-    requires right { expr_found directory.now right.now ≡ true }
-    ensures { IfOk result (λ numbered. numbered ≡ exprs.Binary op left (expr_numbered directory.now right.now)) }
-{
-    let right = number_boxed(alloc, directory, names, right)?;
-    Ok(WireExpr::Binary { op, left, right })
-}
-
-#[cycle(numbered_expr)]
-fn number_cast(
-    alloc: Global,
-    directory: &Directory,
-    names: &IndexSet<&[u8]>,
-    of: &Boxed<Expr>,
-    class: &ClassKey,
-) -> Result<WireExpr, NoMemory>
-    requires directory { IsDirectory (texts names.now.keys) directory.now }
-    requires class { has_number directory.now class.now ≡ true }
-    requires of { expr_found directory.now of.now ≡ true }
-    ensures { IfOk result (λ numbered. numbered ≡ exprs.Cast (number_of directory.now.keys class.now) (expr_numbered directory.now of.now)) }
-{
-    let class = number_class(directory, names, class);
-    let of = number_boxed(alloc, directory, names, of)?;
-    Ok(WireExpr::Cast { class, of })
-}
-
-#[cycle(numbered_expr)]
-fn number_isa(
-    alloc: Global,
-    directory: &Directory,
-    names: &IndexSet<&[u8]>,
-    of: &Boxed<Expr>,
-    class: &ClassKey,
-) -> Result<WireExpr, NoMemory>
-    requires directory { IsDirectory (texts names.now.keys) directory.now }
-    requires class { has_number directory.now class.now ≡ true }
-    requires of { expr_found directory.now of.now ≡ true }
-    ensures { IfOk result (λ numbered. numbered ≡ exprs.Isa (number_of directory.now.keys class.now) (expr_numbered directory.now of.now)) }
-{
-    let class = number_class(directory, names, class);
-    let of = number_boxed(alloc, directory, names, of)?;
-    Ok(WireExpr::Isa { class, of })
-}
-
-#[cycle(numbered_expr)]
-fn number_proxy(
-    alloc: Global,
-    directory: &Directory,
-    names: &IndexSet<&[u8]>,
-    of: &Boxed<Expr>,
-    class: &ClassKey,
-) -> Result<WireExpr, NoMemory>
-    requires directory { IsDirectory (texts names.now.keys) directory.now }
-    requires class { has_number directory.now class.now ≡ true }
-    requires of { expr_found directory.now of.now ≡ true }
-    ensures { IfOk result (λ numbered. numbered ≡ exprs.Proxy (number_of directory.now.keys class.now) (expr_numbered directory.now of.now)) }
-{
-    let class = number_class(directory, names, class);
-    let of = number_boxed(alloc, directory, names, of)?;
-    Ok(WireExpr::Proxy { class, of })
-}
-
-#[cycle(numbered_expr)]
-fn number_host(
-    alloc: Global,
-    directory: &Directory,
-    names: &IndexSet<&[u8]>,
-    b: &Boxed<Expr>,
-    code: HostCode,
-    a: Boxed<WireExpr>,
-) -> Result<WireExpr, NoMemory>
-    requires directory { IsDirectory (texts names.now.keys) directory.now }
-    requires b { expr_found directory.now b.now ≡ true }
-    ensures { IfOk result (λ numbered. numbered ≡ exprs.Host code a (expr_numbered directory.now b.now)) }
-{
-    let b = number_boxed(alloc, directory, names, b)?;
-    Ok(WireExpr::Host { code, a, b })
-}
-
-#[cycle(numbered_expr)]
-fn number_offset_call(
-    alloc: Global,
-    directory: &Directory,
-    names: &IndexSet<&[u8]>,
-    args: &List<Expr>,
-    method: &MethodRef,
-    receiver: Boxed<WireExpr>,
-) -> Result<WireExpr, NoMemory>
-    requires directory { IsDirectory (texts names.now.keys) directory.now }
-    requires method { has_slot directory.now method.now ≡ true }
-    requires args { all_found (map (expr_found directory.now) args.now) ≡ true }
-    ensures { IfOk result (λ numbered. numbered ≡ exprs.OffsetCall (method_numbered directory.now method.now) receiver (map (expr_numbered directory.now) args.now)) }
-{
-    let method = number_method(directory, names, method);
-    let args = number_exprs(alloc, directory, names, args)?;
-    Ok(WireExpr::OffsetCall {
-        method,
-        receiver,
-        args,
-    })
-}
-
-#[cycle(numbered_expr)]
-fn number_lookup(
-    alloc: Global,
-    directory: &Directory,
-    names: &IndexSet<&[u8]>,
-    args: &List<Expr>,
-    kind: &ValueType,
-    name: &Text,
-    receiver: Boxed<WireExpr>,
-) -> Result<WireExpr, NoMemory>
-    requires directory { IsDirectory (texts names.now.keys) directory.now }
-    requires kind { kind_found directory.now kind.now ≡ true }
-    requires args { all_found (map (expr_found directory.now) args.now) ≡ true }
-    ensures { IfOk result (λ numbered. numbered ≡ exprs.Lookup (kind_numbered directory.now.keys kind.now) name.now receiver (map (expr_numbered directory.now) args.now)) }
-{
-    let result = number_kind(directory, names, kind);
-    let name = name.copy(alloc)?;
-    let args = number_exprs(alloc, directory, names, args)?;
-    Ok(WireExpr::Lookup {
-        result,
-        name,
-        receiver,
-        args,
-    })
-}
-
-#[cycle(numbered_expr)]
-fn number_dispatch(
-    alloc: Global,
-    directory: &Directory,
-    names: &IndexSet<&[u8]>,
-    args: &List<Expr>,
-    kind: &ValueType,
-    name: &Text,
-    receiver: Boxed<WireExpr>,
-) -> Result<WireExpr, NoMemory>
-    requires directory { IsDirectory (texts names.now.keys) directory.now }
-    requires kind { kind_found directory.now kind.now ≡ true }
-    requires args { all_found (map (expr_found directory.now) args.now) ≡ true }
-    ensures { IfOk result (λ numbered. numbered ≡ exprs.Dispatch (kind_numbered directory.now.keys kind.now) name.now receiver (map (expr_numbered directory.now) args.now)) }
-{
-    let result = number_kind(directory, names, kind);
-    let name = name.copy(alloc)?;
-    let args = number_exprs(alloc, directory, names, args)?;
-    Ok(WireExpr::Dispatch {
-        result,
-        name,
-        receiver,
-        args,
-    })
-}
-
-#[cycle(numbered_expr)]
-fn number_parent_call(
-    alloc: Global,
-    directory: &Directory,
-    names: &IndexSet<&[u8]>,
-    args: &List<Expr>,
-    parent: u8,
-    method: &MethodRef,
-) -> Result<WireExpr, NoMemory>
-    requires directory { IsDirectory (texts names.now.keys) directory.now }
-    requires method { has_slot directory.now method.now ≡ true }
-    requires args { all_found (map (expr_found directory.now) args.now) ≡ true }
-    ensures { IfOk result (λ numbered. numbered ≡ exprs.ParentCall parent (method_numbered directory.now method.now) (map (expr_numbered directory.now) args.now)) }
-{
-    let method = number_method(directory, names, method);
-    let args = number_exprs(alloc, directory, names, args)?;
-    Ok(WireExpr::ParentCall {
-        parent,
-        method,
-        args,
-    })
-}
-
-#[cycle(numbered_expr)]
-fn number_parents_call(
-    alloc: Global,
-    directory: &Directory,
-    names: &IndexSet<&[u8]>,
-    args: &List<Expr>,
-    method: &MethodRef,
-) -> Result<WireExpr, NoMemory>
-    requires directory { IsDirectory (texts names.now.keys) directory.now }
-    requires method { has_slot directory.now method.now ≡ true }
-    requires args { all_found (map (expr_found directory.now) args.now) ≡ true }
-    ensures { IfOk result (λ numbered. numbered ≡ exprs.ParentsCall (method_numbered directory.now method.now) (map (expr_numbered directory.now) args.now)) }
-{
-    let method = number_method(directory, names, method);
-    let args = number_exprs(alloc, directory, names, args)?;
-    Ok(WireExpr::ParentsCall { method, args })
 }
 
 #[cycle(numbered_expr)]
