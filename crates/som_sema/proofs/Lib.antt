@@ -1,3 +1,8 @@
+pub mod Going
+pub mod Unsaid
+pub mod Declaring
+pub mod Calling
+pub mod Doubling
 pub mod OneTable
 pub mod Noting
 pub mod Introducers

@@ -30,7 +30,6 @@ pub fn no_double(
 }
 
 // The first name that stands a second time.
-#[tactic(auto, using(som_verify::proofs::Doubled::doubled))]
 fn first_double<'a>(alloc: Global, names: &[&'a [u8]]) -> Result<Option<&'a [u8]>, NoMemory>
     ensures { IfOk result (λ double. option_copied double ≡ first (doubles bytes_eq [] (texts names.now))) }
 {

@@ -1,4 +1,4 @@
-use Rattle.std.proofs.Common.{length, ◌+◌, sym, ap, ◌∙◌, arith, subst}
+use Rattle.std.proofs.Common.{length, ◌+◌, ◌<◌, sym, ap, ◌∙◌, arith, subst}
 use Rattle.std.specs.Prelude.{None}
 use Rattle.som_model.specs.Kernel.{som_class}
 use Rattle.som_model.specs.Classes.{is_a}
@@ -22,3 +22,9 @@ returns c =
     let f = c.in-Some.ensures in
     c.descends_by.ensures cs c.requires.lists (omega (arith, known_number c.args.classes.now))
     ∙ ap (λ k. is_a cs k som_class) (f.2 ∙ c.in_ok-key.ensures)
+
+pub find_class-requires : goal.find_class-requires
+find_class-requires c = c.requires.table
+
+pub descends_by-requires : goal.descends_by-requires
+descends_by-requires c = subst (λ n. c.in-Some.place < n) (sym c.requires.lists.long) c.in-Some.ensures.1

@@ -1,0 +1,17 @@
+use Rattle.std.proofs.Common.{List, ℕ, ap, map, refl, ◌∙◌}
+use Rattle.std.specs.Borrow.{Bor}
+use Rattle.som_order.specs.Names.{texts}
+use Rattle.som_verify.specs.Modules.{classes_of}
+use Rattle.som_verify.specs.Places.{key_at, with_kernel}
+use Rattle.som_sema.specs.Finished.{override_of}
+use Rattle.som_sema.specs.Items.{given, is_override, with_modifier}
+use Rattle.som_sema.specs.Words.{once}
+use Rattle.som_sema.proofs.Declaring.{same_override}
+use Rattle.som_sema.proofs.Going.{next_value, rest_end}
+use Rattle.som_sema.proofs.declared.overrides.Goals as goal
+
+pub loop-name-preserved : goal.loop-name-preserved
+loop-name-preserved c =
+    let f = override_of (with_kernel (classes_of c.args.classes.now)) (key_at (with_kernel (classes_of c.args.classes.now)) c.args.place) in
+    next_value (λ (z : List (Bor (List ℕ))). map f (texts z)) c.as_slice-name-items.result.now c.loop-name.name-index _ _ _ _ _ _ _
+    c.loop-name-test.true refl c.in_ok-push.ensures.ok (same_override _ _ _ _ _ _ c.in_ok-class.ensures c.in_ok-from_slice.ensures c.new.ensures) refl c.loop-name.invariant

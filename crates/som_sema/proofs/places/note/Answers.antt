@@ -1,0 +1,6 @@
+use Rattle.som_sema.specs.Noted.{at}
+use Rattle.som_sema.proofs.Going.{pushed}
+use Rattle.som_sema.proofs.places.note.Goals as goal
+
+pub returns : goal.returns
+returns c = pushed at _ _ _ c.in_ok-push.ensures.items
