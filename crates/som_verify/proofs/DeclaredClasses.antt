@@ -58,6 +58,12 @@ at_of [] i d e = absurd (cc)
 at_of (x ∷ ds) zero d e = let same : x ≡ d = cc in ap (λ z. Some (class_of z)) same
 at_of (x ∷ ds) (suc i) d e = at_of ds i d e
 
+-- the class of an item
+pub item_at : (ds : List Declared) (i : ℕ) (d : Declared) → i < length ds → d ≡ slice_index_or ds i d → slice_get (classes_of ds) i ≡ Some (class_of d)
+item_at [] i d lt is = absurd (omega arith)
+item_at (x ∷ ds) zero d lt is = ap (λ z. Some (class_of z)) (sym is)
+item_at (x ∷ ds) (suc i) d lt is = item_at ds i d (omega arith) is
+
 pub take_map : {A B : Type 0} (f : A → B) (xs : List A) (i : ℕ) → take i (map f xs) ≡ map f (take i xs)
 take_map f xs zero = refl
 take_map f [] (suc i) = refl

@@ -89,3 +89,19 @@ module _ (w : ClassFacts) (at : CodePlace) (scope : List ValueType) where
 
   pub host_goes_on : (code : HostCode) (a b : Expr) (t : ExprType) → value (T a) ≡ Ok t → T (exprs.Host code a b) ≡ then (value (T b)) (host_type t)
   host_goes_on code a b t there = host_typed w at scope code a b ∙ part_there (value (T a)) (λ s. value (T b) >>= host_type s) t there
+
+  -- a first part that has no type
+  pub binary_fails : (cs : List Class) (op : ℕ) (a b : Expr) (f : TypeFault) → Fails (value (T a)) f → Types cs (T (exprs.Binary op a b)) (Err f)
+  binary_fails cs op a b f t = subst (λ z. Types cs z (Err f)) (sym (binary_typed w at scope op a b)) (fails_on (value (T a)) (λ s. value (T b) >>= binary_type op s) f t)
+
+  pub host_fails : (cs : List Class) (code : HostCode) (a b : Expr) (f : TypeFault) → Fails (value (T a)) f → Types cs (T (exprs.Host code a b)) (Err f)
+  host_fails cs code a b f t = subst (λ z. Types cs z (Err f)) (sym (host_typed w at scope code a b)) (fails_on (value (T a)) (λ s. value (T b) >>= host_type s) f t)
+
+  pub offset_call_fails : (cs : List Class) (r : MethodRef) (e : Expr) (es : List Expr) (f : TypeFault) → Fails (value (T e)) f → Types cs (T (exprs.OffsetCall r e es)) (Err f)
+  offset_call_fails cs r e es f t = subst (λ z. Types cs z (Err f)) (sym (offset_call_typed w at scope r e es)) (fails_on (value (T e)) (λ s. values (map T es) >>= offset_call_type w r s) f t)
+
+  pub lookup_fails : (cs : List Class) (kind : ValueType) (name : List ℕ) (e : Expr) (es : List Expr) (f : TypeFault) → Fails (value (T e)) f → Types cs (T (exprs.Lookup kind name e es)) (Err f)
+  lookup_fails cs kind name e es f t = subst (λ z. Types cs z (Err f)) (sym (lookup_typed w at scope kind name e es)) (fails_on (value (T e)) (λ s. values (map T es) >>= named_call_type w kind s) f t)
+
+  pub dispatch_fails : (cs : List Class) (kind : ValueType) (name : List ℕ) (e : Expr) (es : List Expr) (f : TypeFault) → Fails (value (T e)) f → Types cs (T (exprs.Dispatch kind name e es)) (Err f)
+  dispatch_fails cs kind name e es f t = subst (λ z. Types cs z (Err f)) (sym (dispatch_typed w at scope kind name e es)) (fails_on (value (T e)) (λ s. values (map T es) >>= named_call_type w kind s) f t)

@@ -1,5 +1,5 @@
 -- A pass over the classes.
-use Rattle.std.proofs.Common.{◌≡◌, ℕ, zero, suc, ◌+◌, ◌<◌, ◌≤◌, List, [], ◌∷◌, ◌++◌, length, drop, map, flat_map, slice_get, Option, Some, None, Ok, Err, refl, sym, ap, ◌∙◌, arith}
+use Rattle.std.proofs.Common.{◌≡◌, ℕ, zero, suc, ◌+◌, ◌<◌, ◌≤◌, List, [], ◌∷◌, ◌++◌, length, drop, map, flat_map, slice_get, slice_index_or, Option, Some, None, Ok, Err, refl, sym, ap, ◌∙◌, arith}
 use Rattle.som_model.specs.Lists.{first, or_else}
 use Rattle.som_model.specs.Rules.{Breach}
 use Rattle.som_verify.specs.declared.types.VerifyFault.{VerifyFault}
@@ -32,6 +32,21 @@ pub stops : {A B : Type 0} (one : B → List Breach) (g : A → B) (cs : List A)
     → ((c : A) → slice_get cs i ≡ Some c → Tells {A = Unit {0}} (first (one (g c))) (Err e))
     → first (flat_map one (map g (drop i cs))) ≡ whole → Tells {A = Unit {0}} whole (Err e)
 stops one g cs whole i e lt f same = let r = at_place one g cs i lt in tells_first (first (one (g r.0))) _ _ e (f r.0 r.1) (sym r.2 ∙ same)
+
+-- the same of a class that is an item
+at_item : {A B C : Type 0} (one : B → List C) (g : A → B) (cs : List A) (i : ℕ) (c : A) → i < length cs → c ≡ slice_index_or cs i c
+    → first (flat_map one (map g (drop i cs))) ≡ or_else (first (one (g c))) (first (flat_map one (map g (drop (i + 1) cs))))
+at_item one g [] i c lt is = absurd (omega arith)
+at_item one g (x ∷ cs) zero c lt is = first_both (one (g x)) (flat_map one (map g cs)) ∙ ap (λ z. or_else (first (one (g z))) (first (flat_map one (map g cs)))) (sym is)
+at_item one g (x ∷ cs) (suc i) c lt is = let e : suc i + 1 ≡ suc (i + 1) = omega arith in rw e (at_item one g cs i c (omega arith) is)
+
+pub item_goes_on : {A B : Type 0} (one : B → List Breach) (g : A → B) (cs : List A) (whole : Option Breach) (i : ℕ) (c : A) → i < length cs → c ≡ slice_index_or cs i c
+    → first (one (g c)) ≡ None → first (flat_map one (map g (drop i cs))) ≡ whole → first (flat_map one (map g (drop (i + 1) cs))) ≡ whole
+item_goes_on one g cs whole i c lt is none same = sym (none_first (first (one (g c))) (first (flat_map one (map g (drop (i + 1) cs)))) none) ∙ sym (at_item one g cs i c lt is) ∙ same
+
+pub item_stops : {A B : Type 0} (one : B → List Breach) (g : A → B) (cs : List A) (whole : Option Breach) (i : ℕ) (c : A) (e : VerifyFault) → i < length cs → c ≡ slice_index_or cs i c
+    → Tells {A = Unit {0}} (first (one (g c))) (Err e) → first (flat_map one (map g (drop i cs))) ≡ whole → Tells {A = Unit {0}} whole (Err e)
+item_stops one g cs whole i c e lt is t same = tells_first (first (one (g c))) (first (flat_map one (map g (drop (i + 1) cs)))) whole e t (sym (at_item one g cs i c lt is) ∙ same)
 
 -- all classes were asked
 pub all_pass : {A B : Type 0} (one : B → List Breach) (g : A → B) (cs : List A) (whole : Option Breach) (i : ℕ) → length cs ≤ i → first (flat_map one (map g (drop i cs))) ≡ whole → whole ≡ None

@@ -4,10 +4,9 @@ ghost use Rattle.som_model.specs.Rules.{body_fits, s14};
 ghost use Rattle.som_verify.specs.Fitting.{bodies_from, takes};
 ghost use Rattle.som_verify.specs.Modules.{class_of, classes_of};
 ghost use Rattle.som_verify.specs.Told.{Tells};
-ghost use Rattle.som_verify.specs.declared.types.Declared.{Declared as Known};
-ghost use Rattle.std.specs.Prelude.{◌≡◌, ◌<◌, length, flat_map, slice_get, Some};
+ghost use Rattle.std.specs.Prelude.{◌≡◌, length, flat_map};
 
-use crate::pass::{breach, each_class};
+use crate::pass::breach;
 use crate::types::{Declared, VerifyFault};
 use som_model::{Body, Entry, Sig, ValueType, Variable};
 use std::alloc::Global;
@@ -16,15 +15,10 @@ use std::alloc::Global;
 pub fn bodies_fit(alloc: Global, classes: &[Declared]) -> Result<(), VerifyFault>
     ensures { Tells (first (flat_map s14 (classes_of classes.now))) result }
 {
-    each_class(
-        classes,
-        0,
-        |place: usize| -> Result<(), VerifyFault>
-            requires { place < length classes.now }
-            ensures { (class : Known) → slice_get classes.entry.now place ≡ Some class →
-                Tells (first (s14 (class_of class))) result }
-        { own_bodies_fit(alloc, &classes[place]) },
-    )
+    for class in classes {
+        own_bodies_fit(alloc, class)?;
+    }
+    Ok(())
 }
 
 fn own_bodies_fit(alloc: Global, class: &Declared) -> Result<(), VerifyFault>

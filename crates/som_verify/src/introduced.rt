@@ -14,7 +14,6 @@ ghost use Rattle.std.specs.Prelude.{◌≡◌, ◌<◌, ◌+◌, ◌++◌, ℕ, 
 use crate::ancestry::item;
 use crate::double::add;
 use crate::members::each_once;
-use crate::pass::each_class;
 use crate::table::KERNEL_CLASSES;
 use crate::types::{Declared, VerifyFault};
 use som_model::{ClassFace, Entry, List, NoMemory};
@@ -33,18 +32,10 @@ pub fn names_introduced_once(
     requires lists { AreLists (with_kernel (classes_of classes.now)) lists.now }
     ensures { Tells (first (flat_map (s8 (with_kernel (classes_of classes.now))) (classes_of (drop from classes.now)))) result }
 {
-    each_class(
-        classes,
-        from,
-        |place: usize| -> Result<(), VerifyFault>
-            requires place { place < length classes.now }
-            requires kernel { kernel.now ≡ kernel_interface.classes }
-            requires lists { AreLists (with_kernel (classes_of classes.now)) lists.now }
-            ensures { (class : Known) → slice_get classes.entry.now place ≡ Some class →
-                Tells (first (s8_at (with_kernel (classes_of classes.entry.now))
-                (slice_index_or lists.entry.now (place + 4) []) (class_of class))) result }
-        { introduced_once_in(alloc, kernel, classes, lists, place) },
-    )
+    for place in from..classes.len() {
+        introduced_once_in(alloc, kernel, classes, lists, place)?;
+    }
+    Ok(())
 }
 
 fn introduced_once_in(

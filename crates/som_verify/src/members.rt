@@ -5,11 +5,10 @@ ghost use Rattle.som_order.specs.Names.{texts};
 ghost use Rattle.som_verify.specs.Along.{doubles_breach};
 ghost use Rattle.som_verify.specs.Modules.{class_of, classes_of};
 ghost use Rattle.som_verify.specs.Told.{Tells};
-ghost use Rattle.som_verify.specs.declared.types.Declared.{Declared as Known};
-ghost use Rattle.std.specs.Prelude.{◌≡◌, ◌<◌, length, map, flat_map, slice_get, IfOk, Some};
+ghost use Rattle.std.specs.Prelude.{◌≡◌, map, flat_map, IfOk};
 
 use crate::double::{add, first_double, has_double};
-use crate::pass::{breach, each_class};
+use crate::pass::breach;
 use crate::types::{Declared, VerifyFault};
 use som_model::{Entry, NoMemory, Variable};
 use som_order::name_of;
@@ -19,15 +18,10 @@ use std::alloc::Global;
 pub fn parents_differ(alloc: Global, classes: &[Declared]) -> Result<(), VerifyFault>
     ensures { Tells (first (flat_map s3 (classes_of classes.now))) result }
 {
-    each_class(
-        classes,
-        0,
-        |place: usize| -> Result<(), VerifyFault>
-            requires { place < length classes.now }
-            ensures { (class : Known) → slice_get classes.entry.now place ≡ Some class →
-                Tells (first (s3 (class_of class))) result }
-        { own_parents_differ(alloc, &classes[place]) },
-    )
+    for class in classes {
+        own_parents_differ(alloc, class)?;
+    }
+    Ok(())
 }
 
 fn own_parents_differ(alloc: Global, class: &Declared) -> Result<(), VerifyFault>
@@ -43,15 +37,10 @@ fn own_parents_differ(alloc: Global, class: &Declared) -> Result<(), VerifyFault
 pub fn entries_differ(alloc: Global, classes: &[Declared]) -> Result<(), VerifyFault>
     ensures { Tells (first (flat_map s6 (classes_of classes.now))) result }
 {
-    each_class(
-        classes,
-        0,
-        |place: usize| -> Result<(), VerifyFault>
-            requires { place < length classes.now }
-            ensures { (class : Known) → slice_get classes.entry.now place ≡ Some class →
-                Tells (first (s6 (class_of class))) result }
-        { own_entries_differ(alloc, &classes[place]) },
-    )
+    for class in classes {
+        own_entries_differ(alloc, class)?;
+    }
+    Ok(())
 }
 
 fn own_entries_differ(alloc: Global, class: &Declared) -> Result<(), VerifyFault>
@@ -75,15 +64,10 @@ fn entry_names(alloc: Global, entries: &[Entry]) -> Result<Vec<&[u8]>, NoMemory>
 pub fn variables_differ(alloc: Global, classes: &[Declared]) -> Result<(), VerifyFault>
     ensures { Tells (first (flat_map s7 (classes_of classes.now))) result }
 {
-    each_class(
-        classes,
-        0,
-        |place: usize| -> Result<(), VerifyFault>
-            requires { place < length classes.now }
-            ensures { (class : Known) → slice_get classes.entry.now place ≡ Some class →
-                Tells (first (s7 (class_of class))) result }
-        { own_variables_differ(alloc, &classes[place]) },
-    )
+    for class in classes {
+        own_variables_differ(alloc, class)?;
+    }
+    Ok(())
 }
 
 fn own_variables_differ(alloc: Global, class: &Declared) -> Result<(), VerifyFault>

@@ -8,11 +8,10 @@ ghost use Rattle.som_verify.specs.Modules.{class_of, classes_of};
 ghost use Rattle.som_verify.specs.Places.{IsTable, with_kernel};
 ghost use Rattle.som_verify.specs.Told.{Tells};
 ghost use Rattle.som_verify.specs.Walk.{AreLists};
-ghost use Rattle.som_verify.specs.declared.types.Declared.{Declared as Known};
-ghost use Rattle.std.specs.Prelude.{◌≡◌, ◌<◌, true, drop, length, flat_map, is_some, slice_get, None, Some};
+ghost use Rattle.std.specs.Prelude.{◌≡◌, true, drop, flat_map, is_some, None};
 
 use crate::ancestry::{has_place, item};
-use crate::pass::{breach, each_class};
+use crate::pass::breach;
 use crate::table::{KERNEL_CLASSES, SOM_CLASS, find_class};
 use crate::types::{Declared, VerifyFault};
 use indexmap::IndexSet;
@@ -32,18 +31,10 @@ pub fn metaclasses_descend(
     requires stand { first (each_after s2 kernel (classes_of classes.now)) ≡ None }
     ensures { Tells (first (flat_map (s4 (with_kernel (classes_of classes.now))) (classes_of (drop from classes.now)))) result }
 {
-    each_class(
-        classes,
-        from,
-        |place: usize| -> Result<(), VerifyFault>
-            requires place { place < length classes.now }
-            requires table { IsTable (classes_of classes.now) (texts table.now.keys) }
-            requires lists { AreLists (with_kernel (classes_of classes.now)) lists.now }
-            requires stand { first (each_after s2 kernel (classes_of classes.now)) ≡ None }
-            ensures { (class : Known) → slice_get classes.entry.now place ≡ Some class →
-                Tells (first (s4 (with_kernel (classes_of classes.entry.now)) (class_of class))) result }
-        { own_metaclass_descends(alloc, table, classes, lists, &classes[place]) },
-    )
+    for place in from..classes.len() {
+        own_metaclass_descends(alloc, table, classes, lists, &classes[place])?;
+    }
+    Ok(())
 }
 
 fn own_metaclass_descends(

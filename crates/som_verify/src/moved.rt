@@ -7,11 +7,10 @@ ghost use Rattle.som_verify.specs.Modules.{class_of, classes_of};
 ghost use Rattle.som_verify.specs.Places.{IsTable, key_at, with_kernel};
 ghost use Rattle.som_verify.specs.Told.{Tells};
 ghost use Rattle.som_verify.specs.Walk.{AreLists};
-ghost use Rattle.som_verify.specs.declared.types.Declared.{Declared as Known};
-ghost use Rattle.std.specs.Prelude.{◌≡◌, ◌<◌, ◌+◌, drop, length, flat_map, slice_get, Some};
+ghost use Rattle.std.specs.Prelude.{◌≡◌, ◌<◌, drop, length, flat_map};
 
 use crate::inherited::{Method, is_inherited};
-use crate::pass::{breach, each_class};
+use crate::pass::breach;
 use crate::table::KERNEL_CLASSES;
 use crate::types::{Declared, VerifyFault};
 use indexmap::IndexSet;
@@ -32,30 +31,12 @@ pub fn entries_moved_up(
     requires lists { AreLists (with_kernel (classes_of classes.now)) lists.now }
     ensures { Tells (first (flat_map (s9 (with_kernel (classes_of classes.now))) (classes_of (drop from classes.now)))) result }
 {
-    each_class(
-        classes,
-        from,
-        |place: usize| -> Result<(), VerifyFault>
-            requires place { place < length classes.now }
-            requires table { IsTable (classes_of classes.now) (texts table.now.keys) }
-            requires kernel { kernel.now ≡ kernel_interface.classes }
-            requires lists { AreLists (with_kernel (classes_of classes.now)) lists.now }
-            ensures { (class : Known) → slice_get classes.entry.now place ≡ Some class →
-                Tells (first (flat_map (moved_entry (with_kernel (classes_of classes.entry.now))
-                (key_at (with_kernel (classes_of classes.entry.now)) (place + 4)) (class_of class)) class.decl.now.face.entries)) result }
-        {
-            let class = &classes[place];
-            own_entries_moved_up(
-                alloc,
-                table,
-                kernel,
-                classes,
-                lists,
-                place + KERNEL_CLASSES,
-                class,
-            )
-        },
-    )
+    for place in from..classes.len() {
+        let class = &classes[place];
+        let place = place + KERNEL_CLASSES;
+        own_entries_moved_up(alloc, table, kernel, classes, lists, place, class)?;
+    }
+    Ok(())
 }
 
 fn own_entries_moved_up(

@@ -9,12 +9,11 @@ ghost use Rattle.som_verify.specs.Modules.{class_of, classes_of};
 ghost use Rattle.som_verify.specs.Places.{IsTable, key_at, with_kernel};
 ghost use Rattle.som_verify.specs.Told.{Tells};
 ghost use Rattle.som_verify.specs.Walk.{AreLists};
-ghost use Rattle.som_verify.specs.declared.types.Declared.{Declared as Known};
-ghost use Rattle.std.specs.Prelude.{◌≡◌, ◌<◌, ◌+◌, [], drop, length, map, flat_map, slice_get, None, Some};
+ghost use Rattle.std.specs.Prelude.{◌≡◌, ◌<◌, [], drop, length, map, flat_map, None};
 
 use crate::inherited::{Method, is_inherited, moved_to};
 use crate::introduced::entries_at;
-use crate::pass::{breach, each_class};
+use crate::pass::breach;
 use crate::table::{KERNEL_CLASSES, find_class};
 use crate::types::{Declared, VerifyFault};
 use indexmap::IndexSet;
@@ -37,31 +36,12 @@ pub fn overrides_inherited(
     requires moved { first (flat_map (s9 (with_kernel (classes_of classes.now))) (classes_of classes.now)) ≡ None }
     ensures { Tells (first (flat_map (s10 (with_kernel (classes_of classes.now))) (classes_of (drop from classes.now)))) result }
 {
-    each_class(
-        classes,
-        from,
-        |place: usize| -> Result<(), VerifyFault>
-            requires place { place < length classes.now }
-            requires table { IsTable (classes_of classes.now) (texts table.now.keys) }
-            requires kernel { kernel.now ≡ kernel_interface.classes }
-            requires lists { AreLists (with_kernel (classes_of classes.now)) lists.now }
-            requires moved { first (flat_map (s9 (with_kernel (classes_of classes.now))) (classes_of classes.now)) ≡ None }
-            ensures { (class : Known) → slice_get classes.entry.now place ≡ Some class →
-                Tells (first (overrides_from (with_kernel (classes_of classes.entry.now))
-                (key_at (with_kernel (classes_of classes.entry.now)) (place + 4)) (class_of class) [] class.decl.now.overrides)) result }
-        {
-            let class = &classes[place];
-            own_overrides_inherited(
-                alloc,
-                table,
-                kernel,
-                classes,
-                lists,
-                place + KERNEL_CLASSES,
-                class,
-            )
-        },
-    )
+    for place in from..classes.len() {
+        let class = &classes[place];
+        let place = place + KERNEL_CLASSES;
+        own_overrides_inherited(alloc, table, &*kernel, &*classes, lists, place, &*class)?;
+    }
+    Ok(())
 }
 
 fn own_overrides_inherited<'a>(

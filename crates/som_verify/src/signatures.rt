@@ -5,11 +5,10 @@ ghost use Rattle.som_verify.specs.Modules.{class_of, classes_of};
 ghost use Rattle.som_verify.specs.Places.{IsTable, with_kernel};
 ghost use Rattle.som_verify.specs.Told.{Tells};
 ghost use Rattle.som_verify.specs.Typed.{entry_types, sig_types, variable_types};
-ghost use Rattle.som_verify.specs.declared.types.Declared.{Declared as Known};
-ghost use Rattle.std.specs.Prelude.{◌≡◌, ◌<◌, length, take, flat_map, slice_get, Some};
+ghost use Rattle.std.specs.Prelude.{◌≡◌, take, flat_map};
 
 use crate::known::{type_is_known, type_is_of_value};
-use crate::pass::{breach, each_class};
+use crate::pass::breach;
 use crate::types::{Declared, VerifyFault};
 use indexmap::IndexSet;
 use som_model::{Entry, Sig, ValueType};
@@ -27,16 +26,10 @@ pub fn types_known(
     requires { IsTable (classes_of classes.now) (texts table.now.keys) }
     ensures { Tells (first (flat_map (s5 (take number (with_kernel (classes_of classes.now)))) (classes_of asked.now))) result }
 {
-    each_class(
-        asked,
-        0,
-        |place: usize| -> Result<(), VerifyFault>
-            requires place { place < length asked.now }
-            requires table { IsTable (classes_of classes.now) (texts table.now.keys) }
-            ensures { (class : Known) → slice_get asked.entry.now place ≡ Some class →
-                Tells (first (s5 (take number (with_kernel (classes_of classes.entry.now))) (class_of class))) result }
-        { own_types_known(alloc, table, classes, number, &asked[place]) },
-    )
+    for class in asked {
+        own_types_known(alloc, table, classes, number, class)?;
+    }
+    Ok(())
 }
 
 fn own_types_known(

@@ -8,13 +8,12 @@ ghost use Rattle.som_verify.specs.Knowing.{IsKnowledge, all_of, sig_is_known};
 ghost use Rattle.som_verify.specs.Modules.{class_of, classes_of};
 ghost use Rattle.som_verify.specs.Scopes.{scope_at};
 ghost use Rattle.som_verify.specs.Told.{Tells};
-ghost use Rattle.som_verify.specs.declared.types.Declared.{Declared as Known};
-ghost use Rattle.std.specs.Prelude.{◌≡◌, ◌<◌, ◌≤◌, true, drop, length, flat_map, slice_get, IfOk, Some};
+ghost use Rattle.std.specs.Prelude.{◌≡◌, true, drop, flat_map, IfOk};
 
 use crate::code_place::{CodePlace, TypeFault};
 use crate::kind::Kind;
 use crate::knowledge::{Knowledge, kind_of, signature_of};
-use crate::pass::{breach, each_class};
+use crate::pass::breach;
 use crate::statements::block_typed;
 use crate::table::KERNEL_CLASSES;
 use crate::types::{Broken, Declared, VerifyFault};
@@ -27,21 +26,11 @@ pub fn bodies_typed(alloc: Global, known: &Knowledge, from: usize) -> Result<(),
     requires signatures { AllSigsKnown (all_of known.now) (classes_of known.now.classes.now) }
     ensures { Tells (first (flat_map (typed_class (all_of known.now)) (classes_of (drop from known.now.classes.now)))) result }
 {
-    each_class(
-        known.classes,
-        from,
-        |place: usize| -> Result<(), VerifyFault>
-            requires place { place < length known.now.classes.now }
-            requires known { IsKnowledge known.now }
-            requires signatures { AllSigsKnown (all_of known.now) (classes_of known.now.classes.now) }
-            ensures { (class : Known) → slice_get known.entry.now.classes.now place ≡ Some class →
-                Tells (first (typed_class (all_of known.entry.now) (class_of class))) result }
-        {
-            let classes = known.classes;
-            let class = &classes[place];
-            class_typed(alloc, known, place + KERNEL_CLASSES, class)
-        },
-    )
+    let classes = known.classes;
+    for place in from..classes.len() {
+        class_typed(alloc, known, place + KERNEL_CLASSES, &classes[place])?;
+    }
+    Ok(())
 }
 
 // The bodies of introduced entries come before the overrides.

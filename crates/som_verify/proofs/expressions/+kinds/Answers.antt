@@ -1,14 +1,15 @@
-use Rattle.std.proofs.Common.{◌<◌, List, length, slice_index_or, map, Ok, refl, sym, ap, ◌∙◌, subst, arith}
+use Rattle.std.proofs.Common.{◌<◌, List, length, slice_index_or, map, Ok, Err, refl, sym, ap, ◌∙◌, subst, arith}
+use Rattle.std.proofs.lemmas.Result.{err_from_is_err_and}
 use Rattle.som_model.specs.Typing.{Of, PlainNil, value, value_of}
 use Rattle.som_model.specs.declared.key.ValueType.TheVariants as types
 use Rattle.som_model.specs.declared.syntax.Expr.{Expr}
 use Rattle.som_verify.specs.declared.kind.Kind.TheVariants as kinds
-use Rattle.som_verify.specs.Kinds.{AllStand, kind_at, type_at}
+use Rattle.som_verify.specs.Kinds.{AllStand, Fails, Types, kind_at, type_at}
 use Rattle.som_verify.specs.Knowing.{classes_in, facts_in, place_in, typed_in}
 use Rattle.som_verify.proofs.ArgLaws.{args_go_on}
 use Rattle.som_verify.proofs.ExprLaws.{boolean_typed, cast_typed, class_typed, isa_typed, local_typed, long_typed, me_typed, new_typed, nil_typed, parent_call_typed, parents_call_typed, proxy_typed, str_typed, unary_typed, variable_typed}
 use Rattle.som_verify.proofs.KindLaws.{all_stand_more}
-use Rattle.som_verify.proofs.PartLaws.{binary_goes_on, comes_on, dispatch_goes_on, host_goes_on, if_ok_so, lookup_goes_on, offset_call_goes_on, part_as, stands_if_ok, types_as}
+use Rattle.som_verify.proofs.PartLaws.{binary_fails, binary_goes_on, comes_on, dispatch_fails, dispatch_goes_on, host_fails, host_goes_on, if_ok_so, lookup_fails, lookup_goes_on, offset_call_fails, offset_call_goes_on, part_as, stands_if_ok, types_as}
 use Rattle.som_verify.proofs.expressions.+kinds.Goals as goal
 
 pub kind_in-returns-in-Long : goal.kind_in-returns-in-Long
@@ -185,6 +186,51 @@ pub kind_in-parents_call-requires-clause-args : goal.kind_in-parents_call-requir
 kind_in-parents_call-requires-clause-args t c =
     let code = c.args.code.now in
     if_ok_so _ _ c.values_in-in-ParentsCall.result (λ x are. are.stand) c.values_in-in-ParentsCall.ensures.kinds
+
+pub kind_in-returns-in_err-left-in-Binary : goal.kind_in-returns-in_err-left-in-Binary
+kind_in-returns-in_err-left-in-Binary t c =
+    let code = c.args.code.now in
+    let e = c.in-Binary in
+    let f = c.in_err-left-in-Binary.field-0.0 in
+    let p = err_from_is_err_and c.from_residual.result c.from_residual.ensures.1 in
+    rw (p.1, p.2) (subst (λ (z : Expr). Types (classes_in code) (typed_in code z) (Err f)) (sym e.is)
+    (binary_fails (facts_in code) (place_in code) (map (type_at (classes_in code)) code.scope.now) (classes_in code) e.op e.left e.right f (subst (λ (z : Expr). Fails (value (typed_in code z)) f) c.get-in-Binary.ensures c.in_err-left-in-Binary.ensures)))
+
+pub kind_in-returns-in_err-left-in-Host : goal.kind_in-returns-in_err-left-in-Host
+kind_in-returns-in_err-left-in-Host t c =
+    let code = c.args.code.now in
+    let e = c.in-Host in
+    let f = c.in_err-left-in-Host.field-0.0 in
+    let p = err_from_is_err_and c.from_residual-in_err-left-in-Host.result c.from_residual-in_err-left-in-Host.ensures.1 in
+    rw (p.1, p.2) (subst (λ (z : Expr). Types (classes_in code) (typed_in code z) (Err f)) (sym e.is)
+    (host_fails (facts_in code) (place_in code) (map (type_at (classes_in code)) code.scope.now) (classes_in code) e.code e.a e.b f (subst (λ (z : Expr). Fails (value (typed_in code z)) f) c.get-in-Host.ensures c.in_err-left-in-Host.ensures)))
+
+pub kind_in-returns-in_err-receiver-in-OffsetCall : goal.kind_in-returns-in_err-receiver-in-OffsetCall
+kind_in-returns-in_err-receiver-in-OffsetCall t c =
+    let code = c.args.code.now in
+    let e = c.in-OffsetCall in
+    let f = c.in_err-receiver-in-OffsetCall.field-0.0 in
+    let p = err_from_is_err_and c.from_residual-in_err-receiver-in-OffsetCall.result c.from_residual-in_err-receiver-in-OffsetCall.ensures.1 in
+    rw (p.1, p.2) (subst (λ (z : Expr). Types (classes_in code) (typed_in code z) (Err f)) (sym e.is)
+    (offset_call_fails (facts_in code) (place_in code) (map (type_at (classes_in code)) code.scope.now) (classes_in code) e.method e.receiver e.args f (subst (λ (z : Expr). Fails (value (typed_in code z)) f) c.get-in-OffsetCall.ensures c.in_err-receiver-in-OffsetCall.ensures)))
+
+pub kind_in-returns-in_err-receiver-in-Lookup : goal.kind_in-returns-in_err-receiver-in-Lookup
+kind_in-returns-in_err-receiver-in-Lookup t c =
+    let code = c.args.code.now in
+    let e = c.in-Lookup in
+    let f = c.in_err-receiver-in-Lookup.field-0.0 in
+    let p = err_from_is_err_and c.from_residual-in_err-receiver-in-Lookup.result c.from_residual-in_err-receiver-in-Lookup.ensures.1 in
+    rw (p.1, p.2) (subst (λ (z : Expr). Types (classes_in code) (typed_in code z) (Err f)) (sym e.is)
+    (lookup_fails (facts_in code) (place_in code) (map (type_at (classes_in code)) code.scope.now) (classes_in code) e.answer e.name e.receiver e.args f (subst (λ (z : Expr). Fails (value (typed_in code z)) f) c.get-in-Lookup.ensures c.in_err-receiver-in-Lookup.ensures)))
+
+pub kind_in-returns-in_err-receiver-in-Dispatch : goal.kind_in-returns-in_err-receiver-in-Dispatch
+kind_in-returns-in_err-receiver-in-Dispatch t c =
+    let code = c.args.code.now in
+    let e = c.in-Dispatch in
+    let f = c.in_err-receiver-in-Dispatch.field-0.0 in
+    let p = err_from_is_err_and c.from_residual-in_err-receiver-in-Dispatch.result c.from_residual-in_err-receiver-in-Dispatch.ensures.1 in
+    rw (p.1, p.2) (subst (λ (z : Expr). Types (classes_in code) (typed_in code z) (Err f)) (sym e.is)
+    (dispatch_fails (facts_in code) (place_in code) (map (type_at (classes_in code)) code.scope.now) (classes_in code) e.answer e.name e.receiver e.args f (subst (λ (z : Expr). Fails (value (typed_in code z)) f) c.get-in-Dispatch.ensures c.in_err-receiver-in-Dispatch.ensures)))
 
 pub value_in-returns : goal.value_in-returns
 value_in-returns t c =
