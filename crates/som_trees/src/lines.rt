@@ -1,6 +1,5 @@
 //! Lines that are written from left to right.
 
-use itoa::Buffer;
 use som_model::{List, NoMemory};
 use std::alloc::Global;
 
@@ -12,33 +11,32 @@ const DIGITS: &[u8; 16] = b"0123456789abcdef";
 /// Lines so far, the last of which may be begun alone.
 #[derive(Drop)]
 pub(crate) struct Lines {
-    bytes: List<u8>,
+    bytes: Vec<u8>,
 }
 
 impl Lines {
     pub(crate) fn new(alloc: Global) -> Lines {
         Lines {
-            bytes: List::new(alloc),
+            bytes: Vec::new(alloc),
         }
     }
 
     pub(crate) fn into_bytes(self) -> List<u8> {
         let Lines { bytes } = self;
-        bytes
+        List::from_vec(bytes)
     }
 
     pub(crate) fn add(&mut self, text: &str) -> Result<(), NoMemory> {
-        self.bytes.extend_from_slice(text.as_bytes())
+        Ok(self.bytes.extend_from_slice(text.as_bytes())?)
     }
 
     pub(crate) fn add_number(&mut self, number: usize) -> Result<(), NoMemory> {
-        let mut buffer = Buffer::new();
-        self.add(buffer.format(number))
+        som_show::add_number(&mut self.bytes, number as u64)
     }
 
     /// Ends the line.
     pub(crate) fn end(&mut self) -> Result<(), NoMemory> {
-        self.bytes.push(b'\n')
+        Ok(self.bytes.push(b'\n')?)
     }
 
     /// Adds bytes as they are, but for those that can't be printed.
@@ -82,10 +80,10 @@ impl Lines {
 
     fn add_byte(&mut self, byte: u8) -> Result<(), NoMemory> {
         if matches!(byte, b' '..=b'~') {
-            return self.bytes.push(byte);
+            return Ok(self.bytes.push(byte)?);
         }
         self.add("\\x")?;
         self.bytes.push(DIGITS[(byte / 16) as usize])?;
-        self.bytes.push(DIGITS[(byte % 16) as usize])
+        Ok(self.bytes.push(DIGITS[(byte % 16) as usize])?)
     }
 }
