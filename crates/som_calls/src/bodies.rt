@@ -1,0 +1,110 @@
+use som_model::{
+    Block, Body, ClassDecl, ClassFace, ClassKey, ClientProgram, Entry, Interface, List, Module,
+    NoMemory, Release, Sig, Text, ValueType, Way,
+};
+use som_verify::{VerifyFault, program_ok, release_ok};
+use std::alloc::Global;
+use std::test::Fail;
+
+fn method(alloc: Global, name: &[u8]) -> Result<Entry, NoMemory> {
+    Ok(Entry::Introduced {
+        name: Text::from_slice(alloc, name)?,
+        sig: Sig {
+            result: ValueType::Void,
+            params: List::new(alloc),
+        },
+        way: Way::Offset,
+    })
+}
+
+fn object(alloc: Global) -> Result<List<ClassKey>, NoMemory> {
+    let mut parents = List::new(alloc);
+    parents.push(ClassKey::Named {
+        module: Module::Kernel,
+        name: Text::from_slice(alloc, b"SOMObject")?,
+    })?;
+    Ok(parents)
+}
+
+fn face(alloc: Global, methods: &[&[u8]]) -> Result<ClassFace, NoMemory> {
+    let mut entries = List::new(alloc);
+    for name in methods {
+        entries.push(method(alloc, *name)?)?;
+    }
+    Ok(ClassFace {
+        name: Text::from_slice(alloc, b"Dog")?,
+        major: 0,
+        minor: 0,
+        parents: object(alloc)?,
+        metaclass: None,
+        entries,
+    })
+}
+
+fn empty_bodies(alloc: Global, count: usize) -> Result<List<Body>, NoMemory> {
+    let mut bodies = List::new(alloc);
+    for _ in 0..count {
+        bodies.push(Body::User(Block {
+            statements: List::new(alloc),
+        }))?;
+    }
+    Ok(bodies)
+}
+
+// The class Dog alone, with these methods and so many bodies.
+fn dogs(alloc: Global, methods: &[&[u8]], bodies: usize) -> Result<List<ClassDecl>, NoMemory> {
+    let mut classes = List::new(alloc);
+    classes.push(ClassDecl {
+        face: face(alloc, methods)?,
+        variables: List::new(alloc),
+        bodies: empty_bodies(alloc, bodies)?,
+        overrides: List::new(alloc),
+    })?;
+    Ok(classes)
+}
+
+fn is_told_of_dog(answer: &Result<(), VerifyFault>, rule: u8) -> bool {
+    match answer {
+        Err(VerifyFault::Rule(broken)) => {
+            broken.rule == rule && broken.class.is(b"Dog") && broken.member.is(b"-")
+        }
+        _ => false,
+    }
+}
+
+#[test]
+fn each_introduced_method_has_one_body(rt: HostRuntime) -> Result<(), Fail> {
+    let alloc = rt.alloc();
+    let cases: [(&[&[u8]], usize, bool); 5] = [
+        (&[b"go"], 1, true),
+        (&[b"go"], 0, false),
+        (&[b"go"], 2, false),
+        (&[b"go", b"run"], 1, false),
+        (&[], 1, false),
+    ];
+    for (methods, bodies, fits) in cases {
+        let release = Release {
+            classes: dogs(alloc, methods, bodies)?,
+        };
+        let answer = release_ok(alloc, &release);
+        assert_eq!(rt; answer.is_ok(), fits, "{bodies} bodies");
+        assert_eq!(rt; is_told_of_dog(&answer, 14), !fits, "{bodies} bodies");
+    }
+    Ok(())
+}
+
+#[test]
+fn each_method_of_a_client_has_a_body(rt: HostRuntime) -> Result<(), Fail> {
+    let alloc = rt.alloc();
+    let program = ClientProgram {
+        base: Interface {
+            classes: List::new(alloc),
+        },
+        classes: dogs(alloc, &[b"go"], 0)?,
+        main: Block {
+            statements: List::new(alloc),
+        },
+    };
+    assert!(rt; is_told_of_dog(&program_ok(alloc, &program), 14));
+    Ok(())
+}

@@ -1,0 +1,55 @@
+use som_model::{List, NoMemory, Text};
+use som_plain::{ancestors, descends, effective_order, implementation};
+use std::alloc::Global;
+use std::test::Fail;
+
+// The parents of each class, by numbers: D, B and C over A.
+const DIAMOND: [&[usize]; 4] = [&[], &[0], &[0], &[1, 2]];
+
+fn rows(alloc: Global) -> Result<Vec<List<usize>>, NoMemory> {
+    let mut rows = Vec::new(alloc);
+    for row in &DIAMOND {
+        rows.push(List::from_slice(alloc, *row)?)?;
+    }
+    Ok(rows)
+}
+
+#[test]
+fn ancestors_go_from_left_to_right(rt: HostRuntime) -> Result<(), Fail> {
+    let rows = rows(rt.alloc())?;
+    let found = ancestors(rt.alloc(), rows.as_slice(), 3)?;
+    let want: [usize; 4] = [3, 1, 0, 2];
+    assert_eq!(rt; found.as_slice(), want.as_slice());
+    Ok(())
+}
+
+#[test]
+fn descent_and_bodies_are_found(rt: HostRuntime) -> Result<(), Fail> {
+    let rows = rows(rt.alloc())?;
+    assert!(rt; descends(rows.as_slice(), 3, 2));
+    assert!(rt; !descends(rows.as_slice(), 2, 1));
+    let both = implementation(rows.as_slice(), &[true, true, true, false], 0, 3);
+    assert_eq!(rt; both, Some(1));
+    let right = implementation(rows.as_slice(), &[true, false, true, false], 0, 3);
+    assert_eq!(rt; right, Some(0));
+    Ok(())
+}
+
+fn texts(alloc: Global, names: &[&[u8]]) -> Result<List<Text>, NoMemory> {
+    let mut texts = List::new(alloc);
+    for name in names {
+        texts.push(Text::from_slice(alloc, *name)?)?;
+    }
+    Ok(texts)
+}
+
+#[test]
+fn listed_names_come_first(rt: HostRuntime) -> Result<(), Fail> {
+    let alloc = rt.alloc();
+    let listed = texts(alloc, &[b"eat", b"speak"])?;
+    let introduced = texts(alloc, &[b"speak", b"fetch"])?;
+    let order = effective_order(alloc, &listed, &introduced)?;
+    let want = texts(alloc, &[b"eat", b"speak", b"fetch"])?;
+    assert!(rt; order.as_slice() == want.as_slice());
+    Ok(())
+}

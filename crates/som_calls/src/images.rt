@@ -1,0 +1,159 @@
+ghost use Rattle.std.specs.Prelude.{◌≡◌, IfOk};
+
+use som_model::List;
+use som_verify::{program_ok, release_ok};
+use som_wire::ImageFault;
+use std::alloc::Global;
+use std::test::Fail;
+
+pub const NO_CLASSES: [u8; 7] = [b'S', b'O', b'M', b'L', 1, 0, 0];
+
+// One class, whose method sayHello prints a greeting.
+pub const LIBRARY: [u8; 66] = [
+    0x53, 0x4f, 0x4d, 0x4c, 0x01, 0x00, 0x01, 0x00, 0x05, 0x48, 0x65, 0x6c, 0x6c, 0x6f, 0x00, 0x00,
+    0x00, 0x01, 0x00, 0x00, 0x00, 0x00, 0x01, 0x00, 0x00, 0x00, 0x00, 0x01, 0x00, 0x08, 0x73, 0x61,
+    0x79, 0x48, 0x65, 0x6c, 0x6c, 0x6f, 0x00, 0x00, 0x00, 0x00, 0x00, 0x00, 0x00, 0x00, 0x01, 0x08,
+    0x21, 0x00, 0x0d, 0x48, 0x65, 0x6c, 0x6c, 0x6f, 0x2c, 0x20, 0x57, 0x6f, 0x72, 0x6c, 0x64, 0x21,
+    0x00, 0x00,
+];
+
+// One call of sayHello on a new object of the library's class Hello.
+pub const CLIENT: [u8; 57] = [
+    0x53, 0x4f, 0x4d, 0x43, 0x01, 0x00, 0x01, 0x00, 0x05, 0x48, 0x65, 0x6c, 0x6c, 0x6f, 0x00, 0x00,
+    0x00, 0x01, 0x00, 0x00, 0x00, 0x00, 0x01, 0x00, 0x00, 0x00, 0x00, 0x01, 0x00, 0x08, 0x73, 0x61,
+    0x79, 0x48, 0x65, 0x6c, 0x6c, 0x6f, 0x00, 0x00, 0x00, 0x00, 0x00, 0x00, 0x00, 0x00, 0x01, 0x0a,
+    0x2f, 0x00, 0x04, 0x00, 0x00, 0x29, 0x00, 0x04, 0x00,
+];
+
+// M under SOMClass; A 1.2 under SOMObject with the metaclass M, which introduces f; and B under A, with f moved to A and g
+// introduced. A and B have a variable each. f prints hi, g gets the variable, and B's override of f prints b.
+const THREE: [u8; 121] = [
+    b'S', b'O', b'M', b'L', 1, 0, 3, 0, 1, b'M', 0, 0, 0, 0, 0, 0, 0, 0, 1, 0, 1, 0, 0, 0, 0, 1,
+    b'A', 0, 0, 0, 1, 0, 0, 0, 2, 1, 0, 0, 1, 0, 4, 0, 1, 0, 1, b'f', 0, 0, 0, 0, 1, b'B', 0, 0, 0,
+    0, 0, 0, 0, 0, 1, 0, 5, 0, 0, 2, 0, 1, b'f', 2, 0, 5, 0, 1, b'g', 1, 1, 0, 0, 0, 0, 1, 0, 1,
+    b'x', 1, 0, 0, 0, 0, 1, 0x08, 0x21, 0, 2, b'h', b'i', 0, 0, 1, 0, 1, b'y', 1, 1, 0, 0, 1, 0, 5,
+    0, 0, 0, 0, 0, 1, 0x08, 0x21, 0, 1, b'b',
+];
+
+// One class of the highest version with a variable of each type: ga gets the first and sa sets it; f takes and answers the other
+// types, is called by its name, and prints two texts, one of them empty. The first method of SOMObject is overridden by nothing,
+// the last by a text.
+const EACH_FORM: [u8; 113] = [
+    b'S', b'O', b'M', b'L', 1, 0, 1, 0, 1, b'P', 0x7f, 0xff, 0xff, 0xff, 0, 0, 0, 0, 1, 0, 0, 0, 0,
+    3, 0, 2, b'g', b'a', 0, 1, 0, 0, 2, b's', b'a', 0, 0, 1, 1, 0, 1, b'f', 1, 4, 0, 4, 3, 2, 3, 4,
+    0, 0, 4, 0, 1, b'a', 1, 0, 1, b'b', 2, 0, 1, b'c', 3, 0, 1, b'd', 4, 0, 4, 1, 0, 2, 0, 0, 0, 0,
+    0, 2, 0x08, 0x21, 0, 1, b'x', 0x08, 0x21, 0, 0, 0, 2, 0, 0, 0, 0, 0, 0, 0, 0, 0, 0, 0, 0x08, 0,
+    0, 0, 1, 0x08, 0x21, 0, 2, b'o', b'k',
+];
+
+// A 1.0 under SOMObject, which introduces add, from a long to a long, and show. It has a variable n of the type long. The body of
+// add: var x : long = n; while (x < the parameter) x = x + 1; n = x; return x. The body of show: if (TRUE) print n; then add(7) on
+// itself. The override of somInit returns.
+const TWO: &[u8] = b"SOML\x01\0\x01\
+    \0\x01A\0\0\0\x01\0\0\0\0\x01\0\0\0\0\x02\0\x03add\0\x01\x01\x01\0\x04show\0\0\0\
+    \x01\0\x01n\x01\0\0\0\0\x04\x01\x01\x26\0\
+    \x05\x28\x07\x24\0\x01\x24\0\0\0\0\0\x01\x02\0\x01\x28\0\x24\0\x01\x20\0\0\0\x01\
+    \x03\0\x24\0\x01\x07\x24\0\x01\
+    \0\0\0\0\x02\x04\x22\x01\0\0\0\x01\x08\x26\0\0\0\0\0\
+    \x0a\x2f\0\x04\0\0\x25\x01\x20\0\0\0\x07\0\x01\0\0\0\0\0\0\0\x01\x06";
+
+// The library of CLIENT, and a class K of the client's own under Hello, with a variable, an introduced method g and an override of
+// sayHello. All blocks are empty.
+const OWN: [u8; 90] = [
+    b'S', b'O', b'M', b'C', 1, 0, 1, 0, 5, b'H', b'e', b'l', b'l', b'o', 0, 0, 0, 1, 0, 0, 0, 0, 1,
+    0, 0, 0, 0, 1, 0, 8, b's', b'a', b'y', b'H', b'e', b'l', b'l', b'o', 0, 0, 0, 0, 1, 0, 1, b'K',
+    0, 0, 0, 1, 0, 0, 0, 0, 1, 0, 4, 0, 0, 1, 0, 1, b'g', 0, 0, 0, 1, 0, 1, b'x', 1, 0, 0, 0, 0, 0,
+    0, 1, 0, 4, 0, 0, 0, 0, 0, 0, 0, 0, 0, 0,
+];
+
+// The image of the release that an image spells.
+fn library_again(alloc: Global, bytes: &[u8]) -> Result<List<u8>, Fail>
+    ensures { IfOk result (λ image. image ≡ bytes.now) }
+{
+    let image = List::from_slice(alloc, bytes)?;
+    let release = som_libimage::decode(alloc, &image)?;
+    match release_ok(alloc, &release) {
+        Ok(()) => Ok(som_libimage::encode(alloc, &release)?),
+        Err(_) => Err(Fail::from("it breaks a rule, or memory ran out")),
+    }
+}
+
+#[test]
+fn a_release_that_was_read_is_written_again(rt: HostRuntime) -> Result<(), Fail> {
+    let alloc = rt.alloc();
+    for image in [
+        NO_CLASSES.as_slice(),
+        LIBRARY.as_slice(),
+        THREE.as_slice(),
+        EACH_FORM.as_slice(),
+        TWO,
+    ] {
+        assert_eq!(rt; library_again(alloc, image)?.as_slice(), image);
+    }
+    Ok(())
+}
+
+// The image of a copy of the release that an image spells.
+fn copy_again(alloc: Global, bytes: &[u8]) -> Result<List<u8>, Fail> {
+    let image = List::from_slice(alloc, bytes)?;
+    let release = som_libimage::decode(alloc, &image)?;
+    let copy = release.copy(alloc)?;
+    match release_ok(alloc, &copy) {
+        Ok(()) => Ok(som_libimage::encode(alloc, &copy)?),
+        Err(_) => Err(Fail::from("it breaks a rule, or memory ran out")),
+    }
+}
+
+#[test]
+fn copies_have_the_same_image(rt: HostRuntime) -> Result<(), Fail> {
+    let alloc = rt.alloc();
+    for image in [THREE.as_slice(), EACH_FORM.as_slice(), TWO] {
+        assert_eq!(rt; copy_again(alloc, image)?.as_slice(), image);
+    }
+    Ok(())
+}
+
+#[test]
+fn a_copy_has_the_same_interface(rt: HostRuntime) -> Result<(), Fail> {
+    let alloc = rt.alloc();
+    let image = List::from_slice(alloc, &THREE)?;
+    let interface = som_libimage::decode(alloc, &image)?.interface(alloc)?;
+    assert_eq!(rt; interface.classes.len(), 3);
+    assert!(rt; interface.copy(alloc)?.is(&interface));
+    Ok(())
+}
+
+// The image of the program that an image spells.
+fn client_again(alloc: Global, image: &[u8]) -> Result<List<u8>, Fail> {
+    let Ok(program) = som_cliimage::decode(alloc, &List::from_slice(alloc, image)?) else {
+        return Err(Fail::from("a client program"));
+    };
+    let Ok(()) = program_ok(alloc, &program) else {
+        return Err(Fail::from("a program that breaks no rule"));
+    };
+    match som_cliimage::encode(alloc, &program) {
+        Ok(bytes) => Ok(bytes),
+        Err(_) => Err(Fail::from("an image")),
+    }
+}
+
+#[test]
+fn a_program_that_was_read_is_written_again(rt: HostRuntime) -> Result<(), Fail> {
+    let alloc = rt.alloc();
+    for image in [CLIENT.as_slice(), OWN.as_slice()] {
+        assert_eq!(rt; client_again(alloc, image)?.as_slice(), image);
+    }
+    Ok(())
+}
+
+#[test]
+fn a_library_is_no_client(rt: HostRuntime) -> Result<(), Fail> {
+    let alloc = rt.alloc();
+    match som_cliimage::decode(alloc, &List::from_slice(alloc, b"SOML\x09")?) {
+        Ok(_) => Err(Fail::from("a program")),
+        Err(fault) => {
+            assert_eq!(rt; fault, ImageFault::Magic { offset: 0 });
+            Ok(())
+        }
+    }
+}

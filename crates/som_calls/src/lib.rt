@@ -1,0 +1,25 @@
+//! Tests of what neither a clause nor a command shows. `README.md` says which.
+#![tactic(auto)]
+
+#[cfg(test)]
+mod bodies;
+#[cfg(test)]
+mod fields;
+#[cfg(test)]
+mod hierarchies;
+#[cfg(test)]
+mod images;
+#[cfg(test)]
+mod interfaces;
+#[cfg(test)]
+mod lines;
+#[cfg(test)]
+mod orders;
+#[cfg(test)]
+mod slow;
+#[cfg(test)]
+mod stores;
+#[cfg(test)]
+mod tables;
+#[cfg(test)]
+mod texts;

@@ -1,0 +1,44 @@
+use crate::images::NO_CLASSES;
+use som_compile::{Source, Trees, compile_library, read_texts};
+use som_model::{List, NoMemory, Text};
+use std::alloc::Global;
+use std::test::Fail;
+
+#[test]
+fn no_texts_stand_for_no_classes(rt: HostRuntime) -> Result<(), Fail> {
+    let alloc = rt.alloc();
+    let texts: List<Source> = List::new(alloc);
+    let Ok(image) = compile_library(alloc, &texts) else {
+        return Err(Fail::from("an image"));
+    };
+    assert_eq!(rt; image.as_slice(), NO_CLASSES.as_slice());
+    Ok(())
+}
+
+fn source(alloc: Global, name: &[u8], bytes: &[u8]) -> Result<Source, NoMemory> {
+    Ok(Source {
+        name: Text::from_slice(alloc, name)?,
+        bytes: List::from_slice(alloc, bytes)?,
+    })
+}
+
+fn trees_of(alloc: Global, texts: &List<Source>) -> Result<Trees, Fail> {
+    match read_texts(alloc, texts) {
+        Ok(trees) => Ok(trees),
+        Err(_) => Err(Fail::from("trees")),
+    }
+}
+
+#[test]
+fn two_mains_are_read_in_order(rt: HostRuntime) -> Result<(), Fail> {
+    let alloc = rt.alloc();
+    let mut texts = List::new(alloc);
+    texts.push(source(alloc, b"m.main", b"main { print 1; print 2; }")?)?;
+    texts.push(source(alloc, b"n.main", b"main { }")?)?;
+    let trees = trees_of(alloc, &texts)?;
+    assert_eq!(rt; trees.mains.len(), 2);
+    for (file, wanted) in trees.mains.as_slice().iter().zip([2usize, 0]) {
+        assert_eq!(rt; file.block.statements.len(), wanted);
+    }
+    Ok(())
+}
