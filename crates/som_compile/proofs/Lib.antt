@@ -1,4 +1,3 @@
-pub mod Counting
 pub mod Lexed
 pub mod ReadLaws
 pub mod ReleaseWithin

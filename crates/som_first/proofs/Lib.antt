@@ -20,4 +20,3 @@ pub mod FirstDecided
 pub mod PlacedCalls
 mod Forms
 pub mod Within
-mod WorkedLaws

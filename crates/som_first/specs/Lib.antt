@@ -1,4 +1,3 @@
 pub mod FirstImages
 pub mod FirstRuns
 pub mod Linking
-pub mod Worked
