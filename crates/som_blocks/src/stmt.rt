@@ -12,7 +12,7 @@ ghost use Rattle.som_wire.specs.Fields.{Gives};
 ghost use Rattle.std.specs.Prelude.{◌≡◌, ◌≤◌, length, IfOk};
 
 use crate::call::read_call;
-use crate::expr::read_expr;
+use crate::expr::{read_expr, read_operand};
 use crate::syntax::{WireBlock, WireStmt};
 use som_model::List;
 use som_wire::{ImageFault, Ranges, Read, read_many, read_type, read_u8, read_u16, read_u32};
@@ -150,12 +150,12 @@ fn read_flow(
 {
     match tag.value {
         0x04 => {
-            let condition = read_expr(alloc, bytes, tag.next, ranges, left)?;
+            let condition = read_operand(alloc, bytes, tag.next, ranges, left)?;
             let then = read_statements(alloc, bytes, condition.next, ranges, left)?;
             let other = read_statements(alloc, bytes, then.next, ranges, left)?;
             Ok(Read {
                 value: WireStmt::If {
-                    condition: condition.value,
+                    condition: condition.value.into_inner(),
                     then: then.value,
                     other: other.value,
                 },
@@ -163,11 +163,11 @@ fn read_flow(
             })
         }
         0x05 => {
-            let condition = read_expr(alloc, bytes, tag.next, ranges, left)?;
+            let condition = read_operand(alloc, bytes, tag.next, ranges, left)?;
             let block = read_statements(alloc, bytes, condition.next, ranges, left)?;
             Ok(Read {
                 value: WireStmt::While {
-                    condition: condition.value,
+                    condition: condition.value.into_inner(),
                     block: block.value,
                 },
                 next: block.next,
