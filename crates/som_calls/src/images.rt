@@ -1,8 +1,8 @@
 ghost use Rattle.std.specs.Prelude.{◌≡◌, IfOk};
 
+use som_libimage::{decode, encode};
 use som_model::List;
-use som_verify::{program_ok, release_ok};
-use som_wire::ImageFault;
+use som_verify::release_ok;
 use std::alloc::Global;
 use std::test::Fail;
 
@@ -57,23 +57,14 @@ const TWO: &[u8] = b"SOML\x01\0\x01\
     \0\0\0\0\x02\x04\x22\x01\0\0\0\x01\x08\x26\0\0\0\0\0\
     \x0a\x2f\0\x04\0\0\x25\x01\x20\0\0\0\x07\0\x01\0\0\0\0\0\0\0\x01\x06";
 
-// The library of CLIENT, and a class K of the client's own under Hello, with a variable, an introduced method g and an override of
-// sayHello. All blocks are empty.
-const OWN: [u8; 90] = [
-    b'S', b'O', b'M', b'C', 1, 0, 1, 0, 5, b'H', b'e', b'l', b'l', b'o', 0, 0, 0, 1, 0, 0, 0, 0, 1,
-    0, 0, 0, 0, 1, 0, 8, b's', b'a', b'y', b'H', b'e', b'l', b'l', b'o', 0, 0, 0, 0, 1, 0, 1, b'K',
-    0, 0, 0, 1, 0, 0, 0, 0, 1, 0, 4, 0, 0, 1, 0, 1, b'g', 0, 0, 0, 1, 0, 1, b'x', 1, 0, 0, 0, 0, 0,
-    0, 1, 0, 4, 0, 0, 0, 0, 0, 0, 0, 0, 0, 0,
-];
-
 // The image of the release that an image spells.
-fn library_again(alloc: Global, bytes: &[u8]) -> Result<List<u8>, Fail>
+fn written_again(alloc: Global, bytes: &[u8]) -> Result<List<u8>, Fail>
     ensures { IfOk result (λ image. image ≡ bytes.now) }
 {
     let image = List::from_slice(alloc, bytes)?;
-    let release = som_libimage::decode(alloc, &image)?;
+    let release = decode(alloc, &image)?;
     match release_ok(alloc, &release) {
-        Ok(()) => Ok(som_libimage::encode(alloc, &release)?),
+        Ok(()) => Ok(encode(alloc, &release)?),
         Err(_) => Err(Fail::from("it breaks a rule, or memory ran out")),
     }
 }
@@ -88,7 +79,7 @@ fn a_release_that_was_read_is_written_again(rt: HostRuntime) -> Result<(), Fail>
         EACH_FORM.as_slice(),
         TWO,
     ] {
-        assert_eq!(rt; library_again(alloc, image)?.as_slice(), image);
+        assert_eq!(rt; written_again(alloc, image)?.as_slice(), image);
     }
     Ok(())
 }
@@ -96,10 +87,10 @@ fn a_release_that_was_read_is_written_again(rt: HostRuntime) -> Result<(), Fail>
 // The image of a copy of the release that an image spells.
 fn copy_again(alloc: Global, bytes: &[u8]) -> Result<List<u8>, Fail> {
     let image = List::from_slice(alloc, bytes)?;
-    let release = som_libimage::decode(alloc, &image)?;
+    let release = decode(alloc, &image)?;
     let copy = release.copy(alloc)?;
     match release_ok(alloc, &copy) {
-        Ok(()) => Ok(som_libimage::encode(alloc, &copy)?),
+        Ok(()) => Ok(encode(alloc, &copy)?),
         Err(_) => Err(Fail::from("it breaks a rule, or memory ran out")),
     }
 }
@@ -117,43 +108,8 @@ fn copies_have_the_same_image(rt: HostRuntime) -> Result<(), Fail> {
 fn a_copy_has_the_same_interface(rt: HostRuntime) -> Result<(), Fail> {
     let alloc = rt.alloc();
     let image = List::from_slice(alloc, &THREE)?;
-    let interface = som_libimage::decode(alloc, &image)?.interface(alloc)?;
+    let interface = decode(alloc, &image)?.interface(alloc)?;
     assert_eq!(rt; interface.classes.len(), 3);
     assert!(rt; interface.copy(alloc)?.is(&interface));
     Ok(())
-}
-
-// The image of the program that an image spells.
-fn client_again(alloc: Global, image: &[u8]) -> Result<List<u8>, Fail> {
-    let Ok(program) = som_cliimage::decode(alloc, &List::from_slice(alloc, image)?) else {
-        return Err(Fail::from("a client program"));
-    };
-    let Ok(()) = program_ok(alloc, &program) else {
-        return Err(Fail::from("a program that breaks no rule"));
-    };
-    match som_cliimage::encode(alloc, &program) {
-        Ok(bytes) => Ok(bytes),
-        Err(_) => Err(Fail::from("an image")),
-    }
-}
-
-#[test]
-fn a_program_that_was_read_is_written_again(rt: HostRuntime) -> Result<(), Fail> {
-    let alloc = rt.alloc();
-    for image in [CLIENT.as_slice(), OWN.as_slice()] {
-        assert_eq!(rt; client_again(alloc, image)?.as_slice(), image);
-    }
-    Ok(())
-}
-
-#[test]
-fn a_library_is_no_client(rt: HostRuntime) -> Result<(), Fail> {
-    let alloc = rt.alloc();
-    match som_cliimage::decode(alloc, &List::from_slice(alloc, b"SOML\x09")?) {
-        Ok(_) => Err(Fail::from("a program")),
-        Err(fault) => {
-            assert_eq!(rt; fault, ImageFault::Magic { offset: 0 });
-            Ok(())
-        }
-    }
 }

@@ -16,6 +16,8 @@ mod lines;
 #[cfg(test)]
 mod orders;
 #[cfg(test)]
+mod programs;
+#[cfg(test)]
 mod slow;
 #[cfg(test)]
 mod stores;
