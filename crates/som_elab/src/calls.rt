@@ -10,7 +10,7 @@ use crate::made::Made;
 use crate::methods::{Found, method_for, method_ref};
 use crate::parts::{Parts, formed};
 use crate::site::Site;
-use som_model::{Boxed, Expr, Text, ValueType, Way};
+use som_model::{Expr, Text, ValueType, Way};
 use som_read::TypeName;
 use som_sema::result_of;
 use som_verify::{TypeFault, all_fit, named_call_kind, offset_call_kind};
@@ -77,8 +77,9 @@ fn offset_call(
     let Made { expr, kind } = on;
     let Parts { exprs, kinds } = args;
     let kind = offset_call_kind(&site.known, &method, kind, kinds.as_slice());
-    let receiver = Boxed::new(alloc, expr)?;
+    let receiver = expr;
     formed(
+        alloc,
         Expr::OffsetCall {
             method,
             receiver,
@@ -105,6 +106,7 @@ fn fitting_lookup(
 {
     let sig = method.sig;
     if all_fit(&site.known, sig.params.as_slice(), args.kinds.as_slice()) {
+        let name = name.copy(alloc)?;
         let answer = sig.result.copy(alloc)?;
         lookup(alloc, site, answer, on, name, args)
     } else {
@@ -118,20 +120,20 @@ fn lookup(
     site: &Site,
     answer: ValueType,
     on: Made,
-    name: &Text,
+    name: Text,
     args: Parts,
 ) -> Result<Made, TypeFault>
     requires site { IsSite site.now }
     requires on { Stands (classes_at site.now) on.kind }
     requires args { AreParts (classes_at site.now) args }
-    ensures { Makes (classes_at site.now) (lookup_by (facts_at site.now) answer (made_at (classes_at site.now) on) name.now (parts_at (classes_at site.now) args)) result }
+    ensures { Makes (classes_at site.now) (lookup_by (facts_at site.now) answer (made_at (classes_at site.now) on) name (parts_at (classes_at site.now) args)) result }
 {
     let Made { expr, kind } = on;
     let Parts { exprs, kinds } = args;
     let kind = named_call_kind(&site.known, &answer, kind, kinds.as_slice());
-    let receiver = Boxed::new(alloc, expr)?;
-    let name = name.copy(alloc)?;
+    let receiver = expr;
     formed(
+        alloc,
         Expr::Lookup {
             result: answer,
             name,
@@ -156,6 +158,7 @@ pub fn lookup_call(
     requires args { AreParts (classes_at site.now) args }
     ensures { Makes (classes_at site.now) (spec.lookup_form (among_at site.now) answer.now (made_at (classes_at site.now) on) name.now (parts_at (classes_at site.now) args)) result }
 {
+    let name = name.copy(alloc)?;
     let answer = result_of(alloc, site.scope, answer)?;
     lookup(alloc, site, answer, on, name, args)
 }
@@ -174,6 +177,7 @@ pub fn dispatch_call(
     requires args { AreParts (classes_at site.now) args }
     ensures { Makes (classes_at site.now) (spec.dispatch_form (among_at site.now) answer.now (made_at (classes_at site.now) on) name.now (parts_at (classes_at site.now) args)) result }
 {
+    let name = name.copy(alloc)?;
     let answer = result_of(alloc, site.scope, answer)?;
     dispatch(alloc, site, answer, on, name, args)
 }
@@ -184,20 +188,20 @@ fn dispatch(
     site: &Site,
     answer: ValueType,
     on: Made,
-    name: &Text,
+    name: Text,
     args: Parts,
 ) -> Result<Made, TypeFault>
     requires site { IsSite site.now }
     requires on { Stands (classes_at site.now) on.kind }
     requires args { AreParts (classes_at site.now) args }
-    ensures { Makes (classes_at site.now) (dispatch_by (facts_at site.now) answer (made_at (classes_at site.now) on) name.now (parts_at (classes_at site.now) args)) result }
+    ensures { Makes (classes_at site.now) (dispatch_by (facts_at site.now) answer (made_at (classes_at site.now) on) name (parts_at (classes_at site.now) args)) result }
 {
     let Made { expr, kind } = on;
     let Parts { exprs, kinds } = args;
     let kind = named_call_kind(&site.known, &answer, kind, kinds.as_slice());
-    let receiver = Boxed::new(alloc, expr)?;
-    let name = name.copy(alloc)?;
+    let receiver = expr;
     formed(
+        alloc,
         Expr::Dispatch {
             result: answer,
             name,

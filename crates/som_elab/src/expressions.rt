@@ -32,22 +32,17 @@ pub fn expression(
     ensures { Makes (classes_at site.now) (elaborated (among_at site.now) (place_at site.now) (names_at (classes_at site.now) locals.now) text.now) result }
 {
     match text {
-        ExprText::Number(number) => Ok(Made {
-            expr: Expr::Long(number.cast_signed()),
-            kind: Kind::Long,
-        }),
+        ExprText::Number(number) => Ok(Made::new(
+            alloc,
+            Expr::Long(number.cast_signed()),
+            Kind::Long,
+        )?),
         ExprText::Literal(value) => literal(alloc, value),
-        ExprText::Boolean(value) => Ok(Made {
-            expr: Expr::Boolean(*value),
-            kind: Kind::Boolean,
-        }),
-        ExprText::Nil => Ok(Made {
-            expr: Expr::Nil,
-            kind: Kind::Nil,
-        }),
-        ExprText::Name(word) => local(site, locals, word.text.as_slice()),
-        ExprText::Me => me(site),
-        ExprText::Variable(word) => variable(site, word.text.as_slice()),
+        ExprText::Boolean(value) => Ok(Made::new(alloc, Expr::Boolean(*value), Kind::Boolean)?),
+        ExprText::Nil => Ok(Made::new(alloc, Expr::Nil, Kind::Nil)?),
+        ExprText::Name(word) => local(alloc, site, locals, word.text.as_slice()),
+        ExprText::Me => me(alloc, site),
+        ExprText::Variable(word) => variable(alloc, site, word.text.as_slice()),
         ExprText::Unary { op, of } => unary_text(alloc, site, locals, of, *op),
         ExprText::Binary { op, left, right } => {
             let left = value_expression(alloc, site, locals, left.get())?;
@@ -55,10 +50,7 @@ pub fn expression(
         }
         ExprText::New(word) => new_object(alloc, site, word.text.as_slice()),
         ExprText::Class(word) => class_object(alloc, site, word.text.as_slice()),
-        ExprText::Manager => Ok(Made {
-            expr: Expr::Manager,
-            kind: Kind::Class(SOM_CLASS_MGR),
-        }),
+        ExprText::Manager => Ok(Made::new(alloc, Expr::Manager, Kind::Class(SOM_CLASS_MGR))?),
         ExprText::Cast { class, of } => {
             cast_text(alloc, site, locals, of, class.text.as_slice())
         }

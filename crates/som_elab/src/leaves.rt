@@ -20,42 +20,40 @@ use std::alloc::Global;
 pub fn literal(alloc: Global, text: &Text) -> Result<Made, TypeFault>
     ensures { (cs : Seq Class) → Makes cs (spec.formed (exprs.Str text.now) (Ok (Of types.Str))) result }
 {
-    Ok(Made {
-        expr: Expr::Str(text.copy(alloc)?),
-        kind: Kind::Str,
-    })
+    Ok(Made::new(alloc, Expr::Str(text.copy(alloc)?), Kind::Str)?)
 }
 
 /// A parameter or local, by its name.
-pub fn local(site: &Site, locals: &[Local], name: &[u8]) -> Result<Made, TypeFault>
+pub fn local(alloc: Global, site: &Site, locals: &[Local], name: &[u8]) -> Result<Made, TypeFault>
     requires { AreLocals (classes_at site.now) locals.now }
     ensures { Makes (classes_at site.now) (spec.local_form (names_at (classes_at site.now) locals.now) name.now) result }
 {
     match local_of(locals, name) {
         None => Err(TypeFault::Rule(16)),
-        Some(place) => Ok(Made {
-            expr: Expr::Local(place),
-            kind: locals[place as usize].kind,
-        }),
+        Some(place) => {
+            let kind = locals[place as usize].kind;
+            Ok(Made::new(alloc, Expr::Local(place), kind)?)
+        }
     }
 }
 
 /// The body's own object.
-pub fn me(site: &Site) -> Result<Made, TypeFault>
+pub fn me(alloc: Global, site: &Site) -> Result<Made, TypeFault>
     requires { IsSite site.now }
     ensures { Makes (classes_at site.now) (spec.formed exprs.Me (self_type (place_at site.now))) result }
 {
-    formed(Expr::Me, self_kind(&site.known, &site.at))
+    formed(alloc, Expr::Me, self_kind(&site.known, &site.at))
 }
 
 /// A variable of the body's class, by its name.
-pub fn variable(site: &Site, name: &[u8]) -> Result<Made, TypeFault>
+pub fn variable(alloc: Global, site: &Site, name: &[u8]) -> Result<Made, TypeFault>
     requires { IsSite site.now }
     ensures { Makes (classes_at site.now) (spec.variable_form (place_at site.now) name.now) result }
 {
     match variable_place(&site.known, &site.at, name) {
         None => Err(TypeFault::Rule(16)),
         Some(place) => formed(
+            alloc,
             Expr::Variable(place),
             variable_kind(&site.known, &site.at, place as usize),
         ),
@@ -69,7 +67,7 @@ pub fn new_object(alloc: Global, site: &Site, name: &[u8]) -> Result<Made, TypeF
 {
     let class = key_of(alloc, site.scope, name)?;
     let kind = new_kind(&site.known, &class);
-    formed(Expr::New(class), kind)
+    formed(alloc, Expr::New(class), kind)
 }
 
 /// The object of a class.
@@ -79,5 +77,5 @@ pub fn class_object(alloc: Global, site: &Site, name: &[u8]) -> Result<Made, Typ
 {
     let class = key_of(alloc, site.scope, name)?;
     let kind = class_kind(&site.known, &class);
-    formed(Expr::Class(class), kind)
+    formed(alloc, Expr::Class(class), kind)
 }

@@ -1,9 +1,21 @@
-use som_model::Expr;
-use som_verify::Kind;
+ghost use Rattle.std.specs.Prelude.{◌≡◌, IfOk};
 
-/// A named expression, and its type.
+use som_model::{Boxed, Expr, NoMemory};
+use som_verify::Kind;
+use std::alloc::Global;
+
+/// A named expression, as a part of what holds it, and its type.
 #[derive(Drop)]
 pub struct Made {
-    pub expr: Expr,
+    pub expr: Boxed<Expr>,
     pub kind: Kind,
+}
+
+impl Made {
+    pub fn new(alloc: Global, expr: Expr, kind: Kind) -> Result<Made, NoMemory>
+        ensures { IfOk result (λ made. made ≡ record { expr = expr; kind = kind }) }
+    {
+        let expr = Boxed::new(alloc, expr)?;
+        Ok(Made { expr, kind })
+    }
 }

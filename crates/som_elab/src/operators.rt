@@ -7,7 +7,7 @@ ghost use Rattle.std.specs.Prelude.{List as Seq};
 use crate::made::Made;
 use crate::parts::formed;
 use crate::site::Site;
-use som_model::{Boxed, Expr, HostCode};
+use som_model::{Expr, HostCode};
 use som_sema::key_of;
 use som_verify::{TypeFault, binary_kind, cast_kind, host_kind, isa_kind, proxy_kind, unary_kind};
 use std::alloc::Global;
@@ -16,9 +16,8 @@ use std::alloc::Global;
 pub fn unary(alloc: Global, op: u8, part: Made) -> Result<Made, TypeFault>
     ensures { (cs : Seq Class) → Makes cs (spec.unary_form op (made_at cs part)) result }
 {
-    let Made { expr, kind } = part;
-    let of = Boxed::new(alloc, expr)?;
-    formed(Expr::Unary { op, of }, unary_kind(op, kind))
+    let Made { expr: of, kind } = part;
+    formed(alloc, Expr::Unary { op, of }, unary_kind(op, kind))
 }
 
 /// An operator of two operands.
@@ -26,9 +25,9 @@ pub fn binary(alloc: Global, op: u8, first: Made, second: Made) -> Result<Made, 
     ensures { (cs : Seq Class) → Makes cs (spec.binary_form op (made_at cs first) (made_at cs second)) result }
 {
     let kind = binary_kind(op, first.kind, second.kind);
-    let left = Boxed::new(alloc, first.expr)?;
-    let right = Boxed::new(alloc, second.expr)?;
-    formed(Expr::Binary { op, left, right }, kind)
+    let left = first.expr;
+    let right = second.expr;
+    formed(alloc, Expr::Binary { op, left, right }, kind)
 }
 
 /// A procedure of the host.
@@ -36,9 +35,9 @@ pub fn host(alloc: Global, code: HostCode, first: Made, second: Made) -> Result<
     ensures { (cs : Seq Class) → Makes cs (spec.host_form code (made_at cs first) (made_at cs second)) result }
 {
     let kind = host_kind(first.kind, second.kind);
-    let a = Boxed::new(alloc, first.expr)?;
-    let b = Boxed::new(alloc, second.expr)?;
-    formed(Expr::Host { code, a, b }, kind)
+    let a = first.expr;
+    let b = second.expr;
+    formed(alloc, Expr::Host { code, a, b }, kind)
 }
 
 /// A reference taken as one of a class.
@@ -47,11 +46,10 @@ pub fn cast(alloc: Global, site: &Site, name: &[u8], part: Made) -> Result<Made,
     requires part { Stands (classes_at site.now) part.kind }
     ensures { Makes (classes_at site.now) (spec.cast_form (among_at site.now) name.now (made_at (classes_at site.now) part)) result }
 {
-    let Made { expr, kind } = part;
+    let Made { expr: of, kind } = part;
     let class = key_of(alloc, site.scope, name)?;
     let kind = cast_kind(&site.known, &class, kind);
-    let of = Boxed::new(alloc, expr)?;
-    formed(Expr::Cast { class, of }, kind)
+    formed(alloc, Expr::Cast { class, of }, kind)
 }
 
 /// Whether a reference is of a class.
@@ -60,11 +58,10 @@ pub fn isa(alloc: Global, site: &Site, name: &[u8], part: Made) -> Result<Made, 
     requires part { Stands (classes_at site.now) part.kind }
     ensures { Makes (classes_at site.now) (spec.isa_form (among_at site.now) name.now (made_at (classes_at site.now) part)) result }
 {
-    let Made { expr, kind } = part;
+    let Made { expr: of, kind } = part;
     let class = key_of(alloc, site.scope, name)?;
     let kind = isa_kind(&site.known, &class, kind);
-    let of = Boxed::new(alloc, expr)?;
-    formed(Expr::Isa { class, of }, kind)
+    formed(alloc, Expr::Isa { class, of }, kind)
 }
 
 /// A proxy of a reference.
@@ -73,9 +70,8 @@ pub fn proxy(alloc: Global, site: &Site, name: &[u8], part: Made) -> Result<Made
     requires part { Stands (classes_at site.now) part.kind }
     ensures { Makes (classes_at site.now) (spec.proxy_form (among_at site.now) name.now (made_at (classes_at site.now) part)) result }
 {
-    let Made { expr, kind } = part;
+    let Made { expr: of, kind } = part;
     let class = key_of(alloc, site.scope, name)?;
     let kind = proxy_kind(&site.known, &class, kind);
-    let of = Boxed::new(alloc, expr)?;
-    formed(Expr::Proxy { class, of }, kind)
+    formed(alloc, Expr::Proxy { class, of }, kind)
 }

@@ -95,6 +95,7 @@ fn call_at(
         kinds.as_slice(),
     );
     formed(
+        alloc,
         Expr::ParentCall {
             parent: number,
             method,
@@ -133,6 +134,7 @@ fn call_all(
     let Parts { exprs, kinds } = args;
     let kind = parents_call_kind(&site.known, &site.at, &method, kinds.as_slice());
     formed(
+        alloc,
         Expr::ParentsCall {
             method,
             args: exprs,

@@ -7,7 +7,7 @@ ghost use Rattle.som_verify.specs.Kinds.{Comes, Stands};
 ghost use Rattle.std.specs.Prelude.{◌≡◌, List as Seq, [], OnOk};
 
 use crate::made::Made;
-use som_model::{Expr, List, NoMemory};
+use som_model::{Boxed, Expr, List, NoMemory};
 use som_verify::{Kind, TypeFault, is_nothing};
 use std::alloc::Global;
 
@@ -34,7 +34,7 @@ pub fn add(parts: &mut Parts, made: Made) -> Result<(), NoMemory>
     ensures { OnOk result ((cs : Seq Class) → AreParts cs parts.old → Stands cs made.kind → Adds cs parts.old made parts.new) }
 {
     let Made { expr, kind } = made;
-    parts.exprs.push(expr)?;
+    parts.exprs.push(expr.into_inner())?;
     parts.kinds.push(kind)?;
     Ok(())
 }
@@ -51,9 +51,10 @@ pub fn valued(made: Made) -> Result<Made, TypeFault>
 }
 
 /// An expression with the kind that its form has.
-pub fn formed(expr: Expr, kind: Result<Kind, u8>) -> Result<Made, TypeFault>
+pub fn formed(alloc: Global, expr: Expr, kind: Result<Kind, u8>) -> Result<Made, TypeFault>
     ensures { (cs : Seq Class) (type : Typed) → Comes cs type kind → Makes cs (spec.formed expr type) result }
 {
+    let expr = Boxed::new(alloc, expr)?;
     let kind = kind?;
     Ok(Made { expr, kind })
 }

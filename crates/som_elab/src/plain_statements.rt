@@ -60,7 +60,14 @@ fn local_takes(site: &Site, locals: &[Local], name: &[u8], made: Made) -> Result
         None => Err(BodyFault::Rule(16)),
         Some(local) => {
             let fits = kind_fits(&site.known, kind_of_local(locals, local as usize), kind);
-            demanded(17, fits, Stmt::SetLocal { local, value: expr })
+            demanded(
+                17,
+                fits,
+                Stmt::SetLocal {
+                    local,
+                    value: expr.into_inner(),
+                },
+            )
         }
     }
 }
@@ -108,7 +115,7 @@ fn variable_takes(site: &Site, locals: &[Local], name: &[u8], made: Made) -> Res
                     fits,
                     Stmt::SetVariable {
                         variable,
-                        value: expr,
+                        value: expr.into_inner(),
                     },
                 )
             }
@@ -145,7 +152,13 @@ fn answer_value(
         (forms.value_return (among_at site.now) (place_at site.now) (names_in site.now locals.now))) locals.now result }
 {
     let Made { expr, kind } = value_expression(alloc, site, locals, value)?;
-    demanded(19, is_answer(site, kind), Stmt::ReturnValue { value: expr })
+    demanded(
+        19,
+        is_answer(site, kind),
+        Stmt::ReturnValue {
+            value: expr.into_inner(),
+        },
+    )
 }
 
 // Whether a value is wanted, and this one fits.
@@ -174,7 +187,13 @@ pub fn print(
     ensures { Keeps (classes_at site.now) (by_value (value_in site.now locals.now value.now) (forms.printed (names_in site.now locals.now))) locals.now result }
 {
     let Made { expr, kind } = value_expression(alloc, site, locals, value)?;
-    demanded(17, has_text(kind), Stmt::Print { value: expr })
+    demanded(
+        17,
+        has_text(kind),
+        Stmt::Print {
+            value: expr.into_inner(),
+        },
+    )
 }
 
 /// What is freed is an object, and not plain nil.
@@ -189,7 +208,13 @@ pub fn free(
     ensures { Keeps (classes_at site.now) (by_value (value_in site.now locals.now value.now) (forms.freed (names_in site.now locals.now))) locals.now result }
 {
     let Made { expr, kind } = value_expression(alloc, site, locals, value)?;
-    demanded(17, is_object(kind), Stmt::Free { value: expr })
+    demanded(
+        17,
+        is_object(kind),
+        Stmt::Free {
+            value: expr.into_inner(),
+        },
+    )
 }
 
 /// A call stands alone, whatever it answers, and nothing else does.
@@ -204,6 +229,12 @@ pub fn call(
     ensures { Keeps (classes_at site.now) (by_value (expr_in site.now locals.now call.now) (forms.call_statement (names_in site.now locals.now))) locals.now result }
 {
     let Made { expr, .. } = expression(alloc, site, locals, call)?;
-    let stands = is_call(&expr);
-    demanded(20, stands, Stmt::Call { call: expr })
+    let stands = is_call(expr.get());
+    demanded(
+        20,
+        stands,
+        Stmt::Call {
+            call: expr.into_inner(),
+        },
+    )
 }

@@ -97,7 +97,7 @@ fn choice<'a>(
     let then = block(alloc, site, locals, then)?;
     let other = block(alloc, site, locals, other)?;
     let made = Stmt::If {
-        condition: expr,
+        condition: expr.into_inner(),
         then,
         other,
     };
@@ -120,7 +120,7 @@ fn repetition<'a>(
     let Made { expr, kind } = value_expression(alloc, site, locals.as_slice(), condition)?;
     let body = block(alloc, site, locals, body)?;
     let made = Stmt::While {
-        condition: expr,
+        condition: expr.into_inner(),
         block: body,
     };
     demanded(17, is_boolean(kind), made)
@@ -147,6 +147,6 @@ fn declare_local<'a>(
     locals.push(Local { name, kind: wanted })?;
     Ok(Stmt::Var {
         kind,
-        value: made.expr,
+        value: made.expr.into_inner(),
     })
 }

@@ -10,7 +10,7 @@ returns-in_ok-answer c =
     let s = c.args.site.now in
     let cs = classes_at s in
     fitting_made cs (facts_at s) c.args.args c.as_slice-2.result.now c.lookup.result c.requires.args c.as_slice-2.ensures.value (method_at cs c.args.name.now c.args.method.now) (made_at cs c.args.on)
-    c.in_ok-answer.answer c.as_slice.result.now c.all_fit.result c.as_slice.ensures c.all_fit.ensures c.if-all_fit.true c.in_ok-answer.ensures c.lookup.ensures
+    c.in_ok-answer.answer c.as_slice.result.now c.all_fit.result c.as_slice.ensures c.all_fit.ensures c.if-all_fit.true c.in_ok-answer.ensures (rw c.in_ok-name.ensures at c.lookup.ensures)
 
 pub returns-else-all_fit : goal.returns-else-all_fit
 returns-else-all_fit c =

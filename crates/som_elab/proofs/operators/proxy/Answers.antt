@@ -1,3 +1,4 @@
+use Rattle.std.proofs.Common.{refl}
 use Rattle.som_model.specs.Typing.{proxy_type}
 use Rattle.som_verify.specs.Kinds.{kind_at}
 use Rattle.som_elab.specs.Code.{among_at, classes_at, made_at}
@@ -10,5 +11,5 @@ returns c =
     let s = c.args.site.now in
     let cs = classes_at s in
     let k = c.in_ok-class.class in
-    proxy_made cs (among_at s) c.args.name.now k c.formed.result c.in_ok-class.ensures (made_at cs c.args.part) c.in_ok-of.of c.in_ok-of.ensures
+    proxy_made cs (among_at s) c.args.name.now k c.formed.result c.in_ok-class.ensures (made_at cs c.args.part) c.args.part.expr refl
     (c.formed.ensures cs (proxy_type (facts_at s) k (kind_at cs c.args.part.kind)) c.proxy_kind-kind.ensures)

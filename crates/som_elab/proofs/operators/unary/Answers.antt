@@ -1,12 +1,9 @@
-use Rattle.std.proofs.Common.{ap}
 use Rattle.som_model.specs.Typing.{unary_type}
-use Rattle.som_model.specs.declared.syntax.Expr.TheVariants as exprs
 use Rattle.som_verify.specs.Kinds.{kind_at}
-use Rattle.som_elab.proofs.PartLaws.{form_as}
 use Rattle.som_elab.proofs.operators.unary.Goals as goal
 
 pub returns : goal.returns
 returns c = λ cs.
     let op = c.args.op in
     let type = unary_type op (kind_at cs c.args.part.kind) in
-    form_as cs _ _ type c.formed.result (ap (λ e. exprs.Unary op e) c.in_ok-of.ensures) (c.formed.ensures cs type (c.unary_kind.ensures cs))
+    c.formed.ensures cs type (c.unary_kind.ensures cs)

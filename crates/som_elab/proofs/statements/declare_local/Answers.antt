@@ -22,6 +22,6 @@ returns-in_err-wanted c =
 
 pub returns : goal.returns
 returns c =
-    rw c.in_ok-kind.ensures (declares (classes_at c.args.site.now) c.args.locals.now.items _ c.args.name.now (type_of (home_in c.args.site.now.scope.now) c.args.kind.now) (value_in c.args.site.now c.args.locals.now.items c.args.value.now) (declared (among_at c.args.site.now) (names_in c.args.site.now c.args.locals.now.items) c.args.name.now (type_of (home_in c.args.site.now.scope.now) c.args.kind.now)) (made_at (classes_at c.args.site.now) c.in_ok-made.made) _
+    rw (c.in_ok-kind.ensures, c.into_inner.ensures) (declares (classes_at c.args.site.now) c.args.locals.now.items _ c.args.name.now (type_of (home_in c.args.site.now.scope.now) c.args.kind.now) (value_in c.args.site.now c.args.locals.now.items c.args.value.now) (declared (among_at c.args.site.now) (names_in c.args.site.now c.args.locals.now.items) c.args.name.now (type_of (home_in c.args.site.now.scope.now) c.args.kind.now)) (made_at (classes_at c.args.site.now) c.in_ok-made.made) _
     (rw c.as_slice-before.ensures.value at c.in_ok-made.ensures).0 (rw (c.as_slice-before.ensures.value, c.in_ok-kind.ensures) at (c.in_ok-wanted.ensures c.in_ok-made.made.expr))
     refl c.requires.locals c.in_ok-push.ensures.items)
