@@ -20,11 +20,17 @@ impl Failing {
     }
 }
 
+/// What a command printed, and its status.
+#[derive(Drop)]
+pub struct Answer {
+    pub printed: List<u8>,
+    pub status: u8,
+}
+
 /// What a command came to.
 #[derive(Drop)]
 pub struct Outcome {
-    pub status: u8,
-    pub printed: List<u8>,
+    pub answer: Answer,
     /// The files that hold something else than before.
     pub changed: Vec<File>,
 }
@@ -55,9 +61,9 @@ pub fn outcome_of(
     for word in words.as_slice() {
         after.look(word)?;
     }
+    let printed = out.bytes().copy(alloc)?;
     Ok(Outcome {
-        status,
-        printed: out.bytes().copy(alloc)?,
+        answer: Answer { printed, status },
         changed: after.into_changed(),
     })
 }

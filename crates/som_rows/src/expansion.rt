@@ -1,3 +1,5 @@
+ghost use Rattle.std.specs.Prelude.{◌≡◌, ◌<◌, ◌≤◌, IfOk, IfSome, length};
+
 use crate::words::{number_of, push_number, until_no_letter};
 use crate::wrong::Wrong;
 use som_model::Text;
@@ -41,17 +43,26 @@ impl Turns {
     }
 }
 
-// What a form comes to.
+// What a form leaves to be written: a body so often, and then what comes after the form.
 #[derive(Clone, Copy)]
-enum Form<'a> {
-    // It has been written, and this comes after it.
-    Written(&'a [u8]),
-    // The body is to be written so often.
-    Repeated {
-        count: u64,
-        body: &'a [u8],
-        after: &'a [u8],
-    },
+struct Form<'a> {
+    count: u64,
+    body: &'a [u8],
+    after: &'a [u8],
+}
+
+impl<'a> Form<'a> {
+    // A form that has been written.
+    fn written(after: &'a [u8]) -> Form<'a>
+        ensures body { length result.body.now ≡ 0 }
+        ensures after { result.after.now ≡ after.now }
+    {
+        Form {
+            count: 0,
+            body: &[],
+            after,
+        }
+    }
 }
 
 // How many copies of a body are added at a time.
@@ -68,22 +79,17 @@ impl Expansion<'_> {
     /// Adds a text with its repetitions, variables and numbers replaced. The forms of single bytes stay.
     pub fn expand(&self, text: &[u8], turns: Turns, out: &mut Vec<u8>) -> Result<(), Wrong> {
         let mut rest = text;
-        while let Some(place) = rest.iter().position(|byte| *byte == b'$') {
-            let (plain, form) = rest.split_at(place);
+        while let Some((plain, form)) = until_form(rest) {
             out.extend_from_slice(plain)?;
-            match self.form(form, turns, out)? {
-                Form::Written(after) => rest = after,
-                Form::Repeated { count, body, after } => {
-                    if body.contains(&b'$') {
-                        for turn in 0..count {
-                            self.expand(body, turns.within(turn), out)?;
-                        }
-                    } else {
-                        self.add_copies(body, count, out)?;
-                    }
-                    rest = after;
+            let Form { count, body, after } = self.form(form, turns, out)?;
+            if body.contains(&b'$') {
+                for turn in 0..count {
+                    self.expand(body, turns.within(turn), out)?;
                 }
+            } else {
+                self.add_copies(body, count, out)?;
             }
+            rest = after;
         }
         out.extend_from_slice(rest)?;
         Ok(())
@@ -113,27 +119,30 @@ impl Expansion<'_> {
             [b'$', b'(', after @ ..] => {
                 let (sum, after) = split_at_byte(after, b')').ok_or(Wrong::Unclear)?;
                 self.sum(sum, turns, out)?;
-                Ok(Form::Written(after))
+                Ok(Form::written(after))
             }
             [b'$', b'$' | b'.', after @ ..] => {
                 out.extend_from_slice(&text[..2])?;
-                Ok(Form::Written(after))
+                Ok(Form::written(after))
             }
             [b'$', b'x', _, _, after @ ..] => {
                 out.extend_from_slice(&text[..4])?;
-                Ok(Form::Written(after))
+                Ok(Form::written(after))
             }
             [b'$', after @ ..] => {
                 let (name, after) = until_no_letter(after);
                 self.value(name, turns, out)?;
-                Ok(Form::Written(after))
+                Ok(Form::written(after))
             }
             _ => Err(Wrong::Unclear),
         }
     }
 
     // A repetition, from behind its bracket on.
-    fn repetition<'a>(&self, text: &'a [u8], turns: Turns) -> Result<Form<'a>, Wrong> {
+    fn repetition<'a>(&self, text: &'a [u8], turns: Turns) -> Result<Form<'a>, Wrong>
+        ensures body { IfOk result (λ form. length form.body.now ≤ length text.now) }
+        ensures after { IfOk result (λ form. length form.after.now ≤ length text.now) }
+    {
         let (count, body) = split_at_byte(text, b':').ok_or(Wrong::Unclear)?;
         let (body, after) = split_at_end(body).ok_or(Wrong::Unclear)?;
         let count = match number_of(count) {
@@ -144,7 +153,7 @@ impl Expansion<'_> {
                 number_of(digits.as_slice()).ok_or(Wrong::Unclear)?
             }
         };
-        Ok(Form::Repeated { count, body, after })
+        Ok(Form { count, body, after })
     }
 
     // Adds the value of a variable, or a number from it and another number.
@@ -183,8 +192,18 @@ impl Expansion<'_> {
     }
 }
 
+// The text before a form, and that from the form on.
+fn until_form(text: &[u8]) -> Option<(&[u8], &[u8])>
+    ensures { IfSome result (λ parts. length parts.1.now ≤ length text.now) }
+{
+    let place = text.iter().position(|byte| *byte == b'$')?;
+    Some(text.split_at(place))
+}
+
 // The text before a byte, and that after it.
-fn split_at_byte(text: &[u8], byte: u8) -> Option<(&[u8], &[u8])> {
+fn split_at_byte(text: &[u8], byte: u8) -> Option<(&[u8], &[u8])>
+    ensures { IfSome result (λ parts. length parts.1.now ≤ length text.now) }
+{
     let place = text.iter().position(|each| *each == byte)?;
     let (before, after) = text.split_at(place);
     let (_, after) = after.split_first()?;
@@ -192,7 +211,10 @@ fn split_at_byte(text: &[u8], byte: u8) -> Option<(&[u8], &[u8])> {
 }
 
 // The body of a repetition, and what comes after its end.
-fn split_at_end(text: &[u8]) -> Option<(&[u8], &[u8])> {
+fn split_at_end(text: &[u8]) -> Option<(&[u8], &[u8])>
+    ensures body { IfSome result (λ parts. length parts.0.now ≤ length text.now) }
+    ensures after { IfSome result (λ parts. length parts.1.now ≤ length text.now) }
+{
     let mut open = 0u64;
     let mut rest = text;
     loop {

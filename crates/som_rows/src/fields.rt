@@ -1,3 +1,5 @@
+ghost use Rattle.std.specs.Prelude.{◌<◌, ◌≤◌, IfOk, length};
+
 use crate::files::Files;
 use crate::words::{any_number_of, byte_of, number_of, until_blank};
 use crate::wrong::Wrong;
@@ -63,17 +65,19 @@ impl Fields<'_> {
     /// The bytes of the fields of a text.
     pub fn bytes(&self, text: &[u8]) -> Result<Vec<u8>, Wrong> {
         let mut out = Vec::new(self.alloc);
-        let mut rest = text.trim_ascii_start();
+        let mut rest = text.trim_ascii();
         while !rest.is_empty() {
-            rest = self.field(rest, &mut out)?.trim_ascii_start();
+            rest = self.field(rest, &mut out)?.trim_ascii();
         }
         Ok(out)
     }
 
     // Adds the first field of a text, and answers what comes after it.
-    fn field<'a>(&self, text: &'a [u8], out: &mut Vec<u8>) -> Result<&'a [u8], Wrong> {
+    fn field<'a>(&self, text: &'a [u8], out: &mut Vec<u8>) -> Result<&'a [u8], Wrong>
+        ensures { IfOk result (λ after. length after.now < length text.now) }
+    {
         match text {
-            [b'#', ..] => Ok(after_line(text)),
+            [b'#', comment @ ..] => Ok(after_line(comment)),
             [b'"', after @ ..] => quoted(after, out),
             [b't', b':', b'"', after @ ..] => {
                 let mut bytes = Vec::new(self.alloc);
@@ -83,6 +87,9 @@ impl Fields<'_> {
             }
             _ => {
                 let (word, after) = until_blank(text);
+                if word.is_empty() {
+                    return Err(Wrong::Unclear);
+                }
                 self.word(word, out)?;
                 Ok(after)
             }
@@ -138,7 +145,9 @@ fn code_among(words: &[&[u8]], word: &[u8], first: u8) -> Option<u8> {
 }
 
 // What comes after the line that a text begins with.
-fn after_line(text: &[u8]) -> &[u8] {
+fn after_line(text: &[u8]) -> &[u8]
+    ensures { length result.now ≤ length text.now }
+{
     match text.iter().position(|byte| *byte == b'\n') {
         Some(place) => &text[place..],
         None => &[],
@@ -146,7 +155,9 @@ fn after_line(text: &[u8]) -> &[u8] {
 }
 
 // Adds the bytes up to the closing quotes, and answers what comes after these.
-fn quoted<'a>(text: &'a [u8], out: &mut Vec<u8>) -> Result<&'a [u8], Wrong> {
+fn quoted<'a>(text: &'a [u8], out: &mut Vec<u8>) -> Result<&'a [u8], Wrong>
+    ensures { IfOk result (λ after. length after.now ≤ length text.now) }
+{
     let mut rest = text;
     loop {
         let (byte, after) = match rest {

@@ -2,6 +2,7 @@
 #![tactic(auto)]
 
 mod command;
+mod compare;
 mod expansion;
 mod fields;
 mod files;
@@ -33,9 +34,10 @@ fn run_tables<R: Env + Files + Print + AllocGlobal>(rt: &R, alloc: Global) -> io
     for name in env::args(rt)?.skip(1) {
         let table = fs::read(rt, name.as_str())?;
         let lines = lines_of(alloc, table.as_slice()).map_err(out_of_memory)?;
-        let report = runner
+        runner
             .run_table(name.as_str(), lines.as_slice())
             .map_err(out_of_memory)?;
+        let report = runner.report();
         rt.print(report.text())?;
         let table = report.sums();
         println!(rt; "{name}: {}", table)?;

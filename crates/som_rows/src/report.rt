@@ -1,16 +1,12 @@
+ghost use Rattle.som_rows.specs.Same.{Same};
+ghost use Rattle.std.specs.Prelude.{◌≡◌, ◌≢◌, ◌<◌, OnOk};
+
+use crate::command::Answer;
+use crate::compare::{Value, first_difference, same};
 use crate::expansion::Variable;
 use som_model::NoMemory;
 use std::alloc::Global;
 use std::fmt;
-
-/// Something that is compared: what was wanted, or what came.
-#[derive(Clone, Copy)]
-pub enum Value<'a> {
-    Bytes(&'a [u8]),
-    /// There is no such file.
-    Absent,
-    Status(u8),
-}
 
 /// Where the comparison stands, and of what.
 #[derive(Clone, Copy)]
@@ -96,11 +92,33 @@ impl Report {
     }
 
     /// Compares what came with what was wanted, and tells where they differ.
-    pub fn compare(&mut self, place: Place, wanted: Value, got: Value) -> Result<(), NoMemory> {
-        let Some(from) = difference(wanted, got) else {
+    pub fn compare(
+        &mut self,
+        place: Place<'_>,
+        wanted: Value<'_>,
+        got: Value<'_>,
+    ) -> Result<(), NoMemory>
+        ensures counted { ¬ (Same wanted.entry got.entry) → 0 < self.new.sums.differences }
+        ensures same { Same wanted.entry got.entry → self.new.sums ≡ self.old.sums }
+        ensures kept { 0 < self.old.sums.differences → 0 < self.new.sums.differences }
+    {
+        if same(wanted, got) {
             return Ok(());
-        };
+        }
         self.sums.differences = self.sums.differences.saturating_add(1);
+        self.tell_difference(place, wanted, got)
+    }
+
+    // Tells what was wanted and what came.
+    fn tell_difference(
+        &mut self,
+        place: Place<'_>,
+        wanted: Value<'_>,
+        got: Value<'_>,
+    ) -> Result<(), NoMemory>
+        ensures { self.new.sums ≡ self.old.sums }
+    {
+        let from = first_difference(wanted, got);
         let table = self.table.as_str();
         let line = place.line;
         let what = Shown(place.what);
@@ -118,33 +136,39 @@ impl Report {
         writeln!(self.text)?;
         Ok(())
     }
-}
 
-// Where two values first differ, if they do.
-fn difference(wanted: Value, got: Value) -> Option<usize> {
-    match (wanted, got) {
-        (Value::Bytes(wanted), Value::Bytes(got)) => first_difference(wanted, got),
-        (Value::Status(wanted), Value::Status(got)) if wanted == got => None,
-        (Value::Absent, Value::Absent) => None,
-        _ => Some(0),
+    /// Compares what a command printed and answered with what was wanted.
+    pub fn compare_answers(
+        &mut self,
+        line: usize,
+        status_line: usize,
+        variables: &[Variable],
+        wanted: &Answer,
+        got: &Answer,
+    ) -> Result<(), NoMemory>
+        ensures { OnOk result (wanted.now ≢ got.now → 0 < self.new.sums.differences) }
+    {
+        let printed = Place {
+            line,
+            what: b"printed",
+            variables,
+        };
+        let status = Place {
+            line: status_line,
+            what: b"status",
+            variables,
+        };
+        self.compare(
+            printed,
+            Value::Bytes(wanted.printed.as_slice()),
+            Value::Bytes(got.printed.as_slice()),
+        )?;
+        self.compare(
+            status,
+            Value::Status(wanted.status),
+            Value::Status(got.status),
+        )
     }
-}
-
-// The first place where two lists of bytes differ.
-fn first_difference(wanted: &[u8], got: &[u8]) -> Option<usize> {
-    if same_bytes(wanted, got) {
-        return None;
-    }
-    let shared = wanted
-        .iter()
-        .zip(got)
-        .position(|(left, right)| left != right);
-    Some(shared.unwrap_or(wanted.len().min(got.len())))
-}
-
-// Whether two lists of bytes are equal.
-fn same_bytes(wanted: &[u8], got: &[u8]) -> bool {
-    wanted == got
 }
 
 // Bytes as they are told: those that can't be printed in hexadecimal.

@@ -1,3 +1,5 @@
+ghost use Rattle.std.specs.Prelude.{◌<◌, IfSome, length};
+
 use crate::expansion::{Expansion, Turns, Variable};
 use crate::words::{first_word, number_of, push_number, words_in};
 use crate::wrong::Wrong;
@@ -86,7 +88,9 @@ fn cells_of(expansion: &Expansion<'_>, row: &[u8]) -> Result<Vec<Vec<u8>>, Wrong
 }
 
 // The first cell, and what comes after its bar.
-fn next_cell(row: &[u8]) -> (&[u8], Option<&[u8]>) {
+fn next_cell(row: &[u8]) -> (&[u8], Option<&[u8]>)
+    ensures { IfSome result.1 (λ after. length after.now < length row.now) }
+{
     let mut rest = row;
     let mut blank = true;
     while let [byte, after @ ..] = rest {

@@ -1,8 +1,11 @@
-use crate::command::{Failing, Outcome, outcome_of};
+ghost use Rattle.std.specs.Prelude.{◌≤◌, length};
+
+use crate::command::{Answer, Failing, Outcome, outcome_of};
+use crate::compare::Value;
 use crate::expansion::{Expansion, Turns, Variable};
 use crate::fields::Fields;
 use crate::files::{File, Files};
-use crate::report::{Place, Report, Value};
+use crate::report::{Place, Report};
 use crate::rows::{add_variables, rows_of};
 use crate::single::single_bytes;
 use crate::table::{Kind, Line};
@@ -53,25 +56,30 @@ impl Runner {
         })
     }
 
-    /// Runs the cases of a table, and answers what is told of them.
-    pub fn run_table(&mut self, name: &str, lines: &[Line<'_>]) -> Result<&Report, NoMemory> {
+    /// What is told of the table that was run last.
+    pub fn report(&self) -> &Report {
+        &self.report
+    }
+
+    /// Runs the cases of a table.
+    pub fn run_table(&mut self, name: &str, lines: &[Line<'_>]) -> Result<(), NoMemory> {
         self.report = Report::new(self.alloc, name)?;
         let mut rest = lines;
         while let [head, after @ ..] = rest {
-            rest = after;
-            if head.kind == Kind::Case {
-                let end = after
-                    .iter()
-                    .position(|line| line.kind == Kind::Case)
-                    .unwrap_or(after.len());
-                let (case, after) = after.split_at(end);
-                self.run_case(head.rest, case)?;
-                rest = after;
-            } else {
-                self.report.tell_unclear(head.number)?;
-            }
+            let (case, others) = after.split_at(case_len(head.kind, after));
+            self.run_head(head, case)?;
+            rest = others;
         }
-        Ok(&self.report)
+        Ok(())
+    }
+
+    // Runs the case that a line begins.
+    fn run_head(&mut self, head: &Line<'_>, lines: &[Line<'_>]) -> Result<(), NoMemory> {
+        if head.kind == Kind::Case {
+            self.run_case(head.rest, lines)
+        } else {
+            self.report.tell_unclear(head.number)
+        }
     }
 
     // Runs a case, from its name and its lines.
@@ -94,6 +102,7 @@ impl Runner {
     }
 
     // Runs the lines of a case, those after an `each` once for each row.
+    #[cycle(lines)]
     fn run(&mut self, lines: &[Line<'_>]) -> Result<(), NoMemory> {
         let mut rest = lines;
         while let [line, after @ ..] = rest {
@@ -112,6 +121,7 @@ impl Runner {
     }
 
     // Runs the lines after an `each` once for each of its rows.
+    #[cycle(lines)]
     fn run_rows(&mut self, line: &Line<'_>, after: &[Line<'_>]) -> Result<(), NoMemory> {
         let rows = match rows_of(&self.expansion(), line.rest, line.block.as_slice()) {
             Ok(rows) => rows,
@@ -250,25 +260,18 @@ impl Runner {
     fn run_command(&mut self, line: &Line<'_>, after: &[Line<'_>]) -> Result<(), Wrong> {
         let words = self.command_words(line.rest)?;
         let printed = self.filled(line.block.as_slice())?;
-        let outcome = outcome_of(self.alloc, &words, &self.files, &self.failing)?;
         let Outcome {
-            status,
-            printed: got,
+            answer: got,
             changed,
-        } = outcome;
-        self.compare(
-            line.number,
-            b"printed",
-            Value::Bytes(printed.as_slice()),
-            Value::Bytes(got.as_slice()),
-        )?;
-        let (number, wanted) = wanted_status(after).unwrap_or((line.number, 0));
-        self.compare(
-            number,
-            b"status",
-            Value::Status(wanted),
-            Value::Status(status),
-        )?;
+        } = outcome_of(self.alloc, &words, &self.files, &self.failing)?;
+        let (status_line, status) = wanted_status(after).unwrap_or((line.number, 0));
+        let wanted = Answer {
+            printed: List::from_vec(printed),
+            status,
+        };
+        let variables = self.variables.as_slice();
+        self.report
+            .compare_answers(line.number, status_line, variables, &wanted, &got)?;
         self.last = Some(Last {
             before: self.files.len(),
             open: true,
@@ -309,26 +312,35 @@ impl Runner {
         let head = self.expanded(line.rest)?;
         let (name, rest) = first_word(head.as_slice());
         let name = single_bytes(self.alloc, name)?;
-        let got = value_of(self.files.get(name.as_slice()));
+        let wanted = self.wanted_file(name.as_slice(), rest, line.block.as_slice())?;
         let place = Place {
             line: line.number,
             what: name.as_slice(),
             variables: self.variables.as_slice(),
         };
-        match rest {
-            b"absent" => self.report.compare(place, Value::Absent, got)?,
-            b"same" => {
-                let last = self.last.ok_or(Wrong::Unclear)?;
-                let before = self.files.get_among(last.before, name.as_slice());
-                self.report.compare(place, value_of(before), got)?;
-            }
-            _ => {
-                let wanted = self.content(rest, line.block.as_slice())?;
-                self.report
-                    .compare(place, Value::Bytes(wanted.as_slice()), got)?;
-            }
-        }
+        let got = value_of(self.files.get(name.as_slice()));
+        self.report.compare(place, value_of(wanted.as_ref()), got)?;
         Ok(())
+    }
+
+    // What a file is to hold, by what stands after its name, and by the block.
+    fn wanted_file(
+        &self,
+        name: &[u8],
+        rest: &[u8],
+        block: &[u8],
+    ) -> Result<Option<List<u8>>, Wrong> {
+        if rest == b"absent".as_slice() {
+            return Ok(None);
+        }
+        if rest != b"same".as_slice() {
+            return Ok(Some(List::from_vec(self.content(rest, block)?)));
+        }
+        let last = self.last.ok_or(Wrong::Unclear)?;
+        match self.files.get_among(last.before, name) {
+            Some(before) => Ok(Some(before.copy(self.alloc)?)),
+            None => Ok(None),
+        }
     }
 
     // Compares the tokens or the tree of a file.
@@ -365,6 +377,19 @@ fn value_of(bytes: Option<&List<u8>>) -> Value<'_> {
         Some(bytes) => Value::Bytes(bytes.as_slice()),
         None => Value::Absent,
     }
+}
+
+// How many lines the case has that a line of this kind begins.
+fn case_len(kind: Kind, lines: &[Line<'_>]) -> usize
+    ensures { result ≤ length lines.now }
+{
+    if kind != Kind::Case {
+        return 0;
+    }
+    lines
+        .iter()
+        .position(|line| line.kind == Kind::Case)
+        .unwrap_or(lines.len())
 }
 
 fn find_fixture<'a>(fixtures: &'a [Fixture], name: &[u8]) -> Option<&'a Fixture> {

@@ -1,3 +1,5 @@
+ghost use Rattle.std.specs.Prelude.{◌≡◌, ◌+◌, ◌≤◌, length};
+
 use crate::wrong::Wrong;
 use som_model::{List, NoMemory, Text};
 use std::alloc::Global;
@@ -7,7 +9,9 @@ fn is_blank(byte: u8) -> bool {
 }
 
 /// The text up to the first blank, and what comes from there on.
-pub fn until_blank(text: &[u8]) -> (&[u8], &[u8]) {
+pub fn until_blank(text: &[u8]) -> (&[u8], &[u8])
+    ensures { length result.0.now + length result.1.now ≡ length text.now }
+{
     let end = text
         .iter()
         .position(|byte| is_blank(*byte))
@@ -16,7 +20,9 @@ pub fn until_blank(text: &[u8]) -> (&[u8], &[u8]) {
 }
 
 /// The letters in front of a text, and what comes after them.
-pub fn until_no_letter(text: &[u8]) -> (&[u8], &[u8]) {
+pub fn until_no_letter(text: &[u8]) -> (&[u8], &[u8])
+    ensures { length result.0.now + length result.1.now ≡ length text.now }
+{
     let end = text
         .iter()
         .position(|byte| !byte.is_ascii_alphabetic())
