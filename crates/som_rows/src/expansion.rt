@@ -77,22 +77,50 @@ pub struct Expansion<'v> {
 
 impl Expansion<'_> {
     /// Adds a text with its repetitions, variables and numbers replaced. The forms of single bytes stay.
+    #[cycle(texts)]
     pub fn expand(&self, text: &[u8], turns: Turns, out: &mut Vec<u8>) -> Result<(), Wrong> {
         let mut rest = text;
-        while let Some((plain, form)) = until_form(rest) {
-            out.extend_from_slice(plain)?;
-            let Form { count, body, after } = self.form(form, turns, out)?;
-            if body.contains(&b'$') {
-                for turn in 0..count {
-                    self.expand(body, turns.within(turn), out)?;
-                }
-            } else {
-                self.add_copies(body, count, out)?;
-            }
-            rest = after;
+        while let Some(form) = self.next_form(rest, turns, out)? {
+            self.add_turns(form.body, form.count, turns, out)?;
+            rest = form.after;
         }
-        out.extend_from_slice(rest)?;
         Ok(())
+    }
+
+    // Adds a body so often.
+    #[cycle(texts)]
+    fn add_turns(
+        &self,
+        body: &[u8],
+        count: u64,
+        turns: Turns,
+        out: &mut Vec<u8>,
+    ) -> Result<(), Wrong> {
+        if !body.contains(&b'$') {
+            return self.add_copies(body, count, out);
+        }
+        for turn in 0..count {
+            self.expand(body, turns.within(turn), out)?;
+        }
+        Ok(())
+    }
+
+    // Adds a text up to its first form, and what of that can be written at once.
+    fn next_form<'a>(
+        &self,
+        text: &'a [u8],
+        turns: Turns,
+        out: &mut Vec<u8>,
+    ) -> Result<Option<Form<'a>>, Wrong>
+        ensures body { IfOk result (λ next. IfSome next (λ form. length form.body.now < length text.now)) }
+        ensures after { IfOk result (λ next. IfSome next (λ form. length form.after.now < length text.now)) }
+    {
+        let Some((plain, form)) = until_form(text) else {
+            out.extend_from_slice(text)?;
+            return Ok(None);
+        };
+        out.extend_from_slice(plain)?;
+        Ok(Some(self.form(form, turns, out)?))
     }
 
     // Adds a body without forms so often, as many at a time as there can be.
@@ -113,7 +141,10 @@ impl Expansion<'_> {
     }
 
     // The form that a text begins with.
-    fn form<'a>(&self, text: &'a [u8], turns: Turns, out: &mut Vec<u8>) -> Result<Form<'a>, Wrong> {
+    fn form<'a>(&self, text: &'a [u8], turns: Turns, out: &mut Vec<u8>) -> Result<Form<'a>, Wrong>
+        ensures body { IfOk result (λ form. length form.body.now < length text.now) }
+        ensures after { IfOk result (λ form. length form.after.now < length text.now) }
+    {
         match text {
             [b'$', b'[', after @ ..] => self.repetition(after, turns),
             [b'$', b'(', after @ ..] => {

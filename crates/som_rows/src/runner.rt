@@ -64,22 +64,17 @@ impl Runner {
     /// Runs the cases of a table.
     pub fn run_table(&mut self, name: &str, lines: &[Line<'_>]) -> Result<(), NoMemory> {
         self.report = Report::new(self.alloc, name)?;
-        let mut rest = lines;
-        while let [head, after @ ..] = rest {
-            let (case, others) = after.split_at(case_len(head.kind, after));
-            self.run_head(head, case)?;
-            rest = others;
+        let mut begun = false;
+        for (place, line) in lines.iter().enumerate() {
+            if line.kind == Kind::Case {
+                begun = true;
+                let after = &lines[place + 1..];
+                self.run_case(line.rest, &after[..case_len(after)])?;
+            } else if !begun {
+                self.report.tell_unclear(line.number)?;
+            }
         }
         Ok(())
-    }
-
-    // Runs the case that a line begins.
-    fn run_head(&mut self, head: &Line<'_>, lines: &[Line<'_>]) -> Result<(), NoMemory> {
-        if head.kind == Kind::Case {
-            self.run_case(head.rest, lines)
-        } else {
-            self.report.tell_unclear(head.number)
-        }
     }
 
     // Runs a case, from its name and its lines.
@@ -379,13 +374,10 @@ fn value_of(bytes: Option<&List<u8>>) -> Value<'_> {
     }
 }
 
-// How many lines the case has that a line of this kind begins.
-fn case_len(kind: Kind, lines: &[Line<'_>]) -> usize
+// How many lines there are before the next case.
+fn case_len(lines: &[Line<'_>]) -> usize
     ensures { result ≤ length lines.now }
 {
-    if kind != Kind::Case {
-        return 0;
-    }
     lines
         .iter()
         .position(|line| line.kind == Kind::Case)
