@@ -1,5 +1,3 @@
-ghost use Rattle.std.specs.Prelude.{◌≡◌, IfOk};
-
 use som_libimage::{decode, encode};
 use som_model::List;
 use som_verify::release_ok;
@@ -58,9 +56,7 @@ const TWO: &[u8] = b"SOML\x01\0\x01\
     \x0a\x2f\0\x04\0\0\x25\x01\x20\0\0\0\x07\0\x01\0\0\0\0\0\0\0\x01\x06";
 
 // The image of the release that an image spells.
-fn written_again(alloc: Global, bytes: &[u8]) -> Result<List<u8>, Fail>
-    ensures { IfOk result (λ image. image ≡ bytes.now) }
-{
+fn written_again(alloc: Global, bytes: &[u8]) -> Result<List<u8>, Fail> {
     let image = List::from_slice(alloc, bytes)?;
     let release = decode(alloc, &image)?;
     match release_ok(alloc, &release) {
