@@ -25,4 +25,3 @@ mod words;
 
 pub use laws::{answer_law, fault_law, first_image_law, fuel_law};
 pub use top::run_som;
-
