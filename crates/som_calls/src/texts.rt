@@ -1,19 +1,7 @@
-use crate::images::NO_CLASSES;
-use som_compile::{Source, Trees, compile_library, read_texts};
+use som_compile::{Source, Trees, read_texts};
 use som_model::{List, NoMemory, Text};
 use std::alloc::Global;
 use std::test::Fail;
-
-#[test]
-fn no_texts_stand_for_no_classes(rt: HostRuntime) -> Result<(), Fail> {
-    let alloc = rt.alloc();
-    let texts: List<Source> = List::new(alloc);
-    let Ok(image) = compile_library(alloc, &texts) else {
-        return Err(Fail::from("an image"));
-    };
-    assert_eq!(rt; image.as_slice(), NO_CLASSES.as_slice());
-    Ok(())
-}
 
 fn source(alloc: Global, name: &[u8], bytes: &[u8]) -> Result<Source, NoMemory> {
     Ok(Source {
