@@ -1,10 +1,10 @@
 ghost use Rattle.std.specs.Prelude.{◌≡◌, ◌≤◌, length, IfOk};
 
-use som_blocks::read_block;
-use som_model::List;
-use som_wire::{
+use som_fields::{
     ImageFault, Ranges, WireMethod, read_face, read_method, read_sig, write_face, write_method,
 };
+use som_model::List;
+use som_wire::read_block;
 use std::alloc::Global;
 use std::test::Fail;
 

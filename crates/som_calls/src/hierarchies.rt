@@ -1,5 +1,5 @@
+use som_laws::{ancestors, descends, effective_order, implementation};
 use som_model::{List, NoMemory, Text};
-use som_plain::{ancestors, descends, effective_order, implementation};
 use std::alloc::Global;
 use std::test::Fail;
 

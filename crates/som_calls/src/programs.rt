@@ -1,8 +1,8 @@
 use crate::images::CLIENT;
 use som_cliimage::{decode, encode};
+use som_fields::ImageFault;
 use som_model::List;
 use som_verify::program_ok;
-use som_wire::ImageFault;
 use std::alloc::Global;
 use std::test::Fail;
 

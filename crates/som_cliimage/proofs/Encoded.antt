@@ -9,7 +9,7 @@ use Rattle.som_model.specs.Class.{Class}
 use Rattle.som_model.specs.Kernel.{kernel}
 use Rattle.som_model.specs.Conforming.{ProgramOk}
 use Rattle.som_model.specs.Images.{client_image}
-use Rattle.som_wire.specs.declared.fault.ImageFault.{ImageFault}
+use Rattle.som_fields.specs.declared.fault.ImageFault.{ImageFault}
 use Rattle.som_libimage.specs.Libraries.{NamesDiffer}
 use Rattle.som_libimage.proofs.Conforming.{faces_names, declared_faces}
 use Rattle.som_libimage.proofs.NamedInterfaces.{a_class}

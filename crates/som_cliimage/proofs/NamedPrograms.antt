@@ -24,14 +24,14 @@ use Rattle.som_model.specs.Classes.{interface_classes, client_classes}
 use Rattle.som_model.specs.Images as images
 use Rattle.som_model.specs.Images.{Spelled, ◌then◌, each, tag, where_it_is, client_image}
 use Rattle.som_model.proofs.NamedLaws.{same_named}
-use Rattle.som_wire.specs.declared.face.WireFace.{WireFace}
-use Rattle.som_wire.specs.declared.method.Ranges.{Ranges}
-use Rattle.som_wire.specs.Spelling as wire
-use Rattle.som_wire.specs.Spelling.{FitsFace, FitsMethod}
-use Rattle.som_blocks.specs.declared.syntax.WireBlock.{WireBlock}
-use Rattle.som_blocks.specs.declared.syntax.WirePart.{WirePart}
-use Rattle.som_blocks.specs.Spelling as spelling
-use Rattle.som_blocks.specs.Fitting.{FitsBlock, levels_left}
+use Rattle.som_fields.specs.declared.face.WireFace.{WireFace}
+use Rattle.som_fields.specs.declared.method.Ranges.{Ranges}
+use Rattle.som_fields.specs.Spelling as wire
+use Rattle.som_fields.specs.Spelling.{FitsFace, FitsMethod}
+use Rattle.som_wire.specs.declared.syntax.WireBlock.{WireBlock}
+use Rattle.som_wire.specs.declared.syntax.WirePart.{WirePart}
+use Rattle.som_wire.specs.Spelling as spelling
+use Rattle.som_wire.specs.Fitting.{FitsBlock, levels_left}
 use Rattle.som_naming.specs.declared.directory.Directory.{Directory}
 use Rattle.som_naming.specs.Naming.{names_in, kernel_directory, library_directory, ranges_in, entry_names, Tells, NoDoubles}
 use Rattle.som_naming.specs.NamedBlocks.{block_named}

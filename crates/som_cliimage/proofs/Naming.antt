@@ -1,9 +1,9 @@
 -- What naming a client program asks for.
 use Rattle.std.proofs.Common.{◌≡◌, ℕ, ◌+◌, List, length, sym, ap, subst, ◌∙◌}
 use Rattle.std.specs.Prelude.{All}
-use Rattle.som_wire.specs.declared.face.WireFace.{WireFace}
-use Rattle.som_wire.specs.declared.method.Ranges.{Ranges}
-use Rattle.som_wire.specs.Spelling.{FitsFace}
+use Rattle.som_fields.specs.declared.face.WireFace.{WireFace}
+use Rattle.som_fields.specs.declared.method.Ranges.{Ranges}
+use Rattle.som_fields.specs.Spelling.{FitsFace}
 use Rattle.som_naming.specs.declared.directory.Directory.{Directory}
 use Rattle.som_naming.specs.Naming.{ranges_in}
 use Rattle.som_libimage.specs.Spelling.{FitsParts}

@@ -8,20 +8,20 @@ use Rattle.std.proofs.lemmas.List.Elements.{All-from_recursion, recursion_from_A
 use Rattle.som_model.specs.declared.limits.TheConstants.{MAX_ENTRIES, MAX_LIBRARY_CLASSES, MAX_CLIENT_CLASSES}
 use Rattle.som_model.specs.Bytes.{AreBytes}
 use Rattle.som_model.specs.Steps.{◌>>=◌}
-use Rattle.som_wire.specs.declared.fault.ImageFault.{ImageFault}
-use Rattle.som_wire.specs.declared.fault.ImageFault.TheVariants as faults
-use Rattle.som_wire.specs.declared.read.Read.{Read}
-use Rattle.som_wire.specs.declared.face.WireFace.{WireFace}
-use Rattle.som_wire.specs.declared.method.Ranges.{Ranges}
-use Rattle.som_wire.specs.Fields.{Stands, done}
-use Rattle.som_wire.specs.Spelling.{counted, face, AreShort, FitsMethod}
-use Rattle.som_wire.proofs.Parts.{IsField, Stands-join, Stands-back, Stands-front, bind_ok, guard_no, came, took, went}
-use Rattle.som_blocks.specs.declared.syntax.WirePart.{WirePart}
-use Rattle.som_blocks.specs.declared.syntax.WireBlock.{WireBlock}
-use Rattle.som_blocks.specs.Fitting.{levels_left, FitsBlock}
-use Rattle.som_blocks.specs.Reading.{block_at}
-use Rattle.som_blocks.specs.Spelling.{part, block}
-use Rattle.som_blocks.proofs.StmtFields.{block_field}
+use Rattle.som_fields.specs.declared.fault.ImageFault.{ImageFault}
+use Rattle.som_fields.specs.declared.fault.ImageFault.TheVariants as faults
+use Rattle.som_fields.specs.declared.read.Read.{Read}
+use Rattle.som_fields.specs.declared.face.WireFace.{WireFace}
+use Rattle.som_fields.specs.declared.method.Ranges.{Ranges}
+use Rattle.som_fields.specs.Fields.{Stands, done}
+use Rattle.som_fields.specs.Spelling.{counted, face, AreShort, FitsMethod}
+use Rattle.som_fields.proofs.Parts.{IsField, Stands-join, Stands-back, Stands-front, bind_ok, guard_no, came, took, went}
+use Rattle.som_wire.specs.declared.syntax.WirePart.{WirePart}
+use Rattle.som_wire.specs.declared.syntax.WireBlock.{WireBlock}
+use Rattle.som_wire.specs.Fitting.{levels_left, FitsBlock}
+use Rattle.som_wire.specs.Reading.{block_at}
+use Rattle.som_wire.specs.Spelling.{part, block}
+use Rattle.som_wire.proofs.StmtFields.{block_field}
 use Rattle.som_naming.proofs.Places.{all_joined}
 use Rattle.som_libimage.specs.Reading.{ranges_of, faces_after_at, faces_at, parts_at, head_at, at_end}
 use Rattle.som_libimage.specs.Spelling.{FitsFaces, FitsFacesAfter, FitsParts, head}

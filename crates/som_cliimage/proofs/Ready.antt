@@ -22,9 +22,9 @@ use Rattle.som_model.specs.Owner.{introduces}
 use Rattle.som_model.specs.Typing.{Ruled, class_facts, in_main}
 use Rattle.som_model.specs.TypedBlocks.{Scope, block_scope}
 use Rattle.som_model.specs.Conforming.{main_typed, ProgramOk}
-use Rattle.som_wire.specs.declared.face.WireFace.{WireFace}
-use Rattle.som_blocks.specs.declared.syntax.WireBlock.{WireBlock}
-use Rattle.som_blocks.specs.declared.syntax.WirePart.{WirePart}
+use Rattle.som_fields.specs.declared.face.WireFace.{WireFace}
+use Rattle.som_wire.specs.declared.syntax.WireBlock.{WireBlock}
+use Rattle.som_wire.specs.declared.syntax.WirePart.{WirePart}
 use Rattle.som_naming.specs.declared.directory.Directory.{Directory}
 use Rattle.som_naming.specs.Naming.{Tells}
 use Rattle.som_naming.specs.Numbering.{Differ, class_names, AreNamed, IsDirectory}

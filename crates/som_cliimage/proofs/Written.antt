@@ -5,11 +5,11 @@ use Rattle.std.specs.List.{AllByRecursion}
 use Rattle.std.proofs.lemmas.List.{length-map}
 use Rattle.std.proofs.lemmas.List.Elements.{All-from_recursion, recursion_from_All}
 use Rattle.som_model.specs.declared.limits.TheConstants.{MAX_CLIENT_CLASSES}
-use Rattle.som_wire.specs.declared.face.WireFace.{WireFace}
-use Rattle.som_wire.specs.declared.method.Ranges.{Ranges}
-use Rattle.som_wire.specs.Spelling.{FitsFace, FitsMethod}
-use Rattle.som_blocks.specs.Fitting.{levels_left, FitsSomePart, FitsSomeBlock}
-use Rattle.som_blocks.proofs.SomeFits.{block_some}
+use Rattle.som_fields.specs.declared.face.WireFace.{WireFace}
+use Rattle.som_fields.specs.declared.method.Ranges.{Ranges}
+use Rattle.som_fields.specs.Spelling.{FitsFace, FitsMethod}
+use Rattle.som_wire.specs.Fitting.{levels_left, FitsSomePart, FitsSomeBlock}
+use Rattle.som_wire.proofs.SomeFits.{block_some}
 use Rattle.som_naming.specs.declared.directory.Directory.{Directory}
 use Rattle.som_naming.specs.Naming.{library_directory, ranges_in}
 use Rattle.som_naming.proofs.Places.{all_map, all_mapped}

@@ -2,7 +2,7 @@
 use Rattle.std.specs.Prelude.{List}
 use Rattle.som_model.specs.declared.key.Module.TheVariants as modules
 use Rattle.som_model.specs.declared.program.ClientProgram.{ClientProgram}
-use Rattle.som_wire.specs.declared.face.WireFace.{WireFace}
+use Rattle.som_fields.specs.declared.face.WireFace.{WireFace}
 use Rattle.som_naming.specs.declared.directory.Directory.{Directory}
 use Rattle.som_naming.specs.Naming.{library_directory, with_classes}
 use Rattle.som_naming.specs.NamedBlocks.{block_named}

@@ -3,12 +3,12 @@ use Rattle.std.specs.Prelude.{ℕ, ◌+◌, List, ◌++◌, length, codes}
 use Rattle.std.specs.List.{flat_map}
 use Rattle.std.specs.Int.{w16}
 use Rattle.som_model.specs.declared.limits.TheConstants.{MAX_CLIENT_CLASSES}
-use Rattle.som_wire.specs.declared.face.WireFace.{WireFace}
-use Rattle.som_wire.specs.declared.method.Ranges.{Ranges}
-use Rattle.som_wire.specs.Spelling.{counted, face, FitsMethod}
-use Rattle.som_blocks.specs.declared.syntax.WireBlock.{WireBlock}
-use Rattle.som_blocks.specs.Spelling.{part, block}
-use Rattle.som_blocks.specs.Fitting.{levels_left, FitsBlock}
+use Rattle.som_fields.specs.declared.face.WireFace.{WireFace}
+use Rattle.som_fields.specs.declared.method.Ranges.{Ranges}
+use Rattle.som_fields.specs.Spelling.{counted, face, FitsMethod}
+use Rattle.som_wire.specs.declared.syntax.WireBlock.{WireBlock}
+use Rattle.som_wire.specs.Spelling.{part, block}
+use Rattle.som_wire.specs.Fitting.{levels_left, FitsBlock}
 use Rattle.som_libimage.specs.Spelling.{FitsFaces, FitsFacesAfter, FitsParts, head}
 use Rattle.som_cliimage.specs.declared.wire.WireProgram.{WireProgram}
 use Rattle.som_cliimage.specs.Reading.{client_ranges}

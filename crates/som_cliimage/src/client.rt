@@ -2,14 +2,14 @@ ghost use Rattle.som_cliimage.specs.Programs.{ProgramNamesDiffer, client_at};
 ghost use Rattle.som_cliimage.specs.Limits.{IsWithinLimits};
 ghost use Rattle.som_model.specs.Conforming.{ProgramOk};
 ghost use Rattle.som_model.specs.Images.{client_image};
-ghost use Rattle.som_wire.specs.Fields.{Gives};
+ghost use Rattle.som_fields.specs.Fields.{Gives};
 ghost use Rattle.std.specs.Prelude.{◌≡◌, Some, Ok, IfOk};
 
 use crate::named::name_program;
 use crate::numbered::number_program;
 use crate::program::{read_program, write_program};
+use som_fields::{EncodeFault, ImageFault};
 use som_model::{ClientProgram, List};
-use som_wire::{EncodeFault, ImageFault};
 use std::alloc::Global;
 
 fn read_and_name(alloc: Global, bytes: &List<u8>) -> Result<ClientProgram, ImageFault>

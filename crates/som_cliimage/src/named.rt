@@ -3,10 +3,10 @@ ghost use Rattle.som_cliimage.specs.Spelling.{FitsProgram};
 ghost use Rattle.std.specs.Prelude.{◌≡◌, IfOk};
 
 use crate::wire::WireProgram;
+use som_fields::WireFace;
 use som_libimage::{name_classes, name_interface};
 use som_model::{ClientProgram, List, Module, NoMemory};
 use som_naming::{Directory, name_block};
-use som_wire::WireFace;
 use std::alloc::Global;
 
 // The kernel's classes, those of the base, and the client's own.

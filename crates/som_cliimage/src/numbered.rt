@@ -11,10 +11,10 @@ ghost use Rattle.std.specs.Prelude.{◌≡◌, map, All, IfOk};
 use crate::directory::{interface_directory, program_directory};
 use crate::wire::WireProgram;
 use indexmap::IndexSet;
+use som_fields::WireFace;
 use som_libimage::{number_face, number_faces, number_parts};
 use som_model::{ClassFace, ClientProgram, List, NoMemory};
 use som_naming::{Directory, number_block};
-use som_wire::WireFace;
 use std::alloc::Global;
 
 fn number_each(

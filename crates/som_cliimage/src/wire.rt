@@ -1,6 +1,6 @@
-use som_blocks::{WireBlock, WirePart};
+use som_fields::WireFace;
 use som_model::List;
-use som_wire::WireFace;
+use som_wire::{WireBlock, WirePart};
 
 /// A client program as its image has it: the faces that it was compiled against, a face and a part for each class of its own,
 /// and main.

@@ -14,8 +14,8 @@ use Rattle.som_model.specs.Class.{interface_of}
 use Rattle.som_model.specs.Conforming.{ReleaseOk, release_breach}
 use Rattle.som_model.specs.Rules.{Breach}
 use Rattle.som_model.specs.Steps.{◌>>=◌}
-use Rattle.som_wire.specs.declared.fault.ImageFault.{ImageFault}
-use Rattle.som_wire.specs.declared.fault.ImageFault.TheVariants as faults
+use Rattle.som_fields.specs.declared.fault.ImageFault.{ImageFault}
+use Rattle.som_fields.specs.declared.fault.ImageFault.TheVariants as faults
 use Rattle.som_libimage.specs.Libraries.{library_at}
 use Rattle.som_libimage.specs.Limits.{FaceWithin, IsWithinLimits}
 use Rattle.som_libimage.proofs.Decoded.{within}

@@ -7,7 +7,7 @@ use Rattle.som_model.specs.Rules.{Breach}
 use Rattle.som_model.specs.Compatible.{Incompatible}
 use Rattle.som_model.specs.Conforming.{ReleaseOk, release_breach}
 use Rattle.som_model.specs.Steps.{◌>>=◌}
-use Rattle.som_wire.specs.declared.fault.ImageFault.{ImageFault}
+use Rattle.som_fields.specs.declared.fault.ImageFault.{ImageFault}
 use Rattle.som_libimage.specs.Libraries.{library_at}
 use Rattle.som_verify.proofs.Conforming.{conforms_release, release_conforms}
 use Rattle.som_cmd.specs.declared.output.End.TheVariants as the_end

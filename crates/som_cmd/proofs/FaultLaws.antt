@@ -6,15 +6,15 @@ use Rattle.std.specs.Int.{w8, w16}
 use Rattle.som_model.specs.declared.limits.TheConstants.{MAX_CLIENT_CLASSES, MAX_LIBRARY_CLASSES}
 use Rattle.som_model.specs.declared.program.Release.{Release}
 use Rattle.som_model.specs.declared.program.ClientProgram.{ClientProgram}
-use Rattle.som_wire.specs.declared.fault.ImageFault.{ImageFault}
-use Rattle.som_wire.specs.declared.fault.ImageFault.TheVariants as faults
-use Rattle.som_wire.specs.declared.read.Read.{Read}
-use Rattle.som_wire.specs.Fields.{many_at}
-use Rattle.som_wire.specs.Reading.{number_at, face_at}
-use Rattle.som_wire.specs.declared.face.WireFace.{WireFace}
-use Rattle.som_wire.specs.declared.method.Ranges.{Ranges}
-use Rattle.som_blocks.specs.Fitting.{levels_left}
-use Rattle.som_blocks.specs.Reading.{block_at, part_at}
+use Rattle.som_fields.specs.declared.fault.ImageFault.{ImageFault}
+use Rattle.som_fields.specs.declared.fault.ImageFault.TheVariants as faults
+use Rattle.som_fields.specs.declared.read.Read.{Read}
+use Rattle.som_fields.specs.Fields.{many_at}
+use Rattle.som_fields.specs.Reading.{number_at, face_at}
+use Rattle.som_fields.specs.declared.face.WireFace.{WireFace}
+use Rattle.som_fields.specs.declared.method.Ranges.{Ranges}
+use Rattle.som_wire.specs.Fitting.{levels_left}
+use Rattle.som_wire.specs.Reading.{block_at, part_at}
 use Rattle.som_libimage.specs.Reading.{each_at, faces_after_at, faces_at, parts_at, classes_at, magic_at, head_at, wire_at, ranges_of, introduced_count}
 use Rattle.som_libimage.specs.Libraries.{library_at}
 use Rattle.som_cliimage.specs.Reading.{client_ranges, own_faces_at, program_at, wire_at as client_wire_at}

@@ -3,12 +3,12 @@ use Rattle.std.proofs.Common.{ℕ, zero, suc, ◌+◌, ◌==◌, ◌&&◌, ◌||
 use Rattle.std.specs.Int.{Width, w8, w16, w32, byte_len}
 use Rattle.som_model.specs.declared.limits.TheConstants.{MAX_VERSION, MAX_PARAMETERS, MAX_PARENTS, MAX_ENTRIES}
 use Rattle.som_model.specs.Steps.{◌>>=◌}
-use Rattle.som_wire.specs.declared.fault.ImageFault.{ImageFault}
-use Rattle.som_wire.specs.declared.fault.ImageFault.TheVariants as faults
-use Rattle.som_wire.specs.declared.read.Read.{Read}
-use Rattle.som_wire.specs.declared.method.Ranges.{Ranges}
-use Rattle.som_wire.specs.Fields.{many_at, counted_at}
-use Rattle.som_wire.specs.Reading.{number_at, text_at, below_at, version_at, kind_at, sig_at, entry_at, metaclass_at, face_at, method_at}
+use Rattle.som_fields.specs.declared.fault.ImageFault.{ImageFault}
+use Rattle.som_fields.specs.declared.fault.ImageFault.TheVariants as faults
+use Rattle.som_fields.specs.declared.read.Read.{Read}
+use Rattle.som_fields.specs.declared.method.Ranges.{Ranges}
+use Rattle.som_fields.specs.Fields.{many_at, counted_at}
+use Rattle.som_fields.specs.Reading.{number_at, text_at, below_at, version_at, kind_at, sig_at, entry_at, metaclass_at, face_at, method_at}
 
 -- a fault that bytes can have
 abbrev pub IsOfBytes : ImageFault → Type 0

@@ -8,7 +8,7 @@ use Rattle.som_model.specs.Bytes.{Files}
 use Rattle.som_model.specs.Rules.{Breach}
 use Rattle.som_model.specs.Conforming.{program_breach, release_breach}
 use Rattle.som_model.specs.Steps.{◌>>=◌}
-use Rattle.som_wire.specs.declared.fault.ImageFault.{ImageFault}
+use Rattle.som_fields.specs.declared.fault.ImageFault.{ImageFault}
 use Rattle.som_libimage.specs.Libraries.{library_at}
 use Rattle.som_cliimage.specs.Programs.{client_at}
 use Rattle.som_verify.proofs.Conforming.{conforms_program, conforms_release, program_conforms, release_conforms}

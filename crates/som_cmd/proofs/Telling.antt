@@ -7,7 +7,7 @@ use Rattle.som_model.specs.Lists.{every}
 use Rattle.som_model.specs.Class.{bare}
 use Rattle.som_model.specs.Rules.{Breach}
 use Rattle.som_model.specs.Conforming.{release_breach}
-use Rattle.som_wire.specs.declared.fault.ImageFault.{ImageFault}
+use Rattle.som_fields.specs.declared.fault.ImageFault.{ImageFault}
 use Rattle.som_libimage.specs.Libraries.{library_at}
 use Rattle.som_libimage.proofs.Decoded.{found, library_again}
 use Rattle.som_verify.specs.Faces.{faces_breach}

@@ -8,7 +8,7 @@ use Rattle.som_model.specs.Class.{interface_of}
 use Rattle.som_model.specs.Means.{means}
 use Rattle.som_model.specs.Rules.{Breach}
 use Rattle.som_model.specs.Conforming.{ProgramOk, program_breach, ReleaseOk, release_breach}
-use Rattle.som_wire.specs.declared.fault.ImageFault.{ImageFault}
+use Rattle.som_fields.specs.declared.fault.ImageFault.{ImageFault}
 use Rattle.som_libimage.specs.Libraries.{library_at}
 use Rattle.som_cliimage.specs.Programs.{client_at}
 use Rattle.som_cmd.specs.Words.{Asked, Run, Show, Check, Library, Client, Bad}

@@ -5,7 +5,7 @@ use Rattle.som_model.specs.Bytes.{Files}
 use Rattle.som_model.specs.Class.{interface_of}
 use Rattle.som_model.specs.Lists.{every}
 use Rattle.som_model.specs.Steps.{◌>>=◌}
-use Rattle.som_wire.specs.declared.fault.ImageFault.TheVariants as faults
+use Rattle.som_fields.specs.declared.fault.ImageFault.TheVariants as faults
 use Rattle.som_compile.specs.declared.fault.TextFault.{TextFault}
 use Rattle.som_compile.specs.Compiling.{CompilesClient}
 use Rattle.som_cmd.specs.declared.parts.ClientParts.{ClientParts}

@@ -9,8 +9,8 @@ use Rattle.som_model.specs.declared.program.ClientProgram.{ClientProgram}
 use Rattle.som_model.specs.Bytes.{Files}
 use Rattle.som_model.specs.State.{Ran}
 use Rattle.som_model.specs.Rules.{Breach}
-use Rattle.som_wire.specs.declared.fault.ImageFault.{ImageFault}
-use Rattle.som_wire.specs.declared.fault.ImageFault.TheVariants as faults
+use Rattle.som_fields.specs.declared.fault.ImageFault.{ImageFault}
+use Rattle.som_fields.specs.declared.fault.ImageFault.TheVariants as faults
 use Rattle.som_show.specs.Shown.{client_lines, shown_lines}
 use Rattle.som_cmd.specs.declared.stop.Refusal.{Refusal}
 use Rattle.som_cmd.specs.declared.stop.Why.TheVariants as why

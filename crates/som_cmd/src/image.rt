@@ -8,11 +8,11 @@ ghost use Rattle.som_verify.specs.Told.{told};
 ghost use Rattle.std.specs.Prelude.{◌≡◌, IfOk};
 
 use crate::stop::{Refusal, Stop, Why};
+use som_fields::ImageFault;
 use som_libimage::decode;
 use som_model::{List, NoMemory, Release, Text};
 use som_show::add_number;
 use som_verify::{Broken, VerifyFault, release_ok};
-use som_wire::ImageFault;
 use std::alloc::Global;
 
 fn number_of(fault: ImageFault) -> u64

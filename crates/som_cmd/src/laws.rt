@@ -7,7 +7,7 @@ ghost use Rattle.som_model.specs.Bytes.{Files};
 ghost use Rattle.som_model.specs.declared.program.ClientProgram.{ClientProgram};
 ghost use Rattle.som_model.specs.declared.limits.TheConstants.{MAX_FUEL};
 ghost use Rattle.som_model.specs.declared.program.Release.{Release};
-ghost use Rattle.som_wire.specs.declared.fault.ImageFault.TheVariants as faults;
+ghost use Rattle.som_fields.specs.declared.fault.ImageFault.TheVariants as faults;
 ghost use Rattle.std.specs.Fmt.{decimal};
 ghost use Rattle.std.specs.Prelude.{◌≡◌, ◌↔◌, ◌≤◌, ℕ, Err, List, Some};
 

@@ -1,10 +1,10 @@
 ghost use Rattle.som_cmd.specs.Taking.{Decodes, TakesLibrary};
 
+use som_fields::ImageFault;
 use som_first::{FirstRelease, Unread, first_release};
 use som_libimage::decode;
 use som_model::{List, Release};
 use som_verify::{VerifyFault, release_ok};
-use som_wire::ImageFault;
 use std::alloc::Global;
 
 /// A first library image that conforms: its release, and the same as a first release.

@@ -7,9 +7,9 @@ ghost use Rattle.som_model.specs.Conforming.{program_breach};
 use crate::image::{refuse_broken, refuse_bytes};
 use crate::stop::Stop;
 use som_cliimage::decode;
+use som_fields::ImageFault;
 use som_model::{ClientProgram, List, Text};
 use som_verify::{VerifyFault, program_ok};
-use som_wire::ImageFault;
 use std::alloc::Global;
 
 // The program of a client image, or the refusal that tells the first fault of the bytes.

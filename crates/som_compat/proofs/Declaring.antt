@@ -9,8 +9,8 @@ use Rattle.som_model.specs.Kernel.{som_class}
 use Rattle.som_model.specs.Metaclass.{meta}
 use Rattle.som_model.specs.Compatible.{incompatible, declared_name, k6}
 use Rattle.som_model.proofs.KeyLaws.{both}
-use Rattle.som_plain.proofs.Members.{both_or_none, not_true}
-use Rattle.som_plain.proofs.Laws.{descends_test}
+use Rattle.som_laws.proofs.Members.{both_or_none, not_true}
+use Rattle.som_laws.proofs.Laws.{descends_test}
 use Rattle.som_verify.specs.Places.{class_of_place, key_at, face_at, Finds}
 use Rattle.som_verify.specs.Plainly.{IsAmong}
 use Rattle.som_verify.proofs.Falling.{mem_there}

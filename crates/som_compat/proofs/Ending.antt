@@ -13,7 +13,7 @@ use Rattle.som_model.specs.Ancestors.{Descends}
 use Rattle.som_model.specs.Class.{Class, entry_name}
 use Rattle.som_model.specs.Classes.{class_at, hierarchy, ancestors, is_a}
 use Rattle.som_model.specs.Compatible.{Incompatible, incompatible, order_of, strayed, k2, k3, k4, k5, k6, class_breaks, first_break}
-use Rattle.som_plain.proofs.Laws.{descends_test}
+use Rattle.som_laws.proofs.Laws.{descends_test}
 use Rattle.som_order.specs.Names.{name_at}
 use Rattle.som_order.specs.Difference.{first_difference}
 use Rattle.som_verify.specs.Places.{class_of_place, key_at}

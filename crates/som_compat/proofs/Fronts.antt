@@ -9,8 +9,8 @@ use Rattle.som_model.specs.Class.{Class}
 use Rattle.som_model.specs.Classes.{hierarchy, ancestors, is_a}
 use Rattle.som_model.specs.Compatible.{incompatible, declared_name, k3}
 use Rattle.som_model.proofs.KeyLaws.{exact_keys}
-use Rattle.som_plain.proofs.Members.{mem_left, mem_right, mem_split, joined_mem, mem_joined, not_true, Apart}
-use Rattle.som_plain.proofs.Laws.{ancestors as ancestors_are, descends_test, descends_through}
+use Rattle.som_laws.proofs.Members.{mem_left, mem_right, mem_split, joined_mem, mem_joined, not_true, Apart}
+use Rattle.som_laws.proofs.Laws.{ancestors as ancestors_are, descends_test, descends_through}
 use Rattle.som_verify.specs.Places.{class_of_place, key_at, face_at, Finds}
 use Rattle.som_verify.specs.Plainly.{IsAmong}
 use Rattle.som_verify.specs.Walk.{adds}

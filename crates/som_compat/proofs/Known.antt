@@ -19,7 +19,7 @@ use Rattle.som_model.specs.Compatible.{release_of}
 use Rattle.som_model.specs.Rules.{name_of}
 use Rattle.som_model.proofs.KeyLaws.{exact_bytes, exact_keys}
 use Rattle.som_model.proofs.NamedLaws.{hierarchy_parents, hierarchy_same, parents_named}
-use Rattle.som_plain.proofs.Members.{mem_left, mem_right, mem_split}
+use Rattle.som_laws.proofs.Members.{mem_left, mem_right, mem_split}
 use Rattle.som_verify.specs.Told.{of_library, of_release}
 use Rattle.som_verify.specs.Places.{all_classes, class_of_place, key_at, face_at, module_at, IsTable}
 use Rattle.som_verify.specs.Standing.{kernel_rows}

@@ -8,8 +8,8 @@ use Rattle.som_model.specs.Ancestors.{anc}
 use Rattle.som_model.specs.Class.{Class}
 use Rattle.som_model.specs.Classes.{is_a}
 use Rattle.som_model.specs.Compatible.{failing}
-use Rattle.som_plain.proofs.Members.{mem_left, mem_right, mem_split, some_mem, mem_some, Apart}
-use Rattle.som_plain.proofs.Laws.{ancestors_step}
+use Rattle.som_laws.proofs.Members.{mem_left, mem_right, mem_split, some_mem, mem_some, Apart}
+use Rattle.som_laws.proofs.Laws.{ancestors_step}
 use Rattle.som_verify.specs.Walk.{add_new, adds}
 use Rattle.som_verify.proofs.WalkLaw.{adds_both, firsts_adds}
 use Rattle.som_verify.proofs.Numbering.{map_append}

@@ -16,8 +16,8 @@ use Rattle.som_model.specs.Compatible.{release_of, Incompatible, incompatible, o
 use Rattle.som_model.proofs.KeyLaws.{Exact, exact_keys, exact_bytes, both}
 use Rattle.som_model.proofs.SameLaws.{exact_option, exact_sigs}
 use Rattle.som_model.proofs.NamedLaws.{same_named}
-use Rattle.som_plain.proofs.Members.{mem_right, mem_split, mem_some}
-use Rattle.som_plain.proofs.Laws.{ancestors as ancestors_are, descends_test}
+use Rattle.som_laws.proofs.Members.{mem_right, mem_split, mem_some}
+use Rattle.som_laws.proofs.Laws.{ancestors as ancestors_are, descends_test}
 use Rattle.som_verify.proofs.Before.{none_both, both_none}
 use Rattle.som_verify.proofs.Falling.{mem_there}
 use Rattle.som_verify.proofs.Owners.{flat_none}

@@ -9,8 +9,8 @@ use Rattle.som_model.specs.Classes.{hierarchy, interface_classes}
 use Rattle.som_model.specs.Kernel.{kernel, som_class}
 use Rattle.som_model.specs.Metaclass.{meta}
 use Rattle.som_model.specs.Compatible.{release_of, order_of, signature, Compatible, EachNext, EachLater}
-use Rattle.som_plain.proofs.Members.{mem_right, mem_split}
-use Rattle.som_plain.proofs.Laws.{descends_through}
+use Rattle.som_laws.proofs.Members.{mem_right, mem_split}
+use Rattle.som_laws.proofs.Laws.{descends_through}
 use Rattle.som_verify.specs.Places.{class_of_place, key_at}
 use Rattle.som_verify.specs.Plainly.{IsAmong}
 use Rattle.som_verify.proofs.Falling.{mem_there}

@@ -9,8 +9,8 @@ use Rattle.som_model.specs.Ancestors.{Descends, itself, by_parent}
 use Rattle.som_model.specs.Class.{Class, entry_of, introduced_sig}
 use Rattle.som_model.specs.Classes.{class_at, hierarchy, is_a}
 use Rattle.som_model.specs.Owner.{sig_of}
-use Rattle.som_plain.proofs.Members.{both_or_none}
-use Rattle.som_plain.proofs.Laws.{descends_test}
+use Rattle.som_laws.proofs.Members.{both_or_none}
+use Rattle.som_laws.proofs.Laws.{descends_test}
 use Rattle.som_verify.specs.Places.{class_of_place, key_at, face_at, Finds}
 use Rattle.som_verify.specs.Plainly.{IsAmong}
 use Rattle.som_verify.proofs.Finding.{mem_place}

@@ -36,7 +36,7 @@ use Rattle.som_verify.specs.Places.{with_kernel}
 use Rattle.som_verify.proofs.Before.{every_mem}
 use Rattle.som_verify.proofs.PlainLists.{mem_map}
 use Rattle.som_naming.specs.BlockLimits.{TextWithin, BlockWithin, StmtWithin}
-use Rattle.som_blocks.specs.Fitting.{levels_left}
+use Rattle.som_wire.specs.Fitting.{levels_left}
 use Rattle.som_libimage.specs.Limits.{EntryWithin, BodyWithin, FaceWithin, ClassWithin}
 use Rattle.som_sema.specs.Accessors.{Access, accessor_body, accessors_of, body_of, place_of}
 use Rattle.som_sema.specs.Building.{after_base, declarations, home_of}

@@ -17,7 +17,7 @@ use Rattle.som_model.specs.Classes.{interface_classes}
 use Rattle.som_model.specs.Conforming.{each_after}
 use Rattle.som_model.specs.Rules.{s1, s3, s5, s7}
 use Rattle.som_model.proofs.KeyLaws.{exact_bytes}
-use Rattle.som_plain.proofs.Members.{Apart, find_first, find_none, mem_left, mem_right, mem_some, mem_split}
+use Rattle.som_laws.proofs.Members.{Apart, find_first, find_none, mem_left, mem_right, mem_some, mem_split}
 use Rattle.som_read.specs.declared.tree.Word.{Word}
 use Rattle.som_read.specs.declared.tree.TypeName.{TypeName}
 use Rattle.som_idl.specs.declared.tree.IdlInterface.{IdlInterface}

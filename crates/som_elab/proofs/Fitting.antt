@@ -13,7 +13,7 @@ use Rattle.som_model.specs.declared.class.Body.TheVariants as bodies
 use Rattle.som_model.specs.Lists.{Mem, find}
 use Rattle.som_model.specs.Class.{introduced, introduced_sig, entry_name}
 use Rattle.som_model.proofs.KeyLaws.{exact_bytes}
-use Rattle.som_plain.proofs.Members.{Apart, find_first, mem_left, mem_right, mem_split}
+use Rattle.som_laws.proofs.Members.{Apart, find_first, mem_left, mem_right, mem_split}
 use Rattle.som_read.specs.declared.tree.Word.{Word}
 use Rattle.som_read.specs.declared.tree.TypeName.{TypeName}
 use Rattle.som_idl.specs.declared.tree.IdlInterface.{IdlInterface}

@@ -10,7 +10,7 @@ use Rattle.som_model.specs.Class.{Class, class_in}
 use Rattle.som_model.specs.Conforming.{first_of_members, first_of_names}
 use Rattle.som_model.specs.Kernel.{kernel}
 use Rattle.som_model.specs.Rules.{Breach, s5}
-use Rattle.som_plain.proofs.Members.{mem_split}
+use Rattle.som_laws.proofs.Members.{mem_split}
 use Rattle.som_verify.specs.Bodies.{AllSigsKnown}
 use Rattle.som_verify.specs.Faces.{classes_breach}
 use Rattle.som_verify.specs.Kinds.{IsDeclared}

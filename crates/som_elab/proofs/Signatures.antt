@@ -19,7 +19,7 @@ use Rattle.som_model.specs.Kernel.{kernel}
 use Rattle.som_model.specs.Owner.{entry_at, owner, owner_within, sig_of}
 use Rattle.som_model.specs.Rules.{Breach, name_of}
 use Rattle.som_model.proofs.KeyLaws.{both, exact_bytes}
-use Rattle.som_plain.proofs.Members.{Apart, find_first, find_none, mem_right}
+use Rattle.som_laws.proofs.Members.{Apart, find_first, find_none, mem_right}
 use Rattle.som_idl.specs.declared.tree.IdlInterface.{IdlInterface}
 use Rattle.som_body.specs.declared.tree.BodyText.{BodyText}
 use Rattle.som_verify.specs.Plainly.{ClassesHold, Introduces}

@@ -11,7 +11,7 @@ use Rattle.som_model.specs.Classes.{hierarchy}
 use Rattle.som_model.specs.Resolution.{answer, impl}
 use Rattle.som_model.specs.Implementation.{Held, held, has_body}
 use Rattle.som_model.proofs.NamedLaws.{height_named, same_named}
-use Rattle.som_plain.proofs.Laws.{answer_step, parents_answer, descends_test}
+use Rattle.som_laws.proofs.Laws.{answer_step, parents_answer, descends_test}
 use Rattle.som_tables.specs.Rows.{Added, first_some, replaced_at, own_at, row_cell, inherited, SomeHasToken, AreInherited, AreDistinct, KeepsRows, AddsRow}
 use Rattle.som_first.specs.declared.classes.FirstOverride.{FirstOverride}
 use Rattle.som_first.specs.declared.classes.FirstClass.{FirstClass}

@@ -13,7 +13,7 @@ use Rattle.som_model.specs.Ancestors.{Descends}
 use Rattle.som_model.specs.Classes.{hierarchy}
 use Rattle.som_model.specs.Resolution.{answer}
 use Rattle.som_model.specs.Implementation.{User, held, has_body, implementation}
-use Rattle.som_plain.proofs.Laws.{answer_some, implementation_exists, descends_test}
+use Rattle.som_laws.proofs.Laws.{answer_some, implementation_exists, descends_test}
 use Rattle.som_tables.specs.Rows.{Added, inherited, HasToken}
 use Rattle.std.specs.Borrow.{Bor}
 use Rattle.som_order.specs.Names.{texts as texts_of}

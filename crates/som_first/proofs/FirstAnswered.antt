@@ -11,7 +11,7 @@ use Rattle.som_model.specs.Owner.{introduces, sig_of}
 use Rattle.som_model.specs.Implementation.{Held, User, held, has_body, implementation}
 use Rattle.som_model.specs.Conforming.{ReleaseOk, ProgramOk, all_of_program}
 use Rattle.som_model.proofs.NamedLaws.{same_named, held_named}
-use Rattle.som_plain.proofs.Laws.{descends_test, implementation_exists, implementation_body, implementation_above}
+use Rattle.som_laws.proofs.Laws.{descends_test, implementation_exists, implementation_body, implementation_above}
 use Rattle.som_first.specs.declared.classes.FirstClass.{FirstClass}
 use Rattle.som_first.specs.declared.classes.FirstCall.{FirstCall}
 use Rattle.som_first.specs.declared.classes.FirstRelease.{FirstRelease}

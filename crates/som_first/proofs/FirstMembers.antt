@@ -17,8 +17,8 @@ use Rattle.som_model.specs.Implementation.{Held, User, OfKernel, held, declared_
 use Rattle.som_model.specs.Rules.{Breach, breach, demand_of, s6, s10, is_proper}
 use Rattle.som_model.proofs.KeyLaws.{Exact, exact_bytes, exact_keys, both}
 use Rattle.som_model.proofs.NamedLaws.{held_named, kernel_named}
-use Rattle.som_plain.proofs.Laws.{descends_test}
-use Rattle.som_plain.proofs.Members.{mem_left, mem_right, mem_some, not_true}
+use Rattle.som_laws.proofs.Laws.{descends_test}
+use Rattle.som_laws.proofs.Members.{mem_left, mem_right, mem_some, not_true}
 use Rattle.som_first.specs.declared.classes.FirstMethod.{FirstMethod}
 use Rattle.som_first.specs.declared.classes.FirstOverride.{FirstOverride}
 use Rattle.som_first.specs.declared.classes.FirstClass.{FirstClass}

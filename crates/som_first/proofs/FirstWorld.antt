@@ -20,7 +20,7 @@ use Rattle.som_model.proofs.KeyLaws.{exact_keys}
 use Rattle.som_model.proofs.NamedLaws.{same_named, height_named, rank_named, parents_named, kernel_named, held_named, hierarchy_parents, hierarchy_same}
 use Rattle.som_model.proofs.NewLaws.{NewRuns}
 use Rattle.som_model.proofs.PrintLaws.{CallRuns}
-use Rattle.som_plain.proofs.Laws.{descends_test, implementation_exists, implementation_step, implementation_body, implementation_above}
+use Rattle.som_laws.proofs.Laws.{descends_test, implementation_exists, implementation_step, implementation_body, implementation_above}
 use Rattle.som_first.specs.declared.classes.FirstClass.{FirstClass}
 use Rattle.som_first.specs.declared.classes.FirstCall.{FirstCall}
 use Rattle.som_first.specs.FirstImages.{library_key, parent_key, called}

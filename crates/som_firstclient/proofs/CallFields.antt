@@ -11,15 +11,15 @@ use Rattle.som_model.specs.declared.class.ClassFace.{ClassFace}
 use Rattle.som_model.specs.Bytes.{AreBytes}
 use Rattle.som_model.specs.Steps.{◌>>=◌}
 use Rattle.som_model.proofs.KeyLaws.{both}
-use Rattle.som_wire.specs.declared.fault.ImageFault.{ImageFault}
-use Rattle.som_wire.specs.declared.fault.ImageFault.TheVariants as faults
-use Rattle.som_wire.specs.declared.read.Read.{Read}
-use Rattle.som_wire.specs.Fields.{Stands, done, many_at}
-use Rattle.som_wire.specs.Spelling.{number, counted}
-use Rattle.som_wire.specs.Reading.{number_at}
-use Rattle.som_wire.proofs.Parts.{IsField, Stands-join, Stands-back, Stands-front, bind_ok, guard_yes, came, took, went}
-use Rattle.som_wire.proofs.NumberFields.{short_field, long_field}
-use Rattle.som_wire.proofs.ManyFields.{many_field}
+use Rattle.som_fields.specs.declared.fault.ImageFault.{ImageFault}
+use Rattle.som_fields.specs.declared.fault.ImageFault.TheVariants as faults
+use Rattle.som_fields.specs.declared.read.Read.{Read}
+use Rattle.som_fields.specs.Fields.{Stands, done, many_at}
+use Rattle.som_fields.specs.Spelling.{number, counted}
+use Rattle.som_fields.specs.Reading.{number_at}
+use Rattle.som_fields.proofs.Parts.{IsField, Stands-join, Stands-back, Stands-front, bind_ok, guard_yes, came, took, went}
+use Rattle.som_fields.proofs.NumberFields.{short_field, long_field}
+use Rattle.som_fields.proofs.ManyFields.{many_field}
 use Rattle.som_first.specs.declared.calls.CallPlace.{CallPlace}
 use Rattle.som_firstclient.specs.Clients.{class_entries, IsOfLibrary, CallFits}
 use Rattle.som_firstclient.specs.Reading.{constant_at, is_of_library, call_fits, where_it_fits, call_at, calls_at}

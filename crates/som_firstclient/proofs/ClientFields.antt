@@ -5,13 +5,13 @@ use Rattle.std.specs.Int.{w16}
 use Rattle.som_model.specs.declared.class.ClassFace.{ClassFace}
 use Rattle.som_model.specs.Bytes.{AreBytes}
 use Rattle.som_model.specs.Steps.{◌>>=◌}
-use Rattle.som_wire.specs.declared.fault.ImageFault.{ImageFault}
-use Rattle.som_wire.specs.declared.fault.ImageFault.TheVariants as faults
-use Rattle.som_wire.specs.declared.read.Read.{Read}
-use Rattle.som_wire.specs.declared.face.WireFace.{WireFace}
-use Rattle.som_wire.specs.Fields.{Stands}
-use Rattle.som_wire.specs.Spelling as wire
-use Rattle.som_wire.proofs.Parts.{Stands-join, guard_no, took, went}
+use Rattle.som_fields.specs.declared.fault.ImageFault.{ImageFault}
+use Rattle.som_fields.specs.declared.fault.ImageFault.TheVariants as faults
+use Rattle.som_fields.specs.declared.read.Read.{Read}
+use Rattle.som_fields.specs.declared.face.WireFace.{WireFace}
+use Rattle.som_fields.specs.Fields.{Stands}
+use Rattle.som_fields.specs.Spelling as wire
+use Rattle.som_fields.proofs.Parts.{Stands-join, guard_no, took, went}
 use Rattle.som_libimage.specs.Reading.{faces_at}
 use Rattle.som_libimage.specs.Spelling.{FitsFaces}
 use Rattle.som_libimage.specs.Naming.{interface_named}

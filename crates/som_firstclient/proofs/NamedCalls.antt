@@ -21,9 +21,9 @@ use Rattle.som_model.specs.Images.{Spelled, AtLevel, ◌then◌, each, tag, wher
 use Rattle.som_model.proofs.KeyLaws.{exact_keys}
 use Rattle.som_model.proofs.NamedLaws.{same_named}
 use Rattle.som_model.proofs.ImageLaws.{calling_is}
-use Rattle.som_wire.specs.declared.method.WireMethod.{WireMethod}
-use Rattle.som_wire.specs.Spelling as wire
-use Rattle.som_wire.specs.Spelling.{FitsMethod}
+use Rattle.som_fields.specs.declared.method.WireMethod.{WireMethod}
+use Rattle.som_fields.specs.Spelling as wire
+use Rattle.som_fields.specs.Spelling.{FitsMethod}
 use Rattle.som_naming.specs.declared.directory.Directory.{Directory}
 use Rattle.som_naming.specs.Naming.{key_at, method_named, ranges_in, entry_names, Tells, NoDoubles}
 use Rattle.som_naming.proofs.Places.{all_map, all_of, all_mapped}

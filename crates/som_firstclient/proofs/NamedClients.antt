@@ -14,9 +14,9 @@ use Rattle.som_model.specs.Bytes.{AreBytes}
 use Rattle.som_model.specs.Class.{Class}
 use Rattle.som_model.specs.Images as images
 use Rattle.som_model.specs.Images.{Spelled, ◌then◌, tag, client_image}
-use Rattle.som_wire.specs.declared.fault.ImageFault.{ImageFault}
-use Rattle.som_wire.specs.declared.face.WireFace.{WireFace}
-use Rattle.som_wire.specs.Spelling.{FitsFace}
+use Rattle.som_fields.specs.declared.fault.ImageFault.{ImageFault}
+use Rattle.som_fields.specs.declared.face.WireFace.{WireFace}
+use Rattle.som_fields.specs.Spelling.{FitsFace}
 use Rattle.som_libimage.specs.Libraries.{NamesDiffer, interface_image, NamedFrom}
 use Rattle.som_naming.specs.Naming.{library_directory, NoDoubles}
 use Rattle.som_libimage.specs.Naming.{entry_named, face_named, interface_named}

@@ -4,11 +4,11 @@ use Rattle.std.specs.List.{starts_with}
 use Rattle.std.specs.Int.{w16, w32}
 use Rattle.som_model.specs.declared.class.ClassFace.{ClassFace}
 use Rattle.som_model.specs.Steps.{◌>>=◌}
-use Rattle.som_wire.specs.declared.fault.ImageFault.{ImageFault}
-use Rattle.som_wire.specs.declared.fault.ImageFault.TheVariants as faults
-use Rattle.som_wire.specs.declared.read.Read.{Read}
-use Rattle.som_wire.specs.Fields.{done, many_at}
-use Rattle.som_wire.specs.Reading.{number_at}
+use Rattle.som_fields.specs.declared.fault.ImageFault.{ImageFault}
+use Rattle.som_fields.specs.declared.fault.ImageFault.TheVariants as faults
+use Rattle.som_fields.specs.declared.read.Read.{Read}
+use Rattle.som_fields.specs.Fields.{done, many_at}
+use Rattle.som_fields.specs.Reading.{number_at}
 use Rattle.som_libimage.specs.Reading.{faces_at}
 use Rattle.som_libimage.specs.Naming.{interface_named}
 use Rattle.som_first.specs.declared.calls.CallPlace.{CallPlace}

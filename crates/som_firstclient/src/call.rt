@@ -1,11 +1,11 @@
 ghost use Rattle.som_firstclient.specs.Reading.{call_at, call_fits, calls_at, is_of_library, where_it_fits};
-ghost use Rattle.som_wire.specs.Fields.{Gives};
+ghost use Rattle.som_fields.specs.Fields.{Gives};
 ghost use Rattle.std.specs.Prelude.{◌≡◌, ◌≤◌, ℕ, length, IfOk};
 
 use crate::constant::read_constant;
+use som_fields::{ImageFault, Read, read_many, read_u16, read_u32};
 use som_first::CallPlace;
 use som_model::{ClassFace, List};
-use som_wire::{ImageFault, Read, read_many, read_u16, read_u32};
 use std::alloc::Global;
 
 // A statement that is a call, and a call by offset.

@@ -5,16 +5,16 @@ ghost use Rattle.som_firstclient.specs.Reading.{Reads, client_at};
 ghost use Rattle.som_libimage.specs.Libraries.{NamesDiffer};
 ghost use Rattle.som_model.specs.Images.{client_image};
 ghost use Rattle.som_model.specs.declared.program.ClientProgram.{ClientProgram};
-ghost use Rattle.som_wire.specs.Fields.{Gives};
+ghost use Rattle.som_fields.specs.Fields.{Gives};
 ghost use Rattle.std.specs.Prelude.{◌≡◌, List as Seq, Some, [], map, IfOk};
 
 use crate::call::read_calls;
 use crate::constant::read_constant;
 use crate::image::ClientImage;
+use som_fields::ImageFault;
 use som_first::Unread;
 use som_libimage::{name_interface, read_faces};
 use som_model::List;
-use som_wire::ImageFault;
 use std::alloc::Global;
 
 // The magic bytes, and version 1.

@@ -1,8 +1,8 @@
 ghost use Rattle.som_firstclient.specs.Reading.{constant_at};
 ghost use Rattle.std.specs.Prelude.{◌≡◌, ◌≤◌, length, IfOk};
 
+use som_fields::ImageFault;
 use som_model::List;
-use som_wire::ImageFault;
 
 /// The place after these bytes, where they stand at a place.
 pub(crate) fn read_constant(

@@ -5,12 +5,12 @@ use Rattle.std.proofs.lemmas.List.{append-nil}
 use Rattle.std.proofs.lemmas.List.Concat.{flat_map-cons}
 use Rattle.som_model.specs.Bytes.{AreBytes}
 use Rattle.som_model.specs.Steps.{◌>>=◌}
-use Rattle.som_wire.specs.declared.fault.ImageFault.{ImageFault}
-use Rattle.som_wire.specs.declared.fault.ImageFault.TheVariants as faults
-use Rattle.som_wire.specs.declared.read.Read.{Read}
-use Rattle.som_wire.specs.Fields.{Stands, Fails, done}
-use Rattle.som_wire.proofs.Parts.{IsField, Stands-join, bind_ok, came, took, went}
-use Rattle.som_wire.proofs.Loop.{with_front}
+use Rattle.som_fields.specs.declared.fault.ImageFault.{ImageFault}
+use Rattle.som_fields.specs.declared.fault.ImageFault.TheVariants as faults
+use Rattle.som_fields.specs.declared.read.Read.{Read}
+use Rattle.som_fields.specs.Fields.{Stands, Fails, done}
+use Rattle.som_fields.proofs.Parts.{IsField, Stands-join, bind_ok, came, took, went}
+use Rattle.som_fields.proofs.Loop.{with_front}
 use Rattle.som_libimage.specs.Reading.{each_at}
 use Rattle.som_libimage.specs.Spelling.{FitEach}
 

@@ -5,7 +5,7 @@ use Rattle.som_model.specs.Steps.{◌>>=◌}
 use Rattle.som_model.specs.Class.{interface_of}
 use Rattle.som_model.specs.Conforming.{ReleaseOk}
 use Rattle.som_model.specs.Images.{library_image}
-use Rattle.som_wire.specs.declared.fault.ImageFault.{ImageFault}
+use Rattle.som_fields.specs.declared.fault.ImageFault.{ImageFault}
 use Rattle.som_libimage.specs.declared.wire.WireRelease.{WireRelease}
 use Rattle.som_libimage.specs.Naming.{release_named}
 use Rattle.som_libimage.specs.Spelling as spelling

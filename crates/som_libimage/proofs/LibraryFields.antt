@@ -12,22 +12,22 @@ use Rattle.std.proofs.Math.Seq.{drop-length}
 use Rattle.som_model.specs.declared.limits.TheConstants.{MAX_ENTRIES, MAX_LIBRARY_CLASSES}
 use Rattle.som_model.specs.Bytes.{AreBytes}
 use Rattle.som_model.specs.Steps.{◌>>=◌}
-use Rattle.som_wire.specs.declared.fault.ImageFault.{ImageFault}
-use Rattle.som_wire.specs.declared.fault.ImageFault.TheVariants as faults
-use Rattle.som_wire.specs.declared.read.Read.{Read}
-use Rattle.som_wire.specs.declared.face.WireFace.{WireFace}
-use Rattle.som_wire.specs.declared.method.Ranges.{Ranges}
-use Rattle.som_wire.specs.Fields.{Stands, done, many_at}
-use Rattle.som_wire.specs.Spelling.{number, counted, face, FitsFace, AreShort}
-use Rattle.som_wire.specs.Reading.{number_at, face_at}
-use Rattle.som_wire.proofs.Parts.{IsField, Stands-join, Stands-back, Stands-front, bind_ok, guard_no, guard_yes, came, took, went}
-use Rattle.som_wire.proofs.NumberFields.{byte_field, short_field}
-use Rattle.som_wire.proofs.ManyFields.{many_field}
-use Rattle.som_wire.proofs.FaceFields.{face_field}
-use Rattle.som_blocks.specs.declared.syntax.WirePart.{WirePart}
-use Rattle.som_blocks.specs.Reading.{part_at}
-use Rattle.som_blocks.specs.Spelling.{part}
-use Rattle.som_blocks.proofs.PartFields.{part_field}
+use Rattle.som_fields.specs.declared.fault.ImageFault.{ImageFault}
+use Rattle.som_fields.specs.declared.fault.ImageFault.TheVariants as faults
+use Rattle.som_fields.specs.declared.read.Read.{Read}
+use Rattle.som_fields.specs.declared.face.WireFace.{WireFace}
+use Rattle.som_fields.specs.declared.method.Ranges.{Ranges}
+use Rattle.som_fields.specs.Fields.{Stands, done, many_at}
+use Rattle.som_fields.specs.Spelling.{number, counted, face, FitsFace, AreShort}
+use Rattle.som_fields.specs.Reading.{number_at, face_at}
+use Rattle.som_fields.proofs.Parts.{IsField, Stands-join, Stands-back, Stands-front, bind_ok, guard_no, guard_yes, came, took, went}
+use Rattle.som_fields.proofs.NumberFields.{byte_field, short_field}
+use Rattle.som_fields.proofs.ManyFields.{many_field}
+use Rattle.som_fields.proofs.FaceFields.{face_field}
+use Rattle.som_wire.specs.declared.syntax.WirePart.{WirePart}
+use Rattle.som_wire.specs.Reading.{part_at}
+use Rattle.som_wire.specs.Spelling.{part}
+use Rattle.som_wire.proofs.PartFields.{part_field}
 use Rattle.som_libimage.specs.declared.wire.WireRelease.{WireRelease}
 use Rattle.som_libimage.specs.Reading.{introduced_count, ranges_of, faces_after_at, faces_at, parts_at, classes_at, magic_at, head_at, at_end, wire_at}
 use Rattle.som_libimage.specs.Spelling.{FitsClass, FitsParts, FitsFacesAfter, FitsFaces, classes, FitsRelease, head, library}

@@ -18,14 +18,14 @@ use Rattle.som_model.specs.declared.class.ClassFace.{ClassFace}
 use Rattle.som_model.specs.Class.{Class}
 use Rattle.som_model.specs.Images as images
 use Rattle.som_model.specs.Images.{Spelled, ◌then◌, tag, where_it_is}
-use Rattle.som_wire.specs.declared.kind.WireType.{WireType}
-use Rattle.som_wire.specs.declared.kind.WireType.TheVariants as types
-use Rattle.som_wire.specs.declared.sig.WireSig.{WireSig}
-use Rattle.som_wire.specs.declared.entry.WireEntry.{WireEntry}
-use Rattle.som_wire.specs.declared.entry.WireEntry.TheVariants as entries
-use Rattle.som_wire.specs.declared.face.WireFace.{WireFace}
-use Rattle.som_wire.specs.Spelling as wire
-use Rattle.som_wire.specs.Spelling.{FitsKind, FitsSig, FitsEntry, FitsFace, FitsCounted}
+use Rattle.som_fields.specs.declared.kind.WireType.{WireType}
+use Rattle.som_fields.specs.declared.kind.WireType.TheVariants as types
+use Rattle.som_fields.specs.declared.sig.WireSig.{WireSig}
+use Rattle.som_fields.specs.declared.entry.WireEntry.{WireEntry}
+use Rattle.som_fields.specs.declared.entry.WireEntry.TheVariants as entries
+use Rattle.som_fields.specs.declared.face.WireFace.{WireFace}
+use Rattle.som_fields.specs.Spelling as wire
+use Rattle.som_fields.specs.Spelling.{FitsKind, FitsSig, FitsEntry, FitsFace, FitsCounted}
 use Rattle.som_naming.specs.declared.directory.Directory.{Directory}
 use Rattle.som_naming.specs.Naming.{key_at, kind_named, Tells, NoDoubles}
 use Rattle.som_libimage.specs.Naming.{sig_named, entry_named, metaclass_named, face_named}

@@ -12,9 +12,9 @@ use Rattle.som_model.specs.declared.program.Interface.{Interface}
 use Rattle.som_model.specs.Class.{Class, class_in, bare}
 use Rattle.som_model.specs.Kernel.{kernel}
 use Rattle.som_model.specs.Images as images
-use Rattle.som_wire.specs.declared.face.WireFace.{WireFace}
-use Rattle.som_wire.specs.Spelling as wire
-use Rattle.som_wire.specs.Spelling.{FitsFace}
+use Rattle.som_fields.specs.declared.face.WireFace.{WireFace}
+use Rattle.som_fields.specs.Spelling as wire
+use Rattle.som_fields.specs.Spelling.{FitsFace}
 use Rattle.som_naming.specs.declared.directory.Directory.{Directory}
 use Rattle.som_libimage.specs.Spelling.{FitsFaces}
 use Rattle.som_naming.specs.Naming.{names_in, kernel_directory, library_directory, entry_names, Tells, NoDoubles}

@@ -22,19 +22,19 @@ use Rattle.som_model.specs.Bytes.{AreBytes}
 use Rattle.som_model.specs.Class.{Class, introduced}
 use Rattle.som_model.specs.Images as images
 use Rattle.som_model.specs.Images.{Spelled, ◌then◌, each, tag, where_it_is}
-use Rattle.som_wire.specs.declared.entry.WireEntry.{WireEntry}
-use Rattle.som_wire.specs.declared.entry.WireEntry.TheVariants as entries
-use Rattle.som_wire.specs.declared.face.WireFace.{WireFace}
-use Rattle.som_wire.specs.Spelling as wire
-use Rattle.som_wire.specs.Spelling.{FitsCounted, FitsMethod}
-use Rattle.som_wire.proofs.NumberFields.{number-w8}
-use Rattle.som_blocks.specs.declared.syntax.WireVariable.{WireVariable}
-use Rattle.som_blocks.specs.declared.syntax.WireBody.{WireBody}
-use Rattle.som_blocks.specs.declared.syntax.WireBody.TheVariants as bodies
-use Rattle.som_blocks.specs.declared.syntax.WireOverride.{WireOverride}
-use Rattle.som_blocks.specs.declared.syntax.WirePart.{WirePart}
-use Rattle.som_blocks.specs.Spelling as spelling
-use Rattle.som_blocks.specs.Fitting.{FitsVariable, FitsBody, FitsOverride}
+use Rattle.som_fields.specs.declared.entry.WireEntry.{WireEntry}
+use Rattle.som_fields.specs.declared.entry.WireEntry.TheVariants as entries
+use Rattle.som_fields.specs.declared.face.WireFace.{WireFace}
+use Rattle.som_fields.specs.Spelling as wire
+use Rattle.som_fields.specs.Spelling.{FitsCounted, FitsMethod}
+use Rattle.som_fields.proofs.NumberFields.{number-w8}
+use Rattle.som_wire.specs.declared.syntax.WireVariable.{WireVariable}
+use Rattle.som_wire.specs.declared.syntax.WireBody.{WireBody}
+use Rattle.som_wire.specs.declared.syntax.WireBody.TheVariants as bodies
+use Rattle.som_wire.specs.declared.syntax.WireOverride.{WireOverride}
+use Rattle.som_wire.specs.declared.syntax.WirePart.{WirePart}
+use Rattle.som_wire.specs.Spelling as spelling
+use Rattle.som_wire.specs.Fitting.{FitsVariable, FitsBody, FitsOverride}
 use Rattle.som_naming.specs.declared.directory.Directory.{Directory}
 use Rattle.som_naming.specs.Naming.{kind_named, ranges_in, Tells, NoDoubles}
 use Rattle.som_naming.specs.NamedBlocks.{block_named}

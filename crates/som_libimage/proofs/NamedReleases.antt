@@ -24,17 +24,17 @@ use Rattle.som_model.specs.Classes.{library_classes}
 use Rattle.som_model.specs.Images as images
 use Rattle.som_model.specs.Images.{Spelled, ◌then◌, each, tag, where_it_is, library_image}
 use Rattle.som_model.proofs.NamedLaws.{same_named}
-use Rattle.som_wire.specs.declared.entry.WireEntry.{WireEntry}
-use Rattle.som_wire.specs.declared.entry.WireEntry.TheVariants as entries
-use Rattle.som_wire.specs.declared.face.WireFace.{WireFace}
-use Rattle.som_wire.specs.declared.method.Ranges.{Ranges}
-use Rattle.som_wire.specs.Spelling as wire
-use Rattle.som_wire.specs.Spelling.{FitsFace}
-use Rattle.som_blocks.specs.declared.syntax.WirePart.{WirePart}
+use Rattle.som_fields.specs.declared.entry.WireEntry.{WireEntry}
+use Rattle.som_fields.specs.declared.entry.WireEntry.TheVariants as entries
+use Rattle.som_fields.specs.declared.face.WireFace.{WireFace}
+use Rattle.som_fields.specs.declared.method.Ranges.{Ranges}
+use Rattle.som_fields.specs.Spelling as wire
+use Rattle.som_fields.specs.Spelling.{FitsFace}
+use Rattle.som_wire.specs.declared.syntax.WirePart.{WirePart}
 use Rattle.som_libimage.specs.declared.wire.WireRelease.{WireRelease}
 use Rattle.som_naming.specs.declared.directory.Directory.{Directory}
 use Rattle.som_libimage.specs.Reading.{ranges_of}
-use Rattle.som_blocks.specs.Spelling as spelling
+use Rattle.som_wire.specs.Spelling as spelling
 use Rattle.som_libimage.specs.Spelling.{FitsClass, FitsParts, FitsRelease, library}
 use Rattle.som_naming.specs.Naming.{name_in, names_in, kernel_directory, library_directory, ranges_in, entry_names, Tells, NoDoubles}
 use Rattle.som_libimage.specs.Naming.{entry_named, face_named, class_named, classes_named, release_named}

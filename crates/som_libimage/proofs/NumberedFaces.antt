@@ -19,7 +19,7 @@ use Rattle.som_model.specs.Lists.{Mem}
 use Rattle.som_model.specs.Keys.{same_key}
 use Rattle.som_model.specs.Kernel.{som_object}
 use Rattle.som_model.proofs.KeyLaws.{exact_bytes, exact_keys}
-use Rattle.som_wire.specs.Spelling.{FitsKind, FitsSig, FitsEntry, FitsFace, FitsMethod, FitsCounted}
+use Rattle.som_fields.specs.Spelling.{FitsKind, FitsSig, FitsEntry, FitsFace, FitsMethod, FitsCounted}
 use Rattle.som_naming.specs.declared.directory.Directory.{Directory}
 use Rattle.som_naming.specs.Naming.{key_at, kind_named, method_named, ranges_in}
 use Rattle.som_libimage.specs.Naming.{sig_named, entry_named, metaclass_named, face_named}

@@ -14,10 +14,10 @@ use Rattle.som_model.specs.declared.class.Override.{Override}
 use Rattle.som_model.specs.declared.class.ClassFace.{ClassFace}
 use Rattle.som_model.specs.declared.class.ClassDecl.{ClassDecl}
 use Rattle.som_model.specs.Class.{introduced}
-use Rattle.som_wire.specs.Spelling.{FitsFace, FitsMethod}
-use Rattle.som_blocks.specs.declared.syntax.WireBody.{WireBody}
-use Rattle.som_blocks.specs.declared.syntax.WireOverride.{WireOverride}
-use Rattle.som_blocks.specs.Fitting.{FitsVariable, FitsBody, FitsOverride}
+use Rattle.som_fields.specs.Spelling.{FitsFace, FitsMethod}
+use Rattle.som_wire.specs.declared.syntax.WireBody.{WireBody}
+use Rattle.som_wire.specs.declared.syntax.WireOverride.{WireOverride}
+use Rattle.som_wire.specs.Fitting.{FitsVariable, FitsBody, FitsOverride}
 use Rattle.som_naming.specs.declared.directory.Directory.{Directory}
 use Rattle.som_naming.specs.Naming.{ranges_in}
 use Rattle.som_naming.specs.Numbering.{IsValue}

@@ -11,17 +11,17 @@ use Rattle.som_model.specs.declared.key.ClassKey.{ClassKey}
 use Rattle.som_model.specs.declared.class.Override.{Override}
 use Rattle.som_model.specs.declared.class.Variable.{Variable}
 use Rattle.som_model.specs.declared.program.Release.{Release}
-use Rattle.som_wire.specs.declared.entry.WireEntry.{WireEntry}
-use Rattle.som_wire.specs.declared.entry.WireEntry.TheVariants as entries
-use Rattle.som_wire.specs.declared.face.WireFace.{WireFace}
-use Rattle.som_wire.specs.declared.method.Ranges.{Ranges}
-use Rattle.som_wire.specs.Spelling.{AreShort, FitsEntry, FitsFace, FitsMethod}
-use Rattle.som_blocks.specs.declared.syntax.WireBody.{WireBody}
-use Rattle.som_blocks.specs.declared.syntax.WireBody.TheVariants as bodies
-use Rattle.som_blocks.specs.declared.syntax.WireOverride.{WireOverride}
-use Rattle.som_blocks.specs.declared.syntax.WirePart.{WirePart}
-use Rattle.som_blocks.specs.Fitting.{FitsVariable, FitsBody, FitsOverride, FitsSomePart}
-use Rattle.som_blocks.proofs.SomeFits.{part_some}
+use Rattle.som_fields.specs.declared.entry.WireEntry.{WireEntry}
+use Rattle.som_fields.specs.declared.entry.WireEntry.TheVariants as entries
+use Rattle.som_fields.specs.declared.face.WireFace.{WireFace}
+use Rattle.som_fields.specs.declared.method.Ranges.{Ranges}
+use Rattle.som_fields.specs.Spelling.{AreShort, FitsEntry, FitsFace, FitsMethod}
+use Rattle.som_wire.specs.declared.syntax.WireBody.{WireBody}
+use Rattle.som_wire.specs.declared.syntax.WireBody.TheVariants as bodies
+use Rattle.som_wire.specs.declared.syntax.WireOverride.{WireOverride}
+use Rattle.som_wire.specs.declared.syntax.WirePart.{WirePart}
+use Rattle.som_wire.specs.Fitting.{FitsVariable, FitsBody, FitsOverride, FitsSomePart}
+use Rattle.som_wire.proofs.SomeFits.{part_some}
 use Rattle.som_naming.specs.declared.directory.Directory.{Directory}
 use Rattle.som_naming.specs.Naming.{library_directory, key_at, kind_named, ranges_in}
 use Rattle.som_naming.specs.BlockLimits.{TextWithin, BlockWithin}

@@ -11,9 +11,9 @@ use Rattle.som_model.specs.Kernel.{kernel}
 use Rattle.som_model.specs.Classes.{interface_classes}
 use Rattle.som_model.specs.Images as images
 use Rattle.som_model.specs.Images.{Spelled}
-use Rattle.som_wire.specs.declared.face.WireFace.{WireFace}
-use Rattle.som_wire.specs.Spelling as wire
-use Rattle.som_wire.specs.declared.fault.ImageFault.{ImageFault}
+use Rattle.som_fields.specs.declared.face.WireFace.{WireFace}
+use Rattle.som_fields.specs.Spelling as wire
+use Rattle.som_fields.specs.declared.fault.ImageFault.{ImageFault}
 use Rattle.som_naming.specs.Numbering.{Differ}
 use Rattle.som_libimage.specs.Reading.{wire_at}
 use Rattle.som_libimage.specs.Naming.{interface_named, release_named}

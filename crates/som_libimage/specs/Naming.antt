@@ -12,15 +12,15 @@ use Rattle.som_model.specs.declared.class.ClassFace.{ClassFace}
 use Rattle.som_model.specs.declared.class.ClassDecl.{ClassDecl}
 use Rattle.som_model.specs.declared.program.Interface.{Interface}
 use Rattle.som_model.specs.declared.program.Release.{Release}
-use Rattle.som_wire.specs.declared.sig.WireSig.{WireSig}
-use Rattle.som_wire.specs.declared.entry.WireEntry.{WireEntry}
-use Rattle.som_wire.specs.declared.entry.WireEntry.TheVariants as entries
-use Rattle.som_wire.specs.declared.face.WireFace.{WireFace}
-use Rattle.som_blocks.specs.declared.syntax.WireVariable.{WireVariable}
-use Rattle.som_blocks.specs.declared.syntax.WireBody.{WireBody}
-use Rattle.som_blocks.specs.declared.syntax.WireBody.TheVariants as bodies
-use Rattle.som_blocks.specs.declared.syntax.WireOverride.{WireOverride}
-use Rattle.som_blocks.specs.declared.syntax.WirePart.{WirePart}
+use Rattle.som_fields.specs.declared.sig.WireSig.{WireSig}
+use Rattle.som_fields.specs.declared.entry.WireEntry.{WireEntry}
+use Rattle.som_fields.specs.declared.entry.WireEntry.TheVariants as entries
+use Rattle.som_fields.specs.declared.face.WireFace.{WireFace}
+use Rattle.som_wire.specs.declared.syntax.WireVariable.{WireVariable}
+use Rattle.som_wire.specs.declared.syntax.WireBody.{WireBody}
+use Rattle.som_wire.specs.declared.syntax.WireBody.TheVariants as bodies
+use Rattle.som_wire.specs.declared.syntax.WireOverride.{WireOverride}
+use Rattle.som_wire.specs.declared.syntax.WirePart.{WirePart}
 use Rattle.som_libimage.specs.declared.wire.WireRelease.{WireRelease}
 use Rattle.som_naming.specs.declared.directory.Directory.{Directory}
 use Rattle.som_naming.specs.Naming.{library_directory, key_at, method_named, kind_named}

@@ -4,17 +4,17 @@ use Rattle.std.specs.List.{starts_with, count_by}
 use Rattle.std.specs.Int.{w8, w16}
 use Rattle.som_model.specs.declared.limits.TheConstants.{MAX_LIBRARY_CLASSES}
 use Rattle.som_model.specs.Steps.{◌>>=◌}
-use Rattle.som_wire.specs.declared.fault.ImageFault.{ImageFault}
-use Rattle.som_wire.specs.declared.fault.ImageFault.TheVariants as faults
-use Rattle.som_wire.specs.declared.read.Read.{Read}
-use Rattle.som_wire.specs.declared.entry.WireEntry.{WireEntry}
-use Rattle.som_wire.specs.declared.entry.WireEntry.TheVariants as entries
-use Rattle.som_wire.specs.declared.face.WireFace.{WireFace}
-use Rattle.som_wire.specs.declared.method.Ranges.{Ranges}
-use Rattle.som_wire.specs.Fields.{done, many_at}
-use Rattle.som_wire.specs.Reading.{number_at, face_at}
-use Rattle.som_blocks.specs.declared.syntax.WirePart.{WirePart}
-use Rattle.som_blocks.specs.Reading.{part_at}
+use Rattle.som_fields.specs.declared.fault.ImageFault.{ImageFault}
+use Rattle.som_fields.specs.declared.fault.ImageFault.TheVariants as faults
+use Rattle.som_fields.specs.declared.read.Read.{Read}
+use Rattle.som_fields.specs.declared.entry.WireEntry.{WireEntry}
+use Rattle.som_fields.specs.declared.entry.WireEntry.TheVariants as entries
+use Rattle.som_fields.specs.declared.face.WireFace.{WireFace}
+use Rattle.som_fields.specs.declared.method.Ranges.{Ranges}
+use Rattle.som_fields.specs.Fields.{done, many_at}
+use Rattle.som_fields.specs.Reading.{number_at, face_at}
+use Rattle.som_wire.specs.declared.syntax.WirePart.{WirePart}
+use Rattle.som_wire.specs.Reading.{part_at}
 use Rattle.som_libimage.specs.declared.wire.WireRelease.{WireRelease}
 
 -- whether an entry is introduced

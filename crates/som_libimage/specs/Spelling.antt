@@ -3,12 +3,12 @@ use Rattle.std.specs.Prelude.{ℕ, ◌+◌, List, [], ◌∷◌, ◌++◌, lengt
 use Rattle.std.specs.List.{flat_map}
 use Rattle.std.specs.Int.{w16}
 use Rattle.som_model.specs.declared.limits.TheConstants.{MAX_LIBRARY_CLASSES}
-use Rattle.som_wire.specs.declared.face.WireFace.{WireFace}
-use Rattle.som_wire.specs.declared.method.Ranges.{Ranges}
-use Rattle.som_wire.specs.Spelling.{counted, FitsCounted, face, FitsFace}
-use Rattle.som_blocks.specs.declared.syntax.WirePart.{WirePart}
-use Rattle.som_blocks.specs.Spelling.{part}
-use Rattle.som_blocks.specs.Fitting.{FitsPart}
+use Rattle.som_fields.specs.declared.face.WireFace.{WireFace}
+use Rattle.som_fields.specs.declared.method.Ranges.{Ranges}
+use Rattle.som_fields.specs.Spelling.{counted, FitsCounted, face, FitsFace}
+use Rattle.som_wire.specs.declared.syntax.WirePart.{WirePart}
+use Rattle.som_wire.specs.Spelling.{part}
+use Rattle.som_wire.specs.Fitting.{FitsPart}
 use Rattle.som_libimage.specs.declared.wire.WireRelease.{WireRelease}
 use Rattle.som_libimage.specs.Reading.{introduced_count, ranges_of}
 

@@ -1,14 +1,14 @@
 ghost use Rattle.som_libimage.specs.Reading.{faces_after_at, faces_at, ranges_of};
 ghost use Rattle.som_libimage.specs.Spelling.{FitsFaces, FitsFacesAfter};
-ghost use Rattle.som_wire.specs.Fields.{Gives, Stands, done};
-ghost use Rattle.som_wire.specs.Reading.{face_at};
-ghost use Rattle.som_wire.specs.Spelling.{FitsFace, counted, face, most_classes};
+ghost use Rattle.som_fields.specs.Fields.{Gives, Stands, done};
+ghost use Rattle.som_fields.specs.Reading.{face_at};
+ghost use Rattle.som_fields.specs.Spelling.{FitsFace, counted, face, most_classes};
 ghost use Rattle.std.specs.Int.{w16};
 ghost use Rattle.std.specs.List.{flat_map};
 ghost use Rattle.std.specs.Prelude.{◌≡◌, ◌<◌, ◌≤◌, ◌+◌, ◌++◌, ◌^◌, ℕ, length, All, IfOk, OnOk};
 
+use som_fields::{ImageFault, Ranges, Read, WireFace, read_face, read_many, read_u16, write_face};
 use som_model::{List, MAX_LIBRARY_CLASSES, NoMemory};
-use som_wire::{ImageFault, Ranges, Read, WireFace, read_face, read_many, read_u16, write_face};
 use std::alloc::Global;
 
 const KERNEL_CLASSES: u16 = 4;

@@ -2,8 +2,8 @@ ghost use Rattle.som_libimage.specs.Reading.{head_at, magic_at};
 ghost use Rattle.som_libimage.specs.Spelling.{head};
 ghost use Rattle.std.specs.Prelude.{◌≡◌, ◌≤◌, length, IfOk};
 
+use som_fields::{ImageFault, read_u8};
 use som_model::{List, NoMemory};
-use som_wire::{ImageFault, read_u8};
 use std::alloc::Global;
 
 const VERSION: u8 = 1;

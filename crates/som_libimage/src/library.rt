@@ -5,16 +5,16 @@ ghost use Rattle.som_libimage.specs.Spelling.{FitsRelease};
 ghost use Rattle.som_model.specs.Class.{interface_of};
 ghost use Rattle.som_model.specs.Conforming.{ReleaseOk};
 ghost use Rattle.som_model.specs.Images.{library_image};
-ghost use Rattle.som_wire.specs.Fields.{Gives};
+ghost use Rattle.som_fields.specs.Fields.{Gives};
 ghost use Rattle.std.specs.Prelude.{◌≡◌, Some, Ok, IfOk};
 
 use crate::named_part::name_classes;
 use crate::numbered::number_release;
 use crate::release::{read_release, write_release};
 use crate::wire::WireRelease;
+use som_fields::{EncodeFault, ImageFault};
 use som_model::{List, NoMemory, Release};
 use som_naming::Directory;
-use som_wire::{EncodeFault, ImageFault};
 use std::alloc::Global;
 
 // The release that a release of an image stands for.

@@ -7,12 +7,12 @@ ghost use Rattle.som_libimage.specs.Naming.{
   sig_named,
 };
 ghost use Rattle.som_libimage.specs.Spelling.{FitsFaces};
-ghost use Rattle.som_wire.specs.Spelling.{FitsEntry, FitsFace, FitsKind, FitsSig};
+ghost use Rattle.som_fields.specs.Spelling.{FitsEntry, FitsFace, FitsKind, FitsSig};
 ghost use Rattle.std.specs.Prelude.{◌≡◌, ◌<◌, false, length, map, All, IfOk, IfSome};
 
+use som_fields::{WireEntry, WireFace, WireSig, WireType};
 use som_model::{ClassFace, ClassKey, Entry, Interface, List, NoMemory, Sig, ValueType};
 use som_naming::{Directory, key_of, name_kind};
-use som_wire::{WireEntry, WireFace, WireSig, WireType};
 use std::alloc::Global;
 
 #[tactic(auto, using(som_naming::proofs::Naming::as_result))]

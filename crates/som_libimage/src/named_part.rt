@@ -1,4 +1,4 @@
-ghost use Rattle.som_blocks.specs.Fitting.{FitsBody, FitsOverride, FitsVariable};
+ghost use Rattle.som_wire.specs.Fitting.{FitsBody, FitsOverride, FitsVariable};
 ghost use Rattle.som_libimage.specs.Naming.{
   body_named,
   class_named,
@@ -8,14 +8,14 @@ ghost use Rattle.som_libimage.specs.Naming.{
 };
 ghost use Rattle.som_libimage.specs.Spelling.{FitsClass, FitsParts};
 ghost use Rattle.som_naming.specs.Naming.{ranges_in};
-ghost use Rattle.som_wire.specs.Spelling.{FitsFace, FitsMethod};
+ghost use Rattle.som_fields.specs.Spelling.{FitsFace, FitsMethod};
 ghost use Rattle.std.specs.Prelude.{◌≡◌, length, map, All, IfOk};
 
 use crate::named_face::name_face;
-use som_blocks::{WireBody, WireOverride, WirePart, WireVariable};
+use som_fields::WireFace;
 use som_model::{Body, ClassDecl, ClassKey, List, NoMemory, Override, Variable};
 use som_naming::{Directory, name_block, name_kind};
-use som_wire::WireFace;
+use som_wire::{WireBody, WireOverride, WirePart, WireVariable};
 use std::alloc::Global;
 
 #[tactic(auto, using(som_naming::proofs::Naming::as_result))]

@@ -16,10 +16,10 @@ use crate::numbered_face::number_face;
 use crate::numbered_part::number_part;
 use crate::wire::WireRelease;
 use indexmap::IndexSet;
-use som_blocks::WirePart;
+use som_fields::WireFace;
 use som_model::{ClassDecl, List, NoMemory, Release};
 use som_naming::Directory;
-use som_wire::WireFace;
+use som_wire::WirePart;
 use std::alloc::Global;
 
 /// The faces of an image that stand for those of these classes.

@@ -19,9 +19,9 @@ ghost use Rattle.som_order.specs.Names.{texts};
 ghost use Rattle.std.specs.Prelude.{◌≡◌, map, All, IfOk, IfSome};
 
 use indexmap::IndexSet;
+use som_fields::{WireEntry, WireFace, WireSig, WireType};
 use som_model::{ClassFace, ClassKey, Entry, List, NoMemory, Sig, ValueType};
 use som_naming::Directory;
-use som_wire::{WireEntry, WireFace, WireSig, WireType};
 use std::alloc::Global;
 
 #[tactic(auto, using(som_naming::proofs::Numbering::as_type))]

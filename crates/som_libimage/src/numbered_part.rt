@@ -12,9 +12,9 @@ ghost use Rattle.som_order.specs.Names.{texts};
 ghost use Rattle.std.specs.Prelude.{◌≡◌, map, All, IfOk};
 
 use indexmap::IndexSet;
-use som_blocks::{WireBody, WireOverride, WirePart, WireVariable};
 use som_model::{Body, ClassDecl, List, NoMemory, Override, Variable};
 use som_naming::{Directory, number_block};
+use som_wire::{WireBody, WireOverride, WirePart, WireVariable};
 use std::alloc::Global;
 
 #[tactic(auto, using(som_naming::proofs::Numbering::as_type))]

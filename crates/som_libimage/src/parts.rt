@@ -1,14 +1,14 @@
-ghost use Rattle.som_blocks.specs.Fitting.{FitsSomePart};
-ghost use Rattle.som_blocks.specs.Spelling.{part};
+ghost use Rattle.som_wire.specs.Fitting.{FitsSomePart};
+ghost use Rattle.som_wire.specs.Spelling.{part};
 ghost use Rattle.som_libimage.specs.Reading.{introduced_count, parts_at};
 ghost use Rattle.som_model.specs.declared.limits.TheConstants.{MAX_ENTRIES};
-ghost use Rattle.som_wire.specs.Fields.{Gives};
+ghost use Rattle.som_fields.specs.Fields.{Gives};
 ghost use Rattle.std.specs.List.{flat_map};
 ghost use Rattle.std.specs.Prelude.{◌≡◌, ◌≤◌, ◌++◌, length, All, IfOk, OnOk};
 
-use som_blocks::{WirePart, read_part, write_part};
+use som_fields::{ImageFault, Ranges, Read, WireEntry, WireFace};
 use som_model::{List, NoMemory};
-use som_wire::{ImageFault, Ranges, Read, WireEntry, WireFace};
+use som_wire::{WirePart, read_part, write_part};
 use std::alloc::Global;
 
 // How many entries a face introduces.

@@ -1,14 +1,14 @@
 ghost use Rattle.som_libimage.specs.Reading.{classes_at, wire_at};
 ghost use Rattle.som_libimage.specs.Spelling.{FitsRelease, library};
-ghost use Rattle.som_wire.specs.Fields.{Gives};
+ghost use Rattle.som_fields.specs.Fields.{Gives};
 ghost use Rattle.std.specs.Prelude.{◌≡◌, ◌≤◌, length, IfOk};
 
 use crate::faces::{append_faces, ranges_of, read_faces};
 use crate::head::{new_image, read_head};
 use crate::parts::{append_parts, read_parts};
 use crate::wire::WireRelease;
+use som_fields::{ImageFault, Read, write_u16};
 use som_model::{List, NoMemory};
-use som_wire::{ImageFault, Read, write_u16};
 use std::alloc::Global;
 
 const MAGIC: &[u8] = b"SOML";

@@ -1,6 +1,6 @@
-use som_blocks::WirePart;
+use som_fields::WireFace;
 use som_model::List;
-use som_wire::WireFace;
+use som_wire::WirePart;
 
 /// A release as its image has it: a face and a part for each class.
 #[derive(Drop)]

@@ -12,11 +12,11 @@ use Rattle.som_model.specs.declared.syntax.Expr.TheOpen.{Expr-F}
 use Rattle.som_model.specs.Class.{Class}
 use Rattle.som_model.specs.Images as images
 use Rattle.som_model.specs.Images.{Spelled, AtLevel, ◌then◌, each, tag, where_it_is, at_level, expr_step}
-use Rattle.som_wire.specs.Spelling as wire
-use Rattle.som_wire.proofs.NumberFields.{number-w8}
-use Rattle.som_blocks.specs.declared.syntax.WireExpr.{WireExpr}
-use Rattle.som_blocks.specs.Spelling as spelling
-use Rattle.som_blocks.proofs.ExprFields.{flat_of}
+use Rattle.som_fields.specs.Spelling as wire
+use Rattle.som_fields.proofs.NumberFields.{number-w8}
+use Rattle.som_wire.specs.declared.syntax.WireExpr.{WireExpr}
+use Rattle.som_wire.specs.Spelling as spelling
+use Rattle.som_wire.proofs.ExprFields.{flat_of}
 use Rattle.som_naming.proofs.Spelled.{some_bytes, bytes_are, split, guarded}
 
 -- a tag at a level, and what follows it

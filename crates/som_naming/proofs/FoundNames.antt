@@ -15,7 +15,7 @@ use Rattle.som_model.specs.declared.syntax.Block.{Block, fold-roll-Block}
 use Rattle.som_model.specs.Lists.{Mem, place_from}
 use Rattle.som_model.specs.Keys.{same_key}
 use Rattle.som_model.proofs.KeyLaws.{Exact, both, exact_bytes, exact_keys}
-use Rattle.som_blocks.specs.Fitting.{levels_left}
+use Rattle.som_wire.specs.Fitting.{levels_left}
 use Rattle.som_naming.specs.declared.directory.Directory.{Directory}
 use Rattle.som_naming.specs.Numbering.{number_of, MethodKnown, IsKnown}
 use Rattle.som_naming.specs.FoundNames.{has_number, has_slot, kind_found, all_found, found_step, expr_found, stmt_found_step, block_found_step, stmt_found, block_found, statements_found}

@@ -5,16 +5,16 @@ use Rattle.std.specs.List.{list_all}
 use Rattle.std.proofs.lemmas.Bool.{ltb-true, lt-ltb}
 use Rattle.std.proofs.lemmas.List.Elements.{recursion_from_All}
 use Rattle.som_model.proofs.KeyLaws.{both}
-use Rattle.som_wire.specs.declared.kind.WireType.{WireType}
-use Rattle.som_wire.specs.declared.kind.WireType.TheVariants as types
-use Rattle.som_wire.specs.declared.method.WireMethod.{WireMethod}
-use Rattle.som_wire.specs.Spelling.{FitsKind, FitsMethod}
-use Rattle.som_blocks.specs.declared.syntax.WireExpr.{WireExpr, out-WireExpr, roll-out-WireExpr, map-WireExpr, fold-roll-WireExpr}
-use Rattle.som_blocks.specs.declared.syntax.WireExpr.TheOpen.{WireExpr-F}
-use Rattle.som_blocks.specs.declared.syntax.WireStmt.{WireStmt, out-WireStmt, roll-out-WireStmt, map-WireStmt, fold-roll-WireStmt}
-use Rattle.som_blocks.specs.declared.syntax.WireStmt.TheOpen.{WireStmt-F}
-use Rattle.som_blocks.specs.declared.syntax.WireBlock.{WireBlock, fold-roll-WireBlock}
-use Rattle.som_blocks.specs.Fitting.{FitsArgs, FitsExprParts, FitsExpr, FitsCall, FitsStmtParts, FitsStatements, FitsStmt, FitsBlock}
+use Rattle.som_fields.specs.declared.kind.WireType.{WireType}
+use Rattle.som_fields.specs.declared.kind.WireType.TheVariants as types
+use Rattle.som_fields.specs.declared.method.WireMethod.{WireMethod}
+use Rattle.som_fields.specs.Spelling.{FitsKind, FitsMethod}
+use Rattle.som_wire.specs.declared.syntax.WireExpr.{WireExpr, out-WireExpr, roll-out-WireExpr, map-WireExpr, fold-roll-WireExpr}
+use Rattle.som_wire.specs.declared.syntax.WireExpr.TheOpen.{WireExpr-F}
+use Rattle.som_wire.specs.declared.syntax.WireStmt.{WireStmt, out-WireStmt, roll-out-WireStmt, map-WireStmt, fold-roll-WireStmt}
+use Rattle.som_wire.specs.declared.syntax.WireStmt.TheOpen.{WireStmt-F}
+use Rattle.som_wire.specs.declared.syntax.WireBlock.{WireBlock, fold-roll-WireBlock}
+use Rattle.som_wire.specs.Fitting.{FitsArgs, FitsExprParts, FitsExpr, FitsCall, FitsStmtParts, FitsStatements, FitsStmt, FitsBlock}
 use Rattle.som_naming.specs.declared.directory.Directory.{Directory}
 use Rattle.som_naming.specs.Naming.{ranges_in}
 use Rattle.som_naming.specs.FoundNames.{all_found}

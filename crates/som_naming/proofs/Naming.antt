@@ -1,8 +1,8 @@
 -- What naming asks of numbers.
 use Rattle.std.proofs.Common.{ℕ, true, false, refl}
-use Rattle.som_wire.specs.declared.kind.WireType.{WireType}
-use Rattle.som_wire.specs.declared.kind.WireType.TheVariants as types
-use Rattle.som_wire.specs.Spelling.{FitsKind}
+use Rattle.som_fields.specs.declared.kind.WireType.{WireType}
+use Rattle.som_fields.specs.declared.kind.WireType.TheVariants as types
+use Rattle.som_fields.specs.Spelling.{FitsKind}
 
 -- what can be the type of a value can be that of a result
 pub as_result : (classes : ℕ) (k : WireType) → FitsKind classes false k → FitsKind classes true k

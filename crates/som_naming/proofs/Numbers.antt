@@ -15,9 +15,9 @@ use Rattle.som_model.specs.Classes.{class_at}
 use Rattle.som_model.specs.Images as images
 use Rattle.som_model.specs.Images.{Spelled, ◌then◌, numbered, slot_in}
 use Rattle.som_model.proofs.KeyLaws.{exact_keys, exact_bytes}
-use Rattle.som_wire.specs.declared.method.WireMethod.{WireMethod}
-use Rattle.som_wire.specs.Spelling as wire
-use Rattle.som_wire.specs.Spelling.{FitsMethod}
+use Rattle.som_fields.specs.declared.method.WireMethod.{WireMethod}
+use Rattle.som_fields.specs.Spelling as wire
+use Rattle.som_fields.specs.Spelling.{FitsMethod}
 use Rattle.som_naming.specs.declared.directory.Directory.{Directory}
 use Rattle.som_naming.specs.Naming.{key_at, method_named, ranges_in, entry_names, Tells, NoDoubles}
 use Rattle.som_naming.proofs.Places.{place_of_map, place_found, own_place, all_at}

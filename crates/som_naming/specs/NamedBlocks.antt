@@ -5,14 +5,14 @@ use Rattle.som_model.specs.declared.syntax.Expr.TheVariants as exprs
 use Rattle.som_model.specs.declared.syntax.Stmt.{Stmt}
 use Rattle.som_model.specs.declared.syntax.Stmt.TheVariants as stmts
 use Rattle.som_model.specs.declared.syntax.Block.{Block}
-use Rattle.som_wire.specs.Spelling.{FitsMethod}
-use Rattle.som_blocks.specs.declared.syntax.WireExpr.{WireExpr, fold-WireExpr}
-use Rattle.som_blocks.specs.declared.syntax.WireExpr.TheOpen.{WireExpr-F}
-use Rattle.som_blocks.specs.declared.syntax.WireStmt.{WireStmt, fold-WireStmt}
-use Rattle.som_blocks.specs.declared.syntax.WireStmt.TheOpen.{WireStmt-F, WireBlock-F}
-use Rattle.som_blocks.specs.declared.syntax.WireBlock.{WireBlock, fold-WireBlock}
-use Rattle.som_blocks.specs.Fitting.{FitsBlock, levels_left}
-use Rattle.som_blocks.specs.Spelling as spelling
+use Rattle.som_fields.specs.Spelling.{FitsMethod}
+use Rattle.som_wire.specs.declared.syntax.WireExpr.{WireExpr, fold-WireExpr}
+use Rattle.som_wire.specs.declared.syntax.WireExpr.TheOpen.{WireExpr-F}
+use Rattle.som_wire.specs.declared.syntax.WireStmt.{WireStmt, fold-WireStmt}
+use Rattle.som_wire.specs.declared.syntax.WireStmt.TheOpen.{WireStmt-F, WireBlock-F}
+use Rattle.som_wire.specs.declared.syntax.WireBlock.{WireBlock, fold-WireBlock}
+use Rattle.som_wire.specs.Fitting.{FitsBlock, levels_left}
+use Rattle.som_wire.specs.Spelling as spelling
 use Rattle.som_naming.specs.declared.directory.Directory.{Directory}
 use Rattle.som_naming.specs.Naming.{key_at, method_named, kind_named, ranges_in}
 

@@ -13,13 +13,13 @@ use Rattle.som_model.specs.declared.class.ClassFace.{ClassFace}
 use Rattle.som_model.specs.Keys.{same_key}
 use Rattle.som_model.specs.Class.{Class, entry_name}
 use Rattle.som_model.specs.Kernel.{kernel, som_object}
-use Rattle.som_wire.specs.declared.kind.WireType.{WireType}
-use Rattle.som_wire.specs.declared.kind.WireType.TheVariants as types
-use Rattle.som_wire.specs.declared.entry.WireEntry.{WireEntry}
-use Rattle.som_wire.specs.declared.entry.WireEntry.TheVariants as entries
-use Rattle.som_wire.specs.declared.face.WireFace.{WireFace}
-use Rattle.som_wire.specs.declared.method.WireMethod.{WireMethod}
-use Rattle.som_wire.specs.declared.method.Ranges.{Ranges}
+use Rattle.som_fields.specs.declared.kind.WireType.{WireType}
+use Rattle.som_fields.specs.declared.kind.WireType.TheVariants as types
+use Rattle.som_fields.specs.declared.entry.WireEntry.{WireEntry}
+use Rattle.som_fields.specs.declared.entry.WireEntry.TheVariants as entries
+use Rattle.som_fields.specs.declared.face.WireFace.{WireFace}
+use Rattle.som_fields.specs.declared.method.WireMethod.{WireMethod}
+use Rattle.som_fields.specs.declared.method.Ranges.{Ranges}
 use Rattle.som_naming.specs.declared.directory.Directory.{Directory}
 
 -- ---- directories

@@ -14,9 +14,9 @@ use Rattle.som_model.specs.declared.program.Release.{Release}
 use Rattle.som_model.specs.Lists.{Mem, place_from, doubles}
 use Rattle.som_model.specs.Keys.{same_key}
 use Rattle.som_model.specs.Class.{entry_name}
-use Rattle.som_wire.specs.declared.kind.WireType.{WireType}
-use Rattle.som_wire.specs.declared.kind.WireType.TheVariants as types
-use Rattle.som_wire.specs.declared.method.WireMethod.{WireMethod}
+use Rattle.som_fields.specs.declared.kind.WireType.{WireType}
+use Rattle.som_fields.specs.declared.kind.WireType.TheVariants as types
+use Rattle.som_fields.specs.declared.method.WireMethod.{WireMethod}
 use Rattle.som_naming.specs.declared.directory.Directory.{Directory}
 use Rattle.som_naming.specs.Naming.{kernel_directory}
 

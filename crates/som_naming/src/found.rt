@@ -10,8 +10,8 @@ ghost use Rattle.std.specs.Prelude.{◌≡◌, true};
 
 use crate::Directory;
 use indexmap::IndexSet;
+use som_fields::{WireMethod, WireType};
 use som_model::{ClassKey, MethodRef, ValueType};
-use som_wire::{WireMethod, WireType};
 
 // The numbers and slots of the names in expressions and statements: what is found is there.
 

@@ -4,8 +4,8 @@ ghost use Rattle.std.specs.Prelude.{◌≡◌, true, IfOk};
 
 use crate::Directory;
 use crate::named::{key_of, name_kind};
+use som_fields::{WireMethod, WireType};
 use som_model::{ClassKey, MethodRef, NoMemory, ValueType};
-use som_wire::{WireMethod, WireType};
 use std::alloc::Global;
 
 // What the numbers and slots in expressions and statements stand for.

@@ -1,6 +1,6 @@
-ghost use Rattle.som_blocks.specs.Fitting.{FitsBlock, levels_left};
-ghost use Rattle.som_blocks.specs.Spelling.{block};
-ghost use Rattle.som_blocks.specs.declared.syntax.WireBlock.{WireBlock};
+ghost use Rattle.som_wire.specs.Fitting.{FitsBlock, levels_left};
+ghost use Rattle.som_wire.specs.Spelling.{block};
+ghost use Rattle.som_wire.specs.declared.syntax.WireBlock.{WireBlock};
 ghost use Rattle.som_model.specs.Class.{Class};
 ghost use Rattle.som_model.specs.Images as images;
 ghost use Rattle.som_model.specs.declared.syntax.Block.{Block};
@@ -8,7 +8,7 @@ ghost use Rattle.som_naming.specs.Naming.{NoDoubles, Tells, ranges_in};
 ghost use Rattle.som_naming.specs.BlockLimits.{BlockWithin};
 ghost use Rattle.som_naming.specs.NamedBlocks.{BlockFrom, block_named};
 ghost use Rattle.som_naming.specs.declared.directory.Directory.{Directory};
-ghost use Rattle.som_wire.specs.Spelling.{FitsMethod};
+ghost use Rattle.som_fields.specs.Spelling.{FitsMethod};
 ghost use Rattle.std.specs.Prelude.{◌≡◌, ℕ, List, Some};
 
 /// A block that fits the directory of some classes, in which no name stands twice, is spelled as the block that it stands

@@ -18,9 +18,9 @@ ghost use Rattle.std.specs.Prelude.{◌≡◌, ◌≤◌, length, IfOk};
 
 use crate::Directory;
 use indexmap::IndexSet;
+use som_fields::{WireMethod, WireType};
 use som_model::{ClassKey, List, MethodRef, NoMemory, Text, ValueType};
 use som_order::{find_name, note_name};
-use som_wire::{WireMethod, WireType};
 use std::alloc::Global;
 
 impl Directory {

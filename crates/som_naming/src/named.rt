@@ -1,10 +1,10 @@
 ghost use Rattle.som_naming.specs.Naming.{key_at, kind_named, method_named, ranges_in};
-ghost use Rattle.som_wire.specs.Spelling.{FitsKind, FitsMethod};
+ghost use Rattle.som_fields.specs.Spelling.{FitsKind, FitsMethod};
 ghost use Rattle.std.specs.Prelude.{◌≡◌, ◌<◌, true, length, IfOk};
 
 use crate::Directory;
+use som_fields::{WireMethod, WireType};
 use som_model::{ClassKey, List, MethodRef, NoMemory, ValueType};
-use som_wire::{WireMethod, WireType};
 use std::alloc::Global;
 
 /// The key of the class of a number.

@@ -9,8 +9,8 @@ ghost use Rattle.std.specs.Prelude.{◌≡◌, true, map, IfOk};
 use crate::Directory;
 use crate::found::{number_class, number_kind, number_method};
 use indexmap::IndexSet;
-use som_blocks::WireExpr;
 use som_model::{Boxed, Expr, List, NoMemory};
+use som_wire::WireExpr;
 use std::alloc::Global;
 
 /// The expression of an image that stands for an expression.

@@ -1,5 +1,5 @@
-ghost use Rattle.som_blocks.specs.Fitting.{FitsBlock, levels_left};
-ghost use Rattle.som_blocks.specs.declared.syntax.WireBlock.{WireBlock};
+ghost use Rattle.som_wire.specs.Fitting.{FitsBlock, levels_left};
+ghost use Rattle.som_wire.specs.declared.syntax.WireBlock.{WireBlock};
 ghost use Rattle.som_model.specs.Class.{Class};
 ghost use Rattle.som_model.specs.Typing.{CodePlace, class_facts};
 ghost use Rattle.som_model.specs.TypedBlocks.{Scope, block_scope};
@@ -10,7 +10,7 @@ ghost use Rattle.som_naming.specs.Naming.{Tells, ranges_in};
 ghost use Rattle.som_naming.specs.NumberedBlocks.{block_numbered};
 ghost use Rattle.som_naming.specs.ReadyBlocks.{BlockReady};
 ghost use Rattle.som_naming.specs.declared.directory.Directory.{Directory};
-ghost use Rattle.som_wire.specs.Spelling.{FitsMethod};
+ghost use Rattle.som_fields.specs.Spelling.{FitsMethod};
 ghost use Rattle.std.specs.Prelude.{◌≡◌, List, length, Ok};
 
 /// A block that is well typed where it stands, among any classes, and within the limits is ready to be numbered by the

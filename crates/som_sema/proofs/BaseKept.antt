@@ -18,8 +18,8 @@ use Rattle.som_model.specs.Kernel.{class_face, kernel, object_face, som_class, s
 use Rattle.som_model.specs.Rules.{breach, demand, introduced_by, name_of, s2, s4, s8}
 use Rattle.som_model.proofs.KeyLaws.{exact_keys}
 use Rattle.som_model.proofs.NamedLaws.{height_named, hierarchy_parents, hierarchy_same, parents_named}
-use Rattle.som_plain.proofs.Laws as plain
-use Rattle.som_plain.proofs.Members.{find_first, map_on, mem_left, mem_right, mem_split}
+use Rattle.som_laws.proofs.Laws as plain
+use Rattle.som_laws.proofs.Members.{find_first, map_on, mem_left, mem_right, mem_split}
 use Rattle.som_verify.specs.Modules.{AreDeclared, module_of}
 use Rattle.som_verify.specs.Plainly.{IsAmong}
 use Rattle.som_verify.proofs.Before.{demanded, every_mem, none_both}

@@ -16,7 +16,7 @@ use Rattle.som_model.specs.declared.class.Entry.{Entry}
 use Rattle.som_model.specs.declared.class.Entry.TheVariants as entries
 use Rattle.som_model.proofs.KeyLaws.{both, exact_keys}
 use Rattle.som_model.proofs.NamedLaws.{hierarchy_parents, hierarchy_same}
-use Rattle.som_plain.proofs.Laws.{descends_test}
+use Rattle.som_laws.proofs.Laws.{descends_test}
 use Rattle.som_verify.specs.Faces.{faces_breach}
 use Rattle.som_verify.specs.Inherited.{inherits, moved_entry}
 use Rattle.som_verify.specs.Places.{with_kernel}

@@ -14,7 +14,7 @@ use Rattle.som_model.specs.declared.key.ClassKey.TheVariants as keys
 use Rattle.som_verify.specs.declared.types.Declared.{Declared}
 use Rattle.som_verify.proofs.DeclaredClasses.{are_declared, item_of, long_map, map_declared}
 use Rattle.som_verify.proofs.Rows.{face_there}
-use Rattle.som_plain.proofs.Members.{mem_split}
+use Rattle.som_laws.proofs.Members.{mem_split}
 use Rattle.som_sema.specs.Building.{after_base, declared_all, moved_breach, sketch_breach}
 use Rattle.som_sema.proofs.Composing.{front_is, rest_is}
 use Rattle.som_sema.specs.Finished.{declare, declare_at, declared_from}

@@ -16,8 +16,8 @@ use Rattle.som_model.specs.EffectiveOrder.{effective_order}
 use Rattle.som_model.specs.Kernel.{som_class}
 use Rattle.som_model.specs.Rules.{breach, s4, s6, s7}
 use Rattle.som_model.proofs.KeyLaws.{exact_bytes}
-use Rattle.som_plain.proofs.Laws.{among_mem}
-use Rattle.som_plain.proofs.Members.{Apart, find_first, mem_split, without_fails, without_mem}
+use Rattle.som_laws.proofs.Laws.{among_mem}
+use Rattle.som_laws.proofs.Members.{Apart, find_first, mem_split, without_fails, without_mem}
 use Rattle.som_verify.specs.Plainly.{IsAmong, IsNamed, IsValue, TypesKnown}
 use Rattle.som_verify.proofs.Before.{both_none, none_both}
 use Rattle.som_verify.proofs.Owners.{mem_middle}

@@ -7,7 +7,7 @@ use Rattle.som_model.specs.Conforming.{each_after}
 use Rattle.som_model.specs.Rules.{Breach, s2}
 use Rattle.som_model.specs.declared.key.Module.{Module}
 use Rattle.som_model.specs.declared.key.ClassKey.{ClassKey}
-use Rattle.som_plain.proofs.Members.{mem_left, mem_right, mem_split}
+use Rattle.som_laws.proofs.Members.{mem_left, mem_right, mem_split}
 use Rattle.som_verify.proofs.Before.{both_none, mem_every, none_both}
 use Rattle.som_verify.proofs.Owners.{flat_none}
 use Rattle.som_verify.proofs.PlainLists.{map_mem}

@@ -11,8 +11,8 @@ use Rattle.som_model.specs.Classes.{hierarchy, is_a}
 use Rattle.som_model.specs.Kernel.{som_class}
 use Rattle.som_model.proofs.KeyLaws.{both, exact_bytes, exact_keys}
 use Rattle.som_model.proofs.NamedLaws.{hierarchy_same}
-use Rattle.som_plain.proofs.Laws.{among_mem, descends_test}
-use Rattle.som_plain.proofs.Members.{mem_left, mem_right, mem_split}
+use Rattle.som_laws.proofs.Laws.{among_mem, descends_test}
+use Rattle.som_laws.proofs.Members.{mem_left, mem_right, mem_split}
 use Rattle.som_read.specs.declared.tree.Word.{Word}
 use Rattle.som_idl.specs.declared.tree.Item.{Item}
 use Rattle.som_idl.specs.declared.tree.Item.TheVariants as items

@@ -13,7 +13,7 @@ use Rattle.som_model.specs.Conforming.{each_after, first_of_members, first_of_na
 use Rattle.som_model.specs.Kernel.{kernel}
 use Rattle.som_model.specs.Rules.{Breach, s1, s2, s3, s4, s5, s6, s7, s8, s9, s10}
 use Rattle.som_idl.specs.declared.tree.IdlInterface.{IdlInterface}
-use Rattle.som_plain.proofs.Members.{mem_right, mem_split}
+use Rattle.som_laws.proofs.Members.{mem_right, mem_split}
 use Rattle.som_verify.specs.Faces.{classes_breach, faces_breach}
 use Rattle.som_verify.specs.Modules.{AreDeclared}
 use Rattle.som_verify.specs.Places.{with_kernel}

@@ -11,7 +11,7 @@ use Rattle.som_model.specs.Conforming.{each_after}
 use Rattle.som_model.specs.Rules.{Breach, demand, s2}
 use Rattle.som_model.specs.declared.key.ClassKey.{ClassKey}
 use Rattle.som_model.proofs.KeyLaws.{exact_keys}
-use Rattle.som_plain.proofs.Members.{mem_left, mem_right, mem_split, mem_some, some_mem}
+use Rattle.som_laws.proofs.Members.{mem_left, mem_right, mem_split, mem_some, some_mem}
 use Rattle.som_verify.specs.declared.types.Declared.{Declared}
 use Rattle.som_verify.specs.Modules.{class_of, classes_of}
 use Rattle.som_verify.specs.Places.{with_kernel}

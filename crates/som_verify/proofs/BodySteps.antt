@@ -31,7 +31,7 @@ use Rattle.som_verify.specs.Scopes.{Ends, blocked_by, scope_at}
 use Rattle.som_verify.specs.Told.{Tells}
 use Rattle.som_verify.proofs.DeclaredClasses.{item_of, long_map}
 use Rattle.som_model.proofs.KeyLaws.{both}
-use Rattle.som_plain.proofs.Members.{mem_split}
+use Rattle.som_laws.proofs.Members.{mem_split}
 use Rattle.som_verify.proofs.Facts.{signature_said}
 use Rattle.som_verify.proofs.Numbering.{map_append}
 use Rattle.som_verify.proofs.PlainLists.{mem_map}

@@ -8,7 +8,7 @@ use Rattle.som_model.specs.declared.key.ClassKey.{ClassKey}
 use Rattle.som_model.specs.Class.{Class}
 use Rattle.som_model.proofs.KeyLaws.{exact_keys}
 use Rattle.som_model.proofs.NamedLaws.{hierarchy_same}
-use Rattle.som_plain.proofs.Members.{some_on, not_true}
+use Rattle.som_laws.proofs.Members.{some_on, not_true}
 use Rattle.som_verify.specs.Places.{key_at, Finds}
 use Rattle.som_verify.specs.Walk.{AreLists}
 use Rattle.som_verify.proofs.KeyLists.{alike}

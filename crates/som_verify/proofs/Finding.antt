@@ -18,7 +18,7 @@ use Rattle.som_model.proofs.NamedLaws.{same_named, out_named}
 use Rattle.som_order.specs.Names.{name_at}
 use Rattle.som_verify.specs.Places.{with_kernel, class_of_place, key_at, module_at, IsTable, Finds}
 use Rattle.som_verify.proofs.DeclaredClasses.{long_map, faces_declared, module_there}
-use Rattle.som_plain.proofs.Members.{mem_split}
+use Rattle.som_laws.proofs.Members.{mem_split}
 use Rattle.som_verify.specs.Modules.{class_of, classes_of, AreDeclared}
 use Rattle.som_verify.specs.declared.types.Declared.{Declared}
 

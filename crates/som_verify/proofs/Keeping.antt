@@ -11,7 +11,7 @@ use Rattle.som_verify.specs.declared.code_place.TypeFault.{TypeFault}
 use Rattle.som_verify.specs.declared.code_place.TypeFault.TheVariants as faults
 use Rattle.som_verify.specs.Kinds.{AreTypes, Fails, IsType, Types, kind_at, type_at}
 use Rattle.som_verify.specs.Scopes.{Keeps, Leaves, scope_at}
-use Rattle.som_plain.proofs.Members.{mem_split}
+use Rattle.som_laws.proofs.Members.{mem_split}
 use Rattle.som_verify.proofs.Numbering.{map_append}
 
 -- a type that is wanted is that of a kind

@@ -8,8 +8,8 @@ use Rattle.som_model.specs.Lists.{Mem, some, joined}
 use Rattle.som_model.specs.Hierarchy.{Tells, Falls}
 use Rattle.som_model.specs.Ancestors.{Descends, itself, by_parent, anc}
 use Rattle.som_model.proofs.KeyLaws.{exact_numbers}
-use Rattle.som_plain.proofs.Laws.{ancestors, ancestors_step}
-use Rattle.som_plain.proofs.Members.{map_on}
+use Rattle.som_laws.proofs.Laws.{ancestors, ancestors_step}
+use Rattle.som_laws.proofs.Members.{map_on}
 use Rattle.som_verify.specs.Walk.{adds, rows_of, AreLow, AreMarks, AreAncestors}
 use Rattle.som_verify.proofs.WalkLaw.{adds_both, firsts_adds}
 

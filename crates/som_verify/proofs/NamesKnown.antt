@@ -17,7 +17,7 @@ use Rattle.som_model.specs.declared.class.Entry.TheVariants as entries
 use Rattle.som_model.specs.declared.class.Sig.{Sig}
 use Rattle.som_model.specs.declared.class.Way.{Way}
 use Rattle.som_model.specs.declared.class.Variable.{Variable}
-use Rattle.som_plain.proofs.Members.{find_first, mem_split, mem_left, mem_right}
+use Rattle.som_laws.proofs.Members.{find_first, mem_split, mem_left, mem_right}
 use Rattle.som_verify.specs.Faces.{classes_breach}
 use Rattle.som_verify.specs.Knowing.{NamesKnown, sig_is_known}
 use Rattle.som_verify.specs.Places.{class_of_place, face_at, nobody, with_kernel}

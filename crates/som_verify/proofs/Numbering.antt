@@ -3,7 +3,7 @@ use Rattle.std.proofs.Common.{◌≡◌, ℕ, zero, suc, inl, inr, Bool, true, f
 use Rattle.som_model.specs.Lists.{Mem, without, firsts, joined}
 use Rattle.som_model.specs.Hierarchy.{Hierarchy}
 use Rattle.som_model.specs.Ancestors.{anc_within, anc}
-use Rattle.som_plain.proofs.Members.{firsts_mem, joined_mem, map_on}
+use Rattle.som_laws.proofs.Members.{firsts_mem, joined_mem, map_on}
 
 pub map_append : {A B : Type 0} (f : A → B) (xs ys : List A) → map f (xs ++ ys) ≡ map f xs ++ map f ys
 map_append f [] ys = refl

@@ -12,7 +12,7 @@ use Rattle.som_model.specs.declared.key.MethodRef.{MethodRef}
 use Rattle.som_model.specs.declared.class.Entry.{Entry}
 use Rattle.som_model.specs.declared.class.Entry.TheVariants as entries
 use Rattle.som_model.proofs.KeyLaws.{exact_bytes, both}
-use Rattle.som_plain.proofs.Members.{mem_right, mem_split, find_first}
+use Rattle.som_laws.proofs.Members.{mem_right, mem_split, find_first}
 use Rattle.som_verify.specs.Places.{with_kernel, class_of_place, key_at, face_at, IsTable, Finds}
 use Rattle.som_verify.specs.Inherited.{inherits, moved_entry, moved_to}
 use Rattle.som_verify.proofs.Finding.{known_at_all, mem_place}

@@ -7,7 +7,7 @@ use Rattle.som_model.specs.Class.{Class}
 use Rattle.som_model.specs.Conforming.{each_after}
 use Rattle.som_model.specs.Rules.{Breach, name_of, s1}
 use Rattle.som_model.proofs.KeyLaws.{Exact}
-use Rattle.som_plain.proofs.Members.{mem_left, mem_right, mem_some, Apart, apart_doubles}
+use Rattle.som_laws.proofs.Members.{mem_left, mem_right, mem_some, Apart, apart_doubles}
 use Rattle.som_verify.specs.Plainly.{Differ}
 use Rattle.som_verify.proofs.Numbering.{map_append}
 use Rattle.som_verify.proofs.Before.{both_none}

@@ -19,8 +19,8 @@ use Rattle.som_model.specs.declared.class.Entry.TheVariants as entries
 use Rattle.som_model.specs.declared.class.Override.{Override}
 use Rattle.som_model.proofs.KeyLaws.{Exact, exact_bytes, exact_keys, both}
 use Rattle.som_model.proofs.NamedLaws.{hierarchy_same}
-use Rattle.som_plain.proofs.Members.{mem_left, mem_right, mem_split, mem_some, some_mem, not_true, find_first, Apart}
-use Rattle.som_plain.proofs.Laws.{ancestors, ancestors_apart, descends_test}
+use Rattle.som_laws.proofs.Members.{mem_left, mem_right, mem_split, mem_some, some_mem, not_true, find_first, Apart}
+use Rattle.som_laws.proofs.Laws.{ancestors, ancestors_apart, descends_test}
 use Rattle.som_verify.specs.Modules.{AreDeclared}
 use Rattle.som_verify.specs.Places.{with_kernel, key_at, IsTable}
 use Rattle.som_verify.specs.Inherited.{inherits, moved_entry, may_override, overrides_from}

@@ -10,7 +10,7 @@ use Rattle.som_model.specs.declared.key.Module.TheVariants as modules
 use Rattle.som_model.specs.declared.class.ClassDecl.{ClassDecl}
 use Rattle.som_model.specs.declared.program.Release.{Release}
 use Rattle.som_model.specs.declared.program.ClientProgram.{ClientProgram}
-use Rattle.som_plain.proofs.Members.{mem_split}
+use Rattle.som_laws.proofs.Members.{mem_split}
 use Rattle.som_verify.specs.Faces.{faces_breach}
 use Rattle.som_verify.specs.Modules.{AreDeclared}
 use Rattle.som_verify.specs.Places.{all_classes, with_kernel}

@@ -11,7 +11,7 @@ use Rattle.som_model.specs.Kernel.{kernel}
 use Rattle.som_model.specs.Rules.{breach, s2}
 use Rattle.som_model.specs.Conforming.{each_after}
 use Rattle.som_model.specs.declared.key.ClassKey.{ClassKey}
-use Rattle.som_plain.proofs.Members.{mem_split}
+use Rattle.som_laws.proofs.Members.{mem_split}
 use Rattle.som_verify.specs.declared.types.VerifyFault.{VerifyFault}
 use Rattle.som_verify.specs.declared.types.VerifyFault.TheVariants as faults
 use Rattle.som_verify.specs.declared.types.Declared.{Declared}

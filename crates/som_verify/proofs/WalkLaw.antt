@@ -2,7 +2,7 @@
 use Rattle.std.proofs.Common.{◌≡◌, inl, inr, Bool, true, false, if◌then◌else◌, List, [], ◌∷◌, ◌++◌, refl, sym, ap, ◌∙◌, subst, append_assoc}
 use Rattle.std.proofs.lemmas.List.{append-nil}
 use Rattle.som_model.specs.Lists.{Mem, without, firsts, some}
-use Rattle.som_plain.proofs.Members.{mem_left, mem_right, mem_split, some_mem, mem_some, Apart, firsts_apart}
+use Rattle.som_laws.proofs.Members.{mem_left, mem_right, mem_split, some_mem, mem_some, Apart, firsts_apart}
 use Rattle.som_verify.specs.Walk.{add_new, adds}
 
 choose_in : {A : Type 0} (b : Bool) (a x : A) (seen : List A) → Mem a seen → Mem a (if b then seen else seen ++ x ∷ [])

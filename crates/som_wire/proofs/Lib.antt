@@ -1,8 +1,9 @@
-pub mod Loop
-pub mod Parts
-pub mod NumberFields
-pub mod ManyFields
-pub mod TypeFields
-pub mod EntryFields
-pub mod FaceFields
-pub mod Apart
+pub mod Levels
+pub mod Made
+pub mod ExprFields
+pub mod StmtFields
+pub mod PartFields
+pub mod Fits
+pub mod Written
+pub mod SomeFits
+pub mod ReadBack

@@ -1,3 +1,5 @@
-pub mod Fields
+pub mod Making
 pub mod Spelling
+pub mod Fitting
 pub mod Reading
+pub mod Writing

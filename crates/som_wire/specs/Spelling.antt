@@ -1,120 +1,100 @@
--- The one spelling of each field, and which values can stand in it.
-use Rattle.std.specs.Prelude.{ℕ, ◌-◌, ◌<◌, ◌≤◌, ◌^◌, List, [], ◌∷◌, ◌++◌, length, Option, Some, None, IfSome, Bool, true, false, IsTrue, All, slice_index}
+-- The one spelling of each expression, statement and block, and of what the part of a class holds.
+use Rattle.std.specs.Prelude.{ℕ, Bool, true, false, List, [], ◌∷◌, ◌++◌}
 use Rattle.std.specs.List.{flat_map}
-use Rattle.std.specs.Int.{Width, w8, w16, w32, to_be_bytes}
-use Rattle.som_model.specs.declared.limits.TheConstants.{MAX_TEXT, MAX_VERSION, MAX_PARAMETERS, MAX_PARENTS, MAX_ENTRIES}
-use Rattle.som_model.specs.declared.class.Way.{Way}
-use Rattle.som_model.specs.declared.class.Way.TheVariants as ways
-use Rattle.som_wire.specs.declared.kind.WireType.{WireType}
-use Rattle.som_wire.specs.declared.kind.WireType.TheVariants as types
-use Rattle.som_wire.specs.declared.sig.WireSig.{WireSig}
-use Rattle.som_wire.specs.declared.entry.WireEntry.{WireEntry}
-use Rattle.som_wire.specs.declared.entry.WireEntry.TheVariants as entries
-use Rattle.som_wire.specs.declared.face.WireFace.{WireFace}
-use Rattle.som_wire.specs.declared.method.WireMethod.{WireMethod}
-use Rattle.som_wire.specs.declared.method.Ranges.{Ranges}
+use Rattle.std.specs.Int.{w8, w16, w32, cast_unsigned}
+use Rattle.som_model.specs.declared.syntax.HostCode.{HostCode}
+use Rattle.som_model.specs.declared.syntax.HostCode.TheVariants as hosts
+use Rattle.som_fields.specs.Spelling.{number, text, counted, kind, method}
+use Rattle.som_wire.specs.declared.syntax.WireVariable.{WireVariable}
+use Rattle.som_wire.specs.declared.syntax.WireBody.{WireBody}
+use Rattle.som_wire.specs.declared.syntax.WireBody.TheVariants as bodies
+use Rattle.som_wire.specs.declared.syntax.WireOverride.{WireOverride}
+use Rattle.som_wire.specs.declared.syntax.WirePart.{WirePart}
+use Rattle.som_wire.specs.declared.syntax.WireExpr.{WireExpr, fold-WireExpr}
+use Rattle.som_wire.specs.declared.syntax.WireExpr.TheOpen.{WireExpr-F}
+use Rattle.som_wire.specs.declared.syntax.WireStmt.{WireStmt, fold-WireStmt}
+use Rattle.som_wire.specs.declared.syntax.WireStmt.TheOpen.{WireStmt-F, WireBlock-F}
+use Rattle.som_wire.specs.declared.syntax.WireBlock.{WireBlock, fold-WireBlock}
 
--- a number, its highest byte first
-abbrev pub number : Width → ℕ → List ℕ
-number w n = to_be_bytes w n
+abbrev pub truth : Bool → ℕ
+truth false = 0
+truth true = 1
 
--- a length, and that many bytes
-abbrev pub text : List ℕ → List ℕ
-text t = number w16 (length t) ++ t
+abbrev pub host : HostCode → ℕ
+host hosts.Min = 0
+host hosts.Max = 1
+host hosts.And = 2
+host hosts.Or = 3
+host hosts.Xor = 4
+host hosts.WrapAdd = 5
 
-abbrev pub FitsText : List ℕ → Type 0
-FitsText t = length t ≤ MAX_TEXT
+-- as many texts as the number before them says
+abbrev pub args : List (List ℕ) → List ℕ
+args es = counted w8 (λ e. e) es
 
--- a count, and that many things
-abbrev pub counted : {A : Type 0} → Width → (A → List ℕ) → List A → List ℕ
-counted w spell xs = number w (length xs) ++ flat_map spell xs
+-- an expression, by how its parts are spelled: a tag, and its fields
+abbrev pub expr_step : WireExpr-F (List ℕ) → List ℕ
+expr_step (WireExpr-F.Long z) = 0x20 ∷ number w32 (cast_unsigned w32 z)
+expr_step (WireExpr-F.Str t) = 0x21 ∷ text t
+expr_step (WireExpr-F.Boolean b) = 0x22 ∷ number w8 (truth b)
+expr_step WireExpr-F.Nil = 0x23 ∷ []
+expr_step (WireExpr-F.Local n) = 0x24 ∷ number w16 n
+expr_step WireExpr-F.Me = 0x25 ∷ []
+expr_step (WireExpr-F.Variable n) = 0x26 ∷ number w8 n
+expr_step (WireExpr-F.Unary op e) = 0x27 ∷ number w8 op ++ e
+expr_step (WireExpr-F.Binary op a b) = 0x28 ∷ number w8 op ++ a ++ b
+expr_step (WireExpr-F.New c) = 0x29 ∷ number w16 c
+expr_step (WireExpr-F.Class c) = 0x2a ∷ number w16 c
+expr_step WireExpr-F.Manager = 0x2b ∷ []
+expr_step (WireExpr-F.Cast c e) = 0x2c ∷ number w16 c ++ e
+expr_step (WireExpr-F.Isa c e) = 0x2d ∷ number w16 c ++ e
+expr_step (WireExpr-F.Proxy c e) = 0x2e ∷ number w16 c ++ e
+expr_step (WireExpr-F.OffsetCall m e es) = 0x2f ∷ method m ++ e ++ args es
+expr_step (WireExpr-F.Lookup t name e es) = 0x30 ∷ kind t ++ text name ++ e ++ args es
+expr_step (WireExpr-F.Dispatch t name e es) = 0x31 ∷ kind t ++ text name ++ e ++ args es
+expr_step (WireExpr-F.ParentCall n m es) = 0x32 ∷ number w8 n ++ method m ++ args es
+expr_step (WireExpr-F.ParentsCall m es) = 0x33 ∷ method m ++ args es
+expr_step (WireExpr-F.Host code a b) = 0x34 ∷ number w8 (host code) ++ a ++ b
 
--- so many things, each of which fits
-abbrev pub FitsCounted : {A : Type 0} → ℕ → ℕ → (A → Type 0) → List A → Type 0
-FitsCounted least most Fits xs = (least ≤ length xs) × (length xs ≤ most) × All Fits xs
+abbrev pub expr : WireExpr → List ℕ
+expr = fold-WireExpr (List ℕ) expr_step
 
--- the most classes that there can be, since their number has 2 bytes
-abbrev pub most_classes : ℕ
-most_classes = 2 ^ 16 - 1
+-- the number of statements, and the statements
+abbrev pub block_step : WireBlock-F (List ℕ) (List ℕ) → List ℕ
+block_step b = counted w32 (λ s. s) b.statements
 
--- ---- types and signatures
+-- a statement, by how its blocks are spelled: a tag, and its fields
+abbrev pub stmt_step : WireStmt-F (List ℕ) (List ℕ) → List ℕ
+stmt_step (WireStmt-F.Var t e) = 0x01 ∷ kind t ++ expr e
+stmt_step (WireStmt-F.SetLocal n e) = 0x02 ∷ number w16 n ++ expr e
+stmt_step (WireStmt-F.SetVariable n e) = 0x03 ∷ number w8 n ++ expr e
+stmt_step (WireStmt-F.If e a b) = 0x04 ∷ expr e ++ a ++ b
+stmt_step (WireStmt-F.While e b) = 0x05 ∷ expr e ++ b
+stmt_step WireStmt-F.Return = 0x06 ∷ []
+stmt_step (WireStmt-F.ReturnValue e) = 0x07 ∷ expr e
+stmt_step (WireStmt-F.Print e) = 0x08 ∷ expr e
+stmt_step (WireStmt-F.Free e) = 0x09 ∷ expr e
+stmt_step (WireStmt-F.Call e) = 0x0a ∷ expr e
 
-abbrev pub kind : WireType → List ℕ
-kind types.Void = 0 ∷ []
-kind types.Long = 1 ∷ []
-kind types.Boolean = 2 ∷ []
-kind types.Str = 3 ∷ []
-kind (types.Class class) = 4 ∷ number w16 class
+abbrev pub stmt : WireStmt → List ℕ
+stmt = fold-WireStmt (List ℕ) (List ℕ) stmt_step block_step
 
--- void is a result alone, and a class is one of so many
-abbrev pub FitsKind : ℕ → Bool → WireType → Type 0
-FitsKind classes is_result types.Void = IsTrue is_result
-FitsKind classes is_result types.Long = Unit {0}
-FitsKind classes is_result types.Boolean = Unit {0}
-FitsKind classes is_result types.Str = Unit {0}
-FitsKind classes is_result (types.Class class) = class < classes
+abbrev pub block : WireBlock → List ℕ
+block = fold-WireBlock (List ℕ) (List ℕ) stmt_step block_step
 
--- the result, and the parameters after their number
-abbrev pub sig : WireSig → List ℕ
-sig s = kind s.result ++ counted w8 kind s.params
+-- ---- parts of classes
 
-pub record FitsSig (classes : ℕ) (s : WireSig) : Type 0 where
-  pub result : FitsKind classes true s.result
-  pub params : FitsCounted 0 MAX_PARAMETERS (FitsKind classes false) s.params
+abbrev pub variable : WireVariable → List ℕ
+variable v = text v.name ++ kind v.kind
 
--- ---- entries
+abbrev pub body : WireBody → List ℕ
+body (bodies.User b) = 0 ∷ block b
+body (bodies.Get n) = 1 ∷ number w8 n
+body (bodies.Set n) = 2 ∷ number w8 n
 
-abbrev pub way : Way → List ℕ
-way ways.Offset = 0 ∷ []
-way ways.Lookup = 1 ∷ []
+abbrev pub overridden : WireOverride → List ℕ
+overridden o = method o.method ++ block o.block
 
--- a name, and how and with which signature it is introduced, or to which class it was moved
-abbrev pub entry : WireEntry → List ℕ
-entry (entries.Introduced name s w) = text name ++ way w ++ sig s
-entry (entries.Moved name to) = text name ++ 2 ∷ number w16 to
-
-abbrev pub FitsEntry : ℕ → WireEntry → Type 0
-FitsEntry classes (entries.Introduced name s w) = FitsText name × FitsSig classes s
-FitsEntry classes (entries.Moved name to) = FitsText name × (to < classes)
-
--- ---- faces
-
-abbrev pub metaclass : Option ℕ → List ℕ
-metaclass None = 0 ∷ []
-metaclass (Some class) = 1 ∷ number w16 class
-
--- the fields of a face in their order
-abbrev pub face : WireFace → List ℕ
-face f =
-    text f.name ++ number w32 f.major ++ number w32 f.minor
-    ++ counted w8 (number w16) f.parents
-    ++ metaclass f.metaclass
-    ++ counted w16 entry f.entries
-
-pub record FitsFace (classes : ℕ) (f : WireFace) : Type 0 where
-  pub name : FitsText f.name
-  pub major : f.major ≤ MAX_VERSION
-  pub minor : f.minor ≤ MAX_VERSION
-  pub parents : FitsCounted 1 MAX_PARENTS (λ class. class < classes) f.parents
-  pub metaclass : IfSome f.metaclass (λ class. class < classes)
-  pub entries : FitsCounted 0 MAX_ENTRIES (FitsEntry classes) f.entries
-
--- ---- methods
-
--- a class, and the place in its entries
-abbrev pub method : WireMethod → List ℕ
-method m = number w16 m.class ++ number w16 m.slot
-
-pub record FitsMethod (ranges : Ranges) (m : WireMethod) : Type 0 where
-  pub class : m.class < ranges.classes
-  pub slot : m.slot < slice_index ranges.entries m.class
-
--- ranges are numbers of 2 bytes
-pub record AreShort (ranges : Ranges) : Type 0 where
-  pub classes : ranges.classes < 2 ^ 16
-  pub entries : (i : ℕ) → slice_index ranges.entries i < 2 ^ 16
-
--- a method that fits some ranges
-pub record FitsSomeRanges (m : WireMethod) : Type 0 where
-  pub class : m.class < most_classes
-  pub slot : m.slot < 2 ^ 16 - 1
+-- the bodies have no number before them: there is one for each introduced entry
+abbrev pub part : WirePart → List ℕ
+part p = counted w8 variable p.variables ++ flat_map body p.bodies ++ counted w16 overridden p.overrides

@@ -1,19 +1,44 @@
-ghost use Rattle.std.specs.Prelude.{ℕ, ◌<◌, ◌^◌, Bool};
-ghost use Rattle.std.specs.Int.{w8, w16, w32};
-ghost use Rattle.som_wire.specs.Fields.{NoneBeginsAnother};
-ghost use Rattle.som_wire.specs.Spelling as spelling;
-ghost use Rattle.som_wire.specs.Spelling.{FitsText, FitsKind, FitsSig, FitsEntry, FitsFace, FitsSomeRanges};
+ghost use Rattle.som_wire.specs.Fitting.{
+  FitsBlock,
+  FitsExpr,
+  FitsPart,
+  FitsSomeBlock,
+  FitsSomePart,
+  levels_left,
+};
+ghost use Rattle.som_wire.specs.Reading.{block_at, part_at};
+ghost use Rattle.som_wire.specs.Spelling.{block, expr, part};
+ghost use Rattle.som_wire.specs.declared.syntax.WireBlock.{WireBlock};
+ghost use Rattle.som_wire.specs.declared.syntax.WirePart.{WirePart};
+ghost use Rattle.som_fields.specs.Fields.{NoneBeginsAnother, done};
+ghost use Rattle.som_fields.specs.Spelling.{AreShort, FitsMethod};
+ghost use Rattle.som_fields.specs.declared.method.Ranges.{Ranges};
+ghost use Rattle.std.specs.Prelude.{◌≡◌, ◌<◌, ◌≤◌, ◌^◌, ◌++◌, ℕ, List, length};
 
-/// A field has at most one spelling, and none begins another: so what was written is read again, whatever follows it.
+/// An expression, a block or a part has at most one spelling, and none begins another.
 pub fn no_spelling_begins_another()
-    ensures byte { NoneBeginsAnother (spelling.number w8) (λ n. n < 2 ^ 8) }
-    ensures short { NoneBeginsAnother (spelling.number w16) (λ n. n < 2 ^ 16) }
-    ensures long { NoneBeginsAnother (spelling.number w32) (λ n. n < 2 ^ 32) }
-    ensures text { NoneBeginsAnother spelling.text FitsText }
-    ensures kind { (classes : ℕ) (is_result : Bool) → classes < 2 ^ 16 →
-        NoneBeginsAnother spelling.kind (FitsKind classes is_result) }
-    ensures sig { (classes : ℕ) → classes < 2 ^ 16 → NoneBeginsAnother spelling.sig (FitsSig classes) }
-    ensures entry { (classes : ℕ) → classes < 2 ^ 16 → NoneBeginsAnother spelling.entry (FitsEntry classes) }
-    ensures face { (classes : ℕ) → classes < 2 ^ 16 → NoneBeginsAnother spelling.face (FitsFace classes) }
-    ensures method { NoneBeginsAnother spelling.method FitsSomeRanges }
+    ensures expr { (ranges : Ranges) (left : ℕ) → AreShort ranges →
+        NoneBeginsAnother expr (FitsExpr left ranges.classes (FitsMethod ranges)) }
+    ensures block { (ranges : Ranges) (left : ℕ) → AreShort ranges →
+        NoneBeginsAnother block (FitsBlock left ranges.classes (FitsMethod ranges)) }
+    ensures part { (ranges : Ranges) (introduced : ℕ) → AreShort ranges →
+        NoneBeginsAnother part (FitsPart ranges introduced) }
+{}
+
+/// What can stand somewhere, among certain classes and entries, can be written.
+pub fn what_fits_can_be_written()
+    ensures block { (ranges : Ranges) (left : ℕ) → AreShort ranges → left ≤ levels_left 1 → (b : WireBlock) →
+        FitsBlock left ranges.classes (FitsMethod ranges) b → FitsSomeBlock b }
+    ensures part { (ranges : Ranges) (introduced : ℕ) → AreShort ranges → introduced < 2 ^ 16 → (p : WirePart) →
+        FitsPart ranges introduced p → FitsSomePart p }
+{}
+
+/// What was written is read again, whatever stands before it and after it.
+pub fn what_was_written_is_read()
+    ensures block { (ranges : Ranges) (left : ℕ) → AreShort ranges → (b : WireBlock) (before after : List ℕ) →
+        FitsBlock left ranges.classes (FitsMethod ranges) b →
+        block_at left ranges (before ++ block b ++ after) (length before) ≡ done b (length (before ++ block b)) }
+    ensures part { (ranges : Ranges) (introduced : ℕ) → AreShort ranges → (p : WirePart) (before after : List ℕ) →
+        FitsPart ranges introduced p →
+        part_at ranges introduced (before ++ part p ++ after) (length before) ≡ done p (length (before ++ part p)) }
 {}

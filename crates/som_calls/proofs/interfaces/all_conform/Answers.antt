@@ -1,7 +1,7 @@
 use Rattle.std.proofs.Common.{◌≡◌, [], ◌∷◌, List, inl, inr, take, sym, subst}
 use Rattle.som_model.specs.declared.program.Interface.{Interface}
 use Rattle.som_model.specs.Lists.{Mem}
-use Rattle.som_plain.proofs.Members.{mem_split}
+use Rattle.som_laws.proofs.Members.{mem_split}
 use Rattle.som_compat.specs.Conditions.{Conforms}
 use Rattle.som_compat.proofs.Filled.{next_take}
 use Rattle.som_calls.proofs.interfaces.all_conform.Goals as goal

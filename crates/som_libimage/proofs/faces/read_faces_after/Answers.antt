@@ -1,6 +1,6 @@
 use Rattle.std.specs.Int.{w16}
-use Rattle.som_wire.specs.Spelling.{counted, face}
-use Rattle.som_wire.proofs.Parts.{found_of, only_of}
+use Rattle.som_fields.specs.Spelling.{counted, face}
+use Rattle.som_fields.proofs.Parts.{found_of, only_of}
 use Rattle.som_libimage.specs.Reading.{faces_after_at}
 use Rattle.som_libimage.specs.Spelling.{FitsFacesAfter}
 use Rattle.som_libimage.proofs.LibraryFields.{faces_after_field}

@@ -1,5 +1,5 @@
 use Rattle.std.proofs.Common.{◌≡◌, sym, ap, subst, ◌∙◌}
-use Rattle.som_wire.specs.declared.method.Ranges.{Ranges}
+use Rattle.som_fields.specs.declared.method.Ranges.{Ranges}
 use Rattle.som_naming.specs.declared.directory.Directory.{Directory}
 use Rattle.som_libimage.specs.Spelling.{FitsParts}
 use Rattle.som_libimage.specs.Reading.{ranges_of}

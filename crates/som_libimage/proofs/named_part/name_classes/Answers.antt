@@ -1,9 +1,9 @@
 use Rattle.std.proofs.Common.{◌≡◌, ℕ, ◌+◌, ◌<◌, suc, List, [], ◌∷◌, ◌++◌, length, take, get_or, sym, ap, subst, ◌∙◌, arith}
 use Rattle.std.proofs.lemmas.List.{take_all}
 use Rattle.som_model.specs.declared.class.ClassDecl.{ClassDecl}
-use Rattle.som_wire.specs.declared.face.WireFace.{WireFace}
-use Rattle.som_wire.specs.declared.method.Ranges.{Ranges}
-use Rattle.som_blocks.specs.declared.syntax.WirePart.{WirePart}
+use Rattle.som_fields.specs.declared.face.WireFace.{WireFace}
+use Rattle.som_fields.specs.declared.method.Ranges.{Ranges}
+use Rattle.som_wire.specs.declared.syntax.WirePart.{WirePart}
 use Rattle.som_naming.specs.declared.directory.Directory.{Directory}
 use Rattle.som_libimage.specs.Spelling.{FitEach, FitsClass}
 use Rattle.som_naming.specs.Naming.{ranges_in}

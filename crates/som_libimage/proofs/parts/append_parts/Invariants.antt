@@ -1,6 +1,6 @@
 use Rattle.std.proofs.Common.{◌≡◌, ◌++◌, take}
 use Rattle.std.specs.List.{flat_map}
-use Rattle.som_blocks.specs.Spelling.{part}
+use Rattle.som_wire.specs.Spelling.{part}
 use Rattle.som_libimage.proofs.parts.append_parts.Given as goal
 
 abbrev pub invariant-loop-part : goal.invariant-loop-part

@@ -1,5 +1,5 @@
 use Rattle.std.proofs.Common.{◌≤◌, length}
-use Rattle.som_blocks.specs.Reading.{part_at}
+use Rattle.som_wire.specs.Reading.{part_at}
 use Rattle.som_libimage.specs.Reading.{introduced_count}
 use Rattle.som_libimage.proofs.EachFields.{ReadsEach}
 use Rattle.som_libimage.proofs.parts.read_parts.Given as goal

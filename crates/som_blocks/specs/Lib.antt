@@ -1,5 +1,0 @@
-pub mod Making
-pub mod Spelling
-pub mod Fitting
-pub mod Reading
-pub mod Writing

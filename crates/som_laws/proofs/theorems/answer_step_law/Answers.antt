@@ -1,0 +1,5 @@
+use Rattle.som_laws.proofs.Laws.{answer_step}
+use Rattle.som_laws.proofs.theorems.answer_step_law.Goals as goal
+
+pub returns : goal.returns
+returns g c h falls tells has_body a x d = answer_step h has_body a tells falls x d

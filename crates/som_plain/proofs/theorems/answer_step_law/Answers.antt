@@ -1,5 +1,0 @@
-use Rattle.som_plain.proofs.Laws.{answer_step}
-use Rattle.som_plain.proofs.theorems.answer_step_law.Goals as goal
-
-pub returns : goal.returns
-returns g c h falls tells has_body a x d = answer_step h has_body a tells falls x d

@@ -1,5 +1,0 @@
-use Rattle.som_plain.proofs.Laws.{implementation_leftmost}
-use Rattle.som_plain.proofs.theorems.implementation_leftmost_law.Goals as goal
-
-pub returns : goal.returns
-returns g c h falls tells has_body a x own = implementation_leftmost h has_body a tells falls own x

@@ -1,0 +1,14 @@
+use Rattle.som_fields.specs.Spelling.{FitsMethod}
+use Rattle.som_wire.specs.Fitting.{FitsBlock, FitsPart}
+use Rattle.som_wire.specs.Reading.{block_at, part_at}
+use Rattle.som_wire.specs.Spelling as spelling
+use Rattle.som_wire.proofs.StmtFields.{block_field}
+use Rattle.som_wire.proofs.PartFields.{part_field}
+use Rattle.som_wire.proofs.ReadBack.{read_back}
+use Rattle.som_wire.proofs.laws.what_was_written_is_read.Goals as goal
+
+pub returns-clause-block : goal.returns-clause-block
+returns-clause-block c = λ ranges left known. read_back (block_at left ranges) spelling.block (FitsBlock left ranges.classes (FitsMethod ranges)) (block_field ranges known left)
+
+pub returns-clause-part : goal.returns-clause-part
+returns-clause-part c = λ ranges introduced known. read_back (part_at ranges introduced) spelling.part (FitsPart ranges introduced) (part_field ranges known introduced)

@@ -1,0 +1,44 @@
+ghost use Rattle.som_wire.specs.Reading.{call_at, is_call_tag, too_deep};
+ghost use Rattle.som_fields.specs.Fields.{Gives};
+ghost use Rattle.std.specs.Prelude.{◌≡◌, ◌≤◌, length, IfOk};
+
+use crate::pair::read_tagged_call;
+use crate::syntax::WireExpr;
+use som_fields::{ImageFault, Ranges, Read, read_u8};
+use som_model::List;
+use std::alloc::Global;
+
+// A call where no more level is left.
+fn read_deep_call(bytes: &List<u8>, place: usize) -> Result<Read<WireExpr>, ImageFault>
+    requires { place ≤ length bytes.now }
+    ensures exact { result ≡ too_deep is_call_tag bytes.now place }
+    ensures next { IfOk result (λ r. r.next ≤ length bytes.now) }
+{
+    let tag = read_u8(bytes, place)?;
+    if 0x2f <= tag.value && tag.value <= 0x33 {
+        Err(ImageFault::Nesting { offset: place })
+    } else {
+        Err(ImageFault::Tag { offset: place })
+    }
+}
+
+/// Reads a call at a place, where so many levels are left.
+#[tactic(auto, unfolding(crate::specs::Reading::call_at))]
+pub(crate) fn read_call(
+    alloc: Global,
+    bytes: &List<u8>,
+    place: usize,
+    ranges: &Ranges,
+    left: u8,
+) -> Result<Read<WireExpr>, ImageFault>
+    requires place { place ≤ length bytes.now }
+    requires entries { length ranges.now.entries ≡ ranges.now.classes }
+    ensures exact { Gives result (call_at left ranges.now bytes.now place) }
+    ensures next { IfOk result (λ r. r.next ≤ length bytes.now) }
+{
+    if left == 0 {
+        return read_deep_call(bytes, place);
+    }
+    let tag = read_u8(bytes, place)?;
+    read_tagged_call(alloc, bytes, ranges, left - 1, &tag, place)
+}

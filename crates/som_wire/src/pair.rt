@@ -1,0 +1,163 @@
+ghost use Rattle.som_wire.specs.Reading.{call_after, expr_at, pair_after, parent_call_after};
+ghost use Rattle.som_fields.specs.Fields.{Gives};
+ghost use Rattle.std.specs.Prelude.{◌≡◌, ◌≤◌, length, IfOk};
+
+use crate::expr::{read_args, read_operand};
+use crate::operand::{read_host, read_operator};
+use crate::syntax::WireExpr;
+use som_fields::{ImageFault, Ranges, Read, read_method, read_text, read_type, read_u8};
+use som_model::List;
+use std::alloc::Global;
+
+// What follows the tag of two operands at a place, or of a call.
+#[cycle(expressions)]
+pub(crate) fn read_pair(
+    alloc: Global,
+    bytes: &List<u8>,
+    ranges: &Ranges,
+    left: u8,
+    tag: &Read<u8>,
+    place: usize,
+) -> Result<Read<WireExpr>, ImageFault>
+    requires place { tag.now.next ≤ length bytes.now }
+    requires entries { length ranges.now.entries ≡ ranges.now.classes }
+    ensures exact { Gives result (pair_after ranges.now (expr_at left ranges.now) bytes.now place tag.now) }
+    ensures next { IfOk result (λ r. r.next ≤ length bytes.now) }
+{
+    match tag.value {
+        0x28 => {
+            let op = read_operator(bytes, tag.next, 14)?;
+            let first = read_operand(alloc, bytes, op.next, ranges, left)?;
+            let second = read_operand(alloc, bytes, first.next, ranges, left)?;
+            Ok(Read {
+                value: WireExpr::Binary {
+                    op: op.value,
+                    left: first.value,
+                    right: second.value,
+                },
+                next: second.next,
+            })
+        }
+        0x34 => {
+            let code = read_host(bytes, tag.next)?;
+            let a = read_operand(alloc, bytes, code.next, ranges, left)?;
+            let b = read_operand(alloc, bytes, a.next, ranges, left)?;
+            Ok(Read {
+                value: WireExpr::Host {
+                    code: code.value,
+                    a: a.value,
+                    b: b.value,
+                },
+                next: b.next,
+            })
+        }
+        _ => read_tagged_call(alloc, bytes, ranges, left, tag, place),
+    }
+}
+
+// What follows the tag of a call at a place.
+#[cycle(expressions)]
+pub(crate) fn read_tagged_call(
+    alloc: Global,
+    bytes: &List<u8>,
+    ranges: &Ranges,
+    left: u8,
+    tag: &Read<u8>,
+    place: usize,
+) -> Result<Read<WireExpr>, ImageFault>
+    requires place { tag.now.next ≤ length bytes.now }
+    requires entries { length ranges.now.entries ≡ ranges.now.classes }
+    ensures exact { Gives result (call_after ranges.now (expr_at left ranges.now) bytes.now place tag.now) }
+    ensures next { IfOk result (λ r. r.next ≤ length bytes.now) }
+{
+    match tag.value {
+        0x2f => {
+            let method = read_method(bytes, tag.next, ranges)?;
+            let receiver = read_operand(alloc, bytes, method.next, ranges, left)?;
+            let args = read_args(alloc, bytes, receiver.next, ranges, left)?;
+            Ok(Read {
+                value: WireExpr::OffsetCall {
+                    method: method.value,
+                    receiver: receiver.value,
+                    args: args.value,
+                },
+                next: args.next,
+            })
+        }
+        0x30 => {
+            let kind = read_type(bytes, tag.next, ranges.classes, true)?;
+            let name = read_text(alloc, bytes, kind.next)?;
+            let receiver = read_operand(alloc, bytes, name.next, ranges, left)?;
+            let args = read_args(alloc, bytes, receiver.next, ranges, left)?;
+            Ok(Read {
+                value: WireExpr::Lookup {
+                    result: kind.value,
+                    name: name.value,
+                    receiver: receiver.value,
+                    args: args.value,
+                },
+                next: args.next,
+            })
+        }
+        0x31 => {
+            let kind = read_type(bytes, tag.next, ranges.classes, true)?;
+            let name = read_text(alloc, bytes, kind.next)?;
+            let receiver = read_operand(alloc, bytes, name.next, ranges, left)?;
+            let args = read_args(alloc, bytes, receiver.next, ranges, left)?;
+            Ok(Read {
+                value: WireExpr::Dispatch {
+                    result: kind.value,
+                    name: name.value,
+                    receiver: receiver.value,
+                    args: args.value,
+                },
+                next: args.next,
+            })
+        }
+        _ => read_parent_call(alloc, bytes, ranges, left, tag, place),
+    }
+}
+
+// What follows the tag of a call of parents' methods at a place.
+#[cycle(expressions)]
+fn read_parent_call(
+    alloc: Global,
+    bytes: &List<u8>,
+    ranges: &Ranges,
+    left: u8,
+    tag: &Read<u8>,
+    place: usize,
+) -> Result<Read<WireExpr>, ImageFault>
+    requires place { tag.now.next ≤ length bytes.now }
+    requires entries { length ranges.now.entries ≡ ranges.now.classes }
+    ensures exact { Gives result (parent_call_after ranges.now (expr_at left ranges.now) bytes.now place tag.now) }
+    ensures next { IfOk result (λ r. r.next ≤ length bytes.now) }
+{
+    match tag.value {
+        0x32 => {
+            let parent = read_u8(bytes, tag.next)?;
+            let method = read_method(bytes, parent.next, ranges)?;
+            let args = read_args(alloc, bytes, method.next, ranges, left)?;
+            Ok(Read {
+                value: WireExpr::ParentCall {
+                    parent: parent.value,
+                    method: method.value,
+                    args: args.value,
+                },
+                next: args.next,
+            })
+        }
+        0x33 => {
+            let method = read_method(bytes, tag.next, ranges)?;
+            let args = read_args(alloc, bytes, method.next, ranges, left)?;
+            Ok(Read {
+                value: WireExpr::ParentsCall {
+                    method: method.value,
+                    args: args.value,
+                },
+                next: args.next,
+            })
+        }
+        _ => Err(ImageFault::Tag { offset: place }),
+    }
+}

@@ -1,0 +1,213 @@
+ghost use Rattle.som_wire.specs.Reading.{
+  call_at,
+  expr_at,
+  flow_after,
+  is_stmt_tag,
+  statements_at,
+  stmt_after,
+  stmt_at,
+  too_deep,
+};
+ghost use Rattle.som_fields.specs.Fields.{Gives};
+ghost use Rattle.std.specs.Prelude.{◌≡◌, ◌≤◌, length, IfOk};
+
+use crate::call::read_call;
+use crate::expr::{read_expr, read_operand};
+use crate::syntax::{WireBlock, WireStmt};
+use som_fields::{ImageFault, Ranges, Read, read_many, read_type, read_u8, read_u16, read_u32};
+use som_model::List;
+use std::alloc::Global;
+
+// A statement where no more level is left.
+fn read_deep_stmt(bytes: &List<u8>, place: usize) -> Result<Read<WireStmt>, ImageFault>
+    requires { place ≤ length bytes.now }
+    ensures exact { result ≡ too_deep is_stmt_tag bytes.now place }
+    ensures next { IfOk result (λ r. r.next ≤ length bytes.now) }
+{
+    let tag = read_u8(bytes, place)?;
+    if 0x01 <= tag.value && tag.value <= 0x0a {
+        Err(ImageFault::Nesting { offset: place })
+    } else {
+        Err(ImageFault::Tag { offset: place })
+    }
+}
+
+/// Reads a statement at a place, where so many levels are left.
+#[cycle(statements)]
+#[tactic(auto, unfolding(crate::specs::Reading::stmt_at))]
+pub(crate) fn read_stmt(
+    alloc: Global,
+    bytes: &List<u8>,
+    place: usize,
+    ranges: &Ranges,
+    left: u8,
+) -> Result<Read<WireStmt>, ImageFault>
+    requires place { place ≤ length bytes.now }
+    requires entries { length ranges.now.entries ≡ ranges.now.classes }
+    ensures exact { Gives result (stmt_at left ranges.now bytes.now place) }
+    ensures next { IfOk result (λ r. r.next ≤ length bytes.now) }
+{
+    if left == 0 {
+        return read_deep_stmt(bytes, place);
+    }
+    let tag = read_u8(bytes, place)?;
+    read_tagged_stmt(alloc, bytes, ranges, left - 1, &tag, place)
+}
+
+// What follows the tag at a place.
+#[cycle(statements)]
+fn read_tagged_stmt(
+    alloc: Global,
+    bytes: &List<u8>,
+    ranges: &Ranges,
+    left: u8,
+    tag: &Read<u8>,
+    place: usize,
+) -> Result<Read<WireStmt>, ImageFault>
+    requires place { tag.now.next ≤ length bytes.now }
+    requires entries { length ranges.now.entries ≡ ranges.now.classes }
+    ensures exact { Gives result (stmt_after ranges.now (expr_at left ranges.now) (call_at left ranges.now)
+        (statements_at (stmt_at left ranges.now)) bytes.now place tag.now) }
+    ensures next { IfOk result (λ r. r.next ≤ length bytes.now) }
+{
+    let next = tag.next;
+    let (statement, next) = match tag.value {
+        0x01 => {
+            let kind = read_type(bytes, next, ranges.classes, false)?;
+            let value = read_expr(alloc, bytes, kind.next, ranges, left)?;
+            let (kind, next) = (kind.value, value.next);
+            (
+                WireStmt::Var {
+                    kind,
+                    value: value.value,
+                },
+                next,
+            )
+        }
+        0x02 => {
+            let local = read_u16(bytes, next)?;
+            let value = read_expr(alloc, bytes, local.next, ranges, left)?;
+            let (local, next) = (local.value, value.next);
+            (
+                WireStmt::SetLocal {
+                    local,
+                    value: value.value,
+                },
+                next,
+            )
+        }
+        0x03 => {
+            let variable = read_u8(bytes, next)?;
+            let value = read_expr(alloc, bytes, variable.next, ranges, left)?;
+            let (variable, next) = (variable.value, value.next);
+            (
+                WireStmt::SetVariable {
+                    variable,
+                    value: value.value,
+                },
+                next,
+            )
+        }
+        0x06 => (WireStmt::Return, next),
+        0x07 => {
+            let value = read_expr(alloc, bytes, next, ranges, left)?;
+            (WireStmt::ReturnValue { value: value.value }, value.next)
+        }
+        0x08 => {
+            let value = read_expr(alloc, bytes, next, ranges, left)?;
+            (WireStmt::Print { value: value.value }, value.next)
+        }
+        0x09 => {
+            let value = read_expr(alloc, bytes, next, ranges, left)?;
+            (WireStmt::Free { value: value.value }, value.next)
+        }
+        0x0a => {
+            let call = read_call(alloc, bytes, next, ranges, left)?;
+            (WireStmt::Call { call: call.value }, call.next)
+        }
+        _ => return read_flow(alloc, bytes, ranges, left, tag, place),
+    };
+    Ok(Read {
+        value: statement,
+        next,
+    })
+}
+
+// What follows the tag of a statement with blocks at a place.
+#[cycle(statements)]
+fn read_flow(
+    alloc: Global,
+    bytes: &List<u8>,
+    ranges: &Ranges,
+    left: u8,
+    tag: &Read<u8>,
+    place: usize,
+) -> Result<Read<WireStmt>, ImageFault>
+    requires place { tag.now.next ≤ length bytes.now }
+    requires entries { length ranges.now.entries ≡ ranges.now.classes }
+    ensures exact { Gives result (flow_after (expr_at left ranges.now) (statements_at (stmt_at left ranges.now)) bytes.now place tag.now) }
+    ensures next { IfOk result (λ r. r.next ≤ length bytes.now) }
+{
+    match tag.value {
+        0x04 => {
+            let condition = read_operand(alloc, bytes, tag.next, ranges, left)?;
+            let then = read_statements(alloc, bytes, condition.next, ranges, left)?;
+            let other = read_statements(alloc, bytes, then.next, ranges, left)?;
+            Ok(Read {
+                value: WireStmt::If {
+                    condition: condition.value.into_inner(),
+                    then: then.value,
+                    other: other.value,
+                },
+                next: other.next,
+            })
+        }
+        0x05 => {
+            let condition = read_operand(alloc, bytes, tag.next, ranges, left)?;
+            let block = read_statements(alloc, bytes, condition.next, ranges, left)?;
+            Ok(Read {
+                value: WireStmt::While {
+                    condition: condition.value.into_inner(),
+                    block: block.value,
+                },
+                next: block.next,
+            })
+        }
+        _ => Err(ImageFault::Tag { offset: place }),
+    }
+}
+
+/// Reads a block at a place, whose statements stand where so many levels are left.
+#[cycle(statements)]
+pub(crate) fn read_statements(
+    alloc: Global,
+    bytes: &List<u8>,
+    place: usize,
+    ranges: &Ranges,
+    left: u8,
+) -> Result<Read<WireBlock>, ImageFault>
+    requires place { place ≤ length bytes.now }
+    requires entries { length ranges.now.entries ≡ ranges.now.classes }
+    ensures exact { Gives result (statements_at (stmt_at left ranges.now) bytes.now place) }
+    ensures next { IfOk result (λ r. r.next ≤ length bytes.now) }
+{
+    let count = read_u32(bytes, place)?;
+    let statements = read_many(
+        alloc,
+        bytes,
+        count.value,
+        count.next,
+        |p: usize| -> Result<Read<WireStmt>, ImageFault>
+            requires place { p ≤ length bytes.now }
+            requires entries { length ranges.now.entries ≡ ranges.now.classes }
+            ensures exact { Gives result (stmt_at left ranges.entry.now bytes.entry.now p) }
+            ensures next { IfOk result (λ r. r.next ≤ length bytes.entry.now) }
+        { read_stmt(alloc, bytes, p, ranges, left) },
+    )?;
+    Ok(Read {
+        value: WireBlock {
+            statements: statements.value,
+        },
+        next: statements.next,
+    })
+}
