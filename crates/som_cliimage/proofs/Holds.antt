@@ -8,24 +8,24 @@ use Rattle.som_model.specs.Lists.{first}
 use Rattle.som_model.specs.Class.{Class}
 use Rattle.som_model.specs.Kernel.{kernel}
 use Rattle.som_model.specs.Classes.{interface_classes, client_classes}
-use Rattle.som_model.specs.Rules.{Breach, s1, s2, s3, s4, s5, s6, s7, s8, s9, s10, s14}
+use Rattle.som_model.specs.Rules.{RuleBreach, s1, s2, s3, s4, s5, s6, s7, s8, s9, s10, s14}
 use Rattle.som_model.specs.Conforming.{each_after, class_typed, main_typed, ProgramOk}
 use Rattle.som_libimage.proofs.Conforming.{neither_is, none_first, both_empty}
 
 -- a rule on the classes before each, of two lists one after the other
-after_both : (rule : List Class → Class → List Breach) (before xs ys : List Class) → each_after rule before (xs ++ ys) ≡ each_after rule before xs ++ each_after rule (before ++ xs) ys
+after_both : (rule : List Class → Class → List RuleBreach) (before xs ys : List Class) → each_after rule before (xs ++ ys) ≡ each_after rule before xs ++ each_after rule (before ++ xs) ys
 after_both rule before [] ys = ap (λ (l : List Class). each_after rule l ys) (sym (append-nil before))
 after_both rule before (x ∷ xs) ys =
-    let told : List Breach = rule before x in
+    let told : List RuleBreach = rule before x in
     let next : List Class = before ++ x ∷ [] in
-    ap (λ (l : List Breach). told ++ l) (after_both rule next xs ys)
+    ap (λ (l : List RuleBreach). told ++ l) (after_both rule next xs ys)
     ∙ sym (append_assoc told (each_after rule next xs) (each_after rule (next ++ xs) ys))
     ∙ ap (λ (l : List Class). (told ++ each_after rule next xs) ++ each_after rule l ys) (append_assoc before (x ∷ []) xs)
 
-two_after : (rule : List Class → Class → List Breach) (before xs ys : List Class) → each_after rule before (xs ++ ys) ≡ [] → (each_after rule before xs ≡ []) × (each_after rule (before ++ xs) ys ≡ [])
+two_after : (rule : List Class → Class → List RuleBreach) (before xs ys : List Class) → each_after rule before (xs ++ ys) ≡ [] → (each_after rule before xs ≡ []) × (each_after rule (before ++ xs) ys ≡ [])
 two_after rule before xs ys h = both_empty (each_after rule before xs) (each_after rule (before ++ xs) ys) (sym (after_both rule before xs ys) ∙ h)
 
-two_of : (rule : Class → List Breach) (xs ys : List Class) → flat_map rule (xs ++ ys) ≡ [] → (flat_map rule xs ≡ []) × (flat_map rule ys ≡ [])
+two_of : (rule : Class → List RuleBreach) (xs ys : List Class) → flat_map rule (xs ++ ys) ≡ [] → (flat_map rule xs ≡ []) × (flat_map rule ys ≡ [])
 two_of rule xs ys h = both_empty (flat_map rule xs) (flat_map rule ys) (sym (flat_map-append rule xs ys) ∙ h)
 
 module _ (p : ClientProgram) where

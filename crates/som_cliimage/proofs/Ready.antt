@@ -17,7 +17,7 @@ use Rattle.som_model.specs.declared.program.ClientProgram.{ClientProgram}
 use Rattle.som_model.specs.Lists.{Mem, option_list}
 use Rattle.som_model.specs.Class.{Class, class_in}
 use Rattle.som_model.specs.Kernel.{kernel}
-use Rattle.som_model.specs.Rules.{Breach, name_of, demand_of, is_value_type, is_proper, s5, s9}
+use Rattle.som_model.specs.Rules.{RuleBreach, name_of, demand_of, is_value_type, is_proper, s5, s9}
 use Rattle.som_model.specs.Owner.{introduces}
 use Rattle.som_model.specs.Typing.{Ruled, class_facts, in_main}
 use Rattle.som_model.specs.TypedBlocks.{Scope, block_scope}
@@ -146,7 +146,7 @@ module _ (p : ClientProgram) (ok : ProgramOk p) (within : IsWithinLimits p) wher
 
   -- ---- main
 
-  abbrev main_told : Ruled Scope → List Breach
+  abbrev main_told : Ruled Scope → List RuleBreach
   main_told (Ok scope) = []
   main_told (Err rule) = record { rule = rule; class = codes "main"; member = codes "-" } ∷ []
 

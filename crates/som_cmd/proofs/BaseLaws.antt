@@ -12,7 +12,7 @@ use Rattle.som_model.specs.declared.program.Release.{Release}
 use Rattle.som_model.specs.Bytes.{AreBytes}
 use Rattle.som_model.specs.Class.{interface_of}
 use Rattle.som_model.specs.Conforming.{ReleaseOk, release_breach}
-use Rattle.som_model.specs.Rules.{Breach}
+use Rattle.som_model.specs.Rules.{RuleBreach}
 use Rattle.som_model.specs.Steps.{◌>>=◌}
 use Rattle.som_fields.specs.declared.fault.ImageFault.{ImageFault}
 use Rattle.som_fields.specs.declared.fault.ImageFault.TheVariants as faults
@@ -80,13 +80,13 @@ record Sound (bytes : List ℕ) (r : Release) : Type 0 where
 abbrev based : Release → Based
 based r = Ok r
 
-abbrev kept_so : List ℕ → Release → Option Breach → Based
+abbrev kept_so : List ℕ → Release → Option RuleBreach → Based
 kept_so name r o = kept_or name o >>= λ kept. Ok r
 
 same_base : (r s : Release) → based r ≡ based s → r ≡ s
 same_base r s e = cc
 
-sound_kept : (name bytes : List ℕ) (r s : Release) → library_at bytes ≡ Ok s → (o : Option Breach) → release_breach s ≡ o → kept_so name s o ≡ Ok r → Sound bytes r
+sound_kept : (name bytes : List ℕ) (r s : Release) → library_at bytes ≡ Ok s → (o : Option RuleBreach) → release_breach s ≡ o → kept_so name s o ≡ Ok r → Sound bytes r
 sound_kept name bytes r s e None none is = let same = same_base s r is in subst (Sound bytes) same (record { read = e; kept = none })
 sound_kept name bytes r s e (Some b) none is = absurd cc
 

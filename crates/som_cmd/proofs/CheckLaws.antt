@@ -3,8 +3,8 @@ use Rattle.std.proofs.Common.{◌≡◌, ℕ, inl, inr, List, [], ◌∷◌, ◌
 use Rattle.std.proofs.lemmas.List.{append-nil}
 use Rattle.som_model.specs.declared.program.Release.{Release}
 use Rattle.som_model.specs.Bytes.{Files}
-use Rattle.som_model.specs.Rules.{Breach}
-use Rattle.som_model.specs.Compatible.{Incompatible}
+use Rattle.som_model.specs.Rules.{RuleBreach}
+use Rattle.som_model.specs.Compatible.{CompatBreach}
 use Rattle.som_model.specs.Conforming.{ReleaseOk, release_breach}
 use Rattle.som_model.specs.Steps.{◌>>=◌}
 use Rattle.som_fields.specs.declared.fault.ImageFault.{ImageFault}
@@ -29,7 +29,7 @@ read_by : (name : List ℕ) (x : Result Release ImageFault) (r : Release) → re
 read_by name (Ok s) r e = let same : s ≡ r = cc in ap (λ (y : Release). Ok y) same
 read_by name (Err fault) r e = absurd cc
 
-kept_by : (name : List ℕ) (o : Option Breach) (x : Unit {0}) → kept_or name o ≡ Ok x → o ≡ None
+kept_by : (name : List ℕ) (o : Option RuleBreach) (x : Unit {0}) → kept_or name o ≡ Ok x → o ≡ None
 kept_by name None x e = refl
 kept_by name (Some b) x e = absurd cc
 
@@ -70,7 +70,7 @@ all_conform (n ∷ ns) (b ∷ bs) (s ∷ rs) e x kept r m =
 pub all_kept : (names : List (List ℕ)) (rs : List Release) → AllConform rs → all_rules_kept names rs ≡ Ok tt
 all_kept [] rs ok = refl
 all_kept (n ∷ ns) [] ok = refl
-all_kept (n ∷ ns) (r ∷ rs) ok = ap (λ (o : Option Breach). kept_or n o >>= λ kept. all_rules_kept ns rs) (conforms_release r (ok r (inl refl))) ∙ all_kept ns rs (λ s m. ok s (inr m))
+all_kept (n ∷ ns) (r ∷ rs) ok = ap (λ (o : Option RuleBreach). kept_or n o >>= λ kept. all_rules_kept ns rs) (conforms_release r (ok r (inl refl))) ∙ all_kept ns rs (λ s m. ok s (inr m))
 
 -- ---- the ending that checking images comes to
 
@@ -94,7 +94,7 @@ module _ (files : Files) (names : List (List ℕ)) where
   abbrev Is : Result (List ℕ) Refusal → Type 0
   Is steps = IsCheckAnswer files names (line_ending files steps)
 
-  compared_answer : (images : List (List ℕ)) (rs : List Release) → images_in names files ≡ Ok images → releases_in names images ≡ Ok rs → AllConform rs → (o : Option (ℕ × Incompatible)) → first_not_kept rs ≡ o → Is (accepted_or names o)
+  compared_answer : (images : List (List ℕ)) (rs : List Release) → images_in names files ≡ Ok images → releases_in names images ≡ Ok rs → AllConform rs → (o : Option (ℕ × CompatBreach)) → first_not_kept rs ≡ o → Is (accepted_or names o)
   compared_answer images rs got read ok None e = accepts images rs got read ok e
   compared_answer images rs got read ok (Some told) e = refuses images rs told.0 told.1 got read ok e
 
@@ -128,9 +128,9 @@ module _ (files : Files) (names : List (List ℕ)) where
       → line_ending files (after_rules names rs x) ≡ check_ending files names
   ruled_so images rs got read x e = ap (λ (y : Result (Unit {0}) Refusal). line_ending files (after_rules names rs y)) (sym e) ∙ read_so images got (Ok rs) read
 
-  compared_so : (images : List (List ℕ)) (rs : List Release) → images_in names files ≡ Ok images → releases_in names images ≡ Ok rs → AllConform rs → (o : Option (ℕ × Incompatible)) → first_not_kept rs ≡ o
+  compared_so : (images : List (List ℕ)) (rs : List Release) → images_in names files ≡ Ok images → releases_in names images ≡ Ok rs → AllConform rs → (o : Option (ℕ × CompatBreach)) → first_not_kept rs ≡ o
       → line_ending files (accepted_or names o) ≡ check_ending files names
-  compared_so images rs got read ok o e = ap (λ (y : Option (ℕ × Incompatible)). line_ending files (accepted_or names y)) (sym e) ∙ ruled_so images rs got read (Ok tt) (all_kept names rs ok)
+  compared_so images rs got read ok o e = ap (λ (y : Option (ℕ × CompatBreach)). line_ending files (accepted_or names y)) (sym e) ∙ ruled_so images rs got read (Ok tt) (all_kept names rs ok)
 
   pub one_check : (e : Ending) → IsCheckAnswer files names e → e ≡ check_ending files names
   one_check e (image_absent r got) = got_so (Err r) got

@@ -5,7 +5,7 @@ use Rattle.som_model.specs.declared.program.Release.{Release}
 use Rattle.som_model.specs.Bytes.{Files}
 use Rattle.som_model.specs.Lists.{first}
 use Rattle.som_model.specs.Class.{interface_of}
-use Rattle.som_model.specs.Compatible.{Incompatible, Compatible, breaks, list_breaks, EachNext, Accepted}
+use Rattle.som_model.specs.Compatible.{CompatBreach, Compatible, breaks, list_breaks, EachNext, Accepted}
 use Rattle.som_model.specs.Conforming.{ReleaseOk}
 use Rattle.som_model.specs.Steps.{◌>>=◌}
 use Rattle.som_order.specs.Names.{name_at}
@@ -30,7 +30,7 @@ kept : (n : ℕ) (rs : List Release) → EachNext Next rs → first (list_breaks
 kept n [] next = refl
 kept n (r ∷ []) next = refl
 kept n (r ∷ s ∷ rs) next =
-    ap (λ (l : List Incompatible). first (map (λ b. (n, b)) l ++ list_breaks (n + 1) (map interface_of (s ∷ rs)))) (none_first (breaks (interface_of r) (interface_of s)) next.0)
+    ap (λ (l : List CompatBreach). first (map (λ b. (n, b)) l ++ list_breaks (n + 1) (map interface_of (s ∷ rs)))) (none_first (breaks (interface_of r) (interface_of s)) next.0)
     ∙ kept (n + 1) (s ∷ rs) next.1
 
 neighbours : (n : ℕ) (rs : List Release) → first (list_breaks n (map interface_of rs)) ≡ None → EachNext Next rs
@@ -86,7 +86,7 @@ pub accepts_under : (files : Files) (names : List (List ℕ)) (rs : List Release
 accepts_under files names rs under none =
     let a = all_got files names rs under in accepts a.images rs a.got a.read (under_conform files names rs under) none
 
-pub refuses_under : (files : Files) (names : List (List ℕ)) (rs : List Release) (number : ℕ) (b : Incompatible) → AreUnder files names rs → first_not_kept rs ≡ Some (number, b)
+pub refuses_under : (files : Files) (names : List (List ℕ)) (rs : List Release) (number : ℕ) (b : CompatBreach) → AreUnder files names rs → first_not_kept rs ≡ Some (number, b)
     → IsCheckAnswer files names (refusing files (not_kept (name_at names number) b))
 refuses_under files names rs number b under told =
     let a = all_got files names rs under in refuses a.images rs number b a.got a.read (under_conform files names rs under) told

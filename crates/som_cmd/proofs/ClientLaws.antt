@@ -17,7 +17,7 @@ use Rattle.som_model.specs.Lists.{or_else, first, every}
 use Rattle.som_model.specs.Class.{Class, class_in, bare, entry_name}
 use Rattle.som_model.specs.Kernel.{kernel}
 use Rattle.som_model.specs.Classes.{interface_classes, is_a}
-use Rattle.som_model.specs.Rules.{Breach, s1, s5, s6}
+use Rattle.som_model.specs.Rules.{RuleBreach, s1, s5, s6}
 use Rattle.som_model.specs.Conforming.{ProgramOk, all_of_program, declared_program_breach, first_of_names, first_of_members, each_after}
 use Rattle.som_model.specs.Images.{client_image}
 use Rattle.som_libimage.specs.Libraries.{NamesDiffer}
@@ -40,7 +40,7 @@ use Rattle.som_cmd.specs.Taking.{IsNone, descends_in, ConformsAsFirst, ClientTel
 
 -- ---- the rules of a client without classes of its own are those of its faces
 
-lone : (o : Option Breach) → or_else o None ≡ o
+lone : (o : Option RuleBreach) → or_else o None ≡ o
 lone None = refl
 lone (Some b) = refl
 
@@ -49,7 +49,7 @@ bare_are [] = refl
 bare_are (f ∷ faces) = ap (λ (l : List Class). class_in modules.Library (bare f) ∷ l) (bare_are faces)
 
 -- the first breach, by its parts
-abbrev breach_by : List Class → List Breach → List Class → Option Breach → Option Breach
+abbrev breach_by : List Class → List RuleBreach → List Class → Option RuleBreach → Option RuleBreach
 breach_by names types members bodies = or_else (first_of_names kernel names) (or_else (first types) (or_else (first_of_members kernel members) bodies))
 
 pub program_faces : (i : ClientImage) → declared_program_breach (program_named i) ≡ faces_breach (of_release (map bare i.base.classes))
@@ -57,9 +57,9 @@ program_faces i =
     let base = interface_classes i.base in
     let types = flat_map (s5 (kernel ++ base)) base in
     ap (λ (l : List Class). breach_by l (types ++ []) (base ++ []) None) (append-nil base)
-    ∙ ap (λ (l : List Breach). breach_by base l (base ++ []) None) (append-nil types)
+    ∙ ap (λ (l : List RuleBreach). breach_by base l (base ++ []) None) (append-nil types)
     ∙ ap (λ (l : List Class). breach_by base types l None) (append-nil base)
-    ∙ ap (λ (o : Option Breach). or_else (first_of_names kernel base) (or_else (first types) o)) (lone (first_of_members kernel base))
+    ∙ ap (λ (o : Option RuleBreach). or_else (first_of_names kernel base) (or_else (first types) o)) (lone (first_of_members kernel base))
     ∙ ap faces_breach (sym (bare_are i.base.classes))
 
 -- ---- what holds where there is no breach
@@ -272,11 +272,11 @@ client_tells i fs faces ds is_fs is_faces is_ds fits none told e =
     (first_tells fs i.calls (subst (λ (x : ClientImage). FitsClient x) (sym is) fits) (ap (λ (l : List ClassDecl). faces_breach (of_release l)) (sym there) ∙ none) told
     (e ∙ ap (λ (l : List ClassDecl). every (descends_in l) i.calls) there))
 
-some_none : (b : Breach) → Some b ≡ None → ⊥
+some_none : (b : RuleBreach) → Some b ≡ None → ⊥
 some_none b e = cc
 
 -- a client that breaks a rule of faces doesn't conform
-pub breaks : (i : ClientImage) (faces : List ClassFace) (ds : List ClassDecl) (b : Breach) → faces ≡ i.base.classes → ds ≡ map bare faces → faces_breach (of_release ds) ≡ Some b → ConformsAsFirst i → ⊥
+pub breaks : (i : ClientImage) (faces : List ClassFace) (ds : List ClassDecl) (b : RuleBreach) → faces ≡ i.base.classes → ds ≡ map bare faces → faces_breach (of_release ds) ≡ Some b → ConformsAsFirst i → ⊥
 breaks i faces ds b is_faces is_ds e ok =
     some_none b (sym e ∙ ap (λ (l : List ClassDecl). faces_breach (of_release l)) (is_ds ∙ ap (map bare) is_faces) ∙ sym (program_faces i) ∙ ok.conforms.rules)
 

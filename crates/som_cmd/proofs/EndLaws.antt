@@ -5,7 +5,7 @@ use Rattle.som_model.specs.declared.program.Release.{Release}
 use Rattle.som_model.specs.declared.program.ClientProgram.{ClientProgram}
 use Rattle.som_model.specs.Bytes.{Files}
 use Rattle.som_model.specs.Means.{means}
-use Rattle.som_model.specs.Compatible.{Accepted, Incompatible}
+use Rattle.som_model.specs.Compatible.{Accepted, CompatBreach}
 use Rattle.som_order.specs.Names.{name_at}
 use Rattle.som_io.specs.Outside.{ShowsAll, ShowsFront}
 use Rattle.som_libimage.proofs.Decoded.{library_again}
@@ -92,7 +92,7 @@ none_told told e = cc
 pub some_told : (a b : Files) → Some a ≡ Some b → a ≡ b
 some_told a b e = cc
 
-never_both : (rs : List Release) (number : ℕ) (b : Incompatible) → first_not_kept rs ≡ None → first_not_kept rs ≡ Some (number, b) → ⊥
+never_both : (rs : List Release) (number : ℕ) (b : CompatBreach) → first_not_kept rs ≡ None → first_not_kept rs ≡ Some (number, b) → ⊥
 never_both rs number b e f = cc
 
 not_zero : (status : ℕ) → status ≡ 0 → status ≡ 4 → ⊥
@@ -153,13 +153,13 @@ module _ (asked : Asked) (before : Files) (status : ℕ) (new_files : Option Fil
       subst (λ (x : Files). IsAnswer x asked (ending x)) (sym (some_told before m.told m.files_are))
       (subst (λ (a : Asked). IsAnswer m.told a (ending m.told)) (sym m.asked_is) (checks names (ending m.told) is))
 
-  refuses_so : (number : ℕ) (b : Incompatible) → first_not_kept rs ≡ Some (number, b) → TellsBreach names number b status old new
+  refuses_so : (number : ℕ) (b : CompatBreach) → first_not_kept rs ≡ Some (number, b) → TellsBreach names number b status old new
   refuses_so number b told =
       let ending : Files → Ending = λ files. refusing files (not_kept (name_at names number) b) in
       let is = is_answer ending (refuses_under m.told names rs number b m.under told) in
       record { text = text_of asked before status new_files old new e (ending before) is; status_is = status_is asked before status new_files old new e (ending before) is }
 
-  accepts_so : (o : Option (ℕ × Incompatible)) → first_not_kept rs ≡ o → TellsAccepted rs status old new
+  accepts_so : (o : Option (ℕ × CompatBreach)) → first_not_kept rs ≡ o → TellsAccepted rs status old new
   accepts_so None none =
       let is = is_answer accepting (accepts_under m.told names rs m.under none) in
       record {
@@ -182,7 +182,7 @@ accepted_by asked None status new_files old new names rs e m = absurd (none_told
 accepted_by asked (Some before) status new_files old new names rs e m = accepts_so asked before status new_files old new e names rs m (first_not_kept rs) refl
 
 -- and that tells what isn't kept in the others
-pub breach_by : (asked : Asked) (files : Option Files) (status : ℕ) (new_files : Option Files) (old new : Option (List ℕ)) (names : List (List ℕ)) (rs : List Release) (number : ℕ) (b : Incompatible)
+pub breach_by : (asked : Asked) (files : Option Files) (status : ℕ) (new_files : Option Files) (old new : Option (List ℕ)) (names : List (List ℕ)) (rs : List Release) (number : ℕ) (b : CompatBreach)
     → EndsAsTold asked files status new_files old new → AreChecked asked files names rs → first_not_kept rs ≡ Some (number, b) → TellsBreach names number b status old new
 breach_by asked None status new_files old new names rs number b e m told = absurd (none_told m.told m.files_are)
 breach_by asked (Some before) status new_files old new names rs number b e m told = refuses_so asked before status new_files old new e names rs m number b told

@@ -2,7 +2,7 @@
 use Rattle.std.proofs.Common.{◌≡◌, ℕ, true, false, List, [], ◌∷◌, ◌++◌, codes, Option, Some, None, Result, Ok, Err, sym, ap, subst, ◌∙◌}
 use Rattle.som_model.specs.declared.program.Release.{Release}
 use Rattle.som_model.specs.declared.program.ClientProgram.{ClientProgram}
-use Rattle.som_model.specs.Rules.{Breach}
+use Rattle.som_model.specs.Rules.{RuleBreach}
 use Rattle.som_model.specs.Conforming.{program_breach, release_breach}
 use Rattle.som_model.specs.Images.{Spelled, ◌then◌, tag, client_image, library_image}
 use Rattle.som_model.specs.Steps.{◌>>=◌}
@@ -23,7 +23,7 @@ stops_first (stops.Refused r) s f e = ap (λ x. x >>= f) e
 stops_first (stops.StoreFailed line) s f e = tt
 stops_first stops.NoMemory s f e = tt
 
-module _ {A : Type 0} (breach : A → Option Breach) (name : List ℕ) (read : Result A ImageFault) where
+module _ {A : Type 0} (breach : A → Option RuleBreach) (name : List ℕ) (read : Result A ImageFault) where
   abbrev ruled : A → Result A Refusal
   ruled x = kept_or name (breach x) >>= λ kept. Ok x
 

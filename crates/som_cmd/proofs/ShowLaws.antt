@@ -5,7 +5,7 @@ use Rattle.std.specs.FinMap.{get}
 use Rattle.som_model.specs.declared.program.Release.{Release}
 use Rattle.som_model.specs.declared.program.ClientProgram.{ClientProgram}
 use Rattle.som_model.specs.Bytes.{Files}
-use Rattle.som_model.specs.Rules.{Breach}
+use Rattle.som_model.specs.Rules.{RuleBreach}
 use Rattle.som_model.specs.Conforming.{program_breach, release_breach}
 use Rattle.som_model.specs.Steps.{◌>>=◌}
 use Rattle.som_fields.specs.declared.fault.ImageFault.{ImageFault}
@@ -35,19 +35,19 @@ shown_ending files (Ok lines) = record { text = concat lines; status = 0; files 
 shown_ending files (Err r) = refusing files r
 
 -- what is read of one kind of image, looked at and shown
-module _ (files : Files) (n : List ℕ) {A : Type 0} (breach : A → Option Breach) (show : A → List (List ℕ)) where
+module _ (files : Files) (n : List ℕ) {A : Type 0} (breach : A → Option RuleBreach) (show : A → List (List ℕ)) where
   abbrev lines_of : Result A ImageFault → Lines
   lines_of read = sound breach n read >>= λ x. Ok (show x)
 
-  abbrev ruled_lines : A → Option Breach → Lines
+  abbrev ruled_lines : A → Option RuleBreach → Lines
   ruled_lines x o = (kept_or n o >>= λ kept. Ok x) >>= λ y. Ok (show y)
 
   module _ (read : Result A ImageFault) where
     -- it is an answer
     module _ (unread_is : (fault : ImageFault) → read ≡ Err fault → IsAnswer files (Show n) (refusing files (unread n fault)))
-        (broken_is : (x : A) (b : Breach) → read ≡ Ok x → breach x ≡ Some b → IsAnswer files (Show n) (refusing files (broken n b)))
+        (broken_is : (x : A) (b : RuleBreach) → read ≡ Ok x → breach x ≡ Some b → IsAnswer files (Show n) (refusing files (broken n b)))
         (shown_is : (x : A) → read ≡ Ok x → breach x ≡ None → IsAnswer files (Show n) (shown_ending files (Ok (show x)))) where
-      by_rules : (x : A) → read ≡ Ok x → (o : Option Breach) → breach x ≡ o → IsAnswer files (Show n) (shown_ending files (ruled_lines x o))
+      by_rules : (x : A) → read ≡ Ok x → (o : Option RuleBreach) → breach x ≡ o → IsAnswer files (Show n) (shown_ending files (ruled_lines x o))
       by_rules x e None none = shown_is x e none
       by_rules x e (Some b) is = broken_is x b e is
 
@@ -62,8 +62,8 @@ module _ (files : Files) (n : List ℕ) {A : Type 0} (breach : A → Option Brea
     unread_so : (fault : ImageFault) → read ≡ Err fault → refusing files (unread n fault) ≡ shown_ending files (lines_of read)
     unread_so fault e = ap (λ (x : Result A ImageFault). shown_ending files (lines_of x)) (sym e)
 
-    ruled_so : (x : A) (o : Option Breach) → read ≡ Ok x → breach x ≡ o → shown_ending files (ruled_lines x o) ≡ shown_ending files (lines_of read)
-    ruled_so x o e is = ap (λ (y : Option Breach). shown_ending files (ruled_lines x y)) (sym is) ∙ ap (λ (y : Result A ImageFault). shown_ending files (lines_of y)) (sym e)
+    ruled_so : (x : A) (o : Option RuleBreach) → read ≡ Ok x → breach x ≡ o → shown_ending files (ruled_lines x o) ≡ shown_ending files (lines_of read)
+    ruled_so x o e is = ap (λ (y : Option RuleBreach). shown_ending files (ruled_lines x y)) (sym is) ∙ ap (λ (y : Result A ImageFault). shown_ending files (lines_of y)) (sym e)
 
 -- ---- both kinds
 

@@ -5,7 +5,7 @@ use Rattle.som_model.specs.declared.program.ClientProgram.{ClientProgram}
 use Rattle.som_model.specs.Bytes.{AreBytes}
 use Rattle.som_model.specs.Lists.{every}
 use Rattle.som_model.specs.Class.{bare}
-use Rattle.som_model.specs.Rules.{Breach}
+use Rattle.som_model.specs.Rules.{RuleBreach}
 use Rattle.som_model.specs.Conforming.{release_breach}
 use Rattle.som_fields.specs.declared.fault.ImageFault.{ImageFault}
 use Rattle.som_libimage.specs.Libraries.{library_at}
@@ -38,7 +38,7 @@ ok_once x y r p q = cc
 err_apart : {A E : Type 0} (e : E) (x : A) (r : Result A E) → r ≡ Err e → r ≡ Ok x → ⊥
 err_apart e x r p q = cc
 
-none_some : (b : Breach) → Some b ≡ None → ⊥
+none_some : (b : RuleBreach) → Some b ≡ None → ⊥
 none_some b e = cc
 
 -- what is read is the release of the image
@@ -49,7 +49,7 @@ pub one_library : (bytes : List ℕ) (r s : Release) → IsFirstLibrary bytes r 
 one_library bytes r s is_r is_s = ok_once r s (library_at bytes) (library_only bytes r is_r) (library_only bytes s is_s)
 
 -- a first release conforms, or breaks a rule
-tell_conforming : (bytes : List ℕ) → AreBytes bytes → (r : Release) → library_at bytes ≡ Ok r → (f : FirstRelease) → release_of f ≡ r → (o : Option Breach) → release_breach r ≡ o → Told (IsFirstLibrary bytes)
+tell_conforming : (bytes : List ℕ) → AreBytes bytes → (r : Release) → library_at bytes ≡ Ok r → (f : FirstRelease) → release_of f ≡ r → (o : Option RuleBreach) → release_breach r ≡ o → Told (IsFirstLibrary bytes)
 tell_conforming bytes all r e f is None none =
     inl (r, taken bytes all r f (found bytes all (Ok r) e, λ s spelled within. ok_once s r (library_at bytes) (library_again bytes all s spelled within) e) is (release_conforms r none))
 tell_conforming bytes all r e f is (Some b) broken =
@@ -93,7 +93,7 @@ tell_said : (i : ClientImage) (b : Bool) → ClientTells i b → TellsFirst i
 tell_said i true ok = inl ok
 tell_said i false never = inr never
 
-tell_rules : (i : ClientImage) (fs : List FirstFace) → map face_of fs ≡ i.base.classes → FitsClient i → (o : Option Breach) → faces_breach (of_release (map bare i.base.classes)) ≡ o → TellsFirst i
+tell_rules : (i : ClientImage) (fs : List FirstFace) → map face_of fs ≡ i.base.classes → FitsClient i → (o : Option RuleBreach) → faces_breach (of_release (map bare i.base.classes)) ≡ o → TellsFirst i
 tell_rules i fs is fits None none =
     let all = every (descends_in (map bare i.base.classes)) i.calls in
     tell_said i all (clients.client_tells i fs i.base.classes (map bare i.base.classes) is refl refl fits none all refl)

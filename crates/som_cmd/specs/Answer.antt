@@ -6,7 +6,7 @@ use Rattle.som_model.specs.declared.program.ClientProgram.{ClientProgram}
 use Rattle.som_model.specs.Bytes.{Files}
 use Rattle.som_model.specs.Class.{interface_of}
 use Rattle.som_model.specs.Means.{means}
-use Rattle.som_model.specs.Rules.{Breach}
+use Rattle.som_model.specs.Rules.{RuleBreach}
 use Rattle.som_model.specs.Conforming.{ProgramOk, program_breach, ReleaseOk, release_breach}
 use Rattle.som_fields.specs.declared.fault.ImageFault.{ImageFault}
 use Rattle.som_libimage.specs.Libraries.{library_at}
@@ -39,11 +39,11 @@ pub data IsAnswer (files : Files) : Asked → Ending → Type 0 where
       → IsAnswer files (Run c l fuel) (ran files (means r p fuel))
   no_image_shown : (n : List ℕ) → get files n ≡ None → IsAnswer files (Show n) (refusing files (absent n))
   shown_unread : (n b : List ℕ) (fault : ImageFault) → get files n ≡ Some b → is_client b ≡ false → library_at b ≡ Err fault → IsAnswer files (Show n) (refusing files (unread n fault))
-  shown_broken : (n b : List ℕ) (r : Release) (breach : Breach) → get files n ≡ Some b → is_client b ≡ false → library_at b ≡ Ok r → release_breach r ≡ Some breach
+  shown_broken : (n b : List ℕ) (r : Release) (breach : RuleBreach) → get files n ≡ Some b → is_client b ≡ false → library_at b ≡ Ok r → release_breach r ≡ Some breach
       → IsAnswer files (Show n) (refusing files (broken n breach))
   shows : (n b : List ℕ) (r : Release) → get files n ≡ Some b → is_client b ≡ false → library_at b ≡ Ok r → ReleaseOk r → IsAnswer files (Show n) (showing files r)
   client_unread : (n b : List ℕ) (fault : ImageFault) → get files n ≡ Some b → is_client b ≡ true → client_at b ≡ Err fault → IsAnswer files (Show n) (refusing files (unread n fault))
-  client_broken : (n b : List ℕ) (p : ClientProgram) (breach : Breach) → get files n ≡ Some b → is_client b ≡ true → client_at b ≡ Ok p → program_breach p ≡ Some breach
+  client_broken : (n b : List ℕ) (p : ClientProgram) (breach : RuleBreach) → get files n ≡ Some b → is_client b ≡ true → client_at b ≡ Ok p → program_breach p ≡ Some breach
       → IsAnswer files (Show n) (refusing files (broken n breach))
   shows_client : (n b : List ℕ) (p : ClientProgram) → get files n ≡ Some b → is_client b ≡ true → client_at b ≡ Ok p → ProgramOk p → IsAnswer files (Show n) (showing_client files p)
   checks : (names : List (List ℕ)) (e : Ending) → IsCheckAnswer files names e → IsAnswer files (Check names) e

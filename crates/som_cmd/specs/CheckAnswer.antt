@@ -5,7 +5,7 @@ use Rattle.som_model.specs.declared.program.Release.{Release}
 use Rattle.som_model.specs.Bytes.{Files}
 use Rattle.som_model.specs.Lists.{Mem, first}
 use Rattle.som_model.specs.Class.{interface_of}
-use Rattle.som_model.specs.Compatible.{Incompatible, list_breaks}
+use Rattle.som_model.specs.Compatible.{CompatBreach, list_breaks}
 use Rattle.som_model.specs.Conforming.{ReleaseOk}
 use Rattle.som_model.specs.Steps.{◌>>=◌}
 use Rattle.som_order.specs.Names.{name_at}
@@ -25,10 +25,10 @@ or_dash None = codes "-"
 or_dash (Some name) = name
 
 -- the newer image doesn't keep what the one before it promised
-abbrev pub not_kept : List ℕ → Incompatible → Refusal
+abbrev pub not_kept : List ℕ → CompatBreach → Refusal
 not_kept image b = record {
   line = codes "incompatible K" ++ decimal b.rule ++ codes " " ++ b.class ++ codes " " ++ or_dash b.name ++ codes " " ++ decimal b.place ++ codes " in " ++ image ++ 10 ∷ [];
-  why = why.Incompatible;
+  why = why.CompatBreach;
 }
 
 -- ---- steps: the first of a list that refuses, refuses for all
@@ -62,7 +62,7 @@ abbrev pub AllConform : List Release → Type 0
 AllConform rs = (r : Release) → Mem r rs → ReleaseOk r
 
 -- the first thing that a release doesn't keep of the one before it, with the number of the newer one
-abbrev pub first_not_kept : List Release → Option (ℕ × Incompatible)
+abbrev pub first_not_kept : List Release → Option (ℕ × CompatBreach)
 first_not_kept rs = first (list_breaks 1 (map interface_of rs))
 
 -- ---- endings
@@ -76,7 +76,7 @@ pub data IsCheckAnswer (files : Files) (names : List (List ℕ)) : Ending → Ty
   image_unread : (images : List (List ℕ)) (r : Refusal) → images_in names files ≡ Ok images → releases_in names images ≡ Err r → IsCheckAnswer files names (refusing files r)
   image_broken : (images : List (List ℕ)) (rs : List Release) (r : Refusal) → images_in names files ≡ Ok images → releases_in names images ≡ Ok rs → all_rules_kept names rs ≡ Err r
       → IsCheckAnswer files names (refusing files r)
-  refuses : (images : List (List ℕ)) (rs : List Release) (number : ℕ) (b : Incompatible) → images_in names files ≡ Ok images → releases_in names images ≡ Ok rs → AllConform rs
+  refuses : (images : List (List ℕ)) (rs : List Release) (number : ℕ) (b : CompatBreach) → images_in names files ≡ Ok images → releases_in names images ≡ Ok rs → AllConform rs
       → first_not_kept rs ≡ Some (number, b) → IsCheckAnswer files names (refusing files (not_kept (name_at names number) b))
   accepts : (images : List (List ℕ)) (rs : List Release) → images_in names files ≡ Ok images → releases_in names images ≡ Ok rs → AllConform rs → first_not_kept rs ≡ None
       → IsCheckAnswer files names (accepting files)

@@ -8,7 +8,7 @@ use Rattle.som_model.specs.declared.program.Release.{Release}
 use Rattle.som_model.specs.declared.program.ClientProgram.{ClientProgram}
 use Rattle.som_model.specs.Bytes.{Files}
 use Rattle.som_model.specs.State.{Ran}
-use Rattle.som_model.specs.Rules.{Breach}
+use Rattle.som_model.specs.Rules.{RuleBreach}
 use Rattle.som_fields.specs.declared.fault.ImageFault.{ImageFault}
 use Rattle.som_fields.specs.declared.fault.ImageFault.TheVariants as faults
 use Rattle.som_show.specs.Shown.{client_lines, shown_lines}
@@ -36,7 +36,7 @@ no_image name = record { line = named (codes "image 0 ") name; why = why.Image }
 
 -- the client wasn't compiled against the faces of the library
 abbrev pub not_same : List ℕ → Refusal
-not_same name = record { line = named (codes "not the same as ") name; why = why.Incompatible }
+not_same name = record { line = named (codes "not the same as ") name; why = why.CompatBreach }
 
 -- the number of an image fault
 abbrev pub fault_number : ImageFault → ℕ
@@ -68,7 +68,7 @@ unread name fault = record {
 }
 
 -- what the store has under a name breaks this rule
-abbrev pub broken : List ℕ → Breach → Refusal
+abbrev pub broken : List ℕ → RuleBreach → Refusal
 broken name b = record {
   line = codes "image S" ++ decimal b.rule ++ codes " " ++ name ++ codes " " ++ b.class ++ codes " " ++ b.member ++ 10 ∷ [];
   why = why.Image;

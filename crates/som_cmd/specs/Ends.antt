@@ -7,7 +7,7 @@ use Rattle.som_model.specs.declared.program.ClientProgram.{ClientProgram}
 use Rattle.som_model.specs.Bytes.{AreBytes, Files}
 use Rattle.som_model.specs.Class.{interface_of}
 use Rattle.som_model.specs.Means.{means}
-use Rattle.som_model.specs.Compatible.{Accepted, Incompatible}
+use Rattle.som_model.specs.Compatible.{Accepted, CompatBreach}
 use Rattle.som_model.specs.Conforming.{ProgramOk, ReleaseOk}
 use Rattle.som_model.specs.Images.{client_image, library_image}
 use Rattle.som_order.specs.Names.{name_at}
@@ -139,6 +139,6 @@ pub record TellsAccepted (rs : List Release) (status : ℕ) (old new : Option (L
   pub only : status ≡ 0 → Accepted rs
 
 -- what was written tells what a release doesn't keep, under the name of the newer one, and the status is 4
-pub record TellsBreach (names : List (List ℕ)) (number : ℕ) (b : Incompatible) (status : ℕ) (old new : Option (List ℕ)) : Type 0 where
+pub record TellsBreach (names : List (List ℕ)) (number : ℕ) (b : CompatBreach) (status : ℕ) (old new : Option (List ℕ)) : Type 0 where
   pub text : ShowsAll old new (not_kept (name_at names number) b).line
   pub status_is : status ≡ 4

@@ -2,7 +2,7 @@
 use Rattle.std.specs.Prelude.{ℕ, List, Option, Some, None, Result, Ok, Err}
 use Rattle.som_model.specs.declared.program.Release.{Release}
 use Rattle.som_model.specs.declared.program.ClientProgram.{ClientProgram}
-use Rattle.som_model.specs.Rules.{Breach}
+use Rattle.som_model.specs.Rules.{RuleBreach}
 use Rattle.som_model.specs.Conforming.{program_breach, release_breach}
 use Rattle.som_model.specs.Steps.{◌>>=◌}
 use Rattle.som_fields.specs.declared.fault.ImageFault.{ImageFault}
@@ -17,7 +17,7 @@ read_or name (Ok x) = Ok x
 read_or name (Err fault) = Err (unread name fault)
 
 -- no rule is broken, or the refusal under a name
-abbrev pub kept_or : List ℕ → Option Breach → Result (Unit {0}) Refusal
+abbrev pub kept_or : List ℕ → Option RuleBreach → Result (Unit {0}) Refusal
 kept_or name None = Ok tt
 kept_or name (Some b) = Err (broken name b)
 
@@ -30,7 +30,7 @@ abbrev pub rules_kept : List ℕ → Release → Result (Unit {0}) Refusal
 rules_kept name r = kept_or name (release_breach r)
 
 -- what was read under a name, where it breaks no rule
-abbrev pub sound : {A : Type 0} → (A → Option Breach) → List ℕ → Result A ImageFault → Result A Refusal
+abbrev pub sound : {A : Type 0} → (A → Option RuleBreach) → List ℕ → Result A ImageFault → Result A Refusal
 sound breach name read = do
   x ← read_or name read
   kept ← kept_or name (breach x)

@@ -94,7 +94,7 @@ fn refuse_breach(alloc: Global, image: &Text, breach: &Breach<'_>) -> Result<Ref
     line.push(b'\n')?;
     Ok(Refusal {
         line: Text::from_vec(line),
-        why: Why::Incompatible,
+        why: Why::CompatBreach,
     })
 }
 

@@ -69,7 +69,7 @@ fn run_on(
     } else {
         Err(Stop::Refused(Refusal {
             line: named_line(alloc, b"not the same as ", name)?,
-            why: Why::Incompatible,
+            why: Why::CompatBreach,
         }))
     }
 }

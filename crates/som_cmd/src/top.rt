@@ -17,7 +17,7 @@ ghost use Rattle.som_cmd.specs.PutEnds.{AreClientTextsOf, AreTextsOf, KeepsFiles
 ghost use Rattle.som_cmd.specs.Status.{is_calm_status};
 ghost use Rattle.som_cmd.specs.Words.{Bad, asked};
 ghost use Rattle.som_io.specs.Outside.{Rose};
-ghost use Rattle.som_model.specs.Compatible.{Incompatible};
+ghost use Rattle.som_model.specs.Compatible.{CompatBreach};
 ghost use Rattle.som_model.specs.declared.program.ClientProgram.{ClientProgram};
 ghost use Rattle.som_model.specs.declared.program.Release.{Release};
 ghost use Rattle.std.specs.Prelude.{◌≡◌, ◌≢◌, ◌⊎◌, ℕ, IsTrue, List as Seq, Some};
@@ -63,7 +63,7 @@ pub fn run_som<S: Store, K: Sink>(
         → result ≢ 6 → result ≢ 8 → result ≢ 10 → TellsAccepted rs result (K.written out.old) (K.written out.new) }
 
     // Of any others the first thing is told that a release doesn't keep of the one before it.
-    ensures breach { (names : Seq (Seq ℕ)) (rs : Seq Release) (number : ℕ) (b : Incompatible) → AreChecked (asked words.now) (S.files store.old) names rs
+    ensures breach { (names : Seq (Seq ℕ)) (rs : Seq Release) (number : ℕ) (b : CompatBreach) → AreChecked (asked words.now) (S.files store.old) names rs
         → first_not_kept rs ≡ Some (number, b)
         → result ≢ 6 → result ≢ 8 → result ≢ 10 → TellsBreach names number b result (K.written out.old) (K.written out.new) }
 

@@ -11,7 +11,7 @@ use Rattle.som_model.specs.Same.{same_option, same_sig}
 use Rattle.som_model.specs.Class.{Class, entry_name, entry_of, introduced_sig}
 use Rattle.som_model.specs.Classes.{hierarchy}
 use Rattle.som_model.specs.Owner.{entry_at, owner, owner_within, sig_of}
-use Rattle.som_model.specs.Compatible.{failing, strayed, signature, incompatible, k4, k5}
+use Rattle.som_model.specs.Compatible.{failing, first_changed, signature, incompatible, k4, k5}
 use Rattle.som_model.proofs.KeyLaws.{exact_bytes}
 use Rattle.som_verify.specs.Inherited.{moved_to}
 use Rattle.som_verify.specs.Places.{key_at, face_at}
@@ -90,12 +90,12 @@ not_strayed false x n rest e = absurd (cc)
 
 changed_is : (olds news : List Class) (k : ClassKey) (xs ys : List Entry) (n : ℕ)
     → ((e : Entry) → Mem e xs → signature olds k (entry_name e) ≡ entry_sig olds e) → ((e : Entry) → Mem e ys → signature news k (entry_name e) ≡ entry_sig news e)
-    → strayed n (map entry_name xs) (map entry_name ys) ≡ []
+    → first_changed n (map entry_name xs) (map entry_name ys) ≡ []
     → failing (λ name. same_option same_sig (signature olds k name) (signature news k name)) n (map entry_name xs) ≡ changed olds news n xs ys
 changed_is olds news k [] ys n f g e = refl
 changed_is olds news k (x ∷ xs) [] n f g e = absurd (cc)
 changed_is olds news k (x ∷ xs) (y ∷ ys) n f g e =
-    let s = not_strayed (bytes_eq (entry_name x) (entry_name y)) (entry_name x) n (strayed (n + 1) (map entry_name xs) (map entry_name ys)) e in
+    let s = not_strayed (bytes_eq (entry_name x) (entry_name y)) (entry_name x) n (first_changed (n + 1) (map entry_name xs) (map entry_name ys)) e in
     let name = exact_bytes.two _ _ s.0 in
     let in_new : signature news k (entry_name x) ≡ entry_sig news y = ap (signature news k) name ∙ g y (inl refl) in
     let test : same_option same_sig (signature olds k (entry_name x)) (signature news k (entry_name x)) ≡ same_option same_sig (entry_sig olds x) (entry_sig news y) =

@@ -12,7 +12,7 @@ use Rattle.som_model.specs.Lists.{Mem, first}
 use Rattle.som_model.specs.Ancestors.{Descends}
 use Rattle.som_model.specs.Class.{Class, entry_name}
 use Rattle.som_model.specs.Classes.{class_at, hierarchy, ancestors, is_a}
-use Rattle.som_model.specs.Compatible.{Incompatible, incompatible, order_of, strayed, k2, k3, k4, k5, k6, class_breaks, first_break}
+use Rattle.som_model.specs.Compatible.{CompatBreach, incompatible, order_of, first_changed, k2, k3, k4, k5, k6, class_breaks, first_break}
 use Rattle.som_laws.proofs.Laws.{descends_test}
 use Rattle.som_order.specs.Names.{name_at}
 use Rattle.som_order.specs.Difference.{first_difference}
@@ -31,12 +31,12 @@ use Rattle.som_compat.proofs.Fronts.{ancestor_is}
 use Rattle.som_compat.proofs.Declaring.{place_declared}
 
 -- K4 by the first difference
-strayed_none : (n : ℕ) (olds news : List (List ℕ)) → first_difference n olds news ≡ None → strayed n olds news ≡ []
+strayed_none : (n : ℕ) (olds news : List (List ℕ)) → first_difference n olds news ≡ None → first_changed n olds news ≡ []
 strayed_none n [] news e = refl
 strayed_none n (x ∷ olds) [] e = absurd (cc)
 strayed_none n (x ∷ olds) (y ∷ news) e = by (bytes_eq x y) e (strayed_none (n + 1) olds news)
   where
-    by : (b : Bool) → (if b then first_difference (n + 1) olds news else Some n) ≡ None → (first_difference (n + 1) olds news ≡ None → strayed (n + 1) olds news ≡ []) → (if b then strayed (n + 1) olds news else (x, n) ∷ []) ≡ []
+    by : (b : Bool) → (if b then first_difference (n + 1) olds news else Some n) ≡ None → (first_difference (n + 1) olds news ≡ None → first_changed (n + 1) olds news ≡ []) → (if b then first_changed (n + 1) olds news else (x, n) ∷ []) ≡ []
     by true e f = f e
     by false e f = absurd (cc)
 
@@ -44,7 +44,7 @@ abbrev Strays : ℕ → ℕ → List (List ℕ) → List (List ℕ × ℕ) → T
 Strays n p olds found = (n ≤ p) × ((x : List ℕ) × (found ≡ (x, p) ∷ []) × (slice_get olds (p - n) ≡ Some x))
 
 strayed_by : (n p : ℕ) (x y : List ℕ) (olds news : List (List ℕ)) (b : Bool) → (if b then first_difference (n + 1) olds news else Some n) ≡ Some p
-    → (first_difference (n + 1) olds news ≡ Some p → Strays (n + 1) p olds (strayed (n + 1) olds news)) → Strays n p (x ∷ olds) (if b then strayed (n + 1) olds news else (x, n) ∷ [])
+    → (first_difference (n + 1) olds news ≡ Some p → Strays (n + 1) p olds (first_changed (n + 1) olds news)) → Strays n p (x ∷ olds) (if b then first_changed (n + 1) olds news else (x, n) ∷ [])
 strayed_by n p x y olds news true e f =
     let r = f e in
     let at : p - n ≡ suc (p - (n + 1)) = omega (arith, r.0) in
@@ -54,7 +54,7 @@ strayed_by n p x y olds news false e f =
     let at : p - n ≡ 0 = omega arith in
     (omega arith, (x, ap (λ (z : ℕ). (x, z) ∷ []) same, rw at refl))
 
-strayed_some : (n p : ℕ) (olds news : List (List ℕ)) → first_difference n olds news ≡ Some p → Strays n p olds (strayed n olds news)
+strayed_some : (n p : ℕ) (olds news : List (List ℕ)) → first_difference n olds news ≡ Some p → Strays n p olds (first_changed n olds news)
 strayed_some n p [] news e = absurd (cc)
 strayed_some n p (x ∷ olds) [] e =
     let same : n ≡ p = cc in
@@ -96,7 +96,7 @@ default_same [] i d e lt = absurd (omega arith)
 default_same (x ∷ xs) zero d e lt = refl
 default_same (x ∷ xs) (suc i) d e lt = default_same xs i d e (omega arith)
 
-pub step_list : (F : Class → List Incompatible) (xs : List ClassFace) (i : ℕ) (x : ClassFace) → i < length xs → ((d : ClassFace) → slice_index_or xs i d ≡ x)
+pub step_list : (F : Class → List CompatBreach) (xs : List ClassFace) (i : ℕ) (x : ClassFace) → i < length xs → ((d : ClassFace) → slice_index_or xs i d ≡ x)
     → flat_map F (map shown (drop i xs)) ≡ F (shown x) ++ flat_map F (map shown (drop (i + 1) xs))
 step_list F [] i x lt is = absurd (omega arith)
 step_list F (y ∷ ys) zero x lt is = ap (λ (z : ClassFace). F (shown z) ++ flat_map F (map shown ys)) (is x)
@@ -143,7 +143,7 @@ module _ (olds news : List ClassFace) (old_ok : Conforms (interface olds)) (new_
       let kn = known_of news new_ok in
       ap (class_at N) (sym (ap (λ (c : Class). c.key) p.new_one ∙ p.same)) ∙ kn.found p.other p.other_within ∙ ap (λ z. Some z) p.new_one
 
-  abbrev breaks_at : Class → Option Class → List Incompatible
+  abbrev breaks_at : Class → Option Class → List CompatBreach
   breaks_at c o = elim o [ None ↦ incompatible 1 c None 0 ∷ [] | Some n ↦ k2 c n ++ (k3 O N c ++ (k4 c n ++ (k5 O N c ++ k6 N c))) ]
 
   pub breaks_found : (g : ClassFace) → IsShown olds news f g
@@ -192,5 +192,5 @@ drop_all [] (suc i) le = refl
 drop_all (x ∷ xs) zero le = absurd (omega arith)
 drop_all (x ∷ xs) (suc i) le = drop_all xs i (omega arith)
 
-pub at_end : (F : Class → List Incompatible) (xs : List ClassFace) (i : ℕ) → length xs ≤ i → None ≡ first (flat_map F (map shown (drop i xs)))
+pub at_end : (F : Class → List CompatBreach) (xs : List ClassFace) (i : ℕ) → length xs ≤ i → None ≡ first (flat_map F (map shown (drop i xs)))
 at_end F xs i le = ap (λ z. first (flat_map F (map shown z))) (sym (drop_all xs i le))

@@ -12,7 +12,7 @@ use Rattle.som_model.specs.Class.{Class}
 use Rattle.som_model.specs.Classes.{class_at, interface_classes, hierarchy, ancestors, is_a}
 use Rattle.som_model.specs.Kernel.{kernel}
 use Rattle.som_model.specs.Metaclass.{meta}
-use Rattle.som_model.specs.Compatible.{release_of, Incompatible, incompatible, order_of, failing, strayed, signature, k2, k3, k4, k5, k6, class_breaks, Compatible}
+use Rattle.som_model.specs.Compatible.{release_of, CompatBreach, incompatible, order_of, failing, first_changed, signature, k2, k3, k4, k5, k6, class_breaks, Compatible}
 use Rattle.som_model.proofs.KeyLaws.{Exact, exact_keys, exact_bytes, both}
 use Rattle.som_model.proofs.SameLaws.{exact_option, exact_sigs}
 use Rattle.som_model.proofs.NamedLaws.{same_named}
@@ -52,18 +52,18 @@ fails_none test n [] f = refl
 fails_none test n (y ∷ ys) f = let here : test y ≡ true = f y (inl refl) in rw here (fails_none test (n + 1) ys (λ x m. f x (inr m)))
 
 -- none strays
-strays_by : (n : ℕ) (x y z : List ℕ) (ys zs : List (List ℕ)) (i : ℕ) (b : Bool) → bytes_eq y z ≡ b → (strayed (n + 1) ys zs ≡ [] → (j : ℕ) → slice_get ys j ≡ Some x → slice_get zs j ≡ Some x)
-    → (if b then strayed (n + 1) ys zs else (y, n) ∷ []) ≡ [] → slice_get (y ∷ ys) i ≡ Some x → slice_get (z ∷ zs) i ≡ Some x
+strays_by : (n : ℕ) (x y z : List ℕ) (ys zs : List (List ℕ)) (i : ℕ) (b : Bool) → bytes_eq y z ≡ b → (first_changed (n + 1) ys zs ≡ [] → (j : ℕ) → slice_get ys j ≡ Some x → slice_get zs j ≡ Some x)
+    → (if b then first_changed (n + 1) ys zs else (y, n) ∷ []) ≡ [] → slice_get (y ∷ ys) i ≡ Some x → slice_get (z ∷ zs) i ≡ Some x
 strays_by n x y z ys zs zero true t f e at = ap (λ w. Some w) (sym (exact_bytes.two y z t)) ∙ at
 strays_by n x y z ys zs (suc i) true t f e at = f e i at
 strays_by n x y z ys zs i false t f e at = absurd (cc)
 
-none_strays : (n : ℕ) (olds news : List (List ℕ)) → strayed n olds news ≡ [] → (i : ℕ) (x : List ℕ) → slice_get olds i ≡ Some x → slice_get news i ≡ Some x
+none_strays : (n : ℕ) (olds news : List (List ℕ)) → first_changed n olds news ≡ [] → (i : ℕ) (x : List ℕ) → slice_get olds i ≡ Some x → slice_get news i ≡ Some x
 none_strays n [] news e i x at = absurd (cc)
 none_strays n (y ∷ ys) [] e i x at = absurd (cc)
 none_strays n (y ∷ ys) (z ∷ zs) e i x at = strays_by n x y z ys zs i (bytes_eq y z) refl (λ f j g. none_strays (n + 1) ys zs f j x g) e at
 
-strays_none : (n : ℕ) (olds news : List (List ℕ)) → ((i : ℕ) (x : List ℕ) → slice_get olds i ≡ Some x → slice_get news i ≡ Some x) → strayed n olds news ≡ []
+strays_none : (n : ℕ) (olds news : List (List ℕ)) → ((i : ℕ) (x : List ℕ) → slice_get olds i ≡ Some x → slice_get news i ≡ Some x) → first_changed n olds news ≡ []
 strays_none n [] news f = refl
 strays_none n (y ∷ ys) [] f = let e = f 0 y refl in absurd (cc)
 strays_none n (y ∷ ys) (z ∷ zs) f =
@@ -138,11 +138,11 @@ module _ (old new : Interface) (old_ok : Conforms old) (new_ok : Conforms new) w
   pub of_class : Compatible old new → (c : Class) → Mem c (interface_classes old) → ClassKeeps c
   of_class e c m = class_keeps c (class_at N c.key) refl (flat_none (class_breaks O N) (interface_classes old) c e m)
 
-  if_none : (b : Bool) (x : Incompatible) → first (if b then [] else x ∷ []) ≡ None → b ≡ true
+  if_none : (b : Bool) (x : CompatBreach) → first (if b then [] else x ∷ []) ≡ None → b ≡ true
   if_none true x e = refl
   if_none false x e = absurd (cc)
 
-  none_if : (b : Bool) (x : Incompatible) → b ≡ true → first (if b then [] else x ∷ []) ≡ None
+  none_if : (b : Bool) (x : CompatBreach) → b ≡ true → first (if b then [] else x ∷ []) ≡ None
   none_if true x e = refl
   none_if false x e = absurd (true≢false (sym e))
 

@@ -19,7 +19,7 @@ use Rattle.som_model.specs.Conforming.{ReleaseOk, each_after, first_of_members, 
 use Rattle.som_model.specs.Kernel.{kernel, som_class}
 use Rattle.som_model.specs.Keys.{same_key}
 use Rattle.som_model.specs.Owner.{introduces}
-use Rattle.som_model.specs.Rules.{Breach, breach, demand, demand_of, introduced_by, is_known, is_value_type, name_of, s1, s2, s3, s4, s5, s6, s7, s8, s9, s10, s14}
+use Rattle.som_model.specs.Rules.{RuleBreach, breach, demand, demand_of, introduced_by, is_known, is_value_type, name_of, s1, s2, s3, s4, s5, s6, s7, s8, s9, s10, s14}
 use Rattle.som_verify.specs.Faces.{faces_breach}
 use Rattle.som_verify.specs.Inherited.{inherits, moved_entry}
 use Rattle.som_verify.proofs.Before.{both_none, none_both}
@@ -34,7 +34,7 @@ faces_more [] c = refl
 faces_more (x ∷ before) c = ap (λ z. face_only x ∷ z) (faces_more before c)
 
 -- a rule that looks at the classes before each
-each_same : (rule : List Class → Class → List Breach) → ((before : List Class) (c : Class) → rule (map face_only before) (face_only c) ≡ rule before c)
+each_same : (rule : List Class → Class → List RuleBreach) → ((before : List Class) (c : Class) → rule (map face_only before) (face_only c) ≡ rule before c)
     → (before cs : List Class) → each_after rule (map face_only before) (map face_only cs) ≡ each_after rule before cs
 each_same rule same before [] = refl
 each_same rule same before (c ∷ cs) =
@@ -43,7 +43,7 @@ each_same rule same before (c ∷ cs) =
     ∙ ap (λ z. rule before c ++ z) (each_same rule same (before ++ c ∷ []) cs)
 
 -- a rule that looks at each class
-all_none : (rule more : Class → List Breach) → ((c : Class) → first (rule c) ≡ None → first (more (face_only c)) ≡ None)
+all_none : (rule more : Class → List RuleBreach) → ((c : Class) → first (rule c) ≡ None → first (more (face_only c)) ≡ None)
     → (cs : List Class) → first (flat_map rule cs) ≡ None → first (flat_map more (map face_only cs)) ≡ None
 all_none rule more same [] e = refl
 all_none rule more same (c ∷ cs) e =
@@ -63,7 +63,7 @@ module _ (cs : List Class) where
   s4_same : (c : Class) → s4 less (face_only c) ≡ s4 cs c
   s4_same c = ap (λ (descends : ClassKey → Bool). demand 4 c (every descends (option_list c.decl.face.metaclass))) (fun_ext (λ k. is_a_faces cs k som_class))
 
-  abbrev types_known : (ValueType → Bool) → (ValueType → Bool) → Class → Entry → List Breach
+  abbrev types_known : (ValueType → Bool) → (ValueType → Bool) → Class → Entry → List RuleBreach
   types_known known value c (entries.Introduced name sig way) = demand_of 5 c name (known sig.result && every value sig.params)
   types_known known value c (entries.Moved name to) = []
 
@@ -90,7 +90,7 @@ module _ (cs : List Class) where
   moved_same c (entries.Moved name to) = ap (demand_of 9 c name) (inherits_same c.key to name)
 
   s9_same : (c : Class) → s9 less (face_only c) ≡ s9 cs c
-  s9_same c = ap (λ (by : Entry → List Breach). flat_map by c.decl.face.entries) (fun_ext (moved_same c))
+  s9_same c = ap (λ (by : Entry → List RuleBreach). flat_map by c.decl.face.entries) (fun_ext (moved_same c))
 
 -- classes that break none of the rules S1 to S10 break none where the faces alone are left
 pub faces_none : (cs : List Class) → faces_breach cs ≡ None → faces_breach (map face_only cs) ≡ None

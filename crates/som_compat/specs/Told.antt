@@ -6,7 +6,7 @@ use Rattle.som_model.specs.declared.class.Entry.TheVariants as entries
 use Rattle.som_model.specs.Same.{same_option, same_sig}
 use Rattle.som_model.specs.Class.{Class, entry_name}
 use Rattle.som_model.specs.Owner.{sig_of}
-use Rattle.som_model.specs.Compatible.{Incompatible}
+use Rattle.som_model.specs.Compatible.{CompatBreach}
 use Rattle.som_compat.specs.declared.breach.Breach.{Breach}
 use Rattle.som_compat.specs.declared.signatures.Signature.{Signature}
 use Rattle.som_compat.specs.declared.signatures.Signature.TheVariants as signatures
@@ -14,14 +14,14 @@ use Rattle.som_compat.specs.declared.rows.Row.{Row}
 use Rattle.som_compat.specs.KernelSigs.{sig_of_kernel}
 
 -- the breach itself
-abbrev pub told : Breach → Incompatible
+abbrev pub told : Breach → CompatBreach
 told b = record { rule = b.rule; class = b.class.now; name = option_copied b.name; place = b.place }
 
-abbrev pub told_by : Result (Unit {0}) Breach → Option Incompatible
+abbrev pub told_by : Result (Unit {0}) Breach → Option CompatBreach
 told_by (Ok _) = None
 told_by (Err b) = Some (told b)
 
-abbrev pub told_by_list : Result (Unit {0}) (ℕ × Breach) → Option (ℕ × Incompatible)
+abbrev pub told_by_list : Result (Unit {0}) (ℕ × Breach) → Option (ℕ × CompatBreach)
 told_by_list (Ok _) = None
 told_by_list (Err e) = Some (e.0, told e.1)
 

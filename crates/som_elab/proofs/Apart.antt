@@ -20,7 +20,7 @@ use Rattle.som_model.specs.Lists.{doubles, first}
 use Rattle.som_model.specs.Steps.{◌>>=◌}
 use Rattle.som_model.specs.Class.{Class, class_in}
 use Rattle.som_model.specs.Owner.{owner, sig_of}
-use Rattle.som_model.specs.Rules.{Breach}
+use Rattle.som_model.specs.Rules.{RuleBreach}
 use Rattle.som_model.specs.Typing.{in_body, in_main}
 use Rattle.som_idl.specs.declared.tree.IdlInterface.{IdlInterface}
 use Rattle.som_body.specs.declared.tree.BodyText.{BodyText}
@@ -51,7 +51,7 @@ pub same_ok : {A E : Type 0} (x y : A) → ◌≡◌ {A = Result A E} (Ok x) (Ok
 same_ok x y e = let z = e in cc
 
 -- no rule was broken, and it went on
-pub obeyed : {A : Type 0} (o : Option Breach) (further : Result A Refusal) (r : A) → obeying o further ≡ Ok r → (o ≡ None) × (further ≡ Ok r)
+pub obeyed : {A : Type 0} (o : Option RuleBreach) (further : Result A Refusal) (r : A) → obeying o further ≡ Ok r → (o ≡ None) × (further ≡ Ok r)
 obeyed None further r e = (refl, e)
 obeyed (Some b) further r e = absurd (let z = e in cc)
 

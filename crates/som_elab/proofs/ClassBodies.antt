@@ -22,7 +22,7 @@ use Rattle.som_model.specs.Class.{Class, class_in, introduced}
 use Rattle.som_model.specs.Classes.{interface_classes}
 use Rattle.som_model.specs.Conforming.{block_breach, bodies_typed, class_typed, override_typed}
 use Rattle.som_model.specs.Owner.{owner, sig_of}
-use Rattle.som_model.specs.Rules.{Breach, breach}
+use Rattle.som_model.specs.Rules.{RuleBreach, breach}
 use Rattle.som_model.specs.Typing.{Ruled, class_facts, in_body}
 use Rattle.som_model.specs.TypedBlocks.{Scope, Scoped, block_scope, block_step, stmt_step}
 use Rattle.som_read.specs.declared.tree.Word.{Word}
@@ -68,11 +68,11 @@ nothing_there : {A P : Type 0} (n : ℕ) (x : A) → slice_get (empty A) n ≡ S
 nothing_there n x e = absurd (cc)
 
 -- what a body breaks that came to a scope
-abbrev scope_breach : Class → List ℕ → Ruled Scope → List Breach
+abbrev scope_breach : Class → List ℕ → Ruled Scope → List RuleBreach
 scope_breach c name (Ok scope) = []
 scope_breach c name (Err rule) = breach rule c name ∷ []
 
-abbrev breach_by : List Class → Class → Override → Option Sig → List Breach
+abbrev breach_by : List Class → Class → Override → Option Sig → List RuleBreach
 breach_by cs c o None = []
 breach_by cs c o (Some sig) = block_breach cs c o.method.name sig o.block
 

@@ -13,7 +13,7 @@ use Rattle.som_model.specs.Class.{Class, bare, class_in, introduced}
 use Rattle.som_model.specs.Classes.{client_classes, interface_classes}
 use Rattle.som_model.specs.Conforming.{ProgramOk, ReleaseOk, all_of_program, class_typed, first_of_members, first_of_names, main_typed}
 use Rattle.som_model.specs.Kernel.{kernel}
-use Rattle.som_model.specs.Rules.{Breach, s5}
+use Rattle.som_model.specs.Rules.{RuleBreach, s5}
 use Rattle.som_model.specs.Typing.{Ruled, class_facts, in_main}
 use Rattle.som_model.specs.TypedBlocks.{Scope, block_scope}
 use Rattle.std.specs.Prelude.{codes}
@@ -50,7 +50,7 @@ kept : {A : Type 0} (o : Option Passed) (further : Result A Refusal) (r : A) →
 kept None further r e = e
 kept (Some p) further r e = absurd (let z = e in cc)
 
-obeyed : {A : Type 0} (o : Option Breach) (further : Result A Refusal) (r : A) → obeying o further ≡ Ok r → (o ≡ None) × (further ≡ Ok r)
+obeyed : {A : Type 0} (o : Option RuleBreach) (further : Result A Refusal) (r : A) → obeying o further ≡ Ok r → (o ≡ None) × (further ≡ Ok r)
 obeyed None further r e = (refl, e)
 obeyed (Some b) further r e = absurd (let z = e in cc)
 
@@ -120,7 +120,7 @@ module _ (m : Module) (base : Interface) (is : List IdlInterface) (conforms : fa
     ];
   }
 
-  abbrev types_breach : List Class → Option Breach
+  abbrev types_breach : List Class → Option RuleBreach
   types_breach rest = first (flat_map (s5 (kernel ++ take (length base.classes) after)) (take (length base.classes) after) ++ flat_map (s5 (kernel ++ after)) rest)
 
   record DeclarationsHold : Type 0 where
@@ -214,7 +214,7 @@ release_conforms is bs r h =
 
 -- ---- client programs
 
-abbrev main_breach : Ruled Scope → List Breach
+abbrev main_breach : Ruled Scope → List RuleBreach
 main_breach (Ok scope) = []
 main_breach (Err rule) = record { rule = rule; class = codes "main"; member = codes "-" } ∷ []
 

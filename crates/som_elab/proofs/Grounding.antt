@@ -9,7 +9,7 @@ use Rattle.som_model.specs.Lists.{Mem, first, or_else}
 use Rattle.som_model.specs.Class.{Class, class_in}
 use Rattle.som_model.specs.Conforming.{first_of_members, first_of_names}
 use Rattle.som_model.specs.Kernel.{kernel}
-use Rattle.som_model.specs.Rules.{Breach, s5}
+use Rattle.som_model.specs.Rules.{RuleBreach, s5}
 use Rattle.som_laws.proofs.Members.{mem_split}
 use Rattle.som_verify.specs.Bodies.{AllSigsKnown}
 use Rattle.som_verify.specs.Faces.{classes_breach}
@@ -36,10 +36,10 @@ use Rattle.som_elab.specs.Grounds.{FewParameters, IsBasis, IsFront, IsGround}
 -- ---- signatures are of known types
 
 module _ (cs : List Class) (n : ℕ) (rules : classes_breach n cs ≡ None) where
-  abbrev base_types : List Breach
+  abbrev base_types : List RuleBreach
   base_types = flat_map (s5 (kernel ++ take n cs)) (take n cs)
 
-  abbrev own_types : List Breach
+  abbrev own_types : List RuleBreach
   own_types = flat_map (s5 (kernel ++ cs)) (drop n cs)
 
   pub names_kept : first_of_names kernel cs ≡ None

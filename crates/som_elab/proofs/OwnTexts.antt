@@ -8,7 +8,7 @@ use Rattle.som_model.specs.declared.class.Entry.{Entry}
 use Rattle.som_model.specs.declared.class.Entry.TheVariants as entries
 use Rattle.som_model.specs.declared.class.Override.{Override}
 use Rattle.som_model.specs.declared.class.ClassDecl.{ClassDecl}
-use Rattle.som_model.specs.Rules.{Breach}
+use Rattle.som_model.specs.Rules.{RuleBreach}
 use Rattle.som_model.specs.Lists.{among, first}
 use Rattle.som_model.specs.Class.{Class, introduced}
 use Rattle.som_model.specs.Owner.{owner, sig_of}
@@ -92,7 +92,7 @@ module _ (a : Among) (bs : List BodyText) (c : Class) where
 pub counted_told : (bs kept shown : List BodyText) (d : Drawn) (name : List ℕ) (r : Result (Unit {0}) VerifyFault) → name ≡ d.class.face.name → kept ≡ of_class bs name → shown ≡ kept
     → Tells (first (text_s14 shown d)) r → Tells (first (text_s14 bs d)) r
 counted_told bs kept shown d name r named narrow same t =
-    subst (λ (z : List Breach). Tells (first z) r) (ap (λ (z : List BodyText). text_s14 z d) (same ∙ narrow ∙ ap (of_class bs) named) ∙ counted_own bs d) t
+    subst (λ (z : List RuleBreach). Tells (first z) r) (ap (λ (z : List BodyText). text_s14 z d) (same ∙ narrow ∙ ap (of_class bs) named) ∙ counted_own bs d) t
 
 pub class_told : (a : Among) (bs kept shown : List BodyText) (d : Drawn) (c : Class) (name : List ℕ) (r : Result ClassBodies Refused) → c.decl ≡ d.class → name ≡ d.class.face.name → kept ≡ of_class bs name → shown ≡ kept
     → Answers (class_steps a shown d c) r → Answers (class_steps a bs d c) r

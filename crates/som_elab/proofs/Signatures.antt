@@ -17,7 +17,7 @@ use Rattle.som_model.specs.Class.{Class, class_in, entry_name, entry_of, introdu
 use Rattle.som_model.specs.Classes.{hierarchy, interface_classes}
 use Rattle.som_model.specs.Kernel.{kernel}
 use Rattle.som_model.specs.Owner.{entry_at, owner, owner_within, sig_of}
-use Rattle.som_model.specs.Rules.{Breach, name_of}
+use Rattle.som_model.specs.Rules.{RuleBreach, name_of}
 use Rattle.som_model.proofs.KeyLaws.{both, exact_bytes}
 use Rattle.som_laws.proofs.Members.{Apart, find_first, find_none, mem_right}
 use Rattle.som_idl.specs.declared.tree.IdlInterface.{IdlInterface}
@@ -110,7 +110,7 @@ module _ (m : Module) (base : Interface) (is : List IdlInterface) (holds : Class
 
   -- ---- S13 of a body that is taken
 
-  abbrev breach_unless : BodyText → Bool → List Breach
+  abbrev breach_unless : BodyText → Bool → List RuleBreach
   breach_unless b stands = if stands then [] else record { rule = 13; class = b.class.text; member = b.method.text } ∷ []
 
   demanded_s13 : (b : BodyText) (t : Bool) → first (breach_unless b t) ≡ None → t ≡ true

@@ -8,7 +8,7 @@ use Rattle.som_model.specs.declared.syntax.Block.{Block}
 use Rattle.som_model.specs.declared.class.ClassDecl.{ClassDecl}
 use Rattle.som_model.specs.declared.program.Interface.{Interface}
 use Rattle.som_model.specs.Lists.{first, or_else}
-use Rattle.som_model.specs.Rules.{Breach}
+use Rattle.som_model.specs.Rules.{RuleBreach}
 use Rattle.som_model.specs.Class.{Class, class_in}
 use Rattle.som_model.specs.Classes.{interface_classes}
 use Rattle.som_model.specs.Steps.{◌>>=◌}
@@ -39,11 +39,11 @@ use Rattle.som_elab.proofs.Gathering.{stops}
 -- ---- rules and limits that come first
 
 module _ {A : Type 0} (further : Result A Refusal) where
-  pub obeyed : (o : Option Breach) (r : Result A Refused) → o ≡ None → Answers further r → Answers (obeying o further) r
-  obeyed o r e t = subst (λ (z : Option Breach). Answers (obeying z further) r) (sym e) t
+  pub obeyed : (o : Option RuleBreach) (r : Result A Refused) → o ≡ None → Answers further r → Answers (obeying o further) r
+  obeyed o r e t = subst (λ (z : Option RuleBreach). Answers (obeying z further) r) (sym e) t
 
-  pub disobeyed : (o : Option Breach) (e : VerifyFault) (r : Refused) → r ≡ refused_by e → Tells {A = Unit {0}} o (Err e) → Answers {A = A} (obeying o further) (Err r)
-  disobeyed o (broken.Rule b) r is t = rw is (ap (λ (z : Option Breach). obeying z further) t)
+  pub disobeyed : (o : Option RuleBreach) (e : VerifyFault) (r : Refused) → r ≡ refused_by e → Tells {A = Unit {0}} o (Err e) → Answers {A = A} (obeying o further) (Err r)
+  disobeyed o (broken.Rule b) r is t = rw is (ap (λ (z : Option RuleBreach). obeying z further) t)
   disobeyed o broken.NoMemory r is t = rw is tt
 
   pub kept : (o : Option Passed) (r : Result A Refused) → o ≡ None → Answers further r → Answers (keeping o further) r
@@ -55,8 +55,8 @@ module _ {A : Type 0} (further : Result A Refusal) where
   passed o refusals.NoMemory t = tt
 
 -- one rule and then another
-pub both_tell : (a b : Option Breach) (r : Result (Unit {0}) VerifyFault) → a ≡ None → Tells b r → Tells (or_else a b) r
-both_tell a b r e t = subst (λ (z : Option Breach). Tells (or_else z b) r) (sym e) t
+pub both_tell : (a b : Option RuleBreach) (r : Result (Unit {0}) VerifyFault) → a ≡ None → Tells b r → Tells (or_else a b) r
+both_tell a b r e t = subst (λ (z : Option RuleBreach). Tells (or_else z b) r) (sym e) t
 
 -- ---- the limit of classes
 
@@ -98,7 +98,7 @@ module _ (m : Module) (base : Interface) (is : List IdlInterface) (bs : List Bod
   rest_by (Ok cs) (Err e) = refl
   rest_by (Err e) block = refl
 
-  gate_by : (o : Option Breach) (p : Option Passed) (x : Result (List ClassDecl) Refusal) (y : Result AllBodies Refusal)
+  gate_by : (o : Option RuleBreach) (p : Option Passed) (x : Result (List ClassDecl) Refusal) (y : Result AllBodies Refusal)
       → (x >>= and_main) ≡ (y >>= λ w. Ok (finish w)) → (obeying o (keeping p x) >>= and_main) ≡ (obeying o (keeping p y) >>= λ w. Ok (finish w))
   gate_by (Some b) p x y e = refl
   gate_by None (Some q) x y e = refl
@@ -121,7 +121,7 @@ module _ (m : Module) (base : Interface) (is : List IdlInterface) (bs : List Bod
     whole_is : texts_breach m base is ≡ None → elaborated_whole m base is bs main ≡ (checked_steps (among_over m base is) m bs (drawn_over m base is) main >>= λ w. Ok (finish w))
     whole_is e =
         limited
-        ∙ ap (λ (z : Option Breach). obeying z (obeying (bodies_breach (classes_over m base is) (drawn_over m base is) bs)
+        ∙ ap (λ (z : Option RuleBreach). obeying z (obeying (bodies_breach (classes_over m base is) (drawn_over m base is) bs)
         (keeping (limit_passed (declarations m base is)) (elaborated_each (among_over m base is) m bs (drawn_over m base is)))) >>= and_main) e
         ∙ ap (λ (z : List ClassDecl). obeying (bodies_breach (classes_over m base is) (drawn_over m base is) bs)
         (keeping (limit_passed z) (elaborated_each (among_over m base is) m bs (drawn_over m base is))) >>= and_main) (sym (declared_over m base is))
@@ -142,7 +142,7 @@ module _ (m : Module) (base : Interface) (is : List IdlInterface) (bs : List Bod
   pub faces_refused : (e : Refused) → FacesTold m base is (Err e) → Answers {A = Whole} (elaborated_whole m base is bs main) (Err e)
   faces_refused (refusals.Rule b) t =
       limited t.0
-      ∙ ap (λ (z : Option Breach). obeying z (obeying (bodies_breach (classes_over m base is) (drawn_over m base is) bs)
+      ∙ ap (λ (z : Option RuleBreach). obeying z (obeying (bodies_breach (classes_over m base is) (drawn_over m base is) bs)
       (keeping (limit_passed (declarations m base is)) (elaborated_each (among_over m base is) m bs (drawn_over m base is)))) >>= and_main) t.1
   faces_refused (refusals.Limit q n) t =
       let p : classes_passed m is ≡ Some (record { quantity = q; number = n }) =

@@ -10,7 +10,7 @@ use Rattle.som_model.specs.Lists.{among, find, first, or_else}
 use Rattle.som_model.specs.Class.{Class, entry_of, introduced, introduced_sig}
 use Rattle.som_model.specs.Classes.{interface_classes}
 use Rattle.som_model.specs.Owner.{owner, sig_of}
-use Rattle.som_model.specs.Rules.{Breach}
+use Rattle.som_model.specs.Rules.{RuleBreach}
 use Rattle.som_idl.specs.declared.tree.IdlInterface.{IdlInterface}
 use Rattle.som_idl.specs.declared.tree.Export.{Export}
 use Rattle.som_idl.specs.declared.tree.Export.TheVariants as exports
@@ -84,20 +84,20 @@ stands_for cs b (Some d) = takes_as_many b (body_sig cs d b.method.text)
 abbrev pub drawn_named : List Drawn → List ℕ → Option Drawn
 drawn_named ds name = find (λ (d : Drawn). bytes_eq name d.class.face.name) ds
 
-abbrev pub text_s13 : List Class → List Drawn → BodyText → List Breach
+abbrev pub text_s13 : List Class → List Drawn → BodyText → List RuleBreach
 text_s13 cs ds b = if stands_for cs b (drawn_named ds b.class.text) then [] else record { rule = 13; class = b.class.text; member = b.method.text } ∷ []
 
 -- ---- S14: each operation, in the release order, and then each method that is overridden, in the order of the text, has exactly one body
 
-abbrev pub has_one : List BodyText → Drawn → List ℕ → List Breach
+abbrev pub has_one : List BodyText → Drawn → List ℕ → List RuleBreach
 has_one bs d name = text_demand 14 d name (length (texts_for bs d.class.face.name name) == 1)
 
-abbrev pub entry_has_one : List BodyText → Drawn → List ℕ → List Breach
+abbrev pub entry_has_one : List BodyText → Drawn → List ℕ → List RuleBreach
 entry_has_one bs d name = if among name (operations d.text) then has_one bs d name else []
 
-abbrev pub text_s14 : List BodyText → Drawn → List Breach
+abbrev pub text_s14 : List BodyText → Drawn → List RuleBreach
 text_s14 bs d = flat_map (entry_has_one bs d) (introduced d.class.face.entries) ++ flat_map (λ (o : Override). has_one bs d o.method.name) d.class.overrides
 
 -- the first breach of both
-abbrev pub bodies_breach : List Class → List Drawn → List BodyText → Option Breach
+abbrev pub bodies_breach : List Class → List Drawn → List BodyText → Option RuleBreach
 bodies_breach cs ds bs = or_else (first (flat_map (text_s13 cs ds) bs)) (first (flat_map (text_s14 bs) ds))

@@ -20,7 +20,7 @@ use Rattle.som_model.specs.Lists.{doubles, first}
 use Rattle.som_model.specs.Steps.{◌>>=◌}
 use Rattle.som_model.specs.Class.{Class, class_in}
 use Rattle.som_model.specs.Owner.{owner, sig_of}
-use Rattle.som_model.specs.Rules.{Breach}
+use Rattle.som_model.specs.Rules.{RuleBreach}
 use Rattle.som_model.specs.Typing.{in_body, in_main}
 use Rattle.som_read.specs.declared.tree.Word.{Word}
 use Rattle.som_idl.specs.declared.tree.IdlInterface.{IdlInterface}
@@ -43,7 +43,7 @@ use Rattle.som_elab.specs.Bodies.{bodies_breach, classes_over, drawn_over, texts
 
 -- a rule that they break, or a limit that they pass
 pub data Refusal : Type 0 where
-  Rule : Breach → Refusal
+  Rule : RuleBreach → Refusal
   Limit : Passed → Refusal
 
 abbrev pub too_many_locals : Passed
@@ -59,7 +59,7 @@ refused_at class member (Ok x) = Ok x
 refused_at class member (Err breach) = Err (refusal class member breach)
 
 -- where no rule is broken
-abbrev pub obeying : {A : Type 0} → Option Breach → Result A Refusal → Result A Refusal
+abbrev pub obeying : {A : Type 0} → Option RuleBreach → Result A Refusal → Result A Refusal
 obeying None further = further
 obeying (Some b) further = Err (Rule b)
 

@@ -10,7 +10,7 @@ use Rattle.som_model.specs.Lists.{Mem, first, or_else, some, among, place_from}
 use Rattle.som_model.specs.Keys.{same_key}
 use Rattle.som_model.specs.Class.{Class, class_in}
 use Rattle.som_model.specs.Classes.{class_at, greatest}
-use Rattle.som_model.specs.Rules.{Breach, name_of}
+use Rattle.som_model.specs.Rules.{RuleBreach, name_of}
 use Rattle.som_model.specs.Conforming.{each_after}
 use Rattle.som_model.proofs.KeyLaws.{exact_bytes, exact_keys}
 use Rattle.som_model.proofs.NamedLaws.{same_named}
@@ -38,7 +38,7 @@ both_empty [] ys e = (refl, e)
 both_empty (x ∷ xs) ys e = absurd (cc)
 
 -- a rule that looks at the classes before, at one class
-pub each_at : (rule : List Class → Class → List Breach) (before : List Class) (fs : List FirstClass) (i : ℕ) (c : FirstClass)
+pub each_at : (rule : List Class → Class → List RuleBreach) (before : List Class) (fs : List FirstClass) (i : ℕ) (c : FirstClass)
     → each_after rule before (classes_of fs) ≡ [] → slice_get fs i ≡ Some c → rule (before ++ classes_of (take i fs)) (class_of c) ≡ []
 each_at rule before [] i c e at = absurd (cc)
 each_at rule before (x ∷ fs) zero c e at =
@@ -50,7 +50,7 @@ each_at rule before (x ∷ fs) (suc i) c e at =
     ∙ each_at rule (before ++ class_of x ∷ []) fs i c (both_empty (rule before (class_of x)) _ e).1 at
 
 -- another rule, at one class
-pub flat_at : (rule : Class → List Breach) (fs : List FirstClass) (i : ℕ) (c : FirstClass) → flat_map rule (classes_of fs) ≡ [] → slice_get fs i ≡ Some c → rule (class_of c) ≡ []
+pub flat_at : (rule : Class → List RuleBreach) (fs : List FirstClass) (i : ℕ) (c : FirstClass) → flat_map rule (classes_of fs) ≡ [] → slice_get fs i ≡ Some c → rule (class_of c) ≡ []
 flat_at rule [] i c e at = absurd (cc)
 flat_at rule (x ∷ fs) zero c e at =
     let here : x ≡ c = cc in
@@ -66,7 +66,7 @@ some_last test (x ∷ xs) ys e = by (test x) (some_last test xs ys) e
     by true f e = absurd (true≢false e)
     by false f e = f e
 
-pub if_made : (b : Bool) (x : Breach) → (if b then [] else x ∷ []) ≡ [] → b ≡ true
+pub if_made : (b : Bool) (x : RuleBreach) → (if b then [] else x ∷ []) ≡ [] → b ≡ true
 if_made true x e = refl
 if_made false x e = absurd (cc)
 

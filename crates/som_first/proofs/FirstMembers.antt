@@ -14,7 +14,7 @@ use Rattle.som_model.specs.Class.{Class, entry_name, entry_of, introduced_sig}
 use Rattle.som_model.specs.Classes.{class_at, hierarchy, is_a}
 use Rattle.som_model.specs.Owner.{owner, introduces}
 use Rattle.som_model.specs.Implementation.{Held, User, OfKernel, held, declared_held, body_named, override_of}
-use Rattle.som_model.specs.Rules.{Breach, breach, demand_of, s6, s10, is_proper}
+use Rattle.som_model.specs.Rules.{RuleBreach, breach, demand_of, s6, s10, is_proper}
 use Rattle.som_model.proofs.KeyLaws.{Exact, exact_bytes, exact_keys, both}
 use Rattle.som_model.proofs.NamedLaws.{held_named, kernel_named}
 use Rattle.som_laws.proofs.Laws.{descends_test}
@@ -82,7 +82,7 @@ ref_slot (x ∷ os) zero o at = let here : x ≡ o = cc in ap (λ (z : FirstOver
 ref_slot (x ∷ os) (suc j) o at = ref_slot os j o at
 
 -- a copy of the steps of S10
-abbrev overrides_from : List Class → Class → List MethodRef → List Override → List Breach
+abbrev overrides_from : List Class → Class → List MethodRef → List Override → List RuleBreach
 overrides_from cs c before [] = []
 overrides_from cs c before (o ∷ os) =
     let r = owner cs o.method in

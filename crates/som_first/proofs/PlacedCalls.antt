@@ -10,7 +10,7 @@ use Rattle.som_model.specs.Class.{Class, class_in, bare, introduced_sig}
 use Rattle.som_model.specs.Kernel.{kernel}
 use Rattle.som_model.specs.Classes.{class_at, is_a, interface_classes}
 use Rattle.som_model.specs.Owner.{owner, sig_of}
-use Rattle.som_model.specs.Rules.{Breach, breach, name_of, s1}
+use Rattle.som_model.specs.Rules.{RuleBreach, breach, name_of, s1}
 use Rattle.som_model.specs.Conforming.{each_after}
 use Rattle.som_first.specs.declared.classes.FirstMethod.{FirstMethod}
 use Rattle.som_first.specs.declared.classes.FirstClass.{FirstClass}
@@ -60,7 +60,7 @@ once_faces : (before cs : List Class) → each_after s1 (map face_only before) (
 once_faces before [] = refl
 once_faces before (c ∷ cs) =
     ap (λ (l : List Class). s1 (map face_only before) (face_only c) ++ each_after s1 l (map face_only cs)) (sym (map-append face_only before (c ∷ [])))
-    ∙ ap (λ (b : List Breach). s1 (map face_only before) (face_only c) ++ b) (once_faces (before ++ c ∷ []) cs)
+    ∙ ap (λ (b : List RuleBreach). s1 (map face_only before) (face_only c) ++ b) (once_faces (before ++ c ∷ []) cs)
     ∙ ap (λ (names : List (List ℕ)). (if not (among (name_of c) names) then [] else breach 1 c (codes "-") ∷ []) ++ each_after s1 (before ++ c ∷ []) cs) (names_faces before)
 
 -- the classes and the method that a call names, by their places

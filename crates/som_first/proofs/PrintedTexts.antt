@@ -18,7 +18,7 @@ use Rattle.som_model.specs.Lists.{first}
 use Rattle.som_model.specs.Class.{Class}
 use Rattle.som_model.specs.Classes.{library_classes}
 use Rattle.som_model.specs.Owner.{owner, sig_of}
-use Rattle.som_model.specs.Rules.{Breach, breach}
+use Rattle.som_model.specs.Rules.{RuleBreach, breach}
 use Rattle.som_model.specs.Typing.{ClassFacts, CodePlace, Ruled, class_facts, in_body}
 use Rattle.som_model.specs.TypedBlocks.{Scope, block_scope, in_turn}
 use Rattle.som_model.specs.Conforming.{all_of_release, block_breach, bodies_typed, class_typed, override_typed}
@@ -43,11 +43,11 @@ text_scope w at t scope =
     ∙ ap (λ (s : Ruled Scope). s >>= in_turn []) (text_printed w at t scope)
 
 -- copies of what a body tells that breaks a rule
-abbrev body_told : Class → List ℕ → Ruled Scope → List Breach
+abbrev body_told : Class → List ℕ → Ruled Scope → List RuleBreach
 body_told c name (Ok scope) = []
 body_told c name (Err rule) = breach rule c name ∷ []
 
-abbrev override_told : List Class → Class → Override → Option Sig → List Breach
+abbrev override_told : List Class → Class → Override → Option Sig → List RuleBreach
 override_told cs c o None = []
 override_told cs c o (Some sig) = block_breach cs c o.method.name sig o.block
 
@@ -58,7 +58,7 @@ module _ (cs : List Class) where
   bodies_kept : (c : Class) (ms : List FirstMethod) → bodies_typed cs c (map plain_entry (map (λ m. m.name) ms)) (map body_of ms) ≡ []
   bodies_kept c [] = refl
   bodies_kept c (m ∷ ms) =
-      ap (λ (l : List Breach). l ++ bodies_typed cs c (map plain_entry (map (λ x. x.name) ms)) (map body_of ms)) (text_kept c m.name (record { result = types.Void; params = [] }) m.text)
+      ap (λ (l : List RuleBreach). l ++ bodies_typed cs c (map plain_entry (map (λ x. x.name) ms)) (map body_of ms)) (text_kept c m.name (record { result = types.Void; params = [] }) m.text)
       ∙ bodies_kept c ms
 
   override_kept : (c : Class) (o : FirstOverride) (sig : Option Sig) → override_told cs c (override_of o) sig ≡ []
@@ -68,15 +68,15 @@ module _ (cs : List Class) where
   overrides_kept : (c : Class) (os : List FirstOverride) → flat_map (override_typed cs c) (map override_of os) ≡ []
   overrides_kept c [] = refl
   overrides_kept c (o ∷ os) =
-      ap (λ (l : List Breach). l ++ flat_map (override_typed cs c) (map override_of os)) (override_kept c o (sig_of cs (owner cs ((override_of o).method)))) ∙ overrides_kept c os
+      ap (λ (l : List RuleBreach). l ++ flat_map (override_typed cs c) (map override_of os)) (override_kept c o (sig_of cs (owner cs ((override_of o).method)))) ∙ overrides_kept c os
 
   class_kept : (c : FirstClass) → class_typed cs (class_of c) ≡ []
   class_kept c =
-      ap (λ (l : List Breach). l ++ flat_map (override_typed cs (class_of c)) (map override_of c.overrides)) (bodies_kept (class_of c) c.methods) ∙ overrides_kept (class_of c) c.overrides
+      ap (λ (l : List RuleBreach). l ++ flat_map (override_typed cs (class_of c)) (map override_of c.overrides)) (bodies_kept (class_of c) c.methods) ∙ overrides_kept (class_of c) c.overrides
 
   classes_kept : (fs : List FirstClass) → flat_map (class_typed cs) (classes_of fs) ≡ []
   classes_kept [] = refl
-  classes_kept (c ∷ fs) = ap (λ (l : List Breach). l ++ flat_map (class_typed cs) (classes_of fs)) (class_kept c) ∙ classes_kept fs
+  classes_kept (c ∷ fs) = ap (λ (l : List RuleBreach). l ++ flat_map (class_typed cs) (classes_of fs)) (class_kept c) ∙ classes_kept fs
 
 -- no body of a first release breaks a rule
 pub release_kept : (r : FirstRelease) → first (flat_map (class_typed (all_of_release (release_of r))) (library_classes (release_of r))) ≡ None

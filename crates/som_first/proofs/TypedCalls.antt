@@ -12,7 +12,7 @@ use Rattle.som_model.specs.Steps.{◌>>=◌}
 use Rattle.som_model.specs.Class.{Class}
 use Rattle.som_model.specs.Classes.{class_at, is_a}
 use Rattle.som_model.specs.Owner.{owner, sig_of}
-use Rattle.som_model.specs.Rules.{Breach}
+use Rattle.som_model.specs.Rules.{RuleBreach}
 use Rattle.som_model.specs.Typing.{ClassFacts, Of, Ruled, Typed, needs, there, value, all_fit, class_facts, in_main, offset_call_type}
 use Rattle.som_model.specs.TypedBlocks.{Scope, in_turn, stmt_scope}
 use Rattle.som_model.specs.Conforming.{main_typed}
@@ -138,11 +138,11 @@ all_typed cs (c ∷ calls) scope after e = by (comes cs c scope) refl (ap (λ (s
     by (Err rule) is goes more = absurd (err_ok rule after goes)
 
 -- a copy of what main tells that breaks a rule
-abbrev main_told : Ruled Scope → List Breach
+abbrev main_told : Ruled Scope → List RuleBreach
 main_told (Ok scope) = []
 main_told (Err rule) = record { rule = rule; class = codes "main"; member = codes "-" } ∷ []
 
-some_none : (b : Breach) → Some b ≡ None → ⊥
+some_none : (b : RuleBreach) → Some b ≡ None → ⊥
 some_none b e = cc
 
 -- a main of calls that are well typed breaks no rule

@@ -15,7 +15,7 @@ use Rattle.som_model.specs.Lists.{some, among, doubles, first, or_else}
 use Rattle.som_model.specs.Class.{Class, class_in, entry_name, interface_of}
 use Rattle.som_model.specs.Kernel.{kernel}
 use Rattle.som_model.specs.Classes.{library_classes}
-use Rattle.som_model.specs.Rules.{Breach, name_of, breach, s1, s6}
+use Rattle.som_model.specs.Rules.{RuleBreach, name_of, breach, s1, s6}
 use Rattle.som_model.specs.Conforming.{each_after, ReleaseOk}
 use Rattle.som_naming.specs.Numbering.{Differ}
 use Rattle.som_libimage.specs.Libraries.{NamesDiffer}
@@ -39,7 +39,7 @@ none_mapped f [] h = refl
 none_mapped f (x ∷ xs) h = absurd cc
 
 -- a demand that isn't broken
-pub not_broken : (b : Bool) (x : Breach) → (if not b then [] else x ∷ []) ≡ [] → b ≡ false
+pub not_broken : (b : Bool) (x : RuleBreach) → (if not b then [] else x ∷ []) ≡ [] → b ≡ false
 not_broken false x h = refl
 not_broken true x h = absurd cc
 

@@ -28,7 +28,7 @@ use Rattle.som_model.specs.Keys.{same_key, same_method}
 use Rattle.som_model.specs.Class.{Class, class_in, entry_name, entry_of, introduced}
 use Rattle.som_model.specs.Classes.{class_at, hierarchy}
 use Rattle.som_model.specs.Owner.{entry_at, introduces, owner, owner_within, sig_of}
-use Rattle.som_model.specs.Rules.{Breach, name_of, breach, demand, demand_of, is_known, is_value_type, is_proper, body_fits, s1, s2, s5, s9, s10, s14}
+use Rattle.som_model.specs.Rules.{RuleBreach, name_of, breach, demand, demand_of, is_known, is_value_type, is_proper, body_fits, s1, s2, s5, s9, s10, s14}
 use Rattle.som_model.specs.Typing.{Ruled, CodePlace, class_facts, in_body}
 use Rattle.som_model.specs.TypedBlocks.{Scope, block_scope}
 use Rattle.som_model.specs.Conforming.{each_after, block_breach, bodies_typed, override_typed, class_typed}
@@ -48,7 +48,7 @@ use Rattle.som_libimage.proofs.NumberedParts.{ClassReady}
 
 -- ---- demands that hold
 
-abbrev nothing : List Breach
+abbrev nothing : List RuleBreach
 nothing = []
 
 demanded : (rule : ℕ) (c : Class) (b : Bool) → demand rule c b ≡ [] → b ≡ true
@@ -59,7 +59,7 @@ demanded_of : (rule : ℕ) (c : Class) (member : List ℕ) (b : Bool) → demand
 demanded_of rule c member true h = refl
 demanded_of rule c member false h = absurd cc
 
-flat_none : {A : Type 0} (rule : A → List Breach) (xs : List A) → flat_map rule xs ≡ [] → AllByRecursion (λ x. rule x ≡ []) xs
+flat_none : {A : Type 0} (rule : A → List RuleBreach) (xs : List A) → flat_map rule xs ≡ [] → AllByRecursion (λ x. rule x ≡ []) xs
 flat_none rule [] h = tt
 flat_none rule (x ∷ xs) h =
     let b = both_empty (rule x) (flat_map rule xs) (sym (flat_map-cons rule x xs) ∙ h) in
@@ -129,13 +129,13 @@ module _ (cs : List Class) where
   value_known (values.Class k) h = known_mem cs k h
 
   -- what the rule on types tells of an entry
-  abbrev pub types_told : Class → Entry → List Breach
+  abbrev pub types_told : Class → Entry → List RuleBreach
   types_told c (entries.Introduced name sig way) = demand_of 5 c name (is_known cs sig.result && every (is_value_type cs) sig.params)
   types_told c (entries.Moved name to) = []
 
   -- among these classes and maybe more, where an ancestor that introduces the name of a moved entry is one of these
   module _ (all : List Class) (c : Class) (ancestor : (to : ClassKey) (name : List ℕ) → is_proper all c to ≡ true → introduces all name to ≡ true → Mem to ks) where
-    abbrev moves_told : Entry → List Breach
+    abbrev moves_told : Entry → List RuleBreach
     moves_told (entries.Introduced name sig way) = []
     moves_told (entries.Moved name to) = demand_of 9 c name (is_proper all c to && introduces all name to)
 
@@ -179,7 +179,7 @@ module _ (cs : List Class) where
 
   -- ---- overrides
 
-  abbrev overrides_told : Class → List MethodRef → List Override → List Breach
+  abbrev overrides_told : Class → List MethodRef → List Override → List RuleBreach
   overrides_told c before [] = []
   overrides_told c before (o ∷ os) =
       let r = owner cs o.method in
@@ -189,7 +189,7 @@ module _ (cs : List Class) where
   module _ (d : Directory) (tells : Tells d cs) where
     -- ---- blocks
 
-    abbrev typed_told : Class → List ℕ → Ruled Scope → List Breach
+    abbrev typed_told : Class → List ℕ → Ruled Scope → List RuleBreach
     typed_told c name (Ok scope) = []
     typed_told c name (Err rule) = breach rule c name ∷ []
 
@@ -202,7 +202,7 @@ module _ (cs : List Class) where
         let t = typed c name (block_scope (class_facts cs) at b scope) h in
         typed_is_ready (class_facts cs) d (covers cs d tells) at scope t.0 b within t.1
 
-    abbrev override_told : Class → Override → Option Sig → List Breach
+    abbrev override_told : Class → Override → Option Sig → List RuleBreach
     override_told c o None = []
     override_told c o (Some sig) = block_breach cs c o.method.name sig o.block
 
@@ -259,7 +259,7 @@ body_byte vs sig (bodies.User b) few h = tt
 body_byte vs sig (bodies.Get n) few h = let k = get_below vs sig n (slice_get (kinds vs) n) refl h in omega (arith, k, few)
 body_byte vs sig (bodies.Set n) few h = let k = set_below vs sig n (slice_get (kinds vs) n) refl h in omega (arith, k, few)
 
-abbrev bodies_told : Class → List Entry → List Body → List Breach
+abbrev bodies_told : Class → List Entry → List Body → List RuleBreach
 bodies_told c [] bs = []
 bodies_told c (entries.Moved name to ∷ es) bs = bodies_told c es bs
 bodies_told c (entries.Introduced name sig way ∷ es) [] = []

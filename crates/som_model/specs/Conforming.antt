@@ -14,17 +14,17 @@ use Rattle.som_model.specs.Class.{Class}
 use Rattle.som_model.specs.Kernel.{kernel}
 use Rattle.som_model.specs.Classes.{library_classes, interface_classes, client_classes}
 use Rattle.som_model.specs.Owner.{owner, sig_of}
-use Rattle.som_model.specs.Rules.{Breach, breach, s1, s2, s3, s4, s5, s6, s7, s8, s9, s10, s14}
+use Rattle.som_model.specs.Rules.{RuleBreach, breach, s1, s2, s3, s4, s5, s6, s7, s8, s9, s10, s14}
 use Rattle.som_model.specs.Typing.{Ruled, class_facts, in_body, in_main}
 use Rattle.som_model.specs.TypedBlocks.{Scope, block_scope}
 
 -- what breaks a rule that looks at the classes before each class
-abbrev pub each_after : (List Class → Class → List Breach) → List Class → List Class → List Breach
+abbrev pub each_after : (List Class → Class → List RuleBreach) → List Class → List Class → List RuleBreach
 each_after rule before [] = []
 each_after rule before (c ∷ cs) = rule before c ++ each_after rule (before ++ c ∷ []) cs
 
 -- the lowest rule from S1 to S4 that is broken, of these classes after those before them: its first class, and there the first member
-abbrev pub first_of_names : List Class → List Class → Option Breach
+abbrev pub first_of_names : List Class → List Class → Option RuleBreach
 first_of_names before cs =
     or_else (first (each_after s1 before cs))
     (or_else (first (each_after s2 before cs))
@@ -32,7 +32,7 @@ first_of_names before cs =
     (first (flat_map (s4 (before ++ cs)) cs))))
 
 -- the same for S6 to S10
-abbrev pub first_of_members : List Class → List Class → Option Breach
+abbrev pub first_of_members : List Class → List Class → Option RuleBreach
 first_of_members before cs =
     or_else (first (flat_map s6 cs))
     (or_else (first (flat_map s7 cs))
@@ -41,7 +41,7 @@ first_of_members before cs =
     (first (flat_map (s10 (before ++ cs)) cs)))))
 
 -- the first breach of the rules of a release that look into no block
-abbrev pub declared_breach : Release → Option Breach
+abbrev pub declared_breach : Release → Option RuleBreach
 declared_breach r = let cs = library_classes r in
     or_else (first_of_names kernel cs)
     (or_else (first (flat_map (s5 (kernel ++ cs)) cs))
@@ -49,7 +49,7 @@ declared_breach r = let cs = library_classes r in
     (first (flat_map s14 cs))))
 
 -- the same of a client program: the faces that it was compiled against come first, and their types name no class of the client
-abbrev pub declared_program_breach : ClientProgram → Option Breach
+abbrev pub declared_program_breach : ClientProgram → Option RuleBreach
 declared_program_breach p = let base = interface_classes p.base in let own = client_classes p in
     or_else (first_of_names kernel (base ++ own))
     (or_else (first (flat_map (s5 (kernel ++ base)) base ++ flat_map (s5 (kernel ++ base ++ own)) own))
@@ -59,16 +59,16 @@ declared_program_breach p = let base = interface_classes p.base in let own = cli
 -- ---- S16 to S20, body by body: in images nothing can break S15
 
 -- a method's body that breaks a rule
-abbrev body_breach : Class → List ℕ → Ruled Scope → List Breach
+abbrev body_breach : Class → List ℕ → Ruled Scope → List RuleBreach
 body_breach c name (Ok scope) = []
 body_breach c name (Err rule) = breach rule c name ∷ []
 
 -- what the body of a method breaks, where its parameters are in scope
-abbrev pub block_breach : List Class → Class → List ℕ → Sig → Block → List Breach
+abbrev pub block_breach : List Class → Class → List ℕ → Sig → Block → List RuleBreach
 block_breach cs c name sig block = body_breach c name (block_scope (class_facts cs) (in_body c sig.result) block sig.params)
 
 -- the bodies of introduced entries, in order
-abbrev pub bodies_typed : List Class → Class → List Entry → List Body → List Breach
+abbrev pub bodies_typed : List Class → Class → List Entry → List Body → List RuleBreach
 bodies_typed cs c [] bs = []
 bodies_typed cs c (entries.Moved name to ∷ es) bs = bodies_typed cs c es bs
 bodies_typed cs c (entries.Introduced name sig way ∷ es) [] = []
@@ -76,25 +76,25 @@ bodies_typed cs c (entries.Introduced name sig way ∷ es) (bodies.User block �
 bodies_typed cs c (entries.Introduced name sig way ∷ es) (bodies.Get n ∷ bs) = bodies_typed cs c es bs
 bodies_typed cs c (entries.Introduced name sig way ∷ es) (bodies.Set n ∷ bs) = bodies_typed cs c es bs
 
-abbrev override_breach : List Class → Class → Override → Option Sig → List Breach
+abbrev override_breach : List Class → Class → Override → Option Sig → List RuleBreach
 override_breach cs c o None = []
 override_breach cs c o (Some sig) = block_breach cs c o.method.name sig o.block
 
 -- an override has the signature of the method that it replaces
-abbrev pub override_typed : List Class → Class → Override → List Breach
+abbrev pub override_typed : List Class → Class → Override → List RuleBreach
 override_typed cs c o = override_breach cs c o (sig_of cs (owner cs o.method))
 
 -- what the bodies of a class break, among all these classes
-abbrev pub class_typed : List Class → Class → List Breach
+abbrev pub class_typed : List Class → Class → List RuleBreach
 class_typed cs c = bodies_typed cs c c.decl.face.entries c.decl.bodies ++ flat_map (override_typed cs c) c.decl.overrides
 
 -- main that breaks a rule
-abbrev main_breach : Ruled Scope → List Breach
+abbrev main_breach : Ruled Scope → List RuleBreach
 main_breach (Ok scope) = []
 main_breach (Err rule) = record { rule = rule; class = codes "main"; member = codes "-" } ∷ []
 
 -- what main breaks
-abbrev pub main_typed : List Class → Block → List Breach
+abbrev pub main_typed : List Class → Block → List RuleBreach
 main_typed cs main = main_breach (block_scope (class_facts cs) in_main main [])
 
 -- all classes of a release and of a client program, the kernel's among them
@@ -107,11 +107,11 @@ all_of_program p = kernel ++ interface_classes p.base ++ client_classes p
 -- ---- all rules
 
 -- the first breach of a release
-abbrev pub release_breach : Release → Option Breach
+abbrev pub release_breach : Release → Option RuleBreach
 release_breach r = or_else (declared_breach r) (first (flat_map (class_typed (all_of_release r)) (library_classes r)))
 
 -- the first breach of a client program; main comes last
-abbrev pub program_breach : ClientProgram → Option Breach
+abbrev pub program_breach : ClientProgram → Option RuleBreach
 program_breach p = or_else (declared_program_breach p) (first (flat_map (class_typed (all_of_program p)) (client_classes p) ++ main_typed (all_of_program p) p.main))
 
 -- a release conforms where it breaks no rule

@@ -22,7 +22,7 @@ use Rattle.som_model.specs.Classes.{class_at, ancestors, is_a}
 use Rattle.som_model.specs.Owner.{owner, introduces}
 
 -- a rule that is broken, the class, and the member or `-`
-pub record Breach : Type 0 where
+pub record RuleBreach : Type 0 where
   pub rule : ℕ
   pub class : List ℕ
   pub member : List ℕ
@@ -30,31 +30,31 @@ pub record Breach : Type 0 where
 abbrev pub name_of : Class → List ℕ
 name_of c = c.decl.face.name
 
-abbrev pub breach : ℕ → Class → List ℕ → Breach
+abbrev pub breach : ℕ → Class → List ℕ → RuleBreach
 breach rule c member = record { rule = rule; class = name_of c; member = member }
 
 -- a breach of the class as a whole, unless the demand holds
-abbrev pub demand : ℕ → Class → Bool → List Breach
+abbrev pub demand : ℕ → Class → Bool → List RuleBreach
 demand rule c holds = if holds then [] else breach rule c (codes "-") ∷ []
 
 -- a breach of a member, unless the demand holds
-abbrev pub demand_of : ℕ → Class → List ℕ → Bool → List Breach
+abbrev pub demand_of : ℕ → Class → List ℕ → Bool → List RuleBreach
 demand_of rule c member holds = if holds then [] else breach rule c member ∷ []
 
 -- S1: the name of a class differs from those of all classes before it, the kernel's first
-abbrev pub s1 : List Class → Class → List Breach
+abbrev pub s1 : List Class → Class → List RuleBreach
 s1 before c = demand 1 c (not (among (name_of c) (map name_of before)))
 
 -- S2: each parent and the metaclass is a kernel class or stands before the class
-abbrev pub s2 : List Class → Class → List Breach
+abbrev pub s2 : List Class → Class → List RuleBreach
 s2 before c = demand 2 c (every (λ k. is_some (class_at before k)) (c.decl.face.parents ++ option_list c.decl.face.metaclass))
 
 -- S3: no parent stands twice
-abbrev pub s3 : Class → List Breach
+abbrev pub s3 : Class → List RuleBreach
 s3 c = map (λ k. breach 3 c (codes "-")) (doubles same_key [] c.decl.face.parents)
 
 -- S4: the metaclass descends from SOMClass
-abbrev pub s4 : List Class → Class → List Breach
+abbrev pub s4 : List Class → Class → List RuleBreach
 s4 cs c = demand 4 c (every (λ k. is_a cs k som_class) (option_list c.decl.face.metaclass))
 
 -- a type names a class that is known
@@ -71,19 +71,19 @@ abbrev pub is_value_type : List Class → ValueType → Bool
 is_value_type known t = not (is_void t) && is_known known t
 
 -- S5: each type of a signature or variable names a class that is known, and only a result is void
-abbrev s5_entry : List Class → Class → Entry → List Breach
+abbrev s5_entry : List Class → Class → Entry → List RuleBreach
 s5_entry known c (entries.Introduced name sig way) = demand_of 5 c name (is_known known sig.result && every (is_value_type known) sig.params)
 s5_entry known c (entries.Moved name to) = []
 
-abbrev pub s5 : List Class → Class → List Breach
+abbrev pub s5 : List Class → Class → List RuleBreach
 s5 known c = flat_map (s5_entry known c) c.decl.face.entries ++ flat_map (λ v. demand_of 5 c v.name (is_value_type known v.kind)) c.decl.variables
 
 -- S6: the names of the release order are distinct
-abbrev pub s6 : Class → List Breach
+abbrev pub s6 : Class → List RuleBreach
 s6 c = map (breach 6 c) (doubles bytes_eq [] (map entry_name c.decl.face.entries))
 
 -- S7: the names of the variables are distinct
-abbrev pub s7 : Class → List Breach
+abbrev pub s7 : Class → List RuleBreach
 s7 c = map (breach 7 c) (doubles bytes_eq [] (map (λ v. v.name) c.decl.variables))
 
 abbrev introduced_in : Option Class → List (List ℕ)
@@ -95,7 +95,7 @@ abbrev pub introduced_by : List Class → ClassKey → List (List ℕ)
 introduced_by cs k = introduced_in (class_at cs k)
 
 -- S8: each name is introduced by at most one class of the ancestors
-abbrev pub s8 : List Class → Class → List Breach
+abbrev pub s8 : List Class → Class → List RuleBreach
 s8 cs c = map (breach 8 c) (doubles bytes_eq [] (flat_map (introduced_by cs) (ancestors cs c.key)))
 
 -- whether a is a proper ancestor of a class
@@ -103,22 +103,22 @@ abbrev pub is_proper : List Class → Class → ClassKey → Bool
 is_proper cs c a = not (same_key a c.key) && is_a cs c.key a
 
 -- S9: each moved entry names a proper ancestor that introduces its name
-abbrev s9_entry : List Class → Class → Entry → List Breach
+abbrev s9_entry : List Class → Class → Entry → List RuleBreach
 s9_entry cs c (entries.Introduced name sig way) = []
 s9_entry cs c (entries.Moved name to) = demand_of 9 c name (is_proper cs c to && introduces cs name to)
 
-abbrev pub s9 : List Class → Class → List Breach
+abbrev pub s9 : List Class → Class → List RuleBreach
 s9 cs c = flat_map (s9_entry cs c) c.decl.face.entries
 
 -- S10: each override is of a method that a proper ancestor introduces, and none is overridden twice; methods go by their owners
-abbrev s10_from : List Class → Class → List MethodRef → List Override → List Breach
+abbrev s10_from : List Class → Class → List MethodRef → List Override → List RuleBreach
 s10_from cs c before [] = []
 s10_from cs c before (o ∷ os) =
     let r = owner cs o.method in
     demand_of 10 c o.method.name (is_proper cs c r.class && introduces cs r.name r.class && not (some (same_method r) before))
     ++ s10_from cs c (before ++ r ∷ []) os
 
-abbrev pub s10 : List Class → Class → List Breach
+abbrev pub s10 : List Class → Class → List RuleBreach
 s10 cs c = s10_from cs c [] c.decl.overrides
 
 abbrev is_kind : Option ValueType → ValueType → Bool
@@ -139,12 +139,12 @@ body_fits vs sig (bodies.User block) = true
 body_fits vs sig (bodies.Get n) = is_kind (slice_get (map (λ v. v.kind) vs) n) sig.result && is_empty sig.params
 body_fits vs sig (bodies.Set n) = is_void sig.result && (elim (slice_get (map (λ v. v.kind) vs) n) [ None ↦ false | Some kind ↦ is_one sig.params kind ])
 
-abbrev s14_from : Class → List Entry → List Body → List Breach
+abbrev s14_from : Class → List Entry → List Body → List RuleBreach
 s14_from c [] bs = []
 s14_from c (entries.Moved name to ∷ es) bs = s14_from c es bs
 s14_from c (entries.Introduced name sig way ∷ es) [] = []
 s14_from c (entries.Introduced name sig way ∷ es) (b ∷ bs) = demand_of 14 c name (body_fits c.decl.variables sig b) ++ s14_from c es bs
 
 -- S14: there are as many bodies as introduced entries, and each fits its signature
-abbrev pub s14 : Class → List Breach
+abbrev pub s14 : Class → List RuleBreach
 s14 c = demand 14 c (length c.decl.bodies == length (introduced c.decl.face.entries)) ++ s14_from c c.decl.face.entries c.decl.bodies

@@ -48,7 +48,7 @@ pub data UnaryOp : Type 0 where
 
 pub data BinaryOp : Type 0 where
   Plus : BinaryOp
-  Less : BinaryOp
+  Subtract : BinaryOp
   Times : BinaryOp
   Divided : BinaryOp
   Remainder : BinaryOp
@@ -67,7 +67,7 @@ abbrev pub unary_op : ℕ → UnaryOp
 unary_op n = get_or (Minus ∷ Not ∷ Length ∷ []) n TextOf
 
 abbrev pub binary_op : ℕ → BinaryOp
-binary_op n = get_or (Plus ∷ Less ∷ Times ∷ Divided ∷ Remainder ∷ Equal ∷ Unequal ∷ Below ∷ AtMost ∷ Above ∷ AtLeast ∷ And ∷ Or ∷ []) n Join
+binary_op n = get_or (Plus ∷ Subtract ∷ Times ∷ Divided ∷ Remainder ∷ Equal ∷ Unequal ∷ Below ∷ AtMost ∷ Above ∷ AtLeast ∷ And ∷ Or ∷ []) n Join
 
 -- an operator of one operand
 abbrev pub unary : UnaryOp → Value → Tried Value
@@ -80,7 +80,7 @@ unary _ v = Ok v
 -- an operator on longs
 abbrev on_longs : BinaryOp → ℤ → ℤ → Tried Value
 on_longs Plus a b = long (a +ℤ b)
-on_longs Less a b = long (a -ℤ b)
+on_longs Subtract a b = long (a -ℤ b)
 on_longs Times a b = long (a *ℤ b)
 on_longs Divided a b = if is_zero b then Err faults.DivideByZero else long (int_div a b)
 on_longs Remainder a b = if is_zero b then Err faults.DivideByZero else Ok (Long (int_rem a b))
@@ -104,7 +104,7 @@ number_of (Long z) = z
 number_of _ = pos 0
 
 -- what the host's procedures answer
-abbrev host_number : HostCode → ℤ → ℤ → ℤ
+abbrev pub host_number : HostCode → ℤ → ℤ → ℤ
 host_number codes_of.Min a b = int_min a b
 host_number codes_of.Max a b = int_max a b
 host_number codes_of.And a b = int_bit_and w32 a b

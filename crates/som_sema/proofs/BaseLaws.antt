@@ -9,7 +9,7 @@ use Rattle.som_model.specs.Classes.{class_at, hierarchy, is_a, parents_by, paren
 use Rattle.som_model.specs.Conforming.{each_after, first_of_members, first_of_names}
 use Rattle.som_model.specs.Kernel.{kernel}
 use Rattle.som_model.specs.Owner.{introduces}
-use Rattle.som_model.specs.Rules.{Breach, s1, s2, s3, s4, s5, s6, s7, s8, s9, s10}
+use Rattle.som_model.specs.Rules.{RuleBreach, s1, s2, s3, s4, s5, s6, s7, s8, s9, s10}
 use Rattle.som_model.specs.declared.key.ClassKey.{ClassKey, out-ClassKey}
 use Rattle.som_model.specs.declared.key.ClassKey.TheOpen.{ClassKey-F}
 use Rattle.som_model.specs.declared.class.Entry.{Entry}
@@ -26,7 +26,7 @@ use Rattle.som_verify.proofs.PlainLists.{each_says, none_flat, says_each}
 use Rattle.som_verify.proofs.PlainMembers.{both_true, demand_of_none}
 
 -- a rule that looks at the classes before each, at two lists
-pub each_both : (rule : List Class → Class → List Breach) (k xs ys : List Class) → each_after rule k (xs ++ ys) ≡ each_after rule k xs ++ each_after rule (k ++ xs) ys
+pub each_both : (rule : List Class → Class → List RuleBreach) (k xs ys : List Class) → each_after rule k (xs ++ ys) ≡ each_after rule k xs ++ each_after rule (k ++ xs) ys
 each_both rule k [] ys = ap (λ z. each_after rule z ys) (nil k)
   where
     nil : (k : List Class) → k ≡ k ++ []
@@ -41,7 +41,7 @@ first_after [] ys e = refl
 first_after (x ∷ xs) ys e = absurd (cc)
 
 -- where the first classes break no such rule, the first breach is that of the others
-pub own_first : (rule : List Class → Class → List Breach) (k xs ys : List Class) → first (each_after rule k xs) ≡ None → first (each_after rule k (xs ++ ys)) ≡ first (each_after rule (k ++ xs) ys)
+pub own_first : (rule : List Class → Class → List RuleBreach) (k xs ys : List Class) → first (each_after rule k xs) ≡ None → first (each_after rule k (xs ++ ys)) ≡ first (each_after rule (k ++ xs) ys)
 own_first rule k xs ys e = ap first (each_both rule k xs ys) ∙ first_after (each_after rule k xs) (each_after rule (k ++ xs) ys) e
 
 -- rules that a base keeps

@@ -6,7 +6,7 @@ use Rattle.som_model.specs.Class.{Class, class_in}
 use Rattle.som_model.specs.Classes.{hierarchy}
 use Rattle.som_model.specs.Conforming.{each_after}
 use Rattle.som_model.specs.Kernel.{kernel}
-use Rattle.som_model.specs.Rules.{Breach, s1, s2, s5, s9}
+use Rattle.som_model.specs.Rules.{RuleBreach, s1, s2, s5, s9}
 use Rattle.som_model.specs.declared.key.Module.{Module}
 use Rattle.som_order.specs.Names.{texts}
 use Rattle.som_verify.specs.declared.types.Declared.{Declared}
@@ -79,7 +79,7 @@ all_stand home m ds n draws conforms are own e =
     ∙ texts_stand home m (with_kernel (classes_of ds)) (with_kernel bs) draws (length (with_kernel bs)) are.by refl all e
 
 -- rules that look at each class alone
-pub own_tell : (rule : Class → List Breach) (ds asked : List Declared) (n : ℕ) (r : Result (Unit {0}) VerifyFault) → asked ≡ drop n ds
+pub own_tell : (rule : Class → List RuleBreach) (ds asked : List Declared) (n : ℕ) (r : Result (Unit {0}) VerifyFault) → asked ≡ drop n ds
     → Tells (first (flat_map rule (classes_of asked))) r → Tells (first (flat_map rule (classes_of (drop n ds)))) r
 own_tell rule ds asked n r e t = subst (λ (z : List Declared). Tells (first (flat_map rule (classes_of z))) r) e t
 

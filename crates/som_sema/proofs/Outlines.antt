@@ -12,7 +12,7 @@ use Rattle.som_model.specs.Ancestors.{descends}
 use Rattle.som_model.specs.Class.{Class, bare}
 use Rattle.som_model.specs.Classes.{class_at, parents_in, parents_by, parents_of, height_step, hierarchy, is_a}
 use Rattle.som_model.specs.Conforming.{each_after}
-use Rattle.som_model.specs.Rules.{Breach, demand, name_of, s1, s2, s3}
+use Rattle.som_model.specs.Rules.{RuleBreach, demand, name_of, s1, s2, s3}
 
 -- a class of which its name, its parents and its metaclass are left
 abbrev pub outline : Class → Class
@@ -71,7 +71,7 @@ outline_more : (before : List Class) (c : Class) → map outline before ++ outli
 outline_more [] c = refl
 outline_more (x ∷ before) c = ap (λ z. outline x ∷ z) (outline_more before c)
 
-each_outline : (rule : List Class → Class → List Breach) → ((before : List Class) (c : Class) → rule (map outline before) (outline c) ≡ rule before c)
+each_outline : (rule : List Class → Class → List RuleBreach) → ((before : List Class) (c : Class) → rule (map outline before) (outline c) ≡ rule before c)
     → (before cs : List Class) → each_after rule (map outline before) (map outline cs) ≡ each_after rule before cs
 each_outline rule same before [] = refl
 each_outline rule same before (c ∷ cs) =

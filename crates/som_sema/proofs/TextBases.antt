@@ -4,7 +4,7 @@ use Rattle.som_model.specs.Lists.{Mem, every, first, option_list, or_else}
 use Rattle.som_model.specs.Class.{Class, class_in}
 use Rattle.som_model.specs.Classes.{class_at}
 use Rattle.som_model.specs.Conforming.{each_after}
-use Rattle.som_model.specs.Rules.{Breach, s2}
+use Rattle.som_model.specs.Rules.{RuleBreach, s2}
 use Rattle.som_model.specs.declared.key.Module.{Module}
 use Rattle.som_model.specs.declared.key.ClassKey.{ClassKey}
 use Rattle.som_laws.proofs.Members.{mem_left, mem_right, mem_split}
@@ -91,14 +91,14 @@ next_bases home cs (x ∷ ds) (suc i) place d lt = let e : suc i + 1 ≡ suc (i 
 none_first : {A : Type 0} (o r : Option A) → o ≡ None → or_else o r ≡ r
 none_first o r e = rw e refl
 
-pub bases_more : (home : List ℕ → Module) (cs : List Class) (ds : List Drawing) (i place : ℕ) (d : Drawing) (whole : Option Breach) → i < length ds → d ≡ slice_index_or ds i d
+pub bases_more : (home : List ℕ → Module) (cs : List Class) (ds : List Drawing) (i place : ℕ) (d : Drawing) (whole : Option RuleBreach) → i < length ds → d ≡ slice_index_or ds i d
     → first (text_s2 home (take place cs) (seen d)) ≡ None
     → first (text_s2_from home cs place (drawings (drop i ds))) ≡ whole → first (text_s2_from home cs (place + 1) (drawings (drop (i + 1) ds))) ≡ whole
 bases_more home cs ds i place d whole lt is none same =
     let here : first (text_s2 home (take place cs) (seen (slice_index_or ds i d))) ≡ None = subst (λ (z : Drawing). first (text_s2 home (take place cs) (seen z)) ≡ None) is none in
     sym (none_first _ _ here) ∙ sym (next_bases home cs ds i place d lt) ∙ same
 
-pub bases_stop : (home : List ℕ → Module) (cs : List Class) (ds : List Drawing) (i place : ℕ) (d : Drawing) (whole : Option Breach) (e : VerifyFault) → i < length ds → d ≡ slice_index_or ds i d
+pub bases_stop : (home : List ℕ → Module) (cs : List Class) (ds : List Drawing) (i place : ℕ) (d : Drawing) (whole : Option RuleBreach) (e : VerifyFault) → i < length ds → d ≡ slice_index_or ds i d
     → Tells {A = Unit {0}} (first (text_s2 home (take place cs) (seen d))) (Err e)
     → first (text_s2_from home cs place (drawings (drop i ds))) ≡ whole → Tells {A = Unit {0}} whole (Err e)
 bases_stop home cs ds i place d whole e lt is t same =

@@ -11,7 +11,7 @@ use Rattle.som_model.specs.Class.{Class, bare, class_in}
 use Rattle.som_model.specs.Classes.{hierarchy, interface_classes}
 use Rattle.som_model.specs.Conforming.{each_after, first_of_members, first_of_names}
 use Rattle.som_model.specs.Kernel.{kernel}
-use Rattle.som_model.specs.Rules.{Breach, s1, s2, s3, s4, s5, s6, s7, s8, s9, s10}
+use Rattle.som_model.specs.Rules.{RuleBreach, s1, s2, s3, s4, s5, s6, s7, s8, s9, s10}
 use Rattle.som_idl.specs.declared.tree.IdlInterface.{IdlInterface}
 use Rattle.som_laws.proofs.Members.{mem_right, mem_split}
 use Rattle.som_verify.specs.Faces.{classes_breach, faces_breach}
@@ -49,7 +49,7 @@ drop_front [] ys = refl
 drop_front (x ∷ xs) ys = drop_front xs ys
 
 -- a rule of the first classes and of those after them
-join_none : (rule : Class → List Breach) (xs ys : List Class) → first (flat_map rule xs) ≡ None → first (flat_map rule ys) ≡ None → first (flat_map rule (xs ++ ys)) ≡ None
+join_none : (rule : Class → List RuleBreach) (xs ys : List Class) → first (flat_map rule xs) ≡ None → first (flat_map rule ys) ≡ None → first (flat_map rule (xs ++ ys)) ≡ None
 join_none rule xs ys e f = ap first (flat_both xs) ∙ both_none (flat_map rule xs) (flat_map rule ys) e f
   where
     flat_both : (xs : List Class) → flat_map rule (xs ++ ys) ≡ flat_map rule xs ++ flat_map rule ys
@@ -68,13 +68,13 @@ record SketchesHold (home : List ℕ → Module) (cs base own : List Class) (ds 
 
 sketches_hold : (home : List ℕ → Module) (cs base own : List Class) (ds : List Drawn) → sketch_breach home cs base own ds ≡ None → SketchesHold home cs base own ds
 sketches_hold home cs base own ds e =
-    let r1 : Option Breach = first (each_after s1 (with_kernel base) own) in
-    let r2 : Option Breach = first (text_s2_from home (with_kernel cs) (length (with_kernel base)) ds) in
-    let r3 : Option Breach = first (flat_map s3 own) in
-    let r4 : Option Breach = first (flat_map (text_s4 home (with_kernel cs)) ds) in
-    let r5 : Option Breach = first (flat_map (s5 (with_kernel cs)) own) in
-    let r6 : Option Breach = first (flat_map text_s6 ds) in
-    let r7 : Option Breach = first (flat_map s7 own) in
+    let r1 : Option RuleBreach = first (each_after s1 (with_kernel base) own) in
+    let r2 : Option RuleBreach = first (text_s2_from home (with_kernel cs) (length (with_kernel base)) ds) in
+    let r3 : Option RuleBreach = first (flat_map s3 own) in
+    let r4 : Option RuleBreach = first (flat_map (text_s4 home (with_kernel cs)) ds) in
+    let r5 : Option RuleBreach = first (flat_map (s5 (with_kernel cs)) own) in
+    let r6 : Option RuleBreach = first (flat_map text_s6 ds) in
+    let r7 : Option RuleBreach = first (flat_map s7 own) in
     let p1 = or_none r1 (or_else r2 (or_else r3 (or_else r4 (or_else r5 (or_else r6 r7))))) e in
     let p2 = or_none r2 (or_else r3 (or_else r4 (or_else r5 (or_else r6 r7)))) p1.1 in
     let p3 = or_none r3 (or_else r4 (or_else r5 (or_else r6 r7))) p2.1 in
@@ -106,13 +106,13 @@ record BaseHolds (bs : List Class) : Type 0 where
 
 base_holds : (bs : List Class) → faces_breach bs ≡ None → BaseHolds bs
 base_holds bs e =
-    let r1 : Option Breach = first (each_after s1 kernel bs) in
-    let r2 : Option Breach = first (each_after s2 kernel bs) in
-    let r3 : Option Breach = first (flat_map s3 bs) in
-    let r4 : Option Breach = first (flat_map (s4 (with_kernel bs)) bs) in
-    let r6 : Option Breach = first (flat_map s6 bs) in
-    let r7 : Option Breach = first (flat_map s7 bs) in
-    let moves : Option Breach = or_else (first (flat_map (s8 (with_kernel bs)) bs)) (or_else (first (flat_map (s9 (with_kernel bs)) bs)) (first (flat_map (s10 (with_kernel bs)) bs))) in
+    let r1 : Option RuleBreach = first (each_after s1 kernel bs) in
+    let r2 : Option RuleBreach = first (each_after s2 kernel bs) in
+    let r3 : Option RuleBreach = first (flat_map s3 bs) in
+    let r4 : Option RuleBreach = first (flat_map (s4 (with_kernel bs)) bs) in
+    let r6 : Option RuleBreach = first (flat_map s6 bs) in
+    let r7 : Option RuleBreach = first (flat_map s7 bs) in
+    let moves : Option RuleBreach = or_else (first (flat_map (s8 (with_kernel bs)) bs)) (or_else (first (flat_map (s9 (with_kernel bs)) bs)) (first (flat_map (s10 (with_kernel bs)) bs))) in
     let p = or_none (first_of_names kernel bs) (or_else (first (flat_map (s5 (with_kernel bs)) bs)) (first_of_members kernel bs)) e in
     let p1 = or_none r1 (or_else r2 (or_else r3 r4)) p.0 in
     let p2 = or_none r2 (or_else r3 r4) p1.1 in
@@ -144,13 +144,13 @@ module _ (home : List ℕ → Module) (m : Module) (i : Interface) (ds : List Dr
   abbrev finished : List Class
   finished = base ++ done
 
-  abbrev rules_of_sketches : Option Breach
+  abbrev rules_of_sketches : Option RuleBreach
   rules_of_sketches = sketch_breach home all base own ds
 
-  abbrev rules_of_moves : Option Breach
+  abbrev rules_of_moves : Option RuleBreach
   rules_of_moves = moved_breach finished done
 
-  abbrev rules_of_items : Option Breach
+  abbrev rules_of_items : Option RuleBreach
   rules_of_items = or_else (first (flat_map text_s11 ds)) (first (flat_map text_s12 ds))
 
   sketched : SketchesHold home all base own ds
@@ -244,7 +244,7 @@ module _ (home : List ℕ → Module) (m : Module) (i : Interface) (ds : List Dr
   rest_is : drop (length i.classes) finished ≡ done
   rest_is = ap (λ n. drop n finished) number ∙ drop_front base done
 
-  abbrev types_breach : List Class → List Class → Option Breach
+  abbrev types_breach : List Class → List Class → Option RuleBreach
   types_breach front rest = first (flat_map (s5 (kernel ++ front)) front ++ flat_map (s5 (kernel ++ finished)) rest)
 
   all_types : types_breach (take (length i.classes) finished) (drop (length i.classes) finished) ≡ None

@@ -9,7 +9,7 @@ use Rattle.som_model.specs.Lists.{first, or_else}
 use Rattle.som_model.specs.Class.{Class, class_in}
 use Rattle.som_model.specs.Classes.{interface_classes}
 use Rattle.som_model.specs.Conforming.{each_after}
-use Rattle.som_model.specs.Rules.{Breach, s1, s3, s5, s7, s8, s9, s10}
+use Rattle.som_model.specs.Rules.{RuleBreach, s1, s3, s5, s7, s8, s9, s10}
 use Rattle.som_idl.specs.declared.tree.IdlInterface.{IdlInterface}
 use Rattle.som_verify.specs.Places.{with_kernel}
 use Rattle.som_verify.specs.Told.{told}
@@ -36,7 +36,7 @@ abbrev pub declared_all : Module → List Class → List Drawn → List ClassDec
 declared_all m base ds = map (declare (with_kernel (after_base m base (sketches ds))) m) ds
 
 -- the first breach of the rules S1 to S7, which look at no other class's entries: of all classes, those of the base, the own ones, and their texts
-abbrev pub sketch_breach : (List ℕ → Module) → List Class → List Class → List Class → List Drawn → Option Breach
+abbrev pub sketch_breach : (List ℕ → Module) → List Class → List Class → List Class → List Drawn → Option RuleBreach
 sketch_breach home cs base own ds =
     or_else (first (each_after s1 (with_kernel base) own))
     (or_else (first (text_s2_from home (with_kernel cs) (length (with_kernel base)) ds))
@@ -47,14 +47,14 @@ sketch_breach home cs base own ds =
     (first (flat_map s7 own)))))))
 
 -- the first breach of the rules S8 to S10
-abbrev pub moved_breach : List Class → List Class → Option Breach
+abbrev pub moved_breach : List Class → List Class → Option RuleBreach
 moved_breach cs own =
     or_else (first (flat_map (s8 (with_kernel cs)) own))
     (or_else (first (flat_map (s9 (with_kernel cs)) own))
     (first (flat_map (s10 (with_kernel cs)) own)))
 
 -- the first breach of the rules S1 to S12: the lowest rule, its first class, and there the first member
-abbrev pub drawn_breach : (List ℕ → Module) → Module → List Class → List Drawn → Option Breach
+abbrev pub drawn_breach : (List ℕ → Module) → Module → List Class → List Drawn → Option RuleBreach
 drawn_breach home m base ds =
     or_else (sketch_breach home (after_base m base (sketches ds)) base (map (class_in m) (sketches ds)) ds)
     (or_else (moved_breach (after_base m base (declared_all m base ds)) (map (class_in m) (declared_all m base ds)))
@@ -66,7 +66,7 @@ abbrev pub declarations : Module → Interface → List IdlInterface → List Cl
 declarations m base is = declared_all m (interface_classes base) (map (drawn (home_of m base is)) is)
 
 -- the first rule that they break
-abbrev pub texts_breach : Module → Interface → List IdlInterface → Option Breach
+abbrev pub texts_breach : Module → Interface → List IdlInterface → Option RuleBreach
 texts_breach m base is = drawn_breach (home_of m base is) m (interface_classes base) (map (drawn (home_of m base is)) is)
 
 -- how many classes a module may have

@@ -1,4 +1,4 @@
-ghost use Rattle.som_model.specs.Rules.{Breach};
+ghost use Rattle.som_model.specs.Rules.{RuleBreach};
 ghost use Rattle.som_model.specs.Lists.{first};
 ghost use Rattle.som_sema.specs.Sketch.{Drawn, drawings as drawn, seen};
 ghost use Rattle.som_sema.specs.declared.sketch.Drawing.{Drawing as Known};
@@ -35,7 +35,7 @@ pub fn each_drawing<F: Fn(usize) -> Result<(), VerifyFault>>(
     rule: F,
 ) -> Result<(), VerifyFault>
     requires callable { (place : ℕ) → place < length drawings.now → F.pre rule place }
-    ensures { (one : Drawn → Seq Breach) →
+    ensures { (one : Drawn → Seq RuleBreach) →
         ((place : ℕ) (d : Known) (r : Result (Unit {0}) Fault) → slice_get drawings.now place ≡ Some d →
         F.post rule place r → Tells (first (one (seen d))) r) →
         Tells (first (flat_map one (drawn drawings.now))) result }

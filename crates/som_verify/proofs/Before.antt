@@ -8,7 +8,7 @@ use Rattle.som_model.specs.Class.{Class}
 use Rattle.som_model.specs.Classes.{class_at}
 use Rattle.som_model.specs.Kernel.{kernel}
 use Rattle.som_model.specs.Conforming.{each_after}
-use Rattle.som_model.specs.Rules.{Breach, demand, s2}
+use Rattle.som_model.specs.Rules.{RuleBreach, demand, s2}
 use Rattle.som_model.specs.declared.key.ClassKey.{ClassKey}
 use Rattle.som_model.proofs.KeyLaws.{exact_keys}
 use Rattle.som_laws.proofs.Members.{mem_left, mem_right, mem_split, mem_some, some_mem}
@@ -26,7 +26,7 @@ pub both_none : {A : Type 0} (xs ys : List A) → first xs ≡ None → first ys
 both_none [] ys e f = f
 both_none (x ∷ xs) ys e f = cc
 
-pub after_says : (rule : List Class → Class → List Breach) (k : List Class) (cs : List Class) → first (each_after rule k cs) ≡ None
+pub after_says : (rule : List Class → Class → List RuleBreach) (k : List Class) (cs : List Class) → first (each_after rule k cs) ≡ None
     → (i : ℕ) (c : Class) → slice_get cs i ≡ Some c → first (rule (k ++ take i cs) c) ≡ None
 after_says rule k [] e i c at = absurd (cc)
 after_says rule k (x ∷ cs) e zero c at =

@@ -13,7 +13,7 @@ use Rattle.som_model.specs.declared.class.Body.TheVariants as bodies
 use Rattle.som_model.specs.Lists.{Mem, every, first, or_else}
 use Rattle.som_model.specs.Class.{Class}
 use Rattle.som_model.specs.Conforming.{bodies_typed, block_breach, main_typed, override_typed}
-use Rattle.som_model.specs.Rules.{Breach, breach, is_known}
+use Rattle.som_model.specs.Rules.{RuleBreach, breach, is_known}
 use Rattle.som_model.specs.Typing.{Ruled, class_facts, in_body}
 use Rattle.som_model.specs.TypedBlocks.{Scope, block_scope}
 use Rattle.som_verify.specs.declared.kind.Kind.{Kind}
@@ -41,7 +41,7 @@ use Rattle.som_verify.proofs.Passes.{first_both, tells_first}
 -- ---- one block
 
 -- what a block that breaks a rule is told as
-abbrev told_of : Class → List ℕ → Ruled Scope → List Breach
+abbrev told_of : Class → List ℕ → Ruled Scope → List RuleBreach
 told_of c name (Ok scope) = []
 told_of c name (Err rule) = breach rule c name ∷ []
 
@@ -70,17 +70,17 @@ item_mem [] i x lt is = absurd (omega arith)
 item_mem (y ∷ xs) zero x lt is = inl is
 item_mem (y ∷ xs) (suc i) x lt is = inr (item_mem xs i x (omega arith) is)
 
-module _ {A : Type 0} (one : A → List Breach) (xs : List A) (i : ℕ) (x : A) (lt : i < length xs) (is : x ≡ get_or xs i x) where
+module _ {A : Type 0} (one : A → List RuleBreach) (xs : List A) (i : ℕ) (x : A) (lt : i < length xs) (is : x ≡ get_or xs i x) where
   next_is : first (flat_map one (drop i xs)) ≡ or_else (first (one x)) (first (flat_map one (drop (i + 1) xs)))
   next_is =
       at_drop_more (λ l. first (flat_map one l)) xs i x lt
       ∙ ap (λ z. first (one z ++ flat_map one (drop (i + 1) xs))) (sym is)
       ∙ first_both (one x) (flat_map one (drop (i + 1) xs))
 
-  pub next_holds : (whole : Option Breach) → first (one x) ≡ None → first (flat_map one (drop i xs)) ≡ whole → first (flat_map one (drop (i + 1) xs)) ≡ whole
+  pub next_holds : (whole : Option RuleBreach) → first (one x) ≡ None → first (flat_map one (drop i xs)) ≡ whole → first (flat_map one (drop (i + 1) xs)) ≡ whole
   next_holds whole none same = sym (ap (λ o. or_else o (first (flat_map one (drop (i + 1) xs)))) none) ∙ sym next_is ∙ same
 
-  pub next_breaks : (whole : Option Breach) (e : VerifyFault) → Tells {A = Unit {0}} (first (one x)) (Err e) → first (flat_map one (drop i xs)) ≡ whole → Tells {A = Unit {0}} whole (Err e)
+  pub next_breaks : (whole : Option RuleBreach) (e : VerifyFault) → Tells {A = Unit {0}} (first (one x)) (Err e) → first (flat_map one (drop i xs)) ≡ whole → Tells {A = Unit {0}} whole (Err e)
   next_breaks whole e t same = tells_first (first (one x)) (first (flat_map one (drop (i + 1) xs))) whole e t (sym next_is ∙ same)
 
 -- ---- introduced bodies
@@ -110,18 +110,18 @@ module _ (cs : List Class) (c : Class) where
         ∙ ap first (body_first name sig way (drop (i + 1) es) b later)
         ∙ first_both (body_breaks cs c name sig b) (bodies_typed cs c (drop (i + 1) es) later)
 
-    pub body_holds : (whole : Option Breach) → first (body_breaks cs c name sig b) ≡ None → first (bodies_typed cs c (drop i es) bs) ≡ whole → first (bodies_typed cs c (drop (i + 1) es) later) ≡ whole
+    pub body_holds : (whole : Option RuleBreach) → first (body_breaks cs c name sig b) ≡ None → first (bodies_typed cs c (drop i es) bs) ≡ whole → first (bodies_typed cs c (drop (i + 1) es) later) ≡ whole
     body_holds whole none same = sym (ap (λ o. or_else o (first (bodies_typed cs c (drop (i + 1) es) later))) none) ∙ sym body_next ∙ same
 
-    pub body_stops : (whole : Option Breach) (e : VerifyFault) → Tells {A = Unit {0}} (first (body_breaks cs c name sig b)) (Err e) → first (bodies_typed cs c (drop i es) bs) ≡ whole → Tells {A = Unit {0}} whole (Err e)
+    pub body_stops : (whole : Option RuleBreach) (e : VerifyFault) → Tells {A = Unit {0}} (first (body_breaks cs c name sig b)) (Err e) → first (bodies_typed cs c (drop i es) bs) ≡ whole → Tells {A = Unit {0}} whole (Err e)
     body_stops whole e t same = tells_first (first (body_breaks cs c name sig b)) (first (bodies_typed cs c (drop (i + 1) es) later)) whole e t (sym body_next ∙ same)
 
 -- ---- one list of bodies and then another
 
-pub both_here : (xs ys : List Breach) (e : VerifyFault) → Tells {A = Unit {0}} (first xs) (Err e) → Tells {A = Unit {0}} (first (xs ++ ys)) (Err e)
+pub both_here : (xs ys : List RuleBreach) (e : VerifyFault) → Tells {A = Unit {0}} (first xs) (Err e) → Tells {A = Unit {0}} (first (xs ++ ys)) (Err e)
 both_here xs ys e t = tells_first (first xs) (first ys) (first (xs ++ ys)) e t (sym (first_both xs ys))
 
-pub both_later : (xs ys : List Breach) (r : Result (Unit {0}) VerifyFault) → first xs ≡ None → Tells (first ys) r → Tells (first (xs ++ ys)) r
+pub both_later : (xs ys : List RuleBreach) (r : Result (Unit {0}) VerifyFault) → first xs ≡ None → Tells (first ys) r → Tells (first (xs ++ ys)) r
 both_later xs ys r none t = subst (λ o. Tells o r) (sym (first_both xs ys ∙ ap (λ o. or_else o (first ys)) none)) t
 
 -- ---- a declared class at its place
@@ -144,7 +144,7 @@ declared_sigs cs ds place d lt is all = all.by (class_of d) (mem_map class_of d 
 
 -- ---- an override by its signature
 
-abbrev by_sig : List Class → Class → Override → Option Sig → List Breach
+abbrev by_sig : List Class → Class → Override → Option Sig → List RuleBreach
 by_sig cs c o None = []
 by_sig cs c o (Some sig) = block_breach cs c o.method.name sig o.block
 
@@ -158,7 +158,7 @@ signed cs c o sig r e t = subst (λ z. Tells (first (by_sig cs c o z)) r) (e ∙
 -- ---- main
 
 -- what main that breaks a rule is told as
-abbrev main_told : Ruled Scope → List Breach
+abbrev main_told : Ruled Scope → List RuleBreach
 main_told (Ok scope) = []
 main_told (Err rule) = record { rule = rule; class = codes "main"; member = codes "-" } ∷ []
 

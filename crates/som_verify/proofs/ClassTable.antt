@@ -8,7 +8,7 @@ use Rattle.std.specs.Str.{bytes_eq}
 use Rattle.som_model.specs.Lists.{first, or_else, among}
 use Rattle.som_model.specs.Class.{Class}
 use Rattle.som_model.specs.Kernel.{kernel}
-use Rattle.som_model.specs.Rules.{Breach, breach, name_of, s1}
+use Rattle.som_model.specs.Rules.{RuleBreach, breach, name_of, s1}
 use Rattle.som_model.specs.Conforming.{each_after}
 use Rattle.som_model.proofs.KeyLaws.{exact_bytes}
 use Rattle.som_order.specs.Names.{name_at}
@@ -30,14 +30,14 @@ last_front (x ∷ cs) (suc i) c lt = let e : suc i + 1 ≡ suc (i + 1) = omega a
 pub front_more : (k : List Class) (cs : List Class) (i : ℕ) (c : Class) → i < length cs → front k cs (i + 1) ≡ front k cs i ++ slice_index_or cs i c ∷ []
 front_more k cs i c lt = ap (λ z. k ++ z) (last_front cs i c lt) ∙ sym (append_assoc k (take i cs) (slice_index_or cs i c ∷ []))
 
-after_at : (rule : List Class → Class → List Breach) (before : List Class) (cs : List Class) (i : ℕ) (c : Class) → i < length cs
+after_at : (rule : List Class → Class → List RuleBreach) (before : List Class) (cs : List Class) (i : ℕ) (c : Class) → i < length cs
     → each_after rule before (drop i cs) ≡ rule before (slice_index_or cs i c) ++ each_after rule (before ++ slice_index_or cs i c ∷ []) (drop (i + 1) cs)
 after_at rule before [] i c lt = absurd (omega arith)
 after_at rule before (x ∷ cs) zero c lt = refl
 after_at rule before (x ∷ cs) (suc i) c lt = let e : suc i + 1 ≡ suc (i + 1) = omega arith in rw e (after_at rule before cs i c (omega arith))
 
 -- one class more
-pub after_more : (rule : List Class → Class → List Breach) (k : List Class) (cs : List Class) (i : ℕ) (c : Class) → i < length cs
+pub after_more : (rule : List Class → Class → List RuleBreach) (k : List Class) (cs : List Class) (i : ℕ) (c : Class) → i < length cs
     → first (each_after rule (front k cs i) (drop i cs)) ≡ or_else (first (rule (front k cs i) (slice_index_or cs i c))) (first (each_after rule (front k cs (i + 1)) (drop (i + 1) cs)))
 after_more rule k cs i c lt =
     ap first (after_at rule (front k cs i) cs i c lt)
@@ -93,7 +93,7 @@ old_name k cs i names c is_new lt is no_ new so =
 
 -- names that differ
 
-if_demand : (b : Bool) (x : Breach) (rest : List Breach) → first ((if not b then [] else x ∷ []) ++ rest) ≡ None → (b ≡ false) × (first rest ≡ None)
+if_demand : (b : Bool) (x : RuleBreach) (rest : List RuleBreach) → first ((if not b then [] else x ∷ []) ++ rest) ≡ None → (b ≡ false) × (first rest ≡ None)
 if_demand true x rest e = cc
 if_demand false x rest e = (refl, e)
 

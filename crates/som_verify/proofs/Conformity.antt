@@ -5,7 +5,7 @@ use Rattle.som_model.specs.Class.{Class}
 use Rattle.som_model.specs.Classes.{library_classes}
 use Rattle.som_model.specs.Kernel.{kernel}
 use Rattle.som_model.specs.Conforming.{each_after, first_of_names, first_of_members, declared_breach}
-use Rattle.som_model.specs.Rules.{Breach, s1, s2, s3, s4, s5, s14}
+use Rattle.som_model.specs.Rules.{RuleBreach, s1, s2, s3, s4, s5, s14}
 use Rattle.som_model.specs.declared.program.Release.{Release}
 use Rattle.som_verify.specs.declared.types.VerifyFault.{VerifyFault}
 use Rattle.som_verify.specs.declared.types.VerifyFault.TheVariants as faults
@@ -26,7 +26,7 @@ faces_first r =
     regrouped (first_of_names kernel cs) (first (flat_map (s5 (kernel ++ cs)) cs)) (first_of_members kernel cs) (first (flat_map s14 cs))
 
 -- names first, as the passes find them
-grouped : (a b c d m : Option Breach) → or_else a (or_else (or_else b c) (or_else d m)) ≡ or_else (or_else a (or_else b (or_else c d))) m
+grouped : (a b c d m : Option RuleBreach) → or_else a (or_else (or_else b c) (or_else d m)) ≡ or_else (or_else a (or_else b (or_else c d))) m
 grouped (Some x) b c d m = refl
 grouped None (Some x) c d m = refl
 grouped None None (Some x) d m = refl
@@ -42,11 +42,11 @@ pub faces_tell : (cs : List Class) (ds : List Declared) (result : Result (Unit {
 faces_tell cs ds result same t = subst (λ (z : List Class). Tells (faces_breach z) result) same t
 
 -- a breach of the first rules is the first of all
-pub tells_here : (o r : Option Breach) (e : VerifyFault) → Tells {A = Unit {0}} o (Err e) → Tells {A = Unit {0}} (or_else o r) (Err e)
+pub tells_here : (o r : Option RuleBreach) (e : VerifyFault) → Tells {A = Unit {0}} o (Err e) → Tells {A = Unit {0}} (or_else o r) (Err e)
 tells_here o r e t = tells_first o r (or_else o r) e t refl
 
 -- where the first rules have none, the others' is the first
-pub tells_later : (o r : Option Breach) (result : Result (Unit {0}) VerifyFault) → o ≡ None → Tells r result → Tells (or_else o r) result
+pub tells_later : (o r : Option RuleBreach) (result : Result (Unit {0}) VerifyFault) → o ≡ None → Tells r result → Tells (or_else o r) result
 tells_later o r result none t = subst (λ z. Tells (or_else z r) result) (sym none) t
 
 -- what is told of the declared classes of a release is told of the release
@@ -62,9 +62,9 @@ pub names_pass : (n : ℕ) (cs : List Class) (r : Result (Unit {0}) VerifyFault)
 names_pass n cs r none t =
     subst (λ o. Tells o r) (names_grouped n cs) (tells_later (first (each_after s1 kernel cs)) (or_else (standing_breach cs) (placed_breach n cs)) r none t)
 
-pub first_none : (o r : Option Breach) → or_else o r ≡ None → o ≡ None
+pub first_none : (o r : Option RuleBreach) → or_else o r ≡ None → o ≡ None
 first_none None r e = refl
 first_none (Some b) r e = absurd (cc)
 
-pub both_none : (o r : Option Breach) → o ≡ None → r ≡ None → or_else o r ≡ None
+pub both_none : (o r : Option RuleBreach) → o ≡ None → r ≡ None → or_else o r ≡ None
 both_none o r e f = ap (λ z. or_else z r) e ∙ f

@@ -3,7 +3,7 @@ use Rattle.std.proofs.Common.{◌≡◌, ℕ, suc, ◌+◌, ◌<◌, ◌≤◌, 
 use Rattle.som_model.specs.Lists.{first, or_else}
 use Rattle.som_model.specs.Class.{Class}
 use Rattle.som_model.specs.Owner.{owner}
-use Rattle.som_model.specs.Rules.{Breach, breach, demand_of}
+use Rattle.som_model.specs.Rules.{RuleBreach, breach, demand_of}
 use Rattle.som_model.specs.declared.key.ClassKey.{ClassKey}
 use Rattle.som_model.specs.declared.key.MethodRef.{MethodRef}
 use Rattle.som_model.specs.declared.class.Override.{Override}
@@ -16,15 +16,15 @@ drop_here os i o lt is =
     let e : suc i ≡ i + 1 = omega arith in
     drop-cons os i o lt ∙ ap (λ z. z ∷ drop (suc i) os) (sym is) ∙ ap (λ n. o ∷ drop n os) e
 
-demanded : (b : Bool) (x : Breach) (later : Option Breach) → b ≡ true → or_else (first (if b then [] else x ∷ [])) later ≡ later
+demanded : (b : Bool) (x : RuleBreach) (later : Option RuleBreach) → b ≡ true → or_else (first (if b then [] else x ∷ [])) later ≡ later
 demanded true x later e = refl
 demanded false x later e = cc
 
-refused : (b : Bool) (x : Breach) (later : Option Breach) → b ≡ false → or_else (first (if b then [] else x ∷ [])) later ≡ Some x
+refused : (b : Bool) (x : RuleBreach) (later : Option RuleBreach) → b ≡ false → or_else (first (if b then [] else x ∷ [])) later ≡ Some x
 refused true x later e = cc
 refused false x later e = refl
 
-module _ (cs : List Class) (k : ClassKey) (c : Class) (before : List MethodRef) (os : List Override) (i : ℕ) (whole : Option Breach) (so : first (overrides_from cs k c before (drop i os)) ≡ whole) where
+module _ (cs : List Class) (k : ClassKey) (c : Class) (before : List MethodRef) (os : List Override) (i : ℕ) (whole : Option RuleBreach) (so : first (overrides_from cs k c before (drop i os)) ≡ whole) where
   pub overrides_end : length os ≤ i → whole ≡ None
   overrides_end le = sym so ∙ ap (λ z. first (overrides_from cs k c before z)) (drop_end os i le)
 

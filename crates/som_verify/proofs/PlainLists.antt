@@ -5,7 +5,7 @@ use Rattle.std.specs.Str.{bytes_eq}
 use Rattle.som_model.specs.Lists.{Mem, first, doubles, some, among}
 use Rattle.som_model.specs.Class.{Class}
 use Rattle.som_model.specs.Conforming.{each_after}
-use Rattle.som_model.specs.Rules.{Breach, name_of, s1}
+use Rattle.som_model.specs.Rules.{RuleBreach, name_of, s1}
 use Rattle.som_model.proofs.KeyLaws.{Exact}
 use Rattle.som_laws.proofs.Members.{mem_left, mem_right, mem_some, Apart, apart_doubles}
 use Rattle.som_verify.specs.Plainly.{Differ}
@@ -28,13 +28,13 @@ map_mem f b (x ∷ xs) (inl e) = (x, inl refl, e)
 map_mem f b (x ∷ xs) (inr m) = let r = map_mem f b xs m in (r.0, inr r.1, r.2)
 
 -- a rule at each class
-pub each_says : (one : Class → List Breach) (cs : List Class) → first (flat_map one cs) ≡ None → (c : Class) → Mem c cs → first (one c) ≡ None
+pub each_says : (one : Class → List RuleBreach) (cs : List Class) → first (flat_map one cs) ≡ None → (c : Class) → Mem c cs → first (one c) ≡ None
 each_says one cs e c m = flat_none one cs c e m
 
-pub says_each : (one : Class → List Breach) (cs : List Class) → ((c : Class) → Mem c cs → first (one c) ≡ None) → first (flat_map one cs) ≡ None
+pub says_each : (one : Class → List RuleBreach) (cs : List Class) → ((c : Class) → Mem c cs → first (one c) ≡ None) → first (flat_map one cs) ≡ None
 says_each one cs f = none_flat one cs f
 
-pub says_after : (rule : List Class → Class → List Breach) (k : List Class) (cs : List Class)
+pub says_after : (rule : List Class → Class → List RuleBreach) (k : List Class) (cs : List Class)
     → ((i : ℕ) (c : Class) → slice_get cs i ≡ Some c → first (rule (k ++ take i cs) c) ≡ None) → first (each_after rule k cs) ≡ None
 says_after rule k [] f = refl
 says_after rule k (c ∷ cs) f =
@@ -114,7 +114,7 @@ differ_apart f (x ∷ xs) d = (
 
 -- the names of classes
 
-s1_by : (b : Bool) (x : Breach) (rest : List Breach) (name : List ℕ) (tail more : List (List ℕ)) → (first rest ≡ None) ↔ (more ≡ [])
+s1_by : (b : Bool) (x : RuleBreach) (rest : List RuleBreach) (name : List ℕ) (tail more : List (List ℕ)) → (first rest ≡ None) ↔ (more ≡ [])
     → (first ((if not b then [] else x ∷ []) ++ rest) ≡ None) ↔ ((if b then name ∷ tail else more) ≡ [])
 s1_by true x rest name tail more f = (λ e. absurd (cc), λ e. absurd (cc))
 s1_by false x rest name tail more f = f

@@ -5,7 +5,7 @@ use Rattle.som_model.specs.Class.{Class, bare, class_in}
 use Rattle.som_model.specs.Classes.{client_classes, interface_classes}
 use Rattle.som_model.specs.Kernel.{kernel}
 use Rattle.som_model.specs.Conforming.{first_of_names, first_of_members, declared_program_breach, program_breach, class_typed, main_typed}
-use Rattle.som_model.specs.Rules.{Breach, s5, s14}
+use Rattle.som_model.specs.Rules.{RuleBreach, s5, s14}
 use Rattle.som_model.specs.declared.key.Module.TheVariants as modules
 use Rattle.som_model.specs.declared.class.ClassDecl.{ClassDecl}
 use Rattle.som_model.specs.declared.class.ClassFace.{ClassFace}
@@ -53,7 +53,7 @@ module _ (p : ClientProgram) (ds : List Declared) (n : ℕ) (same : classes_of d
   rest_is : drop n (classes_of ds) ≡ client_classes p
   rest_is = ap (λ k. drop k (classes_of ds)) count ∙ ap (drop (length (interface_classes p.base))) same ∙ drop_front (interface_classes p.base) (client_classes p)
 
-  abbrev types_breach : List Class → List Class → List Class → Option Breach
+  abbrev types_breach : List Class → List Class → List Class → Option RuleBreach
   types_breach cs base own = or_else (first_of_names kernel cs) (or_else (first (flat_map (s5 (kernel ++ base)) base ++ flat_map (s5 (kernel ++ cs)) own)) (first_of_members kernel cs))
 
   classes_part : classes_breach n (classes_of ds) ≡ types_breach (program_classes p) (interface_classes p.base) (client_classes p)

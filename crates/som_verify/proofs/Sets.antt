@@ -2,7 +2,7 @@
 use Rattle.std.proofs.Common.{◌≡◌, ℕ, ◌+◌, ◌-◌, length-drop, suc, List, ◌++◌, length, take, drop, flat_map, None, Result, Err, sym, ap, ◌∙◌, subst, arith}
 use Rattle.som_model.specs.Lists.{first, or_else}
 use Rattle.som_model.specs.Kernel.{kernel}
-use Rattle.som_model.specs.Rules.{Breach, s5}
+use Rattle.som_model.specs.Rules.{RuleBreach, s5}
 use Rattle.som_verify.specs.declared.types.Declared.{Declared}
 use Rattle.som_verify.specs.declared.types.VerifyFault.{VerifyFault}
 use Rattle.som_verify.specs.Modules.{class_of, classes_of}
@@ -17,10 +17,10 @@ pub rest_is : {A : Type 0} (xs : List A) (n : ℕ) → take (length xs - n) (dro
 rest_is xs n = take_whole (drop n xs) (length xs - n) (omega (arith, length-drop n xs))
 
 -- the breaches of types by the first n classes, and then by the others
-abbrev pub base_types : List Declared → ℕ → List Breach
+abbrev pub base_types : List Declared → ℕ → List RuleBreach
 base_types ds n = flat_map (s5 (kernel ++ take n (classes_of ds))) (take n (classes_of ds))
 
-abbrev pub own_types : List Declared → ℕ → List Breach
+abbrev pub own_types : List Declared → ℕ → List RuleBreach
 own_types ds n = flat_map (s5 (kernel ++ classes_of ds)) (drop n (classes_of ds))
 
 -- a pass over the first classes looks for the first

@@ -9,7 +9,7 @@ use Rattle.som_model.specs.Lists.{Mem}
 use Rattle.som_model.specs.Class.{Class}
 use Rattle.som_model.specs.Conforming.{block_breach}
 use Rattle.som_model.specs.Kernel.{kernel_interface}
-use Rattle.som_model.specs.Rules.{Breach}
+use Rattle.som_model.specs.Rules.{RuleBreach}
 use Rattle.som_order.specs.Names.{texts}
 use Rattle.som_verify.specs.Kinds.{IsDeclared}
 use Rattle.som_verify.specs.Knowing.{sig_is_known}
@@ -18,7 +18,7 @@ use Rattle.som_verify.specs.Walk.{AreLists}
 use Rattle.som_verify.specs.declared.blocks.Parts.{Parts}
 
 -- what a method's body breaks; readers and writers of variables have no block
-abbrev pub body_breaks : List Class → Class → List ℕ → Sig → Body → List Breach
+abbrev pub body_breaks : List Class → Class → List ℕ → Sig → Body → List RuleBreach
 body_breaks cs c name sig (bodies.User block) = block_breach cs c name sig block
 body_breaks cs c name sig (bodies.Get n) = []
 body_breaks cs c name sig (bodies.Set n) = []

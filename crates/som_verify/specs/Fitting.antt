@@ -2,7 +2,7 @@
 use Rattle.std.specs.Prelude.{Bool, false, ◌&&◌, List, [], ◌∷◌, ◌++◌}
 use Rattle.som_model.specs.Same.{same_type}
 use Rattle.som_model.specs.Class.{Class}
-use Rattle.som_model.specs.Rules.{Breach, demand_of, body_fits, is_void}
+use Rattle.som_model.specs.Rules.{RuleBreach, demand_of, body_fits, is_void}
 use Rattle.som_model.specs.declared.key.ValueType.{ValueType}
 use Rattle.som_model.specs.declared.class.Sig.{Sig}
 use Rattle.som_model.specs.declared.class.Entry.{Entry}
@@ -10,7 +10,7 @@ use Rattle.som_model.specs.declared.class.Entry.TheVariants as entries
 use Rattle.som_model.specs.declared.class.Body.{Body}
 
 -- the bodies that don't fit, one for each introduced entry
-abbrev pub bodies_from : Class → List Entry → List Body → List Breach
+abbrev pub bodies_from : Class → List Entry → List Body → List RuleBreach
 bodies_from c [] bs = []
 bodies_from c (entries.Moved name to ∷ es) bs = bodies_from c es bs
 bodies_from c (entries.Introduced name sig way ∷ es) [] = []

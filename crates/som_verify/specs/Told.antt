@@ -1,6 +1,6 @@
 -- What a pass tells of the breaches that it looks for.
 use Rattle.std.specs.Prelude.{◌≡◌, List, map, Option, Some, None, Result, Ok, Err}
-use Rattle.som_model.specs.Rules.{Breach}
+use Rattle.som_model.specs.Rules.{RuleBreach}
 use Rattle.som_model.specs.declared.key.Module.TheVariants as modules
 use Rattle.som_model.specs.declared.class.ClassDecl.{ClassDecl}
 use Rattle.som_model.specs.Class.{Class, class_in}
@@ -9,11 +9,11 @@ use Rattle.som_verify.specs.declared.types.VerifyFault.{VerifyFault}
 use Rattle.som_verify.specs.declared.types.VerifyFault.TheVariants as faults
 
 -- the breach that is told
-abbrev pub told : Broken → Breach
+abbrev pub told : Broken → RuleBreach
 told b = record { rule = b.rule; class = b.class; member = b.member }
 
 -- all is well exactly where there is no breach, and a breach that is told is that one; want of memory says nothing
-abbrev pub Tells : {A : Type 0} → Option Breach → Result A VerifyFault → Type 0
+abbrev pub Tells : {A : Type 0} → Option RuleBreach → Result A VerifyFault → Type 0
 Tells breach (Ok _) = breach ≡ None
 Tells breach (Err (faults.Rule b)) = breach ≡ Some (told b)
 Tells breach (Err faults.NoMemory) = Unit {0}

@@ -3,7 +3,7 @@ ghost use Rattle.som_model.specs.Conforming.{ProgramOk, declared_program_breach,
 ghost use Rattle.som_verify.specs.Modules.{classes_of};
 ghost use Rattle.som_verify.specs.Plainly.{program_classes};
 ghost use Rattle.som_verify.specs.Told.{Tells};
-ghost use Rattle.som_verify.specs.declared.types.Broken.{Broken as Breach};
+ghost use Rattle.som_verify.specs.declared.types.Broken.{Broken};
 ghost use Rattle.som_verify.specs.declared.types.VerifyFault.TheVariants as faults;
 ghost use Rattle.std.specs.Prelude.{◌≡◌, map, Err, IfOk};
 
@@ -31,7 +31,7 @@ pub fn program_rules(alloc: Global, program: &ClientProgram) -> Result<(), Verif
 pub fn program_ok(alloc: Global, program: &ClientProgram) -> Result<(), VerifyFault>
     ensures tells { Tells (program_breach program.now) result }
     ensures conforms { IfOk result (λ _. ProgramOk program.now) }
-    ensures refuses { (b : Breach) → result ≡ Err (faults.Rule b) → ProgramOk program.now → ⊥ }
+    ensures refuses { (b : Broken) → result ≡ Err (faults.Rule b) → ProgramOk program.now → ⊥ }
 {
     all_rules_hold(alloc, program)
 }

@@ -1,7 +1,7 @@
 ghost use Rattle.som_model.specs.Conforming.{ReleaseOk, release_breach};
 ghost use Rattle.som_verify.specs.Faces.{faces_breach};
 ghost use Rattle.som_verify.specs.Told.{Tells, of_release};
-ghost use Rattle.som_verify.specs.declared.types.Broken.{Broken as Breach};
+ghost use Rattle.som_verify.specs.declared.types.Broken.{Broken};
 ghost use Rattle.som_verify.specs.declared.types.VerifyFault.TheVariants as faults;
 ghost use Rattle.std.specs.Prelude.{◌≡◌, Err, IfOk};
 
@@ -25,7 +25,7 @@ pub fn faces_ok(alloc: Global, classes: &[ClassDecl]) -> Result<(), VerifyFault>
 pub fn release_ok(alloc: Global, release: &Release) -> Result<(), VerifyFault>
     ensures tells { Tells (release_breach release.now) result }
     ensures conforms { IfOk result (λ _. ReleaseOk release.now) }
-    ensures refuses { (b : Breach) → result ≡ Err (faults.Rule b) → ReleaseOk release.now → ⊥ }
+    ensures refuses { (b : Broken) → result ≡ Err (faults.Rule b) → ReleaseOk release.now → ⊥ }
 {
     all_rules_hold(alloc, release)
 }

@@ -2,7 +2,7 @@ use Rattle.std.proofs.Common.{Bool, ◌≡◌, List, Option, Some, Result, Ok, E
 use Rattle.som_model.specs.declared.memory.NoMemory.{NoMemory}
 use Rattle.som_model.specs.declared.class.ClassDecl.{ClassDecl}
 use Rattle.som_model.specs.Lists.{every}
-use Rattle.som_model.specs.Rules.{Breach}
+use Rattle.som_model.specs.Rules.{RuleBreach}
 use Rattle.som_verify.specs.Faces.{faces_breach}
 use Rattle.som_verify.specs.Told.{Tells, told, of_release}
 use Rattle.som_verify.specs.declared.types.Broken.{Broken}
@@ -17,7 +17,7 @@ told_so : (i : ClientImage) (r : Result Bool NoMemory) (holds : Bool) → IfOk r
 told_so i (Ok all) holds e f = f all e
 told_so i (Err u) holds e f = tt
 
-rule_told : (o : Option Breach) (e : VerifyFault) (b : Broken) → e ≡ faults.Rule b → Tells {A = Unit {0}} o (Err e) → o ≡ Some (told b)
+rule_told : (o : Option RuleBreach) (e : VerifyFault) (b : Broken) → e ≡ faults.Rule b → Tells {A = Unit {0}} o (Err e) → o ≡ Some (told b)
 rule_told o e b is tells = subst (λ (x : VerifyFault). Tells {A = Unit {0}} o (Err x)) is tells
 
 pub returns-in-Ok : goal.returns-in-Ok
