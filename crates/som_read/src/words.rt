@@ -61,184 +61,88 @@ fn is_refused_modifier(word: &[u8]) -> bool
 fn expression_word(word: &[u8]) -> Key
     ensures { result ≡ spec.expression_word word.now }
 {
-    if is(word, b"length") {
-        return Key::Length;
+    match word {
+        _ if is(word, b"length") => Key::Length,
+        _ if is(word, b"text") => Key::TextOf,
+        _ if is(word, b"new") => Key::New,
+        _ if is(word, b"class") => Key::Class,
+        _ if is(word, b"isa") => Key::Isa,
+        _ if is(word, b"proxy") => Key::Proxy,
+        _ if is(word, b"lookup") => Key::Lookup,
+        _ if is(word, b"dispatch") => Key::Dispatch,
+        _ if is(word, b"parent") => Key::Parent,
+        _ if is(word, b"parents") => Key::Parents,
+        _ if is(word, b"host") => Key::Host,
+        _ if is(word, b"SOMClassMgrObject") => Key::Manager,
+        _ if is(word, b"min") => Key::Min,
+        _ if is(word, b"max") => Key::Max,
+        _ if is(word, b"xor") => Key::Xor,
+        _ if is(word, b"wrapadd") => Key::WrapAdd,
+        _ => Key::Plain,
     }
-    if is(word, b"text") {
-        return Key::TextOf;
-    }
-    if is(word, b"new") {
-        return Key::New;
-    }
-    if is(word, b"class") {
-        return Key::Class;
-    }
-    if is(word, b"isa") {
-        return Key::Isa;
-    }
-    if is(word, b"proxy") {
-        return Key::Proxy;
-    }
-    if is(word, b"lookup") {
-        return Key::Lookup;
-    }
-    if is(word, b"dispatch") {
-        return Key::Dispatch;
-    }
-    if is(word, b"parent") {
-        return Key::Parent;
-    }
-    if is(word, b"parents") {
-        return Key::Parents;
-    }
-    if is(word, b"host") {
-        return Key::Host;
-    }
-    if is(word, b"SOMClassMgrObject") {
-        return Key::Manager;
-    }
-    if is(word, b"min") {
-        return Key::Min;
-    }
-    if is(word, b"max") {
-        return Key::Max;
-    }
-    if is(word, b"xor") {
-        return Key::Xor;
-    }
-    if is(word, b"wrapadd") {
-        return Key::WrapAdd;
-    }
-    Key::Plain
 }
 
 #[tactic(auto, unfolding(crate::specs::Words::statement_word))]
 fn statement_word(word: &[u8]) -> Key
     ensures { result ≡ spec.statement_word word.now }
 {
-    if is(word, b"var") {
-        return Key::Var;
+    match word {
+        _ if is(word, b"var") => Key::Var,
+        _ if is(word, b"if") => Key::If,
+        _ if is(word, b"else") => Key::Else,
+        _ if is(word, b"while") => Key::While,
+        _ if is(word, b"return") => Key::Return,
+        _ if is(word, b"print") => Key::Print,
+        _ if is(word, b"free") => Key::Free,
+        _ if is(word, b"and") => Key::And,
+        _ if is(word, b"or") => Key::Or,
+        _ if is(word, b"not") => Key::Not,
+        _ if is(word, b"as") => Key::As,
+        _ if is(word, b"self") => Key::Me,
+        _ if is(word, b"somThis") => Key::SomThis,
+        _ if is(word, b"nil") => Key::Nil,
+        _ if is(word, b"main") => Key::Main,
+        _ => expression_word(word),
     }
-    if is(word, b"if") {
-        return Key::If;
-    }
-    if is(word, b"else") {
-        return Key::Else;
-    }
-    if is(word, b"while") {
-        return Key::While;
-    }
-    if is(word, b"return") {
-        return Key::Return;
-    }
-    if is(word, b"print") {
-        return Key::Print;
-    }
-    if is(word, b"free") {
-        return Key::Free;
-    }
-    if is(word, b"and") {
-        return Key::And;
-    }
-    if is(word, b"or") {
-        return Key::Or;
-    }
-    if is(word, b"not") {
-        return Key::Not;
-    }
-    if is(word, b"as") {
-        return Key::As;
-    }
-    if is(word, b"self") {
-        return Key::Me;
-    }
-    if is(word, b"somThis") {
-        return Key::SomThis;
-    }
-    if is(word, b"nil") {
-        return Key::Nil;
-    }
-    if is(word, b"main") {
-        return Key::Main;
-    }
-    expression_word(word)
 }
 
 #[tactic(auto, unfolding(crate::specs::Words::interface_word))]
 fn interface_word(word: &[u8]) -> Key
     ensures { result ≡ spec.interface_word word.now }
 {
-    if is(word, b"interface") {
-        return Key::Interface;
+    match word {
+        _ if is(word, b"interface") => Key::Interface,
+        _ if is(word, b"attribute") => Key::Attribute,
+        _ if is(word, b"readonly") => Key::Readonly,
+        _ if is(word, b"in") => Key::In,
+        _ if is(word, b"implementation") => Key::Implementation,
+        _ if is(word, b"releaseorder") => Key::ReleaseOrder,
+        _ if is(word, b"metaclass") => Key::Metaclass,
+        _ if is(word, b"majorversion") => Key::MajorVersion,
+        _ if is(word, b"minorversion") => Key::MinorVersion,
+        _ if is(word, b"filestem") => Key::FileStem,
+        _ if is(word, b"dllname") => Key::DllName,
+        _ if is(word, b"functionprefix") => Key::FunctionPrefix,
+        _ if is(word, b"override") => Key::Override,
+        _ if is(word, b"namelookup") => Key::NameLookup,
+        _ if is(word, b"offset") => Key::Offset,
+        _ => statement_word(word),
     }
-    if is(word, b"attribute") {
-        return Key::Attribute;
-    }
-    if is(word, b"readonly") {
-        return Key::Readonly;
-    }
-    if is(word, b"in") {
-        return Key::In;
-    }
-    if is(word, b"implementation") {
-        return Key::Implementation;
-    }
-    if is(word, b"releaseorder") {
-        return Key::ReleaseOrder;
-    }
-    if is(word, b"metaclass") {
-        return Key::Metaclass;
-    }
-    if is(word, b"majorversion") {
-        return Key::MajorVersion;
-    }
-    if is(word, b"minorversion") {
-        return Key::MinorVersion;
-    }
-    if is(word, b"filestem") {
-        return Key::FileStem;
-    }
-    if is(word, b"dllname") {
-        return Key::DllName;
-    }
-    if is(word, b"functionprefix") {
-        return Key::FunctionPrefix;
-    }
-    if is(word, b"override") {
-        return Key::Override;
-    }
-    if is(word, b"namelookup") {
-        return Key::NameLookup;
-    }
-    if is(word, b"offset") {
-        return Key::Offset;
-    }
-    statement_word(word)
 }
 
 #[tactic(auto, unfolding(crate::specs::Words::type_word))]
 fn type_word(word: &[u8]) -> Key
     ensures { result ≡ spec.type_word word.now }
 {
-    if is(word, b"void") {
-        return Key::Void;
+    match word {
+        _ if is(word, b"void") => Key::Void,
+        _ if is(word, b"long") => Key::Long,
+        _ if is(word, b"boolean") => Key::Boolean,
+        _ if is(word, b"string") => Key::Str,
+        _ if is(word, b"TRUE") => Key::True,
+        _ if is(word, b"FALSE") => Key::False,
+        _ => interface_word(word),
     }
-    if is(word, b"long") {
-        return Key::Long;
-    }
-    if is(word, b"boolean") {
-        return Key::Boolean;
-    }
-    if is(word, b"string") {
-        return Key::Str;
-    }
-    if is(word, b"TRUE") {
-        return Key::True;
-    }
-    if is(word, b"FALSE") {
-        return Key::False;
-    }
-    interface_word(word)
 }
 
 pub(crate) fn key_of(word: &[u8]) -> Key
@@ -254,71 +158,29 @@ pub(crate) fn key_of(word: &[u8]) -> Key
 pub(crate) fn sign_of(sign: &[u8]) -> Sign
     ensures { result ≡ spec.sign_of sign.now }
 {
-    if is(sign, b"{") {
-        return Sign::OpenBrace;
+    match sign {
+        _ if is(sign, b"{") => Sign::OpenBrace,
+        _ if is(sign, b"}") => Sign::CloseBrace,
+        _ if is(sign, b"(") => Sign::Open,
+        _ if is(sign, b")") => Sign::Close,
+        _ if is(sign, b":") => Sign::Colon,
+        _ if is(sign, b"::") => Sign::DoubleColon,
+        _ if is(sign, b";") => Sign::Semicolon,
+        _ if is(sign, b",") => Sign::Comma,
+        _ if is(sign, b".") => Sign::Dot,
+        _ if is(sign, b"=") => Sign::Assign,
+        _ if is(sign, b"==") => Sign::Equal,
+        _ if is(sign, b"!=") => Sign::NotEqual,
+        _ if is(sign, b"<") => Sign::Less,
+        _ if is(sign, b"<=") => Sign::LessEqual,
+        _ if is(sign, b">") => Sign::Greater,
+        _ if is(sign, b">=") => Sign::GreaterEqual,
+        _ if is(sign, b"+") => Sign::Plus,
+        _ if is(sign, b"-") => Sign::Minus,
+        _ if is(sign, b"*") => Sign::Times,
+        _ if is(sign, b"/") => Sign::Divide,
+        _ if is(sign, b"%") => Sign::Remainder,
+        _ if is(sign, b"&") => Sign::Join,
+        _ => Sign::Unknown,
     }
-    if is(sign, b"}") {
-        return Sign::CloseBrace;
-    }
-    if is(sign, b"(") {
-        return Sign::Open;
-    }
-    if is(sign, b")") {
-        return Sign::Close;
-    }
-    if is(sign, b":") {
-        return Sign::Colon;
-    }
-    if is(sign, b"::") {
-        return Sign::DoubleColon;
-    }
-    if is(sign, b";") {
-        return Sign::Semicolon;
-    }
-    if is(sign, b",") {
-        return Sign::Comma;
-    }
-    if is(sign, b".") {
-        return Sign::Dot;
-    }
-    if is(sign, b"=") {
-        return Sign::Assign;
-    }
-    if is(sign, b"==") {
-        return Sign::Equal;
-    }
-    if is(sign, b"!=") {
-        return Sign::NotEqual;
-    }
-    if is(sign, b"<") {
-        return Sign::Less;
-    }
-    if is(sign, b"<=") {
-        return Sign::LessEqual;
-    }
-    if is(sign, b">") {
-        return Sign::Greater;
-    }
-    if is(sign, b">=") {
-        return Sign::GreaterEqual;
-    }
-    if is(sign, b"+") {
-        return Sign::Plus;
-    }
-    if is(sign, b"-") {
-        return Sign::Minus;
-    }
-    if is(sign, b"*") {
-        return Sign::Times;
-    }
-    if is(sign, b"/") {
-        return Sign::Divide;
-    }
-    if is(sign, b"%") {
-        return Sign::Remainder;
-    }
-    if is(sign, b"&") {
-        return Sign::Join;
-    }
-    Sign::Unknown
 }
