@@ -10,46 +10,18 @@ pub fn sort_by_name(faces: &[ClassFace], order: &mut [u16])
     requires few { length faces.now ≤ 4096 }
 {
     for place in 0..faces.len() {
-        let at = first_after(faces, &order[..place], faces[place].name.as_slice());
-        insert(order, at, place);
+        order[place] = place as u16;
     }
+    order[..faces.len()].sort_unstable_by(|one, other| name_of(faces, *one).cmp(name_of(
+        faces, *other,
+    )));
 }
 
-// Makes room for a place among those before it.
-fn insert(order: &mut [u16], at: usize, place: usize)
-    requires at { at ≤ place }
-    requires place { place < length order.old }
-    requires few { place < 4096 }
-{
-    let mut free = place;
-    while free > at {
-        order[free] = order[free - 1];
-        free -= 1;
-    }
-    order[at] = place as u16;
-}
-
-// Where the names begin that don't come before this one, if they are in order.
-fn first_after(faces: &[ClassFace], order: &[u16], name: &[u8]) -> usize
-    ensures { result ≤ length order.now }
-{
-    let mut low = 0usize;
-    let mut high = order.len();
-    while low < high {
-        let middle = low + (high - low) / 2;
-        if comes_before(faces, order[middle] as usize, name) {
-            low = middle + 1;
-        } else {
-            high = middle;
-        }
-    }
-    low
-}
-
-fn comes_before(faces: &[ClassFace], place: usize, name: &[u8]) -> bool {
-    match faces.get(place) {
-        Some(face) => face.name.as_slice() < name,
-        None => false,
+// The name of the class at a place; past the last there is none.
+fn name_of(faces: &[ClassFace], place: u16) -> &[u8] {
+    match faces.get(place as usize) {
+        Some(face) => face.name.as_slice(),
+        None => b"",
     }
 }
 
@@ -59,17 +31,17 @@ pub fn find_name(faces: &[ClassFace], order: &[u16], name: &Text) -> Option<usiz
     ensures finds { FindsName (face_names faces.now) name.now result }
     ensures below { IfSome result (λ place. place < length faces.now) }
 {
-    let at = first_after(faces, order, name.as_slice());
-    match order.get(at) {
-        Some(place) => {
-            let place = *place as usize;
+    let found = order.binary_search_by(|place| name_of(faces, *place).cmp(name.as_slice()));
+    match found {
+        Ok(at) => {
+            let place = order[at] as usize;
             if place < faces.len() && faces[place].name.is(name.as_slice()) {
                 Some(place)
             } else {
                 find_among(faces, name)
             }
         }
-        None => find_among(faces, name),
+        Err(_) => find_among(faces, name),
     }
 }
 
