@@ -1,5 +1,7 @@
-use som_laws::{ancestors, descends, effective_order, implementation};
+use crate::ancestry::ancestors;
+use crate::resolution::{descends, implementation};
 use som_model::{List, NoMemory, Text};
+use som_order::effective_order;
 use std::alloc::Global;
 use std::test::Fail;
 

@@ -2,7 +2,11 @@
 #![tactic(auto)]
 
 #[cfg(test)]
+mod ancestry;
+#[cfg(test)]
 mod bodies;
+#[cfg(test)]
+mod class_rows;
 #[cfg(test)]
 mod fields;
 #[cfg(test)]
@@ -17,6 +21,8 @@ mod lines;
 mod orders;
 #[cfg(test)]
 mod programs;
+#[cfg(test)]
+mod resolution;
 #[cfg(test)]
 mod slow;
 #[cfg(test)]

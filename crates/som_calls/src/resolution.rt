@@ -2,10 +2,10 @@ ghost use Rattle.som_model.specs.Ancestors as definitions;
 ghost use Rattle.som_model.specs.Ancestors.{anc_within, member};
 ghost use Rattle.som_model.specs.Lists.{first_some, some};
 ghost use Rattle.som_model.specs.Resolution.{impl, impl_within};
-ghost use Rattle.som_laws.specs.Rows.{body_at, hierarchy_of};
+ghost use Rattle.som_calls.specs.Rows.{body_at, hierarchy_of};
 ghost use Rattle.std.specs.Prelude.{◌≡◌, if◌then◌else◌, None};
 
-use crate::rows::{has_own_body, parents};
+use crate::class_rows::{has_own_body, parents};
 use som_model::List;
 
 /// Whether the class `x` is `a`, or some parent of it descends from `a`.

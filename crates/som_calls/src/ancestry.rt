@@ -1,9 +1,9 @@
 ghost use Rattle.som_model.specs.Ancestors.{anc, anc_within};
 ghost use Rattle.som_model.specs.Lists.{firsts, joined, without};
-ghost use Rattle.som_laws.specs.Rows.{hierarchy_of};
+ghost use Rattle.som_calls.specs.Rows.{hierarchy_of};
 ghost use Rattle.std.specs.Prelude.{◌≡◌, ◌==◌, ◌∷◌, map, IfOk};
 
-use crate::rows::parents;
+use crate::class_rows::parents;
 use som_model::{List, NoMemory};
 use std::alloc::Global;
 

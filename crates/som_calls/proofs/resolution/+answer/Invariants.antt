@@ -2,8 +2,8 @@ use Rattle.std.proofs.Common.{◌≡◌, ◌+◌, ◌*◌, if◌then◌else◌, 
 use Rattle.som_model.specs.Lists.{first_some}
 use Rattle.som_model.specs.Ancestors.{descends}
 use Rattle.som_model.specs.Resolution.{impl_within}
-use Rattle.som_laws.specs.Rows.{hierarchy_of, body_at}
-use Rattle.som_laws.proofs.resolution.+answer.Given as goal
+use Rattle.som_calls.specs.Rows.{hierarchy_of, body_at}
+use Rattle.som_calls.proofs.resolution.+answer.Given as goal
 
 abbrev pub decreases-implementation_within : goal.decreases-implementation_within
 decreases-implementation_within l = 2 * l.levels
