@@ -16,6 +16,17 @@ use std::{env, io};
 #[cfg(test)]
 mod tests;
 
+/// What people are told beside the line of a command that has no form.
+const USAGE: &str = "usage: som library OUT FILE..
+       som client OUT LIBRARY FILE..
+       som check IMAGE IMAGE..
+       som run CLIENT LIBRARY [--fuel N]
+       som show IMAGE
+a FILE ends in .idl, .bod or .main; docs/COMMANDS.md tells the rest";
+
+/// The status of words that have no form.
+const NO_FORM: u8 = 2;
+
 /// Why there are no words.
 #[derive(Drop)]
 enum NoWords {
@@ -59,5 +70,9 @@ fn main(rt: HostRuntime) -> ExitCode {
     };
     let mut store = FileStore::new(&rt, alloc);
     let mut out = StandardOutput::new(&rt);
-    ExitCode::from(run_som(alloc, &words, &mut store, &mut out))
+    let status = run_som(alloc, &words, &mut store, &mut out);
+    if status == NO_FORM {
+        let _ = eprintln!(rt; "{USAGE}");
+    }
+    ExitCode::from(status)
 }

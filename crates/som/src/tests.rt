@@ -16,6 +16,8 @@ fn real_files_are_got_and_put(rt: HostRuntime) -> Result<(), Fail> {
     let _ = fs::remove_file(&rt, path.as_str());
     assert!(rt; matches!(store.get(&name), Got::Absent));
     assert_eq!(rt; store.put(&name, &bytes), Put::Done);
+    let beside = format!(in alloc; "{path}.0.new")?;
+    assert!(rt; !fs::exists(&rt, beside.as_str())?);
     let got = store.get(&name);
     assert!(rt;
         match &got {
