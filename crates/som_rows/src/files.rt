@@ -36,10 +36,6 @@ impl Files {
         self.entries.as_slice()
     }
 
-    pub fn len(&self) -> usize {
-        self.entries.len()
-    }
-
     pub fn put(&mut self, file: File) -> Result<(), NoMemory> {
         self.entries.push(file)?;
         Ok(())

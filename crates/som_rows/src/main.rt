@@ -37,9 +37,8 @@ fn run_tables<R: Env + Files + Print + AllocGlobal>(rt: &R, alloc: Global) -> io
         runner
             .run_table(name.as_str(), lines.as_slice())
             .map_err(out_of_memory)?;
-        let report = runner.report();
-        rt.print(report.text())?;
-        let table = report.sums();
+        rt.print(runner.report.text.as_str())?;
+        let table = runner.report.sums;
         println!(rt; "{name}: {}", table)?;
         sums.add(table);
     }

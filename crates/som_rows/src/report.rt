@@ -20,8 +20,9 @@ pub struct Place<'a> {
 #[derive(Drop)]
 pub struct Report {
     table: String,
-    text: String,
-    sums: Sums,
+    /// All lines of the report.
+    pub text: String,
+    pub sums: Sums,
 }
 
 /// How many cases there were, how many differences, and how many lines that weren't understood.
@@ -72,15 +73,6 @@ impl Report {
 
     pub fn count_case(&mut self) {
         self.sums.cases = self.sums.cases.saturating_add(1);
-    }
-
-    pub fn sums(&self) -> Sums {
-        self.sums
-    }
-
-    /// All lines of the report.
-    pub fn text(&self) -> &str {
-        self.text.as_str()
     }
 
     /// Tells of a line that it isn't understood.

@@ -36,7 +36,8 @@ struct Last {
 pub struct Runner {
     alloc: Global,
     fixtures: Vec<Fixture>,
-    report: Report,
+    /// What is told of the last table.
+    pub report: Report,
     files: Files,
     variables: Vec<Variable>,
     failing: Failing,
@@ -54,11 +55,6 @@ impl Runner {
             failing: Failing::new(alloc),
             last: None,
         })
-    }
-
-    /// What is told of the table that was run last.
-    pub fn report(&self) -> &Report {
-        &self.report
     }
 
     /// Runs the cases of a table.
@@ -123,7 +119,7 @@ impl Runner {
             Err(Wrong::Unclear) => return self.report.tell_unclear(line.number),
             Err(Wrong::Memory) => return Err(NoMemory),
         };
-        let files = self.files.len();
+        let files = self.files.as_slice().len();
         let variables = self.variables.len();
         for row in rows.rows {
             add_variables(self.alloc, &mut self.variables, rows.names.as_slice(), row)?;
@@ -268,7 +264,7 @@ impl Runner {
         self.report
             .compare_answers(line.number, status_line, variables, &wanted, &got)?;
         self.last = Some(Last {
-            before: self.files.len(),
+            before: self.files.as_slice().len(),
             open: true,
         });
         self.failing = Failing::new(self.alloc);
