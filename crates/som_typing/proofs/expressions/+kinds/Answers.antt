@@ -3,6 +3,7 @@ use Rattle.std.proofs.lemmas.Result.{err_from_is_err_and}
 use Rattle.som_model.specs.Typing.{Of, PlainNil, value, value_of}
 use Rattle.som_model.specs.declared.key.ValueType.TheVariants as types
 use Rattle.som_model.specs.declared.syntax.Expr.{Expr}
+use Rattle.som_typing.specs.declared.kind.Kind.{Kind}
 use Rattle.som_typing.specs.declared.kind.Kind.TheVariants as kinds
 use Rattle.som_typing.specs.Kinds.{AllStand, Fails, Types, kind_at, type_at}
 use Rattle.som_typing.specs.Knowing.{classes_in, facts_in, place_in, typed_in}
@@ -249,5 +250,5 @@ values_in-loop-arg-preserved t c =
     let is = c.arg-item.is ∙ ap (λ (z : List Expr). slice_index_or z i e) c.as_slice-arg-items.ensures in
     record {
       typed = args_go_on (classes_in code) (typed_in code) es c.loop-arg.kinds.items i c.loop-arg.invariant.typed _ e k c.push.new.self.items (omega arith) lt is c.in_ok-value_in.ensures.0 c.in_ok-push.ensures.items;
-      stand = subst (AllStand (classes_in code)) (sym c.in_ok-push.ensures.items) (all_stand_more (classes_in code) c.loop-arg.kinds.items k c.loop-arg.invariant.stand c.in_ok-value_in.ensures.1);
+      stand = subst (AllStand (classes_in code)) (sym {A = List Kind} c.in_ok-push.ensures.items) (all_stand_more (classes_in code) c.loop-arg.kinds.items k c.loop-arg.invariant.stand c.in_ok-value_in.ensures.1);
     }
