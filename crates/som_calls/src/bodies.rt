@@ -2,7 +2,8 @@ use som_model::{
     Block, Body, ClassDecl, ClassFace, ClassKey, ClientProgram, Entry, Interface, List, Module,
     NoMemory, Release, Sig, Text, ValueType, Way,
 };
-use som_verify::{VerifyFault, program_ok, release_ok};
+use som_rules::VerifyFault;
+use som_verify::{program_ok, release_ok};
 use std::alloc::Global;
 use std::test::Fail;
 

@@ -22,9 +22,9 @@ use Rattle.som_model.specs.Conforming.{ProgramOk, all_of_program, declared_progr
 use Rattle.som_model.specs.Images.{client_image}
 use Rattle.som_libimage.specs.Libraries.{NamesDiffer}
 use Rattle.som_libimage.proofs.Conforming.{declared_faces, faces_names, neither_is, none_first}
-use Rattle.som_verify.specs.Faces.{faces_breach}
-use Rattle.som_verify.specs.Places.{all_classes, key_at}
-use Rattle.som_verify.specs.Told.{of_release}
+use Rattle.som_rules.specs.Faces.{faces_breach}
+use Rattle.som_rules.specs.Places.{all_classes, key_at}
+use Rattle.som_rules.specs.Told.{of_release}
 use Rattle.som_first.specs.declared.classes.FirstFace.{FirstFace}
 use Rattle.som_first.specs.declared.classes.FirstCall.{FirstCall}
 use Rattle.som_first.specs.declared.classes.FirstProgram.{FirstProgram}

@@ -10,8 +10,8 @@ use Rattle.som_model.specs.Conforming.{release_breach}
 use Rattle.som_fields.specs.declared.fault.ImageFault.{ImageFault}
 use Rattle.som_libimage.specs.Libraries.{library_at}
 use Rattle.som_libimage.proofs.Decoded.{found, library_again}
-use Rattle.som_verify.specs.Faces.{faces_breach}
-use Rattle.som_verify.specs.Told.{of_release}
+use Rattle.som_rules.specs.Faces.{faces_breach}
+use Rattle.som_rules.specs.Told.{of_release}
 use Rattle.som_verify.proofs.Conforming.{conforms_release, release_conforms}
 use Rattle.som_first.specs.declared.classes.FirstFace.{FirstFace}
 use Rattle.som_first.specs.declared.classes.FirstRelease.{FirstRelease}

@@ -5,7 +5,7 @@ use Rattle.som_model.specs.declared.class.ClassDecl.{ClassDecl}
 use Rattle.som_model.specs.Class.{interface_of}
 use Rattle.som_model.specs.Classes.{is_a}
 use Rattle.som_model.specs.Conforming.{ProgramOk}
-use Rattle.som_verify.specs.Places.{all_classes, key_at}
+use Rattle.som_rules.specs.Places.{all_classes, key_at}
 use Rattle.som_firstclient.specs.declared.image.ClientImage.{ClientImage}
 use Rattle.som_firstclient.specs.Clients.{program_named, FitsClient}
 use Rattle.som_model.specs.Images.{library_image}

@@ -2,15 +2,15 @@ ghost use Rattle.som_cmd.specs.Taking.{ClientTells, TakesClient, descends_in};
 ghost use Rattle.som_firstclient.specs.Clients.{FitsClient};
 ghost use Rattle.som_model.specs.Class.{bare};
 ghost use Rattle.som_model.specs.Lists.{every};
-ghost use Rattle.som_verify.specs.Faces.{faces_breach};
-ghost use Rattle.som_verify.specs.Places.{all_classes};
-ghost use Rattle.som_verify.specs.Told.{of_release};
+ghost use Rattle.som_rules.specs.Faces.{faces_breach};
+ghost use Rattle.som_rules.specs.Places.{all_classes};
+ghost use Rattle.som_rules.specs.Told.{of_release};
 ghost use Rattle.std.specs.Prelude.{◌≡◌, ◌<◌, None, length, map, All, IfOk};
 
 use som_first::{CallPlace, Unread, are_first_faces};
 use som_firstclient::{ClientImage, read_client};
 use som_model::{ClassDecl, ClassFace, List, NoMemory};
-use som_verify::{VerifyFault, ancestor_lists, faces_ok, is_listed};
+use som_rules::{VerifyFault, ancestor_lists, faces_ok, is_listed};
 use std::alloc::Global;
 
 // Classes of which the faces alone are known.

@@ -7,8 +7,8 @@ use crate::stop::{Refusal, Stop, Why};
 use crate::texts::refuse_limit;
 use som_compile::{CompileFault, ReadingFault, TextFault};
 use som_model::{NoMemory, Text};
+use som_rules::Broken;
 use som_show::add_number;
-use som_verify::Broken;
 use std::alloc::Global;
 
 fn reading_name(fault: ReadingFault) -> &'static [u8]

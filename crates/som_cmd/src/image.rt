@@ -4,15 +4,16 @@ ghost use Rattle.som_cmd.specs.ImageSteps.{release_in, rules_kept, sound_release
 ghost use Rattle.som_cmd.specs.Steps.{Follows};
 ghost use Rattle.som_libimage.specs.Limits.{IsWithinLimits};
 ghost use Rattle.som_model.specs.Conforming.{ReleaseOk};
-ghost use Rattle.som_verify.specs.Told.{told};
+ghost use Rattle.som_rules.specs.Told.{told};
 ghost use Rattle.std.specs.Prelude.{◌≡◌, IfOk};
 
 use crate::stop::{Refusal, Stop, Why};
 use som_fields::ImageFault;
 use som_libimage::decode;
 use som_model::{List, NoMemory, Release, Text};
+use som_rules::{Broken, VerifyFault};
 use som_show::add_number;
-use som_verify::{Broken, VerifyFault, release_ok};
+use som_verify::release_ok;
 use std::alloc::Global;
 
 fn number_of(fault: ImageFault) -> u64

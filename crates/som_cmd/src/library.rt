@@ -4,7 +4,8 @@ use som_fields::ImageFault;
 use som_first::{FirstRelease, Unread, first_release};
 use som_libimage::decode;
 use som_model::{List, Release};
-use som_verify::{VerifyFault, release_ok};
+use som_rules::VerifyFault;
+use som_verify::release_ok;
 use std::alloc::Global;
 
 /// A first library image that conforms: its release, and the same as a first release.

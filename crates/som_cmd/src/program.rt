@@ -9,7 +9,8 @@ use crate::stop::Stop;
 use som_cliimage::decode;
 use som_fields::ImageFault;
 use som_model::{ClientProgram, List, Text};
-use som_verify::{VerifyFault, program_ok};
+use som_rules::VerifyFault;
+use som_verify::program_ok;
 use std::alloc::Global;
 
 // The program of a client image, or the refusal that tells the first fault of the bytes.

@@ -3,7 +3,7 @@ use Rattle.std.specs.Prelude.{◌≡◌, ◌≤◌, length, All, None}
 use Rattle.som_model.specs.declared.class.ClassFace.{ClassFace}
 use Rattle.som_model.specs.declared.program.Interface.{Interface}
 use Rattle.som_model.specs.Classes.{interface_classes}
-use Rattle.som_verify.specs.Faces.{faces_breach}
+use Rattle.som_rules.specs.Faces.{faces_breach}
 
 -- from 1 to 16 parents, and at most 256 entries
 pub record IsCounted (f : ClassFace) : Type 0 where

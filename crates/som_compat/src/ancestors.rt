@@ -7,9 +7,9 @@ ghost use Rattle.som_model.specs.Compatible.{k3};
 ghost use Rattle.som_model.specs.Keys.{same_key};
 ghost use Rattle.som_model.specs.Lists.{Mem, first, joined};
 ghost use Rattle.som_model.specs.declared.key.ClassKey.{ClassKey as Key};
-ghost use Rattle.som_verify.specs.Places.{class_of_place, face_at, key_at};
-ghost use Rattle.som_verify.specs.Plainly.{IsAmong};
-ghost use Rattle.som_verify.specs.Walk.{adds};
+ghost use Rattle.som_rules.specs.Places.{class_of_place, face_at, key_at};
+ghost use Rattle.som_rules.specs.Plainly.{IsAmong};
+ghost use Rattle.som_rules.specs.Walk.{adds};
 ghost use Rattle.std.specs.Prelude.{◌≡◌, ◌↔◌, ◌+◌, ◌<◌, ◌≤◌, ◌⊎◌, ◌∷◌, [], ℕ, IfSome, length, map};
 
 use crate::breach::{Breach, declared_text};

@@ -3,7 +3,7 @@ ghost use Rattle.som_model.specs.Class.{bare};
 ghost use Rattle.std.specs.Prelude.{◌≡◌, ◌↔◌, All, IfOk, IsTrue, map};
 
 use som_model::{ClassDecl, ClassFace, Interface, List, NoMemory};
-use som_verify::{VerifyFault, faces_ok};
+use som_rules::{VerifyFault, faces_ok};
 use std::alloc::Global;
 
 /// Whether an interface may be compared: it breaks no rule that looks at faces, and is within the counts.

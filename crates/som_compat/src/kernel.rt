@@ -1,11 +1,11 @@
+ghost use Rattle.som_compat.specs.Finding.{FindsName};
 ghost use Rattle.som_compat.specs.KernelSigs.{sig_of_kernel, told_sig, type_of};
 ghost use Rattle.som_model.specs.Class.{entry_of, introduced_sig};
-ghost use Rattle.som_compat.specs.Finding.{FindsName};
+ghost use Rattle.som_model.specs.Kernel.{before_after_face, class_face, class_mgr_face, object_face, kernel, kernel_key};
 ghost use Rattle.som_model.specs.Keys.{same_key};
 ghost use Rattle.som_model.specs.Rules.{name_of};
-ghost use Rattle.som_verify.specs.Places.{face_at};
-ghost use Rattle.som_model.specs.Kernel.{before_after_face, class_face, class_mgr_face, object_face, kernel, kernel_key};
 ghost use Rattle.som_model.specs.Same.{same_list, same_sig, same_type};
+ghost use Rattle.som_rules.specs.Places.{face_at};
 ghost use Rattle.std.specs.Prelude.{◌≡◌, ◌<◌, [], map};
 ghost use Rattle.std.specs.Str.{bytes_eq};
 

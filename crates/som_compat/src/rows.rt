@@ -1,8 +1,8 @@
 ghost use Rattle.som_compat.specs.Conditions.{IsCounted};
 ghost use Rattle.som_compat.specs.Views.{IsRow, classes_of, numbers_of};
-ghost use Rattle.som_model.specs.declared.key.ClassKey.{ClassKey as Key};
 ghost use Rattle.som_model.specs.Lists.{Mem};
-ghost use Rattle.som_verify.specs.Plainly.{IsAmong};
+ghost use Rattle.som_model.specs.declared.key.ClassKey.{ClassKey as Key};
+ghost use Rattle.som_rules.specs.Plainly.{IsAmong};
 ghost use Rattle.std.specs.Prelude.{◌≡◌, ◌≤◌, length, Some};
 
 use crate::lookup::Lookup;

@@ -1,13 +1,13 @@
 ghost use Rattle.som_compat.specs.Conditions.{Conforms};
 ghost use Rattle.som_compat.specs.Told.{changed, entry_sig, sig_told, signature_told, told_by};
 ghost use Rattle.som_compat.specs.Views.{IsShown, classes_of, interface, shown};
+ghost use Rattle.som_model.specs.Class.{entry_of, introduced_sig};
 ghost use Rattle.som_model.specs.Compatible.{incompatible, k4, k5};
 ghost use Rattle.som_model.specs.Kernel.{kernel};
-ghost use Rattle.som_verify.specs.Places.{face_at};
-ghost use Rattle.som_model.specs.Class.{entry_of, introduced_sig};
 ghost use Rattle.som_model.specs.Lists.{first};
 ghost use Rattle.som_model.specs.Owner.{sig_of};
 ghost use Rattle.som_model.specs.Same.{same_option, same_sig};
+ghost use Rattle.som_rules.specs.Places.{face_at};
 ghost use Rattle.std.specs.Prelude.{◌≡◌, ◌<◌, ◌≤◌, None, Some, length, map, option_copied};
 
 use crate::breach::Breach;

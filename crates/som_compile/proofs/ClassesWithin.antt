@@ -32,9 +32,9 @@ use Rattle.som_idl.specs.declared.tree.IdlInterface.{IdlInterface}
 use Rattle.som_idl.specs.Within.{ItemWithin, InterfaceWithin}
 use Rattle.som_body.specs.declared.tree.BodyText.{BodyText}
 use Rattle.som_body.specs.Within.{BodyTextWithin}
-use Rattle.som_verify.specs.Places.{with_kernel}
-use Rattle.som_verify.proofs.Before.{every_mem}
-use Rattle.som_verify.proofs.PlainLists.{mem_map}
+use Rattle.som_rules.specs.Places.{with_kernel}
+use Rattle.som_rules.proofs.Before.{every_mem}
+use Rattle.som_rules.proofs.PlainLists.{mem_map}
 use Rattle.som_naming.specs.BlockLimits.{TextWithin, BlockWithin, StmtWithin}
 use Rattle.som_wire.specs.Fitting.{levels_left}
 use Rattle.som_libimage.specs.Limits.{EntryWithin, BodyWithin, FaceWithin, ClassWithin}

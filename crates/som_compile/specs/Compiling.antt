@@ -7,7 +7,7 @@ use Rattle.som_model.specs.declared.program.Release.{Release}
 use Rattle.som_model.specs.Classes.{interface_classes}
 use Rattle.som_model.specs.Images.{client_image, library_image}
 use Rattle.som_body.specs.declared.tree.MainFile.{MainFile}
-use Rattle.som_verify.specs.Faces.{faces_breach}
+use Rattle.som_rules.specs.Faces.{faces_breach}
 use Rattle.som_sema.specs.declared.types.Refused.{Refused}
 use Rattle.som_sema.specs.declared.types.Refused.TheVariants as refusals
 use Rattle.som_sema.specs.Words.{interfaces_of}

@@ -17,13 +17,13 @@ use Rattle.som_model.specs.Keys.{same_key}
 use Rattle.som_model.specs.Owner.{owner}
 use Rattle.som_model.specs.Typing.{class_facts}
 use Rattle.som_body.specs.declared.tree.BodyText.{BodyText}
-use Rattle.som_verify.specs.Bodies.{AllSigsKnown}
-use Rattle.som_verify.specs.Kinds.{IsDeclared}
-use Rattle.som_verify.specs.Knowing.{all_of, sig_is_known}
-use Rattle.som_verify.specs.Modules.{classes_of}
-use Rattle.som_verify.specs.Places.{class_of_place, with_kernel}
-use Rattle.som_verify.proofs.Facts.{signature_said}
-use Rattle.som_verify.proofs.Finding.{mem_place}
+use Rattle.som_typing.specs.Bodies.{AllSigsKnown}
+use Rattle.som_typing.specs.Kinds.{IsDeclared}
+use Rattle.som_typing.specs.Knowing.{all_of, sig_is_known}
+use Rattle.som_rules.specs.Modules.{classes_of}
+use Rattle.som_rules.specs.Places.{class_of_place, with_kernel}
+use Rattle.som_typing.proofs.Facts.{signature_said}
+use Rattle.som_rules.proofs.Finding.{mem_place}
 use Rattle.som_sema.specs.declared.types.Refused.{Refused}
 use Rattle.som_sema.specs.Limits.{class_limits}
 use Rattle.som_sema.proofs.LimitLaws.{limits_law}

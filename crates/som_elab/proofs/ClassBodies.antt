@@ -28,7 +28,7 @@ use Rattle.som_model.specs.TypedBlocks.{Scope, Scoped, block_scope, block_step, 
 use Rattle.som_read.specs.declared.tree.Word.{Word}
 use Rattle.som_idl.specs.declared.tree.IdlInterface.{IdlInterface}
 use Rattle.som_body.specs.declared.tree.BodyText.{BodyText}
-use Rattle.som_verify.specs.Plainly.{ClassesHold, Fits, a_block, signatures}
+use Rattle.som_rules.specs.Plainly.{ClassesHold, Fits, a_block, signatures}
 use Rattle.som_sema.specs.Accessors.{Access, accessor_body, body_of}
 use Rattle.som_sema.specs.Building.{after_base, declarations, texts_breach}
 use Rattle.som_sema.specs.Sketch.{Drawn}

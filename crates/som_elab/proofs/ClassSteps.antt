@@ -17,7 +17,7 @@ use Rattle.som_model.specs.Steps.{◌>>=◌}
 use Rattle.som_model.specs.Typing.{class_facts}
 use Rattle.som_body.specs.declared.tree.BlockText.{BlockText}
 use Rattle.som_body.specs.declared.tree.BodyText.{BodyText}
-use Rattle.som_verify.proofs.Facts.{signature_said}
+use Rattle.som_typing.proofs.Facts.{signature_said}
 use Rattle.som_sema.specs.declared.types.Refused.{Refused}
 use Rattle.som_sema.specs.Accessors.{body_of}
 use Rattle.som_sema.specs.Sketch.{Drawn, drawings, seen}

@@ -21,16 +21,16 @@ use Rattle.som_laws.proofs.Members.{mem_split}
 use Rattle.som_idl.specs.declared.tree.IdlInterface.{IdlInterface}
 use Rattle.som_body.specs.declared.tree.BlockText.{BlockText}
 use Rattle.som_body.specs.declared.tree.BodyText.{BodyText}
-use Rattle.som_verify.specs.Faces.{faces_breach}
-use Rattle.som_verify.specs.Modules.{AreDeclared}
-use Rattle.som_verify.specs.Places.{with_kernel}
-use Rattle.som_verify.specs.Plainly.{BodiesFit, ClassesHold, Fits, TypesKnown}
-use Rattle.som_verify.proofs.Before.{both_none, none_both}
-use Rattle.som_verify.proofs.DeclaredClasses.{faces_declared, long_map, map_declared}
-use Rattle.som_verify.proofs.PlainFaces.{classes_say, or_none}
-use Rattle.som_verify.proofs.PlainLists.{map_mem, says_each}
-use Rattle.som_verify.proofs.PlainMembers.{types_say}
-use Rattle.som_verify.proofs.PlainWhole.{say_program, say_rules}
+use Rattle.som_rules.specs.Faces.{faces_breach}
+use Rattle.som_rules.specs.Modules.{AreDeclared}
+use Rattle.som_rules.specs.Places.{with_kernel}
+use Rattle.som_rules.specs.Plainly.{BodiesFit, ClassesHold, Fits, TypesKnown}
+use Rattle.som_rules.proofs.Before.{both_none, none_both}
+use Rattle.som_rules.proofs.DeclaredClasses.{faces_declared, long_map, map_declared}
+use Rattle.som_rules.proofs.PlainFaces.{classes_say, or_none}
+use Rattle.som_rules.proofs.PlainLists.{map_mem, says_each}
+use Rattle.som_rules.proofs.PlainMembers.{types_say}
+use Rattle.som_rules.proofs.PlainWhole.{say_program, say_rules}
 use Rattle.som_sema.specs.Building.{after_base, declarations, texts_breach}
 use Rattle.som_sema.specs.Limits.{Passed, limit_passed}
 use Rattle.som_sema.specs.Sketch.{Drawn, sketches}

@@ -23,12 +23,12 @@ use Rattle.som_read.specs.declared.tree.TypeName.{TypeName}
 use Rattle.som_idl.specs.declared.tree.IdlInterface.{IdlInterface}
 use Rattle.som_idl.specs.declared.tree.Export.{Export}
 use Rattle.som_idl.specs.declared.tree.Export.TheVariants as exports
-use Rattle.som_verify.specs.Places.{with_kernel}
-use Rattle.som_verify.specs.Plainly.{Fits}
-use Rattle.som_verify.proofs.PlainFaces.{or_none}
-use Rattle.som_verify.proofs.PlainLists.{differ_apart, map_mem, mem_map}
-use Rattle.som_verify.proofs.PlainMembers.{variables_say}
-use Rattle.som_verify.proofs.PlainMoves.{flat_mem, mem_flat}
+use Rattle.som_rules.specs.Places.{with_kernel}
+use Rattle.som_rules.specs.Plainly.{Fits}
+use Rattle.som_rules.proofs.PlainFaces.{or_none}
+use Rattle.som_rules.proofs.PlainLists.{differ_apart, map_mem, mem_map}
+use Rattle.som_rules.proofs.PlainMembers.{variables_say}
+use Rattle.som_rules.proofs.PlainMoves.{flat_mem, mem_flat}
 use Rattle.som_sema.specs.Accessors.{Access, accessor_body, accessors_of, attribute_accessors, body_of, export_accessors}
 use Rattle.som_sema.specs.Building.{after_base, declarations, declared_all, home_of, moved_breach, texts_breach}
 use Rattle.som_sema.specs.Finished.{declare, entry_for, entry_or_moved, introducer}

@@ -5,8 +5,8 @@ use Rattle.som_model.specs.declared.syntax.Expr.TheVariants as exprs
 use Rattle.som_model.specs.Class.{Class}
 use Rattle.som_model.specs.Steps.{◌>>=◌}
 use Rattle.som_model.specs.Typing.{CodePlace, Of}
-use Rattle.som_verify.specs.declared.code_place.TypeFault.{TypeFault}
-use Rattle.som_verify.proofs.KindLaws.{part_there}
+use Rattle.som_typing.specs.declared.code_place.TypeFault.{TypeFault}
+use Rattle.som_typing.proofs.KindLaws.{part_there}
 use Rattle.som_read.specs.declared.tree.TypeName.{TypeName}
 use Rattle.som_read.specs.declared.tree.Word.{Word}
 use Rattle.som_body.specs.declared.tree.ExprText.{ExprText, fold-roll-ExprText}

@@ -19,9 +19,9 @@ use Rattle.som_read.specs.declared.tree.TypeName.{TypeName}
 use Rattle.som_idl.specs.declared.tree.IdlInterface.{IdlInterface}
 use Rattle.som_idl.specs.declared.tree.Export.{Export}
 use Rattle.som_idl.specs.declared.tree.Export.TheVariants as exports
-use Rattle.som_verify.specs.Plainly.{Fits, a_reader, a_writer}
-use Rattle.som_verify.proofs.PlainLists.{mem_map}
-use Rattle.som_verify.proofs.PlainMoves.{flat_mem, mem_flat}
+use Rattle.som_rules.specs.Plainly.{Fits, a_reader, a_writer}
+use Rattle.som_rules.proofs.PlainLists.{mem_map}
+use Rattle.som_rules.proofs.PlainMoves.{flat_mem, mem_flat}
 use Rattle.som_sema.specs.Home.{type_of}
 use Rattle.som_sema.specs.Items.{by_name}
 use Rattle.som_sema.specs.Sketch.{Drawn, accessors, export_entries, export_variables, getter, introduces, item_variables, setter, variables, variables_of, way_of}

@@ -11,21 +11,21 @@ use Rattle.som_model.specs.Conforming.{first_of_members, first_of_names}
 use Rattle.som_model.specs.Kernel.{kernel}
 use Rattle.som_model.specs.Rules.{RuleBreach, s5}
 use Rattle.som_laws.proofs.Members.{mem_split}
-use Rattle.som_verify.specs.Bodies.{AllSigsKnown}
-use Rattle.som_verify.specs.Faces.{classes_breach}
-use Rattle.som_verify.specs.Kinds.{IsDeclared}
-use Rattle.som_verify.specs.Knowing.{IsKnowledge}
-use Rattle.som_verify.specs.Modules.{classes_of}
-use Rattle.som_verify.specs.Places.{class_of_place, nobody, with_kernel}
-use Rattle.som_verify.specs.declared.types.Declared.{Declared}
-use Rattle.som_verify.proofs.Before.{none_both}
-use Rattle.som_verify.proofs.BodySteps.{item_mem}
-use Rattle.som_verify.proofs.DeclaredClasses.{long_map}
-use Rattle.som_verify.proofs.NamesKnown.{declared_sig}
-use Rattle.som_verify.proofs.Owners.{flat_none}
-use Rattle.som_verify.proofs.PlainFaces.{or_none}
-use Rattle.som_verify.proofs.PlainLists.{map_mem, mem_map}
-use Rattle.som_verify.proofs.PlainMembers.{types_say}
+use Rattle.som_typing.specs.Bodies.{AllSigsKnown}
+use Rattle.som_rules.specs.Faces.{classes_breach}
+use Rattle.som_typing.specs.Kinds.{IsDeclared}
+use Rattle.som_typing.specs.Knowing.{IsKnowledge}
+use Rattle.som_rules.specs.Modules.{classes_of}
+use Rattle.som_rules.specs.Places.{class_of_place, nobody, with_kernel}
+use Rattle.som_rules.specs.declared.types.Declared.{Declared}
+use Rattle.som_rules.proofs.Before.{none_both}
+use Rattle.som_typing.proofs.BodySteps.{item_mem}
+use Rattle.som_rules.proofs.DeclaredClasses.{long_map}
+use Rattle.som_typing.proofs.NamesKnown.{declared_sig}
+use Rattle.som_rules.proofs.Owners.{flat_none}
+use Rattle.som_rules.proofs.PlainFaces.{or_none}
+use Rattle.som_rules.proofs.PlainLists.{map_mem, mem_map}
+use Rattle.som_rules.proofs.PlainMembers.{types_say}
 use Rattle.som_sema.specs.Limits.{class_limits, limit_passed}
 use Rattle.som_sema.specs.Sketch.{Drawn, drawings, seen, sketches}
 use Rattle.som_sema.specs.declared.sketch.Drawing.{Drawing}

@@ -7,11 +7,11 @@ use Rattle.som_model.specs.declared.class.Entry.TheVariants as entries
 use Rattle.som_model.specs.Class.{Class, entry_of, introduced_sig}
 use Rattle.som_model.specs.Lists.{find, or_else}
 use Rattle.som_model.specs.Owner.{entry_at, introduces}
-use Rattle.som_verify.specs.declared.types.Declared.{Declared}
-use Rattle.som_verify.specs.Modules.{class_of, classes_of}
-use Rattle.som_verify.specs.Places.{face_at, key_at, with_kernel}
-use Rattle.som_verify.specs.Walk.{AreLists}
-use Rattle.som_verify.proofs.DeclaredClasses.{long_map}
+use Rattle.som_rules.specs.declared.types.Declared.{Declared}
+use Rattle.som_rules.specs.Modules.{class_of, classes_of}
+use Rattle.som_rules.specs.Places.{face_at, key_at, with_kernel}
+use Rattle.som_rules.specs.Walk.{AreLists}
+use Rattle.som_rules.proofs.DeclaredClasses.{long_map}
 use Rattle.som_elab.specs.Methods.{Method, method_by}
 use Rattle.som_elab.specs.Forms.{first_method, method_by_entry}
 

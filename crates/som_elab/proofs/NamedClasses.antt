@@ -8,7 +8,7 @@ use Rattle.som_model.specs.Class.{Class}
 use Rattle.som_model.specs.Typing.{class_facts}
 use Rattle.som_idl.specs.declared.tree.IdlInterface.{IdlInterface}
 use Rattle.som_idl.specs.declared.tree.Export.{Export}
-use Rattle.som_verify.proofs.Facts.{signature_said}
+use Rattle.som_typing.proofs.Facts.{signature_said}
 use Rattle.som_sema.specs.Noted.{first_place}
 use Rattle.som_sema.specs.Sketch.{Drawn, drawings, seen}
 use Rattle.som_sema.specs.declared.sketch.Drawing.{Drawing}

@@ -10,9 +10,9 @@ use Rattle.som_model.specs.Lists.{Mem, place_from, some}
 use Rattle.som_model.specs.Steps.{◌>>=◌}
 use Rattle.som_model.specs.Class.{Class}
 use Rattle.som_model.specs.Typing.{fits, kind_is_known, needs}
-use Rattle.som_verify.specs.Kinds.{IsType, type_at}
+use Rattle.som_typing.specs.Kinds.{IsType, type_at}
 use Rattle.som_laws.proofs.Members.{mem_split}
-use Rattle.som_verify.proofs.DeclaredClasses.{long_map}
+use Rattle.som_rules.proofs.DeclaredClasses.{long_map}
 use Rattle.som_elab.specs.declared.local.Local.{Local}
 use Rattle.som_elab.specs.Locals.{Named, Names, in_scope, local_of, names_of}
 use Rattle.som_elab.specs.Expressions.{Among, Elab, Elaborated, facts_among}

@@ -14,8 +14,8 @@ use Rattle.som_model.specs.Class.{Class, introduced}
 use Rattle.som_model.specs.Owner.{owner, sig_of}
 use Rattle.som_model.specs.Steps.{◌>>=◌}
 use Rattle.som_body.specs.declared.tree.BodyText.{BodyText}
-use Rattle.som_verify.specs.Told.{Tells}
-use Rattle.som_verify.specs.declared.types.VerifyFault.{VerifyFault}
+use Rattle.som_rules.specs.Told.{Tells}
+use Rattle.som_rules.specs.declared.types.VerifyFault.{VerifyFault}
 use Rattle.som_sema.specs.declared.types.Refused.{Refused}
 use Rattle.som_sema.specs.Accessors.{body_of}
 use Rattle.som_sema.specs.Sketch.{Drawn}

@@ -12,7 +12,7 @@ use Rattle.som_model.specs.Class.{Class}
 use Rattle.som_model.specs.Typing.{CodePlace, in_body}
 use Rattle.som_read.specs.declared.tree.Word.{Word}
 use Rattle.som_body.specs.declared.tree.BodyText.{BodyText}
-use Rattle.som_verify.specs.Kinds.{IsType, type_at}
+use Rattle.som_typing.specs.Kinds.{IsType, type_at}
 use Rattle.som_sema.specs.Words.{words}
 use Rattle.som_elab.specs.declared.local.Local.{Local}
 use Rattle.som_elab.specs.declared.fault.BodyFault.{BodyFault}

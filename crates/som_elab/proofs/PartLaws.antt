@@ -5,11 +5,11 @@ use Rattle.som_model.specs.declared.syntax.Expr.{Expr}
 use Rattle.som_model.specs.Class.{Class}
 use Rattle.som_model.specs.Steps.{◌>>=◌}
 use Rattle.som_model.specs.Typing.{ExprType, Ruled, Typed}
-use Rattle.som_verify.specs.declared.kind.Kind.{Kind}
-use Rattle.som_verify.specs.declared.code_place.TypeFault.{TypeFault}
-use Rattle.som_verify.specs.declared.code_place.TypeFault.TheVariants as faults
-use Rattle.som_verify.specs.Kinds.{AllStand, Fails, Stands, kind_at}
-use Rattle.som_verify.proofs.KindLaws.{all_stand_more, part_there}
+use Rattle.som_typing.specs.declared.kind.Kind.{Kind}
+use Rattle.som_typing.specs.declared.code_place.TypeFault.{TypeFault}
+use Rattle.som_typing.specs.declared.code_place.TypeFault.TheVariants as faults
+use Rattle.som_typing.specs.Kinds.{AllStand, Fails, Stands, kind_at}
+use Rattle.som_typing.proofs.KindLaws.{all_stand_more, part_there}
 use Rattle.som_body.specs.declared.tree.ExprText.{ExprText}
 use Rattle.som_elab.specs.declared.made.Made.{Made}
 use Rattle.som_elab.specs.declared.parts.Parts.{Parts}

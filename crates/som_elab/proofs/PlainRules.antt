@@ -14,9 +14,9 @@ use Rattle.som_model.specs.Classes.{hierarchy}
 use Rattle.som_model.specs.Kernel.{kernel}
 use Rattle.som_model.specs.Owner.{owner}
 use Rattle.som_model.specs.Rules.{name_of}
-use Rattle.som_verify.specs.Places.{with_kernel}
-use Rattle.som_verify.specs.Plainly.{ClassesHold, Differ, Introduces, IsAbove, IsAmong, IsNamed, IsValue, TypesKnown}
-use Rattle.som_verify.proofs.PlainLists.{map_mem, mem_map}
+use Rattle.som_rules.specs.Places.{with_kernel}
+use Rattle.som_rules.specs.Plainly.{ClassesHold, Differ, Introduces, IsAbove, IsAmong, IsNamed, IsValue, TypesKnown}
+use Rattle.som_rules.proofs.PlainLists.{map_mem, mem_map}
 use Rattle.som_elab.proofs.Plain.{emptied, plain, plain_hierarchy, plain_owner}
 
 -- places and members

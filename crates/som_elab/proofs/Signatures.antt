@@ -22,9 +22,9 @@ use Rattle.som_model.proofs.KeyLaws.{both, exact_bytes}
 use Rattle.som_laws.proofs.Members.{Apart, find_first, find_none, mem_right}
 use Rattle.som_idl.specs.declared.tree.IdlInterface.{IdlInterface}
 use Rattle.som_body.specs.declared.tree.BodyText.{BodyText}
-use Rattle.som_verify.specs.Plainly.{ClassesHold, Introduces}
-use Rattle.som_verify.proofs.Owners.{flat_none}
-use Rattle.som_verify.proofs.PlainLists.{differ_apart, map_mem, mem_map}
+use Rattle.som_rules.specs.Plainly.{ClassesHold, Introduces}
+use Rattle.som_rules.proofs.Owners.{flat_none}
+use Rattle.som_rules.proofs.PlainLists.{differ_apart, map_mem, mem_map}
 use Rattle.som_sema.specs.Accessors.{body_of}
 use Rattle.som_sema.specs.Building.{after_base, declarations}
 use Rattle.som_sema.specs.Finished.{override_of}

@@ -6,10 +6,10 @@ use Rattle.som_model.specs.declared.syntax.Stmt.TheVariants as stmts
 use Rattle.som_model.specs.Steps.{◌>>=◌}
 use Rattle.som_model.specs.Class.{Class}
 use Rattle.som_model.specs.Typing.{CodePlace, Ruled, fits, needs, own_variable, there}
-use Rattle.som_verify.specs.declared.code_place.TypeFault.{TypeFault}
-use Rattle.som_verify.specs.declared.code_place.TypeFault.TheVariants as types
-use Rattle.som_verify.specs.Kinds.{Fails, IsType, type_at}
-use Rattle.som_verify.proofs.KindLaws.{index_mem}
+use Rattle.som_typing.specs.declared.code_place.TypeFault.{TypeFault}
+use Rattle.som_typing.specs.declared.code_place.TypeFault.TheVariants as types
+use Rattle.som_typing.specs.Kinds.{Fails, IsType, type_at}
+use Rattle.som_typing.proofs.KindLaws.{index_mem}
 use Rattle.som_elab.specs.declared.local.Local.{Local}
 use Rattle.som_elab.specs.declared.fault.BodyFault.{BodyFault}
 use Rattle.som_elab.specs.declared.fault.BodyFault.TheVariants as faults

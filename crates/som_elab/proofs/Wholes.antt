@@ -15,11 +15,11 @@ use Rattle.som_model.specs.Steps.{◌>>=◌}
 use Rattle.som_idl.specs.declared.tree.IdlInterface.{IdlInterface}
 use Rattle.som_body.specs.declared.tree.BodyText.{BodyText}
 use Rattle.som_body.specs.declared.tree.BlockText.{BlockText}
-use Rattle.som_verify.specs.Faces.{classes_breach, faces_breach}
-use Rattle.som_verify.specs.Places.{with_kernel}
-use Rattle.som_verify.specs.Told.{Tells}
-use Rattle.som_verify.specs.declared.types.VerifyFault.{VerifyFault}
-use Rattle.som_verify.specs.declared.types.VerifyFault.TheVariants as broken
+use Rattle.som_rules.specs.Faces.{classes_breach, faces_breach}
+use Rattle.som_rules.specs.Places.{with_kernel}
+use Rattle.som_rules.specs.Told.{Tells}
+use Rattle.som_rules.specs.declared.types.VerifyFault.{VerifyFault}
+use Rattle.som_rules.specs.declared.types.VerifyFault.TheVariants as broken
 use Rattle.som_sema.specs.declared.types.Refused.{Refused}
 use Rattle.som_sema.specs.declared.types.Refused.TheVariants as refusals
 use Rattle.som_sema.specs.Building.{FacesTold, after_base, declarations, home_of, most_classes, refused_by, texts_breach}

@@ -16,7 +16,7 @@ use Rattle.som_idl.specs.declared.tree.Export.{Export}
 use Rattle.som_idl.specs.declared.tree.Export.TheVariants as exports
 use Rattle.som_body.specs.declared.tree.BodyFile.{BodyFile}
 use Rattle.som_body.specs.declared.tree.BodyText.{BodyText}
-use Rattle.som_verify.specs.Places.{with_kernel}
+use Rattle.som_rules.specs.Places.{with_kernel}
 use Rattle.som_sema.specs.Sketch.{Drawn}
 use Rattle.som_sema.specs.TextRules.{text_demand}
 use Rattle.som_sema.specs.Building.{after_base, declarations}

@@ -5,12 +5,12 @@ use Rattle.som_model.specs.declared.limits.TheConstants.{MAX_LOCALS, MAX_PARENTS
 use Rattle.som_model.specs.Lists.{Mem}
 use Rattle.som_model.specs.Class.{Class}
 use Rattle.som_model.specs.Typing.{CodePlace}
-use Rattle.som_verify.specs.Places.{class_of_place}
-use Rattle.som_verify.specs.Kinds.{Fails, IsType, PlaceStands, Stands, code_at, kind_at, type_at}
-use Rattle.som_verify.specs.Knowing.{IsKnowledge, all_of}
-use Rattle.som_verify.specs.declared.knowledge.Knowledge.{Knowledge}
-use Rattle.som_verify.specs.declared.code_place.TypeFault.{TypeFault}
-use Rattle.som_verify.specs.declared.code_place.TypeFault.TheVariants as types
+use Rattle.som_rules.specs.Places.{class_of_place}
+use Rattle.som_typing.specs.Kinds.{Fails, IsType, PlaceStands, Stands, code_at, kind_at, type_at}
+use Rattle.som_typing.specs.Knowing.{IsKnowledge, all_of}
+use Rattle.som_typing.specs.declared.knowledge.Knowledge.{Knowledge}
+use Rattle.som_typing.specs.declared.code_place.TypeFault.{TypeFault}
+use Rattle.som_typing.specs.declared.code_place.TypeFault.TheVariants as types
 use Rattle.som_sema.specs.declared.scope.Scope.{Scope}
 use Rattle.som_sema.specs.Home.{home_in}
 use Rattle.som_elab.specs.declared.made.Made.{Made}

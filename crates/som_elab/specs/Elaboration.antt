@@ -26,7 +26,7 @@ use Rattle.som_read.specs.declared.tree.Word.{Word}
 use Rattle.som_idl.specs.declared.tree.IdlInterface.{IdlInterface}
 use Rattle.som_body.specs.declared.tree.BodyText.{BodyText}
 use Rattle.som_body.specs.declared.tree.BlockText.{BlockText}
-use Rattle.som_verify.specs.Told.{told}
+use Rattle.som_rules.specs.Told.{told}
 use Rattle.som_sema.specs.declared.types.Refused.{Refused}
 use Rattle.som_sema.specs.declared.types.Refused.TheVariants as faults
 use Rattle.som_sema.specs.Words.{words}

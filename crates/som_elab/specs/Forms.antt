@@ -12,10 +12,10 @@ use Rattle.som_model.specs.Lists.{find, place_from}
 use Rattle.som_model.specs.Owner.{introduces}
 use Rattle.som_model.specs.Steps.{◌>>=◌}
 use Rattle.som_model.specs.Typing.{ClassFacts, CodePlace, Of, Ruled, Typed, named_call_type, offset_call_type, parent_call_type, parents_call_type, there}
-use Rattle.som_verify.specs.declared.kind.Kind.{Kind}
-use Rattle.som_verify.specs.Kinds.{AllStand, kind_at}
-use Rattle.som_verify.specs.Knowing.{facts_of}
-use Rattle.som_verify.specs.Places.{key_at}
+use Rattle.som_typing.specs.declared.kind.Kind.{Kind}
+use Rattle.som_typing.specs.Kinds.{AllStand, kind_at}
+use Rattle.som_typing.specs.Knowing.{facts_of}
+use Rattle.som_rules.specs.Places.{key_at}
 use Rattle.som_body.specs.declared.tree.ExprText.{ExprText}
 use Rattle.som_elab.specs.declared.local.Local.{Local}
 use Rattle.som_elab.specs.declared.made.Made.{Made}

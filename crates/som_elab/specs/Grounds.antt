@@ -16,9 +16,9 @@ use Rattle.som_model.specs.Steps.{◌>>=◌}
 use Rattle.som_idl.specs.declared.tree.IdlInterface.{IdlInterface}
 use Rattle.som_body.specs.declared.tree.BodyText.{BodyText}
 use Rattle.som_body.specs.declared.tree.BlockText.{BlockText}
-use Rattle.som_verify.specs.Bodies.{AllSigsKnown}
-use Rattle.som_verify.specs.Knowing.{IsKnowledge, all_of}
-use Rattle.som_verify.specs.Modules.{classes_of}
+use Rattle.som_typing.specs.Bodies.{AllSigsKnown}
+use Rattle.som_typing.specs.Knowing.{IsKnowledge, all_of}
+use Rattle.som_rules.specs.Modules.{classes_of}
 use Rattle.som_sema.specs.declared.types.Refused.{Refused}
 use Rattle.som_sema.specs.declared.types.Refused.TheVariants as refusals
 use Rattle.som_sema.specs.Limits.{limit_passed}

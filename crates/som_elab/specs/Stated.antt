@@ -16,8 +16,8 @@ use Rattle.som_sema.specs.Words.{words}
 use Rattle.som_body.specs.declared.tree.ExprText.{ExprText}
 use Rattle.som_body.specs.declared.tree.StmtText.{StmtText}
 use Rattle.som_body.specs.declared.tree.BlockText.{BlockText}
-use Rattle.som_verify.specs.declared.kind.Kind.{Kind}
-use Rattle.som_verify.specs.Kinds.{IsType, type_at}
+use Rattle.som_typing.specs.declared.kind.Kind.{Kind}
+use Rattle.som_typing.specs.Kinds.{IsType, type_at}
 use Rattle.som_elab.specs.declared.local.Local.{Local}
 use Rattle.som_elab.specs.declared.site.Site.{Site}
 use Rattle.som_elab.specs.declared.fault.BodyFault.{BodyFault}

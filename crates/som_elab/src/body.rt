@@ -5,10 +5,10 @@ ghost use Rattle.som_elab.specs.Statements.{elaborated_block};
 ghost use Rattle.som_model.specs.Lists.{doubles, every, first};
 ghost use Rattle.som_model.specs.Rules.{is_known};
 ghost use Rattle.som_model.specs.Typing.{in_main};
+ghost use Rattle.som_rules.specs.Places.{class_of_place};
 ghost use Rattle.som_sema.specs.Words.{words as texts_of};
-ghost use Rattle.som_verify.specs.Kinds.{IsDeclared};
-ghost use Rattle.som_verify.specs.Knowing.{IsKnowledge, all_of, sig_is_known};
-ghost use Rattle.som_verify.specs.Places.{class_of_place};
+ghost use Rattle.som_typing.specs.Kinds.{IsDeclared};
+ghost use Rattle.som_typing.specs.Knowing.{IsKnowledge, all_of, sig_is_known};
 ghost use Rattle.std.specs.Prelude.{◌≡◌, ◌≤◌, ◌⊎◌, true, length, is_some, [], IfOk, Some};
 ghost use Rattle.std.specs.Str.{bytes_eq};
 
@@ -22,7 +22,7 @@ use som_model::{Block, MAX_PARAMETERS, NoMemory, Sig, ValueType};
 use som_order::note_name;
 use som_read::Word;
 use som_sema::Scope;
-use som_verify::{CodePlace, Kind, Knowledge, known_kind};
+use som_typing::{CodePlace, Kind, Knowledge, known_kind};
 use std::alloc::Global;
 
 /// The block that a text has for a method of the class at a place, or what is first wrong with it: a parameter with the

@@ -2,8 +2,8 @@ ghost use Rattle.som_elab.specs.Code.{IsSite, Makes, among_at, classes_at, made_
 ghost use Rattle.som_elab.specs.Expressions as spec;
 ghost use Rattle.som_elab.specs.Forms.{AreParts, dispatch_by, facts_at, lookup_by, method_at, offset_by, parts_at};
 ghost use Rattle.som_model.specs.declared.class.Way.TheVariants as ways;
-ghost use Rattle.som_verify.specs.Kinds.{Stands};
-ghost use Rattle.som_verify.specs.Places.{key_at};
+ghost use Rattle.som_rules.specs.Places.{key_at};
+ghost use Rattle.som_typing.specs.Kinds.{Stands};
 ghost use Rattle.std.specs.Prelude.{◌<◌, length};
 
 use crate::made::Made;
@@ -13,7 +13,7 @@ use crate::site::Site;
 use som_model::{Expr, Text, ValueType, Way};
 use som_read::TypeName;
 use som_sema::result_of;
-use som_verify::{TypeFault, all_fit, named_call_kind, offset_call_kind};
+use som_typing::{TypeFault, all_fit, named_call_kind, offset_call_kind};
 use std::alloc::Global;
 
 /// A call of the method that the receiver has.

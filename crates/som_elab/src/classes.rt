@@ -1,17 +1,17 @@
 ghost use Rattle.som_elab.specs.Elaboration.{Answers, with_blocks};
 ghost use Rattle.som_elab.specs.Grounds.{IsFront, IsGround, among_in, completed, each_steps};
 ghost use Rattle.som_elab.specs.Texts.{given};
+ghost use Rattle.som_rules.specs.Modules.{classes_of};
 ghost use Rattle.som_sema.specs.Limits.{limit_passed};
 ghost use Rattle.som_sema.specs.Sketch.{drawings as drawn, sketches};
-ghost use Rattle.som_verify.specs.Modules.{classes_of};
 ghost use Rattle.std.specs.Prelude.{◌≡◌, IfOk, None};
 
 use crate::class_bodies::{ClassBodies, class_bodies};
 use crate::ground::Ground;
 use som_body::BodyText;
 use som_model::{ClassDecl, List, NoMemory};
+use som_rules::KERNEL_CLASSES;
 use som_sema::{Drawing, Refused};
-use som_verify::KERNEL_CLASSES;
 use std::alloc::Global;
 
 /// The bodies of classes, which are the last of all classes, or what is first wrong with one of them.

@@ -3,16 +3,16 @@ ghost use Rattle.som_elab.specs.Texts.{given};
 ghost use Rattle.som_model.specs.Class.{introduced};
 ghost use Rattle.som_model.specs.Lists.{first};
 ghost use Rattle.som_model.specs.declared.class.Override.{Override as Replaced};
+ghost use Rattle.som_rules.specs.Told.{Tells};
 ghost use Rattle.som_sema.specs.Sketch.{drawings as drawn, seen};
 ghost use Rattle.som_sema.specs.declared.sketch.Drawing.{Drawing as Known};
-ghost use Rattle.som_verify.specs.Told.{Tells};
 ghost use Rattle.std.specs.Prelude.{◌≡◌, ◌<◌, ◌==◌, length, flat_map, slice_get, Some};
 
 use crate::operations::is_operation;
 use crate::texts::{count_for, texts_of};
 use som_body::BodyText;
+use som_rules::VerifyFault;
 use som_sema::{Drawing, breach, each_drawing, introduced_names};
-use som_verify::VerifyFault;
 use std::alloc::Global;
 
 /// Each operation and each method that is overridden has exactly one body.

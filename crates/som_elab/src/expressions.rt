@@ -2,7 +2,7 @@ ghost use Rattle.som_elab.specs.Code.{AreLocals, IsSite, Makes, among_at, classe
 ghost use Rattle.som_elab.specs.Expressions as spec;
 ghost use Rattle.som_elab.specs.Expressions.{elaborated, elaborated_value, part, parts};
 ghost use Rattle.som_elab.specs.Forms.{AreMade, elab_at, of_all, of_one};
-ghost use Rattle.som_verify.specs.Kinds.{Fails, Stands};
+ghost use Rattle.som_typing.specs.Kinds.{Fails, Stands};
 ghost use Rattle.std.specs.Prelude.{IfErr, IfOk, map};
 
 use crate::calls::{call, dispatch_call, lookup_call};
@@ -16,7 +16,8 @@ use crate::site::Site;
 use som_body::ExprText;
 use som_model::{Boxed, Expr, HostCode, List, Text};
 use som_read::TypeName;
-use som_verify::{Kind, SOM_CLASS_MGR, TypeFault};
+use som_rules::SOM_CLASS_MGR;
+use som_typing::{Kind, TypeFault};
 use std::alloc::Global;
 
 /// The named expression that a text stands for, void included, or the lowest rule that its first wrong part breaks.

@@ -1,5 +1,5 @@
 use som_sema::Scope;
-use som_verify::Knowledge;
+use som_typing::Knowledge;
 
 /// What the bodies of a module's texts stand among: all classes, and what the names of classes stand for.
 #[derive(Clone, Copy)]

@@ -13,7 +13,7 @@ use crate::parts::formed;
 use crate::site::Site;
 use som_model::{Expr, Text};
 use som_sema::key_of;
-use som_verify::{Kind, TypeFault, class_kind, new_kind, self_kind, variable_kind};
+use som_typing::{Kind, TypeFault, class_kind, new_kind, self_kind, variable_kind};
 use std::alloc::Global;
 
 /// A literal.

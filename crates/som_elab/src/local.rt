@@ -1,4 +1,4 @@
-use som_verify::Kind;
+use som_typing::Kind;
 
 /// A parameter or local: its name, which the text holds, and its type.
 #[derive(Clone, Copy)]

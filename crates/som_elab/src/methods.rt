@@ -3,16 +3,17 @@ ghost use Rattle.som_elab.specs.Methods as spec;
 ghost use Rattle.som_model.specs.Class.{entry_of};
 ghost use Rattle.som_model.specs.Classes.{ancestors};
 ghost use Rattle.som_model.specs.Lists.{Mem};
-ghost use Rattle.som_model.specs.declared.key.ClassKey.{ClassKey as Key};
 ghost use Rattle.som_model.specs.declared.key.ClassKey.TheVariants as keys;
+ghost use Rattle.som_model.specs.declared.key.ClassKey.{ClassKey as Key};
 ghost use Rattle.som_model.specs.declared.key.MethodRef.{MethodRef as Ref};
-ghost use Rattle.som_verify.specs.Kinds.{PlaceStands, Stands, code_at, kind_at};
-ghost use Rattle.som_verify.specs.Knowing.{IsKnowledge, all_of};
-ghost use Rattle.som_verify.specs.Places.{face_at, key_at};
+ghost use Rattle.som_rules.specs.Places.{face_at, key_at};
+ghost use Rattle.som_typing.specs.Kinds.{PlaceStands, Stands, code_at, kind_at};
+ghost use Rattle.som_typing.specs.Knowing.{IsKnowledge, all_of};
 ghost use Rattle.std.specs.Prelude.{◌≡◌, ◌<◌, ℕ, [], length, map, slice_index_or, IfOk};
 
 use som_model::{ClassKey, Entry, List, MethodRef, Module, NoMemory, Sig, Text, Way};
-use som_verify::{CodePlace, KERNEL_CLASSES, Kind, Knowledge, entries_of, find_entry};
+use som_rules::{KERNEL_CLASSES, find_entry};
+use som_typing::{CodePlace, Kind, Knowledge, entries_of};
 use std::alloc::Global;
 
 /// A method that is found: the place of the class that introduces it, its signature and the way in which it is called.

@@ -4,19 +4,20 @@ ghost use Rattle.som_elab.specs.Texts as places;
 ghost use Rattle.som_elab.specs.Texts.{given};
 ghost use Rattle.som_model.specs.Lists.{find, first};
 ghost use Rattle.som_model.specs.declared.class.Override.{Override as Replaced};
+ghost use Rattle.som_rules.specs.Told.{Tells};
+ghost use Rattle.som_rules.specs.declared.types.VerifyFault.TheVariants as faults;
 ghost use Rattle.som_sema.specs.Noted.{IsKnown};
 ghost use Rattle.som_sema.specs.Sketch.{drawings as drawn, seen};
-ghost use Rattle.som_verify.specs.Knowing.{IsKnowledge, all_of};
-ghost use Rattle.som_verify.specs.Told.{Tells};
-ghost use Rattle.som_verify.specs.declared.types.VerifyFault.TheVariants as faults;
+ghost use Rattle.som_typing.specs.Knowing.{IsKnowledge, all_of};
 ghost use Rattle.std.specs.Prelude.{◌≡◌, flat_map, option_copied, option_map, slice_get, IfOk};
 ghost use Rattle.std.specs.Str.{bytes_eq};
 
 use crate::operations::is_operation;
 use som_body::BodyText;
 use som_model::{Entry, NoMemory, Override, Sig, Text};
+use som_rules::{Broken, VerifyFault, find_entry};
 use som_sema::{Drawing, Places, first_place, note, place_table};
-use som_verify::{Broken, Knowledge, VerifyFault, find_entry, signature_of};
+use som_typing::{Knowledge, signature_of};
 use std::alloc::Global;
 
 /// Each body names a class of the texts, and a method that the class declares by an operation or overrides and that has as

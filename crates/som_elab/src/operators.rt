@@ -1,7 +1,7 @@
 ghost use Rattle.som_elab.specs.Code.{IsSite, Makes, among_at, classes_at, made_at};
 ghost use Rattle.som_elab.specs.Expressions as spec;
 ghost use Rattle.som_model.specs.Class.{Class};
-ghost use Rattle.som_verify.specs.Kinds.{Stands};
+ghost use Rattle.som_typing.specs.Kinds.{Stands};
 ghost use Rattle.std.specs.Prelude.{List as Seq};
 
 use crate::made::Made;
@@ -9,7 +9,7 @@ use crate::parts::formed;
 use crate::site::Site;
 use som_model::{Expr, HostCode};
 use som_sema::key_of;
-use som_verify::{TypeFault, binary_kind, cast_kind, host_kind, isa_kind, proxy_kind, unary_kind};
+use som_typing::{TypeFault, binary_kind, cast_kind, host_kind, isa_kind, proxy_kind, unary_kind};
 use std::alloc::Global;
 
 /// An operator of one operand.

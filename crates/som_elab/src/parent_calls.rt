@@ -2,9 +2,9 @@ ghost use Rattle.som_elab.specs.Code.{IsSite, Makes, among_at, classes_at, place
 ghost use Rattle.som_elab.specs.Expressions as spec;
 ghost use Rattle.som_elab.specs.Forms.{AreParts, facts_at, parent_by, parent_from, parents_by, parts_at};
 ghost use Rattle.som_elab.specs.Methods as methods;
-ghost use Rattle.som_verify.specs.Kinds.{PlaceStands, code_at};
-ghost use Rattle.som_verify.specs.Knowing.{IsKnowledge, all_of};
-ghost use Rattle.som_verify.specs.Places.{key_at};
+ghost use Rattle.som_rules.specs.Places.{key_at};
+ghost use Rattle.som_typing.specs.Kinds.{PlaceStands, code_at};
+ghost use Rattle.som_typing.specs.Knowing.{IsKnowledge, all_of};
 ghost use Rattle.std.specs.Prelude.{◌≡◌, ◌<◌, length, is_some, true};
 
 use crate::made::Made;
@@ -14,7 +14,7 @@ use crate::parts::{Parts, formed};
 use crate::site::Site;
 use som_model::{ClassKey, Expr, Text};
 use som_sema::key_of;
-use som_verify::{CodePlace, Knowledge, TypeFault, parent_call_kind, parents_call_kind, place_of};
+use som_typing::{CodePlace, Knowledge, TypeFault, parent_call_kind, parents_call_kind, place_of};
 use std::alloc::Global;
 
 /// A call of the method that a parent of the body's class has.

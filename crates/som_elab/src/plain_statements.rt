@@ -5,8 +5,8 @@ ghost use Rattle.som_elab.specs.Statements as forms;
 ghost use Rattle.som_elab.specs.declared.fault.BodyFault.TheVariants as faults;
 ghost use Rattle.som_model.specs.Class.{Class};
 ghost use Rattle.som_model.specs.Typing as typing;
-ghost use Rattle.som_verify.specs.Kinds.{IsType, Stands, kind_at, type_at};
-ghost use Rattle.som_verify.specs.Knowing.{facts_of};
+ghost use Rattle.som_typing.specs.Kinds.{IsType, Stands, kind_at, type_at};
+ghost use Rattle.som_typing.specs.Knowing.{facts_of};
 ghost use Rattle.std.specs.Prelude.{◌≡◌, ◌<◌, ◌&&◌, not, if◌then◌else◌, length, slice_get, List as Seq, Some, Ok, Err};
 
 use crate::expressions::{expression, value_expression};
@@ -17,7 +17,7 @@ use crate::names::{local_of, variable_place};
 use crate::site::Site;
 use som_body::ExprText;
 use som_model::Stmt;
-use som_verify::{Kind, has_text, is_call, is_nothing, is_object, kind_fits, variable_kind};
+use som_typing::{Kind, has_text, is_call, is_nothing, is_object, kind_fits, variable_kind};
 use std::alloc::Global;
 
 /// A statement of which a rule asks something.

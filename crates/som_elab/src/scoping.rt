@@ -5,7 +5,7 @@ ghost use Rattle.som_elab.specs.Statements.{declared};
 ghost use Rattle.som_model.specs.Class.{Class};
 ghost use Rattle.som_model.specs.declared.limits.TheConstants.{MAX_LOCALS};
 ghost use Rattle.som_model.specs.declared.syntax.Expr.{Expr};
-ghost use Rattle.som_verify.specs.Kinds.{Stands, kind_at};
+ghost use Rattle.som_typing.specs.Kinds.{Stands, kind_at};
 ghost use Rattle.std.specs.Prelude.{◌≡◌, ◌≤◌, List as Seq, length, nat_lt};
 
 use crate::fault::BodyFault;
@@ -13,7 +13,7 @@ use crate::local::Local;
 use crate::names::local_of;
 use crate::site::Site;
 use som_model::{MAX_LOCALS, ValueType};
-use som_verify::{Kind, kind_fits, kind_of};
+use som_typing::{Kind, kind_fits, kind_of};
 
 /// Whether a parameter or local has the name.
 pub fn is_in_scope(locals: &[Local], name: &[u8]) -> bool

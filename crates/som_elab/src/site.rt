@@ -1,5 +1,5 @@
 use som_sema::Scope;
-use som_verify::{CodePlace, Knowledge};
+use som_typing::{CodePlace, Knowledge};
 
 /// Where the text of a body stands: what is known of all classes, what the names of classes stand for, and the place of
 /// the code.

@@ -16,7 +16,7 @@ use som_body::{BlockText, ExprText, StmtText};
 use som_model::{Block, List, Stmt};
 use som_read::TypeName;
 use som_sema::type_of;
-use som_verify::is_boolean;
+use som_typing::is_boolean;
 use std::alloc::Global;
 
 /// The named block that a text stands for among the locals in scope, or what its first wrong construct breaks. What it

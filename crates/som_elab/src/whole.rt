@@ -1,19 +1,19 @@
-ghost use Rattle.som_elab.specs.Bodies.{bodies_of, drawn_over};
 ghost use Rattle.som_elab.specs.Bodies as spec;
+ghost use Rattle.som_elab.specs.Bodies.{bodies_of, drawn_over};
 ghost use Rattle.som_elab.specs.Elaboration.{Answers, among_over};
 ghost use Rattle.som_elab.specs.Grounds.{FewParameters, IsFront, checked_steps, elaborated_whole};
 ghost use Rattle.som_elab.specs.Texts.{given};
 ghost use Rattle.som_model.specs.Class.{class_in};
 ghost use Rattle.som_model.specs.Classes.{interface_classes};
 ghost use Rattle.som_model.specs.declared.key.Module.TheVariants as modules;
+ghost use Rattle.som_rules.specs.Faces.{classes_breach, faces_breach};
+ghost use Rattle.som_rules.specs.Modules.{classes_of};
+ghost use Rattle.som_rules.specs.Places.{with_kernel};
 ghost use Rattle.som_sema.specs.Building.{after_base, texts_breach};
 ghost use Rattle.som_sema.specs.Home.{home_in};
 ghost use Rattle.som_sema.specs.Sketch.{drawings as drawn, sketches};
 ghost use Rattle.som_sema.specs.Words.{interfaces_of, lent};
-ghost use Rattle.som_verify.specs.Bodies.{AreParts};
-ghost use Rattle.som_verify.specs.Faces.{classes_breach, faces_breach};
-ghost use Rattle.som_verify.specs.Modules.{classes_of};
-ghost use Rattle.som_verify.specs.Places.{with_kernel};
+ghost use Rattle.som_typing.specs.Bodies.{AreParts};
 ghost use Rattle.std.specs.Prelude.{◌≡◌, ◌++◌, ℕ, length, map, option_copied, IfOk, OnOk, None};
 
 use crate::all_bodies::{AllBodies, checked_bodies};
@@ -23,8 +23,9 @@ use crate::texts::all_texts;
 use som_body::{BlockText, BodyFile, BodyText};
 use som_idl::{IdlFile, IdlInterface};
 use som_model::{Block, ClassDecl, Interface, List, Module, NoMemory, kernel_faces};
+use som_rules::{Declared, bare_classes, declare};
 use som_sema::{Drawing, Refused, Scope, all_interfaces, build_faces, refused, scope_of};
-use som_verify::{Declared, Parts, bare_classes, declare, know, parts_of};
+use som_typing::{Parts, know, parts_of};
 use std::alloc::Global;
 
 /// The classes of a module, and its main.

@@ -9,11 +9,11 @@ use Rattle.som_model.specs.Kernel.{kernel}
 use Rattle.som_model.specs.Rules.{name_of, s2}
 use Rattle.som_model.specs.declared.key.Module.{Module}
 use Rattle.som_model.specs.declared.key.ClassKey.{ClassKey}
-use Rattle.som_verify.specs.Places.{key_at, with_kernel}
-use Rattle.som_verify.specs.Modules.{AreDeclared}
-use Rattle.som_verify.proofs.PlainLists.{s1_doubles}
-use Rattle.som_verify.proofs.Before.{none_both, both_none, demanded, every_mem, mem_every}
-use Rattle.som_verify.proofs.PlainNames.{demand_none}
+use Rattle.som_rules.specs.Places.{key_at, with_kernel}
+use Rattle.som_rules.specs.Modules.{AreDeclared}
+use Rattle.som_rules.proofs.PlainLists.{s1_doubles}
+use Rattle.som_rules.proofs.Before.{none_both, both_none, demanded, every_mem, mem_every}
+use Rattle.som_rules.proofs.PlainNames.{demand_none}
 use Rattle.som_sema.specs.Walks.{IsWalked}
 use Rattle.som_sema.specs.declared.walked.Walked.{Walked}
 use Rattle.som_sema.specs.Sketch.{Drawn, sketches}

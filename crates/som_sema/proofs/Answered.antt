@@ -6,9 +6,9 @@ use Rattle.som_model.specs.declared.program.Interface.{Interface}
 use Rattle.som_model.specs.Class.{Class}
 use Rattle.som_model.specs.Classes.{interface_classes}
 use Rattle.som_idl.specs.declared.tree.IdlInterface.{IdlInterface}
-use Rattle.som_verify.specs.Told.{Tells}
-use Rattle.som_verify.specs.declared.types.VerifyFault.{VerifyFault}
-use Rattle.som_verify.specs.declared.types.VerifyFault.TheVariants as verify
+use Rattle.som_rules.specs.Told.{Tells}
+use Rattle.som_rules.specs.declared.types.VerifyFault.{VerifyFault}
+use Rattle.som_rules.specs.declared.types.VerifyFault.TheVariants as verify
 use Rattle.som_sema.specs.declared.types.Refused.{Refused}
 use Rattle.som_sema.specs.Building.{FacesTold, declarations, declared_all, drawn_breach, home_of, most_classes, refused_by, texts_breach}
 use Rattle.som_sema.specs.Sketch.{Drawn, drawn}

@@ -5,7 +5,7 @@ use Rattle.std.specs.Borrow.{Bor}
 use Rattle.std.specs.Str.{bytes_eq}
 use Rattle.som_model.specs.Lists.{among, doubles, first}
 use Rattle.som_order.specs.Names.{texts}
-use Rattle.som_verify.proofs.Doubled.{doubled}
+use Rattle.som_rules.proofs.Doubled.{doubled}
 
 not_true : (a b : Bool) → a ≡ not b → a ≡ true → b ≡ false
 not_true a true e t = cc

@@ -7,13 +7,13 @@ use Rattle.som_model.specs.declared.key.Module.TheVariants as modules
 use Rattle.som_model.specs.declared.class.ClassDecl.{ClassDecl}
 use Rattle.som_model.specs.declared.class.ClassFace.{ClassFace}
 use Rattle.som_model.specs.declared.program.Interface.{Interface}
-use Rattle.som_verify.specs.Modules.{AreDeclared, class_of, classes_of}
-use Rattle.som_verify.specs.Places.{class_of_place, face_at, key_at, module_at, with_kernel}
-use Rattle.som_verify.proofs.Finding.{kernel_declared, mem_place}
+use Rattle.som_rules.specs.Modules.{AreDeclared, class_of, classes_of}
+use Rattle.som_rules.specs.Places.{class_of_place, face_at, key_at, module_at, with_kernel}
+use Rattle.som_rules.proofs.Finding.{kernel_declared, mem_place}
 use Rattle.som_model.specs.declared.key.ClassKey.TheVariants as keys
-use Rattle.som_verify.specs.declared.types.Declared.{Declared}
-use Rattle.som_verify.proofs.DeclaredClasses.{are_declared, item_of, long_map, map_declared}
-use Rattle.som_verify.proofs.Rows.{face_there}
+use Rattle.som_rules.specs.declared.types.Declared.{Declared}
+use Rattle.som_rules.proofs.DeclaredClasses.{are_declared, item_of, long_map, map_declared}
+use Rattle.som_rules.proofs.Rows.{face_there}
 use Rattle.som_laws.proofs.Members.{mem_split}
 use Rattle.som_sema.specs.Building.{after_base, declared_all, moved_breach, sketch_breach}
 use Rattle.som_sema.proofs.Composing.{front_is, rest_is}

@@ -5,9 +5,9 @@ use Rattle.std.specs.Str.{bytes_eq}
 use Rattle.som_model.specs.Lists.{Mem, among, find, or_else}
 use Rattle.som_model.specs.Class.{Class}
 use Rattle.som_model.specs.Rules.{introduced_by}
-use Rattle.som_verify.specs.Along.{introduced_at}
-use Rattle.som_verify.specs.Places.{key_at}
-use Rattle.som_verify.specs.Walk.{AreLists}
+use Rattle.som_rules.specs.Along.{introduced_at}
+use Rattle.som_rules.specs.Places.{key_at}
+use Rattle.som_rules.specs.Walk.{AreLists}
 use Rattle.som_sema.specs.Noted.{along, at_one, first_place}
 use Rattle.som_sema.specs.Finished.{introducer}
 use Rattle.som_sema.proofs.Noting.{place_both}

@@ -8,9 +8,9 @@ use Rattle.som_model.specs.declared.class.Entry.{Entry}
 use Rattle.som_model.specs.declared.class.Entry.TheVariants as entries
 use Rattle.som_model.specs.declared.class.ClassDecl.{ClassDecl}
 use Rattle.som_model.specs.declared.limits.TheConstants.{MAX_ENTRIES, MAX_OVERRIDES, MAX_PARAMETERS, MAX_PARENTS, MAX_VARIABLES}
-use Rattle.som_verify.proofs.Before.{both_none, none_both}
-use Rattle.som_verify.proofs.Owners.{flat_none}
-use Rattle.som_verify.proofs.PlainLists.{none_flat}
+use Rattle.som_rules.proofs.Before.{both_none, none_both}
+use Rattle.som_rules.proofs.Owners.{flat_none}
+use Rattle.som_rules.proofs.PlainLists.{none_flat}
 use Rattle.som_sema.specs.declared.sketch.Drawing.{Drawing}
 use Rattle.som_sema.specs.PlainLimits.{LimitsKept}
 use Rattle.som_sema.specs.Limits.{Passed, at_most, class_limits, entry_limits, limit_passed}

@@ -9,8 +9,8 @@ use Rattle.som_model.specs.declared.class.Entry.{Entry}
 use Rattle.som_model.proofs.KeyLaws.{exact_bytes}
 use Rattle.som_order.specs.Names.{name_at}
 use Rattle.som_laws.proofs.Members.{both_or_none}
-use Rattle.som_verify.proofs.Doubled.{take_last}
-use Rattle.som_verify.proofs.Numbering.{map_append}
+use Rattle.som_rules.proofs.Doubled.{take_last}
+use Rattle.som_rules.proofs.Numbering.{map_append}
 use Rattle.som_sema.specs.Noted.{At, Know, all_at, at, counted, first_place}
 use Rattle.som_sema.specs.declared.places.Noted.{Noted}
 

@@ -18,11 +18,11 @@ use Rattle.som_model.specs.Rules.{breach, s4, s6, s7}
 use Rattle.som_model.proofs.KeyLaws.{exact_bytes}
 use Rattle.som_laws.proofs.Laws.{among_mem}
 use Rattle.som_laws.proofs.Members.{Apart, find_first, mem_split, without_fails, without_mem}
-use Rattle.som_verify.specs.Plainly.{IsAmong, IsNamed, IsValue, TypesKnown}
-use Rattle.som_verify.proofs.Before.{both_none, none_both}
-use Rattle.som_verify.proofs.Owners.{mem_middle}
-use Rattle.som_verify.proofs.PlainLists.{apart_by, by_apart, map_mem, map_none, none_map}
-use Rattle.som_verify.proofs.PlainNames.{demand_none}
+use Rattle.som_rules.specs.Plainly.{IsAmong, IsNamed, IsValue, TypesKnown}
+use Rattle.som_rules.proofs.Before.{both_none, none_both}
+use Rattle.som_rules.proofs.Owners.{mem_middle}
+use Rattle.som_rules.proofs.PlainLists.{apart_by, by_apart, map_mem, map_none, none_map}
+use Rattle.som_rules.proofs.PlainNames.{demand_none}
 use Rattle.som_sema.specs.Home.{key_of}
 use Rattle.som_sema.specs.Items.{listed, metaclass_names}
 use Rattle.som_sema.specs.Sketch.{Drawn, sketch, sketches}

@@ -8,14 +8,14 @@ use Rattle.som_model.specs.Rules.{RuleBreach, s2}
 use Rattle.som_model.specs.declared.key.Module.{Module}
 use Rattle.som_model.specs.declared.key.ClassKey.{ClassKey}
 use Rattle.som_laws.proofs.Members.{mem_left, mem_right, mem_split}
-use Rattle.som_verify.proofs.Before.{both_none, mem_every, none_both}
-use Rattle.som_verify.proofs.Owners.{flat_none}
-use Rattle.som_verify.proofs.PlainLists.{map_mem}
-use Rattle.som_verify.proofs.PlainNames.{demand_none}
+use Rattle.som_rules.proofs.Before.{both_none, mem_every, none_both}
+use Rattle.som_rules.proofs.Owners.{flat_none}
+use Rattle.som_rules.proofs.PlainLists.{map_mem}
+use Rattle.som_rules.proofs.PlainNames.{demand_none}
 use Rattle.som_idl.specs.declared.tree.IdlInterface.{IdlInterface}
-use Rattle.som_verify.specs.declared.types.VerifyFault.{VerifyFault}
-use Rattle.som_verify.specs.Told.{Tells}
-use Rattle.som_verify.proofs.Passes.{first_both, tells_first}
+use Rattle.som_rules.specs.declared.types.VerifyFault.{VerifyFault}
+use Rattle.som_rules.specs.Told.{Tells}
+use Rattle.som_rules.proofs.Passes.{first_both, tells_first}
 use Rattle.som_sema.specs.declared.sketch.Drawing.{Drawing}
 use Rattle.som_sema.specs.Home.{key_of}
 use Rattle.som_sema.specs.Items.{metaclass_names, or_object}

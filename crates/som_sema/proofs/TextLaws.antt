@@ -18,13 +18,13 @@ use Rattle.som_idl.specs.declared.tree.Item.{Item}
 use Rattle.som_idl.specs.declared.tree.Item.TheVariants as items
 use Rattle.som_idl.specs.declared.tree.Modifier.{Modifier}
 use Rattle.som_idl.specs.declared.tree.Modifier.TheVariants as modifiers
-use Rattle.som_verify.specs.Plainly.{Differ, IsAmong}
-use Rattle.som_verify.specs.Walk.{add_new, adds}
-use Rattle.som_verify.proofs.Before.{both_none, none_both}
-use Rattle.som_verify.proofs.Owners.{flat_none}
-use Rattle.som_verify.proofs.PlainLists.{apart_by, apart_differ, by_apart, differ_apart, map_mem, map_none, mem_map, none_flat, none_map}
-use Rattle.som_verify.proofs.PlainMoves.{flat_mem, mem_flat}
-use Rattle.som_verify.proofs.PlainNames.{among_known, known_among}
+use Rattle.som_rules.specs.Plainly.{Differ, IsAmong}
+use Rattle.som_rules.specs.Walk.{add_new, adds}
+use Rattle.som_rules.proofs.Before.{both_none, none_both}
+use Rattle.som_rules.proofs.Owners.{flat_none}
+use Rattle.som_rules.proofs.PlainLists.{apart_by, apart_differ, by_apart, differ_apart, map_mem, map_none, mem_map, none_flat, none_map}
+use Rattle.som_rules.proofs.PlainMoves.{flat_mem, mem_flat}
+use Rattle.som_rules.proofs.PlainNames.{among_known, known_among}
 use Rattle.som_sema.specs.Home.{key_of}
 use Rattle.som_sema.specs.Items.{Given, given, is_call, is_override, item_words, listed, metaclass_in, metaclass_names, or_object, with_modifier}
 use Rattle.som_sema.specs.Words.{once}

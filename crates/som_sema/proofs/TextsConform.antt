@@ -14,18 +14,18 @@ use Rattle.som_model.specs.Kernel.{kernel}
 use Rattle.som_model.specs.Rules.{RuleBreach, s1, s2, s3, s4, s5, s6, s7, s8, s9, s10}
 use Rattle.som_idl.specs.declared.tree.IdlInterface.{IdlInterface}
 use Rattle.som_laws.proofs.Members.{mem_right, mem_split}
-use Rattle.som_verify.specs.Faces.{classes_breach, faces_breach}
-use Rattle.som_verify.specs.Modules.{AreDeclared}
-use Rattle.som_verify.specs.Places.{with_kernel}
-use Rattle.som_verify.specs.Plainly.{IsAmong}
-use Rattle.som_verify.specs.Told.{of_release}
-use Rattle.som_verify.proofs.Before.{both_none}
-use Rattle.som_verify.proofs.DeclaredClasses.{faces_declared, long_map, map_declared}
-use Rattle.som_verify.proofs.Finding.{kernel_declared}
-use Rattle.som_verify.proofs.PlainFaces.{none_or, or_none}
-use Rattle.som_verify.proofs.PlainMembers.{say_types, types_say}
-use Rattle.som_verify.proofs.PlainMoves.{lower}
-use Rattle.som_verify.proofs.PlainNames.{among_known, known_among, names_say, parents_say}
+use Rattle.som_rules.specs.Faces.{classes_breach, faces_breach}
+use Rattle.som_rules.specs.Modules.{AreDeclared}
+use Rattle.som_rules.specs.Places.{with_kernel}
+use Rattle.som_rules.specs.Plainly.{IsAmong}
+use Rattle.som_rules.specs.Told.{of_release}
+use Rattle.som_rules.proofs.Before.{both_none}
+use Rattle.som_rules.proofs.DeclaredClasses.{faces_declared, long_map, map_declared}
+use Rattle.som_rules.proofs.Finding.{kernel_declared}
+use Rattle.som_rules.proofs.PlainFaces.{none_or, or_none}
+use Rattle.som_rules.proofs.PlainMembers.{say_types, types_say}
+use Rattle.som_rules.proofs.PlainMoves.{lower}
+use Rattle.som_rules.proofs.PlainNames.{among_known, known_among, names_say, parents_say}
 use Rattle.som_sema.specs.Building.{after_base, declarations, declared_all, drawn_breach, home_of, moved_breach, sketch_breach, texts_breach}
 use Rattle.som_sema.specs.Sketch.{Drawn, drawn, sketches}
 use Rattle.som_sema.specs.TextRules.{text_s2_from, text_s4, text_s6, text_s11, text_s12}

@@ -11,10 +11,10 @@ use Rattle.som_model.specs.Classes.{interface_classes}
 use Rattle.som_model.specs.Conforming.{each_after}
 use Rattle.som_model.specs.Rules.{RuleBreach, s1, s3, s5, s7, s8, s9, s10}
 use Rattle.som_idl.specs.declared.tree.IdlInterface.{IdlInterface}
-use Rattle.som_verify.specs.Places.{with_kernel}
-use Rattle.som_verify.specs.Told.{told}
-use Rattle.som_verify.specs.declared.types.VerifyFault.{VerifyFault}
-use Rattle.som_verify.specs.declared.types.VerifyFault.TheVariants as verify
+use Rattle.som_rules.specs.Places.{with_kernel}
+use Rattle.som_rules.specs.Told.{told}
+use Rattle.som_rules.specs.declared.types.VerifyFault.{VerifyFault}
+use Rattle.som_rules.specs.declared.types.VerifyFault.TheVariants as verify
 use Rattle.som_sema.specs.declared.types.Refused.{Refused}
 use Rattle.som_sema.specs.declared.types.Refused.TheVariants as faults
 use Rattle.som_sema.specs.Words.{interface_names, once}

@@ -11,7 +11,7 @@ use Rattle.som_model.specs.Class.{Class, class_in, entry_of, introduced}
 use Rattle.som_model.specs.Classes.{ancestors}
 use Rattle.som_model.specs.EffectiveOrder.{effective_order}
 use Rattle.som_model.specs.Rules.{introduced_by}
-use Rattle.som_verify.specs.Places.{key_at}
+use Rattle.som_rules.specs.Places.{key_at}
 use Rattle.som_sema.specs.Items.{listed, overridden}
 use Rattle.som_sema.specs.Sketch.{Drawn}
 

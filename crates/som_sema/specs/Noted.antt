@@ -5,7 +5,7 @@ use Rattle.som_model.specs.Lists.{among}
 use Rattle.som_model.specs.Class.{Class, entry_name}
 use Rattle.som_model.specs.declared.class.Entry.{Entry}
 use Rattle.som_order.specs.Names.{name_at, texts}
-use Rattle.som_verify.specs.Along.{introduced_at}
+use Rattle.som_rules.specs.Along.{introduced_at}
 use Rattle.som_sema.specs.declared.places.Noted.{Noted}
 use Rattle.som_sema.specs.declared.places.Places.{Places}
 

@@ -7,9 +7,9 @@ use Rattle.som_model.specs.Kernel.{kernel}
 use Rattle.som_model.specs.Rules.{name_of, s1, s2}
 use Rattle.som_model.specs.Class.{Class}
 use Rattle.som_order.specs.Names.{texts}
-use Rattle.som_verify.specs.Modules.{AreDeclared}
-use Rattle.som_verify.specs.Places.{IsRows, with_kernel}
-use Rattle.som_verify.specs.Walk.{AreAncestors}
+use Rattle.som_rules.specs.Modules.{AreDeclared}
+use Rattle.som_rules.specs.Places.{IsRows, with_kernel}
+use Rattle.som_rules.specs.Walk.{AreAncestors}
 use Rattle.som_sema.specs.Sketch.{Drawn, sketch}
 use Rattle.som_sema.specs.declared.walked.Walked.{Walked}
 

@@ -2,7 +2,7 @@
 use Rattle.std.specs.Prelude.{ℕ, List, [], map, flat_map}
 use Rattle.std.specs.Str.{bytes_eq}
 use Rattle.std.specs.Borrow.{Bor}
-use Rattle.som_verify.specs.Walk.{adds}
+use Rattle.som_rules.specs.Walk.{adds}
 use Rattle.som_read.specs.declared.tree.Word.{Word}
 use Rattle.som_idl.specs.declared.tree.IdlFile.{IdlFile}
 use Rattle.som_idl.specs.declared.tree.IdlInterface.{IdlInterface}

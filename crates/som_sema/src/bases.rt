@@ -2,15 +2,15 @@ ghost use Rattle.som_model.specs.Classes.{class_at, is_a};
 ghost use Rattle.som_model.specs.Kernel.{som_class};
 ghost use Rattle.som_model.specs.Lists.{first};
 ghost use Rattle.som_order.specs.Names.{texts};
+ghost use Rattle.som_rules.specs.Modules.{classes_of};
+ghost use Rattle.som_rules.specs.Places.{IsTable, with_kernel};
+ghost use Rattle.som_rules.specs.Told.{Tells};
+ghost use Rattle.som_rules.specs.Walk.{AreLists};
 ghost use Rattle.som_sema.specs.Home as homes;
 ghost use Rattle.som_sema.specs.Home.{home_in};
 ghost use Rattle.som_sema.specs.Sketch.{drawings as drawn, seen};
 ghost use Rattle.som_sema.specs.TextRules.{text_s2, text_s2_from, text_s4};
 ghost use Rattle.som_sema.specs.declared.sketch.Drawing.{Drawing as Known};
-ghost use Rattle.som_verify.specs.Modules.{classes_of};
-ghost use Rattle.som_verify.specs.Places.{IsTable, with_kernel};
-ghost use Rattle.som_verify.specs.Told.{Tells};
-ghost use Rattle.som_verify.specs.Walk.{AreLists};
 ghost use Rattle.std.specs.Prelude.{◌≡◌, ◌<◌, ◌+◌, length, take, flat_map, is_some, slice_get, IfOk, Some};
 
 use crate::items::{add_metaclasses, parent_names};
@@ -19,7 +19,7 @@ use crate::scope::{Scope, key_of};
 use crate::sketch::Drawing;
 use indexmap::IndexSet;
 use som_model::{List, NoMemory, ValueType};
-use som_verify::{Declared, VerifyFault, descends_by, find_class, type_is_known};
+use som_rules::{Declared, VerifyFault, descends_by, find_class, type_is_known};
 use std::alloc::Global;
 
 /// The place of the class of classes.

@@ -2,15 +2,15 @@ ghost use Rattle.som_model.specs.Class.{class_in};
 ghost use Rattle.som_model.specs.Classes.{interface_classes};
 ghost use Rattle.som_model.specs.Kernel.{kernel_interface};
 ghost use Rattle.som_model.specs.declared.key.Module.TheVariants as modules;
+ghost use Rattle.som_rules.specs.Faces.{faces_breach};
+ghost use Rattle.som_rules.specs.Modules.{classes_of};
+ghost use Rattle.som_rules.specs.Told.{Tells};
 ghost use Rattle.som_sema.specs.Building as spec;
 ghost use Rattle.som_sema.specs.Building.{FacesTold, refused_by, after_base, declared_all, drawn_breach, moved_breach, texts_breach};
 ghost use Rattle.som_sema.specs.Home.{home_in};
 ghost use Rattle.som_sema.specs.Sketch.{drawings as drawn, sketches as drawn_classes};
 ghost use Rattle.som_sema.specs.Walks.{AreDrawn, IsWalked};
 ghost use Rattle.som_sema.specs.Words.{interfaces_of, lent};
-ghost use Rattle.som_verify.specs.Faces.{faces_breach};
-ghost use Rattle.som_verify.specs.Modules.{classes_of};
-ghost use Rattle.som_verify.specs.Told.{Tells};
 ghost use Rattle.std.specs.Prelude.{◌≡◌, ◌++◌, map, IfOk, OnOk, None};
 
 use crate::declared::declarations;
@@ -26,7 +26,7 @@ use som_model::{
     ClassDecl, ClassFace, Interface, List, MAX_CLIENT_CLASSES, MAX_LIBRARY_CLASSES, Module,
     NoMemory, Text, kernel_faces,
 };
-use som_verify::{Declared, KERNEL_CLASSES, VerifyFault, bare_classes, declare};
+use som_rules::{Declared, KERNEL_CLASSES, VerifyFault, bare_classes, declare};
 use std::alloc::Global;
 
 /// The declarations that texts stand for, without bodies, or the first limit or rule that they break. They are compiled

@@ -1,6 +1,10 @@
 ghost use Rattle.som_model.specs.Class.{entry_of, introduced};
+ghost use Rattle.som_model.specs.EffectiveOrder as orders;
 ghost use Rattle.som_model.specs.Kernel.{kernel_interface};
 ghost use Rattle.som_order.specs.Names.{texts};
+ghost use Rattle.som_rules.specs.Modules.{classes_of};
+ghost use Rattle.som_rules.specs.Places.{key_at as key_at_place, with_kernel};
+ghost use Rattle.som_rules.specs.Walk.{AreLists};
 ghost use Rattle.som_sema.specs.Finished as spec;
 ghost use Rattle.som_sema.specs.Finished.{declare_at, entry_for, override_of};
 ghost use Rattle.som_sema.specs.Items as spec_items;
@@ -8,11 +12,7 @@ ghost use Rattle.som_sema.specs.Items.{listed as listed_names};
 ghost use Rattle.som_sema.specs.Noted as names_first;
 ghost use Rattle.som_sema.specs.Noted.{At, IsKnown, all_at, along, counted};
 ghost use Rattle.som_sema.specs.Sketch.{drawings as drawn, seen};
-ghost use Rattle.som_verify.specs.Modules.{classes_of};
-ghost use Rattle.som_verify.specs.Places.{key_at as key_at_place, with_kernel};
-ghost use Rattle.som_verify.specs.Walk.{AreLists};
 ghost use Rattle.std.specs.Prelude.{◌≡◌, ◌<◌, ◌+◌, [], List as Seq, length, map, slice_get, slice_index_or, option_copied, unwrap_or, IfOk};
-ghost use Rattle.som_model.specs.EffectiveOrder as orders;
 
 use crate::faces::{introduced_along, key_at};
 use crate::items::listed;
@@ -26,7 +26,7 @@ use som_model::{
     Variable,
 };
 use som_order::{effective_order, name_of};
-use som_verify::Declared;
+use som_rules::Declared;
 use std::alloc::Global;
 
 /// The declarations of a module's classes, the first of which stands at a place.

@@ -1,8 +1,8 @@
 ghost use Rattle.som_model.specs.Lists.{doubles, first};
 ghost use Rattle.som_order.specs.Names.{texts};
+ghost use Rattle.som_rules.specs.Told.{Tells};
 ghost use Rattle.som_sema.specs.Sketch.{seen};
 ghost use Rattle.som_sema.specs.TextRules.{second};
-ghost use Rattle.som_verify.specs.Told.{Tells};
 ghost use Rattle.std.specs.Prelude.{◌≡◌, [], IfOk, option_copied};
 ghost use Rattle.std.specs.Str.{bytes_eq};
 
@@ -11,7 +11,7 @@ use crate::sketch::Drawing;
 use indexmap::IndexSet;
 use som_model::NoMemory;
 use som_order::note_name;
-use som_verify::VerifyFault;
+use som_rules::VerifyFault;
 use std::alloc::Global;
 
 /// Whether no name of a class stands twice, where a rule asks for it.

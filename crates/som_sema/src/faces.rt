@@ -1,14 +1,14 @@
+ghost use Rattle.som_model.specs.Class.{introduced};
 ghost use Rattle.som_model.specs.Kernel.{kernel_interface};
 ghost use Rattle.som_model.specs.Lists.{Mem};
+ghost use Rattle.som_rules.specs.Modules.{classes_of};
+ghost use Rattle.som_rules.specs.Places.{face_at, key_at as key_at_place, module_at, with_kernel};
 ghost use Rattle.som_sema.specs.Noted.{all_at, along, at_one};
-ghost use Rattle.som_model.specs.Class.{introduced};
-ghost use Rattle.som_verify.specs.Modules.{classes_of};
-ghost use Rattle.som_verify.specs.Places.{face_at, key_at as key_at_place, module_at, with_kernel};
 ghost use Rattle.std.specs.Prelude.{◌≡◌, ◌<◌, ◌++◌, ℕ, length, IfOk, OnOk};
 
 use crate::places::{Noted, note};
 use som_model::{ClassFace, ClassKey, Entry, Module, NoMemory};
-use som_verify::{Declared, KERNEL_CLASSES};
+use som_rules::{Declared, KERNEL_CLASSES};
 use std::alloc::Global;
 
 /// The face of the class at a place.

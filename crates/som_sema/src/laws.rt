@@ -4,17 +4,17 @@ ghost use Rattle.som_model.specs.Classes.{hierarchy, interface_classes};
 ghost use Rattle.som_model.specs.Hierarchy.{Falls};
 ghost use Rattle.som_model.specs.Lists.{first};
 ghost use Rattle.som_model.specs.declared.class.ClassDecl.{ClassDecl as Decl};
-ghost use Rattle.som_model.specs.declared.key.Module.{Module};
 ghost use Rattle.som_model.specs.declared.key.Module.TheVariants as modules;
+ghost use Rattle.som_model.specs.declared.key.Module.{Module};
 ghost use Rattle.som_model.specs.declared.program.Interface.{Interface};
+ghost use Rattle.som_rules.specs.Faces.{classes_breach, faces_breach};
+ghost use Rattle.som_rules.specs.Told.{of_release};
 ghost use Rattle.som_sema.specs.Building.{after_base, declarations, texts_breach};
 ghost use Rattle.som_sema.specs.Limits.{limit_passed};
 ghost use Rattle.som_sema.specs.PlainLimits.{LimitsKept};
 ghost use Rattle.som_sema.specs.PlainTexts.{BasesStand, ItemsDiffer, MetaclassesDescend, ModifiersStand, NamesDiffer};
 ghost use Rattle.som_sema.specs.Sketch.{Drawn};
 ghost use Rattle.som_sema.specs.TextRules.{text_s2_from, text_s4, text_s6, text_s11, text_s12};
-ghost use Rattle.som_verify.specs.Faces.{classes_breach, faces_breach};
-ghost use Rattle.som_verify.specs.Told.{of_release};
 ghost use Rattle.std.specs.Prelude.{◌≡◌, ◌↔◌, ℕ, List as Seq, [], flat_map, length, None};
 
 /// The rules that texts have in a form of their own have no breach exactly where each holds of every interface and of

@@ -1,11 +1,11 @@
 ghost use Rattle.som_model.specs.Class.{introduced};
 ghost use Rattle.som_model.specs.Lists.{first};
 ghost use Rattle.som_order.specs.Names.{texts};
+ghost use Rattle.som_rules.specs.Told.{Tells};
 ghost use Rattle.som_sema.specs.Items as spec;
 ghost use Rattle.som_sema.specs.Sketch.{drawings as drawn, seen};
 ghost use Rattle.som_sema.specs.TextRules.{second, text_s6, text_s12};
 ghost use Rattle.som_sema.specs.declared.sketch.Drawing.{Drawing as Known};
-ghost use Rattle.som_verify.specs.Told.{Tells};
 ghost use Rattle.std.specs.Prelude.{◌≡◌, ◌<◌, length, flat_map, slice_get, IfOk, Some};
 
 use crate::double::no_double;
@@ -13,7 +13,7 @@ use crate::items::{add, item_words, listed};
 use crate::passes::each_drawing;
 use crate::sketch::Drawing;
 use som_model::{Entry, NoMemory};
-use som_verify::VerifyFault;
+use som_rules::VerifyFault;
 use std::alloc::Global;
 
 /// The names that a class introduces are distinct, and those of its release order are.

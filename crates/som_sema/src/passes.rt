@@ -1,15 +1,15 @@
-ghost use Rattle.som_model.specs.Rules.{RuleBreach};
 ghost use Rattle.som_model.specs.Lists.{first};
+ghost use Rattle.som_model.specs.Rules.{RuleBreach};
+ghost use Rattle.som_rules.specs.Told.{Tells};
+ghost use Rattle.som_rules.specs.declared.types.VerifyFault.TheVariants as faults;
+ghost use Rattle.som_rules.specs.declared.types.VerifyFault.{VerifyFault as Fault};
 ghost use Rattle.som_sema.specs.Sketch.{Drawn, drawings as drawn, seen};
 ghost use Rattle.som_sema.specs.declared.sketch.Drawing.{Drawing as Known};
-ghost use Rattle.som_verify.specs.Told.{Tells};
-ghost use Rattle.som_verify.specs.declared.types.VerifyFault.{VerifyFault as Fault};
-ghost use Rattle.som_verify.specs.declared.types.VerifyFault.TheVariants as faults;
 ghost use Rattle.std.specs.Prelude.{◌≡◌, ◌<◌, ℕ, List as Seq, length, flat_map, slice_get, IfOk, Result, Some};
 
 use crate::sketch::Drawing;
 use som_model::{NoMemory, Text};
-use som_verify::{Broken, VerifyFault};
+use som_rules::{Broken, VerifyFault};
 use std::alloc::Global;
 
 /// The breach of a rule by a member of a class, as an error.

@@ -4,15 +4,15 @@ ghost use Rattle.som_model.specs.Kernel.{kernel_interface};
 ghost use Rattle.som_model.specs.Lists.{first};
 ghost use Rattle.som_model.specs.Rules.{s1, s3, s5, s7};
 ghost use Rattle.som_order.specs.Names.{texts};
+ghost use Rattle.som_rules.specs.Faces.{faces_breach};
+ghost use Rattle.som_rules.specs.Modules.{classes_of};
+ghost use Rattle.som_rules.specs.Places.{IsTable, with_kernel};
+ghost use Rattle.som_rules.specs.Told.{Tells};
 ghost use Rattle.som_sema.specs.Building.{moved_breach, sketch_breach};
 ghost use Rattle.som_sema.specs.Home.{home_in};
 ghost use Rattle.som_sema.specs.Sketch.{drawings as drawn, sketches};
 ghost use Rattle.som_sema.specs.TextRules.{text_s2_from};
 ghost use Rattle.som_sema.specs.Walks.{AreDrawn, IsWalked};
-ghost use Rattle.som_verify.specs.Faces.{faces_breach};
-ghost use Rattle.som_verify.specs.Modules.{classes_of};
-ghost use Rattle.som_verify.specs.Places.{IsTable, with_kernel};
-ghost use Rattle.som_verify.specs.Told.{Tells};
 ghost use Rattle.std.specs.Prelude.{◌≡◌, ◌≤◌, ◌+◌, length, map, take, drop, flat_map, IfOk, None};
 
 use crate::bases::{bases_stand, metaclasses_descend};
@@ -22,7 +22,7 @@ use crate::sketch::Drawing;
 use crate::walked::{Walked, ancestor_lists};
 use indexmap::IndexSet;
 use som_model::ClassFace;
-use som_verify::{
+use som_rules::{
     Declared, KERNEL_CLASSES, VerifyFault, class_names, entries_moved_up, names_introduced_once,
     overrides_inherited, parents_differ, types_known, variables_differ,
 };

@@ -1,5 +1,5 @@
 use som_model::{NoMemory, Text};
-use som_verify::{Broken, VerifyFault};
+use som_rules::{Broken, VerifyFault};
 
 /// Why texts stand for no classes: the first rule that they break, a limit that they pass, or want of memory.
 #[derive(Drop)]

@@ -1,17 +1,15 @@
 ghost use Rattle.som_model.specs.Class.{bare};
 ghost use Rattle.som_model.specs.Conforming.{ProgramOk, declared_program_breach, program_breach};
-ghost use Rattle.som_verify.specs.Modules.{classes_of};
-ghost use Rattle.som_verify.specs.Plainly.{program_classes};
-ghost use Rattle.som_verify.specs.Told.{Tells};
-ghost use Rattle.som_verify.specs.declared.types.Broken.{Broken};
-ghost use Rattle.som_verify.specs.declared.types.VerifyFault.TheVariants as faults;
+ghost use Rattle.som_rules.specs.Modules.{classes_of};
+ghost use Rattle.som_rules.specs.Plainly.{program_classes};
+ghost use Rattle.som_rules.specs.Told.{Tells};
+ghost use Rattle.som_rules.specs.declared.types.Broken.{Broken};
+ghost use Rattle.som_rules.specs.declared.types.VerifyFault.TheVariants as faults;
 ghost use Rattle.std.specs.Prelude.{◌≡◌, map, Err, IfOk};
 
-use crate::blocks::program_typed;
-use crate::classes::declare;
-use crate::rules::rules_hold;
-use crate::types::{Declared, VerifyFault};
-use som_model::{ClassDecl, ClassFace, ClientProgram, List, Module, NoMemory};
+use som_model::{ClassDecl, ClientProgram, Module, NoMemory};
+use som_rules::{Declared, VerifyFault, bare_classes, declare, rules_hold};
+use som_typing::program_typed;
 use std::alloc::Global;
 
 /// Whether a client program breaks no rule that looks at no block, and else the first, with its class and member.
@@ -60,20 +58,4 @@ pub fn declare_program<'a>(
     declare(&mut declared, Module::Library, base)?;
     declare(&mut declared, Module::Client, program.classes.as_slice())?;
     Ok(declared)
-}
-
-/// Classes of which the faces alone are known.
-pub fn bare_classes(alloc: Global, faces: &[ClassFace]) -> Result<List<ClassDecl>, NoMemory>
-    ensures { IfOk result (λ classes. classes ≡ map bare faces.now) }
-{
-    let mut classes = List::new(alloc);
-    for face in faces {
-        classes.push(ClassDecl {
-            face: face.copy(alloc)?,
-            variables: List::new(alloc),
-            bodies: List::new(alloc),
-            overrides: List::new(alloc),
-        })?;
-    }
-    Ok(classes)
 }

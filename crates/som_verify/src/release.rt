@@ -1,25 +1,13 @@
 ghost use Rattle.som_model.specs.Conforming.{ReleaseOk, release_breach};
-ghost use Rattle.som_verify.specs.Faces.{faces_breach};
-ghost use Rattle.som_verify.specs.Told.{Tells, of_release};
-ghost use Rattle.som_verify.specs.declared.types.Broken.{Broken};
-ghost use Rattle.som_verify.specs.declared.types.VerifyFault.TheVariants as faults;
+ghost use Rattle.som_rules.specs.Told.{Tells};
+ghost use Rattle.som_rules.specs.declared.types.Broken.{Broken};
+ghost use Rattle.som_rules.specs.declared.types.VerifyFault.TheVariants as faults;
 ghost use Rattle.std.specs.Prelude.{◌≡◌, Err, IfOk};
 
-use crate::blocks::blocks_typed;
-use crate::classes::{classes_hold, declare};
-use crate::rules::rules_hold;
-use crate::types::VerifyFault;
 use som_model::{ClassDecl, Module, Release};
+use som_rules::{VerifyFault, declare, rules_hold};
+use som_typing::blocks_typed;
 use std::alloc::Global;
-
-/// The rules S1 to S10, which look at no body.
-pub fn faces_ok(alloc: Global, classes: &[ClassDecl]) -> Result<(), VerifyFault>
-    ensures { Tells (faces_breach (of_release classes.now)) result }
-{
-    let mut declared = Vec::new(alloc);
-    declare(&mut declared, Module::Library, classes)?;
-    classes_hold(alloc, &declared, 0)
-}
 
 /// Whether a release conforms, and else the first rule that it breaks, with its class and member.
 pub fn release_ok(alloc: Global, release: &Release) -> Result<(), VerifyFault>

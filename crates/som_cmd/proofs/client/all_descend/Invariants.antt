@@ -1,7 +1,7 @@
 use Rattle.std.proofs.Common.{◌≡◌, drop}
 use Rattle.som_model.specs.Lists.{every}
-use Rattle.som_verify.specs.Places.{all_classes}
-use Rattle.som_verify.specs.Walk.{AreLists}
+use Rattle.som_rules.specs.Places.{all_classes}
+use Rattle.som_rules.specs.Walk.{AreLists}
 use Rattle.som_cmd.specs.Taking.{descends_in}
 use Rattle.som_cmd.proofs.client.all_descend.Given as goal
 

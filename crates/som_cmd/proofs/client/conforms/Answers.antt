@@ -3,11 +3,11 @@ use Rattle.som_model.specs.declared.memory.NoMemory.{NoMemory}
 use Rattle.som_model.specs.declared.class.ClassDecl.{ClassDecl}
 use Rattle.som_model.specs.Lists.{every}
 use Rattle.som_model.specs.Rules.{RuleBreach}
-use Rattle.som_verify.specs.Faces.{faces_breach}
-use Rattle.som_verify.specs.Told.{Tells, told, of_release}
-use Rattle.som_verify.specs.declared.types.Broken.{Broken}
-use Rattle.som_verify.specs.declared.types.VerifyFault.{VerifyFault}
-use Rattle.som_verify.specs.declared.types.VerifyFault.TheVariants as faults
+use Rattle.som_rules.specs.Faces.{faces_breach}
+use Rattle.som_rules.specs.Told.{Tells, told, of_release}
+use Rattle.som_rules.specs.declared.types.Broken.{Broken}
+use Rattle.som_rules.specs.declared.types.VerifyFault.{VerifyFault}
+use Rattle.som_rules.specs.declared.types.VerifyFault.TheVariants as faults
 use Rattle.som_firstclient.specs.declared.image.ClientImage.{ClientImage}
 use Rattle.som_cmd.specs.Taking.{ClientTells, descends_in}
 use Rattle.som_cmd.proofs.ClientLaws.{client_tells, breaks}

@@ -1,6 +1,6 @@
-use Rattle.som_verify.specs.Kinds.{type_at}
-use Rattle.som_verify.specs.Knowing.{all_of}
-use Rattle.som_verify.specs.Places.{class_of_place}
+use Rattle.som_typing.specs.Kinds.{type_at}
+use Rattle.som_typing.specs.Knowing.{all_of}
+use Rattle.som_rules.specs.Places.{class_of_place}
 use Rattle.som_elab.specs.Code.{among_by, names_at}
 use Rattle.som_elab.proofs.Parameters.{body_told}
 use Rattle.som_elab.proofs.body.method_body.Goals as goal

@@ -1,9 +1,9 @@
 use Rattle.std.proofs.Common.{arith, inl, inr, sym, ap, ◌∙◌}
 use Rattle.som_model.specs.Rules.{is_known}
 use Rattle.som_read.specs.declared.tree.Word.{Word}
-use Rattle.som_verify.specs.Knowing.{all_of}
-use Rattle.som_verify.proofs.Before.{every_mem}
-use Rattle.som_verify.proofs.BodySteps.{item_mem}
+use Rattle.som_typing.specs.Knowing.{all_of}
+use Rattle.som_rules.proofs.Before.{every_mem}
+use Rattle.som_typing.proofs.BodySteps.{item_mem}
 use Rattle.som_elab.specs.declared.local.Local.{Local}
 use Rattle.som_elab.proofs.Parameters.{all_placed, named_like, one_placed}
 use Rattle.som_elab.proofs.body.parameters.Goals as goal

@@ -1,4 +1,4 @@
-use Rattle.som_verify.specs.Knowing.{all_of}
+use Rattle.som_typing.specs.Knowing.{all_of}
 use Rattle.som_elab.proofs.Parameters.{ArePlaced}
 use Rattle.som_elab.proofs.body.parameters.Given as goal
 

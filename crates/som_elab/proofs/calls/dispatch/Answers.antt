@@ -1,6 +1,6 @@
 use Rattle.std.proofs.Common.{map, refl}
 use Rattle.som_model.specs.Typing.{named_call_type}
-use Rattle.som_verify.specs.Kinds.{kind_at}
+use Rattle.som_typing.specs.Kinds.{kind_at}
 use Rattle.som_elab.specs.Code.{classes_at, made_at}
 use Rattle.som_elab.specs.Forms.{facts_at}
 use Rattle.som_elab.proofs.FormLaws.{dispatch_made}

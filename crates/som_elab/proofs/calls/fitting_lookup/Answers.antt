@@ -1,5 +1,5 @@
 use Rattle.std.proofs.Common.{Err}
-use Rattle.som_verify.specs.declared.code_place.TypeFault.TheVariants as faults
+use Rattle.som_typing.specs.declared.code_place.TypeFault.TheVariants as faults
 use Rattle.som_elab.specs.Code.{classes_at, made_at}
 use Rattle.som_elab.specs.Forms.{facts_at, method_at}
 use Rattle.som_elab.proofs.FormLaws.{fitting_fails, fitting_made}

@@ -1,6 +1,6 @@
 use Rattle.std.proofs.Common.{ap}
 use Rattle.som_sema.specs.Sketch.{seen}
-use Rattle.som_verify.specs.Places.{class_of_place}
+use Rattle.som_rules.specs.Places.{class_of_place}
 use Rattle.som_elab.specs.Grounds.{among_in, classes_in}
 use Rattle.som_elab.specs.Texts.{given}
 use Rattle.som_elab.proofs.OwnTexts.{class_told}

@@ -1,8 +1,8 @@
 use Rattle.std.proofs.Common.{sym, ap, ◌∙◌}
 use Rattle.som_sema.specs.Accessors.{body_of}
 use Rattle.som_sema.specs.Sketch.{seen}
-use Rattle.som_verify.specs.Places.{class_of_place}
-use Rattle.som_verify.proofs.BodySteps.{entry_mem}
+use Rattle.som_rules.specs.Places.{class_of_place}
+use Rattle.som_typing.proofs.BodySteps.{entry_mem}
 use Rattle.som_elab.specs.Elaboration.{entry_body}
 use Rattle.som_elab.specs.Grounds.{among_in, classes_in}
 use Rattle.som_elab.specs.Texts.{given}

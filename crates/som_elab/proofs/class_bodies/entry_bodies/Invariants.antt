@@ -1,5 +1,5 @@
 use Rattle.std.proofs.Common.{◌≡◌, drop}
-use Rattle.som_verify.specs.Places.{class_of_place}
+use Rattle.som_rules.specs.Places.{class_of_place}
 use Rattle.som_sema.specs.Sketch.{seen}
 use Rattle.som_elab.specs.Elaboration.{entry_bodies}
 use Rattle.som_elab.specs.Grounds.{among_in, classes_in}

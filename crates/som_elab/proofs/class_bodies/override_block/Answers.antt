@@ -1,5 +1,5 @@
 use Rattle.std.proofs.Common.{Ok, sym, ap, ◌∙◌}
-use Rattle.som_verify.specs.Places.{class_of_place}
+use Rattle.som_rules.specs.Places.{class_of_place}
 use Rattle.som_elab.specs.Grounds.{among_in, classes_in}
 use Rattle.som_elab.specs.Texts.{given}
 use Rattle.som_elab.proofs.BodyLaws.{method_sig_few}

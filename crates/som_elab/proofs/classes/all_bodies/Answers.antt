@@ -1,9 +1,9 @@
 use Rattle.std.proofs.Common.{◌+◌, ◌-◌, length, ap, arith}
 use Rattle.std.proofs.lemmas.Result.{err_from_is_err_and}
 use Rattle.som_model.specs.Class.{Class}
-use Rattle.som_verify.specs.Modules.{class_of, classes_of}
-use Rattle.som_verify.specs.Places.{class_of_place}
-use Rattle.som_verify.proofs.DeclaredClasses.{long_map}
+use Rattle.som_rules.specs.Modules.{class_of, classes_of}
+use Rattle.som_rules.specs.Places.{class_of_place}
+use Rattle.som_rules.proofs.DeclaredClasses.{long_map}
 use Rattle.som_elab.specs.Grounds.{among_in, classes_in}
 use Rattle.som_elab.specs.Texts.{given}
 use Rattle.som_elab.proofs.ClassSteps.{class_next, class_stops}

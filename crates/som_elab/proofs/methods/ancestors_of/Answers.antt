@@ -1,6 +1,6 @@
 use Rattle.std.proofs.Common.{map, ap, ◌∙◌}
-use Rattle.som_verify.specs.Knowing.{all_of}
-use Rattle.som_verify.specs.Places.{key_at}
+use Rattle.som_typing.specs.Knowing.{all_of}
+use Rattle.som_rules.specs.Places.{key_at}
 use Rattle.som_elab.proofs.methods.ancestors_of.Goals as goal
 
 pub returns-clause-low : goal.returns-clause-low

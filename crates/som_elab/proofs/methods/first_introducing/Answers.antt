@@ -1,6 +1,6 @@
 use Rattle.std.proofs.Common.{sym, ◌∙◌, arith}
-use Rattle.som_verify.specs.Knowing.{all_of}
-use Rattle.som_verify.proofs.Listed.{mem_at}
+use Rattle.som_typing.specs.Knowing.{all_of}
+use Rattle.som_rules.proofs.Listed.{mem_at}
 use Rattle.som_elab.specs.Forms.{method_at}
 use Rattle.som_elab.proofs.MethodLaws.{first_here, first_skips}
 use Rattle.som_elab.proofs.methods.first_introducing.Goals as goal

@@ -1,7 +1,7 @@
 use Rattle.std.proofs.Common.{◌≡◌, drop, flat_map}
 use Rattle.som_model.specs.Lists.{first}
 use Rattle.som_sema.specs.Sketch.{drawings}
-use Rattle.som_verify.specs.Knowing.{all_of}
+use Rattle.som_typing.specs.Knowing.{all_of}
 use Rattle.som_elab.specs.Bodies.{text_s13}
 use Rattle.som_elab.specs.Texts.{given}
 use Rattle.som_elab.proofs.named_bodies.each_named.Given as goal

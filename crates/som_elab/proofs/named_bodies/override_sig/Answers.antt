@@ -1,6 +1,6 @@
 use Rattle.std.proofs.Common.{option_copied}
 use Rattle.som_sema.specs.Sketch.{seen}
-use Rattle.som_verify.specs.Knowing.{all_of}
+use Rattle.som_typing.specs.Knowing.{all_of}
 use Rattle.som_elab.proofs.NamedClasses.{signed_override}
 use Rattle.som_elab.proofs.named_bodies.override_sig.Goals as goal
 

@@ -1,6 +1,6 @@
 use Rattle.std.proofs.Common.{refl}
 use Rattle.som_model.specs.Typing.{cast_type}
-use Rattle.som_verify.specs.Kinds.{kind_at}
+use Rattle.som_typing.specs.Kinds.{kind_at}
 use Rattle.som_elab.specs.Code.{among_at, classes_at, made_at}
 use Rattle.som_elab.specs.Forms.{facts_at}
 use Rattle.som_elab.proofs.FormLaws.{cast_made}

@@ -1,7 +1,7 @@
 use Rattle.std.proofs.Common.{map}
 use Rattle.som_model.specs.Typing.{parents_call_type}
-use Rattle.som_verify.specs.Kinds.{kind_at}
-use Rattle.som_verify.specs.Places.{key_at}
+use Rattle.som_typing.specs.Kinds.{kind_at}
+use Rattle.som_rules.specs.Places.{key_at}
 use Rattle.som_elab.specs.Code.{classes_at, place_at}
 use Rattle.som_elab.specs.Forms.{facts_at}
 use Rattle.som_elab.proofs.FormLaws.{parents_made}

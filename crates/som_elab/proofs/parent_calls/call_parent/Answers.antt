@@ -1,4 +1,4 @@
-use Rattle.som_verify.specs.Places.{key_at}
+use Rattle.som_rules.specs.Places.{key_at}
 use Rattle.som_elab.specs.Code.{among_at, classes_at, place_at}
 use Rattle.som_elab.specs.Forms.{method_at, parts_at}
 use Rattle.som_elab.proofs.FormLaws.{method_found, method_missing}

@@ -1,6 +1,6 @@
 use Rattle.std.proofs.Common.{None, ap, ◌∙◌, refl}
 use Rattle.som_model.specs.Typing.{is_nothing}
-use Rattle.som_verify.proofs.Keeping.{type_kind}
+use Rattle.som_typing.proofs.Keeping.{type_kind}
 use Rattle.som_elab.specs.Code.{among_at, classes_at, place_at}
 use Rattle.som_elab.specs.Stated.{names_in}
 use Rattle.som_elab.specs.Statements.{returned, ruled}

@@ -1,7 +1,7 @@
 use Rattle.std.proofs.Common.{Ok, Err, ap}
 use Rattle.som_model.specs.Typing.{Ruled, fits}
-use Rattle.som_verify.specs.Kinds.{kind_at, type_at}
-use Rattle.som_verify.specs.Knowing.{facts_of}
+use Rattle.som_typing.specs.Kinds.{kind_at, type_at}
+use Rattle.som_typing.specs.Knowing.{facts_of}
 use Rattle.som_elab.specs.Code.{among_at, classes_at, made_at, place_at}
 use Rattle.som_elab.specs.Stated.{names_in}
 use Rattle.som_elab.specs.Statements.{Placed, ruled, set_variable}

@@ -2,8 +2,8 @@ use Rattle.std.proofs.Common.{length, sym, ap, ◌∙◌}
 use Rattle.std.proofs.lemmas.Bool.{ltb-true}
 use Rattle.som_model.specs.declared.limits.TheConstants.{MAX_LOCALS}
 use Rattle.som_model.specs.Typing.{fits}
-use Rattle.som_verify.specs.Kinds.{kind_at}
-use Rattle.som_verify.specs.Knowing.{facts_of}
+use Rattle.som_typing.specs.Kinds.{kind_at}
+use Rattle.som_typing.specs.Knowing.{facts_of}
 use Rattle.som_elab.specs.Code.{among_at, classes_at}
 use Rattle.som_elab.proofs.NamesInScope.{var_many, var_misfits, var_opens, var_seen, var_unknown}
 use Rattle.som_elab.proofs.scoping.declared_kind.Goals as goal

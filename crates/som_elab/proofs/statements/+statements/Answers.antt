@@ -1,6 +1,6 @@
 use Rattle.std.proofs.Common.{◌≡◌, List, refl, ap, ◌∙◌, subst, Ok}
 use Rattle.std.proofs.lemmas.Result.{err_from_is_err_and}
-use Rattle.som_verify.specs.Kinds.{kind_at}
+use Rattle.som_typing.specs.Kinds.{kind_at}
 use Rattle.som_elab.specs.declared.local.Local.{Local}
 use Rattle.som_elab.specs.Code.{Stops, among_at, classes_at, made_at, place_at}
 use Rattle.som_elab.specs.Stated.{block_in, by_value, expr_in, names_in, stmt_in, value_in}

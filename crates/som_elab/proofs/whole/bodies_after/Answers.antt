@@ -3,9 +3,9 @@ use Rattle.som_model.specs.Class.{Class, class_in}
 use Rattle.som_model.specs.declared.key.Module.TheVariants as modules
 use Rattle.som_sema.specs.Home.{home_in}
 use Rattle.som_sema.specs.Sketch.{drawings}
-use Rattle.som_verify.specs.Faces.{classes_breach}
-use Rattle.som_verify.specs.Modules.{classes_of}
-use Rattle.som_verify.specs.Places.{with_kernel}
+use Rattle.som_rules.specs.Faces.{classes_breach}
+use Rattle.som_rules.specs.Modules.{classes_of}
+use Rattle.som_rules.specs.Places.{with_kernel}
 use Rattle.som_elab.specs.Elaboration.{Answers}
 use Rattle.som_elab.specs.Grounds.{checked_steps}
 use Rattle.som_elab.specs.Texts.{given}

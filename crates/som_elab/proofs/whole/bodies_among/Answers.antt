@@ -1,4 +1,4 @@
-use Rattle.som_verify.specs.Modules.{classes_of}
+use Rattle.som_rules.specs.Modules.{classes_of}
 use Rattle.som_elab.proofs.Grounding.{names_kept}
 use Rattle.som_elab.proofs.Wholes.{no_memory}
 use Rattle.som_elab.proofs.whole.bodies_among.Goals as goal

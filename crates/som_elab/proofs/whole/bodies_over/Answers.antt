@@ -4,7 +4,7 @@ use Rattle.som_sema.specs.Home.{face_names, home, home_in, kernel_names}
 use Rattle.som_sema.specs.Sketch.{drawings}
 use Rattle.som_sema.specs.Words.{interface_names, lent, once}
 use Rattle.som_sema.proofs.Finishing.{base_is}
-use Rattle.som_verify.proofs.DeclaredClasses.{long_map}
+use Rattle.som_rules.proofs.DeclaredClasses.{long_map}
 use Rattle.som_elab.specs.Texts.{given}
 use Rattle.som_elab.proofs.Wholes.{few_over, rules_over, steps_over}
 use Rattle.som_elab.proofs.whole.bodies_over.Goals as goal

@@ -1,9 +1,9 @@
 use Rattle.std.proofs.Common.{List, option_copied, ◌∙◌, subst}
 use Rattle.som_sema.specs.Home.{home_in}
 use Rattle.som_sema.specs.Sketch.{drawings}
-use Rattle.som_verify.specs.declared.types.Declared.{Declared}
-use Rattle.som_verify.specs.Modules.{classes_of}
-use Rattle.som_verify.specs.Places.{with_kernel}
+use Rattle.som_rules.specs.declared.types.Declared.{Declared}
+use Rattle.som_rules.specs.Modules.{classes_of}
+use Rattle.som_rules.specs.Places.{with_kernel}
 use Rattle.som_elab.specs.Elaboration.{Answers}
 use Rattle.som_elab.specs.Grounds.{checked_steps}
 use Rattle.som_elab.specs.Texts.{given}

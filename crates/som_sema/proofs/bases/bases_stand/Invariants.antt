@@ -3,8 +3,8 @@ use Rattle.som_model.specs.Lists.{first}
 use Rattle.som_sema.specs.Home.{home_in}
 use Rattle.som_sema.specs.Sketch.{drawings}
 use Rattle.som_sema.specs.TextRules.{text_s2_from}
-use Rattle.som_verify.specs.Modules.{classes_of}
-use Rattle.som_verify.specs.Places.{with_kernel}
+use Rattle.som_rules.specs.Modules.{classes_of}
+use Rattle.som_rules.specs.Places.{with_kernel}
 use Rattle.som_sema.proofs.bases.bases_stand.Given as goal
 
 abbrev pub invariant-loop-drawing : goal.invariant-loop-drawing

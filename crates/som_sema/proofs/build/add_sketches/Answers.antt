@@ -1,6 +1,6 @@
 use Rattle.std.proofs.Common.{List, map, refl}
 use Rattle.som_model.specs.Class.{class_in}
-use Rattle.som_verify.specs.Modules.{class_of, classes_of}
+use Rattle.som_rules.specs.Modules.{class_of, classes_of}
 use Rattle.som_sema.specs.Sketch.{drawings, sketches}
 use Rattle.som_sema.specs.declared.sketch.Drawing.{Drawing}
 use Rattle.som_sema.proofs.Going.{next, pushed, rest_end}

@@ -1,7 +1,7 @@
 use Rattle.std.proofs.Common.{◌≡◌, ◌++◌, drop, map}
 use Rattle.som_model.specs.Class.{class_in}
 use Rattle.som_sema.specs.Sketch.{drawings, sketches}
-use Rattle.som_verify.specs.Modules.{classes_of}
+use Rattle.som_rules.specs.Modules.{classes_of}
 use Rattle.som_sema.proofs.build.add_sketches.Given as goal
 
 abbrev pub invariant-loop-drawing : goal.invariant-loop-drawing

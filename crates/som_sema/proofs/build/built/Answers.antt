@@ -2,10 +2,10 @@ use Rattle.std.proofs.Common.{List, ap, map, arith, sym, ◌∙◌, refl}
 use Rattle.std.proofs.lemmas.Result.{err_from_is_err_and}
 use Rattle.som_model.specs.Class.{class_in}
 use Rattle.som_model.specs.declared.key.Module.TheVariants as modules
-use Rattle.som_verify.specs.Faces.{faces_breach}
-use Rattle.som_verify.specs.Modules.{classes_of}
-use Rattle.som_verify.proofs.DeclaredClasses.{long_map}
-use Rattle.som_verify.proofs.PlainFaces.{none_or}
+use Rattle.som_rules.specs.Faces.{faces_breach}
+use Rattle.som_rules.specs.Modules.{classes_of}
+use Rattle.som_rules.proofs.DeclaredClasses.{long_map}
+use Rattle.som_rules.proofs.PlainFaces.{none_or}
 use Rattle.som_model.specs.declared.class.ClassDecl.{ClassDecl}
 use Rattle.som_sema.specs.Building.{after_base, moved_breach}
 use Rattle.som_sema.specs.Home.{home_in}

@@ -3,8 +3,8 @@ use Rattle.std.specs.Prelude.{IfOk}
 use Rattle.som_model.specs.Class.{class_in}
 use Rattle.som_model.specs.declared.class.ClassDecl.{ClassDecl}
 use Rattle.som_model.specs.declared.key.Module.TheVariants as modules
-use Rattle.som_verify.specs.Faces.{faces_breach}
-use Rattle.som_verify.specs.Told.{Tells}
+use Rattle.som_rules.specs.Faces.{faces_breach}
+use Rattle.som_rules.specs.Told.{Tells}
 use Rattle.som_sema.specs.Home.{face_names, home, home_in, kernel_names}
 use Rattle.som_sema.specs.Sketch.{drawings}
 use Rattle.som_sema.specs.Words.{interface_names, lent, once}

@@ -1,8 +1,8 @@
 use Rattle.std.proofs.Common.{List, ap, map, ◌++◌, ◌∙◌}
 use Rattle.som_model.specs.Class.{class_in}
 use Rattle.som_model.specs.declared.key.Module.TheVariants as modules
-use Rattle.som_verify.specs.Modules.{classes_of}
-use Rattle.som_verify.specs.declared.types.Declared.{Declared}
+use Rattle.som_rules.specs.Modules.{classes_of}
+use Rattle.som_rules.specs.declared.types.Declared.{Declared}
 use Rattle.som_sema.specs.Sketch.{drawings, sketches}
 use Rattle.som_sema.proofs.build.known_classes.Goals as goal
 

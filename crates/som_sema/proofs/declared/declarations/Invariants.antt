@@ -1,8 +1,8 @@
 use Rattle.std.proofs.Common.{◌≡◌, ◌+◌, ◌++◌, drop}
 use Rattle.som_sema.specs.Finished.{declared_from}
 use Rattle.som_sema.specs.Sketch.{drawings}
-use Rattle.som_verify.specs.Modules.{classes_of}
-use Rattle.som_verify.specs.Places.{with_kernel}
+use Rattle.som_rules.specs.Modules.{classes_of}
+use Rattle.som_rules.specs.Places.{with_kernel}
 use Rattle.som_sema.proofs.declared.declarations.Given as goal
 
 abbrev pub invariant-loop-drawing : goal.invariant-loop-drawing

@@ -1,8 +1,8 @@
 use Rattle.std.proofs.Common.{ap, map, ◌∙◌}
 use Rattle.som_model.specs.Class.{introduced}
 use Rattle.som_model.specs.EffectiveOrder.{effective_order}
-use Rattle.som_verify.specs.Modules.{classes_of}
-use Rattle.som_verify.specs.Places.{key_at, with_kernel}
+use Rattle.som_rules.specs.Modules.{classes_of}
+use Rattle.som_rules.specs.Places.{key_at, with_kernel}
 use Rattle.som_sema.specs.Finished.{entry_for}
 use Rattle.som_sema.specs.Items.{listed}
 use Rattle.som_sema.proofs.Going.{map_end}

@@ -1,7 +1,7 @@
 use Rattle.std.proofs.Common.{◌≡◌, ◌++◌, drop, map}
 use Rattle.som_sema.specs.Finished.{entry_for}
-use Rattle.som_verify.specs.Modules.{classes_of}
-use Rattle.som_verify.specs.Places.{key_at, with_kernel}
+use Rattle.som_rules.specs.Modules.{classes_of}
+use Rattle.som_rules.specs.Places.{key_at, with_kernel}
 use Rattle.som_sema.proofs.declared.entries.Given as goal
 
 abbrev pub invariant-loop-name : goal.invariant-loop-name

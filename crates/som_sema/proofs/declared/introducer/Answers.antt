@@ -1,6 +1,6 @@
 use Rattle.std.proofs.Common.{◌<◌, length, sym, ap, ◌∙◌, subst}
-use Rattle.som_verify.specs.Modules.{classes_of}
-use Rattle.som_verify.specs.Places.{key_at, with_kernel}
+use Rattle.som_rules.specs.Modules.{classes_of}
+use Rattle.som_rules.specs.Places.{key_at, with_kernel}
 use Rattle.som_sema.proofs.Introducers.{introducer_is, introducer_low}
 use Rattle.som_sema.proofs.declared.introducer.Goals as goal
 

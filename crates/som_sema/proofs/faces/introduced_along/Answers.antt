@@ -1,4 +1,4 @@
-use Rattle.som_verify.proofs.Listed.{mem_at}
+use Rattle.som_rules.proofs.Listed.{mem_at}
 use Rattle.som_sema.proofs.faces.introduced_along.Goals as goal
 
 pub face_of-face-requires-clause-place : goal.face_of-face-requires-clause-place

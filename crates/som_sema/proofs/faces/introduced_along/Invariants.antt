@@ -1,7 +1,7 @@
 use Rattle.std.proofs.Common.{◌≡◌, ◌++◌, drop}
 use Rattle.som_sema.specs.Noted.{all_at, along}
-use Rattle.som_verify.specs.Modules.{classes_of}
-use Rattle.som_verify.specs.Places.{with_kernel}
+use Rattle.som_rules.specs.Modules.{classes_of}
+use Rattle.som_rules.specs.Places.{with_kernel}
 use Rattle.som_sema.proofs.faces.introduced_along.Given as goal
 
 abbrev pub invariant-loop-place : goal.invariant-loop-place

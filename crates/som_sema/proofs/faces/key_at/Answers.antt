@@ -1,8 +1,8 @@
 use Rattle.std.proofs.Common.{sym, ap, ◌∙◌}
 use Rattle.som_model.specs.declared.key.ClassKey.TheVariants as keys
 use Rattle.som_model.specs.declared.class.ClassFace.{ClassFace}
-use Rattle.som_verify.specs.Modules.{classes_of}
-use Rattle.som_verify.specs.Places.{module_at, with_kernel}
+use Rattle.som_rules.specs.Modules.{classes_of}
+use Rattle.som_rules.specs.Places.{module_at, with_kernel}
 use Rattle.som_sema.proofs.Finishing.{key_there}
 use Rattle.som_sema.proofs.faces.key_at.Goals as goal
 

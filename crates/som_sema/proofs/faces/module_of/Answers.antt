@@ -1,5 +1,5 @@
 use Rattle.std.proofs.Common.{sym}
-use Rattle.som_verify.proofs.Finding.{module_past}
+use Rattle.som_rules.proofs.Finding.{module_past}
 use Rattle.som_sema.proofs.faces.module_of.Goals as goal
 
 pub returns-else-place-lt-KERNEL_CLASSES : goal.returns-else-place-lt-KERNEL_CLASSES

@@ -2,7 +2,7 @@ use Rattle.std.proofs.Common.{flat_map}
 use Rattle.std.proofs.lemmas.Result.{err_from_is_err_and}
 use Rattle.som_model.specs.Lists.{first}
 use Rattle.som_sema.specs.Sketch.{drawings, seen}
-use Rattle.som_verify.proofs.Passes.{goes_on, stops, all_pass}
+use Rattle.som_rules.proofs.Passes.{goes_on, stops, all_pass}
 use Rattle.som_sema.proofs.passes.each_drawing.Goals as goal
 
 pub returns-in_err-rule : goal.returns-in_err-rule

@@ -3,8 +3,8 @@ use Rattle.som_model.specs.Lists.{first}
 use Rattle.som_model.specs.Rules.{RuleBreach}
 use Rattle.som_sema.specs.Sketch.{Drawn, drawings, seen}
 use Rattle.som_sema.specs.declared.sketch.Drawing.{Drawing}
-use Rattle.som_verify.specs.declared.types.VerifyFault.{VerifyFault}
-use Rattle.som_verify.specs.Told.{Tells}
+use Rattle.som_rules.specs.declared.types.VerifyFault.{VerifyFault}
+use Rattle.som_rules.specs.Told.{Tells}
 use Rattle.som_sema.proofs.passes.each_drawing.Given as goal
 
 abbrev pub invariant-loop-place : goal.invariant-loop-place

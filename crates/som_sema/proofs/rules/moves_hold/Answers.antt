@@ -1,4 +1,4 @@
-use Rattle.som_verify.specs.Modules.{classes_of}
+use Rattle.som_rules.specs.Modules.{classes_of}
 use Rattle.som_sema.proofs.Composing.{all_moved, walked_lists, walked_table}
 use Rattle.som_sema.proofs.rules.moves_hold.Goals as goal
 

@@ -1,9 +1,9 @@
 use Rattle.std.proofs.Common.{◌+◌, subst, refl, arith}
 use Rattle.som_model.specs.Lists.{first}
-use Rattle.som_verify.specs.Modules.{classes_of}
-use Rattle.som_verify.specs.Places.{with_kernel}
-use Rattle.som_verify.specs.Told.{Tells}
-use Rattle.som_verify.proofs.DeclaredClasses.{known_number}
+use Rattle.som_rules.specs.Modules.{classes_of}
+use Rattle.som_rules.specs.Places.{with_kernel}
+use Rattle.som_rules.specs.Told.{Tells}
+use Rattle.som_rules.proofs.DeclaredClasses.{known_number}
 use Rattle.som_sema.specs.Home.{home_in}
 use Rattle.som_sema.specs.Sketch.{drawings}
 use Rattle.som_sema.specs.TextRules.{text_s2_from}

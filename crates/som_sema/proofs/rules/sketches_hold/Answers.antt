@@ -1,9 +1,9 @@
 use Rattle.std.proofs.Common.{◌∙◌}
 use Rattle.std.proofs.lemmas.Result.{err_from_is_err_and}
-use Rattle.som_verify.proofs.DeclaredClasses.{are_declared}
-use Rattle.som_verify.proofs.PlainFaces.{none_or}
+use Rattle.som_rules.proofs.DeclaredClasses.{are_declared}
+use Rattle.som_rules.proofs.PlainFaces.{none_or}
 use Rattle.som_sema.proofs.Telling.{here, later}
-use Rattle.som_verify.specs.Modules.{classes_of}
+use Rattle.som_rules.specs.Modules.{classes_of}
 use Rattle.som_order.specs.Names.{texts}
 use Rattle.som_sema.specs.Home.{home_in}
 use Rattle.som_sema.specs.Sketch.{drawings}

@@ -1,5 +1,5 @@
 use Rattle.std.proofs.Common.{List, ℕ, length, subst}
-use Rattle.som_verify.specs.Walk.{AreAncestors}
+use Rattle.som_rules.specs.Walk.{AreAncestors}
 use Rattle.som_sema.proofs.walked.walk.Goals as goal
 
 pub ancestors-requires : goal.ancestors-requires

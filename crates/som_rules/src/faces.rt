@@ -1,0 +1,34 @@
+ghost use Rattle.som_model.specs.Class.{bare};
+ghost use Rattle.som_rules.specs.Faces.{faces_breach};
+ghost use Rattle.som_rules.specs.Told.{Tells, of_release};
+ghost use Rattle.std.specs.Prelude.{◌≡◌, map, IfOk};
+
+use crate::classes::{classes_hold, declare};
+use crate::types::VerifyFault;
+use som_model::{ClassDecl, ClassFace, List, Module, NoMemory};
+use std::alloc::Global;
+
+/// The rules S1 to S10, which look at no body.
+pub fn faces_ok(alloc: Global, classes: &[ClassDecl]) -> Result<(), VerifyFault>
+    ensures { Tells (faces_breach (of_release classes.now)) result }
+{
+    let mut declared = Vec::new(alloc);
+    declare(&mut declared, Module::Library, classes)?;
+    classes_hold(alloc, &declared, 0)
+}
+
+/// Classes of which the faces alone are known.
+pub fn bare_classes(alloc: Global, faces: &[ClassFace]) -> Result<List<ClassDecl>, NoMemory>
+    ensures { IfOk result (λ classes. classes ≡ map bare faces.now) }
+{
+    let mut classes = List::new(alloc);
+    for face in faces {
+        classes.push(ClassDecl {
+            face: face.copy(alloc)?,
+            variables: List::new(alloc),
+            bodies: List::new(alloc),
+            overrides: List::new(alloc),
+        })?;
+    }
+    Ok(classes)
+}

@@ -1,0 +1,175 @@
+ghost use Rattle.som_model.specs.Kernel.{kernel_interface};
+ghost use Rattle.som_model.specs.Keys.{same_method};
+ghost use Rattle.som_model.specs.Lists.{first, some};
+ghost use Rattle.som_model.specs.Owner.{owner};
+ghost use Rattle.som_model.specs.Rules.{s9, s10};
+ghost use Rattle.som_order.specs.Names.{texts};
+ghost use Rattle.som_rules.specs.Inherited.{may_override as allowed, method_of, overrides_from};
+ghost use Rattle.som_rules.specs.Modules.{class_of, classes_of};
+ghost use Rattle.som_rules.specs.Places.{IsTable, key_at, with_kernel};
+ghost use Rattle.som_rules.specs.Told.{Tells};
+ghost use Rattle.som_rules.specs.Walk.{AreLists};
+ghost use Rattle.std.specs.Prelude.{◌≡◌, ◌<◌, [], drop, length, map, flat_map, None};
+
+use crate::inherited::{Method, is_inherited, moved_to};
+use crate::introduced::entries_at;
+use crate::pass::breach;
+use crate::table::{KERNEL_CLASSES, find_class};
+use crate::types::{Declared, VerifyFault};
+use indexmap::IndexSet;
+use som_model::{ClassFace, List, MethodRef};
+use std::alloc::Global;
+
+/// S10: each override is of a method that a proper ancestor introduces, and none is overridden twice; methods go
+/// by their owners. It is asked of the classes from a place on.
+pub fn overrides_inherited(
+    alloc: Global,
+    table: &IndexSet<&[u8]>,
+    kernel: &[ClassFace],
+    classes: &[Declared],
+    lists: &[List<usize>],
+    from: usize,
+) -> Result<(), VerifyFault>
+    requires table { IsTable (classes_of classes.now) (texts table.now.keys) }
+    requires kernel { kernel.now ≡ kernel_interface.classes }
+    requires lists { AreLists (with_kernel (classes_of classes.now)) lists.now }
+    requires moved { first (flat_map (s9 (with_kernel (classes_of classes.now))) (classes_of classes.now)) ≡ None }
+    ensures { Tells (first (flat_map (s10 (with_kernel (classes_of classes.now))) (classes_of (drop from classes.now)))) result }
+{
+    for place in from..classes.len() {
+        let class = &classes[place];
+        let place = place + KERNEL_CLASSES;
+        own_overrides_inherited(alloc, table, &*kernel, &*classes, lists, place, &*class)?;
+    }
+    Ok(())
+}
+
+fn own_overrides_inherited<'a>(
+    alloc: Global,
+    table: &IndexSet<&[u8]>,
+    kernel: &'a [ClassFace],
+    classes: &[Declared<'a>],
+    lists: &[List<usize>],
+    place: usize,
+    class: &Declared<'a>,
+) -> Result<(), VerifyFault>
+    requires table { IsTable (classes_of classes.now) (texts table.now.keys) }
+    requires kernel { kernel.now ≡ kernel_interface.classes }
+    requires lists { AreLists (with_kernel (classes_of classes.now)) lists.now }
+    requires moved { first (flat_map (s9 (with_kernel (classes_of classes.now))) (classes_of classes.now)) ≡ None }
+    requires place { place < length (with_kernel (classes_of classes.now)) }
+    ensures { Tells (first (overrides_from (with_kernel (classes_of classes.now))
+        (key_at (with_kernel (classes_of classes.now)) place) (class_of class.now) [] class.now.decl.now.overrides)) result }
+{
+    let mut before = Vec::new(alloc);
+    overrides_follow(
+        alloc,
+        table,
+        kernel,
+        classes,
+        lists,
+        place,
+        class,
+        &mut before,
+    )
+}
+
+// The same, after the overrides of these methods.
+fn overrides_follow<'a>(
+    alloc: Global,
+    table: &IndexSet<&[u8]>,
+    kernel: &'a [ClassFace],
+    classes: &[Declared<'a>],
+    lists: &[List<usize>],
+    place: usize,
+    class: &Declared<'a>,
+    before: &mut Vec<Method<'a>>,
+) -> Result<(), VerifyFault>
+    requires table { IsTable (classes_of classes.now) (texts table.now.keys) }
+    requires kernel { kernel.now ≡ kernel_interface.classes }
+    requires lists { AreLists (with_kernel (classes_of classes.now)) lists.now }
+    requires moved { first (flat_map (s9 (with_kernel (classes_of classes.now))) (classes_of classes.now)) ≡ None }
+    requires place { place < length (with_kernel (classes_of classes.now)) }
+    ensures { Tells (first (overrides_from (with_kernel (classes_of classes.now))
+        (key_at (with_kernel (classes_of classes.now)) place) (class_of class.now) (map method_of before.old.items) class.now.decl.now.overrides)) result }
+{
+    let decl = class.decl;
+    for item in decl.overrides.as_slice() {
+        let method = owner_of(table, kernel, classes, &item.method);
+        if !may_override(table, kernel, classes, lists, place, before, &method) {
+            return Err(breach(alloc, 10, decl, item.method.name.as_slice())?);
+        }
+        before.push(method)?;
+    }
+    Ok(())
+}
+
+// Whether the class at a place may override a method, after those before.
+fn may_override(
+    table: &IndexSet<&[u8]>,
+    kernel: &[ClassFace],
+    classes: &[Declared],
+    lists: &[List<usize>],
+    place: usize,
+    before: &[Method],
+    method: &Method,
+) -> bool
+    requires table { IsTable (classes_of classes.now) (texts table.now.keys) }
+    requires kernel { kernel.now ≡ kernel_interface.classes }
+    requires lists { AreLists (with_kernel (classes_of classes.now)) lists.now }
+    requires place { place < length (with_kernel (classes_of classes.now)) }
+    ensures { result ≡ allowed (with_kernel (classes_of classes.now)) (key_at (with_kernel (classes_of classes.now)) place)
+        (map method_of before.now) (method_of method.now) }
+{
+    is_inherited(table, kernel, classes, lists, place, method) && !is_among(before, method)
+}
+
+fn is_among(methods: &[Method], method: &Method) -> bool
+    ensures { result ≡ some (same_method (method_of method.now)) (map method_of methods.now) }
+{
+    for other in methods {
+        if is_same(method, other) {
+            return true;
+        }
+    }
+    false
+}
+
+fn is_same(method: &Method, other: &Method) -> bool
+    ensures { result ≡ same_method (method_of method.now) (method_of other.now) }
+{
+    method.class.is(other.class) && method.name.is(other.name.as_slice())
+}
+
+/// The method as the class has it that introduces it.
+pub fn owner_of<'a>(
+    table: &IndexSet<&[u8]>,
+    kernel: &'a [ClassFace],
+    classes: &[Declared<'a>],
+    method: &'a MethodRef,
+) -> Method<'a>
+    requires table { IsTable (classes_of classes.now) (texts table.now.keys) }
+    requires kernel { kernel.now ≡ kernel_interface.classes }
+    requires moved { first (flat_map (s9 (with_kernel (classes_of classes.now))) (classes_of classes.now)) ≡ None }
+    ensures { method_of result ≡ owner (with_kernel (classes_of classes.now)) method.now }
+{
+    let name = &method.name;
+    match find_class(
+        table,
+        classes,
+        &method.class,
+        classes.len() + KERNEL_CLASSES,
+    ) {
+        None => Method {
+            class: &method.class,
+            name,
+        },
+        Some(place) => match moved_to(entries_at(kernel, classes, place), name) {
+            None => Method {
+                class: &method.class,
+                name,
+            },
+            Some(to) => Method { class: to, name },
+        },
+    }
+}

@@ -1,0 +1,109 @@
+ghost use Rattle.som_model.specs.Conforming.{each_after};
+ghost use Rattle.som_model.specs.Kernel.{kernel};
+ghost use Rattle.som_model.specs.Lists.{first, option_list};
+ghost use Rattle.som_model.specs.Rules.{s2};
+ghost use Rattle.som_order.specs.Names.{texts};
+ghost use Rattle.som_rules.specs.Modules.{class_of, classes_of};
+ghost use Rattle.som_rules.specs.Places.{IsRows, IsTable, with_kernel};
+ghost use Rattle.som_rules.specs.Standing.{ClassStands, RowStands, all_stand, kernel_rows};
+ghost use Rattle.som_rules.specs.Told.{Tells};
+ghost use Rattle.std.specs.Prelude.{◌≡◌, length, IfOk};
+
+use crate::pass::breach;
+use crate::table::find_class;
+use crate::types::{Declared, VerifyFault};
+use indexmap::IndexSet;
+use som_model::{ClassKey, List, NoMemory};
+use std::alloc::Global;
+
+/// S2: each parent and each metaclass is a class of the kernel or stands before its class. Answers the parents of each
+/// class by their places.
+pub fn parents_stand(
+    alloc: Global,
+    table: &IndexSet<&[u8]>,
+    classes: &[Declared],
+) -> Result<Vec<List<usize>>, VerifyFault>
+    requires { IsTable (classes_of classes.now) (texts table.now.keys) }
+    ensures tells { Tells (first (each_after s2 kernel (classes_of classes.now))) result }
+    ensures rows { IfOk result (λ rows. IsRows (with_kernel (classes_of classes.now))
+        (length (with_kernel (classes_of classes.now))) rows.items) }
+{
+    let mut rows = kernel_parents(alloc)?;
+    for class in classes {
+        let row = standing_row(alloc, table, classes, class, rows.len())?;
+        rows.push(row)?;
+    }
+    Ok(rows)
+}
+
+// The parents of a class by their places, if they and the metaclass stand before the place.
+fn standing_row(
+    alloc: Global,
+    table: &IndexSet<&[u8]>,
+    classes: &[Declared],
+    class: &Declared,
+    place: usize,
+) -> Result<List<usize>, VerifyFault>
+    requires { IsTable (classes_of classes.now) (texts table.now.keys) }
+    ensures { ClassStands (with_kernel (classes_of classes.now)) place (class_of class.now) result }
+{
+    let decl = class.decl;
+    match row_of(alloc, table, classes, decl.face.parents.as_slice(), place)? {
+        None => Err(breach(alloc, 2, decl, b"-")?),
+        Some(row) => {
+            if metaclass_stands(table, classes, &decl.face.metaclass, place) {
+                Ok(row)
+            } else {
+                Err(breach(alloc, 2, decl, b"-")?)
+            }
+        }
+    }
+}
+
+// The parents of the kernel's classes.
+fn kernel_parents(alloc: Global) -> Result<Vec<List<usize>>, NoMemory>
+    ensures { IfOk result (λ rows. rows.items ≡ kernel_rows) }
+{
+    let mut rows = Vec::new(alloc);
+    rows.push(List::new(alloc))?;
+    rows.push(List::from_slice(alloc, &[0])?)?;
+    rows.push(List::from_slice(alloc, &[0])?)?;
+    rows.push(List::from_slice(alloc, &[1])?)?;
+    Ok(rows)
+}
+
+// The places of the parents, if all stand before the place.
+fn row_of(
+    alloc: Global,
+    table: &IndexSet<&[u8]>,
+    classes: &[Declared],
+    parents: &[ClassKey],
+    place: usize,
+) -> Result<Option<List<usize>>, NoMemory>
+    requires { IsTable (classes_of classes.now) (texts table.now.keys) }
+    ensures { IfOk result (λ row. RowStands (with_kernel (classes_of classes.now)) place parents.now row) }
+{
+    let mut row = List::new(alloc);
+    for parent in parents {
+        match find_class(table, classes, parent, place) {
+            Some(found) => row.push(found)?,
+            None => return Ok(None),
+        }
+    }
+    Ok(Some(row))
+}
+
+fn metaclass_stands(
+    table: &IndexSet<&[u8]>,
+    classes: &[Declared],
+    metaclass: &Option<ClassKey>,
+    place: usize,
+) -> bool
+    requires { IsTable (classes_of classes.now) (texts table.now.keys) }
+    ensures { result ≡ all_stand (with_kernel (classes_of classes.now)) place (option_list metaclass.now) }
+{
+    match metaclass {
+        None => true,
+        Some(key) => find_class(table, classes, key, place).is_some(),
+    }
+}

@@ -1,0 +1,4 @@
+pub mod Kinds
+pub mod Knowing
+pub mod Scopes
+pub mod Bodies

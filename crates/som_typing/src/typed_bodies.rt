@@ -1,0 +1,211 @@
+ghost use Rattle.som_model.specs.Class.{Class};
+ghost use Rattle.som_model.specs.Conforming.{block_breach, bodies_typed as all_typed, class_typed as typed_class, main_typed as typed_main, override_typed as typed_override};
+ghost use Rattle.som_model.specs.Lists.{every, first};
+ghost use Rattle.som_model.specs.Rules.{is_known};
+ghost use Rattle.som_rules.specs.Modules.{class_of, classes_of};
+ghost use Rattle.som_rules.specs.Told.{Tells};
+ghost use Rattle.som_typing.specs.Bodies.{AllSigsKnown, SigsKnown, StandsAt, body_breaks};
+ghost use Rattle.som_typing.specs.Kinds.{AreTypes, IsType, type_at};
+ghost use Rattle.som_typing.specs.Knowing.{IsKnowledge, all_of, sig_is_known};
+ghost use Rattle.som_typing.specs.Scopes.{scope_at};
+ghost use Rattle.std.specs.Prelude.{◌≡◌, true, drop, flat_map, IfOk};
+
+use crate::code_place::{CodePlace, TypeFault};
+use crate::kind::Kind;
+use crate::knowledge::{Knowledge, kind_of, signature_of};
+use crate::statements::block_typed;
+use som_model::{Block, Body, Entry, NoMemory, Override, Sig, Text, ValueType};
+use som_rules::{Broken, Declared, KERNEL_CLASSES, VerifyFault, breach};
+use std::alloc::Global;
+
+/// Each body of the classes from a place on is well typed.
+pub fn bodies_typed(alloc: Global, known: &Knowledge, from: usize) -> Result<(), VerifyFault>
+    requires known { IsKnowledge known.now }
+    requires signatures { AllSigsKnown (all_of known.now) (classes_of known.now.classes.now) }
+    ensures { Tells (first (flat_map (typed_class (all_of known.now)) (classes_of (drop from known.now.classes.now)))) result }
+{
+    let classes = known.classes;
+    for place in from..classes.len() {
+        class_typed(alloc, known, place + KERNEL_CLASSES, &classes[place])?;
+    }
+    Ok(())
+}
+
+// The bodies of introduced entries come before the overrides.
+fn class_typed(
+    alloc: Global,
+    known: &Knowledge,
+    place: usize,
+    class: &Declared,
+) -> Result<(), VerifyFault>
+    requires known { IsKnowledge known.now }
+    requires class { StandsAt (all_of known.now) place (class_of class.now) }
+    requires signatures { SigsKnown (all_of known.now) (class_of class.now) }
+    ensures { Tells (first (typed_class (all_of known.now) (class_of class.now))) result }
+{
+    introduced_typed(alloc, known, place, class)?;
+    overrides_typed(alloc, known, place, class)
+}
+
+fn introduced_typed(
+    alloc: Global,
+    known: &Knowledge,
+    place: usize,
+    class: &Declared,
+) -> Result<(), VerifyFault>
+    requires known { IsKnowledge known.now }
+    requires class { StandsAt (all_of known.now) place (class_of class.now) }
+    requires signatures { SigsKnown (all_of known.now) (class_of class.now) }
+    ensures { Tells (first (all_typed (all_of known.now) (class_of class.now) class.now.decl.now.face.entries class.now.decl.now.bodies)) result }
+{
+    let decl = class.decl;
+    let mut bodies = decl.bodies.as_slice();
+    for entry in decl.face.entries.as_slice() {
+        let Entry::Introduced { name, sig, .. } = entry else {
+            continue;
+        };
+        let [body, later @ ..] = bodies else {
+            return Ok(());
+        };
+        body_typed(alloc, known, place, class, name, sig, body)?;
+        bodies = later;
+    }
+    Ok(())
+}
+
+// Readers and writers of variables have no block.
+fn body_typed(
+    alloc: Global,
+    known: &Knowledge,
+    place: usize,
+    class: &Declared,
+    name: &Text,
+    sig: &Sig,
+    body: &Body,
+) -> Result<(), VerifyFault>
+    requires known { IsKnowledge known.now }
+    requires class { StandsAt (all_of known.now) place (class_of class.now) }
+    requires sig { sig_is_known (all_of known.now) sig.now ≡ true }
+    ensures { Tells (first (body_breaks (all_of known.now) (class_of class.now) name.now sig.now body.now)) result }
+{
+    match body {
+        Body::User(block) => method_typed(alloc, known, place, class, name, sig, block),
+        Body::Get(_) => Ok(()),
+        Body::Set(_) => Ok(()),
+    }
+}
+
+fn overrides_typed(
+    alloc: Global,
+    known: &Knowledge,
+    place: usize,
+    class: &Declared,
+) -> Result<(), VerifyFault>
+    requires known { IsKnowledge known.now }
+    requires class { StandsAt (all_of known.now) place (class_of class.now) }
+    ensures { Tells (first (flat_map (typed_override (all_of known.now) (class_of class.now)) class.now.decl.now.overrides)) result }
+{
+    let decl = class.decl;
+    for item in decl.overrides.as_slice() {
+        override_typed(alloc, known, place, class, item)?;
+    }
+    Ok(())
+}
+
+// An override has the signature of the method that it replaces.
+fn override_typed(
+    alloc: Global,
+    known: &Knowledge,
+    place: usize,
+    class: &Declared,
+    item: &Override,
+) -> Result<(), VerifyFault>
+    requires known { IsKnowledge known.now }
+    requires class { StandsAt (all_of known.now) place (class_of class.now) }
+    ensures { Tells (first (typed_override (all_of known.now) (class_of class.now) item.now)) result }
+{
+    let method = &item.method;
+    match signature_of(known, method) {
+        None => Ok(()),
+        Some(sig) => method_typed(alloc, known, place, class, &method.name, sig, &item.block),
+    }
+}
+
+// The block of a method, where its parameters are the first locals.
+fn method_typed(
+    alloc: Global,
+    known: &Knowledge,
+    place: usize,
+    class: &Declared,
+    name: &Text,
+    sig: &Sig,
+    block: &Block,
+) -> Result<(), VerifyFault>
+    requires known { IsKnowledge known.now }
+    requires class { StandsAt (all_of known.now) place (class_of class.now) }
+    requires sig { sig_is_known (all_of known.now) sig.now ≡ true }
+    ensures { Tells (first (block_breach (all_of known.now) (class_of class.now) name.now sig.now block.now)) result }
+{
+    let mut scope = kinds_of(alloc, known, sig.params.as_slice())?;
+    let at = CodePlace {
+        class: Some(place),
+        result: known_kind(known, &sig.result),
+    };
+    match block_typed(alloc, known, &at, &mut scope, block) {
+        Ok(()) => Ok(()),
+        Err(TypeFault::Rule(rule)) => Err(breach(alloc, rule, class.decl, name.as_slice())?),
+        Err(TypeFault::NoMemory) => Err(VerifyFault::NoMemory),
+    }
+}
+
+/// The block of main is well typed.
+pub fn main_typed(alloc: Global, known: &Knowledge, main: &Block) -> Result<(), VerifyFault>
+    requires { IsKnowledge known.now }
+    ensures { Tells (first (typed_main (all_of known.now) main.now)) result }
+{
+    let mut scope = Vec::new(alloc);
+    let at = CodePlace {
+        class: None,
+        result: Kind::Void,
+    };
+    match block_typed(alloc, known, &at, &mut scope, main) {
+        Ok(()) => Ok(()),
+        Err(TypeFault::Rule(rule)) => Err(VerifyFault::Rule(Broken {
+            rule,
+            class: Text::from_slice(alloc, b"main")?,
+            member: Text::from_slice(alloc, b"-")?,
+        })),
+        Err(TypeFault::NoMemory) => Err(VerifyFault::NoMemory),
+    }
+}
+
+/// The kinds of types that are known.
+pub fn kinds_of(
+    alloc: Global,
+    known: &Knowledge,
+    types: &[ValueType],
+) -> Result<Vec<Kind>, NoMemory>
+    requires known { IsKnowledge known.now }
+    requires types { every (is_known (all_of known.now)) types.now ≡ true }
+    ensures are { IfOk result (λ kinds. scope_at (all_of known.now) kinds.items ≡ types.now) }
+    ensures types { IfOk result (λ kinds. AreTypes (all_of known.now) kinds.items) }
+{
+    let mut kinds = Vec::new(alloc);
+    for kind in types {
+        kinds.push(known_kind(known, kind))?;
+    }
+    Ok(kinds)
+}
+
+/// The kind of a type that is known.
+pub fn known_kind(known: &Knowledge, kind: &ValueType) -> Kind
+    requires known { IsKnowledge known.now }
+    requires kind { is_known (all_of known.now) kind.now ≡ true }
+    ensures is { type_at (all_of known.now) result ≡ kind.now }
+    ensures a_type { IsType (all_of known.now) result }
+{
+    match kind_of(known, kind) {
+        Some(found) => found,
+        None => unreachable!(),
+    }
+}

@@ -1,6 +1,0 @@
-use Rattle.som_verify.specs.Modules.{classes_of}
-use Rattle.som_verify.proofs.Rows.{RowsSoFar}
-use Rattle.som_verify.proofs.parents.parents_stand.Given as goal
-
-abbrev pub invariant-loop-class : goal.invariant-loop-class
-invariant-loop-class l = RowsSoFar (classes_of l.classes) l.class-index l.rows.items
