@@ -45,11 +45,11 @@ use Rattle.som_body.specs.Within as text
 use Rattle.som_body.specs.Within.{ExprTextWithin, StmtTextWithin, BlockTextWithin}
 use Rattle.som_naming.specs.BlockLimits.{ArgsWithin, ExprPartsWithin, ExprWithin, StmtPartsWithin, StatementsWithin, StmtWithin, BlockWithin}
 use Rattle.som_libimage.specs.Limits.{EntryWithin}
-use Rattle.som_sema.specs.Home.{result_of, type_of}
-use Rattle.som_elab.specs.Locals.{Named, Names, in_scope, kinds_of, local_of, names_of}
-use Rattle.som_elab.specs.Methods.{Method, introduced_method, method_by, method_for, method_of, own_method, parent_place, variable_place}
-use Rattle.som_elab.specs.Expressions.{Among, Elab, Elaborated, class_named, expr_step, elaborated, elaborated_value, exprs_of, facts_among, formed, unary_form, binary_form, host_form, cast_form, isa_form, proxy_form, call_form, called_by, lookup_form, dispatch_form, parent_form, parents_form, part, parts, types_of, valued}
-use Rattle.som_elab.specs.Statements.{BlockElab, ManyLocals, Placed, StmtElab, Told, block_step, call_statement, declared, elaborated_block, elaborated_stmt, freed, in_turn, placed, printed, returned, ruled, set_local, set_variable, stmt_step, value_return, with_local}
+use Rattle.som_scope.specs.Home.{result_of, type_of}
+use Rattle.som_forms.specs.Locals.{Named, Names, in_scope, kinds_of, local_of, names_of}
+use Rattle.som_forms.specs.Methods.{Method, introduced_method, method_by, method_for, method_of, own_method, parent_place, variable_place}
+use Rattle.som_forms.specs.Expressions.{Among, Elab, Elaborated, class_named, expr_step, elaborated, elaborated_value, exprs_of, facts_among, formed, unary_form, binary_form, host_form, cast_form, isa_form, proxy_form, call_form, called_by, lookup_form, dispatch_form, parent_form, parents_form, part, parts, types_of, valued}
+use Rattle.som_forms.specs.Statements.{BlockElab, ManyLocals, Placed, StmtElab, Told, block_step, call_statement, declared, elaborated_block, elaborated_stmt, freed, in_turn, placed, printed, returned, ruled, set_local, set_variable, stmt_step, value_return, with_local}
 
 -- ---- what there is room for
 

@@ -38,15 +38,16 @@ use Rattle.som_rules.proofs.PlainLists.{mem_map}
 use Rattle.som_naming.specs.BlockLimits.{TextWithin, BlockWithin, StmtWithin}
 use Rattle.som_wire.specs.Fitting.{levels_left}
 use Rattle.som_libimage.specs.Limits.{EntryWithin, BodyWithin, FaceWithin, ClassWithin}
-use Rattle.som_sema.specs.Accessors.{Access, accessor_body, accessors_of, body_of, place_of}
+use Rattle.som_elab.specs.Accessors.{Access, accessor_body, accessors_of, body_of, place_of}
 use Rattle.som_sema.specs.Building.{after_base, declarations, home_of}
 use Rattle.som_sema.specs.Finished.{declare, entry_for, introducer, override_of}
 use Rattle.som_sema.specs.Items.{listed, major_in, minor_in, overridden}
-use Rattle.som_sema.specs.PlainLimits.{LimitsKept}
+use Rattle.som_elab.specs.PlainLimits.{LimitsKept}
 use Rattle.som_sema.specs.Sketch.{Drawn, drawn, introduces, sketch, sketches}
-use Rattle.som_elab.specs.Expressions.{Among}
+use Rattle.som_forms.specs.Expressions.{Among}
 use Rattle.som_elab.specs.Bodies.{beside, classes_over, drawn_over, texts_for}
-use Rattle.som_elab.specs.Elaboration.{parameters, with_blocks}
+use Rattle.som_forms.specs.MethodBody.{parameters}
+use Rattle.som_elab.specs.Elaboration.{with_blocks}
 use Rattle.som_elab.proofs.Apart.{TextApart, no_text, a_text, EntryApart, accessor, of_text, EntriesApart, no_entry, moved, introduced as one_introduced, OverrideApart, without_sig, with_sig, OverridesApart, no_override, an_override, ClassApart, EachApart, no_class, a_class, entries_apart, overrides_apart}
 use Rattle.som_compile.proofs.BlocksWithin.{PlaceFits, SigsFit, whole_block_within}
 use Rattle.som_compile.proofs.InterfacesWithin.{Named, all_join, all_map, all_members, member_of_all, all_variables, entry_named, introduces_named, major_within, minor_within, number_within, order_named, some_parent, word_within}

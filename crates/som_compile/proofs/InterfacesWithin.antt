@@ -22,10 +22,10 @@ use Rattle.som_idl.specs.declared.tree.Item.TheVariants as items
 use Rattle.som_idl.specs.Within.{WordWithin, ExportWithin, ItemWithin, InterfaceWithin}
 use Rattle.som_naming.specs.BlockLimits.{TextWithin}
 use Rattle.som_sema.specs.Finished.{entry_or_moved}
-use Rattle.som_sema.specs.Home.{key_of, type_of}
+use Rattle.som_scope.specs.Home.{key_of, type_of}
 use Rattle.som_sema.specs.Items.{by_name, listed, listed_in, major_in, minor_in, number_of, or_object}
 use Rattle.som_sema.specs.Sketch.{accessors, export_entries, export_variables, getter, introduces, item_variables, setter, variables, variables_of}
-use Rattle.som_sema.specs.Words.{words}
+use Rattle.som_scope.specs.Words.{words}
 
 -- ---- lists
 

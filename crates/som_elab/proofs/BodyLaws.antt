@@ -25,16 +25,17 @@ use Rattle.som_rules.specs.Places.{class_of_place, with_kernel}
 use Rattle.som_typing.proofs.Facts.{signature_said}
 use Rattle.som_rules.proofs.Finding.{mem_place}
 use Rattle.som_sema.specs.declared.types.Refused.{Refused}
-use Rattle.som_sema.specs.Limits.{class_limits}
-use Rattle.som_sema.proofs.LimitLaws.{limits_law}
-use Rattle.som_elab.specs.declared.fault.BodyFault.{BodyFault}
-use Rattle.som_elab.specs.declared.fault.BodyFault.TheVariants as faults
+use Rattle.som_elab.specs.Limits.{class_limits}
+use Rattle.som_elab.proofs.LimitLaws.{limits_law}
+use Rattle.som_forms.specs.declared.fault.BodyFault.{BodyFault}
+use Rattle.som_forms.specs.declared.fault.BodyFault.TheVariants as faults
 use Rattle.som_elab.specs.declared.ground.Ground.{Ground}
-use Rattle.som_elab.specs.Code.{Stops}
+use Rattle.som_forms.specs.Code.{Stops}
 use Rattle.som_elab.specs.Bodies.{texts_for}
-use Rattle.som_elab.specs.Expressions.{Among}
-use Rattle.som_elab.specs.Statements.{Told}
-use Rattle.som_elab.specs.Elaboration.{Answers, Refusal, elaborated_body, refused_at, text_block}
+use Rattle.som_forms.specs.Expressions.{Among}
+use Rattle.som_forms.specs.Statements.{Told}
+use Rattle.som_forms.specs.MethodBody.{elaborated_body}
+use Rattle.som_elab.specs.Elaboration.{Answers, Refusal, refused_at, text_block}
 use Rattle.som_elab.specs.Grounds.{FewParameters, IsGround, classes_in, refused_as}
 
 -- ---- one block

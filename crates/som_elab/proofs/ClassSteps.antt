@@ -19,13 +19,13 @@ use Rattle.som_body.specs.declared.tree.BlockText.{BlockText}
 use Rattle.som_body.specs.declared.tree.BodyText.{BodyText}
 use Rattle.som_typing.proofs.Facts.{signature_said}
 use Rattle.som_sema.specs.declared.types.Refused.{Refused}
-use Rattle.som_sema.specs.Accessors.{body_of}
+use Rattle.som_elab.specs.Accessors.{body_of}
 use Rattle.som_sema.specs.Sketch.{Drawn, drawings, seen}
 use Rattle.som_sema.specs.declared.sketch.Drawing.{Drawing}
 use Rattle.som_elab.specs.declared.all_bodies.AllBodies.{AllBodies}
 use Rattle.som_elab.specs.declared.class_bodies.ClassBodies.{ClassBodies}
 use Rattle.som_elab.specs.Bodies.{texts_for}
-use Rattle.som_elab.specs.Expressions.{Among}
+use Rattle.som_forms.specs.Expressions.{Among}
 use Rattle.som_elab.specs.Elaboration.{Answers, Refusal, entry_bodies, entry_body, override_block, override_blocks, text_block}
 use Rattle.som_elab.specs.Grounds.{class_steps, each_steps, main_block, signed_steps, whole_steps}
 use Rattle.som_elab.proofs.Gathering.{after, after_none, ends, gathers, goes, refuses, skips, stops, with_more}

@@ -11,10 +11,10 @@ use Rattle.som_idl.specs.declared.tree.IdlInterface.{IdlInterface}
 use Rattle.som_body.specs.declared.tree.BodyText.{BodyText}
 use Rattle.som_sema.specs.Sketch.{Drawn, drawings, seen}
 use Rattle.som_sema.specs.declared.sketch.Drawing.{Drawing}
-use Rattle.som_sema.specs.Words.{lent}
+use Rattle.som_scope.specs.Words.{lent}
 use Rattle.som_elab.specs.declared.class_bodies.ClassBodies.{ClassBodies}
 use Rattle.som_elab.specs.Bodies.{beside}
-use Rattle.som_elab.specs.Expressions.{Among}
+use Rattle.som_forms.specs.Expressions.{Among}
 use Rattle.som_elab.specs.Elaboration.{Refusal, elaborated_class, elaborated_each, entry_bodies, override_blocks, with_blocks}
 use Rattle.som_elab.specs.Grounds.{class_steps, completed, each_steps}
 

@@ -32,19 +32,19 @@ use Rattle.som_rules.proofs.PlainLists.{map_mem, says_each}
 use Rattle.som_rules.proofs.PlainMembers.{types_say}
 use Rattle.som_rules.proofs.PlainWhole.{say_program, say_rules}
 use Rattle.som_sema.specs.Building.{after_base, declarations, texts_breach}
-use Rattle.som_sema.specs.Limits.{Passed, limit_passed}
+use Rattle.som_elab.specs.Limits.{Passed, limit_passed}
 use Rattle.som_sema.specs.Sketch.{Drawn, sketches}
 use Rattle.som_sema.proofs.TextsConform.{texts_conform}
-use Rattle.som_elab.specs.Expressions.{Among}
-use Rattle.som_elab.specs.Statements.{elaborated_block}
+use Rattle.som_forms.specs.Expressions.{Among}
+use Rattle.som_forms.specs.Statements.{elaborated_block}
 use Rattle.som_elab.specs.Bodies.{bodies_breach, classes_over, drawn_over, text_s13, text_s14}
 use Rattle.som_elab.specs.Elaboration.{Refusal, among_over, classes_passed, elaborated_class, elaborated_classes, elaborated_each, elaborated_main, elaborated_program, elaborated_release, entry_bodies, keeping, nothing_before, obeying, override_blocks, with_blocks}
 use Rattle.som_elab.proofs.ClassBodies.{ClassStands, class_stands, methods_kept, refused_ok, same_but_bodies}
 use Rattle.som_elab.proofs.Declared.{drawn_are, drawn_classes, own}
 use Rattle.som_elab.proofs.Plain.{facts_other, plain, sig_other}
 use Rattle.som_elab.proofs.PlainRules.{classes_other, types_other}
-use Rattle.som_elab.proofs.TypedBodies.{text_typed}
-use Rattle.som_elab.proofs.Went.{same_answer, went}
+use Rattle.som_forms.proofs.TypedBodies.{text_typed}
+use Rattle.som_forms.proofs.Went.{same_answer, went}
 
 kept : {A : Type 0} (o : Option Passed) (further : Result A Refusal) (r : A) → keeping o further ≡ Ok r → further ≡ Ok r
 kept None further r e = e

@@ -29,10 +29,10 @@ use Rattle.som_rules.proofs.PlainFaces.{or_none}
 use Rattle.som_rules.proofs.PlainLists.{differ_apart, map_mem, mem_map}
 use Rattle.som_rules.proofs.PlainMembers.{variables_say}
 use Rattle.som_rules.proofs.PlainMoves.{flat_mem, mem_flat}
-use Rattle.som_sema.specs.Accessors.{Access, accessor_body, accessors_of, attribute_accessors, body_of, export_accessors}
+use Rattle.som_elab.specs.Accessors.{Access, accessor_body, accessors_of, attribute_accessors, body_of, export_accessors}
 use Rattle.som_sema.specs.Building.{after_base, declarations, declared_all, home_of, moved_breach, texts_breach}
 use Rattle.som_sema.specs.Finished.{declare, entry_for, entry_or_moved, introducer}
-use Rattle.som_sema.specs.Home.{type_of}
+use Rattle.som_scope.specs.Home.{type_of}
 use Rattle.som_sema.specs.Items.{by_name}
 use Rattle.som_sema.specs.Sketch.{Drawn, accessors, drawn, export_entries, getter, introduces, setter, sketch, sketches, variables}
 use Rattle.som_sema.specs.TextRules.{text_s2_from, text_s4, text_s6, text_s11, text_s12}

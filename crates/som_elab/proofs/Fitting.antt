@@ -22,10 +22,10 @@ use Rattle.som_idl.specs.declared.tree.Export.TheVariants as exports
 use Rattle.som_rules.specs.Plainly.{Fits, a_reader, a_writer}
 use Rattle.som_rules.proofs.PlainLists.{mem_map}
 use Rattle.som_rules.proofs.PlainMoves.{flat_mem, mem_flat}
-use Rattle.som_sema.specs.Home.{type_of}
+use Rattle.som_scope.specs.Home.{type_of}
 use Rattle.som_sema.specs.Items.{by_name}
 use Rattle.som_sema.specs.Sketch.{Drawn, accessors, export_entries, export_variables, getter, introduces, item_variables, setter, variables, variables_of, way_of}
-use Rattle.som_sema.specs.Accessors.{Access, accessor_body, accessors_of, attribute_accessors, body_of, export_accessors, place_of}
+use Rattle.som_elab.specs.Accessors.{Access, accessor_body, accessors_of, attribute_accessors, body_of, export_accessors, place_of}
 
 -- the attribute that declares an accessor
 record Made (i : IdlInterface) (a : Access) : Type 0 where

@@ -26,10 +26,10 @@ use Rattle.som_rules.proofs.Owners.{flat_none}
 use Rattle.som_rules.proofs.PlainFaces.{or_none}
 use Rattle.som_rules.proofs.PlainLists.{map_mem, mem_map}
 use Rattle.som_rules.proofs.PlainMembers.{types_say}
-use Rattle.som_sema.specs.Limits.{class_limits, limit_passed}
+use Rattle.som_elab.specs.Limits.{class_limits, limit_passed}
 use Rattle.som_sema.specs.Sketch.{Drawn, drawings, seen, sketches}
 use Rattle.som_sema.specs.declared.sketch.Drawing.{Drawing}
-use Rattle.som_sema.proofs.LimitLaws.{limits_law}
+use Rattle.som_elab.proofs.LimitLaws.{limits_law}
 use Rattle.som_elab.specs.declared.ground.Ground.{Ground}
 use Rattle.som_elab.specs.Grounds.{FewParameters, IsBasis, IsFront, IsGround}
 

@@ -1,3 +1,4 @@
+pub mod LimitLaws
 pub mod Gathering
 pub mod OwnTexts
 pub mod NamedClasses
@@ -7,9 +8,6 @@ pub mod Grounding
 pub mod Wholes
 pub mod ClassSteps
 pub mod Programs
-pub mod Went
-pub mod TypedExpressions
-pub mod TypedBodies
 pub mod Plain
 pub mod PlainRules
 pub mod Fitting
@@ -17,14 +15,4 @@ pub mod Declared
 pub mod Signatures
 pub mod ClassBodies
 pub mod Conforms
-pub mod Stating
-pub mod NamesInScope
-pub mod TextForms
-pub mod TextSteps
-pub mod Parameters
-pub mod PartLaws
-pub mod MethodLaws
-pub mod NameLaws
-pub mod ElabLaws
-pub mod FormLaws
 pub mod Apart

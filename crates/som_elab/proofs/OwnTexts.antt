@@ -17,11 +17,11 @@ use Rattle.som_body.specs.declared.tree.BodyText.{BodyText}
 use Rattle.som_rules.specs.Told.{Tells}
 use Rattle.som_rules.specs.declared.types.VerifyFault.{VerifyFault}
 use Rattle.som_sema.specs.declared.types.Refused.{Refused}
-use Rattle.som_sema.specs.Accessors.{body_of}
+use Rattle.som_elab.specs.Accessors.{body_of}
 use Rattle.som_sema.specs.Sketch.{Drawn}
 use Rattle.som_sema.specs.TextRules.{text_demand}
 use Rattle.som_elab.specs.Bodies.{entry_has_one, has_one, operations, text_s14, texts_for}
-use Rattle.som_elab.specs.Expressions.{Among}
+use Rattle.som_forms.specs.Expressions.{Among}
 use Rattle.som_elab.specs.declared.class_bodies.ClassBodies.{ClassBodies}
 use Rattle.som_elab.specs.Elaboration.{Answers, Refusal, entry_bodies, entry_body, override_block, override_blocks, text_block}
 use Rattle.som_elab.specs.Grounds.{class_steps}

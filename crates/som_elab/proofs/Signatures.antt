@@ -25,7 +25,7 @@ use Rattle.som_body.specs.declared.tree.BodyText.{BodyText}
 use Rattle.som_rules.specs.Plainly.{ClassesHold, Introduces}
 use Rattle.som_rules.proofs.Owners.{flat_none}
 use Rattle.som_rules.proofs.PlainLists.{differ_apart, map_mem, mem_map}
-use Rattle.som_sema.specs.Accessors.{body_of}
+use Rattle.som_elab.specs.Accessors.{body_of}
 use Rattle.som_sema.specs.Building.{after_base, declarations}
 use Rattle.som_sema.specs.Finished.{override_of}
 use Rattle.som_sema.specs.Items.{overridden}

@@ -23,13 +23,13 @@ use Rattle.som_rules.specs.declared.types.VerifyFault.TheVariants as broken
 use Rattle.som_sema.specs.declared.types.Refused.{Refused}
 use Rattle.som_sema.specs.declared.types.Refused.TheVariants as refusals
 use Rattle.som_sema.specs.Building.{FacesTold, after_base, declarations, home_of, most_classes, refused_by, texts_breach}
-use Rattle.som_sema.specs.Limits.{KeepsLimit, Passed, at_most, limit_passed}
+use Rattle.som_elab.specs.Limits.{KeepsLimit, Passed, at_most, limit_passed}
 use Rattle.som_sema.specs.Sketch.{Drawn, sketches}
 use Rattle.som_elab.specs.declared.class_bodies.ClassBodies.{ClassBodies}
 use Rattle.som_elab.specs.declared.all_bodies.AllBodies.{AllBodies}
 use Rattle.som_elab.specs.declared.whole.Whole.{Whole}
 use Rattle.som_elab.specs.Bodies.{beside, bodies_breach, classes_over, drawn_over}
-use Rattle.som_elab.specs.Expressions.{Among}
+use Rattle.som_forms.specs.Expressions.{Among}
 use Rattle.som_elab.specs.Elaboration.{Answers, Refusal, among_over, classes_passed, elaborated_each, keeping, obeying}
 use Rattle.som_sema.proofs.TextsConform.{texts_conform}
 use Rattle.som_elab.specs.Grounds.{FewParameters, checked_steps, completed, each_steps, elaborated_whole, main_block}

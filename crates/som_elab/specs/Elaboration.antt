@@ -29,14 +29,14 @@ use Rattle.som_body.specs.declared.tree.BlockText.{BlockText}
 use Rattle.som_rules.specs.Told.{told}
 use Rattle.som_sema.specs.declared.types.Refused.{Refused}
 use Rattle.som_sema.specs.declared.types.Refused.TheVariants as faults
-use Rattle.som_sema.specs.Words.{words}
+use Rattle.som_scope.specs.Words.{words}
 use Rattle.som_sema.specs.Sketch.{Drawn}
 use Rattle.som_sema.specs.Building.{declarations, home_of, most_classes, texts_breach}
-use Rattle.som_sema.specs.Accessors.{body_of}
-use Rattle.som_sema.specs.Limits.{Passed, at_most, limit_passed}
-use Rattle.som_elab.specs.Locals.{Named, Names}
-use Rattle.som_elab.specs.Expressions.{Among}
-use Rattle.som_elab.specs.Statements.{BodyBreach, Breaks, ManyLocals, Told, elaborated_block}
+use Rattle.som_elab.specs.Accessors.{body_of}
+use Rattle.som_elab.specs.Limits.{Passed, at_most, limit_passed}
+use Rattle.som_forms.specs.Locals.{Named, Names}
+use Rattle.som_forms.specs.Expressions.{Among}
+use Rattle.som_forms.specs.Statements.{BodyBreach, Breaks, ManyLocals, Told, elaborated_block}
 use Rattle.som_elab.specs.Bodies.{bodies_breach, classes_over, drawn_over, texts_for}
 
 -- ---- what is in the way of texts
@@ -69,18 +69,6 @@ keeping None further = further
 keeping (Some p) further = Err (Limit p)
 
 -- ---- bodies
-
--- the parameters with the types of a signature
-abbrev pub parameters : List Word → List ValueType → Names
-parameters [] kinds = []
-parameters (w ∷ ws) [] = []
-parameters (w ∷ ws) (kind ∷ kinds) = record { name = w.text; kind = kind } ∷ parameters ws kinds
-
--- the block of a body: no parameter has the name of one before, and then its statements are looked at
-abbrev pub elaborated_body : Among → Class → Sig → BodyText → Told Block
-elaborated_body a c sig b =
-    if is_some (first (doubles bytes_eq [] (words b.params))) then Err (Breaks 15)
-    else elaborated_block a (in_body c sig.result) b.block (parameters b.params sig.params)
 
 -- the block that the texts have for a method
 abbrev pub text_block : Among → Class → List ℕ → Sig → List BodyText → Result Block Refusal

@@ -21,17 +21,17 @@ use Rattle.som_typing.specs.Knowing.{IsKnowledge, all_of}
 use Rattle.som_rules.specs.Modules.{classes_of}
 use Rattle.som_sema.specs.declared.types.Refused.{Refused}
 use Rattle.som_sema.specs.declared.types.Refused.TheVariants as refusals
-use Rattle.som_sema.specs.Limits.{limit_passed}
+use Rattle.som_elab.specs.Limits.{limit_passed}
 use Rattle.som_sema.specs.Sketch.{Drawn, sketches}
 use Rattle.som_elab.specs.declared.ground.Ground.{Ground}
 use Rattle.som_elab.specs.declared.class_bodies.ClassBodies.{ClassBodies}
 use Rattle.som_elab.specs.declared.all_bodies.AllBodies.{AllBodies}
 use Rattle.som_elab.specs.declared.whole.Whole.{Whole}
-use Rattle.som_elab.specs.declared.fault.BodyFault.{BodyFault}
-use Rattle.som_elab.specs.declared.fault.BodyFault.TheVariants as faults
+use Rattle.som_forms.specs.declared.fault.BodyFault.{BodyFault}
+use Rattle.som_forms.specs.declared.fault.BodyFault.TheVariants as faults
 use Rattle.som_elab.specs.Bodies.{bodies_breach, texts_for}
-use Rattle.som_elab.specs.Code.{among_by}
-use Rattle.som_elab.specs.Expressions.{Among}
+use Rattle.som_forms.specs.Code.{among_by}
+use Rattle.som_forms.specs.Expressions.{Among}
 use Rattle.som_elab.specs.Elaboration.{Refusal, among_over, elaborated_classes, elaborated_main, entry_bodies, keeping, obeying, override_blocks, text_block, with_blocks}
 
 abbrev pub classes_in : Ground → List Class

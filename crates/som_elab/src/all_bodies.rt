@@ -2,24 +2,25 @@ ghost use Rattle.som_elab.specs.Bodies.{bodies_breach};
 ghost use Rattle.som_elab.specs.Elaboration.{Answers, elaborated_main, keeping};
 ghost use Rattle.som_elab.specs.Grounds as spec;
 ghost use Rattle.som_elab.specs.Grounds.{IsBasis, IsFront, IsGround, among_in, checked_steps, whole_steps};
+ghost use Rattle.som_elab.specs.Limits.{limit_passed};
 ghost use Rattle.som_elab.specs.Texts.{given};
 ghost use Rattle.som_rules.specs.Modules.{classes_of};
 ghost use Rattle.som_rules.specs.Told.{Tells};
-ghost use Rattle.som_sema.specs.Limits.{limit_passed};
 ghost use Rattle.som_sema.specs.Sketch.{drawings as drawn, sketches};
 ghost use Rattle.som_typing.specs.Knowing.{IsKnowledge, all_of};
 ghost use Rattle.std.specs.Prelude.{◌≡◌, option_copied, None};
 
-use crate::body::main_body;
 use crate::class_bodies::{ClassBodies, refusal};
 use crate::classes::all_bodies;
 use crate::counted_bodies::bodies_counted;
 use crate::ground::Ground;
+use crate::limits::limits_kept;
 use crate::named_bodies::bodies_named;
 use som_body::{BlockText, BodyText};
+use som_forms::main_body;
 use som_model::{Block, List};
 use som_rules::VerifyFault;
-use som_sema::{Drawing, Refused, limits_kept, refused};
+use som_sema::{Drawing, Refused, refused};
 use som_typing::Knowledge;
 use std::alloc::Global;
 

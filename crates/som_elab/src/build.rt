@@ -4,7 +4,7 @@ ghost use Rattle.som_elab.specs.Grounds.{FewParameters};
 ghost use Rattle.som_model.specs.Classes.{interface_classes};
 ghost use Rattle.som_model.specs.Conforming.{ProgramOk, ReleaseOk};
 ghost use Rattle.som_rules.specs.Faces.{faces_breach};
-ghost use Rattle.som_sema.specs.Words.{interfaces_of};
+ghost use Rattle.som_scope.specs.Words.{interfaces_of};
 ghost use Rattle.std.specs.Prelude.{◌≡◌, IfOk, None};
 
 use crate::whole::{Whole, whole_of};

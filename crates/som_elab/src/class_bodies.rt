@@ -1,27 +1,29 @@
 ghost use Rattle.som_elab.specs.Bodies.{texts_for};
-ghost use Rattle.som_elab.specs.Code.{Blocks};
 ghost use Rattle.som_elab.specs.Elaboration as spec;
-ghost use Rattle.som_elab.specs.Elaboration.{Answers, elaborated_body, refused_at};
+ghost use Rattle.som_elab.specs.Elaboration.{Answers, refused_at};
 ghost use Rattle.som_elab.specs.Grounds.{IsGround, among_in, class_steps, classes_in, refused_as, signed_steps};
+ghost use Rattle.som_elab.specs.Limits.{class_limits};
 ghost use Rattle.som_elab.specs.Texts.{given};
+ghost use Rattle.som_forms.specs.Code.{Blocks};
+ghost use Rattle.som_forms.specs.MethodBody.{elaborated_body};
 ghost use Rattle.som_model.specs.Lists.{first};
 ghost use Rattle.som_model.specs.Owner.{owner, sig_of};
 ghost use Rattle.som_model.specs.declared.limits.TheConstants.{MAX_PARAMETERS as MOST};
 ghost use Rattle.som_rules.specs.Places.{class_of_place};
-ghost use Rattle.som_sema.specs.Limits.{class_limits};
 ghost use Rattle.som_sema.specs.Sketch.{seen};
 ghost use Rattle.som_typing.specs.Kinds.{IsDeclared};
 ghost use Rattle.som_typing.specs.Knowing.{sig_is_known};
 ghost use Rattle.std.specs.Prelude.{◌≡◌, ◌≤◌, length, true, IfOk, None};
 
-use crate::body::method_body;
-use crate::fault::BodyFault;
+use crate::accessor_bodies::body_named;
+use crate::accessors::accessors_of;
 use crate::ground::Ground;
 use crate::texts::{first_for, texts_of};
 use som_body::BodyText;
+use som_forms::{BodyFault, method_body};
 use som_model::{Block, Body, Entry, List, MAX_LOCALS, MethodRef, NoMemory, Override, Sig, Text};
 use som_rules::Broken;
-use som_sema::{Drawing, Refused, accessors_of, body_named};
+use som_sema::{Drawing, Refused};
 use som_typing::{decl_at, signature_of};
 use std::alloc::Global;
 

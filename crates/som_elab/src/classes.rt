@@ -1,8 +1,8 @@
 ghost use Rattle.som_elab.specs.Elaboration.{Answers, with_blocks};
 ghost use Rattle.som_elab.specs.Grounds.{IsFront, IsGround, among_in, completed, each_steps};
+ghost use Rattle.som_elab.specs.Limits.{limit_passed};
 ghost use Rattle.som_elab.specs.Texts.{given};
 ghost use Rattle.som_rules.specs.Modules.{classes_of};
-ghost use Rattle.som_sema.specs.Limits.{limit_passed};
 ghost use Rattle.som_sema.specs.Sketch.{drawings as drawn, sketches};
 ghost use Rattle.std.specs.Prelude.{◌≡◌, IfOk, None};
 

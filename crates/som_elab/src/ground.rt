@@ -1,4 +1,4 @@
-use som_sema::Scope;
+use som_scope::Scope;
 use som_typing::Knowledge;
 
 /// What the bodies of a module's texts stand among: all classes, and what the names of classes stand for.

@@ -9,10 +9,10 @@ ghost use Rattle.som_model.specs.declared.key.Module.TheVariants as modules;
 ghost use Rattle.som_rules.specs.Faces.{classes_breach, faces_breach};
 ghost use Rattle.som_rules.specs.Modules.{classes_of};
 ghost use Rattle.som_rules.specs.Places.{with_kernel};
+ghost use Rattle.som_scope.specs.Home.{home_in};
+ghost use Rattle.som_scope.specs.Words.{interfaces_of, lent};
 ghost use Rattle.som_sema.specs.Building.{after_base, texts_breach};
-ghost use Rattle.som_sema.specs.Home.{home_in};
 ghost use Rattle.som_sema.specs.Sketch.{drawings as drawn, sketches};
-ghost use Rattle.som_sema.specs.Words.{interfaces_of, lent};
 ghost use Rattle.som_typing.specs.Bodies.{AreParts};
 ghost use Rattle.std.specs.Prelude.{◌≡◌, ◌++◌, ℕ, length, map, option_copied, IfOk, OnOk, None};
 
@@ -24,7 +24,8 @@ use som_body::{BlockText, BodyFile, BodyText};
 use som_idl::{IdlFile, IdlInterface};
 use som_model::{Block, ClassDecl, Interface, List, Module, NoMemory, kernel_faces};
 use som_rules::{Declared, bare_classes, declare};
-use som_sema::{Drawing, Refused, Scope, all_interfaces, build_faces, refused, scope_of};
+use som_scope::{Scope, scope_of};
+use som_sema::{Drawing, Refused, all_interfaces, build_faces, refused};
 use som_typing::{Parts, know, parts_of};
 use std::alloc::Global;
 

@@ -23,7 +23,7 @@ use Rattle.som_rules.proofs.Before.{both_none, none_both}
 use Rattle.som_rules.proofs.Owners.{mem_middle}
 use Rattle.som_rules.proofs.PlainLists.{apart_by, by_apart, map_mem, map_none, none_map}
 use Rattle.som_rules.proofs.PlainNames.{demand_none}
-use Rattle.som_sema.specs.Home.{key_of}
+use Rattle.som_scope.specs.Home.{key_of}
 use Rattle.som_sema.specs.Items.{listed, metaclass_names}
 use Rattle.som_sema.specs.Sketch.{Drawn, sketch, sketches}
 use Rattle.som_sema.specs.Finished.{declare, entry_for, entry_or_moved, introducer}

@@ -17,7 +17,7 @@ use Rattle.som_rules.specs.declared.types.VerifyFault.{VerifyFault}
 use Rattle.som_rules.specs.Told.{Tells}
 use Rattle.som_rules.proofs.Passes.{first_both, tells_first}
 use Rattle.som_sema.specs.declared.sketch.Drawing.{Drawing}
-use Rattle.som_sema.specs.Home.{key_of}
+use Rattle.som_scope.specs.Home.{key_of}
 use Rattle.som_sema.specs.Items.{metaclass_names, or_object}
 use Rattle.som_sema.specs.Sketch.{Drawn, drawings, drawn, seen, sketch, sketches}
 use Rattle.som_sema.specs.TextRules.{base_stands, bases, text_demand, text_s2, text_s2_from}

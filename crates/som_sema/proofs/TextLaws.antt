@@ -25,9 +25,9 @@ use Rattle.som_rules.proofs.Owners.{flat_none}
 use Rattle.som_rules.proofs.PlainLists.{apart_by, apart_differ, by_apart, differ_apart, map_mem, map_none, mem_map, none_flat, none_map}
 use Rattle.som_rules.proofs.PlainMoves.{flat_mem, mem_flat}
 use Rattle.som_rules.proofs.PlainNames.{among_known, known_among}
-use Rattle.som_sema.specs.Home.{key_of}
+use Rattle.som_scope.specs.Home.{key_of}
 use Rattle.som_sema.specs.Items.{Given, given, is_call, is_override, item_words, listed, metaclass_in, metaclass_names, or_object, with_modifier}
-use Rattle.som_sema.specs.Words.{once}
+use Rattle.som_scope.specs.Words.{once}
 use Rattle.som_sema.specs.Sketch.{Drawn}
 use Rattle.som_sema.specs.TextRules.{base_stands, bases, makes_classes, may_be, misplaced, second, text_breach, text_demand, text_s2, text_s2_from, text_s4, text_s6, text_s11, text_s12}
 use Rattle.som_sema.specs.PlainTexts.{BasesStand, ItemsDiffer, MetaclassesDescend, ModifiersStand, NamesDiffer}

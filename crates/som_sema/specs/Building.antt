@@ -17,8 +17,8 @@ use Rattle.som_rules.specs.declared.types.VerifyFault.{VerifyFault}
 use Rattle.som_rules.specs.declared.types.VerifyFault.TheVariants as verify
 use Rattle.som_sema.specs.declared.types.Refused.{Refused}
 use Rattle.som_sema.specs.declared.types.Refused.TheVariants as faults
-use Rattle.som_sema.specs.Words.{interface_names, once}
-use Rattle.som_sema.specs.Home.{face_names, home, kernel_names}
+use Rattle.som_scope.specs.Words.{interface_names, once}
+use Rattle.som_scope.specs.Home.{face_names, home, kernel_names}
 use Rattle.som_sema.specs.Sketch.{Drawn, drawn, sketches}
 use Rattle.som_sema.specs.Finished.{declare}
 use Rattle.som_sema.specs.TextRules.{text_s2_from, text_s4, text_s6, text_s11, text_s12}

@@ -1,5 +1,3 @@
-pub mod Words
-pub mod Home
 pub mod Items
 pub mod Sketch
 pub mod Finished
@@ -8,6 +6,3 @@ pub mod TextRules
 pub mod Walks
 pub mod Building
 pub mod PlainTexts
-pub mod Accessors
-pub mod Limits
-pub mod PlainLimits

@@ -9,7 +9,7 @@ use Rattle.som_model.specs.Kernel.{som_class}
 use Rattle.som_read.specs.declared.tree.Word.{Word}
 use Rattle.som_idl.specs.declared.tree.Item.TheVariants as items
 use Rattle.som_rules.specs.Plainly.{Differ, IsAmong}
-use Rattle.som_sema.specs.Home.{key_of}
+use Rattle.som_scope.specs.Home.{key_of}
 use Rattle.som_sema.specs.Items.{given, is_call, is_override, item_words, listed, with_modifier}
 use Rattle.som_sema.specs.Sketch.{Drawn}
 

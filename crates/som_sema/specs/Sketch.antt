@@ -17,7 +17,7 @@ use Rattle.som_idl.specs.declared.tree.Export.{Export}
 use Rattle.som_idl.specs.declared.tree.Export.TheVariants as exports
 use Rattle.som_idl.specs.declared.tree.Item.{Item}
 use Rattle.som_idl.specs.declared.tree.Item.TheVariants as items
-use Rattle.som_sema.specs.Home.{key_of, type_of, result_of}
+use Rattle.som_scope.specs.Home.{key_of, type_of, result_of}
 use Rattle.som_sema.specs.Items.{by_name, major_in, metaclass_names, minor_in, number_of, or_object}
 use Rattle.som_sema.specs.declared.sketch.Drawing.{Drawing}
 

@@ -10,9 +10,9 @@ use Rattle.som_model.specs.Rules.{RuleBreach}
 use Rattle.som_idl.specs.declared.tree.IdlInterface.{IdlInterface}
 use Rattle.som_idl.specs.declared.tree.Modifier.{Modifier}
 use Rattle.som_idl.specs.declared.tree.Modifier.TheVariants as modifiers
-use Rattle.som_sema.specs.Home.{key_of}
+use Rattle.som_scope.specs.Home.{key_of}
 use Rattle.som_sema.specs.Items.{Given, given, is_override, item_words, listed, metaclass_names, or_object}
-use Rattle.som_sema.specs.Words.{once}
+use Rattle.som_scope.specs.Words.{once}
 use Rattle.som_sema.specs.Sketch.{Drawn}
 
 -- a breach by a member of the class of an interface

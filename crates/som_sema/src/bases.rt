@@ -6,8 +6,8 @@ ghost use Rattle.som_rules.specs.Modules.{classes_of};
 ghost use Rattle.som_rules.specs.Places.{IsTable, with_kernel};
 ghost use Rattle.som_rules.specs.Told.{Tells};
 ghost use Rattle.som_rules.specs.Walk.{AreLists};
-ghost use Rattle.som_sema.specs.Home as homes;
-ghost use Rattle.som_sema.specs.Home.{home_in};
+ghost use Rattle.som_scope.specs.Home as homes;
+ghost use Rattle.som_scope.specs.Home.{home_in};
 ghost use Rattle.som_sema.specs.Sketch.{drawings as drawn, seen};
 ghost use Rattle.som_sema.specs.TextRules.{text_s2, text_s2_from, text_s4};
 ghost use Rattle.som_sema.specs.declared.sketch.Drawing.{Drawing as Known};
@@ -15,11 +15,11 @@ ghost use Rattle.std.specs.Prelude.{◌≡◌, ◌<◌, ◌+◌, length, take, f
 
 use crate::items::{add_metaclasses, parent_names};
 use crate::passes::{breach, each_drawing};
-use crate::scope::{Scope, key_of};
 use crate::sketch::Drawing;
 use indexmap::IndexSet;
 use som_model::{List, NoMemory, ValueType};
 use som_rules::{Declared, VerifyFault, descends_by, find_class, type_is_known};
+use som_scope::{Scope, key_of};
 use std::alloc::Global;
 
 /// The place of the class of classes.

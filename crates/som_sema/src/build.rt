@@ -5,28 +5,25 @@ ghost use Rattle.som_model.specs.declared.key.Module.TheVariants as modules;
 ghost use Rattle.som_rules.specs.Faces.{faces_breach};
 ghost use Rattle.som_rules.specs.Modules.{classes_of};
 ghost use Rattle.som_rules.specs.Told.{Tells};
+ghost use Rattle.som_scope.specs.Home.{home_in};
+ghost use Rattle.som_scope.specs.Words.{interfaces_of, lent};
 ghost use Rattle.som_sema.specs.Building as spec;
 ghost use Rattle.som_sema.specs.Building.{FacesTold, refused_by, after_base, declared_all, drawn_breach, moved_breach, texts_breach};
-ghost use Rattle.som_sema.specs.Home.{home_in};
 ghost use Rattle.som_sema.specs.Sketch.{drawings as drawn, sketches as drawn_classes};
 ghost use Rattle.som_sema.specs.Walks.{AreDrawn, IsWalked};
-ghost use Rattle.som_sema.specs.Words.{interfaces_of, lent};
 ghost use Rattle.std.specs.Prelude.{◌≡◌, ◌++◌, map, IfOk, OnOk, None};
 
 use crate::declared::declarations;
 use crate::members::items_differ;
 use crate::modifiers::modifiers_stand;
 use crate::rules::{moves_hold, sketches_hold};
-use crate::scope::{Scope, scope_of};
 use crate::sketch::{Drawing, sketches};
 use crate::types::Refused;
 use crate::walked::Walked;
 use som_idl::{IdlFile, IdlInterface};
-use som_model::{
-    ClassDecl, ClassFace, Interface, List, MAX_CLIENT_CLASSES, MAX_LIBRARY_CLASSES, Module,
-    NoMemory, Text, kernel_faces,
-};
+use som_model::{ClassDecl, ClassFace, Interface, List, MAX_CLIENT_CLASSES, MAX_LIBRARY_CLASSES, Module, NoMemory, Text, kernel_faces};
 use som_rules::{Declared, KERNEL_CLASSES, VerifyFault, bare_classes, declare};
+use som_scope::{Scope, scope_of};
 use std::alloc::Global;
 
 /// The declarations that texts stand for, without bodies, or the first limit or rule that they break. They are compiled

@@ -21,10 +21,7 @@ use crate::places::{Noted, Places, first_place, note, place_table};
 use crate::sketch::Drawing;
 use crate::tables::overridden;
 use som_idl::Item;
-use som_model::{
-    Block, ClassDecl, ClassFace, ClassKey, Entry, List, MethodRef, NoMemory, Override, Text,
-    Variable,
-};
+use som_model::{Block, ClassDecl, ClassFace, ClassKey, Entry, List, MethodRef, NoMemory, Override, Text, Variable};
 use som_order::{effective_order, name_of};
 use som_rules::Declared;
 use std::alloc::Global;

@@ -1,17 +1,17 @@
+ghost use Rattle.som_model.specs.declared.key.ValueType.TheVariants as types;
 ghost use Rattle.som_order.specs.Names.{texts};
-ghost use Rattle.som_sema.specs.Home.{home_in};
+ghost use Rattle.som_read.specs.declared.tree.Word.{Word as Named};
+ghost use Rattle.som_scope.specs.Home.{home_in};
 ghost use Rattle.som_sema.specs.Items as spec;
 ghost use Rattle.som_sema.specs.Sketch as sketches;
 ghost use Rattle.som_sema.specs.Sketch.{accessors, export_entries, getter, method, param_types, setter};
 ghost use Rattle.std.specs.Prelude.{◌≡◌, ◌++◌, ◌∷◌, [], flat_map, IfOk, OnOk};
-ghost use Rattle.som_read.specs.declared.tree.Word.{Word as Named};
-ghost use Rattle.som_model.specs.declared.key.ValueType.TheVariants as types;
 
-use crate::scope::{Scope, result_of, type_of};
 use indexmap::IndexSet;
 use som_idl::{Export, IdlInterface, Param, Word};
 use som_model::{Entry, List, NoMemory, Sig, Text, ValueType, Way};
 use som_order::find_name;
+use som_scope::{Scope, result_of, type_of};
 use std::alloc::Global;
 
 /// The methods that an interface introduces, in the order of declaration.

@@ -3,15 +3,12 @@ ghost use Rattle.som_model.specs.Class.{Class};
 ghost use Rattle.som_model.specs.Classes.{hierarchy, interface_classes};
 ghost use Rattle.som_model.specs.Hierarchy.{Falls};
 ghost use Rattle.som_model.specs.Lists.{first};
-ghost use Rattle.som_model.specs.declared.class.ClassDecl.{ClassDecl as Decl};
 ghost use Rattle.som_model.specs.declared.key.Module.TheVariants as modules;
 ghost use Rattle.som_model.specs.declared.key.Module.{Module};
 ghost use Rattle.som_model.specs.declared.program.Interface.{Interface};
 ghost use Rattle.som_rules.specs.Faces.{classes_breach, faces_breach};
 ghost use Rattle.som_rules.specs.Told.{of_release};
 ghost use Rattle.som_sema.specs.Building.{after_base, declarations, texts_breach};
-ghost use Rattle.som_sema.specs.Limits.{limit_passed};
-ghost use Rattle.som_sema.specs.PlainLimits.{LimitsKept};
 ghost use Rattle.som_sema.specs.PlainTexts.{BasesStand, ItemsDiffer, MetaclassesDescend, ModifiersStand, NamesDiffer};
 ghost use Rattle.som_sema.specs.Sketch.{Drawn};
 ghost use Rattle.som_sema.specs.TextRules.{text_s2_from, text_s4, text_s6, text_s11, text_s12};
@@ -37,9 +34,4 @@ pub fn declarations_law()
         classes_breach (length base.classes) (after_base m (interface_classes base) (declarations m base texts)) ≡ None }
     ensures alone { (texts : Seq IdlInterface) → texts_breach modules.Library (record { classes = [] }) texts ≡ None →
         faces_breach (of_release (declarations modules.Library (record { classes = [] }) texts)) ≡ None }
-{}
-
-/// No limit is passed exactly where each count of each class is within its limit.
-pub fn limits_law()
-    ensures { (cs : Seq Decl) → (limit_passed cs ≡ None) ↔ LimitsKept cs }
 {}

@@ -9,11 +9,12 @@ ghost use Rattle.som_sema.specs.declared.sketch.Drawing.{Drawing as Known};
 ghost use Rattle.std.specs.Prelude.{◌≡◌, ◌<◌, length, flat_map, slice_get, IfOk, Some};
 
 use crate::double::no_double;
-use crate::items::{add, item_words, listed};
+use crate::items::{item_words, listed};
 use crate::passes::each_drawing;
 use crate::sketch::Drawing;
 use som_model::{Entry, NoMemory};
 use som_rules::VerifyFault;
+use som_scope::add;
 use std::alloc::Global;
 
 /// The names that a class introduces are distinct, and those of its release order are.

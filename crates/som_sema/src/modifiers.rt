@@ -3,11 +3,11 @@ ghost use Rattle.som_model.specs.Lists.{among};
 ghost use Rattle.som_model.specs.Lists.{first};
 ghost use Rattle.som_order.specs.Names.{texts};
 ghost use Rattle.som_rules.specs.Told.{Tells};
+ghost use Rattle.som_scope.specs.Words.{once};
 ghost use Rattle.som_sema.specs.Items.{given, given_by};
 ghost use Rattle.som_sema.specs.Sketch.{drawings as drawn, seen};
 ghost use Rattle.som_sema.specs.TextRules as rules;
 ghost use Rattle.som_sema.specs.TextRules.{called_after, misplaced, overridden_after, text_s11};
-ghost use Rattle.som_sema.specs.Words.{once};
 ghost use Rattle.som_sema.specs.declared.sketch.Drawing.{Drawing as Known};
 ghost use Rattle.std.specs.Prelude.{◌≡◌, ◌<◌, ◌++◌, ◌∷◌, ◌&&◌, true, not, [], length, map, flat_map, slice_get, option_copied, IfOk, Some};
 
@@ -15,12 +15,12 @@ use crate::marks::{Mark, marks};
 use crate::members::introduced_names;
 use crate::passes::{breach, each_drawing};
 use crate::sketch::Drawing;
-use crate::tables::table_of;
 use indexmap::IndexSet;
 use som_idl::Modifier;
 use som_model::NoMemory;
 use som_order::{find_name, note_name};
 use som_rules::VerifyFault;
+use som_scope::table_of;
 use std::alloc::Global;
 
 /// Each modifier stands where it may.

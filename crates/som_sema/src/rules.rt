@@ -8,8 +8,8 @@ ghost use Rattle.som_rules.specs.Faces.{faces_breach};
 ghost use Rattle.som_rules.specs.Modules.{classes_of};
 ghost use Rattle.som_rules.specs.Places.{IsTable, with_kernel};
 ghost use Rattle.som_rules.specs.Told.{Tells};
+ghost use Rattle.som_scope.specs.Home.{home_in};
 ghost use Rattle.som_sema.specs.Building.{moved_breach, sketch_breach};
-ghost use Rattle.som_sema.specs.Home.{home_in};
 ghost use Rattle.som_sema.specs.Sketch.{drawings as drawn, sketches};
 ghost use Rattle.som_sema.specs.TextRules.{text_s2_from};
 ghost use Rattle.som_sema.specs.Walks.{AreDrawn, IsWalked};
@@ -17,15 +17,12 @@ ghost use Rattle.std.specs.Prelude.{◌≡◌, ◌≤◌, ◌+◌, length, map, 
 
 use crate::bases::{bases_stand, metaclasses_descend};
 use crate::members::names_differ;
-use crate::scope::Scope;
 use crate::sketch::Drawing;
 use crate::walked::{Walked, ancestor_lists};
 use indexmap::IndexSet;
 use som_model::ClassFace;
-use som_rules::{
-    Declared, KERNEL_CLASSES, VerifyFault, class_names, entries_moved_up, names_introduced_once,
-    overrides_inherited, parents_differ, types_known, variables_differ,
-};
+use som_rules::{Declared, KERNEL_CLASSES, VerifyFault, class_names, entries_moved_up, names_introduced_once, overrides_inherited, parents_differ, types_known, variables_differ};
+use som_scope::Scope;
 use std::alloc::Global;
 
 /// The rules S1 to S7 of a module's classes, which stand after those of a base that conforms.

@@ -1,21 +1,21 @@
 ghost use Rattle.som_model.specs.Lists.{first};
 ghost use Rattle.som_order.specs.Names.{texts};
-ghost use Rattle.som_sema.specs.Home as homes;
-ghost use Rattle.som_sema.specs.Home.{home_in};
+ghost use Rattle.som_scope.specs.Home as homes;
+ghost use Rattle.som_scope.specs.Home.{home_in};
+ghost use Rattle.som_scope.specs.Words.{lent};
 ghost use Rattle.som_sema.specs.Items as spec;
 ghost use Rattle.som_sema.specs.Sketch as sketches;
 ghost use Rattle.som_sema.specs.Sketch.{drawings, drawn, seen};
-ghost use Rattle.som_sema.specs.Words.{lent};
 ghost use Rattle.std.specs.Prelude.{◌≡◌, map, option_map, IfOk};
 
 use crate::exports::introduced;
 use crate::items::{add_metaclasses, major, minor, parent_names};
 use crate::marks::marks;
-use crate::scope::{Scope, key_of, keys_of};
 use crate::tables::by_name;
 use crate::variables::variables;
 use som_idl::{IdlInterface, Item, Word};
 use som_model::{ClassDecl, ClassFace, ClassKey, List, NoMemory};
+use som_scope::{Scope, key_of, keys_of};
 use std::alloc::Global;
 
 /// An interface, and the class that it declares but for moved entries and overrides.

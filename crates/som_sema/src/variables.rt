@@ -1,12 +1,12 @@
-ghost use Rattle.som_sema.specs.Home.{home_in};
-ghost use Rattle.som_sema.specs.Home as homes;
+ghost use Rattle.som_scope.specs.Home as homes;
+ghost use Rattle.som_scope.specs.Home.{home_in};
 ghost use Rattle.som_sema.specs.Sketch as sketches;
 ghost use Rattle.som_sema.specs.Sketch.{export_variables, item_variables, variables_of};
 ghost use Rattle.std.specs.Prelude.{◌≡◌, ◌++◌, flat_map, IfOk, OnOk};
 
-use crate::scope::{Scope, type_of};
 use som_idl::{Export, IdlInterface, Item, TypeName, Word};
 use som_model::{List, NoMemory, Variable};
+use som_scope::{Scope, type_of};
 use std::alloc::Global;
 
 /// The variables of an interface, those of attributes among them, in the order of the text.

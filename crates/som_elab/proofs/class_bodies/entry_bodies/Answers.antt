@@ -1,5 +1,5 @@
 use Rattle.std.proofs.Common.{sym, ap, ◌∙◌}
-use Rattle.som_sema.specs.Accessors.{body_of}
+use Rattle.som_elab.specs.Accessors.{body_of}
 use Rattle.som_sema.specs.Sketch.{seen}
 use Rattle.som_rules.specs.Places.{class_of_place}
 use Rattle.som_typing.proofs.BodySteps.{entry_mem}

@@ -4,7 +4,7 @@ use Rattle.std.proofs.lemmas.Iterator.Consumers.{YieldsList-at, YieldsList-end}
 use Rattle.std.proofs.lemmas.Iterator.Adapters.{YieldsList-from_vec}
 use Rattle.std.specs.Slice.Iter.{iter_rest}
 use Rattle.som_elab.specs.Bodies.{beside}
-use Rattle.som_sema.specs.Words.{lent}
+use Rattle.som_scope.specs.Words.{lent}
 use Rattle.som_elab.proofs.Completing.{paired, paired_beside}
 use Rattle.som_elab.proofs.whole.beside.Goals as goal
 

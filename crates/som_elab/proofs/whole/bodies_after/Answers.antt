@@ -1,7 +1,7 @@
 use Rattle.std.proofs.Common.{◌≡◌, List, length, map, None, option_copied, sym, ap, ◌∙◌, subst}
 use Rattle.som_model.specs.Class.{Class, class_in}
 use Rattle.som_model.specs.declared.key.Module.TheVariants as modules
-use Rattle.som_sema.specs.Home.{home_in}
+use Rattle.som_scope.specs.Home.{home_in}
 use Rattle.som_sema.specs.Sketch.{drawings}
 use Rattle.som_rules.specs.Faces.{classes_breach}
 use Rattle.som_rules.specs.Modules.{classes_of}

@@ -1,8 +1,8 @@
 use Rattle.std.proofs.Common.{length, option_copied, ap, map, ◌∙◌}
 use Rattle.som_model.specs.Class.{bare}
-use Rattle.som_sema.specs.Home.{face_names, home, home_in, kernel_names}
+use Rattle.som_scope.specs.Home.{face_names, home, home_in, kernel_names}
 use Rattle.som_sema.specs.Sketch.{drawings}
-use Rattle.som_sema.specs.Words.{interface_names, lent, once}
+use Rattle.som_scope.specs.Words.{interface_names, lent, once}
 use Rattle.som_sema.proofs.Finishing.{base_is}
 use Rattle.som_rules.proofs.DeclaredClasses.{long_map}
 use Rattle.som_elab.specs.Texts.{given}

@@ -1,5 +1,5 @@
 use Rattle.std.proofs.Common.{List, option_copied, ◌∙◌, subst}
-use Rattle.som_sema.specs.Home.{home_in}
+use Rattle.som_scope.specs.Home.{home_in}
 use Rattle.som_sema.specs.Sketch.{drawings}
 use Rattle.som_rules.specs.declared.types.Declared.{Declared}
 use Rattle.som_rules.specs.Modules.{classes_of}

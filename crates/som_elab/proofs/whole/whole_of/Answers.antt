@@ -2,7 +2,7 @@ use Rattle.std.proofs.Common.{List, Ok, option_copied, sym, ap, ◌∙◌}
 use Rattle.std.proofs.lemmas.Result.{err_from_is_err_and}
 use Rattle.som_model.specs.declared.class.ClassDecl.{ClassDecl}
 use Rattle.som_sema.specs.Sketch.{Drawn, drawings}
-use Rattle.som_sema.specs.Words.{interfaces_of, lent}
+use Rattle.som_scope.specs.Words.{interfaces_of, lent}
 use Rattle.som_elab.specs.Bodies.{beside, bodies_of}
 use Rattle.som_elab.specs.declared.whole.Whole.{Whole}
 use Rattle.som_elab.specs.Grounds.{completed}

@@ -1,6 +1,6 @@
 use Rattle.std.proofs.Common.{◌≡◌, ◌+◌, drop}
 use Rattle.som_model.specs.Lists.{first}
-use Rattle.som_sema.specs.Home.{home_in}
+use Rattle.som_scope.specs.Home.{home_in}
 use Rattle.som_sema.specs.Sketch.{drawings}
 use Rattle.som_sema.specs.TextRules.{text_s2_from}
 use Rattle.som_rules.specs.Modules.{classes_of}

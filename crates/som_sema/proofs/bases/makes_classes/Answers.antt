@@ -6,7 +6,7 @@ use Rattle.som_model.specs.declared.key.ClassKey.{ClassKey}
 use Rattle.som_rules.specs.Modules.{classes_of}
 use Rattle.som_rules.specs.Places.{Finds, with_kernel}
 use Rattle.som_rules.proofs.DeclaredClasses.{known_number}
-use Rattle.som_sema.specs.Home.{home_in}
+use Rattle.som_scope.specs.Home.{home_in}
 use Rattle.som_sema.proofs.Unknown.{unknown_class}
 use Rattle.som_sema.proofs.bases.makes_classes.Goals as goal
 

@@ -1,7 +1,7 @@
 use Rattle.std.proofs.Common.{◌≡◌, drop, take, flat_map}
 use Rattle.som_model.specs.Lists.{first}
 use Rattle.som_order.specs.Names.{texts}
-use Rattle.som_sema.specs.Home.{home_in}
+use Rattle.som_scope.specs.Home.{home_in}
 use Rattle.som_sema.specs.Sketch.{seen}
 use Rattle.som_sema.specs.TextRules.{base_stands}
 use Rattle.som_rules.specs.Modules.{classes_of}

@@ -3,7 +3,7 @@ use Rattle.som_model.specs.Class.{class_in}
 use Rattle.som_rules.specs.Modules.{class_of, classes_of}
 use Rattle.som_sema.specs.Sketch.{drawings, sketches}
 use Rattle.som_sema.specs.declared.sketch.Drawing.{Drawing}
-use Rattle.som_sema.proofs.Going.{next, pushed, rest_end}
+use Rattle.som_scope.proofs.Going.{next, pushed, rest_end}
 use Rattle.som_sema.proofs.build.add_sketches.Goals as goal
 
 pub loop-drawing-preserved : goal.loop-drawing-preserved

@@ -8,7 +8,7 @@ use Rattle.som_rules.proofs.DeclaredClasses.{long_map}
 use Rattle.som_rules.proofs.PlainFaces.{none_or}
 use Rattle.som_model.specs.declared.class.ClassDecl.{ClassDecl}
 use Rattle.som_sema.specs.Building.{after_base, moved_breach}
-use Rattle.som_sema.specs.Home.{home_in}
+use Rattle.som_scope.specs.Home.{home_in}
 use Rattle.som_sema.specs.Sketch.{drawings}
 use Rattle.som_sema.proofs.Composing.{walked_lists}
 use Rattle.som_sema.proofs.Finishing.{base_front, declared_is, finished_walked, own_rest, sketch_is}

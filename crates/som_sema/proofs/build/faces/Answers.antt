@@ -5,9 +5,9 @@ use Rattle.som_model.specs.declared.class.ClassDecl.{ClassDecl}
 use Rattle.som_model.specs.declared.key.Module.TheVariants as modules
 use Rattle.som_rules.specs.Faces.{faces_breach}
 use Rattle.som_rules.specs.Told.{Tells}
-use Rattle.som_sema.specs.Home.{face_names, home, home_in, kernel_names}
+use Rattle.som_scope.specs.Home.{face_names, home, home_in, kernel_names}
 use Rattle.som_sema.specs.Sketch.{drawings}
-use Rattle.som_sema.specs.Words.{interface_names, lent, once}
+use Rattle.som_scope.specs.Words.{interface_names, lent, once}
 use Rattle.som_sema.proofs.Answered.{breach_is, declared_are}
 use Rattle.som_sema.proofs.Finishing.{base_is}
 use Rattle.som_sema.proofs.TextBases.{are_drawn}

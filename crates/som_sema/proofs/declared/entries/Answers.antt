@@ -5,7 +5,7 @@ use Rattle.som_rules.specs.Modules.{classes_of}
 use Rattle.som_rules.specs.Places.{key_at, with_kernel}
 use Rattle.som_sema.specs.Finished.{entry_for}
 use Rattle.som_sema.specs.Items.{listed}
-use Rattle.som_sema.proofs.Going.{map_end}
+use Rattle.som_scope.proofs.Going.{map_end}
 use Rattle.som_sema.proofs.declared.entries.Goals as goal
 
 pub returns : goal.returns

@@ -1,6 +1,6 @@
 use Rattle.std.proofs.Common.{◌≡◌, ◌++◌, drop, flat_map}
 use Rattle.som_order.specs.Names.{texts}
-use Rattle.som_sema.specs.Home.{home_in}
+use Rattle.som_scope.specs.Home.{home_in}
 use Rattle.som_sema.specs.Sketch.{export_entries}
 use Rattle.som_sema.proofs.exports.add_exports.Given as goal
 

@@ -4,7 +4,7 @@ use Rattle.som_rules.specs.Modules.{classes_of}
 use Rattle.som_rules.specs.Places.{with_kernel}
 use Rattle.som_rules.specs.Told.{Tells}
 use Rattle.som_rules.proofs.DeclaredClasses.{known_number}
-use Rattle.som_sema.specs.Home.{home_in}
+use Rattle.som_scope.specs.Home.{home_in}
 use Rattle.som_sema.specs.Sketch.{drawings}
 use Rattle.som_sema.specs.TextRules.{text_s2_from}
 use Rattle.som_sema.proofs.Composing.{front_place}

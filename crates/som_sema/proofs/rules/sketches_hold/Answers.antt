@@ -5,7 +5,7 @@ use Rattle.som_rules.proofs.PlainFaces.{none_or}
 use Rattle.som_sema.proofs.Telling.{here, later}
 use Rattle.som_rules.specs.Modules.{classes_of}
 use Rattle.som_order.specs.Names.{texts}
-use Rattle.som_sema.specs.Home.{home_in}
+use Rattle.som_scope.specs.Home.{home_in}
 use Rattle.som_sema.specs.Sketch.{drawings}
 use Rattle.som_sema.proofs.Composing.{all_stand, own_names, walks_lists}
 use Rattle.som_sema.proofs.rules.sketches_hold.Goals as goal

@@ -1,7 +1,7 @@
 use Rattle.std.proofs.Common.{◌≡◌, ◌++◌, drop, map}
-use Rattle.som_sema.specs.Home.{home_in}
+use Rattle.som_scope.specs.Home.{home_in}
 use Rattle.som_sema.specs.Sketch.{drawings, drawn}
-use Rattle.som_sema.specs.Words.{lent}
+use Rattle.som_scope.specs.Words.{lent}
 use Rattle.som_sema.proofs.sketch.sketches.Given as goal
 
 abbrev pub invariant-loop-interface : goal.invariant-loop-interface

@@ -1,5 +1,5 @@
 use Rattle.std.proofs.Common.{◌≡◌, ◌++◌, drop, flat_map}
-use Rattle.som_sema.specs.Home.{home_in}
+use Rattle.som_scope.specs.Home.{home_in}
 use Rattle.som_sema.specs.Sketch.{export_variables}
 use Rattle.som_sema.proofs.variables.add_attributes.Given as goal
 

@@ -1,5 +1,5 @@
 use Rattle.std.proofs.Common.{◌≡◌, ◌++◌, drop}
-use Rattle.som_sema.specs.Home.{home_in, type_of}
+use Rattle.som_scope.specs.Home.{home_in, type_of}
 use Rattle.som_sema.specs.Sketch.{variables_of}
 use Rattle.som_sema.proofs.variables.add_each.Given as goal
 

@@ -1,0 +1,240 @@
+ghost use Rattle.som_forms.specs.Code.{AreLocals, IsSite, among_at, classes_at, made_at, names_at, place_at};
+ghost use Rattle.som_forms.specs.Locals as named;
+ghost use Rattle.som_forms.specs.Stated.{Keeps, by_value, expr_in, names_in, value_in};
+ghost use Rattle.som_forms.specs.Statements as forms;
+ghost use Rattle.som_forms.specs.declared.fault.BodyFault.TheVariants as faults;
+ghost use Rattle.som_model.specs.Class.{Class};
+ghost use Rattle.som_model.specs.Typing as typing;
+ghost use Rattle.som_typing.specs.Kinds.{IsType, Stands, kind_at, type_at};
+ghost use Rattle.som_typing.specs.Knowing.{facts_of};
+ghost use Rattle.std.specs.Prelude.{◌≡◌, ◌<◌, ◌&&◌, not, if◌then◌else◌, length, slice_get, List as Seq, Some, Ok, Err};
+
+use crate::expressions::{expression, value_expression};
+use crate::fault::BodyFault;
+use crate::local::Local;
+use crate::made::Made;
+use crate::names::{local_of, variable_place};
+use crate::site::Site;
+use som_body::ExprText;
+use som_model::Stmt;
+use som_typing::{Kind, has_text, is_call, is_nothing, is_object, kind_fits, variable_kind};
+use std::alloc::Global;
+
+/// A statement of which a rule asks something.
+pub fn demanded(rule: u8, holds: bool, statement: Stmt) -> Result<Stmt, BodyFault>
+    ensures { result ≡ (if holds then Ok statement else Err (faults.Rule rule)) }
+{
+    if holds {
+        Ok(statement)
+    } else {
+        Err(BodyFault::Rule(rule))
+    }
+}
+
+/// A local that is in scope takes a value that fits it.
+pub fn set_local(
+    alloc: Global,
+    site: &Site,
+    locals: &[Local],
+    name: &[u8],
+    value: &ExprText,
+) -> Result<Stmt, BodyFault>
+    requires site { IsSite site.now }
+    requires locals { AreLocals (classes_at site.now) locals.now }
+    ensures { Keeps (classes_at site.now) (by_value (value_in site.now locals.now value.now)
+        (forms.set_local (among_at site.now) (names_in site.now locals.now) name.now)) locals.now result }
+{
+    let made = value_expression(alloc, site, locals, value)?;
+    local_takes(site, locals, name, made)
+}
+
+fn local_takes(site: &Site, locals: &[Local], name: &[u8], made: Made) -> Result<Stmt, BodyFault>
+    requires site { IsSite site.now }
+    requires locals { AreLocals (classes_at site.now) locals.now }
+    requires made { Stands (classes_at site.now) made.kind }
+    ensures { Keeps (classes_at site.now) (forms.ruled (forms.set_local (among_at site.now) (names_in site.now locals.now) name.now
+        (made_at (classes_at site.now) made))) locals.now result }
+{
+    let Made { expr, kind } = made;
+    match local_of(locals, name) {
+        None => Err(BodyFault::Rule(16)),
+        Some(local) => {
+            let fits = kind_fits(&site.known, kind_of_local(locals, local as usize), kind);
+            demanded(
+                17,
+                fits,
+                Stmt::SetLocal {
+                    local,
+                    value: expr.into_inner(),
+                },
+            )
+        }
+    }
+}
+
+fn kind_of_local(locals: &[Local], local: usize) -> Kind
+    requires { local < length locals.now }
+    ensures is { (cs : Seq Class) → slice_get (named.kinds_of (names_at cs locals.now)) local ≡ Some (type_at cs result) }
+    ensures stands { (cs : Seq Class) → AreLocals cs locals.now → IsType cs result }
+{
+    locals[local].kind
+}
+
+/// A variable of the body's class takes a value that fits it.
+pub fn set_variable(
+    alloc: Global,
+    site: &Site,
+    locals: &[Local],
+    name: &[u8],
+    value: &ExprText,
+) -> Result<Stmt, BodyFault>
+    requires site { IsSite site.now }
+    requires locals { AreLocals (classes_at site.now) locals.now }
+    ensures { Keeps (classes_at site.now) (by_value (value_in site.now locals.now value.now)
+        (forms.set_variable (among_at site.now) (place_at site.now) (names_in site.now locals.now) name.now)) locals.now result }
+{
+    let made = value_expression(alloc, site, locals, value)?;
+    variable_takes(site, locals, name, made)
+}
+
+fn variable_takes(site: &Site, locals: &[Local], name: &[u8], made: Made) -> Result<Stmt, BodyFault>
+    requires site { IsSite site.now }
+    requires made { Stands (classes_at site.now) made.kind }
+    ensures { Keeps (classes_at site.now) (forms.ruled (forms.set_variable (among_at site.now) (place_at site.now) (names_in site.now locals.now) name.now
+        (made_at (classes_at site.now) made))) locals.now result }
+{
+    let Made { expr, kind } = made;
+    match variable_place(&site.known, &site.at, name) {
+        None => Err(BodyFault::Rule(16)),
+        Some(variable) => match variable_kind(&site.known, &site.at, variable as usize) {
+            Err(rule) => Err(BodyFault::Rule(rule)),
+            Ok(wanted) => {
+                let fits = kind_fits(&site.known, wanted, kind);
+                demanded(
+                    17,
+                    fits,
+                    Stmt::SetVariable {
+                        variable,
+                        value: expr.into_inner(),
+                    },
+                )
+            }
+        },
+    }
+}
+
+/// A return, with a value or without.
+pub fn answer(
+    alloc: Global,
+    site: &Site,
+    locals: &[Local],
+    value: &Option<ExprText>,
+) -> Result<Stmt, BodyFault>
+    requires site { IsSite site.now }
+    requires locals { AreLocals (classes_at site.now) locals.now }
+    ensures { Keeps (classes_at site.now) (forms.ruled (forms.returned (among_at site.now) (place_at site.now) (names_in site.now locals.now) value.now)) locals.now result }
+{
+    match value {
+        None => demanded(19, is_nothing(site.at.result), Stmt::Return),
+        Some(value) => answer_value(alloc, site, locals, value),
+    }
+}
+
+fn answer_value(
+    alloc: Global,
+    site: &Site,
+    locals: &[Local],
+    value: &ExprText,
+) -> Result<Stmt, BodyFault>
+    requires site { IsSite site.now }
+    requires locals { AreLocals (classes_at site.now) locals.now }
+    ensures { Keeps (classes_at site.now) (by_value (value_in site.now locals.now value.now)
+        (forms.value_return (among_at site.now) (place_at site.now) (names_in site.now locals.now))) locals.now result }
+{
+    let Made { expr, kind } = value_expression(alloc, site, locals, value)?;
+    demanded(
+        19,
+        is_answer(site, kind),
+        Stmt::ReturnValue {
+            value: expr.into_inner(),
+        },
+    )
+}
+
+// Whether a value is wanted, and this one fits.
+fn is_answer(site: &Site, given: Kind) -> bool
+    requires site { IsSite site.now }
+    requires given { Stands (classes_at site.now) given }
+    ensures { result ≡ (not (typing.is_nothing (typing.Of (type_at (classes_at site.now) site.now.at.result)))
+        && typing.fits (facts_of site.now.known) (type_at (classes_at site.now) site.now.at.result) (kind_at (classes_at site.now) given)) }
+{
+    let wanted = site.at.result;
+    match wanted {
+        Kind::Void => false,
+        _ => kind_fits(&site.known, wanted, given),
+    }
+}
+
+/// What is printed is a long, a boolean or a string.
+pub fn print(
+    alloc: Global,
+    site: &Site,
+    locals: &[Local],
+    value: &ExprText,
+) -> Result<Stmt, BodyFault>
+    requires site { IsSite site.now }
+    requires locals { AreLocals (classes_at site.now) locals.now }
+    ensures { Keeps (classes_at site.now) (by_value (value_in site.now locals.now value.now) (forms.printed (names_in site.now locals.now))) locals.now result }
+{
+    let Made { expr, kind } = value_expression(alloc, site, locals, value)?;
+    demanded(
+        17,
+        has_text(kind),
+        Stmt::Print {
+            value: expr.into_inner(),
+        },
+    )
+}
+
+/// What is freed is an object, and not plain nil.
+pub fn free(
+    alloc: Global,
+    site: &Site,
+    locals: &[Local],
+    value: &ExprText,
+) -> Result<Stmt, BodyFault>
+    requires site { IsSite site.now }
+    requires locals { AreLocals (classes_at site.now) locals.now }
+    ensures { Keeps (classes_at site.now) (by_value (value_in site.now locals.now value.now) (forms.freed (names_in site.now locals.now))) locals.now result }
+{
+    let Made { expr, kind } = value_expression(alloc, site, locals, value)?;
+    demanded(
+        17,
+        is_object(kind),
+        Stmt::Free {
+            value: expr.into_inner(),
+        },
+    )
+}
+
+/// A call stands alone, whatever it answers, and nothing else does.
+pub fn call(
+    alloc: Global,
+    site: &Site,
+    locals: &[Local],
+    call: &ExprText,
+) -> Result<Stmt, BodyFault>
+    requires site { IsSite site.now }
+    requires locals { AreLocals (classes_at site.now) locals.now }
+    ensures { Keeps (classes_at site.now) (by_value (expr_in site.now locals.now call.now) (forms.call_statement (names_in site.now locals.now))) locals.now result }
+{
+    let Made { expr, .. } = expression(alloc, site, locals, call)?;
+    let stands = is_call(expr.get());
+    demanded(
+        20,
+        stands,
+        Stmt::Call {
+            call: expr.into_inner(),
+        },
+    )
+}
