@@ -4,8 +4,8 @@ pub mod OwnTexts
 pub mod NamedClasses
 pub mod BodyLaws
 pub mod Completing
-pub mod Grounding
-pub mod Wholes
+pub mod ContextLaws
+pub mod ModuleLaws
 pub mod ClassSteps
 pub mod Programs
 pub mod Plain

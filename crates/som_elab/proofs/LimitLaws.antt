@@ -11,10 +11,10 @@ use Rattle.som_model.specs.declared.limits.TheConstants.{MAX_ENTRIES, MAX_OVERRI
 use Rattle.som_rules.proofs.Before.{both_none, none_both}
 use Rattle.som_rules.proofs.Owners.{flat_none}
 use Rattle.som_rules.proofs.PlainLists.{none_flat}
-use Rattle.som_sema.specs.declared.sketch.Drawing.{Drawing}
+use Rattle.som_sema.specs.declared.drafts.Draft.{Draft}
 use Rattle.som_elab.specs.PlainLimits.{LimitsKept}
 use Rattle.som_elab.specs.Limits.{Passed, at_most, class_limits, entry_limits, limit_passed}
-use Rattle.som_sema.specs.Sketch.{drawings, sketches}
+use Rattle.som_sema.specs.Drafts.{plain_drafts, draft_classes}
 
 kept_by : (b : Bool) (p : Passed) → first (if b then [] else p ∷ []) ≡ None → b ≡ true
 kept_by true p e = refl
@@ -62,10 +62,10 @@ pub few_variables : (c : ClassDecl) → first (class_limits c) ≡ None → leng
 few_variables c e = (class_says c e).variables
 
 -- the same of classes with their texts, at a place
-pub few_at : (ds : List Drawing) (k : ℕ) (d : Drawing) → limit_passed (sketches (drawings ds)) ≡ None → k < length ds → length (slice_index_or ds k d).decl.variables ≤ MAX_VARIABLES
+pub few_at : (ds : List Draft) (k : ℕ) (d : Draft) → limit_passed (draft_classes (plain_drafts ds)) ≡ None → k < length ds → length (slice_index_or ds k d).decl.variables ≤ MAX_VARIABLES
 few_at [] k d e lt = absurd (omega (arith, lt))
-few_at (x ∷ ds) zero d e lt = few_variables x.decl (none_both (class_limits x.decl) (flat_map class_limits (sketches (drawings ds))) e).0
-few_at (x ∷ ds) (suc k) d e lt = few_at ds k d (none_both (class_limits x.decl) (flat_map class_limits (sketches (drawings ds))) e).1 (omega (arith, lt))
+few_at (x ∷ ds) zero d e lt = few_variables x.decl (none_both (class_limits x.decl) (flat_map class_limits (draft_classes (plain_drafts ds))) e).0
+few_at (x ∷ ds) (suc k) d e lt = few_at ds k d (none_both (class_limits x.decl) (flat_map class_limits (draft_classes (plain_drafts ds))) e).1 (omega (arith, lt))
 
 says_class : (c : ClassDecl) → Kept c → first (class_limits c) ≡ None
 says_class c k =

@@ -10,7 +10,7 @@ use Rattle.som_idl.specs.declared.tree.IdlInterface.{IdlInterface}
 use Rattle.som_idl.specs.declared.tree.Export.{Export}
 use Rattle.som_idl.specs.declared.tree.Export.TheVariants as exports
 use Rattle.som_elab.specs.declared.accessors.Accessor.{Accessor}
-use Rattle.som_sema.specs.Sketch.{Drawn, getter, setter}
+use Rattle.som_sema.specs.Drafts.{InterfaceDraft, getter, setter}
 
 -- a method that reads or sets an attribute
 pub record Access : Type 0 where
@@ -42,7 +42,7 @@ accessor_body vs a =
     if a.sets then bodies.Set (place_of (map (λ (v : Variable). v.name) vs) a.attribute) else bodies.Get (place_of (map (λ (v : Variable). v.name) vs) a.attribute)
 
 -- the body of a method that a class introduces: an accessor has one, and an operation has none
-abbrev pub body_of : Drawn → List ℕ → Option Body
+abbrev pub body_of : InterfaceDraft → List ℕ → Option Body
 body_of d name = option_map (accessor_body d.class.variables) (find (λ (a : Access). bytes_eq name a.name) (accessors_of d.text))
 
 -- an accessor of the code

@@ -4,4 +4,4 @@ pub mod PlainLimits
 pub mod Bodies
 pub mod Elaboration
 pub mod Texts
-pub mod Grounds
+pub mod Contexts

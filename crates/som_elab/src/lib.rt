@@ -7,14 +7,14 @@ mod all_bodies;
 mod build;
 mod class_bodies;
 mod classes;
+mod contexts;
 mod counted_bodies;
-mod ground;
+mod elaborated;
 mod laws;
 mod limits;
 mod named_bodies;
 mod operations;
 mod texts;
-mod whole;
 
 pub use accessor_bodies::body_named;
 pub use accessors::{Accessor, accessor_named, accessors_of};

@@ -1,19 +1,21 @@
 ghost use Rattle.som_elab.specs.Limits as spec;
 ghost use Rattle.som_elab.specs.Limits.{KeepsLimit, class_limits, entry_limits, limit_passed};
 ghost use Rattle.som_model.specs.Lists.{first};
-ghost use Rattle.som_sema.specs.Sketch.{drawings as drawn, sketches};
+ghost use Rattle.som_sema.specs.Drafts.{draft_classes, plain_drafts};
 ghost use Rattle.std.specs.Prelude.{flat_map};
 
-use som_model::{ClassDecl, Entry, MAX_ENTRIES, MAX_OVERRIDES, MAX_PARAMETERS, MAX_PARENTS, MAX_VARIABLES, Text};
-use som_sema::{Drawing, Refused};
+use som_model::{
+    ClassDecl, Entry, MAX_ENTRIES, MAX_OVERRIDES, MAX_PARAMETERS, MAX_PARENTS, MAX_VARIABLES, Text,
+};
+use som_sema::{Draft, Refused};
 use std::alloc::Global;
 
 /// No class passes a limit.
-pub fn limits_kept(alloc: Global, drawings: &[Drawing]) -> Result<(), Refused>
-    ensures { KeepsLimit (limit_passed (sketches (drawn drawings.now))) result }
+pub fn limits_kept(alloc: Global, drafts: &[Draft]) -> Result<(), Refused>
+    ensures { KeepsLimit (limit_passed (draft_classes (plain_drafts drafts.now))) result }
 {
-    for drawing in drawings {
-        class_kept(alloc, &drawing.decl)?;
+    for draft in drafts {
+        class_kept(alloc, &draft.decl)?;
     }
     Ok(())
 }

@@ -13,14 +13,14 @@ use Rattle.som_body.specs.declared.tree.ExprText.{ExprText, fold-roll-ExprText}
 use Rattle.som_body.specs.declared.tree.ExprText.TheVariants as texts
 use Rattle.som_body.specs.declared.tree.ExprText.TheVariants.{rolls-Literal, rolls-Call, rolls-Lookup, rolls-Dispatch, rolls-Parent, rolls-Parents}
 use Rattle.som_body.specs.declared.tree.ExprText.TheOpen.{ExprText-F}
-use Rattle.som_forms.specs.declared.made.Made.{Made}
+use Rattle.som_forms.specs.declared.typed_expr.TypedExpr.{TypedExpr}
 use Rattle.som_forms.specs.Locals.{Names}
 use Rattle.som_forms.specs.Expressions.{Among, Elab, Elaborated, call_form, dispatch_form, elaborated, expr_step, formed, lookup_form, parent_form, parents_form, part, parts}
 use Rattle.som_forms.specs.Code.{Makes}
 use Rattle.som_forms.specs.Forms.{of_all}
 
 -- a text that is another comes to the same
-pub makes_as : (cs : List Class) (elab : ExprText → Elab) (e x : ExprText) (form : Elab) (r : Result Made TypeFault) → e ≡ x → elab x ≡ form → Makes cs form r → Makes cs (elab e) r
+pub makes_as : (cs : List Class) (elab : ExprText → Elab) (e x : ExprText) (form : Elab) (r : Result TypedExpr TypeFault) → e ≡ x → elab x ≡ form → Makes cs form r → Makes cs (elab e) r
 makes_as cs elab e x form r is same makes = subst (λ z. Makes cs z r) (sym (ap elab is ∙ same)) makes
 
 module _ (a : Among) (at : CodePlace) (scope : Names) where

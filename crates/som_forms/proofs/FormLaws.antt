@@ -12,7 +12,7 @@ use Rattle.som_model.specs.Typing.{ClassFacts, CodePlace, ExprType, all_fit, nee
 use Rattle.som_typing.specs.declared.kind.Kind.{Kind}
 use Rattle.som_typing.specs.declared.code_place.TypeFault.{TypeFault}
 use Rattle.som_typing.specs.Kinds.{kind_at}
-use Rattle.som_forms.specs.declared.made.Made.{Made}
+use Rattle.som_forms.specs.declared.typed_expr.TypedExpr.{TypedExpr}
 use Rattle.som_forms.specs.declared.parts.Parts.{Parts}
 use Rattle.som_forms.specs.Methods.{Method, method_for, method_of, own_method, parent_place}
 use Rattle.som_forms.specs.Expressions.{Among, Elab, Elaborated, call_form, called_by, cast_form, class_form, class_named, facts_among, formed, isa_form, new_form, parent_form, parents_form, proxy_form, types_of}
@@ -22,7 +22,7 @@ use Rattle.som_forms.proofs.PartLaws.{types_back, with_parts}
 
 -- ---- classes that are named
 
-module _ (cs : List Class) (a : Among) (name : List ℕ) (k : ClassKey) (r : Result Made TypeFault) (is : k ≡ class_named a name) where
+module _ (cs : List Class) (a : Among) (name : List ℕ) (k : ClassKey) (r : Result TypedExpr TypeFault) (is : k ≡ class_named a name) where
   pub new_made : Makes cs (formed (exprs.New k) (new_type (facts_among a) k)) r → Makes cs (new_form a name) r
   new_made m = subst (λ z. Makes cs (formed (exprs.New z) (new_type (facts_among a) z)) r) is m
 
@@ -47,7 +47,7 @@ module _ (cs : List Class) (a : Among) (name : List ℕ) (k : ClassKey) (r : Res
 
 -- ---- calls
 
-module _ (cs : List Class) (w : ClassFacts) (args : Parts) (ks : List Kind) (r : Result Made TypeFault) (are : AreParts cs args) (kinds : ks ≡ args.kinds.items) where
+module _ (cs : List Class) (w : ClassFacts) (args : Parts) (ks : List Kind) (r : Result TypedExpr TypeFault) (are : AreParts cs args) (kinds : ks ≡ args.kinds.items) where
   by_kinds : (F : List ExprType → Elab) → Makes cs (F (map (kind_at cs) ks)) r → Makes cs (F (map (kind_at cs) args.kinds.items)) r
   by_kinds F m = subst (λ z. Makes cs (F (map (kind_at cs) z)) r) kinds m
 
@@ -130,7 +130,7 @@ module _ (cs : List Class) (a : Among) where
   no_parent at parent name k ps is e =
       sym (ap (λ z. there 16 (parent_place at.class z) >>= parent_from a at z name ps) is) ∙ ap (λ o. there 16 o >>= parent_from a at k name ps) (sym e)
 
-  module _ (r : Result Made TypeFault) where
+  module _ (r : Result TypedExpr TypeFault) where
     pub call_found_is : (on : Elaborated) (name : List ℕ) (ps : List Elaborated) (m : Method) → method_for a.classes on.type name ≡ Some m → Makes cs (called_by (facts_among a) on ps m m.way) r → Makes cs (call_form a on name ps) r
     call_found_is on name ps m e makes = subst (λ o. Makes cs (there 16 o >>= by_way on ps) r) (sym e) makes
 

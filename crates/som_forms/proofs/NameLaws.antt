@@ -21,7 +21,7 @@ use Rattle.som_typing.specs.Knowing.{IsKnowledge, all_of, facts_of}
 use Rattle.som_typing.proofs.Facts.{known_said}
 use Rattle.som_typing.proofs.KindLaws.{index_mem}
 use Rattle.som_forms.specs.declared.local.Local.{Local}
-use Rattle.som_forms.specs.declared.made.Made.{Made}
+use Rattle.som_forms.specs.declared.typed_expr.TypedExpr.{TypedExpr}
 use Rattle.som_forms.specs.Locals.{Names, kinds_of, local_of, names_of}
 use Rattle.som_forms.specs.Methods.{parent_place, variable_place}
 use Rattle.som_forms.specs.Expressions.{Elab, Elaborated, formed, local_form, variable_form}
@@ -94,7 +94,7 @@ local_missing cs ls name e = ap (λ o. there 16 o >>= by_place (names_at cs ls))
 abbrev by_slot : CodePlace → ℕ → Elab
 by_slot at n = formed (exprs.Variable n) (of_kind (own_variable at n))
 
-pub variable_found : (cs : List Class) (at : CodePlace) (name : List ℕ) (n : ℕ) (r : Result Made TypeFault) → Some n ≡ variable_place at.class name
+pub variable_found : (cs : List Class) (at : CodePlace) (name : List ℕ) (n : ℕ) (r : Result TypedExpr TypeFault) → Some n ≡ variable_place at.class name
     → Makes cs (formed (exprs.Variable n) (of_kind (own_variable at n))) r → Makes cs (variable_form at name) r
 variable_found cs at name n r e m = subst (λ o. Makes cs (there 16 o >>= by_slot at) r) e m
 

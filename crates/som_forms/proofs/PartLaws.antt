@@ -11,10 +11,10 @@ use Rattle.som_typing.specs.declared.code_place.TypeFault.TheVariants as faults
 use Rattle.som_typing.specs.Kinds.{AllStand, Fails, Stands, kind_at}
 use Rattle.som_typing.proofs.KindLaws.{all_stand_more, part_there}
 use Rattle.som_body.specs.declared.tree.ExprText.{ExprText}
-use Rattle.som_forms.specs.declared.made.Made.{Made}
+use Rattle.som_forms.specs.declared.typed_expr.TypedExpr.{TypedExpr}
 use Rattle.som_forms.specs.declared.parts.Parts.{Parts}
 use Rattle.som_forms.specs.Expressions.{Elab, Elaborated, exprs_of, formed, part, parts, types_of, valued}
-use Rattle.som_forms.specs.Code.{Makes, made_at}
+use Rattle.som_forms.specs.Code.{Makes, typed_at}
 use Rattle.som_forms.specs.Forms.{Adds, AreParts, of_one, parts_at, typed_parts}
 
 -- ---- expressions and their types
@@ -42,7 +42,7 @@ long_more [] x = refl
 long_more (y ∷ ys) x = ap suc (long_more ys x)
 
 -- one more part
-pub adds : (cs : List Class) (p : Parts) (m : Made) (q : Parts) → q.exprs ≡ p.exprs ++ m.expr ∷ [] → q.kinds.items ≡ p.kinds.items ++ m.kind ∷ [] → AreParts cs p → Stands cs m.kind → Adds cs p m q
+pub adds : (cs : List Class) (p : Parts) (m : TypedExpr) (q : Parts) → q.exprs ≡ p.exprs ++ m.expr ∷ [] → q.kinds.items ≡ p.kinds.items ++ m.kind ∷ [] → AreParts cs p → Stands cs m.kind → Adds cs p m q
 adds cs p m q es ks are stands =
     let one = long_more p.exprs m.expr in
     let two = long_more p.kinds.items m.kind in
@@ -101,19 +101,19 @@ parts_start given rest none = subst (λ z. rest ≡ after_parts z rest) (sym non
 -- ---- forms
 
 -- where a part is made, the rest decides
-pub part_goes_on : (cs : List Class) (e : Elab) (p : Elaborated) (r : Result Made TypeFault) → e ≡ Ok p → Makes cs (valued p) r → Makes cs (part e) r
+pub part_goes_on : (cs : List Class) (e : Elab) (p : Elaborated) (r : Result TypedExpr TypeFault) → e ≡ Ok p → Makes cs (valued p) r → Makes cs (part e) r
 part_goes_on cs e p r is m = subst (λ z. Makes cs (z >>= valued) r) (sym is) m
 
-pub one_goes_on : (cs : List Class) (e x : ExprText) (elab : ExprText → Elab) (form : Elaborated → Elab) (p : Elaborated) (r : Result Made TypeFault) → e ≡ x → part (elab e) ≡ Ok p
+pub one_goes_on : (cs : List Class) (e x : ExprText) (elab : ExprText → Elab) (form : Elaborated → Elab) (p : Elaborated) (r : Result TypedExpr TypeFault) → e ≡ x → part (elab e) ≡ Ok p
     → Makes cs (form p) r → Makes cs (of_one (elab x) form) r
 one_goes_on cs e x elab form p r is made m = subst (λ z. Makes cs (z >>= form) r) (sym (ap (λ z. part (elab z)) (sym is) ∙ made)) m
 
 -- an expression that is another comes to the same
-pub form_as : (cs : List Class) (e x : Expr) (type : Typed) (r : Result Made TypeFault) → e ≡ x → Makes cs (formed e type) r → Makes cs (formed x type) r
+pub form_as : (cs : List Class) (e x : Expr) (type : Typed) (r : Result TypedExpr TypeFault) → e ≡ x → Makes cs (formed e type) r → Makes cs (formed x type) r
 form_as cs e x type r is m = subst (λ z. Makes cs (formed z type) r) is m
 
 -- the parts of a form are those that are made
-pub with_parts : (cs : List Class) (args : Parts) (F : List Expr → List ExprType → Elab) (r : Result Made TypeFault) → AreParts cs args
+pub with_parts : (cs : List Class) (args : Parts) (F : List Expr → List ExprType → Elab) (r : Result TypedExpr TypeFault) → AreParts cs args
     → Makes cs (F args.exprs (map (kind_at cs) args.kinds.items)) r → Makes cs (F (exprs_of (parts_at cs args)) (types_of (parts_at cs args))) r
 with_parts cs args F r are m =
     subst (λ z. Makes cs (F z (types_of (parts_at cs args))) r) (sym (exprs_back cs args.exprs args.kinds.items are.long))

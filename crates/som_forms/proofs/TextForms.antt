@@ -10,7 +10,7 @@ use Rattle.som_body.specs.declared.tree.StmtText.TheVariants as texts
 use Rattle.som_body.specs.declared.tree.StmtText.TheVariants.{rolls-Var, rolls-Set, rolls-SetVariable, rolls-If, rolls-While, rolls-Return, rolls-Print, rolls-Free, rolls-Call}
 use Rattle.som_body.specs.declared.tree.StmtText.TheOpen.{StmtText-F}
 use Rattle.som_body.specs.declared.tree.BlockText.{BlockText, fold-roll-BlockText}
-use Rattle.som_scope.specs.Home.{type_of}
+use Rattle.som_scope.specs.ClassNames.{type_of}
 use Rattle.som_forms.specs.Locals.{Names}
 use Rattle.som_forms.specs.Expressions.{Among, elaborated, elaborated_value}
 use Rattle.som_forms.specs.Statements.{BlockElab, Placed, StmtElab, Told, block_step, call_statement, declared, elaborated_block, elaborated_stmt, freed, in_turn, printed, returned, ruled, set_local, set_variable, stmt_step}
@@ -26,7 +26,7 @@ module _ (a : Among) (at : CodePlace) (scope : Names) where
   by_form : (s : StmtText) (form : StmtText-F StmtText BlockText) (comes : StmtElab) → roll-StmtText form ≡ s → elaborated_stmt a at (roll-StmtText form) ≡ comes → elaborated_stmt a at s scope ≡ comes scope
   by_form s form comes rolls folds = ap (λ (f : StmtElab). f scope) (ap (elaborated_stmt a at) (sym rolls) ∙ folds)
 
-  pub var_is : (name : Word) (kind : TypeName) (e : ExprText) → elaborated_stmt a at (texts.Var name kind e) scope ≡ declared_by (elaborated_value a at scope e) (declared a scope name.text (type_of a.home kind))
+  pub var_is : (name : Word) (kind : TypeName) (e : ExprText) → elaborated_stmt a at (texts.Var name kind e) scope ≡ declared_by (elaborated_value a at scope e) (declared a scope name.text (type_of a.module_of kind))
   var_is name kind e = by_form _ (StmtText-F.Var name kind e) _ (rolls-Var name kind e) (fold-roll-StmtText StmtElab BlockElab (stmt_step a at) block_step (StmtText-F.Var name kind e))
 
   pub set_is : (name : Word) (e : ExprText) → elaborated_stmt a at (texts.Set name e) scope ≡ by_value (elaborated_value a at scope e) (set_local a scope name.text)

@@ -18,7 +18,7 @@ use Rattle.som_body.specs.declared.tree.ExprText.{ExprText}
 use Rattle.som_body.specs.declared.tree.StmtText.{StmtText, roll-StmtText, map-StmtText, fold-roll-StmtText}
 use Rattle.som_body.specs.declared.tree.StmtText.TheOpen.{StmtText-F, BlockText-F}
 use Rattle.som_body.specs.declared.tree.BlockText.{BlockText, roll-BlockText, map-BlockText, ind-BlockText, fold-roll-BlockText}
-use Rattle.som_scope.specs.Home.{type_of}
+use Rattle.som_scope.specs.ClassNames.{type_of}
 use Rattle.som_forms.specs.Locals.{Named, Names, in_scope, kinds_of, local_of}
 use Rattle.som_forms.specs.Methods.{variable_place}
 use Rattle.som_forms.specs.Expressions.{Among, Elaborated, elaborated, elaborated_value, facts_among}
@@ -171,8 +171,8 @@ module _ (a : Among) (at : CodePlace) where
       → stmt_step a at (map-StmtText StmtText BlockText StmtElab BlockElab (elaborated_stmt a at) (elaborated_block a at) (map-StmtText Kept KeptBlock StmtText BlockText (λ (k : Kept). k.0) (λ (k : KeptBlock). k.0) y)) scope ≡ Ok q
       → Stands scope q
   layer_typed (StmtText-F.Var name kind e) scope q h =
-      let p = went (ruled (elaborated_value a at scope e)) (declared a scope name.text (type_of a.home kind)) q h in
-      declared_typed scope name.text (type_of a.home kind) p.value q (value_there e scope p.value (ruled_ok _ p.value p.first)) p.further
+      let p = went (ruled (elaborated_value a at scope e)) (declared a scope name.text (type_of a.module_of kind)) q h in
+      declared_typed scope name.text (type_of a.module_of kind) p.value q (value_there e scope p.value (ruled_ok _ p.value p.first)) p.further
   layer_typed (StmtText-F.Set name e) scope q h =
       let p = went (elaborated_value a at scope e) (set_local a scope name.text) q (ruled_ok _ q h) in
       set_local_typed scope name.text p.value q (value_there e scope p.value p.first) p.further

@@ -13,7 +13,7 @@ use Rattle.som_model.specs.Typing.{ClassFacts, CodePlace, ExprType, Of, PlainNil
 use Rattle.som_model.specs.Typing.{expr_step as typed_step}
 use Rattle.som_body.specs.declared.tree.ExprText.{ExprText, roll-ExprText, map-ExprText, ind-ExprText, fold-roll-ExprText}
 use Rattle.som_body.specs.declared.tree.ExprText.TheOpen.{ExprText-F}
-use Rattle.som_scope.specs.Home.{result_of}
+use Rattle.som_scope.specs.ClassNames.{result_of}
 use Rattle.som_forms.specs.Locals.{Names, kinds_of, local_of}
 use Rattle.som_forms.specs.Methods.{Method, method_of, method_for, own_method, variable_place, parent_place}
 use Rattle.som_forms.specs.Expressions.{Among, Elab, Elaborated, binary_form, call_form, called_by, cast_form, class_named, dispatch_form, elaborated, elaborated_value, expr_step, exprs_of, facts_among, formed, host_form, isa_form, lookup_form, parent_form, parents_form, part, parts, proxy_form, types_of, unary_form, valued}
@@ -136,14 +136,14 @@ module _ (a : Among) (at : CodePlace) (scope : Names) where
       let m = went (there 16 (method_for a.classes q.value.type word.text)) (λ m. called_by facts q.value qs.value m m.way) p qs.further in
       called q.value qs.value m.value m.value.way p (part_typed k q.value q.first) (parts_typed ks qs.value qs.first) m.further
   layer_typed (ExprText-F.Lookup answer k word ks) p h =
-      let kind = result_of a.home answer in
+      let kind = result_of a.module_of answer in
       let q = went (part (E k.0)) (λ on. parts (map E (texts ks)) >>= lookup_form a answer on word.text) p h in
       let qs = went (parts (map E (texts ks))) (lookup_form a answer q.value word.text) p q.further in
       typed (Expr-F.Lookup kind word.text q.value.expr (exprs_of qs.value)) (exprs.Lookup kind word.text q.value.expr (exprs_of qs.value)) (named_call_type facts kind q.value.type (types_of qs.value)) p
       (exprs.rolls-Lookup kind word.text q.value.expr (exprs_of qs.value))
       (both_steps (value (T q.value.expr)) (values (map T (exprs_of qs.value))) (named_call_type facts kind) q.value.type (types_of qs.value) (part_typed k q.value q.first) (parts_typed ks qs.value qs.first)) qs.further
   layer_typed (ExprText-F.Dispatch answer k word ks) p h =
-      let kind = result_of a.home answer in
+      let kind = result_of a.module_of answer in
       let q = went (part (E k.0)) (λ on. parts (map E (texts ks)) >>= dispatch_form a answer on word.text) p h in
       let qs = went (parts (map E (texts ks))) (dispatch_form a answer q.value word.text) p q.further in
       typed (Expr-F.Dispatch kind word.text q.value.expr (exprs_of qs.value)) (exprs.Dispatch kind word.text q.value.expr (exprs_of qs.value)) (named_call_type facts kind q.value.type (types_of qs.value)) p

@@ -12,10 +12,10 @@ use Rattle.som_typing.specs.declared.knowledge.Knowledge.{Knowledge}
 use Rattle.som_typing.specs.declared.code_place.TypeFault.{TypeFault}
 use Rattle.som_typing.specs.declared.code_place.TypeFault.TheVariants as types
 use Rattle.som_scope.specs.declared.scope.Scope.{Scope}
-use Rattle.som_scope.specs.Home.{home_in}
-use Rattle.som_forms.specs.declared.made.Made.{Made}
+use Rattle.som_scope.specs.ClassNames.{module_in_scope}
+use Rattle.som_forms.specs.declared.typed_expr.TypedExpr.{TypedExpr}
 use Rattle.som_forms.specs.declared.local.Local.{Local}
-use Rattle.som_forms.specs.declared.site.Site.{Site}
+use Rattle.som_forms.specs.declared.body_context.BodyContext.{BodyContext}
 use Rattle.som_forms.specs.declared.fault.BodyFault.{BodyFault}
 use Rattle.som_forms.specs.declared.fault.BodyFault.TheVariants as faults
 use Rattle.som_forms.specs.Locals.{Named, Names}
@@ -24,17 +24,17 @@ use Rattle.som_forms.specs.Statements.{Breaks, ManyLocals, Placed, Told}
 
 -- ---- where code stands
 
-abbrev pub classes_at : Site → List Class
+abbrev pub classes_at : BodyContext → List Class
 classes_at s = all_of s.known
 
 -- what bodies are elaborated among, where this is known and names stand for this
 abbrev pub among_by : Knowledge → Scope → Among
-among_by known scope = record { classes = all_of known; home = home_in scope }
+among_by known scope = record { classes = all_of known; module_of = module_in_scope scope }
 
-abbrev pub among_at : Site → Among
+abbrev pub among_at : BodyContext → Among
 among_at s = among_by s.known s.scope.now
 
-abbrev pub place_at : Site → CodePlace
+abbrev pub place_at : BodyContext → CodePlace
 place_at s = code_at (all_of s.known) s.at
 
 -- the class of a body has no more variables and parents than a byte can number
@@ -43,7 +43,7 @@ ClassFits cs None = Unit {0}
 ClassFits cs (Some place) = (length (class_of_place cs place).decl.variables ≤ MAX_VARIABLES) × (length (class_of_place cs place).decl.face.parents ≤ MAX_PARENTS)
 
 -- what is known is known, and the class of the body stands and is within the limits
-pub record IsSite (s : Site) : Type 0 where
+pub record IsBodyContext (s : BodyContext) : Type 0 where
   pub known : IsKnowledge s.known
   pub place : PlaceStands (all_of s.known) s.at
   pub fits : ClassFits (all_of s.known) s.at.class
@@ -65,12 +65,12 @@ pub record AreLocals (cs : List Class) (ls : List Local) : Type 0 where
 -- ---- expressions
 
 -- an expression with its type
-abbrev pub made_at : List Class → Made → Elaborated
-made_at cs m = record { expr = m.expr; type = kind_at cs m.kind }
+abbrev pub typed_at : List Class → TypedExpr → Elaborated
+typed_at cs m = record { expr = m.expr; type = kind_at cs m.kind }
 
 -- an expression is made, or the rule is told that it breaks; want of memory says nothing
-abbrev pub Makes : List Class → Elab → Result Made TypeFault → Type 0
-Makes cs comes (Ok m) = (comes ≡ Ok (made_at cs m)) × Stands cs m.kind
+abbrev pub Makes : List Class → Elab → Result TypedExpr TypeFault → Type 0
+Makes cs comes (Ok m) = (comes ≡ Ok (typed_at cs m)) × Stands cs m.kind
 Makes cs comes (Err fault) = Fails comes fault
 
 -- ---- statements and blocks

@@ -16,14 +16,14 @@ use Rattle.som_model.specs.Typing.{ClassFacts, CodePlace, ExprType, Of, PlainNil
 use Rattle.som_read.specs.declared.tree.TypeName.{TypeName}
 use Rattle.som_body.specs.declared.tree.ExprText.{ExprText, fold-ExprText}
 use Rattle.som_body.specs.declared.tree.ExprText.TheOpen.{ExprText-F}
-use Rattle.som_scope.specs.Home.{key_of, result_of}
+use Rattle.som_scope.specs.ClassNames.{key_of, result_of}
 use Rattle.som_forms.specs.Locals.{Names, kinds_of, local_of}
 use Rattle.som_forms.specs.Methods.{Method, method_of, method_for, own_method, variable_place, parent_place}
 
 -- what the texts of bodies are elaborated among: all classes, and the module of the class that a name stands for
 pub record Among : Type 0 where
   pub classes : List Class
-  pub home : List ℕ → Module
+  pub module_of : List ℕ → Module
 
 -- what typing asks of these classes
 abbrev pub facts_among : Among → ClassFacts
@@ -31,7 +31,7 @@ facts_among a = class_facts a.classes
 
 -- the class that a word names
 abbrev pub class_named : Among → List ℕ → ClassKey
-class_named a name = key_of a.home name
+class_named a name = key_of a.module_of name
 
 -- an expression with its type
 pub record Elaborated : Type 0 where
@@ -112,12 +112,12 @@ call_form a on name args = there 16 (method_for a.classes on.type name) >>= λ m
 -- a call by name, which asks for its result alone
 abbrev pub lookup_form : Among → Option TypeName → Elaborated → List ℕ → List Elaborated → Elab
 lookup_form a answer on name args =
-    formed (exprs.Lookup (result_of a.home answer) name on.expr (exprs_of args)) (named_call_type (facts_among a) (result_of a.home answer) on.type (types_of args))
+    formed (exprs.Lookup (result_of a.module_of answer) name on.expr (exprs_of args)) (named_call_type (facts_among a) (result_of a.module_of answer) on.type (types_of args))
 
 -- the same by dispatch
 abbrev pub dispatch_form : Among → Option TypeName → Elaborated → List ℕ → List Elaborated → Elab
 dispatch_form a answer on name args =
-    formed (exprs.Dispatch (result_of a.home answer) name on.expr (exprs_of args)) (named_call_type (facts_among a) (result_of a.home answer) on.type (types_of args))
+    formed (exprs.Dispatch (result_of a.module_of answer) name on.expr (exprs_of args)) (named_call_type (facts_among a) (result_of a.module_of answer) on.type (types_of args))
 
 -- a call of the method that a parent of the body's class has
 abbrev pub parent_form : Among → CodePlace → List ℕ → List ℕ → List Elaborated → Elab

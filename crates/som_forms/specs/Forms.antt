@@ -18,20 +18,20 @@ use Rattle.som_typing.specs.Knowing.{facts_of}
 use Rattle.som_rules.specs.Places.{key_at}
 use Rattle.som_body.specs.declared.tree.ExprText.{ExprText}
 use Rattle.som_forms.specs.declared.local.Local.{Local}
-use Rattle.som_forms.specs.declared.made.Made.{Made}
-use Rattle.som_forms.specs.declared.methods.Found.{Found}
+use Rattle.som_forms.specs.declared.typed_expr.TypedExpr.{TypedExpr}
+use Rattle.som_forms.specs.declared.methods.FoundMethod.{FoundMethod}
 use Rattle.som_forms.specs.declared.parts.Parts.{Parts}
-use Rattle.som_forms.specs.declared.site.Site.{Site}
+use Rattle.som_forms.specs.declared.body_context.BodyContext.{BodyContext}
 use Rattle.som_forms.specs.Methods.{Method, introduced_method, method_by, method_of}
 use Rattle.som_forms.specs.Expressions.{Among, Elab, Elaborated, elaborated, exprs_of, facts_among, formed, part, parts, types_of}
-use Rattle.som_forms.specs.Code.{among_at, classes_at, made_at, names_at, place_at}
+use Rattle.som_forms.specs.Code.{among_at, classes_at, typed_at, names_at, place_at}
 
 -- the facts of the classes
-abbrev pub facts_at : Site → ClassFacts
+abbrev pub facts_at : BodyContext → ClassFacts
 facts_at s = facts_of s.known
 
 -- what a text comes to among these locals
-abbrev pub elab_at : Site → List Local → ExprText → Elab
+abbrev pub elab_at : BodyContext → List Local → ExprText → Elab
 elab_at s ls e = elaborated (among_at s) (place_at s) (names_at (classes_at s) ls) e
 
 -- the place of a local of that name
@@ -46,11 +46,11 @@ abbrev pub of_all : List Elab → (List Elaborated → Elab) → Elab
 of_all es form = parts es >>= form
 
 -- the method of that name that is found
-abbrev pub method_at : List Class → List ℕ → Found → Method
+abbrev pub method_at : List Class → List ℕ → FoundMethod → Method
 method_at cs name m = record { ref = record { class = key_at cs m.class; name = name }; sig = m.sig.now; way = m.way }
 
 -- the method is found whose class stands, or there is none
-abbrev pub Finds : List Class → List ℕ → Option Method → Option Found → Type 0
+abbrev pub Finds : List Class → List ℕ → Option Method → Option FoundMethod → Type 0
 Finds cs name method None = method ≡ None
 Finds cs name method (Some m) = (method ≡ Some (method_at cs name m)) × (m.class < length cs)
 
@@ -82,8 +82,8 @@ pub record AreMade (cs : List Class) (comes : Ruled (List Elaborated)) (ps : Par
   pub are : AreParts cs ps
 
 -- one more part
-pub record Adds (cs : List Class) (before : Parts) (m : Made) (after : Parts) : Type 0 where
-  pub parts : parts_at cs after ≡ parts_at cs before ++ made_at cs m ∷ []
+pub record Adds (cs : List Class) (before : Parts) (m : TypedExpr) (after : Parts) : Type 0 where
+  pub parts : parts_at cs after ≡ parts_at cs before ++ typed_at cs m ∷ []
   pub are : AreParts cs after
 
 -- the type that is looked up

@@ -19,7 +19,7 @@ use Rattle.som_body.specs.declared.tree.BlockText.{BlockText}
 use Rattle.som_typing.specs.declared.kind.Kind.{Kind}
 use Rattle.som_typing.specs.Kinds.{IsType, type_at}
 use Rattle.som_forms.specs.declared.local.Local.{Local}
-use Rattle.som_forms.specs.declared.site.Site.{Site}
+use Rattle.som_forms.specs.declared.body_context.BodyContext.{BodyContext}
 use Rattle.som_forms.specs.declared.fault.BodyFault.{BodyFault}
 use Rattle.som_forms.specs.Locals.{Names}
 use Rattle.som_forms.specs.Expressions.{Elab, Elaborated, elaborated, elaborated_value}
@@ -28,23 +28,23 @@ use Rattle.som_forms.specs.MethodBody.{parameters}
 use Rattle.som_forms.specs.Code.{AreLocals, Stops, among_at, classes_at, names_at, place_at}
 
 -- the names of the locals in scope
-abbrev pub names_in : Site → List Local → Names
+abbrev pub names_in : BodyContext → List Local → Names
 names_in s ls = names_at (classes_at s) ls
 
 -- what the text of an expression comes to among these locals
-abbrev pub expr_in : Site → List Local → ExprText → Elab
+abbrev pub expr_in : BodyContext → List Local → ExprText → Elab
 expr_in s ls e = elaborated (among_at s) (place_at s) (names_in s ls) e
 
 -- the same of one that has a value
-abbrev pub value_in : Site → List Local → ExprText → Elab
+abbrev pub value_in : BodyContext → List Local → ExprText → Elab
 value_in s ls e = elaborated_value (among_at s) (place_at s) (names_in s ls) e
 
 -- what the text of a statement comes to
-abbrev pub stmt_in : Site → List Local → StmtText → Told Placed
+abbrev pub stmt_in : BodyContext → List Local → StmtText → Told Placed
 stmt_in s ls t = elaborated_stmt (among_at s) (place_at s) t (names_in s ls)
 
 -- what the text of a block comes to
-abbrev pub block_in : Site → List Local → BlockText → Told Block
+abbrev pub block_in : BodyContext → List Local → BlockText → Told Block
 block_in s ls b = elaborated_block (among_at s) (place_at s) b (names_in s ls)
 
 -- a statement by its value, which declares nothing

@@ -12,7 +12,7 @@ use Rattle.som_body.specs.declared.tree.ExprText.{ExprText}
 use Rattle.som_body.specs.declared.tree.StmtText.{StmtText, fold-StmtText}
 use Rattle.som_body.specs.declared.tree.StmtText.TheOpen.{StmtText-F, BlockText-F}
 use Rattle.som_body.specs.declared.tree.BlockText.{BlockText, fold-BlockText}
-use Rattle.som_scope.specs.Home.{type_of}
+use Rattle.som_scope.specs.ClassNames.{type_of}
 use Rattle.som_forms.specs.Locals.{Named, Names, in_scope, kinds_of, local_of}
 use Rattle.som_forms.specs.Methods.{variable_place}
 use Rattle.som_forms.specs.Expressions.{Among, Elaborated, elaborated, elaborated_value, facts_among}
@@ -100,7 +100,7 @@ block_step b scope = in_turn b.statements scope >>= λ ss. Ok (record { statemen
 
 -- a statement, by what its blocks come to; what a block declares is in scope to its own end alone
 abbrev pub stmt_step : Among → CodePlace → StmtText-F StmtElab BlockElab → StmtElab
-stmt_step a at (StmtText-F.Var name kind e) scope = ruled (elaborated_value a at scope e) >>= declared a scope name.text (type_of a.home kind)
+stmt_step a at (StmtText-F.Var name kind e) scope = ruled (elaborated_value a at scope e) >>= declared a scope name.text (type_of a.module_of kind)
 stmt_step a at (StmtText-F.Set name e) scope = ruled (elaborated_value a at scope e >>= set_local a scope name.text)
 stmt_step a at (StmtText-F.SetVariable name e) scope = ruled (elaborated_value a at scope e >>= set_variable a at scope name.text)
 stmt_step a at (StmtText-F.If e b c) scope =

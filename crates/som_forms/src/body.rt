@@ -12,9 +12,9 @@ ghost use Rattle.som_typing.specs.Knowing.{IsKnowledge, all_of, sig_is_known};
 ghost use Rattle.std.specs.Prelude.{◌≡◌, ◌≤◌, ◌⊎◌, true, length, is_some, [], IfOk, Some};
 ghost use Rattle.std.specs.Str.{bytes_eq};
 
+use crate::body_context::BodyContext;
 use crate::fault::BodyFault;
 use crate::local::Local;
-use crate::site::Site;
 use crate::statements::block;
 use indexmap::IndexSet;
 use som_body::{BlockText, BodyText};
@@ -51,12 +51,12 @@ pub fn method_body(
         class: Some(class),
         result: known_kind(known, &sig.result),
     };
-    let site = Site {
+    let context = BodyContext {
         known: *known,
         scope,
         at,
     };
-    block(alloc, &site, &mut locals, &text.block)
+    block(alloc, &context, &mut locals, &text.block)
 }
 
 // Whether a word stands a second time.
@@ -123,11 +123,11 @@ pub fn main_body(
         class: None,
         result: Kind::Void,
     };
-    let site = Site {
+    let context = BodyContext {
         known: *known,
         scope,
         at,
     };
     let mut locals = Vec::new(alloc);
-    block(alloc, &site, &mut locals, text)
+    block(alloc, &context, &mut locals, text)
 }

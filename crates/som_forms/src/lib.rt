@@ -2,12 +2,12 @@
 #![tactic(auto)]
 
 mod body;
+mod body_context;
 mod calls;
 mod expressions;
 mod fault;
 mod leaves;
 mod local;
-mod made;
 mod methods;
 mod names;
 mod operators;
@@ -15,13 +15,13 @@ mod parent_calls;
 mod parts;
 mod plain_statements;
 mod scoping;
-mod site;
 mod statements;
+mod typed_expr;
 
 pub use body::{main_body, method_body};
+pub use body_context::BodyContext;
 pub use expressions::{expression, value_expression};
 pub use fault::BodyFault;
 pub use local::Local;
-pub use made::Made;
-pub use site::Site;
 pub use statements::block;
+pub use typed_expr::TypedExpr;

@@ -18,14 +18,14 @@ use std::alloc::Global;
 
 /// A method that is found: the place of the class that introduces it, its signature and the way in which it is called.
 #[derive(Clone, Copy)]
-pub struct Found<'a> {
+pub struct FoundMethod<'a> {
     pub class: usize,
     pub sig: &'a Sig,
     pub way: Way,
 }
 
 /// The method of a name that the class at a place has: that of its first ancestor that introduces the name.
-pub fn method_of<'a>(known: &Knowledge<'a>, class: usize, name: &Text) -> Option<Found<'a>>
+pub fn method_of<'a>(known: &Knowledge<'a>, class: usize, name: &Text) -> Option<FoundMethod<'a>>
     requires known { IsKnowledge known.now }
     requires class { class < length (all_of known.now) }
     ensures { Finds (all_of known.now) name.now (spec.method_of (all_of known.now) (key_at (all_of known.now) class) name.now) result }
@@ -51,7 +51,11 @@ fn list_at(lists: &[List<usize>], place: usize) -> &[usize]
 }
 
 // The method of the first of these classes that introduces the name.
-fn first_introducing<'a>(known: &Knowledge<'a>, list: &[usize], name: &Text) -> Option<Found<'a>>
+fn first_introducing<'a>(
+    known: &Knowledge<'a>,
+    list: &[usize],
+    name: &Text,
+) -> Option<FoundMethod<'a>>
     requires known { IsKnowledge known.now }
     requires list { (a : ℕ) → Mem a list.now → a < length (all_of known.now) }
     ensures { Finds (all_of known.now) name.now (first_method (all_of known.now) name.now list.now) result }
@@ -66,14 +70,14 @@ fn first_introducing<'a>(known: &Knowledge<'a>, list: &[usize], name: &Text) -> 
 }
 
 // The method of that name, if the class at the place introduces it.
-fn introduced<'a>(known: &Knowledge<'a>, place: usize, name: &Text) -> Option<Found<'a>>
+fn introduced<'a>(known: &Knowledge<'a>, place: usize, name: &Text) -> Option<FoundMethod<'a>>
     requires known { IsKnowledge known.now }
     requires place { place < length (all_of known.now) }
     ensures { Finds (all_of known.now) name.now (method_by_entry (key_at (all_of known.now) place) name.now
         (entry_of (face_at (all_of known.now) place).entries name.now)) result }
 {
     match find_entry(entries_of(known, place), name) {
-        Some(Entry::Introduced { sig, way, .. }) => Some(Found {
+        Some(Entry::Introduced { sig, way, .. }) => Some(FoundMethod {
             class: place,
             sig,
             way: *way,
@@ -83,7 +87,7 @@ fn introduced<'a>(known: &Knowledge<'a>, place: usize, name: &Text) -> Option<Fo
 }
 
 /// The method of a name that an object of a kind has.
-pub fn method_for<'a>(known: &Knowledge<'a>, kind: Kind, name: &Text) -> Option<Found<'a>>
+pub fn method_for<'a>(known: &Knowledge<'a>, kind: Kind, name: &Text) -> Option<FoundMethod<'a>>
     requires known { IsKnowledge known.now }
     requires kind { Stands (all_of known.now) kind }
     ensures { Finds (all_of known.now) name.now (spec.method_for (all_of known.now) (kind_at (all_of known.now) kind) name.now) result }
@@ -95,7 +99,7 @@ pub fn method_for<'a>(known: &Knowledge<'a>, kind: Kind, name: &Text) -> Option<
 }
 
 /// The method of a name that the class of a body has.
-pub fn own_method<'a>(known: &Knowledge<'a>, at: &CodePlace, name: &Text) -> Option<Found<'a>>
+pub fn own_method<'a>(known: &Knowledge<'a>, at: &CodePlace, name: &Text) -> Option<FoundMethod<'a>>
     requires known { IsKnowledge known.now }
     requires place { PlaceStands (all_of known.now) at.now }
     ensures { Finds (all_of known.now) name.now (spec.own_method (all_of known.now) (code_at (all_of known.now) at.now).class name.now) result }
@@ -138,11 +142,11 @@ fn key_of_place(alloc: Global, known: &Knowledge, class: usize) -> Result<ClassK
     }
 }
 
-fn named(alloc: Global, home: Module, name: &Text) -> Result<ClassKey, NoMemory>
-    ensures { IfOk result (λ (k : Key). k ≡ keys.Named home name.now) }
+fn named(alloc: Global, own_module: Module, name: &Text) -> Result<ClassKey, NoMemory>
+    ensures { IfOk result (λ (k : Key). k ≡ keys.Named own_module name.now) }
 {
     Ok(ClassKey::Named {
-        module: home,
+        module: own_module,
         name: name.copy(alloc)?,
     })
 }

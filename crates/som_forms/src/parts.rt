@@ -1,4 +1,4 @@
-ghost use Rattle.som_forms.specs.Code.{Makes, made_at};
+ghost use Rattle.som_forms.specs.Code.{Makes, typed_at};
 ghost use Rattle.som_forms.specs.Expressions as spec;
 ghost use Rattle.som_forms.specs.Forms.{Adds, AreParts, parts_at};
 ghost use Rattle.som_model.specs.Class.{Class};
@@ -6,7 +6,7 @@ ghost use Rattle.som_model.specs.Typing.{Typed};
 ghost use Rattle.som_typing.specs.Kinds.{Comes, Stands};
 ghost use Rattle.std.specs.Prelude.{◌≡◌, List as Seq, [], OnOk};
 
-use crate::made::Made;
+use crate::typed_expr::TypedExpr;
 use som_model::{Boxed, Expr, List, NoMemory};
 use som_typing::{Kind, TypeFault, is_nothing};
 use std::alloc::Global;
@@ -30,18 +30,18 @@ pub fn no_parts(alloc: Global) -> Parts
 }
 
 /// One more part.
-pub fn add(parts: &mut Parts, made: Made) -> Result<(), NoMemory>
+pub fn add(parts: &mut Parts, made: TypedExpr) -> Result<(), NoMemory>
     ensures { OnOk result ((cs : Seq Class) → AreParts cs parts.old → Stands cs made.kind → Adds cs parts.old made parts.new) }
 {
-    let Made { expr, kind } = made;
+    let TypedExpr { expr, kind } = made;
     parts.exprs.push(expr.into_inner())?;
     parts.kinds.push(kind)?;
     Ok(())
 }
 
 /// A part of a larger expression has a value, or rule 20 is broken.
-pub fn valued(made: Made) -> Result<Made, TypeFault>
-    ensures { (cs : Seq Class) → Stands cs made.kind → Makes cs (spec.valued (made_at cs made)) result }
+pub fn valued(made: TypedExpr) -> Result<TypedExpr, TypeFault>
+    ensures { (cs : Seq Class) → Stands cs made.kind → Makes cs (spec.valued (typed_at cs made)) result }
 {
     if is_nothing(made.kind) {
         Err(TypeFault::Rule(20))
@@ -51,10 +51,10 @@ pub fn valued(made: Made) -> Result<Made, TypeFault>
 }
 
 /// An expression with the kind that its form has.
-pub fn formed(alloc: Global, expr: Expr, kind: Result<Kind, u8>) -> Result<Made, TypeFault>
+pub fn formed(alloc: Global, expr: Expr, kind: Result<Kind, u8>) -> Result<TypedExpr, TypeFault>
     ensures { (cs : Seq Class) (type : Typed) → Comes cs type kind → Makes cs (spec.formed expr type) result }
 {
     let expr = Boxed::new(alloc, expr)?;
     let kind = kind?;
-    Ok(Made { expr, kind })
+    Ok(TypedExpr { expr, kind })
 }

@@ -1,7 +1,7 @@
 ghost use Rattle.som_model.specs.Kernel.{kernel_interface};
 ghost use Rattle.som_order.specs.Names.{texts};
-ghost use Rattle.som_scope.specs.Home as homes;
-ghost use Rattle.som_scope.specs.Home.{home_in, kernel_names};
+ghost use Rattle.som_scope.specs.ClassNames as names_of_classes;
+ghost use Rattle.som_scope.specs.ClassNames.{kernel_names, module_in_scope};
 ghost use Rattle.som_scope.specs.Words as words;
 ghost use Rattle.som_scope.specs.Words.{lent, once};
 ghost use Rattle.std.specs.Prelude.{◌≡◌, map, IfOk};
@@ -25,18 +25,18 @@ pub struct Scope<'a, 'b, 'k> {
 /// What names may stand for in texts of a module that is compiled against a base.
 pub fn scope_of<'a, 'b, 'k>(
     alloc: Global,
-    home: Module,
+    own_module: Module,
     base: &'b [ClassFace],
     kernel: &'k [ClassFace],
     interfaces: &[&'a IdlInterface],
 ) -> Result<Scope<'a, 'b, 'k>, NoMemory>
     requires { kernel.now ≡ kernel_interface.classes }
-    ensures home { IfOk result (λ scope. scope.module ≡ home) }
-    ensures names { IfOk result (λ scope. home_in scope ≡ homes.home home (once (words.interface_names (lent interfaces.now)))
-        (once (homes.face_names base.now)) kernel_names) }
+    ensures own { IfOk result (λ scope. scope.module ≡ own_module) }
+    ensures names { IfOk result (λ scope. module_in_scope scope ≡ names_of_classes.module_by_names own_module (once (words.interface_names (lent interfaces.now)))
+        (once (names_of_classes.face_names base.now)) kernel_names) }
 {
     Ok(Scope {
-        module: home,
+        module: own_module,
         own: interface_names(alloc, interfaces)?,
         base: face_names(alloc, base)?,
         kernel: face_names(alloc, kernel)?,
@@ -44,8 +44,8 @@ pub fn scope_of<'a, 'b, 'k>(
 }
 
 /// The module of the class that a name stands for.
-pub fn home_of(scope: &Scope, name: &[u8]) -> Module
-    ensures { result ≡ home_in scope.now name.now }
+pub fn module_of(scope: &Scope, name: &[u8]) -> Module
+    ensures { result ≡ module_in_scope scope.now name.now }
 {
     if find_name(&scope.own, name).is_some() {
         scope.module
@@ -60,17 +60,17 @@ pub fn home_of(scope: &Scope, name: &[u8]) -> Module
 
 /// The key of the class that a name stands for.
 pub fn key_of(alloc: Global, scope: &Scope, name: &[u8]) -> Result<ClassKey, NoMemory>
-    ensures { IfOk result (λ key. key ≡ homes.key_of (home_in scope.now) name.now) }
+    ensures { IfOk result (λ key. key ≡ names_of_classes.key_of (module_in_scope scope.now) name.now) }
 {
     Ok(ClassKey::Named {
-        module: home_of(scope, name),
+        module: module_of(scope, name),
         name: Text::from_slice(alloc, name)?,
     })
 }
 
 /// The keys of the classes that names stand for.
 pub fn keys_of(alloc: Global, scope: &Scope, names: &[&[u8]]) -> Result<List<ClassKey>, NoMemory>
-    ensures { IfOk result (λ keys. keys ≡ map (homes.key_of (home_in scope.now)) (texts names.now)) }
+    ensures { IfOk result (λ keys. keys ≡ map (names_of_classes.key_of (module_in_scope scope.now)) (texts names.now)) }
 {
     let mut keys = List::new(alloc);
     for name in names {
@@ -81,7 +81,7 @@ pub fn keys_of(alloc: Global, scope: &Scope, names: &[&[u8]]) -> Result<List<Cla
 
 /// The type that is written.
 pub fn type_of(alloc: Global, scope: &Scope, kind: &TypeName) -> Result<ValueType, NoMemory>
-    ensures { IfOk result (λ t. t ≡ homes.type_of (home_in scope.now) kind.now) }
+    ensures { IfOk result (λ t. t ≡ names_of_classes.type_of (module_in_scope scope.now) kind.now) }
 {
     match kind {
         TypeName::Long => Ok(ValueType::Long),
@@ -97,7 +97,7 @@ pub fn result_of(
     scope: &Scope,
     kind: &Option<TypeName>,
 ) -> Result<ValueType, NoMemory>
-    ensures { IfOk result (λ t. t ≡ homes.result_of (home_in scope.now) kind.now) }
+    ensures { IfOk result (λ t. t ≡ names_of_classes.result_of (module_in_scope scope.now) kind.now) }
 {
     match kind {
         None => Ok(ValueType::Void),

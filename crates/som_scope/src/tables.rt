@@ -1,5 +1,5 @@
 ghost use Rattle.som_order.specs.Names.{texts};
-ghost use Rattle.som_scope.specs.Home as homes;
+ghost use Rattle.som_scope.specs.ClassNames as names_of_classes;
 ghost use Rattle.som_scope.specs.Words as words;
 ghost use Rattle.som_scope.specs.Words.{lent, once};
 ghost use Rattle.std.specs.Prelude.{◌≡◌, ◌++◌, ◌∷◌, [], IfOk, OnOk};
@@ -31,7 +31,7 @@ pub fn table_of<'a>(alloc: Global, names: &[&'a [u8]]) -> Result<IndexSet<&'a [u
 
 /// A table of the names of faces.
 pub fn face_names(alloc: Global, faces: &[ClassFace]) -> Result<IndexSet<&[u8]>, NoMemory>
-    ensures { IfOk result (λ known. texts known.keys ≡ once (homes.face_names faces.now)) }
+    ensures { IfOk result (λ known. texts known.keys ≡ once (names_of_classes.face_names faces.now)) }
 {
     let mut names = Vec::new(alloc);
     for face in faces {

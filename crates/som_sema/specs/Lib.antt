@@ -1,8 +1,8 @@
 pub mod Items
-pub mod Sketch
+pub mod Drafts
 pub mod Finished
 pub mod Noted
 pub mod TextRules
-pub mod Walks
+pub mod Ancestry
 pub mod Building
 pub mod PlainTexts

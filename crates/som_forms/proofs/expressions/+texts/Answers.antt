@@ -2,7 +2,7 @@ use Rattle.std.proofs.Common.{◌<◌, List, length, slice_index_or, map, sym, a
 use Rattle.std.proofs.lemmas.Result.{err_from_is_err_and}
 use Rattle.som_body.specs.declared.tree.ExprText.{ExprText}
 use Rattle.som_forms.specs.Expressions.{binary_form, host_form, parent_form, part, parts, unary_form}
-use Rattle.som_forms.specs.Code.{Makes, among_at, classes_at, made_at, names_at, place_at}
+use Rattle.som_forms.specs.Code.{Makes, among_at, classes_at, typed_at, names_at, place_at}
 use Rattle.som_forms.specs.Forms.{elab_at, of_all, parts_at}
 use Rattle.som_forms.proofs.ElabLaws.{call_goes_on, dispatch_goes_on, literal_elab, lookup_goes_on, makes_as, parent_elab, parents_elab}
 use Rattle.som_forms.proofs.PartLaws.{one_goes_on, part_goes_on, parts_fail, parts_go_on, parts_start}
@@ -10,7 +10,7 @@ use Rattle.som_forms.proofs.expressions.+texts.Goals as goal
 
 pub expression-returns-in-Literal : goal.expression-returns-in-Literal
 expression-returns-in-Literal t c =
-    let s = c.args.site.now in
+    let s = c.args.context.now in
     let ls = c.args.locals.now in
     let e = c.in-Literal in
     makes_as (classes_at s) (elab_at s ls) _ _ _ c.literal.result e.is
@@ -18,7 +18,7 @@ expression-returns-in-Literal t c =
 
 pub expression-returns-in-Parent : goal.expression-returns-in-Parent
 expression-returns-in-Parent t c =
-    let s = c.args.site.now in
+    let s = c.args.context.now in
     let ls = c.args.locals.now in
     let e = c.in-Parent in
     makes_as (classes_at s) (elab_at s ls) _ _ _ c.parent_text.result e.is
@@ -27,7 +27,7 @@ expression-returns-in-Parent t c =
 
 pub expression-returns-in-Parents : goal.expression-returns-in-Parents
 expression-returns-in-Parents t c =
-    let s = c.args.site.now in
+    let s = c.args.context.now in
     let ls = c.args.locals.now in
     let e = c.in-Parents in
     makes_as (classes_at s) (elab_at s ls) _ _ _ c.parents_text.result e.is
@@ -35,37 +35,37 @@ expression-returns-in-Parents t c =
 
 pub expression-returns-in_ok-receiver-in-Call : goal.expression-returns-in_ok-receiver-in-Call
 expression-returns-in_ok-receiver-in-Call t c =
-    let s = c.args.site.now in
+    let s = c.args.context.now in
     let ls = c.args.locals.now in
     let e = c.in-Call in
     let on = c.in_ok-receiver-in-Call in
     makes_as (classes_at s) (elab_at s ls) _ _ _ c.call_text.result e.is
-    (call_goes_on (among_at s) (place_at s) (names_at (classes_at s) ls) e.receiver e.method e.args (made_at (classes_at s) on.receiver)
+    (call_goes_on (among_at s) (place_at s) (names_at (classes_at s) ls) e.receiver e.method e.args (typed_at (classes_at s) on.receiver)
     (ap (λ z. part (elab_at s ls z)) (sym c.get-in-Call.ensures) ∙ on.ensures.0)) c.call_text.ensures
 
 pub expression-returns-in_ok-on-in-Lookup : goal.expression-returns-in_ok-on-in-Lookup
 expression-returns-in_ok-on-in-Lookup t c =
-    let s = c.args.site.now in
+    let s = c.args.context.now in
     let ls = c.args.locals.now in
     let e = c.in-Lookup in
     let on = c.in_ok-on-in-Lookup in
     makes_as (classes_at s) (elab_at s ls) _ _ _ c.lookup_text.result e.is
-    (lookup_goes_on (among_at s) (place_at s) (names_at (classes_at s) ls) e.answer e.receiver e.method e.args (made_at (classes_at s) on.on)
+    (lookup_goes_on (among_at s) (place_at s) (names_at (classes_at s) ls) e.answer e.receiver e.method e.args (typed_at (classes_at s) on.on)
     (ap (λ z. part (elab_at s ls z)) (sym c.get-in-Lookup.ensures) ∙ on.ensures.0)) c.lookup_text.ensures
 
 pub expression-returns-in_ok-on-in-Dispatch : goal.expression-returns-in_ok-on-in-Dispatch
 expression-returns-in_ok-on-in-Dispatch t c =
-    let s = c.args.site.now in
+    let s = c.args.context.now in
     let ls = c.args.locals.now in
     let e = c.in-Dispatch in
     let on = c.in_ok-on-in-Dispatch in
     makes_as (classes_at s) (elab_at s ls) _ _ _ c.dispatch_text.result e.is
-    (dispatch_goes_on (among_at s) (place_at s) (names_at (classes_at s) ls) e.answer e.receiver e.method e.args (made_at (classes_at s) on.on)
+    (dispatch_goes_on (among_at s) (place_at s) (names_at (classes_at s) ls) e.answer e.receiver e.method e.args (typed_at (classes_at s) on.on)
     (ap (λ z. part (elab_at s ls z)) (sym c.get-in-Dispatch.ensures) ∙ on.ensures.0)) c.dispatch_text.ensures
 
 pub parts_of_texts-loop-text-preserved : goal.parts_of_texts-loop-text-preserved
 parts_of_texts-loop-text-preserved t c =
-    let s = c.args.site.now in
+    let s = c.args.context.now in
     let ls = c.args.locals.now in
     let es = c.args.texts.now in
     let i = c.loop-text.text-index in
@@ -76,13 +76,13 @@ parts_of_texts-loop-text-preserved t c =
     let is = c.text-item.is ∙ ap (λ (z : List ExprText). slice_index_or z i e) c.as_slice-text-items.ensures in
     let added = c.in_ok-add.ensures cs c.loop-text.invariant.are one.ensures.1 in
     record {
-      made = parts_go_on cs (elab_at s ls) es (parts_at cs c.loop-text.made) i c.loop-text.invariant.made _ e (made_at cs one.one) (parts_at cs c.add.new.parts) (omega arith) lt is one.ensures.0 added.parts;
+      made = parts_go_on cs (elab_at s ls) es (parts_at cs c.loop-text.made) i c.loop-text.invariant.made _ e (typed_at cs one.one) (parts_at cs c.add.new.parts) (omega arith) lt is one.ensures.0 added.parts;
       are = added.are;
     }
 
 pub parts_of_texts-loop-text-init : goal.parts_of_texts-loop-text-init
 parts_of_texts-loop-text-init t c =
-    let s = c.args.site.now in
+    let s = c.args.context.now in
     let cs = classes_at s in
     record {
       made = parts_start (parts_at cs c.no_parts-made.result) (parts (map (elab_at s c.args.locals.now) c.args.texts.now)) (c.no_parts-made.ensures.parts cs);
@@ -91,7 +91,7 @@ parts_of_texts-loop-text-init t c =
 
 pub parts_of_texts-returns-in_err-one-clause-fault : goal.parts_of_texts-returns-in_err-one-clause-fault
 parts_of_texts-returns-in_err-one-clause-fault t c =
-    let s = c.args.site.now in
+    let s = c.args.context.now in
     let ls = c.args.locals.now in
     let es = c.args.texts.now in
     let i = c.loop-text.text-index in
@@ -103,28 +103,28 @@ parts_of_texts-returns-in_err-one-clause-fault t c =
 
 pub value_expression-returns : goal.value_expression-returns
 value_expression-returns t c =
-    let s = c.args.site.now in
+    let s = c.args.context.now in
     let cs = classes_at s in
     let made = c.in_ok-made in
-    part_goes_on cs (elab_at s c.args.locals.now c.args.text.now) (made_at cs made.made) c.valued.result made.ensures.0 (c.valued.ensures cs made.ensures.1)
+    part_goes_on cs (elab_at s c.args.locals.now c.args.text.now) (typed_at cs made.made) c.valued.result made.ensures.0 (c.valued.ensures cs made.ensures.1)
 
 pub unary_text-returns : goal.unary_text-returns
 unary_text-returns t c =
-    let s = c.args.site.now in
+    let s = c.args.context.now in
     let cs = classes_at s in
     let part = c.in_ok-part in
-    one_goes_on cs c.get.result.now c.args.of.now (elab_at s c.args.locals.now) (unary_form c.args.op) (made_at cs part.part) c.unary.result c.get.ensures part.ensures.0 (c.unary.ensures cs)
+    one_goes_on cs c.get.result.now c.args.of.now (elab_at s c.args.locals.now) (unary_form c.args.op) (typed_at cs part.part) c.unary.result c.get.ensures part.ensures.0 (c.unary.ensures cs)
 
 pub binary_text-returns : goal.binary_text-returns
 binary_text-returns t c =
-    let s = c.args.site.now in
+    let s = c.args.context.now in
     let cs = classes_at s in
     let right = c.in_ok-right in
-    one_goes_on cs c.get.result.now c.args.right.now (elab_at s c.args.locals.now) (binary_form c.args.op (made_at cs c.args.left)) (made_at cs right.right) c.binary.result c.get.ensures right.ensures.0 (c.binary.ensures cs)
+    one_goes_on cs c.get.result.now c.args.right.now (elab_at s c.args.locals.now) (binary_form c.args.op (typed_at cs c.args.left)) (typed_at cs right.right) c.binary.result c.get.ensures right.ensures.0 (c.binary.ensures cs)
 
 pub host_text-returns : goal.host_text-returns
 host_text-returns t c =
-    let s = c.args.site.now in
+    let s = c.args.context.now in
     let cs = classes_at s in
     let right = c.in_ok-right in
-    one_goes_on cs c.get.result.now c.args.right.now (elab_at s c.args.locals.now) (host_form c.args.code (made_at cs c.args.left)) (made_at cs right.right) c.host.result c.get.ensures right.ensures.0 (c.host.ensures cs)
+    one_goes_on cs c.get.result.now c.args.right.now (elab_at s c.args.locals.now) (host_form c.args.code (typed_at cs c.args.left)) (typed_at cs right.right) c.host.result c.get.ensures right.ensures.0 (c.host.ensures cs)

@@ -7,6 +7,6 @@ use Rattle.som_forms.proofs.expressions.+texts.Given as goal
 
 abbrev pub invariant-parts_of_texts-loop-text : goal.invariant-parts_of_texts-loop-text
 invariant-parts_of_texts-loop-text l = record {
-  made : parts (map (elab_at l.site l.locals) l.texts) ≡ after_parts (parts_at (classes_at l.site) l.made) (parts (map (elab_at l.site l.locals) (drop l.text-index l.texts)));
-  are : AreParts (classes_at l.site) l.made;
+  made : parts (map (elab_at l.context l.locals) l.texts) ≡ after_parts (parts_at (classes_at l.context) l.made) (parts (map (elab_at l.context l.locals) (drop l.text-index l.texts)));
+  are : AreParts (classes_at l.context) l.made;
 }

@@ -6,6 +6,6 @@ use Rattle.som_forms.proofs.leaves.new_object.Goals as goal
 
 pub returns : goal.returns
 returns c =
-    let s = c.args.site.now in
+    let s = c.args.context.now in
     let k = c.in_ok-class.class in
     new_made (classes_at s) (among_at s) c.args.name.now k c.formed.result c.in_ok-class.ensures (c.formed.ensures (classes_at s) (new_type (facts_at s) k) c.new_kind-kind.ensures)

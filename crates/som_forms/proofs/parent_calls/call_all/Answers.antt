@@ -9,7 +9,7 @@ use Rattle.som_forms.proofs.parent_calls.call_all.Goals as goal
 
 pub returns : goal.returns
 returns c =
-    let s = c.args.site.now in
+    let s = c.args.context.now in
     let cs = classes_at s in
     let ks = c.as_slice.result.now in
     let method = c.in_ok-method.method in

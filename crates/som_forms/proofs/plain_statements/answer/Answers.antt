@@ -9,6 +9,6 @@ use Rattle.som_forms.proofs.plain_statements.answer.Goals as goal
 
 pub returns-in-None : goal.returns-in-None
 returns-in-None c =
-    let cs = classes_at c.args.site.now in
-    rw c.in-None.is (kept cs c.args.locals.now (ruled (returned (among_at c.args.site.now) (place_at c.args.site.now) (names_in c.args.site.now c.args.locals.now) None)) 19 c.is_nothing.result _ _ c.demanded.result
-    refl (c.is_nothing.ensures cs ∙ ap is_nothing (type_kind cs c.args.site.now.at.result c.requires.site.place.result)) c.demanded.ensures)
+    let cs = classes_at c.args.context.now in
+    rw c.in-None.is (kept cs c.args.locals.now (ruled (returned (among_at c.args.context.now) (place_at c.args.context.now) (names_in c.args.context.now c.args.locals.now) None)) 19 c.is_nothing.result _ _ c.demanded.result
+    refl (c.is_nothing.ensures cs ∙ ap is_nothing (type_kind cs c.args.context.now.at.result c.requires.context.place.result)) c.demanded.ensures)

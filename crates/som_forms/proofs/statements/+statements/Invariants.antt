@@ -7,7 +7,7 @@ use Rattle.som_forms.proofs.TextSteps.{IsPart}
 use Rattle.som_forms.proofs.statements.+statements.Given as goal
 
 abbrev pub invariant-block-loop-part : goal.invariant-block-loop-part
-invariant-block-loop-part l = IsPart (classes_at l.site) (elaborated_stmt (among_at l.site) (place_at l.site)) l.text.statements (drop l.part-index l.text.statements) l.fn.locals.items l.locals.items l.statements
+invariant-block-loop-part l = IsPart (classes_at l.context) (elaborated_stmt (among_at l.context) (place_at l.context)) l.text.statements (drop l.part-index l.text.statements) l.fn.locals.items l.locals.items l.statements
 
 abbrev pub decreases-block : goal.decreases-block
 decreases-block l = 2 * size-BlockText l.text.now

@@ -1,6 +1,6 @@
 use Rattle.std.proofs.Common.{◌≡◌, ◌++◌, drop}
 use Rattle.som_order.specs.Names.{texts}
-use Rattle.som_scope.specs.Home.{face_names}
+use Rattle.som_scope.specs.ClassNames.{face_names}
 use Rattle.som_scope.proofs.tables.face_names.Given as goal
 
 abbrev pub invariant-loop-face : goal.invariant-loop-face
