@@ -11,3 +11,4 @@ pub mod MethodLaws
 pub mod NameLaws
 pub mod ElabLaws
 pub mod FormLaws
+pub mod GroupLaws

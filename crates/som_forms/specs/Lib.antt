@@ -3,6 +3,7 @@ pub mod Methods
 pub mod Expressions
 pub mod Statements
 pub mod MethodBody
+pub mod Groups
 pub mod Code
 pub mod Stated
 pub mod Forms

@@ -2,8 +2,9 @@ ghost use Rattle.som_forms.specs.Code.{AreLocals, IsBodyContext, Makes, among_at
 ghost use Rattle.som_forms.specs.Expressions as spec;
 ghost use Rattle.som_forms.specs.Expressions.{elaborated, elaborated_value, part, parts};
 ghost use Rattle.som_forms.specs.Forms.{AreMade, elab_at, of_all, of_one};
+ghost use Rattle.som_forms.specs.Groups.{is_class_operation, is_inherited_call, is_method_call, is_operation};
 ghost use Rattle.som_typing.specs.Kinds.{Fails, Stands};
-ghost use Rattle.std.specs.Prelude.{IfErr, IfOk, map};
+ghost use Rattle.std.specs.Prelude.{◌≡◌, true, IfErr, IfOk, map};
 
 use crate::body_context::BodyContext;
 use crate::calls::{call, dispatch_call, lookup_call};
@@ -48,14 +49,65 @@ pub fn expression(
         ExprText::Name(word) => local(alloc, context, locals, word.text.as_slice()),
         ExprText::Me => me(alloc, context),
         ExprText::Variable(word) => variable(alloc, context, word.text.as_slice()),
+        ExprText::New(word) => new_object(alloc, context, word.text.as_slice()),
+        ExprText::Class(word) => class_object(alloc, context, word.text.as_slice()),
+        ExprText::Manager => Ok(TypedExpr::new(alloc, Expr::Manager, Kind::Class(SOM_CLASS_MGR))?),
+        ExprText::Unary { .. } | ExprText::Binary { .. } | ExprText::Host { .. } => {
+            operation(alloc, context, locals, text)
+        }
+        ExprText::Cast { .. } | ExprText::Isa { .. } | ExprText::Proxy { .. } => {
+            class_operation(alloc, context, locals, text)
+        }
+        ExprText::Call { .. } | ExprText::Lookup { .. } | ExprText::Dispatch { .. } => {
+            method_call(alloc, context, locals, text)
+        }
+        ExprText::Parent { .. } | ExprText::Parents { .. } => {
+            inherited_call(alloc, context, locals, text)
+        }
+    }
+}
+
+// An operator, or a function of the host.
+#[cycle(texts)]
+fn operation(
+    alloc: Global,
+    context: &BodyContext,
+    locals: &[Local],
+    text: &ExprText,
+) -> Result<TypedExpr, TypeFault>
+    requires context { IsBodyContext context.now }
+    requires locals { AreLocals (classes_at context.now) locals.now }
+    requires form { is_operation text.now ≡ true }
+    ensures { Makes (classes_at context.now) (elab_at context.now locals.now text.now) result }
+{
+    match text {
         ExprText::Unary { op, of } => unary_text(alloc, context, locals, of, *op),
         ExprText::Binary { op, left, right } => {
             let left = value_expression(alloc, context, locals, left.get())?;
             binary_text(alloc, context, locals, right, *op, left)
         }
-        ExprText::New(word) => new_object(alloc, context, word.text.as_slice()),
-        ExprText::Class(word) => class_object(alloc, context, word.text.as_slice()),
-        ExprText::Manager => Ok(TypedExpr::new(alloc, Expr::Manager, Kind::Class(SOM_CLASS_MGR))?),
+        ExprText::Host { code, a, b } => {
+            let left = value_expression(alloc, context, locals, a.get())?;
+            host_text(alloc, context, locals, b, *code, left)
+        }
+        _ => unreachable!(),
+    }
+}
+
+// What is asked of a part and a class.
+#[cycle(texts)]
+fn class_operation(
+    alloc: Global,
+    context: &BodyContext,
+    locals: &[Local],
+    text: &ExprText,
+) -> Result<TypedExpr, TypeFault>
+    requires context { IsBodyContext context.now }
+    requires locals { AreLocals (classes_at context.now) locals.now }
+    requires form { is_class_operation text.now ≡ true }
+    ensures { Makes (classes_at context.now) (elab_at context.now locals.now text.now) result }
+{
+    match text {
         ExprText::Cast { class, of } => {
             cast_text(alloc, context, locals, of, class.text.as_slice())
         }
@@ -63,6 +115,24 @@ pub fn expression(
         ExprText::Proxy { class, of } => {
             proxy_text(alloc, context, locals, of, class.text.as_slice())
         }
+        _ => unreachable!(),
+    }
+}
+
+// A call on a receiver, which comes before the arguments.
+#[cycle(texts)]
+fn method_call(
+    alloc: Global,
+    context: &BodyContext,
+    locals: &[Local],
+    text: &ExprText,
+) -> Result<TypedExpr, TypeFault>
+    requires context { IsBodyContext context.now }
+    requires locals { AreLocals (classes_at context.now) locals.now }
+    requires form { is_method_call text.now ≡ true }
+    ensures { Makes (classes_at context.now) (elab_at context.now locals.now text.now) result }
+{
+    match text {
         ExprText::Call {
             receiver,
             method,
@@ -89,6 +159,24 @@ pub fn expression(
             let on = value_expression(alloc, context, locals, receiver.get())?;
             dispatch_text(alloc, context, locals, args, answer, on, &method.text)
         }
+        _ => unreachable!(),
+    }
+}
+
+// A call of what a parent has, or all parents have.
+#[cycle(texts)]
+fn inherited_call(
+    alloc: Global,
+    context: &BodyContext,
+    locals: &[Local],
+    text: &ExprText,
+) -> Result<TypedExpr, TypeFault>
+    requires context { IsBodyContext context.now }
+    requires locals { AreLocals (classes_at context.now) locals.now }
+    requires form { is_inherited_call text.now ≡ true }
+    ensures { Makes (classes_at context.now) (elab_at context.now locals.now text.now) result }
+{
+    match text {
         ExprText::Parent {
             parent,
             method,
@@ -104,10 +192,7 @@ pub fn expression(
         ExprText::Parents { method, args } => {
             parents_text(alloc, context, locals, args, &method.text)
         }
-        ExprText::Host { code, a, b } => {
-            let left = value_expression(alloc, context, locals, a.get())?;
-            host_text(alloc, context, locals, b, *code, left)
-        }
+        _ => unreachable!(),
     }
 }
 

@@ -10,7 +10,7 @@ ghost use Rattle.som_scope.specs.Words.{interfaces_of, lent};
 ghost use Rattle.som_sema.specs.Ancestry.{AreDrafts, IsAncestorTable};
 ghost use Rattle.som_sema.specs.Building as spec;
 ghost use Rattle.som_sema.specs.Building.{FacesTold, after_base, declared_all, draft_rules_breach, moved_breach, refused_by, texts_breach};
-ghost use Rattle.som_sema.specs.Drafts.{draft_classes, plain_drafts};
+ghost use Rattle.som_sema.specs.Drafts.{draft_classes, draft_of, plain_drafts};
 ghost use Rattle.std.specs.Prelude.{◌≡◌, ◌++◌, map, IfOk, OnOk, None};
 
 use crate::ancestry::AncestorTable;
@@ -114,13 +114,30 @@ fn faces(
     let kernel = kernel.classes.as_slice();
     let known = base.classes.as_slice();
     let scope = scope_of(alloc, own_module, known, kernel, interfaces)?;
-    let drafts = drafts_of(alloc, &scope, interfaces)?;
-    let drafts = drafts.as_slice();
-    let bares = bare_classes(alloc, known)?;
-    built(alloc, &scope, kernel, bares.as_slice(), drafts)
+    faces_in_scope(alloc, &scope, kernel, base, interfaces)
 }
 
-// The same from drafting.
+// The same, where it is known what names stand for.
+fn faces_in_scope(
+    alloc: Global,
+    scope: &Scope,
+    kernel: &[ClassFace],
+    base: &Interface,
+    interfaces: &[&IdlInterface],
+) -> Result<List<ClassDecl>, VerifyFault>
+    requires kernel { kernel.now ≡ kernel_interface.classes }
+    requires conforms { faces_breach (interface_classes base.now) ≡ None }
+    ensures tells { Tells (draft_rules_breach (module_in_scope scope.now) scope.now.module (interface_classes base.now)
+        (map (draft_of (module_in_scope scope.now)) (lent interfaces.now))) result }
+    ensures ok { IfOk result (λ ds. ds ≡ declared_all scope.now.module (interface_classes base.now)
+        (map (draft_of (module_in_scope scope.now)) (lent interfaces.now))) }
+{
+    let drafts = drafts_of(alloc, scope, interfaces)?;
+    let bares = bare_classes(alloc, base.classes.as_slice())?;
+    built(alloc, scope, kernel, bares.as_slice(), drafts.as_slice())
+}
+
+// The same from drafts.
 fn built(
     alloc: Global,
     scope: &Scope,

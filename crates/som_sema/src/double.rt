@@ -28,9 +28,9 @@ pub fn no_double(alloc: Global, rule: u8, draft: &Draft, names: &[&[u8]]) -> Res
 fn first_double<'a>(alloc: Global, names: &[&'a [u8]]) -> Result<Option<&'a [u8]>, NoMemory>
     ensures { IfOk result (λ double. option_copied double ≡ first (doubles bytes_eq [] (texts names.now))) }
 {
-    let mut plain_draft = IndexSet::new(alloc);
+    let mut seen = IndexSet::new(alloc);
     for name in names {
-        if !note_name(&mut plain_draft, *name)? {
+        if !note_name(&mut seen, *name)? {
             return Ok(Some(*name));
         }
     }

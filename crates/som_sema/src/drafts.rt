@@ -18,7 +18,7 @@ use som_model::{ClassDecl, ClassFace, ClassKey, List, NoMemory};
 use som_scope::{Scope, key_of, keys_of};
 use std::alloc::Global;
 
-/// An interface, and the class that it declares but for moved entries and overrides.
+/// An interface, and the class that it declares as far as that is known.
 #[derive(Drop)]
 pub struct Draft<'a> {
     pub text: &'a IdlInterface,
@@ -57,16 +57,21 @@ fn draft_class(alloc: Global, scope: &Scope, text: &IdlInterface) -> Result<Clas
     let items = text.items.as_slice();
     let marks = marks(alloc, items)?;
     let by_name = by_name(alloc, &marks)?;
+    let name = text.name.text.copy(alloc)?;
+    let parents = parents(alloc, scope, text.parents.as_slice())?;
+    let entries = introduced(alloc, scope, &by_name, text)?;
+    let variables = variables(alloc, scope, text)?;
+    let metaclass = metaclass(alloc, scope, items)?;
     Ok(ClassDecl {
         face: ClassFace {
-            name: text.name.text.copy(alloc)?,
+            name,
             major: major(items),
             minor: minor(items),
-            parents: parents(alloc, scope, text.parents.as_slice())?,
-            metaclass: metaclass(alloc, scope, items)?,
-            entries: introduced(alloc, scope, &by_name, text)?,
+            parents,
+            metaclass,
+            entries,
         },
-        variables: variables(alloc, scope, text)?,
+        variables,
         bodies: List::new(alloc),
         overrides: List::new(alloc),
     })

@@ -5,6 +5,7 @@ use Rattle.som_forms.specs.Expressions.{binary_form, host_form, parent_form, par
 use Rattle.som_forms.specs.Code.{Makes, among_at, classes_at, typed_at, names_at, place_at}
 use Rattle.som_forms.specs.Forms.{elab_at, of_all, parts_at}
 use Rattle.som_forms.proofs.ElabLaws.{call_goes_on, dispatch_goes_on, literal_elab, lookup_goes_on, makes_as, parent_elab, parents_elab}
+use Rattle.som_forms.proofs.GroupLaws.{is_some_class_operation, is_some_inherited_call, is_some_method_call, is_some_operation}
 use Rattle.som_forms.proofs.PartLaws.{one_goes_on, part_goes_on, parts_fail, parts_go_on, parts_start}
 use Rattle.som_forms.proofs.expressions.+texts.Goals as goal
 
@@ -16,8 +17,8 @@ expression-returns-in-Literal t c =
     makes_as (classes_at s) (elab_at s ls) _ _ _ c.literal.result e.is
     (literal_elab (among_at s) (place_at s) (names_at (classes_at s) ls) e.value) (c.literal.ensures (classes_at s))
 
-pub expression-returns-in-Parent : goal.expression-returns-in-Parent
-expression-returns-in-Parent t c =
+pub inherited_call-returns-in-Parent : goal.inherited_call-returns-in-Parent
+inherited_call-returns-in-Parent t c =
     let s = c.args.context.now in
     let ls = c.args.locals.now in
     let e = c.in-Parent in
@@ -25,16 +26,16 @@ expression-returns-in-Parent t c =
     (parent_elab (among_at s) (place_at s) (names_at (classes_at s) ls) e.parent e.method e.args)
     (subst (λ z. Makes (classes_at s) (of_all (map (elab_at s ls) e.args) (parent_form (among_at s) (place_at s) z e.method.text)) c.parent_text.result) c.as_slice-in-Parent.ensures c.parent_text.ensures)
 
-pub expression-returns-in-Parents : goal.expression-returns-in-Parents
-expression-returns-in-Parents t c =
+pub inherited_call-returns-in-Parents : goal.inherited_call-returns-in-Parents
+inherited_call-returns-in-Parents t c =
     let s = c.args.context.now in
     let ls = c.args.locals.now in
     let e = c.in-Parents in
     makes_as (classes_at s) (elab_at s ls) _ _ _ c.parents_text.result e.is
     (parents_elab (among_at s) (place_at s) (names_at (classes_at s) ls) e.method e.args) c.parents_text.ensures
 
-pub expression-returns-in_ok-receiver-in-Call : goal.expression-returns-in_ok-receiver-in-Call
-expression-returns-in_ok-receiver-in-Call t c =
+pub method_call-returns-in_ok-receiver-in-Call : goal.method_call-returns-in_ok-receiver-in-Call
+method_call-returns-in_ok-receiver-in-Call t c =
     let s = c.args.context.now in
     let ls = c.args.locals.now in
     let e = c.in-Call in
@@ -43,8 +44,8 @@ expression-returns-in_ok-receiver-in-Call t c =
     (call_goes_on (among_at s) (place_at s) (names_at (classes_at s) ls) e.receiver e.method e.args (typed_at (classes_at s) on.receiver)
     (ap (λ z. part (elab_at s ls z)) (sym c.get-in-Call.ensures) ∙ on.ensures.0)) c.call_text.ensures
 
-pub expression-returns-in_ok-on-in-Lookup : goal.expression-returns-in_ok-on-in-Lookup
-expression-returns-in_ok-on-in-Lookup t c =
+pub method_call-returns-in_ok-on-in-Lookup : goal.method_call-returns-in_ok-on-in-Lookup
+method_call-returns-in_ok-on-in-Lookup t c =
     let s = c.args.context.now in
     let ls = c.args.locals.now in
     let e = c.in-Lookup in
@@ -53,8 +54,8 @@ expression-returns-in_ok-on-in-Lookup t c =
     (lookup_goes_on (among_at s) (place_at s) (names_at (classes_at s) ls) e.answer e.receiver e.method e.args (typed_at (classes_at s) on.on)
     (ap (λ z. part (elab_at s ls z)) (sym c.get-in-Lookup.ensures) ∙ on.ensures.0)) c.lookup_text.ensures
 
-pub expression-returns-in_ok-on-in-Dispatch : goal.expression-returns-in_ok-on-in-Dispatch
-expression-returns-in_ok-on-in-Dispatch t c =
+pub method_call-returns-in_ok-on-in-Dispatch : goal.method_call-returns-in_ok-on-in-Dispatch
+method_call-returns-in_ok-on-in-Dispatch t c =
     let s = c.args.context.now in
     let ls = c.args.locals.now in
     let e = c.in-Dispatch in
@@ -128,3 +129,15 @@ host_text-returns t c =
     let cs = classes_at s in
     let right = c.in_ok-right in
     one_goes_on cs c.get.result.now c.args.right.now (elab_at s c.args.locals.now) (host_form c.args.code (typed_at cs c.args.left)) (typed_at cs right.right) c.host.result c.get.ensures right.ensures.0 (c.host.ensures cs)
+
+pub operation-unreachable-requires : goal.operation-unreachable-requires
+operation-unreachable-requires t c = is_some_operation c.args.text.now c.requires.form c.in_default.not-Unary c.in_default.not-Binary c.in_default.not-Host
+
+pub class_operation-unreachable-requires : goal.class_operation-unreachable-requires
+class_operation-unreachable-requires t c = is_some_class_operation c.args.text.now c.requires.form c.in_default.not-Cast c.in_default.not-Isa c.in_default.not-Proxy
+
+pub method_call-unreachable-requires : goal.method_call-unreachable-requires
+method_call-unreachable-requires t c = is_some_method_call c.args.text.now c.requires.form c.in_default.not-Call c.in_default.not-Lookup c.in_default.not-Dispatch
+
+pub inherited_call-unreachable-requires : goal.inherited_call-unreachable-requires
+inherited_call-unreachable-requires t c = is_some_inherited_call c.args.text.now c.requires.form c.in_default.not-Parent c.in_default.not-Parents
