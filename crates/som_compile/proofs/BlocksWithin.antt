@@ -45,11 +45,11 @@ use Rattle.som_body.specs.Within as text
 use Rattle.som_body.specs.Within.{ExprTextWithin, StmtTextWithin, BlockTextWithin}
 use Rattle.som_naming.specs.BlockLimits.{ArgsWithin, ExprPartsWithin, ExprWithin, StmtPartsWithin, StatementsWithin, StmtWithin, BlockWithin}
 use Rattle.som_libimage.specs.Limits.{EntryWithin}
-use Rattle.som_sema.specs.Home.{result_of, type_of}
-use Rattle.som_elab.specs.Locals.{Named, Names, in_scope, kinds_of, local_of, names_of}
-use Rattle.som_elab.specs.Methods.{Method, introduced_method, method_by, method_for, method_of, own_method, parent_place, variable_place}
-use Rattle.som_elab.specs.Expressions.{Among, Elab, Elaborated, class_named, expr_step, elaborated, elaborated_value, exprs_of, facts_among, formed, unary_form, binary_form, host_form, cast_form, isa_form, proxy_form, call_form, called_by, lookup_form, dispatch_form, parent_form, parents_form, part, parts, types_of, valued}
-use Rattle.som_elab.specs.Statements.{BlockElab, ManyLocals, Placed, StmtElab, Told, block_step, call_statement, declared, elaborated_block, elaborated_stmt, freed, in_turn, placed, printed, returned, ruled, set_local, set_variable, stmt_step, value_return, with_local}
+use Rattle.som_scope.specs.ClassNames.{result_of, type_of}
+use Rattle.som_forms.specs.Locals.{Named, Names, in_scope, kinds_of, local_of, names_of}
+use Rattle.som_forms.specs.Methods.{Method, introduced_method, method_by, method_for, method_of, own_method, parent_place, variable_place}
+use Rattle.som_forms.specs.Expressions.{Among, Elab, Elaborated, class_named, expr_step, elaborated, elaborated_value, exprs_of, facts_among, formed, unary_form, binary_form, host_form, cast_form, isa_form, proxy_form, call_form, called_by, lookup_form, dispatch_form, parent_form, parents_form, part, parts, types_of, valued}
+use Rattle.som_forms.specs.Statements.{BlockElab, ManyLocals, Placed, StmtElab, Told, block_step, call_statement, declared, elaborated_block, elaborated_stmt, freed, in_turn, placed, printed, returned, ruled, set_local, set_variable, stmt_step, value_return, with_local}
 
 -- ---- what there is room for
 
@@ -322,7 +322,7 @@ module _ (a : Among) (at : CodePlace) (room : Roomy a at) where
     lookup_within answer t name ts p h short hs e =
         let on = went (part (elaborated a at scope t)) (λ on. parts (map (elaborated a at scope) ts) >>= lookup_form a answer on name) p e in
         let args = went (parts (map (elaborated a at scope) ts)) (lookup_form a answer on.value name) p on.further in
-        let kind = result_of a.home answer in
+        let kind = result_of a.module_of answer in
         let type = named_call_type (facts_among a) kind on.value.type (types_of args.value) in
         let x = formed_type (exprs.Lookup kind name on.value.expr (exprs_of args.value)) type p args.further in
         made (exprs.Lookup kind name on.value.expr (exprs_of args.value)) (Expr-F.Lookup kind name on.value.expr (exprs_of args.value)) type p (exprs.rolls-Lookup kind name on.value.expr (exprs_of args.value)) args.further
@@ -333,7 +333,7 @@ module _ (a : Among) (at : CodePlace) (room : Roomy a at) where
     dispatch_within answer t name ts p h short hs e =
         let on = went (part (elaborated a at scope t)) (λ on. parts (map (elaborated a at scope) ts) >>= dispatch_form a answer on name) p e in
         let args = went (parts (map (elaborated a at scope) ts)) (dispatch_form a answer on.value name) p on.further in
-        let kind = result_of a.home answer in
+        let kind = result_of a.module_of answer in
         let type = named_call_type (facts_among a) kind on.value.type (types_of args.value) in
         let x = formed_type (exprs.Dispatch kind name on.value.expr (exprs_of args.value)) type p args.further in
         made (exprs.Dispatch kind name on.value.expr (exprs_of args.value)) (Expr-F.Dispatch kind name on.value.expr (exprs_of args.value)) type p (exprs.rolls-Dispatch kind name on.value.expr (exprs_of args.value)) args.further
@@ -523,7 +523,7 @@ module _ (a : Among) (at : CodePlace) (room : Roomy a at) where
 
     statement_within : (scope : Names) → length scope ≤ MAX_LOCALS → (layer : StmtText-F StmtText BlockText) (q : Placed) → text.StmtPartsWithin Inner BlockIn layer
         → stmt_step a at (map-StmtText StmtText BlockText StmtElab BlockElab (elaborated_stmt a at) (elaborated_block a at) layer) scope ≡ Ok q → PlacedWithin q
-    statement_within scope few (StmtText-F.Var w kind t) q h e = var_within scope few w.text (type_of a.home kind) t q h.2 e
+    statement_within scope few (StmtText-F.Var w kind t) q h e = var_within scope few w.text (type_of a.module_of kind) t q h.2 e
     statement_within scope few (StmtText-F.Set w t) q h e = set_within scope few w.text t q h.1 (ruled_is (elaborated_value a at scope t >>= set_local a scope w.text) q e)
     statement_within scope few (StmtText-F.SetVariable w t) q h e = set_variable_within scope few w.text t q h.1 (ruled_is (elaborated_value a at scope t >>= set_variable a at scope w.text) q e)
     statement_within scope few (StmtText-F.If t b c) q h e = if_within scope few t b c q h.0 h.1 h.2 e

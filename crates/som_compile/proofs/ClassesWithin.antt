@@ -38,15 +38,16 @@ use Rattle.som_rules.proofs.PlainLists.{mem_map}
 use Rattle.som_naming.specs.BlockLimits.{TextWithin, BlockWithin, StmtWithin}
 use Rattle.som_wire.specs.Fitting.{levels_left}
 use Rattle.som_libimage.specs.Limits.{EntryWithin, BodyWithin, FaceWithin, ClassWithin}
-use Rattle.som_sema.specs.Accessors.{Access, accessor_body, accessors_of, body_of, place_of}
-use Rattle.som_sema.specs.Building.{after_base, declarations, home_of}
+use Rattle.som_elab.specs.Accessors.{Access, accessor_body, accessors_of, body_of, place_of}
+use Rattle.som_sema.specs.Building.{after_base, declarations, module_over}
 use Rattle.som_sema.specs.Finished.{declare, entry_for, introducer, override_of}
 use Rattle.som_sema.specs.Items.{listed, major_in, minor_in, overridden}
-use Rattle.som_sema.specs.PlainLimits.{LimitsKept}
-use Rattle.som_sema.specs.Sketch.{Drawn, drawn, introduces, sketch, sketches}
-use Rattle.som_elab.specs.Expressions.{Among}
-use Rattle.som_elab.specs.Bodies.{beside, classes_over, drawn_over, texts_for}
-use Rattle.som_elab.specs.Elaboration.{parameters, with_blocks}
+use Rattle.som_elab.specs.PlainLimits.{LimitsKept}
+use Rattle.som_sema.specs.Drafts.{InterfaceDraft, draft_of, introduces, draft_class, draft_classes}
+use Rattle.som_forms.specs.Expressions.{Among}
+use Rattle.som_elab.specs.Bodies.{drafts_of_classes, classes_over, drafts_over, texts_for}
+use Rattle.som_forms.specs.MethodBody.{parameters}
+use Rattle.som_elab.specs.Elaboration.{with_blocks}
 use Rattle.som_elab.proofs.Apart.{TextApart, no_text, a_text, EntryApart, accessor, of_text, EntriesApart, no_entry, moved, introduced as one_introduced, OverrideApart, without_sig, with_sig, OverridesApart, no_override, an_override, ClassApart, EachApart, no_class, a_class, entries_apart, overrides_apart}
 use Rattle.som_compile.proofs.BlocksWithin.{PlaceFits, SigsFit, whole_block_within}
 use Rattle.som_compile.proofs.InterfacesWithin.{Named, all_join, all_map, all_members, member_of_all, all_variables, entry_named, introduces_named, major_within, minor_within, number_within, order_named, some_parent, word_within}
@@ -99,11 +100,11 @@ module _ (a : Among) (sigs : SigsFit a.classes) (c : Class) (place : PlaceFits (
   texts_within : (name : List ℕ) (sig : Sig) → length sig.params ≤ MAX_PARAMETERS → (b : Block) → TextApart a c sig (texts_for bs c.decl.face.name name) b → BlockWithin b
   texts_within name sig few b is = text_within sig few (texts_for bs c.decl.face.name name) (all_texts IsShort c.decl.face.name name bs short) b is
 
-  entry_body_within : (d : Drawn) (name : List ℕ) (sig : Sig) → length sig.params ≤ MAX_PARAMETERS → (o : Option Body) → body_of d name ≡ o → (body : Body) → EntryApart a bs c name sig o body → BodyWithin body
+  entry_body_within : (d : InterfaceDraft) (name : List ℕ) (sig : Sig) → length sig.params ≤ MAX_PARAMETERS → (o : Option Body) → body_of d name ≡ o → (body : Body) → EntryApart a bs c name sig o body → BodyWithin body
   entry_body_within d name sig few _ e _ (accessor body) = access_within d.class.variables (find (λ (x : Access). bytes_eq name x.name) (accessors_of d.text)) body e
   entry_body_within d name sig few _ e _ (of_text b is) = texts_within name sig few b is
 
-  entry_bodies_within : (d : Drawn) (es : List Entry) → AllByRecursion EntryWithin es → (own : List Body) → EntriesApart a bs d c es own → AllByRecursion BodyWithin own
+  entry_bodies_within : (d : InterfaceDraft) (es : List Entry) → AllByRecursion EntryWithin es → (own : List Body) → EntriesApart a bs d c es own → AllByRecursion BodyWithin own
   entry_bodies_within d _ p _ no_entry = tt
   entry_bodies_within d _ p _ (moved name to es more is) = entry_bodies_within d es p.1 more is
   entry_bodies_within d _ p _ (one_introduced name sig way es body more one is) = (entry_body_within d name sig p.0.1 (body_of d name) refl body one, entry_bodies_within d es p.1 more is)
@@ -152,8 +153,8 @@ kernel_within =
 
 -- ---- declarations
 
-abbrev finished : List Class → (List ℕ → Module) → Module → IdlInterface → Drawn
-finished cs home m i = record { text = i; class = declare cs m (drawn home i) }
+abbrev finished : List Class → (List ℕ → Module) → Module → IdlInterface → InterfaceDraft
+finished cs module_of m i = record { text = i; class = declare cs m (draft_of module_of i) }
 
 entry_within : (e : Entry) → Named e → ((name : List ℕ) (sig : Sig) (way : Way) → e ≡ entries.Introduced name sig way → length sig.params ≤ MAX_PARAMETERS) → EntryWithin e
 entry_within (entries.Introduced name sig way) named few = (named, few name sig way refl)
@@ -165,44 +166,44 @@ empty_overrides cs k (name ∷ names) = (no_block, empty_overrides cs k names)
 
 -- where the counts of the declared classes are within the limits
 module _ (m : Module) (base : Interface) (is : List IdlInterface) (within : AllByRecursion InterfaceWithin is) (kept : LimitsKept (declarations m base is)) where
-  abbrev home : List ℕ → Module
-  home = home_of m base is
+  abbrev module_of : List ℕ → Module
+  module_of = module_over m base is
 
   abbrev known : List Class
-  known = with_kernel (after_base m (interface_classes base) (sketches (map (drawn home) is)))
+  known = with_kernel (after_base m (interface_classes base) (draft_classes (map (draft_of module_of) is)))
 
-  beside_map : (js : List IdlInterface) → beside js (map (declare known m) (map (drawn home) js)) ≡ map (finished known home m) js
-  beside_map [] = refl
-  beside_map (j ∷ js) = ap (λ z. finished known home m j ∷ z) (beside_map js)
+  drafts_of_classes_map : (js : List IdlInterface) → drafts_of_classes js (map (declare known m) (map (draft_of module_of) js)) ≡ map (finished known module_of m) js
+  drafts_of_classes_map [] = refl
+  drafts_of_classes_map (j ∷ js) = ap (λ z. finished known module_of m j ∷ z) (drafts_of_classes_map js)
 
-  drawn_are : drawn_over m base is ≡ map (finished known home m) is
-  drawn_are = beside_map is
+  drafts_are : drafts_over m base is ≡ map (finished known module_of m) is
+  drafts_are = drafts_of_classes_map is
 
-  declared_there : (i : IdlInterface) → Mem i is → Mem (finished known home m i).class (declarations m base is)
-  declared_there i there = mem_map (declare known m) (drawn home i) (map (drawn home) is) (mem_map (drawn home) i is there)
+  declared_there : (i : IdlInterface) → Mem i is → Mem (finished known module_of m i).class (declarations m base is)
+  declared_there i there = mem_map (declare known m) (draft_of module_of i) (map (draft_of module_of) is) (mem_map (draft_of module_of) i is there)
 
-  entries_named : (i : IdlInterface) → InterfaceWithin i → AllByRecursion Named (finished known home m i).class.face.entries
+  entries_named : (i : IdlInterface) → InterfaceWithin i → AllByRecursion Named (finished known module_of m i).class.face.entries
   entries_named i p =
-      all_map TextWithin Named (entry_for known (class_in m (sketch home i)).key (introduces home i))
-      (λ name le. entry_named (introducer known (class_in m (sketch home i)).key name) name (introduces home i) (introduces_named home i p) le (entry_of (introduces home i) name) refl)
-      (effective_order (listed i.items) (introduced (introduces home i))) (order_named i p (introduces home i) (introduces_named home i p))
+      all_map TextWithin Named (entry_for known (class_in m (draft_class module_of i)).key (introduces module_of i))
+      (λ name le. entry_named (introducer known (class_in m (draft_class module_of i)).key name) name (introduces module_of i) (introduces_named module_of i p) le (entry_of (introduces module_of i) name) refl)
+      (effective_order (listed i.items) (introduced (introduces module_of i))) (order_named i p (introduces module_of i) (introduces_named module_of i p))
 
-  entries_within : (i : IdlInterface) → Mem i is → AllByRecursion EntryWithin (finished known home m i).class.face.entries
+  entries_within : (i : IdlInterface) → Mem i is → AllByRecursion EntryWithin (finished known module_of m i).class.face.entries
   entries_within i there =
-      let d = finished known home m i in
+      let d = finished known module_of m i in
       all_members EntryWithin d.class.face.entries (λ e n.
       entry_within e (member_of_all Named d.class.face.entries e (entries_named i (member_of_all InterfaceWithin is i within there)) n)
       (λ name sig way same. kept.parameters d.class name sig way (declared_there i there) (subst (λ (x : Entry). Mem x d.class.face.entries) same n)))
 
-  face_within : (i : IdlInterface) → Mem i is → FaceWithin (finished known home m i).class.face
+  face_within : (i : IdlInterface) → Mem i is → FaceWithin (finished known module_of m i).class.face
   face_within i there =
       let p = member_of_all InterfaceWithin is i within there in
-      let d = finished known home m i in
+      let d = finished known module_of m i in
       record {
         name = word_within i.name p.name;
         major = number_within major_in major_within i.items (recursion_from_All ItemWithin i.items p.items);
         minor = number_within minor_in minor_within i.items (recursion_from_All ItemWithin i.items p.items);
-        some_parent = some_parent home i.parents;
+        some_parent = some_parent module_of i.parents;
         parents = kept.parents d.class (declared_there i there);
         entries = kept.entries d.class (declared_there i there);
         each_entry = All-from_recursion EntryWithin d.class.face.entries (entries_within i there);
@@ -210,14 +211,14 @@ module _ (m : Module) (base : Interface) (is : List IdlInterface) (within : AllB
 
   -- with bodies and overrides that are within the limits
   class_within : (i : IdlInterface) → Mem i is → (own : List Body) (others : List Override) → AllByRecursion BodyWithin own → AllByRecursion (λ (o : Override). BlockWithin o.block) others
-      → length others ≡ length (finished known home m i).class.overrides → ClassWithin (with_blocks (finished known home m i).class own others)
+      → length others ≡ length (finished known module_of m i).class.overrides → ClassWithin (with_blocks (finished known module_of m i).class own others)
   class_within i there own others q r long =
-      let d = finished known home m i in
+      let d = finished known module_of m i in
       let few = kept.overrides d.class (declared_there i there) in
       record {
         face = face_within i there;
         variables = kept.variables d.class (declared_there i there);
-        each_variable = All-from_recursion (λ (v : Variable). TextWithin v.name) d.class.variables (all_variables home i (member_of_all InterfaceWithin is i within there));
+        each_variable = All-from_recursion (λ (v : Variable). TextWithin v.name) d.class.variables (all_variables module_of i (member_of_all InterfaceWithin is i within there));
         each_body = All-from_recursion BodyWithin own q;
         overrides = omega (arith, few, long);
         each_override = All-from_recursion (λ (o : Override). BlockWithin o.block) others r;
@@ -227,9 +228,9 @@ module _ (m : Module) (base : Interface) (is : List IdlInterface) (within : AllB
   own_within =
       let Fit = λ (d : ClassDecl). AllByRecursion EntryWithin d.face.entries in
       all_map Fit EntriesFit (class_in m) (λ d p. p) (declarations m base is)
-      (all_map (λ (d : Drawn). Fit (declare known m d)) Fit (declare known m) (λ d p. p) (map (drawn home) is)
-      (all_map (λ (i : IdlInterface). Fit (declare known m (drawn home i))) (λ (d : Drawn). Fit (declare known m d)) (drawn home) (λ i p. p) is
-      (all_members (λ (i : IdlInterface). Fit (declare known m (drawn home i))) is entries_within)))
+      (all_map (λ (d : InterfaceDraft). Fit (declare known m d)) Fit (declare known m) (λ d p. p) (map (draft_of module_of) is)
+      (all_map (λ (i : IdlInterface). Fit (declare known m (draft_of module_of i))) (λ (d : InterfaceDraft). Fit (declare known m d)) (draft_of module_of) (λ i p. p) is
+      (all_members (λ (i : IdlInterface). Fit (declare known m (draft_of module_of i))) is entries_within)))
 
   -- each class that texts are elaborated among has entries within the limits
   pub entries_fit : AllByRecursion FaceWithin base.classes → AllByRecursion EntriesFit (classes_over m base is)
@@ -240,22 +241,22 @@ module _ (m : Module) (base : Interface) (is : List IdlInterface) (within : AllB
       own_within)
 
   module _ (a : Among) (sigs : SigsFit a.classes) (bs : List BodyText) (short : AllByRecursion IsShort bs) where
-    one_within : (i : IdlInterface) → Mem i is → (c : ClassDecl) → ClassApart a m bs (finished known home m i) c → ClassWithin c
+    one_within : (i : IdlInterface) → Mem i is → (c : ClassDecl) → ClassApart a m bs (finished known module_of m i) c → ClassWithin c
     one_within i there c apart =
-        let d = finished known home m i in
+        let d = finished known module_of m i in
         let k = class_in m d.class in
         let place : PlaceFits (Some k) = (kept.variables d.class (declared_there i there), kept.parents d.class (declared_there i there)) in
-        let r = overrides_within a sigs k place bs short d.class.overrides (empty_overrides known (class_in m (sketch home i)).key (overridden i.items)) apart.others
+        let r = overrides_within a sigs k place bs short d.class.overrides (empty_overrides known (class_in m (draft_class module_of i)).key (overridden i.items)) apart.others
         (overrides_apart a bs k d.class.overrides apart.others apart.overrides) in
         subst ClassWithin (sym apart.is) (class_within i there apart.own apart.others
         (entry_bodies_within a sigs k place bs short d d.class.face.entries (entries_within i there) apart.own (entries_apart a bs d k d.class.face.entries apart.own apart.bodies)) r.0 r.1)
 
-    each_within : (js : List IdlInterface) → ((j : IdlInterface) → Mem j js → Mem j is) → (cs : List ClassDecl) → EachApart a m bs (map (finished known home m) js) cs
+    each_within : (js : List IdlInterface) → ((j : IdlInterface) → Mem j js → Mem j is) → (cs : List ClassDecl) → EachApart a m bs (map (finished known module_of m) js) cs
         → AllByRecursion ClassWithin cs × (length cs ≡ length js)
     each_within [] sub _ no_class = (tt, refl)
     each_within (j ∷ js) sub _ (a_class d ds c cs one more) =
         let r = each_within js (λ x n. sub x (inr n)) cs more in
         ((one_within j (sub j (inl refl)) c one, r.0), omega (arith, r.1))
 
-    pub classes_within : (cs : List ClassDecl) → EachApart a m bs (drawn_over m base is) cs → AllByRecursion ClassWithin cs × (length cs ≡ length is)
-    classes_within cs each = each_within is (λ x n. n) cs (subst (λ (ds : List Drawn). EachApart a m bs ds cs) drawn_are each)
+    pub classes_within : (cs : List ClassDecl) → EachApart a m bs (drafts_over m base is) cs → AllByRecursion ClassWithin cs × (length cs ≡ length is)
+    classes_within cs each = each_within is (λ x n. n) cs (subst (λ (ds : List InterfaceDraft). EachApart a m bs ds cs) drafts_are each)

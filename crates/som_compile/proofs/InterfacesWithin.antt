@@ -22,10 +22,10 @@ use Rattle.som_idl.specs.declared.tree.Item.TheVariants as items
 use Rattle.som_idl.specs.Within.{WordWithin, ExportWithin, ItemWithin, InterfaceWithin}
 use Rattle.som_naming.specs.BlockLimits.{TextWithin}
 use Rattle.som_sema.specs.Finished.{entry_or_moved}
-use Rattle.som_sema.specs.Home.{key_of, type_of}
+use Rattle.som_scope.specs.ClassNames.{key_of, type_of}
 use Rattle.som_sema.specs.Items.{by_name, listed, listed_in, major_in, minor_in, number_of, or_object}
-use Rattle.som_sema.specs.Sketch.{accessors, export_entries, export_variables, getter, introduces, item_variables, setter, variables, variables_of}
-use Rattle.som_sema.specs.Words.{words}
+use Rattle.som_sema.specs.Drafts.{accessors, export_entries, export_variables, getter, introduces, item_variables, setter, variables, variables_of}
+use Rattle.som_scope.specs.Words.{words}
 
 -- ---- lists
 
@@ -88,21 +88,21 @@ Names = AllByRecursion TextWithin
 words_named : (ws : List Word) → All WordWithin ws → Names (words ws)
 words_named ws all = all_map WordWithin TextWithin (λ (w : Word). w.text) word_within ws (recursion_from_All WordWithin ws all)
 
-module _ (home : List ℕ → Module) (by : List (List ℕ)) where
+module _ (module_of : List ℕ → Module) (by : List (List ℕ)) where
   accessors_named : (readonly : Bool) (kind : ValueType) (name : List ℕ) → length name ≤ MAX_NAME → AllByRecursion Named (accessors by readonly kind name)
   accessors_named true kind name le = (getter_within name le, tt)
   accessors_named false kind name le = (getter_within name le, (setter_within name le, tt))
 
-  export_named : (x : Export) → ExportWithin x → AllByRecursion Named (export_entries home by x)
+  export_named : (x : Export) → ExportWithin x → AllByRecursion Named (export_entries module_of by x)
   export_named (exports.Attribute readonly kind names) p =
-      all_flat WordWithin Named (λ (w : Word). accessors by readonly (type_of home kind) w.text) (λ w le. accessors_named readonly (type_of home kind) w.text le) names (recursion_from_All WordWithin names p.1)
+      all_flat WordWithin Named (λ (w : Word). accessors by readonly (type_of module_of kind) w.text) (λ w le. accessors_named readonly (type_of module_of kind) w.text le) names (recursion_from_All WordWithin names p.1)
   export_named (exports.Operation result name params) p = (word_within name p.1, tt)
 
-pub introduces_named : (home : List ℕ → Module) (i : IdlInterface) → InterfaceWithin i → AllByRecursion Named (introduces home i)
-introduces_named home i p =
-    all_join Named (flat_map (export_entries home (by_name i.items)) i.before) (flat_map (export_entries home (by_name i.items)) i.after)
-    (all_flat ExportWithin Named (export_entries home (by_name i.items)) (export_named home (by_name i.items)) i.before (recursion_from_All ExportWithin i.before p.before))
-    (all_flat ExportWithin Named (export_entries home (by_name i.items)) (export_named home (by_name i.items)) i.after (recursion_from_All ExportWithin i.after p.after))
+pub introduces_named : (module_of : List ℕ → Module) (i : IdlInterface) → InterfaceWithin i → AllByRecursion Named (introduces module_of i)
+introduces_named module_of i p =
+    all_join Named (flat_map (export_entries module_of (by_name i.items)) i.before) (flat_map (export_entries module_of (by_name i.items)) i.after)
+    (all_flat ExportWithin Named (export_entries module_of (by_name i.items)) (export_named module_of (by_name i.items)) i.before (recursion_from_All ExportWithin i.before p.before))
+    (all_flat ExportWithin Named (export_entries module_of (by_name i.items)) (export_named module_of (by_name i.items)) i.after (recursion_from_All ExportWithin i.after p.after))
 
 introduced_named : (es : List Entry) → AllByRecursion Named es → Names (introduced es)
 introduced_named [] p = tt
@@ -132,26 +132,26 @@ entry_named to name es named le (Some x) e = all_found Named (λ e. bytes_eq (en
 variables_named : (kind : ValueType) (ws : List Word) → All WordWithin ws → AllByRecursion (λ (v : Variable). TextWithin v.name) (variables_of kind ws)
 variables_named kind ws all = all_map WordWithin (λ (v : Variable). TextWithin v.name) (λ (w : Word). record { name = w.text; kind = kind }) word_within ws (recursion_from_All WordWithin ws all)
 
-export_variables_named : (home : List ℕ → Module) (x : Export) → ExportWithin x → AllByRecursion (λ (v : Variable). TextWithin v.name) (export_variables home x)
-export_variables_named home (exports.Attribute readonly kind names) p = variables_named (type_of home kind) names p.1
-export_variables_named home (exports.Operation result name params) p = tt
+export_variables_named : (module_of : List ℕ → Module) (x : Export) → ExportWithin x → AllByRecursion (λ (v : Variable). TextWithin v.name) (export_variables module_of x)
+export_variables_named module_of (exports.Attribute readonly kind names) p = variables_named (type_of module_of kind) names p.1
+export_variables_named module_of (exports.Operation result name params) p = tt
 
-item_variables_named : (home : List ℕ → Module) (x : Item) → ItemWithin x → AllByRecursion (λ (v : Variable). TextWithin v.name) (item_variables home x)
-item_variables_named home (items.ReleaseOrder names) p = tt
-item_variables_named home (items.Metaclass name) p = tt
-item_variables_named home (items.Major n) p = tt
-item_variables_named home (items.Minor n) p = tt
-item_variables_named home (items.Method name ms) p = tt
-item_variables_named home (items.Variables kind names) p = variables_named (type_of home kind) names p.1
+item_variables_named : (module_of : List ℕ → Module) (x : Item) → ItemWithin x → AllByRecursion (λ (v : Variable). TextWithin v.name) (item_variables module_of x)
+item_variables_named module_of (items.ReleaseOrder names) p = tt
+item_variables_named module_of (items.Metaclass name) p = tt
+item_variables_named module_of (items.Major n) p = tt
+item_variables_named module_of (items.Minor n) p = tt
+item_variables_named module_of (items.Method name ms) p = tt
+item_variables_named module_of (items.Variables kind names) p = variables_named (type_of module_of kind) names p.1
 
-pub all_variables : (home : List ℕ → Module) (i : IdlInterface) → InterfaceWithin i → AllByRecursion (λ (v : Variable). TextWithin v.name) (variables home i)
-all_variables home i p =
+pub all_variables : (module_of : List ℕ → Module) (i : IdlInterface) → InterfaceWithin i → AllByRecursion (λ (v : Variable). TextWithin v.name) (variables module_of i)
+all_variables module_of i p =
     let Within = λ (v : Variable). TextWithin v.name in
-    all_join Within (flat_map (export_variables home) i.before ++ flat_map (item_variables home) i.items) (flat_map (export_variables home) i.after)
-    (all_join Within (flat_map (export_variables home) i.before) (flat_map (item_variables home) i.items)
-    (all_flat ExportWithin Within (export_variables home) (export_variables_named home) i.before (recursion_from_All ExportWithin i.before p.before))
-    (all_flat ItemWithin Within (item_variables home) (item_variables_named home) i.items (recursion_from_All ItemWithin i.items p.items)))
-    (all_flat ExportWithin Within (export_variables home) (export_variables_named home) i.after (recursion_from_All ExportWithin i.after p.after))
+    all_join Within (flat_map (export_variables module_of) i.before ++ flat_map (item_variables module_of) i.items) (flat_map (export_variables module_of) i.after)
+    (all_join Within (flat_map (export_variables module_of) i.before) (flat_map (item_variables module_of) i.items)
+    (all_flat ExportWithin Within (export_variables module_of) (export_variables_named module_of) i.before (recursion_from_All ExportWithin i.before p.before))
+    (all_flat ItemWithin Within (item_variables module_of) (item_variables_named module_of) i.items (recursion_from_All ItemWithin i.items p.items)))
+    (all_flat ExportWithin Within (export_variables module_of) (export_variables_named module_of) i.after (recursion_from_All ExportWithin i.after p.after))
 
 by_first : (o later : Option ℕ) → ((n : ℕ) → o ≡ Some n → n ≤ MAX_VERSION) → unwrap_or later 0 ≤ MAX_VERSION → unwrap_or (or_else o later) 0 ≤ MAX_VERSION
 by_first None later f g = g
@@ -183,6 +183,6 @@ minor_within (items.Metaclass name) n p e = no_number n e
 minor_within (items.Method name ms) n p e = no_number n e
 minor_within (items.Variables kind names) n p e = no_number n e
 
-pub some_parent : (home : List ℕ → Module) (ws : List Word) → 1 ≤ length (map (key_of home) (or_object ws))
-some_parent home [] = omega arith
-some_parent home (w ∷ ws) = omega arith
+pub some_parent : (module_of : List ℕ → Module) (ws : List Word) → 1 ≤ length (map (key_of module_of) (or_object ws))
+some_parent module_of [] = omega arith
+some_parent module_of (w ∷ ws) = omega arith

@@ -20,9 +20,9 @@ use Rattle.som_body.specs.Within.{BlockTextWithin, BodyFileWithin, BodyTextWithi
 use Rattle.som_libimage.specs.Limits.{ClassWithin, EntryWithin, FaceWithin, IsWithinLimits}
 use Rattle.som_cliimage.specs.Limits.{IsWithinLimits as ProgramWithin}
 use Rattle.som_sema.specs.Building.{declarations}
-use Rattle.som_sema.specs.PlainLimits.{LimitsKept}
-use Rattle.som_sema.specs.Words.{interfaces_of}
-use Rattle.som_sema.proofs.LimitLaws.{limits_law}
+use Rattle.som_elab.specs.PlainLimits.{LimitsKept}
+use Rattle.som_scope.specs.Words.{interfaces_of}
+use Rattle.som_elab.proofs.LimitLaws.{limits_law}
 use Rattle.som_elab.specs.Bodies.{bodies_of, classes_over}
 use Rattle.som_elab.specs.Elaboration.{among_over, elaborated_program, elaborated_release, nothing_before}
 use Rattle.som_elab.proofs.Apart.{ClassesApart, program_apart, release_apart}

@@ -10,7 +10,7 @@ use Rattle.som_body.specs.declared.tree.MainFile.{MainFile}
 use Rattle.som_rules.specs.Faces.{faces_breach}
 use Rattle.som_sema.specs.declared.types.Refused.{Refused}
 use Rattle.som_sema.specs.declared.types.Refused.TheVariants as refusals
-use Rattle.som_sema.specs.Words.{interfaces_of}
+use Rattle.som_scope.specs.Words.{interfaces_of}
 use Rattle.som_elab.specs.Bodies.{bodies_of}
 use Rattle.som_elab.specs.Elaboration.{Limit, Refusal, Rule, elaborated_program, elaborated_release}
 use Rattle.som_libimage.specs.Limits.{FaceWithin}

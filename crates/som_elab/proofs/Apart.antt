@@ -25,15 +25,16 @@ use Rattle.som_model.specs.Typing.{in_body, in_main}
 use Rattle.som_idl.specs.declared.tree.IdlInterface.{IdlInterface}
 use Rattle.som_body.specs.declared.tree.BodyText.{BodyText}
 use Rattle.som_body.specs.declared.tree.BlockText.{BlockText}
-use Rattle.som_sema.specs.Words.{words}
-use Rattle.som_sema.specs.Sketch.{Drawn}
+use Rattle.som_scope.specs.Words.{words}
+use Rattle.som_sema.specs.Drafts.{InterfaceDraft}
 use Rattle.som_sema.specs.Building.{declarations, most_classes, texts_breach}
-use Rattle.som_sema.specs.Accessors.{body_of}
-use Rattle.som_sema.specs.Limits.{Passed, limit_passed}
-use Rattle.som_elab.specs.Expressions.{Among}
-use Rattle.som_elab.specs.Statements.{Breaks, Told, elaborated_block}
-use Rattle.som_elab.specs.Bodies.{bodies_breach, classes_over, drawn_over, texts_for}
-use Rattle.som_elab.specs.Elaboration.{Refusal, refused_at, obeying, keeping, parameters, elaborated_body, text_block, entry_body, entry_bodies, override_block, override_blocks, with_blocks, elaborated_class, elaborated_each, elaborated_main, among_over, classes_passed, elaborated_classes, nothing_before, elaborated_release, elaborated_program}
+use Rattle.som_elab.specs.Accessors.{body_of}
+use Rattle.som_elab.specs.Limits.{Passed, limit_passed}
+use Rattle.som_forms.specs.Expressions.{Among}
+use Rattle.som_forms.specs.Statements.{Breaks, Told, elaborated_block}
+use Rattle.som_elab.specs.Bodies.{bodies_breach, classes_over, drafts_over, texts_for}
+use Rattle.som_forms.specs.MethodBody.{parameters, elaborated_body}
+use Rattle.som_elab.specs.Elaboration.{Refusal, refused_at, obeying, keeping, text_block, entry_body, entry_bodies, override_block, override_blocks, with_blocks, elaborated_class, elaborated_each, elaborated_main, among_over, classes_passed, elaborated_classes, nothing_before, elaborated_release, elaborated_program}
 
 -- ---- steps
 
@@ -112,13 +113,13 @@ entry_apart a bs c name sig None body e =
     subst (EntryApart a bs c name sig None) (same_ok {E = Refusal} (bodies.User w.value) body w.further) (of_text w.value (text_apart a c name sig texts w.value w.first))
 
 -- the bodies of entries: one for each that is introduced
-pub data EntriesApart (a : Among) (bs : List BodyText) (d : Drawn) (c : Class) : List Entry → List Body → Type 0 where
+pub data EntriesApart (a : Among) (bs : List BodyText) (d : InterfaceDraft) (c : Class) : List Entry → List Body → Type 0 where
   no_entry : EntriesApart a bs d c [] []
   moved : (name : List ℕ) (to : ClassKey) (es : List Entry) (more : List Body) → EntriesApart a bs d c es more → EntriesApart a bs d c (entries.Moved name to ∷ es) more
   introduced : (name : List ℕ) (sig : Sig) (way : Way) (es : List Entry) (body : Body) (more : List Body) → EntryApart a bs c name sig (body_of d name) body → EntriesApart a bs d c es more
       → EntriesApart a bs d c (entries.Introduced name sig way ∷ es) (body ∷ more)
 
-pub entries_apart : (a : Among) (bs : List BodyText) (d : Drawn) (c : Class) (es : List Entry) (own : List Body) → entry_bodies a bs d c es ≡ Ok own → EntriesApart a bs d c es own
+pub entries_apart : (a : Among) (bs : List BodyText) (d : InterfaceDraft) (c : Class) (es : List Entry) (own : List Body) → entry_bodies a bs d c es ≡ Ok own → EntriesApart a bs d c es own
 entries_apart a bs d c [] own e = subst (EntriesApart a bs d c []) (same_ok {E = Refusal} [] own e) no_entry
 entries_apart a bs d c (entries.Moved name to ∷ es) own e = moved name to es own (entries_apart a bs d c es own e)
 entries_apart a bs d c (entries.Introduced name sig way ∷ es) own e =
@@ -158,25 +159,25 @@ overrides_apart a bs c (o ∷ os) others e =
 -- ---- classes
 
 -- a class is its declaration with the bodies of its entries and its overrides with their blocks
-pub record ClassApart (a : Among) (m : Module) (bs : List BodyText) (d : Drawn) (c : ClassDecl) : Type 0 where
+pub record ClassApart (a : Among) (m : Module) (bs : List BodyText) (d : InterfaceDraft) (c : ClassDecl) : Type 0 where
   pub own : List Body
   pub others : List Override
   pub is : c ≡ with_blocks d.class own others
   pub bodies : entry_bodies a bs d (class_in m d.class) d.class.face.entries ≡ Ok own
   pub overrides : override_blocks a bs (class_in m d.class) d.class.overrides ≡ Ok others
 
-pub class_apart : (a : Among) (m : Module) (bs : List BodyText) (d : Drawn) (c : ClassDecl) → elaborated_class a m bs d ≡ Ok c → ClassApart a m bs d c
+pub class_apart : (a : Among) (m : Module) (bs : List BodyText) (d : InterfaceDraft) (c : ClassDecl) → elaborated_class a m bs d ≡ Ok c → ClassApart a m bs d c
 class_apart a m bs d c e =
     let v = went (entry_bodies a bs d (class_in m d.class) d.class.face.entries) (λ (own : List Body). override_blocks a bs (class_in m d.class) d.class.overrides >>= λ others. Ok (with_blocks d.class own others)) c e in
     let w = went (override_blocks a bs (class_in m d.class) d.class.overrides) (λ (others : List Override). Ok (with_blocks d.class v.value others)) c v.further in
     record { own = v.value; others = w.value; is = sym (same_ok {E = Refusal} (with_blocks d.class v.value w.value) c w.further); bodies = v.first; overrides = w.first }
 
 -- the classes, one for each declaration
-pub data EachApart (a : Among) (m : Module) (bs : List BodyText) : List Drawn → List ClassDecl → Type 0 where
+pub data EachApart (a : Among) (m : Module) (bs : List BodyText) : List InterfaceDraft → List ClassDecl → Type 0 where
   no_class : EachApart a m bs [] []
-  a_class : (d : Drawn) (ds : List Drawn) (c : ClassDecl) (cs : List ClassDecl) → ClassApart a m bs d c → EachApart a m bs ds cs → EachApart a m bs (d ∷ ds) (c ∷ cs)
+  a_class : (d : InterfaceDraft) (ds : List InterfaceDraft) (c : ClassDecl) (cs : List ClassDecl) → ClassApart a m bs d c → EachApart a m bs ds cs → EachApart a m bs (d ∷ ds) (c ∷ cs)
 
-pub each_apart : (a : Among) (m : Module) (bs : List BodyText) (ds : List Drawn) (cs : List ClassDecl) → elaborated_each a m bs ds ≡ Ok cs → EachApart a m bs ds cs
+pub each_apart : (a : Among) (m : Module) (bs : List BodyText) (ds : List InterfaceDraft) (cs : List ClassDecl) → elaborated_each a m bs ds ≡ Ok cs → EachApart a m bs ds cs
 each_apart a m bs [] cs e = subst (EachApart a m bs []) (same_ok {E = Refusal} [] cs e) no_class
 each_apart a m bs (d ∷ ds) cs e =
     let v = went (elaborated_class a m bs d) (λ (c : ClassDecl). elaborated_each a m bs ds >>= λ more. Ok (c ∷ more)) cs e in
@@ -188,20 +189,20 @@ each_apart a m bs (d ∷ ds) cs e =
 pub record ClassesApart (m : Module) (base : Interface) (is : List IdlInterface) (bs : List BodyText) (cs : List ClassDecl) : Type 0 where
   pub few : length is ≤ most_classes m
   pub faces : texts_breach m base is ≡ None
-  pub bodies : bodies_breach (classes_over m base is) (drawn_over m base is) bs ≡ None
+  pub bodies : bodies_breach (classes_over m base is) (drafts_over m base is) bs ≡ None
   pub limits : limit_passed (declarations m base is) ≡ None
-  pub each : EachApart (among_over m base is) m bs (drawn_over m base is) cs
+  pub each : EachApart (among_over m base is) m bs (drafts_over m base is) cs
 
 pub classes_apart : (m : Module) (base : Interface) (is : List IdlInterface) (bs : List BodyText) (cs : List ClassDecl) → elaborated_classes m base is bs ≡ Ok cs → ClassesApart m base is bs cs
 classes_apart m base is bs cs e =
-    let each = elaborated_each (among_over m base is) m bs (drawn_over m base is) in
+    let each = elaborated_each (among_over m base is) m bs (drafts_over m base is) in
     let limits = keeping (limit_passed (declarations m base is)) each in
-    let bodies = obeying (bodies_breach (classes_over m base is) (drawn_over m base is) bs) limits in
+    let bodies = obeying (bodies_breach (classes_over m base is) (drafts_over m base is) bs) limits in
     let p = kept (classes_passed m is) (obeying (texts_breach m base is) bodies) cs e in
     let q = obeyed (texts_breach m base is) bodies cs p.1 in
-    let r = obeyed (bodies_breach (classes_over m base is) (drawn_over m base is) bs) limits cs q.1 in
+    let r = obeyed (bodies_breach (classes_over m base is) (drafts_over m base is) bs) limits cs q.1 in
     let s = kept (limit_passed (declarations m base is)) each cs r.1 in
-    record { few = few_classes m is p.0; faces = q.0; bodies = r.0; limits = s.0; each = each_apart (among_over m base is) m bs (drawn_over m base is) cs s.1 }
+    record { few = few_classes m is p.0; faces = q.0; bodies = r.0; limits = s.0; each = each_apart (among_over m base is) m bs (drafts_over m base is) cs s.1 }
 
 -- ---- whole texts
 

@@ -25,17 +25,18 @@ use Rattle.som_rules.specs.Places.{class_of_place, with_kernel}
 use Rattle.som_typing.proofs.Facts.{signature_said}
 use Rattle.som_rules.proofs.Finding.{mem_place}
 use Rattle.som_sema.specs.declared.types.Refused.{Refused}
-use Rattle.som_sema.specs.Limits.{class_limits}
-use Rattle.som_sema.proofs.LimitLaws.{limits_law}
-use Rattle.som_elab.specs.declared.fault.BodyFault.{BodyFault}
-use Rattle.som_elab.specs.declared.fault.BodyFault.TheVariants as faults
-use Rattle.som_elab.specs.declared.ground.Ground.{Ground}
-use Rattle.som_elab.specs.Code.{Stops}
+use Rattle.som_elab.specs.Limits.{class_limits}
+use Rattle.som_elab.proofs.LimitLaws.{limits_law}
+use Rattle.som_forms.specs.declared.fault.BodyFault.{BodyFault}
+use Rattle.som_forms.specs.declared.fault.BodyFault.TheVariants as faults
+use Rattle.som_elab.specs.declared.contexts.ModuleContext.{ModuleContext}
+use Rattle.som_forms.specs.Code.{Stops}
 use Rattle.som_elab.specs.Bodies.{texts_for}
-use Rattle.som_elab.specs.Expressions.{Among}
-use Rattle.som_elab.specs.Statements.{Told}
-use Rattle.som_elab.specs.Elaboration.{Answers, Refusal, elaborated_body, refused_at, text_block}
-use Rattle.som_elab.specs.Grounds.{FewParameters, IsGround, classes_in, refused_as}
+use Rattle.som_forms.specs.Expressions.{Among}
+use Rattle.som_forms.specs.Statements.{Told}
+use Rattle.som_forms.specs.MethodBody.{elaborated_body}
+use Rattle.som_elab.specs.Elaboration.{Answers, Refusal, refused_at, text_block}
+use Rattle.som_elab.specs.Contexts.{FewParameters, IsModuleContext, classes_in, refused_as}
 
 -- ---- one block
 
@@ -66,7 +67,7 @@ past_kernel cs place d =
     let within : place - 4 < length cs = omega (arith, d.0, d.1) in
     subst (λ (z : ℕ). Mem (class_of_place (with_kernel cs) z) cs) (sym e) (mem_place cs (place - 4) within)
 
-module _ (g : Ground) (is : IsGround g) (place : ℕ) (there : IsDeclared (classes_in g) place) (d : ClassDecl) (same : (class_of_place (classes_in g) place).decl ≡ d)
+module _ (g : ModuleContext) (is : IsModuleContext g) (place : ℕ) (there : IsDeclared (classes_in g) place) (d : ClassDecl) (same : (class_of_place (classes_in g) place).decl ≡ d)
     (name : List ℕ) (sig : Sig) (way : Way) (m : Mem (entries.Introduced name sig way) d.face.entries) where
   own_entry : Mem (entries.Introduced name sig way) (class_of_place (classes_in g) place).decl.face.entries
   own_entry = subst (λ (z : ClassDecl). Mem (entries.Introduced name sig way) z.face.entries) (sym same) m

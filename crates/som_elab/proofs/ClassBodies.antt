@@ -29,21 +29,22 @@ use Rattle.som_read.specs.declared.tree.Word.{Word}
 use Rattle.som_idl.specs.declared.tree.IdlInterface.{IdlInterface}
 use Rattle.som_body.specs.declared.tree.BodyText.{BodyText}
 use Rattle.som_rules.specs.Plainly.{ClassesHold, Fits, a_block, signatures}
-use Rattle.som_sema.specs.Accessors.{Access, accessor_body, body_of}
+use Rattle.som_elab.specs.Accessors.{Access, accessor_body, body_of}
 use Rattle.som_sema.specs.Building.{after_base, declarations, texts_breach}
-use Rattle.som_sema.specs.Sketch.{Drawn}
-use Rattle.som_sema.specs.Words.{words}
-use Rattle.som_elab.specs.Locals.{kinds_of}
-use Rattle.som_elab.specs.Expressions.{Among}
-use Rattle.som_elab.specs.Statements.{Breaks, Told, elaborated_block}
-use Rattle.som_elab.specs.Bodies.{body_sig, classes_over, drawn_over, text_s13, texts_for}
-use Rattle.som_elab.specs.Elaboration.{among_over, elaborated_body, elaborated_class, entry_bodies, entry_body, override_block, override_blocks, parameters, refused_at, text_block, with_blocks}
+use Rattle.som_sema.specs.Drafts.{InterfaceDraft}
+use Rattle.som_scope.specs.Words.{words}
+use Rattle.som_forms.specs.Locals.{kinds_of}
+use Rattle.som_forms.specs.Expressions.{Among}
+use Rattle.som_forms.specs.Statements.{Breaks, Told, elaborated_block}
+use Rattle.som_elab.specs.Bodies.{body_sig, classes_over, drafts_over, text_s13, texts_for}
+use Rattle.som_forms.specs.MethodBody.{elaborated_body, parameters}
+use Rattle.som_elab.specs.Elaboration.{among_over, elaborated_class, entry_bodies, entry_body, override_block, override_blocks, refused_at, text_block, with_blocks}
 use Rattle.som_elab.proofs.Declared.{body_fits, own}
 use Rattle.som_elab.proofs.Fitting.{accessed}
 use Rattle.som_elab.proofs.Plain.{emptied, plain, scope_other}
 use Rattle.som_elab.proofs.Signatures.{as_many, operation_signed, override_signed}
-use Rattle.som_elab.proofs.TypedBodies.{text_typed}
-use Rattle.som_elab.proofs.Went.{same_answer, went}
+use Rattle.som_forms.proofs.TypedBodies.{text_typed}
+use Rattle.som_forms.proofs.Went.{same_answer, went}
 
 pub refused_ok : {A : Type 0} (class member : List ℕ) (x : Told A) (r : A) → refused_at class member x ≡ Ok r → x ≡ Ok r
 refused_ok class member (Ok a) r e = ap Ok (same_answer e)
@@ -79,7 +80,7 @@ breach_by cs c o (Some sig) = block_breach cs c o.method.name sig o.block
 module _ (m : Module) (base : Interface) (is : List IdlInterface) (bs : List BodyText)
     (holds : ClassesHold (after_base m (interface_classes base) (declarations m base is)))
     (rules : texts_breach m base is ≡ None)
-    (s13 : first (flat_map (text_s13 (classes_over m base is) (drawn_over m base is)) bs) ≡ None)
+    (s13 : first (flat_map (text_s13 (classes_over m base is) (drafts_over m base is)) bs) ≡ None)
     (all : List Class)
     (facts : class_facts all ≡ class_facts (classes_over m base is))
     (signed : (r : MethodRef) → sig_of all (owner all r) ≡ sig_of (classes_over m base is) (owner (classes_over m base is) r))
@@ -87,7 +88,7 @@ module _ (m : Module) (base : Interface) (is : List IdlInterface) (bs : List Bod
   abbrev a : Among
   a = among_over m base is
 
-  abbrev d : Drawn
+  abbrev d : InterfaceDraft
   d = own m base is i
 
   abbrev c : Class
@@ -224,7 +225,7 @@ pub record ClassStands (all : List Class) (m : Module) (c : ClassDecl) : Type 0 
 module _ (m : Module) (base : Interface) (is : List IdlInterface) (bs : List BodyText)
     (holds : ClassesHold (after_base m (interface_classes base) (declarations m base is)))
     (rules : texts_breach m base is ≡ None)
-    (s13 : first (flat_map (text_s13 (classes_over m base is) (drawn_over m base is)) bs) ≡ None)
+    (s13 : first (flat_map (text_s13 (classes_over m base is) (drafts_over m base is)) bs) ≡ None)
     (all : List Class)
     (facts : class_facts all ≡ class_facts (classes_over m base is))
     (signed : (r : MethodRef) → sig_of all (owner all r) ≡ sig_of (classes_over m base is) (owner (classes_over m base is) r)) where

@@ -19,21 +19,21 @@ use Rattle.som_body.specs.declared.tree.BlockText.{BlockText}
 use Rattle.som_body.specs.declared.tree.BodyText.{BodyText}
 use Rattle.som_typing.proofs.Facts.{signature_said}
 use Rattle.som_sema.specs.declared.types.Refused.{Refused}
-use Rattle.som_sema.specs.Accessors.{body_of}
-use Rattle.som_sema.specs.Sketch.{Drawn, drawings, seen}
-use Rattle.som_sema.specs.declared.sketch.Drawing.{Drawing}
+use Rattle.som_elab.specs.Accessors.{body_of}
+use Rattle.som_sema.specs.Drafts.{InterfaceDraft, plain_drafts, plain_draft}
+use Rattle.som_sema.specs.declared.drafts.Draft.{Draft}
 use Rattle.som_elab.specs.declared.all_bodies.AllBodies.{AllBodies}
 use Rattle.som_elab.specs.declared.class_bodies.ClassBodies.{ClassBodies}
 use Rattle.som_elab.specs.Bodies.{texts_for}
-use Rattle.som_elab.specs.Expressions.{Among}
+use Rattle.som_forms.specs.Expressions.{Among}
 use Rattle.som_elab.specs.Elaboration.{Answers, Refusal, entry_bodies, entry_body, override_block, override_blocks, text_block}
-use Rattle.som_elab.specs.Grounds.{class_steps, each_steps, main_block, signed_steps, whole_steps}
+use Rattle.som_elab.specs.Contexts.{class_steps, each_steps, main_block, signed_steps, module_steps}
 use Rattle.som_elab.proofs.Gathering.{after, after_none, ends, gathers, goes, refuses, skips, stops, with_more}
 
 module _ (a : Among) (bs : List BodyText) where
   -- ---- one class
 
-  module _ (d : Drawn) (c : Class) where
+  module _ (d : InterfaceDraft) (c : Class) where
     abbrev then_overrides : List Body → Result ClassBodies Refusal
     then_overrides own = override_blocks a bs c d.class.overrides >>= λ others. Ok (record { bodies = own; overrides = others })
 
@@ -120,40 +120,40 @@ module _ (a : Among) (bs : List BodyText) where
   -- ---- all classes
 
   module _ (m : Module) where
-    abbrev each_of : List Drawing → Result (List ClassBodies) Refusal
-    each_of ds = each_steps a m bs (drawings ds)
+    abbrev each_of : List Draft → Result (List ClassBodies) Refusal
+    each_of ds = each_steps a m bs (plain_drafts ds)
 
-    module _ (ds : List Drawing) (i : ℕ) (x : Drawing) (lt : i < length ds) (is : x ≡ get_or ds i x) (done : List ClassBodies) (so : after done (each_of (drop i ds)) ≡ each_of ds) (c : Class) (there : c ≡ class_in m x.decl) where
-      class_law : (ys : List Drawing) → each_of (x ∷ ys) ≡ (class_steps a bs (seen x) c >>= λ y. with_more y (each_of ys))
-      class_law ys = ap (λ (z : Class). class_steps a bs (seen x) z >>= λ y. with_more y (each_of ys)) (sym there)
+    module _ (ds : List Draft) (i : ℕ) (x : Draft) (lt : i < length ds) (is : x ≡ get_or ds i x) (done : List ClassBodies) (so : after done (each_of (drop i ds)) ≡ each_of ds) (c : Class) (there : c ≡ class_in m x.decl) where
+      class_law : (ys : List Draft) → each_of (x ∷ ys) ≡ (class_steps a bs (plain_draft x) c >>= λ y. with_more y (each_of ys))
+      class_law ys = ap (λ (z : Class). class_steps a bs (plain_draft x) z >>= λ y. with_more y (each_of ys)) (sym there)
 
-      pub class_next : (b : ClassBodies) → class_steps a bs (seen x) c ≡ Ok b → after (done ++ b ∷ []) (each_of (drop (i + 1) ds)) ≡ each_of ds
-      class_next b e = gathers each_of ds i x lt is (class_steps a bs (seen x) c) class_law (each_of ds) done b e so
+      pub class_next : (b : ClassBodies) → class_steps a bs (plain_draft x) c ≡ Ok b → after (done ++ b ∷ []) (each_of (drop (i + 1) ds)) ≡ each_of ds
+      class_next b e = gathers each_of ds i x lt is (class_steps a bs (plain_draft x) c) class_law (each_of ds) done b e so
 
-      pub class_stops : (e : Refused) → Answers {A = ClassBodies} (class_steps a bs (seen x) c) (Err e) → Answers {A = List ClassBodies} (each_of ds) (Err e)
-      class_stops e t = refuses each_of ds i x lt is (class_steps a bs (seen x) c) class_law (each_of ds) done e t so
+      pub class_stops : (e : Refused) → Answers {A = ClassBodies} (class_steps a bs (plain_draft x) c) (Err e) → Answers {A = List ClassBodies} (each_of ds) (Err e)
+      class_stops e t = refuses each_of ds i x lt is (class_steps a bs (plain_draft x) c) class_law (each_of ds) done e t so
 
-    pub classes_end : (ds : List Drawing) (i : ℕ) (done : List ClassBodies) → length ds ≤ i → after done (each_of (drop i ds)) ≡ each_of ds → each_of ds ≡ Ok done
+    pub classes_end : (ds : List Draft) (i : ℕ) (done : List ClassBodies) → length ds ≤ i → after done (each_of (drop i ds)) ≡ each_of ds → each_of ds ≡ Ok done
     classes_end ds i done le so = ends each_of ds i (each_of ds) done le refl so
 
-    pub classes_start : (ds : List Drawing) → after [] (each_of ds) ≡ each_of ds
+    pub classes_start : (ds : List Draft) → after [] (each_of ds) ≡ each_of ds
     classes_start ds = after_none (each_of ds)
 
     -- ---- and main
 
-    module _ (ds : List Drawn) (main : Option BlockText) where
+    module _ (ds : List InterfaceDraft) (main : Option BlockText) where
       abbrev then_main : List ClassBodies → Result AllBodies Refusal
       then_main cs = main_block a main >>= λ block. Ok (record { classes = cs; main = block })
 
-      pub classes_refused : (e : Refused) → Answers {A = List ClassBodies} (each_steps a m bs ds) (Err e) → Answers {A = AllBodies} (whole_steps a m bs ds main) (Err e)
+      pub classes_refused : (e : Refused) → Answers {A = List ClassBodies} (each_steps a m bs ds) (Err e) → Answers {A = AllBodies} (module_steps a m bs ds main) (Err e)
       classes_refused e t = stops (each_steps a m bs ds) then_main e t
 
-      pub main_refused : (cs : List ClassBodies) (e : Refused) → each_steps a m bs ds ≡ Ok cs → Answers {A = Block} (main_block a main) (Err e) → Answers {A = AllBodies} (whole_steps a m bs ds main) (Err e)
+      pub main_refused : (cs : List ClassBodies) (e : Refused) → each_steps a m bs ds ≡ Ok cs → Answers {A = Block} (main_block a main) (Err e) → Answers {A = AllBodies} (module_steps a m bs ds main) (Err e)
       main_refused cs e made t =
           goes (each_steps a m bs ds) then_main cs (Err e) made
           (stops (main_block a main) (λ block. let w : AllBodies = record { classes = cs; main = block } in Ok w) e t)
 
-      pub whole_made : (cs : List ClassBodies) (block : Block) → each_steps a m bs ds ≡ Ok cs → main_block a main ≡ Ok block → whole_steps a m bs ds main ≡ Ok (record { classes = cs; main = block })
-      whole_made cs block e f =
+      pub module_made : (cs : List ClassBodies) (block : Block) → each_steps a m bs ds ≡ Ok cs → main_block a main ≡ Ok block → module_steps a m bs ds main ≡ Ok (record { classes = cs; main = block })
+      module_made cs block e f =
           ap (λ (z : Result (List ClassBodies) Refusal). z >>= then_main) e
           ∙ ap (λ (z : Result Block Refusal). z >>= λ block. let w : AllBodies = record { classes = cs; main = block } in Ok w) f

@@ -9,61 +9,61 @@ use Rattle.som_model.specs.Class.{class_in}
 use Rattle.som_model.specs.Steps.{◌>>=◌}
 use Rattle.som_idl.specs.declared.tree.IdlInterface.{IdlInterface}
 use Rattle.som_body.specs.declared.tree.BodyText.{BodyText}
-use Rattle.som_sema.specs.Sketch.{Drawn, drawings, seen}
-use Rattle.som_sema.specs.declared.sketch.Drawing.{Drawing}
-use Rattle.som_sema.specs.Words.{lent}
+use Rattle.som_sema.specs.Drafts.{InterfaceDraft, plain_drafts, plain_draft}
+use Rattle.som_sema.specs.declared.drafts.Draft.{Draft}
+use Rattle.som_scope.specs.Words.{lent}
 use Rattle.som_elab.specs.declared.class_bodies.ClassBodies.{ClassBodies}
-use Rattle.som_elab.specs.Bodies.{beside}
-use Rattle.som_elab.specs.Expressions.{Among}
+use Rattle.som_elab.specs.Bodies.{drafts_of_classes}
+use Rattle.som_forms.specs.Expressions.{Among}
 use Rattle.som_elab.specs.Elaboration.{Refusal, elaborated_class, elaborated_each, entry_bodies, override_blocks, with_blocks}
-use Rattle.som_elab.specs.Grounds.{class_steps, completed, each_steps}
+use Rattle.som_elab.specs.Contexts.{class_steps, completed, each_steps}
 
 -- an interface and a declaration that are passed together
-abbrev pub paired : (Bor IdlInterface) × ClassDecl → Drawn
+abbrev pub paired : (Bor IdlInterface) × ClassDecl → InterfaceDraft
 paired p = record { text = p.0.now; class = p.1 }
 
 -- the same, with one borrow less
 abbrev pub one_less : (Bor (Bor IdlInterface)) × ClassDecl → (Bor IdlInterface) × ClassDecl
 one_less p = (p.0.now, p.1)
 
-pub paired_beside : (is : List (Bor IdlInterface)) (cs : List ClassDecl) → map paired (zip is cs) ≡ beside (lent is) cs
-paired_beside [] cs = refl
-paired_beside (i ∷ is) [] = refl
-paired_beside (i ∷ is) (c ∷ cs) = ap (λ z. paired (i, c) ∷ z) (paired_beside is cs)
+pub paired_drafts : (is : List (Bor IdlInterface)) (cs : List ClassDecl) → map paired (zip is cs) ≡ drafts_of_classes (lent is) cs
+paired_drafts [] cs = refl
+paired_drafts (i ∷ is) [] = refl
+paired_drafts (i ∷ is) (c ∷ cs) = ap (λ z. paired (i, c) ∷ z) (paired_drafts is cs)
 
 -- a class and its bodies that are passed together
-abbrev pub passed : Drawing × ClassBodies → Drawing × ClassBodies
+abbrev pub passed : Draft × ClassBodies → Draft × ClassBodies
 passed p = (p.0, p.1)
 
 -- the class that they make
-abbrev pub filled : Drawing × ClassBodies → ClassDecl
+abbrev pub filled : Draft × ClassBodies → ClassDecl
 filled p = with_blocks p.0.decl p.1.bodies p.1.overrides
 
-pub filled_completed : (ds : List Drawing) (bs : List ClassBodies) → map filled (zip ds bs) ≡ completed (drawings ds) bs
+pub filled_completed : (ds : List Draft) (bs : List ClassBodies) → map filled (zip ds bs) ≡ completed (plain_drafts ds) bs
 filled_completed [] bs = refl
 filled_completed (d ∷ ds) [] = refl
 filled_completed (d ∷ ds) (b ∷ bs) = ap (λ z. filled (d, b) ∷ z) (filled_completed ds bs)
 
 -- ---- bodies of all classes, and then the classes
 
-abbrev class_of_bodies : Drawn → ClassBodies → ClassDecl
+abbrev class_of_bodies : InterfaceDraft → ClassBodies → ClassDecl
 class_of_bodies d b = with_blocks d.class b.bodies b.overrides
 
-class_by : (d : Drawn) (r : Result (List Body) Refusal) (s : Result (List Override) Refusal)
+class_by : (d : InterfaceDraft) (r : Result (List Body) Refusal) (s : Result (List Override) Refusal)
     → (r >>= λ own. s >>= λ others. Ok (with_blocks d.class own others))
     ≡ ((r >>= λ own. s >>= λ others. let made : ClassBodies = record { bodies = own; overrides = others } in Ok made) >>= λ b. Ok (class_of_bodies d b))
 class_by d (Ok own) (Ok others) = refl
 class_by d (Ok own) (Err e) = refl
 class_by d (Err e) s = refl
 
-more_by : (d : Drawn) (ds : List Drawn) (r : Result ClassBodies Refusal) (s : Result (List ClassBodies) Refusal)
+more_by : (d : InterfaceDraft) (ds : List InterfaceDraft) (r : Result ClassBodies Refusal) (s : Result (List ClassBodies) Refusal)
     → ((r >>= λ b. Ok (class_of_bodies d b)) >>= λ c. (s >>= λ bs. Ok (completed ds bs)) >>= λ cs. Ok (c ∷ cs))
     ≡ ((r >>= λ b. s >>= λ bs. Ok (b ∷ bs)) >>= λ bs. Ok (completed (d ∷ ds) bs))
 more_by d ds (Ok b) (Ok bs) = refl
 more_by d ds (Ok b) (Err e) = refl
 more_by d ds (Err e) s = refl
 
-pub each_completed : (a : Among) (m : Module) (bs : List BodyText) (ds : List Drawn) → elaborated_each a m bs ds ≡ (each_steps a m bs ds >>= λ cs. Ok (completed ds cs))
+pub each_completed : (a : Among) (m : Module) (bs : List BodyText) (ds : List InterfaceDraft) → elaborated_each a m bs ds ≡ (each_steps a m bs ds >>= λ cs. Ok (completed ds cs))
 each_completed a m bs [] = refl
 each_completed a m bs (d ∷ ds) =
     ap (λ (z : Result ClassDecl Refusal). z >>= λ c. elaborated_each a m bs ds >>= λ cs. Ok (c ∷ cs))

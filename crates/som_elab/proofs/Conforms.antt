@@ -32,19 +32,19 @@ use Rattle.som_rules.proofs.PlainLists.{map_mem, says_each}
 use Rattle.som_rules.proofs.PlainMembers.{types_say}
 use Rattle.som_rules.proofs.PlainWhole.{say_program, say_rules}
 use Rattle.som_sema.specs.Building.{after_base, declarations, texts_breach}
-use Rattle.som_sema.specs.Limits.{Passed, limit_passed}
-use Rattle.som_sema.specs.Sketch.{Drawn, sketches}
+use Rattle.som_elab.specs.Limits.{Passed, limit_passed}
+use Rattle.som_sema.specs.Drafts.{InterfaceDraft, draft_classes}
 use Rattle.som_sema.proofs.TextsConform.{texts_conform}
-use Rattle.som_elab.specs.Expressions.{Among}
-use Rattle.som_elab.specs.Statements.{elaborated_block}
-use Rattle.som_elab.specs.Bodies.{bodies_breach, classes_over, drawn_over, text_s13, text_s14}
+use Rattle.som_forms.specs.Expressions.{Among}
+use Rattle.som_forms.specs.Statements.{elaborated_block}
+use Rattle.som_elab.specs.Bodies.{bodies_breach, classes_over, drafts_over, text_s13, text_s14}
 use Rattle.som_elab.specs.Elaboration.{Refusal, among_over, classes_passed, elaborated_class, elaborated_classes, elaborated_each, elaborated_main, elaborated_program, elaborated_release, entry_bodies, keeping, nothing_before, obeying, override_blocks, with_blocks}
 use Rattle.som_elab.proofs.ClassBodies.{ClassStands, class_stands, methods_kept, refused_ok, same_but_bodies}
-use Rattle.som_elab.proofs.Declared.{drawn_are, drawn_classes, own}
+use Rattle.som_elab.proofs.Declared.{drafts_are, draft_classes_are, own}
 use Rattle.som_elab.proofs.Plain.{facts_other, plain, sig_other}
 use Rattle.som_elab.proofs.PlainRules.{classes_other, types_other}
-use Rattle.som_elab.proofs.TypedBodies.{text_typed}
-use Rattle.som_elab.proofs.Went.{same_answer, went}
+use Rattle.som_forms.proofs.TypedBodies.{text_typed}
+use Rattle.som_forms.proofs.Went.{same_answer, went}
 
 kept : {A : Type 0} (o : Option Passed) (further : Result A Refusal) (r : A) → keeping o further ≡ Ok r → further ≡ Ok r
 kept None further r e = e
@@ -65,7 +65,7 @@ map_both f (x ∷ xs) ys = ap (λ z. f x ∷ z) (map_both f xs ys)
 -- ---- classes with their bodies, one by one
 
 module _ (a : Among) (m : Module) (bs : List BodyText) where
-  class_same : (d : Drawn) (c : ClassDecl) → elaborated_class a m bs d ≡ Ok c → plain (class_in m d.class) ≡ plain (class_in m c)
+  class_same : (d : InterfaceDraft) (c : ClassDecl) → elaborated_class a m bs d ≡ Ok c → plain (class_in m d.class) ≡ plain (class_in m c)
   class_same d c h =
       let here = class_in m d.class in
       let x = went (entry_bodies a bs d here d.class.face.entries) (λ made. override_blocks a bs here d.class.overrides >>= λ others. Ok (with_blocks d.class made others)) c h in
@@ -73,23 +73,23 @@ module _ (a : Among) (m : Module) (bs : List BodyText) where
       same_but_bodies m d.class x.value y.value (methods_kept a bs here d.class.overrides y.value y.first)
       ∙ ap (λ (z : ClassDecl). plain (class_in m z)) (same_answer y.further)
 
-  each_same : (ds : List Drawn) (cs : List ClassDecl) → elaborated_each a m bs ds ≡ Ok cs → map plain (map (class_in m) (sketches ds)) ≡ map plain (map (class_in m) cs)
+  each_same : (ds : List InterfaceDraft) (cs : List ClassDecl) → elaborated_each a m bs ds ≡ Ok cs → map plain (map (class_in m) (draft_classes ds)) ≡ map plain (map (class_in m) cs)
   each_same [] cs h = ap (λ (z : List ClassDecl). map plain (map (class_in m) z)) (same_answer h)
   each_same (d ∷ ds) cs h =
       let x = went (elaborated_class a m bs d) (λ c. elaborated_each a m bs ds >>= λ cs. Ok (c ∷ cs)) cs h in
       let y = went (elaborated_each a m bs ds) (λ cs. Ok (x.value ∷ cs)) cs x.further in
-      ap (λ z. z ∷ map plain (map (class_in m) (sketches ds))) (class_same d x.value x.first)
+      ap (λ z. z ∷ map plain (map (class_in m) (draft_classes ds))) (class_same d x.value x.first)
       ∙ ap (λ z. plain (class_in m x.value) ∷ z) (each_same ds y.value y.first)
       ∙ ap (λ (z : List ClassDecl). map plain (map (class_in m) z)) (same_answer y.further)
 
-  of_drawn : (ds : List Drawn) (cs : List ClassDecl) → elaborated_each a m bs ds ≡ Ok cs → (c : ClassDecl) → Mem c cs → (d : Drawn) × Mem d ds × (elaborated_class a m bs d ≡ Ok c)
-  of_drawn [] cs h c n = absurd (subst (λ (z : List ClassDecl). Mem c z) (sym (same_answer h)) n)
-  of_drawn (d ∷ ds) cs h c n =
+  of_draft : (ds : List InterfaceDraft) (cs : List ClassDecl) → elaborated_each a m bs ds ≡ Ok cs → (c : ClassDecl) → Mem c cs → (d : InterfaceDraft) × Mem d ds × (elaborated_class a m bs d ≡ Ok c)
+  of_draft [] cs h c n = absurd (subst (λ (z : List ClassDecl). Mem c z) (sym (same_answer h)) n)
+  of_draft (d ∷ ds) cs h c n =
       let x = went (elaborated_class a m bs d) (λ c. elaborated_each a m bs ds >>= λ cs. Ok (c ∷ cs)) cs h in
       let y = went (elaborated_each a m bs ds) (λ cs. Ok (x.value ∷ cs)) cs x.further in
       elim (subst (λ (z : List ClassDecl). Mem c z) (sym (same_answer y.further)) n) [
         | inl e ↦ (d, inl refl, x.first ∙ ap Ok (sym e))
-        | inr k ↦ (let r = of_drawn ds y.value y.first c k in (r.0, inr r.1, r.2))
+        | inr k ↦ (let r = of_draft ds y.value y.first c k in (r.0, inr r.1, r.2))
       ]
 
 -- ---- the classes of a module
@@ -145,13 +145,13 @@ module _ (m : Module) (base : Interface) (is : List IdlInterface) (conforms : fa
         own_types = types_say (with_kernel after) done (subst (λ (z : List Class). first (flat_map (s5 (kernel ++ after)) z) ≡ None) rest_is t.1);
       }
 
-  module _ (bs : List BodyText) (s13 : first (flat_map (text_s13 (classes_over m base is) (drawn_over m base is)) bs) ≡ None)
-      (cs : List ClassDecl) (made : elaborated_each (among_over m base is) m bs (drawn_over m base is) ≡ Ok cs) where
+  module _ (bs : List BodyText) (s13 : first (flat_map (text_s13 (classes_over m base is) (drafts_over m base is)) bs) ≡ None)
+      (cs : List ClassDecl) (made : elaborated_each (among_over m base is) m bs (drafts_over m base is) ≡ Ok cs) where
     abbrev finished : List Class
     finished = after_base m before cs
 
     own_same : map plain done ≡ map plain (map (class_in m) cs)
-    own_same = ap (λ (z : List ClassDecl). map plain (map (class_in m) z)) (sym (drawn_classes m base is)) ∙ each_same (among_over m base is) m bs (drawn_over m base is) cs made
+    own_same = ap (λ (z : List ClassDecl). map plain (map (class_in m) z)) (sym (draft_classes_are m base is)) ∙ each_same (among_over m base is) m bs (drafts_over m base is) cs made
 
     after_same : map plain after ≡ map plain finished
     after_same = map_both plain before done ∙ ap (λ z. map plain before ++ z) own_same ∙ sym (map_both plain before (map (class_in m) cs))
@@ -164,8 +164,8 @@ module _ (m : Module) (base : Interface) (is : List IdlInterface) (conforms : fa
 
     stands : (c : ClassDecl) → Mem c cs → ClassStands (with_kernel finished) m c
     stands c n =
-        let r = of_drawn (among_over m base is) m bs (drawn_over m base is) cs made c n in
-        let s = map_mem (own m base is) r.0 is (subst (λ z. Mem r.0 z) (drawn_are m base is) r.1) in
+        let r = of_draft (among_over m base is) m bs (drafts_over m base is) cs made c n in
+        let s = map_mem (own m base is) r.0 is (subst (λ z. Mem r.0 z) (drafts_are m base is) r.1) in
         class_stands m base is bs declarations_hold.classes rules s13 (with_kernel finished) facts_same (sig_other (with_kernel finished) (with_kernel after) (sym all_same)) s.0 s.1 c
         (ap (elaborated_class (among_over m base is) m bs) (sym s.2) ∙ r.2)
 
@@ -193,13 +193,13 @@ module _ (m : Module) (base : Interface) (is : List IdlInterface) (conforms : fa
 
 all_stand : (m : Module) (base : Interface) (is : List IdlInterface) (bs : List BodyText) (cs : List ClassDecl) → faces_breach (interface_classes base) ≡ None → elaborated_classes m base is bs ≡ Ok cs → Stand m base is cs
 all_stand m base is bs cs conforms h =
-    let made = elaborated_each (among_over m base is) m bs (drawn_over m base is) in
-    let bodies = bodies_breach (classes_over m base is) (drawn_over m base is) bs in
+    let made = elaborated_each (among_over m base is) m bs (drafts_over m base is) in
+    let bodies = bodies_breach (classes_over m base is) (drafts_over m base is) bs in
     let limited = keeping (limit_passed (declarations m base is)) made in
     let p = kept (classes_passed m is) (obeying (texts_breach m base is) (obeying bodies limited)) cs h in
     let q = obeyed (texts_breach m base is) (obeying bodies limited) cs p in
     let r = obeyed bodies limited cs q.1 in
-    let s = or_none (first (flat_map (text_s13 (classes_over m base is) (drawn_over m base is)) bs)) (first (flat_map (text_s14 bs) (drawn_over m base is))) r.0 in
+    let s = or_none (first (flat_map (text_s13 (classes_over m base is) (drafts_over m base is)) bs)) (first (flat_map (text_s14 bs) (drafts_over m base is))) r.0 in
     module_stands m base is conforms q.0 bs s.0 cs (kept (limit_passed (declarations m base is)) made cs r.1)
 
 -- ---- releases

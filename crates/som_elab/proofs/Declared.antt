@@ -1,4 +1,4 @@
--- The classes that texts declare, each beside its text, and what each introduces.
+-- The classes that texts declare, each drafts_of_classes its text, and what each introduces.
 use Rattle.std.proofs.Common.{◌≡◌, ℕ, inl, inr, Bool, true, false, if◌then◌else◌, List, [], ◌∷◌, ◌++◌, length, map, flat_map, Option, Some, None, option_map, refl, sym, ap, ◌∙◌, subst, true≢false}
 use Rattle.std.specs.Str.{bytes_eq}
 use Rattle.som_model.specs.declared.key.ClassKey.{ClassKey}
@@ -29,15 +29,15 @@ use Rattle.som_rules.proofs.PlainFaces.{or_none}
 use Rattle.som_rules.proofs.PlainLists.{differ_apart, map_mem, mem_map}
 use Rattle.som_rules.proofs.PlainMembers.{variables_say}
 use Rattle.som_rules.proofs.PlainMoves.{flat_mem, mem_flat}
-use Rattle.som_sema.specs.Accessors.{Access, accessor_body, accessors_of, attribute_accessors, body_of, export_accessors}
-use Rattle.som_sema.specs.Building.{after_base, declarations, declared_all, home_of, moved_breach, texts_breach}
+use Rattle.som_elab.specs.Accessors.{Access, accessor_body, accessors_of, attribute_accessors, body_of, export_accessors}
+use Rattle.som_sema.specs.Building.{after_base, declarations, declared_all, module_over, moved_breach, texts_breach}
 use Rattle.som_sema.specs.Finished.{declare, entry_for, entry_or_moved, introducer}
-use Rattle.som_sema.specs.Home.{type_of}
+use Rattle.som_scope.specs.ClassNames.{type_of}
 use Rattle.som_sema.specs.Items.{by_name}
-use Rattle.som_sema.specs.Sketch.{Drawn, accessors, drawn, export_entries, getter, introduces, setter, sketch, sketches, variables}
+use Rattle.som_sema.specs.Drafts.{InterfaceDraft, accessors, draft_of, export_entries, getter, introduces, setter, draft_class, draft_classes, variables}
 use Rattle.som_sema.specs.TextRules.{text_s2_from, text_s4, text_s6, text_s11, text_s12}
 use Rattle.som_sema.proofs.TextLaws.{map_same, names_law}
-use Rattle.som_elab.specs.Bodies.{beside, drawn_over, operation_name, operations}
+use Rattle.som_elab.specs.Bodies.{drafts_of_classes, drafts_over, operation_name, operations}
 use Rattle.som_elab.proofs.Fitting.{accessed, accessor_fits, both_flat}
 
 -- ---- the one of a name
@@ -73,9 +73,9 @@ pub data Source (i : IdlInterface) (name : List ℕ) : Type 0 where
   an_operation : among name (operations i) ≡ true → Source i name
   an_accessor : (a : Access) → Mem a (accessors_of i) → a.name ≡ name → Source i name
 
-module _ (home : List ℕ → Module) (i : IdlInterface) (name : List ℕ) (sig : Sig) (way : Way) where
+module _ (module_of : List ℕ → Module) (i : IdlInterface) (name : List ℕ) (sig : Sig) (way : Way) where
   attribute_source : (readonly : Bool) (kind : TypeName) (names : List Word) (w : Word) → Mem (exports.Attribute readonly kind names) (i.before ++ i.after) → Mem w names
-      → Mem (entries.Introduced name sig way) (accessors (by_name i.items) readonly (type_of home kind) w.text) → Source i name
+      → Mem (entries.Introduced name sig way) (accessors (by_name i.items) readonly (type_of module_of kind) w.text) → Source i name
   attribute_source readonly kind names w x n (inl e) =
       let a : Access = record { name = getter w.text; attribute = w.text; sets = false } in
       an_accessor a
@@ -89,18 +89,18 @@ module _ (home : List ℕ → Module) (i : IdlInterface) (name : List ℕ) (sig 
       (sym (ap entry_name e))
   attribute_source false kind names w x n (inr (inr k)) = absurd k
 
-  export_source : (x : Export) → Mem x (i.before ++ i.after) → Mem (entries.Introduced name sig way) (export_entries home (by_name i.items) x) → Source i name
+  export_source : (x : Export) → Mem x (i.before ++ i.after) → Mem (entries.Introduced name sig way) (export_entries module_of (by_name i.items) x) → Source i name
   export_source (exports.Attribute readonly kind names) m n =
-      let r = flat_mem (λ (w : Word). accessors (by_name i.items) readonly (type_of home kind) w.text) (entries.Introduced name sig way) names n in
+      let r = flat_mem (λ (w : Word). accessors (by_name i.items) readonly (type_of module_of kind) w.text) (entries.Introduced name sig way) names n in
       attribute_source readonly kind names r.0 m r.1 r.2
   export_source (exports.Operation result w params) m (inl e) =
       an_operation (mem_some (bytes_eq name) name (operations i)
       (both_flat operation_name name (exports.Operation result w params) i.before i.after m (inl (ap entry_name e))) (exact_bytes.one name))
   export_source (exports.Operation result w params) m (inr k) = absurd k
 
-  pub source : Mem (entries.Introduced name sig way) (introduces home i) → Source i name
+  pub source : Mem (entries.Introduced name sig way) (introduces module_of i) → Source i name
   source m =
-      let f = export_entries home (by_name i.items) in
+      let f = export_entries module_of (by_name i.items) in
       elim (mem_split (entries.Introduced name sig way) (flat_map f i.before) (flat_map f i.after) m) [
         | inl n ↦ (let r = flat_mem f (entries.Introduced name sig way) i.before n in export_source r.0 (mem_left r.0 i.before i.after r.1) r.2)
         | inr n ↦ (let r = flat_mem f (entries.Introduced name sig way) i.after n in export_source r.0 (mem_right r.0 i.before i.after r.1) r.2)
@@ -108,50 +108,50 @@ module _ (home : List ℕ → Module) (i : IdlInterface) (name : List ℕ) (sig 
 
 -- ---- each interface with its declaration, one by one
 
-beside_map : (f : Drawn → ClassDecl) (g : IdlInterface → Drawn) (is : List IdlInterface) → beside is (map f (map g is)) ≡ map (λ i. record { text = i; class = f (g i) }) is
-beside_map f g [] = refl
-beside_map f g (i ∷ is) = ap (λ z. record { text = i; class = f (g i) } ∷ z) (beside_map f g is)
+drafts_of_classes_map : (f : InterfaceDraft → ClassDecl) (g : IdlInterface → InterfaceDraft) (is : List IdlInterface) → drafts_of_classes is (map f (map g is)) ≡ map (λ i. record { text = i; class = f (g i) }) is
+drafts_of_classes_map f g [] = refl
+drafts_of_classes_map f g (i ∷ is) = ap (λ z. record { text = i; class = f (g i) } ∷ z) (drafts_of_classes_map f g is)
 
-beside_classes : (f : Drawn → ClassDecl) (g : IdlInterface → Drawn) (is : List IdlInterface) → sketches (beside is (map f (map g is))) ≡ map f (map g is)
-beside_classes f g [] = refl
-beside_classes f g (i ∷ is) = ap (λ z. f (g i) ∷ z) (beside_classes f g is)
+classes_of_drafts : (f : InterfaceDraft → ClassDecl) (g : IdlInterface → InterfaceDraft) (is : List IdlInterface) → draft_classes (drafts_of_classes is (map f (map g is))) ≡ map f (map g is)
+classes_of_drafts f g [] = refl
+classes_of_drafts f g (i ∷ is) = ap (λ z. f (g i) ∷ z) (classes_of_drafts f g is)
 
 module _ (m : Module) (base : Interface) (is : List IdlInterface) where
-  abbrev pub text_home : List ℕ → Module
-  text_home = home_of m base is
+  abbrev pub text_module_of : List ℕ → Module
+  text_module_of = module_over m base is
 
-  abbrev texts_drawn : List Drawn
-  texts_drawn = map (drawn text_home) is
+  abbrev text_drafts : List InterfaceDraft
+  text_drafts = map (draft_of text_module_of) is
 
   abbrev texts_known : List Class
-  texts_known = with_kernel (after_base m (interface_classes base) (sketches texts_drawn))
+  texts_known = with_kernel (after_base m (interface_classes base) (draft_classes text_drafts))
 
   -- an interface with its declaration
-  abbrev pub own : IdlInterface → Drawn
-  own i = record { text = i; class = declare texts_known m (drawn text_home i) }
+  abbrev pub own : IdlInterface → InterfaceDraft
+  own i = record { text = i; class = declare texts_known m (draft_of text_module_of i) }
 
-  pub drawn_are : drawn_over m base is ≡ map own is
-  drawn_are = beside_map (declare texts_known m) (drawn text_home) is
+  pub drafts_are : drafts_over m base is ≡ map own is
+  drafts_are = drafts_of_classes_map (declare texts_known m) (draft_of text_module_of) is
 
-  pub drawn_classes : sketches (drawn_over m base is) ≡ declarations m base is
-  drawn_classes = beside_classes (declare texts_known m) (drawn text_home) is
+  pub draft_classes_are : draft_classes (drafts_over m base is) ≡ declarations m base is
+  draft_classes_are = classes_of_drafts (declare texts_known m) (draft_of text_module_of) is
 
   -- the rules S6 and S7 among those that hold
   module _ (holds : texts_breach m base is ≡ None) where
-    names_and_variables : (first (flat_map text_s6 texts_drawn) ≡ None) × (first (flat_map s7 (map (class_in m) (sketches texts_drawn))) ≡ None)
+    names_and_variables : (first (flat_map text_s6 text_drafts) ≡ None) × (first (flat_map s7 (map (class_in m) (draft_classes text_drafts))) ≡ None)
     names_and_variables =
         let before = interface_classes base in
-        let cs = with_kernel (after_base m before (sketches texts_drawn)) in
-        let sketched = map (class_in m) (sketches texts_drawn) in
-        let all = declared_all m before texts_drawn in
-        let six = first (flat_map text_s6 texts_drawn) in
-        let seven = first (flat_map s7 sketched) in
-        let five = first (flat_map (s5 cs) sketched) in
-        let four = first (flat_map (text_s4 text_home cs) texts_drawn) in
-        let three = first (flat_map s3 sketched) in
-        let two = first (text_s2_from text_home cs (length (with_kernel before)) texts_drawn) in
-        let one = first (each_after s1 (with_kernel before) sketched) in
-        let later = or_else (moved_breach (after_base m before all) (map (class_in m) all)) (or_else (first (flat_map text_s11 texts_drawn)) (first (flat_map text_s12 texts_drawn))) in
+        let cs = with_kernel (after_base m before (draft_classes text_drafts)) in
+        let drafted = map (class_in m) (draft_classes text_drafts) in
+        let all = declared_all m before text_drafts in
+        let six = first (flat_map text_s6 text_drafts) in
+        let seven = first (flat_map s7 drafted) in
+        let five = first (flat_map (s5 cs) drafted) in
+        let four = first (flat_map (text_s4 text_module_of cs) text_drafts) in
+        let three = first (flat_map s3 drafted) in
+        let two = first (text_s2_from text_module_of cs (length (with_kernel before)) text_drafts) in
+        let one = first (each_after s1 (with_kernel before) drafted) in
+        let later = or_else (moved_breach (after_base m before all) (map (class_in m) all)) (or_else (first (flat_map text_s11 text_drafts)) (first (flat_map text_s12 text_drafts))) in
         let from_two = or_else two (or_else three (or_else four (or_else five (or_else six seven)))) in
         let p = or_none (or_else one from_two) later holds in
         let q = or_none one from_two p.0 in
@@ -162,32 +162,32 @@ module _ (m : Module) (base : Interface) (is : List IdlInterface) where
         let v = or_none six seven u.1 in
         (v.0, v.1)
 
-    names_apart : (i : IdlInterface) → Mem i is → Apart (introduced (introduces text_home i))
+    names_apart : (i : IdlInterface) → Mem i is → Apart (introduced (introduces text_module_of i))
     names_apart i m =
-        rw (map_same (introduced (introduces text_home i))) at
-        (differ_apart (λ (name : List ℕ). name) (introduced (introduces text_home i)) (((names_law texts_drawn).0 names_and_variables.0).introduced (drawn text_home i) (mem_map (drawn text_home) i is m)))
+        rw (map_same (introduced (introduces text_module_of i))) at
+        (differ_apart (λ (name : List ℕ). name) (introduced (introduces text_module_of i)) (((names_law text_drafts).0 names_and_variables.0).introduced (draft_of text_module_of i) (mem_map (draft_of text_module_of) i is m)))
 
-    variables_apart : (i : IdlInterface) → Mem i is → Apart (map (λ (v : Variable). v.name) (variables text_home i))
+    variables_apart : (i : IdlInterface) → Mem i is → Apart (map (λ (v : Variable). v.name) (variables text_module_of i))
     variables_apart i n =
-        differ_apart (λ (v : Variable). v.name) (variables text_home i)
-        ((variables_say (map (class_in m) (sketches texts_drawn)) names_and_variables.1).by (class_in m (sketch text_home i))
-        (mem_map (class_in m) (sketch text_home i) (sketches texts_drawn)
-        (mem_map (λ (d : Drawn). d.class) (drawn text_home i) texts_drawn (mem_map (drawn text_home) i is n))))
+        differ_apart (λ (v : Variable). v.name) (variables text_module_of i)
+        ((variables_say (map (class_in m) (draft_classes text_drafts)) names_and_variables.1).by (class_in m (draft_class text_module_of i))
+        (mem_map (class_in m) (draft_class text_module_of i) (draft_classes text_drafts)
+        (mem_map (λ (d : InterfaceDraft). d.class) (draft_of text_module_of i) text_drafts (mem_map (draft_of text_module_of) i is n))))
 
     -- the body of an accessor fits the signature of its entry
     pub body_fits : (i : IdlInterface) → Mem i is → (name : List ℕ) (sig : Sig) (way : Way) (b : Body) → Mem (entries.Introduced name sig way) (own i).class.face.entries → body_of (own i) name ≡ Some b
         → Fits (own i).class.variables sig b
     body_fits i m name sig way b n e =
         let a = accessed (own i) name b e in
-        let there : Mem (entries.Introduced name sig way) (introduces text_home i) = own_entry _ _ (introduces text_home i) _ name sig way n in
-        subst (Fits (variables text_home i) sig) a.is
-        (accessor_fits text_home i (names_apart i m) (variables_apart i m) a.accessor sig way a.there
-        (subst (λ z. Mem (entries.Introduced z sig way) (introduces text_home i)) a.named there))
+        let there : Mem (entries.Introduced name sig way) (introduces text_module_of i) = own_entry _ _ (introduces text_module_of i) _ name sig way n in
+        subst (Fits (variables text_module_of i) sig) a.is
+        (accessor_fits text_module_of i (names_apart i m) (variables_apart i m) a.accessor sig way a.there
+        (subst (λ z. Mem (entries.Introduced z sig way) (introduces text_module_of i)) a.named there))
 
   -- a method that is introduced and has no body of an accessor is an operation
   pub operation_there : (i : IdlInterface) (name : List ℕ) (sig : Sig) (way : Way) → Mem (entries.Introduced name sig way) (own i).class.face.entries → body_of (own i) name ≡ None → among name (operations i) ≡ true
   operation_there i name sig way n none =
-      by (source text_home i name sig way (own_entry _ _ (introduces text_home i) _ name sig way n)) (find (λ (a : Access). bytes_eq name a.name) (accessors_of i)) refl none
+      by (source text_module_of i name sig way (own_entry _ _ (introduces text_module_of i) _ name sig way n)) (find (λ (a : Access). bytes_eq name a.name) (accessors_of i)) refl none
     where
       by : Source i name → (o : Option Access) → find (λ (a : Access). bytes_eq name a.name) (accessors_of i) ≡ o → option_map (accessor_body (own i).class.variables) o ≡ None → among name (operations i) ≡ true
       by (an_operation is) o e f = is

@@ -22,13 +22,13 @@ use Rattle.som_idl.specs.declared.tree.Export.TheVariants as exports
 use Rattle.som_rules.specs.Plainly.{Fits, a_reader, a_writer}
 use Rattle.som_rules.proofs.PlainLists.{mem_map}
 use Rattle.som_rules.proofs.PlainMoves.{flat_mem, mem_flat}
-use Rattle.som_sema.specs.Home.{type_of}
+use Rattle.som_scope.specs.ClassNames.{type_of}
 use Rattle.som_sema.specs.Items.{by_name}
-use Rattle.som_sema.specs.Sketch.{Drawn, accessors, export_entries, export_variables, getter, introduces, item_variables, setter, variables, variables_of, way_of}
-use Rattle.som_sema.specs.Accessors.{Access, accessor_body, accessors_of, attribute_accessors, body_of, export_accessors, place_of}
+use Rattle.som_sema.specs.Drafts.{InterfaceDraft, accessors, export_entries, export_variables, getter, introduces, item_variables, setter, variables, variables_of, way_of}
+use Rattle.som_elab.specs.Accessors.{Access, accessor_body, accessors_of, attribute_accessors, body_of, export_accessors, place_of}
 
 -- the attribute that declares an accessor
-record Made (i : IdlInterface) (a : Access) : Type 0 where
+record TypedExpr (i : IdlInterface) (a : Access) : Type 0 where
   readonly : Bool
   kind : TypeName
   names : List Word
@@ -37,13 +37,13 @@ record Made (i : IdlInterface) (a : Access) : Type 0 where
   named : Mem word names
   is : Mem a (attribute_accessors readonly word.text)
 
-made_in : (x : Export) (i : IdlInterface) (a : Access) → Mem x (i.before ++ i.after) → Mem a (export_accessors x) → Made i a
+made_in : (x : Export) (i : IdlInterface) (a : Access) → Mem x (i.before ++ i.after) → Mem a (export_accessors x) → TypedExpr i a
 made_in (exports.Attribute readonly kind names) i a m n =
     let r = flat_mem (λ (w : Word). attribute_accessors readonly w.text) a names n in
     record { readonly = readonly; kind = kind; names = names; word = r.0; export = m; named = r.1; is = r.2 }
 made_in (exports.Operation result name params) i a m n = absurd n
 
-made : (i : IdlInterface) (a : Access) → Mem a (accessors_of i) → Made i a
+made : (i : IdlInterface) (a : Access) → Mem a (accessors_of i) → TypedExpr i a
 made i a m = elim (mem_split a (flat_map export_accessors i.before) (flat_map export_accessors i.after) m) [
   | inl n ↦ (let r = flat_mem export_accessors a i.before n in made_in r.0 i a (mem_left r.0 i.before i.after r.1) r.2)
   | inr n ↦ (let r = flat_mem export_accessors a i.after n in made_in r.0 i a (mem_right r.0 i.before i.after r.1) r.2)
@@ -56,23 +56,23 @@ both_flat f b x xs ys m n = elim (mem_split x xs ys m) [
   | inr p ↦ mem_right b (flat_map f xs) (flat_map f ys) (mem_flat f b x ys p n)
 ]
 
-module _ (home : List ℕ → Module) (i : IdlInterface) (readonly : Bool) (kind : TypeName) (names : List Word) (w : Word)
+module _ (module_of : List ℕ → Module) (i : IdlInterface) (readonly : Bool) (kind : TypeName) (names : List Word) (w : Word)
     (export : Mem (exports.Attribute readonly kind names) (i.before ++ i.after)) (named : Mem w names) where
-  entry_made : (e : Entry) → Mem e (accessors (by_name i.items) readonly (type_of home kind) w.text) → Mem e (introduces home i)
+  entry_made : (e : Entry) → Mem e (accessors (by_name i.items) readonly (type_of module_of kind) w.text) → Mem e (introduces module_of i)
   entry_made e m =
-      both_flat (export_entries home (by_name i.items)) e (exports.Attribute readonly kind names) i.before i.after export
-      (mem_flat (λ (w : Word). accessors (by_name i.items) readonly (type_of home kind) w.text) e w names named m)
+      both_flat (export_entries module_of (by_name i.items)) e (exports.Attribute readonly kind names) i.before i.after export
+      (mem_flat (λ (w : Word). accessors (by_name i.items) readonly (type_of module_of kind) w.text) e w names named m)
 
-  variable_made : Mem (record { name = w.text; kind = type_of home kind }) (variables home i)
+  variable_made : Mem (record { name = w.text; kind = type_of module_of kind }) (variables module_of i)
   variable_made =
-      let v : Variable = record { name = w.text; kind = type_of home kind } in
-      let own : Mem v (variables_of (type_of home kind) names) = mem_map (λ (w : Word). record { name = w.text; kind = type_of home kind }) w names named in
-      let front = flat_map (export_variables home) i.before in
-      let middle = flat_map (item_variables home) i.items in
-      let back = flat_map (export_variables home) i.after in
+      let v : Variable = record { name = w.text; kind = type_of module_of kind } in
+      let own : Mem v (variables_of (type_of module_of kind) names) = mem_map (λ (w : Word). record { name = w.text; kind = type_of module_of kind }) w names named in
+      let front = flat_map (export_variables module_of) i.before in
+      let middle = flat_map (item_variables module_of) i.items in
+      let back = flat_map (export_variables module_of) i.after in
       elim (mem_split (exports.Attribute readonly kind names) i.before i.after export) [
-        | inl p ↦ mem_left v (front ++ middle) back (mem_left v front middle (mem_flat (export_variables home) v (exports.Attribute readonly kind names) i.before p own))
-        | inr p ↦ mem_right v (front ++ middle) back (mem_flat (export_variables home) v (exports.Attribute readonly kind names) i.after p own)
+        | inl p ↦ mem_left v (front ++ middle) back (mem_left v front middle (mem_flat (export_variables module_of) v (exports.Attribute readonly kind names) i.before p own))
+        | inr p ↦ mem_right v (front ++ middle) back (mem_flat (export_variables module_of) v (exports.Attribute readonly kind names) i.after p own)
       ]
 
 -- a name is introduced with one signature
@@ -113,50 +113,50 @@ at_place (x ∷ vs) v o (inr m) =
     (λ t. absurd (o.0 (subst (λ z. Mem z (called vs)) (exact_bytes.two v.name x.name t) (mem_map (λ (v : Variable). v.name) v vs m))))
     (λ f. at_place vs v o.1 m)
 
-module _ (home : List ℕ → Module) (i : IdlInterface) (entries_apart : Apart (introduced (introduces home i))) (variables_apart : Apart (called (variables home i))) where
+module _ (module_of : List ℕ → Module) (i : IdlInterface) (entries_apart : Apart (introduced (introduces module_of i))) (variables_apart : Apart (called (variables module_of i))) where
   reads : (readonly : Bool) (kind : TypeName) (names : List Word) (w : Word) (sig : Sig) (way : Way) → Mem (exports.Attribute readonly kind names) (i.before ++ i.after) → Mem w names
-      → Mem (entries.Introduced (getter w.text) sig way) (introduces home i) → Fits (variables home i) sig (bodies.Get (place_of (called (variables home i)) w.text))
+      → Mem (entries.Introduced (getter w.text) sig way) (introduces module_of i) → Fits (variables module_of i) sig (bodies.Get (place_of (called (variables module_of i)) w.text))
   reads readonly kind names w sig way x n m =
-      let s : Sig = record { result = type_of home kind; params = [] } in
-      let same : sig ≡ s = one_sig (introduces home i) (getter w.text) sig s way (way_of (by_name i.items) (getter w.text)) entries_apart m
-      (entry_made home i readonly kind names w x n (entries.Introduced (getter w.text) s (way_of (by_name i.items) (getter w.text))) (inl refl)) in
-      a_reader (place_of (called (variables home i)) w.text) (record { name = w.text; kind = type_of home kind })
-      (at_place (variables home i) (record { name = w.text; kind = type_of home kind }) variables_apart (variable_made home i readonly kind names w x n))
+      let s : Sig = record { result = type_of module_of kind; params = [] } in
+      let same : sig ≡ s = one_sig (introduces module_of i) (getter w.text) sig s way (way_of (by_name i.items) (getter w.text)) entries_apart m
+      (entry_made module_of i readonly kind names w x n (entries.Introduced (getter w.text) s (way_of (by_name i.items) (getter w.text))) (inl refl)) in
+      a_reader (place_of (called (variables module_of i)) w.text) (record { name = w.text; kind = type_of module_of kind })
+      (at_place (variables module_of i) (record { name = w.text; kind = type_of module_of kind }) variables_apart (variable_made module_of i readonly kind names w x n))
       (ap (λ (z : Sig). z.result) same) (ap (λ (z : Sig). z.params) same)
 
   writes : (kind : TypeName) (names : List Word) (w : Word) (sig : Sig) (way : Way) → Mem (exports.Attribute false kind names) (i.before ++ i.after) → Mem w names
-      → Mem (entries.Introduced (setter w.text) sig way) (introduces home i) → Fits (variables home i) sig (bodies.Set (place_of (called (variables home i)) w.text))
+      → Mem (entries.Introduced (setter w.text) sig way) (introduces module_of i) → Fits (variables module_of i) sig (bodies.Set (place_of (called (variables module_of i)) w.text))
   writes kind names w sig way x n m =
-      let s : Sig = record { result = types.Void; params = type_of home kind ∷ [] } in
-      let same : sig ≡ s = one_sig (introduces home i) (setter w.text) sig s way (way_of (by_name i.items) (setter w.text)) entries_apart m
-      (entry_made home i false kind names w x n (entries.Introduced (setter w.text) s (way_of (by_name i.items) (setter w.text))) (inr (inl refl))) in
-      a_writer (place_of (called (variables home i)) w.text) (record { name = w.text; kind = type_of home kind })
-      (at_place (variables home i) (record { name = w.text; kind = type_of home kind }) variables_apart (variable_made home i false kind names w x n))
+      let s : Sig = record { result = types.Void; params = type_of module_of kind ∷ [] } in
+      let same : sig ≡ s = one_sig (introduces module_of i) (setter w.text) sig s way (way_of (by_name i.items) (setter w.text)) entries_apart m
+      (entry_made module_of i false kind names w x n (entries.Introduced (setter w.text) s (way_of (by_name i.items) (setter w.text))) (inr (inl refl))) in
+      a_writer (place_of (called (variables module_of i)) w.text) (record { name = w.text; kind = type_of module_of kind })
+      (at_place (variables module_of i) (record { name = w.text; kind = type_of module_of kind }) variables_apart (variable_made module_of i false kind names w x n))
       (ap (λ (z : Sig). z.result) same) (ap (λ (z : Sig). z.params) same)
 
   fits_by : (readonly : Bool) (kind : TypeName) (names : List Word) (w : Word) (a : Access) (sig : Sig) (way : Way) → Mem (exports.Attribute readonly kind names) (i.before ++ i.after) → Mem w names
-      → Mem a (attribute_accessors readonly w.text) → Mem (entries.Introduced a.name sig way) (introduces home i) → Fits (variables home i) sig (accessor_body (variables home i) a)
+      → Mem a (attribute_accessors readonly w.text) → Mem (entries.Introduced a.name sig way) (introduces module_of i) → Fits (variables module_of i) sig (accessor_body (variables module_of i) a)
   fits_by readonly kind names w a sig way x n (inl e) m =
-      subst (λ (z : Access). Fits (variables home i) sig (accessor_body (variables home i) z)) (sym e)
-      (reads readonly kind names w sig way x n (subst (λ (z : Access). Mem (entries.Introduced z.name sig way) (introduces home i)) e m))
+      subst (λ (z : Access). Fits (variables module_of i) sig (accessor_body (variables module_of i) z)) (sym e)
+      (reads readonly kind names w sig way x n (subst (λ (z : Access). Mem (entries.Introduced z.name sig way) (introduces module_of i)) e m))
   fits_by true kind names w a sig way x n (inr k) m = absurd k
   fits_by false kind names w a sig way x n (inr (inl e)) m =
-      subst (λ (z : Access). Fits (variables home i) sig (accessor_body (variables home i) z)) (sym e)
-      (writes kind names w sig way x n (subst (λ (z : Access). Mem (entries.Introduced z.name sig way) (introduces home i)) e m))
+      subst (λ (z : Access). Fits (variables module_of i) sig (accessor_body (variables module_of i) z)) (sym e)
+      (writes kind names w sig way x n (subst (λ (z : Access). Mem (entries.Introduced z.name sig way) (introduces module_of i)) e m))
   fits_by false kind names w a sig way x n (inr (inr k)) m = absurd k
 
   -- the body of an accessor fits the signature with which it is introduced
-  pub accessor_fits : (a : Access) (sig : Sig) (way : Way) → Mem a (accessors_of i) → Mem (entries.Introduced a.name sig way) (introduces home i) → Fits (variables home i) sig (accessor_body (variables home i) a)
+  pub accessor_fits : (a : Access) (sig : Sig) (way : Way) → Mem a (accessors_of i) → Mem (entries.Introduced a.name sig way) (introduces module_of i) → Fits (variables module_of i) sig (accessor_body (variables module_of i) a)
   accessor_fits a sig way m n = let r = made i a m in fits_by r.readonly r.kind r.names r.word a sig way r.export r.named r.is n
 
 -- the accessor of which a body is
-pub record Accessed (d : Drawn) (name : List ℕ) (b : Body) : Type 0 where
+pub record Accessed (d : InterfaceDraft) (name : List ℕ) (b : Body) : Type 0 where
   pub accessor : Access
   pub there : Mem accessor (accessors_of d.text)
   pub named : name ≡ accessor.name
   pub is : accessor_body d.class.variables accessor ≡ b
 
-accessed_by : (d : Drawn) (name : List ℕ) (b : Body) (o : Option Access) → find (λ (a : Access). bytes_eq name a.name) (accessors_of d.text) ≡ o → option_map (accessor_body d.class.variables) o ≡ Some b → Accessed d name b
+accessed_by : (d : InterfaceDraft) (name : List ℕ) (b : Body) (o : Option Access) → find (λ (a : Access). bytes_eq name a.name) (accessors_of d.text) ≡ o → option_map (accessor_body d.class.variables) o ≡ Some b → Accessed d name b
 accessed_by d name b None e f = absurd (cc)
 accessed_by d name b (Some a) e f =
     let r = find_first (λ (a : Access). bytes_eq name a.name) (accessors_of d.text) a e in
@@ -168,5 +168,5 @@ accessed_by d name b (Some a) e f =
       is = same;
     }
 
-pub accessed : (d : Drawn) (name : List ℕ) (b : Body) → body_of d name ≡ Some b → Accessed d name b
+pub accessed : (d : InterfaceDraft) (name : List ℕ) (b : Body) → body_of d name ≡ Some b → Accessed d name b
 accessed d name b e = accessed_by d name b (find (λ (a : Access). bytes_eq name a.name) (accessors_of d.text)) refl e

@@ -10,40 +10,40 @@ use Rattle.som_idl.specs.declared.tree.IdlInterface.{IdlInterface}
 use Rattle.som_idl.specs.declared.tree.Export.{Export}
 use Rattle.som_typing.proofs.Facts.{signature_said}
 use Rattle.som_sema.specs.Noted.{first_place}
-use Rattle.som_sema.specs.Sketch.{Drawn, drawings, seen}
-use Rattle.som_sema.specs.declared.sketch.Drawing.{Drawing}
-use Rattle.som_elab.specs.Bodies.{drawn_named, operation_name, operations, overridden_sig, override_sig}
+use Rattle.som_sema.specs.Drafts.{InterfaceDraft, plain_drafts, plain_draft}
+use Rattle.som_sema.specs.declared.drafts.Draft.{Draft}
+use Rattle.som_elab.specs.Bodies.{draft_named, operation_name, operations, overridden_sig, override_sig}
 use Rattle.som_elab.specs.Texts.{class_places}
 
-pub unnamed : (n : ℕ) (ds : List Drawn) (name : List ℕ) → first_place (class_places n ds) name ≡ None → drawn_named ds name ≡ None
+pub unnamed : (n : ℕ) (ds : List InterfaceDraft) (name : List ℕ) → first_place (class_places n ds) name ≡ None → draft_named ds name ≡ None
 unnamed n [] name e = refl
 unnamed n (d ∷ ds) name e = by (bytes_eq name d.class.face.name) (unnamed (suc n) ds name) e
   where
-    by : (b : Bool) → (first_place (class_places (suc n) ds) name ≡ None → drawn_named ds name ≡ None)
-        → (if b then Some n else first_place (class_places (suc n) ds) name) ≡ None → (if b then Some d else drawn_named ds name) ≡ None
+    by : (b : Bool) → (first_place (class_places (suc n) ds) name ≡ None → draft_named ds name ≡ None)
+        → (if b then Some n else first_place (class_places (suc n) ds) name) ≡ None → (if b then Some d else draft_named ds name) ≡ None
     by true f e = absurd (cc)
     by false f e = f e
 
-named_from : (n : ℕ) (ds : List Drawn) (name : List ℕ) (p : ℕ) → first_place (class_places n ds) name ≡ Some p → (k : ℕ) × (p ≡ k + n) × (slice_get ds k ≡ drawn_named ds name)
+named_from : (n : ℕ) (ds : List InterfaceDraft) (name : List ℕ) (p : ℕ) → first_place (class_places n ds) name ≡ Some p → (k : ℕ) × (p ≡ k + n) × (slice_get ds k ≡ draft_named ds name)
 named_from n [] name p e = absurd (cc)
 named_from n (d ∷ ds) name p e = by (bytes_eq name d.class.face.name) (named_from (suc n) ds name p) e
   where
-    by : (b : Bool) → (first_place (class_places (suc n) ds) name ≡ Some p → (k : ℕ) × (p ≡ k + suc n) × (slice_get ds k ≡ drawn_named ds name))
-        → (if b then Some n else first_place (class_places (suc n) ds) name) ≡ Some p → (k : ℕ) × (p ≡ k + n) × (slice_get (d ∷ ds) k ≡ (if b then Some d else drawn_named ds name))
+    by : (b : Bool) → (first_place (class_places (suc n) ds) name ≡ Some p → (k : ℕ) × (p ≡ k + suc n) × (slice_get ds k ≡ draft_named ds name))
+        → (if b then Some n else first_place (class_places (suc n) ds) name) ≡ Some p → (k : ℕ) × (p ≡ k + n) × (slice_get (d ∷ ds) k ≡ (if b then Some d else draft_named ds name))
     by true f e = let same : n ≡ p = cc in (0, omega (arith, same), refl)
     by false f e = let r = f e in (suc r.0, omega (arith, r.1), r.2)
 
-get_seen : (ds : List Drawing) (p : ℕ) → option_map seen (slice_get ds p) ≡ slice_get (drawings ds) p
+get_seen : (ds : List Draft) (p : ℕ) → option_map plain_draft (slice_get ds p) ≡ slice_get (plain_drafts ds) p
 get_seen [] p = refl
 get_seen (d ∷ ds) zero = refl
 get_seen (d ∷ ds) (suc p) = get_seen ds p
 
 -- the class at a place that was found is the one of the name
-pub named : (ds : List Drawing) (name : List ℕ) (p : ℕ) → Some p ≡ first_place (class_places 0 (drawings ds)) name → option_map seen (slice_get ds p) ≡ drawn_named (drawings ds) name
+pub named : (ds : List Draft) (name : List ℕ) (p : ℕ) → Some p ≡ first_place (class_places 0 (plain_drafts ds)) name → option_map plain_draft (slice_get ds p) ≡ draft_named (plain_drafts ds) name
 named ds name p e =
-    let r = named_from 0 (drawings ds) name p (sym e) in
+    let r = named_from 0 (plain_drafts ds) name p (sym e) in
     let same : p ≡ r.0 = omega (arith, r.1) in
-    get_seen ds p ∙ ap (slice_get (drawings ds)) same ∙ r.2
+    get_seen ds p ∙ ap (slice_get (plain_drafts ds)) same ∙ r.2
 
 -- ---- the methods of an interface
 
@@ -74,7 +74,7 @@ module _ (text : IdlInterface) (name : List ℕ) where
       f ∙ ap (λ (z : List Export). among name (flat_map operation_name z)) also ∙ sym (among_both name first_names last_names ∙ ap (λ (z : Bool). if z then true else among name last_names) lost)
 
 -- the signature of a method that is overridden
-pub signed_override : (cs : List Class) (d : Drawn) (name shown : List ℕ) (os : List Override) (o : Override) (r : Option Sig) → os ≡ d.class.overrides → shown ≡ name
+pub signed_override : (cs : List Class) (d : InterfaceDraft) (name shown : List ℕ) (os : List Override) (o : Override) (r : Option Sig) → os ≡ d.class.overrides → shown ≡ name
     → Some o ≡ find (λ (z : Override). bytes_eq shown z.method.name) os → r ≡ (class_facts cs).signature o.method → r ≡ override_sig cs d name
 signed_override cs d name shown os o r same named found sig =
     sig ∙ signature_said cs o.method ∙ ap (overridden_sig cs) found

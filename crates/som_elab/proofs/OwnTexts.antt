@@ -17,14 +17,14 @@ use Rattle.som_body.specs.declared.tree.BodyText.{BodyText}
 use Rattle.som_rules.specs.Told.{Tells}
 use Rattle.som_rules.specs.declared.types.VerifyFault.{VerifyFault}
 use Rattle.som_sema.specs.declared.types.Refused.{Refused}
-use Rattle.som_sema.specs.Accessors.{body_of}
-use Rattle.som_sema.specs.Sketch.{Drawn}
+use Rattle.som_elab.specs.Accessors.{body_of}
+use Rattle.som_sema.specs.Drafts.{InterfaceDraft}
 use Rattle.som_sema.specs.TextRules.{text_demand}
 use Rattle.som_elab.specs.Bodies.{entry_has_one, has_one, operations, text_s14, texts_for}
-use Rattle.som_elab.specs.Expressions.{Among}
+use Rattle.som_forms.specs.Expressions.{Among}
 use Rattle.som_elab.specs.declared.class_bodies.ClassBodies.{ClassBodies}
 use Rattle.som_elab.specs.Elaboration.{Answers, Refusal, entry_bodies, entry_body, override_block, override_blocks, text_block}
-use Rattle.som_elab.specs.Grounds.{class_steps}
+use Rattle.som_elab.specs.Contexts.{class_steps}
 use Rattle.som_elab.specs.Texts.{of_class}
 
 -- a method of the class has the same bodies
@@ -45,7 +45,7 @@ flat_same : {A B : Type 0} (f g : A → List B) → ((x : A) → f x ≡ g x) �
 flat_same f g e [] = refl
 flat_same f g e (x ∷ xs) = ap (λ z. z ++ flat_map f xs) (e x) ∙ ap (λ z. g x ++ z) (flat_same f g e xs)
 
-pub counted_own : (bs : List BodyText) (d : Drawn) → text_s14 (of_class bs d.class.face.name) d ≡ text_s14 bs d
+pub counted_own : (bs : List BodyText) (d : InterfaceDraft) → text_s14 (of_class bs d.class.face.name) d ≡ text_s14 bs d
 counted_own bs d =
     let own = of_class bs d.class.face.name in
     ap (λ z. z ++ flat_map (λ (o : Override). has_one own d o.method.name) d.class.overrides)
@@ -65,7 +65,7 @@ module _ (a : Among) (bs : List BodyText) (c : Class) where
   body_own name sig (Some body) = refl
   body_own name sig None = ap (λ z. text_block a c name sig z >>= λ block. Ok (bodies.User block)) (own_texts bs c.decl.face.name name)
 
-  entries_own : (d : Drawn) (es : List Entry) → entry_bodies a own d c es ≡ entry_bodies a bs d c es
+  entries_own : (d : InterfaceDraft) (es : List Entry) → entry_bodies a own d c es ≡ entry_bodies a bs d c es
   entries_own d [] = refl
   entries_own d (entries.Moved name to ∷ es) = entries_own d es
   entries_own d (entries.Introduced name sig way ∷ es) =
@@ -83,18 +83,18 @@ module _ (a : Among) (bs : List BodyText) (c : Class) where
       ap (λ (z : Result Override Refusal). z >>= λ p. override_blocks a own c os >>= λ more. Ok (p ∷ more)) (override_own o (sig_of a.classes (owner a.classes o.method)))
       ∙ ap (λ (z : Result (List Override) Refusal). override_block a bs c o (sig_of a.classes (owner a.classes o.method)) >>= λ p. z >>= λ more. Ok (p ∷ more)) (overrides_own os)
 
-  pub class_own : (d : Drawn) → class_steps a own d c ≡ class_steps a bs d c
+  pub class_own : (d : InterfaceDraft) → class_steps a own d c ≡ class_steps a bs d c
   class_own d =
       ap (λ (z : Result (List Body) Refusal). z >>= λ own_bodies. override_blocks a own c d.class.overrides >>= λ others. Ok (record { bodies = own_bodies; overrides = others })) (entries_own d d.class.face.entries)
       ∙ ap (λ (z : Result (List Override) Refusal). entry_bodies a bs d c d.class.face.entries >>= λ own_bodies. z >>= λ others. Ok (record { bodies = own_bodies; overrides = others })) (overrides_own d.class.overrides)
 
 -- what is told of the bodies of one class is told of all bodies
-pub counted_told : (bs kept shown : List BodyText) (d : Drawn) (name : List ℕ) (r : Result (Unit {0}) VerifyFault) → name ≡ d.class.face.name → kept ≡ of_class bs name → shown ≡ kept
+pub counted_told : (bs kept shown : List BodyText) (d : InterfaceDraft) (name : List ℕ) (r : Result (Unit {0}) VerifyFault) → name ≡ d.class.face.name → kept ≡ of_class bs name → shown ≡ kept
     → Tells (first (text_s14 shown d)) r → Tells (first (text_s14 bs d)) r
 counted_told bs kept shown d name r named narrow same t =
     subst (λ (z : List RuleBreach). Tells (first z) r) (ap (λ (z : List BodyText). text_s14 z d) (same ∙ narrow ∙ ap (of_class bs) named) ∙ counted_own bs d) t
 
-pub class_told : (a : Among) (bs kept shown : List BodyText) (d : Drawn) (c : Class) (name : List ℕ) (r : Result ClassBodies Refused) → c.decl ≡ d.class → name ≡ d.class.face.name → kept ≡ of_class bs name → shown ≡ kept
+pub class_told : (a : Among) (bs kept shown : List BodyText) (d : InterfaceDraft) (c : Class) (name : List ℕ) (r : Result ClassBodies Refused) → c.decl ≡ d.class → name ≡ d.class.face.name → kept ≡ of_class bs name → shown ≡ kept
     → Answers (class_steps a shown d c) r → Answers (class_steps a bs d c) r
 class_told a bs kept shown d c name r is named narrow same t =
     let whole : shown ≡ of_class bs c.decl.face.name = same ∙ narrow ∙ ap (of_class bs) (named ∙ ap (λ (z : ClassDecl). z.face.name) (sym is)) in

@@ -25,13 +25,13 @@ use Rattle.som_body.specs.declared.tree.BodyText.{BodyText}
 use Rattle.som_rules.specs.Plainly.{ClassesHold, Introduces}
 use Rattle.som_rules.proofs.Owners.{flat_none}
 use Rattle.som_rules.proofs.PlainLists.{differ_apart, map_mem, mem_map}
-use Rattle.som_sema.specs.Accessors.{body_of}
+use Rattle.som_elab.specs.Accessors.{body_of}
 use Rattle.som_sema.specs.Building.{after_base, declarations}
 use Rattle.som_sema.specs.Finished.{override_of}
 use Rattle.som_sema.specs.Items.{overridden}
-use Rattle.som_sema.specs.Sketch.{Drawn}
-use Rattle.som_elab.specs.Bodies.{body_sig, classes_over, drawn_named, drawn_over, operation_sig, operations, overridden_sig, override_sig, stands_for, takes_as_many, text_s13, texts_for}
-use Rattle.som_elab.proofs.Declared.{drawn_are, drawn_classes, find_mem, find_own, operation_there, own}
+use Rattle.som_sema.specs.Drafts.{InterfaceDraft}
+use Rattle.som_elab.specs.Bodies.{body_sig, classes_over, draft_named, drafts_over, operation_sig, operations, overridden_sig, override_sig, stands_for, takes_as_many, text_s13, texts_for}
+use Rattle.som_elab.proofs.Declared.{drafts_are, draft_classes_are, find_mem, find_own, operation_there, own}
 
 -- ---- the body that is taken for a method is of its class and its name
 
@@ -71,41 +71,41 @@ names_both : (xs ys : List Class) → map name_of (xs ++ ys) ≡ map name_of xs 
 names_both [] ys = refl
 names_both (x ∷ xs) ys = ap (λ z. name_of x ∷ z) (names_both xs ys)
 
-names_of_drawn : (m : Module) (ds : List Drawn) → map name_of (map (class_in m) (map (λ (d : Drawn). d.class) ds)) ≡ map (λ (d : Drawn). d.class.face.name) ds
-names_of_drawn m [] = refl
-names_of_drawn m (d ∷ ds) = ap (λ z. d.class.face.name ∷ z) (names_of_drawn m ds)
+names_of_drafts : (m : Module) (ds : List InterfaceDraft) → map name_of (map (class_in m) (map (λ (d : InterfaceDraft). d.class) ds)) ≡ map (λ (d : InterfaceDraft). d.class.face.name) ds
+names_of_drafts m [] = refl
+names_of_drafts m (d ∷ ds) = ap (λ z. d.class.face.name ∷ z) (names_of_drafts m ds)
 
 module _ (m : Module) (base : Interface) (is : List IdlInterface) (holds : ClassesHold (after_base m (interface_classes base) (declarations m base is))) where
   abbrev cs : List Class
   cs = classes_over m base is
 
-  abbrev ds : List Drawn
-  ds = drawn_over m base is
+  abbrev ds : List InterfaceDraft
+  ds = drafts_over m base is
 
-  abbrev of_text : IdlInterface → Drawn
+  abbrev of_text : IdlInterface → InterfaceDraft
   of_text i = own m base is i
 
   abbrev declared : List Class
   declared = map (class_in m) (declarations m base is)
 
-  drawn_there : (i : IdlInterface) → Mem i is → Mem (of_text i) ds
-  drawn_there i n = subst (λ z. Mem (of_text i) z) (sym (drawn_are m base is)) (mem_map of_text i is n)
+  draft_there : (i : IdlInterface) → Mem i is → Mem (of_text i) ds
+  draft_there i n = subst (λ z. Mem (of_text i) z) (sym (drafts_are m base is)) (mem_map of_text i is n)
 
   class_there : (i : IdlInterface) → Mem i is → Mem (class_in m (of_text i).class) (after_base m (interface_classes base) (declarations m base is))
   class_there i n =
       mem_right (class_in m (of_text i).class) (interface_classes base) declared
       (mem_map (class_in m) (of_text i).class (declarations m base is)
-      (subst (λ z. Mem (of_text i).class z) (drawn_classes m base is) (mem_map (λ (d : Drawn). d.class) (of_text i) ds (drawn_there i n))))
+      (subst (λ z. Mem (of_text i).class z) (draft_classes_are m base is) (mem_map (λ (d : InterfaceDraft). d.class) (of_text i) ds (draft_there i n))))
 
-  names_apart : Apart (map (λ (d : Drawn). d.class.face.name) ds)
+  names_apart : Apart (map (λ (d : InterfaceDraft). d.class.face.name) ds)
   names_apart =
-      subst (λ (z : List (List ℕ)). Apart z) (ap (λ z. map name_of (map (class_in m) z)) (sym (drawn_classes m base is)) ∙ names_of_drawn m ds)
+      subst (λ (z : List (List ℕ)). Apart z) (ap (λ z. map name_of (map (class_in m) z)) (sym (draft_classes_are m base is)) ∙ names_of_drafts m ds)
       (apart_right (map name_of (interface_classes base)) (map name_of declared)
       (subst (λ (z : List (List ℕ)). Apart z) (names_both (interface_classes base) declared) (differ_apart name_of (after_base m (interface_classes base) (declarations m base is)) holds.names.own)))
 
-  named : (i : IdlInterface) → Mem i is → drawn_named ds (of_text i).class.face.name ≡ Some (of_text i)
+  named : (i : IdlInterface) → Mem i is → draft_named ds (of_text i).class.face.name ≡ Some (of_text i)
   named i n =
-      find_own (λ (d : Drawn). d.class.face.name) (λ (d : Drawn). bytes_eq (of_text i).class.face.name d.class.face.name) ds (of_text i) names_apart (drawn_there i n)
+      find_own (λ (d : InterfaceDraft). d.class.face.name) (λ (d : InterfaceDraft). bytes_eq (of_text i).class.face.name d.class.face.name) ds (of_text i) names_apart (draft_there i n)
       (exact_bytes.one (of_text i).class.face.name) (λ d e. sym (exact_bytes.two (of_text i).class.face.name d.class.face.name e))
 
   -- ---- S13 of a body that is taken
@@ -121,8 +121,8 @@ module _ (m : Module) (base : Interface) (is : List IdlInterface) (holds : Class
       → (b : BodyText) (rest : List BodyText) → texts_for bs (of_text i).class.face.name name ≡ b ∷ rest → length b.params ≡ length sig.params
   as_many bs s13 i n name sig is_sig b rest e =
       let f = is_for bs (of_text i).class.face.name name b rest e in
-      let stands = demanded_s13 b (stands_for cs b (drawn_named ds b.class.text)) (flat_none (text_s13 cs ds) bs b s13 f.there) in
-      let here : drawn_named ds b.class.text ≡ Some (of_text i) = ap (drawn_named ds) f.class_is ∙ named i n in
+      let stands = demanded_s13 b (stands_for cs b (draft_named ds b.class.text)) (flat_none (text_s13 cs ds) bs b s13 f.there) in
+      let here : draft_named ds b.class.text ≡ Some (of_text i) = ap (draft_named ds) f.class_is ∙ named i n in
       let signed : body_sig cs (of_text i) b.method.text ≡ Some sig = ap (body_sig cs (of_text i)) f.name_is ∙ is_sig in
       eqb-true (length b.params) (length sig.params) (sym (ap (stands_for cs b) here ∙ ap (takes_as_many b) signed) ∙ stands)
 

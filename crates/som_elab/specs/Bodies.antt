@@ -17,7 +17,7 @@ use Rattle.som_idl.specs.declared.tree.Export.TheVariants as exports
 use Rattle.som_body.specs.declared.tree.BodyFile.{BodyFile}
 use Rattle.som_body.specs.declared.tree.BodyText.{BodyText}
 use Rattle.som_rules.specs.Places.{with_kernel}
-use Rattle.som_sema.specs.Sketch.{Drawn}
+use Rattle.som_sema.specs.Drafts.{InterfaceDraft}
 use Rattle.som_sema.specs.TextRules.{text_demand}
 use Rattle.som_sema.specs.Building.{after_base, declarations}
 
@@ -26,14 +26,14 @@ abbrev pub bodies_of : List BodyFile → List BodyText
 bodies_of files = flat_map (λ (f : BodyFile). f.bodies) files
 
 -- interfaces with declarations, one by one
-abbrev pub beside : List IdlInterface → List ClassDecl → List Drawn
-beside [] cs = []
-beside (i ∷ is) [] = []
-beside (i ∷ is) (c ∷ cs) = record { text = i; class = c } ∷ beside is cs
+abbrev pub drafts_of_classes : List IdlInterface → List ClassDecl → List InterfaceDraft
+drafts_of_classes [] cs = []
+drafts_of_classes (i ∷ is) [] = []
+drafts_of_classes (i ∷ is) (c ∷ cs) = record { text = i; class = c } ∷ drafts_of_classes is cs
 
 -- each interface with its declaration
-abbrev pub drawn_over : Module → Interface → List IdlInterface → List Drawn
-drawn_over m base is = beside is (declarations m base is)
+abbrev pub drafts_over : Module → Interface → List IdlInterface → List InterfaceDraft
+drafts_over m base is = drafts_of_classes is (declarations m base is)
 
 -- the kernel's classes, those of the base and the declared ones
 abbrev pub classes_over : Module → Interface → List IdlInterface → List Class
@@ -50,7 +50,7 @@ abbrev pub operations : IdlInterface → List (List ℕ)
 operations i = flat_map operation_name i.before ++ flat_map operation_name i.after
 
 -- the signature of a method that a class declares by an operation
-abbrev pub operation_sig : Drawn → List ℕ → Option Sig
+abbrev pub operation_sig : InterfaceDraft → List ℕ → Option Sig
 operation_sig d name = if among name (operations d.text) then introduced_sig (entry_of d.class.face.entries name) else None
 
 abbrev pub overridden_sig : List Class → Option Override → Option Sig
@@ -58,11 +58,11 @@ overridden_sig cs None = None
 overridden_sig cs (Some o) = sig_of cs (owner cs o.method)
 
 -- the signature of a method that a class overrides
-abbrev pub override_sig : List Class → Drawn → List ℕ → Option Sig
+abbrev pub override_sig : List Class → InterfaceDraft → List ℕ → Option Sig
 override_sig cs d name = overridden_sig cs (find (λ (o : Override). bytes_eq name o.method.name) d.class.overrides)
 
 -- a body is that of an operation, or of a method that is overridden
-abbrev pub body_sig : List Class → Drawn → List ℕ → Option Sig
+abbrev pub body_sig : List Class → InterfaceDraft → List ℕ → Option Sig
 body_sig cs d name = or_else (operation_sig d name) (override_sig cs d name)
 
 -- the bodies that texts have for a method of a class
@@ -76,28 +76,28 @@ abbrev pub takes_as_many : BodyText → Option Sig → Bool
 takes_as_many b None = false
 takes_as_many b (Some sig) = length b.params == length sig.params
 
-abbrev pub stands_for : List Class → BodyText → Option Drawn → Bool
+abbrev pub stands_for : List Class → BodyText → Option InterfaceDraft → Bool
 stands_for cs b None = false
 stands_for cs b (Some d) = takes_as_many b (body_sig cs d b.method.text)
 
 -- the class of a name
-abbrev pub drawn_named : List Drawn → List ℕ → Option Drawn
-drawn_named ds name = find (λ (d : Drawn). bytes_eq name d.class.face.name) ds
+abbrev pub draft_named : List InterfaceDraft → List ℕ → Option InterfaceDraft
+draft_named ds name = find (λ (d : InterfaceDraft). bytes_eq name d.class.face.name) ds
 
-abbrev pub text_s13 : List Class → List Drawn → BodyText → List RuleBreach
-text_s13 cs ds b = if stands_for cs b (drawn_named ds b.class.text) then [] else record { rule = 13; class = b.class.text; member = b.method.text } ∷ []
+abbrev pub text_s13 : List Class → List InterfaceDraft → BodyText → List RuleBreach
+text_s13 cs ds b = if stands_for cs b (draft_named ds b.class.text) then [] else record { rule = 13; class = b.class.text; member = b.method.text } ∷ []
 
 -- ---- S14: each operation, in the release order, and then each method that is overridden, in the order of the text, has exactly one body
 
-abbrev pub has_one : List BodyText → Drawn → List ℕ → List RuleBreach
+abbrev pub has_one : List BodyText → InterfaceDraft → List ℕ → List RuleBreach
 has_one bs d name = text_demand 14 d name (length (texts_for bs d.class.face.name name) == 1)
 
-abbrev pub entry_has_one : List BodyText → Drawn → List ℕ → List RuleBreach
+abbrev pub entry_has_one : List BodyText → InterfaceDraft → List ℕ → List RuleBreach
 entry_has_one bs d name = if among name (operations d.text) then has_one bs d name else []
 
-abbrev pub text_s14 : List BodyText → Drawn → List RuleBreach
+abbrev pub text_s14 : List BodyText → InterfaceDraft → List RuleBreach
 text_s14 bs d = flat_map (entry_has_one bs d) (introduced d.class.face.entries) ++ flat_map (λ (o : Override). has_one bs d o.method.name) d.class.overrides
 
 -- the first breach of both
-abbrev pub bodies_breach : List Class → List Drawn → List BodyText → Option RuleBreach
+abbrev pub bodies_breach : List Class → List InterfaceDraft → List BodyText → Option RuleBreach
 bodies_breach cs ds bs = or_else (first (flat_map (text_s13 cs ds) bs)) (first (flat_map (text_s14 bs) ds))

@@ -29,15 +29,15 @@ use Rattle.som_body.specs.declared.tree.BlockText.{BlockText}
 use Rattle.som_rules.specs.Told.{told}
 use Rattle.som_sema.specs.declared.types.Refused.{Refused}
 use Rattle.som_sema.specs.declared.types.Refused.TheVariants as faults
-use Rattle.som_sema.specs.Words.{words}
-use Rattle.som_sema.specs.Sketch.{Drawn}
-use Rattle.som_sema.specs.Building.{declarations, home_of, most_classes, texts_breach}
-use Rattle.som_sema.specs.Accessors.{body_of}
-use Rattle.som_sema.specs.Limits.{Passed, at_most, limit_passed}
-use Rattle.som_elab.specs.Locals.{Named, Names}
-use Rattle.som_elab.specs.Expressions.{Among}
-use Rattle.som_elab.specs.Statements.{BodyBreach, Breaks, ManyLocals, Told, elaborated_block}
-use Rattle.som_elab.specs.Bodies.{bodies_breach, classes_over, drawn_over, texts_for}
+use Rattle.som_scope.specs.Words.{words}
+use Rattle.som_sema.specs.Drafts.{InterfaceDraft}
+use Rattle.som_sema.specs.Building.{declarations, module_over, most_classes, texts_breach}
+use Rattle.som_elab.specs.Accessors.{body_of}
+use Rattle.som_elab.specs.Limits.{Passed, at_most, limit_passed}
+use Rattle.som_forms.specs.Locals.{Named, Names}
+use Rattle.som_forms.specs.Expressions.{Among}
+use Rattle.som_forms.specs.Statements.{BodyBreach, Breaks, ManyLocals, Told, elaborated_block}
+use Rattle.som_elab.specs.Bodies.{bodies_breach, classes_over, drafts_over, texts_for}
 
 -- ---- what is in the way of texts
 
@@ -70,18 +70,6 @@ keeping (Some p) further = Err (Limit p)
 
 -- ---- bodies
 
--- the parameters with the types of a signature
-abbrev pub parameters : List Word → List ValueType → Names
-parameters [] kinds = []
-parameters (w ∷ ws) [] = []
-parameters (w ∷ ws) (kind ∷ kinds) = record { name = w.text; kind = kind } ∷ parameters ws kinds
-
--- the block of a body: no parameter has the name of one before, and then its statements are looked at
-abbrev pub elaborated_body : Among → Class → Sig → BodyText → Told Block
-elaborated_body a c sig b =
-    if is_some (first (doubles bytes_eq [] (words b.params))) then Err (Breaks 15)
-    else elaborated_block a (in_body c sig.result) b.block (parameters b.params sig.params)
-
 -- the block that the texts have for a method
 abbrev pub text_block : Among → Class → List ℕ → Sig → List BodyText → Result Block Refusal
 text_block a c name sig [] = Ok (record { statements = [] })
@@ -93,7 +81,7 @@ entry_body a bs c name sig (Some body) = Ok body
 entry_body a bs c name sig None = text_block a c name sig (texts_for bs c.decl.face.name name) >>= λ block. Ok (bodies.User block)
 
 -- the bodies of introduced entries, in order
-abbrev pub entry_bodies : Among → List BodyText → Drawn → Class → List Entry → Result (List Body) Refusal
+abbrev pub entry_bodies : Among → List BodyText → InterfaceDraft → Class → List Entry → Result (List Body) Refusal
 entry_bodies a bs d c [] = Ok []
 entry_bodies a bs d c (entries.Moved name to ∷ es) = entry_bodies a bs d c es
 entry_bodies a bs d c (entries.Introduced name sig way ∷ es) =
@@ -116,14 +104,14 @@ abbrev pub with_blocks : ClassDecl → List Body → List Override → ClassDecl
 with_blocks d own others = record { face = d.face; variables = d.variables; bodies = own; overrides = others }
 
 -- a class with its bodies: those of introduced methods come before those of overridden ones
-abbrev pub elaborated_class : Among → Module → List BodyText → Drawn → Result ClassDecl Refusal
+abbrev pub elaborated_class : Among → Module → List BodyText → InterfaceDraft → Result ClassDecl Refusal
 elaborated_class a m bs d =
     entry_bodies a bs d (class_in m d.class) d.class.face.entries >>= λ own.
     override_blocks a bs (class_in m d.class) d.class.overrides >>= λ others.
     Ok (with_blocks d.class own others)
 
 -- the classes with their bodies, one after the other
-abbrev pub elaborated_each : Among → Module → List BodyText → List Drawn → Result (List ClassDecl) Refusal
+abbrev pub elaborated_each : Among → Module → List BodyText → List InterfaceDraft → Result (List ClassDecl) Refusal
 elaborated_each a m bs [] = Ok []
 elaborated_each a m bs (d ∷ ds) = elaborated_class a m bs d >>= λ c. elaborated_each a m bs ds >>= λ cs. Ok (c ∷ cs)
 
@@ -135,7 +123,7 @@ elaborated_main a block = refused_at (codes "main") (codes "-") (elaborated_bloc
 
 -- what the bodies of a module's texts are elaborated among
 abbrev pub among_over : Module → Interface → List IdlInterface → Among
-among_over m base is = record { classes = classes_over m base is; home = home_of m base is }
+among_over m base is = record { classes = classes_over m base is; module_of = module_over m base is }
 
 -- the limit of classes, if it is passed
 abbrev pub classes_passed : Module → List IdlInterface → Option Passed
@@ -146,9 +134,9 @@ abbrev pub elaborated_classes : Module → Interface → List IdlInterface → L
 elaborated_classes m base is bs =
     keeping (classes_passed m is)
     (obeying (texts_breach m base is)
-    (obeying (bodies_breach (classes_over m base is) (drawn_over m base is) bs)
+    (obeying (bodies_breach (classes_over m base is) (drafts_over m base is) bs)
     (keeping (limit_passed (declarations m base is))
-    (elaborated_each (among_over m base is) m bs (drawn_over m base is)))))
+    (elaborated_each (among_over m base is) m bs (drafts_over m base is)))))
 
 -- a library is compiled against no classes
 abbrev pub nothing_before : Interface

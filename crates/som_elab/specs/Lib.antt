@@ -1,11 +1,7 @@
-pub mod Locals
-pub mod Methods
-pub mod Expressions
-pub mod Statements
+pub mod Accessors
+pub mod Limits
+pub mod PlainLimits
 pub mod Bodies
 pub mod Elaboration
-pub mod Code
-pub mod Stated
-pub mod Forms
 pub mod Texts
-pub mod Grounds
+pub mod Contexts

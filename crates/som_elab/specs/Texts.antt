@@ -4,7 +4,7 @@ use Rattle.std.specs.Borrow.{Bor}
 use Rattle.std.specs.Str.{bytes_eq}
 use Rattle.som_body.specs.declared.tree.BodyText.{BodyText}
 use Rattle.som_sema.specs.Noted.{At}
-use Rattle.som_sema.specs.Sketch.{Drawn}
+use Rattle.som_sema.specs.Drafts.{InterfaceDraft}
 
 -- the bodies that are borrowed
 abbrev pub given : List (Bor BodyText) → List BodyText
@@ -16,6 +16,6 @@ of_class [] class = []
 of_class (b ∷ bs) class = if bytes_eq b.class.text class then b ∷ of_class bs class else of_class bs class
 
 -- the names of classes with their places, counted from n
-abbrev pub class_places : ℕ → List Drawn → List At
+abbrev pub class_places : ℕ → List InterfaceDraft → List At
 class_places n [] = []
 class_places n (d ∷ ds) = record { name = d.class.face.name; place = n } ∷ class_places (suc n) ds

@@ -1,13 +1,13 @@
 ghost use Rattle.som_elab.specs.Bodies.{bodies_of};
+ghost use Rattle.som_elab.specs.Contexts.{FewParameters};
 ghost use Rattle.som_elab.specs.Elaboration.{Answers, elaborated_program, elaborated_release};
-ghost use Rattle.som_elab.specs.Grounds.{FewParameters};
 ghost use Rattle.som_model.specs.Classes.{interface_classes};
 ghost use Rattle.som_model.specs.Conforming.{ProgramOk, ReleaseOk};
 ghost use Rattle.som_rules.specs.Faces.{faces_breach};
-ghost use Rattle.som_sema.specs.Words.{interfaces_of};
+ghost use Rattle.som_scope.specs.Words.{interfaces_of};
 ghost use Rattle.std.specs.Prelude.{◌≡◌, IfOk, None};
 
-use crate::whole::{Whole, whole_of};
+use crate::elaborated::{ElaboratedModule, elaborate_module};
 use som_body::{BodyFile, MainFile};
 use som_idl::IdlFile;
 use som_model::{ClientProgram, Interface, List, Module, Release};
@@ -26,7 +26,7 @@ pub fn build_release(
     let base = Interface {
         classes: List::new(alloc),
     };
-    let made = whole_of(alloc, Module::Library, &base, idl, bodies, None)?;
+    let made = elaborate_module(alloc, Module::Library, &base, idl, bodies, None)?;
     Ok(Release {
         classes: made.classes,
     })
@@ -47,9 +47,9 @@ pub fn elaborate(
     ensures conforms { IfOk result ProgramOk }
 {
     let main = Some(&main.block);
-    let made = whole_of(alloc, Module::Client, base, idl, bodies, main)?;
+    let made = elaborate_module(alloc, Module::Client, base, idl, bodies, main)?;
     let base = base.copy(alloc)?;
-    let Whole { classes, main } = made;
+    let ElaboratedModule { classes, main } = made;
     Ok(ClientProgram {
         base,
         classes,

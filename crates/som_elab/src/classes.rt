@@ -1,36 +1,36 @@
+ghost use Rattle.som_elab.specs.Contexts.{IsModuleContext, StandAfterOthers, among_in, completed, each_steps};
 ghost use Rattle.som_elab.specs.Elaboration.{Answers, with_blocks};
-ghost use Rattle.som_elab.specs.Grounds.{IsFront, IsGround, among_in, completed, each_steps};
+ghost use Rattle.som_elab.specs.Limits.{limit_passed};
 ghost use Rattle.som_elab.specs.Texts.{given};
 ghost use Rattle.som_rules.specs.Modules.{classes_of};
-ghost use Rattle.som_sema.specs.Limits.{limit_passed};
-ghost use Rattle.som_sema.specs.Sketch.{drawings as drawn, sketches};
+ghost use Rattle.som_sema.specs.Drafts.{draft_classes, plain_drafts};
 ghost use Rattle.std.specs.Prelude.{◌≡◌, IfOk, None};
 
 use crate::class_bodies::{ClassBodies, class_bodies};
-use crate::ground::Ground;
+use crate::contexts::ModuleContext;
 use som_body::BodyText;
 use som_model::{ClassDecl, List, NoMemory};
 use som_rules::KERNEL_CLASSES;
-use som_sema::{Drawing, Refused};
+use som_sema::{Draft, Refused};
 use std::alloc::Global;
 
 /// The bodies of classes, which are the last of all classes, or what is first wrong with one of them.
 pub fn all_bodies(
     alloc: Global,
-    ground: &Ground,
-    drawings: &[Drawing],
+    context: &ModuleContext,
+    drafts: &[Draft],
     texts: &[&BodyText],
 ) -> Result<List<ClassBodies>, Refused>
-    requires ground { IsGround ground.now }
-    requires stand { IsFront ground.now.scope.now.module (classes_of ground.now.known.classes.now) (drawn drawings.now) }
-    requires limits { limit_passed (sketches (drawn drawings.now)) ≡ None }
-    ensures { Answers (each_steps (among_in ground.now) ground.now.scope.now.module (given texts.now) (drawn drawings.now)) result }
+    requires context { IsModuleContext context.now }
+    requires stand { StandAfterOthers context.now.scope.now.module (classes_of context.now.known.classes.now) (plain_drafts drafts.now) }
+    requires limits { limit_passed (draft_classes (plain_drafts drafts.now)) ≡ None }
+    ensures { Answers (each_steps (among_in context.now) context.now.scope.now.module (given texts.now) (plain_drafts drafts.now)) result }
 {
-    let classes = ground.known.classes;
-    let from = classes.len() - drawings.len() + KERNEL_CLASSES;
+    let classes = context.known.classes;
+    let from = classes.len() - drafts.len() + KERNEL_CLASSES;
     let mut all = List::new(alloc);
-    for index in 0..drawings.len() {
-        let bodies = class_bodies(alloc, ground, from + index, &drawings[index], texts)?;
+    for index in 0..drafts.len() {
+        let bodies = class_bodies(alloc, context, from + index, &drafts[index], texts)?;
         all.push(bodies)?;
     }
     Ok(all)
@@ -39,14 +39,14 @@ pub fn all_bodies(
 /// The classes with their bodies.
 pub fn completed_classes(
     alloc: Global,
-    drawings: Vec<Drawing>,
+    drafts: Vec<Draft>,
     bodies: List<ClassBodies>,
 ) -> Result<List<ClassDecl>, NoMemory>
-    ensures { IfOk result (λ classes. classes ≡ completed (drawn drawings.entry.items) bodies) }
+    ensures { IfOk result (λ classes. classes ≡ completed (plain_drafts drafts.entry.items) bodies) }
 {
     let mut all = List::new(alloc);
-    for (drawing, own) in drawings.into_iter().zip(bodies.into_vec()) {
-        all.push(completed_class(drawing.decl, own))?;
+    for (draft, own) in drafts.into_iter().zip(bodies.into_vec()) {
+        all.push(completed_class(draft.decl, own))?;
     }
     Ok(all)
 }

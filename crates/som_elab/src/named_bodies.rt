@@ -1,13 +1,13 @@
 ghost use Rattle.som_elab.specs.Bodies as spec;
-ghost use Rattle.som_elab.specs.Bodies.{drawn_named, stands_for, text_s13};
+ghost use Rattle.som_elab.specs.Bodies.{draft_named, stands_for, text_s13};
 ghost use Rattle.som_elab.specs.Texts as places;
 ghost use Rattle.som_elab.specs.Texts.{given};
 ghost use Rattle.som_model.specs.Lists.{find, first};
 ghost use Rattle.som_model.specs.declared.class.Override.{Override as Replaced};
 ghost use Rattle.som_rules.specs.Told.{Tells};
 ghost use Rattle.som_rules.specs.declared.types.VerifyFault.TheVariants as faults;
+ghost use Rattle.som_sema.specs.Drafts.{plain_draft, plain_drafts};
 ghost use Rattle.som_sema.specs.Noted.{IsKnown};
-ghost use Rattle.som_sema.specs.Sketch.{drawings as drawn, seen};
 ghost use Rattle.som_typing.specs.Knowing.{IsKnowledge, all_of};
 ghost use Rattle.std.specs.Prelude.{◌≡◌, flat_map, option_copied, option_map, slice_get, IfOk};
 ghost use Rattle.std.specs.Str.{bytes_eq};
@@ -16,7 +16,7 @@ use crate::operations::is_operation;
 use som_body::BodyText;
 use som_model::{Entry, NoMemory, Override, Sig, Text};
 use som_rules::{Broken, VerifyFault, find_entry};
-use som_sema::{Drawing, Places, first_place, note, place_table};
+use som_sema::{Draft, Places, first_place, note, place_table};
 use som_typing::{Knowledge, signature_of};
 use std::alloc::Global;
 
@@ -25,30 +25,30 @@ use std::alloc::Global;
 pub fn bodies_named(
     alloc: Global,
     known: &Knowledge,
-    drawings: &[Drawing],
+    drafts: &[Draft],
     texts: &[&BodyText],
 ) -> Result<(), VerifyFault>
     requires { IsKnowledge known.now }
-    ensures { Tells (first (flat_map (text_s13 (all_of known.now) (drawn drawings.now)) (given texts.now))) result }
+    ensures { Tells (first (flat_map (text_s13 (all_of known.now) (plain_drafts drafts.now)) (given texts.now))) result }
 {
-    let names = class_places(alloc, drawings)?;
-    each_named(alloc, known, drawings, &names, texts)
+    let names = class_places(alloc, drafts)?;
+    each_named(alloc, known, drafts, &names, texts)
 }
 
 fn each_named(
     alloc: Global,
     known: &Knowledge,
-    drawings: &[Drawing],
+    drafts: &[Draft],
     names: &Places,
     texts: &[&BodyText],
 ) -> Result<(), VerifyFault>
     requires known { IsKnowledge known.now }
-    requires names { IsKnown (places.class_places 0 (drawn drawings.now)) names.now }
-    ensures { Tells (first (flat_map (text_s13 (all_of known.now) (drawn drawings.now)) (given texts.now))) result }
+    requires names { IsKnown (places.class_places 0 (plain_drafts drafts.now)) names.now }
+    ensures { Tells (first (flat_map (text_s13 (all_of known.now) (plain_drafts drafts.now)) (given texts.now))) result }
 {
     for text in texts {
         let text = *text;
-        if !stands(known, drawings, names, text) {
+        if !stands(known, drafts, names, text) {
             return Err(wrong_body(alloc, text)?);
         }
     }
@@ -56,13 +56,13 @@ fn each_named(
 }
 
 /// The names of classes with their places.
-fn class_places<'a>(alloc: Global, drawings: &'a [Drawing]) -> Result<Places<'a>, NoMemory>
-    ensures { IfOk result (IsKnown (places.class_places 0 (drawn drawings.now))) }
+fn class_places<'a>(alloc: Global, drafts: &'a [Draft]) -> Result<Places<'a>, NoMemory>
+    ensures { IfOk result (IsKnown (places.class_places 0 (plain_drafts drafts.now))) }
 {
     let mut all = Vec::new(alloc);
-    for place in 0..drawings.len() {
-        let drawing = &drawings[place];
-        note(&mut all, drawing.decl.face.name.as_slice(), place)?;
+    for place in 0..drafts.len() {
+        let draft = &drafts[place];
+        note(&mut all, draft.decl.face.name.as_slice(), place)?;
     }
     place_table(alloc, &all)
 }
@@ -77,74 +77,70 @@ fn wrong_body(alloc: Global, text: &BodyText) -> Result<VerifyFault, NoMemory>
     }))
 }
 
-fn stands(known: &Knowledge, drawings: &[Drawing], names: &Places, text: &BodyText) -> bool
+fn stands(known: &Knowledge, drafts: &[Draft], names: &Places, text: &BodyText) -> bool
     requires known { IsKnowledge known.now }
-    requires names { IsKnown (places.class_places 0 (drawn drawings.now)) names.now }
-    ensures { result ≡ stands_for (all_of known.now) text.now (drawn_named (drawn drawings.now) text.now.class.text) }
+    requires names { IsKnown (places.class_places 0 (plain_drafts drafts.now)) names.now }
+    ensures { result ≡ stands_for (all_of known.now) text.now (draft_named (plain_drafts drafts.now) text.now.class.text) }
 {
-    match drawing_named(drawings, names, text.class.text.as_slice()) {
+    match find_draft(drafts, names, text.class.text.as_slice()) {
         None => false,
-        Some(drawing) => takes_as_many(known, drawing, text),
+        Some(draft) => takes_as_many(known, draft, text),
     }
 }
 
-fn drawing_named<'a, 'b>(
-    drawings: &'a [Drawing<'b>],
-    names: &Places,
-    name: &[u8],
-) -> Option<&'a Drawing<'b>>
-    requires { IsKnown (places.class_places 0 (drawn drawings.now)) names.now }
-    ensures { option_map seen (option_copied result) ≡ drawn_named (drawn drawings.now) name.now }
+fn find_draft<'a, 'b>(drafts: &'a [Draft<'b>], names: &Places, name: &[u8]) -> Option<&'a Draft<'b>>
+    requires { IsKnown (places.class_places 0 (plain_drafts drafts.now)) names.now }
+    ensures { option_map plain_draft (option_copied result) ≡ draft_named (plain_drafts drafts.now) name.now }
 {
     match first_place(names, name) {
         None => None,
-        Some(place) => drawing_at(drawings, place),
+        Some(place) => draft_at(drafts, place),
     }
 }
 
-fn drawing_at<'a, 'b>(drawings: &'a [Drawing<'b>], place: usize) -> Option<&'a Drawing<'b>>
-    ensures { option_copied result ≡ slice_get drawings.now place }
+fn draft_at<'a, 'b>(drafts: &'a [Draft<'b>], place: usize) -> Option<&'a Draft<'b>>
+    ensures { option_copied result ≡ slice_get drafts.now place }
 {
-    drawings.get(place)
+    drafts.get(place)
 }
 
-fn takes_as_many(known: &Knowledge, drawing: &Drawing, text: &BodyText) -> bool
+fn takes_as_many(known: &Knowledge, draft: &Draft, text: &BodyText) -> bool
     requires { IsKnowledge known.now }
-    ensures { result ≡ spec.takes_as_many text.now (spec.body_sig (all_of known.now) (seen drawing.now) text.now.method.text) }
+    ensures { result ≡ spec.takes_as_many text.now (spec.body_sig (all_of known.now) (plain_draft draft.now) text.now.method.text) }
 {
-    match body_sig(known, drawing, &text.method.text) {
+    match body_sig(known, draft, &text.method.text) {
         None => false,
         Some(sig) => text.params.len() == sig.params.len(),
     }
 }
 
-fn body_sig<'a>(known: &Knowledge<'a>, drawing: &'a Drawing, name: &Text) -> Option<&'a Sig>
+fn body_sig<'a>(known: &Knowledge<'a>, draft: &'a Draft, name: &Text) -> Option<&'a Sig>
     requires { IsKnowledge known.now }
-    ensures { option_copied result ≡ spec.body_sig (all_of known.now) (seen drawing.now) name.now }
+    ensures { option_copied result ≡ spec.body_sig (all_of known.now) (plain_draft draft.now) name.now }
 {
-    match operation_sig(drawing, name) {
+    match operation_sig(draft, name) {
         Some(sig) => Some(sig),
-        None => override_sig(known, drawing, name),
+        None => override_sig(known, draft, name),
     }
 }
 
-fn operation_sig<'a>(drawing: &'a Drawing, name: &Text) -> Option<&'a Sig>
-    ensures { option_copied result ≡ spec.operation_sig (seen drawing.now) name.now }
+fn operation_sig<'a>(draft: &'a Draft, name: &Text) -> Option<&'a Sig>
+    ensures { option_copied result ≡ spec.operation_sig (plain_draft draft.now) name.now }
 {
-    if !is_operation(drawing.text, name.as_slice()) {
+    if !is_operation(draft.text, name.as_slice()) {
         return None;
     }
-    match find_entry(drawing.decl.face.entries.as_slice(), name) {
+    match find_entry(draft.decl.face.entries.as_slice(), name) {
         Some(Entry::Introduced { sig, .. }) => Some(sig),
         _ => None,
     }
 }
 
-fn override_sig<'a>(known: &Knowledge<'a>, drawing: &'a Drawing, name: &Text) -> Option<&'a Sig>
+fn override_sig<'a>(known: &Knowledge<'a>, draft: &'a Draft, name: &Text) -> Option<&'a Sig>
     requires { IsKnowledge known.now }
-    ensures { option_copied result ≡ spec.override_sig (all_of known.now) (seen drawing.now) name.now }
+    ensures { option_copied result ≡ spec.override_sig (all_of known.now) (plain_draft draft.now) name.now }
 {
-    match override_named(drawing.decl.overrides.as_slice(), name.as_slice()) {
+    match override_named(draft.decl.overrides.as_slice(), name.as_slice()) {
         None => None,
         Some(replaced) => signature_of(known, &replaced.method),
     }

@@ -14,9 +14,9 @@ use Rattle.som_rules.specs.Modules.{AreDeclared}
 use Rattle.som_rules.proofs.PlainLists.{s1_doubles}
 use Rattle.som_rules.proofs.Before.{none_both, both_none, demanded, every_mem, mem_every}
 use Rattle.som_rules.proofs.PlainNames.{demand_none}
-use Rattle.som_sema.specs.Walks.{IsWalked}
-use Rattle.som_sema.specs.declared.walked.Walked.{Walked}
-use Rattle.som_sema.specs.Sketch.{Drawn, sketches}
+use Rattle.som_sema.specs.Ancestry.{IsAncestorTable}
+use Rattle.som_sema.specs.declared.ancestry.AncestorTable.{AncestorTable}
+use Rattle.som_sema.specs.Drafts.{InterfaceDraft, draft_classes}
 use Rattle.som_sema.specs.Finished.{declare}
 
 pub record Core : Type 0 where
@@ -102,9 +102,9 @@ key_same xs ys a (p ∷ row) =
     let e = ap (λ (k : Core). k.key) (sym (alike_at xs ys p _ a)) in
     ap (λ k. k ∷ map (key_at ys) row) e ∙ ap (λ z. key_at xs p ∷ z) (key_same xs ys a row)
 
--- what is walked of some classes is walked of those that are like them
-pub alike_walked : (xs ys : List Class) (w : Walked) → Alike xs ys → AreDeclared ys → IsWalked xs w → IsWalked ys w
-alike_walked xs ys w a d h =
+-- what is ancestors of some classes is ancestors of those that are like them
+pub alike_table : (xs ys : List Class) (w : AncestorTable) → Alike xs ys → AreDeclared ys → IsAncestorTable xs w → IsAncestorTable ys w
+alike_table xs ys w a d h =
     let all = alike_both kernel kernel xs ys (alike_self kernel) a in
     let names = alike_names xs ys a in
     let apart = (s1_doubles kernel xs).0 h.apart in
@@ -113,21 +113,21 @@ alike_walked xs ys w a d h =
       names = h.names ∙ alike_names (with_kernel xs) (with_kernel ys) all;
       apart = (s1_doubles kernel ys).1 (rw names at apart);
       stand = alike_each kernel kernel xs ys (alike_self kernel) a h.stand;
-      walks = record {
-        rows = h.walks.rows;
+      lists = record {
+        rows = h.lists.rows;
         are = record {
-          long = h.walks.are.long ∙ alike_long (with_kernel xs) (with_kernel ys) all;
-          low = h.walks.are.low;
+          long = h.lists.are.long ∙ alike_long (with_kernel xs) (with_kernel ys) all;
+          low = h.lists.are.low;
           by = λ i lt.
-              key_same (with_kernel xs) (with_kernel ys) all (slice_index_or h.walks.rows i [])
-              ∙ h.walks.are.by i (omega (arith, lt, alike_long (with_kernel xs) (with_kernel ys) all))
+              key_same (with_kernel xs) (with_kernel ys) all (slice_index_or h.lists.rows i [])
+              ∙ h.lists.are.by i (omega (arith, lt, alike_long (with_kernel xs) (with_kernel ys) all))
               ∙ ap (λ (k : Core). k.parents) (alike_at (with_kernel xs) (with_kernel ys) i _ all);
         };
-        lists = h.walks.lists;
+        lists = h.lists.lists;
       };
     }
 
--- a declaration is like its sketch
-pub alike_declared : (m : Module) (cs : List Class) (ds : List Drawn) → Alike (map (class_in m) (sketches ds)) (map (class_in m) (map (declare cs m) ds))
+-- a declaration is like its draft
+pub alike_declared : (m : Module) (cs : List Class) (ds : List InterfaceDraft) → Alike (map (class_in m) (draft_classes ds)) (map (class_in m) (map (declare cs m) ds))
 alike_declared m cs [] = tt
 alike_declared m cs (d ∷ ds) = (refl, alike_declared m cs ds)

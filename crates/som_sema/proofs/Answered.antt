@@ -1,4 +1,4 @@
--- From sketches to the answer.
+-- From drafts to the answer.
 use Rattle.std.proofs.Common.{◌≡◌, ℕ, ◌≤◌, List, length, map, Err, sym, ap, ◌∙◌}
 use Rattle.som_model.specs.declared.key.Module.{Module}
 use Rattle.som_model.specs.declared.class.ClassDecl.{ClassDecl}
@@ -10,28 +10,28 @@ use Rattle.som_rules.specs.Told.{Tells}
 use Rattle.som_rules.specs.declared.types.VerifyFault.{VerifyFault}
 use Rattle.som_rules.specs.declared.types.VerifyFault.TheVariants as verify
 use Rattle.som_sema.specs.declared.types.Refused.{Refused}
-use Rattle.som_sema.specs.Building.{FacesTold, declarations, declared_all, drawn_breach, home_of, most_classes, refused_by, texts_breach}
-use Rattle.som_sema.specs.Sketch.{Drawn, drawn}
+use Rattle.som_sema.specs.Building.{FacesTold, declarations, declared_all, draft_rules_breach, module_over, most_classes, refused_by, texts_breach}
+use Rattle.som_sema.specs.Drafts.{InterfaceDraft, draft_of}
 
-module _ (home : Module) (base : Interface) (is : List IdlInterface) (h : List ℕ → Module) (m : Module) (bs : List Class) (ds : List Drawn)
-    (names : h ≡ home_of home base is) (own : m ≡ home) (known : bs ≡ interface_classes base) (made : ds ≡ map (drawn h) is) where
-  drawn_is : ds ≡ map (drawn (home_of home base is)) is
-  drawn_is = made ∙ ap (λ (z : List ℕ → Module). map (drawn z) is) names
+module _ (own_module : Module) (base : Interface) (is : List IdlInterface) (h : List ℕ → Module) (m : Module) (bs : List Class) (ds : List InterfaceDraft)
+    (names : h ≡ module_over own_module base is) (own : m ≡ own_module) (known : bs ≡ interface_classes base) (made : ds ≡ map (draft_of h) is) where
+  drafts_same : ds ≡ map (draft_of (module_over own_module base is)) is
+  drafts_same = made ∙ ap (λ (z : List ℕ → Module). map (draft_of z) is) names
 
-  -- the first breach of the sketches is that of the texts
-  pub breach_is : drawn_breach h m bs ds ≡ texts_breach home base is
+  -- the first breach of the drafts is that of the texts
+  pub breach_is : draft_rules_breach h m bs ds ≡ texts_breach own_module base is
   breach_is =
-      ap (λ (z : List ℕ → Module). drawn_breach z m bs ds) names
-      ∙ ap (λ z. drawn_breach (home_of home base is) z bs ds) own
-      ∙ ap (λ z. drawn_breach (home_of home base is) home z ds) known
-      ∙ ap (drawn_breach (home_of home base is) home (interface_classes base)) drawn_is
+      ap (λ (z : List ℕ → Module). draft_rules_breach z m bs ds) names
+      ∙ ap (λ z. draft_rules_breach (module_over own_module base is) z bs ds) own
+      ∙ ap (λ z. draft_rules_breach (module_over own_module base is) own_module z ds) known
+      ∙ ap (draft_rules_breach (module_over own_module base is) own_module (interface_classes base)) drafts_same
 
   -- and so are the declarations
-  pub declared_are : declared_all m bs ds ≡ declarations home base is
+  pub declared_are : declared_all m bs ds ≡ declarations own_module base is
   declared_are =
       ap (λ z. declared_all z bs ds) own
-      ∙ ap (λ z. declared_all home z ds) known
-      ∙ ap (declared_all home (interface_classes base)) drawn_is
+      ∙ ap (λ z. declared_all own_module z ds) known
+      ∙ ap (declared_all own_module (interface_classes base)) drafts_same
 
 -- a breach is answered
 pub err_told : (m : Module) (base : Interface) (is shown : List IdlInterface) (e : VerifyFault) (r : Refused) → shown ≡ is → r ≡ refused_by e → length is ≤ most_classes m

@@ -23,10 +23,10 @@ use Rattle.som_rules.proofs.Finding.{take_all}
 use Rattle.som_rules.proofs.KeyLists.{lists_of}
 use Rattle.som_rules.proofs.PlainMoves.{lower}
 use Rattle.som_rules.proofs.PlainNames.{names_say, parents_say}
-use Rattle.som_sema.specs.Sketch.{Drawn, sketches}
+use Rattle.som_sema.specs.Drafts.{InterfaceDraft, draft_classes}
 use Rattle.som_sema.specs.TextRules.{text_s2_from}
-use Rattle.som_sema.specs.Walks.{AreDrawn, IsWalked, Walks}
-use Rattle.som_sema.specs.declared.walked.Walked.{Walked}
+use Rattle.som_sema.specs.Ancestry.{AreDrafts, IsAncestorTable, AreAncestorLists}
+use Rattle.som_sema.specs.declared.ancestry.AncestorTable.{AncestorTable}
 use Rattle.som_sema.proofs.BaseLaws.{base_moves, base_names, base_stands, moves_more, own_first}
 use Rattle.som_sema.proofs.TextBases.{texts_stand}
 
@@ -66,17 +66,17 @@ own_names ds n e = ap (λ z. first (each_after s1 kernel z)) (parts ds n) ∙ ow
 pub front_place : (ds : List Declared) (n place : ℕ) → n ≤ length ds → place ≡ n + 4 → place ≡ length (with_kernel (classes_of (take n ds)))
 front_place ds n place le e = omega (arith, e, long_front ds n le)
 
-pub all_stand : (home : List ℕ → Module) (m : Module) (ds : List Declared) (n : ℕ) (draws : List Drawn) → faces_breach (classes_of (take n ds)) ≡ None → AreDrawn home draws
-    → classes_of (drop n ds) ≡ map (class_in m) (sketches draws)
-    → first (text_s2_from home (with_kernel (classes_of ds)) (length (with_kernel (classes_of (take n ds)))) draws) ≡ None
+pub all_stand : (module_of : List ℕ → Module) (m : Module) (ds : List Declared) (n : ℕ) (drafts : List InterfaceDraft) → faces_breach (classes_of (take n ds)) ≡ None → AreDrafts module_of drafts
+    → classes_of (drop n ds) ≡ map (class_in m) (draft_classes drafts)
+    → first (text_s2_from module_of (with_kernel (classes_of ds)) (length (with_kernel (classes_of (take n ds)))) drafts) ≡ None
     → first (each_after s2 kernel (classes_of ds)) ≡ None
-all_stand home m ds n draws conforms are own e =
+all_stand module_of m ds n drafts conforms are own e =
     let bs = classes_of (take n ds) in
-    let all : with_kernel (classes_of ds) ≡ with_kernel bs ++ map (class_in m) (sketches draws) = ap with_kernel (parts ds n ∙ ap (λ z. bs ++ z) own) in
+    let all : with_kernel (classes_of ds) ≡ with_kernel bs ++ map (class_in m) (draft_classes drafts) = ap with_kernel (parts ds n ∙ ap (λ z. bs ++ z) own) in
     ap (λ z. first (each_after s2 kernel z)) (parts ds n)
     ∙ own_first s2 kernel bs (classes_of (drop n ds)) (base_stands bs conforms)
     ∙ ap (λ z. first (each_after s2 (with_kernel bs) z)) own
-    ∙ texts_stand home m (with_kernel (classes_of ds)) (with_kernel bs) draws (length (with_kernel bs)) are.by refl all e
+    ∙ texts_stand module_of m (with_kernel (classes_of ds)) (with_kernel bs) drafts (length (with_kernel bs)) are.by refl all e
 
 -- rules that look at each class alone
 pub own_tell : (rule : Class → List RuleBreach) (ds asked : List Declared) (n : ℕ) (r : Result (Unit {0}) VerifyFault) → asked ≡ drop n ds
@@ -91,22 +91,22 @@ own_types_tell ds asked n number r e f t =
     (subst (λ (z : List Class). Tells (first (flat_map (s5 z) (classes_of asked))) r)
     (ap (λ k. take k (with_kernel (classes_of ds))) (e ∙ known_number ds) ∙ take_all (with_kernel (classes_of ds))) t)
 
--- the table and the lists of walked classes
-pub walks_lists : (cs : List Class) (names : List (List ℕ)) (all lent : List (List ℕ)) → IsTable cs names → Walks cs all → lent ≡ all → AreLists (with_kernel cs) lent
-walks_lists cs names all lent t w e = lists_of cs names t w.rows w.rows all lent w.are refl w.lists e
+-- the table and the lists of ancestors classes
+pub lists_are : (cs : List Class) (names : List (List ℕ)) (all lent : List (List ℕ)) → IsTable cs names → AreAncestorLists cs all → lent ≡ all → AreLists (with_kernel cs) lent
+lists_are cs names all lent t w e = lists_of cs names t w.rows w.rows all lent w.are refl w.lists e
 
-pub walked_table : (cs : List Class) (w : Walked) → IsWalked cs w → IsTable cs (texts w.table.keys)
-walked_table cs w h = is_table cs (texts w.table.keys) h.declared h.names h.apart
+pub table_names : (cs : List Class) (w : AncestorTable) → IsAncestorTable cs w → IsTable cs (texts w.table.keys)
+table_names cs w h = is_table cs (texts w.table.keys) h.declared h.names h.apart
 
-pub walked_lists : (cs : List Class) (w : Walked) (lent : List (List ℕ)) → IsWalked cs w → lent ≡ w.lists.items → AreLists (with_kernel cs) lent
-walked_lists cs w lent h e = walks_lists cs (texts w.table.keys) w.lists.items lent (walked_table cs w h) h.walks e
+pub table_lists : (cs : List Class) (w : AncestorTable) (lent : List (List ℕ)) → IsAncestorTable cs w → lent ≡ w.lists.items → AreLists (with_kernel cs) lent
+table_lists cs w lent h e = lists_are cs (texts w.table.keys) w.lists.items lent (table_names cs w h) h.lists e
 
 -- S9
 flat_both : {A B : Type 0} (f : A → List B) (xs ys : List A) → flat_map f (xs ++ ys) ≡ flat_map f xs ++ flat_map f ys
 flat_both f [] ys = refl
 flat_both f (x ∷ xs) ys = ap (λ z. f x ++ z) (flat_both f xs ys) ∙ sym (append_assoc (f x) (flat_map f xs) (flat_map f ys))
 
-pub all_moved : (ds : List Declared) (n : ℕ) (w : Walked) → IsWalked (classes_of ds) w → faces_breach (classes_of (take n ds)) ≡ None
+pub all_moved : (ds : List Declared) (n : ℕ) (w : AncestorTable) → IsAncestorTable (classes_of ds) w → faces_breach (classes_of (take n ds)) ≡ None
     → first (flat_map (s9 (with_kernel (classes_of ds))) (classes_of (drop n ds))) ≡ None → first (flat_map (s9 (with_kernel (classes_of ds))) (classes_of ds)) ≡ None
 all_moved ds n w h conforms e =
     let cs = classes_of ds in

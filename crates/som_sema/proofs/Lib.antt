@@ -1,9 +1,7 @@
-pub mod Going
 pub mod Unsaid
 pub mod Declaring
 pub mod Calling
 pub mod Doubling
-pub mod OneTable
 pub mod Noting
 pub mod Introducers
 pub mod Alike
@@ -15,7 +13,6 @@ pub mod Finishing
 pub mod Telling
 pub mod Answered
 pub mod TextLaws
-pub mod LimitLaws
 pub mod Outlines
 pub mod BaseKept
 pub mod TextsConform

@@ -1,4 +1,4 @@
--- What the rules say of sketches and of their texts holds of the declarations.
+-- What the rules say of drafts and of their texts holds of the declarations.
 use Rattle.std.proofs.Common.{◌≡◌, ℕ, inl, inr, Bool, true, false, if◌then◌else◌, List, [], ◌∷◌, ◌++◌, map, flat_map, Option, Some, None, option_map, refl, sym, ap, ◌∙◌, subst, true≢false}
 use Rattle.std.specs.Str.{bytes_eq}
 use Rattle.som_model.specs.declared.key.Module.{Module}
@@ -23,9 +23,9 @@ use Rattle.som_rules.proofs.Before.{both_none, none_both}
 use Rattle.som_rules.proofs.Owners.{mem_middle}
 use Rattle.som_rules.proofs.PlainLists.{apart_by, by_apart, map_mem, map_none, none_map}
 use Rattle.som_rules.proofs.PlainNames.{demand_none}
-use Rattle.som_sema.specs.Home.{key_of}
+use Rattle.som_scope.specs.ClassNames.{key_of}
 use Rattle.som_sema.specs.Items.{listed, metaclass_names}
-use Rattle.som_sema.specs.Sketch.{Drawn, sketch, sketches}
+use Rattle.som_sema.specs.Drafts.{InterfaceDraft, draft_class, draft_classes}
 use Rattle.som_sema.specs.Finished.{declare, entry_for, entry_or_moved, introducer}
 use Rattle.som_sema.specs.TextRules.{makes_classes, second, text_breach, text_s4, text_s6}
 use Rattle.som_sema.proofs.Outlines.{outline}
@@ -83,11 +83,11 @@ order_apart list own l o =
     join_apart list (without (λ name. among name list) own) l (left_apart (λ name. among name list) own o)
     (λ name m n. true≢false (sym ((among_mem name list).1 m) ∙ without_fails (λ name. among name list) name own n))
 
-names_apart : (d : Drawn) (names : List (List ℕ)) → first (second 6 d names) ≡ None → Apart names
+names_apart : (d : InterfaceDraft) (names : List (List ℕ)) → first (second 6 d names) ≡ None → Apart names
 names_apart d names e = apart_by bytes_eq exact_bytes names (none_map (text_breach 6 d) (doubles bytes_eq [] names) e)
 
 module _ (cs : List Class) (m : Module) where
-  one_s6 : (d : Drawn) → first (text_s6 d) ≡ None → first (s6 (class_in m (declare cs m d))) ≡ None
+  one_s6 : (d : InterfaceDraft) → first (text_s6 d) ≡ None → first (s6 (class_in m (declare cs m d))) ≡ None
   one_s6 d e =
       let own = introduced d.class.face.entries in
       let list = listed d.text.items in
@@ -97,31 +97,31 @@ module _ (cs : List Class) (m : Module) where
       (by_apart bytes_eq exact_bytes (map entry_name c.decl.face.entries)
       (subst Apart (sym (order_names cs (class_in m d.class).key d.class.face.entries (effective_order list own))) (order_apart list own (names_apart d list p.1) (names_apart d own p.0))))
 
-  pub own_s6 : (ds : List Drawn) → first (flat_map text_s6 ds) ≡ None → first (flat_map s6 (map (class_in m) (map (declare cs m) ds))) ≡ None
+  pub own_s6 : (ds : List InterfaceDraft) → first (flat_map text_s6 ds) ≡ None → first (flat_map s6 (map (class_in m) (map (declare cs m) ds))) ≡ None
   own_s6 [] e = refl
   own_s6 (d ∷ ds) e =
       let p = none_both (text_s6 d) (flat_map text_s6 ds) e in
       both_none (s6 (class_in m (declare cs m d))) (flat_map s6 (map (class_in m) (map (declare cs m) ds))) (one_s6 d p.0) (own_s6 ds p.1)
 
   -- S7
-  pub own_s7 : (ds : List Drawn) → flat_map s7 (map (class_in m) (map (declare cs m) ds)) ≡ flat_map s7 (map (class_in m) (sketches ds))
+  pub own_s7 : (ds : List InterfaceDraft) → flat_map s7 (map (class_in m) (map (declare cs m) ds)) ≡ flat_map s7 (map (class_in m) (draft_classes ds))
   own_s7 [] = refl
   own_s7 (d ∷ ds) = ap (λ z. s7 (class_in m d.class) ++ z) (own_s7 ds)
 
-  -- the declarations have the outlines of the sketches
-  pub own_outlines : (ds : List Drawn) → map outline (map (class_in m) (sketches ds)) ≡ map outline (map (class_in m) (map (declare cs m) ds))
+  -- the declarations have the outlines of the drafts
+  pub own_outlines : (ds : List InterfaceDraft) → map outline (map (class_in m) (draft_classes ds)) ≡ map outline (map (class_in m) (map (declare cs m) ds))
   own_outlines [] = refl
   own_outlines (d ∷ ds) = ap (λ z. outline (class_in m d.class) ∷ z) (own_outlines ds)
 
   -- S5
-  drawn_of : (ds : List Drawn) (c : Class) → Mem c (map (class_in m) (map (declare cs m) ds)) → (d : Drawn) × Mem (class_in m d.class) (map (class_in m) (sketches ds)) × (c ≡ class_in m (declare cs m d))
-  drawn_of [] c n = absurd n
-  drawn_of (d ∷ ds) c (inl e) = (d, inl refl, e)
-  drawn_of (d ∷ ds) c (inr n) = let r = drawn_of ds c n in (r.0, inr r.1, r.2)
+  draft_from : (ds : List InterfaceDraft) (c : Class) → Mem c (map (class_in m) (map (declare cs m) ds)) → (d : InterfaceDraft) × Mem (class_in m d.class) (map (class_in m) (draft_classes ds)) × (c ≡ class_in m (declare cs m d))
+  draft_from [] c n = absurd n
+  draft_from (d ∷ ds) c (inl e) = (d, inl refl, e)
+  draft_from (d ∷ ds) c (inr n) = let r = draft_from ds c n in (r.0, inr r.1, r.2)
 
-  entry_drawn : (d : Drawn) (c : Class) (name : List ℕ) (sig : Sig) (way : Way) → c ≡ class_in m (declare cs m d) → Mem (entries.Introduced name sig way) c.decl.face.entries
+  draft_entry : (d : InterfaceDraft) (c : Class) (name : List ℕ) (sig : Sig) (way : Way) → c ≡ class_in m (declare cs m d) → Mem (entries.Introduced name sig way) c.decl.face.entries
       → Mem (entries.Introduced name sig way) d.class.face.entries
-  entry_drawn d c name sig way e n =
+  draft_entry d c name sig way e n =
       order_own cs (class_in m d.class).key d.class.face.entries (effective_order (listed d.text.items) (introduced d.class.face.entries)) name sig way
       (subst (λ (z : Class). Mem (entries.Introduced name sig way) z.decl.face.entries) e n)
 
@@ -132,32 +132,32 @@ module _ (cs : List Class) (m : Module) where
     value_more : (t : ValueType) → IsValue known t → IsValue more t
     value_more t n = record { not_void = n.not_void; named = named_more t n.named }
 
-    pub own_types : (ds : List Drawn) → TypesKnown known (map (class_in m) (sketches ds)) → TypesKnown more (map (class_in m) (map (declare cs m) ds))
+    pub own_types : (ds : List InterfaceDraft) → TypesKnown known (map (class_in m) (draft_classes ds)) → TypesKnown more (map (class_in m) (map (declare cs m) ds))
     own_types ds h = record {
-      results = λ c name sig way n e. (let r = drawn_of ds c n in named_more sig.result (h.results (class_in m r.0.class) name sig way r.1 (entry_drawn r.0 c name sig way r.2 e)));
-      params = λ c name sig way t n e p. (let r = drawn_of ds c n in value_more t (h.params (class_in m r.0.class) name sig way t r.1 (entry_drawn r.0 c name sig way r.2 e) p));
-      variables = λ c v n e. (let r = drawn_of ds c n in value_more v.kind (h.variables (class_in m r.0.class) v r.1 (subst (λ (z : Class). Mem v z.decl.variables) r.2 e)));
+      results = λ c name sig way n e. (let r = draft_from ds c n in named_more sig.result (h.results (class_in m r.0.class) name sig way r.1 (draft_entry r.0 c name sig way r.2 e)));
+      params = λ c name sig way t n e p. (let r = draft_from ds c n in value_more t (h.params (class_in m r.0.class) name sig way t r.1 (draft_entry r.0 c name sig way r.2 e) p));
+      variables = λ c v n e. (let r = draft_from ds c n in value_more v.kind (h.variables (class_in m r.0.class) v r.1 (subst (λ (z : Class). Mem v z.decl.variables) r.2 e)));
     }
 
   -- S4
-  module _ (home : List ℕ → Module) (known more : List Class) (same : (k a : ClassKey) → is_a known k a ≡ is_a more k a) where
-    metaclass_is : (d : Drawn) (names : List (List ℕ)) → first (flat_map (makes_classes home known d) names) ≡ None
-        → every (λ k. is_a more k som_class) (option_list (option_map (key_of home) (first names))) ≡ true
+  module _ (module_of : List ℕ → Module) (known more : List Class) (same : (k a : ClassKey) → is_a known k a ≡ is_a more k a) where
+    metaclass_is : (d : InterfaceDraft) (names : List (List ℕ)) → first (flat_map (makes_classes module_of known d) names) ≡ None
+        → every (λ k. is_a more k som_class) (option_list (option_map (key_of module_of) (first names))) ≡ true
     metaclass_is d [] e = refl
     metaclass_is d (name ∷ names) e =
-        let p = none_both (makes_classes home known d name) (flat_map (makes_classes home known d) names) e in
-        let here : is_a more (key_of home name) som_class ≡ true = sym (same (key_of home name) som_class) ∙ demanded_text 4 d _ (is_a known (key_of home name) som_class) p.0 in
+        let p = none_both (makes_classes module_of known d name) (flat_map (makes_classes module_of known d) names) e in
+        let here : is_a more (key_of module_of name) som_class ≡ true = sym (same (key_of module_of name) som_class) ∙ demanded_text 4 d _ (is_a known (key_of module_of name) som_class) p.0 in
         rw here refl
 
-    one_s4 : (d : Drawn) → d.class ≡ sketch home d.text → first (text_s4 home known d) ≡ None → first (s4 more (class_in m (declare cs m d))) ≡ None
+    one_s4 : (d : InterfaceDraft) → d.class ≡ draft_class module_of d.text → first (text_s4 module_of known d) ≡ None → first (s4 more (class_in m (declare cs m d))) ≡ None
     one_s4 d is e =
         demand_none 4 (class_in m (declare cs m d)) _
         (subst (λ (z : ClassDecl). every (λ k. is_a more k som_class) (option_list z.face.metaclass) ≡ true) (sym is) (metaclass_is d (metaclass_names d.text.items) e))
 
-    pub own_s4 : (ds : List Drawn) → ((d : Drawn) → Mem d ds → d.class ≡ sketch home d.text) → first (flat_map (text_s4 home known) ds) ≡ None
+    pub own_s4 : (ds : List InterfaceDraft) → ((d : InterfaceDraft) → Mem d ds → d.class ≡ draft_class module_of d.text) → first (flat_map (text_s4 module_of known) ds) ≡ None
         → first (flat_map (s4 more) (map (class_in m) (map (declare cs m) ds))) ≡ None
     own_s4 [] are e = refl
     own_s4 (d ∷ ds) are e =
-        let p = none_both (text_s4 home known d) (flat_map (text_s4 home known) ds) e in
+        let p = none_both (text_s4 module_of known d) (flat_map (text_s4 module_of known) ds) e in
         both_none (s4 more (class_in m (declare cs m d))) (flat_map (s4 more) (map (class_in m) (map (declare cs m) ds)))
         (one_s4 d (are d (inl refl)) p.0) (own_s4 ds (λ x n. are x (inr n)) p.1)

@@ -25,15 +25,15 @@ use Rattle.som_rules.proofs.Owners.{flat_none}
 use Rattle.som_rules.proofs.PlainLists.{apart_by, apart_differ, by_apart, differ_apart, map_mem, map_none, mem_map, none_flat, none_map}
 use Rattle.som_rules.proofs.PlainMoves.{flat_mem, mem_flat}
 use Rattle.som_rules.proofs.PlainNames.{among_known, known_among}
-use Rattle.som_sema.specs.Home.{key_of}
+use Rattle.som_scope.specs.ClassNames.{key_of}
 use Rattle.som_sema.specs.Items.{Given, given, is_call, is_override, item_words, listed, metaclass_in, metaclass_names, or_object, with_modifier}
-use Rattle.som_sema.specs.Words.{once}
-use Rattle.som_sema.specs.Sketch.{Drawn}
+use Rattle.som_scope.specs.Words.{once}
+use Rattle.som_sema.specs.Drafts.{InterfaceDraft}
 use Rattle.som_sema.specs.TextRules.{base_stands, bases, makes_classes, may_be, misplaced, second, text_breach, text_demand, text_s2, text_s2_from, text_s4, text_s6, text_s11, text_s12}
 use Rattle.som_sema.specs.PlainTexts.{BasesStand, ItemsDiffer, MetaclassesDescend, ModifiersStand, NamesDiffer}
 use Rattle.som_sema.proofs.TextBases.{demanded_text}
 
-pub says_text : (n : ℕ) (d : Drawn) (member : List ℕ) (b : Bool) → b ≡ true → first (text_demand n d member b) ≡ None
+pub says_text : (n : ℕ) (d : InterfaceDraft) (member : List ℕ) (b : Bool) → b ≡ true → first (text_demand n d member b) ≡ None
 says_text n d member b e = rw e refl
 
 pub map_same : {A : Type 0} (xs : List A) → map (λ (x : A). x) xs ≡ xs
@@ -42,16 +42,16 @@ map_same (x ∷ xs) = ap (λ z. x ∷ z) (map_same xs)
 
 -- nothing stands a second time
 
-second_says : (n : ℕ) (d : Drawn) (names : List (List ℕ)) → first (second n d names) ≡ None → Differ (λ (name : List ℕ). name) names
+second_says : (n : ℕ) (d : InterfaceDraft) (names : List (List ℕ)) → first (second n d names) ≡ None → Differ (λ (name : List ℕ). name) names
 second_says n d names e =
     apart_differ (λ (name : List ℕ). name) names (rw (map_same names) (apart_by bytes_eq exact_bytes names (none_map (text_breach n d) (doubles bytes_eq [] names) e)))
 
-says_second : (n : ℕ) (d : Drawn) (names : List (List ℕ)) → Differ (λ (name : List ℕ). name) names → first (second n d names) ≡ None
+says_second : (n : ℕ) (d : InterfaceDraft) (names : List (List ℕ)) → Differ (λ (name : List ℕ). name) names → first (second n d names) ≡ None
 says_second n d names r =
     map_none (text_breach n d) (doubles bytes_eq [] names) (by_apart bytes_eq exact_bytes names (rw (map_same names) at (differ_apart (λ (name : List ℕ). name) names r)))
 
 -- S6
-pub names_law : (ds : List Drawn) → (first (flat_map text_s6 ds) ≡ None) ↔ NamesDiffer ds
+pub names_law : (ds : List InterfaceDraft) → (first (flat_map text_s6 ds) ≡ None) ↔ NamesDiffer ds
 names_law ds = (
   (λ e. record {
     introduced = λ d m. second_says 6 d _ (none_both (second 6 d (introduced d.class.face.entries)) (second 6 d (listed d.text.items)) (flat_none text_s6 ds d e m)).0;
@@ -62,7 +62,7 @@ names_law ds = (
 )
 
 -- S12
-pub items_law : (ds : List Drawn) → (first (flat_map text_s12 ds) ≡ None) ↔ ItemsDiffer ds
+pub items_law : (ds : List InterfaceDraft) → (first (flat_map text_s12 ds) ≡ None) ↔ ItemsDiffer ds
 items_law ds = (
   (λ e. record { by = λ d m. second_says 12 d (item_words d.text.items) (flat_none text_s12 ds d e m) }),
   (λ r. none_flat text_s12 ds (λ d m. says_second 12 d (item_words d.text.items) (r.by d m))),
@@ -89,25 +89,25 @@ named_item is name m =
     (s.0, subst (λ (z : Item). Mem z is) s.1 r.1, s.2)
 
 -- S4
-module _ (home : List ℕ → Module) (cs : List Class) (low : Falls (hierarchy cs)) where
+module _ (module_of : List ℕ → Module) (cs : List Class) (low : Falls (hierarchy cs)) where
   tells : Tells (hierarchy cs)
   tells = record {
     one = λ x. hierarchy_same cs x x ∙ exact_keys.one x;
     two = λ x y e. exact_keys.two x y (sym (hierarchy_same cs x y) ∙ e);
   }
 
-  pub metaclasses_law : (ds : List Drawn) → (first (flat_map (text_s4 home cs) ds) ≡ None) ↔ MetaclassesDescend home cs ds
+  pub metaclasses_law : (ds : List InterfaceDraft) → (first (flat_map (text_s4 module_of cs) ds) ≡ None) ↔ MetaclassesDescend module_of cs ds
   metaclasses_law ds = (
     (λ e. record {
-      by = λ d w m n. (descends_test (hierarchy cs) tells low (key_of home w.text) som_class).0
-          (demanded_text 4 d (codes "-") (is_a cs (key_of home w.text) som_class)
-          (flat_none (makes_classes home cs d) (metaclass_names d.text.items) w.text (flat_none (text_s4 home cs) ds d e m) (item_named w d.text.items n)));
+      by = λ d w m n. (descends_test (hierarchy cs) tells low (key_of module_of w.text) som_class).0
+          (demanded_text 4 d (codes "-") (is_a cs (key_of module_of w.text) som_class)
+          (flat_none (makes_classes module_of cs d) (metaclass_names d.text.items) w.text (flat_none (text_s4 module_of cs) ds d e m) (item_named w d.text.items n)));
     }),
-    (λ r. none_flat (text_s4 home cs) ds (λ d m. none_flat (makes_classes home cs d) (metaclass_names d.text.items) (λ name n.
+    (λ r. none_flat (text_s4 module_of cs) ds (λ d m. none_flat (makes_classes module_of cs d) (metaclass_names d.text.items) (λ name n.
         (let s = named_item d.text.items name n in
-        says_text 4 d (codes "-") (is_a cs (key_of home name) som_class)
-        ((descends_test (hierarchy cs) tells low (key_of home name) som_class).1
-        (subst (λ (z : List ℕ). Descends (hierarchy cs) (key_of home z) som_class) (sym s.2) (r.by d s.0 m s.1))))))),
+        says_text 4 d (codes "-") (is_a cs (key_of module_of name) som_class)
+        ((descends_test (hierarchy cs) tells low (key_of module_of name) som_class).1
+        (subst (λ (z : List ℕ). Descends (hierarchy cs) (key_of module_of z) som_class) (sym s.2) (r.by d s.0 m s.1))))))),
   )
 
 -- S2
@@ -121,47 +121,47 @@ named_word [] name (inl e) = inl (refl, e)
 named_word [] name (inr m) = absurd m
 named_word (x ∷ ws) name m = inr (map_mem (λ (w : Word). w.text) name (x ∷ ws) m)
 
-stands_at : (home : List ℕ → Module) (cs : List Class) (n : ℕ) (ds : List Drawn) → first (text_s2_from home cs n ds) ≡ None → (i : ℕ) (d : Drawn) → slice_get ds i ≡ Some d → first (text_s2 home (take (i + n) cs) d) ≡ None
-stands_at home cs n [] e i d at = absurd (cc)
-stands_at home cs n (x ∷ ds) e zero d at =
+stands_at : (module_of : List ℕ → Module) (cs : List Class) (n : ℕ) (ds : List InterfaceDraft) → first (text_s2_from module_of cs n ds) ≡ None → (i : ℕ) (d : InterfaceDraft) → slice_get ds i ≡ Some d → first (text_s2 module_of (take (i + n) cs) d) ≡ None
+stands_at module_of cs n [] e i d at = absurd (cc)
+stands_at module_of cs n (x ∷ ds) e zero d at =
     let same : x ≡ d = cc in
     let here : 0 + n ≡ n = omega arith in
-    subst (λ (z : Drawn). first (text_s2 home (take (0 + n) cs) z) ≡ None) same
-    (subst (λ k. first (text_s2 home (take k cs) x) ≡ None) (sym here) (none_both (text_s2 home (take n cs) x) (text_s2_from home cs (suc n) ds) e).0)
-stands_at home cs n (x ∷ ds) e (suc i) d at =
+    subst (λ (z : InterfaceDraft). first (text_s2 module_of (take (0 + n) cs) z) ≡ None) same
+    (subst (λ k. first (text_s2 module_of (take k cs) x) ≡ None) (sym here) (none_both (text_s2 module_of (take n cs) x) (text_s2_from module_of cs (suc n) ds) e).0)
+stands_at module_of cs n (x ∷ ds) e (suc i) d at =
     let sum : i + suc n ≡ suc i + n = omega arith in
-    subst (λ k. first (text_s2 home (take k cs) d) ≡ None) sum (stands_at home cs (suc n) ds (none_both (text_s2 home (take n cs) x) (text_s2_from home cs (suc n) ds) e).1 i d at)
+    subst (λ k. first (text_s2 module_of (take k cs) d) ≡ None) sum (stands_at module_of cs (suc n) ds (none_both (text_s2 module_of (take n cs) x) (text_s2_from module_of cs (suc n) ds) e).1 i d at)
 
-at_stands : (home : List ℕ → Module) (cs : List Class) (n : ℕ) (ds : List Drawn) → ((i : ℕ) (d : Drawn) → slice_get ds i ≡ Some d → first (text_s2 home (take (i + n) cs) d) ≡ None) → first (text_s2_from home cs n ds) ≡ None
-at_stands home cs n [] f = refl
-at_stands home cs n (x ∷ ds) f =
+at_stands : (module_of : List ℕ → Module) (cs : List Class) (n : ℕ) (ds : List InterfaceDraft) → ((i : ℕ) (d : InterfaceDraft) → slice_get ds i ≡ Some d → first (text_s2 module_of (take (i + n) cs) d) ≡ None) → first (text_s2_from module_of cs n ds) ≡ None
+at_stands module_of cs n [] f = refl
+at_stands module_of cs n (x ∷ ds) f =
     let here : 0 + n ≡ n = omega arith in
-    both_none (text_s2 home (take n cs) x) (text_s2_from home cs (suc n) ds)
-    (subst (λ k. first (text_s2 home (take k cs) x) ≡ None) here (f 0 x refl))
-    (at_stands home cs (suc n) ds (λ i d at. (let sum : suc i + n ≡ i + suc n = omega arith in subst (λ k. first (text_s2 home (take k cs) d) ≡ None) sum (f (suc i) d at))))
+    both_none (text_s2 module_of (take n cs) x) (text_s2_from module_of cs (suc n) ds)
+    (subst (λ k. first (text_s2 module_of (take k cs) x) ≡ None) here (f 0 x refl))
+    (at_stands module_of cs (suc n) ds (λ i d at. (let sum : suc i + n ≡ i + suc n = omega arith in subst (λ k. first (text_s2 module_of (take k cs) d) ≡ None) sum (f (suc i) d at))))
 
-module _ (home : List ℕ → Module) where
-  base_says : (before : List Class) (d : Drawn) (name : List ℕ) → first (text_s2 home before d) ≡ None → Mem name (bases d.text) → IsAmong before (key_of home name)
-  base_says before d name e m = known_among before (key_of home name) (demanded_text 2 d name _ (flat_none (base_stands home before d) (bases d.text) name e m))
+module _ (module_of : List ℕ → Module) where
+  base_says : (before : List Class) (d : InterfaceDraft) (name : List ℕ) → first (text_s2 module_of before d) ≡ None → Mem name (bases d.text) → IsAmong before (key_of module_of name)
+  base_says before d name e m = known_among before (key_of module_of name) (demanded_text 2 d name _ (flat_none (base_stands module_of before d) (bases d.text) name e m))
 
-  says_base : (before : List Class) (d : Drawn) → ((name : List ℕ) → Mem name (bases d.text) → IsAmong before (key_of home name)) → first (text_s2 home before d) ≡ None
-  says_base before d f = none_flat (base_stands home before d) (bases d.text) (λ name m. says_text 2 d name _ (among_known before (key_of home name) (f name m)))
+  says_base : (before : List Class) (d : InterfaceDraft) → ((name : List ℕ) → Mem name (bases d.text) → IsAmong before (key_of module_of name)) → first (text_s2 module_of before d) ≡ None
+  says_base before d f = none_flat (base_stands module_of before d) (bases d.text) (λ name m. says_text 2 d name _ (among_known before (key_of module_of name) (f name m)))
 
-  pub bases_law : (cs : List Class) (n : ℕ) (ds : List Drawn) → (first (text_s2_from home cs n ds) ≡ None) ↔ BasesStand home cs n ds
+  pub bases_law : (cs : List Class) (n : ℕ) (ds : List InterfaceDraft) → (first (text_s2_from module_of cs n ds) ≡ None) ↔ BasesStand module_of cs n ds
   bases_law cs n ds = (
     (λ e. record {
-      parents = λ i d w at m. base_says (take (i + n) cs) d w.text (stands_at home cs n ds e i d at) (mem_left w.text (or_object d.text.parents) (metaclass_names d.text.items) (word_named w d.text.parents m));
-      object = λ i d at none. base_says (take (i + n) cs) d (codes "SOMObject") (stands_at home cs n ds e i d at)
+      parents = λ i d w at m. base_says (take (i + n) cs) d w.text (stands_at module_of cs n ds e i d at) (mem_left w.text (or_object d.text.parents) (metaclass_names d.text.items) (word_named w d.text.parents m));
+      object = λ i d at none. base_says (take (i + n) cs) d (codes "SOMObject") (stands_at module_of cs n ds e i d at)
           (mem_left (codes "SOMObject") (or_object d.text.parents) (metaclass_names d.text.items) (subst (λ (z : List Word). Mem (codes "SOMObject") (or_object z)) (sym none) (inl refl)));
-      metaclasses = λ i d w at m. base_says (take (i + n) cs) d w.text (stands_at home cs n ds e i d at) (mem_right w.text (or_object d.text.parents) (metaclass_names d.text.items) (item_named w d.text.items m));
+      metaclasses = λ i d w at m. base_says (take (i + n) cs) d w.text (stands_at module_of cs n ds e i d at) (mem_right w.text (or_object d.text.parents) (metaclass_names d.text.items) (item_named w d.text.items m));
     }),
-    (λ r. at_stands home cs n ds (λ i d at. says_base (take (i + n) cs) d (λ name m.
+    (λ r. at_stands module_of cs n ds (λ i d at. says_base (take (i + n) cs) d (λ name m.
         elim (mem_split name (or_object d.text.parents) (metaclass_names d.text.items) m) [
           | inl p ↦ (elim (named_word d.text.parents name p) [
-            | inl o ↦ subst (λ (z : List ℕ). IsAmong (take (i + n) cs) (key_of home z)) (sym o.1) (r.object i d at o.0)
-            | inr q ↦ subst (λ (z : List ℕ). IsAmong (take (i + n) cs) (key_of home z)) (sym q.2) (r.parents i d q.0 at q.1)
+            | inl o ↦ subst (λ (z : List ℕ). IsAmong (take (i + n) cs) (key_of module_of z)) (sym o.1) (r.object i d at o.0)
+            | inr q ↦ subst (λ (z : List ℕ). IsAmong (take (i + n) cs) (key_of module_of z)) (sym q.2) (r.parents i d q.0 at q.1)
           ])
-          | inr p ↦ (let s = named_item d.text.items name p in subst (λ (z : List ℕ). IsAmong (take (i + n) cs) (key_of home z)) (sym s.2) (r.metaclasses i d s.0 at s.1))
+          | inr p ↦ (let s = named_item d.text.items name p in subst (λ (z : List ℕ). IsAmong (take (i + n) cs) (key_of module_of z)) (sym s.2) (r.metaclasses i d s.0 at s.1))
         ]))),
   )
 
@@ -286,7 +286,7 @@ differ_once names e = apart_differ (λ (name : List ℕ). name) names (rw (map_s
 once_differ : (names : List (List ℕ)) → Differ (λ (name : List ℕ). name) names → doubles bytes_eq [] names ≡ []
 once_differ names r = by_apart bytes_eq exact_bytes names (rw (map_same names) at (differ_apart (λ (name : List ℕ). name) names r))
 
-own_placed : (d : Drawn) → first (text_s11 d) ≡ None → Placed (once (introduced d.class.face.entries)) [] [] (with_modifier is_override (given d.text.items)) (with_modifier is_call (given d.text.items))
+own_placed : (d : InterfaceDraft) → first (text_s11 d) ≡ None → Placed (once (introduced d.class.face.entries)) [] [] (with_modifier is_override (given d.text.items)) (with_modifier is_call (given d.text.items))
 own_placed d e = placed_says (once (introduced d.class.face.entries)) [] [] (given d.text.items)
     (ap first (none_map (text_breach 11 d) (misplaced (once (introduced d.class.face.entries)) [] [] (given d.text.items)) e))
 
@@ -294,7 +294,7 @@ empty : {A : Type 0} (xs : List A) → first xs ≡ None → xs ≡ []
 empty [] e = refl
 empty (x ∷ xs) e = absurd (cc)
 
-pub modifiers_law : (ds : List Drawn) → (first (flat_map text_s11 ds) ≡ None) ↔ ModifiersStand ds
+pub modifiers_law : (ds : List InterfaceDraft) → (first (flat_map text_s11 ds) ≡ None) ↔ ModifiersStand ds
 modifiers_law ds = (
   (λ e. record {
     overridden = λ d m. differ_once (with_modifier is_override (given d.text.items)) (own_placed d (flat_none text_s11 ds d e m)).once_over;

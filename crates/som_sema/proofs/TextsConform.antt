@@ -26,15 +26,15 @@ use Rattle.som_rules.proofs.PlainFaces.{none_or, or_none}
 use Rattle.som_rules.proofs.PlainMembers.{say_types, types_say}
 use Rattle.som_rules.proofs.PlainMoves.{lower}
 use Rattle.som_rules.proofs.PlainNames.{among_known, known_among, names_say, parents_say}
-use Rattle.som_sema.specs.Building.{after_base, declarations, declared_all, drawn_breach, home_of, moved_breach, sketch_breach, texts_breach}
-use Rattle.som_sema.specs.Sketch.{Drawn, drawn, sketches}
+use Rattle.som_sema.specs.Building.{after_base, declarations, declared_all, draft_rules_breach, module_over, moved_breach, draft_breach, texts_breach}
+use Rattle.som_sema.specs.Drafts.{InterfaceDraft, draft_of, draft_classes}
 use Rattle.som_sema.specs.TextRules.{text_s2_from, text_s4, text_s6, text_s11, text_s12}
-use Rattle.som_sema.specs.Walks.{AreDrawn}
+use Rattle.som_sema.specs.Ancestry.{AreDrafts}
 use Rattle.som_sema.proofs.BaseKept.{AreClosed, base_closed, s4_more, s8_more}
 use Rattle.som_sema.proofs.BaseLaws.{base_moves, base_names, base_stands, moves_more, own_first}
 use Rattle.som_sema.proofs.Outlines.{outline, same_bases, same_descent, same_known, same_names, same_parents}
 use Rattle.som_sema.proofs.OwnClasses.{own_outlines, own_s4, own_s6, own_s7, own_types}
-use Rattle.som_sema.proofs.TextBases.{are_drawn, texts_stand}
+use Rattle.som_sema.proofs.TextBases.{are_drafts, texts_stand}
 
 map_both : {A B : Type 0} (f : A → B) (xs ys : List A) → map f (xs ++ ys) ≡ map f xs ++ map f ys
 map_both f [] ys = refl
@@ -56,22 +56,22 @@ join_none rule xs ys e f = ap first (flat_both xs) ∙ both_none (flat_map rule 
     flat_both [] = refl
     flat_both (x ∷ xs) = ap (λ z. rule x ++ z) (flat_both xs) ∙ sym (append_assoc (rule x) (flat_map rule xs) (flat_map rule ys))
 
--- the rules of sketches and their texts, which all hold
-record SketchesHold (home : List ℕ → Module) (cs base own : List Class) (ds : List Drawn) : Type 0 where
+-- the rules of drafts and their texts, which all hold
+record DraftsHold (module_of : List ℕ → Module) (cs base own : List Class) (ds : List InterfaceDraft) : Type 0 where
   names : first (each_after s1 (with_kernel base) own) ≡ None
-  stand : first (text_s2_from home (with_kernel cs) (length (with_kernel base)) ds) ≡ None
+  stand : first (text_s2_from module_of (with_kernel cs) (length (with_kernel base)) ds) ≡ None
   parents : first (flat_map s3 own) ≡ None
-  metaclasses : first (flat_map (text_s4 home (with_kernel cs)) ds) ≡ None
+  metaclasses : first (flat_map (text_s4 module_of (with_kernel cs)) ds) ≡ None
   types : first (flat_map (s5 (with_kernel cs)) own) ≡ None
   entries : first (flat_map text_s6 ds) ≡ None
   variables : first (flat_map s7 own) ≡ None
 
-sketches_hold : (home : List ℕ → Module) (cs base own : List Class) (ds : List Drawn) → sketch_breach home cs base own ds ≡ None → SketchesHold home cs base own ds
-sketches_hold home cs base own ds e =
+drafts_hold : (module_of : List ℕ → Module) (cs base own : List Class) (ds : List InterfaceDraft) → draft_breach module_of cs base own ds ≡ None → DraftsHold module_of cs base own ds
+drafts_hold module_of cs base own ds e =
     let r1 : Option RuleBreach = first (each_after s1 (with_kernel base) own) in
-    let r2 : Option RuleBreach = first (text_s2_from home (with_kernel cs) (length (with_kernel base)) ds) in
+    let r2 : Option RuleBreach = first (text_s2_from module_of (with_kernel cs) (length (with_kernel base)) ds) in
     let r3 : Option RuleBreach = first (flat_map s3 own) in
-    let r4 : Option RuleBreach = first (flat_map (text_s4 home (with_kernel cs)) ds) in
+    let r4 : Option RuleBreach = first (flat_map (text_s4 module_of (with_kernel cs)) ds) in
     let r5 : Option RuleBreach = first (flat_map (s5 (with_kernel cs)) own) in
     let r6 : Option RuleBreach = first (flat_map text_s6 ds) in
     let r7 : Option RuleBreach = first (flat_map s7 own) in
@@ -127,13 +127,13 @@ base_s10 : (cs : List Class) (fs : List ClassFace) → first (flat_map (s10 cs) 
 base_s10 cs [] = refl
 base_s10 cs (f ∷ fs) = base_s10 cs fs
 
-module _ (home : List ℕ → Module) (m : Module) (i : Interface) (ds : List Drawn) (are : AreDrawn home ds)
-    (conforms : faces_breach (interface_classes i) ≡ None) (holds : drawn_breach home m (interface_classes i) ds ≡ None) where
+module _ (module_of : List ℕ → Module) (m : Module) (i : Interface) (ds : List InterfaceDraft) (are : AreDrafts module_of ds)
+    (conforms : faces_breach (interface_classes i) ≡ None) (holds : draft_rules_breach module_of m (interface_classes i) ds ≡ None) where
   abbrev base : List Class
   base = interface_classes i
 
   abbrev own : List Class
-  own = map (class_in m) (sketches ds)
+  own = map (class_in m) (draft_classes ds)
 
   abbrev all : List Class
   all = base ++ own
@@ -144,8 +144,8 @@ module _ (home : List ℕ → Module) (m : Module) (i : Interface) (ds : List Dr
   abbrev finished : List Class
   finished = base ++ done
 
-  abbrev rules_of_sketches : Option RuleBreach
-  rules_of_sketches = sketch_breach home all base own ds
+  abbrev rules_of_drafts : Option RuleBreach
+  rules_of_drafts = draft_breach module_of all base own ds
 
   abbrev rules_of_moves : Option RuleBreach
   rules_of_moves = moved_breach finished done
@@ -153,11 +153,11 @@ module _ (home : List ℕ → Module) (m : Module) (i : Interface) (ds : List Dr
   abbrev rules_of_items : Option RuleBreach
   rules_of_items = or_else (first (flat_map text_s11 ds)) (first (flat_map text_s12 ds))
 
-  sketched : SketchesHold home all base own ds
-  sketched = sketches_hold home all base own ds (or_none rules_of_sketches (or_else rules_of_moves rules_of_items) holds).0
+  drafted : DraftsHold module_of all base own ds
+  drafted = drafts_hold module_of all base own ds (or_none rules_of_drafts (or_else rules_of_moves rules_of_items) holds).0
 
   moving : MovesHold (with_kernel finished) done
-  moving = moves_hold (with_kernel finished) done (or_none rules_of_moves rules_of_items (or_none rules_of_sketches (or_else rules_of_moves rules_of_items) holds).1).0
+  moving = moves_hold (with_kernel finished) done (or_none rules_of_moves rules_of_items (or_none rules_of_drafts (or_else rules_of_moves rules_of_items) holds).1).0
 
   based : BaseHolds base
   based = base_holds base conforms
@@ -189,22 +189,22 @@ module _ (home : List ℕ → Module) (m : Module) (i : Interface) (ds : List Dr
   base_among c n = mem_right c kernel base n
 
   names_rule : first (each_after s1 kernel finished) ≡ None
-  names_rule = ap first (sym (same_names all finished same kernel)) ∙ own_first s1 kernel base own (base_names base conforms) ∙ sketched.names
+  names_rule = ap first (sym (same_names all finished same kernel)) ∙ own_first s1 kernel base own (base_names base conforms) ∙ drafted.names
 
   stand_rule : first (each_after s2 kernel finished) ≡ None
   stand_rule =
       ap first (sym (same_bases all finished same kernel))
       ∙ own_first s2 kernel base own (base_stands base conforms)
-      ∙ texts_stand home m (with_kernel all) (with_kernel base) ds (length (with_kernel base)) are.by refl refl sketched.stand
+      ∙ texts_stand module_of m (with_kernel all) (with_kernel base) ds (length (with_kernel base)) are.by refl refl drafted.stand
 
   parents_rule : first (flat_map s3 finished) ≡ None
-  parents_rule = ap first (sym (same_parents all finished same)) ∙ join_none s3 base own based.parents sketched.parents
+  parents_rule = ap first (sym (same_parents all finished same)) ∙ join_none s3 base own based.parents drafted.parents
 
   metaclasses_rule : first (flat_map (s4 (with_kernel finished)) finished) ≡ None
   metaclasses_rule =
       join_none (s4 (with_kernel finished)) base done
       (s4_more (with_kernel base) done (kernel_declared base base_declared) closed base base_among based.metaclasses)
-      (own_s4 (with_kernel all) m home (with_kernel all) (with_kernel finished) (same_descent (with_kernel all) (with_kernel finished) same_all) ds are.by sketched.metaclasses)
+      (own_s4 (with_kernel all) m module_of (with_kernel all) (with_kernel finished) (same_descent (with_kernel all) (with_kernel finished) same_all) ds are.by drafted.metaclasses)
 
   known_so : (k : ClassKey) → IsAmong (with_kernel all) k → IsAmong (with_kernel finished) k
   known_so k a = known_among (with_kernel finished) k (sym (same_known (with_kernel all) (with_kernel finished) same_all k) ∙ among_known (with_kernel all) k a)
@@ -212,13 +212,13 @@ module _ (home : List ℕ → Module) (m : Module) (i : Interface) (ds : List Dr
   types_rule : first (flat_map (s5 (with_kernel finished)) done) ≡ None
   types_rule =
       say_types (with_kernel finished) done
-      (own_types (with_kernel all) m (with_kernel all) (with_kernel finished) known_so ds (types_say (with_kernel all) own sketched.types))
+      (own_types (with_kernel all) m (with_kernel all) (with_kernel finished) known_so ds (types_say (with_kernel all) own drafted.types))
 
   entries_rule : first (flat_map s6 finished) ≡ None
-  entries_rule = join_none s6 base done based.entries (own_s6 (with_kernel all) m ds sketched.entries)
+  entries_rule = join_none s6 base done based.entries (own_s6 (with_kernel all) m ds drafted.entries)
 
   variables_rule : first (flat_map s7 finished) ≡ None
-  variables_rule = join_none s7 base done based.variables (ap first (own_s7 (with_kernel all) m ds) ∙ sketched.variables)
+  variables_rule = join_none s7 base done based.variables (ap first (own_s7 (with_kernel all) m ds) ∙ drafted.variables)
 
   once_rule : first (flat_map (s8 (with_kernel finished)) finished) ≡ None
   once_rule =
@@ -253,8 +253,8 @@ module _ (home : List ℕ → Module) (m : Module) (i : Interface) (ds : List Dr
       ∙ ap (types_breach base) rest_is
       ∙ both_none (flat_map (s5 (kernel ++ base)) base) (flat_map (s5 (kernel ++ finished)) done) based.types types_rule
 
-  pub drawn_conform : classes_breach (length i.classes) finished ≡ None
-  drawn_conform =
+  pub drafts_conform : classes_breach (length i.classes) finished ≡ None
+  drafts_conform =
       none_or _ _ (none_or _ _ names_rule (none_or _ _ stand_rule (none_or _ _ parents_rule metaclasses_rule)))
       (none_or _ _ all_types (none_or _ _ entries_rule (none_or _ _ variables_rule (none_or _ _ once_rule (none_or _ _ moved_rule overrides_rule)))))
 
@@ -262,7 +262,7 @@ module _ (home : List ℕ → Module) (m : Module) (i : Interface) (ds : List Dr
 pub texts_conform : (m : Module) (base : Interface) (is : List IdlInterface) → faces_breach (interface_classes base) ≡ None → texts_breach m base is ≡ None
     → classes_breach (length base.classes) (after_base m (interface_classes base) (declarations m base is)) ≡ None
 texts_conform m base is conforms holds =
-    drawn_conform (home_of m base is) m base (map (drawn (home_of m base is)) is) (are_drawn (home_of m base is) is (map (drawn (home_of m base is)) is) refl) conforms holds
+    drafts_conform (module_over m base is) m base (map (draft_of (module_over m base is)) is) (are_drafts (module_over m base is) is (map (draft_of (module_over m base is)) is) refl) conforms holds
 
 -- over no base
 

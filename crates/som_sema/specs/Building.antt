@@ -17,31 +17,31 @@ use Rattle.som_rules.specs.declared.types.VerifyFault.{VerifyFault}
 use Rattle.som_rules.specs.declared.types.VerifyFault.TheVariants as verify
 use Rattle.som_sema.specs.declared.types.Refused.{Refused}
 use Rattle.som_sema.specs.declared.types.Refused.TheVariants as faults
-use Rattle.som_sema.specs.Words.{interface_names, once}
-use Rattle.som_sema.specs.Home.{face_names, home, kernel_names}
-use Rattle.som_sema.specs.Sketch.{Drawn, drawn, sketches}
+use Rattle.som_scope.specs.Words.{interface_names, once}
+use Rattle.som_scope.specs.ClassNames.{face_names, kernel_names, module_by_names}
+use Rattle.som_sema.specs.Drafts.{InterfaceDraft, draft_of, draft_classes}
 use Rattle.som_sema.specs.Finished.{declare}
 use Rattle.som_sema.specs.TextRules.{text_s2_from, text_s4, text_s6, text_s11, text_s12}
 
 -- where the names in the texts of a module lead, which is compiled against a base
-abbrev pub home_of : Module → Interface → List IdlInterface → List ℕ → Module
-home_of m base is = home m (once (interface_names is)) (once (face_names base.classes)) kernel_names
+abbrev pub module_over : Module → Interface → List IdlInterface → List ℕ → Module
+module_over m base is = module_by_names m (once (interface_names is)) (once (face_names base.classes)) kernel_names
 
 -- the classes of a module after those of its base
 abbrev pub after_base : Module → List Class → List ClassDecl → List Class
 after_base m base ds = base ++ map (class_in m) ds
 
--- the declarations that go with these sketches
-abbrev pub declared_all : Module → List Class → List Drawn → List ClassDecl
-declared_all m base ds = map (declare (with_kernel (after_base m base (sketches ds))) m) ds
+-- the declarations that go with these drafts
+abbrev pub declared_all : Module → List Class → List InterfaceDraft → List ClassDecl
+declared_all m base ds = map (declare (with_kernel (after_base m base (draft_classes ds))) m) ds
 
 -- the first breach of the rules S1 to S7, which look at no other class's entries: of all classes, those of the base, the own ones, and their texts
-abbrev pub sketch_breach : (List ℕ → Module) → List Class → List Class → List Class → List Drawn → Option RuleBreach
-sketch_breach home cs base own ds =
+abbrev pub draft_breach : (List ℕ → Module) → List Class → List Class → List Class → List InterfaceDraft → Option RuleBreach
+draft_breach module_of cs base own ds =
     or_else (first (each_after s1 (with_kernel base) own))
-    (or_else (first (text_s2_from home (with_kernel cs) (length (with_kernel base)) ds))
+    (or_else (first (text_s2_from module_of (with_kernel cs) (length (with_kernel base)) ds))
     (or_else (first (flat_map s3 own))
-    (or_else (first (flat_map (text_s4 home (with_kernel cs)) ds))
+    (or_else (first (flat_map (text_s4 module_of (with_kernel cs)) ds))
     (or_else (first (flat_map (s5 (with_kernel cs)) own))
     (or_else (first (flat_map text_s6 ds))
     (first (flat_map s7 own)))))))
@@ -54,20 +54,20 @@ moved_breach cs own =
     (first (flat_map (s10 (with_kernel cs)) own)))
 
 -- the first breach of the rules S1 to S12: the lowest rule, its first class, and there the first member
-abbrev pub drawn_breach : (List ℕ → Module) → Module → List Class → List Drawn → Option RuleBreach
-drawn_breach home m base ds =
-    or_else (sketch_breach home (after_base m base (sketches ds)) base (map (class_in m) (sketches ds)) ds)
+abbrev pub draft_rules_breach : (List ℕ → Module) → Module → List Class → List InterfaceDraft → Option RuleBreach
+draft_rules_breach module_of m base ds =
+    or_else (draft_breach module_of (after_base m base (draft_classes ds)) base (map (class_in m) (draft_classes ds)) ds)
     (or_else (moved_breach (after_base m base (declared_all m base ds)) (map (class_in m) (declared_all m base ds)))
     (or_else (first (flat_map text_s11 ds))
     (first (flat_map text_s12 ds))))
 
 -- what the texts declare
 abbrev pub declarations : Module → Interface → List IdlInterface → List ClassDecl
-declarations m base is = declared_all m (interface_classes base) (map (drawn (home_of m base is)) is)
+declarations m base is = declared_all m (interface_classes base) (map (draft_of (module_over m base is)) is)
 
 -- the first rule that they break
 abbrev pub texts_breach : Module → Interface → List IdlInterface → Option RuleBreach
-texts_breach m base is = drawn_breach (home_of m base is) m (interface_classes base) (map (drawn (home_of m base is)) is)
+texts_breach m base is = draft_rules_breach (module_over m base is) m (interface_classes base) (map (draft_of (module_over m base is)) is)
 
 -- how many classes a module may have
 abbrev pub most_classes : Module → ℕ

@@ -13,7 +13,7 @@ use Rattle.som_model.specs.EffectiveOrder.{effective_order}
 use Rattle.som_model.specs.Rules.{introduced_by}
 use Rattle.som_rules.specs.Places.{key_at}
 use Rattle.som_sema.specs.Items.{listed, overridden}
-use Rattle.som_sema.specs.Sketch.{Drawn}
+use Rattle.som_sema.specs.Drafts.{InterfaceDraft}
 
 -- the first ancestor of a class that introduces the name, and the class itself where none does
 abbrev pub introducer : List Class → ClassKey → List ℕ → ClassKey
@@ -31,7 +31,7 @@ abbrev pub override_of : List Class → ClassKey → List ℕ → Override
 override_of cs k name = record { method = record { class = introducer cs k name; name = name }; block = record { statements = [] } }
 
 -- the declaration of the class of a key: its entries in the effective order, and an override with an empty block for each that the text has
-abbrev pub declare_at : List Class → ClassKey → Drawn → ClassDecl
+abbrev pub declare_at : List Class → ClassKey → InterfaceDraft → ClassDecl
 declare_at cs k d = record {
   face = record d.class.face { entries = map (entry_for cs k d.class.face.entries) (effective_order (listed d.text.items) (introduced d.class.face.entries)) };
   variables = d.class.variables;
@@ -40,10 +40,10 @@ declare_at cs k d = record {
 }
 
 -- the declaration of a class of a module
-abbrev pub declare : List Class → Module → Drawn → ClassDecl
+abbrev pub declare : List Class → Module → InterfaceDraft → ClassDecl
 declare cs m d = declare_at cs (class_in m d.class).key d
 
 -- the declarations of classes by the keys that they have from a place on
-abbrev pub declared_from : List Class → ℕ → List Drawn → List ClassDecl
+abbrev pub declared_from : List Class → ℕ → List InterfaceDraft → List ClassDecl
 declared_from cs place [] = []
 declared_from cs place (d ∷ ds) = declare_at cs (key_at cs place) d ∷ declared_from cs (suc place) ds

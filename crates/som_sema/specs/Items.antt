@@ -7,7 +7,7 @@ use Rattle.som_idl.specs.declared.tree.Item.TheVariants as items
 use Rattle.som_idl.specs.declared.tree.Modifier.{Modifier}
 use Rattle.som_idl.specs.declared.tree.Modifier.TheVariants as modifiers
 use Rattle.som_sema.specs.declared.marks.Mark.{Mark}
-use Rattle.som_sema.specs.Words.{words, once}
+use Rattle.som_scope.specs.Words.{words, once}
 
 -- the parents' names; the parent of an interface without any is SOMObject
 abbrev pub or_object : List Word → List (List ℕ)

@@ -1,13 +1,8 @@
-pub mod Words
-pub mod Home
 pub mod Items
-pub mod Sketch
+pub mod Drafts
 pub mod Finished
 pub mod Noted
 pub mod TextRules
-pub mod Walks
+pub mod Ancestry
 pub mod Building
 pub mod PlainTexts
-pub mod Accessors
-pub mod Limits
-pub mod PlainLimits

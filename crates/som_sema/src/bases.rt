@@ -6,20 +6,20 @@ ghost use Rattle.som_rules.specs.Modules.{classes_of};
 ghost use Rattle.som_rules.specs.Places.{IsTable, with_kernel};
 ghost use Rattle.som_rules.specs.Told.{Tells};
 ghost use Rattle.som_rules.specs.Walk.{AreLists};
-ghost use Rattle.som_sema.specs.Home as homes;
-ghost use Rattle.som_sema.specs.Home.{home_in};
-ghost use Rattle.som_sema.specs.Sketch.{drawings as drawn, seen};
+ghost use Rattle.som_scope.specs.ClassNames as names_of_classes;
+ghost use Rattle.som_scope.specs.ClassNames.{module_in_scope};
+ghost use Rattle.som_sema.specs.Drafts.{plain_draft, plain_drafts};
 ghost use Rattle.som_sema.specs.TextRules.{text_s2, text_s2_from, text_s4};
-ghost use Rattle.som_sema.specs.declared.sketch.Drawing.{Drawing as Known};
+ghost use Rattle.som_sema.specs.declared.drafts.Draft.{Draft as Known};
 ghost use Rattle.std.specs.Prelude.{◌≡◌, ◌<◌, ◌+◌, length, take, flat_map, is_some, slice_get, IfOk, Some};
 
+use crate::drafts::Draft;
 use crate::items::{add_metaclasses, parent_names};
-use crate::passes::{breach, each_drawing};
-use crate::scope::{Scope, key_of};
-use crate::sketch::Drawing;
+use crate::passes::{breach, each_draft};
 use indexmap::IndexSet;
 use som_model::{List, NoMemory, ValueType};
 use som_rules::{Declared, VerifyFault, descends_by, find_class, type_is_known};
+use som_scope::{Scope, key_of};
 use std::alloc::Global;
 
 /// The place of the class of classes.
@@ -31,16 +31,16 @@ pub fn bases_stand(
     scope: &Scope,
     table: &IndexSet<&[u8]>,
     classes: &[Declared],
-    drawings: &[Drawing],
+    drafts: &[Draft],
     from: usize,
 ) -> Result<(), VerifyFault>
     requires table { IsTable (classes_of classes.now) (texts table.now.keys) }
-    requires from { from + length drawings.now ≡ length (with_kernel (classes_of classes.now)) }
-    ensures { Tells (first (text_s2_from (home_in scope.now) (with_kernel (classes_of classes.now)) from (drawn drawings.now))) result }
+    requires from { from + length drafts.now ≡ length (with_kernel (classes_of classes.now)) }
+    ensures { Tells (first (text_s2_from (module_in_scope scope.now) (with_kernel (classes_of classes.now)) from (plain_drafts drafts.now))) result }
 {
     let mut place = from;
-    for drawing in drawings {
-        own_bases_stand(alloc, scope, table, classes, drawing, place)?;
+    for draft in drafts {
+        own_bases_stand(alloc, scope, table, classes, draft, place)?;
         place += 1;
     }
     Ok(())
@@ -51,17 +51,17 @@ fn own_bases_stand(
     scope: &Scope,
     table: &IndexSet<&[u8]>,
     classes: &[Declared],
-    drawing: &Drawing,
+    draft: &Draft,
     place: usize,
 ) -> Result<(), VerifyFault>
     requires { IsTable (classes_of classes.now) (texts table.now.keys) }
-    ensures { Tells (first (text_s2 (home_in scope.now) (take place (with_kernel (classes_of classes.now))) (seen drawing.now))) result }
+    ensures { Tells (first (text_s2 (module_in_scope scope.now) (take place (with_kernel (classes_of classes.now))) (plain_draft draft.now))) result }
 {
-    let mut names = parent_names(alloc, drawing.text.parents.as_slice())?;
-    add_metaclasses(&mut names, drawing.text.items.as_slice())?;
+    let mut names = parent_names(alloc, draft.text.parents.as_slice())?;
+    add_metaclasses(&mut names, draft.text.items.as_slice())?;
     for name in names.as_slice() {
         if !stands(alloc, scope, table, classes, *name, place)? {
-            return Err(breach(alloc, 2, drawing, *name)?);
+            return Err(breach(alloc, 2, draft, *name)?);
         }
     }
     Ok(())
@@ -77,7 +77,7 @@ fn stands(
     place: usize,
 ) -> Result<bool, NoMemory>
     requires { IsTable (classes_of classes.now) (texts table.now.keys) }
-    ensures { IfOk result (λ b. b ≡ is_some (class_at (take place (with_kernel (classes_of classes.now))) (homes.key_of (home_in scope.now) name.now))) }
+    ensures { IfOk result (λ b. b ≡ is_some (class_at (take place (with_kernel (classes_of classes.now))) (names_of_classes.key_of (module_in_scope scope.now) name.now))) }
 {
     let kind = ValueType::Class(key_of(alloc, scope, name)?);
     Ok(type_is_known(table, classes, place, &kind))
@@ -90,21 +90,21 @@ pub fn metaclasses_descend(
     table: &IndexSet<&[u8]>,
     classes: &[Declared],
     lists: &[List<usize>],
-    drawings: &[Drawing],
+    drafts: &[Draft],
 ) -> Result<(), VerifyFault>
     requires table { IsTable (classes_of classes.now) (texts table.now.keys) }
     requires lists { AreLists (with_kernel (classes_of classes.now)) lists.now }
-    ensures { Tells (first (flat_map (text_s4 (home_in scope.now) (with_kernel (classes_of classes.now))) (drawn drawings.now))) result }
+    ensures { Tells (first (flat_map (text_s4 (module_in_scope scope.now) (with_kernel (classes_of classes.now))) (plain_drafts drafts.now))) result }
 {
-    each_drawing(
-        drawings,
+    each_draft(
+        drafts,
         |place: usize| -> Result<(), VerifyFault>
-            requires place { place < length drawings.now }
+            requires place { place < length drafts.now }
             requires table { IsTable (classes_of classes.now) (texts table.now.keys) }
             requires lists { AreLists (with_kernel (classes_of classes.now)) lists.now }
-            ensures { (d : Known) → slice_get drawings.entry.now place ≡ Some d →
-                Tells (first (text_s4 (home_in scope.entry.now) (with_kernel (classes_of classes.entry.now)) (seen d))) result }
-        { own_metaclasses_descend(alloc, scope, table, classes, lists, &drawings[place]) },
+            ensures { (d : Known) → slice_get drafts.entry.now place ≡ Some d →
+                Tells (first (text_s4 (module_in_scope scope.entry.now) (with_kernel (classes_of classes.entry.now)) (plain_draft d))) result }
+        { own_metaclasses_descend(alloc, scope, table, classes, lists, &drafts[place]) },
     )
 }
 
@@ -114,17 +114,17 @@ fn own_metaclasses_descend(
     table: &IndexSet<&[u8]>,
     classes: &[Declared],
     lists: &[List<usize>],
-    drawing: &Drawing,
+    draft: &Draft,
 ) -> Result<(), VerifyFault>
     requires table { IsTable (classes_of classes.now) (texts table.now.keys) }
     requires lists { AreLists (with_kernel (classes_of classes.now)) lists.now }
-    ensures { Tells (first (text_s4 (home_in scope.now) (with_kernel (classes_of classes.now)) (seen drawing.now))) result }
+    ensures { Tells (first (text_s4 (module_in_scope scope.now) (with_kernel (classes_of classes.now)) (plain_draft draft.now))) result }
 {
     let mut names = Vec::new(alloc);
-    add_metaclasses(&mut names, drawing.text.items.as_slice())?;
+    add_metaclasses(&mut names, draft.text.items.as_slice())?;
     for name in names.as_slice() {
         if !makes_classes(alloc, scope, table, classes, lists, *name)? {
-            return Err(breach(alloc, 4, drawing, b"-")?);
+            return Err(breach(alloc, 4, draft, b"-")?);
         }
     }
     Ok(())
@@ -141,7 +141,7 @@ fn makes_classes(
 ) -> Result<bool, NoMemory>
     requires table { IsTable (classes_of classes.now) (texts table.now.keys) }
     requires lists { AreLists (with_kernel (classes_of classes.now)) lists.now }
-    ensures { IfOk result (λ b. b ≡ is_a (with_kernel (classes_of classes.now)) (homes.key_of (home_in scope.now) name.now) som_class) }
+    ensures { IfOk result (λ b. b ≡ is_a (with_kernel (classes_of classes.now)) (names_of_classes.key_of (module_in_scope scope.now) name.now) som_class) }
 {
     let key = key_of(alloc, scope, name)?;
     match find_class(table, classes, &key, classes.len() + 4) {

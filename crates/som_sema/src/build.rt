@@ -5,28 +5,28 @@ ghost use Rattle.som_model.specs.declared.key.Module.TheVariants as modules;
 ghost use Rattle.som_rules.specs.Faces.{faces_breach};
 ghost use Rattle.som_rules.specs.Modules.{classes_of};
 ghost use Rattle.som_rules.specs.Told.{Tells};
+ghost use Rattle.som_scope.specs.ClassNames.{module_in_scope};
+ghost use Rattle.som_scope.specs.Words.{interfaces_of, lent};
+ghost use Rattle.som_sema.specs.Ancestry.{AreDrafts, IsAncestorTable};
 ghost use Rattle.som_sema.specs.Building as spec;
-ghost use Rattle.som_sema.specs.Building.{FacesTold, refused_by, after_base, declared_all, drawn_breach, moved_breach, texts_breach};
-ghost use Rattle.som_sema.specs.Home.{home_in};
-ghost use Rattle.som_sema.specs.Sketch.{drawings as drawn, sketches as drawn_classes};
-ghost use Rattle.som_sema.specs.Walks.{AreDrawn, IsWalked};
-ghost use Rattle.som_sema.specs.Words.{interfaces_of, lent};
+ghost use Rattle.som_sema.specs.Building.{FacesTold, after_base, declared_all, draft_rules_breach, moved_breach, refused_by, texts_breach};
+ghost use Rattle.som_sema.specs.Drafts.{draft_classes, draft_of, plain_drafts};
 ghost use Rattle.std.specs.Prelude.{◌≡◌, ◌++◌, map, IfOk, OnOk, None};
 
+use crate::ancestry::AncestorTable;
 use crate::declared::declarations;
+use crate::drafts::{Draft, drafts_of};
 use crate::members::items_differ;
 use crate::modifiers::modifiers_stand;
-use crate::rules::{moves_hold, sketches_hold};
-use crate::scope::{Scope, scope_of};
-use crate::sketch::{Drawing, sketches};
+use crate::rules::{drafts_hold, moves_hold};
 use crate::types::Refused;
-use crate::walked::Walked;
 use som_idl::{IdlFile, IdlInterface};
 use som_model::{
     ClassDecl, ClassFace, Interface, List, MAX_CLIENT_CLASSES, MAX_LIBRARY_CLASSES, Module,
     NoMemory, Text, kernel_faces,
 };
 use som_rules::{Declared, KERNEL_CLASSES, VerifyFault, bare_classes, declare};
+use som_scope::{Scope, scope_of};
 use std::alloc::Global;
 
 /// The declarations that texts stand for, without bodies, or the first limit or rule that they break. They are compiled
@@ -35,21 +35,21 @@ pub fn build_faces(
     alloc: Global,
     idl: &List<IdlFile>,
     base: &Interface,
-    home: Module,
+    own_module: Module,
 ) -> Result<List<ClassDecl>, Refused>
     requires { faces_breach (interface_classes base.now) ≡ None }
-    ensures { FacesTold home base.now (interfaces_of idl.now) result }
+    ensures { FacesTold own_module base.now (interfaces_of idl.now) result }
 {
     let interfaces = all_interfaces(alloc, idl.as_slice())?;
     let all = interfaces.as_slice();
-    let most = most_classes(home);
+    let most = most_classes(own_module);
     if all.len() > most as usize {
         return Err(Refused::Limit {
             quantity: Text::from_slice(alloc, b"classes")?,
             number: most,
         });
     }
-    match faces(alloc, all, base, home) {
+    match faces(alloc, all, base, own_module) {
         Ok(classes) => Ok(classes),
         Err(fault) => Err(refused(fault)),
     }
@@ -65,10 +65,10 @@ pub fn refused(fault: VerifyFault) -> Refused
     }
 }
 
-fn most_classes(home: Module) -> u32
-    ensures { result ≡ spec.most_classes home }
+fn most_classes(own_module: Module) -> u32
+    ensures { result ≡ spec.most_classes own_module }
 {
-    match home {
+    match own_module {
         Module::Client => MAX_CLIENT_CLASSES,
         Module::Kernel => MAX_LIBRARY_CLASSES,
         Module::Library => MAX_LIBRARY_CLASSES,
@@ -104,75 +104,95 @@ fn faces(
     alloc: Global,
     interfaces: &[&IdlInterface],
     base: &Interface,
-    home: Module,
+    own_module: Module,
 ) -> Result<List<ClassDecl>, VerifyFault>
     requires { faces_breach (interface_classes base.now) ≡ None }
-    ensures tells { Tells (texts_breach home base.now (lent interfaces.now)) result }
-    ensures ok { IfOk result (λ ds. ds ≡ spec.declarations home base.now (lent interfaces.now)) }
+    ensures tells { Tells (texts_breach own_module base.now (lent interfaces.now)) result }
+    ensures ok { IfOk result (λ ds. ds ≡ spec.declarations own_module base.now (lent interfaces.now)) }
 {
     let kernel = kernel_faces(alloc)?;
     let kernel = kernel.classes.as_slice();
     let known = base.classes.as_slice();
-    let scope = scope_of(alloc, home, known, kernel, interfaces)?;
-    let drawings = sketches(alloc, &scope, interfaces)?;
-    let drawings = drawings.as_slice();
-    let bares = bare_classes(alloc, known)?;
-    built(alloc, &scope, kernel, bares.as_slice(), drawings)
+    let scope = scope_of(alloc, own_module, known, kernel, interfaces)?;
+    faces_in_scope(alloc, &scope, kernel, base, interfaces)
 }
 
-// The same from sketches.
+// The same, where it is known what names stand for.
+fn faces_in_scope(
+    alloc: Global,
+    scope: &Scope,
+    kernel: &[ClassFace],
+    base: &Interface,
+    interfaces: &[&IdlInterface],
+) -> Result<List<ClassDecl>, VerifyFault>
+    requires kernel { kernel.now ≡ kernel_interface.classes }
+    requires conforms { faces_breach (interface_classes base.now) ≡ None }
+    ensures tells { Tells (draft_rules_breach (module_in_scope scope.now) scope.now.module (interface_classes base.now)
+        (map (draft_of (module_in_scope scope.now)) (lent interfaces.now))) result }
+    ensures ok { IfOk result (λ ds. ds ≡ declared_all scope.now.module (interface_classes base.now)
+        (map (draft_of (module_in_scope scope.now)) (lent interfaces.now))) }
+{
+    let drafts = drafts_of(alloc, scope, interfaces)?;
+    let bares = bare_classes(alloc, base.classes.as_slice())?;
+    built(alloc, scope, kernel, bares.as_slice(), drafts.as_slice())
+}
+
+// The same from drafts.
 fn built(
     alloc: Global,
     scope: &Scope,
     kernel: &[ClassFace],
     base: &[ClassDecl],
-    drawings: &[Drawing],
+    drafts: &[Draft],
 ) -> Result<List<ClassDecl>, VerifyFault>
     requires kernel { kernel.now ≡ kernel_interface.classes }
     requires conforms { faces_breach (map (class_in modules.Library) base.now) ≡ None }
-    requires drawn { AreDrawn (home_in scope.now) (drawn drawings.now) }
-    ensures tells { Tells (drawn_breach (home_in scope.now) scope.now.module (map (class_in modules.Library) base.now) (drawn drawings.now)) result }
-    ensures ok { IfOk result (λ ds. ds ≡ declared_all scope.now.module (map (class_in modules.Library) base.now) (drawn drawings.now)) }
+    requires drafted { AreDrafts (module_in_scope scope.now) (plain_drafts drafts.now) }
+    ensures tells { Tells (draft_rules_breach (module_in_scope scope.now) scope.now.module (map (class_in modules.Library) base.now) (plain_drafts drafts.now)) result }
+    ensures ok { IfOk result (λ ds. ds ≡ declared_all scope.now.module (map (class_in modules.Library) base.now) (plain_drafts drafts.now)) }
 {
-    let classes = known_classes(alloc, scope.module, base, drawings)?;
+    let classes = known_classes(alloc, scope.module, base, drafts)?;
     let known = classes.as_slice();
-    let walked = sketches_hold(alloc, scope, known, base.len(), drawings)?;
-    let lists = walked.lists.as_slice();
+    let ancestors = drafts_hold(alloc, scope, known, base.len(), drafts)?;
+    let lists = ancestors.lists.as_slice();
     let from = base.len() + KERNEL_CLASSES;
-    let all = declarations(alloc, kernel, known, lists, drawings, from)?;
+    let all = declarations(alloc, kernel, known, lists, drafts, from)?;
     let own = all.as_slice();
-    finished_hold(alloc, scope.module, kernel, &walked, base, own)?;
-    modifiers_stand(alloc, drawings)?;
-    items_differ(alloc, drawings)?;
+    finished_hold(alloc, scope.module, kernel, &ancestors, base, own)?;
+    modifiers_stand(alloc, drafts)?;
+    items_differ(alloc, drafts)?;
     Ok(all)
 }
 
-// The classes of the base, and then those that were sketched.
+// The classes of the base, and then those that were drafted.
 fn known_classes<'a>(
     alloc: Global,
-    home: Module,
+    own_module: Module,
     base: &'a [ClassDecl],
-    drawings: &'a [Drawing],
+    drafts: &'a [Draft],
 ) -> Result<Vec<Declared<'a>>, NoMemory>
-    ensures { IfOk result (λ all. classes_of all.items ≡ after_base home (map (class_in modules.Library) base.now) (drawn_classes (drawn drawings.now))) }
+    ensures { IfOk result (λ all. classes_of all.items ≡ after_base own_module (map (class_in modules.Library) base.now) (draft_classes (plain_drafts drafts.now))) }
 {
     let mut classes = Vec::new(alloc);
     declare(&mut classes, Module::Library, base)?;
-    add_sketches(&mut classes, home, drawings)?;
+    add_drafts(&mut classes, own_module, drafts)?;
     Ok(classes)
 }
 
-fn add_sketches<'a>(
+fn add_drafts<'a>(
     classes: &mut Vec<Declared<'a>>,
-    home: Module,
-    drawings: &'a [Drawing],
+    own_module: Module,
+    drafts: &'a [Draft],
 ) -> Result<(), NoMemory>
     ensures { OnOk result (classes_of classes.new.items ≡
-        classes_of classes.old.items ++ map (class_in home) (drawn_classes (drawn drawings.now))) }
+        classes_of classes.old.items ++ map (class_in own_module) (draft_classes (plain_drafts drafts.now))) }
 {
-    for drawing in drawings {
-        let decl = &drawing.decl;
-        classes.push(Declared { module: home, decl })?;
+    for draft in drafts {
+        let decl = &draft.decl;
+        classes.push(Declared {
+            module: own_module,
+            decl,
+        })?;
     }
     Ok(())
 }
@@ -180,33 +200,33 @@ fn add_sketches<'a>(
 // The rules S8 to S10 of the declarations.
 fn finished_hold(
     alloc: Global,
-    home: Module,
+    own_module: Module,
     kernel: &[ClassFace],
-    walked: &Walked,
+    ancestors: &AncestorTable,
     base: &[ClassDecl],
     own: &[ClassDecl],
 ) -> Result<(), VerifyFault>
     requires kernel { kernel.now ≡ kernel_interface.classes }
-    requires walked { IsWalked (after_base home (map (class_in modules.Library) base.now) own.now) walked.now }
+    requires ancestors { IsAncestorTable (after_base own_module (map (class_in modules.Library) base.now) own.now) ancestors.now }
     requires conforms { faces_breach (map (class_in modules.Library) base.now) ≡ None }
-    ensures { Tells (moved_breach (after_base home (map (class_in modules.Library) base.now) own.now) (map (class_in home) own.now)) result }
+    ensures { Tells (moved_breach (after_base own_module (map (class_in modules.Library) base.now) own.now) (map (class_in own_module) own.now)) result }
 {
-    let classes = both_classes(alloc, home, base, own)?;
+    let classes = both_classes(alloc, own_module, base, own)?;
     let known = classes.as_slice();
-    moves_hold(alloc, kernel, walked, known, base.len())
+    moves_hold(alloc, kernel, ancestors, known, base.len())
 }
 
 // The classes of the base, and then the own ones.
 fn both_classes<'a>(
     alloc: Global,
-    home: Module,
+    own_module: Module,
     base: &'a [ClassDecl],
     own: &'a [ClassDecl],
 ) -> Result<Vec<Declared<'a>>, NoMemory>
-    ensures { IfOk result (λ all. classes_of all.items ≡ after_base home (map (class_in modules.Library) base.now) own.now) }
+    ensures { IfOk result (λ all. classes_of all.items ≡ after_base own_module (map (class_in modules.Library) base.now) own.now) }
 {
     let mut classes = Vec::new(alloc);
     declare(&mut classes, Module::Library, base)?;
-    declare(&mut classes, home, own)?;
+    declare(&mut classes, own_module, own)?;
     Ok(classes)
 }

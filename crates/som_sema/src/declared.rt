@@ -5,20 +5,20 @@ ghost use Rattle.som_order.specs.Names.{texts};
 ghost use Rattle.som_rules.specs.Modules.{classes_of};
 ghost use Rattle.som_rules.specs.Places.{key_at as key_at_place, with_kernel};
 ghost use Rattle.som_rules.specs.Walk.{AreLists};
+ghost use Rattle.som_sema.specs.Drafts.{plain_draft, plain_drafts};
 ghost use Rattle.som_sema.specs.Finished as spec;
 ghost use Rattle.som_sema.specs.Finished.{declare_at, entry_for, override_of};
 ghost use Rattle.som_sema.specs.Items as spec_items;
 ghost use Rattle.som_sema.specs.Items.{listed as listed_names};
 ghost use Rattle.som_sema.specs.Noted as names_first;
 ghost use Rattle.som_sema.specs.Noted.{At, IsKnown, all_at, along, counted};
-ghost use Rattle.som_sema.specs.Sketch.{drawings as drawn, seen};
 ghost use Rattle.std.specs.Prelude.{◌≡◌, ◌<◌, ◌+◌, [], List as Seq, length, map, slice_get, slice_index_or, option_copied, unwrap_or, IfOk};
 
+use crate::drafts::Draft;
 use crate::faces::{introduced_along, key_at};
 use crate::items::listed;
 use crate::marks::marks;
 use crate::places::{Noted, Places, first_place, note, place_table};
-use crate::sketch::Drawing;
 use crate::tables::overridden;
 use som_idl::Item;
 use som_model::{
@@ -35,18 +35,18 @@ pub fn declarations(
     kernel: &[ClassFace],
     classes: &[Declared],
     lists: &[List<usize>],
-    drawings: &[Drawing],
+    drafts: &[Draft],
     from: usize,
 ) -> Result<List<ClassDecl>, NoMemory>
     requires kernel { kernel.now ≡ kernel_interface.classes }
     requires lists { AreLists (with_kernel (classes_of classes.now)) lists.now }
-    requires from { from + length drawings.now ≡ length (with_kernel (classes_of classes.now)) }
-    ensures { IfOk result (λ ds. ds ≡ spec.declared_from (with_kernel (classes_of classes.now)) from (drawn drawings.now)) }
+    requires from { from + length drafts.now ≡ length (with_kernel (classes_of classes.now)) }
+    ensures { IfOk result (λ ds. ds ≡ spec.declared_from (with_kernel (classes_of classes.now)) from (plain_drafts drafts.now)) }
 {
     let mut all = List::new(alloc);
     let mut place = from;
-    for drawing in drawings {
-        let decl = declaration(alloc, kernel, classes, lists, drawing, place)?;
+    for draft in drafts {
+        let decl = declaration(alloc, kernel, classes, lists, draft, place)?;
         all.push(decl)?;
         place += 1;
     }
@@ -58,19 +58,19 @@ fn declaration(
     kernel: &[ClassFace],
     classes: &[Declared],
     lists: &[List<usize>],
-    drawing: &Drawing,
+    draft: &Draft,
     place: usize,
 ) -> Result<ClassDecl, NoMemory>
     requires kernel { kernel.now ≡ kernel_interface.classes }
     requires lists { AreLists (with_kernel (classes_of classes.now)) lists.now }
     requires place { place < length (with_kernel (classes_of classes.now)) }
     ensures { IfOk result (λ d. d ≡ declare_at (with_kernel (classes_of classes.now))
-        (key_at_place (with_kernel (classes_of classes.now)) place) (seen drawing.now)) }
+        (key_at_place (with_kernel (classes_of classes.now)) place) (plain_draft draft.now)) }
 {
     let list = list_at(lists, place);
     let along = introduced_along(alloc, kernel, classes, list)?;
     let above = place_table(alloc, &along)?;
-    let face = &drawing.decl.face;
+    let face = &draft.decl.face;
     Ok(ClassDecl {
         face: ClassFace {
             name: face.name.copy(alloc)?,
@@ -78,11 +78,11 @@ fn declaration(
             minor: face.minor,
             parents: keys(alloc, face.parents.as_slice())?,
             metaclass: optional_key(alloc, &face.metaclass)?,
-            entries: entries(alloc, kernel, classes, lists, &above, drawing, place)?,
+            entries: entries(alloc, kernel, classes, lists, &above, draft, place)?,
         },
-        variables: variables(alloc, drawing.decl.variables.as_slice())?,
+        variables: variables(alloc, draft.decl.variables.as_slice())?,
         bodies: List::new(alloc),
-        overrides: overrides(alloc, kernel, classes, lists, &above, drawing, place)?,
+        overrides: overrides(alloc, kernel, classes, lists, &above, draft, place)?,
     })
 }
 
@@ -129,7 +129,7 @@ fn entries(
     classes: &[Declared],
     lists: &[List<usize>],
     above: &Places,
-    drawing: &Drawing,
+    draft: &Draft,
     place: usize,
 ) -> Result<List<Entry>, NoMemory>
     requires kernel { kernel.now ≡ kernel_interface.classes }
@@ -137,11 +137,11 @@ fn entries(
     requires place { place < length (with_kernel (classes_of classes.now)) }
     requires above { IsKnown (along (with_kernel (classes_of classes.now)) (slice_index_or lists.now place [])) above.now }
     ensures { IfOk result (λ es. es ≡ map (entry_for (with_kernel (classes_of classes.now))
-        (key_at_place (with_kernel (classes_of classes.now)) place) drawing.now.decl.face.entries)
-        (orders.effective_order (listed_names drawing.now.text.now.items) (introduced drawing.now.decl.face.entries))) }
+        (key_at_place (with_kernel (classes_of classes.now)) place) draft.now.decl.face.entries)
+        (orders.effective_order (listed_names draft.now.text.now.items) (introduced draft.now.decl.face.entries))) }
 {
-    let own = drawing.decl.face.entries.as_slice();
-    let order = order_of(alloc, drawing.text.items.as_slice(), own)?;
+    let own = draft.decl.face.entries.as_slice();
+    let order = order_of(alloc, draft.text.items.as_slice(), own)?;
     let own_places = place_table(alloc, &numbered(alloc, own)?)?;
     let mut all = List::new(alloc);
     for name in order.as_slice() {
@@ -254,7 +254,7 @@ fn overrides(
     classes: &[Declared],
     lists: &[List<usize>],
     above: &Places,
-    drawing: &Drawing,
+    draft: &Draft,
     place: usize,
 ) -> Result<List<Override>, NoMemory>
     requires kernel { kernel.now ≡ kernel_interface.classes }
@@ -262,9 +262,9 @@ fn overrides(
     requires place { place < length (with_kernel (classes_of classes.now)) }
     requires above { IsKnown (along (with_kernel (classes_of classes.now)) (slice_index_or lists.now place [])) above.now }
     ensures { IfOk result (λ os. os ≡ map (override_of (with_kernel (classes_of classes.now))
-        (key_at_place (with_kernel (classes_of classes.now)) place)) (spec_items.overridden drawing.now.text.now.items)) }
+        (key_at_place (with_kernel (classes_of classes.now)) place)) (spec_items.overridden draft.now.text.now.items)) }
 {
-    let marks = marks(alloc, drawing.text.items.as_slice())?;
+    let marks = marks(alloc, draft.text.items.as_slice())?;
     let names = overridden(alloc, &marks)?;
     let mut all = List::new(alloc);
     for name in names.as_slice() {

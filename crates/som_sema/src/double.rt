@@ -1,13 +1,13 @@
 ghost use Rattle.som_model.specs.Lists.{doubles, first};
 ghost use Rattle.som_order.specs.Names.{texts};
 ghost use Rattle.som_rules.specs.Told.{Tells};
-ghost use Rattle.som_sema.specs.Sketch.{seen};
+ghost use Rattle.som_sema.specs.Drafts.{plain_draft};
 ghost use Rattle.som_sema.specs.TextRules.{second};
 ghost use Rattle.std.specs.Prelude.{◌≡◌, [], IfOk, option_copied};
 ghost use Rattle.std.specs.Str.{bytes_eq};
 
+use crate::drafts::Draft;
 use crate::passes::breach;
-use crate::sketch::Drawing;
 use indexmap::IndexSet;
 use som_model::NoMemory;
 use som_order::note_name;
@@ -15,17 +15,12 @@ use som_rules::VerifyFault;
 use std::alloc::Global;
 
 /// Whether no name of a class stands twice, where a rule asks for it.
-pub fn no_double(
-    alloc: Global,
-    rule: u8,
-    drawing: &Drawing,
-    names: &[&[u8]],
-) -> Result<(), VerifyFault>
-    ensures { Tells (first (second rule (seen drawing.now) (texts names.now))) result }
+pub fn no_double(alloc: Global, rule: u8, draft: &Draft, names: &[&[u8]]) -> Result<(), VerifyFault>
+    ensures { Tells (first (second rule (plain_draft draft.now) (texts names.now))) result }
 {
     match first_double(alloc, names)? {
         None => Ok(()),
-        Some(name) => Err(breach(alloc, rule, drawing, name)?),
+        Some(name) => Err(breach(alloc, rule, draft, name)?),
     }
 }
 

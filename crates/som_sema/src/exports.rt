@@ -1,17 +1,17 @@
-ghost use Rattle.som_order.specs.Names.{texts};
-ghost use Rattle.som_sema.specs.Home.{home_in};
-ghost use Rattle.som_sema.specs.Items as spec;
-ghost use Rattle.som_sema.specs.Sketch as sketches;
-ghost use Rattle.som_sema.specs.Sketch.{accessors, export_entries, getter, method, param_types, setter};
-ghost use Rattle.std.specs.Prelude.{◌≡◌, ◌++◌, ◌∷◌, [], flat_map, IfOk, OnOk};
-ghost use Rattle.som_read.specs.declared.tree.Word.{Word as Named};
 ghost use Rattle.som_model.specs.declared.key.ValueType.TheVariants as types;
+ghost use Rattle.som_order.specs.Names.{texts};
+ghost use Rattle.som_read.specs.declared.tree.Word.{Word as Named};
+ghost use Rattle.som_scope.specs.ClassNames.{module_in_scope};
+ghost use Rattle.som_sema.specs.Drafts as drafting;
+ghost use Rattle.som_sema.specs.Drafts.{accessors, export_entries, getter, method, param_types, setter};
+ghost use Rattle.som_sema.specs.Items as spec;
+ghost use Rattle.std.specs.Prelude.{◌≡◌, ◌++◌, ◌∷◌, [], flat_map, IfOk, OnOk};
 
-use crate::scope::{Scope, result_of, type_of};
 use indexmap::IndexSet;
 use som_idl::{Export, IdlInterface, Param, Word};
 use som_model::{Entry, List, NoMemory, Sig, Text, ValueType, Way};
 use som_order::find_name;
+use som_scope::{Scope, result_of, type_of};
 use std::alloc::Global;
 
 /// The methods that an interface introduces, in the order of declaration.
@@ -22,7 +22,7 @@ pub fn introduced(
     text: &IdlInterface,
 ) -> Result<List<Entry>, NoMemory>
     requires { texts by_name.now.keys ≡ spec.by_name text.now.items }
-    ensures { IfOk result (λ entries. entries ≡ sketches.introduces (home_in scope.now) text.now) }
+    ensures { IfOk result (λ entries. entries ≡ drafting.introduces (module_in_scope scope.now) text.now) }
 {
     let mut entries = List::new(alloc);
     add_exports(alloc, &mut entries, scope, by_name, text.before.as_slice())?;
@@ -38,7 +38,7 @@ fn add_exports(
     exports: &[Export],
 ) -> Result<(), NoMemory>
     ensures { OnOk result (entries.new ≡ entries.old ++
-        flat_map (export_entries (home_in scope.now) (texts by_name.now.keys)) exports.now) }
+        flat_map (export_entries (module_in_scope scope.now) (texts by_name.now.keys)) exports.now) }
 {
     for export in exports {
         add_export(alloc, entries, scope, by_name, export)?;
@@ -54,7 +54,7 @@ fn add_export(
     export: &Export,
 ) -> Result<(), NoMemory>
     ensures { OnOk result (entries.new ≡ entries.old ++
-        export_entries (home_in scope.now) (texts by_name.now.keys) export.now) }
+        export_entries (module_in_scope scope.now) (texts by_name.now.keys) export.now) }
 {
     match export {
         Export::Attribute {
@@ -171,7 +171,7 @@ fn introduce(by_name: &IndexSet<&[u8]>, name: Text, sig: Sig) -> Entry
 }
 
 fn way_of(by_name: &IndexSet<&[u8]>, name: &[u8]) -> Way
-    ensures { result ≡ sketches.way_of (texts by_name.now.keys) name.now }
+    ensures { result ≡ drafting.way_of (texts by_name.now.keys) name.now }
 {
     if find_name(by_name, name).is_some() {
         Way::Lookup
@@ -181,7 +181,7 @@ fn way_of(by_name: &IndexSet<&[u8]>, name: &[u8]) -> Way
 }
 
 fn kinds(alloc: Global, scope: &Scope, params: &[Param]) -> Result<List<ValueType>, NoMemory>
-    ensures { IfOk result (λ kinds. kinds ≡ param_types (home_in scope.now) params.now) }
+    ensures { IfOk result (λ kinds. kinds ≡ param_types (module_in_scope scope.now) params.now) }
 {
     let mut kinds = List::new(alloc);
     for param in params {

@@ -47,10 +47,13 @@ pub fn key_at(
     requires place { place < length (with_kernel (classes_of classes.now)) }
     ensures { IfOk result (λ key. key ≡ key_at_place (with_kernel (classes_of classes.now)) place) }
 {
-    let home = module_of(classes, place);
+    let class_module = module_of(classes, place);
     let face = face_of(kernel, classes, place);
     let name = face.name.copy(alloc)?;
-    Ok(ClassKey::Named { module: home, name })
+    Ok(ClassKey::Named {
+        module: class_module,
+        name,
+    })
 }
 
 /// The names that classes introduce, with the classes' places, along a list of places.

@@ -1,19 +1,12 @@
 ghost use Rattle.som_order.specs.Names.{texts};
+ghost use Rattle.som_scope.specs.Words.{words};
 ghost use Rattle.som_sema.specs.Items as spec;
-ghost use Rattle.som_sema.specs.Words.{words};
-ghost use Rattle.std.specs.Prelude.{◌≡◌, ◌++◌, ◌∷◌, [], IfOk, OnOk};
+ghost use Rattle.std.specs.Prelude.{◌≡◌, ◌++◌, IfOk, OnOk};
 
 use som_idl::{Item, Word};
 use som_model::NoMemory;
+use som_scope::add;
 use std::alloc::Global;
-
-/// Adds a name.
-pub fn add<'a>(names: &mut Vec<&'a [u8]>, name: &'a [u8]) -> Result<(), NoMemory>
-    ensures { OnOk result (texts names.new.items ≡ texts names.old.items ++ name.now ∷ []) }
-{
-    names.push(name)?;
-    Ok(())
-}
 
 /// Adds the texts of words.
 pub fn add_words<'a>(names: &mut Vec<&'a [u8]>, list: &'a [Word]) -> Result<(), NoMemory>

@@ -3,30 +3,27 @@ ghost use Rattle.som_model.specs.Class.{Class};
 ghost use Rattle.som_model.specs.Classes.{hierarchy, interface_classes};
 ghost use Rattle.som_model.specs.Hierarchy.{Falls};
 ghost use Rattle.som_model.specs.Lists.{first};
-ghost use Rattle.som_model.specs.declared.class.ClassDecl.{ClassDecl as Decl};
 ghost use Rattle.som_model.specs.declared.key.Module.TheVariants as modules;
 ghost use Rattle.som_model.specs.declared.key.Module.{Module};
 ghost use Rattle.som_model.specs.declared.program.Interface.{Interface};
 ghost use Rattle.som_rules.specs.Faces.{classes_breach, faces_breach};
 ghost use Rattle.som_rules.specs.Told.{of_release};
 ghost use Rattle.som_sema.specs.Building.{after_base, declarations, texts_breach};
-ghost use Rattle.som_sema.specs.Limits.{limit_passed};
-ghost use Rattle.som_sema.specs.PlainLimits.{LimitsKept};
+ghost use Rattle.som_sema.specs.Drafts.{InterfaceDraft};
 ghost use Rattle.som_sema.specs.PlainTexts.{BasesStand, ItemsDiffer, MetaclassesDescend, ModifiersStand, NamesDiffer};
-ghost use Rattle.som_sema.specs.Sketch.{Drawn};
-ghost use Rattle.som_sema.specs.TextRules.{text_s2_from, text_s4, text_s6, text_s11, text_s12};
+ghost use Rattle.som_sema.specs.TextRules.{text_s11, text_s12, text_s2_from, text_s4, text_s6};
 ghost use Rattle.std.specs.Prelude.{◌≡◌, ◌↔◌, ℕ, List as Seq, [], flat_map, length, None};
 
 /// The rules that texts have in a form of their own have no breach exactly where each holds of every interface and of
 /// all that it says. Each parent is lower than its class where parents stand before their classes.
 pub fn text_rules_law()
-    ensures bases { (home : Seq ℕ → Module) (cs : Seq Class) (n : ℕ) (ds : Seq Drawn) →
-        (first (text_s2_from home cs n ds) ≡ None) ↔ BasesStand home cs n ds }
-    ensures metaclasses { (home : Seq ℕ → Module) (cs : Seq Class) → Falls (hierarchy cs) → (ds : Seq Drawn) →
-        (first (flat_map (text_s4 home cs) ds) ≡ None) ↔ MetaclassesDescend home cs ds }
-    ensures names { (ds : Seq Drawn) → (first (flat_map text_s6 ds) ≡ None) ↔ NamesDiffer ds }
-    ensures modifiers { (ds : Seq Drawn) → (first (flat_map text_s11 ds) ≡ None) ↔ ModifiersStand ds }
-    ensures items { (ds : Seq Drawn) → (first (flat_map text_s12 ds) ≡ None) ↔ ItemsDiffer ds }
+    ensures bases { (module_of : Seq ℕ → Module) (cs : Seq Class) (n : ℕ) (ds : Seq InterfaceDraft) →
+        (first (text_s2_from module_of cs n ds) ≡ None) ↔ BasesStand module_of cs n ds }
+    ensures metaclasses { (module_of : Seq ℕ → Module) (cs : Seq Class) → Falls (hierarchy cs) → (ds : Seq InterfaceDraft) →
+        (first (flat_map (text_s4 module_of cs) ds) ≡ None) ↔ MetaclassesDescend module_of cs ds }
+    ensures names { (ds : Seq InterfaceDraft) → (first (flat_map text_s6 ds) ≡ None) ↔ NamesDiffer ds }
+    ensures modifiers { (ds : Seq InterfaceDraft) → (first (flat_map text_s11 ds) ≡ None) ↔ ModifiersStand ds }
+    ensures items { (ds : Seq InterfaceDraft) → (first (flat_map text_s12 ds) ≡ None) ↔ ItemsDiffer ds }
 {}
 
 /// Texts that break none of the rules S1 to S12 declare classes that break none of the rules S1 to S10 as images have them: over
@@ -37,9 +34,4 @@ pub fn declarations_law()
         classes_breach (length base.classes) (after_base m (interface_classes base) (declarations m base texts)) ≡ None }
     ensures alone { (texts : Seq IdlInterface) → texts_breach modules.Library (record { classes = [] }) texts ≡ None →
         faces_breach (of_release (declarations modules.Library (record { classes = [] }) texts)) ≡ None }
-{}
-
-/// No limit is passed exactly where each count of each class is within its limit.
-pub fn limits_law()
-    ensures { (cs : Seq Decl) → (limit_passed cs ≡ None) ↔ LimitsKept cs }
 {}

@@ -3,55 +3,55 @@ ghost use Rattle.som_model.specs.Lists.{among};
 ghost use Rattle.som_model.specs.Lists.{first};
 ghost use Rattle.som_order.specs.Names.{texts};
 ghost use Rattle.som_rules.specs.Told.{Tells};
+ghost use Rattle.som_scope.specs.Words.{once};
+ghost use Rattle.som_sema.specs.Drafts.{plain_draft, plain_drafts};
 ghost use Rattle.som_sema.specs.Items.{given, given_by};
-ghost use Rattle.som_sema.specs.Sketch.{drawings as drawn, seen};
 ghost use Rattle.som_sema.specs.TextRules as rules;
 ghost use Rattle.som_sema.specs.TextRules.{called_after, misplaced, overridden_after, text_s11};
-ghost use Rattle.som_sema.specs.Words.{once};
-ghost use Rattle.som_sema.specs.declared.sketch.Drawing.{Drawing as Known};
+ghost use Rattle.som_sema.specs.declared.drafts.Draft.{Draft as Known};
 ghost use Rattle.std.specs.Prelude.{◌≡◌, ◌<◌, ◌++◌, ◌∷◌, ◌&&◌, true, not, [], length, map, flat_map, slice_get, option_copied, IfOk, Some};
 
+use crate::drafts::Draft;
 use crate::marks::{Mark, marks};
 use crate::members::introduced_names;
-use crate::passes::{breach, each_drawing};
-use crate::sketch::Drawing;
-use crate::tables::table_of;
+use crate::passes::{breach, each_draft};
 use indexmap::IndexSet;
 use som_idl::Modifier;
 use som_model::NoMemory;
 use som_order::{find_name, note_name};
 use som_rules::VerifyFault;
+use som_scope::table_of;
 use std::alloc::Global;
 
 /// Each modifier stands where it may.
-pub fn modifiers_stand(alloc: Global, drawings: &[Drawing]) -> Result<(), VerifyFault>
-    ensures { Tells (first (flat_map text_s11 (drawn drawings.now))) result }
+pub fn modifiers_stand(alloc: Global, drafts: &[Draft]) -> Result<(), VerifyFault>
+    ensures { Tells (first (flat_map text_s11 (plain_drafts drafts.now))) result }
 {
-    each_drawing(
-        drawings,
+    each_draft(
+        drafts,
         |place: usize| -> Result<(), VerifyFault>
-            requires { place < length drawings.now }
-            ensures { (d : Known) → slice_get drawings.entry.now place ≡ Some d → Tells (first (text_s11 (seen d))) result }
-        { own_modifiers_stand(alloc, &drawings[place]) },
+            requires { place < length drafts.now }
+            ensures { (d : Known) → slice_get drafts.entry.now place ≡ Some d → Tells (first (text_s11 (plain_draft d))) result }
+        { own_modifiers_stand(alloc, &drafts[place]) },
     )
 }
 
-fn own_modifiers_stand(alloc: Global, drawing: &Drawing) -> Result<(), VerifyFault>
-    ensures { Tells (first (text_s11 (seen drawing.now))) result }
+fn own_modifiers_stand(alloc: Global, draft: &Draft) -> Result<(), VerifyFault>
+    ensures { Tells (first (text_s11 (plain_draft draft.now))) result }
 {
-    match own_misplaced(alloc, drawing)? {
+    match own_misplaced(alloc, draft)? {
         None => Ok(()),
-        Some(name) => Err(breach(alloc, 11, drawing, name)?),
+        Some(name) => Err(breach(alloc, 11, draft, name)?),
     }
 }
 
-fn own_misplaced<'a>(alloc: Global, drawing: &'a Drawing) -> Result<Option<&'a [u8]>, NoMemory>
+fn own_misplaced<'a>(alloc: Global, draft: &'a Draft) -> Result<Option<&'a [u8]>, NoMemory>
     ensures { IfOk result (λ name. option_copied name ≡
-        first (misplaced (once (introduced drawing.now.decl.face.entries)) [] [] (given drawing.now.text.now.items))) }
+        first (misplaced (once (introduced draft.now.decl.face.entries)) [] [] (given draft.now.text.now.items))) }
 {
-    let names = introduced_names(alloc, drawing.decl.face.entries.as_slice())?;
+    let names = introduced_names(alloc, draft.decl.face.entries.as_slice())?;
     let own = table_of(alloc, &names)?;
-    let marks = marks(alloc, drawing.text.items.as_slice())?;
+    let marks = marks(alloc, draft.text.items.as_slice())?;
     let name = first_misplaced(alloc, &own, &marks)?;
     Ok(name)
 }

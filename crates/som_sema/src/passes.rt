@@ -3,11 +3,11 @@ ghost use Rattle.som_model.specs.Rules.{RuleBreach};
 ghost use Rattle.som_rules.specs.Told.{Tells};
 ghost use Rattle.som_rules.specs.declared.types.VerifyFault.TheVariants as faults;
 ghost use Rattle.som_rules.specs.declared.types.VerifyFault.{VerifyFault as Fault};
-ghost use Rattle.som_sema.specs.Sketch.{Drawn, drawings as drawn, seen};
-ghost use Rattle.som_sema.specs.declared.sketch.Drawing.{Drawing as Known};
+ghost use Rattle.som_sema.specs.Drafts.{InterfaceDraft, plain_draft, plain_drafts};
+ghost use Rattle.som_sema.specs.declared.drafts.Draft.{Draft as Known};
 ghost use Rattle.std.specs.Prelude.{◌≡◌, ◌<◌, ℕ, List as Seq, length, flat_map, slice_get, IfOk, Result, Some};
 
-use crate::sketch::Drawing;
+use crate::drafts::Draft;
 use som_model::{NoMemory, Text};
 use som_rules::{Broken, VerifyFault};
 use std::alloc::Global;
@@ -16,31 +16,31 @@ use std::alloc::Global;
 pub fn breach(
     alloc: Global,
     rule: u8,
-    drawing: &Drawing,
+    draft: &Draft,
     member: &[u8],
 ) -> Result<VerifyFault, NoMemory>
     ensures { IfOk result (λ e. e ≡ faults.Rule
-        (record { rule = rule; class = drawing.now.decl.face.name; member = member.now })) }
+        (record { rule = rule; class = draft.now.decl.face.name; member = member.now })) }
 {
     Ok(VerifyFault::Rule(Broken {
         rule,
-        class: drawing.decl.face.name.copy(alloc)?,
+        class: draft.decl.face.name.copy(alloc)?,
         member: Text::from_slice(alloc, member)?,
     }))
 }
 
 /// A rule at each class in order, by the classes' places.
-pub fn each_drawing<F: Fn(usize) -> Result<(), VerifyFault>>(
-    drawings: &[Drawing],
+pub fn each_draft<F: Fn(usize) -> Result<(), VerifyFault>>(
+    drafts: &[Draft],
     rule: F,
 ) -> Result<(), VerifyFault>
-    requires callable { (place : ℕ) → place < length drawings.now → F.pre rule place }
-    ensures { (one : Drawn → Seq RuleBreach) →
-        ((place : ℕ) (d : Known) (r : Result (Unit {0}) Fault) → slice_get drawings.now place ≡ Some d →
-        F.post rule place r → Tells (first (one (seen d))) r) →
-        Tells (first (flat_map one (drawn drawings.now))) result }
+    requires callable { (place : ℕ) → place < length drafts.now → F.pre rule place }
+    ensures { (one : InterfaceDraft → Seq RuleBreach) →
+        ((place : ℕ) (d : Known) (r : Result (Unit {0}) Fault) → slice_get drafts.now place ≡ Some d →
+        F.post rule place r → Tells (first (one (plain_draft d))) r) →
+        Tells (first (flat_map one (plain_drafts drafts.now))) result }
 {
-    for place in 0..drawings.len() {
+    for place in 0..drafts.len() {
         rule(place)?;
     }
     Ok(())

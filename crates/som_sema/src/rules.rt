@@ -8,51 +8,51 @@ ghost use Rattle.som_rules.specs.Faces.{faces_breach};
 ghost use Rattle.som_rules.specs.Modules.{classes_of};
 ghost use Rattle.som_rules.specs.Places.{IsTable, with_kernel};
 ghost use Rattle.som_rules.specs.Told.{Tells};
-ghost use Rattle.som_sema.specs.Building.{moved_breach, sketch_breach};
-ghost use Rattle.som_sema.specs.Home.{home_in};
-ghost use Rattle.som_sema.specs.Sketch.{drawings as drawn, sketches};
+ghost use Rattle.som_scope.specs.ClassNames.{module_in_scope};
+ghost use Rattle.som_sema.specs.Ancestry.{AreDrafts, IsAncestorTable};
+ghost use Rattle.som_sema.specs.Building.{draft_breach, moved_breach};
+ghost use Rattle.som_sema.specs.Drafts.{draft_classes, plain_drafts};
 ghost use Rattle.som_sema.specs.TextRules.{text_s2_from};
-ghost use Rattle.som_sema.specs.Walks.{AreDrawn, IsWalked};
 ghost use Rattle.std.specs.Prelude.{◌≡◌, ◌≤◌, ◌+◌, length, map, take, drop, flat_map, IfOk, None};
 
+use crate::ancestry::{AncestorTable, ancestor_lists};
 use crate::bases::{bases_stand, metaclasses_descend};
+use crate::drafts::Draft;
 use crate::members::names_differ;
-use crate::scope::Scope;
-use crate::sketch::Drawing;
-use crate::walked::{Walked, ancestor_lists};
 use indexmap::IndexSet;
 use som_model::ClassFace;
 use som_rules::{
     Declared, KERNEL_CLASSES, VerifyFault, class_names, entries_moved_up, names_introduced_once,
     overrides_inherited, parents_differ, types_known, variables_differ,
 };
+use som_scope::Scope;
 use std::alloc::Global;
 
 /// The rules S1 to S7 of a module's classes, which stand after those of a base that conforms.
-pub fn sketches_hold<'a>(
+pub fn drafts_hold<'a>(
     alloc: Global,
     scope: &Scope,
     classes: &[Declared<'a>],
     base: usize,
-    drawings: &[Drawing],
-) -> Result<Walked<'a>, VerifyFault>
-    requires base { base + length drawings.now ≡ length classes.now }
+    drafts: &[Draft],
+) -> Result<AncestorTable<'a>, VerifyFault>
+    requires base { base + length drafts.now ≡ length classes.now }
     requires conforms { faces_breach (classes_of (take base classes.now)) ≡ None }
-    requires drawn { AreDrawn (home_in scope.now) (drawn drawings.now) }
-    requires own { classes_of (drop base classes.now) ≡ map (class_in scope.now.module) (sketches (drawn drawings.now)) }
-    ensures tells { Tells (sketch_breach (home_in scope.now) (classes_of classes.now) (classes_of (take base classes.now))
-        (classes_of (drop base classes.now)) (drawn drawings.now)) result }
-    ensures walked { IfOk result (IsWalked (classes_of classes.now)) }
+    requires drafted { AreDrafts (module_in_scope scope.now) (plain_drafts drafts.now) }
+    requires own { classes_of (drop base classes.now) ≡ map (class_in scope.now.module) (draft_classes (plain_drafts drafts.now)) }
+    ensures tells { Tells (draft_breach (module_in_scope scope.now) (classes_of classes.now) (classes_of (take base classes.now))
+        (classes_of (drop base classes.now)) (plain_drafts drafts.now)) result }
+    ensures ancestors { IfOk result (IsAncestorTable (classes_of classes.now)) }
 {
     let table = own_names_differ(alloc, classes, base)?;
-    own_bases_stand(alloc, scope, &table, classes, base, drawings)?;
+    own_bases_stand(alloc, scope, &table, classes, base, drafts)?;
     own_parents_differ(alloc, classes, base)?;
     let lists = ancestor_lists(alloc, &table, classes)?;
-    metaclasses_descend(alloc, scope, &table, classes, lists.as_slice(), drawings)?;
+    metaclasses_descend(alloc, scope, &table, classes, lists.as_slice(), drafts)?;
     own_types_known(alloc, &table, classes, base)?;
-    names_differ(alloc, drawings)?;
+    names_differ(alloc, drafts)?;
     own_variables_differ(alloc, classes, base)?;
-    Ok(Walked { table, lists })
+    Ok(AncestorTable { table, lists })
 }
 
 // The names of the own classes differ from all before them.
@@ -75,21 +75,14 @@ fn own_bases_stand(
     table: &IndexSet<&[u8]>,
     classes: &[Declared],
     base: usize,
-    drawings: &[Drawing],
+    drafts: &[Draft],
 ) -> Result<(), VerifyFault>
     requires table { IsTable (classes_of classes.now) (texts table.now.keys) }
-    requires base { base + length drawings.now ≡ length classes.now }
-    ensures { Tells (first (text_s2_from (home_in scope.now) (with_kernel (classes_of classes.now))
-        (length (with_kernel (classes_of (take base classes.now)))) (drawn drawings.now))) result }
+    requires base { base + length drafts.now ≡ length classes.now }
+    ensures { Tells (first (text_s2_from (module_in_scope scope.now) (with_kernel (classes_of classes.now))
+        (length (with_kernel (classes_of (take base classes.now)))) (plain_drafts drafts.now))) result }
 {
-    bases_stand(
-        alloc,
-        scope,
-        table,
-        classes,
-        drawings,
-        base + KERNEL_CLASSES,
-    )
+    bases_stand(alloc, scope, table, classes, drafts, base + KERNEL_CLASSES)
 }
 
 fn own_parents_differ(alloc: Global, classes: &[Declared], base: usize) -> Result<(), VerifyFault>
@@ -125,17 +118,17 @@ fn own_types_known(
 pub fn moves_hold(
     alloc: Global,
     kernel: &[ClassFace],
-    walked: &Walked,
+    ancestors: &AncestorTable,
     classes: &[Declared],
     base: usize,
 ) -> Result<(), VerifyFault>
     requires kernel { kernel.now ≡ kernel_interface.classes }
-    requires walked { IsWalked (classes_of classes.now) walked.now }
+    requires ancestors { IsAncestorTable (classes_of classes.now) ancestors.now }
     requires conforms { faces_breach (classes_of (take base classes.now)) ≡ None }
     ensures { Tells (moved_breach (classes_of classes.now) (classes_of (drop base classes.now))) result }
 {
-    let lists = walked.lists.as_slice();
+    let lists = ancestors.lists.as_slice();
     names_introduced_once(alloc, kernel, classes, lists, base)?;
-    entries_moved_up(alloc, &walked.table, kernel, classes, lists, base)?;
-    overrides_inherited(alloc, &walked.table, kernel, classes, lists, base)
+    entries_moved_up(alloc, &ancestors.table, kernel, classes, lists, base)?;
+    overrides_inherited(alloc, &ancestors.table, kernel, classes, lists, base)
 }

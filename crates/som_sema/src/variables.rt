@@ -1,12 +1,12 @@
-ghost use Rattle.som_sema.specs.Home.{home_in};
-ghost use Rattle.som_sema.specs.Home as homes;
-ghost use Rattle.som_sema.specs.Sketch as sketches;
-ghost use Rattle.som_sema.specs.Sketch.{export_variables, item_variables, variables_of};
+ghost use Rattle.som_scope.specs.ClassNames as names_of_classes;
+ghost use Rattle.som_scope.specs.ClassNames.{module_in_scope};
+ghost use Rattle.som_sema.specs.Drafts as drafting;
+ghost use Rattle.som_sema.specs.Drafts.{export_variables, item_variables, variables_of};
 ghost use Rattle.std.specs.Prelude.{◌≡◌, ◌++◌, flat_map, IfOk, OnOk};
 
-use crate::scope::{Scope, type_of};
 use som_idl::{Export, IdlInterface, Item, TypeName, Word};
 use som_model::{List, NoMemory, Variable};
+use som_scope::{Scope, type_of};
 use std::alloc::Global;
 
 /// The variables of an interface, those of attributes among them, in the order of the text.
@@ -15,7 +15,7 @@ pub fn variables(
     scope: &Scope,
     text: &IdlInterface,
 ) -> Result<List<Variable>, NoMemory>
-    ensures { IfOk result (λ all. all ≡ sketches.variables (home_in scope.now) text.now) }
+    ensures { IfOk result (λ all. all ≡ drafting.variables (module_in_scope scope.now) text.now) }
 {
     let mut all = List::new(alloc);
     add_attributes(alloc, &mut all, scope, text.before.as_slice())?;
@@ -30,7 +30,7 @@ fn add_attributes(
     scope: &Scope,
     exports: &[Export],
 ) -> Result<(), NoMemory>
-    ensures { OnOk result (all.new ≡ all.old ++ flat_map (export_variables (home_in scope.now)) exports.now) }
+    ensures { OnOk result (all.new ≡ all.old ++ flat_map (export_variables (module_in_scope scope.now)) exports.now) }
 {
     for export in exports {
         if let Export::Attribute { kind, names, .. } = export {
@@ -46,7 +46,7 @@ fn add_declared(
     scope: &Scope,
     items: &[Item],
 ) -> Result<(), NoMemory>
-    ensures { OnOk result (all.new ≡ all.old ++ flat_map (item_variables (home_in scope.now)) items.now) }
+    ensures { OnOk result (all.new ≡ all.old ++ flat_map (item_variables (module_in_scope scope.now)) items.now) }
 {
     for item in items {
         if let Item::Variables { kind, names } = item {
@@ -63,7 +63,7 @@ fn add_each(
     kind: &TypeName,
     names: &[Word],
 ) -> Result<(), NoMemory>
-    ensures { OnOk result (all.new ≡ all.old ++ variables_of (homes.type_of (home_in scope.now) kind.now) names.now) }
+    ensures { OnOk result (all.new ≡ all.old ++ variables_of (names_of_classes.type_of (module_in_scope scope.now) kind.now) names.now) }
 {
     for word in names {
         all.push(Variable {

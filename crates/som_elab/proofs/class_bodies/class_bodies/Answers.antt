@@ -1,11 +1,11 @@
 use Rattle.std.proofs.Common.{ap}
-use Rattle.som_sema.specs.Sketch.{seen}
+use Rattle.som_sema.specs.Drafts.{plain_draft}
 use Rattle.som_rules.specs.Places.{class_of_place}
-use Rattle.som_elab.specs.Grounds.{among_in, classes_in}
+use Rattle.som_elab.specs.Contexts.{among_in, classes_in}
 use Rattle.som_elab.specs.Texts.{given}
 use Rattle.som_elab.proofs.OwnTexts.{class_told}
 use Rattle.som_elab.proofs.class_bodies.class_bodies.Goals as goal
 
 pub returns : goal.returns
-returns c = class_told (among_in c.args.ground.now) (given c.args.texts.now) (given c.in_ok-own.own.items) (given c.as_slice-2.result.now) (seen c.args.drawing.now) (class_of_place (classes_in c.args.ground.now) c.args.place) c.as_slice.result.now c.own_bodies.result
+returns c = class_told (among_in c.args.context.now) (given c.args.texts.now) (given c.in_ok-own.own.items) (given c.as_slice-2.result.now) (plain_draft c.args.draft.now) (class_of_place (classes_in c.args.context.now) c.args.place) c.as_slice.result.now c.own_bodies.result
     c.requires.class c.as_slice.ensures c.in_ok-own.ensures (ap given c.as_slice-2.ensures.value) c.own_bodies.ensures

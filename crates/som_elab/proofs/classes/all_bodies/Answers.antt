@@ -4,35 +4,35 @@ use Rattle.som_model.specs.Class.{Class}
 use Rattle.som_rules.specs.Modules.{class_of, classes_of}
 use Rattle.som_rules.specs.Places.{class_of_place}
 use Rattle.som_rules.proofs.DeclaredClasses.{long_map}
-use Rattle.som_elab.specs.Grounds.{among_in, classes_in}
+use Rattle.som_elab.specs.Contexts.{among_in, classes_in}
 use Rattle.som_elab.specs.Texts.{given}
 use Rattle.som_elab.proofs.ClassSteps.{class_next, class_stops}
-use Rattle.som_elab.proofs.Grounding.{own_class, own_within}
+use Rattle.som_elab.proofs.ContextLaws.{own_class, own_within}
 use Rattle.som_elab.proofs.classes.all_bodies.Goals as goal
 
 pub class_bodies-requires-clause-class : goal.class_bodies-requires-clause-class
 class_bodies-requires-clause-class c =
-    ap (λ (z : Class). z.decl) (own_class c.args.ground.now.scope.now.module (classes_of c.args.ground.now.known.classes.now) c.args.drawings.now c.requires.stand c.loop-index.index c.index-drawings-index.result
-    (length c.args.ground.now.known.classes.now - length c.args.drawings.now + 4 + c.loop-index.index) c.loop-index-test.true c.index-drawings-index.is (omega (arith, long_map class_of c.args.ground.now.known.classes.now)))
+    ap (λ (z : Class). z.decl) (own_class c.args.context.now.scope.now.module (classes_of c.args.context.now.known.classes.now) c.args.drafts.now c.requires.stand c.loop-index.index c.index-drafts-index.result
+    (length c.args.context.now.known.classes.now - length c.args.drafts.now + 4 + c.loop-index.index) c.loop-index-test.true c.index-drafts-index.is (omega (arith, long_map class_of c.args.context.now.known.classes.now)))
 
 pub class_bodies-requires-clause-limits : goal.class_bodies-requires-clause-limits
-class_bodies-requires-clause-limits c = own_within c.args.drawings.now c.loop-index.index c.index-drawings-index.result c.loop-index-test.true c.index-drawings-index.is c.requires.limits
+class_bodies-requires-clause-limits c = own_within c.args.drafts.now c.loop-index.index c.index-drafts-index.result c.loop-index-test.true c.index-drafts-index.is c.requires.limits
 
 pub returns-in_err-bodies : goal.returns-in_err-bodies
 returns-in_err-bodies c =
     let p = err_from_is_err_and c.from_residual.result c.from_residual.ensures.1 in
-    let place = length c.args.ground.now.known.classes.now - length c.args.drawings.now + 4 + c.loop-index.index in
-    rw (p.1, p.2) (class_stops (among_in c.args.ground.now) (given c.args.texts.now) c.args.ground.now.scope.now.module c.args.drawings.now c.loop-index.index c.index-drawings-index.result c.loop-index-test.true c.index-drawings-index.is
-    c.loop-index.all c.loop-index.invariant (class_of_place (classes_in c.args.ground.now) place)
-    (own_class c.args.ground.now.scope.now.module (classes_of c.args.ground.now.known.classes.now) c.args.drawings.now c.requires.stand c.loop-index.index c.index-drawings-index.result
-    place c.loop-index-test.true c.index-drawings-index.is (omega (arith, long_map class_of c.args.ground.now.known.classes.now)))
+    let place = length c.args.context.now.known.classes.now - length c.args.drafts.now + 4 + c.loop-index.index in
+    rw (p.1, p.2) (class_stops (among_in c.args.context.now) (given c.args.texts.now) c.args.context.now.scope.now.module c.args.drafts.now c.loop-index.index c.index-drafts-index.result c.loop-index-test.true c.index-drafts-index.is
+    c.loop-index.all c.loop-index.invariant (class_of_place (classes_in c.args.context.now) place)
+    (own_class c.args.context.now.scope.now.module (classes_of c.args.context.now.known.classes.now) c.args.drafts.now c.requires.stand c.loop-index.index c.index-drafts-index.result
+    place c.loop-index-test.true c.index-drafts-index.is (omega (arith, long_map class_of c.args.context.now.known.classes.now)))
     c.in_err-bodies.field-0.0 c.in_err-bodies.ensures)
 
 pub loop-index-preserved : goal.loop-index-preserved
 loop-index-preserved c =
-    let place = length c.args.ground.now.known.classes.now - length c.args.drawings.now + 4 + c.loop-index.index in
-    rw c.in_ok-push.ensures.ok (class_next (among_in c.args.ground.now) (given c.args.texts.now) c.args.ground.now.scope.now.module c.args.drawings.now c.loop-index.index c.index-drawings-index.result c.loop-index-test.true c.index-drawings-index.is
-    c.loop-index.all c.loop-index.invariant (class_of_place (classes_in c.args.ground.now) place)
-    (own_class c.args.ground.now.scope.now.module (classes_of c.args.ground.now.known.classes.now) c.args.drawings.now c.requires.stand c.loop-index.index c.index-drawings-index.result
-    place c.loop-index-test.true c.index-drawings-index.is (omega (arith, long_map class_of c.args.ground.now.known.classes.now)))
+    let place = length c.args.context.now.known.classes.now - length c.args.drafts.now + 4 + c.loop-index.index in
+    rw c.in_ok-push.ensures.ok (class_next (among_in c.args.context.now) (given c.args.texts.now) c.args.context.now.scope.now.module c.args.drafts.now c.loop-index.index c.index-drafts-index.result c.loop-index-test.true c.index-drafts-index.is
+    c.loop-index.all c.loop-index.invariant (class_of_place (classes_in c.args.context.now) place)
+    (own_class c.args.context.now.scope.now.module (classes_of c.args.context.now.known.classes.now) c.args.drafts.now c.requires.stand c.loop-index.index c.index-drafts-index.result
+    place c.loop-index-test.true c.index-drafts-index.is (omega (arith, long_map class_of c.args.context.now.known.classes.now)))
     c.in_ok-bodies.bodies c.in_ok-bodies.ensures)

@@ -2,19 +2,19 @@ use Rattle.std.proofs.Common.{arith}
 use Rattle.std.proofs.lemmas.Result.{err_from_is_err_and}
 use Rattle.som_rules.specs.Modules.{classes_of}
 use Rattle.som_rules.specs.Places.{with_kernel}
-use Rattle.som_sema.specs.Home.{home_in}
+use Rattle.som_scope.specs.ClassNames.{module_in_scope}
 use Rattle.som_sema.proofs.TextBases.{bases_more, bases_stop}
 use Rattle.som_sema.proofs.bases.bases_stand.Goals as goal
 
 pub returns-in_err-own_bases_stand : goal.returns-in_err-own_bases_stand
 returns-in_err-own_bases_stand c =
     let p = err_from_is_err_and c.from_residual.result c.from_residual.ensures.1 in
-    rw (p.1, p.2) (bases_stop (home_in c.args.scope.now) (with_kernel (classes_of c.args.classes.now)) c.args.drawings.now c.loop-drawing.drawing-index c.loop-drawing.place c.drawing-item.result _
-    c.in_err-own_bases_stand.field-0.0 c.loop-drawing-test.true c.drawing-item.is c.in_err-own_bases_stand.ensures c.loop-drawing.invariant.same)
+    rw (p.1, p.2) (bases_stop (module_in_scope c.args.scope.now) (with_kernel (classes_of c.args.classes.now)) c.args.drafts.now c.loop-draft.draft-index c.loop-draft.place c.draft-item.result _
+    c.in_err-own_bases_stand.field-0.0 c.loop-draft-test.true c.draft-item.is c.in_err-own_bases_stand.ensures c.loop-draft.invariant.same)
 
-pub loop-drawing-preserved : goal.loop-drawing-preserved
-loop-drawing-preserved c = record {
-  place = omega (arith, c.loop-drawing.invariant.place);
-  same = bases_more (home_in c.args.scope.now) (with_kernel (classes_of c.args.classes.now)) c.args.drawings.now c.loop-drawing.drawing-index c.loop-drawing.place c.drawing-item.result _
-      c.loop-drawing-test.true c.drawing-item.is c.in_ok-own_bases_stand.ensures c.loop-drawing.invariant.same;
+pub loop-draft-preserved : goal.loop-draft-preserved
+loop-draft-preserved c = record {
+  place = omega (arith, c.loop-draft.invariant.place);
+  same = bases_more (module_in_scope c.args.scope.now) (with_kernel (classes_of c.args.classes.now)) c.args.drafts.now c.loop-draft.draft-index c.loop-draft.place c.draft-item.result _
+      c.loop-draft-test.true c.draft-item.is c.in_ok-own_bases_stand.ensures c.loop-draft.invariant.same;
 }

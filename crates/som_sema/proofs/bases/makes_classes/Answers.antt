@@ -6,14 +6,14 @@ use Rattle.som_model.specs.declared.key.ClassKey.{ClassKey}
 use Rattle.som_rules.specs.Modules.{classes_of}
 use Rattle.som_rules.specs.Places.{Finds, with_kernel}
 use Rattle.som_rules.proofs.DeclaredClasses.{known_number}
-use Rattle.som_sema.specs.Home.{home_in}
+use Rattle.som_scope.specs.ClassNames.{module_in_scope}
 use Rattle.som_sema.proofs.Unknown.{unknown_class}
 use Rattle.som_sema.proofs.bases.makes_classes.Goals as goal
 
 pub returns-in-None : goal.returns-in-None
 returns-in-None c =
     let ds = c.args.classes.now in
-    sym (unknown_class (classes_of ds) (home_in c.args.scope.now c.args.name.now) c.args.name.now (length ds + 4) (known_number ds)
+    sym (unknown_class (classes_of ds) (module_in_scope c.args.scope.now c.args.name.now) c.args.name.now (length ds + 4) (known_number ds)
     (subst (λ (k : ClassKey). Finds (length ds + 4) (with_kernel (classes_of ds)) k None) c.in_ok-key.ensures c.in-None.ensures))
 
 pub returns : goal.returns

@@ -1,40 +1,24 @@
-use Rattle.std.proofs.Common.{◌≡◌, List, ap, map, ◌∙◌, subst}
+use Rattle.std.proofs.Common.{◌≡◌, List, ap, map, ◌∙◌, refl, subst}
 use Rattle.std.specs.Prelude.{IfOk}
-use Rattle.som_model.specs.Class.{class_in}
+use Rattle.som_model.specs.Classes.{interface_classes}
 use Rattle.som_model.specs.declared.class.ClassDecl.{ClassDecl}
-use Rattle.som_model.specs.declared.key.Module.TheVariants as modules
-use Rattle.som_rules.specs.Faces.{faces_breach}
 use Rattle.som_rules.specs.Told.{Tells}
-use Rattle.som_sema.specs.Home.{face_names, home, home_in, kernel_names}
-use Rattle.som_sema.specs.Sketch.{drawings}
-use Rattle.som_sema.specs.Words.{interface_names, lent, once}
+use Rattle.som_scope.specs.ClassNames.{face_names, kernel_names, module_by_names, module_in_scope}
+use Rattle.som_scope.specs.Words.{interface_names, lent, once}
+use Rattle.som_sema.specs.Drafts.{draft_of}
 use Rattle.som_sema.proofs.Answered.{breach_is, declared_are}
-use Rattle.som_sema.proofs.Finishing.{base_is}
-use Rattle.som_sema.proofs.TextBases.{are_drawn}
 use Rattle.som_sema.proofs.build.faces.Goals as goal
-
-pub built-requires-clause-conforms : goal.built-requires-clause-conforms
-built-requires-clause-conforms c =
-    ap faces_breach (base_is c.args.base.now c.as_slice.result.now c.as_slice-known.result.now (c.as_slice.ensures ∙ c.in_ok-bares.ensures) c.as_slice-known.ensures) ∙ c.requires
-
-pub built-requires-clause-drawn : goal.built-requires-clause-drawn
-built-requires-clause-drawn c =
-    are_drawn (home_in c.in_ok-scope.scope) (lent c.args.interfaces.now) (drawings c.as_slice-drawings.result.now) (ap drawings c.as_slice-drawings.ensures.value ∙ c.in_ok-drawings.ensures)
 
 pub returns-clause-tells : goal.returns-clause-tells
 returns-clause-tells c =
-    subst (λ o. Tells o c.built.result) (breach_is c.args.home c.args.base.now (lent c.args.interfaces.now) (home_in c.in_ok-scope.scope) c.in_ok-scope.scope.module
-    (map (class_in modules.Library) c.as_slice.result.now) (drawings c.as_slice-drawings.result.now)
-    (c.in_ok-scope.ensures.names ∙ ap (λ z. home c.args.home (once (interface_names (lent c.args.interfaces.now))) (once (face_names z)) kernel_names) c.as_slice-known.ensures)
-    c.in_ok-scope.ensures.home
-    (base_is c.args.base.now c.as_slice.result.now c.as_slice-known.result.now (c.as_slice.ensures ∙ c.in_ok-bares.ensures) c.as_slice-known.ensures)
-    (ap drawings c.as_slice-drawings.ensures.value ∙ c.in_ok-drawings.ensures)) c.built.ensures.tells
+    subst (λ o. Tells o c.faces_in_scope.result) (breach_is c.args.own_module c.args.base.now (lent c.args.interfaces.now) (module_in_scope c.in_ok-scope.scope) c.in_ok-scope.scope.module
+    (interface_classes c.args.base.now) (map (draft_of (module_in_scope c.in_ok-scope.scope)) (lent c.args.interfaces.now))
+    (c.in_ok-scope.ensures.names ∙ ap (λ z. module_by_names c.args.own_module (once (interface_names (lent c.args.interfaces.now))) (once (face_names z)) kernel_names) c.as_slice-known.ensures)
+    c.in_ok-scope.ensures.own refl refl) c.faces_in_scope.ensures.tells
 
 pub returns-clause-ok : goal.returns-clause-ok
 returns-clause-ok c =
-    subst (λ (z : List ClassDecl). IfOk c.built.result (λ ds. ds ≡ z)) (declared_are c.args.home c.args.base.now (lent c.args.interfaces.now) (home_in c.in_ok-scope.scope) c.in_ok-scope.scope.module
-    (map (class_in modules.Library) c.as_slice.result.now) (drawings c.as_slice-drawings.result.now)
-    (c.in_ok-scope.ensures.names ∙ ap (λ z. home c.args.home (once (interface_names (lent c.args.interfaces.now))) (once (face_names z)) kernel_names) c.as_slice-known.ensures)
-    c.in_ok-scope.ensures.home
-    (base_is c.args.base.now c.as_slice.result.now c.as_slice-known.result.now (c.as_slice.ensures ∙ c.in_ok-bares.ensures) c.as_slice-known.ensures)
-    (ap drawings c.as_slice-drawings.ensures.value ∙ c.in_ok-drawings.ensures)) c.built.ensures.ok
+    subst (λ (z : List ClassDecl). IfOk c.faces_in_scope.result (λ ds. ds ≡ z)) (declared_are c.args.own_module c.args.base.now (lent c.args.interfaces.now) (module_in_scope c.in_ok-scope.scope) c.in_ok-scope.scope.module
+    (interface_classes c.args.base.now) (map (draft_of (module_in_scope c.in_ok-scope.scope)) (lent c.args.interfaces.now))
+    (c.in_ok-scope.ensures.names ∙ ap (λ z. module_by_names c.args.own_module (once (interface_names (lent c.args.interfaces.now))) (once (face_names z)) kernel_names) c.as_slice-known.ensures)
+    c.in_ok-scope.ensures.own refl refl) c.faces_in_scope.ensures.ok

@@ -3,11 +3,11 @@ use Rattle.som_model.specs.Class.{class_in}
 use Rattle.som_model.specs.declared.key.Module.TheVariants as modules
 use Rattle.som_rules.specs.Modules.{classes_of}
 use Rattle.som_rules.specs.declared.types.Declared.{Declared}
-use Rattle.som_sema.specs.Sketch.{drawings, sketches}
+use Rattle.som_sema.specs.Drafts.{plain_drafts, draft_classes}
 use Rattle.som_sema.proofs.build.known_classes.Goals as goal
 
 pub returns : goal.returns
 returns c =
-    c.in_ok-add_sketches.ensures
-    ∙ ap (λ z. z ++ map (class_in c.args.home) (sketches (drawings c.args.drawings.now)))
+    c.in_ok-add_drafts.ensures
+    ∙ ap (λ z. z ++ map (class_in c.args.own_module) (draft_classes (plain_drafts c.args.drafts.now)))
     (c.in_ok-declare.ensures ∙ ap (λ (z : List Declared). classes_of z ++ map (class_in modules.Library) c.args.base.now) c.new-classes.ensures.items)

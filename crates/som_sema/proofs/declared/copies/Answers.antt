@@ -1,6 +1,6 @@
 use Rattle.std.proofs.Common.{List, ℕ}
 use Rattle.std.specs.Borrow.{Bor}
-use Rattle.som_sema.proofs.Going.{map_end, map_next}
+use Rattle.som_scope.proofs.Going.{map_end, map_next}
 use Rattle.som_sema.proofs.declared.copies.Goals as goal
 
 pub loop-name-preserved : goal.loop-name-preserved

@@ -6,5 +6,5 @@ use Rattle.som_sema.proofs.declared.entries.Given as goal
 
 abbrev pub invariant-loop-name : goal.invariant-loop-name
 invariant-loop-name l =
-    l.all ++ map (entry_for (with_kernel (classes_of l.classes)) (key_at (with_kernel (classes_of l.classes)) l.place) l.drawing.decl.face.entries) (drop l.name-index l.name-items)
-    ≡ map (entry_for (with_kernel (classes_of l.classes)) (key_at (with_kernel (classes_of l.classes)) l.place) l.drawing.decl.face.entries) l.name-items
+    l.all ++ map (entry_for (with_kernel (classes_of l.classes)) (key_at (with_kernel (classes_of l.classes)) l.place) l.draft.decl.face.entries) (drop l.name-index l.name-items)
+    ≡ map (entry_for (with_kernel (classes_of l.classes)) (key_at (with_kernel (classes_of l.classes)) l.place) l.draft.decl.face.entries) l.name-items

@@ -1,7 +1,7 @@
 use Rattle.std.proofs.Common.{◌≡◌, ◌++◌, drop, flat_map}
 use Rattle.som_order.specs.Names.{texts}
 use Rattle.som_read.specs.declared.tree.Word.{Word}
-use Rattle.som_sema.specs.Sketch.{accessors}
+use Rattle.som_sema.specs.Drafts.{accessors}
 use Rattle.som_sema.proofs.exports.add_accessors.Given as goal
 
 abbrev pub invariant-loop-word : goal.invariant-loop-word

@@ -1,7 +1,7 @@
 use Rattle.std.proofs.Common.{[], ap, ◌∙◌}
 use Rattle.som_model.specs.declared.key.ValueType.{ValueType}
 use Rattle.som_order.specs.Names.{texts}
-use Rattle.som_sema.specs.Sketch.{getter, method}
+use Rattle.som_sema.specs.Drafts.{getter, method}
 use Rattle.som_sema.proofs.exports.reader.Goals as goal
 
 pub returns : goal.returns

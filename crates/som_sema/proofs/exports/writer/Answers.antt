@@ -2,7 +2,7 @@ use Rattle.std.proofs.Common.{[], ◌++◌, ◌∷◌, ap, ◌∙◌}
 use Rattle.som_model.specs.declared.key.ValueType.{ValueType}
 use Rattle.som_model.specs.declared.key.ValueType.TheVariants as types
 use Rattle.som_order.specs.Names.{texts}
-use Rattle.som_sema.specs.Sketch.{method, setter}
+use Rattle.som_sema.specs.Drafts.{method, setter}
 use Rattle.som_sema.proofs.exports.writer.Goals as goal
 
 pub returns : goal.returns

@@ -9,6 +9,6 @@ use Rattle.som_sema.proofs.faces.key_at.Goals as goal
 pub returns : goal.returns
 returns c =
     let ds = c.args.classes.now in
-    ap (λ m. keys.Named m c.in_ok-name.name) c.module_of-home.ensures
+    ap (λ m. keys.Named m c.in_ok-name.name) c.module_of-class_module.ensures
     ∙ ap (λ n. keys.Named (module_at (with_kernel (classes_of ds)) c.args.place) n) (c.in_ok-name.ensures ∙ ap (λ (f : ClassFace). f.name) c.face_of-face.ensures)
     ∙ sym (key_there ds c.args.place c.requires.place)

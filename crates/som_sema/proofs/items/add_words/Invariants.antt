@@ -1,6 +1,6 @@
 use Rattle.std.proofs.Common.{◌≡◌, ◌++◌, drop}
 use Rattle.som_order.specs.Names.{texts}
-use Rattle.som_sema.specs.Words.{words}
+use Rattle.som_scope.specs.Words.{words}
 use Rattle.som_sema.proofs.items.add_words.Given as goal
 
 abbrev pub invariant-loop-word : goal.invariant-loop-word

@@ -1,8 +1,8 @@
 use Rattle.std.proofs.Common.{◌∷◌, ◌++◌, ◌+◌, drop, ap, refl, ◌∙◌}
 use Rattle.som_order.specs.Names.{texts}
 use Rattle.som_sema.specs.Items.{listed, listed_in}
-use Rattle.som_sema.specs.Words.{words}
-use Rattle.som_sema.proofs.Going.{next, next_none, rest_end}
+use Rattle.som_scope.specs.Words.{words}
+use Rattle.som_scope.proofs.Going.{next, next_none, rest_end}
 use Rattle.som_sema.proofs.Unsaid.{not_listed}
 use Rattle.som_sema.proofs.items.listed.Goals as goal
 use Rattle.som_sema.proofs.items.listed.Goals.{in-ReleaseOrder+in_ok-add_words, in_default}

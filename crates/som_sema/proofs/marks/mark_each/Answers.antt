@@ -1,7 +1,7 @@
 use Rattle.std.proofs.Common.{map, refl}
 use Rattle.som_idl.specs.declared.tree.Modifier.{Modifier}
 use Rattle.som_sema.specs.Items.{given_by}
-use Rattle.som_sema.proofs.Going.{map_end, map_next, pushed}
+use Rattle.som_scope.proofs.Going.{map_end, map_next, pushed}
 use Rattle.som_sema.proofs.marks.mark_each.Goals as goal
 
 pub loop-modifier-preserved : goal.loop-modifier-preserved

@@ -1,7 +1,7 @@
 use Rattle.std.proofs.Common.{◌∷◌, ◌+◌, drop, ap, refl, ◌∙◌}
 use Rattle.som_model.specs.Class.{introduced}
 use Rattle.som_order.specs.Names.{texts}
-use Rattle.som_sema.proofs.Going.{next_none, next_value, rest_end}
+use Rattle.som_scope.proofs.Going.{next_none, next_value, rest_end}
 use Rattle.som_sema.proofs.members.introduced_names.Goals as goal
 use Rattle.som_sema.proofs.members.introduced_names.Goals.{in-Introduced+in_ok-add, in_default}
 

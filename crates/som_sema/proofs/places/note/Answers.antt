@@ -1,5 +1,5 @@
 use Rattle.som_sema.specs.Noted.{at}
-use Rattle.som_sema.proofs.Going.{pushed}
+use Rattle.som_scope.proofs.Going.{pushed}
 use Rattle.som_sema.proofs.places.note.Goals as goal
 
 pub returns : goal.returns

@@ -1,21 +1,21 @@
 use Rattle.som_rules.specs.Modules.{classes_of}
-use Rattle.som_sema.proofs.Composing.{all_moved, walked_lists, walked_table}
+use Rattle.som_sema.proofs.Composing.{all_moved, table_lists, table_names}
 use Rattle.som_sema.proofs.rules.moves_hold.Goals as goal
 
 pub names_introduced_once-requires-clause-lists : goal.names_introduced_once-requires-clause-lists
-names_introduced_once-requires-clause-lists c = walked_lists (classes_of c.args.classes.now) c.args.walked.now c.as_slice-lists.result.now c.requires.walked c.as_slice-lists.ensures.value
+names_introduced_once-requires-clause-lists c = table_lists (classes_of c.args.classes.now) c.args.ancestors.now c.as_slice-lists.result.now c.requires.ancestors c.as_slice-lists.ensures.value
 
 pub entries_moved_up-requires-clause-table : goal.entries_moved_up-requires-clause-table
-entries_moved_up-requires-clause-table c = walked_table (classes_of c.args.classes.now) c.args.walked.now c.requires.walked
+entries_moved_up-requires-clause-table c = table_names (classes_of c.args.classes.now) c.args.ancestors.now c.requires.ancestors
 
 pub entries_moved_up-requires-clause-lists : goal.entries_moved_up-requires-clause-lists
-entries_moved_up-requires-clause-lists c = walked_lists (classes_of c.args.classes.now) c.args.walked.now c.as_slice-lists.result.now c.requires.walked c.as_slice-lists.ensures.value
+entries_moved_up-requires-clause-lists c = table_lists (classes_of c.args.classes.now) c.args.ancestors.now c.as_slice-lists.result.now c.requires.ancestors c.as_slice-lists.ensures.value
 
 pub overrides_inherited-requires-clause-table : goal.overrides_inherited-requires-clause-table
-overrides_inherited-requires-clause-table c = walked_table (classes_of c.args.classes.now) c.args.walked.now c.requires.walked
+overrides_inherited-requires-clause-table c = table_names (classes_of c.args.classes.now) c.args.ancestors.now c.requires.ancestors
 
 pub overrides_inherited-requires-clause-lists : goal.overrides_inherited-requires-clause-lists
-overrides_inherited-requires-clause-lists c = walked_lists (classes_of c.args.classes.now) c.args.walked.now c.as_slice-lists.result.now c.requires.walked c.as_slice-lists.ensures.value
+overrides_inherited-requires-clause-lists c = table_lists (classes_of c.args.classes.now) c.args.ancestors.now c.as_slice-lists.result.now c.requires.ancestors c.as_slice-lists.ensures.value
 
 pub overrides_inherited-requires-clause-moved : goal.overrides_inherited-requires-clause-moved
-overrides_inherited-requires-clause-moved c = all_moved c.args.classes.now c.args.base c.args.walked.now c.requires.walked c.requires.conforms c.in_ok-entries_moved_up.ensures
+overrides_inherited-requires-clause-moved c = all_moved c.args.classes.now c.args.base c.args.ancestors.now c.requires.ancestors c.requires.conforms c.in_ok-entries_moved_up.ensures

@@ -4,8 +4,8 @@ use Rattle.som_rules.specs.Modules.{classes_of}
 use Rattle.som_rules.specs.Places.{with_kernel}
 use Rattle.som_rules.specs.Told.{Tells}
 use Rattle.som_rules.proofs.DeclaredClasses.{known_number}
-use Rattle.som_sema.specs.Home.{home_in}
-use Rattle.som_sema.specs.Sketch.{drawings}
+use Rattle.som_scope.specs.ClassNames.{module_in_scope}
+use Rattle.som_sema.specs.Drafts.{plain_drafts}
 use Rattle.som_sema.specs.TextRules.{text_s2_from}
 use Rattle.som_sema.proofs.Composing.{front_place}
 use Rattle.som_sema.proofs.rules.own_bases_stand.Goals as goal
@@ -15,5 +15,5 @@ bases_stand-requires-clause-from c = omega (arith, c.requires.base, known_number
 
 pub returns : goal.returns
 returns c =
-    subst (λ n. Tells (first (text_s2_from (home_in c.args.scope.now) (with_kernel (classes_of c.args.classes.now)) n (drawings c.args.drawings.now))) c.bases_stand.result)
+    subst (λ n. Tells (first (text_s2_from (module_in_scope c.args.scope.now) (with_kernel (classes_of c.args.classes.now)) n (plain_drafts c.args.drafts.now))) c.bases_stand.result)
     (front_place c.args.classes.now c.args.base (c.args.base + 4) (omega (arith, c.requires.base)) refl) c.bases_stand.ensures

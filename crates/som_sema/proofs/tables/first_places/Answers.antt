@@ -1,6 +1,6 @@
 use Rattle.std.proofs.Common.{ap, ◌∙◌}
 use Rattle.som_order.specs.Names.{texts}
-use Rattle.som_sema.proofs.OneTable.{kept_new, kept_old, once_all, once_more}
+use Rattle.som_scope.proofs.OneTable.{kept_new, kept_old, once_all, once_more}
 use Rattle.som_sema.proofs.tables.first_places.Goals as goal
 use Rattle.som_sema.proofs.tables.first_places.Goals.{then-branch+in_ok-add, else-branch}
 

@@ -2,9 +2,9 @@ use Rattle.std.proofs.Common.{◌≡◌, ◌+◌, List, ℕ, drop, map, ap, refl
 use Rattle.std.specs.Prelude.{IfOk}
 use Rattle.som_order.specs.Names.{texts}
 use Rattle.som_sema.specs.Items.{given_by, is_override, with_modifier}
-use Rattle.som_sema.specs.Words.{once}
+use Rattle.som_scope.specs.Words.{once}
 use Rattle.som_sema.specs.declared.marks.Mark.{Mark}
-use Rattle.som_sema.proofs.Going.{next, next_none, rest_end}
+use Rattle.som_scope.proofs.Going.{next, next_none, rest_end}
 use Rattle.som_sema.proofs.Unsaid.{given_once, given_not, not_override}
 use Rattle.som_sema.proofs.tables.overridden.Goals as goal
 use Rattle.som_sema.proofs.tables.overridden.Goals.{in-Override+in_ok-add, in_default}

@@ -1,6 +1,0 @@
-use Rattle.som_model.specs.Typing.{self_type}
-use Rattle.som_elab.specs.Code.{classes_at, place_at}
-use Rattle.som_elab.proofs.leaves.me.Goals as goal
-
-pub returns : goal.returns
-returns c = c.formed.ensures (classes_at c.args.site.now) (self_type (place_at c.args.site.now)) c.self_kind.ensures

@@ -1,0 +1,195 @@
+ghost use Rattle.som_elab.specs.Bodies as spec;
+ghost use Rattle.som_elab.specs.Bodies.{bodies_of, drafts_over};
+ghost use Rattle.som_elab.specs.Contexts.{FewParameters, StandAfterOthers, checked_steps, elaborated_module};
+ghost use Rattle.som_elab.specs.Elaboration.{Answers, among_over};
+ghost use Rattle.som_elab.specs.Texts.{given};
+ghost use Rattle.som_model.specs.Class.{class_in};
+ghost use Rattle.som_model.specs.Classes.{interface_classes};
+ghost use Rattle.som_model.specs.declared.key.Module.TheVariants as modules;
+ghost use Rattle.som_rules.specs.Faces.{classes_breach, faces_breach};
+ghost use Rattle.som_rules.specs.Modules.{classes_of};
+ghost use Rattle.som_rules.specs.Places.{with_kernel};
+ghost use Rattle.som_scope.specs.ClassNames.{module_in_scope};
+ghost use Rattle.som_scope.specs.Words.{interfaces_of, lent};
+ghost use Rattle.som_sema.specs.Building.{after_base, texts_breach};
+ghost use Rattle.som_sema.specs.Drafts.{draft_classes, plain_drafts};
+ghost use Rattle.som_typing.specs.Bodies.{AreParts};
+ghost use Rattle.std.specs.Prelude.{◌≡◌, ◌++◌, ℕ, length, map, option_copied, IfOk, OnOk, None};
+
+use crate::all_bodies::{AllBodies, checked_bodies};
+use crate::classes::completed_classes;
+use crate::contexts::ModuleContext;
+use crate::texts::all_texts;
+use som_body::{BlockText, BodyFile, BodyText};
+use som_idl::{IdlFile, IdlInterface};
+use som_model::{Block, ClassDecl, Interface, List, Module, NoMemory, kernel_faces};
+use som_rules::{Declared, bare_classes, declare};
+use som_scope::{Scope, scope_of};
+use som_sema::{Draft, Refused, all_interfaces, build_faces, refused};
+use som_typing::{Parts, know, parts_of};
+use std::alloc::Global;
+
+/// The classes of a module, and its main.
+#[derive(Drop)]
+pub struct ElaboratedModule {
+    pub classes: List<ClassDecl>,
+    pub main: Block,
+}
+
+/// What texts stand for that are compiled against a base, or the first rule that they break or limit that they pass.
+pub fn elaborate_module(
+    alloc: Global,
+    own_module: Module,
+    base: &Interface,
+    idl: &List<IdlFile>,
+    bodies: &List<BodyFile>,
+    main: Option<&BlockText>,
+) -> Result<ElaboratedModule, Refused>
+    requires conforms { faces_breach (interface_classes base.now) ≡ None }
+    requires few { FewParameters (interface_classes base.now) }
+    ensures { Answers (elaborated_module own_module base.now (interfaces_of idl.now) (bodies_of bodies.now) (option_copied main.entry)) result }
+{
+    let classes = build_faces(alloc, idl, base, own_module)?;
+    let interfaces = all_interfaces(alloc, idl.as_slice())?;
+    let texts = all_texts(alloc, bodies.as_slice())?;
+    let drafts = drafts_of_classes(alloc, &interfaces, classes)?;
+    let made = bodies_over(alloc, own_module, base, &interfaces, &drafts, &texts, main)?;
+    let AllBodies { classes, main } = made;
+    let classes = completed_classes(alloc, drafts, classes)?;
+    Ok(ElaboratedModule { classes, main })
+}
+
+// Each interface with its declaration.
+fn drafts_of_classes<'a>(
+    alloc: Global,
+    interfaces: &[&'a IdlInterface],
+    classes: List<ClassDecl>,
+) -> Result<Vec<Draft<'a>>, NoMemory>
+    ensures { IfOk result (λ all. plain_drafts all.items ≡ spec.drafts_of_classes (lent interfaces.now) classes) }
+{
+    let mut all = Vec::new(alloc);
+    for (text, decl) in interfaces.iter().zip(classes.into_vec()) {
+        all.push(Draft { text: *text, decl })?;
+    }
+    Ok(all)
+}
+
+// The bodies of classes that break no rule on faces.
+fn bodies_over(
+    alloc: Global,
+    own_module: Module,
+    base: &Interface,
+    interfaces: &[&IdlInterface],
+    drafts: &[Draft],
+    texts: &[&BodyText],
+    main: Option<&BlockText>,
+) -> Result<AllBodies, Refused>
+    requires conforms { faces_breach (interface_classes base.now) ≡ None }
+    requires few { FewParameters (interface_classes base.now) }
+    requires faces { texts_breach own_module base.now (lent interfaces.now) ≡ None }
+    requires drafted { plain_drafts drafts.now ≡ drafts_over own_module base.now (lent interfaces.now) }
+    ensures { Answers (checked_steps (among_over own_module base.now (lent interfaces.now)) own_module (given texts.now) (plain_drafts drafts.now) (option_copied main.entry)) result }
+{
+    let kernel = kernel_faces(alloc)?;
+    let kernel = kernel.classes.as_slice();
+    let known = base.classes.as_slice();
+    let scope = scope_of(alloc, own_module, known, kernel, interfaces)?;
+    let bares = bare_classes(alloc, known)?;
+    bodies_after(alloc, &scope, bares.as_slice(), drafts, texts, main)
+}
+
+// The same, where the classes of the base are declared.
+fn bodies_after(
+    alloc: Global,
+    scope: &Scope,
+    base: &[ClassDecl],
+    drafts: &[Draft],
+    texts: &[&BodyText],
+    main: Option<&BlockText>,
+) -> Result<AllBodies, Refused>
+    requires rules { classes_breach (length base.now) (after_base scope.now.module (map (class_in modules.Library) base.now) (draft_classes (plain_drafts drafts.now))) ≡ None }
+    requires few { FewParameters (map (class_in modules.Library) base.now) }
+    ensures { Answers (checked_steps (record {
+      classes = with_kernel (after_base scope.now.module (map (class_in modules.Library) base.now) (draft_classes (plain_drafts drafts.now)));
+      module_of = module_in_scope scope.now;
+    }) scope.now.module (given texts.now) (plain_drafts drafts.now) (option_copied main.entry)) result }
+{
+    let classes = known_classes(alloc, scope.module, base, drafts)?;
+    bodies_among(alloc, scope, classes.as_slice(), drafts, texts, main)
+}
+
+fn bodies_among(
+    alloc: Global,
+    scope: &Scope,
+    classes: &[Declared],
+    drafts: &[Draft],
+    texts: &[&BodyText],
+    main: Option<&BlockText>,
+) -> Result<AllBodies, Refused>
+    requires rules { (base : ℕ) × (classes_breach base (classes_of classes.now) ≡ None) }
+    requires stand { StandAfterOthers scope.now.module (classes_of classes.now) (plain_drafts drafts.now) }
+    ensures { Answers (checked_steps (record { classes = with_kernel (classes_of classes.now); module_of = module_in_scope scope.now }) scope.now.module
+        (given texts.now) (plain_drafts drafts.now) (option_copied main.entry)) result }
+{
+    match parts_of(alloc, classes) {
+        Ok(parts) => bodies_in_context(alloc, scope, &parts, classes, drafts, texts, main),
+        Err(fault) => Err(refused(fault)),
+    }
+}
+
+// The classes of the base, and then the declared ones.
+fn known_classes<'a>(
+    alloc: Global,
+    own_module: Module,
+    base: &'a [ClassDecl],
+    drafts: &'a [Draft],
+) -> Result<Vec<Declared<'a>>, NoMemory>
+    ensures { IfOk result (λ all. classes_of all.items ≡ after_base own_module (map (class_in modules.Library) base.now) (draft_classes (plain_drafts drafts.now))) }
+{
+    let mut classes = Vec::new(alloc);
+    declare(&mut classes, Module::Library, base)?;
+    add_drafts(&mut classes, own_module, drafts)?;
+    Ok(classes)
+}
+
+fn add_drafts<'a>(
+    classes: &mut Vec<Declared<'a>>,
+    own_module: Module,
+    drafts: &'a [Draft],
+) -> Result<(), NoMemory>
+    ensures { OnOk result (classes_of classes.new.items ≡
+        classes_of classes.old.items ++ map (class_in own_module) (draft_classes (plain_drafts drafts.now))) }
+{
+    for draft in drafts {
+        let decl = &draft.decl;
+        classes.push(Declared {
+            module: own_module,
+            decl,
+        })?;
+    }
+    Ok(())
+}
+
+fn bodies_in_context(
+    alloc: Global,
+    scope: &Scope,
+    parts: &Parts,
+    classes: &[Declared],
+    drafts: &[Draft],
+    texts: &[&BodyText],
+    main: Option<&BlockText>,
+) -> Result<AllBodies, Refused>
+    requires parts { AreParts (classes_of classes.now) parts.now }
+    requires rules { (base : ℕ) × (classes_breach base (classes_of classes.now) ≡ None) }
+    requires stand { StandAfterOthers scope.now.module (classes_of classes.now) (plain_drafts drafts.now) }
+    ensures { Answers (checked_steps (record { classes = with_kernel (classes_of classes.now); module_of = module_in_scope scope.now }) scope.now.module (given texts.now) (plain_drafts drafts.now) (option_copied main.entry)) result }
+{
+    let known = know(
+        &parts.table,
+        parts.kernel.classes.as_slice(),
+        classes,
+        parts.lists.as_slice(),
+    );
+    let context = ModuleContext { known, scope };
+    checked_bodies(alloc, &context, drafts, texts, main)
+}

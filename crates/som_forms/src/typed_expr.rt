@@ -1,0 +1,21 @@
+ghost use Rattle.std.specs.Prelude.{◌≡◌, IfOk};
+
+use som_model::{Boxed, Expr, NoMemory};
+use som_typing::Kind;
+use std::alloc::Global;
+
+/// A named expression, as a part of what holds it, and its type.
+#[derive(Drop)]
+pub struct TypedExpr {
+    pub expr: Boxed<Expr>,
+    pub kind: Kind,
+}
+
+impl TypedExpr {
+    pub fn new(alloc: Global, expr: Expr, kind: Kind) -> Result<TypedExpr, NoMemory>
+        ensures { IfOk result (λ made. made ≡ record { expr = expr; kind = kind }) }
+    {
+        let expr = Boxed::new(alloc, expr)?;
+        Ok(TypedExpr { expr, kind })
+    }
+}

@@ -1,7 +1,0 @@
-use Rattle.std.proofs.Common.{List, ℕ}
-use Rattle.std.specs.Borrow.{Bor}
-use Rattle.som_sema.proofs.Going.{pushed}
-use Rattle.som_sema.proofs.items.add.Goals as goal
-
-pub returns : goal.returns
-returns c = pushed (λ (b : Bor (List ℕ)). b.now) _ _ _ c.in_ok-push.ensures.items
