@@ -44,3 +44,26 @@ fn a_replaced_cell_is_inherited(rt: HostRuntime) -> Result<(), Fail> {
     assert_eq!(rt; resolve::<Brand>(&table, top, x, Blank::new(1)), 1);
     Ok(())
 }
+
+#[test]
+#[tactic(auto, unfolding(som_tables::specs::Rows::inherited))]
+fn a_diamond_is_filled_late(rt: HostRuntime) -> Result<(), Fail> {
+    let alloc = rt.alloc();
+    let mut table: Table<MethodKind> = Table::new(alloc);
+    let root = table.declare()?;
+    let left = table.declare()?;
+    let right = table.declare()?;
+    let down = table.declare()?;
+    table.fill(alloc, root, &[], &[10, 20], &[])?;
+    let f = table.token(root, 0);
+    table.fill(alloc, right, &[root], &[], &[(f, 12)])?;
+    assert!(rt; !table.has_row(left));
+    table.fill(alloc, left, &[root], &[30], &[(f, 11)])?;
+    table.fill(alloc, down, &[right, left], &[], &[])?;
+    assert!(rt; table.has_row(left));
+    assert_eq!(rt; table.cell(down, f), 12);
+    assert_eq!(rt; table.cell(left, f), 11);
+    assert_eq!(rt; table.cell(down, table.token(root, 1)), 20);
+    assert_eq!(rt; table.cell(down, table.token(left, 0)), 30);
+    Ok(())
+}

@@ -12,7 +12,8 @@ use Rattle.som_model.specs.Resolution.{answer, impl}
 use Rattle.som_model.specs.Implementation.{Held, held, has_body}
 use Rattle.som_model.proofs.NamedLaws.{height_named, same_named}
 use Rattle.som_laws.proofs.Laws.{answer_step, parents_answer, descends_test}
-use Rattle.som_tables.specs.Rows.{Added, first_some, replaced_at, own_at, row_cell, inherited, SomeHasToken, AreInherited, AreDistinct, KeepsRows, AddsRow}
+use Rattle.som_tables.specs.Rows.{Added, first_some, replaced_at, own_at, row_cell, inherited, SomeHasToken, AreInherited, AreDistinct, HasRow, KeepsRows, GivesRow}
+use Rattle.som_tables.proofs.LateRows.{HasRow-push, HasRow-last}
 use Rattle.som_first.specs.declared.classes.FirstOverride.{FirstOverride}
 use Rattle.som_first.specs.declared.classes.FirstClass.{FirstClass}
 use Rattle.som_first.specs.FirstImages.{library_key, parent_key}
@@ -80,7 +81,7 @@ module _ (fs : List FirstClass) (ok : FirstOk fs) where
       by true e = absurd (never ((descends_test (hierarchy (known fs)) (all_tell fs ok) (all_fall fs ok) som_object (library_key class)).0 e))
       by false e = refl
 
-  module _ (i : ℕ) (c : FirstClass) (at : slice_get fs i ≡ Some c) (rows : List (Added ℕ)) (old texts : List (List ℕ)) (linked : IsLinked fs i rows old) (keeps : AreKept old texts) (row : Added ℕ) (is_row : IsRow fs texts c row) where
+  module _ (i : ℕ) (c : FirstClass) (at : slice_get fs i ≡ Some c) (rows : List (Option (Added ℕ))) (old texts : List (List ℕ)) (linked : IsLinked fs i rows old) (keeps : AreKept old texts) (row : Added ℕ) (is_row : IsRow fs texts c row) where
     -- the parent has the cell that it answers
     parent_answers : (t : ℕ × ℕ) (class name : List ℕ) → IsMethod fs t class name → (o : Option (List ℕ)) → c.parent ≡ o → IsParent fs o is_row.parent
         → Answers (known fs) texts (ref class name) (inherited rows is_row.parent t) (answer_of fs class name (parent_key o))
@@ -126,9 +127,13 @@ module _ (fs : List FirstClass) (ok : FirstOk fs) where
         (fits fs ok texts i c at row is_row t class name is) (above_answers t class name is))))
 
     -- with this class, too, every cell is what its class answers
-    pub linked_more : (new : List (Added ℕ)) → new ≡ rows ++ row ∷ [] → KeepsRows rows new → AddsRow rows new row → IsLinked fs (i + 1) new texts
+    pub linked_more : (new : List (Option (Added ℕ))) → new ≡ rows ++ Some row ∷ [] → KeepsRows rows new → GivesRow rows new (length rows) row → IsLinked fs (i + 1) new texts
     linked_more new is_new kept adds = record {
-      long = ap length is_new ∙ (omega (arith, length-append rows (row ∷ []), linked.long));
+      long = ap length is_new ∙ (omega (arith, length-append rows (Some row ∷ []), linked.long));
+      filled = λ n lt. subst (λ (rs : List (Option (Added ℕ))). HasRow rs n) (sym is_new) (elim (cases_lt n (length rows)) [
+        | inl before ↦ HasRow-push rows (Some row) n (linked.filled n (omega (arith, before, linked.long)))
+        | inr last ↦ HasRow-last rows row n (omega (arith, last, lt, linked.long))
+      ]);
       kernel_rows = λ n t low. (let lt : n < length rows = omega (arith, low, linked.long) in kept n lt t ∙ linked.kernel_rows n t low);
       cells = λ n d t class name lt d_at is. elim (cases_lt n i) [
         | inl before ↦ (let here : n + 4 < length rows = omega (arith, before, linked.long) in

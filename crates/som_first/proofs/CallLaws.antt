@@ -48,7 +48,7 @@ some_is : {A : Type 0} (o : Option A) → IsSome o → (x : A) × (o ≡ Some x)
 some_is None s = absurd (true≢false (sym s))
 some_is (Some x) s = (x, refl)
 
-module _ (fs : List FirstClass) (ok : FirstOk fs) (rows : List (Added ℕ)) (texts : List (List ℕ)) (linked : IsLinked fs (length fs) rows texts) (at : CallPlace) (call : FirstCall) (is : CallIs fs at call) where
+module _ (fs : List FirstClass) (ok : FirstOk fs) (rows : List (Option (Added ℕ))) (texts : List (List ℕ)) (linked : IsLinked fs (length fs) rows texts) (at : CallPlace) (call : FirstCall) (is : CallIs fs at call) where
   abbrev pub ref : MethodRef
   ref = library_method call.class call.method
 

@@ -11,7 +11,7 @@ use Rattle.som_model.specs.Lists.{among}
 use Rattle.som_model.specs.Resolution.{answer}
 use Rattle.som_model.specs.Conforming.{ReleaseOk}
 use Rattle.som_model.specs.Implementation.{User, held, has_body}
-use Rattle.som_tables.specs.Rows.{Added, inherited}
+use Rattle.som_tables.specs.Rows.{Added, HasRow, inherited}
 use Rattle.som_first.specs.declared.classes.FirstMethod.{FirstMethod}
 use Rattle.som_first.specs.declared.classes.FirstOverride.{FirstOverride}
 use Rattle.som_first.specs.declared.classes.FirstClass.{FirstClass}
@@ -81,8 +81,9 @@ HasPlace names None n = n ≡ 0
 HasPlace names (Some name) n = (place : ℕ) × (slice_get names place ≡ Some name) × (n ≡ place + 4)
 
 -- the rows of the kernel's classes, which have no cells
-pub record AreKernelRows (rows : List (Added ℕ)) : Type 0 where
+pub record AreKernelRows (rows : List (Option (Added ℕ))) : Type 0 where
   pub long : length rows ≡ 4
+  pub filled : (i : ℕ) → i < 4 → HasRow rows i
   pub none : (i : ℕ) (t : ℕ × ℕ) → i < 4 → inherited rows i t ≡ None
 
 -- what a class is added with
@@ -104,8 +105,9 @@ Answers cs texts m (Some cell) (Some k) = (text : List ℕ) × (slice_get texts 
 Answers cs texts m _ _ = ⊥
 
 -- the first n classes are linked: in the row of each, the cell of each method is what the class answers for it
-pub record IsLinked (classes : List FirstClass) (n : ℕ) (rows : List (Added ℕ)) (texts : List (List ℕ)) : Type 0 where
+pub record IsLinked (classes : List FirstClass) (n : ℕ) (rows : List (Option (Added ℕ))) (texts : List (List ℕ)) : Type 0 where
   pub long : length rows ≡ n + 4
+  pub filled : (i : ℕ) → i < n + 4 → HasRow rows i
   pub kernel_rows : (i : ℕ) (t : ℕ × ℕ) → i < 4 → inherited rows i t ≡ None
   pub cells : (i : ℕ) (c : FirstClass) (t : ℕ × ℕ) (class name : List ℕ) → i < n → slice_get classes i ≡ Some c → IsMethod classes t class name
       → Answers (all_of classes) texts (library_method class name) (inherited rows (i + 4) t)

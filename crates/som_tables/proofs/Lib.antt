@@ -1,6 +1,6 @@
 pub mod Inherited
 pub mod Laid
+pub mod LateRows
 pub mod NextBlocks
-pub mod Options
-pub mod Triangle
 pub mod NextRow
+pub mod Options

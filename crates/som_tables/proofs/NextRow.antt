@@ -1,87 +1,132 @@
--- A table with one more row.
-use Rattle.std.proofs.Common.{◌≡◌, ℕ, suc, ◌+◌, ◌<◌, ◌≤◌, inl, inr, List, [], ◌∷◌, ◌++◌, length, Option, None, IsSome, slice_get, refl, sym, ap, ◌∙◌, subst, arith, length-append}
-use Rattle.std.specs.Option.{option_or, option_map_or, option_flatten}
-use Rattle.std.proofs.lemmas.Bool.{cases_lt}
-use Rattle.som_tables.specs.Rows.{Added, first_some, replaced_at, own_at, inherited, HasToken, SomeHasToken, AreBelow, AreInherited, introduced_count}
-use Rattle.som_tables.specs.Layout.{triangle, start_of, IsBlock, IsLaid, IsTable, next_cell, IsNextRow}
-use Rattle.som_tables.proofs.Options.{none_else_some, option_or-some, slice_get_some, slice_get-append_left, slice_get-push}
-use Rattle.som_tables.proofs.Inherited.{first_some_where, inherited-append, inherited-push, HasToken_within, HasToken-push, ParentsComeFirst-push, replaced_inherited, own_at_within, own_at-same, own_at-other}
-use Rattle.som_tables.proofs.Laid.{start_of-at, IsBlock-same}
+-- A table in which one more class has its row.
+use Rattle.std.proofs.Common.{◌≡◌, ◌≢◌, ℕ, ◌<◌, ◌≤◌, inl, inr, List, length, Option, Some, None, IsSome, is_some, slice_get, sym, ap, ◌∙◌, subst, arith}
+use Rattle.std.specs.Prelude.{slice_set}
+use Rattle.std.specs.Option.{option_or, option_map_or, option_flatten, option_and_then}
+use Rattle.std.proofs.lemmas.Option.{slice_get_past, slice_get_within}
+use Rattle.std.proofs.lemmas.List.{length-set}
+use Rattle.std.proofs.lemmas.Bool.{cases_lt, cases_eq}
+use Rattle.som_tables.specs.Rows.{Added, row_at, first_some, replaced_at, own_at, inherited, HasToken, HasRow, SomeHasToken, HaveRowsBelow, AreInherited, IsDeclared, introduced_count}
+use Rattle.som_tables.specs.Layout.{start_at, start_of, Extends, IsBlock, IsLaid, IsTable, next_cell, IsLine}
+use Rattle.som_tables.proofs.Options.{none_is_not_some, none_else_some, option_or-some, slice_get_some, slice_get-set_same, slice_get-set_other}
+use Rattle.som_tables.proofs.Inherited.{first_some_where, Filled, inherited_others, inherited_filled, order_filled, replaced_inherited, own_at_within, own_at-same, own_at-other, tokens_from_row}
+use Rattle.som_tables.proofs.Laid.{IsBlock-same, IsBlock-none, IsLaid-grown}
+use Rattle.som_tables.proofs.LateRows.{Filled-set}
 
-module _ {C : Type 0} (cs : List (Added C)) (row : Added C) (starts : List (Option ℕ)) (cells : List C) (laid : IsLaid cs starts cells)
-    (below : AreBelow (length cs) row.parents) (known : AreInherited cs row.parents row.replaced) (next : IsNextRow cs row starts cells) where
-  row_before : (c : ℕ) → c < length cs → (t : ℕ × ℕ) → inherited (cs ++ row ∷ []) c t ≡ inherited cs c t
-  row_before = inherited-append cs (row ∷ []) laid.order
+module _ {C : Type 0} (cs ds : List (Option (Added C))) (n : ℕ) (row : Added C) (lines : List (Option (List (Option ℕ)))) (starts : List (Option ℕ)) (cells : List C) (laid : IsLaid cs lines cells)
+    (below : HaveRowsBelow n cs row.parents) (known : AreInherited cs row.parents row.replaced) (next : IsLine cs n row starts cells) (filled : Filled cs ds n row) where
+  row_other : (c : ℕ) → c ≢ n → (t : ℕ × ℕ) → inherited ds c t ≡ inherited cs c t
+  row_other = inherited_others cs ds n row laid.order filled
 
-  count_before : (a : ℕ) → a < length cs → introduced_count (cs ++ row ∷ []) a ≡ introduced_count cs a
-  count_before a lt = ap (λ o. option_map_or (λ (x : Added C). length x.introduced) o 0) (slice_get-append_left cs (row ∷ []) a lt)
+  row_is : (t : ℕ × ℕ) → inherited ds n t ≡ option_or (replaced_at row.replaced t) (option_or (own_at n row.introduced t) (first_some (λ p. inherited cs p t) row.parents))
+  row_is = inherited_filled cs ds n row laid.order filled below
 
-  count_next : introduced_count (cs ++ row ∷ []) (length cs) ≡ length row.introduced
-  count_next = ap (λ o. option_map_or (λ (x : Added C). length x.introduced) o 0) (slice_get-push cs row (length cs) refl)
+  count_other : (a : ℕ) → a ≢ n → introduced_count ds a ≡ introduced_count cs a
+  count_other a ne = ap (λ o. option_map_or (λ (x : Added C). length x.introduced) o 0) (filled.others a ne)
 
-  inside_parents : (t : ℕ × ℕ) → SomeHasToken cs row.parents t → (t.0 < length cs) × (t.1 < introduced_count cs t.0)
-  inside_parents t s = let parent = first_some_where (length cs) (λ q. inherited cs q t) row.parents below s in let i = laid.inside parent.0 t.0 t.1 parent.2 in
-      (omega (arith, parent.1, i.0), i.1)
+  count_own : introduced_count ds n ≡ length row.introduced
+  count_own = ap (λ o. option_map_or (λ (x : Added C). length x.introduced) o 0) filled.is
 
-  inside_next : (a p : ℕ) → HasToken (cs ++ row ∷ []) (length cs) (a, p) → (a ≤ length cs) × (p < introduced_count (cs ++ row ∷ []) a)
-  inside_next a p h = elim ((HasToken-push cs row laid.order below known (a, p)).0 h) [
-    | inl above ↦ (let i = inside_parents (a, p) above in (omega (arith, i.0), subst (λ n. p < n) (sym (count_before a i.0)) i.1))
-    | inr own ↦ (let i = own_at_within (length cs) row.introduced (a, p) own in let e : a ≡ length cs = i.0 in
-        (omega arith, subst (λ n. p < n) (sym (ap (introduced_count (cs ++ row ∷ [])) e ∙ count_next)) i.1))
+  count_before : introduced_count cs n ≡ 0
+  count_before = ap (λ o. option_map_or (λ (x : Added C). length x.introduced) o 0) filled.was
+
+  -- a token that an old row has is of another class
+  of_another : (c a p : ℕ) → HasToken cs c (a, p) → a ≢ n
+  of_another c a p h e = let i = laid.inside c a p h in let none : introduced_count cs a ≡ 0 = ap (introduced_count cs) e ∙ count_before in omega (arith, i.1, none)
+
+  inside_parents : (t : ℕ × ℕ) → SomeHasToken cs row.parents t → (t.0 < n) × (t.1 < introduced_count cs t.0)
+  inside_parents t s = let parent = first_some_where (λ p. (p < n) × HasRow cs p) (λ q. inherited cs q t) row.parents below s in let i = laid.inside parent.0 t.0 t.1 parent.2 in
+      (omega (arith, parent.1.0, i.0), i.1)
+
+  inside_next : (a p : ℕ) → HasToken ds n (a, p) → (a ≤ n) × (p < introduced_count ds a)
+  inside_next a p h = elim ((tokens_from_row cs ds n row known row_is (a, p)).0 h) [
+    | inl above ↦ (let i = inside_parents (a, p) above in let la : a < n = i.0 in (omega arith, subst (λ m. p < m) (sym (count_other a (λ e. omega (arith, la, e)))) i.1))
+    | inr own ↦ (let i = own_at_within n row.introduced (a, p) own in let e : a ≡ n = i.0 in (omega arith, subst (λ m. p < m) (sym (ap (introduced_count ds) e ∙ count_own)) i.1))
   ]
 
-  inside_all : (c a p : ℕ) → HasToken (cs ++ row ∷ []) c (a, p) → (a ≤ c) × (p < introduced_count (cs ++ row ∷ []) a)
-  inside_all c a p h = elim (cases_lt c (length cs)) [
-    | inl lt ↦ (let i = laid.inside c a p (subst (λ o. IsSome o) (row_before c lt (a, p)) h) in let la : a < length cs = omega (arith, i.0) in (i.0, subst (λ n. p < n) (sym (count_before a la)) i.1))
-    | inr ge ↦ (let k = HasToken_within (cs ++ row ∷ []) c (a, p) h in let e : length cs ≡ c = omega (arith, length-append cs (row ∷ [])) in
-        subst (λ i. (a ≤ i) × (p < introduced_count (cs ++ row ∷ []) a)) e (inside_next a p (subst (λ i. HasToken (cs ++ row ∷ []) i (a, p)) (sym e) h)))
+  inside_all : (c a p : ℕ) → HasToken ds c (a, p) → (a ≤ c) × (p < introduced_count ds a)
+  inside_all c a p h = elim (cases_eq c n) [
+    | inl e ↦ subst (λ i. (a ≤ i) × (p < introduced_count ds a)) (sym e) (inside_next a p (subst (λ i. HasToken ds i (a, p)) e h))
+    | inr ne ↦ (let old = subst (λ o. IsSome o) (row_other c ne (a, p)) h in let i = laid.inside c a p old in (i.0, subst (λ m. p < m) (sym (count_other a (of_another c a p old))) i.1))
   ]
 
-  not_replaced : (p : ℕ) → replaced_at row.replaced (length cs, p) ≡ None
-  not_replaced p = none_else_some (replaced_at row.replaced (length cs, p)) (λ s.
-      let i = inside_parents (length cs, p) (replaced_inherited cs row.parents row.replaced (length cs, p) known s) in let lt : length cs < length cs = i.0 in omega arith)
+  not_replaced : (p : ℕ) → replaced_at row.replaced (n, p) ≡ None
+  not_replaced p = none_else_some (replaced_at row.replaced (n, p)) (λ s.
+      let i = inside_parents (n, p) (replaced_inherited cs row.parents row.replaced (n, p) known s) in let lt : n < n = i.0 in omega arith)
 
-  own_cell : (p : ℕ) → p < length row.introduced → slice_get row.introduced p ≡ inherited (cs ++ row ∷ []) (length cs) (length cs, p)
+  own_cell : (p : ℕ) → p < length row.introduced → slice_get row.introduced p ≡ inherited ds n (n, p)
   own_cell p lt =
-      let above = first_some (λ q. inherited cs q (length cs, p)) row.parents in
+      let above = first_some (λ q. inherited cs q (n, p)) row.parents in
       sym (option_or-some (slice_get row.introduced p) above (slice_get_some row.introduced p lt))
-      ∙ ap (λ o. option_or o above) (sym (own_at-same (length cs) row.introduced p))
-      ∙ ap (λ o. option_or o (option_or (own_at (length cs) row.introduced (length cs, p)) above)) (sym (not_replaced p))
-      ∙ sym (inherited-push cs row laid.order below (length cs, p))
+      ∙ ap (λ o. option_or o above) (sym (own_at-same n row.introduced p))
+      ∙ ap (λ o. option_or o (option_or (own_at n row.introduced (n, p)) above)) (sym (not_replaced p))
+      ∙ sym (row_is (n, p))
 
-  cell_before : (a : ℕ) → a < length cs → (p : ℕ) → next_cell cs row.parents row.replaced a p ≡ inherited (cs ++ row ∷ []) (length cs) (a, p)
+  cell_before : (a : ℕ) → a < n → (p : ℕ) → next_cell cs row.parents row.replaced a p ≡ inherited ds n (a, p)
   cell_before a lt p =
-      ap (λ o. option_or (replaced_at row.replaced (a, p)) (option_or o (first_some (λ q. inherited cs q (a, p)) row.parents))) (sym (own_at-other (length cs) a row.introduced p lt))
-      ∙ sym (inherited-push cs row laid.order below (a, p))
+      ap (λ o. option_or (replaced_at row.replaced (a, p)) (option_or o (first_some (λ q. inherited cs q (a, p)) row.parents))) (sym (own_at-other n a row.introduced p lt))
+      ∙ sym (row_is (a, p))
 
-  block_next : (a : ℕ) → a ≤ length cs → IsBlock cells (start_of starts (length cs) a) (introduced_count (cs ++ row ∷ []) a) (λ p. inherited (cs ++ row ∷ []) (length cs) (a, p))
-  block_next a le = subst (λ s. IsBlock cells s (introduced_count (cs ++ row ∷ []) a) (λ p. inherited (cs ++ row ∷ []) (length cs) (a, p))) (sym (start_of-at starts (length cs) a le)) (elim (cases_lt a (length cs)) [
-    | inl lt ↦ IsBlock-same cells _ (introduced_count cs a) (introduced_count (cs ++ row ∷ []) a) (next_cell cs row.parents row.replaced a) (λ p. inherited (cs ++ row ∷ []) (length cs) (a, p)) (sym (count_before a lt)) (λ p _. cell_before a lt p) (next.blocks a lt)
-    | inr ge ↦ (let e : length cs ≡ a = omega arith in
-        subst (λ i. IsBlock cells (option_flatten (slice_get starts (triangle (length cs) + i))) (introduced_count (cs ++ row ∷ []) i) (λ p. inherited (cs ++ row ∷ []) (length cs) (i, p))) e
-        (IsBlock-same cells _ (length row.introduced) (introduced_count (cs ++ row ∷ []) (length cs)) (λ p. slice_get row.introduced p) (λ p. inherited (cs ++ row ∷ []) (length cs) (length cs, p)) (sym count_next)
-        (λ p lt. let k : p < length row.introduced = omega (arith, count_next) in own_cell p k) next.own))
-  ])
+  block_before : (a : ℕ) → a < n → IsBlock cells (start_at starts a) (introduced_count ds a) (λ p. inherited ds n (a, p))
+  block_before a lt = IsBlock-same cells (start_at starts a) (introduced_count cs a) (introduced_count ds a) (next_cell cs row.parents row.replaced a) (λ p. inherited ds n (a, p))
+      (sym (count_other a (λ e. omega (arith, lt, e)))) (λ p _. cell_before a lt p) (next.blocks a lt)
 
-  block_all : (c a : ℕ) → c < length (cs ++ row ∷ []) → a ≤ c → IsBlock cells (start_of starts c a) (introduced_count (cs ++ row ∷ []) a) (λ p. inherited (cs ++ row ∷ []) c (a, p))
-  block_all c a lt le = elim (cases_lt c (length cs)) [
-    | inl k ↦ (let ka : a < length cs = omega arith in
-        IsBlock-same cells (start_of starts c a) (introduced_count cs a) (introduced_count (cs ++ row ∷ []) a) (λ p. inherited cs c (a, p)) (λ p. inherited (cs ++ row ∷ []) c (a, p)) (sym (count_before a ka)) (λ p _. sym (row_before c k (a, p))) (laid.blocks c a k le))
-    | inr ge ↦ (let e : length cs ≡ c = omega (arith, length-append cs (row ∷ [])) in let la : a ≤ length cs = omega arith in
-        subst (λ i. IsBlock cells (start_of starts i a) (introduced_count (cs ++ row ∷ []) a) (λ p. inherited (cs ++ row ∷ []) i (a, p))) e (block_next a la))
+  block_own : IsBlock cells (start_at starts n) (introduced_count ds n) (λ p. inherited ds n (n, p))
+  block_own = IsBlock-same cells (start_at starts n) (length row.introduced) (introduced_count ds n) (λ p. slice_get row.introduced p) (λ p. inherited ds n (n, p))
+      (sym count_own) (λ p lt. let k : p < length row.introduced = omega (arith, count_own) in own_cell p k) next.own
+
+  block_after : (a : ℕ) → n < a → IsBlock cells (start_at starts a) (introduced_count ds a) (λ p. inherited ds n (a, p))
+  block_after a lt =
+      let past : start_at starts a ≡ None = ap option_flatten (slice_get_past starts a (omega (arith, next.long))) in
+      subst (λ s. IsBlock cells s (introduced_count ds a) (λ p. inherited ds n (a, p))) (sym past)
+      (IsBlock-none cells (introduced_count ds a) (λ p. inherited ds n (a, p)) (λ p _. none_else_some (inherited ds n (a, p)) (λ s. let i = inside_next a p s in omega (arith, lt, i.0))))
+
+  block_next : (a : ℕ) → IsBlock cells (start_at starts a) (introduced_count ds a) (λ p. inherited ds n (a, p))
+  block_next a = elim (cases_lt a n) [
+    | inl lt ↦ block_before a lt
+    | inr ge ↦ elim (cases_lt n a) [
+      | inl gt ↦ block_after a gt
+      | inr le ↦ (let e : n ≡ a = omega arith in subst (λ i. IsBlock cells (start_at starts i) (introduced_count ds i) (λ p. inherited ds n (i, p))) e block_own)
+    ]
   ]
 
-  -- the table with its next row
-  pub IsTable-push : IsTable (cs ++ row ∷ []) starts cells
-  IsTable-push =
-      let size : length (cs ++ row ∷ []) ≡ suc (length cs) = omega (arith, length-append cs (row ∷ [])) in
-      let exact : length starts ≡ triangle (length (cs ++ row ∷ [])) = subst (λ n. length starts ≡ triangle n) (sym size) (omega (arith, next.exact)) in
-      record {
-        laid = record {
-          order = ParentsComeFirst-push cs row laid.order below;
-          inside = inside_all;
-          long = omega arith;
-          blocks = block_all;
-        };
-        exact = exact;
-      }
+  -- the class was in no row before
+  start_none : (o : Option ℕ) (f : ℕ → Option C) → IsBlock cells o (introduced_count cs n) f → o ≡ None
+  start_none o f b = none_else_some o (λ s. let some = b.some s in omega (arith, some, count_before))
+
+  block_other : (c : ℕ) → c ≢ n → (a : ℕ) → IsBlock cells (start_of lines c a) (introduced_count ds a) (λ p. inherited ds c (a, p))
+  block_other c ne a = elim (cases_eq a n) [
+    | inl e ↦ (let none : start_of lines c a ≡ None = subst (λ i. start_of lines c i ≡ None) (sym e) (start_none (start_of lines c n) (λ p. inherited cs c (n, p)) (laid.blocks c n)) in
+        subst (λ s. IsBlock cells s (introduced_count ds a) (λ p. inherited ds c (a, p))) (sym none)
+        (IsBlock-none cells (introduced_count ds a) (λ p. inherited ds c (a, p)) (λ p _. row_other c ne (a, p) ∙ none_else_some (inherited cs c (a, p)) (λ s. of_another c a p s e))))
+    | inr other ↦ IsBlock-same cells (start_of lines c a) (introduced_count cs a) (introduced_count ds a) (λ p. inherited cs c (a, p)) (λ p. inherited ds c (a, p)) (sym (count_other a other))
+        (λ p _. sym (row_other c ne (a, p))) (laid.blocks c a)
+  ]
+
+  module _ (more : List (Option (List (Option ℕ)))) (here : option_flatten (slice_get more n) ≡ Some starts) (there : (c : ℕ) → c ≢ n → option_flatten (slice_get more c) ≡ option_flatten (slice_get lines c)) where
+    block_all : (c a : ℕ) → IsBlock cells (start_of more c a) (introduced_count ds a) (λ p. inherited ds c (a, p))
+    block_all c a = elim (cases_eq c n) [
+      | inl e ↦ subst (λ i. IsBlock cells (start_of more i a) (introduced_count ds a) (λ p. inherited ds i (a, p))) (sym e)
+          (subst (λ o. IsBlock cells (option_and_then (λ l. start_at l a) o) (introduced_count ds a) (λ p. inherited ds n (a, p))) (sym here) (block_next a))
+      | inr ne ↦ subst (λ o. IsBlock cells (option_and_then (λ l. start_at l a) o) (introduced_count ds a) (λ p. inherited ds c (a, p))) (sym (there c ne)) (block_other c ne a)
+    ]
+
+    pub IsLaid-filled : IsLaid ds more cells
+    IsLaid-filled = record { order = order_filled cs ds n row laid.order filled below; inside = inside_all; blocks = block_all }
+
+-- the table with the row
+pub IsTable-fill : {C : Type 0} (cs : List (Option (Added C))) (lines : List (Option (List (Option ℕ)))) (cells new : List C) (n : ℕ) (row : Added C) (starts : List (Option ℕ)) → IsTable cs lines cells → IsDeclared cs n → HaveRowsBelow n cs row.parents
+    → AreInherited cs row.parents row.replaced → Extends cells new → IsLine cs n row starts new → IsTable (slice_set cs n (Some row)) (slice_set lines n (Some starts)) new
+IsTable-fill cs lines cells new n row starts table declared below known more next =
+    let filled = Filled-set cs n row declared in
+    let in_classes = slice_get_within cs n None declared in
+    let in_lines : n < length lines = omega (arith, table.long, in_classes) in
+    let here = ap option_flatten (slice_get-set_same lines n (Some starts) in_lines) in
+    let laid = IsLaid-grown cs lines cells new more table.laid in
+    record {
+      laid = IsLaid-filled cs (slice_set cs n (Some row)) n row lines starts new laid below known next filled (slice_set lines n (Some starts)) here (λ c ne. ap option_flatten (slice_get-set_other lines n c (Some starts) ne));
+      long = length-set lines n (Some starts) ∙ table.long ∙ sym (length-set cs n (Some row));
+      none = λ c e. elim (cases_eq c n) [
+        | inl is ↦ absurd (none_is_not_some (row_at (slice_set cs n (Some row)) n) (ap (row_at (slice_set cs n (Some row))) (sym is) ∙ e) (ap (λ o. is_some o) filled.is))
+        | inr ne ↦ ap option_flatten (slice_get-set_other lines n c (Some starts) ne) ∙ table.none c (sym (filled.others c ne) ∙ e)
+      ];
+    }

@@ -1,8 +1,11 @@
 -- Options, and the elements of a list as options.
-use Rattle.std.proofs.Common.{◌≡◌, ℕ, zero, suc, ◌+◌, ◌<◌, ◌≤◌, ◌⊎◌, inl, inr, false, is_some, List, [], ◌∷◌, ◌++◌, length, take, Option, Some, None, IsSome, slice_get, refl, sym, ap, ◌∙◌, arith, true≢false, length-append}
-use Rattle.std.specs.Option.{option_or}
-use Rattle.std.proofs.lemmas.Option.{slice_get_within}
+use Rattle.std.proofs.Common.{◌≡◌, ℕ, zero, suc, ◌+◌, ◌<◌, ◌≤◌, ◌⊎◌, inl, inr, false, is_some, List, [], ◌∷◌, ◌++◌, length, take, Option, Some, None, IsSome, slice_get, refl, sym, ap, ◌∙◌, arith, true≢false, length-append, ◌-◌, ◌≢◌}
+use Rattle.std.specs.Prelude.{slice_set}
+use Rattle.std.specs.Option.{option_or, option_flatten}
+use Rattle.std.proofs.lemmas.Option.{slice_get_within, slice_get_past}
 use Rattle.std.proofs.lemmas.Bool.{cases_lt}
+use Rattle.std.proofs.lemmas.List.{length-take-le}
+use Rattle.std.proofs.Math.Seq.{take-append_seam}
 use Rattle.som_tables.specs.Layout.{Extends}
 
 pub none_is_not_some : {A : Type 0} (o : Option A) → o ≡ None → IsSome o → ⊥
@@ -85,3 +88,44 @@ length-Extends (x ∷ xs) ys e =
     let last : length xs < length (x ∷ xs) = omega arith in
     let z = value_of_some (slice_get (x ∷ xs) (length xs)) (slice_get_some (x ∷ xs) (length xs) last) in
     let within = slice_get_within ys (length xs) z.0 (e (length xs) z.0 z.1) in omega arith
+
+pub slice_get-set_same : {A : Type 0} (xs : List A) (i : ℕ) (y : A) → i < length xs → slice_get (slice_set xs i y) i ≡ Some y
+slice_get-set_same [] i y h = absurd (omega arith)
+slice_get-set_same (x ∷ xs) zero y h = refl
+slice_get-set_same (x ∷ xs) (suc i) y h = slice_get-set_same xs i y (omega arith)
+
+pub slice_get-set_other : {A : Type 0} (xs : List A) (i j : ℕ) (y : A) → j ≢ i → slice_get (slice_set xs i y) j ≡ slice_get xs j
+slice_get-set_other [] i j y ne = refl
+slice_get-set_other (x ∷ xs) zero zero y ne = absurd (ne refl)
+slice_get-set_other (x ∷ xs) zero (suc j) y ne = refl
+slice_get-set_other (x ∷ xs) (suc i) zero y ne = refl
+slice_get-set_other (x ∷ xs) (suc i) (suc j) y ne = slice_get-set_other xs i j y (λ e. ne (ap suc e))
+
+-- an empty last place changes nothing that is found
+pub found-declare : {X : Type 0} (xs : List (Option X)) (c : ℕ) → option_flatten (slice_get (xs ++ None ∷ []) c) ≡ option_flatten (slice_get xs c)
+found-declare [] zero = refl
+found-declare [] (suc c) = refl
+found-declare (x ∷ xs) zero = refl
+found-declare (x ∷ xs) (suc c) = found-declare xs c
+
+found-take : {X : Type 0} (xs : List (Option X)) (n c : ℕ) → length xs ≡ suc n → option_flatten (slice_get xs n) ≡ None → option_flatten (slice_get (take n xs) c) ≡ option_flatten (slice_get xs c)
+found-take [] n c long none = absurd (omega arith)
+found-take (x ∷ xs) zero zero long none = sym none
+found-take (x ∷ xs) zero (suc c) long none = sym (ap option_flatten (slice_get_past xs c (omega arith)))
+found-take (x ∷ xs) (suc n) zero long none = refl
+found-take (x ∷ xs) (suc n) (suc c) long none = found-take xs n c (omega arith) none
+
+-- nor does it where it is taken away
+pub found-undeclare : {X : Type 0} (xs : List (Option X)) → option_flatten (slice_get xs (length xs - 1)) ≡ None → (c : ℕ) → option_flatten (slice_get (take (length xs - 1) xs) c) ≡ option_flatten (slice_get xs c)
+found-undeclare [] none c = refl
+found-undeclare (x ∷ xs) none c = found-take (x ∷ xs) (length (x ∷ xs) - 1) c (omega arith) none
+
+pub set-push : {A : Type 0} (xs : List A) (y z : A) → slice_set (xs ++ y ∷ []) (length xs) z ≡ xs ++ z ∷ []
+set-push [] y z = refl
+set-push (x ∷ xs) y z = ap (λ ys. x ∷ ys) (set-push xs y z)
+
+pub take-push : {A : Type 0} (xs : List A) (y : A) → take (length (xs ++ y ∷ []) - 1) (xs ++ y ∷ []) ≡ xs
+take-push xs y = let e : length (xs ++ y ∷ []) - 1 ≡ length xs = omega (arith, length-append xs (y ∷ [])) in ap (λ n. take n (xs ++ y ∷ [])) e ∙ take-append_seam xs (y ∷ [])
+
+pub length-take_last : {A : Type 0} (xs : List A) → length (take (length xs - 1) xs) ≡ length xs - 1
+length-take_last xs = length-take-le (length xs - 1) xs (omega arith)

@@ -1,17 +1,29 @@
--- The rows of a table: which tokens each class has, and its cell for each.
-use Rattle.std.specs.Prelude.{◌≡◌, ◌↔◌, ◌⊎◌, ℕ, zero, suc, ◌<◌, ◌==◌, ◌&&◌, Bool, if◌then◌else◌, List, [], ◌∷◌, length, Option, Some, None, IsSome, IsNone, option_and_then, slice_get, ⊤}
-use Rattle.std.specs.Option.{option_or, option_map_or}
+-- The rows of a table: which classes have one, which tokens it has, and its cell for each.
+use Rattle.std.specs.Prelude.{◌≡◌, ◌≢◌, ◌↔◌, ◌⊎◌, ℕ, zero, suc, ◌<◌, ◌==◌, ◌&&◌, Bool, if◌then◌else◌, List, [], ◌∷◌, length, Option, Some, None, IsSome, IsNone, option_and_then, slice_get, ⊤}
+use Rattle.std.specs.Option.{option_or, option_map_or, option_flatten}
 use Rattle.std.specs.List.{AllByRecursion}
 
--- a class as it was added to a table
+-- what the row of a class is made of
 pub record Added (C : Type 0) : Type 0 where
   pub parents : List ℕ
   pub introduced : List C
   pub replaced : List ((ℕ × ℕ) × C)
 
--- the class that is added with these
+-- the row that is made of these
 abbrev pub class_with : {C : Type 0} → List ℕ → List C → List ((ℕ × ℕ) × C) → Added C
 class_with parents introduced replaced = record { parents = parents; introduced = introduced; replaced = replaced }
+
+-- what the row of class c is made of, and none where the class has no row
+abbrev pub row_at : {C : Type 0} → List (Option (Added C)) → ℕ → Option (Added C)
+row_at cs c = option_flatten (slice_get cs c)
+
+-- the class has a row
+abbrev pub HasRow : {C : Type 0} → List (Option (Added C)) → ℕ → Type 0
+HasRow cs c = IsSome (row_at cs c)
+
+-- the class is numbered and has no row
+abbrev pub IsDeclared : {C : Type 0} → List (Option (Added C)) → ℕ → Type 0
+IsDeclared cs c = slice_get cs c ≡ Some None
 
 -- the first answer along a list
 abbrev pub first_some : {A B : Type 0} → (A → Option B) → List A → Option B
@@ -36,28 +48,32 @@ abbrev pub row_cell : {C : Type 0} → (ℕ → Option C) → ℕ → ℕ × ℕ
 row_cell above c t a = option_or (replaced_at a.replaced t) (option_or (own_at c a.introduced t) (first_some above a.parents))
 
 -- the same along n levels of parents
-abbrev pub inherited_within : {C : Type 0} → List (Added C) → ℕ × ℕ → ℕ → ℕ → Option C
+abbrev pub inherited_within : {C : Type 0} → List (Option (Added C)) → ℕ × ℕ → ℕ → ℕ → Option C
 inherited_within cs t zero c = None
-inherited_within cs t (suc n) c = option_and_then (row_cell (inherited_within cs t n) c t) (slice_get cs c)
+inherited_within cs t (suc n) c = option_and_then (row_cell (inherited_within cs t n) c t) (row_at cs c)
 
--- the cell of t in the row of class c, and none where the row does not have t
-unfoldable pub inherited : {C : Type 0} → List (Added C) → ℕ → ℕ × ℕ → Option C
+-- the cell of t in the row of class c, and none where the class has no row or its row does not have t
+unfoldable pub inherited : {C : Type 0} → List (Option (Added C)) → ℕ → ℕ × ℕ → Option C
 inherited cs c t = inherited_within cs t (suc c) c
 
--- the row of class c has the token t
-abbrev pub HasToken : {C : Type 0} → List (Added C) → ℕ → ℕ × ℕ → Type 0
+-- the class has a row, and this has the token t
+abbrev pub HasToken : {C : Type 0} → List (Option (Added C)) → ℕ → ℕ × ℕ → Type 0
 HasToken cs c t = IsSome (inherited cs c t)
 
 -- the row of one of these classes has the token
-abbrev pub SomeHasToken : {C : Type 0} → List (Added C) → List ℕ → ℕ × ℕ → Type 0
+abbrev pub SomeHasToken : {C : Type 0} → List (Option (Added C)) → List ℕ → ℕ × ℕ → Type 0
 SomeHasToken cs parents t = IsSome (first_some (λ p. inherited cs p t) parents)
 
--- these are among the first n classes
-abbrev pub AreBelow : ℕ → List ℕ → Type 0
-AreBelow n classes = AllByRecursion (λ c. c < n) classes
+-- each of these classes has a row
+abbrev pub HaveRows : {C : Type 0} → List (Option (Added C)) → List ℕ → Type 0
+HaveRows cs classes = AllByRecursion (λ c. HasRow cs c) classes
+
+-- each of these classes has a lower number than class n, and a row
+abbrev pub HaveRowsBelow : {C : Type 0} → ℕ → List (Option (Added C)) → List ℕ → Type 0
+HaveRowsBelow n cs classes = AllByRecursion (λ c. (c < n) × HasRow cs c) classes
 
 -- the replaced tokens are in some parent's row
-abbrev pub AreInherited : {C : Type 0} → List (Added C) → List ℕ → List ((ℕ × ℕ) × C) → Type 0
+abbrev pub AreInherited : {C : Type 0} → List (Option (Added C)) → List ℕ → List ((ℕ × ℕ) × C) → Type 0
 AreInherited cs parents replaced = AllByRecursion (λ r. SomeHasToken cs parents r.0) replaced
 
 -- no token is replaced twice
@@ -65,22 +81,26 @@ abbrev pub AreDistinct : {C : Type 0} → List ((ℕ × ℕ) × C) → Type 0
 AreDistinct [] = ⊤
 AreDistinct (r ∷ rs) = IsNone (replaced_at rs r.0) × AreDistinct rs
 
--- how many cells the class introduced
-abbrev pub introduced_count : {C : Type 0} → List (Added C) → ℕ → ℕ
-introduced_count cs c = option_map_or (λ a. length a.introduced) (slice_get cs c) 0
+-- how many cells the class introduced: none, where it has no row
+abbrev pub introduced_count : {C : Type 0} → List (Option (Added C)) → ℕ → ℕ
+introduced_count cs c = option_map_or (λ a. length a.introduced) (row_at cs c) 0
 
--- each class's parents were added before it
-abbrev pub ParentsComeFirst : {C : Type 0} → List (Added C) → Type 0
-ParentsComeFirst {C} cs = (c : ℕ) (a : Added C) → slice_get cs c ≡ Some a → AreBelow c a.parents
+-- the parents of each row have lower numbers, and rows
+abbrev pub ParentsComeFirst : {C : Type 0} → List (Option (Added C)) → Type 0
+ParentsComeFirst {C} cs = (c : ℕ) (a : Added C) → row_at cs c ≡ Some a → HaveRowsBelow c cs a.parents
 
--- each row of the old classes is as before
-abbrev pub KeepsRows : {C : Type 0} → List (Added C) → List (Added C) → Type 0
+-- the row of each class is as before
+abbrev pub KeepsRows : {C : Type 0} → List (Option (Added C)) → List (Option (Added C)) → Type 0
 KeepsRows old new = (c : ℕ) → c < length old → (t : ℕ × ℕ) → inherited new c t ≡ inherited old c t
 
--- the class after the old ones has the row that comes of the old rows and of what it was added with
-abbrev pub AddsRow : {C : Type 0} → List (Added C) → List (Added C) → Added C → Type 0
-AddsRow old new a = (t : ℕ × ℕ) → inherited new (length old) t ≡ row_cell (λ p. inherited old p t) (length old) t a
+-- the row of each class but c is as before
+abbrev pub KeepsOtherRows : {C : Type 0} → List (Option (Added C)) → List (Option (Added C)) → ℕ → Type 0
+KeepsOtherRows old new c = (d : ℕ) → d ≢ c → (t : ℕ × ℕ) → inherited new d t ≡ inherited old d t
+
+-- class c has the row that comes of the old rows and of what its own is made of
+abbrev pub GivesRow : {C : Type 0} → List (Option (Added C)) → List (Option (Added C)) → ℕ → Added C → Type 0
+GivesRow old new c a = (t : ℕ × ℕ) → inherited new c t ≡ row_cell (λ p. inherited old p t) c t a
 
 -- that row has the tokens of its parents' rows and its own, and no other
-abbrev pub AddsTokens : {C : Type 0} → List (Added C) → List (Added C) → Added C → Type 0
-AddsTokens old new a = (t : ℕ × ℕ) → HasToken new (length old) t ↔ (SomeHasToken old a.parents t ⊎ IsSome (own_at (length old) a.introduced t))
+abbrev pub GivesTokens : {C : Type 0} → List (Option (Added C)) → List (Option (Added C)) → ℕ → Added C → Type 0
+GivesTokens old new c a = (t : ℕ × ℕ) → HasToken new c t ↔ (SomeHasToken old a.parents t ⊎ IsSome (own_at c a.introduced t))

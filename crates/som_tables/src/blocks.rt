@@ -1,49 +1,20 @@
-ghost use Rattle.std.specs.Prelude.{◌≡◌, ◌+◌, ◌<◌, ◌≤◌, ◌++◌, ◌∷◌, [], length, IfOk, OnOk, OnErr, Some, None, ℕ, slice_get};
-ghost use Rattle.std.specs.Option.{option_or, option_flatten};
-ghost use Rattle.som_tables.specs.Rows.{first_some, replaced_at, AreBelow, AreInherited, introduced_count};
-ghost use Rattle.som_tables.specs.Layout.{triangle, start_of, Extends, IsBlock, IsLaid, IsTable, IsNextRow, HasBlocks, next_cell};
+ghost use Rattle.std.specs.Prelude.{◌≡◌, ◌+◌, ◌<◌, ◌++◌, [], length, IfOk, OnOk, OnErr, ℕ, slice_get};
+ghost use Rattle.std.specs.Option.{option_or};
+ghost use Rattle.som_tables.specs.Rows.{first_some, replaced_at, AreInherited, introduced_count};
+ghost use Rattle.som_tables.specs.Layout.{start_of, Extends, IsBlock, IsLaid, IsLine, HasBlocks, next_cell};
 
+use crate::line::{Line, start_in};
 use crate::row::{Row, introduced_by, replaced_cell, replaces_any};
 use crate::start::Start;
 use crate::{ClassNo, Kind, Token};
 use std::alloc::{AllocError, Global};
 
-/// The rows in memory. The row of a class has a start for each class up to it, in the order of the numbers, and the rows stand one after the other.
-/// Where a class replaces no cell of a block, its row shares the block of its leftmost parent that has one.
-#[derive(Drop)]
-pub(crate) struct Blocks<K: Kind> {
-    pub(crate) starts: Vec<Start>,
-    pub(crate) cells: Vec<K::Cell>,
-}
-
-/// Where the start for class `of` in the row of `class` stands.
-pub(crate) fn start_place(class: u32, of: u32) -> usize
-    ensures { result ≡ triangle class + of }
-{
-    let row = class as usize;
-    row * (row + 1) / 2 + of as usize
-}
-
-/// Where the block for class `of` in the row of `class` begins.
-fn start_in(starts: &[Start], class: u32, of: u32) -> Start
-    ensures { result ≡ start_of starts.now class of }
-{
-    if of <= class {
-        match starts.get(start_place(class, of)) {
-            Some(start) => *start,
-            None => Start::none(),
-        }
-    } else {
-        Start::none()
-    }
-}
-
 /// The first block for class `of` in the rows of these parents.
-fn first_start(starts: &[Start], parents: &[ClassNo], of: u32) -> Start
-    ensures { result ≡ first_some (λ p. start_of starts.now p of) parents.now }
+fn first_start(lines: &[Option<Line>], parents: &[ClassNo], of: u32) -> Start
+    ensures { result ≡ first_some (λ p. start_of lines.now p of) parents.now }
 {
     for parent in parents {
-        let start = start_in(starts, parent.number(), of);
+        let start = start_in(lines, parent.number(), of);
         if start.is_some() {
             return start;
         }
@@ -74,29 +45,26 @@ fn copy_block<K: Kind>(
     Ok(())
 }
 
-/// The block for a class in the row that is added next: shared, or copied, or none.
+/// The block for a class in a row that is made of these: shared, or copied, or none.
 fn next_block<K: Kind>(
-    rows: &[Row<K>],
-    starts: &[Start],
+    rows: &[Option<Row<K>>],
+    lines: &[Option<Line>],
     cells: &mut Vec<K::Cell>,
-    parents: &[ClassNo],
-    replaced: &[(Token<K>, K::Cell)],
+    row: &Row<K>,
     class: u32,
 ) -> Result<Start, AllocError>
-    requires laid { IsLaid rows.now starts.now cells.old.items }
-    requires class { class < length rows.now }
-    requires parents { AreBelow (length rows.now) parents.now }
-    requires inherited { AreInherited rows.now parents.now replaced.now }
+    requires laid { IsLaid rows.now lines.now cells.old.items }
+    requires inherited { AreInherited rows.now row.now.parents row.now.replaced }
     ensures grown { Extends cells.old.items cells.new.items }
     ensures block { IfOk result (λ start. IsBlock cells.new.items start (introduced_count rows.now class)
-        (next_cell rows.now parents.now replaced.now class)) }
+        (next_cell rows.now row.now.parents row.now.replaced class)) }
 {
-    let shared = first_start(starts, parents, class);
-    if shared.is_some() && replaces_any(replaced, class) {
+    let shared = first_start(lines, row.parents(), class);
+    if shared.is_some() && replaces_any(row.replaced(), class) {
         let start = Start::at(cells.len())?;
         copy_block(
             cells,
-            replaced,
+            row.replaced(),
             class,
             shared.place(),
             introduced_by(rows, class),
@@ -107,56 +75,60 @@ fn next_block<K: Kind>(
     }
 }
 
-/// Lays the blocks for all the classes before in the row that is added next.
-fn lay_next_blocks<K: Kind>(
-    rows: &[Row<K>],
-    blocks: &mut Blocks<K>,
-    parents: &[ClassNo],
-    replaced: &[(Token<K>, K::Cell)],
+/// Lays the blocks of a row for all the classes before its own.
+fn lay_blocks<K: Kind>(
+    rows: &[Option<Row<K>>],
+    lines: &[Option<Line>],
+    cells: &mut Vec<K::Cell>,
+    row: &Row<K>,
+    class: u32,
+    line: &mut Line,
 ) -> Result<(), AllocError>
-    requires few { length rows.now < 4294967295 }
-    requires laid { IsLaid rows.now blocks.old.starts.items blocks.old.cells.items }
-    requires exact { length blocks.old.starts.items ≡ triangle (length rows.now) }
-    requires parents { AreBelow (length rows.now) parents.now }
-    requires inherited { AreInherited rows.now parents.now replaced.now }
-    ensures starts { Extends blocks.old.starts.items blocks.new.starts.items }
-    ensures cells { Extends blocks.old.cells.items blocks.new.cells.items }
-    ensures exact { OnOk result (length blocks.new.starts.items ≡ triangle (length rows.now) + length rows.now) }
-    ensures blocks { OnOk result (HasBlocks rows.now parents.now replaced.now
-        blocks.new.starts.items blocks.new.cells.items (length rows.now)) }
+    requires laid { IsLaid rows.now lines.now cells.old.items }
+    requires inherited { AreInherited rows.now row.now.parents row.now.replaced }
+    requires empty { line.old ≡ [] }
+    ensures grown { Extends cells.old.items cells.new.items }
+    ensures long { OnOk result (length line.new ≡ class) }
+    ensures blocks { OnOk result (HasBlocks rows.now row.now.parents row.now.replaced line.new cells.new.items class) }
 {
-    for class in 0..rows.len() as u32 {
-        let start = next_block(
-            rows,
-            blocks.starts.as_slice(),
-            &mut blocks.cells,
-            parents,
-            replaced,
-            class,
-        )?;
-        blocks.starts.push(start)?;
+    for of in 0..class {
+        let start = next_block(rows, lines, cells, row, of)?;
+        line.push(start)?;
     }
     Ok(())
 }
 
-/// Lays the row of the class that is added next, and on an error so much of it as there was memory for.
-fn extend_row<K: Kind>(
-    rows: &[Row<K>],
-    blocks: &mut Blocks<K>,
-    row: &Row<K>,
-) -> Result<(), AllocError>
-    requires few { length rows.now < 4294967295 }
-    requires table { IsTable rows.now blocks.old.starts.items blocks.old.cells.items }
-    requires parents { AreBelow (length rows.now) row.now.parents }
-    requires inherited { AreInherited rows.now row.now.parents row.now.replaced }
-    ensures starts { Extends blocks.old.starts.items blocks.new.starts.items }
-    ensures cells { Extends blocks.old.cells.items blocks.new.cells.items }
-    ensures next { OnOk result (IsNextRow rows.now row.now blocks.new.starts.items blocks.new.cells.items) }
+/// Where the block of a class's own cells begins, at the end of all cells: nowhere, where there are none.
+fn own_start<C: Copy>(cells: &Vec<C>, own: &[C]) -> Result<Start, AllocError>
+    ensures { IfOk result (λ start. IsBlock (cells.now.items ++ own.now) start (length own.now) (λ p. slice_get own.now p)) }
 {
-    lay_next_blocks(rows, blocks, row.parents(), row.replaced())?;
-    let own = Start::at(blocks.cells.len())?;
-    blocks.starts.push(own)?;
-    extend(&mut blocks.cells, row.introduced())
+    if own.is_empty() {
+        Ok(Start::none())
+    } else {
+        Start::at(cells.len())
+    }
+}
+
+/// Lays the row of a class, and on an error so much of it as there was memory for.
+fn extend_cells<K: Kind>(
+    alloc: Global,
+    rows: &[Option<Row<K>>],
+    lines: &[Option<Line>],
+    cells: &mut Vec<K::Cell>,
+    row: &Row<K>,
+    class: u32,
+) -> Result<Line, AllocError>
+    requires laid { IsLaid rows.now lines.now cells.old.items }
+    requires inherited { AreInherited rows.now row.now.parents row.now.replaced }
+    ensures grown { Extends cells.old.items cells.new.items }
+    ensures line { IfOk result (λ line. IsLine rows.now class row.now line cells.new.items) }
+{
+    let mut line = Line::with_capacity(alloc, class as usize + 1)?;
+    lay_blocks(rows, lines, cells, row, class, &mut line)?;
+    let own = own_start(cells, row.introduced())?;
+    line.push(own)?;
+    extend(cells, row.introduced())?;
+    Ok(line)
 }
 
 /// Puts cells at the end.
@@ -167,36 +139,27 @@ fn extend<C: Copy>(cells: &mut Vec<C>, more: &[C]) -> Result<(), AllocError>
     cells.extend_from_slice(more)
 }
 
-impl<K: Kind> Blocks<K> {
-    pub(crate) fn new(alloc: Global) -> Blocks<K>
-        ensures starts { result.starts.items ≡ [] }
-        ensures cells { result.cells.items ≡ [] }
-    {
-        Blocks {
-            starts: Vec::new(alloc),
-            cells: Vec::new(alloc),
-        }
-    }
-
-    /// Lays the row of the class that is added next. Where there is no memory the blocks are as they were.
-    pub(crate) fn lay_row(&mut self, rows: &[Row<K>], row: &Row<K>) -> Result<(), AllocError>
-        requires few { length rows.now < 4294967295 }
-        requires table { IsTable rows.now self.old.starts.items self.old.cells.items }
-        requires parents { AreBelow (length rows.now) row.now.parents }
-        requires inherited { AreInherited rows.now row.now.parents row.now.replaced }
-        ensures ok { OnOk result (IsTable (rows.now ++ row.now ∷ []) self.new.starts.items self.new.cells.items) }
-        ensures starts_err { OnErr result (self.new.starts.items ≡ self.old.starts.items) }
-        ensures cells_err { OnErr result (self.new.cells.items ≡ self.old.cells.items) }
-    {
-        let starts = self.starts.len();
-        let cells = self.cells.len();
-        match extend_row(rows, self, row) {
-            Ok(()) => Ok(()),
-            Err(error) => {
-                self.starts.truncate(starts);
-                self.cells.truncate(cells);
-                Err(error)
-            }
+/// Lays the row of a class. Where there is no memory the cells are as they were.
+pub(crate) fn lay_row<K: Kind>(
+    alloc: Global,
+    rows: &[Option<Row<K>>],
+    lines: &[Option<Line>],
+    cells: &mut Vec<K::Cell>,
+    row: &Row<K>,
+    class: u32,
+) -> Result<Line, AllocError>
+    requires laid { IsLaid rows.now lines.now cells.old.items }
+    requires inherited { AreInherited rows.now row.now.parents row.now.replaced }
+    ensures grown { Extends cells.old.items cells.new.items }
+    ensures line { IfOk result (λ line. IsLine rows.now class row.now line cells.new.items) }
+    ensures err { OnErr result (cells.new.items ≡ cells.old.items) }
+{
+    let before = cells.len();
+    match extend_cells(alloc, rows, lines, cells, row, class) {
+        Ok(line) => Ok(line),
+        Err(error) => {
+            cells.truncate(before);
+            Err(error)
         }
     }
 }

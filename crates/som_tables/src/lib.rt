@@ -4,6 +4,7 @@
 mod blocks;
 mod class_no;
 mod kind;
+mod line;
 mod row;
 mod start;
 mod steps;

@@ -5,12 +5,18 @@ use crate::{ClassNo, Kind, Token};
 use std::alloc::{AllocError, Global};
 use std::marker::Model;
 
-/// What a class was added with. The rows of a table are what its classes were added with, and the blocks only lay them out.
+/// What the row of a class is made of.
 #[derive(Drop)]
-pub(crate) struct Row<K: Kind> {
+struct Parts<K: Kind> {
     parents: Vec<ClassNo>,
     introduced: Vec<K::Cell>,
     replaced: Vec<(Token<K>, K::Cell)>,
+}
+
+/// What the row of a class is made of, in the size of a pointer. The blocks only lay it out.
+#[derive(Drop)]
+pub(crate) struct Row<K: Kind> {
+    parts: Box<Parts<K>>,
 }
 
 impl<K: Kind> Model for Row<K> {
@@ -18,7 +24,7 @@ impl<K: Kind> Model for Row<K> {
 
     ghost Value = { Added K.Cell };
 
-    ghost view = { λ r. record { parents = r.parents.items; introduced = r.introduced.items; replaced = r.replaced.items } };
+    ghost view = { λ r. record { parents = r.parts.value.parents.items; introduced = r.parts.value.introduced.items; replaced = r.parts.value.replaced.items } };
 }
 
 impl<K: Kind> Row<K> {
@@ -30,39 +36,42 @@ impl<K: Kind> Row<K> {
     ) -> Result<Row<K>, AllocError>
         ensures { IfOk result (λ row. row ≡ class_with parents.now introduced.now replaced.now) }
     {
-        Ok(Row {
+        let parts = Parts {
             parents: Vec::from_slice(alloc, parents)?,
             introduced: Vec::from_slice(alloc, introduced)?,
             replaced: Vec::from_slice(alloc, replaced)?,
+        };
+        Ok(Row {
+            parts: Box::new(alloc, parts)?,
         })
     }
 
     pub(crate) fn parents(&self) -> &[ClassNo]
         ensures { result.now ≡ self.now.parents }
     {
-        self.parents.as_slice()
+        self.parts.parents.as_slice()
     }
 
     pub(crate) fn introduced(&self) -> &[K::Cell]
         ensures { result.now ≡ self.now.introduced }
     {
-        self.introduced.as_slice()
+        self.parts.introduced.as_slice()
     }
 
     pub(crate) fn replaced(&self) -> &[(Token<K>, K::Cell)]
         ensures { result.now ≡ self.now.replaced }
     {
-        self.replaced.as_slice()
+        self.parts.replaced.as_slice()
     }
 }
 
 /// How many cells a class introduced.
-pub(crate) fn introduced_by<K: Kind>(rows: &[Row<K>], class: u32) -> usize
+pub(crate) fn introduced_by<K: Kind>(rows: &[Option<Row<K>>], class: u32) -> usize
     ensures { result ≡ introduced_count rows.now class }
 {
     match rows.get(class as usize) {
-        Some(row) => row.introduced().len(),
-        None => 0,
+        Some(Some(row)) => row.introduced().len(),
+        _ => 0,
     }
 }
 

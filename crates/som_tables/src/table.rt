@@ -1,30 +1,32 @@
-ghost use Rattle.std.specs.Prelude.{◌≡◌, ◌<◌, ◌≤◌, ◌+◌, ◌++◌, ◌∷◌, [], length, IfOk, OnOk, OnErr, Some};
-ghost use Rattle.som_tables.specs.Rows.{AddsRow, AddsTokens, AreBelow, AreDistinct, AreInherited, HasToken, KeepsRows, class_with, inherited, introduced_count};
+ghost use Rattle.std.specs.Prelude.{◌≡◌, ◌<◌, ◌≤◌, ◌+◌, ◌-◌, ◌++◌, ◌∷◌, [], length, take, slice_set, is_some, IfOk, OnOk, OnErr, Some, None, IsNone};
+ghost use Rattle.som_tables.specs.Rows.{GivesRow, GivesTokens, AreDistinct, AreInherited, HasToken, HaveRows, HaveRowsBelow, IsDeclared, KeepsOtherRows, KeepsRows, class_with, inherited, introduced_count, row_at};
 
-use crate::blocks::{Blocks, start_place};
+use crate::blocks::lay_row;
+use crate::line::{Line, starts_of};
 use crate::row::Row;
 use crate::{ClassNo, Kind, Steps, Token};
 use std::alloc::{AllocError, Global};
 use std::marker::Model;
 use std::sync::ledger::Ledger;
 
-/// The rows of classes, one for each class that was added. Contracts see what the classes were added with, in order.
+/// Classes by their numbers, each with a row or none so far. Contracts see for each number what its row is made of, or nothing.
 #[derive(Drop)]
 pub struct Table<K: Kind> {
-    rows: Vec<Row<K>>,
-    blocks: Blocks<K>,
+    rows: Vec<Option<Row<K>>>,
+    lines: Vec<Option<Line>>,
+    cells: Vec<K::Cell>,
 }
 
 impl<K: Kind> Model for Table<K> {
-    ghost use Rattle.std.specs.Prelude.{List};
+    ghost use Rattle.std.specs.Prelude.{List, Option};
     ghost use Rattle.som_tables.specs.Rows.{Added};
     ghost use Rattle.som_tables.specs.Layout.{IsTable};
 
-    ghost Value = { List (Added K.Cell) };
+    ghost Value = { List (Option (Added K.Cell)) };
 
     ghost view = { λ t. t.rows.items };
 
-    ghost invariant = { λ t. IsTable t.rows.items t.blocks.starts.items t.blocks.cells.items };
+    ghost invariant = { λ t. IsTable t.rows.items t.lines.items t.cells.items };
 }
 
 impl<K: Kind> Table<K> {
@@ -34,13 +36,74 @@ impl<K: Kind> Table<K> {
     {
         Table {
             rows: Vec::new(alloc),
-            blocks: Blocks::new(alloc),
+            lines: Vec::new(alloc),
+            cells: Vec::new(alloc),
         }
     }
 
-    /// Adds a class below its parents. Where parents have different cells for a token, the leftmost of them counts.
+    /// Numbers a class without a row, for a few bytes.
+    pub fn declare(&mut self) -> Result<ClassNo, AllocError>
+        requires few { length self.old < 4294967295 }
+        ensures class { IfOk result (λ class. class ≡ length self.old) }
+        ensures declared { OnOk result (self.new ≡ self.old ++ None ∷ []) }
+        ensures rows { OnOk result (KeepsRows self.old self.new) }
+        ensures err { OnErr result (self.new ≡ self.old) }
+    {
+        let class = ClassNo::new(self.rows.len() as u32);
+        self.lines.reserve(1)?;
+        self.rows.push(None)?;
+        self.lines.push(None)?;
+        Ok(class)
+    }
+
+    /// Gives a class its row, below its parents, all of which have theirs. Where parents have different cells for a token, the leftmost of them counts.
     /// The row takes four bytes for each class up to it, the introduced cells, and a copy of each inherited block of cells in which one is replaced.
     /// A table of more than 4,294,967,294 cells counts as want of memory.
+    pub fn fill(
+        &mut self,
+        alloc: Global,
+        class: ClassNo,
+        parents: &[ClassNo],
+        introduced: &[K::Cell],
+        replaced: &[(Token<K>, K::Cell)],
+    ) -> Result<(), AllocError>
+        requires class { IsDeclared self.old class }
+        requires places { length introduced.now ≤ 65535 }
+        requires parents { HaveRowsBelow class self.old parents.now }
+        requires inherited { AreInherited self.old parents.now replaced.now }
+        requires distinct { AreDistinct replaced.now }
+
+        ensures filled { OnOk result (self.new ≡ slice_set self.old class (Some (class_with parents.now introduced.now replaced.now))) }
+        ensures others { OnOk result (KeepsOtherRows self.old self.new class) }
+        ensures row { OnOk result (GivesRow self.old self.new class (class_with parents.now introduced.now replaced.now)) }
+        ensures tokens { OnOk result (GivesTokens self.old self.new class (class_with parents.now introduced.now replaced.now)) }
+        ensures err { OnErr result (self.new ≡ self.old) }
+    {
+        let row = Row::new(alloc, parents, introduced, replaced)?;
+        let line = lay_row(
+            alloc,
+            self.rows.as_slice(),
+            self.lines.as_slice(),
+            &mut self.cells,
+            &row,
+            class.number(),
+        )?;
+        let place = class.number() as usize;
+        self.rows[place] = Some(row);
+        self.lines[place] = Some(line);
+        Ok(())
+    }
+
+    /// Takes back the number of the class that was declared last.
+    fn undeclare(&mut self)
+        requires { IsNone (row_at self.old (length self.old - 1)) }
+        ensures { self.new ≡ take (length self.old - 1) self.old }
+    {
+        self.rows.pop();
+        self.lines.pop();
+    }
+
+    /// Numbers a class and gives it its row, as `declare` and `fill` do, or leaves both.
     pub fn add_class(
         &mut self,
         alloc: Global,
@@ -50,26 +113,38 @@ impl<K: Kind> Table<K> {
     ) -> Result<ClassNo, AllocError>
         requires few { length self.old < 4294967295 }
         requires places { length introduced.now ≤ 65535 }
-        requires parents { AreBelow (length self.old) parents.now }
+        requires parents { HaveRows self.old parents.now }
         requires inherited { AreInherited self.old parents.now replaced.now }
         requires distinct { AreDistinct replaced.now }
 
         ensures class { IfOk result (λ class. class ≡ length self.old) }
-        ensures added { OnOk result (self.new ≡ self.old ++ class_with parents.now introduced.now replaced.now ∷ []) }
+        ensures added { OnOk result (self.new ≡ self.old ++ Some (class_with parents.now introduced.now replaced.now) ∷ []) }
         ensures earlier { OnOk result (KeepsRows self.old self.new) }
-        ensures row { OnOk result (AddsRow self.old self.new (class_with parents.now introduced.now replaced.now)) }
-        ensures tokens { OnOk result (AddsTokens self.old self.new (class_with parents.now introduced.now replaced.now)) }
+        ensures row { OnOk result (GivesRow self.old self.new (length self.old) (class_with parents.now introduced.now replaced.now)) }
+        ensures tokens { OnOk result (GivesTokens self.old self.new (length self.old) (class_with parents.now introduced.now replaced.now)) }
         ensures err { OnErr result (self.new ≡ self.old) }
     {
-        let class = ClassNo::new(self.rows.len() as u32);
-        let row = Row::new(alloc, parents, introduced, replaced)?;
-        self.rows.reserve(1)?;
-        self.blocks.lay_row(self.rows.as_slice(), &row)?;
-        self.rows.push(row)?;
-        Ok(class)
+        let class = self.declare()?;
+        match self.fill(alloc, class, parents, introduced, replaced) {
+            Ok(()) => Ok(class),
+            Err(error) => {
+                self.undeclare();
+                Err(error)
+            }
+        }
     }
 
-    /// The token of the cell that a class introduced at a place.
+    /// Whether a class has a row. A class that isn't numbered has none.
+    pub fn has_row(&self, class: ClassNo) -> bool
+        ensures { result ≡ is_some (row_at self.now class) }
+    {
+        match self.rows.get(class.number() as usize) {
+            Some(row) => row.is_some(),
+            None => false,
+        }
+    }
+
+    /// The token of the cell that a class introduced at a place. A class without a row introduced none.
     pub fn token(&self, class: ClassNo, place: u16) -> Token<K>
         requires { place < introduced_count self.now class }
         ensures { result ≡ (class, place) }
@@ -77,7 +152,7 @@ impl<K: Kind> Table<K> {
         Token::new(class, place)
     }
 
-    /// The cell of a token in the row of a class, by two reads, each of which is a step.
+    /// The cell of a token in the row of a class, by two reads of that row, each of which is a step.
     pub fn resolve<L: Ledger>(
         &self,
         class: ClassNo,
@@ -88,12 +163,10 @@ impl<K: Kind> Table<K> {
         ensures cell { Some result ≡ inherited self.now class token }
         ensures cost { steps.new ≡ steps.old + 2 }
     {
-        let start = steps.read(
-            self.blocks.starts.as_slice(),
-            start_place(class.number(), token.class().number()),
-        );
+        let starts = starts_of(self.lines.as_slice(), class.number());
+        let start = steps.read(starts, token.class().number() as usize);
         steps.read(
-            self.blocks.cells.as_slice(),
+            self.cells.as_slice(),
             start.place() + token.place() as usize,
         )
     }
@@ -103,7 +176,8 @@ impl<K: Kind> Table<K> {
         requires { HasToken self.now class token }
         ensures { Some result ≡ inherited self.now class token }
     {
-        let start = self.blocks.starts[start_place(class.number(), token.class().number())];
-        self.blocks.cells[start.place() + token.place() as usize]
+        let starts = starts_of(self.lines.as_slice(), class.number());
+        let start = starts[token.class().number() as usize];
+        self.cells[start.place() + token.place() as usize]
     }
 }

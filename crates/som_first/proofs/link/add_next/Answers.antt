@@ -46,7 +46,7 @@ pub add_class-requires-clause-parents : goal.add_class-requires-clause-parents
 add_class-requires-clause-parents c =
     let fs = c.args.classes.now in let d = c.index-classes-place.result in
     let p = parent_found fs (ok fs c.requires.conform) (texts c.args.names.now.keys) c.requires.names c.args.place d d (at fs c.args.place d c.requires.place c.index-classes-place.is) c.parent_of-parent.result c.parent_of-parent.ensures in
-    (omega (arith, p.1, c.requires.linked.long), tt)
+    (c.requires.linked.filled c.parent_of-parent.result (omega (arith, p.1, c.requires.linked.long)), tt)
 
 pub add_class-requires-clause-inherited : goal.add_class-requires-clause-inherited
 add_class-requires-clause-inherited c =
