@@ -7,12 +7,15 @@ mod bodies;
 mod fields;
 #[cfg(test)]
 mod hierarchies;
+mod hosts;
 #[cfg(test)]
 mod images;
 #[cfg(test)]
 mod interfaces;
 #[cfg(test)]
 mod lines;
+#[cfg(test)]
+mod objects;
 #[cfg(test)]
 mod orders;
 #[cfg(test)]
@@ -25,3 +28,5 @@ mod stores;
 mod tables;
 #[cfg(test)]
 mod texts;
+
+pub use hosts::answer_of;
