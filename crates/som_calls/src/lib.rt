@@ -11,12 +11,15 @@ mod class_rows;
 mod fields;
 #[cfg(test)]
 mod hierarchies;
+mod hosts;
 #[cfg(test)]
 mod images;
 #[cfg(test)]
 mod interfaces;
 #[cfg(test)]
 mod lines;
+#[cfg(test)]
+mod objects;
 #[cfg(test)]
 mod orders;
 #[cfg(test)]
@@ -31,3 +34,5 @@ mod stores;
 mod tables;
 #[cfg(test)]
 mod texts;
+
+pub use hosts::answer_of;

@@ -1,0 +1,4 @@
+mod Found
+pub mod Known
+mod Lists
+mod Changing

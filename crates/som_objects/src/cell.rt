@@ -1,0 +1,16 @@
+use crate::ObjRef;
+use som_model::Text;
+use som_tables::ClassNo;
+
+/// What a variable of an object holds: a number, a boolean, a text, nil, or a reference to an object, to the class object of a
+/// class, or to the class manager object.
+#[derive(Drop)]
+pub enum Cell {
+    Long(i32),
+    Boolean(bool),
+    Str(Text),
+    Nil,
+    Object(ObjRef),
+    Class(ClassNo),
+    Manager,
+}

@@ -1,0 +1,168 @@
+ghost use Rattle.som_objects.specs.Objects.{IsKnown, KeepsKnown, IsGone, HasClass, HasCell, InRange, Makes, Writes, Frees};
+ghost use Rattle.som_objects.specs.Slots.{live_slot, slot_at};
+ghost use Rattle.std.specs.Option.{option_copied, is_some};
+ghost use Rattle.std.specs.Prelude.{◌≡◌, ◌-◌, ◌<◌, ◌^◌, [], length, slice_get, slice_set, IfOk, OnOk, OnErr};
+
+use crate::slot::Slot;
+use crate::{Cell, Gone, ObjRef};
+use slab::Slab;
+use som_model::{List, NoMemory};
+use som_tables::ClassNo;
+use std::alloc::Global;
+use std::marker::Model;
+
+/// All objects that were made, by their serials. An object that was freed leaves its key to a later one.
+#[derive(Drop)]
+pub struct ObjectStore {
+    slots: Slab<Slot>,
+    made: u64,
+}
+
+impl Model for ObjectStore {
+    ghost use Rattle.som_objects.specs.Objects.{Objects};
+    ghost use Rattle.som_objects.specs.Slots.{objects, IsStore};
+
+    ghost Value = { Objects };
+
+    ghost view = { λ s. objects s.slots.slots s.made };
+
+    ghost invariant = { λ s. IsStore s.slots.slots s.made };
+}
+
+impl ObjectStore {
+    /// The empty store, which takes no memory.
+    pub fn new(alloc: Global) -> ObjectStore
+        ensures { result ≡ [] }
+    {
+        ObjectStore {
+            slots: Slab::new(alloc),
+            made: 0,
+        }
+    }
+
+    /// How many objects were made, freed ones included.
+    pub fn made(&self) -> u64
+        ensures { result ≡ length self.now }
+    {
+        self.made
+    }
+
+    /// Makes an object of a class, with these cells.
+    pub fn make(&mut self, class: ClassNo, cells: List<Cell>) -> Result<ObjRef, NoMemory>
+        requires { length self.old < 2 ^ 64 - 1 }
+        ensures made { IfOk result (λ r. Makes self.old self.new r class cells) }
+        ensures known { IfOk result (IsKnown self.new) }
+        ensures err { OnErr result (self.new ≡ self.old) }
+        ensures keeps { KeepsKnown self.old self.new }
+    {
+        let serial = self.made + 1;
+        let key = self.slots.insert(Slot {
+            serial,
+            class,
+            cells,
+        })?;
+        self.made = serial;
+        Ok(ObjRef { key, serial })
+    }
+
+    pub fn class(&self, object: &ObjRef) -> Result<ClassNo, Gone>
+        requires { IsKnown self.now object.now }
+        ensures class { IfOk result (HasClass self.now object.now) }
+        ensures gone { OnErr result (IsGone self.now object.now) }
+    {
+        match live(&self.slots, object) {
+            Some(slot) => Ok(slot.class),
+            None => Err(Gone),
+        }
+    }
+
+    /// The cell at a place of an object.
+    pub fn read(&self, object: &ObjRef, place: u32) -> Result<&Cell, Gone>
+        requires known { IsKnown self.now object.now }
+        requires place { InRange self.now object.now place }
+        ensures cell { IfOk result (λ cell. HasCell self.now object.now place cell.now) }
+        ensures gone { OnErr result (IsGone self.now object.now) }
+    {
+        match live(&self.slots, object) {
+            Some(slot) => Ok(cell_at(&slot.cells, place as usize)),
+            None => Err(Gone),
+        }
+    }
+
+    /// Changes the cell at a place of an object, and takes no memory.
+    pub fn write(&mut self, object: &ObjRef, place: u32, cell: Cell) -> Result<(), Gone>
+        requires known { IsKnown self.old object.now }
+        requires place { InRange self.old object.now place }
+        ensures written { OnOk result (Writes self.old self.new object.now place cell) }
+        ensures gone { OnErr result (IsGone self.old object.now) }
+        ensures err { OnErr result (self.new ≡ self.old) }
+        ensures keeps { KeepsKnown self.old self.new }
+    {
+        if !is_live(&self.slots, object) {
+            return Err(Gone);
+        }
+        let Slot {
+            serial,
+            class,
+            cells,
+        } = self.slots.remove(object.key);
+        let cells = with_cell(cells, place as usize, cell);
+        let _key = self.slots.insert_reserved(Slot {
+            serial,
+            class,
+            cells,
+        });
+        Ok(())
+    }
+
+    /// Ends an object.
+    pub fn free(&mut self, object: &ObjRef) -> Result<(), Gone>
+        requires { IsKnown self.old object.now }
+        ensures freed { OnOk result (Frees self.old self.new object.now) }
+        ensures gone { OnErr result (IsGone self.old object.now) }
+        ensures err { OnErr result (self.new ≡ self.old) }
+        ensures keeps { KeepsKnown self.old self.new }
+    {
+        if !is_live(&self.slots, object) {
+            return Err(Gone);
+        }
+        let _slot = self.slots.remove(object.key);
+        Ok(())
+    }
+}
+
+// The slot of an object, where it is live.
+fn live<'a>(slots: &'a Slab<Slot>, object: &ObjRef) -> Option<&'a Slot>
+    ensures { option_copied result ≡ live_slot (slot_at slots.now.slots object.now.key) object.now.serial }
+{
+    match slots.get(object.key) {
+        Some(slot) => if slot.serial == object.serial {
+            Some(slot)
+        } else {
+            None
+        },
+        None => None,
+    }
+}
+
+fn is_live(slots: &Slab<Slot>, object: &ObjRef) -> bool
+    ensures { result ≡ is_some (live_slot (slot_at slots.now.slots object.now.key) object.now.serial) }
+{
+    live(slots, object).is_some()
+}
+
+fn cell_at(cells: &List<Cell>, place: usize) -> &Cell
+    requires { place < length cells.now }
+    ensures { slice_get cells.now place ≡ Some result.now }
+{
+    &cells.as_slice()[place]
+}
+
+fn with_cell(cells: List<Cell>, place: usize, cell: Cell) -> List<Cell>
+    requires { place < length cells }
+    ensures { result ≡ slice_set cells place cell }
+{
+    let mut items = cells.into_vec();
+    items[place] = cell;
+    List::from_vec(items)
+}
