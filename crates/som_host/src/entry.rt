@@ -7,17 +7,9 @@ use som_model::HostCode;
 /// A procedure of the host: its code, and a closure of which it is known that it answers what the code stands for.
 #[derive(Drop)]
 pub struct HostEntry {
-    code: HostCode,
-    f: Box<dyn Fn(i32, i32) -> i32>,
+    pub(crate) code: HostCode,
+    pub(crate) f: Box<dyn Fn(i32, i32) -> i32>,
     ghost answers: { Answers (pre f) (post f) code },
-}
-
-/// The entry of a code, with a closure of the caller's.
-pub fn host_entry(code: HostCode, f: Box<dyn Fn(i32, i32) -> i32>) -> HostEntry
-    requires { Answers (pre f) (post f) code }
-    ensures { result.code ≡ code }
-{
-    HostEntry { code, f }
 }
 
 impl HostEntry {

@@ -4,5 +4,5 @@
 mod entry;
 mod table;
 
-pub use entry::{HostEntry, host_entry};
-pub use table::{HostTable, host_table};
+pub use entry::HostEntry;
+pub use table::{HostTable, host_entry, host_table};

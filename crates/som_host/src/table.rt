@@ -1,9 +1,19 @@
+ghost use Rattle.som_host.specs.Closures.{Answers};
+ghost use Rattle.som_host.specs.Entries.{code_of};
 ghost use Rattle.som_model.specs.declared.syntax.HostCode.TheVariants as codes;
 ghost use Rattle.som_model.specs.Values.{host_number};
 ghost use Rattle.std.specs.Prelude.{◌≡◌};
 
 use crate::HostEntry;
 use som_model::HostCode;
+
+/// The entry of a code, with a closure of the caller's.
+pub fn host_entry(code: HostCode, f: Box<dyn Fn(i32, i32) -> i32>) -> HostEntry
+    requires { Answers (pre f) (post f) code }
+    ensures { code_of result ≡ code }
+{
+    HostEntry { code, f }
+}
 
 /// The host's six procedures, each in the place of its code.
 #[derive(Drop)]
@@ -14,12 +24,12 @@ pub struct HostTable {
     or: HostEntry,
     xor: HostEntry,
     wrap_add: HostEntry,
-    ghost min_code: { min.code ≡ codes.Min },
-    ghost max_code: { max.code ≡ codes.Max },
-    ghost and_code: { and.code ≡ codes.And },
-    ghost or_code: { or.code ≡ codes.Or },
-    ghost xor_code: { xor.code ≡ codes.Xor },
-    ghost wrap_add_code: { wrap_add.code ≡ codes.WrapAdd },
+    ghost min_code: { code_of min ≡ codes.Min },
+    ghost max_code: { code_of max ≡ codes.Max },
+    ghost and_code: { code_of and ≡ codes.And },
+    ghost or_code: { code_of or ≡ codes.Or },
+    ghost xor_code: { code_of xor ≡ codes.Xor },
+    ghost wrap_add_code: { code_of wrap_add ≡ codes.WrapAdd },
 }
 
 /// The table of these six entries.
@@ -31,12 +41,12 @@ pub fn host_table(
     xor: HostEntry,
     wrap_add: HostEntry,
 ) -> HostTable
-    requires min { min.code ≡ codes.Min }
-    requires max { max.code ≡ codes.Max }
-    requires and { and.code ≡ codes.And }
-    requires or { or.code ≡ codes.Or }
-    requires xor { xor.code ≡ codes.Xor }
-    requires wrap_add { wrap_add.code ≡ codes.WrapAdd }
+    requires min { code_of min ≡ codes.Min }
+    requires max { code_of max ≡ codes.Max }
+    requires and { code_of and ≡ codes.And }
+    requires or { code_of or ≡ codes.Or }
+    requires xor { code_of xor ≡ codes.Xor }
+    requires wrap_add { code_of wrap_add ≡ codes.WrapAdd }
 {
     HostTable {
         min,
