@@ -76,13 +76,18 @@ parent_call_after ranges inner bytes place tag =
     if tag.value == 0x33 then of_two (method_at ranges) (args_at inner) exprs.ParentsCall bytes tag.next else
     Err (faults.Tag place)
 
+-- what follows the tag of a call by name, or of a parent's method
+abbrev pub named_call_after : Ranges → Reads WireExpr → List ℕ → ℕ → Read ℕ → Result (Read WireExpr) ImageFault
+named_call_after ranges inner bytes place tag =
+    if tag.value == 0x30 then of_four (kind_at ranges.classes true) text_at inner (args_at inner) exprs.Lookup bytes tag.next else
+    if tag.value == 0x31 then of_four (kind_at ranges.classes true) text_at inner (args_at inner) exprs.Dispatch bytes tag.next else
+    parent_call_after ranges inner bytes place tag
+
 -- what follows the tag of a call
 abbrev pub call_after : Ranges → Reads WireExpr → List ℕ → ℕ → Read ℕ → Result (Read WireExpr) ImageFault
 call_after ranges inner bytes place tag =
     if tag.value == 0x2f then of_three (method_at ranges) inner (args_at inner) exprs.OffsetCall bytes tag.next else
-    if tag.value == 0x30 then of_four (kind_at ranges.classes true) text_at inner (args_at inner) exprs.Lookup bytes tag.next else
-    if tag.value == 0x31 then of_four (kind_at ranges.classes true) text_at inner (args_at inner) exprs.Dispatch bytes tag.next else
-    parent_call_after ranges inner bytes place tag
+    named_call_after ranges inner bytes place tag
 
 -- what follows the tag of two operands, or of a call
 abbrev pub pair_after : Ranges → Reads WireExpr → List ℕ → ℕ → Read ℕ → Result (Read WireExpr) ImageFault
@@ -91,14 +96,19 @@ pair_after ranges inner bytes place tag =
     if tag.value == 0x34 then of_three host_at inner inner exprs.Host bytes tag.next else
     call_after ranges inner bytes place tag
 
--- what follows the tag of one operand, of two, or of a call
-abbrev pub operation_after : Ranges → Reads WireExpr → List ℕ → ℕ → Read ℕ → Result (Read WireExpr) ImageFault
-operation_after ranges inner bytes place tag =
-    if tag.value == 0x27 then of_two (operator_at 4) inner exprs.Unary bytes tag.next else
+-- what follows the tag of a class and an operand, of two operands, or of a call
+abbrev pub class_form_after : Ranges → Reads WireExpr → List ℕ → ℕ → Read ℕ → Result (Read WireExpr) ImageFault
+class_form_after ranges inner bytes place tag =
     if tag.value == 0x2c then of_two (below_at ranges.classes) inner exprs.Cast bytes tag.next else
     if tag.value == 0x2d then of_two (below_at ranges.classes) inner exprs.Isa bytes tag.next else
     if tag.value == 0x2e then of_two (below_at ranges.classes) inner exprs.Proxy bytes tag.next else
     pair_after ranges inner bytes place tag
+
+-- what follows the tag of one operand, of two, or of a call
+abbrev pub operation_after : Ranges → Reads WireExpr → List ℕ → ℕ → Read ℕ → Result (Read WireExpr) ImageFault
+operation_after ranges inner bytes place tag =
+    if tag.value == 0x27 then of_two (operator_at 4) inner exprs.Unary bytes tag.next else
+    class_form_after ranges inner bytes place tag
 
 -- what follows the tag of an expression
 abbrev pub expr_after : Ranges → Reads WireExpr → List ℕ → ℕ → Read ℕ → Result (Read WireExpr) ImageFault
@@ -147,18 +157,23 @@ flow_after inner block bytes place tag =
     if tag.value == 0x05 then of_two inner block stmts.While bytes tag.next else
     Err (faults.Tag place)
 
--- what follows the tag of a statement
-abbrev pub stmt_after : Ranges → Reads WireExpr → Reads WireExpr → Reads WireBlock → List ℕ → ℕ → Read ℕ → Result (Read WireStmt) ImageFault
-stmt_after ranges inner call block bytes place tag =
-    if tag.value == 0x01 then of_two (kind_at ranges.classes false) inner stmts.Var bytes tag.next else
-    if tag.value == 0x02 then of_two (number_at w16) inner stmts.SetLocal bytes tag.next else
-    if tag.value == 0x03 then of_two (number_at w8) inner stmts.SetVariable bytes tag.next else
+-- what follows the tag of a statement that stands alone, or has blocks
+abbrev pub plain_after : Reads WireExpr → Reads WireExpr → Reads WireBlock → List ℕ → ℕ → Read ℕ → Result (Read WireStmt) ImageFault
+plain_after inner call block bytes place tag =
     if tag.value == 0x06 then done stmts.Return tag.next else
     if tag.value == 0x07 then of_one inner stmts.ReturnValue bytes tag.next else
     if tag.value == 0x08 then of_one inner stmts.Print bytes tag.next else
     if tag.value == 0x09 then of_one inner stmts.Free bytes tag.next else
     if tag.value == 0x0a then of_one call stmts.Call bytes tag.next else
     flow_after inner block bytes place tag
+
+-- what follows the tag of a statement
+abbrev pub stmt_after : Ranges → Reads WireExpr → Reads WireExpr → Reads WireBlock → List ℕ → ℕ → Read ℕ → Result (Read WireStmt) ImageFault
+stmt_after ranges inner call block bytes place tag =
+    if tag.value == 0x01 then of_two (kind_at ranges.classes false) inner stmts.Var bytes tag.next else
+    if tag.value == 0x02 then of_two (number_at w16) inner stmts.SetLocal bytes tag.next else
+    if tag.value == 0x03 then of_two (number_at w8) inner stmts.SetVariable bytes tag.next else
+    plain_after inner call block bytes place tag
 
 abbrev pub is_stmt_tag : ℕ → Bool
 is_stmt_tag tag = nat_le 0x01 tag && nat_le tag 0x0a

@@ -1,4 +1,5 @@
 ghost use Rattle.som_wire.specs.Reading.{
+  class_form_after,
   args_at,
   call_after,
   expr_after,
@@ -133,6 +134,26 @@ fn read_operation(
                 next: of.next,
             })
         }
+        _ => read_class_form(alloc, bytes, ranges, left, tag, place),
+    }
+}
+
+// What follows the tag of a class and an operand at a place, of two operands, or of a call.
+#[cycle(expressions)]
+fn read_class_form(
+    alloc: Global,
+    bytes: &List<u8>,
+    ranges: &Ranges,
+    left: u8,
+    tag: &Read<u8>,
+    place: usize,
+) -> Result<Read<WireExpr>, ImageFault>
+    requires place { tag.now.next ≤ length bytes.now }
+    requires entries { length ranges.now.entries ≡ ranges.now.classes }
+    ensures exact { Gives result (class_form_after ranges.now (expr_at left ranges.now) bytes.now place tag.now) }
+    ensures next { IfOk result (λ r. r.next ≤ length bytes.now) }
+{
+    match tag.value {
         0x2c => {
             let class = read_class(bytes, tag.next, ranges.classes)?;
             let of = read_operand(alloc, bytes, class.next, ranges, left)?;

@@ -1,4 +1,4 @@
-ghost use Rattle.som_wire.specs.Reading.{call_after, expr_at, pair_after, parent_call_after};
+ghost use Rattle.som_wire.specs.Reading.{call_after, expr_at, named_call_after, pair_after, parent_call_after};
 ghost use Rattle.som_fields.specs.Fields.{Gives};
 ghost use Rattle.std.specs.Prelude.{◌≡◌, ◌≤◌, length, IfOk};
 
@@ -84,6 +84,26 @@ pub(crate) fn read_tagged_call(
                 next: args.next,
             })
         }
+        _ => read_named_call(alloc, bytes, ranges, left, tag, place),
+    }
+}
+
+// What follows the tag of a call by name at a place, or of a parent's method.
+#[cycle(expressions)]
+fn read_named_call(
+    alloc: Global,
+    bytes: &List<u8>,
+    ranges: &Ranges,
+    left: u8,
+    tag: &Read<u8>,
+    place: usize,
+) -> Result<Read<WireExpr>, ImageFault>
+    requires place { tag.now.next ≤ length bytes.now }
+    requires entries { length ranges.now.entries ≡ ranges.now.classes }
+    ensures exact { Gives result (named_call_after ranges.now (expr_at left ranges.now) bytes.now place tag.now) }
+    ensures next { IfOk result (λ r. r.next ≤ length bytes.now) }
+{
+    match tag.value {
         0x30 => {
             let kind = read_type(bytes, tag.next, ranges.classes, true)?;
             let name = read_text(alloc, bytes, kind.next)?;

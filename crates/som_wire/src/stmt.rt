@@ -1,4 +1,5 @@
 ghost use Rattle.som_wire.specs.Reading.{
+  plain_after,
   call_at,
   expr_at,
   flow_after,
@@ -108,6 +109,32 @@ fn read_tagged_stmt(
                 next,
             )
         }
+        _ => return read_plain(alloc, bytes, ranges, left, tag, place),
+    };
+    Ok(Read {
+        value: statement,
+        next,
+    })
+}
+
+// What follows the tag of a statement at a place that stands alone, or has blocks.
+#[cycle(statements)]
+fn read_plain(
+    alloc: Global,
+    bytes: &List<u8>,
+    ranges: &Ranges,
+    left: u8,
+    tag: &Read<u8>,
+    place: usize,
+) -> Result<Read<WireStmt>, ImageFault>
+    requires place { tag.now.next ≤ length bytes.now }
+    requires entries { length ranges.now.entries ≡ ranges.now.classes }
+    ensures exact { Gives result (plain_after (expr_at left ranges.now) (call_at left ranges.now)
+        (statements_at (stmt_at left ranges.now)) bytes.now place tag.now) }
+    ensures next { IfOk result (λ r. r.next ≤ length bytes.now) }
+{
+    let next = tag.next;
+    let (statement, next) = match tag.value {
         0x06 => (WireStmt::Return, next),
         0x07 => {
             let value = read_expr(alloc, bytes, next, ranges, left)?;

@@ -4,7 +4,10 @@ use Rattle.som_wire.proofs.stmt.+statements.Given as goal
 -- the levels that are left, and below them the order in which the functions call each other
 
 abbrev pub decreases-read_tagged_stmt : goal.decreases-read_tagged_stmt
-decreases-read_tagged_stmt l = 8 * l.left + 4
+decreases-read_tagged_stmt l = 8 * l.left + 5
+
+abbrev pub decreases-read_plain : goal.decreases-read_plain
+decreases-read_plain l = 8 * l.left + 4
 
 abbrev pub decreases-read_flow : goal.decreases-read_flow
 decreases-read_flow l = 8 * l.left + 3
