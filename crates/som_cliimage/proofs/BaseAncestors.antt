@@ -14,7 +14,7 @@ use Rattle.som_model.proofs.KeyLaws.{both, exact_keys}
 use Rattle.som_model.proofs.NamedLaws.{out_named}
 use Rattle.som_naming.proofs.Places.{all_map, all_joined}
 use Rattle.som_naming.proofs.KnownMethods.{keys_of}
-use Rattle.som_libimage.proofs.Directories.{IsOwn}
+use Rattle.som_naming.proofs.Directories.{IsOwn}
 
 -- ---- lists
 

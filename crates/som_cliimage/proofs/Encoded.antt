@@ -10,9 +10,9 @@ use Rattle.som_model.specs.Kernel.{kernel}
 use Rattle.som_model.specs.Conforming.{ProgramOk}
 use Rattle.som_model.specs.Images.{client_image}
 use Rattle.som_fields.specs.declared.fault.ImageFault.{ImageFault}
-use Rattle.som_libimage.specs.Libraries.{NamesDiffer}
-use Rattle.som_libimage.proofs.Conforming.{faces_names, declared_faces}
-use Rattle.som_libimage.proofs.NamedInterfaces.{a_class}
+use Rattle.som_naming.specs.Interfaces.{NamesDiffer}
+use Rattle.som_naming.proofs.Conforming.{faces_names, declared_faces}
+use Rattle.som_naming.proofs.NamedInterfaces.{a_class}
 use Rattle.som_cliimage.specs.declared.wire.WireProgram.{WireProgram}
 use Rattle.som_cliimage.specs.Naming.{program_named}
 use Rattle.som_cliimage.specs.Spelling.{FitsProgram, client}

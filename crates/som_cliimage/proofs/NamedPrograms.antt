@@ -39,16 +39,16 @@ use Rattle.som_naming.proofs.Places.{all_of, all_mapped, all_joined, distinct_jo
 use Rattle.som_naming.proofs.Spelled.{some_bytes, bytes_are, split, guarded}
 use Rattle.som_naming.proofs.NamedStmts.{block_forth}
 use Rattle.som_naming.proofs.StmtsBack.{block_back}
-use Rattle.som_libimage.specs.Reading.{ranges_of}
-use Rattle.som_libimage.specs.Spelling.{FitsClass, FitsParts, head}
-use Rattle.som_libimage.specs.Naming.{face_named, classes_named, interface_named}
-use Rattle.som_libimage.specs.Libraries.{NamesDiffer, interface_image, NamedFrom}
-use Rattle.som_libimage.specs.Limits.{ClassWithin}
-use Rattle.som_libimage.proofs.Naming.{fit_length, ranges_known}
-use Rattle.som_libimage.proofs.NamedParts.{front_bytes, back_bytes}
-use Rattle.som_libimage.proofs.NamedReleases.{key_in, keys_told, slots_told, faces_kept, as_many_classes, as_many_keys, library_key, Distinct, distinct_of, distinct_keys, no_doubles, faces_forth, parts_forth, Pairs, pairs_back, directory_of}
-use Rattle.som_libimage.proofs.NamedInterfaces.{a_class, known_by, interface_forth, interface_back}
-use Rattle.som_libimage.proofs.NamedInterfaces as interfaces
+use Rattle.som_naming.specs.ReadClasses.{ranges_of}
+use Rattle.som_naming.specs.SpelledClasses.{FitsClass, FitsParts, head}
+use Rattle.som_naming.specs.NamedClasses.{face_named, classes_named, interface_named}
+use Rattle.som_naming.specs.Interfaces.{NamesDiffer, interface_image, NamedFrom}
+use Rattle.som_naming.specs.ClassLimits.{ClassWithin}
+use Rattle.som_naming.proofs.ClassPlaces.{fit_length, ranges_known}
+use Rattle.som_naming.proofs.NamedParts.{front_bytes, back_bytes}
+use Rattle.som_naming.proofs.NamedClasses.{key_in, keys_told, slots_told, faces_kept, as_many_classes, as_many_keys, library_key, Distinct, distinct_of, distinct_keys, no_doubles, faces_forth, parts_forth, Pairs, pairs_back, directory_of}
+use Rattle.som_naming.proofs.NamedInterfaces.{a_class, known_by, interface_forth, interface_back}
+use Rattle.som_naming.proofs.NamedInterfaces as interfaces
 use Rattle.som_cliimage.specs.declared.wire.WireProgram.{WireProgram}
 use Rattle.som_cliimage.specs.Reading.{client_ranges}
 use Rattle.som_cliimage.specs.Spelling.{FitsOwnFaces, FitsMain, bodies, program, FitsProgram, client}

@@ -6,7 +6,7 @@ use Rattle.som_fields.specs.declared.method.Ranges.{Ranges}
 use Rattle.som_fields.specs.Spelling.{FitsFace}
 use Rattle.som_naming.specs.declared.directory.Directory.{Directory}
 use Rattle.som_naming.specs.Naming.{ranges_in}
-use Rattle.som_libimage.specs.Spelling.{FitsParts}
+use Rattle.som_naming.specs.SpelledClasses.{FitsParts}
 use Rattle.som_cliimage.specs.declared.wire.WireProgram.{WireProgram}
 use Rattle.som_cliimage.specs.Reading.{client_ranges}
 use Rattle.som_cliimage.specs.Spelling.{FitsMain, FitsProgram}

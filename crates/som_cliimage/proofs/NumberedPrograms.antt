@@ -27,15 +27,15 @@ use Rattle.som_naming.specs.NumberedBlocks.{block_numbered}
 use Rattle.som_naming.specs.ReadyBlocks.{BlockReady}
 use Rattle.som_naming.proofs.NumberedKinds.{TurnsBack, all_both, counted_turn}
 use Rattle.som_naming.proofs.TurnedBlocks.{ready_turns}
-use Rattle.som_libimage.specs.Spelling.{FitsParts}
-use Rattle.som_libimage.specs.Naming.{face_named, classes_named, interface_named}
-use Rattle.som_libimage.specs.Limits.{FaceWithin}
-use Rattle.som_libimage.specs.Numbering.{face_numbered, FaceKnown, part_numbered}
-use Rattle.som_libimage.proofs.NumberedFaces.{face_turns}
-use Rattle.som_libimage.proofs.NumberedParts.{ClassReady}
-use Rattle.som_libimage.proofs.NumberedReleases.{faces_of, keys_kept, names_kept, slots_kept, faces_fit, parts_fit, classes_back}
-use Rattle.som_libimage.proofs.NamedReleases.{directory_of, as_many_keys}
-use Rattle.som_libimage.proofs.NamedInterfaces.{a_class, known_by}
+use Rattle.som_naming.specs.SpelledClasses.{FitsParts}
+use Rattle.som_naming.specs.NamedClasses.{face_named, classes_named, interface_named}
+use Rattle.som_naming.specs.ClassLimits.{FaceWithin}
+use Rattle.som_naming.specs.NumberedClasses.{face_numbered, FaceKnown, part_numbered}
+use Rattle.som_naming.proofs.NumberedFaces.{face_turns}
+use Rattle.som_naming.proofs.NumberedParts.{ClassReady}
+use Rattle.som_naming.proofs.NumberedClasses.{faces_of, keys_kept, names_kept, slots_kept, faces_fit, parts_fit, classes_back}
+use Rattle.som_naming.proofs.NamedClasses.{directory_of, as_many_keys}
+use Rattle.som_naming.proofs.NamedInterfaces.{a_class, known_by}
 use Rattle.som_cliimage.specs.declared.wire.WireProgram.{WireProgram}
 use Rattle.som_cliimage.specs.Reading.{client_ranges}
 use Rattle.som_cliimage.specs.Spelling.{FitsMain, FitsProgram}

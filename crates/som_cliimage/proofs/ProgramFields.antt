@@ -23,9 +23,9 @@ use Rattle.som_wire.specs.Reading.{block_at}
 use Rattle.som_wire.specs.Spelling.{part, block}
 use Rattle.som_wire.proofs.StmtFields.{block_field}
 use Rattle.som_naming.proofs.Places.{all_joined}
-use Rattle.som_libimage.specs.Reading.{ranges_of, faces_after_at, faces_at, parts_at, head_at, at_end}
-use Rattle.som_libimage.specs.Spelling.{FitsFaces, FitsFacesAfter, FitsParts, head}
-use Rattle.som_libimage.proofs.LibraryFields.{faces_few, short_ranges, faces_after_field, faces_field, parts_field, head_takes, head_again, all_bytes, stands_whole, ends_there}
+use Rattle.som_naming.specs.ReadClasses.{ranges_of, faces_after_at, faces_at, parts_at, head_at, at_end}
+use Rattle.som_naming.specs.SpelledClasses.{FitsFaces, FitsFacesAfter, FitsParts, head}
+use Rattle.som_naming.proofs.ClassFields.{faces_few, short_ranges, faces_after_field, faces_field, parts_field, head_takes, head_again, all_bytes, stands_whole, ends_there}
 use Rattle.som_cliimage.specs.declared.wire.WireProgram.{WireProgram}
 use Rattle.som_cliimage.specs.Reading.{client_ranges, own_faces_at, program_at, wire_at}
 use Rattle.som_cliimage.specs.Spelling.{FitsOwnFaces, FitsMain, bodies, program, FitsProgram, client}

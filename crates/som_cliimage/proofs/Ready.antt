@@ -33,14 +33,14 @@ use Rattle.som_naming.specs.ReadyBlocks.{BlockReady}
 use Rattle.som_naming.proofs.Places.{all_map, all_joined}
 use Rattle.som_naming.proofs.KnownMethods.{keys_of, covers}
 use Rattle.som_naming.proofs.TypedBlocks.{typed_is_ready}
-use Rattle.som_libimage.specs.Limits.{FaceWithin, ClassWithin}
-use Rattle.som_libimage.specs.Numbering.{face_numbered, FaceKnown, part_numbered, ClassKnown}
-use Rattle.som_libimage.proofs.Conforming.{both_empty}
-use Rattle.som_libimage.proofs.Directories.{IsOwn, FewEntries, kernel_own, kernel_few, declared_own, directory_is}
-use Rattle.som_libimage.proofs.NumberedParts.{ClassReady}
-use Rattle.som_libimage.proofs.NumberedReleases.{few_own}
-use Rattle.som_libimage.proofs.NamedInterfaces.{a_class}
-use Rattle.som_libimage.proofs.ReadyClasses.{NamesBefore, stand_before, all_front, types_told, face_known, names_new, classes_ready}
+use Rattle.som_naming.specs.ClassLimits.{FaceWithin, ClassWithin}
+use Rattle.som_naming.specs.NumberedClasses.{face_numbered, FaceKnown, part_numbered, ClassKnown}
+use Rattle.som_naming.proofs.Conforming.{both_empty}
+use Rattle.som_naming.proofs.Directories.{IsOwn, FewEntries, kernel_own, kernel_few, declared_own, directory_is}
+use Rattle.som_naming.proofs.NumberedParts.{ClassReady}
+use Rattle.som_naming.proofs.NumberedClasses.{few_own}
+use Rattle.som_naming.proofs.NamedInterfaces.{a_class}
+use Rattle.som_naming.proofs.ReadyClasses.{NamesBefore, stand_before, all_front, types_told, face_known, names_new, classes_ready}
 use Rattle.som_cliimage.specs.declared.wire.WireProgram.{WireProgram}
 use Rattle.som_cliimage.specs.Spelling.{FitsProgram}
 use Rattle.som_cliimage.specs.Naming.{program_named}

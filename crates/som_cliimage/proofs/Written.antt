@@ -13,11 +13,11 @@ use Rattle.som_wire.proofs.SomeFits.{block_some}
 use Rattle.som_naming.specs.declared.directory.Directory.{Directory}
 use Rattle.som_naming.specs.Naming.{library_directory, ranges_in}
 use Rattle.som_naming.proofs.Places.{all_map, all_mapped}
-use Rattle.som_libimage.specs.Naming.{face_named, classes_named}
-use Rattle.som_libimage.specs.Limits.{FaceWithin, ClassWithin}
-use Rattle.som_libimage.proofs.LibraryFields.{faces_few}
+use Rattle.som_naming.specs.NamedClasses.{face_named, classes_named}
+use Rattle.som_naming.specs.ClassLimits.{FaceWithin, ClassWithin}
+use Rattle.som_naming.proofs.ClassFields.{faces_few}
 use Rattle.som_naming.proofs.NamedLimits.{named_is_within}
-use Rattle.som_libimage.proofs.Turned.{parts_written, face_within, classes_within, few_classes}
+use Rattle.som_naming.proofs.ClassesTurned.{parts_written, face_within, classes_within, few_classes}
 use Rattle.som_cliimage.specs.declared.wire.WireProgram.{WireProgram}
 use Rattle.som_cliimage.specs.Reading.{client_ranges}
 use Rattle.som_cliimage.specs.Spelling.{FitsProgram}

@@ -8,7 +8,7 @@ use Rattle.som_model.specs.Class.{entry_name}
 use Rattle.som_naming.specs.declared.directory.Directory.{Directory}
 use Rattle.som_naming.specs.Naming.{kernel_directory}
 use Rattle.som_naming.specs.NumberedBlocks.{block_numbered}
-use Rattle.som_libimage.specs.Numbering.{face_numbered, part_numbered}
+use Rattle.som_naming.specs.NumberedClasses.{face_numbered, part_numbered}
 use Rattle.som_cliimage.specs.declared.wire.WireProgram.{WireProgram}
 
 -- the kernel's classes and those of an interface, and the names of their entries

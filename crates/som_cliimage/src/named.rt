@@ -4,9 +4,8 @@ ghost use Rattle.std.specs.Prelude.{◌≡◌, IfOk};
 
 use crate::wire::WireProgram;
 use som_fields::WireFace;
-use som_libimage::{name_classes, name_interface};
 use som_model::{ClientProgram, List, Module, NoMemory};
-use som_naming::{Directory, name_block};
+use som_naming::{Directory, name_block, name_classes, name_interface};
 use std::alloc::Global;
 
 // The kernel's classes, those of the base, and the client's own.

@@ -2,7 +2,7 @@ ghost use Rattle.som_cliimage.specs.Limits.{IsWithinLimits};
 ghost use Rattle.som_cliimage.specs.Naming.{program_named};
 ghost use Rattle.som_cliimage.specs.Numbering.{program_numbered};
 ghost use Rattle.som_cliimage.specs.Spelling.{FitsProgram};
-ghost use Rattle.som_libimage.specs.Numbering.{FaceKnown, face_numbered};
+ghost use Rattle.som_naming.specs.NumberedClasses.{FaceKnown, face_numbered};
 ghost use Rattle.som_model.specs.Conforming.{ProgramOk};
 ghost use Rattle.som_naming.specs.Numbering.{IsDirectory};
 ghost use Rattle.som_order.specs.Names.{texts};
@@ -12,9 +12,8 @@ use crate::directory::{interface_directory, program_directory};
 use crate::wire::WireProgram;
 use indexmap::IndexSet;
 use som_fields::WireFace;
-use som_libimage::{number_face, number_faces, number_parts};
 use som_model::{ClassFace, ClientProgram, List, NoMemory};
-use som_naming::{Directory, number_block};
+use som_naming::{Directory, number_block, number_face, number_faces, number_parts};
 use std::alloc::Global;
 
 fn number_each(

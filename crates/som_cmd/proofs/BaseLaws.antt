@@ -17,7 +17,8 @@ use Rattle.som_model.specs.Steps.{◌>>=◌}
 use Rattle.som_fields.specs.declared.fault.ImageFault.{ImageFault}
 use Rattle.som_fields.specs.declared.fault.ImageFault.TheVariants as faults
 use Rattle.som_libimage.specs.Libraries.{library_at}
-use Rattle.som_libimage.specs.Limits.{FaceWithin, IsWithinLimits}
+use Rattle.som_naming.specs.ClassLimits.{FaceWithin}
+use Rattle.som_libimage.specs.Limits.{IsWithinLimits}
 use Rattle.som_libimage.proofs.Decoded.{within}
 use Rattle.som_verify.proofs.Conforming.{conforms_release, release_conforms}
 use Rattle.som_compile.specs.Compiling.{IsBase}

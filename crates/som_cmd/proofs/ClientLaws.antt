@@ -20,8 +20,8 @@ use Rattle.som_model.specs.Classes.{interface_classes, is_a}
 use Rattle.som_model.specs.Rules.{RuleBreach, s1, s5, s6}
 use Rattle.som_model.specs.Conforming.{ProgramOk, all_of_program, declared_program_breach, first_of_names, first_of_members, each_after}
 use Rattle.som_model.specs.Images.{client_image}
-use Rattle.som_libimage.specs.Libraries.{NamesDiffer}
-use Rattle.som_libimage.proofs.Conforming.{declared_faces, faces_names, neither_is, none_first}
+use Rattle.som_naming.specs.Interfaces.{NamesDiffer}
+use Rattle.som_naming.proofs.Conforming.{declared_faces, faces_names, neither_is, none_first}
 use Rattle.som_rules.specs.Faces.{faces_breach}
 use Rattle.som_rules.specs.Places.{all_classes, key_at}
 use Rattle.som_rules.specs.Told.{of_release}

@@ -11,7 +11,8 @@ use Rattle.som_model.specs.Class.{interface_of}
 use Rattle.som_model.specs.Compatible.{CompatBreach, breaks, list_breaks}
 use Rattle.som_model.specs.Conforming.{ReleaseOk}
 use Rattle.som_order.specs.Names.{name_at}
-use Rattle.som_libimage.specs.Limits.{ClassWithin, IsWithinLimits}
+use Rattle.som_naming.specs.ClassLimits.{ClassWithin}
+use Rattle.som_libimage.specs.Limits.{IsWithinLimits}
 use Rattle.som_compat.specs.Conditions.{Conforms, IsCounted}
 use Rattle.som_compat.proofs.Released.{interface_conforms}
 use Rattle.som_cmd.specs.declared.stop.Refusal.{Refusal}

@@ -20,7 +20,8 @@ use Rattle.som_model.specs.Classes.{library_classes}
 use Rattle.som_model.specs.Images.{Spelled, ◌then◌, each, where_it_is, tag, number, counted, text, version, class, method, sig, way, metaclass, entry, face, at_level, block, body, part, library_image}
 use Rattle.som_model.proofs.ImageLaws.{printing_is}
 use Rattle.som_naming.specs.BlockLimits.{BlockWithin, ExprPartsWithin, ExprWithin, StatementsWithin, StmtPartsWithin, StmtWithin, TextWithin}
-use Rattle.som_libimage.specs.Limits.{BodyWithin, ClassWithin, EntryWithin, FaceWithin, IsWithinLimits}
+use Rattle.som_naming.specs.ClassLimits.{BodyWithin, ClassWithin, EntryWithin, FaceWithin}
+use Rattle.som_libimage.specs.Limits.{IsWithinLimits}
 use Rattle.som_first.specs.declared.classes.FirstMethod.{FirstMethod}
 use Rattle.som_first.specs.declared.classes.FirstOverride.{FirstOverride}
 use Rattle.som_first.specs.declared.classes.FirstClass.{FirstClass}

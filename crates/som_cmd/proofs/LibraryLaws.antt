@@ -5,7 +5,7 @@ use Rattle.som_model.specs.Bytes.{AreBytes}
 use Rattle.som_model.specs.Conforming.{ReleaseOk}
 use Rattle.som_model.specs.Images.{library_image}
 use Rattle.som_libimage.specs.Limits.{IsWithinLimits}
-use Rattle.som_libimage.proofs.Conforming.{conforming_names}
+use Rattle.som_naming.proofs.Conforming.{conforming_names}
 use Rattle.som_first.specs.declared.classes.FirstRelease.{FirstRelease}
 use Rattle.som_first.specs.declared.unread.Unread.{Unread}
 use Rattle.som_first.specs.declared.unread.Unread.TheVariants as unread

@@ -9,7 +9,7 @@ use Rattle.som_rules.specs.Places.{all_classes, key_at}
 use Rattle.som_firstclient.specs.declared.image.ClientImage.{ClientImage}
 use Rattle.som_firstclient.specs.Clients.{program_named, FitsClient}
 use Rattle.som_model.specs.Images.{library_image}
-use Rattle.som_libimage.specs.Libraries.{NamesDiffer}
+use Rattle.som_naming.specs.Interfaces.{NamesDiffer}
 use Rattle.som_libimage.specs.Limits.{IsWithinLimits}
 use Rattle.som_first.specs.declared.unread.Unread.{Unread}
 use Rattle.som_first.specs.declared.unread.Unread.TheVariants as unread

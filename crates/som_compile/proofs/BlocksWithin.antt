@@ -44,7 +44,7 @@ use Rattle.som_body.specs.declared.tree.BlockText.{BlockText, fold-roll-BlockTex
 use Rattle.som_body.specs.Within as text
 use Rattle.som_body.specs.Within.{ExprTextWithin, StmtTextWithin, BlockTextWithin}
 use Rattle.som_naming.specs.BlockLimits.{ArgsWithin, ExprPartsWithin, ExprWithin, StmtPartsWithin, StatementsWithin, StmtWithin, BlockWithin}
-use Rattle.som_libimage.specs.Limits.{EntryWithin}
+use Rattle.som_naming.specs.ClassLimits.{EntryWithin}
 use Rattle.som_scope.specs.ClassNames.{result_of, type_of}
 use Rattle.som_forms.specs.Locals.{Named, Names, in_scope, kinds_of, local_of, names_of}
 use Rattle.som_forms.specs.Methods.{Method, introduced_method, method_by, method_for, method_of, own_method, parent_place, variable_place}

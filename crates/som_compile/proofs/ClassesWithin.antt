@@ -37,7 +37,7 @@ use Rattle.som_rules.proofs.Before.{every_mem}
 use Rattle.som_rules.proofs.PlainLists.{mem_map}
 use Rattle.som_naming.specs.BlockLimits.{TextWithin, BlockWithin, StmtWithin}
 use Rattle.som_wire.specs.Fitting.{levels_left}
-use Rattle.som_libimage.specs.Limits.{EntryWithin, BodyWithin, FaceWithin, ClassWithin}
+use Rattle.som_naming.specs.ClassLimits.{EntryWithin, BodyWithin, FaceWithin, ClassWithin}
 use Rattle.som_elab.specs.Accessors.{Access, accessor_body, accessors_of, body_of, place_of}
 use Rattle.som_sema.specs.Building.{after_base, declarations, module_over}
 use Rattle.som_sema.specs.Finished.{declare, entry_for, introducer, override_of}

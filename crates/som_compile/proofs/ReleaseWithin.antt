@@ -17,7 +17,8 @@ use Rattle.som_body.specs.declared.tree.BlockText.{BlockText}
 use Rattle.som_body.specs.declared.tree.BodyFile.{BodyFile}
 use Rattle.som_body.specs.declared.tree.BodyText.{BodyText}
 use Rattle.som_body.specs.Within.{BlockTextWithin, BodyFileWithin, BodyTextWithin}
-use Rattle.som_libimage.specs.Limits.{ClassWithin, EntryWithin, FaceWithin, IsWithinLimits}
+use Rattle.som_naming.specs.ClassLimits.{ClassWithin, EntryWithin, FaceWithin}
+use Rattle.som_libimage.specs.Limits.{IsWithinLimits}
 use Rattle.som_cliimage.specs.Limits.{IsWithinLimits as ProgramWithin}
 use Rattle.som_sema.specs.Building.{declarations}
 use Rattle.som_elab.specs.PlainLimits.{LimitsKept}

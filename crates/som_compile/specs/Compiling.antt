@@ -13,7 +13,7 @@ use Rattle.som_sema.specs.declared.types.Refused.TheVariants as refusals
 use Rattle.som_scope.specs.Words.{interfaces_of}
 use Rattle.som_elab.specs.Bodies.{bodies_of}
 use Rattle.som_elab.specs.Elaboration.{Limit, Refusal, Rule, elaborated_program, elaborated_release}
-use Rattle.som_libimage.specs.Limits.{FaceWithin}
+use Rattle.som_naming.specs.ClassLimits.{FaceWithin}
 use Rattle.som_compile.specs.declared.fault.TextFault.{TextFault}
 use Rattle.som_compile.specs.declared.fault.TextFault.TheVariants as texts
 use Rattle.som_compile.specs.declared.source.Source.{Source}

@@ -12,10 +12,10 @@ use Rattle.som_fields.specs.declared.face.WireFace.{WireFace}
 use Rattle.som_fields.specs.Fields.{Stands}
 use Rattle.som_fields.specs.Spelling as wire
 use Rattle.som_fields.proofs.Parts.{Stands-join, guard_no, took, went}
-use Rattle.som_libimage.specs.Reading.{faces_at}
-use Rattle.som_libimage.specs.Spelling.{FitsFaces}
-use Rattle.som_libimage.specs.Naming.{interface_named}
-use Rattle.som_libimage.proofs.LibraryFields.{faces_field, all_bytes, stands_whole, ends_there}
+use Rattle.som_naming.specs.ReadClasses.{faces_at}
+use Rattle.som_naming.specs.SpelledClasses.{FitsFaces}
+use Rattle.som_naming.specs.NamedClasses.{interface_named}
+use Rattle.som_naming.proofs.ClassFields.{faces_field, all_bytes, stands_whole, ends_there}
 use Rattle.som_first.specs.declared.calls.CallPlace.{CallPlace}
 use Rattle.som_firstclient.specs.declared.image.ClientImage.{ClientImage}
 use Rattle.som_firstclient.specs.Reading.{constant_at, calls_at, client_at}

@@ -29,8 +29,8 @@ use Rattle.som_naming.specs.Naming.{key_at, method_named, ranges_in, entry_names
 use Rattle.som_naming.proofs.Places.{all_map, all_of, all_mapped}
 use Rattle.som_naming.proofs.Spelled.{some_bytes, bytes_are, split, guarded, Forth, From, Back, each_forth, many_back}
 use Rattle.som_naming.proofs.Numbers.{class_forth, method_forth, class_back, method_back}
-use Rattle.som_libimage.proofs.NamedReleases.{directory_of}
-use Rattle.som_libimage.proofs.NamedInterfaces.{known_by, a_class}
+use Rattle.som_naming.proofs.NamedClasses.{directory_of}
+use Rattle.som_naming.proofs.NamedInterfaces.{known_by, a_class}
 use Rattle.som_first.specs.declared.calls.CallPlace.{CallPlace}
 use Rattle.som_first.specs.declared.classes.FirstCall.{FirstCall}
 use Rattle.som_first.specs.FirstImages.{library_key, called, call_of}

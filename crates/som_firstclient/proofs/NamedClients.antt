@@ -17,14 +17,14 @@ use Rattle.som_model.specs.Images.{Spelled, ◌then◌, tag, client_image}
 use Rattle.som_fields.specs.declared.fault.ImageFault.{ImageFault}
 use Rattle.som_fields.specs.declared.face.WireFace.{WireFace}
 use Rattle.som_fields.specs.Spelling.{FitsFace}
-use Rattle.som_libimage.specs.Libraries.{NamesDiffer, interface_image, NamedFrom}
+use Rattle.som_naming.specs.Interfaces.{NamesDiffer, interface_image, NamedFrom}
 use Rattle.som_naming.specs.Naming.{library_directory, NoDoubles}
-use Rattle.som_libimage.specs.Naming.{entry_named, face_named, interface_named}
-use Rattle.som_libimage.specs.Spelling.{FitsFaces}
+use Rattle.som_naming.specs.NamedClasses.{entry_named, face_named, interface_named}
+use Rattle.som_naming.specs.SpelledClasses.{FitsFaces}
 use Rattle.som_naming.proofs.Places.{all_map}
 use Rattle.som_naming.proofs.Spelled.{some_bytes, bytes_are, split, From}
-use Rattle.som_libimage.proofs.NamedReleases.{distinct_of, no_doubles, directory_of}
-use Rattle.som_libimage.proofs.NamedInterfaces.{known_by, told, interface_forth, interface_back}
+use Rattle.som_naming.proofs.NamedClasses.{distinct_of, no_doubles, directory_of}
+use Rattle.som_naming.proofs.NamedInterfaces.{known_by, told, interface_forth, interface_back}
 use Rattle.som_first.specs.declared.calls.CallPlace.{CallPlace}
 use Rattle.som_first.specs.declared.classes.FirstCall.{FirstCall}
 use Rattle.som_first.specs.FirstImages.{call_of}

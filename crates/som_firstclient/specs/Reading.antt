@@ -9,8 +9,8 @@ use Rattle.som_fields.specs.declared.fault.ImageFault.TheVariants as faults
 use Rattle.som_fields.specs.declared.read.Read.{Read}
 use Rattle.som_fields.specs.Fields.{done, many_at}
 use Rattle.som_fields.specs.Reading.{number_at}
-use Rattle.som_libimage.specs.Reading.{faces_at}
-use Rattle.som_libimage.specs.Naming.{interface_named}
+use Rattle.som_naming.specs.ReadClasses.{faces_at}
+use Rattle.som_naming.specs.NamedClasses.{interface_named}
 use Rattle.som_first.specs.declared.calls.CallPlace.{CallPlace}
 use Rattle.som_firstclient.specs.declared.image.ClientImage.{ClientImage}
 use Rattle.som_first.specs.declared.unread.Unread.{Unread}

@@ -2,7 +2,7 @@ ghost use Rattle.som_first.specs.FirstImages.{call_of};
 ghost use Rattle.som_first.specs.declared.classes.FirstCall.{FirstCall};
 ghost use Rattle.som_firstclient.specs.Clients.{AnswersProgram, FitsClient, program_named};
 ghost use Rattle.som_firstclient.specs.Reading.{Reads, client_at};
-ghost use Rattle.som_libimage.specs.Libraries.{NamesDiffer};
+ghost use Rattle.som_naming.specs.Interfaces.{NamesDiffer};
 ghost use Rattle.som_model.specs.Images.{client_image};
 ghost use Rattle.som_model.specs.declared.program.ClientProgram.{ClientProgram};
 ghost use Rattle.som_fields.specs.Fields.{Gives};
@@ -13,8 +13,8 @@ use crate::constant::read_constant;
 use crate::image::ClientImage;
 use som_fields::ImageFault;
 use som_first::Unread;
-use som_libimage::{name_interface, read_faces};
 use som_model::List;
+use som_naming::{name_interface, read_faces};
 use std::alloc::Global;
 
 // The magic bytes, and version 1.

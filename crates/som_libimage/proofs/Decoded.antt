@@ -12,7 +12,8 @@ use Rattle.som_fields.proofs.Parts.{bind_ok}
 use Rattle.som_libimage.specs.declared.wire.WireRelease.{WireRelease}
 use Rattle.som_libimage.specs.Reading.{wire_at}
 use Rattle.som_libimage.specs.Naming.{release_named}
-use Rattle.som_libimage.specs.Libraries.{NamesDiffer, library_at}
+use Rattle.som_naming.specs.Interfaces.{NamesDiffer}
+use Rattle.som_libimage.specs.Libraries.{library_at}
 use Rattle.som_libimage.proofs.LibraryFields.{wire_takes, wire_again}
 use Rattle.som_libimage.specs.Limits.{IsWithinLimits}
 use Rattle.som_libimage.proofs.NamedReleases.{release_forth, release_back}

@@ -1,16 +1,6 @@
-pub mod EachFields
 pub mod LibraryFields
-pub mod Naming
-pub mod NamedFaces
-pub mod NamedParts
 pub mod NamedReleases
-pub mod NamedInterfaces
-pub mod Conforming
-pub mod Directories
-pub mod NumberedFaces
-pub mod NumberedParts
 pub mod NumberedReleases
-pub mod ReadyClasses
 pub mod Ready
 pub mod Turned
 pub mod Decoded

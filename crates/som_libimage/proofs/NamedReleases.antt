@@ -33,171 +33,24 @@ use Rattle.som_fields.specs.Spelling.{FitsFace}
 use Rattle.som_wire.specs.declared.syntax.WirePart.{WirePart}
 use Rattle.som_libimage.specs.declared.wire.WireRelease.{WireRelease}
 use Rattle.som_naming.specs.declared.directory.Directory.{Directory}
-use Rattle.som_libimage.specs.Reading.{ranges_of}
+use Rattle.som_naming.specs.ReadClasses.{ranges_of}
 use Rattle.som_wire.specs.Spelling as spelling
-use Rattle.som_libimage.specs.Spelling.{FitsClass, FitsParts, FitsRelease, library}
+use Rattle.som_naming.specs.SpelledClasses.{FitsClass, FitsParts}
+use Rattle.som_libimage.specs.Spelling.{FitsRelease, library}
 use Rattle.som_naming.specs.Naming.{name_in, names_in, kernel_directory, library_directory, ranges_in, entry_names, Tells, NoDoubles}
-use Rattle.som_libimage.specs.Naming.{entry_named, face_named, class_named, classes_named, release_named}
+use Rattle.som_naming.specs.NamedClasses.{entry_named, face_named, class_named, classes_named}
+use Rattle.som_libimage.specs.Naming.{release_named}
 use Rattle.som_naming.specs.Numbering.{Differ}
-use Rattle.som_libimage.specs.Libraries.{NamesDiffer}
-use Rattle.som_libimage.specs.Limits.{ClassWithin, IsWithinLimits}
+use Rattle.som_naming.specs.Interfaces.{NamesDiffer}
+use Rattle.som_naming.specs.ClassLimits.{ClassWithin}
+use Rattle.som_libimage.specs.Limits.{IsWithinLimits}
 use Rattle.som_naming.specs.Numbering.{Differ}
-use Rattle.som_libimage.proofs.Naming.{fit_length, ranges_known}
+use Rattle.som_naming.proofs.ClassPlaces.{fit_length, ranges_known}
 use Rattle.som_naming.proofs.Places.{all_map, all_of, all_mapped, all_unmapped, all_joined, distinct_names, distinct_joined, distinct_mapped}
 use Rattle.som_naming.proofs.Spelled.{some_bytes, bytes_are, split, guarded}
-use Rattle.som_libimage.proofs.NamedFaces.{face_forth, face_back}
-use Rattle.som_libimage.proofs.NamedParts.{front_bytes, back_bytes, part_forth, part_back}
-
--- ---- names stay
-
-module _ (ks : List ClassKey) where
-  pub names_kept : (es : List WireEntry) → map entry_name (map (entry_named ks) es) ≡ map name_in es
-  names_kept [] = refl
-  names_kept (entries.Introduced name s w ∷ es) = ap (λ (ns : List (List ℕ)). name ∷ ns) (names_kept es)
-  names_kept (entries.Moved name to ∷ es) = ap (λ (ns : List (List ℕ)). name ∷ ns) (names_kept es)
-
-  class_names_kept : (fs : List WireFace) → map (λ (f : ClassFace). f.name) (map (face_named ks) fs) ≡ map (λ (f : WireFace). f.name) fs
-  class_names_kept [] = refl
-  class_names_kept (f ∷ fs) = ap (λ (ns : List (List ℕ)). f.name ∷ ns) (class_names_kept fs)
-
-  -- names that differ after naming differed before
-  pub record Distinct (fs : List WireFace) : Type 0 where
-    pub classes : IsDistinct bytes_eq (map (λ (f : WireFace). f.name) fs)
-    pub entries : AllByRecursion (λ f. IsDistinct bytes_eq (names_in f)) fs
-
-  pub distinct_of : (fs : List WireFace) → NamesDiffer (map (face_named ks) fs) → Distinct fs
-  distinct_of fs h = record {
-    classes = subst (IsDistinct bytes_eq) (class_names_kept fs) (distinct_names (map (λ (f : ClassFace). f.name) (map (face_named ks) fs)) h.classes);
-    entries = all_map (λ (f : WireFace). Differ (map entry_name (map (entry_named ks) f.entries))) (λ f. IsDistinct bytes_eq (names_in f)) (λ f e. subst (IsDistinct bytes_eq) (names_kept f.entries) (distinct_names (map entry_name (map (entry_named ks) f.entries)) e)) fs
-        (all_unmapped (λ (f : ClassFace). Differ (map entry_name f.entries)) (face_named ks) fs (recursion_from_All (λ (f : ClassFace). Differ (map entry_name f.entries)) (map (face_named ks) fs) h.entries));
-  }
-
--- ---- what a library's directory tells
-
-abbrev pub library_key : WireFace → ClassKey
-library_key f = keys.Named modules.Library f.name
-
--- the key of a class with this face in a module
-abbrev pub key_in : Module → WireFace → ClassKey
-key_in home f = keys.Named home f.name
-
-module _ (d : Directory) where
-  pub keys_told : (home : Module) (fs : List WireFace) (ps : List WirePart) → length fs ≡ length ps → map (λ (c : Class). c.key) (map (class_in home) (classes_named d fs ps)) ≡ map (key_in home) fs
-  keys_told home [] ps e = refl
-  keys_told home (f ∷ fs) [] e = absurd (omega arith)
-  keys_told home (f ∷ fs) (p ∷ ps) e = ap (λ (ks : List ClassKey). key_in home f ∷ ks) (keys_told home fs ps (omega arith))
-
-  pub slots_told : (home : Module) (fs : List WireFace) (ps : List WirePart) → length fs ≡ length ps → map entry_names (map (class_in home) (classes_named d fs ps)) ≡ map names_in fs
-  slots_told home [] ps e = refl
-  slots_told home (f ∷ fs) [] e = absurd (omega arith)
-  slots_told home (f ∷ fs) (p ∷ ps) e =
-      ap (λ (ns : List (List ℕ)). ns ∷ map entry_names (map (class_in home) (classes_named d fs ps))) (names_kept d.keys f.entries)
-      ∙ ap (λ (ns : List (List (List ℕ))). names_in f ∷ ns) (slots_told home fs ps (omega arith))
-
-  pub faces_kept : (fs : List WireFace) (ps : List WirePart) → length fs ≡ length ps → map (λ (c : ClassDecl). c.face) (classes_named d fs ps) ≡ map (face_named d.keys) fs
-  faces_kept [] ps e = refl
-  faces_kept (f ∷ fs) [] e = absurd (omega arith)
-  faces_kept (f ∷ fs) (p ∷ ps) e = ap (λ (x : List ClassFace). face_named d.keys f ∷ x) (faces_kept fs ps (omega arith))
-
-  pub as_many_classes : (fs : List WireFace) (ps : List WirePart) → length fs ≡ length ps → length (classes_named d fs ps) ≡ length fs
-  as_many_classes [] ps e = refl
-  as_many_classes (f ∷ fs) [] e = absurd (omega arith)
-  as_many_classes (f ∷ fs) (p ∷ ps) e = ap suc (as_many_classes fs ps (omega arith))
-
--- the kernel's classes and these
-abbrev known_classes : List ClassDecl → List Class
-known_classes cs = kernel ++ map (class_in modules.Library) cs
-
-told : (d : Directory) (fs : List WireFace) (ps : List WirePart) → length fs ≡ length ps → Tells (library_directory fs) (known_classes (classes_named d fs ps))
-told d fs ps e = record {
-  keys = ap (λ (ks : List ClassKey). kernel_directory.keys ++ ks) (keys_told d modules.Library fs ps e);
-  slots = ap (λ (ns : List (List (List ℕ))). kernel_directory.slots ++ ns) (slots_told d modules.Library fs ps e);
-}
-
-pub as_many_keys : (fs : List WireFace) → length ((library_directory fs).keys) ≡ length fs + 4
-as_many_keys fs = omega (arith, length-map fs library_key)
-
--- ---- no doubles
-
-kernel_distinct : IsDistinct same_key kernel_directory.keys
-unfolding IsDistinct
-kernel_distinct = ((same_named _ _ _ _, (same_named _ _ _ _, (same_named _ _ _ _, tt))), ((same_named _ _ _ _, (same_named _ _ _ _, tt)), ((same_named _ _ _ _, tt), (tt, tt))))
-
-apart_from_library : (fs : List WireFace) (name : List ℕ) → AllByRecursion (λ y. same_key (kernel_key name) y ≡ false) (map library_key fs)
-apart_from_library fs name = all_mapped (λ y. same_key (kernel_key name) y ≡ false) library_key fs (all_of (λ (f : WireFace). same_key (kernel_key name) (library_key f) ≡ false) (λ f. same_named modules.Kernel modules.Library name f.name) fs)
-
-mapped_names : (home : Module) (fs : List WireFace) → map (λ (name : List ℕ). keys.Named home name) (map (λ (f : WireFace). f.name) fs) ≡ map (key_in home) fs
-mapped_names home [] = refl
-mapped_names home (f ∷ fs) = ap (λ (ks : List ClassKey). key_in home f ∷ ks) (mapped_names home fs)
-
--- names that differ are those of keys that differ
-pub distinct_keys : (home : Module) → ((x y : List ℕ) → bytes_eq x y ≡ false → same_key (keys.Named home x) (keys.Named home y) ≡ false) → (fs : List WireFace) → IsDistinct bytes_eq (map (λ (f : WireFace). f.name) fs) → IsDistinct same_key (map (key_in home) fs)
-distinct_keys home apart fs h =
-    subst (IsDistinct same_key) (mapped_names home fs) (distinct_mapped bytes_eq same_key (λ (name : List ℕ). keys.Named home name) apart (map (λ (f : WireFace). f.name) fs) h)
-
-pub no_doubles : (ks : List ClassKey) (fs : List WireFace) → Distinct ks fs → NoDoubles (library_directory fs)
-no_doubles ks fs h =
-    let own = distinct_keys modules.Library (λ x y e. same_named modules.Library modules.Library x y ∙ e) fs h.classes in
-    let across : AllByRecursion (λ x. AllByRecursion (λ y. same_key x y ≡ false) (map library_key fs)) kernel_directory.keys = (apart_from_library fs _, (apart_from_library fs _, (apart_from_library fs _, (apart_from_library fs _, tt)))) in
-    let kernel_slots : AllByRecursion (IsDistinct bytes_eq) kernel_directory.slots = (distinct_names _ refl, (distinct_names _ refl, (distinct_names _ refl, (distinct_names _ refl, tt)))) in
-    record {
-      keys = distinct_joined same_key kernel_directory.keys (map library_key fs) kernel_distinct own across;
-      slots = all_joined (IsDistinct bytes_eq) kernel_directory.slots (map names_in fs) kernel_slots (all_mapped (IsDistinct bytes_eq) names_in fs h.entries);
-    }
-
--- ---- classes
-
-module _ (d : Directory) (cs : List Class) (tells : Tells d cs) where
-  abbrev classes : ℕ
-  classes = length d.keys
-
-  abbrev spell_face : ClassDecl → Spelled
-  spell_face c = images.face cs c.face
-
-  pub faces_forth : NoDoubles d → (fs : List WireFace) (ps : List WirePart) → AllByRecursion (FitsFace classes) fs → FitsParts (ranges_in d) fs ps → each spell_face (classes_named d fs ps) ≡ Some (flat_map wire.face fs)
-  faces_forth single [] ps fits pairs = refl
-  faces_forth single (f ∷ fs) [] fits pairs = absurd pairs
-  faces_forth single (f ∷ fs) (p ∷ ps) fits pairs =
-      ap (λ (s : Spelled). s then each spell_face (classes_named d fs ps)) (face_forth d cs tells single f fits.0)
-      ∙ ap (λ (s : Spelled). Some (wire.face f) then s) (faces_forth single fs ps fits.1 pairs.1)
-      ∙ ap some_bytes (sym (flat_map-cons wire.face f fs))
-
-  pub parts_forth : NoDoubles d → (fs : List WireFace) (ps : List WirePart) → FitsParts (ranges_in d) fs ps → each (images.part cs) (classes_named d fs ps) ≡ Some (flat_map spelling.part ps)
-  parts_forth single [] [] pairs = refl
-  parts_forth single [] (p ∷ ps) pairs = absurd pairs
-  parts_forth single (f ∷ fs) [] pairs = absurd pairs
-  parts_forth single (f ∷ fs) (p ∷ ps) pairs =
-      ap (λ (s : Spelled). s then each (images.part cs) (classes_named d fs ps)) (part_forth d cs tells single f p pairs.0)
-      ∙ ap (λ (s : Spelled). Some (spelling.part p) then s) (parts_forth single fs ps pairs.1)
-      ∙ ap some_bytes (sym (flat_map-cons spelling.part p ps))
-
-  -- faces and parts that classes are named from
-  pub record Pairs (cls : List ClassDecl) (x y : List ℕ) : Type 0 where
-    pub faces : List WireFace
-    pub parts : List WirePart
-    pub first : flat_map wire.face faces ≡ x
-    pub second : flat_map spelling.part parts ≡ y
-    pub fit : AllByRecursion (FitsFace classes) faces
-    pub pairs : FitsParts (ranges_in d) faces parts
-    pub names : classes_named d faces parts ≡ cls
-
-  pub pairs_back : (cls : List ClassDecl) → AllByRecursion ClassWithin cls → (x y : List ℕ) → AreBytes y → each spell_face cls ≡ Some x → each (images.part cs) cls ≡ Some y → Pairs cls x y
-  pairs_back [] within x y h e g = record { faces = []; parts = []; first = bytes_are [] x e; second = bytes_are [] y g; fit = tt; pairs = tt; names = refl }
-  pairs_back (c ∷ cls) within x y h e g =
-      let s = split (spell_face c) (each spell_face cls) x e in
-      let t = split (images.part cs c) (each (images.part cs) cls) y g in
-      let f = face_back d cs tells c.face s.front s.first in
-      let p = part_back d cs tells f.it c f.names within.0 t.front (front_bytes t.front t.back y t.whole h) t.first in
-      let r = pairs_back cls within.1 s.back t.back (back_bytes t.front t.back y t.whole h) s.second t.second in
-      record {
-        faces = f.it ∷ r.faces;
-        parts = p.it ∷ r.parts;
-        first = flat_map-cons wire.face f.it r.faces ∙ ap (λ (z : List ℕ). z ++ flat_map wire.face r.faces) f.spelled ∙ ap (λ (z : List ℕ). s.front ++ z) r.first ∙ s.whole;
-        second = flat_map-cons spelling.part p.it r.parts ∙ ap (λ (z : List ℕ). z ++ flat_map spelling.part r.parts) p.spelled ∙ ap (λ (z : List ℕ). t.front ++ z) r.second ∙ t.whole;
-        fit = (f.fits, r.fit);
-        pairs = (p.fits, r.pairs);
-        names = ap (λ (z : ClassDecl). z ∷ classes_named d r.faces r.parts) p.names ∙ ap (λ (z : List ClassDecl). c ∷ z) r.names;
-      }
+use Rattle.som_naming.proofs.NamedFaces.{face_forth, face_back}
+use Rattle.som_naming.proofs.NamedParts.{front_bytes, back_bytes, part_forth, part_back}
+use Rattle.som_naming.proofs.NamedClasses.{classes, distinct_of, faces_kept, as_many_classes, known_classes, told, as_many_keys, no_doubles, faces_forth, parts_forth, Pairs, faces, parts, pairs, names, pairs_back, directory_of}
 
 -- ---- whole images
 
@@ -231,9 +84,6 @@ release_forth w fits differ =
     ∙ ap (λ (s : Spelled). image_by (length fs) (Some faces) s) (parts_forth d cs tells single fs w.parts pairs)
     ∙ ap (λ (b : Bool). Some (codes "SOML") then tag 1 then where_it_is b (images.number w16 (length fs) then Some faces) then Some parts) (le-leb (length fs) MAX_LIBRARY_CLASSES fits.faces.1)
     ∙ ap some_bytes (append_assoc (codes "SOML" ++ 1 ∷ []) (wire.counted w16 wire.face fs) parts)
-
-abbrev pub directory_of : List ClassKey → List (List (List ℕ)) → Directory
-directory_of ks ss = record { keys = ks; slots = ss }
 
 -- what an image is that a release is named from
 pub record Named (r : Release) (bytes : List ℕ) : Type 0 where

@@ -20,12 +20,14 @@ use Rattle.som_naming.specs.declared.directory.Directory.{Directory}
 use Rattle.som_naming.specs.Numbering.{class_names, AreNamed, IsDirectory, release_directory}
 use Rattle.som_naming.proofs.Places.{all_map}
 use Rattle.som_libimage.specs.declared.wire.WireRelease.{WireRelease}
-use Rattle.som_libimage.specs.Limits.{ClassWithin, IsWithinLimits}
-use Rattle.som_libimage.specs.Numbering.{ClassKnown, face_numbered, part_numbered, release_numbered}
-use Rattle.som_libimage.proofs.Conforming.{neither_is, none_first}
-use Rattle.som_libimage.proofs.NumberedParts.{ClassReady}
+use Rattle.som_naming.specs.ClassLimits.{ClassWithin}
+use Rattle.som_libimage.specs.Limits.{IsWithinLimits}
+use Rattle.som_naming.specs.NumberedClasses.{ClassKnown, face_numbered, part_numbered}
+use Rattle.som_libimage.specs.Numbering.{release_numbered}
+use Rattle.som_naming.proofs.Conforming.{neither_is, none_first}
+use Rattle.som_naming.proofs.NumberedParts.{ClassReady}
 use Rattle.som_libimage.proofs.NumberedReleases.{told, is_directory, ReleaseTurns, release_turns}
-use Rattle.som_libimage.proofs.ReadyClasses.{names_new, stand_before, classes_ready}
+use Rattle.som_naming.proofs.ReadyClasses.{names_new, stand_before, classes_ready}
 
 -- ---- the rules that are used
 

@@ -16,31 +16,10 @@ use Rattle.som_fields.specs.Spelling as wire
 use Rattle.som_fields.specs.declared.fault.ImageFault.{ImageFault}
 use Rattle.som_naming.specs.Numbering.{Differ}
 use Rattle.som_libimage.specs.Reading.{wire_at}
-use Rattle.som_libimage.specs.Naming.{interface_named, release_named}
-use Rattle.som_libimage.specs.Spelling.{FitsFaces}
-
--- ---- names
-
--- no two of the classes have one name, and no two entries of a class
-pub record NamesDiffer (faces : List ClassFace) : Type 0 where
-  pub classes : Differ (map (λ f. f.name) faces)
-  pub entries : All (λ f. Differ (map entry_name f.entries)) faces
-
--- ---- reading
+use Rattle.som_naming.specs.NamedClasses.{interface_named}
+use Rattle.som_libimage.specs.Naming.{release_named}
+use Rattle.som_naming.specs.SpelledClasses.{FitsFaces}
 
 -- what the bytes are read as, with names in the place of numbers
 abbrev pub library_at : List ℕ → Result Release ImageFault
 library_at bytes = wire_at bytes >>= λ w. Ok (release_named w)
-
--- ---- interfaces
-
--- the bytes of an interface's faces after their number, as they stand in the image of a client
-abbrev pub interface_image : Interface → Spelled
-interface_image i = images.counted w16 MAX_LIBRARY_CLASSES (images.face (kernel ++ interface_classes i)) i.classes
-
--- the faces that an interface is named from
-pub record NamedFrom (i : Interface) (bytes : List ℕ) : Type 0 where
-  pub faces : List WireFace
-  pub spelled : wire.counted w16 wire.face faces ≡ bytes
-  pub fits : FitsFaces faces
-  pub named : interface_named faces ≡ i

@@ -16,41 +16,7 @@ use Rattle.som_fields.specs.Reading.{number_at, face_at}
 use Rattle.som_wire.specs.declared.syntax.WirePart.{WirePart}
 use Rattle.som_wire.specs.Reading.{part_at}
 use Rattle.som_libimage.specs.declared.wire.WireRelease.{WireRelease}
-
--- whether an entry is introduced
-abbrev pub is_introduced : WireEntry → Bool
-is_introduced (entries.Introduced name sig way) = true
-is_introduced (entries.Moved name to) = false
-
--- how many entries a face introduces
-abbrev pub introduced_count : WireFace → ℕ
-introduced_count face = count_by is_introduced face.entries
-
--- a field for each of these, one after the other
-unfoldable pub each_at : {A B : Type 0} → (A → ℕ → Result (Read B) ImageFault) → List A → ℕ → Result (Read (List B)) ImageFault
-each_at one [] place = done [] place
-each_at one (x ∷ xs) place = do
-  first ← one x place
-  others ← each_at one xs first.next
-  done (first.value ∷ others.value) others.next
-
--- the kernel's four classes and those with these faces, with as many entries as each has
-abbrev pub ranges_of : List WireFace → Ranges
-ranges_of faces = record { classes = length faces + 4; entries = 9 ∷ 6 ∷ 1 ∷ 2 ∷ map (λ f. length f.entries) faces }
-
--- as many faces as the number says, which is at most so many; so many classes stand before them, and they name those and these alone
-unfoldable pub faces_after_at : ℕ → ℕ → List ℕ → ℕ → Result (Read (List WireFace)) ImageFault
-faces_after_at before most bytes place = do
-  count ← number_at w16 bytes place
-  if nat_lt most count.value then Err (faults.Number place) else many_at (face_at (count.value + before) bytes) count.value count.next
-
--- the faces of a library, after the kernel's four classes
-abbrev pub faces_at : List ℕ → ℕ → Result (Read (List WireFace)) ImageFault
-faces_at = faces_after_at 4 MAX_LIBRARY_CLASSES
-
--- a part for each of these faces
-abbrev pub parts_at : Ranges → List WireFace → List ℕ → ℕ → Result (Read (List WirePart)) ImageFault
-parts_at ranges faces bytes = each_at (λ face. part_at ranges (introduced_count face) bytes) faces
+use Rattle.som_naming.specs.ReadClasses.{ranges_of, faces_at, parts_at, head_at, at_end}
 
 -- the faces, and a part for each
 unfoldable pub classes_at : List ℕ → ℕ → Result (Read WireRelease) ImageFault
@@ -58,24 +24,6 @@ classes_at bytes place = do
   faces ← faces_at bytes place
   parts ← parts_at (ranges_of faces.value) faces.value bytes faces.next
   done (record { faces = faces.value; parts = parts.value }) parts.next
-
--- the bytes that an image begins with; of bytes that end before, those that are there decide
-abbrev pub magic_at : List ℕ → List ℕ → Result ℕ ImageFault
-magic_at magic bytes =
-    if starts_with nat_eq bytes magic then Ok (length magic) else
-    if starts_with nat_eq magic bytes then Err (faults.Cut (length bytes)) else
-    Err (faults.Magic 0)
-
--- those, and then the version 1
-unfoldable pub head_at : List ℕ → List ℕ → Result ℕ ImageFault
-head_at magic bytes = do
-  place ← magic_at magic bytes
-  version ← number_at w8 bytes place
-  if version.value == 1 then Ok version.next else Err (faults.Version place)
-
--- what was read, where nothing more follows
-abbrev pub at_end : {A : Type 0} → List ℕ → Read A → Result A ImageFault
-at_end bytes read = if nat_lt read.next (length bytes) then Err (faults.Trailing read.next) else Ok read.value
 
 -- `SOML` and version 1, the classes, and nothing more
 unfoldable pub wire_at : List ℕ → Result WireRelease ImageFault

@@ -10,30 +10,8 @@ use Rattle.som_wire.specs.declared.syntax.WirePart.{WirePart}
 use Rattle.som_wire.specs.Spelling.{part}
 use Rattle.som_wire.specs.Fitting.{FitsPart}
 use Rattle.som_libimage.specs.declared.wire.WireRelease.{WireRelease}
-use Rattle.som_libimage.specs.Reading.{introduced_count, ranges_of}
-
--- each fits the other of its place, and there are as many
-abbrev pub FitEach : {A B : Type 0} → (A → B → Type 0) → List A → List B → Type 0
-FitEach Fits [] [] = Unit {0}
-FitEach Fits (x ∷ xs) (y ∷ ys) = Fits x y × FitEach Fits xs ys
-FitEach Fits [] (y ∷ ys) = ⊥
-FitEach Fits (x ∷ xs) [] = ⊥
-
--- a part with a body for each entry that the face introduces
-abbrev pub FitsClass : Ranges → WireFace → WirePart → Type 0
-FitsClass ranges f p = FitsPart ranges (introduced_count f) p
-
--- a part for each face
-abbrev pub FitsParts : Ranges → List WireFace → List WirePart → Type 0
-FitsParts ranges fs ps = FitEach (FitsClass ranges) fs ps
-
--- at most so many faces, each with numbers of these classes and of so many before them alone
-abbrev pub FitsFacesAfter : ℕ → ℕ → List WireFace → Type 0
-FitsFacesAfter before most fs = FitsCounted 0 most (FitsFace (length fs + before)) fs
-
--- as many faces as a library may have, after the kernel's four classes
-abbrev pub FitsFaces : List WireFace → Type 0
-FitsFaces fs = FitsFacesAfter 4 MAX_LIBRARY_CLASSES fs
+use Rattle.som_naming.specs.ReadClasses.{introduced_count, ranges_of}
+use Rattle.som_naming.specs.SpelledClasses.{FitsParts, FitsFaces, head}
 
 -- the classes after the head
 abbrev pub classes : WireRelease → List ℕ
@@ -42,10 +20,6 @@ classes w = counted w16 face w.faces ++ flat_map part w.parts
 pub record FitsRelease (w : WireRelease) : Type 0 where
   pub faces : FitsFaces w.faces
   pub parts : FitsParts (ranges_of w.faces) w.faces w.parts
-
--- the magic bytes, and version 1
-abbrev pub head : List ℕ → List ℕ
-head magic = magic ++ 1 ∷ []
 
 -- `SOML`, version 1, and the classes
 abbrev pub library : WireRelease → List ℕ

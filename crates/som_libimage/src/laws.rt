@@ -1,12 +1,8 @@
-ghost use Rattle.som_libimage.specs.Libraries.{
-  NamedFrom,
-  NamesDiffer,
-  interface_image,
-  library_at,
-};
+ghost use Rattle.som_naming.specs.Interfaces.{NamedFrom, NamesDiffer, interface_image};
+ghost use Rattle.som_libimage.specs.Libraries.{library_at};
 ghost use Rattle.som_libimage.specs.Limits.{IsWithinLimits};
-ghost use Rattle.som_libimage.specs.Naming.{interface_named};
-ghost use Rattle.som_libimage.specs.Spelling.{FitsFaces};
+ghost use Rattle.som_naming.specs.NamedClasses.{interface_named};
+ghost use Rattle.som_naming.specs.SpelledClasses.{FitsFaces};
 ghost use Rattle.som_model.specs.Class.{interface_of};
 ghost use Rattle.som_model.specs.Conforming.{ReleaseOk};
 ghost use Rattle.som_model.specs.Images.{library_image};
@@ -20,14 +16,6 @@ ghost use Rattle.std.specs.Prelude.{◌≡◌, ℕ, List, Ok, Some};
 /// what decodes to a release that conforms is its image.
 pub fn names_of_a_conforming_release_differ()
     ensures { (r : Release) → ReleaseOk r → NamesDiffer (interface_of r).classes }
-{}
-
-/// The faces that a client is compiled against are spelled as those with numbers that they are named from, where names
-/// differ; and whatever interface has a spelling is named from faces with numbers.
-pub fn named_faces_are_spelled()
-    ensures forth { (faces : _) → FitsFaces faces → NamesDiffer (interface_named faces).classes →
-        interface_image (interface_named faces) ≡ Some (wire.counted w16 wire.face faces) }
-    ensures back { (i : Interface) (bytes : List ℕ) → interface_image i ≡ Some bytes → NamedFrom i bytes }
 {}
 
 /// A release that conforms and is within the limits has an image, and what is read from it is that release.

@@ -1,4 +1,5 @@
-ghost use Rattle.som_libimage.specs.Libraries.{NamesDiffer, library_at};
+ghost use Rattle.som_naming.specs.Interfaces.{NamesDiffer};
+ghost use Rattle.som_libimage.specs.Libraries.{library_at};
 ghost use Rattle.som_libimage.specs.Limits.{IsWithinLimits};
 ghost use Rattle.som_libimage.specs.Naming.{release_named};
 ghost use Rattle.som_libimage.specs.Spelling.{FitsRelease};
@@ -8,13 +9,12 @@ ghost use Rattle.som_model.specs.Images.{library_image};
 ghost use Rattle.som_fields.specs.Fields.{Gives};
 ghost use Rattle.std.specs.Prelude.{◌≡◌, Some, Ok, IfOk};
 
-use crate::named_part::name_classes;
 use crate::numbered::number_release;
 use crate::release::{read_release, write_release};
 use crate::wire::WireRelease;
 use som_fields::{EncodeFault, ImageFault};
 use som_model::{List, NoMemory, Release};
-use som_naming::Directory;
+use som_naming::{Directory, name_classes};
 use std::alloc::Global;
 
 // The release that a release of an image stands for.

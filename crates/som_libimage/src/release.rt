@@ -3,12 +3,12 @@ ghost use Rattle.som_libimage.specs.Spelling.{FitsRelease, library};
 ghost use Rattle.som_fields.specs.Fields.{Gives};
 ghost use Rattle.std.specs.Prelude.{◌≡◌, ◌≤◌, length, IfOk};
 
-use crate::faces::{append_faces, ranges_of, read_faces};
-use crate::head::{new_image, read_head};
-use crate::parts::{append_parts, read_parts};
 use crate::wire::WireRelease;
 use som_fields::{ImageFault, Read, write_u16};
 use som_model::{List, NoMemory};
+use som_naming::{
+    append_faces, append_parts, new_image, ranges_of, read_faces, read_head, read_parts,
+};
 use std::alloc::Global;
 
 const MAGIC: &[u8] = b"SOML";

@@ -17,3 +17,17 @@ pub mod TurnedBlocks
 pub mod FoundNames
 pub mod NamedLimits
 pub mod KnownNumbers
+pub mod EachFields
+pub mod ClassPlaces
+pub mod NamedFaces
+pub mod NamedParts
+pub mod NamedInterfaces
+pub mod NumberedFaces
+pub mod NumberedParts
+pub mod ReadyClasses
+pub mod Directories
+pub mod Conforming
+pub mod ClassFields
+pub mod NamedClasses
+pub mod NumberedClasses
+pub mod ClassesTurned

@@ -7,3 +7,9 @@ pub mod ReadyBlocks
 pub mod FoundNames
 pub mod KnownNumbers
 pub mod Forms
+pub mod ReadClasses
+pub mod SpelledClasses
+pub mod NamedClasses
+pub mod NumberedClasses
+pub mod ClassLimits
+pub mod Interfaces

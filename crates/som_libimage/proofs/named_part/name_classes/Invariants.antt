@@ -1,7 +1,0 @@
-use Rattle.std.proofs.Common.{◌≡◌, take}
-use Rattle.som_libimage.specs.Naming.{classes_named}
-use Rattle.som_libimage.proofs.named_part.name_classes.Given as goal
-
--- the classes so far
-abbrev pub invariant-loop-i : goal.invariant-loop-i
-invariant-loop-i l = l.named ≡ classes_named l.directory (take l.i l.faces) (take l.i l.parts)

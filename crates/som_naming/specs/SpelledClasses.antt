@@ -1,0 +1,39 @@
+-- The spelling of what libraries and clients have in common, with numbers and slots, and which values can stand in it.
+use Rattle.std.specs.Prelude.{ℕ, ◌+◌, List, [], ◌∷◌, ◌++◌, length, codes}
+use Rattle.std.specs.List.{flat_map}
+use Rattle.std.specs.Int.{w16}
+use Rattle.som_model.specs.declared.limits.TheConstants.{MAX_LIBRARY_CLASSES}
+use Rattle.som_fields.specs.declared.face.WireFace.{WireFace}
+use Rattle.som_fields.specs.declared.method.Ranges.{Ranges}
+use Rattle.som_fields.specs.Spelling.{counted, FitsCounted, face, FitsFace}
+use Rattle.som_wire.specs.declared.syntax.WirePart.{WirePart}
+use Rattle.som_wire.specs.Spelling.{part}
+use Rattle.som_wire.specs.Fitting.{FitsPart}
+use Rattle.som_naming.specs.ReadClasses.{introduced_count, ranges_of}
+
+-- each fits the other of its place, and there are as many
+abbrev pub FitEach : {A B : Type 0} → (A → B → Type 0) → List A → List B → Type 0
+FitEach Fits [] [] = Unit {0}
+FitEach Fits (x ∷ xs) (y ∷ ys) = Fits x y × FitEach Fits xs ys
+FitEach Fits [] (y ∷ ys) = ⊥
+FitEach Fits (x ∷ xs) [] = ⊥
+
+-- a part with a body for each entry that the face introduces
+abbrev pub FitsClass : Ranges → WireFace → WirePart → Type 0
+FitsClass ranges f p = FitsPart ranges (introduced_count f) p
+
+-- a part for each face
+abbrev pub FitsParts : Ranges → List WireFace → List WirePart → Type 0
+FitsParts ranges fs ps = FitEach (FitsClass ranges) fs ps
+
+-- at most so many faces, each with numbers of these classes and of so many before them alone
+abbrev pub FitsFacesAfter : ℕ → ℕ → List WireFace → Type 0
+FitsFacesAfter before most fs = FitsCounted 0 most (FitsFace (length fs + before)) fs
+
+-- as many faces as a library may have, after the kernel's four classes
+abbrev pub FitsFaces : List WireFace → Type 0
+FitsFaces fs = FitsFacesAfter 4 MAX_LIBRARY_CLASSES fs
+
+-- the magic bytes, and version 1
+abbrev pub head : List ℕ → List ℕ
+head magic = magic ++ 1 ∷ []
