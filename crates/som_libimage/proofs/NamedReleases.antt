@@ -50,7 +50,7 @@ use Rattle.som_naming.proofs.Places.{all_map, all_of, all_mapped, all_unmapped, 
 use Rattle.som_naming.proofs.Spelled.{some_bytes, bytes_are, split, guarded}
 use Rattle.som_naming.proofs.NamedFaces.{face_forth, face_back}
 use Rattle.som_naming.proofs.NamedParts.{front_bytes, back_bytes, part_forth, part_back}
-use Rattle.som_naming.proofs.NamedClasses.{classes, distinct_of, faces_kept, as_many_classes, known_classes, told, as_many_keys, no_doubles, faces_forth, parts_forth, Pairs, faces, parts, pairs, names, pairs_back, directory_of}
+use Rattle.som_naming.proofs.NamedClasses.{distinct_of, faces_kept, as_many_classes, known_classes, told, as_many_keys, no_doubles, faces_forth, parts_forth, Pairs, pairs_back, directory_of}
 
 -- ---- whole images
 
