@@ -80,7 +80,7 @@ abbrev pub HasPlace : List (List ℕ) → Option (List ℕ) → ℕ → Type 0
 HasPlace names None n = n ≡ 0
 HasPlace names (Some name) n = (place : ℕ) × (slice_get names place ≡ Some name) × (n ≡ place + 4)
 
--- the rows of the kernel's classes, which have no cells
+-- each of the kernel's classes has a row, which has no cells
 pub record AreKernelRows (rows : List (Option (Added ℕ))) : Type 0 where
   pub long : length rows ≡ 4
   pub filled : (i : ℕ) → i < 4 → HasRow rows i
@@ -104,7 +104,7 @@ Answers cs texts m None None = Unit {0}
 Answers cs texts m (Some cell) (Some k) = (text : List ℕ) × (slice_get texts cell ≡ Some text) × (held cs k m ≡ Some (User (printing text)))
 Answers cs texts m _ _ = ⊥
 
--- the first n classes are linked: in the row of each, the cell of each method is what the class answers for it
+-- the first n classes are linked: each has a row, in which the cell of each method is what the class answers for it
 pub record IsLinked (classes : List FirstClass) (n : ℕ) (rows : List (Option (Added ℕ))) (texts : List (List ℕ)) : Type 0 where
   pub long : length rows ≡ n + 4
   pub filled : (i : ℕ) → i < n + 4 → HasRow rows i
