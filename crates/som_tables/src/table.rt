@@ -29,6 +29,14 @@ impl<K: Kind> Model for Table<K> {
     ghost invariant = { λ t. IsTable t.rows.items t.lines.items t.cells.items };
 }
 
+/// Puts a value at a place.
+fn put<T: Drop>(places: &mut Vec<Option<T>>, place: usize, value: T)
+    requires { place < length places.old.items }
+    ensures { places.new.items ≡ slice_set places.old.items place (Some value) }
+{
+    places[place] = Some(value);
+}
+
 impl<K: Kind> Table<K> {
     /// The table without classes, which takes no memory.
     pub fn new(alloc: Global) -> Table<K>
@@ -89,8 +97,8 @@ impl<K: Kind> Table<K> {
             class.number(),
         )?;
         let place = class.number() as usize;
-        self.rows[place] = Some(row);
-        self.lines[place] = Some(line);
+        put(&mut self.rows, place, row);
+        put(&mut self.lines, place, line);
         Ok(())
     }
 
