@@ -36,6 +36,7 @@ use Rattle.som_elab.specs.Accessors.{body_of}
 use Rattle.som_elab.specs.Limits.{Passed, at_most, limit_passed}
 use Rattle.som_forms.specs.Locals.{Named, Names}
 use Rattle.som_forms.specs.Expressions.{Among}
+use Rattle.som_forms.specs.MethodBody.{elaborated_body}
 use Rattle.som_forms.specs.Statements.{BodyBreach, Breaks, ManyLocals, Told, elaborated_block}
 use Rattle.som_elab.specs.Bodies.{bodies_breach, classes_over, drafts_over, texts_for}
 

@@ -93,8 +93,8 @@ fn bodies_over(
     let kernel = kernel_faces(alloc)?;
     let kernel = kernel.classes.as_slice();
     let known = base.classes.as_slice();
-    let scope = scope_of(alloc, own_module, known, kernel, interfaces)?;
     let bares = bare_classes(alloc, known)?;
+    let scope = scope_of(alloc, own_module, known, kernel, interfaces)?;
     bodies_after(alloc, &scope, bares.as_slice(), drafts, texts, main)
 }
 

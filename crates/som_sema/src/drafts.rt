@@ -14,7 +14,7 @@ use crate::marks::marks;
 use crate::tables::by_name;
 use crate::variables::variables;
 use som_idl::{IdlInterface, Item, Word};
-use som_model::{ClassDecl, ClassFace, ClassKey, List, NoMemory};
+use som_model::{ClassDecl, ClassFace, ClassKey, Entry, List, NoMemory};
 use som_scope::{Scope, key_of, keys_of};
 use std::alloc::Global;
 
@@ -54,27 +54,41 @@ fn draft_from_text<'a>(
 fn draft_class(alloc: Global, scope: &Scope, text: &IdlInterface) -> Result<ClassDecl, NoMemory>
     ensures { IfOk result (λ d. d ≡ drafting.draft_class (module_in_scope scope.now) text.now) }
 {
-    let items = text.items.as_slice();
-    let marks = marks(alloc, items)?;
-    let by_name = by_name(alloc, &marks)?;
-    let name = text.name.text.copy(alloc)?;
-    let parents = parents(alloc, scope, text.parents.as_slice())?;
-    let entries = introduced(alloc, scope, &by_name, text)?;
     let variables = variables(alloc, scope, text)?;
-    let metaclass = metaclass(alloc, scope, items)?;
+    let face = draft_face(alloc, scope, text)?;
     Ok(ClassDecl {
-        face: ClassFace {
-            name,
-            major: major(items),
-            minor: minor(items),
-            parents,
-            metaclass,
-            entries,
-        },
+        face,
         variables,
         bodies: List::new(alloc),
         overrides: List::new(alloc),
     })
+}
+
+// The metaclass is made last, so that no other step has to drop it.
+fn draft_face(alloc: Global, scope: &Scope, text: &IdlInterface) -> Result<ClassFace, NoMemory>
+    ensures { IfOk result (λ face. face ≡ (drafting.draft_class (module_in_scope scope.now) text.now).face) }
+{
+    let items = text.items.as_slice();
+    let entries = entries(alloc, scope, text)?;
+    let parents = parents(alloc, scope, text.parents.as_slice())?;
+    let name = text.name.text.copy(alloc)?;
+    let metaclass = metaclass(alloc, scope, items)?;
+    Ok(ClassFace {
+        name,
+        major: major(items),
+        minor: minor(items),
+        parents,
+        metaclass,
+        entries,
+    })
+}
+
+fn entries(alloc: Global, scope: &Scope, text: &IdlInterface) -> Result<List<Entry>, NoMemory>
+    ensures { IfOk result (λ all. all ≡ drafting.introduces (module_in_scope scope.now) text.now) }
+{
+    let marks = marks(alloc, text.items.as_slice())?;
+    let by_name = by_name(alloc, &marks)?;
+    introduced(alloc, scope, &by_name, text)
 }
 
 fn parents(alloc: Global, scope: &Scope, parents: &[Word]) -> Result<List<ClassKey>, NoMemory>

@@ -24,7 +24,7 @@ inherited_call-returns-in-Parent t c =
     let e = c.in-Parent in
     makes_as (classes_at s) (elab_at s ls) _ _ _ c.parent_text.result e.is
     (parent_elab (among_at s) (place_at s) (names_at (classes_at s) ls) e.parent e.method e.args)
-    (subst (λ z. Makes (classes_at s) (of_all (map (elab_at s ls) e.args) (parent_form (among_at s) (place_at s) z e.method.text)) c.parent_text.result) c.as_slice-in-Parent.ensures c.parent_text.ensures)
+    (subst (λ z. Makes (classes_at s) (of_all (map (elab_at s ls) e.args) (parent_form (among_at s) (place_at s) z e.method.text)) c.parent_text.result) c.as_slice.ensures c.parent_text.ensures)
 
 pub inherited_call-returns-in-Parents : goal.inherited_call-returns-in-Parents
 inherited_call-returns-in-Parents t c =
@@ -42,7 +42,7 @@ method_call-returns-in_ok-receiver-in-Call t c =
     let on = c.in_ok-receiver-in-Call in
     makes_as (classes_at s) (elab_at s ls) _ _ _ c.call_text.result e.is
     (call_goes_on (among_at s) (place_at s) (names_at (classes_at s) ls) e.receiver e.method e.args (typed_at (classes_at s) on.receiver)
-    (ap (λ z. part (elab_at s ls z)) (sym c.get-in-Call.ensures) ∙ on.ensures.0)) c.call_text.ensures
+    (ap (λ z. part (elab_at s ls z)) (sym c.get.ensures) ∙ on.ensures.0)) c.call_text.ensures
 
 pub method_call-returns-in_ok-on-in-Lookup : goal.method_call-returns-in_ok-on-in-Lookup
 method_call-returns-in_ok-on-in-Lookup t c =
