@@ -27,6 +27,7 @@ use Rattle.som_steps.specs.ImageSteps.{kept_or, read_or, sound_release, are_byte
 use Rattle.som_steps.specs.Steps.{Follows}
 use Rattle.som_steps.proofs.ReleaseLaws.{may_be}
 use Rattle.som_build.specs.ClientAnswer.{base_in}
+use Rattle.som_steps.proofs.ByteLaws.{bytes_below, bytes_pass}
 
 abbrev Based : Type 0
 Based = Result Release Refusal

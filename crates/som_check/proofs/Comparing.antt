@@ -18,6 +18,7 @@ use Rattle.som_steps.specs.Lines.{named}
 use Rattle.som_steps.specs.declared.stop.CommandStop.TheVariants as stops
 use Rattle.som_check.specs.CheckAnswer.{accepted_line, not_kept, first_not_kept}
 use Rattle.som_check.specs.CheckSteps.{accepted_or}
+use Rattle.som_steps.proofs.ReleaseLaws.{may_be}
 
 -- ---- they may be compared
 

@@ -72,12 +72,12 @@ abbrev pub accepting : Files → Ending
 accepting files = record { text = accepted_line; status = 0; files = files }
 
 -- All images are got, all are read, the rules of all are looked at, and then each is compared with the one before it.
-pub data IsCheckAnswer (files : Files) (names : List (List ℕ)) : Ending → Type 0 where
-  image_absent : (r : Refusal) → images_in names files ≡ Err r → IsCheckAnswer files names (refusing files r)
-  image_unread : (images : List (List ℕ)) (r : Refusal) → images_in names files ≡ Ok images → releases_in names images ≡ Err r → IsCheckAnswer files names (refusing files r)
+pub data IsCheckAnswer (names : List (List ℕ)) (files : Files) : Ending → Type 0 where
+  image_absent : (r : Refusal) → images_in names files ≡ Err r → IsCheckAnswer names files (refusing files r)
+  image_unread : (images : List (List ℕ)) (r : Refusal) → images_in names files ≡ Ok images → releases_in names images ≡ Err r → IsCheckAnswer names files (refusing files r)
   image_broken : (images : List (List ℕ)) (rs : List Release) (r : Refusal) → images_in names files ≡ Ok images → releases_in names images ≡ Ok rs → all_rules_kept names rs ≡ Err r
-      → IsCheckAnswer files names (refusing files r)
+      → IsCheckAnswer names files (refusing files r)
   refuses : (images : List (List ℕ)) (rs : List Release) (number : ℕ) (b : CompatBreach) → images_in names files ≡ Ok images → releases_in names images ≡ Ok rs → AllConform rs
-      → first_not_kept rs ≡ Some (number, b) → IsCheckAnswer files names (refusing files (not_kept (name_at names number) b))
+      → first_not_kept rs ≡ Some (number, b) → IsCheckAnswer names files (refusing files (not_kept (name_at names number) b))
   accepts : (images : List (List ℕ)) (rs : List Release) → images_in names files ≡ Ok images → releases_in names images ≡ Ok rs → AllConform rs → first_not_kept rs ≡ None
-      → IsCheckAnswer files names (accepting files)
+      → IsCheckAnswer names files (accepting files)

@@ -10,6 +10,7 @@ ghost use Rattle.som_order.specs.Names.{name_at};
 ghost use Rattle.som_steps.specs.Answering.{AnswersTold};
 ghost use Rattle.som_steps.specs.Cause.{HasCause, IsQuiet};
 ghost use Rattle.som_steps.specs.Outcomes.{EndsAsTold, ShowsSome, StoreFails};
+ghost use Rattle.som_steps.specs.Status.{is_calm_status};
 ghost use Rattle.som_steps.specs.Steps.{Follows, FollowsTold};
 ghost use Rattle.som_steps.specs.declared.output.End.TheVariants as ends;
 ghost use Rattle.std.specs.Prelude.{All, IfOk, IsTrue, [], length, map, option_copied, ◌<◌, ◌∷◌, ◌≡◌, ◌≢◌, ◌≤◌, ◌⊎◌};

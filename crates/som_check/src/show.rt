@@ -5,6 +5,7 @@ ghost use Rattle.som_io.specs.Outside.{Rose};
 ghost use Rattle.som_steps.specs.Answering.{AnswersTold};
 ghost use Rattle.som_steps.specs.Cause.{HasCause, IsQuiet};
 ghost use Rattle.som_steps.specs.Outcomes.{EndsAsTold, ShowsSome, StoreFails};
+ghost use Rattle.som_steps.specs.Status.{is_calm_status};
 ghost use Rattle.som_steps.specs.Steps.{Follows};
 ghost use Rattle.std.specs.Prelude.{IsTrue, ◌≡◌, ◌≢◌, ◌≤◌, ◌⊎◌};
 

@@ -24,6 +24,7 @@ use Rattle.som_run.specs.RunText.{run_text, no_trace}
 use Rattle.som_run.specs.Taking.{IsNone, TakesLibrary, TakesClient, IsLibrary, IsClient}
 use Rattle.som_run.specs.RunAnswer.{no_client, no_library, client_refused, library_refused, faces_differ, ran, no_image, IsRunAnswer, client_runs}
 use Rattle.som_run.specs.RunSteps.{TakesOr, RunsOn}
+use Rattle.som_steps.proofs.FileLaws.{found_by, missing_by}
 
 -- the client isn't there
 no_client_by : (files : Files) (c l : List ℕ) (fuel : ℕ) (stop : CommandStop) → FollowsTold {A = List ℕ} (Some files) (Err stop) (file_of c) → Answers (IsRunAnswer c l fuel files) files (Err stop)

@@ -29,6 +29,7 @@ use Rattle.som_steps.specs.Lines.{broken, unread}
 use Rattle.som_run.specs.Taking.{ConformsAsFirst, ClientTells, descends_in}
 use Rattle.som_run.proofs.LibraryLaws.{first_within, taken}
 use Rattle.som_run.proofs.OneRun.{Told}
+use Rattle.som_run.proofs.ClientLaws as clients
 
 -- ---- libraries
 

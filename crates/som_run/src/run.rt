@@ -6,7 +6,7 @@ ghost use Rattle.som_run.specs.Taking.{IsClient, IsLibrary};
 ghost use Rattle.som_steps.specs.Answering.{AnswersTold};
 ghost use Rattle.som_steps.specs.Cause.{HasCause, IsQuiet};
 ghost use Rattle.som_steps.specs.Outcomes.{EndsAsTold, ShowsSome, StoreFails};
-ghost use Rattle.som_steps.specs.Status.{end_status};
+ghost use Rattle.som_steps.specs.Status.{end_status, is_calm_status};
 ghost use Rattle.std.specs.Prelude.{IsTrue, List as Seq, ℕ, ◌≡◌, ◌≢◌, ◌≤◌, ◌⊎◌};
 
 use crate::first_client::take_client;
