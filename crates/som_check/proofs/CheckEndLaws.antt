@@ -1,5 +1,5 @@
 -- How the end of a call that checks images is that of its answer.
-use Rattle.std.proofs.Common.{◌≡◌, ℕ, List, arith, Option, Some, None, refl, zero, ◌≤◌, length}
+use Rattle.std.proofs.Common.{◌≡◌, ℕ, List, arith, Option, Some, None, refl, ◌≤◌, length}
 use Rattle.som_model.specs.declared.program.Release.{Release}
 use Rattle.som_model.specs.Bytes.{Files}
 use Rattle.som_model.specs.Compatible.{Accepted, CompatBreach}
