@@ -1,188 +1,141 @@
--- How the ends of a call are those of its answer.
-use Rattle.std.proofs.Common.{◌≡◌, ℕ, List, [], arith, Option, Some, None, Result, Ok, Err, refl, sym, ap, subst, ◌∙◌, inl, inr}
-use Rattle.std.proofs.lemmas.List.{append-nil}
+-- What a call comes to is what the command comes to that it asks for.
+use Rattle.std.proofs.Common.{◌≡◌, ℕ, List, Option, Some, None, subst, inl}
 use Rattle.som_model.specs.declared.program.Release.{Release}
 use Rattle.som_model.specs.declared.program.ClientProgram.{ClientProgram}
 use Rattle.som_model.specs.Bytes.{Files}
-use Rattle.som_model.specs.Means.{means}
-use Rattle.som_model.specs.Compatible.{Accepted, CompatBreach}
-use Rattle.som_order.specs.Names.{name_at}
+use Rattle.som_model.specs.Compatible.{CompatBreach}
 use Rattle.som_io.specs.Outside.{ShowsAll, ShowsFront}
-use Rattle.som_libimage.proofs.Decoded.{library_again}
-use Rattle.som_cliimage.proofs.Decoded.{client_again}
-use Rattle.som_cmd.specs.declared.output.Output.{Output}
-use Rattle.som_cmd.specs.declared.stop.Stop.{Stop}
-use Rattle.som_cmd.specs.declared.stop.Stop.TheVariants as stops
-use Rattle.som_cmd.specs.Words.{Asked, Bad}
-use Rattle.som_cmd.specs.CheckAnswer.{IsCheckAnswer, not_kept, first_not_kept, accepting}
-use Rattle.som_cmd.specs.Answer.{Ending, IsAnswer, bad_words, runs, shows, shows_client, checks, ran, showing, showing_client, refusing, bad_line}
-use Rattle.som_cmd.specs.Cause.{FailsOn, HasCause}
-use Rattle.som_cmd.specs.Steps.{printed, AnswersTold}
-use Rattle.som_cmd.specs.Saying.{SaysAll, SaysFailure, SaysFront}
-use Rattle.som_cmd.specs.Ends.{EndsAs, EndsAsTold, StoreFails, ShowsSome, AreImagesOf, RunsAs, IsImageOf, IsImageOfClient, ShowsProgram, ShowsRelease, AreChecked, TellsAccepted, TellsBreach}
-use Rattle.som_cmd.proofs.CheckMeaning.{accepted_if, none_if, under_conform, accepts_under, refuses_under}
-use Rattle.som_cmd.proofs.ImageLaws.{of_client, of_library}
-use Rattle.som_cmd.proofs.RunAnswers.{some_answer, one_answer}
+use Rattle.som_steps.proofs.OutcomeLaws.{ends_with, told_with, some_with}
+use Rattle.som_steps.proofs.Printed.{nothing_written}
+use Rattle.som_steps.specs.Endings.{Ending}
+use Rattle.som_steps.specs.Answering.{Answering}
+use Rattle.som_steps.specs.Outcomes as steps
+use Rattle.som_build.proofs.PutEndLaws.{puts_by, puts_client_by}
+use Rattle.som_build.specs.PutAnswer.{puts}
+use Rattle.som_build.specs.LibraryAnswer.{IsLibraryAnswer}
+use Rattle.som_build.specs.ClientAnswer.{IsClientAnswer}
+use Rattle.som_check.proofs.ShowEndLaws.{shows_by, shows_client_by}
+use Rattle.som_check.proofs.CheckEndLaws.{accepted_by, breach_by}
+use Rattle.som_check.specs.CheckAnswer.{IsCheckAnswer, first_not_kept}
+use Rattle.som_check.specs.ShowEnds.{ShowsProgram, ShowsRelease}
+use Rattle.som_check.specs.CheckEnds.{TellsAccepted, TellsBreach}
+use Rattle.som_check.specs.ShowAnswer.{IsShowAnswer}
+use Rattle.som_run.proofs.RunEndLaws.{means_by}
+use Rattle.som_run.specs.RunEnds.{RunsAs}
+use Rattle.som_run.specs.RunAnswer.{IsRunAnswer}
+use Rattle.som_cmd.proofs.OneAnswer.{some_answer}
+use Rattle.som_cmd.specs.Words.{Asked, Bad, Library, Run, Show, Check, Client}
+use Rattle.som_cmd.specs.Answer.{IsAnswer, bad_words, runs, shows, checks, bad_line, compiles, compiles_client}
+use Rattle.som_cmd.specs.Cause.{FailsOn}
+use Rattle.som_cmd.specs.Ends.{EndsAsTold, StoreFails, ShowsSome, AreImagesOf, IsImageOf, IsImageOfClient, AreChecked}
 use Rattle.som_cmd.proofs.WordLaws.{HasMains}
+use Rattle.som_cmd.specs.PutEnds.{KeepsFiles, AreTextsOf, AreClientTextsOf, PutsProgram, PutsRelease}
 
--- ---- what a command came to
+-- ---- what a command comes to is what the call comes to that asks for it
 
-module _ (asked by : Asked) (is : by ≡ asked) where
-  answer_of : (before : Files) (e : Ending) → IsAnswer before by e → IsAnswer before asked e
-  answer_of before e a = subst (λ (x : Asked). IsAnswer before x e) is a
+module _ (asked by : Asked) (is : by ≡ asked) (IsOwn : Answering) (into : (files : Files) (e : Ending) → IsOwn files e → IsAnswer files by e) where
+  pub answered : (files : Option Files) (status : ℕ) (new_files : Option Files) (old new : Option (List ℕ)) → steps.EndsAsTold IsOwn files status new_files old new → EndsAsTold asked files status new_files old new
+  answered files status new_files old new e = subst (λ (x : Asked). EndsAsTold x files status new_files old new) is (told_with IsOwn (λ before. IsAnswer before by) into files status new_files old new e)
 
-  -- where all of it was printed, the call ends as the answer says
-  pub ends : (files : Option Files) (outcome : Result Output Stop) → AnswersTold files by outcome → (status : ℕ) (new_files : Option Files) → new_files ≡ files
-      → (old new : Option (List ℕ)) → SaysAll outcome status old new → EndsAsTold asked files status new_files old new
-  ends None outcome f status new_files same old new says = tt
-  ends (Some before) (Ok o) f status new_files same old new says =
-      record { told = printed before o; is_answer = answer_of before (printed before o) f; status_is = says.0; text_is = says.1; files_are = same }
-  ends (Some before) (Err (stops.Refused r)) f status new_files same old new says =
-      record { told = refusing before r; is_answer = answer_of before (refusing before r) f; status_is = says.0; text_is = says.1; files_are = same }
-  ends (Some before) (Err (stops.StoreFailed line)) f status new_files same old new says = absurd says
-  ends (Some before) (Err stops.NoMemory) f status new_files same old new says = absurd says
+  pub front : (files : Option Files) (count now : ℕ) (old new : Option (List ℕ)) → steps.ShowsSome IsOwn (FailsOn files by) files count now old new → ShowsSome asked files count now old new
+  front files count now old new s =
+      subst (λ (x : Asked). ShowsSome x files count now old new) is (some_with IsOwn (λ before. IsAnswer before by) (FailsOn files by) into files count now old new s)
 
-shows_nothing : (written : Option (List ℕ)) (text : List ℕ) → ShowsFront written written text
-shows_nothing None text = (text, tt)
-shows_nothing (Some old) text = (text, ([], refl, ap (λ (t : List ℕ). Some t) (sym (append-nil old))))
+pub store_failed : (asked by : Asked) → by ≡ asked → (files : Option Files) (count now : ℕ) (old new : Option (List ℕ)) → steps.StoreFails (FailsOn files by) count now old new → StoreFails asked files count now old new
+store_failed asked by is files count now old new f = subst (λ (x : Asked). StoreFails x files count now old new) is f
 
--- where nothing was written, a front of the answer's text was
-pub nothing_written : (asked : Asked) → HasMains asked → (files : Option Files) (count now : ℕ) (written : Option (List ℕ)) → ShowsSome asked files count now written written
-nothing_written asked mains None count now written = tt
-nothing_written asked mains (Some files) count now written = let a = some_answer files asked mains in inl (a.0, a.1, shows_nothing written a.0.text)
-
--- a front of what there is to print was written
-pub fronts : (asked by : Asked) → by ≡ asked → HasMains asked → (files : Option Files) (outcome : Result Output Stop) → AnswersTold files by outcome → (count now : ℕ) → HasCause (FailsOn files by) count now outcome
-    → (old new : Option (List ℕ)) → SaysFront outcome old new → ShowsSome asked files count now old new
-fronts asked by is mains None outcome f count now cause old new says = tt
-fronts asked by is mains (Some before) (Ok o) f count now cause old new says = inl (printed before o, answer_of asked by is before (printed before o) f, says)
-fronts asked by is mains (Some before) (Err (stops.Refused r)) f count now cause old new says = inl (refusing before r, answer_of asked by is before (refusing before r) f, says)
-fronts asked by is mains (Some before) (Err (stops.StoreFailed line)) f count now cause old new says =
-    inr (cause.0, line, subst (λ (x : Asked). FailsOn (Some before) x line) is cause.1, says)
-fronts asked by is mains (Some before) (Err stops.NoMemory) f count now cause old new says =
-    subst (λ (x : Option (List ℕ)). ShowsSome asked (Some before) count now old x) (sym says) (nothing_written asked mains (Some before) count now old)
-
--- the line that says that the store failed was written
-pub fails : (asked by : Asked) → by ≡ asked → (files : Option Files) (outcome : Result Output Stop) (count now : ℕ) → HasCause (FailsOn files by) count now outcome
-    → (old new : Option (List ℕ)) → SaysFailure outcome old new → StoreFails asked files count now old new
-fails asked by is files (Ok o) count now cause old new says = absurd says
-fails asked by is files (Err (stops.Refused r)) count now cause old new says = absurd says
-fails asked by is files (Err (stops.StoreFailed line)) count now cause old new says =
-    record { rose = cause.0; line = line; is_line = subst (λ (x : Asked). FailsOn files x line) is cause.1; written = says }
-fails asked by is files (Err stops.NoMemory) count now cause old new says = absurd says
+pub files_kept : (asked by : Asked) → by ≡ asked → (files : Option Files) (count now status : ℕ) (new_files : Option Files) → KeepsFiles by files count now status new_files → KeepsFiles asked files count now status new_files
+files_kept asked by is files count now status new_files k = subst (λ (x : Asked). KeepsFiles x files count now status new_files) is k
 
 -- ---- words of no form
+
+is_bad : (asked : Asked) → Bad ≡ asked → (before : Files) → IsAnswer before asked (record { text = bad_line; status = 2; files = before })
+is_bad asked e before = subst (λ (a : Asked). IsAnswer before a (record { text = bad_line; status = 2; files = before })) e bad_words
 
 pub bad_ends : (asked : Asked) → Bad ≡ asked → (files : Option Files) (status : ℕ) → status ≡ 2 → (new_files : Option Files) → new_files ≡ files
     → (old new : Option (List ℕ)) → ShowsAll old new bad_line → EndsAsTold asked files status new_files old new
 bad_ends asked e None status is new_files same old new shown = tt
 bad_ends asked e (Some before) status is new_files same old new shown =
-    record { told = record { text = bad_line; status = 2; files = before }; is_answer = subst (λ (a : Asked). IsAnswer before a (record { text = bad_line; status = 2; files = before })) e bad_words; status_is = is; text_is = shown; files_are = same }
+    record { told = record { text = bad_line; status = 2; files = before }; is_answer = is_bad asked e before; status_is = is; text_is = shown; files_are = same }
 
 pub bad_fronts : (asked : Asked) → Bad ≡ asked → (files : Option Files) (count now : ℕ) (old new : Option (List ℕ)) → ShowsFront old new bad_line → ShowsSome asked files count now old new
 bad_fronts asked e None count now old new front = tt
-bad_fronts asked e (Some before) count now old new front =
-    inl (record { text = bad_line; status = 2; files = before }, subst (λ (a : Asked). IsAnswer before a (record { text = bad_line; status = 2; files = before })) e bad_words, front)
+bad_fronts asked e (Some before) count now old new front = inl (record { text = bad_line; status = 2; files = before }, is_bad asked e before, front)
 
--- ---- an end as the answer says
+-- where nothing was written, a front of the answer's text was
+pub none_written : (asked : Asked) → HasMains asked → (files : Option Files) (count now : ℕ) (written : Option (List ℕ)) → ShowsSome asked files count now written written
+none_written asked mains files count now written = nothing_written (λ before. IsAnswer before asked) (FailsOn files asked) (λ before. some_answer before asked mains) files count now written
 
-pub none_told : (told : Files) → None ≡ Some told → ⊥
-none_told told e = cc
+-- ---- the end of the call is that of the command that it asks for
 
-pub some_told : (a b : Files) → Some a ≡ Some b → a ≡ b
-some_told a b e = cc
+ends_by : (asked by : Asked) (files : Option Files) (told : Files) → asked ≡ by → files ≡ Some told → (status : ℕ) (new_files : Option Files) (old new : Option (List ℕ)) → EndsAsTold asked files status new_files old new
+    → steps.EndsAs (λ e. IsAnswer told by e) status new_files old new
+ends_by asked by files told is same status new_files old new e =
+    subst (λ (x : Option Files). EndsAsTold by x status new_files old new) same (subst (λ (x : Asked). EndsAsTold x files status new_files old new) is e)
 
-never_both : (rs : List Release) (number : ℕ) (b : CompatBreach) → first_not_kept rs ≡ None → first_not_kept rs ≡ Some (number, b) → ⊥
-never_both rs number b e f = cc
+run_alone : (files : Files) (c l : List ℕ) (fuel : ℕ) (e : Ending) → IsAnswer files (Run c l fuel) e → IsRunAnswer c l fuel files e
+run_alone files c l fuel e (runs _ _ _ _ a) = a
 
-not_zero : (status : ℕ) → status ≡ 0 → status ≡ 4 → ⊥
-not_zero status e f = omega arith
+show_alone : (files : Files) (n : List ℕ) (e : Ending) → IsAnswer files (Show n) e → IsShowAnswer n files e
+show_alone files n e (shows _ _ a) = a
 
--- it is that of any other answer
-module _ (asked : Asked) (before : Files) (status : ℕ) (new_files : Option Files) (old new : Option (List ℕ)) (e : EndsAs before asked status new_files old new) (other : Ending) (is : IsAnswer before asked other) where
-  same_ending : e.told ≡ other
-  same_ending = one_answer before asked e.told other e.is_answer is
+check_alone : (files : Files) (ns : List (List ℕ)) (e : Ending) → IsAnswer files (Check ns) e → IsCheckAnswer ns files e
+check_alone files ns e (checks _ _ a) = a
 
-  pub text_of : ShowsAll old new other.text
-  text_of = subst (λ (x : Ending). ShowsAll old new x.text) same_ending e.text_is
+library_alone : (files : Files) (out : List ℕ) (names : List (List ℕ)) (e : Ending) → IsAnswer files (Library out names) e → IsLibraryAnswer out names files e
+library_alone files out names e (compiles _ _ _ a) = a
 
-  pub status_is : status ≡ other.status
-  status_is = e.status_is ∙ ap (λ (x : Ending). x.status) same_ending
+client_alone : (files : Files) (out library : List ℕ) (names : List (List ℕ)) (e : Ending) → IsAnswer files (Client out library names) e → IsClientAnswer out library names files e
+client_alone files out library names e (compiles_client _ _ _ _ a) = a
 
-  pub files_of : new_files ≡ Some other.files
-  files_of = e.files_are ∙ ap (λ (x : Ending). Some x.files) same_ending
+module _ (asked : Asked) (files : Option Files) (status : ℕ) (new_files : Option Files) (old new : Option (List ℕ)) (e : EndsAsTold asked files status new_files old new) where
+  -- it is an end as the client means
+  pub means : (p : ClientProgram) (r : Release) (fuel : ℕ) → AreImagesOf asked files p r fuel → RunsAs p r fuel status old new
+  means p r fuel m =
+      means_by m.client m.library fuel m.told status new_files old new p r
+      (ends_with (λ x. IsAnswer m.told (Run m.client m.library fuel) x) (IsRunAnswer m.client m.library fuel m.told) (run_alone m.told m.client m.library fuel) status new_files old new
+      (ends_by asked (Run m.client m.library fuel) files m.told m.asked_is m.files_are status new_files old new e)) m.images
 
--- is an end as the client means
-pub means_by : (asked : Asked) (files : Option Files) (status : ℕ) (new_files : Option Files) (old new : Option (List ℕ)) (p : ClientProgram) (r : Release) (fuel : ℕ)
-    → EndsAsTold asked files status new_files old new → AreImagesOf asked files p r fuel → RunsAs p r fuel status old new
-means_by asked None status new_files old new p r fuel e m = absurd (none_told m.told m.files_are)
-means_by asked (Some before) status new_files old new p r fuel e m =
-    let same : before ≡ m.told = some_told before m.told m.files_are in
-    let is : IsAnswer m.told asked (ran m.told (means r p fuel)) = subst (λ (a : Asked). IsAnswer m.told a (ran m.told (means r p fuel))) (sym m.asked_is)
-    (runs m.client m.library fuel m.client_bytes m.library_bytes m.client_is m.library_is p m.program r m.release m.compiled) in
-    let answer = subst (λ (x : Files). IsAnswer x asked (ran x (means r p fuel))) (sym same) is in
-    record { text = text_of asked before status new_files old new e (ran before (means r p fuel)) answer; status_is = status_is asked before status new_files old new e (ran before (means r p fuel)) answer }
+  -- that shows the release
+  shown_by : (told : Files) (n : List ℕ) → asked ≡ Show n → files ≡ Some told → steps.EndsAs (IsShowAnswer n told) status new_files old new
+  shown_by told n is same =
+      ends_with (λ x. IsAnswer told (Show n) x) (IsShowAnswer n told) (show_alone told n) status new_files old new (ends_by asked (Show n) files told is same status new_files old new e)
 
--- is an end that shows the release
-pub shows_by : (asked : Asked) (files : Option Files) (status : ℕ) (new_files : Option Files) (old new : Option (List ℕ)) (r : Release) → EndsAsTold asked files status new_files old new → IsImageOf asked files r → ShowsRelease r status old new
-shows_by asked None status new_files old new r e m = absurd (none_told m.told m.files_are)
-shows_by asked (Some before) status new_files old new r e m =
-    let same : before ≡ m.told = some_told before m.told m.files_are in
-    let is : IsAnswer m.told asked (showing m.told r) = subst (λ (a : Asked). IsAnswer m.told a (showing m.told r)) (sym m.asked_is)
-    (shows m.name m.bytes r m.image_is (of_library r m.bytes m.spelled) (library_again m.bytes m.bytes_are r m.spelled m.within) m.conforms) in
-    let answer = subst (λ (x : Files). IsAnswer x asked (showing x r)) (sym same) is in
-    record { text = text_of asked before status new_files old new e (showing before r) answer; status_is = status_is asked before status new_files old new e (showing before r) answer }
+  pub shown : (r : Release) → IsImageOf asked files r → ShowsRelease r status old new
+  shown r m = shows_by m.name m.told status new_files old new (shown_by m.told m.name m.asked_is m.files_are) r m.under
 
--- is an end that shows the client program
-pub shows_client_by : (asked : Asked) (files : Option Files) (status : ℕ) (new_files : Option Files) (old new : Option (List ℕ)) (p : ClientProgram) → EndsAsTold asked files status new_files old new → IsImageOfClient asked files p
-    → ShowsProgram p status old new
-shows_client_by asked None status new_files old new p e m = absurd (none_told m.told m.files_are)
-shows_client_by asked (Some before) status new_files old new p e m =
-    let same : before ≡ m.told = some_told before m.told m.files_are in
-    let is : IsAnswer m.told asked (showing_client m.told p) = subst (λ (a : Asked). IsAnswer m.told a (showing_client m.told p)) (sym m.asked_is)
-    (shows_client m.name m.bytes p m.image_is (of_client p m.bytes m.spelled) (client_again m.bytes m.bytes_are p m.spelled m.within) m.conforms) in
-    let answer = subst (λ (x : Files). IsAnswer x asked (showing_client x p)) (sym same) is in
-    record { text = text_of asked before status new_files old new e (showing_client before p) answer; status_is = status_is asked before status new_files old new e (showing_client before p) answer }
+  -- or the client program
+  pub shown_client : (p : ClientProgram) → IsImageOfClient asked files p → ShowsProgram p status old new
+  shown_client p m = shows_client_by m.name m.told status new_files old new (shown_by m.told m.name m.asked_is m.files_are) p m.under
 
--- ---- images that are checked
+  checked_by : (names : List (List ℕ)) (rs : List Release) → (m : AreChecked asked files names rs) → steps.EndsAs (IsCheckAnswer names m.told) status new_files old new
+  checked_by names rs m =
+      ends_with (λ x. IsAnswer m.told (Check names) x) (IsCheckAnswer names m.told) (check_alone m.told names) status new_files old new (ends_by asked (Check names) files m.told m.asked_is m.files_are status new_files old new e)
 
-module _ (asked : Asked) (before : Files) (status : ℕ) (new_files : Option Files) (old new : Option (List ℕ)) (e : EndsAs before asked status new_files old new) (names : List (List ℕ)) (rs : List Release) (m : AreChecked asked (Some before) names rs) where
-  -- what is answered of them, over the files that are told
-  is_answer : (ending : Files → Ending) → IsCheckAnswer m.told names (ending m.told) → IsAnswer before asked (ending before)
-  is_answer ending is =
-      subst (λ (x : Files). IsAnswer x asked (ending x)) (sym (some_told before m.told m.files_are))
-      (subst (λ (a : Asked). IsAnswer m.told a (ending m.told)) (sym m.asked_is) (checks names (ending m.told) is))
+  -- that accepts exactly the lists that are to be accepted
+  pub accepted : (names : List (List ℕ)) (rs : List Release) → AreChecked asked files names rs → TellsAccepted rs status old new
+  accepted names rs m = accepted_by names m.told status new_files old new (checked_by names rs m) rs m.two m.under
 
-  refuses_so : (number : ℕ) (b : CompatBreach) → first_not_kept rs ≡ Some (number, b) → TellsBreach names number b status old new
-  refuses_so number b told =
-      let ending : Files → Ending = λ files. refusing files (not_kept (name_at names number) b) in
-      let is = is_answer ending (refuses_under m.told names rs number b m.under told) in
-      record { text = text_of asked before status new_files old new e (ending before) is; status_is = status_is asked before status new_files old new e (ending before) is }
+  -- and tells what isn't kept in the others
+  pub breach : (names : List (List ℕ)) (rs : List Release) (number : ℕ) (b : CompatBreach) → AreChecked asked files names rs → first_not_kept rs ≡ Some (number, b) → TellsBreach names number b status old new
+  breach names rs number b m told = breach_by names m.told status new_files old new (checked_by names rs m) rs m.two m.under number b told
 
-  accepts_so : (o : Option (ℕ × CompatBreach)) → first_not_kept rs ≡ o → TellsAccepted rs status old new
-  accepts_so None none =
-      let is = is_answer accepting (accepts_under m.told names rs m.under none) in
-      record {
-        status_is = λ _. status_is asked before status new_files old new e (accepting before) is;
-        text = λ _. text_of asked before status new_files old new e (accepting before) is;
-        only = λ _. accepted_if rs m.two (under_conform m.told names rs m.under) none;
-      }
-  accepts_so (Some (number, b)) told =
-      let never : Accepted rs → ⊥ = λ a. never_both rs number b (none_if rs a) told in
-      record {
-        status_is = λ a. absurd (never a);
-        text = λ a. absurd (never a);
-        only = λ zero. absurd (not_zero status zero (refuses_so number b told).status_is);
-      }
+  -- after which the image of the release stands under the name that the texts stand for
+  pub compiled : (out : List ℕ) (r : Release) → AreTextsOf asked files out r → PutsRelease files out r status new_files old new
+  compiled out r m = record {
+    told = m.told;
+    files_are = m.files_are;
+    puts = puts_by out m.names m.told status new_files old new r
+        (ends_with (λ x. IsAnswer m.told (Library out m.names) x) (IsLibraryAnswer out m.names m.told) (library_alone m.told out m.names) status new_files old new
+        (ends_by asked (Library out m.names) files m.told m.asked_is m.files_are status new_files old new e)) m.texts;
+  }
 
--- is an end that accepts exactly the lists that are to be accepted
-pub accepted_by : (asked : Asked) (files : Option Files) (status : ℕ) (new_files : Option Files) (old new : Option (List ℕ)) (names : List (List ℕ)) (rs : List Release)
-    → EndsAsTold asked files status new_files old new → AreChecked asked files names rs → TellsAccepted rs status old new
-accepted_by asked None status new_files old new names rs e m = absurd (none_told m.told m.files_are)
-accepted_by asked (Some before) status new_files old new names rs e m = accepts_so asked before status new_files old new e names rs m (first_not_kept rs) refl
-
--- and that tells what isn't kept in the others
-pub breach_by : (asked : Asked) (files : Option Files) (status : ℕ) (new_files : Option Files) (old new : Option (List ℕ)) (names : List (List ℕ)) (rs : List Release) (number : ℕ) (b : CompatBreach)
-    → EndsAsTold asked files status new_files old new → AreChecked asked files names rs → first_not_kept rs ≡ Some (number, b) → TellsBreach names number b status old new
-breach_by asked None status new_files old new names rs number b e m told = absurd (none_told m.told m.files_are)
-breach_by asked (Some before) status new_files old new names rs number b e m told = refuses_so asked before status new_files old new e names rs m number b told
+  -- or that of the client program
+  pub client_compiled : (out : List ℕ) (p : ClientProgram) → AreClientTextsOf asked files out p → PutsProgram files out p status new_files old new
+  client_compiled out p m = record {
+    told = m.told;
+    files_are = m.files_are;
+    puts = puts_client_by out m.library m.names m.told status new_files old new p
+        (ends_with (λ x. IsAnswer m.told (Client out m.library m.names) x) (IsClientAnswer out m.library m.names m.told) (client_alone m.told out m.library m.names) status new_files old new
+        (ends_by asked (Client out m.library m.names) files m.told m.asked_is m.files_are status new_files old new e)) m.texts;
+  }

@@ -5,6 +5,7 @@ use Rattle.std.specs.List.{ends_with}
 use Rattle.som_model.specs.declared.limits.TheConstants.{DEFAULT_FUEL, MAX_FUEL}
 use Rattle.som_model.specs.Lists.{every}
 use Rattle.som_compile.specs.Sources.{is_bodies, is_main, mains_in}
+use Rattle.som_cliimage.specs.Limits as client
 use Rattle.som_cmd.specs.declared.words.Command.{Command}
 use Rattle.som_cmd.specs.declared.words.Command.TheVariants as commands
 

@@ -1,37 +1,24 @@
-ghost use Rattle.som_cmd.specs.Ends.{
-  AreChecked,
-  AreImagesOf,
-  EndsAsTold,
-  IsImageOf,
-  IsImageOfClient,
-  RunsAs,
-  ShowsProgram,
-  ShowsRelease,
-  ShowsSome,
-  StoreFails,
-  TellsAccepted,
-  TellsBreach,
-};
-ghost use Rattle.som_cmd.specs.CheckAnswer.{first_not_kept};
+ghost use Rattle.som_check.specs.CheckAnswer.{first_not_kept};
+ghost use Rattle.som_check.specs.CheckEnds.{TellsAccepted, TellsBreach};
+ghost use Rattle.som_check.specs.ShowEnds.{ShowsProgram, ShowsRelease};
+ghost use Rattle.som_cmd.specs.Ends.{AreChecked, AreImagesOf, EndsAsTold, IsImageOf, IsImageOfClient, ShowsSome, StoreFails};
 ghost use Rattle.som_cmd.specs.PutEnds.{AreClientTextsOf, AreTextsOf, KeepsFiles, PutsProgram, PutsRelease};
-ghost use Rattle.som_cmd.specs.Status.{is_calm_status};
 ghost use Rattle.som_cmd.specs.Words.{Bad, asked};
 ghost use Rattle.som_io.specs.Outside.{Rose};
 ghost use Rattle.som_model.specs.Compatible.{CompatBreach};
 ghost use Rattle.som_model.specs.declared.program.ClientProgram.{ClientProgram};
 ghost use Rattle.som_model.specs.declared.program.Release.{Release};
-ghost use Rattle.std.specs.Prelude.{◌≡◌, ◌≢◌, ◌⊎◌, ℕ, IsTrue, List as Seq, Some};
+ghost use Rattle.som_run.specs.RunEnds.{RunsAs};
+ghost use Rattle.som_steps.specs.Status.{is_calm_status};
+ghost use Rattle.std.specs.Prelude.{IsTrue, List as Seq, Some, ℕ, ◌≡◌, ◌≢◌, ◌⊎◌};
 
-use crate::against::compile_against;
-use crate::check::check;
-use crate::compile::compile;
-use crate::line::line_of;
-use crate::run::run;
-use crate::say::{say, tell};
-use crate::show::show;
 use crate::words::{Command, command_of};
+use som_build::{build_client, build_library};
+use som_check::{check_images, show_image};
 use som_io::{Sink, Store};
 use som_model::{List, Text};
+use som_run::run_client;
+use som_steps::{line_of, say};
 use std::alloc::Global;
 
 /// Does what the words ask for, with the files of a store and the text to a sink, and answers the status.
@@ -99,15 +86,15 @@ pub fn run_som<S: Store, K: Sink>(
             client,
             library,
             fuel,
-        } => tell(out, &run(alloc, client, library, fuel, store)),
-        Command::Show { image } => tell(out, &show(alloc, image, store)),
-        Command::Check { images } => tell(out, &check(alloc, images, store)),
-        Command::Library { out: name, files } => tell(out, &compile(alloc, name, files, store)),
+        } => run_client(alloc, client, library, fuel, store, out),
+        Command::Show { image } => show_image(alloc, image, store, out),
+        Command::Check { images } => check_images(alloc, images, store, out),
+        Command::Library { out: name, files } => build_library(alloc, name, files, store, out),
         Command::Client {
             out: name,
             library,
             files,
-        } => tell(out, &compile_against(alloc, name, library, files, store)),
+        } => build_client(alloc, name, library, files, store, out),
         Command::Bad => match line_of(alloc, b"som: bad command line") {
             Ok(line) => say(out, &line, 2),
             Err(_) => 10,

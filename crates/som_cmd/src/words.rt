@@ -1,8 +1,8 @@
 ghost use Rattle.som_cmd.specs.Words.{are_files, asked, asked_by, asked_of, client_asked, fuel_in, fuel_of, is_digit, is_file, is_name, leads_with_zero, library_asked};
 ghost use Rattle.som_compile.specs.Sources.{is_main, mains_in};
-ghost use Rattle.std.specs.Str.{bytes_eq};
 ghost use Rattle.som_model.specs.Lists.{every};
-ghost use Rattle.std.specs.Prelude.{◌≡◌, codes};
+ghost use Rattle.std.specs.Prelude.{codes, ◌≡◌};
+ghost use Rattle.std.specs.Str.{bytes_eq};
 
 use som_model::{DEFAULT_FUEL, List, MAX_FUEL, Text};
 

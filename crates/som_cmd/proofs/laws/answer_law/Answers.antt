@@ -1,5 +1,5 @@
+use Rattle.som_cmd.proofs.OneAnswer.{some_answer, one_answer}
 use Rattle.som_cmd.specs.Words.{asked}
-use Rattle.som_cmd.proofs.RunAnswers.{some_answer, one_answer}
 use Rattle.som_cmd.proofs.WordLaws.{asked_mains}
 use Rattle.som_cmd.proofs.laws.answer_law.Goals as goal
 

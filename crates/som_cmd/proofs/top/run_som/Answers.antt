@@ -1,173 +1,132 @@
 use Rattle.std.proofs.Common.{ℕ, List, refl, subst}
 use Rattle.som_io.specs.Outside.{ShowsAll, ShowsFront}
-use Rattle.som_cmd.specs.Words.{asked, Run, Show, Check, Library, Client}
-use Rattle.som_cmd.proofs.EndLaws.{ends, fails, fronts, nothing_written, bad_ends, bad_fronts, means_by, shows_by, shows_client_by, accepted_by, breach_by}
-use Rattle.som_cmd.proofs.PutEndLaws.{client_ends, client_fronts, client_keeps, library_ends, library_fronts, library_keeps, run_keeps, show_keeps, check_keeps, bad_keeps, puts_by, puts_client_by}
+use Rattle.som_run.specs.RunAnswer.{IsRunAnswer}
+use Rattle.som_check.specs.ShowAnswer.{IsShowAnswer}
+use Rattle.som_check.specs.CheckAnswer.{IsCheckAnswer}
+use Rattle.som_build.specs.LibraryAnswer.{IsLibraryAnswer}
+use Rattle.som_build.specs.ClientAnswer.{IsClientAnswer}
+use Rattle.som_cmd.specs.Words.{asked, Run, Show, Check, Library, Client, Bad}
+use Rattle.som_cmd.specs.Answer.{runs, shows, checks, compiles, compiles_client}
+use Rattle.som_cmd.proofs.EndLaws.{answered, front, store_failed, files_kept, none_written, bad_ends, bad_fronts, means, shown, shown_client, accepted, breach, compiled, client_compiled}
 use Rattle.som_cmd.proofs.WordLaws.{asked_mains, mains_by}
 use Rattle.som_cmd.proofs.top.run_som.Goals as goal
 
 -- ---- a run
 
-answered_run : goal.returns-in-Run-clause-answered
-answered_run g c = λ not6 not8 not10.
-    ends (asked c.args.words.now) (Run c.in-Run.client.now c.in-Run.library.now c.in-Run.fuel) c.in-Run.ensures (g.S.Store.files c.args.store.now) c.run.result c.run.ensures.answer
-    c.tell.result (g.S.Store.files c.run.new.store) c.run.ensures.files (g.K.Sink.written c.args.out.now) (g.K.Sink.written c.tell.new.out) (c.tell.ensures.all not6 not8 not10)
+answered_run_client : goal.returns-in-Run-clause-answered
+answered_run_client g c = λ not6 not8 not10.
+    answered (asked c.args.words.now) (Run c.in-Run.client.now c.in-Run.library.now c.in-Run.fuel) c.in-Run.ensures (IsRunAnswer c.in-Run.client.now c.in-Run.library.now c.in-Run.fuel) (λ files e a. runs c.in-Run.client.now c.in-Run.library.now c.in-Run.fuel e a) (g.S.Store.files c.args.store.now) c.run_client.result (g.S.Store.files c.run_client.new.store) (g.K.Sink.written c.args.out.now) (g.K.Sink.written c.run_client.new.out) (c.run_client.ensures.answered not6 not8 not10)
 
 pub returns-in-Run-clause-answered : goal.returns-in-Run-clause-answered
-returns-in-Run-clause-answered = answered_run
+returns-in-Run-clause-answered = answered_run_client
 
 pub returns-in-Run-clause-meaning : goal.returns-in-Run-clause-meaning
-returns-in-Run-clause-meaning g c = λ p r fuel images not6 not8 not10.
-    means_by (asked c.args.words.now) (g.S.Store.files c.args.store.now) c.tell.result (g.S.Store.files c.run.new.store) (g.K.Sink.written c.args.out.now) (g.K.Sink.written c.tell.new.out) p r fuel
-    (answered_run g c not6 not8 not10) images
+returns-in-Run-clause-meaning g c = λ p r fuel images not6 not8 not10. means (asked c.args.words.now) (g.S.Store.files c.args.store.now) c.run_client.result (g.S.Store.files c.run_client.new.store) (g.K.Sink.written c.args.out.now) (g.K.Sink.written c.run_client.new.out) (answered_run_client g c not6 not8 not10) p r fuel images
 
 pub returns-in-Run-clause-store_failed : goal.returns-in-Run-clause-store_failed
-returns-in-Run-clause-store_failed g c = λ six.
-    fails (asked c.args.words.now) (Run c.in-Run.client.now c.in-Run.library.now c.in-Run.fuel) c.in-Run.ensures (g.S.Store.files c.args.store.now) c.run.result (g.S.Store.faults c.args.store.now) (g.S.Store.faults c.run.new.store) c.run.ensures.cause
-    (g.K.Sink.written c.args.out.now) (g.K.Sink.written c.tell.new.out) (c.tell.ensures.store_failed six)
+returns-in-Run-clause-store_failed g c = λ six. store_failed (asked c.args.words.now) (Run c.in-Run.client.now c.in-Run.library.now c.in-Run.fuel) c.in-Run.ensures (g.S.Store.files c.args.store.now) (g.S.Store.faults c.args.store.now) (g.S.Store.faults c.run_client.new.store) (g.K.Sink.written c.args.out.now) (g.K.Sink.written c.run_client.new.out) (c.run_client.ensures.store_failed six)
 
 pub returns-in-Run-clause-front : goal.returns-in-Run-clause-front
-returns-in-Run-clause-front g c = λ _.
-    fronts (asked c.args.words.now) (Run c.in-Run.client.now c.in-Run.library.now c.in-Run.fuel) c.in-Run.ensures (asked_mains c.args.words.now) (g.S.Store.files c.args.store.now) c.run.result c.run.ensures.answer
-    (g.S.Store.faults c.args.store.now) (g.S.Store.faults c.run.new.store) c.run.ensures.cause (g.K.Sink.written c.args.out.now) (g.K.Sink.written c.tell.new.out) c.tell.ensures.front
+returns-in-Run-clause-front g c = λ either. front (asked c.args.words.now) (Run c.in-Run.client.now c.in-Run.library.now c.in-Run.fuel) c.in-Run.ensures (IsRunAnswer c.in-Run.client.now c.in-Run.library.now c.in-Run.fuel) (λ files e a. runs c.in-Run.client.now c.in-Run.library.now c.in-Run.fuel e a) (g.S.Store.files c.args.store.now) (g.S.Store.faults c.args.store.now) (g.S.Store.faults c.run_client.new.store) (g.K.Sink.written c.args.out.now) (g.K.Sink.written c.run_client.new.out) (c.run_client.ensures.front either)
 
 pub returns-in-Run-clause-files : goal.returns-in-Run-clause-files
-returns-in-Run-clause-files g c =
-    run_keeps (asked c.args.words.now) c.in-Run.client.now c.in-Run.library.now c.in-Run.fuel c.in-Run.ensures (g.S.Store.files c.args.store.now) (g.S.Store.files c.run.new.store)
-    (g.S.Store.faults c.args.store.now) (g.S.Store.faults c.run.new.store) c.tell.result c.run.ensures.files
+returns-in-Run-clause-files g c = files_kept (asked c.args.words.now) (Run c.in-Run.client.now c.in-Run.library.now c.in-Run.fuel) c.in-Run.ensures (g.S.Store.files c.args.store.now) (g.S.Store.faults c.args.store.now) (g.S.Store.faults c.run_client.new.store) c.run_client.result (g.S.Store.files c.run_client.new.store) c.run_client.ensures.files
 
 -- ---- an image that is shown
 
-answered_show : goal.returns-in-Show-clause-answered
-answered_show g c = λ not6 not8 not10.
-    ends (asked c.args.words.now) (Show c.in-Show.image.now) c.in-Show.ensures (g.S.Store.files c.args.store.now) c.show.result c.show.ensures.answer
-    c.tell-in-Show.result (g.S.Store.files c.show.new.store) c.show.ensures.files (g.K.Sink.written c.args.out.now) (g.K.Sink.written c.tell-in-Show.new.out) (c.tell-in-Show.ensures.all not6 not8 not10)
+answered_show_image : goal.returns-in-Show-clause-answered
+answered_show_image g c = λ not6 not8 not10.
+    answered (asked c.args.words.now) (Show c.in-Show.image.now) c.in-Show.ensures (IsShowAnswer c.in-Show.image.now) (λ files e a. shows c.in-Show.image.now e a) (g.S.Store.files c.args.store.now) c.show_image.result (g.S.Store.files c.show_image.new.store) (g.K.Sink.written c.args.out.now) (g.K.Sink.written c.show_image.new.out) (c.show_image.ensures.answered not6 not8 not10)
 
 pub returns-in-Show-clause-answered : goal.returns-in-Show-clause-answered
-returns-in-Show-clause-answered = answered_show
+returns-in-Show-clause-answered = answered_show_image
 
 pub returns-in-Show-clause-shown : goal.returns-in-Show-clause-shown
-returns-in-Show-clause-shown g c = λ r image not6 not8 not10.
-    shows_by (asked c.args.words.now) (g.S.Store.files c.args.store.now) c.tell-in-Show.result (g.S.Store.files c.show.new.store) (g.K.Sink.written c.args.out.now) (g.K.Sink.written c.tell-in-Show.new.out) r
-    (answered_show g c not6 not8 not10) image
+returns-in-Show-clause-shown g c = λ r image not6 not8 not10. shown (asked c.args.words.now) (g.S.Store.files c.args.store.now) c.show_image.result (g.S.Store.files c.show_image.new.store) (g.K.Sink.written c.args.out.now) (g.K.Sink.written c.show_image.new.out) (answered_show_image g c not6 not8 not10) r image
 
 pub returns-in-Show-clause-shown_client : goal.returns-in-Show-clause-shown_client
-returns-in-Show-clause-shown_client g c = λ p image not6 not8 not10.
-    shows_client_by (asked c.args.words.now) (g.S.Store.files c.args.store.now) c.tell-in-Show.result (g.S.Store.files c.show.new.store) (g.K.Sink.written c.args.out.now) (g.K.Sink.written c.tell-in-Show.new.out) p
-    (answered_show g c not6 not8 not10) image
+returns-in-Show-clause-shown_client g c = λ p image not6 not8 not10. shown_client (asked c.args.words.now) (g.S.Store.files c.args.store.now) c.show_image.result (g.S.Store.files c.show_image.new.store) (g.K.Sink.written c.args.out.now) (g.K.Sink.written c.show_image.new.out) (answered_show_image g c not6 not8 not10) p image
+
+pub returns-in-Show-clause-store_failed : goal.returns-in-Show-clause-store_failed
+returns-in-Show-clause-store_failed g c = λ six. store_failed (asked c.args.words.now) (Show c.in-Show.image.now) c.in-Show.ensures (g.S.Store.files c.args.store.now) (g.S.Store.faults c.args.store.now) (g.S.Store.faults c.show_image.new.store) (g.K.Sink.written c.args.out.now) (g.K.Sink.written c.show_image.new.out) (c.show_image.ensures.store_failed six)
 
 pub returns-in-Show-clause-front : goal.returns-in-Show-clause-front
-returns-in-Show-clause-front g c = λ _.
-    fronts (asked c.args.words.now) (Show c.in-Show.image.now) c.in-Show.ensures (asked_mains c.args.words.now) (g.S.Store.files c.args.store.now) c.show.result c.show.ensures.answer
-    (g.S.Store.faults c.args.store.now) (g.S.Store.faults c.show.new.store) c.show.ensures.cause (g.K.Sink.written c.args.out.now) (g.K.Sink.written c.tell-in-Show.new.out) c.tell-in-Show.ensures.front
+returns-in-Show-clause-front g c = λ either. front (asked c.args.words.now) (Show c.in-Show.image.now) c.in-Show.ensures (IsShowAnswer c.in-Show.image.now) (λ files e a. shows c.in-Show.image.now e a) (g.S.Store.files c.args.store.now) (g.S.Store.faults c.args.store.now) (g.S.Store.faults c.show_image.new.store) (g.K.Sink.written c.args.out.now) (g.K.Sink.written c.show_image.new.out) (c.show_image.ensures.front either)
 
 pub returns-in-Show-clause-files : goal.returns-in-Show-clause-files
-returns-in-Show-clause-files g c =
-    show_keeps (asked c.args.words.now) c.in-Show.image.now c.in-Show.ensures (g.S.Store.files c.args.store.now) (g.S.Store.files c.show.new.store)
-    (g.S.Store.faults c.args.store.now) (g.S.Store.faults c.show.new.store) c.tell-in-Show.result c.show.ensures.files
+returns-in-Show-clause-files g c = files_kept (asked c.args.words.now) (Show c.in-Show.image.now) c.in-Show.ensures (g.S.Store.files c.args.store.now) (g.S.Store.faults c.args.store.now) (g.S.Store.faults c.show_image.new.store) c.show_image.result (g.S.Store.files c.show_image.new.store) c.show_image.ensures.files
 
 -- ---- images that are checked
 
-answered_check : goal.returns-in-Check-clause-answered
-answered_check g c = λ not6 not8 not10.
-    ends (asked c.args.words.now) (Check c.in-Check.images.now) c.in-Check.ensures (g.S.Store.files c.args.store.now) c.check.result c.check.ensures.answer
-    c.tell-in-Check.result (g.S.Store.files c.check.new.store) c.check.ensures.files (g.K.Sink.written c.args.out.now) (g.K.Sink.written c.tell-in-Check.new.out) (c.tell-in-Check.ensures.all not6 not8 not10)
+answered_check_images : goal.returns-in-Check-clause-answered
+answered_check_images g c = λ not6 not8 not10.
+    answered (asked c.args.words.now) (Check c.in-Check.images.now) c.in-Check.ensures (IsCheckAnswer c.in-Check.images.now) (λ files e a. checks c.in-Check.images.now e a) (g.S.Store.files c.args.store.now) c.check_images.result (g.S.Store.files c.check_images.new.store) (g.K.Sink.written c.args.out.now) (g.K.Sink.written c.check_images.new.out) (c.check_images.ensures.answered not6 not8 not10)
 
 pub returns-in-Check-clause-answered : goal.returns-in-Check-clause-answered
-returns-in-Check-clause-answered = answered_check
+returns-in-Check-clause-answered = answered_check_images
 
 pub returns-in-Check-clause-accepted : goal.returns-in-Check-clause-accepted
-returns-in-Check-clause-accepted g c = λ names rs checked not6 not8 not10.
-    accepted_by (asked c.args.words.now) (g.S.Store.files c.args.store.now) c.tell-in-Check.result (g.S.Store.files c.check.new.store) (g.K.Sink.written c.args.out.now) (g.K.Sink.written c.tell-in-Check.new.out) names rs
-    (answered_check g c not6 not8 not10) checked
+returns-in-Check-clause-accepted g c = λ names rs checked not6 not8 not10. accepted (asked c.args.words.now) (g.S.Store.files c.args.store.now) c.check_images.result (g.S.Store.files c.check_images.new.store) (g.K.Sink.written c.args.out.now) (g.K.Sink.written c.check_images.new.out) (answered_check_images g c not6 not8 not10) names rs checked
 
 pub returns-in-Check-clause-breach : goal.returns-in-Check-clause-breach
-returns-in-Check-clause-breach g c = λ names rs number b checked told not6 not8 not10.
-    breach_by (asked c.args.words.now) (g.S.Store.files c.args.store.now) c.tell-in-Check.result (g.S.Store.files c.check.new.store) (g.K.Sink.written c.args.out.now) (g.K.Sink.written c.tell-in-Check.new.out) names rs number b
-    (answered_check g c not6 not8 not10) checked told
+returns-in-Check-clause-breach g c = λ names rs number b checked told not6 not8 not10. breach (asked c.args.words.now) (g.S.Store.files c.args.store.now) c.check_images.result (g.S.Store.files c.check_images.new.store) (g.K.Sink.written c.args.out.now) (g.K.Sink.written c.check_images.new.out) (answered_check_images g c not6 not8 not10) names rs number b checked told
 
 pub returns-in-Check-clause-store_failed : goal.returns-in-Check-clause-store_failed
-returns-in-Check-clause-store_failed g c = λ six.
-    fails (asked c.args.words.now) (Check c.in-Check.images.now) c.in-Check.ensures (g.S.Store.files c.args.store.now) c.check.result (g.S.Store.faults c.args.store.now) (g.S.Store.faults c.check.new.store) c.check.ensures.cause
-    (g.K.Sink.written c.args.out.now) (g.K.Sink.written c.tell-in-Check.new.out) (c.tell-in-Check.ensures.store_failed six)
+returns-in-Check-clause-store_failed g c = λ six. store_failed (asked c.args.words.now) (Check c.in-Check.images.now) c.in-Check.ensures (g.S.Store.files c.args.store.now) (g.S.Store.faults c.args.store.now) (g.S.Store.faults c.check_images.new.store) (g.K.Sink.written c.args.out.now) (g.K.Sink.written c.check_images.new.out) (c.check_images.ensures.store_failed six)
 
 pub returns-in-Check-clause-front : goal.returns-in-Check-clause-front
-returns-in-Check-clause-front g c = λ _.
-    fronts (asked c.args.words.now) (Check c.in-Check.images.now) c.in-Check.ensures (asked_mains c.args.words.now) (g.S.Store.files c.args.store.now) c.check.result c.check.ensures.answer
-    (g.S.Store.faults c.args.store.now) (g.S.Store.faults c.check.new.store) c.check.ensures.cause (g.K.Sink.written c.args.out.now) (g.K.Sink.written c.tell-in-Check.new.out) c.tell-in-Check.ensures.front
+returns-in-Check-clause-front g c = λ either. front (asked c.args.words.now) (Check c.in-Check.images.now) c.in-Check.ensures (IsCheckAnswer c.in-Check.images.now) (λ files e a. checks c.in-Check.images.now e a) (g.S.Store.files c.args.store.now) (g.S.Store.faults c.args.store.now) (g.S.Store.faults c.check_images.new.store) (g.K.Sink.written c.args.out.now) (g.K.Sink.written c.check_images.new.out) (c.check_images.ensures.front either)
 
 pub returns-in-Check-clause-files : goal.returns-in-Check-clause-files
-returns-in-Check-clause-files g c =
-    check_keeps (asked c.args.words.now) c.in-Check.images.now c.in-Check.ensures (g.S.Store.files c.args.store.now) (g.S.Store.files c.check.new.store)
-    (g.S.Store.faults c.args.store.now) (g.S.Store.faults c.check.new.store) c.tell-in-Check.result c.check.ensures.files
+returns-in-Check-clause-files g c = files_kept (asked c.args.words.now) (Check c.in-Check.images.now) c.in-Check.ensures (g.S.Store.files c.args.store.now) (g.S.Store.faults c.args.store.now) (g.S.Store.faults c.check_images.new.store) c.check_images.result (g.S.Store.files c.check_images.new.store) c.check_images.ensures.files
 
 -- ---- texts that are compiled
 
-pub compile-requires : goal.compile-requires
-compile-requires g c = mains_by c.args.words.now (Library c.in-Library.name.now c.in-Library.files.now) c.in-Library.ensures
-
-answered_library : goal.returns-in-Library-clause-answered
-answered_library g c = λ not6 not8 not10.
-    library_ends (asked c.args.words.now) c.in-Library.name.now c.in-Library.files.now c.in-Library.ensures (asked_mains c.args.words.now) (g.S.Store.files c.args.store.now) c.compile.result (g.S.Store.files c.compile.new.store) c.compile.ensures.puts
-    c.tell-in-Library.result (g.K.Sink.written c.args.out.now) (g.K.Sink.written c.tell-in-Library.new.out) (c.tell-in-Library.ensures.all not6 not8 not10)
+answered_build_library : goal.returns-in-Library-clause-answered
+answered_build_library g c = λ not6 not8 not10.
+    answered (asked c.args.words.now) (Library c.in-Library.name.now c.in-Library.files.now) c.in-Library.ensures (IsLibraryAnswer c.in-Library.name.now c.in-Library.files.now) (λ files e a. compiles c.in-Library.name.now c.in-Library.files.now e a) (g.S.Store.files c.args.store.now) c.build_library.result (g.S.Store.files c.build_library.new.store) (g.K.Sink.written c.args.out.now) (g.K.Sink.written c.build_library.new.out) (c.build_library.ensures.answered not6 not8 not10)
 
 pub returns-in-Library-clause-answered : goal.returns-in-Library-clause-answered
-returns-in-Library-clause-answered = answered_library
+returns-in-Library-clause-answered = answered_build_library
 
 pub returns-in-Library-clause-compiled : goal.returns-in-Library-clause-compiled
-returns-in-Library-clause-compiled g c = λ out r texts not6 not8 not10.
-    puts_by (asked c.args.words.now) (g.S.Store.files c.args.store.now) c.tell-in-Library.result (g.S.Store.files c.compile.new.store) (g.K.Sink.written c.args.out.now) (g.K.Sink.written c.tell-in-Library.new.out) out r
-    (answered_library g c not6 not8 not10) texts
+returns-in-Library-clause-compiled g c = λ out r texts not6 not8 not10. compiled (asked c.args.words.now) (g.S.Store.files c.args.store.now) c.build_library.result (g.S.Store.files c.build_library.new.store) (g.K.Sink.written c.args.out.now) (g.K.Sink.written c.build_library.new.out) (answered_build_library g c not6 not8 not10) out r texts
 
 pub returns-in-Library-clause-store_failed : goal.returns-in-Library-clause-store_failed
-returns-in-Library-clause-store_failed g c = λ six.
-    fails (asked c.args.words.now) (Library c.in-Library.name.now c.in-Library.files.now) c.in-Library.ensures (g.S.Store.files c.args.store.now) c.compile.result (g.S.Store.faults c.args.store.now) (g.S.Store.faults c.compile.new.store) c.compile.ensures.cause
-    (g.K.Sink.written c.args.out.now) (g.K.Sink.written c.tell-in-Library.new.out) (c.tell-in-Library.ensures.store_failed six)
+returns-in-Library-clause-store_failed g c = λ six. store_failed (asked c.args.words.now) (Library c.in-Library.name.now c.in-Library.files.now) c.in-Library.ensures (g.S.Store.files c.args.store.now) (g.S.Store.faults c.args.store.now) (g.S.Store.faults c.build_library.new.store) (g.K.Sink.written c.args.out.now) (g.K.Sink.written c.build_library.new.out) (c.build_library.ensures.store_failed six)
 
 pub returns-in-Library-clause-front : goal.returns-in-Library-clause-front
-returns-in-Library-clause-front g c = λ _.
-    library_fronts (asked c.args.words.now) c.in-Library.name.now c.in-Library.files.now c.in-Library.ensures (asked_mains c.args.words.now) (g.S.Store.files c.args.store.now) c.compile.result (g.S.Store.files c.compile.new.store) c.compile.ensures.puts
-    (g.S.Store.faults c.args.store.now) (g.S.Store.faults c.compile.new.store) c.compile.ensures.cause (g.K.Sink.written c.args.out.now) (g.K.Sink.written c.tell-in-Library.new.out) c.tell-in-Library.ensures.front
+returns-in-Library-clause-front g c = λ either. front (asked c.args.words.now) (Library c.in-Library.name.now c.in-Library.files.now) c.in-Library.ensures (IsLibraryAnswer c.in-Library.name.now c.in-Library.files.now) (λ files e a. compiles c.in-Library.name.now c.in-Library.files.now e a) (g.S.Store.files c.args.store.now) (g.S.Store.faults c.args.store.now) (g.S.Store.faults c.build_library.new.store) (g.K.Sink.written c.args.out.now) (g.K.Sink.written c.build_library.new.out) (c.build_library.ensures.front either)
 
 pub returns-in-Library-clause-files : goal.returns-in-Library-clause-files
-returns-in-Library-clause-files g c =
-    library_keeps (asked c.args.words.now) c.in-Library.name.now c.in-Library.files.now c.in-Library.ensures (asked_mains c.args.words.now) (g.S.Store.files c.args.store.now) c.compile.result (g.S.Store.files c.compile.new.store) c.compile.ensures.puts
-    (g.S.Store.faults c.args.store.now) (g.S.Store.faults c.compile.new.store) c.tell-in-Library.result c.compile.ensures.cause (g.K.Sink.written c.args.out.now) (g.K.Sink.written c.tell-in-Library.new.out)
-    c.tell-in-Library.ensures.all c.tell-in-Library.ensures.nothing
+returns-in-Library-clause-files g c = files_kept (asked c.args.words.now) (Library c.in-Library.name.now c.in-Library.files.now) c.in-Library.ensures (g.S.Store.files c.args.store.now) (g.S.Store.faults c.args.store.now) (g.S.Store.faults c.build_library.new.store) c.build_library.result (g.S.Store.files c.build_library.new.store) c.build_library.ensures.files
+
+pub build_library-requires : goal.build_library-requires
+build_library-requires g c = mains_by c.args.words.now (Library c.in-Library.name.now c.in-Library.files.now) c.in-Library.ensures
 
 -- ---- a client that is compiled
 
-pub compile_against-requires : goal.compile_against-requires
-compile_against-requires g c = mains_by c.args.words.now (Client c.in-Client.name.now c.in-Client.library.now c.in-Client.files.now) c.in-Client.ensures
-
-answered_client : goal.returns-in-Client-clause-answered
-answered_client g c = λ not6 not8 not10.
-    client_ends (asked c.args.words.now) c.in-Client.name.now c.in-Client.library.now c.in-Client.files.now c.in-Client.ensures (asked_mains c.args.words.now) (g.S.Store.files c.args.store.now) c.compile_against.result (g.S.Store.files c.compile_against.new.store) c.compile_against.ensures.puts
-    c.tell-in-Client.result (g.K.Sink.written c.args.out.now) (g.K.Sink.written c.tell-in-Client.new.out) (c.tell-in-Client.ensures.all not6 not8 not10)
+answered_build_client : goal.returns-in-Client-clause-answered
+answered_build_client g c = λ not6 not8 not10.
+    answered (asked c.args.words.now) (Client c.in-Client.name.now c.in-Client.library.now c.in-Client.files.now) c.in-Client.ensures (IsClientAnswer c.in-Client.name.now c.in-Client.library.now c.in-Client.files.now) (λ files e a. compiles_client c.in-Client.name.now c.in-Client.library.now c.in-Client.files.now e a) (g.S.Store.files c.args.store.now) c.build_client.result (g.S.Store.files c.build_client.new.store) (g.K.Sink.written c.args.out.now) (g.K.Sink.written c.build_client.new.out) (c.build_client.ensures.answered not6 not8 not10)
 
 pub returns-in-Client-clause-answered : goal.returns-in-Client-clause-answered
-returns-in-Client-clause-answered = answered_client
+returns-in-Client-clause-answered = answered_build_client
 
 pub returns-in-Client-clause-client_compiled : goal.returns-in-Client-clause-client_compiled
-returns-in-Client-clause-client_compiled g c = λ out p texts not6 not8 not10.
-    puts_client_by (asked c.args.words.now) (g.S.Store.files c.args.store.now) c.tell-in-Client.result (g.S.Store.files c.compile_against.new.store) (g.K.Sink.written c.args.out.now) (g.K.Sink.written c.tell-in-Client.new.out) out p
-    (answered_client g c not6 not8 not10) texts
+returns-in-Client-clause-client_compiled g c = λ out p texts not6 not8 not10. client_compiled (asked c.args.words.now) (g.S.Store.files c.args.store.now) c.build_client.result (g.S.Store.files c.build_client.new.store) (g.K.Sink.written c.args.out.now) (g.K.Sink.written c.build_client.new.out) (answered_build_client g c not6 not8 not10) out p texts
 
 pub returns-in-Client-clause-store_failed : goal.returns-in-Client-clause-store_failed
-returns-in-Client-clause-store_failed g c = λ six.
-    fails (asked c.args.words.now) (Client c.in-Client.name.now c.in-Client.library.now c.in-Client.files.now) c.in-Client.ensures (g.S.Store.files c.args.store.now) c.compile_against.result (g.S.Store.faults c.args.store.now) (g.S.Store.faults c.compile_against.new.store) c.compile_against.ensures.cause
-    (g.K.Sink.written c.args.out.now) (g.K.Sink.written c.tell-in-Client.new.out) (c.tell-in-Client.ensures.store_failed six)
+returns-in-Client-clause-store_failed g c = λ six. store_failed (asked c.args.words.now) (Client c.in-Client.name.now c.in-Client.library.now c.in-Client.files.now) c.in-Client.ensures (g.S.Store.files c.args.store.now) (g.S.Store.faults c.args.store.now) (g.S.Store.faults c.build_client.new.store) (g.K.Sink.written c.args.out.now) (g.K.Sink.written c.build_client.new.out) (c.build_client.ensures.store_failed six)
 
 pub returns-in-Client-clause-front : goal.returns-in-Client-clause-front
-returns-in-Client-clause-front g c = λ _.
-    client_fronts (asked c.args.words.now) c.in-Client.name.now c.in-Client.library.now c.in-Client.files.now c.in-Client.ensures (asked_mains c.args.words.now) (g.S.Store.files c.args.store.now) c.compile_against.result (g.S.Store.files c.compile_against.new.store) c.compile_against.ensures.puts
-    (g.S.Store.faults c.args.store.now) (g.S.Store.faults c.compile_against.new.store) c.compile_against.ensures.cause (g.K.Sink.written c.args.out.now) (g.K.Sink.written c.tell-in-Client.new.out) c.tell-in-Client.ensures.front
+returns-in-Client-clause-front g c = λ either. front (asked c.args.words.now) (Client c.in-Client.name.now c.in-Client.library.now c.in-Client.files.now) c.in-Client.ensures (IsClientAnswer c.in-Client.name.now c.in-Client.library.now c.in-Client.files.now) (λ files e a. compiles_client c.in-Client.name.now c.in-Client.library.now c.in-Client.files.now e a) (g.S.Store.files c.args.store.now) (g.S.Store.faults c.args.store.now) (g.S.Store.faults c.build_client.new.store) (g.K.Sink.written c.args.out.now) (g.K.Sink.written c.build_client.new.out) (c.build_client.ensures.front either)
 
 pub returns-in-Client-clause-files : goal.returns-in-Client-clause-files
-returns-in-Client-clause-files g c =
-    client_keeps (asked c.args.words.now) c.in-Client.name.now c.in-Client.library.now c.in-Client.files.now c.in-Client.ensures (asked_mains c.args.words.now) (g.S.Store.files c.args.store.now) c.compile_against.result (g.S.Store.files c.compile_against.new.store) c.compile_against.ensures.puts
-    (g.S.Store.faults c.args.store.now) (g.S.Store.faults c.compile_against.new.store) c.tell-in-Client.result c.compile_against.ensures.cause (g.K.Sink.written c.args.out.now) (g.K.Sink.written c.tell-in-Client.new.out)
-    c.tell-in-Client.ensures.all c.tell-in-Client.ensures.nothing
+returns-in-Client-clause-files g c = files_kept (asked c.args.words.now) (Client c.in-Client.name.now c.in-Client.library.now c.in-Client.files.now) c.in-Client.ensures (g.S.Store.files c.args.store.now) (g.S.Store.faults c.args.store.now) (g.S.Store.faults c.build_client.new.store) c.build_client.result (g.S.Store.files c.build_client.new.store) c.build_client.ensures.files
+
+pub build_client-requires : goal.build_client-requires
+build_client-requires g c = mains_by c.args.words.now (Client c.in-Client.name.now c.in-Client.library.now c.in-Client.files.now) c.in-Client.ensures
 
 -- ---- words of no form
 
@@ -185,12 +144,12 @@ returns-in-Ok-clause-front g c = λ _.
 
 pub returns-in-Err-clause-front : goal.returns-in-Err-clause-front
 returns-in-Err-clause-front g c = λ _.
-    nothing_written (asked c.args.words.now) (asked_mains c.args.words.now) (g.S.Store.files c.args.store.now) (g.S.Store.faults c.args.store.now) (g.S.Store.faults c.args.store.now) (g.K.Sink.written c.args.out.now)
+    none_written (asked c.args.words.now) (asked_mains c.args.words.now) (g.S.Store.files c.args.store.now) (g.S.Store.faults c.args.store.now) (g.S.Store.faults c.args.store.now) (g.K.Sink.written c.args.out.now)
 
 pub returns-in-Ok-clause-files : goal.returns-in-Ok-clause-files
 returns-in-Ok-clause-files g c =
-    bad_keeps (asked c.args.words.now) c.in-Bad.ensures (g.S.Store.files c.args.store.now) (g.S.Store.files c.args.store.now) (g.S.Store.faults c.args.store.now) (g.S.Store.faults c.args.store.now) c.say.result refl
+    files_kept (asked c.args.words.now) Bad c.in-Bad.ensures (g.S.Store.files c.args.store.now) (g.S.Store.faults c.args.store.now) (g.S.Store.faults c.args.store.now) c.say.result (g.S.Store.files c.args.store.now) refl
 
 pub returns-in-Err-clause-files : goal.returns-in-Err-clause-files
 returns-in-Err-clause-files g c =
-    bad_keeps (asked c.args.words.now) c.in-Bad.ensures (g.S.Store.files c.args.store.now) (g.S.Store.files c.args.store.now) (g.S.Store.faults c.args.store.now) (g.S.Store.faults c.args.store.now) 10 refl
+    files_kept (asked c.args.words.now) Bad c.in-Bad.ensures (g.S.Store.files c.args.store.now) (g.S.Store.faults c.args.store.now) (g.S.Store.faults c.args.store.now) 10 (g.S.Store.files c.args.store.now) refl

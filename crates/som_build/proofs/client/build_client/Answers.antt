@@ -1,0 +1,21 @@
+use Rattle.som_steps.proofs.Printed.{fails}
+use Rattle.som_build.specs.ClientAnswer.{CompilesParts, parts_in}
+use Rattle.som_build.specs.Cause.{FailsClient}
+use Rattle.som_build.proofs.PutAnswered.{client_answer}
+use Rattle.som_build.proofs.PutEndLaws.{put_ends, put_fronts, keeps_told}
+use Rattle.som_build.proofs.client.build_client.Goals as goal
+
+pub returns-clause-answered : goal.returns-clause-answered
+returns-clause-answered g c = λ not6 not8 not10.
+    put_ends CompilesParts c.args.name.now (parts_in c.args.library.now c.args.names.now) (g.S.Store.files c.args.store.now) c.put_client.result (g.S.Store.files c.put_client.new.store) c.put_client.ensures.puts c.tell.result (g.K.Sink.written c.args.out.now) (g.K.Sink.written c.tell.new.out) (c.tell.ensures.all not6 not8 not10)
+
+pub returns-clause-store_failed : goal.returns-clause-store_failed
+returns-clause-store_failed g c = λ six. fails (FailsClient (g.S.Store.files c.args.store.now) c.args.name.now c.args.library.now c.args.names.now) c.put_client.result (g.S.Store.faults c.args.store.now) (g.S.Store.faults c.put_client.new.store) c.put_client.ensures.cause (g.K.Sink.written c.args.out.now) (g.K.Sink.written c.tell.new.out) (c.tell.ensures.store_failed six)
+
+pub returns-clause-front : goal.returns-clause-front
+returns-clause-front g c = λ _.
+    put_fronts CompilesParts c.args.name.now (parts_in c.args.library.now c.args.names.now) (FailsClient (g.S.Store.files c.args.store.now) c.args.name.now c.args.library.now c.args.names.now) (λ before. client_answer before c.args.name.now c.args.library.now c.args.names.now c.requires) (g.S.Store.files c.args.store.now) c.put_client.result (g.S.Store.files c.put_client.new.store) c.put_client.ensures.puts (g.S.Store.faults c.args.store.now) (g.S.Store.faults c.put_client.new.store) c.put_client.ensures.cause (g.K.Sink.written c.args.out.now) (g.K.Sink.written c.tell.new.out) c.tell.ensures.front
+
+pub returns-clause-files : goal.returns-clause-files
+returns-clause-files g c =
+    keeps_told CompilesParts c.args.name.now (parts_in c.args.library.now c.args.names.now) (FailsClient (g.S.Store.files c.args.store.now) c.args.name.now c.args.library.now c.args.names.now) (g.S.Store.files c.args.store.now) c.put_client.result (g.S.Store.files c.put_client.new.store) c.put_client.ensures.puts (g.S.Store.faults c.args.store.now) (g.S.Store.faults c.put_client.new.store) c.tell.result c.put_client.ensures.cause (g.K.Sink.written c.args.out.now) (g.K.Sink.written c.tell.new.out) c.tell.ensures.all c.tell.ensures.nothing

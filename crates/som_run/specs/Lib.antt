@@ -1,0 +1,6 @@
+pub mod RunText
+pub mod Taking
+pub mod RunAnswer
+pub mod RunSteps
+pub mod Cause
+pub mod RunEnds

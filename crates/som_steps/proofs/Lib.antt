@@ -1,0 +1,10 @@
+pub mod ImageLaws
+pub mod FileLaws
+pub mod ByteLaws
+pub mod ReleaseLaws
+mod SayLaws
+mod FieldFaults
+mod BlockFaults
+mod FaultLaws
+pub mod Printed
+pub mod OutcomeLaws

@@ -1,0 +1,12 @@
+pub mod Status
+pub mod Lines
+pub mod Endings
+pub mod Fetching
+pub mod ImageSteps
+pub mod StoredImages
+pub mod Steps
+pub mod Answering
+pub mod Outcomes
+pub mod Cause
+pub mod Saying
+pub mod Putting

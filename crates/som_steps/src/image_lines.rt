@@ -1,0 +1,78 @@
+ghost use Rattle.som_rules.specs.Told.{told};
+ghost use Rattle.som_steps.specs.Lines.{broken, fault_number, fault_place, unread};
+ghost use Rattle.std.specs.Prelude.{IfOk, ◌≡◌};
+
+use crate::stop::{Refusal, Why};
+use som_fields::ImageFault;
+use som_model::{NoMemory, Text};
+use som_rules::Broken;
+use som_show::add_number;
+use std::alloc::Global;
+
+fn number_of(fault: ImageFault) -> u64
+    ensures { result ≡ fault_number fault }
+{
+    match fault {
+        ImageFault::Magic { .. } => 1,
+        ImageFault::Version { .. } => 2,
+        ImageFault::Cut { .. } => 3,
+        ImageFault::Tag { .. } => 4,
+        ImageFault::Number { .. } => 5,
+        ImageFault::Trailing { .. } => 6,
+        ImageFault::Nesting { .. } => 7,
+        ImageFault::NoMemory => 0,
+    }
+}
+
+fn place_of(fault: ImageFault) -> usize
+    ensures { result ≡ fault_place fault }
+{
+    match fault {
+        ImageFault::Magic { offset }
+        | ImageFault::Version { offset }
+        | ImageFault::Cut { offset }
+        | ImageFault::Tag { offset }
+        | ImageFault::Number { offset }
+        | ImageFault::Trailing { offset }
+        | ImageFault::Nesting { offset } => offset,
+        ImageFault::NoMemory => 0,
+    }
+}
+
+/// The refusal of bytes that can't be read.
+pub fn refuse_bytes(alloc: Global, name: &Text, fault: ImageFault) -> Result<Refusal, NoMemory>
+    ensures { IfOk result (λ r. r ≡ unread name.now fault) }
+{
+    let mut line = Vec::new(alloc);
+    line.extend_from_slice(b"image ")?;
+    add_number(&mut line, number_of(fault))?;
+    line.push(b' ')?;
+    line.extend_from_slice(name.as_slice())?;
+    line.push(b' ')?;
+    add_number(&mut line, place_of(fault) as u64)?;
+    line.push(b'\n')?;
+    Ok(Refusal {
+        line: Text::from_vec(line),
+        why: Why::Image,
+    })
+}
+
+/// The refusal of what breaks a rule.
+pub fn refuse_broken(alloc: Global, name: &Text, rule: &Broken) -> Result<Refusal, NoMemory>
+    ensures { IfOk result (λ r. r ≡ broken name.now (told rule.now)) }
+{
+    let mut line = Vec::new(alloc);
+    line.extend_from_slice(b"image S")?;
+    add_number(&mut line, u64::from(rule.rule))?;
+    line.push(b' ')?;
+    line.extend_from_slice(name.as_slice())?;
+    line.push(b' ')?;
+    line.extend_from_slice(rule.class.as_slice())?;
+    line.push(b' ')?;
+    line.extend_from_slice(rule.member.as_slice())?;
+    line.push(b'\n')?;
+    Ok(Refusal {
+        line: Text::from_vec(line),
+        why: Why::Image,
+    })
+}

@@ -1,0 +1,56 @@
+ghost use Rattle.som_libimage.specs.Limits.{IsWithinLimits};
+ghost use Rattle.som_model.specs.Conforming.{ReleaseOk};
+ghost use Rattle.som_steps.specs.Cause.{IsQuiet};
+ghost use Rattle.som_steps.specs.ImageSteps.{release_in, rules_kept, sound_release};
+ghost use Rattle.som_steps.specs.Steps.{Follows};
+ghost use Rattle.std.specs.Prelude.{IfOk};
+
+use crate::image_lines::{refuse_broken, refuse_bytes};
+use crate::stop::CommandStop;
+use som_fields::ImageFault;
+use som_libimage::decode;
+use som_model::{List, NoMemory, Release, Text};
+use som_rules::VerifyFault;
+use som_verify::release_ok;
+use std::alloc::Global;
+
+/// The release of a library image, or the refusal that tells the first fault of the bytes.
+pub fn read_release(alloc: Global, name: &Text, bytes: &List<u8>) -> Result<Release, CommandStop>
+    ensures follows { Follows result (release_in name.now bytes.now) }
+    ensures within { IfOk result IsWithinLimits }
+    ensures quiet { IsQuiet result }
+{
+    match decode(alloc, bytes) {
+        Ok(release) => Ok(release),
+        Err(ImageFault::NoMemory) => Err(CommandStop::NoMemory),
+        Err(fault) => Err(CommandStop::Refused(refuse_bytes(alloc, name, fault)?)),
+    }
+}
+
+/// Goes on where a release breaks no rule; else the refusal tells the first that it breaks.
+pub fn look_at_rules(alloc: Global, name: &Text, release: &Release) -> Result<(), CommandStop>
+    ensures follows { Follows result (rules_kept name.now release.now) }
+    ensures conforms { IfOk result (λ _. ReleaseOk release.now) }
+    ensures quiet { IsQuiet result }
+{
+    match release_ok(alloc, release) {
+        Ok(()) => Ok(()),
+        Err(VerifyFault::Rule(rule)) => {
+            Err(CommandStop::Refused(refuse_broken(alloc, name, &rule)?))
+        }
+        Err(VerifyFault::NoMemory) => Err(CommandStop::NoMemory),
+    }
+}
+
+/// The release of a library image that breaks no rule.
+#[tactic(auto, using(crate::proofs::ImageLaws::unread_first, crate::proofs::ImageLaws::broken_first, crate::proofs::ImageLaws::is_sound))]
+pub fn sound_release(alloc: Global, name: &Text, bytes: &List<u8>) -> Result<Release, CommandStop>
+    ensures follows { Follows result (sound_release name.now bytes.now) }
+    ensures conforms { IfOk result ReleaseOk }
+    ensures within { IfOk result IsWithinLimits }
+    ensures quiet { IsQuiet result }
+{
+    let release = read_release(alloc, name, bytes)?;
+    look_at_rules(alloc, name, &release)?;
+    Ok(release)
+}
