@@ -85,7 +85,7 @@ module _ {A : Type 0} (Comes : Compiling A) (out : List ℕ) (got : Files → Re
 
   no_refusal_is_done : (w : Why) → status_of w ≢ 0
   no_refusal_is_done why.Texts e = omega arith
-  no_refusal_is_done why.CompatBreach e = omega arith
+  no_refusal_is_done why.Incompatible e = omega arith
   no_refusal_is_done why.Image e = omega arith
   no_refusal_is_done why.Absent e = omega arith
   no_refusal_is_done why.Limit e = omega arith

@@ -29,7 +29,7 @@ or_dash (Some name) = name
 abbrev pub not_kept : List ℕ → CompatBreach → Refusal
 not_kept image b = record {
   line = codes "incompatible K" ++ decimal b.rule ++ codes " " ++ b.class ++ codes " " ++ or_dash b.name ++ codes " " ++ decimal b.place ++ codes " in " ++ image ++ 10 ∷ [];
-  why = why.CompatBreach;
+  why = why.Incompatible;
 }
 
 -- ---- steps: the first of a list that refuses, refuses for all

@@ -104,7 +104,7 @@ fn refuse_breach(alloc: Global, image: &Text, breach: &Breach<'_>) -> Result<Ref
     line.push(b'\n')?;
     Ok(Refusal {
         line: Text::from_vec(line),
-        why: Why::CompatBreach,
+        why: Why::Incompatible,
     })
 }
 

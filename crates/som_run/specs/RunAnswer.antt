@@ -22,7 +22,7 @@ no_image name = record { line = named (codes "image 0 ") name; why = why.Image }
 
 -- the client wasn't compiled against the faces of the library
 abbrev pub not_same : List ℕ → Refusal
-not_same name = record { line = named (codes "not the same as ") name; why = why.CompatBreach }
+not_same name = record { line = named (codes "not the same as ") name; why = why.Incompatible }
 
 -- ---- endings
 

@@ -69,7 +69,7 @@ fn run_on(
     } else {
         Err(CommandStop::Refused(Refusal {
             line: named_line(alloc, b"not the same as ", name)?,
-            why: Why::CompatBreach,
+            why: Why::Incompatible,
         }))
     }
 }

@@ -8,7 +8,7 @@ use Rattle.som_steps.specs.declared.output.End.TheVariants as ends
 -- the status of each refusal
 abbrev pub status_of : Why → ℕ
 status_of why.Texts = 3
-status_of why.CompatBreach = 4
+status_of why.Incompatible = 4
 status_of why.Image = 5
 status_of why.Absent = 7
 status_of why.Limit = 11

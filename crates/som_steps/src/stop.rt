@@ -8,7 +8,7 @@ use som_model::{NoMemory, Text};
 pub enum Why {
     /// Texts can't be read, or break a rule.
     Texts,
-    CompatBreach,
+    Incompatible,
     Image,
     Absent,
     /// Texts pass a limit.
@@ -24,7 +24,7 @@ impl Why {
     {
         match self {
             Why::Texts => 3,
-            Why::CompatBreach => 4,
+            Why::Incompatible => 4,
             Why::Image => 5,
             Why::Absent => 7,
             Why::Limit => 11,

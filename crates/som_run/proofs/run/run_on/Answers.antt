@@ -46,6 +46,6 @@ returns-then-is-clause-runs c =
 
 pub returns-clause-runs : goal.returns-clause-runs
 returns-clause-runs c = (
-  ap (λ (line : List ℕ). record { line = line; why = why.CompatBreach }) c.in_ok-named_line.ensures,
+  ap (λ (line : List ℕ). record { line = line; why = why.Incompatible }) c.in_ok-named_line.ensures,
   are_others c.args.client.now.base c.in_ok-interface.interface c.args.library.now.release c.in_ok-interface.ensures (sym c.is.ensures ∙ c.if-is.false),
 )
