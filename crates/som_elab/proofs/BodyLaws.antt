@@ -1,5 +1,5 @@
 -- The block of one method, as it is answered, and what must hold for it.
-use Rattle.std.proofs.Common.{◌≡◌, ℕ, suc, ◌-◌, ◌<◌, ◌≤◌, inl, inr, Bool, true, false, if◌then◌else◌, List, [], ◌∷◌, ◌++◌, length, Option, Some, None, Result, Ok, Err, refl, sym, ap, ◌∙◌, subst, arith, append-nil}
+use Rattle.std.proofs.Common.{◌≡◌, ℕ, suc, ◌-◌, ◌<◌, ◌≤◌, inl, inr, Bool, true, false, if◌then◌else◌, List, [], ◌∷◌, length, Option, Some, None, Result, Ok, Err, refl, sym, ap, ◌∙◌, subst, arith, append-nil}
 use Rattle.std.specs.Str.{bytes_eq}
 use Rattle.som_model.specs.declared.key.ClassKey.{ClassKey}
 use Rattle.som_model.specs.declared.key.MethodRef.{MethodRef}
@@ -17,9 +17,8 @@ use Rattle.som_model.specs.Keys.{same_key}
 use Rattle.som_model.specs.Owner.{owner}
 use Rattle.som_model.specs.Typing.{class_facts}
 use Rattle.som_body.specs.declared.tree.BodyText.{BodyText}
-use Rattle.som_typing.specs.Bodies.{AllSigsKnown}
 use Rattle.som_typing.specs.Kinds.{IsDeclared}
-use Rattle.som_typing.specs.Knowing.{all_of, sig_is_known}
+use Rattle.som_typing.specs.Knowing.{sig_is_known}
 use Rattle.som_rules.specs.Modules.{classes_of}
 use Rattle.som_rules.specs.Places.{class_of_place, with_kernel}
 use Rattle.som_typing.proofs.Facts.{signature_said}
@@ -35,7 +34,7 @@ use Rattle.som_elab.specs.Bodies.{texts_for}
 use Rattle.som_forms.specs.Expressions.{Among}
 use Rattle.som_forms.specs.Statements.{Told}
 use Rattle.som_forms.specs.MethodBody.{elaborated_body}
-use Rattle.som_elab.specs.Elaboration.{Answers, Refusal, refused_at, text_block}
+use Rattle.som_elab.specs.Elaboration.{Answers, refused_at, text_block}
 use Rattle.som_elab.specs.Contexts.{FewParameters, IsModuleContext, classes_in, refused_as}
 
 -- ---- one block

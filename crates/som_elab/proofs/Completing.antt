@@ -1,5 +1,5 @@
 -- Classes with the bodies that were made for them.
-use Rattle.std.proofs.Common.{◌≡◌, List, [], ◌∷◌, map, zip, Result, Ok, Err, refl, sym, ap, ◌∙◌}
+use Rattle.std.proofs.Common.{◌≡◌, List, [], ◌∷◌, map, zip, Result, Ok, Err, refl, ap, ◌∙◌}
 use Rattle.std.specs.Borrow.{Bor}
 use Rattle.som_model.specs.declared.class.Body.{Body}
 use Rattle.som_model.specs.declared.class.Override.{Override}
@@ -9,13 +9,13 @@ use Rattle.som_model.specs.Class.{class_in}
 use Rattle.som_model.specs.Steps.{◌>>=◌}
 use Rattle.som_idl.specs.declared.tree.IdlInterface.{IdlInterface}
 use Rattle.som_body.specs.declared.tree.BodyText.{BodyText}
-use Rattle.som_sema.specs.Drafts.{InterfaceDraft, plain_drafts, plain_draft}
+use Rattle.som_sema.specs.Drafts.{InterfaceDraft, plain_drafts}
 use Rattle.som_sema.specs.declared.drafts.Draft.{Draft}
 use Rattle.som_scope.specs.Words.{lent}
 use Rattle.som_elab.specs.declared.class_bodies.ClassBodies.{ClassBodies}
 use Rattle.som_elab.specs.Bodies.{drafts_of_classes}
 use Rattle.som_forms.specs.Expressions.{Among}
-use Rattle.som_elab.specs.Elaboration.{Refusal, elaborated_class, elaborated_each, entry_bodies, override_blocks, with_blocks}
+use Rattle.som_elab.specs.Elaboration.{Refusal, elaborated_each, entry_bodies, override_blocks, with_blocks}
 use Rattle.som_elab.specs.Contexts.{class_steps, completed, each_steps}
 
 -- an interface and a declaration that are passed together

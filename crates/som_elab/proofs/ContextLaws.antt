@@ -1,8 +1,6 @@
 -- The own classes among all classes.
-use Rattle.std.proofs.Common.{◌≡◌, ℕ, zero, suc, ◌+◌, ◌-◌, ◌<◌, ◌≤◌, inl, inr, List, [], ◌∷◌, ◌++◌, length, map, take, drop, flat_map, get_or, slice_index_or, Option, None, refl, sym, ap, ◌∙◌, subst, arith, length-append}
+use Rattle.std.proofs.Common.{◌≡◌, ℕ, zero, suc, ◌+◌, ◌-◌, ◌<◌, inl, inr, List, [], ◌∷◌, ◌++◌, length, map, take, drop, flat_map, get_or, slice_index_or, None, refl, sym, ap, ◌∙◌, subst, arith, length-append}
 use Rattle.som_model.specs.declared.key.Module.{Module}
-use Rattle.som_model.specs.declared.class.Sig.{Sig}
-use Rattle.som_model.specs.declared.class.Way.{Way}
 use Rattle.som_model.specs.declared.class.Entry.TheVariants as entries
 use Rattle.som_model.specs.declared.class.ClassDecl.{ClassDecl}
 use Rattle.som_model.specs.Lists.{Mem, first, or_else}

@@ -1,5 +1,5 @@
 -- Releases and programs from what texts come to as a whole.
-use Rattle.std.proofs.Common.{◌≡◌, List, [], Option, Some, None, Result, Ok, Err, refl, sym, ap, ◌∙◌, subst}
+use Rattle.std.proofs.Common.{◌≡◌, List, [], Some, None, Result, Ok, Err, refl, sym, ap, ◌∙◌, subst}
 use Rattle.som_model.specs.declared.key.Module.TheVariants as modules
 use Rattle.som_model.specs.declared.syntax.Block.{Block}
 use Rattle.som_model.specs.declared.class.ClassDecl.{ClassDecl}

@@ -1,9 +1,7 @@
 -- The release and the client program that texts stand for, or what is first in their way: the limit of classes, the rules S1 to S14, the other limits, and then what bodies break, one after the other.
-use Rattle.std.specs.Prelude.{◌≡◌, ℕ, if◌then◌else◌, List, [], ◌∷◌, map, length, codes, is_some, Option, Some, None, Result, Ok, Err}
-use Rattle.std.specs.Str.{bytes_eq}
+use Rattle.std.specs.Prelude.{◌≡◌, ℕ, List, [], ◌∷◌, length, codes, Option, Some, None, Result, Ok, Err}
 use Rattle.som_model.specs.declared.key.Module.{Module}
 use Rattle.som_model.specs.declared.key.Module.TheVariants as modules
-use Rattle.som_model.specs.declared.key.ValueType.{ValueType}
 use Rattle.som_model.specs.declared.syntax.Block.{Block}
 use Rattle.som_model.specs.declared.class.Sig.{Sig}
 use Rattle.som_model.specs.declared.class.Entry.{Entry}
@@ -16,25 +14,22 @@ use Rattle.som_model.specs.declared.program.Interface.{Interface}
 use Rattle.som_model.specs.declared.program.Release.{Release}
 use Rattle.som_model.specs.declared.program.ClientProgram.{ClientProgram}
 use Rattle.som_model.specs.declared.limits.TheConstants.{MAX_LOCALS}
-use Rattle.som_model.specs.Lists.{doubles, first}
+use Rattle.som_model.specs.Lists.{first}
 use Rattle.som_model.specs.Steps.{◌>>=◌}
 use Rattle.som_model.specs.Class.{Class, class_in}
 use Rattle.som_model.specs.Owner.{owner, sig_of}
 use Rattle.som_model.specs.Rules.{RuleBreach}
-use Rattle.som_model.specs.Typing.{in_body, in_main}
-use Rattle.som_read.specs.declared.tree.Word.{Word}
+use Rattle.som_model.specs.Typing.{in_main}
 use Rattle.som_idl.specs.declared.tree.IdlInterface.{IdlInterface}
 use Rattle.som_body.specs.declared.tree.BodyText.{BodyText}
 use Rattle.som_body.specs.declared.tree.BlockText.{BlockText}
 use Rattle.som_rules.specs.Told.{told}
 use Rattle.som_sema.specs.declared.types.Refused.{Refused}
 use Rattle.som_sema.specs.declared.types.Refused.TheVariants as faults
-use Rattle.som_scope.specs.Words.{words}
 use Rattle.som_sema.specs.Drafts.{InterfaceDraft}
 use Rattle.som_sema.specs.Building.{declarations, module_over, most_classes, texts_breach}
 use Rattle.som_elab.specs.Accessors.{body_of}
 use Rattle.som_elab.specs.Limits.{Passed, at_most, limit_passed}
-use Rattle.som_forms.specs.Locals.{Named, Names}
 use Rattle.som_forms.specs.Expressions.{Among}
 use Rattle.som_forms.specs.MethodBody.{elaborated_body}
 use Rattle.som_forms.specs.Statements.{BodyBreach, Breaks, ManyLocals, Told, elaborated_block}

@@ -1,5 +1,5 @@
 -- A text of a group has one of the group's forms.
-use Rattle.std.proofs.Common.{◌≡◌, ℕ, Bool, true, false, List, Option, sym, ◌∙◌}
+use Rattle.std.proofs.Common.{◌≡◌, ℕ, true, List, Option, sym, ◌∙◌}
 use Rattle.som_model.specs.declared.syntax.HostCode.{HostCode}
 use Rattle.som_read.specs.declared.tree.TypeName.{TypeName}
 use Rattle.som_read.specs.declared.tree.Word.{Word}

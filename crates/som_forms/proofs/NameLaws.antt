@@ -17,14 +17,13 @@ use Rattle.som_typing.specs.declared.code_place.CodePlace.{CodePlace as Place}
 use Rattle.som_typing.specs.declared.code_place.TypeFault.{TypeFault}
 use Rattle.som_typing.specs.declared.knowledge.Knowledge.{Knowledge}
 use Rattle.som_typing.specs.Kinds.{Comes, IsType, Names as Looks, PlaceStands, Stands, code_at, kind_at, type_at}
-use Rattle.som_typing.specs.Knowing.{IsKnowledge, all_of, facts_of}
-use Rattle.som_typing.proofs.Facts.{known_said}
+use Rattle.som_typing.specs.Knowing.{IsKnowledge, all_of}
 use Rattle.som_typing.proofs.KindLaws.{index_mem}
 use Rattle.som_forms.specs.declared.local.Local.{Local}
 use Rattle.som_forms.specs.declared.typed_expr.TypedExpr.{TypedExpr}
-use Rattle.som_forms.specs.Locals.{Names, kinds_of, local_of, names_of}
+use Rattle.som_forms.specs.Locals.{Names, kinds_of, names_of}
 use Rattle.som_forms.specs.Methods.{parent_place, variable_place}
-use Rattle.som_forms.specs.Expressions.{Elab, Elaborated, formed, local_form, variable_form}
+use Rattle.som_forms.specs.Expressions.{Elab, formed, local_form, variable_form}
 use Rattle.som_forms.specs.Code.{AreLocals, Makes, names_at}
 use Rattle.som_forms.specs.Forms.{local_place, of_kind}
 

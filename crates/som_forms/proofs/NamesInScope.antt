@@ -1,16 +1,15 @@
 -- Names in scope, and one more local among them.
-use Rattle.std.proofs.Common.{◌≡◌, ℕ, suc, ◌+◌, ◌<◌, ◌≤◌, Bool, true, false, not, if◌then◌else◌, nat_lt, inl, inr, List, [], ◌∷◌, ◌++◌, map, length, is_some, Option, Some, None, Result, Ok, Err, refl, sym, ap, ◌∙◌, subst, arith}
+use Rattle.std.proofs.Common.{◌≡◌, ℕ, suc, ◌+◌, ◌<◌, ◌≤◌, Bool, true, false, not, if◌then◌else◌, nat_lt, inl, inr, List, [], ◌∷◌, ◌++◌, length, is_some, Option, Some, Ok, Err, refl, sym, ap, ◌∙◌, subst, arith}
 use Rattle.std.specs.Str.{bytes_eq}
 use Rattle.std.proofs.lemmas.List.{length_push, map_push}
 use Rattle.som_model.specs.declared.key.ValueType.{ValueType}
-use Rattle.som_model.specs.declared.syntax.Stmt.{Stmt}
 use Rattle.som_model.specs.declared.syntax.Stmt.TheVariants as stmts
 use Rattle.som_model.specs.declared.limits.TheConstants.{MAX_LOCALS, MAX_PARAMETERS}
-use Rattle.som_model.specs.Lists.{Mem, place_from, some}
+use Rattle.som_model.specs.Lists.{place_from, some}
 use Rattle.som_model.specs.Steps.{◌>>=◌}
 use Rattle.som_model.specs.Class.{Class}
 use Rattle.som_model.specs.Typing.{fits, kind_is_known, needs}
-use Rattle.som_typing.specs.Kinds.{IsType, type_at}
+use Rattle.som_typing.specs.Kinds.{IsType}
 use Rattle.som_laws.proofs.Members.{mem_split}
 use Rattle.som_rules.proofs.DeclaredClasses.{long_map}
 use Rattle.som_forms.specs.declared.local.Local.{Local}

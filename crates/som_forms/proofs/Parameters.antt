@@ -1,22 +1,21 @@
 -- The parameters of a method as its first locals.
-use Rattle.std.proofs.Common.{◌≡◌, ℕ, zero, suc, ◌+◌, ◌<◌, ◌≤◌, ◌⊎◌, Bool, true, false, if◌then◌else◌, inl, inr, List, [], ◌∷◌, ◌++◌, map, length, drop, get_or, is_some, Option, Some, None, Result, Ok, Err, refl, sym, ap, ◌∙◌, subst, append_assoc, arith}
+use Rattle.std.proofs.Common.{◌≡◌, ℕ, ◌+◌, ◌<◌, ◌≤◌, ◌⊎◌, Bool, true, false, if◌then◌else◌, inl, inr, List, [], ◌∷◌, ◌++◌, length, drop, get_or, is_some, Some, Result, Err, refl, sym, ap, ◌∙◌, subst, append_assoc, arith}
 use Rattle.std.specs.Str.{bytes_eq}
 use Rattle.std.proofs.lemmas.List.{append-nil, at_drop_more, drop_all, length_push, map_push}
 use Rattle.som_model.specs.declared.key.ValueType.{ValueType}
 use Rattle.som_model.specs.declared.syntax.Block.{Block}
 use Rattle.som_model.specs.declared.class.Sig.{Sig}
-use Rattle.som_model.specs.declared.limits.TheConstants.{MAX_LOCALS, MAX_PARAMETERS}
-use Rattle.som_model.specs.Lists.{Mem, among, doubles, first, place_from, some}
-use Rattle.som_model.specs.Steps.{◌>>=◌}
+use Rattle.som_model.specs.declared.limits.TheConstants.{MAX_PARAMETERS}
+use Rattle.som_model.specs.Lists.{among, doubles, first}
 use Rattle.som_model.specs.Class.{Class}
-use Rattle.som_model.specs.Typing.{CodePlace, in_body}
+use Rattle.som_model.specs.Typing.{in_body}
 use Rattle.som_read.specs.declared.tree.Word.{Word}
 use Rattle.som_body.specs.declared.tree.BodyText.{BodyText}
 use Rattle.som_typing.specs.Kinds.{IsType, type_at}
 use Rattle.som_scope.specs.Words.{words}
 use Rattle.som_forms.specs.declared.local.Local.{Local}
 use Rattle.som_forms.specs.declared.fault.BodyFault.{BodyFault}
-use Rattle.som_forms.specs.Locals.{Named, Names, in_scope, local_of, names_of}
+use Rattle.som_forms.specs.Locals.{Named, Names}
 use Rattle.som_forms.specs.Expressions.{Among}
 use Rattle.som_forms.specs.Statements.{Breaks, Told, elaborated_block}
 use Rattle.som_forms.specs.MethodBody.{elaborated_body, parameters}

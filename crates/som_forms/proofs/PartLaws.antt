@@ -1,6 +1,5 @@
 -- Parts, one after the other, and forms by their parts.
 use Rattle.std.proofs.Common.{◌≡◌, ℕ, suc, ◌<◌, List, [], ◌∷◌, ◌++◌, drop, map, length, slice_index_or, Result, Ok, Err, refl, sym, ap, ◌∙◌, subst, append_assoc, drop-cons, arith}
-use Rattle.std.proofs.lemmas.List.{map-append}
 use Rattle.som_model.specs.declared.syntax.Expr.{Expr}
 use Rattle.som_model.specs.Class.{Class}
 use Rattle.som_model.specs.Steps.{◌>>=◌}
@@ -14,7 +13,7 @@ use Rattle.som_body.specs.declared.tree.ExprText.{ExprText}
 use Rattle.som_forms.specs.declared.typed_expr.TypedExpr.{TypedExpr}
 use Rattle.som_forms.specs.declared.parts.Parts.{Parts}
 use Rattle.som_forms.specs.Expressions.{Elab, Elaborated, exprs_of, formed, part, parts, types_of, valued}
-use Rattle.som_forms.specs.Code.{Makes, typed_at}
+use Rattle.som_forms.specs.Code.{Makes}
 use Rattle.som_forms.specs.Forms.{Adds, AreParts, of_one, parts_at, typed_parts}
 
 -- ---- expressions and their types

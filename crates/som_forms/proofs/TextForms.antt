@@ -1,5 +1,5 @@
 -- What the text of a statement comes to, by its form.
-use Rattle.std.proofs.Common.{◌≡◌, List, map, Option, Ok, sym, ap, ◌∙◌}
+use Rattle.std.proofs.Common.{◌≡◌, map, Option, Ok, sym, ap, ◌∙◌}
 use Rattle.som_model.specs.Steps.{◌>>=◌}
 use Rattle.som_model.specs.Typing.{CodePlace}
 use Rattle.som_read.specs.declared.tree.TypeName.{TypeName}
@@ -13,7 +13,7 @@ use Rattle.som_body.specs.declared.tree.BlockText.{BlockText, fold-roll-BlockTex
 use Rattle.som_scope.specs.ClassNames.{type_of}
 use Rattle.som_forms.specs.Locals.{Names}
 use Rattle.som_forms.specs.Expressions.{Among, elaborated, elaborated_value}
-use Rattle.som_forms.specs.Statements.{BlockElab, Placed, StmtElab, Told, block_step, call_statement, declared, elaborated_block, elaborated_stmt, freed, in_turn, printed, returned, ruled, set_local, set_variable, stmt_step}
+use Rattle.som_forms.specs.Statements.{BlockElab, StmtElab, block_step, call_statement, declared, elaborated_block, elaborated_stmt, freed, in_turn, printed, returned, ruled, set_local, set_variable, stmt_step}
 use Rattle.som_forms.specs.Stated.{by_value, declared_by, if_by, while_by}
 
 module _ (a : Among) (at : CodePlace) where

@@ -1,5 +1,5 @@
 -- A block by its statements one after the other, and statements that hold blocks.
-use Rattle.std.proofs.Common.{◌≡◌, ℕ, ◌+◌, ◌<◌, ◌≤◌, Bool, true, false, if◌then◌else◌, List, [], ◌∷◌, ◌++◌, length, map, take, drop, get_or, Result, Ok, Err, refl, sym, ap, ◌∙◌, subst, append_assoc}
+use Rattle.std.proofs.Common.{◌≡◌, ℕ, ◌+◌, ◌<◌, ◌≤◌, Bool, if◌then◌else◌, List, [], ◌∷◌, ◌++◌, length, map, take, drop, get_or, Result, Ok, Err, refl, sym, ap, ◌∙◌, subst, append_assoc}
 use Rattle.std.proofs.lemmas.List.{append-nil, at_drop_more, drop_all}
 use Rattle.som_model.specs.declared.syntax.Stmt.{Stmt}
 use Rattle.som_model.specs.declared.syntax.Stmt.TheVariants as stmts
@@ -14,8 +14,8 @@ use Rattle.som_forms.specs.declared.fault.BodyFault.{BodyFault}
 use Rattle.som_forms.specs.declared.fault.BodyFault.TheVariants as faults
 use Rattle.som_forms.specs.Locals.{Names}
 use Rattle.som_forms.specs.Expressions.{Among, Elab, Elaborated}
-use Rattle.som_forms.specs.Statements.{BodyBreach, Breaks, ManyLocals, Placed, StmtElab, Told, elaborated_block, elaborated_stmt, in_turn, placed, ruled}
-use Rattle.som_forms.specs.Code.{AreLocals, Blocks, Stops, names_at}
+use Rattle.som_forms.specs.Statements.{Placed, StmtElab, Told, elaborated_block, elaborated_stmt, in_turn, placed, ruled}
+use Rattle.som_forms.specs.Code.{AreLocals, Stops, names_at}
 use Rattle.som_forms.specs.Stated.{Keeps, Leaves, States, if_by, while_by}
 use Rattle.som_forms.proofs.Stating.{kept}
 use Rattle.som_forms.proofs.TextForms.{block_is}

@@ -20,7 +20,7 @@ use Rattle.som_forms.specs.declared.fault.BodyFault.{BodyFault}
 use Rattle.som_forms.specs.declared.fault.BodyFault.TheVariants as faults
 use Rattle.som_forms.specs.Locals.{Named, Names}
 use Rattle.som_forms.specs.Expressions.{Among, Elab, Elaborated}
-use Rattle.som_forms.specs.Statements.{Breaks, ManyLocals, Placed, Told}
+use Rattle.som_forms.specs.Statements.{Breaks, ManyLocals, Told}
 
 -- ---- where code stands
 

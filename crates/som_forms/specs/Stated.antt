@@ -1,18 +1,14 @@
 -- What statements and blocks make of the locals in scope.
-use Rattle.std.specs.Prelude.{◌≡◌, ℕ, ◌<◌, if◌then◌else◌, List, [], ◌∷◌, ◌++◌, length, is_some, Result, Ok, Err}
-use Rattle.std.specs.Str.{bytes_eq}
+use Rattle.std.specs.Prelude.{◌≡◌, ℕ, ◌<◌, List, [], ◌∷◌, ◌++◌, length, Result, Ok, Err}
 use Rattle.som_model.specs.declared.key.ValueType.{ValueType}
 use Rattle.som_model.specs.declared.limits.TheConstants.{MAX_LOCALS}
 use Rattle.som_model.specs.declared.syntax.Expr.{Expr}
 use Rattle.som_model.specs.declared.syntax.Stmt.{Stmt}
 use Rattle.som_model.specs.declared.syntax.Stmt.TheVariants as stmts
 use Rattle.som_model.specs.declared.syntax.Block.{Block}
-use Rattle.som_model.specs.Lists.{doubles, first}
 use Rattle.som_model.specs.Steps.{◌>>=◌}
 use Rattle.som_model.specs.Class.{Class}
 use Rattle.som_model.specs.Typing.{Ruled, is_boolean, needs}
-use Rattle.som_read.specs.declared.tree.Word.{Word}
-use Rattle.som_scope.specs.Words.{words}
 use Rattle.som_body.specs.declared.tree.ExprText.{ExprText}
 use Rattle.som_body.specs.declared.tree.StmtText.{StmtText}
 use Rattle.som_body.specs.declared.tree.BlockText.{BlockText}
@@ -23,8 +19,7 @@ use Rattle.som_forms.specs.declared.body_context.BodyContext.{BodyContext}
 use Rattle.som_forms.specs.declared.fault.BodyFault.{BodyFault}
 use Rattle.som_forms.specs.Locals.{Names}
 use Rattle.som_forms.specs.Expressions.{Elab, Elaborated, elaborated, elaborated_value}
-use Rattle.som_forms.specs.Statements.{Breaks, Placed, Told, elaborated_block, elaborated_stmt, placed, ruled}
-use Rattle.som_forms.specs.MethodBody.{parameters}
+use Rattle.som_forms.specs.Statements.{Placed, Told, elaborated_block, elaborated_stmt, placed, ruled}
 use Rattle.som_forms.specs.Code.{AreLocals, Stops, among_at, classes_at, names_at, place_at}
 
 -- the names of the locals in scope

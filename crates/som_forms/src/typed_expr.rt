@@ -12,6 +12,7 @@ pub struct TypedExpr {
 }
 
 impl TypedExpr {
+    /// The expression moves behind a pointer, so that dropping it is one step.
     pub fn new(alloc: Global, expr: Expr, kind: Kind) -> Result<TypedExpr, NoMemory>
         ensures { IfOk result (λ made. made ≡ record { expr = expr; kind = kind }) }
     {

@@ -102,7 +102,7 @@ key_same xs ys a (p ∷ row) =
     let e = ap (λ (k : Core). k.key) (sym (alike_at xs ys p _ a)) in
     ap (λ k. k ∷ map (key_at ys) row) e ∙ ap (λ z. key_at xs p ∷ z) (key_same xs ys a row)
 
--- what is ancestors of some classes is ancestors of those that are like them
+-- a table of ancestors of some classes is one of those that are like them
 pub alike_table : (xs ys : List Class) (w : AncestorTable) → Alike xs ys → AreDeclared ys → IsAncestorTable xs w → IsAncestorTable ys w
 alike_table xs ys w a d h =
     let all = alike_both kernel kernel xs ys (alike_self kernel) a in

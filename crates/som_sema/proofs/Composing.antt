@@ -91,7 +91,7 @@ own_types_tell ds asked n number r e f t =
     (subst (λ (z : List Class). Tells (first (flat_map (s5 z) (classes_of asked))) r)
     (ap (λ k. take k (with_kernel (classes_of ds))) (e ∙ known_number ds) ∙ take_all (with_kernel (classes_of ds))) t)
 
--- the table and the lists of ancestors classes
+-- the table and the lists of classes whose ancestors are listed
 pub lists_are : (cs : List Class) (names : List (List ℕ)) (all lent : List (List ℕ)) → IsTable cs names → AreAncestorLists cs all → lent ≡ all → AreLists (with_kernel cs) lent
 lists_are cs names all lent t w e = lists_of cs names t w.rows w.rows all lent w.are refl w.lists e
 

@@ -1,6 +1,5 @@
 -- What items and modifiers say, and what they don't.
-use Rattle.std.proofs.Common.{◌≡◌, ℕ, Bool, true, false, if◌then◌else◌, List, [], ◌∷◌, ◌++◌, refl, ap}
-use Rattle.som_model.specs.declared.list.List.{List as Kept}
+use Rattle.std.proofs.Common.{◌≡◌, Bool, true, false, if◌then◌else◌, List, [], ◌∷◌, ◌++◌, refl, ap}
 use Rattle.som_read.specs.declared.tree.Word.{Word}
 use Rattle.som_idl.specs.declared.tree.Item.{Item}
 use Rattle.som_idl.specs.declared.tree.Item.TheVariants as items

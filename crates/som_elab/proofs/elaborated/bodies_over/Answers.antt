@@ -1,4 +1,4 @@
-use Rattle.std.proofs.Common.{length, option_copied, ap, map, ◌∙◌}
+use Rattle.std.proofs.Common.{length, option_copied, ap, ◌∙◌}
 use Rattle.som_model.specs.Class.{bare}
 use Rattle.som_scope.specs.ClassNames.{face_names, module_in_scope, kernel_names, module_by_names}
 use Rattle.som_sema.specs.Drafts.{plain_drafts}

@@ -1,6 +1,5 @@
-use Rattle.std.proofs.Common.{◌≡◌, List, refl, ap, ◌∙◌, subst, Ok}
+use Rattle.std.proofs.Common.{◌≡◌, List, ap, ◌∙◌, subst, Ok}
 use Rattle.std.proofs.lemmas.Result.{err_from_is_err_and}
-use Rattle.som_typing.specs.Kinds.{kind_at}
 use Rattle.som_forms.specs.declared.local.Local.{Local}
 use Rattle.som_forms.specs.Code.{Stops, among_at, classes_at, typed_at, place_at}
 use Rattle.som_forms.specs.Stated.{block_in, by_value, expr_in, names_in, stmt_in, value_in}

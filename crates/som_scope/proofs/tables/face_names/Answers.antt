@@ -1,6 +1,5 @@
 use Rattle.std.proofs.Common.{List, ℕ, ap, refl, subst, ◌∙◌, ◌≡◌}
 use Rattle.std.specs.Prelude.{IfOk}
-use Rattle.som_model.specs.declared.class.ClassFace.{ClassFace}
 use Rattle.som_order.specs.Names.{texts}
 use Rattle.som_scope.specs.ClassNames.{face_names}
 use Rattle.som_scope.specs.Words.{once}

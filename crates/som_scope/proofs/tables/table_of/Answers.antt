@@ -1,4 +1,3 @@
-use Rattle.std.specs.Prelude.{refl}
 use Rattle.som_scope.proofs.OneTable.{once_all, once_more}
 use Rattle.som_scope.proofs.tables.table_of.Goals as goal
 

@@ -1,9 +1,7 @@
-use Rattle.std.proofs.Common.{◌≡◌, List, ap, map, ◌∙◌, refl, subst}
+use Rattle.std.proofs.Common.{◌≡◌, List, ap, ◌∙◌, subst}
 use Rattle.std.specs.Prelude.{IfOk}
-use Rattle.som_model.specs.Class.{class_in}
 use Rattle.som_model.specs.Classes.{interface_classes}
 use Rattle.som_model.specs.declared.class.ClassDecl.{ClassDecl}
-use Rattle.som_model.specs.declared.key.Module.TheVariants as modules
 use Rattle.som_rules.specs.Faces.{faces_breach}
 use Rattle.som_rules.specs.Told.{Tells}
 use Rattle.som_scope.specs.ClassNames.{module_in_scope}

@@ -1,13 +1,11 @@
-use Rattle.std.proofs.Common.{List, ℕ, ap, map, refl, ◌∙◌}
+use Rattle.std.proofs.Common.{List, ℕ, map, refl}
 use Rattle.std.specs.Borrow.{Bor}
 use Rattle.som_order.specs.Names.{texts}
 use Rattle.som_rules.specs.Modules.{classes_of}
 use Rattle.som_rules.specs.Places.{key_at, with_kernel}
 use Rattle.som_sema.specs.Finished.{override_of}
-use Rattle.som_sema.specs.Items.{given, is_override, with_modifier}
-use Rattle.som_scope.specs.Words.{once}
 use Rattle.som_sema.proofs.Declaring.{same_override}
-use Rattle.som_scope.proofs.Going.{next_value, rest_end}
+use Rattle.som_scope.proofs.Going.{next_value}
 use Rattle.som_sema.proofs.declared.overrides.Goals as goal
 
 pub loop-name-preserved : goal.loop-name-preserved

@@ -1,5 +1,4 @@
-use Rattle.std.proofs.Common.{[], ap, ◌∙◌}
-use Rattle.som_model.specs.declared.key.ValueType.{ValueType}
+use Rattle.std.proofs.Common.{ap, ◌∙◌}
 use Rattle.som_order.specs.Names.{texts}
 use Rattle.som_sema.specs.Drafts.{getter, method}
 use Rattle.som_sema.proofs.exports.reader.Goals as goal

@@ -1,6 +1,6 @@
 use Rattle.std.proofs.Common.{◌∷◌, ◌++◌, ◌+◌, drop, ap, refl, ◌∙◌}
 use Rattle.som_order.specs.Names.{texts}
-use Rattle.som_sema.specs.Items.{listed, listed_in}
+use Rattle.som_sema.specs.Items.{listed}
 use Rattle.som_scope.specs.Words.{words}
 use Rattle.som_scope.proofs.Going.{next, next_none, rest_end}
 use Rattle.som_sema.proofs.Unsaid.{not_listed}
