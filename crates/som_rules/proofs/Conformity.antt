@@ -8,7 +8,6 @@ use Rattle.som_model.specs.Conforming.{each_after, first_of_names, first_of_memb
 use Rattle.som_model.specs.Rules.{RuleBreach, s1, s2, s3, s4, s5, s14}
 use Rattle.som_model.specs.declared.program.Release.{Release}
 use Rattle.som_rules.specs.declared.types.VerifyFault.{VerifyFault}
-use Rattle.som_rules.specs.declared.types.VerifyFault.TheVariants as faults
 use Rattle.som_rules.specs.Faces.{classes_breach, faces_breach, placed_breach, rules_breach, standing_breach, types_breach}
 use Rattle.som_rules.specs.Told.{Tells}
 use Rattle.som_rules.specs.declared.types.Declared.{Declared}

@@ -1,5 +1,5 @@
 -- Passes over classes that break no rule.
-use Rattle.std.proofs.Common.{◌≡◌, List, ◌++◌, flat_map, Option, None, Result, Ok, Err, IfErr, refl, sym, ◌∙◌, subst}
+use Rattle.std.proofs.Common.{◌≡◌, List, flat_map, Option, None, Result, Ok, Err, IfErr, refl, sym, ◌∙◌, subst}
 use Rattle.som_model.specs.Lists.{first, or_else}
 use Rattle.som_model.specs.Class.{Class}
 use Rattle.som_model.specs.Conforming.{each_after, first_of_names}

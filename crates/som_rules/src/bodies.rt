@@ -11,7 +11,7 @@ use crate::types::{Declared, VerifyFault};
 use som_model::{Body, Entry, Sig, ValueType, Variable};
 use std::alloc::Global;
 
-/// There are as many bodies as introduced entries, and each fits its signature.
+/// S14: there are as many bodies as introduced entries, and each fits its signature.
 pub fn bodies_fit(alloc: Global, classes: &[Declared]) -> Result<(), VerifyFault>
     ensures { Tells (first (flat_map s14 (classes_of classes.now))) result }
 {

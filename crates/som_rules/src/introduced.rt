@@ -19,7 +19,7 @@ use crate::types::{Declared, VerifyFault};
 use som_model::{ClassFace, Entry, List, NoMemory};
 use std::alloc::Global;
 
-/// Each name is introduced by at most one class among the ancestors of a class. It is asked of the classes from
+/// S8: each name is introduced by at most one class among the ancestors of a class. It is asked of the classes from
 /// a place on.
 pub fn names_introduced_once(
     alloc: Global,

@@ -14,7 +14,7 @@ use som_model::{Entry, NoMemory, Variable};
 use som_order::name_of;
 use std::alloc::Global;
 
-/// No parent stands twice.
+/// S3: no parent of a class stands twice.
 pub fn parents_differ(alloc: Global, classes: &[Declared]) -> Result<(), VerifyFault>
     ensures { Tells (first (flat_map s3 (classes_of classes.now))) result }
 {
@@ -33,7 +33,7 @@ fn own_parents_differ(alloc: Global, class: &Declared) -> Result<(), VerifyFault
     Ok(())
 }
 
-/// The names of a release order are distinct.
+/// S6: the names of a release order are distinct.
 pub fn entries_differ(alloc: Global, classes: &[Declared]) -> Result<(), VerifyFault>
     ensures { Tells (first (flat_map s6 (classes_of classes.now))) result }
 {
@@ -60,7 +60,7 @@ fn entry_names(alloc: Global, entries: &[Entry]) -> Result<Vec<&[u8]>, NoMemory>
     Ok(names)
 }
 
-/// The names of a class's variables are distinct.
+/// S7: the names of a class's variables are distinct.
 pub fn variables_differ(alloc: Global, classes: &[Declared]) -> Result<(), VerifyFault>
     ensures { Tells (first (flat_map s7 (classes_of classes.now))) result }
 {

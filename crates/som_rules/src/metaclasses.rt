@@ -18,7 +18,7 @@ use indexmap::IndexSet;
 use som_model::{ClassKey, List};
 use std::alloc::Global;
 
-/// Each metaclass descends from SOMClass. It is asked of the classes from a place on.
+/// S4: each metaclass descends from SOMClass. It is asked of the classes from a place on.
 pub fn metaclasses_descend(
     alloc: Global,
     table: &IndexSet<&[u8]>,

@@ -17,7 +17,7 @@ use indexmap::IndexSet;
 use som_model::{ClassFace, Entry, List};
 use std::alloc::Global;
 
-/// Each moved entry names a proper ancestor that introduces its name. It is asked of the classes from a place on.
+/// S9: each moved entry names a proper ancestor that introduces its name. It is asked of the classes from a place on.
 pub fn entries_moved_up(
     alloc: Global,
     table: &IndexSet<&[u8]>,

@@ -20,7 +20,7 @@ use indexmap::IndexSet;
 use som_model::{ClassFace, List, MethodRef};
 use std::alloc::Global;
 
-/// Each override is of a method that a proper ancestor introduces, and none is overridden twice; methods go
+/// S10: each override is of a method that a proper ancestor introduces, and none is overridden twice; methods go
 /// by their owners. It is asked of the classes from a place on.
 pub fn overrides_inherited(
     alloc: Global,

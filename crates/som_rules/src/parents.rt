@@ -16,7 +16,8 @@ use indexmap::IndexSet;
 use som_model::{ClassKey, List, NoMemory};
 use std::alloc::Global;
 
-/// The parents of each class by their places, if each parent and each metaclass stands before its class.
+/// S2: each parent and each metaclass is a class of the kernel or stands before its class. Answers the parents of each
+/// class by their places.
 pub fn parents_stand(
     alloc: Global,
     table: &IndexSet<&[u8]>,

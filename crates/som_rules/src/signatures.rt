@@ -14,8 +14,8 @@ use indexmap::IndexSet;
 use som_model::{Entry, Sig, ValueType};
 use std::alloc::Global;
 
-/// Each type of a signature or variable names one of the first `number` classes, the kernel's counted, and only a
-/// result is void.
+/// S5: each type of a signature or variable names one of the first `number` classes, the kernel's counted, and only
+/// a result is void.
 pub fn types_known(
     alloc: Global,
     table: &IndexSet<&[u8]>,

@@ -26,7 +26,7 @@ pub const SOM_CLASS: usize = 1;
 /// The place of the class of the class manager.
 pub const SOM_CLASS_MGR: usize = 2;
 
-/// The names of the kernel's classes and of these, in order, if no two are one.
+/// S1: no two classes, the kernel's counted, have one name. Answers the names in order.
 pub fn class_names<'a>(
     alloc: Global,
     classes: &[Declared<'a>],

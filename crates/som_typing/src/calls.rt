@@ -15,7 +15,7 @@ use crate::knowledge::{
 use som_model::{ClassKey, MAX_PARAMETERS, MethodRef, Sig, ValueType};
 use som_rules::SOM_CLASS;
 
-/// The body's own object; rule 20 is broken outside of bodies of classes.
+/// The body's own object; S20 is broken outside of bodies of classes.
 pub fn self_kind(known: &Knowledge, at: &CodePlace) -> Result<Kind, u8>
     requires known { IsKnowledge known.now }
     requires place { PlaceStands (all_of known.now) at.now }
@@ -27,7 +27,7 @@ pub fn self_kind(known: &Knowledge, at: &CodePlace) -> Result<Kind, u8>
     }
 }
 
-/// A variable of the body's class, by its place; rule 16 is broken where there is none.
+/// A variable of the body's class, by its place; S16 is broken where there is none.
 pub fn variable_kind(known: &Knowledge, at: &CodePlace, place: usize) -> Result<Kind, u8>
     requires known { IsKnowledge known.now }
     requires place { PlaceStands (all_of known.now) at.now }
@@ -47,7 +47,7 @@ pub fn variable_kind(known: &Knowledge, at: &CodePlace, place: usize) -> Result<
     }
 }
 
-/// A new object of a class; rule 16 is broken where it isn't known.
+/// A new object of a class; S16 is broken where it isn't known.
 pub fn new_kind(known: &Knowledge, class: &ClassKey) -> Result<Kind, u8>
     requires { IsKnowledge known.now }
     ensures { Comes (all_of known.now) (typing.new_type (facts_of known.now) class.now) result }
@@ -58,7 +58,8 @@ pub fn new_kind(known: &Knowledge, class: &ClassKey) -> Result<Kind, u8>
     }
 }
 
-/// The object of a class, which is of the declared metaclass or else of SOMClass.
+/// The object of a class, which is of the declared metaclass or else of SOMClass; S16 is broken where the class isn't
+/// known.
 pub fn class_kind(known: &Knowledge, class: &ClassKey) -> Result<Kind, u8>
     requires { IsKnowledge known.now }
     ensures { Comes (all_of known.now) (typing.class_type (facts_of known.now) class.now) result }
@@ -75,7 +76,7 @@ pub fn class_kind(known: &Knowledge, class: &ClassKey) -> Result<Kind, u8>
     }
 }
 
-/// A reference taken as one of a class.
+/// A reference taken as one of a class; S16 is broken where the class isn't known, and S17 where it is no reference.
 pub fn cast_kind(known: &Knowledge, class: &ClassKey, kind: Kind) -> Result<Kind, u8>
     requires known { IsKnowledge known.now }
     requires kind { Stands (all_of known.now) kind }
@@ -87,7 +88,7 @@ pub fn cast_kind(known: &Knowledge, class: &ClassKey, kind: Kind) -> Result<Kind
     }
 }
 
-/// Whether a reference is of a class.
+/// Whether a reference is of a class; S16 and S17 are broken as by a cast.
 pub fn isa_kind(known: &Knowledge, class: &ClassKey, kind: Kind) -> Result<Kind, u8>
     requires known { IsKnowledge known.now }
     requires kind { Stands (all_of known.now) kind }
@@ -99,7 +100,7 @@ pub fn isa_kind(known: &Knowledge, class: &ClassKey, kind: Kind) -> Result<Kind,
     }
 }
 
-/// A proxy of a reference that fits its class.
+/// A proxy of a reference; S16 is broken where the class isn't known, and S17 where the reference doesn't fit it.
 pub fn proxy_kind(known: &Knowledge, class: &ClassKey, kind: Kind) -> Result<Kind, u8>
     requires known { IsKnowledge known.now }
     requires kind { Stands (all_of known.now) kind }
@@ -144,7 +145,7 @@ fn answer_of(known: &Knowledge, sig: &Sig) -> Kind
     }
 }
 
-// What a call answers whose arguments fit the parameters; else rule 18 is broken.
+// What a call answers whose arguments fit the parameters; else S18 is broken.
 fn called(known: &Knowledge, sig: &Sig, args: &[Kind]) -> Result<Kind, u8>
     requires known { IsKnowledge known.now }
     requires sig { sig_is_known (all_of known.now) sig.now ≡ true }
@@ -159,7 +160,8 @@ fn called(known: &Knowledge, sig: &Sig, args: &[Kind]) -> Result<Kind, u8>
     }
 }
 
-/// A call by offset, whose receiver descends from the class of the reference.
+/// A call by offset; S16 is broken where there is no such method, S17 where the receiver doesn't descend from the class
+/// of the reference, and S18 where the arguments don't fit.
 pub fn offset_call_kind(
     known: &Knowledge,
     method: &MethodRef,
@@ -182,7 +184,8 @@ pub fn offset_call_kind(
     }
 }
 
-/// A call by name, of which the types say no more than what it is to answer.
+/// A call by name, of which the types say no more than what it is to answer; S16 is broken where that isn't known, S17
+/// where the receiver is no object, and S18 by too many arguments.
 pub fn named_call_kind(
     known: &Knowledge,
     answer: &ValueType,
@@ -226,8 +229,9 @@ fn parent_of(known: &Knowledge, at: &CodePlace, number: usize) -> Option<usize>
     }
 }
 
-/// A call of a parent's method, where the parent, by its place among those of the body's class, descends from the
-/// class of the reference.
+/// A call of the method of a parent, by its place among those of the body's class; S16 is broken where there is no such
+/// parent or method, S17 where the parent doesn't descend from the class of the reference, and S18 where the arguments
+/// don't fit.
 pub fn parent_call_kind(
     known: &Knowledge,
     at: &CodePlace,
@@ -278,7 +282,8 @@ fn is_above(known: &Knowledge, class: usize, ancestor: &ClassKey) -> bool
     }
 }
 
-/// A call of the method of all parents, which is void and of a proper ancestor of the body's class; else rule 20 is broken.
+/// A call of the method of all parents; S16 is broken where there is no such method, S18 where the arguments don't fit,
+/// and S20 where it answers something or is of no proper ancestor of the body's class.
 pub fn parents_call_kind(
     known: &Knowledge,
     at: &CodePlace,

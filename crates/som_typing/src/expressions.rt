@@ -1,7 +1,8 @@
+ghost use Rattle.som_model.specs.Blocks.{is_call};
 ghost use Rattle.som_model.specs.Typing as typing;
 ghost use Rattle.som_typing.specs.Kinds.{AreTyped, AreTypes, Fails, PlaceStands, Types};
 ghost use Rattle.som_typing.specs.Knowing.{IsKnowledge, all_of, IsCode, classes_in, typed_by, typed_in};
-ghost use Rattle.std.specs.Prelude.{IfErr, IfOk, map};
+ghost use Rattle.std.specs.Prelude.{◌≡◌, true, IfErr, IfOk, map};
 
 use crate::calls::{class_kind, new_kind, self_kind, variable_kind};
 use crate::code_place::{CodePlace, TypeFault};
@@ -85,6 +86,22 @@ fn kind_in(alloc: Global, code: &Code, expr: &Expr) -> Result<Kind, TypeFault>
         Expr::Cast { class, of } => cast(code, class, value_in(alloc, code, of.get())),
         Expr::Isa { class, of } => isa(code, class, value_in(alloc, code, of.get())),
         Expr::Proxy { class, of } => proxy(code, class, value_in(alloc, code, of.get())),
+        Expr::Host { a, b, .. } => {
+            let left = value_in(alloc, code, a.get())?;
+            host(left, value_in(alloc, code, b.get()))
+        }
+        call => call_in(alloc, code, call),
+    }
+}
+
+// The same of a call.
+#[cycle(kinds)]
+fn call_in(alloc: Global, code: &Code, call: &Expr) -> Result<Kind, TypeFault>
+    requires code { IsCode code.now }
+    requires call { is_call call.now ≡ true }
+    ensures { Types (classes_in code.now) (typed_in code.now call.now) result }
+{
+    match call {
         Expr::OffsetCall {
             method,
             receiver,
@@ -119,10 +136,7 @@ fn kind_in(alloc: Global, code: &Code, expr: &Expr) -> Result<Kind, TypeFault>
         Expr::ParentsCall { method, args } => {
             parents_call(code, method, values_in(alloc, code, args))
         }
-        Expr::Host { a, b, .. } => {
-            let left = value_in(alloc, code, a.get())?;
-            host(left, value_in(alloc, code, b.get()))
-        }
+        _ => unreachable!(),
     }
 }
 

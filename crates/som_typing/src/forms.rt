@@ -84,21 +84,21 @@ pub fn are_alike(left: Kind, right: Kind) -> bool
     }
 }
 
-/// A part of a larger expression has a value, or rule 20 is broken.
+/// A part of a larger expression has a value, or S20 is broken.
 pub fn value(kind: Kind) -> Result<Kind, u8>
     ensures { (cs : Seq Class) → Stands cs kind → Comes cs (typing.value_of (kind_at cs kind)) result }
 {
     if is_nothing(kind) { Err(20) } else { Ok(kind) }
 }
 
-/// What an operator gives where it takes its operands; rule 17 is broken where it doesn't.
+/// What an operator gives where it takes its operands; S17 is broken where it doesn't.
 pub fn gives(takes: bool, kind: Kind) -> Result<Kind, u8>
     ensures { result ≡ (if takes then Ok kind else Err 17) }
 {
     if takes { Ok(kind) } else { Err(17) }
 }
 
-/// An operator of one operand, by its number.
+/// An operator of one operand, by its number; S17 is broken where it doesn't take it.
 pub fn unary_kind(op: u8, kind: Kind) -> Result<Kind, u8>
     ensures { (cs : Seq Class) → Comes cs (typing.unary_type op (kind_at cs kind)) result }
 {
@@ -115,7 +115,7 @@ pub fn unary_kind(op: u8, kind: Kind) -> Result<Kind, u8>
     }
 }
 
-/// An operator of two operands, by its number.
+/// An operator of two operands, by its number; S17 is broken where it doesn't take them.
 pub fn binary_kind(op: u8, left: Kind, right: Kind) -> Result<Kind, u8>
     ensures { (cs : Seq Class) → Comes cs (typing.binary_type op (kind_at cs left) (kind_at cs right)) result }
 {
@@ -147,7 +147,7 @@ pub fn host_kind(left: Kind, right: Kind) -> Result<Kind, u8>
     gives(are_long(left, right), Kind::Long)
 }
 
-/// A parameter or local, by its place among those in scope; rule 16 is broken where there is none.
+/// A parameter or local, by its place among those in scope; S16 is broken where there is none.
 pub fn local_kind(scope: &[Kind], place: usize) -> Result<Kind, u8>
     ensures { (cs : Seq Class) → AreTypes cs scope.now → Names cs (typing.there 16 (slice_get (map (type_at cs) scope.now) place)) result }
 {

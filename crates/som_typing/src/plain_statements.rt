@@ -28,7 +28,7 @@ pub(crate) fn demand(rule: u8, holds: bool) -> Result<(), TypeFault>
     }
 }
 
-/// A local that is in scope takes a value that fits it.
+/// S16 and S17: a local that is in scope takes a value that fits it.
 pub(crate) fn set_local(
     alloc: Global,
     known: &Knowledge,
@@ -48,7 +48,7 @@ pub(crate) fn set_local(
     demand(17, kind_fits(known, wanted, given))
 }
 
-/// A variable of the body's class takes a value that fits it.
+/// S16 and S17: a variable of the body's class takes a value that fits it.
 pub(crate) fn set_variable(
     alloc: Global,
     known: &Knowledge,
@@ -68,7 +68,7 @@ pub(crate) fn set_variable(
     demand(17, kind_fits(known, wanted, given))
 }
 
-/// A return with no value stands where nothing is answered.
+/// S19: a return with no value stands where nothing is answered.
 pub(crate) fn return_stands(at: &CodePlace) -> Result<(), TypeFault>
     ensures { (cs : Seq Class) (scope : Seq Kind) → PlaceStands cs at.now →
         Keeps cs (plain_return (code_at cs at.now) (scope_at cs scope)) scope result }
@@ -76,7 +76,7 @@ pub(crate) fn return_stands(at: &CodePlace) -> Result<(), TypeFault>
     demand(19, is_nothing(at.result))
 }
 
-/// A return with a value stands where one is answered, and the value fits.
+/// S19: a return with a value stands where one is answered, and the value fits.
 pub(crate) fn value_returns(
     alloc: Global,
     known: &Knowledge,
@@ -108,7 +108,7 @@ fn is_answer(known: &Knowledge, wanted: Kind, given: Kind) -> bool
     }
 }
 
-/// What is printed is a long, a boolean or a string.
+/// S17: what is printed is a long, a boolean or a string.
 pub(crate) fn is_printed(
     alloc: Global,
     known: &Knowledge,
@@ -126,7 +126,7 @@ pub(crate) fn is_printed(
     demand(17, has_text(given))
 }
 
-/// What is freed is an object, and not plain nil.
+/// S17: what is freed is an object, and not plain nil.
 pub(crate) fn is_freed(
     alloc: Global,
     known: &Knowledge,
@@ -144,7 +144,7 @@ pub(crate) fn is_freed(
     demand(17, is_object(given))
 }
 
-/// A call stands alone, whatever it answers, and nothing else does.
+/// S20: a call stands alone, whatever it answers, and nothing else does.
 pub(crate) fn call_stands(
     alloc: Global,
     known: &Knowledge,

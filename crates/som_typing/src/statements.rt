@@ -74,7 +74,7 @@ fn statement_typed(
     }
 }
 
-// The blocks come before the type of the condition.
+// S17: a condition is a boolean; the blocks come before that.
 #[cycle(statements)]
 fn if_typed(
     alloc: Global,
@@ -118,7 +118,7 @@ fn while_typed(
     demand(17, is_boolean(tested))
 }
 
-// A local is declared where its type is known and the value fits it.
+// S16 and S17: a local is declared where its type is known and the value fits it.
 fn declare_local(
     alloc: Global,
     known: &Knowledge,

@@ -3,6 +3,7 @@ use Rattle.std.proofs.lemmas.Result.{err_from_is_err_and}
 use Rattle.som_model.specs.Typing.{Of, PlainNil, value, value_of}
 use Rattle.som_model.specs.declared.key.ValueType.TheVariants as types
 use Rattle.som_model.specs.declared.syntax.Expr.{Expr}
+use Rattle.som_typing.specs.declared.kind.Kind.{Kind}
 use Rattle.som_typing.specs.declared.kind.Kind.TheVariants as kinds
 use Rattle.som_typing.specs.Kinds.{AllStand, Fails, Types, kind_at, type_at}
 use Rattle.som_typing.specs.Knowing.{classes_in, facts_in, place_in, typed_in}
@@ -134,56 +135,56 @@ kind_in-returns-in_ok-left-in-Host t c =
     types_as (classes_in code) (typed_in code) _ _ _ c.host.result e.is (host_goes_on (facts_in code) (place_in code) (map (type_at (classes_in code)) code.scope.now) e.code e.a e.b (kind_at (classes_in code) on.left) (ap (λ z. value (typed_in code z)) (sym c.get-in-Host.ensures) ∙ on.ensures.0))
     (c.host.ensures (classes_in code) _ (part_as (classes_in code) (typed_in code) _ e.b c.value_in-in-Host-2.result c.get-in-Host-2.ensures c.value_in-in-Host-2.ensures))
 
-pub kind_in-returns-in_ok-receiver-in-OffsetCall : goal.kind_in-returns-in_ok-receiver-in-OffsetCall
-kind_in-returns-in_ok-receiver-in-OffsetCall t c =
+pub call_in-returns-in_ok-receiver-in-OffsetCall : goal.call_in-returns-in_ok-receiver-in-OffsetCall
+call_in-returns-in_ok-receiver-in-OffsetCall t c =
     let code = c.args.code.now in
     let e = c.in-OffsetCall in
     let on = c.in_ok-receiver-in-OffsetCall in
-    types_as (classes_in code) (typed_in code) _ _ _ c.offset_call.result e.is (offset_call_goes_on (facts_in code) (place_in code) (map (type_at (classes_in code)) code.scope.now) e.method e.receiver e.args (kind_at (classes_in code) on.receiver) (ap (λ z. value (typed_in code z)) (sym c.get-in-OffsetCall.ensures) ∙ on.ensures.0))
+    types_as (classes_in code) (typed_in code) _ _ _ c.offset_call.result e.is (offset_call_goes_on (facts_in code) (place_in code) (map (type_at (classes_in code)) code.scope.now) e.method e.receiver e.args (kind_at (classes_in code) on.receiver) (ap (λ z. value (typed_in code z)) (sym c.get.ensures) ∙ on.ensures.0))
     (c.offset_call.ensures _ c.values_in.ensures.kinds c.values_in.ensures.fault)
 
-pub kind_in-returns-in_ok-receiver-in-Lookup : goal.kind_in-returns-in_ok-receiver-in-Lookup
-kind_in-returns-in_ok-receiver-in-Lookup t c =
+pub call_in-returns-in_ok-receiver-in-Lookup : goal.call_in-returns-in_ok-receiver-in-Lookup
+call_in-returns-in_ok-receiver-in-Lookup t c =
     let code = c.args.code.now in
     let e = c.in-Lookup in
     let on = c.in_ok-receiver-in-Lookup in
     types_as (classes_in code) (typed_in code) _ _ _ c.named_call.result e.is (lookup_goes_on (facts_in code) (place_in code) (map (type_at (classes_in code)) code.scope.now) e.answer e.name e.receiver e.args (kind_at (classes_in code) on.receiver) (ap (λ z. value (typed_in code z)) (sym c.get-in-Lookup.ensures) ∙ on.ensures.0))
     (c.named_call.ensures _ c.values_in-in-Lookup.ensures.kinds c.values_in-in-Lookup.ensures.fault)
 
-pub kind_in-returns-in_ok-receiver-in-Dispatch : goal.kind_in-returns-in_ok-receiver-in-Dispatch
-kind_in-returns-in_ok-receiver-in-Dispatch t c =
+pub call_in-returns-in_ok-receiver-in-Dispatch : goal.call_in-returns-in_ok-receiver-in-Dispatch
+call_in-returns-in_ok-receiver-in-Dispatch t c =
     let code = c.args.code.now in
     let e = c.in-Dispatch in
     let on = c.in_ok-receiver-in-Dispatch in
     types_as (classes_in code) (typed_in code) _ _ _ c.named_call-in-Dispatch.result e.is (dispatch_goes_on (facts_in code) (place_in code) (map (type_at (classes_in code)) code.scope.now) e.answer e.name e.receiver e.args (kind_at (classes_in code) on.receiver) (ap (λ z. value (typed_in code z)) (sym c.get-in-Dispatch.ensures) ∙ on.ensures.0))
     (c.named_call-in-Dispatch.ensures _ c.values_in-in-Dispatch.ensures.kinds c.values_in-in-Dispatch.ensures.fault)
 
-pub kind_in-returns-in-ParentCall : goal.kind_in-returns-in-ParentCall
-kind_in-returns-in-ParentCall t c =
+pub call_in-returns-in-ParentCall : goal.call_in-returns-in-ParentCall
+call_in-returns-in-ParentCall t c =
     let code = c.args.code.now in
     let e = c.in-ParentCall in
     types_as (classes_in code) (typed_in code) _ _ _ c.parent_call.result e.is (parent_call_typed (facts_in code) (place_in code) (map (type_at (classes_in code)) code.scope.now) e.parent e.method e.args)
     (c.parent_call.ensures _ c.values_in-in-ParentCall.ensures.kinds c.values_in-in-ParentCall.ensures.fault)
 
-pub kind_in-returns-in-ParentsCall : goal.kind_in-returns-in-ParentsCall
-kind_in-returns-in-ParentsCall t c =
+pub call_in-returns-in-ParentsCall : goal.call_in-returns-in-ParentsCall
+call_in-returns-in-ParentsCall t c =
     let code = c.args.code.now in
     let e = c.in-ParentsCall in
     types_as (classes_in code) (typed_in code) _ _ _ c.parents_call.result e.is (parents_call_typed (facts_in code) (place_in code) (map (type_at (classes_in code)) code.scope.now) e.method e.args)
     (c.parents_call.ensures _ c.values_in-in-ParentsCall.ensures.kinds c.values_in-in-ParentsCall.ensures.fault)
 
-pub kind_in-offset_call-requires-clause-args : goal.kind_in-offset_call-requires-clause-args
-kind_in-offset_call-requires-clause-args t c =
+pub call_in-offset_call-requires-clause-args : goal.call_in-offset_call-requires-clause-args
+call_in-offset_call-requires-clause-args t c =
     let code = c.args.code.now in
     if_ok_so _ _ c.values_in.result (λ x are. are.stand) c.values_in.ensures.kinds
 
-pub kind_in-parent_call-requires-clause-args : goal.kind_in-parent_call-requires-clause-args
-kind_in-parent_call-requires-clause-args t c =
+pub call_in-parent_call-requires-clause-args : goal.call_in-parent_call-requires-clause-args
+call_in-parent_call-requires-clause-args t c =
     let code = c.args.code.now in
     if_ok_so _ _ c.values_in-in-ParentCall.result (λ x are. are.stand) c.values_in-in-ParentCall.ensures.kinds
 
-pub kind_in-parents_call-requires-clause-args : goal.kind_in-parents_call-requires-clause-args
-kind_in-parents_call-requires-clause-args t c =
+pub call_in-parents_call-requires-clause-args : goal.call_in-parents_call-requires-clause-args
+call_in-parents_call-requires-clause-args t c =
     let code = c.args.code.now in
     if_ok_so _ _ c.values_in-in-ParentsCall.result (λ x are. are.stand) c.values_in-in-ParentsCall.ensures.kinds
 
@@ -205,17 +206,17 @@ kind_in-returns-in_err-left-in-Host t c =
     rw (p.1, p.2) (subst (λ (z : Expr). Types (classes_in code) (typed_in code z) (Err f)) (sym e.is)
     (host_fails (facts_in code) (place_in code) (map (type_at (classes_in code)) code.scope.now) (classes_in code) e.code e.a e.b f (subst (λ (z : Expr). Fails (value (typed_in code z)) f) c.get-in-Host.ensures c.in_err-left-in-Host.ensures)))
 
-pub kind_in-returns-in_err-receiver-in-OffsetCall : goal.kind_in-returns-in_err-receiver-in-OffsetCall
-kind_in-returns-in_err-receiver-in-OffsetCall t c =
+pub call_in-returns-in_err-receiver-in-OffsetCall : goal.call_in-returns-in_err-receiver-in-OffsetCall
+call_in-returns-in_err-receiver-in-OffsetCall t c =
     let code = c.args.code.now in
     let e = c.in-OffsetCall in
     let f = c.in_err-receiver-in-OffsetCall.field-0.0 in
-    let p = err_from_is_err_and c.from_residual-in_err-receiver-in-OffsetCall.result c.from_residual-in_err-receiver-in-OffsetCall.ensures.1 in
+    let p = err_from_is_err_and c.from_residual.result c.from_residual.ensures.1 in
     rw (p.1, p.2) (subst (λ (z : Expr). Types (classes_in code) (typed_in code z) (Err f)) (sym e.is)
-    (offset_call_fails (facts_in code) (place_in code) (map (type_at (classes_in code)) code.scope.now) (classes_in code) e.method e.receiver e.args f (subst (λ (z : Expr). Fails (value (typed_in code z)) f) c.get-in-OffsetCall.ensures c.in_err-receiver-in-OffsetCall.ensures)))
+    (offset_call_fails (facts_in code) (place_in code) (map (type_at (classes_in code)) code.scope.now) (classes_in code) e.method e.receiver e.args f (subst (λ (z : Expr). Fails (value (typed_in code z)) f) c.get.ensures c.in_err-receiver-in-OffsetCall.ensures)))
 
-pub kind_in-returns-in_err-receiver-in-Lookup : goal.kind_in-returns-in_err-receiver-in-Lookup
-kind_in-returns-in_err-receiver-in-Lookup t c =
+pub call_in-returns-in_err-receiver-in-Lookup : goal.call_in-returns-in_err-receiver-in-Lookup
+call_in-returns-in_err-receiver-in-Lookup t c =
     let code = c.args.code.now in
     let e = c.in-Lookup in
     let f = c.in_err-receiver-in-Lookup.field-0.0 in
@@ -223,8 +224,8 @@ kind_in-returns-in_err-receiver-in-Lookup t c =
     rw (p.1, p.2) (subst (λ (z : Expr). Types (classes_in code) (typed_in code z) (Err f)) (sym e.is)
     (lookup_fails (facts_in code) (place_in code) (map (type_at (classes_in code)) code.scope.now) (classes_in code) e.answer e.name e.receiver e.args f (subst (λ (z : Expr). Fails (value (typed_in code z)) f) c.get-in-Lookup.ensures c.in_err-receiver-in-Lookup.ensures)))
 
-pub kind_in-returns-in_err-receiver-in-Dispatch : goal.kind_in-returns-in_err-receiver-in-Dispatch
-kind_in-returns-in_err-receiver-in-Dispatch t c =
+pub call_in-returns-in_err-receiver-in-Dispatch : goal.call_in-returns-in_err-receiver-in-Dispatch
+call_in-returns-in_err-receiver-in-Dispatch t c =
     let code = c.args.code.now in
     let e = c.in-Dispatch in
     let f = c.in_err-receiver-in-Dispatch.field-0.0 in
@@ -249,5 +250,5 @@ values_in-loop-arg-preserved t c =
     let is = c.arg-item.is ∙ ap (λ (z : List Expr). slice_index_or z i e) c.as_slice-arg-items.ensures in
     record {
       typed = args_go_on (classes_in code) (typed_in code) es c.loop-arg.kinds.items i c.loop-arg.invariant.typed _ e k c.push.new.self.items (omega arith) lt is c.in_ok-value_in.ensures.0 c.in_ok-push.ensures.items;
-      stand = subst (AllStand (classes_in code)) (sym c.in_ok-push.ensures.items) (all_stand_more (classes_in code) c.loop-arg.kinds.items k c.loop-arg.invariant.stand c.in_ok-value_in.ensures.1);
+      stand = subst (AllStand (classes_in code)) (sym {A = List Kind} c.in_ok-push.ensures.items) (all_stand_more (classes_in code) c.loop-arg.kinds.items k c.loop-arg.invariant.stand c.in_ok-value_in.ensures.1);
     }
