@@ -2,7 +2,7 @@ ghost use Rattle.std.specs.Prelude.{◌<◌, ◌^◌, None};
 
 use som_io::{Got, Put, Store};
 use som_model::{List, Text};
-use std::alloc::Global;
+use std::alloc::{AllocError, Global};
 use std::fs::OpenFile;
 use std::io::{Read, Write};
 use std::rt::Files;
@@ -20,6 +20,12 @@ enum NotPut {
     /// Nothing was touched.
     NoMemory,
     Failed,
+}
+
+impl From<AllocError> for NotPut {
+    fn from(_e: AllocError) -> NotPut {
+        NotPut::NoMemory
+    }
 }
 
 impl From<io::Error> for NotPut {
