@@ -9,15 +9,17 @@ are those of GNU /usr/bin/time.
 The inputs have N classes, in one of these shapes:
 
   tree    class k stands under class (k-1)/2
+  chain   class k stands under class k-1
   ladder  two classes a level, each under both of the level above: a diamond at every level
   dense   16 classes a level, each under all 16 of the level above
   wide    the same as an image in which each class introduces 256 methods
 
-In a tree and a ladder each class declares four attributes and so eight methods; in a dense one the first class introduces 256
+In a tree, a chain and a ladder each class declares four attributes and so eight methods; in a dense one the first class introduces 256
 methods. The newer release for `check` has one more attribute in each class, in a dense one in the last class alone.
 
 `bodies` is `library` with texts of bodies: each class declares a method of ten statements, which calls a method of the root and
-one of its own, and overrides that of the root. `client` compiles a main that calls a method of each class. `run` takes images
+one of its own, and overrides that of the root. `client` compiles against the first release a main that makes an object of every
+16th class and calls an inherited method of it; in a tree it also compiles a main that calls a method of each class, `calls`. `run` takes images
 whose methods print a text, and calls a method of each class once. The rows of no class are `library` of an empty text: little
 more than the start of a process.
 
@@ -34,8 +36,8 @@ import sys
 import tempfile
 
 TIME = "/usr/bin/time"
-SIZES = (125, 250, 500, 1000)
-WIDE_SIZES = (64, 128, 256, 512)
+SIZES = (256, 1024, 4096)
+WIDE_SIZES = (256, 512, 1024)
 FITTED = 3
 TOO_SHORT = 0.005
 ATTRIBUTES = 4
@@ -51,6 +53,8 @@ def parents_in(shape, k):
         return []
     if shape == "tree":
         return [(k - 1) // 2]
+    if shape == "chain":
+        return [k - 1]
     width = WIDTHS[shape]
     level = (k - 1) // width
     return [0] if level == 0 else [1 + (level - 1) * width + i for i in range(width)]
@@ -99,6 +103,13 @@ def body(k):
 def main_of(n):
     calls = "".join(f"  s = host wrapadd(s, (new G{k}).m{k}({k}, \"y\"));\n" for k in range(n))
     return f"main\n{{\n  var s : long = 0;\n{calls}  print s;\n}}\n".encode()
+
+
+def inherited_main(shape, n):
+    """A main that calls a method of the first class on an object of every 16th class."""
+    method = "m0" if shape == "dense" else "_get_a0_0"
+    calls = "".join(f"  (new G{k}).{method}();\n" for k in range(0, n, 16))
+    return f"main\n{{\n{calls}}}\n".encode()
 
 
 # ---- images
@@ -181,12 +192,14 @@ def commands(program, folder, shape, n):
     timed([program, "library", "new", "new.idl", "both.bod"], folder)
     yield "show", ["show", "old"], ["old"]
     yield "check", ["check", "old", "new"], ["old", "new"]
+    write(folder, "o.main", inherited_main(shape, n))
+    yield "client", ["client", "o", "old", "o.main"], ["old", "o.main"]
     if shape == "tree":
         write(folder, "m.idl", "".join(with_methods(k) for k in range(n)).encode())
         write(folder, "m.bod", "".join(body(k) for k in range(n)).encode())
         write(folder, "c.main", main_of(n))
         yield "bodies", ["library", "m", "m.idl", "m.bod"], ["m.idl", "m.bod"]
-        yield "client", ["client", "c", "m", "c.main"], ["m", "c.main"]
+        yield "calls", ["client", "c", "m", "c.main"], ["m", "c.main"]
         write(folder, "plain", plain_library(n))
         write(folder, "client", plain_client(n))
         yield "run", ["run", "client", "plain"], ["client", "plain"]
@@ -219,7 +232,7 @@ def main():
         write(folder, "empty.idl", b"")
         start, clock, peak = measure(program, ["library", "empty", "empty.idl"], folder, repeats)
         row("library", "no class", 0, start, clock, peak, 0)
-    for shape in ("tree", "ladder", "dense", "wide"):
+    for shape in ("tree", "chain", "ladder", "dense", "wide"):
         rows = {}
         for n in WIDE_SIZES if shape == "wide" else SIZES:
             with tempfile.TemporaryDirectory() as folder:

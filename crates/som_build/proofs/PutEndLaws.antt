@@ -150,7 +150,7 @@ pub puts_client_by : (out library : List ℕ) (names : List (List ℕ)) (files :
     → HoldsClientTexts files library names p → PutsImage (client_image p) files out status new_files old new
 puts_client_by out library names files status new_files old new p e m =
     let u = m.under in
-    let read = library_again u.bytes u.bytes_are m.base u.spelled u.within in
+    let read = library_again u.bytes m.base u.spelled in
     let parts : ClientParts = record { base = m.base; texts = m.texts } in
     let there : parts_in library names files ≡ Ok parts =
     all_parts library names files u.bytes m.texts m.base (got_by (get files library) library u.bytes u.image_is) m.texts_are (base_under library u.bytes m.base u.bytes_are read u.conforms) in

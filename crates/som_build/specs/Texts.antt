@@ -28,9 +28,9 @@ reading_name reading.NotInProfile = codes "P2"
 abbrev pub too_many : List ℕ → ℕ → Refusal
 too_many quantity number = record { line = codes "limit " ++ quantity ++ codes " " ++ decimal number ++ 10 ∷ []; why = why.Limit }
 
--- what is wrong with texts
+-- what is wrong with texts; the line of a text that can't be read ends with the byte at which that begins
 abbrev pub text_refused : TextFault → Refusal
-text_refused (texts.Unread fault name) = record { line = codes "refused " ++ reading_name fault ++ codes " " ++ name ++ 10 ∷ []; why = why.Texts }
+text_refused (texts.Unread fault name place) = record { line = codes "refused " ++ reading_name fault ++ codes " " ++ name ++ codes " " ++ decimal place ++ 10 ∷ []; why = why.Texts }
 text_refused (texts.Rule b) = record { line = codes "refused S" ++ decimal b.rule ++ codes " " ++ b.class ++ codes " " ++ b.member ++ 10 ∷ []; why = why.Texts }
 text_refused (texts.Limit quantity number) = too_many quantity number
 

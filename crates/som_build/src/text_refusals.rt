@@ -23,15 +23,22 @@ fn reading_name(fault: ReadingFault) -> &'static [u8]
     }
 }
 
-// The refusal of a text that can't be read.
-fn refuse_reading(alloc: Global, fault: ReadingFault, name: &Text) -> Result<Refusal, NoMemory>
-    ensures { IfOk result (λ r. r ≡ text_refused (texts.Unread fault name.now)) }
+// The refusal of a text that can't be read, with the place of its fault.
+fn refuse_reading(
+    alloc: Global,
+    fault: ReadingFault,
+    name: &Text,
+    place: usize,
+) -> Result<Refusal, NoMemory>
+    ensures { IfOk result (λ r. r ≡ text_refused (texts.Unread fault name.now place)) }
 {
     let mut line = Vec::new(alloc);
     line.extend_from_slice(b"refused ")?;
     line.extend_from_slice(reading_name(fault))?;
     line.push(b' ')?;
     line.extend_from_slice(name.as_slice())?;
+    line.push(b' ')?;
+    add_number(&mut line, place as u64)?;
     line.push(b'\n')?;
     Ok(Refusal {
         line: Text::from_vec(line),
@@ -78,7 +85,7 @@ fn refuse_texts(alloc: Global, fault: &TextFault) -> Result<Refusal, NoMemory>
     ensures { IfOk result (λ r. r ≡ text_refused fault.now) }
 {
     match fault {
-        TextFault::Unread { fault, name } => refuse_reading(alloc, *fault, name),
+        TextFault::Unread { fault, name, place } => refuse_reading(alloc, *fault, name, *place),
         TextFault::Rule(rule) => refuse_rule(alloc, rule),
         TextFault::Limit { quantity, number } => {
             refuse_limit(alloc, quantity.as_slice(), *number)

@@ -60,6 +60,7 @@ fn dogs(alloc: Global, methods: &[&[u8]], bodies: usize) -> Result<List<ClassDec
         variables: List::new(alloc),
         bodies: empty_bodies(alloc, bodies)?,
         overrides: List::new(alloc),
+        selects: List::new(alloc),
     })?;
     Ok(classes)
 }

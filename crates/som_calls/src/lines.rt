@@ -66,6 +66,7 @@ fn bell(alloc: Global) -> Result<ClassDecl, NoMemory> {
         variables: List::new(alloc),
         bodies: List::new(alloc),
         overrides: List::new(alloc),
+        selects: List::new(alloc),
     })
 }
 

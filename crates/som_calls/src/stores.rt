@@ -1,4 +1,4 @@
-use som_io::{Got, MemSink, MemStore, Put, Sending, Store, send};
+use som_io::{Got, Leaves, MemSink, MemStore, Put, Sending, Store, send};
 use som_model::{List, Text};
 use std::test::Fail;
 
@@ -24,6 +24,9 @@ fn a_store_gives_what_was_put(rt: HostRuntime) -> Result<(), Fail> {
     assert!(rt; found(&store.get(&name), b"old"));
     assert_eq!(rt; store.put(&name, &new), Put::Done);
     assert!(rt; found(&store.get(&name), b"new"));
+    store.fail_put(7, Leaves::Nothing)?;
+    assert_eq!(rt; store.put(&name, &old), Put::Failed);
+    assert!(rt; matches!(store.get(&name), Got::Absent));
     Ok(())
 }
 

@@ -78,7 +78,7 @@ all_got files (n ∷ ns) (r ∷ rs) under =
       images = one.bytes ∷ more.images;
       got = ap (λ (o : Option (List ℕ)). ok_or o (absent n) >>= λ b. images_in ns files >>= λ bs. Ok (b ∷ bs)) one.image_is
           ∙ ap (λ (x : Result (List (List ℕ)) Refusal). x >>= λ bs. Ok (one.bytes ∷ bs)) more.got;
-      read = ap (λ (x : Result Release ImageFault). read_or n x >>= λ s. releases_in ns more.images >>= λ ss. Ok (s ∷ ss)) (library_again one.bytes one.bytes_are r one.spelled one.within)
+      read = ap (λ (x : Result Release ImageFault). read_or n x >>= λ s. releases_in ns more.images >>= λ ss. Ok (s ∷ ss)) (library_again one.bytes r one.spelled)
           ∙ ap (λ (x : Result (List Release) Refusal). x >>= λ ss. Ok (r ∷ ss)) more.read;
     }
 

@@ -21,7 +21,7 @@ module _ (n : List ℕ) (files : Files) (status : ℕ) (new_files : Option Files
   -- it is an end that shows the release
   pub shows_by : (r : Release) → IsUnder files n r → ShowsRelease r status old new
   shows_by r m =
-      let is : IsShowAnswer n files (showing files r) = shows_library m.bytes r m.image_is (of_library r m.bytes m.spelled) (library_again m.bytes m.bytes_are r m.spelled m.within) m.conforms in
+      let is : IsShowAnswer n files (showing files r) = shows_library m.bytes r m.image_is (of_library r m.bytes m.spelled) (library_again m.bytes r m.spelled) m.conforms in
       record {
         text = text_of (IsShowAnswer n files) one status new_files old new e (showing files r) is;
         status_is = status_is (IsShowAnswer n files) one status new_files old new e (showing files r) is;
@@ -30,7 +30,7 @@ module _ (n : List ℕ) (files : Files) (status : ℕ) (new_files : Option Files
   -- it is an end that shows the client program
   pub shows_client_by : (p : ClientProgram) → IsClientUnder files n p → ShowsProgram p status old new
   shows_client_by p m =
-      let is : IsShowAnswer n files (showing_client files p) = shows_client m.bytes p m.image_is (of_client p m.bytes m.spelled) (client_again m.bytes m.bytes_are p m.spelled m.within) m.conforms in
+      let is : IsShowAnswer n files (showing_client files p) = shows_client m.bytes p m.image_is (of_client p m.bytes m.spelled) (client_again m.bytes p m.spelled) m.conforms in
       record {
         text = text_of (IsShowAnswer n files) one status new_files old new e (showing_client files p) is;
         status_is = status_is (IsShowAnswer n files) one status new_files old new e (showing_client files p) is;

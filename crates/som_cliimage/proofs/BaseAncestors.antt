@@ -13,8 +13,8 @@ use Rattle.som_model.specs.Rules.{is_proper}
 use Rattle.som_model.proofs.KeyLaws.{both, exact_keys}
 use Rattle.som_model.proofs.NamedLaws.{out_named}
 use Rattle.som_naming.proofs.Places.{all_map, all_joined}
-use Rattle.som_naming.proofs.KnownMethods.{keys_of}
-use Rattle.som_naming.proofs.Directories.{IsOwn}
+use Rattle.som_numbering.proofs.KnownMethods.{keys_of}
+use Rattle.som_numbering.proofs.Directories.{IsOwn}
 
 -- ---- lists
 

@@ -11,51 +11,66 @@ use Rattle.som_fields.proofs.Parts.{bind_ok}
 use Rattle.som_cliimage.specs.declared.wire.WireProgram.{WireProgram}
 use Rattle.som_cliimage.specs.Reading.{wire_at}
 use Rattle.som_cliimage.specs.Naming.{program_named}
-use Rattle.som_cliimage.specs.Programs.{ProgramNamesDiffer, client_at}
+use Rattle.som_cliimage.specs.Programs.{ProgramNamesDiffer, SpellsProgram, client_at}
 use Rattle.som_cliimage.specs.Limits.{IsWithinLimits}
 use Rattle.som_cliimage.proofs.ProgramFields.{wire_takes, wire_again}
 use Rattle.som_cliimage.proofs.NamedPrograms.{program_forth, program_back}
 use Rattle.som_cliimage.proofs.Written.{program_within}
 
 abbrev read : ClientProgram → Result ClientProgram ImageFault
-read p = Ok p
+read r = Ok r
 
 same_program : (x y : ClientProgram) → read x ≡ read y → x ≡ y
 same_program x y e = cc
 
--- what is read is the program that the bytes spell, where names differ
-abbrev Found : List ℕ → ClientProgram → Type 0
-Found bytes p = ProgramNamesDiffer p → client_image p ≡ Some bytes
+-- what the bytes spell is their image where names differ
+pub spelled_image : (r : ClientProgram) (bytes : List ℕ) → ProgramNamesDiffer r → SpellsProgram r bytes → client_image r ≡ Some bytes
+spelled_image r bytes differ s =
+    subst (λ (x : ClientProgram). ProgramNamesDiffer x → client_image x ≡ Some bytes) s.names
+    (λ h. program_forth s.wire s.fits h ∙ ap (λ (b : List ℕ). Some b) s.spelled) differ
 
--- and what else is known of it
-record Read (bytes : List ℕ) (p : ClientProgram) : Type 0 where
-  found : Found bytes p
-  within : IsWithinLimits p
+-- and it is within the limits
+spelled_within : (r : ClientProgram) (bytes : List ℕ) → SpellsProgram r bytes → IsWithinLimits r
+spelled_within r bytes s = subst IsWithinLimits s.names (program_within s.wire s.fits)
 
-read_one : (bytes : List ℕ) → AreBytes bytes → (p : ClientProgram) → client_at bytes ≡ Ok p → Read bytes p
-read_one bytes all p e =
-    let w = bind_ok (wire_at bytes) (λ (w : WireProgram). read (program_named w)) p e in
+pub image_within : (r : ClientProgram) (bytes : List ℕ) → client_image r ≡ Some bytes → IsWithinLimits r
+image_within r bytes e = spelled_within r bytes (program_back r bytes e)
+
+read_one : (bytes : List ℕ) → AreBytes bytes → (r : ClientProgram) → client_at bytes ≡ Ok r → SpellsProgram r bytes
+read_one bytes all r e =
+    let w = bind_ok (wire_at bytes) (λ (w : WireProgram). read (program_named w)) r e in
     let t = wire_takes bytes all w.0 w.1 in
-    subst (Read bytes) (same_program (program_named w.0) p w.2) (record {
-      found = λ differ. program_forth w.0 t.1 differ ∙ ap (λ (b : List ℕ). Some b) (sym t.0);
-      within = program_within w.0 t.1;
-    })
+    record { wire = w.0; spelled = sym t.0; fits = t.1; names = same_program (program_named w.0) r w.2 }
 
-pub found : (bytes : List ℕ) → AreBytes bytes → (result : Result ClientProgram ImageFault) → Gives result (client_at bytes) → IfOk result (λ p. Found bytes p)
-found bytes all (Ok p) given = (read_one bytes all p given).found
+pub spelled : (bytes : List ℕ) → AreBytes bytes → (result : Result ClientProgram ImageFault) → Gives result (client_at bytes) → IfOk result (λ r. SpellsProgram r bytes)
+spelled bytes all (Ok r) given = read_one bytes all r given
+spelled bytes all (Err fault) given = tt
+
+pub found : (bytes : List ℕ) → AreBytes bytes → (result : Result ClientProgram ImageFault) → Gives result (client_at bytes) → IfOk result (λ r. ProgramNamesDiffer r → client_image r ≡ Some bytes)
+found bytes all (Ok r) given = λ differ. spelled_image r bytes differ (read_one bytes all r given)
 found bytes all (Err fault) given = tt
 
 pub within : (bytes : List ℕ) → AreBytes bytes → (result : Result ClientProgram ImageFault) → Gives result (client_at bytes) → IfOk result IsWithinLimits
-within bytes all (Ok p) given = (read_one bytes all p given).within
+within bytes all (Ok r) given = spelled_within r bytes (read_one bytes all r given)
 within bytes all (Err fault) given = tt
 
--- a program that has a spelling is read from it
-pub client_again : (bytes : List ℕ) → AreBytes bytes → (p : ClientProgram) → client_image p ≡ Some bytes → IsWithinLimits p → client_at bytes ≡ Ok p
-client_again bytes all p spelled limits =
-    let n = program_back p bytes all limits spelled in
-    ap client_at (sym n.spelled)
-    ∙ ap (λ (x : Result WireProgram ImageFault). x >>= λ w. read (program_named w)) (wire_again n.wire n.fits)
-    ∙ ap read n.names
+-- a program that bytes spell is read from them
+pub spelled_again : (bytes : List ℕ) (r : ClientProgram) → SpellsProgram r bytes → client_at bytes ≡ Ok r
+spelled_again bytes r s =
+    ap client_at (sym s.spelled)
+    ∙ ap (λ (x : Result WireProgram ImageFault). x >>= λ w. read (program_named w)) (wire_again s.wire s.fits)
+    ∙ ap read s.names
 
-pub only : (bytes : List ℕ) → AreBytes bytes → (result : Result ClientProgram ImageFault) → Gives result (client_at bytes) → (p : ClientProgram) → client_image p ≡ Some bytes → IsWithinLimits p → Gives result (Ok p)
-only bytes all result given p spelled limits = subst (λ (x : Result ClientProgram ImageFault). Gives result x) (client_again bytes all p spelled limits) given
+pub only_spelled : (bytes : List ℕ) (result : Result ClientProgram ImageFault) → Gives result (client_at bytes) → (r : ClientProgram) → SpellsProgram r bytes → Gives result (Ok r)
+only_spelled bytes result given r s = subst (λ (x : Result ClientProgram ImageFault). Gives result x) (spelled_again bytes r s) given
+
+pub only : (bytes : List ℕ) (result : Result ClientProgram ImageFault) → Gives result (client_at bytes) → (r : ClientProgram) → client_image r ≡ Some bytes → Gives result (Ok r)
+only bytes result given r e = only_spelled bytes result given r (program_back r bytes e)
+
+-- a program is read from its image
+pub client_again : (bytes : List ℕ) (r : ClientProgram) → client_image r ≡ Some bytes → client_at bytes ≡ Ok r
+client_again bytes r e = spelled_again bytes r (program_back r bytes e)
+
+-- bytes spell one program at most
+pub one_program : (r s : ClientProgram) (bytes : List ℕ) → SpellsProgram r bytes → SpellsProgram s bytes → r ≡ s
+one_program r s bytes a b = same_program r s (sym (spelled_again bytes r a) ∙ spelled_again bytes s b)

@@ -1,5 +1,5 @@
 -- What naming a client program asks for.
-use Rattle.std.proofs.Common.{◌≡◌, ℕ, ◌+◌, List, length, sym, ap, subst, ◌∙◌}
+use Rattle.std.proofs.Common.{◌≡◌, ℕ, ◌+◌, ◌<◌, ◌^◌, List, length, sym, ap, subst, ◌∙◌, arith}
 use Rattle.std.specs.Prelude.{All}
 use Rattle.som_fields.specs.declared.face.WireFace.{WireFace}
 use Rattle.som_fields.specs.declared.method.Ranges.{Ranges}
@@ -7,6 +7,9 @@ use Rattle.som_fields.specs.Spelling.{FitsFace}
 use Rattle.som_naming.specs.declared.directory.Directory.{Directory}
 use Rattle.som_naming.specs.Naming.{ranges_in}
 use Rattle.som_naming.specs.SpelledClasses.{FitsParts}
+use Rattle.som_naming.specs.NamedClasses.{AreSelectsOf}
+use Rattle.som_naming.proofs.ClassFields.{section_known}
+use Rattle.som_cliimage.proofs.ProgramFields.{ranges_short}
 use Rattle.som_cliimage.specs.declared.wire.WireProgram.{WireProgram}
 use Rattle.som_cliimage.specs.Reading.{client_ranges}
 use Rattle.som_cliimage.specs.Spelling.{FitsMain, FitsProgram}
@@ -25,3 +28,9 @@ module _ (w : WireProgram) (fits : FitsProgram w) (d : Directory) (made : d ≡ 
 
   pub main_fits : FitsMain (ranges_in d) w.main
   main_fits = subst (λ (x : Ranges). FitsMain x w.main) same_ranges fits.main
+
+  pub selects_known : AreSelectsOf (ranges_in d) w.selects
+  selects_known = subst (λ (x : Ranges). AreSelectsOf x w.selects) same_ranges (section_known (client_ranges w.base w.faces) (ranges_short w.base w.faces fits.base fits.faces) (length w.base + 4) w.selects fits.selects)
+
+  pub few_own : length w.base + 4 + length w.faces < 2 ^ 16
+  few_own = omega (arith, fits.base.1, fits.faces.1)

@@ -23,17 +23,17 @@ use Rattle.som_wire.specs.declared.syntax.WirePart.{WirePart}
 use Rattle.som_naming.specs.declared.directory.Directory.{Directory}
 use Rattle.som_naming.specs.Naming.{names_in, kernel_directory, library_directory, ranges_in, entry_names, Tells}
 use Rattle.som_naming.specs.NamedBlocks.{block_named}
-use Rattle.som_naming.specs.NumberedBlocks.{block_numbered}
-use Rattle.som_naming.specs.ReadyBlocks.{BlockReady}
-use Rattle.som_naming.proofs.NumberedKinds.{TurnsBack, all_both, counted_turn}
-use Rattle.som_naming.proofs.TurnedBlocks.{ready_turns}
-use Rattle.som_naming.specs.SpelledClasses.{FitsParts}
-use Rattle.som_naming.specs.NamedClasses.{face_named, classes_named, interface_named}
+use Rattle.som_numbering.specs.NumberedBlocks.{block_numbered}
+use Rattle.som_numbering.specs.ReadyBlocks.{BlockReady}
+use Rattle.som_numbering.proofs.NumberedKinds.{TurnsBack, all_both, counted_turn}
+use Rattle.som_numbering.proofs.TurnedBlocks.{ready_turns}
+use Rattle.som_naming.specs.SpelledClasses.{FitsParts, FitsSection}
+use Rattle.som_naming.specs.NamedClasses.{face_named, classes_named, interface_named, with_selects}
 use Rattle.som_naming.specs.ClassLimits.{FaceWithin}
-use Rattle.som_naming.specs.NumberedClasses.{face_numbered, FaceKnown, part_numbered}
-use Rattle.som_naming.proofs.NumberedFaces.{face_turns}
-use Rattle.som_naming.proofs.NumberedParts.{ClassReady}
-use Rattle.som_naming.proofs.NumberedClasses.{faces_of, keys_kept, names_kept, slots_kept, faces_fit, parts_fit, classes_back}
+use Rattle.som_numbering.specs.NumberedClasses.{face_numbered, FaceKnown, part_numbered, selects_numbered}
+use Rattle.som_numbering.proofs.NumberedFaces.{face_turns}
+use Rattle.som_numbering.proofs.NumberedParts.{ClassReady}
+use Rattle.som_numbering.proofs.NumberedClasses.{faces_of, keys_kept, names_kept, slots_kept, faces_fit, parts_fit, classes_back}
 use Rattle.som_naming.proofs.NamedClasses.{directory_of, as_many_keys}
 use Rattle.som_naming.proofs.NamedInterfaces.{a_class, known_by}
 use Rattle.som_cliimage.specs.declared.wire.WireProgram.{WireProgram}
@@ -42,6 +42,10 @@ use Rattle.som_cliimage.specs.Spelling.{FitsMain, FitsProgram}
 use Rattle.som_cliimage.specs.Naming.{client_directory, program_named}
 use Rattle.som_cliimage.specs.Numbering.{interface_directory, program_directory, program_numbered}
 use Rattle.som_cliimage.specs.Limits.{IsWithinLimits}
+use Rattle.som_naming.proofs.NamedParts.{plain}
+use Rattle.som_naming.proofs.NamedSelects.{section_fits}
+use Rattle.som_numbering.proofs.NumberedSelects.{selects_turn}
+use Rattle.som_wire.specs.declared.selects.WireSelects.{WireSelects}
 use Rattle.som_cliimage.proofs.NamedPrograms.{known_to, many_keys, client_ranges_known}
 
 -- ---- the directory of a program
@@ -151,16 +155,25 @@ program_turns p within base own main =
     let each = all_both (FaceKnown b.keys) FaceWithin (TurnsBack (FitsFace (length b.keys)) (face_named b.keys) (face_numbered b.keys)) (face_turns b.keys) p.base.classes base within.each_face in
     let turned = counted_turn (FitsFace (length b.keys)) (face_named b.keys) (face_numbered b.keys) 0 MAX_LIBRARY_CLASSES p.base.classes (omega arith) within.faces each in
     let m = ready_turns d p.main main in
+    let before : ℕ = length p.base.classes + 4 in
+    let gs : List WireSelects = selects_numbered d before p.classes in
+    let first : length bs + 4 ≡ before = ap (λ (n : ℕ). n + 4) many_base in
+    let few_keys : before + length p.classes ≤ length d.keys = omega (arith, number, many, many_base) in
+    let ss = selects_turn d before p.classes few_keys own in
+    let section_here : FitsSection (ranges_in d) (length bs + 4) gs = subst (λ (n : ℕ). FitsSection (ranges_in d) n gs) (sym first) (section_fits (ranges_in d) before gs ss.ascend) in
     record {
       fits = record {
         base = (omega arith, turned.fits.1, subst (λ (n : ℕ). All (FitsFace n) bs) base_number turned.fits.2);
         faces = (omega arith, omega (arith, many, within.classes), All-from_recursion (FitsFace (length fs + (length bs + 4))) fs (subst (λ (n : ℕ). AllByRecursion (FitsFace n) fs) number (faces_fit d p.classes own)));
         parts = subst (λ (x : Ranges). FitsParts x fs ps) same_ranges (parts_fit d p.classes own);
+        selects = subst (λ (x : Ranges). FitsSection x (length bs + 4) gs) same_ranges section_here;
         main = subst (λ (x : Ranges). FitsMain x (block_numbered d p.main)) same_ranges m.fits;
       };
-      names = ap (λ (x : Directory). a_program (an_interface (map (face_named x.keys) bs)) (classes_named (client_directory bs fs) fs ps) (block_named (client_directory bs fs) (block_numbered d p.main))) same_base
-          ∙ ap (λ (x : Directory). a_program (an_interface (map (face_named b.keys) bs)) (classes_named x fs ps) (block_named x (block_numbered d p.main))) same
-          ∙ ap (λ (x : List ClassFace). a_program (an_interface x) (classes_named d fs ps) (block_named d (block_numbered d p.main))) turned.names
-          ∙ ap (λ (x : List ClassDecl). a_program p.base x (block_named d (block_numbered d p.main))) (classes_back d p.classes own)
+      names = ap (λ (x : Directory). a_program (an_interface (map (face_named x.keys) bs)) (with_selects (client_directory bs fs) (length bs + 4) gs (classes_named (client_directory bs fs) fs ps)) (block_named (client_directory bs fs) (block_numbered d p.main))) same_base
+          ∙ ap (λ (x : Directory). a_program (an_interface (map (face_named b.keys) bs)) (with_selects x (length bs + 4) gs (classes_named x fs ps)) (block_named x (block_numbered d p.main))) same
+          ∙ ap (λ (x : List ClassFace). a_program (an_interface x) (with_selects d (length bs + 4) gs (classes_named d fs ps)) (block_named d (block_numbered d p.main))) turned.names
+          ∙ ap (λ (x : List ClassDecl). a_program p.base (with_selects d (length bs + 4) gs x) (block_named d (block_numbered d p.main))) (classes_back d p.classes own)
+          ∙ ap (λ (n : ℕ). a_program p.base (with_selects d n gs (map plain p.classes)) (block_named d (block_numbered d p.main))) first
+          ∙ ap (λ (x : List ClassDecl). a_program p.base x (block_named d (block_numbered d p.main))) ss.names
           ∙ ap (a_program p.base p.classes) m.names;
     }

@@ -25,22 +25,24 @@ use Rattle.som_model.specs.Conforming.{main_typed, ProgramOk}
 use Rattle.som_fields.specs.declared.face.WireFace.{WireFace}
 use Rattle.som_wire.specs.declared.syntax.WireBlock.{WireBlock}
 use Rattle.som_wire.specs.declared.syntax.WirePart.{WirePart}
+use Rattle.som_wire.specs.declared.selects.WireSelects.{WireSelects}
 use Rattle.som_naming.specs.declared.directory.Directory.{Directory}
 use Rattle.som_naming.specs.Naming.{Tells}
-use Rattle.som_naming.specs.Numbering.{Differ, class_names, AreNamed, IsDirectory}
-use Rattle.som_naming.specs.NumberedBlocks.{block_numbered}
-use Rattle.som_naming.specs.ReadyBlocks.{BlockReady}
+use Rattle.som_naming.specs.Naming.{Differ}
+use Rattle.som_numbering.specs.Numbering.{class_names, AreNamed, IsDirectory}
+use Rattle.som_numbering.specs.NumberedBlocks.{block_numbered}
+use Rattle.som_numbering.specs.ReadyBlocks.{BlockReady}
 use Rattle.som_naming.proofs.Places.{all_map, all_joined}
-use Rattle.som_naming.proofs.KnownMethods.{keys_of, covers}
-use Rattle.som_naming.proofs.TypedBlocks.{typed_is_ready}
+use Rattle.som_numbering.proofs.KnownMethods.{keys_of, covers}
+use Rattle.som_numbering.proofs.TypedBlocks.{typed_is_ready}
 use Rattle.som_naming.specs.ClassLimits.{FaceWithin, ClassWithin}
-use Rattle.som_naming.specs.NumberedClasses.{face_numbered, FaceKnown, part_numbered, ClassKnown}
+use Rattle.som_numbering.specs.NumberedClasses.{face_numbered, FaceKnown, part_numbered, selects_numbered, ClassKnown}
 use Rattle.som_naming.proofs.Conforming.{both_empty}
-use Rattle.som_naming.proofs.Directories.{IsOwn, FewEntries, kernel_own, kernel_few, declared_own, directory_is}
-use Rattle.som_naming.proofs.NumberedParts.{ClassReady}
-use Rattle.som_naming.proofs.NumberedClasses.{few_own}
+use Rattle.som_numbering.proofs.Directories.{IsOwn, FewEntries, kernel_own, kernel_few, declared_own, directory_is}
+use Rattle.som_numbering.proofs.NumberedParts.{ClassReady}
+use Rattle.som_numbering.proofs.NumberedClasses.{few_own}
 use Rattle.som_naming.proofs.NamedInterfaces.{a_class}
-use Rattle.som_naming.proofs.ReadyClasses.{NamesBefore, stand_before, all_front, types_told, face_known, names_new, classes_ready}
+use Rattle.som_numbering.proofs.ReadyClasses.{NamesBefore, stand_before, all_front, types_told, face_known, names_new, classes_ready}
 use Rattle.som_cliimage.specs.declared.wire.WireProgram.{WireProgram}
 use Rattle.som_cliimage.specs.Spelling.{FitsProgram}
 use Rattle.som_cliimage.specs.Naming.{program_named}
@@ -210,24 +212,31 @@ module _ (p : ClientProgram) (is : IsReady p) (d : Directory) (made : d ≡ prog
   pub main_ready : BlockReady d p.main
   main_ready = subst (λ (x : Directory). BlockReady x p.main) (sym made) is.main
 
-abbrev wire : List WireFace → List WireFace → List WirePart → WireBlock → WireProgram
-wire bs fs ps m = record { base = bs; faces = fs; parts = ps; main = m }
+-- few classes, behind a slice too
+pub few_ready : (p : ClientProgram) → IsWithinLimits p → (ds : List ClassDecl) → ds ≡ p.classes → length p.base.classes + 4 + length ds < 2 ^ 16
+few_ready p within ds same = omega (arith, within.faces, within.classes, ap (length {A = ClassDecl}) same)
+
+abbrev wire : List WireFace → List WireFace → List WirePart → List WireSelects → WireBlock → WireProgram
+wire bs fs ps ss m = record { base = bs; faces = fs; parts = ps; selects = ss; main = m }
 
 abbrev faces_by : List ClassKey → List ClassDecl → List WireFace
 faces_by l cs = map (λ (c : ClassDecl). face_numbered l c.face) cs
 
--- the faces, the parts and main are those of the program
-pub numbered_is : (p : ClientProgram) (d : Directory) (ds : List ClassDecl) (bs fs : List WireFace) (ps : List WirePart) (m : WireBlock) → d ≡ program_directory p → ds ≡ p.classes → bs ≡ (program_numbered p).base
-    → fs ≡ faces_by d.keys ds → ps ≡ map (part_numbered d) ds → m ≡ block_numbered d p.main → wire bs fs ps m ≡ program_numbered p
-numbered_is p d ds bs fs ps m made same base faces parts main =
+-- the faces, the parts, the selects and main are those of the program
+pub numbered_is : (p : ClientProgram) (d : Directory) (ds : List ClassDecl) (bs fs : List WireFace) (ps : List WirePart) (ss : List WireSelects) (m : WireBlock) → d ≡ program_directory p → ds ≡ p.classes → bs ≡ (program_numbered p).base
+    → fs ≡ faces_by d.keys ds → ps ≡ map (part_numbered d) ds → ss ≡ selects_numbered d (length p.base.classes + 4) ds → m ≡ block_numbered d p.main → wire bs fs ps ss m ≡ program_numbered p
+numbered_is p d ds bs fs ps ss m made same base faces parts selects main =
     let own : Directory = program_directory p in
+    let first : ℕ = length p.base.classes + 4 in
     let b : List WireFace = (program_numbered p).base in
     let f : List WireFace = faces_by own.keys p.classes in
     let q : List WirePart = map (part_numbered own) p.classes in
-    ap (λ (l : List WireFace). wire l fs ps m) base
-    ∙ ap (λ (l : List WireFace). wire b l ps m) (faces ∙ ap (λ (x : Directory). faces_by x.keys ds) made ∙ ap (faces_by own.keys) same)
-    ∙ ap (λ (l : List WirePart). wire b f l m) (parts ∙ ap (λ (x : Directory). map (part_numbered x) ds) made ∙ ap (map (part_numbered own)) same)
-    ∙ ap (λ (x : WireBlock). wire b f q x) (main ∙ ap (λ (x : Directory). block_numbered x p.main) made)
+    let s : List WireSelects = selects_numbered own first p.classes in
+    ap (λ (l : List WireFace). wire l fs ps ss m) base
+    ∙ ap (λ (l : List WireFace). wire b l ps ss m) (faces ∙ ap (λ (x : Directory). faces_by x.keys ds) made ∙ ap (faces_by own.keys) same)
+    ∙ ap (λ (l : List WirePart). wire b f l ss m) (parts ∙ ap (λ (x : Directory). map (part_numbered x) ds) made ∙ ap (map (part_numbered own)) same)
+    ∙ ap (λ (l : List WireSelects). wire b f q l m) (selects ∙ ap (λ (x : Directory). selects_numbered x first ds) made ∙ ap (selects_numbered own first) same)
+    ∙ ap (λ (x : WireBlock). wire b f q s x) (main ∙ ap (λ (x : Directory). block_numbered x p.main) made)
 
 -- ---- what was numbered
 

@@ -1,5 +1,5 @@
 -- The image with numbers that comes of numbering a client program.
-use Rattle.std.specs.Prelude.{List, ◌++◌, map}
+use Rattle.std.specs.Prelude.{◌+◌, List, ◌++◌, length, map}
 use Rattle.som_model.specs.declared.key.Module.TheVariants as modules
 use Rattle.som_model.specs.declared.key.ClassKey.TheVariants as keys
 use Rattle.som_model.specs.declared.program.Interface.{Interface}
@@ -7,8 +7,8 @@ use Rattle.som_model.specs.declared.program.ClientProgram.{ClientProgram}
 use Rattle.som_model.specs.Class.{entry_name}
 use Rattle.som_naming.specs.declared.directory.Directory.{Directory}
 use Rattle.som_naming.specs.Naming.{kernel_directory}
-use Rattle.som_naming.specs.NumberedBlocks.{block_numbered}
-use Rattle.som_naming.specs.NumberedClasses.{face_numbered, part_numbered}
+use Rattle.som_numbering.specs.NumberedBlocks.{block_numbered}
+use Rattle.som_numbering.specs.NumberedClasses.{face_numbered, part_numbered, selects_numbered}
 use Rattle.som_cliimage.specs.declared.wire.WireProgram.{WireProgram}
 
 -- the kernel's classes and those of an interface, and the names of their entries
@@ -31,5 +31,6 @@ program_numbered p = let base = interface_directory p.base in let d = program_di
   base = map (face_numbered base.keys) p.base.classes;
   faces = map (λ c. face_numbered d.keys c.face) p.classes;
   parts = map (part_numbered d) p.classes;
+  selects = selects_numbered d (length p.base.classes + 4) p.classes;
   main = block_numbered d p.main;
 }

@@ -9,7 +9,7 @@ use Rattle.som_fields.specs.declared.method.Ranges.{Ranges}
 use Rattle.som_fields.specs.Fields.{done}
 use Rattle.som_wire.specs.Fitting.{levels_left}
 use Rattle.som_wire.specs.Reading.{block_at}
-use Rattle.som_naming.specs.ReadClasses.{ranges_of, faces_after_at, faces_at, parts_at, head_at, at_end}
+use Rattle.som_naming.specs.ReadClasses.{ranges_of, faces_after_at, faces_at, parts_at, section_at, head_at, at_end}
 use Rattle.som_cliimage.specs.declared.wire.WireProgram.{WireProgram}
 
 -- the kernel's classes, those of the base, and the client's own, with as many entries as each has
@@ -20,19 +20,20 @@ client_ranges base own = ranges_of (base ++ own)
 abbrev pub own_faces_at : List WireFace → List ℕ → ℕ → Result (Read (List WireFace)) ImageFault
 own_faces_at base = faces_after_at (length base + 4) MAX_CLIENT_CLASSES
 
--- the faces of the base, which name no class of the client, the client's own, a part for each of these, and main, whose
--- statements have level 1
-unfoldable pub program_at : List ℕ → ℕ → Result (Read WireProgram) ImageFault
-program_at bytes place = do
+-- the faces of the base, which name no class of the client, the client's own, a part for each of these, their selects in an
+-- image of this version, and main, whose statements have level 1
+unfoldable pub program_at : ℕ → List ℕ → ℕ → Result (Read WireProgram) ImageFault
+program_at version bytes place = do
   base ← faces_at bytes place
   own ← own_faces_at base.value bytes base.next
   parts ← parts_at (client_ranges base.value own.value) own.value bytes own.next
-  main ← block_at (levels_left 1) (client_ranges base.value own.value) bytes parts.next
-  done (record { base = base.value; faces = own.value; parts = parts.value; main = main.value }) main.next
+  selects ← section_at version (client_ranges base.value own.value) (length base.value + 4) bytes parts.next
+  main ← block_at (levels_left 1) (client_ranges base.value own.value) bytes selects.next
+  done (record { base = base.value; faces = own.value; parts = parts.value; selects = selects.value; main = main.value }) main.next
 
--- `SOMC` and version 1, the program, and nothing more
+-- `SOMC` and version 1 or 2, the program, and nothing more
 unfoldable pub wire_at : List ℕ → Result WireProgram ImageFault
 wire_at bytes = do
-  place ← head_at (codes "SOMC") bytes
-  program ← program_at bytes place
+  version ← head_at (codes "SOMC") 2 bytes 0
+  program ← program_at version.value bytes version.next
   at_end bytes program

@@ -9,7 +9,7 @@ use Rattle.som_fields.specs.Spelling.{counted, face, FitsMethod}
 use Rattle.som_wire.specs.declared.syntax.WireBlock.{WireBlock}
 use Rattle.som_wire.specs.Spelling.{part, block}
 use Rattle.som_wire.specs.Fitting.{levels_left, FitsBlock}
-use Rattle.som_naming.specs.SpelledClasses.{FitsFaces, FitsFacesAfter, FitsParts, head}
+use Rattle.som_naming.specs.SpelledClasses.{FitsFaces, FitsFacesAfter, FitsParts, FitsSection, section, version_with, head}
 use Rattle.som_cliimage.specs.declared.wire.WireProgram.{WireProgram}
 use Rattle.som_cliimage.specs.Reading.{client_ranges}
 
@@ -21,9 +21,13 @@ FitsOwnFaces base fs = FitsFacesAfter (length base + 4) MAX_CLIENT_CLASSES fs
 abbrev pub FitsMain : Ranges → WireBlock → Type 0
 FitsMain ranges b = FitsBlock (levels_left 1) ranges.classes (FitsMethod ranges) b
 
--- the parts of the client's own classes, and main
+-- the selects where there are some, and main
+abbrev pub ending : WireProgram → List ℕ
+ending w = section w.selects ++ block w.main
+
+-- the parts of the client's own classes, and what follows them
 abbrev pub bodies : WireProgram → List ℕ
-bodies w = flat_map part w.parts ++ block w.main
+bodies w = flat_map part w.parts ++ ending w
 
 -- what follows the head
 abbrev pub program : WireProgram → List ℕ
@@ -33,8 +37,9 @@ pub record FitsProgram (w : WireProgram) : Type 0 where
   pub base : FitsFaces w.base
   pub faces : FitsOwnFaces w.base w.faces
   pub parts : FitsParts (client_ranges w.base w.faces) w.faces w.parts
+  pub selects : FitsSection (client_ranges w.base w.faces) (length w.base + 4) w.selects
   pub main : FitsMain (client_ranges w.base w.faces) w.main
 
--- `SOMC`, version 1, and the program
+-- `SOMC`, version 1 or 2, and the program
 abbrev pub client : WireProgram → List ℕ
-client w = head (codes "SOMC") ++ program w
+client w = head (codes "SOMC") (version_with w.selects) ++ program w

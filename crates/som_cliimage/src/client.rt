@@ -1,4 +1,4 @@
-ghost use Rattle.som_cliimage.specs.Programs.{ProgramNamesDiffer, client_at};
+ghost use Rattle.som_cliimage.specs.Programs.{ProgramNamesDiffer, SpellsProgram, client_at};
 ghost use Rattle.som_cliimage.specs.Limits.{IsWithinLimits};
 ghost use Rattle.som_model.specs.Conforming.{ProgramOk};
 ghost use Rattle.som_model.specs.Images.{client_image};
@@ -19,12 +19,14 @@ fn read_and_name(alloc: Global, bytes: &List<u8>) -> Result<ClientProgram, Image
     Ok(name_program(alloc, &wire)?)
 }
 
-/// Reads a client image. An image in which a name stands twice is read too, since rules on names are asked of what was read;
-/// such a program may have no image, or another one.
+/// Reads a client image: the one program that the bytes spell, and else the first fault. An image in which a name stands twice
+/// is read too, since rules on names are asked of what was read; such a program has no image, or another one.
 pub fn decode(alloc: Global, bytes: &List<u8>) -> Result<ClientProgram, ImageFault>
     ensures found { IfOk result (λ p. ProgramNamesDiffer p → client_image p ≡ Some bytes.now) }
+    ensures spelled { IfOk result (λ p. SpellsProgram p bytes.now) }
     ensures within { IfOk result IsWithinLimits }
-    ensures only { (p : _) → client_image p ≡ Some bytes.now → IsWithinLimits p → Gives result (Ok p) }
+    ensures only { (p : _) → client_image p ≡ Some bytes.now → Gives result (Ok p) }
+    ensures only_spelled { (p : _) → SpellsProgram p bytes.now → Gives result (Ok p) }
     ensures exact { Gives result (client_at bytes.now) }
 {
     let _all = bytes.as_bytes();

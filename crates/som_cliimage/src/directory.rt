@@ -14,7 +14,7 @@ pub(crate) fn interface_directory(
 {
     let mut directory = Directory::of_kernel(alloc)?;
     for face in interface.classes.as_slice() {
-        directory.add_face(alloc, Module::Library, face)?;
+        directory = directory.with_face(alloc, Module::Library, face)?;
     }
     Ok(directory)
 }
@@ -28,7 +28,7 @@ pub(crate) fn program_directory(
 {
     let mut directory = interface_directory(alloc, &program.base)?;
     for class in program.classes.as_slice() {
-        directory.add_face(alloc, Module::Client, &class.face)?;
+        directory = directory.with_face(alloc, Module::Client, &class.face)?;
     }
     Ok(directory)
 }

@@ -16,5 +16,8 @@ mod program;
 mod wire;
 
 pub use client::{decode, encode};
-pub use laws::{image_exists, names_of_a_conforming_program_differ};
+pub use laws::{
+    bytes_spell_one_program, image_exists, images_are_within_limits,
+    names_of_a_conforming_program_differ, spelling_is_the_image,
+};
 pub use wire::WireProgram;

@@ -5,7 +5,7 @@ ghost use Rattle.std.specs.Prelude.{◌≡◌, IfOk};
 use crate::wire::WireProgram;
 use som_fields::WireFace;
 use som_model::{ClientProgram, List, Module, NoMemory};
-use som_naming::{Directory, name_block, name_classes, name_interface};
+use som_naming::{Directory, KERNEL_CLASSES, name_block, name_classes, name_interface};
 use std::alloc::Global;
 
 // The kernel's classes, those of the base, and the client's own.
@@ -16,9 +16,7 @@ fn client_directory(
 ) -> Result<Directory, NoMemory>
     ensures { IfOk result (λ directory. directory ≡ client_directory base.now own.now) }
 {
-    let mut directory = Directory::of_library(alloc, base)?;
-    directory.add(alloc, Module::Client, own)?;
-    Ok(directory)
+    Directory::of_library(alloc, base)?.with_classes(alloc, Module::Client, own)
 }
 
 /// The client program that a program of an image stands for.
@@ -29,7 +27,14 @@ pub(crate) fn name_program(alloc: Global, wire: &WireProgram) -> Result<ClientPr
     let directory = client_directory(alloc, &wire.base, &wire.faces)?;
     Ok(ClientProgram {
         base: name_interface(alloc, &wire.base)?,
-        classes: name_classes(alloc, &directory, &wire.faces, &wire.parts)?,
+        classes: name_classes(
+            alloc,
+            &directory,
+            wire.base.len() as u16 + KERNEL_CLASSES,
+            &wire.faces,
+            &wire.parts,
+            &wire.selects,
+        )?,
         main: name_block(alloc, &directory, &wire.main)?,
     })
 }

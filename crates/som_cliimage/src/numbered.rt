@@ -2,9 +2,9 @@ ghost use Rattle.som_cliimage.specs.Limits.{IsWithinLimits};
 ghost use Rattle.som_cliimage.specs.Naming.{program_named};
 ghost use Rattle.som_cliimage.specs.Numbering.{program_numbered};
 ghost use Rattle.som_cliimage.specs.Spelling.{FitsProgram};
-ghost use Rattle.som_naming.specs.NumberedClasses.{FaceKnown, face_numbered};
+ghost use Rattle.som_numbering.specs.NumberedClasses.{FaceKnown, face_numbered};
 ghost use Rattle.som_model.specs.Conforming.{ProgramOk};
-ghost use Rattle.som_naming.specs.Numbering.{IsDirectory};
+ghost use Rattle.som_numbering.specs.Numbering.{IsDirectory};
 ghost use Rattle.som_order.specs.Names.{texts};
 ghost use Rattle.std.specs.Prelude.{◌≡◌, map, All, IfOk};
 
@@ -13,7 +13,10 @@ use crate::wire::WireProgram;
 use indexmap::IndexSet;
 use som_fields::WireFace;
 use som_model::{ClassFace, ClientProgram, List, NoMemory};
-use som_naming::{Directory, number_block, number_face, number_faces, number_parts};
+use som_naming::{Directory, KERNEL_CLASSES};
+use som_numbering::{
+    class_names, number_block, number_face, number_faces, number_parts, number_selects,
+};
 use std::alloc::Global;
 
 fn number_each(
@@ -40,7 +43,7 @@ fn number_base(alloc: Global, program: &ClientProgram) -> Result<List<WireFace>,
     ensures { IfOk result (λ faces. faces ≡ (program_numbered program.now).base) }
 {
     let directory = interface_directory(alloc, &program.base)?;
-    let names = directory.class_names(alloc)?;
+    let names = class_names(alloc, &directory)?;
     number_each(alloc, &names, &directory, program.base.classes.as_slice())
 }
 
@@ -64,15 +67,18 @@ fn number_all(alloc: Global, program: &ClientProgram) -> Result<WireProgram, NoM
 {
     let base = number_base(alloc, program)?;
     let directory = program_directory(alloc, program)?;
-    let names = directory.class_names(alloc)?;
+    let names = class_names(alloc, &directory)?;
     let classes = program.classes.as_slice();
     let faces = number_faces(alloc, &names, &directory, classes)?;
     let parts = number_parts(alloc, &names, &directory, classes)?;
+    let first = program.base.classes.len() as u16 + KERNEL_CLASSES;
+    let selects = number_selects(alloc, &names, &directory, first, classes)?;
     let main = number_block(alloc, &directory, &names, &program.main)?;
     Ok(WireProgram {
         base,
         faces,
         parts,
+        selects,
         main,
     })
 }

@@ -8,15 +8,15 @@ use crate::wire::WireProgram;
 use som_fields::{ImageFault, Ranges, Read, WireFace, write_u16};
 use som_model::{List, MAX_CLIENT_CLASSES, NoMemory};
 use som_naming::{
-    append_faces, append_parts, new_image, ranges_of, read_faces, read_faces_after, read_head,
-    read_parts,
+    KERNEL_CLASSES, new_image, ranges_of, read_faces, read_faces_after, read_head, read_parts,
+    read_section, version_with, with_faces, with_parts, with_section,
 };
 use som_wire::{read_block, write_block};
 use std::alloc::Global;
 
 const MAGIC: &[u8] = b"SOMC";
 
-const KERNEL_CLASSES: u16 = 4;
+const NEWEST_VERSION: u8 = 2;
 
 // How many classes there are, and how many entries each has.
 fn client_ranges(
@@ -44,9 +44,10 @@ fn read_classes_and_main(
     alloc: Global,
     bytes: &List<u8>,
     place: usize,
+    version: u8,
 ) -> Result<Read<WireProgram>, ImageFault>
     requires { place ≤ length bytes.now }
-    ensures exact { Gives result (program_at bytes.now place) }
+    ensures exact { Gives result (program_at version bytes.now place) }
     ensures next { IfOk result (λ r. r.next ≤ length bytes.now) }
 {
     let base = read_faces(alloc, bytes, place)?;
@@ -54,12 +55,14 @@ fn read_classes_and_main(
     let own = read_faces_after(alloc, bytes, base.next, before, MAX_CLIENT_CLASSES)?;
     let ranges = client_ranges(alloc, &base.value, &own.value)?;
     let parts = read_parts(alloc, bytes, own.next, &ranges, &own.value)?;
-    let main = read_block(alloc, bytes, parts.next, &ranges, 1)?;
+    let selects = read_section(alloc, bytes, parts.next, version, &ranges, before)?;
+    let main = read_block(alloc, bytes, selects.next, &ranges, 1)?;
     Ok(Read {
         value: WireProgram {
             base: base.value,
             faces: own.value,
             parts: parts.value,
+            selects: selects.value,
             main: main.value,
         },
         next: main.next,
@@ -70,8 +73,8 @@ fn read_classes_and_main(
 fn read_to_the_end(alloc: Global, bytes: &List<u8>) -> Result<WireProgram, ImageFault>
     ensures { Gives result (wire_at bytes.now) }
 {
-    let place = read_head(bytes, MAGIC)?;
-    let program = read_classes_and_main(alloc, bytes, place)?;
+    let version = read_head(bytes, 0, MAGIC, NEWEST_VERSION)?;
+    let program = read_classes_and_main(alloc, bytes, version.next, version.value)?;
     if program.next < bytes.len() {
         return Err(ImageFault::Trailing {
             offset: program.next,
@@ -94,12 +97,13 @@ pub(crate) fn write_program(alloc: Global, wire: &WireProgram) -> Result<List<u8
     requires { FitsProgram wire.now }
     ensures { IfOk result (λ image. image ≡ client wire.now) }
 {
-    let mut image = new_image(alloc, MAGIC)?;
+    let mut image = new_image(alloc, MAGIC, version_with(&wire.selects))?;
     write_u16(&mut image, wire.base.len() as u16)?;
-    append_faces(alloc, &mut image, &wire.base)?;
+    let mut image = with_faces(alloc, image, &wire.base)?;
     write_u16(&mut image, wire.faces.len() as u16)?;
-    append_faces(alloc, &mut image, &wire.faces)?;
-    append_parts(alloc, &mut image, &wire.parts)?;
+    let image = with_faces(alloc, image, &wire.faces)?;
+    let image = with_parts(alloc, image, &wire.parts)?;
+    let mut image = with_section(alloc, image, &wire.selects)?;
     write_block(alloc, &mut image, &wire.main)?;
     Ok(image)
 }

@@ -7,6 +7,7 @@ ghost use Rattle.som_model.specs.Compatible.{k3};
 ghost use Rattle.som_model.specs.Keys.{same_key};
 ghost use Rattle.som_model.specs.Lists.{Mem, first, joined};
 ghost use Rattle.som_model.specs.declared.key.ClassKey.{ClassKey as Key};
+ghost use Rattle.som_model.specs.declared.limits.TheConstants.{MAX_PARENTS};
 ghost use Rattle.som_rules.specs.Places.{class_of_place, face_at, key_at};
 ghost use Rattle.som_rules.specs.Plainly.{IsAmong};
 ghost use Rattle.som_rules.specs.Walk.{adds};
@@ -33,7 +34,7 @@ fn is_above(lookup: &Lookup, marks: &[bool], key: &ClassKey) -> bool
 // The number of the first of these from which a class doesn't descend, by the marks of its ancestors.
 fn first_lost(lookup: &Lookup, marks: &[bool], parents: &[ClassKey]) -> Option<usize>
     requires conforms { Conforms (interface lookup.now.faces.now) }
-    requires few { length parents.now ≤ 16 }
+    requires few { length parents.now ≤ MAX_PARENTS }
     ensures within { IfSome result (λ number. number < length parents.now) }
     ensures first { (x : Key) → IsAmong (classes_of lookup.now.faces.now) x → AreAbove (classes_of lookup.now.faces.now) x marks.now →
         result ≡ lost_from (classes_of lookup.now.faces.now) x 0 parents.now }
@@ -63,7 +64,7 @@ pub fn keeps_ancestors<'a>(
     requires new { Conforms (interface new.now.faces.now) }
     requires place { place + 4 < length (classes_of old.now.lookup.faces.now) }
     requires class { class_of_place (classes_of old.now.lookup.faces.now) (place + 4) ≡ shown class.now }
-    requires few { length class.now.parents ≤ 16 }
+    requires few { length class.now.parents ≤ MAX_PARENTS }
     requires known { IsAmong (classes_of new.now.faces.now) (shown class.now).key }
     requires marks { AreAbove (classes_of new.now.faces.now) (shown class.now).key marks.now }
     requires earlier { (p a : Key) → Mem p class.now.parents → Mem a (ancestors (classes_of old.now.lookup.faces.now) p) →

@@ -2,7 +2,9 @@ ghost use Rattle.som_compat.specs.Conditions.{Conforms, IsCounted};
 ghost use Rattle.som_model.specs.Class.{bare};
 ghost use Rattle.std.specs.Prelude.{◌≡◌, ◌↔◌, All, IfOk, IsTrue, map};
 
-use som_model::{ClassDecl, ClassFace, Interface, List, NoMemory};
+use som_model::{
+    ClassDecl, ClassFace, Interface, List, MAX_ENTRIES, MAX_LIBRARY_CLASSES, MAX_PARENTS, NoMemory,
+};
 use som_rules::{VerifyFault, faces_ok};
 use std::alloc::Global;
 
@@ -11,7 +13,7 @@ pub fn conforms(alloc: Global, interface: &Interface) -> Result<bool, NoMemory>
     ensures { IfOk result (λ answer. IsTrue answer ↔ Conforms interface.now) }
 {
     let faces = interface.classes.as_slice();
-    if faces.len() > 4096 || !are_counted(faces) {
+    if faces.len() > MAX_LIBRARY_CLASSES as usize || !are_counted(faces) {
         return Ok(false);
     }
     let classes = bare_classes(alloc, faces)?;
@@ -37,7 +39,7 @@ fn is_counted(face: &ClassFace) -> bool
     ensures { IsTrue result ↔ IsCounted face.now }
 {
     let parents = face.parents.len();
-    1 <= parents && parents <= 16 && face.entries.len() <= 256
+    1 <= parents && parents <= MAX_PARENTS as usize && face.entries.len() <= MAX_ENTRIES as usize
 }
 
 fn bare_classes(alloc: Global, faces: &[ClassFace]) -> Result<Vec<ClassDecl>, NoMemory>
@@ -58,5 +60,6 @@ fn bare_class(alloc: Global, face: &ClassFace) -> Result<ClassDecl, NoMemory>
         variables: List::new(alloc),
         bodies: List::new(alloc),
         overrides: List::new(alloc),
+        selects: List::new(alloc),
     })
 }

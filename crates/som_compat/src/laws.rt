@@ -10,6 +10,7 @@ ghost use Rattle.som_model.specs.Kernel.{som_class};
 ghost use Rattle.som_model.specs.Metaclass.{meta};
 ghost use Rattle.som_model.specs.declared.class.ClassDecl.{ClassDecl};
 ghost use Rattle.som_model.specs.declared.key.ClassKey.{ClassKey};
+ghost use Rattle.som_model.specs.declared.limits.TheConstants.{MAX_LIBRARY_CLASSES};
 ghost use Rattle.som_model.specs.declared.program.Interface.{Interface};
 ghost use Rattle.som_model.specs.declared.program.Release.{Release};
 ghost use Rattle.std.specs.Prelude.{◌≡◌, ◌≤◌, ◌↔◌, ◌⊎◌, All, None, length};
@@ -37,6 +38,6 @@ pub fn metaclass_law()
 
 /// The interface of a release that breaks no rule of its classes, and is within the counts, may be compared.
 pub fn release_law()
-    ensures { (r : Release) → declared_breach r ≡ None → length r.classes ≤ 4096 →
+    ensures { (r : Release) → declared_breach r ≡ None → length r.classes ≤ MAX_LIBRARY_CLASSES →
         All (λ (d : ClassDecl). IsCounted d.face) r.classes → Conforms (interface_of r) }
 {}

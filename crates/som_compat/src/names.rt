@@ -1,4 +1,5 @@
 ghost use Rattle.som_compat.specs.Finding.{FindsName, face_names};
+ghost use Rattle.som_model.specs.declared.limits.TheConstants.{MAX_LIBRARY_CLASSES};
 ghost use Rattle.std.specs.Prelude.{◌<◌, ◌≤◌, IfSome, length};
 
 use som_model::{ClassFace, Text};
@@ -7,7 +8,7 @@ use som_model::{ClassFace, Text};
 /// makes looking up fast.
 pub fn sort_by_name(faces: &[ClassFace], order: &mut [u16])
     requires long { length faces.now ≤ length order.old }
-    requires few { length faces.now ≤ 4096 }
+    requires few { length faces.now ≤ MAX_LIBRARY_CLASSES }
 {
     for place in 0..faces.len() {
         order[place] = place as u16;

@@ -4,6 +4,7 @@ ghost use Rattle.som_compat.specs.Views.{IsView, classes_of, interface, shown};
 ghost use Rattle.som_model.specs.Compatible.{class_breaks, first_break, k2, k4, order_of};
 ghost use Rattle.som_model.specs.Lists.{first};
 ghost use Rattle.som_model.specs.declared.class.ClassFace.{ClassFace as Face};
+ghost use Rattle.som_model.specs.declared.limits.TheConstants.{MAX_ENTRIES};
 ghost use Rattle.std.specs.Prelude.{◌≡◌, ◌+◌, ◌<◌, ◌≤◌, ℕ, None, flat_map, length, map, option_copied, slice_get, slice_index_or};
 
 use crate::ancestors::keeps_ancestors;
@@ -151,8 +152,8 @@ fn keeps_version<'a>(class: &'a ClassFace, other: &ClassFace) -> Result<(), Brea
 
 // K4: the old release order begins the new one.
 fn keeps_order<'a>(class: &'a ClassFace, other: &ClassFace) -> Result<(), Breach<'a>>
-    requires old { length class.now.entries ≤ 256 }
-    requires new { length other.now.entries ≤ 256 }
+    requires old { length class.now.entries ≤ MAX_ENTRIES }
+    requires new { length other.now.entries ≤ MAX_ENTRIES }
     ensures { told_by result ≡ first (k4 (shown class.now) (shown other.now)) }
 {
     match is_prefix(&class.entries, &other.entries) {

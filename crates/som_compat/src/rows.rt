@@ -2,6 +2,7 @@ ghost use Rattle.som_compat.specs.Conditions.{IsCounted};
 ghost use Rattle.som_compat.specs.Views.{IsRow, classes_of, numbers_of};
 ghost use Rattle.som_model.specs.Lists.{Mem};
 ghost use Rattle.som_model.specs.declared.key.ClassKey.{ClassKey as Key};
+ghost use Rattle.som_model.specs.declared.limits.TheConstants.{MAX_LIBRARY_CLASSES, MAX_PARENTS};
 ghost use Rattle.som_rules.specs.Plainly.{IsAmong};
 ghost use Rattle.std.specs.Prelude.{◌≡◌, ◌≤◌, length, Some};
 
@@ -40,8 +41,8 @@ impl Row {
 
 /// The row of a class whose parents and metaclass are known.
 pub fn row_of(lookup: &Lookup, face: &ClassFace) -> Row
-    requires few { length lookup.now.faces.now ≤ 4096 }
-    requires count { length face.now.parents ≤ 16 }
+    requires few { length lookup.now.faces.now ≤ MAX_LIBRARY_CLASSES }
+    requires count { length face.now.parents ≤ MAX_PARENTS }
     requires parents { (k : Key) → Mem k face.now.parents → IsAmong (classes_of lookup.now.faces.now) k }
     requires metaclass { (k : Key) → face.now.metaclass ≡ Some k → IsAmong (classes_of lookup.now.faces.now) k }
     ensures { IsRow (classes_of lookup.now.faces.now) face.now result }

@@ -7,6 +7,7 @@ ghost use Rattle.som_model.specs.Kernel.{kernel};
 ghost use Rattle.som_model.specs.Lists.{first};
 ghost use Rattle.som_model.specs.Owner.{sig_of};
 ghost use Rattle.som_model.specs.Same.{same_option, same_sig};
+ghost use Rattle.som_model.specs.declared.limits.TheConstants.{MAX_ENTRIES};
 ghost use Rattle.som_rules.specs.Places.{face_at};
 ghost use Rattle.std.specs.Prelude.{◌≡◌, ◌<◌, ◌≤◌, None, Some, length, map, option_copied};
 
@@ -130,7 +131,7 @@ where
     'a: 'x,
     requires old { Conforms (interface old.now.faces.now) }
     requires new { Conforms (interface new.now.faces.now) }
-    requires few { length class.now.entries ≤ 256 }
+    requires few { length class.now.entries ≤ MAX_ENTRIES }
     ensures { told_by result ≡ first (map (λ p. incompatible 5 (shown class.now) (Some p.0) p.1)
         (changed (classes_of old.now.faces.now) (classes_of new.now.faces.now) 0 class.now.entries other.now.entries)) }
 {
@@ -169,7 +170,7 @@ where
     'a: 'x,
     requires old { Conforms (interface old.now.faces.now) }
     requires new { Conforms (interface new.now.faces.now) }
-    requires few { length class.now.entries ≤ 256 }
+    requires few { length class.now.entries ≤ MAX_ENTRIES }
     requires pair { IsShown old.now.faces.now new.now.faces.now class.now other.now }
     requires order { first (k4 (shown class.now) (shown other.now)) ≡ None }
     ensures { told_by result ≡ first (k5 (classes_of old.now.faces.now) (classes_of new.now.faces.now) (shown class.now)) }

@@ -2,8 +2,9 @@
 use Rattle.std.proofs.Common.{◌≡◌, ℕ, ◌<◌, ◌≤◌, ◌^◌, ◌&&◌, inl, inr, Bool, true, false, if◌then◌else◌, nat_le, List, [], ◌∷◌, length, map, Option, Some, None, option_map, refl, sym, ap, subst, arith, leb-true}
 use Rattle.std.specs.List.{AllByRecursion}
 use Rattle.std.specs.Str.{bytes_eq}
+use Rattle.std.proofs.lemmas.List.{length-map}
 use Rattle.std.proofs.lemmas.List.Elements.{recursion_from_All, All-from_recursion}
-use Rattle.som_model.specs.declared.limits.TheConstants.{MAX_PARAMETERS, MAX_TEXT}
+use Rattle.som_model.specs.declared.limits.TheConstants.{MAX_PARAMETERS, MAX_SELECTS, MAX_TEXT}
 use Rattle.som_model.specs.declared.key.ClassKey.{ClassKey}
 use Rattle.som_model.specs.declared.key.Module.{Module}
 use Rattle.som_model.specs.declared.key.Module.TheVariants as modules
@@ -17,6 +18,7 @@ use Rattle.som_model.specs.declared.class.Variable.{Variable}
 use Rattle.som_model.specs.declared.class.Body.{Body}
 use Rattle.som_model.specs.declared.class.Body.TheVariants as bodies
 use Rattle.som_model.specs.declared.class.Override.{Override}
+use Rattle.som_model.specs.declared.class.Select.{Select}
 use Rattle.som_model.specs.declared.class.ClassFace.{ClassFace}
 use Rattle.som_model.specs.declared.class.ClassDecl.{ClassDecl}
 use Rattle.som_model.specs.declared.program.Interface.{Interface}
@@ -40,8 +42,8 @@ use Rattle.som_wire.specs.Fitting.{levels_left}
 use Rattle.som_naming.specs.ClassLimits.{EntryWithin, BodyWithin, FaceWithin, ClassWithin}
 use Rattle.som_elab.specs.Accessors.{Access, accessor_body, accessors_of, body_of, place_of}
 use Rattle.som_sema.specs.Building.{after_base, declarations, module_over}
-use Rattle.som_sema.specs.Finished.{declare, entry_for, introducer, override_of}
-use Rattle.som_sema.specs.Items.{listed, major_in, minor_in, overridden}
+use Rattle.som_sema.specs.Finished.{declare, entry_for, introducer, override_of, select_of, selects_at}
+use Rattle.som_sema.specs.Items.{chosen, listed, major_in, minor_in, or_object, overridden}
 use Rattle.som_elab.specs.PlainLimits.{LimitsKept}
 use Rattle.som_sema.specs.Drafts.{InterfaceDraft, draft_of, introduces, draft_class, draft_classes}
 use Rattle.som_forms.specs.Expressions.{Among}
@@ -165,7 +167,7 @@ empty_overrides cs k [] = tt
 empty_overrides cs k (name ∷ names) = (no_block, empty_overrides cs k names)
 
 -- where the counts of the declared classes are within the limits
-module _ (m : Module) (base : Interface) (is : List IdlInterface) (within : AllByRecursion InterfaceWithin is) (kept : LimitsKept (declarations m base is)) where
+module _ (m : Module) (base : Interface) (is : List IdlInterface) (within : AllByRecursion InterfaceWithin is) (kept : LimitsKept (drafts_over m base is)) where
   abbrev module_of : List ℕ → Module
   module_of = module_over m base is
 
@@ -179,8 +181,8 @@ module _ (m : Module) (base : Interface) (is : List IdlInterface) (within : AllB
   drafts_are : drafts_over m base is ≡ map (finished known module_of m) is
   drafts_are = drafts_of_classes_map is
 
-  declared_there : (i : IdlInterface) → Mem i is → Mem (finished known module_of m i).class (declarations m base is)
-  declared_there i there = mem_map (declare known m) (draft_of module_of i) (map (draft_of module_of) is) (mem_map (draft_of module_of) i is there)
+  draft_there : (i : IdlInterface) → Mem i is → Mem (finished known module_of m i) (drafts_over m base is)
+  draft_there i there = subst (λ z. Mem (finished known module_of m i) z) (sym drafts_are) (mem_map (finished known module_of m) i is there)
 
   entries_named : (i : IdlInterface) → InterfaceWithin i → AllByRecursion Named (finished known module_of m i).class.face.entries
   entries_named i p =
@@ -193,7 +195,7 @@ module _ (m : Module) (base : Interface) (is : List IdlInterface) (within : AllB
       let d = finished known module_of m i in
       all_members EntryWithin d.class.face.entries (λ e n.
       entry_within e (member_of_all Named d.class.face.entries e (entries_named i (member_of_all InterfaceWithin is i within there)) n)
-      (λ name sig way same. kept.parameters d.class name sig way (declared_there i there) (subst (λ (x : Entry). Mem x d.class.face.entries) same n)))
+      (λ name sig way same. kept.parameters d name sig way (draft_there i there) (subst (λ (x : Entry). Mem x d.class.face.entries) same n)))
 
   face_within : (i : IdlInterface) → Mem i is → FaceWithin (finished known module_of m i).class.face
   face_within i there =
@@ -204,24 +206,25 @@ module _ (m : Module) (base : Interface) (is : List IdlInterface) (within : AllB
         major = number_within major_in major_within i.items (recursion_from_All ItemWithin i.items p.items);
         minor = number_within minor_in minor_within i.items (recursion_from_All ItemWithin i.items p.items);
         some_parent = some_parent module_of i.parents;
-        parents = kept.parents d.class (declared_there i there);
-        entries = kept.entries d.class (declared_there i there);
+        parents = kept.parents d (draft_there i there);
+        entries = kept.entries d (draft_there i there);
         each_entry = All-from_recursion EntryWithin d.class.face.entries (entries_within i there);
       }
 
   -- with bodies and overrides that are within the limits
-  class_within : (i : IdlInterface) → Mem i is → (own : List Body) (others : List Override) → AllByRecursion BodyWithin own → AllByRecursion (λ (o : Override). BlockWithin o.block) others
-      → length others ≡ length (finished known module_of m i).class.overrides → ClassWithin (with_blocks (finished known module_of m i).class own others)
-  class_within i there own others q r long =
+  class_within : (i : IdlInterface) → Mem i is → (own : List Body) (others : List Override) (selects : List Select) → length selects ≤ MAX_SELECTS → AllByRecursion BodyWithin own → AllByRecursion (λ (o : Override). BlockWithin o.block) others
+      → length others ≡ length (finished known module_of m i).class.overrides → ClassWithin (with_blocks (finished known module_of m i).class own others selects)
+  class_within i there own others selects counted q r long =
       let d = finished known module_of m i in
-      let few = kept.overrides d.class (declared_there i there) in
+      let few = kept.overrides d (draft_there i there) in
       record {
         face = face_within i there;
-        variables = kept.variables d.class (declared_there i there);
+        variables = kept.variables d (draft_there i there);
         each_variable = All-from_recursion (λ (v : Variable). TextWithin v.name) d.class.variables (all_variables module_of i (member_of_all InterfaceWithin is i within there));
         each_body = All-from_recursion BodyWithin own q;
         overrides = omega (arith, few, long);
         each_override = All-from_recursion (λ (o : Override). BlockWithin o.block) others r;
+        selects = counted;
       }
 
   own_within : AllByRecursion EntriesFit (map (class_in m) (declarations m base is))
@@ -245,10 +248,13 @@ module _ (m : Module) (base : Interface) (is : List IdlInterface) (within : AllB
     one_within i there c apart =
         let d = finished known module_of m i in
         let k = class_in m d.class in
-        let place : PlaceFits (Some k) = (kept.variables d.class (declared_there i there), kept.parents d.class (declared_there i there)) in
+        let place : PlaceFits (Some k) = (kept.variables d (draft_there i there), kept.parents d (draft_there i there)) in
+        let long = length-map (chosen d.text.items) (select_of a.classes k.key (or_object d.text.parents)) in
+        let count = kept.selects d (draft_there i there) in
+        let few_selects : length (selects_at a.classes k.key d) ≤ MAX_SELECTS = omega (arith, long, count) in
         let r = overrides_within a sigs k place bs short d.class.overrides (empty_overrides known (class_in m (draft_class module_of i)).key (overridden i.items)) apart.others
         (overrides_apart a bs k d.class.overrides apart.others apart.overrides) in
-        subst ClassWithin (sym apart.is) (class_within i there apart.own apart.others
+        subst ClassWithin (sym apart.is) (class_within i there apart.own apart.others (selects_at a.classes k.key d) few_selects
         (entry_bodies_within a sigs k place bs short d d.class.face.entries (entries_within i there) apart.own (entries_apart a bs d k d.class.face.entries apart.own apart.bodies)) r.0 r.1)
 
     each_within : (js : List IdlInterface) → ((j : IdlInterface) → Mem j js → Mem j is) → (cs : List ClassDecl) → EachApart a m bs (map (finished known module_of m) js) cs

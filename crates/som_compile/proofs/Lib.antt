@@ -1,4 +1,3 @@
-pub mod Lexed
 pub mod ReadLaws
 pub mod ReleaseWithin
 pub mod CompileLaws

@@ -9,7 +9,7 @@ use Rattle.som_lex.specs.declared.fault.LexFault.TheVariants as lexing
 use Rattle.som_lex.specs.Line.{is_fresh}
 use Rattle.som_lex.specs.Front.{IsFault, IsTextFault, no_token, a_digit_after_zero, in_literal, open_comment, a_large_number, a_long_name, a_bad_byte, a_bad_escape, unclosed, too_long}
 use Rattle.som_lex.specs.Cut.{IsCut, Stops, here, after_gap, after_token}
-use Rattle.som_lex.specs.Spans.{AreTokens}
+use Rattle.som_lex.specs.Spans.{AreTokens, offset_of}
 use Rattle.som_lex.proofs.OneCut.{one_cut, one_fault, cut_apart}
 use Rattle.som_read.specs.declared.tree.SyntaxFault.{SyntaxFault}
 use Rattle.som_read.specs.declared.tree.SyntaxFault.TheVariants as parsing
@@ -33,7 +33,7 @@ use Rattle.som_compile.specs.declared.trees.TextTree.TheVariants as trees
 use Rattle.som_compile.specs.declared.trees.Trees.{Trees}
 use Rattle.som_compile.specs.Sources.{kind_of}
 use Rattle.som_compile.specs.Reading.{lexing_told, parsing_told, Tells, Says, no_trees, with_first, with_last, IsParsed, Reads, no_tokens, no_tree, a_tree, ReadsAll, no_more, one_more, refused, refused_later}
-use Rattle.som_compile.proofs.Lexed.{Lexes, lexed}
+use Rattle.som_lex.proofs.Lexed.{Lexes, lexed}
 
 -- ---- what stands in tokens, by its kind
 
@@ -120,17 +120,17 @@ some_parsed kinds.Main t = let a = some_main_answer t in main_parsed t a.0 a.1 a
 -- ---- one text
 
 text_fault_told : (name : List ℕ) (at : ℕ) (u : List ℕ) (f : LexFault) → IsTextFault at u f → (w : TextFault) × (lexing_told name f ≡ Some w)
-text_fault_told name at _ _ (a_bad_byte u v b rest m le p q k l) = (texts.Unread reading.BadByte name, refl)
-text_fault_told name at _ _ (a_bad_escape u v b rest m le e l) = (texts.Unread reading.BadByte name, refl)
-text_fault_told name at _ _ (unclosed u v rest m le e) = (texts.Unread reading.OpenText name, refl)
+text_fault_told name at _ _ (a_bad_byte u v b rest m le p q k l) = (texts.Unread reading.BadByte name (at + 1 + length u), refl)
+text_fault_told name at _ _ (a_bad_escape u v b rest m le e l) = (texts.Unread reading.BadByte name (at + 1 + length u + 1), refl)
+text_fault_told name at _ _ (unclosed u v rest m le e) = (texts.Unread reading.OpenText name at, refl)
 text_fault_told name at _ _ (too_long u v rest m le) = (texts.Limit (codes "text") MAX_TEXT, refl)
 
 front_fault_told : (name : List ℕ) (fresh : Bool) (at : ℕ) (left : List ℕ) (f : LexFault) → IsFault fresh at left f → (w : TextFault) × (lexing_told name f ≡ Some w)
-front_fault_told name fresh at _ _ (no_token k q none) = (texts.Unread reading.BadByte name, refl)
-front_fault_told name fresh at _ _ (a_digit_after_zero e) = (texts.Unread reading.BadByte name, refl)
+front_fault_told name fresh at _ _ (no_token k q none) = (texts.Unread reading.BadByte name at, refl)
+front_fault_told name fresh at _ _ (a_digit_after_zero e) = (texts.Unread reading.BadByte name (at + 1), refl)
 front_fault_told name fresh at _ f (in_literal {bs = bs} h) = text_fault_told name at bs f h
-front_fault_told name fresh at _ _ (open_comment e) = (texts.Unread reading.OpenComment name, refl)
-front_fault_told name fresh at _ _ (a_large_number n l gt) = (texts.Unread reading.NumberTooLarge name, refl)
+front_fault_told name fresh at _ _ (open_comment e) = (texts.Unread reading.OpenComment name at, refl)
+front_fault_told name fresh at _ _ (a_large_number n l gt) = (texts.Unread reading.NumberTooLarge name at, refl)
 front_fault_told name fresh at _ _ (a_long_name n l gt) = (texts.Limit (codes "name") MAX_NAME, refl)
 
 -- each fault of bytes is told
@@ -140,18 +140,18 @@ lex_fault_told name source at f (after_gap {n = n} g s) = lex_fault_told name so
 lex_fault_told name source at f (after_token {n = n} t s) = lex_fault_told name source (at + n) f s
 
 -- each fault of tokens is told, but for want of memory
-parse_fault_told : (name : List ℕ) (f : SyntaxFault) → not_parsed f ≢ not_parsed parsing.NoMemory → (w : TextFault) × (parsing_told name f ≡ Some w)
-parse_fault_told name (parsing.Syntax k) some = (texts.Unread reading.Syntax name, refl)
-parse_fault_told name (parsing.NotInProfile k) some = (texts.Unread reading.NotInProfile name, refl)
-parse_fault_told name (parsing.Nesting k) some = (texts.Limit (codes "nesting") MAX_NESTING, refl)
-parse_fault_told name parsing.NoMemory some = absurd (some refl)
+parse_fault_told : (name : List ℕ) (t : Tokens) (f : SyntaxFault) → not_parsed f ≢ not_parsed parsing.NoMemory → (w : TextFault) × (parsing_told name t f ≡ Some w)
+parse_fault_told name t (parsing.Syntax k) some = (texts.Unread reading.Syntax name (offset_of t k), refl)
+parse_fault_told name t (parsing.NotInProfile k) some = (texts.Unread reading.NotInProfile name (offset_of t k), refl)
+parse_fault_told name t (parsing.Nesting k) some = (texts.Limit (codes "nesting") MAX_NESTING, refl)
+parse_fault_told name t parsing.NoMemory some = absurd (some refl)
 
 -- what is told is no want of memory
-no_want : (name : List ℕ) (f : SyntaxFault) (w : TextFault) → parsing_told name f ≡ Some w → not_parsed f ≢ not_parsed parsing.NoMemory
-no_want name (parsing.Syntax k) w e same = cc
-no_want name (parsing.NotInProfile k) w e same = cc
-no_want name (parsing.Nesting k) w e same = cc
-no_want name parsing.NoMemory w e same = cc
+no_want : (name : List ℕ) (t : Tokens) (f : SyntaxFault) (w : TextFault) → parsing_told name t f ≡ Some w → not_parsed f ≢ not_parsed parsing.NoMemory
+no_want name t (parsing.Syntax k) w e same = cc
+no_want name t (parsing.NotInProfile k) w e same = cc
+no_want name t (parsing.Nesting k) w e same = cc
+no_want name t parsing.NoMemory w e same = cc
 
 tree_told : (f : TextTree) → a_parsed f ≢ not_parsed parsing.NoMemory
 tree_told f e = cc
@@ -162,7 +162,7 @@ tokens_from source list = record { source = source; list = list }
 -- a text has some tree or some fault
 parsed : (s : Source) (t : Tokens) → t.source ≡ s.bytes → AreTokens t → (a : Parsed) → IsParsed (kind_of s.name) t a → a ≢ Err parsing.NoMemory → (r : Result TextTree TextFault) × Reads s r
 parsed s t e c (Ok f) a some = (Ok f, a_tree t f e c a)
-parsed s t e c (Err f) a some = let w = parse_fault_told s.name f some in (Err w.0, no_tree t f w.0 e c a w.1)
+parsed s t e c (Err f) a some = let w = parse_fault_told s.name t f some in (Err w.0, no_tree t f w.0 e c a w.1)
 
 pub some_reading : (s : Source) → (r : Result TextTree TextFault) × Reads s r
 some_reading s = by_tokens s (lexed s.bytes)
@@ -208,12 +208,12 @@ one_reading s _ _ (no_tokens f v p e) (a_tree u g h d y) = cut_or_stops s.bytes 
 one_reading s _ _ (no_tree t f v e c x k) (no_tokens g w q h) = cut_or_stops s.bytes t g e c q
 one_reading s _ _ (a_tree t f e c x) (no_tokens g w q h) = cut_or_stops s.bytes t g e c q
 one_reading s _ _ (no_tree t f v e c x k) (no_tree u g w h d y l) =
-    let same = same_fault_of f g (same_answer s t u (Err f) (Err g) e h c d x y (no_want s.name f v k) (no_want s.name g w l)) in
-    ap failed (one_told (parsing_told s.name f) v w k (ap (parsing_told s.name) same ∙ l))
+    let same = same_fault_of f g (same_answer s t u (Err f) (Err g) e h c d x y (no_want s.name t f v k) (no_want s.name u g w l)) in
+    ap failed (one_told (parsing_told s.name t f) v w k (ap (parsing_told s.name t) same ∙ ap (λ (z : Tokens). parsing_told s.name z g) (same_tokens s.bytes t u e h c d) ∙ l))
 one_reading s _ _ (no_tree t f v e c x k) (a_tree u g h d y) =
-    absurd (syntax_ok g f (sym (same_answer s t u (Err f) (Ok g) e h c d x y (no_want s.name f v k) (tree_told g))))
+    absurd (syntax_ok g f (sym (same_answer s t u (Err f) (Ok g) e h c d x y (no_want s.name t f v k) (tree_told g))))
 one_reading s _ _ (a_tree t f e c x) (no_tree u g w h d y l) =
-    absurd (syntax_ok f g (same_answer s t u (Ok f) (Err g) e h c d x y (tree_told f) (no_want s.name g w l)))
+    absurd (syntax_ok f g (same_answer s t u (Ok f) (Err g) e h c d x y (tree_told f) (no_want s.name u g w l)))
 one_reading s _ _ (a_tree t f e c x) (a_tree u g h d y) =
     let parses : a_parsed f ≡ a_parsed g = same_answer s t u (Ok f) (Ok g) e h c d x y (tree_told f) (tree_told g) in
     let same : f ≡ g = cc in
@@ -230,7 +230,7 @@ lex_refused s f (faults.Text w) stops e = no_tokens f w (stops (told_no_want s.n
 lex_refused s f faults.NoMemory stops e = tt
 
 -- its tokens are no text of the grammar
-pub parse_refused : (s : Source) (t : Tokens) (f : SyntaxFault) (r : CompileFault) → t.source ≡ s.bytes → AreTokens t → IsParsed (kind_of s.name) t (Err f) → Tells (parsing_told s.name f) r → Says {A = TextTree} (Reads s) (Err r)
+pub parse_refused : (s : Source) (t : Tokens) (f : SyntaxFault) (r : CompileFault) → t.source ≡ s.bytes → AreTokens t → IsParsed (kind_of s.name) t (Err f) → Tells (parsing_told s.name t f) r → Says {A = TextTree} (Reads s) (Err r)
 parse_refused s t f (faults.Text w) e c a told = no_tree t f w e c a told
 parse_refused s t f faults.NoMemory e c a told = tt
 

@@ -20,11 +20,10 @@ use Rattle.som_body.specs.Within.{BlockTextWithin, BodyFileWithin, BodyTextWithi
 use Rattle.som_naming.specs.ClassLimits.{ClassWithin, EntryWithin, FaceWithin}
 use Rattle.som_libimage.specs.Limits.{IsWithinLimits}
 use Rattle.som_cliimage.specs.Limits.{IsWithinLimits as ProgramWithin}
-use Rattle.som_sema.specs.Building.{declarations}
 use Rattle.som_elab.specs.PlainLimits.{LimitsKept}
 use Rattle.som_scope.specs.Words.{interfaces_of}
 use Rattle.som_elab.proofs.LimitLaws.{limits_law}
-use Rattle.som_elab.specs.Bodies.{bodies_of, classes_over}
+use Rattle.som_elab.specs.Bodies.{bodies_of, classes_over, drafts_over}
 use Rattle.som_elab.specs.Elaboration.{among_over, elaborated_program, elaborated_release, nothing_before}
 use Rattle.som_elab.proofs.Apart.{ClassesApart, program_apart, release_apart}
 use Rattle.som_compile.proofs.BlocksWithin.{SigsFit, sigs_fit, whole_block_within}
@@ -49,7 +48,7 @@ pub bodies_within : (files : List BodyFile) → AllByRecursion IsShortFile files
 bodies_within files p =
     all_flat IsShortFile IsShort (λ (f : BodyFile). f.bodies) (λ f w. short_bodies w.most w.few f.bodies (recursion_from_All (BodyTextWithin w.most) f.bodies w.within.bodies)) files p
 
-sigs : (m : Module) (base : Interface) (is : List IdlInterface) → AllByRecursion FaceWithin base.classes → AllByRecursion InterfaceWithin is → LimitsKept (declarations m base is) → SigsFit (classes_over m base is)
+sigs : (m : Module) (base : Interface) (is : List IdlInterface) → AllByRecursion FaceWithin base.classes → AllByRecursion InterfaceWithin is → LimitsKept (drafts_over m base is) → SigsFit (classes_over m base is)
 sigs m base is faces within kept =
     sigs_fit (classes_over m base is) (λ c there. All-from_recursion EntryWithin c.decl.face.entries (member_of_all EntriesFit (classes_over m base is) c (entries_fit m base is within kept faces) there))
 
@@ -57,7 +56,7 @@ sigs m base is faces within kept =
 each : (m : Module) (base : Interface) (is : List IdlInterface) (bs : List BodyText) (cs : List ClassDecl) → AllByRecursion FaceWithin base.classes → AllByRecursion InterfaceWithin is → AllByRecursion IsShort bs
     → ClassesApart m base is bs cs → AllByRecursion ClassWithin cs × (length cs ≡ length is)
 each m base is bs cs faces within short apart =
-    let kept = (limits_law (declarations m base is)).0 apart.limits in
+    let kept = (limits_law (drafts_over m base is)).0 apart.limits in
     classes_within m base is within kept (among_over m base is) (sigs m base is faces within kept) bs short cs apart.each
 
 pub release_within : (is : List IdlInterface) (bs : List BodyText) (r : Release) → AllByRecursion InterfaceWithin is → AllByRecursion IsShort bs → elaborated_release is bs ≡ Ok r → IsWithinLimits r
@@ -76,7 +75,7 @@ program_within base is bs main p most counted room faces within short small e =
     let few : length is ≤ MAX_CLIENT_CLASSES = apart.classes.few in
     let all = each modules.Client base is bs p.classes base_faces within short apart.classes in
     let long : length p.classes ≡ length is = all.1 in
-    let kept = (limits_law (declarations modules.Client base is)).0 apart.classes.limits in
+    let kept = (limits_law (drafts_over modules.Client base is)).0 apart.classes.limits in
     record {
       faces = subst (λ (b : Interface). length b.classes ≤ MAX_LIBRARY_CLASSES) (sym apart.over) room;
       each_face = subst (λ (b : Interface). All FaceWithin b.classes) (sym apart.over) faces;

@@ -5,7 +5,7 @@ use Rattle.som_lex.specs.declared.fault.LexFault.{LexFault}
 use Rattle.som_lex.specs.declared.fault.LexFault.TheVariants as lexing
 use Rattle.som_lex.specs.declared.token.Tokens.{Tokens}
 use Rattle.som_lex.specs.Cut.{Stops}
-use Rattle.som_lex.specs.Spans.{AreTokens}
+use Rattle.som_lex.specs.Spans.{AreTokens, offset_of}
 use Rattle.som_read.specs.declared.tree.SyntaxFault.{SyntaxFault}
 use Rattle.som_read.specs.declared.tree.SyntaxFault.TheVariants as parsing
 use Rattle.som_idl.specs.Answer.{IsAnswer}
@@ -24,9 +24,9 @@ use Rattle.som_compile.specs.declared.trees.TextTree.TheVariants as trees
 use Rattle.som_compile.specs.declared.trees.Trees.{Trees}
 use Rattle.som_compile.specs.Sources.{kind_of}
 
--- the text of this name can't be read
-abbrev unread : List ℕ → ReadingFault → Option TextFault
-unread name fault = Some (texts.Unread fault name)
+-- the text of this name can't be read, and this is the byte at which that shows
+abbrev unread : List ℕ → ReadingFault → ℕ → Option TextFault
+unread name fault place = Some (texts.Unread fault name place)
 
 -- a quantity passes its limit
 abbrev passed : List ℕ → ℕ → Option TextFault
@@ -34,20 +34,20 @@ passed quantity number = Some (texts.Limit quantity number)
 
 -- what is told of the first fault of the bytes of a text, by its name; want of memory is no fault of theirs
 abbrev pub lexing_told : List ℕ → LexFault → Option TextFault
-lexing_told name (lexing.BadByte at) = unread name reading.BadByte
-lexing_told name (lexing.OpenText at) = unread name reading.OpenText
-lexing_told name (lexing.OpenComment at) = unread name reading.OpenComment
-lexing_told name (lexing.NumberTooLarge at) = unread name reading.NumberTooLarge
+lexing_told name (lexing.BadByte at) = unread name reading.BadByte at
+lexing_told name (lexing.OpenText at) = unread name reading.OpenText at
+lexing_told name (lexing.OpenComment at) = unread name reading.OpenComment at
+lexing_told name (lexing.NumberTooLarge at) = unread name reading.NumberTooLarge at
 lexing_told name (lexing.NameTooLong at) = passed (codes "name") MAX_NAME
 lexing_told name (lexing.TextTooLong at) = passed (codes "text") MAX_TEXT
 lexing_told name lexing.NoMemory = None
 
--- what is told of the first fault of the tokens of a text
-abbrev pub parsing_told : List ℕ → SyntaxFault → Option TextFault
-parsing_told name (parsing.Syntax token) = unread name reading.Syntax
-parsing_told name (parsing.NotInProfile token) = unread name reading.NotInProfile
-parsing_told name (parsing.Nesting token) = passed (codes "nesting") MAX_NESTING
-parsing_told name parsing.NoMemory = None
+-- what is told of the first fault of the tokens of a text: its place is where the token begins, or the length of the text where it ends too early
+abbrev pub parsing_told : List ℕ → Tokens → SyntaxFault → Option TextFault
+parsing_told name t (parsing.Syntax token) = unread name reading.Syntax (offset_of t token)
+parsing_told name t (parsing.NotInProfile token) = unread name reading.NotInProfile (offset_of t token)
+parsing_told name t (parsing.Nesting token) = passed (codes "nesting") MAX_NESTING
+parsing_told name t parsing.NoMemory = None
 
 -- ---- trees
 
@@ -79,7 +79,7 @@ IsParsed _ t (Ok _) = ⊥
 -- What reading a text comes to: its tree, or its first fault. A fault of its bytes comes before those of its tokens.
 pub data Reads (s : Source) : Result TextTree TextFault → Type 0 where
   no_tokens : (f : LexFault) (w : TextFault) → Stops s.bytes 0 f → lexing_told s.name f ≡ Some w → Reads s (Err w)
-  no_tree : (t : Tokens) (f : SyntaxFault) (w : TextFault) → t.source ≡ s.bytes → AreTokens t → IsParsed (kind_of s.name) t (Err f) → parsing_told s.name f ≡ Some w → Reads s (Err w)
+  no_tree : (t : Tokens) (f : SyntaxFault) (w : TextFault) → t.source ≡ s.bytes → AreTokens t → IsParsed (kind_of s.name) t (Err f) → parsing_told s.name t f ≡ Some w → Reads s (Err w)
   a_tree : (t : Tokens) (f : TextTree) → t.source ≡ s.bytes → AreTokens t → IsParsed (kind_of s.name) t (Ok f) → Reads s (Ok f)
 
 -- What reading texts comes to: the trees of all, or what is wrong with the first that has none.

@@ -12,12 +12,20 @@ pub enum ReadingFault {
     NotInProfile,
 }
 
-/// What is wrong with texts: the text of this name can't be read, they break a rule, or they pass a limit.
+/// What is wrong with texts: the text of this name can't be read from the byte at this place on, they break a rule, or they
+/// pass a limit.
 #[derive(Drop)]
 pub enum TextFault {
-    Unread { fault: ReadingFault, name: Text },
+    Unread {
+        fault: ReadingFault,
+        name: Text,
+        place: usize,
+    },
     Rule(Broken),
-    Limit { quantity: Text, number: u32 },
+    Limit {
+        quantity: Text,
+        number: u32,
+    },
 }
 
 /// Why texts aren't compiled.

@@ -11,11 +11,11 @@ use som_model::{List, MAX_NAME, MAX_NESTING, MAX_TEXT, NoMemory, Text};
 use std::alloc::Global;
 
 // The text of this name can't be read.
-fn unread(alloc: Global, name: &Text, fault: ReadingFault) -> CompileFault
-    ensures { Tells (Some (texts.Unread fault name.now)) result }
+fn unread(alloc: Global, name: &Text, fault: ReadingFault, place: usize) -> CompileFault
+    ensures { Tells (Some (texts.Unread fault name.now place)) result }
 {
     match name.copy(alloc) {
-        Ok(name) => CompileFault::Text(TextFault::Unread { fault, name }),
+        Ok(name) => CompileFault::Text(TextFault::Unread { fault, name, place }),
         Err(NoMemory) => CompileFault::NoMemory,
     }
 }
@@ -35,10 +35,12 @@ fn unlexed(alloc: Global, name: &Text, fault: LexFault) -> CompileFault
     ensures { Tells (lexing_told name.now fault) result }
 {
     match fault {
-        LexFault::BadByte { .. } => unread(alloc, name, ReadingFault::BadByte),
-        LexFault::OpenText { .. } => unread(alloc, name, ReadingFault::OpenText),
-        LexFault::OpenComment { .. } => unread(alloc, name, ReadingFault::OpenComment),
-        LexFault::NumberTooLarge { .. } => unread(alloc, name, ReadingFault::NumberTooLarge),
+        LexFault::BadByte { offset } => unread(alloc, name, ReadingFault::BadByte, offset),
+        LexFault::OpenText { offset } => unread(alloc, name, ReadingFault::OpenText, offset),
+        LexFault::OpenComment { offset } => unread(alloc, name, ReadingFault::OpenComment, offset),
+        LexFault::NumberTooLarge { offset } => {
+            unread(alloc, name, ReadingFault::NumberTooLarge, offset)
+        }
         LexFault::NameTooLong { .. } => passed(alloc, b"name", MAX_NAME),
         LexFault::TextTooLong { .. } => passed(alloc, b"text", MAX_TEXT),
         LexFault::NoMemory => CompileFault::NoMemory,
@@ -46,12 +48,21 @@ fn unlexed(alloc: Global, name: &Text, fault: LexFault) -> CompileFault
 }
 
 // What is told of the tokens of a text.
-fn unparsed(alloc: Global, name: &Text, fault: SyntaxFault) -> CompileFault
-    ensures { Tells (parsing_told name.now fault) result }
+fn unparsed(alloc: Global, name: &Text, tokens: &Tokens, fault: SyntaxFault) -> CompileFault
+    ensures { Tells (parsing_told name.now tokens.now fault) result }
 {
     match fault {
-        SyntaxFault::Syntax { .. } => unread(alloc, name, ReadingFault::Syntax),
-        SyntaxFault::NotInProfile { .. } => unread(alloc, name, ReadingFault::NotInProfile),
+        SyntaxFault::Syntax { token } => {
+            unread(alloc, name, ReadingFault::Syntax, tokens.offset_of(token))
+        }
+        SyntaxFault::NotInProfile { token } => {
+            unread(
+                alloc,
+                name,
+                ReadingFault::NotInProfile,
+                tokens.offset_of(token),
+            )
+        }
         SyntaxFault::Nesting { .. } => passed(alloc, b"nesting", MAX_NESTING),
         SyntaxFault::NoMemory => CompileFault::NoMemory,
     }
@@ -89,7 +100,7 @@ fn read_text(alloc: Global, source: &Source) -> Result<TextTree, CompileFault>
     };
     match parse(alloc, kind_of(&source.name), &tokens) {
         Ok(tree) => Ok(tree),
-        Err(fault) => Err(unparsed(alloc, &source.name, fault)),
+        Err(fault) => Err(unparsed(alloc, &source.name, &tokens, fault)),
     }
 }
 

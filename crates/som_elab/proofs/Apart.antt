@@ -27,6 +27,7 @@ use Rattle.som_body.specs.declared.tree.BodyText.{BodyText}
 use Rattle.som_body.specs.declared.tree.BlockText.{BlockText}
 use Rattle.som_scope.specs.Words.{words}
 use Rattle.som_sema.specs.Drafts.{InterfaceDraft}
+use Rattle.som_sema.specs.Finished.{selects_at}
 use Rattle.som_sema.specs.Building.{declarations, most_classes, texts_breach}
 use Rattle.som_elab.specs.Accessors.{body_of}
 use Rattle.som_elab.specs.Limits.{Passed, limit_passed}
@@ -162,15 +163,15 @@ overrides_apart a bs c (o ∷ os) others e =
 pub record ClassApart (a : Among) (m : Module) (bs : List BodyText) (d : InterfaceDraft) (c : ClassDecl) : Type 0 where
   pub own : List Body
   pub others : List Override
-  pub is : c ≡ with_blocks d.class own others
+  pub is : c ≡ with_blocks d.class own others (selects_at a.classes (class_in m d.class).key d)
   pub bodies : entry_bodies a bs d (class_in m d.class) d.class.face.entries ≡ Ok own
   pub overrides : override_blocks a bs (class_in m d.class) d.class.overrides ≡ Ok others
 
 pub class_apart : (a : Among) (m : Module) (bs : List BodyText) (d : InterfaceDraft) (c : ClassDecl) → elaborated_class a m bs d ≡ Ok c → ClassApart a m bs d c
 class_apart a m bs d c e =
-    let v = went (entry_bodies a bs d (class_in m d.class) d.class.face.entries) (λ (own : List Body). override_blocks a bs (class_in m d.class) d.class.overrides >>= λ others. Ok (with_blocks d.class own others)) c e in
-    let w = went (override_blocks a bs (class_in m d.class) d.class.overrides) (λ (others : List Override). Ok (with_blocks d.class v.value others)) c v.further in
-    record { own = v.value; others = w.value; is = sym (same_ok {E = Refusal} (with_blocks d.class v.value w.value) c w.further); bodies = v.first; overrides = w.first }
+    let v = went (entry_bodies a bs d (class_in m d.class) d.class.face.entries) (λ (own : List Body). override_blocks a bs (class_in m d.class) d.class.overrides >>= λ others. Ok (with_blocks d.class own others (selects_at a.classes (class_in m d.class).key d))) c e in
+    let w = went (override_blocks a bs (class_in m d.class) d.class.overrides) (λ (others : List Override). Ok (with_blocks d.class v.value others (selects_at a.classes (class_in m d.class).key d))) c v.further in
+    record { own = v.value; others = w.value; is = sym (same_ok {E = Refusal} (with_blocks d.class v.value w.value (selects_at a.classes (class_in m d.class).key d)) c w.further); bodies = v.first; overrides = w.first }
 
 -- the classes, one for each declaration
 pub data EachApart (a : Among) (m : Module) (bs : List BodyText) : List InterfaceDraft → List ClassDecl → Type 0 where
@@ -190,18 +191,18 @@ pub record ClassesApart (m : Module) (base : Interface) (is : List IdlInterface)
   pub few : length is ≤ most_classes m
   pub faces : texts_breach m base is ≡ None
   pub bodies : bodies_breach (classes_over m base is) (drafts_over m base is) bs ≡ None
-  pub limits : limit_passed (declarations m base is) ≡ None
+  pub limits : limit_passed (drafts_over m base is) ≡ None
   pub each : EachApart (among_over m base is) m bs (drafts_over m base is) cs
 
 pub classes_apart : (m : Module) (base : Interface) (is : List IdlInterface) (bs : List BodyText) (cs : List ClassDecl) → elaborated_classes m base is bs ≡ Ok cs → ClassesApart m base is bs cs
 classes_apart m base is bs cs e =
     let each = elaborated_each (among_over m base is) m bs (drafts_over m base is) in
-    let limits = keeping (limit_passed (declarations m base is)) each in
+    let limits = keeping (limit_passed (drafts_over m base is)) each in
     let bodies = obeying (bodies_breach (classes_over m base is) (drafts_over m base is) bs) limits in
     let p = kept (classes_passed m is) (obeying (texts_breach m base is) bodies) cs e in
     let q = obeyed (texts_breach m base is) bodies cs p.1 in
     let r = obeyed (bodies_breach (classes_over m base is) (drafts_over m base is) bs) limits cs q.1 in
-    let s = kept (limit_passed (declarations m base is)) each cs r.1 in
+    let s = kept (limit_passed (drafts_over m base is)) each cs r.1 in
     record { few = few_classes m is p.0; faces = q.0; bodies = r.0; limits = s.0; each = each_apart (among_over m base is) m bs (drafts_over m base is) cs s.1 }
 
 -- ---- whole texts

@@ -24,7 +24,6 @@ use Rattle.som_rules.specs.Places.{class_of_place, with_kernel}
 use Rattle.som_typing.proofs.Facts.{signature_said}
 use Rattle.som_rules.proofs.Finding.{mem_place}
 use Rattle.som_sema.specs.declared.types.Refused.{Refused}
-use Rattle.som_elab.specs.Limits.{class_limits}
 use Rattle.som_elab.proofs.LimitLaws.{limits_law}
 use Rattle.som_forms.specs.declared.fault.BodyFault.{BodyFault}
 use Rattle.som_forms.specs.declared.fault.BodyFault.TheVariants as faults
@@ -54,11 +53,6 @@ module _ (a : Among) (c : Class) (name : List ℕ) (sig : Sig) where
   one_text (x ∷ l) b r e t = let same : b ≡ x = cc in subst (λ (z : BodyText). Answers (refused_at c.decl.face.name name (elaborated_body a c sig z)) r) same t
 
 -- ---- what must hold
-
-pub fits_within : (d : ClassDecl) → first (class_limits d) ≡ None → (length d.variables ≤ MAX_VARIABLES) × (length d.face.parents ≤ MAX_PARENTS)
-fits_within d e =
-    let kept = (limits_law (d ∷ [])).0 (ap first (append-nil (class_limits d)) ∙ e) in
-    (kept.variables d (inl refl), kept.parents d (inl refl))
 
 past_kernel : (cs : List Class) (place : ℕ) → IsDeclared (with_kernel cs) place → Mem (class_of_place (with_kernel cs) place) cs
 past_kernel cs place d =

@@ -14,6 +14,7 @@ use Rattle.som_model.specs.declared.class.Override.{Override}
 use Rattle.som_model.specs.declared.class.Body.{Body}
 use Rattle.som_model.specs.declared.class.Body.TheVariants as bodies
 use Rattle.som_model.specs.declared.class.ClassDecl.{ClassDecl}
+use Rattle.som_model.specs.declared.class.Select.{Select}
 use Rattle.som_model.specs.declared.class.Variable.{Variable}
 use Rattle.som_model.specs.declared.program.Interface.{Interface}
 use Rattle.som_model.specs.Lists.{Mem, doubles, first}
@@ -32,6 +33,7 @@ use Rattle.som_rules.specs.Plainly.{ClassesHold, Fits, a_block, signatures}
 use Rattle.som_elab.specs.Accessors.{Access, accessor_body, body_of}
 use Rattle.som_sema.specs.Building.{after_base, declarations, texts_breach}
 use Rattle.som_sema.specs.Drafts.{InterfaceDraft}
+use Rattle.som_sema.specs.Finished.{selects_at}
 use Rattle.som_scope.specs.Words.{words}
 use Rattle.som_forms.specs.Locals.{kinds_of}
 use Rattle.som_forms.specs.Expressions.{Among}
@@ -51,7 +53,7 @@ refused_ok class member (Ok a) r e = ap Ok (same_answer e)
 refused_ok class member (Err fault) r e = absurd (let z = e in cc)
 
 -- parameters have the types of the signature
-kinds_are : (ws : List Word) (kinds : List ValueType) → length ws ≡ length kinds → kinds_of (parameters ws kinds) ≡ kinds
+pub kinds_are : (ws : List Word) (kinds : List ValueType) → length ws ≡ length kinds → kinds_of (parameters ws kinds) ≡ kinds
 kinds_are [] [] e = refl
 kinds_are [] (k ∷ kinds) e = absurd (omega (arith, e))
 kinds_are (w ∷ ws) [] e = absurd (omega (arith, e))
@@ -213,8 +215,8 @@ methods_kept a bs c (o ∷ os) others h =
         let t = went (text_block a c o.method.name sig (texts_for bs c.decl.face.name o.method.name)) (λ block. Ok (record { method = o.method; block = block })) p k in
         ap emptied (same_answer t.further)
 
-pub same_but_bodies : (m : Module) (d : ClassDecl) (made : List Body) (others : List Override) → map emptied d.overrides ≡ map emptied others → plain (class_in m d) ≡ plain (class_in m (with_blocks d made others))
-same_but_bodies m d made others e = ap (λ (os : List Override). record { key = (class_in m d).key; decl = record { face = d.face; variables = d.variables; bodies = []; overrides = os } }) e
+pub same_but_bodies : (m : Module) (d : ClassDecl) (made : List Body) (others : List Override) (selects : List Select) → map emptied d.overrides ≡ map emptied others → plain (class_in m d) ≡ plain (class_in m (with_blocks d made others selects))
+same_but_bodies m d made others selects e = ap (λ (os : List Override). record { key = (class_in m d).key; decl = record { face = d.face; variables = d.variables; bodies = []; overrides = os; selects = [] } }) e
 
 -- a class with its bodies and blocks
 pub record ClassStands (all : List Class) (m : Module) (c : ClassDecl) : Type 0 where
@@ -234,10 +236,10 @@ module _ (m : Module) (base : Interface) (is : List IdlInterface) (bs : List Bod
       let a = among_over m base is in
       let d = own m base is i in
       let c = class_in m d.class in
-      let x = went (entry_bodies a bs d c d.class.face.entries) (λ made. override_blocks a bs c d.class.overrides >>= λ others. Ok (with_blocks d.class made others)) c2 h in
-      let y = went (override_blocks a bs c d.class.overrides) (λ others. Ok (with_blocks d.class x.value others)) c2 x.further in
-      let same = same_but_bodies m d.class x.value y.value (methods_kept a bs c d.class.overrides y.value y.first) in
-      let c3 = class_in m (with_blocks d.class x.value y.value) in
+      let x = went (entry_bodies a bs d c d.class.face.entries) (λ made. override_blocks a bs c d.class.overrides >>= λ others. Ok (with_blocks d.class made others (selects_at a.classes c.key d))) c2 h in
+      let y = went (override_blocks a bs c d.class.overrides) (λ others. Ok (with_blocks d.class x.value others (selects_at a.classes c.key d))) c2 x.further in
+      let same = same_but_bodies m d.class x.value y.value (selects_at a.classes c.key d) (methods_kept a bs c d.class.overrides y.value y.first) in
+      let c3 = class_in m (with_blocks d.class x.value y.value (selects_at a.classes c.key d)) in
       let own_bodies = entries_stand m base is bs holds rules s13 all facts signed i there c3 same d.class.face.entries x.value (λ name sig way k. k) x.first in
       let blocks = overrides_stand m base is bs holds rules s13 all facts signed i there c3 same d.class.overrides y.value (λ o k. k) y.first in
       subst (ClassStands all m) (same_answer y.further) (record {

@@ -31,29 +31,9 @@ use Rattle.som_elab.specs.Contexts.{class_steps, each_steps, main_block, signed_
 use Rattle.som_elab.proofs.Gathering.{after, after_none, ends, gathers, goes, refuses, skips, stops, with_more}
 
 module _ (a : Among) (bs : List BodyText) where
-  -- ---- one class
+  -- ---- entries
 
   module _ (d : InterfaceDraft) (c : Class) where
-    abbrev then_overrides : List Body → Result ClassBodies Refusal
-    then_overrides own = override_blocks a bs c d.class.overrides >>= λ others. Ok (record { bodies = own; overrides = others })
-
-    pub entries_refused : (e : Refused) → Answers {A = List Body} (entry_bodies a bs d c d.class.face.entries) (Err e) → Answers {A = ClassBodies} (class_steps a bs d c) (Err e)
-    entries_refused e t = stops (entry_bodies a bs d c d.class.face.entries) then_overrides e t
-
-    pub overrides_refused : (own : List Body) (e : Refused) → entry_bodies a bs d c d.class.face.entries ≡ Ok own → Answers {A = List Override} (override_blocks a bs c d.class.overrides) (Err e)
-        → Answers {A = ClassBodies} (class_steps a bs d c) (Err e)
-    overrides_refused own e made t =
-        goes (entry_bodies a bs d c d.class.face.entries) then_overrides own (Err e) made
-        (stops (override_blocks a bs c d.class.overrides) (λ others. let b : ClassBodies = record { bodies = own; overrides = others } in Ok b) e t)
-
-    pub class_made : (own : List Body) (others : List Override) → entry_bodies a bs d c d.class.face.entries ≡ Ok own → override_blocks a bs c d.class.overrides ≡ Ok others
-        → class_steps a bs d c ≡ Ok (record { bodies = own; overrides = others })
-    class_made own others e f =
-        ap (λ (z : Result (List Body) Refusal). z >>= then_overrides) e
-        ∙ ap (λ (z : Result (List Override) Refusal). z >>= λ others. let b : ClassBodies = record { bodies = own; overrides = others } in Ok b) f
-
-    -- ---- entries
-
     module _ (es : List Entry) (i : ℕ) (x : Entry) (lt : i < length es) (is : x ≡ get_or es i x) (done : List Body) (so : after done (entry_bodies a bs d c (drop i es)) ≡ entry_bodies a bs d c es) where
       pub moved_next : (name : List ℕ) (to : ClassKey) → x ≡ entries.Moved name to → after done (entry_bodies a bs d c (drop (i + 1) es)) ≡ entry_bodies a bs d c es
       moved_next name to form = skips (entry_bodies a bs d c) es i x lt is (entry_bodies a bs d c es) done (λ ys. ap (λ (z : Entry). entry_bodies a bs d c (z ∷ ys)) form) so
@@ -138,22 +118,3 @@ module _ (a : Among) (bs : List BodyText) where
 
     pub classes_start : (ds : List Draft) → after [] (each_of ds) ≡ each_of ds
     classes_start ds = after_none (each_of ds)
-
-    -- ---- and main
-
-    module _ (ds : List InterfaceDraft) (main : Option BlockText) where
-      abbrev then_main : List ClassBodies → Result AllBodies Refusal
-      then_main cs = main_block a main >>= λ block. Ok (record { classes = cs; main = block })
-
-      pub classes_refused : (e : Refused) → Answers {A = List ClassBodies} (each_steps a m bs ds) (Err e) → Answers {A = AllBodies} (module_steps a m bs ds main) (Err e)
-      classes_refused e t = stops (each_steps a m bs ds) then_main e t
-
-      pub main_refused : (cs : List ClassBodies) (e : Refused) → each_steps a m bs ds ≡ Ok cs → Answers {A = Block} (main_block a main) (Err e) → Answers {A = AllBodies} (module_steps a m bs ds main) (Err e)
-      main_refused cs e made t =
-          goes (each_steps a m bs ds) then_main cs (Err e) made
-          (stops (main_block a main) (λ block. let w : AllBodies = record { classes = cs; main = block } in Ok w) e t)
-
-      pub module_made : (cs : List ClassBodies) (block : Block) → each_steps a m bs ds ≡ Ok cs → main_block a main ≡ Ok block → module_steps a m bs ds main ≡ Ok (record { classes = cs; main = block })
-      module_made cs block e f =
-          ap (λ (z : Result (List ClassBodies) Refusal). z >>= then_main) e
-          ∙ ap (λ (z : Result Block Refusal). z >>= λ block. let w : AllBodies = record { classes = cs; main = block } in Ok w) f

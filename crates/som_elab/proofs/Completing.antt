@@ -4,12 +4,14 @@ use Rattle.std.specs.Borrow.{Bor}
 use Rattle.som_model.specs.declared.class.Body.{Body}
 use Rattle.som_model.specs.declared.class.Override.{Override}
 use Rattle.som_model.specs.declared.class.ClassDecl.{ClassDecl}
+use Rattle.som_model.specs.declared.class.Select.{Select}
 use Rattle.som_model.specs.declared.key.Module.{Module}
 use Rattle.som_model.specs.Class.{class_in}
 use Rattle.som_model.specs.Steps.{◌>>=◌}
 use Rattle.som_idl.specs.declared.tree.IdlInterface.{IdlInterface}
 use Rattle.som_body.specs.declared.tree.BodyText.{BodyText}
 use Rattle.som_sema.specs.Drafts.{InterfaceDraft, plain_drafts}
+use Rattle.som_sema.specs.Finished.{selects_at}
 use Rattle.som_sema.specs.declared.drafts.Draft.{Draft}
 use Rattle.som_scope.specs.Words.{lent}
 use Rattle.som_elab.specs.declared.class_bodies.ClassBodies.{ClassBodies}
@@ -37,7 +39,7 @@ passed p = (p.0, p.1)
 
 -- the class that they make
 abbrev pub filled : Draft × ClassBodies → ClassDecl
-filled p = with_blocks p.0.decl p.1.bodies p.1.overrides
+filled p = with_blocks p.0.decl p.1.bodies p.1.overrides p.1.selects
 
 pub filled_completed : (ds : List Draft) (bs : List ClassBodies) → map filled (zip ds bs) ≡ completed (plain_drafts ds) bs
 filled_completed [] bs = refl
@@ -47,14 +49,14 @@ filled_completed (d ∷ ds) (b ∷ bs) = ap (λ z. filled (d, b) ∷ z) (filled_
 -- ---- bodies of all classes, and then the classes
 
 abbrev class_of_bodies : InterfaceDraft → ClassBodies → ClassDecl
-class_of_bodies d b = with_blocks d.class b.bodies b.overrides
+class_of_bodies d b = with_blocks d.class b.bodies b.overrides b.selects
 
-class_by : (d : InterfaceDraft) (r : Result (List Body) Refusal) (s : Result (List Override) Refusal)
-    → (r >>= λ own. s >>= λ others. Ok (with_blocks d.class own others))
-    ≡ ((r >>= λ own. s >>= λ others. let made : ClassBodies = record { bodies = own; overrides = others } in Ok made) >>= λ b. Ok (class_of_bodies d b))
-class_by d (Ok own) (Ok others) = refl
-class_by d (Ok own) (Err e) = refl
-class_by d (Err e) s = refl
+class_by : (d : InterfaceDraft) (selects : List Select) (r : Result (List Body) Refusal) (s : Result (List Override) Refusal)
+    → (r >>= λ own. s >>= λ others. Ok (with_blocks d.class own others selects))
+    ≡ ((r >>= λ own. s >>= λ others. let made : ClassBodies = record { bodies = own; overrides = others; selects = selects } in Ok made) >>= λ b. Ok (class_of_bodies d b))
+class_by d selects (Ok own) (Ok others) = refl
+class_by d selects (Ok own) (Err e) = refl
+class_by d selects (Err e) s = refl
 
 more_by : (d : InterfaceDraft) (ds : List InterfaceDraft) (r : Result ClassBodies Refusal) (s : Result (List ClassBodies) Refusal)
     → ((r >>= λ b. Ok (class_of_bodies d b)) >>= λ c. (s >>= λ bs. Ok (completed ds bs)) >>= λ cs. Ok (c ∷ cs))
@@ -67,6 +69,6 @@ pub each_completed : (a : Among) (m : Module) (bs : List BodyText) (ds : List In
 each_completed a m bs [] = refl
 each_completed a m bs (d ∷ ds) =
     ap (λ (z : Result ClassDecl Refusal). z >>= λ c. elaborated_each a m bs ds >>= λ cs. Ok (c ∷ cs))
-    (class_by d (entry_bodies a bs d (class_in m d.class) d.class.face.entries) (override_blocks a bs (class_in m d.class) d.class.overrides))
+    (class_by d (selects_at a.classes (class_in m d.class).key d) (entry_bodies a bs d (class_in m d.class) d.class.face.entries) (override_blocks a bs (class_in m d.class) d.class.overrides))
     ∙ ap (λ (z : Result (List ClassDecl) Refusal). (class_steps a bs d (class_in m d.class) >>= λ b. Ok (class_of_bodies d b)) >>= λ c. z >>= λ cs. Ok (c ∷ cs)) (each_completed a m bs ds)
     ∙ more_by d ds (class_steps a bs d (class_in m d.class)) (each_steps a m bs ds)

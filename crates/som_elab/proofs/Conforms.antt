@@ -4,6 +4,8 @@ use Rattle.som_model.specs.declared.key.Module.{Module}
 use Rattle.som_model.specs.declared.key.Module.TheVariants as modules
 use Rattle.som_model.specs.declared.class.ClassDecl.{ClassDecl}
 use Rattle.som_model.specs.declared.class.ClassFace.{ClassFace}
+use Rattle.som_model.specs.declared.class.Override.{Override}
+use Rattle.som_model.specs.declared.class.Select.{Select}
 use Rattle.som_model.specs.declared.program.ClientProgram.{ClientProgram}
 use Rattle.som_model.specs.declared.program.Interface.{Interface}
 use Rattle.som_model.specs.declared.program.Release.{Release}
@@ -24,25 +26,26 @@ use Rattle.som_body.specs.declared.tree.BodyText.{BodyText}
 use Rattle.som_rules.specs.Faces.{faces_breach}
 use Rattle.som_rules.specs.Modules.{AreDeclared}
 use Rattle.som_rules.specs.Places.{with_kernel}
-use Rattle.som_rules.specs.Plainly.{BodiesFit, ClassesHold, Fits, TypesKnown}
+use Rattle.som_rules.specs.Plainly.{BodiesFit, ClassesHold, Fits, SelectsInherited, TypesKnown}
 use Rattle.som_rules.proofs.Before.{both_none, none_both}
 use Rattle.som_rules.proofs.DeclaredClasses.{faces_declared, long_map, map_declared}
 use Rattle.som_rules.proofs.PlainFaces.{classes_say, or_none}
 use Rattle.som_rules.proofs.PlainLists.{map_mem, says_each}
 use Rattle.som_rules.proofs.PlainMembers.{types_say}
 use Rattle.som_rules.proofs.PlainWhole.{say_program, say_rules}
-use Rattle.som_sema.specs.Building.{after_base, declarations, texts_breach}
+use Rattle.som_sema.specs.Building.{after_base, declarations, module_over, texts_breach}
 use Rattle.som_elab.specs.Limits.{Passed, limit_passed}
-use Rattle.som_sema.specs.Drafts.{InterfaceDraft, draft_classes}
-use Rattle.som_sema.proofs.TextsConform.{texts_conform}
+use Rattle.som_sema.specs.Drafts.{InterfaceDraft, draft_classes, draft_of}
+use Rattle.som_sema.specs.Finished.{declare_selecting, selects_at}
+use Rattle.som_sema.proofs.TextsConform.{texts_conform, texts_select}
 use Rattle.som_forms.specs.Expressions.{Among}
 use Rattle.som_forms.specs.Statements.{elaborated_block}
 use Rattle.som_elab.specs.Bodies.{bodies_breach, classes_over, drafts_over, text_s13, text_s14}
 use Rattle.som_elab.specs.Elaboration.{Refusal, among_over, classes_passed, elaborated_class, elaborated_classes, elaborated_each, elaborated_main, elaborated_program, elaborated_release, entry_bodies, keeping, nothing_before, obeying, override_blocks, with_blocks}
 use Rattle.som_elab.proofs.ClassBodies.{ClassStands, class_stands, methods_kept, refused_ok, same_but_bodies}
 use Rattle.som_elab.proofs.Declared.{drafts_are, draft_classes_are, own}
-use Rattle.som_elab.proofs.Plain.{facts_other, plain, sig_other}
-use Rattle.som_elab.proofs.PlainRules.{classes_other, types_other}
+use Rattle.som_elab.proofs.Plain.{facts_other, plain, selecting, sig_other}
+use Rattle.som_elab.proofs.PlainRules.{classes_other, selects_other, types_other}
 use Rattle.som_forms.proofs.TypedBodies.{text_typed}
 use Rattle.som_forms.proofs.Went.{same_answer, went}
 
@@ -68,9 +71,9 @@ module _ (a : Among) (m : Module) (bs : List BodyText) where
   class_same : (d : InterfaceDraft) (c : ClassDecl) → elaborated_class a m bs d ≡ Ok c → plain (class_in m d.class) ≡ plain (class_in m c)
   class_same d c h =
       let here = class_in m d.class in
-      let x = went (entry_bodies a bs d here d.class.face.entries) (λ made. override_blocks a bs here d.class.overrides >>= λ others. Ok (with_blocks d.class made others)) c h in
-      let y = went (override_blocks a bs here d.class.overrides) (λ others. Ok (with_blocks d.class x.value others)) c x.further in
-      same_but_bodies m d.class x.value y.value (methods_kept a bs here d.class.overrides y.value y.first)
+      let x = went (entry_bodies a bs d here d.class.face.entries) (λ made. override_blocks a bs here d.class.overrides >>= λ others. Ok (with_blocks d.class made others (selects_at a.classes here.key d))) c h in
+      let y = went (override_blocks a bs here d.class.overrides) (λ others. Ok (with_blocks d.class x.value others (selects_at a.classes here.key d))) c x.further in
+      same_but_bodies m d.class x.value y.value (selects_at a.classes here.key d) (methods_kept a bs here d.class.overrides y.value y.first)
       ∙ ap (λ (z : ClassDecl). plain (class_in m z)) (same_answer y.further)
 
   each_same : (ds : List InterfaceDraft) (cs : List ClassDecl) → elaborated_each a m bs ds ≡ Ok cs → map plain (map (class_in m) (draft_classes ds)) ≡ map plain (map (class_in m) cs)
@@ -81,6 +84,18 @@ module _ (a : Among) (m : Module) (bs : List BodyText) where
       ap (λ z. z ∷ map plain (map (class_in m) (draft_classes ds))) (class_same d x.value x.first)
       ∙ ap (λ z. plain (class_in m x.value) ∷ z) (each_same ds y.value y.first)
       ∙ ap (λ (z : List ClassDecl). map plain (map (class_in m) z)) (same_answer y.further)
+
+  -- the same with what texts select
+  module _ (fill : IdlInterface → ClassDecl) (of_text : IdlInterface → InterfaceDraft)
+      (fills : (i : IdlInterface) (c : ClassDecl) → elaborated_class a m bs (of_text i) ≡ Ok c → selecting (class_in m (fill i)) ≡ selecting (class_in m c)) where
+    each_selecting : (is : List IdlInterface) (cs : List ClassDecl) → elaborated_each a m bs (map of_text is) ≡ Ok cs → map selecting (map (class_in m) (map fill is)) ≡ map selecting (map (class_in m) cs)
+    each_selecting [] cs h = ap (λ (z : List ClassDecl). map selecting (map (class_in m) z)) (same_answer h)
+    each_selecting (i ∷ is) cs h =
+        let x = went (elaborated_class a m bs (of_text i)) (λ c. elaborated_each a m bs (map of_text is) >>= λ cs. Ok (c ∷ cs)) cs h in
+        let y = went (elaborated_each a m bs (map of_text is)) (λ cs. Ok (x.value ∷ cs)) cs x.further in
+        ap (λ z. z ∷ map selecting (map (class_in m) (map fill is))) (fills i x.value x.first)
+        ∙ ap (λ z. selecting (class_in m x.value) ∷ z) (each_selecting is y.value y.first)
+        ∙ ap (λ (z : List ClassDecl). map selecting (map (class_in m) z)) (same_answer y.further)
 
   of_draft : (ds : List InterfaceDraft) (cs : List ClassDecl) → elaborated_each a m bs ds ≡ Ok cs → (c : ClassDecl) → Mem c cs → (d : InterfaceDraft) × Mem d ds × (elaborated_class a m bs d ≡ Ok c)
   of_draft [] cs h c n = absurd (subst (λ (z : List ClassDecl). Mem c z) (sym (same_answer h)) n)
@@ -123,15 +138,15 @@ module _ (m : Module) (base : Interface) (is : List IdlInterface) (conforms : fa
   abbrev types_breach : List Class → Option RuleBreach
   types_breach rest = first (flat_map (s5 (kernel ++ take (length base.classes) after)) (take (length base.classes) after) ++ flat_map (s5 (kernel ++ after)) rest)
 
-  record DeclarationsHold : Type 0 where
-    classes : ClassesHold after
-    base_types : TypesKnown (with_kernel before) before
-    own_types : TypesKnown (with_kernel after) done
+  pub record DeclarationsHold : Type 0 where
+    pub classes : ClassesHold after
+    pub base_types : TypesKnown (with_kernel before) before
+    pub own_types : TypesKnown (with_kernel after) done
 
   rest_is : drop (length base.classes) after ≡ done
   rest_is = ap (λ n. drop n after) (sym (long_map (λ (f : ClassFace). class_in modules.Library (bare f)) base.classes)) ∙ drop_front before done
 
-  declarations_hold : DeclarationsHold
+  pub declarations_hold : DeclarationsHold
   declarations_hold =
       let e = texts_conform m base is conforms rules in
       let p = or_none (first_of_names kernel after) (or_else (types_breach (drop (length base.classes) after)) (first_of_members kernel after)) e in
@@ -156,6 +171,41 @@ module _ (m : Module) (base : Interface) (is : List IdlInterface) (conforms : fa
     after_same : map plain after ≡ map plain finished
     after_same = map_both plain before done ∙ ap (λ z. map plain before ++ z) own_same ∙ sym (map_both plain before (map (class_in m) cs))
 
+    -- ---- what texts select
+
+    abbrev selects_of : InterfaceDraft → List Select
+    selects_of d = selects_at (classes_over m base is) (class_in m d.class).key d
+
+    abbrev fill : IdlInterface → ClassDecl
+    fill i = record (own m base is i).class { selects = selects_of (own m base is i) }
+
+    fills : (i : IdlInterface) (c : ClassDecl) → elaborated_class (among_over m base is) m bs (own m base is i) ≡ Ok c → selecting (class_in m (fill i)) ≡ selecting (class_in m c)
+    fills i c h =
+        let a = among_over m base is in
+        let d = own m base is i in
+        let here = class_in m d.class in
+        let x = went (entry_bodies a bs d here d.class.face.entries) (λ made. override_blocks a bs here d.class.overrides >>= λ others. Ok (with_blocks d.class made others (selects_of d))) c h in
+        let y = went (override_blocks a bs here d.class.overrides) (λ others. Ok (with_blocks d.class x.value others (selects_of d))) c x.further in
+        ap (λ (os : List Override). let z : Class = record { key = here.key; decl = record { face = d.class.face; variables = d.class.variables; bodies = []; overrides = os; selects = selects_of d } } in z)
+        (methods_kept a bs here d.class.overrides y.value y.first)
+        ∙ ap (λ (z : ClassDecl). selecting (class_in m z)) (same_answer y.further)
+
+    abbrev texts_known : List Class
+    texts_known = with_kernel (after_base m before (draft_classes (map (draft_of (module_over m base is)) is)))
+
+    fill_all : (ks : List IdlInterface) → map (declare_selecting texts_known (classes_over m base is) m) (map (draft_of (module_over m base is)) ks) ≡ map fill ks
+    fill_all [] = refl
+    fill_all (i ∷ ks) = ap (λ z. fill i ∷ z) (fill_all ks)
+
+    finished_selects : SelectsInherited finished
+    finished_selects =
+        let made_own = subst (λ (z : List InterfaceDraft). elaborated_each (among_over m base is) m bs z ≡ Ok cs) (drafts_are m base is) made in
+        let own_full = map (class_in m) (map fill is) in
+        let same = map_both selecting before own_full ∙ ap (λ z. map selecting before ++ z) (each_selecting (among_over m base is) m bs fill (own m base is) fills is cs made_own)
+        ∙ sym (map_both selecting before (map (class_in m) cs)) in
+        selects_other (before ++ own_full) finished same
+        (subst (λ (z : List ClassDecl). SelectsInherited (before ++ map (class_in m) z)) (fill_all is) (texts_select m base is conforms rules))
+
     all_same : map plain (with_kernel after) ≡ map plain (with_kernel finished)
     all_same = ap (λ z. map plain kernel ++ z) after_same
 
@@ -174,7 +224,7 @@ module _ (m : Module) (base : Interface) (is : List IdlInterface) (conforms : fa
 
     module_stands : Stand m base is cs
     module_stands = record {
-      classes = classes_other after finished after_same declarations_hold.classes;
+      classes = classes_other after finished after_same finished_selects declarations_hold.classes;
       base_types = declarations_hold.base_types;
       own_types = types_other (with_kernel after) (with_kernel finished) done (map (class_in m) cs) all_same own_same declarations_hold.own_types;
       bodies = record {
@@ -195,12 +245,12 @@ all_stand : (m : Module) (base : Interface) (is : List IdlInterface) (bs : List 
 all_stand m base is bs cs conforms h =
     let made = elaborated_each (among_over m base is) m bs (drafts_over m base is) in
     let bodies = bodies_breach (classes_over m base is) (drafts_over m base is) bs in
-    let limited = keeping (limit_passed (declarations m base is)) made in
+    let limited = keeping (limit_passed (drafts_over m base is)) made in
     let p = kept (classes_passed m is) (obeying (texts_breach m base is) (obeying bodies limited)) cs h in
     let q = obeyed (texts_breach m base is) (obeying bodies limited) cs p in
     let r = obeyed bodies limited cs q.1 in
     let s = or_none (first (flat_map (text_s13 (classes_over m base is) (drafts_over m base is)) bs)) (first (flat_map (text_s14 bs) (drafts_over m base is))) r.0 in
-    module_stands m base is conforms q.0 bs s.0 cs (kept (limit_passed (declarations m base is)) made cs r.1)
+    module_stands m base is conforms q.0 bs s.0 cs (kept (limit_passed (drafts_over m base is)) made cs r.1)
 
 -- ---- releases
 

@@ -1,5 +1,5 @@
 -- The own classes among all classes.
-use Rattle.std.proofs.Common.{◌≡◌, ℕ, zero, suc, ◌+◌, ◌-◌, ◌<◌, inl, inr, List, [], ◌∷◌, ◌++◌, length, map, take, drop, flat_map, get_or, slice_index_or, None, refl, sym, ap, ◌∙◌, subst, arith, length-append}
+use Rattle.std.proofs.Common.{◌≡◌, ℕ, zero, suc, ◌+◌, ◌-◌, ◌<◌, ◌≤◌, inl, inr, List, [], ◌∷◌, ◌++◌, length, map, take, drop, flat_map, get_or, slice_index_or, Some, None, refl, sym, ap, ◌∙◌, subst, arith, length-append}
 use Rattle.som_model.specs.declared.key.Module.{Module}
 use Rattle.som_model.specs.declared.class.Entry.TheVariants as entries
 use Rattle.som_model.specs.declared.class.ClassDecl.{ClassDecl}
@@ -24,10 +24,13 @@ use Rattle.som_rules.proofs.Owners.{flat_none}
 use Rattle.som_rules.proofs.PlainFaces.{or_none}
 use Rattle.som_rules.proofs.PlainLists.{map_mem, mem_map}
 use Rattle.som_rules.proofs.PlainMembers.{types_say}
-use Rattle.som_elab.specs.Limits.{class_limits, limit_passed}
+use Rattle.som_elab.specs.Limits.{class_limits, entry_limits, limit_passed}
 use Rattle.som_sema.specs.Drafts.{InterfaceDraft, plain_drafts, plain_draft, draft_classes}
+use Rattle.som_sema.specs.Items.{or_object}
 use Rattle.som_sema.specs.declared.drafts.Draft.{Draft}
-use Rattle.som_elab.proofs.LimitLaws.{limits_law}
+use Rattle.som_elab.proofs.LimitLaws.{few_parameters, few_parents, few_variables, limits_law}
+use Rattle.som_forms.specs.Code.{ClassFits}
+use Rattle.som_model.specs.declared.limits.TheConstants.{MAX_PARENTS, MAX_VARIABLES}
 use Rattle.som_elab.specs.declared.contexts.ModuleContext.{ModuleContext}
 use Rattle.som_elab.specs.Contexts.{FewParameters, IsUnlimitedContext, StandAfterOthers, IsModuleContext}
 
@@ -59,20 +62,19 @@ module _ (cs : List Class) (n : ℕ) (rules : classes_breach n cs ≡ None) wher
 
 -- ---- and have few parameters
 
-abbrev decl_of : Class → ClassDecl
-decl_of c = c.decl
-
 kernel_few : FewParameters kernel
 kernel_few = record {
-  by = λ c name sig way m k. ((limits_law (map decl_of kernel)).0 refl).parameters c.decl name sig way (mem_map decl_of c kernel m) k;
+  by = λ c name sig way m k. few_parameters c.decl.face.entries (flat_none (λ (c : Class). flat_map entry_limits c.decl.face.entries) kernel c refl m) name sig way k;
 }
 
-own_few : (m : Module) (ds : List ClassDecl) → limit_passed ds ≡ None → FewParameters (map (class_in m) ds)
+own_few : (m : Module) (ds : List InterfaceDraft) → limit_passed ds ≡ None → FewParameters (map (class_in m) (draft_classes ds))
 own_few m ds e = record {
   by = λ c name sig way k n.
-      let r = map_mem (class_in m) c ds k in
+      (let r = map_mem (class_in m) c (draft_classes ds) k in
+      let s = map_mem (λ (d : InterfaceDraft). d.class) r.0 ds r.1 in
       let kept = (limits_law ds).0 e in
-      kept.parameters r.0 name sig way r.1 (subst (λ (z : Class). Mem (entries.Introduced name sig way) z.decl.face.entries) r.2 n);
+      kept.parameters s.0 name sig way s.1
+      (subst (λ (z : ClassDecl). Mem (entries.Introduced name sig way) z.face.entries) s.2 (subst (λ (z : Class). Mem (entries.Introduced name sig way) z.decl.face.entries) r.2 n)));
 }
 
 both_few : (xs ys : List Class) → FewParameters xs → FewParameters ys → FewParameters (xs ++ ys)
@@ -83,10 +85,10 @@ both_few xs ys f g = record {
   ];
 }
 
-pub all_few : (m : Module) (cs : List Class) (ds : List InterfaceDraft) → StandAfterOthers m cs ds → limit_passed (draft_classes ds) ≡ None → FewParameters (with_kernel cs)
+pub all_few : (m : Module) (cs : List Class) (ds : List InterfaceDraft) → StandAfterOthers m cs ds → limit_passed ds ≡ None → FewParameters (with_kernel cs)
 all_few m cs ds f e =
     both_few kernel cs kernel_few
-    (subst FewParameters (sym f.are) (both_few f.front (map (class_in m) (draft_classes ds)) f.few (own_few m (draft_classes ds) e)))
+    (subst FewParameters (sym f.are) (both_few f.front (map (class_in m) (draft_classes ds)) f.few (own_few m ds e)))
 
 -- ---- where the own classes stand
 
@@ -120,15 +122,25 @@ module _ (m : Module) (cs : List Class) (ds : List Draft) (f : StandAfterOthers 
       ∙ past_front f.front (map (class_in m) (draft_classes (plain_drafts ds))) i
       ∙ own_at m ds i d lt is
 
--- a class of these passes no limit
-pub own_within : (ds : List Draft) (i : ℕ) (d : Draft) → i < length ds → d ≡ get_or ds i d → limit_passed (draft_classes (plain_drafts ds)) ≡ None → first (class_limits d.decl) ≡ None
-own_within ds i d lt is e =
-    flat_none class_limits (draft_classes (plain_drafts ds)) d.decl e
-    (mem_map (λ (z : InterfaceDraft). z.class) (plain_draft d) (plain_drafts ds) (mem_map plain_draft d ds (item_mem ds i d lt is)))
+-- a class of these passes no limit, and so its variables and parents have places of one byte
+pub own_within : (ds : List Draft) (i : ℕ) (d : Draft) → i < length ds → d ≡ get_or ds i d → limit_passed (plain_drafts ds) ≡ None → first (class_limits (plain_draft d)) ≡ None
+own_within ds i d lt is e = flat_none class_limits (plain_drafts ds) (plain_draft d) e (mem_map plain_draft d ds (item_mem ds i d lt is))
+
+pub own_fits : (cs : List Class) (m : Module) (ds : List Draft) (i : ℕ) (d : Draft) (place : ℕ) → i < length ds → d ≡ get_or ds i d → limit_passed (plain_drafts ds) ≡ None → class_of_place cs place ≡ class_in m d.decl → ClassFits cs (Some place)
+own_fits cs m ds i d place lt is e at =
+    let within = own_within ds i d lt is e in
+    subst (λ (c : Class). (length c.decl.variables ≤ MAX_VARIABLES) × (length c.decl.face.parents ≤ MAX_PARENTS)) (sym at) (few_variables (plain_draft d) within, few_parents (plain_draft d) within)
+
+pub parents_fit : (m : Module) (cs : List Class) (ds : List Draft) → StandAfterOthers m cs (plain_drafts ds) → (i : ℕ) (d : Draft) → i < length ds → d ≡ get_or ds i d → limit_passed (plain_drafts ds) ≡ None
+    → length (or_object d.text.now.parents) ≤ 255
+parents_fit m cs ds f i d lt is e =
+    let few = few_parents (plain_draft d) (own_within ds i d lt is e) in
+    let same = f.parents.by (plain_draft d) (mem_map plain_draft d ds (item_mem ds i d lt is)) in
+    omega (arith, few, same)
 
 -- ---- what is known within the limits
 
-pub within_context : (g : ModuleContext) (ds : List InterfaceDraft) → IsUnlimitedContext g ds → limit_passed (draft_classes ds) ≡ None → IsModuleContext g
+pub within_context : (g : ModuleContext) (ds : List InterfaceDraft) → IsUnlimitedContext g ds → limit_passed ds ≡ None → IsModuleContext g
 within_context g ds b e = record { known = b.known; signatures = b.signatures; few = all_few g.scope.now.module (classes_of g.known.classes.now) ds b.stand e }
 
 pub basis_of : (g : ModuleContext) (cs : List Declared) (n : ℕ) (ds : List InterfaceDraft) → IsKnowledge g.known → g.known.classes.now ≡ cs → classes_breach n (classes_of cs) ≡ None → StandAfterOthers g.scope.now.module (classes_of cs) ds → IsUnlimitedContext g ds

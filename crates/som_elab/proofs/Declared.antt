@@ -30,13 +30,15 @@ use Rattle.som_rules.proofs.PlainLists.{differ_apart, map_mem, mem_map}
 use Rattle.som_rules.proofs.PlainMembers.{variables_say}
 use Rattle.som_rules.proofs.PlainMoves.{flat_mem, mem_flat}
 use Rattle.som_elab.specs.Accessors.{Access, accessor_body, accessors_of, attribute_accessors, body_of, export_accessors}
-use Rattle.som_sema.specs.Building.{after_base, declarations, declared_all, module_over, moved_breach, texts_breach}
+use Rattle.som_sema.specs.Building.{after_base, declarations, declared_all, draft_breach, finished_breach, members_breach, module_over, named_breach, texts_breach}
 use Rattle.som_sema.specs.Finished.{declare, entry_for, entry_or_moved, introducer}
-use Rattle.som_scope.specs.ClassNames.{type_of}
-use Rattle.som_sema.specs.Items.{by_name}
+use Rattle.som_scope.specs.ClassNames.{key_of, type_of}
+use Rattle.std.proofs.lemmas.List.{length-map}
+use Rattle.som_sema.specs.Items.{by_name, or_object}
 use Rattle.som_sema.specs.Drafts.{InterfaceDraft, accessors, draft_of, export_entries, getter, introduces, setter, draft_class, draft_classes, variables}
-use Rattle.som_sema.specs.TextRules.{text_s2_from, text_s4, text_s6, text_s11, text_s12}
+use Rattle.som_sema.specs.TextRules.{text_s2_from, text_s4, text_s6}
 use Rattle.som_sema.proofs.TextLaws.{map_same, names_law}
+use Rattle.som_elab.specs.Contexts.{ParentsCounted}
 use Rattle.som_elab.specs.Bodies.{drafts_of_classes, drafts_over, operation_name, operations}
 use Rattle.som_elab.proofs.Fitting.{accessed, accessor_fits, both_flat}
 
@@ -141,22 +143,20 @@ module _ (m : Module) (base : Interface) (is : List IdlInterface) where
     names_and_variables : (first (flat_map text_s6 text_drafts) ≡ None) × (first (flat_map s7 (map (class_in m) (draft_classes text_drafts))) ≡ None)
     names_and_variables =
         let before = interface_classes base in
-        let cs = with_kernel (after_base m before (draft_classes text_drafts)) in
+        let known = after_base m before (draft_classes text_drafts) in
         let drafted = map (class_in m) (draft_classes text_drafts) in
-        let all = declared_all m before text_drafts in
-        let six = first (flat_map text_s6 text_drafts) in
         let seven = first (flat_map s7 drafted) in
-        let five = first (flat_map (s5 cs) drafted) in
-        let four = first (flat_map (text_s4 text_module_of cs) text_drafts) in
+        let six = first (flat_map text_s6 text_drafts) in
+        let five = first (flat_map (s5 (with_kernel known)) drafted) in
+        let four = first (flat_map (text_s4 text_module_of (with_kernel known)) text_drafts) in
+        let members = members_breach text_module_of known drafted text_drafts in
         let three = first (flat_map s3 drafted) in
-        let two = first (text_s2_from text_module_of cs (length (with_kernel before)) text_drafts) in
+        let two = first (text_s2_from text_module_of (with_kernel known) (length (with_kernel before)) text_drafts) in
         let one = first (each_after s1 (with_kernel before) drafted) in
-        let later = or_else (moved_breach (after_base m before all) (map (class_in m) all)) (or_else (first (flat_map text_s11 text_drafts)) (first (flat_map text_s12 text_drafts))) in
-        let from_two = or_else two (or_else three (or_else four (or_else five (or_else six seven)))) in
-        let p = or_none (or_else one from_two) later holds in
-        let q = or_none one from_two p.0 in
-        let r = or_none two (or_else three (or_else four (or_else five (or_else six seven)))) q.1 in
-        let s = or_none three (or_else four (or_else five (or_else six seven))) r.1 in
+        let p = or_none (draft_breach text_module_of known before drafted text_drafts) (finished_breach text_module_of m before text_drafts (declared_all m before text_drafts)) holds in
+        let q = or_none one (named_breach text_module_of known before drafted text_drafts) p.0 in
+        let r = or_none two (or_else three members) q.1 in
+        let s = or_none three members r.1 in
         let t = or_none four (or_else five (or_else six seven)) s.1 in
         let u = or_none five (or_else six seven) t.1 in
         let v = or_none six seven u.1 in
@@ -167,7 +167,7 @@ module _ (m : Module) (base : Interface) (is : List IdlInterface) where
         rw (map_same (introduced (introduces text_module_of i))) at
         (differ_apart (λ (name : List ℕ). name) (introduced (introduces text_module_of i)) (((names_law text_drafts).0 names_and_variables.0).introduced (draft_of text_module_of i) (mem_map (draft_of text_module_of) i is m)))
 
-    variables_apart : (i : IdlInterface) → Mem i is → Apart (map (λ (v : Variable). v.name) (variables text_module_of i))
+    pub variables_apart : (i : IdlInterface) → Mem i is → Apart (map (λ (v : Variable). v.name) (variables text_module_of i))
     variables_apart i n =
         differ_apart (λ (v : Variable). v.name) (variables text_module_of i)
         ((variables_say (map (class_in m) (draft_classes text_drafts)) names_and_variables.1).by (class_in m (draft_class text_module_of i))
@@ -194,3 +194,11 @@ module _ (m : Module) (base : Interface) (is : List IdlInterface) where
       by (an_accessor a m s) (Some b) e f = absurd (cc)
       by (an_accessor a m s) None e f =
           absurd (true≢false (sym (exact_bytes.one name) ∙ ap (bytes_eq name) (sym s) ∙ find_none (λ (a : Access). bytes_eq name a.name) (accessors_of i) e a m))
+
+  -- each class has as many parents as its text names
+  pub parents_counted : ParentsCounted (drafts_over m base is)
+  parents_counted = record {
+    by = λ d n.
+        (let r = map_mem own d is (subst (λ z. Mem d z) drafts_are n) in
+        subst (λ (z : InterfaceDraft). length (or_object z.text.parents) ≡ length z.class.face.parents) (sym r.2) (sym (length-map (or_object r.0.parents) (key_of text_module_of))));
+  }

@@ -28,22 +28,22 @@ use Rattle.som_sema.specs.Drafts.{InterfaceDraft, accessors, export_entries, exp
 use Rattle.som_elab.specs.Accessors.{Access, accessor_body, accessors_of, attribute_accessors, body_of, export_accessors, place_of}
 
 -- the attribute that declares an accessor
-record TypedExpr (i : IdlInterface) (a : Access) : Type 0 where
-  readonly : Bool
-  kind : TypeName
-  names : List Word
-  word : Word
-  export : Mem (exports.Attribute readonly kind names) (i.before ++ i.after)
-  named : Mem word names
-  is : Mem a (attribute_accessors readonly word.text)
+pub record OfAttribute (i : IdlInterface) (a : Access) : Type 0 where
+  pub readonly : Bool
+  pub kind : TypeName
+  pub names : List Word
+  pub word : Word
+  pub export : Mem (exports.Attribute readonly kind names) (i.before ++ i.after)
+  pub named : Mem word names
+  pub is : Mem a (attribute_accessors readonly word.text)
 
-made_in : (x : Export) (i : IdlInterface) (a : Access) → Mem x (i.before ++ i.after) → Mem a (export_accessors x) → TypedExpr i a
+made_in : (x : Export) (i : IdlInterface) (a : Access) → Mem x (i.before ++ i.after) → Mem a (export_accessors x) → OfAttribute i a
 made_in (exports.Attribute readonly kind names) i a m n =
     let r = flat_mem (λ (w : Word). attribute_accessors readonly w.text) a names n in
     record { readonly = readonly; kind = kind; names = names; word = r.0; export = m; named = r.1; is = r.2 }
 made_in (exports.Operation result name params) i a m n = absurd n
 
-made : (i : IdlInterface) (a : Access) → Mem a (accessors_of i) → TypedExpr i a
+pub made : (i : IdlInterface) (a : Access) → Mem a (accessors_of i) → OfAttribute i a
 made i a m = elim (mem_split a (flat_map export_accessors i.before) (flat_map export_accessors i.after) m) [
   | inl n ↦ (let r = flat_mem export_accessors a i.before n in made_in r.0 i a (mem_left r.0 i.before i.after r.1) r.2)
   | inr n ↦ (let r = flat_mem export_accessors a i.after n in made_in r.0 i a (mem_right r.0 i.before i.after r.1) r.2)
@@ -63,7 +63,7 @@ module _ (module_of : List ℕ → Module) (i : IdlInterface) (readonly : Bool) 
       both_flat (export_entries module_of (by_name i.items)) e (exports.Attribute readonly kind names) i.before i.after export
       (mem_flat (λ (w : Word). accessors (by_name i.items) readonly (type_of module_of kind) w.text) e w names named m)
 
-  variable_made : Mem (record { name = w.text; kind = type_of module_of kind }) (variables module_of i)
+  pub variable_made : Mem (record { name = w.text; kind = type_of module_of kind }) (variables module_of i)
   variable_made =
       let v : Variable = record { name = w.text; kind = type_of module_of kind } in
       let own : Mem v (variables_of (type_of module_of kind) names) = mem_map (λ (w : Word). record { name = w.text; kind = type_of module_of kind }) w names named in
@@ -76,7 +76,7 @@ module _ (module_of : List ℕ → Module) (i : IdlInterface) (readonly : Bool) 
       ]
 
 -- a name is introduced with one signature
-introduced_there : (es : List Entry) (name : List ℕ) (sig : Sig) (way : Way) → Mem (entries.Introduced name sig way) es → Mem name (introduced es)
+pub introduced_there : (es : List Entry) (name : List ℕ) (sig : Sig) (way : Way) → Mem (entries.Introduced name sig way) es → Mem name (introduced es)
 introduced_there [] name sig way m = absurd m
 introduced_there (entries.Moved x to ∷ es) name sig way (inl e) = absurd (cc)
 introduced_there (entries.Moved x to ∷ es) name sig way (inr m) = introduced_there es name sig way m
@@ -104,7 +104,7 @@ there_by : (b : Bool) (x v : Variable) (vs : List Variable) (n : ℕ) → (b ≡
 there_by true x v vs n f g = ap Some (f refl)
 there_by false x v vs n f g = g refl
 
-at_place : (vs : List Variable) (v : Variable) → Apart (called vs) → Mem v vs → slice_get vs (place_of (called vs) v.name) ≡ Some v
+pub at_place : (vs : List Variable) (v : Variable) → Apart (called vs) → Mem v vs → slice_get vs (place_of (called vs) v.name) ≡ Some v
 at_place [] v o m = absurd m
 at_place (x ∷ vs) v o (inl e) =
     there_by (bytes_eq v.name x.name) x v vs (place_of (called vs) v.name) (λ t. sym e) (λ f. absurd (true≢false (sym (exact_bytes.one v.name) ∙ ap (λ (z : Variable). bytes_eq v.name z.name) e ∙ f)))

@@ -1,4 +1,5 @@
 pub mod LimitLaws
+pub mod Selecting
 pub mod Gathering
 pub mod OwnTexts
 pub mod NamedClasses

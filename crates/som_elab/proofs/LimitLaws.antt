@@ -1,29 +1,32 @@
 -- The limits, from lists to plain words and back.
-use Rattle.std.proofs.Common.{◌≡◌, ◌↔◌, ℕ, zero, suc, ◌<◌, ◌≤◌, slice_index_or, Bool, true, false, if◌then◌else◌, nat_le, List, [], ◌∷◌, ◌++◌, length, flat_map, None, refl, subst, arith, le-leb, leb-true}
+use Rattle.std.proofs.Common.{◌≡◌, ◌↔◌, ℕ, ◌+◌, ◌<◌, ◌≤◌, Bool, true, false, if◌then◌else◌, nat_le, List, [], ◌∷◌, ◌++◌, length, drop, get_or, flat_map, Some, None, Err, refl, sym, ap, ◌∙◌, subst, arith, le-leb, leb-true}
+use Rattle.std.proofs.lemmas.List.{at_drop_more}
 use Rattle.std.specs.Prelude.{codes}
 use Rattle.som_model.specs.Lists.{Mem, first}
 use Rattle.som_model.specs.declared.class.Sig.{Sig}
 use Rattle.som_model.specs.declared.class.Way.{Way}
 use Rattle.som_model.specs.declared.class.Entry.{Entry}
 use Rattle.som_model.specs.declared.class.Entry.TheVariants as entries
-use Rattle.som_model.specs.declared.class.ClassDecl.{ClassDecl}
-use Rattle.som_model.specs.declared.limits.TheConstants.{MAX_ENTRIES, MAX_OVERRIDES, MAX_PARAMETERS, MAX_PARENTS, MAX_VARIABLES}
+use Rattle.som_model.specs.declared.limits.TheConstants.{MAX_ENTRIES, MAX_OVERRIDES, MAX_PARAMETERS, MAX_PARENTS, MAX_SELECTS, MAX_VARIABLES}
 use Rattle.som_rules.proofs.Before.{both_none, none_both}
 use Rattle.som_rules.proofs.Owners.{flat_none}
 use Rattle.som_rules.proofs.PlainLists.{none_flat}
-use Rattle.som_sema.specs.declared.drafts.Draft.{Draft}
 use Rattle.som_elab.specs.PlainLimits.{LimitsKept}
-use Rattle.som_elab.specs.Limits.{Passed, at_most, class_limits, entry_limits, limit_passed}
-use Rattle.som_sema.specs.Drafts.{plain_drafts, draft_classes}
+use Rattle.som_elab.specs.Limits.{KeepsLimit, Passed, at_most, class_limits, entry_limits, limit_passed}
+use Rattle.som_sema.specs.Drafts.{InterfaceDraft, plain_draft, plain_drafts}
+use Rattle.som_sema.specs.declared.drafts.Draft.{Draft}
+use Rattle.som_sema.specs.declared.types.Refused.{Refused}
+use Rattle.som_sema.specs.declared.types.Refused.TheVariants as refusals
+use Rattle.som_sema.specs.Items.{chosen}
 
 kept_by : (b : Bool) (p : Passed) → first (if b then [] else p ∷ []) ≡ None → b ≡ true
 kept_by true p e = refl
 kept_by false p e = cc
 
-is_at_most : (q : List ℕ) (n count : ℕ) → first (at_most q n count) ≡ None → count ≤ n
+pub is_at_most : (q : List ℕ) (n count : ℕ) → first (at_most q n count) ≡ None → count ≤ n
 is_at_most q n count e = leb-true count n (kept_by (nat_le count n) (record { quantity = q; number = n }) e)
 
-says_at_most : (q : List ℕ) (n count : ℕ) → count ≤ n → first (at_most q n count) ≡ None
+pub says_at_most : (q : List ℕ) (n count : ℕ) → count ≤ n → first (at_most q n count) ≡ None
 says_at_most q n count le = let t : nat_le count n ≡ true = le-leb count n le in rw t refl
 
 entry_says : (e : Entry) (name : List ℕ) (sig : Sig) (way : Way) → e ≡ entries.Introduced name sig way → first (entry_limits e) ≡ None → length sig.params ≤ MAX_PARAMETERS
@@ -34,65 +37,102 @@ says_entry (entries.Introduced name sig way) f = says_at_most (codes "parameters
 says_entry (entries.Moved name to) f = refl
 
 -- the limits of one class
-record Kept (c : ClassDecl) : Type 0 where
-  parents : length c.face.parents ≤ MAX_PARENTS
-  entries : length c.face.entries ≤ MAX_ENTRIES
-  overrides : length c.overrides ≤ MAX_OVERRIDES
-  variables : length c.variables ≤ MAX_VARIABLES
-  parameters : first (flat_map entry_limits c.face.entries) ≡ None
+record Kept (d : InterfaceDraft) : Type 0 where
+  parents : length d.class.face.parents ≤ MAX_PARENTS
+  entries : length d.class.face.entries ≤ MAX_ENTRIES
+  overrides : length d.class.overrides ≤ MAX_OVERRIDES
+  selects : length (chosen d.text.items) ≤ MAX_SELECTS
+  variables : length d.class.variables ≤ MAX_VARIABLES
+  parameters : first (flat_map entry_limits d.class.face.entries) ≡ None
 
-class_says : (c : ClassDecl) → first (class_limits c) ≡ None → Kept c
-class_says c e =
-    let p = none_both (at_most (codes "parents") MAX_PARENTS (length c.face.parents) ++ at_most (codes "entries") MAX_ENTRIES (length c.face.entries)
-    ++ at_most (codes "overrides") MAX_OVERRIDES (length c.overrides) ++ at_most (codes "variables") MAX_VARIABLES (length c.variables)) (flat_map entry_limits c.face.entries) e in
-    let q = none_both (at_most (codes "parents") MAX_PARENTS (length c.face.parents) ++ at_most (codes "entries") MAX_ENTRIES (length c.face.entries)
-    ++ at_most (codes "overrides") MAX_OVERRIDES (length c.overrides)) (at_most (codes "variables") MAX_VARIABLES (length c.variables)) p.0 in
-    let r = none_both (at_most (codes "parents") MAX_PARENTS (length c.face.parents) ++ at_most (codes "entries") MAX_ENTRIES (length c.face.entries))
-    (at_most (codes "overrides") MAX_OVERRIDES (length c.overrides)) q.0 in
-    let s = none_both (at_most (codes "parents") MAX_PARENTS (length c.face.parents)) (at_most (codes "entries") MAX_ENTRIES (length c.face.entries)) r.0 in
-    record {
-      parents = is_at_most (codes "parents") MAX_PARENTS (length c.face.parents) s.0;
-      entries = is_at_most (codes "entries") MAX_ENTRIES (length c.face.entries) s.1;
-      overrides = is_at_most (codes "overrides") MAX_OVERRIDES (length c.overrides) r.1;
-      variables = is_at_most (codes "variables") MAX_VARIABLES (length c.variables) q.1;
-      parameters = p.1;
-    }
+-- the lists of what passes each, one after the other
+module _ (d : InterfaceDraft) where
+  abbrev parents : List Passed
+  parents = at_most (codes "parents") MAX_PARENTS (length d.class.face.parents)
 
-pub few_variables : (c : ClassDecl) → first (class_limits c) ≡ None → length c.variables ≤ MAX_VARIABLES
-few_variables c e = (class_says c e).variables
+  abbrev entries_passed : List Passed
+  entries_passed = at_most (codes "entries") MAX_ENTRIES (length d.class.face.entries)
 
--- the same of classes with their texts, at a place
-pub few_at : (ds : List Draft) (k : ℕ) (d : Draft) → limit_passed (draft_classes (plain_drafts ds)) ≡ None → k < length ds → length (slice_index_or ds k d).decl.variables ≤ MAX_VARIABLES
-few_at [] k d e lt = absurd (omega (arith, lt))
-few_at (x ∷ ds) zero d e lt = few_variables x.decl (none_both (class_limits x.decl) (flat_map class_limits (draft_classes (plain_drafts ds))) e).0
-few_at (x ∷ ds) (suc k) d e lt = few_at ds k d (none_both (class_limits x.decl) (flat_map class_limits (draft_classes (plain_drafts ds))) e).1 (omega (arith, lt))
+  abbrev overrides : List Passed
+  overrides = at_most (codes "overrides") MAX_OVERRIDES (length d.class.overrides)
 
-says_class : (c : ClassDecl) → Kept c → first (class_limits c) ≡ None
-says_class c k =
-    both_none _ (flat_map entry_limits c.face.entries)
-    (both_none _ (at_most (codes "variables") MAX_VARIABLES (length c.variables))
-    (both_none _ (at_most (codes "overrides") MAX_OVERRIDES (length c.overrides))
-    (both_none (at_most (codes "parents") MAX_PARENTS (length c.face.parents)) (at_most (codes "entries") MAX_ENTRIES (length c.face.entries))
-    (says_at_most (codes "parents") MAX_PARENTS (length c.face.parents) k.parents) (says_at_most (codes "entries") MAX_ENTRIES (length c.face.entries) k.entries))
-    (says_at_most (codes "overrides") MAX_OVERRIDES (length c.overrides) k.overrides))
-    (says_at_most (codes "variables") MAX_VARIABLES (length c.variables) k.variables))
-    k.parameters
+  abbrev selects : List Passed
+  selects = at_most (codes "selects") MAX_SELECTS (length (chosen d.text.items))
 
-pub limits_law : (cs : List ClassDecl) → (limit_passed cs ≡ None) ↔ LimitsKept cs
-limits_law cs =
-    let each = λ (e : limit_passed cs ≡ None) (c : ClassDecl) (m : Mem c cs). class_says c (flat_none class_limits cs c e m) in (
+  abbrev variables : List Passed
+  variables = at_most (codes "variables") MAX_VARIABLES (length d.class.variables)
+
+  class_says : first (class_limits d) ≡ None → Kept d
+  class_says e =
+      let p = none_both (parents ++ entries_passed ++ overrides ++ selects ++ variables) (flat_map entry_limits d.class.face.entries) e in
+      let q = none_both (parents ++ entries_passed ++ overrides ++ selects) variables p.0 in
+      let r = none_both (parents ++ entries_passed ++ overrides) selects q.0 in
+      let s = none_both (parents ++ entries_passed) overrides r.0 in
+      let t = none_both parents entries_passed s.0 in
+      record {
+        parents = is_at_most (codes "parents") MAX_PARENTS (length d.class.face.parents) t.0;
+        entries = is_at_most (codes "entries") MAX_ENTRIES (length d.class.face.entries) t.1;
+        overrides = is_at_most (codes "overrides") MAX_OVERRIDES (length d.class.overrides) s.1;
+        selects = is_at_most (codes "selects") MAX_SELECTS (length (chosen d.text.items)) r.1;
+        variables = is_at_most (codes "variables") MAX_VARIABLES (length d.class.variables) q.1;
+        parameters = p.1;
+      }
+
+  says_class : Kept d → first (class_limits d) ≡ None
+  says_class k =
+      both_none (parents ++ entries_passed ++ overrides ++ selects ++ variables) (flat_map entry_limits d.class.face.entries)
+      (both_none (parents ++ entries_passed ++ overrides ++ selects) variables
+      (both_none (parents ++ entries_passed ++ overrides) selects
+      (both_none (parents ++ entries_passed) overrides
+      (both_none parents entries_passed
+      (says_at_most (codes "parents") MAX_PARENTS (length d.class.face.parents) k.parents) (says_at_most (codes "entries") MAX_ENTRIES (length d.class.face.entries) k.entries))
+      (says_at_most (codes "overrides") MAX_OVERRIDES (length d.class.overrides) k.overrides))
+      (says_at_most (codes "selects") MAX_SELECTS (length (chosen d.text.items)) k.selects))
+      (says_at_most (codes "variables") MAX_VARIABLES (length d.class.variables) k.variables))
+      k.parameters
+
+pub few_variables : (d : InterfaceDraft) → first (class_limits d) ≡ None → length d.class.variables ≤ MAX_VARIABLES
+few_variables d e = (class_says d e).variables
+
+pub few_parents : (d : InterfaceDraft) → first (class_limits d) ≡ None → length d.class.face.parents ≤ MAX_PARENTS
+few_parents d e = (class_says d e).parents
+
+-- the methods that entries introduce have few parameters
+pub few_parameters : (es : List Entry) → first (flat_map entry_limits es) ≡ None → (name : List ℕ) (sig : Sig) (way : Way) → Mem (entries.Introduced name sig way) es → length sig.params ≤ MAX_PARAMETERS
+few_parameters es e name sig way m = entry_says (entries.Introduced name sig way) name sig way refl (flat_none entry_limits es (entries.Introduced name sig way) e m)
+
+pub limits_law : (ds : List InterfaceDraft) → (limit_passed ds ≡ None) ↔ LimitsKept ds
+limits_law ds =
+    let each = λ (e : limit_passed ds ≡ None) (d : InterfaceDraft) (m : Mem d ds). class_says d (flat_none class_limits ds d e m) in (
       (λ e. record {
-        parents = λ c m. (each e c m).parents;
-        entries = λ c m. (each e c m).entries;
-        overrides = λ c m. (each e c m).overrides;
-        variables = λ c m. (each e c m).variables;
-        parameters = λ c name sig way m n. entry_says (entries.Introduced name sig way) name sig way refl (flat_none entry_limits c.face.entries (entries.Introduced name sig way) (each e c m).parameters n);
+        parents = λ d m. (each e d m).parents;
+        entries = λ d m. (each e d m).entries;
+        overrides = λ d m. (each e d m).overrides;
+        selects = λ d m. (each e d m).selects;
+        variables = λ d m. (each e d m).variables;
+        parameters = λ d name sig way m n. few_parameters d.class.face.entries (each e d m).parameters name sig way n;
       }),
-      (λ r. none_flat class_limits cs (λ c m. says_class c (record {
-        parents = r.parents c m;
-        entries = r.entries c m;
-        overrides = r.overrides c m;
-        variables = r.variables c m;
-        parameters = none_flat entry_limits c.face.entries (λ e n. says_entry e (λ name sig way is. r.parameters c name sig way m (subst (λ z. Mem z c.face.entries) is n)));
+      (λ r. none_flat class_limits ds (λ d m. says_class d (record {
+        parents = r.parents d m;
+        entries = r.entries d m;
+        overrides = r.overrides d m;
+        selects = r.selects d m;
+        variables = r.variables d m;
+        parameters = none_flat entry_limits d.class.face.entries (λ e n. says_entry e (λ name sig way is. r.parameters d name sig way m (subst (λ z. Mem z d.class.face.entries) is n)));
       }))),
     )
+
+-- ---- the first class that passes a limit
+
+first_here : {A : Type 0} (xs ys : List A) (x : A) → first xs ≡ Some x → first (xs ++ ys) ≡ Some x
+first_here [] ys x e = absurd (let z = e in cc)
+first_here (a ∷ xs) ys x e = e
+
+pub limit_stops : (ds : List Draft) (i : ℕ) (d : Draft) (e : Refused) → i < length ds → d ≡ get_or ds i d → limit_passed (plain_drafts (drop i ds)) ≡ limit_passed (plain_drafts ds)
+    → KeepsLimit (first (class_limits (plain_draft d))) (Err e) → KeepsLimit (limit_passed (plain_drafts ds)) (Err e)
+limit_stops ds i d (refusals.Rule b) lt is so k = absurd k
+limit_stops ds i d (refusals.Limit q n) lt is so k =
+    let one : limit_passed (plain_drafts (drop i ds)) ≡ limit_passed (plain_drafts (d ∷ drop (i + 1) ds)) =
+    at_drop_more (λ (z : List Draft). limit_passed (plain_drafts z)) ds i d lt ∙ ap (λ (x : Draft). limit_passed (plain_drafts (x ∷ drop (i + 1) ds))) (sym is) in
+    sym so ∙ one ∙ first_here (class_limits (plain_draft d)) (flat_map class_limits (plain_drafts (drop (i + 1) ds))) (record { quantity = q; number = n }) k
+limit_stops ds i d refusals.NoMemory lt is so k = tt

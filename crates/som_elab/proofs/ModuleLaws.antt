@@ -113,19 +113,17 @@ module _ (m : Module) (base : Interface) (is : List IdlInterface) (bs : List Bod
   module _ (few : length is ≤ most_classes m) where
     limited : elaborated_module m base is bs main
         ≡ (obeying (texts_breach m base is) (obeying (bodies_breach (classes_over m base is) (drafts_over m base is) bs)
-        (keeping (limit_passed (declarations m base is)) (elaborated_each (among_over m base is) m bs (drafts_over m base is)))) >>= and_main)
+        (keeping (limit_passed (drafts_over m base is)) (elaborated_each (among_over m base is) m bs (drafts_over m base is)))) >>= and_main)
     limited =
         ap (λ (z : Option Passed). keeping z (obeying (texts_breach m base is) (obeying (bodies_breach (classes_over m base is) (drafts_over m base is) bs)
-        (keeping (limit_passed (declarations m base is)) (elaborated_each (among_over m base is) m bs (drafts_over m base is))))) >>= and_main) (few_passed m is few)
+        (keeping (limit_passed (drafts_over m base is)) (elaborated_each (among_over m base is) m bs (drafts_over m base is))))) >>= and_main) (few_passed m is few)
 
     module_is : texts_breach m base is ≡ None → elaborated_module m base is bs main ≡ (checked_steps (among_over m base is) m bs (drafts_over m base is) main >>= λ w. Ok (finish w))
     module_is e =
         limited
         ∙ ap (λ (z : Option RuleBreach). obeying z (obeying (bodies_breach (classes_over m base is) (drafts_over m base is) bs)
-        (keeping (limit_passed (declarations m base is)) (elaborated_each (among_over m base is) m bs (drafts_over m base is)))) >>= and_main) e
-        ∙ ap (λ (z : List ClassDecl). obeying (bodies_breach (classes_over m base is) (drafts_over m base is) bs)
-        (keeping (limit_passed z) (elaborated_each (among_over m base is) m bs (drafts_over m base is))) >>= and_main) (sym (declared_over m base is))
-        ∙ gate_by (bodies_breach (classes_over m base is) (drafts_over m base is) bs) (limit_passed (draft_classes (drafts_over m base is))) _ _ each_is
+        (keeping (limit_passed (drafts_over m base is)) (elaborated_each (among_over m base is) m bs (drafts_over m base is)))) >>= and_main) e
+        ∙ gate_by (bodies_breach (classes_over m base is) (drafts_over m base is) bs) (limit_passed (drafts_over m base is)) _ _ each_is
 
     -- bodies that are refused
     pub bodies_refused : (e : Refused) → texts_breach m base is ≡ None → Answers {A = AllBodies} (checked_steps (among_over m base is) m bs (drafts_over m base is) main) (Err e)
@@ -143,12 +141,12 @@ module _ (m : Module) (base : Interface) (is : List IdlInterface) (bs : List Bod
   faces_refused (refusals.Rule b) t =
       limited t.0
       ∙ ap (λ (z : Option RuleBreach). obeying z (obeying (bodies_breach (classes_over m base is) (drafts_over m base is) bs)
-      (keeping (limit_passed (declarations m base is)) (elaborated_each (among_over m base is) m bs (drafts_over m base is)))) >>= and_main) t.1
+      (keeping (limit_passed (drafts_over m base is)) (elaborated_each (among_over m base is) m bs (drafts_over m base is)))) >>= and_main) t.1
   faces_refused (refusals.Limit q n) t =
       let p : classes_passed m is ≡ Some (record { quantity = q; number = n }) =
       many_passed m is t.0 ∙ ap (λ z. Some (record { quantity = z; number = most_classes m })) (sym t.1) ∙ ap (λ z. Some (record { quantity = q; number = z })) (sym t.2) in
       ap (λ (z : Option Passed). keeping z (obeying (texts_breach m base is) (obeying (bodies_breach (classes_over m base is) (drafts_over m base is) bs)
-      (keeping (limit_passed (declarations m base is)) (elaborated_each (among_over m base is) m bs (drafts_over m base is))))) >>= and_main) p
+      (keeping (limit_passed (drafts_over m base is)) (elaborated_each (among_over m base is) m bs (drafts_over m base is))))) >>= and_main) p
   faces_refused refusals.NoMemory t = tt
 
 -- want of memory tells nothing

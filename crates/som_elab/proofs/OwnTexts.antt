@@ -19,6 +19,7 @@ use Rattle.som_rules.specs.declared.types.VerifyFault.{VerifyFault}
 use Rattle.som_sema.specs.declared.types.Refused.{Refused}
 use Rattle.som_elab.specs.Accessors.{body_of}
 use Rattle.som_sema.specs.Drafts.{InterfaceDraft}
+use Rattle.som_sema.specs.Finished.{selects_at}
 use Rattle.som_sema.specs.TextRules.{text_demand}
 use Rattle.som_elab.specs.Bodies.{entry_has_one, has_one, operations, text_s14, texts_for}
 use Rattle.som_forms.specs.Expressions.{Among}
@@ -85,8 +86,8 @@ module _ (a : Among) (bs : List BodyText) (c : Class) where
 
   pub class_own : (d : InterfaceDraft) → class_steps a own d c ≡ class_steps a bs d c
   class_own d =
-      ap (λ (z : Result (List Body) Refusal). z >>= λ own_bodies. override_blocks a own c d.class.overrides >>= λ others. Ok (record { bodies = own_bodies; overrides = others })) (entries_own d d.class.face.entries)
-      ∙ ap (λ (z : Result (List Override) Refusal). entry_bodies a bs d c d.class.face.entries >>= λ own_bodies. z >>= λ others. Ok (record { bodies = own_bodies; overrides = others })) (overrides_own d.class.overrides)
+      ap (λ (z : Result (List Body) Refusal). z >>= λ own_bodies. override_blocks a own c d.class.overrides >>= λ others. Ok (record { bodies = own_bodies; overrides = others; selects = selects_at a.classes c.key d })) (entries_own d d.class.face.entries)
+      ∙ ap (λ (z : Result (List Override) Refusal). entry_bodies a bs d c d.class.face.entries >>= λ own_bodies. z >>= λ others. Ok (record { bodies = own_bodies; overrides = others; selects = selects_at a.classes c.key d })) (overrides_own d.class.overrides)
 
 -- what is told of the bodies of one class is told of all bodies
 pub counted_told : (bs kept shown : List BodyText) (d : InterfaceDraft) (name : List ℕ) (r : Result (Unit {0}) VerifyFault) → name ≡ d.class.face.name → kept ≡ of_class bs name → shown ≡ kept

@@ -1,4 +1,4 @@
--- What typing asks of classes is the same where they differ in bodies and blocks alone.
+-- What typing asks of classes is the same where they differ in bodies, blocks and selects alone.
 use Rattle.std.proofs.Common.{◌≡◌, ℕ, zero, suc, Bool, true, false, if◌then◌else◌, List, [], ◌∷◌, map, Option, Some, None, is_some, option_map, Ok, refl, sym, ap, ◌∙◌}
 use Rattle.std.proofs.Math.Path.{fun_ext}
 use Rattle.std.specs.Prelude.{unwrap_or}
@@ -31,9 +31,23 @@ use Rattle.som_sema.proofs.Outlines.{hierarchy_outline, outline}
 abbrev pub emptied : Override → Override
 emptied o = record { method = o.method; block = record { statements = [] } }
 
--- a class without its bodies and blocks
+-- a class without its bodies, blocks and selects
 abbrev pub plain : Class → Class
-plain c = record { key = c.key; decl = record { face = c.decl.face; variables = c.decl.variables; bodies = []; overrides = map emptied c.decl.overrides } }
+plain c = record { key = c.key; decl = record { face = c.decl.face; variables = c.decl.variables; bodies = []; overrides = map emptied c.decl.overrides; selects = [] } }
+
+-- the same with its selects
+abbrev pub selecting : Class → Class
+selecting c = record { key = c.key; decl = record { face = c.decl.face; variables = c.decl.variables; bodies = []; overrides = map emptied c.decl.overrides; selects = c.decl.selects } }
+
+abbrev pub unselected : Class → Class
+unselected c = record { key = c.key; decl = record c.decl { selects = [] } }
+
+plain_parts : (cs : List Class) → map plain cs ≡ map unselected (map selecting cs)
+plain_parts [] = refl
+plain_parts (c ∷ cs) = ap (λ z. plain c ∷ z) (plain_parts cs)
+
+pub plain_same : (cs ds : List Class) → map selecting cs ≡ map selecting ds → map plain cs ≡ map plain ds
+plain_same cs ds e = plain_parts cs ∙ ap (map unselected) e ∙ sym (plain_parts ds)
 
 find_if : (b : Bool) (c : Class) (o p : Option Class) → p ≡ option_map plain o → (if b then Some (plain c) else p) ≡ option_map plain (if b then Some c else o)
 find_if true c o p e = refl

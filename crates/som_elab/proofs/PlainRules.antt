@@ -1,10 +1,11 @@
--- Rules that look at no body hold of classes that differ in bodies and blocks alone.
+-- Rules that look at no body hold of classes that differ in bodies, blocks and selects alone, but for those on selects.
 use Rattle.std.proofs.Common.{◌≡◌, ℕ, zero, suc, List, [], ◌∷◌, ◌++◌, map, take, slice_get, Some, refl, sym, ap, ◌∙◌, subst}
 use Rattle.som_model.specs.declared.key.ClassKey.{ClassKey}
 use Rattle.som_model.specs.declared.key.MethodRef.{MethodRef}
 use Rattle.som_model.specs.declared.key.ValueType.{ValueType}
 use Rattle.som_model.specs.declared.class.Entry.TheVariants as entries
 use Rattle.som_model.specs.declared.class.Override.{Override}
+use Rattle.som_model.specs.declared.class.Select.{Select}
 use Rattle.som_model.specs.declared.class.Variable.{Variable}
 use Rattle.som_model.specs.Lists.{Mem}
 use Rattle.som_model.specs.Hierarchy.{Hierarchy}
@@ -15,9 +16,9 @@ use Rattle.som_model.specs.Kernel.{kernel}
 use Rattle.som_model.specs.Owner.{owner}
 use Rattle.som_model.specs.Rules.{name_of}
 use Rattle.som_rules.specs.Places.{with_kernel}
-use Rattle.som_rules.specs.Plainly.{ClassesHold, Differ, Introduces, IsAbove, IsAmong, IsNamed, IsValue, TypesKnown}
+use Rattle.som_rules.specs.Plainly.{ClassesHold, Differ, Introduces, IsAbove, IsAmong, IsNamed, IsValue, SelectsInherited, TypesKnown}
 use Rattle.som_rules.proofs.PlainLists.{map_mem, mem_map}
-use Rattle.som_elab.proofs.Plain.{emptied, plain, plain_hierarchy, plain_owner}
+use Rattle.som_elab.proofs.Plain.{emptied, plain, plain_hierarchy, plain_owner, plain_same, selecting, unselected}
 
 -- places and members
 
@@ -110,8 +111,8 @@ module _ (cs ds : List Class) (e : map plain cs ≡ map plain ds) where
   }
 
   -- the rules go over from the first to the second
-  pub classes_other : ClassesHold cs → ClassesHold ds
-  classes_other h = record {
+  pub classes_other : SelectsInherited ds → ClassesHold cs → ClassesHold ds
+  classes_other selects h = record {
     names = record {
       own = record {
         by = λ i j x y p q s.
@@ -164,6 +165,52 @@ module _ (cs ds : List Class) (e : map plain cs ≡ map plain ds) where
           (subst (λ (z : MethodRef). Introduces (with_kernel cs) z.class z.name) (owner_same s.0 o s.2) (h.overrides.introduced r.0 s.0 r.1 s.1)));
       once = λ d m. (let r = other_mem cs ds e d m in owners_differ r.0 d r.2 (h.overrides.once r.0 r.1));
     };
+    selects = selects;
+  }
+
+-- and those on selects, from classes that differ in bodies and blocks alone
+module _ (cs ds : List Class) (e : map selecting cs ≡ map selecting ds) where
+  without : map plain cs ≡ map plain ds
+  without = plain_same cs ds e
+
+  owned : (r : MethodRef) → owner (with_kernel cs) r ≡ owner (with_kernel ds) r
+  owned r = owner_other (with_kernel cs) (with_kernel ds) (all cs ds without) r
+
+  class_of : (d : Class) → Mem d ds → (c : Class) × Mem c cs × (selecting d ≡ selecting c)
+  class_of d m = mem_same selecting cs ds e d m
+
+  select_of : (c d : Class) → selecting d ≡ selecting c → (s : Select) → Mem s d.decl.selects → Mem s c.decl.selects
+  select_of c d p s n = subst (λ z. Mem s z) (ap (λ (z : Class). z.decl.selects) p) n
+
+  pub selects_other : SelectsInherited cs → SelectsInherited ds
+  selects_other h = record {
+    above = λ d s m n.
+        (let r = class_of d m in
+        subst (λ (z : MethodRef). IsAbove ds d z.class) (owned s.method)
+        (above_other cs ds without r.0 d (ap unselected r.2) (owner (with_kernel cs) s.method).class (h.above r.0 s r.1 (select_of r.0 d r.2 s n))));
+    introduced = λ d s m n.
+        (let r = class_of d m in
+        subst (λ (z : MethodRef). Introduces (with_kernel ds) z.class z.name) (owned s.method)
+        (introduces_other (with_kernel cs) (with_kernel ds) (all cs ds without) (owner (with_kernel cs) s.method).class (owner (with_kernel cs) s.method).name (h.introduced r.0 s r.1 (select_of r.0 d r.2 s n))));
+    parent = λ d s m n.
+        (let r = class_of d m in
+        let t = h.parent r.0 s r.1 (select_of r.0 d r.2 s n) in
+        record {
+          parent = t.parent;
+          there = ap (λ (z : Class). slice_get z.decl.face.parents s.parent) r.2 ∙ t.there;
+          above = subst (λ (z : MethodRef). Descends (hierarchy (with_kernel ds)) t.parent z.class) (owned s.method) (above cs ds without t.above);
+        });
+    once = λ d m.
+        (let r = class_of d m in
+        record {
+          by = λ i j x y u v q.
+              (h.once r.0 r.1).by i j x y (sym (ap (λ (z : Class). slice_get z.decl.selects i) r.2) ∙ u) (sym (ap (λ (z : Class). slice_get z.decl.selects j) r.2) ∙ v)
+              (owned x.method ∙ q ∙ sym (owned y.method));
+        });
+    apart = λ d o s m n k same.
+        (let r = class_of d m in
+        let p = override_mem cs ds without r.0 d (ap unselected r.2) o n in
+        h.apart r.0 p.0 s r.1 p.1 (select_of r.0 d r.2 s k) (owner_same cs ds without p.0 o p.2 ∙ same ∙ sym (owned s.method)));
   }
 
 -- what is known, and the classes that know it

@@ -35,12 +35,12 @@ use Rattle.som_elab.proofs.Declared.{drafts_are, draft_classes_are, find_mem, fi
 
 -- ---- the body that is taken for a method is of its class and its name
 
-record IsFor (bs : List BodyText) (class name : List ℕ) (b : BodyText) : Type 0 where
-  there : Mem b bs
-  class_is : b.class.text ≡ class
-  name_is : b.method.text ≡ name
+pub record IsFor (bs : List BodyText) (class name : List ℕ) (b : BodyText) : Type 0 where
+  pub there : Mem b bs
+  pub class_is : b.class.text ≡ class
+  pub name_is : b.method.text ≡ name
 
-is_for : (bs : List BodyText) (class name : List ℕ) (b : BodyText) (rest : List BodyText) → texts_for bs class name ≡ b ∷ rest → IsFor bs class name b
+pub is_for : (bs : List BodyText) (class name : List ℕ) (b : BodyText) (rest : List BodyText) → texts_for bs class name ≡ b ∷ rest → IsFor bs class name b
 is_for [] class name b rest e = absurd (let z = e in cc)
 is_for (x ∷ bs) class name b rest e = by (bytes_eq x.class.text class && bytes_eq x.method.text name) refl e (is_for bs class name b rest)
   where
@@ -88,10 +88,10 @@ module _ (m : Module) (base : Interface) (is : List IdlInterface) (holds : Class
   abbrev declared : List Class
   declared = map (class_in m) (declarations m base is)
 
-  draft_there : (i : IdlInterface) → Mem i is → Mem (of_text i) ds
+  pub draft_there : (i : IdlInterface) → Mem i is → Mem (of_text i) ds
   draft_there i n = subst (λ z. Mem (of_text i) z) (sym (drafts_are m base is)) (mem_map of_text i is n)
 
-  class_there : (i : IdlInterface) → Mem i is → Mem (class_in m (of_text i).class) (after_base m (interface_classes base) (declarations m base is))
+  pub class_there : (i : IdlInterface) → Mem i is → Mem (class_in m (of_text i).class) (after_base m (interface_classes base) (declarations m base is))
   class_there i n =
       mem_right (class_in m (of_text i).class) (interface_classes base) declared
       (mem_map (class_in m) (of_text i).class (declarations m base is)
@@ -103,7 +103,7 @@ module _ (m : Module) (base : Interface) (is : List IdlInterface) (holds : Class
       (apart_right (map name_of (interface_classes base)) (map name_of declared)
       (subst (λ (z : List (List ℕ)). Apart z) (names_both (interface_classes base) declared) (differ_apart name_of (after_base m (interface_classes base) (declarations m base is)) holds.names.own)))
 
-  named : (i : IdlInterface) → Mem i is → draft_named ds (of_text i).class.face.name ≡ Some (of_text i)
+  pub named : (i : IdlInterface) → Mem i is → draft_named ds (of_text i).class.face.name ≡ Some (of_text i)
   named i n =
       find_own (λ (d : InterfaceDraft). d.class.face.name) (λ (d : InterfaceDraft). bytes_eq (of_text i).class.face.name d.class.face.name) ds (of_text i) names_apart (draft_there i n)
       (exact_bytes.one (of_text i).class.face.name) (λ d e. sym (exact_bytes.two (of_text i).class.face.name d.class.face.name e))
@@ -126,9 +126,23 @@ module _ (m : Module) (base : Interface) (is : List IdlInterface) (holds : Class
       let signed : body_sig cs (of_text i) b.method.text ≡ Some sig = ap (body_sig cs (of_text i)) f.name_is ∙ is_sig in
       eqb-true (length b.params) (length sig.params) (sym (ap (stands_for cs b) here ∙ ap (takes_as_many b) signed) ∙ stands)
 
+  signed_by : (b : BodyText) (o : Option Sig) → takes_as_many b o ≡ true → (sig : Sig) × (o ≡ Some sig)
+  signed_by b None e = absurd (true≢false (sym e))
+  signed_by b (Some sig) e = (sig, refl)
+
+  -- and so it is of a method with a signature
+  pub body_signed : (bs : List BodyText) → first (flat_map (text_s13 cs ds) bs) ≡ None → (i : IdlInterface) → Mem i is → (name : List ℕ) (b : BodyText) (rest : List BodyText)
+      → texts_for bs (of_text i).class.face.name name ≡ b ∷ rest → (sig : Sig) × (body_sig cs (of_text i) name ≡ Some sig)
+  body_signed bs s13 i n name b rest e =
+      let f = is_for bs (of_text i).class.face.name name b rest e in
+      let stands = demanded_s13 b (stands_for cs b (draft_named ds b.class.text)) (flat_none (text_s13 cs ds) bs b s13 f.there) in
+      let here : draft_named ds b.class.text ≡ Some (of_text i) = ap (draft_named ds) f.class_is ∙ named i n in
+      let r = signed_by b (body_sig cs (of_text i) b.method.text) (sym (ap (stands_for cs b) here) ∙ stands) in
+      (r.0, ap (body_sig cs (of_text i)) (sym f.name_is) ∙ r.1)
+
   -- ---- the signatures of the methods that have bodies
 
-  entry_there : (i : IdlInterface) → Mem i is → (name : List ℕ) (sig : Sig) (way : Way) → Mem (entries.Introduced name sig way) (of_text i).class.face.entries
+  pub entry_there : (i : IdlInterface) → Mem i is → (name : List ℕ) (sig : Sig) (way : Way) → Mem (entries.Introduced name sig way) (of_text i).class.face.entries
       → entry_of (of_text i).class.face.entries name ≡ Some (entries.Introduced name sig way)
   entry_there i n name sig way e =
       find_own entry_name (λ (x : Entry). bytes_eq (entry_name x) name) (of_text i).class.face.entries (entries.Introduced name sig way)
@@ -190,3 +204,17 @@ module _ (m : Module) (base : Interface) (is : List IdlInterface) (holds : Class
           let same : o.method ≡ p.method =
           one_method _ _ (overridden i.items) o p there (find_mem (λ (p : Override). bytes_eq o.method.name p.method.name) (of_text i).class.overrides p f) (exact_bytes.two o.method.name p.method.name q.passes) in
           ap (λ (r : MethodRef). sig_of cs (owner cs r)) (sym same) ∙ e
+
+  -- a body of an overridden method is of its owner's signature
+  pub override_has_sig : (i : IdlInterface) → Mem i is → (o : Override) → Mem o (of_text i).class.overrides → (sig : Sig) → body_sig cs (of_text i) o.method.name ≡ Some sig → sig_of cs (owner cs o.method) ≡ Some sig
+  override_has_sig i n o there sig e =
+      by (find (λ (p : Override). bytes_eq o.method.name p.method.name) (of_text i).class.overrides) refl
+      (sym (ap (λ z. or_else z (override_sig cs (of_text i) o.method.name)) (no_operation i n o there)) ∙ e)
+    where
+      by : (p : Option Override) → find (λ (p : Override). bytes_eq o.method.name p.method.name) (of_text i).class.overrides ≡ p → overridden_sig cs p ≡ Some sig → sig_of cs (owner cs o.method) ≡ Some sig
+      by None f h = absurd (let z = h in cc)
+      by (Some p) f h =
+          let q = find_first (λ (p : Override). bytes_eq o.method.name p.method.name) (of_text i).class.overrides p f in
+          let same : o.method ≡ p.method =
+          one_method _ _ (overridden i.items) o p there (find_mem (λ (p : Override). bytes_eq o.method.name p.method.name) (of_text i).class.overrides p f) (exact_bytes.two o.method.name p.method.name q.passes) in
+          ap (λ (r : MethodRef). sig_of cs (owner cs r)) same ∙ h

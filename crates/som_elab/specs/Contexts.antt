@@ -23,6 +23,8 @@ use Rattle.som_sema.specs.declared.types.Refused.{Refused}
 use Rattle.som_sema.specs.declared.types.Refused.TheVariants as refusals
 use Rattle.som_elab.specs.Limits.{limit_passed}
 use Rattle.som_sema.specs.Drafts.{InterfaceDraft, draft_classes}
+use Rattle.som_sema.specs.Finished.{selects_at}
+use Rattle.som_sema.specs.Items.{or_object}
 use Rattle.som_elab.specs.declared.contexts.ModuleContext.{ModuleContext}
 use Rattle.som_elab.specs.declared.class_bodies.ClassBodies.{ClassBodies}
 use Rattle.som_elab.specs.declared.all_bodies.AllBodies.{AllBodies}
@@ -61,10 +63,11 @@ abbrev pub signed_steps : Among → List BodyText → Class → MethodRef → Si
 signed_steps a bs c method sig =
     text_block a c method.name sig (texts_for bs c.decl.face.name method.name) >>= λ block. Ok (record { method = method; block = block })
 
--- the bodies of a class
+-- the bodies of a class, and what its text selects
 abbrev pub class_steps : Among → List BodyText → InterfaceDraft → Class → Result ClassBodies Refusal
 class_steps a bs d c =
-    entry_bodies a bs d c d.class.face.entries >>= λ own. override_blocks a bs c d.class.overrides >>= λ others. Ok (record { bodies = own; overrides = others })
+    entry_bodies a bs d c d.class.face.entries >>= λ own. override_blocks a bs c d.class.overrides >>= λ others.
+    Ok (record { bodies = own; overrides = others; selects = selects_at a.classes c.key d })
 
 -- the bodies of classes of a module, one after the other
 abbrev pub each_steps : Among → Module → List BodyText → List InterfaceDraft → Result (List ClassBodies) Refusal
@@ -75,13 +78,18 @@ each_steps a m bs (d ∷ ds) = class_steps a bs d (class_in m d.class) >>= λ c.
 abbrev pub completed : List InterfaceDraft → List ClassBodies → List ClassDecl
 completed [] cs = []
 completed (d ∷ ds) [] = []
-completed (d ∷ ds) (c ∷ cs) = with_blocks d.class c.bodies c.overrides ∷ completed ds cs
+completed (d ∷ ds) (c ∷ cs) = with_blocks d.class c.bodies c.overrides c.selects ∷ completed ds cs
+
+-- each class has as many parents as its text names, where one is SOMObject if it names none
+pub record ParentsCounted (ds : List InterfaceDraft) : Type 0 where
+  pub by : (d : InterfaceDraft) → Mem d ds → length (or_object d.text.parents) ≡ length d.class.face.parents
 
 -- the classes of interfaces stand after others, whose methods have no more parameters than they may have
 pub record StandAfterOthers (m : Module) (cs : List Class) (ds : List InterfaceDraft) : Type 0 where
   pub front : List Class
   pub are : cs ≡ front ++ map (class_in m) (draft_classes ds)
   pub few : FewParameters front
+  pub parents : ParentsCounted ds
 
 -- what is known before the limits of the own classes are kept
 pub record IsUnlimitedContext (g : ModuleContext) (ds : List InterfaceDraft) : Type 0 where
@@ -105,4 +113,4 @@ module_steps a m bs ds main = each_steps a m bs ds >>= λ cs. main_block a main 
 
 -- the same, where the rules on bodies and the limits come first
 abbrev pub checked_steps : Among → Module → List BodyText → List InterfaceDraft → Option BlockText → Result AllBodies Refusal
-checked_steps a m bs ds main = obeying (bodies_breach a.classes ds bs) (keeping (limit_passed (draft_classes ds)) (module_steps a m bs ds main))
+checked_steps a m bs ds main = obeying (bodies_breach a.classes ds bs) (keeping (limit_passed ds) (module_steps a m bs ds main))

@@ -10,6 +10,7 @@ use Rattle.som_model.specs.declared.class.Body.{Body}
 use Rattle.som_model.specs.declared.class.Body.TheVariants as bodies
 use Rattle.som_model.specs.declared.class.Override.{Override}
 use Rattle.som_model.specs.declared.class.ClassDecl.{ClassDecl}
+use Rattle.som_model.specs.declared.class.Select.{Select}
 use Rattle.som_model.specs.declared.program.Interface.{Interface}
 use Rattle.som_model.specs.declared.program.Release.{Release}
 use Rattle.som_model.specs.declared.program.ClientProgram.{ClientProgram}
@@ -27,6 +28,7 @@ use Rattle.som_rules.specs.Told.{told}
 use Rattle.som_sema.specs.declared.types.Refused.{Refused}
 use Rattle.som_sema.specs.declared.types.Refused.TheVariants as faults
 use Rattle.som_sema.specs.Drafts.{InterfaceDraft}
+use Rattle.som_sema.specs.Finished.{selects_at}
 use Rattle.som_sema.specs.Building.{declarations, module_over, most_classes, texts_breach}
 use Rattle.som_elab.specs.Accessors.{body_of}
 use Rattle.som_elab.specs.Limits.{Passed, at_most, limit_passed}
@@ -95,16 +97,16 @@ override_blocks a bs c [] = Ok []
 override_blocks a bs c (o ∷ os) =
     override_block a bs c o (sig_of a.classes (owner a.classes o.method)) >>= λ p. override_blocks a bs c os >>= λ more. Ok (p ∷ more)
 
--- a declaration with its bodies
-abbrev pub with_blocks : ClassDecl → List Body → List Override → ClassDecl
-with_blocks d own others = record { face = d.face; variables = d.variables; bodies = own; overrides = others }
+-- a declaration with its bodies, and with the parents that it selects
+abbrev pub with_blocks : ClassDecl → List Body → List Override → List Select → ClassDecl
+with_blocks d own others selects = record d { bodies = own; overrides = others; selects = selects }
 
--- a class with its bodies: those of introduced methods come before those of overridden ones
+-- a class with its bodies: those of introduced methods come before those of overridden ones; and with what its text selects
 abbrev pub elaborated_class : Among → Module → List BodyText → InterfaceDraft → Result ClassDecl Refusal
 elaborated_class a m bs d =
     entry_bodies a bs d (class_in m d.class) d.class.face.entries >>= λ own.
     override_blocks a bs (class_in m d.class) d.class.overrides >>= λ others.
-    Ok (with_blocks d.class own others)
+    Ok (with_blocks d.class own others (selects_at a.classes (class_in m d.class).key d))
 
 -- the classes with their bodies, one after the other
 abbrev pub elaborated_each : Among → Module → List BodyText → List InterfaceDraft → Result (List ClassDecl) Refusal
@@ -131,7 +133,7 @@ elaborated_classes m base is bs =
     keeping (classes_passed m is)
     (obeying (texts_breach m base is)
     (obeying (bodies_breach (classes_over m base is) (drafts_over m base is) bs)
-    (keeping (limit_passed (declarations m base is))
+    (keeping (limit_passed (drafts_over m base is))
     (elaborated_each (among_over m base is) m bs (drafts_over m base is)))))
 
 -- a library is compiled against no classes

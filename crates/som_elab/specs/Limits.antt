@@ -2,9 +2,11 @@
 use Rattle.std.specs.Prelude.{◌≡◌, ℕ, if◌then◌else◌, nat_le, List, [], ◌∷◌, ◌++◌, flat_map, length, codes, Option, Some, None, Result, Ok, Err}
 use Rattle.som_model.specs.declared.class.Entry.{Entry}
 use Rattle.som_model.specs.declared.class.Entry.TheVariants as entries
-use Rattle.som_model.specs.declared.class.ClassDecl.{ClassDecl}
-use Rattle.som_model.specs.declared.limits.TheConstants.{MAX_ENTRIES, MAX_OVERRIDES, MAX_PARAMETERS, MAX_PARENTS, MAX_VARIABLES}
+use Rattle.som_model.specs.declared.limits.TheConstants.{MAX_ENTRIES, MAX_OVERRIDES, MAX_PARAMETERS, MAX_PARENTS, MAX_SELECTS, MAX_VARIABLES}
 use Rattle.som_model.specs.Lists.{first}
+use Rattle.som_idl.specs.declared.tree.Item.{Item}
+use Rattle.som_sema.specs.Drafts.{InterfaceDraft}
+use Rattle.som_sema.specs.Items.{Chosen, chosen, chosen_by, given_in}
 use Rattle.som_sema.specs.declared.types.Refused.{Refused}
 use Rattle.som_sema.specs.declared.types.Refused.TheVariants as faults
 
@@ -20,18 +22,23 @@ abbrev pub entry_limits : Entry → List Passed
 entry_limits (entries.Introduced name sig way) = at_most (codes "parameters") MAX_PARAMETERS (length sig.params)
 entry_limits (entries.Moved name to) = []
 
--- the limits that a class passes
-abbrev pub class_limits : ClassDecl → List Passed
-class_limits c =
-    at_most (codes "parents") MAX_PARENTS (length c.face.parents)
-    ++ at_most (codes "entries") MAX_ENTRIES (length c.face.entries)
-    ++ at_most (codes "overrides") MAX_OVERRIDES (length c.overrides)
-    ++ at_most (codes "variables") MAX_VARIABLES (length c.variables)
-    ++ flat_map entry_limits c.face.entries
+-- what one item selects
+abbrev pub chosen_at : Item → List Chosen
+chosen_at i = flat_map chosen_by (given_in i)
+
+-- the limits that a class passes; its selects are those of the text
+abbrev pub class_limits : InterfaceDraft → List Passed
+class_limits d =
+    at_most (codes "parents") MAX_PARENTS (length d.class.face.parents)
+    ++ at_most (codes "entries") MAX_ENTRIES (length d.class.face.entries)
+    ++ at_most (codes "overrides") MAX_OVERRIDES (length d.class.overrides)
+    ++ at_most (codes "selects") MAX_SELECTS (length (chosen d.text.items))
+    ++ at_most (codes "variables") MAX_VARIABLES (length d.class.variables)
+    ++ flat_map entry_limits d.class.face.entries
 
 -- the first limit that one of these classes passes
-abbrev pub limit_passed : List ClassDecl → Option Passed
-limit_passed cs = first (flat_map class_limits cs)
+abbrev pub limit_passed : List InterfaceDraft → Option Passed
+limit_passed ds = first (flat_map class_limits ds)
 
 -- all is well exactly where no limit is passed, and a limit that is told is that one; want of memory says nothing
 abbrev pub KeepsLimit : Option Passed → Result (Unit {0}) Refused → Type 0

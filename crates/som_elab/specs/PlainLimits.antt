@@ -4,13 +4,15 @@ use Rattle.som_model.specs.Lists.{Mem}
 use Rattle.som_model.specs.declared.class.Sig.{Sig}
 use Rattle.som_model.specs.declared.class.Way.{Way}
 use Rattle.som_model.specs.declared.class.Entry.TheVariants as variants
-use Rattle.som_model.specs.declared.class.ClassDecl.{ClassDecl}
-use Rattle.som_model.specs.declared.limits.TheConstants.{MAX_ENTRIES, MAX_OVERRIDES, MAX_PARAMETERS, MAX_PARENTS, MAX_VARIABLES}
+use Rattle.som_model.specs.declared.limits.TheConstants.{MAX_ENTRIES, MAX_OVERRIDES, MAX_PARAMETERS, MAX_PARENTS, MAX_SELECTS, MAX_VARIABLES}
+use Rattle.som_sema.specs.Drafts.{InterfaceDraft}
+use Rattle.som_sema.specs.Items.{chosen}
 
 -- the counts of each class are within the limits
-pub record LimitsKept (cs : List ClassDecl) : Type 0 where
-  pub parents : (c : ClassDecl) → Mem c cs → length c.face.parents ≤ MAX_PARENTS
-  pub entries : (c : ClassDecl) → Mem c cs → length c.face.entries ≤ MAX_ENTRIES
-  pub overrides : (c : ClassDecl) → Mem c cs → length c.overrides ≤ MAX_OVERRIDES
-  pub variables : (c : ClassDecl) → Mem c cs → length c.variables ≤ MAX_VARIABLES
-  pub parameters : (c : ClassDecl) (name : List ℕ) (sig : Sig) (way : Way) → Mem c cs → Mem (variants.Introduced name sig way) c.face.entries → length sig.params ≤ MAX_PARAMETERS
+pub record LimitsKept (ds : List InterfaceDraft) : Type 0 where
+  pub parents : (d : InterfaceDraft) → Mem d ds → length d.class.face.parents ≤ MAX_PARENTS
+  pub entries : (d : InterfaceDraft) → Mem d ds → length d.class.face.entries ≤ MAX_ENTRIES
+  pub overrides : (d : InterfaceDraft) → Mem d ds → length d.class.overrides ≤ MAX_OVERRIDES
+  pub selects : (d : InterfaceDraft) → Mem d ds → length (chosen d.text.items) ≤ MAX_SELECTS
+  pub variables : (d : InterfaceDraft) → Mem d ds → length d.class.variables ≤ MAX_VARIABLES
+  pub parameters : (d : InterfaceDraft) (name : List ℕ) (sig : Sig) (way : Way) → Mem d ds → Mem (variants.Introduced name sig way) d.class.face.entries → length sig.params ≤ MAX_PARAMETERS

@@ -6,7 +6,7 @@ ghost use Rattle.som_elab.specs.Limits.{limit_passed};
 ghost use Rattle.som_elab.specs.Texts.{given};
 ghost use Rattle.som_rules.specs.Modules.{classes_of};
 ghost use Rattle.som_rules.specs.Told.{Tells};
-ghost use Rattle.som_sema.specs.Drafts.{draft_classes, plain_drafts};
+ghost use Rattle.som_sema.specs.Drafts.{plain_drafts};
 ghost use Rattle.som_typing.specs.Knowing.{IsKnowledge, all_of};
 ghost use Rattle.std.specs.Prelude.{◌≡◌, option_copied, None};
 
@@ -70,7 +70,7 @@ fn within_limits(
     main: Option<&BlockText>,
 ) -> Result<AllBodies, Refused>
     requires { IsUnlimitedContext context.now (plain_drafts drafts.now) }
-    ensures { Answers (keeping (limit_passed (draft_classes (plain_drafts drafts.now)))
+    ensures { Answers (keeping (limit_passed (plain_drafts drafts.now))
         (module_steps (among_in context.now) context.now.scope.now.module (given texts.now) (plain_drafts drafts.now) (option_copied main.entry))) result }
 {
     limits_kept(alloc, drafts)?;
@@ -86,7 +86,7 @@ fn made_bodies(
 ) -> Result<AllBodies, Refused>
     requires context { IsModuleContext context.now }
     requires stand { StandAfterOthers context.now.scope.now.module (classes_of context.now.known.classes.now) (plain_drafts drafts.now) }
-    requires limits { limit_passed (draft_classes (plain_drafts drafts.now)) ≡ None }
+    requires limits { limit_passed (plain_drafts drafts.now) ≡ None }
     ensures { Answers (module_steps (among_in context.now) context.now.scope.now.module (given texts.now) (plain_drafts drafts.now) (option_copied main.entry)) result }
 {
     let classes = all_bodies(alloc, context, drafts, texts)?;

@@ -2,18 +2,18 @@ ghost use Rattle.som_elab.specs.Bodies.{texts_for};
 ghost use Rattle.som_elab.specs.Contexts.{IsModuleContext, among_in, class_steps, classes_in, refused_as, signed_steps};
 ghost use Rattle.som_elab.specs.Elaboration as spec;
 ghost use Rattle.som_elab.specs.Elaboration.{Answers, refused_at};
-ghost use Rattle.som_elab.specs.Limits.{class_limits};
 ghost use Rattle.som_elab.specs.Texts.{given};
-ghost use Rattle.som_forms.specs.Code.{Blocks};
+ghost use Rattle.som_forms.specs.Code.{ClassFits};
 ghost use Rattle.som_forms.specs.MethodBody.{elaborated_body};
-ghost use Rattle.som_model.specs.Lists.{first};
 ghost use Rattle.som_model.specs.Owner.{owner, sig_of};
 ghost use Rattle.som_model.specs.declared.limits.TheConstants.{MAX_PARAMETERS as MOST};
 ghost use Rattle.som_rules.specs.Places.{class_of_place};
 ghost use Rattle.som_sema.specs.Drafts.{plain_draft};
+ghost use Rattle.som_sema.specs.Finished.{selects_at};
+ghost use Rattle.som_sema.specs.Items.{or_object};
 ghost use Rattle.som_typing.specs.Kinds.{IsDeclared};
 ghost use Rattle.som_typing.specs.Knowing.{sig_is_known};
-ghost use Rattle.std.specs.Prelude.{◌≡◌, ◌≤◌, length, true, IfOk, None};
+ghost use Rattle.std.specs.Prelude.{◌≡◌, ◌≤◌, length, true, IfOk, Some};
 
 use crate::accessor_bodies::body_named;
 use crate::accessors::accessors_of;
@@ -21,17 +21,20 @@ use crate::contexts::ModuleContext;
 use crate::texts::{first_for, texts_of};
 use som_body::BodyText;
 use som_forms::{BodyFault, method_body};
-use som_model::{Block, Body, Entry, List, MAX_LOCALS, MethodRef, NoMemory, Override, Sig, Text};
+use som_model::{
+    Block, Body, Entry, List, MAX_LOCALS, MethodRef, NoMemory, Override, Select, Sig, Text,
+};
 use som_rules::Broken;
-use som_sema::{Draft, Refused};
+use som_sema::{Draft, Refused, selects};
 use som_typing::{decl_at, signature_of};
 use std::alloc::Global;
 
-/// The bodies of the entries that a class introduces, and its overrides with their blocks.
+/// The bodies of the entries that a class introduces, its overrides with their blocks, and its selects.
 #[derive(Drop)]
 pub struct ClassBodies {
     pub bodies: List<Body>,
     pub overrides: List<Override>,
+    pub selects: List<Select>,
 }
 
 /// The bodies of the class at a place, or what is first wrong with one of them.
@@ -45,7 +48,8 @@ pub fn class_bodies(
     requires context { IsModuleContext context.now }
     requires place { IsDeclared (classes_in context.now) place }
     requires class { (class_of_place (classes_in context.now) place).decl ≡ draft.now.decl }
-    requires limits { first (class_limits draft.now.decl) ≡ None }
+    requires fits { ClassFits (classes_in context.now) (Some place) }
+    requires parents { length (or_object draft.now.text.now.parents) ≤ 255 }
     ensures { Answers (class_steps (among_in context.now) (given texts.now) (plain_draft draft.now) (class_of_place (classes_in context.now) place)) result }
 {
     let own = texts_of(alloc, texts, draft.decl.face.name.as_slice())?;
@@ -63,12 +67,41 @@ fn own_bodies(
     requires context { IsModuleContext context.now }
     requires place { IsDeclared (classes_in context.now) place }
     requires class { (class_of_place (classes_in context.now) place).decl ≡ draft.now.decl }
-    requires limits { first (class_limits draft.now.decl) ≡ None }
+    requires fits { ClassFits (classes_in context.now) (Some place) }
+    requires parents { length (or_object draft.now.text.now.parents) ≤ 255 }
     ensures { Answers (class_steps (among_in context.now) (given own.now) (plain_draft draft.now) (class_of_place (classes_in context.now) place)) result }
 {
     let bodies = entry_bodies(alloc, context, place, draft, own)?;
     let overrides = override_blocks(alloc, context, place, draft, own)?;
-    Ok(ClassBodies { bodies, overrides })
+    let selects = class_selects(alloc, context, place, draft)?;
+    Ok(ClassBodies {
+        bodies,
+        overrides,
+        selects,
+    })
+}
+
+// What the text of the class at a place selects.
+fn class_selects(
+    alloc: Global,
+    context: &ModuleContext,
+    place: usize,
+    draft: &Draft,
+) -> Result<List<Select>, NoMemory>
+    requires context { IsModuleContext context.now }
+    requires place { IsDeclared (classes_in context.now) place }
+    requires parents { length (or_object draft.now.text.now.parents) ≤ 255 }
+    ensures { IfOk result (λ all. all ≡ selects_at (among_in context.now).classes (class_of_place (classes_in context.now) place).key (plain_draft draft.now)) }
+{
+    let known = &context.known;
+    selects(
+        alloc,
+        known.kernel,
+        known.classes,
+        known.lists,
+        draft,
+        place,
+    )
 }
 
 fn entry_bodies(
@@ -81,7 +114,7 @@ fn entry_bodies(
     requires context { IsModuleContext context.now }
     requires place { IsDeclared (classes_in context.now) place }
     requires class { (class_of_place (classes_in context.now) place).decl ≡ draft.now.decl }
-    requires limits { first (class_limits draft.now.decl) ≡ None }
+    requires fits { ClassFits (classes_in context.now) (Some place) }
     ensures { Answers (spec.entry_bodies (among_in context.now) (given own.now) (plain_draft draft.now) (class_of_place (classes_in context.now) place)
         draft.now.decl.face.entries) result }
 {
@@ -110,7 +143,7 @@ fn entry_body(
 ) -> Result<Body, Refused>
     requires context { IsModuleContext context.now }
     requires place { IsDeclared (classes_in context.now) place }
-    requires limits { first (class_limits (class_of_place (classes_in context.now) place).decl) ≡ None }
+    requires fits { ClassFits (classes_in context.now) (Some place) }
     requires sig { sig_is_known (classes_in context.now) sig.now ≡ true }
     requires few { length sig.now.params ≤ MOST }
     ensures { Answers (spec.entry_body (among_in context.now) (given own.now) (class_of_place (classes_in context.now) place) name.now sig.now accessor) result }
@@ -132,7 +165,7 @@ fn text_block(
 ) -> Result<Block, Refused>
     requires context { IsModuleContext context.now }
     requires place { IsDeclared (classes_in context.now) place }
-    requires limits { first (class_limits (class_of_place (classes_in context.now) place).decl) ≡ None }
+    requires fits { ClassFits (classes_in context.now) (Some place) }
     requires sig { sig_is_known (classes_in context.now) sig.now ≡ true }
     requires few { length sig.now.params ≤ MOST }
     ensures { Answers (spec.text_block (among_in context.now) (class_of_place (classes_in context.now) place) name.now sig.now
@@ -159,7 +192,7 @@ fn body_block(
 ) -> Result<Block, Refused>
     requires context { IsModuleContext context.now }
     requires place { IsDeclared (classes_in context.now) place }
-    requires limits { first (class_limits (class_of_place (classes_in context.now) place).decl) ≡ None }
+    requires fits { ClassFits (classes_in context.now) (Some place) }
     requires sig { sig_is_known (classes_in context.now) sig.now ≡ true }
     requires few { length sig.now.params ≤ MOST }
     ensures { Answers (refused_at class.now member.now (elaborated_body (among_in context.now) (class_of_place (classes_in context.now) place) sig.now text.now)) result }
@@ -203,7 +236,7 @@ fn override_blocks(
     requires context { IsModuleContext context.now }
     requires place { IsDeclared (classes_in context.now) place }
     requires class { (class_of_place (classes_in context.now) place).decl ≡ draft.now.decl }
-    requires limits { first (class_limits draft.now.decl) ≡ None }
+    requires fits { ClassFits (classes_in context.now) (Some place) }
     ensures { Answers (spec.override_blocks (among_in context.now) (given own.now) (class_of_place (classes_in context.now) place) draft.now.decl.overrides) result }
 {
     let mut all = List::new(alloc);
@@ -224,7 +257,7 @@ fn override_block(
 ) -> Result<Override, Refused>
     requires context { IsModuleContext context.now }
     requires place { IsDeclared (classes_in context.now) place }
-    requires limits { first (class_limits (class_of_place (classes_in context.now) place).decl) ≡ None }
+    requires fits { ClassFits (classes_in context.now) (Some place) }
     ensures { Answers (spec.override_block (among_in context.now) (given own.now) (class_of_place (classes_in context.now) place) replaced.now
         (sig_of (classes_in context.now) (owner (classes_in context.now) replaced.now.method))) result }
 {
@@ -244,7 +277,7 @@ fn signed_block(
 ) -> Result<Override, Refused>
     requires context { IsModuleContext context.now }
     requires place { IsDeclared (classes_in context.now) place }
-    requires limits { first (class_limits (class_of_place (classes_in context.now) place).decl) ≡ None }
+    requires fits { ClassFits (classes_in context.now) (Some place) }
     requires sig { sig_is_known (classes_in context.now) sig.now ≡ true }
     requires few { length sig.now.params ≤ MOST }
     ensures { Answers (signed_steps (among_in context.now) (given own.now) (class_of_place (classes_in context.now) place) method.now sig.now) result }

@@ -3,7 +3,7 @@ ghost use Rattle.som_elab.specs.Elaboration.{Answers, with_blocks};
 ghost use Rattle.som_elab.specs.Limits.{limit_passed};
 ghost use Rattle.som_elab.specs.Texts.{given};
 ghost use Rattle.som_rules.specs.Modules.{classes_of};
-ghost use Rattle.som_sema.specs.Drafts.{draft_classes, plain_drafts};
+ghost use Rattle.som_sema.specs.Drafts.{plain_drafts};
 ghost use Rattle.std.specs.Prelude.{◌≡◌, IfOk, None};
 
 use crate::class_bodies::{ClassBodies, class_bodies};
@@ -23,7 +23,7 @@ pub fn all_bodies(
 ) -> Result<List<ClassBodies>, Refused>
     requires context { IsModuleContext context.now }
     requires stand { StandAfterOthers context.now.scope.now.module (classes_of context.now.known.classes.now) (plain_drafts drafts.now) }
-    requires limits { limit_passed (draft_classes (plain_drafts drafts.now)) ≡ None }
+    requires limits { limit_passed (plain_drafts drafts.now) ≡ None }
     ensures { Answers (each_steps (among_in context.now) context.now.scope.now.module (given texts.now) (plain_drafts drafts.now)) result }
 {
     let classes = context.known.classes;
@@ -52,18 +52,17 @@ pub fn completed_classes(
 }
 
 fn completed_class(decl: ClassDecl, own: ClassBodies) -> ClassDecl
-    ensures { result ≡ with_blocks decl own.bodies own.overrides }
+    ensures { result ≡ with_blocks decl own.bodies own.overrides own.selects }
 {
-    let ClassDecl {
-        face,
-        variables,
-        ..
-    } = decl;
-    let ClassBodies { bodies, overrides } = own;
-    ClassDecl {
-        face,
-        variables,
+    let ClassBodies {
         bodies,
         overrides,
+        selects,
+    } = own;
+    ClassDecl {
+        bodies,
+        overrides,
+        selects,
+        ..decl
     }
 }

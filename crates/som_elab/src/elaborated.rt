@@ -1,6 +1,6 @@
 ghost use Rattle.som_elab.specs.Bodies as spec;
 ghost use Rattle.som_elab.specs.Bodies.{bodies_of, drafts_over};
-ghost use Rattle.som_elab.specs.Contexts.{FewParameters, StandAfterOthers, checked_steps, elaborated_module};
+ghost use Rattle.som_elab.specs.Contexts.{FewParameters, ParentsCounted, StandAfterOthers, checked_steps, elaborated_module};
 ghost use Rattle.som_elab.specs.Elaboration.{Answers, among_over};
 ghost use Rattle.som_elab.specs.Texts.{given};
 ghost use Rattle.som_model.specs.Class.{class_in};
@@ -109,6 +109,7 @@ fn bodies_after(
 ) -> Result<AllBodies, Refused>
     requires rules { classes_breach (length base.now) (after_base scope.now.module (map (class_in modules.Library) base.now) (draft_classes (plain_drafts drafts.now))) ≡ None }
     requires few { FewParameters (map (class_in modules.Library) base.now) }
+    requires parents { ParentsCounted (plain_drafts drafts.now) }
     ensures { Answers (checked_steps (record {
       classes = with_kernel (after_base scope.now.module (map (class_in modules.Library) base.now) (draft_classes (plain_drafts drafts.now)));
       module_of = module_in_scope scope.now;

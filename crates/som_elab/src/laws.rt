@@ -6,11 +6,11 @@ ghost use Rattle.som_elab.specs.PlainLimits.{LimitsKept};
 ghost use Rattle.som_idl.specs.declared.tree.IdlInterface.{IdlInterface};
 ghost use Rattle.som_model.specs.Classes.{interface_classes};
 ghost use Rattle.som_model.specs.Conforming.{ProgramOk, ReleaseOk};
-ghost use Rattle.som_model.specs.declared.class.ClassDecl.{ClassDecl as Decl};
 ghost use Rattle.som_model.specs.declared.program.ClientProgram.{ClientProgram};
 ghost use Rattle.som_model.specs.declared.program.Interface.{Interface};
 ghost use Rattle.som_model.specs.declared.program.Release.{Release};
 ghost use Rattle.som_rules.specs.Faces.{faces_breach};
+ghost use Rattle.som_sema.specs.Drafts.{InterfaceDraft};
 ghost use Rattle.std.specs.Prelude.{◌≡◌, ◌↔◌, List as Seq, None, Ok};
 
 /// The release that texts stand for conforms, and so does a client program, over a base whose faces break no rule.
@@ -22,5 +22,5 @@ pub fn conforming_law()
 
 /// No limit is passed exactly where each count of each class is within its limit.
 pub fn limits_law()
-    ensures { (cs : Seq Decl) → (limit_passed cs ≡ None) ↔ LimitsKept cs }
+    ensures { (ds : Seq InterfaceDraft) → (limit_passed ds ≡ None) ↔ LimitsKept ds }
 {}

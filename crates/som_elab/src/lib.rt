@@ -14,10 +14,9 @@ mod laws;
 mod limits;
 mod named_bodies;
 mod operations;
+mod selects;
 mod texts;
 
-pub use accessor_bodies::body_named;
-pub use accessors::{Accessor, accessor_named, accessors_of};
+pub use accessors::Accessor;
 pub use build::{build_release, elaborate};
 pub use laws::{conforming_law, limits_law};
-pub use limits::limits_kept;

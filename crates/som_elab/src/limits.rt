@@ -1,32 +1,38 @@
 ghost use Rattle.som_elab.specs.Limits as spec;
 ghost use Rattle.som_elab.specs.Limits.{KeepsLimit, class_limits, entry_limits, limit_passed};
 ghost use Rattle.som_model.specs.Lists.{first};
-ghost use Rattle.som_sema.specs.Drafts.{draft_classes, plain_drafts};
+ghost use Rattle.som_sema.specs.Drafts.{plain_draft, plain_drafts};
 ghost use Rattle.std.specs.Prelude.{flat_map};
 
+use crate::selects::selected;
 use som_model::{
-    ClassDecl, Entry, MAX_ENTRIES, MAX_OVERRIDES, MAX_PARAMETERS, MAX_PARENTS, MAX_VARIABLES, Text,
+    Entry, MAX_ENTRIES, MAX_OVERRIDES, MAX_PARAMETERS, MAX_PARENTS, MAX_SELECTS, MAX_VARIABLES,
+    Text,
 };
 use som_sema::{Draft, Refused};
 use std::alloc::Global;
 
 /// No class passes a limit.
+#[tactic(auto, using(crate::proofs::LimitLaws::limit_stops))]
 pub fn limits_kept(alloc: Global, drafts: &[Draft]) -> Result<(), Refused>
-    ensures { KeepsLimit (limit_passed (draft_classes (plain_drafts drafts.now))) result }
+    ensures { KeepsLimit (limit_passed (plain_drafts drafts.now)) result }
 {
     for draft in drafts {
-        class_kept(alloc, &draft.decl)?;
+        class_kept(alloc, draft)?;
     }
     Ok(())
 }
 
-fn class_kept(alloc: Global, decl: &ClassDecl) -> Result<(), Refused>
-    ensures { KeepsLimit (first (class_limits decl.now)) result }
+fn class_kept(alloc: Global, draft: &Draft) -> Result<(), Refused>
+    ensures { KeepsLimit (first (class_limits (plain_draft draft.now))) result }
 {
+    let decl = &draft.decl;
     let face = &decl.face;
     at_most(alloc, b"parents", MAX_PARENTS, face.parents.len())?;
     at_most(alloc, b"entries", MAX_ENTRIES, face.entries.len())?;
     at_most(alloc, b"overrides", MAX_OVERRIDES, decl.overrides.len())?;
+    let chosen = selected(alloc, draft.text.items.as_slice())?;
+    at_most(alloc, b"selects", MAX_SELECTS, chosen.len())?;
     at_most(alloc, b"variables", MAX_VARIABLES, decl.variables.len())?;
     entries_kept(alloc, face.entries.as_slice())
 }

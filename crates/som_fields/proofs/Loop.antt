@@ -15,11 +15,11 @@ with_front front read = read >>= λ x. done (front ++ x.value) x.next
 pub record Reads {A : Type 0} (one : ℕ → Result (Read A) ImageFault) (count start : ℕ) (front : List A) (i place : ℕ) : Type 0 where
   pub so_far : with_front front (many_at one (count - i) place) ≡ many_at one count start
 
-regroup : {A : Type 0} (front : List A) (n : A) (read : Result (Read (List A)) ImageFault) → with_front front (read >>= λ x. done (n ∷ x.value) x.next) ≡ with_front (front ++ n ∷ []) read
+pub regroup : {A : Type 0} (front : List A) (n : A) (read : Result (Read (List A)) ImageFault) → with_front front (read >>= λ x. done (n ∷ x.value) x.next) ≡ with_front (front ++ n ∷ []) read
 regroup front n (Ok x) = ap (λ ns. done ns x.next) (simp append_assoc)
 regroup front n (Err fault) = refl
 
-front_nil : {A : Type 0} (read : Result (Read (List A)) ImageFault) → with_front [] read ≡ read
+pub front_nil : {A : Type 0} (read : Result (Read (List A)) ImageFault) → with_front [] read ≡ read
 front_nil (Ok x) = refl
 front_nil (Err fault) = refl
 
@@ -34,7 +34,7 @@ goes_on one count start front i place r lt read so_far =
     record { so_far = sym step ∙ so_far.so_far }
 
 -- a step that fails ends what follows
-failed : {A B : Type 0} (fault : ImageFault) (read : Result A ImageFault) (f : A → Result B ImageFault) → Fails fault read → Fails fault (read >>= f)
+pub failed : {A B : Type 0} (fault : ImageFault) (read : Result A ImageFault) (f : A → Result B ImageFault) → Fails fault read → Fails fault (read >>= f)
 failed faults.NoMemory read f h = tt
 failed (faults.Magic o) read f h = rw h refl
 failed (faults.Version o) read f h = rw h refl

@@ -8,8 +8,8 @@ use Rattle.som_model.specs.Lists.{or_else, first_some as first_key}
 use Rattle.som_model.specs.Ancestors.{Descends, itself, descends}
 use Rattle.som_model.specs.Kernel.{som_object}
 use Rattle.som_model.specs.Classes.{hierarchy}
-use Rattle.som_model.specs.Resolution.{answer, impl}
-use Rattle.som_model.specs.Implementation.{Held, held, has_body}
+use Rattle.som_model.specs.Resolution.{answer, impl, inherits}
+use Rattle.som_model.specs.Implementation.{Held, held, has_body, selected}
 use Rattle.som_model.proofs.NamedLaws.{height_named, same_named}
 use Rattle.som_laws.proofs.Laws.{answer_step, parents_answer, descends_test}
 use Rattle.som_tables.specs.Rows.{Added, first_some, replaced_at, own_at, row_cell, inherited, SomeHasToken, AreInherited, AreDistinct, HasRow, KeepsRows, GivesRow}
@@ -19,6 +19,7 @@ use Rattle.som_first.specs.declared.classes.FirstClass.{FirstClass}
 use Rattle.som_first.specs.FirstImages.{library_key, parent_key}
 use Rattle.som_first.specs.Linking.{IsMethod, AreReplaced, AreKept, IsParent, IsRow, Answers, IsLinked, library_method}
 use Rattle.som_first.proofs.FirstClasses.{FirstOk, known, all_fall, all_tell, same_place, height_is, parents_is, parent_stands}
+use Rattle.som_first.proofs.FirstSelects.{selects_none, first_chooses}
 use Rattle.som_first.proofs.FirstMembers.{ref_of, not_lower, override_stands, overrides_apart, held_own, held_from}
 use Rattle.som_first.proofs.CellLaws.{Fits, fits, FoundAt, NoneOf, replaced_found, method_once}
 
@@ -27,7 +28,7 @@ ref class name = library_method class name
 
 -- what the class of a key answers for a method of another
 abbrev answer_of : List FirstClass → List ℕ → List ℕ → ClassKey → Option ClassKey
-answer_of fs class name k = answer (hierarchy (known fs)) (has_body (known fs) (ref class name)) (library_key class) k
+answer_of fs class name k = answer (hierarchy (known fs)) (has_body (known fs) (ref class name)) (selected (known fs) (ref class name)) (library_key class) k
 
 keep_answer : (fs : List FirstClass) (old new : List (List ℕ)) (m : MethodRef) → AreKept old new → (cell : Option ℕ) (k : Option ClassKey) → Answers (known fs) old m cell k → Answers (known fs) new m cell k
 keep_answer fs old new m keeps None None a = tt
@@ -77,7 +78,7 @@ module _ (fs : List FirstClass) (ok : FirstOk fs) where
         | inr lt ↦ omega (arith, lt, object_height, lower)
       ]
 
-      by : (b : Bool) → descends (hierarchy (known fs)) som_object (library_key class) ≡ b → (if b then impl (hierarchy (known fs)) (has_body (known fs) (ref class name)) (library_key class) som_object else None) ≡ None
+      by : (b : Bool) → descends (hierarchy (known fs)) som_object (library_key class) ≡ b → (if b then impl (hierarchy (known fs)) (has_body (known fs) (ref class name)) (selected (known fs) (ref class name)) (library_key class) som_object else None) ≡ None
       by true e = absurd (never ((descends_test (hierarchy (known fs)) (all_tell fs ok) (all_fall fs ok) som_object (library_key class)).0 e))
       by false e = refl
 
@@ -114,14 +115,25 @@ module _ (fs : List FirstClass) (ok : FirstOk fs) where
           subst (λ (k : ClassKey). Descends (hierarchy (known fs)) (library_key c.name) k) (sym same) (override_stands fs ok i over.0 c over.1 at over.2).below)
     ]
 
+    -- what the parents answer, where no parent is chosen
+    abbrev above : (class name : List ℕ) → Option ClassKey → Option ClassKey
+    above class name o = inherits (hierarchy (known fs)) (library_key class) (impl (hierarchy (known fs)) (has_body (known fs) (ref class name)) (selected (known fs) (ref class name)) (library_key class)) o ((hierarchy (known fs)).parents (library_key c.name))
+
+    step_up : (class name : List ℕ) → answer_of fs class name (library_key c.name)
+        ≡ or_else (if is_some (held (known fs) (library_key c.name) (ref class name)) then Some (library_key c.name) else None) (first_key (answer_of fs class name) ((hierarchy (known fs)).parents (library_key c.name)))
+    step_up class name =
+        let own = if is_some (held (known fs) (library_key c.name) (ref class name)) then Some (library_key c.name) else None in
+        answer_step (hierarchy (known fs)) (has_body (known fs) (ref class name)) (selected (known fs) (ref class name)) (library_key class) (first_chooses fs (ref class name) (library_key class)) (all_tell fs ok) (all_fall fs ok) (library_key c.name)
+        (body_below class name (held (known fs) (library_key c.name) (ref class name)) refl)
+        ∙ ap (λ (o : Option ClassKey). or_else own (above class name o)) (selects_none fs (ref class name) (library_key c.name))
+
     new_cell : (t : ℕ × ℕ) (class name : List ℕ) → IsMethod fs t class name → length rows ≡ i + 4
         → Answers (known fs) texts (ref class name) (row_cell (λ p. inherited rows p t) (length rows) t row) (answer_of fs class name (library_key c.name))
     new_cell t class name is long =
         subst (λ (n : ℕ). Answers (known fs) texts (ref class name) (row_cell (λ p. inherited rows p t) n t row) (answer_of fs class name (library_key c.name))) (sym long)
         (subst (λ (o : Option ℕ). Answers (known fs) texts (ref class name) o (answer_of fs class name (library_key c.name))) (sym (regrouped (replaced_at row.replaced t) (own_at (i + 4) row.introduced t) (first_some (λ p. inherited rows p t) row.parents)))
         (subst (λ (k : Option ClassKey). Answers (known fs) texts (ref class name) (option_or (option_or (replaced_at row.replaced t) (own_at (i + 4) row.introduced t)) (first_some (λ p. inherited rows p t) row.parents)) k)
-        (sym (answer_step (hierarchy (known fs)) (has_body (known fs) (ref class name)) (library_key class) (all_tell fs ok) (all_fall fs ok) (library_key c.name)
-        (body_below class name (held (known fs) (library_key c.name) (ref class name)) refl)))
+        (sym (step_up class name))
         (combined fs texts (ref class name) (library_key c.name) (option_or (replaced_at row.replaced t) (own_at (i + 4) row.introduced t)) (first_some (λ p. inherited rows p t) row.parents)
         (held (known fs) (library_key c.name) (ref class name)) (first_key (answer_of fs class name) ((hierarchy (known fs)).parents (library_key c.name))) refl
         (fits fs ok texts i c at row is_row t class name is) (above_answers t class name is))))
@@ -162,7 +174,8 @@ module _ (fs : List FirstClass) (ok : FirstOk fs) where
         ∙ ap (λ (r : MethodRef). is_some (held (known fs) (library_key s.class.name) r)) (sym named) ∙ ap is_some (held_own fs ok s.place s.slot s.class s.method s.stands s.introduced) in
         some_cell fs texts (ref o.class o.method) (first_some (λ p. inherited rows p t) row.parents) (first_key (answer_of fs o.class o.method) (h.parents (library_key c.name)))
         (above_answers t o.class o.method is)
-        (parents_answer h (has_body (known fs) (ref o.class o.method)) (library_key o.class) (all_tell fs ok) (all_fall fs ok) own (library_key c.name) s.below apart)
+        (subst (λ (z : Option ClassKey). IsSome (above o.class o.method z)) (selects_none fs (ref o.class o.method) (library_key c.name))
+        (parents_answer h (has_body (known fs) (ref o.class o.method)) (selected (known fs) (ref o.class o.method)) (library_key o.class) (first_chooses fs (ref o.class o.method) (library_key o.class)) (all_tell fs ok) (all_fall fs ok) own (library_key c.name) s.below apart))
 
     each_inherited : (os : List FirstOverride) (rs : List ((ℕ × ℕ) × ℕ)) → AreReplaced fs texts os rs → ((o : FirstOverride) (t : ℕ × ℕ) (j : ℕ) → slice_get os j ≡ Some o → IsMethod fs t o.class o.method → SomeHasToken rows row.parents t)
         → AreInherited rows row.parents rs

@@ -12,7 +12,7 @@ use Rattle.som_model.specs.Blocks.{printing}
 use Rattle.som_model.specs.Ancestors.{Descends}
 use Rattle.som_model.specs.Classes.{hierarchy}
 use Rattle.som_model.specs.Resolution.{answer}
-use Rattle.som_model.specs.Implementation.{User, held, has_body, implementation}
+use Rattle.som_model.specs.Implementation.{User, held, has_body, selected, implementation}
 use Rattle.som_laws.proofs.Laws.{answer_some, implementation_exists, descends_test}
 use Rattle.som_tables.specs.Rows.{Added, inherited, HasToken}
 use Rattle.std.specs.Borrow.{Bor}
@@ -24,6 +24,7 @@ use Rattle.som_first.specs.FirstImages.{library_key}
 use Rattle.som_first.specs.FirstRuns.{Prints, AllPrint, no_more, and_then, lines, lasting, lasts}
 use Rattle.som_first.specs.Linking.{Answers, IsLinked, CallIs, AreCalls, all_of, library_method}
 use Rattle.som_first.proofs.FirstClasses.{FirstOk, known, all_fall, all_tell}
+use Rattle.som_first.proofs.FirstSelects.{first_chooses}
 use Rattle.som_first.proofs.FirstMembers.{held_own}
 use Rattle.som_first.proofs.PrintedTexts.{out_text, out_print}
 use Rattle.som_first.proofs.Named.{drop_at}
@@ -62,11 +63,11 @@ module _ (fs : List FirstClass) (ok : FirstOk fs) (rows : List (Option (Added �
       ∙ ap (λ (r : MethodRef). is_some (held (known fs) (library_key m.there.name) r)) (ap (λ (x : List ℕ). library_method x call.method) (sym m.class_is) ∙ ap (library_method m.there.name) (sym m.name_is))
       ∙ ap is_some (held_own fs ok m.place at.slot m.there m.method m.at m.slot)
 
-  pub answered : (k : ClassKey) × (answer (hierarchy (known fs)) (has_body (known fs) ref) (library_key call.class) (library_key call.object) ≡ Some k) × (implementation (known fs) (library_key call.object) ref ≡ Some k)
+  pub answered : (k : ClassKey) × (answer (hierarchy (known fs)) (has_body (known fs) ref) (selected (known fs) ref) (library_key call.class) (library_key call.object) ≡ Some k) × (implementation (known fs) (library_key call.object) ref ≡ Some k)
   answered =
       let h = hierarchy (known fs) in
-      let same = answer_some h (has_body (known fs) ref) (library_key call.class) (all_tell fs ok) (all_fall fs ok) (library_key call.object) below in
-      let r = some_is (implementation (known fs) (library_key call.object) ref) (implementation_exists h (has_body (known fs) ref) (library_key call.class) (all_tell fs ok) (all_fall fs ok) owns (library_key call.object) below) in
+      let same = answer_some h (has_body (known fs) ref) (selected (known fs) ref) (library_key call.class) (first_chooses fs ref (library_key call.class)) (all_tell fs ok) (all_fall fs ok) (library_key call.object) below in
+      let r = some_is (implementation (known fs) (library_key call.object) ref) (implementation_exists h (has_body (known fs) ref) (selected (known fs) ref) (library_key call.class) (first_chooses fs ref (library_key call.class)) (all_tell fs ok) (all_fall fs ok) owns (library_key call.object) below) in
       (r.0, same ∙ r.1, r.1)
 
   place_within : (i : ℕ) (c : FirstClass) → slice_get fs i ≡ Some c → i < length fs
@@ -78,10 +79,10 @@ module _ (fs : List FirstClass) (ok : FirstOk fs) (rows : List (Option (Added �
       within (x ∷ xs) (suc j) d e = let lt = within xs j d e in omega (arith, lt)
 
   -- the cell of the call is that of its answer
-  cell_answers : Answers (known fs) texts ref (inherited rows at.object (at.class, at.slot)) (answer (hierarchy (known fs)) (has_body (known fs) ref) (library_key call.class) (library_key call.object))
+  cell_answers : Answers (known fs) texts ref (inherited rows at.object (at.class, at.slot)) (answer (hierarchy (known fs)) (has_body (known fs) ref) (selected (known fs) ref) (library_key call.class) (library_key call.object))
   cell_answers =
-      subst (λ (n : ℕ). Answers (known fs) texts ref (inherited rows n (at.class, at.slot)) (answer (hierarchy (known fs)) (has_body (known fs) ref) (library_key call.class) (library_key call.object))) (sym is.number)
-      (subst (λ (x : List ℕ). Answers (known fs) texts ref (inherited rows (is.place + 4) (at.class, at.slot)) (answer (hierarchy (known fs)) (has_body (known fs) ref) (library_key call.class) (library_key x))) is.object_is
+      subst (λ (n : ℕ). Answers (known fs) texts ref (inherited rows n (at.class, at.slot)) (answer (hierarchy (known fs)) (has_body (known fs) ref) (selected (known fs) ref) (library_key call.class) (library_key call.object))) (sym is.number)
+      (subst (λ (x : List ℕ). Answers (known fs) texts ref (inherited rows (is.place + 4) (at.class, at.slot)) (answer (hierarchy (known fs)) (has_body (known fs) ref) (selected (known fs) ref) (library_key call.class) (library_key x))) is.object_is
       (linked.cells is.place is.there (at.class, at.slot) call.class call.method (place_within is.place is.there is.stands) is.stands is.method))
 
   has_cell : (o : Option ℕ) (k : Option ClassKey) → Answers (known fs) texts ref o k → IsSome k → IsSome o
@@ -90,7 +91,7 @@ module _ (fs : List FirstClass) (ok : FirstOk fs) (rows : List (Option (Added �
   has_cell None (Some k) a s = absurd a
 
   pub has_token : HasToken rows at.object (at.class, at.slot)
-  has_token = has_cell (inherited rows at.object (at.class, at.slot)) (answer (hierarchy (known fs)) (has_body (known fs) ref) (library_key call.class) (library_key call.object)) cell_answers (ap is_some answered.1)
+  has_token = has_cell (inherited rows at.object (at.class, at.slot)) (answer (hierarchy (known fs)) (has_body (known fs) ref) (selected (known fs) ref) (library_key call.class) (library_key call.object)) cell_answers (ap is_some answered.1)
 
   cell_text : (o : Option ℕ) (k : Option ClassKey) → Answers (known fs) texts ref o k → (cell : ℕ) (class : ClassKey) → Some cell ≡ o → k ≡ Some class
       → (text : List ℕ) × (slice_get texts cell ≡ Some text) × (held (known fs) class ref ≡ Some (User (printing text)))
@@ -101,7 +102,7 @@ module _ (fs : List FirstClass) (ok : FirstOk fs) (rows : List (Option (Added �
   cell_text (Some c) None a cell class e f = absurd a
 
   pub some_text : (cell : ℕ) → Some cell ≡ inherited rows at.object (at.class, at.slot) → (text : List ℕ) × (slice_get texts cell ≡ Some text) × (held (known fs) answered.0 ref ≡ Some (User (printing text)))
-  some_text cell e = cell_text (inherited rows at.object (at.class, at.slot)) (answer (hierarchy (known fs)) (has_body (known fs) ref) (library_key call.class) (library_key call.object)) cell_answers cell answered.0 e answered.1
+  some_text cell e = cell_text (inherited rows at.object (at.class, at.slot)) (answer (hierarchy (known fs)) (has_body (known fs) ref) (selected (known fs) ref) (library_key call.class) (library_key call.object)) cell_answers cell answered.0 e answered.1
 
   -- it is the place of the text that the call prints
   pub text_is : (cell : ℕ) → Some cell ≡ inherited rows at.object (at.class, at.slot) → (text : List ℕ) → Prints (known fs) call text → slice_get texts cell ≡ Some text

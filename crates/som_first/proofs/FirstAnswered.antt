@@ -8,7 +8,7 @@ use Rattle.som_model.specs.Class.{Class, interface_of}
 use Rattle.som_model.specs.Kernel.{kernel, som_object}
 use Rattle.som_model.specs.Classes.{classes, hierarchy, interface_classes}
 use Rattle.som_model.specs.Owner.{introduces, sig_of}
-use Rattle.som_model.specs.Implementation.{Held, User, held, has_body, implementation}
+use Rattle.som_model.specs.Implementation.{Held, User, held, has_body, selected, implementation}
 use Rattle.som_model.specs.Conforming.{ReleaseOk, ProgramOk, all_of_program}
 use Rattle.som_model.proofs.NamedLaws.{same_named, held_named}
 use Rattle.som_laws.proofs.Laws.{descends_test, implementation_exists, implementation_body, implementation_above}
@@ -22,6 +22,7 @@ use Rattle.som_first.specs.FirstRuns as print
 use Rattle.som_first.proofs.FirstOrder.{AllPlain, owner_itself}
 use Rattle.som_first.proofs.FirstLists.{classes_of}
 use Rattle.som_first.proofs.FirstClasses.{known, FirstOk, first_ok, classes_are, known_plain, all_fall, all_tell, class_stands, introduces_is}
+use Rattle.som_first.proofs.FirstSelects.{first_chooses}
 use Rattle.som_first.proofs.FirstMembers.{known_class, held_own, held_from}
 use Rattle.som_first.proofs.FirstWorld.{value_of, Stands, above_is}
 use Rattle.som_first.proofs.TypedCalls.{TypedCall, TypedCalls, kept_typed}
@@ -45,6 +46,9 @@ module _ (fs : List FirstClass) (ok : FirstOk fs) (c : FirstCall) where
 
   abbrev has : ClassKey → Bool
   has = has_body (known fs) (called c)
+
+  abbrev chosen : ClassKey → Option ClassKey
+  chosen = selected (known fs) (called c)
 
   -- the body that answers prints a text
   body_prints : (y : ClassKey) (s : Stands fs ok y) (b : Held) → held (known fs) y (called c) ≡ Some b → (text : List ℕ) × (b ≡ User (printing text))
@@ -74,14 +78,15 @@ module _ (fs : List FirstClass) (ok : FirstOk fs) (c : FirstCall) where
   pub typed_prints : TypedCall (map face_only (known fs)) c → (text : List ℕ) × Prints (known fs) c text
   typed_prints typed =
       let k = library_key c.object in let a = library_key c.class in
+      let picks = first_chooses fs (called c) a in
       let faces = map face_only (known fs) in
       let there = class_stands fs ok c.object (sym (known_faces (known fs) k) ∙ typed.known) in
       let below = (descends_test h (all_tell fs ok) (all_fall fs ok) k a).0 (sym (is_a_faces (known fs) k a) ∙ typed.below) in
       let sig : sig_of (known fs) (called c) ≡ Some typed.sig =
       sym (ap (sig_of faces) (owner_itself faces (faces_plain (known fs) (known_plain fs)) (called c)) ∙ sig_faces (known fs) (called c)) ∙ typed.introduced in
-      let who = value_of (implementation (known fs) k (called c)) (implementation_exists h has a (all_tell fs ok) (all_fall fs ok) (own_body (ap is_some sig)) k below) in
-      printed_by who.0 who.1 (implementation_body h has a k who.0 who.1)
-      (above_is fs ok k who.0 (implementation_above h has a k who.0 who.1) there.0 there.1 there.2 (ap library_key (sym there.3)))
+      let who = value_of (implementation (known fs) k (called c)) (implementation_exists h has chosen a picks (all_tell fs ok) (all_fall fs ok) (own_body (ap is_some sig)) k below) in
+      printed_by who.0 who.1 (implementation_body h has chosen a k who.0 who.1)
+      (above_is fs ok k who.0 (implementation_above h has chosen a picks k who.0 who.1) there.0 there.1 there.2 (ap library_key (sym there.3)))
 
 -- calls that are well typed
 all_typed : (fs : List FirstClass) → FirstOk fs → (cs : List FirstCall) → TypedCalls (map face_only (known fs)) cs → (texts : List (List ℕ)) × AllPrint (known fs) cs texts

@@ -22,6 +22,7 @@ use Rattle.som_model.specs.declared.class.Entry.TheVariants as entries
 use Rattle.som_model.specs.declared.class.Body.{Body}
 use Rattle.som_model.specs.declared.class.Body.TheVariants as bodies
 use Rattle.som_model.specs.declared.class.Override.{Override}
+use Rattle.som_model.specs.declared.class.Select.{Select}
 use Rattle.som_model.specs.declared.class.Variable.{Variable}
 use Rattle.som_model.specs.declared.class.ClassFace.{ClassFace}
 use Rattle.som_model.specs.declared.class.ClassDecl.{ClassDecl}
@@ -271,33 +272,36 @@ empty_decided : {A : Type 0} (xs : List A) → ([] ≡ xs) ⊎ ([] ≡ xs → �
 empty_decided [] = inl refl
 empty_decided (x ∷ xs) = inr (λ e. cc)
 
-abbrev decl_with : ClassDecl → List ClassKey → Option ClassKey → List Entry × List Body → List Variable → List Override → ClassDecl
-decl_with d parents metaclass members variables overrides = record {
+abbrev decl_with : ClassDecl → List ClassKey → Option ClassKey → List Entry × List Body → List Variable → List Override → List Select → ClassDecl
+decl_with d parents metaclass members variables overrides selects = record {
   face = face_with d.face parents metaclass members.0;
   variables = variables;
   bodies = members.1;
   overrides = overrides;
+  selects = selects;
 }
 
 decl_decided : (d : ClassDecl) → Decided decl_of d
 decl_decided d =
-    by (parents_decided d.face.parents) (none_decided d.face.metaclass) (members_decided d.face.entries d.bodies) (empty_decided d.variables) (lists_decided override_of override_decided d.overrides)
+    by (parents_decided d.face.parents) (none_decided d.face.metaclass) (members_decided d.face.entries d.bodies) (empty_decided d.variables) (lists_decided override_of override_decided d.overrides) (empty_decided d.selects)
   where
     by : Decided one_parent d.face.parents → (None ≡ d.face.metaclass) ⊎ (None ≡ d.face.metaclass → ⊥) → Decided members_of (d.face.entries, d.bodies)
-        → ([] ≡ d.variables) ⊎ ([] ≡ d.variables → ⊥) → Decided (map override_of) d.overrides → Decided decl_of d
-    by (inl (o, p)) (inl m) (inl (ms, members)) (inl v) (inl (os, overrides)) = inl (
+        → ([] ≡ d.variables) ⊎ ([] ≡ d.variables → ⊥) → Decided (map override_of) d.overrides → ([] ≡ d.selects) ⊎ ([] ≡ d.selects → ⊥) → Decided decl_of d
+    by (inl (o, p)) (inl m) (inl (ms, members)) (inl v) (inl (os, overrides)) (inl s) = inl (
       record { name = d.face.name; major = d.face.major; minor = d.face.minor; parent = o; methods = ms; overrides = os },
-      ap (λ (z : List ClassKey). decl_with d z None (members_of ms) [] (map override_of os)) p
-          ∙ ap (λ (z : Option ClassKey). decl_with d d.face.parents z (members_of ms) [] (map override_of os)) m
-          ∙ ap (λ (z : List Entry × List Body). decl_with d d.face.parents d.face.metaclass z [] (map override_of os)) members
-          ∙ ap (λ (z : List Variable). decl_with d d.face.parents d.face.metaclass (d.face.entries, d.bodies) z (map override_of os)) v
-          ∙ ap (λ (z : List Override). decl_with d d.face.parents d.face.metaclass (d.face.entries, d.bodies) d.variables z) overrides,
+      ap (λ (z : List ClassKey). decl_with d z None (members_of ms) [] (map override_of os) []) p
+          ∙ ap (λ (z : Option ClassKey). decl_with d d.face.parents z (members_of ms) [] (map override_of os) []) m
+          ∙ ap (λ (z : List Entry × List Body). decl_with d d.face.parents d.face.metaclass z [] (map override_of os) []) members
+          ∙ ap (λ (z : List Variable). decl_with d d.face.parents d.face.metaclass (d.face.entries, d.bodies) z (map override_of os) []) v
+          ∙ ap (λ (z : List Override). decl_with d d.face.parents d.face.metaclass (d.face.entries, d.bodies) d.variables z []) overrides
+          ∙ ap (λ (z : List Select). decl_with d d.face.parents d.face.metaclass (d.face.entries, d.bodies) d.variables d.overrides z) s,
     )
-    by (inr never) m ms v os = inr (λ c e. never c.parent (ap (λ (z : ClassDecl). z.face.parents) e))
-    by (inl p) (inr never) ms v os = inr (λ c e. never (ap (λ (z : ClassDecl). z.face.metaclass) e))
-    by (inl p) (inl m) (inr never) v os = inr (λ c e. never c.methods (ap (λ (z : ClassDecl). (z.face.entries, z.bodies)) e))
-    by (inl p) (inl m) (inl ms) (inr never) os = inr (λ c e. never (ap (λ (z : ClassDecl). z.variables) e))
-    by (inl p) (inl m) (inl ms) (inl v) (inr never) = inr (λ c e. never c.overrides (ap (λ (z : ClassDecl). z.overrides) e))
+    by (inr never) m ms v os s = inr (λ c e. never c.parent (ap (λ (z : ClassDecl). z.face.parents) e))
+    by (inl p) (inr never) ms v os s = inr (λ c e. never (ap (λ (z : ClassDecl). z.face.metaclass) e))
+    by (inl p) (inl m) (inr never) v os s = inr (λ c e. never c.methods (ap (λ (z : ClassDecl). (z.face.entries, z.bodies)) e))
+    by (inl p) (inl m) (inl ms) (inr never) os s = inr (λ c e. never (ap (λ (z : ClassDecl). z.variables) e))
+    by (inl p) (inl m) (inl ms) (inl v) (inr never) s = inr (λ c e. never c.overrides (ap (λ (z : ClassDecl). z.overrides) e))
+    by (inl p) (inl m) (inl ms) (inl v) (inl os) (inr never) = inr (λ c e. never (ap (λ (z : ClassDecl). z.selects) e))
 
 -- a release is a first release, or not
 pub release_decided : (r : Release) → ((f : FirstRelease) × (release_of f ≡ r)) ⊎ ((f : FirstRelease) → release_of f ≡ r → ⊥)

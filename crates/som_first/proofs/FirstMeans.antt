@@ -1,5 +1,5 @@
 -- What a first client means: its calls print their texts one after the other, as long as its fuel lasts.
-use Rattle.std.proofs.Common.{◌≡◌, ℕ, zero, suc, Bool, true, false, List, [], ◌∷◌, ◌++◌, map, refl, sym, ap, ◌∙◌, subst, append_assoc}
+use Rattle.std.proofs.Common.{◌≡◌, ℕ, zero, suc, Bool, true, false, List, [], ◌∷◌, ◌++◌, map, refl, sym, ap, ◌∙◌, subst, append_assoc, ◌-◌}
 use Rattle.std.proofs.lemmas.List.{append-nil}
 use Rattle.som_model.specs.declared.key.ClassKey.{ClassKey}
 use Rattle.som_model.specs.declared.key.MethodRef.{MethodRef}
@@ -8,13 +8,16 @@ use Rattle.som_model.specs.Kernel.{som_object, som_class, som_new, som_init}
 use Rattle.som_model.specs.Classes.{classes}
 use Rattle.som_model.specs.Conforming.{ReleaseOk}
 use Rattle.som_model.specs.World.{World, world}
-use Rattle.som_model.specs.State.{Nil, Heap, State, InMain, Manner, Offset, Faulted, Event, Printed, Called, Ran, Goes, Ends, Spent, Act, follow}
+use Rattle.som_model.specs.State.{Nil, Heap, State, InMain, Manner, Offset, Event, Printed, Called, Used}
+use Rattle.som_model.specs.Runs.{Faulted, Ran, Goes, Ends, Spent, Act, follow}
 use Rattle.som_model.specs.Acts.{with_one}
 use Rattle.som_model.specs.Calls.{Here}
 use Rattle.som_model.specs.Statements.{Flow, go_on, all_of, leave, exec}
-use Rattle.som_model.specs.Means.{calls, means, means_in, nothing_yet, nothing_kept, beginning}
-use Rattle.som_model.proofs.NewLaws.{state, NewRuns, new_events}
-use Rattle.som_model.proofs.PrintLaws.{CallRuns, call_events, calling_does, run_block_is}
+use Rattle.som_model.specs.Means.{calls, means, means_in, nothing_yet, beginning}
+use Rattle.som_model.specs.declared.limits.TheConstants.{MAX_DEPTH}
+use Rattle.som_model.proofs.FormLaws.{run_block_is}
+use Rattle.som_model.proofs.NewLaws.{state, NewRuns, begun_events, new_events}
+use Rattle.som_model.proofs.PrintLaws.{CallRuns, call_events, calling_does}
 use Rattle.som_first.specs.declared.classes.FirstClass.{FirstClass}
 use Rattle.som_first.specs.declared.classes.FirstCall.{FirstCall}
 use Rattle.som_first.specs.declared.classes.FirstRelease.{FirstRelease}
@@ -30,17 +33,24 @@ pub prints_both : (es fs : List Event) → prints (es ++ fs) ≡ prints es ++ pr
 prints_both [] fs = refl
 prints_both (Printed t ∷ es) fs = ap (λ (l : List (List ℕ)). t ∷ l) (prints_both es fs)
 prints_both (Called r way k ∷ es) fs = prints_both es fs
+prints_both (Used k ∷ es) fs = prints_both es fs
 
 prints_called : (r : MethodRef) (way : Manner) (d : ClassKey) (es : List Event) → prints (es ++ Called r way d ∷ []) ≡ prints es
 prints_called r way d es = prints_both es (Called r way d ∷ []) ∙ append-nil (prints es)
 
-prints_new : (es : List Event) → prints (new_events es) ≡ prints es
-prints_new es = prints_called som_init Offset som_object (es ++ Called som_new Offset som_class ∷ []) ∙ prints_called som_new Offset som_class es
+prints_used : (k : ClassKey) (es : List Event) → prints (es ++ Used k ∷ []) ≡ prints es
+prints_used k es = prints_both es (Used k ∷ []) ∙ append-nil (prints es)
 
-prints_call : (r : MethodRef) (d : ClassKey) (t : List ℕ) (es : List Event) → prints (call_events r d t es) ≡ prints es ++ t ∷ []
-prints_call r d t es =
-    prints_both (new_events es ++ Called r Offset d ∷ []) (Printed t ∷ [])
-    ∙ ap (λ (l : List (List ℕ)). l ++ t ∷ []) (prints_called r Offset d (new_events es) ∙ prints_new es)
+prints_begun : (k : ClassKey) (es : List Event) → prints (begun_events k es) ≡ prints es
+prints_begun k es = prints_called som_new Offset som_class (es ++ Used k ∷ []) ∙ prints_used k es
+
+prints_new : (k : ClassKey) (es : List Event) → prints (new_events k es) ≡ prints es
+prints_new k es = prints_called som_init Offset som_object (begun_events k es) ∙ prints_begun k es
+
+prints_call : (k : ClassKey) (r : MethodRef) (d : ClassKey) (t : List ℕ) (es : List Event) → prints (call_events k r d t es) ≡ prints es ++ t ∷ []
+prints_call k r d t es =
+    prints_both (new_events k es ++ Called r Offset d ∷ []) (Printed t ∷ [])
+    ∙ ap (λ (l : List (List ℕ)). l ++ t ∷ []) (prints_called r Offset d (new_events k es) ∙ prints_new k es)
 
 lasting_none : (n : ℕ) → lasting n [] ≡ []
 lasting_none zero = refl
@@ -55,16 +65,20 @@ lasts_none n = refl
 abbrev here : Here
 here = record { me = Nil; place = InMain }
 
+-- the levels below a call's own and that of the bodies that it calls
+abbrev deeper : ℕ
+deeper = MAX_DEPTH - 2
+
 module _ (fs : List FirstClass) (ok : FirstOk fs) where
   abbrev w : World
   w = world (known fs)
 
   abbrev does : List FirstCall → State → Ran Flow
-  does cs s = (all_of (map (exec nothing_kept w (calls nothing_kept w (suc (suc 62))) here) (map call_of cs)) []).does s
+  does cs s = (all_of (map (exec w (calls w (suc (suc deeper))) here) (map call_of cs)) []).does s
 
   -- calls after the first
   abbrev further : List FirstCall → Ran Flow → Ran Flow
-  further cs o = follow o (λ flow. (go_on {add = nothing_kept} flow (all_of (map (exec nothing_kept w (calls nothing_kept w (suc (suc 62))) here) (map call_of cs)))).does)
+  further cs o = follow o (λ flow. (go_on flow (all_of (map (exec w (calls w (suc (suc deeper))) here) (map call_of cs)))).does)
 
   news_of : (c : FirstCall) (t : List ℕ) → Prints (known fs) c t → NewRuns w (library_key c.object)
   news_of c t p = let o = object_is fs ok c t p in subst (λ (z : List ℕ). NewRuns w (library_key z)) o.3 (news fs ok o.0 o.1 o.2)
@@ -81,24 +95,24 @@ module _ (fs : List FirstClass) (ok : FirstOk fs) where
       → RunPrints (prints es ++ lasting n texts) (lasts n texts) (does cs (state n es heap))
   all_print cs texts no_more n es heap = sym (ap (λ (l : List (List ℕ)). prints es ++ l) (lasting_none n) ∙ append-nil (prints es))
   all_print cs texts (and_then c more t after p ps) zero es heap =
-      stopped more es es heap _ (calling_none nothing_kept w 62 here (library_key c.object) [] (news_of c t p) es heap p.class (called c) t) refl
+      stopped more es (es ++ Used (library_key c.object) ∷ []) heap _ (calling_none w deeper here (library_key c.object) [] (news_of c t p) es heap p.class (called c) t) (prints_used (library_key c.object) es)
   all_print cs texts (and_then c more t after p ps) (suc zero) es heap =
-      stopped more es (es ++ Called som_new Offset som_class ∷ []) (with_one w (library_key c.object) Nil heap) _
-      (calling_one nothing_kept w 62 here (library_key c.object) [] (news_of c t p) es heap p.class (called c) t) (prints_called som_new Offset som_class es)
+      stopped more es (begun_events (library_key c.object) es) (with_one w (library_key c.object) Nil heap) _
+      (calling_one w deeper here (library_key c.object) [] (news_of c t p) es heap p.class (called c) t) (prints_begun (library_key c.object) es)
   all_print cs texts (and_then c more t after p ps) (suc (suc zero)) es heap =
-      stopped more es (new_events es) (with_one w (library_key c.object) Nil heap) _
-      (calling_two nothing_kept w 62 here (library_key c.object) [] (news_of c t p) es heap p.class (called c) t (runs_of c t p)) (prints_new es)
+      stopped more es (new_events (library_key c.object) es) (with_one w (library_key c.object) Nil heap) _
+      (calling_two w deeper here (library_key c.object) [] (news_of c t p) es heap p.class (called c) t (runs_of c t p)) (prints_new (library_key c.object) es)
   all_print cs texts (and_then c more t after p ps) (suc (suc (suc n))) es heap =
-      let made = call_events (called c) p.class t es in
+      let made = call_events (library_key c.object) (called c) p.class t es in
       let joined : prints made ++ lasting n after ≡ prints es ++ t ∷ lasting n after =
-      ap (λ (l : List (List ℕ)). l ++ lasting n after) (prints_call (called c) p.class t es) ∙ append_assoc (prints es) (t ∷ []) (lasting n after) in
+      ap (λ (l : List (List ℕ)). l ++ lasting n after) (prints_call (library_key c.object) (called c) p.class t es) ∙ append_assoc (prints es) (t ∷ []) (lasting n after) in
       subst (λ (o : Ran Flow). RunPrints (prints es ++ t ∷ lasting n after) (lasts n after) (further more o))
-      (sym (calling_does nothing_kept w 62 here (library_key c.object) p.class (called c) t [] (news_of c t p) (runs_of c t p) n es heap))
+      (sym (calling_does w deeper here (library_key c.object) p.class (called c) t [] (news_of c t p) (runs_of c t p) n es heap))
       (subst (λ (l : List (List ℕ)). RunPrints l (lasts n after) (does more (state n made (with_one w (library_key c.object) Nil heap)))) joined
       (all_print more after ps n made (with_one w (library_key c.object) Nil heap)))
 
-  -- the locals end with main
-  left : (texts : List (List ℕ)) (b : Bool) (o : Ran Flow) → RunPrints texts b o → RunPrints texts b (follow o (λ flow s. Goes (leave 0 flow) s))
+  -- the locals end with main, and what the last statement came to is dropped
+  left : (texts : List (List ℕ)) (b : Bool) (o : Ran Flow) → RunPrints texts b o → RunPrints texts b (follow (follow o (λ flow s. Goes (leave 0 flow) s)) (λ flow s. Goes (tt {0}) s))
   left texts true (Goes flow s) e = e
   left texts false (Ends Spent s) e = e
   left texts false (Goes flow s) e = absurd e
@@ -109,8 +123,8 @@ main_prints : (fs : List FirstClass) → FirstOk fs → (cs : List FirstCall) (t
     → RunPrints (lasting fuel texts) (lasts fuel texts) (means_in (world (known fs)) (record { statements = map call_of cs }) fuel)
 main_prints fs ok cs texts fuel all =
     let w = world (known fs) in
-    subst (λ (a : Act nothing_kept Flow). RunPrints (lasting fuel texts) (lasts fuel texts) (a.does (beginning w fuel)))
-    (sym (run_block_is nothing_kept w (calls nothing_kept w 64) here (map call_of cs) []))
+    subst (λ (a : Act Flow). RunPrints (lasting fuel texts) (lasts fuel texts) (follow (a.does (beginning w fuel)) (λ flow s. Goes (tt {0}) s)))
+    (sym (run_block_is w (calls w MAX_DEPTH) here (map call_of cs) []))
     (left fs ok (lasting fuel texts) (lasts fuel texts) (does fs ok cs (beginning w fuel)) (all_print fs ok cs texts all fuel [] (nothing_yet w)))
 
 -- what the client prints, and whether it comes to its end

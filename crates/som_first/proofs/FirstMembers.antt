@@ -4,7 +4,6 @@ use Rattle.std.specs.Str.{bytes_eq}
 use Rattle.som_model.specs.declared.key.Module.TheVariants as modules
 use Rattle.som_model.specs.declared.key.ClassKey.{ClassKey}
 use Rattle.som_model.specs.declared.key.MethodRef.{MethodRef}
-use Rattle.som_model.specs.declared.class.Override.{Override}
 use Rattle.som_model.specs.Blocks.{printing}
 use Rattle.som_model.specs.Lists.{Mem, or_else, some, doubles}
 use Rattle.som_model.specs.Keys.{same_key, same_method}
@@ -14,7 +13,7 @@ use Rattle.som_model.specs.Class.{Class, entry_name, entry_of, introduced_sig}
 use Rattle.som_model.specs.Classes.{class_at, hierarchy, is_a}
 use Rattle.som_model.specs.Owner.{owner, introduces}
 use Rattle.som_model.specs.Implementation.{Held, User, OfKernel, held, declared_held, body_named, override_of}
-use Rattle.som_model.specs.Rules.{RuleBreach, breach, demand_of, s6, s10, is_proper}
+use Rattle.som_model.specs.Rules.{breach, demand_of, s6, s10, s10_from, is_proper}
 use Rattle.som_model.proofs.KeyLaws.{Exact, exact_bytes, exact_keys, both}
 use Rattle.som_model.proofs.NamedLaws.{held_named, kernel_named}
 use Rattle.som_laws.proofs.Laws.{descends_test}
@@ -81,20 +80,12 @@ ref_slot [] j o at = absurd (cc)
 ref_slot (x ∷ os) zero o at = let here : x ≡ o = cc in ap (λ (z : FirstOverride). Some (ref_of z)) here
 ref_slot (x ∷ os) (suc j) o at = ref_slot os j o at
 
--- a copy of the steps of S10
-abbrev overrides_from : List Class → Class → List MethodRef → List Override → List RuleBreach
-overrides_from cs c before [] = []
-overrides_from cs c before (o ∷ os) =
-    let r = owner cs o.method in
-    demand_of 10 c o.method.name (is_proper cs c r.class && introduces cs r.name r.class && not (some (same_method r) before))
-    ++ overrides_from cs c (before ++ r ∷ []) os
-
 -- what S10 says of one override
 record Overridden (cs : List Class) (c : Class) (before : List MethodRef) (o : FirstOverride) (os : List FirstOverride) : Type 0 where
   proper : is_proper cs c (library_key o.class) ≡ true
   there : introduces cs o.method (library_key o.class) ≡ true
   new : some (same_method (ref_of o)) before ≡ false
-  rest : overrides_from cs c (before ++ ref_of o ∷ []) (map images.override_of os) ≡ []
+  rest : s10_from cs c (before ++ ref_of o ∷ []) (map images.override_of os) ≡ []
 
 three_true : (a b c : Bool) → (a && b && c) ≡ true → (a ≡ true) × (b ≡ true) × (c ≡ true)
 three_true true true c e = (refl, refl, e)
@@ -102,22 +93,22 @@ three_true true false c e = absurd (true≢false (sym e))
 three_true false b c e = absurd (true≢false (sym e))
 
 module _ (cs : List Class) (own : (r : MethodRef) → owner cs r ≡ r) (c : Class) where
-  overridden : (before : List MethodRef) (o : FirstOverride) (os : List FirstOverride) → overrides_from cs c before (images.override_of o ∷ map images.override_of os) ≡ [] → Overridden cs c before o os
+  overridden : (before : List MethodRef) (o : FirstOverride) (os : List FirstOverride) → s10_from cs c before (images.override_of o ∷ map images.override_of os) ≡ [] → Overridden cs c before o os
   overridden before o os e =
       let holds : MethodRef → Bool = λ r. is_proper cs c r.class && introduces cs r.name r.class && not (some (same_method r) before) in
-      let f = subst (λ (r : MethodRef). demand_of 10 c o.method (holds r) ++ overrides_from cs c (before ++ r ∷ []) (map images.override_of os) ≡ []) (own (ref_of o)) e in
-      let q = both_empty (demand_of 10 c o.method (holds (ref_of o))) (overrides_from cs c (before ++ ref_of o ∷ []) (map images.override_of os)) f in
+      let f = subst (λ (r : MethodRef). demand_of 10 c o.method (holds r) ++ s10_from cs c (before ++ r ∷ []) (map images.override_of os) ≡ []) (own (ref_of o)) e in
+      let q = both_empty (demand_of 10 c o.method (holds (ref_of o))) (s10_from cs c (before ++ ref_of o ∷ []) (map images.override_of os)) f in
       let t = three_true (is_proper cs c (library_key o.class)) (introduces cs o.method (library_key o.class)) (not (some (same_method (ref_of o)) before)) (if_made (holds (ref_of o)) (breach 10 c o.method) q.0) in
       record { proper = t.0; there = t.1; new = not_false (some (same_method (ref_of o)) before) t.2; rest = q.1 }
 
-  none_twice : (before : List MethodRef) (os : List FirstOverride) → overrides_from cs c before (map images.override_of os) ≡ [] → doubles same_method before (map ref_of os) ≡ []
+  none_twice : (before : List MethodRef) (os : List FirstOverride) → s10_from cs c before (map images.override_of os) ≡ [] → doubles same_method before (map ref_of os) ≡ []
   none_twice before [] e = refl
   none_twice before (o ∷ os) e =
       let r = overridden before o os e in
       ap (λ (b : Bool). if b then ref_of o ∷ doubles same_method before (map ref_of os) else doubles same_method (before ++ ref_of o ∷ []) (map ref_of os)) r.new
       ∙ none_twice (before ++ ref_of o ∷ []) os r.rest
 
-  each_proper : (before : List MethodRef) (os : List FirstOverride) → overrides_from cs c before (map images.override_of os) ≡ [] → (j : ℕ) (o : FirstOverride) → slice_get os j ≡ Some o
+  each_proper : (before : List MethodRef) (os : List FirstOverride) → s10_from cs c before (map images.override_of os) ≡ [] → (j : ℕ) (o : FirstOverride) → slice_get os j ≡ Some o
       → (is_proper cs c (library_key o.class) ≡ true) × (introduces cs o.method (library_key o.class) ≡ true)
   each_proper before [] e j o at = absurd (cc)
   each_proper before (x ∷ os) e zero o at =
@@ -248,22 +239,26 @@ module _ (fs : List FirstClass) (ok : FirstOk fs) where
       let once : doubles bytes_eq [] names ≡ [] = none_made (breach 6 (class_of c)) (doubles bytes_eq [] names) (flat_at s6 fs i c ok.entries at) in
       one_place bytes_eq exact_bytes.one [] names once n.name j k (name_slot c.methods j m a ∙ ap (λ (z : List ℕ). Some z) e) (name_slot c.methods k n b)
 
+  -- what S10 says of the overrides of a class
+  replaced_once : (i : ℕ) (c : FirstClass) → slice_get fs i ≡ Some c → s10_from (known fs) (class_of c) [] (map images.override_of c.overrides) ≡ []
+  replaced_once i c at = (both_empty (s10_from (known fs) (class_of c) [] (map images.override_of c.overrides)) [] (flat_at (s10 (known fs)) fs i c ok.overrides at)).0
+
   -- no two overrides of a class are of one method
   pub overrides_apart : (i : ℕ) (c : FirstClass) (j k : ℕ) (o p : FirstOverride) → slice_get fs i ≡ Some c → slice_get c.overrides j ≡ Some o → slice_get c.overrides k ≡ Some p → ref_of o ≡ ref_of p → j ≡ k
   overrides_apart i c j k o p at a b e =
-      let once = none_twice (known fs) (owner_is fs) (class_of c) [] c.overrides (flat_at (s10 (known fs)) fs i c ok.overrides at) in
+      let once = none_twice (known fs) (owner_is fs) (class_of c) [] c.overrides (replaced_once i c at) in
       one_place same_method exact_methods.one [] (map ref_of c.overrides) once (ref_of p) j k (ref_slot c.overrides j o a ∙ ap (λ (z : MethodRef). Some z) e) (ref_slot c.overrides k p b)
 
   -- an override isn't of a method of its own class
   pub override_apart : (i j : ℕ) (c : FirstClass) (o : FirstOverride) → slice_get fs i ≡ Some c → slice_get c.overrides j ≡ Some o → same_key (library_key o.class) (library_key c.name) ≡ false
   override_apart i j c o at bt =
-      let r = each_proper (known fs) (owner_is fs) (class_of c) [] c.overrides (flat_at (s10 (known fs)) fs i c ok.overrides at) j o bt in
+      let r = each_proper (known fs) (owner_is fs) (class_of c) [] c.overrides (replaced_once i c at) j o bt in
       not_false (same_key (library_key o.class) (library_key c.name)) (both (not (same_key (library_key o.class) (library_key c.name))) (is_a (known fs) (library_key c.name) (library_key o.class)) r.0).0
 
   pub override_stands : (i j : ℕ) (c : FirstClass) (o : FirstOverride) → slice_get fs i ≡ Some c → slice_get c.overrides j ≡ Some o → OverrideStands fs i c o
   override_stands i j c o at bt =
       let k = library_key c.name in let a = library_key o.class in let h = hierarchy (known fs) in
-      let r = each_proper (known fs) (owner_is fs) (class_of c) [] c.overrides (flat_at (s10 (known fs)) fs i c ok.overrides at) j o bt in
+      let r = each_proper (known fs) (owner_is fs) (class_of c) [] c.overrides (replaced_once i c at) j o bt in
       let q = both (not (same_key a k)) (is_a (known fs) k a) r.0 in
       let d = (descends_test h (all_tell fs ok) (all_fall fs ok) k a).0 q.1 in
       let p = class_stands fs ok o.class (known_class (known fs) a o.method r.1) in

@@ -5,15 +5,15 @@ use Rattle.som_model.specs.declared.key.Module.TheVariants as modules
 use Rattle.som_model.specs.declared.key.ClassKey.{ClassKey}
 use Rattle.som_model.specs.declared.key.ClassKey.TheVariants as keys
 use Rattle.som_model.specs.declared.key.MethodRef.{MethodRef}
-use Rattle.som_model.specs.Lists.{Mem, option_list, first_some, firsts}
+use Rattle.som_model.specs.Lists.{Mem, option_list, firsts}
 use Rattle.som_model.specs.Keys.{same_key}
 use Rattle.som_model.specs.Hierarchy.{Hierarchy}
-use Rattle.som_model.specs.Ancestors.{Descends, itself, by_parent, descends}
-use Rattle.som_model.specs.Resolution.{impl}
+use Rattle.som_model.specs.Ancestors.{Descends, itself, by_parent}
+use Rattle.som_model.specs.Resolution.{impl, inherits}
 use Rattle.som_model.specs.Class.{Class}
 use Rattle.som_model.specs.Kernel.{kernel, som_object, som_class, som_new, som_init}
 use Rattle.som_model.specs.Classes.{class_at, hierarchy, parents_of, parents_in}
-use Rattle.som_model.specs.Implementation.{OfKernel, held, declared_held, has_body, implementation, is_kernel}
+use Rattle.som_model.specs.Implementation.{OfKernel, held, declared_held, has_body, selected, implementation, is_kernel}
 use Rattle.som_model.specs.Metaclass.{meta, meta_within, hooks, rank, is_low, lowest}
 use Rattle.som_model.specs.World.{world}
 use Rattle.som_model.proofs.KeyLaws.{exact_keys}
@@ -27,6 +27,7 @@ use Rattle.som_first.specs.FirstImages.{library_key, parent_key, called}
 use Rattle.som_first.specs.FirstRuns.{Prints}
 use Rattle.som_first.proofs.FirstLists.{classes_of, place_past, place_here}
 use Rattle.som_first.proofs.FirstClasses.{known, FirstOk, owner_is, all_fall, all_tell, kernel_none, new_there, class_is, class_stands, parents_is, parent_stands}
+use Rattle.som_first.proofs.FirstSelects.{selects_none, first_chooses}
 use Rattle.som_first.proofs.FirstMembers.{held_from}
 
 pub class_is_kernel : is_kernel som_class ≡ true
@@ -169,13 +170,14 @@ module _ (fs : List FirstClass) (ok : FirstOk fs) where
   -- SOMObject's body answers somInit
   init_impl_is : (i : ℕ) (c : FirstClass) → slice_get fs i ≡ Some c → implementation (known fs) (library_key c.name) som_init ≡ Some som_object
   init_impl_is i c at =
-      let k = library_key c.name in let has = has_body (known fs) som_init in
+      let k = library_key c.name in let has = has_body (known fs) som_init in let chosen = selected (known fs) som_init in
+      let picks = first_chooses fs som_init som_object in
       let own : has som_object ≡ true = ap is_some (init_held_is (classes_of fs)) in
-      let some_one = value_of (implementation (known fs) k som_init) (implementation_exists h has som_object (all_tell fs ok) (all_fall fs ok) own k (reaches_object i c at)) in
+      let some_one = value_of (implementation (known fs) k som_init) (implementation_exists h has chosen som_object picks (all_tell fs ok) (all_fall fs ok) own k (reaches_object i c at)) in
       let who = some_one.0 in
-      some_one.1 ∙ ap (λ (z : ClassKey). Some z) (elim (above_is k who (implementation_above h has som_object k who some_one.1) i c at refl) [
+      some_one.1 ∙ ap (λ (z : ClassKey). Some z) (elim (above_is k who (implementation_above h has chosen som_object picks k who some_one.1) i c at refl) [
         | inl e ↦ e
-        | inr s ↦ absurd (no_init who s (implementation_body h has som_object k who some_one.1))
+        | inr s ↦ absurd (no_init who s (implementation_body h has chosen som_object k who some_one.1))
       ])
 
   pub news : (i : ℕ) (c : FirstClass) → slice_get fs i ≡ Some c → NewRuns (world (known fs)) (library_key c.name)
@@ -196,12 +198,13 @@ module _ (fs : List FirstClass) (ok : FirstOk fs) where
   -- where a call is answered, the class of its object is one of the release
   object_by : (name : List ℕ) (r : MethodRef) (d : ClassKey) (o : Option Class) → class_at (known fs) (library_key name) ≡ o → implementation (known fs) (library_key name) r ≡ Some d → is_some o ≡ true
   object_by name r d None none is =
-      let k = library_key name in let has = has_body (known fs) r in
-      let asked : ClassKey → Option ClassKey = λ p. if descends h p r.class then impl h has r.class p else None in
+      let k = library_key name in let has = has_body (known fs) r in let chosen = selected (known fs) r in
+      let above : Option ClassKey → List ClassKey → Option ClassKey = inherits h r.class (impl h has chosen r.class) in
       let bare : has k ≡ false = ap is_some (held_named (known fs) modules.Library name r ∙ ap (λ (o : Option Class). declared_held (known fs) o r) none) in
       let alone : h.parents k ≡ [] = hierarchy_parents (known fs) k ∙ parents_named (known fs) modules.Library name ∙ ap parents_in none in
-      let nobody : implementation (known fs) k r ≡ None = implementation_step h (all_fall fs ok) has r.class k
-      ∙ ap (λ (b : Bool). if b then Some k else first_some asked (h.parents k)) bare ∙ ap (first_some asked) alone in
+      let nobody : implementation (known fs) k r ≡ None = implementation_step h (all_fall fs ok) has chosen r.class (first_chooses fs r r.class) k
+      ∙ ap (λ (b : Bool). if b then Some k else above (chosen k) (h.parents k)) bare
+      ∙ ap (λ (o : Option ClassKey). above o (h.parents k)) (selects_none fs r k) ∙ ap (above None) alone in
       absurd (none_apart d (sym nobody ∙ is))
   object_by name r d (Some c) found is = refl
 

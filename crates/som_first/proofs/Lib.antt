@@ -2,6 +2,7 @@ pub mod FirstLists
 pub mod PrintedTexts
 pub mod FirstOrder
 pub mod FirstClasses
+pub mod FirstSelects
 pub mod FirstMembers
 mod Named
 mod Bodies

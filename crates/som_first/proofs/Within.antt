@@ -1,5 +1,5 @@
 -- A release that has an image has no more classes, and each class no more methods, than an image may have.
-use Rattle.std.proofs.Common.{◌≡◌, ℕ, ◌≤◌, Bool, true, false, List, [], ◌∷◌, ◌++◌, length, map, Some, None, All, refl, sym, ◌∙◌, subst, codes, arith}
+use Rattle.std.proofs.Common.{◌≡◌, ℕ, ◌≤◌, Bool, true, false, List, [], ◌∷◌, ◌++◌, length, map, filter, if◌then◌else◌, Some, None, All, refl, sym, ap, ◌∙◌, subst, codes, arith}
 use Rattle.std.specs.Int.{Width, w8, w16}
 use Rattle.std.specs.Prelude.{nat_le, not, ◌==◌}
 use Rattle.std.proofs.lemmas.Bool.{leb-true}
@@ -8,10 +8,11 @@ use Rattle.std.proofs.lemmas.List.Elements.{All-cons}
 use Rattle.som_model.specs.declared.limits.TheConstants.{MAX_ENTRIES, MAX_LIBRARY_CLASSES, MAX_PARENTS}
 use Rattle.som_model.specs.declared.class.ClassDecl.{ClassDecl}
 use Rattle.som_model.specs.declared.class.ClassFace.{ClassFace}
+use Rattle.som_model.specs.Lists.{some}
 use Rattle.som_model.specs.Class.{Class}
 use Rattle.som_model.specs.Kernel.{kernel}
 use Rattle.som_model.specs.Classes.{library_classes}
-use Rattle.som_model.specs.Images.{Spelled, ◌then◌, each, where_it_is, tag, number, counted, text, version, class, metaclass, entry, face, part, library_image}
+use Rattle.som_model.specs.Images.{Spelled, ◌then◌, each, where_it_is, tag, number, counted, text, version, class, metaclass, entry, face, part, has_selects, only_where, selects_each, library_image}
 use Rattle.som_first.specs.declared.classes.FirstClass.{FirstClass}
 use Rattle.som_first.specs.declared.classes.FirstRelease.{FirstRelease}
 use Rattle.som_first.specs.FirstImages.{decl_of, release_of, face_of, seen, plain_entry}
@@ -58,17 +59,35 @@ faces_within cs (f ∷ fs) bytes e =
     let long : length (map plain_entry (map (λ m. m.name) f.methods)) ≡ length f.methods = length-map (map (λ m. m.name) f.methods) plain_entry ∙ length-map f.methods (λ m. m.name) in
     All-cons (λ (c : FirstClass). length c.methods ≤ MAX_ENTRIES) f fs (subst (λ (n : ℕ). n ≤ MAX_ENTRIES) long few) (faces_within cs fs more.0 more.1)
 
+none_select : (fs : List FirstClass) → some has_selects (map decl_of fs) ≡ false
+none_select [] = refl
+none_select (c ∷ fs) = none_select fs
+
 module _ (r : FirstRelease) where
-  abbrev its : List Class
+  abbrev pub its : List Class
   its = kernel ++ library_classes (release_of r)
 
-  image_by : library_image (release_of r) ≡ ((Some (codes "SOML") then tag 1 then counted w16 MAX_LIBRARY_CLASSES (face_in its) (map decl_of r.classes)) then each (part its) (map decl_of r.classes))
+  -- what stands before the parts of classes, and these
+  abbrev pub heads : Spelled
+  heads = Some (codes "SOML") then tag 1 then counted w16 MAX_LIBRARY_CLASSES (face_in its) (map decl_of r.classes)
+
+  abbrev pub parts : Spelled
+  parts = each (part its) (map decl_of r.classes)
+
+  abbrev with_selects : Bool → Spelled
+  with_selects b =
+      Some (codes "SOML") then tag (if b then 2 else 1) then counted w16 MAX_LIBRARY_CLASSES (face_in its) (map decl_of r.classes) then each (part its) (map decl_of r.classes)
+      then only_where b (number w16 (length (filter has_selects (map decl_of r.classes))) then selects_each its (length kernel) (map decl_of r.classes))
+
+  -- its classes select nothing, so nothing stands after their parts
+  pub image_by : library_image (release_of r) ≡ (heads then parts then Some [])
   unfolding library_image
-  image_by = refl
+  image_by = ap with_selects (none_select r.classes)
 
   pub within : (bytes : List ℕ) → library_image (release_of r) ≡ Some bytes → AreWithin r.classes
   within bytes e =
-      let faces = front (Some (codes "SOML") then tag 1 then counted w16 MAX_LIBRARY_CLASSES (face_in its) (map decl_of r.classes)) (each (part its) (map decl_of r.classes)) bytes (sym image_by ∙ e) in
+      let whole = front (heads then parts) (Some []) bytes (sym image_by ∙ e) in
+      let faces = front heads parts whole.0 whole.1 in
       let list = back (Some (codes "SOML") then tag 1) (counted w16 MAX_LIBRARY_CLASSES (face_in its) (map decl_of r.classes)) faces.0 faces.1 in
       let few = counts w16 MAX_LIBRARY_CLASSES (face_in its) (map decl_of r.classes) list.0 list.1 in
       record {

@@ -62,13 +62,14 @@ face_of f = record {
 abbrev pub seen : FirstClass → FirstFace
 seen c = record { name = c.name; major = c.major; minor = c.minor; parent = c.parent; methods = map (λ m. m.name) c.methods }
 
--- a class without variables, whose bodies print texts
+-- a class without variables and selects, whose bodies print texts
 abbrev pub decl_of : FirstClass → ClassDecl
 decl_of c = record {
   face = face_of (seen c);
   variables = [];
   bodies = map body_of c.methods;
   overrides = map override_of c.overrides;
+  selects = [];
 }
 
 -- a release of such classes

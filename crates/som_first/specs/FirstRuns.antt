@@ -4,7 +4,8 @@ use Rattle.som_model.specs.declared.key.ClassKey.{ClassKey}
 use Rattle.som_model.specs.Blocks.{printing}
 use Rattle.som_model.specs.Class.{Class}
 use Rattle.som_model.specs.Implementation.{User, held, implementation}
-use Rattle.som_model.specs.State.{Event, Printed, Called, Ran, Goes, Ends, Spent}
+use Rattle.som_model.specs.State.{Event, Printed, Called, Used}
+use Rattle.som_model.specs.Runs.{Ran, Goes, Ends, Spent}
 use Rattle.som_first.specs.declared.classes.FirstCall.{FirstCall}
 use Rattle.som_first.specs.FirstImages.{library_key, called}
 
@@ -40,6 +41,7 @@ abbrev pub prints : List Event → List (List ℕ)
 prints [] = []
 prints (Printed text ∷ es) = text ∷ prints es
 prints (Called r way k ∷ es) = prints es
+prints (Used k ∷ es) = prints es
 
 -- a run printed these texts, and came to its end, or else ran out of fuel
 abbrev pub RunPrints : {A : Type 0} → List (List ℕ) → Bool → Ran A → Type 0

@@ -10,7 +10,7 @@ use Rattle.som_model.specs.Classes.{hierarchy, library_classes, is_a}
 use Rattle.som_model.specs.Lists.{among}
 use Rattle.som_model.specs.Resolution.{answer}
 use Rattle.som_model.specs.Conforming.{ReleaseOk}
-use Rattle.som_model.specs.Implementation.{User, held, has_body}
+use Rattle.som_model.specs.Implementation.{User, held, has_body, selected}
 use Rattle.som_tables.specs.Rows.{Added, HasRow, inherited}
 use Rattle.som_first.specs.declared.classes.FirstMethod.{FirstMethod}
 use Rattle.som_first.specs.declared.classes.FirstOverride.{FirstOverride}
@@ -111,7 +111,7 @@ pub record IsLinked (classes : List FirstClass) (n : ℕ) (rows : List (Option (
   pub kernel_rows : (i : ℕ) (t : ℕ × ℕ) → i < 4 → inherited rows i t ≡ None
   pub cells : (i : ℕ) (c : FirstClass) (t : ℕ × ℕ) (class name : List ℕ) → i < n → slice_get classes i ≡ Some c → IsMethod classes t class name
       → Answers (all_of classes) texts (library_method class name) (inherited rows (i + 4) t)
-      (answer (hierarchy (all_of classes)) (has_body (all_of classes) (library_method class name)) (library_key class) (library_key c.name))
+      (answer (hierarchy (all_of classes)) (has_body (all_of classes) (library_method class name)) (selected (all_of classes) (library_method class name)) (library_key class) (library_key c.name))
 
 -- the numbers are those of the call: its object's class, and the method; and the object's class descends from that of the method
 pub record CallIs (classes : List FirstClass) (at : CallPlace) (call : FirstCall) : Type 0 where

@@ -201,7 +201,7 @@ fn first_class(alloc: Global, class: &ClassDecl) -> Result<FirstClass, Unread>
     ensures other { result ≡ Err unread.OtherForm → (c : Class) → decl_of c ≢ class.now }
 {
     let face = &class.face;
-    if face.metaclass.is_some() || !class.variables.is_empty() {
+    if face.metaclass.is_some() || !class.variables.is_empty() || !class.selects.is_empty() {
         return Err(Unread::OtherForm);
     }
     let parent = first_parent(alloc, face.parents.as_slice())?;

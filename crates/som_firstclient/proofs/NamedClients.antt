@@ -40,18 +40,18 @@ use Rattle.som_firstclient.proofs.NamedCalls.{a_block, FitAll, block_forth, bloc
 
 -- ---- the parts of an image
 
--- a client without classes of its own
+-- a client without classes of its own, and so without parts and selects
 abbrev plain_client : Interface → List Stmt → ClientProgram
 plain_client base ss = record { base = base; classes = []; main = record { statements = ss } }
 
 abbrev image_by : Spelled → Spelled → Spelled
-image_by faces main = Some (codes "SOMC") then tag 1 then faces then Some (0 ∷ 0 ∷ []) then Some [] then main
+image_by faces main = Some (codes "SOMC") then tag 1 then faces then Some (0 ∷ 0 ∷ []) then Some [] then Some [] then main
 
 image_is : (base : Interface) (ss : List Stmt) → client_image (plain_client base ss) ≡ image_by (interface_image base) (images.block (known_by base.classes) (a_block base.classes ss) 1)
 unfolding client_image
 image_is base ss = ap (λ (cs : List Class). image_by (interface_image base) (images.block cs (a_block base.classes ss) 1)) (append-nil (known_by base.classes))
 
-regroup : (h t f z m : List ℕ) → (((((h ++ t) ++ f) ++ z) ++ []) ++ m) ≡ (h ++ t) ++ (f ++ (z ++ m))
+regroup : (h t f z m : List ℕ) → ((((((h ++ t) ++ f) ++ z) ++ []) ++ []) ++ m) ≡ (h ++ t) ++ (f ++ (z ++ m))
 regroup h t f z m = simp (append_assoc, append-nil)
 
 -- ---- numbers of 2 bytes
@@ -107,8 +107,8 @@ record Comes (bytes : List ℕ) (p : ClientProgram) : Type 0 where
   pub read : client_at bytes ≡ answered image
   pub names : program_named image ≡ p
 
-joined : (h f z e m h1 f1 z1 e1 m1 x y t bytes : List ℕ) → h ≡ h1 → f ≡ f1 → z ≡ z1 → e ≡ e1 → m ≡ m1 → h1 ++ f1 ≡ x → x ++ z1 ≡ y → y ++ e1 ≡ t → t ++ m1 ≡ bytes → (((h ++ f) ++ z) ++ e) ++ m ≡ bytes
-joined h f z e m h1 f1 z1 e1 m1 x y t bytes hh hf hz he hm hx hy ht hb = cc
+joined : (h f z e s m h1 f1 z1 e1 s1 m1 x y t u bytes : List ℕ) → h ≡ h1 → f ≡ f1 → z ≡ z1 → e ≡ e1 → s ≡ s1 → m ≡ m1 → h1 ++ f1 ≡ x → x ++ z1 ≡ y → y ++ e1 ≡ t → t ++ s1 ≡ u → u ++ m1 ≡ bytes → ((((h ++ f) ++ z) ++ e) ++ s) ++ m ≡ bytes
+joined h f z e s m h1 f1 z1 e1 s1 m1 x y t u bytes hh hf hz he hs hm hx hy ht hu hb = cc
 
 program_back : (bytes : List ℕ) (base : Interface) (ns : List FirstCall) → client_image (plain_client base (map call_of ns)) ≡ Some bytes → Comes bytes (plain_client base (map call_of ns))
 program_back bytes base ns e =
@@ -116,15 +116,16 @@ program_back bytes base ns e =
     let head : List ℕ = codes "SOMC" ++ 1 ∷ [] in
     let faces : Spelled = interface_image base in
     let main : Spelled = images.block (known_by base.classes) (a_block base.classes ss) 1 in
-    let a = split (Some head then faces then Some (0 ∷ 0 ∷ []) then Some []) main bytes (sym (image_is base ss) ∙ e) in
-    let b = split (Some head then faces then Some (0 ∷ 0 ∷ [])) (Some []) a.front a.first in
+    let a = split (Some head then faces then Some (0 ∷ 0 ∷ []) then Some [] then Some []) main bytes (sym (image_is base ss) ∙ e) in
+    let s = split (Some head then faces then Some (0 ∷ 0 ∷ []) then Some []) (Some []) a.front a.first in
+    let b = split (Some head then faces then Some (0 ∷ 0 ∷ [])) (Some []) s.front s.first in
     let c = split (Some head then faces) (Some (0 ∷ 0 ∷ [])) b.front b.first in
     let f = split (Some head) faces c.front c.first in
     let n : NamedFrom base f.back = interface_back base f.back f.second in
     let fs : List WireFace = n.faces in
     let w = subst (λ (i : Interface). From (calls i.classes) (FitAll i.classes) (map (by_name.named i.classes)) ss a.back) (sym n.named) (block_back base.classes ns a.back a.second) in
     let cs : List CallPlace = w.it in
-    let is : bytes ≡ client fs cs = sym (joined head (faces_bytes fs) (0 ∷ 0 ∷ []) [] (calls (named fs) cs) f.front f.back c.back b.back a.back c.front b.front a.front bytes (bytes_are head f.front f.first) n.spelled (bytes_are (0 ∷ 0 ∷ []) c.back c.second) (bytes_are [] b.back b.second) w.spelled f.whole c.whole b.whole a.whole) ∙ regroup (codes "SOMC") (1 ∷ []) (faces_bytes fs) (0 ∷ 0 ∷ []) (calls (named fs) cs) in
+    let is : bytes ≡ client fs cs = sym (joined head (faces_bytes fs) (0 ∷ 0 ∷ []) [] [] (calls (named fs) cs) f.front f.back c.back b.back s.back a.back c.front b.front s.front a.front bytes (bytes_are head f.front f.first) n.spelled (bytes_are (0 ∷ 0 ∷ []) c.back c.second) (bytes_are [] b.back b.second) (bytes_are [] s.back s.second) w.spelled f.whole c.whole b.whole s.whole a.whole) ∙ regroup (codes "SOMC") (1 ∷ []) (faces_bytes fs) (0 ∷ 0 ∷ []) (calls (named fs) cs) in
     let short : All (FitsPlace (named fs)) cs = All-from_recursion (FitsPlace (named fs)) cs (all_map (CallFits (named fs)) (FitsPlace (named fs)) (short_call fs n.fits) cs (recursion_from_All (CallFits (named fs)) cs w.fits.1)) in
     record {
       image = an_image fs cs;

@@ -20,8 +20,6 @@ mod typed_expr;
 
 pub use body::{main_body, method_body};
 pub use body_context::BodyContext;
-pub use expressions::{expression, value_expression};
 pub use fault::BodyFault;
 pub use local::Local;
-pub use statements::block;
 pub use typed_expr::TypedExpr;

@@ -1,6 +1,7 @@
 -- What the grammar derives as items is read, whatever follows.
 use Rattle.std.proofs.Common.{◌≡◌, ℕ, List, [], ◌∷◌, ◌++◌, Bool, true, false, Option, Some, None, Ok, refl, ◌∙◌, append_assoc}
 use Rattle.som_read.specs.Languages.{Listed, Repeated}
+use Rattle.som_read.specs.Readers as readers
 use Rattle.som_read.specs.Readers.{listed}
 use Rattle.som_read.specs.Tokens.{head, is_sign, same_sign, same_key, word}
 use Rattle.som_read.specs.declared.token.Key.{Key}
@@ -23,22 +24,17 @@ use Rattle.som_read.proofs.Found.{expect_found, number_found, take_word_found, l
 use Rattle.som_idl.proofs.ItemLaws.{long_item}
 use Rattle.som_idl.proofs.NameFound.{names_start, name_found, listed_names}
 
-abbrev is_modifier : Key → Bool
-is_modifier key.Override = true
-is_modifier key.NameLookup = true
-is_modifier key.Offset = true
-is_modifier _ = false
-
 module _ (text_at : ℕ → List ℕ) where
-  modifier_found : {u : List Token} {m : Modifier} → g.IsModifier text_at u m → (z : List Token) → r.modifier (u ++ z) ≡ Ok (m, z)
-  unfolding r.modifier same_key
+  modifier_found : {u : List Token} {m : Modifier} → g.IsModifier text_at u m → (z : List Token) → r.modifier text_at (u ++ z) ≡ Ok (m, z)
+  unfolding r.modifier r.selecting same_key same_sign readers.keyword readers.expect
   modifier_found g.modifier_override z = refl
   modifier_found g.modifier_namelookup z = refl
   modifier_found g.modifier_offset z = refl
+  modifier_found (g.modifier_select {u = u} h) z = rw (name_found text_at h z) refl
 
-  listed_modifiers : {u : List Token} {ms : List Modifier} → Listed (g.IsModifier text_at) u ms → (z : List Token) → listed r.modifier (u ++ token.Mark sign.Semicolon ∷ z) ≡ Ok (ms, token.Mark sign.Semicolon ∷ z)
+  listed_modifiers : {u : List Token} {ms : List Modifier} → Listed (g.IsModifier text_at) u ms → (z : List Token) → listed (r.modifier text_at) (u ++ token.Mark sign.Semicolon ∷ z) ≡ Ok (ms, token.Mark sign.Semicolon ∷ z)
   unfolding same_sign
-  listed_modifiers h z = listed_found (g.IsModifier text_at) r.modifier (λ y. Unit {0}) (λ y. tt) (λ v a y i c. modifier_found i y) h (token.Mark sign.Semicolon ∷ z) tt refl
+  listed_modifiers h z = listed_found (g.IsModifier text_at) (r.modifier text_at) (λ y. Unit {0}) (λ y. tt) (λ v a y i c. modifier_found i y) h (token.Mark sign.Semicolon ∷ z) tt refl
 
   order_found : {u : List Token} {ns : List Word} → g.IsOrder text_at u ns → (z : List Token) → r.order text_at (u ++ token.Mark sign.Semicolon ∷ z) ≡ Ok (ns, token.Mark sign.Semicolon ∷ z)
   unfolding r.order

@@ -12,23 +12,22 @@ use Rattle.som_read.specs.declared.tree.TypeName.{TypeName}
 use Rattle.som_read.specs.declared.tree.TypeName.TheVariants as types
 use Rattle.som_idl.specs.declared.tree.Item.{Item}
 use Rattle.som_idl.specs.declared.tree.Item.TheVariants as items
-use Rattle.som_idl.specs.declared.tree.Modifier.TheVariants as modifiers
 use Rattle.som_idl.specs.declared.item.Setting.TheVariants as settings
 use Rattle.som_idl.specs.Grammar as g
 use Rattle.som_idl.specs.Reading as r
-use Rattle.som_read.proofs.Laws.{Lawful, wider, bind_law, pure_law, stop_law, when_law, after_law}
-use Rattle.som_read.proofs.Steps.{IsTaken, it_is_taken, take_word_law, IsNumber, the_number, number_law, after_sign, after_key, expect_then, same_key_is, same_key_differs}
+use Rattle.som_read.proofs.Laws.{Lawful, wider, bind_law, pure_law, when_law, after_law}
+use Rattle.som_read.proofs.Steps.{IsTaken, it_is_taken, take_word_law, IsNumber, the_number, number_law, after_sign, after_key, expect_then, keyword_then, same_key_is, same_key_differs}
 use Rattle.som_read.proofs.Repetition.{listed_law, repeated_law}
 use Rattle.som_read.proofs.Turns.{IsLong}
 use Rattle.som_idl.proofs.NameLaws.{name_law, names_law}
 
 module _ (text_at : ℕ → List ℕ) where
-  pub modifier_law : Lawful (g.IsModifier text_at) r.modifier
-  unfolding r.modifier
+  pub modifier_law : Lawful (g.IsModifier text_at) (r.modifier text_at)
+  unfolding r.modifier r.selecting
   modifier_law = after_key (g.IsModifier text_at) _ _ key.Override (λ x. pure_law _ _ g.modifier_override)
       (after_key (g.IsModifier text_at) _ _ key.NameLookup (λ x. pure_law _ _ g.modifier_namelookup)
       (after_key (g.IsModifier text_at) _ _ key.Offset (λ x. pure_law _ _ g.modifier_offset)
-      (stop_law _ (record { tokens = token.Word key.Offset 0 ∷ []; value = modifiers.Offset; reads = g.modifier_offset }))))
+      (keyword_then (g.IsModifier text_at) _ key.Select (λ x. expect_then _ _ sign.Assign (bind_law (g.IsName text_at) _ _ _ (name_law text_at) (λ u n h. pure_law _ _ (rw append-nil (g.modifier_select h))))))))
 
   pub order_law : Lawful (g.IsOrder text_at) (r.order text_at)
   unfolding r.order

@@ -17,12 +17,13 @@ use Rattle.som_read.specs.declared.token.Token.TheVariants as token
 use Rattle.som_read.specs.declared.tree.TypeName.{TypeName}
 use Rattle.som_read.specs.declared.tree.Word.{Word}
 use Rattle.som_idl.specs.Grammar as g
-use Rattle.som_idl.specs.Within.{WordWithin, VersionWithin, TypeWithin, ResultWithin, ParamWithin, ExportWithin, ItemWithin, InterfaceWithin, FileWithin}
+use Rattle.som_idl.specs.Within.{WordWithin, VersionWithin, TypeWithin, ResultWithin, ParamWithin, ExportWithin, ModifierWithin, ItemWithin, InterfaceWithin, FileWithin}
 use Rattle.som_model.specs.declared.limits.TheConstants.{MAX_NAME}
 use Rattle.som_idl.specs.declared.tree.Export.{Export}
 use Rattle.som_idl.specs.declared.tree.IdlFile.{IdlFile}
 use Rattle.som_idl.specs.declared.tree.IdlInterface.{IdlInterface}
 use Rattle.som_idl.specs.declared.tree.Item.{Item}
+use Rattle.som_idl.specs.declared.tree.Modifier.{Modifier}
 use Rattle.som_idl.specs.declared.tree.Param.{Param}
 
 -- a word is no longer than a name may be, and a number is one that a version may have
@@ -153,13 +154,20 @@ module _ (at : ℕ → List ℕ) where
   order_within g.order_none all = All-nil WordWithin
   order_within (g.order_some h) all = names_within h all
 
+  modifier_within : {u : List Token} {m : Modifier} → g.IsModifier at u m → AreWithin u → ModifierWithin m
+  modifier_within g.modifier_override all = tt
+  modifier_within g.modifier_namelookup all = tt
+  modifier_within g.modifier_offset all = tt
+  modifier_within (g.modifier_select h) all = name_within h (after _ _ (after _ _ all))
+
   item_within : {u : List Token} {o : Option Item} → g.IsItem at u o → AreWithin u → IfSome o ItemWithin
   item_within (g.item_order {u = u} h) all = order_within h (left u _ (after _ _ (after _ _ all)))
   item_within (g.item_metaclass {u = u} h) all = name_within h (left u _ (after _ _ (after _ _ all)))
   item_within (g.item_major {n = n}) all = one (token.Number n) _ (after _ _ (after _ _ all))
   item_within (g.item_minor {n = n}) all = one (token.Number n) _ (after _ _ (after _ _ all))
   item_within (g.item_ignored h i) all = tt
-  item_within (g.item_method k p h i j) all = one (token.Word k p) _ all
+  item_within (g.item_method k p {u = u} h i j) all =
+      (one (token.Word k p) _ all, listed_within (g.IsModifier at) ModifierWithin (λ v m k all. modifier_within k all) j (left u _ (after _ _ (after _ _ all))))
   item_within (g.item_variables {u = u} {v = v} h i) all = (type_within h (left u _ all), names_within i (left v _ (right u _ all)))
 
   items_within : {u : List Token} {is : List Item} → Repeated (g.IsItem at) u is → AreWithin u → All ItemWithin is

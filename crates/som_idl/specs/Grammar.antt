@@ -74,11 +74,12 @@ module _ (text_at : ℕ → List ℕ) where
     export_operation : {u v w : List Token} {t : Option TypeName} {n : Word} {ps : List Param} → IsResult u t → IsName v n → IsParams w ps
         → IsExport (u ++ (v ++ (w ++ token.Mark sign.Semicolon ∷ []))) (exports.Operation t n ps)
 
-  -- "override" | "namelookup" | "offset"
+  -- "override" | "namelookup" | "offset" | "select" "=" NAME
   pub data IsModifier : List Token → Modifier → Type 0 where
     modifier_override : {p : ℕ} → IsModifier (token.Word key.Override p ∷ []) modifiers.Override
     modifier_namelookup : {p : ℕ} → IsModifier (token.Word key.NameLookup p ∷ []) modifiers.NameLookup
     modifier_offset : {p : ℕ} → IsModifier (token.Word key.Offset p ∷ []) modifiers.Offset
+    modifier_select : {p : ℕ} {u : List Token} {n : Word} → IsName u n → IsModifier (token.Word key.Select p ∷ token.Mark sign.Assign ∷ u) (modifiers.Select n)
 
   -- [ NAME { "," NAME } ]
   pub data IsOrder : List Token → List Word → Type 0 where

@@ -1,8 +1,7 @@
 -- The readers of the grammar, with one token in hand.
 use Rattle.std.specs.Prelude.{ℕ, Bool, true, false, if◌then◌else◌, List, [], Option, Some, None}
-use Rattle.som_read.specs.Readers.{Parser, ◌>>=◌, ◌>>◌, pure, stop, when, after, expect, keyword, number, take_word, end, listed, repeated, keeping}
+use Rattle.som_read.specs.Readers.{Parser, ◌>>=◌, ◌>>◌, pure, when, after, expect, keyword, number, take_word, end, listed, repeated, keeping}
 use Rattle.som_read.specs.Tokens.{is_sign, is_key, same_key, word}
-use Rattle.som_read.specs.declared.cursor.Stop.TheVariants.{Syntax}
 use Rattle.som_read.specs.declared.token.Key.{Key}
 use Rattle.som_read.specs.declared.token.Key.TheVariants as key
 use Rattle.som_read.specs.declared.token.Sign.TheVariants as sign
@@ -23,9 +22,6 @@ use Rattle.som_idl.specs.declared.tree.Item.TheVariants as items
 use Rattle.som_idl.specs.declared.tree.Modifier.{Modifier}
 use Rattle.som_idl.specs.declared.tree.Modifier.TheVariants as modifiers
 use Rattle.som_idl.specs.declared.tree.Param.{Param}
-
-unfoldable pub modifier : Parser Modifier
-modifier = after (is_key key.Override) (pure modifiers.Override) (after (is_key key.NameLookup) (pure modifiers.NameLookup) (after (is_key key.Offset) (pure modifiers.Offset) (stop Syntax)))
 
 -- what a word sets that stands directly before "="
 abbrev pub setting_of : Key → Option Setting
@@ -93,6 +89,12 @@ module _ (text_at : ℕ → List ℕ) where
 
   unfoldable pub release_order : Parser (Option Item)
   release_order = order >>= λ ns. expect sign.Semicolon >> pure (Some (items.ReleaseOrder ns))
+
+  unfoldable pub selecting : Parser Modifier
+  selecting = keyword key.Select >> (expect sign.Assign >> (name >>= λ n. pure (modifiers.Select n)))
+
+  unfoldable pub modifier : Parser Modifier
+  modifier = after (is_key key.Override) (pure modifiers.Override) (after (is_key key.NameLookup) (pure modifiers.NameLookup) (after (is_key key.Offset) (pure modifiers.Offset) selecting))
 
   unfoldable pub method : ℕ → Parser (Option Item)
   method p = listed modifier >>= λ ms. expect sign.Semicolon >> pure (Some (items.Method (word text_at p) ms))

@@ -10,6 +10,8 @@ use Rattle.som_idl.specs.declared.tree.IdlFile.{IdlFile}
 use Rattle.som_idl.specs.declared.tree.IdlInterface.{IdlInterface}
 use Rattle.som_idl.specs.declared.tree.Item.{Item}
 use Rattle.som_idl.specs.declared.tree.Item.TheVariants as items
+use Rattle.som_idl.specs.declared.tree.Modifier.{Modifier}
+use Rattle.som_idl.specs.declared.tree.Modifier.TheVariants as modifiers
 use Rattle.som_idl.specs.declared.tree.Param.{Param}
 
 abbrev pub WordWithin : Word → Type 0
@@ -35,12 +37,18 @@ abbrev pub ExportWithin : Export → Type 0
 ExportWithin (exports.Attribute readonly kind names) = TypeWithin kind × All WordWithin names
 ExportWithin (exports.Operation result name params) = ResultWithin result × WordWithin name × All ParamWithin params
 
+abbrev pub ModifierWithin : Modifier → Type 0
+ModifierWithin modifiers.Override = ⊤
+ModifierWithin modifiers.NameLookup = ⊤
+ModifierWithin modifiers.Offset = ⊤
+ModifierWithin (modifiers.Select parent) = WordWithin parent
+
 abbrev pub ItemWithin : Item → Type 0
 ItemWithin (items.ReleaseOrder names) = All WordWithin names
 ItemWithin (items.Metaclass name) = WordWithin name
 ItemWithin (items.Major n) = VersionWithin n
 ItemWithin (items.Minor n) = VersionWithin n
-ItemWithin (items.Method name modifiers) = WordWithin name
+ItemWithin (items.Method name ms) = WordWithin name × All ModifierWithin ms
 ItemWithin (items.Variables kind names) = TypeWithin kind × All WordWithin names
 
 pub record InterfaceWithin (i : IdlInterface) : Type 0 where

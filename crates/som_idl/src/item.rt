@@ -16,8 +16,8 @@ use som_read::{Cursor, Key, Sign, Stop, Token, Turn, TypeName, word_at};
 use std::alloc::Global;
 
 #[tactic(auto, unfolding(crate::specs::Reading::modifier))]
-fn modifier(left: &mut Cursor<'_>) -> Result<Modifier, Stop>
-    ensures { Answers (spec.modifier left.old.rest.now) result left.new.rest.now }
+fn modifier(alloc: Global, tokens: &Tokens, left: &mut Cursor<'_>) -> Result<Modifier, Stop>
+    ensures { Answers (spec.modifier (text_at tokens.now) left.old.rest.now) result left.new.rest.now }
 {
     if left.sees_word(Key::Override) {
         left.skip();
@@ -31,34 +31,46 @@ fn modifier(left: &mut Cursor<'_>) -> Result<Modifier, Stop>
         left.skip();
         return Ok(Modifier::Offset);
     }
-    Err(Stop::Syntax)
+    selecting(alloc, tokens, left)
+}
+
+#[tactic(auto, unfolding(crate::specs::Reading::selecting))]
+fn selecting(alloc: Global, tokens: &Tokens, left: &mut Cursor<'_>) -> Result<Modifier, Stop>
+    ensures { Answers (spec.selecting (text_at tokens.now) left.old.rest.now) result left.new.rest.now }
+{
+    left.keyword(Key::Select)?;
+    left.expect(Sign::Assign)?;
+    let parent = name(alloc, tokens, left)?;
+    Ok(Modifier::Select { parent })
 }
 
 fn next_modifier(
+    alloc: Global,
+    tokens: &Tokens,
     left: &mut Cursor<'_>,
     so_far: List<Modifier>,
 ) -> Result<Turn<List<Modifier>, List<Modifier>>, Stop>
-    ensures { Answers (another spec.modifier so_far left.old.rest.now) result left.new.rest.now }
+    ensures { Answers (another (spec.modifier (text_at tokens.now)) so_far left.old.rest.now) result left.new.rest.now }
 {
     if !left.sees(Sign::Comma) {
         return Ok(Turn::Done(so_far));
     }
     left.skip();
-    let next = modifier(left)?;
+    let next = modifier(alloc, tokens, left)?;
     let mut modifiers = so_far;
     modifiers.push(next)?;
     Ok(Turn::More(modifiers))
 }
 
 #[tactic(auto, unfolding(som_read::specs::Readers::listed, som_read::specs::Readers::repeat))]
-fn modifiers(alloc: Global, left: &mut Cursor<'_>) -> Result<List<Modifier>, Stop>
-    ensures { Answers (listed spec.modifier left.old.rest.now) result left.new.rest.now }
+fn modifiers(alloc: Global, tokens: &Tokens, left: &mut Cursor<'_>) -> Result<List<Modifier>, Stop>
+    ensures { Answers (listed (spec.modifier (text_at tokens.now)) left.old.rest.now) result left.new.rest.now }
 {
-    let first = modifier(left)?;
+    let first = modifier(alloc, tokens, left)?;
     let mut so_far = List::new(alloc);
     so_far.push(first)?;
     for _turn in 0..left.rest.len() + 1 {
-        match next_modifier(left, so_far)? {
+        match next_modifier(alloc, tokens, left, so_far)? {
             Turn::More(more) => so_far = more,
             Turn::Done(all) => return Ok(all),
         }
@@ -97,7 +109,7 @@ fn method(
     ensures { Answers (spec.method (text_at tokens.now) place left.old.rest.now) result left.new.rest.now }
 {
     let name = word_at(alloc, tokens, place)?;
-    let modifiers = modifiers(alloc, left)?;
+    let modifiers = modifiers(alloc, tokens, left)?;
     left.expect(Sign::Semicolon)?;
     Ok(Some(Item::Method { name, modifiers }))
 }

@@ -65,9 +65,11 @@ pub enum Item {
 }
 
 /// What an item says of a method of this class.
-#[derive(Clone, Copy, Debug, PartialEq, Eq)]
+#[derive(Drop)]
 pub enum Modifier {
     Override,
     NameLookup,
     Offset,
+    /// The method's implementation is that of a parent.
+    Select { parent: Word },
 }

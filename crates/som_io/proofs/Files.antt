@@ -1,6 +1,6 @@
 -- The files that the entries of an ordered map stand for.
-use Rattle.std.proofs.Common.{◌≡◌, ℕ, cond, List, [], ◌∷◌, Option, Some, refl, sym, ap, ◌∙◌}
-use Rattle.std.specs.FinMap.{get, insert, find, get-from_entries, get-insert, same_map, slice_cmp-IsAntisymmetric, nat_cmp-IsAntisymmetric}
+use Rattle.std.proofs.Common.{◌≡◌, ℕ, cond, List, [], ◌∷◌, Option, Some, None, refl, sym, ap, ◌∙◌}
+use Rattle.std.specs.FinMap.{get, insert, remove, find, get-from_entries, get-insert, get-remove, same_map, slice_cmp-IsAntisymmetric, nat_cmp-IsAntisymmetric}
 use Rattle.std.specs.Cmp.Lexicographic.{slice_cmp, nat_list_cmp_total}
 use Rattle.std.specs.Cmp.{eq_by_cmp_equiv}
 use Rattle.std.specs.Ordering.{nat_cmp}
@@ -29,3 +29,13 @@ files_among-one old new name bytes updates = same_map nat_list_cmp_total (slice_
     ∙ ap (λ b. cond b (Some bytes) (entry_of old other)) ((eq_by_cmp_equiv nat_list_cmp_total).symm name other)
     ∙ sym (get-insert nat_list_cmp_total (files_among old) name bytes other
     ∙ ap (cond (is_at (slice_cmp nat_cmp other) name) (Some bytes)) (get-files_among old other)))
+
+-- entries without what stands under one name are files without it
+pub files_among-without : (old new : List (List ℕ × List ℕ)) (name : List ℕ) →
+    ((other : List ℕ) → entry_of new other ≡ cond (is_at (slice_cmp nat_cmp name) other) None (entry_of old other)) →
+    files_among new ≡ remove (files_among old) name
+files_among-without old new name updates = same_map nat_list_cmp_total (slice_cmp-IsAntisymmetric nat_cmp-IsAntisymmetric) _ _ (λ other.
+    get-files_among new other ∙ updates other
+    ∙ ap (λ b. cond b None (entry_of old other)) ((eq_by_cmp_equiv nat_list_cmp_total).symm name other)
+    ∙ sym (get-remove nat_list_cmp_total (files_among old) name other
+    ∙ ap (cond (is_at (slice_cmp nat_cmp other) name) None) (get-files_among old other)))

@@ -35,6 +35,13 @@ impl Counter {
         Ok(())
     }
 
+    /// How many calls were made, up to 2^64 - 1.
+    pub fn made(&self) -> u64
+        ensures { result ≡ (counted_by self.now).made }
+    {
+        self.made
+    }
+
     /// Counts a call, and answers whether it is to fail.
     pub fn call(&mut self) -> bool
         ensures fails { result ≡ fails_next (counted_by self.old) }

@@ -3,12 +3,14 @@
 #![tactic(auto)]
 
 mod counter;
+mod leaves;
 mod line;
 mod mem_sink;
 mod mem_store;
 mod sink;
 mod store;
 
+pub use leaves::Leaves;
 pub use line::{Sending, send};
 pub use mem_sink::MemSink;
 pub use mem_store::MemStore;

@@ -1,25 +1,30 @@
 ghost use Rattle.som_io.specs.Calls.{after_next, fails_next, none_made, set_to_fail};
-ghost use Rattle.som_io.specs.MemStore.{calls_of, files_among, files_of};
+ghost use Rattle.som_io.specs.Leaves.{leaving, left_by};
+ghost use Rattle.som_io.specs.MemStore.{calls_of, files_among, files_of, puts_of};
 ghost use Rattle.som_io.specs.Store.{Finds, Holds};
+ghost use Rattle.som_io.specs.declared.leaves.FailingPut.{FailingPut};
+ghost use Rattle.som_io.specs.declared.leaves.Leaves.TheVariants as leaves_kinds;
 ghost use Rattle.som_io.specs.declared.store.Got.TheVariants as gets;
 ghost use Rattle.som_io.specs.declared.store.Put.TheVariants as puts;
 ghost use Rattle.std.specs.FinMap as finmap;
 ghost use Rattle.std.specs.Option.{option_copied};
-ghost use Rattle.std.specs.Prelude.{◌≡◌, ◌↔◌, [], Some, IsTrue, OnErr, OnOk};
+ghost use Rattle.std.specs.Prelude.{◌≡◌, ◌≢◌, ◌↔◌, ◌⊎◌, [], ◌∷◌, ◌++◌, Some, IsTrue, OnErr, OnOk};
 
 use crate::counter::Counter;
+use crate::leaves::{FailingPut, Leaves, left_by};
 use crate::store::{Got, Put, Store};
 use som_model::{List, NoMemory, Text};
 use std::alloc::Global;
 use std::collections::BTreeMap;
 
-/// A store in memory, of which calls can be set to fail. A put that fails leaves the old bytes.
+/// A store in memory, of which calls can be set to fail. A put that fails leaves what was said of it, and else the old bytes.
 /// Its clauses say which call fails, so they are more than those of `Store`, which follow from them.
 #[derive(Drop)]
 pub struct MemStore {
     alloc: Global,
     files: BTreeMap<Text, List<u8>>,
     counter: Counter,
+    failing: Vec<FailingPut>,
 }
 
 // What stands under a name.
@@ -44,26 +49,80 @@ fn set(
     Ok(())
 }
 
+// Takes away what stands under a name.
+fn unset(files: &mut BTreeMap<Text, List<u8>>, name: &Text)
+    ensures { files_among files.new.entries ≡ finmap.remove (files_among files.old.entries) name.now }
+{
+    let _old = files.remove(name);
+}
+
+// Leaves under a name what a put of the bytes is to leave that fails.
+fn leave(
+    alloc: Global,
+    files: &mut BTreeMap<Text, List<u8>>,
+    leaves: Leaves,
+    name: &Text,
+    bytes: &List<u8>,
+) -> Put
+    ensures never { result ≢ puts.Done }
+    ensures left { result ≡ puts.Failed → files_among files.new.entries ≡ leaving leaves (files_among files.old.entries) name.now bytes.now }
+    ensures held { Holds (Some (files_among files.old.entries)) (Some (files_among files.new.entries)) name.now bytes.now result }
+{
+    match leaves {
+        Leaves::Old => Put::Failed,
+        Leaves::New => match set(alloc, files, name, bytes) {
+            Ok(()) => Put::Failed,
+            Err(NoMemory) => Put::NoMemory,
+        },
+        Leaves::Nothing => {
+            unset(files, name);
+            Put::Failed
+        }
+    }
+}
+
 impl MemStore {
     pub fn new(alloc: Global) -> MemStore
         ensures files { files_of result ≡ finmap.empty }
         ensures calls { calls_of result ≡ none_made }
+        ensures puts { puts_of result ≡ [] }
         ensures calm { ⟦<MemStore as Store>⟧.calm result }
     {
         MemStore {
             alloc,
             files: BTreeMap::new(alloc),
             counter: Counter::new(alloc),
+            failing: Vec::new(alloc),
         }
     }
 
-    /// Sets the call of this number to fail. Gets and puts are counted together, from 0.
+    /// Sets the call of this number to fail, and to leave the old bytes where it is a put. Gets and puts are counted together, from 0.
     pub fn fail(&mut self, call: u64) -> Result<(), NoMemory>
         ensures ok { OnOk result (calls_of self.new ≡ set_to_fail (calls_of self.old) call) }
+        ensures leaves { OnOk result (puts_of self.new ≡ puts_of self.old ++ record { call = call; leaves = leaves_kinds.Old } ∷ []) }
         ensures err { OnErr result (calls_of self.new ≡ calls_of self.old) }
+        ensures puts_stay { OnErr result (puts_of self.new ≡ puts_of self.old) }
         ensures files { files_of self.new ≡ files_of self.old }
     {
-        self.counter.fail(call)
+        self.fail_put(call, Leaves::Old)
+    }
+
+    /// Sets the call of this number to fail, and to leave this where it is a put. What is said last of a call holds.
+    pub fn fail_put(&mut self, call: u64, leaves: Leaves) -> Result<(), NoMemory>
+        ensures ok { OnOk result (calls_of self.new ≡ set_to_fail (calls_of self.old) call) }
+        ensures leaves { OnOk result (puts_of self.new ≡ puts_of self.old ++ record { call = call; leaves = leaves } ∷ []) }
+        ensures err { OnErr result (calls_of self.new ≡ calls_of self.old) }
+        ensures puts_stay { OnErr result (puts_of self.new ≡ puts_of self.old) }
+        ensures files { files_of self.new ≡ files_of self.old }
+    {
+        self.failing.push(FailingPut { call, leaves })?;
+        match self.counter.fail(call) {
+            Ok(()) => Ok(()),
+            Err(fault) => {
+                self.failing.pop();
+                Err(fault)
+            }
+        }
     }
 }
 
@@ -76,6 +135,7 @@ impl Store for MemStore {
 
     fn get(&mut self, name: &Text) -> Got
         ensures calls { calls_of self.new ≡ after_next (calls_of self.old) }
+        ensures puts { puts_of self.new ≡ puts_of self.old }
         ensures failed { (result ≡ gets.Failed) ↔ IsTrue (fails_next (calls_of self.old)) }
         ensures found { Finds (Some (files_of self.old)) name.now result }
         ensures same { files_of self.new ≡ files_of self.old }
@@ -94,12 +154,16 @@ impl Store for MemStore {
 
     fn put(&mut self, name: &Text, bytes: &List<u8>) -> Put
         ensures calls { calls_of self.new ≡ after_next (calls_of self.old) }
-        ensures failed { (result ≡ puts.Failed) ↔ IsTrue (fails_next (calls_of self.old)) }
+        ensures puts { puts_of self.new ≡ puts_of self.old }
+        ensures failed { result ≡ puts.Failed → IsTrue (fails_next (calls_of self.old)) }
+        ensures fails { IsTrue (fails_next (calls_of self.old)) → (result ≡ puts.Failed) ⊎ (result ≡ puts.NoMemory) }
         ensures held { Holds (Some (files_of self.old)) (Some (files_of self.new)) name.now bytes.now result }
-        ensures kept { result ≡ puts.Failed → files_of self.new ≡ files_of self.old }
+        ensures left { result ≡ puts.Failed → files_of self.new
+            ≡ leaving (left_by (puts_of self.old) (calls_of self.old).made) (files_of self.old) name.now bytes.now }
     {
+        let leaves = left_by(self.failing.as_slice(), self.counter.made());
         if self.counter.call() {
-            return Put::Failed;
+            return leave(self.alloc, &mut self.files, leaves, name, bytes);
         }
         match set(self.alloc, &mut self.files, name, bytes) {
             Ok(()) => Put::Done,

@@ -5,7 +5,7 @@ use Rattle.std.specs.Str.{bytes_eq}
 use Rattle.som_model.specs.Lists.{Mem, without, firsts, joined, first, or_else, first_some, find, some, among, doubles}
 use Rattle.som_model.specs.Hierarchy.{Hierarchy, Falls, Tells}
 use Rattle.som_model.specs.Ancestors.{Descends, itself, by_parent, anc_within, anc, member, descends}
-use Rattle.som_model.specs.Resolution.{impl_within, impl, answer, byname}
+use Rattle.som_model.specs.Resolution.{Chooses, inherits, impl_within, impl, answer, byname}
 use Rattle.som_model.specs.EffectiveOrder.{effective_order}
 use Rattle.som_model.specs.declared.key.ClassKey.{ClassKey}
 use Rattle.som_model.specs.Keys.{same_key}
@@ -101,29 +101,35 @@ module _ {K : Type 0} (h : Hierarchy K) (falls : Falls h) where
       ∙ ap (λ l. firsts h.same (x ∷ joined l)) (map_on (anc_within h (h.height x)) (anc h) (h.parents x) (λ p k.
       let a : h.height p ≤ h.height x = omega (arith, falls x p k) in anc_stable (h.height x) (h.height p) p a (omega arith)))
 
-  module _ (has_body : K → Bool) (a : K) where
-    abbrev asked : ℕ → K → Option K
-    asked n p = if descends h p a then impl_within h has_body a n p else None
+  module _ (has_body : K → Bool) (chosen : K → Option K) (a : K) (picks : Chooses h chosen a) where
+    -- what a class inherits depends on what its parents have alone
+    inherits_on : (f g : K → Option K) (x : K) (c : Option K) → chosen x ≡ c → ((p : K) → Mem p (h.parents x) → f p ≡ g p) → inherits h a f c (h.parents x) ≡ inherits h a g c (h.parents x)
+    inherits_on f g x None is e = first_on (λ p. if descends h p a then f p else None) (λ p. if descends h p a then g p else None) (h.parents x) (λ p m. ap (λ o. if descends h p a then o else None) (e p m))
+    inherits_on f g x (Some p) is e = e p (picks.parent x p is)
 
-    at_root : (m : ℕ) (x : K) → h.height x ≤ 0 → impl_within h has_body a m x ≡ (if has_body x then Some x else None)
+    from_none : (f : K → Option K) (x : K) (c : Option K) → chosen x ≡ c → h.height x ≤ 0 → inherits h a f c (h.parents x) ≡ None
+    from_none f x None is le = ap (λ ps. inherits h a f None ps) (no_members (h.parents x) (λ p k. omega (arith, falls x p k)))
+    from_none f x (Some p) is le = absurd (omega (arith, falls x p (picks.parent x p is)))
+
+    at_root : (m : ℕ) (x : K) → h.height x ≤ 0 → impl_within h has_body chosen a m x ≡ (if has_body x then Some x else None)
     at_root zero x le = refl
-    at_root (suc m) x le = ap (λ ps. if has_body x then Some x else first_some (asked m) ps) (no_members (h.parents x) (λ p k. omega (arith, falls x p k)))
+    at_root (suc m) x le = ap (λ o. if has_body x then Some x else o) (from_none (impl_within h has_body chosen a m) x (chosen x) refl le)
 
     -- more levels than the height change nothing
-    pub implementation_stable : (n m : ℕ) (x : K) → h.height x ≤ n → h.height x ≤ m → impl_within h has_body a n x ≡ impl_within h has_body a m x
+    pub implementation_stable : (n m : ℕ) (x : K) → h.height x ≤ n → h.height x ≤ m → impl_within h has_body chosen a n x ≡ impl_within h has_body chosen a m x
     implementation_stable zero m x le lm = sym (at_root m x le)
     implementation_stable (suc n) zero x le lm = at_root (suc n) x lm
     implementation_stable (suc n) (suc m) x le lm = ap (λ o. if has_body x then Some x else o)
-        (first_on (asked n) (asked m) (h.parents x) (λ p k.
-        let i : h.height p ≤ n = omega (arith, falls x p k) in let j : h.height p ≤ m = omega (arith, falls x p k) in ap (λ o. if descends h p a then o else None) (implementation_stable n m p i j)))
+        (inherits_on (impl_within h has_body chosen a n) (impl_within h has_body chosen a m) x (chosen x) refl (λ p k.
+        let i : h.height p ≤ n = omega (arith, falls x p k) in let j : h.height p ≤ m = omega (arith, falls x p k) in implementation_stable n m p i j))
 
-    -- a class with a body, or else the first of its parents that descends and has an answer
-    pub implementation_step : (x : K) → impl h has_body a x ≡ (if has_body x then Some x else first_some (λ p. if descends h p a then impl h has_body a p else None) (h.parents x))
+    -- a class with a body, or else what it inherits from the chosen parent, or the first that descends and has an answer
+    pub implementation_step : (x : K) → impl h has_body chosen a x ≡ (if has_body x then Some x else inherits h a (impl h has_body chosen a) (chosen x) (h.parents x))
     implementation_step x = let up : h.height x ≤ suc (h.height x) = omega arith in
         implementation_stable (h.height x) (suc (h.height x)) x (omega arith) up
         ∙ ap (λ o. if has_body x then Some x else o)
-        (first_on (asked (h.height x)) (λ p. if descends h p a then impl h has_body a p else None) (h.parents x) (λ p k.
-        let i : h.height p ≤ h.height x = omega (arith, falls x p k) in ap (λ o. if descends h p a then o else None) (implementation_stable (h.height x) (h.height p) p i (omega arith))))
+        (inherits_on (impl_within h has_body chosen a (h.height x)) (impl h has_body chosen a) x (chosen x) refl (λ p k.
+        let i : h.height p ≤ h.height x = omega (arith, falls x p k) in implementation_stable (h.height x) (h.height p) p i (omega arith)))
 
 -- Descent by steps.
 module _ {K : Type 0} (h : Hierarchy K) (tells : Tells h) where
@@ -159,106 +165,132 @@ own_or : {K : Type 0} (b : Bool) (x : K) (r : Option K) → IsSome r → IsSome 
 own_or true x r s = refl
 own_or false x r s = s
 
+if_asked : {K : Type 0} (b : Bool) (o : Option K) (y : K) → (if b then o else None) ≡ Some y → (b ≡ true) × (o ≡ Some y)
+if_asked true o y e = (refl, e)
+if_asked false o y e = absurd (cc)
+
 -- Who answers.
-module _ {K : Type 0} (h : Hierarchy K) (has_body : K → Bool) (a : K) where
-  own_answers : (n : ℕ) (x : K) → has_body x ≡ true → IsSome (impl_within h has_body a n x)
+module _ {K : Type 0} (h : Hierarchy K) (has_body : K → Bool) (chosen : K → Option K) (a : K) where
+  own_answers : (n : ℕ) (x : K) → has_body x ≡ true → IsSome (impl_within h has_body chosen a n x)
   own_answers zero x e = rw e refl
   own_answers (suc n) x e = rw e refl
 
-  if_asked : (b : Bool) (o : Option K) (y : K) → (if b then o else None) ≡ Some y → (b ≡ true) × (o ≡ Some y)
-  if_asked true o y e = (refl, e)
-  if_asked false o y e = absurd (cc)
+  -- what is inherited is what some class has
+  heir : (f : K → Option K) (ps : List K) (y : K) (c : Option K) → inherits h a f c ps ≡ Some y → (p : K) × (f p ≡ Some y)
+  heir f ps y None e = let r = first_from (λ p. if descends h p a then f p else None) ps y e in (r.0, (if_asked (descends h r.0 a) (f r.0) y r.2).1)
+  heir f ps y (Some p) e = (p, e)
 
   body_by : (x y : K) (r : Option K) (b : Bool) → has_body x ≡ b → (r ≡ Some y → has_body y ≡ true) → (if b then Some x else r) ≡ Some y → has_body y ≡ true
   body_by x y r true own f e = let here : x ≡ y = cc in subst (λ z. has_body z ≡ true) here own
   body_by x y r false own f e = f e
 
-  within_body : (n : ℕ) (x y : K) → impl_within h has_body a n x ≡ Some y → has_body y ≡ true
+  within_body : (n : ℕ) (x y : K) → impl_within h has_body chosen a n x ≡ Some y → has_body y ≡ true
   within_body zero x y e = body_by x y None (has_body x) refl (λ k. absurd (cc)) e
   within_body (suc n) x y e = body_by x y _ (has_body x) refl (λ k.
-      let r = first_from (λ p. if descends h p a then impl_within h has_body a n p else None) (h.parents x) y k in
-      within_body n r.0 y (if_asked (descends h r.0 a) (impl_within h has_body a n r.0) y r.2).1) e
+      let r = heir (impl_within h has_body chosen a n) (h.parents x) y (chosen x) k in within_body n r.0 y r.1) e
 
   -- who answers has a body
-  pub implementation_body : (x y : K) → impl h has_body a x ≡ Some y → has_body y ≡ true
+  pub implementation_body : (x y : K) → impl h has_body chosen a x ≡ Some y → has_body y ≡ true
   implementation_body x y e = within_body (h.height x) x y e
 
-  above_by : (x y : K) (r : Option K) (b : Bool) → (r ≡ Some y → Descends h x y) → (if b then Some x else r) ≡ Some y → Descends h x y
-  above_by x y r true f e = let here : x ≡ y = cc in subst (λ z. Descends h x z) here itself
-  above_by x y r false f e = f e
+  module _ (picks : Chooses h chosen a) where
+    parent_heir : (f : K → Option K) (x y : K) (c : Option K) → chosen x ≡ c → inherits h a f c (h.parents x) ≡ Some y → (p : K) × Mem p (h.parents x) × (f p ≡ Some y)
+    parent_heir f x y None is e = let r = first_from (λ p. if descends h p a then f p else None) (h.parents x) y e in (r.0, r.1, (if_asked (descends h r.0 a) (f r.0) y r.2).1)
+    parent_heir f x y (Some p) is e = (p, picks.parent x p is, e)
 
-  within_above : (n : ℕ) (x y : K) → impl_within h has_body a n x ≡ Some y → Descends h x y
-  within_above zero x y e = above_by x y None (has_body x) (λ k. absurd (cc)) e
-  within_above (suc n) x y e = above_by x y _ (has_body x) (λ k.
-      let r = first_from (λ p. if descends h p a then impl_within h has_body a n p else None) (h.parents x) y k in
-      by_parent r.0 r.1 (within_above n r.0 y (if_asked (descends h r.0 a) (impl_within h has_body a n r.0) y r.2).1)) e
+    above_by : (x y : K) (r : Option K) (b : Bool) → (r ≡ Some y → Descends h x y) → (if b then Some x else r) ≡ Some y → Descends h x y
+    above_by x y r true f e = let here : x ≡ y = cc in subst (λ z. Descends h x z) here itself
+    above_by x y r false f e = f e
 
-  -- who answers is an ancestor
-  pub implementation_above : (x y : K) → impl h has_body a x ≡ Some y → Descends h x y
-  implementation_above x y e = within_above (h.height x) x y e
+    within_above : (n : ℕ) (x y : K) → impl_within h has_body chosen a n x ≡ Some y → Descends h x y
+    within_above zero x y e = above_by x y None (has_body x) (λ k. absurd (cc)) e
+    within_above (suc n) x y e = above_by x y _ (has_body x) (λ k.
+        let r = parent_heir (impl_within h has_body chosen a n) x y (chosen x) refl k in by_parent r.0 r.1 (within_above n r.0 y r.2)) e
 
-  module _ (tells : Tells h) (falls : Falls h) where
-    below_by : (x y : K) (r : Option K) (b : Bool) → Descends h x a → (r ≡ Some y → Descends h y a) → (if b then Some x else r) ≡ Some y → Descends h y a
-    below_by x y r true d f e = let here : x ≡ y = cc in subst (λ z. Descends h z a) here d
-    below_by x y r false d f e = f e
+    -- who answers is an ancestor
+    pub implementation_above : (x y : K) → impl h has_body chosen a x ≡ Some y → Descends h x y
+    implementation_above x y e = within_above (h.height x) x y e
 
-    within_below : (n : ℕ) (x y : K) → Descends h x a → impl_within h has_body a n x ≡ Some y → Descends h y a
-    within_below zero x y d e = below_by x y None (has_body x) d (λ k. absurd (cc)) e
-    within_below (suc n) x y d e = below_by x y _ (has_body x) d (λ k.
-        let r = first_from (λ p. if descends h p a then impl_within h has_body a n p else None) (h.parents x) y k in
-        let q = if_asked (descends h r.0 a) (impl_within h has_body a n r.0) y r.2 in
-        within_below n r.0 y ((descends_test h tells falls r.0 a).0 q.0) q.1) e
+    module _ (tells : Tells h) (falls : Falls h) where
+      below_heir : (f : K → Option K) (x y : K) (c : Option K) → chosen x ≡ c → inherits h a f c (h.parents x) ≡ Some y → (p : K) × Descends h p a × (f p ≡ Some y)
+      below_heir f x y None is e =
+          let r = first_from (λ p. if descends h p a then f p else None) (h.parents x) y e in
+          let q = if_asked (descends h r.0 a) (f r.0) y r.2 in
+          (r.0, (descends_test h tells falls r.0 a).0 q.0, q.1)
+      below_heir f x y (Some p) is e = (p, picks.below x p is, e)
 
-    -- who answers descends from the introducing class
-    pub implementation_below : (x y : K) → Descends h x a → impl h has_body a x ≡ Some y → Descends h y a
-    implementation_below x y d e = within_below (h.height x) x y d e
+      below_by : (x y : K) (r : Option K) (b : Bool) → Descends h x a → (r ≡ Some y → Descends h y a) → (if b then Some x else r) ≡ Some y → Descends h y a
+      below_by x y r true d f e = let here : x ≡ y = cc in subst (λ z. Descends h z a) here d
+      below_by x y r false d f e = f e
 
-    answered : has_body a ≡ true → (x : K) → Descends h x a → (n : ℕ) → h.height x ≤ n → IsSome (impl_within h has_body a n x)
-    answered own x itself n le = own_answers n x own
-    answered own x (by_parent p m d) zero le = absurd (omega (arith, falls x p m))
-    answered own x (by_parent p m d) (suc n) le =
-        let lower : h.height p ≤ n = omega (arith, falls x p m) in
-        let test : descends h p a ≡ true = (descends_test h tells falls p a).1 d in
-        let inner = answered own p d n lower in
-        own_or (has_body x) x _ (first_there (λ q. if descends h q a then impl_within h has_body a n q else None) p (h.parents x) m
-        (subst (λ (b : Bool). IsSome (if b then impl_within h has_body a n p else None)) (sym test) inner))
+      within_below : (n : ℕ) (x y : K) → Descends h x a → impl_within h has_body chosen a n x ≡ Some y → Descends h y a
+      within_below zero x y d e = below_by x y None (has_body x) d (λ k. absurd (cc)) e
+      within_below (suc n) x y d e = below_by x y _ (has_body x) d (λ k.
+          let r = below_heir (impl_within h has_body chosen a n) x y (chosen x) refl k in within_below n r.0 y r.1 r.2) e
 
-    -- some class answers
-    pub implementation_exists : has_body a ≡ true → (x : K) → Descends h x a → IsSome (impl h has_body a x)
-    implementation_exists own x d = answered own x d (h.height x) (omega arith)
+      -- who answers descends from the introducing class
+      pub implementation_below : (x y : K) → Descends h x a → impl h has_body chosen a x ≡ Some y → Descends h y a
+      implementation_below x y d e = within_below (h.height x) x y d e
 
-    -- a class with a body, or else what the leftmost parent that descends answers
-    pub implementation_leftmost : has_body a ≡ true → (x : K)
-        → impl h has_body a x ≡ (if has_body x then Some x else option_and_then (impl h has_body a) (find (λ p. descends h p a) (h.parents x)))
-    implementation_leftmost own x = implementation_step h falls has_body a x
-        ∙ ap (λ o. if has_body x then Some x else o) (first_chosen (λ p. descends h p a) (impl h has_body a) (h.parents x) (λ p m t.
-        implementation_exists own p ((descends_test h tells falls p a).0 t)))
+      -- where each parent that descends from A has an answer, and some parent does, there is something to inherit
+      inherited : (f : K → Option K) (x : K) (c : Option K) → chosen x ≡ c → ((p : K) → Mem p (h.parents x) → Descends h p a → IsSome (f p)) → (p : K) → Mem p (h.parents x) → Descends h p a → IsSome (inherits h a f c (h.parents x))
+      inherited f x None is there p m d = first_there (λ q. if descends h q a then f q else None) p (h.parents x) m
+          (let t : descends h p a ≡ true = (descends_test h tells falls p a).1 d in subst (λ (b : Bool). IsSome (if b then f p else None)) (sym t) (there p m d))
+      inherited f x (Some q) is there p m d = there q (picks.parent x q is) (picks.below x q is)
 
-    not_below : (x p : K) → Mem p (h.parents x) → descends h x a ≡ false → (b : Bool) → descends h p a ≡ b → (if b then impl h has_body a p else None) ≡ None
-    not_below x p k m true e = absurd (true≢false (sym ((descends_test h tells falls x a).1 (by_parent p k ((descends_test h tells falls p a).0 e))) ∙ m))
-    not_below x p k m false e = refl
+      answered : has_body a ≡ true → (n : ℕ) (x : K) → Descends h x a → h.height x ≤ n → IsSome (impl_within h has_body chosen a n x)
+      answered own n x itself le = own_answers n x own
+      answered own zero x (by_parent p m d) le = absurd (omega (arith, falls x p m))
+      answered own (suc n) x (by_parent p m d) le =
+          own_or (has_body x) x _ (inherited (impl_within h has_body chosen a n) x (chosen x) refl (λ q k e.
+          let lower : h.height q ≤ n = omega (arith, falls x q k) in answered own n q e lower) p m d)
 
-    answer_by : (x : K) (b c : Bool) → has_body x ≡ b → descends h x a ≡ c → (has_body x ≡ true → Descends h x a)
-        → (if c then (if b then Some x else first_some (answer h has_body a) (h.parents x)) else None) ≡ or_else (if b then Some x else None) (first_some (answer h has_body a) (h.parents x))
-    answer_by x true true e m d = refl
-    answer_by x false true e m d = refl
-    answer_by x true false e m d = absurd (true≢false (sym ((descends_test h tells falls x a).1 (d e)) ∙ m))
-    answer_by x false false e m d = sym (first_none (answer h has_body a) (h.parents x) (λ p k. not_below x p k m (descends h p a) refl))
+      -- some class answers
+      pub implementation_exists : has_body a ≡ true → (x : K) → Descends h x a → IsSome (impl h has_body chosen a x)
+      implementation_exists own x d = answered own (h.height x) x d (omega arith)
 
-    -- a class where it has a body, else the first answer among its parents
-    pub answer_step : (x : K) → (has_body x ≡ true → Descends h x a) → answer h has_body a x ≡ or_else (if has_body x then Some x else None) (first_some (answer h has_body a) (h.parents x))
-    answer_step x d = ap (λ o. if descends h x a then o else None) (implementation_step h falls has_body a x) ∙ answer_by x (has_body x) (descends h x a) refl refl d
+      leftmost_by : has_body a ≡ true → (x : K) (c : Option K)
+          → inherits h a (impl h has_body chosen a) c (h.parents x) ≡ option_and_then (impl h has_body chosen a) (or_else c (find (λ p. descends h p a) (h.parents x)))
+      leftmost_by own x None = first_chosen (λ p. descends h p a) (impl h has_body chosen a) (h.parents x) (λ p m t. implementation_exists own p ((descends_test h tells falls p a).0 t))
+      leftmost_by own x (Some p) = refl
 
-    -- some parent answers a method of a proper ancestor
-    pub parents_answer : has_body a ≡ true → (x : K) → Descends h x a → (x ≡ a → ⊥) → IsSome (first_some (answer h has_body a) (h.parents x))
-    parents_answer own x itself n = absurd (n refl)
-    parents_answer own x (by_parent p m d) n = first_there (answer h has_body a) p (h.parents x) m
-        (let t : descends h p a ≡ true = (descends_test h tells falls p a).1 d in
-        subst (λ (b : Bool). IsSome (if b then impl h has_body a p else None)) (sym t) (implementation_exists own p d))
+      -- a class with a body, or else what the chosen parent answers, or where none is chosen the leftmost that descends
+      pub implementation_leftmost : has_body a ≡ true → (x : K)
+          → impl h has_body chosen a x ≡ (if has_body x then Some x else option_and_then (impl h has_body chosen a) (or_else (chosen x) (find (λ p. descends h p a) (h.parents x))))
+      implementation_leftmost own x = implementation_step h falls has_body chosen a picks x ∙ ap (λ o. if has_body x then Some x else o) (leftmost_by own x (chosen x))
 
-    -- where a class descends from A, the two answers are one
-    pub answer_some : (x : K) → Descends h x a → answer h has_body a x ≡ impl h has_body a x
-    answer_some x d = let t : descends h x a ≡ true = (descends_test h tells falls x a).1 d in ap (λ b. if b then impl h has_body a x else None) t
+      not_below : (x p : K) → Mem p (h.parents x) → descends h x a ≡ false → (b : Bool) → descends h p a ≡ b → (if b then impl h has_body chosen a p else None) ≡ None
+      not_below x p k m true e = absurd (true≢false (sym ((descends_test h tells falls x a).1 (by_parent p k ((descends_test h tells falls p a).0 e))) ∙ m))
+      not_below x p k m false e = refl
+
+      none_inherited : (x : K) → descends h x a ≡ false → (c : Option K) → chosen x ≡ c → inherits h a (impl h has_body chosen a) c (h.parents x) ≡ None
+      none_inherited x m None is = first_none (answer h has_body chosen a) (h.parents x) (λ p k. not_below x p k m (descends h p a) refl)
+      none_inherited x m (Some p) is = absurd (true≢false (sym ((descends_test h tells falls x a).1 (by_parent p (picks.parent x p is) (picks.below x p is))) ∙ m))
+
+      answer_by : (x : K) (o : Option K) (b c : Bool) → has_body x ≡ b → descends h x a ≡ c → (has_body x ≡ true → Descends h x a) → (descends h x a ≡ false → o ≡ None)
+          → (if c then (if b then Some x else o) else None) ≡ or_else (if b then Some x else None) o
+      answer_by x o true true e m d n = refl
+      answer_by x o false true e m d n = refl
+      answer_by x o true false e m d n = absurd (true≢false (sym ((descends_test h tells falls x a).1 (d e)) ∙ m))
+      answer_by x o false false e m d n = sym (n m)
+
+      -- a class where it has a body, else what it inherits
+      pub answer_step : (x : K) → (has_body x ≡ true → Descends h x a) → answer h has_body chosen a x ≡ or_else (if has_body x then Some x else None) (inherits h a (impl h has_body chosen a) (chosen x) (h.parents x))
+      answer_step x d = ap (λ o. if descends h x a then o else None) (implementation_step h falls has_body chosen a picks x)
+          ∙ answer_by x (inherits h a (impl h has_body chosen a) (chosen x) (h.parents x)) (has_body x) (descends h x a) refl refl d (λ m. none_inherited x m (chosen x) refl)
+
+      -- a method of a proper ancestor is inherited
+      pub parents_answer : has_body a ≡ true → (x : K) → Descends h x a → (x ≡ a → ⊥) → IsSome (inherits h a (impl h has_body chosen a) (chosen x) (h.parents x))
+      parents_answer own x itself n = absurd (n refl)
+      parents_answer own x (by_parent p m d) n = inherited (impl h has_body chosen a) x (chosen x) refl (λ q k e. implementation_exists own q e) p m d
+
+      -- where a class descends from A, the two answers are one
+      pub answer_some : (x : K) → Descends h x a → answer h has_body chosen a x ≡ impl h has_body chosen a x
+      answer_some x d = let t : descends h x a ≡ true = (descends_test h tells falls x a).1 d in ap (λ b. if b then impl h has_body chosen a x else None) t
+
+-- who chooses nothing chooses well
+pub none_chosen : {K : Type 0} (h : Hierarchy K) (a : K) → Chooses h (λ k. None) a
+none_chosen h a = record { parent = λ x p e. absurd (cc); below = λ x p e. absurd (cc) }
 
 -- a name means the first ancestor that introduces it
 pub byname_found : {K : Type 0} (h : Hierarchy K) (introduces : K → Bool) (x a : K) → (byname h introduces x ≡ Some a) ↔ IsFirst introduces (anc h x) a

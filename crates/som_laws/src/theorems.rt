@@ -2,13 +2,13 @@ ghost use Rattle.som_model.specs.Ancestors.{Descends, anc, descends};
 ghost use Rattle.som_model.specs.EffectiveOrder.{effective_order};
 ghost use Rattle.som_model.specs.Hierarchy.{Falls, Hierarchy, Tells};
 ghost use Rattle.som_model.specs.Keys.{same_key};
-ghost use Rattle.som_model.specs.Lists.{Mem, doubles, find, first, first_some, firsts, joined, or_else, some};
-ghost use Rattle.som_model.specs.Resolution.{answer, byname, impl};
+ghost use Rattle.som_model.specs.Lists.{Mem, doubles, find, first, firsts, joined, or_else, some};
+ghost use Rattle.som_model.specs.Resolution.{Chooses, answer, byname, impl, inherits};
 ghost use Rattle.som_model.specs.declared.key.ClassKey.{ClassKey};
 ghost use Rattle.som_laws.specs.First.{IsFirst};
 ghost use Rattle.som_laws.specs.Added.{IsThinned, added};
 ghost use Rattle.std.specs.Option.{option_and_then};
-ghost use Rattle.std.specs.Prelude.{◌≡◌, ◌↔◌, ◌∷◌, [], ℕ, List, Bool, true, false, if◌then◌else◌, Some, None, IsSome, map, take, length};
+ghost use Rattle.std.specs.Prelude.{◌≡◌, ◌↔◌, ◌∷◌, [], ℕ, List, Bool, true, false, if◌then◌else◌, Option, Some, None, IsSome, map, take, length};
 
 /// The ancestors of a class are the classes that it descends from, and the test of descent tells them.
 pub fn ancestors_law<K>()
@@ -38,42 +38,45 @@ pub fn ancestors_once_law<K>()
 {}
 
 /// Where a class descends from the one that introduces a method with a body, some class answers: an
-/// ancestor that has a body, and that descends from the introducing one too.
+/// ancestor that has a body, and that descends from the introducing one too. A class may have chosen one
+/// of its parents that descend from it.
 pub fn implementation_law<K>()
-    ensures exists { (h : Hierarchy K) → Falls h → Tells h → (has_body : K → Bool) → (a x : K) →
-        has_body a ≡ true → Descends h x a → IsSome (impl h has_body a x) }
-    ensures has_body { (h : Hierarchy K) → (has_body : K → Bool) → (a x y : K) →
-        impl h has_body a x ≡ Some y → has_body y ≡ true }
-    ensures above { (h : Hierarchy K) → (has_body : K → Bool) → (a x y : K) →
-        impl h has_body a x ≡ Some y → Descends h x y }
-    ensures below { (h : Hierarchy K) → Falls h → Tells h → (has_body : K → Bool) → (a x y : K) →
-        Descends h x a → impl h has_body a x ≡ Some y → Descends h y a }
+    ensures exists { (h : Hierarchy K) → Falls h → Tells h → (has_body : K → Bool) → (chosen : K → Option K) → (a x : K) →
+        Chooses h chosen a → has_body a ≡ true → Descends h x a → IsSome (impl h has_body chosen a x) }
+    ensures has_body { (h : Hierarchy K) → (has_body : K → Bool) → (chosen : K → Option K) → (a x y : K) →
+        impl h has_body chosen a x ≡ Some y → has_body y ≡ true }
+    ensures above { (h : Hierarchy K) → (has_body : K → Bool) → (chosen : K → Option K) → (a x y : K) →
+        Chooses h chosen a → impl h has_body chosen a x ≡ Some y → Descends h x y }
+    ensures below { (h : Hierarchy K) → Falls h → Tells h → (has_body : K → Bool) → (chosen : K → Option K) → (a x y : K) →
+        Chooses h chosen a → Descends h x a → impl h has_body chosen a x ≡ Some y → Descends h y a }
 {}
 
-/// A class with a body answers itself, and for another the first of its parents that descends from the
-/// introducing class and has an answer.
+/// A class with a body answers itself, and another what it inherits: the answer of the parent that it
+/// chose, and where it chose none, of the first parent that descends from the introducing class and has one.
 pub fn implementation_step_law<K>()
-    ensures { (h : Hierarchy K) → Falls h → (has_body : K → Bool) → (a x : K) →
-        impl h has_body a x ≡ (if has_body x then Some x else
-        first_some (λ p. if descends h p a then impl h has_body a p else None) (h.parents x)) }
+    ensures { (h : Hierarchy K) → Falls h → (has_body : K → Bool) → (chosen : K → Option K) → (a x : K) →
+        Chooses h chosen a →
+        impl h has_body chosen a x ≡ (if has_body x then Some x else
+        inherits h a (impl h has_body chosen a) (chosen x) (h.parents x)) }
 {}
 
-/// Where the introducing class has a body, the leftmost parent that descends from it has the answer of a
-/// class without a body, and no other parent is asked.
+/// Where the introducing class has a body, a class without one has the answer of the parent that it chose,
+/// and where it chose none, of the leftmost parent that descends from the introducing class. No other
+/// parent is asked.
 pub fn implementation_leftmost_law<K>()
-    ensures { (h : Hierarchy K) → Falls h → Tells h → (has_body : K → Bool) → (a x : K) →
-        has_body a ≡ true →
-        impl h has_body a x ≡ (if has_body x then Some x else
-        option_and_then (impl h has_body a) (find (λ p. descends h p a) (h.parents x))) }
+    ensures { (h : Hierarchy K) → Falls h → Tells h → (has_body : K → Bool) → (chosen : K → Option K) → (a x : K) →
+        Chooses h chosen a → has_body a ≡ true →
+        impl h has_body chosen a x ≡ (if has_body x then Some x else
+        option_and_then (impl h has_body chosen a) (or_else (chosen x) (find (λ p. descends h p a) (h.parents x)))) }
 {}
 
-/// Where only classes below the introducing one have bodies, a class that has one answers itself, and for
-/// another the first of its parents that has an answer.
+/// Where only classes below the introducing one have bodies, a class that has one answers itself, and
+/// another what it inherits: nothing where no parent has an answer.
 pub fn answer_step_law<K>()
-    ensures { (h : Hierarchy K) → Falls h → Tells h → (has_body : K → Bool) → (a x : K) →
-        (has_body x ≡ true → Descends h x a) →
-        answer h has_body a x ≡
-        or_else (if has_body x then Some x else None) (first_some (answer h has_body a) (h.parents x)) }
+    ensures { (h : Hierarchy K) → Falls h → Tells h → (has_body : K → Bool) → (chosen : K → Option K) → (a x : K) →
+        Chooses h chosen a → (has_body x ≡ true → Descends h x a) →
+        answer h has_body chosen a x ≡
+        or_else (if has_body x then Some x else None) (inherits h a (impl h has_body chosen a) (chosen x) (h.parents x)) }
 {}
 
 /// A name means the method of the first ancestor that introduces it, and nothing where none does.

@@ -13,3 +13,4 @@ pub mod FirstBytes
 pub mod Reread
 pub mod OneFront
 pub mod OneCut
+pub mod Lexed

@@ -1,5 +1,6 @@
 -- Where tokens stand.
-use Rattle.std.specs.Prelude.{ℕ, ◌-◌, ◌<◌, ◌≤◌, ⊤, List, [], ◌∷◌, take, drop}
+use Rattle.std.specs.Prelude.{ℕ, ◌-◌, ◌<◌, ◌≤◌, ⊤, List, [], ◌∷◌, length, take, drop, slice_get}
+use Rattle.std.specs.Option.{option_map_or}
 use Rattle.som_lex.specs.declared.token.LexToken.{LexToken}
 use Rattle.som_lex.specs.declared.token.Tokens.{Tokens}
 use Rattle.som_lex.specs.Cut.{IsCut}
@@ -22,3 +23,7 @@ pub record IsSpelled (source : List ℕ) (t : LexToken) : Type 0 where
 -- these are the tokens of their source
 abbrev pub AreTokens : Tokens → Type 0
 AreTokens t = IsCut t.source 0 t.list
+
+-- where the token at a place of the list begins; behind the last one, the length of the source
+abbrev pub offset_of : Tokens → ℕ → ℕ
+offset_of t place = option_map_or (λ (token : LexToken). token.start) (slice_get t.list place) (length t.source)

@@ -30,6 +30,7 @@ pub struct Tokens {
 
 impl Tokens {
     ghost use Rattle.som_lex.specs.declared.token.LexToken.{LexToken as Token};
+    ghost use Rattle.som_lex.specs.Spans as spec;
     ghost use Rattle.som_lex.specs.Spans.{AreTokens, bytes_of};
 
     /// The bytes of the token at a place of the list.
@@ -42,5 +43,15 @@ impl Tokens {
         let (front, _) = self.source.as_slice().split_at(token.end);
         let (_, bytes) = front.split_at(token.start);
         bytes
+    }
+
+    /// The byte at which the token at a place of the list begins; behind the last token, the length of the text.
+    pub fn offset_of(&self, place: usize) -> usize
+        ensures { result ≡ spec.offset_of self.now place }
+    {
+        match self.list.as_slice().get(place) {
+            Some(token) => token.start,
+            None => self.source.len(),
+        }
     }
 }

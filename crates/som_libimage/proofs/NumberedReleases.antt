@@ -22,20 +22,24 @@ use Rattle.som_fields.specs.declared.face.WireFace.{WireFace}
 use Rattle.som_fields.specs.declared.method.Ranges.{Ranges}
 use Rattle.som_fields.specs.Spelling.{FitsFace}
 use Rattle.som_wire.specs.declared.syntax.WirePart.{WirePart}
+use Rattle.som_wire.specs.declared.selects.WireSelects.{WireSelects}
 use Rattle.som_naming.specs.declared.directory.Directory.{Directory}
-use Rattle.som_naming.specs.SpelledClasses.{FitsParts}
+use Rattle.som_naming.specs.SpelledClasses.{FitsParts, FitsSection}
 use Rattle.som_libimage.specs.Spelling.{FitsRelease}
 use Rattle.som_naming.specs.Naming.{name_in, names_in, kernel_directory, library_directory, ranges_in, entry_names, Tells}
-use Rattle.som_naming.specs.NamedClasses.{classes_named}
+use Rattle.som_naming.specs.NamedClasses.{classes_named, with_selects}
 use Rattle.som_libimage.specs.Naming.{release_named}
-use Rattle.som_naming.specs.Numbering.{class_names, release_directory, IsDirectory}
-use Rattle.som_naming.specs.NumberedClasses.{entry_numbered, face_numbered, part_numbered}
+use Rattle.som_naming.specs.Naming.{release_directory}
+use Rattle.som_numbering.specs.Numbering.{class_names, IsDirectory}
+use Rattle.som_numbering.specs.NumberedClasses.{entry_numbered, face_numbered, part_numbered, selects_numbered}
 use Rattle.som_libimage.specs.Numbering.{release_numbered}
 use Rattle.som_naming.proofs.ClassPlaces.{ranges_known}
+use Rattle.som_naming.proofs.NamedSelects.{section_fits}
+use Rattle.som_numbering.proofs.NumberedSelects.{selects_turn}
 use Rattle.som_naming.proofs.Places.{all_joined}
-use Rattle.som_naming.proofs.Directories.{IsOwn, FewEntries, kernel_own, kernel_few, declared_own, directory_is}
-use Rattle.som_naming.proofs.NumberedParts.{ClassReady, class_turns}
-use Rattle.som_naming.proofs.NumberedClasses.{own_key, keys_told, slots_told, few_own, faces_of, keys_kept, slots_kept, faces_fit, parts_fit, classes_back}
+use Rattle.som_numbering.proofs.Directories.{IsOwn, FewEntries, kernel_own, kernel_few, declared_own, directory_is}
+use Rattle.som_numbering.proofs.NumberedParts.{ClassReady, class_turns}
+use Rattle.som_numbering.proofs.NumberedClasses.{own_key, keys_told, slots_told, few_own, faces_of, keys_kept, slots_kept, faces_fit, parts_fit, classes_back}
 
 pub told : (r : Release) → Tells (release_directory r) (kernel ++ library_classes r)
 told r = record {
@@ -70,12 +74,16 @@ release_turns r few ready =
     let fs : List WireFace = faces_of d.keys r.classes in
     let ps : List WirePart = map (part_numbered d) r.classes in
     let same : library_directory fs ≡ d = directory_kept d.keys r in
+    let gs : List WireSelects = selects_numbered d 4 r.classes in
+    let few_keys : 4 + length r.classes ≤ length d.keys = omega (arith, length-map r.classes own_key) in
+    let ss = selects_turn d 4 r.classes few_keys ready in
     let many : length fs ≡ length r.classes = length-map r.classes (λ (c : ClassDecl). face_numbered d.keys c.face) in
     let number : length d.keys ≡ length fs + 4 = omega (arith, many, length-map r.classes own_key) in
     record {
       fits = record {
         faces = (omega arith, omega (arith, many, few), All-from_recursion (FitsFace (length fs + 4)) fs (subst (λ (n : ℕ). AllByRecursion (FitsFace n) fs) number (faces_fit d r.classes ready)));
         parts = subst (λ (x : Ranges). FitsParts x fs ps) (ap ranges_in (sym same) ∙ ranges_known fs) (parts_fit d r.classes ready);
+        selects = subst (λ (x : Ranges). FitsSection x 4 gs) (ap ranges_in (sym same) ∙ ranges_known fs) (section_fits (ranges_in d) 4 gs ss.ascend);
       };
-      names = ap (λ (x : Directory). a_release (classes_named x fs ps)) same ∙ ap a_release (classes_back d r.classes ready);
+      names = ap (λ (x : Directory). a_release (with_selects x 4 gs (classes_named x fs ps))) same ∙ ap (λ (ds : List ClassDecl). a_release (with_selects d 4 gs ds)) (classes_back d r.classes ready) ∙ ap a_release ss.names;
     }

@@ -1,5 +1,5 @@
 -- A release that conforms and is within the limits names nothing that isn't there: so it can be numbered.
-use Rattle.std.proofs.Common.{◌≡◌, ℕ, ◌≤◌, List, [], ◌++◌, length, map, refl, sym, ap, subst, ◌∙◌, arith}
+use Rattle.std.proofs.Common.{◌≡◌, ℕ, ◌+◌, ◌<◌, ◌≤◌, ◌^◌, List, [], ◌++◌, length, map, refl, sym, ap, subst, ◌∙◌, arith}
 use Rattle.std.specs.Prelude.{flat_map, All}
 use Rattle.std.specs.List.{AllByRecursion}
 use Rattle.std.proofs.lemmas.List.Elements.{All-from_recursion, recursion_from_All}
@@ -16,18 +16,20 @@ use Rattle.som_model.specs.Rules.{s1, s2, s5, s6, s7, s8, s9, s10, s14}
 use Rattle.som_model.specs.Conforming.{each_after, class_typed, ReleaseOk}
 use Rattle.som_fields.specs.declared.face.WireFace.{WireFace}
 use Rattle.som_wire.specs.declared.syntax.WirePart.{WirePart}
+use Rattle.som_wire.specs.declared.selects.WireSelects.{WireSelects}
 use Rattle.som_naming.specs.declared.directory.Directory.{Directory}
-use Rattle.som_naming.specs.Numbering.{class_names, AreNamed, IsDirectory, release_directory}
+use Rattle.som_naming.specs.Naming.{release_directory}
+use Rattle.som_numbering.specs.Numbering.{class_names, AreNamed, IsDirectory}
 use Rattle.som_naming.proofs.Places.{all_map}
 use Rattle.som_libimage.specs.declared.wire.WireRelease.{WireRelease}
 use Rattle.som_naming.specs.ClassLimits.{ClassWithin}
 use Rattle.som_libimage.specs.Limits.{IsWithinLimits}
-use Rattle.som_naming.specs.NumberedClasses.{ClassKnown, face_numbered, part_numbered}
+use Rattle.som_numbering.specs.NumberedClasses.{ClassKnown, face_numbered, part_numbered, selects_numbered}
 use Rattle.som_libimage.specs.Numbering.{release_numbered}
 use Rattle.som_naming.proofs.Conforming.{neither_is, none_first}
-use Rattle.som_naming.proofs.NumberedParts.{ClassReady}
+use Rattle.som_numbering.proofs.NumberedParts.{ClassReady}
 use Rattle.som_libimage.proofs.NumberedReleases.{told, is_directory, ReleaseTurns, release_turns}
-use Rattle.som_naming.proofs.ReadyClasses.{names_new, stand_before, classes_ready}
+use Rattle.som_numbering.proofs.ReadyClasses.{names_new, stand_before, classes_ready}
 
 -- ---- the rules that are used
 
@@ -85,8 +87,8 @@ ready r ok within =
 
 -- ---- with what was made of the release
 
-abbrev wire : List WireFace → List WirePart → WireRelease
-wire fs ps = record { faces = fs; parts = ps }
+abbrev wire : List WireFace → List WirePart → List WireSelects → WireRelease
+wire fs ps ss = record { faces = fs; parts = ps; selects = ss }
 
 abbrev faces_by : List ClassKey → List ClassDecl → List WireFace
 faces_by l cs = map (λ (c : ClassDecl). face_numbered l c.face) cs
@@ -101,9 +103,17 @@ module _ (r : Release) (is : IsReady r) (d : Directory) (made : d ≡ release_di
   pub known_ready : (ds : List ClassDecl) → ds ≡ r.classes → All (ClassKnown d) ds
   known_ready ds same = subst (λ (l : List ClassDecl). All (ClassKnown d) l) (sym same) (subst (λ (x : Directory). All (ClassKnown x) r.classes) (sym made) is.classes)
 
--- the faces and the parts are those of the release
-pub numbered_is : (r : Release) (d : Directory) (ds : List ClassDecl) (fs : List WireFace) (ps : List WirePart) → d ≡ release_directory r → ds ≡ r.classes → fs ≡ faces_by d.keys ds → ps ≡ map (part_numbered d) ds → wire fs ps ≡ release_numbered r
-numbered_is r d ds fs ps made same faces parts =
+-- few classes, behind a slice too
+pub few_ready : (r : Release) → IsWithinLimits r → (ds : List ClassDecl) → ds ≡ r.classes → 4 + length ds < 2 ^ 16
+few_ready r within ds same = omega (arith, within.classes, ap (length {A = ClassDecl}) same)
+
+-- the faces, the parts and the selects are those of the release
+pub numbered_is : (r : Release) (d : Directory) (ds : List ClassDecl) (fs : List WireFace) (ps : List WirePart) (ss : List WireSelects) → d ≡ release_directory r → ds ≡ r.classes
+    → fs ≡ faces_by d.keys ds → ps ≡ map (part_numbered d) ds → ss ≡ selects_numbered d 4 ds → wire fs ps ss ≡ release_numbered r
+numbered_is r d ds fs ps ss made same faces parts selects =
     let own : Directory = release_directory r in
-    ap (λ (l : List WireFace). wire l ps) (faces ∙ ap (λ (x : Directory). faces_by x.keys ds) made ∙ ap (faces_by own.keys) same)
-    ∙ ap (λ (l : List WirePart). wire (faces_by own.keys r.classes) l) (parts ∙ ap (λ (x : Directory). map (part_numbered x) ds) made ∙ ap (map (part_numbered own)) same)
+    let f : List WireFace = faces_by own.keys r.classes in
+    let p : List WirePart = map (part_numbered own) r.classes in
+    ap (λ (l : List WireFace). wire l ps ss) (faces ∙ ap (λ (x : Directory). faces_by x.keys ds) made ∙ ap (faces_by own.keys) same)
+    ∙ ap (λ (l : List WirePart). wire f l ss) (parts ∙ ap (λ (x : Directory). map (part_numbered x) ds) made ∙ ap (map (part_numbered own)) same)
+    ∙ ap (λ (l : List WireSelects). wire f p l) (selects ∙ ap (λ (x : Directory). selects_numbered x 4 ds) made ∙ ap (selects_numbered own 4) same)

@@ -28,18 +28,20 @@ use Rattle.som_naming.specs.BlockLimits.{TextWithin, BlockWithin}
 use Rattle.som_naming.proofs.Places.{all_map, all_mapped}
 use Rattle.som_libimage.specs.declared.wire.WireRelease.{WireRelease}
 use Rattle.som_naming.specs.ReadClasses.{is_introduced, introduced_count, ranges_of}
-use Rattle.som_naming.specs.SpelledClasses.{FitsClass, FitsParts, FitsFaces}
+use Rattle.som_naming.specs.SpelledClasses.{FitsClass, FitsParts, FitsFaces, FitsSomeSection}
 use Rattle.som_libimage.specs.Spelling.{FitsRelease}
-use Rattle.som_naming.specs.NamedClasses.{entry_named, face_named, variable_named, body_named, override_named, class_named, classes_named}
+use Rattle.som_naming.specs.NamedClasses.{classes_named, with_selects}
 use Rattle.som_libimage.specs.Naming.{release_named}
 use Rattle.som_naming.specs.ClassLimits.{EntryWithin, FaceWithin, BodyWithin, ClassWithin}
 use Rattle.som_libimage.specs.Limits.{IsWithinLimits}
 use Rattle.som_libimage.specs.Numbering.{release_numbered}
 use Rattle.som_naming.proofs.ClassPlaces.{ranges_known}
-use Rattle.som_naming.proofs.ClassFields.{faces_few, ranges_short}
+use Rattle.som_naming.proofs.ClassFields.{faces_few, ranges_short, section_written}
+use Rattle.som_naming.proofs.NamedClasses.{many_selecting}
+use Rattle.som_naming.proofs.NamedSelects.{section_ascends}
 use Rattle.som_naming.proofs.NamedLimits.{named_is_within}
 use Rattle.som_libimage.proofs.NumberedReleases.{ReleaseTurns}
-use Rattle.som_naming.proofs.ClassesTurned.{parts_written, classes_within, few_classes}
+use Rattle.som_naming.proofs.ClassesTurned.{parts_written, classes_within, few_classes, selecting_within}
 
 -- ---- what was numbered
 
@@ -54,11 +56,17 @@ turned_fits r t (Err x) e = tt
 pub parts_fit_some : (w : WireRelease) → FitsRelease w → All FitsSomePart w.parts
 parts_fit_some w fits = parts_written (ranges_of w.faces) (ranges_short w.faces fits.faces) w.faces w.parts (faces_few 4 MAX_LIBRARY_CLASSES w.faces fits.faces) fits.parts
 
+pub section_fits_some : (w : WireRelease) → FitsRelease w → FitsSomeSection w.selects
+section_fits_some w fits = section_written (ranges_of w.faces) (ranges_short w.faces fits.faces) 4 w.selects fits.selects
+
 pub release_within : (w : WireRelease) → FitsRelease w → IsWithinLimits (release_named w)
 release_within w fits =
     let d : Directory = library_directory w.faces in
+    let gs = w.selects in
+    let ds = classes_named d w.faces w.parts in
     let parts : FitsParts (ranges_in d) w.faces w.parts = subst (λ (x : Ranges). FitsParts x w.faces w.parts) (sym (ranges_known w.faces)) fits.parts in
+    let each = classes_within d (length w.faces + 4) w.faces w.parts (recursion_from_All (FitsFace (length w.faces + 4)) w.faces fits.faces.2) parts in
     record {
-      classes = omega (arith, fits.faces.1, few_classes d w.faces w.parts);
-      each_class = All-from_recursion ClassWithin (classes_named d w.faces w.parts) (classes_within d (length w.faces + 4) w.faces w.parts (recursion_from_All (FitsFace (length w.faces + 4)) w.faces fits.faces.2) parts);
+      classes = omega (arith, fits.faces.1, few_classes d w.faces w.parts, many_selecting d 4 gs ds);
+      each_class = All-from_recursion ClassWithin (with_selects d 4 gs ds) (selecting_within d (ranges_of w.faces).classes (FitsMethod (ranges_of w.faces)) 4 4 gs (section_ascends (ranges_of w.faces) 4 gs fits.selects) ds each);
     }

@@ -13,6 +13,9 @@ mod numbered;
 mod release;
 mod wire;
 
-pub use laws::{image_exists, names_of_a_conforming_release_differ};
+pub use laws::{
+    bytes_spell_one_release, image_exists, images_are_within_limits,
+    names_of_a_conforming_release_differ, spelling_is_the_image,
+};
 pub use library::{decode, encode};
 pub use wire::WireRelease;

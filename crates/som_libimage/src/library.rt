@@ -1,5 +1,5 @@
 ghost use Rattle.som_naming.specs.Interfaces.{NamesDiffer};
-ghost use Rattle.som_libimage.specs.Libraries.{library_at};
+ghost use Rattle.som_libimage.specs.Libraries.{SpellsLibrary, library_at};
 ghost use Rattle.som_libimage.specs.Limits.{IsWithinLimits};
 ghost use Rattle.som_libimage.specs.Naming.{release_named};
 ghost use Rattle.som_libimage.specs.Spelling.{FitsRelease};
@@ -14,7 +14,7 @@ use crate::release::{read_release, write_release};
 use crate::wire::WireRelease;
 use som_fields::{EncodeFault, ImageFault};
 use som_model::{List, NoMemory, Release};
-use som_naming::{Directory, name_classes};
+use som_naming::{Directory, KERNEL_CLASSES, name_classes};
 use std::alloc::Global;
 
 // The release that a release of an image stands for.
@@ -24,7 +24,14 @@ fn name_release(alloc: Global, wire: &WireRelease) -> Result<Release, NoMemory>
 {
     let directory = Directory::of_library(alloc, &wire.faces)?;
     Ok(Release {
-        classes: name_classes(alloc, &directory, &wire.faces, &wire.parts)?,
+        classes: name_classes(
+            alloc,
+            &directory,
+            KERNEL_CLASSES,
+            &wire.faces,
+            &wire.parts,
+            &wire.selects,
+        )?,
     })
 }
 
@@ -35,12 +42,14 @@ fn read_and_name(alloc: Global, bytes: &List<u8>) -> Result<Release, ImageFault>
     Ok(name_release(alloc, &wire)?)
 }
 
-/// Reads a library image. An image in which a name stands twice is read too, since rules on names are asked of what was
-/// read; such a release may have no image, or another one.
+/// Reads a library image: the one release that the bytes spell, and else the first fault. An image in which a name stands twice
+/// is read too, since rules on names are asked of what was read; such a release has no image, or another one.
 pub fn decode(alloc: Global, bytes: &List<u8>) -> Result<Release, ImageFault>
     ensures found { IfOk result (λ r. NamesDiffer (interface_of r).classes → library_image r ≡ Some bytes.now) }
+    ensures spelled { IfOk result (λ r. SpellsLibrary r bytes.now) }
     ensures within { IfOk result IsWithinLimits }
-    ensures only { (r : _) → library_image r ≡ Some bytes.now → IsWithinLimits r → Gives result (Ok r) }
+    ensures only { (r : _) → library_image r ≡ Some bytes.now → Gives result (Ok r) }
+    ensures only_spelled { (r : _) → SpellsLibrary r bytes.now → Gives result (Ok r) }
     ensures exact { Gives result (library_at bytes.now) }
 {
     let _all = bytes.as_bytes();

@@ -1,19 +1,14 @@
 ghost use Rattle.som_libimage.specs.Limits.{IsWithinLimits};
 ghost use Rattle.som_libimage.specs.Naming.{release_named};
-ghost use Rattle.som_naming.specs.NumberedClasses.{ClassKnown, face_numbered, part_numbered};
 ghost use Rattle.som_libimage.specs.Numbering.{release_numbered};
 ghost use Rattle.som_libimage.specs.Spelling.{FitsRelease};
 ghost use Rattle.som_model.specs.Conforming.{ReleaseOk};
-ghost use Rattle.som_naming.specs.Numbering.{IsDirectory};
-ghost use Rattle.som_order.specs.Names.{texts};
-ghost use Rattle.std.specs.Prelude.{◌≡◌, map, All, IfOk};
+ghost use Rattle.std.specs.Prelude.{◌≡◌, IfOk};
 
 use crate::wire::WireRelease;
-use indexmap::IndexSet;
-use som_fields::WireFace;
-use som_model::{ClassDecl, List, NoMemory, Release};
-use som_naming::{Directory, number_faces, number_parts};
-use som_wire::WirePart;
+use som_model::{NoMemory, Release};
+use som_naming::{Directory, KERNEL_CLASSES};
+use som_numbering::{class_names, number_faces, number_parts, number_selects};
 use std::alloc::Global;
 
 /// The release with numbers and slots that a release is named from.
@@ -32,9 +27,14 @@ fn number_all(alloc: Global, release: &Release) -> Result<WireRelease, NoMemory>
     ensures { IfOk result (λ wire. wire ≡ release_numbered release.now) }
 {
     let directory = Directory::of_release(alloc, release)?;
-    let names = directory.class_names(alloc)?;
+    let names = class_names(alloc, &directory)?;
     let classes = release.classes.as_slice();
     let faces = number_faces(alloc, &names, &directory, classes)?;
     let parts = number_parts(alloc, &names, &directory, classes)?;
-    Ok(WireRelease { faces, parts })
+    let selects = number_selects(alloc, &names, &directory, KERNEL_CLASSES, classes)?;
+    Ok(WireRelease {
+        faces,
+        parts,
+        selects,
+    })
 }

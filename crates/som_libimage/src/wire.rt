@@ -1,10 +1,11 @@
 use som_fields::WireFace;
 use som_model::List;
-use som_wire::WirePart;
+use som_wire::{WirePart, WireSelects};
 
-/// A release as its image has it: a face and a part for each class.
+/// A release as its image has it: a face and a part for each class, and the selects of those that have some.
 #[derive(Drop)]
 pub struct WireRelease {
     pub faces: List<WireFace>,
     pub parts: List<WirePart>,
+    pub selects: List<WireSelects>,
 }

@@ -1,7 +1,12 @@
 pub mod KeyLaws
 pub mod SameLaws
 pub mod NamedLaws
+pub mod FormLaws
 pub mod NewLaws
 pub mod PrintLaws
+pub mod LoopLaws
+pub mod FuelLaws
+pub mod TextLaws
+pub mod MadeLaws
 pub mod ImageLaws
 pub mod TypingLaws

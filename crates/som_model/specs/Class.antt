@@ -24,7 +24,7 @@ class_in m d = record { key = keys.Named m d.face.name; decl = d }
 
 -- a class of which the face alone is known
 abbrev pub bare : ClassFace → ClassDecl
-bare f = record { face = f; variables = []; bodies = []; overrides = [] }
+bare f = record { face = f; variables = []; bodies = []; overrides = []; selects = [] }
 
 -- the faces of a release's classes
 abbrev pub interface_of : Release → Interface

@@ -15,7 +15,7 @@ use Rattle.som_model.specs.Kernel.{kernel}
 use Rattle.som_model.specs.Classes.{library_classes, interface_classes, client_classes}
 use Rattle.som_model.specs.Owner.{owner, sig_of}
 use Rattle.som_model.specs.Rules.{RuleBreach, breach, s1, s2, s3, s4, s5, s6, s7, s8, s9, s10, s14}
-use Rattle.som_model.specs.Typing.{Ruled, class_facts, in_body, in_main}
+use Rattle.som_model.specs.Typing.{ClassFacts, Ruled, class_facts, in_body, in_main}
 use Rattle.som_model.specs.TypedBlocks.{Scope, block_scope}
 
 -- what breaks a rule that looks at the classes before each class
@@ -40,6 +40,10 @@ first_of_members before cs =
     (or_else (first (flat_map (s9 (before ++ cs)) cs))
     (first (flat_map (s10 (before ++ cs)) cs)))))
 
+-- the first breach of the rules S1 to S10 of these classes
+abbrev pub faces_breach : List Class → Option RuleBreach
+faces_breach cs = or_else (first_of_names kernel cs) (or_else (first (flat_map (s5 (kernel ++ cs)) cs)) (first_of_members kernel cs))
+
 -- the first breach of the rules of a release that look into no block
 abbrev pub declared_breach : Release → Option RuleBreach
 declared_breach r = let cs = library_classes r in
@@ -56,7 +60,7 @@ declared_program_breach p = let base = interface_classes p.base in let own = cli
     (or_else (first_of_members kernel (base ++ own))
     (first (flat_map s14 own))))
 
--- ---- S16 to S20, body by body: in images nothing can break S15
+-- ---- S16 to S20, body by body, by what typing asks of the classes: in images nothing can break S15
 
 -- a method's body that breaks a rule
 abbrev body_breach : Class → List ℕ → Ruled Scope → List RuleBreach
@@ -64,29 +68,42 @@ body_breach c name (Ok scope) = []
 body_breach c name (Err rule) = breach rule c name ∷ []
 
 -- what the body of a method breaks, where its parameters are in scope
-abbrev pub block_breach : List Class → Class → List ℕ → Sig → Block → List RuleBreach
-block_breach cs c name sig block = body_breach c name (block_scope (class_facts cs) (in_body c sig.result) block sig.params)
+abbrev pub block_breach_by : ClassFacts → Class → List ℕ → Sig → Block → List RuleBreach
+block_breach_by w c name sig block = body_breach c name (block_scope w (in_body c sig.result) block sig.params)
 
 -- the bodies of introduced entries, in order
-abbrev pub bodies_typed : List Class → Class → List Entry → List Body → List RuleBreach
-bodies_typed cs c [] bs = []
-bodies_typed cs c (entries.Moved name to ∷ es) bs = bodies_typed cs c es bs
-bodies_typed cs c (entries.Introduced name sig way ∷ es) [] = []
-bodies_typed cs c (entries.Introduced name sig way ∷ es) (bodies.User block ∷ bs) = block_breach cs c name sig block ++ bodies_typed cs c es bs
-bodies_typed cs c (entries.Introduced name sig way ∷ es) (bodies.Get n ∷ bs) = bodies_typed cs c es bs
-bodies_typed cs c (entries.Introduced name sig way ∷ es) (bodies.Set n ∷ bs) = bodies_typed cs c es bs
+abbrev pub bodies_typed_by : ClassFacts → Class → List Entry → List Body → List RuleBreach
+bodies_typed_by w c [] bs = []
+bodies_typed_by w c (entries.Moved name to ∷ es) bs = bodies_typed_by w c es bs
+bodies_typed_by w c (entries.Introduced name sig way ∷ es) [] = []
+bodies_typed_by w c (entries.Introduced name sig way ∷ es) (bodies.User block ∷ bs) = block_breach_by w c name sig block ++ bodies_typed_by w c es bs
+bodies_typed_by w c (entries.Introduced name sig way ∷ es) (bodies.Get n ∷ bs) = bodies_typed_by w c es bs
+bodies_typed_by w c (entries.Introduced name sig way ∷ es) (bodies.Set n ∷ bs) = bodies_typed_by w c es bs
 
-abbrev override_breach : List Class → Class → Override → Option Sig → List RuleBreach
-override_breach cs c o None = []
-override_breach cs c o (Some sig) = block_breach cs c o.method.name sig o.block
+abbrev override_breach_by : ClassFacts → Class → Override → Option Sig → List RuleBreach
+override_breach_by w c o None = []
+override_breach_by w c o (Some sig) = block_breach_by w c o.method.name sig o.block
 
--- an override has the signature of the method that it replaces
-abbrev pub override_typed : List Class → Class → Override → List RuleBreach
-override_typed cs c o = override_breach cs c o (sig_of cs (owner cs o.method))
+-- an override has the signature of the method that it replaces, read through its owner among these classes
+abbrev pub override_typed_by : ClassFacts → List Class → Class → Override → List RuleBreach
+override_typed_by w cs c o = override_breach_by w c o (sig_of cs (owner cs o.method))
 
 -- what the bodies of a class break, among all these classes
+abbrev pub class_typed_by : ClassFacts → List Class → Class → List RuleBreach
+class_typed_by w cs c = bodies_typed_by w c c.decl.face.entries c.decl.bodies ++ flat_map (override_typed_by w cs c) c.decl.overrides
+
+-- the same, by what the declarations of these classes say
+abbrev pub block_breach : List Class → Class → List ℕ → Sig → Block → List RuleBreach
+block_breach cs = block_breach_by (class_facts cs)
+
+abbrev pub bodies_typed : List Class → Class → List Entry → List Body → List RuleBreach
+bodies_typed cs = bodies_typed_by (class_facts cs)
+
+abbrev pub override_typed : List Class → Class → Override → List RuleBreach
+override_typed cs = override_typed_by (class_facts cs) cs
+
 abbrev pub class_typed : List Class → Class → List RuleBreach
-class_typed cs c = bodies_typed cs c c.decl.face.entries c.decl.bodies ++ flat_map (override_typed cs c) c.decl.overrides
+class_typed cs = class_typed_by (class_facts cs) cs
 
 -- main that breaks a rule
 abbrev main_breach : Ruled Scope → List RuleBreach
@@ -94,8 +111,11 @@ main_breach (Ok scope) = []
 main_breach (Err rule) = record { rule = rule; class = codes "main"; member = codes "-" } ∷ []
 
 -- what main breaks
+abbrev pub main_typed_by : ClassFacts → Block → List RuleBreach
+main_typed_by w main = main_breach (block_scope w in_main main [])
+
 abbrev pub main_typed : List Class → Block → List RuleBreach
-main_typed cs main = main_breach (block_scope (class_facts cs) in_main main [])
+main_typed cs = main_typed_by (class_facts cs)
 
 -- all classes of a release and of a client program, the kernel's among them
 abbrev pub all_of_release : Release → List Class

@@ -7,8 +7,9 @@ use Rattle.som_model.specs.declared.key.ClassKey.TheVariants as keys
 use Rattle.som_model.specs.declared.program.Fault.TheVariants as faults
 use Rattle.som_model.specs.Kernel.{som_new}
 use Rattle.som_model.specs.World.{World}
-use Rattle.som_model.specs.State.{Value, Long, Boolean, Str, Nil, To, ClassObject, Manager, Heap, Offset, Lookup, Act, Tried, is_live, receiver, variables_of, Event}
-use Rattle.som_model.specs.Acts.{◌>>=◌, ◌>>◌, pure, asked, tried, take_unit, make}
+use Rattle.som_model.specs.State.{Value, Long, Boolean, Str, Nil, To, ClassObject, Manager, Heap, Place, Offset, Lookup, Used, Tried, is_live, receiver, variables_of}
+use Rattle.som_model.specs.Runs.{Act}
+use Rattle.som_model.specs.Acts.{◌>>=◌, ◌>>◌, pure, asked, tried, emit, take_unit, make}
 use Rattle.som_model.specs.Values.{unary, binary, unary_op, binary_op, BinaryOp, And, Or, host, cast, isa}
 use Rattle.som_model.specs.Calls.{Calls, Here, class_here, offset_call, named_call, dispatch_call, parent_call, parents_calls, parent_at}
 
@@ -17,11 +18,11 @@ abbrev pub Frame : Type 0
 Frame = List Value
 
 -- what an expression does, given the parameters and locals
-abbrev pub Evals : {O : Type 0} → (O → Event → O) → Type 0
-Evals add = Frame → Act add Value
+abbrev pub Evals : Type 0
+Evals = Frame → Act Value
 
 -- the value of a local
-abbrev local_in : Option Value → Value
+abbrev pub local_in : Option Value → Value
 local_in (Some v) = v
 local_in None = Nil
 
@@ -36,7 +37,7 @@ read k n (To r) h = if is_live h r then Ok (variables_of h r k n) else Err fault
 read k n _ h = Err faults.Nil
 
 -- the values of expressions, from left to right
-abbrev pub each_of : {O : Type 0} {add : O → Event → O} → List (Evals add) → Frame → Act add (List Value)
+abbrev pub each_of : List Evals → Frame → Act (List Value)
 each_of [] frame = pure []
 each_of (e ∷ es) frame = do
   v ← e frame
@@ -44,14 +45,34 @@ each_of (e ∷ es) frame = do
   pure (v ∷ vs)
 
 -- `and` and `or` look at the right side only where it decides
-abbrev either : {O : Type 0} {add : O → Event → O} → BinaryOp → Value → Act add Value → (Value → Act add Value) → Act add Value
+abbrev pub either : BinaryOp → Value → Act Value → (Value → Act Value) → Act Value
 either And x right both = if is_true x then right else pure (Boolean false)
 either Or x right both = if is_true x then pure (Boolean true) else right
 either op x right both = right >>= both
 
-module _ {O : Type 0} {add : O → Event → O} (w : World) (call : Calls add) (here : Here) where
+-- `class C`: C is used, and its class object is the value
+abbrev pub class_object : ClassKey → Act Value
+class_object k = emit (Used k) >> pure (To (ClassObject k))
+
+-- `new C`: C is used; the offset call somNew on its class object, and then `as C`
+abbrev pub new_on : World → Calls → Place → ClassKey → Act Value
+new_on w call at k = do
+  emit (Used k)
+  v ← offset_call w call at Offset som_new (To (ClassObject k)) []
+  asked at (λ h. cast w k h v)
+
+-- `proxy(C, e)` with this target: it is tested, a unit is taken, and the proxy is made, whose class is used
+abbrev pub proxy_on : World → Place → ClassKey → Value → Act Value
+proxy_on w at k v = do
+  asked at (λ h. receiver h v)
+  take_unit
+  r ← make w (keys.Proxy k) v
+  emit (Used (keys.Proxy k))
+  pure (To r)
+
+module _ (w : World) (call : Calls) (here : Here) where
   -- an expression, by what its parts do
-  abbrev pub expr_step : Expr-F (Evals add) → Evals add
+  abbrev pub expr_step : Expr-F Evals → Evals
   expr_step (Expr-F.Long z) frame = pure (Long z)
   expr_step (Expr-F.Str t) frame = pure (Str t)
   expr_step (Expr-F.Boolean b) frame = pure (Boolean b)
@@ -65,10 +86,8 @@ module _ {O : Type 0} {add : O → Event → O} (w : World) (call : Calls add) (
   expr_step (Expr-F.Binary op a b) frame = do
     x ← a frame
     either (binary_op op) x (b frame) (λ y. tried here.place (binary (binary_op op) x y))
-  expr_step (Expr-F.New k) frame = do
-    v ← offset_call w call here.place Offset som_new (To (ClassObject k)) []
-    asked here.place (λ h. cast w k h v)
-  expr_step (Expr-F.Class k) frame = pure (To (ClassObject k))
+  expr_step (Expr-F.New k) frame = new_on w call here.place k
+  expr_step (Expr-F.Class k) frame = class_object k
   expr_step Expr-F.Manager frame = pure (To Manager)
   expr_step (Expr-F.Cast k e) frame = do
     v ← e frame
@@ -78,10 +97,7 @@ module _ {O : Type 0} {add : O → Event → O} (w : World) (call : Calls add) (
     asked here.place (λ h. isa w k h v)
   expr_step (Expr-F.Proxy k e) frame = do
     v ← e frame
-    asked here.place (λ h. receiver h v)
-    take_unit
-    r ← make w (keys.Proxy k) v
-    pure (To r)
+    proxy_on w here.place k v
   expr_step (Expr-F.OffsetCall method e args) frame = do
     on ← e frame
     vs ← each_of args frame
@@ -106,5 +122,5 @@ module _ {O : Type 0} {add : O → Event → O} (w : World) (call : Calls add) (
     pure (host code x y)
 
   -- what an expression does
-  abbrev pub eval : Expr → Evals add
-  eval = fold-Expr (Evals add) expr_step
+  abbrev pub eval : Expr → Evals
+  eval = fold-Expr Evals expr_step

@@ -1,7 +1,9 @@
 -- The bytes that spell a release or a client program. A field that can't be spelled, because it passes its range or names nothing that is known, has no bytes.
-use Rattle.std.specs.Prelude.{ℕ, suc, ◌==◌, ◌^◌, Bool, true, false, not, if◌then◌else◌, nat_lt, nat_le, List, [], ◌∷◌, ◌++◌, length, Option, Some, None, codes}
+use Rattle.std.specs.Prelude.{ℕ, suc, ◌==◌, ◌^◌, ℤ, pos, negsuc, Bool, true, false, not, if◌then◌else◌, nat_lt, nat_le, List, [], ◌∷◌, ◌++◌, length, map, filter, Option, Some, None, codes}
 use Rattle.std.specs.Int.{Width, w8, w16, w32, to_be_bytes, cast_unsigned}
 use Rattle.std.specs.Str.{bytes_eq}
+use Rattle.som_model.specs.declared.key.Module.{Module}
+use Rattle.som_model.specs.declared.key.Module.TheVariants as modules
 use Rattle.som_model.specs.declared.key.ClassKey.{ClassKey}
 use Rattle.som_model.specs.declared.key.MethodRef.{MethodRef}
 use Rattle.som_model.specs.declared.key.ValueType.{ValueType}
@@ -21,17 +23,18 @@ use Rattle.som_model.specs.declared.class.Body.{Body}
 use Rattle.som_model.specs.declared.class.Body.TheVariants as bodies
 use Rattle.som_model.specs.declared.class.Variable.{Variable}
 use Rattle.som_model.specs.declared.class.Override.{Override}
+use Rattle.som_model.specs.declared.class.Select.{Select}
 use Rattle.som_model.specs.declared.class.ClassFace.{ClassFace}
 use Rattle.som_model.specs.declared.class.ClassDecl.{ClassDecl}
 use Rattle.som_model.specs.declared.program.Release.{Release}
 use Rattle.som_model.specs.declared.program.ClientProgram.{ClientProgram}
-use Rattle.som_model.specs.declared.limits.TheConstants.{MAX_TEXT, MAX_VERSION, MAX_PARAMETERS, MAX_PARENTS, MAX_ENTRIES, MAX_VARIABLES, MAX_OVERRIDES, MAX_NESTING, MAX_LIBRARY_CLASSES, MAX_CLIENT_CLASSES}
-use Rattle.som_model.specs.Lists.{place_from}
+use Rattle.som_model.specs.declared.limits.TheConstants.{MAX_TEXT, MAX_VERSION, MAX_PARAMETERS, MAX_PARENTS, MAX_ENTRIES, MAX_VARIABLES, MAX_OVERRIDES, MAX_SELECTS, MAX_NESTING, MAX_LIBRARY_CLASSES, MAX_CLIENT_CLASSES}
+use Rattle.som_model.specs.Lists.{place_from, some}
 use Rattle.som_model.specs.Keys.{same_key}
 use Rattle.som_model.specs.Blocks.{is_call}
-use Rattle.som_model.specs.Class.{Class, entry_name, introduced}
+use Rattle.som_model.specs.Class.{Class, class_in, entry_name, introduced}
 use Rattle.som_model.specs.Kernel.{kernel}
-use Rattle.som_model.specs.Classes.{class_at, library_classes, interface_classes, client_classes}
+use Rattle.som_model.specs.Classes.{class_at, library_classes, interface_classes}
 
 -- bytes, where there are any
 abbrev pub Spelled : Type 0
@@ -60,6 +63,23 @@ tag n = Some (n ∷ [])
 -- a number, its highest byte first
 abbrev pub number : Width → ℕ → Spelled
 number w n = Some (to_be_bytes w n)
+
+-- a number of one byte that may be any
+abbrev pub byte : ℕ → Spelled
+byte n = where_it_is (nat_lt n (2 ^ 8)) (tag n)
+
+-- the place of a local
+abbrev pub local : ℕ → Spelled
+local n = where_it_is (nat_lt n (2 ^ 16)) (number w16 n)
+
+-- whether a number is one of the language: 32 bits with a sign
+abbrev pub is_long : ℤ → Bool
+is_long (pos n) = nat_lt n (2 ^ 31)
+is_long (negsuc n) = nat_lt n (2 ^ 31)
+
+-- a number of the language, in two's complement
+abbrev pub long : ℤ → Spelled
+long z = where_it_is (is_long z) (number w32 (cast_unsigned w32 z))
 
 -- as many things as a count may say, after their count
 abbrev pub counted : {A : Type 0} → Width → ℕ → (A → Spelled) → List A → Spelled
@@ -153,13 +173,13 @@ host hosts.WrapAdd = tag 5
 
 -- an expression, by how its parts are spelled
 abbrev pub expr_step : List Class → Expr-F AtLevel → AtLevel
-expr_step cs (Expr-F.Long z) l = at_level l 0x20 (number w32 (cast_unsigned w32 z))
+expr_step cs (Expr-F.Long z) l = at_level l 0x20 (long z)
 expr_step cs (Expr-F.Str t) l = at_level l 0x21 (text t)
 expr_step cs (Expr-F.Boolean b) l = at_level l 0x22 (truth b)
 expr_step cs Expr-F.Nil l = at_level l 0x23 (Some [])
-expr_step cs (Expr-F.Local n) l = at_level l 0x24 (number w16 n)
+expr_step cs (Expr-F.Local n) l = at_level l 0x24 (local n)
 expr_step cs Expr-F.Me l = at_level l 0x25 (Some [])
-expr_step cs (Expr-F.Variable n) l = at_level l 0x26 (tag n)
+expr_step cs (Expr-F.Variable n) l = at_level l 0x26 (byte n)
 expr_step cs (Expr-F.Unary op e) l = at_level l 0x27 (where_it_is (nat_lt op 4) (tag op) then e (suc l))
 expr_step cs (Expr-F.Binary op a b) l = at_level l 0x28 (where_it_is (nat_lt op 14) (tag op) then a (suc l) then b (suc l))
 expr_step cs (Expr-F.New k) l = at_level l 0x29 (class cs k)
@@ -171,7 +191,7 @@ expr_step cs (Expr-F.Proxy k e) l = at_level l 0x2e (class cs k then e (suc l))
 expr_step cs (Expr-F.OffsetCall r e es) l = at_level l 0x2f (method cs r then e (suc l) then args l es)
 expr_step cs (Expr-F.Lookup t name e es) l = at_level l 0x30 (kind cs t then text name then e (suc l) then args l es)
 expr_step cs (Expr-F.Dispatch t name e es) l = at_level l 0x31 (kind cs t then text name then e (suc l) then args l es)
-expr_step cs (Expr-F.ParentCall n r es) l = at_level l 0x32 (tag n then method cs r then args l es)
+expr_step cs (Expr-F.ParentCall n r es) l = at_level l 0x32 (byte n then method cs r then args l es)
 expr_step cs (Expr-F.ParentsCall r es) l = at_level l 0x33 (method cs r then args l es)
 expr_step cs (Expr-F.Host code a b) l = at_level l 0x34 (host code then a (suc l) then b (suc l))
 
@@ -186,8 +206,8 @@ block_step b l = where_it_is (nat_lt (length b.statements) (2 ^ 32)) (number w32
 -- a statement, by how its blocks are spelled
 abbrev pub stmt_step : List Class → Stmt-F AtLevel AtLevel → AtLevel
 stmt_step cs (Stmt-F.Var t e) l = at_level l 0x01 (value_kind cs t then expr cs e (suc l))
-stmt_step cs (Stmt-F.SetLocal n e) l = at_level l 0x02 (number w16 n then expr cs e (suc l))
-stmt_step cs (Stmt-F.SetVariable n e) l = at_level l 0x03 (tag n then expr cs e (suc l))
+stmt_step cs (Stmt-F.SetLocal n e) l = at_level l 0x02 (local n then expr cs e (suc l))
+stmt_step cs (Stmt-F.SetVariable n e) l = at_level l 0x03 (byte n then expr cs e (suc l))
 stmt_step cs (Stmt-F.If e a b) l = at_level l 0x04 (expr cs e (suc l) then a (suc l) then b (suc l))
 stmt_step cs (Stmt-F.While e b) l = at_level l 0x05 (expr cs e (suc l) then b (suc l))
 stmt_step cs Stmt-F.Return l = at_level l 0x06 (Some [])
@@ -208,8 +228,8 @@ variable cs v = text v.name then value_kind cs v.kind
 -- a body of an introduced method
 abbrev pub body : List Class → Body → Spelled
 body cs (bodies.User b) = tag 0 then block cs b 1
-body cs (bodies.Get n) = tag 1 then tag n
-body cs (bodies.Set n) = tag 2 then tag n
+body cs (bodies.Get n) = tag 1 then byte n
+body cs (bodies.Set n) = tag 2 then byte n
 
 abbrev overridden : List Class → Override → Spelled
 overridden cs o = method cs o.method then block cs o.block 1
@@ -221,21 +241,56 @@ part cs c =
     then where_it_is (length c.bodies == length (introduced c.face.entries)) (each (body cs) c.bodies)
     then counted w16 MAX_OVERRIDES (overridden cs) c.overrides
 
+abbrev is_empty : {A : Type 0} → List A → Bool
+is_empty [] = true
+is_empty (x ∷ xs) = false
+
+-- whether a class has selects
+abbrev pub has_selects : ClassDecl → Bool
+has_selects c = not (is_empty c.selects)
+
+-- the version of an image of these classes: 2 where one has selects, and else 1
+abbrev pub image_version : List ClassDecl → ℕ
+image_version cs = if some has_selects cs then 2 else 1
+
+abbrev pub select : List Class → Select → Spelled
+select cs s = method cs s.method then byte s.parent
+
+-- a field that stands there only in one case
+abbrev pub only_where : Bool → Spelled → Spelled
+only_where true s = s
+only_where false s = Some []
+
+-- of each class that has selects, its number and its selects; the classes are numbered from n
+abbrev pub selects_each : List Class → ℕ → List ClassDecl → Spelled
+selects_each cs n [] = Some []
+selects_each cs n (c ∷ own) = only_where (has_selects c) (number w16 n then counted w16 MAX_SELECTS (select cs) c.selects) then selects_each cs (suc n) own
+
+-- how many classes have selects, and these: nothing where there are none
+abbrev pub selects : List Class → ℕ → List ClassDecl → Spelled
+selects cs n own = only_where (some has_selects own) (number w16 (length (filter has_selects own)) then selects_each cs n own)
+
 -- the one image of a release, if it has one
 unfoldable pub library_image : Release → Spelled
 library_image r =
     let cs = kernel ++ library_classes r in
-    Some (codes "SOML") then tag 1
+    Some (codes "SOML") then tag (image_version r.classes)
     then counted w16 MAX_LIBRARY_CLASSES (λ c. face cs c.face) r.classes
     then each (part cs) r.classes
+    then selects cs (length kernel) r.classes
 
--- the one image of a client program, if it has one; the faces that it was compiled against name no class of the client
-unfoldable pub client_image : ClientProgram → Spelled
-client_image p =
-    let base = kernel ++ interface_classes p.base in
-    let cs = base ++ client_classes p in
-    Some (codes "SOMC") then tag 1
+-- the one image of a program over the classes of a base, whose faces name no class of the program; its own classes are of a module
+abbrev pub program_image : List Class → Module → ClientProgram → Spelled
+program_image below m p =
+    let base = kernel ++ below in
+    let cs = base ++ map (class_in m) p.classes in
+    Some (codes "SOMC") then tag (image_version p.classes)
     then counted w16 MAX_LIBRARY_CLASSES (face base) p.base.classes
     then counted w16 MAX_CLIENT_CLASSES (λ c. face cs c.face) p.classes
     then each (part cs) p.classes
+    then selects cs (length base) p.classes
     then block cs p.main 1
+
+-- the one image of a client program, if it has one; the faces that it was compiled against are those of the library
+unfoldable pub client_image : ClientProgram → Spelled
+client_image p = program_image (interface_classes p.base) modules.Client p

@@ -1,5 +1,6 @@
 pub mod formers
 pub mod Bytes
+pub mod Texts
 pub mod Steps
 pub mod Lists
 pub mod Keys
@@ -16,6 +17,7 @@ pub mod Metaclass
 pub mod ClassNames
 pub mod World
 pub mod State
+pub mod Runs
 pub mod Acts
 pub mod Values
 pub mod Calls
@@ -23,6 +25,10 @@ pub mod Expressions
 pub mod Statements
 pub mod Invoked
 pub mod Means
+pub mod RunText
+pub mod Fuel
+pub mod Parts
+pub mod Made
 pub mod Same
 pub mod Rules
 pub mod Typing
@@ -31,3 +37,7 @@ pub mod Conforming
 pub mod Compatible
 pub mod Images
 pub mod Blocks
+pub mod Named
+pub mod Counts
+pub mod Loads
+pub mod Binds

@@ -1,11 +1,11 @@
 -- Who owns a method, and what its signature is.
-use Rattle.std.specs.Prelude.{ℕ, zero, suc, Bool, List, Option, Some, None, is_some}
+use Rattle.std.specs.Prelude.{ℕ, zero, suc, Bool, List, [], Option, Some, None, is_some}
 use Rattle.som_model.specs.declared.key.ClassKey.{ClassKey}
 use Rattle.som_model.specs.declared.key.MethodRef.{MethodRef}
 use Rattle.som_model.specs.declared.class.Sig.{Sig}
 use Rattle.som_model.specs.declared.class.Entry.{Entry}
 use Rattle.som_model.specs.declared.class.Entry.TheVariants as entries
-use Rattle.som_model.specs.Class.{Class, entry_of, introduced_sig}
+use Rattle.som_model.specs.Class.{Class, entry_of, introduced, introduced_sig}
 use Rattle.som_model.specs.Classes.{class_at, hierarchy}
 
 abbrev entry_in : Option Class → List ℕ → Option Entry
@@ -41,3 +41,11 @@ sig_of cs r = introduced_sig (entry_at cs r.class r.name)
 -- whether a class introduces a name
 abbrev pub introduces : List Class → List ℕ → ClassKey → Bool
 introduces cs name k = is_some (sig_of cs (record { class = k; name = name }))
+
+abbrev pub introduced_in : Option Class → List (List ℕ)
+introduced_in None = []
+introduced_in (Some c) = introduced c.decl.face.entries
+
+-- the names that a class introduces, in order
+abbrev pub introduced_by : List Class → ClassKey → List (List ℕ)
+introduced_by cs k = introduced_in (class_at cs k)

@@ -13,6 +13,7 @@ use Rattle.som_model.specs.declared.class.Body.{Body}
 use Rattle.som_model.specs.declared.class.Body.TheVariants as bodies
 use Rattle.som_model.specs.declared.class.Variable.{Variable}
 use Rattle.som_model.specs.declared.class.Override.{Override}
+use Rattle.som_model.specs.declared.class.Select.{Select}
 use Rattle.som_model.specs.Lists.{doubles, some, every, option_list, among}
 use Rattle.som_model.specs.Keys.{same_key, same_method}
 use Rattle.som_model.specs.Same.{same_type}
@@ -20,6 +21,7 @@ use Rattle.som_model.specs.Class.{Class, entry_name, introduced}
 use Rattle.som_model.specs.Kernel.{som_class}
 use Rattle.som_model.specs.Classes.{class_at, ancestors, is_a}
 use Rattle.som_model.specs.Owner.{owner, introduces}
+pub use Rattle.som_model.specs.Owner.{introduced_by}
 
 -- a rule that is broken, the class, and the member or `-`
 pub record RuleBreach : Type 0 where
@@ -86,14 +88,6 @@ s6 c = map (breach 6 c) (doubles bytes_eq [] (map entry_name c.decl.face.entries
 abbrev pub s7 : Class → List RuleBreach
 s7 c = map (breach 7 c) (doubles bytes_eq [] (map (λ v. v.name) c.decl.variables))
 
-abbrev introduced_in : Option Class → List (List ℕ)
-introduced_in None = []
-introduced_in (Some c) = introduced c.decl.face.entries
-
--- the names that a class introduces
-abbrev pub introduced_by : List Class → ClassKey → List (List ℕ)
-introduced_by cs k = introduced_in (class_at cs k)
-
 -- S8: each name is introduced by at most one class of the ancestors
 abbrev pub s8 : List Class → Class → List RuleBreach
 s8 cs c = map (breach 8 c) (doubles bytes_eq [] (flat_map (introduced_by cs) (ancestors cs c.key)))
@@ -110,16 +104,34 @@ s9_entry cs c (entries.Moved name to) = demand_of 9 c name (is_proper cs c to &&
 abbrev pub s9 : List Class → Class → List RuleBreach
 s9 cs c = flat_map (s9_entry cs c) c.decl.face.entries
 
--- S10: each override is of a method that a proper ancestor introduces, and none is overridden twice; methods go by their owners
-abbrev s10_from : List Class → Class → List MethodRef → List Override → List RuleBreach
+-- whether a proper ancestor introduces a method, and it is none of those before it
+abbrev pub is_replaced_once : List Class → Class → List MethodRef → MethodRef → Bool
+is_replaced_once cs c before r = is_proper cs c r.class && introduces cs r.name r.class && not (some (same_method r) before)
+
+-- S10, of the overrides
+abbrev pub s10_from : List Class → Class → List MethodRef → List Override → List RuleBreach
 s10_from cs c before [] = []
 s10_from cs c before (o ∷ os) =
     let r = owner cs o.method in
-    demand_of 10 c o.method.name (is_proper cs c r.class && introduces cs r.name r.class && not (some (same_method r) before))
+    demand_of 10 c o.method.name (is_replaced_once cs c before r)
     ++ s10_from cs c (before ++ r ∷ []) os
 
+-- whether there is this parent, and it descends from a class
+abbrev pub is_parent_below : List Class → ClassKey → Option ClassKey → Bool
+is_parent_below cs a None = false
+is_parent_below cs a (Some p) = is_a cs p a
+
+-- S10, of the selects: beside the same, the place is that of a parent that descends from the method's class
+abbrev pub s10_selects : List Class → Class → List MethodRef → List Select → List RuleBreach
+s10_selects cs c before [] = []
+s10_selects cs c before (s ∷ ss) =
+    let r = owner cs s.method in
+    demand_of 10 c s.method.name (is_replaced_once cs c before r && is_parent_below cs r.class (slice_get c.decl.face.parents s.parent))
+    ++ s10_selects cs c (before ++ r ∷ []) ss
+
+-- S10: each override, and then each select, is of a method that a proper ancestor introduces, and no method stands twice among both; methods go by their owners
 abbrev pub s10 : List Class → Class → List RuleBreach
-s10 cs c = s10_from cs c [] c.decl.overrides
+s10 cs c = s10_from cs c [] c.decl.overrides ++ s10_selects cs c (map (λ o. owner cs o.method) c.decl.overrides) c.decl.selects
 
 abbrev is_kind : Option ValueType → ValueType → Bool
 is_kind None t = false

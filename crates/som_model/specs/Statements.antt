@@ -8,8 +8,9 @@ use Rattle.som_model.specs.declared.key.ClassKey.{ClassKey}
 use Rattle.som_model.specs.declared.program.Fault.TheVariants as faults
 use Rattle.som_model.specs.Kernel.{som_free}
 use Rattle.som_model.specs.World.{World}
-use Rattle.som_model.specs.State.{Value, To, Place, Offset, Event, Printed, Act, live, write}
-use Rattle.som_model.specs.Acts.{◌>>=◌, ◌>>◌, pure, fault, asked, take_unit, become, emit, spent, bounded, Grown, Extends, itself, from_spent, bind_extends}
+use Rattle.som_model.specs.State.{Value, To, Place, Offset, Printed, live, write}
+use Rattle.som_model.specs.Runs.{Act}
+use Rattle.som_model.specs.Acts.{◌>>=◌, ◌>>◌, pure, fault, asked, take_unit, become, write_stays, emit, bounded, Grown, Extends, itself, bind_extends, after_no_unit, after_unit}
 use Rattle.som_model.specs.Values.{text_of}
 use Rattle.som_model.specs.Calls.{Calls, Here, class_here, offset_call}
 use Rattle.som_model.specs.Expressions.{Frame, Evals, eval, is_true}
@@ -21,56 +22,73 @@ pub data Flow : Type 0 where
   Returned : Value → Flow
 
 -- what a statement or a block does
-abbrev pub Runs : {O : Type 0} → (O → Event → O) → Type 0
-Runs add = Frame → Act add Flow
+abbrev pub Runs : Type 0
+Runs = Frame → Act Flow
 
 -- the rest runs unless the body has returned
-abbrev pub go_on : {O : Type 0} {add : O → Event → O} → Flow → Runs add → Act add Flow
+abbrev pub go_on : Flow → Runs → Act Flow
 go_on (Next frame) rest = rest frame
 go_on Return rest = pure Return
 go_on (Returned v) rest = pure (Returned v)
 
 -- self's variable n of a class becomes v, where self is live
-abbrev pub assign : {O : Type 0} {add : O → Event → O} → Place → ClassKey → ℕ → Value → Value → Act add (Unit {0})
-assign at k n (To r) v = asked at (λ h. live h r) >> become (write r k n v)
+abbrev pub assign : Place → ClassKey → ℕ → Value → Value → Act (Unit {0})
+assign at k n (To r) v = asked at (λ h. live h r) >> become (write r k n v) (write_stays r k n v)
 assign at k n _ v = fault faults.Nil at
 
--- a loop of at most so many turns
-abbrev pub turns : {O : Type 0} {add : O → Event → O} → ℕ → Evals add → Runs add → Runs add
-turns zero condition body frame = do
+-- the text of a value is printed
+abbrev pub print_value : Value → Act (Unit {0})
+print_value v = emit (Printed (text_of v))
+
+-- a turn: where the condition is TRUE, a unit is taken, the block is run, and the rest follows
+abbrev pub turn : Evals → Runs → Runs → Runs
+turn condition body rest frame = do
   v ← condition frame
-  if is_true v then spent else pure (Next frame)
-turns (suc n) condition body frame = do
-  v ← condition frame
-  if is_true v then (take_unit >> body frame >>= λ flow. go_on flow (turns n condition body)) else pure (Next frame)
+  if is_true v then (take_unit >> (body frame >>= λ flow. go_on flow rest)) else pure (Next frame)
 
--- with more fuel and so many more turns, a loop does the same and more
-bool_extends : {O : Type 0} {add : O → Event → O} {A : Type 0} (k : ℕ) (b : Bool) (x x' y : Act add A) → Extends k x x' → Extends k (if b then x else y) (if b then x' else y)
-bool_extends k true x x' y h = h
-bool_extends k false x x' y h = itself k y
+-- a loop that goes on after so many turns as if its condition were FALSE
+abbrev pub turns : ℕ → Evals → Runs → Runs
+turns zero condition body = turn condition body (λ frame. pure (Next frame))
+turns (suc n) condition body = turn condition body (turns n condition body)
 
-go_on_extends : {O : Type 0} {add : O → Event → O} (k : ℕ) (flow : Flow) (r r' : Runs add) → ((frame : Frame) → Extends k (r frame) (r' frame)) → Extends k (go_on flow r) (go_on flow r')
-go_on_extends k (Next frame) r r' h = h frame
-go_on_extends k Return r r' h = itself k (pure Return)
-go_on_extends k (Returned v) r r' h = itself k (pure (Returned v))
+-- more turns do the same and more, where there is as much fuel more
+bool_extends : {A : Type 0} (b k : ℕ) (c : Bool) (x x' y : Act A) → Extends b k x x' → Extends b k (if c then x else y) (if c then x' else y)
+bool_extends b k true x x' y h = h
+bool_extends b k false x x' y h = itself b k y
 
-no_turns : {O : Type 0} {add : O → Event → O} (c : Evals add) (b : Runs add) (k n : ℕ) (frame : Frame) → Extends k (turns zero c b frame) (turns n c b frame)
-no_turns c b k zero frame = itself k (turns zero c b frame)
-no_turns c b k (suc n) frame = bind_extends k _ _ _ _ (itself k (c frame)) (λ v. bool_extends k (is_true v) _ _ _ (from_spent k _))
+go_on_extends : (b k : ℕ) (flow : Flow) (r r' : Runs) → ((frame : Frame) → Extends b k (r frame) (r' frame)) → Extends b k (go_on flow r) (go_on flow r')
+go_on_extends b k (Next frame) r r' h = h frame
+go_on_extends b k Return r r' h = itself b k (pure Return)
+go_on_extends b k (Returned v) r r' h = itself b k (pure (Returned v))
 
-turns_more : {O : Type 0} {add : O → Event → O} (c : Evals add) (b : Runs add) (k n : ℕ) (frame : Frame) → Extends k (turns n c b frame) (turns (n + k) c b frame)
-turns_more c b k zero frame = no_turns c b k (0 + k) frame
-turns_more c b k (suc n) frame =
-    let e : suc (n + k) ≡ suc n + k = omega arith in
-    subst (λ m. Extends k (turns (suc n) c b frame) (turns m c b frame)) e
-    (bind_extends k _ _ _ _ (itself k (c frame)) (λ v. bool_extends k (is_true v) _ _ _
-    (bind_extends k _ _ _ _ (itself k (take_unit >> b frame)) (λ flow. go_on_extends k flow _ _ (turns_more c b k n)))))
+module _ (c : Evals) (body : Runs) where
+  no_fuel_turn : (k : ℕ) (r r' : Runs) (frame : Frame) → Extends 0 k (turn c body r frame) (turn c body r' frame)
+  no_fuel_turn k r r' frame = bind_extends 0 k _ _ _ _ (itself 0 k (c frame)) (λ v. bool_extends 0 k (is_true v) _ _ _ (after_no_unit k _ _))
 
-pub turns_grown : {O : Type 0} {add : O → Event → O} (c : Evals add) (b : Runs add) (frame : Frame) → Grown (λ n. turns n c b frame)
-turns_grown c b frame = record { by = λ k n. turns_more c b k n frame }
+  turn_extends : (b k : ℕ) (r r' : Runs) (frame : Frame) → ((f : Frame) → Extends b k (r f) (r' f)) → Extends (suc b) k (turn c body r frame) (turn c body r' frame)
+  turn_extends b k r r' frame h =
+      bind_extends (suc b) k _ _ _ _ (itself (suc b) k (c frame)) (λ v. bool_extends (suc b) k (is_true v) _ _ _
+      (after_unit b k _ _ (bind_extends b k _ _ _ _ (itself b k (body frame)) (λ flow. go_on_extends b k flow r r' h))))
+
+  no_turns : (k m : ℕ) (frame : Frame) → Extends 0 k (turns zero c body frame) (turns m c body frame)
+  no_turns k zero frame = no_fuel_turn k _ _ frame
+  no_turns k (suc m) frame = no_fuel_turn k _ _ frame
+
+  turns_more : (k n : ℕ) (frame : Frame) → Extends n k (turns n c body frame) (turns (n + k) c body frame)
+  turns_more k zero frame = no_turns k (0 + k) frame
+  turns_more k (suc n) frame =
+      let e : suc (n + k) ≡ suc n + k = omega arith in
+      subst (λ m. Extends (suc n) k (turns (suc n) c body frame) (turns m c body frame)) e (turn_extends n k _ _ frame (turns_more k n))
+
+  pub turns_grown : (frame : Frame) → Grown (λ n. turns n c body frame)
+  turns_grown frame = record { by = λ k n. turns_more k n frame }
+
+-- `while`: as many turns as there is fuel are all turns, since each takes a unit
+abbrev pub while_loop : Evals → Runs → Runs
+while_loop condition body frame = bounded (λ n. turns n condition body frame) (turns_grown condition body frame)
 
 -- statements one after the other
-abbrev pub all_of : {O : Type 0} {add : O → Event → O} → List (Runs add) → Runs add
+abbrev pub all_of : List Runs → Runs
 all_of [] frame = pure (Next frame)
 all_of (r ∷ rs) frame = do
   flow ← r frame
@@ -83,14 +101,14 @@ leave n Return = Return
 leave n (Returned v) = Returned v
 
 -- a block, by what its statements do
-abbrev pub block_step : {O : Type 0} {add : O → Event → O} → Block-F (Runs add) (Runs add) → Runs add
+abbrev pub block_step : Block-F Runs Runs → Runs
 block_step b frame = do
   flow ← all_of b.statements frame
   pure (leave (length frame) flow)
 
-module _ {O : Type 0} (add : O → Event → O) (w : World) (call : Calls add) (here : Here) where
+module _ (w : World) (call : Calls) (here : Here) where
   -- a statement, by what its blocks do
-  abbrev pub stmt_step : Stmt-F (Runs add) (Runs add) → Runs add
+  abbrev pub stmt_step : Stmt-F Runs Runs → Runs
   stmt_step (Stmt-F.Var kind e) frame = do
     v ← eval w call here e frame
     pure (Next (frame ++ v ∷ []))
@@ -104,14 +122,14 @@ module _ {O : Type 0} (add : O → Event → O) (w : World) (call : Calls add) (
   stmt_step (Stmt-F.If c x y) frame = do
     v ← eval w call here c frame
     if is_true v then x frame else y frame
-  stmt_step (Stmt-F.While c b) frame = bounded (λ n. turns n (eval w call here c) b frame) (turns_grown (eval w call here c) b frame)
+  stmt_step (Stmt-F.While c b) frame = while_loop (eval w call here c) b frame
   stmt_step Stmt-F.Return frame = pure Return
   stmt_step (Stmt-F.ReturnValue e) frame = do
     v ← eval w call here e frame
     pure (Returned v)
   stmt_step (Stmt-F.Print e) frame = do
     v ← eval w call here e frame
-    emit (Printed (text_of v))
+    print_value v
     pure (Next frame)
   stmt_step (Stmt-F.Free e) frame = do
     v ← eval w call here e frame
@@ -122,9 +140,9 @@ module _ {O : Type 0} (add : O → Event → O) (w : World) (call : Calls add) (
     pure (Next frame)
 
   -- what a statement does
-  abbrev pub exec : Stmt → Runs add
-  exec = fold-Stmt (Runs add) (Runs add) stmt_step block_step
+  abbrev pub exec : Stmt → Runs
+  exec = fold-Stmt Runs Runs stmt_step block_step
 
   -- what a block does
-  abbrev pub run_block : Block → Runs add
-  run_block = fold-Block (Runs add) (Runs add) stmt_step block_step
+  abbrev pub run_block : Block → Runs
+  run_block = fold-Block Runs Runs stmt_step block_step

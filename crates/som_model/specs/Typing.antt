@@ -15,6 +15,7 @@ use Rattle.som_model.specs.Class.{Class}
 use Rattle.som_model.specs.Kernel.{som_class, som_class_mgr}
 use Rattle.som_model.specs.Classes.{class_at, is_a}
 use Rattle.som_model.specs.Owner.{owner, sig_of}
+use Rattle.som_model.specs.Metaclass.{meta}
 
 -- What typing asks of the classes, and nothing else.
 pub record ClassFacts : Type 0 where
@@ -37,6 +38,16 @@ class_facts cs = record {
   is_known = λ k. is_some (class_at cs k);
   is_a = is_a cs;
   class_object = λ k. declared_metaclass (class_at cs k);
+  owner = owner cs;
+  signature = λ r. sig_of cs (owner cs r);
+}
+
+-- the same of the classes of a run, where the class of a class's own object is its metaclass, made or declared
+unfoldable pub running_facts : List Class → ClassFacts
+running_facts cs = record {
+  is_known = λ k. is_some (class_at cs k);
+  is_a = is_a cs;
+  class_object = meta cs;
   owner = owner cs;
   signature = λ r. sig_of cs (owner cs r);
 }

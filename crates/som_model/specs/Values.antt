@@ -47,10 +47,10 @@ pub data UnaryOp : Type 0 where
   TextOf : UnaryOp
 
 pub data BinaryOp : Type 0 where
-  Plus : BinaryOp
-  Subtract : BinaryOp
-  Times : BinaryOp
-  Divided : BinaryOp
+  Sum : BinaryOp
+  Difference : BinaryOp
+  Product : BinaryOp
+  Quotient : BinaryOp
   Remainder : BinaryOp
   Equal : BinaryOp
   Unequal : BinaryOp
@@ -67,7 +67,7 @@ abbrev pub unary_op : ℕ → UnaryOp
 unary_op n = get_or (Minus ∷ Not ∷ Length ∷ []) n TextOf
 
 abbrev pub binary_op : ℕ → BinaryOp
-binary_op n = get_or (Plus ∷ Subtract ∷ Times ∷ Divided ∷ Remainder ∷ Equal ∷ Unequal ∷ Below ∷ AtMost ∷ Above ∷ AtLeast ∷ And ∷ Or ∷ []) n Join
+binary_op n = get_or (Sum ∷ Difference ∷ Product ∷ Quotient ∷ Remainder ∷ Equal ∷ Unequal ∷ Below ∷ AtMost ∷ Above ∷ AtLeast ∷ And ∷ Or ∷ []) n Join
 
 -- an operator of one operand
 abbrev pub unary : UnaryOp → Value → Tried Value
@@ -79,10 +79,10 @@ unary _ v = Ok v
 
 -- an operator on longs
 abbrev on_longs : BinaryOp → ℤ → ℤ → Tried Value
-on_longs Plus a b = long (a +ℤ b)
-on_longs Subtract a b = long (a -ℤ b)
-on_longs Times a b = long (a *ℤ b)
-on_longs Divided a b = if is_zero b then Err faults.DivideByZero else long (int_div a b)
+on_longs Sum a b = long (a +ℤ b)
+on_longs Difference a b = long (a -ℤ b)
+on_longs Product a b = long (a *ℤ b)
+on_longs Quotient a b = if is_zero b then Err faults.DivideByZero else long (int_div a b)
 on_longs Remainder a b = if is_zero b then Err faults.DivideByZero else Ok (Long (int_rem a b))
 on_longs Below a b = Ok (Boolean (int_lt a b))
 on_longs AtMost a b = Ok (Boolean (int_le a b))
@@ -99,7 +99,7 @@ binary op (Long a) (Long b) = on_longs op a b
 binary op a b = Ok a
 
 -- the number of a long
-abbrev number_of : Value → ℤ
+abbrev pub number_of : Value → ℤ
 number_of (Long z) = z
 number_of _ = pos 0
 

@@ -1,14 +1,17 @@
 -- What a run asks of the classes.
-use Rattle.std.specs.Prelude.{ℕ, Bool, List, Option, Some, None, reverse}
-use Rattle.std.specs.Str.{bytes_eq}
-use Rattle.som_model.specs.declared.key.ClassKey.{ClassKey}
+use Rattle.std.specs.Prelude.{ℕ, zero, suc, Bool, List, [], ◌∷◌, ◌++◌, map, Option, Some, None}
+use Rattle.som_model.specs.declared.key.Module.{Module}
+use Rattle.som_model.specs.declared.key.Module.TheVariants as modules
+use Rattle.som_model.specs.declared.key.ClassKey.{ClassKey, out-ClassKey}
+use Rattle.som_model.specs.declared.key.ClassKey.TheVariants as keys
+use Rattle.som_model.specs.declared.key.ClassKey.TheOpen.{ClassKey-F}
 use Rattle.som_model.specs.declared.key.MethodRef.{MethodRef}
 use Rattle.som_model.specs.declared.key.ValueType.{ValueType}
 use Rattle.som_model.specs.declared.class.Sig.{Sig}
-use Rattle.som_model.specs.Lists.{find}
+use Rattle.som_model.specs.Lists.{first_some}
 use Rattle.som_model.specs.Resolution.{byname}
 use Rattle.som_model.specs.Class.{Class}
-use Rattle.som_model.specs.Classes.{hierarchy, parents_of, is_a, variable_type, version_of}
+use Rattle.som_model.specs.Classes.{class_at, hierarchy, parents_of, is_a, variable_type, version_of, greatest}
 use Rattle.som_model.specs.Owner.{owner, sig_of, introduces}
 use Rattle.som_model.specs.Implementation.{Held, held, implementation}
 use Rattle.som_model.specs.Metaclass.{meta, hooks}
@@ -33,15 +36,40 @@ pub record World : Type 0 where
   pub version : ClassKey → ℕ × ℕ
   pub named : List ℕ → Option ClassKey
 
+abbrev level_of_module : Module → ℕ
+level_of_module modules.Kernel = 0
+level_of_module modules.Library = 0
+level_of_module (modules.Upper n) = n
+level_of_module modules.Client = 0
+
+-- the level at which a class stands: 0, or that of a library above the lowest
+abbrev level_of : ClassKey-F ClassKey → ℕ
+level_of (ClassKey-F.Named m name) = level_of_module m
+level_of (ClassKey-F.Derived ks) = 0
+level_of (ClassKey-F.Proxy of) = 0
+
+-- the levels from this one down to level 1
+abbrev levels_from : ℕ → List Module
+levels_from zero = []
+levels_from (suc n) = modules.Upper (suc n) ∷ levels_from n
+
+-- where a class of a name is looked for, in this order: in the client, in the levels from the highest down, in the library, in the kernel
+abbrev pub searched : List Class → List Module
+searched cs = modules.Client ∷ levels_from (greatest (map (λ (c : Class). level_of (out-ClassKey c.key)) cs)) ++ modules.Library ∷ modules.Kernel ∷ []
+
 abbrev key_in : Option Class → Option ClassKey
 key_in None = None
 key_in (Some c) = Some c.key
+
+-- the class of a name: the first that is found there, however the classes are listed; made classes have no name here
+abbrev pub named_class : List Class → List ℕ → Option ClassKey
+named_class cs name = first_some (λ m. key_in (class_at cs (keys.Named m name))) (searched cs)
 
 abbrev reference : List ℕ → Option ClassKey → Option MethodRef
 reference name None = None
 reference name (Some k) = Some (record { class = k; name = name })
 
--- what these classes answer; a name is looked for from the last class to the first, so in the client, the library and the kernel
+-- what these classes answer
 unfoldable pub world : List Class → World
 world cs = record {
   parents = parents_of cs;
@@ -55,5 +83,5 @@ world cs = record {
   held = held cs;
   variable = variable_type cs;
   version = version_of cs;
-  named = λ name. key_in (find (λ (c : Class). bytes_eq c.decl.face.name name) (reverse cs));
+  named = named_class cs;
 }

@@ -56,11 +56,20 @@ pub struct Override {
     pub block: Block,
 }
 
-/// A class as it is declared. There is one body for each introduced entry, in their order.
+/// The body that a parent, by its place among the parents, has for a method that an ancestor introduces.
+#[derive(Drop)]
+pub struct Select {
+    pub method: MethodRef,
+    pub parent: u8,
+}
+
+/// A class as it is declared. There is one body for each introduced entry, in their order. A method that
+/// the class selects from a parent has no body here.
 #[derive(Drop)]
 pub struct ClassDecl {
     pub face: ClassFace,
     pub variables: List<Variable>,
     pub bodies: List<Body>,
     pub overrides: List<Override>,
+    pub selects: List<Select>,
 }

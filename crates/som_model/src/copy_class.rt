@@ -2,8 +2,8 @@ ghost use Rattle.std.specs.Prelude.{◌≡◌, IfOk, map};
 
 use crate::copy_key::copy_keys;
 use crate::{
-    Body, ClassDecl, ClassFace, ClassKey, Entry, Interface, List, NoMemory, Override, Release, Sig,
-    ValueType, Variable,
+    Body, ClassDecl, ClassFace, ClassKey, Entry, Interface, List, NoMemory, Override, Release,
+    Select, Sig, ValueType, Variable,
 };
 use std::alloc::Global;
 
@@ -125,6 +125,17 @@ impl Override {
     }
 }
 
+impl Select {
+    pub fn copy(&self, alloc: Global) -> Result<Select, NoMemory>
+        ensures { IfOk result (λ select. select ≡ self.now) }
+    {
+        Ok(Select {
+            method: self.method.copy(alloc)?,
+            parent: self.parent,
+        })
+    }
+}
+
 impl ClassDecl {
     pub fn copy(&self, alloc: Global) -> Result<ClassDecl, NoMemory>
         ensures { IfOk result (λ class. class ≡ self.now) }
@@ -150,11 +161,19 @@ impl ClassDecl {
                 ensures { IfOk result (λ o. o ≡ replaced.now) }
             { replaced.copy(alloc) },
         )?;
+        let selects = copy_each(
+            alloc,
+            &self.selects,
+            |select: &Select| -> Result<Select, NoMemory>
+                ensures { IfOk result (λ s. s ≡ select.now) }
+            { select.copy(alloc) },
+        )?;
         Ok(ClassDecl {
             face: self.face.copy(alloc)?,
             variables,
             bodies,
             overrides,
+            selects,
         })
     }
 }

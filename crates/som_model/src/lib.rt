@@ -15,15 +15,16 @@ mod program;
 mod same;
 mod syntax;
 mod text;
+mod text_bytes;
 
 pub use boxed::Boxed;
-pub use class::{Body, ClassDecl, ClassFace, Entry, Override, Sig, Variable, Way};
+pub use class::{Body, ClassDecl, ClassFace, Entry, Override, Select, Sig, Variable, Way};
 pub use kernel::kernel_faces;
 pub use key::{ClassKey, MethodRef, Module, ValueType};
 pub use limits::{
     DEFAULT_FUEL, MAX_BYTES, MAX_CLIENT_CLASSES, MAX_DEPTH, MAX_ENTRIES, MAX_FUEL,
-    MAX_LIBRARY_CLASSES, MAX_LOCALS, MAX_NAME, MAX_NESTING, MAX_OVERRIDES, MAX_PARAMETERS,
-    MAX_PARENTS, MAX_TEXT, MAX_VARIABLES, MAX_VERSION,
+    MAX_LAID_CLASSES, MAX_LIBRARY_CLASSES, MAX_LOCALS, MAX_NAME, MAX_NESTING, MAX_OVERRIDES,
+    MAX_PARAMETERS, MAX_PARENTS, MAX_SELECTS, MAX_TEXT, MAX_VARIABLES, MAX_VERSION,
 };
 pub use list::List;
 pub use memory::NoMemory;

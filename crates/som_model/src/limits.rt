@@ -13,10 +13,13 @@ pub const MAX_TEXT: u32 = 65_535;
 pub const MAX_NESTING: u32 = 32;
 
 /// Classes of a library.
-pub const MAX_LIBRARY_CLASSES: u32 = 1_024;
+pub const MAX_LIBRARY_CLASSES: u32 = 4_096;
 
 /// Classes of a client, those of the library not counted.
 pub const MAX_CLIENT_CLASSES: u32 = 256;
+
+/// Classes of all modules that are laid out together for a run, the kernel's not counted.
+pub const MAX_LAID_CLASSES: u32 = 8_192;
 
 /// Parents of a class.
 pub const MAX_PARENTS: u32 = 16;
@@ -26,6 +29,9 @@ pub const MAX_ENTRIES: u32 = 256;
 
 /// Overrides of a class.
 pub const MAX_OVERRIDES: u32 = 256;
+
+/// Methods for which a class selects a parent.
+pub const MAX_SELECTS: u32 = 256;
 
 /// Instance variables of a class, those of attributes counted.
 pub const MAX_VARIABLES: u32 = 64;
@@ -37,7 +43,7 @@ pub const MAX_PARAMETERS: u32 = 16;
 pub const MAX_LOCALS: u32 = 256;
 
 /// How deep calls go in a running program: main runs at depth 0, and a body one deeper than its caller.
-pub const MAX_DEPTH: u32 = 64;
+pub const MAX_DEPTH: u32 = 4_096;
 
 /// The greatest major or minor version.
 pub const MAX_VERSION: u32 = 2_147_483_647;

@@ -1,26 +1,30 @@
-ghost use Rattle.std.specs.Prelude.{◌≡◌, IfOk, length, ◌==◌};
+ghost use Rattle.std.specs.Prelude.{◌≡◌, IfErr, IfOk, length, ◌==◌};
 ghost use Rattle.std.specs.Str.{bytes_eq};
 
 use crate::NoMemory;
+use crate::text_bytes::TextBytes;
 use std::alloc::Global;
 use std::cmp::Ordering;
 use std::marker::Model;
+use std::rc::Rc;
 
-/// A text: any bytes. Texts are ordered by their bytes.
+/// A text: any bytes. Texts are ordered by their bytes. A text that was made of a slice shares its bytes with its copies,
+/// so that a name is there once however often it is named; one that was made of a vector has them for itself.
 #[derive(Drop)]
 pub struct Text {
-    bytes: Vec<u8>,
+    bytes: TextBytes,
 }
 
 impl Model for Text {
     ghost use Rattle.std.specs.Prelude.{List, ℕ};
     ghost use Rattle.std.specs.Coded.{coded_list, coded_ℕ};
+    ghost use Rattle.som_model.specs.Texts.{held_bytes};
 
     ghost Value = { List ℕ };
 
     ghost coded = { coded_list coded_ℕ };
 
-    ghost view = { λ t. t.bytes.items };
+    ghost view = { λ t. held_bytes t.bytes };
 }
 
 impl Text {
@@ -28,53 +32,76 @@ impl Text {
     pub fn from_vec(bytes: Vec<u8>) -> Text
         ensures { result ≡ bytes.items }
     {
-        Text { bytes }
+        Text {
+            bytes: TextBytes::Moved(bytes),
+        }
     }
 
-    pub fn into_vec(self) -> Vec<u8>
-        ensures { result.items ≡ self }
+    /// The bytes, if no copy shares them: this takes no memory.
+    pub fn into_vec(self) -> Result<Vec<u8>, Text>
+        ensures ok { IfOk result (λ bytes. bytes.items ≡ self) }
+        ensures err { IfErr result (λ text. text ≡ self) }
     {
         let Text { bytes } = self;
-        bytes
+        match bytes {
+            TextBytes::Moved(bytes) => Ok(bytes),
+            TextBytes::Shared(shared) => match Rc::try_unwrap(shared) {
+                Ok(bytes) => Ok(bytes),
+                Err(shared) => Err(Text {
+                    bytes: TextBytes::Shared(shared),
+                }),
+            },
+        }
     }
 
+    /// The text of these bytes, which are copied once: copies of the text share them.
     pub fn from_slice(alloc: Global, bytes: &[u8]) -> Result<Text, NoMemory>
         ensures { IfOk result (λ text. text ≡ bytes.now) }
     {
+        let shared = Rc::new(alloc, Vec::from_slice(alloc, bytes)?)?;
         Ok(Text {
-            bytes: Vec::from_slice(alloc, bytes)?,
+            bytes: TextBytes::Shared(shared),
         })
     }
 
     pub fn as_slice(&self) -> &[u8]
         ensures { result.now ≡ self.now }
     {
-        self.bytes.as_slice()
+        match &self.bytes {
+            TextBytes::Moved(bytes) => bytes.as_slice(),
+            TextBytes::Shared(bytes) => bytes.as_ref().as_slice(),
+        }
     }
 
     pub fn len(&self) -> usize
         ensures { result ≡ length self.now }
     {
-        self.bytes.len()
+        self.as_slice().len()
     }
 
     pub fn is_empty(&self) -> bool
         ensures { result ≡ (length self.now == 0) }
     {
-        self.bytes.is_empty()
+        self.as_slice().is_empty()
     }
 
     /// Whether the text is these bytes.
     pub fn is(&self, bytes: &[u8]) -> bool
         ensures { result ≡ bytes_eq self.now bytes.now }
     {
-        self.bytes.as_slice() == bytes
+        self.as_slice() == bytes
     }
 
+    /// An equal text. Of one that was made of a slice only the count of its copies grows.
     pub fn copy(&self, alloc: Global) -> Result<Text, NoMemory>
         ensures { IfOk result (λ text. text ≡ self.now) }
     {
-        Text::from_slice(alloc, self.bytes.as_slice())
+        match &self.bytes {
+            TextBytes::Moved(bytes) => Text::from_slice(alloc, bytes.as_slice()),
+            TextBytes::Shared(bytes) => Ok(Text {
+                bytes: TextBytes::Shared(bytes.clone()?),
+            }),
+        }
     }
 }
 
@@ -88,7 +115,7 @@ impl PartialEq for Text {
     ghost laws = { Prim.search (comparing, rules) };
 
     fn eq(&self, other: &Text) -> bool {
-        self.bytes.as_slice() == other.bytes.as_slice()
+        self.as_slice() == other.as_slice()
     }
 }
 
@@ -114,7 +141,7 @@ impl Ord for Text {
     ghost matches_eq = { Prim.search (comparing, rules) };
 
     fn cmp(&self, other: &Text) -> Ordering {
-        self.bytes.as_slice().cmp(other.bytes.as_slice())
+        self.as_slice().cmp(other.as_slice())
     }
 }
 

@@ -1,9 +1,9 @@
 -- How the fields of expressions and statements are spelled, and lists of them.
-use Rattle.std.proofs.Common.{◌≡◌, ℕ, suc, ◌<◌, ◌≤◌, ◌^◌, Bool, true, false, List, [], ◌∷◌, ◌++◌, length, map, Some, refl, sym, ap, ◌∙◌, arith}
-use Rattle.std.specs.Prelude.{nat_le, nat_lt}
+use Rattle.std.proofs.Common.{◌≡◌, ℕ, suc, ◌<◌, ◌≤◌, ◌^◌, ℤ, pos, negsuc, Bool, true, false, List, [], ◌∷◌, ◌++◌, length, map, Some, refl, sym, ap, ◌∙◌, arith}
+use Rattle.std.specs.Prelude.{nat_le, nat_lt, FitsSigned}
 use Rattle.std.specs.List.{flat_map}
-use Rattle.std.specs.Int.{Width, w8, w16}
-use Rattle.std.proofs.lemmas.Bool.{le-leb, lt-ltb, ltb-true}
+use Rattle.std.specs.Int.{Width, w8, w16, w32, cast_unsigned}
+use Rattle.std.proofs.lemmas.Bool.{le-leb, leb-true, lt-ltb, ltb-true}
 use Rattle.std.proofs.lemmas.List.{length-map}
 use Rattle.som_model.specs.declared.limits.TheConstants.{MAX_NESTING}
 use Rattle.som_model.specs.declared.syntax.HostCode.{HostCode}
@@ -31,13 +31,25 @@ two a b x y p q = ap (λ (s : Spelled). s then b) p ∙ ap (λ (s : Spelled). So
 pub byte_is : (n : ℕ) → n < 2 ^ 8 → tag n ≡ Some (wire.number w8 n)
 byte_is n lt = ap some_bytes (sym (number-w8 n lt))
 
--- a number of two bytes
-pub short_is : (n : ℕ) → images.number w16 n ≡ Some (wire.number w16 n)
-short_is n = refl
-
 -- the number of an operator
 pub operator_is : (limit op : ℕ) → op < limit → limit ≤ 2 ^ 8 → where_it_is (nat_lt op limit) (tag op) ≡ Some (wire.number w8 op)
 operator_is limit op lt small = ap (λ (b : Bool). where_it_is b (tag op)) (lt-ltb op limit lt) ∙ byte_is op (omega (arith, lt, small))
+
+-- a number of one byte that may be any
+pub byte_forth : (n : ℕ) → n < 2 ^ 8 → images.byte n ≡ Some (wire.number w8 n)
+byte_forth n lt = operator_is (2 ^ 8) n lt (omega arith)
+
+-- the place of a local
+pub local_forth : (n : ℕ) → n < 2 ^ 16 → images.local n ≡ Some (wire.number w16 n)
+local_forth n lt = ap (λ (b : Bool). where_it_is b (images.number w16 n)) (lt-ltb n (2 ^ 16) lt)
+
+is_long_if : (z : ℤ) → FitsSigned w32 z → images.is_long z ≡ true
+is_long_if (pos n) fits = lt-ltb n (2 ^ 31) fits.sfits
+is_long_if (negsuc n) fits = lt-ltb n (2 ^ 31) fits.sfits
+
+-- a number of the language
+pub long_forth : (z : ℤ) → FitsSigned w32 z → images.long z ≡ Some (wire.number w32 (cast_unsigned w32 z))
+long_forth z fits = ap (λ (b : Bool). where_it_is b (images.number w32 (cast_unsigned w32 z))) (is_long_if z fits)
 
 pub truth_is : (b : Bool) → tag (spelling.truth b) ≡ Some (wire.number w8 (spelling.truth b))
 truth_is true = byte_is 1 (omega arith)
@@ -88,14 +100,35 @@ number_back width n bytes e = bytes_are (wire.number width n) bytes e
 pub tagged_back : (n : ℕ) (bytes : List ℕ) → tag n ≡ Some (wire.number w8 n) → tag n ≡ Some bytes → wire.number w8 n ≡ bytes
 tagged_back n bytes is e = bytes_are (wire.number w8 n) bytes (sym is ∙ e)
 
-pub byte_back : (n : ℕ) (bytes : List ℕ) → n < 2 ^ 8 → tag n ≡ Some bytes → wire.number w8 n ≡ bytes
-byte_back n bytes lt e = tagged_back n bytes (byte_is n lt) e
+one_byte_back : (n : ℕ) (bytes : List ℕ) → n < 2 ^ 8 → tag n ≡ Some bytes → wire.number w8 n ≡ bytes
+one_byte_back n bytes lt e = tagged_back n bytes (byte_is n lt) e
 
 pub operator_back : (limit op : ℕ) (bytes : List ℕ) → limit ≤ 2 ^ 8 → where_it_is (nat_lt op limit) (tag op) ≡ Some bytes → (wire.number w8 op ≡ bytes) × (op < limit)
 operator_back limit op bytes small e =
     let g = guarded (nat_lt op limit) (tag op) bytes e in
     let lt : op < limit = ltb-true op limit g.0 in
-    (byte_back op bytes (omega (arith, lt, small)) g.1, lt)
+    (one_byte_back op bytes (omega (arith, lt, small)) g.1, lt)
+
+pub byte_back : (n : ℕ) (bytes : List ℕ) → images.byte n ≡ Some bytes → (wire.number w8 n ≡ bytes) × (n < 2 ^ 8)
+byte_back n bytes e = operator_back (2 ^ 8) n bytes (omega arith) e
+
+pub local_back : (n : ℕ) (bytes : List ℕ) → images.local n ≡ Some bytes → (wire.number w16 n ≡ bytes) × (n < 2 ^ 16)
+local_back n bytes e =
+    let g = guarded (nat_lt n (2 ^ 16)) (images.number w16 n) bytes e in
+    (number_back w16 n bytes g.1, ltb-true n (2 ^ 16) g.0)
+
+long_fits : (z : ℤ) → images.is_long z ≡ true → FitsSigned w32 z
+long_fits (pos n) e = record { sfits = ltb-true n (2 ^ 31) e }
+long_fits (negsuc n) e = record { sfits = ltb-true n (2 ^ 31) e }
+
+pub long_back : (z : ℤ) (bytes : List ℕ) → images.long z ≡ Some bytes → (wire.number w32 (cast_unsigned w32 z) ≡ bytes) × FitsSigned w32 z
+long_back z bytes e =
+    let g = guarded (images.is_long z) (images.number w32 (cast_unsigned w32 z)) bytes e in
+    (number_back w32 (cast_unsigned w32 z) bytes g.1, long_fits z g.0)
+
+-- what stands at a level that is not too deep
+pub reached : (level t : ℕ) (rest : Spelled) (bytes : List ℕ) → at_level level t rest ≡ Some bytes → level ≤ MAX_NESTING
+reached level t rest bytes e = leb-true level MAX_NESTING (guarded (nat_le level MAX_NESTING) (tag t then rest) bytes e).0
 
 -- ---- lists
 

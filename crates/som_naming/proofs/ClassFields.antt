@@ -1,35 +1,42 @@
 -- Reading faces, parts and heads answers what the bytes spell, and nothing else.
-use Rattle.std.proofs.Common.{◌≡◌, ℕ, zero, suc, ◌+◌, ◌^◌, ◌<◌, ◌≤◌, Bool, true, false, cond, eqb, ltb, List, [], ◌∷◌, ◌++◌, length, drop, map, Result, Ok, Err, refl, sym, ap, subst, ◌∙◌, arith}
-use Rattle.std.specs.Prelude.{nat_lt, nat_eq, codes, slice_index, All}
+use Rattle.std.proofs.Common.{◌≡◌, ℕ, zero, suc, ◌+◌, ◌^◌, ◌<◌, ◌≤◌, inl, inr, Bool, true, false, cond, eqb, ltb, leb, List, [], ◌∷◌, ◌++◌, length, drop, map, Result, Ok, Err, refl, sym, ap, subst, ◌∙◌, arith}
+use Rattle.std.specs.Prelude.{◌&&◌, nat_lt, nat_eq, slice_index, All}
 use Rattle.std.specs.List.{flat_map, starts_with, AllByRecursion}
 use Rattle.std.specs.Int.{w8, w16}
-use Rattle.std.proofs.lemmas.Bool.{ltb-false, le-ltb, eqb-true}
+use Rattle.std.proofs.lemmas.Bool.{ltb-false, le-ltb, leb-true, le-leb, eqb-true, eqb-false}
 use Rattle.std.proofs.lemmas.Bool.Decides.{Decides-eqb}
-use Rattle.std.proofs.lemmas.List.{append-nil, length-append}
-use Rattle.std.proofs.lemmas.List.Elements.{All-from_recursion, recursion_from_All}
+use Rattle.std.proofs.lemmas.List.{append-nil, length-append, length-drop, drop-drop}
+use Rattle.std.proofs.lemmas.List.Elements.{All-from_recursion, All-weaker, recursion_from_All}
 use Rattle.std.proofs.lemmas.Slice.Eq.{starts_is}
 use Rattle.std.proofs.Math.Seq.{drop-length}
 use Rattle.som_model.specs.declared.limits.TheConstants.{MAX_ENTRIES, MAX_LIBRARY_CLASSES}
 use Rattle.som_model.specs.Bytes.{AreBytes}
 use Rattle.som_model.specs.Steps.{◌>>=◌}
+use Rattle.som_model.proofs.KeyLaws.{both}
 use Rattle.som_fields.specs.declared.fault.ImageFault.{ImageFault}
 use Rattle.som_fields.specs.declared.fault.ImageFault.TheVariants as faults
 use Rattle.som_fields.specs.declared.read.Read.{Read}
 use Rattle.som_fields.specs.declared.face.WireFace.{WireFace}
 use Rattle.som_fields.specs.declared.method.Ranges.{Ranges}
 use Rattle.som_fields.specs.Fields.{Stands, done, many_at}
-use Rattle.som_fields.specs.Spelling.{number, counted, face, FitsFace, AreShort}
+use Rattle.som_fields.specs.Spelling.{number, counted, face, FitsFace, FitsMethod, AreShort}
 use Rattle.som_fields.specs.Reading.{number_at, face_at}
-use Rattle.som_fields.proofs.Parts.{IsField, Stands-join, Stands-back, Stands-front, bind_ok, guard_no, guard_yes, came, took, went}
-use Rattle.som_fields.proofs.NumberFields.{byte_field, short_field}
+use Rattle.som_fields.proofs.Parts.{IsField, Stands-join, Stands-back, Stands-front, bind_ok, chosen, guard_no, guard_yes, same_read, came, took, went}
+use Rattle.som_fields.proofs.NumberFields.{number-w8, byte_field, short_field}
 use Rattle.som_fields.proofs.ManyFields.{many_field}
 use Rattle.som_fields.proofs.FaceFields.{face_field}
 use Rattle.som_wire.specs.declared.syntax.WirePart.{WirePart}
 use Rattle.som_wire.specs.Reading.{part_at}
-use Rattle.som_wire.specs.Spelling.{part}
+use Rattle.som_fields.specs.declared.method.WireMethod.{WireMethod}
+use Rattle.som_wire.specs.declared.selects.WireSelect.{WireSelect}
+use Rattle.som_wire.specs.declared.selects.WireSelects.{WireSelects}
+use Rattle.som_wire.specs.Spelling.{part, selects}
+use Rattle.som_wire.specs.Fitting.{FitsSelect, FitsClassSelects, FitAscending, FitsSelects}
+use Rattle.som_wire.proofs.SelectFields.{selects_field, selects_some}
 use Rattle.som_wire.proofs.PartFields.{part_field}
-use Rattle.som_naming.specs.ReadClasses.{introduced_count, ranges_of, faces_after_at, faces_at, parts_at, magic_at, head_at, at_end}
-use Rattle.som_naming.specs.SpelledClasses.{FitsClass, FitsParts, FitsFacesAfter, FitsFaces, head}
+use Rattle.som_naming.specs.ReadClasses.{introduced_count, ranges_of, faces_after_at, faces_at, parts_at, magic_at, head_at, section_at}
+use Rattle.som_naming.specs.SpelledClasses.{FitsClass, FitsParts, FitsFacesAfter, FitsFaces, head, version_with, section, FitsSection, FitsSomeSection}
+use Rattle.som_naming.specs.NamedClasses.{AreSelectsOf}
 use Rattle.som_naming.proofs.EachFields.{each_field}
 use Rattle.som_naming.proofs.Places.{all_map}
 
@@ -102,56 +109,138 @@ ranges_short fs fits = short_ranges fs (omega (arith, fits.1)) (faces_few 4 MAX_
 pub parts_field : (ranges : Ranges) → AreShort ranges → (fs : List WireFace) → IsField (parts_at ranges fs) (flat_map part) (FitsParts ranges fs)
 parts_field ranges short fs = each_field (λ f bytes place. part_at ranges (introduced_count f) bytes place) part (FitsClass ranges) (λ f. part_field ranges short (introduced_count f)) fs
 
+-- ---- selects that were read
+
+own_known : (Method : WireMethod → Type 0) (classes : ℕ) (least : ℕ) (c : WireSelects) → FitsClassSelects classes Method least c → All (λ (s : WireSelect). Method s.method) c.selects
+own_known Method classes least c fits = All-weaker (FitsSelect Method) (λ (s : WireSelect). Method s.method) (λ s f. f.method) c.selects fits.selects.2
+
+each_known : (classes : ℕ) (Method : WireMethod → Type 0) (least : ℕ) (cs : List WireSelects) → FitAscending classes Method least cs → AllByRecursion (λ (c : WireSelects). All (λ (s : WireSelect). Method s.method) c.selects) cs
+each_known classes Method least [] fits = tt
+each_known classes Method least (c ∷ cs) fits = (own_known Method classes least c fits.0, each_known classes Method (suc c.class) cs fits.1)
+
+selects_known : (classes : ℕ) (Method : WireMethod → Type 0) (first : ℕ) (cs : List WireSelects) → FitsSelects classes Method first cs → All (λ (c : WireSelects). All (λ (s : WireSelect). Method s.method) c.selects) cs
+selects_known classes Method first cs fits = All-from_recursion (λ (c : WireSelects). All (λ (s : WireSelect). Method s.method) c.selects) cs (each_known classes Method first cs fits.ascend)
+
 -- ---- the head
 
-module _ (magic : List ℕ) where
-  abbrev short_of : List ℕ → Result ℕ ImageFault
-  short_of bytes = cond (starts_with nat_eq magic bytes) (Err (faults.Cut (length bytes))) (Err (faults.Magic 0))
+module _ (magic : List ℕ) (newest : ℕ) where
+  abbrev pub IsVersion : ℕ → Type 0
+  IsVersion n = (1 ≤ n) × (n ≤ newest)
 
-  no_magic : (b c : Bool) (bytes : List ℕ) (next : ℕ) → cond b (Ok (length magic)) (cond c (Err (faults.Cut (length bytes))) (Err (faults.Magic 0))) ≡ Ok next → (b ≡ true) × (length magic ≡ next)
-  no_magic true c bytes next e = (refl, let z = e in cc)
-  no_magic false true bytes next e = absurd cc
-  no_magic false false bytes next e = absurd cc
+  -- the beginning of an image that has a version
+  abbrev pub beginning : ℕ → List ℕ
+  beginning version = head magic version
 
-  magic_takes : (bytes : List ℕ) (next : ℕ) → magic_at magic bytes ≡ Ok next → Stands bytes 0 magic next
-  magic_takes bytes next e =
-      let g = no_magic (starts_with nat_eq bytes magic) (starts_with nat_eq magic bytes) bytes next e in
-      let is = (starts_is Decides-eqb bytes magic (starts_with nat_eq bytes magic) refl).0 g.0 in
-      let parts : bytes ≡ magic ++ drop (length magic) bytes = is in
-      subst (λ (n : ℕ). Stands bytes 0 magic n) g.1
-      (record { parts = parts; moves = omega arith; within = omega (arith, length-append magic (drop (length magic) bytes), ap (length {A = ℕ}) parts) })
+  abbrev short_of : List ℕ → ℕ → Result ℕ ImageFault
+  short_of bytes place = cond (starts_with nat_eq magic (drop place bytes)) (Err (faults.Cut (length bytes))) (Err (faults.Magic place))
 
-  magic_again : (bytes : List ℕ) (next : ℕ) → Stands bytes 0 magic next → magic_at magic bytes ≡ Ok next
-  magic_again bytes next h =
-      let is : starts_with nat_eq bytes magic ≡ true = (starts_is Decides-eqb bytes magic (starts_with nat_eq bytes magic) refl).1 (drop next bytes) h.parts in
-      let moved : length magic ≡ next = omega (arith, h.moves) in
-      ap (λ (b : Bool). cond b (Ok (length magic)) (short_of bytes)) is ∙ ap (λ (n : ℕ). Ok n) moved
+  no_magic : (b c : Bool) (bytes : List ℕ) (place next : ℕ) → cond b (Ok (place + length magic)) (cond c (Err (faults.Cut (length bytes))) (Err (faults.Magic place))) ≡ Ok next → (b ≡ true) × (place + length magic ≡ next)
+  no_magic true c bytes place next e = (refl, let z = e in cc)
+  no_magic false true bytes place next e = absurd cc
+  no_magic false false bytes place next e = absurd cc
 
-  abbrev after_version : ℕ → Read ℕ → Result ℕ ImageFault
-  after_version place version = cond (eqb version.value 1) (Ok version.next) (Err (faults.Version place))
+  magic_takes : (bytes : List ℕ) (place next : ℕ) → place ≤ length bytes → magic_at magic bytes place ≡ Ok next → Stands bytes place magic next
+  magic_takes bytes place next le e =
+      let rest : List ℕ = drop place bytes in
+      let g = no_magic (starts_with nat_eq rest magic) (starts_with nat_eq magic rest) bytes place next e in
+      let is = (starts_is Decides-eqb rest magic (starts_with nat_eq rest magic) refl).0 g.0 in
+      let parts : rest ≡ magic ++ drop (length magic) rest = is in
+      let here : drop (length magic) rest ≡ drop (place + length magic) bytes = drop-drop (length magic) place bytes in
+      subst (λ (n : ℕ). Stands bytes place magic n) g.1
+      (record {
+        parts = parts ∙ ap (λ (l : List ℕ). magic ++ l) here;
+        moves = refl;
+        within = omega (arith, le, length-append magic (drop (length magic) rest), ap (length {A = ℕ}) parts, length-drop place bytes);
+      })
 
-  pub head_takes : (bytes : List ℕ) → AreBytes bytes → (next : ℕ) → head_at magic bytes ≡ Ok next → Stands bytes 0 (head magic) next
+  magic_again : (bytes : List ℕ) (place next : ℕ) → Stands bytes place magic next → magic_at magic bytes place ≡ Ok next
+  magic_again bytes place next h =
+      let is : starts_with nat_eq (drop place bytes) magic ≡ true = (starts_is Decides-eqb (drop place bytes) magic (starts_with nat_eq (drop place bytes) magic) refl).1 (drop next bytes) h.parts in
+      ap (λ (b : Bool). cond b (Ok (place + length magic)) (short_of bytes place)) is ∙ ap (λ (n : ℕ). Ok n) h.moves
+
+  abbrev is_version : ℕ → Bool
+  is_version n = leb 1 n && leb n newest
+
+  abbrev after_version : ℕ → Read ℕ → Result (Read ℕ) ImageFault
+  after_version start version = cond (is_version version.value) (Ok version) (Err (faults.Version start))
+
+  head_takes : (bytes : List ℕ) → AreBytes bytes → (place : ℕ) (r : Read ℕ) → place ≤ length bytes → head_at magic newest bytes place ≡ Ok r → Stands bytes place (beginning r.value) r.next × IsVersion r.value
   unfolding head_at
-  head_takes bytes all next e =
-      let a = bind_ok (magic_at magic bytes) (λ place. number_at w8 bytes place >>= after_version place) next e in
-      let m = magic_takes bytes a.0 a.1 in
-      let v = took (number_at w8) (number w8) (λ n. n < 2 ^ 8) byte_field bytes all a.0 m.within (after_version a.0) next a.2 in
-      let g = guard_yes (eqb v.0.value 1) (faults.Version a.0) (Ok v.0.next) next v.3 in
-      let one : Stands bytes a.0 (1 ∷ []) v.0.next = subst (λ (n : ℕ). Stands bytes a.0 (number w8 n) v.0.next) (eqb-true _ _ g.0) v.1 in
-      let both = Stands-join bytes 0 magic a.0 (1 ∷ []) v.0.next m one in
-      let same : v.0.next ≡ next = (let z = g.1 in cc) in
-      subst (λ (n : ℕ). Stands bytes 0 (head magic) n) same both
+  head_takes bytes all place r le e =
+      let a = bind_ok (magic_at magic bytes place) (λ start. number_at w8 bytes start >>= after_version start) r e in
+      let m = magic_takes bytes place a.0 le a.1 in
+      let v = took (number_at w8) (number w8) (λ n. n < 2 ^ 8) byte_field bytes all a.0 m.within (after_version a.0) r a.2 in
+      let g = guard_yes (is_version v.0.value) (faults.Version a.0) (Ok v.0) r v.3 in
+      let b = both (leb 1 v.0.value) (leb v.0.value newest) g.0 in
+      let one : Stands bytes a.0 (v.0.value ∷ []) v.0.next = subst (λ (t : List ℕ). Stands bytes a.0 t v.0.next) (number-w8 v.0.value v.2) v.1 in
+      let whole = Stands-join bytes place magic a.0 (v.0.value ∷ []) v.0.next m one in
+      subst (λ (x : Read ℕ). Stands bytes place (beginning x.value) x.next × IsVersion x.value) (same_read v.0 r g.1) (whole, (leb-true _ _ b.0, leb-true _ _ b.1))
 
-  pub head_again : (bytes : List ℕ) (next : ℕ) → Stands bytes 0 (head magic) next → head_at magic bytes ≡ Ok next
+  head_again : newest < 2 ^ 8 → (bytes : List ℕ) (place v next : ℕ) → Stands bytes place (beginning v) next → IsVersion v → head_at magic newest bytes place ≡ done v next
   unfolding head_at
-  head_again bytes next h =
-      let place : ℕ = length magic in
-      let here : 0 + place ≡ place = omega arith in
-      let front = subst (λ (n : ℕ). Stands bytes 0 magic n) here (Stands-front bytes 0 magic (1 ∷ []) next h) in
-      let back = subst (λ (n : ℕ). Stands bytes n (1 ∷ []) next) here (Stands-back bytes 0 magic (1 ∷ []) next h) in
-      let m = magic_again bytes place front in
-      let v = byte_field.again bytes place 1 next back (omega arith) in
-      rw (m, v) refl
+  head_again small bytes place v next h is =
+      let front = Stands-front bytes place magic (v ∷ []) next h in
+      let back = Stands-back bytes place magic (v ∷ []) next h in
+      let one : Stands bytes (place + length magic) (number w8 v) next = subst (λ (t : List ℕ). Stands bytes (place + length magic) t next) (sym (number-w8 v (omega (arith, is.1, small)))) back in
+      let m = magic_again bytes place (place + length magic) front in
+      let read = byte_field.again bytes (place + length magic) v next one (omega (arith, is.1, small)) in
+      rw (m, read, le-leb 1 v is.0, le-leb v newest is.1) refl
+
+  pub head_field : newest < 2 ^ 8 → IsField (head_at magic newest) beginning IsVersion
+  head_field small = record { takes = head_takes; again = head_again small }
+
+-- ---- selects
+
+the_other : (n : ℕ) → 1 ≤ n → n ≤ 2 → (n ≡ 2 → ⊥) → n ≡ 1
+the_other zero least most other = absurd (omega arith)
+the_other (suc zero) least most other = refl
+the_other (suc (suc zero)) least most other = absurd (other refl)
+the_other (suc (suc (suc n))) least most other = absurd (omega arith)
+
+-- a section that an image of this version has
+abbrev pub IsSection : ℕ → Ranges → ℕ → List WireSelects → Type 0
+IsSection version ranges first cs = FitsSection ranges first cs × (version_with cs ≡ version)
+
+module _ (ranges : Ranges) (short : AreShort ranges) (first : ℕ) where
+  abbrev FitsThese : List WireSelects → Type 0
+  FitsThese = FitsSelects ranges.classes (FitsMethod ranges) first
+
+  -- selects that were read are a section
+  as_section : (bytes : List ℕ) (place : ℕ) (cs : List WireSelects) (next : ℕ) → Stands bytes place (selects cs) next → FitsThese cs → Stands bytes place (section cs) next × IsSection 2 ranges first cs
+  as_section bytes place [] next h fits = let some = fits.some in absurd (omega (arith, some))
+  as_section bytes place (c ∷ cs) next h fits = (h, (fits, refl))
+
+  section_takes : (version : ℕ) → 1 ≤ version → version ≤ 2 → (bytes : List ℕ) → AreBytes bytes → (place : ℕ) (r : Read (List WireSelects)) → place ≤ length bytes → section_at version ranges first bytes place ≡ Ok r → Stands bytes place (section r.value) r.next × IsSection version ranges first r.value
+  section_takes version least most bytes all place r le e = elim (chosen (eqb version 2) _ _ _ e) [
+    | inl w ↦
+        let two : version ≡ 2 = eqb-true _ _ w.0 in
+        let t = (selects_field ranges short first).takes bytes all place r le w.1 in
+        let s = as_section bytes place r.value r.next t.0 t.1 in
+        (s.0, (s.1.0, s.1.1 ∙ sym two))
+    | inr u ↦
+        let one : version ≡ 1 = the_other version least most (eqb-false _ _ u.0) in
+        came section (IsSection version ranges first) bytes place [] place r u.1 (record { parts = refl; moves = omega arith; within = le }) (tt, sym one)
+  ]
+
+  section_again : (version : ℕ) (bytes : List ℕ) (place : ℕ) (cs : List WireSelects) (next : ℕ) → Stands bytes place (section cs) next → IsSection version ranges first cs → section_at version ranges first bytes place ≡ done cs next
+  section_again version bytes place [] next h is =
+      let moved : place ≡ next = omega (arith, h.moves) in
+      ap (λ (n : ℕ). section_at n ranges first bytes place) (sym is.1) ∙ ap (λ (n : ℕ). done [] n) moved
+  section_again version bytes place (c ∷ cs) next h is =
+      ap (λ (n : ℕ). section_at n ranges first bytes place) (sym is.1) ∙ (selects_field ranges short first).again bytes place (c ∷ cs) next h is.0
+
+  pub section_field : (version : ℕ) → 1 ≤ version → version ≤ 2 → IsField (section_at version ranges first) section (IsSection version ranges first)
+  section_field version least most = record { takes = section_takes version least most; again = section_again version }
+
+  -- and can be written
+  pub section_written : (cs : List WireSelects) → FitsSection ranges first cs → FitsSomeSection cs
+  section_written [] fits = tt
+  section_written (c ∷ cs) fits = selects_some ranges short first (c ∷ cs) fits
+
+  -- its methods are those of classes that there are
+  pub section_known : (cs : List WireSelects) → FitsSection ranges first cs → AreSelectsOf ranges cs
+  section_known [] fits = All-from_recursion (λ (c : WireSelects). All (λ (s : WireSelect). FitsMethod ranges s.method) c.selects) [] tt
+  section_known (c ∷ cs) fits = selects_known ranges.classes (FitsMethod ranges) first (c ∷ cs) fits
 
 -- ---- whole images
 

@@ -1,17 +1,18 @@
 -- What naming asks of numbers, and how a loop names classes.
-use Rattle.std.proofs.Common.{◌≡◌, ℕ, zero, suc, ◌+◌, ◌<◌, List, [], ◌∷◌, ◌++◌, length, map, take, get_or, refl, ap, ◌∙◌, arith}
+use Rattle.std.proofs.Common.{◌≡◌, ℕ, zero, suc, ◌+◌, ◌<◌, ◌≤◌, List, [], ◌∷◌, ◌++◌, length, map, take, get_or, refl, ap, ◌∙◌, arith}
 use Rattle.std.proofs.lemmas.List.{length-map}
 use Rattle.som_model.specs.declared.key.Module.TheVariants as modules
 use Rattle.som_model.specs.declared.key.ClassKey.TheVariants as keys
 use Rattle.som_model.specs.declared.class.ClassDecl.{ClassDecl}
 use Rattle.som_fields.specs.declared.face.WireFace.{WireFace}
 use Rattle.som_fields.specs.declared.method.Ranges.{Ranges}
+use Rattle.som_wire.specs.declared.selects.WireSelects.{WireSelects}
 use Rattle.som_wire.specs.declared.syntax.WirePart.{WirePart}
 use Rattle.som_naming.specs.declared.directory.Directory.{Directory}
 use Rattle.som_naming.specs.ReadClasses.{ranges_of}
 use Rattle.som_naming.specs.SpelledClasses.{FitEach}
 use Rattle.som_naming.specs.Naming.{name_in, names_in, library_directory, ranges_in}
-use Rattle.som_naming.specs.NamedClasses.{class_named, classes_named}
+use Rattle.som_naming.specs.NamedClasses.{class_named, classes_named, selects_under, selecting, with_selects}
 
 -- ---- pairs of lists
 
@@ -32,6 +33,19 @@ classes_more d [] ps i f p lt e = absurd (omega arith)
 classes_more d (x ∷ xs) [] i f p lt e = absurd (omega arith)
 classes_more d (x ∷ xs) (y ∷ ys) zero f p lt e = refl
 classes_more d (x ∷ xs) (y ∷ ys) (suc i) f p lt e = ap (λ (cs : List ClassDecl). class_named d x y ∷ cs) (classes_more d xs ys i f p (omega arith) (omega arith))
+
+pub named_length : (d : Directory) (fs : List WireFace) (ps : List WirePart) (i : ℕ) → i ≤ length fs → length fs ≡ length ps → length (classes_named d (take i fs) (take i ps)) ≡ i
+named_length d fs ps zero le e = refl
+named_length d [] ps (suc i) le e = absurd (omega arith)
+named_length d (f ∷ fs) [] (suc i) le e = absurd (omega arith)
+named_length d (f ∷ fs) (p ∷ ps) (suc i) le e = ap suc (named_length d fs ps i (omega arith) (omega arith))
+
+-- a class more with its selects
+pub selecting_more : (d : Directory) (n : ℕ) (groups : List WireSelects) (cs : List ClassDecl) (c : ClassDecl) → with_selects d n groups (cs ++ c ∷ []) ≡ with_selects d n groups cs ++ selecting d (selects_under (n + length cs) groups) c ∷ []
+selecting_more d n groups [] c = ap (λ (m : ℕ). selecting d (selects_under m groups) c ∷ []) (omega arith)
+selecting_more d n groups (x ∷ cs) c =
+    let next : suc n + length cs ≡ n + length (x ∷ cs) = omega arith in
+    ap (λ (l : List ClassDecl). selecting d (selects_under n groups) x ∷ l) (selecting_more d (suc n) groups cs c ∙ ap (λ (m : ℕ). with_selects d (suc n) groups cs ++ selecting d (selects_under m groups) c ∷ []) next)
 
 -- ---- ranges
 

@@ -1,5 +1,5 @@
 -- What was numbered can be written, whatever the ranges; and what is read of classes is within the limits.
-use Rattle.std.proofs.Common.{◌≡◌, ℕ, ◌+◌, ◌≤◌, ◌<◌, ◌^◌, List, [], ◌∷◌, length, map, Result, Ok, Err, sym, ap, subst, ◌∙◌, arith}
+use Rattle.std.proofs.Common.{◌≡◌, ℕ, suc, ◌+◌, ◌≤◌, ◌<◌, ◌^◌, List, [], ◌∷◌, length, map, Result, Ok, Err, sym, ap, subst, ◌∙◌, arith}
 use Rattle.std.specs.Prelude.{All, IfOk}
 use Rattle.std.specs.List.{AllByRecursion}
 use Rattle.std.proofs.lemmas.List.{length-map}
@@ -10,6 +10,7 @@ use Rattle.som_model.specs.declared.limits.TheConstants.{MAX_ENTRIES, MAX_LIBRAR
 use Rattle.som_model.specs.declared.key.ClassKey.{ClassKey}
 use Rattle.som_model.specs.declared.class.Override.{Override}
 use Rattle.som_model.specs.declared.class.Variable.{Variable}
+use Rattle.som_model.specs.declared.class.ClassDecl.{ClassDecl}
 use Rattle.som_model.specs.declared.program.Release.{Release}
 use Rattle.som_fields.specs.declared.entry.WireEntry.{WireEntry}
 use Rattle.som_fields.specs.declared.entry.WireEntry.TheVariants as entries
@@ -20,7 +21,9 @@ use Rattle.som_wire.specs.declared.syntax.WireBody.{WireBody}
 use Rattle.som_wire.specs.declared.syntax.WireBody.TheVariants as bodies
 use Rattle.som_wire.specs.declared.syntax.WireOverride.{WireOverride}
 use Rattle.som_wire.specs.declared.syntax.WirePart.{WirePart}
-use Rattle.som_wire.specs.Fitting.{FitsVariable, FitsBody, FitsOverride, FitsSomePart}
+use Rattle.som_fields.specs.declared.method.WireMethod.{WireMethod}
+use Rattle.som_wire.specs.declared.selects.WireSelects.{WireSelects}
+use Rattle.som_wire.specs.Fitting.{FitsVariable, FitsBody, FitsOverride, FitAscending, FitsSomePart}
 use Rattle.som_wire.proofs.SomeFits.{part_some}
 use Rattle.som_naming.specs.declared.directory.Directory.{Directory}
 use Rattle.som_naming.specs.Naming.{library_directory, key_at, kind_named, ranges_in}
@@ -28,9 +31,9 @@ use Rattle.som_naming.specs.BlockLimits.{TextWithin, BlockWithin}
 use Rattle.som_naming.proofs.Places.{all_map, all_mapped}
 use Rattle.som_naming.specs.ReadClasses.{is_introduced, introduced_count, ranges_of}
 use Rattle.som_naming.specs.SpelledClasses.{FitsClass, FitsParts, FitsFaces}
-use Rattle.som_naming.specs.NamedClasses.{entry_named, face_named, variable_named, body_named, override_named, class_named, classes_named}
+use Rattle.som_naming.specs.NamedClasses.{entry_named, face_named, variable_named, body_named, override_named, class_named, classes_named, select_named, selects_under, with_selects}
 use Rattle.som_naming.specs.ClassLimits.{EntryWithin, FaceWithin, BodyWithin, ClassWithin}
-use Rattle.som_naming.proofs.ClassPlaces.{ranges_known}
+use Rattle.som_naming.proofs.NamedSelects.{under_fits}
 use Rattle.som_naming.proofs.ClassFields.{faces_few, ranges_short}
 use Rattle.som_naming.proofs.NamedLimits.{named_is_within}
 
@@ -89,6 +92,7 @@ module _ (d : Directory) where
     each_variable = all_named (FitsVariable (length d.keys)) (λ (v : Variable). TextWithin v.name) (variable_named d.keys) (λ v k. k.name) p.variables h.variables.2;
     each_body = all_named Fits BodyWithin (body_named d) body_within p.bodies h.bodies.1;
     overrides = omega (arith, h.overrides.1, length-map p.overrides (override_named d));
+    selects = omega arith;
     each_override = all_named FitsHere (λ (o : Override). BlockWithin o.block) (override_named d) (λ o k. named_is_within d (length d.keys) (FitsMethod (ranges_in d)) o.block k.block) p.overrides h.overrides.2;
   }
 
@@ -101,3 +105,20 @@ module _ (d : Directory) where
   few_classes [] ps = omega arith
   few_classes (f ∷ fs) [] = omega arith
   few_classes (f ∷ fs) (p ∷ ps) = let h = few_classes fs ps in omega (arith, h)
+
+  -- and with selects that fit
+  pub selecting_within : (classes : ℕ) (Method : WireMethod → Type 0) (least n : ℕ) (gs : List WireSelects) → FitAscending classes Method least gs → (ds : List ClassDecl) → AllByRecursion ClassWithin ds → AllByRecursion ClassWithin (with_selects d n gs ds)
+  selecting_within classes Method least n gs fits [] h = tt
+  selecting_within classes Method least n gs fits (c ∷ ds) h =
+      let under = under_fits classes Method n least gs fits in (
+        record {
+          face = h.0.face;
+          variables = h.0.variables;
+          each_variable = h.0.each_variable;
+          each_body = h.0.each_body;
+          overrides = h.0.overrides;
+          each_override = h.0.each_override;
+          selects = omega (arith, under.0, length-map (selects_under n gs) (select_named d));
+        },
+        selecting_within classes Method least (suc n) gs fits ds h.1,
+      )

@@ -17,7 +17,7 @@ use Rattle.som_model.specs.Kernel.{kernel}
 use Rattle.som_model.specs.Classes.{library_classes}
 use Rattle.som_model.specs.Rules.{RuleBreach, name_of, breach, s1, s6}
 use Rattle.som_model.specs.Conforming.{each_after, ReleaseOk}
-use Rattle.som_naming.specs.Numbering.{Differ}
+use Rattle.som_naming.specs.Naming.{Differ}
 use Rattle.som_naming.specs.Interfaces.{NamesDiffer}
 
 -- ---- nothing is broken

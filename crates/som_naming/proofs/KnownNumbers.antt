@@ -17,10 +17,9 @@ use Rattle.som_wire.specs.declared.syntax.WireBlock.{WireBlock, fold-roll-WireBl
 use Rattle.som_wire.specs.Fitting.{FitsArgs, FitsExprParts, FitsExpr, FitsCall, FitsStmtParts, FitsStatements, FitsStmt, FitsBlock}
 use Rattle.som_naming.specs.declared.directory.Directory.{Directory}
 use Rattle.som_naming.specs.Naming.{ranges_in}
-use Rattle.som_naming.specs.FoundNames.{all_found}
-use Rattle.som_naming.specs.KnownNumbers.{is_class, is_method, is_type, known_step, expr_known, stmt_known_step, block_known_step, stmt_known, block_known, statements_known}
+use Rattle.som_naming.specs.KnownNumbers.{all_found, is_class, is_method, is_type, known_step, expr_known, stmt_known_step, block_known_step, stmt_known, block_known, statements_known}
 use Rattle.som_naming.proofs.Naming.{as_result}
-use Rattle.som_naming.proofs.FoundNames.{and_true, each_found, all_if}
+use Rattle.som_naming.proofs.Tests.{and_true, each_found, all_if}
 
 -- ---- what is known
 

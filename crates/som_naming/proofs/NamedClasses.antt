@@ -16,7 +16,6 @@ use Rattle.som_model.specs.declared.key.ClassKey.TheVariants as keys
 use Rattle.som_model.specs.declared.class.ClassFace.{ClassFace}
 use Rattle.som_model.specs.declared.class.ClassDecl.{ClassDecl}
 use Rattle.som_model.specs.declared.program.Release.{Release}
-use Rattle.som_model.specs.Bytes.{AreBytes}
 use Rattle.som_model.specs.Keys.{same_key}
 use Rattle.som_model.specs.Class.{Class, class_in, entry_name}
 use Rattle.som_model.specs.Kernel.{kernel, kernel_key}
@@ -30,22 +29,22 @@ use Rattle.som_fields.specs.declared.face.WireFace.{WireFace}
 use Rattle.som_fields.specs.declared.method.Ranges.{Ranges}
 use Rattle.som_fields.specs.Spelling as wire
 use Rattle.som_fields.specs.Spelling.{FitsFace}
+use Rattle.som_wire.specs.declared.selects.WireSelect.{WireSelect}
+use Rattle.som_wire.specs.declared.selects.WireSelects.{WireSelects}
 use Rattle.som_wire.specs.declared.syntax.WirePart.{WirePart}
 use Rattle.som_naming.specs.declared.directory.Directory.{Directory}
 use Rattle.som_naming.specs.ReadClasses.{ranges_of}
 use Rattle.som_wire.specs.Spelling as spelling
 use Rattle.som_naming.specs.SpelledClasses.{FitsClass, FitsParts}
 use Rattle.som_naming.specs.Naming.{name_in, names_in, kernel_directory, library_directory, ranges_in, entry_names, Tells, NoDoubles}
-use Rattle.som_naming.specs.NamedClasses.{entry_named, face_named, class_named, classes_named}
-use Rattle.som_naming.specs.Numbering.{Differ}
+use Rattle.som_naming.specs.NamedClasses.{entry_named, face_named, class_named, classes_named, selects_under, selecting, with_selects}
 use Rattle.som_naming.specs.Interfaces.{NamesDiffer}
-use Rattle.som_naming.specs.ClassLimits.{ClassWithin}
-use Rattle.som_naming.specs.Numbering.{Differ}
+use Rattle.som_naming.specs.Naming.{Differ}
 use Rattle.som_naming.proofs.ClassPlaces.{fit_length, ranges_known}
 use Rattle.som_naming.proofs.Places.{all_map, all_of, all_mapped, all_unmapped, all_joined, distinct_names, distinct_joined, distinct_mapped}
 use Rattle.som_naming.proofs.Spelled.{some_bytes, bytes_are, split, guarded}
 use Rattle.som_naming.proofs.NamedFaces.{face_forth, face_back}
-use Rattle.som_naming.proofs.NamedParts.{front_bytes, back_bytes, part_forth, part_back}
+use Rattle.som_naming.proofs.NamedParts.{plain, part_forth, part_back}
 
 -- ---- names stay
 
@@ -103,6 +102,32 @@ module _ (d : Directory) where
   as_many_classes (f ∷ fs) [] e = absurd (omega arith)
   as_many_classes (f ∷ fs) (p ∷ ps) e = ap suc (as_many_classes fs ps (omega arith))
 
+-- what doesn't look at selects is the same of classes with selects
+module _ (d : Directory) where
+  pub map_selecting : {B : Type 0} (f : ClassDecl → B) → ((ss : List WireSelect) (c : ClassDecl) → f (selecting d ss c) ≡ f c) → (n : ℕ) (gs : List WireSelects) (ds : List ClassDecl) → map f (with_selects d n gs ds) ≡ map f ds
+  map_selecting f same n gs [] = refl
+  map_selecting {B} f same n gs (c ∷ ds) =
+      ap (λ (y : B). y ∷ map f (with_selects d (suc n) gs ds)) (same (selects_under n gs) c)
+      ∙ ap (λ (ys : List B). f c ∷ ys) (map_selecting f same (suc n) gs ds)
+
+  pub each_selecting : (f : ClassDecl → Spelled) → ((ss : List WireSelect) (c : ClassDecl) → f (selecting d ss c) ≡ f c) → (n : ℕ) (gs : List WireSelects) (ds : List ClassDecl) → each f (with_selects d n gs ds) ≡ each f ds
+  each_selecting f same n gs [] = refl
+  each_selecting f same n gs (c ∷ ds) =
+      ap (λ (y : Spelled). y then each f (with_selects d (suc n) gs ds)) (same (selects_under n gs) c)
+      ∙ ap (λ (y : Spelled). f c then y) (each_selecting f same (suc n) gs ds)
+
+  pub many_selecting : (n : ℕ) (gs : List WireSelects) (ds : List ClassDecl) → length (with_selects d n gs ds) ≡ length ds
+  many_selecting n gs [] = refl
+  many_selecting n gs (c ∷ ds) = ap suc (many_selecting (suc n) gs ds)
+
+  pub keys_selecting : (home : Module) (n : ℕ) (gs : List WireSelects) (ds : List ClassDecl) → map (λ (c : Class). c.key) (map (class_in home) (with_selects d n gs ds)) ≡ map (λ (c : Class). c.key) (map (class_in home) ds)
+  keys_selecting home n gs [] = refl
+  keys_selecting home n gs (c ∷ ds) = ap (λ (ks : List ClassKey). keys.Named home c.face.name ∷ ks) (keys_selecting home (suc n) gs ds)
+
+  pub slots_selecting : (home : Module) (n : ℕ) (gs : List WireSelects) (ds : List ClassDecl) → map entry_names (map (class_in home) (with_selects d n gs ds)) ≡ map entry_names (map (class_in home) ds)
+  slots_selecting home n gs [] = refl
+  slots_selecting home n gs (c ∷ ds) = ap (λ (ns : List (List (List ℕ))). map entry_name c.face.entries ∷ ns) (slots_selecting home (suc n) gs ds)
+
 -- the kernel's classes and these
 abbrev pub known_classes : List ClassDecl → List Class
 known_classes cs = kernel ++ map (class_in modules.Library) cs
@@ -111,6 +136,12 @@ pub told : (d : Directory) (fs : List WireFace) (ps : List WirePart) → length 
 told d fs ps e = record {
   keys = ap (λ (ks : List ClassKey). kernel_directory.keys ++ ks) (keys_told d modules.Library fs ps e);
   slots = ap (λ (ns : List (List (List ℕ))). kernel_directory.slots ++ ns) (slots_told d modules.Library fs ps e);
+}
+
+pub told_selecting : (d : Directory) (n : ℕ) (gs : List WireSelects) (fs : List WireFace) (ps : List WirePart) → length fs ≡ length ps → Tells (library_directory fs) (known_classes (with_selects d n gs (classes_named d fs ps)))
+told_selecting d n gs fs ps e = record {
+  keys = ap (λ (ks : List ClassKey). kernel_directory.keys ++ ks) (keys_selecting d modules.Library n gs (classes_named d fs ps) ∙ keys_told d modules.Library fs ps e);
+  slots = ap (λ (ns : List (List (List ℕ))). kernel_directory.slots ++ ns) (slots_selecting d modules.Library n gs (classes_named d fs ps) ∙ slots_told d modules.Library fs ps e);
 }
 
 pub as_many_keys : (fs : List WireFace) → length ((library_directory fs).keys) ≡ length fs + 4
@@ -178,16 +209,16 @@ module _ (d : Directory) (cs : List Class) (tells : Tells d cs) where
     pub second : flat_map spelling.part parts ≡ y
     pub fit : AllByRecursion (FitsFace classes) faces
     pub pairs : FitsParts (ranges_in d) faces parts
-    pub names : classes_named d faces parts ≡ cls
+    pub names : classes_named d faces parts ≡ map plain cls
 
-  pub pairs_back : (cls : List ClassDecl) → AllByRecursion ClassWithin cls → (x y : List ℕ) → AreBytes y → each spell_face cls ≡ Some x → each (images.part cs) cls ≡ Some y → Pairs cls x y
-  pairs_back [] within x y h e g = record { faces = []; parts = []; first = bytes_are [] x e; second = bytes_are [] y g; fit = tt; pairs = tt; names = refl }
-  pairs_back (c ∷ cls) within x y h e g =
+  pub pairs_back : (cls : List ClassDecl) → (x y : List ℕ) → each spell_face cls ≡ Some x → each (images.part cs) cls ≡ Some y → Pairs cls x y
+  pairs_back [] x y e g = record { faces = []; parts = []; first = bytes_are [] x e; second = bytes_are [] y g; fit = tt; pairs = tt; names = refl }
+  pairs_back (c ∷ cls) x y e g =
       let s = split (spell_face c) (each spell_face cls) x e in
       let t = split (images.part cs c) (each (images.part cs) cls) y g in
       let f = face_back d cs tells c.face s.front s.first in
-      let p = part_back d cs tells f.it c f.names within.0 t.front (front_bytes t.front t.back y t.whole h) t.first in
-      let r = pairs_back cls within.1 s.back t.back (back_bytes t.front t.back y t.whole h) s.second t.second in
+      let p = part_back d cs tells f.it c f.names t.front t.first in
+      let r = pairs_back cls s.back t.back s.second t.second in
       record {
         faces = f.it ∷ r.faces;
         parts = p.it ∷ r.parts;
@@ -195,7 +226,7 @@ module _ (d : Directory) (cs : List Class) (tells : Tells d cs) where
         second = flat_map-cons spelling.part p.it r.parts ∙ ap (λ (z : List ℕ). z ++ flat_map spelling.part r.parts) p.spelled ∙ ap (λ (z : List ℕ). t.front ++ z) r.second ∙ t.whole;
         fit = (f.fits, r.fit);
         pairs = (p.fits, r.pairs);
-        names = ap (λ (z : ClassDecl). z ∷ classes_named d r.faces r.parts) p.names ∙ ap (λ (z : List ClassDecl). c ∷ z) r.names;
+        names = ap (λ (z : ClassDecl). z ∷ classes_named d r.faces r.parts) p.names ∙ ap (λ (z : List ClassDecl). plain c ∷ z) r.names;
       }
 
 abbrev pub directory_of : List ClassKey → List (List (List ℕ)) → Directory

@@ -21,7 +21,7 @@ use Rattle.som_naming.proofs.Spelled.{some_bytes, Forth, counted_forth, text_for
 use Rattle.som_naming.proofs.Numbers.{class_forth, method_forth}
 use Rattle.som_naming.proofs.NamedKinds.{kind_forth}
 use Rattle.som_naming.proofs.NamedLayers.{expr_layer, expr_is}
-use Rattle.som_naming.proofs.BlockForms.{tagged, two, byte_is, short_is, operator_is, truth_is, boolean_is, host_is, host_code, map_twice, args_are}
+use Rattle.som_naming.proofs.BlockForms.{tagged, two, byte_forth, local_forth, long_forth, operator_is, truth_is, boolean_is, host_is, host_code, map_twice, args_are}
 
 module _ (d : Directory) (cs : List Class) (tells : Tells d cs) (single : NoDoubles d) where
   abbrev classes : ℕ
@@ -50,13 +50,13 @@ module _ (d : Directory) (cs : List Class) (tells : Tells d cs) (single : NoDoub
 
     forth_layer : (layer : WireExpr-F WireExpr) → FitsExprParts classes Method Inner layer
         → expr_step cs (map-Expr Expr AtLevel (images.expr cs) (expr_layer d layer)) level ≡ Some (spelling.expr_step (map-WireExpr WireExpr (List ℕ) spelling.expr layer))
-    forth_layer (WireExpr-F.Long z) h = tagged level 0x20 _ _ low refl
+    forth_layer (WireExpr-F.Long z) h = tagged level 0x20 _ _ low (long_forth z h)
     forth_layer (WireExpr-F.Str t) h = tagged level 0x21 _ _ low (text_forth t h)
     forth_layer (WireExpr-F.Boolean b) h = boolean_is cs level b ∙ tagged level 0x22 _ _ low (truth_is b)
     forth_layer WireExpr-F.Nil h = tagged level 0x23 _ _ low refl
-    forth_layer (WireExpr-F.Local n) h = tagged level 0x24 _ _ low (short_is n)
+    forth_layer (WireExpr-F.Local n) h = tagged level 0x24 _ _ low (local_forth n h)
     forth_layer WireExpr-F.Me h = tagged level 0x25 _ _ low refl
-    forth_layer (WireExpr-F.Variable n) h = tagged level 0x26 _ _ low (byte_is n h)
+    forth_layer (WireExpr-F.Variable n) h = tagged level 0x26 _ _ low (byte_forth n h)
     forth_layer (WireExpr-F.Unary op e) h = tagged level 0x27 _ _ low (two _ _ _ _ (operator_is 4 op h.0 (omega arith)) (inner e h.1))
     forth_layer (WireExpr-F.Binary op a b) h = tagged level 0x28 _ _ low (two _ _ _ _ (two _ _ _ _ (operator_is 14 op h.0 (omega arith)) (inner a h.1)) (inner b h.2))
     forth_layer (WireExpr-F.New c) h = tagged level 0x29 _ _ low (class_forth d cs tells single c h)
@@ -68,7 +68,7 @@ module _ (d : Directory) (cs : List Class) (tells : Tells d cs) (single : NoDoub
     forth_layer (WireExpr-F.OffsetCall m e es) h = tagged level 0x2f _ _ low (two _ _ _ _ (two _ _ _ _ (method_forth d cs tells single m h.0) (inner e h.1)) (args_forth es h.2))
     forth_layer (WireExpr-F.Lookup t name e es) h = tagged level 0x30 _ _ low (two _ _ _ _ (two _ _ _ _ (two _ _ _ _ (kind_forth d cs tells single t h.0) (text_forth name h.1)) (inner e h.2)) (args_forth es h.3))
     forth_layer (WireExpr-F.Dispatch t name e es) h = tagged level 0x31 _ _ low (two _ _ _ _ (two _ _ _ _ (two _ _ _ _ (kind_forth d cs tells single t h.0) (text_forth name h.1)) (inner e h.2)) (args_forth es h.3))
-    forth_layer (WireExpr-F.ParentCall n m es) h = tagged level 0x32 _ _ low (two _ _ _ _ (two _ _ _ _ (byte_is n h.0) (method_forth d cs tells single m h.1)) (args_forth es h.2))
+    forth_layer (WireExpr-F.ParentCall n m es) h = tagged level 0x32 _ _ low (two _ _ _ _ (two _ _ _ _ (byte_forth n h.0) (method_forth d cs tells single m h.1)) (args_forth es h.2))
     forth_layer (WireExpr-F.ParentsCall m es) h = tagged level 0x33 _ _ low (two _ _ _ _ (method_forth d cs tells single m h.0) (args_forth es h.1))
     forth_layer (WireExpr-F.Host code a b) h = host_is cs level code (images.expr cs (expr_named d a)) (images.expr cs (expr_named d b)) ∙ tagged level 0x34 _ _ low (two _ _ _ _ (two _ _ _ _ (host_code code) (inner a h.0)) (inner b h.1))
 
@@ -80,7 +80,7 @@ module _ (d : Directory) (cs : List Class) (tells : Tells d cs) (single : NoDoub
         ∙ ap some_bytes (sym (fold-roll-WireExpr (List ℕ) spelling.expr_step layer))
 
   -- the same where so many levels are left
-  pub expr_forth : (left level : ℕ) → left + level ≡ 33 → (e : WireExpr) → FitsExpr left classes Method e → ExprForth level e
+  pub expr_forth : (left level : ℕ) → left + level ≡ suc MAX_NESTING → (e : WireExpr) → FitsExpr left classes Method e → ExprForth level e
   unfolding FitsExpr
   expr_forth zero level sum e h = absurd h
   expr_forth (suc left) level sum e h =

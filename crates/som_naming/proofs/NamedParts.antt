@@ -4,7 +4,6 @@ use Rattle.std.specs.List.{flat_map, count_by, AllByRecursion}
 use Rattle.std.specs.Int.{w8, w16}
 use Rattle.std.proofs.lemmas.Bool.{eqb-true}
 use Rattle.std.proofs.lemmas.List.{length-map}
-use Rattle.std.proofs.lemmas.List.Concat.{flat_map-cons}
 use Rattle.std.proofs.lemmas.List.Recursion.{is_count_by}
 use Rattle.std.proofs.lemmas.List.Elements.{All-from_recursion, recursion_from_All}
 use Rattle.som_model.specs.declared.limits.TheConstants.{MAX_VARIABLES, MAX_OVERRIDES}
@@ -18,7 +17,6 @@ use Rattle.som_model.specs.declared.class.Variable.{Variable}
 use Rattle.som_model.specs.declared.class.Override.{Override}
 use Rattle.som_model.specs.declared.class.ClassFace.{ClassFace}
 use Rattle.som_model.specs.declared.class.ClassDecl.{ClassDecl}
-use Rattle.som_model.specs.Bytes.{AreBytes}
 use Rattle.som_model.specs.Class.{Class, introduced}
 use Rattle.som_model.specs.Images as images
 use Rattle.som_model.specs.Images.{Spelled, ◌then◌, each, tag, where_it_is}
@@ -27,7 +25,6 @@ use Rattle.som_fields.specs.declared.entry.WireEntry.TheVariants as entries
 use Rattle.som_fields.specs.declared.face.WireFace.{WireFace}
 use Rattle.som_fields.specs.Spelling as wire
 use Rattle.som_fields.specs.Spelling.{FitsCounted, FitsMethod}
-use Rattle.som_fields.proofs.NumberFields.{number-w8}
 use Rattle.som_wire.specs.declared.syntax.WireVariable.{WireVariable}
 use Rattle.som_wire.specs.declared.syntax.WireBody.{WireBody}
 use Rattle.som_wire.specs.declared.syntax.WireBody.TheVariants as bodies
@@ -38,9 +35,9 @@ use Rattle.som_wire.specs.Fitting.{FitsVariable, FitsBody, FitsOverride}
 use Rattle.som_naming.specs.declared.directory.Directory.{Directory}
 use Rattle.som_naming.specs.Naming.{kind_named, ranges_in, Tells, NoDoubles}
 use Rattle.som_naming.specs.NamedBlocks.{block_named}
-use Rattle.som_naming.specs.BlockLimits.{BlockWithin}
 use Rattle.som_naming.proofs.Places.{all_map, all_of}
-use Rattle.som_naming.proofs.Spelled.{some_bytes, bytes_are, split, guarded, Forth, From, Back, each_forth, counted_forth, counted_back, text_forth, text_back}
+use Rattle.som_naming.proofs.Spelled.{bytes_are, split, guarded, Forth, From, Back, each_forth, counted_forth, many_back, counted_back, text_forth, text_back}
+use Rattle.som_naming.proofs.BlockForms.{byte_forth, byte_back, join}
 use Rattle.som_naming.proofs.Numbers.{method_forth, method_back}
 use Rattle.som_naming.proofs.NamedKinds.{value_forth, value_back}
 use Rattle.som_naming.proofs.NamedStmts.{block_forth}
@@ -48,56 +45,8 @@ use Rattle.som_naming.proofs.StmtsBack.{block_back}
 use Rattle.som_naming.specs.ReadClasses.{is_introduced}
 use Rattle.som_naming.specs.SpelledClasses.{FitsClass}
 use Rattle.som_naming.specs.NamedClasses.{entry_named, face_named, variable_named, body_named, override_named, class_named}
-use Rattle.som_naming.specs.ClassLimits.{BodyWithin, ClassWithin}
-
--- ---- bytes of parts of a list
-
-bytes_front : (x y : List ℕ) → AreBytes (x ++ y) → AreBytes x
-bytes_front [] y h i = omega arith
-bytes_front (b ∷ x) y h zero = h 0
-bytes_front (b ∷ x) y h (suc i) = bytes_front x y (λ j. h (suc j)) i
-
-bytes_back : (x y : List ℕ) → AreBytes (x ++ y) → AreBytes y
-bytes_back [] y h = h
-bytes_back (b ∷ x) y h = bytes_back x y (λ j. h (suc j))
-
-pub front_bytes : (x y bytes : List ℕ) → x ++ y ≡ bytes → AreBytes bytes → AreBytes x
-front_bytes x y bytes e h = bytes_front x y (subst AreBytes (sym e) h)
-
-pub back_bytes : (x y bytes : List ℕ) → x ++ y ≡ bytes → AreBytes bytes → AreBytes y
-back_bytes x y bytes e h = bytes_back x y (subst AreBytes (sym e) h)
-
--- ---- values whose spelling are bytes
-
-module _ {A W : Type 0} (spell : A → Spelled) (with_numbers : W → List ℕ) (Fits : W → Type 0) (named : W → A) where
-  -- what a value is named from, where its spelling are bytes
-  abbrev pub BytesBack : A → Type 0
-  BytesBack v = (bytes : List ℕ) → AreBytes bytes → spell v ≡ Some bytes → From with_numbers Fits named v bytes
-
-  pub each_of_bytes : (vs : List A) → AllByRecursion BytesBack vs → (bytes : List ℕ) → AreBytes bytes → each spell vs ≡ Some bytes → From (flat_map with_numbers) (AllByRecursion Fits) (map named) vs bytes
-  each_of_bytes [] back bytes h e = record { it = []; spelled = bytes_are [] bytes e; fits = tt; names = refl }
-  each_of_bytes (v ∷ vs) back bytes h e =
-      let s = split (spell v) (each spell vs) bytes e in
-      let w = back.0 s.front (front_bytes s.front s.back bytes s.whole h) s.first in
-      let ws = each_of_bytes vs back.1 s.back (back_bytes s.front s.back bytes s.whole h) s.second in
-      record {
-        it = w.it ∷ ws.it;
-        spelled = flat_map-cons with_numbers w.it ws.it ∙ ap (λ (x : List ℕ). x ++ flat_map with_numbers ws.it) w.spelled ∙ ap (λ (y : List ℕ). s.front ++ y) ws.spelled ∙ s.whole;
-        fits = (w.fits, ws.fits);
-        names = ap (λ (x : A). x ∷ map named ws.it) w.names ∙ ap (λ (xs : List A). v ∷ xs) ws.names;
-      }
 
 -- ---- bodies
-
-byte_is : (n : ℕ) → n < 2 ^ 8 → tag n ≡ Some (wire.number w8 n)
-byte_is n lt = ap some_bytes (sym (number-w8 n lt))
-
--- the variable of a getter or a setter is a byte
-second_is_byte : (k n : ℕ) (bytes : List ℕ) → AreBytes bytes → k ∷ n ∷ [] ≡ bytes → n < 2 ^ 8
-second_is_byte k n bytes h e = (subst AreBytes (sym e) h) 1
-
-accessor_spelled : (k n : ℕ) (bytes : List ℕ) → n < 2 ^ 8 → k ∷ n ∷ [] ≡ bytes → k ∷ wire.number w8 n ≡ bytes
-accessor_spelled k n bytes lt e = ap (λ (x : List ℕ). k ∷ x) (number-w8 n lt) ∙ e
 
 module _ (d : Directory) (cs : List Class) (tells : Tells d cs) where
   abbrev pub Fits : WireBody → Type 0
@@ -105,30 +54,27 @@ module _ (d : Directory) (cs : List Class) (tells : Tells d cs) where
 
   body_forth : NoDoubles d → (b : WireBody) → Fits b → Forth (images.body cs) spelling.body (body_named d) b
   body_forth single (bodies.User b) fits = ap (λ (s : Spelled). tag 0 then s) (block_forth d cs tells single 32 1 (omega arith) b fits)
-  body_forth single (bodies.Get n) fits = ap (λ (s : Spelled). tag 1 then s) (byte_is n fits)
-  body_forth single (bodies.Set n) fits = ap (λ (s : Spelled). tag 2 then s) (byte_is n fits)
+  body_forth single (bodies.Get n) fits = ap (λ (s : Spelled). tag 1 then s) (byte_forth n fits)
+  body_forth single (bodies.Set n) fits = ap (λ (s : Spelled). tag 2 then s) (byte_forth n fits)
 
-  abbrev FromBody : Body → List ℕ → Type 0
-  FromBody b bytes = From spelling.body Fits (body_named d) b bytes
-
-  body_back : (b : Body) → BodyWithin b → (bytes : List ℕ) → AreBytes bytes → images.body cs b ≡ Some bytes → FromBody b bytes
-  body_back (named_bodies.User b) within bytes h e =
+  body_back : (b : Body) → Back (images.body cs) spelling.body Fits (body_named d) b
+  body_back (named_bodies.User b) bytes e =
       let s = split (tag 0) (images.block cs b 1) bytes e in
-      let r = block_back d cs tells 32 1 b within s.back s.second in
+      let r = block_back d cs tells 32 1 (omega arith) b s.back s.second in
       record {
         it = bodies.User r.it;
-        spelled = ap (λ (x : List ℕ). (0 ∷ []) ++ x) r.spelled ∙ ap (λ (x : List ℕ). x ++ s.back) (bytes_are (0 ∷ []) s.front s.first) ∙ s.whole;
+        spelled = join _ _ _ _ _ (bytes_are (0 ∷ []) s.front s.first) r.spelled s.whole;
         fits = r.fits;
         names = ap named_bodies.User r.names;
       }
-  body_back (named_bodies.Get n) within bytes h e =
-      let is = bytes_are (1 ∷ n ∷ []) bytes e in
-      let lt = second_is_byte 1 n bytes h is in
-      record { it = bodies.Get n; spelled = accessor_spelled 1 n bytes lt is; fits = lt; names = refl }
-  body_back (named_bodies.Set n) within bytes h e =
-      let is = bytes_are (2 ∷ n ∷ []) bytes e in
-      let lt = second_is_byte 2 n bytes h is in
-      record { it = bodies.Set n; spelled = accessor_spelled 2 n bytes lt is; fits = lt; names = refl }
+  body_back (named_bodies.Get n) bytes e =
+      let s = split (tag 1) (images.byte n) bytes e in
+      let u = byte_back n s.back s.second in
+      record { it = bodies.Get n; spelled = join _ _ _ _ _ (bytes_are (1 ∷ []) s.front s.first) u.0 s.whole; fits = u.1; names = refl }
+  body_back (named_bodies.Set n) bytes e =
+      let s = split (tag 2) (images.byte n) bytes e in
+      let u = byte_back n s.back s.second in
+      record { it = bodies.Set n; spelled = join _ _ _ _ _ (bytes_are (2 ∷ []) s.front s.first) u.0 s.whole; fits = u.1; names = refl }
 
 -- ---- how many entries are introduced
 
@@ -154,8 +100,12 @@ a_variable name kind = record { name = name; kind = kind }
 abbrev an_override : MethodRef → Block → Override
 an_override method block = record { method = method; block = block }
 
-abbrev a_class : ClassFace → List Variable → List Body → List Override → ClassDecl
-a_class face variables bs overrides = record { face = face; variables = variables; bodies = bs; overrides = overrides }
+abbrev pub a_class : ClassFace → List Variable → List Body → List Override → ClassDecl
+a_class face variables bs overrides = record { face = face; variables = variables; bodies = bs; overrides = overrides; selects = [] }
+
+-- a class without its selects
+abbrev pub plain : ClassDecl → ClassDecl
+plain c = a_class c.face c.variables c.bodies c.overrides
 
 module _ (d : Directory) (cs : List Class) (tells : Tells d cs) where
   abbrev classes : ℕ
@@ -215,11 +165,11 @@ module _ (d : Directory) (cs : List Class) (tells : Tells d cs) where
         names = ap (λ (x : ValueType). a_variable v.name x) k.names;
       }
 
-  override_back : (o : Override) → BlockWithin o.block → Back overridden spelling.overridden FitsHere (override_named d) o
-  override_back o within bytes e =
+  override_back : (o : Override) → Back overridden spelling.overridden FitsHere (override_named d) o
+  override_back o bytes e =
       let s = split (images.method cs o.method) (images.block cs o.block 1) bytes e in
       let m = method_back d cs tells o.method s.front s.first in
-      let b = block_back d cs tells 32 1 o.block within s.back s.second in
+      let b = block_back d cs tells 32 1 (omega arith) o.block s.back s.second in
       record {
         it = record { method = m.it; block = b.it };
         spelled = ap (λ (x : List ℕ). x ++ spelling.block b.it) m.spelled ∙ ap (λ (y : List ℕ). s.front ++ y) b.spelled ∙ s.whole;
@@ -230,9 +180,9 @@ module _ (d : Directory) (cs : List Class) (tells : Tells d cs) where
   joined : (a b c a1 b1 c1 x y : List ℕ) → a ≡ a1 → b ≡ b1 → c ≡ c1 → a1 ++ b1 ≡ x → x ++ c1 ≡ y → a ++ b ++ c ≡ y
   joined a b c a1 b1 c1 x y ha hb hc hx hy = cc
 
-  -- the part of a class whose face is known
-  pub part_back : (f : WireFace) (c : ClassDecl) → face_named d.keys f ≡ c.face → ClassWithin c → (bytes : List ℕ) → AreBytes bytes → images.part cs c ≡ Some bytes → From spelling.part (FitsClass (ranges_in d) f) (class_named d f) c bytes
-  part_back f c face within bytes h e =
+  -- the part of a class whose face is known, without its selects
+  pub part_back : (f : WireFace) (c : ClassDecl) → face_named d.keys f ≡ c.face → (bytes : List ℕ) → images.part cs c ≡ Some bytes → From spelling.part (FitsClass (ranges_in d) f) (class_named d f) (plain c) bytes
+  part_back f c face bytes e =
       let number : Bool = eqb (length c.bodies) (length (introduced c.face.entries)) in
       let bodies : Spelled = each (images.body cs) c.bodies in
       let variables : Spelled = images.counted w8 MAX_VARIABLES variable c.variables in
@@ -240,16 +190,14 @@ module _ (d : Directory) (cs : List Class) (tells : Tells d cs) where
       let s = split (variables then where_it_is number bodies) overrides bytes e in
       let t = split variables (where_it_is number bodies) s.front s.first in
       let g = guarded number bodies t.back t.second in
-      let inner = back_bytes t.front t.back s.front t.whole (front_bytes s.front s.back bytes s.whole h) in
       let vs = counted_back variable spelling.variable (variable_named d.keys) (FitsVariable classes) w8 0 MAX_VARIABLES c.variables (omega arith) (all_of (Back variable spelling.variable (FitsVariable classes) (variable_named d.keys)) variable_back c.variables) t.front t.first in
-      let bs = each_of_bytes (images.body cs) spelling.body (Fits d cs tells) (body_named d) c.bodies (all_map BodyWithin (BytesBack (images.body cs) spelling.body (Fits d cs tells) (body_named d)) (body_back d cs tells) c.bodies (recursion_from_All BodyWithin c.bodies within.each_body)) t.back inner g.1 in
-      let os = counted_back overridden spelling.overridden (override_named d) FitsHere w16 0 MAX_OVERRIDES c.overrides (omega arith) (all_map (λ o. BlockWithin o.block) (Back overridden spelling.overridden FitsHere (override_named d)) override_back c.overrides (recursion_from_All (λ o. BlockWithin o.block) c.overrides within.each_override)) s.back s.second in
+      let bs = many_back (images.body cs) spelling.body (body_named d) (Fits d cs tells) c.bodies (all_of (Back (images.body cs) spelling.body (Fits d cs tells) (body_named d)) (body_back d cs tells) c.bodies) t.back g.1 in
+      let os = counted_back overridden spelling.overridden (override_named d) FitsHere w16 0 MAX_OVERRIDES c.overrides (omega arith) (all_of (Back overridden spelling.overridden FitsHere (override_named d)) override_back c.overrides) s.back s.second in
       let as_entries : length (introduced c.face.entries) ≡ count_by is_introduced f.entries = ap (λ (x : ClassFace). length (introduced x.entries)) (sym face) ∙ introduced_is d.keys f.entries in
-      let as_bodies : length bs.it ≡ length c.bodies = sym (length-map bs.it (body_named d)) ∙ ap (length {A = Body}) bs.names in
       record {
         it = record { variables = vs.it; bodies = bs.it; overrides = os.it };
         spelled = joined _ _ _ t.front t.back s.back s.front bytes vs.spelled bs.spelled os.spelled t.whole s.whole;
-        fits = record { variables = vs.fits; bodies = (as_bodies ∙ eqb-true _ _ g.0 ∙ as_entries, All-from_recursion (Fits d cs tells) bs.it bs.fits); overrides = os.fits };
+        fits = record { variables = vs.fits; bodies = (bs.fits.0 ∙ eqb-true _ _ g.0 ∙ as_entries, bs.fits.1); overrides = os.fits };
         names = ap (λ (x : ClassFace). a_class x (map (variable_named d.keys) vs.it) (map (body_named d) bs.it) (map (override_named d) os.it)) face
             ∙ ap (λ (x : List Variable). a_class c.face x (map (body_named d) bs.it) (map (override_named d) os.it)) vs.names
             ∙ ap (λ (x : List Body). a_class c.face c.variables x (map (override_named d) os.it)) bs.names

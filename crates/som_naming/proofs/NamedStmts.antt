@@ -27,7 +27,7 @@ use Rattle.som_naming.specs.NamedBlocks.{expr_named, stmt_named, stmt_named_step
 use Rattle.som_naming.proofs.Places.{all_map}
 use Rattle.som_naming.proofs.Spelled.{some_bytes, Forth, each_forth}
 use Rattle.som_naming.proofs.NamedKinds.{value_forth}
-use Rattle.som_naming.proofs.BlockForms.{tagged, two, byte_is, short_is, map_twice}
+use Rattle.som_naming.proofs.BlockForms.{tagged, two, byte_forth, local_forth, map_twice}
 use Rattle.som_naming.proofs.NamedLayers.{call_named, stmt_layer, stmt_is}
 use Rattle.som_naming.proofs.NamedExprs.{ExprForth, expr_forth}
 
@@ -83,8 +83,8 @@ module _ (d : Directory) (cs : List Class) (tells : Tells d cs) (single : NoDoub
     forth_layer : (layer : WireStmt-F WireStmt WireBlock) → FitsStmtParts classes Inner CallFits Within layer
         → stmt_step cs (map-Stmt Stmt Block AtLevel AtLevel spelled_stmt (images.block cs) (stmt_layer d layer)) level ≡ Some (spelling.stmt_step (map-WireStmt WireStmt WireBlock (List ℕ) (List ℕ) spelling.stmt spelling.block layer))
     forth_layer (WireStmt-F.Var t e) h = tagged level 0x01 _ _ low (two _ _ _ _ (value_forth d cs tells single t h.0) (inner e h.1))
-    forth_layer (WireStmt-F.SetLocal n e) h = tagged level 0x02 _ _ low (two _ _ _ _ (short_is n) (inner e h.1))
-    forth_layer (WireStmt-F.SetVariable n e) h = tagged level 0x03 _ _ low (two _ _ _ _ (byte_is n h.0) (inner e h.1))
+    forth_layer (WireStmt-F.SetLocal n e) h = tagged level 0x02 _ _ low (two _ _ _ _ (local_forth n h.0) (inner e h.1))
+    forth_layer (WireStmt-F.SetVariable n e) h = tagged level 0x03 _ _ low (two _ _ _ _ (byte_forth n h.0) (inner e h.1))
     forth_layer (WireStmt-F.If e a b) h = tagged level 0x04 _ _ low (two _ _ _ _ (two _ _ _ _ (inner e h.0) (within a h.1)) (within b h.2))
     forth_layer (WireStmt-F.While e b) h = tagged level 0x05 _ _ low (two _ _ _ _ (inner e h.0) (within b h.1))
     forth_layer WireStmt-F.Return h = tagged level 0x06 _ _ low refl
@@ -100,15 +100,15 @@ module _ (d : Directory) (cs : List Class) (tells : Tells d cs) (single : NoDoub
         ∙ forth_layer layer h
         ∙ ap some_bytes (sym (fold-roll-WireStmt (List ℕ) (List ℕ) spelling.stmt_step spelling.block_step layer))
 
-  stmt_forth : (left level : ℕ) → left + level ≡ 33 → (s : WireStmt) → FitsStmt left classes Method s → StmtForth level s
+  stmt_forth : (left level : ℕ) → left + level ≡ suc MAX_NESTING → (s : WireStmt) → FitsStmt left classes Method s → StmtForth level s
   unfolding FitsStmt
   stmt_forth zero level sum s h = absurd h
   stmt_forth (suc left) level sum s h =
-      let deeper : left + suc level ≡ 33 = omega (arith, sum) in
+      let deeper : left + suc level ≡ suc MAX_NESTING = omega (arith, sum) in
       subst (StmtForth level) (roll-out-WireStmt s)
       (whole_forth level (omega (arith, sum)) (FitsExpr left classes Method) (expr_forth d cs tells single left (suc level) deeper)
       (FitsBlock left classes Method) (blocks_forth (suc level) (FitsStmt left classes Method) (stmt_forth left (suc level) deeper)) (out-WireStmt s) h)
 
   -- a block with numbers is spelled at a level as the one with names
-  pub block_forth : (left level : ℕ) → left + level ≡ 33 → (b : WireBlock) → FitsBlock left classes Method b → BlockForth level b
+  pub block_forth : (left level : ℕ) → left + level ≡ suc MAX_NESTING → (b : WireBlock) → FitsBlock left classes Method b → BlockForth level b
   block_forth left level sum b fits = blocks_forth level (FitsStmt left classes Method) (stmt_forth left level sum) b fits

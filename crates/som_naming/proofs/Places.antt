@@ -1,7 +1,9 @@
 -- Where something stands in a list: the first place that passes a test.
-use Rattle.std.proofs.Common.{◌≡◌, ℕ, zero, suc, ◌+◌, ◌<◌, Bool, true, false, if◌then◌else◌, true≢false, List, [], ◌∷◌, ◌++◌, length, map, get_or, Option, Some, refl, sym, ap, ◌∙◌, arith}
+use Rattle.std.proofs.Common.{◌≡◌, ℕ, zero, suc, ◌+◌, ◌<◌, Bool, true, false, if◌then◌else◌, true≢false, List, [], ◌∷◌, ◌++◌, length, map, get_or, Option, Some, refl, sym, ap, subst, ◌∙◌, arith}
+use Rattle.std.specs.Prelude.{All}
 use Rattle.std.specs.List.{AllByRecursion, IsDistinct}
 use Rattle.std.specs.Str.{bytes_eq}
+use Rattle.std.proofs.lemmas.List.Elements.{All-get_or}
 use Rattle.som_model.specs.Lists.{place_from, find, some, doubles}
 use Rattle.som_model.proofs.KeyLaws.{Exact, exact_bytes}
 
@@ -147,3 +149,8 @@ unfolding IsDistinct
 distinct_mapped same other f keeps [] h = tt
 distinct_mapped same other f keeps (x ∷ xs) h =
     (all_mapped (λ y. other (f x) y ≡ false) f xs (all_map (λ y. same x y ≡ false) (λ y. other (f x) (f y) ≡ false) (λ y e. keeps x y e) xs h.0), distinct_mapped same other f keeps xs h.1)
+
+-- ---- items of a list behind a slice
+
+pub item_all : {A : Type 0} (P : A → Type 0) (xs ys : List A) (i : ℕ) (x : A) → ys ≡ xs → i < length ys → x ≡ get_or ys i x → All P xs → P x
+item_all {A} P xs ys i x same lt is h = subst P (sym is) (All-get_or P ys i x lt (subst (λ (zs : List A). All P zs) (sym same) h))

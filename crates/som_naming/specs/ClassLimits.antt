@@ -1,6 +1,6 @@
 -- How much of each thing of a class an image has room for.
 use Rattle.std.specs.Prelude.{ℕ, ◌≤◌, List, length, All}
-use Rattle.som_model.specs.declared.limits.TheConstants.{MAX_VERSION, MAX_PARENTS, MAX_ENTRIES, MAX_PARAMETERS, MAX_VARIABLES, MAX_OVERRIDES, MAX_LIBRARY_CLASSES}
+use Rattle.som_model.specs.declared.limits.TheConstants.{MAX_VERSION, MAX_PARENTS, MAX_ENTRIES, MAX_PARAMETERS, MAX_VARIABLES, MAX_OVERRIDES, MAX_SELECTS}
 use Rattle.som_model.specs.declared.class.Entry.{Entry}
 use Rattle.som_model.specs.declared.class.Entry.TheVariants as entries
 use Rattle.som_model.specs.declared.class.Body.{Body}
@@ -37,3 +37,4 @@ pub record ClassWithin (c : ClassDecl) : Type 0 where
   pub each_body : All BodyWithin c.bodies
   pub overrides : length c.overrides ≤ MAX_OVERRIDES
   pub each_override : All (λ o. BlockWithin o.block) c.overrides
+  pub selects : length c.selects ≤ MAX_SELECTS

@@ -14,7 +14,7 @@ use Rattle.som_model.specs.Images.{Spelled}
 use Rattle.som_fields.specs.declared.face.WireFace.{WireFace}
 use Rattle.som_fields.specs.Spelling as wire
 use Rattle.som_fields.specs.declared.fault.ImageFault.{ImageFault}
-use Rattle.som_naming.specs.Numbering.{Differ}
+use Rattle.som_naming.specs.Naming.{Differ}
 use Rattle.som_naming.specs.NamedClasses.{interface_named}
 use Rattle.som_naming.specs.SpelledClasses.{FitsFaces}
 

@@ -1,5 +1,5 @@
 -- Whether all numbers and slots in blocks stand for something in a directory.
-use Rattle.std.specs.Prelude.{ℕ, Bool, true, ◌&&◌, nat_lt, length, slice_index}
+use Rattle.std.specs.Prelude.{ℕ, Bool, true, ◌&&◌, nat_lt, List, length, slice_index}
 use Rattle.std.specs.List.{list_all}
 use Rattle.som_fields.specs.declared.kind.WireType.{WireType}
 use Rattle.som_fields.specs.declared.kind.WireType.TheVariants as types
@@ -11,7 +11,6 @@ use Rattle.som_wire.specs.declared.syntax.WireStmt.TheOpen.{WireStmt-F, WireBloc
 use Rattle.som_wire.specs.declared.syntax.WireBlock.{WireBlock, fold-WireBlock}
 use Rattle.som_naming.specs.declared.directory.Directory.{Directory}
 use Rattle.som_naming.specs.Naming.{ranges_in}
-use Rattle.som_naming.specs.FoundNames.{all_found}
 
 -- whether a number stands for a class
 unfoldable pub is_class : Directory → ℕ → Bool
@@ -25,6 +24,10 @@ is_method d m = is_class d m.class && nat_lt m.slot (slice_index (ranges_in d).e
 unfoldable pub is_type : Directory → WireType → Bool
 is_type d (types.Class n) = is_class d n
 is_type d _ = true
+
+-- all of these
+abbrev pub all_found : List Bool → Bool
+all_found known = list_all (λ one. one) known
 
 -- an expression, by whether the numbers in its parts stand for something
 abbrev pub known_step : Directory → WireExpr-F Bool → Bool

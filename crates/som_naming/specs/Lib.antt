@@ -1,15 +1,10 @@
 pub mod Naming
-pub mod Numbering
 pub mod NamedBlocks
-pub mod NumberedBlocks
 pub mod BlockLimits
-pub mod ReadyBlocks
-pub mod FoundNames
 pub mod KnownNumbers
 pub mod Forms
 pub mod ReadClasses
 pub mod SpelledClasses
 pub mod NamedClasses
-pub mod NumberedClasses
 pub mod ClassLimits
 pub mod Interfaces

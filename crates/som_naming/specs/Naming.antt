@@ -10,6 +10,8 @@ use Rattle.som_model.specs.declared.key.MethodRef.{MethodRef}
 use Rattle.som_model.specs.declared.key.ValueType.{ValueType}
 use Rattle.som_model.specs.declared.key.ValueType.TheVariants as values
 use Rattle.som_model.specs.declared.class.ClassFace.{ClassFace}
+use Rattle.som_model.specs.declared.program.Release.{Release}
+use Rattle.som_model.specs.Lists.{doubles}
 use Rattle.som_model.specs.Keys.{same_key}
 use Rattle.som_model.specs.Class.{Class, entry_name}
 use Rattle.som_model.specs.Kernel.{kernel, som_object}
@@ -48,6 +50,13 @@ with_face d m f = record { keys = d.keys ++ keys.Named m f.name ∷ []; slots = 
 abbrev pub library_directory : List WireFace → Directory
 library_directory fs = with_classes kernel_directory modules.Library fs
 
+-- the kernel's classes and a release's, and the names of their entries
+abbrev pub release_directory : Release → Directory
+release_directory r = record {
+  keys = kernel_directory.keys ++ map (λ c. keys.Named modules.Library c.face.name) r.classes;
+  slots = kernel_directory.slots ++ map (λ c. map entry_name c.face.entries) r.classes;
+}
+
 -- how many classes there are, and how many entries each has
 abbrev pub ranges_in : Directory → Ranges
 ranges_in d = record { classes = length d.keys; entries = map (λ names. length names) d.slots }
@@ -62,6 +71,10 @@ entry_names c = map entry_name c.decl.face.entries
 pub record Tells (d : Directory) (cs : List Class) : Type 0 where
   pub keys : map (λ c. c.key) cs ≡ d.keys
   pub slots : map entry_names cs ≡ d.slots
+
+-- no name stands twice
+abbrev pub Differ : List (List ℕ) → Type 0
+Differ names = doubles bytes_eq [] names ≡ []
 
 -- no class stands twice, and in no class a name
 pub record NoDoubles (d : Directory) : Type 0 where

@@ -1,5 +1,5 @@
 -- How what libraries and clients have in common is read from left to right: the head of an image, faces and parts.
-use Rattle.std.specs.Prelude.{ℕ, ◌+◌, ◌==◌, nat_lt, nat_eq, Bool, true, false, if◌then◌else◌, List, [], ◌∷◌, length, map, codes, Result, Ok, Err}
+use Rattle.std.specs.Prelude.{ℕ, ◌+◌, ◌==◌, ◌&&◌, nat_lt, nat_le, nat_eq, Bool, true, false, if◌then◌else◌, List, [], ◌∷◌, length, map, drop, Result, Ok, Err}
 use Rattle.std.specs.List.{starts_with, count_by}
 use Rattle.std.specs.Int.{w8, w16}
 use Rattle.som_model.specs.declared.limits.TheConstants.{MAX_LIBRARY_CLASSES}
@@ -14,7 +14,8 @@ use Rattle.som_fields.specs.declared.method.Ranges.{Ranges}
 use Rattle.som_fields.specs.Fields.{done, many_at}
 use Rattle.som_fields.specs.Reading.{number_at, face_at}
 use Rattle.som_wire.specs.declared.syntax.WirePart.{WirePart}
-use Rattle.som_wire.specs.Reading.{part_at}
+use Rattle.som_wire.specs.declared.selects.WireSelects.{WireSelects}
+use Rattle.som_wire.specs.Reading.{part_at, selects_at}
 
 -- whether an entry is introduced
 abbrev pub is_introduced : WireEntry → Bool
@@ -51,19 +52,23 @@ faces_at = faces_after_at 4 MAX_LIBRARY_CLASSES
 abbrev pub parts_at : Ranges → List WireFace → List ℕ → ℕ → Result (Read (List WirePart)) ImageFault
 parts_at ranges faces bytes = each_at (λ face. part_at ranges (introduced_count face) bytes) faces
 
--- the bytes that an image begins with; of bytes that end before, those that are there decide
-abbrev pub magic_at : List ℕ → List ℕ → Result ℕ ImageFault
-magic_at magic bytes =
-    if starts_with nat_eq bytes magic then Ok (length magic) else
-    if starts_with nat_eq magic bytes then Err (faults.Cut (length bytes)) else
-    Err (faults.Magic 0)
+-- the bytes that an image begins with at a place; of bytes that end before, those that are there decide
+abbrev pub magic_at : List ℕ → List ℕ → ℕ → Result ℕ ImageFault
+magic_at magic bytes place =
+    if starts_with nat_eq (drop place bytes) magic then Ok (place + length magic) else
+    if starts_with nat_eq magic (drop place bytes) then Err (faults.Cut (length bytes)) else
+    Err (faults.Magic place)
 
--- those, and then the version 1
-unfoldable pub head_at : List ℕ → List ℕ → Result ℕ ImageFault
-head_at magic bytes = do
-  place ← magic_at magic bytes
-  version ← number_at w8 bytes place
-  if version.value == 1 then Ok version.next else Err (faults.Version place)
+-- those, and then a version from 1 to the newest that is taken
+unfoldable pub head_at : List ℕ → ℕ → List ℕ → ℕ → Result (Read ℕ) ImageFault
+head_at magic newest bytes place = do
+  start ← magic_at magic bytes place
+  version ← number_at w8 bytes start
+  if nat_le 1 version.value && nat_le version.value newest then Ok version else Err (faults.Version start)
+
+-- the selects of the classes with the numbers from first on, in an image of a version: in version 1 there are none
+abbrev pub section_at : ℕ → Ranges → ℕ → List ℕ → ℕ → Result (Read (List WireSelects)) ImageFault
+section_at version ranges first bytes place = if version == 2 then selects_at ranges first bytes place else done [] place
 
 -- what was read, where nothing more follows
 abbrev pub at_end : {A : Type 0} → List ℕ → Read A → Result A ImageFault

@@ -5,10 +5,11 @@ use Rattle.std.specs.Int.{w16}
 use Rattle.som_model.specs.declared.limits.TheConstants.{MAX_LIBRARY_CLASSES}
 use Rattle.som_fields.specs.declared.face.WireFace.{WireFace}
 use Rattle.som_fields.specs.declared.method.Ranges.{Ranges}
-use Rattle.som_fields.specs.Spelling.{counted, FitsCounted, face, FitsFace}
+use Rattle.som_fields.specs.Spelling.{counted, FitsCounted, face, FitsFace, FitsMethod}
 use Rattle.som_wire.specs.declared.syntax.WirePart.{WirePart}
-use Rattle.som_wire.specs.Spelling.{part}
-use Rattle.som_wire.specs.Fitting.{FitsPart}
+use Rattle.som_wire.specs.declared.selects.WireSelects.{WireSelects}
+use Rattle.som_wire.specs.Spelling.{part, selects}
+use Rattle.som_wire.specs.Fitting.{FitsPart, FitsSelects, FitsSomeSelects}
 use Rattle.som_naming.specs.ReadClasses.{introduced_count, ranges_of}
 
 -- each fits the other of its place, and there are as many
@@ -34,6 +35,28 @@ FitsFacesAfter before most fs = FitsCounted 0 most (FitsFace (length fs + before
 abbrev pub FitsFaces : List WireFace → Type 0
 FitsFaces fs = FitsFacesAfter 4 MAX_LIBRARY_CLASSES fs
 
--- the magic bytes, and version 1
-abbrev pub head : List ℕ → List ℕ
-head magic = magic ++ 1 ∷ []
+-- the magic bytes, and a version
+abbrev pub head : List ℕ → ℕ → List ℕ
+head magic version = magic ++ version ∷ []
+
+-- ---- selects
+
+-- the version of an image: 2 where some classes have selects
+abbrev pub version_with : List WireSelects → ℕ
+version_with [] = 1
+version_with (c ∷ cs) = 2
+
+-- nothing where no class has selects
+abbrev pub section : List WireSelects → List ℕ
+section [] = []
+section (c ∷ cs) = selects (c ∷ cs)
+
+-- none, or those of some of the classes with the numbers from first on
+abbrev pub FitsSection : Ranges → ℕ → List WireSelects → Type 0
+FitsSection ranges first [] = Unit {0}
+FitsSection ranges first (c ∷ cs) = FitsSelects ranges.classes (FitsMethod ranges) first (c ∷ cs)
+
+-- none, or some that can stand somewhere
+abbrev pub FitsSomeSection : List WireSelects → Type 0
+FitsSomeSection [] = Unit {0}
+FitsSomeSection (c ∷ cs) = FitsSomeSelects (c ∷ cs)

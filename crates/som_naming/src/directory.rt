@@ -3,10 +3,10 @@ ghost use Rattle.som_naming.specs.Naming.{
   library_directory,
   name_in,
   names_in,
+  release_directory,
   with_classes,
   with_face,
 };
-ghost use Rattle.som_naming.specs.Numbering.{release_directory};
 ghost use Rattle.som_model.specs.Class.{entry_name};
 ghost use Rattle.std.specs.Prelude.{◌≡◌, map, IfOk, OnOk};
 
@@ -32,54 +32,54 @@ impl Directory {
             slots: List::new(alloc),
         };
         for face in kernel.classes.as_slice() {
-            directory.add_face(alloc, Module::Kernel, face)?;
+            directory = directory.with_face(alloc, Module::Kernel, face)?;
         }
         Ok(directory)
     }
 
-    /// Adds a class of a module. After an error its key may have been added.
-    pub fn add_face(
-        &mut self,
+    /// These classes, and after them one of a module.
+    pub fn with_face(
+        self,
         alloc: Global,
         home: Module,
         face: &ClassFace,
-    ) -> Result<(), NoMemory>
-        ensures { OnOk result (self.new ≡ with_face self.old home face.now) }
+    ) -> Result<Directory, NoMemory>
+        ensures { IfOk result (λ directory. directory ≡ with_face self home face.now) }
     {
-        self.keys.push(ClassKey::Named {
+        let mut directory = self;
+        directory.keys.push(ClassKey::Named {
             module: home,
             name: face.name.copy(alloc)?,
         })?;
-        self.slots.push(entry_names(alloc, &face.entries)?)?;
-        Ok(())
+        directory.slots.push(entry_names(alloc, &face.entries)?)?;
+        Ok(directory)
     }
 
-    /// Adds the classes of a module with these faces. After an error a part of them may have been added.
-    pub fn add(
-        &mut self,
+    /// These classes, and after them those of a module with these faces.
+    pub fn with_classes(
+        self,
         alloc: Global,
         home: Module,
         faces: &List<WireFace>,
-    ) -> Result<(), NoMemory>
-        ensures { OnOk result (self.new ≡ with_classes self.old home faces.now) }
+    ) -> Result<Directory, NoMemory>
+        ensures { IfOk result (λ directory. directory ≡ with_classes self home faces.now) }
     {
+        let mut directory = self;
         for face in faces.as_slice() {
-            self.keys.push(ClassKey::Named {
+            directory.keys.push(ClassKey::Named {
                 module: home,
                 name: face.name.copy(alloc)?,
             })?;
-            self.slots.push(wire_names(alloc, &face.entries)?)?;
+            directory.slots.push(wire_names(alloc, &face.entries)?)?;
         }
-        Ok(())
+        Ok(directory)
     }
 
     /// The kernel's classes and those of a library with these faces.
     pub fn of_library(alloc: Global, faces: &List<WireFace>) -> Result<Directory, NoMemory>
         ensures { IfOk result (λ directory. directory ≡ library_directory faces.now) }
     {
-        let mut directory = Directory::of_kernel(alloc)?;
-        directory.add(alloc, Module::Library, faces)?;
-        Ok(directory)
+        Directory::of_kernel(alloc)?.with_classes(alloc, Module::Library, faces)
     }
 
     /// The kernel's classes and those of a release.
@@ -88,7 +88,7 @@ impl Directory {
     {
         let mut directory = Directory::of_kernel(alloc)?;
         for class in release.classes.as_slice() {
-            directory.add_face(alloc, Module::Library, &class.face)?;
+            directory = directory.with_face(alloc, Module::Library, &class.face)?;
         }
         Ok(directory)
     }

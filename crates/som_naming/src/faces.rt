@@ -5,13 +5,14 @@ ghost use Rattle.som_fields.specs.Reading.{face_at};
 ghost use Rattle.som_fields.specs.Spelling.{FitsFace, counted, face, most_classes};
 ghost use Rattle.std.specs.Int.{w16};
 ghost use Rattle.std.specs.List.{flat_map};
-ghost use Rattle.std.specs.Prelude.{◌≡◌, ◌<◌, ◌≤◌, ◌+◌, ◌++◌, ◌^◌, ℕ, length, All, IfOk, OnOk};
+ghost use Rattle.std.specs.Prelude.{◌≡◌, ◌<◌, ◌≤◌, ◌+◌, ◌++◌, ◌^◌, ℕ, length, All, IfOk};
 
 use som_fields::{ImageFault, Ranges, Read, WireFace, read_face, read_many, read_u16, write_face};
 use som_model::{List, MAX_LIBRARY_CLASSES, NoMemory};
 use std::alloc::Global;
 
-const KERNEL_CLASSES: u16 = 4;
+/// How many classes the kernel has. Their numbers come first.
+pub const KERNEL_CLASSES: u16 = 4;
 
 // How many entries the kernel's classes have.
 const KERNEL_ENTRIES: [u16; 4] = [9, 6, 1, 2];
@@ -99,17 +100,18 @@ pub fn ranges_of(alloc: Global, faces: &List<WireFace>) -> Result<Ranges, NoMemo
     })
 }
 
-/// Appends faces without their number. After an error a part of them may have been appended.
-pub fn append_faces(
+/// The bytes of an image so far, and after them these faces without their number.
+pub fn with_faces(
     alloc: Global,
-    out: &mut List<u8>,
+    front: List<u8>,
     faces: &List<WireFace>,
-) -> Result<(), NoMemory>
+) -> Result<List<u8>, NoMemory>
     requires { All (FitsFace most_classes) faces.now }
-    ensures { OnOk result (out.new ≡ out.old ++ flat_map face faces.now) }
+    ensures { IfOk result (λ image. image ≡ front ++ flat_map face faces.now) }
 {
+    let mut image = front;
     for face in faces.as_slice() {
-        write_face(alloc, out, face)?;
+        write_face(alloc, &mut image, face)?;
     }
-    Ok(())
+    Ok(image)
 }

@@ -9,7 +9,7 @@ ghost use Rattle.som_naming.specs.BlockLimits.{BlockWithin};
 ghost use Rattle.som_naming.specs.NamedBlocks.{BlockFrom, block_named};
 ghost use Rattle.som_naming.specs.declared.directory.Directory.{Directory};
 ghost use Rattle.som_fields.specs.Spelling.{FitsMethod};
-ghost use Rattle.std.specs.Prelude.{◌≡◌, ℕ, List, Some};
+ghost use Rattle.std.specs.Prelude.{◌≡◌, ℕ, List, Some, length};
 
 /// A block that fits the directory of some classes, in which no name stands twice, is spelled as the block that it stands
 /// for is among these classes; and whatever block has a spelling among them, within the limits, is named from one that fits.
@@ -17,6 +17,12 @@ pub fn named_blocks_are_spelled()
     ensures forth { (d : Directory) (cs : List Class) (b : WireBlock) → Tells d cs → NoDoubles d →
         FitsBlock (levels_left 1) (ranges_in d).classes (FitsMethod (ranges_in d)) b →
         images.block cs (block_named d b) 1 ≡ Some (block b) }
-    ensures back { (d : Directory) (cs : List Class) (b : Block) (bytes : List ℕ) → Tells d cs → BlockWithin b →
+    ensures back { (d : Directory) (cs : List Class) (b : Block) (bytes : List ℕ) → Tells d cs →
         images.block cs b 1 ≡ Some bytes → BlockFrom d b bytes }
+{}
+
+/// What fits is named to a block within the limits, whatever the directory says.
+pub fn named_blocks_are_within()
+    ensures { (d : Directory) (b : WireBlock) →
+        FitsBlock (levels_left 1) (length d.keys) (FitsMethod (ranges_in d)) b → BlockWithin (block_named d b) }
 {}

@@ -1,6 +1,5 @@
 ghost use Rattle.som_naming.specs.Forms.{is_wire_operation, is_wire_receiver_call};
-ghost use Rattle.som_naming.specs.FoundNames.{all_found};
-ghost use Rattle.som_naming.specs.KnownNumbers.{expr_known};
+ghost use Rattle.som_naming.specs.KnownNumbers.{all_found, expr_known};
 ghost use Rattle.som_naming.specs.NamedBlocks.{expr_named};
 ghost use Rattle.std.specs.List.{list_all};
 ghost use Rattle.std.specs.Prelude.{◌≡◌, true, map, IfOk};
@@ -157,7 +156,7 @@ fn name_boxed(
 }
 
 #[cycle(named_expr)]
-#[tactic(auto, using(crate::proofs::FoundNames::each_found))]
+#[tactic(auto, using(crate::proofs::Tests::each_found))]
 fn name_exprs(
     alloc: Global,
     directory: &Directory,

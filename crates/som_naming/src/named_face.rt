@@ -1,5 +1,12 @@
 ghost use Rattle.som_naming.specs.Naming.{key_at, kind_named};
-ghost use Rattle.som_naming.specs.NamedClasses.{entry_named, interface_named, face_named, metaclass_named, sig_named};
+ghost use Rattle.som_naming.specs.NamedClasses.{
+  entry_named,
+  face_named,
+  interface_by,
+  interface_named,
+  metaclass_named,
+  sig_named,
+};
 ghost use Rattle.som_naming.specs.SpelledClasses.{FitsFaces};
 ghost use Rattle.som_fields.specs.Spelling.{FitsEntry, FitsFace, FitsKind, FitsSig};
 ghost use Rattle.std.specs.Prelude.{◌≡◌, ◌<◌, false, length, map, All, IfOk, IfSome};
@@ -131,13 +138,25 @@ fn name_faces(
     Ok(named)
 }
 
+/// The interface that faces stand for, where the class of each number has the key of that place.
+pub fn name_interface_by(
+    alloc: Global,
+    keys: &List<ClassKey>,
+    faces: &List<WireFace>,
+) -> Result<Interface, NoMemory>
+    requires { All (FitsFace (length keys.now)) faces.now }
+    ensures { IfOk result (λ named. named ≡ interface_by keys.now faces.now) }
+{
+    Ok(Interface {
+        classes: name_faces(alloc, keys, faces)?,
+    })
+}
+
 /// The interface that the faces of a library stand for.
 pub fn name_interface(alloc: Global, faces: &List<WireFace>) -> Result<Interface, NoMemory>
     requires { FitsFaces faces.now }
     ensures { IfOk result (λ named. named ≡ interface_named faces.now) }
 {
     let directory = Directory::of_library(alloc, faces)?;
-    Ok(Interface {
-        classes: name_faces(alloc, &directory.keys, faces)?,
-    })
+    name_interface_by(alloc, &directory.keys, faces)
 }

@@ -1,15 +1,25 @@
 ghost use Rattle.som_wire.specs.Fitting.{FitsBody, FitsOverride, FitsVariable};
-ghost use Rattle.som_naming.specs.NamedClasses.{body_named, class_named, classes_named, override_named, variable_named};
+ghost use Rattle.som_naming.specs.NamedClasses.{
+  AreSelectsOf,
+  body_named,
+  class_named,
+  classes_named,
+  override_named,
+  selecting,
+  variable_named,
+  with_selects,
+};
 ghost use Rattle.som_naming.specs.SpelledClasses.{FitsClass, FitsParts};
 ghost use Rattle.som_naming.specs.Naming.{ranges_in};
 ghost use Rattle.som_fields.specs.Spelling.{FitsFace, FitsMethod};
-ghost use Rattle.std.specs.Prelude.{◌≡◌, length, map, All, IfOk};
+ghost use Rattle.std.specs.Prelude.{◌≡◌, ◌+◌, ◌<◌, ◌^◌, length, map, All, IfOk};
 
 use crate::named_face::name_face;
+use crate::named_selects::{name_selects, selects_under};
 use crate::{Directory, name_block, name_kind};
 use som_fields::WireFace;
 use som_model::{Body, ClassDecl, ClassKey, List, NoMemory, Override, Variable};
-use som_wire::{WireBody, WireOverride, WirePart, WireVariable};
+use som_wire::{WireBody, WireOverride, WirePart, WireSelect, WireSelects, WireVariable};
 use std::alloc::Global;
 
 #[tactic(auto, using(crate::proofs::Naming::as_result))]
@@ -97,41 +107,50 @@ fn name_overrides(
     Ok(named)
 }
 
-/// The class that a face and a part of an image stand for.
+/// The class that a face, a part and some selects of an image stand for.
 pub(crate) fn name_class(
     alloc: Global,
     directory: &Directory,
     face: &WireFace,
     part: &WirePart,
+    selects: &[WireSelect],
 ) -> Result<ClassDecl, NoMemory>
     requires face { FitsFace (length directory.now.keys) face.now }
     requires part { FitsClass (ranges_in directory.now) face.now part.now }
-    ensures { IfOk result (λ named. named ≡ class_named directory.now face.now part.now) }
+    requires selects { All (λ s. FitsMethod (ranges_in directory.now) s.method) selects.now }
+    ensures { IfOk result (λ named. named ≡ selecting directory.now selects.now (class_named directory.now face.now part.now)) }
 {
     Ok(ClassDecl {
         face: name_face(alloc, &directory.keys, face)?,
         variables: name_variables(alloc, &directory.keys, &part.variables)?,
         bodies: name_bodies(alloc, directory, &part.bodies)?,
         overrides: name_overrides(alloc, directory, &part.overrides)?,
+        selects: name_selects(alloc, directory, selects)?,
     })
 }
 
-/// The classes that faces and the parts of their places stand for.
+/// The classes that faces, the parts of their places and the selects under their numbers stand for. The first of these classes
+/// has the number `first`.
 pub fn name_classes(
     alloc: Global,
     directory: &Directory,
+    first: u16,
     faces: &List<WireFace>,
     parts: &List<WirePart>,
+    selects: &List<WireSelects>,
 ) -> Result<List<ClassDecl>, NoMemory>
+    requires few { first + length faces.now < 2 ^ 16 }
     requires faces { All (FitsFace (length directory.now.keys)) faces.now }
     requires parts { FitsParts (ranges_in directory.now) faces.now parts.now }
-    ensures { IfOk result (λ named. named ≡ classes_named directory.now faces.now parts.now) }
+    requires selects { AreSelectsOf (ranges_in directory.now) selects.now }
+    ensures { IfOk result (λ named. named ≡ with_selects directory.now first selects.now (classes_named directory.now faces.now parts.now)) }
 {
     let faces = faces.as_slice();
     let parts = parts.as_slice();
     let mut named = List::new(alloc);
     for i in 0..faces.len() {
-        named.push(name_class(alloc, directory, &faces[i], &parts[i])?)?;
+        let own = selects_under(directory, selects, first + i as u16);
+        named.push(name_class(alloc, directory, &faces[i], &parts[i], own)?)?;
     }
     Ok(named)
 }

@@ -4,7 +4,7 @@ ghost use Rattle.som_naming.specs.ReadClasses.{introduced_count, parts_at};
 ghost use Rattle.som_model.specs.declared.limits.TheConstants.{MAX_ENTRIES};
 ghost use Rattle.som_fields.specs.Fields.{Gives};
 ghost use Rattle.std.specs.List.{flat_map};
-ghost use Rattle.std.specs.Prelude.{◌≡◌, ◌≤◌, ◌++◌, length, All, IfOk, OnOk};
+ghost use Rattle.std.specs.Prelude.{◌≡◌, ◌≤◌, ◌++◌, length, All, IfOk};
 
 use som_fields::{ImageFault, Ranges, Read, WireEntry, WireFace};
 use som_model::{List, NoMemory};
@@ -50,17 +50,18 @@ pub fn read_parts(
     Ok(Read { value, next })
 }
 
-/// Appends parts. After an error some of them may have been appended.
-pub fn append_parts(
+/// The bytes of an image so far, and after them these parts.
+pub fn with_parts(
     alloc: Global,
-    out: &mut List<u8>,
+    front: List<u8>,
     parts: &List<WirePart>,
-) -> Result<(), NoMemory>
+) -> Result<List<u8>, NoMemory>
     requires { All FitsSomePart parts.now }
-    ensures { OnOk result (out.new ≡ out.old ++ flat_map part parts.now) }
+    ensures { IfOk result (λ image. image ≡ front ++ flat_map part parts.now) }
 {
+    let mut image = front;
     for part in parts.as_slice() {
-        write_part(alloc, out, part)?;
+        write_part(alloc, &mut image, part)?;
     }
-    Ok(())
+    Ok(image)
 }

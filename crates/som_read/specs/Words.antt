@@ -81,7 +81,8 @@ interface_word w =
     if bytes_eq w (codes "override") then key.Override else (
     if bytes_eq w (codes "namelookup") then key.NameLookup else (
     if bytes_eq w (codes "offset") then key.Offset else (
-    statement_word w)))))))))))))))
+    if bytes_eq w (codes "select") then key.Select else (
+    statement_word w))))))))))))))))
 
 -- the words of types and truth values
 unfoldable pub type_word : List ℕ → Key

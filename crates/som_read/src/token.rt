@@ -28,6 +28,7 @@ pub enum Key {
     Override,
     NameLookup,
     Offset,
+    Select,
     // words of method bodies
     Var,
     If,

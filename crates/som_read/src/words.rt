@@ -126,6 +126,7 @@ fn interface_word(word: &[u8]) -> Key
         _ if is(word, b"override") => Key::Override,
         _ if is(word, b"namelookup") => Key::NameLookup,
         _ if is(word, b"offset") => Key::Offset,
+        _ if is(word, b"select") => Key::Select,
         _ => statement_word(word),
     }
 }

@@ -1,13 +1,20 @@
 use crate::files::{File, Files};
 use som_cmd::run_som;
-use som_io::{Got, MemSink, MemStore, Put, Store};
+use som_io::{Got, Leaves, MemSink, MemStore, Put, Store};
 use som_model::{List, NoMemory, Text};
 use std::alloc::Global;
+
+/// A call on the store that fails, and what it leaves where it is a put.
+#[derive(Clone, Copy)]
+pub struct FailingCall {
+    pub call: u64,
+    pub leaves: Leaves,
+}
 
 /// The calls of the next command that fail, counted from 0.
 #[derive(Drop)]
 pub struct Failing {
-    pub store: Vec<u64>,
+    pub store: Vec<FailingCall>,
     pub sink: Vec<u64>,
 }
 
@@ -69,17 +76,20 @@ pub fn outcome_of(
 }
 
 // A store that holds the files, of which these calls fail.
-fn store_of(alloc: Global, files: &Files, failing: &[u64]) -> Result<MemStore, NoMemory> {
+fn store_of(alloc: Global, files: &Files, failing: &[FailingCall]) -> Result<MemStore, NoMemory> {
     let mut store = MemStore::new(alloc);
     let mut made = 0u64;
     for file in files.as_slice() {
-        if store.put(&file.name, &file.bytes) != Put::Done {
+        let Some(bytes) = files.get(file.name.as_slice()) else {
+            continue;
+        };
+        if store.put(&file.name, bytes) != Put::Done {
             return Err(NoMemory);
         }
         made = made.saturating_add(1);
     }
-    for call in failing {
-        store.fail(made.saturating_add(*call))?;
+    for failing in failing {
+        store.fail_put(made.saturating_add(failing.call), failing.leaves)?;
     }
     Ok(store)
 }
@@ -113,12 +123,11 @@ impl After<'_> {
     }
 
     fn look(&mut self, name: &Text) -> Result<(), NoMemory> {
-        let Some(bytes) = self.get(name)? else {
-            return Ok(());
-        };
-        let same = match self.files.get(name.as_slice()) {
-            Some(before) => before.as_slice() == bytes.as_slice(),
-            None => false,
+        let bytes = self.get(name)?;
+        let same = match (self.files.get(name.as_slice()), &bytes) {
+            (Some(before), Some(after)) => before.as_slice() == after.as_slice(),
+            (None, None) => true,
+            _ => false,
         };
         if !same {
             let name = name.copy(self.alloc)?;

@@ -2,18 +2,22 @@ use som_model::{List, NoMemory, Text};
 use std::alloc::Global;
 use std::mem;
 
-/// A file under its name.
+/// What a name holds, or that it holds nothing any more.
 #[derive(Drop)]
 pub struct File {
     pub name: Text,
-    pub bytes: List<u8>,
+    pub bytes: Option<List<u8>>,
 }
 
 impl File {
     pub fn copy(&self, alloc: Global) -> Result<File, NoMemory> {
+        let bytes = match &self.bytes {
+            Some(bytes) => Some(bytes.copy(alloc)?),
+            None => None,
+        };
         Ok(File {
             name: self.name.copy(alloc)?,
-            bytes: self.bytes.copy(alloc)?,
+            bytes,
         })
     }
 }
@@ -66,7 +70,7 @@ impl Files {
 fn held_by<'a>(files: &'a [File], name: &[u8]) -> Option<&'a List<u8>> {
     for file in files.iter().rev() {
         if file.name.is(name) {
-            return Some(&file.bytes);
+            return file.bytes.as_ref();
         }
     }
     None

@@ -1,6 +1,6 @@
 ghost use Rattle.std.specs.Prelude.{◌≤◌, length};
 
-use crate::command::{Answer, Failing, Outcome, outcome_of};
+use crate::command::{Answer, Failing, FailingCall, Outcome, outcome_of};
 use crate::compare::Value;
 use crate::expansion::{Expansion, Turns, Variable};
 use crate::fields::Fields;
@@ -11,6 +11,7 @@ use crate::single::single_bytes;
 use crate::table::{Kind, Line};
 use crate::words::{first_word, number_of, words_in};
 use crate::wrong::Wrong;
+use som_io::Leaves;
 use som_model::{List, NoMemory, Text};
 use som_trees::shown;
 use std::alloc::Global;
@@ -187,7 +188,7 @@ impl Runner {
         let (name, rest) = first_word(head.as_slice());
         let bytes = self.content(rest, line.block.as_slice())?;
         let name = Text::from_vec(single_bytes(self.alloc, name)?);
-        let bytes = List::from_vec(bytes);
+        let bytes = Some(List::from_vec(bytes));
         self.files.put(File { name, bytes })?;
         Ok(())
     }
@@ -238,13 +239,17 @@ impl Runner {
 
     fn add_failing(&mut self, rest: &[u8]) -> Result<(), Wrong> {
         let head = self.expanded(rest)?;
-        let (side, call) = first_word(head.as_slice());
+        let (side, rest) = first_word(head.as_slice());
+        let (call, leaves) = first_word(rest);
         let call = number_of(call).ok_or(Wrong::Unclear)?;
-        match side {
-            b"store" => self.failing.store.push(call)?,
-            b"sink" => self.failing.sink.push(call)?,
+        let leaves = match (side, leaves) {
+            (b"sink", b"") => return Ok(self.failing.sink.push(call)?),
+            (b"store", b"" | b"leaves old") => Leaves::Old,
+            (b"store", b"leaves new") => Leaves::New,
+            (b"store", b"leaves nothing") => Leaves::Nothing,
             _ => return Err(Wrong::Unclear),
-        }
+        };
+        self.failing.store.push(FailingCall { call, leaves })?;
         Ok(())
     }
 

@@ -107,3 +107,11 @@ metaclass_known cs i c e lt is =
 pub declared_metaclass : (ds : List Declared) (i : ℕ) (d : Declared) → first (each_after s2 kernel (classes_of ds)) ≡ None → i < length ds → d ≡ slice_index_or ds i d
     → every (λ k. is_some (class_at (with_kernel (classes_of ds)) k)) (option_list d.decl.now.face.metaclass) ≡ true
 declared_metaclass ds i d e lt is = metaclass_known (classes_of ds) i (class_of d) e (omega (arith, long_map class_of ds)) (ap class_of is ∙ item_of ds i d lt)
+
+-- each parent of a declared class is known
+pub declared_parents : (ds : List Declared) (i : ℕ) (d : Declared) → first (each_after s2 kernel (classes_of ds)) ≡ None → i < length ds → d ≡ slice_index_or ds i d
+    → (k : ClassKey) → Mem k d.decl.now.face.parents → is_some (class_at (with_kernel (classes_of ds)) k) ≡ true
+declared_parents ds i d e lt is k m =
+    let cs = classes_of ds in
+    let within : i < length cs = omega (arith, lt, long_map class_of ds) in
+    known_by_s2 cs i (class_of d) e (slice_get-get_or cs i (class_of d) within ∙ ap (λ z. Some z) (sym (ap class_of is ∙ item_of ds i d lt))) k (mem_left k d.decl.now.face.parents (option_list d.decl.now.face.metaclass) m)

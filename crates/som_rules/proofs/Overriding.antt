@@ -1,5 +1,6 @@
 -- Overrides, one after the other.
-use Rattle.std.proofs.Common.{◌≡◌, ℕ, suc, ◌+◌, ◌<◌, ◌≤◌, Bool, true, false, if◌then◌else◌, List, [], ◌∷◌, ◌++◌, length, drop, slice_index_or, Option, Some, None, refl, sym, ap, ◌∙◌, arith, drop-cons}
+use Rattle.std.proofs.Common.{◌≡◌, ℕ, zero, suc, ◌+◌, ◌<◌, ◌≤◌, Bool, true, false, if◌then◌else◌, List, [], ◌∷◌, ◌++◌, length, drop, take, slice_index_or, Option, Some, None, refl, sym, ap, ◌∙◌, arith, drop-cons, append_assoc}
+use Rattle.std.proofs.lemmas.List.{take_all}
 use Rattle.som_model.specs.Lists.{first, or_else}
 use Rattle.som_model.specs.Class.{Class}
 use Rattle.som_model.specs.Owner.{owner}
@@ -7,7 +8,7 @@ use Rattle.som_model.specs.Rules.{RuleBreach, breach, demand_of}
 use Rattle.som_model.specs.declared.key.ClassKey.{ClassKey}
 use Rattle.som_model.specs.declared.key.MethodRef.{MethodRef}
 use Rattle.som_model.specs.declared.class.Override.{Override}
-use Rattle.som_rules.specs.Inherited.{may_override, overrides_from}
+use Rattle.som_rules.specs.Inherited.{may_override, overridden, overrides_from}
 use Rattle.som_rules.proofs.ClassTable.{drop_end}
 use Rattle.som_rules.proofs.Passes.{first_both}
 
@@ -16,11 +17,11 @@ drop_here os i o lt is =
     let e : suc i ≡ i + 1 = omega arith in
     drop-cons os i o lt ∙ ap (λ z. z ∷ drop (suc i) os) (sym is) ∙ ap (λ n. o ∷ drop n os) e
 
-demanded : (b : Bool) (x : RuleBreach) (later : Option RuleBreach) → b ≡ true → or_else (first (if b then [] else x ∷ [])) later ≡ later
+pub demanded : (b : Bool) (x : RuleBreach) (later : Option RuleBreach) → b ≡ true → or_else (first (if b then [] else x ∷ [])) later ≡ later
 demanded true x later e = refl
 demanded false x later e = cc
 
-refused : (b : Bool) (x : RuleBreach) (later : Option RuleBreach) → b ≡ false → or_else (first (if b then [] else x ∷ [])) later ≡ Some x
+pub refused : (b : Bool) (x : RuleBreach) (later : Option RuleBreach) → b ≡ false → or_else (first (if b then [] else x ∷ [])) later ≡ Some x
 refused true x later e = cc
 refused false x later e = refl
 
@@ -47,3 +48,25 @@ module _ (cs : List Class) (k : ClassKey) (c : Class) (before : List MethodRef) 
     -- one that may not
     pub override_stops : asked ≡ false → whole ≡ Some (breach 10 c o.method.name)
     override_stops no_ = sym one ∙ refused asked (breach 10 c o.method.name) (first (overrides_from cs k c (before ++ r ∷ []) (drop (i + 1) os))) no_
+
+-- the owners of the overrides so far
+
+taken_one : (cs : List Class) (os : List Override) (i : ℕ) (o : Override) → i < length os → o ≡ slice_index_or os i o → overridden cs (take (i + 1) os) ≡ overridden cs (take i os) ++ owner cs o.method ∷ []
+taken_one cs [] i o lt is = absurd (omega arith)
+taken_one cs (x ∷ os) zero o lt is = ap (λ (z : Override). owner cs z.method ∷ []) (sym is)
+taken_one cs (x ∷ os) (suc i) o lt is =
+    let e : suc i + 1 ≡ suc (i + 1) = omega arith in
+    ap (λ n. overridden cs (take n (x ∷ os))) e
+    ∙ ap (λ z. owner cs x.method ∷ z) (taken_one cs os i o (omega arith) is)
+
+pub owners_grow : (cs : List Class) (os : List Override) (i : ℕ) (o : Override) (r : MethodRef) (old before more : List MethodRef) → i < length os → o ≡ slice_index_or os i o → r ≡ owner cs o.method
+    → before ≡ old ++ overridden cs (take i os) → more ≡ before ++ r ∷ [] → more ≡ old ++ overridden cs (take (i + 1) os)
+owners_grow cs os i o r old before more lt is owns so grown =
+    grown
+    ∙ ap (λ z. z ++ r ∷ []) so
+    ∙ append_assoc old (overridden cs (take i os)) (r ∷ [])
+    ∙ ap (λ z. old ++ (overridden cs (take i os) ++ z ∷ [])) owns
+    ∙ ap (λ z. old ++ z) (sym (taken_one cs os i o lt is))
+
+pub owners_end : (cs : List Class) (os : List Override) (i : ℕ) (old before : List MethodRef) → length os ≤ i → before ≡ old ++ overridden cs (take i os) → before ≡ old ++ overridden cs os
+owners_end cs os i old before le so = so ∙ ap (λ z. old ++ overridden cs z) (take_all i os le)

@@ -10,7 +10,8 @@ use Rattle.som_rules.specs.Places.{with_kernel}
 use Rattle.som_rules.specs.Plainly.{ClassesHold}
 use Rattle.som_rules.proofs.PlainNames.{names_say, say_names, parents_say, say_parents, parents_differ_say, say_parents_differ}
 use Rattle.som_rules.proofs.PlainMembers.{entries_say, say_entries, variables_say, say_variables}
-use Rattle.som_rules.proofs.PlainMoves.{metaclasses_say, say_metaclasses, once_says, say_once, moved_says, say_moved, overrides_say, say_overrides}
+use Rattle.som_rules.proofs.PlainMoves.{metaclasses_say, say_metaclasses, once_says, say_once, moved_says, say_moved, overrides_say}
+use Rattle.som_rules.proofs.PlainSelects.{selects_say, say_replaced}
 
 pub or_none : {A : Type 0} (a b : Option A) → or_else a b ≡ None → (a ≡ None) × (b ≡ None)
 or_none None b e = (refl, e)
@@ -43,6 +44,7 @@ classes_say cs o e f =
       once = once_says cs o names stand entries r8.0;
       moved = moved_says cs o names stand r9.0;
       overrides = overrides_say cs o names stand r9.1;
+      selects = selects_say cs o names stand r9.1;
     }
 
 pub say_names_rules : (cs : List Class) → AreDeclared cs → ClassesHold cs → first_of_names kernel cs ≡ None
@@ -52,4 +54,4 @@ say_names_rules cs o h =
 pub say_member_rules : (cs : List Class) → AreDeclared cs → ClassesHold cs → first_of_members kernel cs ≡ None
 say_member_rules cs o h =
     none_or _ _ (say_entries cs h.entries) (none_or _ _ (say_variables cs h.variables) (none_or _ _ (say_once cs o h.names h.stand h.entries h.once)
-    (none_or _ _ (say_moved cs o h.names h.stand h.entries h.moved) (say_overrides cs o h.names h.stand h.entries h.overrides))))
+    (none_or _ _ (say_moved cs o h.names h.stand h.entries h.moved) (say_replaced cs o h.names h.stand h.entries h.overrides h.selects))))

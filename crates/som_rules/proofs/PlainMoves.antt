@@ -1,4 +1,4 @@
--- The rules S4 and S8 to S10, and what they say of the ancestors of each class.
+-- The rules S4, S8, S9, and S10 of overrides, and what they say of the ancestors of each class.
 use Rattle.std.proofs.Common.{◌≡◌, ◌↔◌, ℕ, inl, inr, true, false, not, ◌&&◌, List, [], ◌∷◌, ◌++◌, map, flat_map, Option, Some, None, is_some, refl, sym, ap, ◌∙◌, subst, true≢false}
 use Rattle.std.specs.Str.{bytes_eq}
 use Rattle.som_model.specs.Lists.{Mem, first, find, some, doubles, option_list}
@@ -23,7 +23,7 @@ use Rattle.som_laws.proofs.Members.{mem_left, mem_right, mem_split, mem_some, so
 use Rattle.som_laws.proofs.Laws.{ancestors, ancestors_apart, descends_test}
 use Rattle.som_rules.specs.Modules.{AreDeclared}
 use Rattle.som_rules.specs.Places.{with_kernel, key_at, IsTable}
-use Rattle.som_rules.specs.Inherited.{inherits, moved_entry, may_override, overrides_from}
+use Rattle.som_rules.specs.Inherited.{inherits, moved_entry, may_override, overridden, overrides_from, selects_from}
 use Rattle.som_rules.specs.Plainly.{Introduces, IsAbove, NamesApart, ParentsBefore, MetaclassesDescend, EntriesDiffer, IntroducedOnce, MovedUp, OverridesInherited}
 use Rattle.som_rules.proofs.Before.{none_both, both_none, demanded, every_mem, mem_every}
 use Rattle.som_rules.proofs.ClassTable.{is_table}
@@ -89,7 +89,7 @@ entries_apart cs rule c m = elim (mem_split c kernel cs m) [
   | inr k ↦ differ_apart entry_name c.decl.face.entries (rule.by c k)
 ]
 
-exact_methods : Exact same_method
+pub exact_methods : Exact same_method
 exact_methods = record {
   one = λ r. both_true (same_key r.class r.class) (bytes_eq r.name r.name) (exact_keys.one r.class) (exact_bytes.one r.name);
   two = λ r s e. (let p = both (same_key r.class s.class) (bytes_eq r.name s.name) e in
@@ -99,10 +99,10 @@ exact_methods = record {
 
 -- overrides one by one
 
-abbrev own : List Class → Override → MethodRef
+abbrev pub own : List Class → Override → MethodRef
 own cs o = owner cs o.method
 
-abbrev Allowed : List Class → ClassKey → List MethodRef → List Override → Type 0
+abbrev pub Allowed : List Class → ClassKey → List MethodRef → List Override → Type 0
 Allowed cs k before os =
     ((o : Override) → Mem o os → inherits cs k (own cs o).class (own cs o).name ≡ true) × Apart (map (own cs) os) × ((r : MethodRef) → Mem r before → Mem r (map (own cs) os) → ⊥)
 
@@ -121,7 +121,7 @@ overrides_says cs k c before (o ∷ os) e =
       ]),
     )
 
-says_overrides : (cs : List Class) (k : ClassKey) (c : Class) (before : List MethodRef) (os : List Override) → Allowed cs k before os → first (overrides_from cs k c before os) ≡ None
+pub says_overrides : (cs : List Class) (k : ClassKey) (c : Class) (before : List MethodRef) (os : List Override) → Allowed cs k before os → first (overrides_from cs k c before os) ≡ None
 says_overrides cs k c before [] a = refl
 says_overrides cs k c before (o ∷ os) a =
     let r = own cs o in
@@ -217,7 +217,7 @@ module _ (cs : List Class) (declared : AreDeclared cs) (differ : NamesApart cs) 
     two = λ x y e. exact_keys.two x y (sym (hierarchy_same (with_kernel cs) x y) ∙ e);
   }
 
-  descent : (x a : ClassKey) → (is_a (with_kernel cs) x a ≡ true) ↔ Descends (hierarchy (with_kernel cs)) x a
+  pub descent : (x a : ClassKey) → (is_a (with_kernel cs) x a ≡ true) ↔ Descends (hierarchy (with_kernel cs)) x a
   descent x a = descends_test (hierarchy (with_kernel cs)) tells lower x a
 
   -- S4
@@ -244,13 +244,13 @@ module _ (cs : List Class) (declared : AreDeclared cs) (differ : NamesApart cs) 
       let here : entry_at (with_kernel cs) k name ≡ entry_of i.class.decl.face.entries name = rw at refl in
       ap (λ o. is_some (introduced_sig o)) (here ∙ find_apart entry_name i.class.decl.face.entries (entries.Introduced name i.sig i.way) (entries_apart cs rule i.class i.there) i.entry)
 
-  inherits_says : (c : Class) (k : ClassKey) (name : List ℕ) → inherits (with_kernel cs) c.key k name ≡ true → IsAbove cs c k × Introduces (with_kernel cs) k name
+  pub inherits_says : (c : Class) (k : ClassKey) (name : List ℕ) → inherits (with_kernel cs) c.key k name ≡ true → IsAbove cs c k × Introduces (with_kernel cs) k name
   inherits_says c k name e =
       let p = both _ (introduces (with_kernel cs) name k) e in
       let q = both (not (same_key k c.key)) (is_a (with_kernel cs) c.key k) p.0 in
       (record { other = other_says k c.key q.0; above = (descent c.key k).0 q.1 }, introduces_says (with_kernel cs) k name p.1)
 
-  says_inherits : EntriesDiffer cs → (c : Class) (k : ClassKey) (name : List ℕ) → IsAbove cs c k → Introduces (with_kernel cs) k name → inherits (with_kernel cs) c.key k name ≡ true
+  pub says_inherits : EntriesDiffer cs → (c : Class) (k : ClassKey) (name : List ℕ) → IsAbove cs c k → Introduces (with_kernel cs) k name → inherits (with_kernel cs) c.key k name ≡ true
   says_inherits rule c k name a i =
       both_true (not (same_key k c.key) && is_a (with_kernel cs) c.key k) (introduces (with_kernel cs) name k)
       (both_true (not (same_key k c.key)) (is_a (with_kernel cs) c.key k) (says_other k c.key a.other) ((descent c.key k).1 a.above))
@@ -307,17 +307,10 @@ module _ (cs : List Class) (declared : AreDeclared cs) (differ : NamesApart cs) 
   -- S10
   pub overrides_say : first (flat_map (s10 (with_kernel cs)) cs) ≡ None → OverridesInherited cs
   overrides_say e =
-      let at = λ (c : Class) (m : Mem c cs). overrides_says (with_kernel cs) c.key c [] c.decl.overrides (each_says (s10 (with_kernel cs)) cs e c m) in
+      let at = λ (c : Class) (m : Mem c cs). overrides_says (with_kernel cs) c.key c [] c.decl.overrides
+      (none_both (overrides_from (with_kernel cs) c.key c [] c.decl.overrides) (selects_from (with_kernel cs) c.key c (overridden (with_kernel cs) c.decl.overrides) c.decl.selects) (each_says (s10 (with_kernel cs)) cs e c m)).0 in
       record {
         above = λ c o m n. (inherits_says c (own (with_kernel cs) o).class (own (with_kernel cs) o).name ((at c m).0 o n)).0;
         introduced = λ c o m n. (inherits_says c (own (with_kernel cs) o).class (own (with_kernel cs) o).name ((at c m).0 o n)).1;
         once = λ c m. apart_differ (own (with_kernel cs)) c.decl.overrides (at c m).1;
       }
-
-  pub say_overrides : EntriesDiffer cs → OverridesInherited cs → first (flat_map (s10 (with_kernel cs)) cs) ≡ None
-  say_overrides rule over = says_each (s10 (with_kernel cs)) cs (λ c m.
-      says_overrides (with_kernel cs) c.key c [] c.decl.overrides (
-        (λ o n. says_inherits rule c (own (with_kernel cs) o).class (own (with_kernel cs) o).name (over.above c o m n) (over.introduced c o m n)),
-        differ_apart (own (with_kernel cs)) c.decl.overrides (over.once c m),
-        (λ r n k. n),
-      ))

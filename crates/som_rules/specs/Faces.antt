@@ -4,11 +4,8 @@ use Rattle.som_model.specs.Lists.{first, or_else}
 use Rattle.som_model.specs.Class.{Class}
 use Rattle.som_model.specs.Kernel.{kernel}
 use Rattle.som_model.specs.Conforming.{each_after, first_of_names, first_of_members}
+pub use Rattle.som_model.specs.Conforming.{faces_breach}
 use Rattle.som_model.specs.Rules.{RuleBreach, s2, s3, s4, s5, s8, s9, s10, s14}
-
--- the first breach of the rules S1 to S10
-abbrev pub faces_breach : List Class → Option RuleBreach
-faces_breach cs = or_else (first_of_names kernel cs) (or_else (first (flat_map (s5 (kernel ++ cs)) cs)) (first_of_members kernel cs))
 
 -- the same, where the types of the first n classes name no class after them
 abbrev pub classes_breach : ℕ → List Class → Option RuleBreach

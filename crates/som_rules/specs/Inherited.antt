@@ -1,16 +1,17 @@
 -- Methods that come from proper ancestors.
-use Rattle.std.specs.Prelude.{ℕ, Bool, not, ◌&&◌, List, [], ◌∷◌, ◌++◌, Option, Some, None}
+use Rattle.std.specs.Prelude.{ℕ, Bool, not, ◌&&◌, List, [], ◌∷◌, ◌++◌, map, slice_get, Option, Some, None}
 use Rattle.som_model.specs.Lists.{some}
 use Rattle.som_model.specs.Keys.{same_key, same_method}
 use Rattle.som_model.specs.Class.{Class}
 use Rattle.som_model.specs.Classes.{is_a}
 use Rattle.som_model.specs.Owner.{owner, introduces}
-use Rattle.som_model.specs.Rules.{RuleBreach, demand_of}
+use Rattle.som_model.specs.Rules.{RuleBreach, demand_of, is_parent_below}
 use Rattle.som_model.specs.declared.key.ClassKey.{ClassKey}
 use Rattle.som_model.specs.declared.key.MethodRef.{MethodRef}
 use Rattle.som_model.specs.declared.class.Entry.{Entry}
 use Rattle.som_model.specs.declared.class.Entry.TheVariants as entries
 use Rattle.som_model.specs.declared.class.Override.{Override}
+use Rattle.som_model.specs.declared.class.Select.{Select}
 use Rattle.som_rules.specs.declared.inherited.Method.{Method}
 
 -- whether a class has a proper ancestor that introduces the name
@@ -40,3 +41,20 @@ may_override cs k before r = inherits cs k r.class r.name && not (some (same_met
 abbrev pub overrides_from : List Class → ClassKey → Class → List MethodRef → List Override → List RuleBreach
 overrides_from cs k c before [] = []
 overrides_from cs k c before (o ∷ os) = let r = owner cs o.method in demand_of 10 c o.method.name (may_override cs k before r) ++ overrides_from cs k c (before ++ r ∷ []) os
+
+-- the owners of the methods that are overridden
+abbrev pub overridden : List Class → List Override → List MethodRef
+overridden cs os = map (λ (o : Override). owner cs o.method) os
+
+-- whether a class, by its key, may take a method from that parent
+abbrev pub may_select : List Class → ClassKey → List MethodRef → MethodRef → Option ClassKey → Bool
+may_select cs k before r parent = may_override cs k before r && is_parent_below cs r.class parent
+
+-- the selects, by their owners, that may not stand after those before
+abbrev pub selects_from : List Class → ClassKey → Class → List MethodRef → List Select → List RuleBreach
+selects_from cs k c before [] = []
+selects_from cs k c before (s ∷ ss) = let r = owner cs s.method in demand_of 10 c s.method.name (may_select cs k before r (slice_get c.decl.face.parents s.parent)) ++ selects_from cs k c (before ++ r ∷ []) ss
+
+-- the overrides and then the selects of a class, by its key, that may not stand
+abbrev pub replaced_from : List Class → ClassKey → Class → List RuleBreach
+replaced_from cs k c = overrides_from cs k c [] c.decl.overrides ++ selects_from cs k c (overridden cs c.decl.overrides) c.decl.selects

@@ -4,6 +4,7 @@ pub mod Places
 pub mod Standing
 pub mod Walk
 pub mod Along
+pub mod Shared
 pub mod Fitting
 pub mod Typed
 pub mod Inherited

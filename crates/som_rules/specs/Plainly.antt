@@ -12,6 +12,7 @@ use Rattle.som_model.specs.declared.class.Body.TheVariants as bodies
 use Rattle.som_model.specs.declared.syntax.Block.{Block}
 use Rattle.som_model.specs.declared.class.Variable.{Variable}
 use Rattle.som_model.specs.declared.class.Override.{Override}
+use Rattle.som_model.specs.declared.class.Select.{Select}
 use Rattle.som_model.specs.declared.class.ClassDecl.{ClassDecl}
 use Rattle.som_model.specs.declared.program.Release.{Release}
 use Rattle.som_model.specs.declared.program.ClientProgram.{ClientProgram}
@@ -100,11 +101,25 @@ pub record MovedUp (cs : List Class) : Type 0 where
   pub above : (c : Class) (name : List ℕ) (to : ClassKey) → Mem c cs → Mem (entries.Moved name to) c.decl.face.entries → IsAbove cs c to
   pub introduced : (c : Class) (name : List ℕ) (to : ClassKey) → Mem c cs → Mem (entries.Moved name to) c.decl.face.entries → Introduces (with_kernel cs) to name
 
--- S10: each override is of a method that a proper ancestor introduces, and no two of a class are of one; methods go by their owners
+-- S10, of overrides: each is of a method that a proper ancestor introduces, and no two of a class are of one; methods go by their owners
 pub record OverridesInherited (cs : List Class) : Type 0 where
   pub above : (c : Class) (o : Override) → Mem c cs → Mem o c.decl.overrides → IsAbove cs c (owner (with_kernel cs) o.method).class
   pub introduced : (c : Class) (o : Override) → Mem c cs → Mem o c.decl.overrides → Introduces (with_kernel cs) (owner (with_kernel cs) o.method).class (owner (with_kernel cs) o.method).name
   pub once : (c : Class) → Mem c cs → Differ (λ (o : Override). owner (with_kernel cs) o.method) c.decl.overrides
+
+-- the class has a parent at the place, and that parent descends from another class
+pub record TakesFrom (cs : List Class) (c : Class) (place : ℕ) (a : ClassKey) : Type 0 where
+  pub parent : ClassKey
+  pub there : slice_get c.decl.face.parents place ≡ Some parent
+  pub above : Descends (hierarchy (with_kernel cs)) parent a
+
+-- S10, of selects: each is of a method that a proper ancestor introduces, and names a parent that descends from it; no two of a class are of one method, and none of one that the class overrides
+pub record SelectsInherited (cs : List Class) : Type 0 where
+  pub above : (c : Class) (s : Select) → Mem c cs → Mem s c.decl.selects → IsAbove cs c (owner (with_kernel cs) s.method).class
+  pub introduced : (c : Class) (s : Select) → Mem c cs → Mem s c.decl.selects → Introduces (with_kernel cs) (owner (with_kernel cs) s.method).class (owner (with_kernel cs) s.method).name
+  pub parent : (c : Class) (s : Select) → Mem c cs → Mem s c.decl.selects → TakesFrom cs c s.parent (owner (with_kernel cs) s.method).class
+  pub once : (c : Class) → Mem c cs → Differ (λ (s : Select). owner (with_kernel cs) s.method) c.decl.selects
+  pub apart : (c : Class) (o : Override) (s : Select) → Mem c cs → Mem o c.decl.overrides → Mem s c.decl.selects → owner (with_kernel cs) o.method ≡ owner (with_kernel cs) s.method → ⊥
 
 -- the rules S1 to S4 and S6 to S10, which look at no type
 pub record ClassesHold (cs : List Class) : Type 0 where
@@ -117,6 +132,7 @@ pub record ClassesHold (cs : List Class) : Type 0 where
   pub once : IntroducedOnce cs
   pub moved : MovedUp cs
   pub overrides : OverridesInherited cs
+  pub selects : SelectsInherited cs
 
 -- the signatures of the entries that are introduced, in order
 abbrev pub signatures : List Entry → List Sig

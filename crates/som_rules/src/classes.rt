@@ -107,6 +107,7 @@ fn members_hold(
 ) -> Result<(), VerifyFault>
     requires table { IsTable (classes_of classes.now) (texts table.now.keys) }
     requires lists { AreLists (with_kernel (classes_of classes.now)) lists.now }
+    requires stand { first (each_after s2 kernels (classes_of classes.now)) ≡ None }
     ensures { Tells (first_of_members kernels (classes_of classes.now)) result }
 {
     entries_differ(alloc, classes)?;
@@ -126,6 +127,7 @@ fn methods_hold(
     requires table { IsTable (classes_of classes.now) (texts table.now.keys) }
     requires kernel { kernel.now ≡ kernel_interface.classes }
     requires lists { AreLists (with_kernel (classes_of classes.now)) lists.now }
+    requires stand { first (each_after s2 kernels (classes_of classes.now)) ≡ None }
     ensures { Tells (methods_breach (classes_of classes.now)) result }
 {
     names_introduced_once(alloc, kernel, classes, lists, 0)?;

@@ -28,6 +28,7 @@ pub fn bare_classes(alloc: Global, faces: &[ClassFace]) -> Result<List<ClassDecl
             variables: List::new(alloc),
             bodies: List::new(alloc),
             overrides: List::new(alloc),
+            selects: List::new(alloc),
         })?;
     }
     Ok(classes)

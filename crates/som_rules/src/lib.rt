@@ -18,6 +18,8 @@ mod overrides;
 mod parents;
 mod pass;
 mod rules;
+mod selects;
+mod shared;
 mod signatures;
 mod table;
 mod types;

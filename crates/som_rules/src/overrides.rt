@@ -1,27 +1,32 @@
-ghost use Rattle.som_model.specs.Kernel.{kernel_interface};
+ghost use Rattle.som_model.specs.Conforming.{each_after};
+ghost use Rattle.som_model.specs.Kernel.{kernel as kernels, kernel_interface};
 ghost use Rattle.som_model.specs.Keys.{same_method};
-ghost use Rattle.som_model.specs.Lists.{first, some};
+ghost use Rattle.som_model.specs.Lists.{Mem, first, some};
 ghost use Rattle.som_model.specs.Owner.{owner};
-ghost use Rattle.som_model.specs.Rules.{s9, s10};
+ghost use Rattle.som_model.specs.Classes.{class_at};
+ghost use Rattle.som_model.specs.Rules.{s2, s9, s10};
+ghost use Rattle.som_model.specs.declared.key.ClassKey.{ClassKey};
 ghost use Rattle.som_order.specs.Names.{texts};
-ghost use Rattle.som_rules.specs.Inherited.{may_override as allowed, method_of, overrides_from};
+ghost use Rattle.som_rules.specs.Inherited.{may_override as allowed, method_of, overridden, overrides_from, replaced_from};
 ghost use Rattle.som_rules.specs.Modules.{class_of, classes_of};
 ghost use Rattle.som_rules.specs.Places.{IsTable, key_at, with_kernel};
 ghost use Rattle.som_rules.specs.Told.{Tells};
 ghost use Rattle.som_rules.specs.Walk.{AreLists};
-ghost use Rattle.std.specs.Prelude.{◌≡◌, ◌<◌, [], drop, length, map, flat_map, None};
+ghost use Rattle.std.specs.Prelude.{◌≡◌, ◌<◌, ◌++◌, [], true, drop, length, map, flat_map, is_some, None, OnOk};
 
 use crate::inherited::{Method, is_inherited, moved_to};
 use crate::introduced::entries_at;
 use crate::pass::breach;
+use crate::selects::selects_follow;
 use crate::table::{KERNEL_CLASSES, find_class};
 use crate::types::{Declared, VerifyFault};
 use indexmap::IndexSet;
 use som_model::{ClassFace, List, MethodRef};
 use std::alloc::Global;
 
-/// S10: each override is of a method that a proper ancestor introduces, and none is overridden twice; methods go
-/// by their owners. It is asked of the classes from a place on.
+/// S10: each override, and then each select, is of a method that a proper ancestor introduces, and none stands twice;
+/// a select names a parent that descends from that ancestor. Methods go by their owners. It is asked of the classes
+/// from a place on.
 pub fn overrides_inherited(
     alloc: Global,
     table: &IndexSet<&[u8]>,
@@ -33,6 +38,7 @@ pub fn overrides_inherited(
     requires table { IsTable (classes_of classes.now) (texts table.now.keys) }
     requires kernel { kernel.now ≡ kernel_interface.classes }
     requires lists { AreLists (with_kernel (classes_of classes.now)) lists.now }
+    requires stand { first (each_after s2 kernels (classes_of classes.now)) ≡ None }
     requires moved { first (flat_map (s9 (with_kernel (classes_of classes.now))) (classes_of classes.now)) ≡ None }
     ensures { Tells (first (flat_map (s10 (with_kernel (classes_of classes.now))) (classes_of (drop from classes.now)))) result }
 {
@@ -58,8 +64,10 @@ fn own_overrides_inherited<'a>(
     requires lists { AreLists (with_kernel (classes_of classes.now)) lists.now }
     requires moved { first (flat_map (s9 (with_kernel (classes_of classes.now))) (classes_of classes.now)) ≡ None }
     requires place { place < length (with_kernel (classes_of classes.now)) }
-    ensures { Tells (first (overrides_from (with_kernel (classes_of classes.now))
-        (key_at (with_kernel (classes_of classes.now)) place) (class_of class.now) [] class.now.decl.now.overrides)) result }
+    requires parents { (k : ClassKey) → Mem k class.now.decl.now.face.parents →
+        is_some (class_at (with_kernel (classes_of classes.now)) k) ≡ true }
+    ensures { Tells (first (replaced_from (with_kernel (classes_of classes.now))
+        (key_at (with_kernel (classes_of classes.now)) place) (class_of class.now))) result }
 {
     let mut before = Vec::new(alloc);
     overrides_follow(
@@ -71,6 +79,17 @@ fn own_overrides_inherited<'a>(
         place,
         class,
         &mut before,
+    )?;
+    let mut replaced = before;
+    selects_follow(
+        alloc,
+        table,
+        kernel,
+        classes,
+        lists,
+        place,
+        class,
+        &mut replaced,
     )
 }
 
@@ -90,8 +109,10 @@ fn overrides_follow<'a>(
     requires lists { AreLists (with_kernel (classes_of classes.now)) lists.now }
     requires moved { first (flat_map (s9 (with_kernel (classes_of classes.now))) (classes_of classes.now)) ≡ None }
     requires place { place < length (with_kernel (classes_of classes.now)) }
-    ensures { Tells (first (overrides_from (with_kernel (classes_of classes.now))
+    ensures tells { Tells (first (overrides_from (with_kernel (classes_of classes.now))
         (key_at (with_kernel (classes_of classes.now)) place) (class_of class.now) (map method_of before.old.items) class.now.decl.now.overrides)) result }
+    ensures owners { OnOk result (map method_of before.new.items ≡
+        map method_of before.old.items ++ overridden (with_kernel (classes_of classes.now)) class.now.decl.now.overrides) }
 {
     let decl = class.decl;
     for item in decl.overrides.as_slice() {
@@ -104,8 +125,8 @@ fn overrides_follow<'a>(
     Ok(())
 }
 
-// Whether the class at a place may override a method, after those before.
-fn may_override(
+/// Whether the class at a place may override a method, after those before.
+pub fn may_override(
     table: &IndexSet<&[u8]>,
     kernel: &[ClassFace],
     classes: &[Declared],

@@ -4,7 +4,6 @@ use Rattle.som_model.specs.declared.program.Release.{Release}
 use Rattle.som_model.specs.Bytes.{AreBytes}
 use Rattle.som_model.specs.Conforming.{ReleaseOk}
 use Rattle.som_model.specs.Images.{library_image}
-use Rattle.som_libimage.specs.Limits.{IsWithinLimits}
 use Rattle.som_naming.proofs.Conforming.{conforming_names}
 use Rattle.som_first.specs.declared.classes.FirstRelease.{FirstRelease}
 use Rattle.som_first.specs.declared.unread.Unread.{Unread}
@@ -12,27 +11,20 @@ use Rattle.som_first.specs.FirstImages.{release_of, IsFirstLibrary}
 use Rattle.som_first.specs.declared.unread.Unread.TheVariants as unread
 use Rattle.som_steps.specs.Lines.{unread}
 use Rattle.som_run.specs.Taking.{IsNone, Decodes}
-use Rattle.som_run.proofs.FirstLimits.{first_limits}
-
--- what has a first image is within the limits
-pub first_within : (bytes : List ℕ) (r : Release) → IsFirstLibrary bytes r → IsWithinLimits r
-first_within bytes r is =
-    let f = is.form in
-    subst (λ (x : Release). IsWithinLimits x) (sym f.1) (first_limits f.0 bytes (ap library_image (sym f.1) ∙ is.spelled))
 
 -- bytes that aren't decoded are no first image
 pub none_decoded : (bytes : List ℕ) (u : Unread) → Decodes bytes (Err u) → IsNone IsFirstLibrary bytes u
-none_decoded bytes unread.OtherForm d = λ r is. d r is.spelled (first_within bytes r is)
+none_decoded bytes unread.OtherForm d = λ r is. d r is.spelled
 none_decoded bytes unread.NoMemory d = tt
 
 -- a release of another form is none
 pub none_formed : (bytes : List ℕ) (r : Release) (u : Unread) → Decodes bytes (Ok r) → (u ≡ unread.OtherForm → (f : FirstRelease) → release_of f ≡ r → ⊥) → IsNone IsFirstLibrary bytes u
-none_formed bytes r unread.OtherForm d other = λ s is. other refl is.form.0 (sym is.form.1 ∙ d.1 s is.spelled (first_within bytes s is))
+none_formed bytes r unread.OtherForm d other = λ s is. other refl is.form.0 (sym is.form.1 ∙ d.1 s is.spelled)
 none_formed bytes r unread.NoMemory d other = tt
 
 -- nor is one that breaks a rule
 pub none_conforming : (bytes : List ℕ) (r : Release) → Decodes bytes (Ok r) → (ReleaseOk r → ⊥) → (s : Release) → IsFirstLibrary bytes s → ⊥
-none_conforming bytes r d breaks s is = breaks (subst (λ (x : Release). ReleaseOk x) (d.1 s is.spelled (first_within bytes s is)) is.conforms)
+none_conforming bytes r d breaks s is = breaks (subst (λ (x : Release). ReleaseOk x) (d.1 s is.spelled) is.conforms)
 
 -- the release that is taken
 pub taken : (bytes : List ℕ) → AreBytes bytes → (r : Release) (f : FirstRelease) → Decodes bytes (Ok r) → release_of f ≡ r → ReleaseOk r → IsFirstLibrary bytes r

@@ -20,7 +20,7 @@ use Rattle.som_steps.specs.Answering.{printed, Answers, AnswersTold}
 use Rattle.som_steps.specs.Lines.{unread}
 use Rattle.som_steps.specs.declared.stop.CommandStop.TheVariants as stops
 use Rattle.som_run.specs.declared.first_library.Library.{Library}
-use Rattle.som_run.specs.RunText.{run_text, no_trace}
+use Rattle.som_model.specs.RunText.{run_text, no_trace}
 use Rattle.som_run.specs.Taking.{IsNone, TakesLibrary, TakesClient, IsLibrary, IsClient}
 use Rattle.som_run.specs.RunAnswer.{no_client, no_library, client_refused, library_refused, faces_differ, ran, no_image, IsRunAnswer, client_runs}
 use Rattle.som_run.specs.RunSteps.{TakesOr, RunsOn}

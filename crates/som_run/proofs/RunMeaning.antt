@@ -11,7 +11,8 @@ use Rattle.som_model.specs.Class.{Class, interface_of}
 use Rattle.som_model.specs.Kernel.{kernel}
 use Rattle.som_model.specs.Classes.{interface_classes, is_a}
 use Rattle.som_model.specs.Conforming.{ReleaseOk, ProgramOk, all_of_program}
-use Rattle.som_model.specs.State.{Event, Printed, Called, Ran, Goes, Ends, Spent, Faulted}
+use Rattle.som_model.specs.State.{Event, Printed, Called, Used}
+use Rattle.som_model.specs.Runs.{Ran, Goes, Ends, Spent, Faulted}
 use Rattle.som_model.specs.Means.{means}
 use Rattle.som_first.specs.declared.calls.CallPlace.{CallPlace}
 use Rattle.som_first.specs.declared.calls.Printing.{Printing}
@@ -34,7 +35,7 @@ use Rattle.som_firstclient.specs.Clients.{call_named, program_named, CallFits, F
 use Rattle.som_steps.specs.declared.output.Output.{Output}
 use Rattle.som_steps.specs.Status.{end_status}
 use Rattle.som_run.specs.declared.first_library.Library.{Library}
-use Rattle.som_run.specs.RunText.{events_lines, run_lines, run_status, no_trace}
+use Rattle.som_model.specs.RunText.{events_lines, run_lines, run_status, no_trace}
 use Rattle.som_run.specs.Taking.{IsClient, IsLibrary}
 use Rattle.som_run.specs.RunSteps.{spent_status, PrintsMeaning}
 use Rattle.som_run.proofs.ClientLaws.{standing, image_of, first_program, program_is}
@@ -45,6 +46,7 @@ events_shown : (es : List Event) → events_lines no_trace es ≡ lines (prints 
 events_shown [] = refl
 events_shown (Printed t ∷ es) = ap (λ (l : List (List ℕ)). (t ++ 10 ∷ []) ∷ l) (events_shown es)
 events_shown (Called r way k ∷ es) = events_shown es
+events_shown (Used k ∷ es) = events_shown es
 
 run_shows : {A : Type 0} (texts : List (List ℕ)) (b : Bool) (run : Ran A) → RunPrints texts b run → (run_lines no_trace run ≡ lines texts) × (run_status run ≡ spent_status (not b))
 run_shows texts true (Goes a s) e = (events_shown s.events ∙ ap lines e, refl)

@@ -27,7 +27,7 @@ use Rattle.som_steps.specs.ImageSteps.{are_bytes}
 use Rattle.som_steps.proofs.ByteLaws.{bytes_below, bytes_pass}
 use Rattle.som_steps.specs.Lines.{broken, unread}
 use Rattle.som_run.specs.Taking.{ConformsAsFirst, ClientTells, descends_in}
-use Rattle.som_run.proofs.LibraryLaws.{first_within, taken}
+use Rattle.som_run.proofs.LibraryLaws.{taken}
 use Rattle.som_run.proofs.OneRun.{Told}
 use Rattle.som_run.proofs.ClientLaws as clients
 
@@ -44,7 +44,7 @@ none_some b e = cc
 
 -- what is read is the release of the image
 library_only : (bytes : List ℕ) (r : Release) → IsFirstLibrary bytes r → library_at bytes ≡ Ok r
-library_only bytes r is = library_again bytes is.bytes_are r is.spelled (first_within bytes r is)
+library_only bytes r is = library_again bytes r is.spelled
 
 pub one_library : (bytes : List ℕ) (r s : Release) → IsFirstLibrary bytes r → IsFirstLibrary bytes s → r ≡ s
 one_library bytes r s is_r is_s = ok_once r s (library_at bytes) (library_only bytes r is_r) (library_only bytes s is_s)
@@ -52,7 +52,7 @@ one_library bytes r s is_r is_s = ok_once r s (library_at bytes) (library_only b
 -- a first release conforms, or breaks a rule
 tell_conforming : (bytes : List ℕ) → AreBytes bytes → (r : Release) → library_at bytes ≡ Ok r → (f : FirstRelease) → release_of f ≡ r → (o : Option RuleBreach) → release_breach r ≡ o → Told (IsFirstLibrary bytes)
 tell_conforming bytes all r e f is None none =
-    inl (r, taken bytes all r f (found bytes all (Ok r) e, λ s spelled within. ok_once s r (library_at bytes) (library_again bytes all s spelled within) e) is (release_conforms r none))
+    inl (r, taken bytes all r f (found bytes all (Ok r) e, λ s spelled. ok_once s r (library_at bytes) (library_again bytes s spelled) e) is (release_conforms r none))
 tell_conforming bytes all r e f is (Some b) broken =
     inr (λ s is_s. let same : s ≡ r = ok_once s r (library_at bytes) (library_only bytes s is_s) e in none_some b (sym broken ∙ ap release_breach (sym same) ∙ conforms_release s is_s.conforms))
 

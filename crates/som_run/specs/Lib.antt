@@ -1,4 +1,3 @@
-pub mod RunText
 pub mod Taking
 pub mod RunAnswer
 pub mod RunSteps

@@ -4,7 +4,7 @@ use Rattle.std.specs.FinMap.{get}
 use Rattle.som_model.specs.declared.program.Release.{Release}
 use Rattle.som_model.specs.declared.program.ClientProgram.{ClientProgram}
 use Rattle.som_model.specs.Bytes.{Files}
-use Rattle.som_model.specs.State.{Ran}
+use Rattle.som_model.specs.Runs.{Ran}
 use Rattle.som_model.specs.Class.{interface_of}
 use Rattle.som_model.specs.Means.{means}
 use Rattle.som_first.specs.FirstImages.{IsFirstLibrary, IsFirstClient}
@@ -12,7 +12,7 @@ use Rattle.som_steps.specs.declared.stop.Refusal.{Refusal}
 use Rattle.som_steps.specs.Endings.{refusing, Ending}
 use Rattle.som_steps.specs.Lines.{named, absent}
 use Rattle.som_steps.specs.declared.stop.Why.TheVariants as why
-use Rattle.som_run.specs.RunText.{run_text, run_status, no_trace}
+use Rattle.som_model.specs.RunText.{run_text, run_status, no_trace}
 
 -- ---- lines
 

@@ -8,7 +8,7 @@ use Rattle.som_model.specs.Class.{interface_of}
 use Rattle.som_model.specs.Means.{means}
 use Rattle.som_io.specs.Outside.{ShowsAll}
 use Rattle.som_first.specs.FirstImages.{IsFirstLibrary, IsFirstClient}
-use Rattle.som_run.specs.RunText.{run_text, run_status, no_trace}
+use Rattle.som_model.specs.RunText.{run_text, run_status, no_trace}
 
 -- the store holds the first image of a client program and that of the release that it was compiled against
 pub record AreFirstImages (files : Files) (client library : List ℕ) (p : ClientProgram) (r : Release) : Type 0 where

@@ -13,7 +13,7 @@ use Rattle.som_steps.specs.Steps.{Stops}
 use Rattle.som_steps.specs.Lines.{unread}
 use Rattle.som_steps.specs.declared.stop.CommandStop.TheVariants as stops
 use Rattle.som_run.specs.declared.first_library.Library.{Library}
-use Rattle.som_run.specs.RunText.{run_lines, run_status, no_trace}
+use Rattle.som_model.specs.RunText.{run_lines, run_status, no_trace}
 use Rattle.som_run.specs.RunAnswer.{no_image, not_same}
 
 -- a value that was taken, or the refusal under its name

@@ -10,7 +10,6 @@ use Rattle.som_firstclient.specs.declared.image.ClientImage.{ClientImage}
 use Rattle.som_firstclient.specs.Clients.{program_named, FitsClient}
 use Rattle.som_model.specs.Images.{library_image}
 use Rattle.som_naming.specs.Interfaces.{NamesDiffer}
-use Rattle.som_libimage.specs.Limits.{IsWithinLimits}
 use Rattle.som_first.specs.declared.unread.Unread.{Unread}
 use Rattle.som_first.specs.declared.calls.CallPlace.{CallPlace}
 use Rattle.som_first.specs.declared.classes.FirstProgram.{FirstProgram}
@@ -25,10 +24,10 @@ abbrev pub IsNone : {A : Type 0} → (List ℕ → A → Type 0) → List ℕ �
 IsNone {A} IsImage bytes unread.OtherForm = (x : A) → IsImage bytes x → ⊥
 IsNone IsImage bytes unread.NoMemory = Unit {0}
 
--- the release that was decoded is the only one within the limits whose image the bytes can be, and it is where names differ
+-- the release that was decoded is the only one whose image the bytes can be, and it is where names differ
 abbrev pub Decodes : List ℕ → Result Release Unread → Type 0
-Decodes bytes (Ok r) = (NamesDiffer (interface_of r).classes → library_image r ≡ Some bytes) × ((s : Release) → library_image s ≡ Some bytes → IsWithinLimits s → s ≡ r)
-Decodes bytes (Err unread.OtherForm) = (s : Release) → library_image s ≡ Some bytes → IsWithinLimits s → ⊥
+Decodes bytes (Ok r) = (NamesDiffer (interface_of r).classes → library_image r ≡ Some bytes) × ((s : Release) → library_image s ≡ Some bytes → s ≡ r)
+Decodes bytes (Err unread.OtherForm) = (s : Release) → library_image s ≡ Some bytes → ⊥
 Decodes bytes (Err unread.NoMemory) = Unit {0}
 
 -- the library is that of the bytes: its release, also as a first one

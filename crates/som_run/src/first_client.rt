@@ -24,6 +24,7 @@ fn bare_classes(alloc: Global, faces: &[ClassFace]) -> Result<List<ClassDecl>, N
             variables: List::new(alloc),
             bodies: List::new(alloc),
             overrides: List::new(alloc),
+            selects: List::new(alloc),
         })?;
     }
     Ok(classes)

@@ -15,7 +15,9 @@ use Rattle.som_rules.specs.declared.types.Declared.{Declared}
 use Rattle.som_rules.proofs.DeclaredClasses.{are_declared, item_of, long_map, map_declared}
 use Rattle.som_rules.proofs.Rows.{face_there}
 use Rattle.som_laws.proofs.Members.{mem_split}
+use Rattle.som_model.specs.Lists.{first}
 use Rattle.som_sema.specs.Building.{after_base, declared_all, moved_breach, draft_breach}
+use Rattle.som_sema.specs.TextRules.{text_s10_from}
 use Rattle.som_sema.proofs.Composing.{front_is, rest_is}
 use Rattle.som_sema.specs.Finished.{declare, declare_at, declared_from}
 use Rattle.som_sema.specs.Drafts.{InterfaceDraft, draft_classes}
@@ -110,3 +112,13 @@ pub moved_is : (m : Module) (ds : List Declared) (bs os : List ClassDecl) (n : �
 moved_is m ds bs os n e l =
     ap (λ z. moved_breach z (classes_of (drop n ds))) e
     ∙ ap (moved_breach (after_base m (map (class_in modules.Library) bs) os)) (own_rest m ds bs os n e l)
+
+-- S10 of texts, by the classes that were declared
+pub inherited_is : (module_of : List ℕ → Module) (m : Module) (ds : List Declared) (bs : List ClassDecl) (drafts : List InterfaceDraft) (place : ℕ) → classes_of ds ≡ after_base m (map (class_in modules.Library) bs) (draft_classes drafts) → place ≡ length bs + 4
+    → first (text_s10_from module_of (with_kernel (classes_of ds)) place drafts)
+    ≡ first (text_s10_from module_of (with_kernel (after_base m (map (class_in modules.Library) bs) (draft_classes drafts))) (length (with_kernel (map (class_in modules.Library) bs))) drafts)
+inherited_is module_of m ds bs drafts place e at =
+    let base = map (class_in modules.Library) bs in
+    let four : place ≡ length (with_kernel base) = omega (arith, at, long_map (class_in modules.Library) bs) in
+    ap (λ (z : List Class). first (text_s10_from module_of (with_kernel z) place drafts)) e
+    ∙ ap (λ n. first (text_s10_from module_of (with_kernel (after_base m base (draft_classes drafts))) n drafts)) four

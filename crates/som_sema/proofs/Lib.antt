@@ -17,3 +17,8 @@ pub mod Outlines
 pub mod BaseKept
 pub mod TextsConform
 pub mod OwnClasses
+pub mod Introducing
+pub mod TextInherited
+pub mod Inheriting
+pub mod Passing
+pub mod Replaced

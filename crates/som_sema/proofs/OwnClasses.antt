@@ -33,7 +33,7 @@ use Rattle.som_sema.proofs.TextBases.{demanded_text}
 
 -- entries
 
-entry_there : (own : List Entry) (name : List ℕ) (e : Entry) → entry_of own name ≡ Some e → Mem e own × (entry_name e ≡ name)
+pub entry_there : (own : List Entry) (name : List ℕ) (e : Entry) → entry_of own name ≡ Some e → Mem e own × (entry_name e ≡ name)
 entry_there own name e is =
     let r = find_first (λ (e : Entry). bytes_eq (entry_name e) name) own e is in
     (mem_middle own r.before r.after e r.parts, exact_bytes.two (entry_name e) name r.passes)
@@ -56,14 +56,14 @@ module _ (cs : List Class) (k : ClassKey) (own : List Entry) where
       ∙ ap (λ z. name ∷ z) (order_names names)
 
   -- an introduced entry of it is one that the interface declares
-  order_own : (names : List (List ℕ)) (name : List ℕ) (sig : Sig) (way : Way) → Mem (entries.Introduced name sig way) (map (entry_for cs k own) names) → Mem (entries.Introduced name sig way) own
+  pub order_own : (names : List (List ℕ)) (name : List ℕ) (sig : Sig) (way : Way) → Mem (entries.Introduced name sig way) (map (entry_for cs k own) names) → Mem (entries.Introduced name sig way) own
   order_own names name sig way m =
       let r = map_mem (entry_for cs k own) (entries.Introduced name sig way) names m in
       own_entry (introducer cs k r.0) own r.0 name sig way (entry_of own r.0) refl r.2
 
 -- S6
 
-join_apart : {A : Type 0} (xs ys : List A) → Apart xs → Apart ys → ((a : A) → Mem a xs → Mem a ys → ⊥) → Apart (xs ++ ys)
+pub join_apart : {A : Type 0} (xs ys : List A) → Apart xs → Apart ys → ((a : A) → Mem a xs → Mem a ys → ⊥) → Apart (xs ++ ys)
 join_apart [] ys o p f = p
 join_apart (x ∷ xs) ys o p f = (
   (λ m. elim (mem_split x xs ys m) [ inl n ↦ o.0 n | inr n ↦ f x (inl refl) n ]),
@@ -74,7 +74,7 @@ kept_apart : {A : Type 0} (b : Bool) (x : A) (ys : List A) → (Mem x ys → ⊥
 kept_apart true x ys n o = o
 kept_apart false x ys n o = (n, o)
 
-left_apart : {A : Type 0} (test : A → Bool) (xs : List A) → Apart xs → Apart (without test xs)
+pub left_apart : {A : Type 0} (test : A → Bool) (xs : List A) → Apart xs → Apart (without test xs)
 left_apart test [] o = tt
 left_apart test (x ∷ xs) o = kept_apart (test x) x (without test xs) (λ m. o.0 (without_mem test x xs m)) (left_apart test xs o.1)
 

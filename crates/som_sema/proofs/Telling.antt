@@ -1,5 +1,5 @@
 -- What rules tell one after the other.
-use Rattle.std.proofs.Common.{◌≡◌, Option, None, Err, sym, ap, ◌∙◌}
+use Rattle.std.proofs.Common.{◌≡◌, Option, None, Result, Err, sym, ap, subst, ◌∙◌}
 use Rattle.som_model.specs.Lists.{or_else}
 use Rattle.som_model.specs.Rules.{RuleBreach}
 use Rattle.som_rules.specs.declared.types.VerifyFault.{VerifyFault}
@@ -20,3 +20,7 @@ here a b faults.NoMemory t = tt
 pub told_as : (a b : Option RuleBreach) (e : VerifyFault) → a ≡ b → Tells {A = Unit {0}} a (Err e) → Tells {A = Unit {0}} b (Err e)
 told_as a b (faults.Rule x) same t = sym same ∙ t
 told_as a b faults.NoMemory same t = tt
+
+-- the first rules are kept, and what is told of the later ones is told of all
+pub after_none : {A : Type 0} (a b : Option RuleBreach) (r : Result A VerifyFault) → a ≡ None → Tells b r → Tells (or_else a b) r
+after_none a b r n t = subst (λ (o : Option RuleBreach). Tells o r) (sym (ap (λ (z : Option RuleBreach). or_else z b) n)) t

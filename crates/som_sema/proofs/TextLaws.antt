@@ -26,10 +26,10 @@ use Rattle.som_rules.proofs.PlainLists.{apart_by, apart_differ, by_apart, differ
 use Rattle.som_rules.proofs.PlainMoves.{flat_mem, mem_flat}
 use Rattle.som_rules.proofs.PlainNames.{among_known, known_among}
 use Rattle.som_scope.specs.ClassNames.{key_of}
-use Rattle.som_sema.specs.Items.{Given, given, is_call, is_override, item_words, listed, metaclass_in, metaclass_names, or_object, with_modifier}
+use Rattle.som_sema.specs.Items.{Given, given, is_call, is_override, is_select, item_words, listed, metaclass_in, metaclass_names, or_object, replaced, with_modifier}
 use Rattle.som_scope.specs.Words.{once}
 use Rattle.som_sema.specs.Drafts.{InterfaceDraft}
-use Rattle.som_sema.specs.TextRules.{base_stands, bases, makes_classes, may_be, misplaced, second, text_breach, text_demand, text_s2, text_s2_from, text_s4, text_s6, text_s11, text_s12}
+use Rattle.som_sema.specs.TextRules.{Said, base_stands, bases, makes_classes, may_be, misplaced, nothing_said, said_after, second, text_breach, text_demand, text_s2, text_s2_from, text_s4, text_s6, text_s11, text_s12}
 use Rattle.som_sema.specs.PlainTexts.{BasesStand, ItemsDiffer, MetaclassesDescend, ModifiersStand, NamesDiffer}
 use Rattle.som_sema.proofs.TextBases.{demanded_text}
 
@@ -182,70 +182,104 @@ one_double false x before ys e = (refl, e)
 no_double : (x : List ℕ) (before ys : List (List ℕ)) → among x before ≡ false → doubles bytes_eq (before ++ x ∷ []) ys ≡ [] → doubles bytes_eq before (x ∷ ys) ≡ []
 no_double x before ys n e = rw n e
 
-record Placed (own over called : List (List ℕ)) (overridden asked : List (List ℕ)) : Type 0 where
-  once_over : doubles bytes_eq over overridden ≡ []
-  once_asked : doubles bytes_eq called asked ≡ []
-  known : (name : List ℕ) → Mem name asked → among name own ≡ true
+record Placed (own known : List (List ℕ)) (before : Said) (replacing calling selecting : List (List ℕ)) : Type 0 where
+  once_replaced : doubles bytes_eq before.replaced replacing ≡ []
+  once_called : doubles bytes_eq before.called calling ≡ []
+  once_selecting : doubles bytes_eq before.selecting selecting ≡ []
+  introduced : (name : List ℕ) → Mem name calling → among name own ≡ true
+  replaced : (name : List ℕ) → Mem name selecting → among name known ≡ true
 
-asked_by : (own over called : List (List ℕ)) (x : List ℕ) (gs : List Given)
-    → ((o c : List (List ℕ)) → first (misplaced own o c gs) ≡ None → Placed own o c (with_modifier is_override gs) (with_modifier is_call gs))
-    → first ((if among x own && not (among x called) then [] else x ∷ []) ++ misplaced own over (called ++ x ∷ []) gs) ≡ None
-    → Placed own over called (with_modifier is_override gs) (x ∷ with_modifier is_call gs)
-asked_by own over called x gs f e =
-    let p = none_both (if among x own && not (among x called) then [] else x ∷ []) (misplaced own over (called ++ x ∷ []) gs) e in
-    let q = both (among x own) (not (among x called)) (allowed (among x own && not (among x called)) x p.0) in
-    let r = f over (called ++ x ∷ []) p.1 in
+abbrev Places : List (List ℕ) → List (List ℕ) → Said → List Given → Type 0
+Places own known before gs = Placed own known before (with_modifier is_override gs) (with_modifier is_call gs) (with_modifier is_select gs)
+
+abbrev said_one : List ℕ → Modifier → Said → Said
+said_one x m before = said_after (record { method = x; modifier = m }) before
+
+placed_by : (m : Modifier) (own known : List (List ℕ)) (before : Said) (x : List ℕ) (gs : List Given)
+    → ((b : Said) → first (misplaced own known b gs) ≡ None → Places own known b gs)
+    → first ((if may_be own known before x m then [] else x ∷ []) ++ misplaced own known (said_one x m before) gs) ≡ None
+    → Placed own known before ((if is_override m then x ∷ [] else []) ++ with_modifier is_override gs) ((if is_call m then x ∷ [] else []) ++ with_modifier is_call gs)
+    ((if is_select m then x ∷ [] else []) ++ with_modifier is_select gs)
+placed_by modifiers.Override own known before x gs f e =
+    let p = none_both (if not (among x before.replaced) then [] else x ∷ []) (misplaced own known (said_one x modifiers.Override before) gs) e in
+    let r = f (said_one x modifiers.Override before) p.1 in
     record {
-      once_over = r.once_over;
-      once_asked = no_double x called (with_modifier is_call gs) (new_name (among x called) q.1) r.once_asked;
-      known = λ name m. elim m [ inl is ↦ subst (λ z. among z own ≡ true) (sym is) q.0 | inr n ↦ r.known name n ];
+      once_replaced = no_double x before.replaced (with_modifier is_override gs) (new_name (among x before.replaced) (allowed (not (among x before.replaced)) x p.0)) r.once_replaced;
+      once_called = r.once_called;
+      once_selecting = r.once_selecting;
+      introduced = r.introduced;
+      replaced = r.replaced;
+    }
+placed_by modifiers.NameLookup own known before x gs f e =
+    let p = none_both (if among x own && not (among x before.called) then [] else x ∷ []) (misplaced own known (said_one x modifiers.NameLookup before) gs) e in
+    let q = both (among x own) (not (among x before.called)) (allowed (among x own && not (among x before.called)) x p.0) in
+    let r = f (said_one x modifiers.NameLookup before) p.1 in
+    record {
+      once_replaced = r.once_replaced;
+      once_called = no_double x before.called (with_modifier is_call gs) (new_name (among x before.called) q.1) r.once_called;
+      once_selecting = r.once_selecting;
+      introduced = λ name m. elim m [ inl is ↦ subst (λ z. among z own ≡ true) (sym is) q.0 | inr n ↦ r.introduced name n ];
+      replaced = r.replaced;
+    }
+placed_by modifiers.Offset own known before x gs f e =
+    let p = none_both (if among x own && not (among x before.called) then [] else x ∷ []) (misplaced own known (said_one x modifiers.Offset before) gs) e in
+    let q = both (among x own) (not (among x before.called)) (allowed (among x own && not (among x before.called)) x p.0) in
+    let r = f (said_one x modifiers.Offset before) p.1 in
+    record {
+      once_replaced = r.once_replaced;
+      once_called = no_double x before.called (with_modifier is_call gs) (new_name (among x before.called) q.1) r.once_called;
+      once_selecting = r.once_selecting;
+      introduced = λ name m. elim m [ inl is ↦ subst (λ z. among z own ≡ true) (sym is) q.0 | inr n ↦ r.introduced name n ];
+      replaced = r.replaced;
+    }
+placed_by (modifiers.Select parent) own known before x gs f e =
+    let p = none_both (if among x known && not (among x before.selecting) then [] else x ∷ []) (misplaced own known (said_one x (modifiers.Select parent) before) gs) e in
+    let q = both (among x known) (not (among x before.selecting)) (allowed (among x known && not (among x before.selecting)) x p.0) in
+    let r = f (said_one x (modifiers.Select parent) before) p.1 in
+    record {
+      once_replaced = r.once_replaced;
+      once_called = r.once_called;
+      once_selecting = no_double x before.selecting (with_modifier is_select gs) (new_name (among x before.selecting) q.1) r.once_selecting;
+      introduced = r.introduced;
+      replaced = λ name m. elim m [ inl is ↦ subst (λ z. among z known ≡ true) (sym is) q.0 | inr n ↦ r.replaced name n ];
     }
 
-placed_by : (m : Modifier) (own over called : List (List ℕ)) (x : List ℕ) (gs : List Given)
-    → ((o c : List (List ℕ)) → first (misplaced own o c gs) ≡ None → Placed own o c (with_modifier is_override gs) (with_modifier is_call gs))
-    → first ((if may_be own over called x m then [] else x ∷ []) ++ misplaced own (if is_override m then over ++ x ∷ [] else over) (if is_override m then called else called ++ x ∷ []) gs) ≡ None
-    → Placed own over called ((if is_override m then x ∷ [] else []) ++ with_modifier is_override gs) ((if is_call m then x ∷ [] else []) ++ with_modifier is_call gs)
-placed_by modifiers.Override own over called x gs f e =
-    let p = none_both (if not (among x over) then [] else x ∷ []) (misplaced own (over ++ x ∷ []) called gs) e in
-    let r = f (over ++ x ∷ []) called p.1 in
-    record {
-      once_over = no_double x over (with_modifier is_override gs) (new_name (among x over) (allowed (not (among x over)) x p.0)) r.once_over;
-      once_asked = r.once_asked;
-      known = r.known;
-    }
-placed_by modifiers.NameLookup own over called x gs f e = asked_by own over called x gs f e
-placed_by modifiers.Offset own over called x gs f e = asked_by own over called x gs f e
+placed_says : (own known : List (List ℕ)) (before : Said) (gs : List Given) → first (misplaced own known before gs) ≡ None → Places own known before gs
+placed_says own known before [] e = record { once_replaced = refl; once_called = refl; once_selecting = refl; introduced = λ name m. absurd m; replaced = λ name m. absurd m }
+placed_says own known before (g ∷ gs) e = placed_by g.modifier own known before g.method gs (λ b. placed_says own known b gs) e
 
-placed_says : (own over called : List (List ℕ)) (gs : List Given) → first (misplaced own over called gs) ≡ None → Placed own over called (with_modifier is_override gs) (with_modifier is_call gs)
-placed_says own over called [] e = record { once_over = refl; once_asked = refl; known = λ name m. absurd m }
-placed_says own over called (g ∷ gs) e = placed_by g.modifier own over called g.method gs (λ o c. placed_says own o c gs) e
-
-by_asked : (own over called : List (List ℕ)) (x : List ℕ) (gs : List Given)
-    → ((o c : List (List ℕ)) → Placed own o c (with_modifier is_override gs) (with_modifier is_call gs) → first (misplaced own o c gs) ≡ None)
-    → Placed own over called (with_modifier is_override gs) (x ∷ with_modifier is_call gs)
-    → first ((if among x own && not (among x called) then [] else x ∷ []) ++ misplaced own over (called ++ x ∷ []) gs) ≡ None
-by_asked own over called x gs f p =
-    let d = one_double (among x called) x called (with_modifier is_call gs) p.once_asked in
-    let mine = p.known x (inl refl) in
-    let rest = f over (called ++ x ∷ []) (record { once_over = p.once_over; once_asked = d.1; known = λ name m. p.known name (inr m) }) in
+by_placed : (m : Modifier) (own known : List (List ℕ)) (before : Said) (x : List ℕ) (gs : List Given)
+    → ((b : Said) → Places own known b gs → first (misplaced own known b gs) ≡ None)
+    → Placed own known before ((if is_override m then x ∷ [] else []) ++ with_modifier is_override gs) ((if is_call m then x ∷ [] else []) ++ with_modifier is_call gs)
+    ((if is_select m then x ∷ [] else []) ++ with_modifier is_select gs)
+    → first ((if may_be own known before x m then [] else x ∷ []) ++ misplaced own known (said_one x m before) gs) ≡ None
+by_placed modifiers.Override own known before x gs f p =
+    let d = one_double (among x before.replaced) x before.replaced (with_modifier is_override gs) p.once_replaced in
+    let rest = f (said_one x modifiers.Override before) (record { once_replaced = d.1; once_called = p.once_called; once_selecting = p.once_selecting; introduced = p.introduced; replaced = p.replaced }) in
+    let new = d.0 in
+    rw new rest
+by_placed modifiers.NameLookup own known before x gs f p =
+    let d = one_double (among x before.called) x before.called (with_modifier is_call gs) p.once_called in
+    let mine = p.introduced x (inl refl) in
+    let rest = f (said_one x modifiers.NameLookup before) (record { once_replaced = p.once_replaced; once_called = d.1; once_selecting = p.once_selecting; introduced = λ name m. p.introduced name (inr m); replaced = p.replaced }) in
+    let new = d.0 in
+    rw (mine, new) rest
+by_placed modifiers.Offset own known before x gs f p =
+    let d = one_double (among x before.called) x before.called (with_modifier is_call gs) p.once_called in
+    let mine = p.introduced x (inl refl) in
+    let rest = f (said_one x modifiers.Offset before) (record { once_replaced = p.once_replaced; once_called = d.1; once_selecting = p.once_selecting; introduced = λ name m. p.introduced name (inr m); replaced = p.replaced }) in
+    let new = d.0 in
+    rw (mine, new) rest
+by_placed (modifiers.Select parent) own known before x gs f p =
+    let d = one_double (among x before.selecting) x before.selecting (with_modifier is_select gs) p.once_selecting in
+    let mine = p.replaced x (inl refl) in
+    let rest = f (said_one x (modifiers.Select parent) before) (record { once_replaced = p.once_replaced; once_called = p.once_called; once_selecting = d.1; introduced = p.introduced; replaced = λ name m. p.replaced name (inr m) }) in
     let new = d.0 in
     rw (mine, new) rest
 
-by_placed : (m : Modifier) (own over called : List (List ℕ)) (x : List ℕ) (gs : List Given)
-    → ((o c : List (List ℕ)) → Placed own o c (with_modifier is_override gs) (with_modifier is_call gs) → first (misplaced own o c gs) ≡ None)
-    → Placed own over called ((if is_override m then x ∷ [] else []) ++ with_modifier is_override gs) ((if is_call m then x ∷ [] else []) ++ with_modifier is_call gs)
-    → first ((if may_be own over called x m then [] else x ∷ []) ++ misplaced own (if is_override m then over ++ x ∷ [] else over) (if is_override m then called else called ++ x ∷ []) gs) ≡ None
-by_placed modifiers.Override own over called x gs f p =
-    let d = one_double (among x over) x over (with_modifier is_override gs) p.once_over in
-    let rest = f (over ++ x ∷ []) called (record { once_over = d.1; once_asked = p.once_asked; known = p.known }) in
-    let new = d.0 in
-    rw new rest
-by_placed modifiers.NameLookup own over called x gs f p = by_asked own over called x gs f p
-by_placed modifiers.Offset own over called x gs f p = by_asked own over called x gs f p
-
-says_placed : (own over called : List (List ℕ)) (gs : List Given) → Placed own over called (with_modifier is_override gs) (with_modifier is_call gs) → first (misplaced own over called gs) ≡ None
-says_placed own over called [] p = refl
-says_placed own over called (g ∷ gs) p = by_placed g.modifier own over called g.method gs (λ o c. says_placed own o c gs) p
+says_placed : (own known : List (List ℕ)) (before : Said) (gs : List Given) → Places own known before gs → first (misplaced own known before gs) ≡ None
+says_placed own known before [] p = refl
+says_placed own known before (g ∷ gs) p = by_placed g.modifier own known before g.method gs (λ b. says_placed own known b gs) p
 
 -- names, each once, are the names
 
@@ -286,9 +320,9 @@ differ_once names e = apart_differ (λ (name : List ℕ). name) names (rw (map_s
 once_differ : (names : List (List ℕ)) → Differ (λ (name : List ℕ). name) names → doubles bytes_eq [] names ≡ []
 once_differ names r = by_apart bytes_eq exact_bytes names (rw (map_same names) at (differ_apart (λ (name : List ℕ). name) names r))
 
-own_placed : (d : InterfaceDraft) → first (text_s11 d) ≡ None → Placed (once (introduced d.class.face.entries)) [] [] (with_modifier is_override (given d.text.items)) (with_modifier is_call (given d.text.items))
-own_placed d e = placed_says (once (introduced d.class.face.entries)) [] [] (given d.text.items)
-    (ap first (none_map (text_breach 11 d) (misplaced (once (introduced d.class.face.entries)) [] [] (given d.text.items)) e))
+own_placed : (d : InterfaceDraft) → first (text_s11 d) ≡ None → Places (once (introduced d.class.face.entries)) (replaced d.text.items) nothing_said (given d.text.items)
+own_placed d e = placed_says (once (introduced d.class.face.entries)) (replaced d.text.items) nothing_said (given d.text.items)
+    (ap first (none_map (text_breach 11 d) (misplaced (once (introduced d.class.face.entries)) (replaced d.text.items) nothing_said (given d.text.items)) e))
 
 empty : {A : Type 0} (xs : List A) → first xs ≡ None → xs ≡ []
 empty [] e = refl
@@ -297,16 +331,20 @@ empty (x ∷ xs) e = absurd (cc)
 pub modifiers_law : (ds : List InterfaceDraft) → (first (flat_map text_s11 ds) ≡ None) ↔ ModifiersStand ds
 modifiers_law ds = (
   (λ e. record {
-    overridden = λ d m. differ_once (with_modifier is_override (given d.text.items)) (own_placed d (flat_none text_s11 ds d e m)).once_over;
-    called = λ d m. differ_once (with_modifier is_call (given d.text.items)) (own_placed d (flat_none text_s11 ds d e m)).once_asked;
-    own = λ d name m n. mem_of_once name (introduced d.class.face.entries) ((own_placed d (flat_none text_s11 ds d e m)).known name n);
+    overridden = λ d m. differ_once (with_modifier is_override (given d.text.items)) (own_placed d (flat_none text_s11 ds d e m)).once_replaced;
+    called = λ d m. differ_once (with_modifier is_call (given d.text.items)) (own_placed d (flat_none text_s11 ds d e m)).once_called;
+    own = λ d name m n. mem_of_once name (introduced d.class.face.entries) ((own_placed d (flat_none text_s11 ds d e m)).introduced name n);
+    selecting = λ d m. differ_once (with_modifier is_select (given d.text.items)) (own_placed d (flat_none text_s11 ds d e m)).once_selecting;
+    replaced = λ d name m n. mem_of_once name (with_modifier is_override (given d.text.items)) ((own_placed d (flat_none text_s11 ds d e m)).replaced name n);
   }),
   (λ r. none_flat text_s11 ds (λ d m.
-      map_none (text_breach 11 d) (misplaced (once (introduced d.class.face.entries)) [] [] (given d.text.items))
-      (empty (misplaced (once (introduced d.class.face.entries)) [] [] (given d.text.items))
-      (says_placed (once (introduced d.class.face.entries)) [] [] (given d.text.items) (record {
-        once_over = once_differ (with_modifier is_override (given d.text.items)) (r.overridden d m);
-        once_asked = once_differ (with_modifier is_call (given d.text.items)) (r.called d m);
-        known = λ name n. (among_mem name (once (introduced d.class.face.entries))).1 (says_once name [] (introduced d.class.face.entries) (r.own d name m n));
+      map_none (text_breach 11 d) (misplaced (once (introduced d.class.face.entries)) (replaced d.text.items) nothing_said (given d.text.items))
+      (empty (misplaced (once (introduced d.class.face.entries)) (replaced d.text.items) nothing_said (given d.text.items))
+      (says_placed (once (introduced d.class.face.entries)) (replaced d.text.items) nothing_said (given d.text.items) (record {
+        once_replaced = once_differ (with_modifier is_override (given d.text.items)) (r.overridden d m);
+        once_called = once_differ (with_modifier is_call (given d.text.items)) (r.called d m);
+        once_selecting = once_differ (with_modifier is_select (given d.text.items)) (r.selecting d m);
+        introduced = λ name n. (among_mem name (once (introduced d.class.face.entries))).1 (says_once name [] (introduced d.class.face.entries) (r.own d name m n));
+        replaced = λ name n. (among_mem name (replaced d.text.items)).1 (says_once name [] (with_modifier is_override (given d.text.items)) (r.replaced d name m n));
       }))))),
 )

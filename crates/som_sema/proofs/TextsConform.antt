@@ -17,18 +17,24 @@ use Rattle.som_laws.proofs.Members.{mem_right, mem_split}
 use Rattle.som_rules.specs.Faces.{classes_breach, faces_breach}
 use Rattle.som_rules.specs.Modules.{AreDeclared}
 use Rattle.som_rules.specs.Places.{with_kernel}
-use Rattle.som_rules.specs.Plainly.{IsAmong}
+use Rattle.som_rules.specs.Plainly.{EntriesDiffer, IsAmong, NamesApart, OverridesInherited, ParentsBefore, SelectsInherited}
+use Rattle.som_rules.proofs.PlainSelects.{say_replaced}
 use Rattle.som_rules.specs.Told.{of_release}
 use Rattle.som_rules.proofs.Before.{both_none}
 use Rattle.som_rules.proofs.DeclaredClasses.{faces_declared, long_map, map_declared}
 use Rattle.som_rules.proofs.Finding.{kernel_declared}
 use Rattle.som_rules.proofs.PlainFaces.{none_or, or_none}
-use Rattle.som_rules.proofs.PlainMembers.{say_types, types_say}
+use Rattle.som_rules.proofs.PlainMembers.{entries_say, say_types, types_say}
 use Rattle.som_rules.proofs.PlainMoves.{lower}
 use Rattle.som_rules.proofs.PlainNames.{among_known, known_among, names_say, parents_say}
-use Rattle.som_sema.specs.Building.{after_base, declarations, declared_all, draft_rules_breach, module_over, moved_breach, draft_breach, texts_breach}
+use Rattle.som_model.specs.declared.class.Select.{Select}
+use Rattle.som_sema.specs.Building.{after_base, declarations, declared_all, draft_rules_breach, items_breach, module_over, moved_breach, draft_breach, selecting_declarations, texts_breach}
+use Rattle.som_sema.specs.Finished.{declare, place_of, select_of, selects_at}
+use Rattle.som_sema.specs.Items.{chosen, or_object}
+use Rattle.som_sema.proofs.Introducing.{same_introducer}
+use Rattle.som_sema.proofs.Replaced.{filled, inherited_own, introduce_same, map_where, none_selected, outlines, overrides_inherited, same_entries, same_outlines, selects_inherited}
 use Rattle.som_sema.specs.Drafts.{InterfaceDraft, draft_of, draft_classes}
-use Rattle.som_sema.specs.TextRules.{text_s2_from, text_s4, text_s6, text_s11, text_s12}
+use Rattle.som_sema.specs.TextRules.{text_s10, text_s10_from, text_s2_from, text_s4, text_s6, text_s11, text_s12}
 use Rattle.som_sema.specs.Ancestry.{AreDrafts}
 use Rattle.som_sema.proofs.BaseKept.{AreClosed, base_closed, s4_more, s8_more}
 use Rattle.som_sema.proofs.BaseLaws.{base_moves, base_names, base_stands, moves_more, own_first}
@@ -83,17 +89,19 @@ drafts_hold module_of cs base own ds e =
     let p6 = or_none r6 r7 p5.1 in
     record { names = p1.0; stand = p2.0; parents = p3.0; metaclasses = p4.0; types = p5.0; entries = p6.0; variables = p6.1 }
 
--- the rules S8 to S10 of classes, which all hold
+-- the rules S8 and S9 of classes, which both hold
 record MovesHold (cs own : List Class) : Type 0 where
   once : first (flat_map (s8 cs) own) ≡ None
   moved : first (flat_map (s9 cs) own) ≡ None
-  overrides : first (flat_map (s10 cs) own) ≡ None
 
-moves_hold : (cs own : List Class) → or_else (first (flat_map (s8 cs) own)) (or_else (first (flat_map (s9 cs) own)) (first (flat_map (s10 cs) own))) ≡ None → MovesHold cs own
-moves_hold cs own e =
+moves_hold : (cs own : List Class) → or_else (first (flat_map (s8 cs) own)) (first (flat_map (s9 cs) own)) ≡ None → MovesHold cs own
+moves_hold cs own e = let p = or_none (first (flat_map (s8 cs) own)) (first (flat_map (s9 cs) own)) e in record { once = p.0; moved = p.1 }
+
+moves_more_hold : (cs own : List Class) → or_else (first (flat_map (s8 cs) own)) (or_else (first (flat_map (s9 cs) own)) (first (flat_map (s10 cs) own))) ≡ None → MovesHold cs own
+moves_more_hold cs own e =
     let p1 = or_none (first (flat_map (s8 cs) own)) (or_else (first (flat_map (s9 cs) own)) (first (flat_map (s10 cs) own))) e in
     let p2 = or_none (first (flat_map (s9 cs) own)) (first (flat_map (s10 cs) own)) p1.1 in
-    record { once = p1.0; moved = p2.0; overrides = p2.1 }
+    record { once = p1.0; moved = p2.0 }
 
 -- the rules of a base, which all hold
 record BaseHolds (bs : List Class) : Type 0 where
@@ -120,12 +128,13 @@ base_holds bs e =
     let p5 = or_none (first (flat_map (s5 (with_kernel bs)) bs)) (first_of_members kernel bs) p.1 in
     let p6 = or_none r6 (or_else r7 moves) p5.1 in
     let p7 = or_none r7 moves p6.1 in
-    record { parents = p3.0; metaclasses = p3.1; types = p5.0; entries = p6.0; variables = p7.0; moves = moves_hold (with_kernel bs) bs p7.1 }
+    record { parents = p3.0; metaclasses = p3.1; types = p5.0; entries = p6.0; variables = p7.0; moves = moves_more_hold (with_kernel bs) bs p7.1 }
 
--- a face alone has no overrides
-base_s10 : (cs : List Class) (fs : List ClassFace) → first (flat_map (s10 cs) (map (λ f. class_in modules.Library (bare f)) fs)) ≡ None
-base_s10 cs [] = refl
-base_s10 cs (f ∷ fs) = base_s10 cs fs
+-- a face alone has neither overrides nor selects
+base_bare : (fs : List ClassFace) (c : Class) → Mem c (map (λ f. class_in modules.Library (bare f)) fs) → (c.decl.overrides ≡ []) × (c.decl.selects ≡ [])
+base_bare [] c n = absurd n
+base_bare (f ∷ fs) c (inl e) = (ap (λ (z : Class). z.decl.overrides) e, ap (λ (z : Class). z.decl.selects) e)
+base_bare (f ∷ fs) c (inr n) = base_bare fs c n
 
 module _ (module_of : List ℕ → Module) (m : Module) (i : Interface) (ds : List InterfaceDraft) (are : AreDrafts module_of ds)
     (conforms : faces_breach (interface_classes i) ≡ None) (holds : draft_rules_breach module_of m (interface_classes i) ds ≡ None) where
@@ -151,7 +160,19 @@ module _ (module_of : List ℕ → Module) (m : Module) (i : Interface) (ds : Li
   rules_of_moves = moved_breach finished done
 
   abbrev rules_of_items : Option RuleBreach
-  rules_of_items = or_else (first (flat_map text_s11 ds)) (first (flat_map text_s12 ds))
+  rules_of_items = items_breach module_of all base ds
+
+  abbrev inherited_breach : Option RuleBreach
+  inherited_breach = first (text_s10_from module_of (with_kernel all) (length (with_kernel base)) ds)
+
+  abbrev modifiers_breach : Option RuleBreach
+  modifiers_breach = first (flat_map text_s11 ds)
+
+  items : (inherited_breach ≡ None) × (modifiers_breach ≡ None)
+  items =
+      let e = (or_none rules_of_moves rules_of_items (or_none rules_of_drafts (or_else rules_of_moves rules_of_items) holds).1).1 in
+      let p = or_none inherited_breach (or_else modifiers_breach (first (flat_map text_s12 ds))) e in
+      (p.0, (or_none modifiers_breach (first (flat_map text_s12 ds)) p.1).0)
 
   drafted : DraftsHold module_of all base own ds
   drafted = drafts_hold module_of all base own ds (or_none rules_of_drafts (or_else rules_of_moves rules_of_items) holds).0
@@ -232,8 +253,63 @@ module _ (module_of : List ℕ → Module) (m : Module) (i : Interface) (ds : Li
   moved_rule : first (flat_map (s9 (with_kernel finished)) finished) ≡ None
   moved_rule = join_none (s9 (with_kernel finished)) base done (moves_more (with_kernel base) done low grown base (base_moves base conforms)) moving.moved
 
+  inherited : (d : InterfaceDraft) → Mem d ds → first (text_s10 module_of (with_kernel all) (class_in m d.class).key d) ≡ None
+  inherited = inherited_own module_of m base ds are.by (with_kernel base) ds (length (with_kernel base)) refl refl items.0
+
   overrides_rule : first (flat_map (s10 (with_kernel finished)) finished) ≡ None
-  overrides_rule = join_none (s10 (with_kernel finished)) base done (base_s10 (with_kernel finished) i.classes) moving.overrides
+  overrides_rule =
+      say_replaced finished finished_declared (names_say finished names_rule) (parents_say finished stand_rule) (entries_say finished entries_rule)
+      (overrides_inherited module_of m base ds are.by (λ d. []) finished_declared (names_say finished names_rule) (parents_say finished stand_rule) (entries_say finished entries_rule) (base_bare i.classes) inherited)
+      (none_selected module_of m base ds are.by (λ d. []) (base_bare i.classes) (λ d. refl))
+
+  -- ---- with what is selected
+
+  abbrev chosen_by_texts : InterfaceDraft → List Select
+  chosen_by_texts d = selects_at (with_kernel finished) (class_in m d.class).key d
+
+  abbrev selected : List Class
+  selected = map (class_in m) (map (filled (with_kernel all) m chosen_by_texts) ds)
+
+  abbrev full : List Class
+  full = base ++ selected
+
+  same_full : map outline all ≡ map outline full
+  same_full = map_both outline base own ∙ ap (λ z. map outline base ++ z) (same_outlines module_of m base ds are.by chosen_by_texts ds) ∙ sym (map_both outline base selected)
+
+  full_declared : AreDeclared full
+  full_declared = record {
+    by = λ c n. elim (mem_split c base selected n) [
+      | inl k ↦ base_declared.by c k
+      | inr k ↦ (map_declared m (map (filled (with_kernel all) m chosen_by_texts) ds)).by c k
+    ];
+  }
+
+  full_names : NamesApart full
+  full_names = names_say full (ap first (sym (same_names all full same_full kernel)) ∙ own_first s1 kernel base own (base_names base conforms) ∙ drafted.names)
+
+  full_stand : ParentsBefore full
+  full_stand = parents_say full (
+      ap first (sym (same_bases all full same_full kernel))
+      ∙ own_first s2 kernel base own (base_stands base conforms)
+      ∙ texts_stand module_of m (with_kernel all) (with_kernel base) ds (length (with_kernel base)) are.by refl refl drafted.stand)
+
+  full_entries : EntriesDiffer full
+  full_entries = entries_say full (join_none s6 base selected based.entries
+      (ap first (same_entries module_of m base ds are.by chosen_by_texts ds) ∙ own_s6 (with_kernel all) m ds drafted.entries))
+
+  chosen_so : (d : InterfaceDraft) → Mem d ds → chosen_by_texts d ≡ map (select_of (with_kernel all) (class_in m d.class).key (or_object d.text.parents)) (chosen d.text.items)
+  chosen_so d n =
+      map_where (select_of (with_kernel finished) (class_in m d.class).key (or_object d.text.parents)) (select_of (with_kernel all) (class_in m d.class).key (or_object d.text.parents)) (chosen d.text.items)
+      (λ s k. ap (λ (a : ClassKey). record { method = record { class = a; name = s.method }; parent = place_of (or_object d.text.parents) s.parent })
+      (sym (same_introducer (with_kernel all) (with_kernel finished) (outlines module_of m base ds are.by (λ d. [])) (introduce_same module_of m base ds are.by (λ d. [])) (class_in m d.class).key s.method)))
+
+  -- what texts select is inherited, and from parents that have it
+  pub drafts_select : SelectsInherited full
+  drafts_select = selects_inherited module_of m base ds are.by chosen_by_texts full_declared full_names full_stand full_entries (base_bare i.classes) inherited chosen_so items.1
+
+  -- and so is what they override
+  pub drafts_override : OverridesInherited full
+  drafts_override = overrides_inherited module_of m base ds are.by chosen_by_texts full_declared full_names full_stand full_entries (base_bare i.classes) inherited
 
   number : length i.classes ≡ length base
   number = sym (long_map (λ (f : ClassFace). class_in modules.Library (bare f)) i.classes)
@@ -263,6 +339,12 @@ pub texts_conform : (m : Module) (base : Interface) (is : List IdlInterface) →
     → classes_breach (length base.classes) (after_base m (interface_classes base) (declarations m base is)) ≡ None
 texts_conform m base is conforms holds =
     drafts_conform (module_over m base is) m base (map (draft_of (module_over m base is)) is) (are_drafts (module_over m base is) is (map (draft_of (module_over m base is)) is) refl) conforms holds
+
+-- what such texts select, with the declarations of which they are selects
+pub texts_select : (m : Module) (base : Interface) (is : List IdlInterface) → faces_breach (interface_classes base) ≡ None → texts_breach m base is ≡ None
+    → SelectsInherited (after_base m (interface_classes base) (selecting_declarations m base is))
+texts_select m base is conforms holds =
+    drafts_select (module_over m base is) m base (map (draft_of (module_over m base is)) is) (are_drafts (module_over m base is) is (map (draft_of (module_over m base is)) is) refl) conforms holds
 
 -- over no base
 

@@ -1,4 +1,4 @@
--- A class that isn't there is no class of classes.
+-- A class that isn't there descends from none that is.
 use Rattle.std.proofs.Common.{◌≡◌, ℕ, suc, ◌<◌, Bool, true, false, if◌then◌else◌, List, [], ◌∷◌, length, None, refl, ap, ◌∙◌, arith}
 use Rattle.std.specs.Prelude.{unwrap_or}
 use Rattle.som_model.specs.Lists.{place_from, some}
@@ -6,7 +6,6 @@ use Rattle.som_model.specs.Keys.{same_key}
 use Rattle.som_model.specs.Class.{Class}
 use Rattle.som_model.specs.Classes.{hierarchy, is_a}
 use Rattle.som_model.specs.Ancestors.{anc_within}
-use Rattle.som_model.specs.Kernel.{som_class}
 use Rattle.som_model.specs.declared.key.Module.{Module}
 use Rattle.som_model.specs.declared.key.ClassKey.{ClassKey}
 use Rattle.som_model.specs.declared.key.ClassKey.TheVariants as keys
@@ -25,13 +24,14 @@ if_false : (b : Bool) → b ≡ false → (if b then true else false) ≡ false
 if_false true e = e
 if_false false e = refl
 
-pub unknown_class : (ds : List Class) (m : Module) (x : List ℕ) (limit : ℕ) → limit ≡ length (with_kernel ds) → Finds limit (with_kernel ds) (keys.Named m x) None
-    → is_a (with_kernel ds) (keys.Named m x) som_class ≡ false
-unknown_class ds m x limit e f =
+pub unknown_class : (ds : List Class) (m : Module) (x : List ℕ) (at limit : ℕ) → limit ≡ length (with_kernel ds) → at < length (with_kernel ds) → Finds limit (with_kernel ds) (keys.Named m x) None
+    → is_a (with_kernel ds) (keys.Named m x) (key_at (with_kernel ds) at) ≡ false
+unknown_class ds m x at limit e there f =
     let cs = with_kernel ds in
+    let a = key_at cs at in
     let k = keys.Named m x in
     let absent : (p : ℕ) → p < length cs → key_at cs p ≡ k → ⊥ = λ p lt same. f p (omega (arith, e, lt)) lt same in
     let low : (hierarchy cs).height k ≡ 0 = height_named cs m x ∙ ap (λ o. unwrap_or o 0) (place_none 1 cs k absent) in
-    let other : same_key som_class k ≡ false = not_true (same_key som_class k) (λ t. absent 1 (omega arith) (exact_keys.two som_class k t)) in
-    ap (λ n. some ((hierarchy cs).same som_class) (anc_within (hierarchy cs) n k)) low
-    ∙ if_false ((hierarchy cs).same som_class k) (hierarchy_same cs som_class k ∙ other)
+    let other : same_key a k ≡ false = not_true (same_key a k) (λ t. absent at there (exact_keys.two a k t)) in
+    ap (λ n. some ((hierarchy cs).same a) (anc_within (hierarchy cs) n k)) low
+    ∙ if_false ((hierarchy cs).same a k) (hierarchy_same cs a k ∙ other)

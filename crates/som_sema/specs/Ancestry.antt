@@ -1,5 +1,5 @@
 -- Classes whose ancestors are listed.
-use Rattle.std.specs.Prelude.{◌≡◌, ℕ, List, length, map, None}
+use Rattle.std.specs.Prelude.{◌≡◌, ℕ, ◌<◌, List, [], length, map, slice_index_or, None}
 use Rattle.som_model.specs.declared.key.Module.{Module}
 use Rattle.som_model.specs.Lists.{Mem, first}
 use Rattle.som_model.specs.Conforming.{each_after}
@@ -11,7 +11,15 @@ use Rattle.som_rules.specs.Modules.{AreDeclared}
 use Rattle.som_rules.specs.Places.{IsRows, with_kernel}
 use Rattle.som_rules.specs.Walk.{AreAncestors}
 use Rattle.som_sema.specs.Drafts.{InterfaceDraft, draft_class}
+use Rattle.som_idl.specs.declared.tree.IdlInterface.{IdlInterface}
+use Rattle.som_scope.specs.Words.{once}
+use Rattle.som_sema.specs.Items.{or_object, selecting}
+use Rattle.som_sema.specs.Noted.{IsKnown, along}
+use Rattle.som_sema.specs.TextRules.{Said}
 use Rattle.som_sema.specs.declared.ancestry.AncestorTable.{AncestorTable}
+use Rattle.som_sema.specs.declared.inherited.Selecting.{Selecting}
+use Rattle.som_sema.specs.declared.modifiers.Said.{Said as SaidTables}
+use Rattle.som_sema.specs.declared.places.Places.{Places}
 
 -- lists of places, made of the parents' places, are the ancestors of these classes
 pub record AreAncestorLists (cs : List Class) (all : List (List ℕ)) : Type 0 where
@@ -26,6 +34,21 @@ pub record IsAncestorTable (cs : List Class) (w : AncestorTable) : Type 0 where
   pub apart : first (each_after s1 kernel cs) ≡ None
   pub stand : first (each_after s2 kernel cs) ≡ None
   pub lists : AreAncestorLists cs w.lists.items
+
+-- the first places at which the names along the ancestors of a class are introduced, beside the names and the ancestors of all classes
+pub record Inherits (cs : List Class) (w : AncestorTable) (place : ℕ) (above : Places) : Type 0 where
+  pub ancestors : IsAncestorTable cs w
+  pub there : place < length (with_kernel cs)
+  pub known : IsKnown (along (with_kernel cs) (slice_index_or w.lists.items place [])) above
+
+-- the methods with `select`, and the parents
+pub record IsOfText (text : IdlInterface) (s : Selecting) : Type 0 where
+  pub methods : texts s.methods.keys ≡ selecting text.items
+  pub parents : texts s.parents.keys ≡ once (or_object text.parents)
+
+-- the tables of what was said, as names
+abbrev pub said : SaidTables → Said
+said t = record { replaced = texts t.replaced.keys; called = texts t.called.keys; selecting = texts t.selecting.keys }
 
 -- each is the draft of its text
 pub record AreDrafts (module_of : List ℕ → Module) (ds : List InterfaceDraft) : Type 0 where

@@ -79,6 +79,7 @@ draft_class module_of i = record {
   variables = variables module_of i;
   bodies = [];
   overrides = [];
+  selects = [];
 }
 
 -- an interface and its draft

@@ -1,6 +1,6 @@
 -- What the items of an implementation section say.
 use Rattle.std.specs.Prelude.{ℕ, Bool, true, false, if◌then◌else◌, List, [], ◌∷◌, map, flat_map, codes, Option, Some, None, unwrap_or}
-use Rattle.som_model.specs.Lists.{first_some}
+use Rattle.som_model.specs.Lists.{among, first_some, without}
 use Rattle.som_read.specs.declared.tree.Word.{Word}
 use Rattle.som_idl.specs.declared.tree.Item.{Item}
 use Rattle.som_idl.specs.declared.tree.Item.TheVariants as items
@@ -52,20 +52,33 @@ abbrev pub given : List Item → List Given
 given is = flat_map given_in is
 
 abbrev pub given_by : Mark → Given
-given_by k = record { method = k.method.now; modifier = k.modifier }
+given_by k = record { method = k.method.now; modifier = k.modifier.now }
 
 abbrev pub is_override : Modifier → Bool
 is_override modifiers.Override = true
-is_override _ = false
+is_override modifiers.NameLookup = false
+is_override modifiers.Offset = false
+is_override (modifiers.Select parent) = false
 
 -- whether a modifier says how a method is called
 abbrev pub is_call : Modifier → Bool
 is_call modifiers.Override = false
-is_call _ = true
+is_call modifiers.NameLookup = true
+is_call modifiers.Offset = true
+is_call (modifiers.Select parent) = false
 
 abbrev pub is_by_name : Modifier → Bool
+is_by_name modifiers.Override = false
 is_by_name modifiers.NameLookup = true
-is_by_name _ = false
+is_by_name modifiers.Offset = false
+is_by_name (modifiers.Select parent) = false
+
+-- whether a modifier selects a parent
+abbrev pub is_select : Modifier → Bool
+is_select modifiers.Override = false
+is_select modifiers.NameLookup = false
+is_select modifiers.Offset = false
+is_select (modifiers.Select parent) = true
 
 abbrev pub if_given : (Modifier → Bool) → Given → List (List ℕ)
 if_given test g = if test g.modifier then g.method ∷ [] else []
@@ -74,9 +87,35 @@ if_given test g = if test g.modifier then g.method ∷ [] else []
 abbrev pub with_modifier : (Modifier → Bool) → List Given → List (List ℕ)
 with_modifier test gs = flat_map (if_given test) gs
 
--- the methods that are overridden, each at its first place
+-- the methods with `override`, each at its first place
+abbrev pub replaced : List Item → List (List ℕ)
+replaced is = once (with_modifier is_override (given is))
+
+-- the methods with `select`, each at its first place
+abbrev pub selecting : List Item → List (List ℕ)
+selecting is = once (with_modifier is_select (given is))
+
+-- the methods that are overridden: those with `override` and without `select`
 abbrev pub overridden : List Item → List (List ℕ)
-overridden is = once (with_modifier is_override (given is))
+overridden is = without (λ name. among name (selecting is)) (replaced is)
+
+-- a method, and the parent of which its class takes the implementation
+pub record Chosen : Type 0 where
+  pub method : List ℕ
+  pub parent : List ℕ
+
+abbrev pub chosen_in : List ℕ → Modifier → List Chosen
+chosen_in method modifiers.Override = []
+chosen_in method modifiers.NameLookup = []
+chosen_in method modifiers.Offset = []
+chosen_in method (modifiers.Select parent) = record { method = method; parent = parent.text } ∷ []
+
+abbrev pub chosen_by : Given → List Chosen
+chosen_by g = chosen_in g.method g.modifier
+
+-- what is selected, in the order of the text
+abbrev pub chosen : List Item → List Chosen
+chosen is = flat_map chosen_by (given is)
 
 -- the methods that are called by name, each once
 abbrev pub by_name : List Item → List (List ℕ)

@@ -6,3 +6,4 @@ pub mod TextRules
 pub mod Ancestry
 pub mod Building
 pub mod PlainTexts
+pub mod Selecting

@@ -3,7 +3,7 @@ ghost use Rattle.som_model.specs.Kernel.{som_class};
 ghost use Rattle.som_model.specs.Lists.{first};
 ghost use Rattle.som_order.specs.Names.{texts};
 ghost use Rattle.som_rules.specs.Modules.{classes_of};
-ghost use Rattle.som_rules.specs.Places.{IsTable, with_kernel};
+ghost use Rattle.som_rules.specs.Places.{IsTable, key_at as key_at_place, with_kernel};
 ghost use Rattle.som_rules.specs.Told.{Tells};
 ghost use Rattle.som_rules.specs.Walk.{AreLists};
 ghost use Rattle.som_scope.specs.ClassNames as names_of_classes;
@@ -18,7 +18,7 @@ use crate::items::{add_metaclasses, parent_names};
 use crate::passes::{breach, each_draft};
 use indexmap::IndexSet;
 use som_model::{List, NoMemory, ValueType};
-use som_rules::{Declared, VerifyFault, descends_by, find_class, type_is_known};
+use som_rules::{Declared, KERNEL_CLASSES, VerifyFault, descends_by, find_class, type_is_known};
 use som_scope::{Scope, key_of};
 use std::alloc::Global;
 
@@ -143,9 +143,28 @@ fn makes_classes(
     requires lists { AreLists (with_kernel (classes_of classes.now)) lists.now }
     ensures { IfOk result (λ b. b ≡ is_a (with_kernel (classes_of classes.now)) (names_of_classes.key_of (module_in_scope scope.now) name.now) som_class) }
 {
+    descends_from(alloc, scope, table, classes, lists, name, SOM_CLASS)
+}
+
+/// Whether the class that a name stands for descends from the class at a place.
+pub fn descends_from(
+    alloc: Global,
+    scope: &Scope,
+    table: &IndexSet<&[u8]>,
+    classes: &[Declared],
+    lists: &[List<usize>],
+    name: &[u8],
+    ancestor: usize,
+) -> Result<bool, NoMemory>
+    requires table { IsTable (classes_of classes.now) (texts table.now.keys) }
+    requires lists { AreLists (with_kernel (classes_of classes.now)) lists.now }
+    requires ancestor { ancestor < length (with_kernel (classes_of classes.now)) }
+    ensures { IfOk result (λ b. b ≡ is_a (with_kernel (classes_of classes.now)) (names_of_classes.key_of (module_in_scope scope.now) name.now)
+        (key_at_place (with_kernel (classes_of classes.now)) ancestor)) }
+{
     let key = key_of(alloc, scope, name)?;
-    match find_class(table, classes, &key, classes.len() + 4) {
+    match find_class(table, classes, &key, classes.len() + KERNEL_CLASSES) {
         None => Ok(false),
-        Some(place) => Ok(descends_by(lists, place, SOM_CLASS)),
+        Some(place) => Ok(descends_by(lists, place, ancestor)),
     }
 }

@@ -9,13 +9,14 @@ ghost use Rattle.som_scope.specs.ClassNames.{module_in_scope};
 ghost use Rattle.som_scope.specs.Words.{interfaces_of, lent};
 ghost use Rattle.som_sema.specs.Ancestry.{AreDrafts, IsAncestorTable};
 ghost use Rattle.som_sema.specs.Building as spec;
-ghost use Rattle.som_sema.specs.Building.{FacesTold, after_base, declared_all, draft_rules_breach, moved_breach, refused_by, texts_breach};
+ghost use Rattle.som_sema.specs.Building.{FacesTold, after_base, declared_all, draft_rules_breach, finished_breach, moved_breach, refused_by, texts_breach};
 ghost use Rattle.som_sema.specs.Drafts.{draft_classes, draft_of, plain_drafts};
 ghost use Rattle.std.specs.Prelude.{◌≡◌, ◌++◌, map, IfOk, OnOk, None};
 
 use crate::ancestry::AncestorTable;
 use crate::declared::declarations;
 use crate::drafts::{Draft, drafts_of};
+use crate::inherited::replaced_inherited;
 use crate::members::items_differ;
 use crate::modifiers::modifiers_stand;
 use crate::rules::{drafts_hold, moves_hold};
@@ -72,7 +73,7 @@ fn most_classes(own_module: Module) -> u32
         Module::Client => MAX_CLIENT_CLASSES,
         Module::Kernel => MAX_LIBRARY_CLASSES,
         Module::Library => MAX_LIBRARY_CLASSES,
-        Module::Upper(_) => MAX_LIBRARY_CLASSES,
+        Module::Upper(_) => MAX_CLIENT_CLASSES,
     }
 }
 
@@ -152,16 +153,78 @@ fn built(
     ensures ok { IfOk result (λ ds. ds ≡ declared_all scope.now.module (map (class_in modules.Library) base.now) (plain_drafts drafts.now)) }
 {
     let classes = known_classes(alloc, scope.module, base, drafts)?;
-    let known = classes.as_slice();
+    built_among(alloc, scope, kernel, base, classes.as_slice(), drafts)
+}
+
+// The same, where all classes stand in one list.
+fn built_among(
+    alloc: Global,
+    scope: &Scope,
+    kernel: &[ClassFace],
+    base: &[ClassDecl],
+    known: &[Declared],
+    drafts: &[Draft],
+) -> Result<List<ClassDecl>, VerifyFault>
+    requires kernel { kernel.now ≡ kernel_interface.classes }
+    requires conforms { faces_breach (map (class_in modules.Library) base.now) ≡ None }
+    requires drafted { AreDrafts (module_in_scope scope.now) (plain_drafts drafts.now) }
+    requires known { classes_of known.now ≡ after_base scope.now.module (map (class_in modules.Library) base.now) (draft_classes (plain_drafts drafts.now)) }
+    ensures tells { Tells (draft_rules_breach (module_in_scope scope.now) scope.now.module (map (class_in modules.Library) base.now) (plain_drafts drafts.now)) result }
+    ensures ok { IfOk result (λ ds. ds ≡ declared_all scope.now.module (map (class_in modules.Library) base.now) (plain_drafts drafts.now)) }
+{
     let ancestors = drafts_hold(alloc, scope, known, base.len(), drafts)?;
+    finished(alloc, scope, kernel, base, known, &ancestors, drafts)
+}
+
+// The declarations of drafts that break none of the rules S1 to S7.
+fn finished(
+    alloc: Global,
+    scope: &Scope,
+    kernel: &[ClassFace],
+    base: &[ClassDecl],
+    known: &[Declared],
+    ancestors: &AncestorTable,
+    drafts: &[Draft],
+) -> Result<List<ClassDecl>, VerifyFault>
+    requires kernel { kernel.now ≡ kernel_interface.classes }
+    requires conforms { faces_breach (map (class_in modules.Library) base.now) ≡ None }
+    requires known { classes_of known.now ≡ after_base scope.now.module (map (class_in modules.Library) base.now) (draft_classes (plain_drafts drafts.now)) }
+    requires ancestors { IsAncestorTable (classes_of known.now) ancestors.now }
+    ensures tells { Tells (finished_breach (module_in_scope scope.now) scope.now.module (map (class_in modules.Library) base.now) (plain_drafts drafts.now)
+        (declared_all scope.now.module (map (class_in modules.Library) base.now) (plain_drafts drafts.now))) result }
+    ensures ok { IfOk result (λ ds. ds ≡ declared_all scope.now.module (map (class_in modules.Library) base.now) (plain_drafts drafts.now)) }
+{
     let lists = ancestors.lists.as_slice();
     let from = base.len() + KERNEL_CLASSES;
     let all = declarations(alloc, kernel, known, lists, drafts, from)?;
     let own = all.as_slice();
-    finished_hold(alloc, scope.module, kernel, &ancestors, base, own)?;
-    modifiers_stand(alloc, drafts)?;
-    items_differ(alloc, drafts)?;
+    finished_hold(alloc, scope, kernel, base, known, ancestors, drafts, own)?;
     Ok(all)
+}
+
+// The rules S8 to S12, where the declarations of the drafts are known.
+fn finished_hold(
+    alloc: Global,
+    scope: &Scope,
+    kernel: &[ClassFace],
+    base: &[ClassDecl],
+    known: &[Declared],
+    ancestors: &AncestorTable,
+    drafts: &[Draft],
+    own: &[ClassDecl],
+) -> Result<(), VerifyFault>
+    requires kernel { kernel.now ≡ kernel_interface.classes }
+    requires conforms { faces_breach (map (class_in modules.Library) base.now) ≡ None }
+    requires known { classes_of known.now ≡ after_base scope.now.module (map (class_in modules.Library) base.now) (draft_classes (plain_drafts drafts.now)) }
+    requires ancestors { IsAncestorTable (classes_of known.now) ancestors.now }
+    requires finished { IsAncestorTable (after_base scope.now.module (map (class_in modules.Library) base.now) own.now) ancestors.now }
+    ensures { Tells (finished_breach (module_in_scope scope.now) scope.now.module (map (class_in modules.Library) base.now) (plain_drafts drafts.now) own.now) result }
+{
+    entries_hold(alloc, scope.module, kernel, ancestors, base, own)?;
+    let from = base.len() + KERNEL_CLASSES;
+    replaced_inherited(alloc, scope, kernel, known, ancestors, drafts, from)?;
+    modifiers_stand(alloc, drafts)?;
+    items_differ(alloc, drafts)
 }
 
 // The classes of the base, and then those that were drafted.
@@ -197,8 +260,8 @@ fn add_drafts<'a>(
     Ok(())
 }
 
-// The rules S8 to S10 of the declarations.
-fn finished_hold(
+// The rules S8 and S9 of the declarations.
+fn entries_hold(
     alloc: Global,
     own_module: Module,
     kernel: &[ClassFace],

@@ -7,7 +7,7 @@ ghost use Rattle.som_rules.specs.Places.{key_at as key_at_place, with_kernel};
 ghost use Rattle.som_rules.specs.Walk.{AreLists};
 ghost use Rattle.som_sema.specs.Drafts.{plain_draft, plain_drafts};
 ghost use Rattle.som_sema.specs.Finished as spec;
-ghost use Rattle.som_sema.specs.Finished.{declare_at, entry_for, override_of};
+ghost use Rattle.som_sema.specs.Finished.{declare_at, entry_for, entry_or_moved, override_of};
 ghost use Rattle.som_sema.specs.Items as spec_items;
 ghost use Rattle.som_sema.specs.Items.{listed as listed_names};
 ghost use Rattle.som_sema.specs.Noted as names_first;
@@ -70,23 +70,52 @@ fn declaration(
     let list = list_at(lists, place);
     let along = introduced_along(alloc, kernel, classes, list)?;
     let above = place_table(alloc, &along)?;
-    let face = &draft.decl.face;
+    let overrides = overrides(alloc, kernel, classes, lists, &above, draft, place)?;
+    let variables = variables(alloc, draft.decl.variables.as_slice())?;
+    let face = finished_face(alloc, kernel, classes, lists, &above, draft, place)?;
     Ok(ClassDecl {
-        face: ClassFace {
-            name: face.name.copy(alloc)?,
-            major: face.major,
-            minor: face.minor,
-            parents: keys(alloc, face.parents.as_slice())?,
-            metaclass: optional_key(alloc, &face.metaclass)?,
-            entries: entries(alloc, kernel, classes, lists, &above, draft, place)?,
-        },
-        variables: variables(alloc, draft.decl.variables.as_slice())?,
+        face,
+        variables,
         bodies: List::new(alloc),
-        overrides: overrides(alloc, kernel, classes, lists, &above, draft, place)?,
+        overrides,
+        selects: List::new(alloc),
     })
 }
 
-fn list_at(lists: &[List<usize>], place: usize) -> &[usize]
+// The metaclass is made last, so that no other step has to drop it.
+fn finished_face(
+    alloc: Global,
+    kernel: &[ClassFace],
+    classes: &[Declared],
+    lists: &[List<usize>],
+    above: &Places,
+    draft: &Draft,
+    place: usize,
+) -> Result<ClassFace, NoMemory>
+    requires kernel { kernel.now ≡ kernel_interface.classes }
+    requires lists { AreLists (with_kernel (classes_of classes.now)) lists.now }
+    requires place { place < length (with_kernel (classes_of classes.now)) }
+    requires above { IsKnown (along (with_kernel (classes_of classes.now)) (slice_index_or lists.now place [])) above.now }
+    ensures { IfOk result (λ face. face ≡ (declare_at (with_kernel (classes_of classes.now))
+        (key_at_place (with_kernel (classes_of classes.now)) place) (plain_draft draft.now)).face) }
+{
+    let entries = entries(alloc, kernel, classes, lists, above, draft, place)?;
+    let face = &draft.decl.face;
+    let parents = keys(alloc, face.parents.as_slice())?;
+    let name = face.name.copy(alloc)?;
+    let metaclass = optional_key(alloc, &face.metaclass)?;
+    Ok(ClassFace {
+        name,
+        major: face.major,
+        minor: face.minor,
+        parents,
+        metaclass,
+        entries,
+    })
+}
+
+/// The ancestors of the class at a place.
+pub fn list_at(lists: &[List<usize>], place: usize) -> &[usize]
     requires { place < length lists.now }
     ensures { result.now ≡ slice_index_or lists.now place [] }
 {
@@ -145,16 +174,38 @@ fn entries(
     let own_places = place_table(alloc, &numbered(alloc, own)?)?;
     let mut all = List::new(alloc);
     for name in order.as_slice() {
-        let entry = match entry_at(own, &own_places, name.as_slice()) {
-            Some(entry) => entry.copy(alloc)?,
-            None => Entry::Moved {
-                name: name.copy(alloc)?,
-                to: introducer(alloc, kernel, classes, lists, above, place, name.as_slice())?,
-            },
-        };
-        all.push(entry)?;
+        let found = entry_at(own, &own_places, name.as_slice());
+        all.push(found_entry(alloc, kernel, classes, lists, above, found, name, place)?)?;
     }
     Ok(all)
+}
+
+// A copy of the entry that was found, and else the name, moved to the class that introduces it.
+fn found_entry(
+    alloc: Global,
+    kernel: &[ClassFace],
+    classes: &[Declared],
+    lists: &[List<usize>],
+    above: &Places,
+    found: Option<&Entry>,
+    name: &Text,
+    place: usize,
+) -> Result<Entry, NoMemory>
+    requires kernel { kernel.now ≡ kernel_interface.classes }
+    requires lists { AreLists (with_kernel (classes_of classes.now)) lists.now }
+    requires place { place < length (with_kernel (classes_of classes.now)) }
+    requires above { IsKnown (along (with_kernel (classes_of classes.now)) (slice_index_or lists.now place [])) above.now }
+    ensures { IfOk result (λ e. e ≡ entry_or_moved (spec.introducer (with_kernel (classes_of classes.now))
+        (key_at_place (with_kernel (classes_of classes.now)) place) name.now) name.now (option_copied found.entry)) }
+{
+    match found {
+        Some(entry) => entry.copy(alloc),
+        None => {
+            let moved = name.copy(alloc)?;
+            let to = introducer(alloc, kernel, classes, lists, above, place, name.as_slice())?;
+            Ok(Entry::Moved { name: moved, to })
+        }
+    }
 }
 
 // The effective order of the names that are listed and of those that are introduced.
@@ -216,8 +267,8 @@ fn entry_in(entries: &[Entry], place: usize) -> Option<&Entry>
     entries.get(place)
 }
 
-// The class of the first ancestor that introduces a name, and the class itself where none does.
-fn introducer(
+/// The class of the first ancestor that introduces a name, and the class itself where none does.
+pub fn introducer(
     alloc: Global,
     kernel: &[ClassFace],
     classes: &[Declared],
@@ -238,7 +289,8 @@ fn introducer(
     Ok(key)
 }
 
-fn introducer_place(above: &Places, place: usize, name: &[u8]) -> usize
+/// The place of that class.
+pub fn introducer_place(above: &Places, place: usize, name: &[u8]) -> usize
     ensures { (ps : Seq At) → IsKnown ps above.now → result ≡ unwrap_or (names_first.first_place ps name.now) place }
 {
     match first_place(above, name) {
@@ -268,16 +320,34 @@ fn overrides(
     let names = overridden(alloc, &marks)?;
     let mut all = List::new(alloc);
     for name in names.as_slice() {
-        let class = introducer(alloc, kernel, classes, lists, above, place, *name)?;
-        all.push(Override {
-            method: MethodRef {
-                class,
-                name: Text::from_slice(alloc, *name)?,
-            },
-            block: Block {
-                statements: List::new(alloc),
-            },
-        })?;
+        all.push(empty_override(alloc, kernel, classes, lists, above, *name, place)?)?;
     }
     Ok(all)
+}
+
+// The class is found last, so that no other step has to drop it.
+fn empty_override(
+    alloc: Global,
+    kernel: &[ClassFace],
+    classes: &[Declared],
+    lists: &[List<usize>],
+    above: &Places,
+    name: &[u8],
+    place: usize,
+) -> Result<Override, NoMemory>
+    requires kernel { kernel.now ≡ kernel_interface.classes }
+    requires lists { AreLists (with_kernel (classes_of classes.now)) lists.now }
+    requires place { place < length (with_kernel (classes_of classes.now)) }
+    requires above { IsKnown (along (with_kernel (classes_of classes.now)) (slice_index_or lists.now place [])) above.now }
+    ensures { IfOk result (λ o. o ≡ override_of (with_kernel (classes_of classes.now))
+        (key_at_place (with_kernel (classes_of classes.now)) place) name.now) }
+{
+    let text = Text::from_slice(alloc, name)?;
+    let class = introducer(alloc, kernel, classes, lists, above, place, name)?;
+    Ok(Override {
+        method: MethodRef { class, name: text },
+        block: Block {
+            statements: List::new(alloc),
+        },
+    })
 }

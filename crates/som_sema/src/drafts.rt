@@ -61,6 +61,7 @@ fn draft_class(alloc: Global, scope: &Scope, text: &IdlInterface) -> Result<Clas
         variables,
         bodies: List::new(alloc),
         overrides: List::new(alloc),
+        selects: List::new(alloc),
     })
 }
 

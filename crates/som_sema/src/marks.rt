@@ -1,5 +1,5 @@
 ghost use Rattle.som_sema.specs.Items as spec;
-ghost use Rattle.som_sema.specs.Items.{Given, given_by, given_in, if_given, is_by_name, is_override};
+ghost use Rattle.som_sema.specs.Items.{given_by, given_in};
 ghost use Rattle.std.specs.Prelude.{◌≡◌, ◌++◌, map, IfOk, OnOk};
 
 use som_idl::{Item, Modifier};
@@ -10,7 +10,7 @@ use std::alloc::Global;
 #[derive(Clone, Copy)]
 pub struct Mark<'a> {
     pub method: &'a [u8],
-    pub modifier: Modifier,
+    pub modifier: &'a Modifier,
 }
 
 /// The modifiers that are given, in the order of the text.
@@ -42,16 +42,13 @@ fn add_marks<'a>(marks: &mut Vec<Mark<'a>>, item: &'a Item) -> Result<(), NoMemo
 fn mark_each<'a>(
     marks: &mut Vec<Mark<'a>>,
     method: &'a [u8],
-    modifiers: &[Modifier],
+    modifiers: &'a [Modifier],
 ) -> Result<(), NoMemory>
     ensures { OnOk result (map given_by marks.new.items ≡
         map given_by marks.old.items ++ map (λ m. record { method = method.now; modifier = m }) modifiers.now) }
 {
     for modifier in modifiers {
-        marks.push(Mark {
-            method,
-            modifier: *modifier,
-        })?;
+        marks.push(Mark { method, modifier })?;
     }
     Ok(())
 }

@@ -4,10 +4,11 @@ ghost use Rattle.som_model.specs.Lists.{first};
 ghost use Rattle.som_order.specs.Names.{texts};
 ghost use Rattle.som_rules.specs.Told.{Tells};
 ghost use Rattle.som_scope.specs.Words.{once};
+ghost use Rattle.som_sema.specs.Ancestry.{said};
 ghost use Rattle.som_sema.specs.Drafts.{plain_draft, plain_drafts};
-ghost use Rattle.som_sema.specs.Items.{given, given_by};
+ghost use Rattle.som_sema.specs.Items.{given, given_by, replaced as replaced_of};
 ghost use Rattle.som_sema.specs.TextRules as rules;
-ghost use Rattle.som_sema.specs.TextRules.{called_after, misplaced, overridden_after, text_s11};
+ghost use Rattle.som_sema.specs.TextRules.{misplaced, nothing_said, said_after, text_s11};
 ghost use Rattle.som_sema.specs.declared.drafts.Draft.{Draft as Known};
 ghost use Rattle.std.specs.Prelude.{◌≡◌, ◌<◌, ◌++◌, ◌∷◌, ◌&&◌, true, not, [], length, map, flat_map, slice_get, option_copied, IfOk, Some};
 
@@ -15,6 +16,7 @@ use crate::drafts::Draft;
 use crate::marks::{Mark, marks};
 use crate::members::introduced_names;
 use crate::passes::{breach, each_draft};
+use crate::tables::replaced;
 use indexmap::IndexSet;
 use som_idl::Modifier;
 use som_model::NoMemory;
@@ -22,6 +24,14 @@ use som_order::{find_name, note_name};
 use som_rules::VerifyFault;
 use som_scope::table_of;
 use std::alloc::Global;
+
+/// The methods that the modifiers before a place were given to: `override`, how they are called, and `select`.
+#[derive(Drop)]
+pub struct Said<'a> {
+    pub replaced: IndexSet<&'a [u8]>,
+    pub called: IndexSet<&'a [u8]>,
+    pub selecting: IndexSet<&'a [u8]>,
+}
 
 /// Each modifier stands where it may.
 pub fn modifiers_stand(alloc: Global, drafts: &[Draft]) -> Result<(), VerifyFault>
@@ -47,12 +57,13 @@ fn own_modifiers_stand(alloc: Global, draft: &Draft) -> Result<(), VerifyFault>
 
 fn own_misplaced<'a>(alloc: Global, draft: &'a Draft) -> Result<Option<&'a [u8]>, NoMemory>
     ensures { IfOk result (λ name. option_copied name ≡
-        first (misplaced (once (introduced draft.now.decl.face.entries)) [] [] (given draft.now.text.now.items))) }
+        first (misplaced (once (introduced draft.now.decl.face.entries)) (replaced_of draft.now.text.now.items) nothing_said (given draft.now.text.now.items))) }
 {
     let names = introduced_names(alloc, draft.decl.face.entries.as_slice())?;
     let own = table_of(alloc, &names)?;
     let marks = marks(alloc, draft.text.items.as_slice())?;
-    let name = first_misplaced(alloc, &own, &marks)?;
+    let replaced = replaced(alloc, &marks)?;
+    let name = first_misplaced(alloc, &own, &replaced, &marks)?;
     Ok(name)
 }
 
@@ -60,26 +71,31 @@ fn own_misplaced<'a>(alloc: Global, draft: &'a Draft) -> Result<Option<&'a [u8]>
 fn first_misplaced<'a>(
     alloc: Global,
     own: &IndexSet<&[u8]>,
+    replaced: &IndexSet<&[u8]>,
     marks: &[Mark<'a>],
 ) -> Result<Option<&'a [u8]>, NoMemory>
-    ensures { IfOk result (λ name. option_copied name ≡ first (misplaced (texts own.now.keys) [] [] (map given_by marks.now))) }
+    ensures { IfOk result (λ name. option_copied name ≡
+        first (misplaced (texts own.now.keys) (texts replaced.now.keys) nothing_said (map given_by marks.now))) }
 {
-    let mut overridden = IndexSet::new(alloc);
-    let mut called = IndexSet::new(alloc);
-    misplaced_after(own, &mut overridden, &mut called, marks)
+    let mut before = Said {
+        replaced: IndexSet::new(alloc),
+        called: IndexSet::new(alloc),
+        selecting: IndexSet::new(alloc),
+    };
+    misplaced_after(own, replaced, &mut before, marks)
 }
 
 fn misplaced_after<'a>(
     own: &IndexSet<&[u8]>,
-    overridden: &mut IndexSet<&'a [u8]>,
-    called: &mut IndexSet<&'a [u8]>,
+    replaced: &IndexSet<&[u8]>,
+    before: &mut Said<'a>,
     marks: &[Mark<'a>],
 ) -> Result<Option<&'a [u8]>, NoMemory>
-    ensures { IfOk result (λ name. option_copied name ≡ first (misplaced (texts own.now.keys)
-        (texts overridden.old.keys) (texts called.old.keys) (map given_by marks.now))) }
+    ensures { IfOk result (λ name. option_copied name ≡
+        first (misplaced (texts own.now.keys) (texts replaced.now.keys) (said before.old) (map given_by marks.now))) }
 {
     for mark in marks {
-        if !may_stand(own, overridden, called, mark)? {
+        if !may_stand(own, replaced, before, mark)? {
             return Ok(Some(mark.method));
         }
     }
@@ -88,31 +104,32 @@ fn misplaced_after<'a>(
 
 fn may_stand<'a>(
     own: &IndexSet<&[u8]>,
-    overridden: &mut IndexSet<&'a [u8]>,
-    called: &mut IndexSet<&'a [u8]>,
+    replaced: &IndexSet<&[u8]>,
+    before: &mut Said<'a>,
     mark: &Mark<'a>,
 ) -> Result<bool, NoMemory>
-    ensures stands { IfOk result (λ b. b ≡ rules.may_stand (texts own.now.keys) (texts overridden.old.keys) (texts called.old.keys) (given_by mark.now)) }
-    ensures overridden { IfOk result (λ b. b ≡ true → texts overridden.new.keys ≡ overridden_after (given_by mark.now) (texts overridden.old.keys)) }
-    ensures called { IfOk result (λ b. b ≡ true → texts called.new.keys ≡ called_after (given_by mark.now) (texts called.old.keys)) }
+    ensures stands { IfOk result (λ b. b ≡ rules.may_stand (texts own.now.keys) (texts replaced.now.keys) (said before.old) (given_by mark.now)) }
+    ensures after { IfOk result (λ b. b ≡ true → said before.new ≡ said_after (given_by mark.now) (said before.old)) }
 {
     match mark.modifier {
-        Modifier::Override => note_name(overridden, mark.method),
-        Modifier::NameLookup => may_call(own, called, mark.method),
-        Modifier::Offset => may_call(own, called, mark.method),
+        Modifier::Override => note_name(&mut before.replaced, mark.method),
+        Modifier::NameLookup => note_among(own, &mut before.called, mark.method),
+        Modifier::Offset => note_among(own, &mut before.called, mark.method),
+        Modifier::Select { .. } => note_among(replaced, &mut before.selecting, mark.method),
     }
 }
 
-fn may_call<'a>(
-    own: &IndexSet<&[u8]>,
-    called: &mut IndexSet<&'a [u8]>,
+// Notes a method that is one of the known ones; whether it is, and new.
+fn note_among<'a>(
+    known: &IndexSet<&[u8]>,
+    noted: &mut IndexSet<&'a [u8]>,
     method: &'a [u8],
 ) -> Result<bool, NoMemory>
-    ensures stands { IfOk result (λ b. b ≡ (among method.now (texts own.now.keys) && not (among method.now (texts called.old.keys)))) }
-    ensures called { IfOk result (λ b. b ≡ true → texts called.new.keys ≡ texts called.old.keys ++ method.now ∷ []) }
+    ensures stands { IfOk result (λ b. b ≡ (among method.now (texts known.now.keys) && not (among method.now (texts noted.old.keys)))) }
+    ensures noted { IfOk result (λ b. b ≡ true → texts noted.new.keys ≡ texts noted.old.keys ++ method.now ∷ []) }
 {
-    if find_name(own, method).is_none() {
+    if find_name(known, method).is_none() {
         return Ok(false);
     }
-    note_name(called, method)
+    note_name(noted, method)
 }

@@ -1,16 +1,17 @@
 ghost use Rattle.som_model.specs.Class.{class_in};
 ghost use Rattle.som_model.specs.Conforming.{each_after};
-ghost use Rattle.som_model.specs.Kernel.{kernel_interface};
+ghost use Rattle.som_model.specs.Kernel.{kernel, kernel_interface};
 ghost use Rattle.som_model.specs.Lists.{first};
-ghost use Rattle.som_model.specs.Rules.{s1, s3, s5, s7};
+ghost use Rattle.som_model.specs.Rules.{s1, s2, s3, s5, s7};
 ghost use Rattle.som_order.specs.Names.{texts};
 ghost use Rattle.som_rules.specs.Faces.{faces_breach};
 ghost use Rattle.som_rules.specs.Modules.{classes_of};
 ghost use Rattle.som_rules.specs.Places.{IsTable, with_kernel};
 ghost use Rattle.som_rules.specs.Told.{Tells};
 ghost use Rattle.som_scope.specs.ClassNames.{module_in_scope};
-ghost use Rattle.som_sema.specs.Ancestry.{AreDrafts, IsAncestorTable};
-ghost use Rattle.som_sema.specs.Building.{draft_breach, moved_breach};
+ghost use Rattle.som_rules.specs.Walk.{AreLists};
+ghost use Rattle.som_sema.specs.Ancestry.{AreAncestorLists, AreDrafts, IsAncestorTable};
+ghost use Rattle.som_sema.specs.Building.{draft_breach, members_breach, moved_breach, named_breach};
 ghost use Rattle.som_sema.specs.Drafts.{draft_classes, plain_drafts};
 ghost use Rattle.som_sema.specs.TextRules.{text_s2_from};
 ghost use Rattle.std.specs.Prelude.{◌≡◌, ◌≤◌, ◌+◌, length, map, take, drop, flat_map, IfOk, None};
@@ -20,10 +21,10 @@ use crate::bases::{bases_stand, metaclasses_descend};
 use crate::drafts::Draft;
 use crate::members::names_differ;
 use indexmap::IndexSet;
-use som_model::ClassFace;
+use som_model::{ClassFace, List};
 use som_rules::{
     Declared, KERNEL_CLASSES, VerifyFault, class_names, entries_moved_up, names_introduced_once,
-    overrides_inherited, parents_differ, types_known, variables_differ,
+    parents_differ, types_known, variables_differ,
 };
 use som_scope::Scope;
 use std::alloc::Global;
@@ -45,14 +46,55 @@ pub fn drafts_hold<'a>(
     ensures ancestors { IfOk result (IsAncestorTable (classes_of classes.now)) }
 {
     let table = own_names_differ(alloc, classes, base)?;
-    own_bases_stand(alloc, scope, &table, classes, base, drafts)?;
-    own_parents_differ(alloc, classes, base)?;
-    let lists = ancestor_lists(alloc, &table, classes)?;
-    metaclasses_descend(alloc, scope, &table, classes, lists.as_slice(), drafts)?;
-    own_types_known(alloc, &table, classes, base)?;
-    names_differ(alloc, drafts)?;
-    own_variables_differ(alloc, classes, base)?;
+    let lists = named_drafts_hold(alloc, scope, &table, classes, base, drafts)?;
     Ok(AncestorTable { table, lists })
+}
+
+// The rules S2 to S7, and the ancestors of all classes.
+fn named_drafts_hold(
+    alloc: Global,
+    scope: &Scope,
+    table: &IndexSet<&[u8]>,
+    classes: &[Declared],
+    base: usize,
+    drafts: &[Draft],
+) -> Result<Vec<List<usize>>, VerifyFault>
+    requires table { IsTable (classes_of classes.now) (texts table.now.keys) }
+    requires base { base + length drafts.now ≡ length classes.now }
+    requires conforms { faces_breach (classes_of (take base classes.now)) ≡ None }
+    requires drafted { AreDrafts (module_in_scope scope.now) (plain_drafts drafts.now) }
+    requires own { classes_of (drop base classes.now) ≡ map (class_in scope.now.module) (draft_classes (plain_drafts drafts.now)) }
+    ensures tells { Tells (named_breach (module_in_scope scope.now) (classes_of classes.now) (classes_of (take base classes.now))
+        (classes_of (drop base classes.now)) (plain_drafts drafts.now)) result }
+    ensures lists { IfOk result (λ lists. AreAncestorLists (classes_of classes.now) lists.items) }
+    ensures stand { IfOk result (λ lists. first (each_after s2 kernel (classes_of classes.now)) ≡ None) }
+{
+    own_bases_stand(alloc, scope, table, classes, base, drafts)?;
+    own_parents_differ(alloc, classes, base)?;
+    let lists = ancestor_lists(alloc, table, classes)?;
+    members_hold(alloc, scope, table, classes, lists.as_slice(), base, drafts)?;
+    Ok(lists)
+}
+
+// The rules S4 to S7.
+fn members_hold(
+    alloc: Global,
+    scope: &Scope,
+    table: &IndexSet<&[u8]>,
+    classes: &[Declared],
+    lists: &[List<usize>],
+    base: usize,
+    drafts: &[Draft],
+) -> Result<(), VerifyFault>
+    requires table { IsTable (classes_of classes.now) (texts table.now.keys) }
+    requires lists { AreLists (with_kernel (classes_of classes.now)) lists.now }
+    requires base { base ≤ length classes.now }
+    ensures { Tells (members_breach (module_in_scope scope.now) (classes_of classes.now) (classes_of (drop base classes.now)) (plain_drafts drafts.now)) result }
+{
+    metaclasses_descend(alloc, scope, table, classes, lists, drafts)?;
+    own_types_known(alloc, table, classes, base)?;
+    names_differ(alloc, drafts)?;
+    own_variables_differ(alloc, classes, base)
 }
 
 // The names of the own classes differ from all before them.
@@ -114,7 +156,7 @@ fn own_types_known(
     types_known(alloc, table, classes, number, &classes[base..])
 }
 
-/// The rules S8 to S10 of a module's classes, which stand after those of a base that conforms.
+/// The rules S8 and S9 of a module's classes, which stand after those of a base that conforms.
 pub fn moves_hold(
     alloc: Global,
     kernel: &[ClassFace],
@@ -129,6 +171,5 @@ pub fn moves_hold(
 {
     let lists = ancestors.lists.as_slice();
     names_introduced_once(alloc, kernel, classes, lists, base)?;
-    entries_moved_up(alloc, &ancestors.table, kernel, classes, lists, base)?;
-    overrides_inherited(alloc, &ancestors.table, kernel, classes, lists, base)
+    entries_moved_up(alloc, &ancestors.table, kernel, classes, lists, base)
 }

@@ -20,13 +20,13 @@ use Rattle.som_wire.specs.Making as making
 use Rattle.som_steps.proofs.FieldFaults.{IsOfBytes, Reads, then_reads, either_reads, number_reads, text_reads, below_reads, many_reads, counted_reads, kind_reads, method_reads}
 
 -- what is read at each place is a value, or a fault of the bytes
-abbrev Readable : {A : Type 0} → making.Reads A → Type 0
+abbrev pub Readable : {A : Type 0} → making.Reads A → Type 0
 Readable one = (bytes : List ℕ) (place : ℕ) → Reads (one bytes place)
 
 one_reads : {A T : Type 0} (one : making.Reads A) (make : A → T) → Readable one → (bytes : List ℕ) (place : ℕ) → Reads (of_one one make bytes place)
 one_reads one make h bytes place = then_reads (one bytes place) _ (h bytes place) (λ a. tt)
 
-two_reads : {A B T : Type 0} (one : making.Reads A) (two : making.Reads B) (make : A → B → T) → Readable one → Readable two → (bytes : List ℕ) (place : ℕ) → Reads (of_two one two make bytes place)
+pub two_reads : {A B T : Type 0} (one : making.Reads A) (two : making.Reads B) (make : A → B → T) → Readable one → Readable two → (bytes : List ℕ) (place : ℕ) → Reads (of_two one two make bytes place)
 two_reads one two make h g bytes place = then_reads (one bytes place) _ (h bytes place) (λ a. then_reads (two bytes a.next) _ (g bytes a.next) (λ b. tt))
 
 three_reads : {A B C T : Type 0} (one : making.Reads A) (two : making.Reads B) (three : making.Reads C) (make : A → B → C → T) → Readable one → Readable two → Readable three → (bytes : List ℕ) (place : ℕ)

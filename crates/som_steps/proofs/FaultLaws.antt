@@ -1,5 +1,5 @@
 -- Reading never comes to want of memory.
-use Rattle.std.proofs.Common.{◌≡◌, ℕ, ◌+◌, ◌==◌, nat_lt, nat_eq, List, [], ◌∷◌, length, Result, Err, subst}
+use Rattle.std.proofs.Common.{◌≡◌, ℕ, ◌+◌, ◌==◌, ◌&&◌, nat_lt, nat_le, nat_eq, List, [], ◌∷◌, length, drop, Result, Err, subst}
 use Rattle.std.specs.Prelude.{codes}
 use Rattle.std.specs.List.{starts_with}
 use Rattle.std.specs.Int.{w8, w16}
@@ -13,8 +13,8 @@ use Rattle.som_fields.specs.Reading.{number_at, face_at}
 use Rattle.som_fields.specs.declared.face.WireFace.{WireFace}
 use Rattle.som_fields.specs.declared.method.Ranges.{Ranges}
 use Rattle.som_wire.specs.Fitting.{levels_left}
-use Rattle.som_wire.specs.Reading.{block_at, part_at}
-use Rattle.som_naming.specs.ReadClasses.{each_at, faces_after_at, faces_at, parts_at, magic_at, head_at, ranges_of, introduced_count}
+use Rattle.som_wire.specs.Reading.{block_at, part_at, selects_at}
+use Rattle.som_naming.specs.ReadClasses.{each_at, faces_after_at, faces_at, parts_at, magic_at, head_at, section_at, ranges_of, introduced_count}
 use Rattle.som_libimage.specs.Reading.{classes_at, wire_at}
 use Rattle.som_libimage.specs.Libraries.{library_at}
 use Rattle.som_cliimage.specs.Reading.{client_ranges, own_faces_at, program_at, wire_at as client_wire_at}
@@ -22,6 +22,7 @@ use Rattle.som_cliimage.specs.Programs.{client_at}
 use Rattle.som_fields.specs.declared.fault.ImageFault.TheVariants as faults
 use Rattle.som_steps.proofs.FieldFaults.{Reads, then_reads, either_reads, number_reads, many_reads, face_reads}
 use Rattle.som_steps.proofs.BlockFaults.{block_reads, part_reads}
+use Rattle.som_steps.proofs.SelectFaults.{selects_read}
 
 -- ---- images
 
@@ -42,21 +43,25 @@ faces_reads = faces_after_read 4 MAX_LIBRARY_CLASSES
 parts_read : (ranges : Ranges) (faces : List WireFace) (bytes : List ℕ) (place : ℕ) → Reads (parts_at ranges faces bytes place)
 parts_read ranges faces bytes place = each_reads (λ face. part_at ranges (introduced_count face) bytes) (λ face. part_reads ranges (introduced_count face) bytes) faces place
 
-classes_reads : (bytes : List ℕ) (place : ℕ) → Reads (classes_at bytes place)
+section_reads : (version : ℕ) (ranges : Ranges) (first : ℕ) (bytes : List ℕ) (place : ℕ) → Reads (section_at version ranges first bytes place)
+section_reads version ranges first bytes place = either_reads (version == 2) (selects_at ranges first bytes place) _ (selects_read ranges first bytes place) tt
+
+classes_reads : (version : ℕ) (bytes : List ℕ) (place : ℕ) → Reads (classes_at version bytes place)
 unfolding classes_at
-classes_reads bytes place = then_reads (faces_at bytes place) _ (faces_reads bytes place) (λ faces.
-    then_reads (each_at (λ face. part_at (ranges_of faces.value) (introduced_count face) bytes) faces.value faces.next) _ (each_reads (λ face. part_at (ranges_of faces.value) (introduced_count face) bytes) (λ face. part_reads (ranges_of faces.value) (introduced_count face) bytes) faces.value faces.next) (λ parts. tt))
+classes_reads version bytes place = then_reads (faces_at bytes place) _ (faces_reads bytes place) (λ faces.
+    then_reads (parts_at (ranges_of faces.value) faces.value bytes faces.next) _ (parts_read (ranges_of faces.value) faces.value bytes faces.next) (λ parts.
+    then_reads (section_at version (ranges_of faces.value) 4 bytes parts.next) _ (section_reads version (ranges_of faces.value) 4 bytes parts.next) (λ selects. tt)))
 
-magic_reads : (magic bytes : List ℕ) → Reads (magic_at magic bytes)
-magic_reads magic bytes = either_reads (starts_with nat_eq bytes magic) _ _ tt (either_reads (starts_with nat_eq magic bytes) _ _ tt tt)
+magic_reads : (magic bytes : List ℕ) (place : ℕ) → Reads (magic_at magic bytes place)
+magic_reads magic bytes place = either_reads (starts_with nat_eq (drop place bytes) magic) _ _ tt (either_reads (starts_with nat_eq magic (drop place bytes)) _ _ tt tt)
 
-head_reads : (magic bytes : List ℕ) → Reads (head_at magic bytes)
+head_reads : (magic : List ℕ) (newest : ℕ) (bytes : List ℕ) (place : ℕ) → Reads (head_at magic newest bytes place)
 unfolding head_at
-head_reads magic bytes = then_reads (magic_at magic bytes) _ (magic_reads magic bytes) (λ place. then_reads (number_at w8 bytes place) _ (number_reads w8 bytes place) (λ version. either_reads (version.value == 1) _ _ tt tt))
+head_reads magic newest bytes place = then_reads (magic_at magic bytes place) _ (magic_reads magic bytes place) (λ start. then_reads (number_at w8 bytes start) _ (number_reads w8 bytes start) (λ version. either_reads (nat_le 1 version.value && nat_le version.value newest) _ _ tt tt))
 
 wire_reads : (bytes : List ℕ) → Reads (wire_at bytes)
 unfolding wire_at
-wire_reads bytes = then_reads (head_at (codes "SOML") bytes) _ (head_reads (codes "SOML") bytes) (λ place. then_reads (classes_at bytes place) _ (classes_reads bytes place) (λ release. either_reads (nat_lt release.next (length bytes)) _ _ tt tt))
+wire_reads bytes = then_reads (head_at (codes "SOML") 2 bytes 0) _ (head_reads (codes "SOML") 2 bytes 0) (λ version. then_reads (classes_at version.value bytes version.next) _ (classes_reads version.value bytes version.next) (λ release. either_reads (nat_lt release.next (length bytes)) _ _ tt tt))
 
 library_reads : (bytes : List ℕ) → Reads (library_at bytes)
 library_reads bytes = then_reads (wire_at bytes) _ (wire_reads bytes) (λ w. tt)
@@ -67,16 +72,17 @@ no_want bytes e = let P : Result Release ImageFault → Type 0 = λ r. Reads r i
 
 -- ---- client images
 
-program_reads : (bytes : List ℕ) (place : ℕ) → Reads (program_at bytes place)
+program_reads : (version : ℕ) (bytes : List ℕ) (place : ℕ) → Reads (program_at version bytes place)
 unfolding program_at
-program_reads bytes place = then_reads (faces_at bytes place) _ (faces_reads bytes place) (λ base.
+program_reads version bytes place = then_reads (faces_at bytes place) _ (faces_reads bytes place) (λ base.
     then_reads (own_faces_at base.value bytes base.next) _ (faces_after_read (length base.value + 4) MAX_CLIENT_CLASSES bytes base.next) (λ own.
     then_reads (parts_at (client_ranges base.value own.value) own.value bytes own.next) _ (parts_read (client_ranges base.value own.value) own.value bytes own.next) (λ parts.
-    then_reads (block_at (levels_left 1) (client_ranges base.value own.value) bytes parts.next) _ (block_reads (levels_left 1) (client_ranges base.value own.value) bytes parts.next) (λ main. tt))))
+    then_reads (section_at version (client_ranges base.value own.value) (length base.value + 4) bytes parts.next) _ (section_reads version (client_ranges base.value own.value) (length base.value + 4) bytes parts.next) (λ selects.
+    then_reads (block_at (levels_left 1) (client_ranges base.value own.value) bytes selects.next) _ (block_reads (levels_left 1) (client_ranges base.value own.value) bytes selects.next) (λ main. tt)))))
 
 client_wire_reads : (bytes : List ℕ) → Reads (client_wire_at bytes)
 unfolding client_wire_at
-client_wire_reads bytes = then_reads (head_at (codes "SOMC") bytes) _ (head_reads (codes "SOMC") bytes) (λ place. then_reads (program_at bytes place) _ (program_reads bytes place) (λ program. either_reads (nat_lt program.next (length bytes)) _ _ tt tt))
+client_wire_reads bytes = then_reads (head_at (codes "SOMC") 2 bytes 0) _ (head_reads (codes "SOMC") 2 bytes 0) (λ version. then_reads (program_at version.value bytes version.next) _ (program_reads version.value bytes version.next) (λ program. either_reads (nat_lt program.next (length bytes)) _ _ tt tt))
 
 client_reads : (bytes : List ℕ) → Reads (client_at bytes)
 client_reads bytes = then_reads (client_wire_at bytes) _ (client_wire_reads bytes) (λ w. tt)

@@ -5,6 +5,7 @@ pub mod ReleaseLaws
 mod SayLaws
 mod FieldFaults
 mod BlockFaults
+mod SelectFaults
 mod FaultLaws
 pub mod Printed
 pub mod OutcomeLaws

@@ -144,8 +144,8 @@ own_at_within c xs t s = own_within c xs t (t.0 == c) refl s
 pub own_at-same : {C : Type 0} (c : ℕ) (xs : List C) (p : ℕ) → own_at c xs (c, p) ≡ slice_get xs p
 own_at-same c xs p = let e : (c == c) ≡ true = eq-eqb c c refl in rw e refl
 
-pub own_at-other : {C : Type 0} (c a : ℕ) (xs : List C) (p : ℕ) → a < c → own_at c xs (a, p) ≡ None
-own_at-other c a xs p lt = let e : (a == c) ≡ false = ne_eqb a c (λ e. omega (arith, e)) in rw e refl
+pub own_at-other : {C : Type 0} (c a : ℕ) (xs : List C) (p : ℕ) → a ≢ c → own_at c xs (a, p) ≡ None
+own_at-other c a xs p ne = let e : (a == c) ≡ false = ne_eqb a c ne in rw e refl
 
 -- a row has the tokens of its parents' rows and its own, and no other
 pub tokens_from_row : {C : Type 0} (cs ds : List (Option (Added C))) (n : ℕ) (a : Added C) → AreInherited cs a.parents a.replaced → GivesRow cs ds n a → GivesTokens cs ds n a

@@ -3,4 +3,5 @@ pub mod Laid
 pub mod LateRows
 pub mod NextBlocks
 pub mod NextRow
+pub mod Noting
 pub mod Options

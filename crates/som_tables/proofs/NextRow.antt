@@ -1,19 +1,20 @@
 -- A table in which one more class has its row.
-use Rattle.std.proofs.Common.{◌≡◌, ◌≢◌, ℕ, ◌<◌, ◌≤◌, inl, inr, List, length, Option, Some, None, IsSome, is_some, slice_get, sym, ap, ◌∙◌, subst, arith}
+use Rattle.std.proofs.Common.{◌≡◌, ◌≢◌, ℕ, ◌<◌, ◌≤◌, inl, inr, List, [], refl, length, Option, Some, None, IsSome, is_some, slice_get, sym, ap, ◌∙◌, subst, arith}
 use Rattle.std.specs.Prelude.{slice_set}
-use Rattle.std.specs.Option.{option_or, option_map_or, option_flatten, option_and_then}
-use Rattle.std.proofs.lemmas.Option.{slice_get_past, slice_get_within}
+use Rattle.std.specs.List.{Contains}
+use Rattle.std.specs.Option.{option_or, option_map_or, option_flatten, unwrap_or}
+use Rattle.std.proofs.lemmas.Option.{slice_get_within}
 use Rattle.std.proofs.lemmas.List.{length-set}
 use Rattle.std.proofs.lemmas.Bool.{cases_lt, cases_eq}
 use Rattle.som_tables.specs.Rows.{Added, row_at, first_some, replaced_at, own_at, inherited, HasToken, HasRow, SomeHasToken, HaveRowsBelow, AreInherited, IsDeclared, introduced_count}
-use Rattle.som_tables.specs.Layout.{start_at, start_of, Extends, IsBlock, IsLaid, IsTable, next_cell, IsLine}
+use Rattle.som_tables.specs.Layout.{line_at, Extends, IsBlock, IsLaid, IsTable, next_cell, IsLine}
 use Rattle.som_tables.proofs.Options.{none_is_not_some, none_else_some, option_or-some, slice_get_some, slice_get-set_same, slice_get-set_other}
 use Rattle.som_tables.proofs.Inherited.{first_some_where, Filled, inherited_others, inherited_filled, order_filled, replaced_inherited, own_at_within, own_at-same, own_at-other, tokens_from_row}
 use Rattle.som_tables.proofs.Laid.{IsBlock-same, IsBlock-none, IsLaid-grown}
 use Rattle.som_tables.proofs.LateRows.{Filled-set}
 
-module _ {C : Type 0} (cs ds : List (Option (Added C))) (n : ℕ) (row : Added C) (lines : List (Option (List (Option ℕ)))) (starts : List (Option ℕ)) (cells : List C) (laid : IsLaid cs lines cells)
-    (below : HaveRowsBelow n cs row.parents) (known : AreInherited cs row.parents row.replaced) (next : IsLine cs n row starts cells) (filled : Filled cs ds n row) where
+module _ {C : Type 0} (cs ds : List (Option (Added C))) (n : ℕ) (row : Added C) (start : ℕ → ℕ → Option ℕ) (at : ℕ → Option ℕ) (line : List ℕ) (cells : List C) (laid : IsLaid cs start cells)
+    (below : HaveRowsBelow n cs row.parents) (known : AreInherited cs row.parents row.replaced) (next : IsLine cs n row at line cells) (filled : Filled cs ds n row) where
   row_other : (c : ℕ) → c ≢ n → (t : ℕ × ℕ) → inherited ds c t ≡ inherited cs c t
   row_other = inherited_others cs ds n row laid.order filled
 
@@ -61,72 +62,78 @@ module _ {C : Type 0} (cs ds : List (Option (Added C))) (n : ℕ) (row : Added C
       ∙ ap (λ o. option_or o (option_or (own_at n row.introduced (n, p)) above)) (sym (not_replaced p))
       ∙ sym (row_is (n, p))
 
-  cell_before : (a : ℕ) → a < n → (p : ℕ) → next_cell cs row.parents row.replaced a p ≡ inherited ds n (a, p)
-  cell_before a lt p =
-      ap (λ o. option_or (replaced_at row.replaced (a, p)) (option_or o (first_some (λ q. inherited cs q (a, p)) row.parents))) (sym (own_at-other n a row.introduced p lt))
+  cell_shared : (a : ℕ) → a ≢ n → (p : ℕ) → next_cell cs row.parents row.replaced a p ≡ inherited ds n (a, p)
+  cell_shared a ne p =
+      ap (λ o. option_or (replaced_at row.replaced (a, p)) (option_or o (first_some (λ q. inherited cs q (a, p)) row.parents))) (sym (own_at-other n a row.introduced p ne))
       ∙ sym (row_is (a, p))
 
-  block_before : (a : ℕ) → a < n → IsBlock cells (start_at starts a) (introduced_count ds a) (λ p. inherited ds n (a, p))
-  block_before a lt = IsBlock-same cells (start_at starts a) (introduced_count cs a) (introduced_count ds a) (next_cell cs row.parents row.replaced a) (λ p. inherited ds n (a, p))
-      (sym (count_other a (λ e. omega (arith, lt, e)))) (λ p _. cell_before a lt p) (next.blocks a lt)
+  block_shared : (a : ℕ) → a ≢ n → IsBlock cells (at a) (introduced_count ds a) (λ p. inherited ds n (a, p))
+  block_shared a ne = IsBlock-same cells (at a) (introduced_count cs a) (introduced_count ds a) (next_cell cs row.parents row.replaced a) (λ p. inherited ds n (a, p))
+      (sym (count_other a ne)) (λ p _. cell_shared a ne p) (next.blocks a ne)
 
-  block_own : IsBlock cells (start_at starts n) (introduced_count ds n) (λ p. inherited ds n (n, p))
-  block_own = IsBlock-same cells (start_at starts n) (length row.introduced) (introduced_count ds n) (λ p. slice_get row.introduced p) (λ p. inherited ds n (n, p))
+  block_own : IsBlock cells (at n) (introduced_count ds n) (λ p. inherited ds n (n, p))
+  block_own = IsBlock-same cells (at n) (length row.introduced) (introduced_count ds n) (λ p. slice_get row.introduced p) (λ p. inherited ds n (n, p))
       (sym count_own) (λ p lt. let k : p < length row.introduced = omega (arith, count_own) in own_cell p k) next.own
 
-  block_after : (a : ℕ) → n < a → IsBlock cells (start_at starts a) (introduced_count ds a) (λ p. inherited ds n (a, p))
-  block_after a lt =
-      let past : start_at starts a ≡ None = ap option_flatten (slice_get_past starts a (omega (arith, next.long))) in
-      subst (λ s. IsBlock cells s (introduced_count ds a) (λ p. inherited ds n (a, p))) (sym past)
-      (IsBlock-none cells (introduced_count ds a) (λ p. inherited ds n (a, p)) (λ p _. none_else_some (inherited ds n (a, p)) (λ s. let i = inside_next a p s in omega (arith, lt, i.0))))
-
-  block_next : (a : ℕ) → IsBlock cells (start_at starts a) (introduced_count ds a) (λ p. inherited ds n (a, p))
-  block_next a = elim (cases_lt a n) [
-    | inl lt ↦ block_before a lt
-    | inr ge ↦ elim (cases_lt n a) [
-      | inl gt ↦ block_after a gt
-      | inr le ↦ (let e : n ≡ a = omega arith in subst (λ i. IsBlock cells (start_at starts i) (introduced_count ds i) (λ p. inherited ds n (i, p))) e block_own)
-    ]
+  block_next : (a : ℕ) → IsBlock cells (at a) (introduced_count ds a) (λ p. inherited ds n (a, p))
+  block_next a = elim (cases_eq a n) [
+    | inl e ↦ subst (λ i. IsBlock cells (at i) (introduced_count ds i) (λ p. inherited ds n (i, p))) (sym e) block_own
+    | inr ne ↦ block_shared a ne
   ]
 
   -- the class was in no row before
   start_none : (o : Option ℕ) (f : ℕ → Option C) → IsBlock cells o (introduced_count cs n) f → o ≡ None
   start_none o f b = none_else_some o (λ s. let some = b.some s in omega (arith, some, count_before))
 
-  block_other : (c : ℕ) → c ≢ n → (a : ℕ) → IsBlock cells (start_of lines c a) (introduced_count ds a) (λ p. inherited ds c (a, p))
+  block_other : (c : ℕ) → c ≢ n → (a : ℕ) → IsBlock cells (start c a) (introduced_count ds a) (λ p. inherited ds c (a, p))
   block_other c ne a = elim (cases_eq a n) [
-    | inl e ↦ (let none : start_of lines c a ≡ None = subst (λ i. start_of lines c i ≡ None) (sym e) (start_none (start_of lines c n) (λ p. inherited cs c (n, p)) (laid.blocks c n)) in
+    | inl e ↦ (let none : start c a ≡ None = subst (λ i. start c i ≡ None) (sym e) (start_none (start c n) (λ p. inherited cs c (n, p)) (laid.blocks c n)) in
         subst (λ s. IsBlock cells s (introduced_count ds a) (λ p. inherited ds c (a, p))) (sym none)
         (IsBlock-none cells (introduced_count ds a) (λ p. inherited ds c (a, p)) (λ p _. row_other c ne (a, p) ∙ none_else_some (inherited cs c (a, p)) (λ s. of_another c a p s e))))
-    | inr other ↦ IsBlock-same cells (start_of lines c a) (introduced_count cs a) (introduced_count ds a) (λ p. inherited cs c (a, p)) (λ p. inherited ds c (a, p)) (sym (count_other a other))
+    | inr other ↦ IsBlock-same cells (start c a) (introduced_count cs a) (introduced_count ds a) (λ p. inherited cs c (a, p)) (λ p. inherited ds c (a, p)) (sym (count_other a other))
         (λ p _. sym (row_other c ne (a, p))) (laid.blocks c a)
   ]
 
-  module _ (more : List (Option (List (Option ℕ)))) (here : option_flatten (slice_get more n) ≡ Some starts) (there : (c : ℕ) → c ≢ n → option_flatten (slice_get more c) ≡ option_flatten (slice_get lines c)) where
-    block_all : (c a : ℕ) → IsBlock cells (start_of more c a) (introduced_count ds a) (λ p. inherited ds c (a, p))
+  module _ (more : ℕ → ℕ → Option ℕ) (here : (a : ℕ) → more n a ≡ at a) (there : (c a : ℕ) → c ≢ n → more c a ≡ start c a) where
+    block_all : (c a : ℕ) → IsBlock cells (more c a) (introduced_count ds a) (λ p. inherited ds c (a, p))
     block_all c a = elim (cases_eq c n) [
-      | inl e ↦ subst (λ i. IsBlock cells (start_of more i a) (introduced_count ds a) (λ p. inherited ds i (a, p))) (sym e)
-          (subst (λ o. IsBlock cells (option_and_then (λ l. start_at l a) o) (introduced_count ds a) (λ p. inherited ds n (a, p))) (sym here) (block_next a))
-      | inr ne ↦ subst (λ o. IsBlock cells (option_and_then (λ l. start_at l a) o) (introduced_count ds a) (λ p. inherited ds c (a, p))) (sym (there c ne)) (block_other c ne a)
+      | inl e ↦ subst (λ i. IsBlock cells (more i a) (introduced_count ds a) (λ p. inherited ds i (a, p))) (sym e)
+          (subst (λ o. IsBlock cells o (introduced_count ds a) (λ p. inherited ds n (a, p))) (sym (here a)) (block_next a))
+      | inr ne ↦ subst (λ o. IsBlock cells o (introduced_count ds a) (λ p. inherited ds c (a, p))) (sym (there c a ne)) (block_other c ne a)
     ]
 
     pub IsLaid-filled : IsLaid ds more cells
     IsLaid-filled = record { order = order_filled cs ds n row laid.order filled below; inside = inside_all; blocks = block_all }
 
 -- the table with the row
-pub IsTable-fill : {C : Type 0} (cs : List (Option (Added C))) (lines : List (Option (List (Option ℕ)))) (cells new : List C) (n : ℕ) (row : Added C) (starts : List (Option ℕ)) → IsTable cs lines cells → IsDeclared cs n → HaveRowsBelow n cs row.parents
-    → AreInherited cs row.parents row.replaced → Extends cells new → IsLine cs n row starts new → IsTable (slice_set cs n (Some row)) (slice_set lines n (Some starts)) new
-IsTable-fill cs lines cells new n row starts table declared below known more next =
-    let filled = Filled-set cs n row declared in
-    let in_classes = slice_get_within cs n None declared in
-    let in_lines : n < length lines = omega (arith, table.long, in_classes) in
-    let here = ap option_flatten (slice_get-set_same lines n (Some starts) in_lines) in
-    let laid = IsLaid-grown cs lines cells new more table.laid in
-    record {
-      laid = IsLaid-filled cs (slice_set cs n (Some row)) n row lines starts new laid below known next filled (slice_set lines n (Some starts)) here (λ c ne. ap option_flatten (slice_get-set_other lines n c (Some starts) ne));
-      long = length-set lines n (Some starts) ∙ table.long ∙ sym (length-set cs n (Some row));
-      none = λ c e. elim (cases_eq c n) [
-        | inl is ↦ absurd (none_is_not_some (row_at (slice_set cs n (Some row)) n) (ap (row_at (slice_set cs n (Some row))) (sym is) ∙ e) (ap (λ o. is_some o) filled.is))
-        | inr ne ↦ ap option_flatten (slice_get-set_other lines n c (Some starts) ne) ∙ table.none c (sym (filled.others c ne) ∙ e)
-      ];
-    }
+module _ {C : Type 0} (cs : List (Option (Added C))) (lines : List (Option (List ℕ))) (start more : ℕ → ℕ → Option ℕ) (cells new : List C) (n : ℕ) (row : Added C) (line : List ℕ) (table : IsTable cs lines start cells) (declared : IsDeclared cs n)
+    (below : HaveRowsBelow n cs row.parents) (known : AreInherited cs row.parents row.replaced) (grown : Extends cells new) (others : (c a : ℕ) → c ≢ n → more c a ≡ start c a) (next : IsLine cs n row (more n) line new) where
+  filled : Filled cs (slice_set cs n (Some row)) n row
+  filled = Filled-set cs n row declared
+
+  in_lines : n < length lines
+  in_lines = let in_classes = slice_get_within cs n None declared in omega (arith, table.long, in_classes)
+
+  here : option_flatten (slice_get (slice_set lines n (Some line)) n) ≡ Some line
+  here = ap option_flatten (slice_get-set_same lines n (Some line) in_lines)
+
+  elsewhere : (c : ℕ) → c ≢ n → option_flatten (slice_get (slice_set lines n (Some line)) c) ≡ option_flatten (slice_get lines c)
+  elsewhere c ne = ap option_flatten (slice_get-set_other lines n c (Some line) ne)
+
+  listed_all : (c a : ℕ) → IsSome (more c a) → Contains (line_at (slice_set lines n (Some line)) c) a
+  listed_all c a s = elim (cases_eq c n) [
+    | inl e ↦ subst (λ i. Contains (line_at (slice_set lines n (Some line)) i) a) (sym e)
+        (subst (λ o. Contains (unwrap_or o []) a) (sym here) (next.listed a (subst (λ i. IsSome (more i a)) e s)))
+    | inr ne ↦ subst (λ o. Contains (unwrap_or o []) a) (sym (elsewhere c ne)) (table.listed c a (subst (λ o. IsSome o) (others c a ne) s))
+  ]
+
+  pub IsTable-fill : IsTable (slice_set cs n (Some row)) (slice_set lines n (Some line)) more new
+  IsTable-fill = record {
+    laid = IsLaid-filled cs (slice_set cs n (Some row)) n row start (more n) line new (IsLaid-grown start cs cells new grown table.laid) below known next filled more (λ a. refl) others;
+    long = length-set lines n (Some line) ∙ table.long ∙ sym (length-set cs n (Some row));
+    none = λ c e. elim (cases_eq c n) [
+      | inl is ↦ absurd (none_is_not_some (row_at (slice_set cs n (Some row)) n) (ap (row_at (slice_set cs n (Some row))) (sym is) ∙ e) (ap (λ o. is_some o) filled.is))
+      | inr ne ↦ elsewhere c ne ∙ table.none c (sym (filled.others c ne) ∙ e)
+    ];
+    listed = listed_all;
+  }

@@ -1,6 +1,6 @@
 -- Options, and the elements of a list as options.
 use Rattle.std.proofs.Common.{◌≡◌, ℕ, zero, suc, ◌+◌, ◌<◌, ◌≤◌, ◌⊎◌, inl, inr, false, is_some, List, [], ◌∷◌, ◌++◌, length, take, Option, Some, None, IsSome, slice_get, refl, sym, ap, ◌∙◌, arith, true≢false, length-append, ◌-◌, ◌≢◌}
-use Rattle.std.specs.Prelude.{slice_set}
+use Rattle.std.specs.Prelude.{slice_set, Result, Ok, Err, OnErr}
 use Rattle.std.specs.Option.{option_or, option_flatten}
 use Rattle.std.proofs.lemmas.Option.{slice_get_within, slice_get_past}
 use Rattle.std.proofs.lemmas.Bool.{cases_lt}
@@ -129,3 +129,8 @@ take-push xs y = let e : length (xs ++ y ∷ []) - 1 ≡ length xs = omega (arit
 
 pub length-take_last : {A : Type 0} (xs : List A) → length (take (length xs - 1) xs) ≡ length xs - 1
 length-take_last xs = length-take-le (length xs - 1) xs (omega arith)
+
+-- what holds in any case holds where there is an error
+pub on_err : {T E : Type 0} (r : Result T E) (P : Type 0) → P → OnErr r P
+on_err (Ok x) P p = tt
+on_err (Err e) P p = p

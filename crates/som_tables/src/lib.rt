@@ -6,7 +6,7 @@ mod class_no;
 mod kind;
 mod line;
 mod row;
-mod start;
+mod starts;
 mod steps;
 mod table;
 mod token;

@@ -66,10 +66,10 @@ impl<K: Kind> Row<K> {
 }
 
 /// How many cells a class introduced.
-pub(crate) fn introduced_by<K: Kind>(rows: &[Option<Row<K>>], class: u32) -> usize
+pub(crate) fn introduced_by<K: Kind>(rows: &[Option<Row<K>>], class: ClassNo) -> usize
     ensures { result ≡ introduced_count rows.now class }
 {
-    match rows.get(class as usize) {
+    match rows.get(class.number() as usize) {
         Some(Some(row)) => row.introduced().len(),
         _ => 0,
     }
@@ -78,13 +78,13 @@ pub(crate) fn introduced_by<K: Kind>(rows: &[Option<Row<K>>], class: u32) -> usi
 /// The cell that replaces the one of a token.
 pub(crate) fn replaced_cell<K: Kind>(
     replaced: &[(Token<K>, K::Cell)],
-    class: u32,
+    class: ClassNo,
     place: usize,
 ) -> Option<K::Cell>
     ensures { result ≡ replaced_at replaced.now (class, place) }
 {
     for pair in replaced {
-        if pair.0.class().number() == class && pair.0.place() as usize == place {
+        if pair.0.class() == class && pair.0.place() as usize == place {
             return Some(pair.1);
         }
     }
@@ -92,11 +92,11 @@ pub(crate) fn replaced_cell<K: Kind>(
 }
 
 /// Whether the cell of some token of the class is replaced. It may say so where none is.
-pub(crate) fn replaces_any<K: Kind>(replaced: &[(Token<K>, K::Cell)], class: u32) -> bool
+pub(crate) fn replaces_any<K: Kind>(replaced: &[(Token<K>, K::Cell)], class: ClassNo) -> bool
     ensures { result ≡ false → (p : ℕ) → replaced_at replaced.now (class, p) ≡ None }
 {
     for pair in replaced {
-        if pair.0.class().number() == class {
+        if pair.0.class() == class {
             return true;
         }
     }

@@ -1,5 +1,8 @@
 ghost use Rattle.std.specs.Prelude.{◌≡◌, ◌+◌, ◌<◌, length, slice_get, Some};
+ghost use Rattle.som_tables.specs.Layout.{start_of};
 
+use crate::ClassNo;
+use crate::starts::{Starts, start_in};
 use std::marker::Model;
 use std::sync::ledger::{Blank, Book, Ledger, Share};
 
@@ -46,5 +49,14 @@ impl<L: Ledger> Steps<L> {
     {
         self.tick();
         items[place]
+    }
+
+    /// A look-up of where a block begins, which is one step.
+    pub(crate) fn look_up(&mut self, starts: &Starts, class: ClassNo, of: ClassNo) -> Option<u32>
+        ensures start { result ≡ start_of starts.now class of }
+        ensures cost { self.new ≡ self.old + 1 }
+    {
+        self.tick();
+        start_in(starts, class, of)
     }
 }

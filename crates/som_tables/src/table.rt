@@ -2,10 +2,12 @@ ghost use Rattle.std.specs.Prelude.{◌≡◌, ◌<◌, ◌≤◌, ◌+◌, ◌-
 ghost use Rattle.som_tables.specs.Rows.{GivesRow, GivesTokens, AreDistinct, AreInherited, HasToken, HaveRows, HaveRowsBelow, IsDeclared, KeepsOtherRows, KeepsRows, class_with, inherited, introduced_count, row_at};
 
 use crate::blocks::lay_row;
-use crate::line::{Line, starts_of};
+use crate::line::Line;
 use crate::row::Row;
+use crate::starts::{Starts, start_in};
 use crate::{ClassNo, Kind, Steps, Token};
 use std::alloc::{AllocError, Global};
+use std::collections::HashMap;
 use std::marker::Model;
 use std::sync::ledger::Ledger;
 
@@ -14,19 +16,20 @@ use std::sync::ledger::Ledger;
 pub struct Table<K: Kind> {
     rows: Vec<Option<Row<K>>>,
     lines: Vec<Option<Line>>,
+    starts: Starts,
     cells: Vec<K::Cell>,
 }
 
 impl<K: Kind> Model for Table<K> {
     ghost use Rattle.std.specs.Prelude.{List, Option};
     ghost use Rattle.som_tables.specs.Rows.{Added};
-    ghost use Rattle.som_tables.specs.Layout.{IsTable};
+    ghost use Rattle.som_tables.specs.Layout.{IsTable, start_of};
 
     ghost Value = { List (Option (Added K.Cell)) };
 
     ghost view = { λ t. t.rows.items };
 
-    ghost invariant = { λ t. IsTable t.rows.items t.lines.items t.cells.items };
+    ghost invariant = { λ t. IsTable t.rows.items t.lines.items (start_of t.starts) t.cells.items };
 }
 
 /// Puts a value at a place.
@@ -45,6 +48,7 @@ impl<K: Kind> Table<K> {
         Table {
             rows: Vec::new(alloc),
             lines: Vec::new(alloc),
+            starts: HashMap::new(alloc),
             cells: Vec::new(alloc),
         }
     }
@@ -65,7 +69,7 @@ impl<K: Kind> Table<K> {
     }
 
     /// Gives a class its row, below its parents, all of which have theirs. Where parents have different cells for a token, the leftmost of them counts.
-    /// The row takes four bytes for each class up to it, the introduced cells, and a copy of each inherited block of cells in which one is replaced.
+    /// The row takes a few bytes for each class whose cells it has, the introduced cells, and a copy of each inherited block of cells in which one is replaced.
     /// A table of more than 4,294,967,294 cells counts as want of memory.
     pub fn fill(
         &mut self,
@@ -92,9 +96,10 @@ impl<K: Kind> Table<K> {
             alloc,
             self.rows.as_slice(),
             self.lines.as_slice(),
+            &mut self.starts,
             &mut self.cells,
             &row,
-            class.number(),
+            class,
         )?;
         let place = class.number() as usize;
         put(&mut self.rows, place, row);
@@ -160,7 +165,7 @@ impl<K: Kind> Table<K> {
         Token::new(class, place)
     }
 
-    /// The cell of a token in the row of a class, by two reads of that row, each of which is a step.
+    /// The cell of a token in the row of a class, by two reads, each of which is a step: where its block begins, and the cell.
     pub fn resolve<L: Ledger>(
         &self,
         class: ClassNo,
@@ -171,12 +176,13 @@ impl<K: Kind> Table<K> {
         ensures cell { Some result ≡ inherited self.now class token }
         ensures cost { steps.new ≡ steps.old + 2 }
     {
-        let starts = starts_of(self.lines.as_slice(), class.number());
-        let start = steps.read(starts, token.class().number() as usize);
-        steps.read(
-            self.cells.as_slice(),
-            start.place() + token.place() as usize,
-        )
+        match steps.look_up(&self.starts, class, token.class()) {
+            Some(start) => steps.read(
+                self.cells.as_slice(),
+                start as usize + token.place() as usize,
+            ),
+            None => unreachable!(),
+        }
     }
 
     /// The same cell as `resolve` gives, with no step counted.
@@ -184,8 +190,9 @@ impl<K: Kind> Table<K> {
         requires { HasToken self.now class token }
         ensures { Some result ≡ inherited self.now class token }
     {
-        let starts = starts_of(self.lines.as_slice(), class.number());
-        let start = starts[token.class().number() as usize];
-        self.cells[start.place() + token.place() as usize]
+        match start_in(&self.starts, class, token.class()) {
+            Some(start) => self.cells[start as usize + token.place() as usize],
+            None => unreachable!(),
+        }
     }
 }

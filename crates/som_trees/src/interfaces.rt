@@ -4,14 +4,6 @@ use crate::lines::Lines;
 use som_idl::{Export, IdlFile, IdlInterface, Item, Modifier, Param};
 use som_model::NoMemory;
 
-fn modifier_name(modifier: Modifier) -> &'static str {
-    match modifier {
-        Modifier::Override => "override,",
-        Modifier::NameLookup => "namelookup,",
-        Modifier::Offset => "offset,",
-    }
-}
-
 impl Lines {
     /// Adds a line for each interface.
     pub(crate) fn add_interfaces(&mut self, file: &IdlFile) -> Result<(), NoMemory> {
@@ -117,8 +109,18 @@ impl Lines {
 
     fn add_modifiers(&mut self, modifiers: &[Modifier]) -> Result<(), NoMemory> {
         for modifier in modifiers {
-            self.add(modifier_name(*modifier))?;
+            self.add_modifier(modifier)?;
+            self.add(",")?;
         }
         Ok(())
+    }
+
+    fn add_modifier(&mut self, modifier: &Modifier) -> Result<(), NoMemory> {
+        match modifier {
+            Modifier::Override => self.add("override"),
+            Modifier::NameLookup => self.add("namelookup"),
+            Modifier::Offset => self.add("offset"),
+            Modifier::Select { parent } => self.add_part("select ", parent),
+        }
     }
 }

@@ -1,4 +1,5 @@
-ghost use Rattle.som_model.specs.Conforming.{ProgramOk, ReleaseOk, declared_breach, declared_program_breach, program_breach, release_breach};
+ghost use Rattle.som_model.specs.Classes.{interface_classes};
+ghost use Rattle.som_model.specs.Conforming.{ProgramOk, ReleaseOk, declared_breach, declared_program_breach, faces_breach, program_breach, release_breach};
 ghost use Rattle.som_model.specs.declared.program.ClientProgram.{ClientProgram};
 ghost use Rattle.som_model.specs.declared.program.Release.{Release};
 ghost use Rattle.som_rules.specs.Plainly.{ProgramHolds, RulesHold};
@@ -13,6 +14,12 @@ pub fn rules_law()
 /// all of its members.
 pub fn program_law()
     ensures { (p : ClientProgram) → (declared_program_breach p ≡ None) ↔ ProgramHolds p }
+{}
+
+/// Where a client program breaks no rule that looks at no block, the faces that it was compiled against break none
+/// by themselves, so that they may be compared with others.
+pub fn base_law()
+    ensures { (p : ClientProgram) → declared_program_breach p ≡ None → faces_breach (interface_classes p.base) ≡ None }
 {}
 
 /// A release conforms exactly where it has no breach.

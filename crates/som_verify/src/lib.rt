@@ -5,7 +5,7 @@ mod laws;
 mod program;
 mod release;
 
-pub use laws::{client_law, program_law, release_law, rules_law};
+pub use laws::{base_law, client_law, program_law, release_law, rules_law};
 pub use program::{program_ok, program_rules};
 pub use release::release_ok;
 pub use som_rules::{Broken, VerifyFault};

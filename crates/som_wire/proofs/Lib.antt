@@ -3,6 +3,8 @@ pub mod Made
 pub mod ExprFields
 pub mod StmtFields
 pub mod PartFields
+pub mod SelectFields
+pub mod Ascending
 pub mod Fits
 pub mod Written
 pub mod SomeFits

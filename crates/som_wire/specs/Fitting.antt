@@ -1,7 +1,7 @@
 -- Which expressions, statements and blocks can stand where so many levels are left, of so many classes, with methods that fit; and which parts.
-use Rattle.std.specs.Prelude.{◌≡◌, ℕ, zero, suc, ◌-◌, ◌<◌, ◌^◌, Bool, true, false, IsTrue, FitsSigned, List, length, All}
+use Rattle.std.specs.Prelude.{◌≡◌, ℕ, zero, suc, ◌-◌, ◌<◌, ◌≤◌, ◌^◌, Bool, true, false, IsTrue, FitsSigned, List, [], ◌∷◌, length, All}
 use Rattle.std.specs.Int.{w32}
-use Rattle.som_model.specs.declared.limits.TheConstants.{MAX_PARAMETERS, MAX_VARIABLES, MAX_OVERRIDES}
+use Rattle.som_model.specs.declared.limits.TheConstants.{MAX_PARAMETERS, MAX_VARIABLES, MAX_OVERRIDES, MAX_SELECTS}
 use Rattle.som_fields.specs.declared.method.WireMethod.{WireMethod}
 use Rattle.som_fields.specs.Spelling.{FitsText, FitsCounted, FitsKind, FitsMethod, FitsSomeRanges, most_classes}
 use Rattle.som_fields.specs.declared.method.Ranges.{Ranges}
@@ -10,6 +10,8 @@ use Rattle.som_wire.specs.declared.syntax.WireBody.{WireBody}
 use Rattle.som_wire.specs.declared.syntax.WireBody.TheVariants as bodies
 use Rattle.som_wire.specs.declared.syntax.WireOverride.{WireOverride}
 use Rattle.som_wire.specs.declared.syntax.WirePart.{WirePart}
+use Rattle.som_wire.specs.declared.selects.WireSelect.{WireSelect}
+use Rattle.som_wire.specs.declared.selects.WireSelects.{WireSelects}
 use Rattle.som_wire.specs.declared.syntax.WireExpr.{WireExpr, out-WireExpr}
 use Rattle.som_wire.specs.declared.syntax.WireExpr.TheOpen.{WireExpr-F}
 use Rattle.som_wire.specs.declared.syntax.WireStmt.{WireStmt, out-WireStmt}
@@ -142,3 +144,33 @@ pub record FitsSomePart (p : WirePart) : Type 0 where
   pub variables : FitsCounted 0 MAX_VARIABLES (FitsVariable most_classes) p.variables
   pub bodies : (length p.bodies < 2 ^ 16) × All (FitsBody most_classes FitsSomeRanges) p.bodies
   pub overrides : FitsCounted 0 MAX_OVERRIDES (FitsOverride most_classes FitsSomeRanges) p.overrides
+
+-- ---- selects
+
+pub record FitsSelect (Method : WireMethod → Type 0) (s : WireSelect) : Type 0 where
+  pub method : Method s.method
+  pub parent : s.parent < 2 ^ 8
+
+-- the selects of a class that has some
+abbrev pub FitsOwnSelects : (WireMethod → Type 0) → WireSelects → Type 0
+FitsOwnSelects Method c = FitsCounted 1 MAX_SELECTS (FitsSelect Method) c.selects
+
+-- the selects of one of so many classes, whose number is least or greater
+pub record FitsClassSelects (classes : ℕ) (Method : WireMethod → Type 0) (least : ℕ) (c : WireSelects) : Type 0 where
+  pub reached : least ≤ c.class
+  pub below : c.class < classes
+  pub selects : FitsOwnSelects Method c
+
+-- classes with ascending numbers, of which the first is least or greater
+abbrev pub FitAscending : ℕ → (WireMethod → Type 0) → ℕ → List WireSelects → Type 0
+FitAscending classes Method least [] = Unit {0}
+FitAscending classes Method least (c ∷ cs) = FitsClassSelects classes Method least c × FitAscending classes Method (suc c.class) cs
+
+-- the selects of some of the classes with the numbers from first on, and of one at least
+pub record FitsSelects (classes : ℕ) (Method : WireMethod → Type 0) (first : ℕ) (cs : List WireSelects) : Type 0 where
+  pub some : 1 ≤ length cs
+  pub ascend : FitAscending classes Method first cs
+
+-- selects that can stand somewhere
+abbrev pub FitsSomeSelects : List WireSelects → Type 0
+FitsSomeSelects cs = FitsSelects most_classes FitsSomeRanges 0 cs

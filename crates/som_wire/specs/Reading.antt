@@ -1,7 +1,7 @@
 -- How expressions, statements, blocks and parts are read at a place, where so many levels are left: each field in order, and the first fault.
-use Rattle.std.specs.Prelude.{ℕ, ℤ, zero, suc, ◌==◌, nat_lt, nat_le, ◌&&◌, Bool, true, false, if◌then◌else◌, List, Result, Ok, Err}
+use Rattle.std.specs.Prelude.{ℕ, ℤ, zero, suc, ◌-◌, ◌==◌, nat_lt, nat_le, ◌&&◌, ◌||◌, Bool, true, false, if◌then◌else◌, List, [], ◌∷◌, Result, Ok, Err}
 use Rattle.std.specs.Int.{w8, w16, w32, cast_signed}
-use Rattle.som_model.specs.declared.limits.TheConstants.{MAX_PARAMETERS, MAX_VARIABLES, MAX_OVERRIDES}
+use Rattle.som_model.specs.declared.limits.TheConstants.{MAX_PARAMETERS, MAX_VARIABLES, MAX_OVERRIDES, MAX_SELECTS}
 use Rattle.som_model.specs.declared.syntax.HostCode.{HostCode}
 use Rattle.som_model.specs.declared.syntax.HostCode.TheVariants as hosts
 use Rattle.som_model.specs.Steps.{◌>>=◌}
@@ -16,6 +16,8 @@ use Rattle.som_wire.specs.declared.syntax.WireBody.{WireBody}
 use Rattle.som_wire.specs.declared.syntax.WireBody.TheVariants as bodies
 use Rattle.som_wire.specs.declared.syntax.WireOverride.{WireOverride}
 use Rattle.som_wire.specs.declared.syntax.WirePart.{WirePart}
+use Rattle.som_wire.specs.declared.selects.WireSelect.{WireSelect}
+use Rattle.som_wire.specs.declared.selects.WireSelects.{WireSelects}
 use Rattle.som_wire.specs.declared.syntax.WireExpr.{WireExpr}
 use Rattle.som_wire.specs.declared.syntax.WireExpr.TheVariants as exprs
 use Rattle.som_wire.specs.declared.syntax.WireStmt.{WireStmt}
@@ -219,3 +221,36 @@ overrides_at ranges bytes = counted_at (number_at w16 bytes) 0 MAX_OVERRIDES (ov
 -- the variables, so many bodies, and the overrides
 unfoldable pub part_at : Ranges → ℕ → Reads WirePart
 part_at ranges introduced = of_three (variables_at ranges.classes) (bodies_at ranges introduced) (overrides_at ranges) (λ variables bodies overrides. record { variables = variables; bodies = bodies; overrides = overrides })
+
+-- ---- selects
+
+unfoldable pub select_at : Ranges → Reads WireSelect
+select_at ranges = of_two (method_at ranges) (number_at w8) (λ method parent. record { method = method; parent = parent })
+
+-- the selects of one class
+abbrev pub own_selects_at : Ranges → Reads (List WireSelect)
+own_selects_at ranges bytes = counted_at (number_at w16 bytes) 1 MAX_SELECTS (select_at ranges bytes)
+
+-- the number of one of so many classes that is least or greater
+unfoldable pub class_from_at : ℕ → ℕ → Reads ℕ
+class_from_at least classes bytes place = do
+  n ← number_at w16 bytes place
+  if nat_le least n.value && nat_lt n.value classes then Ok n else Err (faults.Number place)
+
+-- the number of a class, and its selects
+unfoldable pub class_selects_at : Ranges → ℕ → Reads WireSelects
+class_selects_at ranges least = of_two (class_from_at least ranges.classes) (own_selects_at ranges) (λ class selects. record { class = class; selects = selects })
+
+-- the selects of so many classes, each with a greater number than the one before
+unfoldable pub ascending_at : Ranges → ℕ → ℕ → Reads (List WireSelects)
+ascending_at ranges zero least bytes place = done [] place
+ascending_at ranges (suc n) least bytes place = do
+  first ← class_selects_at ranges least bytes place
+  others ← ascending_at ranges n (suc first.value.class) bytes first.next
+  done (first.value ∷ others.value) others.next
+
+-- how many of the classes with the numbers from first on have selects, and the selects of each
+unfoldable pub selects_at : Ranges → ℕ → Reads (List WireSelects)
+selects_at ranges first bytes place = do
+  count ← number_at w16 bytes place
+  if nat_lt count.value 1 || nat_lt (ranges.classes - first) count.value then Err (faults.Number place) else ascending_at ranges count.value first bytes count.next

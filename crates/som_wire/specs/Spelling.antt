@@ -10,6 +10,8 @@ use Rattle.som_wire.specs.declared.syntax.WireBody.{WireBody}
 use Rattle.som_wire.specs.declared.syntax.WireBody.TheVariants as bodies
 use Rattle.som_wire.specs.declared.syntax.WireOverride.{WireOverride}
 use Rattle.som_wire.specs.declared.syntax.WirePart.{WirePart}
+use Rattle.som_wire.specs.declared.selects.WireSelect.{WireSelect}
+use Rattle.som_wire.specs.declared.selects.WireSelects.{WireSelects}
 use Rattle.som_wire.specs.declared.syntax.WireExpr.{WireExpr, fold-WireExpr}
 use Rattle.som_wire.specs.declared.syntax.WireExpr.TheOpen.{WireExpr-F}
 use Rattle.som_wire.specs.declared.syntax.WireStmt.{WireStmt, fold-WireStmt}
@@ -98,3 +100,17 @@ overridden o = method o.method ++ block o.block
 -- the bodies have no number before them: there is one for each introduced entry
 abbrev pub part : WirePart → List ℕ
 part p = counted w8 variable p.variables ++ flat_map body p.bodies ++ counted w16 overridden p.overrides
+
+-- ---- selects
+
+-- a method, and the place of a parent
+abbrev pub select : WireSelect → List ℕ
+select s = method s.method ++ number w8 s.parent
+
+-- the number of a class, and its selects
+abbrev pub class_selects : WireSelects → List ℕ
+class_selects c = number w16 c.class ++ counted w16 select c.selects
+
+-- the classes that have selects
+abbrev pub selects : List WireSelects → List ℕ
+selects cs = counted w16 class_selects cs

@@ -15,6 +15,7 @@ mod laws;
 mod operand;
 mod pair;
 mod part;
+mod selects;
 mod stmt;
 mod syntax;
 mod write_expr;
@@ -24,6 +25,7 @@ mod write_stmt;
 pub use block::{read_block, write_block};
 pub use laws::{no_spelling_begins_another, what_fits_can_be_written, what_was_written_is_read};
 pub use part::{read_part, write_part};
+pub use selects::{WireSelect, WireSelects, read_selects, write_selects};
 pub use som_fields::{
     EncodeFault, ImageFault, Ranges, Read, WireEntry, WireFace, WireMethod, WireSig, WireType,
     read_entry, read_face, read_method, read_sig, read_text, read_type, read_u8, read_u16,

@@ -9,8 +9,11 @@ ghost use Rattle.som_wire.specs.Reading.{
   stmt_at,
   too_deep,
 };
+ghost use Rattle.som_wire.specs.Making.{of_two};
+ghost use Rattle.som_wire.specs.declared.syntax.WireStmt.TheVariants as stmts;
 ghost use Rattle.som_fields.specs.Fields.{Gives};
-ghost use Rattle.std.specs.Prelude.{◌≡◌, ◌≤◌, length, IfOk};
+ghost use Rattle.som_fields.specs.Reading.{kind_at};
+ghost use Rattle.std.specs.Prelude.{◌≡◌, ◌≤◌, false, length, IfOk};
 
 use crate::call::read_call;
 use crate::expr::{read_expr, read_operand};
@@ -73,18 +76,7 @@ fn read_tagged_stmt(
 {
     let next = tag.next;
     let (statement, next) = match tag.value {
-        0x01 => {
-            let kind = read_type(bytes, next, ranges.classes, false)?;
-            let value = read_expr(alloc, bytes, kind.next, ranges, left)?;
-            let (kind, next) = (kind.value, value.next);
-            (
-                WireStmt::Var {
-                    kind,
-                    value: value.value,
-                },
-                next,
-            )
-        }
+        0x01 => return read_var(alloc, bytes, ranges, left, next),
         0x02 => {
             let local = read_u16(bytes, next)?;
             let value = read_expr(alloc, bytes, local.next, ranges, left)?;
@@ -114,6 +106,30 @@ fn read_tagged_stmt(
     Ok(Read {
         value: statement,
         next,
+    })
+}
+
+// The type and the value of a local.
+fn read_var(
+    alloc: Global,
+    bytes: &List<u8>,
+    ranges: &Ranges,
+    left: u8,
+    place: usize,
+) -> Result<Read<WireStmt>, ImageFault>
+    requires place { place ≤ length bytes.now }
+    requires entries { length ranges.now.entries ≡ ranges.now.classes }
+    ensures exact { Gives result (of_two (kind_at ranges.now.classes false) (expr_at left ranges.now) stmts.Var bytes.now place) }
+    ensures next { IfOk result (λ r. r.next ≤ length bytes.now) }
+{
+    let kind = read_type(bytes, place, ranges.classes, false)?;
+    let value = read_operand(alloc, bytes, kind.next, ranges, left)?;
+    Ok(Read {
+        value: WireStmt::Var {
+            kind: kind.value,
+            value: value.value.into_inner(),
+        },
+        next: value.next,
     })
 }
 

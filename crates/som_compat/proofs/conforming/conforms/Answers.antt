@@ -18,7 +18,7 @@ pub returns-in-Ok : goal.returns-in-Ok
 returns-in-Ok c = (
   (λ _. record {
     rules = ap faces_breach (sym (same c.args.interface.now.classes c.as_slice-faces.result.now c.in_ok-classes.classes.items c.deref.result.now c.as_slice-faces.ensures c.in_ok-classes.ensures c.deref.ensures.value)) ∙ c.in-Ok.ensures;
-    classes = let e = c.as_slice-faces.ensures in let f = c.if-faces-gt4096.false in rw (sym e) (omega (arith, f));
+    classes = let e = c.as_slice-faces.ensures in let f = c.if-faces.false in rw (sym e) (omega (arith, f));
     counts = subst (λ (z : List ClassFace). All IsCounted z) c.as_slice-faces.ensures (c.are_counted.ensures.0 c.if-not-are_counted.false);
   }),
   (λ k. refl),

@@ -7,7 +7,7 @@ use Rattle.som_rules.proofs.DeclaredClasses.{long_map}
 use Rattle.som_elab.specs.Contexts.{among_in, classes_in}
 use Rattle.som_elab.specs.Texts.{given}
 use Rattle.som_elab.proofs.ClassSteps.{class_next, class_stops}
-use Rattle.som_elab.proofs.ContextLaws.{own_class, own_within}
+use Rattle.som_elab.proofs.ContextLaws.{own_class, own_fits, parents_fit}
 use Rattle.som_elab.proofs.classes.all_bodies.Goals as goal
 
 pub class_bodies-requires-clause-class : goal.class_bodies-requires-clause-class
@@ -15,8 +15,16 @@ class_bodies-requires-clause-class c =
     ap (λ (z : Class). z.decl) (own_class c.args.context.now.scope.now.module (classes_of c.args.context.now.known.classes.now) c.args.drafts.now c.requires.stand c.loop-index.index c.index-drafts-index.result
     (length c.args.context.now.known.classes.now - length c.args.drafts.now + 4 + c.loop-index.index) c.loop-index-test.true c.index-drafts-index.is (omega (arith, long_map class_of c.args.context.now.known.classes.now)))
 
-pub class_bodies-requires-clause-limits : goal.class_bodies-requires-clause-limits
-class_bodies-requires-clause-limits c = own_within c.args.drafts.now c.loop-index.index c.index-drafts-index.result c.loop-index-test.true c.index-drafts-index.is c.requires.limits
+pub class_bodies-requires-clause-fits : goal.class_bodies-requires-clause-fits
+class_bodies-requires-clause-fits c =
+    let place = length c.args.context.now.known.classes.now - length c.args.drafts.now + 4 + c.loop-index.index in
+    own_fits (classes_in c.args.context.now) c.args.context.now.scope.now.module c.args.drafts.now c.loop-index.index c.index-drafts-index.result place c.loop-index-test.true c.index-drafts-index.is c.requires.limits
+    (own_class c.args.context.now.scope.now.module (classes_of c.args.context.now.known.classes.now) c.args.drafts.now c.requires.stand c.loop-index.index c.index-drafts-index.result
+    place c.loop-index-test.true c.index-drafts-index.is (omega (arith, long_map class_of c.args.context.now.known.classes.now)))
+
+pub class_bodies-requires-clause-parents : goal.class_bodies-requires-clause-parents
+class_bodies-requires-clause-parents c =
+    parents_fit c.args.context.now.scope.now.module (classes_of c.args.context.now.known.classes.now) c.args.drafts.now c.requires.stand c.loop-index.index c.index-drafts-index.result c.loop-index-test.true c.index-drafts-index.is c.requires.limits
 
 pub returns-in_err-bodies : goal.returns-in_err-bodies
 returns-in_err-bodies c =

@@ -21,6 +21,7 @@ bodies_among-requires-clause-stand c = record {
   front = map (class_in modules.Library) c.args.base.now;
   are = ap classes_of c.as_slice.ensures.value ∙ c.in_ok-classes.ensures;
   few = c.requires.few;
+  parents = c.requires.parents;
 }
 
 pub returns : goal.returns

@@ -1,11 +1,13 @@
-use Rattle.std.proofs.Common.{length, option_copied, ap, ◌∙◌}
+use Rattle.std.proofs.Common.{length, option_copied, sym, ap, ◌∙◌, subst}
 use Rattle.som_model.specs.Class.{bare}
 use Rattle.som_scope.specs.ClassNames.{face_names, module_in_scope, kernel_names, module_by_names}
 use Rattle.som_sema.specs.Drafts.{plain_drafts}
 use Rattle.som_scope.specs.Words.{interface_names, lent, once}
 use Rattle.som_sema.proofs.Finishing.{base_is}
 use Rattle.som_rules.proofs.DeclaredClasses.{long_map}
+use Rattle.som_elab.specs.Contexts.{ParentsCounted}
 use Rattle.som_elab.specs.Texts.{given}
+use Rattle.som_elab.proofs.Declared.{parents_counted}
 use Rattle.som_elab.proofs.ModuleLaws.{few_over, rules_over, steps_over}
 use Rattle.som_elab.proofs.elaborated.bodies_over.Goals as goal
 
@@ -24,6 +26,9 @@ bodies_after-requires-clause-few c =
     c.in_ok-scope.ensures.own (base_is c.args.base.now c.as_slice.result.now c.as_slice-known.result.now bares c.as_slice-known.ensures) c.requires.drafted
     (c.in_ok-scope.ensures.names ∙ ap (λ z. module_by_names c.args.own_module (once (interface_names (lent c.args.interfaces.now))) (once (face_names z)) kernel_names) c.as_slice-known.ensures)
     c.requires.few
+
+pub bodies_after-requires-clause-parents : goal.bodies_after-requires-clause-parents
+bodies_after-requires-clause-parents c = subst ParentsCounted (sym c.requires.drafted) (parents_counted c.args.own_module c.args.base.now (lent c.args.interfaces.now))
 
 pub returns : goal.returns
 returns c =

@@ -1,7 +1,7 @@
 use Rattle.std.proofs.Common.{◌≡◌, drop}
 use Rattle.som_elab.specs.Limits.{limit_passed}
-use Rattle.som_sema.specs.Drafts.{plain_drafts, draft_classes}
+use Rattle.som_sema.specs.Drafts.{plain_drafts}
 use Rattle.som_elab.proofs.limits.limits_kept.Given as goal
 
 abbrev pub invariant-loop-draft : goal.invariant-loop-draft
-invariant-loop-draft l = limit_passed (draft_classes (plain_drafts (drop l.draft-index l.drafts))) ≡ limit_passed (draft_classes (plain_drafts l.drafts))
+invariant-loop-draft l = limit_passed (plain_drafts (drop l.draft-index l.drafts)) ≡ limit_passed (plain_drafts l.drafts)

@@ -5,23 +5,24 @@ use Rattle.som_read.proofs.Loops.{turn_first_from, turn_done, turn_more, turn_st
 use Rattle.som_read.specs.declared.cursor.Stop.TheVariants.{Memory}
 use Rattle.som_idl.specs.declared.tree.Modifier.{Modifier}
 use Rattle.som_read.specs.Readers.{listed, another}
+use Rattle.som_read.specs.Seen.{text_at}
 use Rattle.som_idl.specs.Reading as spec
 use Rattle.som_idl.proofs.item.modifiers.Goals as goal
 
 pub loop-turn-init : goal.loop-turn-init
 unfolding listed
-loop-turn-init c = record { same = turn_first_from (another spec.modifier) (λ (x : Modifier). x ∷ []) _ _ _ _ _ c.in_ok-first.ensures (first_of (search rules, grind (arith, common_steps))) (omega arith) }
+loop-turn-init c = record { same = turn_first_from (another (spec.modifier (text_at c.args.tokens.now))) (λ (x : Modifier). x ∷ []) _ _ _ _ _ c.in_ok-first.ensures (first_of (search rules, grind (arith, common_steps))) (omega arith) }
 
 pub returns-in-Done : goal.returns-in-Done
-returns-in-Done c = turn_done (another spec.modifier) _ c.loop-turn._turn c.loop-turn.so_far c.loop-turn.left.rest.now _ c.loop-turn.invariant.same _ _ c.loop-turn-test.true (rw c.in-Done.is at c.in_ok-more.ensures)
+returns-in-Done c = turn_done (another (spec.modifier (text_at c.args.tokens.now))) _ c.loop-turn._turn c.loop-turn.so_far c.loop-turn.left.rest.now _ c.loop-turn.invariant.same _ _ c.loop-turn-test.true (rw c.in-Done.is at c.in_ok-more.ensures)
 
 pub returns-in_err-more : goal.returns-in_err-more
 returns-in_err-more c =
     let p = err_from_is_err_and c.from_residual-in_err-more.result c.from_residual-in_err-more.ensures.1 in
-    rw (p.1, p.2) (λ (here : c.in_err-more.field-0.0 ≢ Memory). turn_stops (another spec.modifier) _ c.loop-turn._turn c.loop-turn.so_far c.loop-turn.left.rest.now _ c.loop-turn.invariant.same _ _ c.loop-turn-test.true (c.in_err-more.ensures here))
+    rw (p.1, p.2) (λ (here : c.in_err-more.field-0.0 ≢ Memory). turn_stops (another (spec.modifier (text_at c.args.tokens.now))) _ c.loop-turn._turn c.loop-turn.so_far c.loop-turn.left.rest.now _ c.loop-turn.invariant.same _ _ c.loop-turn-test.true (c.in_err-more.ensures here))
 
 pub loop-turn-preserved : goal.loop-turn-preserved
-loop-turn-preserved c = record { same = turn_more (another spec.modifier) _ c.loop-turn._turn c.loop-turn.so_far c.loop-turn.left.rest.now _ c.loop-turn.invariant.same _ _ c.loop-turn-test.true (rw c.in-More.is at c.in_ok-more.ensures) }
+loop-turn-preserved c = record { same = turn_more (another (spec.modifier (text_at c.args.tokens.now))) _ c.loop-turn._turn c.loop-turn.so_far c.loop-turn.left.rest.now _ c.loop-turn.invariant.same _ _ c.loop-turn-test.true (rw c.in-More.is at c.in_ok-more.ensures) }
 
 pub returns : goal.returns
-returns c = λ here. turn_none (another spec.modifier) _ c.loop-turn._turn c.loop-turn.so_far c.loop-turn.left.rest.now _ c.loop-turn.invariant.same c.loop-turn-test.false
+returns c = λ here. turn_none (another (spec.modifier (text_at c.args.tokens.now))) _ c.loop-turn._turn c.loop-turn.so_far c.loop-turn.left.rest.now _ c.loop-turn.invariant.same c.loop-turn-test.false

@@ -7,6 +7,6 @@ pub returns-clause-forth : goal.returns-clause-forth
 returns-clause-forth c = λ d cs b tells single fits. block_forth d cs tells single 32 1 (omega arith) b fits
 
 pub returns-clause-back : goal.returns-clause-back
-returns-clause-back c = λ d cs b bytes tells within given.
-    let f = block_back d cs tells 32 1 b within bytes given in
+returns-clause-back c = λ d cs b bytes tells given.
+    let f = block_back d cs tells 32 1 (omega arith) b bytes given in
     record { block = f.it; spelled = f.spelled; fits = f.fits; named = f.names }

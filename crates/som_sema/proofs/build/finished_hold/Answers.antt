@@ -1,23 +1,24 @@
-use Rattle.std.proofs.Common.{List, ap, sym, ◌∙◌, subst, refl}
-use Rattle.som_model.specs.Class.{Class}
-use Rattle.som_rules.specs.Faces.{faces_breach}
-use Rattle.som_rules.specs.Modules.{classes_of}
-use Rattle.som_rules.specs.Told.{Tells}
-use Rattle.som_sema.specs.Ancestry.{IsAncestorTable}
-use Rattle.som_sema.proofs.Finishing.{base_front, moved_is}
+use Rattle.std.proofs.Common.{ap, ◌∙◌, sym, refl}
+use Rattle.std.proofs.lemmas.Result.{err_from_is_err_and}
+use Rattle.som_scope.specs.ClassNames.{module_in_scope}
+use Rattle.som_sema.specs.Drafts.{plain_drafts}
+use Rattle.som_sema.proofs.Finishing.{inherited_is}
+use Rattle.som_sema.proofs.Telling.{after_none, here, later, told_as}
 use Rattle.som_sema.proofs.build.finished_hold.Goals as goal
 
-pub moves_hold-requires-clause-ancestors : goal.moves_hold-requires-clause-ancestors
-moves_hold-requires-clause-ancestors c =
-    let same = ap classes_of c.as_slice-known.ensures.value ∙ c.in_ok-classes.ensures in
-    subst (λ (z : List Class). IsAncestorTable z c.args.ancestors.now) (sym same) c.requires.ancestors
+pub returns-in_err-replaced_inherited : goal.returns-in_err-replaced_inherited
+returns-in_err-replaced_inherited c =
+    let p = err_from_is_err_and c.from_residual-in_err-replaced_inherited.result c.from_residual-in_err-replaced_inherited.ensures.1 in
+    let same = inherited_is (module_in_scope c.args.scope.now) c.args.scope.now.module c.args.known.now c.args.base.now (plain_drafts c.args.drafts.now) _ c.requires.known refl in
+    rw (p.1, p.2) (later _ _ _ c.in_ok-entries_hold.ensures (here _ _ _ (told_as _ _ _ same c.in_err-replaced_inherited.ensures)))
 
-pub moves_hold-requires-clause-conforms : goal.moves_hold-requires-clause-conforms
-moves_hold-requires-clause-conforms c =
-    let same = ap classes_of c.as_slice-known.ensures.value ∙ c.in_ok-classes.ensures in
-    ap faces_breach (base_front c.args.own_module c.as_slice-known.result.now c.args.base.now c.args.own.now _ same refl) ∙ c.requires.conforms
+pub returns-in_err-modifiers_stand : goal.returns-in_err-modifiers_stand
+returns-in_err-modifiers_stand c =
+    let p = err_from_is_err_and c.from_residual-in_err-modifiers_stand.result c.from_residual-in_err-modifiers_stand.ensures.1 in
+    let same = inherited_is (module_in_scope c.args.scope.now) c.args.scope.now.module c.args.known.now c.args.base.now (plain_drafts c.args.drafts.now) _ c.requires.known refl in
+    rw (p.1, p.2) (later _ _ _ c.in_ok-entries_hold.ensures (later _ _ _ (sym same ∙ c.in_ok-replaced_inherited.ensures) (here _ _ _ c.in_err-modifiers_stand.ensures)))
 
 pub returns : goal.returns
 returns c =
-    let same = ap classes_of c.as_slice-known.ensures.value ∙ c.in_ok-classes.ensures in
-    subst (λ o. Tells o c.moves_hold.result) (moved_is c.args.own_module c.as_slice-known.result.now c.args.base.now c.args.own.now _ same refl) c.moves_hold.ensures
+    let same = inherited_is (module_in_scope c.args.scope.now) c.args.scope.now.module c.args.known.now c.args.base.now (plain_drafts c.args.drafts.now) _ c.requires.known refl in
+    after_none _ _ _ c.in_ok-entries_hold.ensures (after_none _ _ _ (sym same ∙ c.in_ok-replaced_inherited.ensures) (after_none _ _ _ c.in_ok-modifiers_stand.ensures c.items_differ.ensures))

@@ -1,3 +1,4 @@
+use Rattle.som_sema.proofs.TextInherited.{inherited_law}
 use Rattle.som_sema.proofs.TextLaws.{bases_law, items_law, metaclasses_law, modifiers_law, names_law}
 use Rattle.som_sema.proofs.laws.text_rules_law.Goals as goal
 
@@ -15,3 +16,6 @@ returns-clause-modifiers c = modifiers_law
 
 pub returns-clause-items : goal.returns-clause-items
 returns-clause-items c = items_law
+
+pub returns-clause-inherited : goal.returns-clause-inherited
+returns-clause-inherited c = inherited_law

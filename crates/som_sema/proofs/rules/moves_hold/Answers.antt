@@ -1,5 +1,5 @@
 use Rattle.som_rules.specs.Modules.{classes_of}
-use Rattle.som_sema.proofs.Composing.{all_moved, table_lists, table_names}
+use Rattle.som_sema.proofs.Composing.{table_lists, table_names}
 use Rattle.som_sema.proofs.rules.moves_hold.Goals as goal
 
 pub names_introduced_once-requires-clause-lists : goal.names_introduced_once-requires-clause-lists
@@ -10,12 +10,3 @@ entries_moved_up-requires-clause-table c = table_names (classes_of c.args.classe
 
 pub entries_moved_up-requires-clause-lists : goal.entries_moved_up-requires-clause-lists
 entries_moved_up-requires-clause-lists c = table_lists (classes_of c.args.classes.now) c.args.ancestors.now c.as_slice-lists.result.now c.requires.ancestors c.as_slice-lists.ensures.value
-
-pub overrides_inherited-requires-clause-table : goal.overrides_inherited-requires-clause-table
-overrides_inherited-requires-clause-table c = table_names (classes_of c.args.classes.now) c.args.ancestors.now c.requires.ancestors
-
-pub overrides_inherited-requires-clause-lists : goal.overrides_inherited-requires-clause-lists
-overrides_inherited-requires-clause-lists c = table_lists (classes_of c.args.classes.now) c.args.ancestors.now c.as_slice-lists.result.now c.requires.ancestors c.as_slice-lists.ensures.value
-
-pub overrides_inherited-requires-clause-moved : goal.overrides_inherited-requires-clause-moved
-overrides_inherited-requires-clause-moved c = all_moved c.args.classes.now c.args.base c.args.ancestors.now c.requires.ancestors c.requires.conforms c.in_ok-entries_moved_up.ensures

@@ -1,13 +1,9 @@
-use Rattle.som_tables.proofs.Options.{Extends-trans}
-use Rattle.som_tables.proofs.NextBlocks.{IsLine-push}
+use Rattle.som_tables.proofs.NextBlocks.{AreBlocks-own}
 use Rattle.som_tables.proofs.blocks.extend_cells.Goals as goal
 
-pub returns : goal.returns
-returns g c =
-    let i = c.in_ok-lay_blocks.ensures in
-    let row = c.args.row.now in
-    record {
-      grown = Extends-trans _ _ _ i.grown c.in_ok-extend.ensures.grown;
-      line = rw (c.in_ok-push.ensures.ok, c.in_ok-extend.ensures.ok, c.introduced-2.ensures)
-          (IsLine-push c.args.rows.now c.args.class row c.lay_blocks.new.line c.lay_blocks.new.cells.items c.in_ok-own.own i.long i.blocks (rw c.introduced.ensures at c.in_ok-own.ensures));
-    }
+pub returns-clause-blocks : goal.returns-clause-blocks
+returns-clause-blocks g c =
+    let laid = c.in_ok-lay_blocks.ensures in
+    let own = c.in_ok-lay_own.ensures in
+    AreBlocks-own c.args.rows.now c.args.starts.now c.args.class c.args.row.now c.args.line.now c.lay_blocks.new.blocks.items c.lay_own.new.blocks.items c.lay_blocks.new.cells.items c.lay_own.new.cells.items
+    c.requires.none own.grown laid.shared laid.each laid.inside (rw c.introduced.ensures at own.added)

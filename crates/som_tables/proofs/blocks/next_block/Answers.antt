@@ -1,32 +1,31 @@
-use Rattle.std.proofs.Common.{◌≡◌, ◌∙◌, length, sym, arith}
-use Rattle.som_tables.proofs.Options.{none_from_is_some}
+use Rattle.std.proofs.Common.{◌≡◌, ◌∙◌, Some, length, refl, sym, arith}
+use Rattle.som_tables.specs.Layout.{start_of}
 use Rattle.som_tables.proofs.NextBlocks.{shared_block, absent_block, block_within, copied_block}
-use Rattle.som_tables.proofs.blocks.next_block.Goals.{else-is_some-via-then-is_some+else-replaces_any, else-is_some-via-else-is_some}
 use Rattle.som_tables.proofs.blocks.next_block.Goals as goal
 
 pub copy_block-requires : goal.copy_block-requires
 copy_block-requires g c =
     let row = c.args.row.now in
     λ p lt.
-    block_within c.args.rows.now c.args.lines.now c.args.cells.now.items c.requires.laid c.args.class row.parents row.replaced c.first_start-shared.result (rw c.parents.ensures at c.first_start-shared.ensures)
-    c.place.result c.place.ensures.place p (rw c.introduced_by.ensures at lt)
+    block_within c.args.rows.now (start_of c.args.starts.now) c.args.cells.now.items c.requires.laid c.args.class row.parents row.replaced (Some c.in-Some.shared) (rw c.parents.ensures at c.in-Some.ensures)
+    c.in-Some.shared refl p (rw c.introduced_by-count.ensures at lt)
 
-pub returns-in_ok-copy_block-clause-block : goal.returns-in_ok-copy_block-clause-block
-returns-in_ok-copy_block-clause-block g c =
+pub returns-in_ok-copy_block-in-Some-clause-block : goal.returns-in_ok-copy_block-in-Some-clause-block
+returns-in_ok-copy_block-in-Some-clause-block g c =
     let row = c.args.row.now in
     let at_end : length c.args.cells.now.items ≡ c.len.result = omega (arith, c.len.ensures) in
-    rw (c.in_ok-start.ensures, ← at_end)
-    (copied_block c.args.rows.now c.args.lines.now c.args.cells.now.items c.requires.laid c.args.class row.parents row.replaced c.first_start-shared.result (rw c.parents.ensures at c.first_start-shared.ensures)
-    c.place.result c.place.ensures.place c.copy_block.new.cells.items (rw (c.introduced_by.ensures, c.replaced-then-replaces_any.ensures) at c.in_ok-copy_block.ensures.copied))
+    rw (c.in_ok-start-in-Some.ensures, ← at_end)
+    (copied_block c.args.rows.now (start_of c.args.starts.now) c.args.cells.now.items c.requires.laid c.args.class row.parents row.replaced (Some c.in-Some.shared) (rw c.parents.ensures at c.in-Some.ensures)
+    c.in-Some.shared refl c.copy_block.new.cells.items (rw (c.introduced_by-count.ensures, c.replaced-in-Some.ensures) at c.in_ok-copy_block-in-Some.ensures.copied))
 
-pub returns-else-is_some-clause-block : goal.returns-else-is_some-clause-block
-returns-else-is_some-clause-block g c =
+pub returns-in_default-clause-block : goal.returns-in_default-clause-block
+returns-in_default-clause-block g c =
     let row = c.args.row.now in
-    elim c.else-is_some.branch [
-      | else-is_some-via-then-is_some+else-replaces_any w ↦
-          shared_block c.args.rows.now c.args.lines.now c.args.cells.now.items c.requires.laid c.args.class row.parents row.replaced c.first_start-shared.result (rw c.parents.ensures at c.first_start-shared.ensures)
-          (rw w.replaced.ensures at (w.replaces_any.ensures w.if-replaces_any.false))
-      | else-is_some-via-else-is_some w ↦
-          absent_block c.args.rows.now c.args.lines.now c.args.cells.now.items c.requires.laid c.args.class row.parents row.replaced c.first_start-shared.result (rw c.parents.ensures at c.first_start-shared.ensures)
-          c.requires.inherited (none_from_is_some c.first_start-shared.result (sym c.is_some.ensures ∙ w.if-is_some.false))
-    ]
+    shared_block c.args.rows.now (start_of c.args.starts.now) c.args.cells.now.items c.requires.laid c.args.class row.parents row.replaced (Some c.in-Some.shared) (rw c.parents.ensures at c.in-Some.ensures)
+    (rw c.replaced.ensures at (c.replaces_any.ensures c.if-replaces_any.false))
+
+pub returns-in_default-2-clause-block : goal.returns-in_default-2-clause-block
+returns-in_default-2-clause-block g c =
+    let row = c.args.row.now in
+    absent_block c.args.rows.now (start_of c.args.starts.now) c.args.cells.now.items c.requires.laid c.args.class row.parents row.replaced c.first_start.result (rw c.parents.ensures at c.first_start.ensures)
+    c.requires.inherited (c.first_start.ensures ∙ sym c.in_default.ensures)

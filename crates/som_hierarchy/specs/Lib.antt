@@ -1,0 +1,3 @@
+pub mod Metaclasses
+pub mod Owning
+pub mod Keeping

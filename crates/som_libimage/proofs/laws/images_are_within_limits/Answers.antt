@@ -1,0 +1,5 @@
+use Rattle.som_libimage.proofs.Decoded.{image_within}
+use Rattle.som_libimage.proofs.laws.images_are_within_limits.Goals as goal
+
+pub returns : goal.returns
+returns c = image_within

@@ -1,0 +1,24 @@
+-- Runs with another fuel, and how they end.
+use Rattle.std.specs.Prelude.{◌≡◌, ℕ}
+use Rattle.som_model.specs.State.{State}
+use Rattle.som_model.specs.Runs.{Faulted, Spent, Ran, Goes, Ends}
+
+-- the same state with so much fuel
+abbrev pub with_fuel : ℕ → State → State
+with_fuel n s = record { fuel = n; events = s.events; heap = s.heap }
+
+-- the same end, events and objects, with so much fuel left
+abbrev pub left_with : {A : Type 0} → ℕ → Ran A → Ran A
+left_with n (Goes a s) = Goes a (with_fuel n s)
+left_with n (Ends c s) = Ends c (with_fuel n s)
+
+-- it came to its end, or to a fault
+abbrev pub IsOver : {A : Type 0} → Ran A → Type 0
+IsOver (Goes a s) = Unit {0}
+IsOver (Ends (Faulted f at) s) = Unit {0}
+IsOver (Ends Spent s) = ⊥
+
+-- the fuel was spent: nothing is left of it
+abbrev pub IsSpent : {A : Type 0} → Ran A → Type 0
+IsSpent (Ends Spent s) = s.fuel ≡ 0
+IsSpent _ = ⊥

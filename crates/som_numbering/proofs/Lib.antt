@@ -1,0 +1,12 @@
+pub mod Numbering
+pub mod NumberedKinds
+pub mod TypedBlocks
+pub mod KnownMethods
+pub mod TurnedBlocks
+pub mod FoundNames
+pub mod NumberedFaces
+pub mod NumberedParts
+pub mod NumberedSelects
+pub mod ReadyClasses
+pub mod Directories
+pub mod NumberedClasses

@@ -1,0 +1,159 @@
+-- The selects of classes with numbers are named back to what they were made of, and they fit.
+use Rattle.std.proofs.Common.{◌≡◌, ℕ, zero, suc, ◌+◌, ◌<◌, ◌≤◌, ◌^◌, ◌==◌, Bool, true, false, true≢false, List, [], ◌∷◌, ◌++◌, length, map, take, get_or, refl, sym, ap, subst, ◌∙◌, arith}
+use Rattle.std.specs.Prelude.{All, if◌then◌else◌}
+use Rattle.std.specs.List.{AllByRecursion}
+use Rattle.std.proofs.lemmas.Bool.{eqb-true}
+use Rattle.std.proofs.lemmas.List.Elements.{recursion_from_All}
+use Rattle.som_model.specs.declared.limits.TheConstants.{MAX_SELECTS}
+use Rattle.som_model.specs.declared.key.MethodRef.{MethodRef}
+use Rattle.som_model.specs.declared.class.Select.{Select}
+use Rattle.som_model.specs.declared.class.ClassDecl.{ClassDecl}
+use Rattle.som_model.specs.Images.{has_selects}
+use Rattle.som_fields.specs.declared.method.WireMethod.{WireMethod}
+use Rattle.som_fields.specs.Spelling.{FitsMethod}
+use Rattle.som_wire.specs.declared.selects.WireSelect.{WireSelect}
+use Rattle.som_wire.specs.declared.selects.WireSelects.{WireSelects}
+use Rattle.som_wire.specs.Fitting.{FitsSelect, FitAscending}
+use Rattle.som_naming.specs.declared.directory.Directory.{Directory}
+use Rattle.som_naming.specs.Naming.{ranges_in}
+use Rattle.som_naming.specs.NamedClasses.{select_named, selects_under, selecting, with_selects}
+use Rattle.som_naming.proofs.NamedParts.{plain}
+use Rattle.som_naming.proofs.NamedSelects.{with_own, none_under, here_under, without_first, no_selects, some_selects}
+use Rattle.som_numbering.specs.Numbering.{MethodKnown}
+use Rattle.som_numbering.specs.NumberedClasses.{select_numbered, selects_numbered}
+use Rattle.som_numbering.proofs.NumberedKinds.{TurnsBack, counted_turn, method_turns}
+use Rattle.som_numbering.proofs.NumberedParts.{ClassReady}
+
+has_there : (c : ClassDecl) (ss : List Select) → (length ss == 0) ≡ false → has_selects (with_own c ss) ≡ true
+has_there c [] e = absurd (true≢false e)
+has_there c (s ∷ ss) e = refl
+
+-- whether a class has selects, by their count
+pub has_some : (c : ClassDecl) → (length c.selects == 0) ≡ false → has_selects c ≡ true
+has_some c e = has_there c c.selects e
+
+has_none_there : (c : ClassDecl) (ss : List Select) → (length ss == 0) ≡ true → has_selects (with_own c ss) ≡ false
+has_none_there c [] e = refl
+has_none_there c (s ∷ ss) e = absurd (omega (arith, eqb-true (length (s ∷ ss)) 0 e))
+
+pub has_none : (c : ClassDecl) → (length c.selects == 0) ≡ true → has_selects c ≡ false
+has_none c e = has_none_there c c.selects e
+
+abbrev a_select : MethodRef → ℕ → Select
+a_select method parent = record { method = method; parent = parent }
+
+module _ (d : Directory) where
+  abbrev Method : WireMethod → Type 0
+  Method m = FitsMethod (ranges_in d) m
+
+  abbrev Turns : Select → Type 0
+  Turns = TurnsBack (FitsSelect Method) (select_named d) (select_numbered d)
+
+  select_turns : (s : Select) → MethodKnown d s.method → s.parent < 2 ^ 8 → Turns s
+  select_turns s known small =
+      let m = method_turns d s.method known in
+      record { fits = record { method = m.fits; parent = small }; names = ap (λ (x : MethodRef). a_select x s.parent) m.names }
+
+  each_turns : (ss : List Select) → AllByRecursion (λ (s : Select). MethodKnown d s.method) ss → AllByRecursion (λ (s : Select). s.parent < 2 ^ 8) ss → AllByRecursion Turns ss
+  each_turns [] known small = tt
+  each_turns (s ∷ ss) known small = (select_turns s known.0 small.0, each_turns ss known.1 small.1)
+
+  -- the selects of classes with the numbers from n on
+  pub record SelectsTurn (n : ℕ) (ds : List ClassDecl) : Type 0 where
+    pub ascend : FitAscending (length d.keys) Method n (selects_numbered d n ds)
+    pub names : with_selects d n (selects_numbered d n ds) (map plain ds) ≡ ds
+
+  lower : (classes n : ℕ) (gs : List WireSelects) → FitAscending classes Method (suc n) gs → FitAscending classes Method n gs
+  lower classes n [] fits = tt
+  lower classes n (g ∷ gs) fits = (record { reached = omega (arith, fits.0.reached); below = fits.0.below; selects = fits.0.selects }, fits.1)
+
+  -- what the class of a number and those after it come to, with these selects
+  record Turned (n : ℕ) (c : ClassDecl) (ds : List ClassDecl) (gs : List WireSelects) : Type 0 where
+    ascend : FitAscending (length d.keys) Method n gs
+    names : with_selects d n gs (map plain (c ∷ ds)) ≡ c ∷ ds
+
+  abbrev own_group : ℕ → ClassDecl → WireSelects
+  own_group n c = record { class = n; selects = map (select_numbered d) c.selects }
+
+  abbrev groups_by : ℕ → ClassDecl → List ClassDecl → Bool → List WireSelects
+  groups_by n c ds b = if b then own_group n c ∷ selects_numbered d (suc n) ds else selects_numbered d (suc n) ds
+
+  turned : (n : ℕ) (c : ClassDecl) (ds : List ClassDecl) → n + length (c ∷ ds) ≤ length d.keys → ClassReady d c → SelectsTurn (suc n) ds → (b : Bool) → has_selects c ≡ b → Turned n c ds (groups_by n c ds b)
+  turned n c ds few ready r false has =
+      let rest : List WireSelects = selects_numbered d (suc n) ds in
+      let own : selects_under n rest ≡ [] = none_under (length d.keys) Method n (suc n) rest (omega arith) r.ascend in
+      record {
+        ascend = lower (length d.keys) n rest r.ascend;
+        names = ap (λ (ss : List WireSelect). selecting d ss (plain c) ∷ with_selects d (suc n) rest (map plain ds)) own
+            ∙ ap (λ (x : ClassDecl). x ∷ with_selects d (suc n) rest (map plain ds)) (no_selects d c has)
+            ∙ ap (λ (l : List ClassDecl). c ∷ l) r.names;
+      }
+  turned n c ds few ready r true has =
+      let rest : List WireSelects = selects_numbered d (suc n) ds in
+      let g : WireSelects = own_group n c in
+      let each = each_turns c.selects (recursion_from_All (λ (s : Select). MethodKnown d s.method) c.selects ready.known.selects) ready.selects in
+      let ss = counted_turn (FitsSelect Method) (select_named d) (select_numbered d) 1 MAX_SELECTS c.selects (some_selects c has) ready.within.selects each in
+      let own : selects_under n (g ∷ rest) ≡ map (select_numbered d) c.selects = here_under g rest n refl in
+      let later : with_selects d (suc n) (g ∷ rest) (map plain ds) ≡ with_selects d (suc n) rest (map plain ds) = without_first d g rest (suc n) (map plain ds) (omega arith) in
+      record {
+        ascend = (record { reached = omega arith; below = omega (arith, few); selects = ss.fits }, r.ascend);
+        names = ap (λ (x : List WireSelect). selecting d x (plain c) ∷ with_selects d (suc n) (g ∷ rest) (map plain ds)) own
+            ∙ ap (λ (l : List ClassDecl). selecting d (map (select_numbered d) c.selects) (plain c) ∷ l) later
+            ∙ ap (λ (l : List Select). with_own c l ∷ with_selects d (suc n) rest (map plain ds)) ss.names
+            ∙ ap (λ (l : List ClassDecl). c ∷ l) r.names;
+      }
+
+  turned_by : (n : ℕ) (c : ClassDecl) (ds : List ClassDecl) (b : Bool) → has_selects c ≡ b → Turned n c ds (groups_by n c ds b) → SelectsTurn n (c ∷ ds)
+  turned_by n c ds b has t =
+      let same : selects_numbered d n (c ∷ ds) ≡ groups_by n c ds b = ap (groups_by n c ds) has in
+      record {
+        ascend = subst (FitAscending (length d.keys) Method n) (sym same) t.ascend;
+        names = ap (λ (gs : List WireSelects). with_selects d n gs (map plain (c ∷ ds))) same ∙ t.names;
+      }
+
+  pub selects_turn : (n : ℕ) (ds : List ClassDecl) → n + length ds ≤ length d.keys → AllByRecursion (ClassReady d) ds → SelectsTurn n ds
+  selects_turn n [] few ready = record { ascend = tt; names = refl }
+  selects_turn n (c ∷ ds) few ready =
+      turned_by n c ds (has_selects c) refl (turned n c ds few ready.0 (selects_turn (suc n) ds (omega (arith, few)) ready.1) (has_selects c) refl)
+
+  -- ---- one class more
+
+  with_next : (has_first has_next : Bool) (first next : WireSelects) (longer others : List WireSelects) → longer ≡ (if has_next then others ++ next ∷ [] else others)
+      → (if has_first then first ∷ longer else longer) ≡ (if has_next then (if has_first then first ∷ others else others) ++ next ∷ [] else (if has_first then first ∷ others else others))
+  with_next true true first next longer others e = ap (λ (l : List WireSelects). first ∷ l) e
+  with_next true false first next longer others e = ap (λ (l : List WireSelects). first ∷ l) e
+  with_next false true first next longer others e = e
+  with_next false false first next longer others e = e
+
+  abbrev more_by : Bool → ℕ → ClassDecl → List WireSelects → List WireSelects
+  more_by b n c groups = if b then groups ++ own_group n c ∷ [] else groups
+
+  numbered_more : (n i : ℕ) (ds : List ClassDecl) (c : ClassDecl) → i < length ds → selects_numbered d n (take (suc i) ds) ≡ more_by (has_selects (get_or ds i c)) (n + i) (get_or ds i c) (selects_numbered d n (take i ds))
+  numbered_more n i [] c lt = absurd (omega arith)
+  numbered_more n zero (x ∷ ds) c lt = ap (λ (m : ℕ). more_by (has_selects x) m x []) (omega arith)
+  numbered_more n (suc i) (x ∷ ds) c lt =
+      let next : suc n + i ≡ n + suc i = omega arith in
+      with_next (has_selects x) (has_selects (get_or ds i c)) (own_group n x) (own_group (suc n + i) (get_or ds i c)) (selects_numbered d (suc n) (take (suc i) ds)) (selects_numbered d (suc n) (take i ds)) (numbered_more (suc n) i ds c (omega arith))
+      ∙ ap (λ (m : ℕ). more_by (has_selects (get_or ds i c)) m (get_or ds i c) (selects_numbered d n (take (suc i) (x ∷ ds)))) next
+
+  module _ (n i m : ℕ) (ds : List ClassDecl) (c : ClassDecl) (groups : List WireSelects) (lt : i < length ds) (is : c ≡ get_or ds i c) (number : m ≡ n + i) (so_far : groups ≡ selects_numbered d n (take i ds)) where
+    next_by : (b : Bool) → has_selects c ≡ b → selects_numbered d n (take (i + 1) ds) ≡ more_by b (n + i) c groups
+    next_by b has =
+        let next : i + 1 ≡ suc i = omega arith in
+        ap (λ (k : ℕ). selects_numbered d n (take k ds)) next
+        ∙ numbered_more n i ds c lt
+        ∙ ap (λ (x : ClassDecl). more_by (has_selects x) (n + i) x (selects_numbered d n (take i ds))) (sym is)
+        ∙ ap (λ (x : Bool). more_by x (n + i) c (selects_numbered d n (take i ds))) has
+        ∙ ap (more_by b (n + i) c) (sym so_far)
+
+    -- which has no selects
+    pub none_more : has_selects c ≡ false → groups ≡ selects_numbered d n (take (i + 1) ds)
+    none_more has = sym (next_by false has)
+
+    -- which has some
+    pub some_more : has_selects c ≡ true → (own : List WireSelect) → own ≡ map (select_numbered d) c.selects → groups ++ record { class = m; selects = own } ∷ [] ≡ selects_numbered d n (take (i + 1) ds)
+    some_more has own is_own =
+        let a_group : ℕ → List WireSelect → WireSelects = λ k ss. record { class = k; selects = ss } in
+        ap (λ (ss : List WireSelect). groups ++ a_group m ss ∷ []) is_own
+        ∙ ap (λ (k : ℕ). groups ++ a_group k (map (select_numbered d) c.selects) ∷ []) number
+        ∙ sym (next_by true has)

@@ -1,0 +1,9 @@
+//! What newer releases keep of clients.
+#![tactic(auto)]
+
+mod laws;
+
+pub use laws::{
+    accepted_law, binding_law, compatible_along_law, compatible_client_law, exchange_law,
+    growing_law, loading_law, one_owner_law,
+};

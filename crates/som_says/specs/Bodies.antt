@@ -1,0 +1,77 @@
+-- What the texts of bodies say of the methods of a class.
+use Rattle.std.specs.Prelude.{◌≡◌, ℕ, Bool, true, false, List, [], ◌∷◌, ◌++◌}
+use Rattle.som_model.specs.declared.key.ClassKey.{ClassKey}
+use Rattle.som_model.specs.declared.syntax.Block.{Block}
+use Rattle.som_model.specs.declared.class.Body.{Body}
+use Rattle.som_model.specs.declared.class.Body.TheVariants as bodies
+use Rattle.som_model.specs.declared.class.Entry.{Entry}
+use Rattle.som_model.specs.declared.class.Entry.TheVariants as entries
+use Rattle.som_model.specs.declared.class.Override.{Override}
+use Rattle.som_model.specs.declared.class.Sig.{Sig}
+use Rattle.som_model.specs.declared.class.Way.{Way}
+use Rattle.som_model.specs.Class.{Class}
+use Rattle.som_model.specs.Lists.{Mem}
+use Rattle.som_model.specs.Owner.{owner, sig_of}
+use Rattle.som_model.specs.Typing.{in_body}
+use Rattle.std.specs.Prelude.{Some}
+use Rattle.som_read.specs.declared.tree.TypeName.{TypeName}
+use Rattle.som_read.specs.declared.tree.Word.{Word}
+use Rattle.som_idl.specs.declared.tree.Export.TheVariants as exports
+use Rattle.som_idl.specs.declared.tree.IdlInterface.{IdlInterface}
+use Rattle.som_body.specs.declared.tree.BodyText.{BodyText}
+use Rattle.som_scope.specs.Words.{words}
+use Rattle.som_sema.specs.Drafts.{getter, setter}
+use Rattle.som_forms.specs.Expressions.{Among}
+use Rattle.som_forms.specs.Locals.{Names, kinds_of, names_of}
+use Rattle.som_says.specs.Named.{HasVariable}
+use Rattle.som_says.specs.Statements.{BlockSays}
+
+-- the text of a body says a block: its parameters, with the types of the signature, are the first names in scope
+pub record BodySays (a : Among) (c : Class) (sig : Sig) (b : BodyText) (block : Block) : Type 0 where
+  pub scope : Names
+  pub names : names_of scope ≡ words b.params
+  pub kinds : kinds_of scope ≡ sig.params
+  pub says : BlockSays a (in_body c sig.result) scope b.block block
+
+-- an interface has an attribute of this name
+pub record HasAttribute (i : IdlInterface) (readonly : Bool) (name : List ℕ) : Type 0 where
+  pub kind : TypeName
+  pub names : List Word
+  pub word : Word
+  pub export : Mem (exports.Attribute readonly kind names) (i.before ++ i.after)
+  pub there : Mem word names
+  pub named : word.text ≡ name
+
+module _ (a : Among) (bs : List BodyText) (c : Class) where
+  -- the text of the method of this name of the class says this block
+  pub record TextSays (name : List ℕ) (sig : Sig) (block : Block) : Type 0 where
+    pub text : BodyText
+    pub there : Mem text bs
+    pub of_class : text.class.text ≡ c.decl.face.name
+    pub of_method : text.method.text ≡ name
+    pub says : BodySays a c sig text block
+
+  -- the body of a method that an interface introduces: an accessor reads or writes the variable of its attribute, and any other has the block of its text
+  pub data MethodSays (i : IdlInterface) : List ℕ → Sig → Body → Type 0 where
+    a_getter : {name : List ℕ} {sig : Sig} {n : ℕ} (readonly : Bool) → HasAttribute i readonly name → HasVariable c name n → MethodSays i (getter name) sig (bodies.Get n)
+    a_setter : {name : List ℕ} {sig : Sig} {n : ℕ} → HasAttribute i false name → HasVariable c name n → MethodSays i (setter name) sig (bodies.Set n)
+    an_operation : {name : List ℕ} {sig : Sig} {block : Block} → TextSays name sig block → MethodSays i name sig (bodies.User block)
+
+  -- a body for each method that the class introduces, in the order of its entries
+  pub data EntriesSay (i : IdlInterface) : List Entry → List Body → Type 0 where
+    no_entry : EntriesSay i [] []
+    a_moved_entry : {name : List ℕ} {to : ClassKey} {es : List Entry} {made : List Body} → EntriesSay i es made → EntriesSay i (entries.Moved name to ∷ es) made
+    an_introduced_entry : {name : List ℕ} {sig : Sig} {way : Way} {es : List Entry} {b : Body} {made : List Body} → MethodSays i name sig b → EntriesSay i es made
+        → EntriesSay i (entries.Introduced name sig way ∷ es) (b ∷ made)
+
+  -- an override is of the same method, with the block of its text
+  pub record OverrideSays (declared made : Override) : Type 0 where
+    pub method : made.method ≡ declared.method
+    pub sig : Sig
+    pub signed : sig_of a.classes (owner a.classes declared.method) ≡ Some sig
+    pub text : TextSays declared.method.name sig made.block
+
+  -- each in its order
+  pub data OverridesSay : List Override → List Override → Type 0 where
+    no_override : OverridesSay [] []
+    one_override : {o p : Override} {os ps : List Override} → OverrideSays o p → OverridesSay os ps → OverridesSay (o ∷ os) (p ∷ ps)

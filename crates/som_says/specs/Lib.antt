@@ -1,0 +1,6 @@
+pub mod Named
+pub mod Expressions
+pub mod Statements
+pub mod Bodies
+pub mod Modules
+pub mod Conforming

@@ -1,0 +1,43 @@
+-- What whole texts say.
+use Rattle.std.specs.Prelude.{◌≡◌, List, [], ◌∷◌}
+use Rattle.som_model.specs.declared.class.ClassDecl.{ClassDecl}
+use Rattle.som_model.specs.declared.key.Module.{Module}
+use Rattle.som_model.specs.declared.key.Module.TheVariants as modules
+use Rattle.som_model.specs.declared.program.ClientProgram.{ClientProgram}
+use Rattle.som_model.specs.declared.program.Interface.{Interface}
+use Rattle.som_model.specs.declared.program.Release.{Release}
+use Rattle.som_model.specs.Class.{class_in}
+use Rattle.som_model.specs.Typing.{in_main}
+use Rattle.som_idl.specs.declared.tree.IdlInterface.{IdlInterface}
+use Rattle.som_body.specs.declared.tree.BlockText.{BlockText}
+use Rattle.som_body.specs.declared.tree.BodyText.{BodyText}
+use Rattle.som_sema.specs.Drafts.{InterfaceDraft}
+use Rattle.som_sema.specs.Finished.{selects_at}
+use Rattle.som_forms.specs.Expressions.{Among}
+use Rattle.som_elab.specs.Bodies.{drafts_over}
+use Rattle.som_elab.specs.Elaboration.{among_over, nothing_before}
+use Rattle.som_says.specs.Bodies.{EntriesSay, OverridesSay}
+use Rattle.som_says.specs.Statements.{BlockSays}
+
+-- a class is what its interface declares, with the bodies that the texts say, and with what its text selects: of each method the first ancestor that introduces it, its name, and the place of the parent that is named
+pub record ClassSays (a : Among) (m : Module) (bs : List BodyText) (d : InterfaceDraft) (c : ClassDecl) : Type 0 where
+  pub face : c.face ≡ d.class.face
+  pub variables : c.variables ≡ d.class.variables
+  pub bodies : EntriesSay a bs (class_in m d.class) d.text c.face.entries c.bodies
+  pub overrides : OverridesSay a bs (class_in m d.class) d.class.overrides c.overrides
+  pub selects : c.selects ≡ selects_at a.classes (class_in m d.class).key d
+
+-- a class for each interface, in their order
+pub data ClassesSay (a : Among) (m : Module) (bs : List BodyText) : List InterfaceDraft → List ClassDecl → Type 0 where
+  no_class : ClassesSay a m bs [] []
+  one_class : {d : InterfaceDraft} {ds : List InterfaceDraft} {c : ClassDecl} {cs : List ClassDecl} → ClassSays a m bs d c → ClassesSay a m bs ds cs → ClassesSay a m bs (d ∷ ds) (c ∷ cs)
+
+-- the texts of a library say this release
+abbrev pub ReleaseSays : List IdlInterface → List BodyText → Release → Type 0
+ReleaseSays is bs r = ClassesSay (among_over modules.Library nothing_before is) modules.Library bs (drafts_over modules.Library nothing_before is) r.classes
+
+-- the texts of a client say this program against a base
+pub record ProgramSays (base : Interface) (is : List IdlInterface) (bs : List BodyText) (main : BlockText) (p : ClientProgram) : Type 0 where
+  pub base_is : p.base ≡ base
+  pub classes : ClassesSay (among_over modules.Client base is) modules.Client bs (drafts_over modules.Client base is) p.classes
+  pub main_says : BlockSays (among_over modules.Client base is) in_main [] main p.main

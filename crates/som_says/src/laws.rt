@@ -1,0 +1,56 @@
+ghost use Rattle.som_body.specs.declared.tree.BlockText.{BlockText};
+ghost use Rattle.som_body.specs.declared.tree.BodyText.{BodyText};
+ghost use Rattle.som_body.specs.declared.tree.ExprText.{ExprText};
+ghost use Rattle.som_elab.specs.Bodies.{bodies_breach, classes_over, drafts_over};
+ghost use Rattle.som_elab.specs.Elaboration.{elaborated_program, elaborated_release};
+ghost use Rattle.som_forms.specs.Expressions.{Among, Elaborated, elaborated};
+ghost use Rattle.som_forms.specs.Locals.{Names};
+ghost use Rattle.som_forms.specs.Statements.{elaborated_block};
+ghost use Rattle.som_idl.specs.declared.tree.IdlInterface.{IdlInterface};
+ghost use Rattle.som_model.specs.Classes.{interface_classes};
+ghost use Rattle.som_model.specs.Typing.{CodePlace};
+ghost use Rattle.som_model.specs.declared.key.Module.{Module};
+ghost use Rattle.som_model.specs.declared.program.ClientProgram.{ClientProgram};
+ghost use Rattle.som_model.specs.declared.program.Interface.{Interface};
+ghost use Rattle.som_model.specs.declared.program.Release.{Release};
+ghost use Rattle.som_model.specs.declared.syntax.Block.{Block};
+ghost use Rattle.som_rules.specs.Faces.{faces_breach};
+ghost use Rattle.som_says.specs.Conforming.{BodiesStand, ClientConforms, LibraryConforms};
+ghost use Rattle.som_says.specs.Expressions.{ExprSays};
+ghost use Rattle.som_says.specs.Modules.{ProgramSays, ReleaseSays};
+ghost use Rattle.som_says.specs.Statements.{BlockSays};
+ghost use Rattle.som_sema.specs.Building.{texts_breach};
+ghost use Rattle.std.specs.Prelude.{◌≡◌, ◌↔◌, List as Seq, None, Ok};
+
+/// The expression that a text of one stands for is what the text says.
+pub fn expression_law()
+    ensures { (a : Among) (at : CodePlace) (scope : Names) (e : ExprText) (p : Elaborated) → elaborated a at scope e ≡ Ok p → ExprSays a at scope e p.expr }
+{}
+
+/// So is the block that a text of one stands for.
+pub fn block_law()
+    ensures { (a : Among) (at : CodePlace) (scope : Names) (b : BlockText) (block : Block) → elaborated_block a at b scope ≡ Ok block → BlockSays a at scope b block }
+{}
+
+/// The release that texts stand for is what the texts say, and so is a client program, over a base whose faces break no rule.
+pub fn saying_law()
+    ensures release { (is : Seq IdlInterface) (bs : Seq BodyText) (r : Release) → elaborated_release is bs ≡ Ok r → ReleaseSays is bs r }
+    ensures program { (base : Interface) (is : Seq IdlInterface) (bs : Seq BodyText) (main : BlockText) (p : ClientProgram) →
+        faces_breach (interface_classes base) ≡ None → elaborated_program base is bs main ≡ Ok p → ProgramSays base is bs main p }
+{}
+
+/// Of interfaces that break none of the rules before, S13 and S14 hold exactly where each body stands where it may and each
+/// method that has one has one.
+pub fn bodies_law()
+    ensures { (m : Module) (base : Interface) (is : Seq IdlInterface) (bs : Seq BodyText) →
+        faces_breach (interface_classes base) ≡ None → texts_breach m base is ≡ None →
+        (bodies_breach (classes_over m base is) (drafts_over m base is) bs ≡ None) ↔ BodiesStand (classes_over m base is) (drafts_over m base is) bs }
+{}
+
+/// There is a release for which texts stand exactly where they conform, and so it is with a client program, over a base
+/// whose faces break no rule.
+pub fn conforming_law()
+    ensures library { (is : Seq IdlInterface) (bs : Seq BodyText) → LibraryConforms is bs ↔ ((r : Release) × (elaborated_release is bs ≡ Ok r)) }
+    ensures client { (base : Interface) (is : Seq IdlInterface) (bs : Seq BodyText) (main : BlockText) → faces_breach (interface_classes base) ≡ None →
+        ClientConforms base is bs main ↔ ((p : ClientProgram) × (elaborated_program base is bs main ≡ Ok p)) }
+{}

@@ -1,0 +1,6 @@
+//! That whatever texts stand for is what they say, form by form.
+#![tactic(auto)]
+
+mod laws;
+
+pub use laws::{block_law, bodies_law, conforming_law, expression_law, saying_law};

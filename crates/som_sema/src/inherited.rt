@@ -1,0 +1,206 @@
+//! What modifiers replace is inherited: S10 of texts.
+
+ghost use Rattle.som_model.specs.Kernel.{kernel_interface};
+ghost use Rattle.som_model.specs.Lists.{first};
+ghost use Rattle.som_order.specs.Names.{texts};
+ghost use Rattle.som_rules.specs.Modules.{classes_of};
+ghost use Rattle.som_rules.specs.Places.{key_at, with_kernel};
+ghost use Rattle.som_rules.specs.Told.{Tells};
+ghost use Rattle.som_scope.specs.ClassNames.{module_in_scope};
+ghost use Rattle.som_sema.specs.Ancestry.{Inherits, IsAncestorTable, IsOfText};
+ghost use Rattle.som_sema.specs.Drafts.{plain_draft, plain_drafts};
+ghost use Rattle.som_sema.specs.Items.{given, given_by};
+ghost use Rattle.som_sema.specs.TextRules as rules;
+ghost use Rattle.som_sema.specs.TextRules.{replaces, replaces_inherited, text_s10, text_s10_from};
+ghost use Rattle.std.specs.Prelude.{◌≡◌, ◌<◌, ◌+◌, length, map, flat_map, IfOk};
+
+use crate::ancestry::AncestorTable;
+use crate::bases::descends_from;
+use crate::declared::{introducer_place, list_at};
+use crate::drafts::Draft;
+use crate::faces::introduced_along;
+use crate::items::parent_names;
+use crate::marks::{Mark, marks};
+use crate::passes::breach;
+use crate::places::{Places, place_table};
+use crate::tables::selecting;
+use indexmap::IndexSet;
+use som_idl::Modifier;
+use som_model::{ClassFace, NoMemory};
+use som_order::find_name;
+use som_rules::{Declared, VerifyFault};
+use som_scope::{Scope, table_of};
+use std::alloc::Global;
+
+/// The methods with `select` in a text, and the parents of its interface.
+#[derive(Drop)]
+pub struct Selecting<'a> {
+    pub methods: IndexSet<&'a [u8]>,
+    pub parents: IndexSet<&'a [u8]>,
+}
+
+/// Each method with `override` or `select` is introduced by a proper ancestor, and what is selected is a parent that descends
+/// from it. The class of the first draft stands at a place.
+pub fn replaced_inherited(
+    alloc: Global,
+    scope: &Scope,
+    kernel: &[ClassFace],
+    classes: &[Declared],
+    ancestors: &AncestorTable,
+    drafts: &[Draft],
+    from: usize,
+) -> Result<(), VerifyFault>
+    requires kernel { kernel.now ≡ kernel_interface.classes }
+    requires ancestors { IsAncestorTable (classes_of classes.now) ancestors.now }
+    requires from { from + length drafts.now ≡ length (with_kernel (classes_of classes.now)) }
+    ensures { Tells (first (text_s10_from (module_in_scope scope.now) (with_kernel (classes_of classes.now)) from (plain_drafts drafts.now))) result }
+{
+    let mut place = from;
+    for draft in drafts {
+        own_inherited(alloc, scope, kernel, classes, ancestors, draft, place)?;
+        place += 1;
+    }
+    Ok(())
+}
+
+fn own_inherited(
+    alloc: Global,
+    scope: &Scope,
+    kernel: &[ClassFace],
+    classes: &[Declared],
+    ancestors: &AncestorTable,
+    draft: &Draft,
+    place: usize,
+) -> Result<(), VerifyFault>
+    requires kernel { kernel.now ≡ kernel_interface.classes }
+    requires ancestors { IsAncestorTable (classes_of classes.now) ancestors.now }
+    requires place { place < length (with_kernel (classes_of classes.now)) }
+    ensures { Tells (first (text_s10 (module_in_scope scope.now) (with_kernel (classes_of classes.now))
+        (key_at (with_kernel (classes_of classes.now)) place) (plain_draft draft.now))) result }
+{
+    let marks = marks(alloc, draft.text.items.as_slice())?;
+    if marks.is_empty() {
+        return Ok(());
+    }
+    let list = list_at(ancestors.lists.as_slice(), place);
+    let along = introduced_along(alloc, kernel, classes, list)?;
+    let above = place_table(alloc, &along)?;
+    let text = selecting_in(alloc, draft, &marks)?;
+    marks_inherited(
+        alloc, scope, classes, ancestors, &above, &text, draft, &marks, place,
+    )
+}
+
+fn selecting_in<'a>(
+    alloc: Global,
+    draft: &'a Draft,
+    marks: &[Mark<'a>],
+) -> Result<Selecting<'a>, NoMemory>
+    requires { map given_by marks.now ≡ given draft.now.text.now.items }
+    ensures { IfOk result (IsOfText draft.now.text.now) }
+{
+    let methods = selecting(alloc, marks)?;
+    let names = parent_names(alloc, draft.text.parents.as_slice())?;
+    let parents = table_of(alloc, &names)?;
+    Ok(Selecting { methods, parents })
+}
+
+fn marks_inherited(
+    alloc: Global,
+    scope: &Scope,
+    classes: &[Declared],
+    ancestors: &AncestorTable,
+    above: &Places,
+    text: &Selecting,
+    draft: &Draft,
+    marks: &[Mark],
+    place: usize,
+) -> Result<(), VerifyFault>
+    requires above { Inherits (classes_of classes.now) ancestors.now place above.now }
+    requires text { IsOfText draft.now.text.now text.now }
+    ensures { Tells (first (flat_map (replaces_inherited (module_in_scope scope.now) (with_kernel (classes_of classes.now))
+        (key_at (with_kernel (classes_of classes.now)) place) (plain_draft draft.now)) (map given_by marks.now))) result }
+{
+    for mark in marks {
+        if !mark_inherits(alloc, scope, classes, ancestors, above, text, mark, place)? {
+            return Err(breach(alloc, 10, draft, mark.method)?);
+        }
+    }
+    Ok(())
+}
+
+fn mark_inherits(
+    alloc: Global,
+    scope: &Scope,
+    classes: &[Declared],
+    ancestors: &AncestorTable,
+    above: &Places,
+    text: &Selecting,
+    mark: &Mark,
+    place: usize,
+) -> Result<bool, NoMemory>
+    requires { Inherits (classes_of classes.now) ancestors.now place above.now }
+    ensures { IfOk result (λ b. b ≡ replaces (module_in_scope scope.now) (with_kernel (classes_of classes.now))
+        (key_at (with_kernel (classes_of classes.now)) place) (texts text.now.parents.keys) (texts text.now.methods.keys) mark.now.method.now mark.now.modifier.now) }
+{
+    match mark.modifier {
+        Modifier::Override => Ok(
+            find_name(&text.methods, mark.method).is_some()
+                || is_inherited(classes, ancestors, above, mark.method, place),
+        ),
+        Modifier::NameLookup => Ok(true),
+        Modifier::Offset => Ok(true),
+        Modifier::Select { parent } => {
+            let parent = parent.text.as_slice();
+            if find_name(&text.parents, parent).is_none() {
+                return Ok(false);
+            }
+            may_take(
+                alloc,
+                scope,
+                classes,
+                ancestors,
+                above,
+                mark.method,
+                parent,
+                place,
+            )
+        }
+    }
+}
+
+fn is_inherited(
+    classes: &[Declared],
+    ancestors: &AncestorTable,
+    above: &Places,
+    name: &[u8],
+    place: usize,
+) -> bool
+    requires { Inherits (classes_of classes.now) ancestors.now place above.now }
+    ensures { result ≡ rules.is_inherited (with_kernel (classes_of classes.now)) (key_at (with_kernel (classes_of classes.now)) place) name.now }
+{
+    introducer_place(above, place, name) != place
+}
+
+// Whether a method is inherited, and a class of this name descends from the one that introduces it.
+fn may_take(
+    alloc: Global,
+    scope: &Scope,
+    classes: &[Declared],
+    ancestors: &AncestorTable,
+    above: &Places,
+    name: &[u8],
+    parent: &[u8],
+    place: usize,
+) -> Result<bool, NoMemory>
+    requires { Inherits (classes_of classes.now) ancestors.now place above.now }
+    ensures { IfOk result (λ b. b ≡ rules.may_take (module_in_scope scope.now) (with_kernel (classes_of classes.now))
+        (key_at (with_kernel (classes_of classes.now)) place) name.now parent.now) }
+{
+    let at = introducer_place(above, place, name);
+    if at == place {
+        return Ok(false);
+    }
+    let lists = ancestors.lists.as_slice();
+    descends_from(alloc, scope, &ancestors.table, classes, lists, parent, at)
+}
