@@ -1,0 +1,4 @@
+pub mod Leads
+pub mod Sits
+pub mod Pieces
+pub mod Exprs
