@@ -4,3 +4,6 @@ pub mod Pieces
 pub mod Exprs
 pub mod Keeps
 pub mod Flows
+pub mod Stmts
+pub mod Bools
+pub mod Fits
