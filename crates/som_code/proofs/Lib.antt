@@ -7,3 +7,4 @@ pub mod Flows
 pub mod Stmts
 pub mod Bools
 pub mod Fits
+pub mod Led
