@@ -13,7 +13,6 @@ use Rattle.som_code.specs.declared.instruction.Constant.TheVariants as constants
 use Rattle.som_code.specs.declared.instruction.Instruction.{Instruction}
 use Rattle.som_code.specs.declared.instruction.Instruction.TheVariants as ops
 use Rattle.som_code.specs.Laid.{Lays, just, ◌then◌, lay_each, lay_right, expr_step as lay_step, lay_expr}
-
 use Rattle.som_code.proofs.Pieces.{Puts, puts_one, puts_then, puts_and, puts_or, EachPuts, puts_each, puts_call, puts_self_call}
 
 module _ (w : World) (here : Here) (zero_value : Value) (call : Calls) (code : List Instruction) where
@@ -52,7 +51,7 @@ module _ (w : World) (here : Here) (zero_value : Value) (call : Calls) (code : L
   call_puts f i e es h =
       let fs : List Lays = map lay_expr (first es) in
       puts_then w here zero_value call code [] (ev e.0) (λ on fr. each_of (map ev (first es)) fr >>= λ vs. f on vs) (lay_expr e.0) (lay_each fs then just (i (length fs))) e.1
-        (λ on. puts_each w here zero_value call code (map ev (first es)) fs (each_good es) (on ∷ []) (λ vs fr. f on vs) (just (i (length fs))) (λ vs n. h (length fs) on vs n))
+      (λ on. puts_each w here zero_value call code (map ev (first es)) fs (each_good es) (on ∷ []) (λ vs fr. f on vs) (just (i (length fs))) (λ vs n. h (length fs) on vs n))
 
   -- arguments, and the call on self
   self_call_puts : (f : List Value → Act Value) (i : ℕ → Instruction) (es : List ((x : Expr) × Good x))
@@ -95,7 +94,7 @@ module _ (w : World) (here : Here) (zero_value : Value) (call : Calls) (code : L
       (λ n vs h. puts_self_call w here zero_value call code (λ vs. parents_calls w call here (w.parents (class_here here)) r vs) n (ops.ParentsCall r n) (λ a st fr s. refl) vs h)
   layer (Expr-F.Host c a b) = puts_then w here zero_value call code [] (ev a.0) (λ x fr. ev b.0 fr >>= λ y. pure (host c x y)) (lay_expr a.0) (lay_expr b.0 then just (ops.Host c)) a.1
       (λ x. puts_then w here zero_value call code (x ∷ []) (ev b.0) (λ y fr. pure (host c x y)) (lay_expr b.0) (just (ops.Host c)) b.1
-        (λ y. puts_one w here zero_value call code (y ∷ x ∷ []) (λ fr. pure (host c x y)) (ops.Host c) (λ a st fr s. refl)))
+      (λ y. puts_one w here zero_value call code (y ∷ x ∷ []) (λ fr. pure (host c x y)) (ops.Host c) (λ a st fr s. refl)))
 
   layer_at : (x : Expr-F Expr) → P [] (eval_step w call here (map-Expr Expr Evals ev x)) (lay_step (map-Expr Expr Lays lay_expr x)) → Good (roll-Expr x)
   layer_at x h = subst (λ (r : Evals). P [] r (lay_expr (roll-Expr x))) (sym (fold-roll-Expr Evals (eval_step w call here) x))
