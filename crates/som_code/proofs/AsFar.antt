@@ -2,16 +2,12 @@
 use Rattle.std.proofs.Common.{◌≡◌, ◌<◌, ◌≤◌, ◌+◌, ℕ, suc, List, [], ◌∷◌, ◌++◌, map, length, drop, get_or, refl, sym, ap, ◌∙◌, subst, arith, length-append, append-nil}
 use Rattle.std.proofs.Math.Seq.{drop-cons}
 use Rattle.std.proofs.lemmas.List.{drop_all}
-use Rattle.som_model.specs.declared.key.ValueType.{ValueType}
-use Rattle.som_model.specs.declared.syntax.Expr.{Expr}
-use Rattle.som_model.specs.declared.syntax.Stmt.{Stmt, ind-Stmt, roll-Stmt, fold-Stmt, fold-roll-Stmt, map-Stmt}
-use Rattle.som_model.specs.declared.syntax.Stmt.TheVariants as stmts
-use Rattle.som_model.specs.declared.syntax.Stmt.TheVariants.{rolls-Var}
-use Rattle.som_model.specs.declared.syntax.Stmt.TheOpen.{Stmt-F, Block-F}
-use Rattle.som_model.specs.declared.syntax.Block.{Block, fold-Block, fold-roll-Block}
+use Rattle.som_model.specs.declared.syntax.Stmt.{Stmt, ind-Stmt, fold-roll-Stmt, map-Stmt}
+use Rattle.som_model.specs.declared.syntax.Stmt.TheOpen.{Stmt-F}
+use Rattle.som_model.specs.declared.syntax.Block.{Block, fold-roll-Block}
 use Rattle.som_code.specs.declared.instruction.Instruction.{Instruction}
 use Rattle.som_code.specs.declared.instruction.Instruction.TheVariants as ops
-use Rattle.som_code.specs.Laid.{Laid, LaidBlock, just, ◌then◌, lay_all, stmt_step, block_step, lay_expr, lay_stmt, lay_block}
+use Rattle.som_code.specs.Laid.{Laid, LaidBlock, just, lay_all, stmt_step, block_step, lay_expr, lay_stmt, lay_block}
 use Rattle.som_code.proofs.Emits.{emits_then}
 
 -- so many statements are written: with the code of those that are left it is the code of all, and no more locals are visible than there is room for

@@ -1,11 +1,10 @@
 -- A typed block sets none but visible locals.
-use Rattle.std.proofs.Common.{◌≡◌, ◌<◌, ◌+◌, ℕ, List, [], ◌∷◌, ◌++◌, map, length, slice_get, Option, Some, None, Result, Ok, Err, Bool, true, false, ◌&&◌, not, nat_lt, refl, sym, ap, ◌∙◌, subst, arith, length-append}
+use Rattle.std.proofs.Common.{◌≡◌, ◌+◌, ℕ, List, [], ◌∷◌, ◌++◌, map, length, slice_get, Option, Some, None, Ok, Err, Bool, true, false, ◌&&◌, not, refl, sym, ap, ◌∙◌, subst, arith, length-append}
 use Rattle.std.proofs.lemmas.Option.{slice_get_within}
-use Rattle.som_model.specs.declared.key.ValueType.{ValueType}
 use Rattle.som_model.specs.declared.syntax.Expr.{Expr}
-use Rattle.som_model.specs.declared.syntax.Stmt.{Stmt, ind-Stmt, roll-Stmt, fold-Stmt, fold-roll-Stmt, map-Stmt}
+use Rattle.som_model.specs.declared.syntax.Stmt.{Stmt, roll-Stmt, fold-roll-Stmt, map-Stmt}
 use Rattle.som_model.specs.declared.syntax.Stmt.TheOpen.{Stmt-F, Block-F}
-use Rattle.som_model.specs.declared.syntax.Block.{Block, ind-Block, roll-Block, fold-Block, fold-roll-Block, map-Block}
+use Rattle.som_model.specs.declared.syntax.Block.{Block, ind-Block, roll-Block, fold-roll-Block, map-Block}
 use Rattle.som_model.specs.Steps.{◌>>=◌}
 use Rattle.som_model.specs.Blocks.{is_call}
 use Rattle.som_model.specs.Typing.{ClassFacts, CodePlace, ExprType, Of, Ruled, needs, there, value, expr_type, kind_is_known, fits, is_nothing, is_boolean, is_class, has_text, own_variable}

@@ -1,19 +1,19 @@
 -- Pieces of code that go on with other locals, or end the body.
-use Rattle.std.proofs.Common.{◌≡◌, ◌≤◌, ◌<◌, ◌+◌, ℕ, zero, suc, List, [], ◌∷◌, ◌++◌, length, take, slice_get, Option, Some, Bool, true, false, ◌&&◌, if◌then◌else◌, refl, sym, ap, ◌∙◌, subst, arith, length-append}
+use Rattle.std.proofs.Common.{◌≡◌, ◌≤◌, ◌+◌, ℕ, zero, suc, List, [], ◌∷◌, ◌++◌, length, take, Bool, true, false, ◌&&◌, if◌then◌else◌, refl, sym, ap, ◌∙◌, subst, arith, length-append}
 use Rattle.som_model.specs.World.{World}
 use Rattle.som_model.specs.State.{Value, Event, Heap, State}
-use Rattle.som_model.specs.Runs.{Spent, Ran, Goes, Ends, end_of, follow, Act}
+use Rattle.som_model.specs.Runs.{Ran, Goes, Ends, end_of, follow, Act}
 use Rattle.som_model.specs.Acts.{◌>>=◌, ◌>>◌, pure, take_unit, unit_from, self_le}
 use Rattle.som_model.specs.Calls.{Calls, Here}
 use Rattle.som_model.specs.Expressions.{Frame, Evals, is_true}
-use Rattle.som_model.specs.Statements.{Flow, Next, Return, Returned, Runs, go_on, turn, while_loop, all_of, leave}
+use Rattle.som_model.specs.Statements.{Flow, Next, Return, Returned, Runs, go_on, while_loop, all_of, leave}
 use Rattle.som_model.proofs.LoopLaws.{while_is}
 use Rattle.som_code.specs.declared.instruction.Instruction.{Instruction}
 use Rattle.som_code.specs.declared.instruction.Instruction.TheVariants as ops
 use Rattle.som_code.specs.Machine.{After, On, Over}
 use Rattle.som_code.specs.Effect.{Conf, conf, step, obey}
-use Rattle.som_code.specs.Laid.{Lays, Bodies, Laid, LaidBlock, nothing, just, ◌then◌, lay_all, all_fit, lay_choice, lay_loop}
-use Rattle.som_code.proofs.Leads.{Leads, lead_bind, lead_trans, lead_none, follow_assoc}
+use Rattle.som_code.specs.Laid.{Lays, Bodies, Laid, LaidBlock, just, ◌then◌, lay_all, all_fit, lay_choice, lay_loop}
+use Rattle.som_code.proofs.Leads.{lead_bind, lead_trans, lead_none, follow_assoc}
 use Rattle.som_code.proofs.Sits.{Sits, sits_front, sits_back}
 use Rattle.som_code.proofs.Pieces.{Goes_to, one, one_then, Puts, decides, then_length}
 use Rattle.som_code.proofs.Keeps.{Keeps}

@@ -1,10 +1,10 @@
 -- Laid code leads only to places in it, and back only to a turn.
-use Rattle.std.proofs.Common.{◌≡◌, ◌<◌, ◌≤◌, ◌+◌, ◌-◌, ℕ, zero, suc, List, [], ◌∷◌, ◌++◌, map, length, slice_get, Some, Bool, true, false, nat_lt, ◌||◌, refl, sym, ap, ◌∙◌, subst, arith, length-append}
-use Rattle.som_model.specs.declared.syntax.Expr.{Expr, ind-Expr, roll-Expr, fold-Expr, fold-roll-Expr, map-Expr}
+use Rattle.std.proofs.Common.{◌≡◌, ◌<◌, ◌+◌, ◌-◌, ℕ, zero, suc, List, [], ◌∷◌, ◌++◌, map, length, slice_get, Some, true, false, nat_lt, refl, sym, ap, ◌∙◌, subst, arith, length-append}
+use Rattle.som_model.specs.declared.syntax.Expr.{Expr, ind-Expr, fold-roll-Expr, map-Expr}
 use Rattle.som_model.specs.declared.syntax.Expr.TheOpen.{Expr-F}
-use Rattle.som_model.specs.declared.syntax.Stmt.{Stmt, ind-Stmt, roll-Stmt, fold-Stmt, fold-roll-Stmt, map-Stmt}
+use Rattle.som_model.specs.declared.syntax.Stmt.{Stmt, roll-Stmt, fold-roll-Stmt, map-Stmt}
 use Rattle.som_model.specs.declared.syntax.Stmt.TheOpen.{Stmt-F, Block-F}
-use Rattle.som_model.specs.declared.syntax.Block.{Block, ind-Block, roll-Block, fold-Block, fold-roll-Block, map-Block}
+use Rattle.som_model.specs.declared.syntax.Block.{Block, ind-Block, fold-roll-Block, map-Block}
 use Rattle.som_model.specs.Kernel.{som_free}
 use Rattle.som_model.specs.Values.{BinaryOp, And, Or, binary_op}
 use Rattle.som_code.specs.declared.instruction.Constant.TheVariants as constants

@@ -1,5 +1,5 @@
 -- Pieces of code that leave the value of an act on the stack.
-use Rattle.std.proofs.Common.{◌≡◌, ◌+◌, ℕ, List, [], ◌∷◌, ◌++◌, length, reverse, take, drop, slice_get, Option, Some, Bool, true, false, if◌then◌else◌, refl, sym, ap, ◌∙◌, subst, arith, suc, length-append, append_assoc}
+use Rattle.std.proofs.Common.{◌≡◌, ◌+◌, ℕ, List, [], ◌∷◌, ◌++◌, length, reverse, take, drop, slice_get, Some, Bool, true, false, if◌then◌else◌, refl, sym, ap, ◌∙◌, subst, arith, suc, length-append, append_assoc}
 use Rattle.std.proofs.lemmas.List.{reverse-append, reverse-reverse, length-reverse}
 use Rattle.std.proofs.Math.Seq.{take-append_seam, drop-append_seam}
 use Rattle.som_model.specs.World.{World}
@@ -11,7 +11,7 @@ use Rattle.som_model.specs.Expressions.{Frame, Evals, is_true, each_of}
 use Rattle.som_code.specs.declared.instruction.Constant.TheVariants as constants
 use Rattle.som_code.specs.declared.instruction.Instruction.{Instruction}
 use Rattle.som_code.specs.declared.instruction.Instruction.TheVariants as ops
-use Rattle.som_code.specs.Machine.{After, On, Over}
+use Rattle.som_code.specs.Machine.{After, On}
 use Rattle.som_code.specs.Effect.{Conf, conf, on, top, below, arguments, push, obey, obey_at, step}
 use Rattle.som_code.specs.Laid.{Lays, nothing, just, ◌then◌, lay_each, lay_and, lay_or}
 use Rattle.som_code.proofs.Leads.{Leads, lead_on, lead_bind, lead_step, lead_trans, follow_assoc}

@@ -3,9 +3,9 @@ use Rattle.std.proofs.Common.{◌≡◌, ◌<◌, ◌+◌, ℕ, zero, suc, List,
 use Rattle.std.proofs.lemmas.Bool.{ltb-true}
 use Rattle.std.specs.Prelude.{slice_set}
 use Rattle.som_model.specs.declared.syntax.Expr.{Expr}
-use Rattle.som_model.specs.declared.syntax.Stmt.{Stmt, ind-Stmt, roll-Stmt, fold-Stmt, fold-roll-Stmt, map-Stmt}
+use Rattle.som_model.specs.declared.syntax.Stmt.{Stmt, roll-Stmt, fold-roll-Stmt, map-Stmt}
 use Rattle.som_model.specs.declared.syntax.Stmt.TheOpen.{Stmt-F, Block-F}
-use Rattle.som_model.specs.declared.syntax.Block.{Block, ind-Block, roll-Block, fold-Block, fold-roll-Block, map-Block}
+use Rattle.som_model.specs.declared.syntax.Block.{Block, ind-Block, roll-Block, fold-roll-Block, map-Block}
 use Rattle.som_model.specs.Kernel.{som_free}
 use Rattle.som_model.specs.World.{World}
 use Rattle.som_model.specs.State.{Value, Offset, State}
@@ -18,12 +18,12 @@ use Rattle.som_model.specs.Invoked.{answer_of}
 use Rattle.som_code.specs.declared.instruction.Instruction.{Instruction}
 use Rattle.som_code.specs.declared.instruction.Instruction.TheVariants as ops
 use Rattle.som_code.specs.Machine.{After, On, Over, over, ComesTo}
-use Rattle.som_code.specs.Effect.{Conf, conf, beginning, push, with_local, step}
-use Rattle.som_code.specs.Laid.{Lays, Bodies, Laid, LaidBlock, just, ◌then◌, stmt_step as lay_step, block_step as lay_block_step, lay_choice, lay_all, all_fit, lay_expr, lay_stmt, lay_block, lay_body}
+use Rattle.som_code.specs.Effect.{Conf, conf, beginning, with_local, step}
+use Rattle.som_code.specs.Laid.{Bodies, Laid, LaidBlock, just, ◌then◌, stmt_step as lay_step, block_step as lay_block_step, lay_choice, lay_all, all_fit, lay_expr, lay_stmt, lay_block, lay_body}
 use Rattle.som_code.specs.Same.{body_act, HasEffect}
 use Rattle.som_code.proofs.Leads.{Leads, follow_assoc, comes}
 use Rattle.som_code.proofs.Sits.{Sits, sits_front, sits_back, sits_all}
-use Rattle.som_code.proofs.Pieces.{one, Puts, puts_one}
+use Rattle.som_code.proofs.Pieces.{one, puts_one}
 use Rattle.som_code.proofs.Exprs.{expr_good}
 use Rattle.som_code.proofs.Keeps.{Keeps, keeps_next, keeps_after, keeps_return, keeps_returned, keeps_if, loop_keeps, AtLeast, none_least, next_least, block_keeps, same_length, one_longer, set_length}
 use Rattle.som_code.proofs.Flows.{landing, Flows, flows_one, flows_then, flow_on, flows_none, flows_next, flows_block, flows_choice, flows_loop}

@@ -1,4 +1,4 @@
-use Rattle.std.proofs.Common.{◌≡◌, ◌≤◌, ◌+◌, ◌*◌, ◌++◌, length, map, drop, max}
+use Rattle.std.proofs.Common.{◌+◌, ◌*◌, max}
 use Rattle.som_model.specs.declared.syntax.Stmt.{size-Stmt}
 use Rattle.som_model.specs.declared.syntax.Block.{size-Block}
 use Rattle.som_code.proofs.AsFar.{IsAsFar}
