@@ -1,6 +1,7 @@
-ghost use Rattle.std.specs.Prelude.{◌≡◌, false, IfOk, None, ℕ, length};
+ghost use Rattle.std.specs.Prelude.{◌≡◌, ◌/◌, false, IfOk, None, ℕ, length};
 ghost use Rattle.som_tables.specs.Rows.{class_with, introduced_count, replaced_at};
 
+use crate::starts::PAGE;
 use crate::{ClassNo, Kind, Token};
 use std::alloc::{AllocError, Global};
 use std::marker::Model;
@@ -97,6 +98,18 @@ pub(crate) fn replaces_any<K: Kind>(replaced: &[(Token<K>, K::Cell)], class: Cla
 {
     for pair in replaced {
         if pair.0.class() == class {
+            return true;
+        }
+    }
+    false
+}
+
+/// Whether the cell of some token of a class of the page is replaced. It may say so where none is.
+pub(crate) fn replaces_on<K: Kind>(replaced: &[(Token<K>, K::Cell)], number: usize) -> bool
+    ensures { result ≡ false → (a p : ℕ) → a / 64 ≡ number → replaced_at replaced.now (a, p) ≡ None }
+{
+    for pair in replaced {
+        if pair.0.class().number() as usize / PAGE == number {
             return true;
         }
     }
