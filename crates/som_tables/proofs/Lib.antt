@@ -5,3 +5,4 @@ pub mod NextBlocks
 pub mod NextPages
 pub mod NextRow
 pub mod Options
+pub mod Paging

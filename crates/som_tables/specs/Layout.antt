@@ -1,5 +1,5 @@
 -- How the rows of a table stand in memory: all cells in one list, in blocks of the cells that one class introduced. Where the blocks of a row begin stands on pages, one for each 64 class numbers; rows may share pages.
-use Rattle.std.specs.Prelude.{◌≡◌, ◌≢◌, ℕ, zero, suc, ◌+◌, ◌*◌, ◌<◌, ◌≤◌, ◌/◌, ◌%◌, List, [], length, Option, Some, None, IsSome, option_and_then, slice_get}
+use Rattle.std.specs.Prelude.{◌≡◌, ◌≢◌, ℕ, zero, suc, ◌+◌, ◌*◌, ◌<◌, ◌≤◌, ◌/◌, ◌%◌, ◌==◌, List, [], length, Option, Some, None, IsSome, option_and_then, slice_get, filter}
 use Rattle.std.specs.Option.{option_or, option_flatten, option_map_or, unwrap_or}
 use Rattle.som_tables.specs.Rows.{Added, row_at, first_some, replaced_at, inherited, HasToken, introduced_count, ParentsComeFirst}
 
@@ -74,6 +74,10 @@ pub record IsTable {C : Type 0} (cs : List (Option (Added C))) (lines : List (Op
 -- the cells for class a in the row that is made of these
 abbrev pub next_cell : {C : Type 0} → List (Option (Added C)) → List ℕ → List ((ℕ × ℕ) × C) → ℕ → ℕ → Option C
 next_cell cs parents replaced a p = option_or (replaced_at replaced (a, p)) (first_some (λ q. inherited cs q (a, p)) parents)
+
+-- the replaced cells of the classes of page k
+abbrev pub on_page : {C : Type 0} → ℕ → List ((ℕ × ℕ) × C) → List ((ℕ × ℕ) × C)
+on_page k replaced = filter (λ r. r.0.0 / 64 == k) replaced
 
 -- the block for class a begins there in the row of class n, which is made of this, and whose own block begins where it is said
 pub record IsStart {C : Type 0} (cs : List (Option (Added C))) (n : ℕ) (row : Added C) (own start : Option ℕ) (a : ℕ) (cells : List C) : Type 0 where

@@ -98,13 +98,14 @@ fn new_page<K: Kind>(
     ensures inside { IfOk result (λ page. IsInside starts.new.items page) }
     ensures page { IfOk result (λ page. IsPage rows.now class row.now own number (page_start starts.new.items page) cells.new.items) }
 {
+    let part = row.on_page(alloc, number)?;
     let mut page = Vec::with_capacity(alloc, PAGE)?;
     lay_page(
         rows,
         lines,
         starts.as_slice(),
         cells,
-        row,
+        &part,
         class,
         own,
         number,
