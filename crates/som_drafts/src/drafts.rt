@@ -9,8 +9,8 @@ ghost use Rattle.som_drafts.specs.Items as spec;
 ghost use Rattle.std.specs.Prelude.{◌≡◌, map, option_map, IfOk};
 
 use crate::exports::introduced;
-use crate::items::{add_metaclasses, major, minor, parent_names};
 use crate::given::marks;
+use crate::items::{add_metaclasses, major, minor, parent_names};
 use crate::tables::by_name;
 use crate::variables::variables;
 use som_idl::{IdlInterface, Item, Word};

@@ -1,6 +1,7 @@
 ghost use Rattle.som_model.specs.declared.key.ValueType.TheVariants as types;
 ghost use Rattle.som_order.specs.Names.{texts};
 ghost use Rattle.som_read.specs.declared.tree.Word.{Word as Named};
+ghost use Rattle.som_scope.specs.ClassNames as names_of_classes;
 ghost use Rattle.som_scope.specs.ClassNames.{module_in_scope};
 ghost use Rattle.som_drafts.specs.Drafts as drafting;
 ghost use Rattle.som_drafts.specs.Drafts.{accessors, export_entries, getter, method, param_types, setter};
@@ -8,7 +9,7 @@ ghost use Rattle.som_drafts.specs.Items as spec;
 ghost use Rattle.std.specs.Prelude.{◌≡◌, ◌++◌, ◌∷◌, [], flat_map, IfOk, OnOk};
 
 use indexmap::IndexSet;
-use som_idl::{Export, IdlInterface, Param, Word};
+use som_idl::{Export, IdlInterface, Param, TypeName, Word};
 use som_model::{Entry, List, NoMemory, Sig, Text, ValueType, Way};
 use som_order::find_name;
 use som_scope::{Scope, result_of, type_of};
@@ -70,14 +71,31 @@ fn add_export(
             name,
             params,
         } => {
-            let sig = Sig {
-                result: result_of(alloc, scope, result)?,
-                params: kinds(alloc, scope, params.as_slice())?,
-            };
-            let entry = introduce(by_name, name.text.copy(alloc)?, sig);
-            entries.push(entry)
+            let name = name.text.copy(alloc)?;
+            let sig = operation_sig(alloc, scope, result, params.as_slice())?;
+            entries.push(introduce(by_name, name, sig))
         }
     }
+}
+
+// The type of the result is made last, so that no other step has to drop it.
+fn operation_sig(
+    alloc: Global,
+    scope: &Scope,
+    outcome: &Option<TypeName>,
+    params: &[Param],
+) -> Result<Sig, NoMemory>
+    ensures { IfOk result (λ sig. sig ≡ record {
+      result = names_of_classes.result_of (module_in_scope scope.now) outcome.now;
+      params = param_types (module_in_scope scope.now) params.now;
+    }) }
+{
+    let params = kinds(alloc, scope, params)?;
+    let outcome = result_of(alloc, scope, outcome)?;
+    Ok(Sig {
+        result: outcome,
+        params,
+    })
 }
 
 // The methods that read and set the attributes of these names.
@@ -130,11 +148,12 @@ fn reader(
 ) -> Result<Entry, NoMemory>
     ensures { IfOk result (λ e. e ≡ method (texts by_name.now.keys) (getter name.now) kind.now []) }
 {
+    let name = prefixed(alloc, b"_get_", name)?;
     let sig = Sig {
         result: kind.copy(alloc)?,
         params: List::new(alloc),
     };
-    Ok(introduce(by_name, prefixed(alloc, b"_get_", name)?, sig))
+    Ok(introduce(by_name, name, sig))
 }
 
 fn writer(
@@ -145,13 +164,14 @@ fn writer(
 ) -> Result<Entry, NoMemory>
     ensures { IfOk result (λ e. e ≡ method (texts by_name.now.keys) (setter name.now) types.Void (kind.now ∷ [])) }
 {
+    let name = prefixed(alloc, b"_set_", name)?;
     let mut params = List::new(alloc);
     params.push(kind.copy(alloc)?)?;
     let sig = Sig {
         result: ValueType::Void,
         params,
     };
-    Ok(introduce(by_name, prefixed(alloc, b"_set_", name)?, sig))
+    Ok(introduce(by_name, name, sig))
 }
 
 /// A name after a prefix.

@@ -19,7 +19,7 @@ use crate::passes::{breach, each_draft};
 use crate::tables::replaced;
 use indexmap::IndexSet;
 use som_idl::Modifier;
-use som_model::NoMemory;
+use som_model::{Entry, NoMemory};
 use som_order::{find_name, note_name};
 use som_rules::VerifyFault;
 use som_scope::table_of;
@@ -59,12 +59,32 @@ fn own_misplaced<'a>(alloc: Global, draft: &'a Draft) -> Result<Option<&'a [u8]>
     ensures { IfOk result (λ name. option_copied name ≡
         first (misplaced (once (introduced draft.now.decl.face.entries)) (replaced_of draft.now.text.now.items) nothing_said (given draft.now.text.now.items))) }
 {
-    let names = introduced_names(alloc, draft.decl.face.entries.as_slice())?;
-    let own = table_of(alloc, &names)?;
     let marks = marks(alloc, draft.text.items.as_slice())?;
     let replaced = replaced(alloc, &marks)?;
-    let name = first_misplaced(alloc, &own, &replaced, &marks)?;
-    Ok(name)
+    let entries = draft.decl.face.entries.as_slice();
+    misplaced_among(alloc, entries, &replaced, &marks)
+}
+
+// The method of the first modifier that can't stand, where the class introduces these entries.
+fn misplaced_among<'a>(
+    alloc: Global,
+    entries: &[Entry],
+    replaced: &IndexSet<&[u8]>,
+    marks: &[Mark<'a>],
+) -> Result<Option<&'a [u8]>, NoMemory>
+    ensures { IfOk result (λ name. option_copied name ≡
+        first (misplaced (once (introduced entries.now)) (texts replaced.now.keys) nothing_said (map given_by marks.now))) }
+{
+    let own = introduced_table(alloc, entries)?;
+    first_misplaced(alloc, &own, replaced, marks)
+}
+
+// A table of the names that entries introduce.
+fn introduced_table(alloc: Global, entries: &[Entry]) -> Result<IndexSet<&[u8]>, NoMemory>
+    ensures { IfOk result (λ own. texts own.keys ≡ once (introduced entries.now)) }
+{
+    let names = introduced_names(alloc, entries)?;
+    table_of(alloc, &names)
 }
 
 // The method of the first modifier that can't stand.

@@ -6,6 +6,6 @@ use Rattle.som_drafts.proofs.exports.reader.Goals as goal
 pub returns : goal.returns
 returns c =
     c.introduce.ensures
-    ∙ ap (λ n. method (texts c.args.by_name.now.keys) n c.in_ok-copy.field-0 c.new.result) c.in_ok-prefixed.ensures
+    ∙ ap (λ n. method (texts c.args.by_name.now.keys) n c.in_ok-copy.field-0 c.new.result) c.in_ok-name.ensures
     ∙ ap (λ k. method (texts c.args.by_name.now.keys) (getter c.args.name.now) k c.new.result) c.in_ok-copy.ensures
     ∙ ap (λ p. method (texts c.args.by_name.now.keys) (getter c.args.name.now) c.args.kind.now p) c.new.ensures
