@@ -7,7 +7,7 @@ ghost use Rattle.std.specs.Str.{bytes_eq};
 
 use som_idl::{Export, IdlInterface, Word};
 use som_model::{NoMemory, Text};
-use som_sema::prefixed;
+use som_drafts::prefixed;
 use std::alloc::Global;
 
 /// A method that reads or sets an attribute.
