@@ -6,8 +6,8 @@ ghost use Rattle.som_drafts.specs.Drafts.{plain_draft};
 ghost use Rattle.std.specs.Prelude.{◌≡◌, ◌≤◌, length, map};
 
 use crate::accessors::{Accessor, accessor_named};
-use som_model::{Body, Variable};
 use som_drafts::Draft;
+use som_model::{Body, Variable};
 
 /// The body of the accessor of a name, if the class has one.
 pub fn body_named(accessors: &[Accessor], draft: &Draft, name: &[u8]) -> Option<Body>

@@ -20,12 +20,12 @@ use crate::accessors::accessors_of;
 use crate::contexts::ModuleContext;
 use crate::texts::{first_for, texts_of};
 use som_body::BodyText;
+use som_drafts::Draft;
 use som_forms::{BodyFault, method_body};
 use som_model::{
     Block, Body, Entry, List, MAX_LOCALS, MethodRef, NoMemory, Override, Select, Sig, Text,
 };
 use som_rules::Broken;
-use som_drafts::Draft;
 use som_sema::{Refused, selects};
 use som_typing::{decl_at, signature_of};
 use std::alloc::Global;

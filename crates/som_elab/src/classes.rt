@@ -9,9 +9,9 @@ ghost use Rattle.std.specs.Prelude.{◌≡◌, IfOk, None};
 use crate::class_bodies::{ClassBodies, class_bodies};
 use crate::contexts::ModuleContext;
 use som_body::BodyText;
+use som_drafts::Draft;
 use som_model::{ClassDecl, List, NoMemory};
 use som_rules::KERNEL_CLASSES;
-use som_drafts::Draft;
 use som_sema::Refused;
 use std::alloc::Global;
 

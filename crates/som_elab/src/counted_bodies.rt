@@ -11,8 +11,8 @@ ghost use Rattle.std.specs.Prelude.{◌≡◌, ◌<◌, ◌==◌, length, flat_m
 use crate::operations::is_operation;
 use crate::texts::{count_for, texts_of};
 use som_body::BodyText;
-use som_rules::VerifyFault;
 use som_drafts::{Draft, breach, each_draft, introduced_names};
+use som_rules::VerifyFault;
 use std::alloc::Global;
 
 /// Each operation and each method that is overridden has exactly one body.

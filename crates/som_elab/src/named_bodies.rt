@@ -14,9 +14,9 @@ ghost use Rattle.std.specs.Str.{bytes_eq};
 
 use crate::operations::is_operation;
 use som_body::BodyText;
+use som_drafts::Draft;
 use som_model::{Entry, NoMemory, Override, Sig, Text};
 use som_rules::{Broken, VerifyFault, find_entry};
-use som_drafts::Draft;
 use som_sema::{Places, first_place, note, place_table};
 use som_typing::{Knowledge, signature_of};
 use std::alloc::Global;
