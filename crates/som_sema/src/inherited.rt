@@ -79,34 +79,11 @@ fn own_inherited(
     if marks.is_empty() {
         return Ok(());
     }
-    given_inherited(
-        alloc, scope, kernel, classes, ancestors, draft, &marks, place,
-    )
-}
-
-// The same of the modifiers that are given.
-fn given_inherited<'a>(
-    alloc: Global,
-    scope: &Scope,
-    kernel: &[ClassFace],
-    classes: &[Declared],
-    ancestors: &AncestorTable,
-    draft: &'a Draft,
-    marks: &[Mark<'a>],
-    place: usize,
-) -> Result<(), VerifyFault>
-    requires kernel { kernel.now ≡ kernel_interface.classes }
-    requires ancestors { IsAncestorTable (classes_of classes.now) ancestors.now }
-    requires place { place < length (with_kernel (classes_of classes.now)) }
-    requires marks { map given_by marks.now ≡ given draft.now.text.now.items }
-    ensures { Tells (first (flat_map (replaces_inherited (module_in_scope scope.now) (with_kernel (classes_of classes.now))
-        (key_at (with_kernel (classes_of classes.now)) place) (plain_draft draft.now)) (map given_by marks.now))) result }
-{
     let lists = ancestors.lists.as_slice();
     let above = places_above(alloc, kernel, classes, lists, place)?;
-    let text = selecting_in(alloc, draft, marks)?;
+    let text = selecting_in(alloc, draft, &marks)?;
     marks_inherited(
-        alloc, scope, classes, ancestors, &above, &text, draft, marks, place,
+        alloc, scope, classes, ancestors, &above, &text, draft, &marks, place,
     )
 }
 

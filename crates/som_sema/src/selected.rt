@@ -7,7 +7,7 @@ ghost use Rattle.som_rules.specs.Places.{key_at as key_at_place, with_kernel};
 ghost use Rattle.som_rules.specs.Walk.{AreLists};
 ghost use Rattle.som_drafts.specs.Drafts.{plain_draft};
 ghost use Rattle.som_sema.specs.Finished.{place_of, select_of, selects_at};
-ghost use Rattle.som_drafts.specs.Items.{chosen, chosen_by, given_by, or_object};
+ghost use Rattle.som_drafts.specs.Items.{chosen_by, given_by, or_object};
 ghost use Rattle.som_sema.specs.Noted.{IsKnown, along};
 ghost use Rattle.som_sema.specs.Selecting.{choice_of};
 ghost use Rattle.std.specs.Prelude.{◌≡◌, ◌<◌, ◌≤◌, [], length, map, flat_map, slice_index_or, IfOk};
@@ -44,44 +44,19 @@ pub fn selects(
     ensures { IfOk result (λ ss. ss ≡ selects_at (with_kernel (classes_of classes.now))
         (key_at_place (with_kernel (classes_of classes.now)) place) (plain_draft draft.now)) }
 {
-    let choices = choices_in(alloc, draft)?;
+    let marks = marks(alloc, draft.text.items.as_slice())?;
+    let choices = choices(alloc, &marks)?;
     if choices.is_empty() {
         return Ok(List::new(alloc));
     }
-    choices_selected(alloc, kernel, classes, lists, draft, &choices, place)
-}
-
-fn choices_selected(
-    alloc: Global,
-    kernel: &[ClassFace],
-    classes: &[Declared],
-    lists: &[List<usize>],
-    draft: &Draft,
-    choices: &[Choice],
-    place: usize,
-) -> Result<List<Select>, NoMemory>
-    requires kernel { kernel.now ≡ kernel_interface.classes }
-    requires lists { AreLists (with_kernel (classes_of classes.now)) lists.now }
-    requires place { place < length (with_kernel (classes_of classes.now)) }
-    requires parents { length (or_object draft.now.text.now.parents) ≤ 255 }
-    ensures { IfOk result (λ ss. ss ≡ map (select_of (with_kernel (classes_of classes.now))
-        (key_at_place (with_kernel (classes_of classes.now)) place) (or_object draft.now.text.now.parents)) (map choice_of choices.now)) }
-{
-    let parents = parent_names(alloc, draft.text.parents.as_slice())?;
     let above = places_above(alloc, kernel, classes, lists, place)?;
+    let parents = parent_names(alloc, draft.text.parents.as_slice())?;
     each_select(
-        alloc, kernel, classes, lists, &above, &parents, choices, place,
+        alloc, kernel, classes, lists, &above, &parents, &choices, place,
     )
 }
 
-// What the text of a class selects, in its order.
-fn choices_in<'a>(alloc: Global, draft: &'a Draft) -> Result<Vec<Choice<'a>>, NoMemory>
-    ensures { IfOk result (λ all. map choice_of all.items ≡ chosen draft.now.text.now.items) }
-{
-    let marks = marks(alloc, draft.text.items.as_slice())?;
-    choices(alloc, &marks)
-}
-
+// What is selected, in the order of the text.
 fn choices<'a>(alloc: Global, marks: &[Mark<'a>]) -> Result<Vec<Choice<'a>>, NoMemory>
     ensures { IfOk result (λ all. map choice_of all.items ≡ flat_map chosen_by (map given_by marks.now)) }
 {
