@@ -1,0 +1,4 @@
+pub mod Values
+pub mod Heaps
+pub mod Checks
+pub mod Checked
