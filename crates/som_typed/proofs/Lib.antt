@@ -5,3 +5,4 @@ pub mod Steps
 pub mod Values
 pub mod Operators
 pub mod Calls
+pub mod Expressions

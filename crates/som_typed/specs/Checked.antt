@@ -24,7 +24,7 @@ use Rattle.som_model.specs.Statements.{Next, Return, Returned, Runs, assign, pri
 use Rattle.som_model.specs.Invoked.{result_zero, answer_of, body_does}
 use Rattle.som_model.specs.Means.{body_class, hooks_of, beginning}
 use Rattle.som_typed.specs.Values.{has_type, have_types, is_result, is_long, is_boolean, has_text, unary_takes, binary_takes}
-use Rattle.som_typed.specs.Checks.{is_class, stands, has_slot, has_parent, has_method, can_run, kernel_can, has_target}
+use Rattle.som_typed.specs.Checks.{is_class, of_class, stands, has_slot, has_parent, has_method, can_run, kernel_can, has_target}
 
 module _ (otherwise : Act (Unit {0})) where
   -- where this doesn't hold of the objects, something else is done
@@ -43,10 +43,6 @@ module _ (otherwise : Act (Unit {0})) where
   such_that test e frame = checked_value test (e frame)
 
   module _ (w : World) where
-    -- a value of a class's type
-    abbrev pub of_class : ClassKey → Value → Heap → Bool
-    of_class k v h = has_type w h (types.Class k) v
-
     -- ---- expressions: the same steps, whose parts have values that the steps take
 
     module _ (call : Calls) (here : Here) where
@@ -61,8 +57,8 @@ module _ (otherwise : Act (Unit {0})) where
       expr_checked (Expr-F.Class k) frame = check (is_class w k) >> expr_step w call here (Expr-F.Class k) frame
       expr_checked (Expr-F.Cast k e) frame = check (is_class w k) >> expr_step w call here (Expr-F.Cast k (such_that (λ v h. has_type w h an_object v) e)) frame
       expr_checked (Expr-F.Isa k e) frame = check (is_class w k) >> expr_step w call here (Expr-F.Isa k (such_that (λ v h. has_type w h an_object v) e)) frame
-      expr_checked (Expr-F.Proxy k e) frame = check (is_class w k) >> expr_step w call here (Expr-F.Proxy k (such_that (of_class k) e)) frame
-      expr_checked (Expr-F.OffsetCall r e es) frame = expr_step w call here (Expr-F.OffsetCall r (such_that (of_class r.class) e) es) frame
+      expr_checked (Expr-F.Proxy k e) frame = check (is_class w k) >> expr_step w call here (Expr-F.Proxy k (such_that (of_class w k) e)) frame
+      expr_checked (Expr-F.OffsetCall r e es) frame = expr_step w call here (Expr-F.OffsetCall r (such_that (of_class w r.class) e) es) frame
       expr_checked (Expr-F.Lookup wanted name e es) frame = expr_step w call here (Expr-F.Lookup wanted name (such_that (λ v h. has_type w h an_object v) e) es) frame
       expr_checked (Expr-F.Dispatch wanted name e es) frame = expr_step w call here (Expr-F.Dispatch wanted name (such_that (λ v h. has_type w h an_object v) e) es) frame
       expr_checked (Expr-F.ParentCall n r es) frame = check (has_parent w here n) >> expr_step w call here (Expr-F.ParentCall n r es) frame

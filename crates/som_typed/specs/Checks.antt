@@ -18,6 +18,10 @@ use Rattle.som_typed.specs.Values.{is_there, has_type, have_types, are_arguments
 abbrev pub is_class : World → ClassKey → Heap → Bool
 is_class w k h = w.is_a k som_object
 
+-- a value of a class's type
+abbrev pub of_class : World → ClassKey → Value → Heap → Bool
+of_class w k v h = has_type w h (types.Class k) v
+
 -- a body of this class can run on this value: it is an object that there is, of the class or of one below it
 abbrev pub stands : World → ClassKey → Value → Heap → Bool
 stands w k v h = is_reference v && has_type w h (types.Class k) v
