@@ -45,7 +45,7 @@ abbrev parent_in : Option Class → ℕ → Option ClassKey
 parent_in None n = None
 parent_in (Some c) n = slice_get c.decl.face.parents n
 
-abbrev kind_in : Option Class → ℕ → Option ValueType
+abbrev pub kind_in : Option Class → ℕ → Option ValueType
 kind_in None n = None
 kind_in (Some c) n = slice_get (map (λ (v : Variable). v.kind) c.decl.variables) n
 

@@ -98,6 +98,7 @@ pub record IsSound (w : World) (known : ClassKey → Bool) : Type 0 where
   pub proxied : (k c : ClassKey) → known k ≡ true → w.is_a (keys.Proxy k) (keys.Proxy c) ≡ true → k ≡ c
   -- methods: an owner is above, a name is that of a method of an ancestor, some class answers, and each body fits
   pub owner : (r : MethodRef) (s : Sig) → w.sig (w.owner r) ≡ Some s → w.is_a r.class (w.owner r).class ≡ true
+  pub own : (r : MethodRef) (s : Sig) → w.sig r ≡ Some s → w.owner r ≡ r
   pub byname : (k : ClassKey) (name : List ℕ) (r : MethodRef) → w.byname k name ≡ Some r → (w.is_a k r.class ≡ true) × ((s : Sig) × (w.sig r ≡ Some s))
   pub answered : (x : ClassKey) (r : MethodRef) (s : Sig) → w.sig r ≡ Some s → w.is_a x r.class ≡ true → IsAnswered w x r
   pub bodies : (y : ClassKey) (r : MethodRef) (s : Sig) (b : Held) → w.sig r ≡ Some s → w.held y r ≡ Some b → IsBody w known y r s b

@@ -6,3 +6,4 @@ pub mod Values
 pub mod Operators
 pub mod Calls
 pub mod Expressions
+pub mod Statements
