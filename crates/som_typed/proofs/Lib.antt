@@ -7,3 +7,5 @@ pub mod Operators
 pub mod Calls
 pub mod Expressions
 pub mod Statements
+pub mod Bodies
+pub mod Runs

@@ -78,7 +78,7 @@ module _ (w : World) (known : ClassKey → Bool) (sound : IsSound w known) where
   one_long : (h : Heap) (z : ℤ) → Answers (long z) (λ u. has_type w h types.Long u ≡ true)
   one_long h z = answers_if (values.is_long z) (Long z) faults.Overflow (λ u. has_type w h types.Long u ≡ true) refl
 
-  one_text : (h : Heap) (t : List ℕ) → Answers (text t) (λ u. has_type w h types.Str u ≡ true)
+  pub one_text : (h : Heap) (t : List ℕ) → Answers (text t) (λ u. has_type w h types.Str u ≡ true)
   one_text h t = answers_if (nat_le (length t) MAX_TEXT) (Str t) faults.TextTooLong (λ u. has_type w h types.Str u ≡ true) refl
 
   -- what an operator answers is as its type says
