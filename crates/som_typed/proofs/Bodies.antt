@@ -87,7 +87,7 @@ module _ (w : World) where
       by : (flow : Flow) → FlowHas w s.result s.params flow h → has_type w h s.result (answer_of (zero_of s.result) flow) ≡ true
       by (Next frame) g = zero_typed w h s.result
       by Return g = zero_typed w h s.result
-      by (Returned v) g = g
+      by (Returned v) g = g.0
 
 module _ (w : World) (known : ClassKey → Bool) (sound : IsSound w known) where
   a_class_object : (h : Heap) (k : ClassKey) → w.is_a k som_object ≡ true → has_type w h a_class (To (ClassObject k)) ≡ true
@@ -178,6 +178,11 @@ module _ (w : World) (known : ClassKey → Bool) (sound : IsSound w known) where
     target_typed h c (ClassObject k) t e = refl
     target_typed h c Manager t e = refl
 
+    target_there : (h : Heap) (c : ClassKey) (m : MethodRef) (r : Ref) → w.is_a c m.class ≡ true → AreTyped w h → has_type w h (types.Class (keys.Proxy c)) (To r) ≡ true → has_target w m r h ≡ true
+    target_there h c m (Object i) d t e = class_up w known sound h c m.class (target_of h (Object i)) d (target_typed h c (Object i) t e)
+    target_there h c m (ClassObject k) d t e = absurd (sound.real k c (both (w.is_a k som_object) (w.is_a (w.meta k) (keys.Proxy c)) e).1)
+    target_there h c m Manager d t e = absurd (sound.real_manager c e)
+
     forward_keeps : (h : Heap) (c : ClassKey) (r : MethodRef) (args : List Value) (s : Sig) → has_type w h (types.Class (keys.Proxy c)) (To self) ≡ true → w.is_a c r.class ≡ true → w.sig r ≡ Some s → have_types w h s.params args ≡ true
         → Keeps w h (forward_body w call at self r args) (forward_body w checked at self r args) (Has w s.result)
     forward_keeps h c r args s e d is a =
@@ -238,6 +243,6 @@ module _ (w : World) (known : ClassKey → Bool) (sound : IsSound w known) where
     body_keeps h held.Forward x r self args s is (c, key, d) e a ty =
         let proxy : has_type w h (types.Class (keys.Proxy c)) (To self) ≡ true = subst (λ k. has_type w h (types.Class k) (To self) ≡ true) key e in
         check_keeps w otherwise h (Has w s.result) (has_target w r self) (forward_body w call (InBody x r.name) self r args) (forward_body w checked (InBody x r.name) self r args)
-        (λ g le ty. class_up w known sound g c r.class (target_of g self) d (target_typed otherwise call checked keep (InBody x r.name) self g c self ty (type_later w h g le (types.Class (keys.Proxy c)) (To self) proxy)))
+        (λ g le ty. target_there otherwise call checked keep (InBody x r.name) self g c r self d ty (type_later w h g le (types.Class (keys.Proxy c)) (To self) proxy))
         (forward_keeps otherwise call checked keep (InBody x r.name) self h c r args s proxy d is a)
     body_keeps h held.Nothing x r self args s is void e a ty = pure_keeps w h (Has w s.result) Nil (λ g le ty. ap (λ z. has_type w g z Nil) void)

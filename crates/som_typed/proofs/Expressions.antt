@@ -12,7 +12,7 @@ use Rattle.som_model.specs.declared.class.Sig.{Sig}
 use Rattle.som_model.specs.declared.class.Variable.{Variable}
 use Rattle.som_model.specs.declared.limits.TheConstants.{MAX_PARAMETERS}
 use Rattle.som_model.specs.declared.program.Fault.TheVariants as faults
-use Rattle.som_model.specs.Lists.{Mem}
+use Rattle.som_model.specs.Lists.{Mem, some}
 use Rattle.som_model.specs.Keys.{same_key}
 use Rattle.som_model.specs.Steps.{◌>>=◌}
 use Rattle.som_model.specs.Class.{Class}
@@ -29,9 +29,9 @@ use Rattle.som_model.specs.Expressions.{Frame, Evals, local_in, read, each_of, e
 use Rattle.som_model.specs.Typing.{ClassFacts, CodePlace, ExprType, Of, PlainNil, Typed, Ruled, needs, there, gives, is_nothing, is_reference, descends_to, fits, all_fit, kind_is_known, value, value_of, values, unary_type, binary_type, host_type, cast_type, isa_type, proxy_type, offset_call_type, named_call_type, parent_call_type, parents_call_type, own_variable, expr_type}
 use Rattle.som_model.specs.Typing as typing
 use Rattle.som_model.proofs.KeyLaws.{both}
-use Rattle.som_typed.specs.Values.{is_there, has_type, have_types, is_long, unary_takes, binary_takes}
+use Rattle.som_typed.specs.Values.{is_there, is_value, has_type, have_types, are_of_one_kind, is_long, unary_takes, binary_takes}
 use Rattle.som_typed.specs.Heaps.{AreTyped}
-use Rattle.som_typed.specs.Checks.{is_class, of_class, stands, has_slot, has_parent}
+use Rattle.som_typed.specs.Checks.{is_class, is_kind, of_class, stands, has_slot, has_parent, has_parents}
 use Rattle.som_typed.specs.Checked.{check, such_that, expr_checked, checked_eval}
 use Rattle.som_typed.proofs.Keeping.{Answers, Any, Keeps, bind_keeps, pure_keeps, tried_keeps, asked_keeps, emit_keeps, unit_keeps, if_keeps, weaker_keeps, check_keeps, value_keeps}
 use Rattle.som_typed.proofs.Heaps.{both_true, some_is, type_later, types_later}
@@ -56,12 +56,31 @@ proper_in w (Some c) k = not (same_key k c.key) && w.is_a c.key k
 abbrev variables_in : Option Instance → Variables
 variables_in o = elim o [ None ↦ (λ k n. Nil) | Some t ↦ t.variables ]
 
+is_false : (b : Bool) → not b ≡ true → b ≡ false
+is_false true e = sym e
+is_false false e = refl
+
 pub get_mem : {A : Type 0} (xs : List A) (i : ℕ) (x : A) → slice_get xs i ≡ Some x → Mem x xs
 get_mem [] i x e = absurd (let z = e in cc)
 get_mem (y ∷ ys) zero x e = let same : y ≡ x = cc in inl (sym same)
 get_mem (y ∷ ys) (suc i) x e = inr (get_mem ys i x e)
 
 module _ (w : World) where
+  there_one : (h : Heap) (t : ValueType) (v : Value) → has_type w h t v ≡ true → is_value w h v ≡ true
+  there_one h (types.Class c) (To r) e = (both (is_there w h r) (w.is_a (class_of w h r) c) e).0
+  there_one h types.Void (To r) e = absurd (true≢false (sym e))
+  there_one h types.Long (To r) e = absurd (true≢false (sym e))
+  there_one h types.Boolean (To r) e = absurd (true≢false (sym e))
+  there_one h types.Str (To r) e = absurd (true≢false (sym e))
+  there_one h t Nil e = refl
+  there_one h t (Long z) e = refl
+  there_one h t (Boolean z) e = refl
+  there_one h t (Str z) e = refl
+
+  is_one : (h : Heap) (t : ExprType) (v : Value) → Is w t v h → is_value w h v ≡ true
+  is_one h (Of t) v i = there_one h t v i
+  is_one h PlainNil v i = ap (is_value w h) i
+
   pub are_later : (h g : Heap) (ts : List ExprType) (vs : List Value) → IsLater h g → AreOf w ts vs h → AreOf w ts vs g
   are_later h g [] [] le i = tt
   are_later h g (Of t ∷ ts) (v ∷ vs) le i = (type_later w h g le t v i.0, are_later h g ts vs le i.1)
@@ -155,6 +174,32 @@ module _ (w : World) (known : ClassKey → Bool) (sound : IsSound w known) where
         (E k.0 frame) (C k.0 frame) (part_keeps k.0 k.1 q.value q.first h frame i a))
 
 
+    -- the same where each is tested to be a value
+    parts_exist : (ks : List Kept) (ts : List ExprType) → values (map T (exprs ks)) ≡ Ok ts → (h : Heap) (frame : Frame) → InClass w at.class here h → have_types w h scope frame ≡ true
+        → Keeps w h (each_of (map E (exprs ks)) frame) (each_of (map (such_that otherwise (λ v g. is_value w g v)) (map C (exprs ks))) frame) (AreOf w ts)
+    parts_exist [] ts f h frame i a = subst (λ z. Keeps w h (pure []) (pure []) (AreOf w z)) (same_answer f) (pure_keeps w h (AreOf w []) [] (λ g le ty. tt))
+    parts_exist (k ∷ ks) ts f h frame i a =
+        let q = went (value (T k.0)) (λ t. values (map T (exprs ks)) >>= λ ts. Ok (t ∷ ts)) ts f in
+        let qs = went (values (map T (exprs ks))) (λ ts. Ok (q.value ∷ ts)) ts q.further in
+        let test : Value → Heap → Bool = λ v g. is_value w g v in
+        let others : Act (List Value) = each_of (map E (exprs ks)) frame in
+        let tested : Act (List Value) = each_of (map (such_that otherwise test) (map C (exprs ks))) frame in
+        let rest : Act Value → Act (List Value) → Act (List Value) = λ e es. acts.◌>>=◌ e (λ v. acts.◌>>=◌ es (λ vs. pure (v ∷ vs))) in
+        subst (λ z. Keeps w h (rest (E k.0 frame) others) (rest (such_that otherwise test (C k.0) frame) tested) (AreOf w z)) (same_answer qs.further)
+        (bind_keeps w h (Is w q.value) (AreOf w (q.value ∷ qs.value)) (λ v. acts.◌>>=◌ others (λ vs. pure (v ∷ vs))) (λ v. acts.◌>>=◌ tested (λ vs. pure (v ∷ vs)))
+        (λ v g le ty j. bind_keeps w g (AreOf w qs.value) (AreOf w (q.value ∷ qs.value)) (λ vs. pure (v ∷ vs)) (λ vs. pure (v ∷ vs))
+        (λ vs g2 le2 ty2 js. pure_keeps w g2 (AreOf w (q.value ∷ qs.value)) (v ∷ vs) (λ l lf tf. (is_later w known sound g l q.value v (later_on g g2 l le2 lf) j, are_later w g2 l qs.value vs lf js)))
+        others tested (parts_exist ks qs.value qs.first g frame (in_later w h g at.class here le i) (types_later w h g le scope frame a)))
+        (E k.0 frame) (such_that otherwise test (C k.0) frame)
+        (value_keeps w otherwise h (Is w q.value) test (E k.0 frame) (C k.0 frame) (λ v g le ty j. is_one w g q.value v j) (part_keeps k.0 k.1 q.value q.first h frame i a)))
+
+    kind_there : (kind : ValueType) → kind_is_known F kind ≡ true → (h : Heap) → is_kind w kind h ≡ true
+    kind_there (types.Class k) e h = sound.class k e
+    kind_there types.Void e h = refl
+    kind_there types.Long e h = refl
+    kind_there types.Boolean e h = refl
+    kind_there types.Str e h = refl
+
     known_class : (k : ClassKey) (h : Heap) → known k ≡ true → (g : Heap) → IsLater h g → AreTyped w g → is_class w k g ≡ true
     known_class k h e g le ty = sound.class k e
 
@@ -196,17 +241,17 @@ module _ (w : World) (known : ClassKey → Bool) (sound : IsSound w known) where
         (value_keeps w otherwise h (Is w q.value) (λ v g. unary_takes op v) (E k.0 frame) (C k.0 frame) (λ v g le ty j. (unary_typed w known sound g op q.value t v q.further j).0) (part_keeps k.0 k.1 q.value q.first h frame i a))
 
     binary_keeps : (op : ℕ) (k l : Kept) (t : ExprType) → (value (T k.0) >>= λ s. value (T l.0) >>= binary_type op s) ≡ Ok t → (h : Heap) (frame : Frame) → InClass w at.class here h → have_types w h scope frame ≡ true
-        → Keeps w h (expr_step w call here (Expr-F.Binary op (E k.0) (E l.0)) frame)
-        (expr_step w checked here (Expr-F.Binary op (such_that otherwise (λ v g. binary_takes op v) (C k.0)) (such_that otherwise (λ v g. binary_takes op v) (C l.0))) frame) (Is w t)
+        → Keeps w h (expr_step w call here (Expr-F.Binary op (E k.0) (E l.0)) frame) (expr_checked otherwise w checked here (Expr-F.Binary op (C k.0) (C l.0)) frame) (Is w t)
     binary_keeps op k l t e h frame i a =
         let q = went (value (T k.0)) (λ s. value (T l.0) >>= binary_type op s) t e in
         let u = went (value (T l.0)) (binary_type op q.value) t q.further in
         let o = operands w known sound q.value u.value t op u.further in
-        let right : Act Value = such_that otherwise (λ v g. binary_takes op v) (C l.0) frame in
+        let test : Value → Value → Heap → Bool = λ x v g. binary_takes op v && are_of_one_kind x v in
+        let right : Value → Act Value = λ x. such_that otherwise (test x) (C l.0) frame in
         let both_of : Value → Value → Act Value = λ x y. tried here.place (binary (binary_op op) x y) in
-        bind_keeps w h (Is w q.value) (Is w t) (λ x. either (binary_op op) x (E l.0 frame) (both_of x)) (λ x. either (binary_op op) x right (both_of x))
-        (λ x g le ty j. o.keeps g here.place x (E l.0 frame) right j
-        (value_keeps w otherwise g (Is w u.value) (λ v f. binary_takes op v) (E l.0 frame) (C l.0 frame) (λ v f lf tf jf. o.right f v jf)
+        bind_keeps w h (Is w q.value) (Is w t) (λ x. either (binary_op op) x (E l.0 frame) (both_of x)) (λ x. either (binary_op op) x (right x) (both_of x))
+        (λ x g le ty j. o.keeps g here.place x (E l.0 frame) (right x) j
+        (value_keeps w otherwise g (Is w u.value) (test x) (E l.0 frame) (C l.0 frame) (λ v f lf tf jf. o.right f x v (is_later w known sound g f q.value x lf j) jf)
         (part_keeps l.0 l.1 u.value u.first g frame (in_later w h g at.class here le i) (types_later w h g le scope frame a))))
         (E k.0 frame) (such_that otherwise (λ v g. binary_takes op v) (C k.0) frame)
         (value_keeps w otherwise h (Is w q.value) (λ v g. binary_takes op v) (E k.0 frame) (C k.0 frame) (λ v g le ty j. o.left g v j) (part_keeps k.0 k.1 q.value q.first h frame i a))
@@ -288,20 +333,23 @@ module _ (w : World) (known : ClassKey → Bool) (sound : IsSound w known) where
         → ((g : Heap) (on : Value) (vs : List Value) → has_type w g an_object on ≡ true → (ts : List ExprType) → AreOf w ts vs g → Keeps w g (does call on vs) (does checked on vs) (Has w kind))
         → (value (T k.0) >>= λ on. values (map T (exprs ks)) >>= named_call_type F kind on) ≡ Ok t → (h : Heap) (frame : Frame) → InClass w at.class here h → have_types w h scope frame ≡ true
         → Keeps w h (acts.◌>>=◌ (E k.0 frame) (λ on. acts.◌>>=◌ (each_of (map E (exprs ks)) frame) (λ vs. does call on vs)))
-        (acts.◌>>=◌ (such_that otherwise (λ v g. has_type w g an_object v) (C k.0) frame) (λ on. acts.◌>>=◌ (each_of (map C (exprs ks)) frame) (λ vs. does checked on vs))) (Is w t)
+        (acts.◌>>◌ (check otherwise (is_kind w kind)) (acts.◌>>=◌ (such_that otherwise (λ v g. has_type w g an_object v) (C k.0) frame) (λ on. acts.◌>>=◌ (each_of (map (such_that otherwise (λ v g. is_value w g v)) (map C (exprs ks))) frame) (λ vs. does checked on vs)))) (Is w t)
     named_form kind does k ks t keeps e h frame i a =
         let q = went (value (T k.0)) (λ on. values (map T (exprs ks)) >>= named_call_type F kind on) t e in
         let qs = went (values (map T (exprs ks))) (named_call_type F kind q.value) t q.further in
         let b = met 16 (kind_is_known F kind) (needs 17 (typing.is_class q.value) (needs 18 (nat_le (length qs.value) MAX_PARAMETERS) (Ok (Of kind)))) t qs.further in
         let d = met 17 (typing.is_class q.value) (needs 18 (nat_le (length qs.value) MAX_PARAMETERS) (Ok (Of kind))) t b.1 in
         let f = met 18 (nat_le (length qs.value) MAX_PARAMETERS) (Ok (Of kind)) t d.1 in
-        bind_keeps w h (Is w q.value) (Is w t) (λ on. acts.◌>>=◌ (each_of (map E (exprs ks)) frame) (λ vs. does call on vs)) (λ on. acts.◌>>=◌ (each_of (map C (exprs ks)) frame) (λ vs. does checked on vs))
+        let plain : Act Value = acts.◌>>=◌ (E k.0 frame) (λ on. acts.◌>>=◌ (each_of (map E (exprs ks)) frame) (λ vs. does call on vs)) in
+        let tested : Act (List Value) = each_of (map (such_that otherwise (λ v g. is_value w g v)) (map C (exprs ks))) frame in
+        check_keeps w otherwise h (Is w t) (is_kind w kind) plain (acts.◌>>=◌ (such_that otherwise (λ v g. has_type w g an_object v) (C k.0) frame) (λ on. acts.◌>>=◌ tested (λ vs. does checked on vs))) (λ g le ty. kind_there kind b.0 g)
+        (bind_keeps w h (Is w q.value) (Is w t) (λ on. acts.◌>>=◌ (each_of (map E (exprs ks)) frame) (λ vs. does call on vs)) (λ on. acts.◌>>=◌ tested (λ vs. does checked on vs))
         (λ on g2 le ty j. bind_keeps w g2 (AreOf w qs.value) (Is w t) (λ vs. does call on vs) (λ vs. does checked on vs)
         (λ vs g3 le3 ty3 js. subst (λ z. Keeps w g3 (does call on vs) (does checked on vs) (Is w z)) (same_answer f.1)
         (keeps g3 on vs (receiving w known sound g3 q.value on ty3 d.0 (is_later w known sound g2 g3 q.value on le3 j)) qs.value js))
-        (each_of (map E (exprs ks)) frame) (each_of (map C (exprs ks)) frame) (parts_keep ks qs.value qs.first g2 frame (in_later w h g2 at.class here le i) (types_later w h g2 le scope frame a)))
+        (each_of (map E (exprs ks)) frame) tested (parts_exist ks qs.value qs.first g2 frame (in_later w h g2 at.class here le i) (types_later w h g2 le scope frame a)))
         (E k.0 frame) (such_that otherwise (λ v g. has_type w g an_object v) (C k.0) frame)
-        (value_keeps w otherwise h (Is w q.value) (λ v g. has_type w g an_object v) (E k.0 frame) (C k.0 frame) (λ v g2 le ty j. receiving w known sound g2 q.value v ty d.0 j) (part_keeps k.0 k.1 q.value q.first h frame i a))
+        (value_keeps w otherwise h (Is w q.value) (λ v g. has_type w g an_object v) (E k.0 frame) (C k.0 frame) (λ v g2 le ty j. receiving w known sound g2 q.value v ty d.0 j) (part_keeps k.0 k.1 q.value q.first h frame i a)))
 
     -- calls of parents' methods, in a body of a class
     parent_form : (n : ℕ) (r : MethodRef) (ks : List Kept) (t : ExprType) (o : Option Class) (ts : List ExprType)
@@ -333,7 +381,7 @@ module _ (w : World) (known : ClassKey → Bool) (sound : IsSound w known) where
     parents_form : (r : MethodRef) (ks : List Kept) (t : ExprType) (o : Option Class) (ts : List ExprType)
         → (there 16 (w.sig (w.owner r)) >>= λ sig. needs 18 (all_fit F sig.params ts) (needs 20 (is_nothing (Of sig.result) && proper_in F o (w.owner r).class) (Ok (Of sig.result)))) ≡ Ok t
         → values (map T (exprs ks)) ≡ Ok ts → (h : Heap) (frame : Frame) → InClass w o here h → InClass w at.class here h → have_types w h scope frame ≡ true
-        → Keeps w h (expr_step w call here (Expr-F.ParentsCall r (map E (exprs ks))) frame) (acts.◌>>◌ (check otherwise (stands w (class_here here) here.me)) (expr_step w checked here (Expr-F.ParentsCall r (map C (exprs ks))) frame)) (Is w t)
+        → Keeps w h (expr_step w call here (Expr-F.ParentsCall r (map E (exprs ks))) frame) (acts.◌>>◌ (check otherwise (has_parents w here r)) (expr_step w checked here (Expr-F.ParentsCall r (map C (exprs ks))) frame)) (Is w t)
     parents_form r ks t o ts e v h frame i ia a =
         let g = went (there 16 (w.sig (w.owner r))) (λ sig. needs 18 (all_fit F sig.params ts) (needs 20 (is_nothing (Of sig.result) && proper_in F o (w.owner r).class) (Ok (Of sig.result)))) t e in
         let sig = g.value in
@@ -349,12 +397,13 @@ module _ (w : World) (known : ClassKey → Bool) (sound : IsSound w known) where
         nothing_is types.Str e = absurd (true≢false (sym e))
         nothing_is (types.Class k) e = absurd (true≢false (sym e))
         by : (o : Option Class) → InClass w o here h → proper_in F o (w.owner r).class ≡ true → (sig : Sig) → w.sig (w.owner r) ≡ Some sig → all_fit F sig.params ts ≡ true → Of types.Void ≡ t
-            → Keeps w h (expr_step w call here (Expr-F.ParentsCall r (map E (exprs ks))) frame) (acts.◌>>◌ (check otherwise (stands w (class_here here) here.me)) (expr_step w checked here (Expr-F.ParentsCall r (map C (exprs ks))) frame)) (Is w t)
+            → Keeps w h (expr_step w call here (Expr-F.ParentsCall r (map E (exprs ks))) frame) (acts.◌>>◌ (check otherwise (has_parents w here r)) (expr_step w checked here (Expr-F.ParentsCall r (map C (exprs ks))) frame)) (Is w t)
         by None j p sig is fit void = absurd (true≢false (sym p))
         by (Some c) j p sig is fit void =
             let ps : w.parents (class_here here) ≡ c.decl.face.parents = ap w.parents j.1 ∙ j.0.parents in
-            check_keeps w otherwise h (Is w t) (stands w (class_here here) here.me) (expr_step w call here (Expr-F.ParentsCall r (map E (exprs ks))) frame) (expr_step w checked here (Expr-F.ParentsCall r (map C (exprs ks))) frame)
-            (λ g2 le ty. in_place w g2 c here (in_later w h g2 (Some c) here le j))
+            check_keeps w otherwise h (Is w t) (has_parents w here r) (expr_step w call here (Expr-F.ParentsCall r (map E (exprs ks))) frame) (expr_step w checked here (Expr-F.ParentsCall r (map C (exprs ks))) frame)
+            (λ g2 le ty. both_true (stands w (class_here here) here.me g2) (some (λ q. w.is_a q (w.owner r).class) (w.parents (class_here here))) (in_place w g2 c here (in_later w h g2 (Some c) here le j))
+            (subst (λ z. some (λ q. w.is_a q (w.owner r).class) z ≡ true) (sym ps) (let b = both (not (same_key (w.owner r).class c.key)) (w.is_a c.key (w.owner r).class) p in j.0.proper (w.owner r).class (is_false (same_key (w.owner r).class c.key) b.0) b.1)))
             (bind_keeps w h (AreOf w ts) (Is w t) (λ vs. parents_calls w call here (w.parents (class_here here)) r vs) (λ vs. parents_calls w checked here (w.parents (class_here here)) r vs)
             (λ vs g2 le ty js. subst (λ z. Keeps w g2 (parents_calls w call here (w.parents (class_here here)) r vs) (parents_calls w checked here (w.parents (class_here here)) r vs) (Is w z)) void
             (parents_keeps w known sound call checked keep g2 here c.key (w.parents (class_here here)) r vs sig (type_later w h g2 le (types.Class c.key) here.me j.2) (λ q m. j.0.above q (subst (λ z. Mem q z) ps m)) is (all_fitting w known sound g2 sig.params ts vs fit js)))

@@ -10,6 +10,7 @@ use Rattle.som_model.specs.declared.key.ValueType.TheVariants as types
 use Rattle.som_model.specs.declared.class.Sig.{Sig}
 use Rattle.som_model.specs.declared.class.Variable.{Variable}
 use Rattle.som_model.specs.Lists.{Mem, some}
+use Rattle.som_model.specs.Keys.{same_key}
 use Rattle.som_model.specs.Class.{Class}
 use Rattle.som_model.specs.Kernel.{som_object, som_class, som_class_mgr, som_init, som_uninit, som_free, som_new, som_dispatch_name, before_method, after_method, a_class, an_object}
 use Rattle.som_model.specs.Rules.{is_void}
@@ -35,6 +36,7 @@ sig result params = record { result = result; params = params }
 pub record IsClass (w : World) (c : Class) : Type 0 where
   pub parents : w.parents c.key ≡ c.decl.face.parents
   pub above : (p : ClassKey) → Mem p c.decl.face.parents → w.is_a c.key p ≡ true
+  pub proper : (a : ClassKey) → same_key a c.key ≡ false → w.is_a c.key a ≡ true → some (λ p. w.is_a p a) c.decl.face.parents ≡ true
   pub variables : (n : ℕ) (kind : ValueType) → slice_get (map (λ (v : Variable). v.kind) c.decl.variables) n ≡ Some kind → (w.variable c.key n ≡ kind) × (is_void kind ≡ false)
 
 -- the results of the kernel's bodies
@@ -90,6 +92,9 @@ pub record IsSound (w : World) (known : ClassKey → Bool) : Type 0 where
   pub meta : (k : ClassKey) → w.is_a (w.meta k) som_class ≡ true
   pub metaclass : w.is_a som_class som_object ≡ true
   pub manager : w.is_a som_class_mgr som_object ≡ true
+  -- no metaclass and not SOMClassMgr is a proxy's class
+  pub real : (k c : ClassKey) → w.is_a (w.meta k) (keys.Proxy c) ≡ true → ⊥
+  pub real_manager : (c : ClassKey) → w.is_a som_class_mgr (keys.Proxy c) ≡ true → ⊥
   -- the class manager object has no variables
   pub slots : (k : ClassKey) (n : ℕ) → w.is_a som_class_mgr k ≡ true → is_void (w.variable k n) ≡ true
   pub named : (name : List ℕ) (k : ClassKey) → w.named name ≡ Some k → w.is_a k som_object ≡ true

@@ -1,5 +1,5 @@
 -- Operators take the operands that typing gives them, and answer values of the type that it says.
-use Rattle.std.proofs.Common.{◌≡◌, ◌==◌, ℕ, zero, suc, ℤ, Bool, true, false, ◌&&◌, if◌then◌else◌, nat_lt, nat_le, ◌≤◌, arith, List, [], ◌∷◌, Ok, Err, refl, sym, ap, ◌∙◌, subst, true≢false}
+use Rattle.std.proofs.Common.{◌≡◌, ◌==◌, ℕ, zero, suc, ℤ, ◌⊎◌, inl, inr, Bool, true, false, ◌&&◌, ◌||◌, if◌then◌else◌, nat_lt, nat_le, ◌≤◌, arith, List, [], ◌∷◌, Ok, Err, refl, sym, ap, ◌∙◌, subst, true≢false}
 use Rattle.std.specs.Prelude.{pos, negsuc, neg_ℤ, int_div, int_rem, ◌+ℤ◌, ◌-ℤ◌, ◌*ℤ◌, length, ◌++◌}
 use Rattle.som_model.specs.declared.key.ClassKey.{ClassKey}
 use Rattle.som_model.specs.declared.key.ValueType.{ValueType}
@@ -18,7 +18,7 @@ use Rattle.som_model.specs.Expressions.{either, is_true}
 use Rattle.som_model.specs.Typing.{ExprType, Of, Typed, gives, needs, unary_type, binary_type}
 use Rattle.som_model.specs.Typing as typing
 use Rattle.som_model.proofs.KeyLaws.{both}
-use Rattle.som_typed.specs.Values.{has_type, is_long, is_boolean, is_text, has_text, unary_takes, binary_takes}
+use Rattle.som_typed.specs.Values.{has_type, is_long, is_boolean, is_text, is_object, are_of_one_kind, has_text, unary_takes, binary_takes}
 use Rattle.som_typed.specs.Heaps.{AreTyped}
 use Rattle.som_typed.proofs.Heaps.{type_later}
 use Rattle.som_typed.proofs.Keeping.{Answers, Keeps, bind_keeps, pure_keeps, tried_keeps, if_keeps, weaker_keeps}
@@ -30,6 +30,34 @@ use Rattle.som_typed.proofs.Values.{Is, of_long, of_boolean, of_text, of_printed
 abbrev is_zero : ℤ → Bool
 is_zero (pos n) = n == 0
 is_zero (negsuc n) = false
+
+two_longs : (x y : Value) (a b : ℤ) → x ≡ Long a → y ≡ Long b → (is_long y && are_of_one_kind x y) ≡ true
+two_longs x y a b e f = subst (λ u. (is_long y && are_of_one_kind u y) ≡ true) (sym e) (subst (λ v. (is_long v && are_of_one_kind (Long a) v) ≡ true) (sym f) refl)
+
+two_booleans : (x y : Value) (a b : Bool) → x ≡ Boolean a → y ≡ Boolean b → (is_boolean y && are_of_one_kind x y) ≡ true
+two_booleans x y a b e f = subst (λ u. (is_boolean y && are_of_one_kind u y) ≡ true) (sym e) (subst (λ v. (is_boolean v && are_of_one_kind (Boolean a) v) ≡ true) (sym f) refl)
+
+two_texts : (x y : Value) (a b : List ℕ) → x ≡ Str a → y ≡ Str b → (is_text y && are_of_one_kind x y) ≡ true
+two_texts x y a b e f = subst (λ u. (is_text y && are_of_one_kind u y) ≡ true) (sym e) (subst (λ v. (is_text v && are_of_one_kind (Str a) v) ≡ true) (sym f) refl)
+
+or_true : (a b : Bool) → (a || b) ≡ true → (a ≡ true) ⊎ (b ≡ true)
+or_true true b e = inl refl
+or_true false b e = inr e
+
+of_one_kind : (x y : Value) → is_object x ≡ true → is_object y ≡ true → are_of_one_kind x y ≡ true
+of_one_kind Nil Nil e f = refl
+of_one_kind Nil (To r) e f = refl
+of_one_kind (To r) Nil e f = refl
+of_one_kind (To r) (To q) e f = refl
+of_one_kind (Long z) y e f = absurd (true≢false (sym e))
+of_one_kind (Boolean z) y e f = absurd (true≢false (sym e))
+of_one_kind (Str z) y e f = absurd (true≢false (sym e))
+of_one_kind Nil (Long z) e f = absurd (true≢false (sym f))
+of_one_kind Nil (Boolean z) e f = absurd (true≢false (sym f))
+of_one_kind Nil (Str z) e f = absurd (true≢false (sym f))
+of_one_kind (To r) (Long z) e f = absurd (true≢false (sym f))
+of_one_kind (To r) (Boolean z) e f = absurd (true≢false (sym f))
+of_one_kind (To r) (Str z) e f = absurd (true≢false (sym f))
 
 -- what is answered under a test
 pub answers_if : {A : Type 0} (b : Bool) (a : A) (f : Fault) (P : A → Type 0) → P a → Answers (if b then Ok a else Err f) P
@@ -110,11 +138,39 @@ module _ (w : World) (known : ClassKey → Bool) (sound : IsSound w known) where
   is_later h g (Of t) v le i = type_later w h g le t v i
   is_later h g typing.PlainNil v le i = i
 
+  class_object : (h : Heap) (c : ClassKey) (v : Value) → has_type w h (types.Class c) v ≡ true → is_object v ≡ true
+  class_object h c Nil e = refl
+  class_object h c (To r) e = refl
+  class_object h c (Long z) e = absurd (true≢false (sym e))
+  class_object h c (Boolean z) e = absurd (true≢false (sym e))
+  class_object h c (Str z) e = absurd (true≢false (sym e))
+
+  of_reference : (h : Heap) (t : ExprType) (v : Value) → typing.is_reference t ≡ true → Is w t v h → is_object v ≡ true
+  of_reference h (Of (types.Class c)) v e i = class_object h c v i
+  of_reference h typing.PlainNil v e i = ap is_object i
+  of_reference h (Of types.Void) v e i = absurd (true≢false (sym e))
+  of_reference h (Of types.Long) v e i = absurd (true≢false (sym e))
+  of_reference h (Of types.Boolean) v e i = absurd (true≢false (sym e))
+  of_reference h (Of types.Str) v e i = absurd (true≢false (sym e))
+
+  -- values of types that can be compared are of one kind
+  alike_values : (h : Heap) (s t : ExprType) (x y : Value) → typing.are_alike s t ≡ true → Is w s x h → Is w t y h → are_of_one_kind x y ≡ true
+  alike_values h s t x y e i j = elim (or_true (typing.is_long s && typing.is_long t) ((typing.is_boolean s && typing.is_boolean t) || ((typing.is_string s && typing.is_string t) || (typing.is_reference s && typing.is_reference t))) e) [
+    | inl p ↦ (let q = both (typing.is_long s) (typing.is_long t) p in (both (is_long y) (are_of_one_kind x y) (two_longs x y _ _ (of_long w known sound h s x q.0 i).1 (of_long w known sound h t y q.1 j).1)).1)
+    | inr f ↦ elim (or_true (typing.is_boolean s && typing.is_boolean t) ((typing.is_string s && typing.is_string t) || (typing.is_reference s && typing.is_reference t)) f) [
+      | inl p ↦ (let q = both (typing.is_boolean s) (typing.is_boolean t) p in (both (is_boolean y) (are_of_one_kind x y) (two_booleans x y _ _ (of_boolean w known sound h s x q.0 i).1 (of_boolean w known sound h t y q.1 j).1)).1)
+      | inr g ↦ elim (or_true (typing.is_string s && typing.is_string t) (typing.is_reference s && typing.is_reference t) g) [
+        | inl p ↦ (let q = both (typing.is_string s) (typing.is_string t) p in (both (is_text y) (are_of_one_kind x y) (two_texts x y _ _ (of_text w known sound h s x q.0 i).1 (of_text w known sound h t y q.1 j).1)).1)
+        | inr p ↦ (let q = both (typing.is_reference s) (typing.is_reference t) p in of_one_kind x y (of_reference h s x q.0 i) (of_reference h t y q.1 j))
+      ]
+    ]
+  ]
+
   -- two operands: they are as the operator takes them, and what it answers is of its type
   module _ (s t r : ExprType) where
     pub record Operands (op : ℕ) : Type 0 where
       pub left : (h : Heap) (x : Value) → Is w s x h → binary_takes op x ≡ true
-      pub right : (h : Heap) (y : Value) → Is w t y h → binary_takes op y ≡ true
+      pub right : (h : Heap) (x y : Value) → Is w s x h → Is w t y h → (binary_takes op y && are_of_one_kind x y) ≡ true
       pub keeps : (h : Heap) (at : Place) (x : Value) (m n : Act Value) → Is w s x h → Keeps w h m n (Is w t)
           → Keeps w h (either (binary_op op) x m (λ y. tried at (binary (binary_op op) x y))) (either (binary_op op) x n (λ y. tried at (binary (binary_op op) x y))) (Is w r)
 
@@ -136,8 +192,23 @@ module _ (w : World) (known : ClassKey → Bool) (sound : IsSound w known) where
     long_left : (kind : ValueType) → gives (typing.is_long s && typing.is_long t) kind ≡ Ok r → (h : Heap) (x : Value) → Is w s x h → is_long x ≡ true
     long_left kind e h x i = ap is_long (of_long w known sound h s x (both (typing.is_long s) (typing.is_long t) (gave _ kind r e).0).0 i).1
 
-    long_right : (kind : ValueType) → gives (typing.is_long s && typing.is_long t) kind ≡ Ok r → (h : Heap) (y : Value) → Is w t y h → is_long y ≡ true
-    long_right kind e h y j = ap is_long (of_long w known sound h t y (both (typing.is_long s) (typing.is_long t) (gave _ kind r e).0).1 j).1
+    long_right : (kind : ValueType) → gives (typing.is_long s && typing.is_long t) kind ≡ Ok r → (h : Heap) (x y : Value) → Is w s x h → Is w t y h → (is_long y && are_of_one_kind x y) ≡ true
+    long_right kind e h x y i j =
+        let q = both (typing.is_long s) (typing.is_long t) (gave _ kind r e).0 in
+        two_longs x y (of_long w known sound h s x q.0 i).0 (of_long w known sound h t y q.1 j).0 (of_long w known sound h s x q.0 i).1 (of_long w known sound h t y q.1 j).1
+
+    compared_right : gives (typing.are_alike s t) types.Boolean ≡ Ok r → (h : Heap) (x y : Value) → Is w s x h → Is w t y h → are_of_one_kind x y ≡ true
+    compared_right e h x y i j = alike_values h s t x y (gave (typing.are_alike s t) types.Boolean r e).0 i j
+
+    boolean_right : gives (typing.is_boolean s && typing.is_boolean t) types.Boolean ≡ Ok r → (h : Heap) (x y : Value) → Is w s x h → Is w t y h → (is_boolean y && are_of_one_kind x y) ≡ true
+    boolean_right e h x y i j =
+        let q = both (typing.is_boolean s) (typing.is_boolean t) (gave _ types.Boolean r e).0 in
+        two_booleans x y (of_boolean w known sound h s x q.0 i).0 (of_boolean w known sound h t y q.1 j).0 (of_boolean w known sound h s x q.0 i).1 (of_boolean w known sound h t y q.1 j).1
+
+    text_right : gives (typing.is_string s && typing.is_string t) types.Str ≡ Ok r → (h : Heap) (x y : Value) → Is w s x h → Is w t y h → (is_text y && are_of_one_kind x y) ≡ true
+    text_right e h x y i j =
+        let q = both (typing.is_string s) (typing.is_string t) (gave _ types.Str r e).0 in
+        two_texts x y (of_text w known sound h s x q.0 i).0 (of_text w known sound h t y q.1 j).0 (of_text w known sound h s x q.0 i).1 (of_text w known sound h t y q.1 j).1
 
     compared : (g : Value → Value → Tried Value) → gives (typing.are_alike s t) types.Boolean ≡ Ok r → ((h : Heap) (a b : Value) → Answers (g a b) (λ u. has_type w h types.Boolean u ≡ true))
         → (h : Heap) (x y : Value) → Is w s x h → Is w t y h → Answers (g x y) (λ u. Is w r u h)
@@ -171,25 +242,25 @@ module _ (w : World) (known : ClassKey → Bool) (sound : IsSound w known) where
     operands (suc (suc zero)) e = record { left = long_left types.Long e; right = long_right types.Long e; keeps = strict_keeps (binary (binary_op 2)) (longs types.Long (binary (binary_op 2)) e (λ h a b. one_long h (a *ℤ b))) }
     operands (suc (suc (suc zero))) e = record { left = long_left types.Long e; right = long_right types.Long e; keeps = strict_keeps (binary (binary_op 3)) (longs types.Long (binary (binary_op 3)) e (λ h a b. answers_unless (is_zero b) faults.DivideByZero (long (int_div a b)) (λ u. has_type w h types.Long u ≡ true) (one_long h (int_div a b)))) }
     operands (suc (suc (suc (suc zero)))) e = record { left = long_left types.Long e; right = long_right types.Long e; keeps = strict_keeps (binary (binary_op 4)) (longs types.Long (binary (binary_op 4)) e (λ h a b. answers_unless (is_zero b) faults.DivideByZero (Ok (Long (int_rem a b))) (λ u. has_type w h types.Long u ≡ true) refl)) }
-    operands (suc (suc (suc (suc (suc zero))))) e = record { left = λ h x i. refl; right = λ h y j. refl; keeps = strict_keeps (binary (binary_op 5)) (compared (binary (binary_op 5)) e (λ h a b. refl)) }
-    operands (suc (suc (suc (suc (suc (suc zero)))))) e = record { left = λ h x i. refl; right = λ h y j. refl; keeps = strict_keeps (binary (binary_op 6)) (compared (binary (binary_op 6)) e (λ h a b. refl)) }
+    operands (suc (suc (suc (suc (suc zero))))) e = record { left = λ h x i. refl; right = compared_right e; keeps = strict_keeps (binary (binary_op 5)) (compared (binary (binary_op 5)) e (λ h a b. refl)) }
+    operands (suc (suc (suc (suc (suc (suc zero)))))) e = record { left = λ h x i. refl; right = compared_right e; keeps = strict_keeps (binary (binary_op 6)) (compared (binary (binary_op 6)) e (λ h a b. refl)) }
     operands (suc (suc (suc (suc (suc (suc (suc zero))))))) e = record { left = long_left types.Boolean e; right = long_right types.Boolean e; keeps = strict_keeps (binary (binary_op 7)) (longs types.Boolean (binary (binary_op 7)) e (λ h a b. refl)) }
     operands (suc (suc (suc (suc (suc (suc (suc (suc zero)))))))) e = record { left = long_left types.Boolean e; right = long_right types.Boolean e; keeps = strict_keeps (binary (binary_op 8)) (longs types.Boolean (binary (binary_op 8)) e (λ h a b. refl)) }
     operands (suc (suc (suc (suc (suc (suc (suc (suc (suc zero))))))))) e = record { left = long_left types.Boolean e; right = long_right types.Boolean e; keeps = strict_keeps (binary (binary_op 9)) (longs types.Boolean (binary (binary_op 9)) e (λ h a b. refl)) }
     operands (suc (suc (suc (suc (suc (suc (suc (suc (suc (suc zero)))))))))) e = record { left = long_left types.Boolean e; right = long_right types.Boolean e; keeps = strict_keeps (binary (binary_op 10)) (longs types.Boolean (binary (binary_op 10)) e (λ h a b. refl)) }
     operands (suc (suc (suc (suc (suc (suc (suc (suc (suc (suc (suc zero))))))))))) e = record {
       left = λ h x i. ap is_boolean (of_boolean w known sound h s x (booleans e).0 i).1;
-      right = λ h y j. ap is_boolean (of_boolean w known sound h t y (booleans e).1 j).1;
+      right = boolean_right e;
       keeps = λ h at x m n i k. if_keeps w h (Is w r) (is_true x) m (pure (Boolean false)) n (pure (Boolean false)) (right_boolean e h m n k) (pure_keeps w h (Is w r) (Boolean false) (λ g le ty. decided e g false));
     }
     operands (suc (suc (suc (suc (suc (suc (suc (suc (suc (suc (suc (suc zero)))))))))))) e = record {
       left = λ h x i. ap is_boolean (of_boolean w known sound h s x (booleans e).0 i).1;
-      right = λ h y j. ap is_boolean (of_boolean w known sound h t y (booleans e).1 j).1;
+      right = boolean_right e;
       keeps = λ h at x m n i k. if_keeps w h (Is w r) (is_true x) (pure (Boolean true)) m (pure (Boolean true)) n (pure_keeps w h (Is w r) (Boolean true) (λ g le ty. decided e g true)) (right_boolean e h m n k);
     }
     operands (suc (suc (suc (suc (suc (suc (suc (suc (suc (suc (suc (suc (suc zero))))))))))))) e = record {
       left = λ h x i. ap is_text (of_text w known sound h s x (both (typing.is_string s) (typing.is_string t) (gave _ types.Str r e).0).0 i).1;
-      right = λ h y j. ap is_text (of_text w known sound h t y (both (typing.is_string s) (typing.is_string t) (gave _ types.Str r e).0).1 j).1;
+      right = text_right e;
       keeps = strict_keeps (binary (binary_op 13)) (joined e);
     }
     operands (suc (suc (suc (suc (suc (suc (suc (suc (suc (suc (suc (suc (suc (suc n)))))))))))))) e = absurd (past (suc (suc (suc (suc (suc (suc (suc (suc (suc (suc (suc (suc (suc (suc n)))))))))))))) (omega arith) e)

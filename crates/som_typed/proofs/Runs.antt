@@ -1,5 +1,5 @@
 -- Calls at each level and main keep the objects well typed, and no test in them fails.
-use Rattle.std.proofs.Common.{◌≡◌, ℕ, zero, suc, ◌⊎◌, inl, inr, Bool, true, false, ◌&&◌, if◌then◌else◌, List, [], ◌∷◌, ◌++◌, reverse, Option, Some, None, Ok, refl, sym, ap, ◌∙◌, subst, true≢false}
+use Rattle.std.proofs.Common.{◌≡◌, ℕ, zero, suc, ◌⊎◌, inl, inr, Bool, true, false, not, ◌&&◌, if◌then◌else◌, List, [], ◌∷◌, ◌++◌, reverse, Option, Some, None, Ok, refl, sym, ap, ◌∙◌, subst, true≢false}
 use mathlib.Core.List.{reverse_aux}
 use Rattle.std.specs.Prelude.{is_some}
 use Rattle.som_model.specs.declared.key.ClassKey.{ClassKey}
@@ -18,7 +18,7 @@ use Rattle.som_model.specs.State.{Value, Str, Nil, To, Ref, ClassObject, Heap, S
 use Rattle.som_model.specs.Runs.{Ran, Goes, Ends, Act, IsLater, end_of}
 use Rattle.som_model.specs.Acts.{◌>>=◌, ◌>>◌, pure, fault, take_unit, emit, reading, later_self, later_on}
 use Rattle.som_model.specs.Calls.{Calls, Request, Here}
-use Rattle.som_model.specs.Statements.{run_block}
+use Rattle.som_model.specs.Statements.{Flow, Next, Return, Returned, run_block}
 use Rattle.som_model.specs.Invoked.{body_does}
 use Rattle.som_model.specs.Means.{body_class, hooks_of, invoke, invoke_held, invoke_in, invoke_hook, each_hook, bodies, calls, nothing_yet, beginning, main_act, means_in}
 use Rattle.som_model.specs.Typing.{in_main}
@@ -27,8 +27,8 @@ use Rattle.som_model.proofs.KeyLaws.{both}
 use Rattle.som_model.proofs.FormLaws.{call_none, call_some}
 use Rattle.som_typed.specs.Values.{is_there, has_type, have_types, are_arguments, is_result}
 use Rattle.som_typed.specs.Heaps.{AreTyped}
-use Rattle.som_typed.specs.Checks.{stands, has_method, can_run}
-use Rattle.som_typed.specs.Checked.{check, checked_value, checked_block, body_checked, invoke_checked, held_checked, in_checked, hook_checked, hooks_checked, bodies_checked, checked_calls, checked_main, checked_in}
+use Rattle.som_typed.specs.Checks.{stands, is_below, has_method, can_run}
+use Rattle.som_typed.specs.Checked.{is_returned, check, checked_value, checked_block, body_checked, invoke_checked, held_checked, in_checked, hook_checked, hooks_checked, bodies_checked, checked_calls, checked_main, checked_in}
 use Rattle.som_typed.proofs.Keeping.{Any, Left, Keeps, bind_keeps, pure_keeps, fault_keeps, emit_keeps, unit_keeps, reading_keeps, weaker_keeps, check_keeps, value_keeps}
 use Rattle.som_typed.proofs.Heaps.{both_true, type_later, types_later, class_later, nothing_typed}
 use Rattle.som_typed.proofs.Facts.{IsSound, IsAnswered, facts_of, sig}
@@ -50,8 +50,13 @@ reverse_mem : {A : Type 0} (x : A) (xs : List A) → Mem x (reverse xs) → Mem 
 reverse_mem x xs m = elim (aux_mem x xs [] m) [ inl a ↦ a | inr a ↦ absurd a ]
 
 module _ (w : World) (known : ClassKey → Bool) (sound : IsSound w known) (otherwise : Act (Unit {0})) where
-  method_there : (h g : Heap) (q : Request) (s : Sig) → IsLater h g → w.sig q.method ≡ Some s → has_type w h (types.Class q.method.class) (To q.self) ≡ true → has_method w q g ≡ true
-  method_there h g q s le is e = both_true (stands w q.method.class (To q.self) g) (is_some (w.sig q.method)) (type_later w h g le (types.Class q.method.class) (To q.self) e) (ap is_some is)
+  below_there : (h : Heap) (q : Request) (r : MethodRef) (self : Ref) (p : Option ClassKey) → AtParent w h self r p → is_below w r.class p ≡ true
+  below_there h q r self None a = refl
+  below_there h q r self (Some p) a = a.1
+
+  method_there : (h g : Heap) (q : Request) (s : Sig) → IsLater h g → w.sig q.method ≡ Some s → has_type w h (types.Class q.method.class) (To q.self) ≡ true → AtParent w h q.self q.method q.parent → has_method w q g ≡ true
+  method_there h g q s le is e p = both_true (stands w q.method.class (To q.self) g) (is_some (w.sig q.method) && is_below w q.method.class q.parent) (type_later w h g le (types.Class q.method.class) (To q.self) e)
+      (both_true (is_some (w.sig q.method)) (is_below w q.method.class q.parent) (ap is_some is) (below_there h q q.method q.self q.parent p))
 
   parent_later : (h g : Heap) (self : Ref) (r : MethodRef) (p : Option ClassKey) → IsLater h g → AtParent w h self r p → AtParent w g self r p
   parent_later h g self r None le a = tt
@@ -158,22 +163,28 @@ module _ (w : World) (known : ClassKey → Bool) (sound : IsSound w known) (othe
   all_calls_keep zero h q s is e a p =
       subst (λ (m : Act Value). Keeps w h m (checked_calls otherwise w 0 q) (Has w s.result)) (sym (call_none w q))
       (subst (λ (n : Act Value). Keeps w h (fault faults.Depth q.from) n (Has w s.result)) (sym (checked_none q))
-      (check_keeps w otherwise h (Has w s.result) (has_method w q) (fault faults.Depth q.from) (fault faults.Depth q.from) (λ g le ty. method_there h g q s le is e)
+      (check_keeps w otherwise h (Has w s.result) (has_method w q) (fault faults.Depth q.from) (fault faults.Depth q.from) (λ g le ty. method_there h g q s le is e p)
       (fault_keeps w h (Has w s.result) faults.Depth q.from)))
   all_calls_keep (suc levels) h q s is e a p =
       subst (λ (m : Act Value). Keeps w h m (checked_calls otherwise w (suc levels) q) (Has w s.result)) (sym (call_some w levels q))
       (subst (λ (n : Act Value). Keeps w h (reading (λ g. bodies w (calls w levels) (class_of w g q.self) q)) n (Has w s.result)) (sym (checked_some levels q))
       (check_keeps w otherwise h (Has w s.result) (has_method w q) (reading (λ g. bodies w (calls w levels) (class_of w g q.self) q)) (reading (λ g. bodies_checked otherwise w (checked_calls otherwise w levels) (class_of w g q.self) q))
-      (λ g le ty. method_there h g q s le is e)
+      (λ g le ty. method_there h g q s le is e p)
       (reading_keeps w h (Has w s.result) (λ g. bodies w (calls w levels) (class_of w g q.self) q) (λ g. bodies_checked otherwise w (checked_calls otherwise w levels) (class_of w g q.self) q)
       (λ g le ty. bodies_keep (calls w levels) (checked_calls otherwise w levels) (all_calls_keep levels) g q s ty is (type_later w h g le (types.Class q.method.class) (To q.self) e) (types_later w h g le s.params q.args a)
       (parent_later h g q.self q.method q.parent le p)))))
+
+  not_returned : (flow : Flow) (h : Heap) → FlowHas w types.Void [] flow h → not (is_returned flow) ≡ true
+  not_returned (Next frame) h f = refl
+  not_returned Return h f = refl
+  not_returned (Returned v) h f = absurd (true≢false f.1)
 
   -- main
   pub main_keeps : (main : Block) (after : Scope) → block_scope (facts_of w known) in_main main [] ≡ Ok after → (h : Heap) → Keeps w h (main_act w main) (checked_main otherwise w main) (Any w)
   main_keeps main after e h =
       let here : Here = record { me = Nil; place = InMain } in
-      bind_keeps w h (FlowHas w types.Void []) (Any w) (λ flow. pure tt) (λ flow. pure tt) (λ flow g le ty f. pure_keeps w g (Any w) tt (λ l lf tf. tt))
+      bind_keeps w h (FlowHas w types.Void []) (Any w) (λ flow. pure tt) (λ flow. check otherwise (λ g. not (is_returned flow)) >> pure tt)
+      (λ flow g le ty f. check_keeps w otherwise g (Any w) (λ l. not (is_returned flow)) (pure tt) (pure tt) (λ l lf tf. not_returned flow g f) (pure_keeps w g (Any w) tt (λ l lf tf. tt)))
       (run_block w (calls w MAX_DEPTH) here main []) (checked_block otherwise w (checked_calls otherwise w MAX_DEPTH) here main [])
       (block_keeps w known sound otherwise (calls w MAX_DEPTH) (checked_calls otherwise w MAX_DEPTH) (all_calls_keep MAX_DEPTH) here in_main main [] after e h [] tt refl)
 

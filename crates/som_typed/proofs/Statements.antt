@@ -43,7 +43,7 @@ use Rattle.som_typed.proofs.Expressions.{kind_in, in_later, slot_in, expr_keeps,
 abbrev pub FlowHas : World → ValueType → Scope → Flow → Heap → Type 0
 FlowHas w result scope (Next frame) h = have_types w h scope frame ≡ true
 FlowHas w result scope Return h = result ≡ types.Void
-FlowHas w result scope (Returned v) h = has_type w h result v ≡ true
+FlowHas w result scope (Returned v) h = (has_type w h result v ≡ true) × (is_nothing (Of result) ≡ false)
 
 -- the scope is that before, and more
 abbrev pub Extends : Scope → Scope → Type 0
@@ -58,6 +58,10 @@ nothing_is types.Long e = absurd (true≢false (sym e))
 nothing_is types.Boolean e = absurd (true≢false (sym e))
 nothing_is types.Str e = absurd (true≢false (sym e))
 nothing_is (types.Class k) e = absurd (true≢false (sym e))
+
+is_false : (b : Bool) → not b ≡ true → b ≡ false
+is_false true e = sym e
+is_false false e = refl
 
 anything : (x : Tried Ref) → Answers x (λ r. Unit {0})
 anything (Ok r) = tt
@@ -80,7 +84,7 @@ module _ (w : World) where
       → Keeps w h (go_on flow m) (go_on flow n) (FlowHas w result after)
   go_on_keeps h result mid after (Next frame) m n f k = k frame f
   go_on_keeps h result mid after Return m n f k = pure_keeps w h (FlowHas w result after) Return (λ g le ty. f)
-  go_on_keeps h result mid after (Returned v) m n f k = pure_keeps w h (FlowHas w result after) (Returned v) (λ g le ty. type_later w h g le result v f)
+  go_on_keeps h result mid after (Returned v) m n f k = pure_keeps w h (FlowHas w result after) (Returned v) (λ g le ty. (type_later w h g le result v f.0, f.1))
 
   leave_has : (h : Heap) (result : ValueType) (scope after : Scope) (frame : Frame) (flow : Flow) → length frame ≡ length scope → Extends scope after → FlowHas w result after flow h → FlowHas w result scope (leave (length frame) flow) h
   leave_has h result scope after frame (Next f) n x a = first_ones w h scope x.0 f frame (subst (λ z. have_types w h z f ≡ true) x.1 a) n
@@ -90,7 +94,7 @@ module _ (w : World) where
   flow_later : (h g : Heap) (result : ValueType) (scope : Scope) (flow : Flow) → IsLater h g → FlowHas w result scope flow h → FlowHas w result scope flow g
   flow_later h g result scope (Next frame) le f = types_later w h g le scope frame f
   flow_later h g result scope Return le f = f
-  flow_later h g result scope (Returned v) le f = type_later w h g le result v f
+  flow_later h g result scope (Returned v) le f = (type_later w h g le result v f.0, f.1)
 
 module _ (w : World) (known : ClassKey → Bool) (sound : IsSound w known) (otherwise : Act (Unit {0})) (call checked : Calls) (keep : CallsKeep w call checked) (here : Here) (at : CodePlace) where
   abbrev F : ClassFacts
@@ -254,7 +258,7 @@ module _ (w : World) (known : ClassKey → Bool) (sound : IsSound w known) (othe
       let b = both (not (is_nothing (Of at.result))) (fits F at.result q.value) f.0 in
       (same_scope scope after (same_answer f.1), λ g frame i a.
       bind_keeps w g (Is w q.value) (FlowHas w at.result after) (λ v. pure (Returned v)) (λ v. pure (Returned v))
-      (λ v l le ty j. pure_keeps w l (FlowHas w at.result after) (Returned v) (λ o lo to. type_later w l o lo at.result v (fitting w known sound l at.result q.value v b.1 j)))
+      (λ v l le ty j. pure_keeps w l (FlowHas w at.result after) (Returned v) (λ o lo to. (type_later w l o lo at.result v (fitting w known sound l at.result q.value v b.1 j), is_false (is_nothing (Of at.result)) b.0)))
       (E e frame) (C e frame) (part_keeps w known sound otherwise call checked keep here at scope e (expr_keeps w known sound otherwise call checked keep here at scope e) q.value q.first g frame i a))
 
   print_form : (e : Expr) (scope after : Scope) → (value (expr_type F at scope e) >>= λ t. needs 17 (has_text t) (Ok scope)) ≡ Ok after

@@ -1,6 +1,6 @@
 -- The meaning once more, where each step first tests what it takes for granted: that what it asks for is there, and of the right type.
 -- Where a test fails, something else is done, of which nothing is known: `otherwise`.
-use Rattle.std.specs.Prelude.{ℕ, zero, suc, Bool, List, [], ◌∷◌, ◌++◌, map, reverse, Option, Some, None, is_some, if◌then◌else◌, slice_get, slice_set, ◌&&◌}
+use Rattle.std.specs.Prelude.{ℕ, zero, suc, Bool, true, false, not, List, [], ◌∷◌, ◌++◌, map, reverse, Option, Some, None, is_some, if◌then◌else◌, slice_get, slice_set, ◌&&◌}
 use Rattle.som_model.specs.declared.key.ClassKey.{ClassKey}
 use Rattle.som_model.specs.declared.key.MethodRef.{MethodRef}
 use Rattle.som_model.specs.declared.key.ValueType.TheVariants as types
@@ -17,14 +17,20 @@ use Rattle.som_model.specs.Implementation as held
 use Rattle.som_model.specs.World.{World}
 use Rattle.som_model.specs.State.{Value, Nil, Str, To, Ref, ClassObject, Heap, InMain, InBody, Manner, Offset, Before, After, Called, class_of}
 use Rattle.som_model.specs.Runs.{Ran, Act}
-use Rattle.som_model.specs.Acts.{◌>>=◌, ◌>>◌, pure, fault, take_unit, emit, reading}
+use Rattle.som_model.specs.Acts.{◌>>=◌, ◌>>◌, pure, tried, fault, take_unit, emit, reading}
+use Rattle.som_model.specs.Values.{binary, binary_op}
 use Rattle.som_model.specs.Calls.{Calls, Request, Here, class_here, offset_call}
-use Rattle.som_model.specs.Expressions.{Evals, expr_step, is_true}
-use Rattle.som_model.specs.Statements.{Next, Return, Returned, Runs, assign, print_value, while_loop, block_step}
+use Rattle.som_model.specs.Expressions.{Evals, either, expr_step, is_true}
+use Rattle.som_model.specs.Statements.{Flow, Next, Return, Returned, Runs, assign, print_value, while_loop, block_step}
 use Rattle.som_model.specs.Invoked.{result_zero, answer_of, body_does}
 use Rattle.som_model.specs.Means.{body_class, hooks_of, beginning}
-use Rattle.som_typed.specs.Values.{has_type, have_types, is_result, is_long, is_boolean, has_text, unary_takes, binary_takes}
-use Rattle.som_typed.specs.Checks.{is_class, of_class, stands, has_slot, has_parent, has_method, can_run, kernel_can, has_target}
+use Rattle.som_typed.specs.Values.{is_value, has_type, have_types, are_of_one_kind, is_result, is_long, is_boolean, has_text, unary_takes, binary_takes}
+use Rattle.som_typed.specs.Checks.{is_class, is_kind, of_class, stands, has_slot, has_parent, has_parents, has_method, can_run, kernel_can, has_target}
+
+-- whether a body ended with a value
+abbrev pub is_returned : Flow → Bool
+is_returned (Returned v) = true
+is_returned _ = false
 
 module _ (otherwise : Act (Unit {0})) where
   -- where this doesn't hold of the objects, something else is done
@@ -52,17 +58,21 @@ module _ (otherwise : Act (Unit {0})) where
       expr_checked Expr-F.Me frame = check (stands w (class_here here) here.me) >> expr_step w call here Expr-F.Me frame
       expr_checked (Expr-F.Variable n) frame = check (has_slot w (class_here here) n here.me) >> expr_step w call here (Expr-F.Variable n) frame
       expr_checked (Expr-F.Unary op e) frame = expr_step w call here (Expr-F.Unary op (such_that (λ v h. unary_takes op v) e)) frame
-      expr_checked (Expr-F.Binary op a b) frame = expr_step w call here (Expr-F.Binary op (such_that (λ v h. binary_takes op v) a) (such_that (λ v h. binary_takes op v) b)) frame
+      expr_checked (Expr-F.Binary op a b) frame = do
+        x ← such_that (λ v h. binary_takes op v) a frame
+        either (binary_op op) x (such_that (λ v h. binary_takes op v && are_of_one_kind x v) b frame) (λ y. tried here.place (binary (binary_op op) x y))
       expr_checked (Expr-F.New k) frame = check (is_class w k) >> expr_step w call here (Expr-F.New k) frame
       expr_checked (Expr-F.Class k) frame = check (is_class w k) >> expr_step w call here (Expr-F.Class k) frame
       expr_checked (Expr-F.Cast k e) frame = check (is_class w k) >> expr_step w call here (Expr-F.Cast k (such_that (λ v h. has_type w h an_object v) e)) frame
       expr_checked (Expr-F.Isa k e) frame = check (is_class w k) >> expr_step w call here (Expr-F.Isa k (such_that (λ v h. has_type w h an_object v) e)) frame
       expr_checked (Expr-F.Proxy k e) frame = check (is_class w k) >> expr_step w call here (Expr-F.Proxy k (such_that (of_class w k) e)) frame
       expr_checked (Expr-F.OffsetCall r e es) frame = expr_step w call here (Expr-F.OffsetCall r (such_that (of_class w r.class) e) es) frame
-      expr_checked (Expr-F.Lookup wanted name e es) frame = expr_step w call here (Expr-F.Lookup wanted name (such_that (λ v h. has_type w h an_object v) e) es) frame
-      expr_checked (Expr-F.Dispatch wanted name e es) frame = expr_step w call here (Expr-F.Dispatch wanted name (such_that (λ v h. has_type w h an_object v) e) es) frame
+      expr_checked (Expr-F.Lookup wanted name e es) frame =
+          check (is_kind w wanted) >> expr_step w call here (Expr-F.Lookup wanted name (such_that (λ v h. has_type w h an_object v) e) (map (such_that (λ v h. is_value w h v)) es)) frame
+      expr_checked (Expr-F.Dispatch wanted name e es) frame =
+          check (is_kind w wanted) >> expr_step w call here (Expr-F.Dispatch wanted name (such_that (λ v h. has_type w h an_object v) e) (map (such_that (λ v h. is_value w h v)) es)) frame
       expr_checked (Expr-F.ParentCall n r es) frame = check (has_parent w here n) >> expr_step w call here (Expr-F.ParentCall n r es) frame
-      expr_checked (Expr-F.ParentsCall r es) frame = check (stands w (class_here here) here.me) >> expr_step w call here (Expr-F.ParentsCall r es) frame
+      expr_checked (Expr-F.ParentsCall r es) frame = check (has_parents w here r) >> expr_step w call here (Expr-F.ParentsCall r es) frame
       expr_checked (Expr-F.Host code a b) frame = expr_step w call here (Expr-F.Host code (such_that (λ v h. is_long v) a) (such_that (λ v h. is_long v) b)) frame
       expr_checked y frame = expr_step w call here y frame
 
@@ -160,8 +170,9 @@ module _ (otherwise : Act (Unit {0})) where
     checked_calls zero q = check (has_method w q) >> fault faults.Depth q.from
     checked_calls (suc levels) q = check (has_method w q) >> reading (λ h. bodies_checked (checked_calls levels) (class_of w h q.self) q)
 
+    -- main answers no value
     abbrev pub checked_main : Block → Act (Unit {0})
-    checked_main main = checked_block (checked_calls MAX_DEPTH) (record { me = Nil; place = InMain }) main [] >>= λ flow. pure tt
+    checked_main main = checked_block (checked_calls MAX_DEPTH) (record { me = Nil; place = InMain }) main [] >>= λ flow. check (λ h. not (is_returned flow)) >> pure tt
 
     -- what main does from the beginning, with so much fuel, where each step tests what it takes for granted
     abbrev pub checked_in : Block → ℕ → Ran (Unit {0})

@@ -9,14 +9,19 @@ use Rattle.som_model.specs.Lists.{some}
 use Rattle.som_model.specs.Kernel.{som_object, a_class}
 use Rattle.som_model.specs.Rules.{is_void}
 use Rattle.som_model.specs.World.{World}
-use Rattle.som_model.specs.State.{Value, To, Ref, Heap, class_of, target_of}
+use Rattle.som_model.specs.State.{Value, To, Ref, Object, Heap, class_of, target_of}
 use Rattle.som_model.specs.Calls.{Request, Here, class_here}
 use Rattle.som_model.specs.Invoked.{Asking, GetClass, GetClassName, IsA, IsInstanceOf, RespondsTo, DispatchName, GetName, DescendedFrom, SupportsMethod, CheckVersion, KernelBody, Idle, Free, New, NewNoInit, FindClass, Asks, table, kernel_body}
 use Rattle.som_typed.specs.Values.{is_there, has_type, have_types, are_arguments, is_reference}
 
--- there is the class
+-- there is the class, or what it is made of
 abbrev pub is_class : World → ClassKey → Heap → Bool
 is_class w k h = w.is_a k som_object
+
+-- the class of a type is there, if it names one
+abbrev pub is_kind : World → ValueType → Heap → Bool
+is_kind w (types.Class k) h = is_class w k h
+is_kind w kind h = true
 
 -- a value of a class's type
 abbrev pub of_class : World → ClassKey → Value → Heap → Bool
@@ -34,9 +39,18 @@ has_slot w k n v h = stands w k v h && not (is_void (w.variable k n))
 abbrev pub has_parent : World → Here → ℕ → Heap → Bool
 has_parent w here n h = stands w (class_here here) here.me h && is_some (slice_get (w.parents (class_here here)) n)
 
--- a call is of a method that a class from which self's class descends introduces
+-- and some parent has the method of this reference
+abbrev pub has_parents : World → Here → MethodRef → Heap → Bool
+has_parents w here r h = stands w (class_here here) here.me h && some (λ p. w.is_a p (w.owner r).class) (w.parents (class_here here))
+
+-- the class at which a parent call begins descends from the method's
+abbrev pub is_below : World → ClassKey → Option ClassKey → Bool
+is_below w k None = true
+is_below w k (Some p) = w.is_a p k
+
+-- a call is of a method that a class from which self's class descends introduces, and so does the parent's in a parent call
 abbrev pub has_method : World → Request → Heap → Bool
-has_method w q h = stands w q.method.class (To q.self) h && is_some (w.sig q.method)
+has_method w q h = stands w q.method.class (To q.self) h && (is_some (w.sig q.method) && is_below w q.method.class q.parent)
 
 -- a body of this class for a method can run: self is in place, and the arguments are as the signature says
 abbrev pub can_run : World → MethodRef → ClassKey → Ref → List Value → Heap → Bool
@@ -63,6 +77,7 @@ kernel_reads w b args h = have_types w h (reads b) args
 abbrev pub kernel_can : World → List ℕ → List Value → Heap → Bool
 kernel_can w name args h = some (λ row. bytes_eq row.0 name) table && kernel_reads w (kernel_body table name) args h
 
--- a forward finds a target of the method's class
+-- a forward runs on an object, and finds a target of the method's class there, or nil
 abbrev pub has_target : World → MethodRef → Ref → Heap → Bool
-has_target w method self h = has_type w h (types.Class method.class) (target_of h self)
+has_target w method (Object i) h = has_type w h (types.Class method.class) (target_of h (Object i))
+has_target w method self h = false

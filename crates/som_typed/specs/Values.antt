@@ -25,6 +25,11 @@ has_type w h (types.Class c) Nil = true
 has_type w h (types.Class c) (To r) = is_there w h r && w.is_a (class_of w h r) c
 has_type w h _ _ = false
 
+-- whether a value is one at all: what it refers to is there
+abbrev pub is_value : World → Heap → Value → Bool
+is_value w h (To r) = is_there w h r
+is_value w h v = true
+
 -- whether values are of these types, one by one, and there are as many
 abbrev pub have_types : World → Heap → List ValueType → List Value → Bool
 have_types w h [] [] = true
@@ -59,6 +64,16 @@ is_text _ = false
 abbrev pub has_text : Value → Bool
 has_text v = is_long v || (is_boolean v || is_text v)
 
+-- an object's reference or nil
+abbrev pub is_object : Value → Bool
+is_object Nil = true
+is_object (To r) = true
+is_object _ = false
+
+-- whether two values can be compared: two longs, two booleans, two texts, or two references or nil
+abbrev pub are_of_one_kind : Value → Value → Bool
+are_of_one_kind a b = (is_long a && is_long b) || ((is_boolean a && is_boolean b) || ((is_text a && is_text b) || (is_object a && is_object b)))
+
 -- a reference, which isn't nil
 abbrev pub is_reference : Value → Bool
 is_reference (To r) = true
@@ -71,7 +86,7 @@ takes Not v = is_boolean v
 takes Length v = is_text v
 takes TextOf v = has_text v
 
--- whether an operator of two operands takes a value for one of them; any two values are equal or not
+-- whether an operator of two operands takes a value for one of them; what is compared is looked at together
 abbrev pub takes_both : BinaryOp → Value → Bool
 takes_both Equal v = true
 takes_both Unequal v = true
