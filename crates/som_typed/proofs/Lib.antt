@@ -9,3 +9,5 @@ pub mod Expressions
 pub mod Statements
 pub mod Bodies
 pub mod Runs
+pub mod Classes
+pub mod Methods
