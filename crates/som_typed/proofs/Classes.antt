@@ -85,16 +85,16 @@ module _ (cs : List Class) (o : IsOrdered cs) where
 
   -- ---- the classes of the kernel
 
-  object_at : class_at all som_object ≡ Some (class_in modules.Kernel (bare object_face))
+  pub object_at : class_at all som_object ≡ Some (class_in modules.Kernel (bare object_face))
   object_at = found cs o (class_in modules.Kernel (bare object_face)) som_object (inl refl) refl
 
-  class_class_at : class_at all som_class ≡ Some (class_in modules.Kernel (bare class_face))
+  pub class_class_at : class_at all som_class ≡ Some (class_in modules.Kernel (bare class_face))
   class_class_at = found cs o (class_in modules.Kernel (bare class_face)) som_class (inr (inl refl)) refl
 
-  manager_at : class_at all som_class_mgr ≡ Some (class_in modules.Kernel (bare class_mgr_face))
+  pub manager_at : class_at all som_class_mgr ≡ Some (class_in modules.Kernel (bare class_mgr_face))
   manager_at = found cs o (class_in modules.Kernel (bare class_mgr_face)) som_class_mgr (inr (inr (inl refl))) refl
 
-  before_after_at : class_at all before_after ≡ Some (class_in modules.Kernel (bare before_after_face))
+  pub before_after_at : class_at all before_after ≡ Some (class_in modules.Kernel (bare before_after_face))
   before_after_at = found cs o (class_in modules.Kernel (bare before_after_face)) before_after (inr (inr (inr (inl refl)))) refl
 
   pub class_object : Descends h som_class som_object

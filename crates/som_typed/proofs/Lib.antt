@@ -11,3 +11,5 @@ pub mod Bodies
 pub mod Runs
 pub mod Classes
 pub mod Methods
+pub mod Fitting
+pub mod Loading

@@ -53,24 +53,24 @@ use Rattle.som_releases.proofs.OneOwner.{ref_one}
 use Rattle.som_releases.proofs.Lists.{flat_at, none_left}
 use Rattle.som_releases.proofs.Prefix.{signature_entry}
 
-one_method : (r s : MethodRef) → same_method r s ≡ true → r ≡ s
+pub one_method : (r s : MethodRef) → same_method r s ≡ true → r ≡ s
 one_method r s e = let p = both (same_key r.class s.class) (bytes_eq r.name s.name) e in ref_one r s (exact_keys.two r.class s.class p.0) (exact_bytes.two r.name s.name p.1)
 
 -- a declared body
-abbrev held_body : Body → Held
+abbrev pub held_body : Body → Held
 held_body (bodies.User b) = helds.User b
 held_body (bodies.Get n) = helds.Get n
 held_body (bodies.Set n) = helds.Set n
 
 -- that bodies fit their signatures, as it is asked for
-abbrev fits_from : Class → List Entry → List Body → List RuleBreach
+abbrev pub fits_from : Class → List Entry → List Body → List RuleBreach
 fits_from c [] bs = []
 fits_from c (entries.Moved name to ∷ es) bs = fits_from c es bs
 fits_from c (entries.Introduced name sig way ∷ es) [] = []
 fits_from c (entries.Introduced name sig way ∷ es) (b ∷ bs) = demand_of 14 c name (body_fits c.decl.variables sig b) ++ fits_from c es bs
 
 -- a body of a class, which fits a signature
-abbrev Fits : Class → ClassFacts → Sig → Held → Type 0
+abbrev pub Fits : Class → ClassFacts → Sig → Held → Type 0
 Fits c F s b = (body : Body) × (b ≡ held_body body) × (body_fits c.decl.variables s body ≡ true) × ((block : Block) → body ≡ bodies.User block → (n : List ℕ) × (block_breach_by F c n s block ≡ []))
 
 one_fits : (c : Class) (F : ClassFacts) (x : List ℕ) (sig : Sig) (way : _) (es : List Entry) (bs : List Body) (body : Body) (name : List ℕ) (s : Sig) (b : Held)
@@ -86,7 +86,7 @@ one_fits c F x sig way es bs body name s b e g fit typed further = by (bytes_eq 
 
 -- ---- signatures and owners
 
-some_sig : (q : Option Sig) → is_some q ≡ true → (s : Sig) × (q ≡ Some s)
+pub some_sig : (q : Option Sig) → is_some q ≡ true → (s : Sig) × (q ≡ Some s)
 some_sig None e = absurd (true≢false (sym e))
 some_sig (Some s) e = (s, refl)
 
@@ -179,14 +179,14 @@ module _ (cs : List Class) (f : FacesLoad cs) where
   own_or None s e = absurd (true≢false (sym e))
   own_or (Some x) s e = refl
 
-  kernel_is : (c : Class) → Mem c kernel → is_kernel c.key ≡ true
+  pub kernel_is : (c : Class) → Mem c kernel → is_kernel c.key ≡ true
   kernel_is c (inl e) = ap (λ (z : Class). is_kernel z.key) e ∙ kernel_named modules.Kernel _
   kernel_is c (inr (inl e)) = ap (λ (z : Class). is_kernel z.key) e ∙ kernel_named modules.Kernel _
   kernel_is c (inr (inr (inl e))) = ap (λ (z : Class). is_kernel z.key) e ∙ kernel_named modules.Kernel _
   kernel_is c (inr (inr (inr (inl e)))) = ap (λ (z : Class). is_kernel z.key) e ∙ kernel_named modules.Kernel _
   kernel_is c (inr (inr (inr (inr m)))) = absurd m
 
-  own_is : (c : Class) → Mem c cs → is_kernel c.key ≡ false
+  pub own_is : (c : Class) → Mem c cs → is_kernel c.key ≡ false
   own_is c m = let k = o.own c m in ap is_kernel k.is ∙ kernel_named k.module_ _ ∙ outside k.module_ k.outside
     where
       outside : (n : Module) → (n ≡ modules.Kernel → ⊥) → same_module n modules.Kernel ≡ false
@@ -239,7 +239,7 @@ module _ (cs : List Class) (f : FacesLoad cs) where
     -- ---- bodies fit
 
     -- a body by its name, with the entry's signature
-    named_fits : (c : Class) (F : ClassFacts) (es : List Entry) (bs : List Body) (name : List ℕ) (s : Sig) (b : Held) → introduced_sig (entry_of es name) ≡ Some s → body_named es bs name ≡ Some b → bodies_typed_by F c es bs ≡ [] → fits_from c es bs ≡ []
+    pub named_fits : (c : Class) (F : ClassFacts) (es : List Entry) (bs : List Body) (name : List ℕ) (s : Sig) (b : Held) → introduced_sig (entry_of es name) ≡ Some s → body_named es bs name ≡ Some b → bodies_typed_by F c es bs ≡ [] → fits_from c es bs ≡ []
         → Fits c F s b
     named_fits c F [] bs name s b e g t k = absurd (let z = g in cc)
     named_fits c F (entries.Moved x to ∷ es) bs name s b e g t k = by (bytes_eq x name) e (named_fits c F es bs name s b)

@@ -20,7 +20,7 @@ use Rattle.som_typed.proofs.Steps.{met, same_answer}
 
 
 -- types that are one
-one_type : (s t : ValueType) → same_type s t ≡ true → s ≡ t
+pub one_type : (s t : ValueType) → same_type s t ≡ true → s ≡ t
 one_type types.Void types.Void e = refl
 one_type types.Long types.Long e = refl
 one_type types.Boolean types.Boolean e = refl
