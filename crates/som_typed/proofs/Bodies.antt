@@ -31,6 +31,7 @@ use Rattle.som_model.specs.Typing.{in_body}
 use Rattle.som_model.proofs.KeyLaws.{both}
 use Rattle.som_typed.specs.Values.{is_there, has_type, have_types}
 use Rattle.som_typed.specs.Heaps.{AreTyped}
+use Rattle.som_typed.specs.Preserving.{FlowHas}
 use Rattle.som_typed.specs.Checks.{stands, has_slot, reads, kernel_can, has_target}
 use Rattle.som_typed.specs.Checked.{check, checked_block, body_checked}
 use Rattle.som_typed.proofs.Keeping.{Answers, Any, Keeps, bind_keeps, pure_keeps, fault_keeps, tried_keeps, asked_keeps, emit_keeps, become_keeps, check_keeps}
@@ -40,7 +41,7 @@ use Rattle.som_typed.proofs.Values.{an_object_is, class_object_is, class_up, obj
 use Rattle.som_typed.proofs.Operators.{answers_if, one_text}
 use Rattle.som_typed.proofs.Calls.{Has, CallsKeep, make_keeps, offset_keeps, own_keeps}
 use Rattle.som_typed.proofs.Expressions.{reads_typed}
-use Rattle.som_typed.proofs.Statements.{FlowHas, assign_keeps, block_keeps}
+use Rattle.som_typed.proofs.Statements.{assign_keeps, block_keeps}
 
 -- the arguments that a body of the kernel reads, which come by their own place
 abbrev kernel_reads : World → KernelBody → List Value → Heap → Bool

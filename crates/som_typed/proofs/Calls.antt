@@ -22,10 +22,11 @@ use Rattle.som_model.specs.Typing.{ExprType, Of, PlainNil}
 use Rattle.som_model.proofs.KeyLaws.{both}
 use Rattle.som_typed.specs.Values.{is_there, has_type, have_types}
 use Rattle.som_typed.specs.Heaps.{AreTyped}
+use Rattle.som_typed.specs.Preserving.{IsOf}
 use Rattle.som_typed.proofs.Keeping.{Answers, Any, Keeps, bind_keeps, pure_keeps, tried_keeps, asked_keeps, emit_keeps, unit_keeps, if_keeps, weaker_keeps}
 use Rattle.som_typed.proofs.Heaps.{both_true, last_is, made_typed, there_later, type_later, types_later}
 use Rattle.som_typed.proofs.Facts.{IsSound, IsMethod}
-use Rattle.som_typed.proofs.Values.{Is, AreOf, an_object_is, class_object_is, class_up, object_up, text_value}
+use Rattle.som_typed.proofs.Values.{AreOf, an_object_is, class_object_is, class_up, object_up, text_value}
 use Rattle.som_typed.proofs.Operators.{answers_if}
 
 -- a value of a type
@@ -73,7 +74,7 @@ module _ (w : World) where
   typed_exists h t (Str z) e = tt
   typed_exists h t Nil e = tt
 
-  value_exists : (h : Heap) (t : ExprType) (v : Value) → Is w t v h → Exists w v h
+  value_exists : (h : Heap) (t : ExprType) (v : Value) → IsOf w t v h → Exists w v h
   value_exists h (Of t) v i = typed_exists h t v i
   value_exists h PlainNil v i = subst (λ z. Exists w z h) (sym i) tt
 

@@ -31,13 +31,14 @@ use Rattle.som_model.specs.Typing as typing
 use Rattle.som_model.proofs.KeyLaws.{both}
 use Rattle.som_typed.specs.Values.{is_there, is_value, has_type, have_types, are_of_one_kind, is_long, unary_takes, binary_takes}
 use Rattle.som_typed.specs.Heaps.{AreTyped}
+use Rattle.som_typed.specs.Preserving.{IsOf}
 use Rattle.som_typed.specs.Checks.{is_class, is_kind, of_class, stands, has_slot, has_parent, has_parents}
 use Rattle.som_typed.specs.Checked.{check, such_that, expr_checked, checked_eval}
 use Rattle.som_typed.proofs.Keeping.{Answers, Any, Keeps, bind_keeps, pure_keeps, tried_keeps, asked_keeps, emit_keeps, unit_keeps, if_keeps, weaker_keeps, check_keeps, value_keeps}
 use Rattle.som_typed.proofs.Heaps.{both_true, some_is, type_later, types_later}
 use Rattle.som_typed.proofs.Facts.{IsSound, IsClass, InClass, facts_of}
 use Rattle.som_typed.proofs.Steps.{went, met, same_answer, found}
-use Rattle.som_typed.proofs.Values.{Is, AreOf, value_at, fitting, all_fitting, descending, receiving, referring, of_long}
+use Rattle.som_typed.proofs.Values.{AreOf, value_at, fitting, all_fitting, descending, receiving, referring, of_long}
 use Rattle.som_typed.proofs.Operators.{answers_if, unary_typed, operands, is_later}
 use Rattle.som_typed.proofs.Calls.{Has, CallsKeep, casts, isas, values_exist, class_keeps, proxy_keeps, offset_keeps, named_keeps, dispatch_keeps, parent_keeps, parents_keeps, new_keeps}
 
@@ -77,7 +78,7 @@ module _ (w : World) where
   there_one h t (Boolean z) e = refl
   there_one h t (Str z) e = refl
 
-  is_one : (h : Heap) (t : ExprType) (v : Value) → Is w t v h → is_value w h v ≡ true
+  is_one : (h : Heap) (t : ExprType) (v : Value) → IsOf w t v h → is_value w h v ≡ true
   is_one h (Of t) v i = there_one h t v i
   is_one h PlainNil v i = ap (is_value w h) i
 
@@ -141,7 +142,7 @@ module _ (w : World) (known : ClassKey → Bool) (sound : IsSound w known) where
 
     -- an expression keeps the objects typed, and answers a value of its type
     abbrev pub ExprKeeps : Expr → Type 0
-    ExprKeeps e = (t : ExprType) → T e ≡ Ok t → (h : Heap) (frame : Frame) → InClass w at.class here h → have_types w h scope frame ≡ true → Keeps w h (E e frame) (C e frame) (Is w t)
+    ExprKeeps e = (t : ExprType) → T e ≡ Ok t → (h : Heap) (frame : Frame) → InClass w at.class here h → have_types w h scope frame ≡ true → Keeps w h (E e frame) (C e frame) (IsOf w t)
 
     abbrev Kept : Type 0
     Kept = (e : Expr) × ExprKeeps e
@@ -153,7 +154,7 @@ module _ (w : World) (known : ClassKey → Bool) (sound : IsSound w known) where
     bare = map-Expr Kept Expr (λ (k : Kept). k.0)
 
     -- a part that has a value
-    pub part_keeps : (e : Expr) → ExprKeeps e → (t : ExprType) → value (T e) ≡ Ok t → (h : Heap) (frame : Frame) → InClass w at.class here h → have_types w h scope frame ≡ true → Keeps w h (E e frame) (C e frame) (Is w t)
+    pub part_keeps : (e : Expr) → ExprKeeps e → (t : ExprType) → value (T e) ≡ Ok t → (h : Heap) (frame : Frame) → InClass w at.class here h → have_types w h scope frame ≡ true → Keeps w h (E e frame) (C e frame) (IsOf w t)
     part_keeps e k t f h frame i a =
         let q = went (T e) value_of t f in
         let d = met 20 (not (is_nothing q.value)) (Ok q.value) t q.further in
@@ -167,7 +168,7 @@ module _ (w : World) (known : ClassKey → Bool) (sound : IsSound w known) where
         let qs = went (values (map T (exprs ks))) (λ ts. Ok (q.value ∷ ts)) ts q.further in
         let rest : Evals → (Frame → Act (List Value)) → Act (List Value) = λ e es. acts.◌>>=◌ (e frame) (λ v. acts.◌>>=◌ (es frame) (λ vs. pure (v ∷ vs))) in
         subst (λ z. Keeps w h (rest (E k.0) (each_of (map E (exprs ks)))) (rest (C k.0) (each_of (map C (exprs ks)))) (AreOf w z)) (same_answer qs.further)
-        (bind_keeps w h (Is w q.value) (AreOf w (q.value ∷ qs.value)) (λ v. acts.◌>>=◌ (each_of (map E (exprs ks)) frame) (λ vs. pure (v ∷ vs))) (λ v. acts.◌>>=◌ (each_of (map C (exprs ks)) frame) (λ vs. pure (v ∷ vs)))
+        (bind_keeps w h (IsOf w q.value) (AreOf w (q.value ∷ qs.value)) (λ v. acts.◌>>=◌ (each_of (map E (exprs ks)) frame) (λ vs. pure (v ∷ vs))) (λ v. acts.◌>>=◌ (each_of (map C (exprs ks)) frame) (λ vs. pure (v ∷ vs)))
         (λ v g le ty j. bind_keeps w g (AreOf w qs.value) (AreOf w (q.value ∷ qs.value)) (λ vs. pure (v ∷ vs)) (λ vs. pure (v ∷ vs))
         (λ vs g2 le2 ty2 js. pure_keeps w g2 (AreOf w (q.value ∷ qs.value)) (v ∷ vs) (λ l lf tf. (is_later w known sound g l q.value v (later_on g g2 l le2 lf) j, are_later w g2 l qs.value vs lf js)))
         (each_of (map E (exprs ks)) frame) (each_of (map C (exprs ks)) frame) (parts_keep ks qs.value qs.first g frame (in_later w h g at.class here le i) (types_later w h g le scope frame a)))
@@ -186,12 +187,12 @@ module _ (w : World) (known : ClassKey → Bool) (sound : IsSound w known) where
         let tested : Act (List Value) = each_of (map (such_that otherwise test) (map C (exprs ks))) frame in
         let rest : Act Value → Act (List Value) → Act (List Value) = λ e es. acts.◌>>=◌ e (λ v. acts.◌>>=◌ es (λ vs. pure (v ∷ vs))) in
         subst (λ z. Keeps w h (rest (E k.0 frame) others) (rest (such_that otherwise test (C k.0) frame) tested) (AreOf w z)) (same_answer qs.further)
-        (bind_keeps w h (Is w q.value) (AreOf w (q.value ∷ qs.value)) (λ v. acts.◌>>=◌ others (λ vs. pure (v ∷ vs))) (λ v. acts.◌>>=◌ tested (λ vs. pure (v ∷ vs)))
+        (bind_keeps w h (IsOf w q.value) (AreOf w (q.value ∷ qs.value)) (λ v. acts.◌>>=◌ others (λ vs. pure (v ∷ vs))) (λ v. acts.◌>>=◌ tested (λ vs. pure (v ∷ vs)))
         (λ v g le ty j. bind_keeps w g (AreOf w qs.value) (AreOf w (q.value ∷ qs.value)) (λ vs. pure (v ∷ vs)) (λ vs. pure (v ∷ vs))
         (λ vs g2 le2 ty2 js. pure_keeps w g2 (AreOf w (q.value ∷ qs.value)) (v ∷ vs) (λ l lf tf. (is_later w known sound g l q.value v (later_on g g2 l le2 lf) j, are_later w g2 l qs.value vs lf js)))
         others tested (parts_exist ks qs.value qs.first g frame (in_later w h g at.class here le i) (types_later w h g le scope frame a)))
         (E k.0 frame) (such_that otherwise test (C k.0) frame)
-        (value_keeps w otherwise h (Is w q.value) test (E k.0 frame) (C k.0 frame) (λ v g le ty j. is_one w g q.value v j) (part_keeps k.0 k.1 q.value q.first h frame i a)))
+        (value_keeps w otherwise h (IsOf w q.value) test (E k.0 frame) (C k.0 frame) (λ v g le ty j. is_one w g q.value v j) (part_keeps k.0 k.1 q.value q.first h frame i a)))
 
     kind_there : (kind : ValueType) → kind_is_known F kind ≡ true → (h : Heap) → is_kind w kind h ≡ true
     kind_there (types.Class k) e h = sound.class k e
@@ -205,43 +206,43 @@ module _ (w : World) (known : ClassKey → Bool) (sound : IsSound w known) where
 
     -- the forms that stand alone, and those with parts
     local_keeps : (n : ℕ) (t : ExprType) → typing.local_type scope n ≡ Ok t → (h : Heap) (frame : Frame) → have_types w h scope frame ≡ true
-        → Keeps w h (pure (local_in (slice_get frame n))) (acts.◌>>◌ (check otherwise (λ g. is_some (slice_get frame n))) (pure (local_in (slice_get frame n)))) (Is w t)
+        → Keeps w h (pure (local_in (slice_get frame n))) (acts.◌>>◌ (check otherwise (λ g. is_some (slice_get frame n))) (pure (local_in (slice_get frame n)))) (IsOf w t)
     local_keeps n t e h frame a =
         let q = went (there 16 (slice_get scope n)) (λ kind. Ok (Of kind)) t e in
         let v = value_at w h scope frame n q.value a (found 16 (slice_get scope n) q.value q.first) in
-        check_keeps w otherwise h (Is w t) (λ g. is_some (slice_get frame n)) (pure (local_in (slice_get frame n))) (pure (local_in (slice_get frame n))) (λ g le ty. ap is_some v.1)
-        (pure_keeps w h (Is w t) (local_in (slice_get frame n)) (λ g le ty. subst (λ z. Is w z (local_in (slice_get frame n)) g) (same_answer q.further) (type_later w h g le q.value (local_in (slice_get frame n)) (ap (λ (o : Option Value). has_type w h q.value (local_in o)) v.1 ∙ v.2))))
+        check_keeps w otherwise h (IsOf w t) (λ g. is_some (slice_get frame n)) (pure (local_in (slice_get frame n))) (pure (local_in (slice_get frame n))) (λ g le ty. ap is_some v.1)
+        (pure_keeps w h (IsOf w t) (local_in (slice_get frame n)) (λ g le ty. subst (λ z. IsOf w z (local_in (slice_get frame n)) g) (same_answer q.further) (type_later w h g le q.value (local_in (slice_get frame n)) (ap (λ (o : Option Value). has_type w h q.value (local_in o)) v.1 ∙ v.2))))
 
     self_keeps : (t : ExprType) (o : Option Class) → (there 20 o >>= λ c. Ok (Of (types.Class c.key))) ≡ Ok t → (h : Heap) → InClass w o here h
-        → Keeps w h (pure here.me) (acts.◌>>◌ (check otherwise (stands w (class_here here) here.me)) (pure here.me)) (Is w t)
+        → Keeps w h (pure here.me) (acts.◌>>◌ (check otherwise (stands w (class_here here) here.me)) (pure here.me)) (IsOf w t)
     self_keeps t None e h i = absurd (let z = e in cc)
     self_keeps t (Some c) e h i =
-        check_keeps w otherwise h (Is w t) (stands w (class_here here) here.me) (pure here.me) (pure here.me) (λ g le ty. in_place w g c here (in_later w h g (Some c) here le i))
-        (pure_keeps w h (Is w t) here.me (λ g le ty. subst (λ z. Is w z here.me g) (same_answer e) (type_later w h g le (types.Class c.key) here.me i.2)))
+        check_keeps w otherwise h (IsOf w t) (stands w (class_here here) here.me) (pure here.me) (pure here.me) (λ g le ty. in_place w g c here (in_later w h g (Some c) here le i))
+        (pure_keeps w h (IsOf w t) here.me (λ g le ty. subst (λ z. IsOf w z here.me g) (same_answer e) (type_later w h g le (types.Class c.key) here.me i.2)))
 
     variable_keeps : (n : ℕ) (t : ExprType) → (own_variable at n >>= λ kind. Ok (Of kind)) ≡ Ok t → (h : Heap) → InClass w at.class here h
-        → Keeps w h (asked here.place (read (class_here here) n here.me)) (acts.◌>>◌ (check otherwise (has_slot w (class_here here) n here.me)) (asked here.place (read (class_here here) n here.me))) (Is w t)
+        → Keeps w h (asked here.place (read (class_here here) n here.me)) (acts.◌>>◌ (check otherwise (has_slot w (class_here here) n here.me)) (asked here.place (read (class_here here) n here.me))) (IsOf w t)
     variable_keeps n t e h i =
         let q = went (own_variable at n) (λ kind. Ok (Of kind)) t e in
         let kind = found 16 (kind_in at.class n) q.value q.first in
-        check_keeps w otherwise h (Is w t) (has_slot w (class_here here) n here.me) (asked here.place (read (class_here here) n here.me)) (asked here.place (read (class_here here) n here.me))
+        check_keeps w otherwise h (IsOf w t) (has_slot w (class_here here) n here.me) (asked here.place (read (class_here here) n here.me)) (asked here.place (read (class_here here) n here.me))
         (λ g le ty. (slot_in w g at.class here n q.value kind (in_later w h g at.class here le i)).0)
-        (asked_keeps w h (Is w t) here.place (read (class_here here) n here.me) (λ g le ty.
+        (asked_keeps w h (IsOf w t) here.place (read (class_here here) n here.me) (λ g le ty.
         let s = slot_in w g at.class here n q.value kind (in_later w h g at.class here le i) in
-        subst (λ z. Answers (read (class_here here) n here.me g) (λ u. Is w z u g)) (same_answer q.further)
+        subst (λ z. Answers (read (class_here here) n here.me g) (λ u. IsOf w z u g)) (same_answer q.further)
         (subst (λ z. Answers (read (class_here here) n here.me g) (λ u. has_type w g z u ≡ true)) s.1 (reads_typed g (class_here here) n here.me ty s.0))))
 
     unary_keeps : (op : ℕ) (k : Kept) (t : ExprType) → (value (T k.0) >>= unary_type op) ≡ Ok t → (h : Heap) (frame : Frame) → InClass w at.class here h → have_types w h scope frame ≡ true
-        → Keeps w h (expr_step w call here (Expr-F.Unary op (E k.0)) frame) (expr_step w checked here (Expr-F.Unary op (such_that otherwise (λ v g. unary_takes op v) (C k.0))) frame) (Is w t)
+        → Keeps w h (expr_step w call here (Expr-F.Unary op (E k.0)) frame) (expr_step w checked here (Expr-F.Unary op (such_that otherwise (λ v g. unary_takes op v) (C k.0))) frame) (IsOf w t)
     unary_keeps op k t e h frame i a =
         let q = went (value (T k.0)) (unary_type op) t e in
-        bind_keeps w h (Is w q.value) (Is w t) (λ v. tried here.place (unary (unary_op op) v)) (λ v. tried here.place (unary (unary_op op) v))
-        (λ v g le ty j. tried_keeps w g (Is w t) here.place (unary (unary_op op) v) (λ l lf tf. (unary_typed w known sound l op q.value t v q.further (is_later w known sound g l q.value v lf j)).1))
+        bind_keeps w h (IsOf w q.value) (IsOf w t) (λ v. tried here.place (unary (unary_op op) v)) (λ v. tried here.place (unary (unary_op op) v))
+        (λ v g le ty j. tried_keeps w g (IsOf w t) here.place (unary (unary_op op) v) (λ l lf tf. (unary_typed w known sound l op q.value t v q.further (is_later w known sound g l q.value v lf j)).1))
         (E k.0 frame) (such_that otherwise (λ v g. unary_takes op v) (C k.0) frame)
-        (value_keeps w otherwise h (Is w q.value) (λ v g. unary_takes op v) (E k.0 frame) (C k.0 frame) (λ v g le ty j. (unary_typed w known sound g op q.value t v q.further j).0) (part_keeps k.0 k.1 q.value q.first h frame i a))
+        (value_keeps w otherwise h (IsOf w q.value) (λ v g. unary_takes op v) (E k.0 frame) (C k.0 frame) (λ v g le ty j. (unary_typed w known sound g op q.value t v q.further j).0) (part_keeps k.0 k.1 q.value q.first h frame i a))
 
     binary_keeps : (op : ℕ) (k l : Kept) (t : ExprType) → (value (T k.0) >>= λ s. value (T l.0) >>= binary_type op s) ≡ Ok t → (h : Heap) (frame : Frame) → InClass w at.class here h → have_types w h scope frame ≡ true
-        → Keeps w h (expr_step w call here (Expr-F.Binary op (E k.0) (E l.0)) frame) (expr_checked otherwise w checked here (Expr-F.Binary op (C k.0) (C l.0)) frame) (Is w t)
+        → Keeps w h (expr_step w call here (Expr-F.Binary op (E k.0) (E l.0)) frame) (expr_checked otherwise w checked here (Expr-F.Binary op (C k.0) (C l.0)) frame) (IsOf w t)
     binary_keeps op k l t e h frame i a =
         let q = went (value (T k.0)) (λ s. value (T l.0) >>= binary_type op s) t e in
         let u = went (value (T l.0)) (binary_type op q.value) t q.further in
@@ -249,68 +250,68 @@ module _ (w : World) (known : ClassKey → Bool) (sound : IsSound w known) where
         let test : Value → Value → Heap → Bool = λ x v g. binary_takes op v && are_of_one_kind x v in
         let right : Value → Act Value = λ x. such_that otherwise (test x) (C l.0) frame in
         let both_of : Value → Value → Act Value = λ x y. tried here.place (binary (binary_op op) x y) in
-        bind_keeps w h (Is w q.value) (Is w t) (λ x. either (binary_op op) x (E l.0 frame) (both_of x)) (λ x. either (binary_op op) x (right x) (both_of x))
+        bind_keeps w h (IsOf w q.value) (IsOf w t) (λ x. either (binary_op op) x (E l.0 frame) (both_of x)) (λ x. either (binary_op op) x (right x) (both_of x))
         (λ x g le ty j. o.keeps g here.place x (E l.0 frame) (right x) j
-        (value_keeps w otherwise g (Is w u.value) (test x) (E l.0 frame) (C l.0 frame) (λ v f lf tf jf. o.right f x v (is_later w known sound g f q.value x lf j) jf)
+        (value_keeps w otherwise g (IsOf w u.value) (test x) (E l.0 frame) (C l.0 frame) (λ v f lf tf jf. o.right f x v (is_later w known sound g f q.value x lf j) jf)
         (part_keeps l.0 l.1 u.value u.first g frame (in_later w h g at.class here le i) (types_later w h g le scope frame a))))
         (E k.0 frame) (such_that otherwise (λ v g. binary_takes op v) (C k.0) frame)
-        (value_keeps w otherwise h (Is w q.value) (λ v g. binary_takes op v) (E k.0 frame) (C k.0 frame) (λ v g le ty j. o.left g v j) (part_keeps k.0 k.1 q.value q.first h frame i a))
+        (value_keeps w otherwise h (IsOf w q.value) (λ v g. binary_takes op v) (E k.0 frame) (C k.0 frame) (λ v g le ty j. o.left g v j) (part_keeps k.0 k.1 q.value q.first h frame i a))
 
-    new_form : (k : ClassKey) (t : ExprType) → typing.new_type F k ≡ Ok t → (h : Heap) → Keeps w h (new_on w call here.place k) (acts.◌>>◌ (check otherwise (is_class w k)) (new_on w checked here.place k)) (Is w t)
+    new_form : (k : ClassKey) (t : ExprType) → typing.new_type F k ≡ Ok t → (h : Heap) → Keeps w h (new_on w call here.place k) (acts.◌>>◌ (check otherwise (is_class w k)) (new_on w checked here.place k)) (IsOf w t)
     new_form k t e h =
         let d = met 16 (known k) (Ok (Of (types.Class k))) t e in
-        check_keeps w otherwise h (Is w t) (is_class w k) (new_on w call here.place k) (new_on w checked here.place k) (known_class k h d.0)
-        (subst (λ z. Keeps w h (new_on w call here.place k) (new_on w checked here.place k) (Is w z)) (same_answer d.1) (new_keeps w known sound call checked keep h here.place k (sound.class k d.0)))
+        check_keeps w otherwise h (IsOf w t) (is_class w k) (new_on w call here.place k) (new_on w checked here.place k) (known_class k h d.0)
+        (subst (λ z. Keeps w h (new_on w call here.place k) (new_on w checked here.place k) (IsOf w z)) (same_answer d.1) (new_keeps w known sound call checked keep h here.place k (sound.class k d.0)))
 
-    class_form : (k : ClassKey) (t : ExprType) → typing.class_type F k ≡ Ok t → (h : Heap) → Keeps w h (class_object k) (acts.◌>>◌ (check otherwise (is_class w k)) (class_object k)) (Is w t)
+    class_form : (k : ClassKey) (t : ExprType) → typing.class_type F k ≡ Ok t → (h : Heap) → Keeps w h (class_object k) (acts.◌>>◌ (check otherwise (is_class w k)) (class_object k)) (IsOf w t)
     class_form k t e h =
         let d = met 16 (known k) (Ok (Of (types.Class (w.meta k)))) t e in
-        check_keeps w otherwise h (Is w t) (is_class w k) (class_object k) (class_object k) (known_class k h d.0)
-        (subst (λ z. Keeps w h (class_object k) (class_object k) (Is w z)) (same_answer d.1) (class_keeps w known sound h k (sound.class k d.0)))
+        check_keeps w otherwise h (IsOf w t) (is_class w k) (class_object k) (class_object k) (known_class k h d.0)
+        (subst (λ z. Keeps w h (class_object k) (class_object k) (IsOf w z)) (same_answer d.1) (class_keeps w known sound h k (sound.class k d.0)))
 
     cast_form : (c : ClassKey) (k : Kept) (t : ExprType) → (value (T k.0) >>= cast_type F c) ≡ Ok t → (h : Heap) (frame : Frame) → InClass w at.class here h → have_types w h scope frame ≡ true
         → Keeps w h (expr_step w call here (Expr-F.Cast c (E k.0)) frame)
-        (acts.◌>>◌ (check otherwise (is_class w c)) (expr_step w checked here (Expr-F.Cast c (such_that otherwise (λ v g. has_type w g an_object v) (C k.0))) frame)) (Is w t)
+        (acts.◌>>◌ (check otherwise (is_class w c)) (expr_step w checked here (Expr-F.Cast c (such_that otherwise (λ v g. has_type w g an_object v) (C k.0))) frame)) (IsOf w t)
     cast_form c k t e h frame i a =
         let q = went (value (T k.0)) (cast_type F c) t e in
         let d = met 16 (known c) (gives (is_reference q.value) (types.Class c)) t q.further in
         let r = met 17 (is_reference q.value) (Ok (Of (types.Class c))) t d.1 in
-        let refers : (v : Value) (g : Heap) → IsLater h g → AreTyped w g → Is w q.value v g → has_type w g an_object v ≡ true = λ v g le ty j. referring w known sound g q.value v ty r.0 j in
+        let refers : (v : Value) (g : Heap) → IsLater h g → AreTyped w g → IsOf w q.value v g → has_type w g an_object v ≡ true = λ v g le ty j. referring w known sound g q.value v ty r.0 j in
         let n : Act Value = such_that otherwise (λ v g. has_type w g an_object v) (C k.0) frame in
-        check_keeps w otherwise h (Is w t) (is_class w c) (expr_step w call here (Expr-F.Cast c (E k.0)) frame) (expr_step w checked here (Expr-F.Cast c (such_that otherwise (λ v g. has_type w g an_object v) (C k.0))) frame) (known_class c h d.0)
-        (bind_keeps w h (Is w q.value) (Is w t) (λ v. asked here.place (λ g. cast w c g v)) (λ v. asked here.place (λ g. cast w c g v))
-        (λ v g le ty j. asked_keeps w g (Is w t) here.place (λ l. cast w c l v) (λ l lf tf.
-        subst (λ z. Answers (cast w c l v) (λ u. Is w z u l)) (same_answer r.1) (casts w l c v (refers v l (later_on h g l le lf) tf (is_later w known sound g l q.value v lf j)))))
-        (E k.0 frame) n (value_keeps w otherwise h (Is w q.value) (λ v g. has_type w g an_object v) (E k.0 frame) (C k.0 frame) refers (part_keeps k.0 k.1 q.value q.first h frame i a)))
+        check_keeps w otherwise h (IsOf w t) (is_class w c) (expr_step w call here (Expr-F.Cast c (E k.0)) frame) (expr_step w checked here (Expr-F.Cast c (such_that otherwise (λ v g. has_type w g an_object v) (C k.0))) frame) (known_class c h d.0)
+        (bind_keeps w h (IsOf w q.value) (IsOf w t) (λ v. asked here.place (λ g. cast w c g v)) (λ v. asked here.place (λ g. cast w c g v))
+        (λ v g le ty j. asked_keeps w g (IsOf w t) here.place (λ l. cast w c l v) (λ l lf tf.
+        subst (λ z. Answers (cast w c l v) (λ u. IsOf w z u l)) (same_answer r.1) (casts w l c v (refers v l (later_on h g l le lf) tf (is_later w known sound g l q.value v lf j)))))
+        (E k.0 frame) n (value_keeps w otherwise h (IsOf w q.value) (λ v g. has_type w g an_object v) (E k.0 frame) (C k.0 frame) refers (part_keeps k.0 k.1 q.value q.first h frame i a)))
 
     isa_form : (c : ClassKey) (k : Kept) (t : ExprType) → (value (T k.0) >>= isa_type F c) ≡ Ok t → (h : Heap) (frame : Frame) → InClass w at.class here h → have_types w h scope frame ≡ true
         → Keeps w h (expr_step w call here (Expr-F.Isa c (E k.0)) frame)
-        (acts.◌>>◌ (check otherwise (is_class w c)) (expr_step w checked here (Expr-F.Isa c (such_that otherwise (λ v g. has_type w g an_object v) (C k.0))) frame)) (Is w t)
+        (acts.◌>>◌ (check otherwise (is_class w c)) (expr_step w checked here (Expr-F.Isa c (such_that otherwise (λ v g. has_type w g an_object v) (C k.0))) frame)) (IsOf w t)
     isa_form c k t e h frame i a =
         let q = went (value (T k.0)) (isa_type F c) t e in
         let d = met 16 (known c) (gives (is_reference q.value) types.Boolean) t q.further in
         let r = met 17 (is_reference q.value) (Ok (Of types.Boolean)) t d.1 in
         let n : Act Value = such_that otherwise (λ v g. has_type w g an_object v) (C k.0) frame in
-        check_keeps w otherwise h (Is w t) (is_class w c) (expr_step w call here (Expr-F.Isa c (E k.0)) frame) (expr_step w checked here (Expr-F.Isa c (such_that otherwise (λ v g. has_type w g an_object v) (C k.0))) frame) (known_class c h d.0)
-        (bind_keeps w h (Is w q.value) (Is w t) (λ v. asked here.place (λ g. isa w c g v)) (λ v. asked here.place (λ g. isa w c g v))
-        (λ v g le ty j. asked_keeps w g (Is w t) here.place (λ l. isa w c l v) (λ l lf tf. subst (λ z. Answers (isa w c l v) (λ u. Is w z u l)) (same_answer r.1) (isas w l c v)))
-        (E k.0 frame) n (value_keeps w otherwise h (Is w q.value) (λ v g. has_type w g an_object v) (E k.0 frame) (C k.0 frame) (λ v g le ty j. referring w known sound g q.value v ty r.0 j) (part_keeps k.0 k.1 q.value q.first h frame i a)))
+        check_keeps w otherwise h (IsOf w t) (is_class w c) (expr_step w call here (Expr-F.Isa c (E k.0)) frame) (expr_step w checked here (Expr-F.Isa c (such_that otherwise (λ v g. has_type w g an_object v) (C k.0))) frame) (known_class c h d.0)
+        (bind_keeps w h (IsOf w q.value) (IsOf w t) (λ v. asked here.place (λ g. isa w c g v)) (λ v. asked here.place (λ g. isa w c g v))
+        (λ v g le ty j. asked_keeps w g (IsOf w t) here.place (λ l. isa w c l v) (λ l lf tf. subst (λ z. Answers (isa w c l v) (λ u. IsOf w z u l)) (same_answer r.1) (isas w l c v)))
+        (E k.0 frame) n (value_keeps w otherwise h (IsOf w q.value) (λ v g. has_type w g an_object v) (E k.0 frame) (C k.0 frame) (λ v g le ty j. referring w known sound g q.value v ty r.0 j) (part_keeps k.0 k.1 q.value q.first h frame i a)))
 
     proxy_form : (c : ClassKey) (k : Kept) (t : ExprType) → (value (T k.0) >>= proxy_type F c) ≡ Ok t → (h : Heap) (frame : Frame) → InClass w at.class here h → have_types w h scope frame ≡ true
         → Keeps w h (expr_step w call here (Expr-F.Proxy c (E k.0)) frame)
-        (acts.◌>>◌ (check otherwise (is_class w c)) (expr_step w checked here (Expr-F.Proxy c (such_that otherwise (of_class w c) (C k.0))) frame)) (Is w t)
+        (acts.◌>>◌ (check otherwise (is_class w c)) (expr_step w checked here (Expr-F.Proxy c (such_that otherwise (of_class w c) (C k.0))) frame)) (IsOf w t)
     proxy_form c k t e h frame i a =
         let q = went (value (T k.0)) (proxy_type F c) t e in
         let d = met 16 (known c) (gives (fits F (types.Class c) q.value) (types.Class c)) t q.further in
         let r = met 17 (fits F (types.Class c) q.value) (Ok (Of (types.Class c))) t d.1 in
         let n : Act Value = such_that otherwise (of_class w c) (C k.0) frame in
-        check_keeps w otherwise h (Is w t) (is_class w c) (expr_step w call here (Expr-F.Proxy c (E k.0)) frame) (expr_step w checked here (Expr-F.Proxy c (such_that otherwise (of_class w c) (C k.0))) frame) (known_class c h d.0)
-        (bind_keeps w h (Is w q.value) (Is w t) (λ v. proxy_on w here.place c v) (λ v. proxy_on w here.place c v)
-        (λ v g le ty j. subst (λ z. Keeps w g (proxy_on w here.place c v) (proxy_on w here.place c v) (Is w z)) (same_answer r.1) (proxy_keeps w known sound g here.place c v d.0 (fitting w known sound g (types.Class c) q.value v r.0 j)))
-        (E k.0 frame) n (value_keeps w otherwise h (Is w q.value) (of_class w c) (E k.0 frame) (C k.0 frame) (λ v g le ty j. fitting w known sound g (types.Class c) q.value v r.0 j) (part_keeps k.0 k.1 q.value q.first h frame i a)))
+        check_keeps w otherwise h (IsOf w t) (is_class w c) (expr_step w call here (Expr-F.Proxy c (E k.0)) frame) (expr_step w checked here (Expr-F.Proxy c (such_that otherwise (of_class w c) (C k.0))) frame) (known_class c h d.0)
+        (bind_keeps w h (IsOf w q.value) (IsOf w t) (λ v. proxy_on w here.place c v) (λ v. proxy_on w here.place c v)
+        (λ v g le ty j. subst (λ z. Keeps w g (proxy_on w here.place c v) (proxy_on w here.place c v) (IsOf w z)) (same_answer r.1) (proxy_keeps w known sound g here.place c v d.0 (fitting w known sound g (types.Class c) q.value v r.0 j)))
+        (E k.0 frame) n (value_keeps w otherwise h (IsOf w q.value) (of_class w c) (E k.0 frame) (C k.0 frame) (λ v g le ty j. fitting w known sound g (types.Class c) q.value v r.0 j) (part_keeps k.0 k.1 q.value q.first h frame i a)))
 
     offset_form : (r : MethodRef) (k : Kept) (ks : List Kept) (t : ExprType) → (value (T k.0) >>= λ on. values (map T (exprs ks)) >>= offset_call_type F r on) ≡ Ok t → (h : Heap) (frame : Frame) → InClass w at.class here h → have_types w h scope frame ≡ true
-        → Keeps w h (expr_step w call here (Expr-F.OffsetCall r (E k.0) (map E (exprs ks))) frame) (expr_step w checked here (Expr-F.OffsetCall r (such_that otherwise (of_class w r.class) (C k.0)) (map C (exprs ks))) frame) (Is w t)
+        → Keeps w h (expr_step w call here (Expr-F.OffsetCall r (E k.0) (map E (exprs ks))) frame) (expr_step w checked here (Expr-F.OffsetCall r (such_that otherwise (of_class w r.class) (C k.0)) (map C (exprs ks))) frame) (IsOf w t)
     offset_form r k ks t e h frame i a =
         let q = went (value (T k.0)) (λ on. values (map T (exprs ks)) >>= offset_call_type F r on) t e in
         let qs = went (values (map T (exprs ks))) (offset_call_type F r q.value) t q.further in
@@ -320,20 +321,20 @@ module _ (w : World) (known : ClassKey → Bool) (sound : IsSound w known) where
         let f = met 18 (all_fit F sig.params qs.value) (Ok (Of sig.result)) t d.1 in
         let is : w.sig (w.owner r) ≡ Some sig = found 16 (w.sig (w.owner r)) sig g.first in
         let further : Calls → (Frame → Act (List Value)) → Value → Act Value = λ c es on. acts.◌>>=◌ (es frame) (λ vs. offset_call w c here.place Offset r on vs) in
-        bind_keeps w h (Is w q.value) (Is w t) (further call (each_of (map E (exprs ks)))) (further checked (each_of (map C (exprs ks))))
-        (λ on g2 le ty j. bind_keeps w g2 (AreOf w qs.value) (Is w t) (λ vs. offset_call w call here.place Offset r on vs) (λ vs. offset_call w checked here.place Offset r on vs)
-        (λ vs g3 le3 ty3 js. subst (λ z. Keeps w g3 (offset_call w call here.place Offset r on vs) (offset_call w checked here.place Offset r on vs) (Is w z)) (same_answer f.1)
+        bind_keeps w h (IsOf w q.value) (IsOf w t) (further call (each_of (map E (exprs ks)))) (further checked (each_of (map C (exprs ks))))
+        (λ on g2 le ty j. bind_keeps w g2 (AreOf w qs.value) (IsOf w t) (λ vs. offset_call w call here.place Offset r on vs) (λ vs. offset_call w checked here.place Offset r on vs)
+        (λ vs g3 le3 ty3 js. subst (λ z. Keeps w g3 (offset_call w call here.place Offset r on vs) (offset_call w checked here.place Offset r on vs) (IsOf w z)) (same_answer f.1)
         (offset_keeps w known sound call checked keep g3 here.place Offset r on vs sig is (descending w known sound g3 r.class q.value on d.0 (is_later w known sound g2 g3 q.value on le3 j)) (all_fitting w known sound g3 sig.params qs.value vs f.0 js)))
         (each_of (map E (exprs ks)) frame) (each_of (map C (exprs ks)) frame) (parts_keep ks qs.value qs.first g2 frame (in_later w h g2 at.class here le i) (types_later w h g2 le scope frame a)))
         (E k.0 frame) (such_that otherwise (of_class w r.class) (C k.0) frame)
-        (value_keeps w otherwise h (Is w q.value) (of_class w r.class) (E k.0 frame) (C k.0 frame) (λ v g2 le ty j. descending w known sound g2 r.class q.value v d.0 j) (part_keeps k.0 k.1 q.value q.first h frame i a))
+        (value_keeps w otherwise h (IsOf w q.value) (of_class w r.class) (E k.0 frame) (C k.0 frame) (λ v g2 le ty j. descending w known sound g2 r.class q.value v d.0 j) (part_keeps k.0 k.1 q.value q.first h frame i a))
 
     -- calls by name, with what is done with the receiver and the arguments
     named_form : (kind : ValueType) (does : Calls → Value → List Value → Act Value) (k : Kept) (ks : List Kept) (t : ExprType)
         → ((g : Heap) (on : Value) (vs : List Value) → has_type w g an_object on ≡ true → (ts : List ExprType) → AreOf w ts vs g → Keeps w g (does call on vs) (does checked on vs) (Has w kind))
         → (value (T k.0) >>= λ on. values (map T (exprs ks)) >>= named_call_type F kind on) ≡ Ok t → (h : Heap) (frame : Frame) → InClass w at.class here h → have_types w h scope frame ≡ true
         → Keeps w h (acts.◌>>=◌ (E k.0 frame) (λ on. acts.◌>>=◌ (each_of (map E (exprs ks)) frame) (λ vs. does call on vs)))
-        (acts.◌>>◌ (check otherwise (is_kind w kind)) (acts.◌>>=◌ (such_that otherwise (λ v g. has_type w g an_object v) (C k.0) frame) (λ on. acts.◌>>=◌ (each_of (map (such_that otherwise (λ v g. is_value w g v)) (map C (exprs ks))) frame) (λ vs. does checked on vs)))) (Is w t)
+        (acts.◌>>◌ (check otherwise (is_kind w kind)) (acts.◌>>=◌ (such_that otherwise (λ v g. has_type w g an_object v) (C k.0) frame) (λ on. acts.◌>>=◌ (each_of (map (such_that otherwise (λ v g. is_value w g v)) (map C (exprs ks))) frame) (λ vs. does checked on vs)))) (IsOf w t)
     named_form kind does k ks t keeps e h frame i a =
         let q = went (value (T k.0)) (λ on. values (map T (exprs ks)) >>= named_call_type F kind on) t e in
         let qs = went (values (map T (exprs ks))) (named_call_type F kind q.value) t q.further in
@@ -342,20 +343,20 @@ module _ (w : World) (known : ClassKey → Bool) (sound : IsSound w known) where
         let f = met 18 (nat_le (length qs.value) MAX_PARAMETERS) (Ok (Of kind)) t d.1 in
         let plain : Act Value = acts.◌>>=◌ (E k.0 frame) (λ on. acts.◌>>=◌ (each_of (map E (exprs ks)) frame) (λ vs. does call on vs)) in
         let tested : Act (List Value) = each_of (map (such_that otherwise (λ v g. is_value w g v)) (map C (exprs ks))) frame in
-        check_keeps w otherwise h (Is w t) (is_kind w kind) plain (acts.◌>>=◌ (such_that otherwise (λ v g. has_type w g an_object v) (C k.0) frame) (λ on. acts.◌>>=◌ tested (λ vs. does checked on vs))) (λ g le ty. kind_there kind b.0 g)
-        (bind_keeps w h (Is w q.value) (Is w t) (λ on. acts.◌>>=◌ (each_of (map E (exprs ks)) frame) (λ vs. does call on vs)) (λ on. acts.◌>>=◌ tested (λ vs. does checked on vs))
-        (λ on g2 le ty j. bind_keeps w g2 (AreOf w qs.value) (Is w t) (λ vs. does call on vs) (λ vs. does checked on vs)
-        (λ vs g3 le3 ty3 js. subst (λ z. Keeps w g3 (does call on vs) (does checked on vs) (Is w z)) (same_answer f.1)
+        check_keeps w otherwise h (IsOf w t) (is_kind w kind) plain (acts.◌>>=◌ (such_that otherwise (λ v g. has_type w g an_object v) (C k.0) frame) (λ on. acts.◌>>=◌ tested (λ vs. does checked on vs))) (λ g le ty. kind_there kind b.0 g)
+        (bind_keeps w h (IsOf w q.value) (IsOf w t) (λ on. acts.◌>>=◌ (each_of (map E (exprs ks)) frame) (λ vs. does call on vs)) (λ on. acts.◌>>=◌ tested (λ vs. does checked on vs))
+        (λ on g2 le ty j. bind_keeps w g2 (AreOf w qs.value) (IsOf w t) (λ vs. does call on vs) (λ vs. does checked on vs)
+        (λ vs g3 le3 ty3 js. subst (λ z. Keeps w g3 (does call on vs) (does checked on vs) (IsOf w z)) (same_answer f.1)
         (keeps g3 on vs (receiving w known sound g3 q.value on ty3 d.0 (is_later w known sound g2 g3 q.value on le3 j)) qs.value js))
         (each_of (map E (exprs ks)) frame) tested (parts_exist ks qs.value qs.first g2 frame (in_later w h g2 at.class here le i) (types_later w h g2 le scope frame a)))
         (E k.0 frame) (such_that otherwise (λ v g. has_type w g an_object v) (C k.0) frame)
-        (value_keeps w otherwise h (Is w q.value) (λ v g. has_type w g an_object v) (E k.0 frame) (C k.0 frame) (λ v g2 le ty j. receiving w known sound g2 q.value v ty d.0 j) (part_keeps k.0 k.1 q.value q.first h frame i a)))
+        (value_keeps w otherwise h (IsOf w q.value) (λ v g. has_type w g an_object v) (E k.0 frame) (C k.0 frame) (λ v g2 le ty j. receiving w known sound g2 q.value v ty d.0 j) (part_keeps k.0 k.1 q.value q.first h frame i a)))
 
     -- calls of parents' methods, in a body of a class
     parent_form : (n : ℕ) (r : MethodRef) (ks : List Kept) (t : ExprType) (o : Option Class) (ts : List ExprType)
         → (there 16 (parent_in o n) >>= λ p. there 16 (w.sig (w.owner r)) >>= λ sig. needs 17 (w.is_a p r.class) (needs 18 (all_fit F sig.params ts) (Ok (Of sig.result)))) ≡ Ok t
         → values (map T (exprs ks)) ≡ Ok ts → (h : Heap) (frame : Frame) → InClass w o here h → InClass w at.class here h → have_types w h scope frame ≡ true
-        → Keeps w h (expr_step w call here (Expr-F.ParentCall n r (map E (exprs ks))) frame) (acts.◌>>◌ (check otherwise (has_parent w here n)) (expr_step w checked here (Expr-F.ParentCall n r (map C (exprs ks))) frame)) (Is w t)
+        → Keeps w h (expr_step w call here (Expr-F.ParentCall n r (map E (exprs ks))) frame) (acts.◌>>◌ (check otherwise (has_parent w here n)) (expr_step w checked here (Expr-F.ParentCall n r (map C (exprs ks))) frame)) (IsOf w t)
     parent_form n r ks t None ts e v h frame i ia a = absurd (let z = e in cc)
     parent_form n r ks t (Some c) ts e v h frame i ia a =
         let q = went (there 16 (slice_get c.decl.face.parents n)) (λ p. there 16 (w.sig (w.owner r)) >>= λ sig. needs 17 (w.is_a p r.class) (needs 18 (all_fit F sig.params ts) (Ok (Of sig.result)))) t e in
@@ -370,18 +371,18 @@ module _ (w : World) (known : ClassKey → Bool) (sound : IsSound w known) where
         let there_is : slice_get (w.parents (class_here here)) n ≡ Some p = ap (λ z. slice_get z n) ps ∙ parent in
         let at_p : parent_at (w.parents (class_here here)) n ≡ p = ap (λ (o : Option ClassKey). elim o [ None ↦ som_object | Some z ↦ z ]) there_is in
         let own : w.is_a p (w.owner r).class ≡ true = sound.through p r.class (w.owner r).class d.0 (sound.owner r sig is) in
-        check_keeps w otherwise h (Is w t) (has_parent w here n) (expr_step w call here (Expr-F.ParentCall n r (map E (exprs ks))) frame) (expr_step w checked here (Expr-F.ParentCall n r (map C (exprs ks))) frame)
+        check_keeps w otherwise h (IsOf w t) (has_parent w here n) (expr_step w call here (Expr-F.ParentCall n r (map E (exprs ks))) frame) (expr_step w checked here (Expr-F.ParentCall n r (map C (exprs ks))) frame)
         (λ g2 le ty. both_true (stands w (class_here here) here.me g2) (is_some (slice_get (w.parents (class_here here)) n)) (in_place w g2 c here (in_later w h g2 (Some c) here le i)) (ap is_some there_is))
-        (bind_keeps w h (AreOf w ts) (Is w t) (λ vs. parent_call w call here (parent_at (w.parents (class_here here)) n) r vs) (λ vs. parent_call w checked here (parent_at (w.parents (class_here here)) n) r vs)
-        (λ vs g2 le ty js. subst (λ z. Keeps w g2 (parent_call w call here z r vs) (parent_call w checked here z r vs) (Is w t)) (sym at_p)
-        (subst (λ z. Keeps w g2 (parent_call w call here p r vs) (parent_call w checked here p r vs) (Is w z)) (same_answer f.1)
+        (bind_keeps w h (AreOf w ts) (IsOf w t) (λ vs. parent_call w call here (parent_at (w.parents (class_here here)) n) r vs) (λ vs. parent_call w checked here (parent_at (w.parents (class_here here)) n) r vs)
+        (λ vs g2 le ty js. subst (λ z. Keeps w g2 (parent_call w call here z r vs) (parent_call w checked here z r vs) (IsOf w t)) (sym at_p)
+        (subst (λ z. Keeps w g2 (parent_call w call here p r vs) (parent_call w checked here p r vs) (IsOf w z)) (same_answer f.1)
         (parent_keeps w known sound call checked keep g2 here c.key p r vs sig (type_later w h g2 le (types.Class c.key) here.me i.2) (i.0.above p (get_mem c.decl.face.parents n p parent)) is own (all_fitting w known sound g2 sig.params ts vs f.0 js))))
         (each_of (map E (exprs ks)) frame) (each_of (map C (exprs ks)) frame) (parts_keep ks ts v h frame ia a))
 
     parents_form : (r : MethodRef) (ks : List Kept) (t : ExprType) (o : Option Class) (ts : List ExprType)
         → (there 16 (w.sig (w.owner r)) >>= λ sig. needs 18 (all_fit F sig.params ts) (needs 20 (is_nothing (Of sig.result) && proper_in F o (w.owner r).class) (Ok (Of sig.result)))) ≡ Ok t
         → values (map T (exprs ks)) ≡ Ok ts → (h : Heap) (frame : Frame) → InClass w o here h → InClass w at.class here h → have_types w h scope frame ≡ true
-        → Keeps w h (expr_step w call here (Expr-F.ParentsCall r (map E (exprs ks))) frame) (acts.◌>>◌ (check otherwise (has_parents w here r)) (expr_step w checked here (Expr-F.ParentsCall r (map C (exprs ks))) frame)) (Is w t)
+        → Keeps w h (expr_step w call here (Expr-F.ParentsCall r (map E (exprs ks))) frame) (acts.◌>>◌ (check otherwise (has_parents w here r)) (expr_step w checked here (Expr-F.ParentsCall r (map C (exprs ks))) frame)) (IsOf w t)
     parents_form r ks t o ts e v h frame i ia a =
         let g = went (there 16 (w.sig (w.owner r))) (λ sig. needs 18 (all_fit F sig.params ts) (needs 20 (is_nothing (Of sig.result) && proper_in F o (w.owner r).class) (Ok (Of sig.result)))) t e in
         let sig = g.value in
@@ -397,43 +398,43 @@ module _ (w : World) (known : ClassKey → Bool) (sound : IsSound w known) where
         nothing_is types.Str e = absurd (true≢false (sym e))
         nothing_is (types.Class k) e = absurd (true≢false (sym e))
         by : (o : Option Class) → InClass w o here h → proper_in F o (w.owner r).class ≡ true → (sig : Sig) → w.sig (w.owner r) ≡ Some sig → all_fit F sig.params ts ≡ true → Of types.Void ≡ t
-            → Keeps w h (expr_step w call here (Expr-F.ParentsCall r (map E (exprs ks))) frame) (acts.◌>>◌ (check otherwise (has_parents w here r)) (expr_step w checked here (Expr-F.ParentsCall r (map C (exprs ks))) frame)) (Is w t)
+            → Keeps w h (expr_step w call here (Expr-F.ParentsCall r (map E (exprs ks))) frame) (acts.◌>>◌ (check otherwise (has_parents w here r)) (expr_step w checked here (Expr-F.ParentsCall r (map C (exprs ks))) frame)) (IsOf w t)
         by None j p sig is fit void = absurd (true≢false (sym p))
         by (Some c) j p sig is fit void =
             let ps : w.parents (class_here here) ≡ c.decl.face.parents = ap w.parents j.1 ∙ j.0.parents in
-            check_keeps w otherwise h (Is w t) (has_parents w here r) (expr_step w call here (Expr-F.ParentsCall r (map E (exprs ks))) frame) (expr_step w checked here (Expr-F.ParentsCall r (map C (exprs ks))) frame)
+            check_keeps w otherwise h (IsOf w t) (has_parents w here r) (expr_step w call here (Expr-F.ParentsCall r (map E (exprs ks))) frame) (expr_step w checked here (Expr-F.ParentsCall r (map C (exprs ks))) frame)
             (λ g2 le ty. both_true (stands w (class_here here) here.me g2) (some (λ q. w.is_a q (w.owner r).class) (w.parents (class_here here))) (in_place w g2 c here (in_later w h g2 (Some c) here le j))
             (subst (λ z. some (λ q. w.is_a q (w.owner r).class) z ≡ true) (sym ps) (let b = both (not (same_key (w.owner r).class c.key)) (w.is_a c.key (w.owner r).class) p in j.0.proper (w.owner r).class (is_false (same_key (w.owner r).class c.key) b.0) b.1)))
-            (bind_keeps w h (AreOf w ts) (Is w t) (λ vs. parents_calls w call here (w.parents (class_here here)) r vs) (λ vs. parents_calls w checked here (w.parents (class_here here)) r vs)
-            (λ vs g2 le ty js. subst (λ z. Keeps w g2 (parents_calls w call here (w.parents (class_here here)) r vs) (parents_calls w checked here (w.parents (class_here here)) r vs) (Is w z)) void
+            (bind_keeps w h (AreOf w ts) (IsOf w t) (λ vs. parents_calls w call here (w.parents (class_here here)) r vs) (λ vs. parents_calls w checked here (w.parents (class_here here)) r vs)
+            (λ vs g2 le ty js. subst (λ z. Keeps w g2 (parents_calls w call here (w.parents (class_here here)) r vs) (parents_calls w checked here (w.parents (class_here here)) r vs) (IsOf w z)) void
             (parents_keeps w known sound call checked keep g2 here c.key (w.parents (class_here here)) r vs sig (type_later w h g2 le (types.Class c.key) here.me j.2) (λ q m. j.0.above q (subst (λ z. Mem q z) ps m)) is (all_fitting w known sound g2 sig.params ts vs fit js)))
             (each_of (map E (exprs ks)) frame) (each_of (map C (exprs ks)) frame) (parts_keep ks ts v h frame ia a))
 
     host_form : (code : _) (k l : Kept) (t : ExprType) → (value (T k.0) >>= λ s. value (T l.0) >>= host_type s) ≡ Ok t → (h : Heap) (frame : Frame) → InClass w at.class here h → have_types w h scope frame ≡ true
-        → Keeps w h (expr_step w call here (Expr-F.Host code (E k.0) (E l.0)) frame) (expr_step w checked here (Expr-F.Host code (such_that otherwise (λ v g. is_long v) (C k.0)) (such_that otherwise (λ v g. is_long v) (C l.0))) frame) (Is w t)
+        → Keeps w h (expr_step w call here (Expr-F.Host code (E k.0) (E l.0)) frame) (expr_step w checked here (Expr-F.Host code (such_that otherwise (λ v g. is_long v) (C k.0)) (such_that otherwise (λ v g. is_long v) (C l.0))) frame) (IsOf w t)
     host_form code k l t e h frame i a =
         let q = went (value (T k.0)) (λ s. value (T l.0) >>= host_type s) t e in
         let u = went (value (T l.0)) (host_type q.value) t q.further in
         let d = met 17 (typing.is_long q.value && typing.is_long u.value) (Ok (Of types.Long)) t u.further in
         let b = both (typing.is_long q.value) (typing.is_long u.value) d.0 in
         let right : Act Value = such_that otherwise (λ v g. is_long v) (C l.0) frame in
-        bind_keeps w h (Is w q.value) (Is w t) (λ x. acts.◌>>=◌ (E l.0 frame) (λ y. pure (host code x y))) (λ x. acts.◌>>=◌ right (λ y. pure (host code x y)))
-        (λ x g le ty j. bind_keeps w g (Is w u.value) (Is w t) (λ y. pure (host code x y)) (λ y. pure (host code x y))
-        (λ y g2 le2 ty2 j2. pure_keeps w g2 (Is w t) (host code x y) (λ f lf tf. subst (λ z. Is w z (host code x y) f) (same_answer d.1) refl))
-        (E l.0 frame) right (value_keeps w otherwise g (Is w u.value) (λ v f. is_long v) (E l.0 frame) (C l.0 frame) (λ v f lf tf jf. ap is_long (of_long w known sound f u.value v b.1 jf).1)
+        bind_keeps w h (IsOf w q.value) (IsOf w t) (λ x. acts.◌>>=◌ (E l.0 frame) (λ y. pure (host code x y))) (λ x. acts.◌>>=◌ right (λ y. pure (host code x y)))
+        (λ x g le ty j. bind_keeps w g (IsOf w u.value) (IsOf w t) (λ y. pure (host code x y)) (λ y. pure (host code x y))
+        (λ y g2 le2 ty2 j2. pure_keeps w g2 (IsOf w t) (host code x y) (λ f lf tf. subst (λ z. IsOf w z (host code x y) f) (same_answer d.1) refl))
+        (E l.0 frame) right (value_keeps w otherwise g (IsOf w u.value) (λ v f. is_long v) (E l.0 frame) (C l.0 frame) (λ v f lf tf jf. ap is_long (of_long w known sound f u.value v b.1 jf).1)
         (part_keeps l.0 l.1 u.value u.first g frame (in_later w h g at.class here le i) (types_later w h g le scope frame a))))
         (E k.0 frame) (such_that otherwise (λ v g. is_long v) (C k.0) frame)
-        (value_keeps w otherwise h (Is w q.value) (λ v g. is_long v) (E k.0 frame) (C k.0 frame) (λ v g le ty j. ap is_long (of_long w known sound g q.value v b.0 j).1) (part_keeps k.0 k.1 q.value q.first h frame i a))
+        (value_keeps w otherwise h (IsOf w q.value) (λ v g. is_long v) (E k.0 frame) (C k.0 frame) (λ v g le ty j. ap is_long (of_long w known sound g q.value v b.0 j).1) (part_keeps k.0 k.1 q.value q.first h frame i a))
 
-    plain_form : (v : Value) (t : ExprType) → ((g : Heap) → Is w t v g) → (h : Heap) → Keeps w h (pure v) (pure v) (Is w t)
-    plain_form v t f h = pure_keeps w h (Is w t) v (λ g le ty. f g)
+    plain_form : (v : Value) (t : ExprType) → ((g : Heap) → IsOf w t v g) → (h : Heap) → Keeps w h (pure v) (pure v) (IsOf w t)
+    plain_form v t f h = pure_keeps w h (IsOf w t) v (λ g le ty. f g)
 
     layer : (y : Expr-F Kept) (t : ExprType) → typing.expr_step F at scope (map-Expr Expr Typed T (bare y)) ≡ Ok t → (h : Heap) (frame : Frame) → InClass w at.class here h → have_types w h scope frame ≡ true
-        → Keeps w h (expr_step w call here (map-Expr Expr Evals E (bare y)) frame) (expr_checked otherwise w checked here (map-Expr Expr Evals C (bare y)) frame) (Is w t)
-    layer (Expr-F.Long z) t e h frame i a = plain_form (Long z) t (λ g. subst (λ x. Is w x (Long z) g) (same_answer e) refl) h
-    layer (Expr-F.Str z) t e h frame i a = plain_form (Str z) t (λ g. subst (λ x. Is w x (Str z) g) (same_answer e) refl) h
-    layer (Expr-F.Boolean b) t e h frame i a = plain_form (Boolean b) t (λ g. subst (λ x. Is w x (Boolean b) g) (same_answer e) refl) h
-    layer Expr-F.Nil t e h frame i a = plain_form Nil t (λ g. subst (λ x. Is w x Nil g) (same_answer e) refl) h
+        → Keeps w h (expr_step w call here (map-Expr Expr Evals E (bare y)) frame) (expr_checked otherwise w checked here (map-Expr Expr Evals C (bare y)) frame) (IsOf w t)
+    layer (Expr-F.Long z) t e h frame i a = plain_form (Long z) t (λ g. subst (λ x. IsOf w x (Long z) g) (same_answer e) refl) h
+    layer (Expr-F.Str z) t e h frame i a = plain_form (Str z) t (λ g. subst (λ x. IsOf w x (Str z) g) (same_answer e) refl) h
+    layer (Expr-F.Boolean b) t e h frame i a = plain_form (Boolean b) t (λ g. subst (λ x. IsOf w x (Boolean b) g) (same_answer e) refl) h
+    layer Expr-F.Nil t e h frame i a = plain_form Nil t (λ g. subst (λ x. IsOf w x Nil g) (same_answer e) refl) h
     layer (Expr-F.Local n) t e h frame i a = local_keeps n t e h frame a
     layer Expr-F.Me t e h frame i a = self_keeps t at.class e h i
     layer (Expr-F.Variable n) t e h frame i a = variable_keeps n t e h i
@@ -441,7 +442,7 @@ module _ (w : World) (known : ClassKey → Bool) (sound : IsSound w known) where
     layer (Expr-F.Binary op k l) t e h frame i a = binary_keeps op k l t e h frame i a
     layer (Expr-F.New k) t e h frame i a = new_form k t e h
     layer (Expr-F.Class k) t e h frame i a = class_form k t e h
-    layer Expr-F.Manager t e h frame i a = plain_form (To Manager) t (λ g. subst (λ x. Is w x (To Manager) g) (same_answer e) (sound.itself som_class_mgr)) h
+    layer Expr-F.Manager t e h frame i a = plain_form (To Manager) t (λ g. subst (λ x. IsOf w x (To Manager) g) (same_answer e) (sound.itself som_class_mgr)) h
     layer (Expr-F.Cast c k) t e h frame i a = cast_form c k t e h frame i a
     layer (Expr-F.Isa c k) t e h frame i a = isa_form c k t e h frame i a
     layer (Expr-F.Proxy c k) t e h frame i a = proxy_form c k t e h frame i a
@@ -458,6 +459,6 @@ module _ (w : World) (known : ClassKey → Bool) (sound : IsSound w known) where
 
     pub expr_keeps : (e : Expr) → ExprKeeps e
     expr_keeps = ind-Expr ExprKeeps (λ x y is. subst (λ z. ExprKeeps (roll-Expr z)) is (λ t e h frame i a.
-        subst (λ (f : Evals). Keeps w h (f frame) (C (roll-Expr (bare y)) frame) (Is w t)) (sym (fold-roll-Expr Evals (expr_step w call here) (bare y)))
-        (subst (λ (f : Evals). Keeps w h (expr_step w call here (map-Expr Expr Evals E (bare y)) frame) (f frame) (Is w t)) (sym (fold-roll-Expr Evals (expr_checked otherwise w checked here) (bare y)))
+        subst (λ (f : Evals). Keeps w h (f frame) (C (roll-Expr (bare y)) frame) (IsOf w t)) (sym (fold-roll-Expr Evals (expr_step w call here) (bare y)))
+        (subst (λ (f : Evals). Keeps w h (expr_step w call here (map-Expr Expr Evals E (bare y)) frame) (f frame) (IsOf w t)) (sym (fold-roll-Expr Evals (expr_checked otherwise w checked here) (bare y)))
         (layer y t (sym (fold-roll-Expr Typed (typing.expr_step F at scope) (bare y)) ∙ e) h frame i a))))

@@ -6,6 +6,7 @@ use Rattle.som_model.specs.State.{Value, Heap, Place, Event, State, Tried}
 use Rattle.som_model.specs.Runs.{Ran, Goes, Ends, Faulted, end_of, follow, IsLater, Act}
 use Rattle.som_model.specs.Acts.{◌>>=◌, ◌>>◌, pure, fault, tried, asked, emit, take_unit, unit_from, reading, become, bounded, Grown, later_self, later_on}
 use Rattle.som_typed.specs.Heaps.{AreTyped}
+use Rattle.som_typed.specs.Preserving.{Leaves}
 use Rattle.som_typed.specs.Checked.{check, checked_value}
 
 -- what a test answers, if it answers
@@ -14,23 +15,18 @@ Answers (Ok a) P = P a
 Answers (Err f) P = Unit {0}
 
 module _ (w : World) where
-  -- what an act leaves: typed objects, and where it goes on, a value with this property
-  abbrev pub Left : {A : Type 0} → (A → Heap → Type 0) → Ran A → Type 0
-  Left P (Goes a s) = AreTyped w s.heap × P a s.heap
-  Left P (Ends c s) = AreTyped w s.heap
-
   -- from typed objects later than these, the second act does what the first does, and that leaves typed objects and such a value
   pub record Keeps {A : Type 0} (h : Heap) (m n : Act A) (P : A → Heap → Type 0) : Type 0 where
     pub same : (s : State) → IsLater h s.heap → AreTyped w s.heap → n.does s ≡ m.does s
-    pub left : (s : State) → IsLater h s.heap → AreTyped w s.heap → Left P (m.does s)
+    pub left : (s : State) → IsLater h s.heap → AreTyped w s.heap → Leaves w P (m.does s)
 
   module _ {A B : Type 0} (h : Heap) (P : A → Heap → Type 0) (Q : B → Heap → Type 0) (k l : A → Act B)
       (next : (a : A) (g : Heap) → IsLater h g → AreTyped w g → P a g → Keeps g (k a) (l a) Q) where
-    follow_same : (r : Ran A) → IsLater h (end_of r).heap → Left P r → follow r (λ a. (l a).does) ≡ follow r (λ a. (k a).does)
+    follow_same : (r : Ran A) → IsLater h (end_of r).heap → Leaves w P r → follow r (λ a. (l a).does) ≡ follow r (λ a. (k a).does)
     follow_same (Goes a s) le p = (next a s.heap le p.0 p.1).same s (later_self s.heap) p.0
     follow_same (Ends c s) le p = refl
 
-    follow_left : (r : Ran A) → IsLater h (end_of r).heap → Left P r → Left Q (follow r (λ a. (k a).does))
+    follow_left : (r : Ran A) → IsLater h (end_of r).heap → Leaves w P r → Leaves w Q (follow r (λ a. (k a).does))
     follow_left (Goes a s) le p = (next a s.heap le p.0 p.1).left s (later_self s.heap) p.0
     follow_left (Ends c s) le p = p
 
@@ -48,7 +44,7 @@ module _ (w : World) where
     pub fault_keeps : (f : Fault) (at : Place) → Keeps h (fault f at) (fault f at) P
     fault_keeps f at = record { same = λ s le t. refl; left = λ s le t. t }
 
-    tried_left : (at : Place) (x : Tried A) (s : State) → AreTyped w s.heap → Answers x (λ a. P a s.heap) → Left P ((tried at x).does s)
+    tried_left : (at : Place) (x : Tried A) (s : State) → AreTyped w s.heap → Answers x (λ a. P a s.heap) → Leaves w P ((tried at x).does s)
     tried_left at (Ok a) s t p = (t, p)
     tried_left at (Err f) s t p = t
 
@@ -71,7 +67,7 @@ module _ (w : World) where
     pub later_keeps : (g : Heap) (m n : Act A) → IsLater h g → Keeps h m n P → Keeps g m n P
     later_keeps g m n le e = record { same = λ s l t. e.same s (later_on h g s.heap le l) t; left = λ s l t. e.left s (later_on h g s.heap le l) t }
 
-    more_left : (Q : A → Heap → Type 0) (r : Ran A) → IsLater h (end_of r).heap → ((a : A) (g : Heap) → IsLater h g → AreTyped w g → P a g → Q a g) → Left P r → Left Q r
+    more_left : (Q : A → Heap → Type 0) (r : Ran A) → IsLater h (end_of r).heap → ((a : A) (g : Heap) → IsLater h g → AreTyped w g → P a g → Q a g) → Leaves w P r → Leaves w Q r
     more_left Q (Goes a s) le f p = (p.0, f a s.heap le p.0 p.1)
     more_left Q (Ends c s) le f p = p
 
@@ -86,7 +82,7 @@ module _ (w : World) where
   pub emit_keeps : (h : Heap) (e : Event) → Keeps h (emit e) (emit e) Any
   emit_keeps h e = record { same = λ s le t. refl; left = λ s le t. (t, tt) }
 
-  unit_left : (n : ℕ) (s : State) → AreTyped w s.heap → Left Any (unit_from n s)
+  unit_left : (n : ℕ) (s : State) → AreTyped w s.heap → Leaves w Any (unit_from n s)
   unit_left zero s t = t
   unit_left (suc n) s t = (t, tt)
 
@@ -112,7 +108,7 @@ module _ (w : World) where
       left = e.left;
     }
 
-    value_same : (test : A → Heap → Bool) (r : Ran A) → IsLater h (end_of r).heap → ((a : A) (g : Heap) → IsLater h g → AreTyped w g → P a g → test a g ≡ true) → Left P r
+    value_same : (test : A → Heap → Bool) (r : Ran A) → IsLater h (end_of r).heap → ((a : A) (g : Heap) → IsLater h g → AreTyped w g → P a g → test a g ≡ true) → Leaves w P r
         → follow r (λ a. (check otherwise (test a) >> pure a).does) ≡ r
     value_same test (Goes a s) le f p = passed (test a s.heap) (pure a) s (f a s.heap le p.0 p.1)
     value_same test (Ends c s) le f p = refl

@@ -13,3 +13,4 @@ pub mod Classes
 pub mod Methods
 pub mod Fitting
 pub mod Loading
+pub mod Preserving

@@ -20,11 +20,12 @@ use Rattle.som_model.specs.Typing as typing
 use Rattle.som_model.proofs.KeyLaws.{both}
 use Rattle.som_typed.specs.Values.{has_type, is_long, is_boolean, is_text, is_object, are_of_one_kind, has_text, unary_takes, binary_takes}
 use Rattle.som_typed.specs.Heaps.{AreTyped}
+use Rattle.som_typed.specs.Preserving.{IsOf}
 use Rattle.som_typed.proofs.Heaps.{type_later}
 use Rattle.som_typed.proofs.Keeping.{Answers, Keeps, bind_keeps, pure_keeps, tried_keeps, if_keeps, weaker_keeps}
 use Rattle.som_typed.proofs.Facts.{IsSound}
 use Rattle.som_typed.proofs.Steps.{met, same_answer}
-use Rattle.som_typed.proofs.Values.{Is, of_long, of_boolean, of_text, of_printed}
+use Rattle.som_typed.proofs.Values.{of_long, of_boolean, of_text, of_printed}
 
 -- whether a number is 0
 abbrev is_zero : ℤ → Bool
@@ -111,11 +112,11 @@ module _ (w : World) (known : ClassKey → Bool) (sound : IsSound w known) where
 
   -- what an operator answers is as its type says
   module _ (h : Heap) (g : Value → Tried Value) (kind : ValueType) (r : ExprType) (v : Value) (is : Of kind ≡ r) where
-    answered : (u : Value) → v ≡ u → Answers (g u) (λ x. has_type w h kind x ≡ true) → Answers (g v) (λ x. Is w r x h)
-    answered u e a = subst (λ z. Answers (g v) (λ x. Is w z x h)) is (subst (λ z. Answers (g z) (λ x. has_type w h kind x ≡ true)) (sym e) a)
+    answered : (u : Value) → v ≡ u → Answers (g u) (λ x. has_type w h kind x ≡ true) → Answers (g v) (λ x. IsOf w r x h)
+    answered u e a = subst (λ z. Answers (g v) (λ x. IsOf w z x h)) is (subst (λ z. Answers (g z) (λ x. has_type w h kind x ≡ true)) (sym e) a)
 
   -- one operand
-  pub unary_typed : (h : Heap) (op : ℕ) (t r : ExprType) (v : Value) → unary_type op t ≡ Ok r → Is w t v h → (unary_takes op v ≡ true) × Answers (unary (unary_op op) v) (λ x. Is w r x h)
+  pub unary_typed : (h : Heap) (op : ℕ) (t r : ExprType) (v : Value) → unary_type op t ≡ Ok r → IsOf w t v h → (unary_takes op v ≡ true) × Answers (unary (unary_op op) v) (λ x. IsOf w r x h)
   unary_typed h zero t r v e i =
       let p = gave (typing.is_long t) types.Long r e in
       let z = of_long w known sound h t v p.0 i in
@@ -134,7 +135,7 @@ module _ (w : World) (known : ClassKey → Bool) (sound : IsSound w known) where
   unary_typed h (suc (suc (suc (suc n)))) t r v e i = absurd (none_of_four _ _ _ _ _ _ _ _ r (past_zero (suc (suc (suc n)))) (past_one (suc (suc n))) (past_two (suc n)) (past_three n) e)
 
   -- an operand stays of its type
-  pub is_later : (h g : Heap) (t : ExprType) (v : Value) → IsLater h g → Is w t v h → Is w t v g
+  pub is_later : (h g : Heap) (t : ExprType) (v : Value) → IsLater h g → IsOf w t v h → IsOf w t v g
   is_later h g (Of t) v le i = type_later w h g le t v i
   is_later h g typing.PlainNil v le i = i
 
@@ -145,7 +146,7 @@ module _ (w : World) (known : ClassKey → Bool) (sound : IsSound w known) where
   class_object h c (Boolean z) e = absurd (true≢false (sym e))
   class_object h c (Str z) e = absurd (true≢false (sym e))
 
-  of_reference : (h : Heap) (t : ExprType) (v : Value) → typing.is_reference t ≡ true → Is w t v h → is_object v ≡ true
+  of_reference : (h : Heap) (t : ExprType) (v : Value) → typing.is_reference t ≡ true → IsOf w t v h → is_object v ≡ true
   of_reference h (Of (types.Class c)) v e i = class_object h c v i
   of_reference h typing.PlainNil v e i = ap is_object i
   of_reference h (Of types.Void) v e i = absurd (true≢false (sym e))
@@ -154,7 +155,7 @@ module _ (w : World) (known : ClassKey → Bool) (sound : IsSound w known) where
   of_reference h (Of types.Str) v e i = absurd (true≢false (sym e))
 
   -- values of types that can be compared are of one kind
-  alike_values : (h : Heap) (s t : ExprType) (x y : Value) → typing.are_alike s t ≡ true → Is w s x h → Is w t y h → are_of_one_kind x y ≡ true
+  alike_values : (h : Heap) (s t : ExprType) (x y : Value) → typing.are_alike s t ≡ true → IsOf w s x h → IsOf w t y h → are_of_one_kind x y ≡ true
   alike_values h s t x y e i j = elim (or_true (typing.is_long s && typing.is_long t) ((typing.is_boolean s && typing.is_boolean t) || ((typing.is_string s && typing.is_string t) || (typing.is_reference s && typing.is_reference t))) e) [
     | inl p ↦ (let q = both (typing.is_long s) (typing.is_long t) p in (both (is_long y) (are_of_one_kind x y) (two_longs x y _ _ (of_long w known sound h s x q.0 i).1 (of_long w known sound h t y q.1 j).1)).1)
     | inr f ↦ elim (or_true (typing.is_boolean s && typing.is_boolean t) ((typing.is_string s && typing.is_string t) || (typing.is_reference s && typing.is_reference t)) f) [
@@ -169,19 +170,19 @@ module _ (w : World) (known : ClassKey → Bool) (sound : IsSound w known) where
   -- two operands: they are as the operator takes them, and what it answers is of its type
   module _ (s t r : ExprType) where
     pub record Operands (op : ℕ) : Type 0 where
-      pub left : (h : Heap) (x : Value) → Is w s x h → binary_takes op x ≡ true
-      pub right : (h : Heap) (x y : Value) → Is w s x h → Is w t y h → (binary_takes op y && are_of_one_kind x y) ≡ true
-      pub keeps : (h : Heap) (at : Place) (x : Value) (m n : Act Value) → Is w s x h → Keeps w h m n (Is w t)
-          → Keeps w h (either (binary_op op) x m (λ y. tried at (binary (binary_op op) x y))) (either (binary_op op) x n (λ y. tried at (binary (binary_op op) x y))) (Is w r)
+      pub left : (h : Heap) (x : Value) → IsOf w s x h → binary_takes op x ≡ true
+      pub right : (h : Heap) (x y : Value) → IsOf w s x h → IsOf w t y h → (binary_takes op y && are_of_one_kind x y) ≡ true
+      pub keeps : (h : Heap) (at : Place) (x : Value) (m n : Act Value) → IsOf w s x h → Keeps w h m n (IsOf w t)
+          → Keeps w h (either (binary_op op) x m (λ y. tried at (binary (binary_op op) x y))) (either (binary_op op) x n (λ y. tried at (binary (binary_op op) x y))) (IsOf w r)
 
     -- both are evaluated
-    strict_keeps : (g : Value → Value → Tried Value) → ((h : Heap) (x y : Value) → Is w s x h → Is w t y h → Answers (g x y) (λ u. Is w r u h))
-        → (h : Heap) (at : Place) (x : Value) (m n : Act Value) → Is w s x h → Keeps w h m n (Is w t) → Keeps w h (m >>= λ y. tried at (g x y)) (n >>= λ y. tried at (g x y)) (Is w r)
-    strict_keeps g f h at x m n i k = bind_keeps w h (Is w t) (Is w r) (λ y. tried at (g x y)) (λ y. tried at (g x y)) (λ y k le ty j.
-        tried_keeps w k (Is w r) at (g x y) (λ l lf tf. f l x y (is_later h l s x (later_on h k l le lf) i) (is_later k l t y lf j))) m n k
+    strict_keeps : (g : Value → Value → Tried Value) → ((h : Heap) (x y : Value) → IsOf w s x h → IsOf w t y h → Answers (g x y) (λ u. IsOf w r u h))
+        → (h : Heap) (at : Place) (x : Value) (m n : Act Value) → IsOf w s x h → Keeps w h m n (IsOf w t) → Keeps w h (m >>= λ y. tried at (g x y)) (n >>= λ y. tried at (g x y)) (IsOf w r)
+    strict_keeps g f h at x m n i k = bind_keeps w h (IsOf w t) (IsOf w r) (λ y. tried at (g x y)) (λ y. tried at (g x y)) (λ y k le ty j.
+        tried_keeps w k (IsOf w r) at (g x y) (λ l lf tf. f l x y (is_later h l s x (later_on h k l le lf) i) (is_later k l t y lf j))) m n k
 
     longs : (kind : ValueType) (g : Value → Value → Tried Value) → gives (typing.is_long s && typing.is_long t) kind ≡ Ok r
-        → ((h : Heap) (a b : ℤ) → Answers (g (Long a) (Long b)) (λ u. has_type w h kind u ≡ true)) → (h : Heap) (x y : Value) → Is w s x h → Is w t y h → Answers (g x y) (λ u. Is w r u h)
+        → ((h : Heap) (a b : ℤ) → Answers (g (Long a) (Long b)) (λ u. has_type w h kind u ≡ true)) → (h : Heap) (x y : Value) → IsOf w s x h → IsOf w t y h → Answers (g x y) (λ u. IsOf w r u h)
     longs kind g e f h x y i j =
         let p = gave (typing.is_long s && typing.is_long t) kind r e in
         let q = both (typing.is_long s) (typing.is_long t) p.0 in
@@ -189,32 +190,32 @@ module _ (w : World) (known : ClassKey → Bool) (sound : IsSound w known) where
         let b = of_long w known sound h t y q.1 j in
         answered h (g x) kind r y p.1 (Long b.0) b.1 (subst (λ z. Answers (g z (Long b.0)) (λ u. has_type w h kind u ≡ true)) (sym a.1) (f h a.0 b.0))
 
-    long_left : (kind : ValueType) → gives (typing.is_long s && typing.is_long t) kind ≡ Ok r → (h : Heap) (x : Value) → Is w s x h → is_long x ≡ true
+    long_left : (kind : ValueType) → gives (typing.is_long s && typing.is_long t) kind ≡ Ok r → (h : Heap) (x : Value) → IsOf w s x h → is_long x ≡ true
     long_left kind e h x i = ap is_long (of_long w known sound h s x (both (typing.is_long s) (typing.is_long t) (gave _ kind r e).0).0 i).1
 
-    long_right : (kind : ValueType) → gives (typing.is_long s && typing.is_long t) kind ≡ Ok r → (h : Heap) (x y : Value) → Is w s x h → Is w t y h → (is_long y && are_of_one_kind x y) ≡ true
+    long_right : (kind : ValueType) → gives (typing.is_long s && typing.is_long t) kind ≡ Ok r → (h : Heap) (x y : Value) → IsOf w s x h → IsOf w t y h → (is_long y && are_of_one_kind x y) ≡ true
     long_right kind e h x y i j =
         let q = both (typing.is_long s) (typing.is_long t) (gave _ kind r e).0 in
         two_longs x y (of_long w known sound h s x q.0 i).0 (of_long w known sound h t y q.1 j).0 (of_long w known sound h s x q.0 i).1 (of_long w known sound h t y q.1 j).1
 
-    compared_right : gives (typing.are_alike s t) types.Boolean ≡ Ok r → (h : Heap) (x y : Value) → Is w s x h → Is w t y h → are_of_one_kind x y ≡ true
+    compared_right : gives (typing.are_alike s t) types.Boolean ≡ Ok r → (h : Heap) (x y : Value) → IsOf w s x h → IsOf w t y h → are_of_one_kind x y ≡ true
     compared_right e h x y i j = alike_values h s t x y (gave (typing.are_alike s t) types.Boolean r e).0 i j
 
-    boolean_right : gives (typing.is_boolean s && typing.is_boolean t) types.Boolean ≡ Ok r → (h : Heap) (x y : Value) → Is w s x h → Is w t y h → (is_boolean y && are_of_one_kind x y) ≡ true
+    boolean_right : gives (typing.is_boolean s && typing.is_boolean t) types.Boolean ≡ Ok r → (h : Heap) (x y : Value) → IsOf w s x h → IsOf w t y h → (is_boolean y && are_of_one_kind x y) ≡ true
     boolean_right e h x y i j =
         let q = both (typing.is_boolean s) (typing.is_boolean t) (gave _ types.Boolean r e).0 in
         two_booleans x y (of_boolean w known sound h s x q.0 i).0 (of_boolean w known sound h t y q.1 j).0 (of_boolean w known sound h s x q.0 i).1 (of_boolean w known sound h t y q.1 j).1
 
-    text_right : gives (typing.is_string s && typing.is_string t) types.Str ≡ Ok r → (h : Heap) (x y : Value) → Is w s x h → Is w t y h → (is_text y && are_of_one_kind x y) ≡ true
+    text_right : gives (typing.is_string s && typing.is_string t) types.Str ≡ Ok r → (h : Heap) (x y : Value) → IsOf w s x h → IsOf w t y h → (is_text y && are_of_one_kind x y) ≡ true
     text_right e h x y i j =
         let q = both (typing.is_string s) (typing.is_string t) (gave _ types.Str r e).0 in
         two_texts x y (of_text w known sound h s x q.0 i).0 (of_text w known sound h t y q.1 j).0 (of_text w known sound h s x q.0 i).1 (of_text w known sound h t y q.1 j).1
 
     compared : (g : Value → Value → Tried Value) → gives (typing.are_alike s t) types.Boolean ≡ Ok r → ((h : Heap) (a b : Value) → Answers (g a b) (λ u. has_type w h types.Boolean u ≡ true))
-        → (h : Heap) (x y : Value) → Is w s x h → Is w t y h → Answers (g x y) (λ u. Is w r u h)
+        → (h : Heap) (x y : Value) → IsOf w s x h → IsOf w t y h → Answers (g x y) (λ u. IsOf w r u h)
     compared g e f h x y i j = answered h (g x) types.Boolean r y (gave (typing.are_alike s t) types.Boolean r e).1 y refl (f h x y)
 
-    joined : gives (typing.is_string s && typing.is_string t) types.Str ≡ Ok r → (h : Heap) (x y : Value) → Is w s x h → Is w t y h → Answers (binary (binary_op 13) x y) (λ u. Is w r u h)
+    joined : gives (typing.is_string s && typing.is_string t) types.Str ≡ Ok r → (h : Heap) (x y : Value) → IsOf w s x h → IsOf w t y h → Answers (binary (binary_op 13) x y) (λ u. IsOf w r u h)
     joined e h x y i j =
         let p = gave (typing.is_string s && typing.is_string t) types.Str r e in
         let q = both (typing.is_string s) (typing.is_string t) p.0 in
@@ -229,12 +230,12 @@ module _ (w : World) (known : ClassKey → Bool) (sound : IsSound w known) where
         let q = both (typing.is_boolean s) (typing.is_boolean t) p.0 in
         (q.0, q.1, p.1)
 
-    decided : (e : gives (typing.is_boolean s && typing.is_boolean t) types.Boolean ≡ Ok r) (h : Heap) (b : Bool) → Is w r (Boolean b) h
-    decided e h b = subst (λ z. Is w z (Boolean b) h) (booleans e).2 refl
+    decided : (e : gives (typing.is_boolean s && typing.is_boolean t) types.Boolean ≡ Ok r) (h : Heap) (b : Bool) → IsOf w r (Boolean b) h
+    decided e h b = subst (λ z. IsOf w z (Boolean b) h) (booleans e).2 refl
 
-    right_boolean : (e : gives (typing.is_boolean s && typing.is_boolean t) types.Boolean ≡ Ok r) (h : Heap) (m n : Act Value) → Keeps w h m n (Is w t) → Keeps w h m n (Is w r)
-    right_boolean e h m n k = weaker_keeps w h (Is w t) (Is w r) m n (λ y g le ty j.
-        (let b = of_boolean w known sound g t y (booleans e).1 j in subst (λ z. Is w r z g) (sym b.1) (decided e g b.0))) k
+    right_boolean : (e : gives (typing.is_boolean s && typing.is_boolean t) types.Boolean ≡ Ok r) (h : Heap) (m n : Act Value) → Keeps w h m n (IsOf w t) → Keeps w h m n (IsOf w r)
+    right_boolean e h m n k = weaker_keeps w h (IsOf w t) (IsOf w r) m n (λ y g le ty j.
+        (let b = of_boolean w known sound g t y (booleans e).1 j in subst (λ z. IsOf w r z g) (sym b.1) (decided e g b.0))) k
 
     pub operands : (op : ℕ) → binary_type op s t ≡ Ok r → Operands op
     operands zero e = record { left = long_left types.Long e; right = long_right types.Long e; keeps = strict_keeps (binary (binary_op 0)) (longs types.Long (binary (binary_op 0)) e (λ h a b. one_long h (a +ℤ b))) }
@@ -251,12 +252,12 @@ module _ (w : World) (known : ClassKey → Bool) (sound : IsSound w known) where
     operands (suc (suc (suc (suc (suc (suc (suc (suc (suc (suc (suc zero))))))))))) e = record {
       left = λ h x i. ap is_boolean (of_boolean w known sound h s x (booleans e).0 i).1;
       right = boolean_right e;
-      keeps = λ h at x m n i k. if_keeps w h (Is w r) (is_true x) m (pure (Boolean false)) n (pure (Boolean false)) (right_boolean e h m n k) (pure_keeps w h (Is w r) (Boolean false) (λ g le ty. decided e g false));
+      keeps = λ h at x m n i k. if_keeps w h (IsOf w r) (is_true x) m (pure (Boolean false)) n (pure (Boolean false)) (right_boolean e h m n k) (pure_keeps w h (IsOf w r) (Boolean false) (λ g le ty. decided e g false));
     }
     operands (suc (suc (suc (suc (suc (suc (suc (suc (suc (suc (suc (suc zero)))))))))))) e = record {
       left = λ h x i. ap is_boolean (of_boolean w known sound h s x (booleans e).0 i).1;
       right = boolean_right e;
-      keeps = λ h at x m n i k. if_keeps w h (Is w r) (is_true x) (pure (Boolean true)) m (pure (Boolean true)) n (pure_keeps w h (Is w r) (Boolean true) (λ g le ty. decided e g true)) (right_boolean e h m n k);
+      keeps = λ h at x m n i k. if_keeps w h (IsOf w r) (is_true x) (pure (Boolean true)) m (pure (Boolean true)) n (pure_keeps w h (IsOf w r) (Boolean true) (λ g le ty. decided e g true)) (right_boolean e h m n k);
     }
     operands (suc (suc (suc (suc (suc (suc (suc (suc (suc (suc (suc (suc (suc zero))))))))))))) e = record {
       left = λ h x i. ap is_text (of_text w known sound h s x (both (typing.is_string s) (typing.is_string t) (gave _ types.Str r e).0).0 i).1;

@@ -27,14 +27,15 @@ use Rattle.som_model.proofs.KeyLaws.{both}
 use Rattle.som_model.proofs.FormLaws.{call_none, call_some}
 use Rattle.som_typed.specs.Values.{is_there, has_type, have_types, are_arguments, is_result}
 use Rattle.som_typed.specs.Heaps.{AreTyped}
+use Rattle.som_typed.specs.Preserving.{FlowHas, Leaves}
 use Rattle.som_typed.specs.Checks.{stands, is_below, has_method, can_run}
 use Rattle.som_typed.specs.Checked.{is_returned, check, checked_value, checked_block, body_checked, invoke_checked, held_checked, in_checked, hook_checked, hooks_checked, bodies_checked, checked_calls, checked_main, checked_in}
-use Rattle.som_typed.proofs.Keeping.{Any, Left, Keeps, bind_keeps, pure_keeps, fault_keeps, emit_keeps, unit_keeps, reading_keeps, weaker_keeps, check_keeps, value_keeps}
+use Rattle.som_typed.proofs.Keeping.{Any, Keeps, bind_keeps, pure_keeps, fault_keeps, emit_keeps, unit_keeps, reading_keeps, weaker_keeps, check_keeps, value_keeps}
 use Rattle.som_typed.proofs.Heaps.{both_true, type_later, types_later, class_later, nothing_typed}
 use Rattle.som_typed.proofs.Facts.{IsSound, IsAnswered, facts_of, sig}
 use Rattle.som_typed.proofs.Values.{an_object_is, there_object}
 use Rattle.som_typed.proofs.Calls.{Has, AtParent, CallsKeep}
-use Rattle.som_typed.proofs.Statements.{FlowHas, block_keeps}
+use Rattle.som_typed.proofs.Statements.{block_keeps}
 use Rattle.som_typed.proofs.Bodies.{body_keeps}
 
 -- what stands in a list that is turned round stands in the list
@@ -188,7 +189,7 @@ module _ (w : World) (known : ClassKey → Bool) (sound : IsSound w known) (othe
       (run_block w (calls w MAX_DEPTH) here main []) (checked_block otherwise w (checked_calls otherwise w MAX_DEPTH) here main [])
       (block_keeps w known sound otherwise (calls w MAX_DEPTH) (checked_calls otherwise w MAX_DEPTH) (all_calls_keep MAX_DEPTH) here in_main main [] after e h [] tt refl)
 
-  left_typed : {A : Type 0} (P : A → Heap → Type 0) (r : Ran A) → Left w P r → AreTyped w (end_of r).heap
+  left_typed : {A : Type 0} (P : A → Heap → Type 0) (r : Ran A) → Leaves w P r → AreTyped w (end_of r).heap
   left_typed P (Goes a s) l = l.0
   left_typed P (Ends c s) l = l
 

@@ -5,7 +5,7 @@ use Rattle.som_model.specs.declared.key.ClassKey.{ClassKey}
 use Rattle.som_model.specs.declared.key.ValueType.{ValueType}
 use Rattle.som_model.specs.declared.key.ValueType.TheVariants as types
 use Rattle.som_model.specs.declared.syntax.Expr.{Expr}
-use Rattle.som_model.specs.declared.syntax.Stmt.{Stmt, roll-Stmt, map-Stmt, fold-roll-Stmt}
+use Rattle.som_model.specs.declared.syntax.Stmt.{Stmt, roll-Stmt, map-Stmt, ind-Stmt, fold-roll-Stmt}
 use Rattle.som_model.specs.declared.syntax.Stmt.TheOpen.{Stmt-F, Block-F}
 use Rattle.som_model.specs.declared.syntax.Block.{Block, roll-Block, map-Block, ind-Block, fold-roll-Block}
 use Rattle.som_model.specs.declared.program.Fault.TheVariants as faults
@@ -13,6 +13,7 @@ use Rattle.som_model.specs.Steps.{◌>>=◌}
 use Rattle.som_model.specs.Blocks.{is_call}
 use Rattle.som_model.specs.Class.{Class}
 use Rattle.som_model.specs.Kernel.{som_free, an_object}
+use Rattle.som_model.specs.Rules.{is_void}
 use Rattle.som_model.specs.World.{World}
 use Rattle.som_model.specs.State.{Value, Long, Boolean, Str, Nil, To, Ref, Heap, Place, Offset, Printed, Tried, is_live, live, write}
 use Rattle.som_model.specs.Runs.{Act, IsLater}
@@ -29,21 +30,16 @@ use Rattle.som_model.proofs.KeyLaws.{both}
 use Rattle.som_typed.specs.Values.{has_type, have_types}
 use Rattle.som_typed.specs.Values as values
 use Rattle.som_typed.specs.Heaps.{AreTyped}
+use Rattle.som_typed.specs.Preserving.{FlowHas, IsOf}
 use Rattle.som_typed.specs.Checks.{has_slot}
 use Rattle.som_typed.specs.Checked.{such_that, checked_eval, stmt_checked, checked_exec, checked_block}
 use Rattle.som_typed.proofs.Keeping.{Answers, Any, Keeps, bind_keeps, pure_keeps, fault_keeps, asked_keeps, emit_keeps, unit_keeps, become_keeps, bounded_keeps, if_keeps, weaker_keeps, value_keeps}
 use Rattle.som_typed.proofs.Heaps.{both_true, type_later, types_later, write_typed}
 use Rattle.som_typed.proofs.Facts.{IsSound, InClass, facts_of}
 use Rattle.som_typed.proofs.Steps.{went, met, same_answer, found}
-use Rattle.som_typed.proofs.Values.{Is, value_at, one_more, one_set, first_ones, as_many, fitting, receiving, of_boolean, of_printed}
+use Rattle.som_typed.proofs.Values.{value_at, one_more, one_set, first_ones, as_many, fitting, receiving, of_boolean, of_printed}
 use Rattle.som_typed.proofs.Calls.{Has, CallsKeep, own_keeps}
 use Rattle.som_typed.proofs.Expressions.{kind_in, in_later, slot_in, expr_keeps, part_keeps}
-
--- what a statement leaves: locals of the types in scope, or an answer of the body's
-abbrev pub FlowHas : World → ValueType → Scope → Flow → Heap → Type 0
-FlowHas w result scope (Next frame) h = have_types w h scope frame ≡ true
-FlowHas w result scope Return h = result ≡ types.Void
-FlowHas w result scope (Returned v) h = (has_type w h result v ≡ true) × (is_nothing (Of result) ≡ false)
 
 -- the scope is that before, and more
 abbrev pub Extends : Scope → Scope → Type 0
@@ -59,9 +55,12 @@ nothing_is types.Boolean e = absurd (true≢false (sym e))
 nothing_is types.Str e = absurd (true≢false (sym e))
 nothing_is (types.Class k) e = absurd (true≢false (sym e))
 
-is_false : (b : Bool) → not b ≡ true → b ≡ false
-is_false true e = sym e
-is_false false e = refl
+not_void : (k : ValueType) → not (is_nothing (Of k)) ≡ true → is_void k ≡ false
+not_void types.Void e = absurd (true≢false (sym e))
+not_void types.Long e = refl
+not_void types.Boolean e = refl
+not_void types.Str e = refl
+not_void (types.Class k) e = refl
 
 anything : (x : Tried Ref) → Answers x (λ r. Unit {0})
 anything (Ok r) = tt
@@ -125,10 +124,10 @@ module _ (w : World) (known : ClassKey → Bool) (sound : IsSound w known) (othe
   B = block_scope F at
 
   -- from typed locals and a self in place, what is run keeps the locals typed
-  abbrev RunKeeps : Scope → Scope → Runs → Runs → Type 0
+  abbrev pub RunKeeps : Scope → Scope → Runs → Runs → Type 0
   RunKeeps scope after m n = (h : Heap) (frame : Frame) → InClass w at.class here h → have_types w h scope frame ≡ true → Keeps w h (m frame) (n frame) (FlowHas w at.result after)
 
-  abbrev StmtKeeps : Stmt → Type 0
+  abbrev pub StmtKeeps : Stmt → Type 0
   StmtKeeps s = (scope after : Scope) → S s scope ≡ Ok after → Extends scope after × RunKeeps scope after (X s) (XC s)
 
   abbrev pub BlockKeeps : Block → Type 0
@@ -148,9 +147,9 @@ module _ (w : World) (known : ClassKey → Bool) (sound : IsSound w known) (othe
 
   -- a part whose value passes a test
   tested : (scope : Scope) (e : Expr) (t : ExprType) (test : Value → Heap → Bool) → value (expr_type F at scope e) ≡ Ok t → (h : Heap) (frame : Frame) → InClass w at.class here h → have_types w h scope frame ≡ true
-      → ((v : Value) (g : Heap) → IsLater h g → AreTyped w g → Is w t v g → test v g ≡ true) → Keeps w h (E e frame) (such_that otherwise test (C e) frame) (Is w t)
+      → ((v : Value) (g : Heap) → IsLater h g → AreTyped w g → IsOf w t v g → test v g ≡ true) → Keeps w h (E e frame) (such_that otherwise test (C e) frame) (IsOf w t)
   tested scope e t test f h frame i a p =
-      value_keeps w otherwise h (Is w t) test (E e frame) (C e frame) p (part_keeps w known sound otherwise call checked keep here at scope e (expr_keeps w known sound otherwise call checked keep here at scope e) t f h frame i a)
+      value_keeps w otherwise h (IsOf w t) test (E e frame) (C e frame) p (part_keeps w known sound otherwise call checked keep here at scope e (expr_keeps w known sound otherwise call checked keep here at scope e) t f h frame i a)
 
   -- a loop
   module _ (scope : Scope) (c d : Evals) (m n : Runs) (conditions : (h : Heap) (frame : Frame) → InClass w at.class here h → have_types w h scope frame ≡ true → Keeps w h (c frame) (d frame) (Any w)) (bodies : RunKeeps scope scope m n) where
@@ -181,7 +180,7 @@ module _ (w : World) (known : ClassKey → Bool) (sound : IsSound w known) (othe
       let k = met 16 (kind_is_known F kind) (needs 17 (fits F kind q.value) (Ok (scope ++ kind ∷ []))) after q.further in
       let f = met 17 (fits F kind q.value) (Ok (scope ++ kind ∷ [])) after k.1 in
       ((kind ∷ [], sym (same_answer f.1)), λ g frame i a.
-      bind_keeps w g (Is w q.value) (FlowHas w at.result after) (λ v. pure (Next (frame ++ v ∷ []))) (λ v. pure (Next (frame ++ v ∷ [])))
+      bind_keeps w g (IsOf w q.value) (FlowHas w at.result after) (λ v. pure (Next (frame ++ v ∷ []))) (λ v. pure (Next (frame ++ v ∷ [])))
       (λ v l le ty j. pure_keeps w l (FlowHas w at.result after) (Next (frame ++ v ∷ [])) (λ o lo to. subst (λ z. have_types w o z (frame ++ v ∷ []) ≡ true) (same_answer f.1)
       (one_more w o scope frame kind v (types_later w g o (later_on g l o le lo) scope frame a) (type_later w l o lo kind v (fitting w known sound l kind q.value v f.0 j)))))
       (E e frame) (such_that otherwise (λ v h. has_type w h kind v) (C e) frame) (tested scope e q.value (λ v h. has_type w h kind v) q.first g frame i a (λ v l le ty j. fitting w known sound l kind q.value v f.0 j)))
@@ -194,7 +193,7 @@ module _ (w : World) (known : ClassKey → Bool) (sound : IsSound w known) (othe
       let is : slice_get scope n ≡ Some k.value = found 16 (slice_get scope n) k.value k.first in
       let f = met 17 (fits F k.value q.value) (Ok scope) after k.further in
       (same_scope scope after (same_answer f.1), λ g frame i a.
-      bind_keeps w g (Is w q.value) (FlowHas w at.result after) (λ v. pure (Next (slice_set frame n v))) (λ v. pure (Next (slice_set frame n v)))
+      bind_keeps w g (IsOf w q.value) (FlowHas w at.result after) (λ v. pure (Next (slice_set frame n v))) (λ v. pure (Next (slice_set frame n v)))
       (λ v l le ty j. pure_keeps w l (FlowHas w at.result after) (Next (slice_set frame n v)) (λ o lo to. subst (λ z. have_types w o z (slice_set frame n v) ≡ true) (same_answer f.1)
       (one_set w o scope frame n k.value v (types_later w g o (later_on g l o le lo) scope frame a) is (type_later w l o lo k.value v (fitting w known sound l k.value q.value v f.0 j)))))
       (E e frame) (such_that otherwise (λ v h. is_some (slice_get frame n)) (C e) frame) (tested scope e q.value (λ v h. is_some (slice_get frame n)) q.first g frame i a (λ v l le ty j. ap is_some (value_at w g scope frame n k.value a is).1)))
@@ -210,8 +209,8 @@ module _ (w : World) (known : ClassKey → Bool) (sound : IsSound w known) (othe
       let test : Value → Heap → Bool = λ v h. has_slot w (class_here here) n here.me h && has_type w h (w.variable (class_here here) n) v in
       (same_scope scope after (same_answer f.1), λ g frame i a.
       let slot : (l : Heap) → IsLater g l → (has_slot w (class_here here) n here.me l ≡ true) × (w.variable (class_here here) n ≡ k.value) = λ l le. slot_in w l at.class here n k.value is (in_later w g l at.class here le i) in
-      let typed : (l : Heap) (v : Value) → IsLater g l → Is w q.value v l → has_type w l (w.variable (class_here here) n) v ≡ true = λ l v le j. subst (λ z. has_type w l z v ≡ true) (sym (slot l le).1) (fitting w known sound l k.value q.value v f.0 j) in
-      bind_keeps w g (Is w q.value) (FlowHas w at.result after) (λ v. acts.◌>>◌ (assign here.place (class_here here) n here.me v) (pure (Next frame))) (λ v. acts.◌>>◌ (assign here.place (class_here here) n here.me v) (pure (Next frame)))
+      let typed : (l : Heap) (v : Value) → IsLater g l → IsOf w q.value v l → has_type w l (w.variable (class_here here) n) v ≡ true = λ l v le j. subst (λ z. has_type w l z v ≡ true) (sym (slot l le).1) (fitting w known sound l k.value q.value v f.0 j) in
+      bind_keeps w g (IsOf w q.value) (FlowHas w at.result after) (λ v. acts.◌>>◌ (assign here.place (class_here here) n here.me v) (pure (Next frame))) (λ v. acts.◌>>◌ (assign here.place (class_here here) n here.me v) (pure (Next frame)))
       (λ v l le ty j. bind_keeps w l (Any w) (FlowHas w at.result after) (λ x. pure (Next frame)) (λ x. pure (Next frame))
       (λ x o lo to u. pure_keeps w o (FlowHas w at.result after) (Next frame) (λ p lp tp. subst (λ z. have_types w p z frame ≡ true) (same_answer f.1) (types_later w g p (later_on g l p le (later_on l o p lo lp)) scope frame a)))
       (assign here.place (class_here here) n here.me v) (assign here.place (class_here here) n here.me v) (assign_keeps w l here.place (class_here here) n here.me v (typed l v le j)))
@@ -222,7 +221,7 @@ module _ (w : World) (known : ClassKey → Bool) (sound : IsSound w known) (othe
   condition : (scope : Scope) (e : Expr) (t : ExprType) → value (expr_type F at scope e) ≡ Ok t → is_boolean t ≡ true → (h : Heap) (frame : Frame) → InClass w at.class here h → have_types w h scope frame ≡ true
       → Keeps w h (E e frame) (such_that otherwise (λ v g. values.is_boolean v) (C e) frame) (Any w)
   condition scope e t f b h frame i a =
-      weaker_keeps w h (Is w t) (Any w) (E e frame) (such_that otherwise (λ v g. values.is_boolean v) (C e) frame) (λ v g le ty j. tt)
+      weaker_keeps w h (IsOf w t) (Any w) (E e frame) (such_that otherwise (λ v g. values.is_boolean v) (C e) frame) (λ v g le ty j. tt)
       (tested scope e t (λ v g. values.is_boolean v) f h frame i a (λ v g le ty j. ap values.is_boolean (of_boolean w known sound g t v b j).1))
 
   if_form : (e : Expr) (x y : KeptBlock) (scope after : Scope) → (value (expr_type F at scope e) >>= λ t. B x.0 scope >>= λ _. B y.0 scope >>= λ _. needs 17 (is_boolean t) (Ok scope)) ≡ Ok after
@@ -257,8 +256,8 @@ module _ (w : World) (known : ClassKey → Bool) (sound : IsSound w known) (othe
       let f = met 19 (not (is_nothing (Of at.result)) && fits F at.result q.value) (Ok scope) after q.further in
       let b = both (not (is_nothing (Of at.result))) (fits F at.result q.value) f.0 in
       (same_scope scope after (same_answer f.1), λ g frame i a.
-      bind_keeps w g (Is w q.value) (FlowHas w at.result after) (λ v. pure (Returned v)) (λ v. pure (Returned v))
-      (λ v l le ty j. pure_keeps w l (FlowHas w at.result after) (Returned v) (λ o lo to. (type_later w l o lo at.result v (fitting w known sound l at.result q.value v b.1 j), is_false (is_nothing (Of at.result)) b.0)))
+      bind_keeps w g (IsOf w q.value) (FlowHas w at.result after) (λ v. pure (Returned v)) (λ v. pure (Returned v))
+      (λ v l le ty j. pure_keeps w l (FlowHas w at.result after) (Returned v) (λ o lo to. (type_later w l o lo at.result v (fitting w known sound l at.result q.value v b.1 j), not_void at.result b.0)))
       (E e frame) (C e frame) (part_keeps w known sound otherwise call checked keep here at scope e (expr_keeps w known sound otherwise call checked keep here at scope e) q.value q.first g frame i a))
 
   print_form : (e : Expr) (scope after : Scope) → (value (expr_type F at scope e) >>= λ t. needs 17 (has_text t) (Ok scope)) ≡ Ok after
@@ -267,7 +266,7 @@ module _ (w : World) (known : ClassKey → Bool) (sound : IsSound w known) (othe
       let q = went (value (expr_type F at scope e)) (λ t. needs 17 (has_text t) (Ok scope)) after h in
       let f = met 17 (has_text q.value) (Ok scope) after q.further in
       (same_scope scope after (same_answer f.1), λ g frame i a.
-      bind_keeps w g (Is w q.value) (FlowHas w at.result after) (λ v. acts.◌>>◌ (print_value v) (pure (Next frame))) (λ v. acts.◌>>◌ (print_value v) (pure (Next frame)))
+      bind_keeps w g (IsOf w q.value) (FlowHas w at.result after) (λ v. acts.◌>>◌ (print_value v) (pure (Next frame))) (λ v. acts.◌>>◌ (print_value v) (pure (Next frame)))
       (λ v l le ty j. bind_keeps w l (Any w) (FlowHas w at.result after) (λ x. pure (Next frame)) (λ x. pure (Next frame))
       (λ x o lo to u. pure_keeps w o (FlowHas w at.result after) (Next frame) (λ p lp tp. subst (λ z. have_types w p z frame ≡ true) (same_answer f.1) (types_later w g p (later_on g l p le (later_on l o p lo lp)) scope frame a)))
       (print_value v) (print_value v) (emit_keeps w l (Printed (text_of v))))
@@ -280,7 +279,7 @@ module _ (w : World) (known : ClassKey → Bool) (sound : IsSound w known) (othe
       let q = went (value (expr_type F at scope e)) (λ t. needs 17 (is_class t) (Ok scope)) after h in
       let f = met 17 (is_class q.value) (Ok scope) after q.further in
       (same_scope scope after (same_answer f.1), λ g frame i a.
-      bind_keeps w g (Is w q.value) (FlowHas w at.result after) (λ v. acts.◌>>◌ (offset_call w call here.place Offset som_free v []) (pure (Next frame))) (λ v. acts.◌>>◌ (offset_call w checked here.place Offset som_free v []) (pure (Next frame)))
+      bind_keeps w g (IsOf w q.value) (FlowHas w at.result after) (λ v. acts.◌>>◌ (offset_call w call here.place Offset som_free v []) (pure (Next frame))) (λ v. acts.◌>>◌ (offset_call w checked here.place Offset som_free v []) (pure (Next frame)))
       (λ v l le ty j. bind_keeps w l (Has w types.Void) (FlowHas w at.result after) (λ x. pure (Next frame)) (λ x. pure (Next frame))
       (λ x o lo to u. pure_keeps w o (FlowHas w at.result after) (Next frame) (λ p lp tp. subst (λ z. have_types w p z frame ≡ true) (same_answer f.1) (types_later w g p (later_on g l p le (later_on l o p lo lp)) scope frame a)))
       (offset_call w call here.place Offset som_free v []) (offset_call w checked here.place Offset som_free v [])
@@ -293,7 +292,7 @@ module _ (w : World) (known : ClassKey → Bool) (sound : IsSound w known) (othe
       let q = went (expr_type F at scope e) (λ t. needs 20 (is_call e) (Ok scope)) after h in
       let f = met 20 (is_call e) (Ok scope) after q.further in
       (same_scope scope after (same_answer f.1), λ g frame i a.
-      bind_keeps w g (Is w q.value) (FlowHas w at.result after) (λ v. pure (Next frame)) (λ v. pure (Next frame))
+      bind_keeps w g (IsOf w q.value) (FlowHas w at.result after) (λ v. pure (Next frame)) (λ v. pure (Next frame))
       (λ v l le ty j. pure_keeps w l (FlowHas w at.result after) (Next frame) (λ o lo to. subst (λ z. have_types w o z frame ≡ true) (same_answer f.1) (types_later w g o (later_on g l o le lo) scope frame a)))
       (E e frame) (C e frame) (expr_keeps w known sound otherwise call checked keep here at scope e q.value q.first g frame i a))
 
@@ -338,15 +337,22 @@ module _ (w : World) (known : ClassKey → Bool) (sound : IsSound w known) (othe
       (λ flow l le ty f. pure_keeps w l (FlowHas w at.result scope) (leave (length frame) flow) (λ o lo to. leave_has w o at.result scope after frame flow (as_many w g scope frame a) k.0 (flow_later w l o at.result after flow lo f)))
       (all_of (map X (stmts y.statements)) frame) (all_of (map XC (stmts y.statements)) frame) (k.1 g frame i a)
 
-  pub block_keeps : (b : Block) → BlockKeeps b
-  block_keeps = ind-Block StmtKeeps BlockKeeps
-      (λ x y is. subst (λ z. StmtKeeps (roll-Stmt z)) is (λ scope after h.
+  stmt_rolled : (y : Stmt-F Kept KeptBlock) → StmtKeeps (roll-Stmt (bare y))
+  stmt_rolled y scope after h =
       let k = layer y scope after (sym (ap (λ (f : Scoped). f scope) (fold-roll-Stmt Scoped Scoped (typing.stmt_step F at) typing.block_step (bare y))) ∙ h) in
       (k.0, λ g frame i a. subst (λ (f : Runs). Keeps w g (f frame) (XC (roll-Stmt (bare y)) frame) (FlowHas w at.result after)) (sym (fold-roll-Stmt Runs Runs (stmt_step w call here) block_step (bare y)))
       (subst (λ (f : Runs). Keeps w g (stmt_step w call here (map-Stmt Stmt Block Runs Runs X R (bare y)) frame) (f frame) (FlowHas w at.result after)) (sym (fold-roll-Stmt Runs Runs (stmt_checked otherwise w checked here) block_step (bare y)))
-      (k.1 g frame i a)))))
-      (λ x y is. subst (λ z. BlockKeeps (roll-Block z)) is (λ scope after h g frame i a.
+      (k.1 g frame i a)))
+
+  block_rolled : (y : Block-F Kept KeptBlock) → BlockKeeps (roll-Block (bare_block y))
+  block_rolled y scope after h g frame i a =
       let k = block_layer y scope after (sym (ap (λ (f : Scoped). f scope) (fold-roll-Block Scoped Scoped (typing.stmt_step F at) typing.block_step (bare_block y))) ∙ h) in
       subst (λ (f : Runs). Keeps w g (f frame) (RC (roll-Block (bare_block y)) frame) (FlowHas w at.result scope)) (sym (fold-roll-Block Runs Runs (stmt_step w call here) block_step (bare_block y)))
       (subst (λ (f : Runs). Keeps w g (block_step (map-Block Stmt Block Runs Runs X R (bare_block y)) frame) (f frame) (FlowHas w at.result scope)) (sym (fold-roll-Block Runs Runs (stmt_checked otherwise w checked here) block_step (bare_block y)))
-      (k g frame i a))))
+      (k g frame i a))
+
+  pub stmt_keeps : (s : Stmt) → StmtKeeps s
+  stmt_keeps = ind-Stmt StmtKeeps BlockKeeps (λ x y is. subst (λ z. StmtKeeps (roll-Stmt z)) is (stmt_rolled y)) (λ x y is. subst (λ z. BlockKeeps (roll-Block z)) is (block_rolled y))
+
+  pub block_keeps : (b : Block) → BlockKeeps b
+  block_keeps = ind-Block StmtKeeps BlockKeeps (λ x y is. subst (λ z. StmtKeeps (roll-Stmt z)) is (stmt_rolled y)) (λ x y is. subst (λ z. BlockKeeps (roll-Block z)) is (block_rolled y))

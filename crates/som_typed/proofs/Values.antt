@@ -14,6 +14,7 @@ use Rattle.som_model.specs.Typing as typing
 use Rattle.som_model.proofs.KeyLaws.{both, exact_keys}
 use Rattle.som_typed.specs.Values.{is_there, has_type, have_types, is_long, is_boolean, is_text, has_text, is_reference, takes, unary_takes, binary_takes}
 use Rattle.som_typed.specs.Heaps.{AreTyped}
+use Rattle.som_typed.specs.Preserving.{IsOf}
 use Rattle.som_typed.proofs.Heaps.{both_true, some_is}
 use Rattle.som_typed.proofs.Facts.{IsSound, facts_of}
 use Rattle.som_typed.proofs.Steps.{met, same_answer}
@@ -96,14 +97,10 @@ module _ (w : World) (h : Heap) where
   as_many [] (v ∷ vs) e = absurd (true≢false (sym e))
   as_many (t ∷ ts) [] e = absurd (true≢false (sym e))
 
--- a value of an expression's type
-abbrev pub Is : World → ExprType → Value → Heap → Type 0
-Is w (Of t) v h = has_type w h t v ≡ true
-Is w PlainNil v h = v ≡ Nil
-
+-- values of the types of expressions, one by one
 abbrev pub AreOf : World → List ExprType → List Value → Heap → Type 0
 AreOf w [] [] h = Unit {0}
-AreOf w (t ∷ ts) (v ∷ vs) h = Is w t v h × AreOf w ts vs h
+AreOf w (t ∷ ts) (v ∷ vs) h = IsOf w t v h × AreOf w ts vs h
 AreOf w [] (v ∷ vs) h = ⊥
 AreOf w (t ∷ ts) [] h = ⊥
 
@@ -144,7 +141,7 @@ module _ (w : World) (known : ClassKey → Bool) (sound : IsSound w known) where
 
   -- ---- what fits is of the type
 
-  pub fitting : (h : Heap) (kind : ValueType) (t : ExprType) (v : Value) → fits (facts_of w known) kind t ≡ true → Is w t v h → has_type w h kind v ≡ true
+  pub fitting : (h : Heap) (kind : ValueType) (t : ExprType) (v : Value) → fits (facts_of w known) kind t ≡ true → IsOf w t v h → has_type w h kind v ≡ true
   fitting h (types.Class k) PlainNil v e i = ap (has_type w h (types.Class k)) i
   fitting h (types.Class k) (Of (types.Class c)) v e i = class_up h c k v e i
   fitting h (types.Class k) (Of types.Void) v e i = absurd (true≢false (sym e))
@@ -171,7 +168,7 @@ module _ (w : World) (known : ClassKey → Bool) (sound : IsSound w known) where
   all_fitting h (k ∷ kinds) (t ∷ ts) [] e i = absurd i
 
   -- a receiver of a call by offset
-  pub descending : (h : Heap) (k : ClassKey) (t : ExprType) (v : Value) → descends_to (facts_of w known) k t ≡ true → Is w t v h → has_type w h (types.Class k) v ≡ true
+  pub descending : (h : Heap) (k : ClassKey) (t : ExprType) (v : Value) → descends_to (facts_of w known) k t ≡ true → IsOf w t v h → has_type w h (types.Class k) v ≡ true
   descending h k (Of (types.Class c)) v e i = class_up h c k v e i
   descending h k (Of types.Void) v e i = absurd (true≢false (sym e))
   descending h k (Of types.Long) v e i = absurd (true≢false (sym e))
@@ -180,7 +177,7 @@ module _ (w : World) (known : ClassKey → Bool) (sound : IsSound w known) where
   descending h k PlainNil v e i = absurd (true≢false (sym e))
 
   -- a receiver of a call by name
-  pub receiving : (h : Heap) (t : ExprType) (v : Value) → AreTyped w h → is_class t ≡ true → Is w t v h → has_type w h an_object v ≡ true
+  pub receiving : (h : Heap) (t : ExprType) (v : Value) → AreTyped w h → is_class t ≡ true → IsOf w t v h → has_type w h an_object v ≡ true
   receiving h (Of (types.Class c)) v t e i = object_up h c v t i
   receiving h (Of types.Void) v t e i = absurd (true≢false (sym e))
   receiving h (Of types.Long) v t e i = absurd (true≢false (sym e))
@@ -188,7 +185,7 @@ module _ (w : World) (known : ClassKey → Bool) (sound : IsSound w known) where
   receiving h (Of types.Str) v t e i = absurd (true≢false (sym e))
   receiving h PlainNil v t e i = absurd (true≢false (sym e))
 
-  pub referring : (h : Heap) (t : ExprType) (v : Value) → AreTyped w h → typing.is_reference t ≡ true → Is w t v h → has_type w h an_object v ≡ true
+  pub referring : (h : Heap) (t : ExprType) (v : Value) → AreTyped w h → typing.is_reference t ≡ true → IsOf w t v h → has_type w h an_object v ≡ true
   referring h (Of (types.Class c)) v t e i = object_up h c v t i
   referring h PlainNil v t e i = ap (has_type w h an_object) i
   referring h (Of types.Void) v t e i = absurd (true≢false (sym e))
@@ -226,7 +223,7 @@ module _ (w : World) (known : ClassKey → Bool) (sound : IsSound w known) where
   nothing_value h (Boolean z) e = absurd (true≢false (sym e))
   nothing_value h (To r) e = absurd (true≢false (sym e))
 
-  pub of_long : (h : Heap) (t : ExprType) (v : Value) → typing.is_long t ≡ true → Is w t v h → (z : _) × (v ≡ Long z)
+  pub of_long : (h : Heap) (t : ExprType) (v : Value) → typing.is_long t ≡ true → IsOf w t v h → (z : _) × (v ≡ Long z)
   of_long h (Of types.Long) v e i = long_value h v i
   of_long h (Of types.Void) v e i = absurd (true≢false (sym e))
   of_long h (Of types.Boolean) v e i = absurd (true≢false (sym e))
@@ -234,7 +231,7 @@ module _ (w : World) (known : ClassKey → Bool) (sound : IsSound w known) where
   of_long h (Of (types.Class c)) v e i = absurd (true≢false (sym e))
   of_long h PlainNil v e i = absurd (true≢false (sym e))
 
-  pub of_boolean : (h : Heap) (t : ExprType) (v : Value) → typing.is_boolean t ≡ true → Is w t v h → (b : Bool) × (v ≡ Boolean b)
+  pub of_boolean : (h : Heap) (t : ExprType) (v : Value) → typing.is_boolean t ≡ true → IsOf w t v h → (b : Bool) × (v ≡ Boolean b)
   of_boolean h (Of types.Boolean) v e i = boolean_value h v i
   of_boolean h (Of types.Void) v e i = absurd (true≢false (sym e))
   of_boolean h (Of types.Long) v e i = absurd (true≢false (sym e))
@@ -242,7 +239,7 @@ module _ (w : World) (known : ClassKey → Bool) (sound : IsSound w known) where
   of_boolean h (Of (types.Class c)) v e i = absurd (true≢false (sym e))
   of_boolean h PlainNil v e i = absurd (true≢false (sym e))
 
-  pub of_text : (h : Heap) (t : ExprType) (v : Value) → typing.is_string t ≡ true → Is w t v h → (x : List ℕ) × (v ≡ Str x)
+  pub of_text : (h : Heap) (t : ExprType) (v : Value) → typing.is_string t ≡ true → IsOf w t v h → (x : List ℕ) × (v ≡ Str x)
   of_text h (Of types.Str) v e i = text_value h v i
   of_text h (Of types.Void) v e i = absurd (true≢false (sym e))
   of_text h (Of types.Long) v e i = absurd (true≢false (sym e))
@@ -250,7 +247,7 @@ module _ (w : World) (known : ClassKey → Bool) (sound : IsSound w known) where
   of_text h (Of (types.Class c)) v e i = absurd (true≢false (sym e))
   of_text h PlainNil v e i = absurd (true≢false (sym e))
 
-  pub of_printed : (h : Heap) (t : ExprType) (v : Value) → typing.has_text t ≡ true → Is w t v h → has_text v ≡ true
+  pub of_printed : (h : Heap) (t : ExprType) (v : Value) → typing.has_text t ≡ true → IsOf w t v h → has_text v ≡ true
   of_printed h (Of types.Long) v e i = ap has_text (long_value h v i).1
   of_printed h (Of types.Boolean) v e i = ap has_text (boolean_value h v i).1
   of_printed h (Of types.Str) v e i = ap has_text (text_value h v i).1
