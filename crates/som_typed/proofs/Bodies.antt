@@ -1,27 +1,24 @@
 -- Bodies keep the objects well typed and answer values of the types of their results: blocks, accessors, forwards and those of the kernel.
-use Rattle.std.proofs.Common.{◌≡◌, ℕ, zero, suc, ℤ, ◌⊎◌, inl, inr, Bool, true, false, not, ◌&&◌, if◌then◌else◌, List, [], ◌∷◌, ◌++◌, length, map, Option, Some, None, slice_get, Ok, Err, refl, sym, ap, ◌∙◌, subst, true≢false}
-use Rattle.std.specs.Prelude.{is_some}
+use Rattle.std.proofs.Common.{◌≡◌, ℤ, ◌⊎◌, inl, inr, Bool, true, false, not, ◌&&◌, if◌then◌else◌, List, [], ◌∷◌, Option, Some, None, slice_get, Ok, Err, refl, sym, ap, ◌∙◌, subst, true≢false}
 use Rattle.std.specs.Str.{bytes_eq}
 use Rattle.som_model.specs.declared.key.ClassKey.{ClassKey}
 use Rattle.som_model.specs.declared.key.ClassKey.TheVariants as keys
 use Rattle.som_model.specs.declared.key.MethodRef.{MethodRef}
 use Rattle.som_model.specs.declared.key.ValueType.{ValueType}
 use Rattle.som_model.specs.declared.key.ValueType.TheVariants as types
-use Rattle.som_model.specs.declared.syntax.Block.{Block}
 use Rattle.som_model.specs.declared.class.Sig.{Sig}
 use Rattle.som_model.specs.declared.program.Fault.{Fault}
 use Rattle.som_model.specs.declared.program.Fault.TheVariants as faults
 use Rattle.som_model.specs.Lists.{some}
-use Rattle.som_model.specs.Class.{Class}
 use Rattle.som_model.specs.ClassNames.{class_name}
 use Rattle.som_model.specs.Kernel.{som_object, som_class, som_init, som_uninit, an_object, a_class}
 use Rattle.som_model.specs.Rules.{is_void}
 use Rattle.som_model.specs.Implementation.{Held}
 use Rattle.som_model.specs.Implementation as held
 use Rattle.som_model.specs.World.{World}
-use Rattle.som_model.specs.State.{Value, Long, Boolean, Str, Nil, To, Ref, Object, ClassObject, Manager, Heap, Instance, Place, InBody, Offset, Forward, Used, Tried, ◌then_try◌, freed, class_of, is_live, live, receiver, target_of, zero_of}
+use Rattle.som_model.specs.State.{Value, Boolean, Nil, To, Ref, Object, ClassObject, Manager, Heap, Instance, Place, InBody, Offset, Forward, Used, Tried, ◌then_try◌, freed, class_of, is_live, live, receiver, target_of, zero_of}
 use Rattle.som_model.specs.Runs.{Act, IsLater}
-use Rattle.som_model.specs.Acts.{◌>>=◌, ◌>>◌, pure, fault, tried, asked, emit, become, freed_stays, make, later_self, later_on}
+use Rattle.som_model.specs.Acts.{◌>>=◌, ◌>>◌, pure, tried, asked, emit, become, freed_stays, make, later_self, later_on}
 use Rattle.som_model.specs.Values.{text, text_of, number_of}
 use Rattle.som_model.specs.Calls.{Calls, Here, offset_call}
 use Rattle.som_model.specs.Expressions.{read}
@@ -33,11 +30,11 @@ use Rattle.som_typed.specs.Values.{is_there, has_type, have_types}
 use Rattle.som_typed.specs.Heaps.{AreTyped}
 use Rattle.som_typed.specs.Preserving.{FlowHas}
 use Rattle.som_typed.specs.Checks.{stands, has_slot, reads, kernel_can, has_target}
-use Rattle.som_typed.specs.Checked.{check, checked_block, body_checked}
+use Rattle.som_typed.specs.Checked.{checked_block, body_checked}
 use Rattle.som_typed.proofs.Keeping.{Answers, Any, Keeps, bind_keeps, pure_keeps, fault_keeps, tried_keeps, asked_keeps, emit_keeps, become_keeps, check_keeps}
 use Rattle.som_typed.proofs.Heaps.{both_true, some_is, type_later, types_later, there_later, freed_typed, zero_typed}
-use Rattle.som_typed.proofs.Facts.{IsSound, IsBody, IsKernelSig, kernel_result, InClass}
-use Rattle.som_typed.proofs.Values.{an_object_is, class_object_is, class_up, object_up, there_object}
+use Rattle.som_typed.proofs.Facts.{IsSound, IsBody, kernel_result}
+use Rattle.som_typed.proofs.Values.{class_object_is, class_up, object_up, there_object}
 use Rattle.som_typed.proofs.Operators.{answers_if, one_text}
 use Rattle.som_typed.proofs.Calls.{Has, CallsKeep, make_keeps, offset_keeps, own_keeps}
 use Rattle.som_typed.proofs.Expressions.{reads_typed}

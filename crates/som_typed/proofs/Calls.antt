@@ -1,5 +1,5 @@
 -- Calls keep the objects well typed and answer values of the types of their results, where what becomes of them does.
-use Rattle.std.proofs.Common.{◌≡◌, ℕ, zero, suc, inl, inr, Bool, true, false, not, ◌&&◌, if◌then◌else◌, List, [], ◌∷◌, ◌++◌, length, Option, Some, None, slice_get, Ok, Err, refl, sym, ap, ◌∙◌, subst, true≢false}
+use Rattle.std.proofs.Common.{◌≡◌, ℕ, inl, inr, Bool, true, false, ◌&&◌, if◌then◌else◌, List, [], ◌∷◌, ◌++◌, length, Option, Some, None, slice_get, Ok, Err, refl, sym, ap, ◌∙◌, subst, true≢false}
 use Rattle.std.specs.Prelude.{is_some}
 use Rattle.som_model.specs.declared.key.ClassKey.{ClassKey}
 use Rattle.som_model.specs.declared.key.ClassKey.TheVariants as keys
@@ -12,21 +12,20 @@ use Rattle.som_model.specs.declared.program.Fault.TheVariants as faults
 use Rattle.som_model.specs.Lists.{Mem}
 use Rattle.som_model.specs.Kernel.{som_object, som_class, som_new, som_dispatch_name, an_object}
 use Rattle.som_model.specs.World.{World}
-use Rattle.som_model.specs.State.{Value, Long, Boolean, Str, Nil, To, Ref, Object, ClassObject, Manager, Heap, State, Instance, Place, Manner, Offset, Dispatch, Used, Tried, class_of, is_live, live, receiver}
-use Rattle.som_model.specs.Runs.{Act, IsLater, Goes}
-use Rattle.som_model.specs.Acts.{◌>>=◌, ◌>>◌, pure, tried, asked, emit, take_unit, make, with_one, one_more_stays, new_instance, later_self, later_on}
+use Rattle.som_model.specs.State.{Value, Long, Boolean, Str, Nil, To, Ref, Object, ClassObject, Heap, Instance, Place, Manner, Offset, Dispatch, Used, Tried, class_of, is_live, receiver}
+use Rattle.som_model.specs.Runs.{Act, IsLater}
+use Rattle.som_model.specs.Acts.{◌>>=◌, ◌>>◌, pure, tried, asked, emit, take_unit, make, with_one, new_instance, later_on}
 use Rattle.som_model.specs.Values.{cast, isa, fits, all_fit, serves, sig_fits, text_of}
-use Rattle.som_model.specs.Calls.{Calls, Request, Here, class_here, found, offset_call, named_call, dispatch_call, parent_call, parents_calls}
+use Rattle.som_model.specs.Calls.{Calls, Request, Here, found, offset_call, named_call, dispatch_call, parent_call, parents_calls}
 use Rattle.som_model.specs.Expressions.{new_on, proxy_on, class_object}
 use Rattle.som_model.specs.Typing.{ExprType, Of, PlainNil}
 use Rattle.som_model.proofs.KeyLaws.{both}
 use Rattle.som_typed.specs.Values.{is_there, has_type, have_types}
-use Rattle.som_typed.specs.Heaps.{AreTyped}
 use Rattle.som_typed.specs.Preserving.{IsOf}
-use Rattle.som_typed.proofs.Keeping.{Answers, Any, Keeps, bind_keeps, pure_keeps, tried_keeps, asked_keeps, emit_keeps, unit_keeps, if_keeps, weaker_keeps}
+use Rattle.som_typed.proofs.Keeping.{Answers, Any, Keeps, bind_keeps, pure_keeps, tried_keeps, asked_keeps, emit_keeps, unit_keeps, weaker_keeps}
 use Rattle.som_typed.proofs.Heaps.{both_true, last_is, made_typed, there_later, type_later, types_later}
 use Rattle.som_typed.proofs.Facts.{IsSound, IsMethod}
-use Rattle.som_typed.proofs.Values.{AreOf, an_object_is, class_object_is, class_up, object_up, text_value}
+use Rattle.som_typed.proofs.Values.{AreOf, class_object_is, class_up}
 use Rattle.som_typed.proofs.Operators.{answers_if}
 
 -- a value of a type

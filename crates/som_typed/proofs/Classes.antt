@@ -1,9 +1,8 @@
 -- What a typed run needs of the classes holds of classes that can be loaded: descent, metaclasses, proxies and variables.
-use Rattle.std.proofs.Common.{◌≡◌, ℕ, zero, suc, ◌<◌, ◌≤◌, ◌⊎◌, inl, inr, Bool, true, false, not, ◌&&◌, if◌then◌else◌, List, [], ◌∷◌, ◌++◌, map, flat_map, length, nat_lt, Option, Some, None, slice_get, refl, sym, ap, ◌∙◌, subst, arith, true≢false}
-use Rattle.std.specs.Prelude.{is_some}
+use Rattle.std.proofs.Common.{◌≡◌, ℕ, zero, suc, ◌≤◌, inl, inr, Bool, true, false, not, ◌&&◌, if◌then◌else◌, List, [], ◌∷◌, ◌++◌, map, flat_map, nat_lt, Option, Some, None, slice_get, refl, sym, ap, ◌∙◌, subst, arith}
 use Rattle.som_model.specs.declared.key.Module.{Module}
 use Rattle.som_model.specs.declared.key.Module.TheVariants as modules
-use Rattle.som_model.specs.declared.key.ClassKey.{ClassKey, out-ClassKey, roll-ClassKey, out-roll-ClassKey}
+use Rattle.som_model.specs.declared.key.ClassKey.{ClassKey, out-ClassKey, out-roll-ClassKey}
 use Rattle.som_model.specs.declared.key.ClassKey.TheOpen.{ClassKey-F}
 use Rattle.som_model.specs.declared.key.ClassKey.TheVariants as keys
 use Rattle.som_model.specs.declared.key.ClassKey.TheVariants.{rolls-Derived, rolls-Proxy}
@@ -12,9 +11,7 @@ use Rattle.som_model.specs.declared.key.ValueType.TheVariants as types
 use Rattle.som_model.specs.declared.class.Variable.{Variable}
 use Rattle.som_model.specs.declared.class.Entry.{Entry}
 use Rattle.som_model.specs.declared.class.Entry.TheVariants as entries
-use Rattle.som_model.specs.declared.class.ClassFace.{ClassFace}
-use Rattle.som_model.specs.declared.syntax.Block.{Block}
-use Rattle.som_model.specs.Lists.{Mem, firsts, some, every, first_some, without}
+use Rattle.som_model.specs.Lists.{Mem, firsts, some, every}
 use Rattle.som_model.specs.Keys.{same_key}
 use Rattle.som_model.specs.Hierarchy.{Hierarchy}
 use Rattle.som_model.specs.Ancestors.{Descends, itself, by_parent, descends}
@@ -24,18 +21,18 @@ use Rattle.som_model.specs.Classes.{class_at, parents_of, hierarchy, is_a, varia
 use Rattle.som_model.specs.Metaclass.{rank, is_low, lowest, is_above, meta_within, meta}
 use Rattle.som_model.specs.Rules.{RuleBreach, is_void, is_value_type, is_known, demand_of, s5}
 use Rattle.som_model.specs.World.{searched, named_class}
-use Rattle.som_model.specs.Loads.{IsOrdered, Loads}
-use Rattle.som_model.proofs.KeyLaws.{both, exact_keys}
-use Rattle.som_model.proofs.NamedLaws.{out_named, hierarchy_parents, hierarchy_same}
-use Rattle.som_laws.proofs.Members.{firsts_mem, without_mem, mem_split, mem_right, mem_left, mem_some, some_mem, first_from}
+use Rattle.som_model.specs.Loads.{IsOrdered}
+use Rattle.som_model.proofs.KeyLaws.{both}
+use Rattle.som_model.proofs.NamedLaws.{out_named, hierarchy_same}
+use Rattle.som_laws.proofs.Members.{firsts_mem, without_mem, mem_split, first_from}
 use Rattle.som_laws.proofs.Laws.{descends_through, descends_step}
 use Rattle.som_hierarchy.specs.Metaclasses.{StandsLow}
 use Rattle.som_hierarchy.proofs.Lists.{map_mem, option_mem, get_mem}
-use Rattle.som_hierarchy.proofs.Standing.{falls, found, rolled, rank_derived, found_is, keyed, known_above, named_layer, parents_known, parents_derived, parents_proxy, stands, tells}
+use Rattle.som_hierarchy.proofs.Standing.{falls, found, rolled, rank_derived, found_is, keyed, known_above, named_layer, parents_known, parents_derived, parents_proxy, tells}
 use Rattle.som_hierarchy.proofs.Metas.{kernel_low, low_kernel, low_parents, unknown_low, meta_law, declared_in}
 use Rattle.som_hierarchy.proofs.Owners.{metaclass_known}
 use Rattle.som_releases.specs.Releasing.{HaveParents}
-use Rattle.som_releases.proofs.Facing.{tested, tests, demanded_of}
+use Rattle.som_releases.proofs.Facing.{demanded_of}
 use Rattle.som_releases.proofs.Lists.{flat_at, none_left}
 use Rattle.som_releases.proofs.Objects.{on_kernel, low_on}
 
@@ -210,6 +207,7 @@ module _ (cs : List Class) (o : IsOrdered cs) where
         key_of : Option Class → Option ClassKey
         key_of None = None
         key_of (Some c) = Some c.key
+
         at : (q : Option Class) → key_of q ≡ Some k → (c : Class) × (q ≡ Some c) × (c.key ≡ k)
         at None f = absurd (let z = f in cc)
         at (Some c) f = (c, refl, let z = f in cc)

@@ -1,8 +1,7 @@
 -- Expressions that are well typed keep the objects typed and answer values of their types, and no test in them fails.
-use Rattle.std.proofs.Common.{◌≡◌, ℕ, zero, suc, inl, inr, Bool, true, false, not, ◌&&◌, nat_le, if◌then◌else◌, List, [], ◌∷◌, ◌++◌, length, map, Option, Some, None, slice_get, Ok, Err, refl, sym, ap, ◌∙◌, subst, true≢false}
+use Rattle.std.proofs.Common.{◌≡◌, ℕ, zero, suc, inl, inr, Bool, true, false, not, ◌&&◌, nat_le, List, [], ◌∷◌, length, map, Option, Some, None, slice_get, Ok, refl, sym, ap, ◌∙◌, subst, true≢false}
 use Rattle.std.specs.Prelude.{is_some}
 use Rattle.som_model.specs.declared.key.ClassKey.{ClassKey}
-use Rattle.som_model.specs.declared.key.ClassKey.TheVariants as keys
 use Rattle.som_model.specs.declared.key.MethodRef.{MethodRef}
 use Rattle.som_model.specs.declared.key.ValueType.{ValueType}
 use Rattle.som_model.specs.declared.key.ValueType.TheVariants as types
@@ -19,7 +18,7 @@ use Rattle.som_model.specs.Class.{Class}
 use Rattle.som_model.specs.Kernel.{som_object, som_class_mgr, an_object}
 use Rattle.som_model.specs.Rules.{is_void}
 use Rattle.som_model.specs.World.{World}
-use Rattle.som_model.specs.State.{Value, Long, Boolean, Str, Nil, To, Ref, Object, ClassObject, Manager, Heap, Instance, Variables, Place, Offset, Lookup, Tried, class_of, is_live, variables_of}
+use Rattle.som_model.specs.State.{Value, Long, Boolean, Str, Nil, To, Ref, Object, ClassObject, Manager, Heap, Instance, Variables, Offset, Lookup, class_of, is_live, variables_of}
 use Rattle.som_model.specs.Runs.{Act, IsLater}
 use Rattle.som_model.specs.Acts.{pure, tried, asked, later_self, later_on}
 use Rattle.som_model.specs.Acts as acts
@@ -34,9 +33,9 @@ use Rattle.som_typed.specs.Heaps.{AreTyped}
 use Rattle.som_typed.specs.Preserving.{IsOf}
 use Rattle.som_typed.specs.Checks.{is_class, is_kind, of_class, stands, has_slot, has_parent, has_parents}
 use Rattle.som_typed.specs.Checked.{check, such_that, expr_checked, checked_eval}
-use Rattle.som_typed.proofs.Keeping.{Answers, Any, Keeps, bind_keeps, pure_keeps, tried_keeps, asked_keeps, emit_keeps, unit_keeps, if_keeps, weaker_keeps, check_keeps, value_keeps}
+use Rattle.som_typed.proofs.Keeping.{Answers, Keeps, bind_keeps, pure_keeps, tried_keeps, asked_keeps, check_keeps, value_keeps}
 use Rattle.som_typed.proofs.Heaps.{both_true, some_is, type_later, types_later}
-use Rattle.som_typed.proofs.Facts.{IsSound, IsClass, InClass, facts_of}
+use Rattle.som_typed.proofs.Facts.{IsSound, InClass, facts_of}
 use Rattle.som_typed.proofs.Steps.{went, met, same_answer, found}
 use Rattle.som_typed.proofs.Values.{AreOf, value_at, fitting, all_fitting, descending, receiving, referring, of_long}
 use Rattle.som_typed.proofs.Operators.{answers_if, unary_typed, operands, is_later}
@@ -173,7 +172,6 @@ module _ (w : World) (known : ClassKey → Bool) (sound : IsSound w known) where
         (λ vs g2 le2 ty2 js. pure_keeps w g2 (AreOf w (q.value ∷ qs.value)) (v ∷ vs) (λ l lf tf. (is_later w known sound g l q.value v (later_on g g2 l le2 lf) j, are_later w g2 l qs.value vs lf js)))
         (each_of (map E (exprs ks)) frame) (each_of (map C (exprs ks)) frame) (parts_keep ks qs.value qs.first g frame (in_later w h g at.class here le i) (types_later w h g le scope frame a)))
         (E k.0 frame) (C k.0 frame) (part_keeps k.0 k.1 q.value q.first h frame i a))
-
 
     -- the same where each is tested to be a value
     parts_exist : (ks : List Kept) (ts : List ExprType) → values (map T (exprs ks)) ≡ Ok ts → (h : Heap) (frame : Frame) → InClass w at.class here h → have_types w h scope frame ≡ true
@@ -397,6 +395,7 @@ module _ (w : World) (known : ClassKey → Bool) (sound : IsSound w known) where
         nothing_is types.Boolean e = absurd (true≢false (sym e))
         nothing_is types.Str e = absurd (true≢false (sym e))
         nothing_is (types.Class k) e = absurd (true≢false (sym e))
+
         by : (o : Option Class) → InClass w o here h → proper_in F o (w.owner r).class ≡ true → (sig : Sig) → w.sig (w.owner r) ≡ Some sig → all_fit F sig.params ts ≡ true → Of types.Void ≡ t
             → Keeps w h (expr_step w call here (Expr-F.ParentsCall r (map E (exprs ks))) frame) (acts.◌>>◌ (check otherwise (has_parents w here r)) (expr_step w checked here (Expr-F.ParentsCall r (map C (exprs ks))) frame)) (IsOf w t)
         by None j p sig is fit void = absurd (true≢false (sym p))

@@ -1,6 +1,5 @@
 -- What a typed run needs of the classes, and what is typed by these facts.
-use Rattle.std.proofs.Common.{◌≡◌, ℕ, ◌⊎◌, Bool, true, false, List, [], ◌∷◌, ◌++◌, map, Option, Some, None, slice_get, Ok}
-use Rattle.std.specs.Prelude.{codes}
+use Rattle.std.proofs.Common.{◌≡◌, ℕ, ◌⊎◌, Bool, true, false, List, [], ◌∷◌, map, Option, Some, None, slice_get, Ok}
 use Rattle.std.specs.Str.{bytes_eq}
 use Rattle.som_model.specs.declared.key.ClassKey.{ClassKey}
 use Rattle.som_model.specs.declared.key.ClassKey.TheVariants as keys
@@ -17,10 +16,10 @@ use Rattle.som_model.specs.Rules.{is_void}
 use Rattle.som_model.specs.Implementation.{Held}
 use Rattle.som_model.specs.Implementation as held
 use Rattle.som_model.specs.World.{World}
-use Rattle.som_model.specs.State.{Value, To, Heap}
+use Rattle.som_model.specs.State.{To, Heap}
 use Rattle.som_model.specs.Calls.{Here, class_here}
-use Rattle.som_model.specs.Invoked.{Asking, GetClass, GetClassName, IsA, IsInstanceOf, RespondsTo, DispatchName, GetName, DescendedFrom, SupportsMethod, CheckVersion, KernelBody, Idle, Free, New, NewNoInit, FindClass, Asks, table, kernel_body}
-use Rattle.som_model.specs.Typing.{ClassFacts, CodePlace, in_body}
+use Rattle.som_model.specs.Invoked.{GetClass, GetClassName, IsA, IsInstanceOf, RespondsTo, DispatchName, GetName, DescendedFrom, SupportsMethod, CheckVersion, KernelBody, Idle, Free, New, NewNoInit, FindClass, Asks, table, kernel_body}
+use Rattle.som_model.specs.Typing.{ClassFacts, in_body}
 use Rattle.som_model.specs.TypedBlocks.{Scope, block_scope}
 use Rattle.som_typed.specs.Values.{has_type}
 use Rattle.som_typed.specs.Checks.{reads}

@@ -1,8 +1,7 @@
 -- Each body that a class has for a method fits the method's signature, where the classes can be loaded.
-use Rattle.std.proofs.Common.{◌≡◌, ℕ, zero, suc, ◌⊎◌, inl, inr, Bool, true, false, not, ◌&&◌, ◌||◌, if◌then◌else◌, List, [], ◌∷◌, ◌++◌, map, flat_map, length, ◌==◌, Option, Some, None, slice_get, Ok, Err, refl, sym, ap, ◌∙◌, subst, true≢false}
+use Rattle.std.proofs.Common.{◌≡◌, ℕ, inl, inr, Bool, true, false, ◌||◌, if◌then◌else◌, List, [], ◌∷◌, ◌++◌, map, flat_map, length, ◌==◌, Option, Some, None, slice_get, Ok, Err, refl, sym, ap, ◌∙◌, subst, true≢false}
 use Rattle.std.specs.Prelude.{is_some, codes}
 use Rattle.std.specs.Str.{bytes_eq}
-use Rattle.som_model.specs.declared.key.Module.{Module}
 use Rattle.som_model.specs.declared.key.Module.TheVariants as modules
 use Rattle.som_model.specs.declared.key.ClassKey.{ClassKey, out-ClassKey}
 use Rattle.som_model.specs.declared.key.ClassKey.TheOpen.{ClassKey-F}
@@ -28,31 +27,30 @@ use Rattle.som_model.specs.Resolution.{byname}
 use Rattle.som_model.specs.Class.{Class, bare, class_in, entry_name, entry_of, introduced, introduced_sig}
 use Rattle.som_model.specs.Kernel.{kernel, som_object, som_init, som_uninit, object_face, class_face, class_mgr_face, before_after_face}
 use Rattle.som_model.specs.Classes.{class_at, ancestors, hierarchy, is_a, parents_of, variable_type, version_of}
-use Rattle.som_model.specs.Owner.{entry_at, introduced_by, introduces, owner, sig_of}
+use Rattle.som_model.specs.Owner.{introduced_by, introduces, owner, sig_of}
 use Rattle.som_model.specs.Implementation.{Held, is_kernel, held, held_by, declared_held, introduced_body, body_named, override_of, proxy_held, forwards, implementation}
 use Rattle.som_model.specs.Implementation as helds
 use Rattle.som_model.specs.Metaclass.{meta, hooks}
 use Rattle.som_model.specs.World.{World, named_class}
-use Rattle.som_model.specs.Invoked.{Idle, table, kernel_body}
+use Rattle.som_model.specs.Invoked.{table, kernel_body}
 use Rattle.som_model.specs.Rules.{RuleBreach, breach, body_fits, demand, is_void}
-use Rattle.som_model.specs.Conforming.{block_breach_by, bodies_typed_by, class_typed_by, override_typed_by}
+use Rattle.som_model.specs.Conforming.{block_breach_by, bodies_typed_by, override_typed_by}
 use Rattle.som_model.specs.Typing.{ClassFacts, Ruled, in_body, running_facts}
 use Rattle.som_model.specs.TypedBlocks.{Scope, block_scope}
-use Rattle.som_model.specs.Loads.{FacesLoad, IsOrdered, Loads}
+use Rattle.som_model.specs.Loads.{IsOrdered, Loads}
 use Rattle.som_model.proofs.KeyLaws.{both, exact_keys}
-use Rattle.som_model.proofs.NamedLaws.{held_named, hierarchy_parents}
+use Rattle.som_model.proofs.NamedLaws.{hierarchy_parents}
 use Rattle.som_laws.proofs.Laws.{ancestors as ancestors_are}
 use Rattle.som_laws.proofs.Members.{mem_split, some_mem}
 use Rattle.som_hierarchy.proofs.Lists.{map_mem}
-use Rattle.som_hierarchy.proofs.Standing.{falls, found_is, named_layer, parents_known, rolled, tells}
+use Rattle.som_hierarchy.proofs.Standing.{falls, found_is, parents_known, rolled, tells}
 use Rattle.som_hierarchy.proofs.Owners.{entry_is, entry_mem}
 use Rattle.som_releases.proofs.Facing.{tests}
 use Rattle.som_releases.proofs.Lists.{flat_at, none_left}
-use Rattle.som_typed.specs.Checks.{reads}
-use Rattle.som_typed.proofs.Facts.{IsBody, IsClass, IsKernelSig, facts_of, kernel_result, sig}
+use Rattle.som_typed.proofs.Facts.{IsBody, IsClass, IsKernelSig, facts_of, sig}
 use Rattle.som_typed.proofs.Classes.{kind_is, kind_some, object_at, proper_parent}
 use Rattle.som_typed.proofs.Values.{one_type}
-use Rattle.som_typed.proofs.Methods.{Fits, fits_from, held_body, kernel_is, named_fits, one_method, own_is}
+use Rattle.som_typed.proofs.Methods.{fits_from, held_body, kernel_is, named_fits, one_method, own_is}
 
 abbrev reference : List ℕ → Option ClassKey → Option MethodRef
 reference name None = None
@@ -256,13 +254,13 @@ module _ (cs : List Class) (main : Block) (l : Loads cs main) where
         let t = signed_entry (entry_of c.decl.face.entries r.name) s g in
         let em = entry_mem c.decl.face.entries r.name t.0 t.1 in
         let at : Some (helds.OfKernel r.name) ≡ Some b =
-            ap (λ (q : Option Entry). if is_some q then Some (helds.OfKernel r.name) else None) (sym t.1)
-            ∙ ap (λ z. if z then (if is_some (entry_of c.decl.face.entries r.name) then Some (helds.OfKernel r.name) else None) else body_named c.decl.face.entries c.decl.bodies r.name) (sym (kernel_is cs l.faces c m)) ∙ f in
+        ap (λ (q : Option Entry). if is_some q then Some (helds.OfKernel r.name) else None) (sym t.1)
+        ∙ ap (λ z. if z then (if is_some (entry_of c.decl.face.entries r.name) then Some (helds.OfKernel r.name) else None) else body_named c.decl.face.entries c.decl.bodies r.name) (sym (kernel_is cs l.faces c m)) ∙ f in
         let is : helds.OfKernel r.name ≡ b = (let z = at in cc) in
         subst (IsBody W (known_in all) y r s) is (kernel_row c r.name s t.0 m em.0 em.1 t.2))
     | inr m ↦ (
         let at : body_named c.decl.face.entries c.decl.bodies r.name ≡ Some b =
-            ap (λ z. if z then (if is_some (entry_of c.decl.face.entries r.name) then Some (helds.OfKernel r.name) else None) else body_named c.decl.face.entries c.decl.bodies r.name) (sym (own_is cs l.faces c m)) ∙ f in
+        ap (λ z. if z then (if is_some (entry_of c.decl.face.entries r.name) then Some (helds.OfKernel r.name) else None) else body_named c.decl.face.entries c.decl.bodies r.name) (sym (own_is cs l.faces c m)) ∙ f in
         let t = none_left (demand 14 c (length c.decl.bodies == length (introduced c.decl.face.entries))) (fits_from c c.decl.face.entries c.decl.bodies) (l.bodies c m) in
         let u = named_fits cs l.faces l.bodies c F c.decl.face.entries c.decl.bodies r.name s b g at (typed_parts c m).0 t.1 in
         subst (IsBody W (known_in all) y r s) (sym u.1) (declared_fits y r c s u.0 e u.2 u.3))
@@ -312,8 +310,10 @@ module _ (cs : List Class) (main : Block) (l : Loads cs main) where
     where
       object : (name : List ℕ) (q : Sig) → r ≡ record { class = som_object; name = name } → introduced_sig (entry_of object_face.entries name) ≡ Some q → q ≡ s
       object name q is t = let z = sym (ap introduced_sig (entry_is all som_object name (class_in modules.Kernel (bare object_face)) (object_at cs o)) ∙ t) ∙ ap (sig_of all) (sym is) ∙ g in cc
+
       nothing : Some helds.Nothing ≡ Some b → s.result ≡ types.Void → IsBody W (known_in all) y r s b
       nothing t v = let none : helds.Nothing ≡ b = (let z = t in cc) in subst (IsBody W (known_in all) y r s) none v
+
       by : (i u w : Bool) → same_method r som_init ≡ i → same_method r som_uninit ≡ u → some (same_method r) (forwards all c) ≡ w → (if i || u then Some helds.Nothing else (if w then Some helds.Forward else None)) ≡ Some b → IsBody W (known_in all) y r s b
       by true u w p q t k = nothing k (ap (λ (z : Sig). z.result) (sym (object (codes "somInit") (sig types.Void []) (one_method r som_init p) refl)))
       by false true w p q t k = nothing k (ap (λ (z : Sig). z.result) (sym (object (codes "somUninit") (sig types.Void []) (one_method r som_uninit q) refl)))

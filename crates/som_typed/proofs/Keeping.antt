@@ -1,13 +1,13 @@
 -- Acts that keep the objects well typed and answer values of which something holds, and that do the same with tests in front of their steps.
-use Rattle.std.proofs.Common.{◌≡◌, ℕ, zero, suc, Bool, true, false, if◌then◌else◌, Ok, Err, refl, sym, ap, ◌∙◌, subst}
+use Rattle.std.proofs.Common.{◌≡◌, ℕ, zero, suc, Bool, true, false, if◌then◌else◌, Ok, Err, refl, ap, ◌∙◌}
 use Rattle.som_model.specs.declared.program.Fault.{Fault}
 use Rattle.som_model.specs.World.{World}
-use Rattle.som_model.specs.State.{Value, Heap, Place, Event, State, Tried}
-use Rattle.som_model.specs.Runs.{Ran, Goes, Ends, Faulted, end_of, follow, IsLater, Act}
+use Rattle.som_model.specs.State.{Heap, Place, Event, State, Tried}
+use Rattle.som_model.specs.Runs.{Ran, Goes, Ends, end_of, follow, IsLater, Act}
 use Rattle.som_model.specs.Acts.{◌>>=◌, ◌>>◌, pure, fault, tried, asked, emit, take_unit, unit_from, reading, become, bounded, Grown, later_self, later_on}
 use Rattle.som_typed.specs.Heaps.{AreTyped}
 use Rattle.som_typed.specs.Preserving.{Leaves}
-use Rattle.som_typed.specs.Checked.{check, checked_value}
+use Rattle.som_typed.specs.Checked.{check}
 
 -- what a test answers, if it answers
 abbrev pub Answers : {A : Type 0} → Tried A → (A → Type 0) → Type 0

@@ -1,6 +1,6 @@
 -- Classes that can be loaded are as a typed run needs them.
-use Rattle.std.proofs.Common.{◌≡◌, ℕ, inl, inr, Bool, true, false, not, ◌&&◌, ◌||◌, if◌then◌else◌, List, [], ◌∷◌, ◌++◌, filter, Option, Some, None, Ok, Err, refl, sym, ap, ◌∙◌, subst, true≢false}
-use Rattle.std.specs.Prelude.{is_some, codes}
+use Rattle.std.proofs.Common.{◌≡◌, ℕ, inl, inr, Bool, true, false, not, ◌&&◌, ◌||◌, if◌then◌else◌, List, [], ◌∷◌, ◌++◌, filter, Option, Some, None, Ok, Err, refl, sym, ap, ◌∙◌, subst}
+use Rattle.std.specs.Prelude.{codes}
 use Rattle.som_model.specs.declared.key.Module.TheVariants as modules
 use Rattle.som_model.specs.declared.key.ClassKey.{ClassKey}
 use Rattle.som_model.specs.declared.key.MethodRef.{MethodRef}
@@ -17,18 +17,18 @@ use Rattle.som_model.specs.Classes.{class_at, ancestors, hierarchy, is_a}
 use Rattle.som_model.specs.Owner.{introduces, owner, sig_of}
 use Rattle.som_model.specs.Implementation.{has_body}
 use Rattle.som_model.specs.Metaclass.{hooks}
-use Rattle.som_model.specs.World.{World, world}
+use Rattle.som_model.specs.World.{world}
 use Rattle.som_model.specs.Typing.{ClassFacts, Ruled, in_main, running_facts}
 use Rattle.som_model.specs.TypedBlocks.{Scope, block_scope}
 use Rattle.som_model.specs.Conforming.{main_typed_by}
 use Rattle.som_model.specs.Loads.{IsOrdered, Loads}
 use Rattle.som_laws.proofs.Laws.{ancestors as ancestors_are, descends_through}
-use Rattle.som_hierarchy.proofs.Standing.{falls, found_is, tells}
+use Rattle.som_hierarchy.proofs.Standing.{falls, tells}
 use Rattle.som_hierarchy.proofs.Owners.{entry_is}
 use Rattle.som_releases.specs.Releasing.{HaveParents}
 use Rattle.som_releases.proofs.Facing.{tested, tests}
 use Rattle.som_typed.proofs.Heaps.{some_is}
-use Rattle.som_typed.proofs.Facts.{IsAnswered, IsMethod, IsSound, facts_of, sig}
+use Rattle.som_typed.proofs.Facts.{IsMethod, IsSound, facts_of, sig}
 use Rattle.som_typed.proofs.Classes.{before_after_at, class_class_at, class_object, known_object, manager_object, manager_real, manager_slots, meta_class, meta_real, named_object, object_at, one_proxied, proxy_of}
 use Rattle.som_typed.proofs.Methods.{answers, named_above, own_owner, owner_above, some_sig}
 use Rattle.som_typed.proofs.Fitting.{all_fit, known_in, plain}

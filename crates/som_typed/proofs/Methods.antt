@@ -1,56 +1,47 @@
 -- What a typed run needs of methods holds of classes that can be loaded: owners, names, who answers, and bodies that fit.
-use Rattle.std.proofs.Common.{◌≡◌, ◌==◌, ℕ, zero, suc, ◌⊎◌, inl, inr, Bool, true, false, not, ◌&&◌, ◌||◌, if◌then◌else◌, List, [], ◌∷◌, ◌++◌, map, flat_map, filter, length, Option, Some, None, IsSome, slice_get, Ok, Err, refl, sym, ap, ◌∙◌, subst, arith, true≢false}
-use Rattle.std.specs.Prelude.{is_some, codes}
+use Rattle.std.proofs.Common.{◌≡◌, ◌==◌, ℕ, inl, inr, Bool, true, false, if◌then◌else◌, List, [], ◌∷◌, ◌++◌, length, Option, Some, None, IsSome, slice_get, refl, sym, ap, ◌∙◌, subst, arith, true≢false}
+use Rattle.std.specs.Prelude.{is_some}
 use Rattle.std.specs.Option.{option_and_then}
 use Rattle.std.specs.Str.{bytes_eq}
 use Rattle.som_model.specs.declared.key.Module.{Module}
 use Rattle.som_model.specs.declared.key.Module.TheVariants as modules
-use Rattle.som_model.specs.declared.key.ClassKey.{ClassKey, out-ClassKey}
-use Rattle.som_model.specs.declared.key.ClassKey.TheOpen.{ClassKey-F}
+use Rattle.som_model.specs.declared.key.ClassKey.{ClassKey}
 use Rattle.som_model.specs.declared.key.ClassKey.TheVariants as keys
 use Rattle.som_model.specs.declared.key.MethodRef.{MethodRef}
-use Rattle.som_model.specs.declared.key.ValueType.{ValueType}
-use Rattle.som_model.specs.declared.key.ValueType.TheVariants as types
 use Rattle.som_model.specs.declared.class.Sig.{Sig}
 use Rattle.som_model.specs.declared.class.Entry.{Entry}
 use Rattle.som_model.specs.declared.class.Entry.TheVariants as entries
 use Rattle.som_model.specs.declared.class.Body.{Body}
 use Rattle.som_model.specs.declared.class.Body.TheVariants as bodies
-use Rattle.som_model.specs.declared.class.Variable.{Variable}
-use Rattle.som_model.specs.declared.class.Override.{Override}
 use Rattle.som_model.specs.declared.class.Select.{Select}
 use Rattle.som_model.specs.declared.syntax.Block.{Block}
-use Rattle.som_model.specs.Lists.{Mem, some, find, or_else}
+use Rattle.som_model.specs.Lists.{Mem, or_else}
 use Rattle.som_model.specs.Keys.{same_key, same_module, same_method}
-use Rattle.som_model.specs.Same.{same_type}
 use Rattle.som_model.specs.Hierarchy.{Hierarchy}
-use Rattle.som_model.specs.Ancestors.{Descends, itself, anc}
-use Rattle.som_model.specs.Resolution.{Chooses, impl, byname}
-use Rattle.som_model.specs.Class.{Class, bare, class_in, entry_name, entry_of, introduced, introduced_sig}
-use Rattle.som_model.specs.Kernel.{kernel, som_object, som_class, som_init, som_uninit, before_after}
-use Rattle.som_model.specs.Classes.{class_at, ancestors, hierarchy, is_a, variable_type}
-use Rattle.som_model.specs.Owner.{entry_at, introduced_by, introduces, owner, sig_of}
+use Rattle.som_model.specs.Ancestors.{Descends, anc}
+use Rattle.som_model.specs.Resolution.{Chooses, byname}
+use Rattle.som_model.specs.Class.{Class, entry_of, introduced, introduced_sig}
+use Rattle.som_model.specs.Kernel.{kernel}
+use Rattle.som_model.specs.Classes.{class_at, hierarchy, is_a}
+use Rattle.som_model.specs.Owner.{introduces, owner, sig_of}
 use Rattle.som_model.specs.Implementation.{Held, is_kernel, has_body, held, held_by, declared_held, introduced_body, body_named, override_of, proxy_held, forwards, select_of, selected_in, selected, implementation}
 use Rattle.som_model.specs.Implementation as helds
-use Rattle.som_model.specs.Metaclass.{hooks}
-use Rattle.som_model.specs.Rules.{RuleBreach, breach, body_fits, demand, demand_of, is_parent_below, is_void, s10, s14}
-use Rattle.som_model.specs.Conforming.{block_breach_by, bodies_typed_by, class_typed_by, override_typed_by}
-use Rattle.som_model.specs.Typing.{ClassFacts, Ruled, in_body}
-use Rattle.som_model.specs.TypedBlocks.{Scope, block_scope}
-use Rattle.som_model.specs.Loads.{FacesLoad, IsOrdered, Loads}
+use Rattle.som_model.specs.Rules.{RuleBreach, body_fits, demand, demand_of, is_parent_below, s10, s14}
+use Rattle.som_model.specs.Conforming.{block_breach_by, bodies_typed_by}
+use Rattle.som_model.specs.Typing.{ClassFacts}
+use Rattle.som_model.specs.Loads.{FacesLoad, IsOrdered}
 use Rattle.som_model.proofs.KeyLaws.{both, exact_bytes, exact_keys}
 use Rattle.som_model.proofs.NamedLaws.{held_named, kernel_named}
-use Rattle.som_laws.proofs.Members.{find_first, mem_right, mem_split, some_mem}
+use Rattle.som_laws.proofs.Members.{mem_split}
 use Rattle.som_laws.proofs.Laws.{ancestors as ancestors_are, implementation_above, implementation_body, implementation_exists}
-use Rattle.som_hierarchy.specs.Owning.{Owns}
-use Rattle.som_hierarchy.proofs.Lists.{find_mem, get_mem, map_mem}
-use Rattle.som_hierarchy.proofs.Standing.{falls, found, found_is, keyed, named_layer, parents_known, tells}
+use Rattle.som_hierarchy.proofs.Lists.{find_mem, get_mem}
+use Rattle.som_hierarchy.proofs.Standing.{falls, found_is, keyed, parents_known, tells}
 use Rattle.som_hierarchy.proofs.Owners.{entry_class, owner_owns, owner_stays, moved_to}
 use Rattle.som_releases.proofs.Facing.{demanded, demanded_of, tested, tests}
 use Rattle.som_releases.proofs.Facts.{introduced_entry}
 use Rattle.som_releases.proofs.Inheriting.{s10_says}
 use Rattle.som_releases.proofs.OneOwner.{ref_one}
-use Rattle.som_releases.proofs.Lists.{flat_at, none_left}
+use Rattle.som_releases.proofs.Lists.{none_left}
 use Rattle.som_releases.proofs.Prefix.{signature_entry}
 
 pub one_method : (r s : MethodRef) → same_method r s ≡ true → r ≡ s

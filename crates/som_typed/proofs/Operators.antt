@@ -1,10 +1,9 @@
 -- Operators take the operands that typing gives them, and answer values of the type that it says.
-use Rattle.std.proofs.Common.{◌≡◌, ◌==◌, ℕ, zero, suc, ℤ, ◌⊎◌, inl, inr, Bool, true, false, ◌&&◌, ◌||◌, if◌then◌else◌, nat_lt, nat_le, ◌≤◌, arith, List, [], ◌∷◌, Ok, Err, refl, sym, ap, ◌∙◌, subst, true≢false}
+use Rattle.std.proofs.Common.{◌≡◌, ◌==◌, ℕ, zero, suc, ℤ, ◌⊎◌, inl, inr, Bool, true, false, ◌&&◌, ◌||◌, if◌then◌else◌, nat_lt, nat_le, ◌≤◌, arith, List, Ok, Err, refl, sym, ap, ◌∙◌, subst, true≢false}
 use Rattle.std.specs.Prelude.{pos, negsuc, neg_ℤ, int_div, int_rem, ◌+ℤ◌, ◌-ℤ◌, ◌*ℤ◌, length, ◌++◌}
 use Rattle.som_model.specs.declared.key.ClassKey.{ClassKey}
 use Rattle.som_model.specs.declared.key.ValueType.{ValueType}
 use Rattle.som_model.specs.declared.key.ValueType.TheVariants as types
-use Rattle.som_model.specs.declared.syntax.HostCode.{HostCode}
 use Rattle.som_model.specs.declared.program.Fault.{Fault}
 use Rattle.som_model.specs.declared.program.Fault.TheVariants as faults
 use Rattle.som_model.specs.declared.limits.TheConstants.{MAX_TEXT}
@@ -18,8 +17,7 @@ use Rattle.som_model.specs.Expressions.{either, is_true}
 use Rattle.som_model.specs.Typing.{ExprType, Of, Typed, gives, needs, unary_type, binary_type}
 use Rattle.som_model.specs.Typing as typing
 use Rattle.som_model.proofs.KeyLaws.{both}
-use Rattle.som_typed.specs.Values.{has_type, is_long, is_boolean, is_text, is_object, are_of_one_kind, has_text, unary_takes, binary_takes}
-use Rattle.som_typed.specs.Heaps.{AreTyped}
+use Rattle.som_typed.specs.Values.{has_type, is_long, is_boolean, is_text, is_object, are_of_one_kind, unary_takes, binary_takes}
 use Rattle.som_typed.specs.Preserving.{IsOf}
 use Rattle.som_typed.proofs.Heaps.{type_later}
 use Rattle.som_typed.proofs.Keeping.{Answers, Keeps, bind_keeps, pure_keeps, tried_keeps, if_keeps, weaker_keeps}

@@ -1,39 +1,34 @@
 -- Typed code keeps the objects typed, among classes that can be loaded.
-use Rattle.std.proofs.Common.{◌≡◌, ℕ, Bool, true, ◌&&◌, List, ◌++◌, Option, Some, None, IsSome, Ok, refl, sym, ap, ◌∙◌, subst}
-use Rattle.std.specs.Prelude.{is_some}
+use Rattle.std.proofs.Common.{◌≡◌, ℕ, Bool, true, List, ◌++◌, Option, Some, None, IsSome, refl, sym, ap, ◌∙◌, subst}
 use Rattle.som_model.specs.declared.key.ClassKey.{ClassKey}
 use Rattle.som_model.specs.declared.key.MethodRef.{MethodRef}
 use Rattle.som_model.specs.declared.key.ValueType.TheVariants as types
-use Rattle.som_model.specs.declared.syntax.Expr.{Expr}
-use Rattle.som_model.specs.declared.syntax.Stmt.{Stmt}
 use Rattle.som_model.specs.declared.syntax.Block.{Block}
 use Rattle.som_model.specs.Lists.{Mem}
 use Rattle.som_model.specs.Resolution.{byname}
 use Rattle.som_model.specs.Ancestors.{anc}
 use Rattle.som_model.specs.Class.{Class}
 use Rattle.som_model.specs.Kernel.{kernel}
-use Rattle.som_model.specs.Classes.{class_at, hierarchy}
+use Rattle.som_model.specs.Classes.{hierarchy}
 use Rattle.som_model.specs.Owner.{introduces}
 use Rattle.som_model.specs.World.{World, world}
-use Rattle.som_model.specs.State.{Value, Nil, Long, Boolean, Str, To, Ref, Heap, State}
+use Rattle.som_model.specs.State.{Value, Nil, Long, Boolean, Str, To, Ref, Heap}
 use Rattle.som_model.specs.Runs.{Act, end_of}
 use Rattle.som_model.specs.Acts.{pure, later_self}
-use Rattle.som_model.specs.Calls.{Calls, Here, class_here}
-use Rattle.som_model.specs.Expressions.{Frame}
+use Rattle.som_model.specs.Calls.{Here}
 use Rattle.som_model.specs.Means.{calls, means_in}
-use Rattle.som_model.specs.Typing.{ClassFacts, CodePlace, ExprType, expr_type, running_facts}
-use Rattle.som_model.specs.TypedBlocks.{Scope, block_scope, stmt_scope}
-use Rattle.som_model.specs.Loads.{IsOrdered, Loads}
+use Rattle.som_model.specs.Typing.{ClassFacts, expr_type}
+use Rattle.som_model.specs.TypedBlocks.{block_scope, stmt_scope}
+use Rattle.som_model.specs.Loads.{Loads}
 use Rattle.som_model.proofs.KeyLaws.{both}
 use Rattle.som_laws.proofs.Members.{mem_right}
 use Rattle.som_hierarchy.proofs.Lists.{find_mem}
 use Rattle.som_hierarchy.proofs.Standing.{found}
 use Rattle.som_typed.specs.Values.{has_type, is_reference}
 use Rattle.som_typed.specs.Heaps.{AreTyped}
-use Rattle.som_typed.specs.Checks.{stands}
 use Rattle.som_typed.specs.Checked.{checked_calls, checked_in}
-use Rattle.som_typed.specs.Preserving.{Begins, BlocksKeepTypes, ExpressionsKeepTypes, IsInPlace, StatementsKeepTypes}
-use Rattle.som_typed.proofs.Facts.{InClass, IsClass, facts_of}
+use Rattle.som_typed.specs.Preserving.{BlocksKeepTypes, ExpressionsKeepTypes, IsInPlace, StatementsKeepTypes}
+use Rattle.som_typed.proofs.Facts.{InClass, IsClass}
 use Rattle.som_typed.proofs.Expressions.{expr_keeps}
 use Rattle.som_typed.proofs.Statements.{block_keeps, stmt_keeps}
 use Rattle.som_typed.proofs.Runs.{all_calls_keep, checked_means, objects_typed}

@@ -1,10 +1,9 @@
 -- Calls at each level and main keep the objects well typed, and no test in them fails.
-use Rattle.std.proofs.Common.{◌≡◌, ℕ, zero, suc, ◌⊎◌, inl, inr, Bool, true, false, not, ◌&&◌, if◌then◌else◌, List, [], ◌∷◌, ◌++◌, reverse, Option, Some, None, Ok, refl, sym, ap, ◌∙◌, subst, true≢false}
+use Rattle.std.proofs.Common.{◌≡◌, ℕ, zero, suc, ◌⊎◌, inl, inr, Bool, true, false, not, ◌&&◌, if◌then◌else◌, List, [], ◌∷◌, reverse, Option, Some, None, Ok, refl, sym, ap, subst, true≢false}
 use mathlib.Core.List.{reverse_aux}
 use Rattle.std.specs.Prelude.{is_some}
 use Rattle.som_model.specs.declared.key.ClassKey.{ClassKey}
 use Rattle.som_model.specs.declared.key.MethodRef.{MethodRef}
-use Rattle.som_model.specs.declared.key.ValueType.{ValueType}
 use Rattle.som_model.specs.declared.key.ValueType.TheVariants as types
 use Rattle.som_model.specs.declared.syntax.Block.{Block}
 use Rattle.som_model.specs.declared.class.Sig.{Sig}
@@ -14,7 +13,7 @@ use Rattle.som_model.specs.Lists.{Mem}
 use Rattle.som_model.specs.Kernel.{som_object, an_object, before_method, after_method}
 use Rattle.som_model.specs.Implementation.{Held, is_kernel}
 use Rattle.som_model.specs.World.{World}
-use Rattle.som_model.specs.State.{Value, Str, Nil, To, Ref, ClassObject, Heap, State, InMain, Manner, Before, After, Called, class_of}
+use Rattle.som_model.specs.State.{Value, Str, Nil, To, Ref, ClassObject, Heap, InMain, Manner, Before, After, Called, class_of}
 use Rattle.som_model.specs.Runs.{Ran, Goes, Ends, Act, IsLater, end_of}
 use Rattle.som_model.specs.Acts.{◌>>=◌, ◌>>◌, pure, fault, take_unit, emit, reading, later_self, later_on}
 use Rattle.som_model.specs.Calls.{Calls, Request, Here}
@@ -30,9 +29,9 @@ use Rattle.som_typed.specs.Heaps.{AreTyped}
 use Rattle.som_typed.specs.Preserving.{FlowHas, Leaves}
 use Rattle.som_typed.specs.Checks.{stands, is_below, has_method, can_run}
 use Rattle.som_typed.specs.Checked.{is_returned, check, checked_value, checked_block, body_checked, invoke_checked, held_checked, in_checked, hook_checked, hooks_checked, bodies_checked, checked_calls, checked_main, checked_in}
-use Rattle.som_typed.proofs.Keeping.{Any, Keeps, bind_keeps, pure_keeps, fault_keeps, emit_keeps, unit_keeps, reading_keeps, weaker_keeps, check_keeps, value_keeps}
-use Rattle.som_typed.proofs.Heaps.{both_true, type_later, types_later, class_later, nothing_typed}
-use Rattle.som_typed.proofs.Facts.{IsSound, IsAnswered, facts_of, sig}
+use Rattle.som_typed.proofs.Keeping.{Any, Keeps, bind_keeps, pure_keeps, fault_keeps, emit_keeps, unit_keeps, reading_keeps, check_keeps, value_keeps}
+use Rattle.som_typed.proofs.Heaps.{both_true, type_later, types_later, nothing_typed}
+use Rattle.som_typed.proofs.Facts.{IsSound, facts_of, sig}
 use Rattle.som_typed.proofs.Values.{an_object_is, there_object}
 use Rattle.som_typed.proofs.Calls.{Has, AtParent, CallsKeep}
 use Rattle.som_typed.proofs.Statements.{block_keeps}

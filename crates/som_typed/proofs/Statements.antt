@@ -1,6 +1,6 @@
 -- Statements and blocks that are well typed keep the objects and the locals typed, and no test in them fails.
-use Rattle.std.proofs.Common.{◌≡◌, ℕ, zero, suc, inl, inr, Bool, true, false, not, ◌&&◌, if◌then◌else◌, List, [], ◌∷◌, ◌++◌, length, map, Option, Some, None, slice_get, Ok, Err, refl, sym, ap, ◌∙◌, subst, true≢false, append-nil, append_assoc}
-use Rattle.std.specs.Prelude.{is_some, slice_set, take}
+use Rattle.std.proofs.Common.{◌≡◌, ℕ, zero, suc, Bool, true, false, not, ◌&&◌, if◌then◌else◌, List, [], ◌∷◌, ◌++◌, length, map, Some, slice_get, Ok, Err, refl, sym, ap, ◌∙◌, subst, true≢false, append-nil, append_assoc}
+use Rattle.std.specs.Prelude.{is_some, slice_set}
 use Rattle.som_model.specs.declared.key.ClassKey.{ClassKey}
 use Rattle.som_model.specs.declared.key.ValueType.{ValueType}
 use Rattle.som_model.specs.declared.key.ValueType.TheVariants as types
@@ -11,11 +11,10 @@ use Rattle.som_model.specs.declared.syntax.Block.{Block, roll-Block, map-Block, 
 use Rattle.som_model.specs.declared.program.Fault.TheVariants as faults
 use Rattle.som_model.specs.Steps.{◌>>=◌}
 use Rattle.som_model.specs.Blocks.{is_call}
-use Rattle.som_model.specs.Class.{Class}
 use Rattle.som_model.specs.Kernel.{som_free, an_object}
 use Rattle.som_model.specs.Rules.{is_void}
 use Rattle.som_model.specs.World.{World}
-use Rattle.som_model.specs.State.{Value, Long, Boolean, Str, Nil, To, Ref, Heap, Place, Offset, Printed, Tried, is_live, live, write}
+use Rattle.som_model.specs.State.{Value, Long, Boolean, Str, Nil, To, Ref, Heap, Place, Offset, Printed, Tried, live, write}
 use Rattle.som_model.specs.Runs.{Act, IsLater}
 use Rattle.som_model.specs.Acts.{pure, fault, asked, take_unit, become, write_stays, emit, later_on}
 use Rattle.som_model.specs.Acts as acts
@@ -23,7 +22,7 @@ use Rattle.som_model.specs.Values.{text_of}
 use Rattle.som_model.specs.Calls.{Calls, Here, class_here, offset_call}
 use Rattle.som_model.specs.Expressions.{Frame, Evals, eval, is_true}
 use Rattle.som_model.specs.Statements.{Flow, Next, Return, Returned, Runs, go_on, assign, print_value, turn, turns, turns_grown, while_loop, all_of, leave, block_step, stmt_step, exec, run_block}
-use Rattle.som_model.specs.Typing.{ClassFacts, CodePlace, ExprType, Of, Ruled, Typed, needs, there, is_nothing, is_boolean, is_class, has_text, kind_is_known, fits, own_variable, value, expr_type}
+use Rattle.som_model.specs.Typing.{ClassFacts, CodePlace, ExprType, Of, needs, there, is_nothing, is_boolean, is_class, has_text, kind_is_known, fits, own_variable, value, expr_type}
 use Rattle.som_model.specs.TypedBlocks.{Scope, Scoped, var_scope, local_set, variable_set, value_return, stmt_scope, block_scope, in_turn}
 use Rattle.som_model.specs.TypedBlocks as typing
 use Rattle.som_model.proofs.KeyLaws.{both}
@@ -178,12 +177,14 @@ module _ (w : World) (known : ClassKey → Bool) (sound : IsSound w known) (othe
   var_keeps kind e scope after h =
       let q = went (value (expr_type F at scope e)) (var_scope F scope kind) after h in
       let k = met 16 (kind_is_known F kind) (needs 17 (fits F kind q.value) (Ok (scope ++ kind ∷ []))) after q.further in
-      let f = met 17 (fits F kind q.value) (Ok (scope ++ kind ∷ [])) after k.1 in
-      ((kind ∷ [], sym (same_answer f.1)), λ g frame i a.
-      bind_keeps w g (IsOf w q.value) (FlowHas w at.result after) (λ v. pure (Next (frame ++ v ∷ []))) (λ v. pure (Next (frame ++ v ∷ [])))
-      (λ v l le ty j. pure_keeps w l (FlowHas w at.result after) (Next (frame ++ v ∷ [])) (λ o lo to. subst (λ z. have_types w o z (frame ++ v ∷ []) ≡ true) (same_answer f.1)
-      (one_more w o scope frame kind v (types_later w g o (later_on g l o le lo) scope frame a) (type_later w l o lo kind v (fitting w known sound l kind q.value v f.0 j)))))
-      (E e frame) (such_that otherwise (λ v h. has_type w h kind v) (C e) frame) (tested scope e q.value (λ v h. has_type w h kind v) q.first g frame i a (λ v l le ty j. fitting w known sound l kind q.value v f.0 j)))
+      let f = met 17 (fits F kind q.value) (Ok (scope ++ kind ∷ [])) after k.1 in (
+        (kind ∷ [], sym (same_answer f.1)),
+        λ g frame i a.
+            bind_keeps w g (IsOf w q.value) (FlowHas w at.result after) (λ v. pure (Next (frame ++ v ∷ []))) (λ v. pure (Next (frame ++ v ∷ [])))
+            (λ v l le ty j. pure_keeps w l (FlowHas w at.result after) (Next (frame ++ v ∷ [])) (λ o lo to. subst (λ z. have_types w o z (frame ++ v ∷ []) ≡ true) (same_answer f.1)
+            (one_more w o scope frame kind v (types_later w g o (later_on g l o le lo) scope frame a) (type_later w l o lo kind v (fitting w known sound l kind q.value v f.0 j)))))
+            (E e frame) (such_that otherwise (λ v h. has_type w h kind v) (C e) frame) (tested scope e q.value (λ v h. has_type w h kind v) q.first g frame i a (λ v l le ty j. fitting w known sound l kind q.value v f.0 j)),
+      )
 
   local_keeps : (n : ℕ) (e : Expr) (scope after : Scope) → (value (expr_type F at scope e) >>= local_set F scope n) ≡ Ok after
       → Extends scope after × RunKeeps scope after (λ frame. acts.◌>>=◌ (E e frame) (λ v. pure (Next (slice_set frame n v)))) (λ frame. acts.◌>>=◌ (such_that otherwise (λ v h. is_some (slice_get frame n)) (C e) frame) (λ v. pure (Next (slice_set frame n v))))
@@ -191,12 +192,14 @@ module _ (w : World) (known : ClassKey → Bool) (sound : IsSound w known) (othe
       let q = went (value (expr_type F at scope e)) (local_set F scope n) after h in
       let k = went (there 16 (slice_get scope n)) (λ kind. needs 17 (fits F kind q.value) (Ok scope)) after q.further in
       let is : slice_get scope n ≡ Some k.value = found 16 (slice_get scope n) k.value k.first in
-      let f = met 17 (fits F k.value q.value) (Ok scope) after k.further in
-      (same_scope scope after (same_answer f.1), λ g frame i a.
-      bind_keeps w g (IsOf w q.value) (FlowHas w at.result after) (λ v. pure (Next (slice_set frame n v))) (λ v. pure (Next (slice_set frame n v)))
-      (λ v l le ty j. pure_keeps w l (FlowHas w at.result after) (Next (slice_set frame n v)) (λ o lo to. subst (λ z. have_types w o z (slice_set frame n v) ≡ true) (same_answer f.1)
-      (one_set w o scope frame n k.value v (types_later w g o (later_on g l o le lo) scope frame a) is (type_later w l o lo k.value v (fitting w known sound l k.value q.value v f.0 j)))))
-      (E e frame) (such_that otherwise (λ v h. is_some (slice_get frame n)) (C e) frame) (tested scope e q.value (λ v h. is_some (slice_get frame n)) q.first g frame i a (λ v l le ty j. ap is_some (value_at w g scope frame n k.value a is).1)))
+      let f = met 17 (fits F k.value q.value) (Ok scope) after k.further in (
+        same_scope scope after (same_answer f.1),
+        λ g frame i a.
+            bind_keeps w g (IsOf w q.value) (FlowHas w at.result after) (λ v. pure (Next (slice_set frame n v))) (λ v. pure (Next (slice_set frame n v)))
+            (λ v l le ty j. pure_keeps w l (FlowHas w at.result after) (Next (slice_set frame n v)) (λ o lo to. subst (λ z. have_types w o z (slice_set frame n v) ≡ true) (same_answer f.1)
+            (one_set w o scope frame n k.value v (types_later w g o (later_on g l o le lo) scope frame a) is (type_later w l o lo k.value v (fitting w known sound l k.value q.value v f.0 j)))))
+            (E e frame) (such_that otherwise (λ v h. is_some (slice_get frame n)) (C e) frame) (tested scope e q.value (λ v h. is_some (slice_get frame n)) q.first g frame i a (λ v l le ty j. ap is_some (value_at w g scope frame n k.value a is).1)),
+      )
 
   variable_keeps : (n : ℕ) (e : Expr) (scope after : Scope) → (value (expr_type F at scope e) >>= variable_set F at scope n) ≡ Ok after
       → Extends scope after × RunKeeps scope after (λ frame. acts.◌>>=◌ (E e frame) (λ v. acts.◌>>◌ (assign here.place (class_here here) n here.me v) (pure (Next frame))))
@@ -206,16 +209,18 @@ module _ (w : World) (known : ClassKey → Bool) (sound : IsSound w known) (othe
       let k = went (own_variable at n) (λ kind. needs 17 (fits F kind q.value) (Ok scope)) after q.further in
       let is = found 16 (kind_in at.class n) k.value k.first in
       let f = met 17 (fits F k.value q.value) (Ok scope) after k.further in
-      let test : Value → Heap → Bool = λ v h. has_slot w (class_here here) n here.me h && has_type w h (w.variable (class_here here) n) v in
-      (same_scope scope after (same_answer f.1), λ g frame i a.
-      let slot : (l : Heap) → IsLater g l → (has_slot w (class_here here) n here.me l ≡ true) × (w.variable (class_here here) n ≡ k.value) = λ l le. slot_in w l at.class here n k.value is (in_later w g l at.class here le i) in
-      let typed : (l : Heap) (v : Value) → IsLater g l → IsOf w q.value v l → has_type w l (w.variable (class_here here) n) v ≡ true = λ l v le j. subst (λ z. has_type w l z v ≡ true) (sym (slot l le).1) (fitting w known sound l k.value q.value v f.0 j) in
-      bind_keeps w g (IsOf w q.value) (FlowHas w at.result after) (λ v. acts.◌>>◌ (assign here.place (class_here here) n here.me v) (pure (Next frame))) (λ v. acts.◌>>◌ (assign here.place (class_here here) n here.me v) (pure (Next frame)))
-      (λ v l le ty j. bind_keeps w l (Any w) (FlowHas w at.result after) (λ x. pure (Next frame)) (λ x. pure (Next frame))
-      (λ x o lo to u. pure_keeps w o (FlowHas w at.result after) (Next frame) (λ p lp tp. subst (λ z. have_types w p z frame ≡ true) (same_answer f.1) (types_later w g p (later_on g l p le (later_on l o p lo lp)) scope frame a)))
-      (assign here.place (class_here here) n here.me v) (assign here.place (class_here here) n here.me v) (assign_keeps w l here.place (class_here here) n here.me v (typed l v le j)))
-      (E e frame) (such_that otherwise test (C e) frame)
-      (tested scope e q.value test q.first g frame i a (λ v l le ty j. both_true (has_slot w (class_here here) n here.me l) (has_type w l (w.variable (class_here here) n) v) (slot l le).0 (typed l v le j))))
+      let test : Value → Heap → Bool = λ v h. has_slot w (class_here here) n here.me h && has_type w h (w.variable (class_here here) n) v in (
+        same_scope scope after (same_answer f.1),
+        λ g frame i a.
+            let slot : (l : Heap) → IsLater g l → (has_slot w (class_here here) n here.me l ≡ true) × (w.variable (class_here here) n ≡ k.value) = λ l le. slot_in w l at.class here n k.value is (in_later w g l at.class here le i) in
+            let typed : (l : Heap) (v : Value) → IsLater g l → IsOf w q.value v l → has_type w l (w.variable (class_here here) n) v ≡ true = λ l v le j. subst (λ z. has_type w l z v ≡ true) (sym (slot l le).1) (fitting w known sound l k.value q.value v f.0 j) in
+            bind_keeps w g (IsOf w q.value) (FlowHas w at.result after) (λ v. acts.◌>>◌ (assign here.place (class_here here) n here.me v) (pure (Next frame))) (λ v. acts.◌>>◌ (assign here.place (class_here here) n here.me v) (pure (Next frame)))
+            (λ v l le ty j. bind_keeps w l (Any w) (FlowHas w at.result after) (λ x. pure (Next frame)) (λ x. pure (Next frame))
+            (λ x o lo to u. pure_keeps w o (FlowHas w at.result after) (Next frame) (λ p lp tp. subst (λ z. have_types w p z frame ≡ true) (same_answer f.1) (types_later w g p (later_on g l p le (later_on l o p lo lp)) scope frame a)))
+            (assign here.place (class_here here) n here.me v) (assign here.place (class_here here) n here.me v) (assign_keeps w l here.place (class_here here) n here.me v (typed l v le j)))
+            (E e frame) (such_that otherwise test (C e) frame)
+            (tested scope e q.value test q.first g frame i a (λ v l le ty j. both_true (has_slot w (class_here here) n here.me l) (has_type w l (w.variable (class_here here) n) v) (slot l le).0 (typed l v le j))),
+      )
 
   -- a condition, whose value is a boolean
   condition : (scope : Scope) (e : Expr) (t : ExprType) → value (expr_type F at scope e) ≡ Ok t → is_boolean t ≡ true → (h : Heap) (frame : Frame) → InClass w at.class here h → have_types w h scope frame ≡ true
@@ -231,70 +236,82 @@ module _ (w : World) (known : ClassKey → Bool) (sound : IsSound w known) (othe
       let q = went (value (expr_type F at scope e)) (λ t. B x.0 scope >>= λ _. B y.0 scope >>= λ _. needs 17 (is_boolean t) (Ok scope)) after h in
       let p = went (B x.0 scope) (λ _. B y.0 scope >>= λ _. needs 17 (is_boolean q.value) (Ok scope)) after q.further in
       let u = went (B y.0 scope) (λ _. needs 17 (is_boolean q.value) (Ok scope)) after p.further in
-      let f = met 17 (is_boolean q.value) (Ok scope) after u.further in
-      (same_scope scope after (same_answer f.1), λ g frame i a.
-      bind_keeps w g (Any w) (FlowHas w at.result after) (λ v. if is_true v then R x.0 frame else R y.0 frame) (λ v. if is_true v then RC x.0 frame else RC y.0 frame)
-      (λ v l le ty j. subst (λ z. Keeps w l (if is_true v then R x.0 frame else R y.0 frame) (if is_true v then RC x.0 frame else RC y.0 frame) (FlowHas w at.result z)) (same_answer f.1)
-      (if_keeps w l (FlowHas w at.result scope) (is_true v) (R x.0 frame) (R y.0 frame) (RC x.0 frame) (RC y.0 frame)
-      (x.1 scope p.value p.first l frame (in_later w g l at.class here le i) (types_later w g l le scope frame a)) (y.1 scope u.value u.first l frame (in_later w g l at.class here le i) (types_later w g l le scope frame a))))
-      (E e frame) (such_that otherwise (λ v h. values.is_boolean v) (C e) frame) (condition scope e q.value q.first f.0 g frame i a))
+      let f = met 17 (is_boolean q.value) (Ok scope) after u.further in (
+        same_scope scope after (same_answer f.1),
+        λ g frame i a.
+            bind_keeps w g (Any w) (FlowHas w at.result after) (λ v. if is_true v then R x.0 frame else R y.0 frame) (λ v. if is_true v then RC x.0 frame else RC y.0 frame)
+            (λ v l le ty j. subst (λ z. Keeps w l (if is_true v then R x.0 frame else R y.0 frame) (if is_true v then RC x.0 frame else RC y.0 frame) (FlowHas w at.result z)) (same_answer f.1)
+            (if_keeps w l (FlowHas w at.result scope) (is_true v) (R x.0 frame) (R y.0 frame) (RC x.0 frame) (RC y.0 frame)
+            (x.1 scope p.value p.first l frame (in_later w g l at.class here le i) (types_later w g l le scope frame a)) (y.1 scope u.value u.first l frame (in_later w g l at.class here le i) (types_later w g l le scope frame a))))
+            (E e frame) (such_that otherwise (λ v h. values.is_boolean v) (C e) frame) (condition scope e q.value q.first f.0 g frame i a),
+      )
 
   while_form : (e : Expr) (x : KeptBlock) (scope after : Scope) → (value (expr_type F at scope e) >>= λ t. B x.0 scope >>= λ _. needs 17 (is_boolean t) (Ok scope)) ≡ Ok after
       → Extends scope after × RunKeeps scope after (while_loop (E e) (R x.0)) (while_loop (such_that otherwise (λ v h. values.is_boolean v) (C e)) (RC x.0))
   while_form e x scope after h =
       let q = went (value (expr_type F at scope e)) (λ t. B x.0 scope >>= λ _. needs 17 (is_boolean t) (Ok scope)) after h in
       let p = went (B x.0 scope) (λ _. needs 17 (is_boolean q.value) (Ok scope)) after q.further in
-      let f = met 17 (is_boolean q.value) (Ok scope) after p.further in
-      (same_scope scope after (same_answer f.1), λ g frame i a.
-      subst (λ z. Keeps w g (while_loop (E e) (R x.0) frame) (while_loop (such_that otherwise (λ v h. values.is_boolean v) (C e)) (RC x.0) frame) (FlowHas w at.result z)) (same_answer f.1)
-      (loop_keeps scope (E e) (such_that otherwise (λ v h. values.is_boolean v) (C e)) (R x.0) (RC x.0) (condition scope e q.value q.first f.0) (x.1 scope p.value p.first) g frame i a))
+      let f = met 17 (is_boolean q.value) (Ok scope) after p.further in (
+        same_scope scope after (same_answer f.1),
+        λ g frame i a.
+            subst (λ z. Keeps w g (while_loop (E e) (R x.0) frame) (while_loop (such_that otherwise (λ v h. values.is_boolean v) (C e)) (RC x.0) frame) (FlowHas w at.result z)) (same_answer f.1)
+            (loop_keeps scope (E e) (such_that otherwise (λ v h. values.is_boolean v) (C e)) (R x.0) (RC x.0) (condition scope e q.value q.first f.0) (x.1 scope p.value p.first) g frame i a),
+      )
 
   value_form : (e : Expr) (scope after : Scope) → (value (expr_type F at scope e) >>= value_return F at scope) ≡ Ok after
       → Extends scope after × RunKeeps scope after (λ frame. acts.◌>>=◌ (E e frame) (λ v. pure (Returned v))) (λ frame. acts.◌>>=◌ (C e frame) (λ v. pure (Returned v)))
   value_form e scope after h =
       let q = went (value (expr_type F at scope e)) (value_return F at scope) after h in
       let f = met 19 (not (is_nothing (Of at.result)) && fits F at.result q.value) (Ok scope) after q.further in
-      let b = both (not (is_nothing (Of at.result))) (fits F at.result q.value) f.0 in
-      (same_scope scope after (same_answer f.1), λ g frame i a.
-      bind_keeps w g (IsOf w q.value) (FlowHas w at.result after) (λ v. pure (Returned v)) (λ v. pure (Returned v))
-      (λ v l le ty j. pure_keeps w l (FlowHas w at.result after) (Returned v) (λ o lo to. (type_later w l o lo at.result v (fitting w known sound l at.result q.value v b.1 j), not_void at.result b.0)))
-      (E e frame) (C e frame) (part_keeps w known sound otherwise call checked keep here at scope e (expr_keeps w known sound otherwise call checked keep here at scope e) q.value q.first g frame i a))
+      let b = both (not (is_nothing (Of at.result))) (fits F at.result q.value) f.0 in (
+        same_scope scope after (same_answer f.1),
+        λ g frame i a.
+            bind_keeps w g (IsOf w q.value) (FlowHas w at.result after) (λ v. pure (Returned v)) (λ v. pure (Returned v))
+            (λ v l le ty j. pure_keeps w l (FlowHas w at.result after) (Returned v) (λ o lo to. (type_later w l o lo at.result v (fitting w known sound l at.result q.value v b.1 j), not_void at.result b.0)))
+            (E e frame) (C e frame) (part_keeps w known sound otherwise call checked keep here at scope e (expr_keeps w known sound otherwise call checked keep here at scope e) q.value q.first g frame i a),
+      )
 
   print_form : (e : Expr) (scope after : Scope) → (value (expr_type F at scope e) >>= λ t. needs 17 (has_text t) (Ok scope)) ≡ Ok after
       → Extends scope after × RunKeeps scope after (λ frame. acts.◌>>=◌ (E e frame) (λ v. acts.◌>>◌ (print_value v) (pure (Next frame)))) (λ frame. acts.◌>>=◌ (such_that otherwise (λ v h. values.has_text v) (C e) frame) (λ v. acts.◌>>◌ (print_value v) (pure (Next frame))))
   print_form e scope after h =
       let q = went (value (expr_type F at scope e)) (λ t. needs 17 (has_text t) (Ok scope)) after h in
-      let f = met 17 (has_text q.value) (Ok scope) after q.further in
-      (same_scope scope after (same_answer f.1), λ g frame i a.
-      bind_keeps w g (IsOf w q.value) (FlowHas w at.result after) (λ v. acts.◌>>◌ (print_value v) (pure (Next frame))) (λ v. acts.◌>>◌ (print_value v) (pure (Next frame)))
-      (λ v l le ty j. bind_keeps w l (Any w) (FlowHas w at.result after) (λ x. pure (Next frame)) (λ x. pure (Next frame))
-      (λ x o lo to u. pure_keeps w o (FlowHas w at.result after) (Next frame) (λ p lp tp. subst (λ z. have_types w p z frame ≡ true) (same_answer f.1) (types_later w g p (later_on g l p le (later_on l o p lo lp)) scope frame a)))
-      (print_value v) (print_value v) (emit_keeps w l (Printed (text_of v))))
-      (E e frame) (such_that otherwise (λ v h. values.has_text v) (C e) frame) (tested scope e q.value (λ v h. values.has_text v) q.first g frame i a (λ v l le ty j. of_printed w known sound l q.value v f.0 j)))
+      let f = met 17 (has_text q.value) (Ok scope) after q.further in (
+        same_scope scope after (same_answer f.1),
+        λ g frame i a.
+            bind_keeps w g (IsOf w q.value) (FlowHas w at.result after) (λ v. acts.◌>>◌ (print_value v) (pure (Next frame))) (λ v. acts.◌>>◌ (print_value v) (pure (Next frame)))
+            (λ v l le ty j. bind_keeps w l (Any w) (FlowHas w at.result after) (λ x. pure (Next frame)) (λ x. pure (Next frame))
+            (λ x o lo to u. pure_keeps w o (FlowHas w at.result after) (Next frame) (λ p lp tp. subst (λ z. have_types w p z frame ≡ true) (same_answer f.1) (types_later w g p (later_on g l p le (later_on l o p lo lp)) scope frame a)))
+            (print_value v) (print_value v) (emit_keeps w l (Printed (text_of v))))
+            (E e frame) (such_that otherwise (λ v h. values.has_text v) (C e) frame) (tested scope e q.value (λ v h. values.has_text v) q.first g frame i a (λ v l le ty j. of_printed w known sound l q.value v f.0 j)),
+      )
 
   free_form : (e : Expr) (scope after : Scope) → (value (expr_type F at scope e) >>= λ t. needs 17 (is_class t) (Ok scope)) ≡ Ok after
       → Extends scope after × RunKeeps scope after (λ frame. acts.◌>>=◌ (E e frame) (λ v. acts.◌>>◌ (offset_call w call here.place Offset som_free v []) (pure (Next frame))))
       (λ frame. acts.◌>>=◌ (such_that otherwise (λ v h. has_type w h an_object v) (C e) frame) (λ v. acts.◌>>◌ (offset_call w checked here.place Offset som_free v []) (pure (Next frame))))
   free_form e scope after h =
       let q = went (value (expr_type F at scope e)) (λ t. needs 17 (is_class t) (Ok scope)) after h in
-      let f = met 17 (is_class q.value) (Ok scope) after q.further in
-      (same_scope scope after (same_answer f.1), λ g frame i a.
-      bind_keeps w g (IsOf w q.value) (FlowHas w at.result after) (λ v. acts.◌>>◌ (offset_call w call here.place Offset som_free v []) (pure (Next frame))) (λ v. acts.◌>>◌ (offset_call w checked here.place Offset som_free v []) (pure (Next frame)))
-      (λ v l le ty j. bind_keeps w l (Has w types.Void) (FlowHas w at.result after) (λ x. pure (Next frame)) (λ x. pure (Next frame))
-      (λ x o lo to u. pure_keeps w o (FlowHas w at.result after) (Next frame) (λ p lp tp. subst (λ z. have_types w p z frame ≡ true) (same_answer f.1) (types_later w g p (later_on g l p le (later_on l o p lo lp)) scope frame a)))
-      (offset_call w call here.place Offset som_free v []) (offset_call w checked here.place Offset som_free v [])
-      (own_keeps w known sound call checked keep l here.place Offset som_free v [] _ sound.free (receiving w known sound l q.value v ty f.0 j) refl))
-      (E e frame) (such_that otherwise (λ v h. has_type w h an_object v) (C e) frame) (tested scope e q.value (λ v h. has_type w h an_object v) q.first g frame i a (λ v l le ty j. receiving w known sound l q.value v ty f.0 j)))
+      let f = met 17 (is_class q.value) (Ok scope) after q.further in (
+        same_scope scope after (same_answer f.1),
+        λ g frame i a.
+            bind_keeps w g (IsOf w q.value) (FlowHas w at.result after) (λ v. acts.◌>>◌ (offset_call w call here.place Offset som_free v []) (pure (Next frame))) (λ v. acts.◌>>◌ (offset_call w checked here.place Offset som_free v []) (pure (Next frame)))
+            (λ v l le ty j. bind_keeps w l (Has w types.Void) (FlowHas w at.result after) (λ x. pure (Next frame)) (λ x. pure (Next frame))
+            (λ x o lo to u. pure_keeps w o (FlowHas w at.result after) (Next frame) (λ p lp tp. subst (λ z. have_types w p z frame ≡ true) (same_answer f.1) (types_later w g p (later_on g l p le (later_on l o p lo lp)) scope frame a)))
+            (offset_call w call here.place Offset som_free v []) (offset_call w checked here.place Offset som_free v [])
+            (own_keeps w known sound call checked keep l here.place Offset som_free v [] _ sound.free (receiving w known sound l q.value v ty f.0 j) refl))
+            (E e frame) (such_that otherwise (λ v h. has_type w h an_object v) (C e) frame) (tested scope e q.value (λ v h. has_type w h an_object v) q.first g frame i a (λ v l le ty j. receiving w known sound l q.value v ty f.0 j)),
+      )
 
   call_form : (e : Expr) (scope after : Scope) → (expr_type F at scope e >>= λ t. needs 20 (is_call e) (Ok scope)) ≡ Ok after
       → Extends scope after × RunKeeps scope after (λ frame. acts.◌>>=◌ (E e frame) (λ v. pure (Next frame))) (λ frame. acts.◌>>=◌ (C e frame) (λ v. pure (Next frame)))
   call_form e scope after h =
       let q = went (expr_type F at scope e) (λ t. needs 20 (is_call e) (Ok scope)) after h in
-      let f = met 20 (is_call e) (Ok scope) after q.further in
-      (same_scope scope after (same_answer f.1), λ g frame i a.
-      bind_keeps w g (IsOf w q.value) (FlowHas w at.result after) (λ v. pure (Next frame)) (λ v. pure (Next frame))
-      (λ v l le ty j. pure_keeps w l (FlowHas w at.result after) (Next frame) (λ o lo to. subst (λ z. have_types w o z frame ≡ true) (same_answer f.1) (types_later w g o (later_on g l o le lo) scope frame a)))
-      (E e frame) (C e frame) (expr_keeps w known sound otherwise call checked keep here at scope e q.value q.first g frame i a))
+      let f = met 20 (is_call e) (Ok scope) after q.further in (
+        same_scope scope after (same_answer f.1),
+        λ g frame i a.
+            bind_keeps w g (IsOf w q.value) (FlowHas w at.result after) (λ v. pure (Next frame)) (λ v. pure (Next frame))
+            (λ v l le ty j. pure_keeps w l (FlowHas w at.result after) (Next frame) (λ o lo to. subst (λ z. have_types w o z frame ≡ true) (same_answer f.1) (types_later w g o (later_on g l o le lo) scope frame a)))
+            (E e frame) (C e frame) (expr_keeps w known sound otherwise call checked keep here at scope e q.value q.first g frame i a),
+      )
 
   return_form : (scope after : Scope) → typing.plain_return at scope ≡ Ok after → Extends scope after × RunKeeps scope after (λ frame. pure Return) (λ frame. pure Return)
   return_form scope after h =
@@ -323,11 +340,13 @@ module _ (w : World) (known : ClassKey → Bool) (sound : IsSound w known) (othe
   all_keep (k ∷ ks) scope after h =
       let q = went (S k.0 scope) (in_turn (map S (stmts ks))) after h in
       let one = k.1 scope q.value q.first in
-      let rest = all_keep ks q.value after q.further in
-      ((one.0.0 ++ rest.0.0, rest.0.1 ∙ ap (λ z. z ++ rest.0.0) one.0.1 ∙ append_assoc scope one.0.0 rest.0.0), λ g frame i a.
-      bind_keeps w g (FlowHas w at.result q.value) (FlowHas w at.result after) (λ flow. go_on flow (all_of (map X (stmts ks)))) (λ flow. go_on flow (all_of (map XC (stmts ks))))
-      (λ flow l le ty f. go_on_keeps w l at.result q.value after flow (all_of (map X (stmts ks))) (all_of (map XC (stmts ks))) f (λ b e. rest.1 l b (in_later w g l at.class here le i) e))
-      (X k.0 frame) (XC k.0 frame) (one.1 g frame i a))
+      let rest = all_keep ks q.value after q.further in (
+        (one.0.0 ++ rest.0.0, rest.0.1 ∙ ap (λ z. z ++ rest.0.0) one.0.1 ∙ append_assoc scope one.0.0 rest.0.0),
+        λ g frame i a.
+            bind_keeps w g (FlowHas w at.result q.value) (FlowHas w at.result after) (λ flow. go_on flow (all_of (map X (stmts ks)))) (λ flow. go_on flow (all_of (map XC (stmts ks))))
+            (λ flow l le ty f. go_on_keeps w l at.result q.value after flow (all_of (map X (stmts ks))) (all_of (map XC (stmts ks))) f (λ b e. rest.1 l b (in_later w g l at.class here le i) e))
+            (X k.0 frame) (XC k.0 frame) (one.1 g frame i a),
+      )
 
   block_layer : (y : Block-F Kept KeptBlock) (scope after : Scope) → typing.block_step (map-Block Stmt Block Scoped Scoped S B (bare_block y)) scope ≡ Ok after
       → RunKeeps scope scope (block_step (map-Block Stmt Block Runs Runs X R (bare_block y))) (block_step (map-Block Stmt Block Runs Runs XC RC (bare_block y)))
@@ -339,10 +358,12 @@ module _ (w : World) (known : ClassKey → Bool) (sound : IsSound w known) (othe
 
   stmt_rolled : (y : Stmt-F Kept KeptBlock) → StmtKeeps (roll-Stmt (bare y))
   stmt_rolled y scope after h =
-      let k = layer y scope after (sym (ap (λ (f : Scoped). f scope) (fold-roll-Stmt Scoped Scoped (typing.stmt_step F at) typing.block_step (bare y))) ∙ h) in
-      (k.0, λ g frame i a. subst (λ (f : Runs). Keeps w g (f frame) (XC (roll-Stmt (bare y)) frame) (FlowHas w at.result after)) (sym (fold-roll-Stmt Runs Runs (stmt_step w call here) block_step (bare y)))
-      (subst (λ (f : Runs). Keeps w g (stmt_step w call here (map-Stmt Stmt Block Runs Runs X R (bare y)) frame) (f frame) (FlowHas w at.result after)) (sym (fold-roll-Stmt Runs Runs (stmt_checked otherwise w checked here) block_step (bare y)))
-      (k.1 g frame i a)))
+      let k = layer y scope after (sym (ap (λ (f : Scoped). f scope) (fold-roll-Stmt Scoped Scoped (typing.stmt_step F at) typing.block_step (bare y))) ∙ h) in (
+        k.0,
+        λ g frame i a. subst (λ (f : Runs). Keeps w g (f frame) (XC (roll-Stmt (bare y)) frame) (FlowHas w at.result after)) (sym (fold-roll-Stmt Runs Runs (stmt_step w call here) block_step (bare y)))
+            (subst (λ (f : Runs). Keeps w g (stmt_step w call here (map-Stmt Stmt Block Runs Runs X R (bare y)) frame) (f frame) (FlowHas w at.result after)) (sym (fold-roll-Stmt Runs Runs (stmt_checked otherwise w checked here) block_step (bare y)))
+            (k.1 g frame i a)),
+      )
 
   block_rolled : (y : Block-F Kept KeptBlock) → BlockKeeps (roll-Block (bare_block y))
   block_rolled y scope after h g frame i a =

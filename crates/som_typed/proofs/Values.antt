@@ -1,24 +1,21 @@
 -- Values by the types of expressions: what fits a type is of it, and operators take what they are given.
-use Rattle.std.proofs.Common.{◌≡◌, ◌==◌, ℕ, zero, suc, ◌⊎◌, inl, inr, Bool, true, false, ◌&&◌, ◌||◌, if◌then◌else◌, nat_lt, List, [], ◌∷◌, ◌++◌, length, Option, Some, None, slice_get, Ok, Err, refl, sym, ap, ◌∙◌, subst, arith, true≢false}
-use Rattle.std.specs.Prelude.{slice_set, is_some, take}
+use Rattle.std.proofs.Common.{◌≡◌, ℕ, zero, suc, Bool, true, List, [], ◌∷◌, ◌++◌, length, Option, Some, None, slice_get, refl, sym, ap, ◌∙◌, subst, arith, true≢false}
+use Rattle.std.specs.Prelude.{slice_set, take}
 use Rattle.som_model.specs.declared.key.ClassKey.{ClassKey}
 use Rattle.som_model.specs.declared.key.ValueType.{ValueType}
 use Rattle.som_model.specs.declared.key.ValueType.TheVariants as types
-use Rattle.som_model.specs.Keys.{same_key}
 use Rattle.som_model.specs.Same.{same_type}
-use Rattle.som_model.specs.Kernel.{som_object, som_class, som_class_mgr, an_object}
+use Rattle.som_model.specs.Kernel.{som_object, som_class, an_object}
 use Rattle.som_model.specs.World.{World}
 use Rattle.som_model.specs.State.{Value, Long, Boolean, Str, Nil, To, Ref, Object, ClassObject, Manager, Heap, Instance, class_of}
 use Rattle.som_model.specs.Typing.{ExprType, Of, PlainNil, Typed, gives, needs, descends_to, fits, all_fit, is_nothing, is_class, unary_type, binary_type}
 use Rattle.som_model.specs.Typing as typing
 use Rattle.som_model.proofs.KeyLaws.{both, exact_keys}
-use Rattle.som_typed.specs.Values.{is_there, has_type, have_types, is_long, is_boolean, is_text, has_text, is_reference, takes, unary_takes, binary_takes}
+use Rattle.som_typed.specs.Values.{is_there, has_type, have_types, has_text}
 use Rattle.som_typed.specs.Heaps.{AreTyped}
 use Rattle.som_typed.specs.Preserving.{IsOf}
 use Rattle.som_typed.proofs.Heaps.{both_true, some_is}
 use Rattle.som_typed.proofs.Facts.{IsSound, facts_of}
-use Rattle.som_typed.proofs.Steps.{met, same_answer}
-
 
 -- types that are one
 pub one_type : (s t : ValueType) → same_type s t ≡ true → s ≡ t

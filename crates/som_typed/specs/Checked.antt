@@ -3,7 +3,6 @@
 use Rattle.std.specs.Prelude.{ℕ, zero, suc, Bool, true, false, not, List, [], ◌∷◌, ◌++◌, map, reverse, Option, Some, None, is_some, if◌then◌else◌, slice_get, slice_set, ◌&&◌}
 use Rattle.som_model.specs.declared.key.ClassKey.{ClassKey}
 use Rattle.som_model.specs.declared.key.MethodRef.{MethodRef}
-use Rattle.som_model.specs.declared.key.ValueType.TheVariants as types
 use Rattle.som_model.specs.declared.syntax.Expr.{Expr, fold-Expr}
 use Rattle.som_model.specs.declared.syntax.Expr.TheOpen.{Expr-F}
 use Rattle.som_model.specs.declared.syntax.Stmt.{Stmt, fold-Stmt}
@@ -52,7 +51,7 @@ module _ (otherwise : Act (Unit {0})) where
     -- ---- expressions: the same steps, whose parts have values that the steps take
 
     module _ (call : Calls) (here : Here) where
-
+      -- an expression, by what its parts do: what it names is there, and its parts have values that it takes
       abbrev pub expr_checked : Expr-F Evals → Evals
       expr_checked (Expr-F.Local n) frame = check (λ h. is_some (slice_get frame n)) >> expr_step w call here (Expr-F.Local n) frame
       expr_checked Expr-F.Me frame = check (stands w (class_here here) here.me) >> expr_step w call here Expr-F.Me frame
@@ -76,11 +75,13 @@ module _ (otherwise : Act (Unit {0})) where
       expr_checked (Expr-F.Host code a b) frame = expr_step w call here (Expr-F.Host code (such_that (λ v h. is_long v) a) (such_that (λ v h. is_long v) b)) frame
       expr_checked y frame = expr_step w call here y frame
 
+      -- what an expression does, with all tests in it
       abbrev pub checked_eval : Expr → Evals
       checked_eval = fold-Expr Evals expr_checked
 
       -- ---- statements
 
+      -- a statement, by what its blocks do: what is put into a local or a variable is of its type, and what is asked, printed or freed can be
       abbrev pub stmt_checked : Stmt-F Runs Runs → Runs
       stmt_checked (Stmt-F.Var kind e) frame = do
         v ← such_that (λ v h. has_type w h kind v) (checked_eval e) frame
@@ -112,6 +113,7 @@ module _ (otherwise : Act (Unit {0})) where
         v ← checked_eval e frame
         pure (Next frame)
 
+      -- what a statement and a block do, with all tests in them
       abbrev pub checked_exec : Stmt → Runs
       checked_exec = fold-Stmt Runs Runs stmt_checked block_step
 
@@ -121,6 +123,7 @@ module _ (otherwise : Act (Unit {0})) where
     -- ---- bodies
 
     module _ (call : Calls) where
+      -- what a body does: its variable has a slot, its row is in the kernel's table, its target is there
       abbrev pub body_checked : Held → ClassKey → MethodRef → Ref → List Value → Act Value
       body_checked (held.User block) x method self args = do
         flow ← checked_block call (record { me = To self; place = InBody x method.name }) block args
@@ -132,7 +135,7 @@ module _ (otherwise : Act (Unit {0})) where
       body_checked held.Forward x method self args = check (has_target w method self) >> body_does w call held.Forward x method self args
       body_checked held.Nothing x method self args = body_does w call held.Nothing x method self args
 
-      -- one body is invoked, on a self and with arguments as they have to be, and its answer is of the result's type
+      -- one body is invoked, on a self in place and with arguments of the right types, and its answer is of the result's type
       abbrev pub invoke_checked : Manner → MethodRef → ClassKey → Held → Ref → List Value → Act Value
       invoke_checked way method x body self args = do
         check (can_run w method x self args)
@@ -140,23 +143,27 @@ module _ (otherwise : Act (Unit {0})) where
         emit (Called method way x)
         checked_value (λ v h. is_result w h (w.sig method) v) (body_checked body x method self args)
 
-      -- there is a body for the method of each call
+      -- the class that answers a call has a body for its method
       abbrev pub held_checked : Manner → MethodRef → ClassKey → Option Held → Ref → List Value → Act Value
       held_checked way method x None self args = otherwise >> pure Nil
       held_checked way method x (Some body) self args = invoke_checked way method x body self args
 
+      -- there is a class that answers
       abbrev pub in_checked : Manner → MethodRef → Option ClassKey → Ref → List Value → Act Value
       in_checked way method None self args = otherwise >> pure Nil
       in_checked way method (Some x) self args = held_checked way method x (w.held x method) self args
 
+      -- a hook may have no body for one of the two methods
       abbrev pub hook_checked : Manner → MethodRef → ClassKey → Option Held → Ref → List Value → Act (Unit {0})
       hook_checked way method x None self args = pure tt
       hook_checked way method x (Some body) self args = invoke_checked way method x body self args >> pure tt
 
+      -- the hooks, one after the other
       abbrev pub hooks_checked : Manner → MethodRef → List ClassKey → Ref → List Value → Act (Unit {0})
       hooks_checked way method [] self args = pure tt
       hooks_checked way method (k ∷ ks) self args = hook_checked way method k (w.held k method) self args >> hooks_checked way method ks self args
 
+      -- the bodies of a call: before, the method's, and after in reverse order
       abbrev pub bodies_checked : ClassKey → Request → Act Value
       bodies_checked x q =
           let seen : List Value = To q.self ∷ Str q.method.name ∷ [] in do
@@ -165,7 +172,7 @@ module _ (otherwise : Act (Unit {0})) where
             hooks_checked After after_method (reverse (hooks_of w x q)) (ClassObject x) seen
             pure v
 
-    -- a call, of a method that self has
+    -- a call, of a method that self has, where so many levels are left
     unfoldable pub checked_calls : ℕ → Calls
     checked_calls zero q = check (has_method w q) >> fault faults.Depth q.from
     checked_calls (suc levels) q = check (has_method w q) >> reading (λ h. bodies_checked (checked_calls levels) (class_of w h q.self) q)

@@ -1,5 +1,5 @@
 -- What the steps of a run take for granted, as tests.
-use Rattle.std.specs.Prelude.{ℕ, Bool, true, false, not, ◌&&◌, if◌then◌else◌, List, [], ◌∷◌, codes, Option, Some, None, is_some, slice_get}
+use Rattle.std.specs.Prelude.{ℕ, Bool, true, false, not, ◌&&◌, List, [], ◌∷◌, Option, Some, None, is_some, slice_get}
 use Rattle.std.specs.Str.{bytes_eq}
 use Rattle.som_model.specs.declared.key.ClassKey.{ClassKey}
 use Rattle.som_model.specs.declared.key.MethodRef.{MethodRef}
@@ -9,10 +9,10 @@ use Rattle.som_model.specs.Lists.{some}
 use Rattle.som_model.specs.Kernel.{som_object, a_class}
 use Rattle.som_model.specs.Rules.{is_void}
 use Rattle.som_model.specs.World.{World}
-use Rattle.som_model.specs.State.{Value, To, Ref, Object, Heap, class_of, target_of}
+use Rattle.som_model.specs.State.{Value, To, Ref, Object, Heap, target_of}
 use Rattle.som_model.specs.Calls.{Request, Here, class_here}
-use Rattle.som_model.specs.Invoked.{Asking, GetClass, GetClassName, IsA, IsInstanceOf, RespondsTo, DispatchName, GetName, DescendedFrom, SupportsMethod, CheckVersion, KernelBody, Idle, Free, New, NewNoInit, FindClass, Asks, table, kernel_body}
-use Rattle.som_typed.specs.Values.{is_there, has_type, have_types, are_arguments, is_reference}
+use Rattle.som_model.specs.Invoked.{IsA, IsInstanceOf, RespondsTo, DispatchName, DescendedFrom, SupportsMethod, CheckVersion, KernelBody, Idle, FindClass, Asks, table, kernel_body}
+use Rattle.som_typed.specs.Values.{has_type, have_types, are_arguments, is_reference}
 
 -- there is the class, or what it is made of
 abbrev pub is_class : World → ClassKey → Heap → Bool
