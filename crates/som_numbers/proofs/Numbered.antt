@@ -1,5 +1,5 @@
 -- What the numbers of classes keep, and the positions of the declared ones.
-use Rattle.std.proofs.Common.{◌≡◌, ℕ, zero, suc, ◌+◌, ◌<◌, ◌≤◌, ◌==◌, inl, inr, List, [], ◌∷◌, ◌++◌, length, map, drop, take, get_or, max, slice_get, Some, refl, sym, ap, ◌∙◌, subst, arith, slice_index_or}
+use Rattle.std.proofs.Common.{◌≡◌, ℕ, zero, suc, ◌+◌, ◌<◌, ◌≤◌, ◌==◌, inl, inr, List, [], ◌∷◌, ◌++◌, length, map, drop, take, get_or, max, slice_get, Some, refl, sym, ap, ◌∙◌, subst, arith, length-append, slice_index_or}
 use Rattle.std.proofs.lemmas.Bool.{cases_lt}
 use Rattle.std.proofs.lemmas.List.{take_more}
 use Rattle.som_model.specs.declared.key.ClassKey.{ClassKey}
@@ -17,10 +17,10 @@ use Rattle.som_numbers.specs.declared.position.Kind.TheVariants as kinds
 use Rattle.som_numbers.specs.declared.position.Position.{Position}
 use Rattle.som_numbers.specs.Classes.{AreDeclared, class_of, classes_of}
 use Rattle.som_numbers.specs.Positions.{AreMarked, IsMade, IsNext, lists, rank_list}
-use Rattle.som_numbers.specs.Numbers.{ArePlaced, IsNumbers, at, keys_by, keys_with}
+use Rattle.som_numbers.specs.Numbers.{AreFirst, ArePlaced, IsNumbers, at, keys_by, keys_with, position_key}
 use Rattle.som_numbers.proofs.Items.{get_mem}
-use Rattle.som_numbers.proofs.Declaring.{class_get, classes_length, falls, keyed, keys_length, numbers_apart, parent_lower, ranked, tells}
-use Rattle.som_numbers.proofs.Placing.{ancestors_keyed, ancestors_low, descends_numbered, list_get, map_push, placed_next, row_get}
+use Rattle.som_numbers.proofs.Declaring.{class_get, classes_length, falls, key_is, keyed, keys_length, numbers_apart, parent_lower, ranked, tells}
+use Rattle.som_numbers.proofs.Placing.{ancestors_keyed, ancestors_low, at_left, descends_numbered, list_get, map_push, placed_next, row_get}
 
 -- one more number
 
@@ -80,6 +80,12 @@ greatest_all f (n ∷ ns) zero r whole le e = absurd (omega (arith, le))
 greatest_all f (n ∷ ns) (suc i) r whole le e = greatest_all f ns i r whole (omega (arith, le)) e
 
 -- what the numbers keep
+
+pub keys_front : (ks : List ClassKey) (ps : List Position) (n : ℕ) → n < length ks → at (keys_with ks ps) n ≡ at ks n
+keys_front ks [] n lt = refl
+keys_front ks (p ∷ ps) n lt =
+    let more : n < length (ks ++ position_key ks p ∷ []) = omega (arith, lt, length-append ks (position_key ks p ∷ [])) in
+    keys_front (ks ++ position_key ks p ∷ []) ps n more ∙ at_left ks (position_key ks p ∷ []) n lt
 
 pub keys_declared : (cs : List Class) (ps : List Position) → length ps ≡ length cs → keys_by cs ps ≡ keys_of cs
 keys_declared cs ps e = ap (keys_with (keys_of cs)) (drop_all ps (length cs) e)
@@ -161,3 +167,23 @@ not_made_next ps kind parents first i p is other none n le lt made = elim (cases
 pub not_made : (ps : List Position) (kind : Kind) (parents : List ℕ) (first i : ℕ) → length ps ≤ i
     → ((n : ℕ) → first ≤ n → n < i → IsMade ps kind parents n → ⊥) → (n : ℕ) → first ≤ n → IsMade ps kind parents n → ⊥
 not_made ps kind parents first i past none n le made = none n le (let w = get_within ps n made.position made.there in omega (arith, w, past)) made
+
+-- the declared classes have the first numbers
+module _ (kl : List Keyed) (ps : List Position) (ok : IsNumbers (classes_of kl) ps) where
+  pub few_declared : length kl < 4294967296
+  few_declared = (let a = ok.first in let b = ok.few in omega (arith, a, b, classes_length kl))
+
+  pub declared_key : (n : ℕ) → n < length kl → at (keys_by (classes_of kl) ps) n ≡ at (keys_of (classes_of kl)) n
+  declared_key n lt = keys_front (keys_of (classes_of kl)) (drop (length (classes_of kl)) ps) n (omega (arith, lt, keys_length (classes_of kl), classes_length kl))
+
+  pub declared_numbered : (n : ℕ) → n < length kl → n < length (keys_by (classes_of kl) ps)
+  declared_numbered n lt = (let a = ok.first in let b = ok.each in omega (arith, a, b, lt, classes_length kl))
+
+  pub class_key : (n : ℕ) (k : Keyed) → n < length kl → slice_get kl n ≡ Some k → at (keys_by (classes_of kl) ps) n ≡ k.key
+  class_key n k lt is = declared_key n lt ∙ key_is (classes_of kl) n (class_of k) (class_get kl n k is)
+
+  pub are_first : AreFirst (record { classes = classes_of kl; keys = keys_by (classes_of kl) ps })
+  are_first = record {
+    numbered = λ n c is. (let a = ok.first in let b = ok.each in let w = get_within (classes_of kl) n c is in omega (arith, a, b, w));
+    key = λ n c is. (let w = get_within (classes_of kl) n c is in let lt : n < length kl = omega (arith, w, classes_length kl) in declared_key n lt ∙ key_is (classes_of kl) n c is);
+  }

@@ -10,7 +10,7 @@ use Rattle.som_model.specs.Kernel.{som_object}
 use Rattle.som_model.specs.Loads.{keys_of}
 use Rattle.som_model.specs.Metaclass.{rank}
 use Rattle.som_rules.specs.Walk.{AreAncestors, AreMarks, AreLow}
-use Rattle.som_meta.specs.Numbering.{AreApart, Numbering}
+use Rattle.som_meta.specs.Numbering.{AreApart, IsNumbered, Numbering, key_at}
 use Rattle.som_numbers.specs.declared.keyed.Keyed.{Keyed}
 use Rattle.som_numbers.specs.declared.position.Kind.{Kind}
 use Rattle.som_numbers.specs.declared.position.Kind.TheVariants as kinds
@@ -71,3 +71,8 @@ pub record IsNumbers (cs : List Class) (ps : List Position) : Type 0 where
 -- the same, where the class of a key has a number: its own, or the one that comes next
 unfoldable pub with_key : Numbering → ClassKey → Numbering
 with_key k key = if some (same_key key) k.keys then k else record { classes = k.classes; keys = k.keys ++ key ∷ [] }
+
+-- the declared classes have the first numbers
+pub record AreFirst (k : Numbering) : Type 0 where
+  pub numbered : (n : ℕ) (c : Class) → slice_get k.classes n ≡ Some c → IsNumbered k n
+  pub key : (n : ℕ) (c : Class) → slice_get k.classes n ≡ Some c → key_at k n ≡ c.key

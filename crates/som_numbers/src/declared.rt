@@ -14,7 +14,7 @@ use std::alloc::Global;
 
 /// The number of a declared class, which is its place.
 pub(crate) fn number_of(classes: &[Keyed], key: &ClassKey) -> ClassNo
-    requires few { length classes.now ≤ MAX_LAID_CLASSES + 4 }
+    requires few { length classes.now < 4294967296 }
     requires known { Mem key.now (keys_of (classes_of classes.now)) }
     ensures within { result < length classes.now }
     ensures key { at (keys_of (classes_of classes.now)) result ≡ key.now }

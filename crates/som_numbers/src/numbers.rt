@@ -5,11 +5,11 @@ ghost use Rattle.som_model.specs.Loads.{keys_of};
 ghost use Rattle.som_model.specs.Metaclass.{rank as rank_of};
 ghost use Rattle.som_model.specs.declared.limits.TheConstants.{MAX_LAID_CLASSES};
 ghost use Rattle.som_numbers.specs.Classes.{AreDeclared, class_of, classes_of};
-ghost use Rattle.som_numbers.specs.Numbers.{made_key, with_key};
+ghost use Rattle.som_numbers.specs.Numbers.{AreFirst, made_key, with_key};
 ghost use Rattle.som_numbers.specs.declared.position.Kind.TheVariants as kinds;
 ghost use Rattle.std.specs.Prelude.{◌≡◌, ◌≢◌, ◌+◌, ◌<◌, ◌≤◌, ◌++◌, ◌∷◌, [], ℕ, IfNone, IfOk, IfSome, OnErr, OnOk, Some, length, map, slice_get};
 
-use crate::declared::declared_positions;
+use crate::declared::{declared_positions, number_of};
 use crate::keyed::{Keyed, class_at};
 use crate::made::{greatest_rank, made_number};
 use crate::position::{Kind, Position, is_marked, next_position, position_of};
@@ -99,10 +99,29 @@ impl Numbers {
         position_of(self.positions.as_slice(), class).rank
     }
 
+    /// How many classes are declared, the kernel's among them. They have the first numbers.
+    pub fn declared_count(&self) -> u32
+        ensures count { result ≡ length self.now.classes }
+        ensures first { AreFirst self.now }
+    {
+        self.classes.len() as u32
+    }
+
+    /// The number of a declared class.
+    pub fn number_of(&self, key: &ClassKey) -> ClassNo
+        requires { Mem key.now (keys_of self.now.classes) }
+        ensures declared { result < length self.now.classes }
+        ensures key { key_at self.now result ≡ key.now }
+    {
+        number_of(self.classes.as_slice(), key)
+    }
+
     /// A declared class.
     pub fn declared(&self, class: ClassNo) -> &Keyed
         requires { class < length self.now.classes }
-        ensures { slice_get self.now.classes class ≡ Some (class_of result.now) }
+        ensures class { slice_get self.now.classes class ≡ Some (class_of result.now) }
+        ensures numbered { IsNumbered self.now class }
+        ensures key { key_at self.now class ≡ result.now.key }
     {
         class_at(self.classes.as_slice(), class)
     }
