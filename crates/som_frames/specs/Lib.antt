@@ -1,0 +1,4 @@
+pub mod Frames
+pub mod Passed
+pub mod Step
+pub mod Sources
