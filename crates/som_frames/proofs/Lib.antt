@@ -3,3 +3,8 @@ pub mod Answered
 pub mod Bodies
 pub mod Coded
 pub mod Called
+pub mod Task
+pub mod Calm
+pub mod Lighter
+pub mod Plain
+pub mod Steps

@@ -2,3 +2,6 @@ pub mod Frames
 pub mod Passed
 pub mod Step
 pub mod Sources
+pub mod Stands
+pub mod Weight
+pub mod Counts
