@@ -17,7 +17,8 @@ use Rattle.som_frames.specs.Frames.{Now, Running, Calling, Invoking, Answering, 
 use Rattle.som_frames.specs.Passed.{passes_offset, passes_named, passes_parent, own_self}
 use Rattle.som_frames.specs.Step.{Step, frames, go, makes, next_parent, resume, step}
 use Rattle.som_frames.specs.Sources.{Laying}
-use Rattle.som_frames.proofs.Comes.{Comes, comes_same, comes_trans, comes_step}
+use Rattle.som_frames.proofs.Comes.{comes_same, comes_trans, comes_step}
+use Rattle.som_frames.specs.Comes.{Comes}
 
 module _ (w : World) (laid : Laying) where
   abbrev pub Come : Ran (After Frames (Unit {0})) → Ran (After Frames (Unit {0})) → Type 0

@@ -129,4 +129,4 @@ module _ (w : World) (laid : Laying) (l : ℕ) (matched : Matched w laid l) wher
   pub blocks_answered : IsLaid w laid → (x : ClassKey) (r : MethodRef) (block : Block) (i : Invocation) (ks : List Waiting) → w.held x r ≡ Some (User block)
       → Answered w laid (begins w laid i (User block) l ks) ks (body_does w call (User block) i.class i.method i.self i.args)
   blocks_answered ok x r block i ks e = record { by = λ s.
-      body_comes (record { me = To i.self; place = InBody i.class i.method.name }) (result_zero (w.sig i.method)) (laid block (length i.args)) ks block i.args (ok.by x r block (length i.args) e).effect s }
+      body_comes (record { me = To i.self; place = InBody i.class i.method.name }) (result_zero (w.sig i.method)) (laid block (length i.args)) ks block i.args (ok.by x r block (length i.args) e) s }

@@ -7,17 +7,11 @@ use Rattle.som_model.specs.Implementation.{User}
 use Rattle.som_model.specs.World.{World}
 use Rattle.som_code.specs.declared.instruction.Instruction.{Instruction}
 use Rattle.som_code.specs.Same.{HasEffect}
-use Rattle.som_code.specs.Sound.{IsSound}
 
 -- the code of a block as a body of so many parameters
 abbrev pub Laying : Type 0
 Laying = Block → ℕ → List Instruction
 
--- the code of a block has its effect, and control doesn't leave it
-pub record IsCodeOf (code : List Instruction) (block : Block) (params : ℕ) : Type 0 where
-  pub effect : HasEffect code block params
-  pub sound : IsSound code
-
--- so is the code of each block that a class holds, with any number of parameters
+-- the code of each block that a class holds has the block's effect, with any number of parameters
 pub record IsLaid (w : World) (laid : Laying) : Type 0 where
-  pub by : (x : ClassKey) (r : MethodRef) (block : Block) (params : ℕ) → w.held x r ≡ Some (User block) → IsCodeOf (laid block params) block params
+  pub by : (x : ClassKey) (r : MethodRef) (block : Block) (params : ℕ) → w.held x r ≡ Some (User block) → HasEffect (laid block params) block params
