@@ -16,14 +16,14 @@ use Rattle.som_code.specs.Effect.{Conf, conf, on, top, below, plain, push, with_
 use Rattle.som_code.specs.Effect as flat
 use Rattle.som_code.specs.Sound.{is_turn, is_led}
 use Rattle.som_frames.specs.Weight.{room}
-use Rattle.som_frames.proofs.Calm.{Calm, calm_pure, calm_tried, calm_asked, calm_printed, calm_used, calm_make, calm_assign, calm_bind, Steady, steady_on, steady_over, steady_bind, Takes, takes_calm, takes_then, takes_asked}
+use Rattle.som_frames.proofs.Calm.{Calm, calm_more, calm_after, calm_pure, calm_tried, calm_asked, calm_printed, calm_used, calm_make, calm_assign, calm_bind, Steady, steady_on, steady_over, steady_bind, Takes, takes_calm, takes_then, takes_asked}
 use Rattle.som_frames.proofs.Lighter.{room_next, jump_room, unless_room}
 
 module _ (w : World) (here : Here) (zero_value : Value) (code : List Instruction) (p : ℕ) where
   abbrev pub Nearer : Conf → Type 0
   Nearer c = room code c.at < room code p
 
-  steady_push : (i : Instruction) → slice_get code p ≡ Some i → is_turn (Some i) ≡ false → (m : Act Value) → Calm m → (st : List Value) (fr : Frame) → Steady Nearer (push m p st fr)
+  steady_push : (i : Instruction) → slice_get code p ≡ Some i → is_turn (Some i) ≡ false → (m : Act Value) → Calm 0 m → (st : List Value) (fr : Frame) → Steady Nearer (push m p st fr)
   steady_push i is other m c st fr = steady_bind Nearer m (λ v. on (p + 1) (v ∷ st) fr) c (λ v. steady_on Nearer (conf (p + 1) (v ∷ st) fr) (room_next code p i is other))
 
   -- it goes on to the next instruction
@@ -43,7 +43,7 @@ module _ (w : World) (here : Here) (zero_value : Value) (code : List Instruction
   proxy_takes k v =
       let made : Act Value = make w (keys.Proxy k) v >>= λ r. emit (Used (keys.Proxy k)) >>= λ _. pure (To r) in
       takes_asked here.place (λ _. take_unit >>= λ _. made) (λ _. takes_calm made
-        (calm_bind (make w (keys.Proxy k) v) (λ r. emit (Used (keys.Proxy k)) >>= λ _. pure (To r)) (calm_make w (keys.Proxy k) v)
+        (calm_after (make w (keys.Proxy k) v) (λ r. emit (Used (keys.Proxy k)) >>= λ _. pure (To r)) (calm_make w (keys.Proxy k) v)
           (λ r. calm_bind (emit (Used (keys.Proxy k))) (λ _. pure (To r)) (calm_used (keys.Proxy k)) (λ _. calm_pure (To r))))) (λ h. receiver h v)
 
   pub plain_steady : (i : Instruction) → slice_get code p ≡ Some i → is_led code p i ≡ true → IsSteady i
@@ -58,7 +58,7 @@ module _ (w : World) (here : Here) (zero_value : Value) (code : List Instruction
   plain_steady (ops.Binary op) is led = steady (λ st fr. steady_push (ops.Binary op) is refl (tried here.place (binary (binary_op op) (top (below st)) (top st))) (calm_tried here.place (binary (binary_op op) (top (below st)) (top st))) (below (below st)) fr)
   plain_steady (ops.Jump k) is led = steady (λ st fr. steady_on Nearer (conf k st fr) (jump_room code p k is led))
   plain_steady (ops.Unless k) is led = steady (λ st fr. unless_steady k is led (is_true (top st)) (below st) fr)
-  plain_steady ops.Turn is led = takes (λ st fr. takes_calm (on (p + 1) st fr) (calm_pure (On (conf (p + 1) st fr))))
+  plain_steady ops.Turn is led = takes (λ st fr. takes_calm (on (p + 1) st fr) (calm_more (on (p + 1) st fr) (calm_pure (On (conf (p + 1) st fr)))))
   plain_steady (ops.Class k) is led = steady (λ st fr. steady_push (ops.Class k) is refl (class_object k) (calm_bind (emit (Used k)) (λ _. pure (To (ClassObject k))) (calm_used k) (λ _. calm_pure (To (ClassObject k)))) st fr)
   plain_steady ops.Manager is led = steady (λ st fr. steady_next ops.Manager is refl (To Manager ∷ st) fr)
   plain_steady (ops.Cast k) is led = steady (λ st fr. steady_push (ops.Cast k) is refl (asked here.place (λ h. cast w k h (top st))) (calm_asked here.place (λ h. cast w k h (top st))) (below st) fr)

@@ -28,7 +28,7 @@ use Rattle.som_frames.specs.Step.{Step, frames, go, makes, waits, free_begins, n
 use Rattle.som_frames.specs.Sources.{Laying}
 use Rattle.som_frames.specs.Weight.{room, cost, body_weight, now_weight, waiting_weight, all_weight, weight, IsNowSound}
 use Rattle.som_frames.specs.Counts.{invokes}
-use Rattle.som_frames.proofs.Calm.{Calm, calm_pure, calm_fault, calm_tried, calm_asked, calm_reading, calm_used, calm_become, calm_make, calm_assign, calm_bind, Steady, steady_on, steady_over, steady_fault, steady_bind, Takes, takes_call, takes_then, Fine, fine_steady, fine_takes}
+use Rattle.som_frames.proofs.Calm.{Calm, calm_pure, calm_fault, calm_tried, calm_asked, calm_reading, calm_used, calm_freed, calm_make, calm_more, calm_before, calm_after, calm_assign, calm_bind, Steady, steady_on, steady_over, steady_fault, steady_bind, Takes, takes_call, takes_then, Fine, fine_steady, fine_takes}
 use Rattle.som_frames.proofs.Lighter.{less_by_cost, room_next}
 use Rattle.som_frames.proofs.Plain.{Nearer, IsSteady, steady, takes, plain_steady}
 
@@ -82,7 +82,7 @@ module _ (w : World) where
   resume_steady (ForInit r) v ks = steady_on _ (frames (Answering (To r)) ks) (omega arith)
   resume_steady (ForUninit at r) v ks =
       steady_bind (Below (1 + all_weight w ks)) (asked at (λ h. live h r)) (λ _. become (freed r) (freed_stays r) >>= λ _. go (Answering Nil) ks) (calm_asked at (λ h. live h r))
-      (λ _. steady_bind (Below (1 + all_weight w ks)) (become (freed r) (freed_stays r)) (λ _. go (Answering Nil) ks) (calm_become (freed r) (freed_stays r)) (λ _. steady_on _ (frames (Answering Nil) ks) (omega arith)))
+      (λ _. steady_bind (Below (1 + all_weight w ks)) (become (freed r) (freed_stays r)) (λ _. go (Answering Nil) ks) (calm_freed r) (λ _. steady_on _ (frames (Answering Nil) ks) (omega arith)))
   resume_steady (ForName l at wanted on args) v ks = named_steady (Below (3 + all_weight w ks)) w (makes l ks) (makes_steady (3 + all_weight w ks) l ks (omega arith)) at Dispatch wanted (text_of v) on args
   resume_steady (ForParent l from ps method args) v ks = parents_steady (3 * length ps + 1 + all_weight w ks) l from method args ks ps (omega arith)
 
@@ -168,53 +168,57 @@ module _ (w : World) where
   any_makes l ks q = steady_on Any (frames (Calling l q) ks) (tt {0})
 
   module _ (l : ℕ) (at : Place) (self : Ref) (ks : List Waiting) where
-    free_calm : (r : Ref) → Calm (free_begins w l at self ks r)
+    free_calm : (r : Ref) → Calm 0 (free_begins w l at self ks r)
     free_calm (Object i) = (offset_steady Any w (makes l (ForUninit at self ∷ ks)) (any_makes l (ForUninit at self ∷ ks)) at Offset som_uninit (To self) []).calm
     free_calm (ClassObject k) = calm_fault faults.ClassFree at
     free_calm Manager = calm_fault faults.ClassFree at
 
-    new_calm : Calm (new_begins w l at self ks)
+    new_calm : Calm 1 (new_begins w l at self ks)
     new_calm =
         let begun : Ref → Step = λ r. passes_offset w (makes l (ForInit r ∷ ks)) at Offset som_init (To r) [] in
-        calm_bind (tried at (stands_for self)) (λ k. make w k Nil >>= begun) (calm_tried at (stands_for self))
-        (λ k. calm_bind (make w k Nil) begun (calm_make w k Nil)
+        calm_before (tried at (stands_for self)) (λ k. make w k Nil >>= begun) (calm_tried at (stands_for self))
+        (λ k. calm_after (make w k Nil) begun (calm_make w k Nil)
         (λ r. (offset_steady Any w (makes l (ForInit r ∷ ks)) (any_makes l (ForInit r ∷ ks)) at Offset som_init (To r) []).calm))
 
-    new_no_init_calm : Calm (new_no_init_begins w l at self ks)
+    new_no_init_calm : Calm 1 (new_no_init_begins w l at self ks)
     new_no_init_calm =
-        calm_bind (tried at (stands_for self)) (λ k. make w k Nil >>= λ r. go (Answering (To r)) ks) (calm_tried at (stands_for self))
-        (λ k. calm_bind (make w k Nil) (λ r. go (Answering (To r)) ks) (calm_make w k Nil) (λ r. calm_pure (On (frames (Answering (To r)) ks))))
+        calm_before (tried at (stands_for self)) (λ k. make w k Nil >>= λ r. go (Answering (To r)) ks) (calm_tried at (stands_for self))
+        (λ k. calm_after (make w k Nil) (λ r. go (Answering (To r)) ks) (calm_make w k Nil) (λ r. calm_pure (On (frames (Answering (To r)) ks))))
 
-    forward_calm : (method : MethodRef) (args : List Value) → Calm (forward_begins w l at self ks method args)
+    forward_calm : (method : MethodRef) (args : List Value) → Calm 0 (forward_begins w l at self ks method args)
     forward_calm method args =
         let begun : Value → Step = λ on. passes_offset w (makes l ks) at Forward method on args in
         calm_bind (asked at (λ h. live h self)) (λ _. asked at (λ h. Ok (target_of h self)) >>= begun) (calm_asked at (λ h. live h self))
         (λ _. calm_bind (asked at (λ h. Ok (target_of h self))) begun (calm_asked at (λ h. Ok (target_of h self)))
         (λ on. (offset_steady Any w (makes l ks) (any_makes l ks) at Forward method on args).calm))
 
-    found_calm : (o : Option ClassKey) → Calm (found_object o)
+    found_calm : (o : Option ClassKey) → Calm 0 (found_object o)
     found_calm None = calm_pure Nil
     found_calm (Some k) = calm_bind (emit (Used k)) (λ _. pure (To (ClassObject k))) (calm_used k) (λ _. calm_pure (To (ClassObject k)))
 
-    answered_calm : (m : Act Value) → Calm m → Calm (m >>= λ v. go (Answering v) ks)
+    answered_calm : (m : Act Value) → Calm 0 m → Calm 0 (m >>= λ v. go (Answering v) ks)
     answered_calm m c = calm_bind m (λ v. go (Answering v) ks) c (λ v. calm_pure (On (frames (Answering v) ks)))
 
-    kernel_calm : (b : KernelBody) (args : List Value) → Calm (kernel_begins w l at self ks b args)
-    kernel_calm Idle args = calm_pure (On (frames (Answering Nil) ks))
-    kernel_calm Free args = free_calm self
+    kernel_calm : (b : KernelBody) (args : List Value) → Calm 1 (kernel_begins w l at self ks b args)
+    kernel_calm Idle args = calm_more (go (Answering Nil) ks) (calm_pure (On (frames (Answering Nil) ks)))
+    kernel_calm Free args = calm_more (free_begins w l at self ks self) (free_calm self)
     kernel_calm New args = new_calm
     kernel_calm NewNoInit args = new_no_init_calm
-    kernel_calm FindClass args = answered_calm (found_object (class_found w args)) (found_calm (class_found w args))
-    kernel_calm (Asks q) args = answered_calm (asked at (asks w q self args)) (calm_asked at (asks w q self args))
+    kernel_calm FindClass args = calm_more (found_object (class_found w args) >>= λ v. go (Answering v) ks) (answered_calm (found_object (class_found w args)) (found_calm (class_found w args)))
+    kernel_calm (Asks q) args = calm_more (asked at (asks w q self args) >>= λ v. go (Answering v) ks) (answered_calm (asked at (asks w q self args)) (calm_asked at (asks w q self args)))
 
   module _ (laid : Laying) where
-    begins_calm : (i : Invocation) (b : Held) (l : ℕ) (ks : List Waiting) → Calm (begins w laid i b l ks)
-    begins_calm i (held.User block) l ks = calm_pure (On _)
-    begins_calm i (held.Get n) l ks = answered_calm l (InBody i.class i.method.name) i.self ks (asked (InBody i.class i.method.name) (read i.class n (To i.self))) (calm_asked (InBody i.class i.method.name) (read i.class n (To i.self)))
-    begins_calm i (held.Set n) l ks = calm_bind (assign (InBody i.class i.method.name) i.class n (To i.self) (first_argument i.args)) (λ _. go (Answering Nil) ks) (calm_assign (InBody i.class i.method.name) i.class n (To i.self) (first_argument i.args)) (λ _. calm_pure (On (frames (Answering Nil) ks)))
+    begins_calm : (i : Invocation) (b : Held) (l : ℕ) (ks : List Waiting) → Calm 1 (begins w laid i b l ks)
+    begins_calm i (held.User block) l ks = calm_more _ (calm_pure (On _))
+    begins_calm i (held.Get n) l ks =
+        let at = InBody i.class i.method.name in
+        calm_more (asked at (read i.class n (To i.self)) >>= λ v. go (Answering v) ks) (answered_calm l at i.self ks (asked at (read i.class n (To i.self))) (calm_asked at (read i.class n (To i.self))))
+    begins_calm i (held.Set n) l ks =
+        let set = assign (InBody i.class i.method.name) i.class n (To i.self) (first_argument i.args) in
+        calm_more (set >>= λ _. go (Answering Nil) ks) (calm_bind set (λ _. go (Answering Nil) ks) (calm_assign (InBody i.class i.method.name) i.class n (To i.self) (first_argument i.args)) (λ _. calm_pure (On (frames (Answering Nil) ks))))
     begins_calm i (held.OfKernel name) l ks = kernel_calm l (InBody i.class i.method.name) i.self ks (kernel_body table name) i.args
-    begins_calm i held.Forward l ks = forward_calm l (InBody i.class i.method.name) i.self ks i.method i.args
-    begins_calm i held.Nothing l ks = calm_pure (On (frames (Answering Nil) ks))
+    begins_calm i held.Forward l ks = calm_more (forward_begins w l (InBody i.class i.method.name) i.self ks i.method i.args) (forward_calm l (InBody i.class i.method.name) i.self ks i.method i.args)
+    begins_calm i held.Nothing l ks = calm_more (go (Answering Nil) ks) (calm_pure (On (frames (Answering Nil) ks)))
 
     invoke_fine : (l : ℕ) (is : List Invocation) (v : Value) (ks : List Waiting) → Fine (Below (1 + all_weight w ks)) (invokes (Invoking (record { levels = l; bodies = is; answer = v }))) (invoke_next w laid l is v ks)
     invoke_fine l [] v ks = fine_steady _ _ (steady_on (Below (1 + all_weight w ks)) (frames (Answering v) ks) (omega arith))
@@ -225,7 +229,7 @@ module _ (w : World) where
     next_fine (Running b) ks sound = running_fine b ks sound (slice_get b.code b.conf.at) refl
     next_fine (Calling zero q) ks sound = fine_steady _ _ (steady_fault (Below (2 + all_weight w ks)) faults.Depth q.from)
     next_fine (Calling (suc l) q) ks sound = fine_steady _ _ (record {
-        calm = calm_reading (λ h. go (Invoking (record { levels = l; bodies = call_bodies w (class_of w h q.self) q; answer = Nil })) ks) (λ h. calm_pure (On _));
+        calm = calm_reading 0 (λ h. go (Invoking (record { levels = l; bodies = call_bodies w (class_of w h q.self) q; answer = Nil })) ks) (λ h. calm_pure (On _));
         only = λ s fs t e. (steady_on (Below (2 + all_weight w ks)) (frames (Invoking (record { levels = l; bodies = call_bodies w (class_of w s.heap q.self) q; answer = Nil })) ks) (omega arith)).only s fs t e;
       })
     next_fine (Invoking left) ks sound = invoke_fine left.levels left.bodies left.answer ks

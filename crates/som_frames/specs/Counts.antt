@@ -1,5 +1,6 @@
--- How many bodies a step invokes.
-use Rattle.std.specs.Prelude.{ℕ, zero, suc, List, [], ◌∷◌}
+-- What a step costs: the bodies that it invokes, and the units that pay for objects.
+use Rattle.std.specs.Prelude.{ℕ, zero, suc, ◌+◌, List, [], ◌∷◌, length}
+use Rattle.som_model.specs.State.{State}
 use Rattle.som_model.specs.Runs.{Ran, Goes, Ends, Faulted, Spent}
 use Rattle.som_frames.specs.Frames.{Now, Running, Calling, Invoking, Answering, Invocation}
 
@@ -17,3 +18,7 @@ abbrev pub unless_spent : {A : Type 0} → ℕ → Ran A → ℕ
 unless_spent n (Goes a s) = n
 unless_spent n (Ends (Faulted f at) s) = n
 unless_spent n (Ends Spent s) = 0
+
+-- the objects that there are, and the units that are left
+abbrev pub size : State → ℕ
+size s = length s.heap.objects + s.fuel

@@ -6,7 +6,7 @@ ghost use Rattle.som_code.specs.Machine.{On, Over, ComesTo};
 ghost use Rattle.som_code.specs.Same.{HasEffect};
 ghost use Rattle.som_code.specs.declared.instruction.Instruction.{Instruction};
 ghost use Rattle.som_frames.specs.Comes.{Comes};
-ghost use Rattle.som_frames.specs.Counts.{invokes, unless_spent};
+ghost use Rattle.som_frames.specs.Counts.{invokes, size, unless_spent};
 ghost use Rattle.som_frames.specs.Frames.{Answering, Calling, Frames, Waiting};
 ghost use Rattle.som_frames.specs.Sources.{IsLaid, Laying};
 ghost use Rattle.som_frames.specs.Stands.{Stands};
@@ -20,7 +20,7 @@ ghost use Rattle.som_model.specs.State.{State};
 ghost use Rattle.som_model.specs.World.{World};
 ghost use Rattle.som_model.specs.declared.limits.TheConstants.{MAX_DEPTH};
 ghost use Rattle.som_model.specs.declared.syntax.Block.{Block};
-ghost use Rattle.std.specs.Prelude.{◌≡◌, ◌⊎◌, ◌+◌, ◌<◌, ℕ, List};
+ghost use Rattle.std.specs.Prelude.{◌≡◌, ◌⊎◌, ◌+◌, ◌<◌, ◌≤◌, ℕ, List};
 
 /// Main on frames comes to what main means, with every fuel, whatever the classes: to the same end, at the same
 /// place, with the same events, fuel and objects. And a call on frames comes to what the call means, and then
@@ -61,7 +61,8 @@ pub fn stands_law()
 
 /// A step, where control doesn't leave the code that runs: it takes a unit, or makes the weight of the task
 /// smaller, so that there is no end of steps only where there is no end of units; where the fuel is spent it has
-/// changed nothing; and it adds one call to the events where it invokes a body, and else none.
+/// changed nothing; it adds one call to the
+/// events where it invokes a body, and else none; and a unit pays for each object that it makes.
 pub fn step_law()
     ensures lower { (w : World) (laid : Laying) (fs gs : Frames) (s t : State) → IsNowSound fs.now →
         (step w laid fs).does s ≡ Goes (On gs) t → (t.fuel < s.fuel) ⊎ (weight w gs < weight w fs) }
@@ -70,6 +71,8 @@ pub fn step_law()
     ensures counts { (w : World) (laid : Laying) (fs : Frames) (s : State) → IsNowSound fs.now →
         call_count (end_of ((step w laid fs).does s)).events
         ≡ call_count s.events + unless_spent (invokes fs.now) ((step w laid fs).does s) }
+    ensures makes { (w : World) (laid : Laying) (fs : Frames) (s : State) → IsNowSound fs.now →
+        size (end_of ((step w laid fs).does s)) ≤ size s }
 {}
 
 /// What a sink is told of a step, after it was told the events before: what it keeps of the events after the step.

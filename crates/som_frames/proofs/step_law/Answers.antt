@@ -10,3 +10,6 @@ returns-clause-spent c w laid fs s t sound e = (next_fine w laid fs.now fs.waiti
 
 pub returns-clause-counts : goal.returns-clause-counts
 returns-clause-counts c w laid fs s sound = (next_fine w laid fs.now fs.waiting sound).counts s
+
+pub returns-clause-makes : goal.returns-clause-makes
+returns-clause-makes c w laid fs s sound = (next_fine w laid fs.now fs.waiting sound).within s
