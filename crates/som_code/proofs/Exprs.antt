@@ -1,6 +1,6 @@
 -- The code of an expression puts its value on the stack.
 use Rattle.std.proofs.Common.{◌≡◌, ℕ, List, [], ◌∷◌, ◌++◌, map, length, reverse, slice_get, refl, sym, subst}
-use Rattle.som_model.specs.declared.syntax.Expr.{Expr, ind-Expr, roll-Expr, fold-Expr, fold-roll-Expr, map-Expr}
+use Rattle.som_model.specs.declared.syntax.Expr.{Expr, ind-Expr, roll-Expr, fold-roll-Expr, map-Expr}
 use Rattle.som_model.specs.declared.syntax.Expr.TheOpen.{Expr-F}
 use Rattle.som_model.specs.World.{World}
 use Rattle.som_model.specs.State.{Value, Long, Boolean, Str, Nil, To, Manager, Offset, Lookup}
@@ -8,12 +8,11 @@ use Rattle.som_model.specs.Runs.{Act}
 use Rattle.som_model.specs.Acts.{◌>>=◌, pure, tried, asked}
 use Rattle.som_model.specs.Values.{BinaryOp, And, Or, unary, unary_op, binary, binary_op, host, cast, isa}
 use Rattle.som_model.specs.Calls.{Calls, Here, class_here, parent_at, offset_call, named_call, dispatch_call, parent_call, parents_calls}
-use Rattle.som_model.specs.Expressions.{Frame, Evals, local_in, read, each_of, either, class_object, new_on, proxy_on, expr_step as eval_step, eval}
+use Rattle.som_model.specs.Expressions.{Evals, local_in, read, each_of, either, class_object, new_on, proxy_on, expr_step as eval_step, eval}
 use Rattle.som_code.specs.declared.instruction.Constant.TheVariants as constants
 use Rattle.som_code.specs.declared.instruction.Instruction.{Instruction}
 use Rattle.som_code.specs.declared.instruction.Instruction.TheVariants as ops
 use Rattle.som_code.specs.Laid.{Lays, just, ◌then◌, lay_each, lay_right, expr_step as lay_step, lay_expr}
-
 use Rattle.som_code.proofs.Pieces.{Puts, puts_one, puts_then, puts_and, puts_or, EachPuts, puts_each, puts_call, puts_self_call}
 
 module _ (w : World) (here : Here) (zero_value : Value) (call : Calls) (code : List Instruction) where
@@ -52,7 +51,7 @@ module _ (w : World) (here : Here) (zero_value : Value) (call : Calls) (code : L
   call_puts f i e es h =
       let fs : List Lays = map lay_expr (first es) in
       puts_then w here zero_value call code [] (ev e.0) (λ on fr. each_of (map ev (first es)) fr >>= λ vs. f on vs) (lay_expr e.0) (lay_each fs then just (i (length fs))) e.1
-        (λ on. puts_each w here zero_value call code (map ev (first es)) fs (each_good es) (on ∷ []) (λ vs fr. f on vs) (just (i (length fs))) (λ vs n. h (length fs) on vs n))
+      (λ on. puts_each w here zero_value call code (map ev (first es)) fs (each_good es) (on ∷ []) (λ vs fr. f on vs) (just (i (length fs))) (λ vs n. h (length fs) on vs n))
 
   -- arguments, and the call on self
   self_call_puts : (f : List Value → Act Value) (i : ℕ → Instruction) (es : List ((x : Expr) × Good x))
@@ -95,7 +94,7 @@ module _ (w : World) (here : Here) (zero_value : Value) (call : Calls) (code : L
       (λ n vs h. puts_self_call w here zero_value call code (λ vs. parents_calls w call here (w.parents (class_here here)) r vs) n (ops.ParentsCall r n) (λ a st fr s. refl) vs h)
   layer (Expr-F.Host c a b) = puts_then w here zero_value call code [] (ev a.0) (λ x fr. ev b.0 fr >>= λ y. pure (host c x y)) (lay_expr a.0) (lay_expr b.0 then just (ops.Host c)) a.1
       (λ x. puts_then w here zero_value call code (x ∷ []) (ev b.0) (λ y fr. pure (host c x y)) (lay_expr b.0) (just (ops.Host c)) b.1
-        (λ y. puts_one w here zero_value call code (y ∷ x ∷ []) (λ fr. pure (host c x y)) (ops.Host c) (λ a st fr s. refl)))
+      (λ y. puts_one w here zero_value call code (y ∷ x ∷ []) (λ fr. pure (host c x y)) (ops.Host c) (λ a st fr s. refl)))
 
   layer_at : (x : Expr-F Expr) → P [] (eval_step w call here (map-Expr Expr Evals ev x)) (lay_step (map-Expr Expr Lays lay_expr x)) → Good (roll-Expr x)
   layer_at x h = subst (λ (r : Evals). P [] r (lay_expr (roll-Expr x))) (sym (fold-roll-Expr Evals (eval_step w call here) x))

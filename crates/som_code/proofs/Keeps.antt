@@ -1,5 +1,5 @@
 -- How many locals a statement leaves visible.
-use Rattle.std.proofs.Common.{◌≡◌, ◌≤◌, ◌+◌, ℕ, zero, suc, List, [], ◌∷◌, ◌++◌, map, length, take, Bool, true, false, if◌then◌else◌, refl, sym, ap, ◌∙◌, subst, arith, length-append}
+use Rattle.std.proofs.Common.{◌≡◌, ◌≤◌, ◌+◌, ℕ, zero, suc, List, [], ◌∷◌, ◌++◌, length, take, Bool, true, false, if◌then◌else◌, refl, sym, ap, ◌∙◌, subst, arith, length-append}
 use Rattle.std.specs.Prelude.{slice_set}
 use Rattle.som_model.specs.State.{Value, State}
 use Rattle.som_model.specs.Runs.{Ran, Goes, Ends, follow, Act}
@@ -61,16 +61,18 @@ on_keeps rest k n Return s fr' t l h = let e : ◌≡◌ {A = Flow} Return (Next
 on_keeps rest k n (Returned v) s fr' t l h = let e : ◌≡◌ {A = Flow} (Returned v) (Next fr') = (goes_is h).0 in absurd cc
 
 both_keep : (m rest : Runs) → Keeps m 0 → Keeps rest 0 → Keeps (λ fr. m fr >>= λ flow. go_on flow rest) 0
-both_keep m rest k k' = record { by = λ fr s fr' t h.
-    let p = came ((m fr).does s) (λ flow. (go_on flow rest).does) (Next fr') t h in
-    on_keeps rest k' (length fr) p.0 p.1 fr' t (λ g e. k.by fr s g p.1 (p.2 ∙ ap (λ (f : Flow). Goes f p.1) e)) p.3 }
+both_keep m rest k k' = record {
+  by = λ fr s fr' t h.
+      let p = came ((m fr).does s) (λ flow. (go_on flow rest).does) (Next fr') t h in
+      on_keeps rest k' (length fr) p.0 p.1 fr' t (λ g e. k.by fr s g p.1 (p.2 ∙ ap (λ (f : Flow). Goes f p.1) e)) p.3;
+}
 
 turn_keeps : (c : Evals) (m rest : Runs) → Keeps m 0 → Keeps rest 0 → Keeps (turn c m rest) 0
 turn_keeps c m rest k k' =
     keeps_after c (λ v fr. if is_true v then (take_unit >> (m fr >>= λ flow. go_on flow rest)) else pure (Next fr)) 0
     (λ v. keeps_if (is_true v) (λ fr. take_unit >> (m fr >>= λ flow. go_on flow rest)) (λ fr. pure (Next fr)) 0
-      (keeps_after (λ fr. take_unit) (λ _ fr. m fr >>= λ flow. go_on flow rest) 0 (λ _. both_keep m rest k k'))
-      (keeps_next (λ fr. fr) 0 same_length))
+    (keeps_after (λ fr. take_unit) (λ _ fr. m fr >>= λ flow. go_on flow rest) 0 (λ _. both_keep m rest k k'))
+    (keeps_next (λ fr. fr) 0 same_length))
 
 turns_keep : (c : Evals) (m : Runs) → Keeps m 0 → (n : ℕ) → Keeps (turns n c m) 0
 turns_keep c m k zero = turn_keeps c m (λ fr. pure (Next fr)) k (keeps_next (λ fr. fr) 0 same_length)
@@ -104,7 +106,8 @@ left n (Returned v) fr' l h = absurd cc
 
 -- a block: its own locals end with it
 pub block_keeps : (ms : List Runs) → AtLeast (all_of ms) → Keeps (λ fr. all_of ms fr >>= λ flow. pure (leave (length fr) flow)) 0
-block_keeps ms r = record { by = λ fr s fr' t h.
-    let p = came ((all_of ms fr).does s) (λ flow u. Goes (leave (length fr) flow) u) (Next fr') t h in
-    left (length fr) p.0 fr' (λ g e. r fr s g p.1 (p.2 ∙ ap (λ (f : Flow). Goes f p.1) e)) (goes_is p.3).0
-  }
+block_keeps ms r = record {
+  by = λ fr s fr' t h.
+      let p = came ((all_of ms fr).does s) (λ flow u. Goes (leave (length fr) flow) u) (Next fr') t h in
+      left (length fr) p.0 fr' (λ g e. r fr s g p.1 (p.2 ∙ ap (λ (f : Flow). Goes f p.1) e)) (goes_is p.3).0;
+}

@@ -1,10 +1,10 @@
 -- Laid code leads only to places in it, and back only to a turn.
-use Rattle.std.proofs.Common.{◌≡◌, ◌<◌, ◌≤◌, ◌+◌, ◌-◌, ℕ, zero, suc, List, [], ◌∷◌, ◌++◌, map, length, slice_get, Some, Bool, true, false, nat_lt, ◌||◌, refl, sym, ap, ◌∙◌, subst, arith, length-append}
-use Rattle.som_model.specs.declared.syntax.Expr.{Expr, ind-Expr, roll-Expr, fold-Expr, fold-roll-Expr, map-Expr}
+use Rattle.std.proofs.Common.{◌≡◌, ◌<◌, ◌+◌, ◌-◌, ℕ, zero, suc, List, [], ◌∷◌, ◌++◌, map, length, slice_get, Some, true, false, nat_lt, refl, sym, ap, ◌∙◌, subst, arith, length-append}
+use Rattle.som_model.specs.declared.syntax.Expr.{Expr, ind-Expr, fold-roll-Expr, map-Expr}
 use Rattle.som_model.specs.declared.syntax.Expr.TheOpen.{Expr-F}
-use Rattle.som_model.specs.declared.syntax.Stmt.{Stmt, ind-Stmt, roll-Stmt, fold-Stmt, fold-roll-Stmt, map-Stmt}
+use Rattle.som_model.specs.declared.syntax.Stmt.{Stmt, roll-Stmt, fold-roll-Stmt, map-Stmt}
 use Rattle.som_model.specs.declared.syntax.Stmt.TheOpen.{Stmt-F, Block-F}
-use Rattle.som_model.specs.declared.syntax.Block.{Block, ind-Block, roll-Block, fold-Block, fold-roll-Block, map-Block}
+use Rattle.som_model.specs.declared.syntax.Block.{Block, ind-Block, fold-roll-Block, map-Block}
 use Rattle.som_model.specs.Kernel.{som_free}
 use Rattle.som_model.specs.Values.{BinaryOp, And, Or, binary_op}
 use Rattle.som_code.specs.declared.instruction.Constant.TheVariants as constants
@@ -37,12 +37,14 @@ module _ (code : List Instruction) where
   well_end i is = record { by = λ a h lt. (is a, tt) }
 
   well_then : (f g : Lays) → Well f → Well g → Well (f then g)
-  well_then f g p q = record { by = λ a h lt.
-      let b = a + length (f a) in
-      let l : length (f a ++ g b) ≡ length (f a) + length (g b) = length-append (f a) (g b) in
-      let s : a + length (f a) < length code = omega (arith, l, lt) in
-      let t : b + length (g b) < length code = omega (arith, l, lt) in
-      led_both a (f a) (g b) (p.by a (sits_front code a (f a) (g b) h) s) (q.by b (sits_back code a (f a) (g b) h) t) }
+  well_then f g p q = record {
+    by = λ a h lt.
+        let b = a + length (f a) in
+        let l : length (f a ++ g b) ≡ length (f a) + length (g b) = length-append (f a) (g b) in
+        let s : a + length (f a) < length code = omega (arith, l, lt) in
+        let t : b + length (g b) < length code = omega (arith, l, lt) in
+        led_both a (f a) (g b) (p.by a (sits_front code a (f a) (g b) h) s) (q.by b (sits_back code a (f a) (g b) h) t);
+  }
 
   led_jump : (p k : ℕ) → k < length code → p < k → is_led code p (ops.Jump k) ≡ true
   led_jump p k m n = and_true _ _ (lt_true k (length code) m) (or_left _ _ (lt_true p k n))
@@ -54,23 +56,33 @@ module _ (code : List Instruction) where
   led_unless p k m n l = and_true _ _ (lt_true k (length code) m) (and_true _ _ (lt_true p k n) (lt_true (p + 1) (length code) l))
 
   well_and : (g : Lays) → Well g → Well (lay_and g)
-  well_and g p = record { by = λ b h lt.
-      let c = b + 1 + length (g (b + 1)) in
-      let tail : List Instruction = ops.Jump (c + 2) ∷ ops.Push (constants.Boolean false) ∷ [] in
-      let l : length (g (b + 1) ++ tail) ≡ length (g (b + 1)) + 2 = length-append (g (b + 1)) tail in
-      let end : c + 2 < length code = omega (arith, l, lt) in
-      (led_unless b (c + 1) (omega (arith, end)) (omega arith) (omega (arith, end)),
-       led_both (b + 1) (g (b + 1)) tail (p.by (b + 1) (sits_front code (b + 1) (g (b + 1)) tail h.1) (omega (arith, end)))
-         (led_jump c (c + 2) end (omega arith), (lt_true (c + 1 + 1) (length code) (omega (arith, end)), tt))) }
+  well_and g p = record {
+    by = λ b h lt.
+        let c = b + 1 + length (g (b + 1)) in
+        let tail : List Instruction = ops.Jump (c + 2) ∷ ops.Push (constants.Boolean false) ∷ [] in
+        let l : length (g (b + 1) ++ tail) ≡ length (g (b + 1)) + 2 = length-append (g (b + 1)) tail in
+        let end : c + 2 < length code = omega (arith, l, lt) in (
+          led_unless b (c + 1) (omega (arith, end)) (omega arith) (omega (arith, end)),
+          led_both (b + 1) (g (b + 1)) tail (p.by (b + 1) (sits_front code (b + 1) (g (b + 1)) tail h.1) (omega (arith, end)))
+              (led_jump c (c + 2) end (omega arith), (lt_true (c + 1 + 1) (length code) (omega (arith, end)), tt)),
+        );
+  }
 
   well_or : (g : Lays) → Well g → Well (lay_or g)
-  well_or g p = record { by = λ b h lt.
-      let end : b + 3 + length (g (b + 3)) < length code = omega (arith, lt) in
-      let n : b + 1 + 1 + 1 ≡ b + 3 = omega arith in
-      (led_unless b (b + 3) (omega (arith, end)) (omega arith) (omega (arith, end)),
-      (lt_true (b + 1 + 1) (length code) (omega (arith, end)),
-      (led_jump (b + 1 + 1) (b + 3 + length (g (b + 3))) end (omega arith),
-       subst (λ k. AreLed k (g (b + 3))) (sym n) (p.by (b + 3) (subst (λ k. Sits code k (g (b + 3))) n h.1.1.1) end)))) }
+  well_or g p = record {
+    by = λ b h lt.
+        let end : b + 3 + length (g (b + 3)) < length code = omega (arith, lt) in
+        let n : b + 1 + 1 + 1 ≡ b + 3 = omega arith in (
+          led_unless b (b + 3) (omega (arith, end)) (omega arith) (omega (arith, end)),
+          (
+            lt_true (b + 1 + 1) (length code) (omega (arith, end)),
+            (
+              led_jump (b + 1 + 1) (b + 3 + length (g (b + 3))) end (omega arith),
+              subst (λ k. AreLed k (g (b + 3))) (sym n) (p.by (b + 3) (subst (λ k. Sits code k (g (b + 3))) n h.1.1.1) end),
+            ),
+          ),
+        );
+  }
 
   well_right : (o : BinaryOp) (op : ℕ) (g : Lays) → Well g → Well (lay_right o op g)
   well_right And op g p = well_and g p
@@ -131,34 +143,42 @@ module _ (code : List Instruction) where
   GoodBlock b = WellLaid (lay_block b).lays
 
   well_choice : (f g : Lays) → Well f → Well g → Well (lay_choice f g)
-  well_choice f g p q = record { by = λ b h lt.
-      let m = b + 1 + length (f (b + 1)) in
-      let end = m + 1 + length (g (m + 1)) in
-      let tail : List Instruction = ops.Jump end ∷ g (m + 1) in
-      let l : length (f (b + 1) ++ tail) ≡ length (f (b + 1)) + suc (length (g (m + 1))) = length-append (f (b + 1)) tail in
-      let fits : end < length code = omega (arith, l, lt) in
-      let back : Sits code m tail = sits_back code (b + 1) (f (b + 1)) tail h.1 in
-      (led_unless b (m + 1) (omega (arith, fits)) (omega arith) (omega (arith, fits)),
-       led_both (b + 1) (f (b + 1)) tail (p.by (b + 1) (sits_front code (b + 1) (f (b + 1)) tail h.1) (omega (arith, fits)))
-         (led_jump m end fits (omega arith), q.by (m + 1) back.1 fits)) }
+  well_choice f g p q = record {
+    by = λ b h lt.
+        let m = b + 1 + length (f (b + 1)) in
+        let end = m + 1 + length (g (m + 1)) in
+        let tail : List Instruction = ops.Jump end ∷ g (m + 1) in
+        let l : length (f (b + 1) ++ tail) ≡ length (f (b + 1)) + suc (length (g (m + 1))) = length-append (f (b + 1)) tail in
+        let fits : end < length code = omega (arith, l, lt) in
+        let back : Sits code m tail = sits_back code (b + 1) (f (b + 1)) tail h.1 in (
+          led_unless b (m + 1) (omega (arith, fits)) (omega arith) (omega (arith, fits)),
+          led_both (b + 1) (f (b + 1)) tail (p.by (b + 1) (sits_front code (b + 1) (f (b + 1)) tail h.1) (omega (arith, fits)))
+              (led_jump m end fits (omega arith), q.by (m + 1) back.1 fits),
+        );
+  }
 
   well_loop : (c f : Lays) → Well c → Well f → Well (lay_loop c f)
-  well_loop c f p q = record { by = λ a h lt.
-      let m = a + 2 + length (f (a + 2)) in
-      let b = m + length (c m) in
-      let end : List Instruction = ops.Unless (b + 2) ∷ ops.Jump (a + 1) ∷ [] in
-      let l : length (f (a + 2) ++ (c m ++ end)) ≡ length (f (a + 2)) + length (c m ++ end) = length-append (f (a + 2)) (c m ++ end) in
-      let l' : length (c m ++ end) ≡ length (c m) + 2 = length-append (c m) end in
-      let fits : b + 2 < length code = omega (arith, l, l', lt) in
-      let n : a + 1 + 1 ≡ a + 2 = omega arith in
-      let body : Sits code (a + 2) (f (a + 2) ++ (c m ++ end)) = subst (λ (z : ℕ). Sits code z (f (a + 2) ++ (c m ++ end))) n h.1.1 in
-      let cond : Sits code m (c m ++ end) = sits_back code (a + 2) (f (a + 2)) (c m ++ end) body in
-      (led_jump a m (omega (arith, fits)) (omega arith),
-      (lt_true (a + 1 + 1) (length code) (omega (arith, fits)),
-       subst (λ (z : ℕ). AreLed z (f (a + 2) ++ (c m ++ end))) (sym n)
-         (led_both (a + 2) (f (a + 2)) (c m ++ end) (q.by (a + 2) (sits_front code (a + 2) (f (a + 2)) (c m ++ end) body) (omega (arith, fits)))
-           (led_both m (c m) end (p.by m (sits_front code m (c m) end cond) (omega (arith, fits)))
-             (led_unless b (b + 2) fits (omega arith) (omega (arith, fits)), (led_back (b + 1) (a + 1) (omega (arith, fits)) h.1.0, tt)))))) }
+  well_loop c f p q = record {
+    by = λ a h lt.
+        let m = a + 2 + length (f (a + 2)) in
+        let b = m + length (c m) in
+        let end : List Instruction = ops.Unless (b + 2) ∷ ops.Jump (a + 1) ∷ [] in
+        let l : length (f (a + 2) ++ (c m ++ end)) ≡ length (f (a + 2)) + length (c m ++ end) = length-append (f (a + 2)) (c m ++ end) in
+        let l' : length (c m ++ end) ≡ length (c m) + 2 = length-append (c m) end in
+        let fits : b + 2 < length code = omega (arith, l, l', lt) in
+        let n : a + 1 + 1 ≡ a + 2 = omega arith in
+        let body : Sits code (a + 2) (f (a + 2) ++ (c m ++ end)) = subst (λ (z : ℕ). Sits code z (f (a + 2) ++ (c m ++ end))) n h.1.1 in
+        let cond : Sits code m (c m ++ end) = sits_back code (a + 2) (f (a + 2)) (c m ++ end) body in (
+          led_jump a m (omega (arith, fits)) (omega arith),
+          (
+            lt_true (a + 1 + 1) (length code) (omega (arith, fits)),
+            subst (λ (z : ℕ). AreLed z (f (a + 2) ++ (c m ++ end))) (sym n)
+                (led_both (a + 2) (f (a + 2)) (c m ++ end) (q.by (a + 2) (sits_front code (a + 2) (f (a + 2)) (c m ++ end) body) (omega (arith, fits)))
+                (led_both m (c m) end (p.by m (sits_front code m (c m) end cond) (omega (arith, fits)))
+                (led_unless b (b + 2) fits (omega arith) (omega (arith, fits)), (led_back (b + 1) (a + 1) (omega (arith, fits)) h.1.0, tt)))),
+          ),
+        );
+  }
 
   abbrev stmts : List ((x : Stmt) × GoodStmt x) → List Stmt
   stmts = map (λ e. e.0)
@@ -206,6 +226,6 @@ laid_sound b params =
     record {
       ends = ap is_return (ap (slice_get code) last ∙ (sits_back code 0 x (ops.Return ∷ []) all).0);
       led = λ p i h. let n : 0 + p ≡ p = omega arith in
-        subst (λ k. is_led code k i ≡ true) n
-        (led_at code 0 p code i (led_both code 0 x (ops.Return ∷ []) (((block_well code b).by params).by 0 (sits_front code 0 x (ops.Return ∷ []) all) fits) (refl, tt)) h);
+          subst (λ k. is_led code k i ≡ true) n
+          (led_at code 0 p code i (led_both code 0 x (ops.Return ∷ []) (((block_well code b).by params).by 0 (sits_front code 0 x (ops.Return ∷ []) all) fits) (refl, tt)) h);
     }

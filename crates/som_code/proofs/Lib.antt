@@ -8,3 +8,6 @@ pub mod Stmts
 pub mod Bools
 pub mod Fits
 pub mod Led
+pub mod Emits
+pub mod AsFar
+pub mod Laying

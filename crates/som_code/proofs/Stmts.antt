@@ -3,9 +3,9 @@ use Rattle.std.proofs.Common.{◌≡◌, ◌<◌, ◌+◌, ℕ, zero, suc, List,
 use Rattle.std.proofs.lemmas.Bool.{ltb-true}
 use Rattle.std.specs.Prelude.{slice_set}
 use Rattle.som_model.specs.declared.syntax.Expr.{Expr}
-use Rattle.som_model.specs.declared.syntax.Stmt.{Stmt, ind-Stmt, roll-Stmt, fold-Stmt, fold-roll-Stmt, map-Stmt}
+use Rattle.som_model.specs.declared.syntax.Stmt.{Stmt, roll-Stmt, fold-roll-Stmt, map-Stmt}
 use Rattle.som_model.specs.declared.syntax.Stmt.TheOpen.{Stmt-F, Block-F}
-use Rattle.som_model.specs.declared.syntax.Block.{Block, ind-Block, roll-Block, fold-Block, fold-roll-Block, map-Block}
+use Rattle.som_model.specs.declared.syntax.Block.{Block, ind-Block, roll-Block, fold-roll-Block, map-Block}
 use Rattle.som_model.specs.Kernel.{som_free}
 use Rattle.som_model.specs.World.{World}
 use Rattle.som_model.specs.State.{Value, Offset, State}
@@ -18,12 +18,12 @@ use Rattle.som_model.specs.Invoked.{answer_of}
 use Rattle.som_code.specs.declared.instruction.Instruction.{Instruction}
 use Rattle.som_code.specs.declared.instruction.Instruction.TheVariants as ops
 use Rattle.som_code.specs.Machine.{After, On, Over, over, ComesTo}
-use Rattle.som_code.specs.Effect.{Conf, conf, beginning, push, with_local, step}
-use Rattle.som_code.specs.Laid.{Lays, Bodies, Laid, LaidBlock, just, ◌then◌, stmt_step as lay_step, block_step as lay_block_step, lay_choice, lay_all, all_fit, lay_expr, lay_stmt, lay_block, lay_body}
+use Rattle.som_code.specs.Effect.{Conf, conf, beginning, with_local, step}
+use Rattle.som_code.specs.Laid.{Bodies, Laid, LaidBlock, just, ◌then◌, stmt_step as lay_step, block_step as lay_block_step, lay_choice, lay_all, all_fit, lay_expr, lay_stmt, lay_block, lay_body}
 use Rattle.som_code.specs.Same.{body_act, HasEffect}
 use Rattle.som_code.proofs.Leads.{Leads, follow_assoc, comes}
 use Rattle.som_code.proofs.Sits.{Sits, sits_front, sits_back, sits_all}
-use Rattle.som_code.proofs.Pieces.{one, Puts, puts_one}
+use Rattle.som_code.proofs.Pieces.{one, puts_one}
 use Rattle.som_code.proofs.Exprs.{expr_good}
 use Rattle.som_code.proofs.Keeps.{Keeps, keeps_next, keeps_after, keeps_return, keeps_returned, keeps_if, loop_keeps, AtLeast, none_least, next_least, block_keeps, same_length, one_longer, set_length}
 use Rattle.som_code.proofs.Flows.{landing, Flows, flows_one, flows_then, flow_on, flows_none, flows_next, flows_block, flows_choice, flows_loop}
@@ -79,7 +79,7 @@ module _ (w : World) (here : Here) (zero_value : Value) (call : Calls) (code : L
   var_fine e = record {
     keeps = keeps_after (ev e) (λ v fr. pure (Next (fr ++ v ∷ []))) 1 (λ v. keeps_next (λ fr. fr ++ v ∷ []) 1 (λ fr. one_longer fr v));
     flows = after_expr e (λ v fr. pure (Next (fr ++ v ∷ []))) always (λ d. ops.Set d)
-      (λ v. flows_one w here zero_value call code (v ∷ []) (λ fr. pure (Next (fr ++ v ∷ []))) always (λ d. ops.Set d)
+        (λ v. flows_one w here zero_value call code (v ∷ []) (λ fr. pure (Next (fr ++ v ∷ []))) always (λ d. ops.Set d)
         (λ a d st fr s l t. ap (λ (f : Frame). Goes (On (conf (a + 1) st f)) s) (ap (λ n. with_local fr n v) (sym l) ∙ local_new fr v)));
   }
 
@@ -87,7 +87,7 @@ module _ (w : World) (here : Here) (zero_value : Value) (call : Calls) (code : L
   set_fine n e = record {
     keeps = keeps_after (ev e) (λ v fr. pure (Next (slice_set fr n v))) 0 (λ v. keeps_next (λ fr. slice_set fr n v) 0 (λ fr. set_length fr n v ∙ same_length fr));
     flows = after_expr e (λ v fr. pure (Next (slice_set fr n v))) (λ d. nat_lt n d) (λ d. ops.Set n)
-      (λ v. flows_one w here zero_value call code (v ∷ []) (λ fr. pure (Next (slice_set fr n v))) (λ d. nat_lt n d) (λ d. ops.Set n)
+        (λ v. flows_one w here zero_value call code (v ∷ []) (λ fr. pure (Next (slice_set fr n v))) (λ d. nat_lt n d) (λ d. ops.Set n)
         (λ a d st fr s l t. ap (λ (f : Frame). Goes (On (conf (a + 1) st f)) s) (local_old fr n v (subst (λ k. n < k) (sym l) (is_lt n d t)))));
   }
 
@@ -100,7 +100,7 @@ module _ (w : World) (here : Here) (zero_value : Value) (call : Calls) (code : L
       record {
         keeps = keeps_after (ev e) (λ v fr. act v >> pure (Next fr)) 0 (λ v. keeps_after (λ fr. act v) (λ _ fr. pure (Next fr)) 0 (λ _. keeps_same));
         flows = after_expr e (λ v fr. act v >> pure (Next fr)) always (λ d. ops.SetVariable n)
-          (λ v. flows_one w here zero_value call code (v ∷ []) (λ fr. act v >> pure (Next fr)) always (λ d. ops.SetVariable n)
+            (λ v. flows_one w here zero_value call code (v ∷ []) (λ fr. act v >> pure (Next fr)) always (λ d. ops.SetVariable n)
             (λ a d st fr s l t. sym (follow_assoc ((act v).does s) (λ _ u. Goes (Next fr) u) (land (a + 1) st))));
       }
 
@@ -111,14 +111,14 @@ module _ (w : World) (here : Here) (zero_value : Value) (call : Calls) (code : L
   returned_fine e = record {
     keeps = keeps_after (ev e) (λ v fr. pure (Returned v)) 0 (λ v. keeps_returned v 0);
     flows = after_expr e (λ v fr. pure (Returned v)) always (λ d. ops.ReturnValue)
-      (λ v. flows_one w here zero_value call code (v ∷ []) (λ fr. pure (Returned v)) always (λ d. ops.ReturnValue) (λ a d st fr s l t. refl));
+        (λ v. flows_one w here zero_value call code (v ∷ []) (λ fr. pure (Returned v)) always (λ d. ops.ReturnValue) (λ a d st fr s l t. refl));
   }
 
   print_fine : (e : Expr) → Made (λ fr. ev e fr >>= λ v. print_value v >> pure (Next fr)) (record { lays = λ d. lay_expr e then just ops.Print; adds = 0; fits = always })
   print_fine e = record {
     keeps = keeps_after (ev e) (λ v fr. print_value v >> pure (Next fr)) 0 (λ v. keeps_after (λ fr. print_value v) (λ _ fr. pure (Next fr)) 0 (λ _. keeps_same));
     flows = after_expr e (λ v fr. print_value v >> pure (Next fr)) always (λ d. ops.Print)
-      (λ v. flows_one w here zero_value call code (v ∷ []) (λ fr. print_value v >> pure (Next fr)) always (λ d. ops.Print) (λ a d st fr s l t. refl));
+        (λ v. flows_one w here zero_value call code (v ∷ []) (λ fr. print_value v >> pure (Next fr)) always (λ d. ops.Print) (λ a d st fr s l t. refl));
   }
 
   -- the top is taken off
@@ -137,7 +137,7 @@ module _ (w : World) (here : Here) (zero_value : Value) (call : Calls) (code : L
       record {
         keeps = keeps_after (ev e) (λ v fr. act v >> pure (Next fr)) 0 (λ v. keeps_after (λ fr. act v) (λ _ fr. pure (Next fr)) 0 (λ _. keeps_same));
         flows = flows_then w here zero_value call code [] (ev e) (λ v fr. act v >> pure (Next fr)) (lay_expr e) always (λ d. just (ops.OffsetCall som_free 0) then just ops.Drop) (expr_good w here zero_value call code e)
-          (λ v. flows_then w here zero_value call code (v ∷ []) (λ fr. act v) (λ _ fr. pure (Next fr)) (just (ops.OffsetCall som_free 0)) always (λ d. just ops.Drop)
+            (λ v. flows_then w here zero_value call code (v ∷ []) (λ fr. act v) (λ _ fr. pure (Next fr)) (just (ops.OffsetCall som_free 0)) always (λ d. just ops.Drop)
             (puts_one w here zero_value call code (v ∷ []) (λ fr. act v) (ops.OffsetCall som_free 0) (λ a st fr s. refl)) drop_flows);
       }
 
@@ -146,7 +146,7 @@ module _ (w : World) (here : Here) (zero_value : Value) (call : Calls) (code : L
   if_fine c m m' x y p q = record {
     keeps = keeps_after (ev c) (λ v fr. if is_true v then m fr else m' fr) 0 (λ v. keeps_if (is_true v) m m' 0 p.keeps q.keeps);
     flows = flows_then w here zero_value call code [] (ev c) (λ v fr. if is_true v then m fr else m' fr) (lay_expr c) (lay_step (Stmt-F.If c x y)).fits (λ d. lay_choice (x.lays d) (y.lays d)) (expr_good w here zero_value call code c)
-      (λ v. flows_choice w here zero_value call code v m m' x y p.flows q.flows);
+        (λ v. flows_choice w here zero_value call code v m m' x y p.flows q.flows);
   }
 
   layer : (y : Stmt-F ((x : Stmt) × Fine x) ((b : Block) × FineBlock b))
@@ -183,12 +183,12 @@ module _ (w : World) (here : Here) (zero_value : Value) (call : Calls) (code : L
   from_stmt : (x : Stmt-F Stmt Block) (y : Stmt-F ((s : Stmt) × Fine s) ((b : Block) × FineBlock b)) → map-Stmt _ _ _ _ (λ e. e.0) (λ e. e.0) y ≡ x → Fine (roll-Stmt x)
   from_stmt x y is = subst (λ (r : Runs). Made r (lay_stmt (roll-Stmt x))) (sym (fold-roll-Stmt Runs Runs (run_step w call here) run_block_step x))
       (subst (λ (l : Laid). Made (run_step w call here (map-Stmt Stmt Block Runs Runs (exec w call here) (run_block w call here) x)) l) (sym (fold-roll-Stmt Laid LaidBlock lay_step lay_block_step x))
-        (subst (λ z. Made (run_step w call here (map-Stmt Stmt Block Runs Runs (exec w call here) (run_block w call here) z)) (lay_step (map-Stmt Stmt Block Laid LaidBlock lay_stmt lay_block z))) is (layer y)))
+      (subst (λ z. Made (run_step w call here (map-Stmt Stmt Block Runs Runs (exec w call here) (run_block w call here) z)) (lay_step (map-Stmt Stmt Block Laid LaidBlock lay_stmt lay_block z))) is (layer y)))
 
   from_block : (x : Block-F Stmt Block) (y : Block-F ((s : Stmt) × Fine s) ((b : Block) × FineBlock b)) → map-Block _ _ _ _ (λ e. e.0) (λ e. e.0) y ≡ x → FineBlock (roll-Block x)
   from_block x y is = subst (λ (r : Runs). MadeBlock r (lay_block (roll-Block x))) (sym (fold-roll-Block Runs Runs (run_step w call here) run_block_step x))
       (subst (λ (l : LaidBlock). MadeBlock (run_block_step (map-Block Stmt Block Runs Runs (exec w call here) (run_block w call here) x)) l) (sym (fold-roll-Block Laid LaidBlock lay_step lay_block_step x))
-        (subst (λ z. MadeBlock (run_block_step (map-Block Stmt Block Runs Runs (exec w call here) (run_block w call here) z)) (lay_block_step (map-Block Stmt Block Laid LaidBlock lay_stmt lay_block z))) is (block_layer y)))
+      (subst (λ z. MadeBlock (run_block_step (map-Block Stmt Block Runs Runs (exec w call here) (run_block w call here) z)) (lay_block_step (map-Block Stmt Block Laid LaidBlock lay_stmt lay_block z))) is (block_layer y)))
 
   pub block_fine : (b : Block) → FineBlock b
   block_fine = ind-Block Fine FineBlock from_stmt from_block
@@ -201,9 +201,9 @@ body_leads w here zero_value call b args s t =
     let x : List Instruction = (lay_block b).lays (length args) 0 in
     let all : Sits code 0 (x ++ ops.Return ∷ []) = sits_all code in
     flow_on w here zero_value call code (beginning args) s ((run_block w call here b args).does s) (0 + length x) [] (λ flow u. Goes (Over (answer_of zero_value flow)) u)
-      ((block_fine w here zero_value call code b).flows.by 0 (length args) [] args s refl t (sits_front code 0 x (ops.Return ∷ []) all))
-      (λ fr u _. one w here zero_value call code ops.Return (conf (0 + length x) [] fr) u (sits_back code 0 x (ops.Return ∷ []) all).0)
-      (λ u. refl) (λ v u. refl)
+    ((block_fine w here zero_value call code b).flows.by 0 (length args) [] args s refl t (sits_front code 0 x (ops.Return ∷ []) all))
+    (λ fr u _. one w here zero_value call code ops.Return (conf (0 + length x) [] fr) u (sits_back code 0 x (ops.Return ∷ []) all).0)
+    (λ u. refl) (λ v u. refl)
 
 over_follow : (zero_value : Value) (r : Ran Flow) → ◌≡◌ {A = Ran (After Conf Value)} (follow r (λ flow t. Goes (Over (answer_of zero_value flow)) t)) (over (follow r (λ flow t. Goes (answer_of zero_value flow) t)))
 over_follow zero_value (Goes flow s) = refl
@@ -214,8 +214,8 @@ as_many : (b : Block) (args : List Value) (params : ℕ) → length args ≡ par
 as_many b args params e t w call here zero_value s =
     subst (λ n. ComesTo (step w here zero_value call (lay_body b n)) (beginning args) s ((body_act w call here zero_value b args).does s)) e
     (comes (step w here zero_value call (lay_body b (length args))) (beginning args) s ((body_act w call here zero_value b args).does s)
-      (subst (Leads (step w here zero_value call (lay_body b (length args))) (beginning args) s) (over_follow zero_value ((run_block w call here b args).does s))
-        (body_leads w here zero_value call b args s (subst (λ n. (lay_block b).fits n ≡ true) (sym e) t))))
+    (subst (Leads (step w here zero_value call (lay_body b (length args))) (beginning args) s) (over_follow zero_value ((run_block w call here b args).does s))
+    (body_leads w here zero_value call b args s (subst (λ n. (lay_block b).fits n ≡ true) (sym e) t))))
 
 -- code that is laid out has the effect of its block
 pub laid_effect : (b : Block) (params : ℕ) → (lay_block b).fits params ≡ true → HasEffect (lay_body b params) b params

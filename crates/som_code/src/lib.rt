@@ -2,7 +2,12 @@
 #![tactic(auto)]
 
 mod code;
+mod emit;
+mod expressions;
 mod instruction;
+mod layout;
+mod statements;
 
 pub use code::Code;
 pub use instruction::{Constant, Instruction};
+pub use layout::lay_out;
