@@ -1,19 +1,18 @@
 -- Acts of the machine of frames that come to the answer of an act of the meaning.
-use Rattle.std.proofs.Common.{◌≡◌, ℕ, zero, suc, List, [], ◌∷◌, Option, Some, None, Bool, true, false, if◌then◌else◌, refl, sym, ap, ◌∙◌, subst}
+use Rattle.std.proofs.Common.{ℕ, List, [], ◌∷◌, Some, None, Bool, true, false, if◌then◌else◌}
 use Rattle.som_model.specs.declared.key.ClassKey.{ClassKey}
 use Rattle.som_model.specs.declared.key.MethodRef.{MethodRef}
 use Rattle.som_model.specs.declared.key.ValueType.{ValueType}
-use Rattle.som_model.specs.declared.syntax.Block.{Block}
 use Rattle.som_model.specs.World.{World}
-use Rattle.som_model.specs.State.{Value, Long, Boolean, Str, Nil, To, Ref, State, Place, Manner, Tried, Parent, receiver, class_of}
+use Rattle.som_model.specs.State.{Value, Long, Boolean, Str, Nil, To, Ref, State, Place, Manner, Parent, receiver, class_of}
 use Rattle.som_model.specs.Runs.{Faulted, Ran, Goes, Ends, follow, Act}
-use Rattle.som_model.specs.Acts.{◌>>=◌, ◌>>◌, pure, fault, tried, asked}
+use Rattle.som_model.specs.Acts.{◌>>=◌, pure, tried, asked}
 use Rattle.som_model.specs.declared.program.Fault.TheVariants as faults
 use Rattle.som_model.specs.Values.{sig_fits}
 use Rattle.som_model.specs.Calls.{Calls, Request, Here, found, offset_call, named_call, parent_call, parents_calls}
 use Rattle.som_model.specs.Means.{calls}
-use Rattle.som_code.specs.Machine.{After, On, Over}
-use Rattle.som_frames.specs.Frames.{Now, Running, Calling, Invoking, Answering, Waiting, ForParent, Frames}
+use Rattle.som_code.specs.Machine.{After, On}
+use Rattle.som_frames.specs.Frames.{Now, Calling, Answering, Waiting, ForParent, Frames}
 use Rattle.som_frames.specs.Passed.{passes_offset, passes_named, passes_parent, own_self}
 use Rattle.som_frames.specs.Step.{Step, frames, go, makes, next_parent, resume, step}
 use Rattle.som_frames.specs.Sources.{Laying}
@@ -107,7 +106,7 @@ module _ (w : World) (laid : Laying) where
       parents_answered (p ∷ ps) ks = descends (w.is_a p (w.owner method).class) (parents_answered ps ks) where
         descends : (b : Bool) → Answered (next_parent w l from ps method args ks) ks (parents_calls w call from ps method args)
             → Answered (if b then passes_parent w (makes l (ForParent l from ps method args ∷ ks)) from p method args else next_parent w l from ps method args ks) ks
-                (if b then (parent_call w call from p method args >>= λ _. parents_calls w call from ps method args) else parents_calls w call from ps method args)
+            (if b then (parent_call w call from p method args >>= λ _. parents_calls w call from ps method args) else parents_calls w call from ps method args)
         descends true rest = answered_then (passes_parent w (makes l (ForParent l from ps method args ∷ ks)) from p method args) (ForParent l from ps method args) ks (parent_call w call from p method args) (λ _. parents_calls w call from ps method args)
             (parent_answered p (ForParent l from ps method args ∷ ks)) (λ _. rest)
         descends false rest = rest

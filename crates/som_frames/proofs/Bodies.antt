@@ -1,5 +1,5 @@
 -- A body that begins comes to what it means.
-use Rattle.std.proofs.Common.{◌≡◌, ℕ, List, [], ◌∷◌, length, Option, Some, None, Ok, refl, sym, ap, ◌∙◌, subst}
+use Rattle.std.proofs.Common.{◌≡◌, ℕ, List, [], ◌∷◌, Some, Ok}
 use Rattle.som_model.specs.declared.key.ClassKey.{ClassKey}
 use Rattle.som_model.specs.declared.key.MethodRef.{MethodRef}
 use Rattle.som_model.specs.declared.syntax.Block.{Block}
@@ -8,10 +8,10 @@ use Rattle.som_model.specs.Kernel.{som_init, som_uninit}
 use Rattle.som_model.specs.Implementation.{Held, User}
 use Rattle.som_model.specs.Implementation as held
 use Rattle.som_model.specs.World.{World}
-use Rattle.som_model.specs.State.{Value, Nil, To, Ref, Object, ClassObject, Manager, State, Place, InBody, Offset, Forward, live, freed, target_of}
-use Rattle.som_model.specs.Runs.{Faulted, Ran, Goes, Ends, follow, Act}
-use Rattle.som_model.specs.Acts.{◌>>=◌, ◌>>◌, pure, fault, tried, asked, become, freed_stays, make}
-use Rattle.som_model.specs.Calls.{Calls, Here, offset_call}
+use Rattle.som_model.specs.State.{Value, Nil, To, Ref, Object, ClassObject, Manager, Place, InBody, Offset, Forward, live, freed, target_of}
+use Rattle.som_model.specs.Runs.{Faulted, Ends, Act}
+use Rattle.som_model.specs.Acts.{◌>>=◌, pure, fault, tried, asked, become, freed_stays, make}
+use Rattle.som_model.specs.Calls.{Calls, offset_call}
 use Rattle.som_model.specs.Expressions.{read}
 use Rattle.som_model.specs.Statements.{assign}
 use Rattle.som_model.specs.Invoked.{first_argument, stands_for, class_found, found_object, asks, KernelBody, Idle, Free, New, NewNoInit, FindClass, Asks, kernel_body, table, free_body, new_body, new_no_init_body, forward_body, kernel_does, body_does}
@@ -19,7 +19,7 @@ use Rattle.som_model.specs.Means.{calls}
 use Rattle.som_frames.specs.Frames.{Waiting, Answering, ForInit, ForUninit, Invocation}
 use Rattle.som_frames.specs.Passed.{passes_offset}
 use Rattle.som_frames.specs.Step.{Step, go, makes, free_begins, new_begins, new_no_init_begins, forward_begins, kernel_begins, begins, step}
-use Rattle.som_frames.specs.Sources.{Laying, IsLaid}
+use Rattle.som_frames.specs.Sources.{Laying}
 use Rattle.som_frames.proofs.Comes.{comes_same}
 use Rattle.som_frames.proofs.Answered.{Answered, answered_pure, answered_bind, answered_once, answered_then, Matched, offset_answered}
 
@@ -37,7 +37,7 @@ module _ (w : World) (laid : Laying) where
           (λ _. asked at (λ h. live h self) >>= λ _. become (freed self) (freed_stays self) >>= λ _. pure Nil)
           (offset_answered w laid l matched at Offset som_uninit (To self) [] (ForUninit at self ∷ ks))
           (λ v. answered_bind w laid (asked at (λ h. live h self)) (λ _. become (freed self) (freed_stays self) >>= λ _. go (Answering Nil) ks) (λ _. become (freed self) (freed_stays self) >>= λ _. pure Nil) ks
-            (λ _. answered_bind w laid (become (freed self) (freed_stays self)) (λ _. go (Answering Nil) ks) (λ _. pure Nil) ks (λ _. answered_pure w laid Nil ks)))
+          (λ _. answered_bind w laid (become (freed self) (freed_stays self)) (λ _. go (Answering Nil) ks) (λ _. pure Nil) ks (λ _. answered_pure w laid Nil ks)))
       free_answered (ClassObject k) = answered_fault at ks
       free_answered Manager = answered_fault at ks
 
@@ -51,7 +51,7 @@ module _ (w : World) (laid : Laying) where
           answered_bind w laid (tried at (stands_for self)) (λ k. make w k Nil >>= begun) (λ k. make w k Nil >>= done) ks
           (λ k. answered_bind w laid (make w k Nil) begun done ks
           (λ r. answered_then w laid (begun r) (ForInit r) ks (offset_call w call at Offset som_init (To r) []) (λ _. pure (To r))
-            (offset_answered w laid l matched at Offset som_init (To r) [] (ForInit r ∷ ks)) (λ v. answered_pure w laid (To r) ks)))
+          (offset_answered w laid l matched at Offset som_init (To r) [] (ForInit r ∷ ks)) (λ v. answered_pure w laid (To r) ks)))
 
       new_no_init_answered : Answered w laid (new_no_init_begins w l at self ks) ks (new_no_init_body w call at self)
       new_no_init_answered =

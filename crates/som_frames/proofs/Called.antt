@@ -1,5 +1,5 @@
 -- A call on frames comes to what it means, and so does main.
-use Rattle.std.proofs.Common.{◌≡◌, ℕ, zero, suc, List, [], ◌∷◌, ◌++◌, Bool, true, false, reverse, Option, Some, None, refl, sym, ap, ◌∙◌, subst}
+use Rattle.std.proofs.Common.{◌≡◌, ℕ, zero, suc, List, [], ◌∷◌, ◌++◌, true, false, reverse, Option, Some, None, refl, sym, subst}
 use Rattle.som_model.specs.declared.key.ClassKey.{ClassKey}
 use Rattle.som_model.specs.declared.key.MethodRef.{MethodRef}
 use Rattle.som_model.specs.declared.syntax.Block.{Block}
@@ -9,7 +9,7 @@ use Rattle.som_model.specs.Implementation.{Held}
 use Rattle.som_model.specs.World.{World}
 use Rattle.som_model.specs.State.{Value, Nil, Str, To, Ref, ClassObject, State, InMain, Manner, Before, After, Called, class_of}
 use Rattle.som_model.specs.Runs.{Faulted, Spent, Ran, Goes, Ends, follow, Act}
-use Rattle.som_model.specs.Acts.{◌>>=◌, ◌>>◌, pure, unit_from, take_unit, emit}
+use Rattle.som_model.specs.Acts.{◌>>=◌, pure, unit_from, emit}
 use Rattle.som_model.specs.Calls.{Calls, Request}
 use Rattle.som_model.specs.Statements.{Flow, run_block}
 use Rattle.som_model.specs.Invoked.{answer_of, body_does}
@@ -18,10 +18,9 @@ use Rattle.som_model.proofs.FormLaws.{call_none, call_some}
 use Rattle.som_code.specs.Machine.{On, Over, over, ComesTo}
 use Rattle.som_code.specs.Machine as machine
 use Rattle.som_code.specs.declared.instruction.Instruction.{Instruction}
-use Rattle.som_code.specs.Effect.{beginning}
 use Rattle.som_code.specs.Same.{HasEffect, body_act}
-use Rattle.som_frames.specs.Frames.{Invocation, Left, Frames, Running, Calling, Invoking, Answering, Waiting, ForHook, ForMethod}
-use Rattle.som_frames.specs.Step.{Step, frames, go, with_held, with_hooks, with_method, call_bodies, waits, begins, invoke_next, step, main_frames}
+use Rattle.som_frames.specs.Frames.{Invocation, Left, Frames, Calling, Invoking, Answering, Waiting, ForHook, ForMethod}
+use Rattle.som_frames.specs.Step.{frames, with_held, with_hooks, with_method, call_bodies, waits, begins, step, main_frames}
 use Rattle.som_frames.specs.Sources.{Laying, IsLaid}
 use Rattle.som_frames.proofs.Comes.{comes_same, comes_trans, comes_step, comes_to}
 use Rattle.som_frames.proofs.Answered.{Come, here, answers, Answered, Matched}
@@ -46,7 +45,7 @@ module _ (w : World) (laid : Laying) (ok : IsLaid w laid) where
 
     unit_run : (i : Invocation) (ks : List Waiting) → w.held i.class i.method ≡ Some i.body → (n : ℕ) (s : State)
         → Come w laid (follow (unit_from n s) (λ _. (emit (Called i.method i.way i.class) >>= λ _. begins w laid i i.body l ks).does))
-            (answers w laid ks (follow (unit_from n s) (λ _. (emit (Called i.method i.way i.class) >>= λ _. body_does w call i.body i.class i.method i.self i.args).does)))
+        (answers w laid ks (follow (unit_from n s) (λ _. (emit (Called i.method i.way i.class) >>= λ _. body_does w call i.body i.class i.method i.self i.args).does)))
     unit_run i ks e zero s = comes_same (step w laid) (Ends Spent (record { fuel = zero; events = s.events; heap = s.heap }))
     unit_run i ks e (suc n) s = (begun i ks e).by (record { fuel = n; events = s.events ++ Called i.method i.way i.class ∷ []; heap = s.heap })
 
@@ -153,18 +152,22 @@ module _ (w : World) (laid : Laying) (ok : IsLaid w laid) where
       bodies_come s =
           let hooked = each_hook w call Before before_method (hooks_of w x q) (ClassObject x) seen in
           comes_trans (step w laid) _ (follow (hooked.does s) (λ _ t. here w laid (Invoking (left l ending Nil)) ks t)) _
-            (hooks_come Before before_method (ClassObject x) seen (hooks_of w x q) ending Nil ks s) (after_hooks (hooked.does s))
+          (hooks_come Before before_method (ClassObject x) seen (hooks_of w x q) ending Nil ks s) (after_hooks (hooked.does s))
 
     -- with one level more, calls come to what they mean
     more_matched : Matched w laid (suc l)
-    more_matched q ks = record { by = λ s.
-        subst (λ (m : Act Value). Come w laid (here w laid (Calling (suc l) q) ks s) (answers w laid ks (m.does s))) (sym (call_some w l q))
-        (comes_step (step w laid) (frames (Calling (suc l) q) ks) s _ (bodies_come (class_of w s.heap q.self) q ks s)) }
+    more_matched q ks = record {
+      by = λ s.
+          subst (λ (m : Act Value). Come w laid (here w laid (Calling (suc l) q) ks s) (answers w laid ks (m.does s))) (sym (call_some w l q))
+          (comes_step (step w laid) (frames (Calling (suc l) q) ks) s _ (bodies_come (class_of w s.heap q.self) q ks s));
+    }
 
   none_matched : Matched w laid zero
-  none_matched q ks = record { by = λ s.
-      subst (λ (m : Act Value). Come w laid (here w laid (Calling zero q) ks s) (answers w laid ks (m.does s))) (sym (call_none w q))
-      (comes_step (step w laid) (frames (Calling zero q) ks) s _ (comes_same (step w laid) (Ends (Faulted faults.Depth q.from) s))) }
+  none_matched q ks = record {
+    by = λ s.
+        subst (λ (m : Act Value). Come w laid (here w laid (Calling zero q) ks s) (answers w laid ks (m.does s))) (sym (call_none w q))
+        (comes_step (step w laid) (frames (Calling zero q) ks) s _ (comes_same (step w laid) (Ends (Faulted faults.Depth q.from) s)));
+  }
 
   -- calls on frames come to what they mean, however many levels are left
   pub matched : (l : ℕ) → Matched w laid l
@@ -180,6 +183,6 @@ module _ (w : World) (laid : Laying) (ok : IsLaid w laid) where
   pub main_comes : (l : ℕ) (main : Block) (code : List Instruction) → HasEffect code main 0 → (s : State) → ComesTo (step w laid) (main_frames l code) s ((main_from w l main).does s)
   main_comes l main code effect s =
       comes_to (step w laid) (main_frames l code) s ((main_from w l main).does s)
-        (comes_trans (step w laid) _ (answers w laid [] ((body_act w (calls w l) (record { me = Nil; place = InMain }) Nil main []).does s)) _
-          (body_comes w laid l (matched l) (record { me = Nil; place = InMain }) Nil code [] main [] effect s)
-          (main_run ((run_block w (calls w l) (record { me = Nil; place = InMain }) main []).does s)))
+      (comes_trans (step w laid) _ (answers w laid [] ((body_act w (calls w l) (record { me = Nil; place = InMain }) Nil main []).does s)) _
+      (body_comes w laid l (matched l) (record { me = Nil; place = InMain }) Nil code [] main [] effect s)
+      (main_run ((run_block w (calls w l) (record { me = Nil; place = InMain }) main []).does s)))

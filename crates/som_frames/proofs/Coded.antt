@@ -8,7 +8,7 @@ use Rattle.som_model.specs.Implementation.{User}
 use Rattle.som_model.specs.World.{World}
 use Rattle.som_model.specs.State.{Value, Str, To, ClassObject, State, InBody, Offset, Lookup, Dispatch, Used}
 use Rattle.som_model.specs.Runs.{Ran, Goes, Ends, follow, Act}
-use Rattle.som_model.specs.Acts.{◌>>=◌, ◌>>◌, pure, emit, asked}
+use Rattle.som_model.specs.Acts.{◌>>=◌, emit, asked}
 use Rattle.som_model.specs.Values.{cast, text_of}
 use Rattle.som_model.specs.Calls.{Calls, Here, class_here, parent_at, offset_call, named_call, dispatch_call, parent_call, parents_calls}
 use Rattle.som_model.specs.Expressions.{new_on}
@@ -21,13 +21,12 @@ use Rattle.som_code.specs.Machine.{On, Over, then_on, over, run}
 use Rattle.som_code.specs.Effect as flat
 use Rattle.som_code.specs.Effect.{Conf, conf, top, below, arguments, plain, beginning}
 use Rattle.som_code.specs.Same.{HasEffect, body_act}
-use Rattle.som_frames.specs.Frames.{Body, Frames, Running, Calling, Answering, Waiting, ForCall, ForObject, ForName, Invocation}
-use Rattle.som_frames.specs.Passed.{passes_offset, passes_named, passes_parent}
-use Rattle.som_frames.specs.Step.{Step, frames, go, makes, stands_at, goes_past, after_body, next_parent, obey, obey_at, step, begins}
+use Rattle.som_frames.specs.Frames.{Body, Frames, Running, Answering, Waiting, ForCall, ForObject, ForName, Invocation}
+use Rattle.som_frames.specs.Passed.{passes_offset}
+use Rattle.som_frames.specs.Step.{Step, frames, makes, after_body, obey_at, step, begins}
 use Rattle.som_frames.specs.Sources.{Laying, IsLaid}
 use Rattle.som_frames.proofs.Comes.{run_suc, run_zero, comes_same, comes_trans, comes_step}
-
-use Rattle.som_frames.proofs.Answered.{Come, here, answers, Answered, answered_pure, answered_bind, answered_once, answered_then, Matched, offset_answered, named_answered, parent_answered, parents_answered}
+use Rattle.som_frames.proofs.Answered.{Come, here, answers, Answered, answered_bind, answered_once, answered_then, Matched, offset_answered, named_answered, parent_answered, parents_answered}
 
 module _ (w : World) (laid : Laying) (l : ℕ) (matched : Matched w laid l) where
   abbrev call : Calls
@@ -39,17 +38,17 @@ module _ (w : World) (laid : Laying) (l : ℕ) (matched : Matched w laid l) wher
     pub new_calls : (k : ClassKey) → Answered w laid (emit (Used k) >>= λ _. passes_offset w (makes l (ForObject from.place k ∷ ks)) from.place Offset som_new (To (ClassObject k)) []) ks (new_on w call from.place k)
     new_calls k =
         answered_bind w laid (emit (Used k)) (λ _. passes_offset w (makes l (ForObject from.place k ∷ ks)) from.place Offset som_new (To (ClassObject k)) [])
-          (λ _. offset_call w call from.place Offset som_new (To (ClassObject k)) [] >>= λ v. asked from.place (λ h. cast w k h v)) ks
+        (λ _. offset_call w call from.place Offset som_new (To (ClassObject k)) [] >>= λ v. asked from.place (λ h. cast w k h v)) ks
         (λ _. answered_then w laid (passes_offset w (makes l (ForObject from.place k ∷ ks)) from.place Offset som_new (To (ClassObject k)) []) (ForObject from.place k) ks (offset_call w call from.place Offset som_new (To (ClassObject k)) []) (λ v. asked from.place (λ h. cast w k h v))
-          (offset_answered w laid l matched from.place Offset som_new (To (ClassObject k)) [] (ForObject from.place k ∷ ks))
-          (λ v. answered_once w laid (asked from.place (λ h. cast w k h v)) ks))
+        (offset_answered w laid l matched from.place Offset som_new (To (ClassObject k)) [] (ForObject from.place k ∷ ks))
+        (λ v. answered_once w laid (asked from.place (λ h. cast w k h v)) ks))
 
     pub dispatch_calls : (wanted : _) (name : List ℕ) (on : Value) (args : List Value)
         → Answered w laid (passes_offset w (makes l (ForName l from.place wanted on args ∷ ks)) from.place Offset som_dispatch_name on (Str name ∷ [])) ks (dispatch_call w call from.place wanted name on args)
     dispatch_calls wanted name on args =
         answered_then w laid (passes_offset w (makes l (ForName l from.place wanted on args ∷ ks)) from.place Offset som_dispatch_name on (Str name ∷ [])) (ForName l from.place wanted on args) ks (offset_call w call from.place Offset som_dispatch_name on (Str name ∷ [])) (λ v. named_call w call from.place Dispatch wanted (text_of v) on args)
-          (offset_answered w laid l matched from.place Offset som_dispatch_name on (Str name ∷ []) (ForName l from.place wanted on args ∷ ks))
-          (λ v. named_answered w laid l matched from.place Dispatch wanted (text_of v) args on ks)
+        (offset_answered w laid l matched from.place Offset som_dispatch_name on (Str name ∷ []) (ForName l from.place wanted on args ∷ ks))
+        (λ v. named_answered w laid l matched from.place Dispatch wanted (text_of v) args on ks)
 
   -- ---- the code of a body
 
@@ -128,5 +127,7 @@ module _ (w : World) (laid : Laying) (l : ℕ) (matched : Matched w laid l) wher
 
   pub blocks_answered : IsLaid w laid → (x : ClassKey) (r : MethodRef) (block : Block) (i : Invocation) (ks : List Waiting) → w.held x r ≡ Some (User block)
       → Answered w laid (begins w laid i (User block) l ks) ks (body_does w call (User block) i.class i.method i.self i.args)
-  blocks_answered ok x r block i ks e = record { by = λ s.
-      body_comes (record { me = To i.self; place = InBody i.class i.method.name }) (result_zero (w.sig i.method)) (laid block (length i.args)) ks block i.args (ok.by x r block (length i.args) e) s }
+  blocks_answered ok x r block i ks e = record {
+    by = λ s.
+        body_comes (record { me = To i.self; place = InBody i.class i.method.name }) (result_zero (w.sig i.method)) (laid block (length i.args)) ks block i.args (ok.by x r block (length i.args) e) s;
+  }

@@ -1,19 +1,18 @@
 -- An instruction that makes no call takes a unit, or goes on where there is less room.
-use Rattle.std.proofs.Common.{◌≡◌, ◌<◌, ◌+◌, ℕ, List, [], ◌∷◌, length, take, slice_get, Option, Some, None, Bool, true, false, if◌then◌else◌, Ok, refl, sym, ap, ◌∙◌, subst, arith}
+use Rattle.std.proofs.Common.{◌≡◌, ◌<◌, ◌+◌, ℕ, List, ◌∷◌, take, slice_get, Some, Bool, true, false, if◌then◌else◌, refl}
 use Rattle.som_model.specs.declared.key.ClassKey.TheVariants as keys
 use Rattle.som_model.specs.World.{World}
-use Rattle.som_model.specs.State.{Value, To, ClassObject, Manager, State, Used, Printed, receiver}
-use Rattle.som_model.specs.Runs.{Ran, Goes, Ends, follow, Act}
-use Rattle.som_model.specs.Acts.{◌>>=◌, ◌>>◌, pure, tried, asked, take_unit, emit, make}
-use Rattle.som_model.specs.Values.{unary, unary_op, binary, binary_op, host, cast, isa, text_of}
+use Rattle.som_model.specs.State.{Value, To, ClassObject, Manager, Used, receiver}
+use Rattle.som_model.specs.Runs.{Act}
+use Rattle.som_model.specs.Acts.{◌>>=◌, pure, tried, asked, take_unit, emit, make}
+use Rattle.som_model.specs.Values.{unary, unary_op, binary, binary_op, cast, isa, text_of}
 use Rattle.som_model.specs.Calls.{Here, class_here}
-use Rattle.som_model.specs.Expressions.{Frame, local_in, is_true, read, class_object, proxy_on}
+use Rattle.som_model.specs.Expressions.{Frame, is_true, read, class_object, proxy_on}
 use Rattle.som_model.specs.Statements.{assign, print_value}
 use Rattle.som_code.specs.declared.instruction.Instruction.{Instruction}
 use Rattle.som_code.specs.declared.instruction.Instruction.TheVariants as ops
-use Rattle.som_code.specs.Machine.{After, On, Over}
+use Rattle.som_code.specs.Machine.{On}
 use Rattle.som_code.specs.Effect.{Conf, conf, on, top, below, plain, push, with_local}
-use Rattle.som_code.specs.Effect as flat
 use Rattle.som_code.specs.Sound.{is_turn, is_led}
 use Rattle.som_frames.specs.Weight.{room}
 use Rattle.som_frames.proofs.Calm.{Calm, calm_more, calm_after, calm_pure, calm_tried, calm_asked, calm_printed, calm_used, calm_make, calm_assign, calm_bind, Steady, steady_on, steady_over, steady_bind, Takes, takes_calm, takes_then, takes_asked}
@@ -43,8 +42,8 @@ module _ (w : World) (here : Here) (zero_value : Value) (code : List Instruction
   proxy_takes k v =
       let made : Act Value = make w (keys.Proxy k) v >>= λ r. emit (Used (keys.Proxy k)) >>= λ _. pure (To r) in
       takes_asked here.place (λ _. take_unit >>= λ _. made) (λ _. takes_calm made
-        (calm_after (make w (keys.Proxy k) v) (λ r. emit (Used (keys.Proxy k)) >>= λ _. pure (To r)) (calm_make w (keys.Proxy k) v)
-          (λ r. calm_bind (emit (Used (keys.Proxy k))) (λ _. pure (To r)) (calm_used (keys.Proxy k)) (λ _. calm_pure (To r))))) (λ h. receiver h v)
+      (calm_after (make w (keys.Proxy k) v) (λ r. emit (Used (keys.Proxy k)) >>= λ _. pure (To r)) (calm_make w (keys.Proxy k) v)
+      (λ r. calm_bind (emit (Used (keys.Proxy k))) (λ _. pure (To r)) (calm_used (keys.Proxy k)) (λ _. calm_pure (To r))))) (λ h. receiver h v)
 
   pub plain_steady : (i : Instruction) → slice_get code p ≡ Some i → is_led code p i ≡ true → IsSteady i
   plain_steady (ops.Push c) is led = steady (λ st fr. steady_next (ops.Push c) is refl _ fr)

@@ -1,5 +1,5 @@
 -- Each step takes a unit, or makes the weight of the task smaller; it tells of the body that it invokes; and spent it has changed nothing.
-use Rattle.std.proofs.Common.{◌≡◌, ◌⊎◌, inl, inr, ◌<◌, ◌≤◌, ◌+◌, ◌*◌, ℕ, zero, suc, List, [], ◌∷◌, length, drop, slice_get, Option, Some, None, Bool, true, false, if◌then◌else◌, Ok, refl, sym, ap, ◌∙◌, subst, arith}
+use Rattle.std.proofs.Common.{◌≡◌, ◌<◌, ◌≤◌, ◌+◌, ◌*◌, ℕ, zero, suc, List, [], ◌∷◌, length, drop, slice_get, Option, Some, None, Bool, true, false, if◌then◌else◌, Ok, refl, subst, arith}
 use Rattle.som_model.specs.declared.key.ClassKey.{ClassKey}
 use Rattle.som_model.specs.declared.key.MethodRef.{MethodRef}
 use Rattle.som_model.specs.declared.key.ValueType.{ValueType}
@@ -8,27 +8,27 @@ use Rattle.som_model.specs.Kernel.{som_new, som_init, som_uninit, som_dispatch_n
 use Rattle.som_model.specs.Implementation.{Held}
 use Rattle.som_model.specs.Implementation as held
 use Rattle.som_model.specs.World.{World}
-use Rattle.som_model.specs.State.{Value, Nil, Str, To, Ref, Object, ClassObject, Manager, State, Place, InBody, Manner, Offset, Lookup, Dispatch, Forward, Parent, Called, Used, live, receiver, class_of, target_of, freed}
-use Rattle.som_model.specs.Runs.{Ran, Goes, Ends, Spent, Faulted, follow, end_of, Act}
-use Rattle.som_model.specs.Acts.{◌>>=◌, ◌>>◌, pure, fault, tried, asked, reading, emit, take_unit, become, freed_stays, make}
+use Rattle.som_model.specs.State.{Value, Nil, Str, To, Ref, Object, ClassObject, Manager, State, Place, InBody, Manner, Offset, Lookup, Dispatch, Forward, Parent, Used, live, receiver, class_of, target_of, freed}
+use Rattle.som_model.specs.Runs.{Ran, Goes, Ends, follow, Act}
+use Rattle.som_model.specs.Acts.{◌>>=◌, pure, tried, asked, emit, become, freed_stays, make}
 use Rattle.som_model.specs.Values.{cast, text_of, sig_fits}
 use Rattle.som_model.specs.Calls.{Request, Here, class_here, parent_at, found}
 use Rattle.som_model.specs.Expressions.{read}
 use Rattle.som_model.specs.Statements.{assign}
-use Rattle.som_model.specs.Invoked.{first_argument, stands_for, class_found, found_object, asks, KernelBody, Idle, Free, New, NewNoInit, FindClass, Asks, kernel_body, table, result_zero}
+use Rattle.som_model.specs.Invoked.{first_argument, stands_for, class_found, found_object, asks, KernelBody, Idle, Free, New, NewNoInit, FindClass, Asks, kernel_body, table}
 use Rattle.som_code.specs.declared.instruction.Instruction.{Instruction}
 use Rattle.som_code.specs.declared.instruction.Instruction.TheVariants as ops
 use Rattle.som_code.specs.Machine as machine
 use Rattle.som_code.specs.Machine.{On, Over}
-use Rattle.som_code.specs.Effect.{Conf, conf, top, below, arguments, plain}
+use Rattle.som_code.specs.Effect.{Conf, top, below, arguments, plain}
 use Rattle.som_code.specs.Sound.{is_turn, is_led, IsSound}
-use Rattle.som_frames.specs.Frames.{Body, Invocation, Left, Now, Running, Calling, Invoking, Answering, Waiting, ForCall, ForHook, ForMethod, ForObject, ForInit, ForUninit, ForName, ForParent, Frames}
+use Rattle.som_frames.specs.Frames.{Body, Invocation, Now, Running, Calling, Invoking, Answering, Waiting, ForCall, ForHook, ForMethod, ForObject, ForInit, ForUninit, ForName, ForParent, Frames}
 use Rattle.som_frames.specs.Passed.{passes_offset, passes_named, passes_parent, own_self}
 use Rattle.som_frames.specs.Step.{Step, frames, go, makes, waits, free_begins, new_begins, new_no_init_begins, forward_begins, kernel_begins, stands_at, goes_past, answered, after_body, next_parent, resume, obey, obey_at, begins, invoke_next, next, call_bodies}
 use Rattle.som_frames.specs.Sources.{Laying}
-use Rattle.som_frames.specs.Weight.{room, cost, body_weight, now_weight, waiting_weight, all_weight, weight, IsNowSound}
+use Rattle.som_frames.specs.Weight.{room, cost, body_weight, waiting_weight, all_weight, weight, IsNowSound}
 use Rattle.som_frames.specs.Counts.{invokes}
-use Rattle.som_frames.proofs.Calm.{Calm, calm_pure, calm_fault, calm_tried, calm_asked, calm_reading, calm_used, calm_freed, calm_make, calm_more, calm_before, calm_after, calm_assign, calm_bind, Steady, steady_on, steady_over, steady_fault, steady_bind, Takes, takes_call, takes_then, Fine, fine_steady, fine_takes}
+use Rattle.som_frames.proofs.Calm.{Calm, calm_pure, calm_fault, calm_tried, calm_asked, calm_reading, calm_used, calm_freed, calm_make, calm_more, calm_before, calm_after, calm_assign, calm_bind, Steady, steady_on, steady_over, steady_fault, steady_bind, takes_call, takes_then, Fine, fine_steady, fine_takes}
 use Rattle.som_frames.proofs.Lighter.{less_by_cost, room_next}
 use Rattle.som_frames.proofs.Plain.{Nearer, IsSteady, steady, takes, plain_steady}
 
@@ -65,12 +65,12 @@ module _ (w : World) where
   parents_steady n l from method args ks (p ∷ ps) lt =
       let next : 3 * length ps + all_weight w ks < n = omega (arith, lt) in
       descends (w.is_a p (w.owner method).class) (parents_steady n l from method args ks ps next) where
-    descends : (b : Bool) → Steady (Below n) (next_parent w l from ps method args ks)
-        → Steady (Below n) (if b then passes_parent w (makes l (ForParent l from ps method args ∷ ks)) from p method args else next_parent w l from ps method args ks)
-    descends true rest =
-        let lower : 2 + (3 * length ps + 1 + all_weight w ks) < n = omega (arith, lt) in
-        parent_steady (Below n) w (makes l (ForParent l from ps method args ∷ ks)) (makes_steady n l (ForParent l from ps method args ∷ ks) lower) from p method args
-    descends false rest = rest
+        descends : (b : Bool) → Steady (Below n) (next_parent w l from ps method args ks)
+            → Steady (Below n) (if b then passes_parent w (makes l (ForParent l from ps method args ∷ ks)) from p method args else next_parent w l from ps method args ks)
+        descends true rest =
+            let lower : 2 + (3 * length ps + 1 + all_weight w ks) < n = omega (arith, lt) in
+            parent_steady (Below n) w (makes l (ForParent l from ps method args ∷ ks)) (makes_steady n l (ForParent l from ps method args ∷ ks) lower) from p method args
+        descends false rest = rest
 
   -- ---- a value that comes to what waits for it
 
@@ -107,6 +107,7 @@ module _ (w : World) where
       after_steady m h = record { calm = calm_bind m (λ x. pure (after_body b ks x)) h.calm (λ x. calm_pure (after_body b ks x)); only = λ s fs t e. by s (m.does s) refl fs t e } where
         frames_are : (x y : Frames) (s t : State) → ◌≡◌ {A = Ran (machine.After Frames (Unit {0}))} (Goes (On x) s) (Goes (On y) t) → x ≡ y
         frames_are x y s t e = cc
+
         by : (s : State) (r : Ran (machine.After Conf Value)) → m.does s ≡ r → (fs : Frames) (t : State) → follow r (λ x u. Goes (after_body b ks x) u) ≡ Goes (On fs) t → Lighter fs
         by s (Goes (On c) u) e fs t g =
             let near : room b.code c.at < room b.code b.conf.at = h.only s c u e in
@@ -229,9 +230,9 @@ module _ (w : World) where
     next_fine (Running b) ks sound = running_fine b ks sound (slice_get b.code b.conf.at) refl
     next_fine (Calling zero q) ks sound = fine_steady _ _ (steady_fault (Below (2 + all_weight w ks)) faults.Depth q.from)
     next_fine (Calling (suc l) q) ks sound = fine_steady _ _ (record {
-        calm = calm_reading 0 (λ h. go (Invoking (record { levels = l; bodies = call_bodies w (class_of w h q.self) q; answer = Nil })) ks) (λ h. calm_pure (On _));
-        only = λ s fs t e. (steady_on (Below (2 + all_weight w ks)) (frames (Invoking (record { levels = l; bodies = call_bodies w (class_of w s.heap q.self) q; answer = Nil })) ks) (omega arith)).only s fs t e;
-      })
+      calm = calm_reading 0 (λ h. go (Invoking (record { levels = l; bodies = call_bodies w (class_of w h q.self) q; answer = Nil })) ks) (λ h. calm_pure (On _));
+      only = λ s fs t e. (steady_on (Below (2 + all_weight w ks)) (frames (Invoking (record { levels = l; bodies = call_bodies w (class_of w s.heap q.self) q; answer = Nil })) ks) (omega arith)).only s fs t e;
+    })
     next_fine (Invoking left) ks sound = invoke_fine left.levels left.bodies left.answer ks
     next_fine (Answering v) [] sound = fine_steady _ _ (steady_over (Below 0) (tt {0}))
     next_fine (Answering v) (k ∷ ks) sound =

@@ -1,8 +1,8 @@
 -- What a step costs: the bodies that it invokes, and the units that pay for objects.
-use Rattle.std.specs.Prelude.{ℕ, zero, suc, ◌+◌, List, [], ◌∷◌, length}
+use Rattle.std.specs.Prelude.{ℕ, ◌+◌, List, [], ◌∷◌, length}
 use Rattle.som_model.specs.State.{State}
 use Rattle.som_model.specs.Runs.{Ran, Goes, Ends, Faulted, Spent}
-use Rattle.som_frames.specs.Frames.{Now, Running, Calling, Invoking, Answering, Invocation}
+use Rattle.som_frames.specs.Frames.{Now, Invoking, Invocation}
 
 abbrev first_of_left : List Invocation → ℕ
 first_of_left [] = 0

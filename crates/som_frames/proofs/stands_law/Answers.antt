@@ -1,4 +1,4 @@
-use Rattle.std.proofs.Common.{◌≡◌, ◌+◌, ℕ, subst, arith, sym}
+use Rattle.std.proofs.Common.{◌≡◌, ◌+◌, subst, arith, sym}
 use Rattle.som_model.specs.declared.limits.TheConstants.{MAX_DEPTH}
 use Rattle.som_model.specs.Means.{beginning, means_in}
 use Rattle.som_code.specs.Machine.{ComesTo}
@@ -8,9 +8,11 @@ use Rattle.som_frames.proofs.Task.{stands_granted, stands_on, stands_over, stand
 use Rattle.som_frames.proofs.stands_law.Goals as goal
 
 pub returns-clause-start : goal.returns-clause-start
-returns-clause-start c w laid main code ok effect = record { by = λ f.
-    let e : 0 + f ≡ f = omega arith in
-    subst (λ n. ComesTo (step w laid) (main_frames MAX_DEPTH code) (beginning w n) (means_in w main n)) (sym e) (main_comes w laid ok MAX_DEPTH main code effect (beginning w f)) }
+returns-clause-start c w laid main code ok effect = record {
+  by = λ f.
+      let e : 0 + f ≡ f = omega arith in
+      subst (λ n. ComesTo (step w laid) (main_frames MAX_DEPTH code) (beginning w n) (means_in w main n)) (sym e) (main_comes w laid ok MAX_DEPTH main code effect (beginning w f));
+}
 
 pub returns-clause-granted : goal.returns-clause-granted
 returns-clause-granted c w laid means fs s n u h = stands_granted (step w laid) means fs s n h u

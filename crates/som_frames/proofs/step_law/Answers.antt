@@ -1,4 +1,3 @@
-use Rattle.som_frames.specs.Frames.{Frames}
 use Rattle.som_frames.proofs.Steps.{next_fine}
 use Rattle.som_frames.proofs.step_law.Goals as goal
 
