@@ -126,6 +126,9 @@ module _ (w : World) (known : ClassKey → Bool) (sound : IsSound w known) where
   reads_typed h k n (Boolean z) t e = tt
   reads_typed h k n (Str z) t e = tt
 
+  long_passes : (h : Heap) (t : ExprType) (v : Value) → typing.is_long t ≡ true → IsOf w t v h → is_long v ≡ true
+  long_passes h t v e i = ap is_long (of_long w known sound h t v e i).1
+
   module _ (otherwise : Act (Unit {0})) (call checked : Calls) (keep : CallsKeep w call checked) (here : Here) (at : CodePlace) (scope : List ValueType) where
     abbrev F : ClassFacts
     F = facts_of w known
@@ -420,10 +423,10 @@ module _ (w : World) (known : ClassKey → Bool) (sound : IsSound w known) where
         bind_keeps w h (IsOf w q.value) (IsOf w t) (λ x. acts.◌>>=◌ (E l.0 frame) (λ y. pure (host code x y))) (λ x. acts.◌>>=◌ right (λ y. pure (host code x y)))
         (λ x g le ty j. bind_keeps w g (IsOf w u.value) (IsOf w t) (λ y. pure (host code x y)) (λ y. pure (host code x y))
         (λ y g2 le2 ty2 j2. pure_keeps w g2 (IsOf w t) (host code x y) (λ f lf tf. subst (λ z. IsOf w z (host code x y) f) (same_answer d.1) refl))
-        (E l.0 frame) right (value_keeps w otherwise g (IsOf w u.value) (λ v f. is_long v) (E l.0 frame) (C l.0 frame) (λ v f lf tf jf. ap is_long (of_long w known sound f u.value v b.1 jf).1)
+        (E l.0 frame) right (value_keeps w otherwise g (IsOf w u.value) (λ v f. is_long v) (E l.0 frame) (C l.0 frame) (λ v f lf tf jf. long_passes f u.value v b.1 jf)
         (part_keeps l.0 l.1 u.value u.first g frame (in_later w h g at.class here le i) (types_later w h g le scope frame a))))
         (E k.0 frame) (such_that otherwise (λ v g. is_long v) (C k.0) frame)
-        (value_keeps w otherwise h (IsOf w q.value) (λ v g. is_long v) (E k.0 frame) (C k.0 frame) (λ v g le ty j. ap is_long (of_long w known sound g q.value v b.0 j).1) (part_keeps k.0 k.1 q.value q.first h frame i a))
+        (value_keeps w otherwise h (IsOf w q.value) (λ v g. is_long v) (E k.0 frame) (C k.0 frame) (λ v g le ty j. long_passes g q.value v b.0 j) (part_keeps k.0 k.1 q.value q.first h frame i a))
 
     plain_form : (v : Value) (t : ExprType) → ((g : Heap) → IsOf w t v g) → (h : Heap) → Keeps w h (pure v) (pure v) (IsOf w t)
     plain_form v t f h = pure_keeps w h (IsOf w t) v (λ g le ty. f g)

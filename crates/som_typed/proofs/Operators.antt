@@ -23,7 +23,7 @@ use Rattle.som_typed.proofs.Heaps.{type_later}
 use Rattle.som_typed.proofs.Keeping.{Answers, Keeps, bind_keeps, pure_keeps, tried_keeps, if_keeps, weaker_keeps}
 use Rattle.som_typed.proofs.Facts.{IsSound}
 use Rattle.som_typed.proofs.Steps.{met, same_answer}
-use Rattle.som_typed.proofs.Values.{of_long, of_boolean, of_text, of_printed}
+use Rattle.som_typed.proofs.Values.{nothing_value, of_long, of_boolean, of_text, of_printed}
 
 -- whether a number is 0
 abbrev is_zero : ℤ → Bool
@@ -164,6 +164,14 @@ module _ (w : World) (known : ClassKey → Bool) (sound : IsSound w known) where
       ]
     ]
   ]
+
+  -- two values of one type are of one kind
+  pub same_kind : (h : Heap) (t : ValueType) (u v : Value) → has_type w h t u ≡ true → has_type w h t v ≡ true → are_of_one_kind u v ≡ true
+  same_kind h types.Void u v e f = subst (λ z. are_of_one_kind z v ≡ true) (sym (nothing_value w known sound h u e)) (ap (are_of_one_kind Nil) (nothing_value w known sound h v f))
+  same_kind h types.Long u v e f = alike_values h (Of types.Long) (Of types.Long) u v refl e f
+  same_kind h types.Boolean u v e f = alike_values h (Of types.Boolean) (Of types.Boolean) u v refl e f
+  same_kind h types.Str u v e f = alike_values h (Of types.Str) (Of types.Str) u v refl e f
+  same_kind h (types.Class c) u v e f = alike_values h (Of (types.Class c)) (Of (types.Class c)) u v refl e f
 
   -- two operands: they are as the operator takes them, and what it answers is of its type
   module _ (s t r : ExprType) where

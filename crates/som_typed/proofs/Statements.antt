@@ -1,6 +1,6 @@
 -- Statements and blocks that are well typed keep the objects and the locals typed, and no test in them fails.
 use Rattle.std.proofs.Common.{◌≡◌, ℕ, zero, suc, Bool, true, false, not, ◌&&◌, if◌then◌else◌, List, [], ◌∷◌, ◌++◌, length, map, Some, slice_get, Ok, Err, refl, sym, ap, ◌∙◌, subst, true≢false, append-nil, append_assoc}
-use Rattle.std.specs.Prelude.{is_some, slice_set}
+use Rattle.std.specs.Prelude.{slice_set}
 use Rattle.som_model.specs.declared.key.ClassKey.{ClassKey}
 use Rattle.som_model.specs.declared.key.ValueType.{ValueType}
 use Rattle.som_model.specs.declared.key.ValueType.TheVariants as types
@@ -30,13 +30,14 @@ use Rattle.som_typed.specs.Values.{has_type, have_types}
 use Rattle.som_typed.specs.Values as values
 use Rattle.som_typed.specs.Heaps.{AreTyped}
 use Rattle.som_typed.specs.Preserving.{FlowHas, IsOf}
-use Rattle.som_typed.specs.Checks.{has_slot}
+use Rattle.som_typed.specs.Checks.{has_local, has_slot}
 use Rattle.som_typed.specs.Checked.{such_that, checked_eval, stmt_checked, checked_exec, checked_block}
 use Rattle.som_typed.proofs.Keeping.{Answers, Any, Keeps, bind_keeps, pure_keeps, fault_keeps, asked_keeps, emit_keeps, unit_keeps, become_keeps, bounded_keeps, if_keeps, weaker_keeps, value_keeps}
 use Rattle.som_typed.proofs.Heaps.{both_true, type_later, types_later, write_typed}
 use Rattle.som_typed.proofs.Facts.{IsSound, InClass, facts_of}
 use Rattle.som_typed.proofs.Steps.{went, met, same_answer, found}
 use Rattle.som_typed.proofs.Values.{value_at, one_more, one_set, first_ones, as_many, fitting, receiving, of_boolean, of_printed}
+use Rattle.som_typed.proofs.Operators.{same_kind}
 use Rattle.som_typed.proofs.Calls.{Has, CallsKeep, own_keeps}
 use Rattle.som_typed.proofs.Expressions.{kind_in, in_later, slot_in, expr_keeps, part_keeps}
 
@@ -187,7 +188,7 @@ module _ (w : World) (known : ClassKey → Bool) (sound : IsSound w known) (othe
       )
 
   local_keeps : (n : ℕ) (e : Expr) (scope after : Scope) → (value (expr_type F at scope e) >>= local_set F scope n) ≡ Ok after
-      → Extends scope after × RunKeeps scope after (λ frame. acts.◌>>=◌ (E e frame) (λ v. pure (Next (slice_set frame n v)))) (λ frame. acts.◌>>=◌ (such_that otherwise (λ v h. is_some (slice_get frame n)) (C e) frame) (λ v. pure (Next (slice_set frame n v))))
+      → Extends scope after × RunKeeps scope after (λ frame. acts.◌>>=◌ (E e frame) (λ v. pure (Next (slice_set frame n v)))) (λ frame. acts.◌>>=◌ (such_that otherwise (λ v h. has_local (slice_get frame n) v) (C e) frame) (λ v. pure (Next (slice_set frame n v))))
   local_keeps n e scope after h =
       let q = went (value (expr_type F at scope e)) (local_set F scope n) after h in
       let k = went (there 16 (slice_get scope n)) (λ kind. needs 17 (fits F kind q.value) (Ok scope)) after q.further in
@@ -198,7 +199,9 @@ module _ (w : World) (known : ClassKey → Bool) (sound : IsSound w known) (othe
             bind_keeps w g (IsOf w q.value) (FlowHas w at.result after) (λ v. pure (Next (slice_set frame n v))) (λ v. pure (Next (slice_set frame n v)))
             (λ v l le ty j. pure_keeps w l (FlowHas w at.result after) (Next (slice_set frame n v)) (λ o lo to. subst (λ z. have_types w o z (slice_set frame n v) ≡ true) (same_answer f.1)
             (one_set w o scope frame n k.value v (types_later w g o (later_on g l o le lo) scope frame a) is (type_later w l o lo k.value v (fitting w known sound l k.value q.value v f.0 j)))))
-            (E e frame) (such_that otherwise (λ v h. is_some (slice_get frame n)) (C e) frame) (tested scope e q.value (λ v h. is_some (slice_get frame n)) q.first g frame i a (λ v l le ty j. ap is_some (value_at w g scope frame n k.value a is).1)),
+            (E e frame) (such_that otherwise (λ v h. has_local (slice_get frame n) v) (C e) frame) (tested scope e q.value (λ v h. has_local (slice_get frame n) v) q.first g frame i a (λ v l le ty j.
+            (let u = value_at w g scope frame n k.value a is in
+            subst (λ z. has_local z v ≡ true) (sym u.1) (same_kind w known sound l k.value u.0 v (type_later w g l le k.value u.0 u.2) (fitting w known sound l k.value q.value v f.0 j))))),
       )
 
   variable_keeps : (n : ℕ) (e : Expr) (scope after : Scope) → (value (expr_type F at scope e) >>= variable_set F at scope n) ≡ Ok after

@@ -5,7 +5,9 @@ use Rattle.som_model.specs.declared.key.ClassKey.{ClassKey}
 use Rattle.som_model.specs.declared.key.MethodRef.{MethodRef}
 use Rattle.som_model.specs.declared.syntax.Expr.{Expr, fold-Expr}
 use Rattle.som_model.specs.declared.syntax.Expr.TheOpen.{Expr-F}
+use Rattle.som_model.specs.declared.syntax.Expr.TheVariants as exprs
 use Rattle.som_model.specs.declared.syntax.Stmt.{Stmt, fold-Stmt}
+use Rattle.som_model.specs.declared.syntax.Stmt.TheVariants as stmts
 use Rattle.som_model.specs.declared.syntax.Stmt.TheOpen.{Stmt-F}
 use Rattle.som_model.specs.declared.syntax.Block.{Block, fold-Block}
 use Rattle.som_model.specs.declared.program.Fault.TheVariants as faults
@@ -24,12 +26,16 @@ use Rattle.som_model.specs.Statements.{Flow, Next, Return, Returned, Runs, assig
 use Rattle.som_model.specs.Invoked.{result_zero, answer_of, body_does}
 use Rattle.som_model.specs.Means.{body_class, hooks_of, beginning}
 use Rattle.som_typed.specs.Values.{is_value, has_type, have_types, are_of_one_kind, is_result, is_long, is_boolean, has_text, unary_takes, binary_takes}
-use Rattle.som_typed.specs.Checks.{is_class, is_kind, of_class, stands, has_slot, has_parent, has_parents, has_method, can_run, kernel_can, has_target}
+use Rattle.som_typed.specs.Checks.{has_local, is_class, is_kind, of_class, stands, has_slot, has_parent, has_parents, has_method, can_run, kernel_can, has_target}
 
 -- whether a body ended with a value
 abbrev pub is_returned : Flow → Bool
 is_returned (Returned v) = true
 is_returned _ = false
+
+-- a main that prints nil
+abbrev pub printing_nil : Block
+printing_nil = record { statements = stmts.Print exprs.Nil ∷ [] }
 
 module _ (otherwise : Act (Unit {0})) where
   -- where this doesn't hold of the objects, something else is done
@@ -87,7 +93,7 @@ module _ (otherwise : Act (Unit {0})) where
         v ← such_that (λ v h. has_type w h kind v) (checked_eval e) frame
         pure (Next (frame ++ v ∷ []))
       stmt_checked (Stmt-F.SetLocal n e) frame = do
-        v ← such_that (λ v h. is_some (slice_get frame n)) (checked_eval e) frame
+        v ← such_that (λ v h. has_local (slice_get frame n) v) (checked_eval e) frame
         pure (Next (slice_set frame n v))
       stmt_checked (Stmt-F.SetVariable n e) frame = do
         v ← such_that (λ v h. has_slot w (class_here here) n here.me h && has_type w h (w.variable (class_here here) n) v) (checked_eval e) frame

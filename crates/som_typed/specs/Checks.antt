@@ -12,7 +12,7 @@ use Rattle.som_model.specs.World.{World}
 use Rattle.som_model.specs.State.{Value, To, Ref, Object, Heap, target_of}
 use Rattle.som_model.specs.Calls.{Request, Here, class_here}
 use Rattle.som_model.specs.Invoked.{IsA, IsInstanceOf, RespondsTo, DispatchName, DescendedFrom, SupportsMethod, CheckVersion, KernelBody, Idle, FindClass, Asks, table, kernel_body}
-use Rattle.som_typed.specs.Values.{has_type, have_types, are_arguments, is_reference}
+use Rattle.som_typed.specs.Values.{has_type, have_types, are_of_one_kind, are_arguments, is_reference}
 
 -- there is the class, or what it is made of
 abbrev pub is_class : World → ClassKey → Heap → Bool
@@ -22,6 +22,11 @@ is_class w k h = w.is_a k som_object
 abbrev pub is_kind : World → ValueType → Heap → Bool
 is_kind w (types.Class k) h = is_class w k h
 is_kind w kind h = true
+
+-- there is the local, and it holds a value of the same kind
+abbrev pub has_local : Option Value → Value → Bool
+has_local None v = false
+has_local (Some u) v = are_of_one_kind u v
 
 -- a value of a class's type
 abbrev pub of_class : World → ClassKey → Value → Heap → Bool
