@@ -14,3 +14,4 @@ pub mod Methods
 pub mod Fitting
 pub mod Loading
 pub mod Preserving
+pub mod Failing

@@ -5,7 +5,9 @@ use Rattle.som_model.specs.declared.key.ClassKey.{ClassKey}
 use Rattle.som_model.specs.declared.key.MethodRef.{MethodRef}
 use Rattle.som_model.specs.declared.syntax.Expr.{Expr, fold-Expr}
 use Rattle.som_model.specs.declared.syntax.Expr.TheOpen.{Expr-F}
+use Rattle.som_model.specs.declared.syntax.Expr.TheVariants as exprs
 use Rattle.som_model.specs.declared.syntax.Stmt.{Stmt, fold-Stmt}
+use Rattle.som_model.specs.declared.syntax.Stmt.TheVariants as stmts
 use Rattle.som_model.specs.declared.syntax.Stmt.TheOpen.{Stmt-F}
 use Rattle.som_model.specs.declared.syntax.Block.{Block, fold-Block}
 use Rattle.som_model.specs.declared.program.Fault.TheVariants as faults
@@ -30,6 +32,10 @@ use Rattle.som_typed.specs.Checks.{has_local, is_class, is_kind, of_class, stand
 abbrev pub is_returned : Flow → Bool
 is_returned (Returned v) = true
 is_returned _ = false
+
+-- a main that prints nil
+abbrev pub printing_nil : Block
+printing_nil = record { statements = stmts.Print exprs.Nil ∷ [] }
 
 module _ (otherwise : Act (Unit {0})) where
   -- where this doesn't hold of the objects, something else is done
