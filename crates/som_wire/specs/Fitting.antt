@@ -1,7 +1,7 @@
 -- Which expressions, statements and blocks can stand where so many levels are left, of so many classes, with methods that fit; and which parts.
 use Rattle.std.specs.Prelude.{◌≡◌, ℕ, zero, suc, ◌-◌, ◌<◌, ◌≤◌, ◌^◌, Bool, true, false, IsTrue, FitsSigned, List, [], ◌∷◌, length, All}
 use Rattle.std.specs.Int.{w32}
-use Rattle.som_model.specs.declared.limits.TheConstants.{MAX_PARAMETERS, MAX_VARIABLES, MAX_OVERRIDES, MAX_SELECTS}
+use Rattle.som_model.specs.declared.limits.TheConstants.{MAX_NESTING, MAX_PARAMETERS, MAX_VARIABLES, MAX_OVERRIDES, MAX_SELECTS}
 use Rattle.som_fields.specs.declared.method.WireMethod.{WireMethod}
 use Rattle.som_fields.specs.Spelling.{FitsText, FitsCounted, FitsKind, FitsMethod, FitsSomeRanges, most_classes}
 use Rattle.som_fields.specs.declared.method.Ranges.{Ranges}
@@ -91,7 +91,7 @@ FitsBlock left classes Method b = FitsStatements (FitsStmt left classes Method) 
 
 -- so many levels are left where something has this level
 abbrev pub levels_left : ℕ → ℕ
-levels_left level = 33 - level
+levels_left level = suc MAX_NESTING - level
 
 -- ---- what can stand somewhere, where there are most classes and entries
 

@@ -1,18 +1,19 @@
 ghost use Rattle.som_wire.specs.Fitting.{FitsBlock, FitsSomeBlock, levels_left};
 ghost use Rattle.som_wire.specs.Reading.{block_at};
 ghost use Rattle.som_wire.specs.Spelling.{block};
+ghost use Rattle.som_model.specs.declared.limits.TheConstants.{MAX_NESTING};
 ghost use Rattle.som_fields.specs.Fields.{Stands, Gives, done};
 ghost use Rattle.som_fields.specs.Spelling.{FitsMethod, AreShort};
-ghost use Rattle.std.specs.Prelude.{◌≡◌, ◌<◌, ◌≤◌, ◌^◌, ◌++◌, ℕ, length, slice_index, IfOk, OnOk, OnErr};
+ghost use Rattle.std.specs.Prelude.{◌≡◌, ◌+◌, ◌<◌, ◌≤◌, ◌^◌, ◌++◌, ℕ, length, slice_index, IfOk, OnOk, OnErr};
 
 use crate::stmt::read_statements;
 use crate::syntax::WireBlock;
 use crate::write_stmt::append_block;
 use som_fields::{ImageFault, Ranges, Read};
-use som_model::{List, NoMemory};
+use som_model::{List, MAX_NESTING, NoMemory};
 use std::alloc::Global;
 
-/// Reads a block at a place, whose statements have this level: 1 in a body, and at most 33.
+/// Reads a block at a place, whose statements have this level: 1 in a body, and at most one more than may nest.
 pub fn read_block(
     alloc: Global,
     bytes: &List<u8>,
@@ -23,7 +24,7 @@ pub fn read_block(
     requires place { place ≤ length bytes.now }
     requires entries { length ranges.now.entries ≡ ranges.now.classes }
     requires least { 1 ≤ level }
-    requires most { level ≤ 33 }
+    requires most { level ≤ MAX_NESTING + 1 }
     ensures found { IfOk result (λ r. Stands bytes.now place (block r.value) r.next ×
         FitsBlock (levels_left level) ranges.now.classes (FitsMethod ranges.now) r.value) }
     ensures only { (b : _) (next : ℕ) → Stands bytes.now place (block b) next →
@@ -45,10 +46,10 @@ fn read_at_level(
 ) -> Result<Read<WireBlock>, ImageFault>
     requires place { place ≤ length bytes.now }
     requires entries { length ranges.now.entries ≡ ranges.now.classes }
-    requires most { level ≤ 33 }
+    requires most { level ≤ MAX_NESTING + 1 }
     ensures { Gives result (block_at (levels_left level) ranges.now bytes.now place) }
 {
-    read_statements(alloc, bytes, place, ranges, 33 - level)
+    read_statements(alloc, bytes, place, ranges, MAX_NESTING as u8 + 1 - level)
 }
 
 // The ranges are numbers of 2 bytes, which a reference and a list alone don't tell a proof.

@@ -12,7 +12,8 @@ ghost use Rattle.som_wire.specs.Reading.{
 ghost use Rattle.som_wire.specs.Making.{of_two};
 ghost use Rattle.som_wire.specs.declared.syntax.WireStmt.TheVariants as stmts;
 ghost use Rattle.som_fields.specs.Fields.{Gives};
-ghost use Rattle.som_fields.specs.Reading.{kind_at};
+ghost use Rattle.som_fields.specs.Reading.{kind_at, number_at};
+ghost use Rattle.std.specs.Int.{w8, w16};
 ghost use Rattle.std.specs.Prelude.{◌≡◌, ◌≤◌, false, length, IfOk};
 
 use crate::call::read_call;
@@ -74,39 +75,12 @@ fn read_tagged_stmt(
         (statements_at (stmt_at left ranges.now)) bytes.now place tag.now) }
     ensures next { IfOk result (λ r. r.next ≤ length bytes.now) }
 {
-    let next = tag.next;
-    let (statement, next) = match tag.value {
-        0x01 => return read_var(alloc, bytes, ranges, left, next),
-        0x02 => {
-            let local = read_u16(bytes, next)?;
-            let value = read_expr(alloc, bytes, local.next, ranges, left)?;
-            let (local, next) = (local.value, value.next);
-            (
-                WireStmt::SetLocal {
-                    local,
-                    value: value.value,
-                },
-                next,
-            )
-        }
-        0x03 => {
-            let variable = read_u8(bytes, next)?;
-            let value = read_expr(alloc, bytes, variable.next, ranges, left)?;
-            let (variable, next) = (variable.value, value.next);
-            (
-                WireStmt::SetVariable {
-                    variable,
-                    value: value.value,
-                },
-                next,
-            )
-        }
-        _ => return read_plain(alloc, bytes, ranges, left, tag, place),
-    };
-    Ok(Read {
-        value: statement,
-        next,
-    })
+    match tag.value {
+        0x01 => read_var(alloc, bytes, ranges, left, tag.next),
+        0x02 => read_set_local(alloc, bytes, ranges, left, tag.next),
+        0x03 => read_set_variable(alloc, bytes, ranges, left, tag.next),
+        _ => read_plain(alloc, bytes, ranges, left, tag, place),
+    }
 }
 
 // The type and the value of a local.
@@ -127,6 +101,54 @@ fn read_var(
     Ok(Read {
         value: WireStmt::Var {
             kind: kind.value,
+            value: value.value.into_inner(),
+        },
+        next: value.next,
+    })
+}
+
+// The number and the new value of a local.
+fn read_set_local(
+    alloc: Global,
+    bytes: &List<u8>,
+    ranges: &Ranges,
+    left: u8,
+    place: usize,
+) -> Result<Read<WireStmt>, ImageFault>
+    requires place { place ≤ length bytes.now }
+    requires entries { length ranges.now.entries ≡ ranges.now.classes }
+    ensures exact { Gives result (of_two (number_at w16) (expr_at left ranges.now) stmts.SetLocal bytes.now place) }
+    ensures next { IfOk result (λ r. r.next ≤ length bytes.now) }
+{
+    let local = read_u16(bytes, place)?;
+    let value = read_operand(alloc, bytes, local.next, ranges, left)?;
+    Ok(Read {
+        value: WireStmt::SetLocal {
+            local: local.value,
+            value: value.value.into_inner(),
+        },
+        next: value.next,
+    })
+}
+
+// The number and the new value of a variable of an object.
+fn read_set_variable(
+    alloc: Global,
+    bytes: &List<u8>,
+    ranges: &Ranges,
+    left: u8,
+    place: usize,
+) -> Result<Read<WireStmt>, ImageFault>
+    requires place { place ≤ length bytes.now }
+    requires entries { length ranges.now.entries ≡ ranges.now.classes }
+    ensures exact { Gives result (of_two (number_at w8) (expr_at left ranges.now) stmts.SetVariable bytes.now place) }
+    ensures next { IfOk result (λ r. r.next ≤ length bytes.now) }
+{
+    let variable = read_u8(bytes, place)?;
+    let value = read_operand(alloc, bytes, variable.next, ranges, left)?;
+    Ok(Read {
+        value: WireStmt::SetVariable {
+            variable: variable.value,
             value: value.value.into_inner(),
         },
         next: value.next,
