@@ -1,4 +1,4 @@
-ghost use Rattle.som_calls.specs.Rows.{body_at, parents_of};
+ghost use Rattle.som_calls.specs.Rows.{body_at, choice_at, parents_of};
 ghost use Rattle.std.specs.Prelude.{◌≡◌};
 
 use som_model::List;
@@ -20,5 +20,15 @@ pub fn has_own_body(has_body: &[bool], x: usize) -> bool
     match has_body.get(x) {
         Some(has) => *has,
         None => false,
+    }
+}
+
+// The parent that a class chooses, if any.
+pub fn choice(choices: &[Option<usize>], x: usize) -> Option<usize>
+    ensures { result ≡ choice_at choices.now x }
+{
+    match choices.get(x) {
+        Some(choice) => *choice,
+        None => None,
     }
 }

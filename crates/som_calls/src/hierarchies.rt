@@ -30,10 +30,14 @@ fn descent_and_bodies_are_found(rt: HostRuntime) -> Result<(), Fail> {
     let rows = rows(rt.alloc())?;
     assert!(rt; descends(rows.as_slice(), 3, 2));
     assert!(rt; !descends(rows.as_slice(), 2, 1));
-    let both = implementation(rows.as_slice(), &[true, true, true, false], 0, 3);
+    let none = [None; 4];
+    let both = implementation(rows.as_slice(), &[true, true, true, false], &none, 0, 3);
     assert_eq!(rt; both, Some(1));
-    let right = implementation(rows.as_slice(), &[true, false, true, false], 0, 3);
-    assert_eq!(rt; right, Some(0));
+    let left = implementation(rows.as_slice(), &[true, false, true, false], &none, 0, 3);
+    assert_eq!(rt; left, Some(0));
+    let right = [None, None, None, Some(2)];
+    let chosen = implementation(rows.as_slice(), &[true, true, true, false], &right, 0, 3);
+    assert_eq!(rt; chosen, Some(2));
     Ok(())
 }
 

@@ -1,11 +1,11 @@
 ghost use Rattle.som_model.specs.Ancestors as definitions;
 ghost use Rattle.som_model.specs.Ancestors.{anc_within, member};
-ghost use Rattle.som_model.specs.Lists.{first_some, some};
-ghost use Rattle.som_model.specs.Resolution.{impl, impl_within};
-ghost use Rattle.som_calls.specs.Rows.{body_at, hierarchy_of};
-ghost use Rattle.std.specs.Prelude.{◌≡◌, if◌then◌else◌, None};
+ghost use Rattle.som_model.specs.Lists.{some};
+ghost use Rattle.som_model.specs.Resolution.{impl, impl_within, inherits};
+ghost use Rattle.som_calls.specs.Rows.{body_at, choice_at, hierarchy_of};
+ghost use Rattle.std.specs.Prelude.{◌≡◌, None};
 
-use crate::class_rows::{has_own_body, parents};
+use crate::class_rows::{choice, has_own_body, parents};
 use som_model::List;
 
 /// Whether the class `x` is `a`, or some parent of it descends from `a`.
@@ -39,11 +39,17 @@ fn some_descends(rows: &[List<usize>], classes: &[usize], a: usize, levels: usiz
 }
 
 /// The class whose body `x` has for a method that `a` introduces: `x` where it has one, else what the
-/// leftmost parent that descends from `a` has. It takes no memory.
-pub fn implementation(rows: &[List<usize>], has_body: &[bool], a: usize, x: usize) -> Option<usize>
-    ensures { result ≡ impl (hierarchy_of rows.now) (body_at has_body.now) a x }
+/// parent has that it chooses, or where it chooses none the leftmost that descends from `a`. It takes no memory.
+pub fn implementation(
+    rows: &[List<usize>],
+    has_body: &[bool],
+    choices: &[Option<usize>],
+    a: usize,
+    x: usize,
+) -> Option<usize>
+    ensures { result ≡ impl (hierarchy_of rows.now) (body_at has_body.now) (choice_at choices.now) a x }
 {
-    implementation_within(rows, has_body, a, x, x)
+    implementation_within(rows, has_body, choices, a, x, x)
 }
 
 // The class that has the body within so many levels.
@@ -52,11 +58,12 @@ pub fn implementation(rows: &[List<usize>], has_body: &[bool], a: usize, x: usiz
 fn implementation_within(
     rows: &[List<usize>],
     has_body: &[bool],
+    choices: &[Option<usize>],
     a: usize,
     x: usize,
     levels: usize,
 ) -> Option<usize>
-    ensures { result ≡ impl_within (hierarchy_of rows.now) (body_at has_body.now) a levels x }
+    ensures { result ≡ impl_within (hierarchy_of rows.now) (body_at has_body.now) (choice_at choices.now) a levels x }
 {
     if has_own_body(has_body, x) {
         return Some(x);
@@ -64,7 +71,10 @@ fn implementation_within(
     if levels == 0 {
         return None;
     }
-    first_implementation(rows, has_body, a, parents(rows, x), levels - 1)
+    match choice(choices, x) {
+        Some(parent) => implementation_within(rows, has_body, choices, a, parent, levels - 1),
+        None => first_implementation(rows, has_body, choices, a, parents(rows, x), levels - 1),
+    }
 }
 
 // What the first of the classes that descends from `a` and has a body for it has.
@@ -72,18 +82,18 @@ fn implementation_within(
 fn first_implementation(
     rows: &[List<usize>],
     has_body: &[bool],
+    choices: &[Option<usize>],
     a: usize,
     classes: &[usize],
     levels: usize,
 ) -> Option<usize>
-    ensures { result ≡ first_some
-        (λ p. if definitions.descends (hierarchy_of rows.now) p a
-        then impl_within (hierarchy_of rows.now) (body_at has_body.now) a levels p else None)
-        classes.now }
+    ensures { result ≡ inherits (hierarchy_of rows.now) a
+        (impl_within (hierarchy_of rows.now) (body_at has_body.now) (choice_at choices.now) a levels)
+        None classes.now }
 {
     for class in classes {
         if descends(rows, *class, a) {
-            let found = implementation_within(rows, has_body, a, *class, levels);
+            let found = implementation_within(rows, has_body, choices, a, *class, levels);
             if found.is_some() {
                 return found;
             }

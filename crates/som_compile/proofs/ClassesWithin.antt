@@ -43,9 +43,9 @@ use Rattle.som_naming.specs.ClassLimits.{EntryWithin, BodyWithin, FaceWithin, Cl
 use Rattle.som_elab.specs.Accessors.{Access, accessor_body, accessors_of, body_of, place_of}
 use Rattle.som_sema.specs.Building.{after_base, declarations, module_over}
 use Rattle.som_sema.specs.Finished.{declare, entry_for, introducer, override_of, select_of, selects_at}
-use Rattle.som_sema.specs.Items.{chosen, listed, major_in, minor_in, or_object, overridden}
+use Rattle.som_drafts.specs.Items.{chosen, listed, major_in, minor_in, or_object, overridden}
 use Rattle.som_elab.specs.PlainLimits.{LimitsKept}
-use Rattle.som_sema.specs.Drafts.{InterfaceDraft, draft_of, introduces, draft_class, draft_classes}
+use Rattle.som_drafts.specs.Drafts.{InterfaceDraft, draft_of, introduces, draft_class, draft_classes}
 use Rattle.som_forms.specs.Expressions.{Among}
 use Rattle.som_elab.specs.Bodies.{drafts_of_classes, classes_over, drafts_over, texts_for}
 use Rattle.som_forms.specs.MethodBody.{parameters}

@@ -23,8 +23,8 @@ use Rattle.som_idl.specs.Within.{WordWithin, ExportWithin, ItemWithin, Interface
 use Rattle.som_naming.specs.BlockLimits.{TextWithin}
 use Rattle.som_sema.specs.Finished.{entry_or_moved}
 use Rattle.som_scope.specs.ClassNames.{key_of, type_of}
-use Rattle.som_sema.specs.Items.{by_name, listed, listed_in, major_in, minor_in, number_of, or_object}
-use Rattle.som_sema.specs.Drafts.{accessors, export_entries, export_variables, getter, introduces, item_variables, setter, variables, variables_of}
+use Rattle.som_drafts.specs.Items.{by_name, listed, listed_in, major_in, minor_in, number_of, or_object}
+use Rattle.som_drafts.specs.Drafts.{accessors, export_entries, export_variables, getter, introduces, item_variables, setter, variables, variables_of}
 use Rattle.som_scope.specs.Words.{words}
 
 -- ---- lists

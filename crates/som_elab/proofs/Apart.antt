@@ -26,7 +26,7 @@ use Rattle.som_idl.specs.declared.tree.IdlInterface.{IdlInterface}
 use Rattle.som_body.specs.declared.tree.BodyText.{BodyText}
 use Rattle.som_body.specs.declared.tree.BlockText.{BlockText}
 use Rattle.som_scope.specs.Words.{words}
-use Rattle.som_sema.specs.Drafts.{InterfaceDraft}
+use Rattle.som_drafts.specs.Drafts.{InterfaceDraft}
 use Rattle.som_sema.specs.Finished.{selects_at}
 use Rattle.som_sema.specs.Building.{declarations, most_classes, texts_breach}
 use Rattle.som_elab.specs.Accessors.{body_of}

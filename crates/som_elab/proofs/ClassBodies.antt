@@ -32,7 +32,7 @@ use Rattle.som_body.specs.declared.tree.BodyText.{BodyText}
 use Rattle.som_rules.specs.Plainly.{ClassesHold, Fits, a_block, signatures}
 use Rattle.som_elab.specs.Accessors.{Access, accessor_body, body_of}
 use Rattle.som_sema.specs.Building.{after_base, declarations, texts_breach}
-use Rattle.som_sema.specs.Drafts.{InterfaceDraft}
+use Rattle.som_drafts.specs.Drafts.{InterfaceDraft}
 use Rattle.som_sema.specs.Finished.{selects_at}
 use Rattle.som_scope.specs.Words.{words}
 use Rattle.som_forms.specs.Locals.{kinds_of}

@@ -20,8 +20,8 @@ use Rattle.som_body.specs.declared.tree.BodyText.{BodyText}
 use Rattle.som_typing.proofs.Facts.{signature_said}
 use Rattle.som_sema.specs.declared.types.Refused.{Refused}
 use Rattle.som_elab.specs.Accessors.{body_of}
-use Rattle.som_sema.specs.Drafts.{InterfaceDraft, plain_drafts, plain_draft}
-use Rattle.som_sema.specs.declared.drafts.Draft.{Draft}
+use Rattle.som_drafts.specs.Drafts.{InterfaceDraft, plain_drafts, plain_draft}
+use Rattle.som_drafts.specs.declared.drafts.Draft.{Draft}
 use Rattle.som_elab.specs.declared.all_bodies.AllBodies.{AllBodies}
 use Rattle.som_elab.specs.declared.class_bodies.ClassBodies.{ClassBodies}
 use Rattle.som_elab.specs.Bodies.{texts_for}

@@ -10,9 +10,9 @@ use Rattle.som_model.specs.Class.{class_in}
 use Rattle.som_model.specs.Steps.{◌>>=◌}
 use Rattle.som_idl.specs.declared.tree.IdlInterface.{IdlInterface}
 use Rattle.som_body.specs.declared.tree.BodyText.{BodyText}
-use Rattle.som_sema.specs.Drafts.{InterfaceDraft, plain_drafts}
+use Rattle.som_drafts.specs.Drafts.{InterfaceDraft, plain_drafts}
 use Rattle.som_sema.specs.Finished.{selects_at}
-use Rattle.som_sema.specs.declared.drafts.Draft.{Draft}
+use Rattle.som_drafts.specs.declared.drafts.Draft.{Draft}
 use Rattle.som_scope.specs.Words.{lent}
 use Rattle.som_elab.specs.declared.class_bodies.ClassBodies.{ClassBodies}
 use Rattle.som_elab.specs.Bodies.{drafts_of_classes}

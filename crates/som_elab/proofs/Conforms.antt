@@ -35,7 +35,7 @@ use Rattle.som_rules.proofs.PlainMembers.{types_say}
 use Rattle.som_rules.proofs.PlainWhole.{say_program, say_rules}
 use Rattle.som_sema.specs.Building.{after_base, declarations, module_over, texts_breach}
 use Rattle.som_elab.specs.Limits.{Passed, limit_passed}
-use Rattle.som_sema.specs.Drafts.{InterfaceDraft, draft_classes, draft_of}
+use Rattle.som_drafts.specs.Drafts.{InterfaceDraft, draft_classes, draft_of}
 use Rattle.som_sema.specs.Finished.{declare_selecting, selects_at}
 use Rattle.som_sema.proofs.TextsConform.{texts_conform, texts_select}
 use Rattle.som_forms.specs.Expressions.{Among}

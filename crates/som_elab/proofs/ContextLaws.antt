@@ -25,9 +25,9 @@ use Rattle.som_rules.proofs.PlainFaces.{or_none}
 use Rattle.som_rules.proofs.PlainLists.{map_mem, mem_map}
 use Rattle.som_rules.proofs.PlainMembers.{types_say}
 use Rattle.som_elab.specs.Limits.{class_limits, entry_limits, limit_passed}
-use Rattle.som_sema.specs.Drafts.{InterfaceDraft, plain_drafts, plain_draft, draft_classes}
-use Rattle.som_sema.specs.Items.{or_object}
-use Rattle.som_sema.specs.declared.drafts.Draft.{Draft}
+use Rattle.som_drafts.specs.Drafts.{InterfaceDraft, plain_drafts, plain_draft, draft_classes}
+use Rattle.som_drafts.specs.Items.{or_object}
+use Rattle.som_drafts.specs.declared.drafts.Draft.{Draft}
 use Rattle.som_elab.proofs.LimitLaws.{few_parameters, few_parents, few_variables, limits_law}
 use Rattle.som_forms.specs.Code.{ClassFits}
 use Rattle.som_model.specs.declared.limits.TheConstants.{MAX_PARENTS, MAX_VARIABLES}

@@ -34,9 +34,10 @@ use Rattle.som_sema.specs.Building.{after_base, declarations, declared_all, draf
 use Rattle.som_sema.specs.Finished.{declare, entry_for, entry_or_moved, introducer}
 use Rattle.som_scope.specs.ClassNames.{key_of, type_of}
 use Rattle.std.proofs.lemmas.List.{length-map}
-use Rattle.som_sema.specs.Items.{by_name, or_object}
-use Rattle.som_sema.specs.Drafts.{InterfaceDraft, accessors, draft_of, export_entries, getter, introduces, setter, draft_class, draft_classes, variables}
-use Rattle.som_sema.specs.TextRules.{text_s2_from, text_s4, text_s6}
+use Rattle.som_drafts.specs.Items.{by_name, or_object}
+use Rattle.som_drafts.specs.Drafts.{InterfaceDraft, accessors, draft_of, export_entries, getter, introduces, setter, draft_class, draft_classes, variables}
+use Rattle.som_drafts.specs.OwnRules.{text_s6}
+use Rattle.som_sema.specs.TextRules.{text_s2_from, text_s4}
 use Rattle.som_sema.proofs.TextLaws.{map_same, names_law}
 use Rattle.som_elab.specs.Contexts.{ParentsCounted}
 use Rattle.som_elab.specs.Bodies.{drafts_of_classes, drafts_over, operation_name, operations}

@@ -23,8 +23,8 @@ use Rattle.som_rules.specs.Plainly.{Fits, a_reader, a_writer}
 use Rattle.som_rules.proofs.PlainLists.{mem_map}
 use Rattle.som_rules.proofs.PlainMoves.{flat_mem, mem_flat}
 use Rattle.som_scope.specs.ClassNames.{type_of}
-use Rattle.som_sema.specs.Items.{by_name}
-use Rattle.som_sema.specs.Drafts.{InterfaceDraft, accessors, export_entries, export_variables, getter, introduces, item_variables, setter, variables, variables_of, way_of}
+use Rattle.som_drafts.specs.Items.{by_name}
+use Rattle.som_drafts.specs.Drafts.{InterfaceDraft, accessors, export_entries, export_variables, getter, introduces, item_variables, setter, variables, variables_of, way_of}
 use Rattle.som_elab.specs.Accessors.{Access, accessor_body, accessors_of, attribute_accessors, body_of, export_accessors, place_of}
 
 -- the attribute that declares an accessor

@@ -13,11 +13,11 @@ use Rattle.som_rules.proofs.Owners.{flat_none}
 use Rattle.som_rules.proofs.PlainLists.{none_flat}
 use Rattle.som_elab.specs.PlainLimits.{LimitsKept}
 use Rattle.som_elab.specs.Limits.{KeepsLimit, Passed, at_most, class_limits, entry_limits, limit_passed}
-use Rattle.som_sema.specs.Drafts.{InterfaceDraft, plain_draft, plain_drafts}
-use Rattle.som_sema.specs.declared.drafts.Draft.{Draft}
+use Rattle.som_drafts.specs.Drafts.{InterfaceDraft, plain_draft, plain_drafts}
+use Rattle.som_drafts.specs.declared.drafts.Draft.{Draft}
 use Rattle.som_sema.specs.declared.types.Refused.{Refused}
 use Rattle.som_sema.specs.declared.types.Refused.TheVariants as refusals
-use Rattle.som_sema.specs.Items.{chosen}
+use Rattle.som_drafts.specs.Items.{chosen}
 
 kept_by : (b : Bool) (p : Passed) → first (if b then [] else p ∷ []) ≡ None → b ≡ true
 kept_by true p e = refl

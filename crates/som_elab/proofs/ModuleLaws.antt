@@ -24,7 +24,7 @@ use Rattle.som_sema.specs.declared.types.Refused.{Refused}
 use Rattle.som_sema.specs.declared.types.Refused.TheVariants as refusals
 use Rattle.som_sema.specs.Building.{FacesTold, after_base, declarations, module_over, most_classes, refused_by, texts_breach}
 use Rattle.som_elab.specs.Limits.{KeepsLimit, Passed, limit_passed}
-use Rattle.som_sema.specs.Drafts.{InterfaceDraft, draft_classes}
+use Rattle.som_drafts.specs.Drafts.{InterfaceDraft, draft_classes}
 use Rattle.som_elab.specs.declared.class_bodies.ClassBodies.{ClassBodies}
 use Rattle.som_elab.specs.declared.all_bodies.AllBodies.{AllBodies}
 use Rattle.som_elab.specs.declared.elaborated.ElaboratedModule.{ElaboratedModule}

@@ -10,8 +10,8 @@ use Rattle.som_idl.specs.declared.tree.IdlInterface.{IdlInterface}
 use Rattle.som_idl.specs.declared.tree.Export.{Export}
 use Rattle.som_typing.proofs.Facts.{signature_said}
 use Rattle.som_sema.specs.Noted.{first_place}
-use Rattle.som_sema.specs.Drafts.{InterfaceDraft, plain_drafts, plain_draft}
-use Rattle.som_sema.specs.declared.drafts.Draft.{Draft}
+use Rattle.som_drafts.specs.Drafts.{InterfaceDraft, plain_drafts, plain_draft}
+use Rattle.som_drafts.specs.declared.drafts.Draft.{Draft}
 use Rattle.som_elab.specs.Bodies.{draft_named, operation_name, operations, overridden_sig, override_sig}
 use Rattle.som_elab.specs.Texts.{class_places}
 

@@ -18,9 +18,9 @@ use Rattle.som_rules.specs.Told.{Tells}
 use Rattle.som_rules.specs.declared.types.VerifyFault.{VerifyFault}
 use Rattle.som_sema.specs.declared.types.Refused.{Refused}
 use Rattle.som_elab.specs.Accessors.{body_of}
-use Rattle.som_sema.specs.Drafts.{InterfaceDraft}
+use Rattle.som_drafts.specs.Drafts.{InterfaceDraft}
 use Rattle.som_sema.specs.Finished.{selects_at}
-use Rattle.som_sema.specs.TextRules.{text_demand}
+use Rattle.som_drafts.specs.OwnRules.{text_demand}
 use Rattle.som_elab.specs.Bodies.{entry_has_one, has_one, operations, text_s14, texts_for}
 use Rattle.som_forms.specs.Expressions.{Among}
 use Rattle.som_elab.specs.declared.class_bodies.ClassBodies.{ClassBodies}

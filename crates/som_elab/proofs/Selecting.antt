@@ -6,7 +6,7 @@ use Rattle.som_read.specs.declared.tree.Word.{Word}
 use Rattle.som_idl.specs.declared.tree.Item.{Item}
 use Rattle.som_idl.specs.declared.tree.Item.TheVariants as items
 use Rattle.som_idl.specs.declared.tree.Modifier.{Modifier}
-use Rattle.som_sema.specs.Items.{Given, chosen, chosen_by, chosen_in, given, given_in}
+use Rattle.som_drafts.specs.Items.{Given, chosen, chosen_by, chosen_in, given, given_in}
 use Rattle.som_elab.specs.Limits.{chosen_at}
 
 chosen_parts : (is : List Item) → chosen is ≡ flat_map chosen_at is

@@ -28,8 +28,8 @@ use Rattle.som_rules.proofs.PlainLists.{differ_apart, map_mem, mem_map}
 use Rattle.som_elab.specs.Accessors.{body_of}
 use Rattle.som_sema.specs.Building.{after_base, declarations}
 use Rattle.som_sema.specs.Finished.{override_of}
-use Rattle.som_sema.specs.Items.{overridden}
-use Rattle.som_sema.specs.Drafts.{InterfaceDraft}
+use Rattle.som_drafts.specs.Items.{overridden}
+use Rattle.som_drafts.specs.Drafts.{InterfaceDraft}
 use Rattle.som_elab.specs.Bodies.{body_sig, classes_over, draft_named, drafts_over, operation_sig, operations, overridden_sig, override_sig, stands_for, takes_as_many, text_s13, texts_for}
 use Rattle.som_elab.proofs.Declared.{drafts_are, draft_classes_are, find_mem, find_own, operation_there, own}
 

@@ -10,7 +10,7 @@ use Rattle.som_idl.specs.declared.tree.IdlInterface.{IdlInterface}
 use Rattle.som_idl.specs.declared.tree.Export.{Export}
 use Rattle.som_idl.specs.declared.tree.Export.TheVariants as exports
 use Rattle.som_elab.specs.declared.accessors.Accessor.{Accessor}
-use Rattle.som_sema.specs.Drafts.{InterfaceDraft, getter, setter}
+use Rattle.som_drafts.specs.Drafts.{InterfaceDraft, getter, setter}
 
 -- a method that reads or sets an attribute
 pub record Access : Type 0 where

@@ -17,8 +17,8 @@ use Rattle.som_idl.specs.declared.tree.Export.TheVariants as exports
 use Rattle.som_body.specs.declared.tree.BodyFile.{BodyFile}
 use Rattle.som_body.specs.declared.tree.BodyText.{BodyText}
 use Rattle.som_rules.specs.Places.{with_kernel}
-use Rattle.som_sema.specs.Drafts.{InterfaceDraft}
-use Rattle.som_sema.specs.TextRules.{text_demand}
+use Rattle.som_drafts.specs.Drafts.{InterfaceDraft}
+use Rattle.som_drafts.specs.OwnRules.{text_demand}
 use Rattle.som_sema.specs.Building.{after_base, declarations}
 
 -- the bodies of all files, in order

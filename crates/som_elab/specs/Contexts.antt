@@ -22,9 +22,9 @@ use Rattle.som_rules.specs.Modules.{classes_of}
 use Rattle.som_sema.specs.declared.types.Refused.{Refused}
 use Rattle.som_sema.specs.declared.types.Refused.TheVariants as refusals
 use Rattle.som_elab.specs.Limits.{limit_passed}
-use Rattle.som_sema.specs.Drafts.{InterfaceDraft, draft_classes}
+use Rattle.som_drafts.specs.Drafts.{InterfaceDraft, draft_classes}
 use Rattle.som_sema.specs.Finished.{selects_at}
-use Rattle.som_sema.specs.Items.{or_object}
+use Rattle.som_drafts.specs.Items.{or_object}
 use Rattle.som_elab.specs.declared.contexts.ModuleContext.{ModuleContext}
 use Rattle.som_elab.specs.declared.class_bodies.ClassBodies.{ClassBodies}
 use Rattle.som_elab.specs.declared.all_bodies.AllBodies.{AllBodies}

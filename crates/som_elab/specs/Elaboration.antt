@@ -27,7 +27,7 @@ use Rattle.som_body.specs.declared.tree.BlockText.{BlockText}
 use Rattle.som_rules.specs.Told.{told}
 use Rattle.som_sema.specs.declared.types.Refused.{Refused}
 use Rattle.som_sema.specs.declared.types.Refused.TheVariants as faults
-use Rattle.som_sema.specs.Drafts.{InterfaceDraft}
+use Rattle.som_drafts.specs.Drafts.{InterfaceDraft}
 use Rattle.som_sema.specs.Finished.{selects_at}
 use Rattle.som_sema.specs.Building.{declarations, module_over, most_classes, texts_breach}
 use Rattle.som_elab.specs.Accessors.{body_of}

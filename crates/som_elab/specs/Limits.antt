@@ -5,8 +5,8 @@ use Rattle.som_model.specs.declared.class.Entry.TheVariants as entries
 use Rattle.som_model.specs.declared.limits.TheConstants.{MAX_ENTRIES, MAX_OVERRIDES, MAX_PARAMETERS, MAX_PARENTS, MAX_SELECTS, MAX_VARIABLES}
 use Rattle.som_model.specs.Lists.{first}
 use Rattle.som_idl.specs.declared.tree.Item.{Item}
-use Rattle.som_sema.specs.Drafts.{InterfaceDraft}
-use Rattle.som_sema.specs.Items.{Chosen, chosen, chosen_by, given_in}
+use Rattle.som_drafts.specs.Drafts.{InterfaceDraft}
+use Rattle.som_drafts.specs.Items.{Chosen, chosen, chosen_by, given_in}
 use Rattle.som_sema.specs.declared.types.Refused.{Refused}
 use Rattle.som_sema.specs.declared.types.Refused.TheVariants as faults
 

@@ -5,8 +5,8 @@ use Rattle.som_model.specs.declared.class.Sig.{Sig}
 use Rattle.som_model.specs.declared.class.Way.{Way}
 use Rattle.som_model.specs.declared.class.Entry.TheVariants as variants
 use Rattle.som_model.specs.declared.limits.TheConstants.{MAX_ENTRIES, MAX_OVERRIDES, MAX_PARAMETERS, MAX_PARENTS, MAX_SELECTS, MAX_VARIABLES}
-use Rattle.som_sema.specs.Drafts.{InterfaceDraft}
-use Rattle.som_sema.specs.Items.{chosen}
+use Rattle.som_drafts.specs.Drafts.{InterfaceDraft}
+use Rattle.som_drafts.specs.Items.{chosen}
 
 -- the counts of each class are within the limits
 pub record LimitsKept (ds : List InterfaceDraft) : Type 0 where

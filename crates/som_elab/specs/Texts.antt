@@ -4,7 +4,7 @@ use Rattle.std.specs.Borrow.{Bor}
 use Rattle.std.specs.Str.{bytes_eq}
 use Rattle.som_body.specs.declared.tree.BodyText.{BodyText}
 use Rattle.som_sema.specs.Noted.{At}
-use Rattle.som_sema.specs.Drafts.{InterfaceDraft}
+use Rattle.som_drafts.specs.Drafts.{InterfaceDraft}
 
 -- the bodies that are borrowed
 abbrev pub given : List (Bor BodyText) → List BodyText

@@ -2,12 +2,12 @@ ghost use Rattle.som_elab.specs.Accessors as spec;
 ghost use Rattle.som_elab.specs.Accessors.{access, accessor_body, accessors_of, body_of};
 ghost use Rattle.som_model.specs.declared.class.Variable.{Variable as Kept};
 ghost use Rattle.som_model.specs.declared.limits.TheConstants.{MAX_VARIABLES as LIMIT};
-ghost use Rattle.som_sema.specs.Drafts.{plain_draft};
+ghost use Rattle.som_drafts.specs.Drafts.{plain_draft};
 ghost use Rattle.std.specs.Prelude.{◌≡◌, ◌≤◌, length, map};
 
 use crate::accessors::{Accessor, accessor_named};
+use som_drafts::Draft;
 use som_model::{Body, Variable};
-use som_sema::Draft;
 
 /// The body of the accessor of a name, if the class has one.
 pub fn body_named(accessors: &[Accessor], draft: &Draft, name: &[u8]) -> Option<Body>

@@ -5,9 +5,9 @@ ghost use Rattle.som_read.specs.declared.tree.Word.{Word as Named};
 ghost use Rattle.std.specs.Prelude.{◌≡◌, ◌++◌, map, flat_map, option_map, option_copied, IfOk, OnOk};
 ghost use Rattle.std.specs.Str.{bytes_eq};
 
+use som_drafts::prefixed;
 use som_idl::{Export, IdlInterface, Word};
 use som_model::{NoMemory, Text};
-use som_sema::prefixed;
 use std::alloc::Global;
 
 /// A method that reads or sets an attribute.

@@ -6,7 +6,7 @@ ghost use Rattle.som_elab.specs.Limits.{limit_passed};
 ghost use Rattle.som_elab.specs.Texts.{given};
 ghost use Rattle.som_rules.specs.Modules.{classes_of};
 ghost use Rattle.som_rules.specs.Told.{Tells};
-ghost use Rattle.som_sema.specs.Drafts.{plain_drafts};
+ghost use Rattle.som_drafts.specs.Drafts.{plain_drafts};
 ghost use Rattle.som_typing.specs.Knowing.{IsKnowledge, all_of};
 ghost use Rattle.std.specs.Prelude.{◌≡◌, option_copied, None};
 
@@ -17,10 +17,11 @@ use crate::counted_bodies::bodies_counted;
 use crate::limits::limits_kept;
 use crate::named_bodies::bodies_named;
 use som_body::{BlockText, BodyText};
+use som_drafts::Draft;
 use som_forms::main_body;
 use som_model::{Block, List};
 use som_rules::VerifyFault;
-use som_sema::{Draft, Refused, refused};
+use som_sema::{Refused, refused};
 use som_typing::Knowledge;
 use std::alloc::Global;
 

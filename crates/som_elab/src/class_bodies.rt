@@ -8,9 +8,9 @@ ghost use Rattle.som_forms.specs.MethodBody.{elaborated_body};
 ghost use Rattle.som_model.specs.Owner.{owner, sig_of};
 ghost use Rattle.som_model.specs.declared.limits.TheConstants.{MAX_PARAMETERS as MOST};
 ghost use Rattle.som_rules.specs.Places.{class_of_place};
-ghost use Rattle.som_sema.specs.Drafts.{plain_draft};
+ghost use Rattle.som_drafts.specs.Drafts.{plain_draft};
 ghost use Rattle.som_sema.specs.Finished.{selects_at};
-ghost use Rattle.som_sema.specs.Items.{or_object};
+ghost use Rattle.som_drafts.specs.Items.{or_object};
 ghost use Rattle.som_typing.specs.Kinds.{IsDeclared};
 ghost use Rattle.som_typing.specs.Knowing.{sig_is_known};
 ghost use Rattle.std.specs.Prelude.{◌≡◌, ◌≤◌, length, true, IfOk, Some};
@@ -20,12 +20,13 @@ use crate::accessors::accessors_of;
 use crate::contexts::ModuleContext;
 use crate::texts::{first_for, texts_of};
 use som_body::BodyText;
+use som_drafts::Draft;
 use som_forms::{BodyFault, method_body};
 use som_model::{
     Block, Body, Entry, List, MAX_LOCALS, MethodRef, NoMemory, Override, Select, Sig, Text,
 };
 use som_rules::Broken;
-use som_sema::{Draft, Refused, selects};
+use som_sema::{Refused, selects};
 use som_typing::{decl_at, signature_of};
 use std::alloc::Global;
 

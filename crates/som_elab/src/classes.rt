@@ -3,15 +3,16 @@ ghost use Rattle.som_elab.specs.Elaboration.{Answers, with_blocks};
 ghost use Rattle.som_elab.specs.Limits.{limit_passed};
 ghost use Rattle.som_elab.specs.Texts.{given};
 ghost use Rattle.som_rules.specs.Modules.{classes_of};
-ghost use Rattle.som_sema.specs.Drafts.{plain_drafts};
+ghost use Rattle.som_drafts.specs.Drafts.{plain_drafts};
 ghost use Rattle.std.specs.Prelude.{◌≡◌, IfOk, None};
 
 use crate::class_bodies::{ClassBodies, class_bodies};
 use crate::contexts::ModuleContext;
 use som_body::BodyText;
+use som_drafts::Draft;
 use som_model::{ClassDecl, List, NoMemory};
 use som_rules::KERNEL_CLASSES;
-use som_sema::{Draft, Refused};
+use som_sema::Refused;
 use std::alloc::Global;
 
 /// The bodies of classes, which are the last of all classes, or what is first wrong with one of them.

@@ -4,15 +4,15 @@ ghost use Rattle.som_model.specs.Class.{introduced};
 ghost use Rattle.som_model.specs.Lists.{first};
 ghost use Rattle.som_model.specs.declared.class.Override.{Override as Replaced};
 ghost use Rattle.som_rules.specs.Told.{Tells};
-ghost use Rattle.som_sema.specs.Drafts.{plain_draft, plain_drafts};
-ghost use Rattle.som_sema.specs.declared.drafts.Draft.{Draft as Known};
+ghost use Rattle.som_drafts.specs.Drafts.{plain_draft, plain_drafts};
+ghost use Rattle.som_drafts.specs.declared.drafts.Draft.{Draft as Known};
 ghost use Rattle.std.specs.Prelude.{◌≡◌, ◌<◌, ◌==◌, length, flat_map, slice_get, Some};
 
 use crate::operations::is_operation;
 use crate::texts::{count_for, texts_of};
 use som_body::BodyText;
+use som_drafts::{Draft, breach, each_draft, introduced_names};
 use som_rules::VerifyFault;
-use som_sema::{Draft, breach, each_draft, introduced_names};
 use std::alloc::Global;
 
 /// Each operation and each method that is overridden has exactly one body.

@@ -12,7 +12,7 @@ ghost use Rattle.som_rules.specs.Places.{with_kernel};
 ghost use Rattle.som_scope.specs.ClassNames.{module_in_scope};
 ghost use Rattle.som_scope.specs.Words.{interfaces_of, lent};
 ghost use Rattle.som_sema.specs.Building.{after_base, texts_breach};
-ghost use Rattle.som_sema.specs.Drafts.{draft_classes, plain_drafts};
+ghost use Rattle.som_drafts.specs.Drafts.{draft_classes, plain_drafts};
 ghost use Rattle.som_typing.specs.Bodies.{AreParts};
 ghost use Rattle.std.specs.Prelude.{◌≡◌, ◌++◌, ℕ, length, map, option_copied, IfOk, OnOk, None};
 
@@ -21,11 +21,12 @@ use crate::classes::completed_classes;
 use crate::contexts::ModuleContext;
 use crate::texts::all_texts;
 use som_body::{BlockText, BodyFile, BodyText};
+use som_drafts::Draft;
 use som_idl::{IdlFile, IdlInterface};
 use som_model::{Block, ClassDecl, Interface, List, Module, NoMemory, kernel_faces};
 use som_rules::{Declared, bare_classes, declare};
 use som_scope::{Scope, scope_of};
-use som_sema::{Draft, Refused, all_interfaces, build_faces, refused};
+use som_sema::{Refused, all_interfaces, build_faces, refused};
 use som_typing::{Parts, know, parts_of};
 use std::alloc::Global;
 

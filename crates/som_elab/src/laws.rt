@@ -10,7 +10,7 @@ ghost use Rattle.som_model.specs.declared.program.ClientProgram.{ClientProgram};
 ghost use Rattle.som_model.specs.declared.program.Interface.{Interface};
 ghost use Rattle.som_model.specs.declared.program.Release.{Release};
 ghost use Rattle.som_rules.specs.Faces.{faces_breach};
-ghost use Rattle.som_sema.specs.Drafts.{InterfaceDraft};
+ghost use Rattle.som_drafts.specs.Drafts.{InterfaceDraft};
 ghost use Rattle.std.specs.Prelude.{◌≡◌, ◌↔◌, List as Seq, None, Ok};
 
 /// The release that texts stand for conforms, and so does a client program, over a base whose faces break no rule.

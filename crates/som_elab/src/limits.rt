@@ -1,15 +1,16 @@
 ghost use Rattle.som_elab.specs.Limits as spec;
 ghost use Rattle.som_elab.specs.Limits.{KeepsLimit, class_limits, entry_limits, limit_passed};
 ghost use Rattle.som_model.specs.Lists.{first};
-ghost use Rattle.som_sema.specs.Drafts.{plain_draft, plain_drafts};
+ghost use Rattle.som_drafts.specs.Drafts.{plain_draft, plain_drafts};
 ghost use Rattle.std.specs.Prelude.{flat_map};
 
 use crate::selects::selected;
+use som_drafts::Draft;
 use som_model::{
     Entry, MAX_ENTRIES, MAX_OVERRIDES, MAX_PARAMETERS, MAX_PARENTS, MAX_SELECTS, MAX_VARIABLES,
     Text,
 };
-use som_sema::{Draft, Refused};
+use som_sema::Refused;
 use std::alloc::Global;
 
 /// No class passes a limit.

@@ -6,7 +6,7 @@ ghost use Rattle.som_model.specs.Lists.{find, first};
 ghost use Rattle.som_model.specs.declared.class.Override.{Override as Replaced};
 ghost use Rattle.som_rules.specs.Told.{Tells};
 ghost use Rattle.som_rules.specs.declared.types.VerifyFault.TheVariants as faults;
-ghost use Rattle.som_sema.specs.Drafts.{plain_draft, plain_drafts};
+ghost use Rattle.som_drafts.specs.Drafts.{plain_draft, plain_drafts};
 ghost use Rattle.som_sema.specs.Noted.{IsKnown};
 ghost use Rattle.som_typing.specs.Knowing.{IsKnowledge, all_of};
 ghost use Rattle.std.specs.Prelude.{◌≡◌, flat_map, option_copied, option_map, slice_get, IfOk};
@@ -14,9 +14,10 @@ ghost use Rattle.std.specs.Str.{bytes_eq};
 
 use crate::operations::is_operation;
 use som_body::BodyText;
+use som_drafts::Draft;
 use som_model::{Entry, NoMemory, Override, Sig, Text};
 use som_rules::{Broken, VerifyFault, find_entry};
-use som_sema::{Draft, Places, first_place, note, place_table};
+use som_sema::{Places, first_place, note, place_table};
 use som_typing::{Knowledge, signature_of};
 use std::alloc::Global;
 

@@ -1,5 +1,5 @@
 ghost use Rattle.som_elab.specs.Limits.{chosen_at};
-ghost use Rattle.som_sema.specs.Items.{chosen, chosen_in};
+ghost use Rattle.som_drafts.specs.Items.{chosen, chosen_in};
 ghost use Rattle.std.specs.Prelude.{◌≡◌, ◌+◌, flat_map, length, IfOk, OnOk};
 
 use som_body::Word;

@@ -35,7 +35,7 @@ use Rattle.som_rules.proofs.Owners.{flat_none}
 use Rattle.som_scope.specs.ClassNames.{type_of}
 use Rattle.som_scope.specs.Words.{words}
 use Rattle.som_sema.specs.Building.{after_base, declarations, module_over, texts_breach}
-use Rattle.som_sema.specs.Drafts.{InterfaceDraft, getter, setter, variables}
+use Rattle.som_drafts.specs.Drafts.{InterfaceDraft, getter, setter, variables}
 use Rattle.som_sema.specs.Finished.{selects_at}
 use Rattle.som_sema.proofs.TextBases.{demanded_text}
 use Rattle.som_forms.specs.Expressions.{Among}

@@ -29,7 +29,7 @@ use Rattle.som_body.specs.declared.tree.BodyText.{BodyText}
 use Rattle.som_rules.specs.Faces.{faces_breach}
 use Rattle.som_rules.proofs.PlainLists.{map_mem}
 use Rattle.som_sema.specs.Building.{most_classes, texts_breach}
-use Rattle.som_sema.specs.Drafts.{InterfaceDraft}
+use Rattle.som_drafts.specs.Drafts.{InterfaceDraft}
 use Rattle.som_sema.specs.Finished.{selects_at}
 use Rattle.som_forms.specs.Expressions.{Among}
 use Rattle.som_forms.specs.MethodBody.{elaborated_body}

@@ -18,7 +18,7 @@ use Rattle.som_rules.specs.Faces.{faces_breach}
 use Rattle.som_rules.proofs.PlainFaces.{or_none}
 use Rattle.som_rules.proofs.PlainLists.{map_mem}
 use Rattle.som_sema.specs.Building.{texts_breach}
-use Rattle.som_sema.specs.Drafts.{InterfaceDraft}
+use Rattle.som_drafts.specs.Drafts.{InterfaceDraft}
 use Rattle.som_forms.specs.Statements.{elaborated_block}
 use Rattle.som_forms.proofs.Went.{same_answer, went}
 use Rattle.som_elab.specs.Bodies.{bodies_breach, classes_over, drafts_over, text_s13, text_s14}

@@ -25,9 +25,9 @@ use Rattle.som_rules.proofs.Owners.{flat_none}
 use Rattle.som_rules.proofs.PlainFaces.{none_or, or_none}
 use Rattle.som_rules.proofs.PlainLists.{map_mem, none_flat}
 use Rattle.som_sema.specs.Building.{after_base, declarations}
-use Rattle.som_sema.specs.Drafts.{InterfaceDraft}
+use Rattle.som_drafts.specs.Drafts.{InterfaceDraft}
 use Rattle.som_sema.proofs.TextBases.{demanded_text}
-use Rattle.som_sema.specs.TextRules.{text_demand}
+use Rattle.som_drafts.specs.OwnRules.{text_demand}
 use Rattle.som_elab.specs.Bodies.{bodies_breach, body_sig, classes_over, draft_named, drafts_over, entry_has_one, has_one, operation_sig, operations, override_sig, overridden_sig, stands_for, takes_as_many, text_s13, text_s14, texts_for}
 use Rattle.som_elab.proofs.Declared.{drafts_are, find_mem, own}
 use Rattle.som_elab.proofs.Fitting.{introduced_there}

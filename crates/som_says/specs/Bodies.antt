@@ -20,7 +20,7 @@ use Rattle.som_idl.specs.declared.tree.Export.TheVariants as exports
 use Rattle.som_idl.specs.declared.tree.IdlInterface.{IdlInterface}
 use Rattle.som_body.specs.declared.tree.BodyText.{BodyText}
 use Rattle.som_scope.specs.Words.{words}
-use Rattle.som_sema.specs.Drafts.{getter, setter}
+use Rattle.som_drafts.specs.Drafts.{getter, setter}
 use Rattle.som_forms.specs.Expressions.{Among}
 use Rattle.som_forms.specs.Locals.{Names, kinds_of, names_of}
 use Rattle.som_says.specs.Named.{HasVariable}

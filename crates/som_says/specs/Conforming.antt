@@ -16,7 +16,7 @@ use Rattle.som_idl.specs.declared.tree.IdlInterface.{IdlInterface}
 use Rattle.som_body.specs.declared.tree.BlockText.{BlockText}
 use Rattle.som_body.specs.declared.tree.BodyText.{BodyText}
 use Rattle.som_sema.specs.Building.{most_classes, texts_breach}
-use Rattle.som_sema.specs.Drafts.{InterfaceDraft}
+use Rattle.som_drafts.specs.Drafts.{InterfaceDraft}
 use Rattle.som_forms.specs.Expressions.{Among}
 use Rattle.som_forms.specs.MethodBody.{elaborated_body}
 use Rattle.som_forms.specs.Statements.{elaborated_block}

@@ -11,7 +11,7 @@ use Rattle.som_model.specs.Typing.{in_main}
 use Rattle.som_idl.specs.declared.tree.IdlInterface.{IdlInterface}
 use Rattle.som_body.specs.declared.tree.BlockText.{BlockText}
 use Rattle.som_body.specs.declared.tree.BodyText.{BodyText}
-use Rattle.som_sema.specs.Drafts.{InterfaceDraft}
+use Rattle.som_drafts.specs.Drafts.{InterfaceDraft}
 use Rattle.som_sema.specs.Finished.{selects_at}
 use Rattle.som_forms.specs.Expressions.{Among}
 use Rattle.som_elab.specs.Bodies.{drafts_over}

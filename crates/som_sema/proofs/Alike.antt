@@ -16,7 +16,7 @@ use Rattle.som_rules.proofs.Before.{none_both, both_none, demanded, every_mem, m
 use Rattle.som_rules.proofs.PlainNames.{demand_none}
 use Rattle.som_sema.specs.Ancestry.{IsAncestorTable}
 use Rattle.som_sema.specs.declared.ancestry.AncestorTable.{AncestorTable}
-use Rattle.som_sema.specs.Drafts.{InterfaceDraft, draft_classes}
+use Rattle.som_drafts.specs.Drafts.{InterfaceDraft, draft_classes}
 use Rattle.som_sema.specs.Finished.{declare}
 
 pub record Core : Type 0 where

@@ -11,7 +11,7 @@ use Rattle.som_rules.specs.declared.types.VerifyFault.{VerifyFault}
 use Rattle.som_rules.specs.declared.types.VerifyFault.TheVariants as verify
 use Rattle.som_sema.specs.declared.types.Refused.{Refused}
 use Rattle.som_sema.specs.Building.{FacesTold, declarations, declared_all, draft_rules_breach, module_over, most_classes, refused_by, texts_breach}
-use Rattle.som_sema.specs.Drafts.{InterfaceDraft, draft_of}
+use Rattle.som_drafts.specs.Drafts.{InterfaceDraft, draft_of}
 
 module _ (own_module : Module) (base : Interface) (is : List IdlInterface) (h : List ℕ → Module) (m : Module) (bs : List Class) (ds : List InterfaceDraft)
     (names : h ≡ module_over own_module base is) (own : m ≡ own_module) (known : bs ≡ interface_classes base) (made : ds ≡ map (draft_of h) is) where

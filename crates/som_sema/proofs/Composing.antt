@@ -23,7 +23,7 @@ use Rattle.som_rules.proofs.Finding.{take_all}
 use Rattle.som_rules.proofs.KeyLists.{lists_of}
 use Rattle.som_rules.proofs.PlainMoves.{lower}
 use Rattle.som_rules.proofs.PlainNames.{names_say, parents_say}
-use Rattle.som_sema.specs.Drafts.{InterfaceDraft, draft_classes}
+use Rattle.som_drafts.specs.Drafts.{InterfaceDraft, draft_classes}
 use Rattle.som_sema.specs.TextRules.{text_s2_from}
 use Rattle.som_sema.specs.Ancestry.{AreDrafts, IsAncestorTable, AreAncestorLists}
 use Rattle.som_sema.specs.declared.ancestry.AncestorTable.{AncestorTable}

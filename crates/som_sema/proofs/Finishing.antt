@@ -20,7 +20,7 @@ use Rattle.som_sema.specs.Building.{after_base, declared_all, moved_breach, draf
 use Rattle.som_sema.specs.TextRules.{text_s10_from}
 use Rattle.som_sema.proofs.Composing.{front_is, rest_is}
 use Rattle.som_sema.specs.Finished.{declare, declare_at, declared_from}
-use Rattle.som_sema.specs.Drafts.{InterfaceDraft, draft_classes}
+use Rattle.som_drafts.specs.Drafts.{InterfaceDraft, draft_classes}
 use Rattle.som_sema.specs.Ancestry.{IsAncestorTable}
 use Rattle.som_sema.specs.declared.ancestry.AncestorTable.{AncestorTable}
 use Rattle.som_sema.proofs.Noting.{at_end}

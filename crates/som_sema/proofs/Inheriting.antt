@@ -80,7 +80,6 @@ module _ (cs : List Class) (w : AncestorTable) (place : ℕ) (above : Places) (h
   taken_so (Err x) n k e f t = t
 
 -- a table of the first places of what is introduced along the ancestors of a class
-pub along_known : (cs : List Class) (w : AncestorTable) (place : ℕ) (lists : List (List ℕ)) (list : List ℕ) (ps : List At) (t : Places) → lists ≡ w.lists.items → list ≡ slice_index_or lists place []
-    → ps ≡ along (with_kernel cs) list → IsKnown ps t → IsKnown (along (with_kernel cs) (slice_index_or w.lists.items place [])) t
-along_known cs w place lists list ps t e f g h =
-    subst (λ (z : List At). IsKnown z t) (g ∙ ap (along (with_kernel cs)) (f ∙ ap (λ (z : List (List ℕ)). slice_index_or z place []) e)) h
+pub along_known : (cs : List Class) (w : AncestorTable) (place : ℕ) (lists : List (List ℕ)) (t : Places) → lists ≡ w.lists.items
+    → IsKnown (along (with_kernel cs) (slice_index_or lists place [])) t → IsKnown (along (with_kernel cs) (slice_index_or w.lists.items place [])) t
+along_known cs w place lists t e h = subst (λ (z : List (List ℕ)). IsKnown (along (with_kernel cs) (slice_index_or z place [])) t) e h

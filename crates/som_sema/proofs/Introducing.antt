@@ -29,8 +29,8 @@ use Rattle.som_idl.specs.declared.tree.IdlInterface.{IdlInterface}
 use Rattle.som_idl.specs.declared.tree.Export.{Export}
 use Rattle.som_idl.specs.declared.tree.Export.TheVariants as exports
 use Rattle.som_scope.specs.ClassNames.{type_of}
-use Rattle.som_sema.specs.Items.{by_name, listed}
-use Rattle.som_sema.specs.Drafts.{InterfaceDraft, accessors, draft_class, draft_classes, export_entries, introduces}
+use Rattle.som_drafts.specs.Items.{by_name, listed}
+use Rattle.som_drafts.specs.Drafts.{InterfaceDraft, accessors, draft_class, draft_classes, export_entries, introduces}
 use Rattle.som_sema.specs.Finished.{declare, entry_for, entry_or_moved, introducer}
 use Rattle.som_sema.proofs.Outlines.{outline, hierarchy_outline}
 use Rattle.som_sema.proofs.OwnClasses.{entry_there, order_own}

@@ -1,7 +1,4 @@
-pub mod Unsaid
 pub mod Declaring
-pub mod Calling
-pub mod Doubling
 pub mod Noting
 pub mod Introducers
 pub mod Alike

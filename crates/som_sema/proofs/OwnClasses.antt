@@ -24,10 +24,11 @@ use Rattle.som_rules.proofs.Owners.{mem_middle}
 use Rattle.som_rules.proofs.PlainLists.{apart_by, by_apart, map_mem, map_none, none_map}
 use Rattle.som_rules.proofs.PlainNames.{demand_none}
 use Rattle.som_scope.specs.ClassNames.{key_of}
-use Rattle.som_sema.specs.Items.{listed, metaclass_names}
-use Rattle.som_sema.specs.Drafts.{InterfaceDraft, draft_class, draft_classes}
+use Rattle.som_drafts.specs.Items.{listed, metaclass_names}
+use Rattle.som_drafts.specs.Drafts.{InterfaceDraft, draft_class, draft_classes}
 use Rattle.som_sema.specs.Finished.{declare, entry_for, entry_or_moved, introducer}
-use Rattle.som_sema.specs.TextRules.{makes_classes, second, text_breach, text_s4, text_s6}
+use Rattle.som_drafts.specs.OwnRules.{second, text_breach, text_s6}
+use Rattle.som_sema.specs.TextRules.{makes_classes, text_s4}
 use Rattle.som_sema.proofs.Outlines.{outline}
 use Rattle.som_sema.proofs.TextBases.{demanded_text}
 

@@ -11,9 +11,10 @@ use Rattle.som_idl.specs.declared.tree.Modifier.{Modifier}
 use Rattle.som_idl.specs.declared.tree.Modifier.TheVariants as modifiers
 use Rattle.som_rules.proofs.Passes.{first_both}
 use Rattle.som_scope.specs.Words.{once}
-use Rattle.som_sema.specs.Drafts.{InterfaceDraft}
-use Rattle.som_sema.specs.Items.{Given}
-use Rattle.som_sema.specs.TextRules.{may_take, replaces, text_breach, text_demand}
+use Rattle.som_drafts.specs.Drafts.{InterfaceDraft}
+use Rattle.som_drafts.specs.Items.{Given}
+use Rattle.som_drafts.specs.OwnRules.{text_breach, text_demand}
+use Rattle.som_sema.specs.TextRules.{may_take, replaces}
 use Rattle.som_model.specs.Rules.{RuleBreach}
 use Rattle.som_sema.proofs.TextLaws.{mem_of_once, says_once}
 

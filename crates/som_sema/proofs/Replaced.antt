@@ -38,12 +38,13 @@ use Rattle.som_rules.proofs.PlainMembers.{entries_say}
 use Rattle.som_rules.proofs.PlainNames.{names_say, parents_say}
 use Rattle.som_scope.specs.ClassNames.{key_of}
 use Rattle.som_scope.specs.Words.{once}
-use Rattle.som_sema.specs.Items.{Chosen, Given, chosen, chosen_by, chosen_in, given, is_override, is_select, or_object, overridden, replaced, selecting, with_modifier}
+use Rattle.som_drafts.specs.Items.{Chosen, Given, chosen, chosen_by, chosen_in, given, is_override, is_select, or_object, overridden, replaced, selecting, with_modifier}
 use Rattle.som_idl.specs.declared.tree.Modifier.{Modifier}
 use Rattle.som_idl.specs.declared.tree.Modifier.TheVariants as modifiers
-use Rattle.som_sema.specs.Drafts.{InterfaceDraft, draft_class, draft_classes}
+use Rattle.som_drafts.specs.Drafts.{InterfaceDraft, draft_class, draft_classes}
 use Rattle.som_sema.specs.Finished.{declare, introducer, override_of, place_of, select_of, selects_at}
-use Rattle.som_sema.specs.TextRules.{is_inherited, text_s10, text_s10_from, text_s11, text_s2_from, text_s6}
+use Rattle.som_drafts.specs.OwnRules.{text_s11, text_s6}
+use Rattle.som_sema.specs.TextRules.{is_inherited, text_s10, text_s10_from, text_s2_from}
 use Rattle.som_sema.specs.PlainTexts.{Inherits}
 use Rattle.som_sema.proofs.Introducing.{AllSame, all_both, all_self, introduced_mem, introduced_so, own_same, same_introducer}
 use Rattle.som_sema.proofs.Noting.{at_end}

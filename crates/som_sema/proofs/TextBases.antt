@@ -16,11 +16,12 @@ use Rattle.som_idl.specs.declared.tree.IdlInterface.{IdlInterface}
 use Rattle.som_rules.specs.declared.types.VerifyFault.{VerifyFault}
 use Rattle.som_rules.specs.Told.{Tells}
 use Rattle.som_rules.proofs.Passes.{first_both, tells_first}
-use Rattle.som_sema.specs.declared.drafts.Draft.{Draft}
+use Rattle.som_drafts.specs.declared.drafts.Draft.{Draft}
 use Rattle.som_scope.specs.ClassNames.{key_of}
-use Rattle.som_sema.specs.Items.{metaclass_names, or_object}
-use Rattle.som_sema.specs.Drafts.{InterfaceDraft, plain_drafts, draft_of, plain_draft, draft_class, draft_classes}
-use Rattle.som_sema.specs.TextRules.{base_stands, bases, text_demand, text_s2, text_s2_from}
+use Rattle.som_drafts.specs.Items.{metaclass_names, or_object}
+use Rattle.som_drafts.specs.Drafts.{InterfaceDraft, plain_drafts, draft_of, plain_draft, draft_class, draft_classes}
+use Rattle.som_drafts.specs.OwnRules.{text_demand}
+use Rattle.som_sema.specs.TextRules.{base_stands, bases, text_s2, text_s2_from}
 use Rattle.som_sema.specs.Ancestry.{AreDrafts}
 
 pub demanded_text : (n : ℕ) (d : InterfaceDraft) (member : List ℕ) (b : Bool) → first (text_demand n d member b) ≡ None → b ≡ true

@@ -30,9 +30,9 @@ use Rattle.som_rules.proofs.PlainMembers.{both_true}
 use Rattle.som_rules.proofs.PlainMoves.{flat_mem, mem_flat}
 use Rattle.som_scope.specs.ClassNames.{key_of}
 use Rattle.som_scope.specs.Words.{once}
-use Rattle.som_sema.specs.declared.drafts.Draft.{Draft}
-use Rattle.som_sema.specs.Items.{Chosen, Given, chosen, chosen_by, chosen_in, given, if_given, is_override, or_object, overridden, replaced, selecting, with_modifier}
-use Rattle.som_sema.specs.Drafts.{InterfaceDraft, plain_draft, plain_drafts}
+use Rattle.som_drafts.specs.declared.drafts.Draft.{Draft}
+use Rattle.som_drafts.specs.Items.{Chosen, Given, chosen, chosen_by, chosen_in, given, if_given, is_override, or_object, overridden, replaced, selecting, with_modifier}
+use Rattle.som_drafts.specs.Drafts.{InterfaceDraft, plain_draft, plain_drafts}
 use Rattle.som_sema.specs.Finished.{introducer}
 use Rattle.som_sema.specs.TextRules.{is_inherited, may_take, replaces, replaces_inherited, text_s10, text_s10_from}
 use Rattle.som_sema.specs.PlainTexts.{Inherits, ReplacedInherited}

@@ -26,10 +26,11 @@ use Rattle.som_rules.proofs.PlainLists.{apart_by, apart_differ, by_apart, differ
 use Rattle.som_rules.proofs.PlainMoves.{flat_mem, mem_flat}
 use Rattle.som_rules.proofs.PlainNames.{among_known, known_among}
 use Rattle.som_scope.specs.ClassNames.{key_of}
-use Rattle.som_sema.specs.Items.{Given, given, is_call, is_override, is_select, item_words, listed, metaclass_in, metaclass_names, or_object, replaced, with_modifier}
+use Rattle.som_drafts.specs.Items.{Given, given, is_call, is_override, is_select, item_words, listed, metaclass_in, metaclass_names, or_object, replaced, with_modifier}
 use Rattle.som_scope.specs.Words.{once}
-use Rattle.som_sema.specs.Drafts.{InterfaceDraft}
-use Rattle.som_sema.specs.TextRules.{Said, base_stands, bases, makes_classes, may_be, misplaced, nothing_said, said_after, second, text_breach, text_demand, text_s2, text_s2_from, text_s4, text_s6, text_s11, text_s12}
+use Rattle.som_drafts.specs.Drafts.{InterfaceDraft}
+use Rattle.som_drafts.specs.OwnRules.{Said, may_be, misplaced, nothing_said, said_after, second, text_breach, text_demand, text_s6, text_s11, text_s12}
+use Rattle.som_sema.specs.TextRules.{base_stands, bases, makes_classes, text_s2, text_s2_from, text_s4}
 use Rattle.som_sema.specs.PlainTexts.{BasesStand, ItemsDiffer, MetaclassesDescend, ModifiersStand, NamesDiffer}
 use Rattle.som_sema.proofs.TextBases.{demanded_text}
 

@@ -30,11 +30,12 @@ use Rattle.som_rules.proofs.PlainNames.{among_known, known_among, names_say, par
 use Rattle.som_model.specs.declared.class.Select.{Select}
 use Rattle.som_sema.specs.Building.{after_base, declarations, declared_all, draft_rules_breach, items_breach, module_over, moved_breach, draft_breach, selecting_declarations, texts_breach}
 use Rattle.som_sema.specs.Finished.{declare, place_of, select_of, selects_at}
-use Rattle.som_sema.specs.Items.{chosen, or_object}
+use Rattle.som_drafts.specs.Items.{chosen, or_object}
 use Rattle.som_sema.proofs.Introducing.{same_introducer}
 use Rattle.som_sema.proofs.Replaced.{filled, inherited_own, introduce_same, map_where, none_selected, outlines, overrides_inherited, same_entries, same_outlines, selects_inherited}
-use Rattle.som_sema.specs.Drafts.{InterfaceDraft, draft_of, draft_classes}
-use Rattle.som_sema.specs.TextRules.{text_s10, text_s10_from, text_s2_from, text_s4, text_s6, text_s11, text_s12}
+use Rattle.som_drafts.specs.Drafts.{InterfaceDraft, draft_of, draft_classes}
+use Rattle.som_drafts.specs.OwnRules.{text_s6, text_s11, text_s12}
+use Rattle.som_sema.specs.TextRules.{text_s10, text_s10_from, text_s2_from, text_s4}
 use Rattle.som_sema.specs.Ancestry.{AreDrafts}
 use Rattle.som_sema.proofs.BaseKept.{AreClosed, base_closed, s4_more, s8_more}
 use Rattle.som_sema.proofs.BaseLaws.{base_moves, base_names, base_stands, moves_more, own_first}

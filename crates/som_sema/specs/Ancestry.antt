@@ -10,15 +10,13 @@ use Rattle.som_order.specs.Names.{texts}
 use Rattle.som_rules.specs.Modules.{AreDeclared}
 use Rattle.som_rules.specs.Places.{IsRows, with_kernel}
 use Rattle.som_rules.specs.Walk.{AreAncestors}
-use Rattle.som_sema.specs.Drafts.{InterfaceDraft, draft_class}
+use Rattle.som_drafts.specs.Drafts.{InterfaceDraft, draft_class}
 use Rattle.som_idl.specs.declared.tree.IdlInterface.{IdlInterface}
 use Rattle.som_scope.specs.Words.{once}
-use Rattle.som_sema.specs.Items.{or_object, selecting}
+use Rattle.som_drafts.specs.Items.{or_object, selecting}
 use Rattle.som_sema.specs.Noted.{IsKnown, along}
-use Rattle.som_sema.specs.TextRules.{Said}
 use Rattle.som_sema.specs.declared.ancestry.AncestorTable.{AncestorTable}
 use Rattle.som_sema.specs.declared.inherited.Selecting.{Selecting}
-use Rattle.som_sema.specs.declared.modifiers.Said.{Said as SaidTables}
 use Rattle.som_sema.specs.declared.places.Places.{Places}
 
 -- lists of places, made of the parents' places, are the ancestors of these classes
@@ -45,10 +43,6 @@ pub record Inherits (cs : List Class) (w : AncestorTable) (place : ℕ) (above :
 pub record IsOfText (text : IdlInterface) (s : Selecting) : Type 0 where
   pub methods : texts s.methods.keys ≡ selecting text.items
   pub parents : texts s.parents.keys ≡ once (or_object text.parents)
-
--- the tables of what was said, as names
-abbrev pub said : SaidTables → Said
-said t = record { replaced = texts t.replaced.keys; called = texts t.called.keys; selecting = texts t.selecting.keys }
 
 -- each is the draft of its text
 pub record AreDrafts (module_of : List ℕ → Module) (ds : List InterfaceDraft) : Type 0 where

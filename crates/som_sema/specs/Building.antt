@@ -19,9 +19,10 @@ use Rattle.som_sema.specs.declared.types.Refused.{Refused}
 use Rattle.som_sema.specs.declared.types.Refused.TheVariants as faults
 use Rattle.som_scope.specs.Words.{interface_names, once}
 use Rattle.som_scope.specs.ClassNames.{face_names, kernel_names, module_by_names}
-use Rattle.som_sema.specs.Drafts.{InterfaceDraft, draft_of, draft_classes}
+use Rattle.som_drafts.specs.Drafts.{InterfaceDraft, draft_of, draft_classes}
 use Rattle.som_sema.specs.Finished.{declare, declare_selecting}
-use Rattle.som_sema.specs.TextRules.{text_s2_from, text_s4, text_s6, text_s10_from, text_s11, text_s12}
+use Rattle.som_drafts.specs.OwnRules.{text_s6, text_s11, text_s12}
+use Rattle.som_sema.specs.TextRules.{text_s2_from, text_s4, text_s10_from}
 
 -- where the names in the texts of a module lead, which is compiled against a base
 abbrev pub module_over : Module → Interface → List IdlInterface → List ℕ → Module

@@ -14,8 +14,8 @@ use Rattle.som_model.specs.Classes.{ancestors}
 use Rattle.som_model.specs.EffectiveOrder.{effective_order}
 use Rattle.som_model.specs.Rules.{introduced_by}
 use Rattle.som_rules.specs.Places.{key_at}
-use Rattle.som_sema.specs.Items.{Chosen, chosen, listed, or_object, overridden}
-use Rattle.som_sema.specs.Drafts.{InterfaceDraft}
+use Rattle.som_drafts.specs.Items.{Chosen, chosen, listed, or_object, overridden}
+use Rattle.som_drafts.specs.Drafts.{InterfaceDraft}
 
 -- the first ancestor of a class that introduces the name, and the class itself where none does
 abbrev pub introducer : List Class → ClassKey → List ℕ → ClassKey

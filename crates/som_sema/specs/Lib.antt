@@ -1,5 +1,3 @@
-pub mod Items
-pub mod Drafts
 pub mod Finished
 pub mod Noted
 pub mod TextRules

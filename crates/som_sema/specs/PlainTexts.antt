@@ -14,8 +14,8 @@ use Rattle.som_idl.specs.declared.tree.Item.TheVariants as items
 use Rattle.som_rules.specs.Places.{key_at}
 use Rattle.som_rules.specs.Plainly.{Differ, IsAmong}
 use Rattle.som_scope.specs.ClassNames.{key_of}
-use Rattle.som_sema.specs.Items.{Chosen, chosen, given, is_call, is_override, is_select, item_words, listed, or_object, overridden, with_modifier}
-use Rattle.som_sema.specs.Drafts.{InterfaceDraft}
+use Rattle.som_drafts.specs.Items.{Chosen, chosen, given, is_call, is_override, is_select, item_words, listed, or_object, overridden, with_modifier}
+use Rattle.som_drafts.specs.Drafts.{InterfaceDraft}
 
 -- S2: each parent, SOMObject where none is named, and each metaclass item names a class that stands before; the first interface's class stands at place n
 pub record BasesStand (module_of : List ℕ → Module) (cs : List Class) (n : ℕ) (ds : List InterfaceDraft) : Type 0 where

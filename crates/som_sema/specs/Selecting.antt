@@ -1,5 +1,5 @@
 -- What is selected, as the code lends it.
-use Rattle.som_sema.specs.Items.{Chosen}
+use Rattle.som_drafts.specs.Items.{Chosen}
 use Rattle.som_sema.specs.declared.selected.Choice.{Choice}
 
 abbrev pub choice_of : Choice → Chosen

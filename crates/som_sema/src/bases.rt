@@ -8,15 +8,13 @@ ghost use Rattle.som_rules.specs.Told.{Tells};
 ghost use Rattle.som_rules.specs.Walk.{AreLists};
 ghost use Rattle.som_scope.specs.ClassNames as names_of_classes;
 ghost use Rattle.som_scope.specs.ClassNames.{module_in_scope};
-ghost use Rattle.som_sema.specs.Drafts.{plain_draft, plain_drafts};
+ghost use Rattle.som_drafts.specs.Drafts.{plain_draft, plain_drafts};
 ghost use Rattle.som_sema.specs.TextRules.{text_s2, text_s2_from, text_s4};
-ghost use Rattle.som_sema.specs.declared.drafts.Draft.{Draft as Known};
+ghost use Rattle.som_drafts.specs.declared.drafts.Draft.{Draft as Known};
 ghost use Rattle.std.specs.Prelude.{◌≡◌, ◌<◌, ◌+◌, length, take, flat_map, is_some, slice_get, IfOk, Some};
 
-use crate::drafts::Draft;
-use crate::items::{add_metaclasses, parent_names};
-use crate::passes::{breach, each_draft};
 use indexmap::IndexSet;
+use som_drafts::{Draft, add_metaclasses, breach, each_draft, parent_names};
 use som_model::{List, NoMemory, ValueType};
 use som_rules::{Declared, KERNEL_CLASSES, VerifyFault, descends_by, find_class, type_is_known};
 use som_scope::{Scope, key_of};

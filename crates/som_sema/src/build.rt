@@ -10,17 +10,15 @@ ghost use Rattle.som_scope.specs.Words.{interfaces_of, lent};
 ghost use Rattle.som_sema.specs.Ancestry.{AreDrafts, IsAncestorTable};
 ghost use Rattle.som_sema.specs.Building as spec;
 ghost use Rattle.som_sema.specs.Building.{FacesTold, after_base, declared_all, draft_rules_breach, finished_breach, moved_breach, refused_by, texts_breach};
-ghost use Rattle.som_sema.specs.Drafts.{draft_classes, draft_of, plain_drafts};
+ghost use Rattle.som_drafts.specs.Drafts.{draft_classes, draft_of, plain_drafts};
 ghost use Rattle.std.specs.Prelude.{◌≡◌, ◌++◌, map, IfOk, OnOk, None};
 
 use crate::ancestry::AncestorTable;
 use crate::declared::declarations;
-use crate::drafts::{Draft, drafts_of};
 use crate::inherited::replaced_inherited;
-use crate::members::items_differ;
-use crate::modifiers::modifiers_stand;
 use crate::rules::{drafts_hold, moves_hold};
 use crate::types::Refused;
+use som_drafts::{Draft, drafts_of, items_differ, modifiers_stand};
 use som_idl::{IdlFile, IdlInterface};
 use som_model::{
     ClassDecl, ClassFace, Interface, List, MAX_CLIENT_CLASSES, MAX_LIBRARY_CLASSES, Module,

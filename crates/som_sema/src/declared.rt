@@ -5,21 +5,18 @@ ghost use Rattle.som_order.specs.Names.{texts};
 ghost use Rattle.som_rules.specs.Modules.{classes_of};
 ghost use Rattle.som_rules.specs.Places.{key_at as key_at_place, with_kernel};
 ghost use Rattle.som_rules.specs.Walk.{AreLists};
-ghost use Rattle.som_sema.specs.Drafts.{plain_draft, plain_drafts};
+ghost use Rattle.som_drafts.specs.Drafts.{plain_draft, plain_drafts};
 ghost use Rattle.som_sema.specs.Finished as spec;
 ghost use Rattle.som_sema.specs.Finished.{declare_at, entry_for, entry_or_moved, override_of};
-ghost use Rattle.som_sema.specs.Items as spec_items;
-ghost use Rattle.som_sema.specs.Items.{listed as listed_names};
+ghost use Rattle.som_drafts.specs.Items as spec_items;
+ghost use Rattle.som_drafts.specs.Items.{listed as listed_names};
 ghost use Rattle.som_sema.specs.Noted as names_first;
 ghost use Rattle.som_sema.specs.Noted.{At, IsKnown, all_at, along, counted};
 ghost use Rattle.std.specs.Prelude.{◌≡◌, ◌<◌, ◌+◌, [], List as Seq, length, map, slice_get, slice_index_or, option_copied, unwrap_or, IfOk};
 
-use crate::drafts::Draft;
-use crate::faces::{introduced_along, key_at};
-use crate::items::listed;
-use crate::marks::marks;
+use crate::faces::{key_at, places_above};
 use crate::places::{Noted, Places, first_place, note, place_table};
-use crate::tables::overridden;
+use som_drafts::{Draft, listed, marks, overridden};
 use som_idl::Item;
 use som_model::{
     Block, ClassDecl, ClassFace, ClassKey, Entry, List, MethodRef, NoMemory, Override, Text,
@@ -67,12 +64,30 @@ fn declaration(
     ensures { IfOk result (λ d. d ≡ declare_at (with_kernel (classes_of classes.now))
         (key_at_place (with_kernel (classes_of classes.now)) place) (plain_draft draft.now)) }
 {
-    let list = list_at(lists, place);
-    let along = introduced_along(alloc, kernel, classes, list)?;
-    let above = place_table(alloc, &along)?;
-    let overrides = overrides(alloc, kernel, classes, lists, &above, draft, place)?;
+    let above = places_above(alloc, kernel, classes, lists, place)?;
+    declaration_below(alloc, kernel, classes, lists, &above, draft, place)
+}
+
+// The same, where it is known what is introduced along the ancestors.
+fn declaration_below(
+    alloc: Global,
+    kernel: &[ClassFace],
+    classes: &[Declared],
+    lists: &[List<usize>],
+    above: &Places,
+    draft: &Draft,
+    place: usize,
+) -> Result<ClassDecl, NoMemory>
+    requires kernel { kernel.now ≡ kernel_interface.classes }
+    requires lists { AreLists (with_kernel (classes_of classes.now)) lists.now }
+    requires place { place < length (with_kernel (classes_of classes.now)) }
+    requires above { IsKnown (along (with_kernel (classes_of classes.now)) (slice_index_or lists.now place [])) above.now }
+    ensures { IfOk result (λ d. d ≡ declare_at (with_kernel (classes_of classes.now))
+        (key_at_place (with_kernel (classes_of classes.now)) place) (plain_draft draft.now)) }
+{
     let variables = variables(alloc, draft.decl.variables.as_slice())?;
-    let face = finished_face(alloc, kernel, classes, lists, &above, draft, place)?;
+    let overrides = overrides(alloc, kernel, classes, lists, above, draft, place)?;
+    let face = finished_face(alloc, kernel, classes, lists, above, draft, place)?;
     Ok(ClassDecl {
         face,
         variables,
@@ -112,14 +127,6 @@ fn finished_face(
         metaclass,
         entries,
     })
-}
-
-/// The ancestors of the class at a place.
-pub fn list_at(lists: &[List<usize>], place: usize) -> &[usize]
-    requires { place < length lists.now }
-    ensures { result.now ≡ slice_index_or lists.now place [] }
-{
-    lists[place].as_slice()
 }
 
 fn keys(alloc: Global, keys: &[ClassKey]) -> Result<List<ClassKey>, NoMemory>
@@ -171,10 +178,43 @@ fn entries(
 {
     let own = draft.decl.face.entries.as_slice();
     let order = order_of(alloc, draft.text.items.as_slice(), own)?;
-    let own_places = place_table(alloc, &numbered(alloc, own)?)?;
+    let own_places = own_places(alloc, own)?;
+    entries_in_order(
+        alloc,
+        kernel,
+        classes,
+        lists,
+        above,
+        own,
+        &own_places,
+        order.as_slice(),
+        place,
+    )
+}
+
+// The entries of names, of which the class introduces some itself.
+fn entries_in_order(
+    alloc: Global,
+    kernel: &[ClassFace],
+    classes: &[Declared],
+    lists: &[List<usize>],
+    above: &Places,
+    own: &[Entry],
+    own_places: &Places,
+    order: &[Text],
+    place: usize,
+) -> Result<List<Entry>, NoMemory>
+    requires kernel { kernel.now ≡ kernel_interface.classes }
+    requires lists { AreLists (with_kernel (classes_of classes.now)) lists.now }
+    requires place { place < length (with_kernel (classes_of classes.now)) }
+    requires above { IsKnown (along (with_kernel (classes_of classes.now)) (slice_index_or lists.now place [])) above.now }
+    requires own { IsKnown (counted 0 own.now) own_places.now }
+    ensures { IfOk result (λ es. es ≡ map (entry_for (with_kernel (classes_of classes.now))
+        (key_at_place (with_kernel (classes_of classes.now)) place) own.now) order.now) }
+{
     let mut all = List::new(alloc);
-    for name in order.as_slice() {
-        let found = entry_at(own, &own_places, name.as_slice());
+    for name in order {
+        let found = entry_at(own, own_places, name.as_slice());
         all.push(found_entry(alloc, kernel, classes, lists, above, found, name, place)?)?;
     }
     Ok(all)
@@ -238,6 +278,14 @@ fn introduced_names(alloc: Global, entries: &[Entry]) -> Result<List<Text>, NoMe
         }
     }
     Ok(names)
+}
+
+// The first place of each entry's name.
+fn own_places<'a>(alloc: Global, entries: &'a [Entry]) -> Result<Places<'a>, NoMemory>
+    ensures { IfOk result (IsKnown (counted 0 entries.now)) }
+{
+    let numbered = numbered(alloc, entries)?;
+    place_table(alloc, &numbered)
 }
 
 // The names of entries with their places.

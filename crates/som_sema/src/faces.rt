@@ -3,11 +3,12 @@ ghost use Rattle.som_model.specs.Kernel.{kernel_interface};
 ghost use Rattle.som_model.specs.Lists.{Mem};
 ghost use Rattle.som_rules.specs.Modules.{classes_of};
 ghost use Rattle.som_rules.specs.Places.{face_at, key_at as key_at_place, module_at, with_kernel};
-ghost use Rattle.som_sema.specs.Noted.{all_at, along, at_one};
-ghost use Rattle.std.specs.Prelude.{◌≡◌, ◌<◌, ◌++◌, ℕ, length, IfOk, OnOk};
+ghost use Rattle.som_rules.specs.Walk.{AreLists};
+ghost use Rattle.som_sema.specs.Noted.{IsKnown, all_at, along, at_one};
+ghost use Rattle.std.specs.Prelude.{◌≡◌, ◌<◌, ◌++◌, [], ℕ, length, slice_index_or, IfOk, OnOk};
 
-use crate::places::{Noted, note};
-use som_model::{ClassFace, ClassKey, Entry, Module, NoMemory};
+use crate::places::{Noted, Places, note, place_table};
+use som_model::{ClassFace, ClassKey, Entry, List, Module, NoMemory};
 use som_rules::{Declared, KERNEL_CLASSES};
 use std::alloc::Global;
 
@@ -56,8 +57,34 @@ pub fn key_at(
     })
 }
 
-/// The names that classes introduce, with the classes' places, along a list of places.
-pub fn introduced_along<'a>(
+/// The first places of the names that are introduced along the ancestors of the class at a place.
+pub fn places_above<'a>(
+    alloc: Global,
+    kernel: &'a [ClassFace],
+    classes: &[Declared<'a>],
+    lists: &[List<usize>],
+    place: usize,
+) -> Result<Places<'a>, NoMemory>
+    requires kernel { kernel.now ≡ kernel_interface.classes }
+    requires lists { AreLists (with_kernel (classes_of classes.now)) lists.now }
+    requires place { place < length (with_kernel (classes_of classes.now)) }
+    ensures { IfOk result (IsKnown (along (with_kernel (classes_of classes.now)) (slice_index_or lists.now place []))) }
+{
+    let list = list_at(lists, place);
+    let along = introduced_along(alloc, kernel, classes, list)?;
+    place_table(alloc, &along)
+}
+
+// The ancestors of the class at a place.
+fn list_at(lists: &[List<usize>], place: usize) -> &[usize]
+    requires { place < length lists.now }
+    ensures { result.now ≡ slice_index_or lists.now place [] }
+{
+    lists[place].as_slice()
+}
+
+// The names that classes introduce, with the classes' places, along a list of places.
+fn introduced_along<'a>(
     alloc: Global,
     kernel: &'a [ClassFace],
     classes: &[Declared<'a>],

@@ -7,24 +7,21 @@ ghost use Rattle.som_rules.specs.Modules.{classes_of};
 ghost use Rattle.som_rules.specs.Places.{key_at, with_kernel};
 ghost use Rattle.som_rules.specs.Told.{Tells};
 ghost use Rattle.som_scope.specs.ClassNames.{module_in_scope};
+ghost use Rattle.som_scope.specs.Words.{once};
 ghost use Rattle.som_sema.specs.Ancestry.{Inherits, IsAncestorTable, IsOfText};
-ghost use Rattle.som_sema.specs.Drafts.{plain_draft, plain_drafts};
-ghost use Rattle.som_sema.specs.Items.{given, given_by};
+ghost use Rattle.som_drafts.specs.Drafts.{plain_draft, plain_drafts};
+ghost use Rattle.som_drafts.specs.Items.{given, given_by, or_object};
 ghost use Rattle.som_sema.specs.TextRules as rules;
 ghost use Rattle.som_sema.specs.TextRules.{replaces, replaces_inherited, text_s10, text_s10_from};
 ghost use Rattle.std.specs.Prelude.{◌≡◌, ◌<◌, ◌+◌, length, map, flat_map, IfOk};
 
 use crate::ancestry::AncestorTable;
 use crate::bases::descends_from;
-use crate::declared::{introducer_place, list_at};
-use crate::drafts::Draft;
-use crate::faces::introduced_along;
-use crate::items::parent_names;
-use crate::marks::{Mark, marks};
-use crate::passes::breach;
-use crate::places::{Places, place_table};
-use crate::tables::selecting;
+use crate::declared::introducer_place;
+use crate::faces::places_above;
+use crate::places::Places;
 use indexmap::IndexSet;
+use som_drafts::{Draft, Mark, breach, marks, parent_names, selecting};
 use som_idl::Modifier;
 use som_model::{ClassFace, NoMemory};
 use som_order::find_name;
@@ -82,9 +79,8 @@ fn own_inherited(
     if marks.is_empty() {
         return Ok(());
     }
-    let list = list_at(ancestors.lists.as_slice(), place);
-    let along = introduced_along(alloc, kernel, classes, list)?;
-    let above = place_table(alloc, &along)?;
+    let lists = ancestors.lists.as_slice();
+    let above = places_above(alloc, kernel, classes, lists, place)?;
     let text = selecting_in(alloc, draft, &marks)?;
     marks_inherited(
         alloc, scope, classes, ancestors, &above, &text, draft, &marks, place,
@@ -99,10 +95,16 @@ fn selecting_in<'a>(
     requires { map given_by marks.now ≡ given draft.now.text.now.items }
     ensures { IfOk result (IsOfText draft.now.text.now) }
 {
+    let parents = parent_table(alloc, draft)?;
     let methods = selecting(alloc, marks)?;
-    let names = parent_names(alloc, draft.text.parents.as_slice())?;
-    let parents = table_of(alloc, &names)?;
     Ok(Selecting { methods, parents })
+}
+
+fn parent_table<'a>(alloc: Global, draft: &'a Draft) -> Result<IndexSet<&'a [u8]>, NoMemory>
+    ensures { IfOk result (λ parents. texts parents.keys ≡ once (or_object draft.now.text.now.parents)) }
+{
+    let names = parent_names(alloc, draft.text.parents.as_slice())?;
+    table_of(alloc, &names)
 }
 
 fn marks_inherited(

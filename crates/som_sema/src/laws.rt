@@ -10,9 +10,10 @@ ghost use Rattle.som_rules.specs.Faces.{classes_breach, faces_breach};
 ghost use Rattle.som_rules.specs.Told.{of_release};
 ghost use Rattle.som_rules.specs.Plainly.{SelectsInherited};
 ghost use Rattle.som_sema.specs.Building.{after_base, declarations, selecting_declarations, texts_breach};
-ghost use Rattle.som_sema.specs.Drafts.{InterfaceDraft};
+ghost use Rattle.som_drafts.specs.Drafts.{InterfaceDraft};
 ghost use Rattle.som_sema.specs.PlainTexts.{BasesStand, ItemsDiffer, MetaclassesDescend, ModifiersStand, NamesDiffer, ReplacedInherited};
-ghost use Rattle.som_sema.specs.TextRules.{text_s10_from, text_s11, text_s12, text_s2_from, text_s4, text_s6};
+ghost use Rattle.som_drafts.specs.OwnRules.{text_s11, text_s12, text_s6};
+ghost use Rattle.som_sema.specs.TextRules.{text_s10_from, text_s2_from, text_s4};
 ghost use Rattle.std.specs.Prelude.{◌≡◌, ◌↔◌, ℕ, List as Seq, [], flat_map, length, None};
 
 /// The rules that texts have in a form of their own have no breach exactly where each holds of every interface and of

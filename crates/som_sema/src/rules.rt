@@ -12,15 +12,14 @@ ghost use Rattle.som_scope.specs.ClassNames.{module_in_scope};
 ghost use Rattle.som_rules.specs.Walk.{AreLists};
 ghost use Rattle.som_sema.specs.Ancestry.{AreAncestorLists, AreDrafts, IsAncestorTable};
 ghost use Rattle.som_sema.specs.Building.{draft_breach, members_breach, moved_breach, named_breach};
-ghost use Rattle.som_sema.specs.Drafts.{draft_classes, plain_drafts};
+ghost use Rattle.som_drafts.specs.Drafts.{draft_classes, plain_drafts};
 ghost use Rattle.som_sema.specs.TextRules.{text_s2_from};
 ghost use Rattle.std.specs.Prelude.{◌≡◌, ◌≤◌, ◌+◌, length, map, take, drop, flat_map, IfOk, None};
 
 use crate::ancestry::{AncestorTable, ancestor_lists};
 use crate::bases::{bases_stand, metaclasses_descend};
-use crate::drafts::Draft;
-use crate::members::names_differ;
 use indexmap::IndexSet;
+use som_drafts::{Draft, names_differ};
 use som_model::{ClassFace, List};
 use som_rules::{
     Declared, KERNEL_CLASSES, VerifyFault, class_names, entries_moved_up, names_introduced_once,

@@ -5,19 +5,17 @@ ghost use Rattle.som_order.specs.Names.{texts};
 ghost use Rattle.som_rules.specs.Modules.{classes_of};
 ghost use Rattle.som_rules.specs.Places.{key_at as key_at_place, with_kernel};
 ghost use Rattle.som_rules.specs.Walk.{AreLists};
-ghost use Rattle.som_sema.specs.Drafts.{plain_draft};
+ghost use Rattle.som_drafts.specs.Drafts.{plain_draft};
 ghost use Rattle.som_sema.specs.Finished.{place_of, select_of, selects_at};
-ghost use Rattle.som_sema.specs.Items.{chosen_by, given_by, or_object};
+ghost use Rattle.som_drafts.specs.Items.{chosen_by, given_by, or_object};
 ghost use Rattle.som_sema.specs.Noted.{IsKnown, along};
 ghost use Rattle.som_sema.specs.Selecting.{choice_of};
 ghost use Rattle.std.specs.Prelude.{◌≡◌, ◌<◌, ◌≤◌, [], length, map, flat_map, slice_index_or, IfOk};
 
-use crate::declared::{introducer, list_at};
-use crate::drafts::Draft;
-use crate::faces::introduced_along;
-use crate::items::parent_names;
-use crate::marks::{Mark, marks};
-use crate::places::{Places, place_table};
+use crate::declared::introducer;
+use crate::faces::places_above;
+use crate::places::Places;
+use som_drafts::{Draft, Mark, marks, parent_names};
 use som_idl::Modifier;
 use som_model::{ClassFace, List, MethodRef, NoMemory, Select, Text};
 use som_rules::Declared;
@@ -51,9 +49,7 @@ pub fn selects(
     if choices.is_empty() {
         return Ok(List::new(alloc));
     }
-    let list = list_at(lists, place);
-    let along = introduced_along(alloc, kernel, classes, list)?;
-    let above = place_table(alloc, &along)?;
+    let above = places_above(alloc, kernel, classes, lists, place)?;
     let parents = parent_names(alloc, draft.text.parents.as_slice())?;
     each_select(
         alloc, kernel, classes, lists, &above, &parents, &choices, place,

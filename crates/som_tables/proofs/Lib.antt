@@ -2,6 +2,7 @@ pub mod Inherited
 pub mod Laid
 pub mod LateRows
 pub mod NextBlocks
+pub mod NextPages
 pub mod NextRow
-pub mod Noting
 pub mod Options
+pub mod Paging

@@ -1,20 +1,19 @@
 -- A table in which one more class has its row.
 use Rattle.std.proofs.Common.{◌≡◌, ◌≢◌, ℕ, ◌<◌, ◌≤◌, inl, inr, List, [], refl, length, Option, Some, None, IsSome, is_some, slice_get, sym, ap, ◌∙◌, subst, arith}
 use Rattle.std.specs.Prelude.{slice_set}
-use Rattle.std.specs.List.{Contains}
 use Rattle.std.specs.Option.{option_or, option_map_or, option_flatten, unwrap_or}
 use Rattle.std.proofs.lemmas.Option.{slice_get_within}
 use Rattle.std.proofs.lemmas.List.{length-set}
 use Rattle.std.proofs.lemmas.Bool.{cases_lt, cases_eq}
 use Rattle.som_tables.specs.Rows.{Added, row_at, first_some, replaced_at, own_at, inherited, HasToken, HasRow, SomeHasToken, HaveRowsBelow, AreInherited, IsDeclared, introduced_count}
-use Rattle.som_tables.specs.Layout.{line_at, Extends, IsBlock, IsLaid, IsTable, next_cell, IsLine}
+use Rattle.som_tables.specs.Layout.{found_at, line_at, start_among, start_of, Extends, IsBlock, IsLaid, IsTable, IsLine, AreInside, next_cell}
 use Rattle.som_tables.proofs.Options.{none_is_not_some, none_else_some, option_or-some, slice_get_some, slice_get-set_same, slice_get-set_other}
 use Rattle.som_tables.proofs.Inherited.{first_some_where, Filled, inherited_others, inherited_filled, order_filled, replaced_inherited, own_at_within, own_at-same, own_at-other, tokens_from_row}
-use Rattle.som_tables.proofs.Laid.{IsBlock-same, IsBlock-none, IsLaid-grown}
+use Rattle.som_tables.proofs.Laid.{IsBlock-same, IsBlock-none, IsTable-grown}
 use Rattle.som_tables.proofs.LateRows.{Filled-set}
 
-module _ {C : Type 0} (cs ds : List (Option (Added C))) (n : ℕ) (row : Added C) (start : ℕ → ℕ → Option ℕ) (at : ℕ → Option ℕ) (line : List ℕ) (cells : List C) (laid : IsLaid cs start cells)
-    (below : HaveRowsBelow n cs row.parents) (known : AreInherited cs row.parents row.replaced) (next : IsLine cs n row at line cells) (filled : Filled cs ds n row) where
+module _ {C : Type 0} (cs ds : List (Option (Added C))) (n : ℕ) (row : Added C) (start : ℕ → ℕ → Option ℕ) (at : ℕ → Option ℕ) (cells : List C) (laid : IsLaid cs start cells)
+    (below : HaveRowsBelow n cs row.parents) (known : AreInherited cs row.parents row.replaced) (next : IsLine cs n row at cells) (filled : Filled cs ds n row) where
   row_other : (c : ℕ) → c ≢ n → (t : ℕ × ℕ) → inherited ds c t ≡ inherited cs c t
   row_other = inherited_others cs ds n row laid.order filled
 
@@ -106,34 +105,37 @@ module _ {C : Type 0} (cs ds : List (Option (Added C))) (n : ℕ) (row : Added C
     IsLaid-filled = record { order = order_filled cs ds n row laid.order filled below; inside = inside_all; blocks = block_all }
 
 -- the table with the row
-module _ {C : Type 0} (cs : List (Option (Added C))) (lines : List (Option (List ℕ))) (start more : ℕ → ℕ → Option ℕ) (cells new : List C) (n : ℕ) (row : Added C) (line : List ℕ) (table : IsTable cs lines start cells) (declared : IsDeclared cs n)
-    (below : HaveRowsBelow n cs row.parents) (known : AreInherited cs row.parents row.replaced) (grown : Extends cells new) (others : (c a : ℕ) → c ≢ n → more c a ≡ start c a) (next : IsLine cs n row (more n) line new) where
+module _ {C : Type 0} (cs : List (Option (Added C))) (lines : List (Option (List (Option ℕ)))) (starts more : List (Option ℕ)) (cells new : List C) (n : ℕ) (row : Added C) (line : List (Option ℕ)) (table : IsTable cs lines starts cells) (declared : IsDeclared cs n)
+    (below : HaveRowsBelow n cs row.parents) (known : AreInherited cs row.parents row.replaced) (grown : Extends cells new) (extended : Extends starts more) (inside : AreInside more line) (next : IsLine cs n row (start_among line more) new) where
   filled : Filled cs (slice_set cs n (Some row)) n row
   filled = Filled-set cs n row declared
+
+  grown_table : IsTable cs lines more new
+  grown_table = IsTable-grown cs lines starts more cells new extended grown table
 
   in_lines : n < length lines
   in_lines = let in_classes = slice_get_within cs n None declared in omega (arith, table.long, in_classes)
 
-  here : option_flatten (slice_get (slice_set lines n (Some line)) n) ≡ Some line
+  here : found_at (slice_set lines n (Some line)) n ≡ Some line
   here = ap option_flatten (slice_get-set_same lines n (Some line) in_lines)
 
-  elsewhere : (c : ℕ) → c ≢ n → option_flatten (slice_get (slice_set lines n (Some line)) c) ≡ option_flatten (slice_get lines c)
+  elsewhere : (c : ℕ) → c ≢ n → found_at (slice_set lines n (Some line)) c ≡ found_at lines c
   elsewhere c ne = ap option_flatten (slice_get-set_other lines n c (Some line) ne)
 
-  listed_all : (c a : ℕ) → IsSome (more c a) → Contains (line_at (slice_set lines n (Some line)) c) a
-  listed_all c a s = elim (cases_eq c n) [
-    | inl e ↦ subst (λ i. Contains (line_at (slice_set lines n (Some line)) i) a) (sym e)
-        (subst (λ o. Contains (unwrap_or o []) a) (sym here) (next.listed a (subst (λ i. IsSome (more i a)) e s)))
-    | inr ne ↦ subst (λ o. Contains (unwrap_or o []) a) (sym (elsewhere c ne)) (table.listed c a (subst (λ o. IsSome o) (others c a ne) s))
+  lines_inside : (c : ℕ) → AreInside more (line_at (slice_set lines n (Some line)) c)
+  lines_inside c = elim (cases_eq c n) [
+    | inl e ↦ subst (λ i. AreInside more (line_at (slice_set lines n (Some line)) i)) (sym e) (subst (λ o. AreInside more (unwrap_or o [])) (sym here) inside)
+    | inr ne ↦ subst (λ o. AreInside more (unwrap_or o [])) (sym (elsewhere c ne)) (grown_table.inside c)
   ]
 
   pub IsTable-fill : IsTable (slice_set cs n (Some row)) (slice_set lines n (Some line)) more new
   IsTable-fill = record {
-    laid = IsLaid-filled cs (slice_set cs n (Some row)) n row start (more n) line new (IsLaid-grown start cs cells new grown table.laid) below known next filled more (λ a. refl) others;
+    laid = IsLaid-filled cs (slice_set cs n (Some row)) n row (start_of lines more) (start_among line more) new grown_table.laid below known next filled (start_of (slice_set lines n (Some line)) more)
+        (λ a. ap (λ o. start_among (unwrap_or o []) more a) here) (λ c a ne. ap (λ o. start_among (unwrap_or o []) more a) (elsewhere c ne));
     long = length-set lines n (Some line) ∙ table.long ∙ sym (length-set cs n (Some row));
     none = λ c e. elim (cases_eq c n) [
       | inl is ↦ absurd (none_is_not_some (row_at (slice_set cs n (Some row)) n) (ap (row_at (slice_set cs n (Some row))) (sym is) ∙ e) (ap (λ o. is_some o) filled.is))
       | inr ne ↦ elsewhere c ne ∙ table.none c (sym (filled.others c ne) ∙ e)
     ];
-    listed = listed_all;
+    inside = lines_inside;
   }

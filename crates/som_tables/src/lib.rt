@@ -5,6 +5,8 @@ mod blocks;
 mod class_no;
 mod kind;
 mod line;
+mod pages;
+mod place;
 mod row;
 mod starts;
 mod steps;

@@ -1,109 +1,42 @@
-ghost use Rattle.std.specs.Prelude.{◌≡◌, ◌∷◌, ◌++◌, ◌<◌, [], ℕ, IfOk, OnOk, OnErr};
-ghost use Rattle.std.specs.List.{Contains};
-ghost use Rattle.som_tables.specs.Layout.{line_at, start_of, AreListed, HasOthers, IsListed, IsWithin};
+ghost use Rattle.std.specs.Prelude.{◌≡◌};
+ghost use Rattle.som_tables.specs.Layout.{found_at, line_at};
 
 use crate::ClassNo;
-use crate::starts::{Starts, first_start};
-use std::alloc::{AllocError, Global};
+use crate::place::Place;
 use std::marker::Model;
 
-/// The classes whose cells a row has, each once.
+/// Where the pages of a row begin, one for each 64 class numbers. There is none where the row has no cells of these classes.
 #[derive(Drop)]
 pub(crate) struct Line {
-    classes: Vec<ClassNo>,
+    pub(crate) pages: Vec<Place>,
 }
 
 impl Model for Line {
-    ghost use Rattle.std.specs.Prelude.{ℕ, List};
+    ghost use Rattle.std.specs.Prelude.{ℕ, List, Option};
 
-    ghost Value = { List ℕ };
+    ghost Value = { List (Option ℕ) };
 
-    ghost view = { λ l. l.classes.items };
+    ghost view = { λ l. l.pages.items };
 }
 
 impl Line {
-    pub(crate) fn classes(&self) -> &[ClassNo]
-        ensures { result.now ≡ self.now }
+    /// Where a page begins.
+    fn page(&self, number: usize) -> Place
+        ensures { result ≡ found_at self.now number }
     {
-        self.classes.as_slice()
-    }
-
-    /// Puts a class at the end.
-    pub(crate) fn push(&mut self, class: ClassNo) -> Result<(), AllocError>
-        ensures ok { OnOk result (self.new ≡ self.old ++ class ∷ []) }
-    {
-        self.classes.push(class)?;
-        Ok(())
-    }
-}
-
-/// The classes whose cells the row of a class has: none, where the class has no row.
-fn line_of(lines: &[Option<Line>], class: ClassNo) -> &[ClassNo]
-    ensures { result.now ≡ line_at lines.now class }
-{
-    match lines.get(class.number() as usize) {
-        Some(Some(line)) => line.classes(),
-        _ => &[],
-    }
-}
-
-/// Puts the classes of a line at the end, but for those whose cells the row of one of these parents has.
-fn add_line(
-    all: &mut Vec<ClassNo>,
-    starts: &Starts,
-    before: &[ClassNo],
-    line: &[ClassNo],
-) -> Result<(), AllocError>
-    ensures kept { OnOk result (IsWithin all.old.items all.new.items) }
-    ensures each { OnOk result (HasOthers starts.now before.now line.now all.new.items) }
-{
-    for class in line {
-        if first_start(starts, before, *class).is_none() {
-            all.push(*class)?;
+        match self.pages.get(number) {
+            Some(page) => *page,
+            None => Place::none(),
         }
     }
-    Ok(())
 }
 
-/// The classes whose cells the rows of these parents have, each once: those of each parent after those of the parents before it.
-fn line_below(
-    alloc: Global,
-    lines: &[Option<Line>],
-    starts: &Starts,
-    parents: &[ClassNo],
-) -> Result<Line, AllocError>
-    requires { AreListed lines.now (start_of starts.now) }
-    ensures { IfOk result (λ line. IsListed lines.now parents.now line) }
+/// Where a page of the row of a class begins: nowhere, where the class has no row.
+pub(crate) fn page_of(lines: &[Option<Line>], class: ClassNo, number: usize) -> Place
+    ensures { result ≡ found_at (line_at lines.now class) number }
 {
-    let mut classes = Vec::new(alloc);
-    for (place, parent) in parents.iter().enumerate() {
-        add_line(
-            &mut classes,
-            starts,
-            &parents[..place],
-            line_of(lines, *parent),
-        )?;
+    match lines.get(class.number() as usize) {
+        Some(Some(line)) => line.page(number),
+        _ => Place::none(),
     }
-    Ok(Line { classes })
-}
-
-/// The same, and the row's own class where it introduces cells.
-pub(crate) fn line_of_row(
-    alloc: Global,
-    lines: &[Option<Line>],
-    starts: &Starts,
-    parents: &[ClassNo],
-    class: ClassNo,
-    introduced: usize,
-) -> Result<Line, AllocError>
-    requires { AreListed lines.now (start_of starts.now) }
-    ensures parents { IfOk result (λ line. IsListed lines.now parents.now line) }
-    ensures own { IfOk result (λ line. 0 < introduced → Contains line class) }
-{
-    let mut line = line_below(alloc, lines, starts, parents)?;
-    if introduced == 0 {
-        return Ok(line);
-    }
-    line.push(class)?;
-    Ok(line)
 }

@@ -1,6 +1,8 @@
-ghost use Rattle.std.specs.Prelude.{◌≡◌, false, IfOk, None, ℕ, length};
+ghost use Rattle.std.specs.Prelude.{◌≡◌, ◌==◌, ◌/◌, [], false, IfOk, None, ℕ, length};
+ghost use Rattle.som_tables.specs.Layout.{on_page};
 ghost use Rattle.som_tables.specs.Rows.{class_with, introduced_count, replaced_at};
 
+use crate::starts::PAGE;
 use crate::{ClassNo, Kind, Token};
 use std::alloc::{AllocError, Global};
 use std::marker::Model;
@@ -44,6 +46,14 @@ impl<K: Kind> Row<K> {
         Ok(Row {
             parts: Box::new(alloc, parts)?,
         })
+    }
+
+    /// What the row is made of as far as a page tells: no cells of its own, and those alone that are replaced there.
+    pub(crate) fn on_page(&self, alloc: Global, number: usize) -> Result<Row<K>, AllocError>
+        ensures { IfOk result (λ row. row ≡ class_with self.now.parents [] (on_page number self.now.replaced)) }
+    {
+        let replaced = replaced_on(alloc, self.replaced(), number)?;
+        Row::new(alloc, self.parents(), &[], replaced.as_slice())
     }
 
     pub(crate) fn parents(&self) -> &[ClassNo]
@@ -101,4 +111,47 @@ pub(crate) fn replaces_any<K: Kind>(replaced: &[(Token<K>, K::Cell)], class: Cla
         }
     }
     false
+}
+
+/// Whether a token is of a class of the page.
+fn is_on<K: Kind>(token: &Token<K>, number: usize) -> bool
+    ensures { result ≡ (token.now.0 / 64 == number) }
+{
+    token.class().number() as usize / PAGE == number
+}
+
+/// Whether the cell of some token of a class of the page is replaced. It may say so where none is.
+pub(crate) fn replaces_on<K: Kind>(replaced: &[(Token<K>, K::Cell)], number: usize) -> bool
+    ensures { result ≡ false → (a p : ℕ) → a / 64 ≡ number → replaced_at replaced.now (a, p) ≡ None }
+{
+    for pair in replaced {
+        if is_on(&pair.0, number) {
+            return true;
+        }
+    }
+    false
+}
+
+/// A token and the cell that replaces its own.
+fn copy_of<K: Kind>(pair: &(Token<K>, K::Cell)) -> (Token<K>, K::Cell)
+    ensures { result ≡ pair.now }
+{
+    (Token::new(pair.0.class(), pair.0.place()), pair.1)
+}
+
+/// The replaced cells of the classes of a page.
+fn replaced_on<K: Kind>(
+    alloc: Global,
+    replaced: &[(Token<K>, K::Cell)],
+    number: usize,
+) -> Result<Vec<(Token<K>, K::Cell)>, AllocError>
+    ensures { IfOk result (λ some. some.items ≡ on_page number replaced.now) }
+{
+    let mut some = Vec::new(alloc);
+    for pair in replaced {
+        if is_on(&pair.0, number) {
+            some.push(copy_of(pair))?;
+        }
+    }
+    Ok(some)
 }

@@ -1,54 +1,87 @@
-ghost use Rattle.std.specs.Prelude.{◌≡◌, ◌≢◌, ◌≤◌, ℕ, length, IsSome, Some, IfOk};
-ghost use Rattle.std.specs.HashMap.{spare};
-ghost use Rattle.som_tables.specs.Layout.{start_of, first_start_of, KeepsStarts, IsNoted};
+ghost use Rattle.std.specs.Prelude.{◌≡◌, ◌<◌, ◌/◌, ◌%◌, ℕ, List, Option, IfSome};
+ghost use Rattle.std.specs.Option.{option_or};
+ghost use Rattle.som_tables.specs.Rows.{first_some};
+ghost use Rattle.som_tables.specs.Layout.{AreInside, IsInside, found_at, line_at, page_start, start_of, first_start_of};
 
 use crate::ClassNo;
-use std::alloc::AllocError;
-use std::collections::HashMap;
+use crate::line::{Line, page_of};
+use crate::place::Place;
 
-/// Where the blocks of cells begin: for a class, and the class that introduced the cells, the place of the first of them.
-pub(crate) type Starts = HashMap<(ClassNo, ClassNo), u32>;
+/// How many classes a page is for.
+pub(crate) const PAGE: usize = 64;
+
+/// What a page has at a place.
+pub(crate) fn start_on(starts: &[Place], page: Place, place: usize) -> Place
+    requires { place < 64 }
+    ensures { result ≡ page_start starts.now page place }
+{
+    match page.get() {
+        Some(from) => match starts.get(from + place) {
+            Some(start) => *start,
+            None => Place::none(),
+        },
+        None => Place::none(),
+    }
+}
 
 /// Where the block for class `of` in the row of `class` begins, by one look-up.
-pub(crate) fn start_in(starts: &Starts, class: ClassNo, of: ClassNo) -> Option<u32>
-    ensures { result ≡ start_of starts.now class of }
+pub(crate) fn start_in(
+    lines: &[Option<Line>],
+    starts: &[Place],
+    class: ClassNo,
+    of: ClassNo,
+) -> Place
+    ensures { result ≡ start_of lines.now starts.now class of }
 {
-    starts.get(&(class, of)).copied()
+    let number = of.number() as usize;
+    start_on(starts, page_of(lines, class, number / PAGE), number % PAGE)
 }
 
 /// Where the first block for class `of` among the rows of these parents begins.
-pub(crate) fn first_start(starts: &Starts, parents: &[ClassNo], of: ClassNo) -> Option<u32>
-    ensures { result ≡ first_start_of starts.now parents.now of }
+pub(crate) fn first_start(
+    lines: &[Option<Line>],
+    starts: &[Place],
+    parents: &[ClassNo],
+    of: ClassNo,
+) -> Place
+    ensures { result ≡ first_start_of lines.now starts.now parents.now of }
 {
     for parent in parents {
-        let start = start_in(starts, *parent, of);
-        if start.is_some() {
+        let start = start_in(lines, starts, *parent, of);
+        if start.get().is_some() {
             return start;
         }
     }
-    None
+    Place::none()
 }
 
-/// The four bytes for a place: one that has no room in them counts as want of memory.
-pub(crate) fn place_of(place: usize) -> Result<u32, AllocError>
-    ensures { IfOk result (λ start. start ≡ place) }
+/// One of two pages where the other has nothing to add to it.
+fn joined(first: Place, second: Place) -> Option<Place>
+    ensures inside { IfSome result (λ page. (starts : List (Option ℕ)) → IsInside starts first → IsInside starts second → IsInside starts page) }
+    ensures page { IfSome result (λ page. (starts : List (Option ℕ)) (p : ℕ) →
+        option_or (page_start starts first p) (page_start starts second p) ≡ page_start starts page p) }
 {
-    match u32::try_from(place) {
-        Ok(start) => Ok(start),
-        Err(_) => Err(AllocError),
+    match (first.get(), second.get()) {
+        (_, None) => Some(first),
+        (None, _) => Some(second),
+        (Some(left), Some(right)) if left == right => Some(first),
+        _ => None,
     }
 }
 
-/// Notes where the blocks of a row begin, for which there is room.
-pub(crate) fn note_blocks(starts: &mut Starts, class: ClassNo, blocks: &[(ClassNo, u32)])
-    requires { length blocks.now ≤ spare starts.old }
-    ensures others { KeepsStarts starts.old starts.new class }
-    ensures noted { IsNoted starts.old starts.new class blocks.now }
+/// The page that each of these parents has, if it has one, where they have no two different ones.
+pub(crate) fn common_page(
+    lines: &[Option<Line>],
+    parents: &[ClassNo],
+    number: usize,
+) -> Option<Place>
+    ensures inside { IfSome result (λ page. (starts : List (Option ℕ)) → ((c : ℕ) → AreInside starts (line_at lines.now c)) → IsInside starts page) }
+    ensures page { IfSome result (λ page. (starts : List (Option ℕ)) (p : ℕ) →
+        first_some (λ q. page_start starts (found_at (line_at lines.now q) number) p) parents.now ≡ page_start starts page p) }
 {
-    for block in blocks {
-        match starts.insert((class, block.0), block.1) {
-            Ok(_) => {}
-            Err(_) => unreachable!(),
-        }
+    let mut common = Place::none();
+    for parent in parents {
+        common = joined(common, page_of(lines, *parent, number))?;
     }
+    Some(common)
 }

@@ -2,7 +2,9 @@ ghost use Rattle.std.specs.Prelude.{◌≡◌, ◌+◌, ◌<◌, length, slice_g
 ghost use Rattle.som_tables.specs.Layout.{start_of};
 
 use crate::ClassNo;
-use crate::starts::{Starts, start_in};
+use crate::line::Line;
+use crate::place::Place;
+use crate::starts::start_in;
 use std::marker::Model;
 use std::sync::ledger::{Blank, Book, Ledger, Share};
 
@@ -52,11 +54,17 @@ impl<L: Ledger> Steps<L> {
     }
 
     /// A look-up of where a block begins, which is one step.
-    pub(crate) fn look_up(&mut self, starts: &Starts, class: ClassNo, of: ClassNo) -> Option<u32>
-        ensures start { result ≡ start_of starts.now class of }
+    pub(crate) fn look_up(
+        &mut self,
+        lines: &[Option<Line>],
+        starts: &[Place],
+        class: ClassNo,
+        of: ClassNo,
+    ) -> Place
+        ensures start { result ≡ start_of lines.now starts.now class of }
         ensures cost { self.new ≡ self.old + 1 }
     {
         self.tick();
-        start_in(starts, class, of)
+        start_in(lines, starts, class, of)
     }
 }

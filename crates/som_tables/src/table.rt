@@ -1,13 +1,13 @@
 ghost use Rattle.std.specs.Prelude.{◌≡◌, ◌<◌, ◌≤◌, ◌+◌, ◌-◌, ◌++◌, ◌∷◌, [], length, take, slice_set, is_some, IfOk, OnOk, OnErr, Some, None, IsNone};
 ghost use Rattle.som_tables.specs.Rows.{GivesRow, GivesTokens, AreDistinct, AreInherited, HasToken, HaveRows, HaveRowsBelow, IsDeclared, KeepsOtherRows, KeepsRows, class_with, inherited, introduced_count, row_at};
 
-use crate::blocks::lay_row;
 use crate::line::Line;
+use crate::pages::lay_row;
+use crate::place::Place;
 use crate::row::Row;
-use crate::starts::{Starts, start_in};
+use crate::starts::start_in;
 use crate::{ClassNo, Kind, Steps, Token};
 use std::alloc::{AllocError, Global};
-use std::collections::HashMap;
 use std::marker::Model;
 use std::sync::ledger::Ledger;
 
@@ -16,20 +16,20 @@ use std::sync::ledger::Ledger;
 pub struct Table<K: Kind> {
     rows: Vec<Option<Row<K>>>,
     lines: Vec<Option<Line>>,
-    starts: Starts,
+    starts: Vec<Place>,
     cells: Vec<K::Cell>,
 }
 
 impl<K: Kind> Model for Table<K> {
     ghost use Rattle.std.specs.Prelude.{List, Option};
     ghost use Rattle.som_tables.specs.Rows.{Added};
-    ghost use Rattle.som_tables.specs.Layout.{IsTable, start_of};
+    ghost use Rattle.som_tables.specs.Layout.{IsTable};
 
     ghost Value = { List (Option (Added K.Cell)) };
 
     ghost view = { λ t. t.rows.items };
 
-    ghost invariant = { λ t. IsTable t.rows.items t.lines.items (start_of t.starts) t.cells.items };
+    ghost invariant = { λ t. IsTable t.rows.items t.lines.items t.starts.items t.cells.items };
 }
 
 /// Puts a value at a place.
@@ -48,7 +48,7 @@ impl<K: Kind> Table<K> {
         Table {
             rows: Vec::new(alloc),
             lines: Vec::new(alloc),
-            starts: HashMap::new(alloc),
+            starts: Vec::new(alloc),
             cells: Vec::new(alloc),
         }
     }
@@ -69,8 +69,8 @@ impl<K: Kind> Table<K> {
     }
 
     /// Gives a class its row, below its parents, all of which have theirs. Where parents have different cells for a token, the leftmost of them counts.
-    /// The row takes a few bytes for each class whose cells it has, the introduced cells, and a copy of each inherited block of cells in which one is replaced.
-    /// A table of more than 4,294,967,294 cells counts as want of memory.
+    /// The row takes four bytes for each 64 class numbers up to its own, 256 bytes for each 64 of them for which its parents' rows don't serve, the introduced cells, and a copy of each inherited block of cells in which one is replaced.
+    /// A table with more cells or starts than four bytes number counts as want of memory.
     pub fn fill(
         &mut self,
         alloc: Global,
@@ -176,11 +176,10 @@ impl<K: Kind> Table<K> {
         ensures cell { Some result ≡ inherited self.now class token }
         ensures cost { steps.new ≡ steps.old + 2 }
     {
-        match steps.look_up(&self.starts, class, token.class()) {
-            Some(start) => steps.read(
-                self.cells.as_slice(),
-                start as usize + token.place() as usize,
-            ),
+        let lines = self.lines.as_slice();
+        let starts = self.starts.as_slice();
+        match steps.look_up(lines, starts, class, token.class()).get() {
+            Some(start) => steps.read(self.cells.as_slice(), start + token.place() as usize),
             None => unreachable!(),
         }
     }
@@ -190,8 +189,10 @@ impl<K: Kind> Table<K> {
         requires { HasToken self.now class token }
         ensures { Some result ≡ inherited self.now class token }
     {
-        match start_in(&self.starts, class, token.class()) {
-            Some(start) => self.cells[start as usize + token.place() as usize],
+        let lines = self.lines.as_slice();
+        let starts = self.starts.as_slice();
+        match start_in(lines, starts, class, token.class()).get() {
+            Some(start) => self.cells[start + token.place() as usize],
             None => unreachable!(),
         }
     }

@@ -1,4 +1,4 @@
-use Rattle.som_sema.specs.Drafts.{plain_drafts}
+use Rattle.som_drafts.specs.Drafts.{plain_drafts}
 use Rattle.som_elab.proofs.ContextLaws.{within_context}
 use Rattle.som_elab.proofs.all_bodies.within_limits.Goals as goal
 

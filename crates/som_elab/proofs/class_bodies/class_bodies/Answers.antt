@@ -1,5 +1,5 @@
 use Rattle.std.proofs.Common.{ap}
-use Rattle.som_sema.specs.Drafts.{plain_draft}
+use Rattle.som_drafts.specs.Drafts.{plain_draft}
 use Rattle.som_rules.specs.Places.{class_of_place}
 use Rattle.som_elab.specs.Contexts.{among_in, classes_in}
 use Rattle.som_elab.specs.Texts.{given}

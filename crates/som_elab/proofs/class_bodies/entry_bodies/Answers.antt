@@ -1,6 +1,6 @@
 use Rattle.std.proofs.Common.{sym, ap, ◌∙◌}
 use Rattle.som_elab.specs.Accessors.{body_of}
-use Rattle.som_sema.specs.Drafts.{plain_draft}
+use Rattle.som_drafts.specs.Drafts.{plain_draft}
 use Rattle.som_rules.specs.Places.{class_of_place}
 use Rattle.som_typing.proofs.BodySteps.{entry_mem}
 use Rattle.som_elab.specs.Elaboration.{entry_body}

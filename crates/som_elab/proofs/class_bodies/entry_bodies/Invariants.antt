@@ -1,6 +1,6 @@
 use Rattle.std.proofs.Common.{◌≡◌, drop}
 use Rattle.som_rules.specs.Places.{class_of_place}
-use Rattle.som_sema.specs.Drafts.{plain_draft}
+use Rattle.som_drafts.specs.Drafts.{plain_draft}
 use Rattle.som_elab.specs.Elaboration.{entry_bodies}
 use Rattle.som_elab.specs.Contexts.{among_in, classes_in}
 use Rattle.som_elab.specs.Texts.{given}

@@ -1,5 +1,5 @@
 use Rattle.std.proofs.Common.{◌≡◌, drop}
-use Rattle.som_sema.specs.Drafts.{plain_drafts}
+use Rattle.som_drafts.specs.Drafts.{plain_drafts}
 use Rattle.som_elab.specs.Contexts.{among_in, each_steps}
 use Rattle.som_elab.specs.Texts.{given}
 use Rattle.som_elab.proofs.Gathering.{after}

@@ -1,7 +1,7 @@
 use Rattle.std.proofs.Common.{◌≡◌, drop, flat_map}
 use Rattle.som_model.specs.Lists.{first}
 use Rattle.som_order.specs.Names.{texts}
-use Rattle.som_sema.specs.Drafts.{plain_draft}
+use Rattle.som_drafts.specs.Drafts.{plain_draft}
 use Rattle.som_elab.specs.Bodies.{entry_has_one}
 use Rattle.som_elab.specs.Texts.{given}
 use Rattle.som_elab.proofs.counted_bodies.introduced_counted.Given as goal

@@ -1,5 +1,5 @@
 use Rattle.std.proofs.Common.{ap}
-use Rattle.som_sema.specs.Drafts.{plain_draft}
+use Rattle.som_drafts.specs.Drafts.{plain_draft}
 use Rattle.som_elab.specs.Texts.{given}
 use Rattle.som_elab.proofs.OwnTexts.{counted_told}
 use Rattle.som_elab.proofs.counted_bodies.own_counted.Goals as goal

@@ -1,6 +1,6 @@
 use Rattle.std.proofs.Common.{◌≡◌, ◌++◌, drop, map}
 use Rattle.som_model.specs.Class.{class_in}
-use Rattle.som_sema.specs.Drafts.{plain_drafts, draft_classes}
+use Rattle.som_drafts.specs.Drafts.{plain_drafts, draft_classes}
 use Rattle.som_rules.specs.Modules.{classes_of}
 use Rattle.som_elab.proofs.elaborated.add_drafts.Given as goal
 

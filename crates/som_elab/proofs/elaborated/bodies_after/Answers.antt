@@ -2,7 +2,7 @@ use Rattle.std.proofs.Common.{◌≡◌, List, length, map, None, option_copied,
 use Rattle.som_model.specs.Class.{Class, class_in}
 use Rattle.som_model.specs.declared.key.Module.TheVariants as modules
 use Rattle.som_scope.specs.ClassNames.{module_in_scope}
-use Rattle.som_sema.specs.Drafts.{plain_drafts}
+use Rattle.som_drafts.specs.Drafts.{plain_drafts}
 use Rattle.som_rules.specs.Faces.{classes_breach}
 use Rattle.som_rules.specs.Modules.{classes_of}
 use Rattle.som_rules.specs.Places.{with_kernel}

@@ -1,6 +1,6 @@
 use Rattle.std.proofs.Common.{List, option_copied, ◌∙◌, subst}
 use Rattle.som_scope.specs.ClassNames.{module_in_scope}
-use Rattle.som_sema.specs.Drafts.{plain_drafts}
+use Rattle.som_drafts.specs.Drafts.{plain_drafts}
 use Rattle.som_rules.specs.declared.types.Declared.{Declared}
 use Rattle.som_rules.specs.Modules.{classes_of}
 use Rattle.som_rules.specs.Places.{with_kernel}

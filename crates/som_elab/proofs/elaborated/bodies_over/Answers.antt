@@ -1,7 +1,7 @@
 use Rattle.std.proofs.Common.{length, option_copied, sym, ap, ◌∙◌, subst}
 use Rattle.som_model.specs.Class.{bare}
 use Rattle.som_scope.specs.ClassNames.{face_names, module_in_scope, kernel_names, module_by_names}
-use Rattle.som_sema.specs.Drafts.{plain_drafts}
+use Rattle.som_drafts.specs.Drafts.{plain_drafts}
 use Rattle.som_scope.specs.Words.{interface_names, lent, once}
 use Rattle.som_sema.proofs.Finishing.{base_is}
 use Rattle.som_rules.proofs.DeclaredClasses.{long_map}

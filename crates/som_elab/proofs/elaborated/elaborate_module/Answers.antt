@@ -1,7 +1,7 @@
 use Rattle.std.proofs.Common.{List, Ok, option_copied, sym, ap, ◌∙◌}
 use Rattle.std.proofs.lemmas.Result.{err_from_is_err_and}
 use Rattle.som_model.specs.declared.class.ClassDecl.{ClassDecl}
-use Rattle.som_sema.specs.Drafts.{InterfaceDraft, plain_drafts}
+use Rattle.som_drafts.specs.Drafts.{InterfaceDraft, plain_drafts}
 use Rattle.som_scope.specs.Words.{interfaces_of, lent}
 use Rattle.som_elab.specs.Bodies.{drafts_of_classes, bodies_of}
 use Rattle.som_elab.specs.declared.elaborated.ElaboratedModule.{ElaboratedModule}

@@ -1,6 +1,6 @@
 use Rattle.std.proofs.Common.{◌≡◌, drop}
 use Rattle.som_elab.specs.Limits.{limit_passed}
-use Rattle.som_sema.specs.Drafts.{plain_drafts}
+use Rattle.som_drafts.specs.Drafts.{plain_drafts}
 use Rattle.som_elab.proofs.limits.limits_kept.Given as goal
 
 abbrev pub invariant-loop-draft : goal.invariant-loop-draft

@@ -1,6 +1,6 @@
 use Rattle.std.proofs.Common.{◌≡◌, ◌++◌, drop}
 use Rattle.som_sema.specs.Noted.{all_at}
-use Rattle.som_sema.specs.Drafts.{plain_drafts}
+use Rattle.som_drafts.specs.Drafts.{plain_drafts}
 use Rattle.som_elab.specs.Texts.{class_places}
 use Rattle.som_elab.proofs.named_bodies.class_places.Given as goal
 

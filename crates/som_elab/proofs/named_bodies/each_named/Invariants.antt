@@ -1,6 +1,6 @@
 use Rattle.std.proofs.Common.{◌≡◌, drop, flat_map}
 use Rattle.som_model.specs.Lists.{first}
-use Rattle.som_sema.specs.Drafts.{plain_drafts}
+use Rattle.som_drafts.specs.Drafts.{plain_drafts}
 use Rattle.som_typing.specs.Knowing.{all_of}
 use Rattle.som_elab.specs.Bodies.{text_s13}
 use Rattle.som_elab.specs.Texts.{given}

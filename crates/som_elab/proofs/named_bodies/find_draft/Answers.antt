@@ -1,5 +1,5 @@
 use Rattle.std.proofs.Common.{option_map, sym, ap, ◌∙◌}
-use Rattle.som_sema.specs.Drafts.{plain_drafts, plain_draft}
+use Rattle.som_drafts.specs.Drafts.{plain_drafts, plain_draft}
 use Rattle.som_elab.specs.Texts.{class_places}
 use Rattle.som_elab.proofs.NamedClasses.{named, unnamed}
 use Rattle.som_elab.proofs.named_bodies.find_draft.Goals as goal

@@ -1,5 +1,5 @@
 use Rattle.std.proofs.Common.{option_copied}
-use Rattle.som_sema.specs.Drafts.{plain_draft}
+use Rattle.som_drafts.specs.Drafts.{plain_draft}
 use Rattle.som_typing.specs.Knowing.{all_of}
 use Rattle.som_elab.proofs.NamedClasses.{signed_override}
 use Rattle.som_elab.proofs.named_bodies.override_sig.Goals as goal

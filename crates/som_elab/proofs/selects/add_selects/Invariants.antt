@@ -1,5 +1,5 @@
 use Rattle.std.proofs.Common.{◌≡◌, ◌+◌, drop, flat_map, length}
-use Rattle.som_sema.specs.Items.{chosen_in}
+use Rattle.som_drafts.specs.Items.{chosen_in}
 use Rattle.som_elab.proofs.selects.add_selects.Given as goal
 
 abbrev pub invariant-loop-modifier : goal.invariant-loop-modifier

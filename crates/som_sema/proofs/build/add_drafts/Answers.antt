@@ -1,8 +1,8 @@
 use Rattle.std.proofs.Common.{List, map, refl}
 use Rattle.som_model.specs.Class.{class_in}
 use Rattle.som_rules.specs.Modules.{class_of, classes_of}
-use Rattle.som_sema.specs.Drafts.{plain_drafts, draft_classes}
-use Rattle.som_sema.specs.declared.drafts.Draft.{Draft}
+use Rattle.som_drafts.specs.Drafts.{plain_drafts, draft_classes}
+use Rattle.som_drafts.specs.declared.drafts.Draft.{Draft}
 use Rattle.som_scope.proofs.Going.{next, pushed, rest_end}
 use Rattle.som_sema.proofs.build.add_drafts.Goals as goal
 

@@ -7,7 +7,7 @@ use Rattle.som_rules.specs.Told.{Tells}
 use Rattle.som_scope.specs.ClassNames.{module_in_scope}
 use Rattle.som_scope.specs.Words.{lent}
 use Rattle.som_sema.specs.Building.{declared_all, draft_rules_breach}
-use Rattle.som_sema.specs.Drafts.{plain_drafts}
+use Rattle.som_drafts.specs.Drafts.{plain_drafts}
 use Rattle.som_sema.proofs.Finishing.{base_is}
 use Rattle.som_sema.proofs.TextBases.{are_drafts}
 use Rattle.som_sema.proofs.build.faces_in_scope.Goals as goal

@@ -7,7 +7,7 @@ use Rattle.som_rules.specs.Modules.{classes_of}
 use Rattle.som_rules.proofs.DeclaredClasses.{long_map}
 use Rattle.som_scope.specs.ClassNames.{module_in_scope}
 use Rattle.som_sema.specs.Building.{finished_breach}
-use Rattle.som_sema.specs.Drafts.{plain_drafts}
+use Rattle.som_drafts.specs.Drafts.{plain_drafts}
 use Rattle.som_sema.proofs.Composing.{table_lists}
 use Rattle.som_sema.proofs.Finishing.{declared_is, finished_table}
 use Rattle.som_sema.proofs.Telling.{told_as}

@@ -3,7 +3,7 @@ use Rattle.som_model.specs.Class.{class_in}
 use Rattle.som_model.specs.declared.key.Module.TheVariants as modules
 use Rattle.som_rules.specs.Modules.{classes_of}
 use Rattle.som_rules.specs.declared.types.Declared.{Declared}
-use Rattle.som_sema.specs.Drafts.{plain_drafts, draft_classes}
+use Rattle.som_drafts.specs.Drafts.{plain_drafts, draft_classes}
 use Rattle.som_sema.proofs.build.known_classes.Goals as goal
 
 pub returns : goal.returns

@@ -1,8 +1,8 @@
 use Rattle.std.proofs.Common.{◌≡◌, drop, flat_map, map}
 use Rattle.som_model.specs.Lists.{first}
 use Rattle.som_scope.specs.ClassNames.{module_in_scope}
-use Rattle.som_sema.specs.Drafts.{plain_draft}
-use Rattle.som_sema.specs.Items.{given_by}
+use Rattle.som_drafts.specs.Drafts.{plain_draft}
+use Rattle.som_drafts.specs.Items.{given_by}
 use Rattle.som_sema.specs.TextRules.{replaces_inherited}
 use Rattle.som_rules.specs.Modules.{classes_of}
 use Rattle.som_rules.specs.Places.{key_at, with_kernel}

@@ -4,28 +4,25 @@ use Rattle.som_rules.specs.Modules.{classes_of}
 use Rattle.som_rules.specs.Places.{key_at, with_kernel}
 use Rattle.som_rules.specs.Told.{Tells}
 use Rattle.som_scope.specs.ClassNames.{module_in_scope}
-use Rattle.som_sema.specs.Drafts.{plain_draft}
-use Rattle.som_sema.specs.Items.{Given, given, given_by}
-use Rattle.som_sema.specs.Noted.{all_at}
+use Rattle.som_drafts.specs.Drafts.{plain_draft}
+use Rattle.som_drafts.specs.Items.{Given, given, given_by}
 use Rattle.som_sema.specs.TextRules.{replaces_inherited}
 use Rattle.som_sema.proofs.Composing.{table_lists}
 use Rattle.som_sema.proofs.Inheriting.{along_known}
 use Rattle.som_sema.proofs.inherited.own_inherited.Goals as goal
 
-pub introduced_along-requires-clause-list : goal.introduced_along-requires-clause-list
-introduced_along-requires-clause-list c =
-    let lists = table_lists (classes_of c.args.classes.now) c.args.ancestors.now c.as_slice-2.result.now c.requires.ancestors c.as_slice-2.ensures.value in
-    λ a m. lists.low c.args.place a (rw c.list_at-list.ensures at m)
+pub places_above-requires-clause-lists : goal.places_above-requires-clause-lists
+places_above-requires-clause-lists c = table_lists (classes_of c.args.classes.now) c.args.ancestors.now c.as_slice-lists.result.now c.requires.ancestors c.as_slice-lists.ensures.value
 
 pub marks_inherited-requires-clause-above : goal.marks_inherited-requires-clause-above
 marks_inherited-requires-clause-above c = record {
   ancestors = c.requires.ancestors;
   there = c.requires.place;
-  known = along_known (classes_of c.args.classes.now) c.args.ancestors.now c.args.place _ _ (all_at c.deref.result.now) c.in_ok-above.above c.as_slice-2.ensures.value c.list_at-list.ensures (ap all_at c.deref.ensures.value ∙ c.in_ok-along.ensures) c.in_ok-above.ensures;
+  known = along_known (classes_of c.args.classes.now) c.args.ancestors.now c.args.place _ c.in_ok-above.above c.as_slice-lists.ensures.value c.in_ok-above.ensures;
 }
 
 pub returns : goal.returns
 returns c =
     subst (λ (gs : List Given). Tells (first (flat_map (replaces_inherited (module_in_scope c.args.scope.now) (with_kernel (classes_of c.args.classes.now)) (key_at (with_kernel (classes_of c.args.classes.now)) c.args.place) (plain_draft c.args.draft.now)) gs)) c.marks_inherited.result)
-    (ap (map given_by) c.deref-3.ensures.value ∙ c.in_ok-marks.ensures ∙ ap given c.as_slice.ensures)
+    (ap (map given_by) c.deref-2.ensures.value ∙ c.in_ok-marks.ensures ∙ ap given c.as_slice.ensures)
     c.marks_inherited.ensures

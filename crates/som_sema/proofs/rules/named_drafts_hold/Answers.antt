@@ -3,7 +3,7 @@ use Rattle.som_order.specs.Names.{texts}
 use Rattle.som_rules.specs.Modules.{classes_of}
 use Rattle.som_rules.proofs.PlainFaces.{none_or}
 use Rattle.som_scope.specs.ClassNames.{module_in_scope}
-use Rattle.som_sema.specs.Drafts.{plain_drafts}
+use Rattle.som_drafts.specs.Drafts.{plain_drafts}
 use Rattle.som_sema.proofs.Composing.{all_stand, lists_are}
 use Rattle.som_sema.proofs.Telling.{later}
 use Rattle.som_sema.proofs.rules.named_drafts_hold.Goals as goal

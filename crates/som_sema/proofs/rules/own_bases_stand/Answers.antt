@@ -5,7 +5,7 @@ use Rattle.som_rules.specs.Places.{with_kernel}
 use Rattle.som_rules.specs.Told.{Tells}
 use Rattle.som_rules.proofs.DeclaredClasses.{known_number}
 use Rattle.som_scope.specs.ClassNames.{module_in_scope}
-use Rattle.som_sema.specs.Drafts.{plain_drafts}
+use Rattle.som_drafts.specs.Drafts.{plain_drafts}
 use Rattle.som_sema.specs.TextRules.{text_s2_from}
 use Rattle.som_sema.proofs.Composing.{front_place}
 use Rattle.som_sema.proofs.rules.own_bases_stand.Goals as goal

@@ -1,5 +1,5 @@
 use Rattle.std.proofs.Common.{◌≡◌, ◌++◌, drop, flat_map, map}
-use Rattle.som_sema.specs.Items.{chosen_by, given_by}
+use Rattle.som_drafts.specs.Items.{chosen_by, given_by}
 use Rattle.som_sema.specs.Selecting.{choice_of}
 use Rattle.som_sema.proofs.selected.choices.Given as goal
 

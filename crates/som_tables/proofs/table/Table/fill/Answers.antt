@@ -1,6 +1,5 @@
 use Rattle.std.specs.Prelude.{Some, slice_set}
 use Rattle.som_tables.specs.Rows.{class_with}
-use Rattle.som_tables.specs.Layout.{start_of}
 use Rattle.som_tables.proofs.Inherited.{inherited_others, inherited_filled, tokens_from_row}
 use Rattle.som_tables.proofs.LateRows.{Filled-set}
 use Rattle.som_tables.proofs.NextRow.{IsTable-fill}
@@ -10,9 +9,9 @@ pub invariant_of-self-2 : goal.invariant_of-self-2
 invariant_of-self-2 g c =
     let cs = c.self.inside.rows.items in
     rw (c.put.ensures, c.put-2.ensures, c.number-place.ensures)
-    (IsTable-fill cs c.self.inside.lines.items (start_of c.self.inside.starts) (start_of c.lay_row.new.starts) c.self.inside.cells.items c.lay_row.new.cells.items c.args.class c.in_ok-row.row c.in_ok-line.line c.self.invariant
+    (IsTable-fill cs c.self.inside.lines.items c.self.inside.starts.items c.lay_row.new.starts.items c.self.inside.cells.items c.lay_row.new.cells.items c.args.class c.in_ok-row.row c.in_ok-line.line c.self.invariant
     (rw c.self.view_is c.requires.class) (rw (c.in_ok-row.ensures, c.self.view_is) c.requires.parents) (rw (c.in_ok-row.ensures, c.self.view_is) c.requires.inherited)
-    c.in_ok-line.ensures.grown (λ d a ne. c.in_ok-line.ensures.others d a ne) (rw c.as_slice.ensures.value at c.in_ok-line.ensures.line))
+    c.in_ok-line.ensures.grown c.in_ok-line.ensures.more c.in_ok-line.ensures.inside (rw c.as_slice.ensures.value at c.in_ok-line.ensures.line))
 
 pub returns-clause-others : goal.returns-clause-others
 returns-clause-others g c =

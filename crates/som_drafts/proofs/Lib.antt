@@ -1,0 +1,3 @@
+pub mod Unsaid
+pub mod Calling
+pub mod Doubling

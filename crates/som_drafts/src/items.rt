@@ -1,0 +1,105 @@
+ghost use Rattle.som_order.specs.Names.{texts};
+ghost use Rattle.som_scope.specs.Words.{words};
+ghost use Rattle.som_drafts.specs.Items as spec;
+ghost use Rattle.std.specs.Prelude.{◌≡◌, ◌++◌, IfOk, OnOk};
+
+use som_idl::{Item, Word};
+use som_model::NoMemory;
+use som_scope::add;
+use std::alloc::Global;
+
+/// Adds the texts of words.
+pub fn add_words<'a>(names: &mut Vec<&'a [u8]>, list: &'a [Word]) -> Result<(), NoMemory>
+    ensures { OnOk result (texts names.new.items ≡ texts names.old.items ++ words list.now) }
+{
+    for word in list {
+        add(names, word.text.as_slice())?;
+    }
+    Ok(())
+}
+
+/// The names of the parents, which are SOMObject alone where none is named.
+pub fn parent_names(alloc: Global, parents: &[Word]) -> Result<Vec<&[u8]>, NoMemory>
+    ensures { IfOk result (λ names. texts names.items ≡ spec.or_object parents.now) }
+{
+    let mut names = Vec::new(alloc);
+    if parents.is_empty() {
+        add(&mut names, b"SOMObject")?;
+    } else {
+        add_words(&mut names, parents)?;
+    }
+    Ok(names)
+}
+
+/// Adds the names of the metaclass items.
+pub fn add_metaclasses<'a>(names: &mut Vec<&'a [u8]>, items: &'a [Item]) -> Result<(), NoMemory>
+    ensures { OnOk result (texts names.new.items ≡ texts names.old.items ++ spec.metaclass_names items.now) }
+{
+    for item in items {
+        if let Item::Metaclass { name } = item {
+            add(names, name.text.as_slice())?;
+        }
+    }
+    Ok(())
+}
+
+/// The names of all release orders, joined.
+pub fn listed(alloc: Global, items: &[Item]) -> Result<Vec<&[u8]>, NoMemory>
+    ensures { IfOk result (λ names. texts names.items ≡ spec.listed items.now) }
+{
+    let mut names = Vec::new(alloc);
+    for item in items {
+        if let Item::ReleaseOrder { names: order } = item {
+            add_words(&mut names, order.as_slice())?;
+        }
+    }
+    Ok(names)
+}
+
+/// The words of the items that may stand once.
+pub fn item_words(alloc: Global, items: &[Item]) -> Result<Vec<&'static [u8]>, NoMemory>
+    ensures { IfOk result (λ names. texts names.items ≡ spec.item_words items.now) }
+{
+    let mut names = Vec::new(alloc);
+    for item in items {
+        add_word(&mut names, item)?;
+    }
+    Ok(names)
+}
+
+fn add_word(names: &mut Vec<&'static [u8]>, item: &Item) -> Result<(), NoMemory>
+    ensures { OnOk result (texts names.new.items ≡ texts names.old.items ++ spec.word_in item.now) }
+{
+    match item {
+        Item::ReleaseOrder { .. } => add(names, b"releaseorder"),
+        Item::Metaclass { .. } => add(names, b"metaclass"),
+        Item::Major { .. } => add(names, b"majorversion"),
+        Item::Minor { .. } => add(names, b"minorversion"),
+        Item::Method { .. } => Ok(()),
+        Item::Variables { .. } => Ok(()),
+    }
+}
+
+/// The first major version that is given, and 0 where none is.
+pub fn major(items: &[Item]) -> u32
+    ensures { result ≡ spec.number_of spec.major_in items.now }
+{
+    for item in items {
+        if let Item::Major { number } = item {
+            return *number;
+        }
+    }
+    0
+}
+
+/// The first minor version that is given, and 0 where none is.
+pub fn minor(items: &[Item]) -> u32
+    ensures { result ≡ spec.number_of spec.minor_in items.now }
+{
+    for item in items {
+        if let Item::Minor { number } = item {
+            return *number;
+        }
+    }
+    0
+}

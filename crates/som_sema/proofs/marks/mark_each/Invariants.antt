@@ -1,9 +1,0 @@
-use Rattle.std.proofs.Common.{◌≡◌, ◌++◌, drop, map}
-use Rattle.som_sema.specs.Items.{given_by}
-use Rattle.som_idl.specs.declared.tree.Modifier.{Modifier}
-use Rattle.som_sema.proofs.marks.mark_each.Given as goal
-
-abbrev pub invariant-loop-modifier : goal.invariant-loop-modifier
-invariant-loop-modifier l =
-    map given_by l.marks.items ++ map (λ (m : Modifier). record { method = l.method; modifier = m }) (drop l.modifier-index l.modifiers)
-    ≡ map given_by l.fn.marks.items ++ map (λ (m : Modifier). record { method = l.method; modifier = m }) l.modifiers
