@@ -23,9 +23,29 @@ impl Lines {
             ExprText::Literal(text) => self.add_literal(text.as_slice()),
             ExprText::Boolean(value) => self.add(if *value { "TRUE" } else { "FALSE" }),
             ExprText::Nil => self.add("nil"),
-            ExprText::Name(word) => self.add_word(word),
             ExprText::Me => self.add("self"),
+            ExprText::Manager => self.add("manager"),
+            ExprText::Name(word) => self.add_word(word),
             ExprText::Variable(word) => self.add_part(".", word),
+            ExprText::New(word) => self.add_class("new(", word),
+            ExprText::Class(word) => self.add_class("class(", word),
+            ExprText::Unary { .. }
+            | ExprText::Binary { .. }
+            | ExprText::Cast { .. }
+            | ExprText::Isa { .. }
+            | ExprText::Proxy { .. }
+            | ExprText::Host { .. } => self.add_compound(expr),
+            ExprText::Call { .. } | ExprText::Lookup { .. } | ExprText::Dispatch { .. } => {
+                self.add_call(expr)
+            }
+            ExprText::Parent { .. } | ExprText::Parents { .. } => self.add_parent_call(expr),
+        }
+    }
+
+    // An expression with expressions in it that is no call, and no other.
+    #[cycle(expressions)]
+    fn add_compound(&mut self, expr: &ExprText) -> Result<(), NoMemory> {
+        match expr {
             ExprText::Unary { op, of } => {
                 self.add_operator("[u", *op)?;
                 self.add_next(of.get())?;
@@ -37,20 +57,30 @@ impl Lines {
                 self.add_next(right.get())?;
                 self.add("]")
             }
-            ExprText::New(word) => self.add_class("new(", word),
-            ExprText::Class(word) => self.add_class("class(", word),
-            ExprText::Manager => self.add("manager"),
             ExprText::Cast { class, of } => self.add_of("as(", class, of.get()),
             ExprText::Isa { class, of } => self.add_of("isa(", class, of.get()),
             ExprText::Proxy { class, of } => self.add_of("proxy(", class, of.get()),
+            ExprText::Host { code, a, b } => {
+                self.add(host_name(*code))?;
+                self.add_next(a.get())?;
+                self.add_next(b.get())?;
+                self.add(")")
+            }
+            _ => Ok(()),
+        }
+    }
+
+    // A call of a method of an object, and no other expression.
+    #[cycle(expressions)]
+    fn add_call(&mut self, expr: &ExprText) -> Result<(), NoMemory> {
+        let (receiver, method, args) = match expr {
             ExprText::Call {
                 receiver,
                 method,
                 args,
             } => {
                 self.add("call(")?;
-                self.add_on(receiver.get(), method)?;
-                self.add_args(args)
+                (receiver, method, args)
             }
             ExprText::Lookup {
                 result,
@@ -59,8 +89,7 @@ impl Lines {
                 args,
             } => {
                 self.add_named("lookup(", result)?;
-                self.add_on(receiver.get(), method)?;
-                self.add_args(args)
+                (receiver, method, args)
             }
             ExprText::Dispatch {
                 result,
@@ -69,9 +98,18 @@ impl Lines {
                 args,
             } => {
                 self.add_named("dispatch(", result)?;
-                self.add_on(receiver.get(), method)?;
-                self.add_args(args)
+                (receiver, method, args)
             }
+            _ => return Ok(()),
+        };
+        self.add_on(receiver.get(), method)?;
+        self.add_args(args)
+    }
+
+    // A call of the method of a parent, or of the parents, and no other expression.
+    #[cycle(expressions)]
+    fn add_parent_call(&mut self, expr: &ExprText) -> Result<(), NoMemory> {
+        match expr {
             ExprText::Parent {
                 parent,
                 method,
@@ -85,12 +123,7 @@ impl Lines {
                 self.add_part("parents(", method)?;
                 self.add_args(args)
             }
-            ExprText::Host { code, a, b } => {
-                self.add(host_name(*code))?;
-                self.add_next(a.get())?;
-                self.add_next(b.get())?;
-                self.add(")")
-            }
+            _ => Ok(()),
         }
     }
 

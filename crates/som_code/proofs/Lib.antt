@@ -1,0 +1,13 @@
+pub mod Leads
+pub mod Sits
+pub mod Pieces
+pub mod Exprs
+pub mod Keeps
+pub mod Flows
+pub mod Stmts
+pub mod Bools
+pub mod Fits
+pub mod Led
+pub mod Emits
+pub mod AsFar
+pub mod Laying

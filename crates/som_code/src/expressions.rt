@@ -1,0 +1,174 @@
+ghost use Rattle.som_code.specs.Laid.{lay_and, lay_each, lay_expr, lay_or, lay_right};
+ghost use Rattle.som_model.specs.Values.{binary_op};
+ghost use Rattle.std.specs.Prelude.{◌≡◌, ◌++◌, length, map, OnOk};
+
+use crate::emit::{
+    emit, emit_dispatch, emit_lookup, emit_offset_call, emit_parent_call, emit_parents_call, patch,
+};
+use crate::{Constant, Instruction};
+use som_model::{Boxed, Expr, List, NoMemory};
+use std::alloc::Global;
+
+// The numbers of the operators that look at their right side only where it decides.
+const AND: u8 = 11;
+
+const OR: u8 = 12;
+
+// The code of an expression.
+#[cycle(emit_expr)]
+pub(crate) fn emit_expr(
+    alloc: Global,
+    code: &mut Vec<Instruction>,
+    e: &Expr,
+) -> Result<(), NoMemory>
+    ensures { OnOk result (code.new.items ≡ code.old.items ++ lay_expr e.now (length code.old.items)) }
+{
+    match e {
+        Expr::Long(number) => emit(code, Instruction::Push(Constant::Long(*number))),
+        Expr::Str(text) => emit(code, Instruction::Push(Constant::Str(text.copy(alloc)?))),
+        Expr::Boolean(truth) => emit(code, Instruction::Push(Constant::Boolean(*truth))),
+        Expr::Nil => emit(code, Instruction::Push(Constant::Nil)),
+        Expr::Local(place) => emit(code, Instruction::Get(*place as usize)),
+        Expr::Me => emit(code, Instruction::Me),
+        Expr::Variable(place) => emit(code, Instruction::GetVariable(*place)),
+        Expr::Unary { op, of } => {
+            emit_part(alloc, code, of)?;
+            emit(code, Instruction::Unary(*op))
+        }
+        Expr::Binary { op, left, right } => {
+            emit_part(alloc, code, left)?;
+            emit_right(alloc, code, *op, right)
+        }
+        Expr::New(class) => emit(code, Instruction::New(class.copy(alloc)?)),
+        Expr::Class(class) => emit(code, Instruction::Class(class.copy(alloc)?)),
+        Expr::Manager => emit(code, Instruction::Manager),
+        Expr::Cast { class, of } => {
+            emit_part(alloc, code, of)?;
+            emit(code, Instruction::Cast(class.copy(alloc)?))
+        }
+        Expr::Isa { class, of } => {
+            emit_part(alloc, code, of)?;
+            emit(code, Instruction::Isa(class.copy(alloc)?))
+        }
+        Expr::Proxy { class, of } => {
+            emit_part(alloc, code, of)?;
+            emit(code, Instruction::Proxy(class.copy(alloc)?))
+        }
+        Expr::OffsetCall {
+            method,
+            receiver,
+            args,
+        } => {
+            emit_part(alloc, code, receiver)?;
+            emit_args(alloc, code, args)?;
+            emit_offset_call(alloc, code, method, args.len())
+        }
+        Expr::Lookup {
+            result: kind,
+            name,
+            receiver,
+            args,
+        } => {
+            emit_part(alloc, code, receiver)?;
+            emit_args(alloc, code, args)?;
+            emit_lookup(alloc, code, kind, name, args.len())
+        }
+        Expr::Dispatch {
+            result: kind,
+            name,
+            receiver,
+            args,
+        } => {
+            emit_part(alloc, code, receiver)?;
+            emit_args(alloc, code, args)?;
+            emit_dispatch(alloc, code, kind, name, args.len())
+        }
+        Expr::ParentCall {
+            parent,
+            method,
+            args,
+        } => {
+            emit_args(alloc, code, args)?;
+            emit_parent_call(alloc, code, *parent, method, args.len())
+        }
+        Expr::ParentsCall { method, args } => {
+            emit_args(alloc, code, args)?;
+            emit_parents_call(alloc, code, method, args.len())
+        }
+        Expr::Host { code: host, a, b } => {
+            emit_part(alloc, code, a)?;
+            emit_part(alloc, code, b)?;
+            emit(code, Instruction::Host(*host))
+        }
+    }
+}
+
+#[cycle(emit_expr)]
+fn emit_part(alloc: Global, code: &mut Vec<Instruction>, part: &Boxed<Expr>) -> Result<(), NoMemory>
+    ensures { OnOk result (code.new.items ≡ code.old.items ++ lay_expr part.now (length code.old.items)) }
+{
+    emit_expr(alloc, code, part.get())
+}
+
+// The right side of an operator, and what joins both sides.
+#[cycle(emit_expr)]
+fn emit_right(
+    alloc: Global,
+    code: &mut Vec<Instruction>,
+    op: u8,
+    right: &Boxed<Expr>,
+) -> Result<(), NoMemory>
+    ensures { OnOk result (code.new.items
+        ≡ code.old.items ++ lay_right (binary_op op) op (lay_expr right.now) (length code.old.items)) }
+{
+    match op {
+        AND => emit_and(alloc, code, right),
+        OR => emit_or(alloc, code, right),
+        _ => {
+            emit_part(alloc, code, right)?;
+            emit(code, Instruction::Binary(op))
+        }
+    }
+}
+
+// After the left side of `and`.
+#[cycle(emit_expr)]
+fn emit_and(alloc: Global, code: &mut Vec<Instruction>, right: &Boxed<Expr>) -> Result<(), NoMemory>
+    ensures { OnOk result (code.new.items ≡ code.old.items ++ lay_and (lay_expr right.now) (length code.old.items)) }
+{
+    let test = code.len();
+    emit(code, Instruction::Unless(0))?;
+    emit_part(alloc, code, right)?;
+    let jump = code.len();
+    emit(code, Instruction::Jump(jump + 2))?;
+    emit(code, Instruction::Push(Constant::Boolean(false)))?;
+    patch(code, test, Instruction::Unless(jump + 1));
+    Ok(())
+}
+
+// After the left side of `or`.
+#[cycle(emit_expr)]
+fn emit_or(alloc: Global, code: &mut Vec<Instruction>, right: &Boxed<Expr>) -> Result<(), NoMemory>
+    ensures { OnOk result (code.new.items ≡ code.old.items ++ lay_or (lay_expr right.now) (length code.old.items)) }
+{
+    let test = code.len();
+    emit(code, Instruction::Unless(test + 3))?;
+    emit(code, Instruction::Push(Constant::Boolean(true)))?;
+    emit(code, Instruction::Jump(0))?;
+    emit_part(alloc, code, right)?;
+    let end = code.len();
+    patch(code, test + 2, Instruction::Jump(end));
+    Ok(())
+}
+
+// Arguments, from left to right.
+#[cycle(emit_expr)]
+fn emit_args(alloc: Global, code: &mut Vec<Instruction>, args: &List<Expr>) -> Result<(), NoMemory>
+    ensures { OnOk result (code.new.items
+        ≡ code.old.items ++ lay_each (map lay_expr args.now) (length code.old.items)) }
+{
+    for arg in args.as_slice() {
+        emit_expr(alloc, code, arg)?;
+    }
+    Ok(())
+}
