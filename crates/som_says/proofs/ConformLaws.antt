@@ -1,5 +1,5 @@
 -- There is a release or a program for which texts stand exactly where they conform.
-use Rattle.std.proofs.Common.{◌≡◌, ℕ, ◌≤◌, inl, inr, List, [], ◌∷◌, ◌++◌, length, map, flat_map, codes, Option, Some, None, Result, Ok, Err, refl, sym, ap, ◌∙◌, subst, arith}
+use Rattle.std.proofs.Common.{◌≡◌, ℕ, inl, inr, List, [], ◌∷◌, length, codes, Option, Some, None, Result, Ok, refl, sym, ap, ◌∙◌, subst, arith}
 use Rattle.std.specs.Prelude.{◌↔◌}
 use Rattle.som_model.specs.declared.class.Body.{Body}
 use Rattle.som_model.specs.declared.class.Body.TheVariants as bodies
@@ -17,7 +17,7 @@ use Rattle.som_model.specs.declared.program.Release.{Release}
 use Rattle.som_model.specs.declared.syntax.Block.{Block}
 use Rattle.som_model.specs.Class.{Class, class_in}
 use Rattle.som_model.specs.Classes.{interface_classes}
-use Rattle.som_model.specs.Lists.{Mem, first}
+use Rattle.som_model.specs.Lists.{Mem}
 use Rattle.som_model.specs.Owner.{owner, sig_of}
 use Rattle.som_model.specs.Rules.{RuleBreach}
 use Rattle.som_model.specs.Steps.{◌>>=◌}
@@ -34,7 +34,7 @@ use Rattle.som_sema.specs.Finished.{selects_at}
 use Rattle.som_forms.specs.Expressions.{Among}
 use Rattle.som_forms.specs.MethodBody.{elaborated_body}
 use Rattle.som_forms.specs.Statements.{Told, elaborated_block}
-use Rattle.som_forms.proofs.Went.{same_answer, went}
+use Rattle.som_forms.proofs.Went.{went}
 use Rattle.som_elab.specs.Accessors.{body_of}
 use Rattle.som_elab.specs.Bodies.{bodies_breach, classes_over, drafts_over, operations, texts_for}
 use Rattle.som_elab.specs.Elaboration.{Refusal, among_over, classes_passed, elaborated_class, elaborated_classes, elaborated_each, elaborated_main, elaborated_program, elaborated_release, entry_bodies, entry_body, keeping, nothing_before, obeying, override_block, override_blocks, refused_at, text_block, with_blocks}
@@ -44,7 +44,8 @@ use Rattle.som_elab.proofs.ClassBodies.{refused_ok}
 use Rattle.som_elab.proofs.Conforms.{declarations_hold}
 use Rattle.som_elab.proofs.Declared.{drafts_are, operation_there, own}
 use Rattle.som_elab.proofs.LimitLaws.{is_at_most, limits_law, says_at_most}
-use Rattle.som_says.specs.Conforming.{BlocksStand, BodiesStand, ClientConforms, HasBody, LibraryConforms, ModuleConforms, by_operation, by_override}
+use Rattle.som_says.specs.Conforming.{BodiesStand, ClientConforms, LibraryConforms, ModuleConforms, by_operation, by_override}
+use Rattle.som_says.proofs.KeepingLaws.{keeping_law}
 use Rattle.som_says.proofs.StandingLaws.{bodies_law}
 
 -- ---- steps that go well
@@ -223,7 +224,8 @@ module _ (m : Module) (base : Interface) (is : List IdlInterface) (bs : List Bod
 
   pub module_stands : ModuleConforms m base is bs → (cs : List ClassDecl) × (elaborated_classes m base is bs ≡ Ok cs)
   module_stands r =
-      let holds = declarations_hold m base is conforms r.rules in
+      let rules : texts_breach m base is ≡ None = (keeping_law m base is conforms).1 r.rules in
+      let holds = declarations_hold m base is conforms rules in
       let x = each_made a m bs ds (λ d n. class_made a m bs d (introduced_once r.bodies d n) (overridden_once r.bodies d n)
       (λ name sig way b k e t. r.blocks.introduced d name sig way b n k e t) (λ o sig b k e t. r.blocks.overridden d o sig b n k e t)) in
       let made = elaborated_each a m bs ds in
@@ -231,7 +233,7 @@ module _ (m : Module) (base : Interface) (is : List IdlInterface) (bs : List Bod
       let limited = keeping (limit_passed (drafts_over m base is)) made in (
         x.0,
         kept_so (classes_passed m is) (obeying (texts_breach m base is) (obeying bodies limited)) x.0 (says_at_most (codes "classes") (most_classes m) (length is) r.few_classes)
-            (obeyed_so (texts_breach m base is) (obeying bodies limited) x.0 r.rules
+            (obeyed_so (texts_breach m base is) (obeying bodies limited) x.0 rules
             (obeyed_so bodies limited x.0 ((bodies_law m base is bs holds.classes).1 r.bodies)
             (kept_so (limit_passed (drafts_over m base is)) made x.0 ((limits_law (drafts_over m base is)).1 r.limits) x.1))),
       )
@@ -249,7 +251,7 @@ module _ (m : Module) (base : Interface) (is : List IdlInterface) (bs : List Bod
       let stand : BodiesStand (classes_over m base is) ds bs = (bodies_law m base is bs holds.classes).0 r.0 in
       record {
         few_classes = is_at_most (codes "classes") (most_classes m) (length is) p.0;
-        rules = q.0;
+        rules = (keeping_law m base is conforms).0 q.0;
         bodies = stand;
         limits = (limits_law (drafts_over m base is)).0 s.0;
         blocks = record {

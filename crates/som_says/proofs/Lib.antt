@@ -1,6 +1,9 @@
 pub mod NamedLaws
 pub mod ExpressionLaws
 pub mod StatementLaws
+pub mod InheritedLaws
+pub mod KeepingLaws
+pub mod MethodLaws
 pub mod BodyLaws
 pub mod ModuleLaws
 pub mod StandingLaws

@@ -1,5 +1,5 @@
 -- S13 and S14 hold exactly where each body stands where it may and each method that has one has one.
-use Rattle.std.proofs.Common.{◌≡◌, ℕ, ◌==◌, inl, inr, Bool, true, false, if◌then◌else◌, List, [], ◌∷◌, ◌++◌, length, flat_map, Option, Some, None, refl, sym, ap, ◌∙◌, subst, true≢false}
+use Rattle.std.proofs.Common.{◌≡◌, ℕ, ◌==◌, inl, inr, Bool, true, false, if◌then◌else◌, List, [], ◌∷◌, length, flat_map, Option, Some, None, refl, sym, ap, ◌∙◌, subst, true≢false}
 use Rattle.std.specs.Prelude.{◌↔◌}
 use Rattle.std.specs.Str.{bytes_eq}
 use Rattle.std.proofs.lemmas.Bool.{eqb-true, eq-eqb}
@@ -28,7 +28,7 @@ use Rattle.som_sema.specs.Building.{after_base, declarations}
 use Rattle.som_drafts.specs.Drafts.{InterfaceDraft}
 use Rattle.som_sema.proofs.TextBases.{demanded_text}
 use Rattle.som_drafts.specs.OwnRules.{text_demand}
-use Rattle.som_elab.specs.Bodies.{bodies_breach, body_sig, classes_over, draft_named, drafts_over, entry_has_one, has_one, operation_sig, operations, override_sig, overridden_sig, stands_for, takes_as_many, text_s13, text_s14, texts_for}
+use Rattle.som_elab.specs.Bodies.{bodies_breach, body_sig, classes_over, draft_named, drafts_over, entry_has_one, has_one, operations, override_sig, overridden_sig, stands_for, takes_as_many, text_s13, text_s14, texts_for}
 use Rattle.som_elab.proofs.Declared.{drafts_are, find_mem, own}
 use Rattle.som_elab.proofs.Fitting.{introduced_there}
 use Rattle.som_elab.proofs.Signatures.{entry_there, named, override_signed}

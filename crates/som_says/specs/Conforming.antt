@@ -15,7 +15,7 @@ use Rattle.som_model.specs.Typing.{in_main}
 use Rattle.som_idl.specs.declared.tree.IdlInterface.{IdlInterface}
 use Rattle.som_body.specs.declared.tree.BlockText.{BlockText}
 use Rattle.som_body.specs.declared.tree.BodyText.{BodyText}
-use Rattle.som_sema.specs.Building.{most_classes, texts_breach}
+use Rattle.som_sema.specs.Building.{most_classes}
 use Rattle.som_drafts.specs.Drafts.{InterfaceDraft}
 use Rattle.som_forms.specs.Expressions.{Among}
 use Rattle.som_forms.specs.MethodBody.{elaborated_body}
@@ -24,8 +24,9 @@ use Rattle.som_elab.specs.Accessors.{body_of}
 use Rattle.som_elab.specs.Bodies.{classes_over, drafts_over, operations, texts_for}
 use Rattle.som_elab.specs.Elaboration.{among_over, nothing_before}
 use Rattle.som_elab.specs.PlainLimits.{LimitsKept}
+use Rattle.som_says.specs.Keeping.{TextsKeep}
 
--- a method of which a class has a body in the texts, and its signature: the class introduces it by an operation, or overrides it
+-- a method of which a class has a body in the texts, and its signature: the class introduces it by an operation, or overrides it without `select`
 pub data HasBody (cs : List Class) (d : InterfaceDraft) (name : List ℕ) : Option Sig → Type 0 where
   by_operation : {sig : Sig} (way : Way) → Mem name (operations d.text) → Mem (entries.Introduced name sig way) d.class.face.entries → HasBody cs d name (Some sig)
   by_override : {sig : Option Sig} (o : Override) → Mem o d.class.overrides → o.method.name ≡ name → sig_of cs (owner cs o.method) ≡ sig → HasBody cs d name sig
@@ -51,10 +52,10 @@ pub record BlocksStand (a : Among) (m : Module) (ds : List InterfaceDraft) (bs :
   pub overridden : (d : InterfaceDraft) (o : Override) (sig : Sig) (b : BodyText) → Mem d ds → Mem o d.class.overrides → sig_of a.classes (owner a.classes o.method) ≡ Some sig
       → Mem b (texts_for bs d.class.face.name o.method.name) → (block : Block) × (elaborated_body a (class_in m d.class) sig b ≡ Ok block)
 
--- the texts of a module conform: it has no more classes than it may have, no rule is broken, and no other limit is passed
+-- the texts of a module conform: it has no more classes than it may have, its interfaces and bodies keep the rules, and no other limit is passed
 pub record ModuleConforms (m : Module) (base : Interface) (is : List IdlInterface) (bs : List BodyText) : Type 0 where
   pub few_classes : length is ≤ most_classes m
-  pub rules : texts_breach m base is ≡ None
+  pub rules : TextsKeep m base is
   pub bodies : BodiesStand (classes_over m base is) (drafts_over m base is) bs
   pub limits : LimitsKept (drafts_over m base is)
   pub blocks : BlocksStand (among_over m base is) m (drafts_over m base is) bs

@@ -1,0 +1,10 @@
+pub mod Comes
+pub mod Answered
+pub mod Bodies
+pub mod Coded
+pub mod Called
+pub mod Task
+pub mod Calm
+pub mod Lighter
+pub mod Plain
+pub mod Steps

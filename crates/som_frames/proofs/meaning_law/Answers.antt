@@ -1,0 +1,10 @@
+use Rattle.som_model.specs.declared.limits.TheConstants.{MAX_DEPTH}
+use Rattle.som_model.specs.Means.{beginning}
+use Rattle.som_frames.proofs.Called.{matched, main_comes}
+use Rattle.som_frames.proofs.meaning_law.Goals as goal
+
+pub returns-clause-main : goal.returns-clause-main
+returns-clause-main c w laid main code fuel ok effect = main_comes w laid ok MAX_DEPTH main code effect (beginning w fuel)
+
+pub returns-clause-calls : goal.returns-clause-calls
+returns-clause-calls c w laid levels q waiting s ok = (matched w laid ok levels q waiting).by s

@@ -1,0 +1,17 @@
+pub mod Keeping
+pub mod Heaps
+pub mod Facts
+pub mod Steps
+pub mod Values
+pub mod Operators
+pub mod Calls
+pub mod Expressions
+pub mod Statements
+pub mod Bodies
+pub mod Runs
+pub mod Classes
+pub mod Methods
+pub mod Fitting
+pub mod Loading
+pub mod Preserving
+pub mod Failing

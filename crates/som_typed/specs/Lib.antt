@@ -1,0 +1,5 @@
+pub mod Values
+pub mod Heaps
+pub mod Checks
+pub mod Checked
+pub mod Preserving
