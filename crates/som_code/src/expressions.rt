@@ -1,6 +1,7 @@
 ghost use Rattle.som_code.specs.Laid.{lay_and, lay_each, lay_expr, lay_or, lay_right};
+ghost use Rattle.som_model.specs.Blocks.{is_call};
 ghost use Rattle.som_model.specs.Values.{binary_op};
-ghost use Rattle.std.specs.Prelude.{◌≡◌, ◌++◌, length, map, OnOk};
+ghost use Rattle.std.specs.Prelude.{◌≡◌, ◌++◌, length, map, true, OnOk};
 
 use crate::emit::{
     emit, emit_cast, emit_class, emit_dispatch, emit_isa, emit_lookup, emit_new, emit_offset_call,
@@ -55,6 +56,22 @@ pub(crate) fn emit_expr(
             emit_part(alloc, code, of)?;
             emit_proxy(alloc, code, class)
         }
+        Expr::Host { code: host, a, b } => {
+            emit_part(alloc, code, a)?;
+            emit_part(alloc, code, b)?;
+            emit(code, Instruction::Host(*host))
+        }
+        _ => emit_call(alloc, code, e),
+    }
+}
+
+// The code of a call.
+#[cycle(emit_expr)]
+fn emit_call(alloc: Global, code: &mut Vec<Instruction>, e: &Expr) -> Result<(), NoMemory>
+    requires { is_call e.now ≡ true }
+    ensures { OnOk result (code.new.items ≡ code.old.items ++ lay_expr e.now (length code.old.items)) }
+{
+    match e {
         Expr::OffsetCall {
             method,
             receiver,
@@ -96,11 +113,7 @@ pub(crate) fn emit_expr(
             emit_args(alloc, code, args)?;
             emit_parents_call(alloc, code, method, args.len())
         }
-        Expr::Host { code: host, a, b } => {
-            emit_part(alloc, code, a)?;
-            emit_part(alloc, code, b)?;
-            emit(code, Instruction::Host(*host))
-        }
+        _ => unreachable!(),
     }
 }
 
