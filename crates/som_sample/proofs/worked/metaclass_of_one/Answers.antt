@@ -9,7 +9,7 @@ pub metaclass_of-requires-clause-apart : goal.metaclass_of-requires-clause-apart
 metaclass_of-requires-clause-apart c = apart
 
 pub metaclass_of-requires-clause-numbered : goal.metaclass_of-requires-clause-numbered
-metaclass_of-requires-clause-numbered c = rw c.in_ok-metas.ensures (two_numbered 2 3 (omega arith) (omega arith))
+metaclass_of-requires-clause-numbered c = rw c.in_ok-metas.ensures (two_numbered _ _ (omega arith) (omega arith))
 
 pub returns : goal.returns
 returns c = if_ok c.metaclass_of.result _ _ (λ plan is. is ∙ ap (λ (ms : List ℕ). plan_of (planned sample None ms)) c.in_ok-metas.ensures ∙ lower_alone) c.metaclass_of.ensures.plan
