@@ -1,4 +1,6 @@
 pub mod Frames
+pub mod CallBodies
+pub mod Tested
 pub mod Passed
 pub mod Step
 pub mod Sources
