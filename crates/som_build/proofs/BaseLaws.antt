@@ -20,24 +20,13 @@ use Rattle.som_libimage.specs.Limits.{IsWithinLimits}
 use Rattle.som_libimage.proofs.Decoded.{within}
 use Rattle.som_verify.proofs.Conforming.{conforms_release, release_conforms}
 use Rattle.som_compile.specs.Compiling.{IsBase}
-use Rattle.som_fields.specs.declared.fault.ImageFault.TheVariants as faults
 use Rattle.som_steps.specs.declared.stop.Refusal.{Refusal}
-use Rattle.som_steps.specs.declared.stop.CommandStop.{CommandStop}
-use Rattle.som_steps.specs.Lines.{unread}
-use Rattle.som_steps.specs.ImageSteps.{kept_or, read_or, sound_release, are_bytes}
-use Rattle.som_steps.specs.Steps.{Follows}
+use Rattle.som_steps.specs.ImageSteps.{kept_or, library_in, read_or, sound_release}
 use Rattle.som_steps.proofs.ReleaseLaws.{may_be}
-use Rattle.som_build.specs.ClientAnswer.{base_in}
-use Rattle.som_steps.proofs.ByteLaws.{bytes_below, bytes_pass}
+use Rattle.som_steps.proofs.ByteLaws.{library_bytes, library_read}
 
 abbrev Based : Type 0
 Based = Result Release Refusal
-
-abbrev base_if : List ℕ → List ℕ → Bool → Based
-base_if name bytes b = if b then sound_release name bytes else Err (unread name (faults.Magic 0))
-
-pub as_base : (name bytes : List ℕ) (result : Result Release CommandStop) → AreBytes bytes → Follows result (sound_release name bytes) → Follows result (base_in name bytes)
-as_base name bytes result all f = subst (λ (b : Bool). Follows result (base_if name bytes b)) (sym (bytes_pass bytes all)) f
 
 -- ---- a release that clients may be compiled against
 
@@ -60,7 +49,7 @@ is_base i r e ok w = subst IsBase (sym (faces_of i r e)) (shows_base r ok w)
 -- ---- what is known of a release that was read and looked at
 
 record Sound (bytes : List ℕ) (r : Release) : Type 0 where
-  read : library_at bytes ≡ Ok r
+  read : library_in bytes ≡ Ok r
   kept : release_breach r ≡ None
 
 abbrev based : Release → Based
@@ -72,33 +61,26 @@ kept_so name r o = kept_or name o >>= λ kept. Ok r
 same_base : (r s : Release) → based r ≡ based s → r ≡ s
 same_base r s e = cc
 
-sound_kept : (name bytes : List ℕ) (r s : Release) → library_at bytes ≡ Ok s → (o : Option RuleBreach) → release_breach s ≡ o → kept_so name s o ≡ Ok r → Sound bytes r
+sound_kept : (name bytes : List ℕ) (r s : Release) → library_in bytes ≡ Ok s → (o : Option RuleBreach) → release_breach s ≡ o → kept_so name s o ≡ Ok r → Sound bytes r
 sound_kept name bytes r s e None none is = let same = same_base s r is in subst (Sound bytes) same (record { read = e; kept = none })
 sound_kept name bytes r s e (Some b) none is = absurd cc
 
-sound_read : (name bytes : List ℕ) (r : Release) (x : Result Release ImageFault) → library_at bytes ≡ x → (read_or name x >>= λ s. kept_so name s (release_breach s)) ≡ Ok r → Sound bytes r
+sound_read : (name bytes : List ℕ) (r : Release) (x : Result Release ImageFault) → library_in bytes ≡ x → (read_or name x >>= λ s. kept_so name s (release_breach s)) ≡ Ok r → Sound bytes r
 sound_read name bytes r (Ok s) e is = sound_kept name bytes r s e (release_breach s) refl is
 sound_read name bytes r (Err fault) e is = absurd cc
 
-base_bytes : (name bytes : List ℕ) (r : Release) (b : Bool) → are_bytes bytes ≡ b → base_if name bytes b ≡ Ok r → (AreBytes bytes) × Sound bytes r
-base_bytes name bytes r true e is = (bytes_below bytes e, sound_read name bytes r (library_at bytes) refl is)
-base_bytes name bytes r false e is = absurd cc
-
-within_of : (bytes : List ℕ) (r : Release) → AreBytes bytes → library_at bytes ≡ Ok r → IsWithinLimits r
-within_of bytes r all e = within bytes all (Ok r) e
-
-pub base_read : (name bytes : List ℕ) (r : Release) → base_in name bytes ≡ Ok r → IsBase (interface_of r)
+pub base_read : (name bytes : List ℕ) (r : Release) → sound_release name bytes ≡ Ok r → IsBase (interface_of r)
 base_read name bytes r e =
-    let s = base_bytes name bytes r (are_bytes bytes) refl e in
-    shows_base r (release_conforms r s.1.kept) (within_of bytes r s.0 s.1.read)
+    let s = sound_read name bytes r (library_in bytes) refl e in
+    let b = library_bytes bytes r s.read in
+    shows_base r (release_conforms r s.kept) (within bytes b.0 (Ok r) b.1)
 
 -- ---- the image of a release
 
 abbrev ruled_base : List ℕ → Release → Based
 ruled_base name s = kept_so name s (release_breach s)
 
-pub base_under : (name bytes : List ℕ) (r : Release) → AreBytes bytes → library_at bytes ≡ Ok r → ReleaseOk r → base_in name bytes ≡ Ok r
+pub base_under : (name bytes : List ℕ) (r : Release) → AreBytes bytes → library_at bytes ≡ Ok r → ReleaseOk r → sound_release name bytes ≡ Ok r
 base_under name bytes r all e ok =
-    ap (base_if name bytes) (bytes_pass bytes all)
-    ∙ ap (λ (x : Result Release ImageFault). read_or name x >>= ruled_base name) e
+    ap (λ (x : Result Release ImageFault). read_or name x >>= ruled_base name) (library_read bytes (Ok r) all e)
     ∙ ap (kept_so name r) (conforms_release r ok)

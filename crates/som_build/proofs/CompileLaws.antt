@@ -72,18 +72,18 @@ module _ {A : Type 0} (Comes : Compiling A) where
   not_made (Some files) new out got x stops.NoMemory same f g = same
 
   -- the image is put
-  stored : (files : Files) (new : Option Files) (out : List ℕ) (got : Files → Result A Refusal) (image : List ℕ) → IsMade Comes (got files) image → (result : Result Output CommandStop)
-      → StoredTold (Some files) out image result new → PutsTold Comes (Some files) out got result new
-  stored files new out got image are (Ok o) s = (s.0, image, are, s.1)
-  stored files new out got image are (Err (stops.Refused r)) s = absurd s
-  stored files new out got image are (Err (stops.StoreFailed line)) s = inr (image, are, s)
-  stored files new out got image are (Err stops.NoMemory) s = s
+  stored : (files : Files) (new : Option Files) (out : List ℕ) (got : Files → Result A Refusal) (image : List ℕ) → IsMade Comes (got files) image → (count now : ℕ) (result : Result Output CommandStop)
+      → HasCause (λ line. line ≡ store_failed out) count now result → StoredTold (Some files) out image result new → PutsTold Comes (Some files) out got result new
+  stored files new out got image are count now (Ok o) cause s = (s.0, image, are, s.1)
+  stored files new out got image are count now (Err (stops.Refused r)) cause s = absurd s
+  stored files new out got image are count now (Err (stops.StoreFailed line)) cause s = inr (cause.1, image, are, s)
+  stored files new out got image are count now (Err stops.NoMemory) cause s = s
 
-  made_stored : (files before new : Option Files) (out : List ℕ) (got : Files → Result A Refusal) (x : A) (image : List ℕ) (result : Result Output CommandStop) → before ≡ files
-      → FollowsTold files (Ok x) got → Compiled (Comes x) (Ok image) → StoredTold before out image result new → PutsTold Comes files out got result new
-  made_stored None before new out got x image result same f g s = tt
-  made_stored (Some files) before new out got x image result same f g s =
-      stored files new out got image (x, f, g) result (subst (λ (z : Option Files). StoredTold z out image result new) same s)
+  made_stored : (files before new : Option Files) (out : List ℕ) (got : Files → Result A Refusal) (x : A) (image : List ℕ) (count now : ℕ) (result : Result Output CommandStop) → before ≡ files
+      → FollowsTold files (Ok x) got → Compiled (Comes x) (Ok image) → HasCause (λ line. line ≡ store_failed out) count now result → StoredTold before out image result new → PutsTold Comes files out got result new
+  made_stored None before new out got x image count now result same f g cause s = tt
+  made_stored (Some files) before new out got x image count now result same f g cause s =
+      stored files new out got image (x, f, g) count now result cause (subst (λ (z : Option Files). StoredTold z out image result new) same s)
 
 -- a library
 pub texts_refused : (files new : Option Files) (out : List ℕ) (names : List (List ℕ)) (stop : CommandStop) → new ≡ files → FollowsTold {A = List Source} files (Err stop) (texts_in names)
@@ -94,9 +94,10 @@ pub image_refused : (files new : Option Files) (out : List ℕ) (names : List (L
     → Compiled (Compiles texts) (Err stop) → PutsTold Compiles files out (texts_in names) (Err stop) new
 image_refused files new out names texts stop same f g = not_made Compiles files new out (texts_in names) texts stop same f g
 
-pub image_stored : (files before new : Option Files) (out : List ℕ) (names : List (List ℕ)) (texts : List Source) (image : List ℕ) (result : Result Output CommandStop) → before ≡ files
-    → FollowsTold files (Ok texts) (texts_in names) → Compiled (Compiles texts) (Ok image) → StoredTold before out image result new → PutsTold Compiles files out (texts_in names) result new
-image_stored files before new out names texts image result same f g s = made_stored Compiles files before new out (texts_in names) texts image result same f g s
+pub image_stored : (files before new : Option Files) (out : List ℕ) (names : List (List ℕ)) (texts : List Source) (image : List ℕ) (count now : ℕ) (result : Result Output CommandStop) → before ≡ files
+    → FollowsTold files (Ok texts) (texts_in names) → Compiled (Compiles texts) (Ok image) → HasCause (λ line. line ≡ store_failed out) count now result → StoredTold before out image result new
+    → PutsTold Compiles files out (texts_in names) result new
+image_stored files before new out names texts image count now result same f g cause s = made_stored Compiles files before new out (texts_in names) texts image count now result same f g cause s
 
 -- a client
 pub parts_refused : (files new : Option Files) (out library : List ℕ) (names : List (List ℕ)) (stop : CommandStop) → new ≡ files → FollowsTold {A = ClientParts} files (Err stop) (parts_in library names)
@@ -107,9 +108,11 @@ pub client_image_refused : (files new : Option Files) (out library : List ℕ) (
     → Compiled (CompilesParts parts) (Err stop) → PutsTold CompilesParts files out (parts_in library names) (Err stop) new
 client_image_refused files new out library names parts stop same f g = not_made CompilesParts files new out (parts_in library names) parts stop same f g
 
-pub client_image_stored : (files before new : Option Files) (out library : List ℕ) (names : List (List ℕ)) (parts : ClientParts) (image : List ℕ) (result : Result Output CommandStop) → before ≡ files
-    → FollowsTold files (Ok parts) (parts_in library names) → Compiled (CompilesParts parts) (Ok image) → StoredTold before out image result new → PutsTold CompilesParts files out (parts_in library names) result new
-client_image_stored files before new out library names parts image result same f g s = made_stored CompilesParts files before new out (parts_in library names) parts image result same f g s
+pub client_image_stored : (files before new : Option Files) (out library : List ℕ) (names : List (List ℕ)) (parts : ClientParts) (image : List ℕ) (count now : ℕ) (result : Result Output CommandStop) → before ≡ files
+    → FollowsTold files (Ok parts) (parts_in library names) → Compiled (CompilesParts parts) (Ok image) → HasCause (λ line. line ≡ store_failed out) count now result → StoredTold before out image result new
+    → PutsTold CompilesParts files out (parts_in library names) result new
+client_image_stored files before new out library names parts image count now result same f g cause s =
+    made_stored CompilesParts files before new out (parts_in library names) parts image count now result same f g cause s
 
 -- ---- where the store failed
 

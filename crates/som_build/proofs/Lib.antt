@@ -2,5 +2,6 @@ mod TextLaws
 mod PartLaws
 mod BaseLaws
 mod CompileLaws
+mod BuildRefusals
 pub mod PutAnswered
 pub mod PutEndLaws

@@ -8,6 +8,7 @@ use Rattle.som_compile.specs.declared.source.Source.{Source}
 use Rattle.som_steps.specs.declared.stop.Refusal.{Refusal}
 use Rattle.som_steps.specs.declared.stop.CommandStop.{CommandStop}
 use Rattle.som_steps.specs.Fetching.{file_of, Has}
+use Rattle.som_steps.specs.ImageSteps.{sound_release}
 use Rattle.som_steps.specs.Cause.{HasCause, IsQuietStop}
 use Rattle.som_steps.specs.Lines.{store_failed}
 use Rattle.som_steps.specs.Steps.{Stops, Follows, FollowsTold}
@@ -16,7 +17,7 @@ use Rattle.som_steps.proofs.FileLaws.{found_by}
 use Rattle.som_steps.specs.declared.stop.CommandStop.TheVariants as stops
 use Rattle.som_build.specs.declared.client_parts.ClientParts.{ClientParts}
 use Rattle.som_build.specs.Texts.{texts_in}
-use Rattle.som_build.specs.ClientAnswer.{base_in, parts_in}
+use Rattle.som_build.specs.ClientAnswer.{parts_in}
 use Rattle.som_build.specs.Cause.{FailsGettingParts, FailsGettingTexts}
 
 -- ---- what is got
@@ -29,7 +30,7 @@ parts_from base texts = record { base = base; texts = texts }
 
 module _ (library : List ℕ) (names : List (List ℕ)) (told : Files) where
   abbrev after_texts : List ℕ → List Source → Parts
-  after_texts bytes texts = base_in library bytes >>= λ base. Ok (parts_from base texts)
+  after_texts bytes texts = sound_release library bytes >>= λ base. Ok (parts_from base texts)
 
   abbrev after_library : List ℕ → Parts
   after_library bytes = texts_in names told >>= after_texts bytes
@@ -43,10 +44,10 @@ module _ (library : List ℕ) (names : List (List ℕ)) (told : Files) where
   no_texts : (bytes : List ℕ) (stop : CommandStop) → file_of library told ≡ Ok bytes → Stops stop (texts_in names told) → Stops stop (parts_in library names told)
   no_texts bytes stop f g = subst (Stops stop) (with_library bytes f) (stops_first stop (texts_in names told) (after_texts bytes) g)
 
-  no_base : (bytes : List ℕ) (texts : List Source) (stop : CommandStop) → file_of library told ≡ Ok bytes → texts_in names told ≡ Ok texts → Stops stop (base_in library bytes) → Stops stop (parts_in library names told)
-  no_base bytes texts stop f g h = subst (Stops stop) (with_texts bytes texts f g) (stops_first stop (base_in library bytes) (λ base. Ok (parts_from base texts)) h)
+  no_base : (bytes : List ℕ) (texts : List Source) (stop : CommandStop) → file_of library told ≡ Ok bytes → texts_in names told ≡ Ok texts → Stops stop (sound_release library bytes) → Stops stop (parts_in library names told)
+  no_base bytes texts stop f g h = subst (Stops stop) (with_texts bytes texts f g) (stops_first stop (sound_release library bytes) (λ base. Ok (parts_from base texts)) h)
 
-  pub all_parts : (bytes : List ℕ) (texts : List Source) (base : Release) → file_of library told ≡ Ok bytes → texts_in names told ≡ Ok texts → base_in library bytes ≡ Ok base
+  pub all_parts : (bytes : List ℕ) (texts : List Source) (base : Release) → file_of library told ≡ Ok bytes → texts_in names told ≡ Ok texts → sound_release library bytes ≡ Ok base
       → parts_in library names told ≡ Ok (parts_from base texts)
   all_parts bytes texts base f g h = sym (with_texts bytes texts f g) ∙ ap (λ (x : Result Release Refusal). x >>= λ r. Ok (parts_from r texts)) h
 
@@ -64,14 +65,14 @@ texts_missing (Some told) now library names bytes stop same f g =
 
 -- the library is no image, or breaks a rule
 pub library_refused : (files now : Option Files) (library : List ℕ) (names : List (List ℕ)) (bytes : List ℕ) (texts : List Source) (stop : CommandStop) → now ≡ files → FollowsTold files (Ok bytes) (file_of library)
-    → FollowsTold now (Ok texts) (texts_in names) → Follows {A = Release} (Err stop) (base_in library bytes) → FollowsTold {A = ClientParts} files (Err stop) (parts_in library names)
+    → FollowsTold now (Ok texts) (texts_in names) → Follows {A = Release} (Err stop) (sound_release library bytes) → FollowsTold {A = ClientParts} files (Err stop) (parts_in library names)
 library_refused None now library names bytes texts stop same f g h = tt
 library_refused (Some told) now library names bytes texts stop same f g h =
     no_base library names told bytes texts stop f (subst (λ (x : Option Files). FollowsTold x (Ok texts) (texts_in names)) same g) h
 
 -- all are there
 pub all_there : (files now : Option Files) (library : List ℕ) (names : List (List ℕ)) (bytes : List ℕ) (texts : List Source) (base : Release) → now ≡ files → FollowsTold files (Ok bytes) (file_of library)
-    → FollowsTold now (Ok texts) (texts_in names) → Follows (Ok base) (base_in library bytes) → FollowsTold files (Ok (parts_from base texts)) (parts_in library names)
+    → FollowsTold now (Ok texts) (texts_in names) → Follows (Ok base) (sound_release library bytes) → FollowsTold files (Ok (parts_from base texts)) (parts_in library names)
 all_there None now library names bytes texts base same f g h = tt
 all_there (Some told) now library names bytes texts base same f g h =
     all_parts library names told bytes texts base f (subst (λ (x : Option Files). FollowsTold x (Ok texts) (texts_in names)) same g) h

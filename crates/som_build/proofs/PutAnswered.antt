@@ -13,11 +13,12 @@ use Rattle.som_compile.proofs.ClientLaws.{some_client, one_client}
 use Rattle.som_steps.specs.declared.stop.Refusal.{Refusal}
 use Rattle.som_steps.specs.Endings.{Ending, refusing}
 use Rattle.som_steps.specs.Fetching.{file_of}
+use Rattle.som_steps.specs.ImageSteps.{sound_release}
 use Rattle.som_build.specs.declared.client_parts.ClientParts.{ClientParts}
 use Rattle.som_build.specs.Texts.{text_refused, texts_in}
 use Rattle.som_build.specs.PutAnswer.{Compiling, IsPutAnswer, not_got, not_compiled, puts, putting}
 use Rattle.som_build.specs.LibraryAnswer.{IsLibraryAnswer}
-use Rattle.som_build.specs.ClientAnswer.{CompilesParts, IsClientAnswer, base_in, parts_in}
+use Rattle.som_build.specs.ClientAnswer.{CompilesParts, IsClientAnswer, parts_in}
 use Rattle.som_build.proofs.BaseLaws.{base_read}
 use Rattle.som_build.proofs.TextLaws.{mains_named, texts_known}
 
@@ -87,7 +88,7 @@ one_library_answer files out names a b is_a is_b = one_put Compiles files out (t
 record Came (library : List ℕ) (names : List (List ℕ)) (files : Files) (p : ClientParts) : Type 0 where
   bytes : List ℕ
   texts_are : texts_in names files ≡ Ok p.texts
-  base_is : base_in library bytes ≡ Ok p.base
+  base_is : sound_release library bytes ≡ Ok p.base
 
 abbrev Parts : Type 0
 Parts = Result ClientParts Refusal
@@ -102,15 +103,15 @@ same_parts : (p q : ClientParts) → parted p ≡ parted q → p ≡ q
 same_parts p q e = cc
 
 module _ (library : List ℕ) (names : List (List ℕ)) (files : Files) (p : ClientParts) where
-  came_base : (bytes : List ℕ) (ss : List Source) (r : Result Release Refusal) → texts_in names files ≡ Ok ss → base_in library bytes ≡ r → (r >>= λ b. Ok (parts_from b ss)) ≡ Ok p → Came library names files p
+  came_base : (bytes : List ℕ) (ss : List Source) (r : Result Release Refusal) → texts_in names files ≡ Ok ss → sound_release library bytes ≡ r → (r >>= λ b. Ok (parts_from b ss)) ≡ Ok p → Came library names files p
   came_base bytes ss (Ok b) e f is = subst (Came library names files) (same_parts (parts_from b ss) p is) (record { bytes = bytes; texts_are = e; base_is = f })
   came_base bytes ss (Err r) e f is = absurd cc
 
-  came_texts : (bytes : List ℕ) (t : Result (List Source) Refusal) → texts_in names files ≡ t → (t >>= λ ss. base_in library bytes >>= λ b. Ok (parts_from b ss)) ≡ Ok p → Came library names files p
-  came_texts bytes (Ok ss) e is = came_base bytes ss (base_in library bytes) e refl is
+  came_texts : (bytes : List ℕ) (t : Result (List Source) Refusal) → texts_in names files ≡ t → (t >>= λ ss. sound_release library bytes >>= λ b. Ok (parts_from b ss)) ≡ Ok p → Came library names files p
+  came_texts bytes (Ok ss) e is = came_base bytes ss (sound_release library bytes) e refl is
   came_texts bytes (Err r) e is = absurd cc
 
-  came_bytes : (b : Result (List ℕ) Refusal) → (b >>= λ bytes. texts_in names files >>= λ ss. base_in library bytes >>= λ base. Ok (parts_from base ss)) ≡ Ok p → Came library names files p
+  came_bytes : (b : Result (List ℕ) Refusal) → (b >>= λ bytes. texts_in names files >>= λ ss. sound_release library bytes >>= λ base. Ok (parts_from base ss)) ≡ Ok p → Came library names files p
   came_bytes (Ok bytes) is = came_texts bytes (texts_in names files) refl is
   came_bytes (Err r) is = absurd cc
 

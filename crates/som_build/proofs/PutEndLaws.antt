@@ -1,7 +1,6 @@
 -- How the ends of a call that compiles texts are those of its answer, and what it leaves.
 use Rattle.std.proofs.Common.{◌≡◌, ◌≢◌, ℕ, ◌⊎◌, Bool, true, false, ◌==◌, List, Option, Some, None, Result, Ok, Err, refl, sym, ap, subst, ◌∙◌, inl, inr, arith}
 use Rattle.std.proofs.lemmas.Bool.{eqb-true}
-use Rattle.std.proofs.lemmas.Grind.{common_steps}
 use Rattle.std.specs.FinMap.{get}
 use Rattle.std.specs.List.{concat}
 use Rattle.som_model.specs.Images.{library_image, client_image}
@@ -13,9 +12,10 @@ use Rattle.som_model.specs.Class.{interface_of}
 use Rattle.som_compile.proofs.ClientLaws.{client_stands_image}
 use Rattle.som_compile.proofs.CompileLaws.{stands_image}
 use Rattle.som_compile.specs.Compiling.{a_client_image, an_image}
-use Rattle.som_libimage.proofs.Decoded.{library_again}
+use Rattle.som_libimage.proofs.Decoded.{image_within, library_again}
 use Rattle.som_steps.proofs.OutcomeLaws.{text_of, status_is, files_of}
 use Rattle.som_steps.proofs.Printed.{nothing_written}
+use Rattle.som_steps.proofs.Statuses.{AllSaid, differs}
 use Rattle.som_steps.specs.declared.output.Output.{Output}
 use Rattle.som_steps.specs.declared.stop.Refusal.{Refusal}
 use Rattle.som_steps.specs.declared.stop.Why.{Why}
@@ -23,8 +23,9 @@ use Rattle.som_steps.specs.declared.stop.CommandStop.{CommandStop}
 use Rattle.som_steps.specs.Status.{status_of, end_status}
 use Rattle.som_steps.specs.Endings.{Ending, refusing}
 use Rattle.som_steps.specs.Cause.{HasCause}
+use Rattle.som_steps.specs.Lines.{store_failed}
 use Rattle.som_steps.specs.Putting.{nothing}
-use Rattle.som_steps.specs.Saying.{SaysAll, SaysFront}
+use Rattle.som_steps.specs.Saying.{SaysAll, SaysFailure, SaysFront}
 use Rattle.som_steps.specs.Outcomes.{EndsAs, EndsAsTold, ShowsSome}
 use Rattle.som_steps.proofs.FileLaws.{got_by}
 use Rattle.som_steps.specs.declared.stop.Why.TheVariants as why
@@ -34,7 +35,7 @@ use Rattle.som_build.specs.declared.client_parts.ClientParts.{ClientParts}
 use Rattle.som_build.specs.PutAnswer.{Compiling, IsMade, IsPutAnswer, putting, puts}
 use Rattle.som_build.specs.PutSteps.{Puts, PutsTold}
 use Rattle.som_build.specs.ClientAnswer.{parts_in, IsClientAnswer}
-use Rattle.som_build.specs.PutEnds.{LeavesFiles, as_they_were, with_image, put_failed, PutsImage, HoldsClientTexts, HoldsTexts, LeavesFilesTold}
+use Rattle.som_build.specs.PutEnds.{SaysPutFailed, LeavesFiles, as_they_were, with_image, put_failed, PutsImage, HoldsClientTexts, HoldsTexts, LeavesFilesTold}
 use Rattle.som_build.proofs.BaseLaws.{base_under, shows_base}
 use Rattle.som_build.proofs.PartLaws.{all_parts}
 use Rattle.som_build.proofs.TextLaws.{texts_known}
@@ -44,9 +45,6 @@ module _ {A : Type 0} (Comes : Compiling A) (out : List ℕ) (got : Files → Re
   -- what the command answers
   abbrev pub PutAnswers : Files → Ending → Type 0
   PutAnswers before e = IsPutAnswer Comes before out (got before) e
-
-  abbrev AllSaid : Result Output CommandStop → ℕ → Option (List ℕ) → Option (List ℕ) → Type 0
-  AllSaid outcome status old new = status ≢ 6 → status ≢ 8 → status ≢ 10 → SaysAll outcome status old new
 
   -- where all of it was printed, the call ends as the answer says
   pub put_ends : (files : Option Files) (outcome : Result Output CommandStop) (new_files : Option Files) → PutsTold Comes files out got outcome new_files → (status : ℕ) (old new : Option (List ℕ)) → SaysAll outcome status old new
@@ -97,31 +95,32 @@ module _ {A : Type 0} (Comes : Compiling A) (out : List ℕ) (got : Files → Re
   not_done r (stops.StoreFailed line) e status old new says zero = says (zero_apart status 6 zero (λ h. omega arith)) (zero_apart status 8 zero (λ h. omega arith)) (zero_apart status 10 zero (λ h. omega arith))
   not_done r stops.NoMemory e status old new says zero = says (zero_apart status 6 zero (λ h. omega arith)) (zero_apart status 8 zero (λ h. omega arith)) (zero_apart status 10 zero (λ h. omega arith))
 
-  differs : (m n : ℕ) → (m == n) ≡ false → m ≢ n
-  differs m n e same = grind (arith, common_steps)
-
   -- the line that says so was written whole or in part, or not at all
-  failing : (status : ℕ) → (status ≢ 6 → status ≢ 8 → status ≢ 10 → ⊥) → (a b c : Bool) → (status == 6) ≡ a → (status == 8) ≡ b → (status == 10) ≡ c → (status ≡ 6) ⊎ (status ≡ 8) ⊎ (status ≡ 10)
-  failing status says true b c e f g = inl (eqb-true status 6 e)
-  failing status says false true c e f g = inr (inl (eqb-true status 8 f))
-  failing status says false false true e f g = inr (inr (eqb-true status 10 g))
-  failing status says false false false e f g = absurd (says (differs status 6 e) (differs status 8 f) (differs status 10 g))
+  failing : (line : List ℕ) → line ≡ store_failed out → (status : ℕ) (old new : Option (List ℕ)) → AllSaid (Err (stops.StoreFailed line)) status old new
+      → (status ≡ 6 → SaysFailure (Err (stops.StoreFailed line)) old new) → SaysFront (Err (stops.StoreFailed line)) old new
+      → (a b c : Bool) → (status == 6) ≡ a → (status == 8) ≡ b → (status == 10) ≡ c → SaysPutFailed out status old new
+  failing line is status old new says fails front true b c e f g = let six = eqb-true status 6 e in inl (six, subst (ShowsAll old new) is (fails six))
+  failing line is status old new says fails front false true c e f g = inr (inl (eqb-true status 8 f), subst (ShowsFront old new) is front)
+  failing line is status old new says fails front false false true e f g = inr (inr (eqb-true status 10 g), subst (ShowsFront old new) is front)
+  failing line is status old new says fails front false false false e f g = absurd (says (differs status 6 e) (differs status 8 f) (differs status 10 g))
 
   pub keeps : (is_line : List ℕ → Type 0) (files : Files) (outcome : Result Output CommandStop) (new_files : Option Files) → Puts Comes files out (got files) outcome new_files → (count now status : ℕ) → HasCause is_line count now outcome
-      → (old new : Option (List ℕ)) → AllSaid outcome status old new → (outcome ≡ Ok nothing → status ≡ 0) → LeavesFiles (IsMade Comes (got files)) files out count now status new_files
-  keeps is_line files (Ok o) new_files f count now status cause old new says silent = with_image f.1 f.2 (silent (ap (λ (x : Output). Ok x) f.0)) f.3
-  keeps is_line files (Err (stops.Refused r)) new_files f count now status cause old new says silent = as_they_were (not_done (Err (stops.Refused r)) (stops.Refused r) refl status old new says) f.1
-  keeps is_line files (Err (stops.StoreFailed line)) new_files (inl same) count now status cause old new says silent =
+      → (old new : Option (List ℕ)) → AllSaid outcome status old new → (status ≡ 6 → SaysFailure outcome old new) → SaysFront outcome old new → (outcome ≡ Ok nothing → status ≡ 0)
+      → LeavesFiles (IsMade Comes (got files)) files out count now status new_files old new
+  keeps is_line files (Ok o) new_files f count now status cause old new says fails front silent = with_image f.1 f.2 (silent (ap (λ (x : Output). Ok x) f.0)) f.3
+  keeps is_line files (Err (stops.Refused r)) new_files f count now status cause old new says fails front silent = as_they_were (not_done (Err (stops.Refused r)) (stops.Refused r) refl status old new says) f.1
+  keeps is_line files (Err (stops.StoreFailed line)) new_files (inl same) count now status cause old new says fails front silent =
       as_they_were (not_done (Err (stops.StoreFailed line)) (stops.StoreFailed line) refl status old new says) same
-  keeps is_line files (Err (stops.StoreFailed line)) new_files (inr f) count now status cause old new says silent =
-      put_failed f.0 f.1 (failing status says (status == 6) (status == 8) (status == 10) refl refl refl) cause.0 f.2
-  keeps is_line files (Err stops.NoMemory) new_files f count now status cause old new says silent = as_they_were (not_done (Err stops.NoMemory) stops.NoMemory refl status old new says) f
+  keeps is_line files (Err (stops.StoreFailed line)) new_files (inr f) count now status cause old new says fails front silent =
+      put_failed f.1 f.2 cause.0 (failing line f.0 status old new says fails front (status == 6) (status == 8) (status == 10) refl refl refl) f.3
+  keeps is_line files (Err stops.NoMemory) new_files f count now status cause old new says fails front silent = as_they_were (not_done (Err stops.NoMemory) stops.NoMemory refl status old new says) f
 
   -- the same over a store, where it told its files
   pub keeps_told : (is_line : List ℕ → Type 0) (files : Option Files) (outcome : Result Output CommandStop) (new_files : Option Files) → PutsTold Comes files out got outcome new_files → (count now status : ℕ) → HasCause is_line count now outcome
-      → (old new : Option (List ℕ)) → AllSaid outcome status old new → (outcome ≡ Ok nothing → status ≡ 0) → LeavesFilesTold (λ told. IsMade Comes (got told)) files out count now status new_files
-  keeps_told is_line None outcome new_files f count now status cause old new says silent = tt
-  keeps_told is_line (Some files) outcome new_files f count now status cause old new says silent = keeps is_line files outcome new_files f count now status cause old new says silent
+      → (old new : Option (List ℕ)) → AllSaid outcome status old new → (status ≡ 6 → SaysFailure outcome old new) → SaysFront outcome old new → (outcome ≡ Ok nothing → status ≡ 0)
+      → LeavesFilesTold (λ told. IsMade Comes (got told)) files out count now status new_files old new
+  keeps_told is_line None outcome new_files f count now status cause old new says fails front silent = tt
+  keeps_told is_line (Some files) outcome new_files f count now status cause old new says fails front silent = keeps is_line files outcome new_files f count now status cause old new says fails front silent
 
 -- ---- texts that stand for something
 
@@ -154,6 +153,6 @@ puts_client_by out library names files status new_files old new p e m =
     let parts : ClientParts = record { base = m.base; texts = m.texts } in
     let there : parts_in library names files ≡ Ok parts =
     all_parts library names files u.bytes m.texts m.base (got_by (get files library) library u.bytes u.image_is) m.texts_are (base_under library u.bytes m.base u.bytes_are read u.conforms) in
-    let image = client_stands_image (interface_of m.base) m.texts p (shows_base m.base u.conforms u.within) (texts_known names files m.texts m.texts_are).1 m.stand in
+    let image = client_stands_image (interface_of m.base) m.texts p (shows_base m.base u.conforms (image_within m.base u.bytes u.spelled)) (texts_known names files m.texts m.texts_are).1 m.stand in
     put_as (IsClientAnswer out library names files) (one_client_answer files out library names) status new_files old new e files out (client_image p) image.0 image.1
     (puts image.0 (parts, there, a_client_image p image.0 m.stand image.1))

@@ -9,6 +9,7 @@ use Rattle.som_steps.specs.declared.output.Output.{Output}
 use Rattle.som_steps.specs.declared.stop.Refusal.{Refusal}
 use Rattle.som_steps.specs.declared.stop.CommandStop.{CommandStop}
 use Rattle.som_steps.specs.Endings.{refusing}
+use Rattle.som_steps.specs.Lines.{store_failed}
 use Rattle.som_steps.specs.Putting.{PutFails, nothing}
 use Rattle.som_steps.specs.declared.stop.CommandStop.TheVariants as stops
 use Rattle.som_build.specs.Texts.{text_refused}
@@ -28,15 +29,15 @@ Compiled Told (Err (stops.Refused r)) = (w : TextFault) × Told (Err w) × (r �
 Compiled Told (Err (stops.StoreFailed line)) = ⊥
 Compiled Told (Err stops.NoMemory) = Unit {0}
 
--- the files are as they were, or a put of an image failed
-abbrev pub Leaves : (List ℕ → Type 0) → Files → List ℕ → Option Files → Type 0
-Leaves IsImage files out new = (new ≡ Some files) ⊎ ((image : List ℕ) × IsImage image × PutFails files out image new)
+-- where the store failed, the files are as they were, or the line says that the put failed, and a put of an image left them so
+abbrev pub Leaves : (List ℕ → Type 0) → Files → List ℕ → List ℕ → Option Files → Type 0
+Leaves IsImage files out line new = (new ≡ Some files) ⊎ ((line ≡ store_failed out) × (image : List ℕ) × IsImage image × PutFails files out image new)
 
 -- what the command answers and leaves
 abbrev pub Puts : {A : Type 0} → Compiling A → Files → List ℕ → Result A Refusal → Result Output CommandStop → Option Files → Type 0
 Puts Comes files out got (Ok o) new = (o ≡ nothing) × (image : List ℕ) × IsMade Comes got image × (new ≡ Some (insert files out image))
 Puts Comes files out got (Err (stops.Refused r)) new = IsPutAnswer Comes files out got (refusing files r) × (new ≡ Some files)
-Puts Comes files out got (Err (stops.StoreFailed line)) new = Leaves (IsMade Comes got) files out new
+Puts Comes files out got (Err (stops.StoreFailed line)) new = Leaves (IsMade Comes got) files out line new
 Puts Comes files out got (Err stops.NoMemory) new = new ≡ Some files
 
 -- the same over a store, where it tells its files

@@ -1,14 +1,16 @@
 ghost use Rattle.som_build.specs.Cause.{FailsClient};
-ghost use Rattle.som_build.specs.ClientAnswer.{CompilesParts, IsClientAnswer, IsClientCompiled, parts_in};
+ghost use Rattle.som_build.specs.ClientAnswer.{CompilesParts, IsClientAnswer, IsClientCompiled, client_statuses, parts_in};
 ghost use Rattle.som_build.specs.PutEnds.{LeavesFilesTold};
 ghost use Rattle.som_build.specs.PutSteps.{Compiled, PutsTold};
 ghost use Rattle.som_compile.specs.Sources.{bytes_in, mains_in, names_of};
 ghost use Rattle.som_io.specs.Outside.{Rose};
 ghost use Rattle.som_libimage.specs.Limits.{IsWithinLimits};
 ghost use Rattle.som_model.specs.Conforming.{ReleaseOk};
+ghost use Rattle.som_model.specs.Lists.{Mem};
 ghost use Rattle.som_model.specs.declared.limits.TheConstants.{MAX_BYTES};
 ghost use Rattle.som_steps.specs.Cause.{HasCause, IsQuiet};
 ghost use Rattle.som_steps.specs.Outcomes.{EndsAsTold, ShowsSome, StoreFails};
+ghost use Rattle.som_steps.specs.Refusing.{EndsIn};
 ghost use Rattle.som_steps.specs.Status.{is_calm_status};
 ghost use Rattle.std.specs.Prelude.{IsTrue, ◌≡◌, ◌≢◌, ◌≤◌, ◌⊎◌};
 
@@ -39,7 +41,7 @@ fn image_of(alloc: Global, parts: &ClientParts) -> Result<List<u8>, CommandStop>
 
 // Compiles the texts under names, of which one is that of a main, against the library under another, and puts the image of
 // the client program that they stand for under a third.
-#[tactic(auto, using(crate::proofs::CompileLaws::parts_refused, crate::proofs::CompileLaws::client_image_refused, crate::proofs::CompileLaws::client_image_stored, crate::proofs::CompileLaws::part_fails, crate::proofs::CompileLaws::client_image_fails, crate::proofs::CompileLaws::client_put_fails, crate::proofs::TextLaws::mains_named))]
+#[tactic(auto, using(crate::proofs::CompileLaws::parts_refused, crate::proofs::CompileLaws::client_image_refused, crate::proofs::CompileLaws::client_image_stored, crate::proofs::CompileLaws::part_fails, crate::proofs::CompileLaws::client_image_fails, crate::proofs::CompileLaws::client_put_fails, crate::proofs::TextLaws::mains_named, crate::proofs::BuildRefusals::client_refused_in, crate::proofs::BuildRefusals::client_put_ends_in))]
 fn put_client<S: Store>(
     alloc: Global,
     name: &Text,
@@ -52,6 +54,7 @@ fn put_client<S: Store>(
     ensures later { S.faults store.old ≤ S.faults store.new }
     ensures cause { HasCause (FailsClient (S.files store.old) name.now library.now names.now) (S.faults store.old) (S.faults store.new) result }
     ensures quiet { S.calm store.old → IsQuiet result }
+    ensures ends { EndsIn client_statuses result }
 {
     let parts = fetch_parts(alloc, library, names, store)?;
     let image = image_of(alloc, &parts)?;
@@ -74,6 +77,9 @@ pub fn build_client<S: Store, K: Sink>(
     ensures answered { result ≢ 6 → result ≢ 8 → result ≢ 10 →
         EndsAsTold (IsClientAnswer name.now library.now names.now) (S.files store.old) result (S.files store.new) (K.written out.old) (K.written out.new) }
 
+    // It ends with one of these statuses.
+    ensures statuses { Mem result client_statuses }
+
     // The store failed in this call, and the line that says so is all that was written.
     ensures store_failed { result ≡ 6 → StoreFails (FailsClient (S.files store.old) name.now library.now names.now) (S.faults store.old) (S.faults store.new) (K.written out.old) (K.written out.new) }
 
@@ -90,8 +96,8 @@ pub fn build_client<S: Store, K: Sink>(
     // Over a store and a sink of which nothing is set to fail, neither is said to fail.
     ensures calm { S.calm store.old → K.calm out.old → IsTrue (is_calm_status result) }
 
-    // The files are as they were, if the status isn't 0, or hold the image under the name; or a put of it failed in this call.
-    ensures files { LeavesFilesTold (λ told. IsClientCompiled told library.now names.now) (S.files store.old) name.now (S.faults store.old) (S.faults store.new) result (S.files store.new) }
+    // The files are as they were, if the status isn't 0, or hold the image under the name; or a put of it failed in this call, and what was written says so.
+    ensures files { LeavesFilesTold (λ told. IsClientCompiled told library.now names.now) (S.files store.old) name.now (S.faults store.old) (S.faults store.new) result (S.files store.new) (K.written out.old) (K.written out.new) }
 {
     tell(out, &put_client(alloc, name, library, names, store))
 }

@@ -1,11 +1,12 @@
 ghost use Rattle.som_build.specs.Cause.{FailsGettingParts};
-ghost use Rattle.som_build.specs.ClientAnswer.{base_in, parts_in};
+ghost use Rattle.som_build.specs.ClientAnswer.{client_statuses, parts_in};
 ghost use Rattle.som_compile.specs.Sources.{bytes_in, names_of};
 ghost use Rattle.som_libimage.specs.Limits.{IsWithinLimits};
 ghost use Rattle.som_model.specs.Conforming.{ReleaseOk};
 ghost use Rattle.som_model.specs.declared.limits.TheConstants.{MAX_BYTES};
 ghost use Rattle.som_steps.specs.Cause.{HasCause, IsQuiet};
-ghost use Rattle.som_steps.specs.Steps.{Follows, FollowsTold};
+ghost use Rattle.som_steps.specs.Refusing.{HasStatusIn, RefusesAs};
+ghost use Rattle.som_steps.specs.Steps.{FollowsTold};
 ghost use Rattle.std.specs.Prelude.{IfOk, ◌≡◌, ◌≤◌};
 
 use crate::texts::fetch_texts;
@@ -22,20 +23,8 @@ pub struct ClientParts {
     pub texts: List<Source>,
 }
 
-// The release of the library image under a name that breaks no rule.
-#[tactic(auto, using(crate::proofs::BaseLaws::as_base))]
-fn base_of(alloc: Global, name: &Text, bytes: &List<u8>) -> Result<Release, CommandStop>
-    ensures follows { Follows result (base_in name.now bytes.now) }
-    ensures conforms { IfOk result ReleaseOk }
-    ensures within { IfOk result IsWithinLimits }
-    ensures quiet { IsQuiet result }
-{
-    let _all = bytes.as_bytes();
-    sound_release(alloc, name, bytes)
-}
-
 /// The release under one name and the texts under others.
-#[tactic(auto, using(crate::proofs::PartLaws::library_missing, crate::proofs::PartLaws::texts_missing, crate::proofs::PartLaws::library_refused, crate::proofs::PartLaws::all_there, crate::proofs::PartLaws::library_fails, crate::proofs::PartLaws::texts_fail, crate::proofs::PartLaws::reading_fails))]
+#[tactic(auto, using(crate::proofs::PartLaws::library_missing, crate::proofs::PartLaws::texts_missing, crate::proofs::PartLaws::library_refused, crate::proofs::PartLaws::all_there, crate::proofs::PartLaws::library_fails, crate::proofs::PartLaws::texts_fail, crate::proofs::PartLaws::reading_fails, crate::proofs::BuildRefusals::library_absent_in, crate::proofs::BuildRefusals::texts_refused_in, crate::proofs::BuildRefusals::library_refused_in))]
 pub fn fetch_parts<S: Store>(
     alloc: Global,
     library: &Text,
@@ -52,9 +41,10 @@ pub fn fetch_parts<S: Store>(
     ensures cause { HasCause (FailsGettingParts (S.files store.old) library.now names.now) (S.faults store.old) (S.faults store.new) result }
     ensures calm { S.calm store.old → S.calm store.new }
     ensures quiet { S.calm store.old → IsQuiet result }
+    ensures refuses { RefusesAs (HasStatusIn client_statuses) result }
 {
     let bytes = fetch(alloc, library, store)?;
     let texts = fetch_texts(alloc, names, store)?;
-    let base = base_of(alloc, library, &bytes)?;
+    let base = sound_release(alloc, library, &bytes)?;
     Ok(ClientParts { base, texts })
 }

@@ -1,14 +1,16 @@
 ghost use Rattle.som_build.specs.Cause.{FailsLibrary};
-ghost use Rattle.som_build.specs.LibraryAnswer.{AreCompiled, IsLibraryAnswer};
+ghost use Rattle.som_build.specs.LibraryAnswer.{AreCompiled, IsLibraryAnswer, library_statuses};
 ghost use Rattle.som_build.specs.PutEnds.{LeavesFilesTold};
 ghost use Rattle.som_build.specs.PutSteps.{Compiled, PutsTold};
 ghost use Rattle.som_build.specs.Texts.{texts_in};
 ghost use Rattle.som_compile.specs.Compiling.{Compiles};
 ghost use Rattle.som_compile.specs.Sources.{bytes_in, mains_in, names_of};
 ghost use Rattle.som_io.specs.Outside.{Rose};
+ghost use Rattle.som_model.specs.Lists.{Mem};
 ghost use Rattle.som_model.specs.declared.limits.TheConstants.{MAX_BYTES};
 ghost use Rattle.som_steps.specs.Cause.{HasCause, IsQuiet};
 ghost use Rattle.som_steps.specs.Outcomes.{EndsAsTold, ShowsSome, StoreFails};
+ghost use Rattle.som_steps.specs.Refusing.{EndsIn};
 ghost use Rattle.som_steps.specs.Status.{is_calm_status};
 ghost use Rattle.std.specs.Prelude.{IsTrue, ◌≡◌, ◌≢◌, ◌≤◌, ◌⊎◌};
 
@@ -35,7 +37,7 @@ fn image_of(alloc: Global, texts: &List<Source>) -> Result<List<u8>, CommandStop
 }
 
 // Compiles the texts under names, of which none is that of a main, and puts the image of the release that they stand for under another.
-#[tactic(auto, using(crate::proofs::CompileLaws::texts_refused, crate::proofs::CompileLaws::image_refused, crate::proofs::CompileLaws::image_stored, crate::proofs::CompileLaws::get_fails, crate::proofs::CompileLaws::image_fails, crate::proofs::CompileLaws::put_fails, crate::proofs::TextLaws::mains_named))]
+#[tactic(auto, using(crate::proofs::CompileLaws::texts_refused, crate::proofs::CompileLaws::image_refused, crate::proofs::CompileLaws::image_stored, crate::proofs::CompileLaws::get_fails, crate::proofs::CompileLaws::image_fails, crate::proofs::CompileLaws::put_fails, crate::proofs::TextLaws::mains_named, crate::proofs::BuildRefusals::image_refused_in, crate::proofs::BuildRefusals::put_ends_in))]
 fn put_library<S: Store>(
     alloc: Global,
     name: &Text,
@@ -47,6 +49,7 @@ fn put_library<S: Store>(
     ensures later { S.faults store.old ≤ S.faults store.new }
     ensures cause { HasCause (FailsLibrary (S.files store.old) name.now names.now) (S.faults store.old) (S.faults store.new) result }
     ensures quiet { S.calm store.old → IsQuiet result }
+    ensures ends { EndsIn library_statuses result }
 {
     let texts = fetch_texts(alloc, names, store)?;
     let image = image_of(alloc, &texts)?;
@@ -67,6 +70,9 @@ pub fn build_library<S: Store, K: Sink>(
     ensures answered { result ≢ 6 → result ≢ 8 → result ≢ 10 →
         EndsAsTold (IsLibraryAnswer name.now names.now) (S.files store.old) result (S.files store.new) (K.written out.old) (K.written out.new) }
 
+    // It ends with one of these statuses.
+    ensures statuses { Mem result library_statuses }
+
     // The store failed in this call, and the line that says so is all that was written.
     ensures store_failed { result ≡ 6 → StoreFails (FailsLibrary (S.files store.old) name.now names.now) (S.faults store.old) (S.faults store.new) (K.written out.old) (K.written out.new) }
 
@@ -83,8 +89,8 @@ pub fn build_library<S: Store, K: Sink>(
     // Over a store and a sink of which nothing is set to fail, neither is said to fail.
     ensures calm { S.calm store.old → K.calm out.old → IsTrue (is_calm_status result) }
 
-    // The files are as they were, if the status isn't 0, or hold the image under the name; or a put of it failed in this call.
-    ensures files { LeavesFilesTold (λ told. AreCompiled told names.now) (S.files store.old) name.now (S.faults store.old) (S.faults store.new) result (S.files store.new) }
+    // The files are as they were, if the status isn't 0, or hold the image under the name; or a put of it failed in this call, and what was written says so.
+    ensures files { LeavesFilesTold (λ told. AreCompiled told names.now) (S.files store.old) name.now (S.faults store.old) (S.faults store.new) result (S.files store.new) (K.written out.old) (K.written out.new) }
 {
     tell(out, &put_library(alloc, name, names, store))
 }

@@ -1,9 +1,11 @@
 ghost use Rattle.som_build.specs.Cause.{FailsGettingTexts};
+ghost use Rattle.som_build.specs.LibraryAnswer.{library_statuses};
 ghost use Rattle.som_build.specs.Texts.{text_in, texts_in};
 ghost use Rattle.som_compile.specs.Sources.{bytes_in, names_of};
 ghost use Rattle.som_model.specs.declared.limits.TheConstants.{MAX_BYTES};
 ghost use Rattle.som_steps.specs.Cause.{HasCause, IsQuiet};
 ghost use Rattle.som_steps.specs.Lines.{store_failed};
+ghost use Rattle.som_steps.specs.Refusing.{HasStatusIn, RefusesAs};
 ghost use Rattle.som_steps.specs.Steps.{FollowsTold};
 ghost use Rattle.std.specs.Prelude.{IfOk, length, ◌+◌, ◌≡◌, ◌≤◌};
 
@@ -15,7 +17,7 @@ use som_steps::{CommandStop, fetch};
 use std::alloc::Global;
 
 // The text under a name, after texts of so many bytes.
-#[tactic(auto, using(crate::proofs::TextLaws::text_absent, crate::proofs::TextLaws::text_too_long, crate::proofs::TextLaws::text_got))]
+#[tactic(auto, using(crate::proofs::TextLaws::text_absent, crate::proofs::TextLaws::text_too_long, crate::proofs::TextLaws::text_got, crate::proofs::BuildRefusals::text_absent_in, crate::proofs::BuildRefusals::too_many_in))]
 fn fetch_text<S: Store>(
     alloc: Global,
     before: usize,
@@ -31,6 +33,7 @@ fn fetch_text<S: Store>(
     ensures cause { HasCause (λ line. line ≡ store_failed name.now) (S.faults store.old) (S.faults store.new) result }
     ensures calm { S.calm store.old → S.calm store.new }
     ensures quiet { S.calm store.old → IsQuiet result }
+    ensures refuses { RefusesAs (HasStatusIn library_statuses) result }
 {
     let bytes = fetch(alloc, name, store)?;
     if bytes.len() > MAX_BYTES as usize - before {
@@ -57,6 +60,7 @@ pub fn fetch_texts<S: Store>(
     ensures cause { HasCause (FailsGettingTexts (S.files store.old) names.now) (S.faults store.old) (S.faults store.new) result }
     ensures calm { S.calm store.old → S.calm store.new }
     ensures quiet { S.calm store.old → IsQuiet result }
+    ensures refuses { RefusesAs (HasStatusIn library_statuses) result }
 {
     let mut texts = List::new(alloc);
     let mut bytes = 0usize;

@@ -8,12 +8,11 @@ use Rattle.som_model.specs.Compatible.{CompatBreach}
 use Rattle.som_model.specs.Conforming.{ReleaseOk, release_breach}
 use Rattle.som_model.specs.Steps.{◌>>=◌}
 use Rattle.som_fields.specs.declared.fault.ImageFault.{ImageFault}
-use Rattle.som_libimage.specs.Libraries.{library_at}
 use Rattle.som_verify.proofs.Conforming.{conforms_release, release_conforms}
 use Rattle.som_steps.specs.declared.stop.Refusal.{Refusal}
 use Rattle.som_steps.specs.declared.stop.CommandStop.{CommandStop}
 use Rattle.som_steps.specs.Endings.{Ending, refusing}
-use Rattle.som_steps.specs.ImageSteps.{read_or, kept_or, release_in, rules_kept}
+use Rattle.som_steps.specs.ImageSteps.{library_in, read_or, kept_or, release_in, rules_kept}
 use Rattle.som_steps.specs.Steps.{Stops, Follows, FollowsTold}
 use Rattle.som_steps.specs.Answering.{Answers, AnswersTold}
 use Rattle.som_steps.proofs.ImageLaws.{stops_first}
@@ -58,7 +57,7 @@ all_conform (n ∷ ns) (b ∷ bs) (s ∷ rs) e x kept r m =
     let one = after (release_in n b) (λ r. releases_in ns bs >>= λ rs. Ok (r ∷ rs)) (s ∷ rs) e in
     let others = after (releases_in ns bs) (λ rs. Ok (one.0 ∷ rs)) (s ∷ rs) one.2 in
     let rules = after (rules_kept n s) (λ kept. all_rules_kept ns rs) x kept in
-    let read : library_at b ≡ Ok s = read_by n (library_at b) one.0 one.1 ∙ ap (λ (y : Release). Ok y) (same_head one.0 s others.0 rs others.2) in
+    let read : library_in b ≡ Ok s = read_by n (library_in b) one.0 one.1 ∙ ap (λ (y : Release). Ok y) (same_head one.0 s others.0 rs others.2) in
     let tail : releases_in ns bs ≡ Ok rs = others.1 ∙ ap (λ (l : List Release). Ok l) (same_tail one.0 s others.0 rs others.2) in
     elim m as (λ _. ReleaseOk r) [
       | inl is ↦ subst (λ (y : Release). ReleaseOk y) (sym is) (release_conforms s (kept_by n (release_breach s) rules.0 rules.1))
@@ -77,7 +76,7 @@ abbrev pub line_ending : Files → Result (List ℕ) Refusal → Ending
 line_ending files (Ok line) = record { text = line; status = 0; files = files }
 line_ending files (Err r) = refusing files r
 
-abbrev compared : List (List ℕ) → List Release → Result (List ℕ) Refusal
+abbrev pub compared : List (List ℕ) → List Release → Result (List ℕ) Refusal
 compared names rs = accepted_or names (first_not_kept rs)
 
 abbrev after_rules : List (List ℕ) → List Release → Result (Unit {0}) Refusal → Result (List ℕ) Refusal
@@ -173,7 +172,7 @@ images_accepted (Some files) names images line f g = accepted files names images
 
 -- ---- one step after another
 
-abbrev ruled : List (List ℕ) → List Release → Result (List ℕ) Refusal
+abbrev pub ruled : List (List ℕ) → List Release → Result (List ℕ) Refusal
 ruled names rs = all_rules_kept names rs >>= λ kept. compared names rs
 
 -- some image can't be read

@@ -18,6 +18,7 @@ use Rattle.som_steps.specs.declared.stop.Refusal.{Refusal}
 use Rattle.som_steps.specs.Lines.{absent}
 use Rattle.som_steps.specs.Endings.{refusing}
 use Rattle.som_steps.specs.ImageSteps.{read_or}
+use Rattle.som_steps.proofs.ByteLaws.{library_read}
 use Rattle.som_check.specs.CheckAnswer.{IsCheckAnswer, refuses, accepts, not_kept, images_in, releases_in, AllConform, first_not_kept, accepting}
 use Rattle.som_check.specs.CheckEnds.{AreUnder}
 
@@ -78,7 +79,7 @@ all_got files (n ∷ ns) (r ∷ rs) under =
       images = one.bytes ∷ more.images;
       got = ap (λ (o : Option (List ℕ)). ok_or o (absent n) >>= λ b. images_in ns files >>= λ bs. Ok (b ∷ bs)) one.image_is
           ∙ ap (λ (x : Result (List (List ℕ)) Refusal). x >>= λ bs. Ok (one.bytes ∷ bs)) more.got;
-      read = ap (λ (x : Result Release ImageFault). read_or n x >>= λ s. releases_in ns more.images >>= λ ss. Ok (s ∷ ss)) (library_again one.bytes r one.spelled)
+      read = ap (λ (x : Result Release ImageFault). read_or n x >>= λ s. releases_in ns more.images >>= λ ss. Ok (s ∷ ss)) (library_read one.bytes (Ok r) one.bytes_are (library_again one.bytes r one.spelled))
           ∙ ap (λ (x : Result (List Release) Refusal). x >>= λ ss. Ok (r ∷ ss)) more.read;
     }
 

@@ -4,5 +4,6 @@ pub mod CheckLaws
 mod CheckLoops
 mod CheckMeaning
 mod Comparing
+mod CheckRefusals
 pub mod ShowEndLaws
 pub mod CheckEndLaws

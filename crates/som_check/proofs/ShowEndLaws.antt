@@ -1,10 +1,11 @@
 -- How the end of a call that shows an image is that of its answer.
-use Rattle.std.proofs.Common.{◌≡◌, ℕ, List, Option}
+use Rattle.std.proofs.Common.{◌≡◌, ℕ, List, Option, Ok}
 use Rattle.som_model.specs.declared.program.Release.{Release}
 use Rattle.som_model.specs.declared.program.ClientProgram.{ClientProgram}
 use Rattle.som_model.specs.Bytes.{Files}
 use Rattle.som_libimage.proofs.Decoded.{library_again}
 use Rattle.som_cliimage.proofs.Decoded.{client_again}
+use Rattle.som_steps.proofs.ByteLaws.{client_read, library_read}
 use Rattle.som_steps.proofs.OutcomeLaws.{text_of, status_is}
 use Rattle.som_steps.specs.Endings.{Ending}
 use Rattle.som_steps.specs.Outcomes.{EndsAs}
@@ -21,7 +22,7 @@ module _ (n : List ℕ) (files : Files) (status : ℕ) (new_files : Option Files
   -- it is an end that shows the release
   pub shows_by : (r : Release) → IsUnder files n r → ShowsRelease r status old new
   shows_by r m =
-      let is : IsShowAnswer n files (showing files r) = shows_library m.bytes r m.image_is (of_library r m.bytes m.spelled) (library_again m.bytes r m.spelled) m.conforms in
+      let is : IsShowAnswer n files (showing files r) = shows_library m.bytes r m.image_is (of_library r m.bytes m.spelled) (library_read m.bytes (Ok r) m.bytes_are (library_again m.bytes r m.spelled)) m.conforms in
       record {
         text = text_of (IsShowAnswer n files) one status new_files old new e (showing files r) is;
         status_is = status_is (IsShowAnswer n files) one status new_files old new e (showing files r) is;
@@ -30,7 +31,7 @@ module _ (n : List ℕ) (files : Files) (status : ℕ) (new_files : Option Files
   -- it is an end that shows the client program
   pub shows_client_by : (p : ClientProgram) → IsClientUnder files n p → ShowsProgram p status old new
   shows_client_by p m =
-      let is : IsShowAnswer n files (showing_client files p) = shows_client m.bytes p m.image_is (of_client p m.bytes m.spelled) (client_again m.bytes p m.spelled) m.conforms in
+      let is : IsShowAnswer n files (showing_client files p) = shows_client m.bytes p m.image_is (of_client p m.bytes m.spelled) (client_read m.bytes (Ok p) m.bytes_are (client_again m.bytes p m.spelled)) m.conforms in
       record {
         text = text_of (IsShowAnswer n files) one status new_files old new e (showing_client files p) is;
         status_is = status_is (IsShowAnswer n files) one status new_files old new e (showing_client files p) is;

@@ -9,8 +9,6 @@ use Rattle.som_model.specs.Rules.{RuleBreach}
 use Rattle.som_model.specs.Conforming.{program_breach, release_breach}
 use Rattle.som_model.specs.Steps.{◌>>=◌}
 use Rattle.som_fields.specs.declared.fault.ImageFault.{ImageFault}
-use Rattle.som_libimage.specs.Libraries.{library_at}
-use Rattle.som_cliimage.specs.Programs.{client_at}
 use Rattle.som_verify.proofs.Conforming.{conforms_program, conforms_release, program_conforms, release_conforms}
 use Rattle.som_show.specs.Shown.{client_lines, shown_lines}
 use Rattle.som_steps.specs.declared.stop.Refusal.{Refusal}
@@ -20,7 +18,7 @@ use Rattle.som_steps.specs.Lines.{absent, unread, broken}
 use Rattle.som_steps.specs.Fetching.{file_of}
 use Rattle.som_steps.specs.Steps.{Follows, FollowsTold}
 use Rattle.som_steps.specs.Answering.{Answers, AnswersTold}
-use Rattle.som_steps.specs.ImageSteps.{kept_or, sound, sound_program, sound_release}
+use Rattle.som_steps.specs.ImageSteps.{client_in, kept_or, library_in, sound, sound_program, sound_release}
 use Rattle.som_steps.proofs.ImageLaws.{stops_first}
 use Rattle.som_steps.proofs.FileLaws.{missing_by, found_by}
 use Rattle.som_steps.specs.declared.output.End.TheVariants as the_end
@@ -75,9 +73,9 @@ by_kind n b c = if c then program_lines n b else release_lines n b
 
 module _ (files : Files) (n b : List ℕ) (has : get files n ≡ Some b) where
   kind_answer : (c : Bool) → is_client b ≡ c → IsShowAnswer n files (shown_ending files (by_kind n b c))
-  kind_answer true is = lines_answer files n program_breach client_lines (client_at b) (λ fault e. client_unread b fault has is e) (λ p x e f. client_broken b p x has is e f)
+  kind_answer true is = lines_answer files n program_breach client_lines (client_in b) (λ fault e. client_unread b fault has is e) (λ p x e f. client_broken b p x has is e f)
       (λ p e f. shows_client b p has is e (program_conforms p f))
-  kind_answer false is = lines_answer files n release_breach shown_lines (library_at b) (λ fault e. library_unread b fault has is e) (λ r x e f. library_broken b r x has is e f)
+  kind_answer false is = lines_answer files n release_breach shown_lines (library_in b) (λ fault e. library_unread b fault has is e) (λ r x e f. library_broken b r x has is e f)
       (λ r e f. shows_library b r has is e (release_conforms r f))
 
   -- what the steps come to is an answer
@@ -99,12 +97,12 @@ of_kind files n b has c kind = ap (λ (x : Bool). shown_ending files (by_kind n 
 -- and each answer is it
 pub one_shown : (files : Files) (n : List ℕ) (e : Ending) → IsShowAnswer n files e → e ≡ file_ending files n (get files n)
 one_shown files n e (image_absent has) = ap (file_ending files n) (sym has)
-one_shown files n e (library_unread b fault has kind is) = unread_so files n release_breach shown_lines (library_at b) fault is ∙ of_kind files n b has false kind
-one_shown files n e (library_broken b r x has kind is breaks) = ruled_so files n release_breach shown_lines (library_at b) r (Some x) is breaks ∙ of_kind files n b has false kind
-one_shown files n e (shows_library b r has kind is ok) = ruled_so files n release_breach shown_lines (library_at b) r None is (conforms_release r ok) ∙ of_kind files n b has false kind
-one_shown files n e (client_unread b fault has kind is) = unread_so files n program_breach client_lines (client_at b) fault is ∙ of_kind files n b has true kind
-one_shown files n e (client_broken b p x has kind is breaks) = ruled_so files n program_breach client_lines (client_at b) p (Some x) is breaks ∙ of_kind files n b has true kind
-one_shown files n e (shows_client b p has kind is ok) = ruled_so files n program_breach client_lines (client_at b) p None is (conforms_program p ok) ∙ of_kind files n b has true kind
+one_shown files n e (library_unread b fault has kind is) = unread_so files n release_breach shown_lines (library_in b) fault is ∙ of_kind files n b has false kind
+one_shown files n e (library_broken b r x has kind is breaks) = ruled_so files n release_breach shown_lines (library_in b) r (Some x) is breaks ∙ of_kind files n b has false kind
+one_shown files n e (shows_library b r has kind is ok) = ruled_so files n release_breach shown_lines (library_in b) r None is (conforms_release r ok) ∙ of_kind files n b has false kind
+one_shown files n e (client_unread b fault has kind is) = unread_so files n program_breach client_lines (client_in b) fault is ∙ of_kind files n b has true kind
+one_shown files n e (client_broken b p x has kind is breaks) = ruled_so files n program_breach client_lines (client_in b) p (Some x) is breaks ∙ of_kind files n b has true kind
+one_shown files n e (shows_client b p has kind is ok) = ruled_so files n program_breach client_lines (client_in b) p None is (conforms_program p ok) ∙ of_kind files n b has true kind
 
 -- ---- what the code answers
 
@@ -135,10 +133,10 @@ bytes_shown (Some files) n b lines f g = subst (λ (x : Lines). IsShowAnswer n f
 
 -- ---- one kind of image
 
-abbrev release_shown : Release → Lines
+abbrev pub release_shown : Release → Lines
 release_shown r = Ok (shown_lines r)
 
-abbrev program_shown : ClientProgram → Lines
+abbrev pub program_shown : ClientProgram → Lines
 program_shown p = Ok (client_lines p)
 
 pub release_stops : (n b : List ℕ) (stop : CommandStop) → Follows {A = Release} (Err stop) (sound_release n b) → Follows {A = List (List ℕ)} (Err stop) (release_lines n b)

@@ -13,6 +13,7 @@ use Rattle.som_steps.specs.declared.stop.Refusal.{Refusal}
 use Rattle.som_steps.specs.Endings.{Ending, refusing}
 use Rattle.som_steps.specs.Fetching.{file_of}
 use Rattle.som_steps.specs.ImageSteps.{release_in, rules_kept}
+use Rattle.som_steps.specs.Status.{failing_statuses}
 use Rattle.som_steps.specs.declared.stop.Why.TheVariants as why
 
 -- ---- lines
@@ -65,6 +66,10 @@ AllConform rs = (r : Release) → Mem r rs → ReleaseOk r
 -- the first thing that a release doesn't keep of the one before it, with the number of the newer one
 abbrev pub first_not_kept : List Release → Option (ℕ × CompatBreach)
 first_not_kept rs = first (list_breaks 1 (map interface_of rs))
+
+-- the statuses of `check`: all are accepted, something isn't kept, one is no image, one isn't there, or something failed
+abbrev pub check_statuses : List ℕ
+check_statuses = 0 ∷ 4 ∷ 5 ∷ 7 ∷ failing_statuses
 
 -- ---- endings
 

@@ -9,15 +9,13 @@ use Rattle.som_model.specs.Conforming.{ProgramOk}
 use Rattle.som_model.specs.Images.{client_image}
 use Rattle.som_show.specs.Shown.{client_lines, shown_lines}
 use Rattle.som_io.specs.Outside.{ShowsAll}
-use Rattle.som_cliimage.specs.Limits as client
 
--- the store holds the image of the client program under the name, and the program is within the limits of images and conforms
+-- the store holds the image of the client program under the name, and the program conforms
 pub record IsClientUnder (files : Files) (name : List ℕ) (p : ClientProgram) : Type 0 where
   pub bytes : List ℕ
   pub image_is : get files name ≡ Some bytes
   pub bytes_are : AreBytes bytes
   pub spelled : client_image p ≡ Some bytes
-  pub within : client.IsWithinLimits p
   pub conforms : ProgramOk p
 
 -- what was written are these lines, and the status is 0

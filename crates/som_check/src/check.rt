@@ -1,15 +1,17 @@
 ghost use Rattle.som_check.specs.Cause.{FailsGetting};
-ghost use Rattle.som_check.specs.CheckAnswer.{IsCheckAnswer, all_rules_kept, first_not_kept, images_in, not_kept, or_dash, releases_in};
+ghost use Rattle.som_check.specs.CheckAnswer.{IsCheckAnswer, all_rules_kept, check_statuses, first_not_kept, images_in, not_kept, or_dash, releases_in};
 ghost use Rattle.som_check.specs.CheckSteps.{accepted_or, line_checked};
 ghost use Rattle.som_compat.specs.Told.{told};
 ghost use Rattle.som_io.specs.Outside.{Rose};
 ghost use Rattle.som_libimage.specs.Limits.{IsWithinLimits};
 ghost use Rattle.som_model.specs.Class.{interface_of};
 ghost use Rattle.som_model.specs.Conforming.{ReleaseOk};
+ghost use Rattle.som_model.specs.Lists.{Mem};
 ghost use Rattle.som_order.specs.Names.{name_at};
 ghost use Rattle.som_steps.specs.Answering.{AnswersTold};
 ghost use Rattle.som_steps.specs.Cause.{HasCause, IsQuiet};
 ghost use Rattle.som_steps.specs.Outcomes.{EndsAsTold, ShowsSome, StoreFails};
+ghost use Rattle.som_steps.specs.Refusing.{EndsIn, HasStatusIn, RefusesAs};
 ghost use Rattle.som_steps.specs.Status.{is_calm_status};
 ghost use Rattle.som_steps.specs.Steps.{Follows, FollowsTold};
 ghost use Rattle.som_steps.specs.declared.output.End.TheVariants as ends;
@@ -25,6 +27,7 @@ use som_steps::{
 use std::alloc::Global;
 
 // The bytes under each name.
+#[tactic(auto, using(crate::proofs::CheckRefusals::one_absent_in))]
 fn fetch_all<S: Store>(
     alloc: Global,
     names: &[Text],
@@ -36,6 +39,7 @@ fn fetch_all<S: Store>(
     ensures later { S.faults store.old ≤ S.faults store.new }
     ensures cause { HasCause (FailsGetting (S.files store.old) names.now) (S.faults store.old) (S.faults store.new) result }
     ensures quiet { S.calm store.old → IsQuiet result }
+    ensures refuses { RefusesAs (HasStatusIn check_statuses) result }
 {
     let mut images = List::new(alloc);
     for name in names {
@@ -167,7 +171,7 @@ fn only(alloc: Global, line: Text) -> Result<Output, NoMemory>
 }
 
 // What comes of checking images, each against the one before it.
-#[tactic(auto, using(crate::proofs::CheckLaws::images_missing, crate::proofs::CheckLaws::images_refused, crate::proofs::CheckLaws::images_accepted))]
+#[tactic(auto, using(crate::proofs::CheckLaws::images_missing, crate::proofs::CheckLaws::images_refused, crate::proofs::CheckLaws::images_accepted, crate::proofs::CheckRefusals::checked_in))]
 fn check_output<S: Store>(
     alloc: Global,
     names: &[Text],
@@ -178,6 +182,7 @@ fn check_output<S: Store>(
     ensures later { S.faults store.old ≤ S.faults store.new }
     ensures cause { HasCause (FailsGetting (S.files store.old) names.now) (S.faults store.old) (S.faults store.new) result }
     ensures quiet { S.calm store.old → IsQuiet result }
+    ensures ends { EndsIn check_statuses result }
 {
     let images = fetch_all(alloc, names, store)?;
     let line = check_bytes(alloc, names, images.as_slice())?;
@@ -194,6 +199,9 @@ pub fn check_images<S: Store, K: Sink>(
     // Without faults and with memory it is the answer: its text, its status, its files.
     ensures answered { result ≢ 6 → result ≢ 8 → result ≢ 10 →
         EndsAsTold (IsCheckAnswer names.now) (S.files store.old) result (S.files store.new) (K.written out.old) (K.written out.new) }
+
+    // It ends with one of these statuses.
+    ensures statuses { Mem result check_statuses }
 
     // The store failed in this call, and the line that says so is all that was written.
     ensures store_failed { result ≡ 6 → StoreFails (FailsGetting (S.files store.old) names.now) (S.faults store.old) (S.faults store.new) (K.written out.old) (K.written out.new) }

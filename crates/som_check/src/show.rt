@@ -1,10 +1,12 @@
 ghost use Rattle.som_check.specs.Cause.{FailsShowing};
-ghost use Rattle.som_check.specs.ShowAnswer.{IsShowAnswer, is_client};
+ghost use Rattle.som_check.specs.ShowAnswer.{IsShowAnswer, is_client, show_statuses};
 ghost use Rattle.som_check.specs.ShowSteps.{lines_shown, program_lines, release_lines};
 ghost use Rattle.som_io.specs.Outside.{Rose};
+ghost use Rattle.som_model.specs.Lists.{Mem};
 ghost use Rattle.som_steps.specs.Answering.{AnswersTold};
 ghost use Rattle.som_steps.specs.Cause.{HasCause, IsQuiet};
 ghost use Rattle.som_steps.specs.Outcomes.{EndsAsTold, ShowsSome, StoreFails};
+ghost use Rattle.som_steps.specs.Refusing.{EndsIn};
 ghost use Rattle.som_steps.specs.Status.{is_calm_status};
 ghost use Rattle.som_steps.specs.Steps.{Follows};
 ghost use Rattle.std.specs.Prelude.{IsTrue, ◌≡◌, ◌≢◌, ◌≤◌, ◌⊎◌};
@@ -59,13 +61,14 @@ fn show_bytes(alloc: Global, name: &Text, bytes: &List<u8>) -> Result<List<Text>
 }
 
 // What shows an image.
-#[tactic(auto, using(crate::proofs::ShowLaws::image_missing, crate::proofs::ShowLaws::bytes_refused, crate::proofs::ShowLaws::bytes_shown))]
+#[tactic(auto, using(crate::proofs::ShowLaws::image_missing, crate::proofs::ShowLaws::bytes_refused, crate::proofs::ShowLaws::bytes_shown, crate::proofs::CheckRefusals::image_absent_in, crate::proofs::CheckRefusals::shown_in))]
 fn show_output<S: Store>(alloc: Global, name: &Text, store: &mut S) -> Result<Output, CommandStop>
     ensures answer { AnswersTold (IsShowAnswer name.now) (S.files store.old) result }
     ensures files { S.files store.new ≡ S.files store.old }
     ensures later { S.faults store.old ≤ S.faults store.new }
     ensures cause { HasCause (FailsShowing (S.files store.old) name.now) (S.faults store.old) (S.faults store.new) result }
     ensures quiet { S.calm store.old → IsQuiet result }
+    ensures ends { EndsIn show_statuses result }
 {
     let bytes = fetch(alloc, name, store)?;
     let lines = show_bytes(alloc, name, &bytes)?;
@@ -80,6 +83,9 @@ pub fn show_image<S: Store, K: Sink>(alloc: Global, name: &Text, store: &mut S, 
     // Without faults and with memory it is the answer: its text, its status, its files.
     ensures answered { result ≢ 6 → result ≢ 8 → result ≢ 10 →
         EndsAsTold (IsShowAnswer name.now) (S.files store.old) result (S.files store.new) (K.written out.old) (K.written out.new) }
+
+    // It ends with one of these statuses.
+    ensures statuses { Mem result show_statuses }
 
     // The store failed in this call, and the line that says so is all that was written.
     ensures store_failed { result ≡ 6 → StoreFails (FailsShowing (S.files store.old) name.now) (S.faults store.old) (S.faults store.new) (K.written out.old) (K.written out.new) }

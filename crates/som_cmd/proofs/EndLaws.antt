@@ -1,12 +1,15 @@
 -- What a call comes to is what the command comes to that it asks for.
-use Rattle.std.proofs.Common.{◌≡◌, ℕ, List, Option, Some, None, subst, inl}
+use Rattle.std.proofs.Common.{◌≡◌, ◌≢◌, ◌==◌, ℕ, Bool, true, false, List, Option, Some, None, refl, sym, subst, ◌∙◌, inl, inr, arith}
+use Rattle.std.proofs.lemmas.Bool.{eqb-true}
 use Rattle.som_model.specs.declared.program.Release.{Release}
 use Rattle.som_model.specs.declared.program.ClientProgram.{ClientProgram}
 use Rattle.som_model.specs.Bytes.{Files}
 use Rattle.som_model.specs.Compatible.{CompatBreach}
+use Rattle.som_model.specs.Lists.{Mem}
 use Rattle.som_io.specs.Outside.{ShowsAll, ShowsFront}
 use Rattle.som_steps.proofs.OutcomeLaws.{ends_with, told_with, some_with}
-use Rattle.som_steps.proofs.Printed.{nothing_written}
+use Rattle.som_steps.proofs.Printed.{nothing_written, shows_nothing}
+use Rattle.som_steps.proofs.Statuses.{differs}
 use Rattle.som_steps.specs.Endings.{Ending}
 use Rattle.som_steps.specs.Answering.{Answering}
 use Rattle.som_steps.specs.Outcomes as steps
@@ -29,6 +32,7 @@ use Rattle.som_cmd.specs.Answer.{IsAnswer, bad_words, runs, shows, checks, bad_l
 use Rattle.som_cmd.specs.Cause.{FailsOn}
 use Rattle.som_cmd.specs.Ends.{EndsAsTold, StoreFails, ShowsSome, AreImagesOf, IsImageOf, IsImageOfClient, AreChecked}
 use Rattle.som_cmd.proofs.WordLaws.{HasMains}
+use Rattle.som_cmd.specs.Refused.{TellsBadWords, TellsOneLine, statuses_of}
 use Rattle.som_cmd.specs.PutEnds.{KeepsFiles, AreTextsOf, AreClientTextsOf, PutsProgram, PutsRelease}
 
 -- ---- what a command comes to is what the call comes to that asks for it
@@ -44,10 +48,23 @@ module _ (asked by : Asked) (is : by ≡ asked) (IsOwn : Answering) (into : (fil
 pub store_failed : (asked by : Asked) → by ≡ asked → (files : Option Files) (count now : ℕ) (old new : Option (List ℕ)) → steps.StoreFails (FailsOn files by) count now old new → StoreFails asked files count now old new
 store_failed asked by is files count now old new f = subst (λ (x : Asked). StoreFails x files count now old new) is f
 
-pub files_kept : (asked by : Asked) → by ≡ asked → (files : Option Files) (count now status : ℕ) (new_files : Option Files) → KeepsFiles by files count now status new_files → KeepsFiles asked files count now status new_files
-files_kept asked by is files count now status new_files k = subst (λ (x : Asked). KeepsFiles x files count now status new_files) is k
+pub files_kept : (asked by : Asked) → by ≡ asked → (files : Option Files) (count now status : ℕ) (new_files : Option Files) (old new : Option (List ℕ)) → KeepsFiles by files count now status new_files old new
+    → KeepsFiles asked files count now status new_files old new
+files_kept asked by is files count now status new_files old new k = subst (λ (x : Asked). KeepsFiles x files count now status new_files old new) is k
+
+pub among : (asked by : Asked) → by ≡ asked → (status : ℕ) → Mem status (statuses_of by) → Mem status (statuses_of asked)
+among asked by is status m = subst (λ (x : Asked). Mem status (statuses_of x)) is m
+
+pub one_line : (asked by : Asked) → by ≡ asked → (status : ℕ) (old new : Option (List ℕ)) → TellsOneLine by status old new → TellsOneLine asked status old new
+one_line asked by is status old new t = subst (λ (x : Asked). TellsOneLine x status old new) is t
 
 -- ---- words of no form
+
+two_apart : (status k : ℕ) → status ≡ 2 → 2 ≢ k → status ≡ k → ⊥
+two_apart status k e f g = f (sym e ∙ g)
+
+ten_is_two : ◌≡◌ {A = ℕ} 10 2 → ⊥
+ten_is_two e = omega arith
 
 is_bad : (asked : Asked) → Bad ≡ asked → (before : Files) → IsAnswer before asked (record { text = bad_line; status = 2; files = before })
 is_bad asked e before = subst (λ (a : Asked). IsAnswer before a (record { text = bad_line; status = 2; files = before })) e bad_words
@@ -61,6 +78,26 @@ bad_ends asked e (Some before) status is new_files same old new shown =
 pub bad_fronts : (asked : Asked) → Bad ≡ asked → (files : Option Files) (count now : ℕ) (old new : Option (List ℕ)) → ShowsFront old new bad_line → ShowsSome asked files count now old new
 bad_fronts asked e None count now old new front = tt
 bad_fronts asked e (Some before) count now old new front = inl (record { text = bad_line; status = 2; files = before }, is_bad asked e before, front)
+
+-- its line was written, or a front of it
+pub bad_told : (status : ℕ) (old new : Option (List ℕ)) (line : List ℕ) → line ≡ bad_line → (status ≢ 8 → status ≢ 10 → ShowsAll old new line) → ShowsFront old new line → TellsBadWords status old new
+bad_told status old new line is all some = record {
+  whole = λ two. subst (ShowsAll old new) is (all (λ h. two_apart status 8 two (λ k. omega arith) h) (λ h. two_apart status 10 two (λ k. omega arith) h));
+  front = subst (ShowsFront old new) is some;
+}
+
+-- or nothing was
+pub bad_untold : (written : Option (List ℕ)) → TellsBadWords 10 written written
+bad_untold written = record { whole = λ two. absurd (ten_is_two two); front = shows_nothing written bad_line }
+
+-- with the status of such words, or since the sink failed or memory ran out
+by_failures : (status : ℕ) → (status ≢ 8 → status ≢ 10 → status ≡ 2) → (a b : Bool) → (status == 8) ≡ a → (status == 10) ≡ b → Mem status (statuses_of Bad)
+by_failures status is true b e f = inr (inl (eqb-true status 8 e))
+by_failures status is false true e f = inr (inr (inl (eqb-true status 10 f)))
+by_failures status is false false e f = inl (is (differs status 8 e) (differs status 10 f))
+
+pub bad_status : (status : ℕ) → (status ≢ 8 → status ≢ 10 → status ≡ 2) → Mem status (statuses_of Bad)
+bad_status status is = by_failures status is (status == 8) (status == 10) refl refl
 
 -- where nothing was written, a front of the answer's text was
 pub none_written : (asked : Asked) → HasMains asked → (files : Option Files) (count now : ℕ) (written : Option (List ℕ)) → ShowsSome asked files count now written written

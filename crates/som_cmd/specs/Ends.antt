@@ -33,7 +33,7 @@ pub record AreImagesOf (asked : Asked) (files : Option Files) (p : ClientProgram
   pub asked_is : asked ≡ Run client library fuel
   pub images : AreFirstImages told client library p r
 
--- an image is to be shown, and the store holds that of the release, which is within the limits of images and conforms
+-- an image is to be shown, and the store holds that of the release, which conforms
 pub record IsImageOf (asked : Asked) (files : Option Files) (r : Release) : Type 0 where
   pub told : Files
   pub files_are : files ≡ Some told

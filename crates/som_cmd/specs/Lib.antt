@@ -3,3 +3,4 @@ pub mod Answer
 pub mod Cause
 pub mod Ends
 pub mod PutEnds
+pub mod Refused

@@ -11,13 +11,13 @@ use Rattle.som_build.specs.PutEnds as build
 use Rattle.som_cmd.specs.Words.{Asked, Run, Show, Check, Library, Client, Bad}
 
 -- the files after a call: no command but `library` and `client` changes any
-abbrev pub KeepsFiles : Asked → Option Files → ℕ → ℕ → ℕ → Option Files → Type 0
-KeepsFiles (Run client library fuel) files before now status new = new ≡ files
-KeepsFiles (Show image) files before now status new = new ≡ files
-KeepsFiles (Check images) files before now status new = new ≡ files
-KeepsFiles Bad files before now status new = new ≡ files
-KeepsFiles (Library out names) files before now status new = LeavesFilesTold (λ told. AreCompiled told names) files out before now status new
-KeepsFiles (Client out library names) files before now status new = LeavesFilesTold (λ told. IsClientCompiled told library names) files out before now status new
+abbrev pub KeepsFiles : Asked → Option Files → ℕ → ℕ → ℕ → Option Files → Option (List ℕ) → Option (List ℕ) → Type 0
+KeepsFiles (Run client library fuel) files before now status new_files old new = new_files ≡ files
+KeepsFiles (Show image) files before now status new_files old new = new_files ≡ files
+KeepsFiles (Check images) files before now status new_files old new = new_files ≡ files
+KeepsFiles Bad files before now status new_files old new = new_files ≡ files
+KeepsFiles (Library out names) files before now status new_files old new = LeavesFilesTold (λ told. AreCompiled told names) files out before now status new_files old new
+KeepsFiles (Client out library names) files before now status new_files old new = LeavesFilesTold (λ told. IsClientCompiled told library names) files out before now status new_files old new
 
 -- texts are to be compiled, and the store holds texts that stand for the release
 pub record AreTextsOf (asked : Asked) (files : Option Files) (out : List ℕ) (r : Release) : Type 0 where

@@ -3,9 +3,11 @@ ghost use Rattle.som_check.specs.CheckEnds.{TellsAccepted, TellsBreach};
 ghost use Rattle.som_check.specs.ShowEnds.{ShowsProgram, ShowsRelease};
 ghost use Rattle.som_cmd.specs.Ends.{AreChecked, AreImagesOf, EndsAsTold, IsImageOf, IsImageOfClient, ShowsSome, StoreFails};
 ghost use Rattle.som_cmd.specs.PutEnds.{AreClientTextsOf, AreTextsOf, KeepsFiles, PutsProgram, PutsRelease};
+ghost use Rattle.som_cmd.specs.Refused.{TellsBadWords, TellsOneLine, statuses_of};
 ghost use Rattle.som_cmd.specs.Words.{Bad, asked};
 ghost use Rattle.som_io.specs.Outside.{Rose};
 ghost use Rattle.som_model.specs.Compatible.{CompatBreach};
+ghost use Rattle.som_model.specs.Lists.{Mem};
 ghost use Rattle.som_model.specs.declared.program.ClientProgram.{ClientProgram};
 ghost use Rattle.som_model.specs.declared.program.Release.{Release};
 ghost use Rattle.som_run.specs.RunEnds.{RunsAs};
@@ -20,6 +22,47 @@ use som_model::{List, Text};
 use som_run::run_client;
 use som_steps::{line_of, say};
 use std::alloc::Global;
+
+// Does what the words ask for: what the call comes to, in the words of the command that it asks for.
+fn do_command<S: Store, K: Sink>(
+    alloc: Global,
+    words: &List<Text>,
+    store: &mut S,
+    out: &mut K,
+) -> u8
+    ensures answered { result ≢ 6 → result ≢ 8 → result ≢ 10 →
+        EndsAsTold (asked words.now) (S.files store.old) result (S.files store.new) (K.written out.old) (K.written out.new) }
+    ensures statuses { Mem result (statuses_of (asked words.now)) }
+    ensures store_failed { result ≡ 6 → StoreFails (asked words.now) (S.files store.old) (S.faults store.old) (S.faults store.new) (K.written out.old) (K.written out.new) }
+    ensures sink_failed { result ≡ 8 → Rose (K.faults out.old) (K.faults out.new) }
+    ensures front { (result ≡ 8) ⊎ (result ≡ 10) → ShowsSome (asked words.now) (S.files store.old) (S.faults store.old) (S.faults store.new) (K.written out.old) (K.written out.new) }
+    ensures bad_words { result ≡ 2 → asked words.now ≡ Bad }
+    ensures refuses_bad_words { asked words.now ≡ Bad → result ≢ 8 → result ≢ 10 → result ≡ 2 }
+    ensures bad_text { asked words.now ≡ Bad → TellsBadWords result (K.written out.old) (K.written out.new) }
+    ensures one_line { TellsOneLine (asked words.now) result (K.written out.old) (K.written out.new) }
+    ensures calm { S.calm store.old → K.calm out.old → IsTrue (is_calm_status result) }
+    ensures files { KeepsFiles (asked words.now) (S.files store.old) (S.faults store.old) (S.faults store.new) result (S.files store.new) (K.written out.old) (K.written out.new) }
+{
+    match command_of(words) {
+        Command::Run {
+            client,
+            library,
+            fuel,
+        } => run_client(alloc, client, library, fuel, store, out),
+        Command::Show { image } => show_image(alloc, image, store, out),
+        Command::Check { images } => check_images(alloc, images, store, out),
+        Command::Library { out: name, files } => build_library(alloc, name, files, store, out),
+        Command::Client {
+            out: name,
+            library,
+            files,
+        } => build_client(alloc, name, library, files, store, out),
+        Command::Bad => match line_of(alloc, b"som: bad command line") {
+            Ok(line) => say(out, &line, 2),
+            Err(_) => 10,
+        },
+    }
+}
 
 /// Does what the words ask for, with the files of a store and the text to a sink, and answers the status.
 pub fn run_som<S: Store, K: Sink>(
@@ -62,6 +105,9 @@ pub fn run_som<S: Store, K: Sink>(
     ensures client_compiled { (name : Seq ℕ) (p : ClientProgram) → AreClientTextsOf (asked words.now) (S.files store.old) name p
         → result ≢ 6 → result ≢ 8 → result ≢ 10 → PutsProgram (S.files store.old) name p result (S.files store.new) (K.written out.old) (K.written out.new) }
 
+    // Each command ends with one of these statuses.
+    ensures statuses { Mem result (statuses_of (asked words.now)) }
+
     // The store failed in this call, and the line that says so is all that was written.
     ensures store_failed { result ≡ 6 → StoreFails (asked words.now) (S.files store.old) (S.faults store.old) (S.faults store.new) (K.written out.old) (K.written out.new) }
 
@@ -75,29 +121,17 @@ pub fn run_som<S: Store, K: Sink>(
     ensures bad_words { result ≡ 2 → asked words.now ≡ Bad }
     ensures refuses_bad_words { asked words.now ≡ Bad → result ≢ 8 → result ≢ 10 → result ≡ 2 }
 
+    // That is told by one line, which is all that is written.
+    ensures bad_text { asked words.now ≡ Bad → TellsBadWords result (K.written out.old) (K.written out.new) }
+
+    // A run that is refused is told by one line alone.
+    ensures one_line { TellsOneLine (asked words.now) result (K.written out.old) (K.written out.new) }
+
     // Over a store and a sink of which nothing is set to fail, neither is said to fail.
     ensures calm { S.calm store.old → K.calm out.old → IsTrue (is_calm_status result) }
 
-    // No file is changed, but by `library` and `client`, which put an image at status 0, or whose put failed in this call.
-    ensures files { KeepsFiles (asked words.now) (S.files store.old) (S.faults store.old) (S.faults store.new) result (S.files store.new) }
+    // No file is changed, but by `library` and `client`, which put an image at status 0, or whose put failed in this call, and then what was written says so.
+    ensures files { KeepsFiles (asked words.now) (S.files store.old) (S.faults store.old) (S.faults store.new) result (S.files store.new) (K.written out.old) (K.written out.new) }
 {
-    match command_of(words) {
-        Command::Run {
-            client,
-            library,
-            fuel,
-        } => run_client(alloc, client, library, fuel, store, out),
-        Command::Show { image } => show_image(alloc, image, store, out),
-        Command::Check { images } => check_images(alloc, images, store, out),
-        Command::Library { out: name, files } => build_library(alloc, name, files, store, out),
-        Command::Client {
-            out: name,
-            library,
-            files,
-        } => build_client(alloc, name, library, files, store, out),
-        Command::Bad => match line_of(alloc, b"som: bad command line") {
-            Ok(line) => say(out, &line, 2),
-            Err(_) => 10,
-        },
-    }
+    do_command(alloc, words, store, out)
 }

@@ -1,4 +1,5 @@
 mod RunLaws
+mod RunRefusals
 mod RunMeaning
 mod ClientLaws
 mod LibraryLaws

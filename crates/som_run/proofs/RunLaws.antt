@@ -61,7 +61,7 @@ both_there : (files : Files) (later : Option Files) (c l cb lb : List ℕ) → l
 both_there files later c l cb lb same f g =
     record { client = found_by (get files c) c cb f; library = found_by (get files l) l lb (subst (λ (x : Option Files). FollowsTold x (Ok lb) (file_of l)) same g) }
 
-same_refusal : (a b : Refusal) → ◌≡◌ {A = Result (Unit {0}) Refusal} (Err a) (Err b) → b ≡ a
+pub same_refusal : (a b : Refusal) → ◌≡◌ {A = Result (Unit {0}) Refusal} (Err a) (Err b) → b ≡ a
 same_refusal a b e = cc
 
 not_refused : {B : Type 0} (stop : CommandStop) (r : Refusal) → ◌≡◌ {A = Result B CommandStop} (Err stop) (Err stops.NoMemory) → stop ≡ stops.Refused r → ⊥
@@ -82,7 +82,7 @@ client_none files c l fuel cb lb both u none (stops.Refused r) takes =
 client_none files c l fuel cb lb both u none (stops.StoreFailed line) takes = tt
 client_none files c l fuel cb lb both u none stops.NoMemory takes = tt
 
-ok_err : {A E : Type 0} (x : A) (e : E) → Err e ≡ Ok x → ⊥
+pub ok_err : {A E : Type 0} (x : A) (e : E) → Err e ≡ Ok x → ⊥
 ok_err x e p = cc
 
 -- the client is no first client image

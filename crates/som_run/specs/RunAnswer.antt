@@ -1,5 +1,5 @@
 -- What a run prints and answers: the first step that refuses, or what the client means.
-use Rattle.std.specs.Prelude.{ℕ, List, codes, Some, None, ◌≡◌}
+use Rattle.std.specs.Prelude.{ℕ, List, ◌∷◌, codes, Some, None, ◌≡◌, ◌⊎◌}
 use Rattle.std.specs.FinMap.{get}
 use Rattle.som_model.specs.declared.program.Release.{Release}
 use Rattle.som_model.specs.declared.program.ClientProgram.{ClientProgram}
@@ -11,6 +11,7 @@ use Rattle.som_first.specs.FirstImages.{IsFirstLibrary, IsFirstClient}
 use Rattle.som_steps.specs.declared.stop.Refusal.{Refusal}
 use Rattle.som_steps.specs.Endings.{refusing, Ending}
 use Rattle.som_steps.specs.Lines.{named, absent}
+use Rattle.som_steps.specs.Status.{failing_statuses}
 use Rattle.som_steps.specs.declared.stop.Why.TheVariants as why
 use Rattle.som_model.specs.RunText.{run_text, run_status, no_trace}
 
@@ -23,6 +24,14 @@ no_image name = record { line = named (codes "image 0 ") name; why = why.Image }
 -- the client wasn't compiled against the faces of the library
 abbrev pub not_same : List ℕ → Refusal
 not_same name = record { line = named (codes "not the same as ") name; why = why.Incompatible }
+
+-- what a run may be refused for: a name isn't there, an image isn't taken, or the client wasn't compiled against the faces of the library
+abbrev pub IsRunRefusal : List ℕ → List ℕ → Refusal → Type 0
+IsRunRefusal client library r = (r ≡ absent client) ⊎ (r ≡ absent library) ⊎ (r ≡ no_image client) ⊎ (r ≡ no_image library) ⊎ (r ≡ not_same library)
+
+-- the statuses of a run: it came to its end, those of its refusals, its fuel was spent, or something failed
+abbrev pub run_statuses : List ℕ
+run_statuses = 0 ∷ 4 ∷ 5 ∷ 7 ∷ 9 ∷ failing_statuses
 
 -- ---- endings
 

@@ -1,11 +1,13 @@
 ghost use Rattle.som_io.specs.Outside.{Rose};
+ghost use Rattle.som_model.specs.Lists.{Mem};
 ghost use Rattle.som_run.specs.Cause.{FailsRunning};
-ghost use Rattle.som_run.specs.RunAnswer.{IsRunAnswer};
+ghost use Rattle.som_run.specs.RunAnswer.{IsRunAnswer, IsRunRefusal, run_statuses};
 ghost use Rattle.som_run.specs.RunSteps.{RunsOn, TakesOr, spent_status};
 ghost use Rattle.som_run.specs.Taking.{IsClient, IsLibrary};
 ghost use Rattle.som_steps.specs.Answering.{AnswersTold};
 ghost use Rattle.som_steps.specs.Cause.{HasCause, IsQuiet};
 ghost use Rattle.som_steps.specs.Outcomes.{EndsAsTold, ShowsSome, StoreFails};
+ghost use Rattle.som_steps.specs.Refusing.{RefusesAs, TellsRefusal};
 ghost use Rattle.som_steps.specs.Status.{end_status, is_calm_status};
 ghost use Rattle.std.specs.Prelude.{IsTrue, List as Seq, ℕ, ◌≡◌, ◌≢◌, ◌≤◌, ◌⊎◌};
 
@@ -75,7 +77,7 @@ fn run_on(
 }
 
 // What a client prints on a library.
-#[tactic(auto, using(crate::proofs::RunLaws::client_missing, crate::proofs::RunLaws::library_missing, crate::proofs::RunLaws::client_refused_by, crate::proofs::RunLaws::library_refused_by))]
+#[tactic(auto, using(crate::proofs::RunLaws::client_missing, crate::proofs::RunLaws::library_missing, crate::proofs::RunLaws::client_refused_by, crate::proofs::RunLaws::library_refused_by, crate::proofs::RunRefusals::client_absent, crate::proofs::RunRefusals::library_absent, crate::proofs::RunRefusals::client_not_taken, crate::proofs::RunRefusals::library_not_taken))]
 fn run_output<S: Store>(
     alloc: Global,
     client: &Text,
@@ -88,6 +90,7 @@ fn run_output<S: Store>(
     ensures later { S.faults store.old ≤ S.faults store.new }
     ensures cause { HasCause (FailsRunning (S.files store.old) client.now library.now) (S.faults store.old) (S.faults store.new) result }
     ensures quiet { S.calm store.old → IsQuiet result }
+    ensures refuses { RefusesAs (IsRunRefusal client.now library.now) result }
 {
     let client_bytes = fetch(alloc, client, store)?;
     let library_bytes = fetch(alloc, library, store)?;
@@ -108,6 +111,12 @@ pub fn run_client<S: Store, K: Sink>(
     // Without faults and with memory it is the answer: its text, its status, its files.
     ensures answered { result ≢ 6 → result ≢ 8 → result ≢ 10 →
         EndsAsTold (IsRunAnswer client.now library.now fuel) (S.files store.old) result (S.files store.new) (K.written out.old) (K.written out.new) }
+
+    // It ends with one of these statuses.
+    ensures statuses { Mem result run_statuses }
+
+    // A refusal is told by its one line alone.
+    ensures one_line { (result ≡ 4) ⊎ (result ≡ 5) ⊎ (result ≡ 7) → TellsRefusal (IsRunRefusal client.now library.now) result (K.written out.old) (K.written out.new) }
 
     // The store failed in this call, and the line that says so is all that was written.
     ensures store_failed { result ≡ 6 → StoreFails (FailsRunning (S.files store.old) client.now library.now) (S.faults store.old) (S.faults store.new) (K.written out.old) (K.written out.new) }

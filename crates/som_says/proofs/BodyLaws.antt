@@ -1,8 +1,7 @@
 -- The bodies of a class of texts are what the texts say.
-use Rattle.std.proofs.Common.{◌≡◌, ℕ, zero, suc, ◌==◌, inl, inr, Bool, true, false, if◌then◌else◌, List, [], ◌∷◌, ◌++◌, length, map, flat_map, Option, Some, None, is_some, Ok, Err, refl, sym, ap, ◌∙◌, subst, arith}
+use Rattle.std.proofs.Common.{◌≡◌, ℕ, ◌==◌, inl, inr, Bool, true, false, if◌then◌else◌, List, [], ◌∷◌, ◌++◌, length, map, flat_map, Option, Some, None, is_some, Ok, Err, refl, sym, ap, ◌∙◌, subst, arith}
 use Rattle.std.specs.Str.{bytes_eq}
 use Rattle.std.proofs.lemmas.Bool.{eqb-true}
-use Rattle.som_model.specs.declared.key.MethodRef.{MethodRef}
 use Rattle.som_model.specs.declared.key.Module.{Module}
 use Rattle.som_model.specs.declared.key.ValueType.{ValueType}
 use Rattle.som_model.specs.declared.syntax.Block.{Block}
@@ -18,40 +17,45 @@ use Rattle.som_model.specs.declared.class.Way.{Way}
 use Rattle.som_model.specs.declared.program.Interface.{Interface}
 use Rattle.som_model.specs.Class.{Class, class_in, introduced, introduced_sig}
 use Rattle.som_model.specs.Classes.{interface_classes}
-use Rattle.som_model.specs.Kernel.{kernel}
 use Rattle.som_model.specs.Lists.{Mem, doubles, first}
-use Rattle.som_model.specs.Owner.{entry_at, owner, sig_of}
+use Rattle.som_model.specs.Owner.{owner, sig_of}
 use Rattle.som_model.specs.Steps.{◌>>=◌}
 use Rattle.som_model.specs.Typing.{in_body}
-use Rattle.som_laws.proofs.Members.{mem_right}
+use Rattle.som_laws.proofs.Laws.{among_mem}
 use Rattle.som_read.specs.declared.tree.TypeName.{TypeName}
 use Rattle.som_read.specs.declared.tree.Word.{Word}
 use Rattle.som_idl.specs.declared.tree.Export.TheVariants as exports
 use Rattle.som_idl.specs.declared.tree.IdlInterface.{IdlInterface}
 use Rattle.som_body.specs.declared.tree.BodyText.{BodyText}
-use Rattle.som_rules.specs.Plainly.{ClassesHold, Introduces}
+use Rattle.som_rules.specs.Plainly.{ClassesHold}
 use Rattle.som_rules.proofs.Before.{none_both}
 use Rattle.som_rules.proofs.Owners.{flat_none}
 use Rattle.som_scope.specs.ClassNames.{type_of}
 use Rattle.som_scope.specs.Words.{words}
 use Rattle.som_sema.specs.Building.{after_base, declarations, module_over, texts_breach}
-use Rattle.som_drafts.specs.Drafts.{InterfaceDraft, getter, setter, variables}
-use Rattle.som_sema.specs.Finished.{selects_at}
+use Rattle.som_drafts.specs.Drafts.{InterfaceDraft, draft_of, variables}
+use Rattle.som_drafts.specs.Items.{chosen, overridden}
+use Rattle.som_sema.specs.Finished.{override_of, selects_at}
 use Rattle.som_sema.proofs.TextBases.{demanded_text}
+use Rattle.som_sema.proofs.TextInherited.{overridden_says}
+use Rattle.som_rules.specs.Places.{with_kernel}
+use Rattle.som_rules.proofs.PlainLists.{mem_map}
 use Rattle.som_forms.specs.Expressions.{Among}
-use Rattle.som_forms.specs.Locals.{Names, kinds_of, names_of}
+use Rattle.som_forms.specs.Locals.{names_of}
 use Rattle.som_forms.specs.MethodBody.{elaborated_body, parameters}
 use Rattle.som_forms.specs.Statements.{Breaks, elaborated_block}
 use Rattle.som_forms.proofs.Went.{same_answer, went}
 use Rattle.som_elab.specs.Accessors.{Access, accessor_body, attribute_accessors, body_of, place_of}
-use Rattle.som_elab.specs.Bodies.{classes_over, drafts_over, entry_has_one, has_one, text_s13, text_s14, texts_for}
+use Rattle.som_elab.specs.Bodies.{classes_over, drafts_over, entry_has_one, has_one, operations, text_s13, text_s14, texts_for}
 use Rattle.som_elab.specs.Elaboration.{among_over, elaborated_class, entry_bodies, entry_body, override_block, override_blocks, text_block, with_blocks}
 use Rattle.som_elab.proofs.ClassBodies.{kinds_are, refused_ok}
 use Rattle.som_elab.proofs.Declared.{operation_there, own, variables_apart}
-use Rattle.som_elab.proofs.Fitting.{Accessed, OfAttribute, accessed, at_place, introduced_there, made, variable_made}
+use Rattle.som_elab.proofs.Fitting.{accessed, at_place, introduced_there, made, variable_made}
 use Rattle.som_elab.proofs.Signatures.{as_many, body_signed, draft_there, is_for, operation_signed, override_has_sig}
-use Rattle.som_says.specs.Named.{HasVariable}
-use Rattle.som_says.specs.Bodies.{BodySays, EntriesSay, HasAttribute, MethodSays, OverrideSays, OverridesSay, TextSays, a_getter, a_moved_entry, a_setter, an_introduced_entry, an_operation, no_entry, no_override, one_override}
+use Rattle.som_says.specs.Keeping.{known_classes}
+use Rattle.som_says.specs.Named.{HasMethod, HasVariable}
+use Rattle.som_says.proofs.MethodLaws.{has_method, inherited_here, owner_own, selects_say}
+use Rattle.som_says.specs.Bodies.{BodySays, EntriesSay, MethodSays, OverrideSays, OverridesSay, TextSays, a_getter, a_moved_entry, a_setter, an_introduced_entry, an_operation, no_entry, no_override, one_override}
 use Rattle.som_says.specs.Modules.{ClassSays}
 use Rattle.som_says.proofs.StatementLaws.{text_says}
 
@@ -159,7 +163,8 @@ module _ (m : Module) (base : Interface) (is : List IdlInterface) (bs : List Bod
       let t = went (text_block a c name sig (texts_for bs d.class.face.name name)) (λ block. Ok (bodies.User block)) body h in
       let signed = operation_signed m base is holds i there name sig way n none in
       subst (MethodSays a bs c i name sig) (same_answer t.further)
-      (an_operation (method_text a bs c name sig (texts_for bs d.class.face.name name) refl (operation_counted name sig way n none)
+      (an_operation ((among_mem name (operations i)).0 (operation_there m base is i name sig way n none))
+      (method_text a bs c name sig (texts_for bs d.class.face.name name) refl (operation_counted name sig way n none)
       (as_many m base is holds bs s13 i there name sig signed) t.value t.first))
 
   method_says : (name : List ℕ) (sig : Sig) (way : Way) (body : Body) → Mem (entries.Introduced name sig way) d.class.face.entries → (o : Option Body) → body_of d name ≡ o → entry_body a bs c name sig o ≡ Ok body
@@ -179,33 +184,50 @@ module _ (m : Module) (base : Interface) (is : List IdlInterface) (bs : List Bod
 
   -- ---- methods that it overrides
 
-  override_says : (o p : Override) → Mem o d.class.overrides → (ts : List BodyText) → texts_for bs d.class.face.name o.method.name ≡ ts → length ts ≡ 1
-      → override_block a bs c o (sig_of a.classes (owner a.classes o.method)) ≡ Ok p → OverrideSays a bs c o p
-  override_says o p n [] e one h = absurd (omega (arith, one))
-  override_says o p n (b ∷ rest) e one h =
-      let s = body_signed m base is holds bs s13 i there o.method.name b rest e in
-      let signed = override_has_sig m base is holds i there o n s.0 s.1 in
+  abbrev known : List Class
+  known = with_kernel (known_classes m base is)
+
+  abbrev declared_override : List ℕ → Override
+  declared_override name = override_of known c.key name
+
+  override_there : (name : List ℕ) → Mem name (overridden i.items) → Mem (declared_override name) d.class.overrides
+  override_there name n = mem_map declared_override name (overridden i.items) n
+
+  override_says : (name : List ℕ) (p : Override) → Mem name (overridden i.items) → (ts : List BodyText) → texts_for bs d.class.face.name name ≡ ts → length ts ≡ 1
+      → override_block a bs c (declared_override name) (sig_of a.classes (owner a.classes (declared_override name).method)) ≡ Ok p → OverrideSays a bs c name p
+  override_says name p n [] e one h = absurd (omega (arith, one))
+  override_says name p n (b ∷ rest) e one h =
+      let o = declared_override name in
+      let s = body_signed m base is holds bs s13 i there name b rest e in
+      let signed = override_has_sig m base is holds i there o (override_there name n) s.0 s.1 in
       let k : override_block a bs c o (Some s.0) ≡ Ok p = ap (override_block a bs c o) (sym signed) ∙ h in
-      let t = went (text_block a c o.method.name s.0 (texts_for bs d.class.face.name o.method.name)) (λ block. Ok (record { method = o.method; block = block })) p k in
-      subst (OverrideSays a bs c o) (same_answer t.further) (record {
-        method = refl;
+      let t = went (text_block a c name s.0 (texts_for bs d.class.face.name name)) (λ block. Ok (record { method = o.method; block = block })) p k in
+      let has = has_method m base is holds rules i there name (overridden_says (module_over m base is) known c.key (draft_of (module_over m base is) i) (inherited_here m base is holds rules i there) name n) in
+      let same : has.0 ≡ s.0 = one_sig (sym (ap introduced_sig has.2.entry) ∙ ap (sig_of a.classes) (sym (owner_own a.classes o.method has.0 has.1 has.2.entry)) ∙ signed) in
+      subst (OverrideSays a bs c name) (same_answer t.further) (record {
         sig = s.0;
-        signed = signed;
-        text = method_text a bs c o.method.name s.0 (texts_for bs d.class.face.name o.method.name) refl (ap (λ (z : List BodyText). length z) e ∙ one)
-            (as_many m base is holds bs s13 i there o.method.name s.0 s.1) t.value t.first;
+        way = has.1;
+        method = subst (λ (z : Sig). HasMethod a.classes c.key name o.method z has.1) same has.2;
+        text = method_text a bs c name s.0 (texts_for bs d.class.face.name name) refl (ap (λ (z : List BodyText). length z) e ∙ one)
+            (as_many m base is holds bs s13 i there name s.0 s.1) t.value t.first;
       })
+    where
+      one_sig : {x y : Sig} → Some x ≡ Some y → x ≡ y
+      one_sig e = let z = e in cc
 
-  override_counted : (o : Override) → Mem o d.class.overrides → length (texts_for bs d.class.face.name o.method.name) ≡ 1
-  override_counted o n = counted o.method.name (flat_none (λ (o : Override). has_one bs d o.method.name) d.class.overrides o both_counted.1 n)
+  override_counted : (name : List ℕ) → Mem name (overridden i.items) → length (texts_for bs d.class.face.name name) ≡ 1
+  override_counted name n = counted name (flat_none (λ (o : Override). has_one bs d o.method.name) d.class.overrides (declared_override name) both_counted.1 (override_there name n))
 
-  overrides_say : (os all : List Override) → ((o : Override) → Mem o os → Mem o d.class.overrides) → override_blocks a bs c os ≡ Ok all → OverridesSay a bs c os all
+  overrides_say : (names : List (List ℕ)) (all : List Override) → ((name : List ℕ) → Mem name names → Mem name (overridden i.items)) → override_blocks a bs c (map declared_override names) ≡ Ok all
+      → OverridesSay a bs c names all
   overrides_say [] all part h = subst (OverridesSay a bs c []) (same_answer h) no_override
-  overrides_say (o ∷ os) all part h =
-      let x = went (override_block a bs c o (sig_of a.classes (owner a.classes o.method))) (λ p. override_blocks a bs c os >>= λ more. Ok (p ∷ more)) all h in
-      let y = went (override_blocks a bs c os) (λ more. Ok (x.value ∷ more)) all x.further in
-      let mine = part o (inl refl) in
-      subst (OverridesSay a bs c (o ∷ os)) (same_answer y.further)
-      (one_override (override_says o x.value mine (texts_for bs d.class.face.name o.method.name) refl (override_counted o mine) x.first) (overrides_say os y.value (λ p k. part p (inr k)) y.first))
+  overrides_say (name ∷ names) all part h =
+      let o = declared_override name in
+      let x = went (override_block a bs c o (sig_of a.classes (owner a.classes o.method))) (λ p. override_blocks a bs c (map declared_override names) >>= λ more. Ok (p ∷ more)) all h in
+      let y = went (override_blocks a bs c (map declared_override names)) (λ more. Ok (x.value ∷ more)) all x.further in
+      let mine = part name (inl refl) in
+      subst (OverridesSay a bs c (name ∷ names)) (same_answer y.further)
+      (one_override (override_says name x.value mine (texts_for bs d.class.face.name name) refl (override_counted name mine) x.first) (overrides_say names y.value (λ p k. part p (inr k)) y.first))
 
   -- ---- the class
 
@@ -217,6 +239,6 @@ module _ (m : Module) (base : Interface) (is : List IdlInterface) (bs : List Bod
         face = refl;
         variables = refl;
         bodies = entries_say d.class.face.entries x.value (λ name sig way k. k) x.first;
-        overrides = overrides_say d.class.overrides y.value (λ o k. k) y.first;
-        selects = refl;
+        overrides = overrides_say (overridden i.items) y.value (λ name k. k) y.first;
+        selects = selects_say m base is holds rules i there (chosen i.items) (λ s k. k);
       })

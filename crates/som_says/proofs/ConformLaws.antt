@@ -1,5 +1,5 @@
 -- There is a release or a program for which texts stand exactly where they conform.
-use Rattle.std.proofs.Common.{◌≡◌, ℕ, ◌≤◌, inl, inr, List, [], ◌∷◌, ◌++◌, length, map, flat_map, codes, Option, Some, None, Result, Ok, Err, refl, sym, ap, ◌∙◌, subst, arith}
+use Rattle.std.proofs.Common.{◌≡◌, ℕ, inl, inr, List, [], ◌∷◌, length, codes, Option, Some, None, Result, Ok, refl, sym, ap, ◌∙◌, subst, arith}
 use Rattle.std.specs.Prelude.{◌↔◌}
 use Rattle.som_model.specs.declared.class.Body.{Body}
 use Rattle.som_model.specs.declared.class.Body.TheVariants as bodies
@@ -17,7 +17,7 @@ use Rattle.som_model.specs.declared.program.Release.{Release}
 use Rattle.som_model.specs.declared.syntax.Block.{Block}
 use Rattle.som_model.specs.Class.{Class, class_in}
 use Rattle.som_model.specs.Classes.{interface_classes}
-use Rattle.som_model.specs.Lists.{Mem, first}
+use Rattle.som_model.specs.Lists.{Mem}
 use Rattle.som_model.specs.Owner.{owner, sig_of}
 use Rattle.som_model.specs.Rules.{RuleBreach}
 use Rattle.som_model.specs.Steps.{◌>>=◌}
@@ -34,7 +34,7 @@ use Rattle.som_sema.specs.Finished.{selects_at}
 use Rattle.som_forms.specs.Expressions.{Among}
 use Rattle.som_forms.specs.MethodBody.{elaborated_body}
 use Rattle.som_forms.specs.Statements.{Told, elaborated_block}
-use Rattle.som_forms.proofs.Went.{same_answer, went}
+use Rattle.som_forms.proofs.Went.{went}
 use Rattle.som_elab.specs.Accessors.{body_of}
 use Rattle.som_elab.specs.Bodies.{bodies_breach, classes_over, drafts_over, operations, texts_for}
 use Rattle.som_elab.specs.Elaboration.{Refusal, among_over, classes_passed, elaborated_class, elaborated_classes, elaborated_each, elaborated_main, elaborated_program, elaborated_release, entry_bodies, entry_body, keeping, nothing_before, obeying, override_block, override_blocks, refused_at, text_block, with_blocks}
@@ -44,7 +44,9 @@ use Rattle.som_elab.proofs.ClassBodies.{refused_ok}
 use Rattle.som_elab.proofs.Conforms.{declarations_hold}
 use Rattle.som_elab.proofs.Declared.{drafts_are, operation_there, own}
 use Rattle.som_elab.proofs.LimitLaws.{is_at_most, limits_law, says_at_most}
-use Rattle.som_says.specs.Conforming.{BlocksStand, BodiesStand, ClientConforms, HasBody, LibraryConforms, ModuleConforms, by_operation, by_override}
+use Rattle.som_says.specs.Conforming.{BodiesStand, ClientConforms, LibraryConforms, ModuleConforms, by_operation, by_override}
+use Rattle.som_says.proofs.KeepingLaws.{keeping_law}
+use Rattle.som_says.proofs.OneBody.{counted_mem, mem_counted, one_counted}
 use Rattle.som_says.proofs.StandingLaws.{bodies_law}
 
 -- ---- steps that go well
@@ -216,22 +218,23 @@ module _ (m : Module) (base : Interface) (is : List IdlInterface) (bs : List Bod
   introduced_once r d n name sig way k none =
       let x = map_mem (own m base is) d is (subst (λ z. Mem d z) (drafts_are m base is) n) in
       let there = operation_there m base is x.0 name sig way (subst (λ (z : InterfaceDraft). Mem (entries.Introduced name sig way) z.class.face.entries) x.2 k) (subst (λ (z : InterfaceDraft). body_of z name ≡ None) x.2 none) in
-      r.once d name (Some sig) n (by_operation way (subst (λ (z : InterfaceDraft). Mem name (operations z.text)) (sym x.2) ((among_mem name (operations x.0)).0 there)) k)
+      one_counted d name bs (r.once d name (Some sig) n (by_operation way (subst (λ (z : InterfaceDraft). Mem name (operations z.text)) (sym x.2) ((among_mem name (operations x.0)).0 there)) k))
 
   overridden_once : BodiesStand (classes_over m base is) ds bs → (d : InterfaceDraft) → Mem d ds → OverriddenOnce a m bs d d.class.overrides
-  overridden_once r d n o k = r.once d o.method.name (sig_of (classes_over m base is) (owner (classes_over m base is) o.method)) n (by_override o k refl refl)
+  overridden_once r d n o k = one_counted d o.method.name bs (r.once d o.method.name (sig_of (classes_over m base is) (owner (classes_over m base is) o.method)) n (by_override o k refl refl))
 
   pub module_stands : ModuleConforms m base is bs → (cs : List ClassDecl) × (elaborated_classes m base is bs ≡ Ok cs)
   module_stands r =
-      let holds = declarations_hold m base is conforms r.rules in
+      let rules : texts_breach m base is ≡ None = (keeping_law m base is conforms).1 r.rules in
+      let holds = declarations_hold m base is conforms rules in
       let x = each_made a m bs ds (λ d n. class_made a m bs d (introduced_once r.bodies d n) (overridden_once r.bodies d n)
-      (λ name sig way b k e t. r.blocks.introduced d name sig way b n k e t) (λ o sig b k e t. r.blocks.overridden d o sig b n k e t)) in
+      (λ name sig way b k e t. let q = counted_mem d name bs b t in r.blocks.introduced d name sig way b n k e q.0 q.1) (λ o sig b k e t. let q = counted_mem d o.method.name bs b t in r.blocks.overridden d o sig b n k e q.0 q.1)) in
       let made = elaborated_each a m bs ds in
       let bodies = bodies_breach (classes_over m base is) ds bs in
       let limited = keeping (limit_passed (drafts_over m base is)) made in (
         x.0,
         kept_so (classes_passed m is) (obeying (texts_breach m base is) (obeying bodies limited)) x.0 (says_at_most (codes "classes") (most_classes m) (length is) r.few_classes)
-            (obeyed_so (texts_breach m base is) (obeying bodies limited) x.0 r.rules
+            (obeyed_so (texts_breach m base is) (obeying bodies limited) x.0 rules
             (obeyed_so bodies limited x.0 ((bodies_law m base is bs holds.classes).1 r.bodies)
             (kept_so (limit_passed (drafts_over m base is)) made x.0 ((limits_law (drafts_over m base is)).1 r.limits) x.1))),
       )
@@ -249,19 +252,19 @@ module _ (m : Module) (base : Interface) (is : List IdlInterface) (bs : List Bod
       let stand : BodiesStand (classes_over m base is) ds bs = (bodies_law m base is bs holds.classes).0 r.0 in
       record {
         few_classes = is_at_most (codes "classes") (most_classes m) (length is) p.0;
-        rules = q.0;
+        rules = (keeping_law m base is conforms).0 q.0;
         bodies = stand;
         limits = (limits_law (drafts_over m base is)).0 s.0;
         blocks = record {
-          introduced = λ d name sig way b n k e t.
+          introduced = λ d name sig way b n k e t is_of.
               (let c = each_went a m bs ds cs s.1 d n in
               let x = went (entry_bodies a bs d (class_in m d.class) d.class.face.entries) (λ all. override_blocks a bs (class_in m d.class) d.class.overrides >>= λ others. Ok (with_blocks d.class all others (selects_at a.classes (class_in m d.class).key d))) c.0 c.1 in
-              entries_stood a m bs d d.class.face.entries x.value (introduced_once stand d n) x.first name sig way b k e t);
-          overridden = λ d o sig b n k e t.
+              entries_stood a m bs d d.class.face.entries x.value (introduced_once stand d n) x.first name sig way b k e (mem_counted d name bs b t is_of));
+          overridden = λ d o sig b n k e t is_of.
               (let c = each_went a m bs ds cs s.1 d n in
               let x = went (entry_bodies a bs d (class_in m d.class) d.class.face.entries) (λ all. override_blocks a bs (class_in m d.class) d.class.overrides >>= λ others. Ok (with_blocks d.class all others (selects_at a.classes (class_in m d.class).key d))) c.0 c.1 in
               let y = went (override_blocks a bs (class_in m d.class) d.class.overrides) (λ others. Ok (with_blocks d.class x.value others (selects_at a.classes (class_in m d.class).key d))) c.0 x.further in
-              overrides_stood a m bs d d.class.overrides y.value (overridden_once stand d n) y.first o sig b k e t);
+              overrides_stood a m bs d d.class.overrides y.value (overridden_once stand d n) y.first o sig b k e (mem_counted d o.method.name bs b t is_of));
         };
       }
 

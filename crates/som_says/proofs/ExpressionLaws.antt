@@ -1,5 +1,5 @@
 -- What the text of an expression comes to is what it says.
-use Rattle.std.proofs.Common.{◌≡◌, ℕ, List, [], ◌∷◌, map, Ok, Err, refl, sym, ap, ◌∙◌, subst}
+use Rattle.std.proofs.Common.{◌≡◌, List, [], ◌∷◌, map, Ok, Err, refl, sym, ap, ◌∙◌, subst}
 use Rattle.std.specs.Int.{w32, cast_signed}
 use Rattle.som_model.specs.declared.key.ClassKey.{ClassKey}
 use Rattle.som_model.specs.declared.key.ValueType.TheVariants as types
@@ -9,7 +9,7 @@ use Rattle.som_model.specs.declared.class.Way.{Way}
 use Rattle.som_model.specs.declared.class.Way.TheVariants as ways
 use Rattle.som_model.specs.Kernel.{som_class_mgr}
 use Rattle.som_model.specs.Steps.{◌>>=◌}
-use Rattle.som_model.specs.Typing.{ClassFacts, CodePlace, ExprType, Of, PlainNil, Typed, there, all_fit, local_type, own_variable, self_type, unary_type, binary_type, host_type, new_type, class_type, cast_type, isa_type, proxy_type, offset_call_type, named_call_type, parent_call_type, parents_call_type}
+use Rattle.som_model.specs.Typing.{ClassFacts, CodePlace, Of, PlainNil, Typed, there, all_fit, local_type, own_variable, self_type, unary_type, binary_type, host_type, new_type, class_type, cast_type, isa_type, proxy_type, offset_call_type, named_call_type, parent_call_type, parents_call_type}
 use Rattle.som_read.specs.declared.tree.Word.{Word}
 use Rattle.som_body.specs.declared.tree.ExprText.{ExprText, roll-ExprText, map-ExprText, ind-ExprText, fold-roll-ExprText}
 use Rattle.som_body.specs.declared.tree.ExprText.TheOpen.{ExprText-F}

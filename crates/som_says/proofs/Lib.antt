@@ -1,7 +1,11 @@
 pub mod NamedLaws
 pub mod ExpressionLaws
 pub mod StatementLaws
+pub mod InheritedLaws
+pub mod KeepingLaws
+pub mod MethodLaws
 pub mod BodyLaws
 pub mod ModuleLaws
+pub mod OneBody
 pub mod StandingLaws
 pub mod ConformLaws

@@ -1,5 +1,5 @@
 -- Releases and client programs are what their texts say.
-use Rattle.std.proofs.Common.{◌≡◌, inl, inr, List, [], ◌∷◌, map, flat_map, None, Ok, refl, sym, ap, ◌∙◌, subst}
+use Rattle.std.proofs.Common.{◌≡◌, inl, inr, List, [], ◌∷◌, map, flat_map, None, Ok, refl, sym, subst}
 use Rattle.std.specs.Prelude.{codes}
 use Rattle.som_model.specs.declared.class.ClassDecl.{ClassDecl}
 use Rattle.som_model.specs.declared.key.Module.{Module}
@@ -16,7 +16,6 @@ use Rattle.som_body.specs.declared.tree.BlockText.{BlockText}
 use Rattle.som_body.specs.declared.tree.BodyText.{BodyText}
 use Rattle.som_rules.specs.Faces.{faces_breach}
 use Rattle.som_rules.proofs.PlainFaces.{or_none}
-use Rattle.som_rules.proofs.PlainLists.{map_mem}
 use Rattle.som_sema.specs.Building.{texts_breach}
 use Rattle.som_drafts.specs.Drafts.{InterfaceDraft}
 use Rattle.som_forms.specs.Statements.{elaborated_block}
@@ -29,7 +28,6 @@ use Rattle.som_elab.proofs.ClassBodies.{refused_ok}
 use Rattle.som_elab.proofs.Conforms.{declarations_hold}
 use Rattle.som_elab.proofs.Declared.{drafts_are, own}
 use Rattle.som_says.specs.Modules.{ClassSays, ClassesSay, ProgramSays, ReleaseSays, no_class, one_class}
-use Rattle.som_says.specs.Statements.{BlockSays}
 use Rattle.som_says.proofs.BodyLaws.{class_says}
 use Rattle.som_says.proofs.StatementLaws.{text_says}
 

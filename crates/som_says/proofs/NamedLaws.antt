@@ -1,8 +1,7 @@
 -- What is found by a name is of that name.
-use Rattle.std.proofs.Common.{◌≡◌, ℕ, zero, suc, ◌+◌, Bool, true, false, if◌then◌else◌, List, [], ◌∷◌, slice_get, Option, Some, None, Ok, Err, refl, sym, ap, ◌∙◌, subst, arith}
+use Rattle.std.proofs.Common.{◌≡◌, ℕ, suc, ◌+◌, Bool, true, false, if◌then◌else◌, List, [], ◌∷◌, slice_get, Option, Some, None, Ok, refl, sym, ap, ◌∙◌, subst, arith}
 use Rattle.std.specs.Str.{bytes_eq}
 use Rattle.som_model.specs.declared.key.ClassKey.{ClassKey}
-use Rattle.som_model.specs.declared.class.ClassDecl.{ClassDecl}
 use Rattle.som_model.specs.declared.class.Entry.{Entry}
 use Rattle.som_model.specs.declared.class.Entry.TheVariants as entries
 use Rattle.som_model.specs.declared.class.Variable.{Variable}
@@ -13,12 +12,12 @@ use Rattle.som_model.specs.Keys.{same_key}
 use Rattle.som_model.specs.Lists.{place_from}
 use Rattle.som_model.specs.Owner.{entry_at, introduces}
 use Rattle.som_model.specs.Resolution.{byname}
-use Rattle.som_model.specs.Typing.{CodePlace, ExprType, Of, PlainNil, Ruled, there}
+use Rattle.som_model.specs.Typing.{CodePlace, ExprType, Of, PlainNil, there}
 use Rattle.som_model.proofs.KeyLaws.{exact_bytes, exact_keys}
 use Rattle.som_laws.proofs.Members.{find_first}
 use Rattle.som_forms.specs.Locals.{Names, local_of, names_of}
 use Rattle.som_forms.specs.Methods.{Method, introduced_method, method_by, method_for, method_of, own_method, parent_place, variable_place}
-use Rattle.som_says.specs.Named.{HasMethod, HasVariable, IsLocal, IsParent, IsVariable}
+use Rattle.som_says.specs.Named.{HasMethod, IsLocal, IsParent, IsVariable}
 
 -- ---- places
 

@@ -1,6 +1,5 @@
 -- What the text of a block comes to is what it says.
-use Rattle.std.proofs.Common.{◌≡◌, ℕ, Bool, true, false, not, ◌&&◌, if◌then◌else◌, nat_lt, List, [], ◌∷◌, ◌++◌, length, map, slice_get, Option, Some, None, Ok, Err, refl, sym, ap, ◌∙◌, subst}
-use Rattle.som_model.specs.declared.key.ValueType.{ValueType}
+use Rattle.std.proofs.Common.{◌≡◌, Bool, true, false, not, ◌&&◌, if◌then◌else◌, nat_lt, List, [], ◌∷◌, ◌++◌, length, map, slice_get, Some, None, Ok, Err, sym, ap, ◌∙◌, subst}
 use Rattle.som_model.specs.declared.syntax.Block.{Block}
 use Rattle.som_model.specs.declared.syntax.Stmt.{Stmt}
 use Rattle.som_model.specs.declared.syntax.Stmt.TheVariants as stmts
@@ -19,7 +18,7 @@ use Rattle.som_scope.specs.ClassNames.{type_of}
 use Rattle.som_forms.specs.Locals.{Named, Names, in_scope, kinds_of, local_of}
 use Rattle.som_forms.specs.Methods.{variable_place}
 use Rattle.som_forms.specs.Expressions.{Among, Elaborated, elaborated, elaborated_value, facts_among}
-use Rattle.som_forms.specs.Statements.{BlockElab, ManyLocals, Placed, StmtElab, Told, block_step, call_statement, declared, elaborated_block, elaborated_stmt, freed, in_turn, placed, printed, ruled, set_local, set_variable, stmt_step, value_return, with_local}
+use Rattle.som_forms.specs.Statements.{BlockElab, ManyLocals, Placed, StmtElab, block_step, call_statement, declared, elaborated_block, elaborated_stmt, freed, in_turn, placed, printed, ruled, set_local, set_variable, stmt_step, value_return, with_local}
 use Rattle.som_forms.proofs.Went.{held, same_answer, went}
 use Rattle.som_says.specs.Expressions.{ExprSays}
 use Rattle.som_says.specs.Statements.{BlockSays, StmtSays, StmtsSay, a_block, a_call, a_choice, a_declaration, a_free, a_loop, a_print, a_return, a_return_with_value, a_variable_assignment, an_assignment, local_named, no_statement, one_statement}

@@ -1,5 +1,5 @@
 -- What the texts of bodies say of the methods of a class.
-use Rattle.std.specs.Prelude.{◌≡◌, ℕ, Bool, true, false, List, [], ◌∷◌, ◌++◌}
+use Rattle.std.specs.Prelude.{◌≡◌, ℕ, Bool, false, List, [], ◌∷◌, ◌++◌, slice_get, Some}
 use Rattle.som_model.specs.declared.key.ClassKey.{ClassKey}
 use Rattle.som_model.specs.declared.syntax.Block.{Block}
 use Rattle.som_model.specs.declared.class.Body.{Body}
@@ -7,13 +7,12 @@ use Rattle.som_model.specs.declared.class.Body.TheVariants as bodies
 use Rattle.som_model.specs.declared.class.Entry.{Entry}
 use Rattle.som_model.specs.declared.class.Entry.TheVariants as entries
 use Rattle.som_model.specs.declared.class.Override.{Override}
+use Rattle.som_model.specs.declared.class.Select.{Select}
 use Rattle.som_model.specs.declared.class.Sig.{Sig}
 use Rattle.som_model.specs.declared.class.Way.{Way}
 use Rattle.som_model.specs.Class.{Class}
 use Rattle.som_model.specs.Lists.{Mem}
-use Rattle.som_model.specs.Owner.{owner, sig_of}
 use Rattle.som_model.specs.Typing.{in_body}
-use Rattle.std.specs.Prelude.{Some}
 use Rattle.som_read.specs.declared.tree.TypeName.{TypeName}
 use Rattle.som_read.specs.declared.tree.Word.{Word}
 use Rattle.som_idl.specs.declared.tree.Export.TheVariants as exports
@@ -21,9 +20,11 @@ use Rattle.som_idl.specs.declared.tree.IdlInterface.{IdlInterface}
 use Rattle.som_body.specs.declared.tree.BodyText.{BodyText}
 use Rattle.som_scope.specs.Words.{words}
 use Rattle.som_drafts.specs.Drafts.{getter, setter}
-use Rattle.som_forms.specs.Expressions.{Among}
+use Rattle.som_drafts.specs.Items.{Chosen}
+use Rattle.som_forms.specs.Expressions.{Among, class_named}
 use Rattle.som_forms.specs.Locals.{Names, kinds_of, names_of}
-use Rattle.som_says.specs.Named.{HasVariable}
+use Rattle.som_elab.specs.Bodies.{operations}
+use Rattle.som_says.specs.Named.{HasMethod, HasVariable}
 use Rattle.som_says.specs.Statements.{BlockSays}
 
 -- the text of a body says a block: its parameters, with the types of the signature, are the first names in scope
@@ -51,11 +52,11 @@ module _ (a : Among) (bs : List BodyText) (c : Class) where
     pub of_method : text.method.text ≡ name
     pub says : BodySays a c sig text block
 
-  -- the body of a method that an interface introduces: an accessor reads or writes the variable of its attribute, and any other has the block of its text
+  -- the body of a method that an interface introduces: an accessor reads or writes the variable of its attribute, and an operation has the block of its text
   pub data MethodSays (i : IdlInterface) : List ℕ → Sig → Body → Type 0 where
     a_getter : {name : List ℕ} {sig : Sig} {n : ℕ} (readonly : Bool) → HasAttribute i readonly name → HasVariable c name n → MethodSays i (getter name) sig (bodies.Get n)
     a_setter : {name : List ℕ} {sig : Sig} {n : ℕ} → HasAttribute i false name → HasVariable c name n → MethodSays i (setter name) sig (bodies.Set n)
-    an_operation : {name : List ℕ} {sig : Sig} {block : Block} → TextSays name sig block → MethodSays i name sig (bodies.User block)
+    an_operation : {name : List ℕ} {sig : Sig} {block : Block} → Mem name (operations i) → TextSays name sig block → MethodSays i name sig (bodies.User block)
 
   -- a body for each method that the class introduces, in the order of its entries
   pub data EntriesSay (i : IdlInterface) : List Entry → List Body → Type 0 where
@@ -64,14 +65,26 @@ module _ (a : Among) (bs : List BodyText) (c : Class) where
     an_introduced_entry : {name : List ℕ} {sig : Sig} {way : Way} {es : List Entry} {b : Body} {made : List Body} → MethodSays i name sig b → EntriesSay i es made
         → EntriesSay i (entries.Introduced name sig way ∷ es) (b ∷ made)
 
-  -- an override is of the same method, with the block of its text
-  pub record OverrideSays (declared made : Override) : Type 0 where
-    pub method : made.method ≡ declared.method
+  -- an override is of the method of that name that the class has, with the block of its text
+  pub record OverrideSays (name : List ℕ) (made : Override) : Type 0 where
     pub sig : Sig
-    pub signed : sig_of a.classes (owner a.classes declared.method) ≡ Some sig
-    pub text : TextSays declared.method.name sig made.block
+    pub way : Way
+    pub method : HasMethod a.classes c.key name made.method sig way
+    pub text : TextSays name sig made.block
 
-  -- each in its order
-  pub data OverridesSay : List Override → List Override → Type 0 where
+  -- one for each method that is overridden, in their order
+  pub data OverridesSay : List (List ℕ) → List Override → Type 0 where
     no_override : OverridesSay [] []
-    one_override : {o p : Override} {os ps : List Override} → OverrideSays o p → OverridesSay os ps → OverridesSay (o ∷ os) (p ∷ ps)
+    one_override : {name : List ℕ} {o : Override} {names : List (List ℕ)} {os : List Override} → OverrideSays name o → OverridesSay names os → OverridesSay (name ∷ names) (o ∷ os)
+
+-- a select is of the method of that name that the class has, and of the parent that is named
+pub record SelectSays (a : Among) (c : Class) (s : Chosen) (made : Select) : Type 0 where
+  pub sig : Sig
+  pub way : Way
+  pub method : HasMethod a.classes c.key s.method made.method sig way
+  pub parent : slice_get c.decl.face.parents made.parent ≡ Some (class_named a s.parent)
+
+-- one for each that the text chooses, in their order
+pub data SelectsSay (a : Among) (c : Class) : List Chosen → List Select → Type 0 where
+  no_select : SelectsSay a c [] []
+  one_select : {s : Chosen} {made : Select} {ss : List Chosen} {all : List Select} → SelectSays a c s made → SelectsSay a c ss all → SelectsSay a c (s ∷ ss) (made ∷ all)

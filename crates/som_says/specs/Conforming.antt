@@ -1,5 +1,5 @@
 -- When the texts of a module conform, said of every interface and every body.
-use Rattle.std.specs.Prelude.{◌≡◌, ◌≤◌, ℕ, List, [], length, Option, Some, None, Ok}
+use Rattle.std.specs.Prelude.{◌≡◌, ◌≤◌, ℕ, List, [], length, slice_get, Option, Some, None, Ok}
 use Rattle.som_model.specs.declared.class.Entry.TheVariants as entries
 use Rattle.som_model.specs.declared.class.Override.{Override}
 use Rattle.som_model.specs.declared.class.Sig.{Sig}
@@ -15,17 +15,18 @@ use Rattle.som_model.specs.Typing.{in_main}
 use Rattle.som_idl.specs.declared.tree.IdlInterface.{IdlInterface}
 use Rattle.som_body.specs.declared.tree.BlockText.{BlockText}
 use Rattle.som_body.specs.declared.tree.BodyText.{BodyText}
-use Rattle.som_sema.specs.Building.{most_classes, texts_breach}
+use Rattle.som_sema.specs.Building.{most_classes}
 use Rattle.som_drafts.specs.Drafts.{InterfaceDraft}
 use Rattle.som_forms.specs.Expressions.{Among}
 use Rattle.som_forms.specs.MethodBody.{elaborated_body}
 use Rattle.som_forms.specs.Statements.{elaborated_block}
 use Rattle.som_elab.specs.Accessors.{body_of}
-use Rattle.som_elab.specs.Bodies.{classes_over, drafts_over, operations, texts_for}
+use Rattle.som_elab.specs.Bodies.{classes_over, drafts_over, operations}
 use Rattle.som_elab.specs.Elaboration.{among_over, nothing_before}
 use Rattle.som_elab.specs.PlainLimits.{LimitsKept}
+use Rattle.som_says.specs.Keeping.{TextsKeep}
 
--- a method of which a class has a body in the texts, and its signature: the class introduces it by an operation, or overrides it
+-- a method of which a class has a body in the texts, and its signature: the class introduces it by an operation, or overrides it without `select`
 pub data HasBody (cs : List Class) (d : InterfaceDraft) (name : List ℕ) : Option Sig → Type 0 where
   by_operation : {sig : Sig} (way : Way) → Mem name (operations d.text) → Mem (entries.Introduced name sig way) d.class.face.entries → HasBody cs d name (Some sig)
   by_override : {sig : Option Sig} (o : Override) → Mem o d.class.overrides → o.method.name ≡ name → sig_of cs (owner cs o.method) ≡ sig → HasBody cs d name sig
@@ -39,22 +40,34 @@ pub record IsNamed (cs : List Class) (ds : List InterfaceDraft) (b : BodyText) :
   pub of_method : HasBody cs draft b.method.text (Some sig)
   pub long : length b.params ≡ length sig.params
 
+-- a body is of a method of this name of the class
+pub record IsOfMethod (d : InterfaceDraft) (name : List ℕ) (b : BodyText) : Type 0 where
+  pub of_class : b.class.text ≡ d.class.face.name
+  pub of_method : b.method.text ≡ name
+
+-- one of the bodies is of the method, and at no other place stands one
+pub record HasOneBody (bs : List BodyText) (d : InterfaceDraft) (name : List ℕ) : Type 0 where
+  pub body : BodyText
+  pub there : Mem body bs
+  pub is_of : IsOfMethod d name body
+  pub once : (i j : ℕ) (x y : BodyText) → slice_get bs i ≡ Some x → slice_get bs j ≡ Some y → IsOfMethod d name x → IsOfMethod d name y → i ≡ j
+
 -- S13: each body is one of those; S14: each of these methods has exactly one body
 pub record BodiesStand (cs : List Class) (ds : List InterfaceDraft) (bs : List BodyText) : Type 0 where
   pub named : (b : BodyText) → Mem b bs → IsNamed cs ds b
-  pub once : (d : InterfaceDraft) (name : List ℕ) (sig : Option Sig) → Mem d ds → HasBody cs d name sig → length (texts_for bs d.class.face.name name) ≡ 1
+  pub once : (d : InterfaceDraft) (name : List ℕ) (sig : Option Sig) → Mem d ds → HasBody cs d name sig → HasOneBody bs d name
 
 -- S15 to S20, and the limit of locals: each body stands for a block, of the methods that a class introduces but for accessors, and of those that it overrides
 pub record BlocksStand (a : Among) (m : Module) (ds : List InterfaceDraft) (bs : List BodyText) : Type 0 where
   pub introduced : (d : InterfaceDraft) (name : List ℕ) (sig : Sig) (way : Way) (b : BodyText) → Mem d ds → Mem (entries.Introduced name sig way) d.class.face.entries → body_of d name ≡ None
-      → Mem b (texts_for bs d.class.face.name name) → (block : Block) × (elaborated_body a (class_in m d.class) sig b ≡ Ok block)
+      → Mem b bs → IsOfMethod d name b → (block : Block) × (elaborated_body a (class_in m d.class) sig b ≡ Ok block)
   pub overridden : (d : InterfaceDraft) (o : Override) (sig : Sig) (b : BodyText) → Mem d ds → Mem o d.class.overrides → sig_of a.classes (owner a.classes o.method) ≡ Some sig
-      → Mem b (texts_for bs d.class.face.name o.method.name) → (block : Block) × (elaborated_body a (class_in m d.class) sig b ≡ Ok block)
+      → Mem b bs → IsOfMethod d o.method.name b → (block : Block) × (elaborated_body a (class_in m d.class) sig b ≡ Ok block)
 
--- the texts of a module conform: it has no more classes than it may have, no rule is broken, and no other limit is passed
+-- the texts of a module conform: it has no more classes than it may have, its interfaces and bodies keep the rules, and no other limit is passed
 pub record ModuleConforms (m : Module) (base : Interface) (is : List IdlInterface) (bs : List BodyText) : Type 0 where
   pub few_classes : length is ≤ most_classes m
-  pub rules : texts_breach m base is ≡ None
+  pub rules : TextsKeep m base is
   pub bodies : BodiesStand (classes_over m base is) (drafts_over m base is) bs
   pub limits : LimitsKept (drafts_over m base is)
   pub blocks : BlocksStand (among_over m base is) m (drafts_over m base is) bs

@@ -12,20 +12,20 @@ use Rattle.som_idl.specs.declared.tree.IdlInterface.{IdlInterface}
 use Rattle.som_body.specs.declared.tree.BlockText.{BlockText}
 use Rattle.som_body.specs.declared.tree.BodyText.{BodyText}
 use Rattle.som_drafts.specs.Drafts.{InterfaceDraft}
-use Rattle.som_sema.specs.Finished.{selects_at}
+use Rattle.som_drafts.specs.Items.{chosen, overridden}
 use Rattle.som_forms.specs.Expressions.{Among}
 use Rattle.som_elab.specs.Bodies.{drafts_over}
 use Rattle.som_elab.specs.Elaboration.{among_over, nothing_before}
-use Rattle.som_says.specs.Bodies.{EntriesSay, OverridesSay}
+use Rattle.som_says.specs.Bodies.{EntriesSay, OverridesSay, SelectsSay}
 use Rattle.som_says.specs.Statements.{BlockSays}
 
--- a class is what its interface declares, with the bodies that the texts say, and with what its text selects: of each method the first ancestor that introduces it, its name, and the place of the parent that is named
+-- a class is what its interface declares, with the bodies that the texts say, with an override for each method that its text overrides, and a select for each that it selects
 pub record ClassSays (a : Among) (m : Module) (bs : List BodyText) (d : InterfaceDraft) (c : ClassDecl) : Type 0 where
   pub face : c.face ≡ d.class.face
   pub variables : c.variables ≡ d.class.variables
   pub bodies : EntriesSay a bs (class_in m d.class) d.text c.face.entries c.bodies
-  pub overrides : OverridesSay a bs (class_in m d.class) d.class.overrides c.overrides
-  pub selects : c.selects ≡ selects_at a.classes (class_in m d.class).key d
+  pub overrides : OverridesSay a bs (class_in m d.class) (overridden d.text.items) c.overrides
+  pub selects : SelectsSay a (class_in m d.class) (chosen d.text.items) c.selects
 
 -- a class for each interface, in their order
 pub data ClassesSay (a : Among) (m : Module) (bs : List BodyText) : List InterfaceDraft → List ClassDecl → Type 0 where

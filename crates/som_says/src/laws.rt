@@ -17,6 +17,7 @@ ghost use Rattle.som_model.specs.declared.syntax.Block.{Block};
 ghost use Rattle.som_rules.specs.Faces.{faces_breach};
 ghost use Rattle.som_says.specs.Conforming.{BodiesStand, ClientConforms, LibraryConforms};
 ghost use Rattle.som_says.specs.Expressions.{ExprSays};
+ghost use Rattle.som_says.specs.Keeping.{TextsKeep};
 ghost use Rattle.som_says.specs.Modules.{ProgramSays, ReleaseSays};
 ghost use Rattle.som_says.specs.Statements.{BlockSays};
 ghost use Rattle.som_sema.specs.Building.{texts_breach};
@@ -39,11 +40,16 @@ pub fn saying_law()
         faces_breach (interface_classes base) ≡ None → elaborated_program base is bs main ≡ Ok p → ProgramSays base is bs main p }
 {}
 
-/// Of interfaces that break none of the rules before, S13 and S14 hold exactly where each body stands where it may and each
+/// Interfaces break none of the rules S1 to S12 exactly where they keep each of them, over a base whose faces break no rule.
+pub fn keeping_law()
+    ensures { (m : Module) (base : Interface) (is : Seq IdlInterface) → faces_breach (interface_classes base) ≡ None → (texts_breach m base is ≡ None) ↔ TextsKeep m base is }
+{}
+
+/// Of interfaces that keep the rules before, S13 and S14 hold exactly where each body stands where it may and each
 /// method that has one has one.
 pub fn bodies_law()
     ensures { (m : Module) (base : Interface) (is : Seq IdlInterface) (bs : Seq BodyText) →
-        faces_breach (interface_classes base) ≡ None → texts_breach m base is ≡ None →
+        faces_breach (interface_classes base) ≡ None → TextsKeep m base is →
         (bodies_breach (classes_over m base is) (drafts_over m base is) bs ≡ None) ↔ BodiesStand (classes_over m base is) (drafts_over m base is) bs }
 {}
 

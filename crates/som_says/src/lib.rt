@@ -3,4 +3,4 @@
 
 mod laws;
 
-pub use laws::{block_law, bodies_law, conforming_law, expression_law, saying_law};
+pub use laws::{block_law, bodies_law, conforming_law, expression_law, keeping_law, saying_law};

@@ -6,11 +6,9 @@ use Rattle.som_model.specs.Rules.{RuleBreach}
 use Rattle.som_model.specs.Conforming.{program_breach, release_breach}
 use Rattle.som_model.specs.Steps.{◌>>=◌}
 use Rattle.som_fields.specs.declared.fault.ImageFault.{ImageFault}
-use Rattle.som_libimage.specs.Libraries.{library_at}
-use Rattle.som_cliimage.specs.Programs.{client_at}
 use Rattle.som_steps.specs.declared.stop.Refusal.{Refusal}
 use Rattle.som_steps.specs.declared.stop.CommandStop.{CommandStop}
-use Rattle.som_steps.specs.ImageSteps.{read_or, kept_or, release_in, rules_kept, sound, sound_release, sound_program}
+use Rattle.som_steps.specs.ImageSteps.{read_or, kept_or, client_in, library_in, release_in, rules_kept, sound, sound_release, sound_program}
 use Rattle.som_steps.specs.Steps.{Stops, Follows}
 use Rattle.som_steps.specs.declared.stop.CommandStop.TheVariants as stops
 
@@ -39,21 +37,21 @@ module _ {A : Type 0} (breach : A → Option RuleBreach) (name : List ℕ) (read
 
 -- a library image can't be read, breaks a rule, or does neither
 pub unread_first : (n b : List ℕ) (stop : CommandStop) → Follows {A = Release} (Err stop) (release_in n b) → Follows {A = Release} (Err stop) (sound_release n b)
-unread_first n b stop f = unread release_breach n (library_at b) stop f
+unread_first n b stop f = unread release_breach n (library_in b) stop f
 
 pub broken_first : (n b : List ℕ) (r : Release) (stop : CommandStop) → Follows (Ok r) (release_in n b) → Follows {A = Unit {0}} (Err stop) (rules_kept n r) → Follows {A = Release} (Err stop) (sound_release n b)
-broken_first n b r stop f g = broken_by release_breach n (library_at b) r stop f g
+broken_first n b r stop f g = broken_by release_breach n (library_in b) r stop f g
 
 pub is_sound : (n b : List ℕ) (r : Release) (kept : Unit {0}) → Follows (Ok r) (release_in n b) → Follows (Ok kept) (rules_kept n r) → Follows (Ok r) (sound_release n b)
-is_sound n b r kept f g = sound_by release_breach n (library_at b) r kept f g
+is_sound n b r kept f g = sound_by release_breach n (library_in b) r kept f g
 
 -- and a client image
-pub program_unread : (n b : List ℕ) (stop : CommandStop) → Follows {A = ClientProgram} (Err stop) (read_or n (client_at b)) → Follows {A = ClientProgram} (Err stop) (sound_program n b)
-program_unread n b stop f = unread program_breach n (client_at b) stop f
+pub program_unread : (n b : List ℕ) (stop : CommandStop) → Follows {A = ClientProgram} (Err stop) (read_or n (client_in b)) → Follows {A = ClientProgram} (Err stop) (sound_program n b)
+program_unread n b stop f = unread program_breach n (client_in b) stop f
 
-pub program_broken : (n b : List ℕ) (p : ClientProgram) (stop : CommandStop) → Follows (Ok p) (read_or n (client_at b)) → Follows {A = Unit {0}} (Err stop) (kept_or n (program_breach p))
+pub program_broken : (n b : List ℕ) (p : ClientProgram) (stop : CommandStop) → Follows (Ok p) (read_or n (client_in b)) → Follows {A = Unit {0}} (Err stop) (kept_or n (program_breach p))
     → Follows {A = ClientProgram} (Err stop) (sound_program n b)
-program_broken n b p stop f g = broken_by program_breach n (client_at b) p stop f g
+program_broken n b p stop f g = broken_by program_breach n (client_in b) p stop f g
 
-pub program_sound : (n b : List ℕ) (p : ClientProgram) (kept : Unit {0}) → Follows (Ok p) (read_or n (client_at b)) → Follows (Ok kept) (kept_or n (program_breach p)) → Follows (Ok p) (sound_program n b)
-program_sound n b p kept f g = sound_by program_breach n (client_at b) p kept f g
+pub program_sound : (n b : List ℕ) (p : ClientProgram) (kept : Unit {0}) → Follows (Ok p) (read_or n (client_in b)) → Follows (Ok kept) (kept_or n (program_breach p)) → Follows (Ok p) (sound_program n b)
+program_sound n b p kept f g = sound_by program_breach n (client_in b) p kept f g

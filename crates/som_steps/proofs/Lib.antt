@@ -9,3 +9,4 @@ mod SelectFaults
 mod FaultLaws
 pub mod Printed
 pub mod OutcomeLaws
+pub mod Statuses

@@ -12,7 +12,7 @@ use Rattle.som_steps.specs.Saying.{SaysAll, SaysFailure, SaysFront, StopSaysAll,
 use Rattle.som_steps.specs.Outcomes.{EndsAs, EndsAsTold, StoreFails, ShowsSome}
 use Rattle.som_steps.specs.declared.stop.CommandStop.TheVariants as stops
 
-shows_nothing : (written : Option (List ℕ)) (text : List ℕ) → ShowsFront written written text
+pub shows_nothing : (written : Option (List ℕ)) (text : List ℕ) → ShowsFront written written text
 shows_nothing None text = (text, tt)
 shows_nothing (Some old) text = (text, ([], refl, ap (λ (t : List ℕ). Some t) (sym (append-nil old))))
 

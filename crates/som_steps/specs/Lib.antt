@@ -10,3 +10,4 @@ pub mod Outcomes
 pub mod Cause
 pub mod Saying
 pub mod Putting
+pub mod Refusing

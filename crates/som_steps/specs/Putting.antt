@@ -26,3 +26,10 @@ Stored files out image (Err stops.NoMemory) new = new ≡ Some files
 abbrev pub StoredTold : Option Files → List ℕ → List ℕ → Result Output CommandStop → Option Files → Type 0
 StoredTold None out image result new = Unit {0}
 StoredTold (Some files) out image result new = Stored files out image result new
+
+-- nothing is printed, and nothing is refused
+abbrev pub IsSilent : Result Output CommandStop → Type 0
+IsSilent (Ok o) = o ≡ nothing
+IsSilent (Err (stops.Refused r)) = ⊥
+IsSilent (Err (stops.StoreFailed line)) = Unit {0}
+IsSilent (Err stops.NoMemory) = Unit {0}

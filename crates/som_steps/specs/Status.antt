@@ -1,5 +1,5 @@
 -- Statuses.
-use Rattle.std.specs.Prelude.{ℕ, ◌==◌, Bool, ◌||◌}
+use Rattle.std.specs.Prelude.{ℕ, ◌==◌, Bool, ◌||◌, List, [], ◌∷◌}
 use Rattle.som_steps.specs.declared.stop.Why.{Why}
 use Rattle.som_steps.specs.declared.output.End.{End}
 use Rattle.som_steps.specs.declared.stop.Why.TheVariants as why
@@ -21,3 +21,7 @@ end_status ends.Spent = 9
 -- the statuses that come where neither store nor sink fails
 abbrev pub is_calm_status : ℕ → Bool
 is_calm_status n = (n == 0) || (n == 2) || (n == 3) || (n == 4) || (n == 5) || (n == 7) || (n == 9) || (n == 10) || (n == 11)
+
+-- the statuses that any command may end with: the store failed, the sink failed, memory ran out
+abbrev pub failing_statuses : List ℕ
+failing_statuses = 6 ∷ 8 ∷ 10 ∷ []

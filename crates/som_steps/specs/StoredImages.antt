@@ -5,13 +5,11 @@ use Rattle.som_model.specs.declared.program.Release.{Release}
 use Rattle.som_model.specs.Bytes.{AreBytes, Files}
 use Rattle.som_model.specs.Conforming.{ReleaseOk}
 use Rattle.som_model.specs.Images.{library_image}
-use Rattle.som_libimage.specs.Limits.{IsWithinLimits}
 
--- the store holds the image of the release under the name, and the release is within the limits of images and conforms
+-- the store holds the image of the release under the name, and the release conforms
 pub record IsUnder (files : Files) (name : List ℕ) (r : Release) : Type 0 where
   pub bytes : List ℕ
   pub image_is : get files name ≡ Some bytes
   pub bytes_are : AreBytes bytes
   pub spelled : library_image r ≡ Some bytes
-  pub within : IsWithinLimits r
   pub conforms : ReleaseOk r

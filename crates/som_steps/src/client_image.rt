@@ -1,7 +1,7 @@
-ghost use Rattle.som_cliimage.specs.Programs.{client_at};
+ghost use Rattle.som_fields.specs.Fields.{Gives};
 ghost use Rattle.som_model.specs.Conforming.{program_breach};
 ghost use Rattle.som_steps.specs.Cause.{IsQuiet};
-ghost use Rattle.som_steps.specs.ImageSteps.{kept_or, read_or, sound_program};
+ghost use Rattle.som_steps.specs.ImageSteps.{client_in, kept_or, read_or, sound_program};
 ghost use Rattle.som_steps.specs.Steps.{Follows};
 
 use crate::image_lines::{refuse_broken, refuse_bytes};
@@ -13,12 +13,21 @@ use som_rules::VerifyFault;
 use som_verify::program_ok;
 use std::alloc::Global;
 
+// The program of a client image, or the first fault of the bytes.
+#[tactic(auto, using(crate::proofs::ByteLaws::client_gives))]
+fn client_in(alloc: Global, bytes: &List<u8>) -> Result<ClientProgram, ImageFault>
+    ensures { Gives result (client_in bytes.now) }
+{
+    let _all = bytes.as_bytes();
+    decode(alloc, bytes)
+}
+
 // The program of a client image, or the refusal that tells the first fault of the bytes.
 fn read_program(alloc: Global, name: &Text, bytes: &List<u8>) -> Result<ClientProgram, CommandStop>
-    ensures follows { Follows result (read_or name.now (client_at bytes.now)) }
+    ensures follows { Follows result (read_or name.now (client_in bytes.now)) }
     ensures quiet { IsQuiet result }
 {
-    match decode(alloc, bytes) {
+    match client_in(alloc, bytes) {
         Ok(program) => Ok(program),
         Err(ImageFault::NoMemory) => Err(CommandStop::NoMemory),
         Err(fault) => Err(CommandStop::Refused(refuse_bytes(alloc, name, fault)?)),

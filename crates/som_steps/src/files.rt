@@ -1,6 +1,7 @@
 ghost use Rattle.som_steps.specs.Cause.{HasCause, IsQuiet};
 ghost use Rattle.som_steps.specs.Fetching.{file_of};
-ghost use Rattle.som_steps.specs.Lines.{store_failed};
+ghost use Rattle.som_steps.specs.Lines.{absent, store_failed};
+ghost use Rattle.som_steps.specs.Refusing.{RefusesAs};
 ghost use Rattle.som_steps.specs.Steps.{FollowsTold};
 ghost use Rattle.std.specs.Prelude.{◌≡◌, ◌≤◌};
 
@@ -18,6 +19,7 @@ pub fn fetch<S: Store>(alloc: Global, name: &Text, store: &mut S) -> Result<List
     ensures cause { HasCause (λ line. line ≡ store_failed name.now) (S.faults store.old) (S.faults store.new) result }
     ensures calm { S.calm store.old → S.calm store.new }
     ensures quiet { S.calm store.old → IsQuiet result }
+    ensures refuses { RefusesAs (λ r. r ≡ absent name.now) result }
 {
     match store.get(name) {
         Got::Bytes(bytes) => Ok(bytes),

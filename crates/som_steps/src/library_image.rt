@@ -1,7 +1,8 @@
+ghost use Rattle.som_fields.specs.Fields.{Gives};
 ghost use Rattle.som_libimage.specs.Limits.{IsWithinLimits};
 ghost use Rattle.som_model.specs.Conforming.{ReleaseOk};
 ghost use Rattle.som_steps.specs.Cause.{IsQuiet};
-ghost use Rattle.som_steps.specs.ImageSteps.{release_in, rules_kept, sound_release};
+ghost use Rattle.som_steps.specs.ImageSteps.{library_in, release_in, rules_kept, sound_release};
 ghost use Rattle.som_steps.specs.Steps.{Follows};
 ghost use Rattle.std.specs.Prelude.{IfOk};
 
@@ -14,13 +15,23 @@ use som_rules::VerifyFault;
 use som_verify::release_ok;
 use std::alloc::Global;
 
+// The release of a library image, or the first fault of the bytes.
+#[tactic(auto, using(crate::proofs::ByteLaws::library_gives))]
+fn library_in(alloc: Global, bytes: &List<u8>) -> Result<Release, ImageFault>
+    ensures gives { Gives result (library_in bytes.now) }
+    ensures within { IfOk result IsWithinLimits }
+{
+    let _all = bytes.as_bytes();
+    decode(alloc, bytes)
+}
+
 /// The release of a library image, or the refusal that tells the first fault of the bytes.
 pub fn read_release(alloc: Global, name: &Text, bytes: &List<u8>) -> Result<Release, CommandStop>
     ensures follows { Follows result (release_in name.now bytes.now) }
     ensures within { IfOk result IsWithinLimits }
     ensures quiet { IsQuiet result }
 {
-    match decode(alloc, bytes) {
+    match library_in(alloc, bytes) {
         Ok(release) => Ok(release),
         Err(ImageFault::NoMemory) => Err(CommandStop::NoMemory),
         Err(fault) => Err(CommandStop::Refused(refuse_bytes(alloc, name, fault)?)),

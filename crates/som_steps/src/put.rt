@@ -1,6 +1,6 @@
 ghost use Rattle.som_steps.specs.Cause.{HasCause, IsQuiet};
 ghost use Rattle.som_steps.specs.Lines.{store_failed};
-ghost use Rattle.som_steps.specs.Putting.{StoredTold};
+ghost use Rattle.som_steps.specs.Putting.{IsSilent, StoredTold};
 ghost use Rattle.std.specs.Prelude.{◌≡◌, ◌≤◌};
 
 use crate::line::named_line;
@@ -21,6 +21,7 @@ pub fn put_image<S: Store>(
     ensures later { S.faults store.old ≤ S.faults store.new }
     ensures cause { HasCause (λ line. line ≡ store_failed out.now) (S.faults store.old) (S.faults store.new) result }
     ensures quiet { S.calm store.old → IsQuiet result }
+    ensures silent { IsSilent result }
 {
     let line = named_line(alloc, b"store failed ", out)?;
     match store.put(out, image) {

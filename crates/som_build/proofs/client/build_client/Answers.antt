@@ -1,4 +1,6 @@
+use Rattle.std.proofs.Common.{[], ◌∷◌}
 use Rattle.som_steps.proofs.Printed.{fails}
+use Rattle.som_steps.proofs.Statuses.{ends_in}
 use Rattle.som_build.specs.ClientAnswer.{CompilesParts, parts_in}
 use Rattle.som_build.specs.Cause.{FailsClient}
 use Rattle.som_build.proofs.PutAnswered.{client_answer}
@@ -18,4 +20,7 @@ returns-clause-front g c = λ _.
 
 pub returns-clause-files : goal.returns-clause-files
 returns-clause-files g c =
-    keeps_told CompilesParts c.args.name.now (parts_in c.args.library.now c.args.names.now) (FailsClient (g.S.Store.files c.args.store.now) c.args.name.now c.args.library.now c.args.names.now) (g.S.Store.files c.args.store.now) c.put_client.result (g.S.Store.files c.put_client.new.store) c.put_client.ensures.puts (g.S.Store.faults c.args.store.now) (g.S.Store.faults c.put_client.new.store) c.tell.result c.put_client.ensures.cause (g.K.Sink.written c.args.out.now) (g.K.Sink.written c.tell.new.out) c.tell.ensures.all c.tell.ensures.nothing
+    keeps_told CompilesParts c.args.name.now (parts_in c.args.library.now c.args.names.now) (FailsClient (g.S.Store.files c.args.store.now) c.args.name.now c.args.library.now c.args.names.now) (g.S.Store.files c.args.store.now) c.put_client.result (g.S.Store.files c.put_client.new.store) c.put_client.ensures.puts (g.S.Store.faults c.args.store.now) (g.S.Store.faults c.put_client.new.store) c.tell.result c.put_client.ensures.cause (g.K.Sink.written c.args.out.now) (g.K.Sink.written c.tell.new.out) c.tell.ensures.all c.tell.ensures.store_failed c.tell.ensures.front c.tell.ensures.nothing
+
+pub returns-clause-statuses : goal.returns-clause-statuses
+returns-clause-statuses g c = ends_in (5 ∷ 0 ∷ 3 ∷ 7 ∷ 11 ∷ []) c.tell.result (g.K.Sink.written c.args.out.now) (g.K.Sink.written c.tell.new.out) c.put_client.result c.put_client.ensures.ends c.tell.ensures.all

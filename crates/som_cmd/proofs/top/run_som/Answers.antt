@@ -1,155 +1,24 @@
-use Rattle.std.proofs.Common.{ℕ, List, refl, subst}
-use Rattle.som_io.specs.Outside.{ShowsAll, ShowsFront}
-use Rattle.som_run.specs.RunAnswer.{IsRunAnswer}
-use Rattle.som_check.specs.ShowAnswer.{IsShowAnswer}
-use Rattle.som_check.specs.CheckAnswer.{IsCheckAnswer}
-use Rattle.som_build.specs.LibraryAnswer.{IsLibraryAnswer}
-use Rattle.som_build.specs.ClientAnswer.{IsClientAnswer}
-use Rattle.som_cmd.specs.Words.{asked, Run, Show, Check, Library, Client, Bad}
-use Rattle.som_cmd.specs.Answer.{runs, shows, checks, compiles, compiles_client}
-use Rattle.som_cmd.proofs.EndLaws.{answered, front, store_failed, files_kept, none_written, bad_ends, bad_fronts, means, shown, shown_client, accepted, breach, compiled, client_compiled}
-use Rattle.som_cmd.proofs.WordLaws.{asked_mains, mains_by}
+use Rattle.som_cmd.specs.Words.{asked}
+use Rattle.som_cmd.proofs.EndLaws.{means, shown, shown_client, accepted, breach, compiled, client_compiled}
 use Rattle.som_cmd.proofs.top.run_som.Goals as goal
 
--- ---- a run
+pub returns-clause-meaning : goal.returns-clause-meaning
+returns-clause-meaning g c = λ p r fuel images not6 not8 not10. means (asked c.args.words.now) (g.S.Store.files c.args.store.now) c.do_command.result (g.S.Store.files c.do_command.new.store) (g.K.Sink.written c.args.out.now) (g.K.Sink.written c.do_command.new.out) (c.do_command.ensures.answered not6 not8 not10) p r fuel images
 
-answered_run_client : goal.returns-in-Run-clause-answered
-answered_run_client g c = λ not6 not8 not10.
-    answered (asked c.args.words.now) (Run c.in-Run.client.now c.in-Run.library.now c.in-Run.fuel) c.in-Run.ensures (IsRunAnswer c.in-Run.client.now c.in-Run.library.now c.in-Run.fuel) (λ files e a. runs c.in-Run.client.now c.in-Run.library.now c.in-Run.fuel e a) (g.S.Store.files c.args.store.now) c.run_client.result (g.S.Store.files c.run_client.new.store) (g.K.Sink.written c.args.out.now) (g.K.Sink.written c.run_client.new.out) (c.run_client.ensures.answered not6 not8 not10)
+pub returns-clause-shown : goal.returns-clause-shown
+returns-clause-shown g c = λ r image not6 not8 not10. shown (asked c.args.words.now) (g.S.Store.files c.args.store.now) c.do_command.result (g.S.Store.files c.do_command.new.store) (g.K.Sink.written c.args.out.now) (g.K.Sink.written c.do_command.new.out) (c.do_command.ensures.answered not6 not8 not10) r image
 
-pub returns-in-Run-clause-answered : goal.returns-in-Run-clause-answered
-returns-in-Run-clause-answered = answered_run_client
+pub returns-clause-shown_client : goal.returns-clause-shown_client
+returns-clause-shown_client g c = λ p image not6 not8 not10. shown_client (asked c.args.words.now) (g.S.Store.files c.args.store.now) c.do_command.result (g.S.Store.files c.do_command.new.store) (g.K.Sink.written c.args.out.now) (g.K.Sink.written c.do_command.new.out) (c.do_command.ensures.answered not6 not8 not10) p image
 
-pub returns-in-Run-clause-meaning : goal.returns-in-Run-clause-meaning
-returns-in-Run-clause-meaning g c = λ p r fuel images not6 not8 not10. means (asked c.args.words.now) (g.S.Store.files c.args.store.now) c.run_client.result (g.S.Store.files c.run_client.new.store) (g.K.Sink.written c.args.out.now) (g.K.Sink.written c.run_client.new.out) (answered_run_client g c not6 not8 not10) p r fuel images
+pub returns-clause-accepted : goal.returns-clause-accepted
+returns-clause-accepted g c = λ names rs checked not6 not8 not10. accepted (asked c.args.words.now) (g.S.Store.files c.args.store.now) c.do_command.result (g.S.Store.files c.do_command.new.store) (g.K.Sink.written c.args.out.now) (g.K.Sink.written c.do_command.new.out) (c.do_command.ensures.answered not6 not8 not10) names rs checked
 
-pub returns-in-Run-clause-store_failed : goal.returns-in-Run-clause-store_failed
-returns-in-Run-clause-store_failed g c = λ six. store_failed (asked c.args.words.now) (Run c.in-Run.client.now c.in-Run.library.now c.in-Run.fuel) c.in-Run.ensures (g.S.Store.files c.args.store.now) (g.S.Store.faults c.args.store.now) (g.S.Store.faults c.run_client.new.store) (g.K.Sink.written c.args.out.now) (g.K.Sink.written c.run_client.new.out) (c.run_client.ensures.store_failed six)
+pub returns-clause-breach : goal.returns-clause-breach
+returns-clause-breach g c = λ names rs number b checked told not6 not8 not10. breach (asked c.args.words.now) (g.S.Store.files c.args.store.now) c.do_command.result (g.S.Store.files c.do_command.new.store) (g.K.Sink.written c.args.out.now) (g.K.Sink.written c.do_command.new.out) (c.do_command.ensures.answered not6 not8 not10) names rs number b checked told
 
-pub returns-in-Run-clause-front : goal.returns-in-Run-clause-front
-returns-in-Run-clause-front g c = λ either. front (asked c.args.words.now) (Run c.in-Run.client.now c.in-Run.library.now c.in-Run.fuel) c.in-Run.ensures (IsRunAnswer c.in-Run.client.now c.in-Run.library.now c.in-Run.fuel) (λ files e a. runs c.in-Run.client.now c.in-Run.library.now c.in-Run.fuel e a) (g.S.Store.files c.args.store.now) (g.S.Store.faults c.args.store.now) (g.S.Store.faults c.run_client.new.store) (g.K.Sink.written c.args.out.now) (g.K.Sink.written c.run_client.new.out) (c.run_client.ensures.front either)
+pub returns-clause-compiled : goal.returns-clause-compiled
+returns-clause-compiled g c = λ name r texts not6 not8 not10. compiled (asked c.args.words.now) (g.S.Store.files c.args.store.now) c.do_command.result (g.S.Store.files c.do_command.new.store) (g.K.Sink.written c.args.out.now) (g.K.Sink.written c.do_command.new.out) (c.do_command.ensures.answered not6 not8 not10) name r texts
 
-pub returns-in-Run-clause-files : goal.returns-in-Run-clause-files
-returns-in-Run-clause-files g c = files_kept (asked c.args.words.now) (Run c.in-Run.client.now c.in-Run.library.now c.in-Run.fuel) c.in-Run.ensures (g.S.Store.files c.args.store.now) (g.S.Store.faults c.args.store.now) (g.S.Store.faults c.run_client.new.store) c.run_client.result (g.S.Store.files c.run_client.new.store) c.run_client.ensures.files
-
--- ---- an image that is shown
-
-answered_show_image : goal.returns-in-Show-clause-answered
-answered_show_image g c = λ not6 not8 not10.
-    answered (asked c.args.words.now) (Show c.in-Show.image.now) c.in-Show.ensures (IsShowAnswer c.in-Show.image.now) (λ files e a. shows c.in-Show.image.now e a) (g.S.Store.files c.args.store.now) c.show_image.result (g.S.Store.files c.show_image.new.store) (g.K.Sink.written c.args.out.now) (g.K.Sink.written c.show_image.new.out) (c.show_image.ensures.answered not6 not8 not10)
-
-pub returns-in-Show-clause-answered : goal.returns-in-Show-clause-answered
-returns-in-Show-clause-answered = answered_show_image
-
-pub returns-in-Show-clause-shown : goal.returns-in-Show-clause-shown
-returns-in-Show-clause-shown g c = λ r image not6 not8 not10. shown (asked c.args.words.now) (g.S.Store.files c.args.store.now) c.show_image.result (g.S.Store.files c.show_image.new.store) (g.K.Sink.written c.args.out.now) (g.K.Sink.written c.show_image.new.out) (answered_show_image g c not6 not8 not10) r image
-
-pub returns-in-Show-clause-shown_client : goal.returns-in-Show-clause-shown_client
-returns-in-Show-clause-shown_client g c = λ p image not6 not8 not10. shown_client (asked c.args.words.now) (g.S.Store.files c.args.store.now) c.show_image.result (g.S.Store.files c.show_image.new.store) (g.K.Sink.written c.args.out.now) (g.K.Sink.written c.show_image.new.out) (answered_show_image g c not6 not8 not10) p image
-
-pub returns-in-Show-clause-store_failed : goal.returns-in-Show-clause-store_failed
-returns-in-Show-clause-store_failed g c = λ six. store_failed (asked c.args.words.now) (Show c.in-Show.image.now) c.in-Show.ensures (g.S.Store.files c.args.store.now) (g.S.Store.faults c.args.store.now) (g.S.Store.faults c.show_image.new.store) (g.K.Sink.written c.args.out.now) (g.K.Sink.written c.show_image.new.out) (c.show_image.ensures.store_failed six)
-
-pub returns-in-Show-clause-front : goal.returns-in-Show-clause-front
-returns-in-Show-clause-front g c = λ either. front (asked c.args.words.now) (Show c.in-Show.image.now) c.in-Show.ensures (IsShowAnswer c.in-Show.image.now) (λ files e a. shows c.in-Show.image.now e a) (g.S.Store.files c.args.store.now) (g.S.Store.faults c.args.store.now) (g.S.Store.faults c.show_image.new.store) (g.K.Sink.written c.args.out.now) (g.K.Sink.written c.show_image.new.out) (c.show_image.ensures.front either)
-
-pub returns-in-Show-clause-files : goal.returns-in-Show-clause-files
-returns-in-Show-clause-files g c = files_kept (asked c.args.words.now) (Show c.in-Show.image.now) c.in-Show.ensures (g.S.Store.files c.args.store.now) (g.S.Store.faults c.args.store.now) (g.S.Store.faults c.show_image.new.store) c.show_image.result (g.S.Store.files c.show_image.new.store) c.show_image.ensures.files
-
--- ---- images that are checked
-
-answered_check_images : goal.returns-in-Check-clause-answered
-answered_check_images g c = λ not6 not8 not10.
-    answered (asked c.args.words.now) (Check c.in-Check.images.now) c.in-Check.ensures (IsCheckAnswer c.in-Check.images.now) (λ files e a. checks c.in-Check.images.now e a) (g.S.Store.files c.args.store.now) c.check_images.result (g.S.Store.files c.check_images.new.store) (g.K.Sink.written c.args.out.now) (g.K.Sink.written c.check_images.new.out) (c.check_images.ensures.answered not6 not8 not10)
-
-pub returns-in-Check-clause-answered : goal.returns-in-Check-clause-answered
-returns-in-Check-clause-answered = answered_check_images
-
-pub returns-in-Check-clause-accepted : goal.returns-in-Check-clause-accepted
-returns-in-Check-clause-accepted g c = λ names rs checked not6 not8 not10. accepted (asked c.args.words.now) (g.S.Store.files c.args.store.now) c.check_images.result (g.S.Store.files c.check_images.new.store) (g.K.Sink.written c.args.out.now) (g.K.Sink.written c.check_images.new.out) (answered_check_images g c not6 not8 not10) names rs checked
-
-pub returns-in-Check-clause-breach : goal.returns-in-Check-clause-breach
-returns-in-Check-clause-breach g c = λ names rs number b checked told not6 not8 not10. breach (asked c.args.words.now) (g.S.Store.files c.args.store.now) c.check_images.result (g.S.Store.files c.check_images.new.store) (g.K.Sink.written c.args.out.now) (g.K.Sink.written c.check_images.new.out) (answered_check_images g c not6 not8 not10) names rs number b checked told
-
-pub returns-in-Check-clause-store_failed : goal.returns-in-Check-clause-store_failed
-returns-in-Check-clause-store_failed g c = λ six. store_failed (asked c.args.words.now) (Check c.in-Check.images.now) c.in-Check.ensures (g.S.Store.files c.args.store.now) (g.S.Store.faults c.args.store.now) (g.S.Store.faults c.check_images.new.store) (g.K.Sink.written c.args.out.now) (g.K.Sink.written c.check_images.new.out) (c.check_images.ensures.store_failed six)
-
-pub returns-in-Check-clause-front : goal.returns-in-Check-clause-front
-returns-in-Check-clause-front g c = λ either. front (asked c.args.words.now) (Check c.in-Check.images.now) c.in-Check.ensures (IsCheckAnswer c.in-Check.images.now) (λ files e a. checks c.in-Check.images.now e a) (g.S.Store.files c.args.store.now) (g.S.Store.faults c.args.store.now) (g.S.Store.faults c.check_images.new.store) (g.K.Sink.written c.args.out.now) (g.K.Sink.written c.check_images.new.out) (c.check_images.ensures.front either)
-
-pub returns-in-Check-clause-files : goal.returns-in-Check-clause-files
-returns-in-Check-clause-files g c = files_kept (asked c.args.words.now) (Check c.in-Check.images.now) c.in-Check.ensures (g.S.Store.files c.args.store.now) (g.S.Store.faults c.args.store.now) (g.S.Store.faults c.check_images.new.store) c.check_images.result (g.S.Store.files c.check_images.new.store) c.check_images.ensures.files
-
--- ---- texts that are compiled
-
-answered_build_library : goal.returns-in-Library-clause-answered
-answered_build_library g c = λ not6 not8 not10.
-    answered (asked c.args.words.now) (Library c.in-Library.name.now c.in-Library.files.now) c.in-Library.ensures (IsLibraryAnswer c.in-Library.name.now c.in-Library.files.now) (λ files e a. compiles c.in-Library.name.now c.in-Library.files.now e a) (g.S.Store.files c.args.store.now) c.build_library.result (g.S.Store.files c.build_library.new.store) (g.K.Sink.written c.args.out.now) (g.K.Sink.written c.build_library.new.out) (c.build_library.ensures.answered not6 not8 not10)
-
-pub returns-in-Library-clause-answered : goal.returns-in-Library-clause-answered
-returns-in-Library-clause-answered = answered_build_library
-
-pub returns-in-Library-clause-compiled : goal.returns-in-Library-clause-compiled
-returns-in-Library-clause-compiled g c = λ out r texts not6 not8 not10. compiled (asked c.args.words.now) (g.S.Store.files c.args.store.now) c.build_library.result (g.S.Store.files c.build_library.new.store) (g.K.Sink.written c.args.out.now) (g.K.Sink.written c.build_library.new.out) (answered_build_library g c not6 not8 not10) out r texts
-
-pub returns-in-Library-clause-store_failed : goal.returns-in-Library-clause-store_failed
-returns-in-Library-clause-store_failed g c = λ six. store_failed (asked c.args.words.now) (Library c.in-Library.name.now c.in-Library.files.now) c.in-Library.ensures (g.S.Store.files c.args.store.now) (g.S.Store.faults c.args.store.now) (g.S.Store.faults c.build_library.new.store) (g.K.Sink.written c.args.out.now) (g.K.Sink.written c.build_library.new.out) (c.build_library.ensures.store_failed six)
-
-pub returns-in-Library-clause-front : goal.returns-in-Library-clause-front
-returns-in-Library-clause-front g c = λ either. front (asked c.args.words.now) (Library c.in-Library.name.now c.in-Library.files.now) c.in-Library.ensures (IsLibraryAnswer c.in-Library.name.now c.in-Library.files.now) (λ files e a. compiles c.in-Library.name.now c.in-Library.files.now e a) (g.S.Store.files c.args.store.now) (g.S.Store.faults c.args.store.now) (g.S.Store.faults c.build_library.new.store) (g.K.Sink.written c.args.out.now) (g.K.Sink.written c.build_library.new.out) (c.build_library.ensures.front either)
-
-pub returns-in-Library-clause-files : goal.returns-in-Library-clause-files
-returns-in-Library-clause-files g c = files_kept (asked c.args.words.now) (Library c.in-Library.name.now c.in-Library.files.now) c.in-Library.ensures (g.S.Store.files c.args.store.now) (g.S.Store.faults c.args.store.now) (g.S.Store.faults c.build_library.new.store) c.build_library.result (g.S.Store.files c.build_library.new.store) c.build_library.ensures.files
-
-pub build_library-requires : goal.build_library-requires
-build_library-requires g c = mains_by c.args.words.now (Library c.in-Library.name.now c.in-Library.files.now) c.in-Library.ensures
-
--- ---- a client that is compiled
-
-answered_build_client : goal.returns-in-Client-clause-answered
-answered_build_client g c = λ not6 not8 not10.
-    answered (asked c.args.words.now) (Client c.in-Client.name.now c.in-Client.library.now c.in-Client.files.now) c.in-Client.ensures (IsClientAnswer c.in-Client.name.now c.in-Client.library.now c.in-Client.files.now) (λ files e a. compiles_client c.in-Client.name.now c.in-Client.library.now c.in-Client.files.now e a) (g.S.Store.files c.args.store.now) c.build_client.result (g.S.Store.files c.build_client.new.store) (g.K.Sink.written c.args.out.now) (g.K.Sink.written c.build_client.new.out) (c.build_client.ensures.answered not6 not8 not10)
-
-pub returns-in-Client-clause-answered : goal.returns-in-Client-clause-answered
-returns-in-Client-clause-answered = answered_build_client
-
-pub returns-in-Client-clause-client_compiled : goal.returns-in-Client-clause-client_compiled
-returns-in-Client-clause-client_compiled g c = λ out p texts not6 not8 not10. client_compiled (asked c.args.words.now) (g.S.Store.files c.args.store.now) c.build_client.result (g.S.Store.files c.build_client.new.store) (g.K.Sink.written c.args.out.now) (g.K.Sink.written c.build_client.new.out) (answered_build_client g c not6 not8 not10) out p texts
-
-pub returns-in-Client-clause-store_failed : goal.returns-in-Client-clause-store_failed
-returns-in-Client-clause-store_failed g c = λ six. store_failed (asked c.args.words.now) (Client c.in-Client.name.now c.in-Client.library.now c.in-Client.files.now) c.in-Client.ensures (g.S.Store.files c.args.store.now) (g.S.Store.faults c.args.store.now) (g.S.Store.faults c.build_client.new.store) (g.K.Sink.written c.args.out.now) (g.K.Sink.written c.build_client.new.out) (c.build_client.ensures.store_failed six)
-
-pub returns-in-Client-clause-front : goal.returns-in-Client-clause-front
-returns-in-Client-clause-front g c = λ either. front (asked c.args.words.now) (Client c.in-Client.name.now c.in-Client.library.now c.in-Client.files.now) c.in-Client.ensures (IsClientAnswer c.in-Client.name.now c.in-Client.library.now c.in-Client.files.now) (λ files e a. compiles_client c.in-Client.name.now c.in-Client.library.now c.in-Client.files.now e a) (g.S.Store.files c.args.store.now) (g.S.Store.faults c.args.store.now) (g.S.Store.faults c.build_client.new.store) (g.K.Sink.written c.args.out.now) (g.K.Sink.written c.build_client.new.out) (c.build_client.ensures.front either)
-
-pub returns-in-Client-clause-files : goal.returns-in-Client-clause-files
-returns-in-Client-clause-files g c = files_kept (asked c.args.words.now) (Client c.in-Client.name.now c.in-Client.library.now c.in-Client.files.now) c.in-Client.ensures (g.S.Store.files c.args.store.now) (g.S.Store.faults c.args.store.now) (g.S.Store.faults c.build_client.new.store) c.build_client.result (g.S.Store.files c.build_client.new.store) c.build_client.ensures.files
-
-pub build_client-requires : goal.build_client-requires
-build_client-requires g c = mains_by c.args.words.now (Client c.in-Client.name.now c.in-Client.library.now c.in-Client.files.now) c.in-Client.ensures
-
--- ---- words of no form
-
-pub returns-in-Ok-clause-answered : goal.returns-in-Ok-clause-answered
-returns-in-Ok-clause-answered g c = λ not6 not8 not10.
-    bad_ends (asked c.args.words.now) c.in-Bad.ensures (g.S.Store.files c.args.store.now) c.say.result (c.say.ensures.status not8 not10) (g.S.Store.files c.args.store.now) refl
-    (g.K.Sink.written c.args.out.now) (g.K.Sink.written c.say.new.out)
-    (subst (λ (text : List ℕ). ShowsAll (g.K.Sink.written c.args.out.now) (g.K.Sink.written c.say.new.out) text) c.in-Ok.ensures (c.say.ensures.all not8 not10))
-
-pub returns-in-Ok-clause-front : goal.returns-in-Ok-clause-front
-returns-in-Ok-clause-front g c = λ _.
-    bad_fronts (asked c.args.words.now) c.in-Bad.ensures (g.S.Store.files c.args.store.now) (g.S.Store.faults c.args.store.now) (g.S.Store.faults c.args.store.now)
-    (g.K.Sink.written c.args.out.now) (g.K.Sink.written c.say.new.out)
-    (subst (λ (text : List ℕ). ShowsFront (g.K.Sink.written c.args.out.now) (g.K.Sink.written c.say.new.out) text) c.in-Ok.ensures c.say.ensures.front)
-
-pub returns-in-Err-clause-front : goal.returns-in-Err-clause-front
-returns-in-Err-clause-front g c = λ _.
-    none_written (asked c.args.words.now) (asked_mains c.args.words.now) (g.S.Store.files c.args.store.now) (g.S.Store.faults c.args.store.now) (g.S.Store.faults c.args.store.now) (g.K.Sink.written c.args.out.now)
-
-pub returns-in-Ok-clause-files : goal.returns-in-Ok-clause-files
-returns-in-Ok-clause-files g c =
-    files_kept (asked c.args.words.now) Bad c.in-Bad.ensures (g.S.Store.files c.args.store.now) (g.S.Store.faults c.args.store.now) (g.S.Store.faults c.args.store.now) c.say.result (g.S.Store.files c.args.store.now) refl
-
-pub returns-in-Err-clause-files : goal.returns-in-Err-clause-files
-returns-in-Err-clause-files g c =
-    files_kept (asked c.args.words.now) Bad c.in-Bad.ensures (g.S.Store.files c.args.store.now) (g.S.Store.faults c.args.store.now) (g.S.Store.faults c.args.store.now) 10 (g.S.Store.files c.args.store.now) refl
+pub returns-clause-client_compiled : goal.returns-clause-client_compiled
+returns-clause-client_compiled g c = λ name p texts not6 not8 not10. client_compiled (asked c.args.words.now) (g.S.Store.files c.args.store.now) c.do_command.result (g.S.Store.files c.do_command.new.store) (g.K.Sink.written c.args.out.now) (g.K.Sink.written c.do_command.new.out) (c.do_command.ensures.answered not6 not8 not10) name p texts

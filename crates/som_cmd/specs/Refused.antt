@@ -1,0 +1,34 @@
+-- With which statuses a call may end, and what it tells where it is refused, whatever store and sink tell.
+use Rattle.std.specs.Prelude.{ℕ, List, [], ◌∷◌, Option, ◌≡◌, ◌⊎◌}
+use Rattle.som_io.specs.Outside.{ShowsAll, ShowsFront}
+use Rattle.som_steps.specs.Refusing.{TellsRefusal}
+use Rattle.som_build.specs.LibraryAnswer.{library_statuses}
+use Rattle.som_build.specs.ClientAnswer.{client_statuses}
+use Rattle.som_check.specs.CheckAnswer.{check_statuses}
+use Rattle.som_check.specs.ShowAnswer.{show_statuses}
+use Rattle.som_run.specs.RunAnswer.{IsRunRefusal, run_statuses}
+use Rattle.som_cmd.specs.Answer.{bad_line}
+use Rattle.som_cmd.specs.Words.{Asked, Run, Show, Check, Library, Client, Bad}
+
+-- the statuses of what is asked for; words of no form are refused, or the sink fails or memory runs out meanwhile
+abbrev pub statuses_of : Asked → List ℕ
+statuses_of (Run client library fuel) = run_statuses
+statuses_of (Show image) = show_statuses
+statuses_of (Check images) = check_statuses
+statuses_of (Library out names) = library_statuses
+statuses_of (Client out library names) = client_statuses
+statuses_of Bad = 2 ∷ 8 ∷ 10 ∷ []
+
+-- a run that is refused tells it by one line alone: a name isn't there, an image isn't taken, or the client wasn't compiled against the faces of the library
+abbrev pub TellsOneLine : Asked → ℕ → Option (List ℕ) → Option (List ℕ) → Type 0
+TellsOneLine (Run client library fuel) status old new = (status ≡ 4) ⊎ (status ≡ 5) ⊎ (status ≡ 7) → TellsRefusal (IsRunRefusal client library) status old new
+TellsOneLine (Show image) status old new = Unit {0}
+TellsOneLine (Check images) status old new = Unit {0}
+TellsOneLine (Library out names) status old new = Unit {0}
+TellsOneLine (Client out library names) status old new = Unit {0}
+TellsOneLine Bad status old new = Unit {0}
+
+-- the one line for words of no form was written at status 2, and at any other a front of it
+pub record TellsBadWords (status : ℕ) (old new : Option (List ℕ)) : Type 0 where
+  pub whole : status ≡ 2 → ShowsAll old new bad_line
+  pub front : ShowsFront old new bad_line
