@@ -27,7 +27,6 @@ use Rattle.som_frames.specs.Passed.{passes_offset, passes_named, passes_parent, 
 use Rattle.som_frames.specs.Step.{Step, frames, go, makes, waits, free_begins, new_begins, new_no_init_begins, forward_begins, kernel_begins, stands_at, goes_past, answered, after_body, next_parent, resume, obey, obey_at, begins, invoke_next, call_at, next}
 use Rattle.som_frames.specs.CallBodies.{call_bodies}
 use Rattle.som_frames.specs.Tested.{Tests, passes, place_of}
-use Rattle.som_frames.specs.Sources.{Laying}
 use Rattle.som_frames.specs.Weight.{room, cost, body_weight, waiting_weight, all_weight, weight, IsNowSound}
 use Rattle.som_frames.specs.Counts.{invokes}
 use Rattle.som_frames.proofs.Calm.{Calm, calm_pure, calm_fault, calm_tried, calm_asked, calm_reading, calm_used, calm_freed, calm_make, calm_more, calm_before, calm_after, calm_assign, calm_bind, Steady, steady_on, steady_over, steady_fault, steady_bind, takes_call, takes_then, Fine, none, fine_steady, fine_takes, fine_call, calm_passes}
@@ -210,8 +209,8 @@ module _ (w : World) where
     kernel_calm FindClass args = calm_more (found_object (class_found w args) >>= λ v. go (Answering v) ks) (answered_calm (found_object (class_found w args)) (found_calm (class_found w args)))
     kernel_calm (Asks q) args = calm_more (asked at (asks w q self args) >>= λ v. go (Answering v) ks) (answered_calm (asked at (asks w q self args)) (calm_asked at (asks w q self args)))
 
-  module _ (tests : Tests) (laid : Laying) where
-    begins_calm : (i : Invocation) (b : Held) (l : ℕ) (ks : List Waiting) → Calm 1 (begins w tests laid i b l ks)
+  module _ (tests : Tests) where
+    begins_calm : (i : Invocation) (b : Held) (l : ℕ) (ks : List Waiting) → Calm 1 (begins w tests i b l ks)
     begins_calm i (held.User block) l ks = calm_more _ (calm_pure (On _))
     begins_calm i (held.Get n) l ks =
         let at = InBody i.class i.method.name in
@@ -223,14 +222,14 @@ module _ (w : World) where
     begins_calm i held.Forward l ks = calm_more (forward_begins w l (InBody i.class i.method.name) i.self ks i.method i.args) (forward_calm l (InBody i.class i.method.name) i.self ks i.method i.args)
     begins_calm i held.Nothing l ks = calm_more (go (Answering Nil) ks) (calm_pure (On (frames (Answering Nil) ks)))
 
-    invoke_fine : (l : ℕ) (is : List Invocation) (v : Value) (ks : List Waiting) → Fine (Below (1 + all_weight w ks)) (invokes tests (Invoking (record { levels = l; bodies = is; answer = v }))) (invoke_next w tests laid l is v ks)
+    invoke_fine : (l : ℕ) (is : List Invocation) (v : Value) (ks : List Waiting) → Fine (Below (1 + all_weight w ks)) (invokes tests (Invoking (record { levels = l; bodies = is; answer = v }))) (invoke_next w tests l is v ks)
     invoke_fine l [] v ks = fine_steady (Below (1 + all_weight w ks)) (go (Answering v) ks) (steady_on (Below (1 + all_weight w ks)) (frames (Answering v) ks) (omega arith))
     invoke_fine l (i ∷ is) v ks =
-        let begun : Step = begins w tests laid i i.body l (waits i.answers l is v ks) in
+        let begun : Step = begins w tests i i.body l (waits i.answers l is v ks) in
         fine_call (Below (1 + all_weight w ks)) (place_of i) (take_unit >>= λ _. emit (Called i.method i.way i.class) >>= λ _. begun)
         (takes_call i.method i.way i.class begun (begins_calm i i.body l (waits i.answers l is v ks))) (tests.body i)
 
-    call_steady_at : (l : ℕ) (q : Request) (ks : List Waiting) → Steady (Below (2 + all_weight w ks)) (call_at w tests laid l q ks)
+    call_steady_at : (l : ℕ) (q : Request) (ks : List Waiting) → Steady (Below (2 + all_weight w ks)) (call_at w tests l q ks)
     call_steady_at zero q ks = steady_fault (Below (2 + all_weight w ks)) faults.Depth q.from
     call_steady_at (suc l) q ks = record {
       calm = calm_reading 0 (λ h. go (Invoking (record { levels = l; bodies = call_bodies w (class_of w h q.self) q; answer = Nil })) ks) (λ h. calm_pure (On _));
@@ -238,10 +237,10 @@ module _ (w : World) where
     }
 
     -- each step
-    pub next_fine : (now : Now) (ks : List Waiting) → IsNowSound now → Fine (Below (weight w (frames now ks))) (invokes tests now) (next w tests laid now ks)
+    pub next_fine : (now : Now) (ks : List Waiting) → IsNowSound now → Fine (Below (weight w (frames now ks))) (invokes tests now) (next w tests now ks)
     next_fine (Running b) ks sound = running_fine b ks sound (slice_get b.code b.conf.at) refl
     next_fine (Calling l q) ks sound = fine_steady (Below (2 + all_weight w ks)) _
-        (steady_bind (Below (2 + all_weight w ks)) (passes q.from (tests.call q)) (λ _. call_at w tests laid l q ks) (calm_passes q.from (tests.call q)) (λ _. call_steady_at l q ks))
+        (steady_bind (Below (2 + all_weight w ks)) (passes q.from (tests.call q)) (λ _. call_at w tests l q ks) (calm_passes q.from (tests.call q)) (λ _. call_steady_at l q ks))
     next_fine (Invoking left) ks sound = invoke_fine left.levels left.bodies left.answer ks
     next_fine (Answering v) [] sound = fine_steady _ _ (steady_over (Below 0) (tt {0}))
     next_fine (Answering v) (k ∷ ks) sound =

@@ -3,7 +3,6 @@ pub mod CallBodies
 pub mod Tested
 pub mod Passed
 pub mod Step
-pub mod Sources
 pub mod Comes
 pub mod Stands
 pub mod Weight

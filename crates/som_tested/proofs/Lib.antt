@@ -1,3 +1,2 @@
 pub mod Plainly
 pub mod Passing
-pub mod Tests

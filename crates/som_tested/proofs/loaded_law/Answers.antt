@@ -8,9 +8,6 @@ use Rattle.som_model.specs.Loads.{Loads}
 use Rattle.som_model.specs.Means.{beginning, means_in}
 use Rattle.som_model.specs.World.{World, world}
 use Rattle.som_code.specs.Machine.{ComesTo}
-use Rattle.som_code.specs.Same.{HasEffect}
-use Rattle.som_code.specs.declared.instruction.Instruction.{Instruction}
-use Rattle.som_frames.specs.Sources.{Laying, IsLaid}
 use Rattle.som_frames.specs.Step.{main_frames, step}
 use Rattle.som_frames.specs.Tested.{Tests, tested_in}
 use Rattle.som_frames.proofs.Called.{main_comes}
@@ -27,20 +24,19 @@ module _ (cs : List Class) (main : Block) (tests : Tests) (loads : Loads cs main
   same : (fuel : ℕ) → tested_in w tests main fuel ≡ means_in w main fuel
   same fuel = let fits = main_scope cs main loads in main_same w (known_in (kernel ++ cs)) (sound_world cs main loads) tests implied main fits.0 fits.1 fuel
 
-  comes : (laid : Laying) (code : List Instruction) → IsLaid w tests laid → HasEffect code main 0 → (fuel : ℕ) → ComesTo (step w tests laid) (main_frames MAX_DEPTH code) (beginning w fuel) (means_in w main fuel)
-  comes laid code ok effect fuel =
-      subst (λ (r : Ran (Unit {0})). ComesTo (step w tests laid) (main_frames MAX_DEPTH code) (beginning w fuel) r) (same fuel) (main_comes w tests laid ok MAX_DEPTH main code effect (beginning w fuel))
+  comes : (fuel : ℕ) → ComesTo (step w tests) (main_frames MAX_DEPTH main) (beginning w fuel) (means_in w main fuel)
+  comes fuel = subst (λ (r : Ran (Unit {0})). ComesTo (step w tests) (main_frames MAX_DEPTH main) (beginning w fuel) r) (same fuel) (main_comes w tests MAX_DEPTH main (beginning w fuel))
 
 pub returns-clause-same : goal.returns-clause-same
 returns-clause-same c cs main tests fuel loads implied = same cs main tests loads implied fuel
 
 pub returns-clause-comes : goal.returns-clause-comes
-returns-clause-comes c cs main tests laid code fuel loads implied ok effect = comes cs main tests loads implied laid code ok effect fuel
+returns-clause-comes c cs main tests fuel loads implied = comes cs main tests loads implied fuel
 
 pub returns-clause-stands : goal.returns-clause-stands
-returns-clause-stands c cs main tests laid code loads implied ok effect = record {
+returns-clause-stands c cs main tests loads implied = record {
   by = λ f.
       let e : 0 + f ≡ f = omega arith in
       let w = world (kernel ++ cs) in
-      subst (λ n. ComesTo (step w tests laid) (main_frames MAX_DEPTH code) (beginning w n) (means_in w main n)) (sym e) (comes cs main tests loads implied laid code ok effect f);
+      subst (λ n. ComesTo (step w tests) (main_frames MAX_DEPTH main) (beginning w n) (means_in w main n)) (sym e) (comes cs main tests loads implied f);
 }

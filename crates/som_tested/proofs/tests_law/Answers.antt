@@ -1,17 +1,8 @@
-use Rattle.som_tested.proofs.Tests.{counting_implied, counting_counts, checking_implied, checking_counts, laid_so}
+use Rattle.std.proofs.Common.{refl}
 use Rattle.som_tested.proofs.tests_law.Goals as goal
 
-pub returns-clause-counting : goal.returns-clause-counting
-returns-clause-counting c w = counting_implied w
+pub returns-clause-none : goal.returns-clause-none
+returns-clause-none c w = record { call = λ q h e. refl; body = λ i h e. refl }
 
-pub returns-clause-counts : goal.returns-clause-counts
-returns-clause-counts c w = counting_counts w
-
-pub returns-clause-checking : goal.returns-clause-checking
-returns-clause-checking c w = checking_implied w
-
-pub returns-clause-checks : goal.returns-clause-checks
-returns-clause-checks c w = checking_counts w
-
-pub returns-clause-laid : goal.returns-clause-laid
-returns-clause-laid c w tests laid counts out = laid_so w tests laid counts out
+pub returns-clause-all : goal.returns-clause-all
+returns-clause-all c w = record { call = λ q h e. e; body = λ i h e. e }
