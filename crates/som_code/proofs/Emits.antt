@@ -1,8 +1,8 @@
 -- What is written one after the other, and jumps that are written back, are the code of a form.
-use Rattle.std.proofs.Common.{◌≡◌, ◌<◌, ◌+◌, ℕ, suc, List, [], ◌∷◌, ◌++◌, map, length, drop, get_or, Result, Ok, Err, OnOk, true, false, refl, sym, ap, ◌∙◌, arith, length-append, append_assoc}
+use Rattle.std.proofs.Common.{◌≡◌, ◌+◌, ℕ, List, [], ◌∷◌, ◌++◌, map, length, Result, Ok, Err, OnOk, true, false, refl, sym, ap, ◌∙◌, arith, length-append, append_assoc}
 use Rattle.std.specs.Prelude.{slice_set}
 use Rattle.std.proofs.lemmas.List.{length-map}
-use Rattle.std.proofs.Math.Seq.{set-append_seam, drop-cons}
+use Rattle.std.proofs.Math.Seq.{set-append_seam}
 use Rattle.som_model.specs.declared.key.MethodRef.{MethodRef}
 use Rattle.som_model.specs.declared.key.ValueType.{ValueType}
 use Rattle.som_model.specs.declared.syntax.HostCode.{HostCode}
@@ -70,16 +70,6 @@ pub host_laid : (c c1 c2 c3 : List Instruction) (e : Expr) (host : HostCode) (a 
     → c3 ≡ c2 ++ ops.Host host ∷ [] → c3 ≡ c ++ lay_expr e (length c)
 host_laid c c1 c2 c3 e host a b is e1 e2 e3 = form c c1 c2 c3 e [] _ (exprs.Host host a b) is (ap lay_expr (sym (rolls-Host host a b)) ∙ fold-roll-Expr Lays expr_step (Expr-F.Host host a b)) c3
     (emits_then (lay_expr a) (lay_expr b then just (ops.Host host)) c c1 c3 e1 (emits_then (lay_expr b) (just (ops.Host host)) c1 c2 c3 e2 e3))
-
--- ---- arguments, one after the other
-
-pub args_more : (es : List Expr) (i : ℕ) (e : Expr) (c c1 whole : List Instruction) → i < length es → e ≡ get_or es i e
-    → c ++ lay_each (map lay_expr (drop i es)) (length c) ≡ whole → c1 ≡ c ++ lay_expr e (length c) → c1 ++ lay_each (map lay_expr (drop (i + 1) es)) (length c1) ≡ whole
-args_more es i e c c1 whole lt is h e1 =
-    let n : i + 1 ≡ suc i = omega arith in
-    let d : drop i es ≡ e ∷ drop (i + 1) es = drop-cons es i e lt ∙ ap (λ (z : Expr). z ∷ drop (suc i) es) (sym is) ∙ ap (λ k. e ∷ drop k es) (sym n) in
-    emits_then (lay_expr e) (lay_each (map lay_expr (drop (i + 1) es))) c c1 (c1 ++ lay_each (map lay_expr (drop (i + 1) es)) (length c1)) e1 refl
-    ∙ sym (ap (λ (l : List Expr). c ++ lay_each (map lay_expr l) (length c)) d) ∙ h
 
 -- ---- jumps that are written back
 

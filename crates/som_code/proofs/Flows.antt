@@ -1,5 +1,5 @@
 -- Pieces of code that go on with other locals, or end the body.
-use Rattle.std.proofs.Common.{◌≡◌, ◌≤◌, ◌+◌, ℕ, zero, suc, List, [], ◌∷◌, ◌++◌, length, take, Bool, true, false, ◌&&◌, if◌then◌else◌, refl, sym, ap, ◌∙◌, subst, arith, length-append}
+use Rattle.std.proofs.Common.{◌≡◌, ◌≤◌, ◌+◌, ℕ, zero, suc, List, [], ◌∷◌, ◌++◌, length, take, if◌then◌else◌, refl, sym, ap, ◌∙◌, subst, arith, length-append}
 use Rattle.som_model.specs.World.{World}
 use Rattle.som_model.specs.State.{Value, Event, Heap, State}
 use Rattle.som_model.specs.Runs.{Ran, Goes, Ends, end_of, follow, Act}
@@ -12,15 +12,11 @@ use Rattle.som_code.specs.declared.instruction.Instruction.{Instruction}
 use Rattle.som_code.specs.declared.instruction.Instruction.TheVariants as ops
 use Rattle.som_code.specs.Machine.{After, On, Over}
 use Rattle.som_code.specs.Effect.{Conf, conf, step, obey}
-use Rattle.som_code.specs.Laid.{Lays, Bodies, Laid, LaidBlock, just, ◌then◌, lay_all, all_fit, lay_choice, lay_loop}
+use Rattle.som_code.specs.Laid.{Lays, Bodies, Laid, just, ◌then◌, lay_all, lay_choice, lay_loop}
 use Rattle.som_code.proofs.Leads.{lead_bind, lead_trans, lead_none, follow_assoc}
 use Rattle.som_code.proofs.Sits.{Sits, sits_front, sits_back}
 use Rattle.som_code.proofs.Pieces.{Goes_to, one, one_then, Puts, decides, then_length}
 use Rattle.som_code.proofs.Keeps.{Keeps}
-
-pub both : (x y : Bool) → x && y ≡ true → (x ≡ true) × (y ≡ true)
-both true y h = (refl, h)
-both false y h = absurd cc
 
 module _ (w : World) (here : Here) (zero_value : Value) (call : Calls) (code : List Instruction) where
   abbrev G : Conf → State → Ran (After Conf Value) → Type 0
@@ -36,29 +32,29 @@ module _ (w : World) (here : Here) (zero_value : Value) (call : Calls) (code : L
   landing b st (Returned v) t = Goes (Over v) t
 
   -- a piece of code, where these operands are on top and so many locals are visible
-  pub record Flows (taken : List Value) (m : Runs) (fits : ℕ → Bool) (lays : Bodies) : Type 0 where
-    pub by : (a d : ℕ) (st : List Value) (fr : Frame) (s : State) → length fr ≡ d → fits d ≡ true → Sits code a (lays d a)
+  pub record Flows (taken : List Value) (m : Runs) (lays : Bodies) : Type 0 where
+    pub by : (a d : ℕ) (st : List Value) (fr : Frame) (s : State) → length fr ≡ d → Sits code a (lays d a)
         → G (conf a (taken ++ st) fr) s (follow ((m fr).does s) (landing (a + length (lays d a)) st))
 
   -- one instruction
-  pub flows_one : (taken : List Value) (m : Runs) (fits : ℕ → Bool) (i : ℕ → Instruction)
-      → ((a d : ℕ) (st : List Value) (fr : Frame) (s : State) → length fr ≡ d → fits d ≡ true → (obey w here zero_value call (i d) a (taken ++ st) fr).does s ≡ follow ((m fr).does s) (landing (a + 1) st))
-      → Flows taken m fits (λ d. just (i d))
-  flows_one taken m fits i is = record {
-    by = λ a d st fr s l t h.
-        subst (G (conf a (taken ++ st) fr) s) (is a d st fr s l t) (one w here zero_value call code (i d) (conf a (taken ++ st) fr) s h.0);
+  pub flows_one : (taken : List Value) (m : Runs) (i : ℕ → Instruction)
+      → ((a d : ℕ) (st : List Value) (fr : Frame) (s : State) → length fr ≡ d → (obey w here zero_value call (i d) a (taken ++ st) fr).does s ≡ follow ((m fr).does s) (landing (a + 1) st))
+      → Flows taken m (λ d. just (i d))
+  flows_one taken m i is = record {
+    by = λ a d st fr s l h.
+        subst (G (conf a (taken ++ st) fr) s) (is a d st fr s l) (one w here zero_value call code (i d) (conf a (taken ++ st) fr) s h.0);
   }
 
   -- a value is put on the stack, and the piece after it takes that
-  pub flows_then : (taken : List Value) (m : Evals) (k : Value → Runs) (f : Lays) (fits : ℕ → Bool) (g : Bodies) → Puts w here zero_value call code taken m f → ((x : Value) → Flows (x ∷ []) (k x) fits g)
-      → Flows taken (λ fr. m fr >>= λ x. k x fr) fits (λ d. f then g d)
-  flows_then taken m k f fits g first rest = record {
-    by = λ a d st fr s l t h.
+  pub flows_then : (taken : List Value) (m : Evals) (k : Value → Runs) (f : Lays) (g : Bodies) → Puts w here zero_value call code taken m f → ((x : Value) → Flows (x ∷ []) (k x) g)
+      → Flows taken (λ fr. m fr >>= λ x. k x fr) (λ d. f then g d)
+  flows_then taken m k f g first rest = record {
+    by = λ a d st fr s l h.
         let b = a + length (f a) in
         subst (λ (n : ℕ). G (conf a (taken ++ st) fr) s (follow (follow ((m fr).does s) (λ x. (k x fr).does)) (landing n st))) (then_length a (f a) (g d b))
         (lead_bind machine (conf a (taken ++ st) fr) s ((m fr).does s) (λ v. conf b (v ∷ st) fr) (λ x. (k x fr).does) (landing (b + length (g d b)) st)
         (first.by a st fr s (sits_front code a (f a) (g d b) h))
-        (λ x u _. (rest x).by b d st fr u l t (sits_back code a (f a) (g d b) h)));
+        (λ x u _. (rest x).by b d st fr u l (sits_back code a (f a) (g d b) h)));
   }
 
   -- goes on where the first part goes on; where that returns, all is over
@@ -72,35 +68,34 @@ module _ (w : World) (here : Here) (zero_value : Value) (call : Calls) (code : L
 
   -- ---- statements one after the other
 
-  pub flows_none : Flows [] (all_of []) (all_fit []) (lay_all [])
+  pub flows_none : Flows [] (all_of []) (lay_all [])
   flows_none = record {
-    by = λ a d st fr s l t h. let e : a ≡ a + 0 = omega arith in
+    by = λ a d st fr s l h. let e : a ≡ a + 0 = omega arith in
         subst (λ (n : ℕ). G (conf a st fr) s (Goes (On (conf n st fr)) s)) e (lead_none machine (conf a st fr) s);
   }
 
-  pub flows_next : (m : Runs) (x : Laid) (ms : List Runs) (xs : List Laid) → Keeps m x.adds → Flows [] m x.fits x.lays → Flows [] (all_of ms) (all_fit xs) (lay_all xs) → Flows [] (all_of (m ∷ ms)) (all_fit (x ∷ xs)) (lay_all (x ∷ xs))
+  pub flows_next : (m : Runs) (x : Laid) (ms : List Runs) (xs : List Laid) → Keeps m x.adds → Flows [] m x.lays → Flows [] (all_of ms) (lay_all xs) → Flows [] (all_of (m ∷ ms)) (lay_all (x ∷ xs))
   flows_next m x ms xs keeps flows rest = record {
-    by = λ a d st fr s l t h.
+    by = λ a d st fr s l h.
         let b = a + length (x.lays d a) in
         let ys : List Instruction = lay_all xs (d + x.adds) b in
-        let p = both (x.fits d) (all_fit xs (d + x.adds)) t in
         subst (λ (n : ℕ). G (conf a st fr) s (follow (follow ((m fr).does s) (λ flow. (go_on flow (all_of ms)).does)) (landing n st))) (then_length a (x.lays d a) ys)
         (subst (G (conf a st fr) s) (sym (follow_assoc ((m fr).does s) (λ flow. (go_on flow (all_of ms)).does) (landing (b + length ys) st)))
         (flow_on (conf a st fr) s ((m fr).does s) b st (λ flow u. follow ((go_on flow (all_of ms)).does u) (landing (b + length ys) st))
-        (flows.by a d st fr s l p.0 (sits_front code a (x.lays d a) ys h))
-        (λ fr' u is. rest.by b (d + x.adds) st fr' u (keeps.by fr s fr' u is ∙ ap (λ n. n + x.adds) l) p.1 (sits_back code a (x.lays d a) ys h))
+        (flows.by a d st fr s l (sits_front code a (x.lays d a) ys h))
+        (λ fr' u is. rest.by b (d + x.adds) st fr' u (keeps.by fr s fr' u is ∙ ap (λ n. n + x.adds) l) (sits_back code a (x.lays d a) ys h))
         (λ u. refl) (λ v u. refl)));
   }
 
-  pub flows_block : (ms : List Runs) (xs : List Laid) → Flows [] (all_of ms) (all_fit xs) (lay_all xs)
-      → Flows [] (λ fr. all_of ms fr >>= λ flow. pure (leave (length fr) flow)) (all_fit xs) (λ d. lay_all xs d then just (ops.Cut d))
+  pub flows_block : (ms : List Runs) (xs : List Laid) → Flows [] (all_of ms) (lay_all xs)
+      → Flows [] (λ fr. all_of ms fr >>= λ flow. pure (leave (length fr) flow)) (λ d. lay_all xs d then just (ops.Cut d))
   flows_block ms xs flows = record {
-    by = λ a d st fr s l t h.
+    by = λ a d st fr s l h.
         let b = a + length (lay_all xs d a) in
         subst (λ (n : ℕ). G (conf a st fr) s (follow (follow ((all_of ms fr).does s) (λ flow u. Goes (leave (length fr) flow) u)) (landing n st))) (then_length a (lay_all xs d a) (ops.Cut d ∷ []))
         (subst (G (conf a st fr) s) (sym (follow_assoc ((all_of ms fr).does s) (λ flow u. Goes (leave (length fr) flow) u) (landing (b + 1) st)))
         (flow_on (conf a st fr) s ((all_of ms fr).does s) b st (λ flow u. landing (b + 1) st (leave (length fr) flow) u)
-        (flows.by a d st fr s l t (sits_front code a (lay_all xs d a) _ h))
+        (flows.by a d st fr s l (sits_front code a (lay_all xs d a) _ h))
         (λ fr' u _. subst (λ (n : ℕ). G (conf b st fr') u (Goes (On (conf (b + 1) st (take n fr'))) u)) (sym l)
         (one w here zero_value call code (ops.Cut d) (conf b st fr') u (sits_back code a (lay_all xs d a) _ h).0))
         (λ u. refl) (λ v u. refl)));
@@ -108,23 +103,22 @@ module _ (w : World) (here : Here) (zero_value : Value) (call : Calls) (code : L
 
   -- ---- choices
 
-  pub flows_choice : (v : Value) (m m' : Runs) (x y : LaidBlock) → Flows [] m x.fits x.lays → Flows [] m' y.fits y.lays
-      → Flows (v ∷ []) (λ fr. if is_true v then m fr else m' fr) (λ d. x.fits d && y.fits d) (λ d. lay_choice (x.lays d) (y.lays d))
+  pub flows_choice : (v : Value) (m m' : Runs) (x y : Bodies) → Flows [] m x → Flows [] m' y
+      → Flows (v ∷ []) (λ fr. if is_true v then m fr else m' fr) (λ d. lay_choice (x d) (y d))
   flows_choice v m m' x y ok ok' = record {
-    by = λ b d st fr s l t h.
-        let p = both (x.fits d) (y.fits d) t in
-        let n = b + 1 + length (x.lays d (b + 1)) in
-        let end = n + 1 + length (y.lays d (n + 1)) in
-        let e : end ≡ b + length (lay_choice (x.lays d) (y.lays d) b) = simp length-append (omega arith) in
-        let tail : List Instruction = ops.Jump end ∷ y.lays d (n + 1) in
-        let back : Sits code n tail = sits_back code (b + 1) (x.lays d (b + 1)) tail h.1 in
+    by = λ b d st fr s l h.
+        let n = b + 1 + length (x d (b + 1)) in
+        let end = n + 1 + length (y d (n + 1)) in
+        let e : end ≡ b + length (lay_choice (x d) (y d) b) = simp length-append (omega arith) in
+        let tail : List Instruction = ops.Jump end ∷ y d (n + 1) in
+        let back : Sits code n tail = sits_back code (b + 1) (x d (b + 1)) tail h.1 in
         subst (λ (z : ℕ). G (conf b (v ∷ st) fr) s (follow ((if is_true v then m fr else m' fr).does s) (landing z st))) e
         (decides w here zero_value call code v (m fr) (m' fr) b (n + 1) st fr s (landing end st) h.0
         (flow_on (conf (b + 1) st fr) s ((m fr).does s) n st (landing end st)
-        (ok.by (b + 1) d st fr s l p.0 (sits_front code (b + 1) (x.lays d (b + 1)) tail h.1))
+        (ok.by (b + 1) d st fr s l (sits_front code (b + 1) (x d (b + 1)) tail h.1))
         (λ fr' u _. one w here zero_value call code (ops.Jump end) (conf n st fr') u back.0)
         (λ u. refl) (λ z u. refl))
-        (ok'.by (n + 1) d st fr s l p.1 back.1));
+        (ok'.by (n + 1) d st fr s l back.1));
   }
 
   -- ---- loops
@@ -133,9 +127,9 @@ module _ (w : World) (here : Here) (zero_value : Value) (call : Calls) (code : L
   falls : {A : Type 0} (m : Act A) (s : State) (x : A) (t : State) → m.does s ≡ Goes x t → t.fuel ≤ s.fuel
   falls m s x t h = subst (λ (r : Ran _). (end_of r).fuel ≤ s.fuel) h (m.law.falls s)
 
-  module _ (c : Evals) (lc : Lays) (cond : Puts w here zero_value call code [] c lc) (r : Runs) (x : LaidBlock) (keeps : Keeps r 0) (flows : Flows [] r x.fits x.lays) (a d : ℕ) (st : List Value) (t : x.fits d ≡ true) where
+  module _ (c : Evals) (lc : Lays) (cond : Puts w here zero_value call code [] c lc) (r : Runs) (x : Bodies) (keeps : Keeps r 0) (flows : Flows [] r x) (a d : ℕ) (st : List Value) where
     abbrev m : ℕ
-    m = a + 2 + length (x.lays d (a + 2))
+    m = a + 2 + length (x d (a + 2))
 
     abbrev b : ℕ
     b = m + length (lc m)
@@ -150,12 +144,12 @@ module _ (w : World) (here : Here) (zero_value : Value) (call : Calls) (code : L
     abbrev Loops : ℕ → Type 0
     Loops n = (fr : Frame) (s : State) → length fr ≡ d → suc s.fuel ≤ n → G (conf m st fr) s (follow ((loop fr).does s) (landing (b + 2) st))
 
-    module _ (h : Sits code a (lay_loop lc (x.lays d) a)) where
-      body_sits : Sits code (a + 2) (x.lays d (a + 2) ++ (lc m ++ end))
-      body_sits = let p : a + 1 + 1 ≡ a + 2 = omega arith in subst (λ (z : ℕ). Sits code z (x.lays d (a + 2) ++ (lc m ++ end))) p h.1.1
+    module _ (h : Sits code a (lay_loop lc (x d) a)) where
+      body_sits : Sits code (a + 2) (x d (a + 2) ++ (lc m ++ end))
+      body_sits = let p : a + 1 + 1 ≡ a + 2 = omega arith in subst (λ (z : ℕ). Sits code z (x d (a + 2) ++ (lc m ++ end))) p h.1.1
 
       cond_sits : Sits code m (lc m ++ end)
-      cond_sits = sits_back code (a + 2) (x.lays d (a + 2)) (lc m ++ end) body_sits
+      cond_sits = sits_back code (a + 2) (x d (a + 2)) (lc m ++ end) body_sits
 
       end_sits : Sits code b end
       end_sits = sits_back code m (lc m) end cond_sits
@@ -171,7 +165,7 @@ module _ (w : World) (here : Here) (zero_value : Value) (call : Calls) (code : L
           (subst (λ (z : ℕ). G (conf z st fr) u (follow (follow ((r fr).does u) (λ flow. (go_on flow loop).does)) (landing (b + 2) st))) (sym p)
           (subst (G (conf (a + 2) st fr) u) (sym (follow_assoc ((r fr).does u) (λ flow. (go_on flow loop).does) (landing (b + 2) st)))
           (flow_on (conf (a + 2) st fr) u ((r fr).does u) m st (λ flow z. follow ((go_on flow loop).does z) (landing (b + 2) st))
-          (flows.by (a + 2) d st fr u len t (sits_front code (a + 2) (x.lays d (a + 2)) (lc m ++ end) body_sits))
+          (flows.by (a + 2) d st fr u len (sits_front code (a + 2) (x d (a + 2)) (lc m ++ end) body_sits))
           (λ fr' z is.
           let q : length fr' ≡ length fr + 0 = keeps.by fr u fr' z is in
           let g : z.fuel ≤ f = falls (r fr) u (Next fr') z is in
@@ -192,12 +186,12 @@ module _ (w : World) (here : Here) (zero_value : Value) (call : Calls) (code : L
       all_loops zero fr s len le = absurd (omega (arith, le))
       all_loops (suc n) fr s len le = once n (all_loops n) fr s len (omega (arith, le))
 
-      looped : (fr : Frame) (s : State) → length fr ≡ d → G (conf a st fr) s (follow ((loop fr).does s) (landing (a + length (lay_loop lc (x.lays d) a)) st))
+      looped : (fr : Frame) (s : State) → length fr ≡ d → G (conf a st fr) s (follow ((loop fr).does s) (landing (a + length (lay_loop lc (x d) a)) st))
       looped fr s len =
-          let e : b + 2 ≡ a + length (lay_loop lc (x.lays d) a) = simp length-append (omega arith) in
+          let e : b + 2 ≡ a + length (lay_loop lc (x d) a) = simp length-append (omega arith) in
           subst (λ (n : ℕ). G (conf a st fr) s (follow ((loop fr).does s) (landing n st))) e
           (one_then w here zero_value call code (ops.Jump m) (conf a st fr) (conf m st fr) s s _ h.0 refl
           (once s.fuel (all_loops s.fuel) fr s len (self_le s.fuel)))
 
-  pub flows_loop : (c : Evals) (lc : Lays) → Puts w here zero_value call code [] c lc → (r : Runs) (x : LaidBlock) → Keeps r 0 → Flows [] r x.fits x.lays → Flows [] (while_loop c r) x.fits (λ d. lay_loop lc (x.lays d))
-  flows_loop c lc cond r x keeps flows = record { by = λ a d st fr s len t h. looped c lc cond r x keeps flows a d st t h fr s len }
+  pub flows_loop : (c : Evals) (lc : Lays) → Puts w here zero_value call code [] c lc → (r : Runs) (x : Bodies) → Keeps r 0 → Flows [] r x → Flows [] (while_loop c r) (λ d. lay_loop lc (x d))
+  flows_loop c lc cond r x keeps flows = record { by = λ a d st fr s len h. looped c lc cond r x keeps flows a d st h fr s len }

@@ -5,21 +5,21 @@ use Rattle.som_code.specs.declared.instruction.Instruction.{Instruction}
 use Rattle.som_code.specs.declared.instruction.Instruction.TheVariants as ops
 use Rattle.som_code.specs.Laid.{just, lay_block, lay_body}
 use Rattle.som_code.specs.Sound.{is_return, IsSound}
-use Rattle.som_code.specs.Same.{IsTyped, HasEffect}
+use Rattle.som_code.specs.Same.{HasEffect}
 use Rattle.som_code.proofs.Emits.{emits_then}
 use Rattle.som_code.proofs.Led.{laid_sound}
-use Rattle.som_code.proofs.Fits.{typed_fits}
 use Rattle.som_code.proofs.Stmts.{laid_effect}
 
-module _ (b : Block) (params : ℕ) (c c1 c2 : List Instruction) (e : c ≡ []) (e1 : c1 ≡ c ++ (lay_block b).lays params (length c)) (e2 : c2 ≡ c1 ++ ops.Return ∷ []) where
-  is_laid : c2 ≡ lay_body b params
-  is_laid = emits_then ((lay_block b).lays params) (just ops.Return) [] c1 c2 (e1 ∙ ap (λ (z : List Instruction). z ++ (lay_block b).lays params (length z)) e) e2
+module _ (b : Block) (params : ℕ) (c c1 c2 : List Instruction) (e : c ≡ []) (e1 : c1 ≡ c ++ lay_block b params (length c)) (e2 : c2 ≡ c1 ++ ops.Return ∷ []) where
+  pub out_laid : c2 ≡ lay_body b params
+  out_laid = emits_then (lay_block b params) (just ops.Return) [] c1 c2 (e1 ∙ ap (λ (z : List Instruction). z ++ lay_block b params (length z)) e) e2
 
   pub out_sound : IsSound c2
-  out_sound = subst IsSound (sym is_laid) (laid_sound b params)
+  out_sound = subst IsSound (sym out_laid) (laid_sound b params)
 
-  pub out_effect : (r : List Instruction) → r ≡ c2 → IsTyped b params → HasEffect r b params
-  out_effect r is t = subst (λ z. HasEffect z b params) (sym (is ∙ is_laid)) (laid_effect b params (typed_fits b params t))
+-- what code has that is laid out so
+pub laid_has_effect : (b : Block) (params : ℕ) (r : List Instruction) → r ≡ lay_body b params → HasEffect r b params
+laid_has_effect b params r is = subst (λ z. HasEffect z b params) (sym is) (laid_effect b params)
 
-  pub out_ends : (r : List Instruction) → r ≡ c2 → is_return (slice_get r (length r - 1)) ≡ true
-  out_ends r is = subst (λ (z : List Instruction). is_return (slice_get z (length z - 1)) ≡ true) (sym (is ∙ is_laid)) (laid_sound b params).ends
+pub laid_ends : (b : Block) (params : ℕ) (r : List Instruction) → r ≡ lay_body b params → is_return (slice_get r (length r - 1)) ≡ true
+laid_ends b params r is = subst (λ (z : List Instruction). is_return (slice_get z (length z - 1)) ≡ true) (sym is) (laid_sound b params).ends

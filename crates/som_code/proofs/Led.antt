@@ -1,5 +1,5 @@
 -- Laid code leads only to places in it, and back only to a turn.
-use Rattle.std.proofs.Common.{◌≡◌, ◌<◌, ◌+◌, ◌-◌, ℕ, zero, suc, List, [], ◌∷◌, ◌++◌, map, length, slice_get, Some, true, false, nat_lt, refl, sym, ap, ◌∙◌, subst, arith, length-append}
+use Rattle.std.proofs.Common.{◌≡◌, ◌<◌, ◌+◌, ◌-◌, ℕ, zero, suc, List, [], ◌∷◌, ◌++◌, map, length, slice_get, Some, Bool, if◌then◌else◌, true, false, nat_lt, refl, sym, ap, ◌∙◌, subst, arith, length-append}
 use Rattle.som_model.specs.declared.syntax.Expr.{Expr, ind-Expr, fold-roll-Expr, map-Expr}
 use Rattle.som_model.specs.declared.syntax.Expr.TheOpen.{Expr-F}
 use Rattle.som_model.specs.declared.syntax.Stmt.{Stmt, roll-Stmt, fold-roll-Stmt, map-Stmt}
@@ -11,7 +11,7 @@ use Rattle.som_code.specs.declared.instruction.Constant.TheVariants as constants
 use Rattle.som_code.specs.declared.instruction.Instruction.{Instruction}
 use Rattle.som_code.specs.declared.instruction.Instruction.TheVariants as ops
 use Rattle.som_code.specs.Sound.{is_turn, is_return, is_led, IsSound}
-use Rattle.som_code.specs.Laid.{Lays, Bodies, Laid, LaidBlock, nothing, just, ◌then◌, lay_each, lay_and, lay_or, lay_right, expr_step as lay_expr_step, lay_expr, lay_all, lay_choice, lay_loop, stmt_step as lay_step, block_step as lay_block_step, lay_stmt, lay_block, lay_body}
+use Rattle.som_code.specs.Laid.{Lays, Bodies, Laid, nothing, just, ◌then◌, lay_each, lay_and, lay_or, lay_right, expr_step as lay_expr_step, lay_expr, lay_all, lay_choice, lay_loop, set_local, stmt_step as lay_step, block_step as lay_block_step, lay_stmt, lay_block, lay_body}
 use Rattle.som_code.proofs.Bools.{and_true, or_left, or_right, lt_true}
 use Rattle.som_code.proofs.Sits.{Sits, sits_front, sits_back, sits_all}
 
@@ -140,7 +140,7 @@ module _ (code : List Instruction) where
   GoodStmt x = WellLaid (lay_stmt x).lays
 
   abbrev GoodBlock : Block → Type 0
-  GoodBlock b = WellLaid (lay_block b).lays
+  GoodBlock b = WellLaid (lay_block b)
 
   well_choice : (f g : Lays) → Well f → Well g → Well (lay_choice f g)
   well_choice f g p q = record {
@@ -180,6 +180,10 @@ module _ (code : List Instruction) where
         );
   }
 
+  set_led : (n p : ℕ) (b : Bool) → is_led code p (if b then ops.Set n else ops.Drop) ≡ nat_lt (p + 1) (length code)
+  set_led n p true = refl
+  set_led n p false = refl
+
   abbrev stmts : List ((x : Stmt) × GoodStmt x) → List Stmt
   stmts = map (λ e. e.0)
 
@@ -189,25 +193,25 @@ module _ (code : List Instruction) where
 
   layer : (y : Stmt-F ((x : Stmt) × GoodStmt x) ((b : Block) × GoodBlock b)) → WellLaid (lay_step (map-Stmt _ _ _ _ lay_stmt lay_block (map-Stmt _ _ _ _ (λ e. e.0) (λ e. e.0) y))).lays
   layer (Stmt-F.Var kind e) = record { by = λ d. well_last (lay_expr e) (ops.Set d) (expr_well e) (λ p. refl) }
-  layer (Stmt-F.SetLocal n e) = record { by = λ d. well_last (lay_expr e) (ops.Set n) (expr_well e) (λ p. refl) }
+  layer (Stmt-F.SetLocal n e) = record { by = λ d. well_last (lay_expr e) (set_local n d) (expr_well e) (λ p. set_led n p (nat_lt n d)) }
   layer (Stmt-F.SetVariable n e) = record { by = λ d. well_last (lay_expr e) (ops.SetVariable n) (expr_well e) (λ p. refl) }
-  layer (Stmt-F.If c x y) = record { by = λ d. well_then (lay_expr c) (lay_choice ((lay_block x.0).lays d) ((lay_block y.0).lays d)) (expr_well c) (well_choice ((lay_block x.0).lays d) ((lay_block y.0).lays d) (x.1.by d) (y.1.by d)) }
-  layer (Stmt-F.While c x) = record { by = λ d. well_loop (lay_expr c) ((lay_block x.0).lays d) (expr_well c) (x.1.by d) }
+  layer (Stmt-F.If c x y) = record { by = λ d. well_then (lay_expr c) (lay_choice (lay_block x.0 d) (lay_block y.0 d)) (expr_well c) (well_choice (lay_block x.0 d) (lay_block y.0 d) (x.1.by d) (y.1.by d)) }
+  layer (Stmt-F.While c x) = record { by = λ d. well_loop (lay_expr c) (lay_block x.0 d) (expr_well c) (x.1.by d) }
   layer Stmt-F.Return = record { by = λ d. well_end ops.Return (λ p. refl) }
   layer (Stmt-F.ReturnValue e) = record { by = λ d. well_then (lay_expr e) (just ops.ReturnValue) (expr_well e) (well_end ops.ReturnValue (λ p. refl)) }
   layer (Stmt-F.Print e) = record { by = λ d. well_last (lay_expr e) ops.Print (expr_well e) (λ p. refl) }
   layer (Stmt-F.Free e) = record { by = λ d. well_then (lay_expr e) (just (ops.OffsetCall som_free 0) then just ops.Drop) (expr_well e) (well_last (just (ops.OffsetCall som_free 0)) ops.Drop (well_one (ops.OffsetCall som_free 0) (λ p. refl)) (λ p. refl)) }
   layer (Stmt-F.Call e) = record { by = λ d. well_last (lay_expr e) ops.Drop (expr_well e) (λ p. refl) }
 
-  block_layer : (y : Block-F ((x : Stmt) × GoodStmt x) ((b : Block) × GoodBlock b)) → WellLaid (lay_block_step (map-Block _ _ _ _ lay_stmt lay_block (map-Block _ _ _ _ (λ e. e.0) (λ e. e.0) y))).lays
+  block_layer : (y : Block-F ((x : Stmt) × GoodStmt x) ((b : Block) × GoodBlock b)) → WellLaid (lay_block_step (map-Block _ _ _ _ lay_stmt lay_block (map-Block _ _ _ _ (λ e. e.0) (λ e. e.0) y)))
   block_layer y = record { by = λ d. well_last (lay_all (map lay_stmt (stmts y.statements)) d) (ops.Cut d) (all_well y.statements d) (λ p. refl) }
 
   from_stmt : (x : Stmt-F Stmt Block) (y : Stmt-F ((s : Stmt) × GoodStmt s) ((b : Block) × GoodBlock b)) → map-Stmt _ _ _ _ (λ e. e.0) (λ e. e.0) y ≡ x → GoodStmt (roll-Stmt x)
-  from_stmt x y is = subst (λ (l : Laid). WellLaid l.lays) (sym (fold-roll-Stmt Laid LaidBlock lay_step lay_block_step x)) (subst (λ z. WellLaid (lay_step (map-Stmt Stmt Block Laid LaidBlock lay_stmt lay_block z)).lays) is (layer y))
+  from_stmt x y is = subst (λ (l : Laid). WellLaid l.lays) (sym (fold-roll-Stmt Laid Bodies lay_step lay_block_step x)) (subst (λ z. WellLaid (lay_step (map-Stmt Stmt Block Laid Bodies lay_stmt lay_block z)).lays) is (layer y))
 
   block_well : (b : Block) → GoodBlock b
   block_well = ind-Block GoodStmt GoodBlock from_stmt
-      (λ x y is. subst (λ (l : LaidBlock). WellLaid l.lays) (sym (fold-roll-Block Laid LaidBlock lay_step lay_block_step x)) (subst (λ z. WellLaid (lay_block_step (map-Block Stmt Block Laid LaidBlock lay_stmt lay_block z)).lays) is (block_layer y)))
+      (λ x y is. subst (λ (l : Bodies). WellLaid l) (sym (fold-roll-Block Laid Bodies lay_step lay_block_step x)) (subst (λ z. WellLaid (lay_block_step (map-Block Stmt Block Laid Bodies lay_stmt lay_block z))) is (block_layer y)))
 
   led_at : (a p : ℕ) (x : List Instruction) (i : Instruction) → AreLed a x → slice_get x p ≡ Some i → is_led code (a + p) i ≡ true
   led_at a p [] i s h = absurd cc
@@ -218,7 +222,7 @@ module _ (code : List Instruction) where
 pub laid_sound : (b : Block) (params : ℕ) → IsSound (lay_body b params)
 laid_sound b params =
     let code : List Instruction = lay_body b params in
-    let x : List Instruction = (lay_block b).lays params 0 in
+    let x : List Instruction = lay_block b params 0 in
     let all : Sits code 0 (x ++ ops.Return ∷ []) = sits_all code in
     let l : length (x ++ ops.Return ∷ []) ≡ length x + 1 = length-append x (ops.Return ∷ []) in
     let last : length code - 1 ≡ 0 + length x = omega (arith, l) in

@@ -6,7 +6,6 @@ pub mod Keeps
 pub mod Flows
 pub mod Stmts
 pub mod Bools
-pub mod Fits
 pub mod Led
 pub mod Emits
 pub mod AsFar

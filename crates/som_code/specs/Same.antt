@@ -1,5 +1,5 @@
 -- What code has to have in common with its block.
-use Rattle.std.specs.Prelude.{◌≡◌, ℕ, List, length, Ok}
+use Rattle.std.specs.Prelude.{◌≡◌, ℕ, List, length}
 use Rattle.som_code.specs.declared.instruction.Instruction.{Instruction}
 use Rattle.som_code.specs.Machine.{ComesTo}
 use Rattle.som_code.specs.Effect.{beginning, step}
@@ -11,17 +11,6 @@ use Rattle.som_model.specs.Acts.{◌>>=◌, pure}
 use Rattle.som_model.specs.Calls.{Calls, Here}
 use Rattle.som_model.specs.Statements.{run_block}
 use Rattle.som_model.specs.Invoked.{answer_of}
-use Rattle.som_model.specs.Typing.{ClassFacts, CodePlace}
-use Rattle.som_model.specs.TypedBlocks.{Scope, block_scope}
-
--- a block is typed as a body of so many parameters: among some classes, at some place, it breaks no rule. So main is, without parameters, and each body of a class that conforms; and each local that it sets is a visible one
-pub record IsTyped (block : Block) (params : ℕ) : Type 0 where
-  pub classes : ClassFacts
-  pub place : CodePlace
-  pub scope : Scope
-  pub after : Scope
-  pub as_many : length scope ≡ params
-  pub fine : block_scope classes place block scope ≡ Ok after
 
 -- what a block does as a body with these parameters: where it ends without a value, it answers this one
 abbrev pub body_act : World → Calls → Here → Value → Block → List Value → Act Value

@@ -1,8 +1,10 @@
+ghost use Rattle.som_code.specs.Laid.{set_local};
 ghost use Rattle.std.specs.Prelude.{◌≡◌, ◌<◌, ◌++◌, ◌∷◌, [], length, slice_set, OnOk};
 
-use crate::Instruction;
-use som_model::{MethodRef, NoMemory, Text, ValueType};
+use crate::{Constant, Instruction};
+use som_model::{ClassKey, MethodRef, NoMemory, Text, ValueType};
 use std::alloc::Global;
+use std::mem;
 
 // One instruction more.
 pub(crate) fn emit(code: &mut Vec<Instruction>, instruction: Instruction) -> Result<(), NoMemory>
@@ -17,7 +19,73 @@ pub(crate) fn patch(code: &mut Vec<Instruction>, place: usize, instruction: Inst
     requires { place < length code.old.items }
     ensures { code.new.items ≡ slice_set code.old.items place instruction }
 {
-    code[place] = instruction;
+    drop(mem::replace(&mut code[place], instruction));
+}
+
+pub(crate) fn emit_text(
+    alloc: Global,
+    code: &mut Vec<Instruction>,
+    text: &Text,
+) -> Result<(), NoMemory>
+    ensures { OnOk result (code.new.items ≡ code.old.items ++ Instruction.Push (Constant.Str text.now) ∷ []) }
+{
+    let text = text.copy(alloc)?;
+    emit(code, Instruction::Push(Constant::Str(text)))
+}
+
+pub(crate) fn emit_new(
+    alloc: Global,
+    code: &mut Vec<Instruction>,
+    class: &ClassKey,
+) -> Result<(), NoMemory>
+    ensures { OnOk result (code.new.items ≡ code.old.items ++ Instruction.New class.now ∷ []) }
+{
+    let class = class.copy(alloc)?;
+    emit(code, Instruction::New(class))
+}
+
+pub(crate) fn emit_class(
+    alloc: Global,
+    code: &mut Vec<Instruction>,
+    class: &ClassKey,
+) -> Result<(), NoMemory>
+    ensures { OnOk result (code.new.items ≡ code.old.items ++ Instruction.Class class.now ∷ []) }
+{
+    let class = class.copy(alloc)?;
+    emit(code, Instruction::Class(class))
+}
+
+pub(crate) fn emit_cast(
+    alloc: Global,
+    code: &mut Vec<Instruction>,
+    class: &ClassKey,
+) -> Result<(), NoMemory>
+    ensures { OnOk result (code.new.items ≡ code.old.items ++ Instruction.Cast class.now ∷ []) }
+{
+    let class = class.copy(alloc)?;
+    emit(code, Instruction::Cast(class))
+}
+
+pub(crate) fn emit_isa(
+    alloc: Global,
+    code: &mut Vec<Instruction>,
+    class: &ClassKey,
+) -> Result<(), NoMemory>
+    ensures { OnOk result (code.new.items ≡ code.old.items ++ Instruction.Isa class.now ∷ []) }
+{
+    let class = class.copy(alloc)?;
+    emit(code, Instruction::Isa(class))
+}
+
+pub(crate) fn emit_proxy(
+    alloc: Global,
+    code: &mut Vec<Instruction>,
+    class: &ClassKey,
+) -> Result<(), NoMemory>
+    ensures { OnOk result (code.new.items ≡ code.old.items ++ Instruction.Proxy class.now ∷ []) }
+{
+    let class = class.copy(alloc)?;
+    emit(code, Instruction::Proxy(class))
 }
 
 pub(crate) fn emit_offset_call(
@@ -90,4 +158,19 @@ pub(crate) fn emit_parents_call(
 {
     let method = method.copy(alloc)?;
     emit(code, Instruction::ParentsCall { method, args })
+}
+
+// The top goes to a local, where that is visible.
+pub(crate) fn emit_set(
+    code: &mut Vec<Instruction>,
+    local: usize,
+    locals: usize,
+) -> Result<(), NoMemory>
+    ensures { OnOk result (code.new.items ≡ code.old.items ++ set_local local locals ∷ []) }
+{
+    if local < locals {
+        emit(code, Instruction::Set(local))
+    } else {
+        emit(code, Instruction::Drop)
+    }
 }

@@ -1,9 +1,11 @@
 ghost use Rattle.som_code.specs.Laid.{lay_and, lay_each, lay_expr, lay_or, lay_right};
+ghost use Rattle.som_model.specs.Blocks.{is_call};
 ghost use Rattle.som_model.specs.Values.{binary_op};
-ghost use Rattle.std.specs.Prelude.{◌≡◌, ◌++◌, length, map, OnOk};
+ghost use Rattle.std.specs.Prelude.{◌≡◌, ◌++◌, length, map, true, OnOk};
 
 use crate::emit::{
-    emit, emit_dispatch, emit_lookup, emit_offset_call, emit_parent_call, emit_parents_call, patch,
+    emit, emit_cast, emit_class, emit_dispatch, emit_isa, emit_lookup, emit_new, emit_offset_call,
+    emit_parent_call, emit_parents_call, emit_proxy, emit_text, patch,
 };
 use crate::{Constant, Instruction};
 use som_model::{Boxed, Expr, List, NoMemory};
@@ -25,7 +27,7 @@ pub(crate) fn emit_expr(
 {
     match e {
         Expr::Long(number) => emit(code, Instruction::Push(Constant::Long(*number))),
-        Expr::Str(text) => emit(code, Instruction::Push(Constant::Str(text.copy(alloc)?))),
+        Expr::Str(text) => emit_text(alloc, code, text),
         Expr::Boolean(truth) => emit(code, Instruction::Push(Constant::Boolean(*truth))),
         Expr::Nil => emit(code, Instruction::Push(Constant::Nil)),
         Expr::Local(place) => emit(code, Instruction::Get(*place as usize)),
@@ -39,21 +41,37 @@ pub(crate) fn emit_expr(
             emit_part(alloc, code, left)?;
             emit_right(alloc, code, *op, right)
         }
-        Expr::New(class) => emit(code, Instruction::New(class.copy(alloc)?)),
-        Expr::Class(class) => emit(code, Instruction::Class(class.copy(alloc)?)),
+        Expr::New(class) => emit_new(alloc, code, class),
+        Expr::Class(class) => emit_class(alloc, code, class),
         Expr::Manager => emit(code, Instruction::Manager),
         Expr::Cast { class, of } => {
             emit_part(alloc, code, of)?;
-            emit(code, Instruction::Cast(class.copy(alloc)?))
+            emit_cast(alloc, code, class)
         }
         Expr::Isa { class, of } => {
             emit_part(alloc, code, of)?;
-            emit(code, Instruction::Isa(class.copy(alloc)?))
+            emit_isa(alloc, code, class)
         }
         Expr::Proxy { class, of } => {
             emit_part(alloc, code, of)?;
-            emit(code, Instruction::Proxy(class.copy(alloc)?))
+            emit_proxy(alloc, code, class)
         }
+        Expr::Host { code: host, a, b } => {
+            emit_part(alloc, code, a)?;
+            emit_part(alloc, code, b)?;
+            emit(code, Instruction::Host(*host))
+        }
+        _ => emit_call(alloc, code, e),
+    }
+}
+
+// The code of a call.
+#[cycle(emit_expr)]
+fn emit_call(alloc: Global, code: &mut Vec<Instruction>, e: &Expr) -> Result<(), NoMemory>
+    requires { is_call e.now ≡ true }
+    ensures { OnOk result (code.new.items ≡ code.old.items ++ lay_expr e.now (length code.old.items)) }
+{
+    match e {
         Expr::OffsetCall {
             method,
             receiver,
@@ -95,11 +113,7 @@ pub(crate) fn emit_expr(
             emit_args(alloc, code, args)?;
             emit_parents_call(alloc, code, method, args.len())
         }
-        Expr::Host { code: host, a, b } => {
-            emit_part(alloc, code, a)?;
-            emit_part(alloc, code, b)?;
-            emit(code, Instruction::Host(*host))
-        }
+        _ => unreachable!(),
     }
 }
 

@@ -10,4 +10,4 @@ mod statements;
 
 pub use code::Code;
 pub use instruction::{Constant, Instruction};
-pub use layout::lay_out;
+pub use layout::{lay_out, lay_out_for};

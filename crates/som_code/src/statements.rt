@@ -1,9 +1,9 @@
 ghost use Rattle.som_code.specs.Laid.{lay_block, lay_choice, lay_expr, lay_loop, lay_stmt};
 ghost use Rattle.som_model.specs.Kernel.{som_free};
-ghost use Rattle.std.specs.Prelude.{◌≡◌, ◌≤◌, ◌+◌, ◌++◌, ◌∷◌, [], length, IfOk, OnOk};
+ghost use Rattle.std.specs.Prelude.{◌≡◌, ◌<◌, ◌≤◌, ◌+◌, ◌^◌, ◌++◌, ◌∷◌, [], length, IfOk, OnOk};
 
 use crate::Instruction;
-use crate::emit::{emit, patch};
+use crate::emit::{emit, emit_set, patch};
 use crate::expressions::emit_expr;
 use som_model::{Block, ClassKey, Expr, MethodRef, Module, NoMemory, Stmt, Text};
 use std::alloc::Global;
@@ -16,9 +16,9 @@ pub(crate) fn emit_block(
     locals: usize,
     block: &Block,
 ) -> Result<(), NoMemory>
-    requires { locals ≤ 255 + length code.old.items }
+    requires { locals < 2 ^ 63 + length code.old.items }
     ensures { OnOk result (code.new.items
-        ≡ code.old.items ++ (lay_block block.now).lays locals (length code.old.items)) }
+        ≡ code.old.items ++ lay_block block.now locals (length code.old.items)) }
 {
     let mut visible = locals;
     for statement in block.statements.as_slice() {
@@ -47,7 +47,7 @@ fn emit_stmt(
     locals: usize,
     statement: &Stmt,
 ) -> Result<(), NoMemory>
-    requires { locals ≤ 255 + length code.old.items }
+    requires { locals < 2 ^ 63 + length code.old.items }
     ensures { OnOk result (code.new.items
         ≡ code.old.items ++ (lay_stmt statement.now).lays locals (length code.old.items)) }
 {
@@ -58,7 +58,7 @@ fn emit_stmt(
         }
         Stmt::SetLocal { local, value } => {
             emit_expr(alloc, code, value)?;
-            emit(code, Instruction::Set(*local as usize))
+            emit_set(code, *local as usize, locals)
         }
         Stmt::SetVariable { variable, value } => {
             emit_expr(alloc, code, value)?;
@@ -102,9 +102,9 @@ fn emit_choice(
     then: &Block,
     other: &Block,
 ) -> Result<(), NoMemory>
-    requires { locals ≤ 255 + length code.old.items }
+    requires { locals < 2 ^ 63 + length code.old.items }
     ensures { OnOk result (code.new.items
-        ≡ code.old.items ++ lay_choice ((lay_block then.now).lays locals) ((lay_block other.now).lays locals) (length code.old.items)) }
+        ≡ code.old.items ++ lay_choice (lay_block then.now locals) (lay_block other.now locals) (length code.old.items)) }
 {
     let test = code.len();
     emit(code, Instruction::Unless(0))?;
@@ -127,9 +127,9 @@ fn emit_loop(
     condition: &Expr,
     block: &Block,
 ) -> Result<(), NoMemory>
-    requires { locals ≤ 255 + length code.old.items }
+    requires { locals < 2 ^ 63 + length code.old.items }
     ensures { OnOk result (code.new.items
-        ≡ code.old.items ++ lay_loop (lay_expr condition.now) ((lay_block block.now).lays locals) (length code.old.items)) }
+        ≡ code.old.items ++ lay_loop (lay_expr condition.now) (lay_block block.now locals) (length code.old.items)) }
 {
     let start = code.len();
     emit(code, Instruction::Jump(0))?;

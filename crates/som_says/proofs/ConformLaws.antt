@@ -46,6 +46,7 @@ use Rattle.som_elab.proofs.Declared.{drafts_are, operation_there, own}
 use Rattle.som_elab.proofs.LimitLaws.{is_at_most, limits_law, says_at_most}
 use Rattle.som_says.specs.Conforming.{BodiesStand, ClientConforms, LibraryConforms, ModuleConforms, by_operation, by_override}
 use Rattle.som_says.proofs.KeepingLaws.{keeping_law}
+use Rattle.som_says.proofs.OneBody.{counted_mem, mem_counted, one_counted}
 use Rattle.som_says.proofs.StandingLaws.{bodies_law}
 
 -- ---- steps that go well
@@ -217,17 +218,17 @@ module _ (m : Module) (base : Interface) (is : List IdlInterface) (bs : List Bod
   introduced_once r d n name sig way k none =
       let x = map_mem (own m base is) d is (subst (λ z. Mem d z) (drafts_are m base is) n) in
       let there = operation_there m base is x.0 name sig way (subst (λ (z : InterfaceDraft). Mem (entries.Introduced name sig way) z.class.face.entries) x.2 k) (subst (λ (z : InterfaceDraft). body_of z name ≡ None) x.2 none) in
-      r.once d name (Some sig) n (by_operation way (subst (λ (z : InterfaceDraft). Mem name (operations z.text)) (sym x.2) ((among_mem name (operations x.0)).0 there)) k)
+      one_counted d name bs (r.once d name (Some sig) n (by_operation way (subst (λ (z : InterfaceDraft). Mem name (operations z.text)) (sym x.2) ((among_mem name (operations x.0)).0 there)) k))
 
   overridden_once : BodiesStand (classes_over m base is) ds bs → (d : InterfaceDraft) → Mem d ds → OverriddenOnce a m bs d d.class.overrides
-  overridden_once r d n o k = r.once d o.method.name (sig_of (classes_over m base is) (owner (classes_over m base is) o.method)) n (by_override o k refl refl)
+  overridden_once r d n o k = one_counted d o.method.name bs (r.once d o.method.name (sig_of (classes_over m base is) (owner (classes_over m base is) o.method)) n (by_override o k refl refl))
 
   pub module_stands : ModuleConforms m base is bs → (cs : List ClassDecl) × (elaborated_classes m base is bs ≡ Ok cs)
   module_stands r =
       let rules : texts_breach m base is ≡ None = (keeping_law m base is conforms).1 r.rules in
       let holds = declarations_hold m base is conforms rules in
       let x = each_made a m bs ds (λ d n. class_made a m bs d (introduced_once r.bodies d n) (overridden_once r.bodies d n)
-      (λ name sig way b k e t. r.blocks.introduced d name sig way b n k e t) (λ o sig b k e t. r.blocks.overridden d o sig b n k e t)) in
+      (λ name sig way b k e t. let q = counted_mem d name bs b t in r.blocks.introduced d name sig way b n k e q.0 q.1) (λ o sig b k e t. let q = counted_mem d o.method.name bs b t in r.blocks.overridden d o sig b n k e q.0 q.1)) in
       let made = elaborated_each a m bs ds in
       let bodies = bodies_breach (classes_over m base is) ds bs in
       let limited = keeping (limit_passed (drafts_over m base is)) made in (
@@ -255,15 +256,15 @@ module _ (m : Module) (base : Interface) (is : List IdlInterface) (bs : List Bod
         bodies = stand;
         limits = (limits_law (drafts_over m base is)).0 s.0;
         blocks = record {
-          introduced = λ d name sig way b n k e t.
+          introduced = λ d name sig way b n k e t is_of.
               (let c = each_went a m bs ds cs s.1 d n in
               let x = went (entry_bodies a bs d (class_in m d.class) d.class.face.entries) (λ all. override_blocks a bs (class_in m d.class) d.class.overrides >>= λ others. Ok (with_blocks d.class all others (selects_at a.classes (class_in m d.class).key d))) c.0 c.1 in
-              entries_stood a m bs d d.class.face.entries x.value (introduced_once stand d n) x.first name sig way b k e t);
-          overridden = λ d o sig b n k e t.
+              entries_stood a m bs d d.class.face.entries x.value (introduced_once stand d n) x.first name sig way b k e (mem_counted d name bs b t is_of));
+          overridden = λ d o sig b n k e t is_of.
               (let c = each_went a m bs ds cs s.1 d n in
               let x = went (entry_bodies a bs d (class_in m d.class) d.class.face.entries) (λ all. override_blocks a bs (class_in m d.class) d.class.overrides >>= λ others. Ok (with_blocks d.class all others (selects_at a.classes (class_in m d.class).key d))) c.0 c.1 in
               let y = went (override_blocks a bs (class_in m d.class) d.class.overrides) (λ others. Ok (with_blocks d.class x.value others (selects_at a.classes (class_in m d.class).key d))) c.0 x.further in
-              overrides_stood a m bs d d.class.overrides y.value (overridden_once stand d n) y.first o sig b k e t);
+              overrides_stood a m bs d d.class.overrides y.value (overridden_once stand d n) y.first o sig b k e (mem_counted d o.method.name bs b t is_of));
         };
       }
 

@@ -6,5 +6,6 @@ pub mod KeepingLaws
 pub mod MethodLaws
 pub mod BodyLaws
 pub mod ModuleLaws
+pub mod OneBody
 pub mod StandingLaws
 pub mod ConformLaws

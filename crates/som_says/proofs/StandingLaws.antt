@@ -32,7 +32,8 @@ use Rattle.som_elab.specs.Bodies.{bodies_breach, body_sig, classes_over, draft_n
 use Rattle.som_elab.proofs.Declared.{drafts_are, find_mem, own}
 use Rattle.som_elab.proofs.Fitting.{introduced_there}
 use Rattle.som_elab.proofs.Signatures.{entry_there, named, override_signed}
-use Rattle.som_says.specs.Conforming.{BodiesStand, HasBody, IsNamed, by_operation, by_override}
+use Rattle.som_says.specs.Conforming.{BodiesStand, HasBody, HasOneBody, IsNamed, by_operation, by_override}
+use Rattle.som_says.proofs.OneBody.{one_body, one_counted}
 
 demand_met : (n : ℕ) (d : InterfaceDraft) (member : List ℕ) (b : Bool) → b ≡ true → first (text_demand n d member b) ≡ None
 demand_met n d member true e = refl
@@ -99,14 +100,14 @@ module _ (cs : List Class) (ds : List InterfaceDraft) (bs : List BodyText) where
   one_so : (d : InterfaceDraft) (name : List ℕ) → first (has_one bs d name) ≡ None → length (texts_for bs d.class.face.name name) ≡ 1
   one_so d name e = eqb-true (length (texts_for bs d.class.face.name name)) 1 (demanded_text 14 d name (length (texts_for bs d.class.face.name name) == 1) e)
 
-  once_so : (d : InterfaceDraft) (name : List ℕ) (sig : Option Sig) → first (text_s14 bs d) ≡ None → HasBody cs d name sig → length (texts_for bs d.class.face.name name) ≡ 1
+  once_so : (d : InterfaceDraft) (name : List ℕ) (sig : Option Sig) → first (text_s14 bs d) ≡ None → HasBody cs d name sig → HasOneBody bs d name
   once_so d name _ e (by_operation {sig = sig} way m n) =
       let p = (none_both (flat_map (entry_has_one bs d) (introduced d.class.face.entries)) (flat_map (λ (o : Override). has_one bs d o.method.name) d.class.overrides) e).0 in
       let q = flat_none (entry_has_one bs d) (introduced d.class.face.entries) name p (introduced_there d.class.face.entries name sig way n) in
-      one_so d name (subst (λ (t : Bool). first (if t then has_one bs d name else []) ≡ None) ((among_mem name (operations d.text)).1 m) q)
+      one_body d name bs (one_so d name (subst (λ (t : Bool). first (if t then has_one bs d name else []) ≡ None) ((among_mem name (operations d.text)).1 m) q))
   once_so d name sig e (by_override o m n s) =
       let p = (none_both (flat_map (entry_has_one bs d) (introduced d.class.face.entries)) (flat_map (λ (o : Override). has_one bs d o.method.name) d.class.overrides) e).1 in
-      one_so d name (subst (λ z. first (has_one bs d z) ≡ None) n (flat_none (λ (o : Override). has_one bs d o.method.name) d.class.overrides o p m))
+      one_body d name bs (one_so d name (subst (λ z. first (has_one bs d z) ≡ None) n (flat_none (λ (o : Override). has_one bs d o.method.name) d.class.overrides o p m)))
 
   pub bodies_say : bodies_breach cs ds bs ≡ None → BodiesStand cs ds bs
   bodies_say e =
@@ -118,8 +119,8 @@ module _ (cs : List Class) (ds : List InterfaceDraft) (bs : List BodyText) where
 
   -- ---- and back, S14
 
-  one_demanded : (d : InterfaceDraft) (name : List ℕ) → length (texts_for bs d.class.face.name name) ≡ 1 → first (has_one bs d name) ≡ None
-  one_demanded d name e = demand_met 14 d name (length (texts_for bs d.class.face.name name) == 1) (eq-eqb (length (texts_for bs d.class.face.name name)) 1 e)
+  one_demanded : (d : InterfaceDraft) (name : List ℕ) → HasOneBody bs d name → first (has_one bs d name) ≡ None
+  one_demanded d name e = demand_met 14 d name (length (texts_for bs d.class.face.name name) == 1) (eq-eqb (length (texts_for bs d.class.face.name name)) 1 (one_counted d name bs e))
 
   entry_demanded : BodiesStand cs ds bs → (d : InterfaceDraft) → Mem d ds → (name : List ℕ) → Mem name (introduced d.class.face.entries) → (t : Bool) → among name (operations d.text) ≡ t
       → first (if t then has_one bs d name else []) ≡ None

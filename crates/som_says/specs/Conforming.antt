@@ -1,5 +1,5 @@
 -- When the texts of a module conform, said of every interface and every body.
-use Rattle.std.specs.Prelude.{◌≡◌, ◌≤◌, ℕ, List, [], length, Option, Some, None, Ok}
+use Rattle.std.specs.Prelude.{◌≡◌, ◌≤◌, ℕ, List, [], length, slice_get, Option, Some, None, Ok}
 use Rattle.som_model.specs.declared.class.Entry.TheVariants as entries
 use Rattle.som_model.specs.declared.class.Override.{Override}
 use Rattle.som_model.specs.declared.class.Sig.{Sig}
@@ -21,7 +21,7 @@ use Rattle.som_forms.specs.Expressions.{Among}
 use Rattle.som_forms.specs.MethodBody.{elaborated_body}
 use Rattle.som_forms.specs.Statements.{elaborated_block}
 use Rattle.som_elab.specs.Accessors.{body_of}
-use Rattle.som_elab.specs.Bodies.{classes_over, drafts_over, operations, texts_for}
+use Rattle.som_elab.specs.Bodies.{classes_over, drafts_over, operations}
 use Rattle.som_elab.specs.Elaboration.{among_over, nothing_before}
 use Rattle.som_elab.specs.PlainLimits.{LimitsKept}
 use Rattle.som_says.specs.Keeping.{TextsKeep}
@@ -40,17 +40,29 @@ pub record IsNamed (cs : List Class) (ds : List InterfaceDraft) (b : BodyText) :
   pub of_method : HasBody cs draft b.method.text (Some sig)
   pub long : length b.params ≡ length sig.params
 
+-- a body is of a method of this name of the class
+pub record IsOfMethod (d : InterfaceDraft) (name : List ℕ) (b : BodyText) : Type 0 where
+  pub of_class : b.class.text ≡ d.class.face.name
+  pub of_method : b.method.text ≡ name
+
+-- one of the bodies is of the method, and at no other place stands one
+pub record HasOneBody (bs : List BodyText) (d : InterfaceDraft) (name : List ℕ) : Type 0 where
+  pub body : BodyText
+  pub there : Mem body bs
+  pub is_of : IsOfMethod d name body
+  pub once : (i j : ℕ) (x y : BodyText) → slice_get bs i ≡ Some x → slice_get bs j ≡ Some y → IsOfMethod d name x → IsOfMethod d name y → i ≡ j
+
 -- S13: each body is one of those; S14: each of these methods has exactly one body
 pub record BodiesStand (cs : List Class) (ds : List InterfaceDraft) (bs : List BodyText) : Type 0 where
   pub named : (b : BodyText) → Mem b bs → IsNamed cs ds b
-  pub once : (d : InterfaceDraft) (name : List ℕ) (sig : Option Sig) → Mem d ds → HasBody cs d name sig → length (texts_for bs d.class.face.name name) ≡ 1
+  pub once : (d : InterfaceDraft) (name : List ℕ) (sig : Option Sig) → Mem d ds → HasBody cs d name sig → HasOneBody bs d name
 
 -- S15 to S20, and the limit of locals: each body stands for a block, of the methods that a class introduces but for accessors, and of those that it overrides
 pub record BlocksStand (a : Among) (m : Module) (ds : List InterfaceDraft) (bs : List BodyText) : Type 0 where
   pub introduced : (d : InterfaceDraft) (name : List ℕ) (sig : Sig) (way : Way) (b : BodyText) → Mem d ds → Mem (entries.Introduced name sig way) d.class.face.entries → body_of d name ≡ None
-      → Mem b (texts_for bs d.class.face.name name) → (block : Block) × (elaborated_body a (class_in m d.class) sig b ≡ Ok block)
+      → Mem b bs → IsOfMethod d name b → (block : Block) × (elaborated_body a (class_in m d.class) sig b ≡ Ok block)
   pub overridden : (d : InterfaceDraft) (o : Override) (sig : Sig) (b : BodyText) → Mem d ds → Mem o d.class.overrides → sig_of a.classes (owner a.classes o.method) ≡ Some sig
-      → Mem b (texts_for bs d.class.face.name o.method.name) → (block : Block) × (elaborated_body a (class_in m d.class) sig b ≡ Ok block)
+      → Mem b bs → IsOfMethod d o.method.name b → (block : Block) × (elaborated_body a (class_in m d.class) sig b ≡ Ok block)
 
 -- the texts of a module conform: it has no more classes than it may have, its interfaces and bodies keep the rules, and no other limit is passed
 pub record ModuleConforms (m : Module) (base : Interface) (is : List IdlInterface) (bs : List BodyText) : Type 0 where
