@@ -1,3 +1,5 @@
 pub mod Fitting
+pub mod Held
 pub mod Keeping
+pub mod NewCells
 pub mod Places
