@@ -12,6 +12,7 @@ ghost use Rattle.std.specs.Prelude.{◌≡◌, ◌≢◌, ◌+◌, ◌<◌, ◌�
 use crate::declared::{declared_positions, number_of};
 use crate::keyed::{Keyed, class_at};
 use crate::made::{greatest_rank, made_number};
+use crate::names::{Names, names_of};
 use crate::position::{Kind, Position, is_marked, next_position, position_of};
 use som_model::{ClassKey, List, NoMemory};
 use som_tables::ClassNo;
@@ -27,14 +28,14 @@ const MOST_NUMBERS: usize = 4_294_967_294;
 pub struct Numbers {
     classes: List<Keyed>,
     positions: List<Position>,
+    names: Names,
 }
 
 impl Model for Numbers {
     ghost use Rattle.som_meta.specs.Numbering.{Numbering};
     ghost use Rattle.som_model.specs.contracts.key.ClassKey as key;
     ghost use Rattle.som_model.specs.contracts.syntax.Block as block;
-    ghost use Rattle.som_numbers.specs.Classes.{classes_of};
-    ghost use Rattle.som_numbers.specs.Numbers.{IsNumbers, numbering_of};
+    ghost use Rattle.som_numbers.specs.Numbers.{AreKept, numbering_of};
     ghost use Rattle.std.specs.Coded.{codes};
 
     ghost Value = { Numbering };
@@ -43,7 +44,7 @@ impl Model for Numbers {
 
     ghost view = { λ n. numbering_of n.classes n.positions };
 
-    ghost invariant = { λ n. IsNumbers (classes_of n.classes) n.positions };
+    ghost invariant = { λ n. AreKept n.classes n.positions n.names };
 }
 
 impl Numbers {
@@ -53,8 +54,13 @@ impl Numbers {
         requires declared { AreDeclared (classes_of classes) }
         ensures { IfOk result (λ n. n ≡ record { classes = classes_of classes; keys = keys_of (classes_of classes) }) }
     {
-        let positions = declared_positions(alloc, classes.as_slice())?;
-        Ok(Numbers { classes, positions })
+        let names = names_of(alloc, classes.as_slice())?;
+        let positions = declared_positions(alloc, &names, classes.as_slice())?;
+        Ok(Numbers {
+            classes,
+            positions,
+            names,
+        })
     }
 
     /// How many classes have numbers.
@@ -64,7 +70,7 @@ impl Numbers {
         self.positions.len() as u32
     }
 
-    /// Whether a class is another or descends from it, by one look.
+    /// Whether a class is another or descends from it, of a declared class by one look.
     pub fn is_a(&self, class: ClassNo, ancestor: ClassNo) -> bool
         requires class { IsNumbered self.now class }
         requires ancestor { IsNumbered self.now ancestor }
@@ -113,7 +119,7 @@ impl Numbers {
         ensures declared { result < length self.now.classes }
         ensures key { key_at self.now result ≡ key.now }
     {
-        number_of(self.classes.as_slice(), key)
+        number_of(&self.names, self.classes.as_slice(), key)
     }
 
     /// A declared class.
