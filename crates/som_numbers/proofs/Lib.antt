@@ -6,3 +6,4 @@ pub mod Moved
 pub mod Noting
 pub mod Numbered
 pub mod Placing
+pub mod Listing

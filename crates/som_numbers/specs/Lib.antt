@@ -2,3 +2,4 @@ pub mod Classes
 pub mod Names
 pub mod Positions
 pub mod Numbers
+pub mod Made

@@ -11,7 +11,8 @@ ghost use Rattle.std.specs.Prelude.{◌≡◌, ◌≢◌, ◌+◌, ◌<◌, ◌�
 
 use crate::declared::{declared_positions, number_of};
 use crate::keyed::{Keyed, class_at};
-use crate::made::{greatest_rank, made_number};
+use crate::made::greatest_rank;
+use crate::made_table::{MadeTable, push_made};
 use crate::names::{Names, names_of};
 use crate::position::{Kind, Position, is_marked, next_position, position_of};
 use som_model::{ClassKey, List, NoMemory};
@@ -29,6 +30,7 @@ pub struct Numbers {
     classes: List<Keyed>,
     positions: List<Position>,
     names: Names,
+    table: MadeTable,
 }
 
 impl Model for Numbers {
@@ -44,7 +46,7 @@ impl Model for Numbers {
 
     ghost view = { λ n. numbering_of n.classes n.positions };
 
-    ghost invariant = { λ n. AreKept n.classes n.positions n.names };
+    ghost invariant = { λ n. AreKept n.classes n.positions n.names n.table };
 }
 
 impl Numbers {
@@ -60,6 +62,7 @@ impl Numbers {
             classes,
             positions,
             names,
+            table: MadeTable::new(alloc),
         })
     }
 
@@ -153,7 +156,7 @@ impl Numbers {
         let class = ClassNo::new(self.positions.len() as u32);
         let rank = greatest_rank(self.positions.as_slice(), parents.as_slice());
         let position = next_position(alloc, self.positions.as_slice(), kind, parents, rank)?;
-        self.positions.push(position)?;
+        push_made(alloc, &mut self.positions, &mut self.table, position)?;
         Ok(class)
     }
 
@@ -165,7 +168,7 @@ impl Numbers {
         ensures some { IfSome result (λ n. IsNumbered self.now n × (key_at self.now n ≡ made_key kind (map (key_at self.now) parents.now))) }
         ensures none { IfNone result ((n : ℕ) → IsNumbered self.now n → key_at self.now n ≡ made_key kind (map (key_at self.now) parents.now) → ⊥) }
     {
-        made_number(self.positions.as_slice(), self.classes.len(), kind, parents)
+        self.table.find(kind, parents)
     }
 
     /// The number of the class that is made so of these, which has one from now on.
