@@ -1,3 +1,5 @@
 pub mod Classes
+pub mod Names
 pub mod Positions
 pub mod Numbers
+pub mod Made

@@ -11,7 +11,9 @@ ghost use Rattle.std.specs.Prelude.{◌≡◌, ◌≢◌, ◌+◌, ◌<◌, ◌�
 
 use crate::declared::{declared_positions, number_of};
 use crate::keyed::{Keyed, class_at};
-use crate::made::{greatest_rank, made_number};
+use crate::made::greatest_rank;
+use crate::made_table::{MadeTable, push_made};
+use crate::names::{Names, names_of};
 use crate::position::{Kind, Position, is_marked, next_position, position_of};
 use som_model::{ClassKey, List, NoMemory};
 use som_tables::ClassNo;
@@ -27,14 +29,15 @@ const MOST_NUMBERS: usize = 4_294_967_294;
 pub struct Numbers {
     classes: List<Keyed>,
     positions: List<Position>,
+    names: Names,
+    table: MadeTable,
 }
 
 impl Model for Numbers {
     ghost use Rattle.som_meta.specs.Numbering.{Numbering};
     ghost use Rattle.som_model.specs.contracts.key.ClassKey as key;
     ghost use Rattle.som_model.specs.contracts.syntax.Block as block;
-    ghost use Rattle.som_numbers.specs.Classes.{classes_of};
-    ghost use Rattle.som_numbers.specs.Numbers.{IsNumbers, numbering_of};
+    ghost use Rattle.som_numbers.specs.Numbers.{AreKept, numbering_of};
     ghost use Rattle.std.specs.Coded.{codes};
 
     ghost Value = { Numbering };
@@ -43,7 +46,7 @@ impl Model for Numbers {
 
     ghost view = { λ n. numbering_of n.classes n.positions };
 
-    ghost invariant = { λ n. IsNumbers (classes_of n.classes) n.positions };
+    ghost invariant = { λ n. AreKept n.classes n.positions n.names n.table };
 }
 
 impl Numbers {
@@ -53,8 +56,14 @@ impl Numbers {
         requires declared { AreDeclared (classes_of classes) }
         ensures { IfOk result (λ n. n ≡ record { classes = classes_of classes; keys = keys_of (classes_of classes) }) }
     {
-        let positions = declared_positions(alloc, classes.as_slice())?;
-        Ok(Numbers { classes, positions })
+        let names = names_of(alloc, classes.as_slice())?;
+        let positions = declared_positions(alloc, &names, classes.as_slice())?;
+        Ok(Numbers {
+            classes,
+            positions,
+            names,
+            table: MadeTable::new(alloc),
+        })
     }
 
     /// How many classes have numbers.
@@ -64,7 +73,7 @@ impl Numbers {
         self.positions.len() as u32
     }
 
-    /// Whether a class is another or descends from it, by one look.
+    /// Whether a class is another or descends from it, of a declared class by one look.
     pub fn is_a(&self, class: ClassNo, ancestor: ClassNo) -> bool
         requires class { IsNumbered self.now class }
         requires ancestor { IsNumbered self.now ancestor }
@@ -113,7 +122,7 @@ impl Numbers {
         ensures declared { result < length self.now.classes }
         ensures key { key_at self.now result ≡ key.now }
     {
-        number_of(self.classes.as_slice(), key)
+        number_of(&self.names, self.classes.as_slice(), key)
     }
 
     /// A declared class.
@@ -147,7 +156,7 @@ impl Numbers {
         let class = ClassNo::new(self.positions.len() as u32);
         let rank = greatest_rank(self.positions.as_slice(), parents.as_slice());
         let position = next_position(alloc, self.positions.as_slice(), kind, parents, rank)?;
-        self.positions.push(position)?;
+        push_made(alloc, &mut self.positions, &mut self.table, position)?;
         Ok(class)
     }
 
@@ -159,7 +168,7 @@ impl Numbers {
         ensures some { IfSome result (λ n. IsNumbered self.now n × (key_at self.now n ≡ made_key kind (map (key_at self.now) parents.now))) }
         ensures none { IfNone result ((n : ℕ) → IsNumbered self.now n → key_at self.now n ≡ made_key kind (map (key_at self.now) parents.now) → ⊥) }
     {
-        made_number(self.positions.as_slice(), self.classes.len(), kind, parents)
+        self.table.find(kind, parents)
     }
 
     /// The number of the class that is made so of these, which has one from now on.
