@@ -6,3 +6,5 @@ pub mod Moved
 pub mod Noting
 pub mod Numbered
 pub mod Placing
+pub mod Listing
+pub mod Naming

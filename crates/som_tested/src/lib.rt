@@ -14,7 +14,11 @@ ghost use Rattle.som_model.specs.World.{World, world};
 ghost use Rattle.som_model.specs.declared.limits.TheConstants.{MAX_DEPTH};
 ghost use Rattle.som_model.specs.declared.syntax.Block.{Block};
 ghost use Rattle.som_tested.specs.Implied.{AreImplied, checking, untested};
-ghost use Rattle.std.specs.Prelude.{◌≡◌, ◌++◌, ℕ, List};
+ghost use Rattle.som_used.specs.Needs.{AreClosed};
+ghost use Rattle.som_model.specs.Kernel.{som_object, som_class_mgr};
+ghost use Rattle.som_model.specs.Lists.{Mem};
+ghost use Rattle.som_model.specs.declared.key.ClassKey.{ClassKey};
+ghost use Rattle.std.specs.Prelude.{◌≡◌, ◌++◌, ℕ, Bool, List, true};
 
 /// Where classes and a main can be loaded, main on frames comes to exactly what main means, with every fuel, if the
 /// machine tests no more than what is always there in a typed run: to the same end, at the same place, with the
@@ -37,4 +41,14 @@ pub fn loaded_law()
 pub fn tests_law()
     ensures none { (w : World) → AreImplied w untested }
     ensures all { (w : World) → AreImplied w (checking w) }
+{}
+
+/// Where classes can be loaded, a set of them that has the parents and the metaclass of each of its classes, and
+/// SOMObject and SOMClassMgr, has their hooks and the classes that answer for them: it is closed as `som_used` asks.
+pub fn closed_law()
+    ensures { (cs : List Class) (main : Block) (made : ClassKey → Bool) → Loads cs main →
+        made som_object ≡ true → made som_class_mgr ≡ true →
+        ((k p : ClassKey) → made k ≡ true → Mem p ((world (kernel ++ cs)).parents k) → made p ≡ true) →
+        ((k : ClassKey) → made k ≡ true → made ((world (kernel ++ cs)).meta k) ≡ true) →
+        AreClosed (world (kernel ++ cs)) made }
 {}

@@ -1,5 +1,5 @@
-use Rattle.std.proofs.Common.{◌≡◌, ◌∙◌, sym, subst, Some, None}
-use Rattle.som_numbers.proofs.Noting.{Comes, asked_fewer, asked_next, asked_noted, asked_within, comes_first, comes_none, is_of, steps_left}
+use Rattle.std.proofs.Common.{◌∙◌, sym}
+use Rattle.som_numbers.proofs.Noting.{asked_fewer, asked_next, asked_noted, asked_within, comes_first, is_of}
 use Rattle.som_numbers.proofs.names.find_named.Goals as goal
 
 pub loop-next-init : goal.loop-next-init

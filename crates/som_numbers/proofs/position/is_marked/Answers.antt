@@ -1,4 +1,4 @@
-use Rattle.std.proofs.Common.{◌≡◌, ◌==◌, ◌∙◌, ap, sym, ℕ}
+use Rattle.std.proofs.Common.{◌==◌, ◌∙◌, ap, sym, ℕ}
 use Rattle.som_model.specs.Lists.{some}
 use Rattle.som_numbers.proofs.Placing.{list_get, marked_at}
 use Rattle.som_numbers.proofs.position.is_marked.Goals as goal
