@@ -11,6 +11,7 @@ use standard_output::StandardOutput;
 use std::alloc::Global;
 use std::env::Env;
 use std::process::ExitCode;
+use std::rt::Files;
 use std::{env, io};
 
 #[cfg(test)]
@@ -26,6 +27,9 @@ a FILE ends in .idl, .bod or .main; docs/COMMANDS.md tells the rest";
 
 /// The status of words that have no form.
 const NO_FORM: u8 = 2;
+
+/// The status of want of memory.
+const NO_MEMORY: u8 = 10;
 
 /// Why there are no words.
 #[derive(Drop)]
@@ -60,19 +64,28 @@ fn words_of<R: Env + AllocGlobal>(rt: &R, alloc: Global) -> Result<List<Text>, N
     Ok(words)
 }
 
+// The status of a command, with the files of the system and standard output.
+fn run<R: Files + Print>(rt: &R, alloc: Global, words: &List<Text>) -> u8 {
+    let mut store = FileStore::new(rt, alloc);
+    let mut out = StandardOutput::new(rt);
+    run_som(alloc, words, &mut store, &mut out)
+}
+
+// A command's status, before which words that have no form are told more. It stays what it is where that fails.
+fn tell_usage<R: Eprint>(rt: &R, status: u8) -> u8 {
+    if status == NO_FORM {
+        let _ = rt.eprintln(USAGE);
+    }
+    status
+}
+
 fn main(rt: HostRuntime) -> ExitCode {
     let alloc = rt.alloc();
-    let words = match words_of(&rt, alloc) {
-        Ok(words) => words,
+    let status = match words_of(&rt, alloc) {
+        Ok(words) => run(&rt, alloc, &words),
         // No words at all have no form either.
-        Err(NoWords::Bad) => List::new(alloc),
-        Err(NoWords::Memory) => return ExitCode::from(10),
+        Err(NoWords::Bad) => run(&rt, alloc, &List::new(alloc)),
+        Err(NoWords::Memory) => NO_MEMORY,
     };
-    let mut store = FileStore::new(&rt, alloc);
-    let mut out = StandardOutput::new(&rt);
-    let status = run_som(alloc, &words, &mut store, &mut out);
-    if status == NO_FORM {
-        let _ = eprintln!(rt; "{USAGE}");
-    }
-    ExitCode::from(status)
+    ExitCode::from(tell_usage(&rt, status))
 }

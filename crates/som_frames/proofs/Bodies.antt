@@ -1,5 +1,5 @@
 -- A body that begins comes to what it means.
-use Rattle.std.proofs.Common.{◌≡◌, ℕ, List, [], ◌∷◌, Some, Ok}
+use Rattle.std.proofs.Common.{ℕ, List, [], ◌∷◌, Ok}
 use Rattle.som_model.specs.declared.key.ClassKey.{ClassKey}
 use Rattle.som_model.specs.declared.key.MethodRef.{MethodRef}
 use Rattle.som_model.specs.declared.syntax.Block.{Block}
@@ -15,73 +15,73 @@ use Rattle.som_model.specs.Calls.{Calls, offset_call}
 use Rattle.som_model.specs.Expressions.{read}
 use Rattle.som_model.specs.Statements.{assign}
 use Rattle.som_model.specs.Invoked.{first_argument, stands_for, class_found, found_object, asks, KernelBody, Idle, Free, New, NewNoInit, FindClass, Asks, kernel_body, table, free_body, new_body, new_no_init_body, forward_body, kernel_does, body_does}
-use Rattle.som_model.specs.Means.{calls}
 use Rattle.som_frames.specs.Frames.{Waiting, Answering, ForInit, ForUninit, Invocation}
+use Rattle.som_frames.specs.Tested.{Tests, tested}
 use Rattle.som_frames.specs.Passed.{passes_offset}
 use Rattle.som_frames.specs.Step.{Step, go, makes, free_begins, new_begins, new_no_init_begins, forward_begins, kernel_begins, begins, step}
-use Rattle.som_frames.specs.Sources.{Laying}
 use Rattle.som_frames.proofs.Comes.{comes_same}
 use Rattle.som_frames.proofs.Answered.{Answered, answered_pure, answered_bind, answered_once, answered_then, Matched, offset_answered}
 
-module _ (w : World) (laid : Laying) where
-  answered_fault : (at : Place) (ks : List Waiting) → Answered w laid (fault faults.ClassFree at) ks (fault faults.ClassFree at)
-  answered_fault at ks = record { by = λ s. comes_same (step w laid) (Ends (Faulted faults.ClassFree at) s) }
+module _ (w : World) (tests : Tests) where
+  answered_fault : (at : Place) (ks : List Waiting) → Answered w tests (fault faults.ClassFree at) ks (fault faults.ClassFree at)
+  answered_fault at ks = record { by = λ s. comes_same (step w tests) (Ends (Faulted faults.ClassFree at) s) }
 
-  module _ (l : ℕ) (matched : Matched w laid l) where
+  module _ (l : ℕ) (matched : Matched w tests l) where
     abbrev call : Calls
-    call = calls w l
+    call = tested w tests l
 
     module _ (at : Place) (self : Ref) (ks : List Waiting) where
-      free_answered : (r : Ref) → Answered w laid (free_begins w l at self ks r) ks (free_body w call at self r)
-      free_answered (Object i) = answered_then w laid (passes_offset w (makes l (ForUninit at self ∷ ks)) at Offset som_uninit (To self) []) (ForUninit at self) ks (offset_call w call at Offset som_uninit (To self) [])
+      free_answered : (r : Ref) → Answered w tests (free_begins w l at self ks r) ks (free_body w call at self r)
+      free_answered (Object i) = answered_then w tests (passes_offset w (makes l (ForUninit at self ∷ ks)) at Offset som_uninit (To self) []) (ForUninit at self) ks (offset_call w call at Offset som_uninit (To self) [])
           (λ _. asked at (λ h. live h self) >>= λ _. become (freed self) (freed_stays self) >>= λ _. pure Nil)
-          (offset_answered w laid l matched at Offset som_uninit (To self) [] (ForUninit at self ∷ ks))
-          (λ v. answered_bind w laid (asked at (λ h. live h self)) (λ _. become (freed self) (freed_stays self) >>= λ _. go (Answering Nil) ks) (λ _. become (freed self) (freed_stays self) >>= λ _. pure Nil) ks
-          (λ _. answered_bind w laid (become (freed self) (freed_stays self)) (λ _. go (Answering Nil) ks) (λ _. pure Nil) ks (λ _. answered_pure w laid Nil ks)))
+          (offset_answered w tests l matched at Offset som_uninit (To self) [] (ForUninit at self ∷ ks))
+          (λ v. answered_bind w tests (asked at (λ h. live h self)) (λ _. become (freed self) (freed_stays self) >>= λ _. go (Answering Nil) ks) (λ _. become (freed self) (freed_stays self) >>= λ _. pure Nil) ks
+          (λ _. answered_bind w tests (become (freed self) (freed_stays self)) (λ _. go (Answering Nil) ks) (λ _. pure Nil) ks (λ _. answered_pure w tests Nil ks)))
       free_answered (ClassObject k) = answered_fault at ks
       free_answered Manager = answered_fault at ks
 
       inits : {A : Type 0} → (Ref → Act A) → ClassKey → Act A
       inits after k = make w k Nil >>= after
 
-      new_answered : Answered w laid (new_begins w l at self ks) ks (new_body w call at self)
+      new_answered : Answered w tests (new_begins w l at self ks) ks (new_body w call at self)
       new_answered =
           let begun : Ref → Step = λ r. passes_offset w (makes l (ForInit r ∷ ks)) at Offset som_init (To r) [] in
           let done : Ref → Act Value = λ r. offset_call w call at Offset som_init (To r) [] >>= λ _. pure (To r) in
-          answered_bind w laid (tried at (stands_for self)) (λ k. make w k Nil >>= begun) (λ k. make w k Nil >>= done) ks
-          (λ k. answered_bind w laid (make w k Nil) begun done ks
-          (λ r. answered_then w laid (begun r) (ForInit r) ks (offset_call w call at Offset som_init (To r) []) (λ _. pure (To r))
-          (offset_answered w laid l matched at Offset som_init (To r) [] (ForInit r ∷ ks)) (λ v. answered_pure w laid (To r) ks)))
+          answered_bind w tests (tried at (stands_for self)) (λ k. make w k Nil >>= begun) (λ k. make w k Nil >>= done) ks
+          (λ k. answered_bind w tests (make w k Nil) begun done ks
+          (λ r. answered_then w tests (begun r) (ForInit r) ks (offset_call w call at Offset som_init (To r) []) (λ _. pure (To r))
+          (offset_answered w tests l matched at Offset som_init (To r) [] (ForInit r ∷ ks)) (λ v. answered_pure w tests (To r) ks)))
 
-      new_no_init_answered : Answered w laid (new_no_init_begins w l at self ks) ks (new_no_init_body w call at self)
+      new_no_init_answered : Answered w tests (new_no_init_begins w l at self ks) ks (new_no_init_body w call at self)
       new_no_init_answered =
-          answered_bind w laid (tried at (stands_for self)) (λ k. make w k Nil >>= λ r. go (Answering (To r)) ks) (λ k. make w k Nil >>= λ r. pure (To r)) ks
-          (λ k. answered_bind w laid (make w k Nil) (λ r. go (Answering (To r)) ks) (λ r. pure (To r)) ks (λ r. answered_pure w laid (To r) ks))
+          answered_bind w tests (tried at (stands_for self)) (λ k. make w k Nil >>= λ r. go (Answering (To r)) ks) (λ k. make w k Nil >>= λ r. pure (To r)) ks
+          (λ k. answered_bind w tests (make w k Nil) (λ r. go (Answering (To r)) ks) (λ r. pure (To r)) ks (λ r. answered_pure w tests (To r) ks))
 
-      forward_answered : (method : MethodRef) (args : List Value) → Answered w laid (forward_begins w l at self ks method args) ks (forward_body w call at self method args)
+      forward_answered : (method : MethodRef) (args : List Value) → Answered w tests (forward_begins w l at self ks method args) ks (forward_body w call at self method args)
       forward_answered method args =
           let begun : Value → Step = λ on. passes_offset w (makes l ks) at Forward method on args in
           let done : Value → Act Value = λ on. offset_call w call at Forward method on args in
-          answered_bind w laid (asked at (λ h. live h self)) (λ _. asked at (λ h. Ok (target_of h self)) >>= begun) (λ _. asked at (λ h. Ok (target_of h self)) >>= done) ks
-          (λ _. answered_bind w laid (asked at (λ h. Ok (target_of h self))) begun done ks
-          (λ on. offset_answered w laid l matched at Forward method on args ks))
+          answered_bind w tests (asked at (λ h. live h self)) (λ _. asked at (λ h. Ok (target_of h self)) >>= begun) (λ _. asked at (λ h. Ok (target_of h self)) >>= done) ks
+          (λ _. answered_bind w tests (asked at (λ h. Ok (target_of h self))) begun done ks
+          (λ on. offset_answered w tests l matched at Forward method on args ks))
 
-      kernel_answered : (b : KernelBody) (args : List Value) → Answered w laid (kernel_begins w l at self ks b args) ks (kernel_does w call at self b args)
-      kernel_answered Idle args = answered_pure w laid Nil ks
+      kernel_answered : (b : KernelBody) (args : List Value) → Answered w tests (kernel_begins w l at self ks b args) ks (kernel_does w call at self b args)
+      kernel_answered Idle args = answered_pure w tests Nil ks
       kernel_answered Free args = free_answered self
       kernel_answered New args = new_answered
       kernel_answered NewNoInit args = new_no_init_answered
-      kernel_answered FindClass args = answered_once w laid (found_object (class_found w args)) ks
-      kernel_answered (Asks q) args = answered_once w laid (asked at (asks w q self args)) ks
+      kernel_answered FindClass args = answered_once w tests (found_object (class_found w args)) ks
+      kernel_answered (Asks q) args = answered_once w tests (asked at (asks w q self args)) ks
 
     -- what the code of a block comes to where it is run as a body
     abbrev pub RunsBlocks : Type 0
-    RunsBlocks = (x : ClassKey) (r : MethodRef) (block : Block) (i : Invocation) (ks : List Waiting) → w.held x r ≡ Some (User block) → Answered w laid (begins w laid i (User block) l ks) ks (body_does w call (User block) i.class i.method i.self i.args)
+    RunsBlocks = (block : Block) (i : Invocation) (ks : List Waiting) → Answered w tests (begins w tests i (User block) l ks) ks (body_does w call (User block) i.class i.method i.self i.args)
 
-    pub begins_answered : RunsBlocks → (i : Invocation) (b : Held) (ks : List Waiting) (x : ClassKey) (r : MethodRef) → w.held x r ≡ Some b → Answered w laid (begins w laid i b l ks) ks (body_does w call b i.class i.method i.self i.args)
-    begins_answered blocks i (held.User block) ks x r e = blocks x r block i ks e
-    begins_answered blocks i (held.Get n) ks x r e = answered_once w laid (asked (InBody i.class i.method.name) (read i.class n (To i.self))) ks
-    begins_answered blocks i (held.Set n) ks x r e = answered_bind w laid (assign (InBody i.class i.method.name) i.class n (To i.self) (first_argument i.args)) (λ _. go (Answering Nil) ks) (λ _. pure Nil) ks (λ _. answered_pure w laid Nil ks)
-    begins_answered blocks i (held.OfKernel name) ks x r e = kernel_answered (InBody i.class i.method.name) i.self ks (kernel_body table name) i.args
-    begins_answered blocks i held.Forward ks x r e = forward_answered (InBody i.class i.method.name) i.self ks i.method i.args
-    begins_answered blocks i held.Nothing ks x r e = answered_pure w laid Nil ks
+    pub begins_answered : RunsBlocks → (i : Invocation) (b : Held) (ks : List Waiting) → Answered w tests (begins w tests i b l ks) ks (body_does w call b i.class i.method i.self i.args)
+    begins_answered blocks i (held.User block) ks = blocks block i ks
+    begins_answered blocks i (held.Get n) ks = answered_once w tests (asked (InBody i.class i.method.name) (read i.class n (To i.self))) ks
+    begins_answered blocks i (held.Set n) ks =
+        answered_bind w tests (assign (InBody i.class i.method.name) i.class n (To i.self) (first_argument i.args)) (λ _. go (Answering Nil) ks) (λ _. pure Nil) ks (λ _. answered_pure w tests Nil ks)
+    begins_answered blocks i (held.OfKernel name) ks = kernel_answered (InBody i.class i.method.name) i.self ks (kernel_body table name) i.args
+    begins_answered blocks i held.Forward ks = forward_answered (InBody i.class i.method.name) i.self ks i.method i.args
+    begins_answered blocks i held.Nothing ks = answered_pure w tests Nil ks

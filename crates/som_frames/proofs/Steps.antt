@@ -8,9 +8,9 @@ use Rattle.som_model.specs.Kernel.{som_new, som_init, som_uninit, som_dispatch_n
 use Rattle.som_model.specs.Implementation.{Held}
 use Rattle.som_model.specs.Implementation as held
 use Rattle.som_model.specs.World.{World}
-use Rattle.som_model.specs.State.{Value, Nil, Str, To, Ref, Object, ClassObject, Manager, State, Place, InBody, Manner, Offset, Lookup, Dispatch, Forward, Parent, Used, live, receiver, class_of, target_of, freed}
+use Rattle.som_model.specs.State.{Value, Nil, Str, To, Ref, Object, ClassObject, Manager, State, Place, InBody, Manner, Offset, Lookup, Dispatch, Forward, Parent, Used, live, receiver, class_of, target_of, freed, Called}
 use Rattle.som_model.specs.Runs.{Ran, Goes, Ends, follow, Act}
-use Rattle.som_model.specs.Acts.{◌>>=◌, pure, tried, asked, emit, become, freed_stays, make}
+use Rattle.som_model.specs.Acts.{◌>>=◌, pure, tried, asked, emit, become, freed_stays, make, take_unit}
 use Rattle.som_model.specs.Values.{cast, text_of, sig_fits}
 use Rattle.som_model.specs.Calls.{Request, Here, class_here, parent_at, found}
 use Rattle.som_model.specs.Expressions.{read}
@@ -24,11 +24,12 @@ use Rattle.som_code.specs.Effect.{Conf, top, below, arguments, plain}
 use Rattle.som_code.specs.Sound.{is_turn, is_led, IsSound}
 use Rattle.som_frames.specs.Frames.{Body, Invocation, Now, Running, Calling, Invoking, Answering, Waiting, ForCall, ForHook, ForMethod, ForObject, ForInit, ForUninit, ForName, ForParent, Frames}
 use Rattle.som_frames.specs.Passed.{passes_offset, passes_named, passes_parent, own_self}
-use Rattle.som_frames.specs.Step.{Step, frames, go, makes, waits, free_begins, new_begins, new_no_init_begins, forward_begins, kernel_begins, stands_at, goes_past, answered, after_body, next_parent, resume, obey, obey_at, begins, invoke_next, next, call_bodies}
-use Rattle.som_frames.specs.Sources.{Laying}
+use Rattle.som_frames.specs.Step.{Step, frames, go, makes, waits, free_begins, new_begins, new_no_init_begins, forward_begins, kernel_begins, stands_at, goes_past, answered, after_body, next_parent, resume, obey, obey_at, begins, invoke_next, call_at, next}
+use Rattle.som_frames.specs.CallBodies.{call_bodies}
+use Rattle.som_frames.specs.Tested.{Tests, passes, place_of}
 use Rattle.som_frames.specs.Weight.{room, cost, body_weight, waiting_weight, all_weight, weight, IsNowSound}
 use Rattle.som_frames.specs.Counts.{invokes}
-use Rattle.som_frames.proofs.Calm.{Calm, calm_pure, calm_fault, calm_tried, calm_asked, calm_reading, calm_used, calm_freed, calm_make, calm_more, calm_before, calm_after, calm_assign, calm_bind, Steady, steady_on, steady_over, steady_fault, steady_bind, takes_call, takes_then, Fine, fine_steady, fine_takes}
+use Rattle.som_frames.proofs.Calm.{Calm, calm_pure, calm_fault, calm_tried, calm_asked, calm_reading, calm_used, calm_freed, calm_make, calm_more, calm_before, calm_after, calm_assign, calm_bind, Steady, steady_on, steady_over, steady_fault, steady_bind, takes_call, takes_then, Fine, none, fine_steady, fine_takes, fine_call, calm_passes}
 use Rattle.som_frames.proofs.Lighter.{less_by_cost, room_next}
 use Rattle.som_frames.proofs.Plain.{Nearer, IsSteady, steady, takes, plain_steady}
 
@@ -116,11 +117,11 @@ module _ (w : World) where
         by s (Goes (Over v) u) e fs t g = subst Lighter (frames_are (frames (Answering v) ks) fs u t g) (omega arith)
         by s (Ends c u) e fs t g = absurd cc
 
-      plain_fine : Fine Lighter 0 (plain w b.here b.zero_value i b.conf.at b.conf.stack b.conf.locals >>= λ x. pure (after_body b ks x))
+      plain_fine : Fine Lighter none (plain w b.here b.zero_value i b.conf.at b.conf.stack b.conf.locals >>= λ x. pure (after_body b ks x))
       plain_fine = by (plain_steady w b.here b.zero_value b.code b.conf.at i is led) where
-        by : IsSteady w b.here b.zero_value b.code b.conf.at i → Fine Lighter 0 (plain w b.here b.zero_value i b.conf.at b.conf.stack b.conf.locals >>= λ x. pure (after_body b ks x))
+        by : IsSteady w b.here b.zero_value b.code b.conf.at i → Fine Lighter none (plain w b.here b.zero_value i b.conf.at b.conf.stack b.conf.locals >>= λ x. pure (after_body b ks x))
         by (steady h) = fine_steady Lighter _ (after_steady (plain w b.here b.zero_value i b.conf.at b.conf.stack b.conf.locals) (h b.conf.stack b.conf.locals))
-        by (takes h) = fine_takes Lighter 0 _ (takes_then 0 (λ x. pure (after_body b ks x)) (λ x. calm_pure (after_body b ks x)) (plain w b.here b.zero_value i b.conf.at b.conf.stack b.conf.locals) (h b.conf.stack b.conf.locals))
+        by (takes h) = fine_takes Lighter _ (takes_then 0 (λ x. pure (after_body b ks x)) (λ x. calm_pure (after_body b ks x)) (plain w b.here b.zero_value i b.conf.at b.conf.stack b.conf.locals) (h b.conf.stack b.conf.locals))
 
     -- a call, for which these wait, and then the body
     call_lower : (i : Instruction) → slice_get b.code b.conf.at ≡ Some i → is_turn (Some i) ≡ false → (extra : ℕ) (st : List Value) → extra ≤ 3 * parents + 4
@@ -135,7 +136,7 @@ module _ (w : World) where
         let lt : 2 + (body_weight w (goes_past b st) + 2 + all_weight w ks) < weight w (frames (Running b) ks) = omega (arith, lower) in
         makes_steady (weight w (frames (Running b) ks)) b.levels (ForCall (goes_past b st) ∷ ks) lt q
 
-    pub obey_fine : (i : Instruction) → slice_get b.code b.conf.at ≡ Some i → is_led b.code b.conf.at i ≡ true → Fine Lighter 0 (obey w i b ks)
+    pub obey_fine : (i : Instruction) → slice_get b.code b.conf.at ≡ Some i → is_led b.code b.conf.at i ≡ true → Fine Lighter none (obey w i b ks)
     obey_fine (ops.New k) is led = fine_steady Lighter _ (
         let called : List Waiting = ForObject b.here.place k ∷ ForCall (goes_past b b.conf.stack) ∷ ks in
         steady_bind Lighter (emit (Used k)) (λ _. passes_offset w (makes b.levels called) b.here.place Offset som_new (To (ClassObject k)) []) (calm_used k)
@@ -156,7 +157,7 @@ module _ (w : World) where
         parents_steady (weight w (frames (Running b) ks)) b.levels b.here method (arguments n b.conf.stack) (ForCall (goes_past b (drop n b.conf.stack)) ∷ ks) (w.parents (class_here b.here)) lt)
     obey_fine i is led = plain_fine i is led
 
-    pub running_fine : IsSound b.code → (o : Option Instruction) → slice_get b.code b.conf.at ≡ o → Fine Lighter 0 (obey_at w o b ks)
+    pub running_fine : IsSound b.code → (o : Option Instruction) → slice_get b.code b.conf.at ≡ o → Fine Lighter none (obey_at w o b ks)
     running_fine sound None e = fine_steady Lighter _ (steady_on Lighter (frames (Answering b.zero_value) ks) (omega arith))
     running_fine sound (Some i) e = obey_fine i e (sound.led b.conf.at i e)
 
@@ -208,8 +209,8 @@ module _ (w : World) where
     kernel_calm FindClass args = calm_more (found_object (class_found w args) >>= λ v. go (Answering v) ks) (answered_calm (found_object (class_found w args)) (found_calm (class_found w args)))
     kernel_calm (Asks q) args = calm_more (asked at (asks w q self args) >>= λ v. go (Answering v) ks) (answered_calm (asked at (asks w q self args)) (calm_asked at (asks w q self args)))
 
-  module _ (laid : Laying) where
-    begins_calm : (i : Invocation) (b : Held) (l : ℕ) (ks : List Waiting) → Calm 1 (begins w laid i b l ks)
+  module _ (tests : Tests) where
+    begins_calm : (i : Invocation) (b : Held) (l : ℕ) (ks : List Waiting) → Calm 1 (begins w tests i b l ks)
     begins_calm i (held.User block) l ks = calm_more _ (calm_pure (On _))
     begins_calm i (held.Get n) l ks =
         let at = InBody i.class i.method.name in
@@ -221,20 +222,27 @@ module _ (w : World) where
     begins_calm i held.Forward l ks = calm_more (forward_begins w l (InBody i.class i.method.name) i.self ks i.method i.args) (forward_calm l (InBody i.class i.method.name) i.self ks i.method i.args)
     begins_calm i held.Nothing l ks = calm_more (go (Answering Nil) ks) (calm_pure (On (frames (Answering Nil) ks)))
 
-    invoke_fine : (l : ℕ) (is : List Invocation) (v : Value) (ks : List Waiting) → Fine (Below (1 + all_weight w ks)) (invokes (Invoking (record { levels = l; bodies = is; answer = v }))) (invoke_next w laid l is v ks)
-    invoke_fine l [] v ks = fine_steady _ _ (steady_on (Below (1 + all_weight w ks)) (frames (Answering v) ks) (omega arith))
-    invoke_fine l (i ∷ is) v ks = fine_takes _ 1 _ (takes_call i.method i.way i.class (begins w laid i i.body l (waits i.answers l is v ks)) (begins_calm i i.body l (waits i.answers l is v ks)))
+    invoke_fine : (l : ℕ) (is : List Invocation) (v : Value) (ks : List Waiting) → Fine (Below (1 + all_weight w ks)) (invokes tests (Invoking (record { levels = l; bodies = is; answer = v }))) (invoke_next w tests l is v ks)
+    invoke_fine l [] v ks = fine_steady (Below (1 + all_weight w ks)) (go (Answering v) ks) (steady_on (Below (1 + all_weight w ks)) (frames (Answering v) ks) (omega arith))
+    invoke_fine l (i ∷ is) v ks =
+        let begun : Step = begins w tests i i.body l (waits i.answers l is v ks) in
+        fine_call (Below (1 + all_weight w ks)) (place_of i) (take_unit >>= λ _. emit (Called i.method i.way i.class) >>= λ _. begun)
+        (takes_call i.method i.way i.class begun (begins_calm i i.body l (waits i.answers l is v ks))) (tests.body i)
 
-    -- each step
-    pub next_fine : (now : Now) (ks : List Waiting) → IsNowSound now → Fine (Below (weight w (frames now ks))) (invokes now) (next w laid now ks)
-    next_fine (Running b) ks sound = running_fine b ks sound (slice_get b.code b.conf.at) refl
-    next_fine (Calling zero q) ks sound = fine_steady _ _ (steady_fault (Below (2 + all_weight w ks)) faults.Depth q.from)
-    next_fine (Calling (suc l) q) ks sound = fine_steady _ _ (record {
+    call_steady_at : (l : ℕ) (q : Request) (ks : List Waiting) → Steady (Below (2 + all_weight w ks)) (call_at w tests l q ks)
+    call_steady_at zero q ks = steady_fault (Below (2 + all_weight w ks)) faults.Depth q.from
+    call_steady_at (suc l) q ks = record {
       calm = calm_reading 0 (λ h. go (Invoking (record { levels = l; bodies = call_bodies w (class_of w h q.self) q; answer = Nil })) ks) (λ h. calm_pure (On _));
       only = λ s fs t e. (steady_on (Below (2 + all_weight w ks)) (frames (Invoking (record { levels = l; bodies = call_bodies w (class_of w s.heap q.self) q; answer = Nil })) ks) (omega arith)).only s fs t e;
-    })
+    }
+
+    -- each step
+    pub next_fine : (now : Now) (ks : List Waiting) → IsNowSound now → Fine (Below (weight w (frames now ks))) (invokes tests now) (next w tests now ks)
+    next_fine (Running b) ks sound = running_fine b ks sound (slice_get b.code b.conf.at) refl
+    next_fine (Calling l q) ks sound = fine_steady (Below (2 + all_weight w ks)) _
+        (steady_bind (Below (2 + all_weight w ks)) (passes q.from (tests.call q)) (λ _. call_at w tests l q ks) (calm_passes q.from (tests.call q)) (λ _. call_steady_at l q ks))
     next_fine (Invoking left) ks sound = invoke_fine left.levels left.bodies left.answer ks
     next_fine (Answering v) [] sound = fine_steady _ _ (steady_over (Below 0) (tt {0}))
     next_fine (Answering v) (k ∷ ks) sound =
         let e : waiting_weight w k + all_weight w ks ≡ 0 + (waiting_weight w k + all_weight w ks) = omega arith in
-        subst (λ n. Fine (Below n) 0 (resume w k v ks)) e (fine_steady (Below (waiting_weight w k + all_weight w ks)) (resume w k v ks) (resume_steady k v ks))
+        subst (λ n. Fine (Below n) none (resume w k v ks)) e (fine_steady (Below (waiting_weight w k + all_weight w ks)) (resume w k v ks) (resume_steady k v ks))

@@ -1,17 +1,18 @@
 -- What a step costs: the bodies that it invokes, and the units that pay for objects.
-use Rattle.std.specs.Prelude.{ℕ, ◌+◌, List, [], ◌∷◌, length}
-use Rattle.som_model.specs.State.{State}
+use Rattle.std.specs.Prelude.{ℕ, ◌+◌, List, [], ◌∷◌, length, if◌then◌else◌}
+use Rattle.som_model.specs.State.{State, Heap}
 use Rattle.som_model.specs.Runs.{Ran, Goes, Ends, Faulted, Spent}
+use Rattle.som_frames.specs.Tested.{Tests}
 use Rattle.som_frames.specs.Frames.{Now, Invoking, Invocation}
 
-abbrev first_of_left : List Invocation → ℕ
-first_of_left [] = 0
-first_of_left (i ∷ is) = 1
+abbrev first_of_left : Tests → List Invocation → Heap → ℕ
+first_of_left tests [] h = 0
+first_of_left tests (i ∷ is) h = if tests.body i h then 1 else 0
 
--- one, where bodies of a call are left, and else none
-abbrev pub invokes : Now → ℕ
-invokes (Invoking left) = first_of_left left.bodies
-invokes _ = 0
+-- one, where bodies of a call are left and the first of them passes its test, and else none
+abbrev pub invokes : Tests → Now → Heap → ℕ
+invokes tests (Invoking left) h = first_of_left tests left.bodies h
+invokes tests _ h = 0
 
 -- so many, unless the run is spent
 abbrev pub unless_spent : {A : Type 0} → ℕ → Ran A → ℕ

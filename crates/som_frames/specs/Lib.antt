@@ -1,7 +1,8 @@
 pub mod Frames
+pub mod CallBodies
+pub mod Tested
 pub mod Passed
 pub mod Step
-pub mod Sources
 pub mod Comes
 pub mod Stands
 pub mod Weight

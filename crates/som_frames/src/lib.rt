@@ -3,17 +3,15 @@
 #![tactic(auto)]
 
 ghost use Rattle.som_code.specs.Machine.{On, Over, ComesTo};
-ghost use Rattle.som_code.specs.Same.{HasEffect};
-ghost use Rattle.som_code.specs.declared.instruction.Instruction.{Instruction};
 ghost use Rattle.som_frames.specs.Comes.{Comes};
 ghost use Rattle.som_frames.specs.Counts.{invokes, size, unless_spent};
 ghost use Rattle.som_frames.specs.Frames.{Answering, Calling, Frames, Waiting};
-ghost use Rattle.som_frames.specs.Sources.{IsLaid, Laying};
 ghost use Rattle.som_frames.specs.Stands.{Stands};
 ghost use Rattle.som_frames.specs.Step.{frames, main_frames, step};
+ghost use Rattle.som_frames.specs.Tested.{Tests, tested, tested_in};
 ghost use Rattle.som_frames.specs.Weight.{IsNowSound, weight};
 ghost use Rattle.som_model.specs.Calls.{Request};
-ghost use Rattle.som_model.specs.Means.{beginning, calls, means_in};
+ghost use Rattle.som_model.specs.Means.{beginning};
 ghost use Rattle.som_model.specs.RunText.{call_count};
 ghost use Rattle.som_model.specs.Runs.{Adds, Cut, Ends, Goes, IsLater, IsPrefix, Out, Ran, Spent, as_told, end_of, follow, kept, with_more};
 ghost use Rattle.som_model.specs.State.{State};
@@ -22,41 +20,38 @@ ghost use Rattle.som_model.specs.declared.limits.TheConstants.{MAX_DEPTH};
 ghost use Rattle.som_model.specs.declared.syntax.Block.{Block};
 ghost use Rattle.std.specs.Prelude.{◌≡◌, ◌⊎◌, ◌+◌, ◌<◌, ◌≤◌, ℕ, List};
 
-/// Main on frames comes to what main means, with every fuel, whatever the classes: to the same end, at the same
-/// place, with the same events, fuel and objects. And a call on frames comes to what the call means, and then
-/// answers its value to what waits for it.
+/// Main on frames comes to what main means with these tests in front of calls and bodies, with every fuel, whatever
+/// the classes: to the same end, at the same place, with the same events, fuel and objects. And a call on frames
+/// comes to what the call means so, and then answers its value to what waits for it.
 pub fn meaning_law()
-    ensures main { (w : World) (laid : Laying) (main : Block) (code : List Instruction) (fuel : ℕ) →
-        IsLaid w laid → HasEffect code main 0 →
-        ComesTo (step w laid) (main_frames MAX_DEPTH code) (beginning w fuel) (means_in w main fuel) }
-    ensures calls { (w : World) (laid : Laying) (levels : ℕ) (q : Request) (waiting : List Waiting) (s : State) →
-        IsLaid w laid →
-        Comes (step w laid) (Goes (On (frames (Calling levels q) waiting)) s)
-        (follow ((calls w levels q).does s) (λ v t. Goes (On (frames (Answering v) waiting)) t)) }
+    ensures main { (w : World) (tests : Tests) (main : Block) (fuel : ℕ) →
+        ComesTo (step w tests) (main_frames MAX_DEPTH main) (beginning w fuel) (tested_in w tests main fuel) }
+    ensures calls { (w : World) (tests : Tests) (levels : ℕ) (q : Request) (waiting : List Waiting) (s : State) →
+        Comes (step w tests) (Goes (On (frames (Calling levels q) waiting)) s)
+        (follow ((tested w tests levels q).does s) (λ v t. Goes (On (frames (Answering v) waiting)) t)) }
 {}
 
-/// A task that stands for a meaning: at the start it stands for main's; it stands when units are granted and after
+/// A task that stands for a meaning: at the start it stands for main's, with the tests; it stands when units are granted and after
 /// each step that goes on; a step that ends says how the meaning ends, and what a step shows stands in the
 /// meaning's events.
 pub fn stands_law()
-    ensures start { (w : World) (laid : Laying) (main : Block) (code : List Instruction) →
-        IsLaid w laid → HasEffect code main 0 →
-        Stands (step w laid) (means_in w main) (main_frames MAX_DEPTH code) (beginning w 0) 0 }
-    ensures granted { (w : World) (laid : Laying) (means : ℕ → Ran (Unit {0})) (fs : Frames) (s : State) (n u : ℕ) →
-        Stands (step w laid) means fs s n → Stands (step w laid) means fs (with_more u s) (n + u) }
-    ensures on { (w : World) (laid : Laying) (means : ℕ → Ran (Unit {0})) (fs gs : Frames) (s t : State) (n : ℕ) →
-        Stands (step w laid) means fs s n → (step w laid fs).does s ≡ Goes (On gs) t →
-        Stands (step w laid) means gs t n }
-    ensures over { (w : World) (laid : Laying) (means : ℕ → Ran (Unit {0})) (fs : Frames) (s t : State) (n : ℕ) →
-        Stands (step w laid) means fs s n → (step w laid fs).does s ≡ Goes (Over (tt {0})) t →
+    ensures start { (w : World) (tests : Tests) (main : Block) →
+        Stands (step w tests) (tested_in w tests main) (main_frames MAX_DEPTH main) (beginning w 0) 0 }
+    ensures granted { (w : World) (tests : Tests) (means : ℕ → Ran (Unit {0})) (fs : Frames) (s : State) (n u : ℕ) →
+        Stands (step w tests) means fs s n → Stands (step w tests) means fs (with_more u s) (n + u) }
+    ensures on { (w : World) (tests : Tests) (means : ℕ → Ran (Unit {0})) (fs gs : Frames) (s t : State) (n : ℕ) →
+        Stands (step w tests) means fs s n → (step w tests fs).does s ≡ Goes (On gs) t →
+        Stands (step w tests) means gs t n }
+    ensures over { (w : World) (tests : Tests) (means : ℕ → Ran (Unit {0})) (fs : Frames) (s t : State) (n : ℕ) →
+        Stands (step w tests) means fs s n → (step w tests fs).does s ≡ Goes (Over (tt {0})) t →
         means n ≡ Goes (tt {0}) t }
-    ensures ends { (w : World) (laid : Laying) (means : ℕ → Ran (Unit {0})) (fs : Frames) (s t : State) (n : ℕ) (c : Cut) →
-        Stands (step w laid) means fs s n → (step w laid fs).does s ≡ Ends c t → means n ≡ Ends c t }
-    ensures shows { (w : World) (laid : Laying) (means : ℕ → Ran (Unit {0})) (fs : Frames) (s : State) (n : ℕ) →
-        Stands (step w laid) means fs s n →
-        IsPrefix (end_of ((step w laid fs).does s)).events (end_of (means n)).events }
-    ensures objects { (w : World) (laid : Laying) (means : ℕ → Ran (Unit {0})) (fs : Frames) (s : State) (n : ℕ) →
-        Stands (step w laid) means fs s n → IsLater s.heap (end_of (means n)).heap }
+    ensures ends { (w : World) (tests : Tests) (means : ℕ → Ran (Unit {0})) (fs : Frames) (s t : State) (n : ℕ) (c : Cut) →
+        Stands (step w tests) means fs s n → (step w tests fs).does s ≡ Ends c t → means n ≡ Ends c t }
+    ensures shows { (w : World) (tests : Tests) (means : ℕ → Ran (Unit {0})) (fs : Frames) (s : State) (n : ℕ) →
+        Stands (step w tests) means fs s n →
+        IsPrefix (end_of ((step w tests fs).does s)).events (end_of (means n)).events }
+    ensures objects { (w : World) (tests : Tests) (means : ℕ → Ran (Unit {0})) (fs : Frames) (s : State) (n : ℕ) →
+        Stands (step w tests) means fs s n → IsLater s.heap (end_of (means n)).heap }
 {}
 
 /// A step, where control doesn't leave the code that runs: it takes a unit, or makes the weight of the task
@@ -64,19 +59,19 @@ pub fn stands_law()
 /// changed nothing; it adds one call to the
 /// events where it invokes a body, and else none; and a unit pays for each object that it makes.
 pub fn step_law()
-    ensures lower { (w : World) (laid : Laying) (fs gs : Frames) (s t : State) → IsNowSound fs.now →
-        (step w laid fs).does s ≡ Goes (On gs) t → (t.fuel < s.fuel) ⊎ (weight w gs < weight w fs) }
-    ensures spent { (w : World) (laid : Laying) (fs : Frames) (s t : State) → IsNowSound fs.now →
-        (step w laid fs).does s ≡ Ends Spent t → (t ≡ s) × (s.fuel ≡ 0) }
-    ensures counts { (w : World) (laid : Laying) (fs : Frames) (s : State) → IsNowSound fs.now →
-        call_count (end_of ((step w laid fs).does s)).events
-        ≡ call_count s.events + unless_spent (invokes fs.now) ((step w laid fs).does s) }
-    ensures makes { (w : World) (laid : Laying) (fs : Frames) (s : State) → IsNowSound fs.now →
-        size (end_of ((step w laid fs).does s)) ≤ size s }
+    ensures lower { (w : World) (tests : Tests) (fs gs : Frames) (s t : State) → IsNowSound fs.now →
+        (step w tests fs).does s ≡ Goes (On gs) t → (t.fuel < s.fuel) ⊎ (weight w gs < weight w fs) }
+    ensures spent { (w : World) (tests : Tests) (fs : Frames) (s t : State) → IsNowSound fs.now →
+        (step w tests fs).does s ≡ Ends Spent t → (t ≡ s) × (s.fuel ≡ 0) }
+    ensures counts { (w : World) (tests : Tests) (fs : Frames) (s : State) → IsNowSound fs.now →
+        call_count (end_of ((step w tests fs).does s)).events
+        ≡ call_count s.events + unless_spent (invokes tests fs.now s.heap) ((step w tests fs).does s) }
+    ensures makes { (w : World) (tests : Tests) (fs : Frames) (s : State) → IsNowSound fs.now →
+        size (end_of ((step w tests fs).does s)) ≤ size s }
 {}
 
 /// What a sink is told of a step, after it was told the events before: what it keeps of the events after the step.
 pub fn told_law()
-    ensures { (w : World) (laid : Laying) (fs : Frames) (s : State) (add : Adds) (out : Out) →
-        (step w laid fs).told add (as_told add out s) ≡ kept add out ((step w laid fs).does s) }
+    ensures { (w : World) (tests : Tests) (fs : Frames) (s : State) (add : Adds) (out : Out) →
+        (step w tests fs).told add (as_told add out s) ≡ kept add out ((step w tests fs).does s) }
 {}

@@ -173,7 +173,7 @@ module _ {K : Type 0} (s : Scheme K) (ok : IsScheme s) where
       next_cell t is =
           let m = ok.methods t is in
           subst (λ w. Answers New t (row_cell (λ q. inherited rows q t) n t a) w)
-          (sym (answer_step h (s.method t).has_body (s.method t).chosen (s.method t).class m.picks ok.tells ok.falls (s.key n) (m.below (s.key n)))) (next_by t is)
+          (sym (answer_step h (s.method t).has_body (s.method t).chosen (s.method t).class m.picks ok.tells ok.falls (s.key n) (ok.below t n is row.numbered))) (next_by t is)
 
       had_row : (ds : List (Option (Added ℕ))) → Filled rows ds n a → (p : ℕ) → p ≢ n → HasRow ds p → HasRow rows p
       had_row ds filled p ne has = subst (λ o. IsSome o) (filled.others p ne) has

@@ -11,10 +11,9 @@ pub record Method (K : Type 0) : Type 0 where
   pub has_body : K → Bool
   pub chosen : K → Option K
 
--- the class that introduces it has a body, classes with a body descend from that class, and who chooses, chooses a parent that does
+-- the class that introduces it has a body, and who chooses, chooses a parent that descends from that class
 pub record IsMethod {K : Type 0} (h : Hierarchy K) (m : Method K) : Type 0 where
   pub own : m.has_body m.class ≡ true
-  pub below : (x : K) → m.has_body x ≡ true → Descends h x m.class
   pub picks : Chooses h m.chosen m.class
 
 -- the class whose body a class has for a method; none where it doesn't descend from the one that introduces it
@@ -41,6 +40,8 @@ pub record IsScheme {K : Type 0} (s : Scheme K) : Type 0 where
   pub apart : (m n : ℕ) → m < s.count → n < s.count → s.key m ≡ s.key n → m ≡ n
   pub methods : (t : ℕ × ℕ) → IsToken s t → IsMethod s.classes (s.method t)
   pub introducer : (t : ℕ × ℕ) → IsToken s t → (s.method t).class ≡ s.key t.0
+  -- a numbered class that has a body descends from the one that introduces the method
+  pub below : (t : ℕ × ℕ) (n : ℕ) → IsToken s t → n < s.count → (s.method t).has_body (s.key n) ≡ true → Descends s.classes (s.key n) (s.method t).class
 
 -- what the cells are: a cell is the body of a class for a token
 abbrev pub Bodies : Type 0 → Type 0

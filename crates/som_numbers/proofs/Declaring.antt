@@ -1,7 +1,15 @@
 -- The declared classes by their places.
-use Rattle.std.proofs.Common.{◌≡◌, ℕ, zero, suc, ◌+◌, ◌<◌, inl, inr, Bool, true, false, if◌then◌else◌, List, [], ◌∷◌, length, slice_get, Some, None, refl, sym, ap, ◌∙◌, subst, arith, true≢false}
-use Rattle.som_model.specs.declared.key.ClassKey.{ClassKey}
-use Rattle.som_model.specs.Lists.{Mem, place_from}
+use Rattle.std.proofs.Common.{◌≡◌, ℕ, zero, suc, ◌<◌, inl, inr, true, List, [], ◌∷◌, length, slice_get, Option, Some, None, refl, sym, ap, ◌∙◌, subst, arith}
+use Rattle.std.specs.Option.{IfNone, IfSome}
+use Rattle.som_model.specs.declared.key.Module.{Module}
+use Rattle.som_model.specs.declared.key.Module.TheVariants as modules
+use Rattle.som_model.specs.declared.key.ClassKey.{ClassKey, out-ClassKey}
+use Rattle.som_model.specs.declared.key.ClassKey.TheOpen.{ClassKey-F}
+use Rattle.som_model.specs.declared.key.ClassKey.TheVariants as keys
+use Rattle.som_model.specs.Lists.{Mem}
+use Rattle.som_model.specs.Kernel.{kernel}
+use Rattle.som_model.specs.Rules.{name_of}
+use Rattle.som_model.proofs.NamedLaws.{out_named}
 use Rattle.som_model.specs.Keys.{same_key}
 use Rattle.som_model.specs.Hierarchy.{Falls, Tells}
 use Rattle.som_model.specs.Class.{Class}
@@ -9,7 +17,7 @@ use Rattle.som_model.specs.Classes.{class_at, hierarchy}
 use Rattle.som_model.specs.Loads.{keys_of}
 use Rattle.som_model.specs.Metaclass.{rank}
 use Rattle.som_model.proofs.KeyLaws.{exact_keys}
-use Rattle.som_laws.proofs.Members.{Apart}
+use Rattle.som_laws.proofs.Members.{Apart, mem_split}
 use Rattle.som_hierarchy.proofs.Lists.{get_mem}
 use Rattle.som_hierarchy.proofs.Standing as standing
 use Rattle.som_meta.specs.Numbering.{AreApart}
@@ -54,28 +62,6 @@ apart_at (k ∷ ks) o zero zero lm ln e = refl
 apart_at (k ∷ ks) o zero (suc n) lm ln e = absurd (o.0 (subst (λ z. Mem z ks) (sym e) (at_mem ks n (omega (arith, ln)))))
 apart_at (k ∷ ks) o (suc m) zero lm ln e = absurd (o.0 (subst (λ z. Mem z ks) e (at_mem ks m (omega (arith, lm)))))
 apart_at (k ∷ ks) o (suc m) (suc n) lm ln e = ap suc (apart_at ks o.1 m n (omega (arith, lm)) (omega (arith, ln)) e)
-
--- what the search for a key answers
-
-placed_by : (k : ClassKey) (d : Keyed) (ks : List Keyed) (i n : ℕ) (b : Bool) → same_key d.key k ≡ b
-    → (place_from (suc i) (λ (c : Keyed). same_key c.key k) ks ≡ Some n → (j : ℕ) × (n ≡ suc i + j) × (j < length ks) × (at (keys_of (classes_of ks)) j ≡ k))
-    → (if b then Some i else place_from (suc i) (λ (c : Keyed). same_key c.key k) ks) ≡ Some n → (j : ℕ) × (n ≡ i + j) × (j < length (d ∷ ks)) × (at (keys_of (classes_of (d ∷ ks))) j ≡ k)
-placed_by k d ks i n true t f e = let is : i ≡ n = cc in (0, omega (arith, is), omega arith, exact_keys.two d.key k t)
-placed_by k d ks i n false t f e = let r = f e in let a = r.1 in let b = r.2 in (suc r.0, omega (arith, a), omega (arith, b), r.3)
-
-pub placed : (k : ClassKey) (ks : List Keyed) (i n : ℕ) → place_from i (λ (c : Keyed). same_key c.key k) ks ≡ Some n → (j : ℕ) × (n ≡ i + j) × (j < length ks) × (at (keys_of (classes_of ks)) j ≡ k)
-placed k [] i n e = absurd (cc)
-placed k (d ∷ ks) i n e = placed_by k d ks i n (same_key d.key k) refl (placed k ks (suc i) n) e
-
-unplaced_by : (k : ClassKey) (d : Keyed) (ks : List Keyed) (i : ℕ) (b : Bool) → same_key d.key k ≡ b → (place_from (suc i) (λ (c : Keyed). same_key c.key k) ks ≡ None → Mem k (keys_of (classes_of ks)) → ⊥)
-    → (if b then Some i else place_from (suc i) (λ (c : Keyed). same_key c.key k) ks) ≡ None → Mem k (keys_of (classes_of (d ∷ ks))) → ⊥
-unplaced_by k d ks i true t f e m = let z : Some i ≡ None = e in cc
-unplaced_by k d ks i false t f e (inl is) = true≢false (sym (exact_keys.one k) ∙ ap (λ z. same_key z k) is ∙ t)
-unplaced_by k d ks i false t f e (inr m) = f e m
-
-pub unplaced : (k : ClassKey) (ks : List Keyed) (i : ℕ) → place_from i (λ (c : Keyed). same_key c.key k) ks ≡ None → Mem k (keys_of (classes_of ks)) → ⊥
-unplaced k [] i e m = m
-unplaced k (d ∷ ks) i e m = unplaced_by k d ks i (same_key d.key k) refl (unplaced k ks (suc i)) e m
 
 -- what the declared classes keep
 
@@ -140,3 +126,61 @@ module _ (all : List Class) (d : AreDeclared all) where
 
     pub ranked : rank all (at (keys_of all) n) ≡ n
     ranked = ap (rank all) (key_is all n c is) ∙ rank_known n c c.key is refl
+
+-- what the search by name finds
+
+some_class : (ks : List Keyed) (n : ℕ) → n < length ks → (k : Keyed) × (slice_get ks n ≡ Some k)
+some_class [] n lt = absurd (omega (arith, lt))
+some_class (k ∷ ks) zero lt = (k, refl)
+some_class (k ∷ ks) (suc n) lt = some_class ks n (omega (arith, lt))
+
+get_within_keyed : (ks : List Keyed) (n : ℕ) (k : Keyed) → slice_get ks n ≡ Some k → n < length ks
+get_within_keyed [] n k e = absurd (cc)
+get_within_keyed (d ∷ ks) zero k e = omega arith
+get_within_keyed (d ∷ ks) (suc n) k e = let l = get_within_keyed ks n k e in omega (arith, l)
+
+pub found_number : (ks : List Keyed) (n : ℕ) (k : Keyed) (key : ClassKey) → slice_get ks n ≡ Some k → same_key k.key key ≡ true → (n < length ks) × (at (keys_of (classes_of ks)) n ≡ key)
+found_number ks n k key is same = (get_within_keyed ks n k is, key_is (classes_of ks) n (class_of k) (class_get ks n k is) ∙ exact_keys.two k.key key same)
+
+pub found_some : (ks : List Keyed) (key : ClassKey) (o : Option ℕ) → IfSome o (λ n. (k : Keyed) × (slice_get ks n ≡ Some k) × (same_key k.key key ≡ true)) → IfSome o (λ n. (n < length ks) × (at (keys_of (classes_of ks)) n ≡ key))
+found_some ks key None h = h
+found_some ks key (Some n) h = found_number ks n h.0 key h.1 h.2
+
+own_kernel : (c : Class) → Mem c kernel → (m : Module) × (c.key ≡ keys.Named m (name_of c))
+own_kernel c (inl e) = (modules.Kernel, subst (λ (z : Class). z.key ≡ keys.Named modules.Kernel (name_of z)) (sym e) refl)
+own_kernel c (inr (inl e)) = (modules.Kernel, subst (λ (z : Class). z.key ≡ keys.Named modules.Kernel (name_of z)) (sym e) refl)
+own_kernel c (inr (inr (inl e))) = (modules.Kernel, subst (λ (z : Class). z.key ≡ keys.Named modules.Kernel (name_of z)) (sym e) refl)
+own_kernel c (inr (inr (inr (inl e)))) = (modules.Kernel, subst (λ (z : Class). z.key ≡ keys.Named modules.Kernel (name_of z)) (sym e) refl)
+own_kernel c (inr (inr (inr (inr m)))) = absurd m
+
+-- a declared class has the key of its face's name
+pub own_key : (all : List Class) → AreDeclared all → (c : Class) → Mem c all → (m : Module) × (c.key ≡ keys.Named m (name_of c))
+own_key all d c m = elim (mem_split c kernel d.others (subst (λ l. Mem c l) d.is m)) [
+  | inl k ↦ own_kernel c k
+  | inr k ↦ (let r = d.ordered.own c k in (r.module_, r.is))
+]
+
+module _ (ks : List Keyed) (d : AreDeclared (classes_of ks)) where
+  declared_mem : (key : ClassKey) → Mem key (keys_of (classes_of ks)) → (n : ℕ) × (k : Keyed) × (m : Module) × (slice_get ks n ≡ Some k) × (k.key ≡ key) × (k.key ≡ keys.Named m k.decl.face.name)
+  declared_mem key m =
+      let r = mem_at (keys_of (classes_of ks)) key m in
+      let lt = r.1 in
+      let s = some_class ks r.0 (omega (arith, lt, keys_length (classes_of ks), classes_length ks)) in
+      let is = class_get ks r.0 s.0 s.1 in
+      let own = own_key (classes_of ks) d (class_of s.0) (get_mem (classes_of ks) r.0 (class_of s.0) is) in
+      (r.0, s.0, own.0, s.1, sym (key_is (classes_of ks) r.0 (class_of s.0) is) ∙ r.2, own.1)
+
+  pub not_found : (home : Module) (name : List ℕ) → ((n : ℕ) (k : Keyed) → slice_get ks n ≡ Some k → k.decl.face.name ≡ name → same_key k.key (keys.Named home name) ≡ true → ⊥) → Mem (keys.Named home name) (keys_of (classes_of ks)) → ⊥
+  not_found home name none m =
+      let r = declared_mem (keys.Named home name) m in
+      none r.0 r.1 r.3 (standing.named_one r.2 home r.1.decl.face.name name (sym r.5 ∙ r.4)).1 (ap (λ z. same_key z (keys.Named home name)) r.4 ∙ exact_keys.one (keys.Named home name))
+
+  pub found_none : (home : Module) (name : List ℕ) (o : Option ℕ) → IfNone o ((n : ℕ) (k : Keyed) → slice_get ks n ≡ Some k → k.decl.face.name ≡ name → same_key k.key (keys.Named home name) ≡ true → ⊥) → IfNone o (Mem (keys.Named home name) (keys_of (classes_of ks)) → ⊥)
+  found_none home name None h = not_found home name h
+  found_none home name (Some n) h = h
+
+  -- a made class isn't declared
+  pub not_declared : (key : ClassKey) (l : ClassKey-F ClassKey) → out-ClassKey key ≡ l → ((m : Module) (x : List ℕ) → l ≡ ClassKey-F.Named m x → ⊥) → Mem key (keys_of (classes_of ks)) → ⊥
+  not_declared key l is other m =
+      let r = declared_mem key m in
+      other r.2 r.1.decl.face.name (sym is ∙ ap out-ClassKey (sym r.4 ∙ r.5) ∙ out_named r.2 r.1.decl.face.name)

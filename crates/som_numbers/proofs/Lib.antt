@@ -1,7 +1,10 @@
-pub mod Items
-pub mod Moved
-pub mod Declaring
-pub mod Placing
-pub mod Numbered
 pub mod Adding
 pub mod Asking
+pub mod Declaring
+pub mod Items
+pub mod Moved
+pub mod Noting
+pub mod Numbered
+pub mod Placing
+pub mod Listing
+pub mod Naming

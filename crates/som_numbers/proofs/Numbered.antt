@@ -1,6 +1,5 @@
 -- What the numbers of classes keep, and the positions of the declared ones.
 use Rattle.std.proofs.Common.{◌≡◌, ℕ, zero, suc, ◌+◌, ◌<◌, ◌≤◌, ◌==◌, inl, inr, List, [], ◌∷◌, ◌++◌, length, map, drop, take, get_or, max, slice_get, Some, refl, sym, ap, ◌∙◌, subst, arith, length-append, slice_index_or}
-use Rattle.std.proofs.lemmas.Bool.{cases_lt}
 use Rattle.std.proofs.lemmas.List.{take_more}
 use Rattle.som_model.specs.declared.key.ClassKey.{ClassKey}
 use Rattle.som_model.specs.Lists.{Mem, some}
@@ -12,11 +11,10 @@ use Rattle.som_laws.proofs.Members.{mem_split}
 use Rattle.som_hierarchy.proofs.Lists.{mem_map}
 use Rattle.som_meta.specs.Numbering.{AreNumbered, IsNumbered, Numbering, key_at}
 use Rattle.som_numbers.specs.declared.keyed.Keyed.{Keyed}
-use Rattle.som_numbers.specs.declared.position.Kind.{Kind}
 use Rattle.som_numbers.specs.declared.position.Kind.TheVariants as kinds
 use Rattle.som_numbers.specs.declared.position.Position.{Position}
 use Rattle.som_numbers.specs.Classes.{AreDeclared, class_of, classes_of}
-use Rattle.som_numbers.specs.Positions.{AreMarked, IsMade, IsNext, lists, rank_list}
+use Rattle.som_numbers.specs.Positions.{AreMarked, IsNext, lists, rank_list}
 use Rattle.som_numbers.specs.Numbers.{AreFirst, ArePlaced, IsNumbers, at, keys_by, keys_with, position_key}
 use Rattle.som_numbers.proofs.Items.{get_mem}
 use Rattle.som_numbers.proofs.Declaring.{class_get, classes_length, falls, key_is, keyed, keys_length, numbers_apart, parent_lower, ranked, tells}
@@ -153,20 +151,6 @@ module _ (cs : List Class) (ps : List Position) (ok : IsNumbers cs ps) where
 
     pub rank_key : p.rank ≡ rank cs (key_at k n)
     rank_key = ok.placed.ranks n p is
-
--- a class is not made so up to the next number
-pub not_made_next : (ps : List Position) (kind : Kind) (parents : List ℕ) (first i : ℕ) (p : Position) → slice_get ps i ≡ Some p → ((p.kind ≡ kind) × (p.parents ≡ parents) → ⊥)
-    → ((n : ℕ) → first ≤ n → n < i → IsMade ps kind parents n → ⊥) → (n : ℕ) → first ≤ n → n < i + 1 → IsMade ps kind parents n → ⊥
-not_made_next ps kind parents first i p is other none n le lt made = elim (cases_lt n i) [
-  | inl less ↦ none n le less made
-  | inr ge ↦ (let e : n ≡ i = omega (arith, lt, ge) in
-      let same : p ≡ made.position = (let two : Some p ≡ Some made.position = sym is ∙ ap (slice_get ps) (sym e) ∙ made.there in cc) in
-      other (ap (λ (z : Position). z.kind) same ∙ made.kind_is, ap (λ (z : Position). z.parents) same ∙ made.parents_are))
-]
-
-pub not_made : (ps : List Position) (kind : Kind) (parents : List ℕ) (first i : ℕ) → length ps ≤ i
-    → ((n : ℕ) → first ≤ n → n < i → IsMade ps kind parents n → ⊥) → (n : ℕ) → first ≤ n → IsMade ps kind parents n → ⊥
-not_made ps kind parents first i past none n le made = none n le (let w = get_within ps n made.position made.there in omega (arith, w, past)) made
 
 -- the declared classes have the first numbers
 module _ (kl : List Keyed) (ps : List Position) (ok : IsNumbers (classes_of kl) ps) where

@@ -19,6 +19,7 @@ use Rattle.som_rules.proofs.Listed.{falls, known_low, next_list}
 use Rattle.som_meta.specs.Numbering.{AreApart}
 use Rattle.som_meta.proofs.Plans.{same_at}
 use Rattle.som_numbers.specs.declared.position.Kind.{Kind}
+use Rattle.som_numbers.specs.declared.position.Kind.TheVariants as kinds
 use Rattle.som_numbers.specs.declared.position.Position.{Position}
 use Rattle.som_numbers.specs.Positions.{AreMarked, IsNext, lists, rows}
 use Rattle.som_numbers.specs.Numbers.{ArePlaced, at}
@@ -153,11 +154,11 @@ module _ (cs : List Class) (falling : Falls (hierarchy cs)) (telling : Tells (hi
             (subst (λ l. AreAncestors (rows (ps ++ p ∷ [])) (length ps + 1) l) (sym (map_push (λ (q : Position). q.ancestors) ps p))
             (next_list (rows (ps ++ p ∷ [])) (length ps) (lists ps) p.parents p.ancestors low kept (sym (rows_end ps p))
             (next.ancestors ∙ ap (λ l. adds ◌==◌ [] (length ps ∷ joined (map (λ q. slice_index_or (lists ps) q []) l))) (sym next.parents_are))));
-        marks = λ n q e. elim (get_push ps p q n e) [
-          | inl old ↦ placed.marks n q old
-          | inr new ↦ (let s = new.0 in (
-            subst (λ (z : Position). AreMarks z.marks z.ancestors) new.1 next.marks,
-            ap (λ (z : Position). length z.marks) (sym new.1) ∙ next.long ∙ ap (λ i. i + 1) (sym s),
+        marks = λ n q e d. elim (get_push ps p q n e) [
+          | inl old ↦ placed.marks n q old d
+          | inr new ↦ (let s = new.0 in let own : kind ≡ kinds.Declared = sym next.kind_is ∙ ap (λ (z : Position). z.kind) new.1 ∙ d in (
+            subst (λ (z : Position). AreMarks z.marks z.ancestors) new.1 (next.marks own),
+            ap (λ (z : Position). length z.marks) (sym new.1) ∙ next.long own ∙ ap (λ i. i + 1) (sym s),
           ))
         ];
         ranks = λ n q e. elim (get_push ps p q n e) [
@@ -193,14 +194,14 @@ none_placed cs ks = record {
   low = λ i p m. absurd m;
   parents = λ n lt. absurd (omega (arith, lt));
   ancestors = record { long = refl; by = λ i lt. absurd (omega (arith, lt)) };
-  marks = λ n p e. absurd (cc);
+  marks = λ n p e d. absurd (cc);
   ranks = λ n p e. absurd (cc);
 }
 
--- a mark tells whether a class is an ancestor, and what has no mark is none
-pub marked_at : (ps : List Position) (n : ℕ) (p : Position) → slice_get ps n ≡ Some p → AreMarked ps → (a : ℕ) → slice_index_or p.marks a false ≡ some (λ x. a == x) (slice_index_or (lists ps) n [])
-marked_at ps n p is marked a =
-    let m = marked.marks n p is in
+-- a mark tells whether a class is an ancestor of a declared one, and what has no mark is none
+pub marked_at : (ps : List Position) (n : ℕ) (p : Position) → slice_get ps n ≡ Some p → p.kind ≡ kinds.Declared → AreMarked ps → (a : ℕ) → slice_index_or p.marks a false ≡ some (λ x. a == x) (slice_index_or (lists ps) n [])
+marked_at ps n p is own marked a =
+    let m = marked.marks n p is own in
     elim (cases_lt a (length p.marks)) [
       | inl lt ↦ m.0.by a lt ∙ ap (some (λ x. a == x)) (sym (list_get ps n p is))
       | inr ge ↦ get_or_past p.marks a false ge ∙ sym (not_true (some (λ x. a == x) (slice_index_or (lists ps) n [])) (λ t.

@@ -16,6 +16,11 @@ use Rattle.som_numbers.specs.declared.position.Kind.{Kind}
 use Rattle.som_numbers.specs.declared.position.Kind.TheVariants as kinds
 use Rattle.som_numbers.specs.declared.position.Position.{Position}
 use Rattle.som_numbers.specs.Classes.{AreDeclared, classes_of}
+use Rattle.som_numbers.specs.declared.names.Names.{Names}
+use Rattle.som_numbers.specs.Names.{AreNoted, face_names}
+use Rattle.som_numbers.specs.declared.made_table.MadeTable.{MadeTable}
+use Rattle.som_numbers.specs.Levels.{highest_of}
+use Rattle.som_numbers.specs.Made.{AreListed}
 use Rattle.som_numbers.specs.Positions.{lists, rows}
 
 -- the key that a number stands for
@@ -49,13 +54,13 @@ keys_by cs ps = keys_with (keys_of cs) (drop (length cs) ps)
 abbrev pub numbering_of : List Keyed → List Position → Numbering
 numbering_of ks ps = record { classes = classes_of ks; keys = keys_by (classes_of ks) ps }
 
--- the first numbers have positions: parents have lower numbers and are those of the hierarchy, ancestors are listed in order, marks tell them, and ranks are those of the definition
+-- the first numbers have positions: parents have lower numbers and are those of the hierarchy, ancestors are listed in order, those of declared classes told by marks, and ranks are those of the definition
 pub record ArePlaced (cs : List Class) (ks : List ClassKey) (ps : List Position) : Type 0 where
   pub within : length ps ≤ length ks
   pub low : AreLow (rows ps)
   pub parents : (n : ℕ) → n < length ps → map (at ks) (slice_index_or (rows ps) n []) ≡ (hierarchy cs).parents (at ks n)
   pub ancestors : AreAncestors (rows ps) (length ps) (lists ps)
-  pub marks : (n : ℕ) (p : Position) → slice_get ps n ≡ Some p → AreMarks p.marks p.ancestors × (length p.marks ≡ n + 1)
+  pub marks : (n : ℕ) (p : Position) → slice_get ps n ≡ Some p → p.kind ≡ kinds.Declared → AreMarks p.marks p.ancestors × (length p.marks ≡ n + 1)
   pub ranks : (n : ℕ) (p : Position) → slice_get ps n ≡ Some p → p.rank ≡ rank cs (at ks n)
 
 -- each number has a position, no two numbers stand for one class, and the made ones are what they are made of
@@ -67,6 +72,13 @@ pub record IsNumbers (cs : List Class) (ps : List Position) : Type 0 where
   pub placed : ArePlaced cs (keys_by cs ps) ps
   pub apart : AreApart (record { classes = cs; keys = keys_by cs ps })
   pub made : (n : ℕ) (p : Position) → length cs ≤ n → slice_get ps n ≡ Some p → (p.kind ≢ kinds.Declared) × (at (keys_by cs ps) n ≡ position_key (keys_by cs ps) p)
+
+-- the classes have numbers; the declared ones are found by their names, and the made ones by what they are made of
+pub record AreKept (ks : List Keyed) (ps : List Position) (names : Names) (highest : ℕ) (table : MadeTable) : Type 0 where
+  pub numbers : IsNumbers (classes_of ks) ps
+  pub noted : AreNoted (face_names ks) names
+  pub highest_is : highest ≡ highest_of (classes_of ks)
+  pub listed : AreListed (length ks) ps table
 
 -- the same, where the class of a key has a number: its own, or the one that comes next
 unfoldable pub with_key : Numbering → ClassKey → Numbering

@@ -4,6 +4,7 @@ use Rattle.som_model.specs.Lists.{Mem, joined}
 use Rattle.som_rules.specs.Walk.{AreMarks, adds}
 use Rattle.som_numbers.specs.declared.position.Position.{Position}
 use Rattle.som_numbers.specs.declared.position.Kind.{Kind}
+use Rattle.som_numbers.specs.declared.position.Kind.TheVariants as kinds
 
 -- the parents of each class
 abbrev pub rows : List Position → List (List ℕ)
@@ -20,10 +21,10 @@ AreLow ps = (p a : ℕ) → Mem a (slice_index_or (lists ps) p []) → a ≤ p
 abbrev pub rank_list : List Position → List ℕ
 rank_list ps = map (λ (p : Position). p.rank) ps
 
--- the marks of each class tell its ancestors, none of which has a higher number
+-- the marks of each declared class tell its ancestors, none of which has a higher number
 pub record AreMarked (ps : List Position) : Type 0 where
   pub low : AreLow ps
-  pub marks : (n : ℕ) (p : Position) → slice_get ps n ≡ Some p → AreMarks p.marks p.ancestors × (length p.marks ≡ n + 1)
+  pub marks : (n : ℕ) (p : Position) → slice_get ps n ≡ Some p → p.kind ≡ kinds.Declared → AreMarks p.marks p.ancestors × (length p.marks ≡ n + 1)
 
 -- the class of this number is made so of these parents
 pub record IsMade (ps : List Position) (kind : Kind) (parents : List ℕ) (n : ℕ) : Type 0 where
@@ -38,5 +39,5 @@ pub record IsNext (known : List Position) (kind : Kind) (parents : List ℕ) (ra
   pub parents_are : p.parents ≡ parents
   pub rank_is : p.rank ≡ rank
   pub ancestors : p.ancestors ≡ adds ◌==◌ [] (length known ∷ joined (map (λ q. slice_index_or (lists known) q []) parents))
-  pub marks : AreMarks p.marks p.ancestors
-  pub long : length p.marks ≡ length known + 1
+  pub marks : kind ≡ kinds.Declared → AreMarks p.marks p.ancestors
+  pub long : kind ≡ kinds.Declared → length p.marks ≡ length known + 1

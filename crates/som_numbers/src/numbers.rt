@@ -3,17 +3,22 @@ ghost use Rattle.som_model.specs.Classes.{ancestors as ancestors_at, hierarchy, 
 ghost use Rattle.som_model.specs.Lists.{Mem};
 ghost use Rattle.som_model.specs.Loads.{keys_of};
 ghost use Rattle.som_model.specs.Metaclass.{rank as rank_of};
+ghost use Rattle.som_model.specs.World.{named_class};
 ghost use Rattle.som_model.specs.declared.limits.TheConstants.{MAX_LAID_CLASSES};
 ghost use Rattle.som_numbers.specs.Classes.{AreDeclared, class_of, classes_of};
 ghost use Rattle.som_numbers.specs.Numbers.{AreFirst, made_key, with_key};
 ghost use Rattle.som_numbers.specs.declared.position.Kind.TheVariants as kinds;
+ghost use Rattle.std.specs.Option.{option_map};
 ghost use Rattle.std.specs.Prelude.{◌≡◌, ◌≢◌, ◌+◌, ◌<◌, ◌≤◌, ◌++◌, ◌∷◌, [], ℕ, IfNone, IfOk, IfSome, OnErr, OnOk, Some, length, map, slice_get};
 
-use crate::declared::{declared_positions, number_of};
+use crate::declared::{declared_number, declared_positions, number_of};
 use crate::keyed::{Keyed, class_at};
-use crate::made::{greatest_rank, made_number};
+use crate::made::greatest_rank;
+use crate::made_table::{MadeTable, push_made};
+use crate::named::{class_named, highest_level};
+use crate::names::{Names, names_of};
 use crate::position::{Kind, Position, is_marked, next_position, position_of};
-use som_model::{ClassKey, List, NoMemory};
+use som_model::{ClassKey, List, NoMemory, Text};
 use som_tables::ClassNo;
 use std::alloc::Global;
 use std::marker::Model;
@@ -27,14 +32,16 @@ const MOST_NUMBERS: usize = 4_294_967_294;
 pub struct Numbers {
     classes: List<Keyed>,
     positions: List<Position>,
+    names: Names,
+    highest: u8,
+    table: MadeTable,
 }
 
 impl Model for Numbers {
     ghost use Rattle.som_meta.specs.Numbering.{Numbering};
     ghost use Rattle.som_model.specs.contracts.key.ClassKey as key;
     ghost use Rattle.som_model.specs.contracts.syntax.Block as block;
-    ghost use Rattle.som_numbers.specs.Classes.{classes_of};
-    ghost use Rattle.som_numbers.specs.Numbers.{IsNumbers, numbering_of};
+    ghost use Rattle.som_numbers.specs.Numbers.{AreKept, numbering_of};
     ghost use Rattle.std.specs.Coded.{codes};
 
     ghost Value = { Numbering };
@@ -43,7 +50,7 @@ impl Model for Numbers {
 
     ghost view = { λ n. numbering_of n.classes n.positions };
 
-    ghost invariant = { λ n. IsNumbers (classes_of n.classes) n.positions };
+    ghost invariant = { λ n. AreKept n.classes n.positions n.names n.highest n.table };
 }
 
 impl Numbers {
@@ -53,8 +60,16 @@ impl Numbers {
         requires declared { AreDeclared (classes_of classes) }
         ensures { IfOk result (λ n. n ≡ record { classes = classes_of classes; keys = keys_of (classes_of classes) }) }
     {
-        let positions = declared_positions(alloc, classes.as_slice())?;
-        Ok(Numbers { classes, positions })
+        let names = names_of(alloc, classes.as_slice())?;
+        let positions = declared_positions(alloc, &names, classes.as_slice())?;
+        let highest = highest_level(classes.as_slice());
+        Ok(Numbers {
+            classes,
+            positions,
+            names,
+            highest,
+            table: MadeTable::new(alloc),
+        })
     }
 
     /// How many classes have numbers.
@@ -64,7 +79,7 @@ impl Numbers {
         self.positions.len() as u32
     }
 
-    /// Whether a class is another or descends from it, by one look.
+    /// Whether a class is another or descends from it, of a declared class by one look.
     pub fn is_a(&self, class: ClassNo, ancestor: ClassNo) -> bool
         requires class { IsNumbered self.now class }
         requires ancestor { IsNumbered self.now ancestor }
@@ -113,7 +128,24 @@ impl Numbers {
         ensures declared { result < length self.now.classes }
         ensures key { key_at self.now result ≡ key.now }
     {
-        number_of(self.classes.as_slice(), key)
+        number_of(&self.names, self.classes.as_slice(), key)
+    }
+
+    /// The number of a key's class, if that is declared.
+    pub fn find(&self, key: &ClassKey) -> Option<ClassNo>
+        ensures some { IfSome result (λ n. (n < length self.now.classes) × (key_at self.now n ≡ key.now)) }
+        ensures none { IfNone result (Mem key.now (keys_of self.now.classes) → ⊥) }
+    {
+        declared_number(&self.names, self.classes.as_slice(), key)
+    }
+
+    /// The number of the class of a name: of the client's, or else of that of the highest level above the library, or else of the library's, or else of
+    /// the kernel's.
+    pub fn named(&self, name: &Text) -> Option<ClassNo>
+        ensures declared { IfSome result (λ n. n < length self.now.classes) }
+        ensures key { option_map (key_at self.now) result ≡ named_class self.now.classes name.now }
+    {
+        class_named(&self.names, self.classes.as_slice(), self.highest, name)
     }
 
     /// A declared class.
@@ -147,7 +179,7 @@ impl Numbers {
         let class = ClassNo::new(self.positions.len() as u32);
         let rank = greatest_rank(self.positions.as_slice(), parents.as_slice());
         let position = next_position(alloc, self.positions.as_slice(), kind, parents, rank)?;
-        self.positions.push(position)?;
+        push_made(alloc, &mut self.positions, &mut self.table, position)?;
         Ok(class)
     }
 
@@ -159,7 +191,7 @@ impl Numbers {
         ensures some { IfSome result (λ n. IsNumbered self.now n × (key_at self.now n ≡ made_key kind (map (key_at self.now) parents.now))) }
         ensures none { IfNone result ((n : ℕ) → IsNumbered self.now n → key_at self.now n ≡ made_key kind (map (key_at self.now) parents.now) → ⊥) }
     {
-        made_number(self.positions.as_slice(), self.classes.len(), kind, parents)
+        self.table.find(kind, parents)
     }
 
     /// The number of the class that is made so of these, which has one from now on.

@@ -1,5 +1,6 @@
 ghost use Rattle.som_model.specs.Lists.{Mem, joined, some};
 ghost use Rattle.som_numbers.specs.Positions.{AreLow, AreMarked, IsNext, lists};
+ghost use Rattle.som_numbers.specs.declared.position.Kind.TheVariants as kinds;
 ghost use Rattle.som_rules.specs.Walk.{AreMarks, add_new, adds};
 ghost use Rattle.std.specs.Prelude.{◌≡◌, ◌==◌, ◌+◌, ◌<◌, ◌≤◌, ℕ, [], ◌∷◌, IfOk, OnOk, Some, false, length, map, slice_get, slice_index_or};
 
@@ -15,7 +16,8 @@ pub enum Kind {
     Proxy,
 }
 
-/// Where a class stands: its parents, itself and its ancestors, which of the classes of no higher number these are, and its rank.
+/// Where a class stands: its parents, itself and its ancestors, and its rank; of a declared class also which of the classes of no higher number its
+/// ancestors are. Of made classes, of which there may be many, this isn't kept.
 #[derive(Drop)]
 pub(crate) struct Position {
     pub(crate) kind: Kind,
@@ -23,6 +25,16 @@ pub(crate) struct Position {
     pub(crate) ancestors: List<ClassNo>,
     pub(crate) marks: List<bool>,
     pub(crate) rank: u32,
+}
+
+fn kept_marks(alloc: Global, kind: Kind, marks: Vec<bool>) -> List<bool>
+    ensures { kind ≡ kinds.Declared → result ≡ marks.items }
+{
+    match kind {
+        Kind::Declared => List::from_vec(marks),
+        Kind::Derived => List::new(alloc),
+        Kind::Proxy => List::new(alloc),
+    }
 }
 
 /// The position of the class that comes next, made of those of its parents in the time that their lists of ancestors take.
@@ -48,7 +60,7 @@ pub(crate) fn next_position(
         kind,
         parents,
         ancestors,
-        marks: List::from_vec(marks),
+        marks: kept_marks(alloc, kind, marks),
         rank,
     })
 }
@@ -127,14 +139,27 @@ fn mark_at(marks: &[bool], place: usize) -> bool
     }
 }
 
-/// Whether a class is among the ancestors of another, by its mark.
+fn is_listed(list: &[ClassNo], class: ClassNo) -> bool
+    ensures { result ≡ some (λ x. class == x) list.now }
+{
+    for other in list {
+        if class == *other {
+            return true;
+        }
+    }
+    false
+}
+
+/// Whether a class is among the ancestors of another: of a declared class by the mark, of a made one by its list.
 pub(crate) fn is_marked(known: &[Position], class: ClassNo, ancestor: ClassNo) -> bool
     requires class { class < length known.now }
     requires marked { AreMarked known.now }
     ensures { result ≡ some (λ x. ancestor == x) (slice_index_or (lists known.now) class []) }
 {
-    mark_at(
-        position_of(known, class).marks.as_slice(),
-        ancestor.number() as usize,
-    )
+    let position = position_of(known, class);
+    match position.kind {
+        Kind::Declared => mark_at(position.marks.as_slice(), ancestor.number() as usize),
+        Kind::Derived => is_listed(position.ancestors.as_slice(), ancestor),
+        Kind::Proxy => is_listed(position.ancestors.as_slice(), ancestor),
+    }
 }

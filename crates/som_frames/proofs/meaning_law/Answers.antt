@@ -4,7 +4,7 @@ use Rattle.som_frames.proofs.Called.{matched, main_comes}
 use Rattle.som_frames.proofs.meaning_law.Goals as goal
 
 pub returns-clause-main : goal.returns-clause-main
-returns-clause-main c w laid main code fuel ok effect = main_comes w laid ok MAX_DEPTH main code effect (beginning w fuel)
+returns-clause-main c w tests main fuel = main_comes w tests MAX_DEPTH main (beginning w fuel)
 
 pub returns-clause-calls : goal.returns-clause-calls
-returns-clause-calls c w laid levels q waiting s ok = (matched w laid ok levels q waiting).by s
+returns-clause-calls c w tests levels q waiting s = (matched w tests levels q waiting).by s

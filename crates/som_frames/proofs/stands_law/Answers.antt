@@ -1,33 +1,34 @@
 use Rattle.std.proofs.Common.{◌≡◌, ◌+◌, subst, arith, sym}
 use Rattle.som_model.specs.declared.limits.TheConstants.{MAX_DEPTH}
-use Rattle.som_model.specs.Means.{beginning, means_in}
+use Rattle.som_model.specs.Means.{beginning}
 use Rattle.som_code.specs.Machine.{ComesTo}
+use Rattle.som_frames.specs.Tested.{tested_in}
 use Rattle.som_frames.specs.Step.{main_frames, step}
 use Rattle.som_frames.proofs.Called.{main_comes}
 use Rattle.som_frames.proofs.Task.{stands_granted, stands_on, stands_over, stands_ends, stands_shows, stands_objects}
 use Rattle.som_frames.proofs.stands_law.Goals as goal
 
 pub returns-clause-start : goal.returns-clause-start
-returns-clause-start c w laid main code ok effect = record {
+returns-clause-start c w tests main = record {
   by = λ f.
       let e : 0 + f ≡ f = omega arith in
-      subst (λ n. ComesTo (step w laid) (main_frames MAX_DEPTH code) (beginning w n) (means_in w main n)) (sym e) (main_comes w laid ok MAX_DEPTH main code effect (beginning w f));
+      subst (λ n. ComesTo (step w tests) (main_frames MAX_DEPTH main) (beginning w n) (tested_in w tests main n)) (sym e) (main_comes w tests MAX_DEPTH main (beginning w f));
 }
 
 pub returns-clause-granted : goal.returns-clause-granted
-returns-clause-granted c w laid means fs s n u h = stands_granted (step w laid) means fs s n h u
+returns-clause-granted c w tests means fs s n u h = stands_granted (step w tests) means fs s n h u
 
 pub returns-clause-on : goal.returns-clause-on
-returns-clause-on c w laid means fs gs s t n h e = stands_on (step w laid) means fs s n h gs t e
+returns-clause-on c w tests means fs gs s t n h e = stands_on (step w tests) means fs s n h gs t e
 
 pub returns-clause-over : goal.returns-clause-over
-returns-clause-over c w laid means fs s t n h e = stands_over (step w laid) means fs s n h (tt {0}) t e
+returns-clause-over c w tests means fs s t n h e = stands_over (step w tests) means fs s n h (tt {0}) t e
 
 pub returns-clause-ends : goal.returns-clause-ends
-returns-clause-ends c w laid means fs s t n x h e = stands_ends (step w laid) means fs s n h x t e
+returns-clause-ends c w tests means fs s t n x h e = stands_ends (step w tests) means fs s n h x t e
 
 pub returns-clause-shows : goal.returns-clause-shows
-returns-clause-shows c w laid means fs s n h = stands_shows (step w laid) means fs s n h
+returns-clause-shows c w tests means fs s n h = stands_shows (step w tests) means fs s n h
 
 pub returns-clause-objects : goal.returns-clause-objects
-returns-clause-objects c w laid means fs s n h = stands_objects (step w laid) means fs s n h
+returns-clause-objects c w tests means fs s n h = stands_objects (step w tests) means fs s n h

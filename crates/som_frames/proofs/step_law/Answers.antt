@@ -2,13 +2,13 @@ use Rattle.som_frames.proofs.Steps.{next_fine}
 use Rattle.som_frames.proofs.step_law.Goals as goal
 
 pub returns-clause-lower : goal.returns-clause-lower
-returns-clause-lower c w laid fs gs s t sound e = (next_fine w laid fs.now fs.waiting sound).lowers s gs t e
+returns-clause-lower c w tests fs gs s t sound e = (next_fine w tests fs.now fs.waiting sound).lowers s gs t e
 
 pub returns-clause-spent : goal.returns-clause-spent
-returns-clause-spent c w laid fs s t sound e = (next_fine w laid fs.now fs.waiting sound).spent s t e
+returns-clause-spent c w tests fs s t sound e = (next_fine w tests fs.now fs.waiting sound).spent s t e
 
 pub returns-clause-counts : goal.returns-clause-counts
-returns-clause-counts c w laid fs s sound = (next_fine w laid fs.now fs.waiting sound).counts s
+returns-clause-counts c w tests fs s sound = (next_fine w tests fs.now fs.waiting sound).counts s
 
 pub returns-clause-makes : goal.returns-clause-makes
-returns-clause-makes c w laid fs s sound = (next_fine w laid fs.now fs.waiting sound).within s
+returns-clause-makes c w tests fs s sound = (next_fine w tests fs.now fs.waiting sound).within s

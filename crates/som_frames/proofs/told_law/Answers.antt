@@ -3,4 +3,4 @@ use Rattle.som_frames.proofs.Task.{told_after}
 use Rattle.som_frames.proofs.told_law.Goals as goal
 
 pub returns : goal.returns
-returns c w laid fs s add out = told_after (step w laid fs) add out s
+returns c w tests fs s add out = told_after (step w tests fs) add out s

@@ -13,10 +13,10 @@ pub returns-clause-numbered : goal.returns-clause-numbered
 returns-clause-numbered c = rw (← c.self.view_is)
     (let w = rw (← c.self.view_is) at c.requires in
     let lt : c.args.class < length c.self.inside.classes = omega (arith, w, classes_length c.self.inside.classes) in
-    declared_numbered c.self.inside.classes c.self.inside.positions c.self.invariant c.args.class lt)
+    declared_numbered c.self.inside.classes c.self.inside.positions c.self.invariant.numbers c.args.class lt)
 
 pub returns-clause-key : goal.returns-clause-key
 returns-clause-key c = rw (← c.self.view_is)
     (let w = rw (← c.self.view_is) at c.requires in
     let lt : c.args.class < length c.self.inside.classes = omega (arith, w, classes_length c.self.inside.classes) in
-    class_key c.self.inside.classes c.self.inside.positions c.self.invariant c.args.class c.class_at.result.now lt (rw c.as_slice.ensures at c.class_at.ensures))
+    class_key c.self.inside.classes c.self.inside.positions c.self.invariant.numbers c.args.class c.class_at.result.now lt (rw c.as_slice.ensures at c.class_at.ensures))

@@ -4,10 +4,10 @@ use Rattle.som_numbers.proofs.Numbered.{are_first, few_declared}
 use Rattle.som_numbers.proofs.numbers.Numbers.declared_count.Goals as goal
 
 pub overflow_cast-result : goal.overflow_cast-result
-overflow_cast-result c = omega (arith, c.len.ensures, few_declared c.self.inside.classes c.self.inside.positions c.self.invariant)
+overflow_cast-result c = omega (arith, c.len.ensures, few_declared c.self.inside.classes c.self.inside.positions c.self.invariant.numbers)
 
 pub returns-clause-count : goal.returns-clause-count
 returns-clause-count c = rw (← c.self.view_is) (c.len.ensures ∙ sym (classes_length c.self.inside.classes))
 
 pub returns-clause-first : goal.returns-clause-first
-returns-clause-first c = rw (← c.self.view_is) (are_first c.self.inside.classes c.self.inside.positions c.self.invariant)
+returns-clause-first c = rw (← c.self.view_is) (are_first c.self.inside.classes c.self.inside.positions c.self.invariant.numbers)

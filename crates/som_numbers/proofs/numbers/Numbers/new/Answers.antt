@@ -1,16 +1,21 @@
-use Rattle.std.proofs.Common.{ap}
 use Rattle.som_model.specs.declared.key.ClassKey.{ClassKey}
-use Rattle.std.proofs.Common.{List, arith, length, ◌≡◌}
+use Rattle.std.proofs.Common.{List, arith, length, ◌≡◌, ap}
 use Rattle.som_numbers.specs.Classes.{classes_of}
 use Rattle.som_numbers.proofs.Declaring.{classes_length}
+use Rattle.som_numbers.proofs.Listing.{none_listed}
 use Rattle.som_numbers.proofs.Numbered.{declared_numbers, keys_declared}
 use Rattle.som_numbers.proofs.numbers.Numbers.new.Goals as goal
 
 pub invariant_of-result : goal.invariant_of-result
-invariant_of-result c = declared_numbers c.args.classes c.in_ok-positions.positions c.requires.few c.requires.declared (rw c.as_slice.ensures at c.in_ok-positions.ensures.placed) (rw c.as_slice.ensures at c.in_ok-positions.ensures.each)
+invariant_of-result c = record {
+  numbers = declared_numbers c.args.classes c.in_ok-positions.positions c.requires.few c.requires.declared (rw c.as_slice-2.ensures at c.in_ok-positions.ensures.placed) (rw c.as_slice-2.ensures at c.in_ok-positions.ensures.each);
+  noted = rw c.as_slice.ensures at c.in_ok-names.ensures;
+  highest_is = rw c.as_slice-3.ensures at c.highest_level-highest.ensures;
+  listed = (let each = rw c.as_slice-2.ensures at c.in_ok-positions.ensures.each in none_listed (length c.args.classes) c.in_ok-positions.positions c.new.result (omega (arith, each)) c.new.ensures);
+}
 
 pub returns : goal.returns
 returns c =
-    let each = rw c.as_slice.ensures at c.in_ok-positions.ensures.each in
+    let each = rw c.as_slice-2.ensures at c.in_ok-positions.ensures.each in
     let long : length c.in_ok-positions.positions ≡ length (classes_of c.args.classes) = omega (arith, each, classes_length c.args.classes) in
     ap (λ (ks : List ClassKey). record { classes = classes_of c.args.classes; keys = ks }) (keys_declared (classes_of c.args.classes) c.in_ok-positions.positions long)

@@ -1,10 +1,13 @@
 use Rattle.std.proofs.Common.{◌∙◌, arith}
 use Rattle.som_numbers.proofs.Declaring.{classes_length}
-use Rattle.som_numbers.proofs.Numbered.{declared_key, few_declared}
+use Rattle.som_numbers.proofs.Numbered.{declared_key}
 use Rattle.som_numbers.proofs.numbers.Numbers.number_of.Goals as goal
 
-pub number_of-requires-clause-few : goal.number_of-requires-clause-few
-number_of-requires-clause-few c = rw c.as_slice.ensures (few_declared c.self.inside.classes c.self.inside.positions c.self.invariant)
+pub number_of-requires-clause-noted : goal.number_of-requires-clause-noted
+number_of-requires-clause-noted c = rw c.as_slice.ensures c.self.invariant.noted
+
+pub number_of-requires-clause-declared : goal.number_of-requires-clause-declared
+number_of-requires-clause-declared c = rw c.as_slice.ensures c.self.invariant.numbers.declared
 
 pub number_of-requires-clause-known : goal.number_of-requires-clause-known
 number_of-requires-clause-known c = rw c.as_slice.ensures (rw (← c.self.view_is) at c.requires)
@@ -14,4 +17,4 @@ returns-clause-declared c = rw (← c.self.view_is) (let w = rw c.as_slice.ensur
 
 pub returns-clause-key : goal.returns-clause-key
 returns-clause-key c = rw (← c.self.view_is)
-    (declared_key c.self.inside.classes c.self.inside.positions c.self.invariant c.number_of.result (rw c.as_slice.ensures at c.number_of.ensures.within) ∙ (rw c.as_slice.ensures at c.number_of.ensures.key))
+    (declared_key c.self.inside.classes c.self.inside.positions c.self.invariant.numbers c.number_of.result (rw c.as_slice.ensures at c.number_of.ensures.within) ∙ (rw c.as_slice.ensures at c.number_of.ensures.key))

@@ -3,10 +3,10 @@ use Rattle.som_numbers.proofs.Numbered.{parents_keys, parents_low, within_positi
 use Rattle.som_numbers.proofs.numbers.Numbers.parents.Goals as goal
 
 pub position_of-requires : goal.position_of-requires
-position_of-requires c = rw c.as_slice.ensures (within_positions (classes_of c.self.inside.classes) c.self.inside.positions c.self.invariant c.args.class (rw (← c.self.view_is) at c.requires))
+position_of-requires c = rw c.as_slice.ensures (within_positions (classes_of c.self.inside.classes) c.self.inside.positions c.self.invariant.numbers c.args.class (rw (← c.self.view_is) at c.requires))
 
 pub returns-clause-lower : goal.returns-clause-lower
-returns-clause-lower c = (parents_low (classes_of c.self.inside.classes) c.self.inside.positions c.self.invariant c.args.class c.position_of.result.now (rw c.as_slice.ensures at c.position_of.ensures))
+returns-clause-lower c = (parents_low (classes_of c.self.inside.classes) c.self.inside.positions c.self.invariant.numbers c.args.class c.position_of.result.now (rw c.as_slice.ensures at c.position_of.ensures))
 
 pub returns-clause-keys : goal.returns-clause-keys
-returns-clause-keys c = rw (← c.self.view_is) (parents_keys (classes_of c.self.inside.classes) c.self.inside.positions c.self.invariant c.args.class c.position_of.result.now (rw c.as_slice.ensures at c.position_of.ensures))
+returns-clause-keys c = rw (← c.self.view_is) (parents_keys (classes_of c.self.inside.classes) c.self.inside.positions c.self.invariant.numbers c.args.class c.position_of.result.now (rw c.as_slice.ensures at c.position_of.ensures))

@@ -1,0 +1,2 @@
+pub mod Proxied
+pub mod Forms

@@ -1,0 +1,4 @@
+pub mod Within
+pub mod Values
+pub mod Steps
+pub mod More

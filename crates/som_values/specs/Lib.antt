@@ -1,0 +1,5 @@
+pub mod Answers
+pub mod Operators
+pub mod Shown
+pub mod Stored
+pub mod Variables

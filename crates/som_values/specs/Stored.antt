@@ -1,0 +1,50 @@
+-- The objects of the meaning that a store holds, and what classes answer of them.
+use Rattle.std.specs.Prelude.{◌≡◌, ℕ, true, false, List, Option, Some, None, Result, Ok, Err, slice_get}
+use Rattle.som_model.specs.declared.key.ClassKey.{ClassKey}
+use Rattle.som_model.specs.declared.program.Fault.{Fault}
+use Rattle.som_model.specs.declared.program.Fault.TheVariants as faults
+use Rattle.som_model.specs.World.{World}
+use Rattle.som_model.specs.State.{Instance, Heap, Ref, is_live, class_of}
+use Rattle.som_objects.specs.declared.cell.Cell.{Cell}
+use Rattle.som_objects.specs.declared.cell.Cell.TheVariants as cells
+use Rattle.som_objects.specs.Objects.{Live, Objects, live_at, IsKnown}
+use Rattle.som_values.specs.declared.reference.Reference.{Reference}
+use Rattle.som_values.specs.declared.reference.Reference.TheVariants as references
+use Rattle.som_values.specs.Shown.{Showing, key_of, place_of, IsMade, IsNumbered}
+
+-- an object that is live in the store is live in the meaning and has its class, and one that was freed is freed there
+abbrev pub IsOne : List ClassKey → Option Live → Option Instance → Type 0
+IsOne keys (Some o) (Some t) = (t.live ≡ true) × (t.class ≡ key_of keys o.class)
+IsOne keys None (Some t) = t.live ≡ false
+IsOne keys _ None = ⊥
+
+-- the meaning's objects are those that the task made, each with the same class, and live where it is live in the store
+pub record Holds (s : Showing) (os : Objects) (h : Heap) : Type 0 where
+  pub by : (n : ℕ) → IsMade s.serials n → IsOne s.keys (live_at os n) (slice_get h.objects (place_of s.serials n))
+
+-- the class of each live object has a number
+abbrev pub HasClasses : List ClassKey → Objects → Type 0
+HasClasses keys os = (n : ℕ) (o : Live) → live_at os n ≡ Some o → IsNumbered keys o.class
+
+-- the store knows the object that a cell refers to
+abbrev pub IsKept : Objects → Cell → Type 0
+IsKept os (cells.Object r) = IsKnown os r
+IsKept os _ = Unit {0}
+
+abbrev pub IsKeptRef : Objects → Reference → Type 0
+IsKeptRef os (references.Object r) = IsKnown os r
+IsKeptRef os _ = Unit {0}
+
+-- what classes answer of an object: the number of its class, where it is live, and else the fault Freed
+abbrev pub IsClassOf : List ClassKey → World → Heap → Ref → Result ℕ Fault → Type 0
+IsClassOf keys w h r (Ok n) = (is_live h r ≡ true) × (class_of w h r ≡ key_of keys n)
+IsClassOf keys w h r (Err f) = (is_live h r ≡ false) × (f ≡ faults.Freed)
+
+-- the class of a class object that is referred to has a number
+abbrev pub IsNumberedRef : List ClassKey → Reference → Type 0
+IsNumberedRef keys (references.Class n) = IsNumbered keys n
+IsNumberedRef keys _ = Unit {0}
+
+abbrev pub IsNumberedCell : List ClassKey → Cell → Type 0
+IsNumberedCell keys (cells.Class n) = IsNumbered keys n
+IsNumberedCell keys _ = Unit {0}

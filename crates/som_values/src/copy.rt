@@ -1,0 +1,53 @@
+ghost use Rattle.som_model.specs.State.{zero_of};
+ghost use Rattle.som_objects.specs.Objects.{Objects};
+ghost use Rattle.som_values.specs.Shown.{IsSeen, Showing, all_shown, shown};
+ghost use Rattle.som_values.specs.Stored.{IsKept};
+ghost use Rattle.std.specs.List.{All};
+ghost use Rattle.std.specs.Prelude.{◌≡◌, IfOk, map};
+
+use som_model::{List, NoMemory, Text, ValueType};
+use som_objects::Cell;
+use std::alloc::Global;
+
+/// An equal cell. A text is shared with it.
+pub fn copy_cell(alloc: Global, cell: &Cell) -> Result<Cell, NoMemory>
+    ensures { IfOk result (λ copy. copy ≡ cell.now) }
+{
+    match cell {
+        Cell::Long(number) => Ok(Cell::Long(*number)),
+        Cell::Boolean(truth) => Ok(Cell::Boolean(*truth)),
+        Cell::Str(text) => Ok(Cell::Str(text.copy(alloc)?)),
+        Cell::Nil => Ok(Cell::Nil),
+        Cell::Object(object) => Ok(Cell::Object(*object)),
+        Cell::Class(class) => Ok(Cell::Class(*class)),
+        Cell::Manager => Ok(Cell::Manager),
+    }
+}
+
+/// What a variable of a type begins with. It takes no memory.
+pub fn zero(alloc: Global, kind: &ValueType) -> Cell
+    ensures means { (s : Showing) → shown s result ≡ zero_of kind.now }
+    ensures seen { (s : Showing) → IsSeen s result }
+    ensures kept { (os : Objects) → IsKept os result }
+{
+    match kind {
+        ValueType::Void => Cell::Nil,
+        ValueType::Long => Cell::Long(0),
+        ValueType::Boolean => Cell::Boolean(false),
+        ValueType::Str => Cell::Str(Text::from_vec(Vec::new(alloc))),
+        ValueType::Class(_) => Cell::Nil,
+    }
+}
+
+/// The cells of a new object, by the types of its variables.
+pub fn zeros(alloc: Global, kinds: &[ValueType]) -> Result<List<Cell>, NoMemory>
+    ensures means { IfOk result (λ cells. (s : Showing) → all_shown s cells ≡ map zero_of kinds.now) }
+    ensures seen { IfOk result (λ cells. (s : Showing) → All (IsSeen s) cells) }
+    ensures kept { IfOk result (λ cells. (os : Objects) → All (IsKept os) cells) }
+{
+    let mut cells = List::new(alloc);
+    for kind in kinds {
+        cells.push(zero(alloc, kind))?;
+    }
+    Ok(cells)
+}
