@@ -7,3 +7,4 @@ pub mod Noting
 pub mod Numbered
 pub mod Placing
 pub mod Listing
+pub mod Naming

@@ -3,3 +3,4 @@ pub mod Names
 pub mod Positions
 pub mod Numbers
 pub mod Made
+pub mod Levels

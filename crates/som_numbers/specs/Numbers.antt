@@ -19,6 +19,7 @@ use Rattle.som_numbers.specs.Classes.{AreDeclared, classes_of}
 use Rattle.som_numbers.specs.declared.names.Names.{Names}
 use Rattle.som_numbers.specs.Names.{AreNoted, face_names}
 use Rattle.som_numbers.specs.declared.made_table.MadeTable.{MadeTable}
+use Rattle.som_numbers.specs.Levels.{highest_of}
 use Rattle.som_numbers.specs.Made.{AreListed}
 use Rattle.som_numbers.specs.Positions.{lists, rows}
 
@@ -73,9 +74,10 @@ pub record IsNumbers (cs : List Class) (ps : List Position) : Type 0 where
   pub made : (n : ℕ) (p : Position) → length cs ≤ n → slice_get ps n ≡ Some p → (p.kind ≢ kinds.Declared) × (at (keys_by cs ps) n ≡ position_key (keys_by cs ps) p)
 
 -- the classes have numbers; the declared ones are found by their names, and the made ones by what they are made of
-pub record AreKept (ks : List Keyed) (ps : List Position) (names : Names) (table : MadeTable) : Type 0 where
+pub record AreKept (ks : List Keyed) (ps : List Position) (names : Names) (highest : ℕ) (table : MadeTable) : Type 0 where
   pub numbers : IsNumbers (classes_of ks) ps
   pub noted : AreNoted (face_names ks) names
+  pub highest_is : highest ≡ highest_of (classes_of ks)
   pub listed : AreListed (length ks) ps table
 
 -- the same, where the class of a key has a number: its own, or the one that comes next

@@ -5,6 +5,7 @@ mod declared;
 mod keyed;
 mod made;
 mod made_table;
+mod named;
 mod names;
 mod numbers;
 mod position;

@@ -3,19 +3,22 @@ ghost use Rattle.som_model.specs.Classes.{ancestors as ancestors_at, hierarchy, 
 ghost use Rattle.som_model.specs.Lists.{Mem};
 ghost use Rattle.som_model.specs.Loads.{keys_of};
 ghost use Rattle.som_model.specs.Metaclass.{rank as rank_of};
+ghost use Rattle.som_model.specs.World.{named_class};
 ghost use Rattle.som_model.specs.declared.limits.TheConstants.{MAX_LAID_CLASSES};
 ghost use Rattle.som_numbers.specs.Classes.{AreDeclared, class_of, classes_of};
 ghost use Rattle.som_numbers.specs.Numbers.{AreFirst, made_key, with_key};
 ghost use Rattle.som_numbers.specs.declared.position.Kind.TheVariants as kinds;
+ghost use Rattle.std.specs.Option.{option_map};
 ghost use Rattle.std.specs.Prelude.{◌≡◌, ◌≢◌, ◌+◌, ◌<◌, ◌≤◌, ◌++◌, ◌∷◌, [], ℕ, IfNone, IfOk, IfSome, OnErr, OnOk, Some, length, map, slice_get};
 
-use crate::declared::{declared_positions, number_of};
+use crate::declared::{declared_number, declared_positions, number_of};
 use crate::keyed::{Keyed, class_at};
 use crate::made::greatest_rank;
 use crate::made_table::{MadeTable, push_made};
+use crate::named::{class_named, highest_level};
 use crate::names::{Names, names_of};
 use crate::position::{Kind, Position, is_marked, next_position, position_of};
-use som_model::{ClassKey, List, NoMemory};
+use som_model::{ClassKey, List, NoMemory, Text};
 use som_tables::ClassNo;
 use std::alloc::Global;
 use std::marker::Model;
@@ -30,6 +33,7 @@ pub struct Numbers {
     classes: List<Keyed>,
     positions: List<Position>,
     names: Names,
+    highest: u8,
     table: MadeTable,
 }
 
@@ -46,7 +50,7 @@ impl Model for Numbers {
 
     ghost view = { λ n. numbering_of n.classes n.positions };
 
-    ghost invariant = { λ n. AreKept n.classes n.positions n.names n.table };
+    ghost invariant = { λ n. AreKept n.classes n.positions n.names n.highest n.table };
 }
 
 impl Numbers {
@@ -58,10 +62,12 @@ impl Numbers {
     {
         let names = names_of(alloc, classes.as_slice())?;
         let positions = declared_positions(alloc, &names, classes.as_slice())?;
+        let highest = highest_level(classes.as_slice());
         Ok(Numbers {
             classes,
             positions,
             names,
+            highest,
             table: MadeTable::new(alloc),
         })
     }
@@ -123,6 +129,23 @@ impl Numbers {
         ensures key { key_at self.now result ≡ key.now }
     {
         number_of(&self.names, self.classes.as_slice(), key)
+    }
+
+    /// The number of a key's class, if that is declared.
+    pub fn find(&self, key: &ClassKey) -> Option<ClassNo>
+        ensures some { IfSome result (λ n. (n < length self.now.classes) × (key_at self.now n ≡ key.now)) }
+        ensures none { IfNone result (Mem key.now (keys_of self.now.classes) → ⊥) }
+    {
+        declared_number(&self.names, self.classes.as_slice(), key)
+    }
+
+    /// The number of the class of a name: of the client's, or else of that of the highest level above the library, or else of the library's, or else of
+    /// the kernel's.
+    pub fn named(&self, name: &Text) -> Option<ClassNo>
+        ensures declared { IfSome result (λ n. n < length self.now.classes) }
+        ensures key { option_map (key_at self.now) result ≡ named_class self.now.classes name.now }
+    {
+        class_named(&self.names, self.classes.as_slice(), self.highest, name)
     }
 
     /// A declared class.

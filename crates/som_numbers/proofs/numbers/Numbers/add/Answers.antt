@@ -50,6 +50,7 @@ invariant_of-self-2 c =
     record {
       numbers = subst (λ (l : List Position). IsNumbers cs l) (sym c.in_ok-push_made.ensures.ok) more;
       noted = c.self.invariant.noted;
+      highest_is = c.self.invariant.highest_is;
       listed = c.in_ok-push_made.ensures.listed (length kl) low c.self.invariant.listed;
     }
 
