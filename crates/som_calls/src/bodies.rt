@@ -27,18 +27,22 @@ fn object(alloc: Global) -> Result<List<ClassKey>, NoMemory> {
     Ok(parents)
 }
 
-fn face(alloc: Global, methods: &[&[u8]]) -> Result<ClassFace, NoMemory> {
+fn entries(alloc: Global, methods: &[&[u8]]) -> Result<List<Entry>, NoMemory> {
     let mut entries = List::new(alloc);
     for name in methods {
         entries.push(method(alloc, *name)?)?;
     }
+    Ok(entries)
+}
+
+fn face(alloc: Global, methods: &[&[u8]]) -> Result<ClassFace, NoMemory> {
     Ok(ClassFace {
         name: Text::from_slice(alloc, b"Dog")?,
         major: 0,
         minor: 0,
         parents: object(alloc)?,
         metaclass: None,
-        entries,
+        entries: entries(alloc, methods)?,
     })
 }
 
@@ -54,15 +58,45 @@ fn empty_bodies(alloc: Global, count: usize) -> Result<List<Body>, NoMemory> {
 
 // The class Dog alone, with these methods and so many bodies.
 fn dogs(alloc: Global, methods: &[&[u8]], bodies: usize) -> Result<List<ClassDecl>, NoMemory> {
+    let bodies = empty_bodies(alloc, bodies)?;
+    let face = face(alloc, methods)?;
     let mut classes = List::new(alloc);
     classes.push(ClassDecl {
-        face: face(alloc, methods)?,
+        face,
         variables: List::new(alloc),
-        bodies: empty_bodies(alloc, bodies)?,
+        bodies,
         overrides: List::new(alloc),
         selects: List::new(alloc),
     })?;
     Ok(classes)
+}
+
+// What is told of a library of that class, and of a client.
+fn library_answer(
+    alloc: Global,
+    methods: &[&[u8]],
+    bodies: usize,
+) -> Result<Result<(), VerifyFault>, NoMemory> {
+    let classes = dogs(alloc, methods, bodies)?;
+    Ok(release_ok(alloc, &Release { classes }))
+}
+
+fn client_answer(
+    alloc: Global,
+    methods: &[&[u8]],
+    bodies: usize,
+) -> Result<Result<(), VerifyFault>, NoMemory> {
+    let classes = dogs(alloc, methods, bodies)?;
+    let program = ClientProgram {
+        base: Interface {
+            classes: List::new(alloc),
+        },
+        classes,
+        main: Block {
+            statements: List::new(alloc),
+        },
+    };
+    Ok(program_ok(alloc, &program))
 }
 
 fn is_told_of_dog(answer: &Result<(), VerifyFault>, rule: u8) -> bool {
@@ -85,10 +119,7 @@ fn each_introduced_method_has_one_body(rt: HostRuntime) -> Result<(), Fail> {
         (&[], 1, false),
     ];
     for (methods, bodies, fits) in cases {
-        let release = Release {
-            classes: dogs(alloc, methods, bodies)?,
-        };
-        let answer = release_ok(alloc, &release);
+        let answer = library_answer(alloc, methods, bodies)?;
         assert_eq!(rt; answer.is_ok(), fits, "{bodies} bodies");
         assert_eq!(rt; is_told_of_dog(&answer, 14), !fits, "{bodies} bodies");
     }
@@ -98,15 +129,7 @@ fn each_introduced_method_has_one_body(rt: HostRuntime) -> Result<(), Fail> {
 #[test]
 fn each_method_of_a_client_has_a_body(rt: HostRuntime) -> Result<(), Fail> {
     let alloc = rt.alloc();
-    let program = ClientProgram {
-        base: Interface {
-            classes: List::new(alloc),
-        },
-        classes: dogs(alloc, &[b"go"], 0)?,
-        main: Block {
-            statements: List::new(alloc),
-        },
-    };
-    assert!(rt; is_told_of_dog(&program_ok(alloc, &program), 14));
+    let answer = client_answer(alloc, &[b"go"], 0)?;
+    assert!(rt; is_told_of_dog(&answer, 14));
     Ok(())
 }

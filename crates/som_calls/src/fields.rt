@@ -74,13 +74,18 @@ fn signatures_and_methods_have_ranges(rt: HostRuntime) -> Result<(), Fail> {
     Ok(())
 }
 
+fn face_again(alloc: Global, bytes: &[u8]) -> Result<List<u8>, Fail> {
+    let bytes = List::from_slice(alloc, bytes)?;
+    let face = read_face(alloc, &bytes, 0, 65_535)?;
+    let mut out = List::new(alloc);
+    write_face(alloc, &mut out, &face.value)?;
+    Ok(out)
+}
+
 #[test]
 fn a_face_that_was_read_is_written(rt: HostRuntime) -> Result<(), Fail> {
-    let bytes = List::from_slice(rt.alloc(), &FACE)?;
-    let face = read_face(rt.alloc(), &bytes, 0, 65_535)?;
-    let mut out = List::new(rt.alloc());
-    write_face(rt.alloc(), &mut out, &face.value)?;
-    assert_eq!(rt; out.as_slice(), FACE.as_slice());
+    let written = face_again(rt.alloc(), &FACE)?;
+    assert_eq!(rt; written.as_slice(), FACE.as_slice());
     Ok(())
 }
 

@@ -1,5 +1,8 @@
+ghost use Rattle.som_libimage.specs.Limits.{IsWithinLimits};
+ghost use Rattle.std.specs.Prelude.{IfOk};
+
 use som_libimage::{decode, encode};
-use som_model::List;
+use som_model::{Interface, List, NoMemory, Release};
 use som_verify::release_ok;
 use std::alloc::Global;
 use std::test::Fail;
@@ -55,14 +58,53 @@ const TWO: &[u8] = b"SOML\x01\0\x01\
     \0\0\0\0\x02\x04\x22\x01\0\0\0\x01\x08\x26\0\0\0\0\0\
     \x0a\x2f\0\x04\0\0\x25\x01\x20\0\0\0\x07\0\x01\0\0\0\0\0\0\0\x01\x06";
 
-// The image of the release that an image spells.
-fn written_again(alloc: Global, bytes: &[u8]) -> Result<List<u8>, Fail> {
+// R introduces f, A and B under R override it, and C under A and B takes the body of B, which is its second parent. Each body prints
+// the name of its class.
+const SELECTED: &[u8] = b"SOML\x02\0\x04\
+    \0\x01R\0\0\0\x01\0\0\0\0\x01\0\0\0\0\x01\0\x01f\0\0\0\
+    \0\x01A\0\0\0\x01\0\0\0\0\x01\0\x04\0\0\0\
+    \0\x01B\0\0\0\x01\0\0\0\0\x01\0\x04\0\0\0\
+    \0\x01C\0\0\0\x01\0\0\0\0\x02\0\x05\0\x06\0\0\0\
+    \0\0\0\0\0\x01\x08\x21\0\x01R\0\0\
+    \0\0\x01\0\x04\0\0\0\0\0\x01\x08\x21\0\x01A\
+    \0\0\x01\0\x04\0\0\0\0\0\x01\x08\x21\0\x01B\
+    \0\0\0\
+    \0\x01\0\x07\0\x01\0\x04\0\0\x01";
+
+/// The release that an image spells.
+pub fn release_of(alloc: Global, bytes: &[u8]) -> Result<Release, Fail>
+    ensures { IfOk result IsWithinLimits }
+{
     let image = List::from_slice(alloc, bytes)?;
-    let release = decode(alloc, &image)?;
-    match release_ok(alloc, &release) {
-        Ok(()) => Ok(encode(alloc, &release)?),
+    Ok(decode(alloc, &image)?)
+}
+
+/// The interface of the release that an image spells.
+pub fn interface_of(alloc: Global, bytes: &[u8]) -> Result<Interface, Fail> {
+    let release = release_of(alloc, bytes)?;
+    Ok(release.interface(alloc)?)
+}
+
+/// Whether the copy of an interface is equal to it.
+pub fn is_copied(alloc: Global, interface: &Interface) -> Result<bool, NoMemory> {
+    let copy = interface.copy(alloc)?;
+    Ok(copy.is(interface))
+}
+
+// The image of a release, which has to break no rule.
+fn image_of(alloc: Global, release: &Release) -> Result<List<u8>, Fail>
+    requires { IsWithinLimits release.now }
+{
+    match release_ok(alloc, release) {
+        Ok(()) => Ok(encode(alloc, release)?),
         Err(_) => Err(Fail::from("it breaks a rule, or memory ran out")),
     }
+}
+
+// The image of the release that an image spells.
+fn written_again(alloc: Global, bytes: &[u8]) -> Result<List<u8>, Fail> {
+    let release = release_of(alloc, bytes)?;
+    image_of(alloc, &release)
 }
 
 #[test]
@@ -74,6 +116,7 @@ fn a_release_that_was_read_is_written_again(rt: HostRuntime) -> Result<(), Fail>
         THREE.as_slice(),
         EACH_FORM.as_slice(),
         TWO,
+        SELECTED,
     ] {
         assert_eq!(rt; written_again(alloc, image)?.as_slice(), image);
     }
@@ -82,19 +125,21 @@ fn a_release_that_was_read_is_written_again(rt: HostRuntime) -> Result<(), Fail>
 
 // The image of a copy of the release that an image spells.
 fn copy_again(alloc: Global, bytes: &[u8]) -> Result<List<u8>, Fail> {
-    let image = List::from_slice(alloc, bytes)?;
-    let release = decode(alloc, &image)?;
-    let copy = release.copy(alloc)?;
-    match release_ok(alloc, &copy) {
-        Ok(()) => Ok(encode(alloc, &copy)?),
-        Err(_) => Err(Fail::from("it breaks a rule, or memory ran out")),
-    }
+    let copy = copied_release(alloc, bytes)?;
+    image_of(alloc, &copy)
+}
+
+fn copied_release(alloc: Global, bytes: &[u8]) -> Result<Release, Fail>
+    ensures { IfOk result IsWithinLimits }
+{
+    let release = release_of(alloc, bytes)?;
+    Ok(release.copy(alloc)?)
 }
 
 #[test]
 fn copies_have_the_same_image(rt: HostRuntime) -> Result<(), Fail> {
     let alloc = rt.alloc();
-    for image in [THREE.as_slice(), EACH_FORM.as_slice(), TWO] {
+    for image in [THREE.as_slice(), EACH_FORM.as_slice(), TWO, SELECTED] {
         assert_eq!(rt; copy_again(alloc, image)?.as_slice(), image);
     }
     Ok(())
@@ -103,9 +148,8 @@ fn copies_have_the_same_image(rt: HostRuntime) -> Result<(), Fail> {
 #[test]
 fn a_copy_has_the_same_interface(rt: HostRuntime) -> Result<(), Fail> {
     let alloc = rt.alloc();
-    let image = List::from_slice(alloc, &THREE)?;
-    let interface = decode(alloc, &image)?.interface(alloc)?;
+    let interface = interface_of(alloc, &THREE)?;
     assert_eq!(rt; interface.classes.len(), 3);
-    assert!(rt; interface.copy(alloc)?.is(&interface));
+    assert!(rt; is_copied(alloc, &interface)?);
     Ok(())
 }

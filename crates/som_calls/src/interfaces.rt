@@ -3,9 +3,8 @@ ghost use Rattle.som_model.specs.Lists.{Mem};
 ghost use Rattle.som_model.specs.declared.program.Interface.{Interface as Faces};
 ghost use Rattle.std.specs.Prelude.{IfOk, IsTrue};
 
-use crate::images::LIBRARY;
+use crate::images::{LIBRARY, interface_of, is_copied};
 use som_compat::{check_list, conforms};
-use som_libimage::decode;
 use som_model::{ClassFace, Interface, List, NoMemory, Text, kernel_faces};
 use std::alloc::Global;
 use std::test::Fail;
@@ -35,25 +34,31 @@ fn a_list_of_few_interfaces_is_accepted(rt: HostRuntime) -> Result<(), Fail> {
     let alloc = rt.alloc();
     let mut list = List::new(alloc);
     assert!(rt; is_accepted(alloc, &list)?);
-    let release = decode(alloc, &List::from_slice(alloc, &LIBRARY)?)?;
-    list.push(release.interface(alloc)?)?;
+    list.push(interface_of(alloc, &LIBRARY)?)?;
     assert!(rt; is_accepted(alloc, &list)?);
     Ok(())
 }
 
-#[test]
-fn a_class_without_parents_does_not_conform(rt: HostRuntime) -> Result<(), Fail> {
-    let alloc = rt.alloc();
+// The interface of a class without parents.
+fn orphan(alloc: Global) -> Result<Interface, NoMemory> {
+    let name = Text::from_slice(alloc, b"A")?;
     let mut classes = List::new(alloc);
     classes.push(ClassFace {
-        name: Text::from_slice(alloc, b"A")?,
+        name,
         major: 0,
         minor: 0,
         parents: List::new(alloc),
         metaclass: None,
         entries: List::new(alloc),
     })?;
-    assert!(rt; !conforms(alloc, &Interface { classes })?);
+    Ok(Interface { classes })
+}
+
+#[test]
+fn a_class_without_parents_does_not_conform(rt: HostRuntime) -> Result<(), Fail> {
+    let alloc = rt.alloc();
+    let interface = orphan(alloc)?;
+    assert!(rt; !conforms(alloc, &interface)?);
     Ok(())
 }
 
@@ -62,6 +67,6 @@ fn the_kernel_is_copied_whole(rt: HostRuntime) -> Result<(), Fail> {
     let alloc = rt.alloc();
     let kernel = kernel_faces(alloc)?;
     assert_eq!(rt; kernel.classes.len(), 4);
-    assert!(rt; kernel.copy(alloc)?.is(&kernel));
+    assert!(rt; is_copied(alloc, &kernel)?);
     Ok(())
 }

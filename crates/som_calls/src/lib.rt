@@ -10,6 +10,8 @@ mod class_rows;
 #[cfg(test)]
 mod fields;
 #[cfg(test)]
+mod flat_code;
+#[cfg(test)]
 mod hierarchies;
 mod hosts;
 #[cfg(test)]
@@ -34,5 +36,7 @@ mod stores;
 mod tables;
 #[cfg(test)]
 mod texts;
+#[cfg(test)]
+mod worked;
 
 pub use hosts::answer_of;

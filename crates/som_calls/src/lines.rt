@@ -79,12 +79,21 @@ fn are_lines(lines: &List<Text>, wanted: &[&[u8]]) -> bool {
             .all(|(line, want)| line.is(want))
 }
 
+fn bells(alloc: Global) -> Result<Release, NoMemory> {
+    let bell = bell(alloc)?;
+    let mut classes = List::new(alloc);
+    classes.push(bell)?;
+    Ok(Release { classes })
+}
+
+fn lines_of_bells(alloc: Global) -> Result<List<Text>, NoMemory> {
+    let release = bells(alloc)?;
+    shown(alloc, &release)
+}
+
 #[test]
 fn made_classes_and_great_versions_are_shown(rt: HostRuntime) -> Result<(), Fail> {
-    let alloc = rt.alloc();
-    let mut classes = List::new(alloc);
-    classes.push(bell(alloc)?)?;
-    let lines = shown(alloc, &Release { classes })?;
+    let lines = lines_of_bells(rt.alloc())?;
     let wanted: [&[u8]; 3] = [
         b"library 1\n",
         b"class Bell 4294967295.10 : SOMObject\n",

@@ -1,6 +1,5 @@
-use crate::images::LIBRARY;
-use som_libimage::decode;
-use som_model::{ClassFace, List};
+use crate::images::{LIBRARY, release_of};
+use som_model::ClassFace;
 use som_order::{entry_at, name_of};
 use std::test::Fail;
 
@@ -15,7 +14,7 @@ fn stands(face: &ClassFace, place: u16, name: &[u8]) -> bool {
 #[test]
 fn nothing_stands_past_the_end(rt: HostRuntime) -> Result<(), Fail> {
     let alloc = rt.alloc();
-    let release = decode(alloc, &List::from_slice(alloc, &LIBRARY)?)?;
+    let release = release_of(alloc, &LIBRARY)?;
     let [class] = release.classes.as_slice() else {
         return Err(Fail::from("one class"));
     };

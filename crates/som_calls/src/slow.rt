@@ -61,6 +61,29 @@ impl Sink for SlowSink {
     ghost bounded = { λ sink. sink.bounded };
 }
 
+// A store with the first two images.
+fn hello(alloc: Global) -> Result<MemStore, Fail> {
+    let mut store = MemStore::new(alloc);
+    put(alloc, &mut store, b"hello.cli", &CLIENT)?;
+    put(alloc, &mut store, b"hello.img", &LIBRARY)?;
+    Ok(store)
+}
+
+// The status of a run of these of which one write fails, and what it prints.
+fn run_failing(alloc: Global, failing: u64) -> Result<(u8, Vec<u8>), Fail> {
+    let words = words_of(alloc, &RUN)?;
+    let mut store = hello(alloc)?;
+    let mut out = SlowSink {
+        bytes: Vec::new(alloc),
+        writes: 0,
+        failing,
+        faults: 0,
+    };
+    let status = run_som(alloc, &words, &mut store, &mut out);
+    let SlowSink { bytes, .. } = out;
+    Ok((status, bytes))
+}
+
 #[test]
 fn a_write_fails_in_mid_line(rt: HostRuntime) -> Result<(), Fail> {
     let alloc = rt.alloc();
@@ -71,18 +94,9 @@ fn a_write_fails_in_mid_line(rt: HostRuntime) -> Result<(), Fail> {
         (5, b"Hello, World!\n", 0),
     ];
     for (failing, wanted, wanted_status) in printed {
-        let mut store = MemStore::new(alloc);
-        put(alloc, &mut store, b"hello.cli", &CLIENT)?;
-        put(alloc, &mut store, b"hello.img", &LIBRARY)?;
-        let mut out = SlowSink {
-            bytes: Vec::new(alloc),
-            writes: 0,
-            failing,
-            faults: 0,
-        };
-        let status = run_som(alloc, &words_of(alloc, &RUN)?, &mut store, &mut out);
+        let (status, bytes) = run_failing(alloc, failing)?;
         assert_eq!(rt; status, wanted_status, "write {failing}");
-        assert_eq!(rt; out.bytes.as_slice(), wanted, "write {failing}");
+        assert_eq!(rt; bytes.as_slice(), wanted, "write {failing}");
     }
     Ok(())
 }

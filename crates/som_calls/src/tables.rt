@@ -1,4 +1,4 @@
-ghost use Rattle.std.specs.Prelude.{◌≡◌, ◌<◌, []};
+ghost use Rattle.std.specs.Prelude.{◌≡◌, ◌<◌, [], None, OnOk, replicate};
 ghost use Rattle.som_tables.specs.Rows.{HasToken};
 
 use som_tables::{ClassNo, DToken, DataKind, MethodKind, Steps, Table};
@@ -7,19 +7,28 @@ use std::marker::Brand;
 use std::sync::ledger::{Blank, Ledger};
 use std::test::Fail;
 
-#[test]
+// The cells of a diamond whose two parents replace one cell: those of the class below and of the right parent, and another.
 #[tactic(auto, unfolding(som_tables::specs::Rows::inherited))]
-fn the_leftmost_parent_counts(rt: HostRuntime) -> Result<(), Fail> {
-    let alloc = rt.alloc();
-    let mut table: Table<MethodKind> = Table::new(alloc);
+fn diamond_cells(alloc: Global, table: &mut Table<MethodKind>) -> Result<[u64; 3], AllocError>
+    requires { table.old ≡ [] }
+{
     let root = table.add_class(alloc, &[], &[10, 20], &[])?;
     let f = table.token(root, 0);
     let left = table.add_class(alloc, &[root], &[], &[(f, 11)])?;
     let right = table.add_class(alloc, &[root], &[], &[(f, 12)])?;
     let down = table.add_class(alloc, &[left, right], &[], &[])?;
-    assert_eq!(rt; table.cell(down, f), 11);
-    assert_eq!(rt; table.cell(right, f), 12);
-    assert_eq!(rt; table.cell(down, table.token(root, 1)), 20);
+    Ok([
+        table.cell(down, f),
+        table.cell(right, f),
+        table.cell(down, table.token(root, 1)),
+    ])
+}
+
+#[test]
+fn the_leftmost_parent_counts(rt: HostRuntime) -> Result<(), Fail> {
+    let alloc = rt.alloc();
+    let mut table = Table::new(alloc);
+    assert_eq!(rt; diamond_cells(alloc, &mut table)?, [11, 12, 20]);
     Ok(())
 }
 
@@ -73,5 +82,44 @@ fn a_diamond_is_filled_late(rt: HostRuntime) -> Result<(), Fail> {
     let alloc = rt.alloc();
     let mut table = Table::new(alloc);
     assert_eq!(rt; late_cells(alloc, &mut table)?, [12, 11, 20, 30]);
+    Ok(())
+}
+
+fn declare_many(table: &mut Table<MethodKind>, count: u32) -> Result<(), AllocError>
+    requires { table.old ≡ [] }
+    ensures { OnOk result (table.new ≡ replicate count None) }
+{
+    for _ in 0..count {
+        table.declare()?;
+    }
+    Ok(())
+}
+
+// The cells of classes 63 to 66 behind 63 classes without rows. Class 64 is the first of the second page, 65 has its own first page, and
+// 66 has both pages of 64.
+#[tactic(auto, unfolding(som_tables::specs::Rows::inherited))]
+fn cells_past_a_page(alloc: Global, table: &mut Table<MethodKind>) -> Result<[u64; 5], AllocError>
+    requires { table.old ≡ replicate 63 None }
+{
+    let root = table.add_class(alloc, &[], &[10, 20], &[])?;
+    let f = table.token(root, 0);
+    let under = table.add_class(alloc, &[root], &[30], &[])?;
+    let replacing = table.add_class(alloc, &[root], &[], &[(f, 11)])?;
+    let below = table.add_class(alloc, &[under], &[], &[])?;
+    Ok([
+        table.cell(under, f),
+        table.cell(replacing, f),
+        table.cell(below, f),
+        table.cell(below, table.token(under, 0)),
+        table.cell(root, table.token(root, 1)),
+    ])
+}
+
+#[test]
+fn rows_share_pages(rt: HostRuntime) -> Result<(), Fail> {
+    let alloc = rt.alloc();
+    let mut table = Table::new(alloc);
+    declare_many(&mut table, 63)?;
+    assert_eq!(rt; cells_past_a_page(alloc, &mut table)?, [10, 11, 10, 30, 20]);
     Ok(())
 }

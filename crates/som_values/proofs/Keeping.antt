@@ -15,18 +15,18 @@ use Rattle.som_values.proofs.Places.{same_places, place_later}
 
 -- ---- lists
 
-no_some : {A : Type 0} {x : A} → None ≡ Some x → ⊥
+pub no_some : {A : Type 0} {x : A} → None ≡ Some x → ⊥
 no_some e = cc
 
-same_some : {A : Type 0} {x y : A} → Some x ≡ Some y → x ≡ y
+pub same_some : {A : Type 0} {x y : A} → Some x ≡ Some y → x ≡ y
 same_some e = cc
 
-get_left : {X : Type 0} (xs ys : List X) (i : ℕ) → i < length xs → slice_get (xs ++ ys) i ≡ slice_get xs i
+pub get_left : {X : Type 0} (xs ys : List X) (i : ℕ) → i < length xs → slice_get (xs ++ ys) i ≡ slice_get xs i
 get_left [] ys i p = absurd (let f : ⊥ = omega (arith, p) in f)
 get_left (x ∷ xs) ys zero p = refl
 get_left (x ∷ xs) ys (suc i) p = get_left xs ys i (omega (arith, p))
 
-get_last : {X : Type 0} (xs : List X) (y : X) → slice_get (xs ++ y ∷ []) (length xs) ≡ Some y
+pub get_last : {X : Type 0} (xs : List X) (y : X) → slice_get (xs ++ y ∷ []) (length xs) ≡ Some y
 get_last [] y = refl
 get_last (x ∷ xs) y = get_last xs y
 
@@ -79,13 +79,13 @@ kept_later os os' cells.Manager k p = p
 
 -- ---- the heap's objects
 
-changed_at : (f : Instance → Instance) (ts : List Instance) (i : ℕ) (t : Instance) → slice_get ts i ≡ Some t → slice_get (changed f ts i) i ≡ Some (f t)
+pub changed_at : (f : Instance → Instance) (ts : List Instance) (i : ℕ) (t : Instance) → slice_get ts i ≡ Some t → slice_get (changed f ts i) i ≡ Some (f t)
 changed_at f [] zero t e = absurd (no_some e)
 changed_at f [] (suc i) t e = absurd (no_some e)
 changed_at f (x ∷ xs) zero t e = ap (λ u. Some (f u)) (same_some e)
 changed_at f (x ∷ xs) (suc i) t e = changed_at f xs i t e
 
-changed_else : (f : Instance → Instance) (ts : List Instance) (i j : ℕ) → i ≢ j → slice_get (changed f ts i) j ≡ slice_get ts j
+pub changed_else : (f : Instance → Instance) (ts : List Instance) (i j : ℕ) → i ≢ j → slice_get (changed f ts i) j ≡ slice_get ts j
 changed_else f [] i j ne = refl
 changed_else f (x ∷ xs) zero zero ne = absurd (ne refl)
 changed_else f (x ∷ xs) zero (suc j) ne = refl
@@ -96,7 +96,7 @@ one_by : (keys : List ClassKey) (o o' : Option Live) (t t' : Option Instance) �
 one_by keys o o' t t' e f p = subst (λ x. IsOne keys x t') (sym e) (subst (λ y. IsOne keys o y) (sym f) p)
 
 -- where the store has an object, the heap has one at its place
-one_there : (keys : List ClassKey) (o : Option Live) (t : Option Instance) → IsOne keys o t → (u : Instance) × (t ≡ Some u)
+pub one_there : (keys : List ClassKey) (o : Option Live) (t : Option Instance) → IsOne keys o t → (u : Instance) × (t ≡ Some u)
 one_there keys (Some o) (Some u) p = (u, refl)
 one_there keys None (Some u) p = (u, refl)
 one_there keys (Some o) None p = absurd p

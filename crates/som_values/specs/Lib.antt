@@ -2,3 +2,4 @@ pub mod Answers
 pub mod Operators
 pub mod Shown
 pub mod Stored
+pub mod Variables

@@ -20,6 +20,10 @@ pub trait Classes {
         requires { IsNumbered (keys self.now) class }
         ensures { result ≡ (world self.now).is_a (key_of (keys self.now) class) ancestor.now };
 
+    /// The same of two keys.
+    fn is_a(&self, class: &Key, ancestor: &Key) -> bool
+        ensures { result ≡ (world self.now).is_a class.now ancestor.now };
+
     /// The class of a class's own object.
     fn metaclass(&self, class: ClassNo) -> ClassNo
         requires { IsNumbered (keys self.now) class }

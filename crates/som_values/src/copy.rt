@@ -1,10 +1,11 @@
 ghost use Rattle.som_model.specs.State.{zero_of};
 ghost use Rattle.som_objects.specs.Objects.{Objects};
-ghost use Rattle.som_values.specs.Shown.{IsSeen, Showing, shown};
+ghost use Rattle.som_values.specs.Shown.{IsSeen, Showing, all_shown, shown};
 ghost use Rattle.som_values.specs.Stored.{IsKept};
-ghost use Rattle.std.specs.Prelude.{◌≡◌, IfOk};
+ghost use Rattle.std.specs.List.{All};
+ghost use Rattle.std.specs.Prelude.{◌≡◌, IfOk, map};
 
-use som_model::{NoMemory, Text, ValueType};
+use som_model::{List, NoMemory, Text, ValueType};
 use som_objects::Cell;
 use std::alloc::Global;
 
@@ -36,4 +37,17 @@ pub fn zero(alloc: Global, kind: &ValueType) -> Cell
         ValueType::Str => Cell::Str(Text::from_vec(Vec::new(alloc))),
         ValueType::Class(_) => Cell::Nil,
     }
+}
+
+/// The cells of a new object, by the types of its variables.
+pub fn zeros(alloc: Global, kinds: &[ValueType]) -> Result<List<Cell>, NoMemory>
+    ensures means { IfOk result (λ cells. (s : Showing) → all_shown s cells ≡ map zero_of kinds.now) }
+    ensures seen { IfOk result (λ cells. (s : Showing) → All (IsSeen s) cells) }
+    ensures kept { IfOk result (λ cells. (os : Objects) → All (IsKept os) cells) }
+{
+    let mut cells = List::new(alloc);
+    for kind in kinds {
+        cells.push(zero(alloc, kind))?;
+    }
+    Ok(cells)
 }
