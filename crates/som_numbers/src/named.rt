@@ -1,8 +1,6 @@
-ghost use Rattle.som_model.specs.Classes.{greatest};
 ghost use Rattle.som_model.specs.Lists.{first_some};
 ghost use Rattle.som_model.specs.Loads.{keys_of};
 ghost use Rattle.som_model.specs.World.{named_class};
-ghost use Rattle.som_model.specs.declared.key.ClassKey.TheVariants as keys;
 ghost use Rattle.som_model.specs.declared.key.ClassKey.{out-ClassKey};
 ghost use Rattle.som_numbers.specs.Classes.{AreDeclared, classes_of};
 ghost use Rattle.som_numbers.specs.Levels.{found_in, highest_of, level_in, level_of, levels_down};

@@ -16,7 +16,7 @@ pub fn scheme_law()
     ensures { (cs : Seq Class) (ks : Seq ClassKey) → CanBeLaid cs ks → IsScheme (scheme_of (numbered cs ks)) }
 {}
 
-/// So rows that are laid have a token exactly for each method of an ancestor, and the cell is the body of its implementation.
+/// So rows that are laid have a token for each method of an ancestor, and the cell is the body of its implementation.
 pub fn row_law()
     ensures token { (cs : Seq Class) (ks : Seq ClassKey) → CanBeLaid cs ks → (b : Bodies ClassKey) (rows : Seq (Option (Added ℕ))) →
         IsLaid (scheme_of (numbered cs ks)) b rows → (n : ℕ) (t : ℕ × ℕ) → HasRow rows n → IsToken (numbered cs ks) t →

@@ -18,7 +18,7 @@ IsOne keys (Some o) (Some t) = (t.live ≡ true) × (t.class ≡ key_of keys o.c
 IsOne keys None (Some t) = t.live ≡ false
 IsOne keys _ None = ⊥
 
--- the meaning's objects are those that the task made, each with the same class, and live where it is live in the store
+-- each object that the task made stands in the heap at the place of its serial, with the same class, and live where it is live in the store; there may be more
 pub record Holds (s : Showing) (os : Objects) (h : Heap) : Type 0 where
   pub by : (n : ℕ) → IsMade s.serials n → IsOne s.keys (live_at os n) (slice_get h.objects (place_of s.serials n))
 

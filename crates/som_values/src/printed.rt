@@ -9,7 +9,7 @@ use som_model::{NoMemory, Text};
 use som_objects::Cell;
 use std::alloc::Global;
 
-/// Writes the text of a value at the end of a line.
+/// Writes the text of a value at the end of a line. After want of memory the line may end with a front of it.
 pub fn add_text(line: &mut Vec<u8>, cell: &Cell) -> Result<(), NoMemory>
     ensures { OnOk result ((s : Showing) → line.new.items ≡ line.old.items ++ text_in (shown s cell.now)) }
 {
@@ -32,7 +32,7 @@ fn add_number(line: &mut Vec<u8>, number: i32) -> Result<(), NoMemory>
     Ok(())
 }
 
-/// Writes what `print` shows of a value: its text and the byte that ends a line.
+/// Writes what `print` shows of a value: its text and the byte that ends a line. After want of memory the line may end with a front of it.
 pub fn add_line(line: &mut Vec<u8>, cell: &Cell) -> Result<(), NoMemory>
     ensures { OnOk result ((s : Showing) → line.new.items ≡ line.old.items ++ printed_line (text_in (shown s cell.now))) }
 {
