@@ -1,19 +1,21 @@
 -- The metaclass that is chosen by number is that of the definition.
-use Rattle.std.proofs.Common.{◌≡◌, ℕ, zero, suc, ◌<◌, ◌≤◌, inl, inr, Bool, true, false, if◌then◌else◌, List, [], ◌∷◌, ◌++◌, map, length, Option, Some, None, slice_get, nat_eq, refl, sym, ap, ◌∙◌, subst, arith}
+use Rattle.std.proofs.Common.{◌≡◌, ℕ, zero, suc, ◌<◌, ◌≤◌, inl, inr, ◌+◌, Bool, true, false, if◌then◌else◌, List, [], ◌∷◌, ◌++◌, map, length, take, get_or, Option, Some, None, slice_get, nat_eq, nat_lt, refl, sym, ap, ◌∙◌, subst, arith}
+use Rattle.std.specs.List.{All}
 use Rattle.std.specs.Option.{option_map, IfSome}
-use Rattle.std.proofs.lemmas.List.Elements.{All-cons, All-nil}
+use Rattle.std.proofs.lemmas.List.Elements.{All-cons, All-head, All-nil, All-tail}
 use Rattle.som_model.specs.declared.key.ClassKey.{ClassKey}
 use Rattle.som_model.specs.Lists.{Mem, firsts, option_list}
 use Rattle.som_model.specs.Keys.{same_key}
 use Rattle.som_model.specs.Hierarchy.{Hierarchy}
-use Rattle.som_model.specs.Class.{Class}
+use Rattle.som_model.specs.declared.key.Module.TheVariants as modules
+use Rattle.som_model.specs.Class.{Class, bare, class_in}
 use Rattle.som_model.specs.Classes.{class_at, hierarchy, parents_of}
-use Rattle.som_model.specs.Kernel.{kernel, som_class}
+use Rattle.som_model.specs.Kernel.{class_face, kernel, som_class}
 use Rattle.som_model.specs.Loads.{IsOrdered, keys_of}
-use Rattle.som_model.specs.Metaclass.{is_low, lowest, made_of, meta, meta_within}
+use Rattle.som_model.specs.Metaclass.{is_low, lowest, made_of, meta, meta_within, rank}
 use Rattle.som_model.proofs.NamedLaws.{hierarchy_parents}
 use Rattle.som_laws.proofs.Members.{map_on}
-use Rattle.som_hierarchy.proofs.Lists.{mem_get, mem_map}
+use Rattle.som_hierarchy.proofs.Lists.{get_mem, map_mem, mem_get, mem_map}
 use Rattle.som_hierarchy.proofs.Standing.{falls, found, found_is}
 use Rattle.som_hierarchy.proofs.Metas.{meta_stable}
 use Rattle.som_hierarchy.proofs.Owners.{metaclass_known}
@@ -21,8 +23,12 @@ use Rattle.som_meta.specs.declared.plan.MetaPlan.{MetaPlan}
 use Rattle.som_meta.specs.Numbering.{AreApart, AreNumbered, IsNumbered, Numbering, key_at}
 use Rattle.som_meta.specs.Planning.{chosen_key, constraints, is_above_some, plan_of, planned}
 use Rattle.som_meta.proofs.Plans.{firsts-all, without-all}
-use Rattle.som_numbers.specs.Numbers.{AreFirst}
-use Rattle.som_closure.specs.Metas.{HaveMetas, meta_at, metaclass_in, plan_numbers}
+use Rattle.som_meta.proofs.Once.{step_is}
+use Rattle.som_numbers.specs.Numbers.{AreFirst, with_key}
+use Rattle.som_numbers.proofs.Asking.{with_same}
+use Rattle.som_numbers.proofs.Declaring.{at_mem}
+use Rattle.som_classes.specs.Loaded.{AreLoaded}
+use Rattle.som_closure.specs.Metas.{HasParents, HaveMetas, meta_at, metaclass_in, plan_numbers}
 
 -- what a metaclass is made of, one level of the definition
 abbrev pub chosen : List Class → ClassKey → ClassKey
@@ -148,3 +154,76 @@ module _ (k : Numbering) where
       let once = firsts nat_eq (constraints d ms) in
       subst (AreNumbered k) (sym (ap plan_numbers e ∙ numbers_of (planned k d ms)))
       (without-all (IsNumbered k) (is_above_some k once) once (firsts-all (IsNumbered k) (constraints d ms) all))
+
+below : (n m : ℕ) → n < m → nat_lt n m ≡ true
+below n m lt = grind (arith, lt)
+
+not_below : (n m : ℕ) → m ≤ n → nat_lt n m ≡ false
+not_below n m le = grind (arith, le)
+
+-- what classes that are loaded tell
+
+module _ (k : Numbering) (l : AreLoaded k) where
+  abbrev ordered : IsOrdered l.others
+  ordered = l.loads.faces.ordered
+
+  -- SOMClass is the second of the kernel's
+  pub second_numbered : IsNumbered k 1
+  second_numbered = l.first.numbered 1 (class_in modules.Kernel (bare class_face)) (ap (λ (z : List Class). slice_get z 1) l.is)
+
+  pub second_key : key_at k 1 ≡ som_class
+  second_key = l.first.key 1 (class_in modules.Kernel (bare class_face)) (ap (λ (z : List Class). slice_get z 1) l.is)
+
+  pub none_declared : (n : ℕ) → IsNumbered k n → length k.classes ≤ n → None ≡ metaclass_in (class_at k.classes (key_at k n))
+  none_declared n im le = ap metaclass_in (sym (not_declared k l.others l.is ordered l.first l.apart n im le))
+
+  pub metaclass_found : (n : ℕ) (c : Class) → slice_get k.classes n ≡ Some c → c.decl.face.metaclass ≡ metaclass_in (class_at k.classes (key_at k n))
+  metaclass_found n c at =
+      ap metaclass_in (sym (subst (λ z. class_at k.classes z ≡ Some c) (sym (l.first.key n c at)) (found_all k.classes l.others l.is ordered c (get_mem k.classes n c at))))
+
+  pub metaclass_known_there : (n : ℕ) (c : Class) (m : ClassKey) → slice_get k.classes n ≡ Some c → c.decl.face.metaclass ≡ Some m → Mem m (keys_of k.classes)
+  metaclass_known_there n c m at e = metaclass_there k.classes l.others l.is ordered c m (get_mem k.classes n c at) e
+
+  -- a low class has SOMClass
+  pub low_is : (x : ClassKey) → rank k.classes x < 4 → som_class ≡ meta k.classes x
+  low_is x low = sym (low_meta k.classes l.others l.is ordered x (below (rank k.classes x) 4 low))
+
+  pub low_same : (x : ClassKey) (n : ℕ) → rank k.classes x < 4 → IsNumbered k n → key_at k n ≡ som_class → k ≡ with_key k (meta k.classes x)
+  low_same x n low im e = with_same k (meta k.classes x) n im (e ∙ low_is x low)
+
+  -- another has what is chosen
+  pub high_is : (x : ClassKey) (declared : Option ℕ) (ms : List ℕ) → is_low k.classes x ≡ false → option_map (key_at k) declared ≡ metaclass_in (class_at k.classes x)
+      → map (key_at k) ms ≡ map (meta k.classes) (parents_of k.classes x) → chosen_key k declared ms ≡ meta k.classes x
+  high_is = chosen_meta k l.others l.is ordered l.first l.apart
+
+pub not_low : (cs : List Class) (x : ClassKey) → 4 ≤ rank cs x → is_low cs x ≡ false
+not_low cs x le = not_below (rank cs x) 4 le
+
+-- the parents of a class have numbers
+pub parents_there : (k : Numbering) (n : ℕ) (ps : List ℕ) → IsNumbered k n → ((p : ℕ) → Mem p ps → p < n) → map (key_at k) ps ≡ (hierarchy k.classes).parents (key_at k n) → HasParents k (key_at k n)
+parents_there k n ps im low e p m =
+    let r = map_mem (key_at k) p ps (subst (λ z. Mem p z) (sym (e ∙ hierarchy_parents k.classes (key_at k n))) m) in
+    let lt = low r.0 r.1 in
+    subst (λ z. Mem z k.keys) (sym r.2) (at_mem k.keys r.0 (omega (arith, lt, im)))
+
+-- the metaclasses of parents are those by the definition
+pub parents_metas : (k : Numbering) (ms : List ℕ) (have : HaveMetas k ms) (x : ClassKey) (ps : List ℕ) → ((p : ℕ) → Mem p ps → p < length ms) → map (key_at k) ps ≡ (hierarchy k.classes).parents x
+    → map (key_at k) (map (meta_at ms) ps) ≡ map (meta k.classes) (parents_of k.classes x)
+parents_metas k ms have x ps low e = metas_of_parents k ms have ps low ∙ ap (map (meta k.classes)) (e ∙ hierarchy_parents k.classes x)
+
+pub all_mem : {A : Type 0} (P : A → Type 0) (xs : List A) (x : A) → All P xs → Mem x xs → P x
+all_mem P [] x each m = absurd m
+all_mem P (y ∷ ys) x each (inl e) = subst P (sym e) (All-head P y ys each)
+all_mem P (y ∷ ys) x each (inr m) = all_mem P ys x (All-tail P y ys each) m
+
+map_push : (f : ℕ → ℕ) (xs : List ℕ) (x : ℕ) → map f (xs ++ x ∷ []) ≡ map f xs ++ f x ∷ []
+map_push f [] x = refl
+map_push f (y ∷ ys) x = ap (λ l. f y ∷ l) (map_push f ys x)
+
+-- one class more whose metaclass is listed
+pub metas_more : (ms cs list : List ℕ) (i c m : ℕ) → i < length cs → c ≡ get_or cs i c → list ≡ map (meta_at ms) (take i cs) → m ≡ meta_at ms c → list ++ m ∷ [] ≡ map (meta_at ms) (take (i + 1) cs)
+metas_more ms cs list i c m lt is e f =
+    ap (λ z. z ++ m ∷ []) e
+    ∙ ap (λ z. map (meta_at ms) (take i cs) ++ z ∷ []) f
+    ∙ sym (map_push (meta_at ms) (take i cs) c)
+    ∙ ap (map (meta_at ms)) (sym (step_is cs i c lt is))

@@ -124,20 +124,30 @@ module _ (start k : Numbering) (ms : List ℕ) (c : IsClosing start k ms) (m : �
 
 -- where all are listed, just what comes of the first has numbers
 module _ (start k : Numbering) (ms : List ℕ) (c : IsClosing start k ms) (all : length k.keys ≤ length ms) where
-  pub closed_metas : AreMetas k ms
-  closed_metas = record { each = (let w = c.metas.within in omega (arith, w, all)); metas = c.metas }
-
-  back : (x : ClassKey) → ComesOf k.classes start.keys x → Mem x k.keys
-  back x (root y m) = c.roots y m
-  back x (parent y p d m) =
-      let r = mem_at k.keys y (back y d) in
+  parents_there : (x : ClassKey) → Mem x k.keys → HasParents k x
+  parents_there x m p n =
+      let r = mem_at k.keys x m in
       let lt = r.1 in
-      c.parents r.0 (omega (arith, lt, all)) p (subst (λ z. Mem p (parents_of k.classes z)) (sym r.2) m)
-  back x (metaclass y d) =
-      let r = mem_at k.keys y (back y d) in
+      c.parents r.0 (omega (arith, lt, all)) p (subst (λ z. Mem p (parents_of k.classes z)) (sym r.2) n)
+
+  metaclass_there : (x : ClassKey) → Mem x k.keys → Mem (meta k.classes x) k.keys
+  metaclass_there x m =
+      let r = mem_at k.keys x m in
       let lt = r.1 in
       let listed : r.0 < length ms = omega (arith, lt, all) in
       subst (λ z. Mem z k.keys) (c.metas.keys r.0 listed ∙ ap (meta k.classes) r.2) (at_mem k.keys (meta_at ms r.0) (c.metas.numbered r.0 listed))
+
+  pub closed_metas : AreMetas k ms
+  closed_metas = record {
+    each = (let w = c.metas.within in omega (arith, w, all));
+    metas = c.metas;
+    closed = record { parents = parents_there; metaclass = metaclass_there };
+  }
+
+  back : (x : ClassKey) → ComesOf k.classes start.keys x → Mem x k.keys
+  back x (root y m) = c.roots y m
+  back x (parent y p d m) = parents_there y (back y d) p m
+  back x (metaclass y d) = metaclass_there y (back y d)
 
   pub closed_keys : (x : ClassKey) → Mem x k.keys ↔ ComesOf start.classes start.keys x
   closed_keys x = (

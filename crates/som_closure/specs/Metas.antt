@@ -30,14 +30,20 @@ pub record HaveMetas (k : Numbering) (ms : List ℕ) : Type 0 where
   pub numbered : (n : ℕ) → n < length ms → IsNumbered k (meta_at ms n)
   pub keys : (n : ℕ) → n < length ms → key_at k (meta_at ms n) ≡ meta k.classes (key_at k n)
 
--- these are the metaclasses of all classes that have numbers
-pub record AreMetas (k : Numbering) (ms : List ℕ) : Type 0 where
-  pub each : length ms ≡ length k.keys
-  pub metas : HaveMetas k ms
-
 -- each parent of the class has a number
 abbrev pub HasParents : Numbering → ClassKey → Type 0
 HasParents k x = (p : ClassKey) → Mem p (parents_of k.classes x) → Mem p k.keys
+
+-- with each class that has a number its parents and its metaclass have one
+pub record AreClosed (k : Numbering) : Type 0 where
+  pub parents : (x : ClassKey) → Mem x k.keys → HasParents k x
+  pub metaclass : (x : ClassKey) → Mem x k.keys → Mem (meta k.classes x) k.keys
+
+-- these are the metaclasses of all classes that have numbers, so that these are closed
+pub record AreMetas (k : Numbering) (ms : List ℕ) : Type 0 where
+  pub each : length ms ≡ length k.keys
+  pub metas : HaveMetas k ms
+  pub closed : AreClosed k
 
 -- the numbers that classes had at the start are there still, others were given to what comes of these alone, and these are the metaclasses of the first ones, whose parents have numbers
 pub record IsClosing (start k : Numbering) (ms : List ℕ) : Type 0 where

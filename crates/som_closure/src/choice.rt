@@ -88,8 +88,7 @@ fn number_planned(
     classes: &mut Classes,
     plan: MetaPlan,
 ) -> Result<ClassNo, NoMemory>
-    requires loaded { AreLoaded classes.old }
-    requires numbered { AreNumbered classes.old (plan_numbers plan) }
+    requires { AreNumbered classes.old (plan_numbers plan) }
     ensures keys { OnOk result (classes.new ≡ with_key classes.old (plan_key classes.old plan)) }
     ensures class { IfOk result (λ n. IsNumbered classes.new n × (key_at classes.new n ≡ plan_key classes.old plan)) }
 {

@@ -1,3 +1,4 @@
+ghost use Rattle.som_closure.specs.Metas.{AreClosed};
 ghost use Rattle.som_meta.specs.Numbering.{IsNumbered, key_at};
 ghost use Rattle.som_model.specs.Kernel.{kernel};
 ghost use Rattle.som_model.specs.Lists.{Mem};
@@ -53,9 +54,10 @@ impl Closure {
         Ok(Closure { classes, metas })
     }
 
-    /// The classes by their numbers.
+    /// The classes by their numbers, with each of which there are its parents and its metaclass.
     pub fn classes(&self) -> &Classes
-        ensures { result.now ≡ self.now }
+        ensures value { result.now ≡ self.now }
+        ensures closed { AreClosed self.now }
     {
         &self.classes
     }
