@@ -166,7 +166,8 @@ fn free_top(alloc: Global, code: &mut Vec<Instruction>) -> Result<(), NoMemory>
 // The value is freed.
 fn emit_free(alloc: Global, code: &mut Vec<Instruction>, value: &Expr) -> Result<(), NoMemory>
     ensures { OnOk result (code.new.items
-        ≡ code.old.items ++ (lay_stmt (Stmt.Free value.now)).lays 0 (length code.old.items)) }
+        ≡ code.old.items ++ (lay_expr value.now (length code.old.items)
+        ++ Instruction.OffsetCall som_free 0 ∷ Instruction.Drop ∷ [])) }
 {
     emit_expr(alloc, code, value)?;
     free_top(alloc, code)

@@ -1,7 +1,7 @@
-use Rattle.std.proofs.Common.{[], ◌∙◌}
+use Rattle.std.proofs.Common.{◌∙◌}
 use Rattle.som_code.specs.declared.instruction.Instruction.TheVariants as ops
 use Rattle.som_code.specs.Laid.{lay_expr}
-use Rattle.som_code.proofs.Emits.{on_ok, and_emits, or_emits, offset_call_laid, lookup_laid, dispatch_laid, parent_call_laid, parents_call_laid, host_laid}
+use Rattle.som_code.proofs.Emits.{on_ok, and_emits, or_emits, host_laid}
 use Rattle.som_code.proofs.expressions.+emit_expr.Goals as goal
 
 pub emit_and-returns : goal.emit_and-returns
