@@ -169,8 +169,7 @@ fn known_classes<'a>(
 ) -> Result<Vec<Declared<'a>>, NoMemory>
     ensures { IfOk result (λ all. classes_of all.items ≡ after_base own_module (map (class_in modules.Library) base.now) (draft_classes (plain_drafts drafts.now))) }
 {
-    let mut classes = Vec::new(alloc);
-    declare(&mut classes, Module::Library, base)?;
+    let mut classes = declare(Vec::new(alloc), Module::Library, base)?;
     add_drafts(&mut classes, own_module, drafts)?;
     Ok(classes)
 }
