@@ -3,7 +3,8 @@
 ghost use Rattle.som_read.specs.Answer.{Answers};
 ghost use Rattle.som_read.specs.Readers as spec;
 ghost use Rattle.som_read.specs.Tokens as tokens;
-ghost use Rattle.std.specs.Prelude.{◌≡◌, drop};
+ghost use Rattle.som_read.specs.declared.cursor.Stop.TheVariants as stops;
+ghost use Rattle.std.specs.Prelude.{◌≡◌, ◌≢◌, drop, Err};
 
 use crate::{Key, Sign, Token};
 use som_model::NoMemory;
@@ -84,7 +85,8 @@ impl<'a> Cursor<'a> {
     /// Takes the sign, which has to stand here.
     #[tactic(auto, unfolding(crate::specs::Readers::expect))]
     pub fn expect(&mut self, sign: Sign) -> Result<(), Stop>
-        ensures { Answers (spec.expect sign self.old.rest.now) result self.new.rest.now }
+        ensures answer { Answers (spec.expect sign self.old.rest.now) result self.new.rest.now }
+        ensures never { result ≢ Err stops.Memory }
     {
         if !self.sees(sign) {
             return Err(Stop::Syntax);
@@ -96,7 +98,8 @@ impl<'a> Cursor<'a> {
     /// Takes the word, which has to stand here.
     #[tactic(auto, unfolding(crate::specs::Readers::keyword))]
     pub fn keyword(&mut self, key: Key) -> Result<(), Stop>
-        ensures { Answers (spec.keyword key self.old.rest.now) result self.new.rest.now }
+        ensures answer { Answers (spec.keyword key self.old.rest.now) result self.new.rest.now }
+        ensures never { result ≢ Err stops.Memory }
     {
         if !self.sees_word(key) {
             return Err(Stop::Syntax);
@@ -108,7 +111,8 @@ impl<'a> Cursor<'a> {
     /// A number.
     #[tactic(auto, unfolding(crate::specs::Readers::number))]
     pub fn number(&mut self) -> Result<u32, Stop>
-        ensures { Answers (spec.number self.old.rest.now) result self.new.rest.now }
+        ensures answer { Answers (spec.number self.old.rest.now) result self.new.rest.now }
+        ensures never { result ≢ Err stops.Memory }
     {
         match self.peek() {
             Some(Token::Number(value)) => {
@@ -122,7 +126,8 @@ impl<'a> Cursor<'a> {
     /// The end of the text.
     #[tactic(auto, unfolding(crate::specs::Readers::end))]
     pub fn end(&self) -> Result<(), Stop>
-        ensures { Answers (spec.end self.now.rest.now) result self.now.rest.now }
+        ensures answer { Answers (spec.end self.now.rest.now) result self.now.rest.now }
+        ensures never { result ≢ Err stops.Memory }
     {
         match self.peek() {
             None => Ok(()),
