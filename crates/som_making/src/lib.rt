@@ -1,0 +1,7 @@
+//! The order in which classes are made.
+#![tactic(auto)]
+
+mod making;
+mod search;
+
+pub use making::to_make;
