@@ -1,6 +1,6 @@
 -- One class more that is noted.
-use Rattle.std.proofs.Common.{◌≡◌, ◌⊎◌, ℕ, ◌+◌, ◌<◌, inl, inr, Bool, true, false, List, [], ◌∷◌, ◌++◌, length, take, get_or, refl, sym, ap, ◌∙◌, subst, append_assoc, append-nil}
-use Rattle.std.specs.Ordering.{Ordering, Less, Equal, Greater, match_ordering, nat_cmp, ordering_then}
+use Rattle.std.proofs.Common.{◌≡◌, ◌⊎◌, ℕ, ◌+◌, ◌<◌, inl, inr, Bool, true, false, List, [], ◌∷◌, ◌++◌, length, take, get_or, refl, sym, ap, ◌∙◌, subst, append_assoc, append-nil, Ordering, Less, Equal, Greater}
+use Rattle.std.specs.Ordering.{match_ordering, nat_cmp}
 use Rattle.std.specs.BTreeSet.{insert_key}
 use Rattle.std.proofs.lemmas.Map.Lookups.{exact_pairs, exact_unsigned}
 use Rattle.som_model.specs.Lists.{Mem}
@@ -8,11 +8,7 @@ use Rattle.som_model.specs.Metaclass.{rank}
 use Rattle.som_laws.proofs.Members.{mem_left, mem_right, mem_split}
 use Rattle.som_meta.specs.Numbering.{Numbering, key_at}
 use Rattle.som_making.specs.Making.{IsMarked}
-use Rattle.som_making.specs.Searching.{AreNoted, AreSame}
-
--- by rank and then by number
-abbrev pub in_turn : ℕ × ℕ → ℕ × ℕ → Ordering
-in_turn x y = ordering_then (nat_cmp x.0 y.0) (nat_cmp x.1 y.1)
+use Rattle.som_making.specs.Searching.{AreNoted, AreSame, in_turn}
 
 exact : (x y : ℕ × ℕ) → in_turn x y ≡ Equal → x ≡ y
 exact = exact_pairs nat_cmp nat_cmp exact_unsigned exact_unsigned

@@ -1,7 +1,7 @@
 -- Classes by rank and then by number are what is to be made, in order.
-use Rattle.std.proofs.Common.{◌≡◌, ◌↔◌, ◌⊎◌, ℕ, zero, suc, ◌<◌, ◌≤◌, inl, inr, Bool, List, [], ◌∷◌, ◌++◌, map, length, take, get_or, Some, None, slice_get, refl, sym, ap, ◌∙◌, subst, arith}
+use Rattle.std.proofs.Common.{◌≡◌, ◌↔◌, ◌⊎◌, ℕ, zero, suc, ◌<◌, ◌≤◌, inl, inr, Bool, List, [], ◌∷◌, ◌++◌, map, length, take, get_or, Some, None, slice_get, refl, sym, ap, ◌∙◌, subst, arith, Ordering, Less, Equal, Greater, Result, Ok, Err, IfOk}
 use Rattle.std.specs.List.Sorted.{IsStrictlySortedBy}
-use Rattle.std.specs.Ordering.{Ordering, Less, Equal, Greater, nat_cmp, ordering_then}
+use Rattle.std.specs.Ordering.{nat_cmp, ordering_then}
 use Rattle.std.proofs.lemmas.Bool.{cases_lt}
 use Rattle.std.proofs.lemmas.Cmp.{ranked}
 use Rattle.std.proofs.lemmas.List.{take_all}
@@ -25,8 +25,12 @@ use Rattle.som_classes.specs.Loaded.{AreLoaded}
 use Rattle.som_closure.specs.Metas.{AreClosed}
 use Rattle.som_closure.proofs.Choosing.{low_is, second_key, second_numbered}
 use Rattle.som_making.specs.Making.{AreToMake, HaveNeeds, IsMarked, IsNeeded, IsNeedOf, StandsBefore}
-use Rattle.som_making.specs.Searching.{AreSame, AreSearched}
-use Rattle.som_making.proofs.Noting.{in_turn}
+use Rattle.som_making.specs.Searching.{AreSame, AreSearched, in_turn}
+
+-- what follows from two clauses on a value
+pub both : {T E : Type 0} (r : Result T E) (P Q R : T → Type 0) → ((x : T) → P x → Q x → R x) → IfOk r P → IfOk r Q → IfOk r R
+both (Ok x) P Q R f p q = f x p q
+both (Err e) P Q R f p q = p
 
 -- what comes first in turn
 
@@ -181,5 +185,5 @@ module _ (k : Numbering) (l : AreLoaded k) (closed : AreClosed k) (made : List B
           inr (get_take i order b.0 m (omega (arith, lt, le)) b.1))
       ]
 
-  pub to_make : AreToMake k made x order
-  to_make = record { which = which; ordered = ordered; fronts = fronts }
+  pub in_order_is : AreToMake k made x order
+  in_order_is = record { which = which; ordered = ordered; fronts = fronts }

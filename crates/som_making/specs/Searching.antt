@@ -1,10 +1,16 @@
 -- What a search for the classes to be made has come to.
 use Rattle.std.specs.Prelude.{◌≡◌, ◌⊎◌, ℕ, ◌<◌, Bool, List, ◌++◌, take}
+use Rattle.std.specs.declared.cmp.Ordering.{Ordering}
+use Rattle.std.specs.Ordering.{nat_cmp, ordering_then}
 use Rattle.som_model.specs.Lists.{Mem}
 use Rattle.som_model.specs.Classes.{parents_of}
 use Rattle.som_model.specs.Metaclass.{rank}
 use Rattle.som_meta.specs.Numbering.{IsNumbered, Numbering, key_at}
 use Rattle.som_making.specs.Making.{IsMarked, IsNeeded, IsNeedOf}
+
+-- by rank, and of one rank by number
+abbrev pub in_turn : ℕ × ℕ → ℕ × ℕ → Ordering
+in_turn x y = ordering_then (nat_cmp x.0 y.0) (nat_cmp x.1 y.1)
 
 -- the same classes, by number and by rank and number
 pub record AreSame (k : Numbering) (classes : List ℕ) (ranked : List (ℕ × ℕ)) : Type 0 where

@@ -1,5 +1,7 @@
 ghost use Rattle.som_making.specs.Making.{AreToMake, HaveNeeds, IsMarked};
+ghost use Rattle.som_making.specs.Searching.{in_turn};
 ghost use Rattle.som_meta.specs.Numbering.{IsNumbered};
+ghost use Rattle.std.specs.BTreeSet.{IsOrdered};
 ghost use Rattle.std.specs.Prelude.{◌≡◌, IfOk, map};
 
 use crate::search::{know_closure, search};
@@ -11,11 +13,12 @@ use std::collections::BTreeSet;
 
 /// The numbers alone, in order.
 fn in_order(alloc: Global, ranked: &BTreeSet<(u32, u32)>) -> Result<List<ClassNo>, NoMemory>
-    ensures { IfOk result (λ order. order ≡ map (λ q. q.1) ranked.now.keys) }
+    ensures numbers { IfOk result (λ order. order ≡ map (λ q. q.1) ranked.now.keys) }
+    ensures sorted { IfOk result (λ order. IsOrdered in_turn ranked.now) }
 {
     let mut order = List::new(alloc);
-    for (_, number) in ranked {
-        order.push(ClassNo::new(*number))?;
+    for key in ranked {
+        order.push(ClassNo::new(key.1))?;
     }
     Ok(order)
 }

@@ -98,7 +98,8 @@ fn note_needs(
         closure.classes().parents(class).as_slice(),
         found,
     )?;
-    note(closure, made, closure.metaclass(class), found)
+    note(closure, made, closure.metaclass(class), found)?;
+    Ok(())
 }
 
 /// The class itself and, with each class that is noted, its parents and its metaclass, but for what is made.
