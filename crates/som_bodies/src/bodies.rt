@@ -1,0 +1,139 @@
+ghost use Rattle.som_bodies.specs.Bodies.{AreBodies, HaveParentRows, IsAnswer, rows_with};
+ghost use Rattle.som_meta.specs.Numbering.{IsToken, key_at, method_at};
+ghost use Rattle.som_model.specs.Ancestors.{Descends};
+ghost use Rattle.som_model.specs.Classes.{hierarchy};
+ghost use Rattle.som_tables.specs.Layout.{Extends};
+ghost use Rattle.som_tables.specs.Rows.{HasRow, IsDeclared, row_at};
+ghost use Rattle.std.specs.Prelude.{◌≡◌, ◌≢◌, ◌+◌, ◌<◌, ℕ, None, Some, IfOk, OnErr, OnOk, is_some, length, slice_get};
+
+use crate::adding::{add_cells, numbers};
+use crate::body::BodyAt;
+use crate::replaced::{other_bodies, own_bodies, selected_cells};
+use som_classes::Classes;
+use som_model::{List, NoMemory};
+use som_tables::{ClassNo, MToken, MethodKind, Steps, Table};
+use std::alloc::Global;
+use std::marker::Model;
+use std::sync::ledger::Ledger;
+
+/// The rows of the classes of a run: for each method the number of the body that a class has for it. A class has a row from when it is filled.
+#[derive(Drop)]
+pub struct Bodies {
+    table: Table<MethodKind>,
+    all: List<BodyAt>,
+}
+
+impl Model for Bodies {
+    ghost use Rattle.som_bodies.specs.Bodies.{MethodRows, rows_with};
+
+    ghost Value = { MethodRows };
+
+    ghost view = { λ b. rows_with b.table b.all };
+}
+
+/// A table with a number for each class, and no row.
+fn without_rows(alloc: Global, count: u32) -> Result<Table<MethodKind>, NoMemory>
+    requires { count < 4294967295 }
+    ensures each { IfOk result (λ table. length table ≡ count) }
+    ensures none { IfOk result (λ table. (n : ℕ) → row_at table n ≡ None) }
+{
+    let mut table = Table::new(alloc);
+    for _ in 0..count {
+        table.declare()?;
+    }
+    Ok(table)
+}
+
+/// Gives a class its row, where its parents have theirs.
+fn fill_row(
+    alloc: Global,
+    classes: &Classes,
+    table: &mut Table<MethodKind>,
+    all: &mut List<BodyAt>,
+    class: ClassNo,
+) -> Result<(), NoMemory>
+    requires bodies { AreBodies classes.now (rows_with table.old all.old) }
+    requires class { IsDeclared table.old class }
+    requires parents { HaveParentRows classes.now (rows_with table.old all.old) class }
+    ensures bodies { AreBodies classes.now (rows_with table.new all.new) }
+    ensures earlier { Extends all.old all.new }
+    ensures filled { OnOk result (HasRow table.new class) }
+    ensures others { (n : ℕ) → n ≢ class → row_at table.new n ≡ row_at table.old n }
+    ensures err { OnErr result (table.new ≡ table.old) }
+{
+    let bodies = own_bodies(alloc, classes, class)?;
+    let own = numbers(alloc, all.len(), bodies.len())?;
+    let others = other_bodies(alloc, classes, class)?;
+    let mut replaced = selected_cells(alloc, classes, table, class)?;
+    all.extend_from_slice(bodies.as_slice())?;
+    add_cells(&mut replaced, all.len(), others.as_slice())?;
+    all.extend_from_slice(others.as_slice())?;
+    table.fill(
+        alloc,
+        class,
+        classes.parents(class).as_slice(),
+        own.as_slice(),
+        replaced.as_slice(),
+    )?;
+    Ok(())
+}
+
+impl Bodies {
+    /// A number for each class, and no row.
+    pub fn new(alloc: Global, classes: &Classes) -> Result<Bodies, NoMemory>
+        ensures bodies { IfOk result (λ bodies. AreBodies classes.now bodies) }
+        ensures none { IfOk result (λ bodies. (n : ℕ) → row_at bodies.rows n ≡ None) }
+    {
+        Ok(Bodies {
+            table: without_rows(alloc, classes.count())?,
+            all: List::new(alloc),
+        })
+    }
+
+    /// Gives a class its row, where its parents have theirs. The bodies so far keep their numbers, also where memory runs out.
+    pub fn fill(&mut self, alloc: Global, classes: &Classes, class: ClassNo) -> Result<(), NoMemory>
+        requires bodies { AreBodies classes.now self.old }
+        requires class { IsDeclared self.old.rows class }
+        requires parents { HaveParentRows classes.now self.old class }
+        ensures bodies { AreBodies classes.now self.new }
+        ensures earlier { Extends self.old.bodies self.new.bodies }
+        ensures filled { OnOk result (HasRow self.new.rows class) }
+        ensures others { (n : ℕ) → n ≢ class → row_at self.new.rows n ≡ row_at self.old.rows n }
+        ensures err { OnErr result (self.new.rows ≡ self.old.rows) }
+    {
+        fill_row(alloc, classes, &mut self.table, &mut self.all, class)
+    }
+
+    /// Whether a class has a row.
+    pub fn has_row(&self, class: ClassNo) -> bool
+        ensures { result ≡ is_some (row_at self.now.rows class) }
+    {
+        self.table.has_row(class)
+    }
+
+    /// The number of the body that a class has for a method, its own or an inherited one, by two counted steps.
+    pub fn resolve<L: Ledger>(
+        &self,
+        classes: &Classes,
+        class: ClassNo,
+        method: MToken,
+        steps: &mut Steps<L>,
+    ) -> u64
+        requires bodies { AreBodies classes.now self.now }
+        requires row { HasRow self.now.rows class }
+        requires method { IsToken classes.now method }
+        requires below { Descends (hierarchy classes.now.classes) (key_at classes.now class) (method_at classes.now method).class }
+        ensures body { IsAnswer classes.now self.now class method result }
+        ensures cost { steps.new ≡ steps.old + 2 }
+    {
+        self.table.resolve(class, method, steps)
+    }
+
+    /// The body of a number.
+    pub fn body(&self, number: u64) -> &BodyAt
+        requires { number < length self.now.bodies }
+        ensures { slice_get self.now.bodies number ≡ Some result.now }
+    {
+        &self.all.as_slice()[number as usize]
+    }
+}
