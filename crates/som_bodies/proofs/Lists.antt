@@ -26,15 +26,6 @@ apart_flat f (x ∷ xs) o each one =
     apart_both (f x) (flat_map f xs) (each x (inl refl)) (apart_flat f xs o.1 (λ y m. each y (inr m)) one)
     (λ b m n. let r = flat_member f b xs n in o.0 (subst (λ z. Mem z xs) (sym (one x r.0 b m r.2)) r.1))
 
-pub apart_left : {A : Type 0} (xs ys : List A) → Apart (xs ++ ys) → Apart xs
-apart_left [] ys o = tt
-apart_left (x ∷ xs) ys o = ((λ m. o.0 (left x xs ys m)), apart_left xs ys o.1)
-  where
-    left : {A : Type 0} (a : A) (xs ys : List A) → Mem a xs → Mem a (xs ++ ys)
-    left a [] ys m = absurd m
-    left a (x ∷ xs) ys (inl e) = inl e
-    left a (x ∷ xs) ys (inr m) = inr (left a xs ys m)
-
 -- each stands at one place
 pub one_place : {A : Type 0} (xs : List A) → Apart xs → (i j : ℕ) (x : A) → slice_get xs i ≡ Some x → slice_get xs j ≡ Some x → i ≡ j
 one_place [] o i j x a b = absurd (cc)

@@ -1,7 +1,8 @@
 -- What a declared class has for the methods of other classes: its overrides, and the parents that it selects.
-use Rattle.std.proofs.Common.{◌≡◌, ◌≢◌, ◌⊎◌, ℕ, zero, suc, ◌<◌, ◌&&◌, inl, inr, not, Bool, true, false, if◌then◌else◌, List, [], ◌∷◌, ◌++◌, length, map, Option, Some, None, IsSome, is_some, slice_get, refl, sym, ap, ◌∙◌, subst, arith, true≢false}
+use Rattle.std.proofs.Common.{◌≡◌, ◌≢◌, ◌⊎◌, ℕ, zero, suc, ◌<◌, ◌≤◌, ◌&&◌, inl, inr, not, Bool, true, false, if◌then◌else◌, List, [], ◌∷◌, ◌++◌, length, map, Option, Some, None, IsSome, is_some, slice_get, refl, sym, ap, ◌∙◌, subst, arith, true≢false}
 use Rattle.std.specs.Prelude.{option_and_then}
 use Rattle.std.specs.Option.{option_map}
+use Rattle.std.proofs.lemmas.List.{length-map}
 use Rattle.som_model.specs.declared.key.ClassKey.{ClassKey}
 use Rattle.som_model.specs.declared.key.MethodRef.{MethodRef}
 use Rattle.som_model.specs.declared.class.Override.{Override}
@@ -16,14 +17,14 @@ use Rattle.som_model.specs.Rules.{demand_of, is_parent_below, is_proper, is_repl
 use Rattle.som_model.specs.Implementation.{Held, User, has_body, held, introduced_body, override_of, select_of, selected, selected_in}
 use Rattle.som_model.proofs.KeyLaws.{both, exact_keys}
 use Rattle.som_laws.proofs.Members.{Apart, mem_left, mem_right, mem_some, mem_split, not_true}
-use Rattle.som_hierarchy.proofs.Lists.{apart_both, get_mem, mem_get, mem_map}
+use Rattle.som_hierarchy.proofs.Lists.{get_mem, mem_get, mem_map}
 use Rattle.som_hierarchy.proofs.Standing as standing
 use Rattle.som_meta.specs.Numbering.{IsNumbered, IsToken, Numbering, key_at, method_at}
 use Rattle.som_owners.specs.Owners.{IsTokenOf}
 use Rattle.som_schemes.specs.Schemes.{numbered}
-use Rattle.som_schemes.proofs.Members.{demanded_of, none_left}
+use Rattle.som_schemes.proofs.Members.{demanded_of, none_left, same_methods}
 use Rattle.som_members.specs.Members.{HaveTokens, IsFirst, override_method, select_method}
-use Rattle.som_members.proofs.Standing.{none_by, overrides_by, selects_by, some_by}
+use Rattle.som_members.proofs.Standing.{have_length, none_by, overrides_by, selects_by, some_by}
 use Rattle.som_bodies.specs.declared.adding.Way.TheVariants as ways
 use Rattle.som_bodies.specs.Bodies.{IsSourced, source_body}
 use Rattle.som_bodies.specs.Adding.{body_at, source_of}
@@ -109,13 +110,6 @@ token_of k f (x ∷ xs) (u ∷ ts) t h (inr m) = let r = token_of k f xs ts t h.
 token_of k f [] (u ∷ ts) t h m = absurd h
 token_of k f (x ∷ xs) [] t h m = absurd h
 
-map_both : {A B : Type 0} (f : A → B) (xs ys : List A) → map f (xs ++ ys) ≡ map f xs ++ map f ys
-map_both f [] ys = refl
-map_both f (x ∷ xs) ys = ap (λ l. f x ∷ l) (map_both f xs ys)
-
-some_then : {A B : Type 0} (f : A → Option B) (o : Option A) (a : A) → o ≡ Some a → option_and_then f o ≡ f a
-some_then f o a e = ap (option_and_then f) e
-
 module _ (cs : List Class) (ks : List ClassKey) (run : IsRun cs ks) where
   abbrev all : List Class
   all = kernel ++ cs
@@ -155,49 +149,50 @@ module _ (cs : List Class) (ks : List ClassKey) (run : IsRun cs ks) where
     once_selected : AreOnce c own_select (map own_override c.decl.overrides) c.decl.selects × ((s : Select) → Mem s c.decl.selects → IsSome (slice_get c.decl.face.parents s.parent))
     once_selected = selects_once all c (map own_override c.decl.overrides) c.decl.selects two.1
 
-    module _ (overs sels : List (ℕ × ℕ)) (have_overs : HaveTokens k (map override_method c.decl.overrides) overs) (have_sels : HaveTokens k (map select_method c.decl.selects) sels) where
-      -- no token stands twice among both
-      pub tokens_apart : Apart (overs ++ sels)
-      tokens_apart = apart_of_map (method_at k) (overs ++ sels)
-          (subst Apart (sym (map_both (method_at k) overs sels ∙ ap (λ l. l ++ map (method_at k) sels) (methods_are k override_method c.decl.overrides overs have_overs)
-          ∙ ap (λ l. map own_override c.decl.overrides ++ l) (methods_are k select_method c.decl.selects sels have_sels)))
-          (apart_both (map own_override c.decl.overrides) (map own_select c.decl.selects) once_overridden.apart once_selected.0.apart once_selected.0.new))
+    -- no method stands twice among both
+    override_none : (os : List Override) (r : MethodRef) → (Mem r (map own_override os) → ⊥) → override_of all r os ≡ None
+    override_none [] r away = refl
+    override_none (x ∷ os) r away =
+        let other = not_true (same_method (own_override x) r) (λ e. away (inl (sym (same_methods (own_override x) r e)))) in
+        rw other (override_none os r (λ m. away (inr m)))
 
-      pub both_away : (t : ℕ × ℕ) → Mem t overs → Mem t sels → ⊥
-      both_away t m n = away overs sels tokens_apart m n
-        where
-          away : (xs ys : List (ℕ × ℕ)) → Apart (xs ++ ys) → Mem t xs → Mem t ys → ⊥
-          away [] ys o a b = a
-          away (x ∷ xs) ys o (inl e) b = o.0 (subst (λ z. Mem z (xs ++ ys)) e (mem_right t xs ys b))
-          away (x ∷ xs) ys o (inr a) b = away xs ys o.1 a b
+    first_at : (ts : List (ℕ × ℕ)) → Apart ts → (i : ℕ) (t : ℕ × ℕ) → slice_get ts i ≡ Some t → IsFirst ts t i
+    first_at ts o i t e = (e, λ j lt f. (let same = one_place ts o j i t f e in omega (arith, lt, same)))
 
-      -- each is of another class
-      other_by : (t : ℕ × ℕ) (r : MethodRef) → IsTokenOf k t r → same_key r.class c.key ≡ false → t.0 ≢ n
-      other_by t r is neq e =
-          let class : key_at k t.0 ≡ c.key = ap (key_at k) e ∙ key in
-          true≢false (sym (ap (λ z. same_key z c.key) (sym (ap (λ (z : MethodRef). z.class) is.method) ∙ class) ∙ exact_keys.one c.key) ∙ neq)
+    -- a method of an override or select is of another class
+    other_by : (t : ℕ × ℕ) (r : MethodRef) → IsTokenOf k t r → same_key r.class c.key ≡ false → t.0 ≢ n
+    other_by t r is neq e =
+        let class : key_at k t.0 ≡ c.key = ap (key_at k) e ∙ key in
+        true≢false (sym (ap (λ z. same_key z c.key) (sym (ap (λ (z : MethodRef). z.class) is.method) ∙ class) ∙ exact_keys.one c.key) ∙ neq)
+
+    -- for a method of another class it has what it overrides
+    held_other : (t : ℕ × ℕ) → IsToken k t → t.0 ≢ n → held all (key_at k n) (method_at k t) ≡ override_of all (method_at k t) c.decl.overrides
+    held_other t is ne =
+        let neq : same_key c.key (key_at k t.0) ≡ false = not_true (same_key c.key (key_at k t.0)) (λ e. ne (run.apart t.0 n is.0 (run.first.numbered n c at) (sym (key ∙ exact_keys.two c.key (key_at k t.0) e)))) in
+        held_known cs ks run (key_at k n) c known (method_at k t)
+        ∙ ap (λ (b : Bool). or_else (if b then introduced_body c (method_at k t).name else None) (override_of all (method_at k t) c.decl.overrides)) neq
+
+    module _ (overs : List (ℕ × ℕ)) (have : HaveTokens k (map override_method c.decl.overrides) overs) where
+      pub overs_apart : Apart overs
+      overs_apart = apart_of_map (method_at k) overs (subst Apart (sym (methods_are k override_method c.decl.overrides overs have)) once_overridden.apart)
+
+      pub overs_few : length overs ≤ 65535
+      overs_few =
+          let many = have_length k (map override_method c.decl.overrides) overs have in
+          let long = length-map c.decl.overrides override_method in
+          elim (mem_split c kernel cs mem) [
+            | inl kernels ↦ (let none : length c.decl.overrides ≡ 0 = ap length (kernel_bare c kernels).0 in omega (arith, many, long, none))
+            | inr own ↦ (let few = (run.loads.counted c own).overrides in omega (arith, many, long, few))
+          ]
 
       pub over_token : (t : ℕ × ℕ) → Mem t overs → IsToken k t × (t.0 ≢ n)
-      over_token t m = let w = token_of k override_method c.decl.overrides overs t have_overs m in (w.2.token, other_by t (own_override w.0) w.2 (once_overridden.other w.0 w.1))
-
-      pub select_token : (t : ℕ × ℕ) → Mem t sels → IsToken k t × (t.0 ≢ n)
-      select_token t m = let w = token_of k select_method c.decl.selects sels t have_sels m in (w.2.token, other_by t (own_select w.0) w.2 (once_selected.0.other w.0 w.1))
-
-      -- for a method of another class it has what it overrides
-      held_other : (t : ℕ × ℕ) → IsToken k t → t.0 ≢ n → held all (key_at k n) (method_at k t) ≡ override_of all (method_at k t) c.decl.overrides
-      held_other t is ne =
-          let neq : same_key c.key (key_at k t.0) ≡ false = not_true (same_key c.key (key_at k t.0)) (λ e. ne (run.apart t.0 n is.0 (run.first.numbered n c at) (sym (key ∙ exact_keys.two c.key (key_at k t.0) e)))) in
-          held_known cs ks run (key_at k n) c known (method_at k t)
-          ∙ ap (λ (b : Bool). or_else (if b then introduced_body c (method_at k t).name else None) (override_of all (method_at k t) c.decl.overrides)) neq
-
-      first_at : (ts : List (ℕ × ℕ)) → Apart ts → (i : ℕ) (t : ℕ × ℕ) → slice_get ts i ≡ Some t → IsFirst ts t i
-      first_at ts o i t e = (e, λ j lt f. (let same = one_place ts o j i t f e in omega (arith, lt, same)))
+      over_token t m = let w = token_of k override_method c.decl.overrides overs t have m in (w.2.token, other_by t (own_override w.0) w.2 (once_overridden.other w.0 w.1))
 
       -- the body of an override stands at its place
       pub over_source : (i : ℕ) (t : ℕ × ℕ) → slice_get overs i ≡ Some t → IsSourced k (body_at n t (source_of ways.Overriding t i))
       over_source i t e =
           let is = over_token t (get_mem overs i t e) in
-          let w = some_by k run.apart (names cs ks run) t is.0 override_method (λ (x : Override). User x.block) c.decl.overrides overs have_overs i (first_at overs (left overs sels tokens_apart) i t e) in
+          let w = some_by k run.apart (names cs ks run) t is.0 override_method (λ (x : Override). User x.block) c.decl.overrides overs have i (first_at overs overs_apart i t e) in
           record {
             class = run.first.numbered n c at;
             method = is.0;
@@ -205,41 +200,42 @@ module _ (cs : List Class) (ks : List ClassKey) (run : IsRun cs ks) where
             has = held_other t is.0 is.1 ∙ overrides_by all (method_at k t) c.decl.overrides ∙ w.2;
             named = ap (λ (q : Option Class). source_body q (method_at k t).name (source_of ways.Overriding t i)) known ∙ ap (option_map (λ (x : Override). User x.block)) w.1;
           }
-        where
-          left : (xs ys : List (ℕ × ℕ)) → Apart (xs ++ ys) → Apart xs
-          left [] ys o = tt
-          left (x ∷ xs) ys o = ((λ m. o.0 (mem_left x xs ys m)), left xs ys o.1)
 
       -- it has no other body
-      none_held : (t : ℕ × ℕ) → IsToken k t → t.0 ≢ n → (Mem t overs → ⊥) → held all (key_at k n) (method_at k t) ≡ None
-      none_held t is ne away =
-          held_other t is ne ∙ overrides_by all (method_at k t) c.decl.overrides
-          ∙ none_by k run.apart (names cs ks run) t is override_method (λ (x : Override). User x.block) c.decl.overrides overs have_overs (λ i e. away (get_mem overs i t e))
-
       pub over_all : (t : ℕ × ℕ) → IsToken k t → t.0 ≢ n → has_body all (method_at k t) (key_at k n) ≡ true → Mem t overs
-      over_all t is ne e = elim (token_in t overs) [ inl m ↦ m | inr away ↦ absurd (true≢false (sym e ∙ ap is_some (none_held t is ne away))) ]
+      over_all t is ne e = elim (token_in t overs) [
+        | inl m ↦ m
+        | inr away ↦ absurd (true≢false (sym e ∙ ap is_some (held_other t is ne ∙ overrides_by all (method_at k t) c.decl.overrides
+            ∙ none_by k run.apart (names cs ks run) t is override_method (λ (x : Override). User x.block) c.decl.overrides overs have (λ i f. away (get_mem overs i t f)))))
+      ]
+
+    -- what it selects
+    chosen : (r : MethodRef) → selected all r (key_at k n) ≡ option_and_then (slice_get c.decl.face.parents) (select_of all r c.decl.selects)
+    chosen r = ap (selected_in all r) known
+
+    module _ (sels : List (ℕ × ℕ)) (have : HaveTokens k (map select_method c.decl.selects) sels) where
+      pub sels_apart : Apart sels
+      sels_apart = apart_of_map (method_at k) sels (subst Apart (sym (methods_are k select_method c.decl.selects sels have)) once_selected.0.apart)
+
+      pub select_token : (t : ℕ × ℕ) → Mem t sels → IsToken k t × (t.0 ≢ n)
+      select_token t m = let w = token_of k select_method c.decl.selects sels t have m in (w.2.token, other_by t (own_select w.0) w.2 (once_selected.0.other w.0 w.1))
 
       pub select_none : (t : ℕ × ℕ) → Mem t sels → has_body all (method_at k t) (key_at k n) ≡ false
-      select_none t m = let is = select_token t m in ap is_some (none_held t is.0 is.1 (λ a. both_away t a m))
-
-      -- what it selects
-      chosen : (r : MethodRef) → selected all r (key_at k n) ≡ option_and_then (slice_get c.decl.face.parents) (select_of all r c.decl.selects)
-      chosen r = ap (selected_in all r) known
+      select_none t m =
+          let is = select_token t m in
+          let there : Mem (method_at k t) (map own_select c.decl.selects) = subst (λ l. Mem (method_at k t) l) (methods_are k select_method c.decl.selects sels have) (mem_map (method_at k) t sels m) in
+          ap is_some (held_other t is.0 is.1 ∙ override_none c.decl.overrides (method_at k t) (λ o. once_selected.0.new (method_at k t) o there))
 
       pub select_some : (t : ℕ × ℕ) → Mem t sels → IsSome (selected all (method_at k t) (key_at k n))
       select_some t m =
           let is = select_token t m in
           let i = mem_get sels t m in
-          let w = some_by k run.apart (names cs ks run) t is.0 select_method (λ (x : Select). x.parent) c.decl.selects sels have_sels i.0 (first_at sels (right overs sels tokens_apart) i.0 t i.1) in
+          let w = some_by k run.apart (names cs ks run) t is.0 select_method (λ (x : Select). x.parent) c.decl.selects sels have i.0 (first_at sels sels_apart i.0 t i.1) in
           subst (λ q. IsSome q) (sym (chosen (method_at k t) ∙ ap (option_and_then (slice_get c.decl.face.parents)) (selects_by all (method_at k t) c.decl.selects ∙ w.2))) (once_selected.1 w.0 (get_mem c.decl.selects i.0 w.0 w.1))
-        where
-          right : (xs ys : List (ℕ × ℕ)) → Apart (xs ++ ys) → Apart ys
-          right [] ys o = o
-          right (x ∷ xs) ys o = right xs ys o.1
 
       pub select_all : (t : ℕ × ℕ) → IsToken k t → IsSome (selected all (method_at k t) (key_at k n)) → Mem t sels
       select_all t is s = elim (token_in t sels) [
         | inl m ↦ m
         | inr away ↦ absurd (true≢false (sym s ∙ ap is_some (chosen (method_at k t) ∙ ap (option_and_then (slice_get c.decl.face.parents)) (selects_by all (method_at k t) c.decl.selects
-            ∙ none_by k run.apart (names cs ks run) t is select_method (λ (x : Select). x.parent) c.decl.selects sels have_sels (λ i e. away (get_mem sels i t e))))))
+            ∙ none_by k run.apart (names cs ks run) t is select_method (λ (x : Select). x.parent) c.decl.selects sels have (λ i e. away (get_mem sels i t e))))))
       ]

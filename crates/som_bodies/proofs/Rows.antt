@@ -168,11 +168,11 @@ module _ (cs : List Class) (ks : List ClassKey) (run : IsRun cs ks) where
         | inr m ↦ (other_body (t, v.0) m).0
       ]));
       chosen = λ p e c. (let v = value t (in_left t (chosen.all t is (ap is_some c))) in elim (entry t v.0 v.1) [
-        | inl s ↦ (s.parent, (let same : Some (key_at k s.parent) ≡ Some p = sym s.chosen ∙ c in cc), s.has_row, v.1 ∙ s.cell)
+        | inl s ↦ (s.cell.parent, (let same : Some (key_at k s.cell.parent) ≡ Some p = sym s.cell.chosen ∙ c in cc), s.cell.has_row, v.1 ∙ s.cell.is)
         | inr m ↦ absurd (true≢false (sym (other_body (t, v.0) m).3 ∙ e))
       ]);
       nothing = λ e c. no_cell t (λ b f. elim (entry t b f) [
-        | inl s ↦ (let none : Some (key_at k s.parent) ≡ None = sym s.chosen ∙ c in cc)
+        | inl s ↦ (let none : Some (key_at k s.cell.parent) ≡ None = sym s.cell.chosen ∙ c in cc)
         | inr m ↦ true≢false (sym (other_body (t, b) m).3 ∙ e)
       ]);
       own = λ e. no_cell t (λ b f. elim (entry t b f) [ inl s ↦ s.other e | inr m ↦ (other_body (t, b) m).2 e ]);
@@ -198,7 +198,7 @@ module _ (cs : List Class) (ks : List ClassKey) (run : IsRun cs ks) where
       | inl q ↦ (
           let s = chosen.each r q in
           let picks = ((scheme cs ks run).methods r.0 s.token).picks in
-          (s.token, s.other, by_parent (key_at k s.parent) (picks.parent (key_at k n) (key_at k s.parent) s.chosen) (picks.below (key_at k n) (key_at k s.parent) s.chosen)))
+          (s.token, s.other, by_parent (key_at k s.cell.parent) (picks.parent (key_at k n) (key_at k s.cell.parent) s.cell.chosen) (picks.below (key_at k n) (key_at k s.cell.parent) s.cell.chosen)))
       | inr q ↦ (let s = other_body r q in (s.1, s.2, (scheme cs ks run).below r.0 n s.1 num s.3))
     ]
 

@@ -3,8 +3,8 @@ use Rattle.std.specs.Prelude.{if◌then◌else◌, ◌≡◌, ◌≢◌, ℕ, ze
 use Rattle.som_model.specs.Lists.{Mem}
 use Rattle.som_model.specs.Implementation.{has_body, is_kernel, selected}
 use Rattle.som_laws.proofs.Members.{Apart}
-use Rattle.som_tables.specs.Rows.{Added, HasRow, inherited}
-use Rattle.som_meta.specs.Numbering.{IsToken, Numbering, key_at, method_at, tokens_of}
+use Rattle.som_tables.specs.Rows.{Added, HasRow, HasToken, inherited}
+use Rattle.som_meta.specs.Numbering.{IsNumbered, IsToken, Numbering, key_at, method_at, tokens_of}
 use Rattle.som_bodies.specs.declared.adding.Way.{Way}
 use Rattle.som_bodies.specs.declared.adding.Way.TheVariants as ways
 use Rattle.som_bodies.specs.declared.body.Source.{Source}
@@ -52,22 +52,6 @@ pub record AreOthers (k : Numbering) (n : ℕ) (xs : List BodyAt) : Type 0 where
   pub all : (t : ℕ × ℕ) → IsToken k t → t.0 ≢ n → has_body k.classes (method_at k t) (key_at k n) ≡ true → Mem t (methods_of xs)
   pub apart : Apart (methods_of xs)
 
--- a token, and the cell that it has in the row of the parent which a class selects for it
-pub record IsSelected (k : Numbering) (rows : List (Option (Added ℕ))) (n : ℕ) (r : (ℕ × ℕ) × ℕ) : Type 0 where
-  pub token : IsToken k r.0
-  pub other : r.0.0 ≢ n
-  pub no_body : has_body k.classes (method_at k r.0) (key_at k n) ≡ false
-  pub parent : ℕ
-  pub chosen : selected k.classes (method_at k r.0) (key_at k n) ≡ Some (key_at k parent)
-  pub has_row : HasRow rows parent
-  pub cell : Some r.1 ≡ inherited rows parent r.0
-
--- so it is of each method for which the class selects a parent, once
-pub record AreSelected (k : Numbering) (rows : List (Option (Added ℕ))) (n : ℕ) (rs : List ((ℕ × ℕ) × ℕ)) : Type 0 where
-  pub each : (r : (ℕ × ℕ) × ℕ) → Mem r rs → IsSelected k rows n r
-  pub all : (t : ℕ × ℕ) → IsToken k t → IsSome (selected k.classes (method_at k t) (key_at k n)) → Mem t (map (λ (r : (ℕ × ℕ) × ℕ). r.0) rs)
-  pub apart : Apart (map (λ (r : (ℕ × ℕ) × ℕ). r.0) rs)
-
 -- the tokens of these bodies' methods, each with the body's number, where the first has this number
 abbrev pub cells_from : ℕ → List BodyAt → List ((ℕ × ℕ) × ℕ)
 cells_from first [] = []
@@ -77,3 +61,32 @@ cells_from first (x ∷ xs) = (x.method, first) ∷ cells_from (suc first) xs
 abbrev pub numbers_from : ℕ → ℕ → List ℕ
 numbers_from first zero = []
 numbers_from first (suc count) = first ∷ numbers_from (suc first) count
+
+-- the parent that a class selects for a method has the method's token in its row
+abbrev pub HaveChosen : Numbering → List (Option (Added ℕ)) → ℕ → Type 0
+HaveChosen k rows n = (t : ℕ × ℕ) (p : ℕ) → IsToken k t → IsNumbered k p → selected k.classes (method_at k t) (key_at k n) ≡ Some (key_at k p) → HasToken rows p t
+
+-- the cell of a method in the row of the parent that a class selects for it
+pub record IsChosenCell (k : Numbering) (rows : List (Option (Added ℕ))) (n : ℕ) (t : ℕ × ℕ) (cell : ℕ) : Type 0 where
+  pub parent : ℕ
+  pub chosen : selected k.classes (method_at k t) (key_at k n) ≡ Some (key_at k parent)
+  pub has_row : HasRow rows parent
+  pub is : Some cell ≡ inherited rows parent t
+
+-- the tokens of these cells, and each is such a cell
+pub record AreChosen (k : Numbering) (rows : List (Option (Added ℕ))) (n : ℕ) (ts : List (ℕ × ℕ)) (rs : List ((ℕ × ℕ) × ℕ)) : Type 0 where
+  pub tokens : map (λ (r : (ℕ × ℕ) × ℕ). r.0) rs ≡ ts
+  pub each : (r : (ℕ × ℕ) × ℕ) → Mem r rs → IsChosenCell k rows n r.0 r.1
+
+-- a token, and the cell that it has in the row of the parent which a class selects for it
+pub record IsSelected (k : Numbering) (rows : List (Option (Added ℕ))) (n : ℕ) (r : (ℕ × ℕ) × ℕ) : Type 0 where
+  pub token : IsToken k r.0
+  pub other : r.0.0 ≢ n
+  pub no_body : has_body k.classes (method_at k r.0) (key_at k n) ≡ false
+  pub cell : IsChosenCell k rows n r.0 r.1
+
+-- so it is of each method for which the class selects a parent, once
+pub record AreSelected (k : Numbering) (rows : List (Option (Added ℕ))) (n : ℕ) (rs : List ((ℕ × ℕ) × ℕ)) : Type 0 where
+  pub each : (r : (ℕ × ℕ) × ℕ) → Mem r rs → IsSelected k rows n r
+  pub all : (t : ℕ × ℕ) → IsToken k t → IsSome (selected k.classes (method_at k t) (key_at k n)) → Mem t (map (λ (r : (ℕ × ℕ) × ℕ). r.0) rs)
+  pub apart : Apart (map (λ (r : (ℕ × ℕ) × ℕ). r.0) rs)
