@@ -12,6 +12,7 @@ ghost use Rattle.som_typing.specs.Knowing.{IsKnowledge, all_of};
 ghost use Rattle.std.specs.Prelude.{◌≡◌, flat_map, option_copied, option_map, slice_get, IfOk};
 ghost use Rattle.std.specs.Str.{bytes_eq};
 
+use crate::grouped::ModuleTexts;
 use crate::operations::is_operation;
 use som_body::BodyText;
 use som_drafts::Draft;
@@ -27,13 +28,13 @@ pub fn bodies_named(
     alloc: Global,
     known: &Knowledge,
     drafts: &[Draft],
-    texts: &[&BodyText],
+    texts: &ModuleTexts,
 ) -> Result<(), VerifyFault>
     requires { IsKnowledge known.now }
-    ensures { Tells (first (flat_map (text_s13 (all_of known.now) (plain_drafts drafts.now)) (given texts.now))) result }
+    ensures { Tells (first (flat_map (text_s13 (all_of known.now) (plain_drafts drafts.now)) texts.now)) result }
 {
     let names = class_places(alloc, drafts)?;
-    each_named(alloc, known, drafts, &names, texts)
+    each_named(alloc, known, drafts, &names, texts.all())
 }
 
 fn each_named(
