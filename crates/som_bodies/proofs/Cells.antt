@@ -1,11 +1,15 @@
 -- Lists of bodies and of cells.
-use Rattle.std.proofs.Common.{◌≡◌, ◌≢◌, ◌⊎◌, ℕ, zero, suc, ◌+◌, ◌<◌, ◌==◌, ◌&&◌, inl, inr, Bool, true, false, if◌then◌else◌, List, [], ◌∷◌, ◌++◌, length, map, Option, Some, None, IsSome, IsNone, is_some, slice_get, refl, sym, ap, ◌∙◌, subst, arith, true≢false}
+use Rattle.std.proofs.Common.{◌≡◌, ◌≢◌, ◌⊎◌, ℕ, zero, suc, ◌+◌, ◌-◌, ◌<◌, ◌≤◌, ◌==◌, ◌&&◌, inl, inr, Bool, true, false, if◌then◌else◌, List, [], ◌∷◌, ◌++◌, length, map, take, drop, get_or, Option, Some, None, IsSome, IsNone, is_some, slice_get, refl, sym, ap, ◌∙◌, subst, arith, true≢false}
 use Rattle.std.proofs.lemmas.Bool.{eqb-true}
+use Rattle.std.specs.Option.{option_map}
+use Rattle.std.proofs.lemmas.List.{length-take-le}
+use Rattle.std.proofs.lemmas.Option.{same_Some}
 use Rattle.som_model.specs.Lists.{Mem}
 use Rattle.som_model.proofs.KeyLaws.{both}
 use Rattle.som_laws.proofs.Members.{Apart}
 use Rattle.som_tables.specs.Rows.{AreDistinct, replaced_at, same_token}
 use Rattle.som_meta.specs.Numbering.{tokens_from}
+use Rattle.som_meta.proofs.Once.{step_is}
 use Rattle.som_bodies.specs.declared.adding.Way.{Way}
 use Rattle.som_bodies.specs.declared.body.BodyAt.{BodyAt}
 use Rattle.som_bodies.specs.Adding.{bodies_from, body_at, cells_from, methods_of, numbers_from, source_of}
@@ -104,15 +108,15 @@ replaced_mem (r ∷ rs) t b e = replaced_by r.0 r.1 rs t b (same_token r.0 t) re
 token_self : (t : ℕ × ℕ) → same_token t t ≡ true
 token_self t = let a : (t.0 == t.0) ≡ true = grind arith in let b : (t.1 == t.1) ≡ true = grind arith in rw (a, b) refl
 
+either : (v : Bool) (c : ℕ) (q : Option ℕ) → IsSome q → IsSome (if v then Some c else q)
+either true c q s = refl
+either false c q s = s
+
 -- and each token that is listed has one
 pub mem_replaced : (rs : List ((ℕ × ℕ) × ℕ)) (t : ℕ × ℕ) → Mem t (tokens_in rs) → IsSome (replaced_at rs t)
 mem_replaced [] t m = absurd m
 mem_replaced (r ∷ rs) t (inl is) = let s : same_token r.0 t ≡ true = ap (λ z. same_token z t) (sym is) ∙ token_self t in ap (λ (v : Bool). is_some (if v then Some r.1 else replaced_at rs t)) s
-mem_replaced (r ∷ rs) t (inr m) = by (same_token r.0 t)
-  where
-    by : (v : Bool) → IsSome (if v then Some r.1 else replaced_at rs t)
-    by true = refl
-    by false = mem_replaced rs t m
+mem_replaced (r ∷ rs) t (inr m) = either (same_token r.0 t) r.1 (replaced_at rs t) (mem_replaced rs t m)
 
 -- tokens that differ are replaced once
 pub distinct : (rs : List ((ℕ × ℕ) × ℕ)) → Apart (tokens_in rs) → AreDistinct rs
@@ -127,3 +131,52 @@ distinct (r ∷ rs) o = (none (replaced_at rs r.0) refl, distinct rs o.1)
     none : (q : Option ℕ) → replaced_at rs r.0 ≡ q → IsNone (replaced_at rs r.0)
     none None e = subst (λ z. IsNone z) (sym e) refl
     none (Some b) e = absurd (o.0 (in_tokens rs r.0 b (replaced_mem rs r.0 b e)))
+
+-- ---- one item more
+
+pub bodies_more : (n : ℕ) (way : Way) (i : ℕ) (ts : List (ℕ × ℕ)) (t : ℕ × ℕ) → bodies_from n way i (ts ++ t ∷ []) ≡ bodies_from n way i ts ++ body_at n t (source_of way t (length ts + i)) ∷ []
+bodies_more n way i [] t = let sum : i ≡ 0 + i = omega arith in ap (λ j. body_at n t (source_of way t j) ∷ []) sum
+bodies_more n way i (u ∷ ts) t =
+    let sum : length ts + suc i ≡ suc (length ts) + i = omega arith in
+    ap (λ l. body_at n u (source_of way u i) ∷ l) (bodies_more n way (suc i) ts t ∙ ap (λ j. bodies_from n way (suc i) ts ++ body_at n t (source_of way t j) ∷ []) sum)
+
+-- the same of the first items of a list, in the form of a loop's step
+pub bodies_step : (n : ℕ) (way : Way) (ts : List (ℕ × ℕ)) (i : ℕ) (t : ℕ × ℕ) → i < length ts → t ≡ get_or ts i t → bodies_from n way 0 (take (i + 1) ts) ≡ bodies_from n way 0 (take i ts) ++ body_at n t (source_of way t i) ∷ []
+bodies_step n way ts i t lt is =
+    let le : i ≤ length ts = omega (arith, lt) in
+    let long = length-take-le i ts le in
+    let sum : length (take i ts) + 0 ≡ i = omega (arith, long) in
+    ap (bodies_from n way 0) (step_is ts i t lt is) ∙ bodies_more n way 0 (take i ts) t ∙ ap (λ j. bodies_from n way 0 (take i ts) ++ body_at n t (source_of way t j) ∷ []) sum
+
+cells_take : (first : ℕ) (ys : List BodyAt) (i : ℕ) (x : BodyAt) → slice_get ys i ≡ Some x → cells_from first (take (suc i) ys) ≡ cells_from first (take i ys) ++ (x.method, first + i) ∷ []
+cells_take first [] i x e = absurd (cc)
+cells_take first (y ∷ ys) zero x e = let is : y ≡ x = cc in let sum : first ≡ first + 0 = omega arith in ap (λ (z : BodyAt). (z.method, first) ∷ []) is ∙ ap (λ j. (x.method, j) ∷ []) sum
+cells_take first (y ∷ ys) (suc i) x e =
+    let sum : suc first + i ≡ first + suc i = omega arith in
+    ap (λ l. (y.method, first) ∷ l) (cells_take (suc first) ys i x e ∙ ap (λ j. cells_from (suc first) (take i ys) ++ (x.method, j) ∷ []) sum)
+
+get_drop : {A : Type 0} (n : ℕ) (xs : List A) (i : ℕ) → slice_get (drop n xs) i ≡ slice_get xs (n + i)
+get_drop zero xs i = let sum : i ≡ 0 + i = omega arith in ap (slice_get xs) sum
+get_drop (suc n) [] i = refl
+get_drop (suc n) (x ∷ xs) i = let sum : suc (n + i) ≡ suc n + i = omega arith in get_drop n xs i ∙ ap (slice_get (x ∷ xs)) sum
+
+pub cells_step : (from : ℕ) (xs : List BodyAt) (place : ℕ) (t : ℕ × ℕ) → from ≤ place → option_map (λ (x : BodyAt). x.method) (slice_get xs place) ≡ Some t
+    → cells_from from (take (place + 1 - from) (drop from xs)) ≡ cells_from from (take (place - from) (drop from xs)) ++ (t, place) ∷ []
+cells_step from xs place t le e = by (slice_get xs place) refl e
+  where
+    by : (o : Option BodyAt) → slice_get xs place ≡ o → option_map (λ (x : BodyAt). x.method) o ≡ Some t → cells_from from (take (place + 1 - from) (drop from xs)) ≡ cells_from from (take (place - from) (drop from xs)) ++ (t, place) ∷ []
+    by None f g = absurd (cc)
+    by (Some x) f g =
+        let sum : from + (place - from) ≡ place = omega (arith, le) in
+        let more : place + 1 - from ≡ suc (place - from) = omega (arith, le) in
+        let is : x.method ≡ t = same_Some x.method t g in
+        ap (λ n. cells_from from (take n (drop from xs))) more
+        ∙ cells_take from (drop from xs) (place - from) x (get_drop from xs (place - from) ∙ ap (slice_get xs) sum ∙ f)
+        ∙ ap (λ u. cells_from from (take (place - from) (drop from xs)) ++ (u, from + (place - from)) ∷ []) is
+        ∙ ap (λ j. cells_from from (take (place - from) (drop from xs)) ++ (t, j) ∷ []) sum
+
+pub numbers_step : (from place : ℕ) → from ≤ place → numbers_from from (place + 1 - from) ≡ numbers_from from (place - from) ++ place ∷ []
+numbers_step from place le =
+    let sum : from + (place - from) ≡ place = omega (arith, le) in
+    let more : place + 1 - from ≡ (place - from) + 1 = omega (arith, le) in
+    ap (numbers_from from) more ∙ numbers_more from (place - from) ∙ ap (λ j. numbers_from from (place - from) ++ j ∷ []) sum

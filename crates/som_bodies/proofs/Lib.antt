@@ -5,3 +5,4 @@ pub mod Overriding
 pub mod Proxying
 pub mod Cells
 pub mod Rows
+pub mod Facts

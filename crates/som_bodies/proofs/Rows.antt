@@ -3,6 +3,7 @@ use Rattle.std.proofs.Common.{◌≡◌, ◌≢◌, ◌⊎◌, ℕ, zero, suc, �
 use Rattle.std.specs.Option.{option_map}
 use Rattle.std.specs.List.{AllByRecursion}
 use Rattle.std.proofs.lemmas.Bool.{cases_eq}
+use Rattle.std.proofs.lemmas.List.{length-set}
 use Rattle.std.proofs.lemmas.Option.{slice_get_within}
 use Rattle.som_model.specs.declared.key.ClassKey.{ClassKey}
 use Rattle.som_model.specs.Lists.{Mem}
@@ -14,9 +15,10 @@ use Rattle.som_model.specs.Kernel.{kernel}
 use Rattle.som_model.specs.Implementation.{has_body, selected}
 use Rattle.som_laws.proofs.Members.{Apart, mem_split}
 use Rattle.som_hierarchy.proofs.Lists.{apart_both, get_mem, map_mem, mem_get, mem_map}
-use Rattle.som_tables.specs.Rows.{Added, AreDistinct, AreInherited, HasRow, HasToken, HaveRowsBelow, IsDeclared, SomeHasToken, class_with, inherited, replaced_at}
+use Rattle.som_tables.specs.Rows.{Added, AreDistinct, AreInherited, GivesTokens, HasRow, HasToken, KeepsOtherRows, own_at, HaveRowsBelow, IsDeclared, SomeHasToken, class_with, inherited, replaced_at}
 use Rattle.som_tables.specs.Layout.{Extends}
 use Rattle.som_tables.proofs.Options.{slice_get-append_left, slice_get-append_right}
+use Rattle.som_tables.proofs.Inherited.{first_some_where, own_at_within}
 use Rattle.som_tables.proofs.LateRows.{Filled-set}
 use Rattle.som_meta.specs.Numbering.{IsNumbered, IsToken, Numbering, key_at, method_at, names_of, tokens_of}
 use Rattle.som_laying.specs.Laying.{Answers, Bodies, IsBody, IsLaid, IsRow, Replaces, answerer}
@@ -27,7 +29,7 @@ use Rattle.som_bodies.specs.Bodies.{AreBodies, AreSourced, HaveParentRows, IsSou
 use Rattle.som_bodies.specs.Adding.{AreOfClass, AreOthers, AreOwn, AreSelected, IsSelected, cells_from, methods_of, numbers_from}
 use Rattle.som_bodies.proofs.Lists.{mem_all}
 use Rattle.som_bodies.proofs.Cells.{cell_from, cell_tokens, distinct, mem_replaced, method_get, methods_length, number_get, numbers_length, replaced_mem, token_get, tokens_both, tokens_in, tokens_length}
-use Rattle.som_bodies.proofs.Run.{IsRun, scheme}
+use Rattle.som_bodies.proofs.Run.{IsRun, names_few, scheme}
 
 keep : {K : Type 0} (Old New : Bodies K) (t : ℕ × ℕ) → ((b : ℕ) (y : K) → IsBody Old b y t → IsBody New b y t) → (o : Option ℕ) (w : Option K) → Answers Old t o w → Answers New t o w
 keep Old New t f None None a = tt
@@ -35,13 +37,16 @@ keep Old New t f (Some b) (Some y) a = f b y a
 keep Old New t f None (Some y) a = absurd a
 keep Old New t f (Some b) None a = absurd a
 
+abbrev pub seen : Numbering → BodyAt → ClassKey × (ℕ × ℕ)
+seen k x = (key_at k x.class, x.method)
+
 -- a body of a number stays where more are added
 pub body_stays : (k : Numbering) (old now : List BodyAt) → Extends old now → (b : ℕ) (y : ClassKey) (t : ℕ × ℕ) → IsBody (body_of k old) b y t → IsBody (body_of k now) b y t
 body_stays k old now ext b y t e = by (slice_get old b) refl e
   where
-    by : (o : Option BodyAt) → slice_get old b ≡ o → option_map (λ (x : BodyAt). (key_at k x.class, x.method)) o ≡ Some (y, t) → body_of k now b ≡ Some (y, t)
+    by : (o : Option BodyAt) → slice_get old b ≡ o → option_map (seen k) o ≡ Some (y, t) → body_of k now b ≡ Some (y, t)
     by None f g = absurd (cc)
-    by (Some x) f g = ap (option_map (λ (x : BodyAt). (key_at k x.class, x.method))) (ext b x f) ∙ g
+    by (Some x) f g = ap (option_map (seen k)) (ext b x f) ∙ g
 
 -- more bodies leave the rows as they are
 pub more_bodies : (k : Numbering) (rows : List (Option (Added ℕ))) (old now : List BodyAt) → AreBodies k (rows_with rows old) → Extends old now → AreSourced k now → AreBodies k (rows_with rows now)
@@ -98,7 +103,7 @@ module _ (cs : List Class) (ks : List ClassKey) (run : IsRun cs ks) where
     below = mem_all (λ p. (p < n) × HasRow rows p) parents parent_row
 
     body_here : (b : ℕ) (x : BodyAt) (t : ℕ × ℕ) → slice_get after b ≡ Some x → x.class ≡ n → x.method ≡ t → IsBody (body_of k after) b (key_at k n) t
-    body_here b x t e c m = ap (option_map (λ (x : BodyAt). (key_at k x.class, x.method))) e ∙ ap (λ c. Some (key_at k c, x.method)) c ∙ ap (λ u. Some (key_at k n, u)) m
+    body_here b x t e c m = ap (option_map (seen k)) e ∙ ap (λ c. Some (key_at k c, x.method)) c ∙ ap (λ u. Some (key_at k n, u)) m
 
     own_count : length own ≡ length (names_of k n)
     own_count = sym (methods_length own) ∙ ap length owns.methods ∙ tokens_length n 0 (length (names_of k n))
@@ -215,13 +220,47 @@ module _ (cs : List Class) (ks : List ClassKey) (run : IsRun cs ks) where
     sourced : AreSourced k after
     sourced = sourced_more k n (before ++ own) others (sourced_more k n before own laid.sourced owns.each) other.each
 
-    pub filled_row : IsDeclared rows n → (now : List (Option (Added ℕ))) → now ≡ slice_set rows n (Some row) → length now ≡ length rows
-        → ((m : ℕ) (t : ℕ × ℕ) → HasToken now m t → IsToken k t × Descends h (key_at k m) (method_at k t).class) → AreBodies k (rows_with now after)
-    filled_row declared now is long tokens = record {
-      each = long ∙ laid.each;
-      laid = subst (λ l. IsLaid (scheme_of k) (body_of k after) l) (sym is) (laid_filled (scheme_of k) (scheme cs ks run) (body_of k before) rows laid.laid n row (body_of k after)
-          (body_stays k before after (λ i x e. (let w = slice_get_within before i x e in let long = length-append before own in
-            slice_get-append_left (before ++ own) others i (omega (arith, w, long)) ∙ slice_get-append_left before own i w ∙ e))) is_row (slice_set rows n (Some row)) (Filled-set rows n row declared));
+    -- the new row has no tokens but those of methods of its class or an ancestor
+    tokens_now : (now : List (Option (Added ℕ))) → KeepsOtherRows rows now n → GivesTokens rows now n row → (m : ℕ) (t : ℕ × ℕ) → HasToken now m t → IsToken k t × Descends h (key_at k m) (method_at k t).class
+    tokens_now now kept gives m t has = elim (cases_eq m n) [
+      | inl e ↦ subst (λ i. IsToken k t × Descends h (key_at k i) (method_at k t).class) (sym e) (by ((gives t).0 (subst (λ i. HasToken now i t) e has)))
+      | inr ne ↦ laid.tokens m t (subst (λ q. IsSome q) (kept m ne t) has)
+    ]
+      where
+        by : SomeHasToken rows parents t ⊎ IsSome (own_at n (numbers_from (length before) (length own)) t) → IsToken k t × Descends h (key_at k n) (method_at k t).class
+        by (inl s) =
+            let r = first_some_where (λ p. Mem p parents) (λ p. inherited rows p t) parents (mem_all (λ p. Mem p parents) parents (λ p m. m)) s in
+            let w = laid.tokens r.0 t r.2 in
+            (w.0, by_parent (key_at k r.0) (subst (λ l. Mem (key_at k r.0) l) keys (mem_map (key_at k) r.0 parents r.1)) w.1)
+        by (inr s) =
+            let r = own_at_within n (numbers_from (length before) (length own)) t s in
+            let class = r.0 in
+            let many = own_count in
+            let long = numbers_length (length before) (length own) in
+            let less = r.1 in
+            let within : t.1 < length (names_of k n) = omega (arith, less, long, many) in (
+              (subst (λ i. IsNumbered k i) (sym class) num, subst (λ i. t.1 < length (names_of k i)) (sym class) within),
+              subst (λ i. Descends h (key_at k i) (key_at k t.0)) class itself,
+            )
+
+    pub few_own : length (numbers_from (length before) (length own)) ≤ 65535
+    few_own =
+        let many = own_count in
+        let long = numbers_length (length before) (length own) in
+        let few = names_few cs ks run n in
+        omega (arith, many, long, few)
+
+    pub filled_row : IsDeclared rows n → (now : List (Option (Added ℕ))) → now ≡ slice_set rows n (Some row) → KeepsOtherRows rows now n → GivesTokens rows now n row → AreBodies k (rows_with now after)
+    filled_row declared now is kept gives = record {
+      each = ap length is ∙ length-set rows n (Some row) ∙ laid.each;
+      laid = subst (λ l. IsLaid (scheme_of k) (body_of k after) l) (sym is)
+          (laid_filled (scheme_of k) (scheme cs ks run) (body_of k before) rows laid.laid n row (body_of k after) (body_stays k before after stays) is_row (slice_set rows n (Some row)) (Filled-set rows n row declared));
       sourced = sourced;
-      tokens = tokens;
+      tokens = tokens_now now kept gives;
     }
+      where
+        stays : Extends before after
+        stays i x e =
+            let w = slice_get_within before i x e in
+            let long = length-append before own in
+            slice_get-append_left (before ++ own) others i (omega (arith, w, long)) ∙ slice_get-append_left before own i w ∙ e

@@ -1,9 +1,11 @@
 -- The classes of a run, which can be loaded, as the kernel's and others.
-use Rattle.std.proofs.Common.{◌≡◌, ◌≢◌, ℕ, ◌<◌, inl, inr, Bool, true, false, if◌then◌else◌, List, [], ◌∷◌, ◌++◌, length, map, Option, Some, None, slice_get, refl, sym, ap, ◌∙◌, subst, arith}
+use Rattle.std.proofs.Common.{◌≡◌, ◌≢◌, ℕ, ◌<◌, ◌≤◌, inl, inr, Bool, true, false, if◌then◌else◌, List, [], ◌∷◌, ◌++◌, length, map, Option, Some, None, slice_get, refl, sym, ap, ◌∙◌, subst, arith}
 use Rattle.som_model.specs.declared.key.ClassKey.{ClassKey, out-ClassKey}
 use Rattle.som_model.specs.declared.key.ClassKey.TheOpen.{ClassKey-F}
 use Rattle.som_model.specs.declared.key.ClassKey.TheVariants as keys
 use Rattle.som_model.specs.declared.key.MethodRef.{MethodRef}
+use Rattle.som_model.specs.declared.class.Entry.{Entry}
+use Rattle.som_model.specs.declared.class.Entry.TheVariants as entries
 use Rattle.som_model.specs.declared.syntax.Block.{Block}
 use Rattle.som_model.specs.Lists.{Mem, or_else}
 use Rattle.som_model.specs.Keys.{same_key, same_method}
@@ -116,3 +118,20 @@ module _ (cs : List Class) (ks : List ClassKey) (run : IsRun cs ks) where
       by : (q : Option Class) → class_at all (key_at k t.0) ≡ q → (c : Class) × (class_at all (key_at k t.0) ≡ Some c) × (names_of k t.0 ≡ introduced c.decl.face.entries)
       by None e = absurd (let none : length (introduced_in (class_at all (key_at k t.0))) ≡ 0 = ap (λ z. length (introduced_in z)) e in let lt = is.1 in omega (arith, none, lt))
       by (Some c) e = (c, e, ap introduced_in e)
+
+  -- a class introduces few methods
+  introduced_few : (es : List Entry) → length (introduced es) ≤ length es
+  introduced_few [] = omega arith
+  introduced_few (entries.Introduced x sig way ∷ es) = let l = introduced_few es in omega (arith, l)
+  introduced_few (entries.Moved x to ∷ es) = let l = introduced_few es in omega (arith, l)
+
+  pub names_few : (n : ℕ) → length (names_of k n) ≤ 65535
+  names_few n = by (class_at all (key_at k n)) refl
+    where
+      by : (q : Option Class) → class_at all (key_at k n) ≡ q → length (introduced_in (class_at all (key_at k n))) ≤ 65535
+      by None e = let none : length (introduced_in (class_at all (key_at k n))) ≡ 0 = ap (λ z. length (introduced_in z)) e in omega (arith, none)
+      by (Some c) e =
+          let is : length (introduced_in (class_at all (key_at k n))) ≡ length (introduced c.decl.face.entries) = ap (λ z. length (introduced_in z)) e in
+          let few = introduced_few c.decl.face.entries in
+          let counted = (are_faces cs run.main run.loads).counted c (standing.found_is cs o (key_at k n) c e).0 in
+          omega (arith, is, few, counted)

@@ -1,6 +1,8 @@
 ghost use Rattle.som_bodies.specs.Adding.{bodies_from, cells_from, numbers_from, source_of};
 ghost use Rattle.som_bodies.specs.declared.adding.Way.TheVariants as ways;
-ghost use Rattle.std.specs.Prelude.{◌≡◌, ◌+◌, ◌-◌, ◌<◌, ◌≤◌, ◌^◌, ◌++◌, IfOk, OnErr, OnOk, length};
+ghost use Rattle.som_bodies.specs.declared.body.BodyAt.{BodyAt as Body};
+ghost use Rattle.std.specs.Option.{option_map};
+ghost use Rattle.std.specs.Prelude.{◌≡◌, ◌-◌, ◌<◌, ◌≤◌, ◌++◌, IfOk, OnOk, Some, drop, length, slice_get};
 
 use crate::body::{BodyAt, Source};
 use som_model::{List, NoMemory};
@@ -32,6 +34,7 @@ fn source_at(way: Way, method: MToken, place: usize) -> Source
 }
 
 /// The bodies of a class for these methods, which stand so in it.
+#[tactic(auto, using(crate::proofs::Cells::bodies_step))]
 pub(crate) fn bodies_for(
     alloc: Global,
     class: ClassNo,
@@ -52,29 +55,38 @@ pub(crate) fn bodies_for(
     Ok(bodies)
 }
 
-/// The numbers from one on.
-pub(crate) fn numbers(alloc: Global, first: usize, count: usize) -> Result<List<u64>, NoMemory>
-    requires { first + count < 2 ^ 64 }
-    ensures { IfOk result (λ numbers. numbers ≡ numbers_from first count) }
+/// The numbers from one on to another.
+#[tactic(auto, using(crate::proofs::Cells::numbers_step))]
+pub(crate) fn numbers(alloc: Global, from: usize, to: usize) -> Result<List<u64>, NoMemory>
+    requires { from ≤ to }
+    ensures { IfOk result (λ numbers. numbers ≡ numbers_from from (to - from)) }
 {
     let mut numbers = List::new(alloc);
-    for place in 0..count {
-        numbers.push((first + place) as u64)?;
+    for place in from..to {
+        numbers.push(place as u64)?;
     }
     Ok(numbers)
 }
 
-/// Adds the methods of these bodies with the bodies' numbers.
+fn method_at(all: &[BodyAt], place: usize) -> MToken
+    requires { place < length all.now }
+    ensures { option_map (λ (x : Body). x.method) (slice_get all.now place) ≡ Some result }
+{
+    all[place].method
+}
+
+/// Adds the methods of the bodies from a number on, each with its body's number.
+#[tactic(auto, using(crate::proofs::Cells::cells_step, std::proofs::Common::append_assoc))]
 pub(crate) fn add_cells(
     cells: &mut List<(MToken, u64)>,
-    first: usize,
-    bodies: &[BodyAt],
+    all: &[BodyAt],
+    from: usize,
 ) -> Result<(), NoMemory>
-    requires { first + length bodies.now < 2 ^ 64 }
-    ensures { OnOk result (cells.new ≡ cells.old ++ cells_from first bodies.now) }
+    requires { from ≤ length all.now }
+    ensures { OnOk result (cells.new ≡ cells.old ++ cells_from from (drop from all.now)) }
 {
-    for (place, body) in bodies.iter().enumerate() {
-        cells.push((body.method, (first + place) as u64))?;
+    for place in from..all.len() {
+        cells.push((method_at(all, place), place as u64))?;
     }
     Ok(())
 }

@@ -1,5 +1,7 @@
 ghost use Rattle.som_bodies.specs.Bodies.{AreBodies, HaveParentRows, IsAnswer, rows_with};
-ghost use Rattle.som_meta.specs.Numbering.{IsToken, key_at, method_at};
+ghost use Rattle.som_bodies.specs.Adding.{HaveChosen};
+ghost use Rattle.som_classes.specs.Loaded.{AreLoaded};
+ghost use Rattle.som_meta.specs.Numbering.{IsNumbered, IsToken, key_at, method_at};
 ghost use Rattle.som_model.specs.Ancestors.{Descends};
 ghost use Rattle.som_model.specs.Classes.{hierarchy};
 ghost use Rattle.som_tables.specs.Layout.{Extends};
@@ -31,6 +33,13 @@ impl Model for Bodies {
     ghost view = { λ b. rows_with b.table b.all };
 }
 
+// That the classes can be loaded, which their number tells a proof.
+fn know_loaded(classes: &Classes)
+    ensures { AreLoaded classes.now }
+{
+    let _count = classes.count();
+}
+
 /// A table with a number for each class, and no row.
 fn without_rows(alloc: Global, count: u32) -> Result<Table<MethodKind>, NoMemory>
     requires { count < 4294967295 }
@@ -42,6 +51,40 @@ fn without_rows(alloc: Global, count: u32) -> Result<Table<MethodKind>, NoMemory
         table.declare()?;
     }
     Ok(table)
+}
+
+/// Adds the bodies of a class, those for the methods that it introduces first, and gives it its row.
+fn add_row(
+    alloc: Global,
+    classes: &Classes,
+    table: &mut Table<MethodKind>,
+    all: &mut List<BodyAt>,
+    class: ClassNo,
+) -> Result<(), NoMemory>
+    requires loaded { AreLoaded classes.now }
+    requires numbered { IsNumbered classes.now class }
+    requires bodies { AreBodies classes.now (rows_with table.old all.old) }
+    requires class { IsDeclared table.old class }
+    requires parents { HaveParentRows classes.now (rows_with table.old all.old) class }
+    requires chosen { HaveChosen classes.now table.old class }
+    ensures bodies { AreBodies classes.now (rows_with table.new all.new) }
+    ensures earlier { Extends all.old all.new }
+    ensures filled { OnOk result (HasRow table.new class) }
+    ensures others { (n : ℕ) → n ≢ class → row_at table.new n ≡ row_at table.old n }
+    ensures err { OnErr result (table.new ≡ table.old) }
+{
+    let bodies = own_bodies(alloc, classes, class)?;
+    let others = other_bodies(alloc, classes, class)?;
+    let mut replaced = selected_cells(alloc, classes, table, class)?;
+    let first = all.len();
+    all.extend_from_slice(bodies.as_slice())?;
+    let second = all.len();
+    all.extend_from_slice(others.as_slice())?;
+    let own = numbers(alloc, first, second)?;
+    add_cells(&mut replaced, all.as_slice(), second)?;
+    let parents = classes.parents(class).as_slice();
+    table.fill(alloc, class, parents, own.as_slice(), replaced.as_slice())?;
+    Ok(())
 }
 
 /// Gives a class its row, where its parents have theirs.
@@ -61,21 +104,8 @@ fn fill_row(
     ensures others { (n : ℕ) → n ≢ class → row_at table.new n ≡ row_at table.old n }
     ensures err { OnErr result (table.new ≡ table.old) }
 {
-    let bodies = own_bodies(alloc, classes, class)?;
-    let own = numbers(alloc, all.len(), bodies.len())?;
-    let others = other_bodies(alloc, classes, class)?;
-    let mut replaced = selected_cells(alloc, classes, table, class)?;
-    all.extend_from_slice(bodies.as_slice())?;
-    add_cells(&mut replaced, all.len(), others.as_slice())?;
-    all.extend_from_slice(others.as_slice())?;
-    table.fill(
-        alloc,
-        class,
-        classes.parents(class).as_slice(),
-        own.as_slice(),
-        replaced.as_slice(),
-    )?;
-    Ok(())
+    know_loaded(classes);
+    add_row(alloc, classes, table, all, class)
 }
 
 impl Bodies {
@@ -126,6 +156,7 @@ impl Bodies {
         ensures body { IsAnswer classes.now self.now class method result }
         ensures cost { steps.new ≡ steps.old + 2 }
     {
+        know_loaded(classes);
         self.table.resolve(class, method, steps)
     }
 

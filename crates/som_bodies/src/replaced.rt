@@ -1,9 +1,11 @@
-ghost use Rattle.som_bodies.specs.Adding.{AreOthers, AreOwn, AreSelected, IsSelected};
-ghost use Rattle.som_bodies.specs.Bodies.{AreBodies, HaveParentRows, rows_with};
-ghost use Rattle.som_bodies.specs.declared.body.BodyAt.{BodyAt as Body};
-ghost use Rattle.som_meta.specs.Numbering.{IsNumbered, IsToken};
+ghost use Rattle.som_bodies.specs.Adding.{AreOthers, AreOwn, AreSelected, HaveChosen, IsChosenCell, own_way_of};
+ghost use Rattle.som_classes.specs.Loaded.{AreLoaded};
+ghost use Rattle.som_meta.specs.Numbering.{IsNumbered, IsToken, key_at, method_at};
+ghost use Rattle.som_model.specs.Classes.{hierarchy};
+ghost use Rattle.som_model.specs.Implementation.{selected as selected_of};
 ghost use Rattle.som_model.specs.declared.key.ClassKey.TheVariants as keys;
-ghost use Rattle.std.specs.Prelude.{◌≡◌, ◌<◌, IfOk, List as Seq, length};
+ghost use Rattle.som_model.specs.declared.key.ClassKey.{ClassKey as Key};
+ghost use Rattle.std.specs.Prelude.{◌≡◌, ◌<◌, ◌∷◌, [], IfOk, IsSome, length};
 
 use crate::adding::{Way, bodies_for};
 use crate::body::BodyAt;
@@ -15,7 +17,7 @@ use som_proxy::forwards;
 use som_tables::{ClassNo, MToken, MethodKind, Table, Token};
 use std::alloc::Global;
 
-/// How the bodies stand that a class has for what it introduces.
+/// How the bodies stand that a class has for the methods that it introduces.
 fn own_way(classes: &Classes, class: ClassNo) -> Way
     requires { IsNumbered classes.now class }
     ensures { result ≡ own_way_of classes.now class }
@@ -33,23 +35,48 @@ pub(crate) fn own_bodies(
     classes: &Classes,
     class: ClassNo,
 ) -> Result<List<BodyAt>, NoMemory>
-    requires { IsNumbered classes.now class }
+    requires numbered { IsNumbered classes.now class }
+    requires loaded { AreLoaded classes.now }
     ensures { IfOk result (λ bodies. AreOwn classes.now class bodies) }
 {
     let way = own_way(classes, class);
     bodies_for(alloc, class, classes.introduced(class).as_slice(), way)
 }
 
-/// The bodies of a proxy for methods of other classes: it does nothing to begin and end an object, and the rest that it has are forwards.
+/// The bodies of a declared class for the methods that it overrides.
+fn overriding_bodies(
+    alloc: Global,
+    classes: &Classes,
+    class: ClassNo,
+) -> Result<List<BodyAt>, NoMemory>
+    requires declared { class < length classes.now.classes }
+    requires loaded { AreLoaded classes.now }
+    ensures { IfOk result (λ bodies. AreOthers classes.now class bodies) }
+{
+    bodies_for(alloc, class, classes.overridden(class), Way::Overriding)
+}
+
+/// The class whose objects are the targets of a proxy.
+fn target(classes: &Classes, class: ClassNo) -> ClassNo
+    requires numbered { IsNumbered classes.now class }
+    requires proxy { (of : Key) × ((hierarchy classes.now.classes).parents (key_at classes.now class) ≡ of ∷ []) × (key_at classes.now class ≡ keys.Proxy of) }
+    ensures numbered { IsNumbered classes.now result }
+    ensures key { key_at classes.now class ≡ keys.Proxy (key_at classes.now result) }
+{
+    classes.parents(class).as_slice()[0]
+}
+
+/// The bodies of a proxy for methods of other classes: it does nothing to begin and to end an object, and hands on the calls of the rest.
 fn proxy_bodies(
     alloc: Global,
     classes: &Classes,
     class: ClassNo,
     of: ClassNo,
 ) -> Result<List<BodyAt>, NoMemory>
-    requires class { IsNumbered classes.now class }
+    requires numbered { IsNumbered classes.now class }
     requires of { IsNumbered classes.now of }
     requires proxy { key_at classes.now class ≡ keys.Proxy (key_at classes.now of) }
+    requires loaded { AreLoaded classes.now }
     ensures { IfOk result (λ bodies. AreOthers classes.now class bodies) }
 {
     let object = ClassNo::new(0);
@@ -61,36 +88,23 @@ fn proxy_bodies(
     Ok(bodies)
 }
 
-/// The bodies of a declared class for the methods that it overrides.
-fn overriding_bodies(
-    alloc: Global,
-    classes: &Classes,
-    class: ClassNo,
-) -> Result<List<BodyAt>, NoMemory>
-    requires { class < length classes.now.classes }
-    ensures { IfOk result (λ bodies. AreOthers classes.now class bodies) }
-{
-    bodies_for(alloc, class, classes.overridden(class), Way::Overriding)
-}
-
-/// The one parent of a proxy, which is the class of its targets.
-fn target(classes: &Classes, class: ClassNo) -> ClassNo {
-    classes.parents(class).as_slice()[0]
-}
-
 /// The bodies of a class for methods of other classes.
 pub(crate) fn other_bodies(
     alloc: Global,
     classes: &Classes,
     class: ClassNo,
 ) -> Result<List<BodyAt>, NoMemory>
-    requires { IsNumbered classes.now class }
+    requires numbered { IsNumbered classes.now class }
+    requires loaded { AreLoaded classes.now }
     ensures { IfOk result (λ bodies. AreOthers classes.now class bodies) }
 {
     match classes.kind(class) {
         Kind::Declared => overriding_bodies(alloc, classes, class),
         Kind::Derived => Ok(List::new(alloc)),
-        Kind::Proxy => proxy_bodies(alloc, classes, class, target(classes, class)),
+        Kind::Proxy => {
+            let of = target(classes, class);
+            proxy_bodies(alloc, classes, class, of)
+        }
     }
 }
 
@@ -100,25 +114,54 @@ fn selected_cell(
     table: &Table<MethodKind>,
     class: ClassNo,
     method: MToken,
-) -> u64 {
+) -> u64
+    requires declared { class < length classes.now.classes }
+    requires method { IsToken classes.now method }
+    requires some { IsSome (selected_of classes.now.classes (method_at classes.now method) (key_at classes.now class)) }
+    requires rows { HaveChosen classes.now table.now class }
+    ensures { IsChosenCell classes.now table.now class method result }
+{
     match classes.selected(class, method) {
         Some(parent) => table.cell(parent, method),
         None => unreachable!(),
     }
 }
 
-/// For each method for which a class selects a parent the cell in that parent's row.
+/// For each method for which a declared class selects a parent the cell in that parent's row.
+fn declared_cells(
+    alloc: Global,
+    classes: &Classes,
+    table: &Table<MethodKind>,
+    class: ClassNo,
+) -> Result<List<(MToken, u64)>, NoMemory>
+    requires declared { class < length classes.now.classes }
+    requires loaded { AreLoaded classes.now }
+    requires rows { HaveChosen classes.now table.now class }
+    ensures { IfOk result (λ cells. AreSelected classes.now table.now class cells) }
+{
+    let mut cells = List::new(alloc);
+    for method in classes.selecting(class) {
+        let cell = selected_cell(classes, table, class, *method);
+        cells.push((*method, cell))?;
+    }
+    Ok(cells)
+}
+
+/// The same of any class; made classes select nothing.
 pub(crate) fn selected_cells(
     alloc: Global,
     classes: &Classes,
     table: &Table<MethodKind>,
     class: ClassNo,
-) -> Result<List<(MToken, u64)>, NoMemory> {
-    let mut cells = List::new(alloc);
+) -> Result<List<(MToken, u64)>, NoMemory>
+    requires numbered { IsNumbered classes.now class }
+    requires loaded { AreLoaded classes.now }
+    requires rows { HaveChosen classes.now table.now class }
+    ensures { IfOk result (λ cells. AreSelected classes.now table.now class cells) }
+{
     if class.number() < classes.declared_count() {
-        for method in classes.selecting(class) {
-            cells.push((*method, selected_cell(classes, table, class, *method)))?;
-        }
+        declared_cells(alloc, classes, table, class)
+    } else {
+        Ok(List::new(alloc))
     }
-    Ok(cells)
 }
