@@ -16,7 +16,7 @@ use som_drafts::{Draft, breach, each_draft, introduced_names};
 use som_rules::VerifyFault;
 use std::alloc::Global;
 
-/// Each operation and each method that is overridden has exactly one body.
+/// S14: each operation and each method that is overridden has exactly one body.
 pub fn bodies_counted(
     alloc: Global,
     drafts: &[Draft],

@@ -22,8 +22,8 @@ use som_sema::{Places, first_place, note, place_table};
 use som_typing::{Knowledge, signature_of};
 use std::alloc::Global;
 
-/// Each body names a class of the texts, and a method that the class declares by an operation or overrides and that has as
-/// many parameters.
+/// S13: each body names a class of the texts, and a method that the class declares by an operation or overrides and that has
+/// as many parameters.
 pub fn bodies_named(
     alloc: Global,
     known: &Knowledge,

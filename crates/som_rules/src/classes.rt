@@ -31,7 +31,7 @@ pub fn declare<'a>(
     home: Module,
     classes: &'a [ClassDecl],
 ) -> Result<Vec<Declared<'a>>, NoMemory>
-    ensures { IfOk result (λ all. classes_of all.items ≡ classes_of declared.items ++ map (class_in home) classes.now) }
+    ensures { IfOk result (λ all. classes_of all.items ≡ classes_of declared.entry.items ++ map (class_in home) classes.now) }
 {
     let mut all = declared;
     for decl in classes {
