@@ -34,7 +34,9 @@ use Rattle.som_classes.specs.Loaded.{AreLoaded}
 use Rattle.som_bodies.specs.declared.adding.Way.TheVariants as ways
 use Rattle.som_bodies.specs.declared.body.BodyAt.{BodyAt}
 use Rattle.som_bodies.specs.Bodies.{AreBodies, AreSourced, HaveParentRows, IsAnswer, IsSourced, MethodRows, body_of, rows_with}
-use Rattle.som_bodies.specs.Adding.{AreOfClass, AreOthers, AreOwn, AreSelected, AreChosen, HaveChosen, body_at, bodies_from, cells_from, methods_of, numbers_from, own_way_of, source_of}
+use Rattle.som_bodies.specs.Adding.{AreOfClass, AreOthers, AreOwn, AreSelected, AreChosen, HaveChosen, body_at, bodies_from, life, methods_of, own_way_of, source_of}
+use Rattle.som_bodies.specs.Filling.{IsDraft, IsFilling}
+use Rattle.som_bodies.specs.declared.bodies.Draft.{Draft}
 use Rattle.som_bodies.proofs.Lists.{all_mem, mem_all}
 use Rattle.som_bodies.proofs.Cells.{body_from, methods_both, methods_from, numbers_length}
 use Rattle.som_bodies.proofs.Run.{IsRun, run_of, same_numbering, scheme}
@@ -183,9 +185,6 @@ derived_run cs ks run n ps key = record {
 pub derived : (k : Numbering) → AreLoaded k → Derived k
 derived = of_loaded Derived derived_run
 
-abbrev life : List (ℕ × ℕ)
-life = (0, 0) ∷ (0, 1) ∷ []
-
 abbrev Proxies : Numbering → Type 0
 Proxies k = (n : ℕ) (of : ClassKey) → IsNumbered k n → key_at k n ≡ keys.Proxy of → (ts : List (ℕ × ℕ)) → AreTokens k ts → map (method_at k) ts ≡ forwards k.classes of
     → AreOthers k n (bodies_from n ways.Nothing 0 life ++ bodies_from n ways.Forward 0 ts)
@@ -216,35 +215,19 @@ proxies = of_loaded Proxies proxies_run
 
 -- ---- rows
 
-abbrev pub row_of : List BodyAt → List BodyAt → List BodyAt → List ℕ → List ((ℕ × ℕ) × ℕ) → Added ℕ
-row_of before own others parents sel = class_with parents (numbers_from (length before) (length own)) (sel ++ cells_from (length (before ++ own)) others)
-
--- these make the row of a class
-pub record IsFilling (k : Numbering) (rows : List (Option (Added ℕ))) (before own others : List BodyAt) (n : ℕ) (parents : List ℕ) (sel : List ((ℕ × ℕ) × ℕ)) : Type 0 where
-  pub few : length (numbers_from (length before) (length own)) ≤ 65535
-  pub below : HaveRowsBelow n rows parents
-  pub above : AreInherited rows parents (sel ++ cells_from (length (before ++ own)) others)
-  pub distinct : AreDistinct (sel ++ cells_from (length (before ++ own)) others)
-  pub sourced : AreSourced k (before ++ own) × AreSourced k (before ++ own ++ others)
-  pub filled : IsDeclared rows n → (now : List (Option (Added ℕ))) → now ≡ slice_set rows n (Some (row_of before own others parents sel)) → KeepsOtherRows rows now n
-      → GivesTokens rows now n (row_of before own others parents sel) → AreBodies k (rows_with now (before ++ own ++ others))
-
 abbrev Fills : Numbering → Type 0
 Fills k = (rows : List (Option (Added ℕ))) (before : List BodyAt) → AreBodies k (rows_with rows before) → (n : ℕ) → IsNumbered k n → (parents : List ℕ) → map (key_at k) parents ≡ (hierarchy k.classes).parents (key_at k n)
-    → ((p : ℕ) → Mem p parents → p < n) → HaveParentRows k (rows_with rows before) n → (own others : List BodyAt) (sel : List ((ℕ × ℕ) × ℕ)) → AreOwn k n own → AreOthers k n others → AreSelected k rows n sel
-    → IsFilling k rows before own others n parents sel
+    → ((p : ℕ) → Mem p parents → p < n) → HaveParentRows k (rows_with rows before) n → (d : Draft) → IsDraft k rows n d → IsFilling k rows before n parents d
 
 fills_run : (cs : List Class) (ks : List ClassKey) → IsRun cs ks → Fills (numbered cs ks)
-fills_run cs ks run rows before laid n num parents keys lower have own others sel owns other chosen = record {
-  few = few_own cs ks run rows before laid n num parents keys lower have own others sel owns other chosen;
-  below = below_row cs ks run rows before laid n num parents keys lower have own others sel owns other chosen;
-  above = inherited_row cs ks run rows before laid n num parents keys lower have own others sel owns other chosen;
-  distinct = distinct_row cs ks run rows before laid n num parents keys lower have own others sel owns other chosen;
-  sourced = (
-    sourced_more (numbered cs ks) n before own laid.sourced owns.each,
-    sourced_more (numbered cs ks) n (before ++ own) others (sourced_more (numbered cs ks) n before own laid.sourced owns.each) other.each,
-  );
-  filled = filled_row cs ks run rows before laid n num parents keys lower have own others sel owns other chosen;
+fills_run cs ks run rows before laid n num parents keys lower have d is = record {
+  few = few_own cs ks run rows before laid n num parents keys lower have d.own d.others d.selected is.own is.others is.selected;
+  below = below_row cs ks run rows before laid n num parents keys lower have d.own d.others d.selected is.own is.others is.selected;
+  above = inherited_row cs ks run rows before laid n num parents keys lower have d.own d.others d.selected is.own is.others is.selected;
+  distinct = distinct_row cs ks run rows before laid n num parents keys lower have d.own d.others d.selected is.own is.others is.selected;
+  first = sourced_more (numbered cs ks) n before d.own laid.sourced is.own.each;
+  second = sourced_more (numbered cs ks) n (before ++ d.own) d.others (sourced_more (numbered cs ks) n before d.own laid.sourced is.own.each) is.others.each;
+  filled = filled_row cs ks run rows before laid n num parents keys lower have d.own d.others d.selected is.own is.others is.selected;
 }
 
 pub fills : (k : Numbering) → AreLoaded k → Fills k
@@ -270,19 +253,16 @@ RowsAnswer k = (v : MethodRows) → AreBodies k v → (n : ℕ) (t : ℕ × ℕ)
 
 answer_run : (cs : List Class) (ks : List ClassKey) → IsRun cs ks → RowsAnswer (numbered cs ks)
 answer_run cs ks run v laid n t has is d = (
-  has_token (scheme_of k) (scheme cs ks run) (body_of k v.bodies) v.rows laid.laid n t has is d,
-  λ b e. let w = cell_answers (scheme_of k) (scheme cs ks run) (body_of k v.bodies) v.rows laid.laid n t has is d b e in by b w.0 w.1 (slice_get v.bodies b) refl w.2,
+  has_token (scheme_of (numbered cs ks)) (scheme cs ks run) (body_of (numbered cs ks) v.bodies) v.rows laid.laid n t has is d,
+  λ b e. let w = cell_answers (scheme_of (numbered cs ks)) (scheme cs ks run) (body_of (numbered cs ks) v.bodies) v.rows laid.laid n t has is d b e in by b w.0 w.1 (slice_get v.bodies b) refl w.2,
 )
   where
-    abbrev k : Numbering
-    k = numbered cs ks
-
-    by : (b : ℕ) (y : ClassKey) → implementation k.classes (key_at k n) (method_at k t) ≡ Some y → (o : Option BodyAt) → slice_get v.bodies b ≡ o
-        → option_map (seen k) o ≡ Some (y, t) → IsAnswer k v n t b
+    by : (b : ℕ) (y : ClassKey) → implementation (kernel ++ cs) (key_at (numbered cs ks) n) (method_at (numbered cs ks) t) ≡ Some y → (o : Option BodyAt) → slice_get v.bodies b ≡ o
+        → option_map (seen (numbered cs ks)) o ≡ Some (y, t) → IsAnswer (numbered cs ks) v n t b
     by b y e None f g = absurd (cc)
     by b y e (Some x) f g =
         let two : ClassKey × (ℕ × ℕ) = (y, t) in
-        let pair : seen k x ≡ two = same_Some (seen k x) two g in
+        let pair : seen (numbered cs ks) x ≡ two = same_Some (seen (numbered cs ks) x) two g in
         record { body = x; there = f; method = ap (λ (z : ClassKey × (ℕ × ℕ)). z.1) pair; class = e ∙ ap (λ z. Some z) (sym (ap (λ (z : ClassKey × (ℕ × ℕ)). z.0) pair)) }
 
 pub rows_answer : (k : Numbering) → AreLoaded k → RowsAnswer k

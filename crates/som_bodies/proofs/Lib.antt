@@ -6,3 +6,4 @@ pub mod Proxying
 pub mod Cells
 pub mod Rows
 pub mod Facts
+pub mod Answering

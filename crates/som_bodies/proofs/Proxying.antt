@@ -147,19 +147,16 @@ module _ (cs : List Class) (ks : List ClassKey) (run : IsRun cs ks) where
 
       -- it has no other bodies
       pub proxy_all : (t : ℕ × ℕ) → IsToken k t → has_body all (method_at k t) (key_at k n) ≡ true → Mem t ((0, 0) ∷ (0, 1) ∷ ts)
-      proxy_all t is e = by (same_method r som_init) (same_method r som_uninit) (some (same_method r) (forwards all of)) refl refl refl (sym (ap is_some (held_is r)) ∙ e)
+      proxy_all t is e = by (same_method (method_at k t) som_init) (same_method (method_at k t) som_uninit) (some (same_method (method_at k t)) (forwards all of)) refl refl refl (sym (ap is_some (held_is (method_at k t))) ∙ e)
         where
-          abbrev r : MethodRef
-          r = method_at k t
-
-          by : (a b c : Bool) → same_method r som_init ≡ a → same_method r som_uninit ≡ b → some (same_method r) (forwards all of) ≡ c
+          by : (a b c : Bool) → same_method (method_at k t) som_init ≡ a → same_method (method_at k t) som_uninit ≡ b → some (same_method (method_at k t)) (forwards all of) ≡ c
               → is_some (if a || b then Some Nothing else (if c then Some Forward else None)) ≡ true → Mem t ((0, 0) ∷ (0, 1) ∷ ts)
-          by true b c ea eb ec s = inl (one_token cs ks run t (0, 0) is init_token (same_methods r som_init ea ∙ sym (object_method 0)))
-          by false true c ea eb ec s = inr (inl (one_token cs ks run t (0, 1) is uninit_token (same_methods r som_uninit eb ∙ sym (object_method 1))))
+          by true b c ea eb ec s = inl (one_token cs ks run t (0, 0) is init_token (same_methods (method_at k t) som_init ea ∙ sym (object_method 0)))
+          by false true c ea eb ec s = inr (inl (one_token cs ks run t (0, 1) is uninit_token (same_methods (method_at k t) som_uninit eb ∙ sym (object_method 1))))
           by false false true ea eb ec s =
-              let w = some_mem (same_method r) (forwards all of) ec in
+              let w = some_mem (same_method (method_at k t)) (forwards all of) ec in
               let u = map_mem (method_at k) w.0 ts (subst (λ l. Mem w.0 l) (sym methods) w.1) in
-              inr (inr (subst (λ z. Mem z ts) (sym (one_token cs ks run t u.0 is (are u.0 u.1) (same_methods r w.0 w.2 ∙ u.2))) u.1))
+              inr (inr (subst (λ z. Mem z ts) (sym (one_token cs ks run t u.0 is (are u.0 u.1) (same_methods (method_at k t) w.0 w.2 ∙ u.2))) u.1))
           by false false false ea eb ec s = absurd (true≢false (sym s))
 
       object_away : (i : ℕ) → Mem (0, i) ts → ⊥

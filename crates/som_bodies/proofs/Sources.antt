@@ -72,36 +72,33 @@ module _ (cs : List Class) (ks : List ClassKey) (run : IsRun cs ks) where
       let found = standing.found_is cs run.loads.faces.ordered (key_at k t.0) w.0 w.1 in
       by w.0 w.1 w.2 found.0 found.1 (is_kernel (key_at k t.0)) refl
     where
-      abbrev name : List ℕ
-      name = get_or (names_of k t.0) t.1 []
-
-      at_own : (c : Class) → class_at all (key_at k t.0) ≡ Some c → c.key ≡ key_at k t.0 → (x : Held) → introduced_body c name ≡ Some x → held all (key_at k t.0) (method_at k t) ≡ Some x
+      at_own : (c : Class) → class_at all (key_at k t.0) ≡ Some c → c.key ≡ key_at k t.0 → (x : Held) → introduced_body c (method_at k t).name ≡ Some x → held all (key_at k t.0) (method_at k t) ≡ Some x
       at_own c e key x b =
           let own : same_key c.key (key_at k t.0) ≡ true = ap (λ z. same_key z (key_at k t.0)) key ∙ exact_keys.one (key_at k t.0) in
           held_known cs ks run (key_at k t.0) c e (method_at k t)
-          ∙ some_first x (override_of all (method_at k t) c.decl.overrides) (if same_key c.key (key_at k t.0) then introduced_body c name else None)
-          (ap (λ (v : Bool). if v then introduced_body c name else None) own ∙ b)
+          ∙ some_first x (override_of all (method_at k t) c.decl.overrides) (if same_key c.key (key_at k t.0) then introduced_body c (method_at k t).name else None)
+          (ap (λ (v : Bool). if v then introduced_body c (method_at k t).name else None) own ∙ b)
 
       by : (c : Class) → class_at all (key_at k t.0) ≡ Some c → names_of k t.0 ≡ introduced c.decl.face.entries → Mem c all → c.key ≡ key_at k t.0
           → (b : Bool) → is_kernel (key_at k t.0) ≡ b → IsSourced k (body_at t.0 t (source_of (if b then ways.Kernel else ways.Introduced) t i))
       by c e ns m key true low =
-          let mem : Mem name (introduced c.decl.face.entries) = subst (λ l. Mem name l) ns (get_member (names_of k t.0) t.1 is.1) in
-          let there = entry_some c.decl.face.entries name mem in
-          let body : introduced_body c name ≡ Some (OfKernel name) =
-              ap (λ (v : Bool). if v then (if is_some (entry_of c.decl.face.entries name) then Some (OfKernel name) else None) else body_named c.decl.face.entries c.decl.bodies name) (ap is_kernel key ∙ low)
-              ∙ ap (λ (v : Bool). if v then Some (OfKernel name) else None) there in
-          record { class = is.0; method = is; held_is = OfKernel name; has = at_own c e key (OfKernel name) body; named = refl }
+          let mem : Mem (method_at k t).name (introduced c.decl.face.entries) = subst (λ l. Mem (method_at k t).name l) ns (get_member (names_of k t.0) t.1 is.1) in
+          let there = entry_some c.decl.face.entries (method_at k t).name mem in
+          let body : introduced_body c (method_at k t).name ≡ Some (OfKernel (method_at k t).name) =
+              ap (λ (v : Bool). if v then (if is_some (entry_of c.decl.face.entries (method_at k t).name) then Some (OfKernel (method_at k t).name) else None) else body_named c.decl.face.entries c.decl.bodies (method_at k t).name) (ap is_kernel key ∙ low)
+              ∙ ap (λ (v : Bool). if v then Some (OfKernel (method_at k t).name) else None) there in
+          record { class = is.0; method = is; held_is = OfKernel (method_at k t).name; has = at_own c e key (OfKernel (method_at k t).name) body; named = refl }
       by c e ns m key false low =
           let apart : Apart (introduced c.decl.face.entries) = subst Apart ns (names cs ks run t.0) in
           let less : t.1 < length (introduced c.decl.face.entries) = subst (λ (l : List (List ℕ)). t.1 < length l) ns is.1 in
           let r = body_there c.decl.face.entries c.decl.bodies t.1 apart (bodies_many c m (ap is_kernel key ∙ low)) less in
-          let body : introduced_body c name ≡ Some (held_body r.0) =
-              ap (λ (v : Bool). if v then (if is_some (entry_of c.decl.face.entries name) then Some (OfKernel name) else None) else body_named c.decl.face.entries c.decl.bodies name) (ap is_kernel key ∙ low)
+          let body : introduced_body c (method_at k t).name ≡ Some (held_body r.0) =
+              ap (λ (v : Bool). if v then (if is_some (entry_of c.decl.face.entries (method_at k t).name) then Some (OfKernel (method_at k t).name) else None) else body_named c.decl.face.entries c.decl.bodies (method_at k t).name) (ap is_kernel key ∙ low)
               ∙ ap (λ (l : List (List ℕ)). body_named c.decl.face.entries c.decl.bodies (get_or l t.1 [])) ns ∙ r.2 in
           record {
             class = is.0;
             method = is;
             held_is = held_body r.0;
             has = at_own c e key (held_body r.0) body;
-            named = ap (λ (q : Option Class). source_body q name (source_of ways.Introduced t i)) e ∙ ap (option_map held_body) r.1;
+            named = ap (λ (q : Option Class). source_body q (method_at k t).name (source_of ways.Introduced t i)) e ∙ ap (option_map held_body) r.1;
           }

@@ -1,10 +1,11 @@
 -- What the row of one class is made of.
 use Rattle.std.specs.Prelude.{if◌then◌else◌, ◌≡◌, ◌≢◌, ℕ, zero, suc, true, false, List, [], ◌∷◌, map, Option, Some, IsSome}
+use Rattle.som_model.specs.declared.key.ClassKey.{ClassKey}
 use Rattle.som_model.specs.Lists.{Mem}
-use Rattle.som_model.specs.Implementation.{has_body, is_kernel, selected}
+use Rattle.som_model.specs.Implementation.{forwards, has_body, is_kernel, selected}
 use Rattle.som_laws.proofs.Members.{Apart}
 use Rattle.som_tables.specs.Rows.{Added, HasRow, HasToken, inherited}
-use Rattle.som_meta.specs.Numbering.{IsNumbered, IsToken, Numbering, key_at, method_at, tokens_of}
+use Rattle.som_meta.specs.Numbering.{AreTokens, IsNumbered, IsToken, Numbering, key_at, method_at, tokens_of}
 use Rattle.som_bodies.specs.declared.adding.Way.{Way}
 use Rattle.som_bodies.specs.declared.adding.Way.TheVariants as ways
 use Rattle.som_bodies.specs.declared.body.Source.{Source}
@@ -19,6 +20,10 @@ source_of ways.Overriding t i = sources.Overriding i
 source_of ways.Kernel t i = sources.Kernel
 source_of ways.Forward t i = sources.Forward
 source_of ways.Nothing t i = sources.Nothing
+
+-- the first two methods of SOMObject, which begin and end an object
+abbrev pub life : List (ℕ × ℕ)
+life = (0, 0) ∷ (0, 1) ∷ []
 
 -- how the bodies stand that a class has for the methods that it introduces
 abbrev pub own_way_of : Numbering → ℕ → Way
@@ -77,6 +82,13 @@ pub record IsChosenCell (k : Numbering) (rows : List (Option (Added ℕ))) (n : 
 pub record AreChosen (k : Numbering) (rows : List (Option (Added ℕ))) (n : ℕ) (ts : List (ℕ × ℕ)) (rs : List ((ℕ × ℕ) × ℕ)) : Type 0 where
   pub tokens : map (λ (r : (ℕ × ℕ) × ℕ). r.0) rs ≡ ts
   pub each : (r : (ℕ × ℕ) × ℕ) → Mem r rs → IsChosenCell k rows n r.0 r.1
+
+-- the bodies of a proxy of this class for what it forwards
+pub record AreForwarded (k : Numbering) (n : ℕ) (of : ClassKey) (xs : List BodyAt) : Type 0 where
+  pub tokens : List (ℕ × ℕ)
+  pub are : AreTokens k tokens
+  pub methods : map (method_at k) tokens ≡ forwards k.classes of
+  pub is : xs ≡ bodies_from n ways.Forward 0 tokens
 
 -- a token, and the cell that it has in the row of the parent which a class selects for it
 pub record IsSelected (k : Numbering) (rows : List (Option (Added ℕ))) (n : ℕ) (r : (ℕ × ℕ) × ℕ) : Type 0 where

@@ -76,7 +76,6 @@ fn method_at(all: &[BodyAt], place: usize) -> MToken
 }
 
 /// Adds the methods of the bodies from a number on, each with its body's number.
-#[tactic(auto, using(crate::proofs::Cells::cells_step, std::proofs::Common::append_assoc))]
 pub(crate) fn add_cells(
     cells: &mut List<(MToken, u64)>,
     all: &[BodyAt],

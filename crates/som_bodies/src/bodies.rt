@@ -1,12 +1,14 @@
+ghost use Rattle.som_bodies.specs.Filling.{IsDraft, IsFilling};
 ghost use Rattle.som_bodies.specs.Bodies.{AreBodies, HaveParentRows, IsAnswer, rows_with};
 ghost use Rattle.som_bodies.specs.Adding.{HaveChosen};
 ghost use Rattle.som_classes.specs.Loaded.{AreLoaded};
 ghost use Rattle.som_meta.specs.Numbering.{IsNumbered, IsToken, key_at, method_at};
 ghost use Rattle.som_model.specs.Ancestors.{Descends};
 ghost use Rattle.som_model.specs.Classes.{hierarchy};
+ghost use Rattle.som_model.specs.Lists.{Mem};
 ghost use Rattle.som_tables.specs.Layout.{Extends};
 ghost use Rattle.som_tables.specs.Rows.{HasRow, IsDeclared, row_at};
-ghost use Rattle.std.specs.Prelude.{◌≡◌, ◌≢◌, ◌+◌, ◌<◌, ℕ, None, Some, IfOk, OnErr, OnOk, is_some, length, slice_get};
+ghost use Rattle.std.specs.Prelude.{◌≡◌, ◌≢◌, ◌⊎◌, ◌+◌, ◌<◌, ◌++◌, ℕ, None, Some, IfOk, List as Seq, OnErr, OnOk, is_some, length, map, slice_get};
 
 use crate::adding::{add_cells, numbers};
 use crate::body::BodyAt;
@@ -42,15 +44,60 @@ fn know_loaded(classes: &Classes)
 
 /// A table with a number for each class, and no row.
 fn without_rows(alloc: Global, count: u32) -> Result<Table<MethodKind>, NoMemory>
-    requires { count < 4294967295 }
     ensures each { IfOk result (λ table. length table ≡ count) }
     ensures none { IfOk result (λ table. (n : ℕ) → row_at table n ≡ None) }
 {
+    if count == u32::MAX {
+        return Err(NoMemory);
+    }
     let mut table = Table::new(alloc);
-    for _ in 0..count {
+    for _number in 0..count {
         table.declare()?;
     }
     Ok(table)
+}
+
+/// The bodies of a class for the methods that it introduces and for those of other classes, and the cells of what it selects.
+#[derive(Drop)]
+struct Draft {
+    own: List<BodyAt>,
+    others: List<BodyAt>,
+    selected: List<(MToken, u64)>,
+}
+
+fn draft(
+    alloc: Global,
+    classes: &Classes,
+    table: &Table<MethodKind>,
+    class: ClassNo,
+) -> Result<Draft, NoMemory>
+    requires loaded { AreLoaded classes.now }
+    requires numbered { IsNumbered classes.now class }
+    requires chosen { HaveChosen classes.now table.now class }
+    ensures { IfOk result (λ draft. IsDraft classes.now table.now class draft) }
+{
+    let own = own_bodies(alloc, classes, class)?;
+    let others = other_bodies(alloc, classes, class)?;
+    let selected = selected_cells(alloc, classes, table, class)?;
+    Ok(Draft {
+        own,
+        others,
+        selected,
+    })
+}
+
+/// Adds these bodies and then those.
+fn add_bodies(
+    all: &mut List<BodyAt>,
+    own: &[BodyAt],
+    others: &[BodyAt],
+) -> Result<(), NoMemory>
+    ensures ok { OnOk result (all.new ≡ all.old ++ own.now ++ others.now) }
+    ensures err { OnErr result ((all.new ≡ all.old) ⊎ (all.new ≡ all.old ++ own.now)) }
+{
+    all.extend_from_slice(own)?;
+    all.extend_from_slice(others)?;
+    Ok(())
 }
 
 /// Adds the bodies of a class, those for the methods that it introduces first, and gives it its row.
@@ -60,30 +107,32 @@ fn add_row(
     table: &mut Table<MethodKind>,
     all: &mut List<BodyAt>,
     class: ClassNo,
+    draft: Draft,
 ) -> Result<(), NoMemory>
-    requires loaded { AreLoaded classes.now }
-    requires numbered { IsNumbered classes.now class }
     requires bodies { AreBodies classes.now (rows_with table.old all.old) }
+    requires numbered { IsNumbered classes.now class }
     requires class { IsDeclared table.old class }
-    requires parents { HaveParentRows classes.now (rows_with table.old all.old) class }
-    requires chosen { HaveChosen classes.now table.old class }
+    requires filling { (parents : Seq ℕ) → map (key_at classes.now) parents ≡ (hierarchy classes.now.classes).parents (key_at classes.now class) →
+        ((p : ℕ) → Mem p parents → p < class) → IsFilling classes.now table.old all.old class parents draft }
     ensures bodies { AreBodies classes.now (rows_with table.new all.new) }
     ensures earlier { Extends all.old all.new }
     ensures filled { OnOk result (HasRow table.new class) }
     ensures others { (n : ℕ) → n ≢ class → row_at table.new n ≡ row_at table.old n }
     ensures err { OnErr result (table.new ≡ table.old) }
 {
-    let bodies = own_bodies(alloc, classes, class)?;
-    let others = other_bodies(alloc, classes, class)?;
-    let mut replaced = selected_cells(alloc, classes, table, class)?;
-    let first = all.len();
-    all.extend_from_slice(bodies.as_slice())?;
-    let second = all.len();
-    all.extend_from_slice(others.as_slice())?;
-    let own = numbers(alloc, first, second)?;
-    add_cells(&mut replaced, all.as_slice(), second)?;
     let parents = classes.parents(class).as_slice();
-    table.fill(alloc, class, parents, own.as_slice(), replaced.as_slice())?;
+    let Draft {
+        own,
+        others,
+        selected,
+    } = draft;
+    let mut replaced = selected;
+    let first = all.len();
+    add_bodies(all, own.as_slice(), others.as_slice())?;
+    let second = all.len() - others.len();
+    let cells = numbers(alloc, first, second)?;
+    add_cells(&mut replaced, all.as_slice(), second)?;
+    table.fill(alloc, class, parents, cells.as_slice(), replaced.as_slice())?;
     Ok(())
 }
 
@@ -105,7 +154,8 @@ fn fill_row(
     ensures err { OnErr result (table.new ≡ table.old) }
 {
     know_loaded(classes);
-    add_row(alloc, classes, table, all, class)
+    let draft = draft(alloc, classes, table, class)?;
+    add_row(alloc, classes, table, all, class, draft)
 }
 
 impl Bodies {

@@ -1,11 +1,12 @@
-ghost use Rattle.som_bodies.specs.Adding.{AreOthers, AreOwn, AreSelected, HaveChosen, IsChosenCell, own_way_of};
+ghost use Rattle.som_bodies.specs.Adding.{AreForwarded, AreOthers, AreOwn, AreSelected, HaveChosen, IsChosenCell, bodies_from, life, own_way_of};
+ghost use Rattle.som_bodies.specs.declared.adding.Way.TheVariants as ways;
 ghost use Rattle.som_classes.specs.Loaded.{AreLoaded};
 ghost use Rattle.som_meta.specs.Numbering.{IsNumbered, IsToken, key_at, method_at};
 ghost use Rattle.som_model.specs.Classes.{hierarchy};
 ghost use Rattle.som_model.specs.Implementation.{selected as selected_of};
 ghost use Rattle.som_model.specs.declared.key.ClassKey.TheVariants as keys;
 ghost use Rattle.som_model.specs.declared.key.ClassKey.{ClassKey as Key};
-ghost use Rattle.std.specs.Prelude.{◌≡◌, ◌<◌, ◌∷◌, [], IfOk, IsSome, length};
+ghost use Rattle.std.specs.Prelude.{◌≡◌, ◌↔◌, ◌<◌, ◌∷◌, [], IfOk, IsSome, IsTrue, Some, length, slice_get};
 
 use crate::adding::{Way, bodies_for};
 use crate::body::BodyAt;
@@ -56,6 +57,13 @@ fn overriding_bodies(
     bodies_for(alloc, class, classes.overridden(class), Way::Overriding)
 }
 
+fn first_of(classes: &[ClassNo]) -> ClassNo
+    requires { 0 < length classes.now }
+    ensures { slice_get classes.now 0 ≡ Some result }
+{
+    classes[0]
+}
+
 /// The class whose objects are the targets of a proxy.
 fn target(classes: &Classes, class: ClassNo) -> ClassNo
     requires numbered { IsNumbered classes.now class }
@@ -63,10 +71,34 @@ fn target(classes: &Classes, class: ClassNo) -> ClassNo
     ensures numbered { IsNumbered classes.now result }
     ensures key { key_at classes.now class ≡ keys.Proxy (key_at classes.now result) }
 {
-    classes.parents(class).as_slice()[0]
+    first_of(classes.parents(class).as_slice())
 }
 
-/// The bodies of a proxy for methods of other classes: it does nothing to begin and to end an object, and hands on the calls of the rest.
+/// A proxy does nothing to begin and to end an object.
+fn life_bodies(alloc: Global, class: ClassNo) -> Result<List<BodyAt>, NoMemory>
+    ensures { IfOk result (λ bodies. bodies ≡ bodies_from class ways.Nothing 0 life) }
+{
+    let object = ClassNo::new(0);
+    let life = [Token::new(object, 0), Token::new(object, 1)];
+    bodies_for(alloc, class, &life, Way::Nothing)
+}
+
+/// A proxy hands on the calls of what the ancestors of its target outside the kernel introduce.
+fn forwarded_bodies(
+    alloc: Global,
+    classes: &Classes,
+    class: ClassNo,
+    of: ClassNo,
+) -> Result<List<BodyAt>, NoMemory>
+    requires { IsNumbered classes.now of }
+    ensures { IfOk result (λ bodies. AreForwarded classes.now class (key_at classes.now of) bodies) }
+{
+    let handed = forwards(alloc, classes, of)?;
+    let bodies = bodies_for(alloc, class, handed.as_slice(), Way::Forward)?;
+    Ok(bodies)
+}
+
+/// The bodies of a proxy for methods of other classes.
 fn proxy_bodies(
     alloc: Global,
     classes: &Classes,
@@ -79,11 +111,8 @@ fn proxy_bodies(
     requires loaded { AreLoaded classes.now }
     ensures { IfOk result (λ bodies. AreOthers classes.now class bodies) }
 {
-    let object = ClassNo::new(0);
-    let life = [Token::new(object, 0), Token::new(object, 1)];
-    let mut bodies = bodies_for(alloc, class, &life, Way::Nothing)?;
-    let handed = forwards(alloc, classes, of)?;
-    let forwarded = bodies_for(alloc, class, handed.as_slice(), Way::Forward)?;
+    let mut bodies = life_bodies(alloc, class)?;
+    let forwarded = forwarded_bodies(alloc, classes, class, of)?;
     bodies.extend_from_slice(forwarded.as_slice())?;
     Ok(bodies)
 }
@@ -140,11 +169,19 @@ fn declared_cells(
     ensures { IfOk result (λ cells. AreSelected classes.now table.now class cells) }
 {
     let mut cells = List::new(alloc);
-    for method in classes.selecting(class) {
+    let methods = classes.selecting(class);
+    for method in methods {
         let cell = selected_cell(classes, table, class, *method);
         cells.push((*method, cell))?;
     }
     Ok(cells)
+}
+
+/// Whether a class is declared.
+fn is_declared(classes: &Classes, class: ClassNo) -> bool
+    ensures { IsTrue result ↔ (class < length classes.now.classes) }
+{
+    class.number() < classes.declared_count()
 }
 
 /// The same of any class; made classes select nothing.
@@ -159,7 +196,7 @@ pub(crate) fn selected_cells(
     requires rows { HaveChosen classes.now table.now class }
     ensures { IfOk result (λ cells. AreSelected classes.now table.now class cells) }
 {
-    if class.number() < classes.declared_count() {
+    if is_declared(classes, class) {
         declared_cells(alloc, classes, table, class)
     } else {
         Ok(List::new(alloc))

@@ -44,7 +44,7 @@ module _ (cs : List Class) (main : Block) (loads : Loads cs main) where
     others = cs;
     is = refl;
     load = loads.faces;
-    counted = λ c m. elim (mem_split c kernel cs m) [ inl k ↦ kernel_counted c k | inr own ↦ loads.counted c own .face.order ];
+    counted = λ c m. elim (mem_split c kernel cs m) [ inl k ↦ kernel_counted c k | inr own ↦ (loads.counted c own).face.order ];
   }
 
   pub named : AreNamed (kernel ++ cs)
@@ -53,7 +53,7 @@ module _ (cs : List Class) (main : Block) (loads : Loads cs main) where
   pub can_be_laid : (ks : List ClassKey) → AreApart (numbered cs ks) → HaveTargets (numbered cs ks) → CanBeLaid cs ks
   can_be_laid ks apart targets = record {
     faces = loads.faces;
-    some_parent = λ c m. loads.counted c m .face.some_parent;
+    some_parent = λ c m. (loads.counted c m).face.some_parent;
     inherited = loads.inherited;
     bodies = loads.bodies;
     apart = apart;

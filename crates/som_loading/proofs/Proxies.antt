@@ -43,13 +43,13 @@ one_proxy a b e = let out : ClassKey-F.Proxy a ≡ ClassKey-F.Proxy b = sym (out
 
 -- what metaclasses are: declared classes, and what is derived of such
 data IsMeta (all : List Class) : ClassKey → Type 0 where
-  declared : (k : ClassKey) (c : Class) → class_at all k ≡ Some c → IsMeta all k
-  derived : (k : ClassKey) (ks : List ClassKey) → k ≡ keys.Derived ks → ((x : ClassKey) → Mem x ks → IsMeta all x) → IsMeta all k
+  declared : {k : ClassKey} (c : Class) → class_at all k ≡ Some c → IsMeta all k
+  derived : {k : ClassKey} (ks : List ClassKey) → k ≡ keys.Derived ks → ((x : ClassKey) → Mem x ks → IsMeta all x) → IsMeta all k
 
 -- what made classes are: these, and proxies of declared classes
 data IsKept (all : List Class) : ClassKey → Type 0 where
-  plain : (k : ClassKey) → IsMeta all k → IsKept all k
-  proxy : (k of : ClassKey) (c : Class) → k ≡ keys.Proxy of → class_at all of ≡ Some c → IsKept all k
+  plain : {k : ClassKey} → IsMeta all k → IsKept all k
+  proxy : {k : ClassKey} (of : ClassKey) (c : Class) → k ≡ keys.Proxy of → class_at all of ≡ Some c → IsKept all k
 
 module _ (cs : List Class) (o : IsOrdered cs) where
   abbrev all : List Class
@@ -59,28 +59,28 @@ module _ (cs : List Class) (o : IsOrdered cs) where
   in_parents k p ps e m = subst (λ l. Mem p l) (sym (hierarchy_parents all k) ∙ e) m
 
   meta_parent : (k p : ClassKey) → IsMeta all k → Mem p (parents_of all k) → IsMeta all p
-  meta_parent k p (declared k c e) m = let r = stands cs o k c p e (in_parents k p c.decl.face.parents (parents_known cs o k c e) m) in declared p r.0 r.1
-  meta_parent k p (derived k ks is f) m = f p (in_parents k p ks (parents_derived cs o k ks (ap out-ClassKey is ∙ out_derived ks)) m)
+  meta_parent k p (declared c e) m = let r = stands cs o k c p e (in_parents k p c.decl.face.parents (parents_known cs o k c e) m) in declared r.0 r.1
+  meta_parent k p (derived ks is f) m = f p (in_parents k p ks (parents_derived cs o k ks (ap out-ClassKey is ∙ out_derived ks)) m)
 
   kept_parent : (k p : ClassKey) → IsKept all k → Mem p (parents_of all k) → IsKept all p
-  kept_parent k p (plain k i) m = plain p (meta_parent k p i m)
-  kept_parent k p (proxy k of c is e) m = elim (in_parents k p (of ∷ []) (parents_proxy cs o k of (ap out-ClassKey is ∙ out_proxy of)) m) [
-    | inl same ↦ plain p (declared p c (ap (class_at all) same ∙ e))
+  kept_parent k p (plain i) m = plain (meta_parent k p i m)
+  kept_parent k p (proxy of c is e) m = elim (in_parents k p (of ∷ []) (parents_proxy cs o k of (ap out-ClassKey is ∙ out_proxy of)) m) [
+    | inl same ↦ plain (declared c (ap (class_at all) same ∙ e))
     | inr n ↦ absurd n
   ]
 
   -- what is made of metaclasses is one
   made_meta : (ks : List ClassKey) → ((x : ClassKey) → Mem x ks → IsMeta all x) → IsMeta all (made_of ks)
-  made_meta [] f = derived (keys.Derived []) [] refl f
+  made_meta [] f = derived [] refl f
   made_meta (k ∷ []) f = f k (inl refl)
-  made_meta (j ∷ k ∷ ks) f = derived (keys.Derived (j ∷ k ∷ ks)) (j ∷ k ∷ ks) refl f
+  made_meta (j ∷ k ∷ ks) f = derived (j ∷ k ∷ ks) refl f
 
   declared_meta : (k m : ClassKey) (q : Option Class) → class_at all k ≡ q → Mem m (declared_in q) → IsMeta all m
   declared_meta k m None e n = absurd n
-  declared_meta k m (Some c) e n = let r = metaclass_known cs o k c m e (option_mem c.decl.face.metaclass m n) in declared m r.0 r.1
+  declared_meta k m (Some c) e n = let r = metaclass_known cs o k c m e (option_mem c.decl.face.metaclass m n) in declared r.0 r.1
 
   root_meta : IsMeta all som_class
-  root_meta = declared som_class _ (found cs o _ som_class (inr (inl refl)) refl)
+  root_meta = declared _ (found cs o _ som_class (inr (inl refl)) refl)
 
   meta_step : (n : ℕ) (k : ClassKey) (b : Bool) → ((p : ClassKey) → IsMeta all (meta_within all n p))
       → IsMeta all (if b then som_class else made_of (lowest all (firsts same_key (declared_in (class_at all k) ++ map (meta_within all n) (parents_of all k)))))
@@ -98,12 +98,12 @@ module _ (cs : List Class) (o : IsOrdered cs) where
   meta_is (suc n) k = meta_step n k (is_low all k) (meta_is n)
 
   not_meta : (k of : ClassKey) → IsMeta all k → k ≡ keys.Proxy of → ⊥
-  not_meta k of (declared k c e) is = let f = found_is cs o k c e in let n = keyed cs o c f.0 in not_named of n.0 n.1 (sym is ∙ sym f.1 ∙ n.2)
-  not_meta k of (derived k ks e f) is = not_derived of ks (sym e ∙ is)
+  not_meta k of (declared c e) is = let f = found_is cs o k c e in let n = keyed cs o c f.0 in not_named of n.0 n.1 (sym is ∙ sym f.1 ∙ n.2)
+  not_meta k of (derived ks e f) is = not_derived of ks (sym e ∙ is)
 
   kept_proxy : (k of : ClassKey) → IsKept all k → k ≡ keys.Proxy of → (c : Class) × (class_at all of ≡ Some c)
-  kept_proxy k of (plain k i) is = absurd (not_meta k of i is)
-  kept_proxy k of (proxy k x c e f) is = (c, ap (class_at all) (one_proxy of x (sym is ∙ e)) ∙ f)
+  kept_proxy k of (plain i) is = absurd (not_meta k of i is)
+  kept_proxy k of (proxy x c e f) is = (c, ap (class_at all) (one_proxy of x (sym is ∙ e)) ∙ f)
 
 module _ (cs : List Class) (main : Block) (loads : Loads cs main) where
   abbrev these : List Class
@@ -114,19 +114,19 @@ module _ (cs : List Class) (main : Block) (loads : Loads cs main) where
 
   root_kept : (k : ClassKey) → Mem k (all_roots these main) → IsKept these k
   root_kept k m = elim (mem_split k (map (λ (c : Class). c.key) these) (flat_map proxies_in (blocks_of these main)) m) [
-    | inl d ↦ (let r = map_mem (λ (c : Class). c.key) k these d in plain k (declared k r.0 (found cs ordered r.0 k r.1 (sym r.2))))
+    | inl d ↦ (let r = map_mem (λ (c : Class). c.key) k these d in plain (declared r.0 (found cs ordered r.0 k r.1 (sym r.2))))
     | inr p ↦ (
         let b = flat_mem proxies_in k (blocks_of these main) p in
         let w = (block_covered b.0).by k b.2 in
         let known = block_law cs main loads b.0 b.1 w.0 (subst (λ z. Mem z (proxies_in b.0)) w.1 b.2) in
         let c = among cs ordered w.0 known in
-        proxy k w.0 c.0 w.1 c.1)
+        proxy w.0 c.0 w.1 c.1)
   ]
 
   made_kept : (k : ClassKey) → ComesOf these (all_roots these main) k → IsKept these k
-  made_kept k (root k m) = root_kept k m
-  made_kept k (parent j k from m) = kept_parent cs ordered j k (made_kept j from) m
-  made_kept k (metaclass j from) = plain (meta these j) (meta_is cs ordered ((hierarchy these).height j) j)
+  made_kept k (root j m) = root_kept j m
+  made_kept k (parent j p from m) = kept_parent cs ordered j p (made_kept j from) m
+  made_kept k (metaclass j from) = plain (meta_is cs ordered ((hierarchy these).height j) j)
 
   pub made_target : (k of : ClassKey) → IsMade these main k → k ≡ keys.Proxy of → Mem of (keys_of these)
   made_target k of m is =
