@@ -1,5 +1,6 @@
 -- What the code's functions answer, by the facts on classes.
 use Rattle.std.proofs.Common.{◌≡◌, ◌≢◌, ◌⊎◌, ℕ, zero, suc, ◌+◌, ◌-◌, ◌<◌, ◌≤◌, inl, inr, if◌then◌else◌, Bool, true, false, List, [], ◌∷◌, ◌++◌, length, map, take, drop, get_or, Option, Some, None, Result, Ok, Err, IfOk, IsSome, slice_get, slice_set, refl, sym, ap, ◌∙◌, subst, arith, length-append}
+use Rattle.std.proofs.lemmas.Option.{slice_get_within}
 use Rattle.som_model.specs.declared.key.ClassKey.{ClassKey}
 use Rattle.som_model.specs.declared.key.ClassKey.TheVariants as keys
 use Rattle.som_model.specs.Lists.{Mem}
@@ -102,6 +103,9 @@ pub all_selected : (k : Numbering) (rows : List (Option (Added ℕ))) (n : ℕ) 
 all_selected k rows n ts i rs s le c = are_selected k rows n ts rs s (subst (λ l. AreChosen k rows n l rs) (take_whole i ts le) c)
 
 -- ---- the row
+
+pub numbered_row : (k : Numbering) (rows : List (Option (Added ℕ))) (all : List BodyAt) → AreBodies k (rows_with rows all) → (n : ℕ) → IsDeclared rows n → IsNumbered k n
+numbered_row k rows all laid n declared = subst (λ m. n < m) laid.each (slice_get_within rows n None declared)
 
 module _ (k : Numbering) (rows : List (Option (Added ℕ))) (before : List BodyAt) (laid : AreBodies k (rows_with rows before)) (n : ℕ) (parents : List ℕ) (d : Draft) (f : IsFilling k rows before n parents d) (all : List BodyAt) where
   abbrev row : Added ℕ

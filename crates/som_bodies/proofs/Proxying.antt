@@ -4,7 +4,7 @@ use Rattle.som_model.specs.declared.key.Module.TheVariants as modules
 use Rattle.som_model.specs.declared.key.ClassKey.{ClassKey, out-ClassKey}
 use Rattle.som_model.specs.declared.key.ClassKey.TheVariants as keys
 use Rattle.som_model.specs.declared.key.MethodRef.{MethodRef}
-use Rattle.som_model.specs.Lists.{Mem, some}
+use Rattle.som_model.specs.Lists.{Mem, joined, some}
 use Rattle.som_model.specs.Keys.{same_method}
 use Rattle.som_model.specs.Hierarchy.{Hierarchy}
 use Rattle.som_model.specs.Ancestors.{anc_within}
@@ -90,7 +90,7 @@ module _ (cs : List Class) (ks : List ClassKey) (run : IsRun cs ks) where
   -- each forward stands once
   levels_apart : (h : Hierarchy ClassKey) → ((x : ClassKey) → h.same x x ≡ true) → (n : ℕ) (x : ClassKey) → Apart (anc_within h n x)
   levels_apart h one zero x = ((λ m. m), tt)
-  levels_apart h one (suc n) x = firsts_apart h.same one _
+  levels_apart h one (suc n) x = firsts_apart h.same one (x ∷ joined (map (anc_within h n) (h.parents x)))
 
   one_forwarded : (x : ClassKey) (b : Bool) → Apart (if b then [] else map (λ (name : List ℕ). let r : MethodRef = record { class = x; name = name } in r) (introduced_by all x))
   one_forwarded x true = tt

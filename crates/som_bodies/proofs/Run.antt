@@ -48,7 +48,7 @@ same_numbering k l = ap (λ (cs : List Class). let z : Numbering = record { clas
 pub run_of : (k : Numbering) (l : AreLoaded k) → IsRun l.others k.keys
 run_of k l =
     let same = same_numbering k l in
-    record { main = l.main; loads = l.loads; first = subst AreFirst same l.first; apart = subst AreApart same l.apart; targets = subst HaveTargets same l.proxies }
+    record { main = l.main; loads = l.loads; first = subst AreFirst same l.first; apart = subst AreApart same l.apart; targets = subst HaveTargets same l.targets }
 
 module _ (cs : List Class) (ks : List ClassKey) (run : IsRun cs ks) where
   abbrev all : List Class

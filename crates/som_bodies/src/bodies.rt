@@ -129,7 +129,8 @@ fn add_row(
     let mut replaced = selected;
     let first = all.len();
     add_bodies(all, own.as_slice(), others.as_slice())?;
-    let second = all.len() - others.len();
+    let count = all.len();
+    let second = count - others.len();
     let cells = numbers(alloc, first, second)?;
     add_cells(&mut replaced, all.as_slice(), second)?;
     table.fill(alloc, class, parents, cells.as_slice(), replaced.as_slice())?;
@@ -164,8 +165,10 @@ impl Bodies {
         ensures bodies { IfOk result (λ bodies. AreBodies classes.now bodies) }
         ensures none { IfOk result (λ bodies. (n : ℕ) → row_at bodies.rows n ≡ None) }
     {
+        let count = classes.count();
+        let table = without_rows(alloc, count)?;
         Ok(Bodies {
-            table: without_rows(alloc, classes.count())?,
+            table,
             all: List::new(alloc),
         })
     }
