@@ -1,6 +1,5 @@
 -- What a refusal to link tells.
-use Rattle.std.specs.Prelude.{◌≡◌, ℕ, List, Option, Some, None, Result, Ok, Err}
-use Rattle.std.specs.Str.{codes}
+use Rattle.std.specs.Prelude.{◌≡◌, ℕ, List, Option, Some, None, Result, Ok, Err, codes}
 use Rattle.som_model.specs.Compatible.{CompatBreach}
 use Rattle.som_rules.specs.Told.{told}
 use Rattle.som_linking.specs.declared.fault.LinkFault.{LinkFault}
@@ -25,3 +24,9 @@ Tells obstacle (Ok _) = obstacle ≡ None
 Tells obstacle (Err (faults.NotConforming client broken)) = obstacle ≡ Some (Breaks client (told broken))
 Tells obstacle (Err (faults.Incompatible rule class name place)) = (b : CompatBreach) × (obstacle ≡ Some (DoesntKeep b)) × TellsKept rule class name place b
 Tells obstacle (Err faults.NoMemory) = Unit {0}
+
+-- the fault tells that this isn't kept, or want of memory
+abbrev pub TellsBreach : CompatBreach → LinkFault → Type 0
+TellsBreach b (faults.NotConforming client broken) = ⊥
+TellsBreach b (faults.Incompatible rule class name place) = TellsKept rule class name place b
+TellsBreach b faults.NoMemory = Unit {0}

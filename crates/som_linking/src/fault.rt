@@ -1,13 +1,11 @@
 ghost use Rattle.som_compat.specs.Told.{told};
-ghost use Rattle.som_linking.specs.Told.{TellsKept, or_dash};
-ghost use Rattle.som_linking.specs.declared.fault.LinkFault.TheVariants as faults;
-ghost use Rattle.som_linking.specs.declared.fault.LinkFault.{LinkFault as Fault};
-ghost use Rattle.std.specs.Prelude.{◌≡◌, IfOk, Err, List as Seq, option_copied};
+ghost use Rattle.som_linking.specs.Told.{TellsBreach, or_dash};
+ghost use Rattle.std.specs.Prelude.{◌≡◌, IfOk, option_copied};
 
 use som_compat::Breach;
 use som_model::{NoMemory, Text};
 use som_rules::Broken;
-use std::alloc::{AllocFailed, Global};
+use std::alloc::Global;
 
 /// Why a client isn't linked with a library: a rule that the client, or else the library, breaks; or what the library doesn't keep of that which the
 /// client was compiled against, with the class, the name of what is lost or changed, which is `-` where there is none, and its place.
@@ -58,7 +56,7 @@ fn names_of(alloc: Global, breach: &Breach<'_>) -> Result<(Text, Text), NoMemory
 
 /// What tells a breach, or want of memory for its names.
 pub(crate) fn incompatible(alloc: Global, breach: &Breach<'_>) -> LinkFault
-    ensures { (rule : _) (class name : Seq _) (place : _) → result ≡ faults.Incompatible rule class name place → TellsKept rule class name place (told breach.now) }
+    ensures { TellsBreach (told breach.now) result }
 {
     match names_of(alloc, breach) {
         Ok((class, name)) => LinkFault::Incompatible {
