@@ -10,8 +10,8 @@ use som_model::{List, NoMemory};
 use som_tables::ClassNo;
 use std::alloc::Global;
 
-/// The metaclass of each class, number by number. A derived one gets the next number, so that its own metaclass is asked for later; since each is of lower
-/// rank than its class, this ends.
+/// The metaclass of each class, number by number. A derived one gets the next number, so that its own metaclass is asked for later; since it is of lower rank
+/// than its class, this ends.
 pub(crate) fn number_metaclasses(
     alloc: Global,
     classes: &mut Classes,
