@@ -1,3 +1,4 @@
 pub mod Noting
 pub mod Searching
 pub mod Ordering
+pub mod FirstFour
