@@ -3,8 +3,7 @@
 ghost use Rattle.som_read.specs.Answer.{Answers};
 ghost use Rattle.som_read.specs.Readers as spec;
 ghost use Rattle.som_read.specs.Tokens as tokens;
-ghost use Rattle.som_read.specs.declared.cursor.Stop.TheVariants as stops;
-ghost use Rattle.std.specs.Prelude.{◌≡◌, ◌≢◌, drop, Err};
+ghost use Rattle.std.specs.Prelude.{◌≡◌, drop};
 
 use crate::{Key, Sign, Token};
 use som_model::NoMemory;
@@ -85,8 +84,7 @@ impl<'a> Cursor<'a> {
     /// Takes the sign, which has to stand here.
     #[tactic(auto, unfolding(crate::specs::Readers::expect))]
     pub fn expect(&mut self, sign: Sign) -> Result<(), Stop>
-        ensures answer { Answers (spec.expect sign self.old.rest.now) result self.new.rest.now }
-        ensures never { result ≢ Err stops.Memory }
+        ensures { Answers (spec.expect sign self.old.rest.now) result self.new.rest.now }
     {
         if !self.sees(sign) {
             return Err(Stop::Syntax);
@@ -98,8 +96,7 @@ impl<'a> Cursor<'a> {
     /// Takes the word, which has to stand here.
     #[tactic(auto, unfolding(crate::specs::Readers::keyword))]
     pub fn keyword(&mut self, key: Key) -> Result<(), Stop>
-        ensures answer { Answers (spec.keyword key self.old.rest.now) result self.new.rest.now }
-        ensures never { result ≢ Err stops.Memory }
+        ensures { Answers (spec.keyword key self.old.rest.now) result self.new.rest.now }
     {
         if !self.sees_word(key) {
             return Err(Stop::Syntax);
@@ -111,8 +108,7 @@ impl<'a> Cursor<'a> {
     /// A number.
     #[tactic(auto, unfolding(crate::specs::Readers::number))]
     pub fn number(&mut self) -> Result<u32, Stop>
-        ensures answer { Answers (spec.number self.old.rest.now) result self.new.rest.now }
-        ensures never { result ≢ Err stops.Memory }
+        ensures { Answers (spec.number self.old.rest.now) result self.new.rest.now }
     {
         match self.peek() {
             Some(Token::Number(value)) => {
@@ -126,8 +122,7 @@ impl<'a> Cursor<'a> {
     /// The end of the text.
     #[tactic(auto, unfolding(crate::specs::Readers::end))]
     pub fn end(&self) -> Result<(), Stop>
-        ensures answer { Answers (spec.end self.now.rest.now) result self.now.rest.now }
-        ensures never { result ≢ Err stops.Memory }
+        ensures { Answers (spec.end self.now.rest.now) result self.now.rest.now }
     {
         match self.peek() {
             None => Ok(()),
