@@ -55,6 +55,7 @@ found_meant k index n name distinct has =
     there : option_map (key_at k) (introducer index name (ancestors_at index n)) ≡ introducer_of k n name
     there = introducer_is (hierarchy k.classes) (introduces k.classes name) (key_at k) index n name (above_is k index n has.own)
         (λ i d lt. own_some k index (get_or (ancestors_at index n) i d) name distinct (has.above (get_or (ancestors_at index n) i d) (mem_at (ancestors_at index n) i d lt)))
+
     by : (o : Option ℕ) → introducer index name (ancestors_at index n) ≡ o → IsMeant k n name (option_and_then (own_token index name) o)
     by None e = sym there ∙ ap (option_map (key_at k)) e
     by (Some a) e =
