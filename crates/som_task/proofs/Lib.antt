@@ -1,0 +1,4 @@
+pub mod Lists
+pub mod Later
+pub mod Objects
+pub mod Classes
