@@ -82,10 +82,7 @@ fn emit_stmt(
             emit_expr(alloc, code, value)?;
             emit(code, Instruction::Print)
         }
-        Stmt::Free { value } => {
-            emit_expr(alloc, code, value)?;
-            emit_free(alloc, code)
-        }
+        Stmt::Free { value } => emit_free(alloc, code, value),
         Stmt::Call { call } => {
             emit_expr(alloc, code, call)?;
             emit(code, Instruction::Drop)
@@ -156,11 +153,12 @@ fn free_method(alloc: Global) -> Result<MethodRef, NoMemory>
     Ok(MethodRef { class, name })
 }
 
-// The top is freed, and the answer taken off.
-fn emit_free(alloc: Global, code: &mut Vec<Instruction>) -> Result<(), NoMemory>
+// The value is freed, and the answer taken off.
+fn emit_free(alloc: Global, code: &mut Vec<Instruction>, value: &Expr) -> Result<(), NoMemory>
     ensures { OnOk result (code.new.items
-        ≡ code.old.items ++ Instruction.OffsetCall som_free 0 ∷ Instruction.Drop ∷ []) }
+        ≡ code.old.items ++ (lay_stmt (Stmt.Free value.now)).lays 0 (length code.old.items)) }
 {
+    emit_expr(alloc, code, value)?;
     let method = free_method(alloc)?;
     emit(code, Instruction::OffsetCall { method, args: 0 })?;
     emit(code, Instruction::Drop)
