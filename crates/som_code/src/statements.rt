@@ -153,13 +153,21 @@ fn free_method(alloc: Global) -> Result<MethodRef, NoMemory>
     Ok(MethodRef { class, name })
 }
 
-// The value is freed, and the answer taken off.
+// The top is freed, and the answer taken off.
+fn free_top(alloc: Global, code: &mut Vec<Instruction>) -> Result<(), NoMemory>
+    ensures { OnOk result (code.new.items
+        ≡ code.old.items ++ Instruction.OffsetCall som_free 0 ∷ Instruction.Drop ∷ []) }
+{
+    let method = free_method(alloc)?;
+    emit(code, Instruction::OffsetCall { method, args: 0 })?;
+    emit(code, Instruction::Drop)
+}
+
+// The value is freed.
 fn emit_free(alloc: Global, code: &mut Vec<Instruction>, value: &Expr) -> Result<(), NoMemory>
     ensures { OnOk result (code.new.items
         ≡ code.old.items ++ (lay_stmt (Stmt.Free value.now)).lays 0 (length code.old.items)) }
 {
     emit_expr(alloc, code, value)?;
-    let method = free_method(alloc)?;
-    emit(code, Instruction::OffsetCall { method, args: 0 })?;
-    emit(code, Instruction::Drop)
+    free_top(alloc, code)
 }
