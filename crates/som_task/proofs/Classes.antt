@@ -59,8 +59,8 @@ statics_changed k l xs os old new h h' n cs vars numbered at others same one hel
         (subst (λ (v : Variables). HoldVariables k xs os (k.statics n) cs v) (sym (same (key_of k.keys n) ∙ chosen_true _ _ _ (exact_keys.one (key_of k.keys n)))) one))
     | inr ne ↦ subst (λ (o : Option (List Cell)). HoldsStatic k xs os (k.statics m) o (h'.statics (key_of k.keys m))) (sym (others m ne))
         (subst (λ (v : Variables). HoldsStatic k xs os (k.statics m) (option_flatten (slice_get old m)) v)
-          (sym (same (key_of k.keys m) ∙ chosen_false _ _ _ (λ e. ne (l.apart m n numbered_m numbered (exact_keys.two (key_of k.keys m) (key_of k.keys n) e)))))
-          (held.by m numbered_m))
+        (sym (same (key_of k.keys m) ∙ chosen_false _ _ _ (λ e. ne (l.apart m n numbered_m numbered (exact_keys.two (key_of k.keys m) (key_of k.keys n) e)))))
+        (held.by m numbered_m))
   ];
 }
 
@@ -71,8 +71,8 @@ pub statics_written : (k : Linked) → IsLinked k → (xs : List ℕ) (os : Obje
     → HoldsStatics k xs os new (write (ClassObject (key_of k.keys n)) c m (shown (showing k.keys xs) cell) h)
 statics_written k l xs os old new h n c m p cs cell numbered at others place own before held =
     statics_changed k l xs os old new h (write (ClassObject (key_of k.keys n)) c m (shown (showing k.keys xs) cell) h) n (slice_set cs p cell) (put c m (shown (showing k.keys xs) cell) (h.statics (key_of k.keys n))) numbered at others
-      (λ x. by_key x (same_key x (key_of k.keys n)) refl)
-      (variables_put k l xs os c m p cell own (k.statics n) cs (h.statics (key_of k.keys n)) (l.statics n numbered) place before) held
+    (λ x. by_key x (same_key x (key_of k.keys n)) refl)
+    (variables_put k l xs os c m p cell own (k.statics n) cs (h.statics (key_of k.keys n)) (l.statics n numbered) place before) held
   where
     by_key : (x : ClassKey) (b : Bool) → same_key x (key_of k.keys n) ≡ b → (if b then put c m (shown (showing k.keys xs) cell) (h.statics x) else h.statics x) ≡ (if b then put c m (shown (showing k.keys xs) cell) (h.statics (key_of k.keys n)) else h.statics x)
     by_key x true e = ap (λ y. put c m (shown (showing k.keys xs) cell) (h.statics y)) (exact_keys.two x (key_of k.keys n) e)

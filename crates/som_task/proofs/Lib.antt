@@ -2,3 +2,4 @@ pub mod Lists
 pub mod Later
 pub mod Objects
 pub mod Classes
+pub mod Stages

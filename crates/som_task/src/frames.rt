@@ -22,15 +22,25 @@ pub enum Waiting {
     /// A body, for the value of its call.
     Call(Body),
     /// The bodies of a call that are left, for the end of a hook's body.
-    Hook { left: Left, answer: Cell },
+    Hook {
+        left: Left,
+        answer: Cell,
+    },
     /// The bodies of a call that are left, for the value of the method's body.
     Method(Left),
     /// `new C`, for the object, which has to be of class C.
-    Object { from: Place, code: usize, at: usize },
+    Object {
+        from: Place,
+        code: usize,
+        at: usize,
+    },
     /// somNew, for the end of somInit on the object that it answers.
     Init(ObjRef),
     /// somFree, for the end of somUninit on the object that it frees.
-    Uninit { from: Place, object: ObjRef },
+    Uninit {
+        from: Place,
+        object: ObjRef,
+    },
     /// A dispatch, for the name by which it calls: its receiver and arguments.
     Name {
         levels: u32,

@@ -1,22 +1,28 @@
 //! The laws of a task's state, each the contract of a function without a body.
 
 ghost use Rattle.som_code.specs.declared.instruction.Instruction.{Instruction};
+ghost use Rattle.som_frames.specs.CallBodies.{call_bodies, with_held, with_method};
 ghost use Rattle.som_frames.specs.Frames as machine;
+ghost use Rattle.som_model.specs.Calls.{Request};
 ghost use Rattle.som_model.specs.Expressions.{read};
-ghost use Rattle.som_model.specs.State.{ClassObject, Heap, Instance, Object, To, freed, write, zeros};
+ghost use Rattle.som_model.specs.Kernel.{after_method, before_method};
+ghost use Rattle.som_model.specs.Means.{body_class, hooks_of};
+ghost use Rattle.som_model.specs.State.{After, Before, ClassObject, Heap, Instance, Object, Str, To, freed, write, zeros};
+ghost use Rattle.som_model.specs.World.{World};
 ghost use Rattle.som_model.specs.declared.key.ClassKey.{ClassKey};
 ghost use Rattle.som_objects.specs.Objects.{Frees, KeepsKnown, Live, Makes, Objects, Writes, live_at};
 ghost use Rattle.som_objects.specs.declared.cell.Cell.{Cell};
 ghost use Rattle.som_objects.specs.declared.object_ref.ObjRef.{ObjRef};
 ghost use Rattle.som_task.specs.Own.{IsOwn, IsOwnFrames};
 ghost use Rattle.som_task.specs.Settings.{IsLinked, Linked};
-ghost use Rattle.som_task.specs.Standing.{frames_shown};
+ghost use Rattle.som_task.specs.Standing.{bodies_left, frames_shown};
 ghost use Rattle.som_task.specs.Stored.{AreSerials, HasCome, HoldVariables, HoldsHeap, HoldsStatics, IsInstance, Spares};
+ghost use Rattle.som_task.specs.declared.call.Stage.TheVariants as stages;
 ghost use Rattle.som_task.specs.declared.frames.Frames.{Frames};
 ghost use Rattle.som_task.specs.declared.task.Task.{Task};
 ghost use Rattle.som_values.specs.Shown.{IsMade, IsNumbered, key_of, place_of, shown, showing};
 ghost use Rattle.std.specs.Option.{option_flatten};
-ghost use Rattle.std.specs.Prelude.{◌≡◌, ◌≢◌, ◌++◌, ◌∷◌, [], ℕ, List, None, Ok, Option, Some, slice_get, slice_set, true};
+ghost use Rattle.std.specs.Prelude.{◌≡◌, ◌≢◌, ◌≤◌, ◌+◌, ◌++◌, ◌∷◌, [], ℕ, List, None, Ok, Option, Some, false, length, slice_get, slice_set, true};
 
 /// Frames stand for the same, and name what is the task's, where serials and codes are added at the end and the store
 /// keeps the references that it knows.
@@ -71,6 +77,19 @@ pub fn statics_law()
         ((i : ℕ) → i ≢ n → option_flatten (slice_get new i) ≡ option_flatten (slice_get old i)) →
         k.statics n c m ≡ Some p → IsOwn (showing k.keys xs) os cell → HoldVariables k xs os (k.statics n) cs (h.statics (key_of k.keys n)) →
         HoldsStatics k xs os old h → HoldsStatics k xs os new (write (ClassObject (key_of k.keys n)) c m (shown (showing k.keys xs) cell) h) }
+{}
+
+/// The bodies of a call, one stage after the other: those of the hooks that have one for the method before, in order,
+/// the method's, and those that hooks have for the method after, in reverse order.
+pub fn stages_law()
+    ensures first { (w : World) (x : ClassKey) (q : Request) → call_bodies w x q ≡ bodies_left w x q (stages.Before 0) }
+    ensures before { (w : World) (x : ClassKey) (q : Request) (n : ℕ) (k : ClassKey) → slice_get (hooks_of w x q) n ≡ Some k →
+        bodies_left w x q (stages.Before n) ≡ with_held Before before_method (ClassObject x) (To q.self ∷ Str q.method.name ∷ []) false k (w.held k before_method) (bodies_left w x q (stages.Before (n + 1))) }
+    ensures past { (w : World) (x : ClassKey) (q : Request) (n : ℕ) → length (hooks_of w x q) ≤ n → bodies_left w x q (stages.Before n) ≡ bodies_left w x q stages.Method }
+    ensures method { (w : World) (x : ClassKey) (q : Request) → bodies_left w x q stages.Method ≡ with_method w q (body_class w x q) (bodies_left w x q (stages.After (length (hooks_of w x q)))) }
+    ensures after { (w : World) (x : ClassKey) (q : Request) (n : ℕ) (k : ClassKey) → slice_get (hooks_of w x q) n ≡ Some k →
+        bodies_left w x q (stages.After (n + 1)) ≡ with_held After after_method (ClassObject x) (To q.self ∷ Str q.method.name ∷ []) false k (w.held k after_method) (bodies_left w x q (stages.After n)) }
+    ensures last { (w : World) (x : ClassKey) (q : Request) → bodies_left w x q (stages.After 0) ≡ [] }
 {}
 
 /// A task stays where it has come while other tasks change the store.
