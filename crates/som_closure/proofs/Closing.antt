@@ -8,7 +8,8 @@ use Rattle.som_model.specs.Keys.{same_key}
 use Rattle.som_model.specs.Class.{Class}
 use Rattle.som_model.specs.Classes.{parents_of}
 use Rattle.som_model.specs.Kernel.{som_object}
-use Rattle.som_model.specs.Made.{ComesOf, root, parent, metaclass}
+use Rattle.som_model.specs.Made.{ComesOf, root, parent, metaclass, all_roots, IsMade}
+use Rattle.som_model.specs.declared.syntax.Block.{Block}
 use Rattle.som_model.specs.Metaclass.{meta}
 use Rattle.som_laws.proofs.Members.{mem_left, mem_split}
 use Rattle.som_meta.specs.Numbering.{IsNumbered, Numbering, key_at}
@@ -164,3 +165,12 @@ comes_by cs rs ss f x (metaclass y d) = metaclass y (comes_by cs rs ss f y d)
 -- the same where both have the same members
 pub comes_same : (cs : List Class) (rs ss : List ClassKey) → ((x : ClassKey) → Mem x rs ↔ Mem x ss) → (x : ClassKey) → ComesOf cs rs x ↔ ComesOf cs ss x
 comes_same cs rs ss f x = (comes_by cs rs ss (λ y m. (f y).0 m) x, comes_by cs ss rs (λ y m. (f y).1 m) x)
+
+-- what comes of classes that are just the roots of a run is what is made for it
+pub made_of_roots : (old new : Numbering) (main : Block) → new.classes ≡ old.classes → ((x : ClassKey) → Mem x old.keys ↔ Mem x (all_roots old.classes main)) → ((x : ClassKey) → Mem x new.keys ↔ ComesOf old.classes old.keys x)
+    → (x : ClassKey) → Mem x new.keys ↔ IsMade new.classes main x
+made_of_roots old new main e roots comes x =
+    let both = comes_same old.classes old.keys (all_roots old.classes main) roots x in (
+      (λ m. subst (λ (z : List Class). IsMade z main x) (sym e) (both.0 ((comes x).0 m))),
+      (λ d. (comes x).1 (both.1 (subst (λ (z : List Class). IsMade z main x) e d))),
+    )
