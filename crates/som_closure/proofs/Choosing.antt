@@ -1,5 +1,5 @@
 -- The metaclass that is chosen by number is that of the definition.
-use Rattle.std.proofs.Common.{◌≡◌, ℕ, zero, suc, ◌<◌, ◌≤◌, inl, inr, ◌+◌, Bool, true, false, if◌then◌else◌, List, [], ◌∷◌, ◌++◌, map, length, take, get_or, Option, Some, None, slice_get, nat_eq, nat_lt, refl, sym, ap, ◌∙◌, subst, arith}
+use Rattle.std.proofs.Common.{◌≡◌, ℕ, zero, suc, ◌<◌, ◌≤◌, inl, inr, ◌+◌, true, false, if◌then◌else◌, List, [], ◌∷◌, ◌++◌, map, length, take, get_or, Option, Some, None, slice_get, nat_eq, nat_lt, refl, sym, ap, ◌∙◌, subst, arith}
 use Rattle.std.specs.List.{All}
 use Rattle.std.specs.Option.{option_map, IfSome}
 use Rattle.std.proofs.lemmas.List.Elements.{All-cons, All-head, All-nil, All-tail}
@@ -107,6 +107,7 @@ module _ (k : Numbering) (cs : List Class) (is : k.classes ≡ kernel ++ cs) (o 
       within [] i c e = absurd (cc)
       within (y ∷ xs) zero c e = omega arith
       within (y ∷ xs) (suc i) c e = let l = within xs i c e in omega (arith, l)
+
       by : (q : Option Class) → class_at k.classes (key_at k n) ≡ q → q ≡ None
       by None e = refl
       by (Some c) e =

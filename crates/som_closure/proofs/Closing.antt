@@ -1,5 +1,5 @@
 -- One metaclass more has a number: what is kept, and that all is there at the end.
-use Rattle.std.proofs.Common.{◌≡◌, ◌↔◌, ◌⊎◌, ℕ, zero, suc, ◌+◌, ◌<◌, ◌≤◌, inl, inr, Bool, true, false, if◌then◌else◌, List, [], ◌∷◌, ◌++◌, length, slice_index_or, refl, sym, ap, ◌∙◌, subst, arith, length-append}
+use Rattle.std.proofs.Common.{◌≡◌, ◌↔◌, ◌⊎◌, ℕ, ◌+◌, ◌<◌, ◌≤◌, inl, inr, Bool, true, false, if◌then◌else◌, List, [], ◌∷◌, ◌++◌, length, refl, sym, ap, ◌∙◌, subst, arith, length-append}
 use Rattle.std.proofs.Math.ListN.{get_or-append}
 use Rattle.std.proofs.Math.Seq.{get_or-append_seam}
 use Rattle.som_model.specs.declared.key.ClassKey.{ClassKey}
@@ -15,7 +15,7 @@ use Rattle.som_laws.proofs.Members.{mem_left, mem_split}
 use Rattle.som_meta.specs.Numbering.{IsNumbered, Numbering, key_at}
 use Rattle.som_numbers.specs.Numbers.{at, with_key}
 use Rattle.som_numbers.proofs.Declaring.{at_mem, mem_at}
-use Rattle.som_closure.specs.Metas.{AreMetas, HasParents, HaveMetas, IsClosing, meta_at}
+use Rattle.som_closure.specs.Metas.{AreMetas, HasParents, IsClosing, meta_at}
 
 -- the keys are there still in their places, and one more at most
 pub record IsLonger (ks ls : List ClassKey) (key : ClassKey) : Type 0 where
@@ -120,6 +120,7 @@ module _ (start k : Numbering) (ms : List ℕ) (c : IsClosing start k ms) (m : �
       by : (b : Bool) → let z : Numbering = (if b then k else record { classes = k.classes; keys = k.keys ++ key ∷ [] }) in IsNumbered z m → key_at z m ≡ key → IsClosing start z more
       by true = closing_longer k.keys (longer_same k.keys key)
       by false = closing_longer (k.keys ++ key ∷ []) (longer_more k.keys key)
+
       here_with : IsNumbered (with_key k key) m → key_at (with_key k key) m ≡ key → IsClosing start (with_key k key) more
       here_with = by (some (same_key key) k.keys)
 
@@ -167,9 +168,9 @@ pub comes_same : (cs : List Class) (rs ss : List ClassKey) → ((x : ClassKey) �
 comes_same cs rs ss f x = (comes_by cs rs ss (λ y m. (f y).0 m) x, comes_by cs ss rs (λ y m. (f y).1 m) x)
 
 -- what comes of classes that are just the roots of a run is what is made for it
-pub made_of_roots : (old new : Numbering) (main : Block) → new.classes ≡ old.classes → ((x : ClassKey) → Mem x old.keys ↔ Mem x (all_roots old.classes main)) → ((x : ClassKey) → Mem x new.keys ↔ ComesOf old.classes old.keys x)
-    → (x : ClassKey) → Mem x new.keys ↔ IsMade new.classes main x
-made_of_roots old new main e roots comes x =
+pub made_of_roots : (old later : Numbering) (main : Block) → later.classes ≡ old.classes → ((x : ClassKey) → Mem x old.keys ↔ Mem x (all_roots old.classes main)) → ((x : ClassKey) → Mem x later.keys ↔ ComesOf old.classes old.keys x)
+    → (x : ClassKey) → Mem x later.keys ↔ IsMade later.classes main x
+made_of_roots old later main e roots comes x =
     let both = comes_same old.classes old.keys (all_roots old.classes main) roots x in (
       (λ m. subst (λ (z : List Class). IsMade z main x) (sym e) (both.0 ((comes x).0 m))),
       (λ d. (comes x).1 (both.1 (subst (λ (z : List Class). IsMade z main x) e d))),

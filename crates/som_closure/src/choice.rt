@@ -83,11 +83,7 @@ fn plan(
 }
 
 /// The number of the class that is planned, which has one from now on.
-fn number_planned(
-    alloc: Global,
-    classes: &mut Classes,
-    plan: MetaPlan,
-) -> Result<ClassNo, NoMemory>
+fn number_planned(alloc: Global, classes: &mut Classes, plan: MetaPlan) -> Result<ClassNo, NoMemory>
     requires { AreNumbered classes.old (plan_numbers plan) }
     ensures keys { OnOk result (classes.new ≡ with_key classes.old (plan_key classes.old plan)) }
     ensures class { IfOk result (λ n. IsNumbered classes.new n × (key_at classes.new n ≡ plan_key classes.old plan)) }

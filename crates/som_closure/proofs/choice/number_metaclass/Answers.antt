@@ -1,4 +1,4 @@
-use Rattle.std.proofs.Common.{◌≡◌, ◌<◌, ◌∙◌, arith}
+use Rattle.std.proofs.Common.{◌<◌, ◌∙◌, arith}
 use Rattle.som_meta.specs.Numbering.{key_at}
 use Rattle.som_model.specs.Metaclass.{rank}
 use Rattle.som_closure.proofs.Choosing.{low_is, low_same, not_low}

@@ -1,6 +1,5 @@
 use Rattle.std.proofs.Common.{◌≡◌, ◌∙◌, arith, map}
 use Rattle.std.proofs.lemmas.Result.{IfOk-weaker}
-use Rattle.som_meta.specs.declared.plan.MetaPlan.{MetaPlan}
 use Rattle.som_meta.specs.Numbering.{AreNumbered, key_at}
 use Rattle.som_meta.specs.Planning.{chosen_key, constraints, plan_key, plan_of, planned}
 use Rattle.som_model.specs.Classes.{parents_of}
