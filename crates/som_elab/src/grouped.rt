@@ -36,10 +36,7 @@ impl<'t, 'a> Model for ModuleTexts<'t, 'a> {
 
 impl<'t, 'a> ModuleTexts<'t, 'a> {
     /// Looks at each body once.
-    pub fn grouped(
-        alloc: Global,
-        all: &'t [&'a BodyText],
-    ) -> Result<ModuleTexts<'t, 'a>, NoMemory>
+    pub fn grouped(alloc: Global, all: &'t [&'a BodyText]) -> Result<ModuleTexts<'t, 'a>, NoMemory>
         ensures { IfOk result (λ t. t ≡ given all.now) }
     {
         let mut classes = IndexSet::new(alloc);

@@ -51,6 +51,7 @@ base_told A p r shown breach answer e same found is h = kept_told A (first_break
     breach_is : (p : ClientProgram) (r : Release) (shown : Interface) (breach : Breach) (answer : Result (Unit {0}) Breach)
         → shown.classes ≡ (interface_of r).classes → told_by answer ≡ first_break p.base shown → answer ≡ Err breach → first_break p.base (interface_of r) ≡ Some (told breach)
     breach_is p r shown breach answer same found is = ap (λ (cs : List ClassFace). first_break p.base (record { classes = cs })) (sym same) ∙ sym found ∙ ap told_by is
+
     kept_told : (A : Type 0) (o : Option CompatBreach) (b : CompatBreach) (e : LinkFault) → o ≡ Some b → TellsBreach b e → Tells {A = A} (option_map DoesntKeep o) (Err e)
     kept_told A o b (faults.NotConforming client broken) is h = absurd h
     kept_told A o b (faults.Incompatible rule class name place) is h = (b, rw is refl, h)

@@ -48,11 +48,7 @@ fn look_at_client(alloc: Global, client: &ClientProgram) -> Result<(), LinkFault
 }
 
 /// Goes on where a library keeps all that a client was compiled against.
-fn look_at_base(
-    alloc: Global,
-    library: &Release,
-    client: &ClientProgram,
-) -> Result<(), LinkFault>
+fn look_at_base(alloc: Global, library: &Release, client: &ClientProgram) -> Result<(), LinkFault>
     requires library { Conforms (interface_of library.now) }
     requires client { Conforms client.now.base }
     ensures { Tells (option_map DoesntKeep (first_break client.now.base (interface_of library.now))) result }
