@@ -9,7 +9,7 @@ use Rattle.som_model.specs.Implementation.{is_kernel}
 use Rattle.som_tables.specs.Rows.{Added, AreDistinct, AreInherited, GivesTokens, HasRow, IsDeclared, KeepsOtherRows, class_with, row_at}
 use Rattle.som_tables.proofs.LateRows.{Filled-set, HasRow-set_same}
 use Rattle.som_tables.specs.Layout.{Extends}
-use Rattle.som_tables.proofs.Options.{Extends-append}
+use Rattle.som_tables.proofs.Options.{Extends-append, take-Extends}
 use Rattle.som_meta.specs.Numbering.{IsNumbered, Numbering, key_at, tokens_of}
 use Rattle.som_meta.proofs.Once.{step_is}
 use Rattle.som_numbers.specs.Numbers.{IsProxy}
@@ -205,3 +205,16 @@ filled_others rows now n a declared e = (
   subst (λ z. HasRow z n) (sym e) (HasRow-set_same rows n a declared),
   λ m ne. ap (λ z. row_at z m) e ∙ (Filled-set rows n a declared).others m ne,
 )
+
+-- where memory runs out, the added bodies are cut off again
+pub kept_bodies : (k : Numbering) (rows now : List (Option (Added ℕ))) (before all : List BodyAt) → AreBodies k (rows_with rows before) → now ≡ rows → all ≡ before → AreBodies k (rows_with now all)
+kept_bodies k rows now before all laid e f = subst (λ z. AreBodies k (rows_with z all)) (sym e) (subst (λ z. AreBodies k (rows_with rows z)) (sym f) laid)
+
+pub cut_back : (before grown all : List BodyAt) (count : ℕ) → Extends before grown → count ≡ length before → all ≡ take count grown → all ≡ before
+cut_back before grown all count ext e f = f ∙ ap (λ n. take n grown) e ∙ take-Extends before grown ext
+
+pub same_extends : (before all : List BodyAt) → all ≡ before → Extends before all
+same_extends before all e = subst (λ z. Extends before z) (sym e) (λ i x h. h)
+
+pub same_rows : (rows now : List (Option (Added ℕ))) (before all : List BodyAt) → now ≡ rows → all ≡ before → rows_with now all ≡ rows_with rows before
+same_rows rows now before all e f = ap (λ z. rows_with z all) e ∙ ap (λ z. rows_with rows z) f

@@ -8,7 +8,7 @@ ghost use Rattle.som_model.specs.Classes.{hierarchy};
 ghost use Rattle.som_model.specs.Lists.{Mem};
 ghost use Rattle.som_tables.specs.Layout.{Extends};
 ghost use Rattle.som_tables.specs.Rows.{HasRow, IsDeclared, row_at};
-ghost use Rattle.std.specs.Prelude.{◌≡◌, ◌≢◌, ◌⊎◌, ◌+◌, ◌<◌, ◌++◌, ℕ, None, Some, IfOk, List as Seq, OnErr, OnOk, is_some, length, map, slice_get};
+ghost use Rattle.std.specs.Prelude.{◌≡◌, ◌≢◌, ◌⊎◌, ◌+◌, ◌<◌, ◌++◌, ℕ, None, Some, IfOk, List as Seq, OnErr, OnOk, is_some, length, map, slice_get, take};
 
 use crate::adding::{add_cells, numbers};
 use crate::body::BodyAt;
@@ -18,6 +18,7 @@ use som_model::{List, NoMemory};
 use som_tables::{ClassNo, MToken, MethodKind, Steps, Table};
 use std::alloc::Global;
 use std::marker::Model;
+use std::mem;
 use std::sync::ledger::Ledger;
 
 /// The rows of the classes of a run: for each method the number of the body that a class has for it. A class has a row from when it is filled.
@@ -134,6 +135,15 @@ fn add_row(
     Ok(())
 }
 
+/// Keeps the first bodies alone.
+fn cut(alloc: Global, all: &mut List<BodyAt>, count: usize)
+    ensures { all.new ≡ take count all.old }
+{
+    let mut items = mem::replace(all, List::new(alloc)).into_vec();
+    items.truncate(count);
+    *all = List::from_vec(items);
+}
+
 /// Gives a class its row, where its parents have theirs.
 fn fill_row(
     alloc: Global,
@@ -149,11 +159,19 @@ fn fill_row(
     ensures earlier { Extends all.old all.new }
     ensures filled { OnOk result (HasRow table.new class) }
     ensures others { (n : ℕ) → n ≢ class → row_at table.new n ≡ row_at table.old n }
-    ensures err { OnErr result (table.new ≡ table.old) }
+    ensures table { OnErr result (table.new ≡ table.old) }
+    ensures bodies_stay { OnErr result (all.new ≡ all.old) }
 {
     know_loaded(classes);
     let draft = drafted(alloc, classes, table, class)?;
-    add_row(alloc, classes, table, all, class, draft)
+    let count = all.len();
+    match add_row(alloc, classes, table, all, class, draft) {
+        Ok(()) => Ok(()),
+        Err(error) => {
+            cut(alloc, all, count);
+            Err(error)
+        }
+    }
 }
 
 impl Bodies {
@@ -170,7 +188,7 @@ impl Bodies {
         })
     }
 
-    /// Gives a class its row, where its parents have theirs. The bodies so far keep their numbers, also where memory runs out.
+    /// Gives a class its row, where its parents have theirs. The bodies so far keep their numbers. Nothing changes where memory runs out.
     pub fn fill(&mut self, alloc: Global, classes: &Classes, class: ClassNo) -> Result<(), NoMemory>
         requires bodies { AreBodies classes.now self.old }
         requires class { IsDeclared self.old.rows class }
@@ -179,7 +197,7 @@ impl Bodies {
         ensures earlier { Extends self.old.bodies self.new.bodies }
         ensures filled { OnOk result (HasRow self.new.rows class) }
         ensures others { (n : ℕ) → n ≢ class → row_at self.new.rows n ≡ row_at self.old.rows n }
-        ensures err { OnErr result (self.new.rows ≡ self.old.rows) }
+        ensures err { OnErr result (self.new ≡ self.old) }
     {
         fill_row(alloc, classes, &mut self.table, &mut self.all, class)
     }

@@ -1,4 +1,4 @@
-use Rattle.som_bodies.proofs.Answering.{numbered_row}
+use Rattle.som_bodies.proofs.Answering.{cut_back, kept_bodies, numbered_row, same_extends}
 use Rattle.som_bodies.proofs.Facts.{chosen_rows, fills}
 use Rattle.som_bodies.proofs.bodies.fill_row.Goals as goal
 
@@ -15,3 +15,12 @@ pub add_row-requires-clause-filling : goal.add_row-requires-clause-filling
 add_row-requires-clause-filling c = λ parents keys lower.
     fills c.args.classes.now c.know_loaded.ensures c.args.table.now c.args.all.now c.requires.bodies c.args.class
     (numbered_row c.args.classes.now c.args.table.now c.args.all.now c.requires.bodies c.args.class c.requires.class) parents keys lower c.requires.parents c.in_ok-draft.draft c.in_ok-draft.ensures
+
+pub returns-in-Err-clause-bodies : goal.returns-in-Err-clause-bodies
+returns-in-Err-clause-bodies c = kept_bodies c.args.classes.now c.args.table.now c.add_row.new.table c.args.all.now c.cut.new.all c.requires.bodies c.in-Err.ensures.err (cut_back c.args.all.now c.add_row.new.all c.cut.new.all c.len-count.result c.in-Err.ensures.earlier c.len-count.ensures c.cut.ensures)
+
+pub returns-in-Err-clause-earlier : goal.returns-in-Err-clause-earlier
+returns-in-Err-clause-earlier c = same_extends c.args.all.now c.cut.new.all (cut_back c.args.all.now c.add_row.new.all c.cut.new.all c.len-count.result c.in-Err.ensures.earlier c.len-count.ensures c.cut.ensures)
+
+pub returns-in-Err-clause-bodies_stay : goal.returns-in-Err-clause-bodies_stay
+returns-in-Err-clause-bodies_stay c = (cut_back c.args.all.now c.add_row.new.all c.cut.new.all c.len-count.result c.in-Err.ensures.earlier c.len-count.ensures c.cut.ensures)
