@@ -68,3 +68,7 @@ layer_named y =
 
 pub name_is : (k : ClassKey) → concat (name_pieces k) ≡ class_name k
 name_is = ind-ClassKey IsNamed (λ x y is. subst (λ z. IsNamed (roll-ClassKey z)) is (layer_named y))
+
+-- the name of a declared class
+pub named_is : (m : _) (n : List ℕ) → class_name (keys.Named m n) ≡ n
+named_is m n = sym (name_is (keys.Named m n)) ∙ ap concat (named_pieces m n) ∙ append-nil n

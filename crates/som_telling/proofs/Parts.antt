@@ -7,6 +7,7 @@ use Rattle.som_meta.specs.Numbering.{Numbering, key_at, IsNumbered, AreNumbered}
 use Rattle.som_telling.specs.declared.pieces.Part.{Part}
 use Rattle.som_telling.specs.declared.pieces.Part.TheVariants as parts
 use Rattle.som_telling.specs.Pieces.{name_pieces, part_pieces, pieces_before, pieces_left, IsPart, AreParts}
+use denote.Ref.{Bor}
 
 -- the last part comes first
 before_pushed : (k : Numbering) (others : List (List ℕ)) (ps : List Part) (p : Part) → pieces_before k others (ps ++ p ∷ []) ≡ part_pieces k p ++ pieces_before k others ps
@@ -37,3 +38,10 @@ parts_turned k (p ∷ ps) a = subst (AreParts k) (sym (reverse-append (p ∷ [])
 -- the first of numbered classes, and those after it
 pub numbered_parts : (k : Numbering) (n : ℕ) (ns : List ℕ) → AreNumbered k (n ∷ ns) → IsNumbered k n × AreNumbered k ns
 numbered_parts k n ns a = let b = recursion_from_All (IsNumbered k) (n ∷ ns) a in (b.0, All-from_recursion (IsNumbered k) ns b.1)
+
+-- the first of numbered classes, and those after it, put on parts
+pub first_parts : (k : Numbering) (ls ls1 ls2 : List Part) (cs : List ℕ) (n : ℕ) (others : Bor (List ℕ)) → cs ≡ n ∷ others.now → ls1 ≡ ls ++ parts.Rest others ∷ [] → ls2 ≡ ls1 ++ parts.Name n ∷ [] → AreNumbered k cs → AreParts k ls → AreParts k ls2
+first_parts k ls ls1 ls2 cs n others c e f a b =
+    let p = numbered_parts k n others.now (subst (AreNumbered k) c a) in
+    let one = subst (AreParts k) (sym e) (parts_pushed k ls (parts.Rest others) p.1 b) in
+    subst (AreParts k) (sym f) (parts_pushed k ls1 (parts.Name n) p.0 one)

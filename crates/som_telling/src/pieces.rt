@@ -19,7 +19,7 @@ pub(crate) enum Part<'a> {
 
 /// Puts a part in front of the rest.
 fn push_part<'a>(left: &mut Vec<Part<'a>>, part: Part<'a>) -> Result<(), AllocError>
-    ensures { OnOk result (left.new.items ≡ left.old.items ++ part ∷ []) }
+    ensures { OnOk result (left.new.items ≡ left.old.items ++ part.entry ∷ []) }
 {
     left.push(part)?;
     Ok(())

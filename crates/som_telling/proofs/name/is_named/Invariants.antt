@@ -6,13 +6,13 @@ use Rattle.som_model.specs.ClassNames.{class_name}
 use Rattle.som_telling.specs.Pieces.{AreParts, pieces_left}
 use Rattle.som_telling.proofs.name.is_named.Given as goal
 
-abbrev pub invariant-loop-piece : goal.invariant-loop-piece
-invariant-loop-piece g l =
+abbrev pub invariant-loop-left : goal.invariant-loop-left
+invariant-loop-left g l =
     let k = g.N.ClassKeys.known l.classes in
     record {
       same : bytes_eq l.name (class_name (key_at k l.fn.class)) ≡ bytes_eq l.rest (concat (pieces_left k l.left.items));
       parts : AreParts k l.left.items;
     }
 
-abbrev pub decreases-loop-piece : goal.decreases-loop-piece
-decreases-loop-piece g l = length (pieces_left (g.N.ClassKeys.known l.classes) l.left.items)
+abbrev pub decreases-loop-left : goal.decreases-loop-left
+decreases-loop-left g l = length (pieces_left (g.N.ClassKeys.known l.classes) l.left.items)

@@ -5,8 +5,8 @@ use Rattle.som_model.specs.ClassNames.{class_name}
 use Rattle.som_telling.specs.Pieces.{AreParts, pieces_left}
 use Rattle.som_telling.proofs.name.name_within.Given as goal
 
-abbrev pub invariant-loop-piece : goal.invariant-loop-piece
-invariant-loop-piece g l =
+abbrev pub invariant-loop-bytes : goal.invariant-loop-bytes
+invariant-loop-bytes g l =
     let k = g.N.ClassKeys.known l.classes in
     record {
       name : l.bytes.items ++ concat (pieces_left k l.left.items) ≡ class_name (key_at k l.fn.class);
@@ -14,5 +14,5 @@ invariant-loop-piece g l =
       few : length l.bytes.items ≤ l.most;
     }
 
-abbrev pub decreases-loop-piece : goal.decreases-loop-piece
-decreases-loop-piece g l = length (pieces_left (g.N.ClassKeys.known l.classes) l.left.items)
+abbrev pub decreases-loop-bytes : goal.decreases-loop-bytes
+decreases-loop-bytes g l = length (pieces_left (g.N.ClassKeys.known l.classes) l.left.items)
