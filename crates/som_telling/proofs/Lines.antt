@@ -32,11 +32,6 @@ pub whole : (old new : Option (List ℕ)) (t more : List ℕ) → ShowsAll old n
 whole None new t more p = tt
 whole (Some b) new t more p = (t, refl, p)
 
--- nothing is left
-pub all_of : (old new : Option (List ℕ)) (t : List ℕ) → Shows old new t [] → ShowsAll old new t
-all_of None new t p = tt
-all_of (Some b) new t p = p.2 ∙ ap (λ (x : List ℕ). Some (b ++ x)) (sym (append-nil p.0) ∙ p.1)
-
 -- the same for fronts
 pub front_onward : (first old new : Option (List ℕ)) (text t : List ℕ) → Shows first old text t → ShowsFront old new t → ShowsFront first new text
 front_onward first old new text t p q = (q.0, onward first old new text t q.0 p q.1)
@@ -54,11 +49,7 @@ pub piece_fronts : (first old new : Option (List ℕ)) (text waiting piece rest 
 piece_fronts first old new text waiting piece rest p q =
     front_onward first old new text (waiting ++ piece ++ rest) (subst (Shows first old text) (sym (append_assoc waiting piece rest)) p) (front_longer old new (waiting ++ piece) rest q)
 
--- what waits is written at the end
-
-pub ends_whole : (first old new : Option (List ℕ)) (text waiting : List ℕ) → Shows first old text (waiting ++ []) → ShowsAll old new waiting → ShowsAll first new text
-ends_whole first old new text waiting p q = all_of first new text (onward first old new text (waiting ++ []) [] p (whole old new waiting [] q))
-
+-- what waits is written at the end, or a front of it
 pub ends_front : (first old new : Option (List ℕ)) (text waiting : List ℕ) → Shows first old text (waiting ++ []) → ShowsFront old new waiting → ShowsFront first new text
 ends_front first old new text waiting p q = front_onward first old new text (waiting ++ []) p (front_longer old new waiting [] q)
 

@@ -32,9 +32,6 @@ list_some k ls ls1 ls2 cs n others c e f =
     ∙ sym (append_assoc (name_pieces (key_at k n)) (rest_pieces k others.now) (pieces_left k ls))
     ∙ ap (λ (x : List ℕ). list_pieces k x ++ pieces_left k ls) (sym c)
 
-pub rest_none : (k : Numbering) (ls : List Part) (cs : List ℕ) → length cs ≡ 0 → rest_pieces k cs ++ pieces_left k ls ≡ codes ")" ∷ pieces_left k ls
-rest_none k ls cs z = ap (λ (x : List ℕ). rest_pieces k x ++ pieces_left k ls) (nil_from_length cs z)
-
 pub rest_some : (k : Numbering) (ls ls1 ls2 : List Part) (cs : List ℕ) (n : ℕ) (others : Bor (List ℕ)) → cs ≡ n ∷ others.now → ls1 ≡ ls ++ parts.Rest others ∷ [] → ls2 ≡ ls1 ++ parts.Name n ∷ [] → rest_pieces k cs ++ pieces_left k ls ≡ codes "," ∷ pieces_left k ls2
 rest_some k ls ls1 ls2 cs n others c e f =
     ap (λ (x : List ℕ). rest_pieces k x ++ pieces_left k ls) c
@@ -60,10 +57,6 @@ proxy_next k ls ls1 ls2 key t e f g =
     ∙ ap (λ (x : List (List ℕ)). codes "Proxy(" ∷ x) (append_assoc (name_pieces (key_at k t)) (codes ")" ∷ []) (pieces_left k ls) ∙ sym (two_pushed k ls ls1 ls2 t parts.End f g))
 
 -- the part that is taken off
-
-pub none_left : (k : Numbering) (ls ls' : List Part) (n : ℕ) → ls ≡ ls' ++ [] → ls' ≡ take (n - 1) ls → n ≡ 0 → pieces_left k ls ≡ []
-none_left k ls ls' n e f z = ap (pieces_left k) (e ∙ append-nil ls' ∙ f ∙ ap (λ m. take (m - 1) ls) z)
-
 pub taken : (k : Numbering) (ls ls' : List Part) (p : Part) (pieces : List (List ℕ)) → ls ≡ ls' ++ p ∷ [] → part_pieces k p ++ pieces_left k ls' ≡ pieces → pieces_left k ls ≡ pieces
 taken k ls ls' p pieces e f = ap (pieces_left k) e ∙ pushed k ls' p ∙ f
 

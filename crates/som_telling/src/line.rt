@@ -1,6 +1,7 @@
 ghost use Rattle.som_io.specs.Outside.{Rose, Shows, ShowsAll, ShowsFront};
 ghost use Rattle.som_telling.specs.Pieces.{AreParts, part_pieces};
 ghost use Rattle.som_telling.specs.Told.{bytes_of};
+ghost use Rattle.som_telling.specs.declared.line.TheConstants.{MAX_WAITING};
 ghost use Rattle.som_telling.specs.declared.line.Untold.TheVariants as untold;
 ghost use Rattle.std.specs.List.{concat, flat_map};
 ghost use Rattle.std.specs.Prelude.{◌≡◌, ◌≢◌, ◌≤◌, ◌++◌, Err, OnOk, length};
@@ -66,7 +67,7 @@ pub(crate) fn send_all<K: Sink>(out: &mut K, bytes: &[u8]) -> Result<(), Untold>
 pub(crate) fn add<K: Sink>(out: &mut K, waiting: &mut Vec<u8>, piece: &[u8]) -> Result<(), Untold>
     ensures ok { OnOk result (Shows (K.written out.old) (K.written out.new) (waiting.old.items ++ piece.now) waiting.new.items) }
     ensures front { ShowsFront (K.written out.old) (K.written out.new) (waiting.old.items ++ piece.now) }
-    ensures few { length waiting.old.items ≤ 131072 → length waiting.new.items ≤ 131072 }
+    ensures few { length waiting.old.items ≤ MAX_WAITING → length waiting.new.items ≤ MAX_WAITING }
 
     ensures later { K.faults out.old ≤ K.faults out.new }
     ensures cause { result ≡ Err untold.SinkFailed → Rose (K.faults out.old) (K.faults out.new) }
