@@ -2,6 +2,7 @@
 
 ghost use Rattle.som_body.specs.Inner.{plain_statement as plain_statement_of};
 ghost use Rattle.som_body.specs.StatementReading as spec;
+ghost use Rattle.som_model.specs.declared.limits.TheConstants.{MAX_NESTING};
 ghost use Rattle.som_read.specs.Answer.{Answers};
 ghost use Rattle.som_read.specs.Readers.{keeping, one_more, repeated};
 ghost use Rattle.som_read.specs.Seen.{text_at};
@@ -49,7 +50,7 @@ fn next_statement(
     depth: usize,
     so_far: List<StmtText>,
 ) -> Result<Turn<List<StmtText>, List<StmtText>>, Stop>
-    requires { depth ≤ 32 }
+    requires { depth ≤ MAX_NESTING }
     ensures { Answers (one_more (is_sign sign.CloseBrace) (keeping (spec.statement_at (text_at tokens.now) depth)) so_far left.old.rest.now) result left.new.rest.now }
 {
     if left.sees(Sign::CloseBrace) {
@@ -69,7 +70,7 @@ fn statements(
     left: &mut Cursor<'_>,
     depth: usize,
 ) -> Result<List<StmtText>, Stop>
-    requires { depth ≤ 32 }
+    requires { depth ≤ MAX_NESTING }
     ensures { Answers (repeated (is_sign sign.CloseBrace) (keeping (spec.statement_at (text_at tokens.now) depth)) left.old.rest.now) result left.new.rest.now }
 {
     let mut so_far = List::new(alloc);
@@ -91,7 +92,7 @@ pub(crate) fn block(
     left: &mut Cursor<'_>,
     depth: usize,
 ) -> Result<BlockText, Stop>
-    requires { depth ≤ 32 }
+    requires { depth ≤ MAX_NESTING }
     ensures { Answers (spec.block (text_at tokens.now) (spec.statement_at (text_at tokens.now) depth) (spec.if_at (text_at tokens.now) depth) left.old.rest.now) result left.new.rest.now }
 {
     left.expect(Sign::OpenBrace)?;
@@ -109,7 +110,7 @@ fn while_statement(
     left: &mut Cursor<'_>,
     depth: usize,
 ) -> Result<StmtText, Stop>
-    requires { depth ≤ 32 }
+    requires { depth ≤ MAX_NESTING }
     ensures { Answers (spec.while_statement (text_at tokens.now) (spec.statement_at (text_at tokens.now) depth) (spec.if_at (text_at tokens.now) depth) depth left.old.rest.now) result left.new.rest.now }
 {
     left.expect(Sign::Open)?;
@@ -131,7 +132,7 @@ fn else_part(
     left: &mut Cursor<'_>,
     depth: usize,
 ) -> Result<BlockText, Stop>
-    requires { depth ≤ 32 }
+    requires { depth ≤ MAX_NESTING }
     ensures { Answers (spec.else_part (text_at tokens.now) (spec.statement_at (text_at tokens.now) depth) (spec.if_at (text_at tokens.now) depth) left.old.rest.now) result left.new.rest.now }
 {
     let mut statements = List::new(alloc);
@@ -155,7 +156,7 @@ fn if_statement(
     left: &mut Cursor<'_>,
     depth: usize,
 ) -> Result<StmtText, Stop>
-    requires { depth ≤ 32 }
+    requires { depth ≤ MAX_NESTING }
     ensures { Answers (spec.if_statement (text_at tokens.now) (spec.statement_at (text_at tokens.now) depth) (spec.if_at (text_at tokens.now) depth) depth left.old.rest.now) result left.new.rest.now }
 {
     left.keyword(Key::If)?;
@@ -178,7 +179,7 @@ fn plain_statement(
     left: &mut Cursor<'_>,
     depth: usize,
 ) -> Result<StmtText, Stop>
-    requires { depth ≤ 32 }
+    requires { depth ≤ MAX_NESTING }
     ensures { Answers (plain_statement_of (text_at tokens.now) depth left.old.rest.now) result left.new.rest.now }
 {
     if left.sees_word(Key::Return) {
@@ -212,7 +213,7 @@ fn statement(
     left: &mut Cursor<'_>,
     depth: usize,
 ) -> Result<StmtText, Stop>
-    requires { depth ≤ 32 }
+    requires { depth ≤ MAX_NESTING }
     ensures { Answers (spec.statement (text_at tokens.now) (spec.statement_at (text_at tokens.now) depth) (spec.if_at (text_at tokens.now) depth) depth left.old.rest.now) result left.new.rest.now }
 {
     if left.sees_word(Key::If) {
@@ -237,7 +238,7 @@ fn statement_at(
     left: &mut Cursor<'_>,
     depth: usize,
 ) -> Result<StmtText, Stop>
-    requires { depth ≤ 32 }
+    requires { depth ≤ MAX_NESTING }
     ensures { Answers (spec.statement_at (text_at tokens.now) depth left.old.rest.now) result left.new.rest.now }
 {
     if depth == 0 {
@@ -258,7 +259,7 @@ fn if_at(
     left: &mut Cursor<'_>,
     depth: usize,
 ) -> Result<StmtText, Stop>
-    requires { depth ≤ 32 }
+    requires { depth ≤ MAX_NESTING }
     ensures { Answers (spec.if_at (text_at tokens.now) depth left.old.rest.now) result left.new.rest.now }
 {
     if depth == 0 {

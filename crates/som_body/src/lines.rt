@@ -2,6 +2,7 @@
 
 ghost use Rattle.som_body.specs.Inner.{Reads, IsLow, operators_of, operand_of};
 ghost use Rattle.som_body.specs.Reading as spec;
+ghost use Rattle.som_model.specs.declared.limits.TheConstants.{MAX_NESTING};
 ghost use Rattle.som_read.specs.Answer.{Answers};
 ghost use Rattle.som_read.specs.Readers.{repeat};
 ghost use Rattle.som_read.specs.Seen.{text_at};
@@ -39,7 +40,7 @@ fn changed(alloc: Global, op: u8, operand: Tall) -> Result<Tall, NoMemory>
 
 impl<'t, F: Fn(Global, &Tokens, &mut Cursor<'_>, usize, Line) -> Result<Tall, Stop>> Rules<'t, F> {
     fn next_cast(&self, left: &mut Cursor<'_>, so_far: Tall) -> Result<Turn<Tall, Tall>, Stop>
-        requires depth { self.now.depth ≤ 32 }
+        requires depth { self.now.depth ≤ MAX_NESTING }
         requires low { so_far.height ≤ self.now.depth + 1 }
         ensures reads { Answers (spec.cast_step (text_at self.now.tokens.now) (spec.at (text_at self.now.tokens.now) self.now.depth) (self.now.depth + 1) so_far left.old.rest.now) result left.new.rest.now }
         ensures low { IfOk result (IsLow (self.now.depth + 1)) }
@@ -60,7 +61,7 @@ impl<'t, F: Fn(Global, &Tokens, &mut Cursor<'_>, usize, Line) -> Result<Tall, St
     #[tactic(auto, unfolding(crate::specs::Reading::cast, som_read::specs::Readers::repeat))]
     fn cast(&self, left: &mut Cursor<'_>) -> Result<Tall, Stop>
         requires inner { Reads self.now.tokens.now self.now.depth (F.pre self.now.inner) (F.post self.now.inner) }
-        requires depth { self.now.depth ≤ 32 }
+        requires depth { self.now.depth ≤ MAX_NESTING }
         ensures reads { Answers (spec.cast (text_at self.now.tokens.now) (spec.at (text_at self.now.tokens.now) self.now.depth) (self.now.depth + 1) left.old.rest.now) result left.new.rest.now }
         ensures low { IfOk result (λ a. a.height ≤ self.now.depth + 1) }
     {
@@ -77,7 +78,7 @@ impl<'t, F: Fn(Global, &Tokens, &mut Cursor<'_>, usize, Line) -> Result<Tall, St
     #[tactic(auto, unfolding(crate::specs::Reading::unary))]
     fn unary(&self, left: &mut Cursor<'_>) -> Result<Tall, Stop>
         requires inner { Reads self.now.tokens.now self.now.depth (F.pre self.now.inner) (F.post self.now.inner) }
-        requires depth { self.now.depth ≤ 32 }
+        requires depth { self.now.depth ≤ MAX_NESTING }
         ensures reads { Answers (spec.unary (text_at self.now.tokens.now) (spec.at (text_at self.now.tokens.now) self.now.depth) (self.now.depth + 1) left.old.rest.now) result left.new.rest.now }
         ensures low { IfOk result (λ a. a.height ≤ self.now.depth + 1) }
     {
@@ -97,7 +98,7 @@ impl<'t, F: Fn(Global, &Tokens, &mut Cursor<'_>, usize, Line) -> Result<Tall, St
         so_far: Tall,
     ) -> Result<Turn<Tall, Tall>, Stop>
         requires inner { Reads self.now.tokens.now self.now.depth (F.pre self.now.inner) (F.post self.now.inner) }
-        requires depth { self.now.depth ≤ 32 }
+        requires depth { self.now.depth ≤ MAX_NESTING }
         requires low { so_far.height ≤ self.now.depth + 1 }
         ensures reads { Answers (spec.operation (text_at self.now.tokens.now) (spec.at (text_at self.now.tokens.now) self.now.depth) (operators_of line) (operand_of line) (self.now.depth + 1) so_far left.old.rest.now) result left.new.rest.now }
         ensures low { IfOk result (IsLow (self.now.depth + 1)) }
@@ -118,7 +119,7 @@ impl<'t, F: Fn(Global, &Tokens, &mut Cursor<'_>, usize, Line) -> Result<Tall, St
     #[tactic(auto, unfolding(som_read::specs::Readers::repeat))]
     fn operations(&self, left: &mut Cursor<'_>, line: Line, first: Tall) -> Result<Tall, Stop>
         requires inner { Reads self.now.tokens.now self.now.depth (F.pre self.now.inner) (F.post self.now.inner) }
-        requires depth { self.now.depth ≤ 32 }
+        requires depth { self.now.depth ≤ MAX_NESTING }
         requires low { first.height ≤ self.now.depth + 1 }
         ensures reads { Answers (repeat (spec.operation (text_at self.now.tokens.now) (spec.at (text_at self.now.tokens.now) self.now.depth) (operators_of line) (operand_of line) (self.now.depth + 1)) first left.old.rest.now) result left.new.rest.now }
         ensures low { IfOk result (λ a. a.height ≤ self.now.depth + 1) }
@@ -136,7 +137,7 @@ impl<'t, F: Fn(Global, &Tokens, &mut Cursor<'_>, usize, Line) -> Result<Tall, St
     #[tactic(auto, unfolding(crate::specs::Reading::prod))]
     fn prod(&self, left: &mut Cursor<'_>) -> Result<Tall, Stop>
         requires inner { Reads self.now.tokens.now self.now.depth (F.pre self.now.inner) (F.post self.now.inner) }
-        requires depth { self.now.depth ≤ 32 }
+        requires depth { self.now.depth ≤ MAX_NESTING }
         ensures reads { Answers (spec.prod (text_at self.now.tokens.now) (spec.at (text_at self.now.tokens.now) self.now.depth) (self.now.depth + 1) left.old.rest.now) result left.new.rest.now }
         ensures low { IfOk result (λ a. a.height ≤ self.now.depth + 1) }
     {
@@ -147,7 +148,7 @@ impl<'t, F: Fn(Global, &Tokens, &mut Cursor<'_>, usize, Line) -> Result<Tall, St
     #[tactic(auto, unfolding(crate::specs::Reading::sum))]
     fn sum(&self, left: &mut Cursor<'_>) -> Result<Tall, Stop>
         requires inner { Reads self.now.tokens.now self.now.depth (F.pre self.now.inner) (F.post self.now.inner) }
-        requires depth { self.now.depth ≤ 32 }
+        requires depth { self.now.depth ≤ MAX_NESTING }
         ensures reads { Answers (spec.sum (text_at self.now.tokens.now) (spec.at (text_at self.now.tokens.now) self.now.depth) (self.now.depth + 1) left.old.rest.now) result left.new.rest.now }
         ensures low { IfOk result (λ a. a.height ≤ self.now.depth + 1) }
     {
@@ -158,7 +159,7 @@ impl<'t, F: Fn(Global, &Tokens, &mut Cursor<'_>, usize, Line) -> Result<Tall, St
     // At most one comparison.
     fn compared(&self, left: &mut Cursor<'_>, first: Tall) -> Result<Tall, Stop>
         requires inner { Reads self.now.tokens.now self.now.depth (F.pre self.now.inner) (F.post self.now.inner) }
-        requires depth { self.now.depth ≤ 32 }
+        requires depth { self.now.depth ≤ MAX_NESTING }
         requires low { first.height ≤ self.now.depth + 1 }
         ensures reads { Answers (spec.compared (text_at self.now.tokens.now) (spec.at (text_at self.now.tokens.now) self.now.depth) (self.now.depth + 1) first left.old.rest.now) result left.new.rest.now }
         ensures low { IfOk result (λ a. a.height ≤ self.now.depth + 1) }
@@ -178,7 +179,7 @@ impl<'t, F: Fn(Global, &Tokens, &mut Cursor<'_>, usize, Line) -> Result<Tall, St
     #[tactic(auto, unfolding(crate::specs::Reading::cmp))]
     fn cmp(&self, left: &mut Cursor<'_>) -> Result<Tall, Stop>
         requires inner { Reads self.now.tokens.now self.now.depth (F.pre self.now.inner) (F.post self.now.inner) }
-        requires depth { self.now.depth ≤ 32 }
+        requires depth { self.now.depth ≤ MAX_NESTING }
         ensures reads { Answers (spec.cmp (text_at self.now.tokens.now) (spec.at (text_at self.now.tokens.now) self.now.depth) (self.now.depth + 1) left.old.rest.now) result left.new.rest.now }
         ensures low { IfOk result (λ a. a.height ≤ self.now.depth + 1) }
     {
@@ -189,7 +190,7 @@ impl<'t, F: Fn(Global, &Tokens, &mut Cursor<'_>, usize, Line) -> Result<Tall, St
     #[tactic(auto, unfolding(crate::specs::Reading::neg))]
     fn neg(&self, left: &mut Cursor<'_>) -> Result<Tall, Stop>
         requires inner { Reads self.now.tokens.now self.now.depth (F.pre self.now.inner) (F.post self.now.inner) }
-        requires depth { self.now.depth ≤ 32 }
+        requires depth { self.now.depth ≤ MAX_NESTING }
         ensures reads { Answers (spec.neg (text_at self.now.tokens.now) (spec.at (text_at self.now.tokens.now) self.now.depth) (self.now.depth + 1) left.old.rest.now) result left.new.rest.now }
         ensures low { IfOk result (λ a. a.height ≤ self.now.depth + 1) }
     {
@@ -205,7 +206,7 @@ impl<'t, F: Fn(Global, &Tokens, &mut Cursor<'_>, usize, Line) -> Result<Tall, St
     #[tactic(auto, unfolding(crate::specs::Reading::conj))]
     fn conj(&self, left: &mut Cursor<'_>) -> Result<Tall, Stop>
         requires inner { Reads self.now.tokens.now self.now.depth (F.pre self.now.inner) (F.post self.now.inner) }
-        requires depth { self.now.depth ≤ 32 }
+        requires depth { self.now.depth ≤ MAX_NESTING }
         ensures reads { Answers (spec.conj (text_at self.now.tokens.now) (spec.at (text_at self.now.tokens.now) self.now.depth) (self.now.depth + 1) left.old.rest.now) result left.new.rest.now }
         ensures low { IfOk result (λ a. a.height ≤ self.now.depth + 1) }
     {
@@ -216,7 +217,7 @@ impl<'t, F: Fn(Global, &Tokens, &mut Cursor<'_>, usize, Line) -> Result<Tall, St
     #[tactic(auto, unfolding(crate::specs::Reading::expression))]
     fn expression(&self, left: &mut Cursor<'_>) -> Result<Tall, Stop>
         requires inner { Reads self.now.tokens.now self.now.depth (F.pre self.now.inner) (F.post self.now.inner) }
-        requires depth { self.now.depth ≤ 32 }
+        requires depth { self.now.depth ≤ MAX_NESTING }
         ensures reads { Answers (spec.expression (text_at self.now.tokens.now) (spec.at (text_at self.now.tokens.now) self.now.depth) (self.now.depth + 1) left.old.rest.now) result left.new.rest.now }
         ensures low { IfOk result (λ a. a.height ≤ self.now.depth + 1) }
     {
@@ -226,7 +227,7 @@ impl<'t, F: Fn(Global, &Tokens, &mut Cursor<'_>, usize, Line) -> Result<Tall, St
 
     fn read(&self, left: &mut Cursor<'_>, line: Line) -> Result<Tall, Stop>
         requires inner { Reads self.now.tokens.now self.now.depth (F.pre self.now.inner) (F.post self.now.inner) }
-        requires depth { self.now.depth ≤ 32 }
+        requires depth { self.now.depth ≤ MAX_NESTING }
         ensures reads { Answers (spec.read (text_at self.now.tokens.now) (spec.at (text_at self.now.tokens.now) self.now.depth) (self.now.depth + 1) line left.old.rest.now) result left.new.rest.now }
         ensures low { IfOk result (λ a. a.height ≤ self.now.depth + 1) }
     {
@@ -253,7 +254,7 @@ pub(crate) fn line_at(
     depth: usize,
     line: Line,
 ) -> Result<Tall, Stop>
-    requires depth { depth ≤ 32 }
+    requires depth { depth ≤ MAX_NESTING }
     ensures reads { Answers (spec.at (text_at tokens.now) depth line left.old.rest.now) result left.new.rest.now }
     ensures low { IfOk result (λ a. a.height ≤ depth) }
 {

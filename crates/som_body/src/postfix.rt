@@ -2,6 +2,7 @@
 
 ghost use Rattle.som_body.specs.Inner.{Reads, IsLow, IsLowCall};
 ghost use Rattle.som_body.specs.Reading as spec;
+ghost use Rattle.som_model.specs.declared.limits.TheConstants.{MAX_NESTING};
 ghost use Rattle.som_read.specs.Answer.{Answers};
 ghost use Rattle.som_read.specs.Readers.{repeat};
 ghost use Rattle.som_read.specs.Seen.{text_at};
@@ -41,7 +42,7 @@ fn named_height(call: &NamedCall) -> usize
 impl<'t, F: Fn(Global, &Tokens, &mut Cursor<'_>, usize, Line) -> Result<Tall, Stop>> Rules<'t, F> {
     fn step(&self, left: &mut Cursor<'_>, so_far: Tall) -> Result<Turn<Tall, Tall>, Stop>
         requires inner { Reads self.now.tokens.now self.now.depth (F.pre self.now.inner) (F.post self.now.inner) }
-        requires depth { self.now.depth ≤ 32 }
+        requires depth { self.now.depth ≤ MAX_NESTING }
         requires low { so_far.height ≤ self.now.depth + 1 }
         ensures reads { Answers (spec.step (text_at self.now.tokens.now) (spec.at (text_at self.now.tokens.now) self.now.depth) (self.now.depth + 1) so_far left.old.rest.now) result left.new.rest.now }
         ensures low { IfOk result (IsLow (self.now.depth + 1)) }
@@ -63,7 +64,7 @@ impl<'t, F: Fn(Global, &Tokens, &mut Cursor<'_>, usize, Line) -> Result<Tall, St
     #[tactic(auto, unfolding(som_read::specs::Readers::repeat))]
     pub(crate) fn steps(&self, left: &mut Cursor<'_>, first: Tall) -> Result<Tall, Stop>
         requires inner { Reads self.now.tokens.now self.now.depth (F.pre self.now.inner) (F.post self.now.inner) }
-        requires depth { self.now.depth ≤ 32 }
+        requires depth { self.now.depth ≤ MAX_NESTING }
         requires low { first.height ≤ self.now.depth + 1 }
         ensures reads { Answers (repeat (spec.step (text_at self.now.tokens.now) (spec.at (text_at self.now.tokens.now) self.now.depth) (self.now.depth + 1)) first left.old.rest.now) result left.new.rest.now }
         ensures low { IfOk result (λ a. a.height ≤ self.now.depth + 1) }
@@ -81,7 +82,7 @@ impl<'t, F: Fn(Global, &Tokens, &mut Cursor<'_>, usize, Line) -> Result<Tall, St
     #[tactic(auto, unfolding(crate::specs::Reading::stepped))]
     fn stepped(&self, left: &mut Cursor<'_>) -> Result<Tall, Stop>
         requires inner { Reads self.now.tokens.now self.now.depth (F.pre self.now.inner) (F.post self.now.inner) }
-        requires depth { self.now.depth ≤ 32 }
+        requires depth { self.now.depth ≤ MAX_NESTING }
         ensures reads { Answers (spec.stepped (text_at self.now.tokens.now) (spec.at (text_at self.now.tokens.now) self.now.depth) (self.now.depth + 1) left.old.rest.now) result left.new.rest.now }
         ensures low { IfOk result (λ a. a.height ≤ self.now.depth + 1) }
     {
@@ -96,7 +97,7 @@ impl<'t, F: Fn(Global, &Tokens, &mut Cursor<'_>, usize, Line) -> Result<Tall, St
         so_far: NamedCall,
     ) -> Result<Turn<NamedCall, NamedCall>, Stop>
         requires inner { Reads self.now.tokens.now self.now.depth (F.pre self.now.inner) (F.post self.now.inner) }
-        requires depth { self.now.depth ≤ 32 }
+        requires depth { self.now.depth ≤ MAX_NESTING }
         requires low { spec.named_height so_far ≤ self.now.depth + 1 }
         ensures reads { Answers (spec.named_step (text_at self.now.tokens.now) (spec.at (text_at self.now.tokens.now) self.now.depth) (self.now.depth + 1) so_far left.old.rest.now) result left.new.rest.now }
         ensures low { IfOk result (IsLowCall (self.now.depth + 1)) }
@@ -121,7 +122,7 @@ impl<'t, F: Fn(Global, &Tokens, &mut Cursor<'_>, usize, Line) -> Result<Tall, St
     #[tactic(auto, unfolding(som_read::specs::Readers::repeat))]
     fn named_steps(&self, left: &mut Cursor<'_>, first: NamedCall) -> Result<NamedCall, Stop>
         requires inner { Reads self.now.tokens.now self.now.depth (F.pre self.now.inner) (F.post self.now.inner) }
-        requires depth { self.now.depth ≤ 32 }
+        requires depth { self.now.depth ≤ MAX_NESTING }
         requires low { spec.named_height first ≤ self.now.depth + 1 }
         ensures reads { Answers (repeat (spec.named_step (text_at self.now.tokens.now) (spec.at (text_at self.now.tokens.now) self.now.depth) (self.now.depth + 1)) first left.old.rest.now) result left.new.rest.now }
         ensures low { IfOk result (λ s. spec.named_height s ≤ self.now.depth + 1) }
@@ -140,7 +141,7 @@ impl<'t, F: Fn(Global, &Tokens, &mut Cursor<'_>, usize, Line) -> Result<Tall, St
     #[tactic(auto, unfolding(crate::specs::Reading::call_by_name))]
     fn call_by_name(&self, left: &mut Cursor<'_>) -> Result<NamedCall, Stop>
         requires inner { Reads self.now.tokens.now self.now.depth (F.pre self.now.inner) (F.post self.now.inner) }
-        requires depth { self.now.depth ≤ 32 }
+        requires depth { self.now.depth ≤ MAX_NESTING }
         ensures reads { Answers (spec.call_by_name (text_at self.now.tokens.now) (spec.at (text_at self.now.tokens.now) self.now.depth) (self.now.depth + 1) left.old.rest.now) result left.new.rest.now }
         ensures low { IfOk result (λ s. spec.named_height s ≤ self.now.depth + 1) }
     {
@@ -162,7 +163,7 @@ impl<'t, F: Fn(Global, &Tokens, &mut Cursor<'_>, usize, Line) -> Result<Tall, St
     #[tactic(auto, unfolding(crate::specs::Reading::lookup))]
     fn lookup(&self, left: &mut Cursor<'_>) -> Result<Tall, Stop>
         requires inner { Reads self.now.tokens.now self.now.depth (F.pre self.now.inner) (F.post self.now.inner) }
-        requires depth { self.now.depth ≤ 32 }
+        requires depth { self.now.depth ≤ MAX_NESTING }
         ensures reads { Answers (spec.lookup (text_at self.now.tokens.now) (spec.at (text_at self.now.tokens.now) self.now.depth) (self.now.depth + 1) left.old.rest.now) result left.new.rest.now }
         ensures low { IfOk result (λ a. a.height ≤ self.now.depth + 1) }
     {
@@ -183,7 +184,7 @@ impl<'t, F: Fn(Global, &Tokens, &mut Cursor<'_>, usize, Line) -> Result<Tall, St
     #[tactic(auto, unfolding(crate::specs::Reading::dispatch))]
     fn dispatch(&self, left: &mut Cursor<'_>) -> Result<Tall, Stop>
         requires inner { Reads self.now.tokens.now self.now.depth (F.pre self.now.inner) (F.post self.now.inner) }
-        requires depth { self.now.depth ≤ 32 }
+        requires depth { self.now.depth ≤ MAX_NESTING }
         ensures reads { Answers (spec.dispatch (text_at self.now.tokens.now) (spec.at (text_at self.now.tokens.now) self.now.depth) (self.now.depth + 1) left.old.rest.now) result left.new.rest.now }
         ensures low { IfOk result (λ a. a.height ≤ self.now.depth + 1) }
     {
@@ -203,7 +204,7 @@ impl<'t, F: Fn(Global, &Tokens, &mut Cursor<'_>, usize, Line) -> Result<Tall, St
     #[tactic(auto, unfolding(crate::specs::Reading::postfix))]
     pub(crate) fn postfix(&self, left: &mut Cursor<'_>) -> Result<Tall, Stop>
         requires inner { Reads self.now.tokens.now self.now.depth (F.pre self.now.inner) (F.post self.now.inner) }
-        requires depth { self.now.depth ≤ 32 }
+        requires depth { self.now.depth ≤ MAX_NESTING }
         ensures reads { Answers (spec.postfix (text_at self.now.tokens.now) (spec.at (text_at self.now.tokens.now) self.now.depth) (self.now.depth + 1) left.old.rest.now) result left.new.rest.now }
         ensures low { IfOk result (λ a. a.height ≤ self.now.depth + 1) }
     {

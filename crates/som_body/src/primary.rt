@@ -2,6 +2,7 @@
 
 ghost use Rattle.som_body.specs.Inner.{Reads};
 ghost use Rattle.som_body.specs.Reading as spec;
+ghost use Rattle.som_model.specs.declared.limits.TheConstants.{MAX_NESTING};
 ghost use Rattle.som_read.specs.Answer.{Answers};
 ghost use Rattle.som_read.specs.Seen.{text_at};
 ghost use Rattle.std.specs.Prelude.{◌≡◌, ◌≤◌, ◌+◌, max, IfOk};
@@ -43,7 +44,7 @@ impl<'t, F: Fn(Global, &Tokens, &mut Cursor<'_>, usize, Line) -> Result<Tall, St
     #[tactic(auto, unfolding(crate::specs::Reading::grouped))]
     fn grouped(&self, left: &mut Cursor<'_>) -> Result<Tall, Stop>
         requires inner { Reads self.now.tokens.now self.now.depth (F.pre self.now.inner) (F.post self.now.inner) }
-        requires depth { self.now.depth ≤ 32 }
+        requires depth { self.now.depth ≤ MAX_NESTING }
         ensures reads { Answers (spec.grouped (text_at self.now.tokens.now) (spec.at (text_at self.now.tokens.now) self.now.depth) left.old.rest.now) result left.new.rest.now }
         ensures low { IfOk result (λ a. a.height ≤ self.now.depth + 1) }
     {
@@ -59,7 +60,7 @@ impl<'t, F: Fn(Global, &Tokens, &mut Cursor<'_>, usize, Line) -> Result<Tall, St
     #[tactic(auto, unfolding(crate::specs::Reading::measured))]
     fn measured(&self, left: &mut Cursor<'_>, op: u8) -> Result<Tall, Stop>
         requires inner { Reads self.now.tokens.now self.now.depth (F.pre self.now.inner) (F.post self.now.inner) }
-        requires depth { self.now.depth ≤ 32 }
+        requires depth { self.now.depth ≤ MAX_NESTING }
         ensures reads { Answers (spec.measured (text_at self.now.tokens.now) (spec.at (text_at self.now.tokens.now) self.now.depth) op left.old.rest.now) result left.new.rest.now }
         ensures low { IfOk result (λ a. a.height ≤ self.now.depth + 1) }
     {
@@ -93,7 +94,7 @@ impl<'t, F: Fn(Global, &Tokens, &mut Cursor<'_>, usize, Line) -> Result<Tall, St
     #[tactic(auto, unfolding(crate::specs::Reading::isa))]
     fn isa(&self, left: &mut Cursor<'_>) -> Result<Tall, Stop>
         requires inner { Reads self.now.tokens.now self.now.depth (F.pre self.now.inner) (F.post self.now.inner) }
-        requires depth { self.now.depth ≤ 32 }
+        requires depth { self.now.depth ≤ MAX_NESTING }
         ensures reads { Answers (spec.isa (text_at self.now.tokens.now) (spec.at (text_at self.now.tokens.now) self.now.depth) left.old.rest.now) result left.new.rest.now }
         ensures low { IfOk result (λ a. a.height ≤ self.now.depth + 1) }
     {
@@ -109,7 +110,7 @@ impl<'t, F: Fn(Global, &Tokens, &mut Cursor<'_>, usize, Line) -> Result<Tall, St
     #[tactic(auto, unfolding(crate::specs::Reading::proxy))]
     fn proxy(&self, left: &mut Cursor<'_>) -> Result<Tall, Stop>
         requires inner { Reads self.now.tokens.now self.now.depth (F.pre self.now.inner) (F.post self.now.inner) }
-        requires depth { self.now.depth ≤ 32 }
+        requires depth { self.now.depth ≤ MAX_NESTING }
         ensures reads { Answers (spec.proxy (text_at self.now.tokens.now) (spec.at (text_at self.now.tokens.now) self.now.depth) left.old.rest.now) result left.new.rest.now }
         ensures low { IfOk result (λ a. a.height ≤ self.now.depth + 1) }
     {
@@ -125,7 +126,7 @@ impl<'t, F: Fn(Global, &Tokens, &mut Cursor<'_>, usize, Line) -> Result<Tall, St
     #[tactic(auto, unfolding(crate::specs::Reading::host_call))]
     fn host_call(&self, left: &mut Cursor<'_>) -> Result<Tall, Stop>
         requires inner { Reads self.now.tokens.now self.now.depth (F.pre self.now.inner) (F.post self.now.inner) }
-        requires depth { self.now.depth ≤ 32 }
+        requires depth { self.now.depth ≤ MAX_NESTING }
         ensures reads { Answers (spec.host_call (text_at self.now.tokens.now) (spec.at (text_at self.now.tokens.now) self.now.depth) left.old.rest.now) result left.new.rest.now }
         ensures low { IfOk result (λ a. a.height ≤ self.now.depth + 1) }
     {
@@ -142,7 +143,7 @@ impl<'t, F: Fn(Global, &Tokens, &mut Cursor<'_>, usize, Line) -> Result<Tall, St
     #[tactic(auto, unfolding(crate::specs::Reading::parent_call))]
     fn parent_call(&self, left: &mut Cursor<'_>) -> Result<Tall, Stop>
         requires inner { Reads self.now.tokens.now self.now.depth (F.pre self.now.inner) (F.post self.now.inner) }
-        requires depth { self.now.depth ≤ 32 }
+        requires depth { self.now.depth ≤ MAX_NESTING }
         ensures reads { Answers (spec.parent_call (text_at self.now.tokens.now) (spec.at (text_at self.now.tokens.now) self.now.depth) left.old.rest.now) result left.new.rest.now }
         ensures low { IfOk result (λ a. a.height ≤ self.now.depth + 1) }
     {
@@ -162,7 +163,7 @@ impl<'t, F: Fn(Global, &Tokens, &mut Cursor<'_>, usize, Line) -> Result<Tall, St
     #[tactic(auto, unfolding(crate::specs::Reading::parents_call))]
     fn parents_call(&self, left: &mut Cursor<'_>) -> Result<Tall, Stop>
         requires inner { Reads self.now.tokens.now self.now.depth (F.pre self.now.inner) (F.post self.now.inner) }
-        requires depth { self.now.depth ≤ 32 }
+        requires depth { self.now.depth ≤ MAX_NESTING }
         ensures reads { Answers (spec.parents_call (text_at self.now.tokens.now) (spec.at (text_at self.now.tokens.now) self.now.depth) left.old.rest.now) result left.new.rest.now }
         ensures low { IfOk result (λ a. a.height ≤ self.now.depth + 1) }
     {
@@ -177,7 +178,7 @@ impl<'t, F: Fn(Global, &Tokens, &mut Cursor<'_>, usize, Line) -> Result<Tall, St
     #[tactic(auto, unfolding(crate::specs::Reading::form))]
     fn form(&self, left: &mut Cursor<'_>) -> Result<Tall, Stop>
         requires inner { Reads self.now.tokens.now self.now.depth (F.pre self.now.inner) (F.post self.now.inner) }
-        requires depth { self.now.depth ≤ 32 }
+        requires depth { self.now.depth ≤ MAX_NESTING }
         ensures reads { Answers (spec.form (text_at self.now.tokens.now) (spec.at (text_at self.now.tokens.now) self.now.depth) left.old.rest.now) result left.new.rest.now }
         ensures low { IfOk result (λ a. a.height ≤ self.now.depth + 1) }
     {
@@ -207,7 +208,7 @@ impl<'t, F: Fn(Global, &Tokens, &mut Cursor<'_>, usize, Line) -> Result<Tall, St
     #[tactic(auto, unfolding(crate::specs::Reading::compound))]
     fn compound(&self, left: &mut Cursor<'_>) -> Result<Tall, Stop>
         requires inner { Reads self.now.tokens.now self.now.depth (F.pre self.now.inner) (F.post self.now.inner) }
-        requires depth { self.now.depth ≤ 32 }
+        requires depth { self.now.depth ≤ MAX_NESTING }
         ensures reads { Answers (spec.compound (text_at self.now.tokens.now) (spec.at (text_at self.now.tokens.now) self.now.depth) left.old.rest.now) result left.new.rest.now }
         ensures low { IfOk result (λ a. a.height ≤ self.now.depth + 1) }
     {
@@ -241,7 +242,7 @@ impl<'t, F: Fn(Global, &Tokens, &mut Cursor<'_>, usize, Line) -> Result<Tall, St
     #[tactic(auto, unfolding(crate::specs::Reading::primary))]
     pub(crate) fn primary(&self, left: &mut Cursor<'_>) -> Result<Tall, Stop>
         requires inner { Reads self.now.tokens.now self.now.depth (F.pre self.now.inner) (F.post self.now.inner) }
-        requires depth { self.now.depth ≤ 32 }
+        requires depth { self.now.depth ≤ MAX_NESTING }
         ensures reads { Answers (spec.primary (text_at self.now.tokens.now) (spec.at (text_at self.now.tokens.now) self.now.depth) left.old.rest.now) result left.new.rest.now }
         ensures low { IfOk result (λ a. a.height ≤ self.now.depth + 1) }
     {

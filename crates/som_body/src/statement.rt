@@ -4,6 +4,7 @@ ghost use Rattle.som_body.specs.Inner.{own_rest as own_rest_of};
 ghost use Rattle.som_body.specs.Reading as expression;
 ghost use Rattle.som_body.specs.StatementReading as spec;
 ghost use Rattle.som_body.specs.Statements.{is_call as is_call_of};
+ghost use Rattle.som_model.specs.declared.limits.TheConstants.{MAX_NESTING};
 ghost use Rattle.som_read.specs.Answer.{Answers};
 ghost use Rattle.som_read.specs.Seen.{text_at};
 ghost use Rattle.std.specs.Prelude.{◌≡◌, ◌≤◌, ◌+◌};
@@ -52,7 +53,7 @@ fn steps_from(
     depth: usize,
     tree: ExprText,
 ) -> Result<Tall, Stop>
-    requires { depth ≤ 32 }
+    requires { depth ≤ MAX_NESTING }
     ensures { Answers (spec.steps_from (text_at tokens.now) depth (expression.tall tree 1) left.old.rest.now) result left.new.rest.now }
 {
     let first = Tall::new(alloc, tree, 1)?;
@@ -80,7 +81,7 @@ pub(crate) fn variable(
     left: &mut Cursor<'_>,
     depth: usize,
 ) -> Result<StmtText, Stop>
-    requires { depth ≤ 32 }
+    requires { depth ≤ MAX_NESTING }
     ensures { Answers (spec.variable (text_at tokens.now) depth left.old.rest.now) result left.new.rest.now }
 {
     let name = name(alloc, tokens, left)?;
@@ -104,7 +105,7 @@ pub(crate) fn named(
     left: &mut Cursor<'_>,
     depth: usize,
 ) -> Result<StmtText, Stop>
-    requires { depth ≤ 32 }
+    requires { depth ≤ MAX_NESTING }
     ensures { Answers (spec.named_statement (text_at tokens.now) depth left.old.rest.now) result left.new.rest.now }
 {
     let name = name(alloc, tokens, left)?;
@@ -130,7 +131,7 @@ fn own_rest(
     depth: usize,
     name: Word,
 ) -> Result<StmtText, Stop>
-    requires { depth ≤ 32 }
+    requires { depth ≤ MAX_NESTING }
     ensures { Answers (own_rest_of (text_at tokens.now) depth name left.old.rest.now) result left.new.rest.now }
 {
     if !left.sees(Sign::Assign) {
@@ -154,7 +155,7 @@ pub(crate) fn own(
     left: &mut Cursor<'_>,
     depth: usize,
 ) -> Result<StmtText, Stop>
-    requires { depth ≤ 32 }
+    requires { depth ≤ MAX_NESTING }
     ensures { Answers (spec.own_statement (text_at tokens.now) depth left.old.rest.now) result left.new.rest.now }
 {
     left.expect(Sign::Dot)?;
@@ -170,7 +171,7 @@ pub(crate) fn returned(
     left: &mut Cursor<'_>,
     depth: usize,
 ) -> Result<StmtText, Stop>
-    requires { depth ≤ 32 }
+    requires { depth ≤ MAX_NESTING }
     ensures { Answers (spec.returned (text_at tokens.now) depth left.old.rest.now) result left.new.rest.now }
 {
     if left.sees(Sign::Semicolon) {
@@ -192,7 +193,7 @@ pub(crate) fn printed(
     left: &mut Cursor<'_>,
     depth: usize,
 ) -> Result<StmtText, Stop>
-    requires { depth ≤ 32 }
+    requires { depth ≤ MAX_NESTING }
     ensures { Answers (spec.ending (text_at tokens.now) depth (λ a. StmtText.Print a) left.old.rest.now) result left.new.rest.now }
 {
     let value = line_at(alloc, tokens, left, depth, Line::Expr)?;
@@ -210,7 +211,7 @@ pub(crate) fn freed(
     left: &mut Cursor<'_>,
     depth: usize,
 ) -> Result<StmtText, Stop>
-    requires { depth ≤ 32 }
+    requires { depth ≤ MAX_NESTING }
     ensures { Answers (spec.ending (text_at tokens.now) depth (λ a. StmtText.Free a) left.old.rest.now) result left.new.rest.now }
 {
     let value = line_at(alloc, tokens, left, depth, Line::Expr)?;
@@ -228,7 +229,7 @@ pub(crate) fn call(
     left: &mut Cursor<'_>,
     depth: usize,
 ) -> Result<StmtText, Stop>
-    requires { depth ≤ 32 }
+    requires { depth ≤ MAX_NESTING }
     ensures { Answers (spec.call_statement (text_at tokens.now) depth left.old.rest.now) result left.new.rest.now }
 {
     let whole = line_at(alloc, tokens, left, depth, Line::Postfix)?;

@@ -1,19 +1,16 @@
 -- What is written one after the other, and jumps that are written back, are the code of a form.
-use Rattle.std.proofs.Common.{◌≡◌, ◌+◌, ℕ, List, [], ◌∷◌, ◌++◌, map, length, Result, Ok, Err, OnOk, true, false, refl, sym, ap, ◌∙◌, arith, length-append, append_assoc}
+use Rattle.std.proofs.Common.{◌≡◌, ◌+◌, ℕ, List, [], ◌∷◌, ◌++◌, length, Result, Ok, Err, OnOk, true, false, refl, sym, ap, ◌∙◌, arith, length-append, append_assoc}
 use Rattle.std.specs.Prelude.{slice_set}
-use Rattle.std.proofs.lemmas.List.{length-map}
 use Rattle.std.proofs.Math.Seq.{set-append_seam}
-use Rattle.som_model.specs.declared.key.MethodRef.{MethodRef}
-use Rattle.som_model.specs.declared.key.ValueType.{ValueType}
 use Rattle.som_model.specs.declared.syntax.HostCode.{HostCode}
 use Rattle.som_model.specs.declared.syntax.Expr.{Expr, fold-roll-Expr}
 use Rattle.som_model.specs.declared.syntax.Expr.TheVariants as exprs
-use Rattle.som_model.specs.declared.syntax.Expr.TheVariants.{rolls-OffsetCall, rolls-Lookup, rolls-Dispatch, rolls-ParentCall, rolls-ParentsCall, rolls-Host}
+use Rattle.som_model.specs.declared.syntax.Expr.TheVariants.{rolls-Host}
 use Rattle.som_model.specs.declared.syntax.Expr.TheOpen.{Expr-F}
 use Rattle.som_code.specs.declared.instruction.Constant.TheVariants as constants
 use Rattle.som_code.specs.declared.instruction.Instruction.{Instruction}
 use Rattle.som_code.specs.declared.instruction.Instruction.TheVariants as ops
-use Rattle.som_code.specs.Laid.{Lays, just, ◌then◌, lay_each, lay_and, lay_or, lay_choice, lay_loop, expr_step, lay_expr}
+use Rattle.som_code.specs.Laid.{Lays, just, ◌then◌, lay_and, lay_or, lay_choice, lay_loop, expr_step, lay_expr}
 
 pub on_ok : {A E P Q : Type 0} (r : Result A E) → OnOk r P → (P → Q) → OnOk r Q
 on_ok (Ok x) p f = f p
@@ -27,48 +24,12 @@ emits_then f g c c1 c2 e1 e2 =
     ∙ ap (λ n. (c ++ x) ++ g n) (length-append c x)
     ∙ append_assoc c x (g (length c + length x))
 
-module _ (c c1 c2 c3 : List Instruction) (e : Expr) (args : List Expr) where
-  abbrev Args : List Instruction → List Instruction → Type 0
-  Args b b' = b' ≡ b ++ lay_each (map lay_expr args) (length b)
-
-  last_args : (i : ℕ → Instruction) (n : ℕ) (b b' b'' : List Instruction) → Args b b' → n ≡ length args → b'' ≡ b' ++ i n ∷ [] → b'' ≡ b ++ (lay_each (map lay_expr args) then just (i (length (map lay_expr args)))) (length b)
-  last_args i n b b' b'' e1 m e2 = emits_then (lay_each (map lay_expr args)) (just (i (length (map lay_expr args)))) b b' b'' e1 (e2 ∙ ap (λ k. b' ++ i k ∷ []) (m ∙ sym (length-map args lay_expr)))
-
-  receiver_call : (on : Expr) (i : ℕ → Instruction) (n : ℕ) → c1 ≡ c ++ lay_expr on (length c) → Args c1 c2 → n ≡ length args → c3 ≡ c2 ++ i n ∷ []
-      → c3 ≡ c ++ (lay_expr on then (lay_each (map lay_expr args) then just (i (length (map lay_expr args))))) (length c)
-  receiver_call on i n e1 e2 m e3 = emits_then (lay_expr on) (lay_each (map lay_expr args) then just (i (length (map lay_expr args)))) c c1 c3 e1 (last_args i n c1 c2 c3 e2 m e3)
-
-  form : (l : Lays) (x : Expr) → e ≡ x → lay_expr x ≡ l → (b : List Instruction) → b ≡ c ++ l (length c) → b ≡ c ++ lay_expr e (length c)
-  form l x is h b p = p ∙ ap (λ (f : Lays). c ++ f (length c)) (sym (ap lay_expr is ∙ h))
-
-  pub offset_call_laid : (m : MethodRef) (on : Expr) (n : ℕ) → e ≡ exprs.OffsetCall m on args → c1 ≡ c ++ lay_expr on (length c) → Args c1 c2 → n ≡ length args
-      → c3 ≡ c2 ++ ops.OffsetCall m n ∷ [] → c3 ≡ c ++ lay_expr e (length c)
-  offset_call_laid m on n is e1 e2 k e3 = form _ (exprs.OffsetCall m on args) is (ap lay_expr (sym (rolls-OffsetCall m on args)) ∙ fold-roll-Expr Lays expr_step (Expr-F.OffsetCall m on args)) c3
-      (receiver_call on (λ j. ops.OffsetCall m j) n e1 e2 k e3)
-
-  pub lookup_laid : (kind : ValueType) (name : List ℕ) (on : Expr) (n : ℕ) → e ≡ exprs.Lookup kind name on args → c1 ≡ c ++ lay_expr on (length c) → Args c1 c2 → n ≡ length args
-      → c3 ≡ c2 ++ ops.Lookup kind name n ∷ [] → c3 ≡ c ++ lay_expr e (length c)
-  lookup_laid kind name on n is e1 e2 k e3 = form _ (exprs.Lookup kind name on args) is (ap lay_expr (sym (rolls-Lookup kind name on args)) ∙ fold-roll-Expr Lays expr_step (Expr-F.Lookup kind name on args)) c3
-      (receiver_call on (λ j. ops.Lookup kind name j) n e1 e2 k e3)
-
-  pub dispatch_laid : (kind : ValueType) (name : List ℕ) (on : Expr) (n : ℕ) → e ≡ exprs.Dispatch kind name on args → c1 ≡ c ++ lay_expr on (length c) → Args c1 c2 → n ≡ length args
-      → c3 ≡ c2 ++ ops.Dispatch kind name n ∷ [] → c3 ≡ c ++ lay_expr e (length c)
-  dispatch_laid kind name on n is e1 e2 k e3 = form _ (exprs.Dispatch kind name on args) is (ap lay_expr (sym (rolls-Dispatch kind name on args)) ∙ fold-roll-Expr Lays expr_step (Expr-F.Dispatch kind name on args)) c3
-      (receiver_call on (λ j. ops.Dispatch kind name j) n e1 e2 k e3)
-
-  pub parent_call_laid : (p : ℕ) (m : MethodRef) (n : ℕ) → e ≡ exprs.ParentCall p m args → Args c c1 → n ≡ length args
-      → c2 ≡ c1 ++ ops.ParentCall p m n ∷ [] → c2 ≡ c ++ lay_expr e (length c)
-  parent_call_laid p m n is e1 k e2 = form _ (exprs.ParentCall p m args) is (ap lay_expr (sym (rolls-ParentCall p m args)) ∙ fold-roll-Expr Lays expr_step (Expr-F.ParentCall p m args)) c2
-      (last_args (λ j. ops.ParentCall p m j) n c c1 c2 e1 k e2)
-
-  pub parents_call_laid : (m : MethodRef) (n : ℕ) → e ≡ exprs.ParentsCall m args → Args c c1 → n ≡ length args
-      → c2 ≡ c1 ++ ops.ParentsCall m n ∷ [] → c2 ≡ c ++ lay_expr e (length c)
-  parents_call_laid m n is e1 k e2 = form _ (exprs.ParentsCall m args) is (ap lay_expr (sym (rolls-ParentsCall m args)) ∙ fold-roll-Expr Lays expr_step (Expr-F.ParentsCall m args)) c2
-      (last_args (λ j. ops.ParentsCall m j) n c c1 c2 e1 k e2)
+form : (c : List Instruction) (e : Expr) (l : Lays) (x : Expr) → e ≡ x → lay_expr x ≡ l → (b : List Instruction) → b ≡ c ++ l (length c) → b ≡ c ++ lay_expr e (length c)
+form c e l x is h b p = p ∙ ap (λ (f : Lays). c ++ f (length c)) (sym (ap lay_expr is ∙ h))
 
 pub host_laid : (c c1 c2 c3 : List Instruction) (e : Expr) (host : HostCode) (a b : Expr) → e ≡ exprs.Host host a b → c1 ≡ c ++ lay_expr a (length c) → c2 ≡ c1 ++ lay_expr b (length c1)
     → c3 ≡ c2 ++ ops.Host host ∷ [] → c3 ≡ c ++ lay_expr e (length c)
-host_laid c c1 c2 c3 e host a b is e1 e2 e3 = form c c1 c2 c3 e [] _ (exprs.Host host a b) is (ap lay_expr (sym (rolls-Host host a b)) ∙ fold-roll-Expr Lays expr_step (Expr-F.Host host a b)) c3
+host_laid c c1 c2 c3 e host a b is e1 e2 e3 = form c e _ (exprs.Host host a b) is (ap lay_expr (sym (rolls-Host host a b)) ∙ fold-roll-Expr Lays expr_step (Expr-F.Host host a b)) c3
     (emits_then (lay_expr a) (lay_expr b then just (ops.Host host)) c c1 c3 e1 (emits_then (lay_expr b) (just (ops.Host host)) c1 c2 c3 e2 e3))
 
 -- ---- jumps that are written back

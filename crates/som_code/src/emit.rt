@@ -2,7 +2,7 @@ ghost use Rattle.som_code.specs.Laid.{set_local};
 ghost use Rattle.std.specs.Prelude.{◌≡◌, ◌<◌, ◌++◌, ◌∷◌, [], length, slice_set, OnOk};
 
 use crate::{Constant, Instruction};
-use som_model::{ClassKey, MethodRef, NoMemory, Text, ValueType};
+use som_model::{NoMemory, Text};
 use std::alloc::Global;
 use std::mem;
 
@@ -31,133 +31,6 @@ pub(crate) fn emit_text(
 {
     let text = text.copy(alloc)?;
     emit(code, Instruction::Push(Constant::Str(text)))
-}
-
-pub(crate) fn emit_new(
-    alloc: Global,
-    code: &mut Vec<Instruction>,
-    class: &ClassKey,
-) -> Result<(), NoMemory>
-    ensures { OnOk result (code.new.items ≡ code.old.items ++ Instruction.New class.now ∷ []) }
-{
-    let class = class.copy(alloc)?;
-    emit(code, Instruction::New(class))
-}
-
-pub(crate) fn emit_class(
-    alloc: Global,
-    code: &mut Vec<Instruction>,
-    class: &ClassKey,
-) -> Result<(), NoMemory>
-    ensures { OnOk result (code.new.items ≡ code.old.items ++ Instruction.Class class.now ∷ []) }
-{
-    let class = class.copy(alloc)?;
-    emit(code, Instruction::Class(class))
-}
-
-pub(crate) fn emit_cast(
-    alloc: Global,
-    code: &mut Vec<Instruction>,
-    class: &ClassKey,
-) -> Result<(), NoMemory>
-    ensures { OnOk result (code.new.items ≡ code.old.items ++ Instruction.Cast class.now ∷ []) }
-{
-    let class = class.copy(alloc)?;
-    emit(code, Instruction::Cast(class))
-}
-
-pub(crate) fn emit_isa(
-    alloc: Global,
-    code: &mut Vec<Instruction>,
-    class: &ClassKey,
-) -> Result<(), NoMemory>
-    ensures { OnOk result (code.new.items ≡ code.old.items ++ Instruction.Isa class.now ∷ []) }
-{
-    let class = class.copy(alloc)?;
-    emit(code, Instruction::Isa(class))
-}
-
-pub(crate) fn emit_proxy(
-    alloc: Global,
-    code: &mut Vec<Instruction>,
-    class: &ClassKey,
-) -> Result<(), NoMemory>
-    ensures { OnOk result (code.new.items ≡ code.old.items ++ Instruction.Proxy class.now ∷ []) }
-{
-    let class = class.copy(alloc)?;
-    emit(code, Instruction::Proxy(class))
-}
-
-pub(crate) fn emit_offset_call(
-    alloc: Global,
-    code: &mut Vec<Instruction>,
-    method: &MethodRef,
-    args: usize,
-) -> Result<(), NoMemory>
-    ensures { OnOk result (code.new.items ≡ code.old.items ++ Instruction.OffsetCall method.now args ∷ []) }
-{
-    let method = method.copy(alloc)?;
-    emit(code, Instruction::OffsetCall { method, args })
-}
-
-pub(crate) fn emit_lookup(
-    alloc: Global,
-    code: &mut Vec<Instruction>,
-    kind: &ValueType,
-    name: &Text,
-    args: usize,
-) -> Result<(), NoMemory>
-    ensures { OnOk result (code.new.items ≡ code.old.items ++ Instruction.Lookup kind.now name.now args ∷ []) }
-{
-    let name = name.copy(alloc)?;
-    let result = kind.copy(alloc)?;
-    emit(code, Instruction::Lookup { result, name, args })
-}
-
-pub(crate) fn emit_dispatch(
-    alloc: Global,
-    code: &mut Vec<Instruction>,
-    kind: &ValueType,
-    name: &Text,
-    args: usize,
-) -> Result<(), NoMemory>
-    ensures { OnOk result (code.new.items ≡ code.old.items ++ Instruction.Dispatch kind.now name.now args ∷ []) }
-{
-    let name = name.copy(alloc)?;
-    let result = kind.copy(alloc)?;
-    emit(code, Instruction::Dispatch { result, name, args })
-}
-
-pub(crate) fn emit_parent_call(
-    alloc: Global,
-    code: &mut Vec<Instruction>,
-    parent: u8,
-    method: &MethodRef,
-    args: usize,
-) -> Result<(), NoMemory>
-    ensures { OnOk result (code.new.items ≡ code.old.items ++ Instruction.ParentCall parent method.now args ∷ []) }
-{
-    let method = method.copy(alloc)?;
-    emit(
-        code,
-        Instruction::ParentCall {
-            parent,
-            method,
-            args,
-        },
-    )
-}
-
-pub(crate) fn emit_parents_call(
-    alloc: Global,
-    code: &mut Vec<Instruction>,
-    method: &MethodRef,
-    args: usize,
-) -> Result<(), NoMemory>
-    ensures { OnOk result (code.new.items ≡ code.old.items ++ Instruction.ParentsCall method.now args ∷ []) }
-{
-    let method = method.copy(alloc)?;
-    emit(code, Instruction::ParentsCall { method, args })
 }
 
 // The top goes to a local, where that is visible.

@@ -3,12 +3,9 @@ ghost use Rattle.som_model.specs.Blocks.{is_call};
 ghost use Rattle.som_model.specs.Values.{binary_op};
 ghost use Rattle.std.specs.Prelude.{◌≡◌, ◌++◌, length, map, true, OnOk};
 
-use crate::emit::{
-    emit, emit_cast, emit_class, emit_dispatch, emit_isa, emit_lookup, emit_new, emit_offset_call,
-    emit_parent_call, emit_parents_call, emit_proxy, emit_text, patch,
-};
+use crate::emit::{emit, emit_text, patch};
 use crate::{Constant, Instruction};
-use som_model::{Boxed, Expr, List, NoMemory};
+use som_model::{Boxed, Expr, List, MethodRef, NoMemory, Text, ValueType};
 use std::alloc::Global;
 
 // The numbers of the operators that look at their right side only where it decides.
@@ -41,20 +38,20 @@ pub(crate) fn emit_expr(
             emit_part(alloc, code, left)?;
             emit_right(alloc, code, *op, right)
         }
-        Expr::New(class) => emit_new(alloc, code, class),
-        Expr::Class(class) => emit_class(alloc, code, class),
+        Expr::New(class) => emit(code, Instruction::New(class.copy(alloc)?)),
+        Expr::Class(class) => emit(code, Instruction::Class(class.copy(alloc)?)),
         Expr::Manager => emit(code, Instruction::Manager),
         Expr::Cast { class, of } => {
             emit_part(alloc, code, of)?;
-            emit_cast(alloc, code, class)
+            emit(code, Instruction::Cast(class.copy(alloc)?))
         }
         Expr::Isa { class, of } => {
             emit_part(alloc, code, of)?;
-            emit_isa(alloc, code, class)
+            emit(code, Instruction::Isa(class.copy(alloc)?))
         }
         Expr::Proxy { class, of } => {
             emit_part(alloc, code, of)?;
-            emit_proxy(alloc, code, class)
+            emit(code, Instruction::Proxy(class.copy(alloc)?))
         }
         Expr::Host { code: host, a, b } => {
             emit_part(alloc, code, a)?;
@@ -76,45 +73,125 @@ fn emit_call(alloc: Global, code: &mut Vec<Instruction>, e: &Expr) -> Result<(),
             method,
             receiver,
             args,
-        } => {
-            emit_part(alloc, code, receiver)?;
-            emit_args(alloc, code, args)?;
-            emit_offset_call(alloc, code, method, args.len())
-        }
+        } => emit_offset_call(alloc, code, method, args, receiver),
         Expr::Lookup {
             result: kind,
             name,
             receiver,
             args,
-        } => {
-            emit_part(alloc, code, receiver)?;
-            emit_args(alloc, code, args)?;
-            emit_lookup(alloc, code, kind, name, args.len())
-        }
+        } => emit_lookup(alloc, code, kind, name, args, receiver),
         Expr::Dispatch {
             result: kind,
             name,
             receiver,
             args,
-        } => {
-            emit_part(alloc, code, receiver)?;
-            emit_args(alloc, code, args)?;
-            emit_dispatch(alloc, code, kind, name, args.len())
-        }
+        } => emit_dispatch(alloc, code, kind, name, args, receiver),
         Expr::ParentCall {
             parent,
             method,
             args,
-        } => {
-            emit_args(alloc, code, args)?;
-            emit_parent_call(alloc, code, *parent, method, args.len())
-        }
-        Expr::ParentsCall { method, args } => {
-            emit_args(alloc, code, args)?;
-            emit_parents_call(alloc, code, method, args.len())
-        }
+        } => emit_parent_call(alloc, code, *parent, method, args),
+        Expr::ParentsCall { method, args } => emit_parents_call(alloc, code, method, args),
         _ => unreachable!(),
     }
+}
+
+#[cycle(emit_expr)]
+fn emit_offset_call(
+    alloc: Global,
+    code: &mut Vec<Instruction>,
+    method: &MethodRef,
+    args: &List<Expr>,
+    receiver: &Boxed<Expr>,
+) -> Result<(), NoMemory>
+    ensures { OnOk result (code.new.items
+        ≡ code.old.items ++ lay_expr (Expr.OffsetCall method.now receiver.now args.now) (length code.old.items)) }
+{
+    emit_part(alloc, code, receiver)?;
+    emit_args(alloc, code, args)?;
+    let method = method.copy(alloc)?;
+    let args = args.len();
+    emit(code, Instruction::OffsetCall { method, args })
+}
+
+#[cycle(emit_expr)]
+fn emit_lookup(
+    alloc: Global,
+    code: &mut Vec<Instruction>,
+    kind: &ValueType,
+    name: &Text,
+    args: &List<Expr>,
+    receiver: &Boxed<Expr>,
+) -> Result<(), NoMemory>
+    ensures { OnOk result (code.new.items
+        ≡ code.old.items ++ lay_expr (Expr.Lookup kind.now name.now receiver.now args.now) (length code.old.items)) }
+{
+    emit_part(alloc, code, receiver)?;
+    emit_args(alloc, code, args)?;
+    let name = name.copy(alloc)?;
+    let result = kind.copy(alloc)?;
+    let args = args.len();
+    emit(code, Instruction::Lookup { result, name, args })
+}
+
+#[cycle(emit_expr)]
+fn emit_dispatch(
+    alloc: Global,
+    code: &mut Vec<Instruction>,
+    kind: &ValueType,
+    name: &Text,
+    args: &List<Expr>,
+    receiver: &Boxed<Expr>,
+) -> Result<(), NoMemory>
+    ensures { OnOk result (code.new.items
+        ≡ code.old.items ++ lay_expr (Expr.Dispatch kind.now name.now receiver.now args.now) (length code.old.items)) }
+{
+    emit_part(alloc, code, receiver)?;
+    emit_args(alloc, code, args)?;
+    let name = name.copy(alloc)?;
+    let result = kind.copy(alloc)?;
+    let args = args.len();
+    emit(code, Instruction::Dispatch { result, name, args })
+}
+
+#[cycle(emit_expr)]
+fn emit_parent_call(
+    alloc: Global,
+    code: &mut Vec<Instruction>,
+    parent: u8,
+    method: &MethodRef,
+    args: &List<Expr>,
+) -> Result<(), NoMemory>
+    ensures { OnOk result (code.new.items
+        ≡ code.old.items ++ lay_expr (Expr.ParentCall parent method.now args.now) (length code.old.items)) }
+{
+    emit_args(alloc, code, args)?;
+    let method = method.copy(alloc)?;
+    let args = args.len();
+    emit(
+        code,
+        Instruction::ParentCall {
+            parent,
+            method,
+            args,
+        },
+    )
+}
+
+#[cycle(emit_expr)]
+fn emit_parents_call(
+    alloc: Global,
+    code: &mut Vec<Instruction>,
+    method: &MethodRef,
+    args: &List<Expr>,
+) -> Result<(), NoMemory>
+    ensures { OnOk result (code.new.items
+        ≡ code.old.items ++ lay_expr (Expr.ParentsCall method.now args.now) (length code.old.items)) }
+{
+    emit_args(alloc, code, args)?;
+    let method = method.copy(alloc)?;
+    let args = args.len();
+    emit(code, Instruction::ParentsCall { method, args })
 }
 
 #[cycle(emit_expr)]

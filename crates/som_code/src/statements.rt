@@ -82,10 +82,7 @@ fn emit_stmt(
             emit_expr(alloc, code, value)?;
             emit(code, Instruction::Print)
         }
-        Stmt::Free { value } => {
-            emit_expr(alloc, code, value)?;
-            emit_free(alloc, code)
-        }
+        Stmt::Free { value } => emit_free(alloc, code, value),
         Stmt::Call { call } => {
             emit_expr(alloc, code, call)?;
             emit(code, Instruction::Drop)
@@ -157,11 +154,21 @@ fn free_method(alloc: Global) -> Result<MethodRef, NoMemory>
 }
 
 // The top is freed, and the answer taken off.
-fn emit_free(alloc: Global, code: &mut Vec<Instruction>) -> Result<(), NoMemory>
+fn free_top(alloc: Global, code: &mut Vec<Instruction>) -> Result<(), NoMemory>
     ensures { OnOk result (code.new.items
         ≡ code.old.items ++ Instruction.OffsetCall som_free 0 ∷ Instruction.Drop ∷ []) }
 {
     let method = free_method(alloc)?;
     emit(code, Instruction::OffsetCall { method, args: 0 })?;
     emit(code, Instruction::Drop)
+}
+
+// The value is freed.
+fn emit_free(alloc: Global, code: &mut Vec<Instruction>, value: &Expr) -> Result<(), NoMemory>
+    ensures { OnOk result (code.new.items
+        ≡ code.old.items ++ (lay_expr value.now (length code.old.items)
+        ++ Instruction.OffsetCall som_free 0 ∷ Instruction.Drop ∷ [])) }
+{
+    emit_expr(alloc, code, value)?;
+    free_top(alloc, code)
 }

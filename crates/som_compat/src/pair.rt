@@ -15,11 +15,11 @@ use crate::names::{find_name, sort_by_name};
 use crate::rows::Row;
 use crate::signatures::keeps_signatures;
 use crate::view::{MOST_CLASSES, View, ancestors_of, fill};
-use som_model::{ClassFace, Interface, Text};
+use som_model::{ClassFace, Interface, MAX_LIBRARY_CLASSES, Text};
 use som_order::{entry_at, is_prefix, name_of};
 
 /// The most classes of an interface.
-const MOST_FACES: usize = 4096;
+const MOST_FACES: usize = MAX_LIBRARY_CLASSES as usize;
 
 /// Whether a newer interface is compatible with an older one, and else what it breaks first: by the older
 /// one's order of classes, then by rule, then by place. It takes no memory.

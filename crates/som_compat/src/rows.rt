@@ -7,10 +7,10 @@ ghost use Rattle.som_rules.specs.Plainly.{IsAmong};
 ghost use Rattle.std.specs.Prelude.{◌≡◌, ◌≤◌, length, Some};
 
 use crate::lookup::Lookup;
-use som_model::ClassFace;
+use som_model::{ClassFace, MAX_PARENTS};
 
 /// The most parents that a class has.
-pub const MOST_PARENTS: usize = 16;
+pub const MOST_PARENTS: usize = MAX_PARENTS as usize;
 
 /// The places of a class's parents and of its metaclass.
 #[derive(Clone, Copy)]

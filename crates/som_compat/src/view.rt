@@ -2,15 +2,17 @@ ghost use Rattle.som_compat.specs.Conditions.{Conforms};
 ghost use Rattle.som_compat.specs.Marks.{AreAbove, Marked};
 ghost use Rattle.som_compat.specs.Views.{AreRows, IsRow, IsView, classes_of, interface};
 ghost use Rattle.som_model.specs.declared.class.ClassFace.{ClassFace as Face};
+ghost use Rattle.som_model.specs.declared.limits.TheConstants.{MAX_PARENTS};
 ghost use Rattle.som_rules.specs.Places.{face_at, key_at};
 ghost use Rattle.std.specs.Prelude.{◌≡◌, ◌+◌, ◌<◌, ◌≤◌, List as Seq, ℕ, None, length, replicate, take};
 
 use crate::lookup::{KERNEL_CLASSES, Lookup};
 use crate::marks::mark_reached;
 use crate::rows::{MOST_PARENTS, Row, row_of};
+use som_model::MAX_LIBRARY_CLASSES;
 
 /// The most classes, the kernel's counted.
-pub const MOST_CLASSES: usize = 4100;
+pub const MOST_CLASSES: usize = MAX_LIBRARY_CLASSES as usize + KERNEL_CLASSES;
 
 /// The classes of an interface by their places: the kernel's first.
 #[derive(Clone, Copy)]
@@ -57,7 +59,7 @@ fn kernel_row(place: usize) -> Row
 
 // The row of a class with one parent.
 fn single(parent: u16) -> Row
-    ensures numbers { result.numbers ≡ replicate 16 parent }
+    ensures numbers { result.numbers ≡ replicate MAX_PARENTS parent }
     ensures count { result.count ≡ 1 }
     ensures metaclass { result.metaclass ≡ None }
 {

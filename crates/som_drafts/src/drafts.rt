@@ -10,7 +10,7 @@ ghost use Rattle.std.specs.Prelude.{◌≡◌, map, option_map, IfOk};
 
 use crate::exports::introduced;
 use crate::given::marks;
-use crate::items::{add_metaclasses, major, minor, parent_names};
+use crate::items::{major, metaclass_names, minor, parent_names};
 use crate::tables::by_name;
 use crate::variables::variables;
 use som_idl::{IdlInterface, Item, Word};
@@ -103,8 +103,7 @@ fn parents(alloc: Global, scope: &Scope, parents: &[Word]) -> Result<List<ClassK
 fn metaclass(alloc: Global, scope: &Scope, items: &[Item]) -> Result<Option<ClassKey>, NoMemory>
     ensures { IfOk result (λ key. key ≡ option_map (names_of_classes.key_of (module_in_scope scope.now)) (first (spec.metaclass_names items.now))) }
 {
-    let mut names = Vec::new(alloc);
-    add_metaclasses(&mut names, items)?;
+    let names = metaclass_names(alloc, items)?;
     first_key(alloc, scope, &names)
 }
 

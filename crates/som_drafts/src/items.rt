@@ -3,13 +3,13 @@ ghost use Rattle.som_scope.specs.Words.{words};
 ghost use Rattle.som_drafts.specs.Items as spec;
 ghost use Rattle.std.specs.Prelude.{◌≡◌, ◌++◌, IfOk, OnOk};
 
-use som_idl::{Item, Word};
+use som_idl::{IdlInterface, Item, Word};
 use som_model::NoMemory;
 use som_scope::add;
 use std::alloc::Global;
 
-/// Adds the texts of words.
-pub fn add_words<'a>(names: &mut Vec<&'a [u8]>, list: &'a [Word]) -> Result<(), NoMemory>
+// Adds the texts of words.
+fn add_words<'a>(names: &mut Vec<&'a [u8]>, list: &'a [Word]) -> Result<(), NoMemory>
     ensures { OnOk result (texts names.new.items ≡ texts names.old.items ++ words list.now) }
 {
     for word in list {
@@ -31,8 +31,26 @@ pub fn parent_names(alloc: Global, parents: &[Word]) -> Result<Vec<&[u8]>, NoMem
     Ok(names)
 }
 
-/// Adds the names of the metaclass items.
-pub fn add_metaclasses<'a>(names: &mut Vec<&'a [u8]>, items: &'a [Item]) -> Result<(), NoMemory>
+/// The names of the parents, and then those of the metaclass items.
+pub fn base_names(alloc: Global, interface: &IdlInterface) -> Result<Vec<&[u8]>, NoMemory>
+    ensures { IfOk result (λ names. texts names.items ≡ spec.or_object interface.now.parents ++ spec.metaclass_names interface.now.items) }
+{
+    let mut names = parent_names(alloc, interface.parents.as_slice())?;
+    add_metaclasses(&mut names, interface.items.as_slice())?;
+    Ok(names)
+}
+
+/// The names of the metaclass items.
+pub fn metaclass_names(alloc: Global, items: &[Item]) -> Result<Vec<&[u8]>, NoMemory>
+    ensures { IfOk result (λ names. texts names.items ≡ spec.metaclass_names items.now) }
+{
+    let mut names = Vec::new(alloc);
+    add_metaclasses(&mut names, items)?;
+    Ok(names)
+}
+
+// Adds the names of the metaclass items.
+fn add_metaclasses<'a>(names: &mut Vec<&'a [u8]>, items: &'a [Item]) -> Result<(), NoMemory>
     ensures { OnOk result (texts names.new.items ≡ texts names.old.items ++ spec.metaclass_names items.now) }
 {
     for item in items {

@@ -16,7 +16,7 @@ mod variables;
 pub use drafts::{Draft, drafts_of};
 pub use exports::prefixed;
 pub use given::{Mark, marks};
-pub use items::{add_metaclasses, listed, parent_names};
+pub use items::{base_names, listed, metaclass_names, parent_names};
 pub use members::{introduced_names, items_differ, names_differ};
 pub use modifiers::modifiers_stand;
 pub use passes::{breach, each_draft};

@@ -17,7 +17,7 @@ use som_rules::VerifyFault;
 use som_scope::add;
 use std::alloc::Global;
 
-/// The names that a class introduces are distinct, and those of its release order are.
+/// S6: the names that a class introduces are distinct, and those of its release order are.
 pub fn names_differ(alloc: Global, drafts: &[Draft]) -> Result<(), VerifyFault>
     ensures { Tells (first (flat_map text_s6 (plain_drafts drafts.now))) result }
 {
@@ -64,7 +64,7 @@ pub fn introduced_names(alloc: Global, entries: &[Entry]) -> Result<Vec<&[u8]>, 
     Ok(names)
 }
 
-/// The release order, the metaclass and the versions are said once.
+/// S12: the release order, the metaclass and the versions are said once.
 pub fn items_differ(alloc: Global, drafts: &[Draft]) -> Result<(), VerifyFault>
     ensures { Tells (first (flat_map text_s12 (plain_drafts drafts.now))) result }
 {

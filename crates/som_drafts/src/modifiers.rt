@@ -33,7 +33,7 @@ pub struct Said<'a> {
     pub selecting: IndexSet<&'a [u8]>,
 }
 
-/// Each modifier stands where it may.
+/// S11: each modifier stands where it may.
 pub fn modifiers_stand(alloc: Global, drafts: &[Draft]) -> Result<(), VerifyFault>
     ensures { Tells (first (flat_map text_s11 (plain_drafts drafts.now))) result }
 {

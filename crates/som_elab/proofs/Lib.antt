@@ -1,6 +1,7 @@
 pub mod LimitLaws
 pub mod Selecting
 pub mod Gathering
+pub mod Grouping
 pub mod OwnTexts
 pub mod NamedClasses
 pub mod BodyLaws

@@ -4,4 +4,5 @@ pub mod PlainLimits
 pub mod Bodies
 pub mod Elaboration
 pub mod Texts
+pub mod Grouped
 pub mod Contexts

@@ -3,7 +3,6 @@ ghost use Rattle.som_elab.specs.Contexts as spec;
 ghost use Rattle.som_elab.specs.Contexts.{IsModuleContext, IsUnlimitedContext, StandAfterOthers, among_in, checked_steps, module_steps};
 ghost use Rattle.som_elab.specs.Elaboration.{Answers, elaborated_main, keeping};
 ghost use Rattle.som_elab.specs.Limits.{limit_passed};
-ghost use Rattle.som_elab.specs.Texts.{given};
 ghost use Rattle.som_rules.specs.Modules.{classes_of};
 ghost use Rattle.som_rules.specs.Told.{Tells};
 ghost use Rattle.som_drafts.specs.Drafts.{plain_drafts};
@@ -14,9 +13,10 @@ use crate::class_bodies::{ClassBodies, refusal};
 use crate::classes::all_bodies;
 use crate::contexts::ModuleContext;
 use crate::counted_bodies::bodies_counted;
+use crate::grouped::ModuleTexts;
 use crate::limits::limits_kept;
 use crate::named_bodies::bodies_named;
-use som_body::{BlockText, BodyText};
+use som_body::BlockText;
 use som_drafts::Draft;
 use som_forms::main_body;
 use som_model::{Block, List};
@@ -38,11 +38,11 @@ pub fn checked_bodies(
     alloc: Global,
     context: &ModuleContext,
     drafts: &[Draft],
-    texts: &[&BodyText],
+    texts: &ModuleTexts,
     main: Option<&BlockText>,
 ) -> Result<AllBodies, Refused>
     requires { IsUnlimitedContext context.now (plain_drafts drafts.now) }
-    ensures { Answers (checked_steps (among_in context.now) context.now.scope.now.module (given texts.now) (plain_drafts drafts.now) (option_copied main.entry)) result }
+    ensures { Answers (checked_steps (among_in context.now) context.now.scope.now.module texts.now (plain_drafts drafts.now) (option_copied main.entry)) result }
 {
     match bodies_stand(alloc, &context.known, drafts, texts) {
         Ok(()) => within_limits(alloc, context, drafts, texts, main),
@@ -54,10 +54,10 @@ fn bodies_stand(
     alloc: Global,
     known: &Knowledge,
     drafts: &[Draft],
-    texts: &[&BodyText],
+    texts: &ModuleTexts,
 ) -> Result<(), VerifyFault>
     requires { IsKnowledge known.now }
-    ensures { Tells (bodies_breach (all_of known.now) (plain_drafts drafts.now) (given texts.now)) result }
+    ensures { Tells (bodies_breach (all_of known.now) (plain_drafts drafts.now) texts.now) result }
 {
     bodies_named(alloc, known, drafts, texts)?;
     bodies_counted(alloc, drafts, texts)
@@ -67,12 +67,12 @@ fn within_limits(
     alloc: Global,
     context: &ModuleContext,
     drafts: &[Draft],
-    texts: &[&BodyText],
+    texts: &ModuleTexts,
     main: Option<&BlockText>,
 ) -> Result<AllBodies, Refused>
     requires { IsUnlimitedContext context.now (plain_drafts drafts.now) }
     ensures { Answers (keeping (limit_passed (plain_drafts drafts.now))
-        (module_steps (among_in context.now) context.now.scope.now.module (given texts.now) (plain_drafts drafts.now) (option_copied main.entry))) result }
+        (module_steps (among_in context.now) context.now.scope.now.module texts.now (plain_drafts drafts.now) (option_copied main.entry))) result }
 {
     limits_kept(alloc, drafts)?;
     made_bodies(alloc, context, drafts, texts, main)
@@ -82,13 +82,13 @@ fn made_bodies(
     alloc: Global,
     context: &ModuleContext,
     drafts: &[Draft],
-    texts: &[&BodyText],
+    texts: &ModuleTexts,
     main: Option<&BlockText>,
 ) -> Result<AllBodies, Refused>
     requires context { IsModuleContext context.now }
     requires stand { StandAfterOthers context.now.scope.now.module (classes_of context.now.known.classes.now) (plain_drafts drafts.now) }
     requires limits { limit_passed (plain_drafts drafts.now) ≡ None }
-    ensures { Answers (module_steps (among_in context.now) context.now.scope.now.module (given texts.now) (plain_drafts drafts.now) (option_copied main.entry)) result }
+    ensures { Answers (module_steps (among_in context.now) context.now.scope.now.module texts.now (plain_drafts drafts.now) (option_copied main.entry)) result }
 {
     let classes = all_bodies(alloc, context, drafts, texts)?;
     let main = main_block(alloc, context, main)?;

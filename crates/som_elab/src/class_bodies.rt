@@ -18,7 +18,8 @@ ghost use Rattle.std.specs.Prelude.{◌≡◌, ◌≤◌, length, true, IfOk, So
 use crate::accessor_bodies::body_named;
 use crate::accessors::accessors_of;
 use crate::contexts::ModuleContext;
-use crate::texts::{first_for, texts_of};
+use crate::grouped::ModuleTexts;
+use crate::texts::first_for;
 use som_body::BodyText;
 use som_drafts::Draft;
 use som_forms::{BodyFault, method_body};
@@ -44,17 +45,17 @@ pub fn class_bodies(
     context: &ModuleContext,
     place: usize,
     draft: &Draft,
-    texts: &[&BodyText],
+    texts: &ModuleTexts,
 ) -> Result<ClassBodies, Refused>
     requires context { IsModuleContext context.now }
     requires place { IsDeclared (classes_in context.now) place }
     requires class { (class_of_place (classes_in context.now) place).decl ≡ draft.now.decl }
     requires fits { ClassFits (classes_in context.now) (Some place) }
     requires parents { length (or_object draft.now.text.now.parents) ≤ 255 }
-    ensures { Answers (class_steps (among_in context.now) (given texts.now) (plain_draft draft.now) (class_of_place (classes_in context.now) place)) result }
+    ensures { Answers (class_steps (among_in context.now) texts.now (plain_draft draft.now) (class_of_place (classes_in context.now) place)) result }
 {
-    let own = texts_of(alloc, texts, draft.decl.face.name.as_slice())?;
-    own_bodies(alloc, context, place, draft, own.as_slice())
+    let own = texts.of_class(draft.decl.face.name.as_slice());
+    own_bodies(alloc, context, place, draft, own)
 }
 
 // The same, where no body of another class needs to be looked at.

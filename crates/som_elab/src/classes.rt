@@ -1,14 +1,13 @@
 ghost use Rattle.som_elab.specs.Contexts.{IsModuleContext, StandAfterOthers, among_in, completed, each_steps};
 ghost use Rattle.som_elab.specs.Elaboration.{Answers, with_blocks};
 ghost use Rattle.som_elab.specs.Limits.{limit_passed};
-ghost use Rattle.som_elab.specs.Texts.{given};
 ghost use Rattle.som_rules.specs.Modules.{classes_of};
 ghost use Rattle.som_drafts.specs.Drafts.{plain_drafts};
 ghost use Rattle.std.specs.Prelude.{◌≡◌, IfOk, None};
 
 use crate::class_bodies::{ClassBodies, class_bodies};
 use crate::contexts::ModuleContext;
-use som_body::BodyText;
+use crate::grouped::ModuleTexts;
 use som_drafts::Draft;
 use som_model::{ClassDecl, List, NoMemory};
 use som_rules::KERNEL_CLASSES;
@@ -20,12 +19,12 @@ pub fn all_bodies(
     alloc: Global,
     context: &ModuleContext,
     drafts: &[Draft],
-    texts: &[&BodyText],
+    texts: &ModuleTexts,
 ) -> Result<List<ClassBodies>, Refused>
     requires context { IsModuleContext context.now }
     requires stand { StandAfterOthers context.now.scope.now.module (classes_of context.now.known.classes.now) (plain_drafts drafts.now) }
     requires limits { limit_passed (plain_drafts drafts.now) ≡ None }
-    ensures { Answers (each_steps (among_in context.now) context.now.scope.now.module (given texts.now) (plain_drafts drafts.now)) result }
+    ensures { Answers (each_steps (among_in context.now) context.now.scope.now.module texts.now (plain_drafts drafts.now)) result }
 {
     let classes = context.known.classes;
     let from = classes.len() - drafts.len() + KERNEL_CLASSES;

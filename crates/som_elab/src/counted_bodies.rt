@@ -8,36 +8,36 @@ ghost use Rattle.som_drafts.specs.Drafts.{plain_draft, plain_drafts};
 ghost use Rattle.som_drafts.specs.declared.drafts.Draft.{Draft as Known};
 ghost use Rattle.std.specs.Prelude.{◌≡◌, ◌<◌, ◌==◌, length, flat_map, slice_get, Some};
 
+use crate::grouped::ModuleTexts;
 use crate::operations::is_operation;
-use crate::texts::{count_for, texts_of};
+use crate::texts::count_for;
 use som_body::BodyText;
 use som_drafts::{Draft, breach, each_draft, introduced_names};
 use som_rules::VerifyFault;
 use std::alloc::Global;
 
-/// Each operation and each method that is overridden has exactly one body.
+/// S14: each operation and each method that is overridden has exactly one body.
 pub fn bodies_counted(
     alloc: Global,
     drafts: &[Draft],
-    texts: &[&BodyText],
+    texts: &ModuleTexts,
 ) -> Result<(), VerifyFault>
-    ensures { Tells (first (flat_map (text_s14 (given texts.now)) (plain_drafts drafts.now))) result }
+    ensures { Tells (first (flat_map (text_s14 texts.now) (plain_drafts drafts.now))) result }
 {
     each_draft(
         drafts,
         |place: usize| -> Result<(), VerifyFault>
             requires { place < length drafts.now }
-            ensures { (d : Known) → slice_get drafts.entry.now place ≡ Some d → Tells (first (text_s14 (given texts.entry.now) (plain_draft d))) result }
+            ensures { (d : Known) → slice_get drafts.entry.now place ≡ Some d → Tells (first (text_s14 texts.entry.now (plain_draft d))) result }
         { own_counted(alloc, &drafts[place], texts) },
     )
 }
 
 // Only the bodies of the class are looked at for each of its methods.
-fn own_counted(alloc: Global, draft: &Draft, texts: &[&BodyText]) -> Result<(), VerifyFault>
-    ensures { Tells (first (text_s14 (given texts.now) (plain_draft draft.now))) result }
+fn own_counted(alloc: Global, draft: &Draft, texts: &ModuleTexts) -> Result<(), VerifyFault>
+    ensures { Tells (first (text_s14 texts.now (plain_draft draft.now))) result }
 {
-    let own = texts_of(alloc, texts, draft.decl.face.name.as_slice())?;
-    let own = own.as_slice();
+    let own = texts.of_class(draft.decl.face.name.as_slice());
     members_counted(alloc, draft, own)
 }
 

@@ -19,6 +19,7 @@ ghost use Rattle.std.specs.Prelude.{◌≡◌, ◌++◌, ℕ, length, map, optio
 use crate::all_bodies::{AllBodies, checked_bodies};
 use crate::classes::completed_classes;
 use crate::contexts::ModuleContext;
+use crate::grouped::ModuleTexts;
 use crate::texts::all_texts;
 use som_body::{BlockText, BodyFile, BodyText};
 use som_drafts::Draft;
@@ -91,6 +92,26 @@ fn bodies_over(
     requires drafted { plain_drafts drafts.now ≡ drafts_over own_module base.now (lent interfaces.now) }
     ensures { Answers (checked_steps (among_over own_module base.now (lent interfaces.now)) own_module (given texts.now) (plain_drafts drafts.now) (option_copied main.entry)) result }
 {
+    let texts = ModuleTexts::grouped(alloc, texts)?;
+    grouped_over(alloc, own_module, base, interfaces, drafts, &texts, main)
+}
+
+// The same, where the bodies are put together by classes.
+fn grouped_over(
+    alloc: Global,
+    own_module: Module,
+    base: &Interface,
+    interfaces: &[&IdlInterface],
+    drafts: &[Draft],
+    texts: &ModuleTexts,
+    main: Option<&BlockText>,
+) -> Result<AllBodies, Refused>
+    requires conforms { faces_breach (interface_classes base.now) ≡ None }
+    requires few { FewParameters (interface_classes base.now) }
+    requires faces { texts_breach own_module base.now (lent interfaces.now) ≡ None }
+    requires drafted { plain_drafts drafts.now ≡ drafts_over own_module base.now (lent interfaces.now) }
+    ensures { Answers (checked_steps (among_over own_module base.now (lent interfaces.now)) own_module texts.now (plain_drafts drafts.now) (option_copied main.entry)) result }
+{
     let kernel = kernel_faces(alloc)?;
     let kernel = kernel.classes.as_slice();
     let known = base.classes.as_slice();
@@ -105,7 +126,7 @@ fn bodies_after(
     scope: &Scope,
     base: &[ClassDecl],
     drafts: &[Draft],
-    texts: &[&BodyText],
+    texts: &ModuleTexts,
     main: Option<&BlockText>,
 ) -> Result<AllBodies, Refused>
     requires rules { classes_breach (length base.now) (after_base scope.now.module (map (class_in modules.Library) base.now) (draft_classes (plain_drafts drafts.now))) ≡ None }
@@ -114,7 +135,7 @@ fn bodies_after(
     ensures { Answers (checked_steps (record {
       classes = with_kernel (after_base scope.now.module (map (class_in modules.Library) base.now) (draft_classes (plain_drafts drafts.now)));
       module_of = module_in_scope scope.now;
-    }) scope.now.module (given texts.now) (plain_drafts drafts.now) (option_copied main.entry)) result }
+    }) scope.now.module texts.now (plain_drafts drafts.now) (option_copied main.entry)) result }
 {
     let classes = known_classes(alloc, scope.module, base, drafts)?;
     bodies_among(alloc, scope, classes.as_slice(), drafts, texts, main)
@@ -125,13 +146,13 @@ fn bodies_among(
     scope: &Scope,
     classes: &[Declared],
     drafts: &[Draft],
-    texts: &[&BodyText],
+    texts: &ModuleTexts,
     main: Option<&BlockText>,
 ) -> Result<AllBodies, Refused>
     requires rules { (base : ℕ) × (classes_breach base (classes_of classes.now) ≡ None) }
     requires stand { StandAfterOthers scope.now.module (classes_of classes.now) (plain_drafts drafts.now) }
     ensures { Answers (checked_steps (record { classes = with_kernel (classes_of classes.now); module_of = module_in_scope scope.now }) scope.now.module
-        (given texts.now) (plain_drafts drafts.now) (option_copied main.entry)) result }
+        texts.now (plain_drafts drafts.now) (option_copied main.entry)) result }
 {
     match parts_of(alloc, classes) {
         Ok(parts) => bodies_in_context(alloc, scope, &parts, classes, drafts, texts, main),
@@ -148,8 +169,7 @@ fn known_classes<'a>(
 ) -> Result<Vec<Declared<'a>>, NoMemory>
     ensures { IfOk result (λ all. classes_of all.items ≡ after_base own_module (map (class_in modules.Library) base.now) (draft_classes (plain_drafts drafts.now))) }
 {
-    let mut classes = Vec::new(alloc);
-    declare(&mut classes, Module::Library, base)?;
+    let mut classes = declare(Vec::new(alloc), Module::Library, base)?;
     add_drafts(&mut classes, own_module, drafts)?;
     Ok(classes)
 }
@@ -178,13 +198,13 @@ fn bodies_in_context(
     parts: &Parts,
     classes: &[Declared],
     drafts: &[Draft],
-    texts: &[&BodyText],
+    texts: &ModuleTexts,
     main: Option<&BlockText>,
 ) -> Result<AllBodies, Refused>
     requires parts { AreParts (classes_of classes.now) parts.now }
     requires rules { (base : ℕ) × (classes_breach base (classes_of classes.now) ≡ None) }
     requires stand { StandAfterOthers scope.now.module (classes_of classes.now) (plain_drafts drafts.now) }
-    ensures { Answers (checked_steps (record { classes = with_kernel (classes_of classes.now); module_of = module_in_scope scope.now }) scope.now.module (given texts.now) (plain_drafts drafts.now) (option_copied main.entry)) result }
+    ensures { Answers (checked_steps (record { classes = with_kernel (classes_of classes.now); module_of = module_in_scope scope.now }) scope.now.module texts.now (plain_drafts drafts.now) (option_copied main.entry)) result }
 {
     let known = know(
         &parts.table,

@@ -10,6 +10,7 @@ mod classes;
 mod contexts;
 mod counted_bodies;
 mod elaborated;
+mod grouped;
 mod laws;
 mod limits;
 mod named_bodies;

@@ -12,6 +12,7 @@ ghost use Rattle.som_typing.specs.Knowing.{IsKnowledge, all_of};
 ghost use Rattle.std.specs.Prelude.{◌≡◌, flat_map, option_copied, option_map, slice_get, IfOk};
 ghost use Rattle.std.specs.Str.{bytes_eq};
 
+use crate::grouped::ModuleTexts;
 use crate::operations::is_operation;
 use som_body::BodyText;
 use som_drafts::Draft;
@@ -21,19 +22,19 @@ use som_sema::{Places, first_place, note, place_table};
 use som_typing::{Knowledge, signature_of};
 use std::alloc::Global;
 
-/// Each body names a class of the texts, and a method that the class declares by an operation or overrides and that has as
-/// many parameters.
+/// S13: each body names a class of the texts, and a method that the class declares by an operation or overrides and that has
+/// as many parameters.
 pub fn bodies_named(
     alloc: Global,
     known: &Knowledge,
     drafts: &[Draft],
-    texts: &[&BodyText],
+    texts: &ModuleTexts,
 ) -> Result<(), VerifyFault>
     requires { IsKnowledge known.now }
-    ensures { Tells (first (flat_map (text_s13 (all_of known.now) (plain_drafts drafts.now)) (given texts.now))) result }
+    ensures { Tells (first (flat_map (text_s13 (all_of known.now) (plain_drafts drafts.now)) texts.now)) result }
 {
     let names = class_places(alloc, drafts)?;
-    each_named(alloc, known, drafts, &names, texts)
+    each_named(alloc, known, drafts, &names, texts.all())
 }
 
 fn each_named(

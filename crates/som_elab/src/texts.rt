@@ -1,5 +1,4 @@
 ghost use Rattle.som_elab.specs.Bodies.{bodies_of, texts_for};
-ghost use Rattle.som_elab.specs.Texts as spec;
 ghost use Rattle.som_elab.specs.Texts.{given};
 ghost use Rattle.som_model.specs.Lists.{first};
 ghost use Rattle.std.specs.Prelude.{◌≡◌, ◌++◌, ◌&&◌, length, option_copied, IfOk, OnOk};
@@ -27,24 +26,6 @@ fn add_texts<'a>(all: &mut Vec<&'a BodyText>, texts: &'a [BodyText]) -> Result<(
         all.push(text)?;
     }
     Ok(())
-}
-
-/// Those of one class.
-pub fn texts_of<'a>(
-    alloc: Global,
-    texts: &[&'a BodyText],
-    class: &[u8],
-) -> Result<Vec<&'a BodyText>, NoMemory>
-    ensures { IfOk result (λ own. given own.items ≡ spec.of_class (given texts.now) class.now) }
-{
-    let mut own = Vec::new(alloc);
-    for text in texts {
-        let text: &'a BodyText = *text;
-        if text.class.text.as_slice() == class {
-            own.push(text)?;
-        }
-    }
-    Ok(own)
 }
 
 /// How many bodies there are for a method of a class.

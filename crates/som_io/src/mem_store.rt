@@ -65,6 +65,7 @@ fn leave(
     bytes: &List<u8>,
 ) -> Put
     ensures never { result ≢ puts.Done }
+    ensures sure { leaves ≢ leaves_kinds.New → result ≡ puts.Failed }
     ensures left { result ≡ puts.Failed → files_among files.new.entries ≡ leaving leaves (files_among files.old.entries) name.now bytes.now }
     ensures held { Holds (Some (files_among files.old.entries)) (Some (files_among files.new.entries)) name.now bytes.now result }
 {
@@ -157,6 +158,7 @@ impl Store for MemStore {
         ensures puts { puts_of self.new ≡ puts_of self.old }
         ensures failed { result ≡ puts.Failed → IsTrue (fails_next (calls_of self.old)) }
         ensures fails { IsTrue (fails_next (calls_of self.old)) → (result ≡ puts.Failed) ⊎ (result ≡ puts.NoMemory) }
+        ensures sure { IsTrue (fails_next (calls_of self.old)) → left_by (puts_of self.old) (calls_of self.old).made ≢ leaves_kinds.New → result ≡ puts.Failed }
         ensures held { Holds (Some (files_of self.old)) (Some (files_of self.new)) name.now bytes.now result }
         ensures left { result ≡ puts.Failed → files_of self.new
             ≡ leaving (left_by (puts_of self.old) (calls_of self.old).made) (files_of self.old) name.now bytes.now }

@@ -1,4 +1,5 @@
-ghost use Rattle.std.specs.Prelude.{◌≡◌, IfOk};
+ghost use Rattle.som_model.specs.Blocks.{is_call};
+ghost use Rattle.std.specs.Prelude.{◌≡◌, true, IfOk};
 
 use crate::{
     Block, Boxed, ClassKey, Expr, HostCode, List, MethodRef, NoMemory, Stmt, Text, ValueType,
@@ -29,31 +30,43 @@ impl Expr {
             Expr::Cast { class, of } => copy_cast(alloc, of, class),
             Expr::Isa { class, of } => copy_isa(alloc, of, class),
             Expr::Proxy { class, of } => copy_proxy(alloc, of, class),
-            Expr::OffsetCall {
-                method,
-                receiver,
-                args,
-            } => copy_offset_call(alloc, method, args, receiver),
-            Expr::Lookup {
-                result: kind,
-                name,
-                receiver,
-                args,
-            } => copy_lookup(alloc, kind, name, args, receiver),
-            Expr::Dispatch {
-                result: kind,
-                name,
-                receiver,
-                args,
-            } => copy_dispatch(alloc, kind, name, args, receiver),
-            Expr::ParentCall {
-                parent,
-                method,
-                args,
-            } => copy_parent_call(alloc, *parent, method, args),
-            Expr::ParentsCall { method, args } => copy_parents_call(alloc, method, args),
             Expr::Host { code, a, b } => copy_host(alloc, *code, a, b),
+            _ => copy_call(alloc, self),
         }
+    }
+}
+
+// A call of any form.
+#[cycle(copy_expr)]
+fn copy_call(alloc: Global, call: &Expr) -> Result<Expr, NoMemory>
+    requires { is_call call.now ≡ true }
+    ensures { IfOk result (λ e. e ≡ call.now) }
+{
+    match call {
+        Expr::OffsetCall {
+            method,
+            receiver,
+            args,
+        } => copy_offset_call(alloc, method, args, receiver),
+        Expr::Lookup {
+            result: kind,
+            name,
+            receiver,
+            args,
+        } => copy_lookup(alloc, kind, name, args, receiver),
+        Expr::Dispatch {
+            result: kind,
+            name,
+            receiver,
+            args,
+        } => copy_dispatch(alloc, kind, name, args, receiver),
+        Expr::ParentCall {
+            parent,
+            method,
+            args,
+        } => copy_parent_call(alloc, *parent, method, args),
+        Expr::ParentsCall { method, args } => copy_parents_call(alloc, method, args),
+        _ => unreachable!(),
     }
 }
 

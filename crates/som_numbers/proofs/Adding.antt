@@ -33,7 +33,7 @@ out_derived ks = ap out-ClassKey (sym (rolls-Derived ks)) ∙ out-roll-ClassKey 
 pub out_proxy : (k : ClassKey) → out-ClassKey (keys.Proxy k) ≡ ClassKey-F.Proxy k
 out_proxy k = ap out-ClassKey (sym (rolls-Proxy k)) ∙ out-roll-ClassKey (ClassKey-F.Proxy k)
 
-one_list : (xs : List ClassKey) → length xs ≡ 1 → xs ≡ first_key xs ∷ []
+pub one_list : (xs : List ClassKey) → length xs ≡ 1 → xs ≡ first_key xs ∷ []
 one_list [] e = absurd (omega (arith, e))
 one_list (x ∷ []) e = refl
 one_list (x ∷ y ∷ xs) e = absurd (omega (arith, e))
@@ -54,7 +54,7 @@ made_one kinds.Proxy kinds.Proxy xs ys a b f g e =
     (refl, one_list xs (f refl) ∙ ap (λ z. z ∷ []) same ∙ sym (one_list ys (g refl)))
 
 -- no declared class has a made key
-not_named : (k : Kind) (xs : List ClassKey) → k ≢ kinds.Declared → (m : _) (n : List ℕ) → made_key k xs ≡ keys.Named m n → ⊥
+pub not_named : (k : Kind) (xs : List ClassKey) → k ≢ kinds.Declared → (m : _) (n : List ℕ) → made_key k xs ≡ keys.Named m n → ⊥
 not_named kinds.Declared xs a m n e = a refl
 not_named kinds.Derived xs a m n e = let out : ClassKey-F.Derived xs ≡ ClassKey-F.Named m n = sym (out_derived xs) ∙ ap out-ClassKey e ∙ out_named m n in cc
 not_named kinds.Proxy xs a m n e = let out : ClassKey-F.Proxy (first_key xs) ≡ ClassKey-F.Named m n = sym (out_proxy (first_key xs)) ∙ ap out-ClassKey e ∙ out_named m n in cc
@@ -86,7 +86,7 @@ same_numbers ks apart (m ∷ ms) (n ∷ ns) a b e =
     let tail : map (at ks) ms ≡ map (at ks) ns = cc in
     ap (λ z. z ∷ ms) (apart m n (a m (inl refl)) (b n (inl refl)) head) ∙ ap (λ l. n ∷ l) (same_numbers ks apart ms ns (λ x k. a x (inr k)) (λ x k. b x (inr k)) tail)
 
-some_position : (xs : List Position) (i : ℕ) → i < length xs → (c : Position) × (slice_get xs i ≡ Some c)
+pub some_position : (xs : List Position) (i : ℕ) → i < length xs → (c : Position) × (slice_get xs i ≡ Some c)
 some_position [] i l = absurd (omega (arith, l))
 some_position (x ∷ xs) zero l = (x, refl)
 some_position (x ∷ xs) (suc i) l = some_position xs i (omega (arith, l))
@@ -99,7 +99,7 @@ module _ (cs : List Class) (ps : List Position) (ok : IsNumbers cs ps) where
   ks = keys_by cs ps
 
   -- a declared class has a name
-  named_at : (n : ℕ) → n < length cs → (m : _) × (x : List ℕ) × (at ks n ≡ keys.Named m x)
+  pub named_at : (n : ℕ) → n < length cs → (m : _) × (x : List ℕ) × (at ks n ≡ keys.Named m x)
   named_at n lt =
       let w : n < length (keys_of cs) = omega (arith, lt, keys_length cs) in
       let r = named cs ok.declared n lt in
@@ -117,7 +117,7 @@ module _ (cs : List Class) (ps : List Position) (ok : IsNumbers cs ps) where
           (r.0, r.1, key_is xs i c.0 c.1 ∙ r.2)
 
   -- the class of the proxies of a class has that one parent
-  one_parent : (n : ℕ) (p : Position) → length cs ≤ n → slice_get ps n ≡ Some p → p.kind ≡ kinds.Proxy → length (map (at ks) p.parents) ≡ 1
+  pub one_parent : (n : ℕ) (p : Position) → length cs ≤ n → slice_get ps n ≡ Some p → p.kind ≡ kinds.Proxy → length (map (at ks) p.parents) ≡ 1
   one_parent n p le is proxy =
       let key : at ks n ≡ keys.Proxy (first_key (map (at ks) p.parents)) = (ok.made n p le is).1 ∙ ap (λ k. made_key k (map (at ks) p.parents)) proxy in
       let parents : map (at ks) p.parents ≡ first_key (map (at ks) p.parents) ∷ [] =

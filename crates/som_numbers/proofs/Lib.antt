@@ -8,3 +8,5 @@ pub mod Numbered
 pub mod Placing
 pub mod Listing
 pub mod Naming
+pub mod Making
+pub mod Standing

@@ -88,3 +88,9 @@ with_key k key = if some (same_key key) k.keys then k else record { classes = k.
 pub record AreFirst (k : Numbering) : Type 0 where
   pub numbered : (n : ℕ) (c : Class) → slice_get k.classes n ≡ Some c → IsNumbered k n
   pub key : (n : ℕ) (c : Class) → slice_get k.classes n ≡ Some c → key_at k n ≡ c.key
+
+-- the class is that of the proxies of its one parent
+pub record IsProxy (k : Numbering) (n : ℕ) : Type 0 where
+  pub of : ClassKey
+  pub parents : (hierarchy k.classes).parents (key_at k n) ≡ of ∷ []
+  pub key : key_at k n ≡ keys.Proxy of

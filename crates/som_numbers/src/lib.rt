@@ -3,6 +3,7 @@
 
 mod declared;
 mod keyed;
+mod keys;
 mod made;
 mod made_table;
 mod named;

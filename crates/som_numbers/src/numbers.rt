@@ -1,4 +1,5 @@
-ghost use Rattle.som_meta.specs.Numbering.{AreNumbered, IsNumbered, key_at};
+ghost use Rattle.som_hierarchy.specs.Metaclasses.{IsDeclared};
+ghost use Rattle.som_meta.specs.Numbering.{AreApart, AreNumbered, IsNumbered, key_at};
 ghost use Rattle.som_model.specs.Classes.{ancestors as ancestors_at, hierarchy, is_a as descends};
 ghost use Rattle.som_model.specs.Lists.{Mem};
 ghost use Rattle.som_model.specs.Loads.{keys_of};
@@ -6,13 +7,14 @@ ghost use Rattle.som_model.specs.Metaclass.{rank as rank_of};
 ghost use Rattle.som_model.specs.World.{named_class};
 ghost use Rattle.som_model.specs.declared.limits.TheConstants.{MAX_LAID_CLASSES};
 ghost use Rattle.som_numbers.specs.Classes.{AreDeclared, class_of, classes_of};
-ghost use Rattle.som_numbers.specs.Numbers.{AreFirst, made_key, with_key};
+ghost use Rattle.som_numbers.specs.Numbers.{AreFirst, IsProxy, made_key, with_key};
 ghost use Rattle.som_numbers.specs.declared.position.Kind.TheVariants as kinds;
 ghost use Rattle.std.specs.Option.{option_map};
-ghost use Rattle.std.specs.Prelude.{◌≡◌, ◌≢◌, ◌+◌, ◌<◌, ◌≤◌, ◌++◌, ◌∷◌, [], ℕ, IfNone, IfOk, IfSome, OnErr, OnOk, Some, length, map, slice_get};
+ghost use Rattle.std.specs.Prelude.{◌≡◌, ◌≢◌, ◌↔◌, ◌+◌, ◌<◌, ◌≤◌, ◌++◌, ◌∷◌, [], ℕ, IfNone, IfOk, IfSome, None, OnErr, OnOk, Some, length, map, slice_get};
 
 use crate::declared::{declared_number, declared_positions, number_of};
 use crate::keyed::{Keyed, class_at};
+use crate::keys::find_made;
 use crate::made::greatest_rank;
 use crate::made_table::{MadeTable, push_made};
 use crate::named::{class_named, highest_level};
@@ -74,7 +76,8 @@ impl Numbers {
 
     /// How many classes have numbers.
     pub fn count(&self) -> u32
-        ensures { result ≡ length self.now.keys }
+        ensures count { result ≡ length self.now.keys }
+        ensures apart { AreApart self.now }
     {
         self.positions.len() as u32
     }
@@ -118,23 +121,65 @@ impl Numbers {
     pub fn declared_count(&self) -> u32
         ensures count { result ≡ length self.now.classes }
         ensures first { AreFirst self.now }
+        ensures declared { AreDeclared self.now.classes }
     {
         self.classes.len() as u32
+    }
+
+    /// Whether a class is declared, or how it is made of its parents.
+    pub fn kind(&self, class: ClassNo) -> Kind
+        requires { IsNumbered self.now class }
+        ensures declared { (result ≡ kinds.Declared) ↔ (class < length self.now.classes) }
+        ensures derived { result ≡ kinds.Derived → key_at self.now class ≡ ClassKey.Derived ((hierarchy self.now.classes).parents (key_at self.now class)) }
+        ensures proxy { result ≡ kinds.Proxy → IsProxy self.now class }
+    {
+        if (class.number() as usize) < self.classes.len() {
+            Kind::Declared
+        } else {
+            position_of(self.positions.as_slice(), class).kind
+        }
     }
 
     /// The number of a declared class.
     pub fn number_of(&self, key: &ClassKey) -> ClassNo
         requires { Mem key.now (keys_of self.now.classes) }
         ensures declared { result < length self.now.classes }
+        ensures numbered { IsNumbered self.now result }
         ensures key { key_at self.now result ≡ key.now }
     {
         number_of(&self.names, self.classes.as_slice(), key)
     }
 
-    /// The number of a key's class, if that is declared.
+    /// The number of a class, declared or made. A class of proxies is found by its target, a derived one among the made classes, in the time of
+    /// comparing their parents with the key.
     pub fn find(&self, key: &ClassKey) -> Option<ClassNo>
-        ensures some { IfSome result (λ n. (n < length self.now.classes) × (key_at self.now n ≡ key.now)) }
-        ensures none { IfNone result (Mem key.now (keys_of self.now.classes) → ⊥) }
+        ensures some { IfSome result (λ n. IsNumbered self.now n × (key_at self.now n ≡ key.now)) }
+        ensures none { IfNone result ((n : ℕ) → IsNumbered self.now n → key_at self.now n ≡ key.now → ⊥) }
+    {
+        match key {
+            ClassKey::Named { .. } => self.find_declared(key),
+            ClassKey::Derived { .. } => find_made(key, self),
+            ClassKey::Proxy { of } => match self.find(of.get()) {
+                Some(target) => self.made(Kind::Proxy, &[target]),
+                None => self.no_proxy(of.get()),
+            },
+        }
+    }
+
+    /// A class without a number has no proxy with one.
+    fn no_proxy(&self, of: &ClassKey) -> Option<ClassNo>
+        requires { (n : ℕ) → IsNumbered self.now n → key_at self.now n ≡ of.now → ⊥ }
+        ensures none { result ≡ None }
+        ensures proxy { (n : ℕ) → IsNumbered self.now n → key_at self.now n ≡ ClassKey.Proxy of.now → ⊥ }
+    {
+        let _known = self.positions.len();
+        None
+    }
+
+    fn find_declared(&self, key: &ClassKey) -> Option<ClassNo>
+        requires { IsDeclared key.now }
+        ensures some { IfSome result (λ n. IsNumbered self.now n × (key_at self.now n ≡ key.now)) }
+        ensures none { IfNone result ((n : ℕ) → IsNumbered self.now n → key_at self.now n ≡ key.now → ⊥) }
     {
         declared_number(&self.names, self.classes.as_slice(), key)
     }

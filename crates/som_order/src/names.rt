@@ -1,6 +1,6 @@
 ghost use Rattle.som_model.specs.Lists.{among};
 ghost use Rattle.som_order.specs.Names.{name_at, texts};
-ghost use Rattle.std.specs.Prelude.{◌≡◌, ◌<◌, ◌++◌, ◌∷◌, [], not, if◌then◌else◌, length, is_some, IfOk, IfSome};
+ghost use Rattle.std.specs.Prelude.{◌≡◌, ◌<◌, ◌++◌, ◌∷◌, [], not, if◌then◌else◌, length, is_some, IfOk, IfSome, OnErr};
 
 use indexmap::IndexSet;
 use som_model::NoMemory;
@@ -10,6 +10,7 @@ pub fn note_name<'a>(seen: &mut IndexSet<&'a [u8]>, name: &'a [u8]) -> Result<bo
     ensures is_new { IfOk result (λ is_new. is_new ≡ not (among name.now (texts seen.old.keys))) }
     ensures keys { IfOk result (λ is_new. texts seen.new.keys ≡
         (if is_new then texts seen.old.keys ++ name.now ∷ [] else texts seen.old.keys)) }
+    ensures err { OnErr result (seen.new.keys ≡ seen.old.keys) }
 {
     let (_, is_new) = seen.insert_full(name)?;
     Ok(is_new)

@@ -163,7 +163,7 @@ pub record FacesHold (ds : List ClassDecl) : Type 0 where
   pub classes : ClassesHold (of_release ds)
   pub types : TypesKnown (all_classes ds) (of_release ds)
 
--- the rules S1 to S14 of a release
+-- the rules S1 to S10 and S14 of a release
 pub record RulesHold (r : Release) : Type 0 where
   pub faces : FacesHold r.classes
   pub bodies : BodiesFit (library_classes r)
@@ -172,7 +172,7 @@ pub record RulesHold (r : Release) : Type 0 where
 abbrev pub program_classes : ClientProgram → List Class
 program_classes p = interface_classes p.base ++ client_classes p
 
--- the rules S1 to S14 of a client program: the faces' types name no class of its own, and bodies are its own classes' alone
+-- the rules S1 to S10 and S14 of a client program: the faces' types name no class of its own, and bodies are its own classes' alone
 pub record ProgramHolds (p : ClientProgram) : Type 0 where
   pub classes : ClassesHold (program_classes p)
   pub base_types : TypesKnown (with_kernel (interface_classes p.base)) (interface_classes p.base)

@@ -9,7 +9,7 @@ ghost use Rattle.som_rules.specs.Modules.{classes_of};
 ghost use Rattle.som_rules.specs.Places.{IsTable, with_kernel};
 ghost use Rattle.som_rules.specs.Told.{Tells};
 ghost use Rattle.som_rules.specs.Walk.{AreLists};
-ghost use Rattle.std.specs.Prelude.{◌≡◌, ◌≤◌, ◌++◌, length, map, IfOk, None, OnOk};
+ghost use Rattle.std.specs.Prelude.{◌≡◌, ◌≤◌, ◌++◌, length, map, IfOk, None};
 
 use crate::ancestry::ancestors;
 use crate::introduced::names_introduced_once;
@@ -27,17 +27,17 @@ use std::alloc::Global;
 
 /// Adds classes of a module to those that were declared.
 pub fn declare<'a>(
-    declared: &mut Vec<Declared<'a>>,
+    declared: Vec<Declared<'a>>,
     home: Module,
     classes: &'a [ClassDecl],
-) -> Result<(), NoMemory>
-    ensures { OnOk result (classes_of declared.new.items ≡
-        classes_of declared.old.items ++ map (class_in home) classes.now) }
+) -> Result<Vec<Declared<'a>>, NoMemory>
+    ensures { IfOk result (λ all. classes_of all.items ≡ classes_of declared.entry.items ++ map (class_in home) classes.now) }
 {
+    let mut all = declared;
     for decl in classes {
-        declared.push(Declared { module: home, decl })?;
+        all.push(Declared { module: home, decl })?;
     }
-    Ok(())
+    Ok(all)
 }
 
 /// The rules S1 to S10, which look at no body, where the types of the first `base` classes name no class after them.

@@ -23,8 +23,7 @@ pub fn ancestor_lists(alloc: Global, classes: &[ClassDecl]) -> Result<Vec<List<u
     requires { faces_breach (of_release classes.now) ≡ None }
     ensures { IfOk result (λ lists. AreLists (all_classes classes.now) lists.items) }
 {
-    let mut declared = Vec::new(alloc);
-    declare(&mut declared, Module::Library, classes)?;
+    let declared = declare(Vec::new(alloc), Module::Library, classes)?;
     declared_ancestors(alloc, &declared)
 }
 

@@ -12,8 +12,7 @@ use std::alloc::Global;
 pub fn faces_ok(alloc: Global, classes: &[ClassDecl]) -> Result<(), VerifyFault>
     ensures { Tells (faces_breach (of_release classes.now)) result }
 {
-    let mut declared = Vec::new(alloc);
-    declare(&mut declared, Module::Library, classes)?;
+    let declared = declare(Vec::new(alloc), Module::Library, classes)?;
     classes_hold(alloc, &declared, 0)
 }
 

@@ -2,6 +2,8 @@ pub mod NamedLaws
 pub mod ExpressionLaws
 pub mod StatementLaws
 pub mod InheritedLaws
+pub mod RuleNumbers
+pub mod Chains
 pub mod KeepingLaws
 pub mod MethodLaws
 pub mod BodyLaws
@@ -9,3 +11,4 @@ pub mod ModuleLaws
 pub mod OneBody
 pub mod StandingLaws
 pub mod ConformLaws
+pub mod SourceLaws

@@ -4,4 +4,6 @@ pub mod Statements
 pub mod Bodies
 pub mod Modules
 pub mod Keeping
+pub mod Lowest
 pub mod Conforming
+pub mod Sources

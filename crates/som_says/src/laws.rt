@@ -1,6 +1,8 @@
 ghost use Rattle.som_body.specs.declared.tree.BlockText.{BlockText};
 ghost use Rattle.som_body.specs.declared.tree.BodyText.{BodyText};
 ghost use Rattle.som_body.specs.declared.tree.ExprText.{ExprText};
+ghost use Rattle.som_compile.specs.Compiling.{StandFor, StandForClient};
+ghost use Rattle.som_compile.specs.declared.source.Source.{Source};
 ghost use Rattle.som_elab.specs.Bodies.{bodies_breach, classes_over, drafts_over};
 ghost use Rattle.som_elab.specs.Elaboration.{elaborated_program, elaborated_release};
 ghost use Rattle.som_forms.specs.Expressions.{Among, Elaborated, elaborated};
@@ -8,6 +10,7 @@ ghost use Rattle.som_forms.specs.Locals.{Names};
 ghost use Rattle.som_forms.specs.Statements.{elaborated_block};
 ghost use Rattle.som_idl.specs.declared.tree.IdlInterface.{IdlInterface};
 ghost use Rattle.som_model.specs.Classes.{interface_classes};
+ghost use Rattle.som_model.specs.Rules.{RuleBreach};
 ghost use Rattle.som_model.specs.Typing.{CodePlace};
 ghost use Rattle.som_model.specs.declared.key.Module.{Module};
 ghost use Rattle.som_model.specs.declared.program.ClientProgram.{ClientProgram};
@@ -18,10 +21,12 @@ ghost use Rattle.som_rules.specs.Faces.{faces_breach};
 ghost use Rattle.som_says.specs.Conforming.{BodiesStand, ClientConforms, LibraryConforms};
 ghost use Rattle.som_says.specs.Expressions.{ExprSays};
 ghost use Rattle.som_says.specs.Keeping.{TextsKeep};
+ghost use Rattle.som_says.specs.Lowest.{KeepBelow};
 ghost use Rattle.som_says.specs.Modules.{ProgramSays, ReleaseSays};
+ghost use Rattle.som_says.specs.Sources.{ClientSourcesConform, LibrarySourcesConform};
 ghost use Rattle.som_says.specs.Statements.{BlockSays};
 ghost use Rattle.som_sema.specs.Building.{texts_breach};
-ghost use Rattle.std.specs.Prelude.{◌≡◌, ◌↔◌, List as Seq, None, Ok};
+ghost use Rattle.std.specs.Prelude.{◌≡◌, ◌↔◌, suc, List as Seq, None, Ok, Some};
 
 /// The expression that a text of one stands for is what the text says.
 pub fn expression_law()
@@ -45,6 +50,15 @@ pub fn keeping_law()
     ensures { (m : Module) (base : Interface) (is : Seq IdlInterface) → faces_breach (interface_classes base) ≡ None → (texts_breach m base is ≡ None) ↔ TextsKeep m base is }
 {}
 
+/// What is told of interfaces that break one of the rules S1 to S12 is the lowest that they break: they keep those of lower
+/// number, and not that one with them.
+pub fn lowest_law()
+    ensures below { (m : Module) (base : Interface) (is : Seq IdlInterface) (b : RuleBreach) → faces_breach (interface_classes base) ≡ None →
+        texts_breach m base is ≡ Some b → KeepBelow m base is b.rule }
+    ensures broken { (m : Module) (base : Interface) (is : Seq IdlInterface) (b : RuleBreach) → faces_breach (interface_classes base) ≡ None →
+        texts_breach m base is ≡ Some b → KeepBelow m base is (suc b.rule) → ⊥ }
+{}
+
 /// Of interfaces that keep the rules before, S13 and S14 hold exactly where each body stands where it may and each
 /// method that has one has one.
 pub fn bodies_law()
@@ -59,4 +73,11 @@ pub fn conforming_law()
     ensures library { (is : Seq IdlInterface) (bs : Seq BodyText) → LibraryConforms is bs ↔ ((r : Release) × (elaborated_release is bs ≡ Ok r)) }
     ensures client { (base : Interface) (is : Seq IdlInterface) (bs : Seq BodyText) (main : BlockText) → faces_breach (interface_classes base) ≡ None →
         ClientConforms base is bs main ↔ ((p : ClientProgram) × (elaborated_program base is bs main ≡ Ok p)) }
+{}
+
+/// So it is with whole texts: they conform exactly where there is a release for which they stand, or a client program.
+pub fn sources_law()
+    ensures library { (ss : Seq Source) → LibrarySourcesConform ss ↔ ((r : Release) × StandFor ss r) }
+    ensures client { (base : Interface) (ss : Seq Source) → faces_breach (interface_classes base) ≡ None →
+        ClientSourcesConform base ss ↔ ((p : ClientProgram) × StandForClient base ss p) }
 {}

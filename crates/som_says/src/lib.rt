@@ -3,4 +3,7 @@
 
 mod laws;
 
-pub use laws::{block_law, bodies_law, conforming_law, expression_law, keeping_law, saying_law};
+pub use laws::{
+    block_law, bodies_law, conforming_law, expression_law, keeping_law, lowest_law, saying_law,
+    sources_law,
+};

@@ -2,7 +2,7 @@ ghost use Rattle.som_order.specs.Names.{texts};
 ghost use Rattle.som_scope.specs.ClassNames as names_of_classes;
 ghost use Rattle.som_scope.specs.Words as words;
 ghost use Rattle.som_scope.specs.Words.{lent, once};
-ghost use Rattle.std.specs.Prelude.{◌≡◌, ◌++◌, ◌∷◌, [], IfOk, OnOk};
+ghost use Rattle.std.specs.Prelude.{◌≡◌, ◌++◌, ◌∷◌, [], IfOk, OnErr, OnOk};
 
 use indexmap::IndexSet;
 use som_idl::IdlInterface;
@@ -12,7 +12,8 @@ use std::alloc::Global;
 
 /// Adds a name.
 pub fn add<'a>(names: &mut Vec<&'a [u8]>, name: &'a [u8]) -> Result<(), NoMemory>
-    ensures { OnOk result (texts names.new.items ≡ texts names.old.items ++ name.now ∷ []) }
+    ensures ok { OnOk result (texts names.new.items ≡ texts names.old.items ++ name.now ∷ []) }
+    ensures err { OnErr result (names.new.items ≡ names.old.items) }
 {
     names.push(name)?;
     Ok(())

@@ -14,7 +14,7 @@ ghost use Rattle.som_drafts.specs.declared.drafts.Draft.{Draft as Known};
 ghost use Rattle.std.specs.Prelude.{◌≡◌, ◌<◌, ◌+◌, length, take, flat_map, is_some, slice_get, IfOk, Some};
 
 use indexmap::IndexSet;
-use som_drafts::{Draft, add_metaclasses, breach, each_draft, parent_names};
+use som_drafts::{Draft, base_names, breach, each_draft, metaclass_names};
 use som_model::{List, NoMemory, ValueType};
 use som_rules::{Declared, KERNEL_CLASSES, VerifyFault, descends_by, find_class, type_is_known};
 use som_scope::{Scope, key_of};
@@ -23,7 +23,7 @@ use std::alloc::Global;
 /// The place of the class of classes.
 const SOM_CLASS: usize = 1;
 
-/// Each parent and each metaclass item names a class that stands before its class, the first of which stands at a place.
+/// S2: each parent and each metaclass item names a class that stands before its class, the first of which stands at a place.
 pub fn bases_stand(
     alloc: Global,
     scope: &Scope,
@@ -55,8 +55,7 @@ fn own_bases_stand(
     requires { IsTable (classes_of classes.now) (texts table.now.keys) }
     ensures { Tells (first (text_s2 (module_in_scope scope.now) (take place (with_kernel (classes_of classes.now))) (plain_draft draft.now))) result }
 {
-    let mut names = parent_names(alloc, draft.text.parents.as_slice())?;
-    add_metaclasses(&mut names, draft.text.items.as_slice())?;
+    let names = base_names(alloc, draft.text)?;
     for name in names.as_slice() {
         if !stands(alloc, scope, table, classes, *name, place)? {
             return Err(breach(alloc, 2, draft, *name)?);
@@ -81,7 +80,7 @@ fn stands(
     Ok(type_is_known(table, classes, place, &kind))
 }
 
-/// Each metaclass item names a class that descends from SOMClass.
+/// S4: each metaclass item names a class that descends from SOMClass.
 pub fn metaclasses_descend(
     alloc: Global,
     scope: &Scope,
@@ -118,8 +117,7 @@ fn own_metaclasses_descend(
     requires lists { AreLists (with_kernel (classes_of classes.now)) lists.now }
     ensures { Tells (first (text_s4 (module_in_scope scope.now) (with_kernel (classes_of classes.now)) (plain_draft draft.now))) result }
 {
-    let mut names = Vec::new(alloc);
-    add_metaclasses(&mut names, draft.text.items.as_slice())?;
+    let names = metaclass_names(alloc, draft.text.items.as_slice())?;
     for name in names.as_slice() {
         if !makes_classes(alloc, scope, table, classes, lists, *name)? {
             return Err(breach(alloc, 4, draft, b"-")?);

@@ -234,8 +234,7 @@ fn known_classes<'a>(
 ) -> Result<Vec<Declared<'a>>, NoMemory>
     ensures { IfOk result (λ all. classes_of all.items ≡ after_base own_module (map (class_in modules.Library) base.now) (draft_classes (plain_drafts drafts.now))) }
 {
-    let mut classes = Vec::new(alloc);
-    declare(&mut classes, Module::Library, base)?;
+    let mut classes = declare(Vec::new(alloc), Module::Library, base)?;
     add_drafts(&mut classes, own_module, drafts)?;
     Ok(classes)
 }
@@ -286,8 +285,6 @@ fn both_classes<'a>(
 ) -> Result<Vec<Declared<'a>>, NoMemory>
     ensures { IfOk result (λ all. classes_of all.items ≡ after_base own_module (map (class_in modules.Library) base.now) own.now) }
 {
-    let mut classes = Vec::new(alloc);
-    declare(&mut classes, Module::Library, base)?;
-    declare(&mut classes, own_module, own)?;
-    Ok(classes)
+    let known = declare(Vec::new(alloc), Module::Library, base)?;
+    declare(known, own_module, own)
 }

@@ -36,8 +36,8 @@ pub struct Selecting<'a> {
     pub parents: IndexSet<&'a [u8]>,
 }
 
-/// Each method with `override` or `select` is introduced by a proper ancestor, and what is selected is a parent that descends
-/// from it. The class of the first draft stands at a place.
+/// S10: each method with `override` or `select` is introduced by a proper ancestor, and what is selected is a parent that
+/// descends from it. The class of the first draft stands at a place.
 pub fn replaced_inherited(
     alloc: Global,
     scope: &Scope,

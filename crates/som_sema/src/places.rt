@@ -1,6 +1,6 @@
 ghost use Rattle.som_sema.specs.Noted as spec;
 ghost use Rattle.som_sema.specs.Noted.{At, IsKnown, all_at};
-ghost use Rattle.std.specs.Prelude.{◌≡◌, ◌++◌, ◌∷◌, [], if◌then◌else◌, List as Seq, IfOk, OnOk};
+ghost use Rattle.std.specs.Prelude.{◌≡◌, ◌++◌, ◌∷◌, [], if◌then◌else◌, List as Seq, IfOk, OnErr, OnOk};
 
 use indexmap::IndexSet;
 use som_model::NoMemory;
@@ -55,7 +55,8 @@ fn push_if(places: &mut Vec<usize>, is_new: bool, place: usize) -> Result<(), No
 
 /// Adds a name with a place.
 pub fn note<'a>(all: &mut Vec<Noted<'a>>, name: &'a [u8], place: usize) -> Result<(), NoMemory>
-    ensures { OnOk result (all_at all.new.items ≡ all_at all.old.items ++ record { name = name.now; place = place } ∷ []) }
+    ensures ok { OnOk result (all_at all.new.items ≡ all_at all.old.items ++ record { name = name.now; place = place } ∷ []) }
+    ensures err { OnErr result (all.new.items ≡ all.old.items) }
 {
     all.push(Noted { name, place })?;
     Ok(())

@@ -96,7 +96,7 @@ fn members_hold(
     own_variables_differ(alloc, classes, base)
 }
 
-// The names of the own classes differ from all before them.
+// S1: the names of the own classes differ from all before them.
 fn own_names_differ<'a>(
     alloc: Global,
     classes: &[Declared<'a>],
@@ -109,7 +109,7 @@ fn own_names_differ<'a>(
     class_names(alloc, classes)
 }
 
-// The parents and metaclass items of the own classes stand before them.
+// S2: the parents and metaclass items of the own classes stand before them.
 fn own_bases_stand(
     alloc: Global,
     scope: &Scope,
@@ -126,6 +126,7 @@ fn own_bases_stand(
     bases_stand(alloc, scope, table, classes, drafts, base + KERNEL_CLASSES)
 }
 
+// S3, of the own classes.
 fn own_parents_differ(alloc: Global, classes: &[Declared], base: usize) -> Result<(), VerifyFault>
     requires { base ≤ length classes.now }
     ensures { Tells (first (flat_map s3 (classes_of (drop base classes.now)))) result }
@@ -133,6 +134,7 @@ fn own_parents_differ(alloc: Global, classes: &[Declared], base: usize) -> Resul
     parents_differ(alloc, &classes[base..])
 }
 
+// S7, of the own classes.
 fn own_variables_differ(alloc: Global, classes: &[Declared], base: usize) -> Result<(), VerifyFault>
     requires { base ≤ length classes.now }
     ensures { Tells (first (flat_map s7 (classes_of (drop base classes.now)))) result }
@@ -140,7 +142,7 @@ fn own_variables_differ(alloc: Global, classes: &[Declared], base: usize) -> Res
     variables_differ(alloc, &classes[base..])
 }
 
-// The types of the own classes are known.
+// S5: the types of the own classes are known.
 fn own_types_known(
     alloc: Global,
     table: &IndexSet<&[u8]>,

@@ -10,13 +10,13 @@ use Rattle.som_values.specs.Shown.{Showing, shown, IsSeen, showing}
 use Rattle.som_values.specs.Variables.{Places, AreDisjoint, AreHeld}
 use Rattle.som_values.proofs.Places.{shown_later}
 
-get_set : {X : Type 0} (xs : List X) (i : ℕ) (x y : X) → slice_get xs i ≡ Some x → slice_get (slice_set xs i y) i ≡ Some y
+pub get_set : {X : Type 0} (xs : List X) (i : ℕ) (x y : X) → slice_get xs i ≡ Some x → slice_get (slice_set xs i y) i ≡ Some y
 get_set [] zero x y e = absurd (let f : ⊥ = cc in f)
 get_set [] (suc i) x y e = absurd (let f : ⊥ = cc in f)
 get_set (z ∷ xs) zero x y e = refl
 get_set (z ∷ xs) (suc i) x y e = get_set xs i x y e
 
-get_else : {X : Type 0} (xs : List X) (i j : ℕ) (y : X) → j ≢ i → slice_get (slice_set xs i y) j ≡ slice_get xs j
+pub get_else : {X : Type 0} (xs : List X) (i j : ℕ) (y : X) → j ≢ i → slice_get (slice_set xs i y) j ≡ slice_get xs j
 get_else [] i j y ne = refl
 get_else (x ∷ xs) zero zero y ne = absurd (ne refl)
 get_else (x ∷ xs) zero (suc j) y ne = refl
@@ -34,7 +34,7 @@ chosen : (b : Bool) (v w : Value) → (b ≡ true → ⊥) → (if b then v else
 chosen true v w f = absurd (f refl)
 chosen false v w f = refl
 
-put_else : (k c : ClassKey) (n m : ℕ) (v : Value) (vars : Variables) → ((c ≡ k) → (m ≡ n) → ⊥) → put k n v vars c m ≡ vars c m
+pub put_else : (k c : ClassKey) (n m : ℕ) (v : Value) (vars : Variables) → ((c ≡ k) → (m ≡ n) → ⊥) → put k n v vars c m ≡ vars c m
 put_else k c n m v vars f = chosen (same_key c k && m == n) v (vars c m) (λ e. let b = both (same_key c k) (m == n) e in f (exact_keys.two c k b.0) (exact_numbers.two m n b.1))
 
 -- a variable gets a value in its cell

@@ -10,7 +10,7 @@ use Rattle.som_objects.specs.declared.object_ref.ObjRef.{ObjRef}
 use Rattle.som_objects.specs.Objects.{Live, Objects, live_at, KeepsKnown, Makes, Writes, Frees}
 use Rattle.som_objects.proofs.Known.{live_within, live_before, live_last, live_changed, live_else}
 use Rattle.som_values.specs.Shown.{Showing, key_of, place_of, IsNumbered, IsMade, IsSeen, showing}
-use Rattle.som_values.specs.Stored.{IsOne, Holds, HasClasses, IsKept}
+use Rattle.som_values.specs.Stored.{IsOne, Holds, IsKept}
 use Rattle.som_values.proofs.Places.{same_places, place_later}
 
 -- ---- lists
@@ -92,6 +92,11 @@ changed_else f (x ∷ xs) zero (suc j) ne = refl
 changed_else f (x ∷ xs) (suc i) zero ne = refl
 changed_else f (x ∷ xs) (suc i) (suc j) ne = changed_else f xs i j (λ e. ne (ap suc e))
 
+pub length_changed : (f : Instance → Instance) (ts : List Instance) (i : ℕ) → length (changed f ts i) ≡ length ts
+length_changed f [] i = refl
+length_changed f (x ∷ xs) zero = refl
+length_changed f (x ∷ xs) (suc i) = ap suc (length_changed f xs i)
+
 one_by : (keys : List ClassKey) (o o' : Option Live) (t t' : Option Instance) → o' ≡ o → t' ≡ t → IsOne keys o t → IsOne keys o' t'
 one_by keys o o' t t' e f p = subst (λ x. IsOne keys x t') (sym e) (subst (λ y. IsOne keys o y) (sym f) p)
 
@@ -121,53 +126,29 @@ holds_at s os h n o v f is made holds keeps m p =
 pub holds_freed : (s : Showing) (os os' : Objects) (h : Heap) (r : ObjRef) → Frees os os' r → IsMade s.serials r.serial → Holds s os h → Holds s os' (freed (Object (place_of s.serials r.serial)) h)
 holds_freed s os os' h r f made holds =
     subst (λ x. Holds s x (freed (Object (place_of s.serials r.serial)) h)) (sym f.2)
-    (record { by = holds_at s os h r.serial f.0 None no_longer_live f.1 made holds (λ u p. refl) })
+    (record { many = length_changed no_longer_live h.objects (place_of s.serials r.serial) ∙ holds.many; by = holds_at s os h r.serial f.0 None no_longer_live f.1 made holds (λ u p. refl) })
 
 -- a variable of an object is written in both
 pub holds_written : (s : Showing) (os os' : Objects) (h : Heap) (r : ObjRef) (place : ℕ) (cell : Cell) (k : ClassKey) (n : ℕ) (v : Value)
     → Writes os os' r place cell → IsMade s.serials r.serial → Holds s os h → Holds s os' (write (Object (place_of s.serials r.serial)) k n v h)
 holds_written s os os' h r place cell k n v w made holds =
     subst (λ x. Holds s x (write (Object (place_of s.serials r.serial)) k n v h)) (sym w.2)
-    (record { by = holds_at s os h r.serial w.0 _ (with_variable k n v) w.1 made holds (λ u p. p) })
+    (record { many = length_changed (with_variable k n v) h.objects (place_of s.serials r.serial) ∙ holds.many; by = holds_at s os h r.serial w.0 _ (with_variable k n v) w.1 made holds (λ u p. p) })
 
 -- an object of a class is made in both, at the end
 pub holds_made : (keys : List ClassKey) (xs : List ℕ) (os os' : Objects) (h h' : Heap) (r : ObjRef) (class : ℕ) (cs : List Cell) (t : Instance)
-    → Makes os os' r class cs → h'.objects ≡ h.objects ++ t ∷ [] → t.live ≡ true → t.class ≡ key_of keys class
-    → length h.objects ≡ length xs → ((n : ℕ) → IsMade xs n → n ≤ length os) → Holds (showing keys xs) os h → Holds (showing keys (xs ++ r.serial ∷ [])) os' h'
-holds_made keys xs os os' h h' r class cs t m added live of many within holds = record {
+    → Makes os os' r class cs → h'.objects ≡ h.objects ++ t ∷ [] → t.live ≡ true → t.class ≡ key_of keys class → IsNumbered keys class
+    → ((n : ℕ) → IsMade xs n → n ≤ length os) → Holds (showing keys xs) os h → Holds (showing keys (xs ++ r.serial ∷ [])) os' h'
+holds_made keys xs os os' h h' r class cs t m added live of numbered within holds = record {
+  many = ap (λ (l : List Instance). length l) added ∙ length-append h.objects (t ∷ []) ∙ ap (λ n. n + 1) holds.many ∙ sym (length-append xs (r.serial ∷ []));
   by = λ n p. elim (place_added xs r.serial n p) [
     | inl old ↦ one_by keys _ _ _ _
         (ap (λ x. live_at x n) m.added ∙ live_before os _ n (within n old))
-        (ap (λ l. slice_get l (place_of (xs ++ r.serial ∷ []) n)) added ∙ ap (λ i. slice_get (h.objects ++ t ∷ []) i) (place_later xs (r.serial ∷ []) n old) ∙ get_left h.objects (t ∷ []) (place_of xs n) (omega (arith, old, many)))
+        (ap (λ l. slice_get l (place_of (xs ++ r.serial ∷ []) n)) added ∙ ap (λ i. slice_get (h.objects ++ t ∷ []) i) (place_later xs (r.serial ∷ []) n old) ∙ get_left h.objects (t ∷ []) (place_of xs n) (omega (arith, old, holds.many)))
         (holds.by n old)
     | inr new ↦ one_by keys _ _ _ _
         (ap (λ x. live_at x n) m.added ∙ live_last os _ n (new.1 ∙ m.serial))
-        (ap (λ l. slice_get l (place_of (xs ++ r.serial ∷ []) n)) added ∙ ap (λ i. slice_get (h.objects ++ t ∷ []) i) (new.0 ∙ sym many) ∙ get_last h.objects t)
-        (live, of)
+        (ap (λ l. slice_get l (place_of (xs ++ r.serial ∷ []) n)) added ∙ ap (λ i. slice_get (h.objects ++ t ∷ []) i) (new.0 ∙ sym holds.many) ∙ get_last h.objects t)
+        (live, of, numbered)
   ];
 }
-
--- ---- the classes of live objects have numbers
-
-pub classes_made : (keys : List ClassKey) (os os' : Objects) (r : ObjRef) (class : ℕ) (cs : List Cell) → Makes os os' r class cs → IsNumbered keys class → HasClasses keys os → HasClasses keys os'
-classes_made keys os os' r class cs m numbered all n o e =
-    let e' : live_at (os ++ Some (record { key = r.key; class = class; cells = cs }) ∷ []) n ≡ Some o = ap (λ x. live_at x n) (sym m.added) ∙ e in
-    let w : (0 < n) × (n ≤ length (os ++ Some (record { key = r.key; class = class; cells = cs }) ∷ [])) = live_within _ n o e' in
-    elim (cases_eq n (length os + 1)) [
-      | inl at ↦ subst (λ (x : Live). IsNumbered keys x.class) (same_some (sym (live_last os _ n at) ∙ e')) numbered
-      | inr ne ↦ all n o (sym (live_before os _ n (omega (arith, ne, w.1, length-append os (Some (record { key = r.key; class = class; cells = cs }) ∷ [])))) ∙ e')
-    ]
-
-classes_at : (keys : List ClassKey) (os : Objects) (n : ℕ) (o : Live) (v : Option Live) → live_at os n ≡ Some o → ((p : Live) → v ≡ Some p → p.class ≡ o.class) → HasClasses keys os → HasClasses keys (slice_set os (n - 1) v)
-classes_at keys os n o v is same all m p e =
-    let w : (0 < n) × (n ≤ length os) = live_within os n o is in
-    elim (cases_eq m n) [
-      | inl at ↦ subst (λ k. IsNumbered keys k) (sym (same p (sym (live_changed os v n w.0 w.1) ∙ ap (live_at (slice_set os (n - 1) v)) (sym at) ∙ e))) (all n o is)
-      | inr ne ↦ all m p (sym (live_else os v n m w.0 ne) ∙ e)
-    ]
-
-pub classes_written : (keys : List ClassKey) (os os' : Objects) (r : ObjRef) (place : ℕ) (cell : Cell) → Writes os os' r place cell → HasClasses keys os → HasClasses keys os'
-classes_written keys os os' r place cell w all = subst (HasClasses keys) (sym w.2) (classes_at keys os r.serial w.0 _ w.1 (λ p e. ap (λ (x : Live). x.class) (sym (same_some e))) all)
-
-pub classes_freed : (keys : List ClassKey) (os os' : Objects) (r : ObjRef) → Frees os os' r → HasClasses keys os → HasClasses keys os'
-classes_freed keys os os' r f all = subst (HasClasses keys) (sym f.2) (classes_at keys os r.serial f.0 None f.1 (λ p e. absurd (no_some e)) all)

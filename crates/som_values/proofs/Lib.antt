@@ -1,6 +1,6 @@
 pub mod Fitting
+pub mod Found
 pub mod Held
-pub mod HeldObjects
 pub mod Keeping
 pub mod NewCells
 pub mod Places

@@ -46,6 +46,10 @@ all_shown s cs = map (shown s) cs
 abbrev pub IsNumbered : List ClassKey → ℕ → Type 0
 IsNumbered keys n = n < length keys
 
+-- a class has the key
+abbrev pub IsKey : List ClassKey → ClassKey → Type 0
+IsKey keys k = (n : ℕ) × IsNumbered keys n × (key_of keys n ≡ k)
+
 -- the serial is that of one of the task's objects
 abbrev pub IsMade : List ℕ → ℕ → Type 0
 IsMade serials n = place_of serials n < length serials

@@ -1,6 +1,8 @@
 -- The objects of the meaning that a store holds, and what classes answer of them.
-use Rattle.std.specs.Prelude.{◌≡◌, ℕ, true, false, List, Option, Some, None, Result, Ok, Err, slice_get}
+use Rattle.std.specs.Prelude.{◌≡◌, ℕ, Bool, true, false, List, length, Option, Some, None, Result, Ok, Err, slice_get}
 use Rattle.som_model.specs.declared.key.ClassKey.{ClassKey}
+use Rattle.som_model.specs.declared.key.ValueType.{ValueType}
+use Rattle.som_model.specs.declared.key.ValueType.TheVariants as types
 use Rattle.som_model.specs.declared.program.Fault.{Fault}
 use Rattle.som_model.specs.declared.program.Fault.TheVariants as faults
 use Rattle.som_model.specs.World.{World}
@@ -10,21 +12,18 @@ use Rattle.som_objects.specs.declared.cell.Cell.TheVariants as cells
 use Rattle.som_objects.specs.Objects.{Live, Objects, live_at, IsKnown}
 use Rattle.som_values.specs.declared.reference.Reference.{Reference}
 use Rattle.som_values.specs.declared.reference.Reference.TheVariants as references
-use Rattle.som_values.specs.Shown.{Showing, key_of, place_of, IsMade, IsNumbered}
+use Rattle.som_values.specs.Shown.{Showing, key_of, place_of, IsMade, IsNumbered, IsKey}
 
--- an object that is live in the store is live in the meaning and has its class, and one that was freed is freed there
+-- an object that is live in the store is live in the meaning and has its class, which has a number, and one that was freed is freed there
 abbrev pub IsOne : List ClassKey → Option Live → Option Instance → Type 0
-IsOne keys (Some o) (Some t) = (t.live ≡ true) × (t.class ≡ key_of keys o.class)
+IsOne keys (Some o) (Some t) = (t.live ≡ true) × (t.class ≡ key_of keys o.class) × IsNumbered keys o.class
 IsOne keys None (Some t) = t.live ≡ false
 IsOne keys _ None = ⊥
 
--- each object that the task made stands in the heap at the place of its serial, with the same class, and live where it is live in the store; there may be more
+-- the heap has as many objects as the task made, and each of these stands in it at the place of its serial, with the same class, and live where it is live in the store
 pub record Holds (s : Showing) (os : Objects) (h : Heap) : Type 0 where
+  pub many : length h.objects ≡ length s.serials
   pub by : (n : ℕ) → IsMade s.serials n → IsOne s.keys (live_at os n) (slice_get h.objects (place_of s.serials n))
-
--- the class of each live object has a number
-abbrev pub HasClasses : List ClassKey → Objects → Type 0
-HasClasses keys os = (n : ℕ) (o : Live) → live_at os n ≡ Some o → IsNumbered keys o.class
 
 -- the store knows the object that a cell refers to
 abbrev pub IsKept : Objects → Cell → Type 0
@@ -40,11 +39,18 @@ abbrev pub IsClassOf : List ClassKey → World → Heap → Ref → Result ℕ F
 IsClassOf keys w h r (Ok n) = (is_live h r ≡ true) × (class_of w h r ≡ key_of keys n)
 IsClassOf keys w h r (Err f) = (is_live h r ≡ false) × (f ≡ faults.Freed)
 
--- the class of a class object that is referred to has a number
-abbrev pub IsNumberedRef : List ClassKey → Reference → Type 0
-IsNumberedRef keys (references.Class n) = IsNumbered keys n
-IsNumberedRef keys _ = Unit {0}
+-- the classes can be asked for the class of a reference: an object's class has a number, where the object is live, and the class of a class object has one and is made
+abbrev pub IsClassedRef : List ClassKey → (ClassKey → Bool) → Objects → Reference → Type 0
+IsClassedRef keys made os (references.Object r) = (o : Live) → live_at os r.serial ≡ Some o → IsNumbered keys o.class
+IsClassedRef keys made os (references.Class n) = IsNumbered keys n × (made (key_of keys n) ≡ true)
+IsClassedRef keys made os references.Manager = Unit {0}
 
-abbrev pub IsNumberedCell : List ClassKey → Cell → Type 0
-IsNumberedCell keys (cells.Class n) = IsNumbered keys n
-IsNumberedCell keys _ = Unit {0}
+abbrev pub IsClassed : List ClassKey → (ClassKey → Bool) → Objects → Cell → Type 0
+IsClassed keys made os (cells.Object r) = (o : Live) → live_at os r.serial ≡ Some o → IsNumbered keys o.class
+IsClassed keys made os (cells.Class n) = IsNumbered keys n × (made (key_of keys n) ≡ true)
+IsClassed keys made os _ = Unit {0}
+
+-- a class has the key, where the type is one of objects
+abbrev pub IsKnownType : List ClassKey → ValueType → Type 0
+IsKnownType keys (types.Class k) = IsKey keys k
+IsKnownType keys _ = Unit {0}

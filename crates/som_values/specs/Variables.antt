@@ -1,10 +1,9 @@
 -- The variables of an object, in its cells.
 use Rattle.std.specs.Prelude.{◌≡◌, ℕ, List, Option, Some, slice_get}
 use Rattle.som_model.specs.declared.key.ClassKey.{ClassKey}
-use Rattle.som_model.specs.State.{Variables, Instance, Heap}
+use Rattle.som_model.specs.State.{Variables}
 use Rattle.som_objects.specs.declared.cell.Cell.{Cell}
-use Rattle.som_objects.specs.Objects.{Live, Objects, live_at}
-use Rattle.som_values.specs.Shown.{Showing, shown, place_of, IsMade}
+use Rattle.som_values.specs.Shown.{Showing, shown}
 
 -- the place of each variable of each class among an object's cells, where the object has the variable
 abbrev pub Places : Type 0
@@ -17,7 +16,3 @@ AreDisjoint place = (k c : ClassKey) (n m p : ℕ) → place k n ≡ Some p → 
 -- the cell at each variable's place stands for the variable's value
 abbrev pub AreHeld : Showing → Places → List Cell → Variables → Type 0
 AreHeld s place cs vars = (k : ClassKey) (n p : ℕ) → place k n ≡ Some p → (c : Cell) × (slice_get cs p ≡ Some c) × (vars k n ≡ shown s c)
-
--- each object that is live in the store has the values of its variables in its cells, at the places that its class gives them
-pub record HoldsVariables (s : Showing) (places : ℕ → Places) (os : Objects) (h : Heap) : Type 0 where
-  pub by : (n : ℕ) (o : Live) (t : Instance) → IsMade s.serials n → live_at os n ≡ Some o → slice_get h.objects (place_of s.serials n) ≡ Some t → AreHeld s (places o.class) o.cells t.variables

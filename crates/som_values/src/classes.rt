@@ -1,8 +1,8 @@
 ghost use Rattle.som_model.specs.declared.key.ClassKey.{ClassKey};
 ghost use Rattle.som_model.specs.Kernel.{som_class_mgr};
 ghost use Rattle.som_model.specs.World.{World};
-ghost use Rattle.som_values.specs.Shown.{IsNumbered, key_of};
-ghost use Rattle.std.specs.Prelude.{◌≡◌, List};
+ghost use Rattle.som_values.specs.Shown.{IsKey, IsNumbered, key_of};
+ghost use Rattle.std.specs.Prelude.{◌≡◌, Bool, List, true};
 
 use som_model::ClassKey as Key;
 use som_tables::ClassNo;
@@ -11,6 +11,9 @@ use som_tables::ClassNo;
 pub trait Classes {
     /// The key that each number stands for.
     ghost keys: { Self → List ClassKey };
+
+    /// Which classes are made.
+    ghost made: { Self → ClassKey → Bool };
 
     /// What a run asks of the classes.
     ghost world: { Self → World };
@@ -22,11 +25,13 @@ pub trait Classes {
 
     /// The same of two keys.
     fn is_a(&self, class: &Key, ancestor: &Key) -> bool
+        requires { IsKey (keys self.now) class.now }
         ensures { result ≡ (world self.now).is_a class.now ancestor.now };
 
     /// The class of a class's own object.
     fn metaclass(&self, class: ClassNo) -> ClassNo
-        requires { IsNumbered (keys self.now) class }
+        requires numbered { IsNumbered (keys self.now) class }
+        requires made { made self.now (key_of (keys self.now) class) ≡ true }
         ensures numbered { IsNumbered (keys self.now) result }
         ensures key { key_of (keys self.now) result ≡ (world self.now).meta (key_of (keys self.now) class) };
 

@@ -2,7 +2,7 @@ ghost use Rattle.som_model.specs.State.{Heap, is_live as is_live_in, live as liv
 ghost use Rattle.som_objects.specs.Objects.{Objects};
 ghost use Rattle.som_values.specs.Answers.{shown_found};
 ghost use Rattle.som_values.specs.Shown.{IsNumbered, IsSeen, IsSeenRef, Showing, cell_of, shown, shown_ref, showing};
-ghost use Rattle.som_values.specs.Stored.{HasClasses, Holds, IsClassOf, IsKept, IsKeptRef, IsNumberedRef};
+ghost use Rattle.som_values.specs.Stored.{Holds, IsClassOf, IsClassedRef, IsKept, IsKeptRef};
 ghost use Rattle.std.specs.Prelude.{◌≡◌, ℕ, List, IfOk};
 
 use crate::{Classes, Reference, referred};
@@ -52,9 +52,8 @@ pub fn class_of<C: Classes>(
     objects: &ObjectStore,
     reference: Reference,
 ) -> Result<ClassNo, Fault>
-    requires objects { HasClasses (C.keys classes.now) objects.now }
     requires kept { IsKeptRef objects.now reference }
-    requires numbered { IsNumberedRef (C.keys classes.now) reference }
+    requires classed { IsClassedRef (C.keys classes.now) (C.made classes.now) objects.now reference }
     ensures means { (serials : List ℕ) (h : Heap) → Holds (showing (C.keys classes.now) serials) objects.now h → IsSeenRef (showing (C.keys classes.now) serials) reference
         → IsClassOf (C.keys classes.now) (C.world classes.now) h (shown_ref (showing (C.keys classes.now) serials) reference) result }
     ensures numbered { IfOk result (IsNumbered (C.keys classes.now)) }

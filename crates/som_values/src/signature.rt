@@ -1,7 +1,7 @@
 ghost use Rattle.som_model.specs.State.{Heap};
 ghost use Rattle.som_model.specs.Values.{serves as serves_in, sig_fits as sig_fits_in};
 ghost use Rattle.som_values.specs.Shown.{IsSeen, all_shown, showing};
-ghost use Rattle.som_values.specs.Stored.{HasClasses, Holds, IsKept, IsNumberedCell};
+ghost use Rattle.som_values.specs.Stored.{Holds, IsClassed, IsKept, IsKnownType};
 ghost use Rattle.std.specs.List.{All};
 ghost use Rattle.std.specs.Prelude.{◌≡◌, ℕ, List, Some};
 
@@ -11,6 +11,7 @@ use som_objects::{Cell, ObjectStore};
 
 /// Whether a result of one type serves where one of another is wanted.
 pub fn serves<C: Classes>(classes: &C, kind: &ValueType, wanted: &ValueType) -> bool
+    requires { IsKnownType (C.keys classes.now) kind.now }
     ensures { result ≡ serves_in (C.world classes.now) kind.now wanted.now }
 {
     match (kind, wanted) {
@@ -31,9 +32,9 @@ pub fn sig_fits<C: Classes>(
     wanted: &ValueType,
     cells: &[Cell],
 ) -> Result<(), Fault>
-    requires objects { HasClasses (C.keys classes.now) objects.now }
+    requires known { IsKnownType (C.keys classes.now) sig.now.result }
     requires kept { All (IsKept objects.now) cells.now }
-    requires numbered { All (IsNumberedCell (C.keys classes.now)) cells.now }
+    requires classed { All (IsClassed (C.keys classes.now) (C.made classes.now) objects.now) cells.now }
     ensures { (serials : List ℕ) (h : Heap) → Holds (showing (C.keys classes.now) serials) objects.now h → All (IsSeen (showing (C.keys classes.now) serials)) cells.now
         → result ≡ sig_fits_in (C.world classes.now) h (Some sig.now) wanted.now (all_shown (showing (C.keys classes.now) serials) cells.now) }
 {

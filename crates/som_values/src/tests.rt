@@ -4,7 +4,7 @@ ghost use Rattle.som_model.specs.State.{Heap};
 ghost use Rattle.som_model.specs.Values.{all_fit as all_fit_in, cast as cast_in, fits as fits_in, isa as isa_in};
 ghost use Rattle.som_values.specs.Answers.{passed, truth_tried};
 ghost use Rattle.som_values.specs.Shown.{IsSeen, Showing, all_shown, shown, showing};
-ghost use Rattle.som_values.specs.Stored.{HasClasses, Holds, IsKept, IsNumberedCell};
+ghost use Rattle.som_values.specs.Stored.{Holds, IsClassed, IsKept};
 ghost use Rattle.std.specs.List.{All};
 ghost use Rattle.std.specs.Prelude.{◌≡◌, ℕ, List};
 
@@ -34,9 +34,8 @@ pub fn cast<C: Classes>(
     class: &ClassKey,
     cell: &Cell,
 ) -> Result<(), Fault>
-    requires objects { HasClasses (C.keys classes.now) objects.now }
     requires kept { IsKept objects.now cell.now }
-    requires numbered { IsNumberedCell (C.keys classes.now) cell.now }
+    requires classed { IsClassed (C.keys classes.now) (C.made classes.now) objects.now cell.now }
     ensures { (serials : List ℕ) (h : Heap) → Holds (showing (C.keys classes.now) serials) objects.now h → IsSeen (showing (C.keys classes.now) serials) cell.now
         → passed (shown (showing (C.keys classes.now) serials) cell.now) result ≡ cast_in (C.world classes.now) class.now h (shown (showing (C.keys classes.now) serials) cell.now) }
 {
@@ -58,9 +57,8 @@ pub fn isa<C: Classes>(
     class: &ClassKey,
     cell: &Cell,
 ) -> Result<bool, Fault>
-    requires objects { HasClasses (C.keys classes.now) objects.now }
     requires kept { IsKept objects.now cell.now }
-    requires numbered { IsNumberedCell (C.keys classes.now) cell.now }
+    requires classed { IsClassed (C.keys classes.now) (C.made classes.now) objects.now cell.now }
     ensures { (serials : List ℕ) (h : Heap) → Holds (showing (C.keys classes.now) serials) objects.now h → IsSeen (showing (C.keys classes.now) serials) cell.now
         → truth_tried result ≡ isa_in (C.world classes.now) class.now h (shown (showing (C.keys classes.now) serials) cell.now) }
 {
@@ -73,9 +71,8 @@ pub fn isa<C: Classes>(
 
 /// Whether a value fits a type. No reference to a freed object fits a class.
 pub fn fits<C: Classes>(classes: &C, objects: &ObjectStore, kind: &ValueType, cell: &Cell) -> bool
-    requires objects { HasClasses (C.keys classes.now) objects.now }
     requires kept { IsKept objects.now cell.now }
-    requires numbered { IsNumberedCell (C.keys classes.now) cell.now }
+    requires classed { IsClassed (C.keys classes.now) (C.made classes.now) objects.now cell.now }
     ensures { (serials : List ℕ) (h : Heap) → Holds (showing (C.keys classes.now) serials) objects.now h → IsSeen (showing (C.keys classes.now) serials) cell.now
         → result ≡ fits_in (C.world classes.now) h kind.now (shown (showing (C.keys classes.now) serials) cell.now) }
 {
@@ -90,9 +87,8 @@ pub fn fits<C: Classes>(classes: &C, objects: &ObjectStore, kind: &ValueType, ce
 
 // Whether a value is nil, or refers to an object that isn't freed and whose class descends from this one.
 fn fits_class<C: Classes>(classes: &C, objects: &ObjectStore, class: &ClassKey, cell: &Cell) -> bool
-    requires objects { HasClasses (C.keys classes.now) objects.now }
     requires kept { IsKept objects.now cell.now }
-    requires numbered { IsNumberedCell (C.keys classes.now) cell.now }
+    requires classed { IsClassed (C.keys classes.now) (C.made classes.now) objects.now cell.now }
     ensures { (serials : List ℕ) (h : Heap) → Holds (showing (C.keys classes.now) serials) objects.now h → IsSeen (showing (C.keys classes.now) serials) cell.now
         → result ≡ fits_in (C.world classes.now) h (types.Class class.now) (shown (showing (C.keys classes.now) serials) cell.now) }
 {
@@ -112,9 +108,8 @@ pub fn all_fit<C: Classes>(
     kinds: &[ValueType],
     cells: &[Cell],
 ) -> bool
-    requires objects { HasClasses (C.keys classes.now) objects.now }
     requires kept { All (IsKept objects.now) cells.now }
-    requires numbered { All (IsNumberedCell (C.keys classes.now)) cells.now }
+    requires classed { All (IsClassed (C.keys classes.now) (C.made classes.now) objects.now) cells.now }
     ensures { (serials : List ℕ) (h : Heap) → Holds (showing (C.keys classes.now) serials) objects.now h → All (IsSeen (showing (C.keys classes.now) serials)) cells.now
         → result ≡ all_fit_in (C.world classes.now) h kinds.now (all_shown (showing (C.keys classes.now) serials) cells.now) }
 {

@@ -54,8 +54,6 @@ pub fn declare_program<'a>(
     requires { base.now ≡ map bare program.now.base.classes }
     ensures { IfOk result (λ declared. classes_of declared.items ≡ program_classes program.now) }
 {
-    let mut declared = Vec::new(alloc);
-    declare(&mut declared, Module::Library, base)?;
-    declare(&mut declared, Module::Client, program.classes.as_slice())?;
-    Ok(declared)
+    let known = declare(Vec::new(alloc), Module::Library, base)?;
+    declare(known, Module::Client, program.classes.as_slice())
 }

@@ -21,8 +21,7 @@ pub fn release_ok(alloc: Global, release: &Release) -> Result<(), VerifyFault>
 fn all_rules_hold(alloc: Global, release: &Release) -> Result<(), VerifyFault>
     ensures { Tells (release_breach release.now) result }
 {
-    let mut declared = Vec::new(alloc);
-    declare(&mut declared, Module::Library, release.classes.as_slice())?;
+    let declared = declare(Vec::new(alloc), Module::Library, release.classes.as_slice())?;
     let declared = declared.as_slice();
     rules_hold(alloc, declared, 0)?;
     blocks_typed(alloc, declared, 0)

@@ -1,4 +1,4 @@
-use Rattle.std.proofs.Common.{◌≡◌, ◌+◌, ◌*◌, ◌++◌, length, map, drop}
+use Rattle.std.proofs.Common.{◌≡◌, ◌+◌, ◌*◌, ◌++◌, length, map, max, drop}
 use Rattle.som_model.specs.declared.syntax.Expr.{size-Expr}
 use Rattle.som_code.specs.Laid.{lay_expr, lay_each}
 use Rattle.som_code.proofs.expressions.+emit_expr.Given as goal
@@ -29,3 +29,18 @@ decreases-emit_right l = 6 * size-Expr l.right.now + 4
 
 abbrev pub decreases-emit_args : goal.decreases-emit_args
 decreases-emit_args l = 6 * goal.size-emit_args l + 2
+
+abbrev pub decreases-emit_offset_call : goal.decreases-emit_offset_call
+decreases-emit_offset_call l = 6 * max (goal.size-emit_offset_call l) (size-Expr l.receiver.now) + 3
+
+abbrev pub decreases-emit_lookup : goal.decreases-emit_lookup
+decreases-emit_lookup l = 6 * max (goal.size-emit_lookup l) (size-Expr l.receiver.now) + 3
+
+abbrev pub decreases-emit_dispatch : goal.decreases-emit_dispatch
+decreases-emit_dispatch l = 6 * max (goal.size-emit_dispatch l) (size-Expr l.receiver.now) + 3
+
+abbrev pub decreases-emit_parent_call : goal.decreases-emit_parent_call
+decreases-emit_parent_call l = 6 * goal.size-emit_parent_call l + 3
+
+abbrev pub decreases-emit_parents_call : goal.decreases-emit_parents_call
+decreases-emit_parents_call l = 6 * goal.size-emit_parents_call l + 3

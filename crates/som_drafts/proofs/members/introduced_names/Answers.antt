@@ -8,7 +8,7 @@ use Rattle.som_drafts.proofs.members.introduced_names.Goals.{in-Introduced+in_ok
 pub loop-entry-preserved : goal.loop-entry-preserved
 loop-entry-preserved c = elim c.match-entry.branch [
   | in-Introduced+in_ok-add w ↦ next_value introduced c.args.entries.now c.loop-entry.entry-index _ _ (texts c.loop-entry.names.items) _ _ _ _
-      c.loop-entry-test.true c.entry-item.is (ap (λ v. texts v.items) w.names-is ∙ w.in_ok-add.ensures) w.as_slice.ensures
+      c.loop-entry-test.true c.entry-item.is (ap (λ v. texts v.items) w.names-is ∙ w.in_ok-add.ensures.ok) w.as_slice.ensures
       (ap (λ z. introduced (z ∷ drop (c.loop-entry.entry-index + 1) c.args.entries.now)) w.in-Introduced.is) c.loop-entry.invariant
   | in_default w ↦ next_none introduced c.args.entries.now c.loop-entry.entry-index _ _ (texts c.loop-entry.names.items) _ _
       c.loop-entry-test.true c.entry-item.is (ap (λ v. texts v.items) w.names-is)

@@ -8,7 +8,7 @@ pub loop-name-preserved : goal.loop-name-preserved
 loop-name-preserved c = record {
   rest = once_more c.args.names.now c.loop-name.name-index _ _ _ _ _ c.loop-name-test.true c.in_ok-note_name.ensures.is_new c.in_ok-note_name.ensures.keys c.loop-name.invariant.rest;
   kept = elim c.if-branch.branch [
-    | then-branch+in_ok-add w ↦ kept_new _ _ _ _ _ _ w.if-branch.true c.in_ok-note_name.ensures.keys (ap (λ v. texts v.items) w.first-is ∙ w.in_ok-add.ensures) c.loop-name.invariant.kept
+    | then-branch+in_ok-add w ↦ kept_new _ _ _ _ _ _ w.if-branch.true c.in_ok-note_name.ensures.keys (ap (λ v. texts v.items) w.first-is ∙ w.in_ok-add.ensures.ok) c.loop-name.invariant.kept
     | else-branch w ↦ kept_old _ _ _ _ _ _ w.if-branch.false c.in_ok-note_name.ensures.keys (ap (λ v. texts v.items) w.first-is) c.loop-name.invariant.kept
   ];
 }

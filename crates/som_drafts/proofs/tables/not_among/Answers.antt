@@ -12,7 +12,7 @@ loop-name-preserved c =
     let known = texts c.args.known.now.keys in
     elim c.if-is_none.branch [
       | then-is_none+in_ok-add w ↦ next (λ (z : List (Bor (List ℕ))). without (λ name. among name known) (texts z)) c.args.names.now c.loop-name.name-index _ _ (texts c.loop-name.kept.items) _ _ _
-          c.loop-name-test.true refl (ap (λ v. texts v.items) w.kept-is ∙ w.in_ok-add.ensures)
+          c.loop-name-test.true refl (ap (λ v. texts v.items) w.kept-is ∙ w.in_ok-add.ensures.ok)
           (without_kept known _ _ (sym c.find_name.ensures.among ∙ w.if-is_none.ensures)) c.loop-name.invariant
       | else-is_none w ↦ next_none (λ (z : List (Bor (List ℕ))). without (λ name. among name known) (texts z)) c.args.names.now c.loop-name.name-index _ _ (texts c.loop-name.kept.items) _ _
           c.loop-name-test.true refl (ap (λ v. texts v.items) w.kept-is)

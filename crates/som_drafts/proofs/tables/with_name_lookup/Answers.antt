@@ -10,7 +10,7 @@ use Rattle.som_drafts.proofs.tables.with_name_lookup.Goals.{in-NameLookup+in_ok-
 pub loop-mark-preserved : goal.loop-mark-preserved
 loop-mark-preserved c = elim c.match-mark.branch [
   | in-NameLookup+in_ok-add w ↦ next (λ (z : List Mark). with_modifier is_by_name (map given_by z)) c.args.marks.now c.loop-mark.mark-index c.mark-item.result _ (texts c.loop-mark.names.items) _ _ _
-      c.loop-mark-test.true c.mark-item.is (ap (λ v. texts v.items) w.names-is ∙ w.in_ok-add.ensures)
+      c.loop-mark-test.true c.mark-item.is (ap (λ v. texts v.items) w.names-is ∙ w.in_ok-add.ensures.ok)
       (given_once is_by_name (given_by c.mark-item.result) (map given_by (drop (c.loop-mark.mark-index + 1) c.args.marks.now)) (ap is_by_name w.in-NameLookup.is)) c.loop-mark.invariant
   | in_default w ↦ next_none (λ (z : List Mark). with_modifier is_by_name (map given_by z)) c.args.marks.now c.loop-mark.mark-index c.mark-item.result _ (texts c.loop-mark.names.items) _ _
       c.loop-mark-test.true c.mark-item.is (ap (λ v. texts v.items) w.names-is)

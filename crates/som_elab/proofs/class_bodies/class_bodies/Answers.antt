@@ -1,4 +1,3 @@
-use Rattle.std.proofs.Common.{ap}
 use Rattle.som_drafts.specs.Drafts.{plain_draft}
 use Rattle.som_rules.specs.Places.{class_of_place}
 use Rattle.som_elab.specs.Contexts.{among_in, classes_in}
@@ -7,5 +6,5 @@ use Rattle.som_elab.proofs.OwnTexts.{class_told}
 use Rattle.som_elab.proofs.class_bodies.class_bodies.Goals as goal
 
 pub returns : goal.returns
-returns c = class_told (among_in c.args.context.now) (given c.args.texts.now) (given c.in_ok-own.own.items) (given c.as_slice-2.result.now) (plain_draft c.args.draft.now) (class_of_place (classes_in c.args.context.now) c.args.place) c.as_slice.result.now c.own_bodies.result
-    c.requires.class c.as_slice.ensures c.in_ok-own.ensures (ap given c.as_slice-2.ensures.value) c.own_bodies.ensures
+returns c = class_told (among_in c.args.context.now) c.args.texts.now (given c.of_class-own.result.now) (plain_draft c.args.draft.now) (class_of_place (classes_in c.args.context.now) c.args.place) c.as_slice.result.now c.own_bodies.result
+    c.requires.class c.as_slice.ensures c.of_class-own.ensures c.own_bodies.ensures

@@ -3,5 +3,5 @@ use Rattle.std.specs.Borrow.{Bor}
 use Rattle.som_scope.proofs.Going.{pushed}
 use Rattle.som_scope.proofs.tables.add.Goals as goal
 
-pub returns : goal.returns
-returns c = pushed (λ (b : Bor (List ℕ)). b.now) _ _ _ c.in_ok-push.ensures.items
+pub returns-clause-ok : goal.returns-clause-ok
+returns-clause-ok c = pushed (λ (b : Bor (List ℕ)). b.now) _ _ _ c.in_ok-push.ensures.items

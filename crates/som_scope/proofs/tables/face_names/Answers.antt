@@ -9,7 +9,7 @@ use Rattle.som_scope.proofs.tables.face_names.Goals as goal
 pub loop-face-preserved : goal.loop-face-preserved
 loop-face-preserved c =
     next_value face_names c.args.faces.now c.loop-face.face-index _ _ (texts c.loop-face.names.items) _ _ _ _
-    c.loop-face-test.true c.face-item.is c.in_ok-add.ensures c.as_slice.ensures refl c.loop-face.invariant
+    c.loop-face-test.true c.face-item.is c.in_ok-add.ensures.ok c.as_slice.ensures refl c.loop-face.invariant
 
 pub returns : goal.returns
 returns c =

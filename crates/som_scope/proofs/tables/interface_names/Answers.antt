@@ -10,7 +10,7 @@ use Rattle.som_scope.proofs.tables.interface_names.Goals as goal
 pub loop-interface-preserved : goal.loop-interface-preserved
 loop-interface-preserved c =
     next_value (λ (z : List (Bor IdlInterface)). interface_names (lent z)) c.args.interfaces.now c.loop-interface.interface-index _ _ (texts c.loop-interface.names.items) _ _ _ _
-    c.loop-interface-test.true c.interface-item.is c.in_ok-add.ensures c.as_slice.ensures refl c.loop-interface.invariant
+    c.loop-interface-test.true c.interface-item.is c.in_ok-add.ensures.ok c.as_slice.ensures refl c.loop-interface.invariant
 
 pub returns : goal.returns
 returns c =

@@ -10,4 +10,4 @@ pub returns : goal.returns
 returns c =
     c.in_ok-add_drafts.ensures
     ∙ ap (λ z. z ++ map (class_in c.args.own_module) (draft_classes (plain_drafts c.args.drafts.now)))
-    (c.in_ok-declare.ensures ∙ ap (λ (z : List Declared). classes_of z ++ map (class_in modules.Library) c.args.base.now) c.new-classes.ensures.items)
+    (c.in_ok-classes.ensures ∙ ap (λ (z : List Declared). classes_of z ++ map (class_in modules.Library) c.args.base.now) c.new.ensures.items)

@@ -10,7 +10,7 @@ use Rattle.som_verify.proofs.release.all_rules_hold.Goals as goal
 pub returns-in_err-rules_hold : goal.returns-in_err-rules_hold
 returns-in_err-rules_hold c =
     let p = err_from_is_err_and c.from_residual-in_err-rules_hold.result c.from_residual-in_err-rules_hold.ensures.1 in
-    rw (p.1, p.2) (release_tells_rules c.args.release.now (classes_of c.as_slice-declared.result.now) c.in_err-rules_hold.field-0.0 (ap classes_of c.as_slice-declared.ensures.value ∙ c.in_ok-declare.ensures ∙ ap (λ z. classes_of z ++ map (class_in modules.Library) c.as_slice.result.now) c.new-declared.ensures.items ∙ ap (map (class_in modules.Library)) c.as_slice.ensures) c.in_err-rules_hold.ensures)
+    rw (p.1, p.2) (release_tells_rules c.args.release.now (classes_of c.as_slice-declared.result.now) c.in_err-rules_hold.field-0.0 (ap classes_of c.as_slice-declared.ensures.value ∙ c.in_ok-declared.ensures ∙ ap (λ z. classes_of z ++ map (class_in modules.Library) c.as_slice.result.now) c.new.ensures.items ∙ ap (map (class_in modules.Library)) c.as_slice.ensures) c.in_err-rules_hold.ensures)
 
 pub returns : goal.returns
-returns c = release_tells c.args.release.now (classes_of c.as_slice-declared.result.now) c.blocks_typed.result (ap classes_of c.as_slice-declared.ensures.value ∙ c.in_ok-declare.ensures ∙ ap (λ z. classes_of z ++ map (class_in modules.Library) c.as_slice.result.now) c.new-declared.ensures.items ∙ ap (map (class_in modules.Library)) c.as_slice.ensures) (tells_later _ _ c.blocks_typed.result c.in_ok-rules_hold.ensures c.blocks_typed.ensures)
+returns c = release_tells c.args.release.now (classes_of c.as_slice-declared.result.now) c.blocks_typed.result (ap classes_of c.as_slice-declared.ensures.value ∙ c.in_ok-declared.ensures ∙ ap (λ z. classes_of z ++ map (class_in modules.Library) c.as_slice.result.now) c.new.ensures.items ∙ ap (map (class_in modules.Library)) c.as_slice.ensures) (tells_later _ _ c.blocks_typed.result c.in_ok-rules_hold.ensures c.blocks_typed.ensures)

@@ -11,3 +11,6 @@ returns-clause-count c = rw (← c.self.view_is) (c.len.ensures ∙ sym (classes
 
 pub returns-clause-first : goal.returns-clause-first
 returns-clause-first c = rw (← c.self.view_is) (are_first c.self.inside.classes c.self.inside.positions c.self.invariant.numbers)
+
+pub returns-clause-declared : goal.returns-clause-declared
+returns-clause-declared c = rw (← c.self.view_is) c.self.invariant.numbers.declared

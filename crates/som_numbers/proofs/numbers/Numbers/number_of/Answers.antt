@@ -1,6 +1,6 @@
 use Rattle.std.proofs.Common.{◌∙◌, arith}
 use Rattle.som_numbers.proofs.Declaring.{classes_length}
-use Rattle.som_numbers.proofs.Numbered.{declared_key}
+use Rattle.som_numbers.proofs.Numbered.{declared_key, declared_numbered}
 use Rattle.som_numbers.proofs.numbers.Numbers.number_of.Goals as goal
 
 pub number_of-requires-clause-noted : goal.number_of-requires-clause-noted
@@ -18,3 +18,6 @@ returns-clause-declared c = rw (← c.self.view_is) (let w = rw c.as_slice.ensur
 pub returns-clause-key : goal.returns-clause-key
 returns-clause-key c = rw (← c.self.view_is)
     (declared_key c.self.inside.classes c.self.inside.positions c.self.invariant.numbers c.number_of.result (rw c.as_slice.ensures at c.number_of.ensures.within) ∙ (rw c.as_slice.ensures at c.number_of.ensures.key))
+
+pub returns-clause-numbered : goal.returns-clause-numbered
+returns-clause-numbered c = rw (← c.self.view_is) (declared_numbered c.self.inside.classes c.self.inside.positions c.self.invariant.numbers c.number_of.result (rw c.as_slice.ensures at c.number_of.ensures.within))

@@ -1,0 +1,3 @@
+pub mod Entries
+pub mod Proxies
+pub mod Loading

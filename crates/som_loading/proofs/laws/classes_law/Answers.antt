@@ -1,0 +1,14 @@
+use Rattle.som_loading.proofs.Loading.{are_declared, are_faces, are_few, named}
+use Rattle.som_loading.proofs.laws.classes_law.Goals as goal
+
+pub returns-clause-declared : goal.returns-clause-declared
+returns-clause-declared c = are_declared
+
+pub returns-clause-few : goal.returns-clause-few
+returns-clause-few c = are_few
+
+pub returns-clause-faces : goal.returns-clause-faces
+returns-clause-faces c = are_faces
+
+pub returns-clause-named : goal.returns-clause-named
+returns-clause-named c = named

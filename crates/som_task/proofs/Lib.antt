@@ -1,0 +1,5 @@
+pub mod Lists
+pub mod Later
+pub mod Objects
+pub mod Classes
+pub mod Stages

@@ -1,0 +1,4 @@
+pub mod Settings
+pub mod Standing
+pub mod Own
+pub mod Stored

@@ -1,0 +1,17 @@
+use crate::Frames;
+use som_code::Code;
+use som_model::List;
+use som_objects::Cell;
+
+/// A task: its frames, the codes of the bodies that it ran, the variables of class objects by class numbers, where one
+/// was ever written, the serials of its objects in the order in which it made them, the units granted, and whether it
+/// was ever gone on with.
+#[derive(Drop)]
+pub struct Task {
+    pub frames: Frames,
+    pub codes: Vec<Code>,
+    pub statics: Vec<Option<List<Cell>>>,
+    pub serials: List<u64>,
+    pub granted: u32,
+    pub begun: bool,
+}
