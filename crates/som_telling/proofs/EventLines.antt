@@ -1,26 +1,19 @@
 -- The line of a call, piece by piece.
-use Rattle.std.proofs.Common.{◌≡◌, ℕ, Bool, true, false, if◌then◌else◌, List, [], ◌∷◌, ◌++◌, codes, refl, sym, ap, ◌∙◌, subst, append_assoc}
-use Rattle.std.specs.List.{concat, flat_map}
+use Rattle.std.proofs.Common.{◌≡◌, ℕ, Bool, true, if◌then◌else◌, List, [], ◌∷◌, ◌++◌, codes, refl, sym, ap, ◌∙◌, append_assoc}
+use Rattle.std.specs.List.{concat}
 use Rattle.std.proofs.lemmas.List.{append-nil}
 use Rattle.std.proofs.lemmas.List.Folds.{concat-append}
 use Rattle.som_model.specs.declared.key.ClassKey.{ClassKey}
-use Rattle.som_model.specs.declared.program.Fault.{Fault}
 use Rattle.som_model.specs.ClassNames.{class_name}
-use Rattle.som_model.specs.RunText.{call_line, fault_name, way_name, with_prefix}
-use Rattle.som_model.specs.Runs.{Faulted}
-use Rattle.som_model.specs.State.{Called, InBody, InMain, Manner, Place, Printed}
+use Rattle.som_model.specs.RunText.{call_line, way_name, with_prefix}
+use Rattle.som_model.specs.State.{Called, Manner}
 use Rattle.som_model.specs.declared.key.MethodRef.{MethodRef}
 use Rattle.som_meta.specs.Numbering.{Numbering, key_at, method_at}
 use Rattle.som_telling.specs.Events.{call_event, manner_of}
-use Rattle.som_telling.specs.Places.{running_in}
-use Rattle.som_telling.specs.Told.{end_text, event_text}
+use Rattle.som_telling.specs.Told.{event_text}
 use Rattle.som_telling.specs.declared.call.Call.{Call}
-use Rattle.som_telling.specs.declared.pieces.Part.TheVariants as parts
-use Rattle.som_telling.specs.declared.running.Running.{Running}
-use Rattle.som_telling.specs.declared.running.Running.TheVariants as runnings
-use Rattle.som_telling.specs.Pieces.{name_pieces, part_pieces}
+use Rattle.som_telling.specs.Pieces.{name_pieces}
 use Rattle.som_telling.proofs.Names.{name_is}
-use denote.Ref.{Bor}
 
 -- a name, and the pieces after it
 named_text : (key : ClassKey) (pieces : List (List ℕ)) → concat (name_pieces key ++ pieces) ≡ class_name key ++ concat pieces

@@ -8,7 +8,7 @@ use Rattle.som_model.specs.declared.key.ClassKey.TheOpen.{ClassKey-F}
 use Rattle.som_model.specs.declared.key.ClassKey.TheVariants as keys
 use Rattle.som_model.specs.declared.key.ClassKey.TheVariants.{rolls-Named, rolls-Derived, rolls-Proxy}
 use Rattle.som_model.specs.ClassNames.{class_name, name_list}
-use Rattle.som_telling.specs.Pieces.{name_pieces, pieces_step, list_of, rest_of}
+use Rattle.som_telling.specs.Pieces.{name_pieces, pieces_step, list_of}
 
 -- the step of the definition of names
 abbrev name_step : ClassKey-F (List ℕ) → List ℕ

@@ -1,12 +1,12 @@
 -- The pieces of parts that are put on others, and taken off.
-use Rattle.std.proofs.Common.{◌≡◌, ℕ, List, [], ◌∷◌, ◌++◌, map, reverse, codes, refl, sym, ap, ◌∙◌, subst, append_assoc}
-use Rattle.std.specs.List.{flat_map, All, AllByRecursion}
-use Rattle.std.proofs.lemmas.List.{append-nil, reverse-append}
+use Rattle.std.proofs.Common.{◌≡◌, ℕ, List, [], ◌∷◌, ◌++◌, reverse, refl, sym, ap, ◌∙◌, subst}
+use Rattle.std.specs.List.{flat_map}
+use Rattle.std.proofs.lemmas.List.{reverse-append}
 use Rattle.std.proofs.lemmas.List.Elements.{recursion_from_All, All-from_recursion}
-use Rattle.som_meta.specs.Numbering.{Numbering, key_at, IsNumbered, AreNumbered}
+use Rattle.som_meta.specs.Numbering.{Numbering, IsNumbered, AreNumbered}
 use Rattle.som_telling.specs.declared.pieces.Part.{Part}
 use Rattle.som_telling.specs.declared.pieces.Part.TheVariants as parts
-use Rattle.som_telling.specs.Pieces.{name_pieces, part_pieces, pieces_before, pieces_left, IsPart, AreParts}
+use Rattle.som_telling.specs.Pieces.{part_pieces, pieces_before, pieces_left, IsPart, AreParts}
 use denote.Ref.{Bor}
 
 -- the last part comes first

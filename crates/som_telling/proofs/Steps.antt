@@ -1,5 +1,5 @@
 -- What a step of the walk over a name leaves.
-use Rattle.std.proofs.Common.{◌≡◌, ℕ, ◌-◌, List, [], ◌∷◌, ◌++◌, map, take, length, codes, Option, Some, None, refl, sym, ap, ◌∙◌, subst, append_assoc, arith}
+use Rattle.std.proofs.Common.{◌≡◌, ℕ, List, [], ◌∷◌, ◌++◌, map, length, codes, Option, Some, None, refl, sym, ap, ◌∙◌, subst, append_assoc}
 use Rattle.std.specs.List.{concat}
 use Rattle.std.proofs.lemmas.List.{append-nil, nil_from_length}
 use Rattle.som_model.specs.ClassNames.{class_name}
@@ -8,7 +8,7 @@ use Rattle.som_model.specs.declared.key.ClassKey.TheVariants as keys
 use Rattle.som_meta.specs.Numbering.{Numbering, key_at}
 use Rattle.som_telling.specs.declared.pieces.Part.{Part}
 use Rattle.som_telling.specs.declared.pieces.Part.TheVariants as parts
-use Rattle.som_telling.specs.Pieces.{name_pieces, part_pieces, pieces_left, pieces_of, list_pieces, rest_pieces, list_of, rest_of, IsNext}
+use Rattle.som_telling.specs.Pieces.{name_pieces, part_pieces, pieces_left, pieces_of, list_pieces, rest_pieces, list_of, IsNext}
 use Rattle.som_telling.proofs.Names.{named_pieces, derived_pieces, proxy_pieces, name_is}
 use Rattle.som_telling.proofs.Parts.{pushed}
 use denote.Ref.{Bor}

@@ -1,5 +1,4 @@
 -- Calls as the meaning sees them.
-use Rattle.std.specs.Prelude.{ℕ}
 use Rattle.som_model.specs.State.{Event, Called, Manner}
 use Rattle.som_model.specs.State as state
 use Rattle.som_meta.specs.Numbering.{Numbering, key_at, method_at, IsNumbered, IsToken}

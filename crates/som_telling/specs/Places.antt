@@ -1,5 +1,4 @@
 -- Where a body runs, by numbers and by names.
-use Rattle.std.specs.Prelude.{ℕ}
 use Rattle.som_model.specs.ClassNames.{class_name}
 use Rattle.som_model.specs.State as state
 use Rattle.som_meta.specs.Numbering.{Numbering, key_at, method_at, IsNumbered, IsToken}

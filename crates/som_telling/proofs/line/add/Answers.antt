@@ -1,4 +1,4 @@
-use Rattle.std.proofs.Common.{ℕ, List, ◌++◌, subst}
+use Rattle.std.proofs.Common.{◌++◌, subst}
 use Rattle.som_io.specs.Outside.{ShowsAll, ShowsFront}
 use Rattle.som_telling.proofs.Lines.{none_yet, whole, front_onward, front_longer}
 use Rattle.som_telling.proofs.line.add.Goals as goal

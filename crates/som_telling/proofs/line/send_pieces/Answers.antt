@@ -1,4 +1,4 @@
-use Rattle.std.proofs.Common.{ℕ, List, ◌∙◌, subst, arith}
+use Rattle.std.proofs.Common.{◌∙◌, subst, arith}
 use Rattle.std.specs.List.{concat}
 use Rattle.som_io.specs.Outside.{ShowsFront}
 use Rattle.som_telling.specs.Told.{bytes_of}

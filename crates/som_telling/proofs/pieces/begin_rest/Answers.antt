@@ -1,6 +1,5 @@
-use Rattle.std.proofs.Common.{rules, ◌≡◌, ℕ, List, [], ◌∷◌, ◌++◌, ap, ◌∙◌, subst}
+use Rattle.std.proofs.Common.{rules, ◌≡◌, ℕ, [], ◌∷◌, ◌++◌, ap, ◌∙◌}
 use Rattle.som_telling.specs.declared.pieces.Part.TheVariants as parts
-use Rattle.som_telling.specs.Pieces.{AreParts}
 use Rattle.som_telling.proofs.Parts.{first_parts}
 use Rattle.som_telling.proofs.Steps.{rest_some}
 use Rattle.som_telling.proofs.pieces.begin_rest.Goals as goal

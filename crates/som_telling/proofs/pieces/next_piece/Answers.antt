@@ -1,4 +1,4 @@
-use Rattle.std.proofs.Common.{ℕ, List, ◌∷◌, ◌++◌, [], sym, ap, ◌∙◌, subst, refl}
+use Rattle.std.proofs.Common.{ℕ, ◌∷◌, ◌++◌, [], sym, ap, ◌∙◌, subst, refl}
 use Rattle.som_meta.specs.Numbering.{key_at}
 use Rattle.som_telling.specs.Pieces.{AreParts, name_pieces, pieces_left}
 use Rattle.som_telling.specs.declared.pieces.Part.{Part}

@@ -1,4 +1,4 @@
-use Rattle.std.proofs.Common.{rules, ◌≡◌, ℕ, List, [], ◌∷◌, ◌++◌, ap, ◌∙◌, length}
+use Rattle.std.proofs.Common.{rules, ◌≡◌, ℕ, [], ◌∷◌, ◌++◌, ap, ◌∙◌, length}
 use Rattle.som_telling.specs.declared.pieces.Part.TheVariants as parts
 use Rattle.som_telling.proofs.Parts.{first_parts}
 use Rattle.som_telling.proofs.Steps.{list_none, list_some}
