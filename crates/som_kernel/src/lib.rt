@@ -1,0 +1,10 @@
+//! What a linked kernel holds: its classes by number, the main that they were linked with, and of the classes that are made their rows, names and hooks. A
+//! class is made when it is first needed.
+#![tactic(auto)]
+
+mod linked;
+mod made;
+mod names;
+mod rows;
+
+pub use linked::{Linked, lay};

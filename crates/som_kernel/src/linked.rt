@@ -1,0 +1,144 @@
+ghost use Rattle.som_kernel.specs.Linked.{IsLinked, IsMadeIn, IsReached};
+ghost use Rattle.som_kernel.specs.Made.{AreParts, KeepsMade};
+ghost use Rattle.som_kernel.specs.Making.{parts_of};
+ghost use Rattle.som_making.specs.Making.{HaveNeeds, IsMarked};
+ghost use Rattle.som_meta.specs.Numbering.{IsNumbered, key_at};
+ghost use Rattle.som_model.specs.Kernel.{kernel};
+ghost use Rattle.som_model.specs.Loads.{Loads};
+ghost use Rattle.som_model.specs.Metaclass.{meta};
+ghost use Rattle.som_numbers.specs.Classes.{classes_of};
+ghost use Rattle.std.specs.Prelude.{◌≡◌, ◌↔◌, ◌++◌, ◌<◌, ℕ, Bool, IfOk, OnOk, IsTrue, filter, length};
+
+use crate::made::MadeClasses;
+use som_classes::Classes;
+use som_closure::Closure;
+use som_making::to_make;
+use som_model::{Block, List, NoMemory};
+use som_numbers::Keyed;
+use som_tables::ClassNo;
+use std::alloc::Global;
+use std::marker::Model;
+
+/// A linked kernel's classes, the main that they were linked with, and of the classes that are made their rows, names and hooks.
+#[derive(Drop)]
+pub struct Linked {
+    closure: Closure,
+    main: Block,
+    parts: MadeClasses,
+}
+
+impl Model for Linked {
+    ghost use Rattle.som_kernel.specs.Linked.{IsLinked, Linkage, linkage};
+    ghost use Rattle.som_kernel.specs.Making.{parts_of};
+    ghost use Rattle.som_model.specs.contracts.key.ClassKey as key;
+    ghost use Rattle.som_model.specs.contracts.key.ValueType as kind;
+    ghost use Rattle.som_model.specs.contracts.syntax.Block as block;
+    ghost use Rattle.std.specs.Coded.{codes};
+
+    ghost Value = { Linkage };
+
+    ghost coded = { Prim.hlevel (codes, key.the_row.coded, kind.the_row.coded, block.the_row.coded) };
+
+    ghost view = { λ l. linkage l.closure l.main (parts_of l.parts) };
+
+    ghost invariant = { λ l. IsLinked (linkage l.closure l.main (parts_of l.parts)) };
+}
+
+/// The kernel's classes are made, and no others.
+fn kernel_parts(alloc: Global, closure: &Closure) -> Result<MadeClasses, NoMemory>
+    ensures parts { IfOk result (λ made. AreParts closure.now (parts_of made)) }
+    ensures made { IfOk result (λ made. (n : ℕ) → IsMarked (parts_of made).made n ↔ (n < 4)) }
+    ensures closed { IfOk result (λ made. HaveNeeds closure.now (IsMarked (parts_of made).made)) }
+{
+    let classes = closure.classes();
+    let first = [
+        ClassNo::new(0),
+        ClassNo::new(1),
+        ClassNo::new(2),
+        ClassNo::new(3),
+    ];
+    let _count = classes.count();
+    let mut parts = MadeClasses::new(alloc, classes)?;
+    parts.make_all(alloc, classes, &first)?;
+    Ok(parts)
+}
+
+/// The numbers of the classes that are made for a run of main among these, and of the kernel's four, which are made at once, what there is of them.
+pub fn lay(alloc: Global, classes: List<Keyed>, main: Block) -> Result<Linked, NoMemory>
+    requires { Loads (classes_of classes) main }
+    ensures classes { IfOk result (λ l. l.classes.classes ≡ kernel ++ classes_of classes) }
+    ensures main { IfOk result (λ l. l.main ≡ main) }
+    ensures made { IfOk result (λ l. (n : ℕ) → IsMadeIn l n ↔ (n < 4)) }
+{
+    let closure = Closure::new(alloc, classes, &main)?;
+    let parts = kernel_parts(alloc, &closure)?;
+    Ok(Linked {
+        closure,
+        main,
+        parts,
+    })
+}
+
+/// How many of the marks are set.
+fn count_set(marks: &[bool]) -> usize
+    ensures { result ≡ length (filter (λ m. m) marks.now) }
+{
+    let mut count = 0;
+    for mark in marks {
+        if *mark {
+            count += 1;
+        }
+    }
+    count
+}
+
+impl Linked {
+    /// Makes what is needed for a class as far as it isn't made: itself, and with each class its parents and its metaclass, lower ranks first. Where memory runs
+    /// out some of it may be made.
+    pub fn reach(&mut self, alloc: Global, class: ClassNo) -> Result<(), NoMemory>
+        requires { IsNumbered self.old.classes class }
+        ensures classes { self.new.classes ≡ self.old.classes }
+        ensures main { self.new.main ≡ self.old.main }
+        ensures keeps { KeepsMade self.old.parts self.new.parts }
+        ensures made { OnOk result ((n : ℕ) → IsReached self.old class n → IsMadeIn self.new n) }
+        ensures only { (n : ℕ) → IsMadeIn self.new n → IsReached self.old class n }
+    {
+        let order = to_make(alloc, &self.closure, self.parts.made.as_slice(), class)?;
+        self.parts
+            .make_all(alloc, self.closure.classes(), order.as_slice())
+    }
+
+    /// The classes by their numbers, made or not.
+    pub fn classes(&self) -> &Classes
+        ensures value { result.now ≡ self.now.classes }
+        ensures linked { IsLinked self.now }
+    {
+        self.closure.classes()
+    }
+
+    /// Whether a class is made.
+    pub fn is_made(&self, class: ClassNo) -> bool
+        requires { IsNumbered self.now.classes class }
+        ensures { IsTrue result ↔ IsMadeIn self.now class }
+    {
+        self.parts.made[class.number() as usize]
+    }
+
+    /// How many classes are made.
+    pub fn made(&self) -> usize
+        ensures { result ≡ length (filter (λ m. m) self.now.parts.made) }
+    {
+        count_set(self.parts.made.as_slice())
+    }
+
+    /// The metaclass of a class that is made.
+    pub fn metaclass(&self, class: ClassNo) -> ClassNo
+        requires numbered { IsNumbered self.now.classes class }
+        requires made { IsMadeIn self.now class }
+        ensures made { IsMadeIn self.now result }
+        ensures numbered { IsNumbered self.now.classes result }
+        ensures key { key_at self.now.classes result ≡ meta self.now.classes.classes (key_at self.now.classes class) }
+    {
+        self.closure.metaclass(class)
+    }
+}
