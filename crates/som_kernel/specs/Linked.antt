@@ -1,5 +1,5 @@
 -- A linked kernel: its classes, the main that they were linked with, and what there is of the classes that are made.
-use Rattle.std.specs.Prelude.{◌≡◌, ◌↔◌, ◌⊎◌, ◌×◌, ℕ, ◌<◌, List, ◌++◌}
+use Rattle.std.specs.Prelude.{◌≡◌, ◌↔◌, ◌⊎◌, ℕ, ◌<◌, List, ◌++◌}
 use Rattle.som_model.specs.declared.key.ClassKey.{ClassKey}
 use Rattle.som_model.specs.declared.syntax.Block.{Block}
 use Rattle.som_model.specs.Lists.{Mem}

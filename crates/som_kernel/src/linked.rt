@@ -80,7 +80,8 @@ pub fn lay(alloc: Global, classes: List<Keyed>, main: Block) -> Result<Linked, N
 }
 
 /// How many of the marks are set.
-fn count_set(marks: &[bool]) -> usize
+fn count_set(marks: &[bool]) -> u32
+    requires { length marks.now < 4294967296 }
     ensures { result ≡ length (filter (λ m. m) marks.now) }
 {
     let mut count = 0;
@@ -125,9 +126,10 @@ impl Linked {
     }
 
     /// How many classes are made.
-    pub fn made(&self) -> usize
+    pub fn made(&self) -> u32
         ensures { result ≡ length (filter (λ m. m) self.now.parts.made) }
     {
+        let _count = self.closure.classes().count();
         count_set(self.parts.made.as_slice())
     }
 

@@ -5,7 +5,7 @@ ghost use Rattle.som_making.specs.Making.{IsMarked};
 ghost use Rattle.som_meta.specs.Numbering.{IsNumbered, key_at};
 ghost use Rattle.som_model.specs.Classes.{parents_of};
 ghost use Rattle.som_model.specs.Lists.{Mem};
-ghost use Rattle.std.specs.Prelude.{◌≡◌, ◌×◌, ◌∷◌, ◌<◌, [], ℕ, IfOk, OnErr, OnOk, false, length, replicate, slice_set, take, true};
+ghost use Rattle.std.specs.Prelude.{◌≡◌, ◌∷◌, ◌<◌, [], ℕ, IfOk, OnErr, OnOk, false, length, replicate, slice_set, take, true};
 
 use crate::names::add_names;
 use crate::rows::{fill_methods, fill_variables};

@@ -33,6 +33,7 @@ fn class_names(
     requires { IsNumbered classes.now class }
     ensures { IfOk result (λ names. names ≡ names_of classes.now class) }
 {
+    let _count = classes.count();
     if class.number() < classes.declared_count() {
         let face = &classes.declared(class).decl.face;
         introduced_names(alloc, face.entries.as_slice())
