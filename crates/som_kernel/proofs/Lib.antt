@@ -1,5 +1,5 @@
 pub mod Marks
-pub mod Rows
+pub mod Filled
 pub mod Parts
 pub mod Order
-pub mod Names
+pub mod Introducing

@@ -1,6 +1,5 @@
 -- Classes that are made one after the other.
 use Rattle.std.proofs.Common.{◌≡◌, ◌↔◌, ◌⊎◌, ℕ, zero, suc, ◌+◌, ◌<◌, inl, inr, Bool, true, false, List, [], ◌∷◌, length, take, get_or, Option, Some, slice_get, slice_index_or, refl, sym, ap, ◌∙◌, subst, arith}
-use Rattle.std.proofs.lemmas.Option.{same_Some}
 use Rattle.som_model.specs.Lists.{Mem}
 use Rattle.som_model.specs.Class.{Class}
 use Rattle.som_model.specs.Classes.{parents_of}
@@ -10,9 +9,12 @@ use Rattle.som_hierarchy.proofs.Metas.{in_four}
 use Rattle.som_meta.specs.Numbering.{IsNumbered, Numbering, key_at}
 use Rattle.som_classes.specs.Loaded.{AreLoaded}
 use Rattle.som_making.specs.Making.{AreToMake, HaveNeeds, IsMarked, IsNeedOf, IsNeeded}
-use Rattle.som_kernel.specs.Made.{AreMarked, CanBeMade, HaveMadeBelow}
+use Rattle.som_kernel.specs.Made.{AreMarked, CanBeMade, HaveMadeBelow, IsReached}
 
 -- ---- lists and their fronts
+
+some_same : (x y : ℕ) → Some x ≡ Some y → x ≡ y
+some_same x y e = cc
 
 pub got : (xs : List ℕ) (i n : ℕ) → i < length xs → n ≡ get_or xs i n → slice_get xs i ≡ Some n
 got [] i n lt e = absurd (omega arith)
@@ -22,7 +24,7 @@ got (x ∷ xs) (suc i) n lt e = got xs i n (omega arith) e
 take_one : (xs : List ℕ) (i n k : ℕ) → slice_get xs i ≡ Some n → Mem k (take (i + 1) xs) ↔ (Mem k (take i xs) ⊎ (k ≡ n))
 take_one [] i n k e = absurd (cc)
 take_one (x ∷ xs) zero n k e =
-    let same : x ≡ n = same_Some e in
+    let same : x ≡ n = some_same x n e in
     (λ m. elim m [ inl is ↦ inr (is ∙ same) | inr z ↦ absurd z ], λ m. elim m [ inl z ↦ absurd z | inr is ↦ inl (is ∙ sym same) ])
 take_one (x ∷ xs) (suc i) n k e =
     let more = take_one xs i n k e in
@@ -38,7 +40,7 @@ take_mem xs i x m = (let j = mem_get (take i xs) x m in get_mem xs j.0 x (take_g
 mem_take : (xs : List ℕ) (j i x : ℕ) → slice_get xs j ≡ Some x → j < i → Mem x (take i xs)
 mem_take xs j zero x e lt = absurd (omega (arith, lt))
 mem_take [] j (suc i) x e lt = absurd (cc)
-mem_take (y ∷ ys) zero (suc i) x e lt = inl (sym (same_Some e))
+mem_take (y ∷ ys) zero (suc i) x e lt = inl (sym (some_same y x e))
 mem_take (y ∷ ys) (suc j) (suc i) x e lt = inr (mem_take ys j i x e (omega (arith, lt)))
 
 -- ---- marks along an order
@@ -100,14 +102,14 @@ module _ (k : Numbering) (made : List Bool) (x : ℕ) (order : List ℕ) (a : Ar
     pub still_closed : HaveNeeds k (IsMarked new)
     still_closed n m im need = (so m).1 (a.fronts i n m ((so n).0 im) need)
 
-    pub only_reached : (n : ℕ) → IsMarked new n → IsMarked made n ⊎ (IsNumbered k n × IsNeeded k x n)
+    pub only_reached : (n : ℕ) → IsMarked new n → IsReached k made x n
     only_reached n im = elim ((so n).0 im) [ inl o ↦ inl o | inr t ↦ (let w = (a.which n).0 (take_mem order i n t) in inr (w.0, w.1)) ]
 
   marked_or_not : (b : Bool) → (b ≡ true) ⊎ (b ≡ true → ⊥)
   marked_or_not true = inl refl
   marked_or_not false = inr (λ e. absurd (cc))
 
-  pub all_reached : (new : List Bool) → AreMarked made new order → (n : ℕ) → IsMarked made n ⊎ (IsNumbered k n × IsNeeded k x n) → IsMarked new n
+  pub all_reached : (new : List Bool) → AreMarked made new order → (n : ℕ) → IsReached k made x n → IsMarked new n
   all_reached new so n (inl o) = (so n).1 (inl o)
   all_reached new so n (inr need) = elim (marked_or_not (slice_index_or made n false)) [
     | inl o ↦ (so n).1 (inl o)
@@ -127,10 +129,10 @@ at_four (suc (suc (suc zero))) lt = refl
 at_four (suc (suc (suc (suc n)))) lt = absurd (omega (arith, lt))
 
 four_at : (i n : ℕ) → slice_get four i ≡ Some n → (i < 4) × (i ≡ n)
-four_at zero n e = (omega arith, same_Some e)
-four_at (suc zero) n e = (omega arith, same_Some e)
-four_at (suc (suc zero)) n e = (omega arith, same_Some e)
-four_at (suc (suc (suc zero))) n e = (omega arith, same_Some e)
+four_at zero n e = (omega arith, some_same 0 n e)
+four_at (suc zero) n e = (omega arith, some_same 1 n e)
+four_at (suc (suc zero)) n e = (omega arith, some_same 2 n e)
+four_at (suc (suc (suc zero))) n e = (omega arith, some_same 3 n e)
 four_at (suc (suc (suc (suc i)))) n e = absurd (cc)
 
 class_of : (n : ℕ) → n < 4 → (c : Class) × (slice_get kernel n ≡ Some c)

@@ -7,7 +7,8 @@ use Rattle.som_model.specs.Metaclass.{hooks}
 use Rattle.som_model.proofs.NamedLaws.{hierarchy_parents}
 use Rattle.som_tables.specs.Layout.{Extends}
 use Rattle.som_tables.specs.Rows.{HasRow}
-use Rattle.som_meta.specs.Numbering.{IsNumbered, Numbering, key_at}
+use Rattle.som_hierarchy.proofs.Lists.{map_mem}
+use Rattle.som_meta.specs.Numbering.{AreApart, IsNumbered, Numbering, key_at}
 use Rattle.som_names.specs.declared.named.Named.{Named}
 use Rattle.som_names.specs.Index.{KeepsOthers, named_at}
 use Rattle.som_byname.specs.Added.{HasClass}
@@ -16,7 +17,7 @@ use Rattle.som_places.specs.Placed.{ArePlaces, DataRows}
 use Rattle.som_making.specs.Making.{IsMarked}
 use Rattle.som_kernel.specs.Made.{AreHooks, AreMarked, AreParts, HaveMadeBelow, IsWhole, KeepsFilled, KeepsMade, Parts, hooks_at}
 use Rattle.som_kernel.proofs.Marks.{long_set, marked_set, set_other, set_there}
-use Rattle.som_kernel.proofs.Rows.{still_filled}
+use Rattle.som_kernel.proofs.Filled.{still_filled}
 
 -- a number is another or not
 same_or_not : (m n : ℕ) → (m ≡ n) ⊎ (m ≢ n)
@@ -32,6 +33,18 @@ pub parent_made : (k : Numbering) (made : List Bool) (n : ℕ) → HaveMadeBelow
 parent_made k made n below lower p num m =
     let at : Mem (key_at k p) (parents_of k.classes (key_at k n)) = subst (λ z. Mem (key_at k p) z) (hierarchy_parents k.classes (key_at k n)) m in
     below p (lower p num at) at
+
+-- parents have lower numbers
+pub parents_low : (k : Numbering) → AreApart k → (n : ℕ) → IsNumbered k n → (ps : List ℕ) → ((p : ℕ) → Mem p ps → p < n)
+    → map (key_at k) ps ≡ (hierarchy k.classes).parents (key_at k n)
+    → (p : ℕ) → IsNumbered k p → Mem (key_at k p) (parents_of k.classes (key_at k n)) → p < n
+parents_low k apart n num ps low keyed p ip m =
+    let keys : map (key_at k) ps ≡ parents_of k.classes (key_at k n) = keyed ∙ hierarchy_parents k.classes (key_at k n) in
+    let r = map_mem (key_at k) (key_at k p) ps (subst (λ z. Mem (key_at k p) z) (sym keys) m) in
+    let lt = low r.0 r.1 in
+    let iq : IsNumbered k r.0 = omega (arith, lt, num) in
+    let same : p ≡ r.0 = apart p r.0 ip iq r.2 in
+    omega (arith, same, lt)
 
 -- ---- steps that leave all as it was, and steps one after the other
 
@@ -103,6 +116,20 @@ module _ (k : Numbering) (v : Parts) (are : AreParts k v) where
     names = λ n m. refl;
     hooks = λ n m. refl;
   }
+
+-- both rows
+abbrev pub with_rows : Parts → MethodRows → DataRows → Parts
+with_rows v bodies places = with_variables (with_methods v bodies) places
+
+module _ (k : Numbering) (v : Parts) (are : AreParts k v) (bodies : MethodRows) (places : DataRows) (is : AreBodies k bodies) (earlier : Extends v.bodies.bodies bodies.bodies)
+    (kept : KeepsFilled v.bodies.rows bodies.rows) (has : ArePlaces k places) (stays : KeepsFilled v.places.rows places.rows) where
+  pub rows_are : AreParts k (with_rows v bodies places)
+  rows_are = variables_are k (with_methods v bodies) (methods_are k v are bodies is kept) places has stays
+
+  pub rows_keep : KeepsMade v (with_rows v bodies places)
+  rows_keep =
+      made_through v (with_methods v bodies) (with_rows v bodies places) (methods_keep k v are bodies earlier kept)
+      (variables_keep k (with_methods v bodies) (methods_are k v are bodies is kept) places stays)
 
 -- ---- one class more that is made
 

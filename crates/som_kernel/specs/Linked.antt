@@ -1,5 +1,5 @@
 -- A linked kernel: its classes, the main that they were linked with, and what there is of the classes that are made.
-use Rattle.std.specs.Prelude.{◌≡◌, ◌↔◌, ◌⊎◌, ℕ, ◌<◌, List, ◌++◌}
+use Rattle.std.specs.Prelude.{◌≡◌, ◌↔◌, ℕ, ◌<◌, List, ◌++◌}
 use Rattle.som_model.specs.declared.key.ClassKey.{ClassKey}
 use Rattle.som_model.specs.declared.syntax.Block.{Block}
 use Rattle.som_model.specs.Lists.{Mem}
@@ -7,8 +7,8 @@ use Rattle.som_model.specs.Class.{Class}
 use Rattle.som_model.specs.Kernel.{kernel}
 use Rattle.som_model.specs.Loads.{Loads}
 use Rattle.som_model.specs.Made.{IsMade}
-use Rattle.som_meta.specs.Numbering.{IsNumbered, Numbering}
-use Rattle.som_making.specs.Making.{HaveNeeds, IsMarked, IsNeeded}
+use Rattle.som_meta.specs.Numbering.{Numbering}
+use Rattle.som_making.specs.Making.{HaveNeeds, IsMarked}
 use Rattle.som_kernel.specs.Made.{AreParts, Parts}
 
 pub record Linkage : Type 0 where
@@ -32,7 +32,3 @@ pub record IsLinked (l : Linkage) : Type 0 where
   pub are : AreParts l.classes l.parts
   pub closed : HaveNeeds l.classes (IsMadeIn l)
   pub kernel_made : (n : ℕ) → n < 4 → IsMadeIn l n
-
--- the classes made before, and what is needed for one more: itself, and with each class its parents and its metaclass
-abbrev pub IsReached : Linkage → ℕ → ℕ → Type 0
-IsReached old class n = IsMadeIn old n ⊎ (IsNumbered old.classes n × IsNeeded old.classes class n)

@@ -11,7 +11,7 @@ use Rattle.som_names.specs.Index.{named_at}
 use Rattle.som_byname.specs.Added.{HasClass}
 use Rattle.som_bodies.specs.Bodies.{AreBodies, MethodRows}
 use Rattle.som_places.specs.Placed.{ArePlaces, DataRows}
-use Rattle.som_making.specs.Making.{IsMarked}
+use Rattle.som_making.specs.Making.{IsMarked, IsNeeded}
 
 -- rows of methods and of variables, an index of names, and by number which classes are made, and the hooks that each has as a metaclass
 pub record Parts : Type 0 where
@@ -62,6 +62,10 @@ pub record KeepsMade (old new : Parts) : Type 0 where
 -- made are the classes made before, and these
 abbrev pub AreMarked : List Bool → List Bool → List ℕ → Type 0
 AreMarked old new ns = (n : ℕ) → IsMarked new n ↔ (IsMarked old n ⊎ Mem n ns)
+
+-- the classes made before, and what is needed for one more: itself, and with each class its parents and its metaclass
+abbrev pub IsReached : Numbering → List Bool → ℕ → ℕ → Type 0
+IsReached k made class n = IsMarked made n ⊎ (IsNumbered k n × IsNeeded k class n)
 
 -- each parent of a class that has a lower number is made
 abbrev pub HaveMadeBelow : Numbering → List Bool → ℕ → Type 0

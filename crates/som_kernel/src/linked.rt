@@ -1,5 +1,5 @@
-ghost use Rattle.som_kernel.specs.Linked.{IsLinked, IsMadeIn, IsReached};
-ghost use Rattle.som_kernel.specs.Made.{AreParts, KeepsMade};
+ghost use Rattle.som_kernel.specs.Linked.{IsLinked, IsMadeIn};
+ghost use Rattle.som_kernel.specs.Made.{AreParts, IsReached, KeepsMade};
 ghost use Rattle.som_kernel.specs.Making.{parts_of};
 ghost use Rattle.som_making.specs.Making.{HaveNeeds, IsMarked};
 ghost use Rattle.som_meta.specs.Numbering.{IsNumbered, key_at};
@@ -63,6 +63,27 @@ fn kernel_parts(alloc: Global, closure: &Closure) -> Result<MadeClasses, NoMemor
     Ok(parts)
 }
 
+/// Makes what is needed for a class as far as it isn't made.
+fn make_needed(
+    alloc: Global,
+    closure: &Closure,
+    parts: &mut MadeClasses,
+    class: ClassNo,
+) -> Result<(), NoMemory>
+    requires class { IsNumbered closure.now class }
+    requires parts { AreParts closure.now (parts_of parts.old) }
+    requires closed { HaveNeeds closure.now (IsMarked (parts_of parts.old).made) }
+    requires som_class { IsMarked (parts_of parts.old).made 1 }
+    ensures parts { AreParts closure.now (parts_of parts.new) }
+    ensures keeps { KeepsMade (parts_of parts.old) (parts_of parts.new) }
+    ensures closed { HaveNeeds closure.now (IsMarked (parts_of parts.new).made) }
+    ensures made { OnOk result ((n : ℕ) → IsReached closure.now (parts_of parts.old).made class n → IsMarked (parts_of parts.new).made n) }
+    ensures only { (n : ℕ) → IsMarked (parts_of parts.new).made n → IsReached closure.now (parts_of parts.old).made class n }
+{
+    let order = to_make(alloc, closure, parts.made.as_slice(), class)?;
+    parts.make_all(alloc, closure.classes(), order.as_slice())
+}
+
 /// The numbers of the classes that are made for a run of main among these, and of the kernel's four, which are made at once, what there is of them.
 pub fn lay(alloc: Global, classes: List<Keyed>, main: Block) -> Result<Linked, NoMemory>
     requires { Loads (classes_of classes) main }
@@ -101,12 +122,10 @@ impl Linked {
         ensures classes { self.new.classes ≡ self.old.classes }
         ensures main { self.new.main ≡ self.old.main }
         ensures keeps { KeepsMade self.old.parts self.new.parts }
-        ensures made { OnOk result ((n : ℕ) → IsReached self.old class n → IsMadeIn self.new n) }
-        ensures only { (n : ℕ) → IsMadeIn self.new n → IsReached self.old class n }
+        ensures made { OnOk result ((n : ℕ) → IsReached self.old.classes self.old.parts.made class n → IsMadeIn self.new n) }
+        ensures only { (n : ℕ) → IsMadeIn self.new n → IsReached self.old.classes self.old.parts.made class n }
     {
-        let order = to_make(alloc, &self.closure, self.parts.made.as_slice(), class)?;
-        self.parts
-            .make_all(alloc, self.closure.classes(), order.as_slice())
+        make_needed(alloc, &self.closure, &mut self.parts, class)
     }
 
     /// The classes by their numbers, made or not.

@@ -1,0 +1,6 @@
+use Rattle.som_kernel.proofs.Parts.{parents_low}
+use Rattle.som_kernel.proofs.made.know_class.Goals as goal
+
+pub returns-clause-lower : goal.returns-clause-lower
+returns-clause-lower c =
+    parents_low c.args.classes.now c.count-_count.ensures.apart c.args.class c.requires c.parents-_parents.result.now c.parents-_parents.ensures.lower c.parents-_parents.ensures.keys
