@@ -3,3 +3,4 @@ pub mod Filled
 pub mod Parts
 pub mod Order
 pub mod Introducing
+pub mod Above

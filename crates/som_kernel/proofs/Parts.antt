@@ -1,5 +1,6 @@
 -- What there is of the classes that are made, when one more is.
 use Rattle.std.proofs.Common.{◌≡◌, ◌≢◌, ◌↔◌, ◌⊎◌, ℕ, zero, suc, ◌<◌, inl, inr, Bool, true, false, List, [], ◌∷◌, length, map, Option, Some, None, slice_index_or, slice_set, refl, sym, ap, ◌∙◌, subst, arith}
+use Rattle.std.specs.Option.{option_map_or}
 use Rattle.std.proofs.lemmas.Bool.{cases_lt}
 use Rattle.som_model.specs.Lists.{Mem}
 use Rattle.som_model.specs.Classes.{hierarchy, parents_of}
@@ -8,9 +9,9 @@ use Rattle.som_model.proofs.NamedLaws.{hierarchy_parents}
 use Rattle.som_tables.specs.Layout.{Extends}
 use Rattle.som_tables.specs.Rows.{HasRow}
 use Rattle.som_hierarchy.proofs.Lists.{map_mem}
-use Rattle.som_meta.specs.Numbering.{AreApart, IsNumbered, Numbering, key_at}
+use Rattle.som_meta.specs.Numbering.{AreApart, AreNumbered, IsNumbered, Numbering, key_at}
 use Rattle.som_names.specs.declared.named.Named.{Named}
-use Rattle.som_names.specs.Index.{KeepsOthers, named_at}
+use Rattle.som_names.specs.Index.{KeepsOthers, ancestors_at, named_at}
 use Rattle.som_byname.specs.Added.{HasClass}
 use Rattle.som_bodies.specs.Bodies.{AreBodies, MethodRows}
 use Rattle.som_places.specs.Placed.{ArePlaces, DataRows}
@@ -83,7 +84,7 @@ module _ (k : Numbering) (v : Parts) (are : AreParts k v) where
     places = are.places;
     marks = are.marks;
     long = are.long;
-    whole = λ n m. (let w = are.whole n m in record { methods = still_filled v.bodies.rows bodies.rows kept n w.methods; variables = w.variables; names = w.names; hooks_are = w.hooks_are });
+    whole = λ n m. (let w = are.whole n m in record { methods = still_filled v.bodies.rows bodies.rows kept n w.methods; variables = w.variables; names = w.names; above = w.above; hooks_are = w.hooks_are });
     unnamed = are.unnamed;
   }
 
@@ -103,7 +104,7 @@ module _ (k : Numbering) (v : Parts) (are : AreParts k v) where
     places = is;
     marks = are.marks;
     long = are.long;
-    whole = λ n m. (let w = are.whole n m in record { methods = w.methods; variables = still_filled v.places.rows places.rows kept n w.variables; names = w.names; hooks_are = w.hooks_are });
+    whole = λ n m. (let w = are.whole n m in record { methods = w.methods; variables = still_filled v.places.rows places.rows kept n w.variables; names = w.names; above = w.above; hooks_are = w.hooks_are });
     unnamed = are.unnamed;
   }
 
@@ -172,18 +173,19 @@ module _ (k : Numbering) (v : Parts) (are : AreParts k v) (n : ℕ) (num : IsNum
         methods = w.methods;
         variables = w.variables;
         names = record { numbered = c.numbered; added = c.added; there = name_kept m im ∙ c.there; ancestors = c.ancestors; names = c.names; tokens = c.tokens };
+        above = subst (λ z. AreNumbered k z) (ap (λ (o : Option Named). option_map_or (λ (e : Named). e.ancestors) o []) (sym (name_kept m im))) w.above;
         hooks_are = subst (AreHooks k m) (sym (hooks_kept m im)) w.hooks_are;
       }
 
-  pub class_are : HasRow v.bodies.rows n → HasRow v.places.rows n → HasClass k names n → AreHooks k n hs → AreParts k (with_class v names n hs)
-  class_are methods variables has hooks_of_it = record {
+  pub class_are : HasRow v.bodies.rows n → HasRow v.places.rows n → HasClass k names n → AreNumbered k (ancestors_at names n) → AreHooks k n hs → AreParts k (with_class v names n hs)
+  class_are methods variables has numbers hooks_of_it = record {
     bodies = are.bodies;
     places = are.places;
     marks = long_set v.made n true ∙ are.marks;
     long = long_set v.hooks n hs ∙ are.long;
     whole = λ m im. elim ((marked_set v.made n m in_marks).0 im) [
       | inl before ↦ whole_before m before
-      | inr e ↦ subst (IsWhole k (with_class v names n hs)) (sym e) (record { methods = methods; variables = variables; names = has; hooks_are = subst (AreHooks k n) (sym (set_there v.hooks n hs [] in_hooks)) hooks_of_it })
+      | inr e ↦ subst (IsWhole k (with_class v names n hs)) (sym e) (record { methods = methods; variables = variables; names = has; above = numbers; hooks_are = subst (AreHooks k n) (sym (set_there v.hooks n hs [] in_hooks)) hooks_of_it })
     ];
     unnamed = λ m un.
         (let ne : m ≢ n = (λ e. un ((marked_set v.made n m in_marks).1 (inr e))) in

@@ -7,7 +7,7 @@ use Rattle.som_tables.specs.Layout.{Extends}
 use Rattle.som_tables.specs.Rows.{Added, HasRow, row_at}
 use Rattle.som_meta.specs.Numbering.{AreNumbered, IsNumbered, Numbering, key_at}
 use Rattle.som_names.specs.declared.named.Named.{Named}
-use Rattle.som_names.specs.Index.{named_at}
+use Rattle.som_names.specs.Index.{ancestors_at, named_at}
 use Rattle.som_byname.specs.Added.{HasClass}
 use Rattle.som_bodies.specs.Bodies.{AreBodies, MethodRows}
 use Rattle.som_places.specs.Placed.{ArePlaces, DataRows}
@@ -30,11 +30,12 @@ pub record AreHooks (k : Numbering) (n : ℕ) (ns : List ℕ) : Type 0 where
   pub numbered : AreNumbered k ns
   pub keys : map (key_at k) ns ≡ hooks k.classes (key_at k n)
 
--- a class has both rows, its names and its hooks
+-- a class has both rows, its names, with its ancestors by number, and its hooks
 pub record IsWhole (k : Numbering) (v : Parts) (n : ℕ) : Type 0 where
   pub methods : HasRow v.bodies.rows n
   pub variables : HasRow v.places.rows n
   pub names : HasClass k v.names n
+  pub above : AreNumbered k (ancestors_at v.names n)
   pub hooks_are : AreHooks k n (hooks_at v.hooks n)
 
 -- the rows are those of these classes, each class that is made has all that it needs, and one that isn't made has no names

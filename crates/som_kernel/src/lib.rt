@@ -2,9 +2,11 @@
 //! class is made when it is first needed.
 #![tactic(auto)]
 
+mod laws;
 mod linked;
 mod made;
 mod names;
 mod rows;
 
+pub use laws::names_law;
 pub use linked::{Linked, lay};

@@ -1,7 +1,7 @@
 ghost use Rattle.som_byname.specs.Added.{HasClass};
-ghost use Rattle.som_meta.specs.Numbering.{IsNumbered, names_of};
+ghost use Rattle.som_meta.specs.Numbering.{AreNumbered, IsNumbered, names_of};
 ghost use Rattle.som_model.specs.Class.{introduced};
-ghost use Rattle.som_names.specs.Index.{KeepsOthers, named_at};
+ghost use Rattle.som_names.specs.Index.{KeepsOthers, ancestors_at, named_at};
 ghost use Rattle.std.specs.Prelude.{◌≡◌, None, IfOk, OnErr, OnOk};
 
 use som_classes::Classes;
@@ -52,6 +52,7 @@ pub(crate) fn add_names(
     requires class { IsNumbered classes.now class }
     requires new { named_at names.old class ≡ None }
     ensures added { OnOk result (HasClass classes.now names.new class) }
+    ensures above { OnOk result (AreNumbered classes.now (ancestors_at names.new class)) }
     ensures others { KeepsOthers names.old names.new class }
     ensures err { OnErr result (names.new ≡ names.old) }
 {
