@@ -1,5 +1,5 @@
 -- What there is of the classes that are made, when one more is.
-use Rattle.std.proofs.Common.{◌≡◌, ◌≢◌, ◌↔◌, ◌⊎◌, ℕ, zero, suc, ◌<◌, inl, inr, Bool, true, false, List, [], ◌∷◌, length, map, Option, Some, None, slice_index_or, slice_set, refl, sym, ap, ◌∙◌, subst, arith}
+use Rattle.std.proofs.Common.{◌≡◌, ◌≢◌, ◌↔◌, ◌⊎◌, ℕ, zero, suc, ◌<◌, inl, inr, Bool, true, false, List, [], ◌∷◌, length, length-replicate, map, Option, Some, None, replicate, slice_index_or, slice_set, refl, sym, ap, ◌∙◌, subst, arith}
 use Rattle.std.specs.Option.{option_map_or}
 use Rattle.std.proofs.lemmas.Bool.{cases_lt}
 use Rattle.som_model.specs.Lists.{Mem}
@@ -17,7 +17,7 @@ use Rattle.som_bodies.specs.Bodies.{AreBodies, MethodRows}
 use Rattle.som_places.specs.Placed.{ArePlaces, DataRows}
 use Rattle.som_making.specs.Making.{IsMarked}
 use Rattle.som_kernel.specs.Made.{AreHooks, AreMarked, AreParts, HaveMadeBelow, IsWhole, KeepsFilled, KeepsMade, Parts, hooks_at}
-use Rattle.som_kernel.proofs.Marks.{long_set, marked_set, set_other, set_there}
+use Rattle.som_kernel.proofs.Marks.{long_set, marked_set, none_marked, set_other, set_there}
 use Rattle.som_kernel.proofs.Filled.{still_filled}
 
 -- a number is another or not
@@ -191,3 +191,19 @@ module _ (k : Numbering) (v : Parts) (are : AreParts k v) (n : ℕ) (num : IsNum
         (let ne : m ≢ n = (λ e. un ((marked_set v.made n m in_marks).1 (inr e))) in
         others m ne ∙ are.unnamed m (λ im. un ((marked_set v.made n m in_marks).1 (inl im))));
   }
+
+-- ---- nothing yet
+
+pub none_yet : (k : Numbering) (v : Parts) (count : ℕ) → AreBodies k v.bodies → ArePlaces k v.places → v.made ≡ replicate count false → length v.hooks ≡ count → count ≡ length k.keys → v.names ≡ []
+    → AreParts k v
+none_yet k v count bodies places made long all names = record {
+  bodies = bodies;
+  places = places;
+  marks = ap length made ∙ length-replicate count false ∙ all;
+  long = long ∙ all;
+  whole = λ n m. absurd (none_marked count n (subst (λ z. IsMarked z n) made m));
+  unnamed = λ n un. ap (λ (z : List (ℕ × Named)). named_at z n) names;
+}
+
+pub none_there : (made : List Bool) (count : ℕ) → made ≡ replicate count false → (n : ℕ) → IsMarked made n → ⊥
+none_there made count e n m = none_marked count n (subst (λ z. IsMarked z n) e m)

@@ -7,7 +7,8 @@ ghost use Rattle.som_model.specs.Kernel.{kernel};
 ghost use Rattle.som_model.specs.Loads.{Loads};
 ghost use Rattle.som_model.specs.Metaclass.{meta};
 ghost use Rattle.som_numbers.specs.Classes.{classes_of};
-ghost use Rattle.std.specs.Prelude.{◌≡◌, ◌↔◌, ◌++◌, ◌<◌, ℕ, Bool, IfOk, OnOk, IsTrue, filter, length};
+ghost use Rattle.std.specs.List.{count_by};
+ghost use Rattle.std.specs.Prelude.{◌≡◌, ◌↔◌, ◌++◌, ◌<◌, ℕ, Bool, IfOk, OnOk, IsTrue, length};
 
 use crate::made::MadeClasses;
 use som_classes::Classes;
@@ -103,7 +104,7 @@ pub fn lay(alloc: Global, classes: List<Keyed>, main: Block) -> Result<Linked, N
 /// How many of the marks are set.
 fn count_set(marks: &[bool]) -> u32
     requires { length marks.now < 4294967296 }
-    ensures { result ≡ length (filter (λ m. m) marks.now) }
+    ensures { result ≡ count_by (λ m. m) marks.now }
 {
     let mut count = 0;
     for mark in marks {
@@ -146,7 +147,7 @@ impl Linked {
 
     /// How many classes are made.
     pub fn made(&self) -> u32
-        ensures { result ≡ length (filter (λ m. m) self.now.parts.made) }
+        ensures { result ≡ count_by (λ m. m) self.now.parts.made }
     {
         let _count = self.closure.classes().count();
         count_set(self.parts.made.as_slice())

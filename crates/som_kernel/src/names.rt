@@ -63,5 +63,6 @@ pub(crate) fn add_names(
         classes.ancestors(class),
         &own,
         classes.introduced(class),
-    )
+    )?;
+    Ok(())
 }
