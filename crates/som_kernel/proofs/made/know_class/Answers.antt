@@ -3,4 +3,4 @@ use Rattle.som_kernel.proofs.made.know_class.Goals as goal
 
 pub returns-clause-lower : goal.returns-clause-lower
 returns-clause-lower c =
-    parents_low c.args.classes.now c.count-_count.ensures.apart c.args.class c.requires c.parents-_parents.result.now c.parents-_parents.ensures.lower c.parents-_parents.ensures.keys
+    parents_low c.args.classes.now c.count-count.ensures.apart c.args.class c.requires c.parents-parents.result.now c.parents-parents.ensures.lower c.parents-parents.ensures.keys
