@@ -49,7 +49,10 @@ pub fn call_host(host: &HostTable, code: HostCode, body: &mut Body) -> Result<()
 {
     let right = pop(&mut body.operands);
     let left = pop(&mut body.operands);
-    push(&mut body.operands, som_values::host(host, code, &left, &right))?;
+    push(
+        &mut body.operands,
+        som_values::host(host, code, &left, &right),
+    )?;
     body.at += 1;
     Ok(())
 }

@@ -16,7 +16,12 @@ use som_task::Body;
 use som_values::{Classes, Stopped};
 
 /// `as C`: nil passes; else the object has to be live and of class C or one that descends from it.
-pub fn cast<C: Classes>(classes: &C, objects: &ObjectStore, class: &ClassKey, body: &mut Body) -> Result<(), Stopped>
+pub fn cast<C: Classes>(
+    classes: &C,
+    objects: &ObjectStore,
+    class: &ClassKey,
+    body: &mut Body,
+) -> Result<(), Stopped>
     requires room { body.old.at + 1 < 2 ^ 64 }
     requires kept { IsKept objects.now (top_cell body.old.operands.items) }
     requires classed { IsClassed (C.keys classes.now) (C.made classes.now) objects.now (top_cell body.old.operands.items) }
@@ -32,7 +37,12 @@ pub fn cast<C: Classes>(classes: &C, objects: &ObjectStore, class: &ClassKey, bo
 }
 
 /// `isa(e, C)`: whether the object, which has to be live, is of class C or one that descends from it; FALSE for nil.
-pub fn isa<C: Classes>(classes: &C, objects: &ObjectStore, class: &ClassKey, body: &mut Body) -> Result<(), Stopped>
+pub fn isa<C: Classes>(
+    classes: &C,
+    objects: &ObjectStore,
+    class: &ClassKey,
+    body: &mut Body,
+) -> Result<(), Stopped>
     requires room { body.old.at + 1 < 2 ^ 64 }
     requires kept { IsKept objects.now (top_cell body.old.operands.items) }
     requires classed { IsClassed (C.keys classes.now) (C.made classes.now) objects.now (top_cell body.old.operands.items) }
