@@ -13,7 +13,7 @@ use Rattle.som_model.specs.Rules.{breach}
 use Rattle.som_model.proofs.KeyLaws.{exact_bytes}
 use Rattle.som_laws.proofs.Members.{Apart, not_true}
 use Rattle.som_hierarchy.proofs.Lists.{doubles_apart}
-use Rattle.som_byname.specs.Added.{AreDistinct}
+use Rattle.som_byname.specs.Added.{HaveDistinctEntries}
 
 -- whether a name is among others
 abbrev pub among : List ℕ → List (List ℕ) → Bool
@@ -58,7 +58,7 @@ class_in_list (x ∷ cs) k c e = by (same_key x.key k) (λ f. class_in_list cs k
     by true later f = inl (cc)
     by false later f = inr (later f)
 
-pub introduces_is : (cs : List Class) (name : List ℕ) (k : ClassKey) → AreDistinct cs → introduces cs name k ≡ among name (introduced_by cs k)
+pub introduces_is : (cs : List Class) (name : List ℕ) (k : ClassKey) → HaveDistinctEntries cs → introduces cs name k ≡ among name (introduced_by cs k)
 introduces_is cs name k distinct = by (class_at cs k) refl
   where
     by : (o : Option Class) → class_at cs k ≡ o → introduces cs name k ≡ among name (introduced_by cs k)

@@ -5,11 +5,11 @@ use Rattle.std.specs.Option.{option_map, option_map_or}
 use Rattle.som_model.specs.Lists.{Mem, find}
 use Rattle.som_model.specs.Classes.{ancestors, hierarchy}
 use Rattle.som_model.specs.Owner.{introduces}
-use Rattle.som_meta.specs.Numbering.{Numbering, key_at, names_of, tokens_of}
+use Rattle.som_meta.specs.Numbering.{IsNumbered, IsToken, Numbering, key_at, names_of, tokens_of}
 use Rattle.som_names.specs.declared.named.Named.{Named}
 use Rattle.som_names.specs.Index.{ancestors_at, asked, found, own_token, token_in}
 use Rattle.som_names.proofs.ByName.{found_is, introducer, introducer_is}
-use Rattle.som_byname.specs.Added.{AreDistinct, HasClass, HasClasses, IsMeant, count_to, introducer_of}
+use Rattle.som_byname.specs.Added.{HaveDistinctEntries, HasClass, HasClasses, IsMeant, count_to, introducer_of}
 use Rattle.som_byname.proofs.Entries.{introduces_is}
 use Rattle.som_byname.proofs.Tokens.{token_is, token_some}
 
@@ -24,7 +24,7 @@ own_is k index a name has =
     ap (option_and_then (λ (e : Named). token_in e.names e.tokens name)) has.there
     ∙ ap (λ (ns : List (List ℕ)). token_in ns has.added.tokens name) has.names ∙ ap (λ (ts : List (ℕ × ℕ)). token_in (names_of k a) ts name) has.tokens
 
-own_some : (k : Numbering) (index : List (ℕ × Named)) (a : ℕ) (name : List ℕ) → AreDistinct k.classes → HasClass k index a → is_some (own_token index name a) ≡ introduces k.classes name (key_at k a)
+own_some : (k : Numbering) (index : List (ℕ × Named)) (a : ℕ) (name : List ℕ) → HaveDistinctEntries k.classes → HasClass k index a → is_some (own_token index name a) ≡ introduces k.classes name (key_at k a)
 own_some k index a name distinct has = ap is_some (own_is k index a name has) ∙ token_some name a 0 (names_of k a) ∙ sym (introduces_is k.classes name (key_at k a) distinct)
 
 above_is : (k : Numbering) (index : List (ℕ × Named)) (n : ℕ) → HasClass k index n → map (key_at k) (ancestors_at index n) ≡ ancestors k.classes (key_at k n)
@@ -45,10 +45,13 @@ meant_by k index n a name has (Some t) is some e =
     let h = token_is name a 0 (names_of k a) t (sym (own_is k index a name has) ∙ is) in
     let same = h.0 in
     let flat : t.1 - 0 ≡ t.1 = omega arith in
-    let name_is : get_or (names_of k t.0) t.1 [] ≡ name = ap (λ (z : ℕ). get_or (names_of k z) t.1 []) same ∙ ap (λ (z : ℕ). get_or (names_of k a) z []) (sym flat) ∙ h.2 in
-    (e ∙ ap (λ (z : ℕ). Some (key_at k z)) (sym same), ap (λ (z : List ℕ). record { class = key_at k t.0; name = z }) name_is)
+    let name_is : get_or (names_of k t.0) t.1 [] ≡ name = ap (λ (z : ℕ). get_or (names_of k z) t.1 []) same ∙ ap (λ (z : ℕ). get_or (names_of k a) z []) (sym flat) ∙ h.3 in
+    let below = h.2 in
+    let here : t.1 < length (names_of k a) = omega (arith, below) in
+    let few : t.1 < length (names_of k t.0) = subst (λ (z : ℕ). t.1 < length (names_of k z)) (sym same) here in
+    ((subst (λ (z : ℕ). IsNumbered k z) (sym same) has.numbered, few), e ∙ ap (λ (z : ℕ). Some (key_at k z)) (sym same), name_is)
 
-pub found_meant : (k : Numbering) (index : List (ℕ × Named)) (n : ℕ) (name : List ℕ) → AreDistinct k.classes → HasClasses k index n → IsMeant k n name (found index n name)
+pub found_meant : (k : Numbering) (index : List (ℕ × Named)) (n : ℕ) (name : List ℕ) → HaveDistinctEntries k.classes → HasClasses k index n → IsMeant k n name (found index n name)
 found_meant k index n name distinct has =
     subst (λ (o : Option (ℕ × ℕ)). IsMeant k n name o) (sym (found_is index n name)) (by (introducer index name (ancestors_at index n)) refl)
   where
@@ -70,7 +73,7 @@ asked_of k index name (x ∷ xs) each =
     let rest = asked_of k index name xs (λ a m. each a (inr m)) in
     rw here (ap (λ (z : ℕ). if introduces k.classes name (key_at k x) then 1 else suc z) rest)
 
-pub asked_up_to : (k : Numbering) (index : List (ℕ × Named)) (n : ℕ) (name : List ℕ) → AreDistinct k.classes → HasClasses k index n
+pub asked_up_to : (k : Numbering) (index : List (ℕ × Named)) (n : ℕ) (name : List ℕ) → HaveDistinctEntries k.classes → HasClasses k index n
     → asked index name (ancestors_at index n) ≡ count_to (introduces k.classes name) (ancestors k.classes (key_at k n))
 asked_up_to k index n name distinct has =
     asked_of k index name (ancestors_at index n) (λ a m. own_some k index a name distinct (has.above a m)) ∙ ap (count_to (introduces k.classes name)) (above_is k index n has.own)

@@ -90,13 +90,13 @@ module _ (a : Among) (bs : List BodyText) (c : Class) where
       ∙ ap (λ (z : Result (List Override) Refusal). entry_bodies a bs d c d.class.face.entries >>= λ own_bodies. z >>= λ others. Ok (record { bodies = own_bodies; overrides = others; selects = selects_at a.classes c.key d })) (overrides_own d.class.overrides)
 
 -- what is told of the bodies of one class is told of all bodies
-pub counted_told : (bs own : List BodyText) (d : InterfaceDraft) (name : List ℕ) (r : Result (Unit {0}) VerifyFault) → name ≡ d.class.face.name → own ≡ of_class bs name
-    → Tells (first (text_s14 own d)) r → Tells (first (text_s14 bs d)) r
-counted_told bs own d name r named narrow t =
+pub counted_told : (bs kept : List BodyText) (d : InterfaceDraft) (name : List ℕ) (r : Result (Unit {0}) VerifyFault) → name ≡ d.class.face.name → kept ≡ of_class bs name
+    → Tells (first (text_s14 kept d)) r → Tells (first (text_s14 bs d)) r
+counted_told bs kept d name r named narrow t =
     subst (λ (z : List RuleBreach). Tells (first z) r) (ap (λ (z : List BodyText). text_s14 z d) (narrow ∙ ap (of_class bs) named) ∙ counted_own bs d) t
 
-pub class_told : (a : Among) (bs own : List BodyText) (d : InterfaceDraft) (c : Class) (name : List ℕ) (r : Result ClassBodies Refused) → c.decl ≡ d.class → name ≡ d.class.face.name → own ≡ of_class bs name
-    → Answers (class_steps a own d c) r → Answers (class_steps a bs d c) r
-class_told a bs own d c name r is named narrow t =
-    let whole : own ≡ of_class bs c.decl.face.name = narrow ∙ ap (of_class bs) (named ∙ ap (λ (z : ClassDecl). z.face.name) (sym is)) in
+pub class_told : (a : Among) (bs kept : List BodyText) (d : InterfaceDraft) (c : Class) (name : List ℕ) (r : Result ClassBodies Refused) → c.decl ≡ d.class → name ≡ d.class.face.name → kept ≡ of_class bs name
+    → Answers (class_steps a kept d c) r → Answers (class_steps a bs d c) r
+class_told a bs kept d c name r is named narrow t =
+    let whole : kept ≡ of_class bs c.decl.face.name = narrow ∙ ap (of_class bs) (named ∙ ap (λ (z : ClassDecl). z.face.name) (sym is)) in
     subst (λ (z : Result ClassBodies Refusal). Answers z r) (ap (λ (z : List BodyText). class_steps a z d c) whole ∙ class_own a bs c d) t

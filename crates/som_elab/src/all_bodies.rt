@@ -3,6 +3,7 @@ ghost use Rattle.som_elab.specs.Contexts as spec;
 ghost use Rattle.som_elab.specs.Contexts.{IsModuleContext, IsUnlimitedContext, StandAfterOthers, among_in, checked_steps, module_steps};
 ghost use Rattle.som_elab.specs.Elaboration.{Answers, elaborated_main, keeping};
 ghost use Rattle.som_elab.specs.Limits.{limit_passed};
+ghost use Rattle.som_elab.specs.Texts.{given};
 ghost use Rattle.som_rules.specs.Modules.{classes_of};
 ghost use Rattle.som_rules.specs.Told.{Tells};
 ghost use Rattle.som_drafts.specs.Drafts.{plain_drafts};
@@ -42,7 +43,7 @@ pub fn checked_bodies(
     main: Option<&BlockText>,
 ) -> Result<AllBodies, Refused>
     requires { IsUnlimitedContext context.now (plain_drafts drafts.now) }
-    ensures { Answers (checked_steps (among_in context.now) context.now.scope.now.module texts.now (plain_drafts drafts.now) (option_copied main.entry)) result }
+    ensures { Answers (checked_steps (among_in context.now) context.now.scope.now.module (given texts.now.all.now) (plain_drafts drafts.now) (option_copied main.entry)) result }
 {
     match bodies_stand(alloc, &context.known, drafts, texts) {
         Ok(()) => within_limits(alloc, context, drafts, texts, main),
@@ -57,7 +58,7 @@ fn bodies_stand(
     texts: &ModuleTexts,
 ) -> Result<(), VerifyFault>
     requires { IsKnowledge known.now }
-    ensures { Tells (bodies_breach (all_of known.now) (plain_drafts drafts.now) texts.now) result }
+    ensures { Tells (bodies_breach (all_of known.now) (plain_drafts drafts.now) (given texts.now.all.now)) result }
 {
     bodies_named(alloc, known, drafts, texts)?;
     bodies_counted(alloc, drafts, texts)
@@ -72,7 +73,7 @@ fn within_limits(
 ) -> Result<AllBodies, Refused>
     requires { IsUnlimitedContext context.now (plain_drafts drafts.now) }
     ensures { Answers (keeping (limit_passed (plain_drafts drafts.now))
-        (module_steps (among_in context.now) context.now.scope.now.module texts.now (plain_drafts drafts.now) (option_copied main.entry))) result }
+        (module_steps (among_in context.now) context.now.scope.now.module (given texts.now.all.now) (plain_drafts drafts.now) (option_copied main.entry))) result }
 {
     limits_kept(alloc, drafts)?;
     made_bodies(alloc, context, drafts, texts, main)
@@ -88,7 +89,7 @@ fn made_bodies(
     requires context { IsModuleContext context.now }
     requires stand { StandAfterOthers context.now.scope.now.module (classes_of context.now.known.classes.now) (plain_drafts drafts.now) }
     requires limits { limit_passed (plain_drafts drafts.now) ≡ None }
-    ensures { Answers (module_steps (among_in context.now) context.now.scope.now.module texts.now (plain_drafts drafts.now) (option_copied main.entry)) result }
+    ensures { Answers (module_steps (among_in context.now) context.now.scope.now.module (given texts.now.all.now) (plain_drafts drafts.now) (option_copied main.entry)) result }
 {
     let classes = all_bodies(alloc, context, drafts, texts)?;
     let main = main_block(alloc, context, main)?;

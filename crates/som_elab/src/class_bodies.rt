@@ -52,7 +52,7 @@ pub fn class_bodies(
     requires class { (class_of_place (classes_in context.now) place).decl ≡ draft.now.decl }
     requires fits { ClassFits (classes_in context.now) (Some place) }
     requires parents { length (or_object draft.now.text.now.parents) ≤ 255 }
-    ensures { Answers (class_steps (among_in context.now) texts.now (plain_draft draft.now) (class_of_place (classes_in context.now) place)) result }
+    ensures { Answers (class_steps (among_in context.now) (given texts.now.all.now) (plain_draft draft.now) (class_of_place (classes_in context.now) place)) result }
 {
     let own = texts.of_class(draft.decl.face.name.as_slice());
     own_bodies(alloc, context, place, draft, own)

@@ -1,6 +1,7 @@
 ghost use Rattle.som_elab.specs.Contexts.{IsModuleContext, StandAfterOthers, among_in, completed, each_steps};
 ghost use Rattle.som_elab.specs.Elaboration.{Answers, with_blocks};
 ghost use Rattle.som_elab.specs.Limits.{limit_passed};
+ghost use Rattle.som_elab.specs.Texts.{given};
 ghost use Rattle.som_rules.specs.Modules.{classes_of};
 ghost use Rattle.som_drafts.specs.Drafts.{plain_drafts};
 ghost use Rattle.std.specs.Prelude.{◌≡◌, IfOk, None};
@@ -24,7 +25,7 @@ pub fn all_bodies(
     requires context { IsModuleContext context.now }
     requires stand { StandAfterOthers context.now.scope.now.module (classes_of context.now.known.classes.now) (plain_drafts drafts.now) }
     requires limits { limit_passed (plain_drafts drafts.now) ≡ None }
-    ensures { Answers (each_steps (among_in context.now) context.now.scope.now.module texts.now (plain_drafts drafts.now)) result }
+    ensures { Answers (each_steps (among_in context.now) context.now.scope.now.module (given texts.now.all.now) (plain_drafts drafts.now)) result }
 {
     let classes = context.known.classes;
     let from = classes.len() - drafts.len() + KERNEL_CLASSES;

@@ -22,20 +22,20 @@ pub fn bodies_counted(
     drafts: &[Draft],
     texts: &ModuleTexts,
 ) -> Result<(), VerifyFault>
-    ensures { Tells (first (flat_map (text_s14 texts.now) (plain_drafts drafts.now))) result }
+    ensures { Tells (first (flat_map (text_s14 (given texts.now.all.now)) (plain_drafts drafts.now))) result }
 {
     each_draft(
         drafts,
         |place: usize| -> Result<(), VerifyFault>
             requires { place < length drafts.now }
-            ensures { (d : Known) → slice_get drafts.entry.now place ≡ Some d → Tells (first (text_s14 texts.entry.now (plain_draft d))) result }
+            ensures { (d : Known) → slice_get drafts.entry.now place ≡ Some d → Tells (first (text_s14 (given texts.entry.now.all.now) (plain_draft d))) result }
         { own_counted(alloc, &drafts[place], texts) },
     )
 }
 
 // Only the bodies of the class are looked at for each of its methods.
 fn own_counted(alloc: Global, draft: &Draft, texts: &ModuleTexts) -> Result<(), VerifyFault>
-    ensures { Tells (first (text_s14 texts.now (plain_draft draft.now))) result }
+    ensures { Tells (first (text_s14 (given texts.now.all.now) (plain_draft draft.now))) result }
 {
     let own = texts.of_class(draft.decl.face.name.as_slice());
     members_counted(alloc, draft, own)

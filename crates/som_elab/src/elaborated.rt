@@ -110,7 +110,7 @@ fn grouped_over(
     requires few { FewParameters (interface_classes base.now) }
     requires faces { texts_breach own_module base.now (lent interfaces.now) ≡ None }
     requires drafted { plain_drafts drafts.now ≡ drafts_over own_module base.now (lent interfaces.now) }
-    ensures { Answers (checked_steps (among_over own_module base.now (lent interfaces.now)) own_module texts.now (plain_drafts drafts.now) (option_copied main.entry)) result }
+    ensures { Answers (checked_steps (among_over own_module base.now (lent interfaces.now)) own_module (given texts.now.all.now) (plain_drafts drafts.now) (option_copied main.entry)) result }
 {
     let kernel = kernel_faces(alloc)?;
     let kernel = kernel.classes.as_slice();
@@ -135,7 +135,7 @@ fn bodies_after(
     ensures { Answers (checked_steps (record {
       classes = with_kernel (after_base scope.now.module (map (class_in modules.Library) base.now) (draft_classes (plain_drafts drafts.now)));
       module_of = module_in_scope scope.now;
-    }) scope.now.module texts.now (plain_drafts drafts.now) (option_copied main.entry)) result }
+    }) scope.now.module (given texts.now.all.now) (plain_drafts drafts.now) (option_copied main.entry)) result }
 {
     let classes = known_classes(alloc, scope.module, base, drafts)?;
     bodies_among(alloc, scope, classes.as_slice(), drafts, texts, main)
@@ -152,7 +152,7 @@ fn bodies_among(
     requires rules { (base : ℕ) × (classes_breach base (classes_of classes.now) ≡ None) }
     requires stand { StandAfterOthers scope.now.module (classes_of classes.now) (plain_drafts drafts.now) }
     ensures { Answers (checked_steps (record { classes = with_kernel (classes_of classes.now); module_of = module_in_scope scope.now }) scope.now.module
-        texts.now (plain_drafts drafts.now) (option_copied main.entry)) result }
+        (given texts.now.all.now) (plain_drafts drafts.now) (option_copied main.entry)) result }
 {
     match parts_of(alloc, classes) {
         Ok(parts) => bodies_in_context(alloc, scope, &parts, classes, drafts, texts, main),
@@ -204,7 +204,7 @@ fn bodies_in_context(
     requires parts { AreParts (classes_of classes.now) parts.now }
     requires rules { (base : ℕ) × (classes_breach base (classes_of classes.now) ≡ None) }
     requires stand { StandAfterOthers scope.now.module (classes_of classes.now) (plain_drafts drafts.now) }
-    ensures { Answers (checked_steps (record { classes = with_kernel (classes_of classes.now); module_of = module_in_scope scope.now }) scope.now.module texts.now (plain_drafts drafts.now) (option_copied main.entry)) result }
+    ensures { Answers (checked_steps (record { classes = with_kernel (classes_of classes.now); module_of = module_in_scope scope.now }) scope.now.module (given texts.now.all.now) (plain_drafts drafts.now) (option_copied main.entry)) result }
 {
     let known = know(
         &parts.table,

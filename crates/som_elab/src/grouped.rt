@@ -10,34 +10,20 @@ use som_body::BodyText;
 use som_model::{List, NoMemory};
 use som_order::{find_name, note_name};
 use std::alloc::Global;
-use std::marker::Model;
 
 /// The bodies of a module's texts, which are put together by classes, so that a class looks at its own alone.
 #[derive(Drop)]
 pub struct ModuleTexts<'t, 'a> {
-    all: &'t [&'a BodyText],
+    pub all: &'t [&'a BodyText],
     classes: IndexSet<&'a [u8]>,
     groups: Vec<List<&'a BodyText>>,
-}
-
-impl<'t, 'a> Model for ModuleTexts<'t, 'a> {
-    ghost use Rattle.som_body.specs.declared.tree.BodyText.{BodyText as Given};
-    ghost use Rattle.som_elab.specs.Grouped.{AreGrouped, groups_of};
-    ghost use Rattle.som_elab.specs.Texts.{given};
-    ghost use Rattle.som_order.specs.Names.{texts};
-    ghost use Rattle.std.specs.Prelude.{List as Seq};
-
-    ghost Value = { Seq Given };
-
-    ghost view = { λ t. given t.all.now };
-
-    ghost invariant = { λ t. AreGrouped (given t.all.now) (texts t.classes.keys) (groups_of t.groups.items) };
+    ghost by_classes: { AreGrouped (given all.now) (texts classes.keys) (groups_of groups.items) },
 }
 
 impl<'t, 'a> ModuleTexts<'t, 'a> {
     /// Looks at each body once.
     pub fn grouped(alloc: Global, all: &'t [&'a BodyText]) -> Result<ModuleTexts<'t, 'a>, NoMemory>
-        ensures { IfOk result (λ t. t ≡ given all.now) }
+        ensures { IfOk result (λ t. given t.all.now ≡ given all.now) }
     {
         let mut classes = IndexSet::new(alloc);
         let mut groups = Vec::new(alloc);
@@ -51,16 +37,9 @@ impl<'t, 'a> ModuleTexts<'t, 'a> {
         })
     }
 
-    /// All of them, in order.
-    pub fn all(&self) -> &[&'a BodyText]
-        ensures { given result.now ≡ self.now }
-    {
-        self.all
-    }
-
     /// Those of one class, in order.
     pub fn of_class(&self, class: &[u8]) -> &[&'a BodyText]
-        ensures { given result.now ≡ spec.of_class self.now class.now }
+        ensures { given result.now ≡ spec.of_class (given self.now.all.now) class.now }
     {
         match find_name(&self.classes, class) {
             Some(place) => self.groups[place].as_slice(),

@@ -31,10 +31,10 @@ pub fn bodies_named(
     texts: &ModuleTexts,
 ) -> Result<(), VerifyFault>
     requires { IsKnowledge known.now }
-    ensures { Tells (first (flat_map (text_s13 (all_of known.now) (plain_drafts drafts.now)) texts.now)) result }
+    ensures { Tells (first (flat_map (text_s13 (all_of known.now) (plain_drafts drafts.now)) (given texts.now.all.now))) result }
 {
     let names = class_places(alloc, drafts)?;
-    each_named(alloc, known, drafts, &names, texts.all())
+    each_named(alloc, known, drafts, &names, texts.all)
 }
 
 fn each_named(

@@ -13,7 +13,7 @@ use Rattle.som_model.specs.Conforming.{program_breach, release_breach}
 use Rattle.som_model.specs.Compatible.{CompatBreach, first_break}
 use Rattle.som_model.specs.Counts.{ClassCounted, FaceCounted, block_counted}
 
--- the rule that the client, or else the library, breaks first; or what the library doesn't keep first of what the client was compiled against
+-- a rule that is broken, by the client where it is said so and else by the library; or what the library doesn't keep of what the client was compiled against
 pub data Obstacle : Type 0 where
   Breaks : Bool → RuleBreach → Obstacle
   DoesntKeep : CompatBreach → Obstacle

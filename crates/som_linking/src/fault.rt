@@ -7,8 +7,8 @@ use som_model::{NoMemory, Text};
 use som_rules::Broken;
 use std::alloc::Global;
 
-/// Why a client isn't linked with a library: a rule that the client, or else the library, breaks; or what the library doesn't keep of that which the
-/// client was compiled against, with the class, the name of what is lost or changed, which is `-` where there is none, and its place.
+/// Why a client isn't linked with a library: a rule that the library breaks, or else, as `client` says, the client; or what the library doesn't keep
+/// of that which the client was compiled against, with the class, the name of what is lost or changed, which is `-` where there is none, and its place.
 #[derive(Drop)]
 pub enum LinkFault {
     NotConforming {

@@ -6,5 +6,5 @@ use Rattle.som_elab.proofs.OwnTexts.{class_told}
 use Rattle.som_elab.proofs.class_bodies.class_bodies.Goals as goal
 
 pub returns : goal.returns
-returns c = class_told (among_in c.args.context.now) c.args.texts.now (given c.of_class-own.result.now) (plain_draft c.args.draft.now) (class_of_place (classes_in c.args.context.now) c.args.place) c.as_slice.result.now c.own_bodies.result
+returns c = class_told (among_in c.args.context.now) (given c.args.texts.now.all.now) (given c.of_class-own.result.now) (plain_draft c.args.draft.now) (class_of_place (classes_in c.args.context.now) c.args.place) c.as_slice.result.now c.own_bodies.result
     c.requires.class c.as_slice.ensures c.of_class-own.ensures c.own_bodies.ensures

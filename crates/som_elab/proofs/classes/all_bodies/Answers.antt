@@ -5,6 +5,7 @@ use Rattle.som_rules.specs.Modules.{class_of, classes_of}
 use Rattle.som_rules.specs.Places.{class_of_place}
 use Rattle.som_rules.proofs.DeclaredClasses.{long_map}
 use Rattle.som_elab.specs.Contexts.{among_in, classes_in}
+use Rattle.som_elab.specs.Texts.{given}
 use Rattle.som_elab.proofs.ClassSteps.{class_next, class_stops}
 use Rattle.som_elab.proofs.ContextLaws.{own_class, own_fits, parents_fit}
 use Rattle.som_elab.proofs.classes.all_bodies.Goals as goal
@@ -29,7 +30,7 @@ pub returns-in_err-bodies : goal.returns-in_err-bodies
 returns-in_err-bodies c =
     let p = err_from_is_err_and c.from_residual.result c.from_residual.ensures.1 in
     let place = length c.args.context.now.known.classes.now - length c.args.drafts.now + 4 + c.loop-index.index in
-    rw (p.1, p.2) (class_stops (among_in c.args.context.now) c.args.texts.now c.args.context.now.scope.now.module c.args.drafts.now c.loop-index.index c.index-drafts-index.result c.loop-index-test.true c.index-drafts-index.is
+    rw (p.1, p.2) (class_stops (among_in c.args.context.now) (given c.args.texts.now.all.now) c.args.context.now.scope.now.module c.args.drafts.now c.loop-index.index c.index-drafts-index.result c.loop-index-test.true c.index-drafts-index.is
     c.loop-index.all c.loop-index.invariant (class_of_place (classes_in c.args.context.now) place)
     (own_class c.args.context.now.scope.now.module (classes_of c.args.context.now.known.classes.now) c.args.drafts.now c.requires.stand c.loop-index.index c.index-drafts-index.result
     place c.loop-index-test.true c.index-drafts-index.is (omega (arith, long_map class_of c.args.context.now.known.classes.now)))
@@ -38,7 +39,7 @@ returns-in_err-bodies c =
 pub loop-index-preserved : goal.loop-index-preserved
 loop-index-preserved c =
     let place = length c.args.context.now.known.classes.now - length c.args.drafts.now + 4 + c.loop-index.index in
-    rw c.in_ok-push.ensures.ok (class_next (among_in c.args.context.now) c.args.texts.now c.args.context.now.scope.now.module c.args.drafts.now c.loop-index.index c.index-drafts-index.result c.loop-index-test.true c.index-drafts-index.is
+    rw c.in_ok-push.ensures.ok (class_next (among_in c.args.context.now) (given c.args.texts.now.all.now) c.args.context.now.scope.now.module c.args.drafts.now c.loop-index.index c.index-drafts-index.result c.loop-index-test.true c.index-drafts-index.is
     c.loop-index.all c.loop-index.invariant (class_of_place (classes_in c.args.context.now) place)
     (own_class c.args.context.now.scope.now.module (classes_of c.args.context.now.known.classes.now) c.args.drafts.now c.requires.stand c.loop-index.index c.index-drafts-index.result
     place c.loop-index-test.true c.index-drafts-index.is (omega (arith, long_map class_of c.args.context.now.known.classes.now)))

@@ -8,6 +8,7 @@ use Rattle.som_rules.specs.Modules.{classes_of}
 use Rattle.som_rules.specs.Places.{with_kernel}
 use Rattle.som_elab.specs.Elaboration.{Answers}
 use Rattle.som_elab.specs.Contexts.{checked_steps}
+use Rattle.som_elab.specs.Texts.{given}
 use Rattle.som_elab.proofs.elaborated.bodies_after.Goals as goal
 
 pub bodies_among-requires-clause-rules : goal.bodies_among-requires-clause-rules
@@ -26,5 +27,5 @@ bodies_among-requires-clause-stand c = record {
 pub returns : goal.returns
 returns c =
     let same = ap classes_of c.as_slice.ensures.value ∙ c.in_ok-classes.ensures in
-    subst (λ (z : List Class). Answers (checked_steps (record { classes = with_kernel z; module_of = module_in_scope c.args.scope.now }) c.args.scope.now.module c.args.texts.now (plain_drafts c.args.drafts.now) (option_copied c.args.main)) c.bodies_among.result)
+    subst (λ (z : List Class). Answers (checked_steps (record { classes = with_kernel z; module_of = module_in_scope c.args.scope.now }) c.args.scope.now.module (given c.args.texts.now.all.now) (plain_drafts c.args.drafts.now) (option_copied c.args.main)) c.bodies_among.result)
     same c.bodies_among.ensures

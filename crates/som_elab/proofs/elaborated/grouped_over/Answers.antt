@@ -6,6 +6,7 @@ use Rattle.som_scope.specs.Words.{interface_names, lent, once}
 use Rattle.som_sema.proofs.Finishing.{base_is}
 use Rattle.som_rules.proofs.DeclaredClasses.{long_map}
 use Rattle.som_elab.specs.Contexts.{ParentsCounted}
+use Rattle.som_elab.specs.Texts.{given}
 use Rattle.som_elab.proofs.Declared.{parents_counted}
 use Rattle.som_elab.proofs.ModuleLaws.{few_over, rules_over, steps_over}
 use Rattle.som_elab.proofs.elaborated.grouped_over.Goals as goal
@@ -35,4 +36,4 @@ returns c =
     steps_over c.args.own_module c.args.base.now (lent c.args.interfaces.now) c.in_ok-scope.scope.module c.as_slice.result.now (plain_drafts c.args.drafts.now) (module_in_scope c.in_ok-scope.scope)
     c.in_ok-scope.ensures.own (base_is c.args.base.now c.as_slice.result.now c.as_slice-known.result.now bares c.as_slice-known.ensures) c.requires.drafted
     (c.in_ok-scope.ensures.names ∙ ap (λ z. module_by_names c.args.own_module (once (interface_names (lent c.args.interfaces.now))) (once (face_names z)) kernel_names) c.as_slice-known.ensures)
-    c.args.texts.now (option_copied c.args.main) c.bodies_after.result c.bodies_after.ensures
+    (given c.args.texts.now.all.now) (option_copied c.args.main) c.bodies_after.result c.bodies_after.ensures

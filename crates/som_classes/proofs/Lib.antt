@@ -1,0 +1,4 @@
+pub mod Proxying
+pub mod Loading
+pub mod Bodies
+pub mod Listing

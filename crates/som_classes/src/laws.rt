@@ -1,0 +1,18 @@
+ghost use Rattle.som_classes.specs.Loaded.{AreLoaded};
+ghost use Rattle.som_members.specs.Members.{AreNamed, CanLay};
+ghost use Rattle.som_meta.specs.Numbering.{Numbering};
+ghost use Rattle.som_model.specs.declared.key.ClassKey.TheVariants as keys;
+ghost use Rattle.som_model.specs.declared.key.ClassKey.{ClassKey};
+ghost use Rattle.som_numbers.specs.Classes.{AreDeclared};
+ghost use Rattle.som_numbers.specs.Numbers.{with_key};
+ghost use Rattle.som_owners.specs.Owners.{AreFaces};
+ghost use Rattle.std.specs.Prelude.{List as Seq};
+
+/// Classes that are loaded are declared, their faces stand together, all that they override and select has an entry, and with what their numbers stand
+/// for they can be laid.
+pub fn loaded_law()
+    ensures declared { (k : Numbering) → AreLoaded k → AreDeclared k.classes }
+    ensures faces { (k : Numbering) → AreLoaded k → AreFaces k.classes }
+    ensures named { (k : Numbering) → AreLoaded k → AreNamed k.classes }
+    ensures laid { (k : Numbering) → AreLoaded k → CanLay k }
+{}

@@ -1,0 +1,3 @@
+pub mod Filling
+pub mod Placing
+pub mod Having

@@ -1,0 +1,10 @@
+//! Rows of variables: the place of each variable in the objects of a class, and the types of all by their places.
+#![tactic(auto)]
+
+mod cells;
+mod laws;
+mod own;
+mod places;
+
+pub use laws::apart_law;
+pub use places::Places;
