@@ -1,6 +1,6 @@
 ghost use Rattle.som_code.specs.declared.instruction.Instruction.TheVariants as ops;
 ghost use Rattle.som_instructions.specs.Cells.{top_cell};
-ghost use Rattle.som_instructions.specs.Doing.{Did, IsAmong};
+ghost use Rattle.som_instructions.specs.Doing.{Did, HasClasses};
 ghost use Rattle.som_model.specs.State.{Heap};
 ghost use Rattle.som_objects.specs.Objects.{Objects};
 ghost use Rattle.som_task.specs.Own.{IsOwnBody};
@@ -25,7 +25,7 @@ pub fn cast<C: Classes>(
     requires room { body.old.at + 1 < 2 ^ 64 }
     requires kept { IsKept objects.now (top_cell body.old.operands.items) }
     requires classed { IsClassed (C.keys classes.now) (C.made classes.now) objects.now (top_cell body.old.operands.items) }
-    ensures did { (s : Setting) (h : Heap) → IsAmong (C.keys classes.now) (C.world classes.now) s.linked → IsOwnBody s objects.now body.old → HoldsHeap s.linked s.serials objects.now h
+    ensures did { (s : Setting) (h : Heap) → HasClasses (C.keys classes.now) (C.world classes.now) s.linked → IsOwnBody s objects.now body.old → HoldsHeap s.linked s.serials objects.now h
         → Did s h body.old result body.new (ops.Cast class.now) }
     ensures own { (s : Setting) (os : Objects) → IsOwnBody s os body.old → OnOk result (IsOwnBody s os body.new) }
 {
@@ -46,7 +46,7 @@ pub fn isa<C: Classes>(
     requires room { body.old.at + 1 < 2 ^ 64 }
     requires kept { IsKept objects.now (top_cell body.old.operands.items) }
     requires classed { IsClassed (C.keys classes.now) (C.made classes.now) objects.now (top_cell body.old.operands.items) }
-    ensures did { (s : Setting) (h : Heap) → IsAmong (C.keys classes.now) (C.world classes.now) s.linked → IsOwnBody s objects.now body.old → HoldsHeap s.linked s.serials objects.now h
+    ensures did { (s : Setting) (h : Heap) → HasClasses (C.keys classes.now) (C.world classes.now) s.linked → IsOwnBody s objects.now body.old → HoldsHeap s.linked s.serials objects.now h
         → Did s h body.old result body.new (ops.Isa class.now) }
     ensures own { (s : Setting) (os : Objects) → IsOwnBody s os body.old → OnOk result (IsOwnBody s os body.new) }
 {
