@@ -1,0 +1,4 @@
+pub mod Noting
+pub mod Searching
+pub mod Ordering
+pub mod FirstFour

@@ -1,0 +1,9 @@
+ghost use Rattle.som_classes.specs.Loaded.{AreLoaded};
+ghost use Rattle.som_making.specs.Making.{HaveNeeds};
+ghost use Rattle.som_meta.specs.Numbering.{Numbering};
+ghost use Rattle.std.specs.Prelude.{◌<◌};
+
+/// The kernel's four classes have the needs of each other among themselves, so that a kernel can begin with these.
+pub fn kernel_law()
+    ensures { (k : Numbering) → AreLoaded k → HaveNeeds k (λ n. n < 4) }
+{}
