@@ -48,9 +48,6 @@ fn without_rows(alloc: Global, count: u32) -> Result<Table<MethodKind>, NoMemory
     ensures each { IfOk result (λ table. length table ≡ count) }
     ensures none { IfOk result (λ table. (n : ℕ) → row_at table n ≡ None) }
 {
-    if count == u32::MAX {
-        return Err(NoMemory);
-    }
     let mut table = Table::new(alloc);
     for _number in 0..count {
         table.declare()?;

@@ -1,5 +1,5 @@
 -- Each method that a class overrides, or for which it selects a parent, has an entry in the class that is named.
-use Rattle.std.proofs.Common.{◌≡◌, inl, inr, ◌&&◌, not, true, false, List, [], ◌∷◌, ◌++◌, map, Option, Some, None, IsSome, is_some, slice_get, refl, sym, ap, ◌∙◌, subst, true≢false}
+use Rattle.std.proofs.Common.{◌≡◌, inl, inr, ◌&&◌, not, true, List, [], ◌∷◌, ◌++◌, map, Option, Some, None, IsSome, is_some, slice_get, refl, sym, ap, ◌∙◌, subst, true≢false}
 use Rattle.som_model.specs.declared.key.MethodRef.{MethodRef}
 use Rattle.som_model.specs.declared.class.Entry.{Entry}
 use Rattle.som_model.specs.declared.class.Override.{Override}

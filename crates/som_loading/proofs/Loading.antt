@@ -12,6 +12,7 @@ use Rattle.som_model.specs.Class.{Class}
 use Rattle.som_model.specs.Kernel.{kernel, som_object}
 use Rattle.som_model.specs.Loads.{Loads}
 use Rattle.som_model.specs.Made.{IsMade}
+use Rattle.som_model.specs.Rules.{s6}
 use Rattle.som_laws.proofs.Members.{mem_split}
 use Rattle.som_hierarchy.proofs.Lists.{map_mem}
 use Rattle.som_meta.specs.Numbering.{AreApart, IsNumbered, Numbering, key_at}
@@ -32,6 +33,14 @@ kernel_counted c (inr (inr (inl e))) = let l : length c.decl.face.entries ≡ 1 
 kernel_counted c (inr (inr (inr (inl e)))) = let l : length c.decl.face.entries ≡ 2 = ap (λ (z : Class). length z.decl.face.entries) e in omega (arith, l)
 kernel_counted c (inr (inr (inr (inr m)))) = absurd m
 
+-- nor two of one name
+kernel_distinct : (c : Class) → Mem c kernel → s6 c ≡ []
+kernel_distinct c (inl e) = subst (λ (z : Class). s6 z ≡ []) (sym e) refl
+kernel_distinct c (inr (inl e)) = subst (λ (z : Class). s6 z ≡ []) (sym e) refl
+kernel_distinct c (inr (inr (inl e))) = subst (λ (z : Class). s6 z ≡ []) (sym e) refl
+kernel_distinct c (inr (inr (inr (inl e)))) = subst (λ (z : Class). s6 z ≡ []) (sym e) refl
+kernel_distinct c (inr (inr (inr (inr m)))) = absurd m
+
 module _ (cs : List Class) (main : Block) (loads : Loads cs main) where
   pub are_declared : AreDeclared (kernel ++ cs)
   are_declared = record { others = cs; is = refl; ordered = loads.faces.ordered }
@@ -49,6 +58,9 @@ module _ (cs : List Class) (main : Block) (loads : Loads cs main) where
 
   pub named : AreNamed (kernel ++ cs)
   named = are_named cs loads.inherited
+
+  pub entries_differ : (c : Class) → Mem c (kernel ++ cs) → s6 c ≡ []
+  entries_differ c m = elim (mem_split c kernel cs m) [ inl k ↦ kernel_distinct c k | inr own ↦ loads.faces.names c own ]
 
   pub can_be_laid : (ks : List ClassKey) → AreApart (numbered cs ks) → HaveTargets (numbered cs ks) → CanBeLaid cs ks
   can_be_laid ks apart targets = record {

@@ -1,5 +1,5 @@
 -- Which made classes are proxies: those that blocks name.
-use Rattle.std.proofs.Common.{◌≡◌, ◌⊎◌, ℕ, zero, suc, inl, inr, Bool, true, false, if◌then◌else◌, List, [], ◌∷◌, ◌++◌, map, Option, Some, None, refl, sym, ap, ◌∙◌, subst}
+use Rattle.std.proofs.Common.{◌≡◌, ℕ, zero, suc, inl, inr, Bool, true, false, if◌then◌else◌, List, [], ◌∷◌, ◌++◌, map, Option, Some, None, refl, sym, ap, ◌∙◌, subst}
 use Rattle.std.specs.Prelude.{flat_map}
 use Rattle.som_model.specs.declared.key.Module.{Module}
 use Rattle.som_model.specs.declared.key.ClassKey.{ClassKey, out-ClassKey, out-roll-ClassKey}
@@ -14,7 +14,7 @@ use Rattle.som_model.specs.Classes.{class_at, hierarchy, parents_of}
 use Rattle.som_model.specs.Kernel.{kernel, som_class}
 use Rattle.som_model.specs.Loads.{IsOrdered, Loads, keys_of}
 use Rattle.som_model.specs.Made.{ComesOf, all_roots, blocks_of, metaclass, parent, proxies_in, root, IsMade}
-use Rattle.som_model.specs.Metaclass.{is_above, is_low, lowest, made_of, meta, meta_within}
+use Rattle.som_model.specs.Metaclass.{is_above, is_low, lowest, made_of, meta_within}
 use Rattle.som_model.proofs.NamedLaws.{hierarchy_parents, out_named}
 use Rattle.som_laws.proofs.Members.{firsts_mem, mem_split, without_mem}
 use Rattle.som_hierarchy.proofs.Lists.{map_mem, mem_map, option_mem}

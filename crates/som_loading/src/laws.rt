@@ -3,8 +3,10 @@ ghost use Rattle.som_members.specs.Members.{AreNamed, CanLay};
 ghost use Rattle.som_meta.specs.Numbering.{AreApart, Numbering};
 ghost use Rattle.som_model.specs.Class.{Class};
 ghost use Rattle.som_model.specs.Kernel.{kernel};
+ghost use Rattle.som_model.specs.Lists.{Mem};
 ghost use Rattle.som_model.specs.Loads.{Loads};
 ghost use Rattle.som_model.specs.Made.{IsMade};
+ghost use Rattle.som_model.specs.Rules.{s6};
 ghost use Rattle.som_model.specs.declared.key.ClassKey.TheVariants as keys;
 ghost use Rattle.som_model.specs.declared.key.ClassKey.{ClassKey};
 ghost use Rattle.som_model.specs.declared.limits.TheConstants.{MAX_LAID_CLASSES};
@@ -13,16 +15,17 @@ ghost use Rattle.som_numbers.specs.Classes.{AreDeclared};
 ghost use Rattle.som_numbers.specs.Numbers.{with_key};
 ghost use Rattle.som_owners.specs.Owners.{AreFaces};
 ghost use Rattle.som_schemes.specs.Schemes.{CanBeLaid, numbered};
-ghost use Rattle.std.specs.Prelude.{◌≡◌, ◌≤◌, ◌+◌, ◌++◌, List as Seq, length};
+ghost use Rattle.std.specs.Prelude.{◌≡◌, ◌≤◌, ◌+◌, ◌++◌, [], List as Seq, length};
 
 /// The kernel's classes and others that can be loaded are what numbers, the owners of methods, and overrides and selects by tokens ask for:
-/// keys differ and parents stand earlier, there are not too many, faces can stand together, and each overridden or selected method has an
-/// entry in its class.
+/// keys differ and parents stand earlier, there are not too many, faces can stand together, each overridden or selected method has an
+/// entry in its class, and no class has two entries of one name.
 pub fn classes_law()
     ensures declared { (cs : Seq Class) (main : Block) → Loads cs main → AreDeclared (kernel ++ cs) }
     ensures few { (cs : Seq Class) (main : Block) → Loads cs main → length (kernel ++ cs) ≤ MAX_LAID_CLASSES + 4 }
     ensures faces { (cs : Seq Class) (main : Block) → Loads cs main → AreFaces (kernel ++ cs) }
     ensures named { (cs : Seq Class) (main : Block) → Loads cs main → AreNamed (kernel ++ cs) }
+    ensures distinct { (cs : Seq Class) (main : Block) → Loads cs main → (c : Class) → Mem c (kernel ++ cs) → s6 c ≡ [] }
 {}
 
 /// They can be laid where no two numbers stand for one class and each numbered proxy is that of a declared class.

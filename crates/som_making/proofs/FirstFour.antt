@@ -1,10 +1,10 @@
 -- The kernel's classes are closed under parents and metaclasses.
-use Rattle.std.proofs.Common.{◌≡◌, ℕ, zero, suc, ◌<◌, inl, inr, Bool, true, List, [], ◌∷◌, ◌++◌, Some, slice_get, refl, sym, ap, ◌∙◌, subst, arith}
+use Rattle.std.proofs.Common.{◌≡◌, ℕ, zero, suc, ◌<◌, inl, inr, true, List, ◌++◌, Some, slice_get, refl, sym, ap, ◌∙◌, subst, arith}
 use Rattle.som_model.specs.declared.key.ClassKey.{ClassKey}
 use Rattle.som_model.specs.Lists.{Mem}
 use Rattle.som_model.specs.Class.{Class}
 use Rattle.som_model.specs.Classes.{hierarchy, parents_of}
-use Rattle.som_model.specs.Kernel.{kernel, som_class}
+use Rattle.som_model.specs.Kernel.{kernel}
 use Rattle.som_model.specs.Loads.{IsOrdered}
 use Rattle.som_model.specs.Metaclass.{is_low, meta}
 use Rattle.som_model.proofs.NamedLaws.{hierarchy_parents}
@@ -16,7 +16,7 @@ use Rattle.som_hierarchy.proofs.Keeping.{kernel_parent}
 use Rattle.som_meta.specs.Numbering.{IsNumbered, Numbering, key_at}
 use Rattle.som_classes.specs.Loaded.{AreLoaded}
 use Rattle.som_closure.proofs.Choosing.{low_meta, second_key, second_numbered}
-use Rattle.som_making.specs.Making.{HaveNeeds, IsNeedOf}
+use Rattle.som_making.specs.Making.{HaveNeeds}
 
 class_of : (n : ℕ) → n < 4 → (c : Class) × (slice_get kernel n ≡ Some c)
 class_of zero lt = (_, refl)
@@ -59,13 +59,13 @@ module _ (k : Numbering) (l : AreLoaded k) where
       let key : key_at k n ≡ c.0.key = l.first.key n c.0 (stands_at k.classes l.others l.is ordered n c.0 c.1).1 in
       elim h.1 [
         | inl p ↦ (
-          let at : Mem (key_at k m) ((hierarchy k.classes).parents c.0.key) =
-          subst (λ z. Mem (key_at k m) z) (sym (hierarchy_parents k.classes c.0.key)) (subst (λ z. Mem (key_at k m) (parents_of k.classes z)) key p) in
-          let d = parent_in k.classes l.others l.is ordered c.0 (key_at k m) there at in
-          number_in m d.0 h.0 d.1 (sym d.2))
+            let at : Mem (key_at k m) ((hierarchy k.classes).parents c.0.key) =
+            subst (λ z. Mem (key_at k m) z) (sym (hierarchy_parents k.classes c.0.key)) (subst (λ z. Mem (key_at k m) (parents_of k.classes z)) key p) in
+            let d = parent_in k.classes l.others l.is ordered c.0 (key_at k m) there at in
+            number_in m d.0 h.0 d.1 (sym d.2))
         | inr e ↦ (
-          let low = is_low_class k.classes l.others l.is ordered c.0 there in
-          let som : key_at k m ≡ key_at k 1 = e ∙ ap (meta k.classes) key ∙ low_meta k.classes l.others l.is ordered c.0.key low ∙ sym (second_key k l) in
-          let one = l.apart m 1 h.0 (second_numbered k l) som in
-          omega (arith, one))
+            let low = is_low_class k.classes l.others l.is ordered c.0 there in
+            let som : key_at k m ≡ key_at k 1 = e ∙ ap (meta k.classes) key ∙ low_meta k.classes l.others l.is ordered c.0.key low ∙ sym (second_key k l) in
+            let one = l.apart m 1 h.0 (second_numbered k l) som in
+            omega (arith, one))
       ]

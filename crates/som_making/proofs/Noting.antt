@@ -1,5 +1,5 @@
 -- One class more that is noted.
-use Rattle.std.proofs.Common.{◌≡◌, ◌⊎◌, ℕ, ◌+◌, ◌<◌, inl, inr, Bool, true, false, List, [], ◌∷◌, ◌++◌, length, take, get_or, refl, sym, ap, ◌∙◌, subst, append_assoc, append-nil, Ordering, Less, Equal, Greater}
+use Rattle.std.proofs.Common.{◌≡◌, ◌⊎◌, ℕ, inl, inr, Bool, List, [], ◌∷◌, ◌++◌, refl, sym, ap, ◌∙◌, subst, append_assoc, append-nil, Ordering, Less, Equal, Greater}
 use Rattle.std.specs.Ordering.{match_ordering, nat_cmp}
 use Rattle.std.specs.BTreeSet.{insert_key}
 use Rattle.std.proofs.lemmas.Map.Lookups.{exact_pairs, exact_unsigned}
@@ -55,9 +55,9 @@ module _ (k : Numbering) (classes : List ℕ) (keys later : List (ℕ × ℕ)) (
   more_only : (s m : ℕ) → Mem (s, m) (insert_key in_turn keys (r, n)) → Mem m (classes ++ n ∷ []) × (s ≡ rank k.classes (key_at k m))
   more_only s m i = elim (insert_only keys (r, n) (s, m) i) [
     | inl e ↦ (
-      let number : m ≡ n = ap (λ (q : ℕ × ℕ). q.1) e in
-      let ranks : s ≡ r = ap (λ (q : ℕ × ℕ). q.0) e in
-      (mem_right m classes (n ∷ []) (inl number), ranks ∙ is ∙ ap (λ z. rank k.classes (key_at k z)) (sym number)))
+        let number : m ≡ n = ap (λ (q : ℕ × ℕ). q.1) e in
+        let ranks : s ≡ r = ap (λ (q : ℕ × ℕ). q.0) e in
+        (mem_right m classes (n ∷ []) (inl number), ranks ∙ is ∙ ap (λ z. rank k.classes (key_at k z)) (sym number)))
     | inr o ↦ (let h = same.only s m o in (mem_left m classes (n ∷ []) h.0, h.1))
   ]
 

@@ -1,5 +1,5 @@
 -- Classes by rank and then by number are what is to be made, in order.
-use Rattle.std.proofs.Common.{◌≡◌, ◌↔◌, ◌⊎◌, ℕ, zero, suc, ◌<◌, ◌≤◌, inl, inr, Bool, List, [], ◌∷◌, ◌++◌, map, length, take, get_or, Some, None, slice_get, refl, sym, ap, ◌∙◌, subst, arith, Ordering, Less, Equal, Greater, Result, Ok, Err, IfOk}
+use Rattle.std.proofs.Common.{◌≡◌, ◌↔◌, ◌⊎◌, ℕ, zero, suc, ◌<◌, ◌≤◌, inl, inr, Bool, List, [], ◌∷◌, ◌++◌, map, length, take, get_or, Some, slice_get, refl, sym, ap, ◌∙◌, subst, arith, Ordering, Less, Equal, Greater, Result, Ok, Err, IfOk}
 use Rattle.std.specs.List.Sorted.{IsStrictlySortedBy}
 use Rattle.std.specs.Ordering.{nat_cmp, ordering_then}
 use Rattle.std.proofs.lemmas.Bool.{cases_lt}
@@ -10,7 +10,7 @@ use Rattle.som_model.specs.declared.key.ClassKey.{ClassKey}
 use Rattle.som_model.specs.Lists.{Mem}
 use Rattle.som_model.specs.Class.{Class}
 use Rattle.som_model.specs.Classes.{hierarchy, parents_of}
-use Rattle.som_model.specs.Kernel.{kernel, som_class}
+use Rattle.som_model.specs.Kernel.{kernel}
 use Rattle.som_model.specs.Loads.{FacesLoad}
 use Rattle.som_model.specs.Made.{ComesOf, root, parent, metaclass}
 use Rattle.som_model.specs.Metaclass.{meta, rank}
@@ -143,9 +143,9 @@ module _ (k : Numbering) (l : AreLoaded k) (closed : AreClosed k) (made : List B
   precedes n m i (im, inr e) not_made = elim (cases_lt (rank k.classes (key_at k n)) 4) [
     | inl low ↦ absurd (not_made (subst (IsMarked made) (sym (l.apart m 1 im (second_numbered k l) (e ∙ sym (low_is k l (key_at k n) low) ∙ sym (second_key k l)))) first))
     | inr high ↦ (
-      let lt = metaclass_rank k.classes l.others l.is l.loads.faces (key_at k n) high in
-      let same_rank = ap (rank k.classes) e in
-      inl (omega (arith, lt, same_rank)))
+        let lt = metaclass_rank k.classes l.others l.is l.loads.faces (key_at k n) high in
+        let same_rank = ap (rank k.classes) e in
+        inl (omega (arith, lt, same_rank)))
   ]
 
   not_both : (m n : ℕ) → StandsBefore k m n → StandsBefore k n m → ⊥
@@ -161,9 +161,9 @@ module _ (k : Numbering) (l : AreLoaded k) (closed : AreClosed k) (made : List B
     | inr ge ↦ elim (cases_lt a b) [
       | inl lt ↦ absurd (not_both m n h (ordered a b n m lt at to))
       | inr le ↦ absurd (
-        let place : a ≡ b = omega (arith, ge, le) in
-        let one : n ≡ m = read (sym at ∙ ap (slice_get order) place ∙ to) in
-        not_both m n h (subst (λ z. StandsBefore k z m) (sym one) (subst (λ z. StandsBefore k m z) one h)))
+          let place : a ≡ b = omega (arith, ge, le) in
+          let one : n ≡ m = read (sym at ∙ ap (slice_get order) place ∙ to) in
+          not_both m n h (subst (λ z. StandsBefore k z m) (sym one) (subst (λ z. StandsBefore k m z) one h)))
     ]
   ]
     where
@@ -179,10 +179,10 @@ module _ (k : Numbering) (l : AreLoaded k) (closed : AreClosed k) (made : List B
       elim (needs_there n m (inr is_class) h) [
         | inl z ↦ inl z
         | inr c ↦ (
-          let b = mem_get order m (to_order m c) in
-          let lt = lower a.0 b.0 n m at.1 b.1 (precedes n m is_class h (s.needed m c).2) in
-          let le = at.0 in
-          inr (get_take i order b.0 m (omega (arith, lt, le)) b.1))
+            let b = mem_get order m (to_order m c) in
+            let lt = lower a.0 b.0 n m at.1 b.1 (precedes n m is_class h (s.needed m c).2) in
+            let le = at.0 in
+            inr (get_take i order b.0 m (omega (arith, lt, le)) b.1))
       ]
 
   pub in_order_is : AreToMake k made x order

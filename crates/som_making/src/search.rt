@@ -40,12 +40,7 @@ fn is_made(made: &[bool], class: ClassNo) -> bool
 }
 
 /// Notes a class, unless it is made or was noted.
-fn note(
-    closure: &Closure,
-    made: &[bool],
-    class: ClassNo,
-    found: &mut Found,
-) -> Result<(), NoMemory>
+fn note(closure: &Closure, made: &[bool], class: ClassNo, found: &mut Found) -> Result<(), NoMemory>
     requires class { IsNumbered closure.now class }
     requires same { AreSame closure.now found.old.classes found.old.ranked.keys }
     ensures same { OnOk result (AreSame closure.now found.new.classes found.new.ranked.keys) }

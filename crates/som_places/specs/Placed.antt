@@ -13,6 +13,7 @@ pub record DataRows : Type 0 where
   pub rows : List (Option (Added ℕ))
   pub variables : List (Option (List ValueType))
 
+-- these rows and variables in one
 abbrev pub rows_with : List (Option (Added ℕ)) → List (Option (List ValueType)) → DataRows
 rows_with rows variables = record { rows = rows; variables = variables }
 

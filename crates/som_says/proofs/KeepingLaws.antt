@@ -185,22 +185,54 @@ module _ (m : Module) (base : Interface) (is : List IdlInterface) where
   numbered : AreNumbered 1 told
   numbered = (
     first_is 1 (each_after s1 (with_kernel before) own) (of_s1 (with_kernel before) own),
-    first_is 2 (text_s2_from module_of (with_kernel known) (first_place base) ds) (of_s2 module_of (with_kernel known) (first_place base) ds),
-    first_is 3 (flat_map s3 own) (of_s3 own),
-    first_is 4 (flat_map (text_s4 module_of (with_kernel known)) ds) (of_s4 module_of (with_kernel known) ds),
-    first_is 5 (flat_map (s5 (with_kernel known)) own) (of_s5 (with_kernel known) own),
-    first_is 6 (flat_map text_s6 ds) (of_s6 ds),
-    first_is 7 (flat_map s7 own) (of_s7 own),
-    first_is 8 (flat_map (s8 (with_kernel finished)) done) (of_s8 (with_kernel finished) done),
-    first_is 9 (flat_map (s9 (with_kernel finished)) done) (of_s9 (with_kernel finished) done),
-    first_is 10 (text_s10_from module_of (with_kernel known) (first_place base) ds) (of_s10 module_of (with_kernel known) (first_place base) ds),
-    first_is 11 (flat_map text_s11 ds) (of_s11 ds),
-    first_is 12 (flat_map text_s12 ds) (of_s12 ds),
-    tt,
+    (
+      first_is 2 (text_s2_from module_of (with_kernel known) (first_place base) ds) (of_s2 module_of (with_kernel known) (first_place base) ds),
+      (
+        first_is 3 (flat_map s3 own) (of_s3 own),
+        (
+          first_is 4 (flat_map (text_s4 module_of (with_kernel known)) ds) (of_s4 module_of (with_kernel known) ds),
+          (
+            first_is 5 (flat_map (s5 (with_kernel known)) own) (of_s5 (with_kernel known) own),
+            (
+              first_is 6 (flat_map text_s6 ds) (of_s6 ds),
+              (
+                first_is 7 (flat_map s7 own) (of_s7 own),
+                (
+                  first_is 8 (flat_map (s8 (with_kernel finished)) done) (of_s8 (with_kernel finished) done),
+                  (
+                    first_is 9 (flat_map (s9 (with_kernel finished)) done) (of_s9 (with_kernel finished) done),
+                    (
+                      first_is 10 (text_s10_from module_of (with_kernel known) (first_place base) ds) (of_s10 module_of (with_kernel known) (first_place base) ds),
+                      (
+                        first_is 11 (flat_map text_s11 ds) (of_s11 ds),
+                        (first_is 12 (flat_map text_s12 ds) (of_s12 ds), tt),
+                      ),
+                    ),
+                  ),
+                ),
+              ),
+            ),
+          ),
+        ),
+      ),
+    ),
   )
 
   told_first : texts_breach m base is ≡ first_told told
-  told_first = twelve _ _ _ _ _ _ _ _ _ _ _ _
+  told_first =
+      twelve
+      (first (each_after s1 (with_kernel before) own))
+      (first (text_s2_from module_of (with_kernel known) (first_place base) ds))
+      (first (flat_map s3 own))
+      (first (flat_map (text_s4 module_of (with_kernel known)) ds))
+      (first (flat_map (s5 (with_kernel known)) own))
+      (first (flat_map text_s6 ds))
+      (first (flat_map s7 own))
+      (first (flat_map (s8 (with_kernel finished)) done))
+      (first (flat_map (s9 (with_kernel finished)) done))
+      (first (text_s10_from module_of (with_kernel known) (first_place base) ds))
+      (first (flat_map text_s11 ds))
+      (first (flat_map text_s12 ds))
 
   none_lower : (b : RuleBreach) → texts_breach m base is ≡ Some b → NoneBelow b.rule
   none_lower b e =

@@ -5,7 +5,7 @@ use Rattle.som_model.specs.declared.key.Module.{Module}
 use Rattle.som_model.specs.declared.class.Entry.{Entry}
 use Rattle.som_model.specs.declared.class.Entry.TheVariants as entries
 use Rattle.som_model.specs.declared.class.Variable.{Variable}
-use Rattle.som_model.specs.Class.{Class}
+use Rattle.som_model.specs.Class.{Class, introduced}
 use Rattle.som_model.specs.Conforming.{each_after}
 use Rattle.som_model.specs.Lists.{among, first}
 use Rattle.som_model.specs.Rules.{RuleBreach, breach, name_of, s1, s3, s5, s7, s8, s9}
@@ -76,7 +76,9 @@ of_s5 known cs = all_of 5 (s5 known) cs (λ c.
     (all_of 5 (variable_types known c) c.decl.variables (λ (v : Variable). one_of 5 (breach 5 c v.name) _ refl)))
 
 pub of_s6 : (ds : List InterfaceDraft) → AreOf 6 (flat_map text_s6 ds)
-of_s6 ds = all_of 6 text_s6 ds (λ d. both_of 6 _ (second 6 d (listed d.text.items)) (second_of 6 d _) (second_of 6 d (listed d.text.items)))
+of_s6 ds = all_of 6 text_s6 ds (λ d.
+    both_of 6 (second 6 d (introduced d.class.face.entries)) (second 6 d (listed d.text.items))
+    (second_of 6 d (introduced d.class.face.entries)) (second_of 6 d (listed d.text.items)))
 
 pub of_s7 : (cs : List Class) → AreOf 7 (flat_map s7 cs)
 of_s7 cs = all_of 7 s7 cs (λ c. each_of 7 (breach 7 c) _ (λ name. refl))

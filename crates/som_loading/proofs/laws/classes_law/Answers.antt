@@ -1,4 +1,4 @@
-use Rattle.som_loading.proofs.Loading.{are_declared, are_faces, are_few, named}
+use Rattle.som_loading.proofs.Loading.{are_declared, are_faces, are_few, entries_differ, named}
 use Rattle.som_loading.proofs.laws.classes_law.Goals as goal
 
 pub returns-clause-declared : goal.returns-clause-declared
@@ -12,3 +12,6 @@ returns-clause-faces c = are_faces
 
 pub returns-clause-named : goal.returns-clause-named
 returns-clause-named c = named
+
+pub returns-clause-distinct : goal.returns-clause-distinct
+returns-clause-distinct c = entries_differ

@@ -1,0 +1,3 @@
+pub mod Tops
+pub mod Moved
+pub mod Done
