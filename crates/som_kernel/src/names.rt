@@ -25,11 +25,7 @@ fn introduced_names(alloc: Global, entries: &[Entry]) -> Result<List<Text>, NoMe
 }
 
 /// The names that a class introduces, in order.
-fn class_names(
-    alloc: Global,
-    classes: &Classes,
-    class: ClassNo,
-) -> Result<List<Text>, NoMemory>
+fn class_names(alloc: Global, classes: &Classes, class: ClassNo) -> Result<List<Text>, NoMemory>
     requires { IsNumbered classes.now class }
     ensures { IfOk result (λ names. names ≡ names_of classes.now class) }
 {
