@@ -1,5 +1,5 @@
 -- The ancestors of a class that is made are made, so names are found along them.
-use Rattle.std.proofs.Common.{◌≡◌, ℕ, ◌<◌, inl, List, [], ◌∷◌, map, Some, refl, sym, ap, ◌∙◌, subst, arith}
+use Rattle.std.proofs.Common.{◌≡◌, ℕ, inl, List, [], map, refl, sym, ap, ◌∙◌, subst, arith}
 use Rattle.std.specs.Option.{option_map_or}
 use Rattle.som_model.specs.declared.key.ClassKey.{ClassKey}
 use Rattle.som_model.specs.Lists.{Mem}

@@ -1,5 +1,5 @@
 -- The names that a class introduces.
-use Rattle.std.proofs.Common.{◌≡◌, ℕ, zero, suc, ◌≤◌, List, [], ◌∷◌, length, refl, ap}
+use Rattle.std.proofs.Common.{◌≡◌, ℕ, zero, suc, ◌≤◌, [], length, refl, ap}
 use Rattle.som_model.specs.Owner.{introduced_in}
 use Rattle.som_meta.specs.Numbering.{IsNumbered, Numbering, names_of, tokens_from, tokens_of}
 use Rattle.som_classes.specs.Loaded.{AreLoaded}

@@ -1,6 +1,5 @@
 -- Marks and lists by number, one of them set.
-use Rattle.std.proofs.Common.{◌≡◌, ◌≢◌, ◌↔◌, ◌⊎◌, ℕ, zero, suc, ◌+◌, ◌<◌, inl, inr, Bool, true, false, List, [], ◌∷◌, length, replicate, slice_index_or, slice_set, refl, sym, ap, ◌∙◌, arith, true≢false}
-use Rattle.som_model.specs.Lists.{Mem}
+use Rattle.std.proofs.Common.{◌≡◌, ◌≢◌, ◌↔◌, ◌⊎◌, ℕ, zero, suc, ◌<◌, inl, inr, Bool, true, false, List, [], ◌∷◌, length, replicate, slice_index_or, slice_set, refl, sym, ap, arith, true≢false}
 use Rattle.som_making.specs.Making.{IsMarked}
 use Rattle.som_kernel.specs.Made.{AreMarked}
 

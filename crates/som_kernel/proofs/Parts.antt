@@ -1,11 +1,10 @@
 -- What there is of the classes that are made, when one more is.
-use Rattle.std.proofs.Common.{◌≡◌, ◌≢◌, ◌↔◌, ◌⊎◌, ℕ, zero, suc, ◌<◌, inl, inr, Bool, true, false, List, [], ◌∷◌, length, map, Option, Some, None, replicate, slice_index_or, slice_set, refl, sym, ap, ◌∙◌, subst, arith}
+use Rattle.std.proofs.Common.{◌≡◌, ◌≢◌, ◌⊎◌, ℕ, ◌<◌, inl, inr, Bool, true, false, List, [], length, map, Option, replicate, slice_set, refl, sym, ap, ◌∙◌, subst, arith}
 use Rattle.std.specs.Option.{option_map_or}
 use Rattle.std.proofs.lemmas.Bool.{cases_lt}
 use Rattle.std.proofs.lemmas.List.{length-replicate}
 use Rattle.som_model.specs.Lists.{Mem}
 use Rattle.som_model.specs.Classes.{hierarchy, parents_of}
-use Rattle.som_model.specs.Metaclass.{hooks}
 use Rattle.som_model.proofs.NamedLaws.{hierarchy_parents}
 use Rattle.som_tables.specs.Layout.{Extends}
 use Rattle.som_tables.specs.Rows.{HasRow}
@@ -17,7 +16,7 @@ use Rattle.som_byname.specs.Added.{HasClass}
 use Rattle.som_bodies.specs.Bodies.{AreBodies, MethodRows}
 use Rattle.som_places.specs.Placed.{ArePlaces, DataRows}
 use Rattle.som_making.specs.Making.{IsMarked}
-use Rattle.som_kernel.specs.Made.{AreHooks, AreMarked, AreParts, HaveMadeBelow, IsWhole, KeepsFilled, KeepsMade, Parts, hooks_at}
+use Rattle.som_kernel.specs.Made.{AreHooks, AreParts, HaveMadeBelow, IsWhole, KeepsFilled, KeepsMade, Parts, hooks_at}
 use Rattle.som_kernel.proofs.Marks.{long_set, marked_set, none_marked, set_other, set_there}
 use Rattle.som_kernel.proofs.Filled.{still_filled}
 

@@ -1,5 +1,5 @@
 -- What there is of the classes that are made.
-use Rattle.std.specs.Prelude.{◌≡◌, ◌↔◌, ◌⊎◌, ℕ, ◌<◌, Bool, true, false, List, [], length, map, take, Option, None, Some, slice_get, slice_index_or}
+use Rattle.std.specs.Prelude.{◌≡◌, ◌↔◌, ◌⊎◌, ℕ, ◌<◌, Bool, List, [], length, map, take, Option, None, Some, slice_get, slice_index_or}
 use Rattle.som_model.specs.Lists.{Mem}
 use Rattle.som_model.specs.Classes.{parents_of}
 use Rattle.som_model.specs.Metaclass.{hooks}

@@ -1,4 +1,4 @@
-use Rattle.std.proofs.Common.{◌∷◌, [], subst}
+use Rattle.std.proofs.Common.{subst}
 use Rattle.som_classes.specs.Loaded.{AreLoaded}
 use Rattle.som_making.proofs.FirstFour.{kernel_needs}
 use Rattle.som_kernel.proofs.Order.{four_can, four_closed, four_marked}

@@ -1,4 +1,3 @@
-use Rattle.std.proofs.Common.{◌∙◌}
 use Rattle.som_kernel.specs.Making.{parts_of}
 use Rattle.som_kernel.proofs.Parts.{class_are, parent_made, rows_are, with_rows}
 use Rattle.som_kernel.proofs.made.MadeClasses.make.Goals as goal

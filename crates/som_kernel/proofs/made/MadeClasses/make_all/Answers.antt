@@ -1,4 +1,4 @@
-use Rattle.std.proofs.Common.{◌≡◌, ℕ, List, length, subst, sym, take, slice_get, Some}
+use Rattle.std.proofs.Common.{ℕ, List, subst, sym, take}
 use Rattle.std.proofs.lemmas.List.{take_all}
 use Rattle.som_kernel.specs.Made.{AreMarked}
 use Rattle.som_kernel.specs.Making.{parts_of}

@@ -1,4 +1,3 @@
-use Rattle.som_kernel.specs.Making.{parts_of}
 use Rattle.som_kernel.proofs.Parts.{none_there, none_yet}
 use Rattle.som_kernel.proofs.made.MadeClasses.new.Goals as goal
 
