@@ -4,11 +4,9 @@ use Rattle.std.specs.Option.{option_map}
 use Rattle.som_model.specs.declared.key.ClassKey.{ClassKey}
 use Rattle.som_model.specs.Ancestors.{Descends}
 use Rattle.som_model.specs.Classes.{hierarchy, parents_of}
-use Rattle.som_model.specs.Implementation.{Held, User, Get, Set, OfKernel, Forward, Nothing, implementation}
+use Rattle.som_model.specs.Implementation.{implementation}
 use Rattle.som_meta.specs.Numbering.{Numbering, key_at, method_at}
 use Rattle.som_bodies.specs.declared.body.BodyAt.{BodyAt}
-use Rattle.som_classmgr.specs.declared.body.Held.{Held as HeldView}
-use Rattle.som_classmgr.specs.declared.body.Held.TheVariants as views
 use Rattle.som_classmgr.specs.Linked.{IsMadeIn, Linkage}
 
 -- the class that has the body of a number, and the method for which it has it
@@ -31,12 +29,3 @@ pub record HasMethodAbove (k : Numbering) (n i : ℕ) (t : ℕ × ℕ) : Type 0 
   pub parent : ClassKey
   pub there : parent_at k n i ≡ Some parent
   pub below : Descends (hierarchy k.classes) parent (method_at k t).class
-
--- what a view of a body for a method of this name shows
-abbrev pub held_of : List ℕ → HeldView → Held
-held_of name (views.User block) = User block.now
-held_of name (views.Get n) = Get n
-held_of name (views.Set n) = Set n
-held_of name views.Kernel = OfKernel name
-held_of name views.Forward = Forward
-held_of name views.Nothing = Nothing

@@ -16,7 +16,9 @@ mod queries;
 mod rows;
 mod search;
 
-pub use body::{BodyNo, BodyView, Held};
+pub use body::BodyNo;
 pub use kernel::{Kernel, Stage, Unlinked};
 pub use laws::names_law;
 pub use linked::Linked;
+pub use som_runtime::{BodyView, Held};
+pub use som_telling::KeyView;

@@ -1,6 +1,6 @@
 ghost use Rattle.som_bodies.specs.Bodies.{IsSourced, held_body as held_of_body};
 ghost use Rattle.som_classmgr.specs.Linked.{IsMadeIn};
-ghost use Rattle.som_classmgr.specs.Shown.{HasMethodAbove, IsAnswer, body_at, held_of, parent_at};
+ghost use Rattle.som_classmgr.specs.Shown.{HasMethodAbove, IsAnswer, body_at, parent_at};
 ghost use Rattle.som_meta.specs.Numbering.{IsNumbered, IsToken, key_at, method_at};
 ghost use Rattle.som_model.specs.Ancestors.{Descends};
 ghost use Rattle.som_model.specs.Class.{Class, introduced_sig as sig_in};
@@ -9,20 +9,22 @@ ghost use Rattle.som_model.specs.Implementation.{held as held_by};
 ghost use Rattle.som_model.specs.Owner.{entry_at, owner, sig_of};
 ghost use Rattle.som_model.specs.declared.key.ClassKey.{ClassKey};
 ghost use Rattle.som_owners.specs.Owners.{IsTokenOf};
+ghost use Rattle.som_runtime.specs.Asked.{held_shown};
 ghost use Rattle.std.specs.Prelude.{◌≡◌, ◌+◌, ◌<◌, ℕ, IsSome, List as Seq, Some, length, slice_get};
 
-use crate::body::{BodyNo, BodyView, Held};
+use crate::body::BodyNo;
 use crate::kernel::Kernel;
 use crate::linked::Linked;
 use som_bodies::{BodyAt, Source};
 use som_classes::Classes;
 use som_model::{Body, Entry, MethodRef, Sig};
+use som_runtime::{BodyView, Held};
 use som_tables::{ClassNo, MToken, Steps};
 use std::sync::ledger::Ledger;
 
 /// What a declared body is.
 fn held_body(body: &Body) -> Held<'_>
-    ensures { (name : Seq ℕ) → held_of name result ≡ held_of_body body.now }
+    ensures { (name : Seq ℕ) → held_shown name result ≡ held_of_body body.now }
 {
     match body {
         Body::User(block) => Held::User(block),
@@ -35,7 +37,7 @@ fn held_body(body: &Body) -> Held<'_>
 fn held_at<'a>(classes: &'a Classes, body: &BodyAt) -> Held<'a>
     requires { IsSourced classes.now body.now }
     ensures { held_by classes.now.classes (key_at classes.now body.now.class) (method_at classes.now body.now.method)
-        ≡ Some (held_of (method_at classes.now body.now.method).name result) }
+        ≡ Some (held_shown (method_at classes.now body.now.method).name result) }
 {
     let _count = classes.count();
     match body.source {
@@ -107,7 +109,7 @@ impl Kernel<Linked> {
         ensures class { IsNumbered self.now.classes result.class }
         ensures method { IsToken self.now.classes result.method }
         ensures held { held_by self.now.classes.classes (key_at self.now.classes result.class) (method_at self.now.classes result.method)
-            ≡ Some (held_of (method_at self.now.classes result.method).name result.held) }
+            ≡ Some (held_shown (method_at self.now.classes result.method).name result.held) }
     {
         let classes = self.stage.classes();
         let body = self.stage.parts.bodies.body(body.0);
