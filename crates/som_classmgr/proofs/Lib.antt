@@ -6,3 +6,4 @@ pub mod Introducing
 pub mod Reading
 pub mod Above
 pub mod Reached
+pub mod Answering

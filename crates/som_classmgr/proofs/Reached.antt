@@ -1,5 +1,5 @@
 -- Which classes are made after calls that reach for some.
-use Rattle.std.proofs.Common.{◌≡◌, ◌↔◌, ◌⊎◌, ℕ, zero, suc, ◌<◌, inl, inr, List, [], ◌∷◌, ◌++◌, append-nil, map, Some, slice_get, refl, sym, ap, ◌∙◌, subst, arith}
+use Rattle.std.proofs.Common.{◌≡◌, ◌↔◌, ◌⊎◌, ℕ, zero, suc, ◌<◌, inl, inr, List, [], ◌∷◌, ◌++◌, append-nil, map, OnErr, OnOk, Result, Ok, Err, Some, slice_get, refl, sym, ap, ◌∙◌, subst, arith}
 use Rattle.som_model.specs.declared.key.ClassKey.{ClassKey}
 use Rattle.som_model.specs.Lists.{Mem}
 use Rattle.som_model.specs.Class.{Class}
@@ -21,6 +21,14 @@ use Rattle.som_classmgr.specs.Made.{IsReached, KeepsMade}
 use Rattle.som_classmgr.specs.Linked.{IsLinked, IsMadeIn, Linkage}
 use Rattle.som_classmgr.specs.Reached.{IsMadeBy}
 use Rattle.som_classmgr.proofs.Marks.{within_marks}
+
+pub ok_then : {T E : Type 0} (r : Result T E) {A B : Type 0} → (A → B) → OnOk r A → OnOk r B
+ok_then (Ok x) f a = f a
+ok_then (Err e) f a = tt
+
+pub err_then : {T E : Type 0} (r : Result T E) {B : Type 0} → B → OnErr r B
+err_then (Ok x) b = tt
+err_then (Err e) b = b
 
 -- what comes of some classes and others comes of one of both
 comes_split : (cs : List Class) (rs ss both : List ClassKey) → ((x : ClassKey) → Mem x both → Mem x rs ⊎ Mem x ss) → (x : ClassKey) → ComesOf cs both x → ComesOf cs rs x ⊎ ComesOf cs ss x

@@ -18,7 +18,10 @@ impl Kernel<Linked> {
         ensures token { result ≡ (class, variable) }
         ensures variable { IsVariable self.now.classes result }
     {
-        self.stage.parts.places.data_token(self.stage.classes(), class, u16::from(variable))
+        self.stage
+            .parts
+            .places
+            .data_token(self.stage.classes(), class, u16::from(variable))
     }
 
     /// The place of a variable in the objects of a class that is made. Two variables have two places.
@@ -32,7 +35,10 @@ impl Kernel<Linked> {
         ensures apart { (other : ℕ × ℕ) → IsVariable self.now.classes other → Descends (hierarchy self.now.classes.classes) (key_at self.now.classes class) (key_at self.now.classes other.0) →
             place_in self.now.classes.classes (key_at self.now.classes class) (key_at self.now.classes other.0) other.1 ≡ result → other ≡ variable }
     {
-        self.stage.parts.places.data_place(self.stage.classes(), class, variable)
+        self.stage
+            .parts
+            .places
+            .data_place(self.stage.classes(), class, variable)
     }
 
     /// The types of the variables of the objects of a class that is made, by their places.
@@ -40,6 +46,9 @@ impl Kernel<Linked> {
         requires { IsMadeIn self.now class }
         ensures { result.now ≡ object_variables self.now.classes.classes (key_at self.now.classes class) }
     {
-        self.stage.parts.places.variables(self.stage.classes(), class)
+        self.stage
+            .parts
+            .places
+            .variables(self.stage.classes(), class)
     }
 }

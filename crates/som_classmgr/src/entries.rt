@@ -1,6 +1,5 @@
 ghost use Rattle.som_classmgr.specs.Entries.{AreMethods, entries_from};
-ghost use Rattle.som_owners.specs.Owners.{AreFaces};
-ghost use Rattle.std.specs.Prelude.{◌≡◌, ◌<◌, IfOk, length};
+ghost use Rattle.std.specs.Prelude.{◌≡◌, ◌<◌, ◌++◌, ◌∷◌, [], IfOk, OnOk, length};
 
 use som_classes::Classes;
 use som_model::{ClassKey, Entry, List, MethodRef, NoMemory};
@@ -14,7 +13,31 @@ pub(crate) struct MethodEntry {
     pub(crate) method: MethodRef,
 }
 
-/// The methods that a class of a key introduces by these entries, in order.
+/// Adds the method of an entry at a place, where the entry introduces one.
+fn add_method(
+    alloc: Global,
+    class: &ClassKey,
+    place: u16,
+    entry: &Entry,
+    methods: &mut List<MethodEntry>,
+) -> Result<(), NoMemory>
+    ensures { OnOk result (methods.new ≡ methods.old ++ entries_from class.now place (entry.now ∷ [])) }
+{
+    match entry {
+        Entry::Introduced { name, .. } => {
+            let name = name.copy(alloc)?;
+            let class = class.copy(alloc)?;
+            methods.push(MethodEntry {
+                place,
+                method: MethodRef { class, name },
+            })
+        }
+        Entry::Moved { .. } => Ok(()),
+    }
+}
+
+/// The methods that a class introduces by these entries, in order.
+#[tactic(auto, using(crate::proofs::Introducing::entries_step))]
 fn introduced_methods(
     alloc: Global,
     class: &ClassKey,
@@ -25,14 +48,7 @@ fn introduced_methods(
 {
     let mut methods = List::new(alloc);
     for (place, entry) in entries.iter().enumerate() {
-        if let Entry::Introduced { name, .. } = entry {
-            let name = name.copy(alloc)?;
-            let class = class.copy(alloc)?;
-            methods.push(MethodEntry {
-                place: place as u16,
-                method: MethodRef { class, name },
-            })?;
-        }
+        add_method(alloc, class, place as u16, entry, &mut methods)?;
     }
     Ok(methods)
 }
@@ -44,14 +60,11 @@ pub(crate) fn methods_of(
 ) -> Result<List<List<MethodEntry>>, NoMemory>
     ensures { IfOk result (λ all. AreMethods classes.now all) }
 {
+    let _count = classes.count();
     let mut all = List::new(alloc);
     for number in 0..classes.declared_count() {
         let class = classes.declared(ClassNo::new(number));
-        all.push(introduced_methods(
-            alloc,
-            &class.key,
-            class.decl.face.entries.as_slice(),
-        )?)?;
+        all.push(introduced_methods(alloc, &class.key, class.decl.face.entries.as_slice())?)?;
     }
     Ok(all)
 }

@@ -1,3 +1,4 @@
+ghost use Rattle.som_classes.specs.Loaded.{AreLoaded};
 ghost use Rattle.som_classmgr.specs.Linked.{IsLinked, IsMadeIn};
 ghost use Rattle.som_classmgr.specs.Made.{IsReached, KeepsMade};
 ghost use Rattle.som_classmgr.specs.Reached.{IsMadeBy};
@@ -62,6 +63,7 @@ impl Kernel<Unlinked> {
         let main = main.copy(alloc)?;
         let classes = copy_classes(alloc, classes.as_slice())?;
         let stage = lay(alloc, classes, main)?;
+        let _classes = stage.classes();
         Ok(Kernel { stage })
     }
 }
@@ -86,6 +88,7 @@ impl Kernel<Linked> {
     pub fn classes(&self) -> &Classes
         ensures value { result.now ≡ self.now.classes }
         ensures linked { IsLinked self.now }
+        ensures loaded { AreLoaded self.now.classes }
     {
         self.stage.classes()
     }

@@ -1,3 +1,4 @@
+ghost use Rattle.som_classes.specs.Loaded.{AreLoaded};
 ghost use Rattle.som_classmgr.specs.Linked.{IsLinked, IsMadeIn};
 ghost use Rattle.som_classmgr.specs.Made.{AreParts, IsReached, KeepsMade};
 ghost use Rattle.som_classmgr.specs.Making.{parts_of};
@@ -123,7 +124,10 @@ impl Linked {
     pub(crate) fn classes(&self) -> &Classes
         ensures value { result.now ≡ self.now.classes }
         ensures linked { IsLinked self.now }
+        ensures loaded { AreLoaded self.now.classes }
     {
-        self.closure.classes()
+        let classes = self.closure.classes();
+        let _count = classes.count();
+        classes
     }
 }

@@ -68,12 +68,7 @@ fn introduced_sig(classes: &Classes, class: ClassNo, place: u16) -> &Sig
 
 impl Kernel<Linked> {
     /// The body that a class has for a method, its own or an inherited one, by two counted steps.
-    pub fn resolve<L: Ledger>(
-        &self,
-        class: ClassNo,
-        method: MToken,
-        steps: &mut Steps<L>,
-    ) -> BodyNo
+    pub fn resolve<L: Ledger>(&self, class: ClassNo, method: MToken, steps: &mut Steps<L>) -> BodyNo
         requires made { IsMadeIn self.now class }
         requires method { IsToken self.now.classes method }
         requires below { Descends (hierarchy self.now.classes.classes) (key_at self.now.classes class) (method_at self.now.classes method).class }
@@ -81,7 +76,12 @@ impl Kernel<Linked> {
         ensures cost { steps.new ≡ steps.old + 2 }
     {
         let classes = self.stage.classes();
-        BodyNo(self.stage.parts.bodies.resolve(classes, class, method, steps))
+        BodyNo(
+            self.stage
+                .parts
+                .bodies
+                .resolve(classes, class, method, steps),
+        )
     }
 
     /// The body that the parent of a class at a place has for a method, its own or an inherited one, by two counted steps.
@@ -98,6 +98,7 @@ impl Kernel<Linked> {
         ensures body { (p : ClassKey) → parent_at self.now.classes class parent ≡ Some p → IsAnswer self.now p method result }
         ensures cost { steps.new ≡ steps.old + 2 }
     {
+        let _classes = self.classes();
         let above = self.parents(class).as_slice()[usize::from(parent)];
         self.resolve(above, method, steps)
     }
@@ -134,8 +135,10 @@ impl Kernel<Linked> {
         ensures method { result.0.now ≡ method_at self.now.classes token }
         ensures sig { sig_of self.now.classes.classes (method_at self.now.classes token) ≡ Some result.1.now }
     {
-        let introduced = &self.stage.methods.as_slice()[token.class().number() as usize];
+        let classes = self.stage.classes();
+        let class = token.class();
+        let introduced = &self.stage.methods.as_slice()[class.number() as usize];
         let entry = &introduced.as_slice()[token.place() as usize];
-        (&entry.method, introduced_sig(self.stage.classes(), token.class(), entry.place))
+        (&entry.method, introduced_sig(classes, class, entry.place))
     }
 }

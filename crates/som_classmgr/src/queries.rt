@@ -49,6 +49,7 @@ fn declared_view(classes: &Classes, class: ClassNo) -> KeyView<'_>
     requires { class < length classes.now.classes }
     ensures { IsView classes.now result (key_at classes.now class) }
 {
+    let _count = classes.count();
     match &classes.declared(class).key {
         ClassKey::Named { module, name } => KeyView::Named {
             module: *module,
@@ -80,7 +81,8 @@ impl Kernel<Linked> {
         ensures numbered { IfSome result (IsNumbered self.now.classes) }
         ensures key { option_map (key_at self.now.classes) result ≡ class_found (world self.now.classes.classes) (Str name.now ∷ Long major ∷ Long minor ∷ []) }
     {
-        let class = self.stage.classes().named(name)?;
+        let classes = self.stage.classes();
+        let class = classes.named(name)?;
         if version_fits(self.version(class), major, minor) {
             Some(class)
         } else {
@@ -173,6 +175,7 @@ impl Kernel<Linked> {
         ensures keys { map (key_at self.now.classes) result.now ≡ hooks_of self.now.classes.classes (meta self.now.classes.classes (key_at self.now.classes class)) }
         ensures made { (n : ℕ) → Mem n result.now → IsMadeIn self.now n }
     {
+        let _classes = self.classes();
         let metaclass = self.metaclass(class);
         &self.stage.parts.hooks[metaclass.number() as usize]
     }

@@ -24,7 +24,7 @@ impl Kernel<Linked> {
         ensures meant { IsMeant self.now.classes class name.now result }
         ensures cost { steps.new ≡ steps.old + count_to (introduces self.now.classes.classes name.now) (ancestors self.now.classes.classes (key_at self.now.classes class)) }
     {
-        let _linked = self.stage.classes().count();
+        let _classes = self.stage.classes();
         self.stage.parts.names.find(class, name, steps)
     }
 }

@@ -15,5 +15,5 @@ invariant_of-result c = record {
     closed = c.in_ok-parts.ensures.closed;
     kernel_made = λ n lt. (c.in_ok-parts.ensures.made n).1 lt;
   };
-  methods = subst (λ (k : Numbering). AreMethods k c.in_ok-methods.methods) c.classes-classes.ensures.value c.in_ok-methods.ensures;
+  methods = subst (λ (k : Numbering). AreMethods k c.in_ok-methods.methods) c.classes.ensures.value c.in_ok-methods.ensures;
 }
