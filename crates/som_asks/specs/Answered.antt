@@ -18,8 +18,8 @@ module _ (l : Linked) (made : ClassKey → Bool) where
   -- a task holds this heap, and self and the arguments are its own and name made classes alone
   pub record MayAsk (xs : List ℕ) (os : Objects) (statics : List (Option (List Cell))) (h : Heap) (me : Reference) (args : List Cell) : Type 0 where
     pub holding : Holding l made xs os statics h
-    pub me : IsUsableRef l made xs os me
-    pub args : All (IsUsable l made xs os) args
+    pub self : IsUsableRef l made xs os me
+    pub arguments : All (IsUsable l made xs os) args
 
   -- so it is for some task and some heap
   abbrev pub CanAsk : Objects → Reference → List Cell → Type 0

@@ -36,11 +36,22 @@ pub fn kernel_body(name: &Text) -> KernelBody
     ensures { body_shown result ≡ kernel_body_in table name.now }
 {
     let name = name.as_slice();
-    if is(b"somInit", name) || is(b"somUninit", name) {
+    if is(b"somInit", name) {
+        KernelBody::Idle
+    } else if is(b"somUninit", name) {
         KernelBody::Idle
     } else if is(b"somFree", name) {
         KernelBody::Free
-    } else if is(b"somGetClass", name) {
+    } else {
+        object_body(name)
+    }
+}
+
+// The same of what objects are asked.
+fn object_body(name: &[u8]) -> KernelBody
+    ensures { body_shown result ≡ kernel_body_in (drop 3 table) name.now }
+{
+    if is(b"somGetClass", name) {
         KernelBody::Asks(Asking::GetClass)
     } else if is(b"somGetClassName", name) {
         KernelBody::Asks(Asking::GetClassName)

@@ -84,6 +84,7 @@ pub(crate) fn responds_to<R: Runtime, L: Ledger>(
     requires { CanAsk (R.linked runtime.now) (R.made runtime.now) objects.now me [] }
     ensures { AnswersTo (R.linked runtime.now) (R.made runtime.now) (R.keys runtime.now) (R.world runtime.now) objects.now me args.now questions.RespondsTo result }
 {
+    runtime.know();
     let class = class_of_self(runtime, objects, me)?;
     Ok(Cell::Boolean(has_method(
         alloc, runtime, class, args, steps,
