@@ -47,7 +47,7 @@ found_by w s cs ds es name major minor n d a e i =
     let vs = all_shown s cs in
     let second : major ≡ number_of (first_argument (further_arguments vs)) = next_number s cs ds major d a in
     let third : minor ≡ number_of (first_argument (further_arguments (further_arguments vs))) =
-        next_number s ds es minor e i ∙ ap (λ l. number_of (first_argument (further_arguments (all_shown s l)))) d ∙ ap (λ l. number_of (first_argument (further_arguments l))) (sym (further_values s cs)) in
+    next_number s ds es minor e i ∙ ap (λ l. number_of (first_argument (further_arguments (all_shown s l)))) d ∙ ap (λ l. number_of (first_argument (further_arguments l))) (sym (further_values s cs)) in
     ap (λ t. class_found w (Str t ∷ Long major ∷ Long minor ∷ [])) n
     ∙ ap (λ z. class_found w (Str (text_of (first_argument vs)) ∷ Long z ∷ Long minor ∷ [])) second
     ∙ ap (λ z. class_found w (Str (text_of (first_argument vs)) ∷ Long (number_of (first_argument (further_arguments vs))) ∷ Long z ∷ [])) third

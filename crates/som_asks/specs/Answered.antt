@@ -1,5 +1,5 @@
 -- Who may ask, and what is answered.
-use Rattle.std.specs.Prelude.{◌≡◌, ℕ, Bool, List, Option, Result, IfOk}
+use Rattle.std.specs.Prelude.{◌≡◌, ℕ, Bool, List, [], Option, Result, IfOk}
 use Rattle.std.specs.List.{All}
 use Rattle.som_model.specs.declared.key.ClassKey.{ClassKey}
 use Rattle.som_model.specs.World.{World}
@@ -24,6 +24,10 @@ module _ (l : Linked) (made : ClassKey → Bool) where
   -- so it is for some task and some heap
   abbrev pub CanAsk : Objects → Reference → List Cell → Type 0
   CanAsk os me args = (xs : List ℕ) × (statics : List (Option (List Cell))) × (h : Heap) × MayAsk xs os statics h me args
+
+  -- a task has this self in some store
+  abbrev pub IsAsked : Reference → Type 0
+  IsAsked me = (os : Objects) × CanAsk os me []
 
   -- the answer is what the meaning answers, and a value of it is one that a task may go on with
   pub record IsAnswered (keys : List ClassKey) (xs : List ℕ) (os : Objects) (answer : Result Cell Stopped) (meant : Tried Value) : Type 0 where

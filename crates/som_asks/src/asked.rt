@@ -32,7 +32,7 @@ pub fn ask<R: Runtime, L: Ledger>(
     requires { CanAsk (R.linked runtime.now) (R.made runtime.now) objects.now me args.now }
     ensures answered { (xs : List ℕ) (statics : List (Option (List Variable))) (h : Heap) → MayAsk (R.linked runtime.now) (R.made runtime.now) xs objects.now statics h me args.now
         → IsAnswered (R.linked runtime.now) (R.made runtime.now) (R.keys runtime.now) xs objects.now result
-            (asks (R.world runtime.now) (asking_shown asking) (shown_ref (showing (R.keys runtime.now) xs) me) (all_shown (showing (R.keys runtime.now) xs) args.now) h) }
+        (asks (R.world runtime.now) (asking_shown asking) (shown_ref (showing (R.keys runtime.now) xs) me) (all_shown (showing (R.keys runtime.now) xs) args.now) h) }
     ensures steps { LooksUpNone asking → steps.new ≡ steps.old }
 {
     match asking {
@@ -41,10 +41,10 @@ pub fn ask<R: Runtime, L: Ledger>(
         Asking::IsA => is_a(runtime, objects, me, args),
         Asking::IsInstanceOf => is_instance_of(runtime, objects, me, args),
         Asking::RespondsTo => responds_to(alloc, runtime, objects, me, args, steps),
-        Asking::DispatchName => dispatch_name(alloc, runtime, objects, args),
-        Asking::GetName => get_name(alloc, runtime, objects, me),
+        Asking::DispatchName => dispatch_name(alloc, args),
+        Asking::GetName => get_name(alloc, runtime, me),
         Asking::DescendedFrom => descended_from(runtime, objects, me, args),
-        Asking::SupportsMethod => supports_method(alloc, runtime, objects, me, args, steps),
-        Asking::CheckVersion => check_version(runtime, objects, me, args),
+        Asking::SupportsMethod => supports_method(alloc, runtime, me, args, steps),
+        Asking::CheckVersion => check_version(runtime, me, args),
     }
 }

@@ -1,8 +1,12 @@
-ghost use Rattle.som_asks.specs.Answered.{AnswersTo, CanAsk};
+ghost use Rattle.som_asks.specs.Answered.{AnswersTo, CanAsk, IsAsked};
 ghost use Rattle.som_model.specs.Invoked as questions;
+ghost use Rattle.som_model.specs.World.{World};
+ghost use Rattle.som_model.specs.declared.key.ClassKey.{ClassKey as Key};
+ghost use Rattle.som_objects.specs.Objects.{Objects};
 ghost use Rattle.som_objects.specs.declared.cell.Cell.{Cell as Argument};
 ghost use Rattle.som_values.specs.declared.reference.Reference.{Reference as To};
-ghost use Rattle.std.specs.Prelude.{[], List};
+ghost use Rattle.som_task.specs.Settings.{Linked};
+ghost use Rattle.std.specs.Prelude.{[], Bool, List};
 
 use crate::arguments::{class_argument, class_in, first_number, further};
 use crate::selves::{class_of_self, has_method, name_of, version_fits};
@@ -23,7 +27,8 @@ pub(crate) fn get_class<R: Runtime>(
     ensures { (args : List Argument) → AnswersTo (R.linked runtime.now) (R.made runtime.now) (R.keys runtime.now) (R.world runtime.now) objects.now me args questions.GetClass result }
 {
     runtime.know();
-    Ok(Cell::Class(class_of_self(runtime, objects, me)?))
+    let class = class_of_self(runtime, objects, me)?;
+    Ok(Cell::Class(class))
 }
 
 /// somGetClassName: the name of self's class.
@@ -53,7 +58,8 @@ pub(crate) fn is_a<R: Runtime>(
     runtime.know();
     let class = class_of_self(runtime, objects, me)?;
     let ancestor = class_argument(objects, args)?;
-    Ok(Cell::Boolean(runtime.inherits(class, ancestor)))
+    let is = runtime.inherits(class, ancestor);
+    Ok(Cell::Boolean(is))
 }
 
 /// somIsInstanceOf: whether self's class is that of the first argument.
@@ -86,21 +92,14 @@ pub(crate) fn responds_to<R: Runtime, L: Ledger>(
 {
     runtime.know();
     let class = class_of_self(runtime, objects, me)?;
-    Ok(Cell::Boolean(has_method(
-        alloc, runtime, class, args, steps,
-    )?))
+    let responds = has_method(alloc, runtime, class, args, steps)?;
+    Ok(Cell::Boolean(responds))
 }
 
 /// somDispatchName: the name that was given.
-pub(crate) fn dispatch_name<R: Runtime>(
-    alloc: Global,
-    runtime: &R,
-    objects: &ObjectStore,
-    args: &[Cell],
-) -> Result<Cell, Stopped>
-    ensures { (me : To) → AnswersTo (R.linked runtime.now) (R.made runtime.now) (R.keys runtime.now) (R.world runtime.now) objects.now me args.now questions.DispatchName result }
+pub(crate) fn dispatch_name(alloc: Global, args: &[Cell]) -> Result<Cell, Stopped>
+    ensures { (l : Linked) (made : Key → Bool) (keys : List Key) (w : World) (os : Objects) (me : To) → AnswersTo l made keys w os me args.now questions.DispatchName result }
 {
-    runtime.know();
     match args.first() {
         Some(cell) => Ok(copy_cell(alloc, cell)?),
         None => Ok(Cell::Nil),
@@ -111,11 +110,10 @@ pub(crate) fn dispatch_name<R: Runtime>(
 pub(crate) fn get_name<R: Runtime>(
     alloc: Global,
     runtime: &R,
-    objects: &ObjectStore,
     me: Reference,
 ) -> Result<Cell, Stopped>
-    requires { CanAsk (R.linked runtime.now) (R.made runtime.now) objects.now me [] }
-    ensures { (args : List Argument) → AnswersTo (R.linked runtime.now) (R.made runtime.now) (R.keys runtime.now) (R.world runtime.now) objects.now me args questions.GetName result }
+    requires { IsAsked (R.linked runtime.now) (R.made runtime.now) me }
+    ensures { (os : Objects) (args : List Argument) → AnswersTo (R.linked runtime.now) (R.made runtime.now) (R.keys runtime.now) (R.world runtime.now) os me args questions.GetName result }
 {
     runtime.know();
     let class = class_in(me)?;
@@ -142,30 +140,27 @@ pub(crate) fn descended_from<R: Runtime>(
 pub(crate) fn supports_method<R: Runtime, L: Ledger>(
     alloc: Global,
     runtime: &R,
-    objects: &ObjectStore,
     me: Reference,
     args: &[Cell],
     steps: &mut Steps<L>,
 ) -> Result<Cell, Stopped>
-    requires { CanAsk (R.linked runtime.now) (R.made runtime.now) objects.now me [] }
-    ensures { AnswersTo (R.linked runtime.now) (R.made runtime.now) (R.keys runtime.now) (R.world runtime.now) objects.now me args.now questions.SupportsMethod result }
+    requires { IsAsked (R.linked runtime.now) (R.made runtime.now) me }
+    ensures { (os : Objects) → AnswersTo (R.linked runtime.now) (R.made runtime.now) (R.keys runtime.now) (R.world runtime.now) os me args.now questions.SupportsMethod result }
 {
     runtime.know();
     let class = class_in(me)?;
-    Ok(Cell::Boolean(has_method(
-        alloc, runtime, class, args, steps,
-    )?))
+    let supports = has_method(alloc, runtime, class, args, steps)?;
+    Ok(Cell::Boolean(supports))
 }
 
 /// somCheckVersion: whether the version of the class whose class object self is fits.
 pub(crate) fn check_version<R: Runtime>(
     runtime: &R,
-    objects: &ObjectStore,
     me: Reference,
     args: &[Cell],
 ) -> Result<Cell, Stopped>
-    requires { CanAsk (R.linked runtime.now) (R.made runtime.now) objects.now me [] }
-    ensures { AnswersTo (R.linked runtime.now) (R.made runtime.now) (R.keys runtime.now) (R.world runtime.now) objects.now me args.now questions.CheckVersion result }
+    requires { IsAsked (R.linked runtime.now) (R.made runtime.now) me }
+    ensures { (os : Objects) → AnswersTo (R.linked runtime.now) (R.made runtime.now) (R.keys runtime.now) (R.world runtime.now) os me args.now questions.CheckVersion result }
 {
     runtime.know();
     let class = class_in(me)?;

@@ -26,7 +26,7 @@ returns-in-DispatchName-clause-answered g c =
     let world = g.R.Classes.world c.args.runtime.now in
     let linked = g.R.Runtime.linked c.args.runtime.now in
     let made = g.R.Classes.made c.args.runtime.now in
-    subst (λ (q : Asking). AnswersTo linked made keys world c.args.objects.now c.args.me c.args.args.now (asking_shown q) c.dispatch_name.result) (sym c.in-DispatchName.is) (c.dispatch_name.ensures c.args.me)
+    subst (λ (q : Asking). AnswersTo linked made keys world c.args.objects.now c.args.me c.args.args.now (asking_shown q) c.dispatch_name.result) (sym c.in-DispatchName.is) (c.dispatch_name.ensures linked made keys world c.args.objects.now c.args.me)
 
 pub returns-in-GetName-clause-answered : goal.returns-in-GetName-clause-answered
 returns-in-GetName-clause-answered g c =
@@ -34,4 +34,4 @@ returns-in-GetName-clause-answered g c =
     let world = g.R.Classes.world c.args.runtime.now in
     let linked = g.R.Runtime.linked c.args.runtime.now in
     let made = g.R.Classes.made c.args.runtime.now in
-    subst (λ (q : Asking). AnswersTo linked made keys world c.args.objects.now c.args.me c.args.args.now (asking_shown q) c.get_name.result) (sym c.in-GetName.is) (c.get_name.ensures c.args.args.now)
+    subst (λ (q : Asking). AnswersTo linked made keys world c.args.objects.now c.args.me c.args.args.now (asking_shown q) c.get_name.result) (sym c.in-GetName.is) (c.get_name.ensures c.args.objects.now c.args.args.now)

@@ -10,7 +10,7 @@ use Rattle.som_asks.proofs.Meant.{then_ok, truth_answered}
 use Rattle.som_asks.proofs.questions.check_version.Goals as goal
 
 pub returns : goal.returns
-returns g c xs statics h may =
+returns g c os xs statics h may =
     let keys = g.R.Classes.keys c.args.runtime.now in
     let world = g.R.Classes.world c.args.runtime.now in
     let known = g.R.ClassKeys.known c.args.runtime.now in
@@ -23,9 +23,9 @@ returns g c xs statics h may =
     let minor = c.first_number-minor.result in
     let first : SFits w32 major = search rules in
     let second : SFits w32 minor = search rules in
-    truth_answered linked made keys xs c.args.objects.now c.version_fits.result _
+    truth_answered linked made keys xs os c.version_fits.result _
     (then_ok (stands_for (shown_ref s c.args.me)) key (λ k. Ok (Boolean (version_fits (world.version k) (number_of (first_argument vs)) (number_of (first_argument (further_arguments vs))))))
-        (c.in_ok-class.ensures.means s)
+    (c.in_ok-class.ensures.means s)
     ∙ ap (λ b. Ok (Boolean b)) (sym (c.version_fits.ensures
-        ∙ version_by s c.args.args.now c.further.result.now c.version-version.result (world.version key) (to_z w32 (of_z w32 major)) (to_z w32 (of_z w32 minor))
-            c.version-version.ensures (to_z-of_z w32 major first ∙ c.first_number-major.ensures s) c.further.ensures (to_z-of_z w32 minor second ∙ c.first_number-minor.ensures s))))
+    ∙ version_by s c.args.args.now c.further.result.now c.version-version.result (world.version key) (to_z w32 (of_z w32 major)) (to_z w32 (of_z w32 minor))
+    c.version-version.ensures (to_z-of_z w32 major first ∙ c.first_number-major.ensures s) c.further.ensures (to_z-of_z w32 minor second ∙ c.first_number-minor.ensures s))))

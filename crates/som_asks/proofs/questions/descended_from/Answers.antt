@@ -28,5 +28,5 @@ returns-in_err-ancestor g c xs statics h may =
     let p = err_from_is_err_and c.from_residual-in_err-ancestor.result c.from_residual-in_err-ancestor.ensures.1 in
     fault_answered linked made keys xs os c.from_residual-in_err-ancestor.result f _ (p.1 ∙ ap (λ z. Err z) p.2)
     (class_untested keys world h r (all_shown (showing keys xs) c.args.args.now) world.is_a c.in_ok-class.class f
-        (c.in_ok-class.ensures.means (showing keys xs))
-        (c.in_err-ancestor.ensures.means (showing keys xs) h (holds_in keys world known linked made agree xs os statics h c.args.me c.args.args.now may) (args_seen keys world known linked made agree xs os statics h c.args.me c.args.args.now may)))
+    (c.in_ok-class.ensures.means (showing keys xs))
+    (c.in_err-ancestor.ensures.means (showing keys xs) h (holds_in keys world known linked made agree xs os statics h c.args.me c.args.args.now may) (args_seen keys world known linked made agree xs os statics h c.args.me c.args.args.now may)))

@@ -12,8 +12,8 @@ returns g c args xs statics h may =
     let known = g.R.ClassKeys.known c.args.runtime.now in
     let linked = g.R.Runtime.linked c.args.runtime.now in
     let made = g.R.Classes.made c.args.runtime.now in
-    let of = c.in_ok-class_of_self.ensures in
-    let n = c.in_ok-class_of_self.field-0 in
+    let of = c.in_ok-class.ensures in
+    let n = c.in_ok-class.class in
     record {
       means = of_class keys world h (shown_ref (showing keys xs) c.args.me) n (λ k. Ok (To (ClassObject k))) (of.class xs statics h (alone keys world known linked made c.know.ensures.agree xs c.args.objects.now statics h c.args.me args may));
       usable = class_usable keys world known linked made c.know.ensures.agree xs c.args.objects.now n of.numbered of.made;

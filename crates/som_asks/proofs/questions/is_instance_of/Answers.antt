@@ -22,8 +22,8 @@ returns-in_err-other g c xs statics h may =
     let p = err_from_is_err_and c.from_residual-in_err-other.result c.from_residual-in_err-other.ensures.1 in
     fault_answered linked made keys xs os c.from_residual-in_err-other.result f _ (p.1 ∙ ap (λ z. Err z) p.2)
     (object_untested keys world h r (all_shown (showing keys xs) c.args.args.now) same_key c.in_ok-class.class f
-        (c.in_ok-class.ensures.class xs statics h (alone keys world known linked made agree xs os statics h c.args.me c.args.args.now may))
-        (c.in_err-other.ensures.means (showing keys xs) h (holds_in keys world known linked made agree xs os statics h c.args.me c.args.args.now may) (args_seen keys world known linked made agree xs os statics h c.args.me c.args.args.now may)))
+    (c.in_ok-class.ensures.class xs statics h (alone keys world known linked made agree xs os statics h c.args.me c.args.args.now may))
+    (c.in_err-other.ensures.means (showing keys xs) h (holds_in keys world known linked made agree xs os statics h c.args.me c.args.args.now may) (args_seen keys world known linked made agree xs os statics h c.args.me c.args.args.now may)))
 
 pub returns : goal.returns
 returns g c xs statics h may =
@@ -40,6 +40,6 @@ returns g c xs statics h may =
     let apart : AreApart keys = subst (λ (z : List ClassKey). AreApart z) agree.linked_numbers agree.linked.apart in
     truth_answered linked made keys xs os c.eq.result _
     (object_tested keys world h r (all_shown (showing keys xs) c.args.args.now) same_key n m c.eq.result
-        (c.in_ok-class.ensures.class xs statics h (alone keys world known linked made agree xs os statics h c.args.me c.args.args.now may))
-        (c.in_ok-other.ensures.means (showing keys xs) h (holds_in keys world known linked made agree xs os statics h c.args.me c.args.args.now may) (args_seen keys world known linked made agree xs os statics h c.args.me c.args.args.now may))
-        (c.eq.ensures ∙ same_keys keys n m apart c.in_ok-class.ensures.numbered (first_class keys world known linked made agree xs os statics h c.args.me c.args.args.now may m c.in_ok-other.ensures.held)))
+    (c.in_ok-class.ensures.class xs statics h (alone keys world known linked made agree xs os statics h c.args.me c.args.args.now may))
+    (c.in_ok-other.ensures.means (showing keys xs) h (holds_in keys world known linked made agree xs os statics h c.args.me c.args.args.now may) (args_seen keys world known linked made agree xs os statics h c.args.me c.args.args.now may))
+    (c.eq.ensures ∙ same_keys keys n m apart c.in_ok-class.ensures.numbered (first_class keys world known linked made agree xs os statics h c.args.me c.args.args.now may m c.in_ok-other.ensures.held)))

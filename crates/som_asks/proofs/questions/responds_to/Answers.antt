@@ -16,7 +16,7 @@ returns g c xs statics h may =
     let linked = g.R.Runtime.linked c.args.runtime.now in
     let made = g.R.Classes.made c.args.runtime.now in
     let s = showing keys xs in
-    truth_answered linked made keys xs c.args.objects.now c.in_ok-has_method.field-0 _
+    truth_answered linked made keys xs c.args.objects.now c.in_ok-responds.responds _
     (of_class keys world h (shown_ref s c.args.me) c.in_ok-class.class (λ k. Ok (Boolean (is_some (world.byname k (text_of (first_argument (all_shown s c.args.args.now)))))))
-        (c.in_ok-class.ensures.class xs statics h (alone keys world known linked made c.know.ensures.agree xs c.args.objects.now statics h c.args.me c.args.args.now may))
-    ∙ ap (λ b. Ok (Boolean b)) (sym (c.in_ok-has_method.ensures s)))
+    (c.in_ok-class.ensures.class xs statics h (alone keys world known linked made c.know.ensures.agree xs c.args.objects.now statics h c.args.me c.args.args.now may))
+    ∙ ap (λ b. Ok (Boolean b)) (sym (c.in_ok-responds.ensures s)))

@@ -8,14 +8,14 @@ use Rattle.som_asks.proofs.Meant.{then_ok, truth_answered}
 use Rattle.som_asks.proofs.questions.supports_method.Goals as goal
 
 pub returns : goal.returns
-returns g c xs statics h may =
+returns g c os xs statics h may =
     let keys = g.R.Classes.keys c.args.runtime.now in
     let world = g.R.Classes.world c.args.runtime.now in
     let known = g.R.ClassKeys.known c.args.runtime.now in
     let linked = g.R.Runtime.linked c.args.runtime.now in
     let made = g.R.Classes.made c.args.runtime.now in
     let s = showing keys xs in
-    truth_answered linked made keys xs c.args.objects.now c.in_ok-has_method.field-0 _
+    truth_answered linked made keys xs os c.in_ok-supports.supports _
     (then_ok (stands_for (shown_ref s c.args.me)) (key_of keys c.in_ok-class.class) (λ k. Ok (Boolean (is_some (world.byname k (text_of (first_argument (all_shown s c.args.args.now)))))))
-        (c.in_ok-class.ensures.means s)
-    ∙ ap (λ b. Ok (Boolean b)) (sym (c.in_ok-has_method.ensures s)))
+    (c.in_ok-class.ensures.means s)
+    ∙ ap (λ b. Ok (Boolean b)) (sym (c.in_ok-supports.ensures s)))

@@ -17,5 +17,5 @@ returns-clause-made g c =
     found_made world made c.know.ensures.closed keys h (shown_ref (showing keys xs) c.args.me) c.class_of.result may.holding.made_of
     (self_made keys world known linked made c.know.ensures.agree xs os statics h c.args.me _ may)
     (c.class_of.ensures.means xs h
-        (holds_in keys world known linked made c.know.ensures.agree xs os statics h c.args.me _ may)
-        (self_seen keys world known linked made c.know.ensures.agree xs os statics h c.args.me _ may))
+    (holds_in keys world known linked made c.know.ensures.agree xs os statics h c.args.me _ may)
+    (self_seen keys world known linked made c.know.ensures.agree xs os statics h c.args.me _ may))
