@@ -1,5 +1,5 @@
-use crate::Place;
 use som_objects::Cell;
+use som_telling::Place;
 use som_values::Reference;
 
 /// The zero value of a type.

@@ -1,6 +1,6 @@
-use crate::{Manner, Place};
 use som_objects::Cell;
 use som_tables::{ClassNo, MToken};
+use som_telling::{Manner, Place};
 use som_values::Reference;
 
 /// A call that has passed the tests of the language: who makes it, how, on whom, the parent whose body is wanted in a

@@ -1,5 +1,6 @@
-use crate::{Body, Call, Left, Place};
+use crate::{Body, Call, Left};
 use som_objects::{Cell, ObjRef};
+use som_telling::Place;
 use som_values::Reference;
 
 /// What a task does next.

@@ -5,12 +5,10 @@ mod body;
 mod call;
 mod frames;
 mod laws;
-mod place;
 mod task;
 
 pub use body::{Body, Zero};
 pub use call::{Call, Left, Stage};
 pub use frames::{Frames, Now, Waiting};
 pub use laws::{frames_law, heap_law, serials_law, stages_law, statics_law, task_law};
-pub use place::{Manner, Place};
 pub use task::Task;

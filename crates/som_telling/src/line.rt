@@ -42,7 +42,7 @@ impl From<AllocError> for Untold {
 }
 
 /// So many bytes of a line wait at most. A line that has no more is written in one piece.
-const MAX_WAITING: usize = 131_072;
+const MAX_WAITING: usize = 327_680;
 
 /// Writes bytes at once.
 pub(crate) fn send_all<K: Sink>(out: &mut K, bytes: &[u8]) -> Result<(), Untold>
