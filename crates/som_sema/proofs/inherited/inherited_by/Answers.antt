@@ -4,7 +4,7 @@ use Rattle.som_rules.specs.Modules.{classes_of}
 use Rattle.som_rules.specs.Places.{with_kernel}
 use Rattle.som_scope.specs.ClassNames.{module_in_scope}
 use Rattle.som_sema.proofs.TextInherited.{inherited_more, inherited_stop}
-use Rattle.som_sema.proofs.inherited.replaced_inherited.Goals as goal
+use Rattle.som_sema.proofs.inherited.inherited_by.Goals as goal
 
 pub returns-in_err-own_inherited : goal.returns-in_err-own_inherited
 returns-in_err-own_inherited c =

@@ -3,7 +3,7 @@ use Rattle.som_sema.specs.Finished.{declared_from}
 use Rattle.som_drafts.specs.Drafts.{plain_drafts}
 use Rattle.som_rules.specs.Modules.{classes_of}
 use Rattle.som_rules.specs.Places.{with_kernel}
-use Rattle.som_sema.proofs.declared.declarations.Given as goal
+use Rattle.som_sema.proofs.declared.declarations_by.Given as goal
 
 abbrev pub invariant-loop-draft : goal.invariant-loop-draft
 invariant-loop-draft l = record {
