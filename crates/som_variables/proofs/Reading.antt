@@ -141,9 +141,6 @@ module _ (l : Linked) (made : ClassKey → Bool) (os : Objects) (statics : Stati
     pub on_object : (xs : List ℕ) (h : Heap) → Acts l made os statics (Some me) xs h → Acts l made os statics (O r) xs h
     on_object xs h a = subst (λ x. Acts l made os statics (Some x) xs h) is a
 
-    pub known_of : IsActing l made os statics (Some me) → IsKnown os r
-    known_of a = (on_object a.0 a.1 a.2).self.own.1
-
     pub whole_of : IsActing l made os statics (Some me) → IsWhole l made os r
     whole_of a = whole_here l made a.0 os statics a.1 r (on_object a.0 a.1 a.2)
 
@@ -156,12 +153,6 @@ module _ (l : Linked) (made : ClassKey → Bool) (os : Objects) (statics : Stati
   module _ (of : ℕ) (is : me ≡ references.Class of) where
     pub on_class : (xs : List ℕ) (h : Heap) → Acts l made os statics (Some me) xs h → Acts l made os statics (Some (references.Class of)) xs h
     on_class xs h a = subst (λ x. Acts l made os statics (Some x) xs h) is a
-
-    pub class_numbered : IsActing l made os statics (Some me) → IsNumbered l.keys of
-    class_numbered a = (on_class a.0 a.1 a.2).self.own.0
-
-    pub class_made : IsActing l made os statics (Some me) → made (key_of l.keys of) ≡ true
-    class_made a = (on_class a.0 a.1 a.2).self.made_of
 
     pub class_whole : IsActing l made os statics (Some me) → IsWholeClass l statics of
     class_whole a = whole_class l made a.0 os statics a.1 of (on_class a.0 a.1 a.2)

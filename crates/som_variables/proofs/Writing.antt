@@ -69,22 +69,12 @@ object_written l linked made xs os os' statics h r c n cell (Err (stops.Fault f)
 object_written l linked made xs os os' statics h r c n cell (Err stops.NoMemory) is acts usable = tt
 
 -- a store that is the same holds the same
-pub held_same : (l : Linked) (made : ClassKey → Bool) (xs : List ℕ) (os os' : Objects) (statics : Statics) (h : Heap) → os' ≡ os → Holding l made xs os statics h → Holding l made xs os' statics h
-held_same l made xs os os' statics h e held = subst (λ (x : Objects). Holding l made xs x statics h) (sym e) held
-
-pub held_on_err : {E : Type 0} (l : Linked) (made : ClassKey → Bool) (xs : List ℕ) (os os' : Objects) (statics : Statics) (h : Heap) (answer : Result (Unit {0}) E) → OnErr answer (os' ≡ os) → Holding l made xs os statics h → OnErr answer (Holding l made xs os' statics h)
-held_on_err l made xs os os' statics h (Ok u) e held = tt
-held_on_err l made xs os os' statics h (Err x) e held = held_same l made xs os os' statics h e held
 
 -- the objects of others stay
 pub others_written : (l : Linked) (os os' : Objects) (r : ObjRef) (c : ClassKey) (n : ℕ) (cell : Cell) (answer : Result (Unit {0}) Stopped) → IsWritten l os os' r c n cell answer → OnErr answer (os' ≡ os)
     → (ys : List ℕ) → (IsMade ys r.serial → ⊥) → Spares ys os os'
 others_written l os os' r c n cell (Ok u) is e ys other = spares_written ys os os' r is.0 cell other is.1
 others_written l os os' r c n cell (Err x) is e ys other = spares_same ys os os' e
-
-pub count_written : (l : Linked) (os os' : Objects) (r : ObjRef) (c : ClassKey) (n : ℕ) (cell : Cell) (answer : Result (Unit {0}) Stopped) → IsWritten l os os' r c n cell answer → OnErr answer (os' ≡ os) → length os' ≡ length os
-count_written l os os' r c n cell (Ok u) is e = same_count os os' r is.0 cell is.1
-count_written l os os' r c n cell (Err x) is e = ap (λ (x : Objects). length x) e
 
 -- ---- class objects
 
@@ -121,36 +111,6 @@ pub class_becomes : (l : Linked) → IsLinked l → (made : ClassKey → Bool) (
 class_becomes l linked made xs os old new h of c n cell put acts usable =
     (write (ClassObject (key_of l.keys of)) c n (shown (showing l.keys xs) cell) h, refl, class_written l linked made xs os old new h of c n cell put acts usable)
 
--- the same cells hold the same
-pub held_alike : (l : Linked) (made : ClassKey → Bool) (xs : List ℕ) (os : Objects) (old new : Statics) (h : Heap) → AreAlike old new → Holding l made xs os old h → Holding l made xs os new h
-held_alike l made xs os old new h alike held = record {
-  serials = held.serials;
-  heap = held.heap;
-  class_objects = record { by = λ n numbered. subst (λ o. HoldsStatic l xs os (l.statics n) o (h.statics (key_of l.keys n))) (sym (alike n)) (held.class_objects.by n numbered) };
-  made_of = held.made_of;
-}
-
--- ---- self is of a class that descends from the variable's
-
-module _ (l : Linked) (made : ClassKey → Bool) (os : Objects) (statics : Statics) (me : Reference) (k : ClassKey) where
-  class_at : (h : Heap) (i : ℕ) (u : Instance) → slice_get h.objects i ≡ Some u → class_of l.world h (Object i) ≡ u.class
-  class_at h i u e = ap (λ (o : Option Instance). elim o as (λ _. ClassKey) [ None ↦ som_object | Some t ↦ t.class ]) e
-
-  pub object_below : (r : ObjRef) → me ≡ references.Object r → MayAssign l made os statics (Some me) k → IsOfClass l os r k
-  object_below r is may o live =
-      let xs = may.0 in let h = may.1 in
-      let i = place_of xs r.serial in
-      let acts = on_object l made os statics me r is xs h may.2 in
-      let u = there l made xs os statics h r acts o live in
-      let below : is_live h (Object i) ≡ true → l.world.is_a (class_of l.world h (Object i)) k ≡ true = subst (λ x. IsBelow l.world h (me_value l xs (Some x)) k) is may.3 in
-      subst (λ x. l.world.is_a x k ≡ true) (class_at h i u.0 u.1 ∙ u.2.1) (below (live_there l made xs os statics h r acts o live))
-
-  pub class_below : (of : ℕ) → me ≡ references.Class of → MayAssign l made os statics (Some me) k → l.world.is_a (l.world.meta (key_of l.keys of)) k ≡ true
-  class_below of is may =
-      let xs = may.0 in let h = may.1 in
-      let below : is_live h (ClassObject (key_of l.keys of)) ≡ true → l.world.is_a (class_of l.world h (ClassObject (key_of l.keys of))) k ≡ true = subst (λ x. IsBelow l.world h (me_value l xs (Some x)) k) is may.3 in
-      below refl
-
 -- some task acts
 pub acting : (l : Linked) (made : ClassKey → Bool) (os : Objects) (statics : Statics) (me : Option Reference) (k : ClassKey) → MayAssign l made os statics me k → IsActing l made os statics me
 acting l made os statics me k may = (may.0, may.1, may.2)
@@ -167,9 +127,6 @@ module _ (l : Linked) (linked : IsLinked l) (made : ClassKey → Bool) (os os' :
 
   pub assigns_class : (of : ℕ) → me ≡ references.Class of → IsPut l old new of c n cell → Assigned os new (Ok tt) me
   assigns_class of is put = subst (Assigned os new (Ok tt)) (sym is) (λ xs h acts usable. class_becomes l linked made xs os old new h of c n cell put acts usable)
-
-  pub assigns_manager : me ≡ references.Manager → Assigned os old (Ok tt) me
-  assigns_manager is = subst (Assigned os old (Ok tt)) (sym is) (λ xs h acts usable. (h, refl, acts.holding))
 
   pub others_object : (r : ObjRef) (answer : Result (Unit {0}) Stopped) → me ≡ references.Object r → IsWritten l os os' r c n cell answer → OnErr answer (os' ≡ os) → (ys : List ℕ) → (IsAmong ys (Some me) → ⊥) → Spares ys os os'
   others_object r answer is written e ys other = others_written l os os' r c n cell answer written e ys (λ m. other (subst (λ x. IsAmong ys (Some x)) (sym is) m))
