@@ -1,17 +1,12 @@
 -- What the store has for a variable of an object.
-use Rattle.std.proofs.Common.{◌≡◌, ℕ, Bool, true, Option, Some, None, Result, Ok, Err, sym, ap, subst, ◌∙◌}
+use Rattle.std.proofs.Common.{◌≡◌, ℕ, Option, Some, Ok, sym, ap, subst, ◌∙◌}
 use Rattle.som_model.specs.declared.key.ClassKey.{ClassKey}
-use Rattle.som_model.specs.State.{zeros}
 use Rattle.som_objects.specs.declared.cell.Cell.{Cell}
 use Rattle.som_objects.specs.declared.object_ref.ObjRef.{ObjRef}
-use Rattle.som_objects.specs.Objects.{Live, Objects, live_at, HasClass, InRange, Writes}
-use Rattle.som_values.specs.declared.stopped.Stopped.{Stopped}
-use Rattle.som_values.specs.declared.stopped.Stopped.TheVariants as stops
-use Rattle.som_values.specs.Shown.{IsNumbered, key_of}
+use Rattle.som_objects.specs.Objects.{Live, Objects, live_at, HasClass, Writes}
 use Rattle.som_values.proofs.Keeping.{same_some}
 use Rattle.som_task.specs.Settings.{Linked}
-use Rattle.som_variables.specs.Cells.{IsAt, IsPlain}
-use Rattle.som_variables.specs.Objects.{IsWhole, IsOfClass, IsCell, IsOfObject, IsWritten}
+use Rattle.som_variables.specs.Objects.{IsWritten}
 
 -- the place of the variable among the cells of what is live
 place_there : (l : Linked) (os : Objects) (r : ObjRef) (of : ℕ) (c : ClassKey) (n : ℕ) (q : Option ℕ) → HasClass os r of → q ≡ l.variables of c n → (o : Live) → live_at os r.serial ≡ Some o → l.variables o.class c n ≡ q

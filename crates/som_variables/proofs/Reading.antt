@@ -8,7 +8,7 @@ use Rattle.som_model.specs.State.{Instance, Value, Heap, To, Object, ClassObject
 use Rattle.som_model.specs.Expressions.{read}
 use Rattle.som_objects.specs.declared.cell.Cell.{Cell}
 use Rattle.som_objects.specs.declared.object_ref.ObjRef.{ObjRef}
-use Rattle.som_objects.specs.Objects.{Live, Objects, live_at, IsKnown, IsGone}
+use Rattle.som_objects.specs.Objects.{Live, Objects, live_at, IsGone}
 use Rattle.som_used.specs.Needs.{InstanceIn, ObjectsIn, ValueIn}
 use Rattle.som_used.proofs.Within as within
 use Rattle.som_used.proofs.Values.{read_in}
@@ -17,7 +17,7 @@ use Rattle.som_values.specs.declared.reference.Reference.TheVariants as referenc
 use Rattle.som_values.specs.declared.stopped.Stopped.{Stopped}
 use Rattle.som_values.specs.declared.stopped.Stopped.TheVariants as stops
 use Rattle.som_values.specs.Answers.{Answers}
-use Rattle.som_values.specs.Shown.{shown, showing, key_of, place_of, IsNumbered}
+use Rattle.som_values.specs.Shown.{shown, showing, key_of, place_of}
 use Rattle.som_values.specs.Stored.{IsOne}
 use Rattle.som_values.proofs.Keeping.{no_some, same_some}
 use Rattle.som_task.specs.Own.{IsOwn}

@@ -1,11 +1,10 @@
 -- What is written is what the meaning writes, and the task's other objects stay.
-use Rattle.std.proofs.Common.{◌≡◌, ℕ, ◌-◌, Bool, true, if◌then◌else◌, List, length, Option, Some, None, Result, Ok, Err, slice_get, slice_set, refl, sym, ap, subst, ◌∙◌, arith}
+use Rattle.std.proofs.Common.{◌≡◌, ℕ, ◌-◌, Bool, true, if◌then◌else◌, List, length, Option, Some, None, Result, Ok, Err, slice_set, refl, sym, ap, subst, ◌∙◌, arith}
 use Rattle.std.specs.Result.{OnErr}
 use Rattle.std.proofs.lemmas.List.{length-set}
 use Rattle.som_model.specs.declared.key.ClassKey.{ClassKey}
 use Rattle.som_model.specs.declared.program.Fault.TheVariants as faults
-use Rattle.som_model.specs.Kernel.{som_object}
-use Rattle.som_model.specs.State.{Variables, Heap, To, Object, ClassObject, Tried, Instance, is_live, class_of, write, zeros}
+use Rattle.som_model.specs.State.{Variables, Heap, To, Object, ClassObject, Tried, is_live, write, zeros}
 use Rattle.som_objects.specs.declared.cell.Cell.{Cell}
 use Rattle.som_objects.specs.declared.object_ref.ObjRef.{ObjRef}
 use Rattle.som_objects.specs.Objects.{Objects, KeepsKnown, Writes}
@@ -22,10 +21,10 @@ use Rattle.som_task.specs.Stored.{AreSerials, HoldVariables, HoldsStatic, Spares
 use Rattle.som_task.proofs.Objects.{heap_written, heap_beside, spares_written}
 use Rattle.som_task.proofs.Classes.{statics_still, statics_written}
 use Rattle.som_runtime.specs.Holding.{Holding, IsUsable}
-use Rattle.som_variables.specs.Acting.{Acts, IsActing, MayAssign, Becomes, IsAmong, IsBelow, me_value, assigned}
-use Rattle.som_variables.specs.Objects.{IsOfClass, IsWritten}
-use Rattle.som_variables.specs.Statics.{Statics, cells_of, AreAlike, GoesOnWith, IsPut}
-use Rattle.som_variables.proofs.Reading.{there, live_there, gone_there, on_object}
+use Rattle.som_variables.specs.Acting.{Acts, IsActing, MayAssign, Becomes, IsAmong, me_value, assigned}
+use Rattle.som_variables.specs.Objects.{IsWritten}
+use Rattle.som_variables.specs.Statics.{Statics, cells_of, GoesOnWith, IsPut}
+use Rattle.som_variables.proofs.Reading.{live_there, gone_there}
 
 -- a written store has as many objects
 pub same_count : (os os' : Objects) (r : ObjRef) (p : ℕ) (cell : Cell) → Writes os os' r p cell → length os' ≡ length os
