@@ -10,3 +10,4 @@ pub mod Listing
 pub mod Naming
 pub mod Making
 pub mod Standing
+pub mod Unmarking

@@ -1,5 +1,5 @@
 -- What the numbers of classes stand for.
-use Rattle.std.specs.Prelude.{◌≡◌, ◌≢◌, if◌then◌else◌, ℕ, ◌+◌, ◌<◌, ◌≤◌, List, [], ◌∷◌, ◌++◌, map, length, drop, get_or, slice_get, slice_index_or, Some}
+use Rattle.std.specs.Prelude.{Bool, ◌≡◌, ◌≢◌, if◌then◌else◌, ℕ, ◌+◌, ◌<◌, ◌≤◌, List, [], ◌∷◌, ◌++◌, map, length, drop, get_or, slice_get, slice_index_or, Some}
 use Rattle.som_model.specs.declared.key.ClassKey.{ClassKey}
 use Rattle.som_model.specs.declared.key.ClassKey.TheVariants as keys
 use Rattle.som_model.specs.Lists.{some}
@@ -73,12 +73,13 @@ pub record IsNumbers (cs : List Class) (ps : List Position) : Type 0 where
   pub apart : AreApart (record { classes = cs; keys = keys_by cs ps })
   pub made : (n : ℕ) (p : Position) → length cs ≤ n → slice_get ps n ≡ Some p → (p.kind ≢ kinds.Declared) × (at (keys_by cs ps) n ≡ position_key (keys_by cs ps) p)
 
--- the classes have numbers; the declared ones are found by their names, and the made ones by what they are made of
-pub record AreKept (ks : List Keyed) (ps : List Position) (names : Names) (highest : ℕ) (table : MadeTable) : Type 0 where
+-- the classes have numbers; the declared ones are found by their names, and the made ones by what they are made of; no class is marked
+pub record AreKept (ks : List Keyed) (ps : List Position) (names : Names) (highest : ℕ) (table : MadeTable) (marks : List Bool) : Type 0 where
   pub numbers : IsNumbers (classes_of ks) ps
   pub noted : AreNoted (face_names ks) names
   pub highest_is : highest ≡ highest_of (classes_of ks)
   pub listed : AreListed (length ks) ps table
+  pub unmarked : AreMarks marks []
 
 -- the same, where the class of a key has a number: its own, or the one that comes next
 unfoldable pub with_key : Numbering → ClassKey → Numbering

@@ -9,7 +9,7 @@ ghost use Rattle.std.specs.Prelude.{◌≡◌, ◌+◌, ◌<◌, ◌≤◌, ℕ,
 
 use crate::keyed::Keyed;
 use crate::names::{Names, find_named};
-use crate::position::{Kind, Position, next_position};
+use crate::position::{Position, next_declared};
 use som_model::{ClassKey, List, NoMemory};
 use som_tables::ClassNo;
 use std::alloc::Global;
@@ -76,13 +76,7 @@ pub(crate) fn declared_positions(
     let mut positions = List::new(alloc);
     for (place, class) in classes.iter().enumerate() {
         let parents = numbers_of(alloc, names, classes, class.decl.face.parents.as_slice())?;
-        let position = next_position(
-            alloc,
-            positions.as_slice(),
-            Kind::Declared,
-            parents,
-            place as u32,
-        )?;
+        let position = next_declared(alloc, positions.as_slice(), parents, place as u32)?;
         positions.push(position)?;
     }
     Ok(positions)

@@ -19,7 +19,7 @@ use crate::made::greatest_rank;
 use crate::made_table::{MadeTable, push_made};
 use crate::named::{class_named, highest_level};
 use crate::names::{Names, names_of};
-use crate::position::{Kind, Position, is_marked, next_position, position_of};
+use crate::position::{Kind, Position, is_marked, next_made, position_of};
 use som_model::{ClassKey, List, NoMemory, Text};
 use som_tables::ClassNo;
 use std::alloc::Global;
@@ -37,6 +37,7 @@ pub struct Numbers {
     names: Names,
     highest: u8,
     table: MadeTable,
+    marks: Vec<bool>,
 }
 
 impl Model for Numbers {
@@ -52,7 +53,7 @@ impl Model for Numbers {
 
     ghost view = { λ n. numbering_of n.classes n.positions };
 
-    ghost invariant = { λ n. AreKept n.classes n.positions n.names n.highest n.table };
+    ghost invariant = { λ n. AreKept n.classes n.positions n.names n.highest n.table n.marks.items };
 }
 
 impl Numbers {
@@ -71,6 +72,7 @@ impl Numbers {
             names,
             highest,
             table: MadeTable::new(alloc),
+            marks: Vec::new(alloc),
         })
     }
 
@@ -223,7 +225,14 @@ impl Numbers {
         }
         let class = ClassNo::new(self.positions.len() as u32);
         let rank = greatest_rank(self.positions.as_slice(), parents.as_slice());
-        let position = next_position(alloc, self.positions.as_slice(), kind, parents, rank)?;
+        let position = next_made(
+            alloc,
+            self.positions.as_slice(),
+            &mut self.marks,
+            kind,
+            parents,
+            rank,
+        )?;
         push_made(alloc, &mut self.positions, &mut self.table, position)?;
         Ok(class)
     }

@@ -2,7 +2,7 @@ ghost use Rattle.som_model.specs.Lists.{Mem, joined, some};
 ghost use Rattle.som_numbers.specs.Positions.{AreLow, AreMarked, IsNext, lists};
 ghost use Rattle.som_numbers.specs.declared.position.Kind.TheVariants as kinds;
 ghost use Rattle.som_rules.specs.Walk.{AreMarks, add_new, adds};
-ghost use Rattle.std.specs.Prelude.{◌≡◌, ◌==◌, ◌+◌, ◌<◌, ◌≤◌, ℕ, [], ◌∷◌, IfOk, OnOk, Some, false, length, map, slice_get, slice_index_or};
+ghost use Rattle.std.specs.Prelude.{◌≡◌, ◌≢◌, ◌==◌, ◌+◌, ◌<◌, ◌≤◌, ℕ, [], ◌∷◌, IfOk, OnOk, Some, false, length, map, slice_get, slice_index_or};
 
 use som_model::{List, NoMemory};
 use som_tables::ClassNo;
@@ -27,42 +27,93 @@ pub(crate) struct Position {
     pub(crate) rank: u32,
 }
 
-fn kept_marks(alloc: Global, kind: Kind, marks: Vec<bool>) -> List<bool>
-    ensures { kind ≡ kinds.Declared → result ≡ marks.items }
-{
-    match kind {
-        Kind::Declared => List::from_vec(marks),
-        Kind::Derived => List::new(alloc),
-        Kind::Proxy => List::new(alloc),
-    }
-}
-
-/// The position of the class that comes next, made of those of its parents in the time that their lists of ancestors take.
-pub(crate) fn next_position(
+/// The position of the declared class that comes next, made of those of its parents in the time that their lists of ancestors and its marks take.
+pub(crate) fn next_declared(
     alloc: Global,
     known: &[Position],
-    kind: Kind,
     parents: List<ClassNo>,
     rank: u32,
 ) -> Result<Position, NoMemory>
     requires few { length known.now < 4294967295 }
     requires parents { (p : ℕ) → Mem p parents → p < length known.now }
     requires low { AreLow known.now }
-    ensures { IfOk result (λ position. IsNext known.now kind parents rank position) }
+    ensures { IfOk result (λ position. IsNext known.now kinds.Declared parents rank position) }
 {
-    let number = known.len();
-    let mut ancestors = List::new(alloc);
     let mut marks = Vec::new(alloc);
-    marks.resize(number + 1, false)?;
-    note(&mut ancestors, &mut marks, ClassNo::new(number as u32))?;
-    note_parents(&mut ancestors, &mut marks, known, parents.as_slice())?;
+    marks.resize(known.len() + 1, false)?;
+    let mut ancestors = List::new(alloc);
+    note_next(&mut ancestors, &mut marks, known, parents.as_slice())?;
+    Ok(Position {
+        kind: Kind::Declared,
+        parents,
+        ancestors,
+        marks: List::from_vec(marks),
+        rank,
+    })
+}
+
+/// The position of the class that comes next and is made of others, in the time that their lists of ancestors take. The marks are lent for that time,
+/// and none is left, whether the class gets its position or memory is short.
+pub(crate) fn next_made(
+    alloc: Global,
+    known: &[Position],
+    marks: &mut Vec<bool>,
+    kind: Kind,
+    parents: List<ClassNo>,
+    rank: u32,
+) -> Result<Position, NoMemory>
+    requires few { length known.now < 4294967295 }
+    requires made { kind ≢ kinds.Declared }
+    requires parents { (p : ℕ) → Mem p parents → p < length known.now }
+    requires low { AreLow known.now }
+    requires unmarked { AreMarks marks.old.items [] }
+    ensures next { IfOk result (λ position. IsNext known.now kind parents rank position) }
+    ensures unmarked { AreMarks marks.new.items [] }
+{
+    marks.resize(known.len() + 1, false)?;
+    let mut ancestors = List::new(alloc);
+    let noted = note_next(&mut ancestors, marks, known, parents.as_slice());
+    unmark(marks, ancestors.as_slice());
+    noted?;
     Ok(Position {
         kind,
         parents,
         ancestors,
-        marks: kept_marks(alloc, kind, marks),
+        marks: List::new(alloc),
         rank,
     })
+}
+
+/// Takes the marks of these classes away.
+fn unmark(marks: &mut [bool], classes: &[ClassNo])
+    requires { AreMarks marks.old classes.now }
+    ensures { AreMarks marks.new [] }
+{
+    for class in classes {
+        let place = class.number() as usize;
+        if place < marks.len() {
+            marks[place] = false;
+        }
+    }
+}
+
+/// Notes the class that comes next, and then the ancestors of its parents.
+fn note_next(
+    list: &mut List<ClassNo>,
+    marks: &mut [bool],
+    known: &[Position],
+    parents: &[ClassNo],
+) -> Result<(), NoMemory>
+    requires few { length known.now < 4294967295 }
+    requires parents { (p : ℕ) → Mem p parents.now → p < length known.now }
+    requires low { AreLow known.now }
+    requires long { length marks.old ≡ length known.now + 1 }
+    requires marks { AreMarks marks.old list.old }
+    ensures list { OnOk result (list.new ≡ adds ◌==◌ list.old (length known.now ∷ joined (map (λ p. slice_index_or (lists known.now) p []) parents.now))) }
+    ensures marks { AreMarks marks.new list.new }
+{
+    note(list, marks, ClassNo::new(known.len() as u32))?;
+    note_parents(list, marks, known, parents)
 }
 
 fn note_parents(
@@ -76,7 +127,7 @@ fn note_parents(
     requires long { length marks.old ≡ length known.now + 1 }
     requires marks { AreMarks marks.old list.old }
     ensures list { OnOk result (list.new ≡ adds ◌==◌ list.old (joined (map (λ p. slice_index_or (lists known.now) p []) parents.now))) }
-    ensures marks { OnOk result (AreMarks marks.new list.new) }
+    ensures marks { AreMarks marks.new list.new }
 {
     for parent in parents {
         note_all(list, marks, ancestors_of(known, *parent))?;
@@ -92,7 +143,7 @@ fn note_all(
     requires others { (a : ℕ) → Mem a others.now → a < length marks.old }
     requires marks { AreMarks marks.old list.old }
     ensures list { OnOk result (list.new ≡ adds ◌==◌ list.old others.now) }
-    ensures marks { OnOk result (AreMarks marks.new list.new) }
+    ensures marks { AreMarks marks.new list.new }
 {
     for other in others {
         note(list, marks, *other)?;
@@ -104,7 +155,7 @@ fn note(list: &mut List<ClassNo>, marks: &mut [bool], class: ClassNo) -> Result<
     requires class { class < length marks.old }
     requires marks { AreMarks marks.old list.old }
     ensures list { OnOk result (list.new ≡ add_new ◌==◌ list.old class) }
-    ensures marks { OnOk result (AreMarks marks.new list.new) }
+    ensures marks { AreMarks marks.new list.new }
 {
     let place = class.number() as usize;
     if !marks[place] {

@@ -12,18 +12,18 @@ numbers_of-requires-clause-known c = λ k m.
     let is = slice_get_read c.args.classes.now (length c.args.classes.now) c.loop-place.place c.index-classes-place.result refl c.loop-place-test.true c.index-classes-place.is in
     parent_known (classes_of c.args.classes.now) c.requires.declared c.loop-place.place (class_of c.index-classes-place.result) (class_get c.args.classes.now c.loop-place.place c.index-classes-place.result is) k (rw c.as_slice.ensures at m)
 
-pub next_position-requires-clause-few : goal.next_position-requires-clause-few
-next_position-requires-clause-few c = omega (arith, ap length c.as_slice-in-loop-place.ensures, c.loop-place.invariant.each, c.loop-place-test.true, c.requires.few)
+pub next_declared-requires-clause-few : goal.next_declared-requires-clause-few
+next_declared-requires-clause-few c = omega (arith, ap length c.as_slice-in-loop-place.ensures, c.loop-place.invariant.each, c.loop-place-test.true, c.requires.few)
 
-pub next_position-requires-clause-parents : goal.next_position-requires-clause-parents
-next_position-requires-clause-parents c = λ p m.
+pub next_declared-requires-clause-parents : goal.next_declared-requires-clause-parents
+next_declared-requires-clause-parents c = λ p m.
     let is = slice_get_read c.args.classes.now (length c.args.classes.now) c.loop-place.place c.index-classes-place.result refl c.loop-place-test.true c.index-classes-place.is in
     let lower = next_lower c.args.classes.now c.requires.declared c.loop-place.place c.index-classes-place.result is c.loop-place.positions c.loop-place.invariant.placed c.loop-place.invariant.each c.in_ok-parents.parents c.in_ok-parents.ensures.within
     (c.in_ok-parents.ensures.keys ∙ c.as_slice.ensures) p m in
     omega (arith, lower, ap length c.as_slice-in-loop-place.ensures)
 
-pub next_position-requires-clause-low : goal.next_position-requires-clause-low
-next_position-requires-clause-low c = λ p a m.
+pub next_declared-requires-clause-low : goal.next_declared-requires-clause-low
+next_declared-requires-clause-low c = λ p a m.
     ancestors_low (classes_of c.args.classes.now) (falls (classes_of c.args.classes.now) c.requires.declared) (tells (classes_of c.args.classes.now) c.requires.declared) (keys_of (classes_of c.args.classes.now)) c.loop-place.positions c.loop-place.invariant.placed p a
     (rw c.as_slice-in-loop-place.ensures at m)
 

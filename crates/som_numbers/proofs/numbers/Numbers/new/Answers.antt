@@ -11,6 +11,7 @@ invariant_of-result c = record {
   numbers = declared_numbers c.args.classes c.in_ok-positions.positions c.requires.few c.requires.declared (rw c.as_slice-2.ensures at c.in_ok-positions.ensures.placed) (rw c.as_slice-2.ensures at c.in_ok-positions.ensures.each);
   noted = rw c.as_slice.ensures at c.in_ok-names.ensures;
   highest_is = rw c.as_slice-3.ensures at c.highest_level-highest.ensures;
+  unmarked = record { by = λ k lt. absurd (omega (arith, lt)) };
   listed = (let each = rw c.as_slice-2.ensures at c.in_ok-positions.ensures.each in none_listed (length c.args.classes) c.in_ok-positions.positions c.new.result (omega (arith, each)) c.new.ensures);
 }
 
