@@ -1,22 +1,19 @@
 -- The hooks of a call by their numbers, and the body of its own that a class has.
-use Rattle.std.proofs.Common.{◌≡◌, ℕ, zero, suc, ◌<◌, ◌≤◌, ◌==◌, inl, inr, Bool, true, false, nat_lt, if◌then◌else◌, List, [], ◌∷◌, length, map, get_or, Option, Some, None, refl, sym, ap, ◌∙◌, subst, arith, true≢false}
+use Rattle.std.proofs.Common.{◌≡◌, ℕ, zero, suc, ◌<◌, ◌≤◌, ◌==◌, inl, inr, Bool, true, false, if◌then◌else◌, List, [], ◌∷◌, length, map, get_or, Option, Some, None, refl, sym, ap, ◌∙◌, subst, arith, true≢false}
 use Rattle.std.specs.List.{All}
 use Rattle.std.specs.Prelude.{is_some}
 use Rattle.som_model.specs.declared.key.ClassKey.{ClassKey}
-use Rattle.som_model.specs.declared.key.MethodRef.{MethodRef}
 use Rattle.som_model.specs.declared.syntax.Block.{Block}
 use Rattle.som_model.specs.Lists.{Mem}
 use Rattle.som_model.specs.Implementation.{Held, is_kernel}
 use Rattle.som_model.specs.World.{World}
-use Rattle.som_model.specs.Means.{hooks_of}
 use Rattle.som_code.specs.declared.instruction.Instruction.{Instruction}
 use Rattle.som_meta.specs.Numbering.{Numbering}
 use Rattle.som_hierarchy.proofs.Lists.{mem_map}
 use Rattle.som_values.specs.Shown.{IsNumbered, key_of}
-use Rattle.som_task.specs.declared.call.Call.{Call}
 use Rattle.som_task.specs.declared.call.Left.{Left}
 use Rattle.som_task.specs.Settings.{Linked}
-use Rattle.som_task.specs.Standing.{call_shown, parent_shown}
+use Rattle.som_task.specs.Standing.{parent_shown}
 use Rattle.som_runtime.specs.declared.body.BodyView.{BodyView}
 use Rattle.som_runtime.specs.Asked.{Agree, CanLoad, IsAnswer, IsClosed}
 use Rattle.som_passing.specs.Named.{IsMadeClass, setting}
@@ -55,8 +52,10 @@ module _ (ks : List ClassKey) (w : World) (k : Numbering) (l : Linked) (main : B
     where
       same_number : (i j : ℕ) → i ≡ j → false ≡ (i == j) → ⊥
       same_number i j e f = true≢false (sym (f ∙ ap (λ z. z == j) e ∙ grind arith))
+
       same : (x y : ClassKey) → Some x ≡ Some y → x ≡ y
       same x y e = cc
+
       by : (q : Option Held) → l.world.held (key_of l.keys n) (l.method t) ≡ q → l.world.held (key_of l.keys n) (l.method t) ≡ None
       by None e = e
       by (Some b) e =

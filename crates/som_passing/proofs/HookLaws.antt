@@ -1,9 +1,6 @@
 -- Hooks descend from SOMMBeforeAfter, and a class that has a body of its own answers itself.
 use Rattle.std.proofs.Common.{◌≡◌, ℕ, zero, suc, inl, inr, Bool, true, false, not, ◌&&◌, ◌||◌, if◌then◌else◌, List, [], ◌∷◌, ◌++◌, filter, Option, Some, None, refl, sym, ap, ◌∙◌, subst, true≢false}
 use Rattle.std.specs.Prelude.{is_some}
-use Rattle.std.specs.Str.{bytes_eq}
-use Rattle.som_model.specs.declared.key.Module.{Module}
-use Rattle.som_model.specs.declared.key.Module.TheVariants as modules
 use Rattle.som_model.specs.declared.key.ClassKey.{ClassKey, out-ClassKey}
 use Rattle.som_model.specs.declared.key.ClassKey.TheOpen.{ClassKey-F}
 use Rattle.som_model.specs.declared.key.MethodRef.{MethodRef}
@@ -14,7 +11,7 @@ use Rattle.som_model.specs.declared.syntax.Block.{Block}
 use Rattle.som_model.specs.Lists.{Mem, or_else, some}
 use Rattle.som_model.specs.Keys.{same_key, same_method}
 use Rattle.som_model.specs.Hierarchy.{Hierarchy}
-use Rattle.som_model.specs.Ancestors.{Descends, itself}
+use Rattle.som_model.specs.Ancestors.{itself}
 use Rattle.som_model.specs.Resolution.{impl_within}
 use Rattle.som_model.specs.Class.{Class}
 use Rattle.som_model.specs.Kernel.{kernel, before_after, before_method, after_method, som_init, som_uninit}
@@ -22,13 +19,12 @@ use Rattle.som_model.specs.Classes.{class_at, ancestors, hierarchy, is_a}
 use Rattle.som_model.specs.Owner.{owner}
 use Rattle.som_model.specs.Implementation.{Held, User, Forward, Nothing, has_body, held, held_by, declared_held, introduced_body, override_of, proxy_held, forwards, selected, implementation}
 use Rattle.som_model.specs.Metaclass.{hooks}
-use Rattle.som_model.specs.Rules.{is_proper}
 use Rattle.som_model.specs.Loads.{IsOrdered, Loads}
 use Rattle.som_model.proofs.KeyLaws.{both, exact_keys}
 use Rattle.som_model.proofs.NamedLaws.{same_named}
 use Rattle.som_laws.proofs.Members.{mem_split}
 use Rattle.som_hierarchy.proofs.Standing.{found_is}
-use Rattle.som_releases.proofs.Facing.{tested, tests}
+use Rattle.som_releases.proofs.Facing.{tests}
 use Rattle.som_releases.proofs.Inheriting.{s10_says}
 use Rattle.som_typed.proofs.Facts.{IsSound}
 use Rattle.som_typed.proofs.Fitting.{known_in, plain}
@@ -103,6 +99,7 @@ module _ (cs : List Class) (main : Block) (l : Loads cs main) where
       first : (t : Option Held) → Mem c all → c.key ≡ x → (t ≡ None) → or_else t (override_of all r c.decl.overrides) ≡ Some b → is_a all x r.class ≡ true
       first None m k none g = subst (λ z. is_a all z r.class ≡ true) k (overrides_above c r b m g)
       first (Some h) m k none g = absurd (let z = none in cc)
+
       by : (t : Bool) → same_key c.key r.class ≡ t → Mem c all → c.key ≡ x → or_else (if t then introduced_body c r.name else None) (override_of all r c.decl.overrides) ≡ Some b → is_a all x r.class ≡ true
       by true t m k g = subst (λ z. is_a all x z ≡ true) (sym k ∙ exact_keys.two c.key r.class t) (tests cs o x x itself)
       by false t m k g = first None m k refl g
@@ -144,6 +141,7 @@ module _ (cs : List Class) (main : Block) (l : Loads cs main) where
       body true y e f g = let b = there (held all k before_method) e in body_above k before_method _ b.0 plain_sound.before.sig not_before b.1
       body false true e f g = let b = there (held all k after_method) f in body_above k after_method _ b.0 plain_sound.after.sig not_after b.1
       body false false e f g = absurd (true≢false (sym g))
+
       by : (b : Bool) → Mem k (if b then filter (λ x. not (same_key x before_after) && (has_body all before_method x || has_body all after_method x)) (ancestors all m) else []) → is_a all k before_after ≡ true
       by true n =
           let t = filter_says (λ x. not (same_key x before_after) && (has_body all before_method x || has_body all after_method x)) k (ancestors all m) n in

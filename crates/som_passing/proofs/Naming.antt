@@ -1,5 +1,5 @@
 -- A call by name, from what the class, the signature and the test of the arguments answered.
-use Rattle.std.proofs.Common.{◌≡◌, ℕ, List, Option, Some, None, Result, Ok, Err, refl, sym, ap, ◌∙◌, subst}
+use Rattle.std.proofs.Common.{◌≡◌, ℕ, List, Option, Some, None, Result, Ok, Err, sym, ap, ◌∙◌, subst}
 use Rattle.std.specs.List.{All}
 use Rattle.som_model.specs.declared.key.ClassKey.{ClassKey}
 use Rattle.som_model.specs.declared.key.MethodRef.{MethodRef}
@@ -44,7 +44,7 @@ module _ (ks : List ClassKey) (w : World) (k : Numbering) (l : Linked) (agree : 
   method_means xs h self n m s r class byname sig fits holds seen =
       let fit : r ≡ sig_fits w h (Some s) wanted (all_shown (showing ks xs) args) = fits xs h (subst (λ z. Holds (showing z xs) os h) agree.linked_numbers holds) (subst (λ z. All (IsSeen (showing z xs)) args) agree.linked_numbers seen) in
       let here : r ≡ sig_fits l.world h (Some s) wanted (all_shown (showing l.keys xs) args) =
-          subst (λ z. r ≡ sig_fits z h (Some s) wanted (all_shown (showing l.keys xs) args)) (sym agree.linked_answers) (subst (λ z. r ≡ sig_fits w h (Some s) wanted (all_shown (showing z xs) args)) (sym agree.linked_numbers) fit) in
+      subst (λ z. r ≡ sig_fits z h (Some s) wanted (all_shown (showing l.keys xs) args)) (sym agree.linked_answers) (subst (λ z. r ≡ sig_fits w h (Some s) wanted (all_shown (showing z xs) args)) (sym agree.linked_numbers) fit) in
       method_by l.world h wanted name self (all_shown (showing l.keys xs) args) (key_of ks n) m s r (class.1 ∙ ap (λ z. key_of z n) agree.linked_numbers)
       (ap (λ (z : World). z.byname (key_of ks n) name) agree.linked_answers ∙ byname) (ap (λ (z : World). z.sig m) agree.linked_answers ∙ sig) here
 

@@ -1,9 +1,8 @@
 -- The method's body among those of a call, and the body that is next.
-use Rattle.std.proofs.Common.{◌≡◌, ℕ, ◌+◌, Bool, true, List, [], ◌∷◌, length, Option, Some, None, refl, sym, ap, ◌∙◌, subst}
+use Rattle.std.proofs.Common.{◌≡◌, ℕ, ◌+◌, Bool, true, List, ◌∷◌, length, Option, Some, None, refl, sym, ap, ◌∙◌}
 use Rattle.std.specs.Prelude.{unwrap_or}
 use Rattle.som_model.specs.declared.key.ClassKey.{ClassKey}
 use Rattle.som_model.specs.declared.key.MethodRef.{MethodRef}
-use Rattle.som_model.specs.Implementation.{Held}
 use Rattle.som_model.specs.World.{World}
 use Rattle.som_model.specs.Calls.{Request}
 use Rattle.som_model.specs.Means.{body_class, hooks_of}
@@ -58,7 +57,7 @@ module _ (ks : List ClassKey) (w : World) (k : Numbering) (l : Linked) (agree : 
   method_found n rest e answer is =
       let r = l.method x.call.method in
       let class : body_class l.world key q ≡ Some (key_of l.keys body.class) =
-          class_by r x.call.parent ∙ ap (λ z. l.world.impl (key_of l.keys z) r) (sym e) ∙ ap (λ (z : World). z.impl (key_of l.keys n) r) agree.linked_answers ∙ answer.class in
+      class_by r x.call.parent ∙ ap (λ z. l.world.impl (key_of l.keys z) r) (sym e) ∙ ap (λ (z : World). z.impl (key_of l.keys n) r) agree.linked_answers ∙ answer.class in
       let held : l.world.held (key_of l.keys body.class) r ≡ Some (held_shown r.name body.held) = ap (λ (z : World). z.held (key_of l.keys body.class) r) agree.linked_answers ∙ answer.held in
       let after : List Invocation = bodies_left l.world key q (stages.After (length (hooks_of l.world key q))) in
       record {

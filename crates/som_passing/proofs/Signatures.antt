@@ -1,7 +1,6 @@
 -- The class of a signature's result is one of the classes.
-use Rattle.std.proofs.Common.{◌≡◌, ℕ, inl, inr, Bool, true, false, ◌&&◌, ◌||◌, if◌then◌else◌, List, [], ◌∷◌, ◌++◌, flat_map, Option, Some, None, refl, sym, ap, ◌∙◌, subst, true≢false}
+use Rattle.std.proofs.Common.{◌≡◌, inl, inr, Bool, true, false, ◌&&◌, ◌||◌, if◌then◌else◌, List, [], ◌∷◌, ◌++◌, flat_map, Option, Some, None, refl, sym, ap, ◌∙◌, subst, true≢false}
 use Rattle.std.specs.Prelude.{is_some}
-use Rattle.som_model.specs.declared.key.ClassKey.{ClassKey}
 use Rattle.som_model.specs.declared.key.MethodRef.{MethodRef}
 use Rattle.som_model.specs.declared.key.ValueType.{ValueType}
 use Rattle.som_model.specs.declared.key.ValueType.TheVariants as types
@@ -11,7 +10,7 @@ use Rattle.som_model.specs.declared.class.Sig.{Sig}
 use Rattle.som_model.specs.declared.class.Variable.{Variable}
 use Rattle.som_model.specs.Lists.{Mem, every}
 use Rattle.som_model.specs.Keys.{same_key}
-use Rattle.som_model.specs.Class.{Class, entry_of, introduced_sig}
+use Rattle.som_model.specs.Class.{Class, introduced_sig}
 use Rattle.som_model.specs.Kernel.{kernel, som_object, som_class}
 use Rattle.som_model.specs.Classes.{class_at}
 use Rattle.som_model.specs.Owner.{entry_at, sig_of}

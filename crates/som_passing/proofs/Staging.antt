@@ -14,7 +14,7 @@ use Rattle.som_values.specs.Shown.{key_of}
 use Rattle.som_task.specs.declared.call.Stage.TheVariants as stages
 use Rattle.som_task.specs.Settings.{Linked}
 use Rattle.som_task.specs.Standing.{bodies_left}
-use Rattle.som_task.proofs.Stages.{after_last, after_next, before_next, before_past}
+use Rattle.som_task.proofs.Stages.{after_next, before_next, before_past}
 use Rattle.som_runtime.specs.declared.body.BodyView.{BodyView}
 use Rattle.som_runtime.specs.Asked.{held_shown}
 use Rattle.som_passing.specs.declared.chosen.Role.{Role}

@@ -87,11 +87,7 @@ fn method_body<'a, R: Runtime, L: Ledger>(
 }
 
 // What is left after the method's body: nothing, or the hooks up to the last that has a body for after.
-fn rest_after<R: Runtime, L: Ledger>(
-    runtime: &R,
-    hooks: &[ClassNo],
-    steps: &mut Steps<L>,
-) -> Stage
+fn rest_after<R: Runtime, L: Ledger>(runtime: &R, hooks: &[ClassNo], steps: &mut Steps<L>) -> Stage
     requires { All (IsHook (R.linked runtime.now) (R.made runtime.now)) hooks.now }
     ensures rest { (x : ClassKey) (q : Request) → AreHooks (R.linked runtime.now) x q hooks.now → IsRest (R.linked runtime.now) x q result }
     ensures cost { hooks.now ≡ [] → steps.new ≡ steps.old }

@@ -10,11 +10,7 @@ use som_tables::ClassNo;
 use som_values::{Reference, class_of};
 
 /// The class of an object that isn't freed.
-pub(crate) fn live_class<R: Runtime>(
-    runtime: &R,
-    objects: &ObjectStore,
-    me: Reference,
-) -> ClassNo
+pub(crate) fn live_class<R: Runtime>(runtime: &R, objects: &ObjectStore, me: Reference) -> ClassNo
     requires me { HasOwner (R.linked runtime.now) (R.made runtime.now) objects.now me }
     requires live { IsLive objects.now me }
     ensures means { (xs : List ℕ) (h : Heap) → Holds (showing (R.linked runtime.now).keys xs) objects.now h → IsSeenRef (showing (R.linked runtime.now).keys xs) me

@@ -11,10 +11,9 @@ mod passed;
 mod tests;
 mod tokens;
 
-use classes::live_class;
-
 pub use choosing::next;
 pub use chosen::{Chosen, Role};
+use classes::live_class;
 pub use entered::enter;
 pub use laws::tests_law;
 pub use passed::{pass_named, pass_offset, pass_parent};

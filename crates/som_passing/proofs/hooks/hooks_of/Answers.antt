@@ -1,4 +1,4 @@
-use Rattle.std.proofs.Common.{◌<◌, ◌≤◌, sym, subst, ap, ◌∙◌, arith}
+use Rattle.std.proofs.Common.{◌<◌, ◌≤◌, sym, subst, arith}
 use Rattle.som_passing.specs.Chosen.{HasHooks}
 use Rattle.som_passing.proofs.Finding.{hooks_none, hooks_kernel, hooks_all}
 use Rattle.som_passing.proofs.hooks.hooks_of.Goals as goal
