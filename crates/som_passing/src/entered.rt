@@ -1,7 +1,7 @@
 ghost use Rattle.som_code.specs.declared.instruction.Instruction.{Instruction};
 ghost use Rattle.som_model.specs.State.{Heap};
 ghost use Rattle.som_passing.specs.Entered.{Enters, IsReady};
-ghost use Rattle.som_passing.specs.Named.{IsAsked, IsOnLive, Owner, setting};
+ghost use Rattle.som_passing.specs.Named.{IsAsked, IsMadeClass, IsOnLive, Owner, setting};
 ghost use Rattle.som_passing.specs.Tests.{call_stands};
 ghost use Rattle.som_runtime.specs.Holding.{IsUsableRef};
 ghost use Rattle.som_task.specs.Standing.{call_shown};
@@ -29,6 +29,7 @@ pub fn enter<R: Runtime>(
     ensures enters { (xs : List ℕ) (cs : List (List Instruction)) (h : Heap) → Holds (showing (R.linked runtime.now).keys xs) objects.now h → IsSeenRef (showing (R.linked runtime.now).keys xs) call.me
         → Enters (setting (R.linked runtime.now) xs cs) h levels call result }
     ensures left { IfOk result (λ left. (left.call ≡ call) × (left.stage ≡ stages.Before 0) × (left.levels + 1 ≡ levels)) }
+    ensures class { IfOk result (λ left. IsMadeClass (R.linked runtime.now) (R.made runtime.now) left.class) }
     ensures ready { (t : Owner (R.linked runtime.now) (R.made runtime.now) objects.now) (cs : List (List Instruction)) → IsUsableRef (R.linked runtime.now) (R.made runtime.now) t.serials objects.now call.me
         → call_stands (R.linked runtime.now).world (call_shown (setting (R.linked runtime.now) t.serials cs) call) (call_shown (setting (R.linked runtime.now) t.serials cs) call).parent t.heap ≡ true
         → IfOk result (λ left. IsReady (R.linked runtime.now) (R.made runtime.now) left) }
