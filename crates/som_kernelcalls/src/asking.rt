@@ -1,0 +1,78 @@
+ghost use Rattle.som_classmgr.specs.Linked.{IsMadeIn};
+ghost use Rattle.som_meta.specs.Numbering.{IsNumbered};
+ghost use Rattle.std.specs.Prelude.{◌≡◌, ◌<◌, IfOk};
+
+use crate::fixtures::{Case, linked};
+use som_classmgr::{BodyView, Kernel, Linked};
+use som_model::{ClassKey, Module, NoMemory, Text};
+use som_tables::{ClassNo, Steps};
+use std::alloc::Global;
+use std::sync::ledger::{Blank, Ledger};
+use std::test::Fail;
+
+/// Makes what is needed for the class of a number, where there is one.
+pub fn reach(alloc: Global, kernel: &mut Kernel<Linked>, number: u32) -> Result<(), NoMemory> {
+    if number < kernel.classes().count() {
+        kernel.reach(alloc, ClassNo::new(number))
+    } else {
+        Ok(())
+    }
+}
+
+/// The kernel of a case, with all its classes made.
+pub fn made_whole(alloc: Global, case: &Case) -> Result<Kernel<Linked>, Fail> {
+    let mut kernel = linked(alloc, case)?;
+    for number in 0..kernel.classes().count() {
+        reach(alloc, &mut kernel, number)?;
+    }
+    Ok(kernel)
+}
+
+/// The class of a key, which is made.
+pub fn class_of(kernel: &Kernel<Linked>, key: &ClassKey) -> Result<ClassNo, Fail>
+    ensures made { IfOk result (IsMadeIn kernel.now) }
+    ensures numbered { IfOk result (IsNumbered kernel.now.classes) }
+{
+    let Some(class) = kernel.class_of(key) else {
+        return Err(Fail::from("a class without a number"));
+    };
+    if kernel.is_made(class) {
+        Ok(class)
+    } else {
+        Err(Fail::from("a class that isn't made"))
+    }
+}
+
+/// The library's class of a name, which is made.
+pub fn class_named(alloc: Global, kernel: &Kernel<Linked>, name: &[u8]) -> Result<ClassNo, Fail>
+    ensures made { IfOk result (IsMadeIn kernel.now) }
+    ensures numbered { IfOk result (IsNumbered kernel.now.classes) }
+{
+    let name = Text::from_slice(alloc, name)?;
+    let module = Module::Library;
+    class_of(kernel, &ClassKey::Named { module, name })
+}
+
+/// The body that a class has for the method that a name means in it.
+pub fn body_named<'a, L: Ledger>(
+    kernel: &'a Kernel<Linked>,
+    class: ClassNo,
+    name: &Text,
+    blank: Blank,
+) -> Result<BodyView<'a>, Fail>
+    requires class { IsMadeIn kernel.now class }
+    requires numbered { IsNumbered kernel.now.classes class }
+    requires name { blank.name ≡ L.name }
+    requires parts { blank.parts ≡ L.parts }
+    requires some { 0 < blank.parts }
+{
+    let mut steps: Steps<L> = Steps::new(blank);
+    let Some(method) = kernel.find(class, name, &mut steps) else {
+        return Err(Fail::from("a name that means no method"));
+    };
+    if !kernel.is_a(class, method.class()) {
+        return Err(Fail::from("a method of no ancestor"));
+    }
+    let body = kernel.resolve(class, method, &mut steps);
+    Ok(kernel.body(body))
+}
