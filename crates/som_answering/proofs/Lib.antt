@@ -1,0 +1,3 @@
+mod Casting
+mod Going
+mod Naming
