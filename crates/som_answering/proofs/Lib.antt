@@ -1,3 +1,7 @@
+mod Arguments
 mod Casting
 mod Going
+mod Growing
 mod Naming
+mod Passing
+mod Untold

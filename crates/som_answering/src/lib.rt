@@ -1,7 +1,10 @@
 //! Values that come to what waits for them, and the instructions that call.
 #![tactic(auto)]
 
+mod calls;
 mod classes;
+mod operands;
+mod tested;
 mod values;
 
 pub use values::{to_body, to_object};

@@ -1,0 +1,55 @@
+ghost use Rattle.som_answering.specs.Calling.{ComesTo, HasPushed, next_of};
+ghost use Rattle.som_code.specs.declared.instruction.Instruction.TheVariants as ops;
+ghost use Rattle.som_model.specs.declared.key.MethodRef.{MethodRef};
+ghost use Rattle.som_moves.specs.Scene.{scene};
+ghost use Rattle.som_moves.specs.declared.stop.Stop.{Stop as Stopping};
+ghost use Rattle.som_moves.specs.declared.stop.Stop.TheVariants as stops;
+ghost use Rattle.som_passing.specs.Named.{Owner};
+ghost use Rattle.som_runtime.specs.Holding.{IsUsable};
+ghost use Rattle.som_task.specs.declared.task.Task.{Task};
+ghost use Rattle.std.specs.List.{All};
+ghost use Rattle.std.specs.Prelude.{◌≡◌, ◌<◌, ◌+◌, ◌^◌, ◌∷◌, [], ℕ, Err, OnOk, Some, true};
+
+use crate::operands::take_call;
+use crate::tested::test_offset;
+use som_moves::Stop;
+use som_objects::ObjectStore;
+use som_runtime::Runtime;
+use som_tables::MToken;
+use som_task::{Body, Frames, Now, Waiting};
+
+/// A call by reference: the arguments are on top, and below them is the receiver. The body waits for its value.
+pub(crate) fn offset_call<R: Runtime>(
+    runtime: &R,
+    objects: &ObjectStore,
+    frames: &mut Frames,
+    mut body: Body,
+    method: MToken,
+    count: usize,
+) -> Result<Now, Stop>
+    requires room { body.at + 1 < 2 ^ 64 }
+    requires token { (R.linked runtime.now).is_token method ≡ true }
+    requires owner { (t : Owner (R.linked runtime.now) (R.made runtime.now) objects.now) × All (IsUsable (R.linked runtime.now) (R.made runtime.now) t.serials objects.now) body.operands.items }
+    ensures comes { (t : Task) (f : ℕ) (r : MethodRef) → t.frames ≡ frames.old → (R.linked runtime.now).world.owner r ≡ (R.linked runtime.now).method method
+        → next_of (scene (R.linked runtime.now) (R.known runtime.now) (R.program runtime.now) (R.made runtime.now) objects.now t f) body ≡ Some (ops.OffsetCall r count)
+        → ComesTo (scene (R.linked runtime.now) (R.known runtime.now) (R.program runtime.now) (R.made runtime.now) objects.now t f)
+            (scene (R.linked runtime.now) (R.known runtime.now) (R.program runtime.now) (R.made runtime.now) objects.now (record t { frames = frames.new }) f) body result [] }
+{
+    let (on, args) = take_call(&mut body, count)?;
+    let call = test_offset(runtime, objects, body.place, method, &on, args)?;
+    let levels = body.levels;
+    wait(frames, Waiting::Call(body))?;
+    Ok(Now::Calling { levels, call })
+}
+
+/// One more waits, above the others.
+pub(crate) fn wait(frames: &mut Frames, waiting: Waiting) -> Result<(), Stop>
+    ensures items { OnOk result (HasPushed frames.old frames.new (waiting ∷ [])) }
+    ensures err { (e : Stopping) → result ≡ Err e → e ≡ stops.NoMemory }
+{
+    match frames.waiting.push(waiting) {
+        Ok(()) => Ok(()),
+        Err(_) => Err(Stop::NoMemory),
+    }
+}
+

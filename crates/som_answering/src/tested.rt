@@ -1,0 +1,58 @@
+ghost use Rattle.som_answering.specs.Calling.{PassesIn, stop_at};
+ghost use Rattle.som_code.specs.declared.instruction.Instruction.{Instruction};
+ghost use Rattle.som_frames.specs.Passed.{passes_offset};
+ghost use Rattle.som_model.specs.State.{Heap};
+ghost use Rattle.som_model.specs.declared.key.MethodRef.{MethodRef};
+ghost use Rattle.som_passing.specs.Named.{HaveOwner, IsUsableCall, setting};
+ghost use Rattle.som_runtime.specs.Holding.{IsUsable};
+ghost use Rattle.som_task.specs.Own.{IsOwnPlace};
+ghost use Rattle.som_task.specs.Standing.{place_shown};
+ghost use Rattle.som_telling.specs.Events.{manner_of};
+ghost use Rattle.som_telling.specs.declared.manner.Manner.TheVariants as manners;
+ghost use Rattle.som_values.specs.Shown.{IsSeen, all_shown, shown, showing};
+ghost use Rattle.som_values.specs.Stored.{Holds};
+ghost use Rattle.std.specs.List.{All};
+ghost use Rattle.std.specs.Prelude.{◌≡◌, ℕ, IfOk, List, true};
+
+use som_moves::Stop;
+use som_objects::{Cell, ObjectStore};
+use som_passing::pass_offset;
+use som_runtime::Runtime;
+use som_tables::MToken;
+use som_task::Call;
+use som_telling::{Manner, Place};
+use som_values::Stopped;
+
+/// The tests of a call by reference, in this place.
+pub(crate) fn test_offset<R: Runtime>(
+    runtime: &R,
+    objects: &ObjectStore,
+    from: Place,
+    method: MToken,
+    on: &Cell,
+    args: Vec<Cell>,
+) -> Result<Call, Stop>
+    requires { HaveOwner (R.linked runtime.now) (R.made runtime.now) objects.now on.now args.items }
+    ensures passes { (xs : List ℕ) (cs : List (List Instruction)) (h : Heap) (r : MethodRef) → (R.linked runtime.now).world.owner r ≡ (R.linked runtime.now).method method
+        → Holds (showing (R.linked runtime.now).keys xs) objects.now h → IsSeen (showing (R.linked runtime.now).keys xs) on.now
+        → PassesIn (setting (R.linked runtime.now) xs cs) h from result (λ next. passes_offset (R.linked runtime.now).world next (place_shown (setting (R.linked runtime.now) xs cs) from) (manner_of manners.Offset) r
+        (shown (showing (R.linked runtime.now).keys xs) on.now) (all_shown (showing (R.linked runtime.now).keys xs) args.items)) }
+    ensures usable { (xs : List ℕ) (cs : List (List Instruction)) → IsOwnPlace (setting (R.linked runtime.now) xs cs) objects.now from → (R.linked runtime.now).is_token method ≡ true
+        → IsUsable (R.linked runtime.now) (R.made runtime.now) xs objects.now on.now → All (IsUsable (R.linked runtime.now) (R.made runtime.now) xs objects.now) args.items
+        → IfOk result (IsUsableCall (setting (R.linked runtime.now) xs cs) (R.made runtime.now) objects.now) }
+{
+    match pass_offset(runtime, objects, from, Manner::Offset, method, on, args) {
+        Ok(call) => Ok(call),
+        Err(stopped) => Err(stop(from, stopped)),
+    }
+}
+
+// Why a task stops, where a call isn't made in this place.
+fn stop(at: Place, stopped: Stopped) -> Stop
+    ensures { result ≡ stop_at at stopped }
+{
+    match stopped {
+        Stopped::Fault(fault) => Stop::Fault { fault, at },
+        Stopped::NoMemory => Stop::NoMemory,
+    }
+}
