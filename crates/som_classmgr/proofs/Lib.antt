@@ -8,3 +8,4 @@ pub mod Above
 pub mod Reached
 pub mod Answering
 pub mod Pairing
+pub mod Asking

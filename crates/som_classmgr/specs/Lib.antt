@@ -5,3 +5,4 @@ pub mod Entries
 pub mod Kept
 pub mod Shown
 pub mod Reached
+pub mod Asking

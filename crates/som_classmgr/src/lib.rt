@@ -2,6 +2,7 @@
 //! class is made when it is first needed.
 #![tactic(auto)]
 
+mod asked;
 mod body;
 mod copies;
 mod data;
@@ -15,6 +16,7 @@ mod methods;
 mod names;
 mod queries;
 mod rows;
+mod runtime;
 mod search;
 
 pub use body::BodyNo;
