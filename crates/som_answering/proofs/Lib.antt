@@ -3,5 +3,7 @@ mod Casting
 mod Going
 mod Growing
 mod Naming
+mod Offset
 mod Passing
+mod Pushing
 mod Untold

@@ -3,7 +3,7 @@ ghost use Rattle.som_code.specs.declared.instruction.Instruction.{Instruction};
 ghost use Rattle.som_frames.specs.Passed.{passes_offset};
 ghost use Rattle.som_model.specs.State.{Heap};
 ghost use Rattle.som_model.specs.declared.key.MethodRef.{MethodRef};
-ghost use Rattle.som_passing.specs.Named.{HaveOwner, IsUsableCall, setting};
+ghost use Rattle.som_passing.specs.Named.{HaveOwner, IsOnLive, IsUsableCall, setting};
 ghost use Rattle.som_runtime.specs.Holding.{IsUsable};
 ghost use Rattle.som_task.specs.Own.{IsOwnPlace};
 ghost use Rattle.som_task.specs.Standing.{place_shown};
@@ -40,10 +40,12 @@ pub(crate) fn test_offset<R: Runtime>(
     ensures usable { (xs : List ℕ) (cs : List (List Instruction)) → IsOwnPlace (setting (R.linked runtime.now) xs cs) objects.now from → (R.linked runtime.now).is_token method ≡ true
         → IsUsable (R.linked runtime.now) (R.made runtime.now) xs objects.now on.now → All (IsUsable (R.linked runtime.now) (R.made runtime.now) xs objects.now) args.items
         → IfOk result (IsUsableCall (setting (R.linked runtime.now) xs cs) (R.made runtime.now) objects.now) }
+    ensures live { IfOk result (λ call. IsOnLive objects.now call.me call.parent) }
 {
+    let at = from;
     match pass_offset(runtime, objects, from, Manner::Offset, method, on, args) {
         Ok(call) => Ok(call),
-        Err(stopped) => Err(stop(from, stopped)),
+        Err(stopped) => Err(stop(at, stopped)),
     }
 }
 
