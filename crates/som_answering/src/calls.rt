@@ -11,12 +11,15 @@ ghost use Rattle.std.specs.List.{All};
 ghost use Rattle.std.specs.Prelude.{◌≡◌, ◌<◌, ◌+◌, ◌^◌, ◌∷◌, [], ℕ, Err, OnOk, Some, true};
 
 use crate::operands::take_call;
-use crate::tested::test_offset;
+use crate::tested::{test_named, test_offset};
+use som_model::{Text, ValueType};
 use som_moves::Stop;
 use som_objects::ObjectStore;
 use som_runtime::Runtime;
-use som_tables::MToken;
+use som_tables::{MToken, Steps};
 use som_task::{Body, Frames, Now, Waiting};
+use som_telling::Manner;
+use std::sync::ledger::Ledger;
 
 /// A call by reference: the arguments are on top, and below them is the receiver. The body waits for its value.
 pub(crate) fn offset_call<R: Runtime>(
@@ -37,6 +40,31 @@ pub(crate) fn offset_call<R: Runtime>(
 {
     let (on, args) = take_call(&mut body, count)?;
     let call = test_offset(runtime, objects, body.place, method, &on, args)?;
+    let levels = body.levels;
+    wait(frames, Waiting::Call(body))?;
+    Ok(Now::Calling { levels, call })
+}
+
+/// A call by name: the arguments are on top, and below them is the receiver. The body waits for its value.
+pub(crate) fn named_call<R: Runtime, L: Ledger>(
+    runtime: &R,
+    objects: &ObjectStore,
+    frames: &mut Frames,
+    mut body: Body,
+    wanted: &ValueType,
+    name: &Text,
+    count: usize,
+    steps: &mut Steps<L>,
+) -> Result<Now, Stop>
+    requires room { body.at + 1 < 2 ^ 64 }
+    requires owner { (t : Owner (R.linked runtime.now) (R.made runtime.now) objects.now) × All (IsUsable (R.linked runtime.now) (R.made runtime.now) t.serials objects.now) body.operands.items }
+    ensures comes { (t : Task) (f : ℕ) → t.frames ≡ frames.old
+        → next_of (scene (R.linked runtime.now) (R.known runtime.now) (R.program runtime.now) (R.made runtime.now) objects.now t f) body ≡ Some (ops.Lookup wanted.now name.now count)
+        → ComesTo (scene (R.linked runtime.now) (R.known runtime.now) (R.program runtime.now) (R.made runtime.now) objects.now t f)
+            (scene (R.linked runtime.now) (R.known runtime.now) (R.program runtime.now) (R.made runtime.now) objects.now (record t { frames = frames.new }) f) body result [] }
+{
+    let (on, args) = take_call(&mut body, count)?;
+    let call = test_named(runtime, objects, body.place, Manner::Lookup, wanted, name, &on, args, steps)?;
     let levels = body.levels;
     wait(frames, Waiting::Call(body))?;
     Ok(Now::Calling { levels, call })

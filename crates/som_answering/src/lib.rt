@@ -7,4 +7,4 @@ mod operands;
 mod tested;
 mod values;
 
-pub use values::{to_body, to_object};
+pub use values::{to_body, to_freed, to_object};

@@ -1,6 +1,6 @@
 ghost use Rattle.som_answering.specs.Calling.{PassesIn, stop_at};
 ghost use Rattle.som_code.specs.declared.instruction.Instruction.{Instruction};
-ghost use Rattle.som_frames.specs.Passed.{passes_offset};
+ghost use Rattle.som_frames.specs.Passed.{passes_named, passes_offset};
 ghost use Rattle.som_model.specs.State.{Heap};
 ghost use Rattle.som_model.specs.declared.key.MethodRef.{MethodRef};
 ghost use Rattle.som_passing.specs.Named.{HaveOwner, IsOnLive, IsUsableCall, setting};
@@ -14,14 +14,16 @@ ghost use Rattle.som_values.specs.Stored.{Holds};
 ghost use Rattle.std.specs.List.{All};
 ghost use Rattle.std.specs.Prelude.{◌≡◌, ℕ, IfOk, List, true};
 
+use som_model::{Text, ValueType};
 use som_moves::Stop;
 use som_objects::{Cell, ObjectStore};
-use som_passing::pass_offset;
+use som_passing::{pass_named, pass_offset};
 use som_runtime::Runtime;
-use som_tables::MToken;
+use som_tables::{MToken, Steps};
 use som_task::Call;
 use som_telling::{Manner, Place};
 use som_values::Stopped;
+use std::sync::ledger::Ledger;
 
 /// The tests of a call by reference, in this place.
 pub(crate) fn test_offset<R: Runtime>(
@@ -49,8 +51,37 @@ pub(crate) fn test_offset<R: Runtime>(
     }
 }
 
-// Why a task stops, where a call isn't made in this place.
-fn stop(at: Place, stopped: Stopped) -> Stop
+/// The tests of a call by name, in this place.
+pub(crate) fn test_named<R: Runtime, L: Ledger>(
+    runtime: &R,
+    objects: &ObjectStore,
+    from: Place,
+    manner: Manner,
+    wanted: &ValueType,
+    name: &Text,
+    on: &Cell,
+    args: Vec<Cell>,
+    steps: &mut Steps<L>,
+) -> Result<Call, Stop>
+    requires { HaveOwner (R.linked runtime.now) (R.made runtime.now) objects.now on.now args.items }
+    ensures passes { (xs : List ℕ) (cs : List (List Instruction)) (h : Heap)
+        → Holds (showing (R.linked runtime.now).keys xs) objects.now h → IsSeen (showing (R.linked runtime.now).keys xs) on.now → All (IsSeen (showing (R.linked runtime.now).keys xs)) args.items
+        → PassesIn (setting (R.linked runtime.now) xs cs) h from result (λ next. passes_named (R.linked runtime.now).world next (place_shown (setting (R.linked runtime.now) xs cs) from) (manner_of manner) wanted.now name.now
+        (shown (showing (R.linked runtime.now).keys xs) on.now) (all_shown (showing (R.linked runtime.now).keys xs) args.items)) }
+    ensures usable { (xs : List ℕ) (cs : List (List Instruction)) → IsOwnPlace (setting (R.linked runtime.now) xs cs) objects.now from
+        → IsUsable (R.linked runtime.now) (R.made runtime.now) xs objects.now on.now → All (IsUsable (R.linked runtime.now) (R.made runtime.now) xs objects.now) args.items
+        → IfOk result (IsUsableCall (setting (R.linked runtime.now) xs cs) (R.made runtime.now) objects.now) }
+    ensures live { IfOk result (λ call. IsOnLive objects.now call.me call.parent) }
+{
+    let at = from;
+    match pass_named(runtime, objects, from, manner, wanted, name, on, args, steps) {
+        Ok(call) => Ok(call),
+        Err(stopped) => Err(stop(at, stopped)),
+    }
+}
+
+/// Why a task stops, where a value isn't answered in this place.
+pub(crate) fn stop(at: Place, stopped: Stopped) -> Stop
     ensures { result ≡ stop_at at stopped }
 {
     match stopped {
