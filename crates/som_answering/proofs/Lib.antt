@@ -1,9 +1,11 @@
 mod Arguments
 mod Casting
+mod Freeing
 mod Going
 mod Growing
 mod Naming
 mod Offset
+mod Parents
 mod Passing
 mod Pushing
 mod Untold

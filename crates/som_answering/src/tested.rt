@@ -1,28 +1,31 @@
 ghost use Rattle.som_answering.specs.Calling.{PassesIn, stop_at};
 ghost use Rattle.som_code.specs.declared.instruction.Instruction.{Instruction};
-ghost use Rattle.som_frames.specs.Passed.{passes_named, passes_offset};
+ghost use Rattle.som_frames.specs.Passed.{passes_named, passes_offset, passes_parent};
 ghost use Rattle.som_model.specs.State.{Heap};
+ghost use Rattle.som_model.specs.declared.key.ClassKey.{ClassKey};
 ghost use Rattle.som_model.specs.declared.key.MethodRef.{MethodRef};
-ghost use Rattle.som_passing.specs.Named.{HaveOwner, IsOnLive, IsUsableCall, setting};
-ghost use Rattle.som_runtime.specs.Holding.{IsUsable};
+ghost use Rattle.som_objects.specs.Objects.{Objects};
+ghost use Rattle.som_passing.specs.Named.{HaveOwner, IsMadeClass, IsOnLive, IsUsableCall, setting};
+ghost use Rattle.som_runtime.specs.Holding.{IsUsable, IsUsableMe};
 ghost use Rattle.som_task.specs.Own.{IsOwnPlace};
-ghost use Rattle.som_task.specs.Standing.{place_shown};
+ghost use Rattle.som_task.specs.Settings.{Linked};
+ghost use Rattle.som_task.specs.Standing.{here_shown, place_shown};
 ghost use Rattle.som_telling.specs.Events.{manner_of};
 ghost use Rattle.som_telling.specs.declared.manner.Manner.TheVariants as manners;
-ghost use Rattle.som_values.specs.Shown.{IsSeen, all_shown, shown, showing};
+ghost use Rattle.som_values.specs.Shown.{IsSeen, all_shown, key_of, shown, showing};
 ghost use Rattle.som_values.specs.Stored.{Holds};
 ghost use Rattle.std.specs.List.{All};
-ghost use Rattle.std.specs.Prelude.{◌≡◌, ℕ, IfOk, List, true};
+ghost use Rattle.std.specs.Prelude.{◌≡◌, ℕ, Bool, IfOk, List, true};
 
 use som_model::{Text, ValueType};
 use som_moves::Stop;
 use som_objects::{Cell, ObjectStore};
-use som_passing::{pass_named, pass_offset};
+use som_passing::{pass_named, pass_offset, pass_parent};
 use som_runtime::Runtime;
-use som_tables::{MToken, Steps};
+use som_tables::{ClassNo, MToken, Steps};
 use som_task::Call;
 use som_telling::{Manner, Place};
-use som_values::Stopped;
+use som_values::{Reference, Stopped};
 use std::sync::ledger::Ledger;
 
 /// The tests of a call by reference, in this place.
@@ -75,6 +78,27 @@ pub(crate) fn test_named<R: Runtime, L: Ledger>(
 {
     let at = from;
     match pass_named(runtime, objects, from, manner, wanted, name, on, args, steps) {
+        Ok(call) => Ok(call),
+        Err(stopped) => Err(stop(at, stopped)),
+    }
+}
+
+/// The test of a parent call, in this place.
+pub(crate) fn test_parent(
+    from: Place,
+    me: Option<Reference>,
+    parent: ClassNo,
+    method: MToken,
+    args: Vec<Cell>,
+) -> Result<Call, Stop>
+    ensures passes { (l : Linked) (xs : List ℕ) (cs : List (List Instruction)) (h : Heap) (r : MethodRef) → l.world.owner r ≡ l.method method
+        → PassesIn (setting l xs cs) h from result (λ next. passes_parent l.world next (here_shown (setting l xs cs) me from) (key_of l.keys parent) r (all_shown (showing l.keys xs) args.items)) }
+    ensures usable { (l : Linked) (made : ClassKey → Bool) (xs : List ℕ) (cs : List (List Instruction)) (os : Objects) → IsOwnPlace (setting l xs cs) os from → IsMadeClass l made parent → l.is_token method ≡ true
+        → IsUsableMe l made xs os me → All (IsUsable l made xs os) args.items → IfOk result (IsUsableCall (setting l xs cs) made os) }
+    ensures live { (os : Objects) → IfOk result (λ call. IsOnLive os call.me call.parent) }
+{
+    let at = from;
+    match pass_parent(from, me, parent, method, args) {
         Ok(call) => Ok(call),
         Err(stopped) => Err(stop(at, stopped)),
     }
