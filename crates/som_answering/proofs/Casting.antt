@@ -1,10 +1,10 @@
 -- An object that comes to the `new` that asked for it.
-use Rattle.std.proofs.Common.{◌≡◌, ℕ, Bool, true, List, [], ◌∷◌, ◌++◌, Option, Some, None, Result, Ok, Err, refl, sym, ap, subst, ◌∙◌, append-nil}
+use Rattle.std.proofs.Common.{◌≡◌, ℕ, Bool, List, Option, Result, Ok, Err, sym, ap, subst, ◌∙◌, append-nil}
 use Rattle.som_model.specs.declared.key.ClassKey.{ClassKey}
 use Rattle.som_model.specs.declared.program.Fault.{Fault}
 use Rattle.som_model.specs.World.{World}
-use Rattle.som_model.specs.State.{Heap, State, Tried, Value}
-use Rattle.som_model.specs.Runs.{Goes, Ends, Faulted, follow}
+use Rattle.som_model.specs.State.{Heap, Tried, Value}
+use Rattle.som_model.specs.Runs.{follow}
 use Rattle.som_model.specs.Acts.{tried}
 use Rattle.som_model.specs.Values.{cast}
 use Rattle.som_frames.specs.Frames as frames

@@ -1,12 +1,11 @@
 -- An object that is freed after somUninit on it.
-use Rattle.std.proofs.Common.{◌≡◌, ◌≤◌, ◌<◌, ◌==◌, ℕ, suc, Bool, true, false, if◌then◌else◌, List, [], ◌∷◌, ◌++◌, length, Option, Result, Ok, Err, refl, sym, ap, subst, ◌∙◌, append-nil, arith}
-use Rattle.std.specs.List.{All}
+use Rattle.std.proofs.Common.{◌≡◌, ◌<◌, ◌==◌, ℕ, suc, Bool, true, false, if◌then◌else◌, List, [], ◌∷◌, length, Result, Ok, Err, refl, sym, ap, subst, append-nil, arith}
 use Rattle.som_model.specs.declared.key.ClassKey.{ClassKey}
 use Rattle.som_model.specs.declared.program.Fault.{Fault}
 use Rattle.som_model.specs.declared.program.Fault.TheVariants as faults
 use Rattle.som_model.specs.declared.syntax.Block.{Block}
 use Rattle.som_model.specs.State.{Heap, Nil, Object, Ref, State, Tried, freed, is_live}
-use Rattle.som_model.specs.Runs.{Goes, Ran, follow}
+use Rattle.som_model.specs.Runs.{Ran, follow}
 use Rattle.som_code.specs.Machine.{After}
 use Rattle.som_model.specs.Acts.{become, freed_stays, tried, ◌>>◌}
 use Rattle.som_model.proofs.KeyLaws.{exact_numbers}
@@ -34,8 +33,8 @@ use Rattle.som_instances.specs.Making.{ended}
 use Rattle.som_moves.specs.declared.stop.Stop.{Stop}
 use Rattle.som_moves.specs.declared.stop.Stop.TheVariants as stops
 use Rattle.som_moves.specs.Scene.{IsFineWaiting, Scene, scene, setting_of}
-use Rattle.som_moves.specs.Moving.{Failed, Keeps, Moved}
-use Rattle.som_answering.specs.Answering.{Meets, Resumes, answer_to}
+use Rattle.som_moves.specs.Moving.{Failed, Keeps}
+use Rattle.som_answering.specs.Answering.{Resumes, answer_to}
 use Rattle.som_answering.specs.Calling.{stop_at}
 use Rattle.som_answering.proofs.Growing.{around_later, none}
 use Rattle.som_answering.proofs.Untold.{at_state}
@@ -79,7 +78,7 @@ module _ (l : Linked) (kn : Numbering) (main : Block) (made : ClassKey → Bool)
         events = sym (append-nil s.events);
         fuel = fuel;
         around = around_later l kn main made made os os' t t.frames f f (λ k e. e) known s.heap (freed self s.heap) meets.around.holding.heap.holds.many (freed_stays self s.heap) ws [] (sym (append-nil t.frames.waiting.items)) meets.around
-          (subst (Holding l made t.serials os' t.statics.items) (sym so.1) became.2) (none (IsOwnWaiting set os')) tt (none (IsFineWaiting after (freed self s.heap)));
+            (subst (Holding l made t.serials os' t.statics.items) (sym so.1) became.2) (none (IsOwnWaiting set os')) tt (none (IsFineWaiting after (freed self s.heap)));
         next_is = record { shown = refl; own = (tt, tt); made_of = tt; fine = tt };
       }
 

@@ -1,5 +1,6 @@
 mod Arguments
 mod Casting
+mod Objects
 mod Freeing
 mod Going
 mod Growing

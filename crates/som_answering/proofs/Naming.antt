@@ -1,9 +1,9 @@
 -- What the codes of a task name, among the classes of a kernel.
-use Rattle.std.proofs.Common.{◌≡◌, ◌<◌, ℕ, zero, suc, Bool, true, List, [], ◌∷◌, ◌++◌, length, get_or, slice_get, Option, Some, None, refl, sym, ap, subst, ◌∙◌, arith}
+use Rattle.std.proofs.Common.{◌≡◌, ◌<◌, ℕ, zero, suc, Bool, List, [], ◌∷◌, length, slice_get, Some, ap, arith}
 use Rattle.std.proofs.lemmas.Option.{none-some}
 use Rattle.som_model.specs.declared.key.ClassKey.{ClassKey}
 use Rattle.som_model.specs.declared.syntax.Block.{Block}
-use Rattle.som_model.specs.Kernel.{kernel, som_object}
+use Rattle.som_model.specs.Kernel.{som_object}
 use Rattle.som_model.specs.World.{World}
 use Rattle.som_code.specs.declared.instruction.Instruction.{Instruction}
 use Rattle.som_code.specs.declared.instruction.Instruction.TheVariants as ops

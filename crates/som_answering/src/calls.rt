@@ -30,7 +30,7 @@ use som_telling::Manner;
 use std::sync::ledger::Ledger;
 
 /// A call by reference: the arguments are on top, and below them is the receiver. The body waits for its value.
-pub(crate) fn offset_call<R: Runtime>(
+pub fn offset_call<R: Runtime>(
     runtime: &R,
     objects: &ObjectStore,
     frames: &mut Frames,
@@ -44,7 +44,7 @@ pub(crate) fn offset_call<R: Runtime>(
     ensures comes { (t : Task) (f : ℕ) (r : MethodRef) → t.frames ≡ frames.old → (R.linked runtime.now).world.owner r ≡ (R.linked runtime.now).method method
         → next_of (scene (R.linked runtime.now) (R.known runtime.now) (R.program runtime.now) (R.made runtime.now) objects.now t f) body ≡ Some (ops.OffsetCall r count)
         → ComesTo (scene (R.linked runtime.now) (R.known runtime.now) (R.program runtime.now) (R.made runtime.now) objects.now t f)
-            (scene (R.linked runtime.now) (R.known runtime.now) (R.program runtime.now) (R.made runtime.now) objects.now (record t { frames = frames.new }) f) body result [] }
+        (scene (R.linked runtime.now) (R.known runtime.now) (R.program runtime.now) (R.made runtime.now) objects.now (record t { frames = frames.new }) f) body result [] }
 {
     let (on, args) = take_call(&mut body, count)?;
     let call = test_offset(runtime, objects, body.place, method, &on, args)?;
@@ -54,7 +54,7 @@ pub(crate) fn offset_call<R: Runtime>(
 }
 
 /// A call by name: the arguments are on top, and below them is the receiver. The body waits for its value.
-pub(crate) fn named_call<R: Runtime, L: Ledger>(
+pub fn named_call<R: Runtime, L: Ledger>(
     runtime: &R,
     objects: &ObjectStore,
     frames: &mut Frames,
@@ -69,17 +69,27 @@ pub(crate) fn named_call<R: Runtime, L: Ledger>(
     ensures comes { (t : Task) (f : ℕ) → t.frames ≡ frames.old
         → next_of (scene (R.linked runtime.now) (R.known runtime.now) (R.program runtime.now) (R.made runtime.now) objects.now t f) body ≡ Some (ops.Lookup wanted.now name.now count)
         → ComesTo (scene (R.linked runtime.now) (R.known runtime.now) (R.program runtime.now) (R.made runtime.now) objects.now t f)
-            (scene (R.linked runtime.now) (R.known runtime.now) (R.program runtime.now) (R.made runtime.now) objects.now (record t { frames = frames.new }) f) body result [] }
+        (scene (R.linked runtime.now) (R.known runtime.now) (R.program runtime.now) (R.made runtime.now) objects.now (record t { frames = frames.new }) f) body result [] }
 {
     let (on, args) = take_call(&mut body, count)?;
-    let call = test_named(runtime, objects, body.place, Manner::Lookup, wanted, name, &on, args, steps)?;
+    let call = test_named(
+        runtime,
+        objects,
+        body.place,
+        Manner::Lookup,
+        wanted,
+        name,
+        &on,
+        args,
+        steps,
+    )?;
     let levels = body.levels;
     wait(frames, Waiting::Call(body))?;
     Ok(Now::Calling { levels, call })
 }
 
 /// A call of a parent's body, on self. The body waits for its value.
-pub(crate) fn parent_call(
+pub fn parent_call(
     frames: &mut Frames,
     mut body: Body,
     parent: ClassNo,
@@ -109,4 +119,3 @@ pub(crate) fn wait(frames: &mut Frames, waiting: Waiting) -> Result<(), Stop>
         Err(_) => Err(Stop::NoMemory),
     }
 }
-

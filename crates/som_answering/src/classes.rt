@@ -18,12 +18,7 @@ use som_tables::ClassNo;
 use som_values::{class_of, referred};
 
 /// The number of the class that a `new` at this place of a code names; that of SOMObject where none stands there.
-pub(crate) fn class_named<R: Runtime>(
-    runtime: &R,
-    codes: &Codes,
-    code: usize,
-    at: usize,
-) -> ClassNo
+pub(crate) fn class_named<R: Runtime>(runtime: &R, codes: &Codes, code: usize, at: usize) -> ClassNo
     requires { AreCodes (R.known runtime.now) (R.program runtime.now) codes.now }
     ensures numbered { IsNumbered (R.keys runtime.now) result }
     ensures key { key_of (R.keys runtime.now) result ≡ class_in (instruction_at (codes_of codes.now) code at) }

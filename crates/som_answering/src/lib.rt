@@ -3,8 +3,11 @@
 
 mod calls;
 mod classes;
+mod creating;
 mod operands;
 mod tested;
 mod values;
 
+pub use calls::{named_call, offset_call, parent_call};
+pub use creating::new_call;
 pub use values::{to_body, to_freed, to_object};

@@ -32,6 +32,14 @@ pub(crate) fn take_parent_call(body: &mut Body, count: usize) -> Result<Vec<Cell
     Ok(args)
 }
 
+/// The body goes on after its instruction.
+pub(crate) fn go_past(body: &mut Body)
+    requires { body.old.at + 1 < 2 ^ 64 }
+    ensures { body.new ≡ record body.old { at = body.old.at + 1 } }
+{
+    body.at += 1;
+}
+
 // Takes so many operands off the top, in order. Where there are fewer, these are all.
 fn take_arguments(operands: &mut Vec<Cell>, count: usize) -> Result<Vec<Cell>, NoMemory>
     ensures args { IfOk result (λ args. args.items ≡ drop (length operands.old.items - count) operands.old.items) }

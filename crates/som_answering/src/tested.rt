@@ -77,7 +77,9 @@ pub(crate) fn test_named<R: Runtime, L: Ledger>(
     ensures live { IfOk result (λ call. IsOnLive objects.now call.me call.parent) }
 {
     let at = from;
-    match pass_named(runtime, objects, from, manner, wanted, name, on, args, steps) {
+    match pass_named(
+        runtime, objects, from, manner, wanted, name, on, args, steps,
+    ) {
         Ok(call) => Ok(call),
         Err(stopped) => Err(stop(at, stopped)),
     }

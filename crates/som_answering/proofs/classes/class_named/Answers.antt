@@ -1,4 +1,4 @@
-use Rattle.std.proofs.Common.{◌≡◌, Some, sym, ap, ◌∙◌}
+use Rattle.std.proofs.Common.{Some, sym, ap, ◌∙◌}
 use Rattle.som_task.specs.Settings.{class_named as class_in}
 use Rattle.som_values.specs.Shown.{key_of}
 use Rattle.som_answering.proofs.Naming.{new_key, root_number}

@@ -1,4 +1,3 @@
-use Rattle.std.proofs.Common.{Ok, Err}
 use Rattle.som_answering.proofs.Freeing.{freed_fails, freed_keeps, freed_resumes}
 use Rattle.som_answering.proofs.values.to_freed.Goals as goal
 
