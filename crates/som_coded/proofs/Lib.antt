@@ -4,3 +4,6 @@ pub mod KernelCalls
 pub mod Known
 pub mod Blocks
 pub mod Proxies
+pub mod Needs
+pub mod Needed
+pub mod Declared

@@ -5,13 +5,14 @@
 ghost use Rattle.som_code.specs.Laid.{lay_body};
 ghost use Rattle.som_code.specs.Sound.{IsSound};
 ghost use Rattle.som_code.specs.declared.instruction.Instruction.TheVariants as ops;
-ghost use Rattle.som_coded.specs.Naming.{AreNaming, HasEntry, kernel_calls};
+ghost use Rattle.som_coded.specs.Having.{AreOfClass, AreOfMain, HasVariable};
+ghost use Rattle.som_coded.specs.Naming.{AreNaming, AreSigned, HasEntry, HasSignature, kernel_calls};
 ghost use Rattle.som_model.specs.Class.{Class};
-ghost use Rattle.som_model.specs.Implementation.{User, held};
+ghost use Rattle.som_model.specs.Implementation.{Set, User, held};
 ghost use Rattle.som_model.specs.Kernel.{kernel};
 ghost use Rattle.som_model.specs.Lists.{Mem};
 ghost use Rattle.som_model.specs.Loads.{Loads, keys_of};
-ghost use Rattle.som_model.specs.Made.{all_roots, blocks_of};
+ghost use Rattle.som_model.specs.Made.{all_roots, blocks_of, blocks_of_class};
 ghost use Rattle.som_model.specs.Owner.{owner};
 ghost use Rattle.som_model.specs.World.{world};
 ghost use Rattle.som_model.specs.declared.key.ClassKey.TheVariants as keys;
@@ -34,6 +35,26 @@ pub fn kernel_calls_law()
         Mem r kernel_calls → HasEntry (kernel ++ cs) r }
     ensures owner { (cs : List Class) (main : Block) → Loads cs main → (r : MethodRef) →
         Mem r kernel_calls → owner (kernel ++ cs) r ≡ r }
+{}
+
+/// Each method that such code calls, and each that a run calls by itself, has a signature.
+pub fn signatures_law()
+    ensures named { (cs : List Class) (main : Block) → Loads cs main → (b : Block) (params : ℕ) →
+        Mem b (blocks_of (kernel ++ cs) main) → AreSigned (world (kernel ++ cs)) (lay_body b params) }
+    ensures kernel { (cs : List Class) (main : Block) → Loads cs main → (r : MethodRef) →
+        Mem r kernel_calls → HasSignature (world (kernel ++ cs)) r }
+{}
+
+/// The code of a class's blocks reads and writes only variables that the class has, and calls only bodies of parents that
+/// it has; a body that writes a variable by itself writes one that its class has; and main's code needs no self.
+pub fn variables_law()
+    ensures class { (cs : List Class) (main : Block) → Loads cs main → (c : Class) (b : Block) (params : ℕ) →
+        Mem c (kernel ++ cs) → Mem b (blocks_of_class c) → AreOfClass (world (kernel ++ cs)) c.key (lay_body b params) }
+    ensures held { (cs : List Class) (main : Block) → Loads cs main → (k : ClassKey) (r : MethodRef) (b : Block) (params : ℕ) →
+        (world (kernel ++ cs)).held k r ≡ Some (User b) → AreOfClass (world (kernel ++ cs)) k (lay_body b params) }
+    ensures writer { (cs : List Class) (main : Block) → Loads cs main → (k : ClassKey) (r : MethodRef) (n : ℕ) →
+        (world (kernel ++ cs)).held k r ≡ Some (Set n) → HasVariable (world (kernel ++ cs)) k n }
+    ensures main { (cs : List Class) (main : Block) → Loads cs main → (params : ℕ) → AreOfMain (lay_body main params) }
 {}
 
 /// A block that a class has as a body of its own is one of the blocks that may run. A run asks the same of its world.

@@ -31,6 +31,7 @@ use Rattle.som_drafts.specs.declared.drafts.Draft.{Draft}
 use Rattle.som_elab.proofs.LimitLaws.{few_parameters, few_parents, few_variables, limits_law}
 use Rattle.som_forms.specs.Code.{ClassFits}
 use Rattle.som_model.specs.declared.limits.TheConstants.{MAX_PARENTS, MAX_VARIABLES}
+use Rattle.som_introducers.specs.Introducers.{AreIntroducers}
 use Rattle.som_elab.specs.declared.contexts.ModuleContext.{ModuleContext}
 use Rattle.som_elab.specs.Contexts.{FewParameters, IsUnlimitedContext, StandAfterOthers, IsModuleContext}
 
@@ -141,11 +142,13 @@ parents_fit m cs ds f i d lt is e =
 -- ---- what is known within the limits
 
 pub within_context : (g : ModuleContext) (ds : List InterfaceDraft) → IsUnlimitedContext g ds → limit_passed ds ≡ None → IsModuleContext g
-within_context g ds b e = record { known = b.known; signatures = b.signatures; few = all_few g.scope.now.module (classes_of g.known.classes.now) ds b.stand e }
+within_context g ds b e = record { known = b.known; signatures = b.signatures; few = all_few g.scope.now.module (classes_of g.known.classes.now) ds b.stand e; introducers = b.introducers }
 
-pub basis_of : (g : ModuleContext) (cs : List Declared) (n : ℕ) (ds : List InterfaceDraft) → IsKnowledge g.known → g.known.classes.now ≡ cs → classes_breach n (classes_of cs) ≡ None → StandAfterOthers g.scope.now.module (classes_of cs) ds → IsUnlimitedContext g ds
-basis_of g cs n ds known same rules stand = record {
+pub basis_of : (g : ModuleContext) (cs : List Declared) (n : ℕ) (ds : List InterfaceDraft) → IsKnowledge g.known → g.known.classes.now ≡ cs → classes_breach n (classes_of cs) ≡ None → StandAfterOthers g.scope.now.module (classes_of cs) ds
+    → AreIntroducers (with_kernel (classes_of cs)) g.introducers.now → IsUnlimitedContext g ds
+basis_of g cs n ds known same rules stand introducers = record {
   known = known;
   signatures = subst (λ (z : List Declared). AllSigsKnown (with_kernel (classes_of z)) (classes_of z)) (sym same) (signatures_known (classes_of cs) n rules);
   stand = subst (λ (z : List Declared). StandAfterOthers g.scope.now.module (classes_of z) ds) (sym same) stand;
+  introducers = subst (λ (z : List Declared). AreIntroducers (with_kernel (classes_of z)) g.introducers.now) (sym same) introducers;
 }

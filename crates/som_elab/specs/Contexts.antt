@@ -17,6 +17,7 @@ use Rattle.som_idl.specs.declared.tree.IdlInterface.{IdlInterface}
 use Rattle.som_body.specs.declared.tree.BodyText.{BodyText}
 use Rattle.som_body.specs.declared.tree.BlockText.{BlockText}
 use Rattle.som_typing.specs.Bodies.{AllSigsKnown}
+use Rattle.som_introducers.specs.Introducers.{AreIntroducers}
 use Rattle.som_typing.specs.Knowing.{IsKnowledge, all_of}
 use Rattle.som_rules.specs.Modules.{classes_of}
 use Rattle.som_sema.specs.declared.types.Refused.{Refused}
@@ -46,11 +47,12 @@ among_in g = among_by g.known g.scope.now
 pub record FewParameters (cs : List Class) : Type 0 where
   pub by : (c : Class) (name : List ℕ) (sig : Sig) (way : Way) → Mem c cs → Mem (entries.Introduced name sig way) c.decl.face.entries → length sig.params ≤ MAX_PARAMETERS
 
--- what is known is known, and the signatures of methods are of known types and within the limit
+-- what is known is known, with the classes that introduce each name, and the signatures of methods are of known types and within the limit
 pub record IsModuleContext (g : ModuleContext) : Type 0 where
   pub known : IsKnowledge g.known
   pub signatures : AllSigsKnown (all_of g.known) (classes_of g.known.classes.now)
   pub few : FewParameters (all_of g.known)
+  pub introducers : AreIntroducers (all_of g.known) g.introducers.now
 
 -- what is wrong with the body of a member of a class, as it is answered
 abbrev pub refused_as : List ℕ → List ℕ → BodyFault → Refused
@@ -96,6 +98,7 @@ pub record IsUnlimitedContext (g : ModuleContext) (ds : List InterfaceDraft) : T
   pub known : IsKnowledge g.known
   pub signatures : AllSigsKnown (all_of g.known) (classes_of g.known.classes.now)
   pub stand : StandAfterOthers g.scope.now.module (classes_of g.known.classes.now) ds
+  pub introducers : AreIntroducers (all_of g.known) g.introducers.now
 
 -- the block of main, which is empty where there is no main
 abbrev pub main_block : Among → Option BlockText → Result Block Refusal

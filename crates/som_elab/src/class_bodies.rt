@@ -101,6 +101,7 @@ fn class_selects(
         known.kernel,
         known.classes,
         known.lists,
+        context.introducers,
         draft,
         place,
     )

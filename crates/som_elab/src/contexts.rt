@@ -1,9 +1,12 @@
+use som_introducers::Introducers;
 use som_scope::Scope;
 use som_typing::Knowledge;
 
-/// What the bodies of a module's texts stand among: all classes, and what the names of classes stand for.
+/// What the bodies of a module's texts stand among: all classes, which of them introduce each name, and what the names of
+/// classes stand for.
 #[derive(Clone, Copy)]
-pub struct ModuleContext<'a, 's, 'o, 'b, 'k> {
+pub struct ModuleContext<'a, 'i, 'n, 's, 'o, 'b, 'k> {
     pub known: Knowledge<'a>,
+    pub introducers: &'i Introducers<'n>,
     pub scope: &'s Scope<'o, 'b, 'k>,
 }

@@ -3,6 +3,7 @@ ghost use Rattle.som_elab.specs.Bodies.{bodies_of, drafts_over};
 ghost use Rattle.som_elab.specs.Contexts.{FewParameters, ParentsCounted, StandAfterOthers, checked_steps, elaborated_module};
 ghost use Rattle.som_elab.specs.Elaboration.{Answers, among_over};
 ghost use Rattle.som_elab.specs.Texts.{given};
+ghost use Rattle.som_introducers.specs.Introducers.{AreIntroducers};
 ghost use Rattle.som_model.specs.Class.{class_in};
 ghost use Rattle.som_model.specs.Classes.{interface_classes};
 ghost use Rattle.som_model.specs.declared.key.Module.TheVariants as modules;
@@ -24,6 +25,7 @@ use crate::texts::all_texts;
 use som_body::{BlockText, BodyFile, BodyText};
 use som_drafts::Draft;
 use som_idl::{IdlFile, IdlInterface};
+use som_introducers::{Introducers, introducers_of};
 use som_model::{Block, ClassDecl, Interface, List, Module, NoMemory, kernel_faces};
 use som_rules::{Declared, bare_classes, declare};
 use som_scope::{Scope, scope_of};
@@ -206,12 +208,46 @@ fn bodies_in_context(
     requires stand { StandAfterOthers scope.now.module (classes_of classes.now) (plain_drafts drafts.now) }
     ensures { Answers (checked_steps (record { classes = with_kernel (classes_of classes.now); module_of = module_in_scope scope.now }) scope.now.module (given texts.now.all.now) (plain_drafts drafts.now) (option_copied main.entry)) result }
 {
+    let introducers = introducers_of(alloc, parts.kernel.classes.as_slice(), classes)?;
+    bodies_by(
+        alloc,
+        scope,
+        parts,
+        classes,
+        &introducers,
+        drafts,
+        texts,
+        main,
+    )
+}
+
+// The same, where it is known which classes introduce each name.
+fn bodies_by(
+    alloc: Global,
+    scope: &Scope,
+    parts: &Parts,
+    classes: &[Declared],
+    introducers: &Introducers,
+    drafts: &[Draft],
+    texts: &ModuleTexts,
+    main: Option<&BlockText>,
+) -> Result<AllBodies, Refused>
+    requires parts { AreParts (classes_of classes.now) parts.now }
+    requires introducers { AreIntroducers (with_kernel (classes_of classes.now)) introducers.now }
+    requires rules { (base : ℕ) × (classes_breach base (classes_of classes.now) ≡ None) }
+    requires stand { StandAfterOthers scope.now.module (classes_of classes.now) (plain_drafts drafts.now) }
+    ensures { Answers (checked_steps (record { classes = with_kernel (classes_of classes.now); module_of = module_in_scope scope.now }) scope.now.module (given texts.now.all.now) (plain_drafts drafts.now) (option_copied main.entry)) result }
+{
     let known = know(
         &parts.table,
         parts.kernel.classes.as_slice(),
         classes,
         parts.lists.as_slice(),
     );
-    let context = ModuleContext { known, scope };
+    let context = ModuleContext {
+        known,
+        introducers,
+        scope,
+    };
     checked_bodies(alloc, &context, drafts, texts, main)
 }

@@ -10,21 +10,22 @@ use Rattle.som_model.specs.Classes.{is_a}
 use Rattle.som_rules.specs.Places.{key_at, with_kernel}
 use Rattle.som_rules.specs.Walk.{AreLists}
 use Rattle.som_rules.proofs.KeyLists.{alike}
-use Rattle.som_sema.specs.Noted.{At, IsKnown, along, first_place}
+use Rattle.som_introducers.specs.Introducers.{first_introducer}
+use Rattle.som_introducers.specs.Ranking.{IsRanking}
+use Rattle.som_introducers.specs.declared.ranking.Ranking.{Ranking}
 use Rattle.som_sema.specs.Finished.{introducer}
 use Rattle.som_sema.specs.TextRules.{is_inherited}
 use Rattle.som_sema.specs.Ancestry.{Inherits}
 use Rattle.som_sema.specs.declared.ancestry.AncestorTable.{AncestorTable}
-use Rattle.som_sema.specs.declared.places.Places.{Places}
 use Rattle.som_sema.proofs.Composing.{table_lists}
 use Rattle.som_sema.proofs.Introducers.{introducer_is, introducer_low}
 
-module _ (cs : List Class) (w : AncestorTable) (place : ℕ) (above : Places) (h : Inherits cs w place above) (name : List ℕ) where
+module _ (cs : List Class) (w : AncestorTable) (place : ℕ) (above : Ranking) (h : Inherits cs w place above) (name : List ℕ) where
   lists : AreLists (with_kernel cs) w.lists.items
   lists = table_lists cs w w.lists.items h.ancestors refl
 
   abbrev at : ℕ
-  at = unwrap_or (first_place (along (with_kernel cs) (slice_index_or w.lists.items place [])) name) place
+  at = unwrap_or (first_introducer (with_kernel cs) (slice_index_or w.lists.items place []) name) place
 
   pub at_low : at < length (with_kernel cs)
   at_low = introducer_low (with_kernel cs) w.lists.items lists place name h.there
@@ -79,7 +80,7 @@ module _ (cs : List Class) (w : AncestorTable) (place : ℕ) (above : Places) (h
   taken_so (Ok b) n k e f t = t ∙ taken n k e f
   taken_so (Err x) n k e f t = t
 
--- a table of the first places of what is introduced along the ancestors of a class
-pub along_known : (cs : List Class) (w : AncestorTable) (place : ℕ) (lists : List (List ℕ)) (t : Places) → lists ≡ w.lists.items
-    → IsKnown (along (with_kernel cs) (slice_index_or lists place [])) t → IsKnown (along (with_kernel cs) (slice_index_or w.lists.items place [])) t
-along_known cs w place lists t e h = subst (λ (z : List (List ℕ)). IsKnown (along (with_kernel cs) (slice_index_or z place [])) t) e h
+-- the ranks of the ancestors of a class
+pub along_known : (cs : List Class) (w : AncestorTable) (place : ℕ) (lists : List (List ℕ)) (r : Ranking) → lists ≡ w.lists.items
+    → IsRanking (with_kernel cs) (slice_index_or lists place []) r → IsRanking (with_kernel cs) (slice_index_or w.lists.items place []) r
+along_known cs w place lists r e h = subst (λ (z : List (List ℕ)). IsRanking (with_kernel cs) (slice_index_or z place []) r) e h

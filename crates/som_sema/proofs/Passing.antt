@@ -1,9 +1,9 @@
 -- Passes over what a list comes to, told by its first.
-use Rattle.std.proofs.Common.{◌≡◌, ℕ, ◌+◌, ◌<◌, Bool, true, false, not, ◌&&◌, List, [], ◌∷◌, ◌++◌, length, drop, slice_index_or, Option, Some, None, refl, sym, ap, ◌∙◌}
+use Rattle.std.proofs.Common.{◌≡◌, ℕ, ◌+◌, ◌<◌, Bool, true, false, ◌&&◌, List, [], ◌∷◌, ◌++◌, length, drop, slice_index_or, Option, Some, None, refl, sym, ap, ◌∙◌}
 use Rattle.std.proofs.lemmas.List.{drop_more}
 use Rattle.som_model.specs.declared.key.Module.{Module}
 use Rattle.som_model.specs.declared.key.ClassKey.{ClassKey}
-use Rattle.som_model.specs.Lists.{Mem, among, first, or_else}
+use Rattle.som_model.specs.Lists.{among, first, or_else}
 use Rattle.som_model.specs.Class.{Class}
 use Rattle.som_laws.proofs.Laws.{among_mem}
 use Rattle.som_laws.proofs.Members.{both_or_none}
@@ -15,7 +15,6 @@ use Rattle.som_drafts.specs.Drafts.{InterfaceDraft}
 use Rattle.som_drafts.specs.Items.{Given}
 use Rattle.som_drafts.specs.OwnRules.{text_breach, text_demand}
 use Rattle.som_sema.specs.TextRules.{may_take, replaces}
-use Rattle.som_model.specs.Rules.{RuleBreach}
 use Rattle.som_sema.proofs.TextLaws.{mem_of_once, says_once}
 
 one_more : {A B : Type 0} (F : List A → List B) (xs : List A) (i : ℕ) (x d : A) (ys : List B) → i < length xs → x ≡ slice_index_or xs i d

@@ -11,45 +11,38 @@ use Rattle.som_model.specs.declared.class.Entry.TheVariants as entries
 use Rattle.som_model.specs.declared.class.Override.{Override}
 use Rattle.som_model.specs.declared.class.Select.{Select}
 use Rattle.som_model.specs.Keys.{same_key}
-use Rattle.som_model.specs.Lists.{Mem, among, doubles, first, place_from, some, without}
+use Rattle.som_model.specs.Lists.{Mem, among, first, place_from}
 use Rattle.som_model.specs.Hierarchy.{Falls, Hierarchy, Tells}
-use Rattle.som_model.specs.Ancestors.{Descends, anc}
+use Rattle.som_model.specs.Ancestors.{anc}
 use Rattle.som_model.specs.Class.{Class, class_in, introduced, introduced_sig}
-use Rattle.som_model.specs.Classes.{ancestors, class_at, hierarchy, is_a}
-use Rattle.som_model.specs.Conforming.{each_after}
+use Rattle.som_model.specs.Classes.{ancestors, class_at, hierarchy}
 use Rattle.som_model.specs.Kernel.{kernel}
 use Rattle.som_model.specs.Owner.{entry_at, introduced_by, introduces, owner, owner_within}
-use Rattle.som_model.specs.Rules.{s1, s2, s6, s10}
+use Rattle.som_model.specs.Rules.{s6}
 use Rattle.som_model.proofs.KeyLaws.{both, exact_bytes, exact_keys}
 use Rattle.som_model.proofs.NamedLaws.{hierarchy_same}
 use Rattle.som_laws.proofs.Laws.{among_mem, ancestors as ancestors_law}
-use Rattle.som_laws.proofs.Members.{Apart, find_first, mem_split, without_fails, without_mem}
-use Rattle.som_rules.specs.Inherited.{inherits}
+use Rattle.som_laws.proofs.Members.{Apart, find_first, mem_split, without_fails}
 use Rattle.som_rules.specs.Modules.{AreDeclared}
 use Rattle.som_rules.specs.Places.{key_at, with_kernel}
 use Rattle.som_rules.specs.Plainly.{Differ, EntriesDiffer, Introduces, IsAbove, NamesApart, OverridesInherited, ParentsBefore, SelectsInherited, TakesFrom}
 use Rattle.som_rules.proofs.Before.{none_both}
 use Rattle.som_rules.proofs.Owners.{mem_middle}
 use Rattle.som_rules.proofs.PlainLists.{apart_differ, differ_apart, map_mem, mem_map}
-use Rattle.som_rules.proofs.PlainMoves.{descent, flat_mem, lower, says_inherits}
-use Rattle.som_rules.proofs.PlainSelects.{say_replaced}
+use Rattle.som_rules.proofs.PlainMoves.{descent, lower, says_inherits}
 use Rattle.som_rules.specs.Walk.{add_new, adds}
-use Rattle.som_rules.proofs.PlainMembers.{entries_say}
-use Rattle.som_rules.proofs.PlainNames.{names_say, parents_say}
 use Rattle.som_scope.specs.ClassNames.{key_of}
-use Rattle.som_scope.specs.Words.{once}
 use Rattle.som_drafts.specs.Items.{Chosen, Given, chosen, chosen_by, chosen_in, given, is_override, is_select, or_object, overridden, replaced, selecting, with_modifier}
 use Rattle.som_idl.specs.declared.tree.Modifier.{Modifier}
 use Rattle.som_idl.specs.declared.tree.Modifier.TheVariants as modifiers
 use Rattle.som_drafts.specs.Drafts.{InterfaceDraft, draft_class, draft_classes}
-use Rattle.som_sema.specs.Finished.{declare, introducer, override_of, place_of, select_of, selects_at}
-use Rattle.som_drafts.specs.OwnRules.{text_s11, text_s6}
-use Rattle.som_sema.specs.TextRules.{is_inherited, text_s10, text_s10_from, text_s2_from}
-use Rattle.som_sema.specs.PlainTexts.{Inherits}
-use Rattle.som_sema.proofs.Introducing.{AllSame, all_both, all_self, introduced_mem, introduced_so, own_same, same_introducer}
+use Rattle.som_sema.specs.Finished.{declare, introducer, override_of, place_of, select_of}
+use Rattle.som_drafts.specs.OwnRules.{text_s11}
+use Rattle.som_sema.specs.TextRules.{is_inherited, text_s10, text_s10_from}
+use Rattle.som_sema.proofs.Introducing.{AllSame, all_both, all_self, introduced_mem, introduced_so, own_same}
 use Rattle.som_sema.proofs.Noting.{at_end}
 use Rattle.som_sema.proofs.Outlines.{hierarchy_outline, outline, same_descent}
-use Rattle.som_sema.proofs.OwnClasses.{join_apart, left_apart, own_s6}
+use Rattle.som_sema.proofs.OwnClasses.{join_apart, left_apart}
 use Rattle.som_sema.proofs.TextInherited.{Takes, inherits_from, overridden_says, selected_says}
 use Rattle.som_sema.proofs.TextLaws.{map_same, modifiers_law, says_once}
 

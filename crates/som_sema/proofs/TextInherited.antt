@@ -1,9 +1,9 @@
 -- S10 of texts: what modifiers replace is inherited.
-use Rattle.std.proofs.Common.{◌≡◌, ◌↔◌, ℕ, zero, suc, ◌+◌, ◌<◌, inl, inr, Bool, true, false, not, ◌&&◌, ◌||◌, if◌then◌else◌, List, [], ◌∷◌, ◌++◌, length, flat_map, drop, slice_index_or, slice_get, Option, Some, None, Err, refl, sym, ap, ◌∙◌, subst, arith, true≢false}
+use Rattle.std.proofs.Common.{◌≡◌, ◌↔◌, ℕ, zero, suc, ◌+◌, ◌<◌, inl, inr, Bool, true, false, not, ◌||◌, if◌then◌else◌, List, [], ◌∷◌, length, drop, slice_index_or, slice_get, Option, Some, None, Err, refl, sym, ap, ◌∙◌, subst, arith, true≢false}
 use Rattle.std.specs.Prelude.{unwrap_or}
 use Rattle.som_model.specs.declared.key.Module.{Module}
 use Rattle.som_model.specs.declared.key.ClassKey.{ClassKey}
-use Rattle.som_model.specs.Lists.{Mem, among, find, first, or_else, without}
+use Rattle.som_model.specs.Lists.{Mem, among, find, first, or_else}
 use Rattle.som_model.specs.Hierarchy.{Falls, Tells as TellsKeys}
 use Rattle.som_model.specs.Ancestors.{Descends}
 use Rattle.som_model.specs.Keys.{same_key}
@@ -12,9 +12,8 @@ use Rattle.som_model.specs.Classes.{ancestors, hierarchy, is_a}
 use Rattle.som_model.specs.Owner.{introduced_by}
 use Rattle.som_model.specs.Rules.{RuleBreach}
 use Rattle.som_model.proofs.KeyLaws.{both, exact_keys}
-use Rattle.som_laws.specs.First.{IsFirst}
 use Rattle.som_laws.proofs.Laws.{among_mem, descends_test}
-use Rattle.som_laws.proofs.Members.{find_first, first_find, mem_without, not_true, without_fails, without_mem}
+use Rattle.som_laws.proofs.Members.{find_first, first_find, mem_without, without_fails, without_mem}
 use Rattle.som_model.proofs.NamedLaws.{hierarchy_same}
 use Rattle.som_read.specs.declared.tree.Word.{Word}
 use Rattle.som_idl.specs.declared.tree.Modifier.{Modifier}
@@ -29,7 +28,6 @@ use Rattle.som_rules.proofs.PlainLists.{none_flat}
 use Rattle.som_rules.proofs.PlainMembers.{both_true}
 use Rattle.som_rules.proofs.PlainMoves.{flat_mem, mem_flat}
 use Rattle.som_scope.specs.ClassNames.{key_of}
-use Rattle.som_scope.specs.Words.{once}
 use Rattle.som_drafts.specs.declared.drafts.Draft.{Draft}
 use Rattle.som_drafts.specs.Items.{Chosen, Given, chosen, chosen_by, chosen_in, given, if_given, is_override, or_object, overridden, replaced, selecting, with_modifier}
 use Rattle.som_drafts.specs.Drafts.{InterfaceDraft, plain_draft, plain_drafts}

@@ -29,7 +29,7 @@ use Rattle.som_rules.proofs.PlainMoves.{lower}
 use Rattle.som_rules.proofs.PlainNames.{among_known, known_among, names_say, parents_say}
 use Rattle.som_model.specs.declared.class.Select.{Select}
 use Rattle.som_sema.specs.Building.{after_base, declarations, declared_all, draft_rules_breach, items_breach, module_over, moved_breach, draft_breach, selecting_declarations, texts_breach}
-use Rattle.som_sema.specs.Finished.{declare, place_of, select_of, selects_at}
+use Rattle.som_sema.specs.Finished.{place_of, select_of, selects_at}
 use Rattle.som_drafts.specs.Items.{chosen, or_object}
 use Rattle.som_sema.proofs.Introducing.{same_introducer}
 use Rattle.som_sema.proofs.Replaced.{filled, inherited_own, introduce_same, map_where, none_selected, outlines, overrides_inherited, same_entries, same_outlines, selects_inherited}

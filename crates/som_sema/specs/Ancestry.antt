@@ -14,10 +14,10 @@ use Rattle.som_drafts.specs.Drafts.{InterfaceDraft, draft_class}
 use Rattle.som_idl.specs.declared.tree.IdlInterface.{IdlInterface}
 use Rattle.som_scope.specs.Words.{once}
 use Rattle.som_drafts.specs.Items.{or_object, selecting}
-use Rattle.som_sema.specs.Noted.{IsKnown, along}
 use Rattle.som_sema.specs.declared.ancestry.AncestorTable.{AncestorTable}
 use Rattle.som_sema.specs.declared.inherited.Selecting.{Selecting}
-use Rattle.som_sema.specs.declared.places.Places.{Places}
+use Rattle.som_introducers.specs.Ranking.{IsRanking}
+use Rattle.som_introducers.specs.declared.ranking.Ranking.{Ranking}
 
 -- lists of places, made of the parents' places, are the ancestors of these classes
 pub record AreAncestorLists (cs : List Class) (all : List (List ℕ)) : Type 0 where
@@ -33,11 +33,11 @@ pub record IsAncestorTable (cs : List Class) (w : AncestorTable) : Type 0 where
   pub stand : first (each_after s2 kernel cs) ≡ None
   pub lists : AreAncestorLists cs w.lists.items
 
--- the first places at which the names along the ancestors of a class are introduced, beside the names and the ancestors of all classes
-pub record Inherits (cs : List Class) (w : AncestorTable) (place : ℕ) (above : Places) : Type 0 where
+-- the ranks of the ancestors of a class, beside the names and the ancestors of all classes
+pub record Inherits (cs : List Class) (w : AncestorTable) (place : ℕ) (above : Ranking) : Type 0 where
   pub ancestors : IsAncestorTable cs w
   pub there : place < length (with_kernel cs)
-  pub known : IsKnown (along (with_kernel cs) (slice_index_or w.lists.items place [])) above
+  pub known : IsRanking (with_kernel cs) (slice_index_or w.lists.items place []) above
 
 -- the methods with `select`, and the parents
 pub record IsOfText (text : IdlInterface) (s : Selecting) : Type 0 where

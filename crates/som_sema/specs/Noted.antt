@@ -1,11 +1,10 @@
 -- Names with places, of which the first counts.
-use Rattle.std.specs.Prelude.{◌≡◌, ℕ, suc, ◌<◌, if◌then◌else◌, List, [], ◌∷◌, map, flat_map, length, slice_index_or, Option, Some, None, is_some}
+use Rattle.std.specs.Prelude.{◌≡◌, ℕ, suc, ◌<◌, if◌then◌else◌, List, [], ◌∷◌, map, length, slice_index_or, Option, Some, None, is_some}
 use Rattle.std.specs.Str.{bytes_eq}
 use Rattle.som_model.specs.Lists.{among}
-use Rattle.som_model.specs.Class.{Class, entry_name}
+use Rattle.som_model.specs.Class.{entry_name}
 use Rattle.som_model.specs.declared.class.Entry.{Entry}
 use Rattle.som_order.specs.Names.{name_at, texts}
-use Rattle.som_rules.specs.Along.{introduced_at}
 use Rattle.som_sema.specs.declared.places.Noted.{Noted}
 use Rattle.som_sema.specs.declared.places.Places.{Places}
 
@@ -32,14 +31,6 @@ pub record Know (ps : List At) (names : List (List ℕ)) (places : List ℕ) : T
 
 abbrev pub IsKnown : List At → Places → Type 0
 IsKnown ps t = Know ps (texts t.names.keys) t.places.items
-
--- these names at one place
-abbrev pub at_one : ℕ → List (List ℕ) → List At
-at_one place names = map (λ name. record { name = name; place = place }) names
-
--- what is introduced along a list of classes, by places
-abbrev pub along : List Class → List ℕ → List At
-along cs list = flat_map (λ p. at_one p (introduced_at cs p)) list
 
 -- entries at their places, counted from n
 abbrev pub counted : ℕ → List Entry → List At

@@ -1,4 +1,4 @@
-ghost use Rattle.som_model.specs.Class.{entry_of, introduced};
+ghost use Rattle.som_model.specs.Class.{Class, entry_of, introduced};
 ghost use Rattle.som_model.specs.EffectiveOrder as orders;
 ghost use Rattle.som_model.specs.Kernel.{kernel_interface};
 ghost use Rattle.som_order.specs.Names.{texts};
@@ -10,14 +10,17 @@ ghost use Rattle.som_sema.specs.Finished as spec;
 ghost use Rattle.som_sema.specs.Finished.{declare_at, entry_for, entry_or_moved, override_of};
 ghost use Rattle.som_drafts.specs.Items as spec_items;
 ghost use Rattle.som_drafts.specs.Items.{listed as listed_names};
-ghost use Rattle.som_sema.specs.Noted as names_first;
-ghost use Rattle.som_sema.specs.Noted.{At, IsKnown, all_at, along, counted};
-ghost use Rattle.std.specs.Prelude.{◌≡◌, ◌<◌, ◌+◌, [], List as Seq, length, map, slice_get, slice_index_or, option_copied, unwrap_or, IfOk};
+ghost use Rattle.som_introducers.specs.Introducers as names_first;
+ghost use Rattle.som_introducers.specs.Introducers.{AreIntroducers};
+ghost use Rattle.som_introducers.specs.Ranking.{IsRanking};
+ghost use Rattle.som_sema.specs.Noted.{IsKnown, all_at, counted};
+ghost use Rattle.std.specs.Prelude.{◌≡◌, ◌<◌, ◌+◌, ℕ, [], List as Seq, length, map, slice_get, slice_index_or, option_copied, unwrap_or, IfOk};
 
-use crate::faces::{key_at, places_above};
+use crate::faces::{key_at, ranking_above};
 use crate::places::{Noted, Places, first_place, note, place_table};
 use som_drafts::{Draft, listed, marks, overridden};
 use som_idl::Item;
+use som_introducers::{Introducers, Ranking, first_introducer, introducers_of};
 use som_model::{
     Block, ClassDecl, ClassFace, ClassKey, Entry, List, MethodRef, NoMemory, Override, Text,
     Variable,
@@ -40,10 +43,30 @@ pub fn declarations(
     requires from { from + length drafts.now ≡ length (with_kernel (classes_of classes.now)) }
     ensures { IfOk result (λ ds. ds ≡ spec.declared_from (with_kernel (classes_of classes.now)) from (plain_drafts drafts.now)) }
 {
+    let introducers = introducers_of(alloc, kernel, classes)?;
+    declarations_by(alloc, kernel, classes, lists, &introducers, drafts, from)
+}
+
+// The same, where it is known which classes introduce each name.
+fn declarations_by(
+    alloc: Global,
+    kernel: &[ClassFace],
+    classes: &[Declared],
+    lists: &[List<usize>],
+    introducers: &Introducers,
+    drafts: &[Draft],
+    from: usize,
+) -> Result<List<ClassDecl>, NoMemory>
+    requires kernel { kernel.now ≡ kernel_interface.classes }
+    requires lists { AreLists (with_kernel (classes_of classes.now)) lists.now }
+    requires introducers { AreIntroducers (with_kernel (classes_of classes.now)) introducers.now }
+    requires from { from + length drafts.now ≡ length (with_kernel (classes_of classes.now)) }
+    ensures { IfOk result (λ ds. ds ≡ spec.declared_from (with_kernel (classes_of classes.now)) from (plain_drafts drafts.now)) }
+{
     let mut all = List::new(alloc);
     let mut place = from;
     for draft in drafts {
-        let decl = declaration(alloc, kernel, classes, lists, draft, place)?;
+        let decl = declaration(alloc, kernel, classes, lists, introducers, draft, place)?;
         all.push(decl)?;
         place += 1;
     }
@@ -55,33 +78,35 @@ fn declaration(
     kernel: &[ClassFace],
     classes: &[Declared],
     lists: &[List<usize>],
+    introducers: &Introducers,
     draft: &Draft,
     place: usize,
 ) -> Result<ClassDecl, NoMemory>
     requires kernel { kernel.now ≡ kernel_interface.classes }
     requires lists { AreLists (with_kernel (classes_of classes.now)) lists.now }
+    requires introducers { AreIntroducers (with_kernel (classes_of classes.now)) introducers.now }
     requires place { place < length (with_kernel (classes_of classes.now)) }
     ensures { IfOk result (λ d. d ≡ declare_at (with_kernel (classes_of classes.now))
         (key_at_place (with_kernel (classes_of classes.now)) place) (plain_draft draft.now)) }
 {
-    let above = places_above(alloc, kernel, classes, lists, place)?;
+    let above = ranking_above(alloc, introducers, classes, lists, place)?;
     declaration_below(alloc, kernel, classes, lists, &above, draft, place)
 }
 
-// The same, where it is known what is introduced along the ancestors.
+// The same, where the ancestors have ranks.
 fn declaration_below(
     alloc: Global,
     kernel: &[ClassFace],
     classes: &[Declared],
     lists: &[List<usize>],
-    above: &Places,
+    above: &Ranking,
     draft: &Draft,
     place: usize,
 ) -> Result<ClassDecl, NoMemory>
     requires kernel { kernel.now ≡ kernel_interface.classes }
     requires lists { AreLists (with_kernel (classes_of classes.now)) lists.now }
     requires place { place < length (with_kernel (classes_of classes.now)) }
-    requires above { IsKnown (along (with_kernel (classes_of classes.now)) (slice_index_or lists.now place [])) above.now }
+    requires above { IsRanking (with_kernel (classes_of classes.now)) (slice_index_or lists.now place []) above.now }
     ensures { IfOk result (λ d. d ≡ declare_at (with_kernel (classes_of classes.now))
         (key_at_place (with_kernel (classes_of classes.now)) place) (plain_draft draft.now)) }
 {
@@ -103,14 +128,14 @@ fn finished_face(
     kernel: &[ClassFace],
     classes: &[Declared],
     lists: &[List<usize>],
-    above: &Places,
+    above: &Ranking,
     draft: &Draft,
     place: usize,
 ) -> Result<ClassFace, NoMemory>
     requires kernel { kernel.now ≡ kernel_interface.classes }
     requires lists { AreLists (with_kernel (classes_of classes.now)) lists.now }
     requires place { place < length (with_kernel (classes_of classes.now)) }
-    requires above { IsKnown (along (with_kernel (classes_of classes.now)) (slice_index_or lists.now place [])) above.now }
+    requires above { IsRanking (with_kernel (classes_of classes.now)) (slice_index_or lists.now place []) above.now }
     ensures { IfOk result (λ face. face ≡ (declare_at (with_kernel (classes_of classes.now))
         (key_at_place (with_kernel (classes_of classes.now)) place) (plain_draft draft.now)).face) }
 {
@@ -164,14 +189,14 @@ fn entries(
     kernel: &[ClassFace],
     classes: &[Declared],
     lists: &[List<usize>],
-    above: &Places,
+    above: &Ranking,
     draft: &Draft,
     place: usize,
 ) -> Result<List<Entry>, NoMemory>
     requires kernel { kernel.now ≡ kernel_interface.classes }
     requires lists { AreLists (with_kernel (classes_of classes.now)) lists.now }
     requires place { place < length (with_kernel (classes_of classes.now)) }
-    requires above { IsKnown (along (with_kernel (classes_of classes.now)) (slice_index_or lists.now place [])) above.now }
+    requires above { IsRanking (with_kernel (classes_of classes.now)) (slice_index_or lists.now place []) above.now }
     ensures { IfOk result (λ es. es ≡ map (entry_for (with_kernel (classes_of classes.now))
         (key_at_place (with_kernel (classes_of classes.now)) place) draft.now.decl.face.entries)
         (orders.effective_order (listed_names draft.now.text.now.items) (introduced draft.now.decl.face.entries))) }
@@ -198,7 +223,7 @@ fn entries_in_order(
     kernel: &[ClassFace],
     classes: &[Declared],
     lists: &[List<usize>],
-    above: &Places,
+    above: &Ranking,
     own: &[Entry],
     own_places: &Places,
     order: &[Text],
@@ -207,7 +232,7 @@ fn entries_in_order(
     requires kernel { kernel.now ≡ kernel_interface.classes }
     requires lists { AreLists (with_kernel (classes_of classes.now)) lists.now }
     requires place { place < length (with_kernel (classes_of classes.now)) }
-    requires above { IsKnown (along (with_kernel (classes_of classes.now)) (slice_index_or lists.now place [])) above.now }
+    requires above { IsRanking (with_kernel (classes_of classes.now)) (slice_index_or lists.now place []) above.now }
     requires own { IsKnown (counted 0 own.now) own_places.now }
     ensures { IfOk result (λ es. es ≡ map (entry_for (with_kernel (classes_of classes.now))
         (key_at_place (with_kernel (classes_of classes.now)) place) own.now) order.now) }
@@ -226,7 +251,7 @@ fn found_entry(
     kernel: &[ClassFace],
     classes: &[Declared],
     lists: &[List<usize>],
-    above: &Places,
+    above: &Ranking,
     found: Option<&Entry>,
     name: &Text,
     place: usize,
@@ -234,7 +259,7 @@ fn found_entry(
     requires kernel { kernel.now ≡ kernel_interface.classes }
     requires lists { AreLists (with_kernel (classes_of classes.now)) lists.now }
     requires place { place < length (with_kernel (classes_of classes.now)) }
-    requires above { IsKnown (along (with_kernel (classes_of classes.now)) (slice_index_or lists.now place [])) above.now }
+    requires above { IsRanking (with_kernel (classes_of classes.now)) (slice_index_or lists.now place []) above.now }
     ensures { IfOk result (λ e. e ≡ entry_or_moved (spec.introducer (with_kernel (classes_of classes.now))
         (key_at_place (with_kernel (classes_of classes.now)) place) name.now) name.now (option_copied found.entry)) }
 {
@@ -321,14 +346,14 @@ pub fn introducer(
     kernel: &[ClassFace],
     classes: &[Declared],
     lists: &[List<usize>],
-    above: &Places,
+    above: &Ranking,
     place: usize,
     name: &[u8],
 ) -> Result<ClassKey, NoMemory>
     requires kernel { kernel.now ≡ kernel_interface.classes }
     requires lists { AreLists (with_kernel (classes_of classes.now)) lists.now }
     requires place { place < length (with_kernel (classes_of classes.now)) }
-    requires above { IsKnown (along (with_kernel (classes_of classes.now)) (slice_index_or lists.now place [])) above.now }
+    requires above { IsRanking (with_kernel (classes_of classes.now)) (slice_index_or lists.now place []) above.now }
     ensures { IfOk result (λ key. key ≡ spec.introducer (with_kernel (classes_of classes.now))
         (key_at_place (with_kernel (classes_of classes.now)) place) name.now) }
 {
@@ -338,10 +363,11 @@ pub fn introducer(
 }
 
 /// The place of that class.
-pub fn introducer_place(above: &Places, place: usize, name: &[u8]) -> usize
-    ensures { (ps : Seq At) → IsKnown ps above.now → result ≡ unwrap_or (names_first.first_place ps name.now) place }
+pub fn introducer_place(above: &Ranking, place: usize, name: &[u8]) -> usize
+    requires { (cs : Seq Class) × ((list : Seq ℕ) × IsRanking cs list above.now) }
+    ensures { (cs : Seq Class) (list : Seq ℕ) → IsRanking cs list above.now → result ≡ unwrap_or (names_first.first_introducer cs list name.now) place }
 {
-    match first_place(above, name) {
+    match first_introducer(above, name) {
         Some(found) => found,
         None => place,
     }
@@ -353,14 +379,14 @@ fn overrides(
     kernel: &[ClassFace],
     classes: &[Declared],
     lists: &[List<usize>],
-    above: &Places,
+    above: &Ranking,
     draft: &Draft,
     place: usize,
 ) -> Result<List<Override>, NoMemory>
     requires kernel { kernel.now ≡ kernel_interface.classes }
     requires lists { AreLists (with_kernel (classes_of classes.now)) lists.now }
     requires place { place < length (with_kernel (classes_of classes.now)) }
-    requires above { IsKnown (along (with_kernel (classes_of classes.now)) (slice_index_or lists.now place [])) above.now }
+    requires above { IsRanking (with_kernel (classes_of classes.now)) (slice_index_or lists.now place []) above.now }
     ensures { IfOk result (λ os. os ≡ map (override_of (with_kernel (classes_of classes.now))
         (key_at_place (with_kernel (classes_of classes.now)) place)) (spec_items.overridden draft.now.text.now.items)) }
 {
@@ -379,14 +405,14 @@ fn empty_override(
     kernel: &[ClassFace],
     classes: &[Declared],
     lists: &[List<usize>],
-    above: &Places,
+    above: &Ranking,
     name: &[u8],
     place: usize,
 ) -> Result<Override, NoMemory>
     requires kernel { kernel.now ≡ kernel_interface.classes }
     requires lists { AreLists (with_kernel (classes_of classes.now)) lists.now }
     requires place { place < length (with_kernel (classes_of classes.now)) }
-    requires above { IsKnown (along (with_kernel (classes_of classes.now)) (slice_index_or lists.now place [])) above.now }
+    requires above { IsRanking (with_kernel (classes_of classes.now)) (slice_index_or lists.now place []) above.now }
     ensures { IfOk result (λ o. o ≡ override_of (with_kernel (classes_of classes.now))
         (key_at_place (with_kernel (classes_of classes.now)) place) name.now) }
 {

@@ -1,14 +1,13 @@
-ghost use Rattle.som_model.specs.Class.{introduced};
+ghost use Rattle.som_introducers.specs.Introducers.{AreIntroducers};
+ghost use Rattle.som_introducers.specs.Ranking.{IsRanking};
 ghost use Rattle.som_model.specs.Kernel.{kernel_interface};
-ghost use Rattle.som_model.specs.Lists.{Mem};
 ghost use Rattle.som_rules.specs.Modules.{classes_of};
 ghost use Rattle.som_rules.specs.Places.{face_at, key_at as key_at_place, module_at, with_kernel};
 ghost use Rattle.som_rules.specs.Walk.{AreLists};
-ghost use Rattle.som_sema.specs.Noted.{IsKnown, all_at, along, at_one};
-ghost use Rattle.std.specs.Prelude.{◌≡◌, ◌<◌, ◌++◌, [], ℕ, length, slice_index_or, IfOk, OnOk};
+ghost use Rattle.std.specs.Prelude.{◌≡◌, ◌<◌, [], length, slice_index_or, IfOk};
 
-use crate::places::{Noted, Places, note, place_table};
-use som_model::{ClassFace, ClassKey, Entry, List, Module, NoMemory};
+use som_introducers::{Introducers, Ranking, ranking_of};
+use som_model::{ClassFace, ClassKey, List, Module, NoMemory};
 use som_rules::{Declared, KERNEL_CLASSES};
 use std::alloc::Global;
 
@@ -57,22 +56,21 @@ pub fn key_at(
     })
 }
 
-/// The first places of the names that are introduced along the ancestors of the class at a place.
-pub fn places_above<'a>(
+/// The classes that introduce each name, with the ranks of the ancestors of the class at a place.
+pub fn ranking_above<'r, 'a>(
     alloc: Global,
-    kernel: &'a [ClassFace],
-    classes: &[Declared<'a>],
-    lists: &[List<usize>],
+    introducers: &'r Introducers<'a>,
+    classes: &[Declared],
+    lists: &'r [List<usize>],
     place: usize,
-) -> Result<Places<'a>, NoMemory>
-    requires kernel { kernel.now ≡ kernel_interface.classes }
+) -> Result<Ranking<'r, 'a>, NoMemory>
+    requires introducers { AreIntroducers (with_kernel (classes_of classes.now)) introducers.now }
     requires lists { AreLists (with_kernel (classes_of classes.now)) lists.now }
     requires place { place < length (with_kernel (classes_of classes.now)) }
-    ensures { IfOk result (IsKnown (along (with_kernel (classes_of classes.now)) (slice_index_or lists.now place []))) }
+    ensures { IfOk result (IsRanking (with_kernel (classes_of classes.now)) (slice_index_or lists.now place [])) }
 {
     let list = list_at(lists, place);
-    let along = introduced_along(alloc, kernel, classes, list)?;
-    place_table(alloc, &along)
+    ranking_of(alloc, introducers, list, classes.len() + KERNEL_CLASSES)
 }
 
 // The ancestors of the class at a place.
@@ -81,38 +79,4 @@ fn list_at(lists: &[List<usize>], place: usize) -> &[usize]
     ensures { result.now ≡ slice_index_or lists.now place [] }
 {
     lists[place].as_slice()
-}
-
-// The names that classes introduce, with the classes' places, along a list of places.
-fn introduced_along<'a>(
-    alloc: Global,
-    kernel: &'a [ClassFace],
-    classes: &[Declared<'a>],
-    list: &[usize],
-) -> Result<Vec<Noted<'a>>, NoMemory>
-    requires kernel { kernel.now ≡ kernel_interface.classes }
-    requires list { (a : ℕ) → Mem a list.now → a < length (with_kernel (classes_of classes.now)) }
-    ensures { IfOk result (λ all. all_at all.items ≡ along (with_kernel (classes_of classes.now)) list.now) }
-{
-    let mut all = Vec::new(alloc);
-    for place in list {
-        let face = face_of(kernel, classes, *place);
-        note_introduced(&mut all, face.entries.as_slice(), *place)?;
-    }
-    Ok(all)
-}
-
-fn note_introduced<'a>(
-    all: &mut Vec<Noted<'a>>,
-    entries: &'a [Entry],
-    place: usize,
-) -> Result<(), NoMemory>
-    ensures { OnOk result (all_at all.new.items ≡ all_at all.old.items ++ at_one place (introduced entries.now)) }
-{
-    for entry in entries {
-        if let Entry::Introduced { name, .. } = entry {
-            note(all, name.as_slice(), place)?;
-        }
-    }
-    Ok(())
 }

@@ -1,5 +1,6 @@
 //! What modifiers replace is inherited: S10 of texts.
 
+ghost use Rattle.som_introducers.specs.Introducers.{AreIntroducers};
 ghost use Rattle.som_model.specs.Kernel.{kernel_interface};
 ghost use Rattle.som_model.specs.Lists.{first};
 ghost use Rattle.som_order.specs.Names.{texts};
@@ -18,11 +19,11 @@ ghost use Rattle.std.specs.Prelude.{◌≡◌, ◌<◌, ◌+◌, length, map, fl
 use crate::ancestry::AncestorTable;
 use crate::bases::descends_from;
 use crate::declared::introducer_place;
-use crate::faces::places_above;
-use crate::places::Places;
+use crate::faces::ranking_above;
 use indexmap::IndexSet;
 use som_drafts::{Draft, Mark, breach, marks, parent_names, selecting};
 use som_idl::Modifier;
+use som_introducers::{Introducers, Ranking, introducers_of};
 use som_model::{ClassFace, NoMemory};
 use som_order::find_name;
 use som_rules::{Declared, VerifyFault};
@@ -52,9 +53,28 @@ pub fn replaced_inherited(
     requires from { from + length drafts.now ≡ length (with_kernel (classes_of classes.now)) }
     ensures { Tells (first (text_s10_from (module_in_scope scope.now) (with_kernel (classes_of classes.now)) from (plain_drafts drafts.now))) result }
 {
+    let introducers = introducers_of(alloc, kernel, classes)?;
+    inherited_by(alloc, scope, classes, ancestors, &introducers, drafts, from)
+}
+
+// The same, where it is known which classes introduce each name.
+fn inherited_by(
+    alloc: Global,
+    scope: &Scope,
+    classes: &[Declared],
+    ancestors: &AncestorTable,
+    introducers: &Introducers,
+    drafts: &[Draft],
+    from: usize,
+) -> Result<(), VerifyFault>
+    requires ancestors { IsAncestorTable (classes_of classes.now) ancestors.now }
+    requires introducers { AreIntroducers (with_kernel (classes_of classes.now)) introducers.now }
+    requires from { from + length drafts.now ≡ length (with_kernel (classes_of classes.now)) }
+    ensures { Tells (first (text_s10_from (module_in_scope scope.now) (with_kernel (classes_of classes.now)) from (plain_drafts drafts.now))) result }
+{
     let mut place = from;
     for draft in drafts {
-        own_inherited(alloc, scope, kernel, classes, ancestors, draft, place)?;
+        own_inherited(alloc, scope, classes, ancestors, introducers, draft, place)?;
         place += 1;
     }
     Ok(())
@@ -63,14 +83,14 @@ pub fn replaced_inherited(
 fn own_inherited(
     alloc: Global,
     scope: &Scope,
-    kernel: &[ClassFace],
     classes: &[Declared],
     ancestors: &AncestorTable,
+    introducers: &Introducers,
     draft: &Draft,
     place: usize,
 ) -> Result<(), VerifyFault>
-    requires kernel { kernel.now ≡ kernel_interface.classes }
     requires ancestors { IsAncestorTable (classes_of classes.now) ancestors.now }
+    requires introducers { AreIntroducers (with_kernel (classes_of classes.now)) introducers.now }
     requires place { place < length (with_kernel (classes_of classes.now)) }
     ensures { Tells (first (text_s10 (module_in_scope scope.now) (with_kernel (classes_of classes.now))
         (key_at (with_kernel (classes_of classes.now)) place) (plain_draft draft.now))) result }
@@ -80,7 +100,7 @@ fn own_inherited(
         return Ok(());
     }
     let lists = ancestors.lists.as_slice();
-    let above = places_above(alloc, kernel, classes, lists, place)?;
+    let above = ranking_above(alloc, introducers, classes, lists, place)?;
     let text = selecting_in(alloc, draft, &marks)?;
     marks_inherited(
         alloc, scope, classes, ancestors, &above, &text, draft, &marks, place,
@@ -112,7 +132,7 @@ fn marks_inherited(
     scope: &Scope,
     classes: &[Declared],
     ancestors: &AncestorTable,
-    above: &Places,
+    above: &Ranking,
     text: &Selecting,
     draft: &Draft,
     marks: &[Mark],
@@ -136,7 +156,7 @@ fn mark_inherits(
     scope: &Scope,
     classes: &[Declared],
     ancestors: &AncestorTable,
-    above: &Places,
+    above: &Ranking,
     text: &Selecting,
     mark: &Mark,
     place: usize,
@@ -174,7 +194,7 @@ fn mark_inherits(
 fn is_inherited(
     classes: &[Declared],
     ancestors: &AncestorTable,
-    above: &Places,
+    above: &Ranking,
     name: &[u8],
     place: usize,
 ) -> bool
@@ -190,7 +210,7 @@ fn may_take(
     scope: &Scope,
     classes: &[Declared],
     ancestors: &AncestorTable,
-    above: &Places,
+    above: &Ranking,
     name: &[u8],
     parent: &[u8],
     place: usize,

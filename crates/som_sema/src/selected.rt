@@ -1,5 +1,7 @@
 //! What the texts of classes select.
 
+ghost use Rattle.som_introducers.specs.Introducers.{AreIntroducers};
+ghost use Rattle.som_introducers.specs.Ranking.{IsRanking};
 ghost use Rattle.som_model.specs.Kernel.{kernel_interface};
 ghost use Rattle.som_order.specs.Names.{texts};
 ghost use Rattle.som_rules.specs.Modules.{classes_of};
@@ -8,15 +10,14 @@ ghost use Rattle.som_rules.specs.Walk.{AreLists};
 ghost use Rattle.som_drafts.specs.Drafts.{plain_draft};
 ghost use Rattle.som_sema.specs.Finished.{place_of, select_of, selects_at};
 ghost use Rattle.som_drafts.specs.Items.{chosen_by, given_by, or_object};
-ghost use Rattle.som_sema.specs.Noted.{IsKnown, along};
 ghost use Rattle.som_sema.specs.Selecting.{choice_of};
 ghost use Rattle.std.specs.Prelude.{◌≡◌, ◌<◌, ◌≤◌, [], length, map, flat_map, slice_index_or, IfOk};
 
 use crate::declared::introducer;
-use crate::faces::places_above;
-use crate::places::Places;
+use crate::faces::ranking_above;
 use som_drafts::{Draft, Mark, marks, parent_names};
 use som_idl::Modifier;
+use som_introducers::{Introducers, Ranking};
 use som_model::{ClassFace, List, MethodRef, NoMemory, Select, Text};
 use som_rules::Declared;
 use std::alloc::Global;
@@ -34,11 +35,13 @@ pub fn selects(
     kernel: &[ClassFace],
     classes: &[Declared],
     lists: &[List<usize>],
+    introducers: &Introducers,
     draft: &Draft,
     place: usize,
 ) -> Result<List<Select>, NoMemory>
     requires kernel { kernel.now ≡ kernel_interface.classes }
     requires lists { AreLists (with_kernel (classes_of classes.now)) lists.now }
+    requires introducers { AreIntroducers (with_kernel (classes_of classes.now)) introducers.now }
     requires place { place < length (with_kernel (classes_of classes.now)) }
     requires parents { length (or_object draft.now.text.now.parents) ≤ 255 }
     ensures { IfOk result (λ ss. ss ≡ selects_at (with_kernel (classes_of classes.now))
@@ -49,7 +52,7 @@ pub fn selects(
     if choices.is_empty() {
         return Ok(List::new(alloc));
     }
-    let above = places_above(alloc, kernel, classes, lists, place)?;
+    let above = ranking_above(alloc, introducers, classes, lists, place)?;
     let parents = parent_names(alloc, draft.text.parents.as_slice())?;
     each_select(
         alloc, kernel, classes, lists, &above, &parents, &choices, place,
@@ -77,7 +80,7 @@ fn each_select(
     kernel: &[ClassFace],
     classes: &[Declared],
     lists: &[List<usize>],
-    above: &Places,
+    above: &Ranking,
     parents: &[&[u8]],
     choices: &[Choice],
     place: usize,
@@ -85,7 +88,7 @@ fn each_select(
     requires kernel { kernel.now ≡ kernel_interface.classes }
     requires lists { AreLists (with_kernel (classes_of classes.now)) lists.now }
     requires place { place < length (with_kernel (classes_of classes.now)) }
-    requires above { IsKnown (along (with_kernel (classes_of classes.now)) (slice_index_or lists.now place [])) above.now }
+    requires above { IsRanking (with_kernel (classes_of classes.now)) (slice_index_or lists.now place []) above.now }
     requires parents { length parents.now ≤ 255 }
     ensures { IfOk result (λ ss. ss ≡ map (select_of (with_kernel (classes_of classes.now))
         (key_at_place (with_kernel (classes_of classes.now)) place) (texts parents.now)) (map choice_of choices.now)) }
@@ -103,7 +106,7 @@ fn one_select(
     kernel: &[ClassFace],
     classes: &[Declared],
     lists: &[List<usize>],
-    above: &Places,
+    above: &Ranking,
     parents: &[&[u8]],
     choice: &Choice,
     place: usize,
@@ -111,7 +114,7 @@ fn one_select(
     requires kernel { kernel.now ≡ kernel_interface.classes }
     requires lists { AreLists (with_kernel (classes_of classes.now)) lists.now }
     requires place { place < length (with_kernel (classes_of classes.now)) }
-    requires above { IsKnown (along (with_kernel (classes_of classes.now)) (slice_index_or lists.now place [])) above.now }
+    requires above { IsRanking (with_kernel (classes_of classes.now)) (slice_index_or lists.now place []) above.now }
     requires parents { length parents.now ≤ 255 }
     ensures { IfOk result (λ s. s ≡ select_of (with_kernel (classes_of classes.now))
         (key_at_place (with_kernel (classes_of classes.now)) place) (texts parents.now) (choice_of choice.now)) }

@@ -1,5 +1,5 @@
 use crate::Frames;
-use som_code::Code;
+use som_codes::Codes;
 use som_model::List;
 use som_objects::Cell;
 
@@ -9,7 +9,7 @@ use som_objects::Cell;
 #[derive(Drop)]
 pub struct Task {
     pub frames: Frames,
-    pub codes: Vec<Code>,
+    pub codes: Codes,
     pub statics: Vec<Option<List<Cell>>>,
     pub serials: List<u64>,
     pub granted: u32,

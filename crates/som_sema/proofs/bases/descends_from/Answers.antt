@@ -1,4 +1,4 @@
-use Rattle.std.proofs.Common.{length, ◌+◌, sym, ap, ◌∙◌, arith, subst, ◌<◌}
+use Rattle.std.proofs.Common.{length, ◌+◌, sym, ap, ◌∙◌, subst, ◌<◌}
 use Rattle.std.specs.Prelude.{None}
 use Rattle.som_model.specs.Classes.{is_a}
 use Rattle.som_model.specs.declared.key.ClassKey.{ClassKey}

@@ -1,4 +1,4 @@
-use Rattle.std.proofs.Common.{ap, ◌∙◌, sym, refl}
+use Rattle.std.proofs.Common.{◌∙◌, sym, refl}
 use Rattle.std.proofs.lemmas.Result.{err_from_is_err_and}
 use Rattle.som_scope.specs.ClassNames.{module_in_scope}
 use Rattle.som_drafts.specs.Drafts.{plain_drafts}

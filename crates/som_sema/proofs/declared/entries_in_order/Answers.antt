@@ -1,5 +1,4 @@
-use Rattle.std.proofs.Common.{List, ap, ◌∙◌}
-use Rattle.som_model.specs.declared.class.Entry.{Entry}
+use Rattle.std.proofs.Common.{ap, ◌∙◌}
 use Rattle.som_model.specs.Class.{entry_of}
 use Rattle.som_rules.specs.Modules.{classes_of}
 use Rattle.som_rules.specs.Places.{key_at, with_kernel}

@@ -1,6 +1,4 @@
-use Rattle.std.proofs.Common.{List, flat_map, map, refl, ap, ◌∙◌}
-use Rattle.som_model.specs.Lists.{first}
-use Rattle.som_model.specs.Rules.{RuleBreach}
+use Rattle.std.proofs.Common.{List, flat_map, map, refl}
 use Rattle.som_order.specs.Names.{texts}
 use Rattle.som_rules.specs.Modules.{classes_of}
 use Rattle.som_rules.specs.Places.{key_at, with_kernel}

@@ -1,4 +1,4 @@
-use Rattle.std.proofs.Common.{List, ◌∷◌, [], flat_map, map, ap, sym, subst, refl, ◌∙◌}
+use Rattle.std.proofs.Common.{List, flat_map, map, ap, subst, ◌∙◌}
 use Rattle.som_model.specs.Lists.{first}
 use Rattle.som_rules.specs.Modules.{classes_of}
 use Rattle.som_rules.specs.Places.{key_at, with_kernel}
@@ -11,8 +11,8 @@ use Rattle.som_sema.proofs.Composing.{table_lists}
 use Rattle.som_sema.proofs.Inheriting.{along_known}
 use Rattle.som_sema.proofs.inherited.own_inherited.Goals as goal
 
-pub places_above-requires-clause-lists : goal.places_above-requires-clause-lists
-places_above-requires-clause-lists c = table_lists (classes_of c.args.classes.now) c.args.ancestors.now c.as_slice-lists.result.now c.requires.ancestors c.as_slice-lists.ensures.value
+pub ranking_above-requires-clause-lists : goal.ranking_above-requires-clause-lists
+ranking_above-requires-clause-lists c = table_lists (classes_of c.args.classes.now) c.args.ancestors.now c.as_slice-lists.result.now c.requires.ancestors c.as_slice-lists.ensures.value
 
 pub marks_inherited-requires-clause-above : goal.marks_inherited-requires-clause-above
 marks_inherited-requires-clause-above c = record {

@@ -1,8 +1,7 @@
-use Rattle.std.proofs.Common.{◌≡◌, ℕ, ◌+◌, ◌++◌, List, ◌∷◌, [], drop, flat_map, map, ap, refl, sym, ◌∙◌}
+use Rattle.std.proofs.Common.{ℕ, ◌+◌, ◌++◌, List, ◌∷◌, [], drop, flat_map, map, ap, refl, sym, ◌∙◌}
 use Rattle.som_drafts.specs.Items.{Chosen, chosen_by, chosen_in, given_by}
 use Rattle.som_sema.specs.Selecting.{choice_of}
 use Rattle.som_drafts.specs.declared.given.Mark.{Mark}
-use Rattle.som_sema.specs.declared.selected.Choice.{Choice}
 use Rattle.som_scope.proofs.Going.{next, next_none, pushed, rest_end}
 use Rattle.som_drafts.proofs.Unsaid.{not_chosen}
 use Rattle.som_sema.proofs.selected.choices.Goals as goal

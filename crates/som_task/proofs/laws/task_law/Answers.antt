@@ -1,4 +1,5 @@
 use Rattle.std.proofs.Common.{refl}
+use Rattle.som_codes.specs.Coded.{codes_of}
 use Rattle.som_task.proofs.Later.{own_frames_still}
 use Rattle.som_task.proofs.Objects.{heap_spared, serials_spared}
 use Rattle.som_task.proofs.Classes.{statics_still}
@@ -9,7 +10,7 @@ returns c k os new t fs h spared come = record {
   linked = come.linked;
   serials = serials_spared t.serials os new spared come.serials;
   frames = come.frames;
-  own = own_frames_still k t.serials t.codes.items os new spared.known t.frames come.own;
+  own = own_frames_still k t.serials (codes_of t.codes) os new spared.known t.frames come.own;
   heap = heap_spared k t.serials os new h spared come.heap;
   statics = statics_still k t.serials os new t.statics.items h h spared.known (λ x. refl) come.statics;
 }

@@ -1,0 +1,2 @@
+pub mod Introducers
+pub mod Ranking

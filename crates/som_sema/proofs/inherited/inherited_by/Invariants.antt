@@ -1,0 +1,15 @@
+use Rattle.std.proofs.Common.{◌≡◌, ◌+◌, drop}
+use Rattle.som_model.specs.Lists.{first}
+use Rattle.som_scope.specs.ClassNames.{module_in_scope}
+use Rattle.som_drafts.specs.Drafts.{plain_drafts}
+use Rattle.som_sema.specs.TextRules.{text_s10_from}
+use Rattle.som_rules.specs.Modules.{classes_of}
+use Rattle.som_rules.specs.Places.{with_kernel}
+use Rattle.som_sema.proofs.inherited.inherited_by.Given as goal
+
+abbrev pub invariant-loop-draft : goal.invariant-loop-draft
+invariant-loop-draft l = record {
+  place : l.place ≡ l.from + l.draft-index;
+  same : first (text_s10_from (module_in_scope l.scope) (with_kernel (classes_of l.classes)) l.place (plain_drafts (drop l.draft-index l.drafts)))
+      ≡ first (text_s10_from (module_in_scope l.scope) (with_kernel (classes_of l.classes)) l.from (plain_drafts l.drafts));
+}
