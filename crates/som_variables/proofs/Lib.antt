@@ -1,1 +1,5 @@
-pub mod Meant
+pub mod Zero
+pub mod Classes
+pub mod Placed
+pub mod Reading
+pub mod Writing

@@ -1,1 +1,4 @@
-pub mod Reading
+pub mod Acting
+pub mod Cells
+pub mod Objects
+pub mod Statics

@@ -1,10 +1,12 @@
-//! The variables of objects: where they stand, and what they hold.
+//! The variables of objects and of class objects: where they stand, what they hold, and how they change.
 #![tactic(auto)]
 
-mod layout;
+mod kernel;
 mod objects;
+mod statics;
+mod variables;
 mod zeros;
 
-pub use layout::Layout;
-pub use objects::read_object;
-pub use zeros::zero_cell;
+pub use objects::read_cell;
+pub use variables::{assign, read};
+pub use zeros::{zero_cell, zero_cells, zero_of};

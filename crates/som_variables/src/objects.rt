@@ -1,70 +1,19 @@
-ghost use Rattle.som_model.specs.Expressions.{read};
-ghost use Rattle.som_model.specs.State.{Heap, Object, To};
-ghost use Rattle.som_objects.specs.Objects.{HasClass, InRange, IsKnown};
-ghost use Rattle.som_task.specs.Own.{IsOwn};
-ghost use Rattle.som_task.specs.Stored.{HoldsHeap};
-ghost use Rattle.som_values.specs.Answers.{Answers};
-ghost use Rattle.som_values.specs.Shown.{IsMade, IsNumbered, key_of, place_of, showing};
-ghost use Rattle.som_variables.specs.Reading.{IsCell, IsHeld};
-ghost use Rattle.std.specs.Prelude.{ℕ, IfOk, List};
+ghost use Rattle.som_model.specs.Rules.{is_void};
+ghost use Rattle.som_objects.specs.Objects.{HasClass, InRange, IsKnown, KeepsKnown};
+ghost use Rattle.som_values.specs.Shown.{IsNumbered, key_of};
+ghost use Rattle.som_variables.specs.Objects.{IsCell, IsOfClass, IsOfObject, IsWhole, IsWritten};
+ghost use Rattle.std.specs.Prelude.{◌≡◌, OnErr, false};
 
-use crate::{Layout, zero_cell};
+use crate::kernel::{place_of, sure_place, zero_variable};
 use som_model::Fault;
 use som_objects::{Cell, ObjRef, ObjectStore};
+use som_runtime::Runtime;
 use som_tables::ClassNo;
 use som_values::{Stopped, copy_cell};
 use std::alloc::Global;
 
-/// A variable of an object: what its cell holds, or the zero value where the object has no such variable. The fault
-/// is Freed.
-pub fn read_object<L: Layout>(
-    alloc: Global,
-    layout: &L,
-    objects: &ObjectStore,
-    object: &ObjRef,
-    class: ClassNo,
-    variable: u8,
-) -> Result<Cell, Stopped>
-    requires class { IsNumbered (L.linked layout.now).keys class }
-    requires known { IsKnown objects.now object.now }
-    requires held { IsHeld (L.linked layout.now) objects.now object.now }
-    ensures means { (xs : List ℕ) (h : Heap) → IsMade xs object.now.serial → HoldsHeap (L.linked layout.now) xs objects.now h
-        → Answers (showing (L.linked layout.now).keys xs) result (read (key_of (L.linked layout.now).keys class) variable (To (Object (place_of xs object.now.serial))) h) }
-    ensures own { (xs : List ℕ) (h : Heap) → IsMade xs object.now.serial → HoldsHeap (L.linked layout.now) xs objects.now h
-        → IfOk result (IsOwn (showing (L.linked layout.now).keys xs) objects.now) }
-{
-    match objects.class(object) {
-        Ok(of) => read_live(alloc, layout, objects, object, of, class, variable),
-        Err(_) => Err(Stopped::Fault(Fault::Freed)),
-    }
-}
-
-// The same of an object of this class.
-fn read_live<L: Layout>(
-    alloc: Global,
-    layout: &L,
-    objects: &ObjectStore,
-    object: &ObjRef,
-    of: ClassNo,
-    class: ClassNo,
-    variable: u8,
-) -> Result<Cell, Stopped>
-    requires class { IsNumbered (L.linked layout.now).keys class }
-    requires known { IsKnown objects.now object.now }
-    requires held { IsHeld (L.linked layout.now) objects.now object.now }
-    requires of { HasClass objects.now object.now of }
-    ensures means { (xs : List ℕ) (h : Heap) → IsMade xs object.now.serial → HoldsHeap (L.linked layout.now) xs objects.now h
-        → Answers (showing (L.linked layout.now).keys xs) result (read (key_of (L.linked layout.now).keys class) variable (To (Object (place_of xs object.now.serial))) h) }
-    ensures own { (xs : List ℕ) (h : Heap) → IsMade xs object.now.serial → HoldsHeap (L.linked layout.now) xs objects.now h
-        → IfOk result (IsOwn (showing (L.linked layout.now).keys xs) objects.now) }
-{
-    match layout.place(of, class, variable) {
-        Some(place) => read_cell(alloc, objects, object, place),
-        None => Ok(zero_cell(alloc, layout.zero(class, variable))),
-    }
-}
-
-fn read_cell(
+/// The cell at a place of an object, or the fault Freed.
+pub fn read_cell(
     alloc: Global,
     objects: &ObjectStore,
     object: &ObjRef,
@@ -76,6 +25,100 @@ fn read_cell(
 {
     match objects.read(object, place) {
         Ok(cell) => Ok(copy_cell(alloc, cell)?),
+        Err(_) => Err(Stopped::Fault(Fault::Freed)),
+    }
+}
+
+/// A variable of an object: what its cell holds, or the zero value where the object has no such variable. The fault
+/// is Freed.
+pub(crate) fn read_object<R: Runtime>(
+    alloc: Global,
+    runtime: &R,
+    objects: &ObjectStore,
+    object: &ObjRef,
+    class: ClassNo,
+    variable: u8,
+) -> Result<Cell, Stopped>
+    requires class { IsNumbered (R.linked runtime.now).keys class }
+    requires known { IsKnown objects.now object.now }
+    requires whole { IsWhole (R.linked runtime.now) (R.made runtime.now) objects.now object.now }
+    ensures { IsOfObject (R.linked runtime.now) objects.now object.now (key_of (R.linked runtime.now).keys class) variable result }
+{
+    match objects.class(object) {
+        Ok(of) => read_live(alloc, runtime, objects, object, of, class, variable),
+        Err(_) => Err(Stopped::Fault(Fault::Freed)),
+    }
+}
+
+// The same of an object of this class.
+fn read_live<R: Runtime>(
+    alloc: Global,
+    runtime: &R,
+    objects: &ObjectStore,
+    object: &ObjRef,
+    of: ClassNo,
+    class: ClassNo,
+    variable: u8,
+) -> Result<Cell, Stopped>
+    requires class { IsNumbered (R.linked runtime.now).keys class }
+    requires known { IsKnown objects.now object.now }
+    requires whole { IsWhole (R.linked runtime.now) (R.made runtime.now) objects.now object.now }
+    requires of { HasClass objects.now object.now of }
+    ensures { IsOfObject (R.linked runtime.now) objects.now object.now (key_of (R.linked runtime.now).keys class) variable result }
+{
+    match place_of(runtime, of, class, variable) {
+        Some(place) => read_cell(alloc, objects, object, place),
+        None => Ok(zero_variable(alloc, runtime, class, variable)),
+    }
+}
+
+/// A variable of an object gets a value in its cell. The fault is Freed.
+pub(crate) fn write_object<R: Runtime>(
+    runtime: &R,
+    objects: &mut ObjectStore,
+    object: &ObjRef,
+    class: ClassNo,
+    variable: u8,
+    cell: Cell,
+) -> Result<(), Stopped>
+    requires class { IsNumbered (R.linked runtime.now).keys class }
+    requires known { IsKnown objects.old object.now }
+    requires whole { IsWhole (R.linked runtime.now) (R.made runtime.now) objects.old object.now }
+    requires below { IsOfClass (R.linked runtime.now) objects.old object.now (key_of (R.linked runtime.now).keys class) }
+    requires variable { is_void ((R.linked runtime.now).world.variable (key_of (R.linked runtime.now).keys class) variable) ≡ false }
+    ensures written { IsWritten (R.linked runtime.now) objects.old objects.new object.now (key_of (R.linked runtime.now).keys class) variable cell result }
+    ensures err { OnErr result (objects.new ≡ objects.old) }
+    ensures keeps { KeepsKnown objects.old objects.new }
+{
+    match objects.class(object) {
+        Ok(of) => write_live(runtime, objects, object, of, class, variable, cell),
+        Err(_) => Err(Stopped::Fault(Fault::Freed)),
+    }
+}
+
+// The same of an object of this class.
+fn write_live<R: Runtime>(
+    runtime: &R,
+    objects: &mut ObjectStore,
+    object: &ObjRef,
+    of: ClassNo,
+    class: ClassNo,
+    variable: u8,
+    cell: Cell,
+) -> Result<(), Stopped>
+    requires class { IsNumbered (R.linked runtime.now).keys class }
+    requires known { IsKnown objects.old object.now }
+    requires whole { IsWhole (R.linked runtime.now) (R.made runtime.now) objects.old object.now }
+    requires below { IsOfClass (R.linked runtime.now) objects.old object.now (key_of (R.linked runtime.now).keys class) }
+    requires variable { is_void ((R.linked runtime.now).world.variable (key_of (R.linked runtime.now).keys class) variable) ≡ false }
+    requires of { HasClass objects.old object.now of }
+    ensures written { IsWritten (R.linked runtime.now) objects.old objects.new object.now (key_of (R.linked runtime.now).keys class) variable cell result }
+    ensures err { OnErr result (objects.new ≡ objects.old) }
+    ensures keeps { KeepsKnown objects.old objects.new }
+{
+    let place = sure_place(runtime, of, class, variable);
+    match objects.write(object, place, cell) {
+        Ok(()) => Ok(()),
         Err(_) => Err(Stopped::Fault(Fault::Freed)),
     }
 }

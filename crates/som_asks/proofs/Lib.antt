@@ -1,0 +1,4 @@
+pub mod Firsts
+pub mod Known
+pub mod Meant
+pub mod Rows

@@ -1,6 +1,0 @@
-pub mod Marks
-pub mod Filled
-pub mod Parts
-pub mod Order
-pub mod Introducing
-pub mod Above
