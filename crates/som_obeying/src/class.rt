@@ -3,11 +3,13 @@ ghost use Rattle.som_model.specs.Made.{ComesOf};
 ghost use Rattle.som_model.specs.State.{Used};
 ghost use Rattle.som_model.specs.declared.key.ClassKey.{ClassKey as Key};
 ghost use Rattle.som_moves.specs.Scene.{scene};
+ghost use Rattle.som_moves.specs.declared.stop.Stop.{Stop as Stopped};
+ghost use Rattle.som_moves.specs.declared.stop.Stop.TheVariants as stops;
 ghost use Rattle.som_obeying.specs.Obeying.{ComesTo, following, next_of};
 ghost use Rattle.som_objects.specs.Objects.{Objects};
 ghost use Rattle.som_task.specs.declared.task.Task.{Task};
 ghost use Rattle.som_values.specs.Shown.{IsKey};
-ghost use Rattle.std.specs.Prelude.{◌≡◌, ◌⊎◌, ◌<◌, ◌+◌, ◌^◌, ◌∷◌, [], ℕ, OnOk, Some, true};
+ghost use Rattle.std.specs.Prelude.{◌≡◌, ◌⊎◌, ◌<◌, ◌+◌, ◌^◌, ◌∷◌, [], ℕ, Err, OnOk, Some, true};
 
 use crate::outcome::Outcome;
 use som_instructions::push;
@@ -29,11 +31,13 @@ pub(crate) fn class_object<R: Runtime>(
     requires key { IsKey (R.keys runtime.old) class.now }
     ensures linked { R.linked runtime.new ≡ R.linked runtime.old }
     ensures known { R.known runtime.new ≡ R.known runtime.old }
+    ensures program { R.program runtime.new ≡ R.program runtime.old }
     ensures keeps { (k : Key) → R.made runtime.old k ≡ true → R.made runtime.new k ≡ true }
+    ensures wants { (e : Stopped) → result ≡ Err e → e ≡ stops.NoMemory }
     ensures made { OnOk result (R.made runtime.new class.now ≡ true) }
     ensures only { (k : Key) → R.made runtime.new k ≡ true → (R.made runtime.old k ≡ true) ⊎ ComesOf (R.known runtime.old).classes (class.now ∷ []) k }
-    ensures comes { (os : Objects) (t : Task) (f : ℕ) → next_of (scene (R.linked runtime.old) (R.known runtime.old).classes (R.made runtime.old) os t f) body.old ≡ Some (ops.Class class.now)
-        → ComesTo (scene (R.linked runtime.old) (R.known runtime.old).classes (R.made runtime.old) os t f) (scene (R.linked runtime.new) (R.known runtime.new).classes (R.made runtime.new) os t f)
+    ensures comes { (os : Objects) (t : Task) (f : ℕ) → next_of (scene (R.linked runtime.old) (R.known runtime.old) (R.program runtime.old) (R.made runtime.old) os t f) body.old ≡ Some (ops.Class class.now)
+        → ComesTo (scene (R.linked runtime.old) (R.known runtime.old) (R.program runtime.old) (R.made runtime.old) os t f) (scene (R.linked runtime.new) (R.known runtime.new) (R.program runtime.new) (R.made runtime.new) os t f)
             body.old (following result body.new) (Used class.now ∷ []) }
 {
     let number = runtime.number_of(class);

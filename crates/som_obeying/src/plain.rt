@@ -2,6 +2,7 @@ ghost use Rattle.som_instructions.specs.Cells.{top_cell};
 ghost use Rattle.som_instructions.specs.Doing.{Did, HasClasses};
 ghost use Rattle.som_model.specs.State.{Heap};
 ghost use Rattle.som_moves.specs.Scene.{scene};
+ghost use Rattle.som_moves.specs.declared.stop.Stop.TheVariants as stops;
 ghost use Rattle.som_obeying.specs.Obeying.{ComesTo, following, is_plain, next_of, stop_at};
 ghost use Rattle.som_task.specs.Own.{IsOwnBody};
 ghost use Rattle.som_task.specs.Settings.{Setting};
@@ -9,7 +10,7 @@ ghost use Rattle.som_task.specs.Stored.{HoldsHeap};
 ghost use Rattle.som_task.specs.declared.task.Task.{Task};
 ghost use Rattle.som_values.specs.Shown.{AreApart};
 ghost use Rattle.som_values.specs.Stored.{IsClassed, IsKept};
-ghost use Rattle.std.specs.Prelude.{◌≡◌, ◌<◌, ◌+◌, ◌^◌, [], ℕ, OnOk, Some, true};
+ghost use Rattle.std.specs.Prelude.{◌≡◌, ◌≢◌, ◌<◌, ◌+◌, ◌^◌, [], ℕ, Err, OnOk, Some, true};
 
 use crate::outcome::Outcome;
 use som_code::Instruction;
@@ -39,8 +40,9 @@ pub(crate) fn obey_plain<R: Runtime>(
     requires kind { is_plain instruction.now ≡ true }
     requires kept { IsKept objects.now (top_cell body.old.operands.items) }
     requires classed { IsClassed (R.keys runtime.now) (R.made runtime.now) objects.now (top_cell body.old.operands.items) }
-    ensures { (t : Task) (f : ℕ) → next_of (scene (R.linked runtime.now) (R.known runtime.now).classes (R.made runtime.now) objects.now t f) body.old ≡ Some instruction.now
-        → ComesTo (scene (R.linked runtime.now) (R.known runtime.now).classes (R.made runtime.now) objects.now t f) (scene (R.linked runtime.now) (R.known runtime.now).classes (R.made runtime.now) objects.now t f)
+    ensures sound { result ≢ Err stops.SinkFailed }
+    ensures comes { (t : Task) (f : ℕ) → next_of (scene (R.linked runtime.now) (R.known runtime.now) (R.program runtime.now) (R.made runtime.now) objects.now t f) body.old ≡ Some instruction.now
+        → ComesTo (scene (R.linked runtime.now) (R.known runtime.now) (R.program runtime.now) (R.made runtime.now) objects.now t f) (scene (R.linked runtime.now) (R.known runtime.now) (R.program runtime.now) (R.made runtime.now) objects.now t f)
             body.old (following result body.new) [] }
 {
     runtime.know();
@@ -53,7 +55,8 @@ pub(crate) fn obey_plain<R: Runtime>(
 
 /// Why a task stops, where a value isn't answered in this place.
 pub(crate) fn stop(at: Place, stopped: Stopped) -> Stop
-    ensures { result ≡ stop_at at stopped }
+    ensures value { result ≡ stop_at at stopped }
+    ensures sound { result ≢ stops.SinkFailed }
 {
     match stopped {
         Stopped::Fault(fault) => Stop::Fault { fault, at },

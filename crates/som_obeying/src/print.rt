@@ -1,7 +1,8 @@
 ghost use Rattle.som_code.specs.declared.instruction.Instruction.TheVariants as ops;
 ghost use Rattle.som_instructions.specs.Cells.{top_cell};
 ghost use Rattle.som_io.specs.Outside.{Rose, ShowsFront};
-ghost use Rattle.som_model.specs.Class.{Class};
+ghost use Rattle.som_meta.specs.Numbering.{Numbering};
+ghost use Rattle.som_model.specs.declared.syntax.Block.{Block};
 ghost use Rattle.som_model.specs.RunText.{events_lines, with_prefix};
 ghost use Rattle.som_model.specs.State.{Printed};
 ghost use Rattle.som_model.specs.Values.{text_of as text_in};
@@ -36,9 +37,9 @@ pub(crate) fn print<K: Sink>(
     body: &mut Body,
 ) -> Result<Outcome, Stop>
     requires { body.old.at + 1 < 2 ^ 64 }
-    ensures comes { (l : Linked) (all : List Class) (made : ClassKey → Bool) (os : Objects) (t : Task) (f : ℕ) → AreClosed l.world made → next_of (scene l all made os t f) body.old ≡ Some ops.Print
-        → ComesTo (scene l all made os t f) (scene l all made os t f) body.old (following result body.new)
-            (Printed (text_in (shown (shows_cells (setting_of (scene l all made os t f))) (top_cell body.old.operands.items))) ∷ []) }
+    ensures comes { (l : Linked) (kn : Numbering) (main : Block) (made : ClassKey → Bool) (os : Objects) (t : Task) (f : ℕ) → AreClosed l.world made → next_of (scene l kn main made os t f) body.old ≡ Some ops.Print
+        → ComesTo (scene l kn main made os t f) (scene l kn main made os t f) body.old (following result body.new)
+            (Printed (text_in (shown (shows_cells (setting_of (scene l kn main made os t f))) (top_cell body.old.operands.items))) ∷ []) }
     ensures tells { (s : Showing) (shows : List ℕ → Bool) → IfTold (following result body.new)
         (Tells shows prefix.now (K.written out.old) (K.written out.new) (Printed (text_in (shown s (top_cell body.old.operands.items))) ∷ [])) }
     ensures front { (s : Showing) (shows : List ℕ → Bool) → ShowsFront (K.written out.old) (K.written out.new)

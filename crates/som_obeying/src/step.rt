@@ -34,13 +34,13 @@ pub(crate) fn step<R: Runtime, K: Sink>(
     out: &mut K,
     body: &mut Body,
 ) -> Result<Outcome, Stop>
-    requires running { IsRunning (scene (R.linked runtime.old) (R.known runtime.old).classes (R.made runtime.old) objects.old task.old fuel.old) body.old }
-    requires no_call { is_call (next_of (scene (R.linked runtime.old) (R.known runtime.old).classes (R.made runtime.old) objects.old task.old fuel.old) body.old) ≡ false }
+    requires running { IsRunning (scene (R.linked runtime.old) (R.known runtime.old) (R.program runtime.old) (R.made runtime.old) objects.old task.old fuel.old) body.old }
+    requires no_call { is_call (next_of (scene (R.linked runtime.old) (R.known runtime.old) (R.program runtime.old) (R.made runtime.old) objects.old task.old fuel.old) body.old) ≡ false }
     ensures obeyed { Obeyed prefix.now (K.written out.old) (K.written out.new)
-        (scene (R.linked runtime.old) (R.known runtime.old).classes (R.made runtime.old) objects.old task.old fuel.old)
-        (scene (R.linked runtime.new) (R.known runtime.new).classes (R.made runtime.new) objects.new task.new fuel.new) body.old (following result body.new) }
-    ensures keeps { Keeps (scene (R.linked runtime.old) (R.known runtime.old).classes (R.made runtime.old) objects.old task.old fuel.old)
-        (scene (R.linked runtime.new) (R.known runtime.new).classes (R.made runtime.new) objects.new task.new fuel.new) }
+        (scene (R.linked runtime.old) (R.known runtime.old) (R.program runtime.old) (R.made runtime.old) objects.old task.old fuel.old)
+        (scene (R.linked runtime.new) (R.known runtime.new) (R.program runtime.new) (R.made runtime.new) objects.new task.new fuel.new) body.old (following result body.new) }
+    ensures keeps { Keeps (scene (R.linked runtime.old) (R.known runtime.old) (R.program runtime.old) (R.made runtime.old) objects.old task.old fuel.old)
+        (scene (R.linked runtime.new) (R.known runtime.new) (R.program runtime.new) (R.made runtime.new) objects.new task.new fuel.new) }
 
     ensures later { K.faults out.old ≤ K.faults out.new }
     ensures cause { result ≡ Err stops.SinkFailed → Rose (K.faults out.old) (K.faults out.new) }
@@ -50,7 +50,7 @@ pub(crate) fn step<R: Runtime, K: Sink>(
     ensures calm_answer { K.calm out.old → result ≢ Err stops.SinkFailed }
 {
     runtime.know();
-    let code = &task.codes[body.code];
+    let code = task.codes.get(body.code);
     if body.at >= code.len() {
         return Ok(Outcome::Answers(zero_cell(alloc, body.zero)));
     }
