@@ -4,7 +4,7 @@ use Rattle.std.specs.List.{All}
 use Rattle.std.specs.Option.{is_some, IfSome, IfNone}
 use Rattle.som_model.specs.declared.key.MethodRef.{MethodRef}
 use Rattle.som_model.specs.World.{World}
-use Rattle.som_model.specs.State.{Value, Long, Str}
+use Rattle.som_model.specs.State.{Long, Str}
 use Rattle.som_model.specs.Values.{text_of, number_of}
 use Rattle.som_model.specs.Invoked.{first_argument, further_arguments, class_found, version_fits}
 use Rattle.som_objects.specs.declared.cell.Cell.{Cell}

@@ -1,5 +1,5 @@
 -- Who may ask, and what is answered.
-use Rattle.std.specs.Prelude.{◌≡◌, ℕ, Bool, List, [], Option, Result, IfOk}
+use Rattle.std.specs.Prelude.{ℕ, Bool, List, [], Option, Result, IfOk}
 use Rattle.std.specs.List.{All}
 use Rattle.som_model.specs.declared.key.ClassKey.{ClassKey}
 use Rattle.som_model.specs.World.{World}
