@@ -7,3 +7,4 @@ pub mod Coming
 pub mod Special
 pub mod Telling
 pub mod Whole
+pub mod Varying

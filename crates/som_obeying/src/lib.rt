@@ -5,5 +5,5 @@ mod class;
 mod outcome;
 mod plain;
 mod print;
-mod step;
 mod turn;
+mod variables;
