@@ -7,3 +7,4 @@ pub mod Reading
 pub mod Above
 pub mod Reached
 pub mod Answering
+pub mod Pairing

@@ -41,6 +41,23 @@ impl<S: Stage> Model for Kernel<S> {
     ghost view = { λ k. k.stage };
 }
 
+/// The linked kernel of these classes and main, which makes the kernel's four.
+pub(crate) fn kernel_of(
+    alloc: Global,
+    classes: List<Keyed>,
+    main: Block,
+) -> Result<Kernel<Linked>, NoMemory>
+    requires { Loads (classes_of classes) main }
+    ensures classes { IfOk result (λ k. k.classes.classes ≡ kernel ++ classes_of classes) }
+    ensures main { IfOk result (λ k. k.main ≡ main) }
+    ensures made { IfOk result (λ k. (n : ℕ) → IsMadeIn k n ↔ (n < 4)) }
+    ensures all { IfOk result (IsMadeBy [] []) }
+{
+    let stage = lay(alloc, classes, main)?;
+    let _classes = stage.classes();
+    Ok(Kernel { stage })
+}
+
 impl Kernel<Unlinked> {
     /// A kernel that isn't linked yet. So far it takes no memory.
     pub fn new() -> Result<Kernel<Unlinked>, NoMemory> {
@@ -62,9 +79,7 @@ impl Kernel<Unlinked> {
     {
         let main = main.copy(alloc)?;
         let classes = copy_classes(alloc, classes.as_slice())?;
-        let stage = lay(alloc, classes, main)?;
-        let _classes = stage.classes();
-        Ok(Kernel { stage })
+        kernel_of(alloc, classes, main)
     }
 }
 
