@@ -17,7 +17,7 @@ returns-in_err-reach-clause-comes g c os t f is =
     let r = c.reach.new.self in
     let was = scene (g.R.Runtime.linked c.args.runtime.now) (g.R.ClassKeys.known c.args.runtime.now) (g.R.Runtime.program c.args.runtime.now) (g.R.Classes.made c.args.runtime.now) os t f in
     wants_comes was (scene (g.R.Runtime.linked r) (g.R.ClassKeys.known r) (g.R.Runtime.program r) (g.R.Classes.made r) os t f) c.args.body.now _ p.0 c.from_residual.result _ (inr p.2) p.1
-    (λ ws s fuel. class_begins (g.R.Runtime.linked c.args.runtime.now) (g.R.ClassKeys.known c.args.runtime.now) (g.R.Runtime.program c.args.runtime.now) (g.R.Classes.made c.args.runtime.now) (g.R.Classes.made r) c.reach.ensures.keeps os t f c.args.body.now c.args.class.now is ws s)
+    (λ ws s runs fuel. class_begins (g.R.Runtime.linked c.args.runtime.now) (g.R.ClassKeys.known c.args.runtime.now) (g.R.Runtime.program c.args.runtime.now) (g.R.Classes.made c.args.runtime.now) (g.R.Classes.made r) c.reach.ensures.keeps os t f c.args.body.now c.args.class.now is ws s)
 
 pub returns-in_err-push-clause-comes : goal.returns-in_err-push-clause-comes
 returns-in_err-push-clause-comes g c os t f is =
@@ -25,7 +25,7 @@ returns-in_err-push-clause-comes g c os t f is =
     let r = c.reach.new.self in
     let was = scene (g.R.Runtime.linked c.args.runtime.now) (g.R.ClassKeys.known c.args.runtime.now) (g.R.Runtime.program c.args.runtime.now) (g.R.Classes.made c.args.runtime.now) os t f in
     wants_comes was (scene (g.R.Runtime.linked r) (g.R.ClassKeys.known r) (g.R.Runtime.program r) (g.R.Classes.made r) os t f) c.args.body.now _ p.0 c.from_residual-in_err-push.result _ (inr p.2) p.1
-    (λ ws s fuel. class_begins (g.R.Runtime.linked c.args.runtime.now) (g.R.ClassKeys.known c.args.runtime.now) (g.R.Runtime.program c.args.runtime.now) (g.R.Classes.made c.args.runtime.now) (g.R.Classes.made r) c.reach.ensures.keeps os t f c.args.body.now c.args.class.now is ws s)
+    (λ ws s runs fuel. class_begins (g.R.Runtime.linked c.args.runtime.now) (g.R.ClassKeys.known c.args.runtime.now) (g.R.Runtime.program c.args.runtime.now) (g.R.Classes.made c.args.runtime.now) (g.R.Classes.made r) c.reach.ensures.keeps os t f c.args.body.now c.args.class.now is ws s)
 
 pub returns-clause-made : goal.returns-clause-made
 returns-clause-made g c = subst (λ k. g.R.Classes.made c.reach.new.self k ≡ true) c.number_of-number.ensures.key c.in_ok-reach.ensures.made

@@ -15,7 +15,7 @@ use Rattle.som_obeying.proofs.print.print.Goals as goal
 pub returns-in_err-text-clause-comes : goal.returns-in_err-text-clause-comes
 returns-in_err-text-clause-comes g c l kn main made os t f closed is =
     let p = err_from_is_err_and c.from_residual.result c.from_residual.ensures.1 in
-    wants_comes (scene l kn main made os t f) (scene l kn main made os t f) c.args.body.now _ p.0 c.from_residual.result _ (inr p.2) p.1 (λ ws s fuel. print_begins l kn main made os t closed c.args.body.now f is ws s)
+    wants_comes (scene l kn main made os t f) (scene l kn main made os t f) c.args.body.now _ p.0 c.from_residual.result _ (inr p.2) p.1 (λ ws s runs fuel. print_begins l kn main made os t closed c.args.body.now f is ws s)
 
 pub returns-in_err-text-clause-front : goal.returns-in_err-text-clause-front
 returns-in_err-text-clause-front g c s shows = front_none (g.K.Sink.written c.args.out.now) _
@@ -23,7 +23,7 @@ returns-in_err-text-clause-front g c s shows = front_none (g.K.Sink.written c.ar
 pub returns-in_err-tell_printed-clause-comes : goal.returns-in_err-tell_printed-clause-comes
 returns-in_err-tell_printed-clause-comes g c l kn main made os t f closed is =
     let p = err_from_is_err_and c.from_residual-in_err-tell_printed.result c.from_residual-in_err-tell_printed.ensures.1 in
-    wants_comes (scene l kn main made os t f) (scene l kn main made os t f) c.args.body.now _ p.0 c.from_residual-in_err-tell_printed.result _ (untold_wants c.in_err-tell_printed.field-0.0 p.0 p.2) p.1 (λ ws s fuel. print_begins l kn main made os t closed c.args.body.now f is ws s)
+    wants_comes (scene l kn main made os t f) (scene l kn main made os t f) c.args.body.now _ p.0 c.from_residual-in_err-tell_printed.result _ (untold_wants c.in_err-tell_printed.field-0.0 p.0 p.2) p.1 (λ ws s runs fuel. print_begins l kn main made os t closed c.args.body.now f is ws s)
 
 pub returns-in_err-tell_printed-clause-front : goal.returns-in_err-tell_printed-clause-front
 returns-in_err-tell_printed-clause-front g c s shows =

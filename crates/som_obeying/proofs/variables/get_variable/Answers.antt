@@ -31,7 +31,7 @@ returns-in_err-push-in-Ok-clause-comes g c f is =
     let p = err_from_is_err_and c.from_residual.result c.from_residual.ensures.1 in
     let r = c.args.runtime.now in
     let here = scene (g.R.Runtime.linked r) (g.R.ClassKeys.known r) (g.R.Runtime.program r) (g.R.Classes.made r) c.args.objects.now c.args.task.now f in
-    wants_comes here here c.args.body.now _ p.0 c.from_residual.result [] (inr p.2) p.1 (λ ws s fuel. begins_nothing (act_of here c.args.body.now ws) s)
+    wants_comes here here c.args.body.now _ p.0 c.from_residual.result [] (inr p.2) p.1 (λ ws s runs fuel. begins_nothing (act_of here c.args.body.now ws) s)
 
 pub returns-in_ok-push-in-Ok-clause-comes : goal.returns-in_ok-push-in-Ok-clause-comes
 returns-in_ok-push-in-Ok-clause-comes g c f is =
