@@ -8,3 +8,5 @@ pub mod Special
 pub mod Telling
 pub mod Whole
 pub mod Varying
+pub mod Building
+pub mod Placing

@@ -2,8 +2,15 @@
 #![tactic(auto)]
 
 mod class;
+mod obeying;
 mod outcome;
 mod plain;
 mod print;
+mod proxy;
+mod spent;
+mod step;
 mod turn;
 mod variables;
+
+pub use obeying::obey;
+pub use spent::{is_call, is_spent};

@@ -98,7 +98,6 @@ fn build<R: Runtime>(
     ensures keeps { Keeps (scene (R.linked runtime.old) (R.known runtime.old) (R.program runtime.old) (R.made runtime.old) objects.old task.old fuel.old)
         (scene (R.linked runtime.new) (R.known runtime.new) (R.program runtime.new) (R.made runtime.new) objects.new task.new fuel.new) }
 {
-    runtime.know();
     if objects.made() == u64::MAX {
         return Err(Stop::NoMemory);
     }
