@@ -1,4 +1,4 @@
-use Rattle.std.proofs.Common.{◌≡◌, ◌<◌, List, [], ◌∷◌, Some, None, Ok, Err, refl, sym, ap, subst, ◌∙◌, arith}
+use Rattle.std.proofs.Common.{◌≡◌, ◌<◌, true, false, List, [], ◌∷◌, Some, None, Ok, Err, refl, sym, ap, subst, ◌∙◌, arith}
 use Rattle.som_code.specs.declared.instruction.Instruction.TheVariants as ops
 use Rattle.som_model.specs.Values.{text_of}
 use Rattle.som_values.specs.Shown.{shown}
@@ -7,9 +7,9 @@ use Rattle.som_task.specs.Settings.{shows}
 use Rattle.som_instructions.specs.Cells.{top_cell}
 use Rattle.som_moves.specs.Scene.{scene, setting_of}
 use Rattle.som_moves.specs.declared.stop.Stop.TheVariants as stops
-use Rattle.som_obeying.specs.Obeying.{following}
+use Rattle.som_obeying.specs.Obeying.{following, is_call, is_plain}
 use Rattle.som_obeying.proofs.Knowing.{closed_all}
-use Rattle.som_obeying.proofs.Placing.{class_key, has_code, next_none, next_some, proxy_key, top_classed}
+use Rattle.som_obeying.proofs.Placing.{class_key, has_code, next_none, next_some, plain_left, proxy_key, top_classed}
 use Rattle.som_obeying.proofs.Special.{end_comes, return_comes, value_comes}
 use Rattle.som_obeying.proofs.Varying.{top_own}
 use Rattle.som_obeying.proofs.Whole.{keeps_still, print_obeyed, quietly, use_obeyed}
@@ -398,7 +398,9 @@ obey_plain-requires g c =
     let prefix = c.args.prefix.now in
     let w = g.K.Sink.written c.args.out.now in
     let known = c.know.ensures in
-    let kind = ? in
+    let d = c.in_default in
+    let call = subst (λ o. is_call o ≡ false) (next_some t.codes b.code b.at c.get-code.result.now c.at.result.now c.at.result.now c.get-code.ensures c.at.ensures.value refl) c.requires.no_call in
+    let kind : is_plain c.at.result.now ≡ true = plain_left c.at.result.now d.not-Turn d.not-Class d.not-Print d.not-Return d.not-ReturnValue d.not-GetVariable d.not-SetVariable d.not-Proxy call in
     record {
       room = omega (arith, c.if-body-len.false, c.len.type_inv);
       kind = kind;
