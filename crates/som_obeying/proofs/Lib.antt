@@ -10,3 +10,4 @@ pub mod Whole
 pub mod Varying
 pub mod Building
 pub mod Placing
+pub mod Spending
