@@ -17,10 +17,10 @@ use Rattle.som_numbers.proofs.Declaring.{at_mem, mem_at}
 use Rattle.som_classes.specs.Loaded.{AreLoaded}
 use Rattle.som_closure.proofs.Closing.{comes_by}
 use Rattle.som_making.specs.Making.{IsNeedOf}
-use Rattle.som_classmgr.specs.Made.{IsReached, KeepsMade}
+use Rattle.som_made.specs.Made.{IsReached, KeepsMade}
 use Rattle.som_classmgr.specs.Linked.{IsLinked, IsMadeIn, Linkage}
 use Rattle.som_classmgr.specs.Reached.{IsMadeBy}
-use Rattle.som_classmgr.proofs.Marks.{within_marks}
+use Rattle.som_made.proofs.Marks.{within_marks}
 
 pub ok_then : {T E : Type 0} (r : Result T E) {A B : Type 0} → (A → B) → OnOk r A → OnOk r B
 ok_then (Ok x) f a = f a
