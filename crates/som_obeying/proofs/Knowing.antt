@@ -1,12 +1,11 @@
 -- What a kernel knows of its classes, as the laws ask for it.
-use Rattle.std.proofs.Common.{◌≡◌, Bool, true, List, ◌++◌, refl, sym, ap, subst, ◌∙◌}
+use Rattle.std.proofs.Common.{◌≡◌, Bool, List, ◌++◌, sym, ap, subst, ◌∙◌}
 use Rattle.som_model.specs.declared.key.ClassKey.{ClassKey}
 use Rattle.som_model.specs.declared.syntax.Block.{Block}
 use Rattle.som_model.specs.Lists.{Mem}
-use Rattle.som_model.specs.Class.{Class}
 use Rattle.som_model.specs.Kernel.{kernel}
-use Rattle.som_model.specs.Loads.{Loads, keys_of}
-use Rattle.som_model.specs.Made.{all_roots, root}
+use Rattle.som_model.specs.Loads.{keys_of}
+use Rattle.som_model.specs.Made.{root}
 use Rattle.som_model.specs.World.{World, world}
 use Rattle.som_meta.specs.Numbering.{Numbering}
 use Rattle.som_used.specs.Needs.{AreClosed}

@@ -1,7 +1,6 @@
 -- What is written outside, and what isn't.
-use Rattle.std.proofs.Common.{◌≡◌, ◌⊎◌, inl, inr, ℕ, Bool, List, [], ◌++◌, Option, Some, None, refl, sym, ap, append-nil}
-use Rattle.som_io.specs.Outside.{Shows, ShowsAll, ShowsFront}
-use Rattle.som_model.specs.State.{Event}
+use Rattle.std.proofs.Common.{◌≡◌, ◌⊎◌, inl, inr, ℕ, List, [], Option, Some, None, refl, sym, ap, append-nil}
+use Rattle.som_io.specs.Outside.{ShowsAll, ShowsFront}
 use Rattle.som_moves.specs.declared.stop.Stop.{Stop}
 use Rattle.som_moves.specs.declared.stop.Stop.TheVariants as stops
 use Rattle.som_telling.specs.declared.line.Untold.{Untold}

@@ -38,7 +38,7 @@ pub(crate) fn class_object<R: Runtime>(
     ensures only { (k : Key) → R.made runtime.new k ≡ true → (R.made runtime.old k ≡ true) ⊎ ComesOf (R.known runtime.old).classes (class.now ∷ []) k }
     ensures comes { (os : Objects) (t : Task) (f : ℕ) → next_of (scene (R.linked runtime.old) (R.known runtime.old) (R.program runtime.old) (R.made runtime.old) os t f) body.old ≡ Some (ops.Class class.now)
         → ComesTo (scene (R.linked runtime.old) (R.known runtime.old) (R.program runtime.old) (R.made runtime.old) os t f) (scene (R.linked runtime.new) (R.known runtime.new) (R.program runtime.new) (R.made runtime.new) os t f)
-            body.old (following result body.new) (Used class.now ∷ []) }
+        body.old (following result body.new) (Used class.now ∷ []) }
 {
     let number = runtime.number_of(class);
     runtime.reach(alloc, number)?;

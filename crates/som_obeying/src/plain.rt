@@ -16,8 +16,8 @@ use crate::outcome::Outcome;
 use som_code::Instruction;
 use som_host::HostTable;
 use som_instructions::{
-    binary, call_host, cast, cut, drop_top, get, isa, jump, push_constant, push_manager, push_me, set,
-    unary, unless,
+    binary, call_host, cast, cut, drop_top, get, isa, jump, push_constant, push_manager, push_me,
+    set, unary, unless,
 };
 use som_moves::Stop;
 use som_objects::ObjectStore;
@@ -43,7 +43,7 @@ pub(crate) fn obey_plain<R: Runtime>(
     ensures sound { result ≢ Err stops.SinkFailed }
     ensures comes { (t : Task) (f : ℕ) → next_of (scene (R.linked runtime.now) (R.known runtime.now) (R.program runtime.now) (R.made runtime.now) objects.now t f) body.old ≡ Some instruction.now
         → ComesTo (scene (R.linked runtime.now) (R.known runtime.now) (R.program runtime.now) (R.made runtime.now) objects.now t f) (scene (R.linked runtime.now) (R.known runtime.now) (R.program runtime.now) (R.made runtime.now) objects.now t f)
-            body.old (following result body.new) [] }
+        body.old (following result body.new) [] }
 {
     runtime.know();
     let at = body.place;

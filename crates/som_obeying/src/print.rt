@@ -39,7 +39,7 @@ pub(crate) fn print<K: Sink>(
     requires { body.old.at + 1 < 2 ^ 64 }
     ensures comes { (l : Linked) (kn : Numbering) (main : Block) (made : ClassKey → Bool) (os : Objects) (t : Task) (f : ℕ) → AreClosed l.world made → next_of (scene l kn main made os t f) body.old ≡ Some ops.Print
         → ComesTo (scene l kn main made os t f) (scene l kn main made os t f) body.old (following result body.new)
-            (Printed (text_in (shown (shows_cells (setting_of (scene l kn main made os t f))) (top_cell body.old.operands.items))) ∷ []) }
+        (Printed (text_in (shown (shows_cells (setting_of (scene l kn main made os t f))) (top_cell body.old.operands.items))) ∷ []) }
     ensures tells { (s : Showing) (shows : List ℕ → Bool) → IfTold (following result body.new)
         (Tells shows prefix.now (K.written out.old) (K.written out.new) (Printed (text_in (shown s (top_cell body.old.operands.items))) ∷ [])) }
     ensures front { (s : Showing) (shows : List ℕ → Bool) → ShowsFront (K.written out.old) (K.written out.new)

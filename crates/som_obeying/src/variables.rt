@@ -36,12 +36,20 @@ pub(crate) fn get_variable<R: Runtime>(
     ensures sound { result ≢ Err stops.SinkFailed }
     ensures comes { (f : ℕ) → next_of (scene (R.linked runtime.now) (R.known runtime.now) (R.program runtime.now) (R.made runtime.now) objects.now task.now f) body.old ≡ Some (ops.GetVariable variable)
         → ComesTo (scene (R.linked runtime.now) (R.known runtime.now) (R.program runtime.now) (R.made runtime.now) objects.now task.now f) (scene (R.linked runtime.now) (R.known runtime.now) (R.program runtime.now) (R.made runtime.now) objects.now task.now f)
-            body.old (following result body.new) [] }
+        body.old (following result body.new) [] }
 {
     runtime.know();
     let class = class_at(runtime, &body.place);
     let at = body.place;
-    match read(alloc, runtime, objects, &task.statics, body.me, class, variable) {
+    match read(
+        alloc,
+        runtime,
+        objects,
+        &task.statics,
+        body.me,
+        class,
+        variable,
+    ) {
         Ok(cell) => {
             push(&mut body.operands, cell)?;
             body.at += 1;
@@ -65,7 +73,7 @@ pub(crate) fn set_variable<R: Runtime>(
     requires is { (f : ℕ) → next_of (scene (R.linked runtime.now) (R.known runtime.now) (R.program runtime.now) (R.made runtime.now) objects.old task.old f) body.old ≡ Some (ops.SetVariable variable) }
     ensures sound { result ≢ Err stops.SinkFailed }
     ensures comes { (f : ℕ) → ComesTo (scene (R.linked runtime.now) (R.known runtime.now) (R.program runtime.now) (R.made runtime.now) objects.old task.old f) (scene (R.linked runtime.now) (R.known runtime.now) (R.program runtime.now) (R.made runtime.now) objects.new task.new f)
-            body.old (following result body.new) [] }
+        body.old (following result body.new) [] }
     ensures keeps { (f : ℕ) → Keeps (scene (R.linked runtime.now) (R.known runtime.now) (R.program runtime.now) (R.made runtime.now) objects.old task.old f) (scene (R.linked runtime.now) (R.known runtime.now) (R.program runtime.now) (R.made runtime.now) objects.new task.new f) }
 {
     runtime.know();

@@ -1,8 +1,6 @@
-use Rattle.std.proofs.Common.{◌≡◌, ◌⊎◌, inl, inr, List, [], ◌∷◌, ◌++◌, Some, Ok, Err, refl, sym, ap, subst, ◌∙◌, true}
+use Rattle.std.proofs.Common.{◌≡◌, inr, [], ◌∷◌, refl, sym, ap, subst, ◌∙◌, true}
 use Rattle.std.proofs.lemmas.Result.{err_from_is_err_and}
 use Rattle.som_model.specs.State.{Used}
-use Rattle.som_model.specs.declared.key.ClassKey.{ClassKey}
-use Rattle.som_meta.specs.Numbering.{Numbering}
 use Rattle.som_used.specs.Needs.{AreClosed}
 use Rattle.som_values.specs.Shown.{IsNumbered, key_of}
 use Rattle.som_task.specs.Settings.{Linked}

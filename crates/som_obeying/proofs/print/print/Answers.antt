@@ -1,4 +1,4 @@
-use Rattle.std.proofs.Common.{◌≡◌, ◌⊎◌, inl, inr, List, [], ◌∷◌, ◌++◌, Option, Some, None, Result, Ok, Err, refl, sym, ap, subst, ◌∙◌, append-nil}
+use Rattle.std.proofs.Common.{inr, refl, ap, subst, ◌∙◌}
 use Rattle.std.proofs.lemmas.Result.{err_from_is_err_and}
 use Rattle.som_io.specs.Outside.{ShowsAll, ShowsFront}
 use Rattle.som_model.specs.State.{Printed}
@@ -6,8 +6,7 @@ use Rattle.som_model.specs.Values.{text_of}
 use Rattle.som_telling.specs.Told.{event_text}
 use Rattle.som_values.specs.Shown.{shown}
 use Rattle.som_task.specs.Settings.{shows}
-use Rattle.som_moves.specs.Scene.{scene, setting_of}
-use Rattle.som_moves.specs.declared.stop.Stop.TheVariants as stops
+use Rattle.som_moves.specs.Scene.{scene}
 use Rattle.som_obeying.proofs.Telling.{front_none, untold_wants}
 use Rattle.som_obeying.proofs.Special.{print_begins, print_comes, wants_comes}
 use Rattle.som_obeying.proofs.print.print.Goals as goal

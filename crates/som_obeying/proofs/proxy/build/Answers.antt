@@ -1,4 +1,4 @@
-use Rattle.std.proofs.Common.{◌≡◌, ◌⊎◌, inl, inr, ◌-◌, suc, true, false, true≢false, List, [], ◌∷◌, ◌++◌, Some, Ok, Err, refl, sym, ap, subst, ◌∙◌, arith}
+use Rattle.std.proofs.Common.{◌≡◌, ◌⊎◌, inl, ◌-◌, suc, true, true≢false, [], ◌∷◌, ◌++◌, Ok, Err, refl, sym, ap, subst, ◌∙◌, arith}
 use Rattle.std.proofs.lemmas.Result.{err_from_is_err_and}
 use Rattle.som_model.specs.declared.key.ClassKey.{ClassKey}
 use Rattle.som_model.specs.Made.{ComesOf}
@@ -222,4 +222,3 @@ returns-clause-obeyed g c prefix w =
     c.args.class (ap (λ ks. key_of ks c.args.class) keys ∙ c.requires.is.1) mine c.pop-target.result c.pop-target.ensures.cell b' (record { levels = refl; me = refl; place = refl; zero = refl; code = refl }) refl (c.in_ok-push.ensures ∙ ap (λ cs. cs ++ cells.Object c.in_ok-object.object ∷ []) c.pop-target.ensures.rest) refl
     (λ h holding usable. subst (λ (x : Linked). IsNext x (g.R.Classes.made q) c.args.class c.pop-target.result t.serials c.make.new.objects t.statics.items h c.in_ok-object.object) c.reach.ensures.linked
     (c.in_ok-object.ensures.next t.statics.items h (subst (λ (x : Linked). Holding x (g.R.Classes.made q) t.serials os t.statics.items h) (sym c.reach.ensures.linked) holding) (subst (λ (x : Linked). IsUsable x (g.R.Classes.made q) t.serials os c.pop-target.result) (sym c.reach.ensures.linked) usable)))))
-

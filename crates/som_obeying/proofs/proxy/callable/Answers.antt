@@ -1,4 +1,4 @@
-use Rattle.std.proofs.Common.{◌≡◌, Ok, Err, refl, sym, ap, subst, ◌∙◌}
+use Rattle.std.proofs.Common.{sym, ap, subst, ◌∙◌}
 use Rattle.som_model.specs.State.{receiver}
 use Rattle.som_values.specs.Shown.{IsSeen, shown, shown_ref}
 use Rattle.som_values.specs.Stored.{IsKept}

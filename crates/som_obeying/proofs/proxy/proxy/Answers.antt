@@ -1,4 +1,4 @@
-use Rattle.std.proofs.Common.{◌≡◌, ◌<◌, List, [], Ok, Err, refl, sym, ap, subst, ◌∙◌, arith}
+use Rattle.std.proofs.Common.{Err, refl}
 use Rattle.som_task.specs.Settings.{shows}
 use Rattle.som_moves.specs.Scene.{scene, setting_of}
 use Rattle.som_moves.specs.declared.stop.Stop.TheVariants as stops
@@ -96,4 +96,3 @@ build-requires-clause-callable g c h ws runs =
     let k = c.requires.is.0 in
     let was = scene l kn main made os t f in
     c.in-Ok.ensures (shows (setting_of was)) h runs.around.holding.heap.holds (top_own l kn main made os t f b h ws runs).0
-

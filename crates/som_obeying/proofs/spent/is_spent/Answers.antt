@@ -1,4 +1,4 @@
-use Rattle.std.proofs.Common.{◌≡◌, ◌≢◌, false, List, Some, refl, sym, ap, subst, ◌∙◌, arith}
+use Rattle.std.proofs.Common.{◌≡◌, false, refl, sym, subst, ◌∙◌, arith}
 use Rattle.som_task.specs.Settings.{shows}
 use Rattle.som_moves.specs.Scene.{scene, setting_of}
 use Rattle.som_obeying.specs.Obeying.{act_of, is_call}
@@ -82,4 +82,3 @@ returns-else-body-len-clause-goes g c e ws s runs fuel =
     let b = c.args.body.now in
     let set = setting_of (scene l kn main made os t f) in
     none_goes l kn main made os t f b ws s (next_none t.codes b.code b.at c.len.result c.get-code.result.now c.get-code.ensures c.len.ensures.value c.if-body-len.false)
-

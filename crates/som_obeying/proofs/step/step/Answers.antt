@@ -1,4 +1,4 @@
-use Rattle.std.proofs.Common.{◌≡◌, ◌<◌, true, false, List, [], ◌∷◌, Some, None, Ok, Err, refl, sym, ap, subst, ◌∙◌, arith}
+use Rattle.std.proofs.Common.{◌≡◌, true, false, Ok, refl, subst, arith}
 use Rattle.som_code.specs.declared.instruction.Instruction.TheVariants as ops
 use Rattle.som_model.specs.Values.{text_of}
 use Rattle.som_values.specs.Shown.{shown}
@@ -433,4 +433,3 @@ returns-in_default g c =
       calm_count = λ x. refl;
       calm_answer = λ x e. quiet.sound e;
     }
-

@@ -1,4 +1,4 @@
-use Rattle.std.proofs.Common.{◌≡◌, ◌-◌, suc, arith, refl}
+use Rattle.std.proofs.Common.{◌≡◌, ◌-◌, suc, arith}
 use Rattle.som_obeying.proofs.Special.{turn_spent, turn_goes}
 use Rattle.som_obeying.proofs.turn.turn.Goals as goal
 

@@ -1,4 +1,4 @@
-use Rattle.std.proofs.Common.{◌≡◌, refl, sym, ap, subst, ◌∙◌}
+use Rattle.std.proofs.Common.{sym, ap, subst, ◌∙◌}
 use Rattle.som_model.specs.Calls.{class_here}
 use Rattle.som_values.specs.Shown.{IsNumbered, key_of}
 use Rattle.som_task.specs.Standing.{here_shown}

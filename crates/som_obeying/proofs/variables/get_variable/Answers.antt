@@ -1,4 +1,4 @@
-use Rattle.std.proofs.Common.{◌≡◌, inr, List, [], ◌∷◌, Some, Ok, Err, refl, sym, ap, subst, ◌∙◌}
+use Rattle.std.proofs.Common.{inr, [], Ok, Err, refl, ap, subst}
 use Rattle.std.proofs.lemmas.Result.{err_from_is_err_and}
 use Rattle.som_model.specs.Expressions.{read}
 use Rattle.som_values.specs.Answers.{Answers}
@@ -6,7 +6,6 @@ use Rattle.som_task.specs.Settings.{shows}
 use Rattle.som_task.specs.Standing.{me_shown}
 use Rattle.som_values.specs.Shown.{key_of}
 use Rattle.som_moves.specs.Scene.{scene, setting_of}
-use Rattle.som_moves.specs.declared.stop.Stop.TheVariants as stops
 use Rattle.som_obeying.specs.Obeying.{act_of}
 use Rattle.som_obeying.proofs.Knowing.{closed_all}
 use Rattle.som_obeying.proofs.Coming.{begins_nothing}

@@ -1,4 +1,4 @@
-use Rattle.std.proofs.Common.{◌≡◌, inr, List, [], ◌∷◌, Some, Ok, Err, refl, sym, ap, subst, ◌∙◌}
+use Rattle.std.proofs.Common.{◌≡◌, Err, refl, sym, ap, subst}
 use Rattle.std.proofs.Common.{false}
 use Rattle.som_model.specs.Rules.{is_void}
 use Rattle.som_values.specs.Shown.{key_of}
