@@ -1,4 +1,4 @@
-use Rattle.std.proofs.Common.{rules, ◌≡◌, ◌<◌, ◌≤◌, Ok, Err, Bool, true, false, Result, ℕ, refl, sym, ap, subst, ◌∙◌, arith}
+use Rattle.std.proofs.Common.{Ok, Err, refl, sym, ap, subst, ◌∙◌}
 use Rattle.std.proofs.lemmas.Result.{err_from_is_err_and}
 use Rattle.som_looping.specs.Ran.{RanOn, ended}
 use Rattle.som_looping.proofs.Joining.{calm_none, calm_both, counts_none, counts_both}
@@ -20,8 +20,8 @@ returns-in_err-run_unit-clause-ran g c =
     let i = c.loop.invariant in
     let p = err_from_is_err_and c.from_residual.result c.from_residual.ensures.1 in
     subst (λ r. RanOn (g.M.Moves.shows c.args.moves.now) (g.M.Moves.prefix c.args.moves.now) (g.M.Moves.written c.args.moves.now) (g.M.Moves.written c.run_unit.new.moves) (g.M.Moves.scene c.args.moves.now) (g.M.Moves.scene c.run_unit.new.moves) (ended r))
-      (sym (p.1 ∙ ap (λ z. Err z) p.2))
-      (ran_then _ _ _ _ i.shows i.prefix _ _ _ _ _ _ _ i.ran c.in_err-run_unit.ensures.ran)
+    (sym (p.1 ∙ ap (λ z. Err z) p.2))
+    (ran_then _ _ _ _ i.shows i.prefix _ _ _ _ _ _ _ i.ran c.in_err-run_unit.ensures.ran)
 
 pub loop-preserved : goal.loop-preserved
 loop-preserved g c =

@@ -1,4 +1,4 @@
-use Rattle.std.proofs.Common.{rules, ◌≡◌, ◌<◌, ◌≤◌, ◌⊎◌, inl, inr, Ok, Err, Bool, true, false, Result, ℕ, refl, sym, ap, subst, ◌∙◌, arith}
+use Rattle.std.proofs.Common.{◌≤◌, Err, refl, sym, ap, subst, ◌∙◌}
 use Rattle.std.proofs.lemmas.Result.{err_from_is_err_and}
 use Rattle.som_looping.specs.Ran.{RanOn}
 use Rattle.som_looping.proofs.Joining.{calm_none, calm_both, counts_none, counts_both}
@@ -23,8 +23,8 @@ returns-in_err-step-clause-ran g c =
     let i = c.loop-moves.invariant in
     let p = err_from_is_err_and c.from_residual.result c.from_residual.ensures.1 in
     subst (RanOn (g.M.Moves.shows c.args.moves.now) (g.M.Moves.prefix c.args.moves.now) (g.M.Moves.written c.args.moves.now) (g.M.Moves.written c.step.new.self) (g.M.Moves.scene c.args.moves.now) (g.M.Moves.scene c.step.new.self))
-      (sym (p.1 ∙ ap (λ z. Err z) p.2))
-      (ran_on _ _ _ _ i.shows i.prefix _ _ _ _ _ _ _ i.ran c.in_err-step.ensures.stepped)
+    (sym (p.1 ∙ ap (λ z. Err z) p.2))
+    (ran_on _ _ _ _ i.shows i.prefix _ _ _ _ _ _ _ i.ran c.in_err-step.ensures.stepped)
 
 pub returns-then-not-branch-clause-ran : goal.returns-then-not-branch-clause-ran
 returns-then-not-branch-clause-ran g c =
@@ -40,7 +40,7 @@ pub loop-moves-smaller : goal.loop-moves-smaller
 loop-moves-smaller g c =
     let i = c.loop-moves.invariant in
     fewer c.fuel-fuel.result _ _ _ _ i.units (subst (λ z. c.fuel-fuel.result ≤ z) c.fuel.ensures c.if-fuel.false)
-      (step_lowers _ _ _ _ _ _ i.somewhere (rw c.if-not-branch.false at c.in_ok-step.ensures.stepped))
+    (step_lowers _ _ _ _ _ _ i.somewhere (rw c.if-not-branch.false at c.in_ok-step.ensures.stepped))
 
 pub loop-moves-preserved : goal.loop-moves-preserved
 loop-moves-preserved g c =

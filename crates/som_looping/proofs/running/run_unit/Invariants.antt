@@ -1,4 +1,4 @@
-use Rattle.std.proofs.Common.{◌≡◌, Ok, true, ℕ}
+use Rattle.std.proofs.Common.{◌≡◌, Ok, true}
 use Rattle.som_looping.specs.Ran.{RanOn}
 use Rattle.som_looping.specs.Standing.{IsSomewhere}
 use Rattle.som_looping.specs.Stepped.{Counts, StaysCalm}
