@@ -1,8 +1,8 @@
 use Rattle.std.proofs.Common.{◌≡◌, ◌++◌, ◌*◌, ◌+◌, drop, map}
 use Rattle.som_model.specs.Lists.{joined}
 use Rattle.som_model.specs.Ancestors.{anc_within}
-use Rattle.som_calls.specs.Rows.{hierarchy_of}
-use Rattle.som_calls.proofs.ancestry.+walk.Given as goal
+use Rattle.som_plain.specs.Rows.{hierarchy_of}
+use Rattle.som_plain.proofs.ancestry.+walk.Given as goal
 
 abbrev pub decreases-ancestors_within : goal.decreases-ancestors_within
 decreases-ancestors_within l = 2 * l.levels

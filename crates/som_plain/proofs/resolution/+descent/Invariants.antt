@@ -1,8 +1,8 @@
 use Rattle.std.proofs.Common.{◌≡◌, ◌+◌, ◌*◌, drop}
 use Rattle.som_model.specs.Lists.{some}
 use Rattle.som_model.specs.Ancestors.{anc_within, member}
-use Rattle.som_calls.specs.Rows.{hierarchy_of}
-use Rattle.som_calls.proofs.resolution.+descent.Given as goal
+use Rattle.som_plain.specs.Rows.{hierarchy_of}
+use Rattle.som_plain.proofs.resolution.+descent.Given as goal
 
 abbrev pub decreases-descends_within : goal.decreases-descends_within
 decreases-descends_within l = 2 * l.levels

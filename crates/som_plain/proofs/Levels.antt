@@ -5,7 +5,7 @@ use Rattle.som_model.specs.Hierarchy.{Tells}
 use Rattle.som_model.specs.Ancestors.{anc_within, member}
 use Rattle.som_model.specs.Resolution.{impl_within, inherits}
 use Rattle.som_model.proofs.KeyLaws.{exact_numbers}
-use Rattle.som_calls.specs.Rows.{parents_of, hierarchy_of, body_at, choice_at}
+use Rattle.som_plain.specs.Rows.{parents_of, hierarchy_of, body_at, choice_at}
 use Rattle.som_laws.proofs.Laws.{member_step}
 
 -- equality tells numbers apart

@@ -1,7 +1,7 @@
 use Rattle.std.proofs.Common.{◌≡◌, ◌+◌, ◌*◌, None, drop}
 use Rattle.som_model.specs.Resolution.{impl_within, inherits}
-use Rattle.som_calls.specs.Rows.{hierarchy_of, body_at, choice_at}
-use Rattle.som_calls.proofs.resolution.+answer.Given as goal
+use Rattle.som_plain.specs.Rows.{hierarchy_of, body_at, choice_at}
+use Rattle.som_plain.proofs.resolution.+answer.Given as goal
 
 abbrev pub decreases-implementation_within : goal.decreases-implementation_within
 decreases-implementation_within l = 2 * l.levels

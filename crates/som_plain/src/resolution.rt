@@ -2,7 +2,7 @@ ghost use Rattle.som_model.specs.Ancestors as definitions;
 ghost use Rattle.som_model.specs.Ancestors.{anc_within, member};
 ghost use Rattle.som_model.specs.Lists.{some};
 ghost use Rattle.som_model.specs.Resolution.{impl, impl_within, inherits};
-ghost use Rattle.som_calls.specs.Rows.{body_at, choice_at, hierarchy_of};
+ghost use Rattle.som_plain.specs.Rows.{body_at, choice_at, hierarchy_of};
 ghost use Rattle.std.specs.Prelude.{◌≡◌, None};
 
 use crate::class_rows::{choice, has_own_body, parents};

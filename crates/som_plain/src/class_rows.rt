@@ -1,4 +1,4 @@
-ghost use Rattle.som_calls.specs.Rows.{body_at, choice_at, parents_of};
+ghost use Rattle.som_plain.specs.Rows.{body_at, choice_at, parents_of};
 ghost use Rattle.std.specs.Prelude.{◌≡◌};
 
 use som_model::List;

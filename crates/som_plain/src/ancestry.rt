@@ -1,6 +1,6 @@
 ghost use Rattle.som_model.specs.Ancestors.{anc, anc_within};
 ghost use Rattle.som_model.specs.Lists.{firsts, joined, without};
-ghost use Rattle.som_calls.specs.Rows.{hierarchy_of};
+ghost use Rattle.som_plain.specs.Rows.{hierarchy_of};
 ghost use Rattle.std.specs.Prelude.{◌≡◌, ◌==◌, ◌∷◌, map, IfOk};
 
 use crate::class_rows::parents;
