@@ -1,5 +1,5 @@
 -- What a program that runs asks of a linked kernel is told by its classes and their numbers.
-use Rattle.std.proofs.Common.{◌≡◌, ◌≢◌, ◌↔◌, ◌⊎◌, ℕ, zero, suc, ◌<◌, ◌≤◌, ◌&&◌, ◌==◌, nat_lt, inl, inr, Bool, true, false, if◌then◌else◌, List, [], ◌∷◌, length, map, get_or, Option, Some, None, IsSome, is_some, OnOk, Result, slice_get, slice_index_or, refl, sym, ap, ◌∙◌, subst, arith, true≢false}
+use Rattle.std.proofs.Common.{◌≡◌, ◌↔◌, ◌⊎◌, ℕ, zero, suc, ◌<◌, ◌≤◌, ◌&&◌, ◌==◌, nat_lt, inl, inr, Bool, true, false, if◌then◌else◌, List, [], ◌∷◌, length, map, get_or, Option, Some, None, IsSome, is_some, OnOk, Result, slice_get, slice_index_or, refl, sym, ap, ◌∙◌, subst, arith, true≢false}
 use Rattle.std.proofs.lemmas.Bool.{cases_lt}
 use Rattle.std.proofs.lemmas.Option.{same_Some, slice_get_within}
 use Rattle.som_model.specs.declared.key.ClassKey.{ClassKey, out-ClassKey}
@@ -37,13 +37,13 @@ use Rattle.som_numbers.proofs.Making.{some_class}
 use Rattle.som_classes.specs.Loaded.{AreLoaded}
 use Rattle.som_classes.proofs.Bodies.{found, key_0, made_unknown}
 use Rattle.som_classes.proofs.Loading as loading
-use Rattle.som_places.specs.Variables.{IsVariable, object_variables, own_variables, place_in, types_of, variables_in}
+use Rattle.som_places.specs.Variables.{object_variables, own_variables, place_in, types_of, variables_in}
 use Rattle.som_places.proofs.Placing.{falls, place_kind, places_differ, tells}
 use Rattle.som_making.specs.Making.{IsMarked}
 use Rattle.som_values.specs.Variables.{AreDisjoint}
 use Rattle.som_task.specs.Settings as settings
 use Rattle.som_runtime.specs.Asked.{Agree, CanLoad, HaveNumbers, IsClosed, is_proxy, target_after}
-use Rattle.som_classmgr.specs.Made.{IsReached}
+use Rattle.som_made.specs.Made.{IsReached}
 use Rattle.som_classmgr.specs.Linked.{IsLinked, IsMadeIn, Linkage}
 use Rattle.som_classmgr.specs.Asking.{answers_of, is_made, is_token, kind_at, linked_of, places_of}
 use Rattle.som_classmgr.proofs.Reached.{comes_there, number, ok_then}

@@ -11,11 +11,8 @@ mod kernel;
 mod laws;
 mod link;
 mod linked;
-mod made;
 mod methods;
-mod names;
 mod queries;
-mod rows;
 mod runtime;
 mod search;
 
