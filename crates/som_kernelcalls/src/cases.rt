@@ -201,7 +201,7 @@ pub const OTHER_ORDER: Case = Case {
 pub const OWN_PARENT: [File; 2] = [
     (
         b"l.img",
-        b"SOML\x01\0\x01\0\x01H\0\0\0\x01\0\0\0\0\x01\0\x04\0\0\0\0\0\0\0\0\0\0\0",
+        b"SOML\x01\0\x01\0\x01H\0\0\0\x01\0\0\0\0\x01\0\x04\0\0\0\0\0\0",
     ),
-    (b"c.cli", b"SOMC\x01\0\0\0\0\0\0\0\0\0\0"),
+    (b"c.cli", b"SOMC\x01\0\0\0\0\0\0\0\0"),
 ];
