@@ -34,7 +34,10 @@ pub const TWO_PUPPIES: Case = Case {
             b"c.idl",
             b"interface Puppy : Dog { implementation { speak: override; }; };",
         ),
-        (b"c.bod", b"Puppy::speak() { print \"yip\"; parent Dog.speak(); }"),
+        (
+            b"c.bod",
+            b"Puppy::speak() { print \"yip\"; parent Dog.speak(); }",
+        ),
         (
             b"c.main",
             b"main { var p : Dog = new Puppy; p.speak(); p.eat(); }",
@@ -48,7 +51,9 @@ pub const TWO_PUPPIES: Case = Case {
     ],
     commands: &[
         &[b"library", b"old.img", b"old.idl", b"l.bod"],
-        &[b"client", b"c.cli", b"old.img", b"c.idl", b"c.bod", b"c.main"],
+        &[
+            b"client", b"c.cli", b"old.img", b"c.idl", b"c.bod", b"c.main",
+        ],
         LIBRARY,
     ],
 };

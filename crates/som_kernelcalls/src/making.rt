@@ -3,7 +3,7 @@ ghost use Rattle.som_meta.specs.Numbering.{IsNumbered};
 use crate::asking::{class_named, made_whole, reach};
 use crate::cases::{DERIVED, HOOKED, PROXIED_DOG};
 use crate::fixtures::linked;
-use som_classmgr::{KeyView, Kernel, Linked};
+use som_classmgr::{Kernel, KeyView, Linked};
 use som_tables::ClassNo;
 use std::test::Fail;
 

@@ -12,12 +12,14 @@ fn is_incompatible(
     wanted_place: u32,
 ) -> bool {
     match answer {
-        Err(LinkFault::Incompatible {
-            rule,
-            class,
-            name,
-            place,
-        }) => {
+        Err(
+            LinkFault::Incompatible {
+                rule,
+                class,
+                name,
+                place,
+            },
+        ) => {
             *rule == wanted_rule
                 && class.is(wanted_class)
                 && name.is(wanted_name)
@@ -43,6 +45,8 @@ fn a_library_keeps_the_rules(rt: HostRuntime) -> Result<(), Fail> {
         commands: &[],
     };
     let answer = link_answer(rt.alloc(), &case)?;
-    assert!(rt; matches!(answer, Err(LinkFault::NotConforming { client: false, broken }) if broken.rule == 2 && broken.class.is(b"H")));
+    assert!(rt;
+        matches!(answer, Err(LinkFault::NotConforming { client: false, broken }) if broken.rule == 2 && broken.class.is(b"H"))
+    );
     Ok(())
 }

@@ -43,9 +43,11 @@ fn each_variable_has_a_place_of_its_own(rt: HostRuntime) -> Result<(), Fail> {
 fn variables_have_types_by_their_places(rt: HostRuntime) -> Result<(), Fail> {
     let kernel = made_whole(rt.alloc(), &BOXES)?;
     let class = class_named(rt.alloc(), &kernel, b"Case")?;
-    assert!(rt; matches!(
-        kernel.variables(class).as_slice(),
-        [ValueType::Str, ValueType::Long, ValueType::Boolean]
-    ));
+    assert!(rt;
+        matches!(
+            kernel.variables(class).as_slice(),
+            [ValueType::Str, ValueType::Long, ValueType::Boolean]
+        )
+    );
     Ok(())
 }
