@@ -3,8 +3,9 @@ ghost use Rattle.som_meta.specs.Numbering.{IsNumbered};
 ghost use Rattle.std.specs.Prelude.{◌≡◌, ◌<◌, IfOk};
 
 use crate::fixtures::{Case, linked};
-use som_classmgr::{BodyView, Kernel, Linked};
+use som_classmgr::{Held, Kernel, Linked};
 use som_model::{ClassKey, Module, NoMemory, Text};
+use som_plain::named;
 use som_tables::{ClassNo, Steps};
 use std::alloc::Global;
 use std::sync::ledger::{Blank, Ledger};
@@ -48,18 +49,32 @@ pub fn class_named(alloc: Global, kernel: &Kernel<Linked>, name: &[u8]) -> Resul
     ensures made { IfOk result (IsMadeIn kernel.now) }
     ensures numbered { IfOk result (IsNumbered kernel.now.classes) }
 {
-    let name = Text::from_slice(alloc, name)?;
-    let module = Module::Library;
-    class_of(kernel, &ClassKey::Named { module, name })
+    class_of(kernel, &named(alloc, Module::Library, name)?)
 }
 
-/// The body that a class has for the method that a name means in it.
-pub fn body_named<'a, L: Ledger>(
-    kernel: &'a Kernel<Linked>,
+/// What a class holds for a method, in short.
+#[derive(Clone, Copy, Debug, PartialEq, Eq)]
+pub enum Holds {
+    Forward,
+    Nothing,
+    Other,
+}
+
+fn in_short(held: Held<'_>) -> Holds {
+    match held {
+        Held::Forward => Holds::Forward,
+        Held::Nothing => Holds::Nothing,
+        _ => Holds::Other,
+    }
+}
+
+/// The number of the class whose body a class has for the method that a name means in it, and what that class holds.
+pub fn answering<L: Ledger>(
+    kernel: &Kernel<Linked>,
     class: ClassNo,
     name: &Text,
     blank: Blank,
-) -> Result<BodyView<'a>, Fail>
+) -> Option<(u32, Holds)>
     requires class { IsMadeIn kernel.now class }
     requires numbered { IsNumbered kernel.now.classes class }
     requires name { blank.name ≡ L.name }
@@ -67,12 +82,11 @@ pub fn body_named<'a, L: Ledger>(
     requires some { 0 < blank.parts }
 {
     let mut steps: Steps<L> = Steps::new(blank);
-    let Some(method) = kernel.find(class, name, &mut steps) else {
-        return Err(Fail::from("a name that means no method"));
-    };
+    let method = kernel.find(class, name, &mut steps)?;
     if !kernel.is_a(class, method.class()) {
-        return Err(Fail::from("a method of no ancestor"));
+        return None;
     }
     let body = kernel.resolve(class, method, &mut steps);
-    Ok(kernel.body(body))
+    let view = kernel.body(body);
+    Some((view.class.number(), in_short(view.held)))
 }
