@@ -1,0 +1,5 @@
+mod Standing
+mod Asked
+mod Coded
+mod Growing
+mod Found
