@@ -33,6 +33,7 @@ pub fn make<R: Runtime>(
     requires room { length objects.old < 2 ^ 64 - 1 }
     ensures next { (statics : Statics) (h : Heap) → Holding (R.linked runtime.now) (R.made runtime.now) serials.old objects.old statics h → IsUsable (R.linked runtime.now) (R.made runtime.now) serials.old objects.old target
         → IfOk result (IsNext (R.linked runtime.now) (R.made runtime.now) class target serials.old objects.new statics h) }
+    ensures serial { IfOk result (λ r. r.serial ≡ length objects.old + 1) }
     ensures serials { IfOk result (λ r. serials.new ≡ serials.old ++ r.serial ∷ []) }
     ensures err_serials { OnErr result (serials.new ≡ serials.old) }
     ensures err { OnErr result (objects.new ≡ objects.old) }
