@@ -64,13 +64,13 @@ module _ (l : Linked) (k : Numbering) (main : Block) (made : ClassKey → Bool) 
 
   -- no class is found
   pub none_found : class_found l.world (all_shown (shows (setting_of old)) args) ≡ None → Began old old b levels me args (Ok (nows.Answering cells.Nil))
-  none_found e = quiet old b levels me args (Ok (nows.Answering cells.Nil)) (λ body ws s began fuel tests way a.
+  none_found e = quiet old b levels me args (Ok (nows.Answering cells.Nil)) tt (λ body ws s began fuel tests way a.
       answers old s ws began.around fuel (act_of old b body levels me args ws tests way a) cells.Nil (record { own = (tt, tt); made_of = tt })
       (ap (λ (x : Step). x.does s) (act_is None e body ws s began tests way a)))
 
   -- memory was wanting before any class was found
   pub nothing_done : Began old old b levels me args (Err stops.NoMemory)
-  nothing_done = quiet old b levels me args (Err stops.NoMemory) (λ body ws s began fuel tests way a. tt)
+  nothing_done = quiet old b levels me args (Err stops.NoMemory) tt (λ body ws s began fuel tests way a. tt)
 
   module _ (more : ClassKey → Bool) (grows : (x : ClassKey) → made x ≡ true → more x ≡ true) (n : ℕ) (found : class_found l.world (all_shown (shows (setting_of old)) args) ≡ Some (key_of l.keys n))
       (only : (x : ClassKey) → more x ≡ true → (made x ≡ true) ⊎ ComesOf k.classes (key_of l.keys n ∷ []) x) where
@@ -102,6 +102,7 @@ module _ (l : Linked) (k : Numbering) (main : Block) (made : ClassKey → Bool) 
       keeps_made = grows;
       only_made = only;
       keeps = keeps;
+      none = tt;
     }
 
     module _ (numbered : IsNumbered l.keys n) (now : more key ≡ true) where
@@ -110,7 +111,7 @@ module _ (l : Linked) (k : Numbering) (main : Block) (made : ClassKey → Bool) 
       used_made x (inr e) = absurd e
 
       growing : Grows made more os os t t
-      growing = record { serials = []; serials_are = sym (append-nil t.serials); codes = []; codes_are = sym (append-nil t.codes); waiting = refl; made_more = grows; known = λ r x. x }
+      growing = record { serials = []; serials_are = sym (append-nil t.serials); codes = []; codes_are = sym (append-nil t.codes); made_more = grows; known = λ r x. x }
 
       went : (body : Held) (ws : List frames.Waiting) (s : State) → Begins old s.heap ws b body me args → s.fuel ≡ f → (tests : Tests) (way : Manner) (a : Bool)
           → Went (act_of old b body levels me args ws tests way a) s new (nows.Answering (cells.Class n)) (Used key ∷ [])
@@ -122,7 +123,7 @@ module _ (l : Linked) (k : Numbering) (main : Block) (made : ClassKey → Bool) 
         events = refl;
         fuel = fuel;
         around = around_later l k main made more os os t t f f growing s.heap s.heap began.around.holding.heap.holds.many (later_self s.heap) ws began.around
-            (record { serials = began.around.holding.serials; heap = began.around.holding.heap; class_objects = began.around.holding.class_objects; made_of = heap_more made more grows s.heap began.around.holding.made_of }) began.around.codes;
+            (record { serials = began.around.holding.serials; heap = began.around.holding.heap; class_objects = began.around.holding.class_objects; made_of = heap_more made more grows s.heap began.around.holding.made_of }) began.around.codes refl;
         next_is = record { shown = refl; own = (numbered, tt); made_of = now; fine = tt };
       }
 
@@ -136,4 +137,5 @@ module _ (l : Linked) (k : Numbering) (main : Block) (made : ClassKey → Bool) 
         keeps_made = grows;
         only_made = only;
         keeps = keeps;
+        none = tt;
       }

@@ -1,4 +1,4 @@
-ghost use Rattle.som_beginning.specs.Beginning.{answer_at};
+ghost use Rattle.som_beginning.specs.Beginning.{answer_at, stopped_at, write_at};
 ghost use Rattle.std.specs.Prelude.{◌≡◌};
 
 use som_moves::Stop;
@@ -13,7 +13,26 @@ pub(crate) fn answered(at: Place, answer: Result<Cell, Stopped>) -> Result<Now, 
 {
     match answer {
         Ok(cell) => Ok(Now::Answering(cell)),
-        Err(Stopped::Fault(fault)) => Err(Stop::Fault { fault, at }),
-        Err(Stopped::NoMemory) => Err(Stop::NoMemory),
+        Err(stopped) => Err(stop_at(at, stopped)),
+    }
+}
+
+/// A task goes on with nil after what was to be done, or has the fault in this place.
+pub(crate) fn done(at: Place, answer: Result<(), Stopped>) -> Result<Now, Stop>
+    ensures { result ≡ write_at at answer }
+{
+    match answer {
+        Ok(()) => Ok(Now::Answering(Cell::Nil)),
+        Err(stopped) => Err(stop_at(at, stopped)),
+    }
+}
+
+/// Why a task stops in this place.
+pub(crate) fn stop_at(at: Place, stopped: Stopped) -> Stop
+    ensures { result ≡ stopped_at at stopped }
+{
+    match stopped {
+        Stopped::Fault(fault) => Stop::Fault { fault, at },
+        Stopped::NoMemory => Stop::NoMemory,
     }
 }

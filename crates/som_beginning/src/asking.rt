@@ -20,7 +20,7 @@ use std::alloc::Global;
 use std::sync::ledger::Ledger;
 
 /// A body of the kernel's that only asks: the task goes on with the answer, or has the fault in the body's place.
-pub fn begin_asking<R: Runtime, L: Ledger>(
+pub(crate) fn begin_asking<R: Runtime, L: Ledger>(
     alloc: Global,
     runtime: &R,
     objects: &ObjectStore,

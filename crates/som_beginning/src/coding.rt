@@ -1,23 +1,21 @@
 ghost use Rattle.som_beginning.specs.Beginning.{Began};
 ghost use Rattle.som_beginning.specs.declared.begun.What.TheVariants as whats;
-ghost use Rattle.som_model.specs.State.{zero_of as zero_value};
 ghost use Rattle.som_moves.specs.Scene.{scene};
 ghost use Rattle.som_objects.specs.Objects.{Objects};
-ghost use Rattle.som_task.specs.Standing.{zero_shown};
 ghost use Rattle.som_task.specs.declared.task.Task.{Task};
 ghost use Rattle.std.specs.Prelude.{◌≡◌, ℕ, Ok, true};
 
 use crate::Begun;
-use som_model::ValueType;
 use som_objects::Cell;
 use som_runtime::Runtime;
-use som_task::{Body, Now, Zero};
+use som_task::{Body, Now};
 use som_telling::Place;
 use som_values::Reference;
+use som_variables::zero_of;
 use std::alloc::Global;
 
 /// A body with code: it stands at its first instruction, with its arguments as its locals.
-pub fn begin_code<R: Runtime>(
+pub(crate) fn begin_code<R: Runtime>(
     alloc: Global,
     runtime: &R,
     levels: u32,
@@ -46,16 +44,4 @@ pub fn begin_code<R: Runtime>(
         operands: Vec::new(alloc),
         locals: args,
     })
-}
-
-// The zero value of a type.
-fn zero_of(kind: &ValueType) -> Zero
-    ensures { zero_shown result ≡ zero_value kind.now }
-{
-    match kind {
-        ValueType::Long => Zero::Long,
-        ValueType::Boolean => Zero::Boolean,
-        ValueType::Str => Zero::Text,
-        ValueType::Void | ValueType::Class(_) => Zero::Nil,
-    }
 }

@@ -16,7 +16,7 @@ use som_task::Now;
 use std::alloc::Global;
 
 /// The body of somFindClass: a class that is found is made, and its class object answered; else nil.
-pub fn begin_finding<R: Runtime>(
+pub(crate) fn begin_finding<R: Runtime>(
     alloc: Global,
     runtime: &mut R,
     begun: Begun,

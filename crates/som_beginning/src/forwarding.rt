@@ -1,0 +1,57 @@
+ghost use Rattle.som_beginning.specs.Beginning.{Began, CanBegin};
+ghost use Rattle.som_beginning.specs.declared.begun.What.TheVariants as whats;
+ghost use Rattle.som_moves.specs.Scene.{scene};
+ghost use Rattle.som_task.specs.declared.task.Task.{Task};
+ghost use Rattle.std.specs.Prelude.{◌≡◌, ℕ};
+
+use crate::Begun;
+use crate::answering::stop_at;
+use crate::calling::called;
+use som_instances::target;
+use som_moves::Stop;
+use som_objects::{Cell, ObjectStore};
+use som_passing::pass_offset;
+use som_runtime::Runtime;
+use som_task::Now;
+use som_telling::{Manner, Place};
+use som_values::Reference;
+use std::alloc::Global;
+
+/// A proxy's body: the same call on its target.
+pub(crate) fn begin_forwarding<R: Runtime>(
+    alloc: Global,
+    runtime: &R,
+    objects: &ObjectStore,
+    levels: u32,
+    begun: Begun,
+    me: Reference,
+    args: Vec<Cell>,
+) -> Result<Now, Stop>
+    requires what { begun.what ≡ whats.Forward }
+    requires can { CanBegin (R.linked runtime.now) (R.known runtime.now) (R.program runtime.now) (R.made runtime.now) objects.now begun me args.items }
+    ensures { (t : Task) (f : ℕ) → Began (scene (R.linked runtime.now) (R.known runtime.now) (R.program runtime.now) (R.made runtime.now) objects.now t f)
+        (scene (R.linked runtime.now) (R.known runtime.now) (R.program runtime.now) (R.made runtime.now) objects.now t f) begun levels me args.items result }
+{
+    runtime.know();
+    let _signature = runtime.signature(begun.method);
+    let at = Place::Body {
+        class: begun.class,
+        method: begun.method,
+    };
+    match target(alloc, runtime, objects, me) {
+        Ok(on) => called(
+            levels,
+            at,
+            pass_offset(
+                runtime,
+                objects,
+                at,
+                Manner::Forward,
+                begun.method,
+                &on,
+                args,
+            ),
+        ),
+        Err(stopped) => Err(stop_at(at, stopped)),
+    }
+}
