@@ -8,12 +8,15 @@ use Rattle.som_model.specs.declared.program.Fault.{Fault}
 use Rattle.som_model.specs.declared.program.Fault.TheVariants as faults
 use Rattle.som_model.specs.declared.class.Sig.{Sig}
 use Rattle.som_model.specs.World.{World, world}
+use Rattle.som_model.specs.Class.{Class}
+use Rattle.som_model.specs.Loads.{Loads}
 use Rattle.som_model.specs.Kernel.{kernel, som_uninit}
 use Rattle.som_model.specs.Implementation.{Held}
+use Rattle.som_model.specs.Implementation as held
 use Rattle.som_model.specs.State.{Event, Forward, Heap, InBody, Manner, Object, Offset, Ref, State, To, Tried, Value, is_live, target_of}
 use Rattle.som_model.specs.State as state
 use Rattle.som_model.specs.Runs.{Ends, Faulted, Goes}
-use Rattle.som_model.specs.Acts.{◌>>=◌, later_self, tried}
+use Rattle.som_model.specs.Acts.{◌>>=◌, asked, later_self, tried}
 use Rattle.som_model.specs.Calls.{Request}
 use Rattle.som_code.specs.Machine.{On}
 use Rattle.som_codes.specs.Coded.{AreCodes, codes_of, key_of as body_of}
@@ -33,6 +36,10 @@ use Rattle.som_values.specs.declared.stopped.Stopped.{Stopped}
 use Rattle.som_values.specs.declared.stopped.Stopped.TheVariants as stopped
 use Rattle.som_values.specs.Answers.{Answers}
 use Rattle.som_values.specs.Shown.{IsNumbered, IsSeen, all_shown, key_of, place_of, shown, shown_ref, showing}
+use Rattle.som_telling.specs.declared.manner.Manner.{Manner as Way}
+use Rattle.som_telling.specs.Events.{manner_of}
+use Rattle.som_code.specs.declared.instruction.Instruction.{Instruction}
+use Rattle.som_values.specs.Stored.{Holds}
 use Rattle.som_telling.specs.declared.running.Place.{Place}
 use Rattle.som_telling.specs.declared.running.Place.TheVariants as places
 use Rattle.som_task.specs.declared.call.Call.{Call}
@@ -84,14 +91,15 @@ call_moved c c' act s h ws P levels at (Err (stopped.Fault f)) starts passes usa
 }
 call_moved c c' act s h ws P levels at (Err stopped.NoMemory) starts passes usable around fuel = tt
 
--- a method that is no other's own is its own owner
+owner_itself : (cs : List Class) (main : Block) → Loads cs main → (r : MethodRef) (sig : Sig) → (world (kernel ++ cs)).sig r ≡ Some sig → (world (kernel ++ cs)).owner r ≡ r
+unfolding world
+owner_itself cs main loads r sig e = own_owner cs loads.faces r sig e
+
+-- a method that has a signature owns itself
 pub own_method : (ks : List ClassKey) (w : World) (k : Numbering) (l : Linked) (main : Block) → Agree ks w k l → CanLoad k.classes main → (r : MethodRef) (sig : Sig) → w.sig r ≡ Some sig → l.world.owner r ≡ r
 own_method ks w k l main agree can r sig e =
     let is : w ≡ world (kernel ++ can.others) = agree.answers ∙ ap world can.is in
-    subst (λ (v : World). v.owner r ≡ r) (sym (agree.linked_answers ∙ is)) (by (subst (λ (v : World). v.sig r ≡ Some sig) is e))
-  where
-    by unfolding world : (world (kernel ++ can.others)).sig r ≡ Some sig → (world (kernel ++ can.others)).owner r ≡ r
-    by e = own_owner can.others can.loads.faces r sig e
+    subst (λ (v : World). v.owner r ≡ r) (sym (agree.linked_answers ∙ is)) (owner_itself can.others main can.loads r sig (subst (λ (v : World). v.sig r ≡ Some sig) is e))
 
 pub all_none : {A : Type 0} (P : A → Type 0) (none : List A) → none ≡ [] → All P none
 all_none P none empty = subst (All P) (sym empty) (λ n d lt. absurd (let f : ⊥ = omega (arith, lt) in f))
@@ -100,10 +108,14 @@ all_none P none empty = subst (All P) (sym empty) (λ n d lt. absurd (let f : �
 pub no_arguments : (l : Linked) (made : ClassKey → Bool) (xs : List ℕ) (os : Objects) (statics : List (Option (List Cell))) (h : Heap) → Holding l made xs os statics h → (on : Cell) → IsUsable l made xs os on → (none : List Cell) → none ≡ [] → HaveOwner l made os on none
 no_arguments l made xs os statics h holding on usable none empty = (record { serials = xs; statics = statics; heap = h; holding = holding }, usable, all_none (IsUsable l made xs os) none empty)
 
--- a reference to no object
-abbrev pub IsNoObject : Reference → Type 0
-IsNoObject (references.Object r) = ⊥
-IsNoObject _ = Unit {0}
+-- what is said of a call from a place, at the same place by other words
+pub offset_at : (l : Linked) (os : Objects) (from at : Place) → from ≡ at → (call : Result Call Stopped) (manner : Way) (tok : ℕ × ℕ) (on : Cell) (args : List Cell)
+    → ((xs : List ℕ) (cs : List (List Instruction)) (h : Heap) (r : MethodRef) → l.world.owner r ≡ l.method tok → Holds (showing l.keys xs) os h → IsSeen (showing l.keys xs) on
+      → Passes (setting l xs cs) h from call (λ next. passes_offset l.world next (place_shown (setting l xs cs) from) (manner_of manner) r (shown (showing l.keys xs) on) (all_shown (showing l.keys xs) args)))
+    → (xs : List ℕ) (cs : List (List Instruction)) (h : Heap) (r : MethodRef) → l.world.owner r ≡ l.method tok → Holds (showing l.keys xs) os h → IsSeen (showing l.keys xs) on
+      → Passes (setting l xs cs) h at call (λ next. passes_offset l.world next (place_shown (setting l xs cs) at) (manner_of manner) r (shown (showing l.keys xs) on) (all_shown (showing l.keys xs) args))
+offset_at l os from at e call manner tok on args p xs cs h r own holds seen =
+    subst (λ (x : Place). Passes (setting l xs cs) h x call (λ next. passes_offset l.world next (place_shown (setting l xs cs) x) (manner_of manner) r (shown (showing l.keys xs) on) (all_shown (showing l.keys xs) args))) e (p xs cs h r own holds seen)
 
 module _ (l : Linked) (k : Numbering) (main : Block) (made : ClassKey → Bool) (os : Objects) (t t' : Task) (f : ℕ) (serials_are : t'.serials ≡ t.serials) (codes_are : t'.codes ≡ t.codes) (statics_are : t'.statics.items ≡ t.statics.items) (granted_is : t'.granted ≡ t.granted) (begun_is : t'.begun ≡ t.begun) where
   abbrev old : Scene
@@ -129,6 +141,10 @@ module _ (l : Linked) (k : Numbering) (main : Block) (made : ClassKey → Bool) 
     above = λ n m. absurd m;
   }
 
+  -- memory was wanting
+  pub frames_wanting : (b : Begun) (levels : ℕ) (me : Reference) (args : List Cell) → Began old new b levels me args (Err stops.NoMemory)
+  frames_wanting b levels me args = quiet_to old new b levels me args (Err stops.NoMemory) refl keeps_frames tt (λ body ws s began fuel tests way a. tt)
+
   growing : Grows made made os os t t'
   growing = record { serials = []; serials_are = serials_are ∙ sym (append-nil t.serials); codes = []; codes_are = codes_are ∙ sym (append-nil t.codes); made_more = λ x e. e; known = λ r x. x }
 
@@ -137,17 +153,17 @@ module _ (l : Linked) (k : Numbering) (main : Block) (made : ClassKey → Bool) 
     at = places.Body b.class b.method
 
     -- what isn't freed
-    pub not_freed : (me : Reference) → IsNoObject me → Began old old b levels me args (Err (stops.Fault faults.ClassFree at))
+    pub not_freed : (me : Reference) → ((r : ObjRef) → me ≡ references.Object r → ⊥) → Began old old b levels me args (Err (stops.Fault faults.ClassFree at))
     not_freed me none = quiet old b levels me args (Err (stops.Fault faults.ClassFree at)) tt (λ body ws s began fuel tests way a. record {
       then = s;
       is = ap (λ (x : Step). x.does s) (kernel_act old b me args kinds.Free is body ws s began levels tests way a) ∙ by me none ws s;
       events = sym (append-nil s.events);
     })
       where
-        by : (me : Reference) → IsNoObject me → (ws : List frames.Waiting) (s : State) → (kernel_begins l.world levels (place_shown (setting_of old) at) (shown_ref (shows (setting_of old)) me) ws bodies.Free (all_shown (shows (setting_of old)) args)).does s ≡ Ends (Faulted faults.ClassFree (place_shown (setting_of old) at)) s
+        by : (me : Reference) → ((r : ObjRef) → me ≡ references.Object r → ⊥) → (ws : List frames.Waiting) (s : State) → (kernel_begins l.world levels (place_shown (setting_of old) at) (shown_ref (shows (setting_of old)) me) ws bodies.Free (all_shown (shows (setting_of old)) args)).does s ≡ Ends (Faulted faults.ClassFree (place_shown (setting_of old) at)) s
         by (references.Class n) none ws s = refl
         by references.Manager none ws s = refl
-        by (references.Object r) none ws s = absurd none
+        by (references.Object r) none ws s = absurd (none r refl)
 
     -- somUninit is called, for which the freeing waits
     pub object_freed : (r : ObjRef) → t'.frames.waiting.items ≡ t.frames.waiting.items ++ waits.Uninit at r ∷ [] → (none : List Cell) → none ≡ [] → (call : Result Call Stopped)
@@ -187,22 +203,23 @@ module _ (c : Scene) (b : Begun) (is : b.what ≡ whats.Forward) (levels : ℕ) 
   goes_to ws t = tried (place_shown (setting_of c) from) t >>= forwards ws
 
   forward_is : (body : Held) (ws : List frames.Waiting) (s : State) → Begins c s.heap ws b body me args → (tests : Tests) (way : Manner) (a : Bool) → (act_of c b body levels me args ws tests way a).does s ≡ (goes_to ws (targeted self s.heap)).does s
-  forward_is body ws s began tests way a =
-      ap (λ (y : Held). (act_of c b y levels me args ws tests way a).does s) (subst (λ (x : What). IsWhat c.task.codes (body_of b.class b.method (length args)) x body) is began.begun.what)
-      ∙ by (is_live s.heap self)
+  forward_is body ws s began tests way a = by (act_of c b held.Forward levels me args ws tests way a) (ap (λ (y : Held). (act_of c b y levels me args ws tests way a).does s) (subst (λ (x : What). IsWhat c.task.codes (body_of b.class b.method (length args)) x body) is began.begun.what)) (two (is_live s.heap self))
     where
-      by : (z : Bool) → (tried (place_shown (setting_of c) from) (if z then Ok self else Err faults.Freed) >>= λ _. tried (place_shown (setting_of c) from) (Ok (target_of s.heap self)) >>= forwards ws).does s
+      by : (act : Step) → (act_of c b body levels me args ws tests way a).does s ≡ act.does s → act.does s ≡ (goes_to ws (targeted self s.heap)).does s → (act_of c b body levels me args ws tests way a).does s ≡ (goes_to ws (targeted self s.heap)).does s
+      by act d e = d ∙ e
+
+      two : (z : Bool) → (tried (place_shown (setting_of c) from) (if z then Ok self else Err faults.Freed) >>= λ _. asked (place_shown (setting_of c) from) (λ h. Ok (target_of h self)) >>= forwards ws).does s
           ≡ (goes_to ws (if z then Ok (target_of s.heap self) else Err faults.Freed)).does s
-      by true = refl
-      by false = refl
+      two true = refl
+      two false = refl
 
   -- there is no target
   pub not_forwarded : (e : Stopped) → ((body : Held) (ws : List frames.Waiting) (s : State) → Begins c s.heap ws b body me args → Answers (shows (setting_of c)) (Err e) (targeted self s.heap)) → Began c c b levels me args (Err (stopped_at from e))
-  not_forwarded e fails = quiet c b levels me args (Err (stopped_at from e)) (stopped_none from e) (λ body ws s began fuel tests way a. by e ws s (forward_is body ws s began tests way a) (fails body ws s began))
+  not_forwarded e fails = quiet c b levels me args (Err (stopped_at from e)) (stopped_none from e) (λ body ws s began fuel tests way a. by e (act_of c b body levels me args ws tests way a) ws s (forward_is body ws s began tests way a) (fails body ws s began))
     where
-      by : (x : Stopped) {act : Step} (ws : List frames.Waiting) (s : State) → act.does s ≡ (goes_to ws (targeted self s.heap)).does s → Answers (shows (setting_of c)) (Err x) (targeted self s.heap) → Moved act s (Err (stopped_at from x)) c []
-      by (stopped.Fault f) ws s starts means = record { then = s; is = starts ∙ ap (λ z. (goes_to ws z).does s) means; events = sym (append-nil s.events) }
-      by stopped.NoMemory ws s starts means = tt
+      by : (x : Stopped) (act : Step) (ws : List frames.Waiting) (s : State) → act.does s ≡ (goes_to ws (targeted self s.heap)).does s → Answers (shows (setting_of c)) (Err x) (targeted self s.heap) → Moved act s (Err (stopped_at from x)) c []
+      by (stopped.Fault f) act ws s starts means = record { then = s; is = starts ∙ ap (λ z. (goes_to ws z).does s) means; events = sym (append-nil s.events) }
+      by stopped.NoMemory act ws s starts means = tt
 
   -- the call is made on the target
   pub was_forwarded : (on : Cell) (call : Result Call Stopped)

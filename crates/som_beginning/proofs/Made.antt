@@ -51,16 +51,11 @@ use Rattle.som_beginning.specs.declared.begun.Begun.{Begun}
 use Rattle.som_beginning.specs.declared.begun.What.TheVariants as whats
 use Rattle.som_beginning.specs.Beginning.{Began, Begins, act_of, call_at}
 use Rattle.som_beginning.proofs.Asked.{kernel_act}
-use Rattle.som_beginning.proofs.Called.{call_moved}
+use Rattle.som_beginning.proofs.Called.{call_moved, no_arguments}
 use Rattle.som_beginning.proofs.Growing.{Grows, around_later, around_pushed}
 use Rattle.som_beginning.proofs.Standing.{call_none, keeps_still, quiet, quiet_to}
 use Rattle.som_beginning.proofs.Untold.{at_state}
 use Rattle.som_beginning.proofs.Written.{one_made, the_one}
-
--- the reference of no class object stands for no class
-abbrev pub IsNoClass : Reference → Type 0
-IsNoClass (references.Class n) = ⊥
-IsNoClass _ = Unit {0}
 
 -- a single serial that was given
 pub are_one : (n : ℕ) (os : Objects) → 0 < n → n ≤ length os → AreSerials (n ∷ []) os
@@ -85,13 +80,31 @@ module _ (l : Linked) (k : Numbering) (main : Block) (made : ClassKey → Bool) 
 
   -- ---- no class object
 
-  pub no_class : (kind : KernelBody) → b.what ≡ whats.Kernel kind → (me : Reference) → IsNoClass me
-      → ((h : Heap) (ws : List frames.Waiting) (s : State) → (kernel_begins l.world levels (InBody (key_of l.keys b.class) (l.method b.method).name) (shown_ref (showing l.keys t.serials) me) ws (body_shown kind) (all_shown (showing l.keys t.serials) args)).does s
-        ≡ Ends (Faulted faults.NotClass (InBody (key_of l.keys b.class) (l.method b.method).name)) s)
-      → Began old old b levels me args (Err (stops.Fault faults.NotClass (places.Body b.class b.method)))
-  no_class kind is me none fails = quiet old b levels me args (Err (stops.Fault faults.NotClass (places.Body b.class b.method))) tt (λ body ws s began fuel tests way a. record {
+  -- a body that makes an object
+  abbrev pub Makes : KernelBody → Type 0
+  Makes kinds.New = Unit {0}
+  Makes kinds.NewNoInit = Unit {0}
+  Makes _ = ⊥
+
+  abbrev here : state.Place
+  here = InBody (key_of l.keys b.class) (l.method b.method).name
+
+  not_made : (kind : KernelBody) → Makes kind → (me : Reference) → ((n : ℕ) → me ≡ references.Class n → ⊥) → (ws : List frames.Waiting) (s : State)
+      → (kernel_begins l.world levels here (shown_ref (showing l.keys t.serials) me) ws (body_shown kind) (all_shown (showing l.keys t.serials) args)).does s ≡ Ends (Faulted faults.NotClass here) s
+  not_made kind m (references.Class n) none ws s = absurd (none n refl)
+  not_made kinds.New m (references.Object r) none ws s = refl
+  not_made kinds.New m references.Manager none ws s = refl
+  not_made kinds.NewNoInit m (references.Object r) none ws s = refl
+  not_made kinds.NewNoInit m references.Manager none ws s = refl
+  not_made kinds.Idle m me none ws s = absurd m
+  not_made kinds.Free m me none ws s = absurd m
+  not_made kinds.FindClass m me none ws s = absurd m
+  not_made (kinds.Asks q) m me none ws s = absurd m
+
+  pub no_class_answer : (kind : KernelBody) → Makes kind → b.what ≡ whats.Kernel kind → (me : Reference) → ((n : ℕ) → me ≡ references.Class n → ⊥) → Began old old b levels me args (Err (stops.Fault faults.NotClass (places.Body b.class b.method)))
+  no_class_answer kind m is me none = quiet old b levels me args (Err (stops.Fault faults.NotClass (places.Body b.class b.method))) tt (λ body ws s began fuel tests way a. record {
     then = s;
-    is = ap (λ (x : Step). x.does s) (kernel_act old b me args kind is body ws s began levels tests way a) ∙ fails s.heap ws s;
+    is = ap (λ (x : Step). x.does s) (kernel_act old b me args kind is body ws s began levels tests way a) ∙ not_made kind m me none ws s;
     events = sym (append-nil s.events);
   })
 
@@ -126,6 +139,13 @@ module _ (l : Linked) (k : Numbering) (main : Block) (made : ClassKey → Bool) 
       above = above;
     }
 
+    -- memory was wanting
+    pub wanting : Keeps old new → Began old new b levels me args (Err stops.NoMemory)
+    wanting keeps = quiet_to old new b levels me args (Err stops.NoMemory) refl keeps tt (λ body ws s began fuel tests way a. tt)
+
+    pub keeps_none : t'.serials ≡ t.serials → os' ≡ os → Keeps old new
+    keeps_none same equal = keeps_added [] (same ∙ sym (append-nil t.serials)) (let e = ap (λ (x : Objects). length x) equal in omega (arith, e)) (λ m f. absurd f)
+
     module _ (r : ObjRef) (serials_are : t'.serials ≡ t.serials ++ r.serial ∷ []) where
       growing : Grows made made os os' t t'
       growing = record { serials = r.serial ∷ []; serials_are = serials_are; codes = []; codes_are = codes_are ∙ sym (append-nil t.codes); made_more = λ x e. e; known = known }
@@ -157,6 +177,9 @@ module _ (l : Linked) (k : Numbering) (main : Block) (made : ClassKey → Bool) 
 
         pub usable : (h : Heap) → Holding l made t.serials os t.statics.items h → IsUsable l made t'.serials os' (cells.Object r)
         usable h x = record { own = own h x; made_of = tt }
+
+        pub object_owner : (h : Heap) → Holding l made t.serials os t.statics.items h → (none : List Cell) → none ≡ [] → HaveOwner l made os' (cells.Object r) none
+        object_owner h x none empty = no_arguments l made t'.serials os' t'.statics.items (grown h) (holding h x) (cells.Object r) (usable h x) none empty
 
         codes_kept : (h : Heap) (ws : List frames.Waiting) → Around old h ws → AreCodes k main t'.codes
         codes_kept h ws around = subst (AreCodes k main) (sym codes_are) around.codes

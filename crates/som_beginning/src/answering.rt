@@ -1,6 +1,8 @@
 ghost use Rattle.som_beginning.specs.Beginning.{answer_at, stopped_at, write_at};
+ghost use Rattle.som_telling.specs.declared.running.Place.TheVariants as places;
 ghost use Rattle.std.specs.Prelude.{◌≡◌};
 
+use crate::Begun;
 use som_moves::Stop;
 use som_objects::Cell;
 use som_task::Now;
@@ -34,5 +36,15 @@ pub(crate) fn stop_at(at: Place, stopped: Stopped) -> Stop
     match stopped {
         Stopped::Fault(fault) => Stop::Fault { fault, at },
         Stopped::NoMemory => Stop::NoMemory,
+    }
+}
+
+/// Where a body runs.
+pub(crate) fn place_of(begun: &Begun) -> Place
+    ensures { result ≡ places.Body begun.now.class begun.now.method }
+{
+    Place::Body {
+        class: begun.class,
+        method: begun.method,
     }
 }

@@ -5,7 +5,7 @@ ghost use Rattle.som_task.specs.declared.task.Task.{Task};
 ghost use Rattle.std.specs.Prelude.{◌≡◌, ℕ};
 
 use crate::Begun;
-use crate::answering::stop_at;
+use crate::answering::{place_of, stop_at};
 use crate::calling::called;
 use som_instances::target;
 use som_moves::Stop;
@@ -13,7 +13,7 @@ use som_objects::{Cell, ObjectStore};
 use som_passing::pass_offset;
 use som_runtime::Runtime;
 use som_task::Now;
-use som_telling::{Manner, Place};
+use som_telling::Manner;
 use som_values::Reference;
 use std::alloc::Global;
 
@@ -33,25 +33,13 @@ pub(crate) fn begin_forwarding<R: Runtime>(
         (scene (R.linked runtime.now) (R.known runtime.now) (R.program runtime.now) (R.made runtime.now) objects.now t f) begun levels me args.items result }
 {
     runtime.know();
-    let _signature = runtime.signature(begun.method);
-    let at = Place::Body {
-        class: begun.class,
-        method: begun.method,
+    let method = begun.method;
+    let _signature = runtime.signature(method);
+    let on = match target(alloc, runtime, objects, me) {
+        Ok(on) => on,
+        Err(stopped) => return Err(stop_at(place_of(&begun), stopped)),
     };
-    match target(alloc, runtime, objects, me) {
-        Ok(on) => called(
-            levels,
-            at,
-            pass_offset(
-                runtime,
-                objects,
-                at,
-                Manner::Forward,
-                begun.method,
-                &on,
-                args,
-            ),
-        ),
-        Err(stopped) => Err(stop_at(at, stopped)),
-    }
+    let at = place_of(&begun);
+    let call = pass_offset(runtime, objects, at, Manner::Forward, method, &on, args);
+    called(levels, place_of(&begun), call)
 }

@@ -6,6 +6,7 @@ ghost use Rattle.som_objects.specs.declared.cell.Cell.{Cell as Argument};
 ghost use Rattle.std.specs.Prelude.{◌≡◌, ℕ, List};
 
 use crate::Begun;
+use crate::answering::place_of;
 use crate::calling::{called, wait_for};
 use som_model::Fault;
 use som_moves::Stop;
@@ -13,7 +14,7 @@ use som_objects::{Cell, ObjectStore};
 use som_passing::{pass_offset, uninit_token};
 use som_runtime::Runtime;
 use som_task::{Now, Task, Waiting};
-use som_telling::{Manner, Place};
+use som_telling::Manner;
 use som_values::Reference;
 use std::alloc::Global;
 
@@ -33,28 +34,18 @@ pub(crate) fn begin_freeing<R: Runtime>(
     ensures { (f : ℕ) (args : List Argument) → Began (scene (R.linked runtime.now) (R.known runtime.now) (R.program runtime.now) (R.made runtime.now) objects.now task.old f)
         (scene (R.linked runtime.now) (R.known runtime.now) (R.program runtime.now) (R.made runtime.now) objects.now task.new f) begun levels me args result }
 {
-    let at = Place::Body {
-        class: begun.class,
-        method: begun.method,
-    };
     let Reference::Object(object) = me else {
         return Err(Stop::Fault {
             fault: Fault::ClassFree,
-            at,
+            at: place_of(&begun),
         });
     };
-    wait_for(&mut task.frames.waiting, Waiting::Uninit { from: at, object })?;
-    called(
-        levels,
-        at,
-        pass_offset(
-            runtime,
-            objects,
-            at,
-            Manner::Offset,
-            uninit_token(runtime),
-            &Cell::Object(object),
-            Vec::new(alloc),
-        ),
-    )
+    let from = place_of(&begun);
+    wait_for(&mut task.frames.waiting, Waiting::Uninit { from, object })?;
+    let on = Cell::Object(object);
+    let none = Vec::new(alloc);
+    let method = uninit_token(runtime);
+    let at = place_of(&begun);
+    let call = pass_offset(runtime, objects, at, Manner::Offset, method, &on, none);
+    called(levels, place_of(&begun), call)
 }

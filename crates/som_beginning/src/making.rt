@@ -6,6 +6,7 @@ ghost use Rattle.som_objects.specs.declared.cell.Cell.{Cell as Argument};
 ghost use Rattle.std.specs.Prelude.{◌≡◌, ◌+◌, ◌<◌, ◌^◌, ℕ, List, length};
 
 use crate::Begun;
+use crate::answering::place_of;
 use crate::calling::{called, wait_for};
 use som_model::Fault;
 use som_instances::make;
@@ -14,7 +15,7 @@ use som_objects::{Cell, ObjectStore};
 use som_passing::{init_token, pass_offset};
 use som_runtime::Runtime;
 use som_task::{Now, Task, Waiting};
-use som_telling::{Manner, Place};
+use som_telling::Manner;
 use som_values::Reference;
 use std::alloc::Global;
 
@@ -36,10 +37,7 @@ pub(crate) fn begin_making<R: Runtime>(
     let Reference::Class(class) = me else {
         return Err(Stop::Fault {
             fault: Fault::NotClass,
-            at: Place::Body {
-                class: begun.class,
-                method: begun.method,
-            },
+            at: place_of(&begun),
         });
     };
     let object = make(alloc, runtime, objects, &mut task.serials, class, Cell::Nil)?;
@@ -62,29 +60,18 @@ pub(crate) fn begin_new<R: Runtime>(
     ensures { (f : ℕ) (args : List Argument) → Began (scene (R.linked runtime.now) (R.known runtime.now) (R.program runtime.now) (R.made runtime.now) objects.old task.old f)
         (scene (R.linked runtime.now) (R.known runtime.now) (R.program runtime.now) (R.made runtime.now) objects.new task.new f) begun levels me args result }
 {
-    let at = Place::Body {
-        class: begun.class,
-        method: begun.method,
-    };
     let Reference::Class(class) = me else {
         return Err(Stop::Fault {
             fault: Fault::NotClass,
-            at,
+            at: place_of(&begun),
         });
     };
     let object = make(alloc, runtime, objects, &mut task.serials, class, Cell::Nil)?;
     wait_for(&mut task.frames.waiting, Waiting::Init(object))?;
-    called(
-        levels,
-        at,
-        pass_offset(
-            runtime,
-            objects,
-            at,
-            Manner::Offset,
-            init_token(runtime),
-            &Cell::Object(object),
-            Vec::new(alloc),
-        ),
-    )
+    let on = Cell::Object(object);
+    let none = Vec::new(alloc);
+    let method = init_token(runtime);
+    let at = place_of(&begun);
+    let call = pass_offset(runtime, objects, at, Manner::Offset, method, &on, none);
+    called(levels, place_of(&begun), call)
 }
