@@ -1,9 +1,8 @@
 -- A body that only asks answers what it is asked.
-use Rattle.std.proofs.Common.{◌≡◌, ℕ, Bool, List, [], ◌∷◌, length, Option, Some, Result, Ok, IfOk, refl, sym, ap, subst, ◌∙◌}
+use Rattle.std.proofs.Common.{◌≡◌, ℕ, Bool, List, length, Some, Result, Ok, IfOk, sym, ap, subst, ◌∙◌}
 use Rattle.som_model.specs.declared.key.ClassKey.{ClassKey}
 use Rattle.som_model.specs.World.{World}
 use Rattle.som_model.specs.Implementation.{Held}
-use Rattle.som_model.specs.Implementation as held
 use Rattle.som_model.specs.State.{Heap, InBody, Manner, Nil, State, To}
 use Rattle.som_model.specs.Expressions.{read}
 use Rattle.som_model.specs.Invoked as bodies
@@ -60,7 +59,7 @@ module _ (c : Scene) (b : Begun) (me : Reference) (args : List Cell) where
 
   pub asked : (asking : Asking) → b.what ≡ whats.Kernel (kinds.Asks asking) → (r : Result Cell Stopped) (levels : ℕ)
       → ((body : Held) (ws : List frames.Waiting) (s : State) → Begins c s.heap ws b body me args
-        → IsAnswered c.linked c.made c.linked.keys c.task.serials c.objects r (asks c.linked.world (asking_shown asking) (shown_ref (shows (setting_of c)) me) (all_shown (shows (setting_of c)) args) s.heap))
+      → IsAnswered c.linked c.made c.linked.keys c.task.serials c.objects r (asks c.linked.world (asking_shown asking) (shown_ref (shows (setting_of c)) me) (all_shown (shows (setting_of c)) args) s.heap))
       → Began c c b levels me args (answer_at (places.Body b.class b.method) r)
   asked asking is r levels by = quiet c b levels me args (answer_at (places.Body b.class b.method) r) (answer_none (places.Body b.class b.method) r) (λ body ws s began fuel tests way answers.
       (let is_answer = by body ws s began in
@@ -72,7 +71,7 @@ module _ (c : Scene) (b : Begun) (me : Reference) (args : List Cell) where
   -- a body that reads a variable
   pub was_read : (n : ℕ) → b.what ≡ whats.Get n → (r : Result Cell Stopped) (levels : ℕ)
       → ((body : Held) (ws : List frames.Waiting) (s : State) → Begins c s.heap ws b body me args
-        → Answers (shows (setting_of c)) r (read (key_of c.linked.keys b.class) n (To (shown_ref (shows (setting_of c)) me)) s.heap) × IfOk r (IsUsable c.linked c.made c.task.serials c.objects))
+      → Answers (shows (setting_of c)) r (read (key_of c.linked.keys b.class) n (To (shown_ref (shows (setting_of c)) me)) s.heap) × IfOk r (IsUsable c.linked c.made c.task.serials c.objects))
       → Began c c b levels me args (answer_at (places.Body b.class b.method) r)
   was_read n is r levels by = quiet c b levels me args (answer_at (places.Body b.class b.method) r) (answer_none (places.Body b.class b.method) r) (λ body ws s began fuel tests way a.
       (let x = by body ws s began in

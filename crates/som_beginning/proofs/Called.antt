@@ -1,10 +1,9 @@
 -- A call that passed its tests is next.
-use Rattle.std.proofs.Common.{◌≡◌, ◌<◌, ◌≤◌, ℕ, zero, suc, Bool, true, false, List, [], ◌∷◌, ◌++◌, length, Option, Some, None, Result, Ok, Err, IfOk, refl, sym, ap, subst, ◌∙◌, if◌then◌else◌, append-nil, arith}
+use Rattle.std.proofs.Common.{◌≡◌, ℕ, Bool, true, false, List, [], ◌∷◌, ◌++◌, length, Option, Some, Result, Ok, Err, IfOk, refl, sym, ap, subst, ◌∙◌, if◌then◌else◌, append-nil, arith}
 use Rattle.std.specs.List.{All}
 use Rattle.som_model.specs.declared.key.ClassKey.{ClassKey}
 use Rattle.som_model.specs.declared.key.MethodRef.{MethodRef}
 use Rattle.som_model.specs.declared.syntax.Block.{Block}
-use Rattle.som_model.specs.declared.program.Fault.{Fault}
 use Rattle.som_model.specs.declared.program.Fault.TheVariants as faults
 use Rattle.som_model.specs.declared.class.Sig.{Sig}
 use Rattle.som_model.specs.World.{World, world}
@@ -13,13 +12,12 @@ use Rattle.som_model.specs.Loads.{Loads}
 use Rattle.som_model.specs.Kernel.{kernel, som_uninit}
 use Rattle.som_model.specs.Implementation.{Held}
 use Rattle.som_model.specs.Implementation as held
-use Rattle.som_model.specs.State.{Event, Forward, Heap, InBody, Manner, Object, Offset, Ref, State, To, Tried, Value, is_live, target_of}
-use Rattle.som_model.specs.State as state
-use Rattle.som_model.specs.Runs.{Ends, Faulted, Goes}
+use Rattle.som_model.specs.State.{Forward, Heap, Manner, Object, Offset, Ref, State, To, Tried, Value, is_live, target_of}
+use Rattle.som_model.specs.Runs.{Ends, Faulted}
 use Rattle.som_model.specs.Acts.{◌>>=◌, asked, later_self, tried}
 use Rattle.som_model.specs.Calls.{Request}
 use Rattle.som_code.specs.Machine.{On}
-use Rattle.som_codes.specs.Coded.{AreCodes, codes_of, key_of as body_of}
+use Rattle.som_codes.specs.Coded.{AreCodes, key_of as body_of}
 use Rattle.som_frames.specs.Frames as frames
 use Rattle.som_frames.specs.Passed.{passes_offset}
 use Rattle.som_frames.specs.Tested.{Tests}
@@ -35,7 +33,7 @@ use Rattle.som_values.specs.declared.reference.Reference.TheVariants as referenc
 use Rattle.som_values.specs.declared.stopped.Stopped.{Stopped}
 use Rattle.som_values.specs.declared.stopped.Stopped.TheVariants as stopped
 use Rattle.som_values.specs.Answers.{Answers}
-use Rattle.som_values.specs.Shown.{IsNumbered, IsSeen, all_shown, key_of, place_of, shown, shown_ref, showing}
+use Rattle.som_values.specs.Shown.{IsNumbered, IsSeen, all_shown, place_of, shown, shown_ref, showing}
 use Rattle.som_telling.specs.declared.manner.Manner.{Manner as Way}
 use Rattle.som_telling.specs.Events.{manner_of}
 use Rattle.som_code.specs.declared.instruction.Instruction.{Instruction}
@@ -43,16 +41,14 @@ use Rattle.som_values.specs.Stored.{Holds}
 use Rattle.som_telling.specs.declared.running.Place.{Place}
 use Rattle.som_telling.specs.declared.running.Place.TheVariants as places
 use Rattle.som_task.specs.declared.call.Call.{Call}
-use Rattle.som_task.specs.declared.frames.Now.TheVariants as nows
-use Rattle.som_task.specs.declared.frames.Waiting.{Waiting}
 use Rattle.som_task.specs.declared.frames.Waiting.TheVariants as waits
 use Rattle.som_task.specs.declared.task.Task.{Task}
 use Rattle.som_task.specs.Settings.{Linked, shows}
-use Rattle.som_task.specs.Standing.{call_shown, place_shown, waiting_shown}
+use Rattle.som_task.specs.Standing.{call_shown, place_shown}
 use Rattle.som_runtime.specs.Asked.{Agree, CanLoad}
-use Rattle.som_runtime.specs.Holding.{Holding, IsUsable, IsUsableRef}
+use Rattle.som_runtime.specs.Holding.{Holding, IsUsable}
 use Rattle.som_instances.specs.Targets.{targeted}
-use Rattle.som_passing.specs.Named.{HaveOwner, IsTokenOf, IsUsableCall, setting}
+use Rattle.som_passing.specs.Named.{HaveOwner, IsUsableCall, setting}
 use Rattle.som_passing.specs.Passed.{Passes}
 use Rattle.som_asks.specs.declared.kinds.KernelBody.TheVariants as kinds
 use Rattle.som_moves.specs.declared.stop.Stop.TheVariants as stops
@@ -111,9 +107,9 @@ no_arguments l made xs os statics h holding on usable none empty = (record { ser
 -- what is said of a call from a place, at the same place by other words
 pub offset_at : (l : Linked) (os : Objects) (from at : Place) → from ≡ at → (call : Result Call Stopped) (manner : Way) (tok : ℕ × ℕ) (on : Cell) (args : List Cell)
     → ((xs : List ℕ) (cs : List (List Instruction)) (h : Heap) (r : MethodRef) → l.world.owner r ≡ l.method tok → Holds (showing l.keys xs) os h → IsSeen (showing l.keys xs) on
-      → Passes (setting l xs cs) h from call (λ next. passes_offset l.world next (place_shown (setting l xs cs) from) (manner_of manner) r (shown (showing l.keys xs) on) (all_shown (showing l.keys xs) args)))
+    → Passes (setting l xs cs) h from call (λ next. passes_offset l.world next (place_shown (setting l xs cs) from) (manner_of manner) r (shown (showing l.keys xs) on) (all_shown (showing l.keys xs) args)))
     → (xs : List ℕ) (cs : List (List Instruction)) (h : Heap) (r : MethodRef) → l.world.owner r ≡ l.method tok → Holds (showing l.keys xs) os h → IsSeen (showing l.keys xs) on
-      → Passes (setting l xs cs) h at call (λ next. passes_offset l.world next (place_shown (setting l xs cs) at) (manner_of manner) r (shown (showing l.keys xs) on) (all_shown (showing l.keys xs) args))
+    → Passes (setting l xs cs) h at call (λ next. passes_offset l.world next (place_shown (setting l xs cs) at) (manner_of manner) r (shown (showing l.keys xs) on) (all_shown (showing l.keys xs) args))
 offset_at l os from at e call manner tok on args p xs cs h r own holds seen =
     subst (λ (x : Place). Passes (setting l xs cs) h x call (λ next. passes_offset l.world next (place_shown (setting l xs cs) x) (manner_of manner) r (shown (showing l.keys xs) on) (all_shown (showing l.keys xs) args))) e (p xs cs h r own holds seen)
 
@@ -168,8 +164,8 @@ module _ (l : Linked) (k : Numbering) (main : Block) (made : ClassKey → Bool) 
     -- somUninit is called, for which the freeing waits
     pub object_freed : (r : ObjRef) → t'.frames.waiting.items ≡ t.frames.waiting.items ++ waits.Uninit at r ∷ [] → (none : List Cell) → none ≡ [] → (call : Result Call Stopped)
         → ((h : Heap) → Holding l made t'.serials os t'.statics.items h → IsUsable l made t'.serials os (cells.Object r) → IsNumbered l.keys b.class → l.is_token b.method ≡ true
-          → Passes (setting_of new) h at call (λ next. passes_offset l.world next (place_shown (setting_of new) at) Offset som_uninit (To (Object (place_of t'.serials r.serial))) (all_shown (showing l.keys t'.serials) none))
-            × IfOk call (IsUsableCall (setting_of new) made os))
+        → Passes (setting_of new) h at call (λ next. passes_offset l.world next (place_shown (setting_of new) at) Offset som_uninit (To (Object (place_of t'.serials r.serial))) (all_shown (showing l.keys t'.serials) none))
+        × IfOk call (IsUsableCall (setting_of new) made os))
         → Began old new b levels (references.Object r) args (call_at levels at call)
     object_freed r waiting_is none empty call passes = quiet_to old new b levels (references.Object r) args (call_at levels at call) refl keeps_frames (call_none levels at call) (λ body ws s began fuel tests way a.
         (let uninits : ℕ → List Value → (Request → Step) → Step = λ i vs next. passes_offset l.world next (place_shown (setting_of new) at) Offset som_uninit (To (Object i)) vs in
@@ -183,7 +179,7 @@ module _ (l : Linked) (k : Numbering) (main : Block) (made : ClassKey → Bool) 
         ∙ ap (λ cs. (uninits (place_of t'.serials r.serial) (all_shown (showing l.keys t'.serials) cs) (makes levels ws')).does s) (sym empty))
         p.0 p.1
         (around_pushed l k main made made os os t t' f f growing s.heap s.heap began.around.holding.heap.holds.many (later_self s.heap) ws began.around holding (subst (AreCodes k main) (sym codes_are) began.around.codes) (waits.Uninit at r) waiting_is
-          ((began.begun.class, began.begun.method), own) tt tt)
+        ((began.begun.class, began.begun.method), own) tt tt)
         fuel))
 
 -- ---- forwards
@@ -224,8 +220,8 @@ module _ (c : Scene) (b : Begun) (is : b.what ≡ whats.Forward) (levels : ℕ) 
   -- the call is made on the target
   pub was_forwarded : (on : Cell) (call : Result Call Stopped)
       → ((body : Held) (ws : List frames.Waiting) (s : State) → Begins c s.heap ws b body me args → (targeted self s.heap ≡ Ok (shown (shows (setting_of c)) on))
-        × Passes (setting_of c) s.heap from call (λ next. passes_offset c.linked.world next (place_shown (setting_of c) from) Forward (c.linked.method b.method) (shown (shows (setting_of c)) on) (all_shown (shows (setting_of c)) args))
-        × IfOk call (IsUsableCall (setting_of c) c.made c.objects))
+      × Passes (setting_of c) s.heap from call (λ next. passes_offset c.linked.world next (place_shown (setting_of c) from) Forward (c.linked.method b.method) (shown (shows (setting_of c)) on) (all_shown (shows (setting_of c)) args))
+      × IfOk call (IsUsableCall (setting_of c) c.made c.objects))
       → Began c c b levels me args (call_at levels from call)
   was_forwarded on call by = quiet c b levels me args (call_at levels from call) (call_none levels from call) (λ body ws s began fuel tests way a.
       (let p = by body ws s began in

@@ -1,12 +1,12 @@
 -- A class that is found is made, and its class object answered.
-use Rattle.std.proofs.Common.{◌≡◌, ◌⊎◌, inl, inr, ℕ, Bool, true, List, [], ◌∷◌, ◌++◌, length, Option, None, Some, Result, Ok, Err, refl, sym, ap, subst, ◌∙◌, append-nil, arith}
+use Rattle.std.proofs.Common.{◌≡◌, ◌⊎◌, inl, inr, ℕ, Bool, true, List, [], ◌∷◌, ◌++◌, Option, None, Some, Result, Ok, Err, refl, sym, ap, subst, ◌∙◌, append-nil}
 use Rattle.std.specs.Option.{option_map}
 use Rattle.som_model.specs.declared.key.ClassKey.{ClassKey}
 use Rattle.som_model.specs.declared.syntax.Block.{Block}
 use Rattle.som_model.specs.Implementation.{Held}
 use Rattle.som_model.specs.Lists.{Mem}
 use Rattle.som_model.specs.Made.{ComesOf}
-use Rattle.som_model.specs.State.{ClassObject, InBody, Manner, Nil, State, To, Used, Value}
+use Rattle.som_model.specs.State.{ClassObject, Manner, State, To, Used, Value}
 use Rattle.som_model.specs.World.{World}
 use Rattle.som_model.specs.Runs.{Goes, IsPrefix, end_of}
 use Rattle.som_model.specs.Acts.{◌>>=◌, later_self}
@@ -21,7 +21,7 @@ use Rattle.som_objects.specs.declared.cell.Cell.{Cell}
 use Rattle.som_objects.specs.declared.cell.Cell.TheVariants as cells
 use Rattle.som_objects.specs.Objects.{Objects}
 use Rattle.som_values.specs.declared.reference.Reference.{Reference}
-use Rattle.som_values.specs.Shown.{IsNumbered, all_shown, key_of, shown}
+use Rattle.som_values.specs.Shown.{IsNumbered, all_shown, key_of}
 use Rattle.som_task.specs.declared.frames.Now.{Now}
 use Rattle.som_task.specs.declared.frames.Now.TheVariants as nows
 use Rattle.som_task.specs.declared.task.Task.{Task}
@@ -30,7 +30,7 @@ use Rattle.som_asks.specs.declared.kinds.KernelBody.TheVariants as kinds
 use Rattle.som_moves.specs.declared.stop.Stop.{Stop}
 use Rattle.som_moves.specs.declared.stop.Stop.TheVariants as stops
 use Rattle.som_moves.specs.Scene.{Scene, scene, setting_of}
-use Rattle.som_moves.specs.Moving.{Keeps, Makes, Went}
+use Rattle.som_moves.specs.Moving.{Keeps, Went}
 use Rattle.som_beginning.specs.declared.begun.Begun.{Begun}
 use Rattle.som_beginning.specs.declared.begun.What.TheVariants as whats
 use Rattle.som_beginning.specs.Beginning.{Began, Begins, act_of}

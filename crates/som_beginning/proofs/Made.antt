@@ -1,22 +1,19 @@
 -- A new object of a task, and what begins with one.
-use Rattle.std.proofs.Common.{◌≡◌, ◌<◌, ◌≤◌, ◌+◌, ◌⊎◌, inl, inr, ℕ, zero, suc, Bool, true, false, List, [], ◌∷◌, ◌++◌, length, slice_get, Option, Some, None, Result, Ok, Err, IfOk, refl, sym, ap, subst, ◌∙◌, append-nil, arith}
-use Rattle.std.specs.List.{All}
+use Rattle.std.proofs.Common.{◌≡◌, ◌<◌, ◌≤◌, ◌+◌, inl, inr, ℕ, zero, suc, Bool, true, List, [], ◌∷◌, ◌++◌, length, slice_get, Some, Result, Ok, Err, IfOk, refl, sym, ap, subst, ◌∙◌, append-nil, arith}
 use Rattle.som_model.specs.declared.key.ClassKey.{ClassKey}
 use Rattle.som_model.specs.declared.syntax.Block.{Block}
 use Rattle.som_model.specs.declared.program.Fault.TheVariants as faults
 use Rattle.som_model.specs.Kernel.{som_init}
 use Rattle.som_model.specs.Lists.{Mem}
-use Rattle.som_model.specs.Implementation.{Held}
 use Rattle.som_model.specs.State.{Heap, InBody, Manner, Nil, Object, Offset, Ref, State, To, Value}
 use Rattle.som_model.specs.State as state
 use Rattle.som_model.specs.Runs.{Ends, Faulted, Goes, IsLater}
 use Rattle.som_model.specs.Acts.{one_more_stays, with_one}
 use Rattle.som_model.specs.Calls.{Request}
 use Rattle.som_code.specs.Machine.{On}
-use Rattle.som_codes.specs.Coded.{AreCodes, codes_of}
+use Rattle.som_codes.specs.Coded.{AreCodes}
 use Rattle.som_frames.specs.Frames as frames
 use Rattle.som_frames.specs.Passed.{passes_offset}
-use Rattle.som_frames.specs.Tested.{Tests}
 use Rattle.som_frames.specs.Step.{Step, frames as both, kernel_begins, makes}
 use Rattle.som_meta.specs.Numbering.{Numbering}
 use Rattle.som_objects.specs.declared.cell.Cell.{Cell}
@@ -26,7 +23,7 @@ use Rattle.som_objects.specs.Objects.{KeepsKnown, Objects, live_at}
 use Rattle.som_values.specs.declared.reference.Reference.{Reference}
 use Rattle.som_values.specs.declared.reference.Reference.TheVariants as references
 use Rattle.som_values.specs.declared.stopped.Stopped.{Stopped}
-use Rattle.som_values.specs.Shown.{IsMade, IsNumbered, all_shown, key_of, place_of, shown, shown_ref, showing}
+use Rattle.som_values.specs.Shown.{IsMade, IsNumbered, all_shown, key_of, place_of, shown_ref, showing}
 use Rattle.som_telling.specs.declared.running.Place.{Place}
 use Rattle.som_telling.specs.declared.running.Place.TheVariants as places
 use Rattle.som_task.specs.Own.{IsOwnObject}
@@ -34,7 +31,7 @@ use Rattle.som_task.specs.declared.call.Call.{Call}
 use Rattle.som_task.specs.declared.frames.Now.TheVariants as nows
 use Rattle.som_task.specs.declared.frames.Waiting.TheVariants as waits
 use Rattle.som_task.specs.declared.task.Task.{Task}
-use Rattle.som_task.specs.Settings.{Linked, shows}
+use Rattle.som_task.specs.Settings.{Linked}
 use Rattle.som_task.specs.Standing.{place_shown}
 use Rattle.som_task.specs.Stored.{AreSerials, Spares}
 use Rattle.som_runtime.specs.Holding.{Holding, IsUsable}
@@ -42,18 +39,18 @@ use Rattle.som_asks.specs.declared.kinds.KernelBody.{KernelBody}
 use Rattle.som_asks.specs.declared.kinds.KernelBody.TheVariants as kinds
 use Rattle.som_asks.specs.Kinds.{body_shown}
 use Rattle.som_instances.specs.Making.{IsNext}
-use Rattle.som_passing.specs.Named.{HaveOwner, IsTokenOf, IsUsableCall, setting}
+use Rattle.som_passing.specs.Named.{HaveOwner, IsUsableCall}
 use Rattle.som_passing.specs.Passed.{Passes}
 use Rattle.som_moves.specs.declared.stop.Stop.TheVariants as stops
 use Rattle.som_moves.specs.Scene.{Around, Scene, scene, setting_of}
-use Rattle.som_moves.specs.Moving.{Keeps, Moved}
+use Rattle.som_moves.specs.Moving.{Keeps}
 use Rattle.som_beginning.specs.declared.begun.Begun.{Begun}
 use Rattle.som_beginning.specs.declared.begun.What.TheVariants as whats
-use Rattle.som_beginning.specs.Beginning.{Began, Begins, act_of, call_at}
+use Rattle.som_beginning.specs.Beginning.{Began, act_of, call_at}
 use Rattle.som_beginning.proofs.Asked.{kernel_act}
 use Rattle.som_beginning.proofs.Called.{call_moved, no_arguments}
 use Rattle.som_beginning.proofs.Growing.{Grows, around_later, around_pushed}
-use Rattle.som_beginning.proofs.Standing.{call_none, keeps_still, quiet, quiet_to}
+use Rattle.som_beginning.proofs.Standing.{call_none, quiet, quiet_to}
 use Rattle.som_beginning.proofs.Untold.{at_state}
 use Rattle.som_beginning.proofs.Written.{one_made, the_one}
 
@@ -217,7 +214,7 @@ module _ (l : Linked) (k : Numbering) (main : Block) (made : ClassKey → Bool) 
         -- somInit is called, for which the object waits
         pub object_called : b.what ≡ whats.Kernel kinds.New → t'.frames.waiting.items ≡ t.frames.waiting.items ++ waits.Init r ∷ [] → Keeps old new → (none : List Cell) → none ≡ [] → (call : Result Call Stopped)
             → ((h : Heap) → Holding l made t'.serials os' t'.statics.items h → IsUsable l made t'.serials os' (cells.Object r) → IsNumbered l.keys b.class → l.is_token b.method ≡ true
-              → Passes (setting_of new) h at call (inits (Object (place_of t'.serials r.serial)) (all_shown (showing l.keys t'.serials) none)) × IfOk call (IsUsableCall (setting_of new) made os'))
+            → Passes (setting_of new) h at call (inits (Object (place_of t'.serials r.serial)) (all_shown (showing l.keys t'.serials) none)) × IfOk call (IsUsableCall (setting_of new) made os'))
             → Began old new b levels me args (call_at levels at call)
         object_called is waiting_is keeps none empty call passes = quiet_to old new b levels me args (call_at levels at call) refl keeps (call_none levels at call) (λ body ws s began fuel tests way a.
             (let held = began.around.holding in

@@ -1,6 +1,5 @@
 -- A variable of self gets a value.
-use Rattle.std.proofs.Common.{◌≡◌, ◌<◌, ◌≤◌, ◌⊎◌, inl, inr, ◌==◌, ℕ, zero, suc, Bool, true, false, if◌then◌else◌, List, [], ◌∷◌, ◌++◌, length, Option, Some, None, Result, Ok, Err, IfOk, refl, sym, ap, subst, ◌∙◌, append-nil, arith, true≢false}
-use Rattle.std.specs.List.{All}
+use Rattle.std.proofs.Common.{◌≡◌, ◌<◌, ◌==◌, ℕ, Bool, true, false, if◌then◌else◌, List, [], ◌∷◌, ◌++◌, length, Some, Result, Ok, Err, refl, sym, ap, subst, ◌∙◌, append-nil, arith}
 use Rattle.som_model.specs.declared.key.ClassKey.{ClassKey}
 use Rattle.som_model.specs.declared.syntax.Block.{Block}
 use Rattle.som_model.specs.declared.program.Fault.{Fault}
@@ -16,37 +15,33 @@ use Rattle.som_model.specs.Implementation as held
 use Rattle.som_model.specs.Invoked.{first_argument}
 use Rattle.som_model.specs.State.{Heap, InBody, Manner, Nil, Ref, State, To, Tried, Value, is_live, write}
 use Rattle.som_model.specs.State as state
-use Rattle.som_model.specs.Runs.{Ends, Faulted, Goes, Ran, IsLater}
-use Rattle.som_model.specs.Acts.{◌>>=◌, ◌>>◌, become, tried, write_stays}
+use Rattle.som_model.specs.Runs.{Ends, Faulted, Goes, IsLater}
+use Rattle.som_model.specs.Acts.{◌>>◌, become, tried, write_stays}
 use Rattle.som_model.proofs.KeyLaws.{exact_numbers}
-use Rattle.som_code.specs.Machine.{After, On}
+use Rattle.som_code.specs.Machine.{On}
 use Rattle.som_codes.specs.Coded.{AreCodes, Coded, key_of as body_of}
 use Rattle.som_frames.specs.Frames as frames
 use Rattle.som_frames.specs.Tested.{Tests}
 use Rattle.som_frames.specs.Step.{Step, frames as both, go}
 use Rattle.som_meta.specs.Numbering.{Numbering}
 use Rattle.som_objects.specs.declared.cell.Cell.{Cell}
-use Rattle.som_objects.specs.declared.cell.Cell.TheVariants as cells
-use Rattle.som_objects.specs.Objects.{KeepsKnown, Objects, live_at}
+use Rattle.som_objects.specs.Objects.{KeepsKnown, Objects}
 use Rattle.som_values.specs.declared.reference.Reference.{Reference}
 use Rattle.som_values.specs.declared.reference.Reference.TheVariants as references
 use Rattle.som_values.specs.declared.stopped.Stopped.{Stopped}
 use Rattle.som_values.specs.declared.stopped.Stopped.TheVariants as stopped
-use Rattle.som_values.specs.Shown.{IsMade, all_shown, key_of, place_of, shown, shown_ref, showing}
+use Rattle.som_values.specs.Shown.{IsMade, all_shown, key_of, shown, shown_ref, showing}
 use Rattle.som_telling.specs.declared.running.Place.{Place}
 use Rattle.som_telling.specs.declared.running.Place.TheVariants as places
-use Rattle.som_task.specs.declared.frames.Now.{Now}
-use Rattle.som_task.specs.declared.frames.Now.TheVariants as nows
 use Rattle.som_task.specs.declared.task.Task.{Task}
-use Rattle.som_task.specs.Settings.{Linked, shows}
+use Rattle.som_task.specs.Settings.{Linked}
 use Rattle.som_task.specs.Own.{IsOwnRef}
 use Rattle.som_task.specs.Stored.{Spares}
 use Rattle.som_runtime.specs.Holding.{Holding, IsUsable}
 use Rattle.som_asks.specs.Arguments.{first_cell}
 use Rattle.som_asks.proofs.Firsts.{first_holds, first_value}
 use Rattle.som_variables.specs.Acting.{Acts, Becomes, IsAmong, assigned, me_value}
-use Rattle.som_moves.specs.declared.stop.Stop.{Stop}
-use Rattle.som_moves.specs.Scene.{Scene, scene, setting_of}
+use Rattle.som_moves.specs.Scene.{Scene, scene}
 use Rattle.som_moves.specs.Moving.{Keeps, Moved}
 use Rattle.som_beginning.specs.declared.begun.Begun.{Begun}
 use Rattle.som_beginning.specs.declared.begun.What.{What}

@@ -43,7 +43,9 @@ pub fn begin<R: Runtime, L: Ledger>(
     ensures unsunk { result ≢ Err stops.SinkFailed }
     ensures steps { LooksUpNone begun.what → steps.new ≡ steps.old }
 {
-    begin_what(alloc, runtime, task, objects, levels, begun, me, args, steps)
+    begin_what(
+        alloc, runtime, task, objects, levels, begun, me, args, steps,
+    )
 }
 
 // The same, by what is begun.
@@ -77,7 +79,16 @@ fn begin_what<R: Runtime, L: Ledger>(
         },
         What::Kernel(kind) => {
             begin_kernel(
-                alloc, runtime, task, objects, levels, begun, kind, me, args.as_slice(), steps,
+                alloc,
+                runtime,
+                task,
+                objects,
+                levels,
+                begun,
+                kind,
+                me,
+                args.as_slice(),
+                steps,
             )
         },
         What::Forward => begin_forwarding(alloc, &*runtime, &*objects, levels, begun, me, args),

@@ -8,8 +8,8 @@ ghost use Rattle.std.specs.Prelude.{◌≡◌, ◌+◌, ◌<◌, ◌^◌, ℕ, L
 use crate::Begun;
 use crate::answering::place_of;
 use crate::calling::{called, wait_for};
-use som_model::Fault;
 use som_instances::make;
+use som_model::Fault;
 use som_moves::Stop;
 use som_objects::{Cell, ObjectStore};
 use som_passing::{init_token, pass_offset};

@@ -1,4 +1,4 @@
-use Rattle.std.proofs.Common.{◌≡◌, Some, ap, sym, subst, ◌∙◌}
+use Rattle.std.proofs.Common.{◌≡◌, Some, sym, subst}
 use Rattle.som_model.specs.World.{World}
 use Rattle.som_telling.specs.declared.running.Place.TheVariants as places
 use Rattle.som_moves.specs.Scene.{Scene, scene}

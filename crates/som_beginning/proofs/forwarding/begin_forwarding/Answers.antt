@@ -1,9 +1,7 @@
-use Rattle.std.proofs.Common.{◌≡◌, ℕ, List, Some, Err, refl, ap, sym, subst, ◌∙◌}
+use Rattle.std.proofs.Common.{Err, ap, sym, subst, ◌∙◌}
 use Rattle.som_codes.specs.Coded.{codes_of}
-use Rattle.som_values.specs.Shown.{showing}
 use Rattle.som_telling.specs.declared.running.Place.TheVariants as places
 use Rattle.som_telling.specs.declared.manner.Manner.TheVariants as ways
-use Rattle.som_task.specs.declared.task.Task.{Task}
 use Rattle.som_task.specs.Own.{IsOwnPlace}
 use Rattle.som_moves.specs.Scene.{Scene, scene, setting_of}
 use Rattle.som_beginning.specs.Beginning.{Began, call_at, stopped_at}
@@ -44,8 +42,9 @@ returns g c t f =
     let own = own_method (g.R.Classes.keys r) (g.R.Classes.world r) (g.R.ClassKeys.known r) l (g.R.Runtime.program r) c.know.ensures.agree c.know.ensures.loads (l.method b.method) c.signature-signature.result.now c.signature-signature.ensures in
     subst (λ z. Began here here b c.args.levels c.args.me args z) (sym (c.called.ensures ∙ ap (λ p. call_at c.args.levels p call) c.place_of-2.ensures))
     (was_forwarded here b c.requires.what c.args.levels c.args.me args c.in-Ok.on call (λ body ws s began.
-        (let a = acts here b c.args.me args body ws s.heap began in
-        let usable = c.in-Ok.ensures.usable t.statics.items t.serials s.heap a in
-        (c.in-Ok.ensures.means t.statics.items t.serials s.heap a,
-        offset_at l c.args.objects.now c.place_of-at.result at c.place_of-at.ensures call ways.Forward b.method c.in-Ok.on args c.pass_offset-call.ensures.passes t.serials (codes_of t.codes) s.heap (l.method b.method) own began.around.holding.heap.holds usable.own.0,
-        c.pass_offset-call.ensures.usable t.serials (codes_of t.codes) (subst (IsOwnPlace (setting_of here) c.args.objects.now) (sym c.place_of-at.ensures) (began.begun.class, began.begun.method)) began.begun.method usable began.arguments))))
+    (let a = acts here b c.args.me args body ws s.heap began in
+    let usable = c.in-Ok.ensures.usable t.statics.items t.serials s.heap a in (
+      c.in-Ok.ensures.means t.statics.items t.serials s.heap a,
+      offset_at l c.args.objects.now c.place_of-at.result at c.place_of-at.ensures call ways.Forward b.method c.in-Ok.on args c.pass_offset-call.ensures.passes t.serials (codes_of t.codes) s.heap (l.method b.method) own began.around.holding.heap.holds usable.own.0,
+      c.pass_offset-call.ensures.usable t.serials (codes_of t.codes) (subst (IsOwnPlace (setting_of here) c.args.objects.now) (sym c.place_of-at.ensures) (began.begun.class, began.begun.method)) began.begun.method usable began.arguments,
+    ))))

@@ -1,11 +1,10 @@
-use Rattle.std.proofs.Common.{◌≡◌, ◌++◌, ◌∷◌, [], ℕ, List, Ok, Err, refl, ap, sym, subst, ◌∙◌}
+use Rattle.std.proofs.Common.{◌++◌, ◌∷◌, [], Err, refl, ap, sym, subst, ◌∙◌}
 use Rattle.std.proofs.lemmas.Result.{err_from_is_err_and}
 use Rattle.som_model.specs.Kernel.{som_uninit}
 use Rattle.som_model.specs.declared.program.Fault.TheVariants as faults
 use Rattle.som_codes.specs.Coded.{codes_of}
 use Rattle.som_objects.specs.declared.cell.Cell.TheVariants as cells
 use Rattle.som_values.specs.declared.reference.Reference.{Reference}
-use Rattle.som_values.specs.declared.reference.Reference.TheVariants as references
 use Rattle.som_telling.specs.declared.running.Place.{Place}
 use Rattle.som_telling.specs.declared.running.Place.TheVariants as places
 use Rattle.som_telling.specs.declared.manner.Manner.TheVariants as ways
@@ -73,6 +72,7 @@ returns g c f args =
     subst (λ z. Began old new b c.args.levels c.args.me args z) (sym (c.called.ensures ∙ ap (λ p. call_at c.args.levels p call) c.place_of-2.ensures))
     (subst (λ (m : Reference). Began old new b c.args.levels m args (call_at c.args.levels at call)) (sym c.in-Object.is)
     (object_freed l k main made os t t' f refl refl refl refl refl b c.requires.what c.args.levels args o pushed none c.new-none.ensures.items call (λ h holding usable class token.
-        (let tok = c.uninit_token-method in
-        (offset_at l os c.place_of-at.result at c.place_of-at.ensures call ways.Offset tok.result (cells.Object o) none c.pass_offset-call.ensures.passes t'.serials (codes_of t'.codes) h som_uninit (tok.ensures.owner ∙ sym tok.ensures.method) holding.heap.holds usable.own.0,
-        c.pass_offset-call.ensures.usable t'.serials (codes_of t'.codes) (subst (IsOwnPlace (setting_of new) os) (sym c.place_of-at.ensures) (class, token)) tok.ensures.token usable (all_none (IsUsable l made t'.serials os) none c.new-none.ensures.items))))))
+    (let tok = c.uninit_token-method in (
+      offset_at l os c.place_of-at.result at c.place_of-at.ensures call ways.Offset tok.result (cells.Object o) none c.pass_offset-call.ensures.passes t'.serials (codes_of t'.codes) h som_uninit (tok.ensures.owner ∙ sym tok.ensures.method) holding.heap.holds usable.own.0,
+      c.pass_offset-call.ensures.usable t'.serials (codes_of t'.codes) (subst (IsOwnPlace (setting_of new) os) (sym c.place_of-at.ensures) (class, token)) tok.ensures.token usable (all_none (IsUsable l made t'.serials os) none c.new-none.ensures.items),
+    )))))

@@ -1,4 +1,4 @@
-use Rattle.std.proofs.Common.{◌≡◌, ℕ, List, Ok, Err, refl, ap, sym, subst, ◌∙◌}
+use Rattle.std.proofs.Common.{Err, refl, ap, sym, subst, ◌∙◌}
 use Rattle.std.proofs.lemmas.Result.{err_from_is_err_and}
 use Rattle.som_model.specs.Kernel.{som_init}
 use Rattle.som_model.specs.declared.program.Fault.TheVariants as faults
@@ -99,6 +99,7 @@ returns g c f args =
     (subst (λ (m : Reference). Began old new b c.args.levels m args (call_at c.args.levels at call)) (sym c.in-Class.is)
     (object_called l k main made os t f b c.args.levels args c.in-Class.class os' t' refl refl refl refl c.make.ensures.keeps c.make.ensures.others o.object o.ensures.serials
     (λ h holding. o.ensures.next t.statics.items h holding (record { own = (tt, tt); made_of = tt })) c.requires.what c.in_ok-wait_for.ensures keeps none c.new-none.ensures.items call (λ h holding usable class token.
-        (let tok = c.init_token-method in
-        (offset_at l os' c.place_of-at.result at c.place_of-at.ensures call ways.Offset tok.result (cells.Object o.object) none c.pass_offset-call.ensures.passes t'.serials (codes_of t'.codes) h som_init (tok.ensures.owner ∙ sym tok.ensures.method) holding.heap.holds usable.own.0,
-        c.pass_offset-call.ensures.usable t'.serials (codes_of t'.codes) (subst (IsOwnPlace (setting_of new) os') (sym c.place_of-at.ensures) (class, token)) tok.ensures.token usable (all_none (IsUsable l made t'.serials os') none c.new-none.ensures.items))))))
+    (let tok = c.init_token-method in (
+      offset_at l os' c.place_of-at.result at c.place_of-at.ensures call ways.Offset tok.result (cells.Object o.object) none c.pass_offset-call.ensures.passes t'.serials (codes_of t'.codes) h som_init (tok.ensures.owner ∙ sym tok.ensures.method) holding.heap.holds usable.own.0,
+      c.pass_offset-call.ensures.usable t'.serials (codes_of t'.codes) (subst (IsOwnPlace (setting_of new) os') (sym c.place_of-at.ensures) (class, token)) tok.ensures.token usable (all_none (IsUsable l made t'.serials os') none c.new-none.ensures.items),
+    )))))

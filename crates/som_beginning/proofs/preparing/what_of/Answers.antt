@@ -1,4 +1,4 @@
-use Rattle.std.proofs.Common.{◌≡◌, ap, sym, ◌∙◌}
+use Rattle.std.proofs.Common.{ap, sym, ◌∙◌}
 use Rattle.som_model.specs.Invoked.{kernel_body, table}
 use Rattle.som_model.specs.declared.key.MethodRef.{MethodRef}
 use Rattle.som_runtime.specs.Asked.{held_shown}

@@ -1,4 +1,4 @@
-use Rattle.std.proofs.Common.{◌≡◌, ap, sym, subst, ◌∙◌}
+use Rattle.std.proofs.Common.{sym, subst}
 use Rattle.som_moves.specs.Scene.{Scene, scene}
 use Rattle.som_beginning.specs.Beginning.{Began}
 use Rattle.som_beginning.proofs.Asked.{acts, was_read}
@@ -22,5 +22,5 @@ returns g c f levels args =
     let here : Scene = scene (g.R.Runtime.linked r) (g.R.ClassKeys.known r) (g.R.Runtime.program r) (g.R.Classes.made r) c.args.objects.now t f in
     subst (λ z. Began here here c.args.begun levels c.args.me args z) (sym c.answered.ensures)
     (was_read here c.args.begun c.args.me args c.args.variable c.requires.what c.read.result levels (λ body ws s began.
-        (let a = acts here c.args.begun c.args.me args body ws s.heap began in
-        (c.read.ensures.means t.serials s.heap a, c.read.ensures.usable t.serials s.heap a))))
+    (let a = acts here c.args.begun c.args.me args body ws s.heap began in
+    (c.read.ensures.means t.serials s.heap a, c.read.ensures.usable t.serials s.heap a))))

@@ -1,17 +1,11 @@
-use Rattle.std.proofs.Common.{◌≡◌, ℕ, List, Some, refl, ap, sym, subst, ◌∙◌}
-use Rattle.som_model.specs.State.{Heap}
-use Rattle.som_model.specs.Implementation.{Held}
+use Rattle.std.proofs.Common.{Some, refl, sym, subst}
 use Rattle.som_objects.specs.declared.cell.Cell.{Cell}
-use Rattle.som_codes.specs.Coded.{key_of as body_of}
 use Rattle.som_values.specs.Shown.{key_of, shown, showing}
-use Rattle.som_telling.specs.declared.running.Place.TheVariants as places
 use Rattle.som_task.specs.declared.task.Task.{Task}
 use Rattle.som_runtime.specs.Holding.{IsUsable}
 use Rattle.som_variables.specs.Acting.{Becomes, assigned, me_value}
-use Rattle.som_moves.specs.Scene.{Scene, scene}
-use Rattle.som_beginning.specs.Begun.{IsWhat}
+use Rattle.som_moves.specs.Scene.{scene}
 use Rattle.som_beginning.specs.Beginning.{Began}
-use Rattle.som_beginning.proofs.Asked.{acts}
 use Rattle.som_beginning.proofs.Written.{set_held, variable_there, was_written, written_keeps}
 use Rattle.som_beginning.proofs.variables.begin_writing.Goals as goal
 
