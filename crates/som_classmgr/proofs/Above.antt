@@ -25,7 +25,7 @@ use Rattle.som_classes.specs.Loaded.{AreLoaded}
 use Rattle.som_closure.proofs.Choosing.{all_mem}
 use Rattle.som_making.specs.Making.{IsNeedOf}
 use Rattle.som_classmgr.specs.Linked.{IsLinked, IsMadeIn, Linkage}
-use Rattle.som_classmgr.proofs.Marks.{within_marks}
+use Rattle.som_made.proofs.Marks.{within_marks}
 use Rattle.som_classmgr.proofs.Reading.{answers_above}
 
 filter_mem : {A : Type 0} (test : A → Bool) (x : A) (xs : List A) → Mem x (filter test xs) → Mem x xs

@@ -12,7 +12,7 @@ use Rattle.som_classes.specs.Loaded.{AreLoaded}
 use Rattle.som_bodies.specs.declared.body.BodyAt.{BodyAt}
 use Rattle.som_bodies.specs.Bodies.{IsSourced, MethodRows}
 use Rattle.som_bodies.specs.Bodies as bodies
-use Rattle.som_classmgr.specs.Made.{AreHooks, hooks_at}
+use Rattle.som_made.specs.Made.{AreHooks, hooks_at}
 use Rattle.som_classmgr.specs.Linked.{IsLinked, IsMadeIn, Linkage}
 use Rattle.som_classmgr.specs.Shown.{IsAnswer}
 use Rattle.som_classmgr.proofs.Above.{answer_made, has_classes}

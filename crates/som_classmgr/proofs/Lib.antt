@@ -1,10 +1,7 @@
-pub mod Marks
-pub mod Filled
-pub mod Parts
-pub mod Order
-pub mod Introducing
+pub mod Entering
 pub mod Reading
 pub mod Above
 pub mod Reached
 pub mod Answering
 pub mod Pairing
+pub mod Asking

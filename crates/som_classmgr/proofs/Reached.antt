@@ -1,5 +1,5 @@
 -- Which classes are made after calls that reach for some.
-use Rattle.std.proofs.Common.{◌≡◌, ◌↔◌, ◌⊎◌, ℕ, zero, suc, ◌<◌, inl, inr, List, [], ◌∷◌, ◌++◌, append-nil, map, OnErr, OnOk, Result, Ok, Err, Some, slice_get, refl, sym, ap, ◌∙◌, subst, arith}
+use Rattle.std.proofs.Common.{◌≡◌, ◌↔◌, ◌⊎◌, ℕ, zero, suc, ◌<◌, inl, inr, List, [], ◌∷◌, ◌++◌, append-nil, OnErr, OnOk, Result, Ok, Err, Some, slice_get, refl, sym, ap, ◌∙◌, subst, arith}
 use Rattle.som_model.specs.declared.key.ClassKey.{ClassKey}
 use Rattle.som_model.specs.Lists.{Mem}
 use Rattle.som_model.specs.Class.{Class}
@@ -17,10 +17,10 @@ use Rattle.som_numbers.proofs.Declaring.{at_mem, mem_at}
 use Rattle.som_classes.specs.Loaded.{AreLoaded}
 use Rattle.som_closure.proofs.Closing.{comes_by}
 use Rattle.som_making.specs.Making.{IsNeedOf}
-use Rattle.som_classmgr.specs.Made.{IsReached, KeepsMade}
+use Rattle.som_made.specs.Made.{IsReached, KeepsMade}
 use Rattle.som_classmgr.specs.Linked.{IsLinked, IsMadeIn, Linkage}
 use Rattle.som_classmgr.specs.Reached.{IsMadeBy}
-use Rattle.som_classmgr.proofs.Marks.{within_marks}
+use Rattle.som_made.proofs.Marks.{within_marks}
 
 pub ok_then : {T E : Type 0} (r : Result T E) {A B : Type 0} → (A → B) → OnOk r A → OnOk r B
 ok_then (Ok x) f a = f a

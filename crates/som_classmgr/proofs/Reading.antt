@@ -2,9 +2,8 @@
 use Rattle.std.proofs.Common.{◌≡◌, ℕ, zero, suc, ◌+◌, ◌<◌, ◌≤◌, ℤ, inl, inr, if◌then◌else◌, List, [], ◌∷◌, length, map, get_or, Option, Some, None, IsSome, is_some, slice_get, slice_index_or, refl, sym, ap, ◌∙◌, subst, arith, true≢false}
 use Rattle.std.specs.Option.{option_map}
 use Rattle.std.proofs.lemmas.Bool.{cases_lt}
-use Rattle.std.proofs.lemmas.Option.{none-some, same_Some, slice_get_within}
+use Rattle.std.proofs.lemmas.Option.{get_or_from_slice_get, none-some, same_Some, slice_get-get_or, slice_get_within}
 use Rattle.som_model.specs.declared.key.ClassKey.{ClassKey}
-use Rattle.som_model.specs.declared.key.ClassKey.TheVariants as keys
 use Rattle.som_model.specs.declared.key.MethodRef.{MethodRef}
 use Rattle.som_model.specs.declared.class.Body.{Body}
 use Rattle.som_model.specs.declared.class.Override.{Override}
@@ -129,11 +128,6 @@ entries_long key i [] = refl
 entries_long key i (entries.Introduced x sig way ∷ es) = ap suc (entries_long key (suc i) es)
 entries_long key i (entries.Moved x to ∷ es) = entries_long key (suc i) es
 
-got_at : (xs : List (List ℕ)) (i : ℕ) (x : List ℕ) → slice_get xs i ≡ Some x → get_or xs i [] ≡ x
-got_at [] i x e = absurd (cc)
-got_at (y ∷ ys) zero x e = same_Some y x e
-got_at (y ∷ ys) (suc i) x e = got_at ys i x e
-
 -- the entry of a token's method: its method is that of the token, and an entry with its signature stands at its place
 module _ (k : Numbering) (l : AreLoaded k) (t : ℕ × ℕ) (is : IsToken k t) (c : Class) (at : slice_get k.classes t.0 ≡ Some c) (e : MethodEntry) (there : slice_get (entries_from c.key 0 c.decl.face.entries) t.1 ≡ Some e) where
   abbrev r : IsEntry c.key 0 c.decl.face.entries t.1 e
@@ -143,7 +137,7 @@ module _ (k : Numbering) (l : AreLoaded k) (t : ℕ × ℕ) (is : IsToken k t) (
   key_is = l.first.key t.0 c at
 
   name_is : get_or (names_of k t.0) t.1 [] ≡ r.name
-  name_is = ap (λ (ns : List (List ℕ)). get_or ns t.1 []) (ap introduced_in (found k l t.0 c at)) ∙ got_at (introduced c.decl.face.entries) t.1 r.name r.named
+  name_is = ap (λ (ns : List (List ℕ)). get_or ns t.1 []) (ap introduced_in (found k l t.0 c at)) ∙ get_or_from_slice_get (introduced c.decl.face.entries) t.1 r.name [] r.named
 
   pub method_is : e.method ≡ method_at k t
   method_is = r.method ∙ ap (λ (z : ClassKey). ref z r.name) (sym key_is) ∙ ap (λ (z : List ℕ). ref (key_at k t.0) z) (sym name_is)
@@ -165,16 +159,6 @@ pub record IsKept (k : Numbering) (t : ℕ × ℕ) (e : MethodEntry) : Type 0 wh
   pub some : (c : Class) → slice_get k.classes t.0 ≡ Some c → IsSome (introduced_sig (slice_get c.decl.face.entries e.place))
   pub sig : (c : Class) (s : Sig) → slice_get k.classes t.0 ≡ Some c → introduced_sig (slice_get c.decl.face.entries e.place) ≡ Some s → sig_of k.classes (method_at k t) ≡ Some s
 
-got_there : {A : Type 0} (xs : List A) (i : ℕ) (x d : A) → slice_get xs i ≡ Some x → slice_index_or xs i d ≡ x
-got_there [] i x d e = absurd (none-some x e)
-got_there (y ∷ ys) zero x d e = same_Some y x e
-got_there (y ∷ ys) (suc i) x d e = got_there ys i x d e
-
-got_here : {A : Type 0} (xs : List A) (i : ℕ) (x : A) → i < length xs → x ≡ slice_index_or xs i x → slice_get xs i ≡ Some x
-got_here [] i x lt e = absurd (omega (arith, lt))
-got_here (y ∷ ys) zero x lt e = ap (λ z. Some z) (sym e)
-got_here (y ∷ ys) (suc i) x lt e = got_here ys i x (omega (arith, lt)) e
-
 -- the entries that are kept, read by the class and the place of a token
 module _ (k : Numbering) (l : AreLoaded k) (t : ℕ × ℕ) (is : IsToken k t) (all : List (List MethodEntry)) (m : AreMethods k all) where
   abbrev tc : (c : Class) × (slice_get k.classes t.0 ≡ Some c) × (names_of k t.0 ≡ introduced c.decl.face.entries)
@@ -190,7 +174,7 @@ module _ (k : Numbering) (l : AreLoaded k) (t : ℕ × ℕ) (is : IsToken k t) (
   row_within list same i at = rw (same, at) (slice_get_within all t.0 own row)
 
   row_is : (list : List (List MethodEntry)) → list ≡ all → (i : ℕ) → i ≡ t.0 → (xs : List MethodEntry) → xs ≡ slice_index_or list i xs → xs ≡ own
-  row_is list same i at xs e = e ∙ ap (λ (z : List (List MethodEntry)). slice_index_or z i xs) same ∙ ap (λ j. slice_index_or all j xs) at ∙ got_there all t.0 own xs row
+  row_is list same i at xs e = e ∙ ap (λ (z : List (List MethodEntry)). slice_index_or z i xs) same ∙ ap (λ j. slice_index_or all j xs) at ∙ get_or_from_slice_get all t.0 own xs row
 
   module _ (list : List (List MethodEntry)) (same : list ≡ all) (i : ℕ) (at : i ≡ t.0) (xs : List MethodEntry) (e : xs ≡ slice_index_or list i xs) (ys : List MethodEntry) (copied : ys ≡ xs) (j : ℕ) (place : j ≡ t.1) where
     pub cell_within : j < length ys
@@ -201,7 +185,7 @@ module _ (k : Numbering) (l : AreLoaded k) (t : ℕ × ℕ) (is : IsToken k t) (
     pub kept : (x : MethodEntry) → x ≡ slice_index_or ys j x → IsKept k t x
     kept x is_x =
         let r : ys ≡ own = copied ∙ row_is list same i at xs e in
-        let there : slice_get own t.1 ≡ Some x = ap (slice_get own) (sym place) ∙ ap (λ (z : List MethodEntry). slice_get z j) (sym r) ∙ got_here ys j x cell_within is_x in
+        let there : slice_get own t.1 ≡ Some x = ap (slice_get own) (sym place) ∙ ap (λ (z : List MethodEntry). slice_get z j) (sym r) ∙ (slice_get-get_or ys j x cell_within ∙ ap (λ z. Some z) (sym is_x)) in
         let move : (c : Class) → slice_get k.classes t.0 ≡ Some c → tc.0 ≡ c = λ c g. same_Some tc.0 c (sym tc.1 ∙ g) in
         let entry = entry_is k l t is tc.0 tc.1 x there in
         record {

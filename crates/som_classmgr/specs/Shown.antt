@@ -1,5 +1,5 @@
 -- What the readers of a linked kernel show.
-use Rattle.std.specs.Prelude.{◌≡◌, ℕ, List, Option, Some, slice_get}
+use Rattle.std.specs.Prelude.{◌≡◌, ℕ, Option, Some, slice_get}
 use Rattle.std.specs.Option.{option_map}
 use Rattle.som_model.specs.declared.key.ClassKey.{ClassKey}
 use Rattle.som_model.specs.Ancestors.{Descends}

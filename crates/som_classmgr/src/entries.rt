@@ -37,7 +37,7 @@ fn add_method(
 }
 
 /// The methods that a class introduces by these entries, in order.
-#[tactic(auto, using(crate::proofs::Introducing::entries_step))]
+#[tactic(auto, using(crate::proofs::Entering::entries_step))]
 fn introduced_methods(
     alloc: Global,
     class: &ClassKey,

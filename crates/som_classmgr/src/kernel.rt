@@ -1,6 +1,6 @@
 ghost use Rattle.som_classes.specs.Loaded.{AreLoaded};
 ghost use Rattle.som_classmgr.specs.Linked.{IsLinked, IsMadeIn};
-ghost use Rattle.som_classmgr.specs.Made.{IsReached, KeepsMade};
+ghost use Rattle.som_made.specs.Made.{IsReached, KeepsMade};
 ghost use Rattle.som_classmgr.specs.Reached.{IsMadeBy};
 ghost use Rattle.som_meta.specs.Numbering.{IsNumbered, key_at};
 ghost use Rattle.som_model.specs.Kernel.{kernel};

@@ -2,6 +2,7 @@
 //! class is made when it is first needed.
 #![tactic(auto)]
 
+mod asked;
 mod body;
 mod copies;
 mod data;
@@ -10,11 +11,9 @@ mod kernel;
 mod laws;
 mod link;
 mod linked;
-mod made;
 mod methods;
-mod names;
 mod queries;
-mod rows;
+mod runtime;
 mod search;
 
 pub use body::BodyNo;

@@ -1,7 +1,7 @@
 ghost use Rattle.som_classes.specs.Loaded.{AreLoaded};
 ghost use Rattle.som_classmgr.specs.Linked.{IsLinked, IsMadeIn};
-ghost use Rattle.som_classmgr.specs.Made.{AreParts, IsReached, KeepsMade};
-ghost use Rattle.som_classmgr.specs.Making.{parts_of};
+ghost use Rattle.som_made.specs.Made.{AreParts, IsReached, KeepsMade};
+ghost use Rattle.som_made.specs.Making.{parts_of};
 ghost use Rattle.som_making.specs.Making.{HaveNeeds, IsMarked};
 ghost use Rattle.som_meta.specs.Numbering.{IsNumbered};
 ghost use Rattle.som_model.specs.Kernel.{kernel};
@@ -10,9 +10,9 @@ ghost use Rattle.som_numbers.specs.Classes.{classes_of};
 ghost use Rattle.std.specs.Prelude.{◌≡◌, ◌↔◌, ◌++◌, ◌<◌, ℕ, IfOk, OnOk};
 
 use crate::entries::{MethodEntry, methods_of};
-use crate::made::MadeClasses;
 use som_classes::Classes;
 use som_closure::Closure;
+use som_made::MadeClasses;
 use som_making::to_make;
 use som_model::{Block, List, NoMemory};
 use som_numbers::Keyed;
@@ -33,7 +33,7 @@ pub struct Linked {
 impl Model for Linked {
     ghost use Rattle.som_classmgr.specs.Kept.{IsHeld};
     ghost use Rattle.som_classmgr.specs.Linked.{Linkage, linkage};
-    ghost use Rattle.som_classmgr.specs.Making.{parts_of};
+    ghost use Rattle.som_made.specs.Making.{parts_of};
     ghost use Rattle.som_model.specs.contracts.key.ClassKey as key;
     ghost use Rattle.som_model.specs.contracts.key.ValueType as kind;
     ghost use Rattle.som_model.specs.contracts.syntax.Block as block;

@@ -2,7 +2,7 @@ use Rattle.std.proofs.Common.{◌∷◌, ◌∙◌, [], ap, arith, length-append
 use Rattle.std.proofs.lemmas.Option.{slice_get_within}
 use Rattle.som_numbers.specs.Classes.{class_of}
 use Rattle.som_classmgr.specs.Entries.{entries_from}
-use Rattle.som_classmgr.proofs.Introducing.{declared_few, entries_more}
+use Rattle.som_classmgr.proofs.Entering.{declared_few, entries_more}
 use Rattle.som_classmgr.proofs.entries.methods_of.Goals as goal
 
 pub introduced_methods-requires : goal.introduced_methods-requires

@@ -1,7 +1,7 @@
 use Rattle.std.proofs.Common.{subst}
 use Rattle.som_classes.specs.Loaded.{AreLoaded}
 use Rattle.som_making.proofs.FirstFour.{kernel_needs}
-use Rattle.som_classmgr.proofs.Order.{four_can, four_closed, four_marked}
+use Rattle.som_made.proofs.Order.{four_can, four_closed, four_marked}
 use Rattle.som_classmgr.proofs.linked.kernel_parts.Goals as goal
 
 pub make_all-requires-clause-order : goal.make_all-requires-clause-order

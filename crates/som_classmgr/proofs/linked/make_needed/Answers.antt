@@ -1,7 +1,7 @@
 use Rattle.std.proofs.Common.{ℕ, List, subst, take}
 use Rattle.som_making.specs.Making.{AreToMake}
-use Rattle.som_classmgr.specs.Made.{AreMarked}
-use Rattle.som_classmgr.proofs.Order.{can_be_made, only_reached}
+use Rattle.som_made.specs.Made.{AreMarked}
+use Rattle.som_made.proofs.Order.{can_be_made, only_reached}
 use Rattle.som_classmgr.proofs.linked.make_needed.Goals as goal
 
 pub make_all-requires-clause-order : goal.make_all-requires-clause-order

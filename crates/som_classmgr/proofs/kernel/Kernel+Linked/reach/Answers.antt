@@ -1,5 +1,4 @@
-use Rattle.std.proofs.Common.{◌∷◌, List, subst, sym}
-use Rattle.som_model.specs.declared.key.ClassKey.{ClassKey}
+use Rattle.std.proofs.Common.{◌∷◌, subst, sym}
 use Rattle.som_meta.specs.Numbering.{key_at}
 use Rattle.som_classmgr.specs.Linked.{Linkage}
 use Rattle.som_classmgr.specs.Reached.{IsMadeBy}

@@ -1,4 +1,4 @@
-use Rattle.std.proofs.Common.{◌∙◌, ap, subst, sym}
+use Rattle.std.proofs.Common.{ap, subst, sym}
 use Rattle.som_bodies.specs.Bodies.{IsSourced}
 use Rattle.som_meta.specs.Numbering.{IsNumbered, IsToken, Numbering}
 use Rattle.som_classmgr.specs.declared.kernel.Kernel.TheInside.{Inside}

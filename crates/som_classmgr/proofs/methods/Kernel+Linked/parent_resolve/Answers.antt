@@ -1,9 +1,8 @@
-use Rattle.std.proofs.Common.{◌∙◌, ap, refl, slice_index_or, subst, sym}
-use Rattle.std.proofs.lemmas.Option.{same_Some}
+use Rattle.std.proofs.Common.{subst, sym}
 use Rattle.som_model.specs.Ancestors.{Descends}
 use Rattle.som_model.specs.Classes.{hierarchy}
 use Rattle.som_model.specs.declared.key.ClassKey.{ClassKey}
-use Rattle.som_meta.specs.Numbering.{key_at, method_at}
+use Rattle.som_meta.specs.Numbering.{key_at}
 use Rattle.som_classmgr.specs.Shown.{IsAnswer}
 use Rattle.som_classmgr.proofs.Reached.{number}
 use Rattle.som_classmgr.proofs.Reading.{parent_shown}

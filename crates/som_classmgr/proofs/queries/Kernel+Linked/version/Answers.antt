@@ -1,4 +1,4 @@
-use Rattle.std.proofs.Common.{◌≡◌, ◌≤◌, ◌∙◌, Some, length, ap, arith, slice_get, subst}
+use Rattle.std.proofs.Common.{◌≡◌, ◌∙◌, Some, length, ap, arith, slice_get, subst}
 use Rattle.som_meta.specs.Numbering.{Numbering}
 use Rattle.som_numbers.specs.Classes.{class_of}
 use Rattle.som_classes.specs.Loaded.{AreLoaded}

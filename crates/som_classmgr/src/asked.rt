@@ -1,0 +1,97 @@
+ghost use Rattle.som_classmgr.specs.Asking.{kind_at};
+ghost use Rattle.som_meta.specs.Numbering.{IsNumbered, key_at};
+ghost use Rattle.som_model.specs.Classes.{variable_type};
+ghost use Rattle.som_model.specs.State.{zero_of};
+ghost use Rattle.som_model.specs.declared.key.ClassKey.{ClassKey as Key};
+ghost use Rattle.som_model.specs.declared.key.ClassKey.TheVariants as made_of;
+ghost use Rattle.som_places.specs.Variables.{own_variables};
+ghost use Rattle.som_task.specs.Standing.{zero_shown};
+ghost use Rattle.std.specs.Prelude.{◌≡◌, ◌<◌, ℕ, false, length, true};
+
+use som_classes::Classes;
+use som_model::{ValueType, Variable};
+use som_numbers::Kind;
+use som_tables::ClassNo;
+use som_task::Zero;
+
+/// The zero value of a type.
+fn zero_of_kind(kind: &ValueType) -> Zero
+    ensures { zero_shown result ≡ zero_of kind.now }
+{
+    match kind {
+        ValueType::Void => Zero::Nil,
+        ValueType::Long => Zero::Long,
+        ValueType::Boolean => Zero::Boolean,
+        ValueType::Str => Zero::Text,
+        ValueType::Class(_) => Zero::Nil,
+    }
+}
+
+/// How many variables of its own a class has.
+pub(crate) fn own_count(classes: &Classes, class: ClassNo) -> usize
+    requires { IsNumbered classes.now class }
+    ensures { result ≡ length (own_variables classes.now.classes (key_at classes.now class)) }
+{
+    let _count = classes.count();
+    if class.number() < classes.declared_count() {
+        classes.declared(class).decl.variables.len()
+    } else {
+        0
+    }
+}
+
+/// The zero value of the variable at a place, and nil where there is none.
+#[tactic(auto, using(crate::proofs::Asking::zero_there, crate::proofs::Asking::zero_past))]
+fn zero_at(variables: &[Variable], place: usize) -> Zero
+    ensures { zero_shown result ≡ zero_of (kind_at variables.now place) }
+{
+    if place < variables.len() {
+        zero_of_kind(&variables[place].kind)
+    } else {
+        Zero::Nil
+    }
+}
+
+/// The zero value of a variable of a class's own, and nil where it has no such variable.
+pub(crate) fn zero_in(classes: &Classes, class: ClassNo, variable: u8) -> Zero
+    requires { IsNumbered classes.now class }
+    ensures { zero_shown result ≡ zero_of (variable_type classes.now.classes (key_at classes.now class) variable) }
+{
+    let _count = classes.count();
+    if class.number() < classes.declared_count() {
+        let variables = classes.declared(class).decl.variables.as_slice();
+        zero_at(variables, usize::from(variable))
+    } else {
+        Zero::Nil
+    }
+}
+
+/// Whether a class is that of the proxies of a target.
+fn is_proxy_of(classes: &Classes, class: ClassNo, target: ClassNo) -> bool
+    requires class { IsNumbered classes.now class }
+    requires target { IsNumbered classes.now target }
+    ensures yes { result ≡ true → key_at classes.now class ≡ made_of.Proxy (key_at classes.now target) }
+    ensures no { result ≡ false → key_at classes.now class ≡ made_of.Proxy (key_at classes.now target) → ⊥ }
+{
+    let _count = classes.count();
+    match classes.kind(class) {
+        Kind::Proxy => classes.parents(class).as_slice()[0] == target,
+        _ => false,
+    }
+}
+
+/// The class of the proxies of a target, which has a number. Proxies have the first numbers after the declared classes.
+pub(crate) fn proxy_number(classes: &Classes, target: ClassNo) -> ClassNo
+    requires target { IsNumbered classes.now target }
+    requires there { (n : ℕ) × IsNumbered classes.now n × (key_at classes.now n ≡ made_of.Proxy (key_at classes.now target)) }
+    ensures numbered { IsNumbered classes.now result }
+    ensures key { key_at classes.now result ≡ made_of.Proxy (key_at classes.now target) }
+{
+    for number in classes.declared_count()..classes.count() {
+        let class = ClassNo::new(number);
+        if is_proxy_of(classes, class, target) {
+            return class;
+        }
+    }
+    unreachable!()
+}

@@ -1,0 +1,5 @@
+pub mod Marks
+pub mod Filled
+pub mod Parts
+pub mod Order
+pub mod Introducing
