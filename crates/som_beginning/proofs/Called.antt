@@ -48,7 +48,7 @@ use Rattle.som_task.specs.Standing.{call_shown, place_shown}
 use Rattle.som_runtime.specs.Asked.{Agree, CanLoad}
 use Rattle.som_runtime.specs.Holding.{Holding, IsUsable}
 use Rattle.som_instances.specs.Targets.{targeted}
-use Rattle.som_passing.specs.Named.{HaveOwner, IsUsableCall, setting}
+use Rattle.som_passing.specs.Named.{HaveOwner, IsOnLive, IsUsableCall, setting}
 use Rattle.som_passing.specs.Passed.{Passes}
 use Rattle.som_asks.specs.declared.kinds.KernelBody.TheVariants as kinds
 use Rattle.som_moves.specs.declared.stop.Stop.TheVariants as stops
@@ -68,9 +68,9 @@ use Rattle.som_beginning.proofs.Untold.{at_state, ends_untold, goes_untold}
 
 -- what a call's tests came to is what the act comes to that makes it
 pub call_moved : (c c' : Scene) (act : Step) (s : State) (h : Heap) (ws : List frames.Waiting) (P : (Request → Step) → Step) (levels : ℕ) (at : Place) (r : Result Call Stopped)
-    → act.does s ≡ (P (makes levels ws)).does (at_state s.fuel s.events h) → Passes (setting_of c') h at r P → IfOk r (IsUsableCall (setting_of c') c'.made c'.objects)
+    → act.does s ≡ (P (makes levels ws)).does (at_state s.fuel s.events h) → Passes (setting_of c') h at r P → IfOk r (IsUsableCall (setting_of c') c'.made c'.objects) → IfOk r (λ (x : Call). IsOnLive c'.objects x.me x.parent)
     → Around c' h ws → s.fuel ≡ c'.fuel → Moved act s (call_at levels at r) c' []
-call_moved c c' act s h ws P levels at (Ok call) starts passes usable around fuel = record {
+call_moved c c' act s h ws P levels at (Ok call) starts passes usable live around fuel = record {
   next = frames.Calling levels (call_shown (setting_of c') call);
   waiting = ws;
   then = at_state s.fuel s.events h;
@@ -78,14 +78,14 @@ call_moved c c' act s h ws P levels at (Ok call) starts passes usable around fue
   events = sym (append-nil s.events);
   fuel = fuel;
   around = around;
-  next_is = record { shown = refl; own = usable.own; made_of = usable.made_of; fine = tt };
+  next_is = record { shown = refl; own = usable.own; made_of = usable.made_of; fine = live };
 }
-call_moved c c' act s h ws P levels at (Err (stopped.Fault f)) starts passes usable around fuel = record {
+call_moved c c' act s h ws P levels at (Err (stopped.Fault f)) starts passes usable live around fuel = record {
   then = at_state s.fuel s.events h;
   is = starts ∙ ends_untold (P (makes levels ws)) h (Faulted f (place_shown (setting_of c') at)) (λ add t e. passes (makes levels ws) add t e) s.fuel s.events;
   events = sym (append-nil s.events);
 }
-call_moved c c' act s h ws P levels at (Err stopped.NoMemory) starts passes usable around fuel = tt
+call_moved c c' act s h ws P levels at (Err stopped.NoMemory) starts passes usable live around fuel = tt
 
 owner_itself : (cs : List Class) (main : Block) → Loads cs main → (r : MethodRef) (sig : Sig) → (world (kernel ++ cs)).sig r ≡ Some sig → (world (kernel ++ cs)).owner r ≡ r
 unfolding world
@@ -150,7 +150,7 @@ module _ (l : Linked) (k : Numbering) (main : Block) (made : ClassKey → Bool) 
 
     -- what isn't freed
     pub not_freed : (me : Reference) → ((r : ObjRef) → me ≡ references.Object r → ⊥) → Began old old b levels me args (Err (stops.Fault faults.ClassFree at))
-    not_freed me none = quiet old b levels me args (Err (stops.Fault faults.ClassFree at)) tt (λ body ws s began fuel tests way a. record {
+    not_freed me none = quiet old b levels me args (Err (stops.Fault faults.ClassFree at)) refl (λ body ws s began fuel tests way a. record {
       then = s;
       is = ap (λ (x : Step). x.does s) (kernel_act old b me args kinds.Free is body ws s began levels tests way a) ∙ by me none ws s;
       events = sym (append-nil s.events);
@@ -162,12 +162,12 @@ module _ (l : Linked) (k : Numbering) (main : Block) (made : ClassKey → Bool) 
         by (references.Object r) none ws s = absurd (none r refl)
 
     -- somUninit is called, for which the freeing waits
-    pub object_freed : (r : ObjRef) → t'.frames.waiting.items ≡ t.frames.waiting.items ++ waits.Uninit at r ∷ [] → (none : List Cell) → none ≡ [] → (call : Result Call Stopped)
+    pub object_freed : (r : ObjRef) → t'.frames.waiting.items ≡ t.frames.waiting.items ++ waits.Uninit at r ∷ [] → (none : List Cell) → none ≡ [] → (call : Result Call Stopped) → IfOk call (λ (x : Call). IsOnLive os x.me x.parent)
         → ((h : Heap) → Holding l made t'.serials os t'.statics.items h → IsUsable l made t'.serials os (cells.Object r) → IsNumbered l.keys b.class → l.is_token b.method ≡ true
         → Passes (setting_of new) h at call (λ next. passes_offset l.world next (place_shown (setting_of new) at) Offset som_uninit (To (Object (place_of t'.serials r.serial))) (all_shown (showing l.keys t'.serials) none))
         × IfOk call (IsUsableCall (setting_of new) made os))
         → Began old new b levels (references.Object r) args (call_at levels at call)
-    object_freed r waiting_is none empty call passes = quiet_to old new b levels (references.Object r) args (call_at levels at call) refl keeps_frames (call_none levels at call) (λ body ws s began fuel tests way a.
+    object_freed r waiting_is none empty call live passes = quiet_to old new b levels (references.Object r) args (call_at levels at call) refl keeps_frames (call_none levels at call) (λ body ws s began fuel tests way a.
         (let uninits : ℕ → List Value → (Request → Step) → Step = λ i vs next. passes_offset l.world next (place_shown (setting_of new) at) Offset som_uninit (To (Object i)) vs in
         let holding : Holding l made t'.serials os t'.statics.items s.heap = subst (λ xs. Holding l made xs os t'.statics.items s.heap) (sym serials_are) (subst (λ v. Holding l made t.serials os v s.heap) (sym statics_are) began.around.holding) in
         let own : IsOwnObject (showing l.keys t'.serials) os r = subst (λ xs. IsOwnObject (showing l.keys xs) os r) (sym serials_are) began.self.own in
@@ -177,7 +177,7 @@ module _ (l : Linked) (k : Numbering) (main : Block) (made : ClassKey → Bool) 
         (ap (λ (x : Step). x.does s) (kernel_act old b (references.Object r) args kinds.Free is body ws s began levels tests way a)
         ∙ ap (λ (xs : List ℕ). (uninits (place_of xs r.serial) [] (makes levels (frames.ForUninit (place_shown (setting_of new) at) (Object (place_of xs r.serial)) ∷ ws))).does s) (sym serials_are)
         ∙ ap (λ cs. (uninits (place_of t'.serials r.serial) (all_shown (showing l.keys t'.serials) cs) (makes levels ws')).does s) (sym empty))
-        p.0 p.1
+        p.0 p.1 live
         (around_pushed l k main made made os os t t' f f growing s.heap s.heap began.around.holding.heap.holds.many (later_self s.heap) ws began.around holding (subst (AreCodes k main) (sym codes_are) began.around.codes) (waits.Uninit at r) waiting_is
         ((began.begun.class, began.begun.method), own) tt tt)
         fuel))
@@ -218,12 +218,12 @@ module _ (c : Scene) (b : Begun) (is : b.what ≡ whats.Forward) (levels : ℕ) 
       by stopped.NoMemory act ws s starts means = tt
 
   -- the call is made on the target
-  pub was_forwarded : (on : Cell) (call : Result Call Stopped)
+  pub was_forwarded : (on : Cell) (call : Result Call Stopped) → IfOk call (λ (x : Call). IsOnLive c.objects x.me x.parent)
       → ((body : Held) (ws : List frames.Waiting) (s : State) → Begins c s.heap ws b body me args → (targeted self s.heap ≡ Ok (shown (shows (setting_of c)) on))
       × Passes (setting_of c) s.heap from call (λ next. passes_offset c.linked.world next (place_shown (setting_of c) from) Forward (c.linked.method b.method) (shown (shows (setting_of c)) on) (all_shown (shows (setting_of c)) args))
       × IfOk call (IsUsableCall (setting_of c) c.made c.objects))
       → Began c c b levels me args (call_at levels from call)
-  was_forwarded on call by = quiet c b levels me args (call_at levels from call) (call_none levels from call) (λ body ws s began fuel tests way a.
+  was_forwarded on call live by = quiet c b levels me args (call_at levels from call) (call_none levels from call) (λ body ws s began fuel tests way a.
       (let p = by body ws s began in
       call_moved c c (act_of c b body levels me args ws tests way a) s s.heap ws (λ next. passes_offset c.linked.world next (place_shown (setting_of c) from) Forward (c.linked.method b.method) (shown (shows (setting_of c)) on) (all_shown (shows (setting_of c)) args)) levels from call
-      (forward_is body ws s began tests way a ∙ ap (λ z. (goes_to ws z).does s) p.0) p.1 p.2 began.around fuel))
+      (forward_is body ws s began tests way a ∙ ap (λ z. (goes_to ws z).does s) p.0) p.1 p.2 live began.around fuel))

@@ -102,7 +102,7 @@ module _ (l : Linked) (k : Numbering) (main : Block) (made : ClassKey → Bool) 
       keeps_made = grows;
       only_made = only;
       keeps = keeps;
-      none = tt;
+      stops = tt;
     }
 
     module _ (numbered : IsNumbered l.keys n) (now : more key ≡ true) where
@@ -137,5 +137,5 @@ module _ (l : Linked) (k : Numbering) (main : Block) (made : ClassKey → Bool) 
         keeps_made = grows;
         only_made = only;
         keeps = keeps;
-        none = tt;
+        stops = tt;
       }

@@ -39,7 +39,7 @@ use Rattle.som_asks.specs.declared.kinds.KernelBody.{KernelBody}
 use Rattle.som_asks.specs.declared.kinds.KernelBody.TheVariants as kinds
 use Rattle.som_asks.specs.Kinds.{body_shown}
 use Rattle.som_instances.specs.Making.{IsNext}
-use Rattle.som_passing.specs.Named.{HaveOwner, IsUsableCall}
+use Rattle.som_passing.specs.Named.{HaveOwner, IsOnLive, IsUsableCall}
 use Rattle.som_passing.specs.Passed.{Passes}
 use Rattle.som_moves.specs.declared.stop.Stop.TheVariants as stops
 use Rattle.som_moves.specs.Scene.{Around, Scene, scene, setting_of}
@@ -99,7 +99,7 @@ module _ (l : Linked) (k : Numbering) (main : Block) (made : ClassKey → Bool) 
   not_made (kinds.Asks q) m me none ws s = absurd m
 
   pub no_class_answer : (kind : KernelBody) → Makes kind → b.what ≡ whats.Kernel kind → (me : Reference) → ((n : ℕ) → me ≡ references.Class n → ⊥) → Began old old b levels me args (Err (stops.Fault faults.NotClass (places.Body b.class b.method)))
-  no_class_answer kind m is me none = quiet old b levels me args (Err (stops.Fault faults.NotClass (places.Body b.class b.method))) tt (λ body ws s began fuel tests way a. record {
+  no_class_answer kind m is me none = quiet old b levels me args (Err (stops.Fault faults.NotClass (places.Body b.class b.method))) refl (λ body ws s began fuel tests way a. record {
     then = s;
     is = ap (λ (x : Step). x.does s) (kernel_act old b me args kind is body ws s began levels tests way a) ∙ not_made kind m me none ws s;
     events = sym (append-nil s.events);
@@ -212,11 +212,11 @@ module _ (l : Linked) (k : Numbering) (main : Block) (made : ClassKey → Bool) 
         inits o vs next = passes_offset l.world next (place_shown (setting_of new) at) Offset som_init (To o) vs
 
         -- somInit is called, for which the object waits
-        pub object_called : b.what ≡ whats.Kernel kinds.New → t'.frames.waiting.items ≡ t.frames.waiting.items ++ waits.Init r ∷ [] → Keeps old new → (none : List Cell) → none ≡ [] → (call : Result Call Stopped)
+        pub object_called : b.what ≡ whats.Kernel kinds.New → t'.frames.waiting.items ≡ t.frames.waiting.items ++ waits.Init r ∷ [] → Keeps old new → (none : List Cell) → none ≡ [] → (call : Result Call Stopped) → IfOk call (λ (x : Call). IsOnLive os' x.me x.parent)
             → ((h : Heap) → Holding l made t'.serials os' t'.statics.items h → IsUsable l made t'.serials os' (cells.Object r) → IsNumbered l.keys b.class → l.is_token b.method ≡ true
             → Passes (setting_of new) h at call (inits (Object (place_of t'.serials r.serial)) (all_shown (showing l.keys t'.serials) none)) × IfOk call (IsUsableCall (setting_of new) made os'))
             → Began old new b levels me args (call_at levels at call)
-        object_called is waiting_is keeps none empty call passes = quiet_to old new b levels me args (call_at levels at call) refl keeps (call_none levels at call) (λ body ws s began fuel tests way a.
+        object_called is waiting_is keeps none empty call live passes = quiet_to old new b levels me args (call_at levels at call) refl keeps (call_none levels at call) (λ body ws s began fuel tests way a.
             (let held = began.around.holding in
             let p = passes (grown s.heap) (holding s.heap held) (usable s.heap held) began.begun.class began.begun.method in
             let ws' : List frames.Waiting = frames.ForInit (Object (place_of t'.serials r.serial)) ∷ ws in
@@ -224,6 +224,6 @@ module _ (l : Linked) (k : Numbering) (main : Block) (made : ClassKey → Bool) 
             (ap (λ (x : Step). x.does s) (kernel_act old b me args kinds.New is body ws s began levels tests way a)
             ∙ ap (λ i. (inits (Object i) [] (makes levels (frames.ForInit (Object i) ∷ ws))).does (at_state s.fuel s.events (grown s.heap))) (sym (place s.heap held))
             ∙ ap (λ cs. (inits (Object (place_of t'.serials r.serial)) (all_shown (showing l.keys t'.serials) cs) (makes levels ws')).does (at_state s.fuel s.events (grown s.heap))) (sym empty))
-            p.0 p.1
+            p.0 p.1 live
             (around_pushed l k main made made os os' t t' f f growing s.heap (grown s.heap) held.heap.holds.many (later s.heap) ws began.around (holding s.heap held) (codes_kept s.heap ws began.around) (waits.Init r) waiting_is (own s.heap held) tt tt)
             fuel))

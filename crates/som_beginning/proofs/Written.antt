@@ -47,7 +47,7 @@ use Rattle.som_beginning.specs.declared.begun.Begun.{Begun}
 use Rattle.som_beginning.specs.declared.begun.What.{What}
 use Rattle.som_beginning.specs.declared.begun.What.TheVariants as whats
 use Rattle.som_beginning.specs.Begun.{IsBegun, IsWhat}
-use Rattle.som_beginning.specs.Beginning.{Began, Begins, NeedsNone, act_of, write_at}
+use Rattle.som_beginning.specs.Beginning.{Began, Begins, StopsAt, act_of, write_at}
 use Rattle.som_beginning.proofs.Asked.{acts}
 use Rattle.som_beginning.proofs.Growing.{Grows, around_later}
 use Rattle.som_beginning.proofs.Standing.{quiet_to, stopped_none}
@@ -70,7 +70,7 @@ not_among s os l n (references.Object r) own other among = other (subst (IsMade 
 not_among s os l n (references.Class k) own other among = among
 not_among s os l n references.Manager own other among = among
 
-write_none : (at : Place) (r : Result (Unit {0}) Stopped) → NeedsNone (write_at at r)
+write_none : (at : Place) (r : Result (Unit {0}) Stopped) → StopsAt at (write_at at r)
 write_none at (Ok u) = tt
 write_none at (Err e) = stopped_none at e
 

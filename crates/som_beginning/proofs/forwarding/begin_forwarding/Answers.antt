@@ -41,7 +41,7 @@ returns g c t f =
     let call = c.pass_offset-call.result in
     let own = own_method (g.R.Classes.keys r) (g.R.Classes.world r) (g.R.ClassKeys.known r) l (g.R.Runtime.program r) c.know.ensures.agree c.know.ensures.loads (l.method b.method) c.signature-signature.result.now c.signature-signature.ensures in
     subst (λ z. Began here here b c.args.levels c.args.me args z) (sym (c.called.ensures ∙ ap (λ p. call_at c.args.levels p call) c.place_of-2.ensures))
-    (was_forwarded here b c.requires.what c.args.levels c.args.me args c.in-Ok.on call (λ body ws s began.
+    (was_forwarded here b c.requires.what c.args.levels c.args.me args c.in-Ok.on call c.pass_offset-call.ensures.live (λ body ws s began.
     (let a = acts here b c.args.me args body ws s.heap began in
     let usable = c.in-Ok.ensures.usable t.statics.items t.serials s.heap a in (
       c.in-Ok.ensures.means t.statics.items t.serials s.heap a,

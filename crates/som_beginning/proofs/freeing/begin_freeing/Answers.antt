@@ -71,7 +71,7 @@ returns g c f args =
     let pushed = c.in_ok-wait_for.ensures ∙ ap (λ (p : Place). t.frames.waiting.items ++ waits.Uninit p o ∷ []) c.place_of-from.ensures in
     subst (λ z. Began old new b c.args.levels c.args.me args z) (sym (c.called.ensures ∙ ap (λ p. call_at c.args.levels p call) c.place_of-2.ensures))
     (subst (λ (m : Reference). Began old new b c.args.levels m args (call_at c.args.levels at call)) (sym c.in-Object.is)
-    (object_freed l k main made os t t' f refl refl refl refl refl b c.requires.what c.args.levels args o pushed none c.new-none.ensures.items call (λ h holding usable class token.
+    (object_freed l k main made os t t' f refl refl refl refl refl b c.requires.what c.args.levels args o pushed none c.new-none.ensures.items call c.pass_offset-call.ensures.live (λ h holding usable class token.
     (let tok = c.uninit_token-method in (
       offset_at l os c.place_of-at.result at c.place_of-at.ensures call ways.Offset tok.result (cells.Object o) none c.pass_offset-call.ensures.passes t'.serials (codes_of t'.codes) h som_uninit (tok.ensures.owner ∙ sym tok.ensures.method) holding.heap.holds usable.own.0,
       c.pass_offset-call.ensures.usable t'.serials (codes_of t'.codes) (subst (IsOwnPlace (setting_of new) os) (sym c.place_of-at.ensures) (class, token)) tok.ensures.token usable (all_none (IsUsable l made t'.serials os) none c.new-none.ensures.items),

@@ -98,7 +98,7 @@ returns g c f args =
     subst (λ z. Began old new b c.args.levels c.args.me args z) (sym (c.called.ensures ∙ ap (λ p. call_at c.args.levels p call) c.place_of-2.ensures))
     (subst (λ (m : Reference). Began old new b c.args.levels m args (call_at c.args.levels at call)) (sym c.in-Class.is)
     (object_called l k main made os t f b c.args.levels args c.in-Class.class os' t' refl refl refl refl c.make.ensures.keeps c.make.ensures.others o.object o.ensures.serials
-    (λ h holding. o.ensures.next t.statics.items h holding (record { own = (tt, tt); made_of = tt })) c.requires.what c.in_ok-wait_for.ensures keeps none c.new-none.ensures.items call (λ h holding usable class token.
+    (λ h holding. o.ensures.next t.statics.items h holding (record { own = (tt, tt); made_of = tt })) c.requires.what c.in_ok-wait_for.ensures keeps none c.new-none.ensures.items call c.pass_offset-call.ensures.live (λ h holding usable class token.
     (let tok = c.init_token-method in (
       offset_at l os' c.place_of-at.result at c.place_of-at.ensures call ways.Offset tok.result (cells.Object o.object) none c.pass_offset-call.ensures.passes t'.serials (codes_of t'.codes) h som_init (tok.ensures.owner ∙ sym tok.ensures.method) holding.heap.holds usable.own.0,
       c.pass_offset-call.ensures.usable t'.serials (codes_of t'.codes) (subst (IsOwnPlace (setting_of new) os') (sym c.place_of-at.ensures) (class, token)) tok.ensures.token usable (all_none (IsUsable l made t'.serials os') none c.new-none.ensures.items),
