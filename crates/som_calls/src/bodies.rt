@@ -1,7 +1,8 @@
 use som_model::{
-    Block, Body, ClassDecl, ClassFace, ClassKey, ClientProgram, Entry, Interface, List, Module,
-    NoMemory, Release, Sig, Text, ValueType, Way,
+    Block, Body, ClassDecl, ClassFace, ClientProgram, Entry, Interface, List, NoMemory, Release,
+    Sig, Text, ValueType, Way,
 };
+use som_plain::{plain_class, under_object};
 use som_rules::VerifyFault;
 use som_verify::{program_ok, release_ok};
 use std::alloc::Global;
@@ -18,15 +19,6 @@ fn method(alloc: Global, name: &[u8]) -> Result<Entry, NoMemory> {
     })
 }
 
-fn object(alloc: Global) -> Result<List<ClassKey>, NoMemory> {
-    let mut parents = List::new(alloc);
-    parents.push(ClassKey::Named {
-        module: Module::Kernel,
-        name: Text::from_slice(alloc, b"SOMObject")?,
-    })?;
-    Ok(parents)
-}
-
 fn entries(alloc: Global, methods: &[&[u8]]) -> Result<List<Entry>, NoMemory> {
     let mut entries = List::new(alloc);
     for name in methods {
@@ -40,7 +32,7 @@ fn face(alloc: Global, methods: &[&[u8]]) -> Result<ClassFace, NoMemory> {
         name: Text::from_slice(alloc, b"Dog")?,
         major: 0,
         minor: 0,
-        parents: object(alloc)?,
+        parents: under_object(alloc)?,
         metaclass: None,
         entries: entries(alloc, methods)?,
     })
@@ -61,13 +53,7 @@ fn dogs(alloc: Global, methods: &[&[u8]], bodies: usize) -> Result<List<ClassDec
     let bodies = empty_bodies(alloc, bodies)?;
     let face = face(alloc, methods)?;
     let mut classes = List::new(alloc);
-    classes.push(ClassDecl {
-        face,
-        variables: List::new(alloc),
-        bodies,
-        overrides: List::new(alloc),
-        selects: List::new(alloc),
-    })?;
+    classes.push(plain_class(alloc, face, bodies))?;
     Ok(classes)
 }
 

@@ -1,7 +1,6 @@
-use crate::ancestry::ancestors;
-use crate::resolution::{descends, implementation};
-use som_model::{List, NoMemory, Text};
+use som_model::{List, NoMemory};
 use som_order::effective_order;
+use som_plain::{ancestors, descends, implementation, texts};
 use std::alloc::Global;
 use std::test::Fail;
 
@@ -39,14 +38,6 @@ fn descent_and_bodies_are_found(rt: HostRuntime) -> Result<(), Fail> {
     let chosen = implementation(rows.as_slice(), &[true, true, true, false], &right, 0, 3);
     assert_eq!(rt; chosen, Some(2));
     Ok(())
-}
-
-fn texts(alloc: Global, names: &[&[u8]]) -> Result<List<Text>, NoMemory> {
-    let mut texts = List::new(alloc);
-    for name in names {
-        texts.push(Text::from_slice(alloc, *name)?)?;
-    }
-    Ok(texts)
 }
 
 #[test]

@@ -2,11 +2,7 @@
 #![tactic(auto)]
 
 #[cfg(test)]
-mod ancestry;
-#[cfg(test)]
 mod bodies;
-#[cfg(test)]
-mod class_rows;
 #[cfg(test)]
 mod fields;
 #[cfg(test)]
@@ -28,8 +24,6 @@ mod objects;
 mod orders;
 #[cfg(test)]
 mod programs;
-#[cfg(test)]
-mod resolution;
 #[cfg(test)]
 mod slow;
 #[cfg(test)]

@@ -2,16 +2,10 @@ use som_model::{
     Boxed, ClassDecl, ClassFace, ClassKey, Entry, List, Module, NoMemory, Release, Sig, Text,
     ValueType, Way,
 };
+use som_plain::{named, plain_class, under_object};
 use som_show::shown;
 use std::alloc::Global;
 use std::test::Fail;
-
-fn named(alloc: Global, module: Module, name: &[u8]) -> Result<ClassKey, NoMemory> {
-    Ok(ClassKey::Named {
-        module,
-        name: Text::from_slice(alloc, name)?,
-    })
-}
 
 // A class made of SOMClass and Meta.
 fn derived(alloc: Global) -> Result<ClassKey, NoMemory> {
@@ -47,27 +41,16 @@ fn entries(alloc: Global) -> Result<List<Entry>, NoMemory> {
     Ok(entries)
 }
 
-fn parents(alloc: Global) -> Result<List<ClassKey>, NoMemory> {
-    let mut parents = List::new(alloc);
-    parents.push(named(alloc, Module::Kernel, b"SOMObject")?)?;
-    Ok(parents)
-}
-
 fn bell(alloc: Global) -> Result<ClassDecl, NoMemory> {
-    Ok(ClassDecl {
-        face: ClassFace {
-            name: Text::from_slice(alloc, b"Bell")?,
-            major: 4_294_967_295,
-            minor: 10,
-            parents: parents(alloc)?,
-            metaclass: None,
-            entries: entries(alloc)?,
-        },
-        variables: List::new(alloc),
-        bodies: List::new(alloc),
-        overrides: List::new(alloc),
-        selects: List::new(alloc),
-    })
+    let face = ClassFace {
+        name: Text::from_slice(alloc, b"Bell")?,
+        major: 4_294_967_295,
+        minor: 10,
+        parents: under_object(alloc)?,
+        metaclass: None,
+        entries: entries(alloc)?,
+    };
+    Ok(plain_class(alloc, face, List::new(alloc)))
 }
 
 fn are_lines(lines: &List<Text>, wanted: &[&[u8]]) -> bool {

@@ -6,8 +6,9 @@ ghost use Rattle.som_model.specs.Loads.{keys_of};
 ghost use Rattle.som_numbers.specs.Classes.{class_of, classes_of};
 ghost use Rattle.std.specs.Prelude.{◌≡◌, ◌<◌, IfOk, OnOk, length, map};
 
-use som_model::{ClassDecl, ClassFace, ClassKey, List, Module, NoMemory, kernel_faces};
+use som_model::{ClassFace, ClassKey, List, Module, NoMemory, kernel_faces};
 use som_numbers::{Keyed, Numbers};
+use som_plain::plain_class;
 use som_tables::ClassNo;
 use std::alloc::Global;
 use std::test::Fail;
@@ -23,13 +24,7 @@ fn keyed(alloc: Global, face: &ClassFace) -> Result<Keyed, NoMemory>
             module: Module::Kernel,
             name,
         },
-        decl: ClassDecl {
-            face,
-            variables: List::new(alloc),
-            bodies: List::new(alloc),
-            overrides: List::new(alloc),
-            selects: List::new(alloc),
-        },
+        decl: plain_class(alloc, face, List::new(alloc)),
     })
 }
 

@@ -4,6 +4,7 @@ use crate::images::{CLIENT, LIBRARY};
 use som_cmd::run_som;
 use som_io::{MemStore, Put, Sent, Sink, Store};
 use som_model::{List, Text};
+use som_plain::texts;
 use std::alloc::Global;
 use std::test::Fail;
 
@@ -17,14 +18,6 @@ fn put(alloc: Global, store: &mut MemStore, name: &[u8], bytes: &[u8]) -> Result
     } else {
         Err(Fail::from("a put"))
     }
-}
-
-fn words_of(alloc: Global, words: &[&[u8]]) -> Result<List<Text>, Fail> {
-    let mut all = List::new(alloc);
-    for word in words {
-        all.push(Text::from_slice(alloc, word)?)?;
-    }
-    Ok(all)
 }
 
 /// A sink that takes three bytes a write, and of which one write fails.
@@ -71,7 +64,7 @@ fn hello(alloc: Global) -> Result<MemStore, Fail> {
 
 // The status of a run of these of which one write fails, and what it prints.
 fn run_failing(alloc: Global, failing: u64) -> Result<(u8, Vec<u8>), Fail> {
-    let words = words_of(alloc, &RUN)?;
+    let words = texts(alloc, &RUN)?;
     let mut store = hello(alloc)?;
     let mut out = SlowSink {
         bytes: Vec::new(alloc),

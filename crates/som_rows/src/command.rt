@@ -50,29 +50,43 @@ pub fn outcome_of(
     failing: &Failing,
 ) -> Result<Outcome, NoMemory> {
     let mut store = store_of(alloc, files, failing.store.as_slice())?;
+    let mut out = sink_of(alloc, failing.sink.as_slice())?;
+    let status = run_som(alloc, words, &mut store, &mut out);
+    let printed = out.bytes().copy(alloc)?;
+    let changed = changed_files(alloc, store, files, words, failing.store.len())?;
+    Ok(Outcome {
+        answer: Answer { printed, status },
+        changed,
+    })
+}
+
+// A sink of which these calls fail.
+fn sink_of(alloc: Global, failing: &[u64]) -> Result<MemSink, NoMemory> {
     let mut out = MemSink::new(alloc);
-    for call in &failing.sink {
+    for call in failing {
         out.fail(*call)?;
     }
-    let status = run_som(alloc, words, &mut store, &mut out);
+    Ok(out)
+}
+
+// The files that a command left otherwise than they were, and those that have the names of its words.
+fn changed_files(
+    alloc: Global,
+    store: MemStore,
+    files: &Files,
+    words: &List<Text>,
+    failing: usize,
+) -> Result<Vec<File>, NoMemory> {
     let mut after = After {
         alloc,
         store,
         files,
-        failing: failing.store.len(),
+        failing,
         changed: Vec::new(alloc),
     };
-    for file in files.as_slice() {
-        after.look(&file.name)?;
-    }
-    for word in words.as_slice() {
-        after.look(word)?;
-    }
-    let printed = out.bytes().copy(alloc)?;
-    Ok(Outcome {
-        answer: Answer { printed, status },
-        changed: after.into_changed(),
-    })
+    after.look_at_files()?;
+    after.look_at_words(words)?;
+    Ok(after.into_changed())
 }
 
 // A store that holds the files, of which these calls fail.
@@ -132,6 +146,20 @@ impl After<'_> {
         if !same {
             let name = name.copy(self.alloc)?;
             self.changed.push(File { name, bytes })?;
+        }
+        Ok(())
+    }
+
+    fn look_at_files(&mut self) -> Result<(), NoMemory> {
+        for file in self.files.as_slice() {
+            self.look(&file.name)?;
+        }
+        Ok(())
+    }
+
+    fn look_at_words(&mut self, words: &List<Text>) -> Result<(), NoMemory> {
+        for word in words.as_slice() {
+            self.look(word)?;
         }
         Ok(())
     }

@@ -1,0 +1,4 @@
+pub mod Joining
+pub mod Going
+pub mod Lowering
+pub mod Granting

@@ -1,0 +1,27 @@
+ghost use Rattle.som_frames.specs.Frames.{Frames};
+ghost use Rattle.som_frames.specs.Step.{main_frames};
+ghost use Rattle.som_looping.specs.Standing.{StandsAt, StandsFor, with_units};
+ghost use Rattle.som_model.specs.Means.{beginning, means_in};
+ghost use Rattle.som_model.specs.Runs.{Ran, with_more};
+ghost use Rattle.som_model.specs.State.{State};
+ghost use Rattle.som_model.specs.declared.limits.TheConstants.{MAX_DEPTH};
+ghost use Rattle.som_moves.specs.Scene.{Scene};
+ghost use Rattle.som_runtime.specs.Asked.{Agree, CanLoad};
+ghost use Rattle.std.specs.Prelude.{◌≡◌, ◌+◌, ℕ, Bool};
+
+/// A task that stands with no unit left, and is granted some, stands with these for the same meaning with as many more.
+pub fn granted_law()
+    ensures { (c : Scene) (means : ℕ → Ran (Unit {0})) (n units granted : ℕ) (begun : Bool) (fs : Frames) (s : State) →
+        StandsFor c means n fs s → s.fuel ≡ 0 → StandsFor (with_units c granted begun units) means (n + units) fs (with_more units s) }
+{}
+
+/// Among classes that can be loaded with a main, a task that stands where main begins, with no unit, stands for what
+/// main means.
+pub fn start_law()
+    ensures { (c : Scene) → Agree c.linked.keys c.linked.world c.known c.linked → CanLoad c.known.classes c.main →
+        StandsAt c (main_frames MAX_DEPTH c.main) (beginning c.linked.world 0) →
+        StandsFor c (means_in c.linked.world c.main) 0 (main_frames MAX_DEPTH c.main) (beginning c.linked.world 0) }
+{
+    som_tested::loaded_law();
+    som_passing::tests_law();
+}

@@ -1,0 +1,13 @@
+pub mod Untold
+pub mod Acts
+pub mod Knowing
+pub mod Growing
+pub mod Going
+pub mod Coming
+pub mod Special
+pub mod Telling
+pub mod Whole
+pub mod Varying
+pub mod Building
+pub mod Placing
+pub mod Spending
