@@ -21,12 +21,13 @@ use Rattle.som_task.specs.declared.frames.Waiting.TheVariants as waits
 use Rattle.som_task.specs.Own.{IsOwnFrames, IsOwnNow, IsOwnRef}
 use Rattle.som_task.specs.Settings.{shows}
 use Rattle.som_task.specs.Stored.{Spares}
+use Rattle.som_task.proofs.Lists.{all_more}
 use Rattle.som_task.proofs.Later.{own_frames_still}
 use Rattle.som_task.proofs.Objects.{heap_spared, serials_spared}
 use Rattle.som_task.proofs.Classes.{statics_still}
 use Rattle.som_passing.specs.Named.{IsOnLive}
 use Rattle.som_moves.specs.Scene.{Around, IsFineBody, IsFineLeft, IsFineNow, IsFineWaiting, IsInPlace, IsNext, Scene, setting_of}
-use Rattle.som_exec.specs.Standing.{StandsAt, StandsFor}
+use Rattle.som_looping.specs.Standing.{StandsAt, StandsFor}
 use Rattle.som_exec.specs.Stands.{Stands}
 
 module _ (c : Scene) (new : Objects) (made : ClassKey → Bool) (spares : Spares c.task.serials c.objects new) (grows : (k : ClassKey) → c.made k ≡ true → made k ≡ true) where
@@ -66,10 +67,6 @@ module _ (c : Scene) (new : Objects) (made : ClassKey → Bool) (spares : Spares
     waiting_still (waits.Name levels from code at on args) f = tt
     waiting_still (waits.Parent levels me from parent code at args) f = tt
 
-    all_still : (ws : List Waiting) → All (IsFineWaiting c h) ws → All (IsFineWaiting now h) ws
-    all_still [] f = f
-    all_still (w ∷ ws) f = (waiting_still w f.0, all_still ws f.1)
-
     module _ (fs : frames.Frames) (a : Around c h fs.waiting) (n : IsNext c h c.task.frames.now fs.now) where
       own : IsOwnFrames (setting_of now) new c.task.frames
       own = own_frames_still c.linked c.task.serials (codes_of c.task.codes) c.objects new spares.known c.task.frames (record { now = n.own; waiting = a.own })
@@ -88,7 +85,7 @@ module _ (c : Scene) (new : Objects) (made : ClassKey → Bool) (spares : Spares
         shown = a.shown;
         own = own.waiting;
         made_of = made_still.waiting;
-        fine = all_still c.task.frames.waiting.items a.fine;
+        fine = all_more (IsFineWaiting c h) (IsFineWaiting now h) c.task.frames.waiting.items waiting_still a.fine;
         codes = a.codes;
       }
 

@@ -11,7 +11,7 @@ use Rattle.som_objects.specs.Objects.{Objects}
 use Rattle.som_task.specs.Settings.{Linked}
 use Rattle.som_moves.specs.Scene.{Scene, scene}
 use Rattle.som_exec.specs.declared.task.Task.{Task}
-use Rattle.som_exec.specs.Standing.{StandsFor}
+use Rattle.som_looping.specs.Standing.{StandsFor}
 
 -- what main means, with so many units
 abbrev pub meaning : Scene → ℕ → Ran (Unit {0})
