@@ -1,11 +1,12 @@
 -- A task that was started stands where main begins.
-use Rattle.std.proofs.Common.{◌≡◌, ◌≤◌, ◌<◌, ◌+◌, ℕ, Bool, false, List, [], ◌∷◌, length, Option, Some, None, slice_get, if◌then◌else◌, refl, sym, ap, subst, ◌∙◌, arith, None≢Some, length-map}
+use Rattle.std.proofs.Common.{◌≡◌, ◌≤◌, ◌<◌, ◌+◌, ℕ, Bool, List, [], ◌∷◌, length, Option, Some, None, slice_get, if◌then◌else◌, refl, sym, ap, subst, ◌∙◌, arith}
 use Rattle.std.specs.List.{All}
 use Rattle.som_model.specs.declared.key.ClassKey.{ClassKey}
 use Rattle.som_model.specs.declared.limits.TheConstants.{MAX_DEPTH}
 use Rattle.som_model.specs.declared.syntax.Block.{Block}
 use Rattle.som_model.specs.Means.{beginning, means_in, nothing_yet}
 use Rattle.som_model.specs.Runs.{end_of}
+use Rattle.som_model.specs.World.{World}
 use Rattle.som_model.specs.Calls.{class_here}
 use Rattle.som_model.specs.State.{Nil, InMain}
 use Rattle.som_model.proofs.MadeLaws.{main_within}
@@ -13,6 +14,7 @@ use Rattle.som_code.specs.Laid.{lay_body}
 use Rattle.som_code.specs.Effect.{beginning as first_conf, conf}
 use Rattle.som_code.specs.declared.instruction.Instruction.{Instruction}
 use Rattle.som_codes.specs.Coded.{AreCodes, Coded, codes_of}
+use Rattle.som_codes.proofs.Entries.{code_is}
 use Rattle.som_frames.specs.Frames as frames
 use Rattle.som_frames.specs.Step.{main_frames}
 use Rattle.som_meta.specs.Numbering.{Numbering}
@@ -27,8 +29,7 @@ use Rattle.som_task.specs.declared.body.Body.{Body}
 use Rattle.som_task.specs.declared.body.Zero.{Zero}
 use Rattle.som_task.specs.declared.body.Zero.TheVariants as zero_values
 use Rattle.som_task.specs.declared.task.Task.{Task}
-use Rattle.som_task.specs.declared.frames.Now.TheVariants as nows
-use Rattle.som_task.specs.Own.{AreOwn, IsOwnBody, IsOwnMe, IsOwnPlace, IsOwnWaiting}
+use Rattle.som_task.specs.Own.{AreOwn, IsOwn, IsOwnBody, IsOwnMe, IsOwnPlace, IsOwnWaiting}
 use Rattle.som_task.specs.Settings.{Linked, code_at, shows}
 use Rattle.som_task.specs.Standing.{all_waiting_shown, body_shown, here_shown, operands_shown, zero_shown}
 use Rattle.som_task.specs.Stored.{AreSerials, HoldsHeap, HoldsStatics}
@@ -38,6 +39,10 @@ use Rattle.som_moves.proofs.Fine.{main_writes}
 use Rattle.som_exec.specs.Beginning.{IsFirst, IsMain}
 use Rattle.som_looping.specs.Standing.{StandsAt, StandsFor}
 use Rattle.som_exec.specs.Stands.{Stands}
+
+-- so it is of each of none
+all_none : {X : Type 0} (P : X → Type 0) → All P []
+all_none P k d lt = absurd (let f : ⊥ = omega (arith, lt) in f)
 
 module _ (l : Linked) (known : Numbering) (main : Block) (made : ClassKey → Bool) (os : Objects) (t : Task) (cs : List Coded) (first : IsFirst cs t) where
   abbrev c : Scene
@@ -56,7 +61,7 @@ module _ (l : Linked) (known : Numbering) (main : Block) (made : ClassKey → Bo
     code_there : code_at (codes_of t.codes) b.code ≡ lay_body main 0
     code_there = ap (λ n. code_at (codes_of t.codes) n) is.code ∙ ap (λ (ds : List Coded). code_at (codes_of ds) 0) first.codes ∙ code_is cs 0 _ codes.first
 
-    made_body : ℕ → Option Reference → Place → Zero → List Instruction → ℕ → List Cell → List Cell → frames.Body
+    abbrev made_body : ℕ → Option Reference → Place → Zero → List Instruction → ℕ → List Cell → List Cell → frames.Body
     made_body levels me place zero_value code at operands locals = record {
       levels = levels;
       here = here_shown (setting_of c) me place;
@@ -79,23 +84,17 @@ module _ (l : Linked) (known : Numbering) (main : Block) (made : ClassKey → Bo
     codes_same : (ds : List Coded) → ds ≡ cs → AreCodes known main ds
     codes_same ds e = subst (λ z. AreCodes known main z) (sym e) codes
 
-    some_code : (ds : List Coded) → AreCodes known main ds → 0 < length (codes_of ds)
-    some_code ds are = there (length ds) (length-map _ ds) (slice_get_some ds are.first)
-      where
-        slice_get_some : (ds : List Coded) {x : Coded} → slice_get ds 0 ≡ Some x → 0 < length ds
-        slice_get_some [] e = absurd (None≢Some e)
-        slice_get_some (d ∷ ds) e = omega arith
-
-        there : (n : ℕ) {m : ℕ} → m ≡ n → 0 < n → 0 < m
-        there n e lt = omega (arith, e, lt)
+    some_code : (ds : List Coded) (x : Coded) → slice_get ds 0 ≡ Some x → 0 < length (codes_of ds)
+    some_code [] x e = absurd (let z = e in cc)
+    some_code (d ∷ ds) x e = omega arith
 
     own_main : IsOwnBody (setting_of c) os b
     own_main = record {
       me = subst (λ x. IsOwnMe (shows (setting_of c)) os x) (sym is.me) tt;
       place = subst (λ x. IsOwnPlace (setting_of c) os x) (sym is.place) tt;
-      code = subst (λ n. n < length (codes_of t.codes)) (sym is.code) (some_code t.codes (codes_same t.codes first.codes));
-      operands = subst (λ x. AreOwn (shows (setting_of c)) os x) (sym is.operands) tt;
-      locals = subst (λ x. AreOwn (shows (setting_of c)) os x) (sym is.locals) tt;
+      code = subst (λ n. n < length (codes_of t.codes)) (sym is.code) (some_code t.codes _ (codes_same t.codes first.codes).first);
+      operands = subst (λ x. AreOwn (shows (setting_of c)) os x) (sym is.operands) (all_none (IsOwn (shows (setting_of c)) os));
+      locals = subst (λ x. AreOwn (shows (setting_of c)) os x) (sym is.locals) (all_none (IsOwn (shows (setting_of c)) os));
     }
 
     module _ (agree : Agree l.keys l.world known l) (can : CanLoad known.classes main) where
@@ -116,15 +115,16 @@ module _ (l : Linked) (known : Numbering) (main : Block) (made : ClassKey → Bo
 
       no_objects : (xs : List ℕ) → xs ≡ [] → HoldsHeap l xs os (nothing_yet l.world) × AreSerials xs os
       no_objects xs e = subst (λ xs. HoldsHeap l xs os (nothing_yet l.world) × AreSerials xs os) (sym e) (
-          record {
-            holds = record { many = refl; by = λ n m. absurd (none m) };
-            objects = λ n o i m. absurd (none m);
-          },
-          record {
-            positive = λ n m. absurd (none m);
-            given = λ n m. absurd (none m);
-            apart = λ i n at. absurd (None≢Some at);
-          })
+        record {
+          holds = record { many = refl; by = λ n m. absurd (none m) };
+          objects = λ n o i m. absurd (none m);
+        },
+        record {
+          positive = λ n m. absurd (none m);
+          given = λ n m. absurd (none m);
+          apart = λ i n at. absurd (let z = at in cc);
+        },
+      )
         where
           none : 0 < 0 → ⊥
           none lt = omega (arith, lt)
@@ -141,9 +141,9 @@ module _ (l : Linked) (known : Numbering) (main : Block) (made : ClassKey → Bo
           made_of = record { objects = tt; statics = λ x k n. zero_in made (l.world.variable k n) };
         };
         shown = ap (λ ws. all_waiting_shown (setting_of c) ws) first.waiting;
-        own = subst (λ ws. All (IsOwnWaiting (setting_of c) os) ws) (sym first.waiting) tt;
+        own = subst (λ ws. All (IsOwnWaiting (setting_of c) os) ws) (sym first.waiting) (all_none (IsOwnWaiting (setting_of c) os));
         made_of = tt;
-        fine = subst (λ ws. All (IsFineWaiting c (nothing_yet l.world)) ws) (sym first.waiting) tt;
+        fine = subst (λ ws. All (IsFineWaiting c (nothing_yet l.world)) ws) (sym first.waiting) (all_none (IsFineWaiting c (nothing_yet l.world)));
         codes = codes_same t.codes first.codes;
       }
 
@@ -164,3 +164,7 @@ module _ (l : Linked) (known : Numbering) (main : Block) (made : ClassKey → Bo
         events = ap (λ (b : Bool). if b then (end_of (means_in l.world main t.granted)).events else []) (sym first.begun);
         objects = ap length first.serials ∙ sym (ap (λ n. length (end_of (means_in l.world main n)).heap.objects) first.granted ∙ objects_none _ (main_within l.world main 0));
       }
+
+-- what a kernel says of its keys and its world is said of those that it is linked with
+pub own_agree : (ks : List ClassKey) (w : World) (l : Linked) (known : Numbering) → Agree ks w known l → Agree l.keys l.world known l
+own_agree ks w l known agree = subst (λ z. Agree l.keys z known l) (sym agree.linked_answers) (subst (λ z. Agree z w known l) (sym agree.linked_numbers) agree)

@@ -1,17 +1,15 @@
 -- A task stands where others change the store, and where more classes are made.
-use Rattle.std.proofs.Common.{◌≡◌, ℕ, Bool, true, List, [], ◌∷◌, Option, Some, None, refl, sym, ap, subst, ◌∙◌, arith}
+use Rattle.std.proofs.Common.{◌≡◌, ℕ, Bool, true, List, Option, Some, None, refl, sym, subst, arith}
 use Rattle.std.specs.Prelude.{IsSome}
-use Rattle.std.specs.List.{All}
 use Rattle.som_model.specs.declared.key.ClassKey.{ClassKey}
 use Rattle.som_model.specs.State.{Heap, State}
 use Rattle.som_codes.specs.Coded.{codes_of}
 use Rattle.som_frames.specs.Frames as frames
 use Rattle.som_used.specs.Needs.{FramesIn}
 use Rattle.som_used.proofs.More.{frames_more, heap_more}
-use Rattle.som_objects.specs.Objects.{Objects, live_at}
+use Rattle.som_objects.specs.Objects.{Objects}
 use Rattle.som_values.specs.declared.reference.Reference.{Reference}
 use Rattle.som_values.specs.declared.reference.Reference.TheVariants as references
-use Rattle.som_values.specs.Shown.{IsMade}
 use Rattle.som_task.specs.declared.body.Body.{Body}
 use Rattle.som_task.specs.declared.call.Left.{Left}
 use Rattle.som_task.specs.declared.frames.Now.{Now}
@@ -27,7 +25,7 @@ use Rattle.som_task.proofs.Objects.{heap_spared, serials_spared}
 use Rattle.som_task.proofs.Classes.{statics_still}
 use Rattle.som_passing.specs.Named.{IsOnLive}
 use Rattle.som_moves.specs.Scene.{Around, IsFineBody, IsFineLeft, IsFineNow, IsFineWaiting, IsInPlace, IsNext, Scene, setting_of}
-use Rattle.som_looping.specs.Standing.{StandsAt, StandsFor}
+use Rattle.som_looping.specs.Standing.{StandsAt}
 use Rattle.som_exec.specs.Stands.{Stands}
 
 module _ (c : Scene) (new : Objects) (made : ClassKey → Bool) (spares : Spares c.task.serials c.objects new) (grows : (k : ClassKey) → c.made k ≡ true → made k ≡ true) where

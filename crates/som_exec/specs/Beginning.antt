@@ -1,5 +1,5 @@
 -- A task where main begins.
-use Rattle.std.specs.Prelude.{◌≡◌, Bool, false, List, [], None}
+use Rattle.std.specs.Prelude.{◌≡◌, false, List, [], None}
 use Rattle.som_model.specs.declared.limits.TheConstants.{MAX_DEPTH}
 use Rattle.som_codes.specs.Coded.{Coded}
 use Rattle.som_telling.specs.declared.running.Place.TheVariants as places
@@ -20,12 +20,12 @@ pub record IsMain (b : Body) : Type 0 where
   pub locals : b.locals.items ≡ []
 
 -- main is what runs, nothing waits, and there are no objects, no variables of class objects and no units
-pub record IsFirst (codes : List Coded) (t : Task) : Type 0 where
+pub record IsFirst (cs : List Coded) (t : Task) : Type 0 where
   pub body : Body
   pub is_main : IsMain body
   pub now : t.frames.now ≡ nows.Running body
   pub waiting : t.frames.waiting.items ≡ []
-  pub codes : t.codes ≡ codes
+  pub codes : t.codes ≡ cs
   pub statics : t.statics.items ≡ []
   pub serials : t.serials ≡ []
   pub granted : t.granted ≡ 0
