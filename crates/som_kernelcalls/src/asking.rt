@@ -81,12 +81,15 @@ pub fn answering<L: Ledger>(
     requires parts { blank.parts ≡ L.parts }
     requires some { 0 < blank.parts }
 {
+    let classes = kernel.classes();
+    let _count = classes.count();
     let mut steps: Steps<L> = Steps::new(blank);
     let method = kernel.find(class, name, &mut steps)?;
-    if !kernel.is_a(class, method.class()) {
-        return None;
+    if kernel.is_a(class, method.class()) {
+        let body = kernel.resolve(class, method, &mut steps);
+        let view = kernel.body(body);
+        Some((view.class.number(), in_short(view.held)))
+    } else {
+        None
     }
-    let body = kernel.resolve(class, method, &mut steps);
-    let view = kernel.body(body);
-    Some((view.class.number(), in_short(view.held)))
 }

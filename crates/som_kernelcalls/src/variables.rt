@@ -16,10 +16,12 @@ fn place(kernel: &Kernel<Linked>, object: ClassNo, class: ClassNo, variable: u8)
 {
     let classes = kernel.classes();
     let _count = classes.count();
-    if class.number() >= classes.declared_count() || !kernel.is_a(object, class) {
+    if class.number() >= classes.declared_count() {
         return None;
     }
-    if usize::from(variable) < classes.declared(class).decl.variables.len() {
+    if usize::from(variable) < classes.declared(class).decl.variables.len()
+        && kernel.is_a(object, class)
+    {
         Some(kernel.data_place(object, kernel.data_token(class, variable)))
     } else {
         None
