@@ -8,6 +8,7 @@ use som_model::{ClassKey, Module, NoMemory, Text};
 use som_plain::named;
 use som_tables::{ClassNo, Steps};
 use std::alloc::Global;
+use std::marker::Brand;
 use std::sync::ledger::{Blank, Ledger};
 use std::test::Fail;
 
@@ -68,8 +69,8 @@ fn in_short(held: Held<'_>) -> Holds {
     }
 }
 
-/// The number of the class whose body a class has for the method that a name means in it, and what that class holds.
-pub fn answering<L: Ledger>(
+// The number of the class whose body a class has for the method that a name means in it, and what that class holds, with steps counted in a book.
+fn counted_answer<L: Ledger>(
     kernel: &Kernel<Linked>,
     class: ClassNo,
     name: &Text,
@@ -92,4 +93,12 @@ pub fn answering<L: Ledger>(
     } else {
         None
     }
+}
+
+/// The number of the class whose body a class has for the method that a name means in it, and what that class holds.
+pub fn answering(kernel: &Kernel<Linked>, class: ClassNo, name: &Text) -> Option<(u32, Holds)>
+    requires class { IsMadeIn kernel.now class }
+    requires numbered { IsNumbered kernel.now.classes class }
+{
+    counted_answer::<Brand>(kernel, class, name, Blank::new(1))
 }

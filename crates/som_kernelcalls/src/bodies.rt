@@ -4,8 +4,6 @@ use crate::fixtures::Case;
 use som_model::{Boxed, ClassKey, Module, Text};
 use som_plain::named;
 use std::alloc::Global;
-use std::marker::Brand;
-use std::sync::ledger::Blank;
 use std::test::Fail;
 
 // The number of the class whose body the library's class of a name has for f.
@@ -13,12 +11,10 @@ fn who_answers(alloc: Global, case: &Case, name: &[u8]) -> Result<Option<u32>, F
     let kernel = made_whole(alloc, case)?;
     let class = class_named(alloc, &kernel, name)?;
     let method = Text::from_slice(alloc, b"f")?;
-    Ok(
-        match answering::<Brand>(&kernel, class, &method, Blank::new(1)) {
-            Some((number, _)) => Some(number),
-            None => None,
-        },
-    )
+    Ok(match answering(&kernel, class, &method) {
+        Some((number, _)) => Some(number),
+        None => None,
+    })
 }
 
 #[test]
@@ -50,7 +46,7 @@ fn proxy_answers(alloc: Global, name: &[u8]) -> Result<Option<(u32, Holds)>, Fai
     let of = Boxed::new(alloc, dog)?;
     let class = class_of(&kernel, &ClassKey::Proxy { of })?;
     let method = Text::from_slice(alloc, name)?;
-    Ok(answering::<Brand>(&kernel, class, &method, Blank::new(1)))
+    Ok(answering(&kernel, class, &method))
 }
 
 #[test]

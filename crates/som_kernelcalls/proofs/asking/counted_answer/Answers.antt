@@ -3,7 +3,7 @@ use Rattle.som_model.specs.Ancestors.{Descends}
 use Rattle.som_model.specs.Classes.{hierarchy}
 use Rattle.som_meta.specs.Numbering.{key_at}
 use Rattle.som_classmgr.proofs.Asking.{below_told}
-use Rattle.som_kernelcalls.proofs.asking.answering.Goals as goal
+use Rattle.som_kernelcalls.proofs.asking.counted_answer.Goals as goal
 
 pub resolve-body-requires-clause-below : goal.resolve-body-requires-clause-below
 resolve-body-requires-clause-below g c =
