@@ -21,12 +21,17 @@ pub fn reach(alloc: Global, kernel: &mut Kernel<Linked>, number: u32) -> Result<
     }
 }
 
+fn reach_all(alloc: Global, kernel: &mut Kernel<Linked>) -> Result<(), NoMemory> {
+    for number in 0..kernel.classes().count() {
+        reach(alloc, kernel, number)?;
+    }
+    Ok(())
+}
+
 /// The kernel of a case, with all its classes made.
 pub fn made_whole(alloc: Global, case: &Case) -> Result<Kernel<Linked>, Fail> {
     let mut kernel = linked(alloc, case)?;
-    for number in 0..kernel.classes().count() {
-        reach(alloc, &mut kernel, number)?;
-    }
+    reach_all(alloc, &mut kernel)?;
     Ok(kernel)
 }
 

@@ -86,14 +86,26 @@ fn program_of(alloc: Global, image: &List<u8>) -> Result<ClientProgram, Fail>
     Ok(som_cliimage::decode(alloc, image)?)
 }
 
+// What linking the client that an image spells with a library answers.
+fn link_image(
+    alloc: Global,
+    library: &Release,
+    client: &List<u8>,
+) -> Result<Result<Kernel<Linked>, LinkFault>, Fail>
+    requires { ReleaseCounted library.now }
+{
+    let kernel = Kernel::new()?;
+    let client = program_of(alloc, client)?;
+    Ok(kernel.link(alloc, library, &client))
+}
+
 /// What linking the client of a case with its library answers.
 pub fn link_answer(alloc: Global, case: &Case) -> Result<Result<Kernel<Linked>, LinkFault>, Fail> {
     let mut store = store_after(alloc, case)?;
-    let image = bytes_of(alloc, &mut store, b"l.img")?;
-    let library = release_of(alloc, &image)?;
-    let image = bytes_of(alloc, &mut store, b"c.cli")?;
-    let client = program_of(alloc, &image)?;
-    Ok(Kernel::new()?.link(alloc, &library, &client))
+    let library = bytes_of(alloc, &mut store, b"l.img")?;
+    let client = bytes_of(alloc, &mut store, b"c.cli")?;
+    let library = release_of(alloc, &library)?;
+    link_image(alloc, &library, &client)
 }
 
 /// The kernel of a case.

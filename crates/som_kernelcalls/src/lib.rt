@@ -1,19 +1,19 @@
 //! Tests of a kernel that is linked with a library and a client, which texts spell. `README.md` says what they show.
 #![tactic(auto)]
 
-//#[cfg(test)]
+#[cfg(test)]
 mod asking;
-//#[cfg(test)]
+#[cfg(test)]
 mod bodies;
-//#[cfg(test)]
+#[cfg(test)]
 mod cases;
-//#[cfg(test)]
+#[cfg(test)]
 mod classes;
-//#[cfg(test)]
+#[cfg(test)]
 mod fixtures;
-//#[cfg(test)]
+#[cfg(test)]
 mod making;
-//#[cfg(test)]
+#[cfg(test)]
 mod refusals;
-//#[cfg(test)]
+#[cfg(test)]
 mod variables;

@@ -1,6 +1,7 @@
 use crate::cases::{NO_PET, OTHER_ORDER, OWN_PARENT};
 use crate::fixtures::{Case, link_answer};
 use som_classmgr::{Kernel, LinkFault, Linked};
+use std::alloc::Global;
 use std::test::Fail;
 
 // Whether the library doesn't keep what the client was compiled against, told so.
@@ -29,12 +30,22 @@ fn is_incompatible(
     }
 }
 
+fn doesnt_keep(
+    alloc: Global,
+    case: &Case,
+    rule: u8,
+    class: &[u8],
+    name: &[u8],
+    place: u32,
+) -> Result<bool, Fail> {
+    let answer = link_answer(alloc, case)?;
+    Ok(is_incompatible(&answer, rule, class, name, place))
+}
+
 #[test]
 fn a_library_keeps_what_a_client_knows(rt: HostRuntime) -> Result<(), Fail> {
-    let answer = link_answer(rt.alloc(), &NO_PET)?;
-    assert!(rt; is_incompatible(&answer, 1, b"Pet", b"-", 0));
-    let answer = link_answer(rt.alloc(), &OTHER_ORDER)?;
-    assert!(rt; is_incompatible(&answer, 4, b"Bell", b"ring", 0));
+    assert!(rt; doesnt_keep(rt.alloc(), &NO_PET, 1, b"Pet", b"-", 0)?);
+    assert!(rt; doesnt_keep(rt.alloc(), &OTHER_ORDER, 4, b"Bell", b"ring", 0)?);
     Ok(())
 }
 
@@ -55,13 +66,17 @@ fn breaks_rule(
     }
 }
 
-#[test]
-fn a_library_keeps_the_rules(rt: HostRuntime) -> Result<(), Fail> {
+fn own_parent_breaks(alloc: Global, rule: u8, class: &[u8]) -> Result<bool, Fail> {
     let case = Case {
         files: &OWN_PARENT,
         commands: &[],
     };
-    let answer = link_answer(rt.alloc(), &case)?;
-    assert!(rt; breaks_rule(&answer, 2, b"H"));
+    let answer = link_answer(alloc, &case)?;
+    Ok(breaks_rule(&answer, rule, class))
+}
+
+#[test]
+fn a_library_keeps_the_rules(rt: HostRuntime) -> Result<(), Fail> {
+    assert!(rt; own_parent_breaks(rt.alloc(), 2, b"H")?);
     Ok(())
 }
