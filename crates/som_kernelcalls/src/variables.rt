@@ -29,26 +29,35 @@ fn place(kernel: &Kernel<Linked>, object: ClassNo, class: ClassNo, variable: u8)
     }
 }
 
-// The places of the variables of Case and then Box in the objects of Case, and of Case's in those of Box.
-fn places_in(alloc: Global, kernel: &Kernel<Linked>) -> Result<[Option<u32>; 4], Fail> {
-    let above = class_named(alloc, kernel, b"Box")?;
-    let class = class_named(alloc, kernel, b"Case")?;
-    Ok([
-        place(kernel, class, class, 0),
-        place(kernel, class, above, 0),
-        place(kernel, class, above, 1),
-        place(kernel, above, class, 0),
-    ])
+// The place of a variable of a class of a name in the objects of another.
+fn place_in(
+    alloc: Global,
+    kernel: &Kernel<Linked>,
+    object: &[u8],
+    class: &[u8],
+    variable: u8,
+) -> Result<Option<u32>, Fail> {
+    let object = class_named(alloc, kernel, object)?;
+    let class = class_named(alloc, kernel, class)?;
+    Ok(place(kernel, object, class, variable))
 }
 
-fn places(alloc: Global) -> Result<[Option<u32>; 4], Fail> {
+fn place_of(alloc: Global, object: &[u8], class: &[u8], variable: u8) -> Result<Option<u32>, Fail> {
     let kernel = made_whole(alloc, &BOXES)?;
-    places_in(alloc, &kernel)
+    place_in(alloc, &kernel, object, class, variable)
 }
 
 #[test]
 fn each_variable_has_a_place_of_its_own(rt: HostRuntime) -> Result<(), Fail> {
-    assert_eq!(rt; places(rt.alloc())?, [Some(0), Some(1), Some(2), None]);
+    for (object, class, variable, wanted) in [
+        (b"Case".as_slice(), b"Case".as_slice(), 0, Some(0)),
+        (b"Case".as_slice(), b"Box".as_slice(), 0, Some(1)),
+        (b"Case".as_slice(), b"Box".as_slice(), 1, Some(2)),
+        (b"Box".as_slice(), b"Box".as_slice(), 1, Some(1)),
+        (b"Box".as_slice(), b"Case".as_slice(), 0, None),
+    ] {
+        assert_eq!(rt; place_of(rt.alloc(), object, class, variable)?, wanted);
+    }
     Ok(())
 }
 
