@@ -2,12 +2,13 @@ mod Arguments
 mod Casting
 mod Objects
 mod Dispatches
+mod Firsts
 mod Freeing
 mod Going
 mod Growing
 mod Naming
 mod Offset
-mod Parents
+mod Upwards
 mod Passing
 mod Pushing
 mod Untold

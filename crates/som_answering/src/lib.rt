@@ -6,6 +6,7 @@ mod classes;
 mod creating;
 mod dispatching;
 mod operands;
+mod parents;
 mod tested;
 mod values;
 
