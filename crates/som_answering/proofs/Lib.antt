@@ -1,5 +1,6 @@
 mod Arguments
 mod Casting
+mod Nexts
 mod Objects
 mod Dispatches
 mod Firsts
