@@ -12,4 +12,5 @@ mod Offset
 mod Upwards
 mod Passing
 mod Pushing
+mod Staying
 mod Untold
