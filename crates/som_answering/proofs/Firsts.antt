@@ -1,15 +1,15 @@
 -- The first parent that descends from the owner of a method.
-use Rattle.std.proofs.Common.{◌≡◌, ◌+◌, ◌<◌, ◌≤◌, ℕ, zero, suc, Bool, true, false, if◌then◌else◌, List, [], ◌∷◌, length, map, drop, Option, Some, None, slice_get, slice_index_or, refl, sym, ap, subst, ◌∙◌, arith}
+use Rattle.std.proofs.Common.{◌≡◌, ◌+◌, ◌<◌, ◌≤◌, ℕ, zero, suc, true, false, if◌then◌else◌, List, [], ◌∷◌, length, map, drop, Some, slice_get, slice_index_or, refl, sym, ap, ◌∙◌, arith}
 use Rattle.std.specs.List.{All}
 use Rattle.std.proofs.lemmas.List.{drop_all, length-map}
 use Rattle.som_model.specs.declared.key.ClassKey.{ClassKey}
 use Rattle.som_model.specs.declared.key.MethodRef.{MethodRef}
 use Rattle.som_model.specs.World.{World}
-use Rattle.som_model.specs.State.{Nil, Value}
+use Rattle.som_model.specs.State.{Value}
 use Rattle.som_model.specs.Calls.{Here}
-use Rattle.som_frames.specs.Frames.{Answering, ForParent, Waiting}
+use Rattle.som_frames.specs.Frames.{ForParent, Waiting}
 use Rattle.som_frames.specs.Passed.{passes_parent}
-use Rattle.som_frames.specs.Step.{Step, go, makes, next_parent}
+use Rattle.som_frames.specs.Step.{Step, makes, next_parent}
 use Rattle.som_values.specs.Shown.{IsNumbered, key_of}
 use Rattle.som_answering.specs.Parents.{AreCalls, IsFirst, IsNone, parents_from}
 
@@ -44,7 +44,7 @@ module _ (ks : List ClassKey) (w : World) (class owner from : ℕ) (ns : List �
   passed_over i d lt differs so levels here r args ks' e =
       so levels here r args ks' e ∙ ap (λ l. next_parent w levels here l r args ks') (after i d lt)
       ∙ ap (λ b. if b then passes_parent w (makes levels (ForParent levels here (drop (i + 1) ps) r args ∷ ks')) here (key_of ks (slice_index_or ns i d)) r args else next_parent w levels here (drop (i + 1) ps) r args ks')
-        (ap (w.is_a (key_of ks (slice_index_or ns i d))) e ∙ differs)
+      (ap (w.is_a (key_of ks (slice_index_or ns i d))) e ∙ differs)
 
   -- one that does is the first
   pub found_first : (i d : ℕ) → i < length ns → All (IsNumbered ks) ns → w.is_a (key_of ks (slice_index_or ns i d)) (key_of ks owner) ≡ true → AreCalls ks w class owner from (from_place i) → IsFirst ks w class owner from (i, slice_index_or ns i d)
@@ -54,7 +54,7 @@ module _ (ks : List ClassKey) (w : World) (class owner from : ℕ) (ns : List �
     calls = λ levels here r args ks' e.
         so levels here r args ks' e ∙ ap (λ l. next_parent w levels here l r args ks') (after i d lt)
         ∙ ap (λ b. if b then passes_parent w (makes levels (ForParent levels here (drop (i + 1) ps) r args ∷ ks')) here (key_of ks (slice_index_or ns i d)) r args else next_parent w levels here (drop (i + 1) ps) r args ks')
-          (ap (w.is_a (key_of ks (slice_index_or ns i d))) e ∙ descends);
+        (ap (w.is_a (key_of ks (slice_index_or ns i d))) e ∙ descends);
   }
 
   -- none is left

@@ -1,5 +1,5 @@
 -- The next parent whose body is called, and those that wait.
-use Rattle.std.proofs.Common.{◌≡◌, ◌⊎◌, inl, inr, ◌+◌, ℕ, zero, suc, Bool, true, List, [], ◌∷◌, ◌++◌, length, drop, Option, Some, None, Result, Ok, Err, slice_get, refl, sym, ap, subst, ◌∙◌, append-nil}
+use Rattle.std.proofs.Common.{◌≡◌, inl, inr, ◌+◌, ℕ, zero, suc, Bool, true, List, [], ◌∷◌, ◌++◌, drop, Option, Some, None, Ok, Err, refl, sym, ap, subst, ◌∙◌, append-nil}
 use Rattle.std.specs.List.{All}
 use Rattle.som_model.specs.declared.key.ClassKey.{ClassKey}
 use Rattle.som_model.specs.declared.key.MethodRef.{MethodRef}
@@ -9,20 +9,18 @@ use Rattle.som_model.specs.World.{World}
 use Rattle.som_model.specs.State.{Heap, Nil, State, Value}
 use Rattle.som_model.specs.Acts.{later_self}
 use Rattle.som_model.specs.Calls.{Here, Request, class_here}
-use Rattle.som_model.specs.Runs.{Goes}
 use Rattle.som_meta.specs.Numbering.{Numbering}
 use Rattle.som_hierarchy.proofs.Lists.{get_mem}
-use Rattle.som_code.specs.Machine.{On}
 use Rattle.som_codes.specs.Coded.{codes_of}
 use Rattle.som_frames.specs.Frames as frames
 use Rattle.som_frames.specs.Passed.{passes_parent}
-use Rattle.som_frames.specs.Step.{Step, frames as both, makes, next_parent}
+use Rattle.som_frames.specs.Step.{Step, makes, next_parent}
 use Rattle.som_used.specs.Needs.{AllIn, AllMade, PlaceIn, ValueIn}
 use Rattle.som_objects.specs.declared.cell.Cell.{Cell}
 use Rattle.som_objects.specs.declared.cell.Cell.TheVariants as cells
 use Rattle.som_objects.specs.Objects.{Objects}
 use Rattle.som_values.specs.declared.reference.Reference.{Reference}
-use Rattle.som_values.specs.Shown.{IsNumbered, all_shown, key_of}
+use Rattle.som_values.specs.Shown.{all_shown, key_of}
 use Rattle.som_telling.specs.declared.running.Place.{Place}
 use Rattle.som_telling.specs.declared.running.Place.TheVariants as places
 use Rattle.som_task.specs.declared.body.Body.{Body}
@@ -41,7 +39,6 @@ use Rattle.som_runtime.specs.Holding.{IsUsable, IsUsableMe}
 use Rattle.som_passing.specs.Named.{IsMadeClass, IsOnLive, IsUsableCall}
 use Rattle.som_moves.specs.declared.stop.Stop.{Stop}
 use Rattle.som_moves.specs.Scene.{Around, IsFineWaiting, Scene, scene, setting_of}
-use Rattle.som_moves.specs.Moving.{Moved}
 use Rattle.som_answering.specs.Calling.{PassesIn}
 use Rattle.som_answering.specs.Parents.{IsFirst, IsNone, Nexts}
 use Rattle.som_answering.proofs.Arguments.{values_in}
@@ -140,7 +137,7 @@ module _ (l : Linked) (kn : Numbering) (main : Block) (made : ClassKey → Bool)
             → fr.waiting.items ≡ t.frames.waiting.items ++ parent_waits ∷ [] → Nexts earlier later levels me at from code r args (Ok (nows.Calling levels call))
         first_goes call passed usable live items act ws s around usable_me placed here_in all has fuel does =
             let same : shown_waits (all_shown (shows set) again.operands.items) (method_named (instruction_at (codes_of t.codes) code instruction)) ≡ shown_waits (all_shown (shows set) args) r =
-                ap (λ vs. shown_waits (all_shown (shows set) vs) (method_named (instruction_at (codes_of t.codes) code instruction))) again_are ∙ ap (shown_waits (all_shown (shows set) args)) method_is in
+            ap (λ vs. shown_waits (all_shown (shows set) vs) (method_named (instruction_at (codes_of t.codes) code instruction))) again_are ∙ ap (shown_waits (all_shown (shows set) args)) method_is in
             let own = all_more (IsUsable l made t.serials os) (IsOwn (shows set) os) args (λ x u. u.own) all in
             let in_args = values_in l made t.serials os args all in
             passed_went later act s at tests levels (waiting ws) [] (first_does act ws s does) call (passed s.heap) fuel

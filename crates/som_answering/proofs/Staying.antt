@@ -1,26 +1,19 @@
 -- What stays where no object is touched, and a parent's body that has ended.
-use Rattle.std.proofs.Common.{◌≡◌, ◌≤◌, ℕ, Bool, true, List, [], ◌++◌, length, Option, Some, None, Result, refl, sym, ap, append-nil, arith}
+use Rattle.std.proofs.Common.{ℕ, Bool, [], Option, Result, refl, sym, append-nil, arith}
 use Rattle.som_model.specs.declared.key.ClassKey.{ClassKey}
-use Rattle.som_model.specs.declared.key.MethodRef.{MethodRef}
 use Rattle.som_model.specs.declared.syntax.Block.{Block}
-use Rattle.som_model.specs.State.{State}
 use Rattle.som_meta.specs.Numbering.{Numbering}
 use Rattle.som_codes.specs.Coded.{codes_of}
-use Rattle.som_frames.specs.Step.{next_parent}
-use Rattle.som_model.specs.Calls.{class_here}
-use Rattle.std.specs.Prelude.{drop}
 use Rattle.som_objects.specs.declared.cell.Cell.{Cell}
 use Rattle.som_objects.specs.Objects.{Objects}
 use Rattle.som_values.specs.declared.reference.Reference.{Reference}
-use Rattle.som_values.specs.Shown.{all_shown}
 use Rattle.som_telling.specs.declared.running.Place.{Place}
 use Rattle.som_task.specs.declared.body.Body.{Body}
 use Rattle.som_task.specs.declared.frames.Frames.{Frames}
 use Rattle.som_task.specs.declared.frames.Now.{Now}
 use Rattle.som_task.specs.declared.frames.Waiting.TheVariants as waits
 use Rattle.som_task.specs.declared.task.Task.{Task}
-use Rattle.som_task.specs.Settings.{Linked, instruction_at, method_named, shows}
-use Rattle.som_task.specs.Standing.{here_shown}
+use Rattle.som_task.specs.Settings.{Linked, instruction_at, method_named}
 use Rattle.som_moves.specs.declared.stop.Stop.{Stop}
 use Rattle.som_moves.specs.Scene.{Scene, scene, setting_of}
 use Rattle.som_moves.specs.Moving.{Keeps}

@@ -13,12 +13,7 @@ use som_tables::MToken;
 
 /// The token of the method that a call of all parents at this place of a code names; that of somInit where none stands
 /// there.
-pub(crate) fn method_named<R: Runtime>(
-    runtime: &R,
-    codes: &Codes,
-    code: usize,
-    at: usize,
-) -> MToken
+pub(crate) fn method_named<R: Runtime>(runtime: &R, codes: &Codes, code: usize, at: usize) -> MToken
     requires { AreCodes (R.known runtime.now) (R.program runtime.now) codes.now }
     ensures token { (R.linked runtime.now).is_token result ≡ true }
     ensures method { (R.linked runtime.now).world.owner (method_in (instruction_at (codes_of codes.now) code at)) ≡ (R.linked runtime.now).method result }

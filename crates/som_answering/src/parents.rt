@@ -45,7 +45,7 @@ pub fn next_call<R: Runtime>(
     ensures nexts { (os : Objects) (t : Task) (f : ℕ) (r : MethodRef) → t.frames ≡ frames.old → (R.linked runtime.now).world.owner r ≡ (R.linked runtime.now).method method
         → method_named (instruction_at (codes_of t.codes) code at) ≡ r
         → Nexts (scene (R.linked runtime.now) (R.known runtime.now) (R.program runtime.now) (R.made runtime.now) os t f) (scene (R.linked runtime.now) (R.known runtime.now) (R.program runtime.now) (R.made runtime.now) os (record t { frames = frames.new }) f)
-            levels me from parent code r args.items result }
+        levels me from parent code r args.items result }
 {
     runtime.know();
     let class = class_at(runtime, &from);

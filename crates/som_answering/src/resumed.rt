@@ -39,12 +39,36 @@ pub fn resume<R: Runtime, L: Ledger>(
     match waiting {
         Waiting::Call(body) => to_body(body, value),
         Waiting::Hook { left, answer } => Ok(Now::Invoking { left, answer }),
-        Waiting::Method(left) => Ok(Now::Invoking { left, answer: value }),
-        Waiting::Object { from, code, at } => to_object(runtime, task, objects, from, code, at, value),
+        Waiting::Method(left) => Ok(Now::Invoking {
+            left,
+            answer: value,
+        }),
+        Waiting::Object { from, code, at } => to_object(
+            runtime, task, objects, from, code, at, value,
+        ),
         Waiting::Init(object) => Ok(Now::Answering(Cell::Object(object))),
         Waiting::Uninit { from, object } => to_freed(objects, from, &object),
-        Waiting::Name { levels, from, code, at, on, args } => to_name(alloc, runtime, task, objects, levels, from, code, at, on, args, value, steps),
-        Waiting::Parent { levels, me, from, parent, code, at, args } => to_parent(alloc, runtime, task, levels, me, from, parent, code, at, args),
+        Waiting::Name {
+            levels,
+            from,
+            code,
+            at,
+            on,
+            args,
+        } => to_name(
+            alloc, runtime, task, objects, levels, from, code, at, on, args, value, steps,
+        ),
+        Waiting::Parent {
+            levels,
+            me,
+            from,
+            parent,
+            code,
+            at,
+            args,
+        } => to_parent(
+            alloc, runtime, task, levels, me, from, parent, code, at, args,
+        ),
     }
 }
 
@@ -67,5 +91,17 @@ fn to_parent<R: Runtime>(
     ensures same { task.new ≡ record task.old { frames = task.new.frames } }
 {
     let method = method_named(runtime, &task.codes, code, at);
-    next_call(alloc, runtime, &mut task.frames, levels, me, from, parent, code, at, method, args)
+    next_call(
+        alloc,
+        runtime,
+        &mut task.frames,
+        levels,
+        me,
+        from,
+        parent,
+        code,
+        at,
+        method,
+        args,
+    )
 }

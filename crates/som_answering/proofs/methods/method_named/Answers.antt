@@ -1,4 +1,4 @@
-use Rattle.std.proofs.Common.{◌≡◌, Some, sym, ap, ◌∙◌}
+use Rattle.std.proofs.Common.{Some, sym, ap, ◌∙◌}
 use Rattle.som_answering.proofs.Naming.{parents_entry}
 use Rattle.som_answering.proofs.methods.method_named.Goals as goal
 

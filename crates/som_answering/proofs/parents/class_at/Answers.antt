@@ -1,4 +1,4 @@
-use Rattle.std.proofs.Common.{◌≡◌, [], None, refl, sym, ap, ◌∙◌}
+use Rattle.std.proofs.Common.{[], None, sym, ap, ◌∙◌}
 use Rattle.som_model.specs.Calls.{class_here}
 use Rattle.som_passing.specs.Named.{setting}
 use Rattle.som_task.specs.Standing.{here_shown}

@@ -1,4 +1,4 @@
-use Rattle.std.proofs.Common.{◌≡◌, refl, sym, ap, subst, ◌∙◌, map, arith, true, false}
+use Rattle.std.proofs.Common.{refl, sym, ap, subst, ◌∙◌, map, arith}
 use Rattle.std.specs.List.{All}
 use Rattle.som_values.specs.Shown.{IsNumbered, key_of}
 use Rattle.som_answering.specs.Parents.{IsFirst}

@@ -1,8 +1,3 @@
-use Rattle.std.proofs.Common.{◌≡◌, ℕ, List}
-use Rattle.som_model.specs.declared.key.MethodRef.{MethodRef}
-use Rattle.som_model.specs.State.{Value}
-use Rattle.som_model.specs.Calls.{Here}
-use Rattle.som_frames.specs.Frames.{Waiting}
 use Rattle.som_frames.specs.Step.{next_parent}
 use Rattle.som_answering.specs.Parents.{AreCalls, parents_from}
 use Rattle.som_answering.proofs.parents.first_parent.Given as goal
