@@ -1,0 +1,12 @@
+mod Arguments
+mod Casting
+mod Objects
+mod Freeing
+mod Going
+mod Growing
+mod Naming
+mod Offset
+mod Parents
+mod Passing
+mod Pushing
+mod Untold

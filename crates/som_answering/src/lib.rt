@@ -1,0 +1,13 @@
+//! Values that come to what waits for them, and the instructions that call.
+#![tactic(auto)]
+
+mod calls;
+mod classes;
+mod creating;
+mod operands;
+mod tested;
+mod values;
+
+pub use calls::{named_call, offset_call, parent_call};
+pub use creating::new_call;
+pub use values::{to_body, to_freed, to_object};

@@ -1,0 +1,9 @@
+mod Standing
+mod Untold
+mod Asked
+mod Coded
+mod Growing
+mod Found
+mod Called
+mod Written
+mod Made

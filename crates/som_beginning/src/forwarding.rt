@@ -1,0 +1,45 @@
+ghost use Rattle.som_beginning.specs.Beginning.{Began, CanBegin};
+ghost use Rattle.som_beginning.specs.declared.begun.What.TheVariants as whats;
+ghost use Rattle.som_moves.specs.Scene.{scene};
+ghost use Rattle.som_task.specs.declared.task.Task.{Task};
+ghost use Rattle.std.specs.Prelude.{◌≡◌, ℕ};
+
+use crate::Begun;
+use crate::answering::{place_of, stop_at};
+use crate::calling::called;
+use som_instances::target;
+use som_moves::Stop;
+use som_objects::{Cell, ObjectStore};
+use som_passing::pass_offset;
+use som_runtime::Runtime;
+use som_task::Now;
+use som_telling::Manner;
+use som_values::Reference;
+use std::alloc::Global;
+
+/// A proxy's body: the same call on its target.
+pub(crate) fn begin_forwarding<R: Runtime>(
+    alloc: Global,
+    runtime: &R,
+    objects: &ObjectStore,
+    levels: u32,
+    begun: Begun,
+    me: Reference,
+    args: Vec<Cell>,
+) -> Result<Now, Stop>
+    requires what { begun.what ≡ whats.Forward }
+    requires can { CanBegin (R.linked runtime.now) (R.known runtime.now) (R.program runtime.now) (R.made runtime.now) objects.now begun me args.items }
+    ensures { (t : Task) (f : ℕ) → Began (scene (R.linked runtime.now) (R.known runtime.now) (R.program runtime.now) (R.made runtime.now) objects.now t f)
+        (scene (R.linked runtime.now) (R.known runtime.now) (R.program runtime.now) (R.made runtime.now) objects.now t f) begun levels me args.items result }
+{
+    runtime.know();
+    let method = begun.method;
+    let _signature = runtime.signature(method);
+    let on = match target(alloc, runtime, objects, me) {
+        Ok(on) => on,
+        Err(stopped) => return Err(stop_at(place_of(&begun), stopped)),
+    };
+    let at = place_of(&begun);
+    let call = pass_offset(runtime, objects, at, Manner::Forward, method, &on, args);
+    called(levels, place_of(&begun), call)
+}
