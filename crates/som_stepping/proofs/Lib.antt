@@ -1,0 +1,11 @@
+mod Untold
+mod Growing
+mod Knowing
+mod Entering
+mod Firsts
+mod Waits
+mod Pushing
+mod Stepped
+mod Coming
+mod Began
+mod Costing

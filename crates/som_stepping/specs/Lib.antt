@@ -1,0 +1,3 @@
+pub mod Stepping
+pub mod Chosen
+pub mod Taken

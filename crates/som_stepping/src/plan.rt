@@ -1,0 +1,11 @@
+use som_beginning::Begun;
+use som_passing::Role;
+use som_task::Stage;
+
+/// The body of a call that is invoked next: what begins, whose body it is, and from where on bodies are left after it.
+#[derive(Clone, Copy)]
+pub(crate) struct Plan {
+    pub begun: Begun,
+    pub role: Role,
+    pub rest: Stage,
+}
