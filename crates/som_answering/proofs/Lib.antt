@@ -1,6 +1,7 @@
 mod Arguments
 mod Casting
 mod Objects
+mod Dispatches
 mod Freeing
 mod Going
 mod Growing

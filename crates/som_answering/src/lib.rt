@@ -4,10 +4,12 @@
 mod calls;
 mod classes;
 mod creating;
+mod dispatching;
 mod operands;
 mod tested;
 mod values;
 
 pub use calls::{named_call, offset_call, parent_call};
 pub use creating::new_call;
+pub use dispatching::{dispatch_call, to_name};
 pub use values::{to_body, to_freed, to_object};

@@ -1,2 +1,3 @@
 pub mod Sparing
 pub mod AtFirst
+pub mod Ending

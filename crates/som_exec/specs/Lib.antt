@@ -1,2 +1,3 @@
 pub mod Beginning
 pub mod Stands
+pub mod Advance

@@ -1,10 +1,16 @@
 //! A task: it starts where main begins, goes on by units, and ends as main does.
 #![tactic(auto)]
 
+mod advanced;
+mod advances;
+mod advancing;
 mod laws;
 mod starting;
 mod task;
 
+pub use advanced::Advanced;
+pub use advances::Advances;
+pub use advancing::advance;
 pub use laws::standing_law;
 pub use starting::start;
 pub use task::Task;

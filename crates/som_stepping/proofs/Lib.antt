@@ -8,3 +8,4 @@ mod Pushing
 mod Stepped
 mod Coming
 mod Began
+mod Costing

@@ -1,13 +1,14 @@
+ghost use Rattle.som_code.specs.declared.instruction.Instruction.{Instruction};
 ghost use Rattle.som_io.specs.Outside.{Rose};
 ghost use Rattle.som_moves.specs.Scene.{scene};
 ghost use Rattle.som_moves.specs.declared.stop.Stop.TheVariants as stops;
-ghost use Rattle.som_stepping.specs.Chosen.{IsInvoking};
+ghost use Rattle.som_stepping.specs.Chosen.{IsInvoking, IsPlain};
 ghost use Rattle.som_stepping.specs.Stepping.{Invoked, IsStanding};
 ghost use Rattle.som_task.specs.declared.call.Left.{Left as Bodies};
 ghost use Rattle.som_task.specs.declared.frames.Now.TheVariants as nows;
 ghost use Rattle.som_objects.specs.declared.cell.Cell.{Cell as Value};
 ghost use Rattle.som_telling.specs.Filters.{shows_of};
-ghost use Rattle.std.specs.Prelude.{◌≡◌, ◌≢◌, ◌≤◌, ◌<◌, ◌+◌, ◌^◌, Err, length};
+ghost use Rattle.std.specs.Prelude.{◌≡◌, ◌≢◌, ◌≤◌, ◌<◌, ◌+◌, ◌^◌, Err, length, List, ℕ};
 
 use crate::planning::plan;
 use crate::taking::{take, take_answer};
@@ -46,6 +47,7 @@ pub fn invoke<R: Runtime, K: Sink, L: Ledger>(
         (scene (R.linked runtime.old) (R.known runtime.old) (R.program runtime.old) (R.made runtime.old) objects.old task.old fuel.old)
         (scene (R.linked runtime.new) (R.known runtime.new) (R.program runtime.new) (R.made runtime.new) objects.new task.new fuel.new) result }
     ensures spent { result ≡ Err stops.Spent → (runtime.new ≡ runtime.old) × (task.new ≡ task.old) × (objects.new ≡ objects.old) × (fuel.new ≡ fuel.old) × (K.written out.new ≡ K.written out.old) }
+    ensures steps { (left : Bodies) (cell : Value) (xs : List ℕ) (cs : List (List Instruction)) → task.old.frames.now ≡ nows.Invoking left cell → IsPlain (R.linked runtime.old) left xs cs → steps.new ≤ steps.old + 2 }
 
     ensures later { K.faults out.old ≤ K.faults out.new }
     ensures cause { result ≡ Err stops.SinkFailed → Rose (K.faults out.old) (K.faults out.new) }

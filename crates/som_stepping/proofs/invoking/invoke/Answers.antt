@@ -1,15 +1,21 @@
-use Rattle.std.proofs.Common.{inr, Ok, Err, sym, ap, subst, ◌∙◌}
+use Rattle.std.proofs.Common.{inr, Ok, Err, sym, ap, subst, ◌∙◌, ◌≡◌, ◌≤◌, ◌+◌, []}
 use Rattle.std.proofs.lemmas.Result.{err_from_is_err_and}
 use Rattle.som_telling.specs.Filters.{shows_of}
 use Rattle.som_moves.specs.Scene.{scene}
 use Rattle.som_passing.specs.Entered.{IsReady}
 use Rattle.som_passing.specs.Named.{HasOwner}
-use Rattle.som_stepping.specs.Chosen.{First, IsFirst, Planned, line_of, plan_first, self_of}
+use Rattle.som_stepping.specs.Chosen.{First, IsFirst, Planned, count_of, line_of, plan_first, self_of}
 use Rattle.som_stepping.specs.Taken.{args_of}
 use Rattle.som_beginning.specs.Beginning.{Began, Begins}
 use Rattle.som_stepping.specs.Stepping.{Invoked, Stands}
 use Rattle.som_stepping.proofs.Coming.{all_front, invoked_none, invoked_stopped, invoked_wanting, ready, self_had}
 use Rattle.som_stepping.proofs.Began.{begins_mid, invoked, then_waits}
+use Rattle.som_model.specs.Means.{hooks_of}
+use Rattle.som_task.specs.declared.call.Left.{Left}
+use Rattle.som_task.specs.Standing.{call_shown}
+use Rattle.som_passing.specs.Named.{setting}
+use Rattle.som_values.specs.Shown.{key_of}
+use Rattle.som_stepping.proofs.Costing.{looks_none}
 use Rattle.som_stepping.proofs.invoking.invoke.Goals as goal
 
 pub plan-requires-clause-ready : goal.plan-requires-clause-ready
@@ -153,3 +159,28 @@ returns-clause-invoked g c =
     (subst (λ me. Began mid new plan.begun c.in_ok-taken.taken.levels me (args_of l i.0 plan.role) c.begin.result) taken.me
     (subst (λ args. Began mid new plan.begun c.in_ok-taken.taken.levels c.in_ok-taken.taken.me args c.begin.result) taken.args
     (c.begin.ensures.began c.plan.new.fuel))))
+
+pub returns-in_err-planned-clause-steps : goal.returns-in_err-planned-clause-steps
+returns-in_err-planned-clause-steps g c left cell xs cs is plain =
+    c.plan.ensures.cost xs cs (subst (λ (y : Left). hooks_of (g.R.Runtime.linked c.args.runtime.now).world (key_of (g.R.Runtime.linked c.args.runtime.now).keys y.class) (call_shown (setting (g.R.Runtime.linked c.args.runtime.now) xs cs) y.call) ≡ []) (sym (c.left_of-left.ensures left cell is)) plain.hooks)
+
+pub returns-in_default-clause-steps : goal.returns-in_default-clause-steps
+returns-in_default-clause-steps g c left cell xs cs is plain =
+    c.plan.ensures.cost xs cs (subst (λ (y : Left). hooks_of (g.R.Runtime.linked c.args.runtime.now).world (key_of (g.R.Runtime.linked c.args.runtime.now).keys y.class) (call_shown (setting (g.R.Runtime.linked c.args.runtime.now) xs cs) y.call) ≡ []) (sym (c.left_of-left.ensures left cell is)) plain.hooks)
+
+pub returns-in_err-taken-clause-steps : goal.returns-in_err-taken-clause-steps
+returns-in_err-taken-clause-steps g c left cell xs cs is plain =
+    c.plan.ensures.cost xs cs (subst (λ (y : Left). hooks_of (g.R.Runtime.linked c.args.runtime.now).world (key_of (g.R.Runtime.linked c.args.runtime.now).keys y.class) (call_shown (setting (g.R.Runtime.linked c.args.runtime.now) xs cs) y.call) ≡ []) (sym (c.left_of-left.ensures left cell is)) plain.hooks)
+
+pub returns-clause-steps : goal.returns-clause-steps
+returns-clause-steps g c left cell xs cs is plain =
+    let l = g.R.Runtime.linked c.args.runtime.now in
+    let e = c.left_of-left.ensures left cell is in
+    let cost = c.plan.ensures.cost xs cs (subst (λ (y : Left). hooks_of l.world (key_of l.keys y.class) (call_shown (setting l xs cs) y.call) ≡ []) (sym e) plain.hooks) in
+    let shows = shows_of c.args.trace.now in
+    let prefix = c.args.prefix.now in
+    let before = g.K.Sink.written c.args.out.now in
+    let after = g.K.Sink.written c.plan.new.out in
+    let here = subst (λ y. Planned l c.args.objects.now y shows prefix before after c.args.task.now.codes c.plan.new.codes c.args.fuel.now c.plan.new.fuel (Ok c.in_ok-planned.planned)) e c.in_ok-planned.ensures.planned in
+    let planned = subst (λ x. Planned l c.args.objects.now left shows prefix before after c.args.task.now.codes c.plan.new.codes c.args.fuel.now c.plan.new.fuel (Ok x)) c.in-Some.is here in
+    subst (λ n. n ≤ c.args.steps.now + 2) (sym (c.begin.ensures.steps (looks_none l left xs cs plain c.plan.new.codes c.in-Some.plan planned.0 (count_of left c.in-Some.plan.role) planned.1 planned.5))) cost
