@@ -32,7 +32,7 @@ pub fn make_next<R: Runtime>(
     requires call { IsCall task.old.frames.now }
     ensures { (f : ℕ) → IsSomewhere (scene (R.linked runtime.now) (R.known runtime.now) (R.program runtime.now) (R.made runtime.now) objects.now task.old f)
         → CameSilent (scene (R.linked runtime.now) (R.known runtime.now) (R.program runtime.now) (R.made runtime.now) objects.now task.old f)
-            (scene (R.linked runtime.now) (R.known runtime.now) (R.program runtime.now) (R.made runtime.now) objects.now task.new f) result }
+        (scene (R.linked runtime.now) (R.known runtime.now) (R.program runtime.now) (R.made runtime.now) objects.now task.new f) result }
 {
     let (levels, call) = take_call(&mut task.frames);
     make_call(runtime, objects, levels, call)

@@ -82,9 +82,7 @@ fn obey_taken<R: Runtime, K: Sink>(
     ensures calm_answer { K.calm out.old → result ≢ Err stops.SinkFailed }
 {
     let body = take_body(&mut task.frames);
-    obey(
-        alloc, runtime, task, objects, host, prefix, fuel, out, body,
-    )
+    obey(alloc, runtime, task, objects, host, prefix, fuel, out, body)
 }
 
 // The body that runs.

@@ -1,4 +1,3 @@
-use Rattle.std.proofs.Common.{◌≡◌, ℕ}
 use Rattle.som_moves.specs.Scene.{scene}
 use Rattle.som_objects.specs.declared.cell.Cell.TheVariants as cells
 use Rattle.som_task.specs.declared.frames.Now.TheVariants as nows

@@ -1,4 +1,3 @@
-use Rattle.std.proofs.Common.{◌≡◌, refl, sym, ap, subst}
 use Rattle.som_moves.specs.Scene.{scene}
 use Rattle.som_machine.proofs.Obeying.{spent_came}
 use Rattle.som_machine.proofs.running.obey_next.Goals as goal

@@ -1,9 +1,7 @@
-use Rattle.std.proofs.Common.{◌≡◌, refl, sym, ap, subst}
-use Rattle.som_io.specs.Outside.{Rose}
 use Rattle.som_moves.specs.Scene.{scene}
 use Rattle.som_objects.specs.declared.cell.Cell.TheVariants as cells
 use Rattle.som_task.specs.declared.frames.Now.TheVariants as nows
-use Rattle.som_machine.proofs.Obeying.{taken_came, taken_running}
+use Rattle.som_machine.proofs.Obeying.{taken_came}
 use Rattle.som_machine.proofs.running.obey_taken.Goals as goal
 
 pub returns-clause-came : goal.returns-clause-came
