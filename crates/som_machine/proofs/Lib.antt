@@ -1,3 +1,4 @@
 pub mod Putting
+pub mod Faulting
 pub mod Obeying
 pub mod Entering

@@ -1,6 +1,6 @@
 ghost use Rattle.som_io.specs.Outside.{Rose};
 ghost use Rattle.som_looping.specs.Standing.{IsSomewhere};
-ghost use Rattle.som_machine.specs.Came.{Came, IsBody, IsWithoutCall, with_next};
+ghost use Rattle.som_machine.specs.Came.{Came, IsBody, IsWithoutCall, with_next, in_place};
 ghost use Rattle.som_model.specs.Runs.{Ends, Spent};
 ghost use Rattle.som_model.specs.State.{State};
 ghost use Rattle.som_frames.specs.Frames.{Waiting};
@@ -20,6 +20,7 @@ use som_obeying::{is_spent, obey};
 use som_objects::{Cell, ObjectStore};
 use som_runtime::Runtime;
 use som_task::{Body, Frames, Now, Task};
+use som_telling::Place;
 use std::alloc::Global;
 use std::mem;
 
@@ -82,7 +83,22 @@ fn obey_taken<R: Runtime, K: Sink>(
     ensures calm_answer { K.calm out.old → result ≢ Err stops.SinkFailed }
 {
     let body = take_body(&mut task.frames);
-    obey(alloc, runtime, task, objects, host, prefix, fuel, out, body)
+    let place = body.place;
+    let answer = obey(alloc, runtime, task, objects, host, prefix, fuel, out, body);
+    placed(answer, place)
+}
+
+// The same, with a fault in this place.
+fn placed(answer: Result<Now, Stop>, place: Place) -> Result<Now, Stop>
+    ensures { result ≡ in_place place answer }
+{
+    match answer {
+        Err(Stop::Fault { fault, .. }) => Err(Stop::Fault { fault, at: place }),
+        Ok(now) => Ok(now),
+        Err(Stop::Spent) => Err(Stop::Spent),
+        Err(Stop::SinkFailed) => Err(Stop::SinkFailed),
+        Err(Stop::NoMemory) => Err(Stop::NoMemory),
+    }
 }
 
 // The body that runs.
