@@ -1,0 +1,8 @@
+//! One step of a task over a kernel, a store and a sink.
+#![tactic(auto)]
+
+mod invoking;
+mod running;
+
+pub use invoking::{invoke_next, make_next};
+pub use running::obey_next;
