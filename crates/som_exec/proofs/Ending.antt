@@ -110,6 +110,13 @@ module _ (old : Scene) (units : ℕ) (st : Stands old) where
     made_same : (es : List Event) → Adds es → Makes old.known.classes old.made new.made es → Makes old.known.classes old.made new.made (events_now old units)
     made_same es a m = subst (λ z. Makes old.known.classes old.made new.made z) (sym a) m
 
+    -- what was told before comes first
+    told_first : (r : Result Bool Stop) → RanOn shows prefix before after mid new r → (end_of (goal old units)).events ≡ told_so_far old ++ events_now old units
+    told_first r ran =
+        let b = ran.begins (meaning old) n st.frames s stands_mid in
+        let e : (end_of (goal old units)).events ≡ st.state.events ++ (ran.events ++ b.0) = b.1 ∙ append_assoc st.state.events ran.events b.0 in
+        e ∙ ap (λ z. z ++ (ran.events ++ b.0)) st.events ∙ ap (λ z. told_so_far old ++ z) (sym (adds (ran.events ++ b.0) e))
+
     -- ---- main is over
 
     pub done_comes : RanOn shows prefix before after mid new (Ok false) → Comes old units shows prefix before after new answers.Done
@@ -118,6 +125,7 @@ module _ (old : Scene) (units : ℕ) (st : Stands old) where
         let added = adds ran.events (end_same (Goes (tt {0}) a.then) a.is ∙ a.events) in
         let text = whole ran.events added (Goes (tt {0}) a.then) a.is refl ran.outside.tells in
         record {
+          events = told_first (Ok false) ran;
           ended = (a.then, a.is);
           text = text;
           front = front_all before after _ text;
@@ -158,6 +166,7 @@ module _ (old : Scene) (units : ℕ) (st : Stands old) where
           let added = adds ran.events (end_same (Ends Spent w.then) w.is ∙ w.events) in
           let text = whole ran.events added (Ends Spent w.then) w.is refl ran.outside.tells in
           record {
+            events = told_first (Err stops.Spent) ran;
             ended = (w.then, w.is);
             text = text;
             front = front_all before after _ text;
@@ -190,10 +199,10 @@ module _ (old : Scene) (units : ℕ) (st : Stands old) where
           (front_longer before after (text_of prefix (events_lines shows ran.events)) (text_of prefix (events_lines shows b.0)) ran.outside.front))
 
       pub sunk_comes : Comes old units shows prefix before after new answers.SinkFailed
-      sunk_comes = record { ended = tt; text = tt; front = front_told; stands = tt; objects = tt; makes = tt; keeps_made = ran.outside.keeps_made; keeps = ran.outside.keeps }
+      sunk_comes = record { events = told_first r ran; ended = tt; text = tt; front = front_told; stands = tt; objects = tt; makes = tt; keeps_made = ran.outside.keeps_made; keeps = ran.outside.keeps }
 
       pub starved_comes : Comes old units shows prefix before after new answers.NoMemory
-      starved_comes = record { ended = tt; text = tt; front = front_told; stands = tt; objects = tt; makes = tt; keeps_made = ran.outside.keeps_made; keeps = ran.outside.keeps }
+      starved_comes = record { events = told_first r ran; ended = tt; text = tt; front = front_told; stands = tt; objects = tt; makes = tt; keeps_made = ran.outside.keeps_made; keeps = ran.outside.keeps }
 
   -- ---- main has a fault
 
@@ -227,6 +236,7 @@ module _ (old : Scene) (units : ℕ) (st : Stands old) where
     fault_comes (answers.SourceFault r running) e =
         let text = subst (ShowsAll before after) (sym text_now) (shown_both before told after (text_of prefix (events_lines shows ran.events)) last ran.outside.tells e.2) in
         record {
+          events = told_first shows prefix before told new (Err (stops.Fault f at)) ran;
           ended = (place_shown (setting_of new) at, x.then, named r e.0, e.1);
           text = text;
           front = front_all before after _ text;
@@ -238,5 +248,5 @@ module _ (old : Scene) (units : ℕ) (st : Stands old) where
         }
     fault_comes answers.Going e = absurd e
     fault_comes answers.Done e = absurd e
-    fault_comes answers.SinkFailed e = record { ended = tt; text = tt; front = front_then e; stands = tt; objects = tt; makes = tt; keeps_made = ran.outside.keeps_made; keeps = ran.outside.keeps }
-    fault_comes answers.NoMemory e = record { ended = tt; text = tt; front = front_then e; stands = tt; objects = tt; makes = tt; keeps_made = ran.outside.keeps_made; keeps = ran.outside.keeps }
+    fault_comes answers.SinkFailed e = record { events = told_first shows prefix before told new (Err (stops.Fault f at)) ran; ended = tt; text = tt; front = front_then e; stands = tt; objects = tt; makes = tt; keeps_made = ran.outside.keeps_made; keeps = ran.outside.keeps }
+    fault_comes answers.NoMemory e = record { events = told_first shows prefix before told new (Err (stops.Fault f at)) ran; ended = tt; text = tt; front = front_then e; stands = tt; objects = tt; makes = tt; keeps_made = ran.outside.keeps_made; keeps = ran.outside.keeps }

@@ -58,8 +58,9 @@ module _ (old : Scene) (units : ℕ) where
   Ended answers.SinkFailed = Unit {0}
   Ended answers.NoMemory = Unit {0}
 
-  -- an advance by these units: it answers the meaning's end, tells its lines that weren't told before, and a front of them where memory was wanting or the sink failed; the task stands again where it can be gone on with; it has made as many objects as the meaning; the classes that were used are made; and of all else it keeps what it keeps in every move
+  -- an advance by these units: what was told before comes first of the meaning's events; it answers the meaning's end, tells its lines that weren't told before, and a front of them where memory was wanting or the sink failed; the task stands again where it can be gone on with; it has made as many objects as the meaning; the classes that were used are made; and of all else it keeps what it keeps in every move
   pub record Comes (shows : List ℕ → Bool) (prefix : List ℕ) (before after : Option (List ℕ)) (new : Scene) (answer : Advanced) : Type 0 where
+    pub events : (end_of goal).events ≡ told_so_far old ++ events_now
     pub ended : Ended answer
     pub text : IfEnded answer (ShowsAll before after (added_text shows prefix))
     pub front : ShowsFront before after (added_text shows prefix)

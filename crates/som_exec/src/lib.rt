@@ -5,6 +5,8 @@ mod advanced;
 mod advances;
 mod advancing;
 mod laws;
+mod outcome;
+mod running;
 mod starting;
 mod task;
 
@@ -12,5 +14,7 @@ pub use advanced::Advanced;
 pub use advances::Advances;
 pub use advancing::advance;
 pub use laws::standing_law;
+pub use outcome::Outcome;
+pub use running::run;
 pub use starting::start;
 pub use task::Task;

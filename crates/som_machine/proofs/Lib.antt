@@ -2,3 +2,4 @@ pub mod Putting
 pub mod Faulting
 pub mod Obeying
 pub mod Entering
+pub mod Stepping
