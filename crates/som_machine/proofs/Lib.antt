@@ -1,0 +1,5 @@
+pub mod Putting
+pub mod Faulting
+pub mod Obeying
+pub mod Entering
+pub mod Stepping
