@@ -1,4 +1,5 @@
 mod Arguments
+mod Beginning
 mod Casting
 mod Nexts
 mod Objects
