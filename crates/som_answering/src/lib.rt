@@ -12,7 +12,6 @@ mod resumed;
 mod tested;
 mod values;
 
-
 pub use calls::{named_call, offset_call, parent_call};
 pub use creating::new_call;
 pub use dispatching::{dispatch_call, to_name};

@@ -87,7 +87,9 @@ pub fn parents_call<R: Runtime>(
     let me = self_of(&body);
     let from = place_of(&body);
     wait(frames, Waiting::Call(body))?;
-    next_call(alloc, runtime, frames, levels, me, from, 0, code, at, method, args)
+    next_call(
+        alloc, runtime, frames, levels, me, from, 0, code, at, method, args,
+    )
 }
 
 // Where a body runs.
