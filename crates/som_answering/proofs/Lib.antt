@@ -1,13 +1,16 @@
 mod Arguments
 mod Casting
+mod Nexts
 mod Objects
 mod Dispatches
+mod Firsts
 mod Freeing
 mod Going
 mod Growing
 mod Naming
 mod Offset
-mod Parents
+mod Upwards
 mod Passing
 mod Pushing
+mod Staying
 mod Untold

@@ -1,4 +1,5 @@
-ghost use Rattle.som_answering.specs.Calling.{ComesTo, next_of};
+ghost use Rattle.som_answering.specs.Calling.{ComesTo};
+ghost use Rattle.som_obeying.specs.Obeying.{next_of};
 ghost use Rattle.som_code.specs.declared.instruction.Instruction.TheVariants as ops;
 ghost use Rattle.som_model.specs.Made.{ComesOf};
 ghost use Rattle.som_model.specs.State.{Used};

@@ -5,11 +5,16 @@ mod calls;
 mod classes;
 mod creating;
 mod dispatching;
+mod methods;
 mod operands;
+mod parents;
+mod resumed;
 mod tested;
 mod values;
 
 pub use calls::{named_call, offset_call, parent_call};
 pub use creating::new_call;
 pub use dispatching::{dispatch_call, to_name};
+pub use parents::next_call;
+pub use resumed::resume;
 pub use values::{to_body, to_freed, to_object};
