@@ -3,3 +3,4 @@ pub mod Faulting
 pub mod Obeying
 pub mod Entering
 pub mod Stepping
+pub mod Returning

@@ -3,8 +3,10 @@
 
 mod back;
 mod invoking;
+mod resuming;
 mod running;
 
 pub use back::put_back;
 pub use invoking::{invoke_next, make_next};
+pub use resuming::resume_next;
 pub use running::obey_next;
