@@ -13,7 +13,7 @@ use Rattle.som_frames.specs.Step.{Step, makes, next_parent}
 use Rattle.som_values.specs.Shown.{IsNumbered, key_of}
 use Rattle.som_answering.specs.Parents.{AreCalls, IsFirst, IsNone, parents_from}
 
-get_map : {A B : Type 0} (f : A → B) (xs : List A) (i : ℕ) (d : A) → i < length xs → slice_get (map f xs) i ≡ Some (f (slice_index_or xs i d))
+pub get_map : {A B : Type 0} (f : A → B) (xs : List A) (i : ℕ) (d : A) → i < length xs → slice_get (map f xs) i ≡ Some (f (slice_index_or xs i d))
 get_map f [] i d lt = absurd (let x : ⊥ = omega (arith, lt) in x)
 get_map f (x ∷ xs) zero d lt = refl
 get_map f (x ∷ xs) (suc i) d lt = get_map f xs i d (omega (arith, lt))

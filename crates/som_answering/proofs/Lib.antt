@@ -1,4 +1,5 @@
 mod Arguments
+mod Beginning
 mod Casting
 mod Nexts
 mod Objects
@@ -14,3 +15,4 @@ mod Passing
 mod Pushing
 mod Staying
 mod Untold
+mod Whole

@@ -59,7 +59,7 @@ made_from made (suc n) [] m = m
 made_from made (suc n) (p ∷ ps) m = made_from made n ps m.1
 
 -- the class that runs is made
-here_made : (w : World) (made : ClassKey → Bool) → IsClosed w made → (s : Setting) (me : Option Reference) (at : Place) → PlaceIn made (place_shown s at) → made (class_here (here_shown s me at)) ≡ true
+pub here_made : (w : World) (made : ClassKey → Bool) → IsClosed w made → (s : Setting) (me : Option Reference) (at : Place) → PlaceIn made (place_shown s at) → made (class_here (here_shown s me at)) ≡ true
 here_made w made closed s me places.Main p = closed.object
 here_made w made closed s me (places.Body class method) p = p
 
