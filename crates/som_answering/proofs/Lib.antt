@@ -15,3 +15,4 @@ mod Passing
 mod Pushing
 mod Staying
 mod Untold
+mod Whole

@@ -1,6 +1,7 @@
 //! Values that come to what waits for them, and the instructions that call.
 #![tactic(auto)]
 
+mod called;
 mod calls;
 mod classes;
 mod creating;
@@ -12,6 +13,7 @@ mod resumed;
 mod tested;
 mod values;
 
+pub use called::call_by;
 pub use calls::{named_call, offset_call, parent_call};
 pub use creating::new_call;
 pub use dispatching::{dispatch_call, to_name};

@@ -4,3 +4,4 @@ pub mod Obeying
 pub mod Entering
 pub mod Stepping
 pub mod Returning
+pub mod Waking

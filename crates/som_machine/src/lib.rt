@@ -3,6 +3,7 @@
 
 mod back;
 mod invoking;
+mod placing;
 mod resuming;
 mod running;
 

@@ -1,52 +1,61 @@
-ghost use Rattle.som_answering.specs.Answering.{Resumes};
 ghost use Rattle.som_looping.specs.Standing.{IsSomewhere};
-ghost use Rattle.som_machine.specs.Came.{CameSilent, GoesOn, IsResuming, IsValue};
-ghost use Rattle.som_meta.specs.Numbering.{Numbering};
-ghost use Rattle.som_model.specs.declared.key.ClassKey.{ClassKey};
-ghost use Rattle.som_model.specs.declared.syntax.Block.{Block};
-ghost use Rattle.som_moves.specs.Scene.{Scene, scene};
-ghost use Rattle.som_objects.specs.Objects.{Objects};
+ghost use Rattle.som_machine.specs.Came.{CameSilent, IsResuming, IsValue, place_in};
+ghost use Rattle.som_moves.specs.Scene.{scene};
 ghost use Rattle.som_objects.specs.declared.cell.Cell.TheVariants as cells;
-ghost use Rattle.som_task.specs.Settings.{Linked};
 ghost use Rattle.som_task.specs.declared.frames.Now.TheVariants as nows;
-ghost use Rattle.std.specs.Prelude.{◌≡◌, ℕ, Bool};
+ghost use Rattle.std.specs.Prelude.{◌≡◌, ℕ};
 
-use som_answering::to_body;
+use crate::placing::placed;
+use som_answering::resume;
 use som_moves::Stop;
-use som_objects::Cell;
+use som_objects::{Cell, ObjectStore};
+use som_runtime::Runtime;
+use som_tables::Steps;
 use som_task::{Now, Task, Waiting};
+use som_telling::Place;
+use std::alloc::Global;
 use std::mem;
+use std::sync::ledger::Ledger;
 
-/// A value is answered to what waits last, which goes on with it at once. What is next then is answered.
-pub fn resume_next(task: &mut Task) -> Result<Now, Stop>
-    requires { IsResuming task.old.frames }
-    ensures { (l : Linked) (kn : Numbering) (main : Block) (made : ClassKey → Bool) (os : Objects) (f : ℕ) → IsSomewhere (scene l kn main made os task.old f)
-        → CameSilent (scene l kn main made os task.old f) (scene l kn main made os task.new f) result }
+/// A value is answered to what waits last. What is next then is answered.
+pub fn resume_next<R: Runtime, L: Ledger>(
+    alloc: Global,
+    runtime: &R,
+    task: &mut Task,
+    objects: &mut ObjectStore,
+    steps: &mut Steps<L>,
+) -> Result<Now, Stop>
+    requires resuming { IsResuming task.old.frames }
+    requires somewhere { (f : ℕ) × IsSomewhere (scene (R.linked runtime.now) (R.known runtime.now) (R.program runtime.now) (R.made runtime.now) objects.old task.old f) }
+    ensures { (f : ℕ) → IsSomewhere (scene (R.linked runtime.now) (R.known runtime.now) (R.program runtime.now) (R.made runtime.now) objects.old task.old f)
+        → CameSilent (scene (R.linked runtime.now) (R.known runtime.now) (R.program runtime.now) (R.made runtime.now) objects.old task.old f)
+        (scene (R.linked runtime.now) (R.known runtime.now) (R.program runtime.now) (R.made runtime.now) objects.new task.new f) result }
 {
     let value = take_value(&mut task.frames.now);
     match task.frames.waiting.pop() {
-        Some(first) => resume(first, value),
+        Some(first) => {
+            let place = place_of(&first);
+            placed(
+                resume(alloc, runtime, task, objects, first, value, steps),
+                place,
+            )
+        },
         None => unreachable!(),
     }
 }
 
-// What waits goes on with a value.
-fn resume(first: Waiting, value: Cell) -> Result<Now, Stop>
-    requires { GoesOn first }
-    ensures { (c : Scene) → Resumes c c first value result }
+// The place that what waits names for its faults, if it has any.
+fn place_of(waiting: &Waiting) -> Place
+    ensures { result ≡ place_in waiting.now }
 {
-    match first {
-        Waiting::Call(body) => to_body(body, value),
-        Waiting::Hook { left, answer } => Ok(Now::Invoking { left, answer }),
-        Waiting::Method(left) => Ok(Now::Invoking {
-            left,
-            answer: value,
-        }),
-        Waiting::Init(object) => Ok(Now::Answering(Cell::Object(object))),
-        Waiting::Object { .. }
-        | Waiting::Uninit { .. }
-        | Waiting::Name { .. }
-        | Waiting::Parent { .. } => unreachable!(),
+    match waiting {
+        Waiting::Object { from, .. } => *from,
+        Waiting::Uninit { from, .. } => *from,
+        Waiting::Name { from, .. } => *from,
+        Waiting::Parent { from, .. } => *from,
+        Waiting::Call(_) | Waiting::Hook { .. } | Waiting::Method(_) | Waiting::Init(_) => {
+            Place::Main
+        },
     }
 }
 

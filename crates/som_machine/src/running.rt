@@ -1,6 +1,6 @@
 ghost use Rattle.som_io.specs.Outside.{Rose};
 ghost use Rattle.som_looping.specs.Standing.{IsSomewhere};
-ghost use Rattle.som_machine.specs.Came.{Came, IsBody, IsWithoutCall, with_next, in_place};
+ghost use Rattle.som_machine.specs.Came.{Came, IsBody, IsWithoutCall, with_next};
 ghost use Rattle.som_model.specs.Runs.{Ends, Spent};
 ghost use Rattle.som_model.specs.State.{State};
 ghost use Rattle.som_frames.specs.Frames.{Waiting};
@@ -12,6 +12,7 @@ ghost use Rattle.som_task.specs.declared.body.Body.{Body as Runner};
 ghost use Rattle.som_task.specs.declared.frames.Now.TheVariants as nows;
 ghost use Rattle.std.specs.Prelude.{◌≡◌, ◌≢◌, ◌≤◌, ℕ, Bool, List, Err};
 
+use crate::placing::placed;
 use som_host::HostTable;
 use som_io::Sink;
 use som_model::Text;
@@ -20,7 +21,6 @@ use som_obeying::{is_spent, obey};
 use som_objects::{Cell, ObjectStore};
 use som_runtime::Runtime;
 use som_task::{Body, Frames, Now, Task};
-use som_telling::Place;
 use std::alloc::Global;
 use std::mem;
 
@@ -86,19 +86,6 @@ fn obey_taken<R: Runtime, K: Sink>(
     let place = body.place;
     let answer = obey(alloc, runtime, task, objects, host, prefix, fuel, out, body);
     placed(answer, place)
-}
-
-// The same, with a fault in this place.
-fn placed(answer: Result<Now, Stop>, place: Place) -> Result<Now, Stop>
-    ensures { result ≡ in_place place answer }
-{
-    match answer {
-        Err(Stop::Fault { fault, .. }) => Err(Stop::Fault { fault, at: place }),
-        Ok(now) => Ok(now),
-        Err(Stop::Spent) => Err(Stop::Spent),
-        Err(Stop::SinkFailed) => Err(Stop::SinkFailed),
-        Err(Stop::NoMemory) => Err(Stop::NoMemory),
-    }
 }
 
 // The body that runs.
