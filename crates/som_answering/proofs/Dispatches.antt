@@ -41,7 +41,8 @@ use Rattle.som_moves.specs.declared.stop.Stop.{Stop}
 use Rattle.som_moves.specs.Scene.{IsFineWaiting, Scene, scene, setting_of}
 use Rattle.som_instructions.specs.Cells.{lower_cells, top_cell, values_of}
 use Rattle.som_answering.specs.Answering.{Meets, Resumes, answer_to}
-use Rattle.som_answering.specs.Calling.{ComesTo, PassesIn, Runs, act_of, next_of}
+use Rattle.som_answering.specs.Calling.{ComesTo, PassesIn}
+use Rattle.som_obeying.specs.Obeying.{Runs, act_of, next_of}
 use Rattle.som_answering.proofs.Arguments.{all_lower, all_top, arguments_shown, below_shown, nil_usable, receiver_shown, usable, values_in}
 use Rattle.som_answering.proofs.Growing.{none, put}
 use Rattle.som_answering.proofs.Offset.{kept, taken}

@@ -2,12 +2,13 @@
 use Rattle.std.proofs.Common.{◌≡◌, ◌<◌, ℕ, zero, suc, Bool, List, [], ◌∷◌, length, slice_get, Some, ap, arith}
 use Rattle.std.proofs.lemmas.Option.{none-some}
 use Rattle.som_model.specs.declared.key.ClassKey.{ClassKey}
+use Rattle.som_model.specs.declared.key.MethodRef.{MethodRef}
 use Rattle.som_model.specs.declared.syntax.Block.{Block}
 use Rattle.som_model.specs.Kernel.{som_object}
 use Rattle.som_model.specs.World.{World}
 use Rattle.som_code.specs.declared.instruction.Instruction.{Instruction}
 use Rattle.som_code.specs.declared.instruction.Instruction.TheVariants as ops
-use Rattle.som_coded.specs.Naming.{IsNaming}
+use Rattle.som_coded.specs.Naming.{HasEntry, IsNaming}
 use Rattle.som_codes.specs.Coded.{AreCodes, Coded, codes_of}
 use Rattle.som_meta.specs.Numbering.{Numbering}
 use Rattle.som_values.specs.Shown.{IsKey, IsNumbered, key_of}
@@ -44,3 +45,13 @@ module _ (ks : List ClassKey) (w : World) (k : Numbering) (l : Linked) (main : B
     -- the class that a `new` names has a number
     pub new_key : (key : ClassKey) → instruction_at (codes_of cs) n at ≡ Some (ops.New key) → IsKey ks key
     new_key key e = class_numbered ks k main made have key (naming_at (ops.New key) e)
+
+    -- the method that a call of all parents names has an entry
+    pub parents_entry : (method : MethodRef) (count : ℕ) → instruction_at (codes_of cs) n at ≡ Some (ops.ParentsCall method count) → HasEntry k.classes method
+    parents_entry method count e = naming_at (ops.ParentsCall method count) e
+
+    pub offset_entry : (method : MethodRef) (count : ℕ) → instruction_at (codes_of cs) n at ≡ Some (ops.OffsetCall method count) → HasEntry k.classes method
+    offset_entry method count e = naming_at (ops.OffsetCall method count) e
+
+    pub parent_entry : (p : ℕ) (method : MethodRef) (count : ℕ) → instruction_at (codes_of cs) n at ≡ Some (ops.ParentCall p method count) → HasEntry k.classes method
+    parent_entry p method count e = naming_at (ops.ParentCall p method count) e

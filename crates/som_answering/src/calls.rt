@@ -1,4 +1,5 @@
-ghost use Rattle.som_answering.specs.Calling.{ComesTo, HasPushed, next_of};
+ghost use Rattle.som_answering.specs.Calling.{ComesTo, HasPushed};
+ghost use Rattle.som_obeying.specs.Obeying.{next_of};
 ghost use Rattle.som_code.specs.declared.instruction.Instruction.TheVariants as ops;
 ghost use Rattle.som_model.specs.declared.key.MethodRef.{MethodRef};
 ghost use Rattle.som_meta.specs.Numbering.{Numbering};

@@ -1,4 +1,5 @@
-ghost use Rattle.som_answering.specs.Calling.{ComesTo, next_of};
+ghost use Rattle.som_answering.specs.Calling.{ComesTo};
+ghost use Rattle.som_obeying.specs.Obeying.{IfTold, next_of};
 ghost use Rattle.som_code.specs.declared.instruction.Instruction.TheVariants as ops;
 ghost use Rattle.som_model.specs.Made.{ComesOf};
 ghost use Rattle.som_model.specs.State.{Used};
@@ -40,6 +41,7 @@ pub fn new_call<R: Runtime>(
     ensures known { R.known runtime.new ≡ R.known runtime.old }
     ensures program { R.program runtime.new ≡ R.program runtime.old }
     ensures keeps { (k : ClassKey) → R.made runtime.old k ≡ true → R.made runtime.new k ≡ true }
+    ensures made { IfTold result (R.made runtime.new (key_of (R.keys runtime.old) class) ≡ true) }
     ensures only { (k : ClassKey) → R.made runtime.new k ≡ true → (R.made runtime.old k ≡ true) ⊎ ComesOf (R.known runtime.old).classes (key_of (R.keys runtime.old) class ∷ []) k }
     ensures comes { (t : Task) (f : ℕ) → t.frames ≡ frames.old
         → next_of (scene (R.linked runtime.old) (R.known runtime.old) (R.program runtime.old) (R.made runtime.old) objects.now t f) body ≡ Some (ops.New (key_of (R.keys runtime.old) class))

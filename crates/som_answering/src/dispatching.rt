@@ -1,5 +1,6 @@
 ghost use Rattle.som_answering.specs.Answering.{IsMet, Resumes};
-ghost use Rattle.som_answering.specs.Calling.{ComesTo, PassesIn, next_of};
+ghost use Rattle.som_answering.specs.Calling.{ComesTo, PassesIn};
+ghost use Rattle.som_obeying.specs.Obeying.{next_of};
 ghost use Rattle.som_code.specs.declared.instruction.Instruction.{Instruction};
 ghost use Rattle.som_code.specs.declared.instruction.Instruction.TheVariants as ops;
 ghost use Rattle.som_codes.specs.Coded.{codes_of};

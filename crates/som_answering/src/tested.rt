@@ -1,4 +1,5 @@
-ghost use Rattle.som_answering.specs.Calling.{PassesIn, stop_at};
+ghost use Rattle.som_answering.specs.Calling.{PassesIn};
+ghost use Rattle.som_obeying.specs.Obeying.{stop_at};
 ghost use Rattle.som_code.specs.declared.instruction.Instruction.{Instruction};
 ghost use Rattle.som_frames.specs.Passed.{passes_named, passes_offset, passes_parent};
 ghost use Rattle.som_model.specs.State.{Heap};

@@ -1,2 +1,4 @@
 pub mod Sparing
 pub mod AtFirst
+pub mod Ending
+pub mod Whole

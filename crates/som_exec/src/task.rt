@@ -5,8 +5,8 @@ use som_model::List;
 /// A task that can be gone on with, as long as it is live.
 #[derive(Drop)]
 pub struct Task {
-    pub(crate) task: som_task::Task,
-    pub(crate) live: bool,
+    pub task: som_task::Task,
+    pub live: bool,
 }
 
 impl Task {

@@ -4,7 +4,7 @@ use Rattle.som_codes.specs.Coded.{codes_of}
 use Rattle.som_task.specs.declared.frames.Waiting.TheVariants as waits
 use Rattle.som_moves.specs.Scene.{scene}
 use Rattle.som_answering.specs.Calling.{ComesTo}
-use Rattle.som_answering.proofs.Parents.{parent_goes, parent_stops}
+use Rattle.som_answering.proofs.Upwards.{parent_goes, parent_stops}
 use Rattle.som_answering.proofs.calls.parent_call.Goals as goal
 
 pub returns-in_err-call : goal.returns-in_err-call

@@ -1,0 +1,42 @@
+use Rattle.std.proofs.Common.{ℕ, List, subst, sym}
+use Rattle.som_moves.specs.Scene.{Scene, setting_of}
+use Rattle.som_task.specs.Standing.{place_shown}
+use Rattle.som_moves.specs.declared.stop.Stop.TheVariants as stops
+use Rattle.som_exec.specs.Advance.{Comes, EndsBy}
+use Rattle.som_exec.proofs.Ending.{done_comes, fault_comes, fault_place, going_comes, ran_same, starved_comes, sunk_comes}
+use Rattle.som_exec.proofs.advancing.advance.Goals as goal
+
+pub end_by-requires : goal.end_by-requires
+end_by-requires g c =
+    fault_place (g.M.Moves.scene c.args.moves.now) c.args.units c.requires.stands _ _ _ _ (g.M.Moves.written c.go_on.new.moves) _ c.in-Err-Fault.fault c.in-Err-Fault.at
+    (ran_same _ _ _ _ _ _ _ (stops.Fault c.in-Err-Fault.fault c.in-Err-Fault.at) c.in-Err-Fault.field-0-is c.in-Err-Fault.ensures.ran)
+
+pub returns-in-Ok-clause-comes : goal.returns-in-Ok-clause-comes
+returns-in-Ok-clause-comes g c = done_comes (g.M.Moves.scene c.args.moves.now) c.args.units c.requires.stands _ _ _ _ _ c.in-Ok.ensures.ran
+
+pub returns-in-Err-Spent-clause-comes : goal.returns-in-Err-Spent-clause-comes
+returns-in-Err-Spent-clause-comes g c =
+    going_comes (g.M.Moves.scene c.args.moves.now) c.args.units c.requires.stands _ _ _ _ _ (ran_same _ _ _ _ _ _ _ stops.Spent c.in-Err-Spent.field-0-is c.in-Err-Spent.ensures.ran)
+
+pub returns-in-Err-SinkFailed-clause-comes : goal.returns-in-Err-SinkFailed-clause-comes
+returns-in-Err-SinkFailed-clause-comes g c = sunk_comes (g.M.Moves.scene c.args.moves.now) c.args.units c.requires.stands _ _ _ _ _ _ c.in-Err-SinkFailed.ensures.ran
+
+pub returns-in-Err-NoMemory-clause-comes : goal.returns-in-Err-NoMemory-clause-comes
+returns-in-Err-NoMemory-clause-comes g c = starved_comes (g.M.Moves.scene c.args.moves.now) c.args.units c.requires.stands _ _ _ _ _ _ c.in-Err-NoMemory.ensures.ran
+
+pub returns-in-Err-Fault-clause-comes : goal.returns-in-Err-Fault-clause-comes
+returns-in-Err-Fault-clause-comes g c =
+    let old = g.M.Moves.scene c.args.moves.now in
+    let new = g.M.Moves.scene c.go_on.new.moves in
+    let shows = g.M.Moves.shows c.args.moves.now in
+    let prefix = g.M.Moves.prefix c.args.moves.now in
+    let before = g.M.Moves.written c.args.moves.now in
+    let told = g.M.Moves.written c.go_on.new.moves in
+    let after = g.M.Moves.written c.end_by.new.moves in
+    let fault = c.in-Err-Fault.fault in
+    let at = c.in-Err-Fault.at in
+    let place = place_shown (setting_of new) at in
+    let ran = ran_same _ _ _ _ _ _ _ (stops.Fault fault at) c.in-Err-Fault.field-0-is c.in-Err-Fault.ensures.ran in
+    let ends = subst (λ (z : List ℕ). EndsBy z told after fault place c.end_by.result) c.go_on.ensures.prefix c.end_by.ensures.ends in
+    subst (λ (z : Scene). Comes old c.args.units shows prefix before after z c.end_by.result) (sym c.end_by.ensures.scene)
+    (fault_comes old c.args.units c.requires.stands shows prefix before told after new fault at ran c.end_by.result ends)

@@ -1,0 +1,17 @@
+use Rattle.som_exec.proofs.Whole.{done_runs, fault_runs, spent_runs, starved_runs, sunk_runs}
+use Rattle.som_exec.proofs.running.run.Goals as goal
+
+pub returns-in-Going-clause-runs : goal.returns-in-Going-clause-runs
+returns-in-Going-clause-runs g c = spent_runs (g.M.Moves.scene c.args.moves.now) c.args.fuel c.requires.granted c.requires.begun _ _ _ _ _ c.in-Going.ensures.comes
+
+pub returns-in-Done-clause-runs : goal.returns-in-Done-clause-runs
+returns-in-Done-clause-runs g c = done_runs (g.M.Moves.scene c.args.moves.now) c.args.fuel c.requires.granted c.requires.begun _ _ _ _ _ c.in-Done.ensures.comes
+
+pub returns-in-SourceFault-clause-runs : goal.returns-in-SourceFault-clause-runs
+returns-in-SourceFault-clause-runs g c = fault_runs (g.M.Moves.scene c.args.moves.now) c.args.fuel c.requires.granted c.requires.begun _ _ _ _ _ _ _ c.in-SourceFault.ensures.comes
+
+pub returns-in-SinkFailed-clause-runs : goal.returns-in-SinkFailed-clause-runs
+returns-in-SinkFailed-clause-runs g c = sunk_runs (g.M.Moves.scene c.args.moves.now) c.args.fuel c.requires.granted c.requires.begun _ _ _ _ _ c.in-SinkFailed.ensures.comes
+
+pub returns-in-NoMemory-clause-runs : goal.returns-in-NoMemory-clause-runs
+returns-in-NoMemory-clause-runs g c = starved_runs (g.M.Moves.scene c.args.moves.now) c.args.fuel c.requires.granted c.requires.begun _ _ _ _ _ c.in-NoMemory.ensures.comes

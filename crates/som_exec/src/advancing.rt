@@ -1,0 +1,61 @@
+ghost use Rattle.som_exec.specs.Advance.{Comes, Counts, EndsBy, StaysCalm, with_granted};
+ghost use Rattle.som_exec.specs.Stands.{Stands};
+ghost use Rattle.som_looping.specs.Ran.{RanOn, ended};
+ghost use Rattle.som_looping.specs.Stepped.{Counts as StopCounts, StaysCalm as StopsCalm};
+ghost use Rattle.som_moves.specs.Scene.{setting_of};
+ghost use Rattle.som_task.specs.Own.{IsOwnPlace};
+ghost use Rattle.som_task.specs.Standing.{place_shown};
+ghost use Rattle.std.specs.Prelude.{◌≡◌, ◌+◌, ◌<◌, ◌^◌};
+
+use crate::{Advanced, Advances};
+use som_looping::run_on;
+use som_model::Fault;
+use som_moves::Stop;
+use som_telling::{Place, Untold};
+
+/// Grants units to a task that stands, and goes on until main is over, it has a fault, or no unit is left. What it comes
+/// to is what main means with the units granted before and these.
+pub fn advance<M: Advances>(moves: &mut M, units: u32) -> Advanced
+    requires stands { Stands (M.scene moves.old) }
+    requires units { (M.scene moves.old).task.granted + units < 2 ^ 32 }
+    ensures comes { Comes (M.scene moves.old) units (M.shows moves.old) (M.prefix moves.old) (M.written moves.old) (M.written moves.new) (M.scene moves.new) result }
+    ensures counts { Counts (M.faults moves.old) (M.faults moves.new) result }
+    ensures calms { StaysCalm (M.calm moves.old) (M.calm moves.new) (M.faults moves.old) (M.faults moves.new) result }
+{
+    match go_on(moves, units) {
+        Ok(()) => Advanced::Done,
+        Err(Stop::Fault { fault, at }) => end_by(moves, fault, at),
+        Err(Stop::Spent) => Advanced::Going,
+        Err(Stop::SinkFailed) => Advanced::SinkFailed,
+        Err(Stop::NoMemory) => Advanced::NoMemory,
+    }
+}
+
+/// Goes on with these units.
+fn go_on<M: Advances>(moves: &mut M, units: u32) -> Result<(), Stop>
+    requires stands { Stands (M.scene moves.old) }
+    requires units { (M.scene moves.old).task.granted + units < 2 ^ 32 }
+    ensures ran { RanOn (M.shows moves.old) (M.prefix moves.old) (M.written moves.old) (M.written moves.new) (with_granted (M.scene moves.old) units) (M.scene moves.new) (ended result) }
+    ensures prefix { M.prefix moves.new ≡ M.prefix moves.old }
+    ensures counts { StopCounts (M.faults moves.old) (M.faults moves.new) (ended result) }
+    ensures calms { StopsCalm (M.calm moves.old) (M.calm moves.new) (M.faults moves.old) (M.faults moves.new) (ended result) }
+{
+    som_looping::granted_law();
+    moves.grant(units);
+    run_on(moves)
+}
+
+/// Ends by a fault in a place, of which the line is told.
+fn end_by<M: Advances>(moves: &mut M, fault: Fault, at: Place) -> Advanced
+    requires { IsOwnPlace (setting_of (M.scene moves.old)) (M.scene moves.old).objects at }
+    ensures ends { EndsBy (M.prefix moves.old) (M.written moves.old) (M.written moves.new) fault (place_shown (setting_of (M.scene moves.old)) at) result }
+    ensures scene { M.scene moves.new ≡ M.scene moves.old }
+    ensures counts { Counts (M.faults moves.old) (M.faults moves.new) result }
+    ensures calms { StaysCalm (M.calm moves.old) (M.calm moves.new) (M.faults moves.old) (M.faults moves.new) result }
+{
+    match moves.tell_fault(fault, at) {
+        Ok(at) => Advanced::SourceFault { fault, at },
+        Err(Untold::SinkFailed) => Advanced::SinkFailed,
+        Err(Untold::NoMemory) => Advanced::NoMemory,
+    }
+}

@@ -1,0 +1,13 @@
+use som_model::Fault;
+use som_telling::Running;
+
+/// What a run came to: main is over, it has a fault in a place, or its fuel is spent; or the sink failed, or there was no
+/// memory.
+#[derive(Drop)]
+pub enum Outcome {
+    Done,
+    SourceFault { fault: Fault, at: Running },
+    Spent,
+    SinkFailed,
+    NoMemory,
+}

@@ -1,0 +1,19 @@
+ghost use Rattle.som_machine.specs.Came.{in_place};
+ghost use Rattle.std.specs.Prelude.{◌≡◌};
+
+use som_moves::Stop;
+use som_task::Now;
+use som_telling::Place;
+
+/// The same, with a fault in this place.
+pub(crate) fn placed(answer: Result<Now, Stop>, place: Place) -> Result<Now, Stop>
+    ensures { result ≡ in_place place answer }
+{
+    match answer {
+        Err(Stop::Fault { fault, .. }) => Err(Stop::Fault { fault, at: place }),
+        Ok(now) => Ok(now),
+        Err(Stop::Spent) => Err(Stop::Spent),
+        Err(Stop::SinkFailed) => Err(Stop::SinkFailed),
+        Err(Stop::NoMemory) => Err(Stop::NoMemory),
+    }
+}
