@@ -48,7 +48,7 @@ use Rattle.som_answering.proofs.Growing.{none, put}
 use Rattle.som_answering.proofs.Offset.{kept, taken}
 use Rattle.som_answering.proofs.Passing.{passed_went, stop_moved}
 use Rattle.som_answering.proofs.Pushing.{around_call, call_in, operands_usable, past}
-use Rattle.som_answering.proofs.Untold.{at_state}
+use Rattle.som_moves.proofs.Untold.{at_state}
 
 -- ---- the name that is asked for
 

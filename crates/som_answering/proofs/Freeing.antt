@@ -37,7 +37,7 @@ use Rattle.som_moves.specs.Moving.{Failed, Keeps}
 use Rattle.som_answering.specs.Answering.{Resumes, answer_to}
 use Rattle.som_obeying.specs.Obeying.{stop_at}
 use Rattle.som_answering.proofs.Growing.{around_later, none}
-use Rattle.som_answering.proofs.Untold.{at_state}
+use Rattle.som_moves.proofs.Untold.{at_state}
 
 went_so : (b : Bool) (x h : Heap) → ◌≡◌ {A = Tried Heap} (if b then Ok x else Err faults.Freed) (Ok h) → (b ≡ true) × (x ≡ h)
 went_so true x h e = (refl, cc)

@@ -14,5 +14,4 @@ mod Upwards
 mod Passing
 mod Pushing
 mod Staying
-mod Untold
 mod Whole

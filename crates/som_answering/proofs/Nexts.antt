@@ -44,7 +44,7 @@ use Rattle.som_answering.specs.Parents.{IsFirst, IsNone, Nexts}
 use Rattle.som_answering.proofs.Arguments.{values_in}
 use Rattle.som_answering.proofs.Growing.{around_later, none, put}
 use Rattle.som_answering.proofs.Passing.{passed_went, stop_moved}
-use Rattle.som_answering.proofs.Untold.{at_state}
+use Rattle.som_moves.proofs.Untold.{at_state}
 
 -- ---- classes that are made
 

@@ -40,7 +40,7 @@ use Rattle.som_answering.proofs.Arguments.{usable_operands}
 use Rattle.som_answering.proofs.Growing.{none, put}
 use Rattle.som_answering.proofs.Passing.{passed_went, stop_moved}
 use Rattle.som_answering.proofs.Pushing.{around_call, call_in, past}
-use Rattle.som_answering.proofs.Untold.{at_state}
+use Rattle.som_moves.proofs.Untold.{at_state}
 
 -- a class object of a made class can be gone on with
 pub class_usable : (l : Linked) (made : ClassKey → Bool) (xs : List ℕ) (os : Objects) (n : ℕ) → IsNumbered l.keys n → made (key_of l.keys n) ≡ true → IsUsable l made xs os (cells.Class n)

@@ -64,7 +64,7 @@ use Rattle.som_beginning.specs.Beginning.{Began, Begins, act_of, call_at, stoppe
 use Rattle.som_beginning.proofs.Asked.{kernel_act}
 use Rattle.som_beginning.proofs.Growing.{Grows, around_pushed}
 use Rattle.som_beginning.proofs.Standing.{call_none, quiet, quiet_to, stopped_none}
-use Rattle.som_beginning.proofs.Untold.{at_state, ends_untold, goes_untold}
+use Rattle.som_moves.proofs.Untold.{at_state, ends_untold, goes_untold}
 
 -- what a call's tests came to is what the act comes to that makes it
 pub call_moved : (c c' : Scene) (act : Step) (s : State) (h : Heap) (ws : List frames.Waiting) (P : (Request → Step) → Step) (levels : ℕ) (at : Place) (r : Result Call Stopped)

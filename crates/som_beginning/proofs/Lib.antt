@@ -1,5 +1,4 @@
 mod Standing
-mod Untold
 mod Asked
 mod Coded
 mod Growing

@@ -51,7 +51,7 @@ use Rattle.som_beginning.proofs.Asked.{kernel_act}
 use Rattle.som_beginning.proofs.Called.{call_moved, no_arguments}
 use Rattle.som_beginning.proofs.Growing.{Grows, around_later, around_pushed}
 use Rattle.som_beginning.proofs.Standing.{call_none, quiet, quiet_to}
-use Rattle.som_beginning.proofs.Untold.{at_state}
+use Rattle.som_moves.proofs.Untold.{at_state}
 use Rattle.som_beginning.proofs.Written.{one_made, the_one}
 
 -- a single serial that was given

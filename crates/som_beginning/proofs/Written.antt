@@ -51,7 +51,7 @@ use Rattle.som_beginning.specs.Beginning.{Began, Begins, StopsAt, act_of, write_
 use Rattle.som_beginning.proofs.Asked.{acts}
 use Rattle.som_beginning.proofs.Growing.{Grows, around_later}
 use Rattle.som_beginning.proofs.Standing.{quiet_to, stopped_none}
-use Rattle.som_beginning.proofs.Untold.{at_state}
+use Rattle.som_moves.proofs.Untold.{at_state}
 
 -- one serial is the only one of itself
 pub the_one : (n x : ℕ) → IsMade (n ∷ []) x → n ≡ x

@@ -60,7 +60,9 @@ pub(crate) fn kernel_of(
 
 impl Kernel<Unlinked> {
     /// A kernel that isn't linked yet. So far it takes no memory.
-    pub fn new() -> Result<Kernel<Unlinked>, NoMemory> {
+    pub fn new() -> Result<Kernel<Unlinked>, NoMemory>
+        ensures { OnErr result ⊥ }
+    {
         Ok(Kernel { stage: Unlinked })
     }
 

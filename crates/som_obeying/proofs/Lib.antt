@@ -1,4 +1,3 @@
-pub mod Untold
 pub mod Acts
 pub mod Knowing
 pub mod Growing

@@ -1,4 +1,3 @@
-mod Untold
 mod Growing
 mod Knowing
 mod Entering
