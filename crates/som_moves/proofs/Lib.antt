@@ -1,2 +1,4 @@
 pub mod Fine
+pub mod Growing
+pub mod Knowing
 pub mod Untold

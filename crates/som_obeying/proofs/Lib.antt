@@ -1,6 +1,5 @@
 pub mod Acts
 pub mod Knowing
-pub mod Growing
 pub mod Going
 pub mod Coming
 pub mod Special

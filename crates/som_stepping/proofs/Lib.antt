@@ -1,5 +1,3 @@
-mod Growing
-mod Knowing
 mod Entering
 mod Firsts
 mod Waits

@@ -5,7 +5,7 @@ use Rattle.som_used.specs.Needs.{AreClosed}
 use Rattle.som_values.specs.Shown.{IsNumbered, key_of}
 use Rattle.som_task.specs.Settings.{Linked}
 use Rattle.som_moves.specs.Scene.{scene}
-use Rattle.som_obeying.proofs.Knowing.{closed_all}
+use Rattle.som_moves.proofs.Knowing.{closed_all}
 use Rattle.som_obeying.proofs.Special.{carried, class_begins, class_comes, wants, wants_comes}
 use Rattle.som_obeying.proofs.class.class_object.Goals as goal
 

@@ -1,7 +1,8 @@
 use Rattle.std.proofs.Common.{Ok, Err, refl, ap}
 use Rattle.som_moves.specs.Scene.{scene, setting_of}
 use Rattle.som_obeying.specs.declared.outcome.Outcome.TheVariants as outcomes
-use Rattle.som_obeying.proofs.Knowing.{closed_all, has_classes}
+use Rattle.som_moves.proofs.Knowing.{closed_all}
+use Rattle.som_obeying.proofs.Knowing.{has_classes}
 use Rattle.som_obeying.proofs.Acts.{plain_no_call}
 use Rattle.som_obeying.proofs.Coming.{plain_comes}
 use Rattle.som_obeying.proofs.plain.obey_plain.Goals as goal

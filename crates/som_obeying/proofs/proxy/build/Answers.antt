@@ -16,7 +16,7 @@ use Rattle.som_obeying.specs.declared.outcome.Outcome.TheVariants as outcomes
 use Rattle.std.proofs.Common.{◌+◌}
 use Rattle.som_moves.specs.Scene.{scene}
 use Rattle.som_moves.specs.declared.stop.Stop.TheVariants as stops
-use Rattle.som_obeying.proofs.Knowing.{closed_all}
+use Rattle.som_moves.proofs.Knowing.{closed_all}
 use Rattle.som_obeying.proofs.Special.{carried}
 use Rattle.som_obeying.proofs.Whole.{short_obeyed, use_obeyed}
 use Rattle.som_obeying.proofs.Building.{keeps_made, keeps_unmade, proxy_begins, proxy_comes, proxy_is}

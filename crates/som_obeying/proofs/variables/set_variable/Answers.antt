@@ -3,7 +3,7 @@ use Rattle.std.proofs.Common.{false}
 use Rattle.som_model.specs.Rules.{is_void}
 use Rattle.som_values.specs.Shown.{key_of}
 use Rattle.som_moves.specs.Scene.{scene, setting_of}
-use Rattle.som_obeying.proofs.Knowing.{closed_all}
+use Rattle.som_moves.proofs.Knowing.{closed_all}
 use Rattle.som_obeying.proofs.Varying.{acts, is_below, usable_top, set_comes, set_keeps, set_stops, place_numbered}
 use Rattle.som_obeying.proofs.variables.set_variable.Goals as goal
 

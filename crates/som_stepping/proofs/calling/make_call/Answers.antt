@@ -1,7 +1,7 @@
 use Rattle.std.proofs.Common.{sym}
 use Rattle.som_codes.specs.Coded.{codes_of}
 use Rattle.som_stepping.proofs.Entering.{asked, refused, stopped, entered, owner, usable}
-use Rattle.som_stepping.proofs.Knowing.{closed_all}
+use Rattle.som_moves.proofs.Knowing.{closed_all}
 use Rattle.som_stepping.proofs.calling.make_call.Goals as goal
 
 pub has_method-requires : goal.has_method-requires
