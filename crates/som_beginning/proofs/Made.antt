@@ -103,6 +103,7 @@ module _ (l : Linked) (k : Numbering) (main : Block) (made : ClassKey → Bool) 
     then = s;
     is = ap (λ (x : Step). x.does s) (kernel_act old b me args kind is body ws s began levels tests way a) ∙ not_made kind m me none ws s;
     events = sym (append-nil s.events);
+    holding = began.around.holding;
   })
 
   -- ---- a new object
