@@ -62,8 +62,9 @@ use Rattle.som_beginning.specs.declared.begun.What.TheVariants as whats
 use Rattle.som_beginning.specs.Begun.{IsWhat}
 use Rattle.som_beginning.specs.Beginning.{Began, Begins, act_of, call_at, stopped_at}
 use Rattle.som_beginning.proofs.Asked.{kernel_act}
-use Rattle.som_beginning.proofs.Growing.{Grows, around_pushed}
+use Rattle.som_beginning.proofs.Pushing.{around_pushed}
 use Rattle.som_beginning.proofs.Standing.{call_none, quiet, quiet_to, stopped_none}
+use Rattle.som_moves.proofs.Growing.{Grows}
 use Rattle.som_moves.proofs.Untold.{at_state, ends_untold, goes_untold}
 
 -- what a call's tests came to is what the act comes to that makes it
@@ -142,8 +143,8 @@ module _ (l : Linked) (k : Numbering) (main : Block) (made : ClassKey → Bool) 
   pub frames_wanting : (b : Begun) (levels : ℕ) (me : Reference) (args : List Cell) → Began old new b levels me args (Err stops.NoMemory)
   frames_wanting b levels me args = quiet_to old new b levels me args (Err stops.NoMemory) refl keeps_frames tt (λ body ws s began fuel tests way a. tt)
 
-  growing : Grows made made os os t t'
-  growing = record { serials = []; serials_are = serials_are ∙ sym (append-nil t.serials); codes = []; codes_are = codes_are ∙ sym (append-nil t.codes); made_more = λ x e. e; known = λ r x. x }
+  growing : Grows made made os os t (record t' { frames = t.frames })
+  growing = record { serials = []; serials_are = serials_are ∙ sym (append-nil t.serials); codes = []; codes_are = codes_are ∙ sym (append-nil t.codes); waiting = refl; made_more = λ x e. e; known = λ r x. x }
 
   module _ (b : Begun) (is : b.what ≡ whats.Kernel kinds.Free) (levels : ℕ) (args : List Cell) where
     abbrev at : Place

@@ -49,8 +49,8 @@ use Rattle.som_beginning.specs.declared.begun.What.TheVariants as whats
 use Rattle.som_beginning.specs.Begun.{IsBegun, IsWhat}
 use Rattle.som_beginning.specs.Beginning.{Began, Begins, StopsAt, act_of, write_at}
 use Rattle.som_beginning.proofs.Asked.{acts}
-use Rattle.som_beginning.proofs.Growing.{Grows, around_later}
 use Rattle.som_beginning.proofs.Standing.{quiet_to, stopped_none}
+use Rattle.som_moves.proofs.Growing.{Grows, around_later}
 use Rattle.som_moves.proofs.Untold.{at_state}
 
 -- one serial is the only one of itself
@@ -107,7 +107,7 @@ module _ (l : Linked) (k : Numbering) (main : Block) (made : ClassKey → Bool) 
   }
 
   growing : Grows made made os os' t t'
-  growing = record { serials = []; serials_are = serials_are ∙ sym (append-nil t.serials); codes = []; codes_are = codes_are ∙ sym (append-nil t.codes); made_more = λ x e. e; known = known }
+  growing = record { serials = []; serials_are = serials_are ∙ sym (append-nil t.serials); codes = []; codes_are = codes_are ∙ sym (append-nil t.codes); waiting = waiting_is; made_more = λ x e. e; known = known }
 
   module _ (b : Begun) (n : ℕ) (is : b.what ≡ whats.Set n) (levels : ℕ) (me : Reference) (args : List Cell) where
     abbrev self : Ref
@@ -154,7 +154,7 @@ module _ (l : Linked) (k : Numbering) (main : Block) (made : ClassKey → Bool) 
           is = act_is body ws s began tests way a ∙ ap (λ z. (writes z ws).does s) w.0 ∙ ap (λ h. Goes (On (both (frames.Answering Nil) ws)) (at_state s.fuel s.events h)) w.1;
           events = sym (append-nil s.events);
           fuel = fuel;
-          around = around_later l k main made made os os' t t' f f growing s.heap becomes.0 began.around.holding.heap.holds.many later ws began.around holding (subst (AreCodes k main) (sym codes_are) began.around.codes) waiting_is;
+          around = around_later l k main made made os os' t t' f f growing s.heap becomes.0 began.around.holding.heap.holds.many later ws began.around holding (subst (AreCodes k main) (sym codes_are) began.around.codes);
           next_is = record { shown = refl; own = (tt, tt); made_of = tt; fine = tt };
         }
     comes (Err (stopped.Fault e)) body ws s began fuel tests way a becomes held =
