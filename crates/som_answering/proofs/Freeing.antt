@@ -114,7 +114,7 @@ freed_keeps l kn main made os os' t f object others known count mine = record {
   granted = refl;
   begun = refl;
   known = known;
-  more = omega (arith, count);
+  count = omega (arith, count);
   others = λ n le other. (others (n ∷ []) (λ m. other (subst (IsMade t.serials) (sym (one_of n object.serial (n == object.serial) refl m)) mine))).same n (alone n);
   above = λ n m. absurd m;
 }

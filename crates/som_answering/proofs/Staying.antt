@@ -35,7 +35,7 @@ frames_keep l kn main made more os t fr f = record {
   granted = refl;
   begun = refl;
   known = λ r k. k;
-  more = omega arith;
+  count = omega arith;
   others = λ n le other. refl;
   above = λ n m. absurd m;
 }

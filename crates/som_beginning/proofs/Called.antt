@@ -132,7 +132,7 @@ module _ (l : Linked) (k : Numbering) (main : Block) (made : ClassKey → Bool) 
     granted = granted_is;
     begun = begun_is;
     known = λ r x. x;
-    more = omega arith;
+    count = omega arith;
     others = λ n le other. refl;
     above = λ n m. absurd m;
   }

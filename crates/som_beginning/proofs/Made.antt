@@ -119,8 +119,8 @@ module _ (l : Linked) (k : Numbering) (main : Block) (made : ClassKey → Bool) 
     key = key_of l.keys n
 
     -- what is kept where serials were added
-    pub keeps_added : (xs : List ℕ) → t'.serials ≡ t.serials ++ xs → length os ≤ length os' → ((m : ℕ) → Mem m xs → (length os < m) × (m ≤ length os')) → Keeps old new
-    keeps_added xs serials_are more above = record {
+    pub keeps_added : (xs : List ℕ) → t'.serials ≡ t.serials ++ xs → length os' ≡ length os + length xs → ((m : ℕ) → Mem m xs → (length os < m) × (m ≤ length os')) → Keeps old new
+    keeps_added xs serials_are count above = record {
       linked = refl;
       classes = refl;
       main = refl;
@@ -131,7 +131,7 @@ module _ (l : Linked) (k : Numbering) (main : Block) (made : ClassKey → Bool) 
       granted = granted_is;
       begun = begun_is;
       known = known;
-      more = more;
+      count = count;
       others = λ m le other. others_stay os os' others m le;
       above = above;
     }

@@ -101,7 +101,7 @@ module _ (l : Linked) (k : Numbering) (main : Block) (made : ClassKey → Bool) 
     granted = granted_is;
     begun = begun_is;
     known = known;
-    more = omega (arith, count);
+    count = omega (arith, count);
     others = λ n le other. (spares (n ∷ []) (not_among t.serials os l n me own other)).same n (one_made n);
     above = λ n m. absurd m;
   }

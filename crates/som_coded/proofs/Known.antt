@@ -1,41 +1,36 @@
 -- What the blocks of classes that can be loaded name is there, and so is what their code names.
-use Rattle.std.proofs.Common.{◌≡◌, ℕ, inl, inr, true, List, [], ◌∷◌, ◌++◌, map, flat_map, length, Option, Some, None, IsSome, slice_get, refl, sym, ap, subst, true≢false}
+use Rattle.std.proofs.Common.{◌≡◌, ℕ, inl, inr, true, List, [], ◌∷◌, ◌++◌, flat_map, Some, IsSome, slice_get, refl, sym, ap, subst}
 use Rattle.std.specs.Prelude.{is_some}
-use Rattle.std.proofs.lemmas.Bool.{eqb-true}
 use Rattle.som_model.specs.declared.key.ClassKey.{ClassKey}
 use Rattle.som_model.specs.declared.key.MethodRef.{MethodRef}
 use Rattle.som_model.specs.declared.key.ValueType.{ValueType}
 use Rattle.som_model.specs.declared.key.ValueType.TheVariants as types
 use Rattle.som_model.specs.declared.syntax.Block.{Block}
 use Rattle.som_model.specs.declared.class.Sig.{Sig}
-use Rattle.som_model.specs.declared.class.Body.{Body}
-use Rattle.som_model.specs.declared.class.Body.TheVariants as bodies
-use Rattle.som_model.specs.declared.class.Override.{Override}
 use Rattle.som_model.specs.Lists.{Mem}
 use Rattle.som_model.specs.Ancestors.{itself}
-use Rattle.som_model.specs.Class.{Class, introduced}
+use Rattle.som_model.specs.Class.{Class}
 use Rattle.som_model.specs.Classes.{class_at, hierarchy}
 use Rattle.som_model.specs.Kernel.{kernel, som_free}
 use Rattle.som_model.specs.Loads.{IsOrdered, Loads, keys_of}
 use Rattle.som_model.specs.Made.{blocks_of, blocks_of_class}
 use Rattle.som_model.specs.Named.{Named, AClass, AMethod, AProxy, block_names, body_names, method_names, override_names, select_names}
 use Rattle.som_model.specs.Owner.{owner, sig_of}
-use Rattle.som_model.specs.Rules.{s14}
 use Rattle.som_model.specs.Typing.{ClassFacts, running_facts}
 use Rattle.som_model.specs.World.{world}
 use Rattle.som_laws.proofs.Laws.{descends_through}
-use Rattle.som_laws.proofs.Members.{mem_left, mem_right, mem_split}
-use Rattle.som_hierarchy.proofs.Lists.{get_mem, map_mem, mem_map}
+use Rattle.som_laws.proofs.Members.{mem_split}
+use Rattle.som_hierarchy.proofs.Lists.{get_mem, mem_map}
 use Rattle.som_hierarchy.proofs.Owners.{entry_class}
 use Rattle.som_hierarchy.proofs.Standing.{found_is}
 use Rattle.som_releases.specs.Refining.{AreKnown, Refines}
-use Rattle.som_releases.proofs.Facing.{demanded, tested, tests}
+use Rattle.som_releases.proofs.Facing.{tested, tests}
 use Rattle.som_releases.proofs.Inheriting.{s10_says}
-use Rattle.som_releases.proofs.Lists.{none_left}
 use Rattle.som_releases.proofs.Prefix.{signature_entry}
 use Rattle.som_releases.proofs.TypedClasses.{class_carried, main_carried}
 use Rattle.som_releases.proofs.TypesBelow.{method_named}
-use Rattle.som_named.proofs.Lists.{flat_mem, mem_flat}
+use Rattle.som_named.proofs.Known.{as_many, class_block, some_class, some_sig}
+use Rattle.som_named.proofs.Lists.{flat_mem}
 use Rattle.som_code.specs.declared.instruction.Instruction.{Instruction}
 use Rattle.som_code.specs.declared.instruction.Instruction.TheVariants as ops
 use Rattle.som_code.specs.Laid.{lay_body}
@@ -43,40 +38,6 @@ use Rattle.som_coded.specs.Naming.{AreNaming, AreSigned, HasEntry, HasSignature,
 use Rattle.som_coded.proofs.Pieces.{named_by}
 use Rattle.som_coded.proofs.Covered.{body_covered}
 use Rattle.som_coded.proofs.KernelCalls.{kernel_own, object_class}
-
-abbrev block_in : Body → List Block
-block_in (bodies.User b) = b ∷ []
-block_in (bodies.Get n) = []
-block_in (bodies.Set n) = []
-
-some_sig : (o : Option Sig) → is_some o ≡ true → (s : Sig) × (o ≡ Some s)
-some_sig None e = absurd (true≢false (sym e))
-some_sig (Some s) e = (s, refl)
-
-some_class : (o : Option Class) → is_some o ≡ true → (c : Class) × (o ≡ Some c)
-some_class None e = absurd (true≢false (sym e))
-some_class (Some c) e = (c, refl)
-
-as_many : (c : Class) → s14 c ≡ [] → length c.decl.bodies ≡ length (introduced c.decl.face.entries)
-as_many c e = eqb-true (length c.decl.bodies) (length (introduced c.decl.face.entries)) (demanded 14 c _ (none_left _ _ e).0)
-
--- what a block of a class names is named by one of its bodies or by one of its overrides
-class_block : (c : Class) (b : Block) (n : Named) → Mem b (blocks_of_class c) → Mem n (block_names b)
-    → Mem n (flat_map body_names c.decl.bodies ++ (flat_map override_names c.decl.overrides ++ flat_map select_names c.decl.selects))
-class_block c b n m at = elim (mem_split b (flat_map block_in c.decl.bodies) (map (λ (o : Override). o.block) c.decl.overrides) m) [
-  | inl k ↦ (let r = flat_mem block_in b c.decl.bodies k in
-      mem_left n (flat_map body_names c.decl.bodies) (flat_map override_names c.decl.overrides ++ flat_map select_names c.decl.selects) (mem_flat body_names n r.0 c.decl.bodies r.1 (of_body r.0 r.2)))
-  | inr k ↦ (let r = map_mem (λ (o : Override). o.block) b c.decl.overrides k in
-      mem_right n (flat_map body_names c.decl.bodies) (flat_map override_names c.decl.overrides ++ flat_map select_names c.decl.selects)
-      (mem_left n (flat_map override_names c.decl.overrides) (flat_map select_names c.decl.selects)
-      (mem_flat override_names n r.0 c.decl.overrides r.1 (mem_right n (method_names r.0.method) (block_names r.0.block) (subst (λ z. Mem n (block_names z)) r.2 at)))))
-]
-  where
-    of_body : (d : Body) → Mem b (block_in d) → Mem n (body_names d)
-    of_body (bodies.User x) (inl is) = subst (λ z. Mem n (block_names z)) is at
-    of_body (bodies.User x) (inr z) = absurd z
-    of_body (bodies.Get i) z = absurd z
-    of_body (bodies.Set i) z = absurd z
 
 -- ---- what an instruction names is there where each of its names is
 

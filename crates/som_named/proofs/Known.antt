@@ -39,7 +39,7 @@ use Rattle.som_named.specs.Proxied.{proxies_of}
 use Rattle.som_named.proofs.Lists.{flat_mem, mem_flat}
 use Rattle.som_named.proofs.Naming.{block_covered}
 
-abbrev block_in : Body → List Block
+abbrev pub block_in : Body → List Block
 block_in (bodies.User b) = b ∷ []
 block_in (bodies.Get n) = []
 block_in (bodies.Set n) = []
@@ -50,19 +50,19 @@ out_proxy k = ap out-ClassKey (sym (rolls-Proxy k)) ∙ out-roll-ClassKey (Class
 one_proxy : (k c : ClassKey) → keys.Proxy k ≡ keys.Proxy c → k ≡ c
 one_proxy k c e = let z = sym (out_proxy k) ∙ ap out-ClassKey e ∙ out_proxy c in cc
 
-some_sig : (o : Option Sig) → is_some o ≡ true → (s : Sig) × (o ≡ Some s)
+pub some_sig : (o : Option Sig) → is_some o ≡ true → (s : Sig) × (o ≡ Some s)
 some_sig None e = absurd (true≢false (sym e))
 some_sig (Some s) e = (s, refl)
 
-some_class : (o : Option Class) → is_some o ≡ true → (c : Class) × (o ≡ Some c)
+pub some_class : (o : Option Class) → is_some o ≡ true → (c : Class) × (o ≡ Some c)
 some_class None e = absurd (true≢false (sym e))
 some_class (Some c) e = (c, refl)
 
-as_many : (c : Class) → s14 c ≡ [] → length c.decl.bodies ≡ length (introduced c.decl.face.entries)
+pub as_many : (c : Class) → s14 c ≡ [] → length c.decl.bodies ≡ length (introduced c.decl.face.entries)
 as_many c e = eqb-true (length c.decl.bodies) (length (introduced c.decl.face.entries)) (demanded 14 c _ (none_left _ _ e).0)
 
 -- what a block of a class names is named by one of its bodies or by one of its overrides
-class_block : (c : Class) (b : Block) (n : Named) → Mem b (blocks_of_class c) → Mem n (block_names b)
+pub class_block : (c : Class) (b : Block) (n : Named) → Mem b (blocks_of_class c) → Mem n (block_names b)
     → Mem n (flat_map body_names c.decl.bodies ++ (flat_map override_names c.decl.overrides ++ flat_map select_names c.decl.selects))
 class_block c b n m at = elim (mem_split b (flat_map block_in c.decl.bodies) (map (λ (o : Override). o.block) c.decl.overrides) m) [
   | inl k ↦ (let r = flat_mem block_in b c.decl.bodies k in
