@@ -1,10 +1,11 @@
--- A place of the kernel's classes can be named, by the names that the meaning has.
-use Rattle.std.proofs.Common.{◌≡◌, ◌<◌, ℕ, List, length, refl, sym, ap, subst, ◌∙◌}
+-- A place of the kernel's classes can be named, by the names that the meaning has; and nothing is a front of any text.
+use Rattle.std.proofs.Common.{◌≡◌, ◌<◌, ℕ, List, [], length, Option, Some, None, refl, sym, ap, subst, ◌∙◌, append-nil}
 use Rattle.som_model.specs.declared.key.ClassKey.{ClassKey}
 use Rattle.som_model.specs.declared.key.MethodRef.{MethodRef}
 use Rattle.som_model.specs.State.{InBody}
 use Rattle.som_model.specs.World.{World}
 use Rattle.som_code.specs.declared.instruction.Instruction.{Instruction}
+use Rattle.som_io.specs.Outside.{ShowsFront}
 use Rattle.som_meta.specs.Numbering.{Numbering, method_at}
 use Rattle.som_objects.specs.Objects.{Objects}
 use Rattle.som_values.specs.Shown.{key_of}
@@ -30,3 +31,8 @@ module _ (ks : List ClassKey) (w : World) (k : Numbering) (l : Linked) (agree : 
   place_named (places.Body class method) =
       ap (λ (z : List ClassKey). InBody (key_of z class) (method_at k method).name) (sym same_keys)
       ∙ ap (λ (m : MethodRef). InBody (key_of l.keys class) m.name) (sym (agree.methods method))
+
+-- where nothing was told, that is a front of any text
+pub nothing_shown : (written : Option (List ℕ)) (text : List ℕ) → ShowsFront written written text
+nothing_shown None text = (text, tt)
+nothing_shown (Some old) text = (text, ([], refl, ap Some (sym (append-nil old))))

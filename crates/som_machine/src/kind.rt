@@ -30,7 +30,7 @@ pub(crate) fn kind_of(task: &Task) -> Option<Kind>
         Now::Calling { .. } => Some(Kind::Makes),
         Now::Invoking { .. } => Some(Kind::Invokes),
         Now::Answering(_) => {
-            if task.frames.waiting.is_empty() {
+            if task.frames.waiting.as_slice().is_empty() {
                 return None;
             }
             Some(Kind::Resumes)
