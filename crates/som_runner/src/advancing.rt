@@ -57,17 +57,17 @@ pub fn advance<R: Runtime, K: Sink, L: Ledger>(
 }
 
 // The same of what a task has.
-fn go_on<R: Runtime, K: Sink, L: Ledger>(
+fn go_on<'a, R: Runtime, K: Sink, L: Ledger>(
     alloc: Global,
-    task: &mut som_task::Task,
-    runtime: &mut R,
+    task: &'a mut som_task::Task,
+    runtime: &'a mut R,
     units: u32,
-    objects: &mut ObjectStore,
-    trace: &TraceFilter,
-    host: &HostTable,
-    prefix: &Text,
-    out: &mut K,
-    steps: &mut Steps<L>,
+    objects: &'a mut ObjectStore,
+    trace: &'a TraceFilter,
+    host: &'a HostTable,
+    prefix: &'a Text,
+    out: &'a mut K,
+    steps: &'a mut Steps<L>,
 ) -> Advanced
     requires stands { Stands (scene (R.linked runtime.old) (R.known runtime.old) (R.program runtime.old) (R.made runtime.old) objects.old task.old 0) }
     requires units { task.old.granted + units < 2 ^ 32 }

@@ -63,15 +63,15 @@ pub fn run<R: Runtime, K: Sink, L: Ledger>(
 }
 
 // Runs a task that was just started, with objects of its own.
-fn run_task<R: Runtime, K: Sink, L: Ledger>(
+fn run_task<'a, R: Runtime, K: Sink, L: Ledger>(
     alloc: Global,
     task: Task,
-    runtime: &mut R,
+    runtime: &'a mut R,
     fuel: u32,
-    trace: &TraceFilter,
-    host: &HostTable,
-    out: &mut K,
-    steps: &mut Steps<L>,
+    trace: &'a TraceFilter,
+    host: &'a HostTable,
+    out: &'a mut K,
+    steps: &'a mut Steps<L>,
 ) -> Outcome
     requires stands { (os : Objects) → Stands (scene (R.linked runtime.old) (R.known runtime.old) (R.program runtime.old) (R.made runtime.old) os task.task 0) }
     requires granted { task.task.granted ≡ 0 }
