@@ -8,5 +8,4 @@ pub mod Returning
 pub mod Waking
 pub mod Giving
 pub mod Joined
-pub mod Places
 pub mod Leaving

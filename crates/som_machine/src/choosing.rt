@@ -77,9 +77,7 @@ fn do_next<R: Runtime, K: Sink, L: Ledger>(
 {
     match kind {
         Kind::Calls => untold(call_next(alloc, runtime, task, &*objects, steps)),
-        Kind::Obeys => obey_next(
-            alloc, runtime, task, objects, host, prefix, fuel, out,
-        ),
+        Kind::Obeys => obey_next(alloc, runtime, task, objects, host, prefix, fuel, out),
         Kind::Makes => untold(make_next(&*runtime, task, &*objects)),
         Kind::Invokes => invoke_next(
             alloc, runtime, task, objects, trace, prefix, fuel, out, steps,

@@ -1,4 +1,4 @@
-use Rattle.som_machine.proofs.Places.{nothing_shown}
+use Rattle.som_machine.proofs.Joined.{nothing_shown}
 use Rattle.som_machine.proofs.telling.tell_at.Goals as goal
 
 pub returns-in_err-running-clause-front : goal.returns-in_err-running-clause-front
