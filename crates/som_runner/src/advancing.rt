@@ -5,10 +5,10 @@ ghost use Rattle.som_runner.specs.Going.{is_going as can_go_on};
 ghost use Rattle.som_telling.specs.Filters.{shows_of};
 ghost use Rattle.std.specs.Prelude.{◌≡◌, ◌<◌, ◌+◌, ◌^◌, true};
 
+use crate::Machine;
 use som_exec::{Advanced, Task};
 use som_host::HostTable;
 use som_io::Sink;
-use som_machine::Machine;
 use som_model::Text;
 use som_objects::ObjectStore;
 use som_runtime::Runtime;

@@ -2,7 +2,10 @@
 #![tactic(auto)]
 
 mod advancing;
+mod machine;
 mod running;
+mod telling;
 
 pub use advancing::advance;
+pub use machine::Machine;
 pub use running::run;

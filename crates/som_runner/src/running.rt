@@ -12,10 +12,10 @@ ghost use Rattle.som_runner.specs.Runs.{RunsMain};
 ghost use Rattle.som_telling.specs.Filters.{shows_of};
 ghost use Rattle.std.specs.Prelude.{◌≡◌, false, true};
 
+use crate::Machine;
 use som_exec::{Outcome, Task, start};
 use som_host::HostTable;
 use som_io::Sink;
-use som_machine::Machine;
 use som_model::{NoMemory, Text};
 use som_objects::ObjectStore;
 use som_runtime::Runtime;

@@ -1,7 +1,7 @@
 use Rattle.std.proofs.Common.{subst}
 use Rattle.som_model.specs.World.{World}
 use Rattle.som_telling.specs.Filters.{shows_of}
-use Rattle.som_machine.proofs.Joined.{nothing_shown}
+use Rattle.som_runner.proofs.Alone.{nothing_shown}
 use Rattle.som_runner.specs.Runs.{RunsMain}
 use Rattle.som_runner.proofs.running.run.Goals as goal
 
