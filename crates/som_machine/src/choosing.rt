@@ -1,6 +1,6 @@
 ghost use Rattle.som_looping.specs.Standing.{IsSomewhere};
 ghost use Rattle.som_looping.specs.Stepped.{Counts, StaysCalm, Stepped};
-ghost use Rattle.som_machine.specs.Doing.{Does, IsKind, not_sunk, untold as sinkless};
+ghost use Rattle.som_machine.specs.Doing.{Does, IsKind, untold as sinkless};
 ghost use Rattle.som_moves.specs.Scene.{scene};
 ghost use Rattle.som_telling.specs.Filters.{shows_of};
 ghost use Rattle.std.specs.Prelude.{◌≡◌, Some};
@@ -91,18 +91,10 @@ fn untold(answer: Result<Now, Stop>) -> Result<Now, Stop>
     ensures { result ≡ sinkless answer }
 {
     match answer {
+        Err(Stop::SinkFailed) => Err(Stop::NoMemory),
         Ok(now) => Ok(now),
-        Err(stop) => Err(never_sunk(stop)),
-    }
-}
-
-fn never_sunk(stop: Stop) -> Stop
-    ensures { result ≡ not_sunk stop }
-{
-    match stop {
-        Stop::Fault { fault, at } => Stop::Fault { fault, at },
-        Stop::Spent => Stop::Spent,
-        Stop::SinkFailed => Stop::NoMemory,
-        Stop::NoMemory => Stop::NoMemory,
+        Err(Stop::Fault { fault, at }) => Err(Stop::Fault { fault, at }),
+        Err(Stop::Spent) => Err(Stop::Spent),
+        Err(Stop::NoMemory) => Err(Stop::NoMemory),
     }
 }
