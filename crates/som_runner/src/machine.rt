@@ -2,12 +2,12 @@ ghost use Rattle.som_moves.specs.Scene.{scene};
 ghost use Rattle.som_telling.specs.Filters.{shows_of};
 ghost use Rattle.std.specs.Prelude.{◌∷◌, []};
 
-use crate::choosing::step_next;
 use crate::telling::tell_at;
 use som_exec::Advances;
 use som_host::HostTable;
 use som_io::Sink;
 use som_looping::Moves;
+use som_machine::step_next;
 use som_model::{Fault, Text};
 use som_moves::Stop;
 use som_objects::ObjectStore;
