@@ -1,7 +1,11 @@
-use Rattle.std.proofs.Common.{subst}
+use Rattle.std.proofs.Common.{◌≤◌, ◌+◌, ◌*◌, subst}
+use Rattle.som_model.specs.Means.{means_in}
+use Rattle.som_model.specs.RunText.{call_count}
+use Rattle.som_model.specs.Runs.{end_of}
 use Rattle.som_model.specs.World.{World}
 use Rattle.som_telling.specs.Filters.{shows_of}
 use Rattle.som_runner.proofs.Alone.{nothing_shown}
+use Rattle.som_runner.proofs.Counting.{direct_run}
 use Rattle.som_runner.specs.Runs.{RunsMain}
 use Rattle.som_runner.proofs.running.run.Goals as goal
 
@@ -31,3 +35,10 @@ returns-in-Ok-clause-makes g c =
 
 pub returns-in-Err-clause-front : goal.returns-in-Err-clause-front
 returns-in-Err-clause-front g c = nothing_shown (g.K.Sink.written c.args.out.now) _
+
+pub returns-in-Ok-clause-steps : goal.returns-in-Ok-clause-steps
+returns-in-Ok-clause-steps g c free =
+    let r = c.args.runtime.now in
+    let made = g.R.Classes.made c.run_task-outcome.new.runtime in
+    subst (λ (w : World). c.run_task-outcome.new.steps ≤ c.args.steps.now + 2 * call_count (end_of (means_in w (g.R.Runtime.program r) c.args.fuel)).events + 2) c.know.ensures.agree.linked_answers
+    (c.run_task-outcome.ensures.steps (direct_run (g.R.Classes.keys r) (g.R.Classes.world r) (g.R.ClassKeys.known r) (g.R.Runtime.linked r) (g.R.Runtime.program r) made c.know.ensures.agree c.know.ensures.loads free))
