@@ -190,7 +190,7 @@ returns-clause-steps g c left cell xs cs is direct without =
     let x = c.requires.standing in
     let e = c.left_of-left.ensures left cell is in
     let cost = cost_of l made xs cs _ left _ _ e without
-        (left_made (scene l (g.R.ClassKeys.known r) (g.R.Runtime.program r) made c.args.objects.now c.args.task.now c.args.fuel.now) x.0 x.1 x.2 _ left cell is x.3) (c.plan.ensures.cost xs cs) in
+    (left_made (scene l (g.R.ClassKeys.known r) (g.R.Runtime.program r) made c.args.objects.now c.args.task.now c.args.fuel.now) x.0 x.1 x.2 _ left cell is x.3) (c.plan.ensures.cost xs cs) in
     let shows = shows_of c.args.trace.now in
     let prefix = c.args.prefix.now in
     let before = g.K.Sink.written c.args.out.now in
