@@ -3,10 +3,9 @@ use Rattle.std.specs.Prelude.{ℕ, List, Option, Some, ◌≡◌, ◌≤◌, len
 use Rattle.som_model.specs.declared.program.Release.{Release}
 use Rattle.som_model.specs.declared.program.ClientProgram.{ClientProgram}
 use Rattle.som_model.specs.Bytes.{Files}
-use Rattle.som_steps.specs.StoredImages.{IsUnder}
+use Rattle.som_steps.specs.StoredImages.{IsClientUnder, IsUnder}
 use Rattle.som_steps.specs.Outcomes as steps
 use Rattle.som_check.specs.CheckEnds.{AreUnder}
-use Rattle.som_check.specs.ShowEnds.{IsClientUnder}
 use Rattle.som_run.specs.RunEnds.{AreFirstImages}
 use Rattle.som_cmd.specs.Words.{Asked, Run, Show, Check}
 use Rattle.som_cmd.specs.Answer.{IsAnswer}
