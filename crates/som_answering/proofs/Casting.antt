@@ -71,4 +71,5 @@ module _ (c : Scene) (from : Place) (code at : ℕ) (cell : Cell) where
         then = s;
         is = ap (λ (t : Tried Value). follow ((tried (place_shown (setting_of c) from) t).does s) (λ x. (go (frames.Answering x) ws).does)) (sym e);
         events = sym (append-nil s.events);
+        holding = meets.around.holding;
       }

@@ -158,7 +158,7 @@ module _ (l : Linked) (kn : Numbering) (main : Block) (made : ClassKey → Bool)
 
       stops : (e : Stop) → passes (past b v) (Err e) → ComesTo earlier later b (Err e) []
       stops e passed ws s runs fuel =
-          stop_moved later (act_of earlier b ws) s b.place (tests (past b v)) b.levels (waiting ws) [] (does ws s) e (passed s.heap runs.around.holding.heap.holds (usable_receiver s.heap ws runs).own.0)
+          stop_moved later (act_of earlier b ws) s b.place (tests (past b v)) b.levels (waiting ws) [] (does ws s) e runs.around.holding (passed s.heap runs.around.holding.heap.holds (usable_receiver s.heap ws runs).own.0)
 
     -- the body after the call, by other words
     pub dispatch_goes : (b' : Body) → b' ≡ past b b' → b'.operands.items ≡ lower_cells (kept items n) → (call : Call) → passes b' (Ok call) → usable_call b' call → IsOnLive os call.me call.parent
@@ -204,7 +204,7 @@ module _ (c : Scene) (levels : ℕ) (from : Place) (code at : ℕ) (on : Cell) (
   pub name_stops : (e : Stop) → call_passes (Err e) → Resumes c c asked cell (Err e)
   name_stops e passed ws s meets fuel =
       let u = name_usable s.heap ws meets in
-      stop_moved c (answer_to c asked cell ws) s from call_tests levels ws [] (call_does ws s) e (passed s.heap meets.around.holding.heap.holds u.0.own.0 (seen_all u.1))
+      stop_moved c (answer_to c asked cell ws) s from call_tests levels ws [] (call_does ws s) e meets.around.holding (passed s.heap meets.around.holding.heap.holds u.0.own.0 (seen_all u.1))
 
   pub name_owner : (h : Heap) (ws : List frames.Waiting) → Meets c asked cell h ws → HaveOwner c.linked c.made c.objects on a.operands.items
   name_owner h ws meets =

@@ -82,15 +82,15 @@ module _ (l : Linked) (kn : Numbering) (main : Block) (made : ClassKey → Bool)
         next_is = record { shown = refl; own = (tt, tt); made_of = tt; fine = tt };
       }
 
-  pub freed_fails : (x : Stopped) (e : Stop) → e ≡ stop_at from x → IsFreed (Err x) → Resumes before after (waits.Uninit from object) cell (Err e)
-  freed_fails stopped.NoMemory e d is = subst (λ z. Resumes before after (waits.Uninit from object) cell (Err z)) (sym d) (λ ws s meets fuel. tt)
-  freed_fails (stopped.Fault x) e d is = subst (λ z. Resumes before after (waits.Uninit from object) cell (Err z)) (sym d) fails
+  pub freed_fails : (x : Stopped) (e : Stop) → e ≡ stop_at from x → os' ≡ os → IsFreed (Err x) → Resumes before after (waits.Uninit from object) cell (Err e)
+  freed_fails stopped.NoMemory e d still is = subst (λ z. Resumes before after (waits.Uninit from object) cell (Err z)) (sym d) (λ ws s meets fuel. tt)
+  freed_fails (stopped.Fault x) e d still is = subst (λ z. Resumes before after (waits.Uninit from object) cell (Err z)) (sym d) fails
     where
       fails : Resumes before after (waits.Uninit from object) cell (Err (stops.Fault x from))
       fails ws s meets fuel =
           let so = stopped_so (is_live s.heap self) (freed self s.heap) x (is s.heap meets.around.holding meets.own.1.0) in
-          subst (λ z. Failed (answer_to before (waits.Uninit from object) cell ws) s z (place_shown (setting_of after) from) []) (sym so.1)
-          (record { then = s; is = ap (by ws s) so.0; events = sym (append-nil s.events) })
+          subst (λ z. Failed (answer_to before (waits.Uninit from object) cell ws) s z (place_shown (setting_of after) from) after []) (sym so.1)
+          (record { then = s; is = ap (by ws s) so.0; events = sym (append-nil s.events); holding = subst (λ o. Holding l made t.serials o t.statics.items s.heap) (sym still) meets.around.holding })
 
 -- ---- what stays
 

@@ -115,7 +115,7 @@ module _ (l : Linked) (kn : Numbering) (main : Block) (made : ClassKey → Bool)
           ∙ ap (λ es. (tests (makes levels (waiting ws))).does (at_state s.fuel es s.heap)) (sym (append-nil s.events))
 
       pub first_stops : (e : Stop) → ((h : Heap) → PassesIn set h at (Err e) tests) → Nexts earlier later levels me at from code r args (Err e)
-      first_stops e passed act ws s around usable_me placed here_in all has fuel does = stop_moved later act s at tests levels (waiting ws) [] (first_does act ws s does) e (passed s.heap)
+      first_stops e passed act ws s around usable_me placed here_in all has fuel does = stop_moved later act s at tests levels (waiting ws) [] (first_does act ws s does) e around.holding (passed s.heap)
 
       parents_made : PlaceIn made here.place → (p : ClassKey) → Mem p (l.world.parents (class_here here)) → made p ≡ true
       parents_made here_in p m = closed.parents (class_here here) p (here_made l.world made closed set me at here_in) m

@@ -1,5 +1,5 @@
 -- Objects of a class that a `new` names.
-use Rattle.std.proofs.Common.{◌≡◌, ℕ, Bool, true, List, [], ◌∷◌, ◌++◌, Some, Result, Ok, Err, sym, ap, subst, ◌∙◌, append_assoc}
+use Rattle.std.proofs.Common.{◌≡◌, ℕ, Bool, true, List, [], ◌∷◌, ◌++◌, Option, Some, Result, Ok, Err, sym, ap, subst, ◌∙◌, append_assoc}
 use Rattle.std.specs.List.{All}
 use Rattle.som_model.specs.declared.key.ClassKey.{ClassKey}
 use Rattle.som_model.specs.declared.syntax.Block.{Block}
@@ -30,7 +30,7 @@ use Rattle.som_task.specs.declared.task.Task.{Task}
 use Rattle.som_task.specs.Settings.{Linked, Setting, class_named, shows}
 use Rattle.som_task.specs.Standing.{body_shown, place_shown}
 use Rattle.som_task.specs.Own.{IsOwnPlace, IsOwnWaiting}
-use Rattle.som_runtime.specs.Holding.{IsUsable}
+use Rattle.som_runtime.specs.Holding.{Holding, IsUsable}
 use Rattle.som_passing.specs.Named.{HaveOwner, IsOnLive, IsUsableCall, Owner}
 use Rattle.som_moves.specs.declared.stop.Stop.{Stop}
 use Rattle.som_moves.specs.Scene.{IsFineWaiting, Scene, scene, setting_of}
@@ -46,13 +46,17 @@ use Rattle.som_moves.proofs.Untold.{at_state}
 pub class_usable : (l : Linked) (made : ClassKey → Bool) (xs : List ℕ) (os : Objects) (n : ℕ) → IsNumbered l.keys n → made (key_of l.keys n) ≡ true → IsUsable l made xs os (cells.Class n)
 class_usable l made xs os n p q = record { own = (p, tt); made_of = q }
 
+-- the task has the objects of a heap among more classes that are made too
+pub holding_more : (l : Linked) (made more : ClassKey → Bool) (xs : List ℕ) (os : Objects) (statics : List (Option (List Cell))) (h : Heap) → ((k : ClassKey) → made k ≡ true → more k ≡ true) → Holding l made xs os statics h → Holding l more xs os statics h
+holding_more l made more xs os statics h grows holding = record { serials = holding.serials; heap = holding.heap; class_objects = holding.class_objects; made_of = heap_more made more grows h holding.made_of }
+
 -- a task is among more classes that are made
 abbrev pub owner_more : (l : Linked) (made more : ClassKey → Bool) (os : Objects) → ((k : ClassKey) → made k ≡ true → more k ≡ true) → Owner l made os → Owner l more os
 owner_more l made more os grows o = record {
   serials = o.serials;
   statics = o.statics;
   heap = o.heap;
-  holding = record { serials = o.holding.serials; heap = o.holding.heap; class_objects = o.holding.class_objects; made_of = heap_more made more grows o.heap o.holding.made_of };
+  holding = holding_more l made more o.serials os o.statics o.heap grows o.holding;
 }
 
 pub class_owner : (l : Linked) (made more : ClassKey → Bool) (os : Objects) (n : ℕ) (args : List Cell) → ((k : ClassKey) → made k ≡ true → more k ≡ true) → Owner l made os → IsNumbered l.keys n → more (key_of l.keys n) ≡ true → args ≡ []
@@ -110,7 +114,8 @@ module _ (l : Linked) (kn : Numbering) (main : Block) (made more : ClassKey → 
       (usable runs.next.own.place (class_usable l more t.serials os n numbered reached) (subst (All P) (sym args_are) (none P))) live
 
   pub new_stops : (e : Stop) → ((h : Heap) → Holds (showing l.keys t.serials) os h → IsSeen (showing l.keys t.serials) (cells.Class n) → PassesIn set h b.place (Err e) tests) → ComesTo earlier later b (Err e) (Used k ∷ [])
-  new_stops e passed ws s runs fuel = stop_moved later (act_of earlier b ws) s b.place tests b.levels (waiting ws) (Used k ∷ []) (does ws s) e (passed s.heap runs.around.holding.heap.holds numbered)
+  new_stops e passed ws s runs fuel = stop_moved later (act_of earlier b ws) s b.place tests b.levels (waiting ws) (Used k ∷ []) (does ws s) e
+      (holding_more l made more t.serials os t.statics.items s.heap made_more runs.around.holding) (passed s.heap runs.around.holding.heap.holds numbered)
 
 -- ---- in other words for the same classes
 

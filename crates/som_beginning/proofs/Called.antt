@@ -62,8 +62,9 @@ use Rattle.som_beginning.specs.declared.begun.What.TheVariants as whats
 use Rattle.som_beginning.specs.Begun.{IsWhat}
 use Rattle.som_beginning.specs.Beginning.{Began, Begins, act_of, call_at, stopped_at}
 use Rattle.som_beginning.proofs.Asked.{kernel_act}
-use Rattle.som_beginning.proofs.Growing.{Grows, around_pushed}
+use Rattle.som_beginning.proofs.Pushing.{around_pushed}
 use Rattle.som_beginning.proofs.Standing.{call_none, quiet, quiet_to, stopped_none}
+use Rattle.som_moves.proofs.Growing.{Grows}
 use Rattle.som_moves.proofs.Untold.{at_state, ends_untold, goes_untold}
 
 -- what a call's tests came to is what the act comes to that makes it
@@ -84,6 +85,7 @@ call_moved c c' act s h ws P levels at (Err (stopped.Fault f)) starts passes usa
   then = at_state s.fuel s.events h;
   is = starts ∙ ends_untold (P (makes levels ws)) h (Faulted f (place_shown (setting_of c') at)) (λ add t e. passes (makes levels ws) add t e) s.fuel s.events;
   events = sym (append-nil s.events);
+  holding = around.holding;
 }
 call_moved c c' act s h ws P levels at (Err stopped.NoMemory) starts passes usable live around fuel = tt
 
@@ -141,8 +143,8 @@ module _ (l : Linked) (k : Numbering) (main : Block) (made : ClassKey → Bool) 
   pub frames_wanting : (b : Begun) (levels : ℕ) (me : Reference) (args : List Cell) → Began old new b levels me args (Err stops.NoMemory)
   frames_wanting b levels me args = quiet_to old new b levels me args (Err stops.NoMemory) refl keeps_frames tt (λ body ws s began fuel tests way a. tt)
 
-  growing : Grows made made os os t t'
-  growing = record { serials = []; serials_are = serials_are ∙ sym (append-nil t.serials); codes = []; codes_are = codes_are ∙ sym (append-nil t.codes); made_more = λ x e. e; known = λ r x. x }
+  growing : Grows made made os os t (record t' { frames = t.frames })
+  growing = record { serials = []; serials_are = serials_are ∙ sym (append-nil t.serials); codes = []; codes_are = codes_are ∙ sym (append-nil t.codes); waiting = refl; made_more = λ x e. e; known = λ r x. x }
 
   module _ (b : Begun) (is : b.what ≡ whats.Kernel kinds.Free) (levels : ℕ) (args : List Cell) where
     abbrev at : Place
@@ -154,6 +156,7 @@ module _ (l : Linked) (k : Numbering) (main : Block) (made : ClassKey → Bool) 
       then = s;
       is = ap (λ (x : Step). x.does s) (kernel_act old b me args kinds.Free is body ws s began levels tests way a) ∙ by me none ws s;
       events = sym (append-nil s.events);
+      holding = began.around.holding;
     })
       where
         by : (me : Reference) → ((r : ObjRef) → me ≡ references.Object r → ⊥) → (ws : List frames.Waiting) (s : State) → (kernel_begins l.world levels (place_shown (setting_of old) at) (shown_ref (shows (setting_of old)) me) ws bodies.Free (all_shown (shows (setting_of old)) args)).does s ≡ Ends (Faulted faults.ClassFree (place_shown (setting_of old) at)) s
@@ -211,11 +214,12 @@ module _ (c : Scene) (b : Begun) (is : b.what ≡ whats.Forward) (levels : ℕ) 
 
   -- there is no target
   pub not_forwarded : (e : Stopped) → ((body : Held) (ws : List frames.Waiting) (s : State) → Begins c s.heap ws b body me args → Answers (shows (setting_of c)) (Err e) (targeted self s.heap)) → Began c c b levels me args (Err (stopped_at from e))
-  not_forwarded e fails = quiet c b levels me args (Err (stopped_at from e)) (stopped_none from e) (λ body ws s began fuel tests way a. by e (act_of c b body levels me args ws tests way a) ws s (forward_is body ws s began tests way a) (fails body ws s began))
+  not_forwarded e fails = quiet c b levels me args (Err (stopped_at from e)) (stopped_none from e) (λ body ws s began fuel tests way a. by e (act_of c b body levels me args ws tests way a) ws s (forward_is body ws s began tests way a) (fails body ws s began) began.around.holding)
     where
-      by : (x : Stopped) (act : Step) (ws : List frames.Waiting) (s : State) → act.does s ≡ (goes_to ws (targeted self s.heap)).does s → Answers (shows (setting_of c)) (Err x) (targeted self s.heap) → Moved act s (Err (stopped_at from x)) c []
-      by (stopped.Fault f) act ws s starts means = record { then = s; is = starts ∙ ap (λ z. (goes_to ws z).does s) means; events = sym (append-nil s.events) }
-      by stopped.NoMemory act ws s starts means = tt
+      by : (x : Stopped) (act : Step) (ws : List frames.Waiting) (s : State) → act.does s ≡ (goes_to ws (targeted self s.heap)).does s → Answers (shows (setting_of c)) (Err x) (targeted self s.heap)
+          → Holding c.linked c.made c.task.serials c.objects c.task.statics.items s.heap → Moved act s (Err (stopped_at from x)) c []
+      by (stopped.Fault f) act ws s starts means holding = record { then = s; is = starts ∙ ap (λ z. (goes_to ws z).does s) means; events = sym (append-nil s.events); holding = holding }
+      by stopped.NoMemory act ws s starts means holding = tt
 
   -- the call is made on the target
   pub was_forwarded : (on : Cell) (call : Result Call Stopped) → IfOk call (λ (x : Call). IsOnLive c.objects x.me x.parent)

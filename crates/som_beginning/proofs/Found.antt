@@ -36,7 +36,7 @@ use Rattle.som_beginning.specs.declared.begun.What.TheVariants as whats
 use Rattle.som_beginning.specs.Beginning.{Began, Begins, act_of}
 use Rattle.som_beginning.proofs.Asked.{kernel_act}
 use Rattle.som_beginning.proofs.Standing.{answers, keeps_still, quiet}
-use Rattle.som_beginning.proofs.Growing.{Grows, around_later}
+use Rattle.som_moves.proofs.Growing.{Grows, around_later}
 
 -- what was found is what the meaning finds, by other words
 pub found_is : (ks : List ClassKey) (w : World) (l : Linked) → l.keys ≡ ks → l.world ≡ w → (vs : List Value) (o x : Option ℕ) → option_map (key_of ks) o ≡ class_found w vs → o ≡ x → class_found l.world vs ≡ option_map (key_of l.keys) x
@@ -111,7 +111,7 @@ module _ (l : Linked) (k : Numbering) (main : Block) (made : ClassKey → Bool) 
       used_made x (inr e) = absurd e
 
       growing : Grows made more os os t t
-      growing = record { serials = []; serials_are = sym (append-nil t.serials); codes = []; codes_are = sym (append-nil t.codes); made_more = grows; known = λ r x. x }
+      growing = record { serials = []; serials_are = sym (append-nil t.serials); codes = []; codes_are = sym (append-nil t.codes); waiting = refl; made_more = grows; known = λ r x. x }
 
       went : (body : Held) (ws : List frames.Waiting) (s : State) → Begins old s.heap ws b body me args → s.fuel ≡ f → (tests : Tests) (way : Manner) (a : Bool)
           → Went (act_of old b body levels me args ws tests way a) s new (nows.Answering (cells.Class n)) (Used key ∷ [])
@@ -123,7 +123,7 @@ module _ (l : Linked) (k : Numbering) (main : Block) (made : ClassKey → Bool) 
         events = refl;
         fuel = fuel;
         around = around_later l k main made more os os t t f f growing s.heap s.heap began.around.holding.heap.holds.many (later_self s.heap) ws began.around
-            (record { serials = began.around.holding.serials; heap = began.around.holding.heap; class_objects = began.around.holding.class_objects; made_of = heap_more made more grows s.heap began.around.holding.made_of }) began.around.codes refl;
+            (record { serials = began.around.holding.serials; heap = began.around.holding.heap; class_objects = began.around.holding.class_objects; made_of = heap_more made more grows s.heap began.around.holding.made_of }) began.around.codes;
         next_is = record { shown = refl; own = (numbered, tt); made_of = now; fine = tt };
       }
 

@@ -1,7 +1,7 @@
 mod Standing
 mod Asked
 mod Coded
-mod Growing
+pub mod Pushing
 mod Found
 mod Called
 mod Written

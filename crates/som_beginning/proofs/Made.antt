@@ -28,6 +28,7 @@ use Rattle.som_telling.specs.declared.running.Place.{Place}
 use Rattle.som_telling.specs.declared.running.Place.TheVariants as places
 use Rattle.som_task.specs.Own.{IsOwnObject}
 use Rattle.som_task.specs.declared.call.Call.{Call}
+use Rattle.som_task.specs.declared.frames.Frames.{Frames}
 use Rattle.som_task.specs.declared.frames.Now.TheVariants as nows
 use Rattle.som_task.specs.declared.frames.Waiting.TheVariants as waits
 use Rattle.som_task.specs.declared.task.Task.{Task}
@@ -49,8 +50,9 @@ use Rattle.som_beginning.specs.declared.begun.What.TheVariants as whats
 use Rattle.som_beginning.specs.Beginning.{Began, act_of, call_at}
 use Rattle.som_beginning.proofs.Asked.{kernel_act}
 use Rattle.som_beginning.proofs.Called.{call_moved, no_arguments}
-use Rattle.som_beginning.proofs.Growing.{Grows, around_later, around_pushed}
+use Rattle.som_beginning.proofs.Pushing.{around_pushed}
 use Rattle.som_beginning.proofs.Standing.{call_none, quiet, quiet_to}
+use Rattle.som_moves.proofs.Growing.{Grows, around_later}
 use Rattle.som_moves.proofs.Untold.{at_state}
 use Rattle.som_beginning.proofs.Written.{one_made, the_one}
 
@@ -103,6 +105,7 @@ module _ (l : Linked) (k : Numbering) (main : Block) (made : ClassKey → Bool) 
     then = s;
     is = ap (λ (x : Step). x.does s) (kernel_act old b me args kind is body ws s began levels tests way a) ∙ not_made kind m me none ws s;
     events = sym (append-nil s.events);
+    holding = began.around.holding;
   })
 
   -- ---- a new object
@@ -144,8 +147,8 @@ module _ (l : Linked) (k : Numbering) (main : Block) (made : ClassKey → Bool) 
     keeps_none same equal = keeps_added [] (same ∙ sym (append-nil t.serials)) (let e = ap (λ (x : Objects). length x) equal in omega (arith, e)) (λ m f. absurd f)
 
     module _ (r : ObjRef) (serials_are : t'.serials ≡ t.serials ++ r.serial ∷ []) where
-      growing : Grows made made os os' t t'
-      growing = record { serials = r.serial ∷ []; serials_are = serials_are; codes = []; codes_are = codes_are ∙ sym (append-nil t.codes); made_more = λ x e. e; known = known }
+      growing : (fr : Frames) → fr.waiting.items ≡ t.frames.waiting.items → Grows made made os os' t (record t' { frames = fr })
+      growing fr waiting_is = record { serials = r.serial ∷ []; serials_are = serials_are; codes = []; codes_are = codes_are ∙ sym (append-nil t.codes); waiting = waiting_is; made_more = λ x e. e; known = known }
 
       pub keeps_one : r.serial ≡ length os + 1 → length os' ≡ length os + 1 → Keeps old new
       keeps_one serial count = keeps_added (r.serial ∷ []) serials_are (omega (arith, count)) above
@@ -198,7 +201,7 @@ module _ (l : Linked) (k : Numbering) (main : Block) (made : ClassKey → Bool) 
                   ∙ ap (λ i. Goes (On (both (frames.Answering (To (Object i))) ws)) (at_state s.fuel s.events (grown s.heap))) (sym (place s.heap held));
               events = sym (append-nil s.events);
               fuel = fuel;
-              around = around_later l k main made made os os' t t' f f growing s.heap (grown s.heap) held.heap.holds.many (later s.heap) ws began.around (holding s.heap held) (codes_kept s.heap ws began.around) waiting_is;
+              around = around_later l k main made made os os' t t' f f (growing t'.frames waiting_is) s.heap (grown s.heap) held.heap.holds.many (later s.heap) ws began.around (holding s.heap held) (codes_kept s.heap ws began.around);
               next_is = record { shown = refl; own = own s.heap held; made_of = tt; fine = tt };
             }))
 
@@ -225,5 +228,5 @@ module _ (l : Linked) (k : Numbering) (main : Block) (made : ClassKey → Bool) 
             ∙ ap (λ i. (inits (Object i) [] (makes levels (frames.ForInit (Object i) ∷ ws))).does (at_state s.fuel s.events (grown s.heap))) (sym (place s.heap held))
             ∙ ap (λ cs. (inits (Object (place_of t'.serials r.serial)) (all_shown (showing l.keys t'.serials) cs) (makes levels ws')).does (at_state s.fuel s.events (grown s.heap))) (sym empty))
             p.0 p.1 live
-            (around_pushed l k main made made os os' t t' f f growing s.heap (grown s.heap) held.heap.holds.many (later s.heap) ws began.around (holding s.heap held) (codes_kept s.heap ws began.around) (waits.Init r) waiting_is (own s.heap held) tt tt)
+            (around_pushed l k main made made os os' t t' f f (growing t.frames refl) s.heap (grown s.heap) held.heap.holds.many (later s.heap) ws began.around (holding s.heap held) (codes_kept s.heap ws began.around) (waits.Init r) waiting_is (own s.heap held) tt tt)
             fuel))

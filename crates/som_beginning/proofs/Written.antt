@@ -1,5 +1,5 @@
 -- A variable of self gets a value.
-use Rattle.std.proofs.Common.{◌≡◌, ◌<◌, ◌==◌, ℕ, Bool, true, false, if◌then◌else◌, List, [], ◌∷◌, ◌++◌, length, Some, Result, Ok, Err, refl, sym, ap, subst, ◌∙◌, append-nil, arith}
+use Rattle.std.proofs.Common.{◌≡◌, ◌<◌, ◌==◌, ℕ, Bool, true, false, if◌then◌else◌, List, [], ◌∷◌, ◌++◌, length, Some, Result, Ok, Err, OnErr, refl, sym, ap, subst, ◌∙◌, append-nil, arith}
 use Rattle.som_model.specs.declared.key.ClassKey.{ClassKey}
 use Rattle.som_model.specs.declared.syntax.Block.{Block}
 use Rattle.som_model.specs.declared.program.Fault.{Fault}
@@ -49,8 +49,8 @@ use Rattle.som_beginning.specs.declared.begun.What.TheVariants as whats
 use Rattle.som_beginning.specs.Begun.{IsBegun, IsWhat}
 use Rattle.som_beginning.specs.Beginning.{Began, Begins, StopsAt, act_of, write_at}
 use Rattle.som_beginning.proofs.Asked.{acts}
-use Rattle.som_beginning.proofs.Growing.{Grows, around_later}
 use Rattle.som_beginning.proofs.Standing.{quiet_to, stopped_none}
+use Rattle.som_moves.proofs.Growing.{Grows, around_later}
 use Rattle.som_moves.proofs.Untold.{at_state}
 
 -- one serial is the only one of itself
@@ -107,7 +107,7 @@ module _ (l : Linked) (k : Numbering) (main : Block) (made : ClassKey → Bool) 
   }
 
   growing : Grows made made os os' t t'
-  growing = record { serials = []; serials_are = serials_are ∙ sym (append-nil t.serials); codes = []; codes_are = codes_are ∙ sym (append-nil t.codes); made_more = λ x e. e; known = known }
+  growing = record { serials = []; serials_are = serials_are ∙ sym (append-nil t.serials); codes = []; codes_are = codes_are ∙ sym (append-nil t.codes); waiting = waiting_is; made_more = λ x e. e; known = known }
 
   module _ (b : Begun) (n : ℕ) (is : b.what ≡ whats.Set n) (levels : ℕ) (me : Reference) (args : List Cell) where
     abbrev self : Ref
@@ -142,8 +142,8 @@ module _ (l : Linked) (k : Numbering) (main : Block) (made : ClassKey → Bool) 
     not_written false h e d = (refl, let x = d in cc)
 
     comes : (r : Result (Unit {0}) Stopped) (body : Held) (ws : List frames.Waiting) (s : State) → Begins old s.heap ws b body me args → s.fuel ≡ f → (tests : Tests) (way : Manner) (a : Bool)
-        → Becomes l made t.serials os' t'.statics.items r (assigned key n (To self) value s.heap) → Moved (act_of old b body levels me args ws tests way a) s (write_at (places.Body b.class b.method) r) new []
-    comes (Ok u) body ws s began fuel tests way a becomes =
+        → Becomes l made t.serials os' t'.statics.items r (assigned key n (To self) value s.heap) → OnErr r (Holding l made t.serials os' t'.statics.items s.heap) → Moved (act_of old b body levels me args ws tests way a) s (write_at (places.Body b.class b.method) r) new []
+    comes (Ok u) body ws s began fuel tests way a becomes held =
         let w = live_written (is_live s.heap self) (write self key n value s.heap) becomes.0 becomes.1 in
         let later : IsLater s.heap becomes.0 = subst (λ (h : Heap). IsLater s.heap h) w.1 (write_stays self key n value s.heap) in
         let holding : Holding l made t'.serials os' t'.statics.items becomes.0 = subst (λ xs. Holding l made xs os' t'.statics.items becomes.0) (sym serials_are) becomes.2 in
@@ -154,17 +154,18 @@ module _ (l : Linked) (k : Numbering) (main : Block) (made : ClassKey → Bool) 
           is = act_is body ws s began tests way a ∙ ap (λ z. (writes z ws).does s) w.0 ∙ ap (λ h. Goes (On (both (frames.Answering Nil) ws)) (at_state s.fuel s.events h)) w.1;
           events = sym (append-nil s.events);
           fuel = fuel;
-          around = around_later l k main made made os os' t t' f f growing s.heap becomes.0 began.around.holding.heap.holds.many later ws began.around holding (subst (AreCodes k main) (sym codes_are) began.around.codes) waiting_is;
+          around = around_later l k main made made os os' t t' f f growing s.heap becomes.0 began.around.holding.heap.holds.many later ws began.around holding (subst (AreCodes k main) (sym codes_are) began.around.codes);
           next_is = record { shown = refl; own = (tt, tt); made_of = tt; fine = tt };
         }
-    comes (Err (stopped.Fault e)) body ws s began fuel tests way a becomes =
+    comes (Err (stopped.Fault e)) body ws s began fuel tests way a becomes held =
         let w = not_written (is_live s.heap self) (write self key n value s.heap) e becomes in
         record {
           then = s;
           is = act_is body ws s began tests way a ∙ ap (λ z. (writes z ws).does s) w.0 ∙ ap (λ x. Ends (Faulted x at) s) w.1;
           events = sym (append-nil s.events);
+          holding = subst (λ xs. Holding l made xs os' t'.statics.items s.heap) (sym serials_are) held;
         }
-    comes (Err stopped.NoMemory) body ws s began fuel tests way a becomes = tt
+    comes (Err stopped.NoMemory) body ws s began fuel tests way a becomes held = tt
 
     -- the first argument as a cell
     pub first_usable : (body : Held) (ws : List frames.Waiting) (h : Heap) → Begins old h ws b body me args → IsUsable l made t.serials os (first_cell args)
@@ -172,11 +173,13 @@ module _ (l : Linked) (k : Numbering) (main : Block) (made : ClassKey → Bool) 
 
     pub was_written : (r : Result (Unit {0}) Stopped) → Keeps old new
         → ((h : Heap) → Acts l made os t.statics.items (Some me) t.serials h → IsUsable l made t.serials os (first_cell args) → Becomes l made t.serials os' t'.statics.items r (assigned key n (me_value l t.serials (Some me)) (shown (showing l.keys t.serials) (first_cell args)) h))
+        → ((h : Heap) → Holding l made t.serials os t.statics.items h → OnErr r (Holding l made t.serials os' t'.statics.items h))
         → Began old new b levels me args (write_at (places.Body b.class b.method) r)
-    was_written r keeps means = quiet_to old new b levels me args (write_at (places.Body b.class b.method) r) refl keeps (write_none (places.Body b.class b.method) r) (λ body ws s began fuel tests way a.
+    was_written r keeps means fails = quiet_to old new b levels me args (write_at (places.Body b.class b.method) r) refl keeps (write_none (places.Body b.class b.method) r) (λ body ws s began fuel tests way a.
         comes r body ws s began fuel tests way a
         (subst (λ v. Becomes l made t.serials os' t'.statics.items r (assigned key n (To self) v s.heap)) (sym (first_value (showing l.keys t.serials) args))
-        (means s.heap (acts old b me args body ws s.heap began) (first_usable body ws s.heap began))))
+        (means s.heap (acts old b me args body ws s.heap began) (first_usable body ws s.heap began)))
+        (fails s.heap began.around.holding))
 
 -- the class has the writer of the variable for its method
 pub set_held : (l : Linked) (cs : List Coded) (b : Begun) (n : ℕ) → b.what ≡ whats.Set n → (params : ℕ) (body : Held) → IsBegun l cs b params body → l.world.held (key_of l.keys b.class) (l.method b.method) ≡ Some (held.Set n)

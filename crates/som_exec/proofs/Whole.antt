@@ -16,7 +16,7 @@ use Rattle.som_exec.specs.Run.{RunsSo, text_with}
 use Rattle.som_exec.specs.Stands.{meaning, told_so_far}
 
 -- without a prefix lines are what they are
-no_prefix : (lines : List (List ℕ)) → with_prefix [] lines ≡ lines
+pub no_prefix : (lines : List (List ℕ)) → with_prefix [] lines ≡ lines
 no_prefix [] = refl
 no_prefix (l ∷ ls) = ap (λ z. l ∷ z) (no_prefix ls)
 

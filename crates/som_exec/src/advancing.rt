@@ -19,6 +19,7 @@ pub fn advance<M: Advances>(moves: &mut M, units: u32) -> Advanced
     requires stands { Stands (M.scene moves.old) }
     requires units { (M.scene moves.old).task.granted + units < 2 ^ 32 }
     ensures comes { Comes (M.scene moves.old) units (M.shows moves.old) (M.prefix moves.old) (M.written moves.old) (M.written moves.new) (M.scene moves.new) result }
+    ensures lent { M.lent moves.new ≡ M.lent moves.old }
     ensures counts { Counts (M.faults moves.old) (M.faults moves.new) result }
     ensures calms { StaysCalm (M.calm moves.old) (M.calm moves.new) (M.faults moves.old) (M.faults moves.new) result }
 {
@@ -37,6 +38,7 @@ fn go_on<M: Advances>(moves: &mut M, units: u32) -> Result<(), Stop>
     requires units { (M.scene moves.old).task.granted + units < 2 ^ 32 }
     ensures ran { RanOn (M.shows moves.old) (M.prefix moves.old) (M.written moves.old) (M.written moves.new) (with_granted (M.scene moves.old) units) (M.scene moves.new) (ended result) }
     ensures prefix { M.prefix moves.new ≡ M.prefix moves.old }
+    ensures lent { M.lent moves.new ≡ M.lent moves.old }
     ensures counts { StopCounts (M.faults moves.old) (M.faults moves.new) (ended result) }
     ensures calms { StopsCalm (M.calm moves.old) (M.calm moves.new) (M.faults moves.old) (M.faults moves.new) (ended result) }
 {
@@ -50,6 +52,7 @@ fn end_by<M: Advances>(moves: &mut M, fault: Fault, at: Place) -> Advanced
     requires { IsOwnPlace (setting_of (M.scene moves.old)) (M.scene moves.old).objects at }
     ensures ends { EndsBy (M.prefix moves.old) (M.written moves.old) (M.written moves.new) fault (place_shown (setting_of (M.scene moves.old)) at) result }
     ensures scene { M.scene moves.new ≡ M.scene moves.old }
+    ensures lent { M.lent moves.new ≡ M.lent moves.old }
     ensures counts { Counts (M.faults moves.old) (M.faults moves.new) result }
     ensures calms { StaysCalm (M.calm moves.old) (M.calm moves.new) (M.faults moves.old) (M.faults moves.new) result }
 {

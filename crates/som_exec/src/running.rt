@@ -10,6 +10,7 @@ pub fn run<M: Advances>(moves: &mut M, fuel: u32) -> Outcome
     requires granted { (M.scene moves.old).task.granted ≡ 0 }
     requires begun { (M.scene moves.old).task.begun ≡ false }
     ensures runs { RunsSo (M.scene moves.old) fuel (M.shows moves.old) (M.prefix moves.old) (M.written moves.old) (M.written moves.new) (M.scene moves.new) result }
+    ensures lent { M.lent moves.new ≡ M.lent moves.old }
     ensures counts { Counts (M.faults moves.old) (M.faults moves.new) result }
     ensures calms { StaysCalm (M.calm moves.old) (M.calm moves.new) (M.faults moves.old) (M.faults moves.new) result }
 {

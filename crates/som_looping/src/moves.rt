@@ -25,6 +25,9 @@ pub trait Moves {
     /// That nothing is set to make the sink fail.
     ghost calm: { Self → Type 0 };
 
+    /// The references that it works through, by their names, so that who lent them knows what they end as.
+    ghost lent: { Self → List ℕ };
+
     /// The units that are left.
     fn fuel(&self) -> u32
         ensures { result ≡ (scene self.now).fuel };
@@ -35,6 +38,7 @@ pub trait Moves {
         ensures stepped { Stepped (shows self.old) (prefix self.old) (written self.old) (written self.new) (scene self.old) (scene self.new) result }
         ensures shows { shows self.new ≡ shows self.old }
         ensures prefix { prefix self.new ≡ prefix self.old }
+        ensures lent { lent self.new ≡ lent self.old }
         ensures counts { Counts (faults self.old) (faults self.new) result }
         ensures calms { StaysCalm (calm self.old) (calm self.new) (faults self.old) (faults self.new) result };
 }

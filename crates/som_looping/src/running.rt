@@ -13,6 +13,7 @@ pub fn run_on<M: Moves>(moves: &mut M) -> Result<(), Stop>
     ensures ran { RanOn (M.shows moves.old) (M.prefix moves.old) (M.written moves.old) (M.written moves.new) (M.scene moves.old) (M.scene moves.new) (ended result) }
     ensures shows { M.shows moves.new ≡ M.shows moves.old }
     ensures prefix { M.prefix moves.new ≡ M.prefix moves.old }
+    ensures lent { M.lent moves.new ≡ M.lent moves.old }
     ensures counts { Counts (M.faults moves.old) (M.faults moves.new) (ended result) }
     ensures calms { StaysCalm (M.calm moves.old) (M.calm moves.new) (M.faults moves.old) (M.faults moves.new) (ended result) }
 {
@@ -26,6 +27,7 @@ fn run_unit<M: Moves>(moves: &mut M) -> Result<bool, Stop>
     ensures ran { RanOn (M.shows moves.old) (M.prefix moves.old) (M.written moves.old) (M.written moves.new) (M.scene moves.old) (M.scene moves.new) result }
     ensures shows { M.shows moves.new ≡ M.shows moves.old }
     ensures prefix { M.prefix moves.new ≡ M.prefix moves.old }
+    ensures lent { M.lent moves.new ≡ M.lent moves.old }
     ensures counts { Counts (M.faults moves.old) (M.faults moves.new) result }
     ensures calms { StaysCalm (M.calm moves.old) (M.calm moves.new) (M.faults moves.old) (M.faults moves.new) result }
     ensures somewhere { result ≡ Ok true → IsSomewhere (M.scene moves.new) }

@@ -1,7 +1,6 @@
 mod Entering
 mod Firsts
 mod Waits
-mod Pushing
 mod Stepped
 mod Coming
 mod Began

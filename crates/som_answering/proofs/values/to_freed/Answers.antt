@@ -11,7 +11,7 @@ returns-in-Ok-clause-keeps c l kn main made t f mine = freed_keeps l kn main mad
 
 pub returns-in-Err-clause-resumes : goal.returns-in-Err-clause-resumes
 returns-in-Err-clause-resumes c l kn main made t f value =
-    freed_fails l kn main made c.args.objects.now c.free.new.objects t f c.args.from c.args.object.now value c.in-Err.stopped c.stop.result c.stop.ensures
+    freed_fails l kn main made c.args.objects.now c.free.new.objects t f c.args.from c.args.object.now value c.in-Err.stopped c.stop.result c.stop.ensures c.in-Err.ensures.err
     (λ h holding mine. c.in-Err.ensures.means l made t.serials t.statics.items h holding mine)
 
 pub returns-in-Err-clause-keeps : goal.returns-in-Err-clause-keeps

@@ -33,4 +33,5 @@ returns g c f levels =
     subst (λ z. Began (scene l (g.R.ClassKeys.known r) (g.R.Runtime.program r) made os t f) (scene l (g.R.ClassKeys.known r) (g.R.Runtime.program r) made c.assign.new.objects t' f) b levels c.args.me args z) (sym c.done.ensures)
     (was_written l (g.R.ClassKeys.known r) (g.R.Runtime.program r) made os c.assign.new.objects t t' f refl refl refl refl refl c.assign.ensures.keeps c.assign.ensures.count b c.args.variable c.requires.what levels c.args.me args c.assign.result keeps
     (λ h a usable. subst (λ (x : Cell). Becomes l made t.serials c.assign.new.objects c.assign.new.statics.items c.assign.result (assigned (key_of l.keys b.class) c.args.variable (me_value l t.serials (Some c.args.me)) (shown (showing l.keys t.serials) x) h)) c.first-cell.ensures
-    (c.assign.ensures.means t.serials h a (subst (IsUsable l made t.serials os) (sym c.first-cell.ensures) usable))))
+    (c.assign.ensures.means t.serials h a (subst (IsUsable l made t.serials os) (sym c.first-cell.ensures) usable)))
+    (c.assign.ensures.held t.serials))

@@ -11,6 +11,7 @@ loop-init g c = record {
   ran = ran_none _ _ _ _;
   shows = refl;
   prefix = refl;
+  lent = refl;
   counts = counts_none _;
   calms = calm_none _ _;
 }
@@ -31,6 +32,7 @@ loop-preserved g c =
       ran = ran_then _ _ _ _ i.shows i.prefix _ _ _ _ _ _ _ i.ran (rw c.if-branch.true at c.in_ok-run_unit.ensures.ran);
       shows = c.in_ok-run_unit.ensures.shows ∙ i.shows;
       prefix = c.in_ok-run_unit.ensures.prefix ∙ i.prefix;
+      lent = c.in_ok-run_unit.ensures.lent ∙ i.lent;
       counts = counts_both _ _ _ _ i.counts (rw c.if-branch.true at c.in_ok-run_unit.ensures.counts);
       calms = calm_both _ _ _ _ _ _ _ i.calms (rw c.if-branch.true at c.in_ok-run_unit.ensures.calms);
     }

@@ -10,6 +10,7 @@ invariant-loop g l = record {
   ran : RanOn (g.M.Moves.shows l.fn.moves) (g.M.Moves.prefix l.fn.moves) (g.M.Moves.written l.fn.moves) (g.M.Moves.written l.moves) (g.M.Moves.scene l.fn.moves) (g.M.Moves.scene l.moves) (Ok true);
   shows : g.M.Moves.shows l.moves ≡ g.M.Moves.shows l.fn.moves;
   prefix : g.M.Moves.prefix l.moves ≡ g.M.Moves.prefix l.fn.moves;
+  lent : g.M.Moves.lent l.moves ≡ g.M.Moves.lent l.fn.moves;
   counts : Counts (g.M.Moves.faults l.fn.moves) (g.M.Moves.faults l.moves) (Ok true);
   calms : StaysCalm (g.M.Moves.calm l.fn.moves) (g.M.Moves.calm l.moves) (g.M.Moves.faults l.fn.moves) (g.M.Moves.faults l.moves) (Ok true);
 }

@@ -87,7 +87,7 @@ returns-in-Err-clause-comes g c f =
     let set = setting_of (scene l kn main made os t f) in
     let key = c.class_at-class.ensures.key set b.me refl in
     set_stops l kn main made os c.assign.new.objects t u f b c.assign.ensures.keeps closed c.args.variable (c.requires.is f) (key_of l.keys c.class_at-class.result) c.pop-cell.result key c.pop-cell.ensures.cell
-    c.in-Err.stopped (Err c.stop.result) b (ap (λ e. Err e) c.stop.ensures.value)
+    c.in-Err.stopped (Err c.stop.result) b (ap (λ e. Err e) c.stop.ensures.value) (λ h holding. c.in-Err.ensures.held t.serials h holding)
     (λ h ws runs. c.in-Err.ensures.means t.serials h (acts l kn main made os t f b h ws runs) (usable_top l kn main made os t f b h ws c.pop-cell.result c.pop-cell.ensures.cell runs))
 
 pub returns-in-Err-clause-keeps : goal.returns-in-Err-clause-keeps

@@ -1,0 +1,6 @@
+pub mod Tests
+pub mod Laid
+pub mod Kernels
+pub mod Worlds
+pub mod Steps
+pub mod Counting
