@@ -1,7 +1,11 @@
 pub mod Putting
 pub mod Faulting
+pub mod Testing
 pub mod Obeying
 pub mod Entering
 pub mod Stepping
 pub mod Returning
 pub mod Waking
+pub mod Giving
+pub mod Joined
+pub mod Leaving

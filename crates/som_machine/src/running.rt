@@ -37,7 +37,7 @@ pub fn obey_next<R: Runtime, K: Sink>(
     out: &mut K,
 ) -> Result<Now, Stop>
     requires somewhere { IsSomewhere (scene (R.linked runtime.old) (R.known runtime.old) (R.program runtime.old) (R.made runtime.old) objects.old task.old fuel.old) }
-    requires no_call { IsWithoutCall (scene (R.linked runtime.old) (R.known runtime.old) (R.program runtime.old) (R.made runtime.old) objects.old task.old fuel.old) }
+    requires no_call { IsWithoutCall task.old }
     ensures came { (shows : List ℕ → Bool) → Came shows prefix.now (K.written out.old) (K.written out.new)
         (scene (R.linked runtime.old) (R.known runtime.old) (R.program runtime.old) (R.made runtime.old) objects.old task.old fuel.old)
         (scene (R.linked runtime.new) (R.known runtime.new) (R.program runtime.new) (R.made runtime.new) objects.new task.new fuel.new) result }
@@ -67,7 +67,7 @@ fn obey_taken<R: Runtime, K: Sink>(
     out: &mut K,
 ) -> Result<Now, Stop>
     requires somewhere { IsSomewhere (scene (R.linked runtime.old) (R.known runtime.old) (R.program runtime.old) (R.made runtime.old) objects.old task.old fuel.old) }
-    requires no_call { IsWithoutCall (scene (R.linked runtime.old) (R.known runtime.old) (R.program runtime.old) (R.made runtime.old) objects.old task.old fuel.old) }
+    requires no_call { IsWithoutCall task.old }
     requires unit { (b : Runner) (ws : List Waiting) (s : State) → task.old.frames.now ≡ nows.Running b
         → Runs (scene (R.linked runtime.old) (R.known runtime.old) (R.program runtime.old) (R.made runtime.old) objects.old task.old fuel.old) b s.heap ws → s.fuel ≡ fuel.old
         → (act_of (scene (R.linked runtime.old) (R.known runtime.old) (R.program runtime.old) (R.made runtime.old) objects.old task.old fuel.old) b ws).does s ≢ Ends Spent s }
@@ -89,7 +89,7 @@ fn obey_taken<R: Runtime, K: Sink>(
 }
 
 // The body that runs.
-fn running(frames: &Frames) -> &Body
+pub(crate) fn running(frames: &Frames) -> &Body
     requires { IsBody frames.now.now }
     ensures { frames.entry.now.now ≡ nows.Running result.now }
 {
@@ -100,7 +100,7 @@ fn running(frames: &Frames) -> &Body
 }
 
 // Takes the body that runs out of the frames.
-fn take_body(frames: &mut Frames) -> Body
+pub(crate) fn take_body(frames: &mut Frames) -> Body
     requires { IsBody frames.old.now }
     ensures body { frames.old.now ≡ nows.Running result }
     ensures left { frames.new ≡ record frames.old { now = nows.Answering cells.Nil } }

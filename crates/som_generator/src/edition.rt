@@ -1,0 +1,7 @@
+/// Which of the two releases.
+#[derive(Clone, Copy, Debug, PartialEq, Eq)]
+pub enum Edition {
+    First,
+    /// A class stands above all others, and each of these has a method more.
+    Second,
+}

@@ -1,0 +1,11 @@
+use Rattle.std.proofs.Common.{rules}
+use Rattle.som_moves.specs.Scene.{scene}
+use Rattle.som_telling.specs.Filters.{shows_of}
+use Rattle.som_runner.proofs.Alone.{comes_left}
+use Rattle.som_runner.proofs.advancing.go_on.Goals as goal
+
+pub returns-clause-comes : goal.returns-clause-comes
+returns-clause-comes g c =
+    let r = c.args.runtime.now in
+    comes_left (scene (g.R.Runtime.linked r) (g.R.ClassKeys.known r) (g.R.Runtime.program r) (g.R.Classes.made r) c.args.objects.now c.args.task.now 0) c.args.units (shows_of c.args.trace.now) c.args.prefix.now (g.K.Sink.written c.args.out.now) c.advance.new.moves.fuel c.advance.result c.advance.ensures.comes
+    (search rules) (search rules) (search rules) (search rules) (search rules) (search rules) (search rules)

@@ -1,0 +1,105 @@
+ghost use Rattle.som_exec.specs.Advance.{Comes, Counts, StaysCalm};
+ghost use Rattle.som_exec.specs.Stands.{IsStanding, Stands};
+ghost use Rattle.som_moves.specs.Scene.{scene};
+ghost use Rattle.som_runner.specs.Going.{is_going as can_go_on};
+ghost use Rattle.som_telling.specs.Filters.{shows_of};
+ghost use Rattle.std.specs.Prelude.{◌≡◌, ◌<◌, ◌+◌, ◌^◌, true};
+
+use crate::Machine;
+use som_exec::{Advanced, Task};
+use som_host::HostTable;
+use som_io::Sink;
+use som_model::Text;
+use som_objects::ObjectStore;
+use som_runtime::Runtime;
+use som_tables::Steps;
+use som_telling::TraceFilter;
+use std::alloc::Global;
+use std::sync::ledger::Ledger;
+
+/// Grants units to a live task that stands, and goes on until its main is over, it has a fault, or no unit is left. What
+/// it comes to is what main means with the units granted before and these. The task is live where it can be gone on with.
+pub fn advance<R: Runtime, K: Sink, L: Ledger>(
+    alloc: Global,
+    task: &mut Task,
+    runtime: &mut R,
+    units: u32,
+    objects: &mut ObjectStore,
+    trace: &TraceFilter,
+    host: &HostTable,
+    prefix: &Text,
+    out: &mut K,
+    steps: &mut Steps<L>,
+) -> Advanced
+    requires live { task.old.live ≡ true }
+    requires stands { IsStanding (R.linked runtime.old) (R.known runtime.old) (R.program runtime.old) (R.made runtime.old) objects.old task.old }
+    requires units { task.old.task.granted + units < 2 ^ 32 }
+    ensures comes { Comes (scene (R.linked runtime.old) (R.known runtime.old) (R.program runtime.old) (R.made runtime.old) objects.old task.old.task 0) units (shows_of trace.now) prefix.now (K.written out.old) (K.written out.new)
+        (scene (R.linked runtime.new) (R.known runtime.new) (R.program runtime.new) (R.made runtime.new) objects.new task.new.task 0) result }
+    ensures live { task.new.live ≡ can_go_on result }
+    ensures counts { Counts (K.faults out.old) (K.faults out.new) result }
+    ensures calms { StaysCalm (K.calm out.old) (K.calm out.new) (K.faults out.old) (K.faults out.new) result }
+{
+    let answer = go_on(
+        alloc,
+        &mut task.task,
+        runtime,
+        units,
+        objects,
+        trace,
+        host,
+        prefix,
+        out,
+        steps,
+    );
+    task.live = is_going(&answer);
+    answer
+}
+
+// The same of what a task has.
+fn go_on<'a, R: Runtime, K: Sink, L: Ledger>(
+    alloc: Global,
+    task: &'a mut som_task::Task,
+    runtime: &'a mut R,
+    units: u32,
+    objects: &'a mut ObjectStore,
+    trace: &'a TraceFilter,
+    host: &'a HostTable,
+    prefix: &'a Text,
+    out: &'a mut K,
+    steps: &'a mut Steps<L>,
+) -> Advanced
+    requires stands { Stands (scene (R.linked runtime.old) (R.known runtime.old) (R.program runtime.old) (R.made runtime.old) objects.old task.old 0) }
+    requires units { task.old.granted + units < 2 ^ 32 }
+    ensures comes { Comes (scene (R.linked runtime.old) (R.known runtime.old) (R.program runtime.old) (R.made runtime.old) objects.old task.old 0) units (shows_of trace.now) prefix.now (K.written out.old) (K.written out.new)
+        (scene (R.linked runtime.new) (R.known runtime.new) (R.program runtime.new) (R.made runtime.new) objects.new task.new 0) result }
+    ensures counts { Counts (K.faults out.old) (K.faults out.new) result }
+    ensures calms { StaysCalm (K.calm out.old) (K.calm out.new) (K.faults out.old) (K.faults out.new) result }
+{
+    let mut machine = Machine {
+        alloc,
+        runtime,
+        task,
+        objects,
+        host,
+        trace,
+        prefix,
+        fuel: 0,
+        out,
+        steps,
+    };
+    som_exec::advance(&mut machine, units)
+}
+
+// Whether a task can be gone on with after this.
+fn is_going(answer: &Advanced) -> bool
+    ensures { result ≡ can_go_on answer.now }
+{
+    match answer {
+        Advanced::Going => true,
+        Advanced::Done => false,
+        Advanced::SourceFault { .. } => false,
+        Advanced::SinkFailed => false,
+        Advanced::NoMemory => false,
+    }
+}

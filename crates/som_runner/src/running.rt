@@ -1,0 +1,104 @@
+ghost use Rattle.som_exec.specs.Run.{Counts, EndsSo, IfRan, StaysCalm};
+ghost use Rattle.som_exec.specs.Stands.{Stands};
+ghost use Rattle.som_io.specs.Outside.{ShowsAll, ShowsFront};
+ghost use Rattle.som_model.specs.Means.{means_in};
+ghost use Rattle.som_model.specs.RunText.{run_text};
+ghost use Rattle.som_model.specs.Runs.{end_of};
+ghost use Rattle.som_model.specs.declared.key.ClassKey.{ClassKey};
+ghost use Rattle.som_moves.specs.Moving.{Makes};
+ghost use Rattle.som_moves.specs.Scene.{scene};
+ghost use Rattle.som_objects.specs.Objects.{Objects};
+ghost use Rattle.som_runner.specs.Runs.{RunsMain};
+ghost use Rattle.som_telling.specs.Filters.{shows_of};
+ghost use Rattle.std.specs.Prelude.{◌≡◌, false, true};
+
+use crate::Machine;
+use som_exec::{Outcome, Task, start};
+use som_host::HostTable;
+use som_io::Sink;
+use som_model::{NoMemory, Text};
+use som_objects::ObjectStore;
+use som_runtime::Runtime;
+use som_tables::Steps;
+use som_telling::TraceFilter;
+use std::alloc::Global;
+use std::sync::ledger::Ledger;
+
+/// Runs the main of a linked kernel by this fuel, with objects of its own: it answers the end of what main means, and
+/// tells its text, or a front of it where memory was wanting or the sink failed. The classes that were used are made,
+/// and the kernel is else as it was.
+pub fn run<R: Runtime, K: Sink, L: Ledger>(
+    alloc: Global,
+    runtime: &mut R,
+    fuel: u32,
+    trace: &TraceFilter,
+    host: &HostTable,
+    out: &mut K,
+    steps: &mut Steps<L>,
+) -> Outcome
+    ensures ended { EndsSo (means_in (R.world runtime.old) (R.program runtime.old) fuel) result }
+    ensures text { IfRan result (ShowsAll (K.written out.old) (K.written out.new) (run_text (shows_of trace.now) (means_in (R.world runtime.old) (R.program runtime.old) fuel))) }
+    ensures front { ShowsFront (K.written out.old) (K.written out.new) (run_text (shows_of trace.now) (means_in (R.world runtime.old) (R.program runtime.old) fuel)) }
+    ensures makes { IfRan result (Makes (R.known runtime.old).classes (R.made runtime.old) (R.made runtime.new) (end_of (means_in (R.world runtime.old) (R.program runtime.old) fuel)).events) }
+    ensures keeps_made { (k : ClassKey) → R.made runtime.old k ≡ true → R.made runtime.new k ≡ true }
+
+    ensures counts { Counts (K.faults out.old) (K.faults out.new) result }
+    ensures calms { StaysCalm (K.calm out.old) (K.calm out.new) (K.faults out.old) (K.faults out.new) result }
+
+    ensures keys { R.keys runtime.new ≡ R.keys runtime.old }
+    ensures world { R.world runtime.new ≡ R.world runtime.old }
+    ensures known { R.known runtime.new ≡ R.known runtime.old }
+    ensures linked { R.linked runtime.new ≡ R.linked runtime.old }
+    ensures program { R.program runtime.new ≡ R.program runtime.old }
+{
+    runtime.know();
+    match start(alloc, &*runtime) {
+        Ok(started) => {
+            let outcome = run_task(alloc, started, runtime, fuel, trace, host, out, steps);
+            runtime.know();
+            outcome
+        },
+        Err(NoMemory) => Outcome::NoMemory,
+    }
+}
+
+// Runs a task that was just started, with objects of its own.
+fn run_task<'a, R: Runtime, K: Sink, L: Ledger>(
+    alloc: Global,
+    task: Task,
+    runtime: &'a mut R,
+    fuel: u32,
+    trace: &'a TraceFilter,
+    host: &'a HostTable,
+    out: &'a mut K,
+    steps: &'a mut Steps<L>,
+) -> Outcome
+    requires stands { (os : Objects) → Stands (scene (R.linked runtime.old) (R.known runtime.old) (R.program runtime.old) (R.made runtime.old) os task.task 0) }
+    requires granted { task.task.granted ≡ 0 }
+    requires begun { task.task.begun ≡ false }
+    ensures runs { RunsMain (R.linked runtime.old).world (R.program runtime.old) fuel (shows_of trace.now) (K.written out.old) (K.written out.new) (R.known runtime.old).classes (R.made runtime.old) (R.made runtime.new) result }
+
+    ensures counts { Counts (K.faults out.old) (K.faults out.new) result }
+    ensures calms { StaysCalm (K.calm out.old) (K.calm out.new) (K.faults out.old) (K.faults out.new) result }
+
+    ensures known { R.known runtime.new ≡ R.known runtime.old }
+    ensures linked { R.linked runtime.new ≡ R.linked runtime.old }
+    ensures program { R.program runtime.new ≡ R.program runtime.old }
+{
+    let Task { mut task, live: _ } = task;
+    let mut objects = ObjectStore::new(alloc);
+    let prefix = Text::from_vec(Vec::new(alloc));
+    let mut machine = Machine {
+        alloc,
+        runtime,
+        task: &mut task,
+        objects: &mut objects,
+        host,
+        trace,
+        prefix: &prefix,
+        fuel: 0,
+        out,
+        steps,
+    };
+    som_exec::run(&mut machine, fuel)
+}
