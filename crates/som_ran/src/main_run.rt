@@ -4,7 +4,7 @@ ghost use Rattle.som_ran.specs.Mains.{EndsMain, RunsMain, meaning, outcome_statu
 ghost use Rattle.som_ran.specs.Traces.{shown_in};
 ghost use Rattle.std.specs.Prelude.{IfOk, OnErr, ◌≡◌, ◌≢◌};
 
-use crate::runner::Runner;
+use crate::filtered::run_filtered;
 use crate::trace::Trace;
 use som_classmgr::{Kernel, Linked};
 use som_exec::Outcome;
@@ -15,9 +15,8 @@ use som_telling::{TraceChoice, trace_filter};
 use std::alloc::Global;
 
 // Runs main, and shows no call.
-fn run_unseen<R: Runner, K: Sink>(
+fn run_unseen<K: Sink>(
     alloc: Global,
-    runner: &mut R,
     kernel: &mut Kernel<Linked>,
     fuel: u32,
     host: &HostTable,
@@ -31,13 +30,12 @@ fn run_unseen<R: Runner, K: Sink>(
         TraceChoice::Nothing,
         Box::new(alloc, |_name: &Text| false)?,
     );
-    Ok(runner.run(alloc, kernel, fuel, &filter, host, out))
+    Ok(run_filtered(alloc, kernel, fuel, &filter, host, out))
 }
 
 // Runs main, and shows each call.
-fn run_seen<R: Runner, K: Sink>(
+fn run_seen<K: Sink>(
     alloc: Global,
-    runner: &mut R,
     kernel: &mut Kernel<Linked>,
     fuel: u32,
     host: &HostTable,
@@ -48,13 +46,12 @@ fn run_seen<R: Runner, K: Sink>(
     ensures calm { K.calm out.old → IfOk result (λ outcome. outcome ≢ outcomes.SinkFailed) }
 {
     let filter = trace_filter(TraceChoice::Every, Box::new(alloc, |_name: &Text| true)?);
-    Ok(runner.run(alloc, kernel, fuel, &filter, host, out))
+    Ok(run_filtered(alloc, kernel, fuel, &filter, host, out))
 }
 
 // Runs main, and shows the calls of bodies of classes of a name.
-fn run_class_seen<R: Runner, K: Sink>(
+fn run_class_seen<K: Sink>(
     alloc: Global,
-    runner: &mut R,
     kernel: &mut Kernel<Linked>,
     fuel: u32,
     class: &Text,
@@ -70,13 +67,12 @@ fn run_class_seen<R: Runner, K: Sink>(
         TraceChoice::Only(class.copy(alloc)?),
         Box::new(alloc, move |name: &Text| wanted.is(name.as_slice()))?,
     );
-    Ok(runner.run(alloc, kernel, fuel, &filter, host, out))
+    Ok(run_filtered(alloc, kernel, fuel, &filter, host, out))
 }
 
 // Runs main, and shows the calls that a trace asks for.
-fn run_traced<R: Runner, K: Sink>(
+fn run_traced<K: Sink>(
     alloc: Global,
-    runner: &mut R,
     kernel: &mut Kernel<Linked>,
     fuel: u32,
     trace: Trace<'_>,
@@ -88,9 +84,9 @@ fn run_traced<R: Runner, K: Sink>(
     ensures calm { K.calm out.old → IfOk result (λ outcome. outcome ≢ outcomes.SinkFailed) }
 {
     match trace {
-        Trace::Nothing => run_unseen(alloc, runner, kernel, fuel, host, out),
-        Trace::Every => run_seen(alloc, runner, kernel, fuel, host, out),
-        Trace::Only(class) => run_class_seen(alloc, runner, kernel, fuel, class, host, out),
+        Trace::Nothing => run_unseen(alloc, kernel, fuel, host, out),
+        Trace::Every => run_seen(alloc, kernel, fuel, host, out),
+        Trace::Only(class) => run_class_seen(alloc, kernel, fuel, class, host, out),
     }
 }
 
@@ -109,9 +105,8 @@ fn status_of(outcome: &Outcome) -> u8
 
 /// Runs the main of a linked kernel with so much fuel, shows the calls that a trace asks for, and answers the status.
 #[tactic(auto, using(crate::proofs::Ending::calmly))]
-pub fn run_main<R: Runner, K: Sink>(
+pub fn run_main<K: Sink>(
     alloc: Global,
-    runner: &mut R,
     kernel: &mut Kernel<Linked>,
     fuel: u32,
     trace: Trace<'_>,
@@ -121,7 +116,7 @@ pub fn run_main<R: Runner, K: Sink>(
     ensures ends { EndsMain (meaning kernel.old fuel) (shown_in trace.entry) (K.faults out.old) (K.faults out.new) (K.written out.old) (K.written out.new) result }
     ensures calm { K.calm out.old → result ≢ 8 }
 {
-    match run_traced(alloc, runner, kernel, fuel, trace, host, out) {
+    match run_traced(alloc, kernel, fuel, trace, host, out) {
         Ok(outcome) => status_of(&outcome),
         Err(_) => 10,
     }
