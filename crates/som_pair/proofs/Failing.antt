@@ -1,5 +1,5 @@
 -- Where the store failed.
-use Rattle.std.proofs.Common.{◌≡◌, ◌≤◌, ℕ, List, Option, Some, None, Result, Ok, Err, subst, inl, inr, arith}
+use Rattle.std.proofs.Common.{◌≡◌, ◌≤◌, ℕ, List, Option, Some, None, Result, Ok, Err, inl, inr, arith}
 use Rattle.som_model.specs.Bytes.{Files}
 use Rattle.som_io.specs.Outside.{Rose}
 use Rattle.som_classmgr.specs.Linked.{Linkage}

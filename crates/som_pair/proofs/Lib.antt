@@ -1,4 +1,4 @@
-mod Reading
+pub mod Reading
 mod Failing
 mod Refusals
 mod Linking

@@ -1,5 +1,5 @@
 -- A pair that is linked, or what is in the way of it.
-use Rattle.std.proofs.Common.{◌≡◌, ℕ, List, Option, Some, None, Result, Ok, Err, true, false, refl, sym, ap, subst, ◌∙◌}
+use Rattle.std.proofs.Common.{◌≡◌, ℕ, List, Option, Some, None, Result, Ok, Err, true, false, sym, ap, subst, ◌∙◌}
 use Rattle.som_model.specs.Bytes.{Files}
 use Rattle.som_model.specs.Classes.{classes as all_classes}
 use Rattle.som_model.specs.Compatible.{CompatBreach}
@@ -8,7 +8,7 @@ use Rattle.som_rules.specs.Told.{told}
 use Rattle.som_classmgr.specs.Linked.{Linkage}
 use Rattle.som_linking.specs.declared.fault.LinkFault.{LinkFault}
 use Rattle.som_linking.specs.declared.fault.LinkFault.TheVariants as faults
-use Rattle.som_linking.specs.Pairs.{Obstacle, Breaks, DoesntKeep, obstacle}
+use Rattle.som_linking.specs.Pairs.{Obstacle, obstacle}
 use Rattle.som_linking.specs.Told.{Tells, TellsKept}
 use Rattle.som_steps.specs.declared.stop.Refusal.{Refusal}
 use Rattle.som_steps.specs.declared.stop.CommandStop.{CommandStop}
@@ -22,7 +22,7 @@ use Rattle.som_steps.specs.declared.stop.CommandStop.TheVariants as stops
 use Rattle.som_pair.specs.declared.pair.Pair.{Pair}
 use Rattle.som_pair.specs.Faults.{Refuses, fault_told}
 use Rattle.som_pair.specs.Kernels.{Links, LinksTold}
-use Rattle.som_pair.specs.Pairs.{clear_or, kept_pair, linked_in, pair_in}
+use Rattle.som_pair.specs.Pairs.{clear_or, kept_pair, pair_in}
 use Rattle.som_pair.specs.Refusals.{IsRunRefusal}
 use Rattle.som_pair.proofs.Refusals.{kept_only}
 

@@ -47,7 +47,7 @@ module _ (c l : List ℕ) (told : Files) where
   no_release : (cb lb : List ℕ) (p : ClientProgram) (stop : CommandStop) → file_of c told ≡ Ok cb → file_of l told ≡ Ok lb → program_in c cb ≡ Ok p → Stops stop (release_in l lb) → Stops stop (pair_in c l told)
   no_release cb lb p stop f g h i = subst (Stops stop) (with_program cb lb p f g h) (stops_first stop (release_in l lb) (λ r. Ok (pair_of p r)) i)
 
-  both : (cb lb : List ℕ) (p : ClientProgram) (r : Release) → file_of c told ≡ Ok cb → file_of l told ≡ Ok lb → program_in c cb ≡ Ok p → release_in l lb ≡ Ok r → pair_in c l told ≡ Ok (pair_of p r)
+  pub both : (cb lb : List ℕ) (p : ClientProgram) (r : Release) → file_of c told ≡ Ok cb → file_of l told ≡ Ok lb → program_in c cb ≡ Ok p → release_in l lb ≡ Ok r → pair_in c l told ≡ Ok (pair_of p r)
   both cb lb p r f g h i = sym (with_program cb lb p f g h) ∙ ap (λ (x : Result Release Refusal). x >>= λ s. Ok (pair_of p s)) i
 
 there : (told : Files) (now : Option Files) (l lb : List ℕ) → now ≡ Some told → FollowsTold now (Ok lb) (file_of l) → file_of l told ≡ Ok lb

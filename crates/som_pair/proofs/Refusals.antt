@@ -9,7 +9,7 @@ use Rattle.som_steps.specs.declared.stop.CommandStop.{CommandStop}
 use Rattle.som_steps.specs.ImageSteps.{client_in, library_in, program_in, read_or, release_in}
 use Rattle.som_steps.specs.Lines.{absent}
 use Rattle.som_steps.specs.Refusing.{RefusesAs, StopRefusesAs}
-use Rattle.som_steps.specs.Steps.{Follows, Stops}
+use Rattle.som_steps.specs.Steps.{Follows}
 use Rattle.som_steps.proofs.Statuses.{Only, stops_only, then_only}
 use Rattle.som_steps.specs.declared.stop.CommandStop.TheVariants as stops
 use Rattle.som_pair.specs.declared.pair.Pair.{Pair}

@@ -2,7 +2,7 @@ ghost use Rattle.som_cliimage.specs.Limits as programs;
 ghost use Rattle.som_libimage.specs.Limits as releases;
 ghost use Rattle.som_pair.specs.Cause.{FailsRunning};
 ghost use Rattle.som_pair.specs.Kernels.{Links, LinksTold};
-ghost use Rattle.som_pair.specs.Pairs.{clear_or, kept_pair};
+ghost use Rattle.som_pair.specs.Pairs.{kept_pair};
 ghost use Rattle.som_pair.specs.Refusals.{IsRunRefusal};
 ghost use Rattle.som_steps.specs.Cause.{HasCause, IsQuiet};
 ghost use Rattle.som_steps.specs.Refusing.{RefusesAs};
@@ -38,7 +38,7 @@ fn link_pair(
 }
 
 /// The kernel of the client image under one name and the library image under another, or what is first in the way of linking them.
-#[tactic(auto, using(crate::proofs::Linking::not_read, crate::proofs::Linking::then_linked, crate::proofs::Linking::linking_refuses, crate::proofs::Failing::linking_fails))]
+#[tactic(auto, using(crate::proofs::Linking::not_read, crate::proofs::Linking::then_linked, crate::proofs::Failing::linking_fails))]
 pub fn link_images<S: Store>(
     alloc: Global,
     client: &Text,
