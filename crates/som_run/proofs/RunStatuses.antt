@@ -2,9 +2,12 @@
 use Rattle.std.proofs.Common.{◌≡◌, ◌≢◌, ℕ, ◌==◌, Bool, true, false, List, [], ◌∷◌, Option, refl, sym, subst, ◌∙◌, inl, inr, arith}
 use Rattle.std.proofs.lemmas.Bool.{eqb-true}
 use Rattle.std.specs.Prelude.{IsTrue}
+use Rattle.som_model.specs.declared.syntax.Block.{Block}
 use Rattle.som_model.specs.Lists.{Mem}
+use Rattle.som_model.specs.Means.{means_in}
 use Rattle.som_model.specs.Runs.{Ran, Goes, Ends, Faulted, Spent}
 use Rattle.som_model.specs.RunText.{run_status}
+use Rattle.som_model.specs.World.{World}
 use Rattle.som_steps.specs.declared.stop.Refusal.{Refusal}
 use Rattle.som_steps.specs.declared.stop.CommandStop.{CommandStop}
 use Rattle.som_steps.specs.declared.stop.CommandStop.TheVariants as stops
@@ -56,8 +59,8 @@ by_failures status is true b e f = inr (inr (inr (inl (eqb-true status 8 e))))
 by_failures status is false true e f = inr (inr (inr (inr (inl (eqb-true status 10 f)))))
 by_failures status is false false e f = is (differs status 8 e) (differs status 10 f)
 
-pub main_status : (m : Ran (Unit {0})) (shows : List ℕ → Bool) (before now : ℕ) (old new : Option (List ℕ)) (status : ℕ) → EndsMain m shows before now old new status → Mem status main_statuses
-main_status m shows before now old new status e = by_failures status (λ not8 not10. ended_in m status (e.ended not8 not10)) (status == 8) (status == 10) refl refl
+pub main_status : (w : World) (main : Block) (fuel : ℕ) (shows : List ℕ → Bool) (before now : ℕ) (old new : Option (List ℕ)) (status : ℕ) → EndsMain w main fuel shows before now old new status → Mem status main_statuses
+main_status w main fuel shows before now old new status e = by_failures status (λ not8 not10. ended_in (means_in w main fuel) status (e.ended not8 not10)) (status == 8) (status == 10) refl refl
 
 -- it ends with no other status
 pub never : (n status : ℕ) → Mem status main_statuses → 0 ≢ n → 1 ≢ n → 9 ≢ n → 8 ≢ n → 10 ≢ n → status ≢ n

@@ -7,7 +7,8 @@ use Rattle.som_model.specs.Classes.{classes}
 use Rattle.som_model.specs.Means.{means, means_in}
 use Rattle.som_model.specs.Runs.{Ran}
 use Rattle.som_model.specs.RunText.{run_status, run_text}
-use Rattle.som_model.specs.World.{world}
+use Rattle.som_model.specs.World.{World, world}
+use Rattle.som_classmgr.specs.Asking.{answers_of}
 use Rattle.som_classmgr.specs.Linked.{Linkage}
 use Rattle.som_io.specs.Outside.{ShowsAll, ShowsFront}
 use Rattle.som_steps.specs.declared.stop.Refusal.{Refusal}
@@ -24,8 +25,17 @@ use Rattle.som_pair.specs.declared.pair.Pair.{Pair}
 use Rattle.som_pair.specs.Cause.{FailsRunning}
 use Rattle.som_pair.specs.Kernels.{IsKernelOf, LinksTold}
 use Rattle.som_pair.specs.Pairs.{linked_in}
-use Rattle.som_ran.specs.Mains.{EndsMain, meaning}
+use Rattle.som_ran.specs.Mains.{EndsMain}
 use Rattle.som_run.specs.RunAnswer.{IsRunAnswer, ending_by, ran, run_ending}
+
+-- a kernel answers what its classes do
+world_is : (cs : List Class) → answers_of cs ≡ world cs
+unfolding world
+world_is cs = refl
+
+-- a main that runs over a kernel
+abbrev pub EndsOver : Linkage → ℕ → (List ℕ → Bool) → ℕ → ℕ → Option (List ℕ) → Option (List ℕ) → ℕ → Type 0
+EndsOver k fuel shows before now old new status = EndsMain (answers_of k.classes.classes) k.main fuel shows before now old new status
 
 module _ (c l : List ℕ) (fuel : ℕ) (shows : List ℕ → Bool) where
   some : (before : Files) → (e : Ending) × IsRunAnswer c l fuel shows before e
@@ -51,15 +61,16 @@ module _ (c l : List ℕ) (fuel : ℕ) (shows : List ℕ → Bool) where
 
   -- ---- a main that runs
 
-  means_so : (pair : Pair) (k : Linkage) → IsKernelOf pair k → meaning k fuel ≡ means pair.release pair.program fuel
+  means_so : (pair : Pair) (k : Linkage) → IsKernelOf pair k → means_in (answers_of k.classes.classes) k.main fuel ≡ means pair.release pair.program fuel
   means_so pair k is =
-      ap (λ (cs : List Class). means_in (world cs) k.main fuel) is.classes
+      ap (λ (w : World). means_in w k.main fuel) (world_is k.classes.classes)
+      ∙ ap (λ (cs : List Class). means_in (world cs) k.main fuel) is.classes
       ∙ ap (λ (main : Block). means_in (world (classes pair.release pair.program)) main fuel) is.main
 
   ran_answer : (told : Files) (pair : Pair) → linked_in c l told ≡ Ok pair → IsRunAnswer c l fuel shows told (ran shows told (means pair.release pair.program fuel))
   ran_answer told pair e = ap (ending_by fuel shows told) (sym e)
 
-  pub ran_ends : (files : Option Files) (k : Linkage) → LinksTold files c l (Ok k) → (before now : ℕ) (old new : Option (List ℕ)) (status : ℕ) → EndsMain (meaning k fuel) shows before now old new status → status ≢ 8 → status ≢ 10
+  pub ran_ends : (files : Option Files) (k : Linkage) → LinksTold files c l (Ok k) → (before now : ℕ) (old new : Option (List ℕ)) (status : ℕ) → EndsOver k fuel shows before now old new status → status ≢ 8 → status ≢ 10
       → (new_files : Option Files) → new_files ≡ files → EndsAsTold (IsRunAnswer c l fuel shows) files status new_files old new
   ran_ends None k f before now old new status e not8 not10 new_files same = tt
   ran_ends (Some told) k f before now old new status e not8 not10 new_files same =
@@ -72,7 +83,7 @@ module _ (c l : List ℕ) (fuel : ℕ) (shows : List ℕ → Bool) where
         files_are = same;
       }
 
-  pub ran_fronts : (files : Option Files) (k : Linkage) → LinksTold files c l (Ok k) → (before now : ℕ) (old new : Option (List ℕ)) (status : ℕ) → EndsMain (meaning k fuel) shows before now old new status → (count later : ℕ)
+  pub ran_fronts : (files : Option Files) (k : Linkage) → LinksTold files c l (Ok k) → (before now : ℕ) (old new : Option (List ℕ)) (status : ℕ) → EndsOver k fuel shows before now old new status → (count later : ℕ)
       → ShowsSome (IsRunAnswer c l fuel shows) (FailsRunning files c l) files count later old new
   ran_fronts None k f before now old new status e count later = tt
   ran_fronts (Some told) k f before now old new status e count later =
