@@ -1,17 +1,14 @@
 ghost use Rattle.som_direct.specs.Counted.{IsDirectRun, IsSearchFree};
-ghost use Rattle.som_exec.specs.Run.{Counts, EndsSo, IfRan, StaysCalm};
+ghost use Rattle.som_exec.specs.Run.{Counts, StaysCalm};
 ghost use Rattle.som_exec.specs.Stands.{Stands};
-ghost use Rattle.som_io.specs.Outside.{ShowsAll, ShowsFront};
 ghost use Rattle.som_model.specs.Means.{means_in};
-ghost use Rattle.som_model.specs.RunText.{call_count, run_text};
+ghost use Rattle.som_model.specs.RunText.{call_count};
 ghost use Rattle.som_model.specs.Runs.{end_of};
-ghost use Rattle.som_model.specs.declared.key.ClassKey.{ClassKey};
-ghost use Rattle.som_moves.specs.Moving.{Makes};
 ghost use Rattle.som_moves.specs.Scene.{scene};
 ghost use Rattle.som_objects.specs.Objects.{Objects};
 ghost use Rattle.som_runner.specs.Runs.{RunsMain};
 ghost use Rattle.som_telling.specs.Filters.{shows_of};
-ghost use Rattle.std.specs.Prelude.{◌≡◌, ◌≤◌, ◌+◌, ◌*◌, false, true};
+ghost use Rattle.std.specs.Prelude.{◌≡◌, ◌≤◌, ◌+◌, ◌*◌, false};
 
 use crate::Machine;
 use som_exec::{Outcome, Task, start};
@@ -38,11 +35,7 @@ pub fn run<R: Runtime, K: Sink, L: Ledger>(
     out: &mut K,
     steps: &mut Steps<L>,
 ) -> Outcome
-    ensures ended { EndsSo (means_in (R.world runtime.old) (R.program runtime.old) fuel) result }
-    ensures text { IfRan result (ShowsAll (K.written out.old) (K.written out.new) (run_text (shows_of trace.now) (means_in (R.world runtime.old) (R.program runtime.old) fuel))) }
-    ensures front { ShowsFront (K.written out.old) (K.written out.new) (run_text (shows_of trace.now) (means_in (R.world runtime.old) (R.program runtime.old) fuel)) }
-    ensures makes { IfRan result (Makes (R.known runtime.old).classes (R.made runtime.old) (R.made runtime.new) (end_of (means_in (R.world runtime.old) (R.program runtime.old) fuel)).events) }
-    ensures keeps_made { (k : ClassKey) → R.made runtime.old k ≡ true → R.made runtime.new k ≡ true }
+    ensures runs { RunsMain (R.world runtime.old) (R.program runtime.old) fuel (shows_of trace.now) (K.written out.old) (K.written out.new) (R.known runtime.old).classes (R.made runtime.old) (R.made runtime.new) result }
     ensures steps { IsSearchFree (R.known runtime.old).classes (R.program runtime.old) (R.made runtime.new)
         → steps.new ≤ steps.old + 2 * call_count (end_of (means_in (R.world runtime.old) (R.program runtime.old) fuel)).events + 2 }
 
