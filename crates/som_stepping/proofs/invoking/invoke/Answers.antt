@@ -1,4 +1,4 @@
-use Rattle.std.proofs.Common.{inr, Ok, Err, sym, ap, subst, ◌∙◌, ◌≤◌, ◌+◌}
+use Rattle.std.proofs.Common.{inr, Ok, Err, sym, ap, subst, ◌∙◌, ◌≡◌, ◌≤◌, ◌+◌, []}
 use Rattle.std.proofs.lemmas.Result.{err_from_is_err_and}
 use Rattle.som_telling.specs.Filters.{shows_of}
 use Rattle.som_moves.specs.Scene.{scene}
