@@ -59,8 +59,8 @@ by_failures status is true b e f = inr (inr (inr (inl (eqb-true status 8 e))))
 by_failures status is false true e f = inr (inr (inr (inr (inl (eqb-true status 10 f)))))
 by_failures status is false false e f = is (differs status 8 e) (differs status 10 f)
 
-pub main_status : (w : World) (main : Block) (fuel : ℕ) (shows : List ℕ → Bool) (before now : ℕ) (old new : Option (List ℕ)) (status : ℕ) → EndsMain w main fuel shows before now old new status → Mem status main_statuses
-main_status w main fuel shows before now old new status e = by_failures status (λ not8 not10. ended_in (means_in w main fuel) status (e.ended not8 not10)) (status == 8) (status == 10) refl refl
+pub main_status : {w : World} {main : Block} {fuel : ℕ} {shows : List ℕ → Bool} {before now : ℕ} {old new : Option (List ℕ)} {status : ℕ} → EndsMain w main fuel shows before now old new status → Mem status main_statuses
+main_status {w} {main} {fuel} {shows} {before} {now} {old} {new} {status} e = by_failures status (λ not8 not10. ended_in (means_in w main fuel) status (e.ended not8 not10)) (status == 8) (status == 10) refl refl
 
 -- it ends with no other status
 pub never : (n status : ℕ) → Mem status main_statuses → 0 ≢ n → 1 ≢ n → 9 ≢ n → 8 ≢ n → 10 ≢ n → status ≢ n
