@@ -1,4 +1,4 @@
-use Rattle.std.proofs.Common.{inl, inr}
+use Rattle.std.proofs.Common.{inl, inr, refl}
 use Rattle.som_ran.specs.Traces.{shown_in}
 use Rattle.som_run.proofs.RunStatuses.{main_calm, main_in, main_status, never}
 use Rattle.som_run.proofs.Running.{ran_ends, ran_fronts, refused_ends, refused_fronts}
@@ -24,18 +24,18 @@ pub returns-in-Ok-clause-statuses : goal.returns-in-Ok-clause-statuses
 returns-in-Ok-clause-statuses g c = main_in c.run_main.result (main_status c.run_main.ensures.ends)
 
 pub returns-in-Ok-clause-one_line : goal.returns-in-Ok-clause-one_line
-returns-in-Ok-clause-one_line g c (inl is) = absurd (never 4 c.run_main.result (main_status c.run_main.ensures.ends) (λ e. absurd e) (λ e. absurd e) (λ e. absurd e) (λ e. absurd e) (λ e. absurd e) is)
-returns-in-Ok-clause-one_line g c (inr (inl is)) = absurd (never 5 c.run_main.result (main_status c.run_main.ensures.ends) (λ e. absurd e) (λ e. absurd e) (λ e. absurd e) (λ e. absurd e) (λ e. absurd e) is)
-returns-in-Ok-clause-one_line g c (inr (inr is)) = absurd (never 7 c.run_main.result (main_status c.run_main.ensures.ends) (λ e. absurd e) (λ e. absurd e) (λ e. absurd e) (λ e. absurd e) (λ e. absurd e) is)
+returns-in-Ok-clause-one_line g c (inl is) = absurd (never 4 c.run_main.result (main_status c.run_main.ensures.ends) refl refl refl refl refl is)
+returns-in-Ok-clause-one_line g c (inr (inl is)) = absurd (never 5 c.run_main.result (main_status c.run_main.ensures.ends) refl refl refl refl refl is)
+returns-in-Ok-clause-one_line g c (inr (inr is)) = absurd (never 7 c.run_main.result (main_status c.run_main.ensures.ends) refl refl refl refl refl is)
 
 pub returns-in-Ok-clause-store_failed : goal.returns-in-Ok-clause-store_failed
-returns-in-Ok-clause-store_failed g c = λ is. absurd (never 6 c.run_main.result (main_status c.run_main.ensures.ends) (λ e. absurd e) (λ e. absurd e) (λ e. absurd e) (λ e. absurd e) (λ e. absurd e) is)
+returns-in-Ok-clause-store_failed g c = λ is. absurd (never 6 c.run_main.result (main_status c.run_main.ensures.ends) refl refl refl refl refl is)
 
 pub returns-in-Ok-clause-sink_failed : goal.returns-in-Ok-clause-sink_failed
 returns-in-Ok-clause-sink_failed g c = c.run_main.ensures.ends.cause
 
 pub returns-in-Ok-clause-words : goal.returns-in-Ok-clause-words
-returns-in-Ok-clause-words g c = never 2 c.run_main.result (main_status c.run_main.ensures.ends) (λ e. absurd e) (λ e. absurd e) (λ e. absurd e) (λ e. absurd e) (λ e. absurd e)
+returns-in-Ok-clause-words g c = never 2 c.run_main.result (main_status c.run_main.ensures.ends) refl refl refl refl refl
 
 pub returns-in-Ok-clause-calm : goal.returns-in-Ok-clause-calm
 returns-in-Ok-clause-calm g c = λ store sink. main_calm c.run_main.result (main_status c.run_main.ensures.ends) (c.run_main.ensures.calm sink)
