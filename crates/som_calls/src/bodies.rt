@@ -2,7 +2,7 @@ use som_model::{
     Block, Body, ClassDecl, ClassFace, ClientProgram, Entry, Interface, List, NoMemory, Release,
     Sig, Text, ValueType, Way,
 };
-use som_plain::{both, one, plain_class, under_object};
+use som_plain::{plain_class, under_object};
 use som_rules::VerifyFault;
 use som_verify::{program_ok, release_ok};
 use std::alloc::Global;
@@ -28,15 +28,13 @@ fn entries(alloc: Global, methods: &[&[u8]]) -> Result<List<Entry>, NoMemory> {
 }
 
 fn face(alloc: Global, methods: &[&[u8]]) -> Result<ClassFace, NoMemory> {
-    let name = Text::from_slice(alloc, b"Dog")?;
-    let (parents, entries) = both(under_object(alloc), entries(alloc, methods))?;
     Ok(ClassFace {
-        name,
+        name: Text::from_slice(alloc, b"Dog")?,
         major: 0,
         minor: 0,
-        parents,
+        parents: under_object(alloc)?,
         metaclass: None,
-        entries,
+        entries: entries(alloc, methods)?,
     })
 }
 
@@ -52,8 +50,11 @@ fn empty_bodies(alloc: Global, count: usize) -> Result<List<Body>, NoMemory> {
 
 // The class Dog alone, with these methods and so many bodies.
 fn dogs(alloc: Global, methods: &[&[u8]], bodies: usize) -> Result<List<ClassDecl>, NoMemory> {
-    let (face, bodies) = both(face(alloc, methods), empty_bodies(alloc, bodies))?;
-    one(alloc, plain_class(alloc, face, bodies))
+    let bodies = empty_bodies(alloc, bodies)?;
+    let face = face(alloc, methods)?;
+    let mut classes = List::new(alloc);
+    classes.push(plain_class(alloc, face, bodies))?;
+    Ok(classes)
 }
 
 // What is told of a library of that class, and of a client.

@@ -1,9 +1,7 @@
-ghost use Rattle.som_fields.specs.Spelling.{FitsFace, most_classes};
 ghost use Rattle.std.specs.Prelude.{◌≡◌, ◌≤◌, length, IfOk};
 
 use som_fields::{
-    ImageFault, Ranges, WireFace, WireMethod, read_face, read_method, read_sig, write_face,
-    write_method,
+    ImageFault, Ranges, WireMethod, read_face, read_method, read_sig, write_face, write_method,
 };
 use som_model::List;
 use som_wire::read_block;
@@ -79,14 +77,8 @@ fn signatures_and_methods_have_ranges(rt: HostRuntime) -> Result<(), Fail> {
 fn face_again(alloc: Global, bytes: &[u8]) -> Result<List<u8>, Fail> {
     let bytes = List::from_slice(alloc, bytes)?;
     let face = read_face(alloc, &bytes, 0, 65_535)?;
-    written(alloc, &face.value)
-}
-
-fn written(alloc: Global, face: &WireFace) -> Result<List<u8>, Fail>
-    requires { FitsFace most_classes face.now }
-{
     let mut out = List::new(alloc);
-    write_face(alloc, &mut out, face)?;
+    write_face(alloc, &mut out, &face.value)?;
     Ok(out)
 }
 

@@ -140,14 +140,10 @@ fn code_of(alloc: Global, release: &Release) -> Result<Code, Fail> {
     Ok(lay_out(alloc, block, 0)?)
 }
 
-fn laid(alloc: Global) -> Result<Code, Fail> {
-    let release = release_of(alloc, NESTED)?;
-    code_of(alloc, &release)
-}
-
 #[test]
 fn a_loop_in_a_choice_in_a_loop_is_laid_out(rt: HostRuntime) -> Result<(), Fail> {
-    let code = laid(rt.alloc())?;
+    let release = release_of(rt.alloc(), NESTED)?;
+    let code = code_of(rt.alloc(), &release)?;
     assert_eq!(rt; code.len(), LAID.len());
     assert_eq!(rt; first_other(&code, &LAID), None);
     let mut wrong = LAID;

@@ -82,17 +82,13 @@ pub fn release_of(alloc: Global, bytes: &[u8]) -> Result<Release, Fail>
 /// The interface of the release that an image spells.
 pub fn interface_of(alloc: Global, bytes: &[u8]) -> Result<Interface, Fail> {
     let release = release_of(alloc, bytes)?;
-    interface_in(alloc, &release)
-}
-
-fn interface_in(alloc: Global, release: &Release) -> Result<Interface, Fail> {
     Ok(release.interface(alloc)?)
 }
 
-/// How many classes an interface has, and whether its copy is equal to it.
-pub fn count_and_copy(alloc: Global, interface: &Interface) -> Result<(usize, bool), NoMemory> {
+/// Whether the copy of an interface is equal to it.
+pub fn is_copied(alloc: Global, interface: &Interface) -> Result<bool, NoMemory> {
     let copy = interface.copy(alloc)?;
-    Ok((interface.classes.len(), copy.is(interface)))
+    Ok(copy.is(interface))
 }
 
 // The image of a release, which has to break no rule.
@@ -137,13 +133,6 @@ fn copied_release(alloc: Global, bytes: &[u8]) -> Result<Release, Fail>
     ensures { IfOk result IsWithinLimits }
 {
     let release = release_of(alloc, bytes)?;
-    copy_of(alloc, &release)
-}
-
-fn copy_of(alloc: Global, release: &Release) -> Result<Release, Fail>
-    requires { IsWithinLimits release.now }
-    ensures { IfOk result IsWithinLimits }
-{
     Ok(release.copy(alloc)?)
 }
 
@@ -156,15 +145,11 @@ fn copies_have_the_same_image(rt: HostRuntime) -> Result<(), Fail> {
     Ok(())
 }
 
-fn copied_interface(alloc: Global, bytes: &[u8]) -> Result<(usize, bool), Fail> {
-    let interface = interface_of(alloc, bytes)?;
-    Ok(count_and_copy(alloc, &interface)?)
-}
-
 #[test]
 fn a_copy_has_the_same_interface(rt: HostRuntime) -> Result<(), Fail> {
-    let (classes, is_copied) = copied_interface(rt.alloc(), &THREE)?;
-    assert_eq!(rt; classes, 3);
-    assert!(rt; is_copied);
+    let alloc = rt.alloc();
+    let interface = interface_of(alloc, &THREE)?;
+    assert_eq!(rt; interface.classes.len(), 3);
+    assert!(rt; is_copied(alloc, &interface)?);
     Ok(())
 }

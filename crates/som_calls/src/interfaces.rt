@@ -3,10 +3,9 @@ ghost use Rattle.som_model.specs.Lists.{Mem};
 ghost use Rattle.som_model.specs.declared.program.Interface.{Interface as Faces};
 ghost use Rattle.std.specs.Prelude.{IfOk, IsTrue};
 
-use crate::images::{LIBRARY, count_and_copy, interface_of};
+use crate::images::{LIBRARY, interface_of, is_copied};
 use som_compat::{check_list, conforms};
 use som_model::{ClassFace, Interface, List, NoMemory, Text, kernel_faces};
-use som_plain::one;
 use std::alloc::Global;
 use std::test::Fail;
 
@@ -30,58 +29,44 @@ fn is_accepted(alloc: Global, list: &List<Interface>) -> Result<bool, Fail> {
     Ok(check_list(list).is_ok())
 }
 
-fn is_none_accepted(alloc: Global) -> Result<bool, Fail> {
-    let list = List::new(alloc);
-    is_accepted(alloc, &list)
-}
-
-fn is_one_accepted(alloc: Global) -> Result<bool, Fail> {
-    let list = one(alloc, interface_of(alloc, &LIBRARY)?)?;
-    is_accepted(alloc, &list)
-}
-
 #[test]
 fn a_list_of_few_interfaces_is_accepted(rt: HostRuntime) -> Result<(), Fail> {
-    assert!(rt; is_none_accepted(rt.alloc())?);
-    assert!(rt; is_one_accepted(rt.alloc())?);
+    let alloc = rt.alloc();
+    let mut list = List::new(alloc);
+    assert!(rt; is_accepted(alloc, &list)?);
+    list.push(interface_of(alloc, &LIBRARY)?)?;
+    assert!(rt; is_accepted(alloc, &list)?);
     Ok(())
 }
 
 // The interface of a class without parents.
 fn orphan(alloc: Global) -> Result<Interface, NoMemory> {
     let name = Text::from_slice(alloc, b"A")?;
-    let face = ClassFace {
+    let mut classes = List::new(alloc);
+    classes.push(ClassFace {
         name,
         major: 0,
         minor: 0,
         parents: List::new(alloc),
         metaclass: None,
         entries: List::new(alloc),
-    };
-    let classes = one(alloc, face)?;
+    })?;
     Ok(Interface { classes })
-}
-
-fn orphan_conforms(alloc: Global) -> Result<bool, NoMemory> {
-    let interface = orphan(alloc)?;
-    conforms(alloc, &interface)
 }
 
 #[test]
 fn a_class_without_parents_does_not_conform(rt: HostRuntime) -> Result<(), Fail> {
-    assert!(rt; !orphan_conforms(rt.alloc())?);
+    let alloc = rt.alloc();
+    let interface = orphan(alloc)?;
+    assert!(rt; !conforms(alloc, &interface)?);
     Ok(())
-}
-
-fn copied_kernel(alloc: Global) -> Result<(usize, bool), NoMemory> {
-    let kernel = kernel_faces(alloc)?;
-    count_and_copy(alloc, &kernel)
 }
 
 #[test]
 fn the_kernel_is_copied_whole(rt: HostRuntime) -> Result<(), Fail> {
-    let (classes, is_copied) = copied_kernel(rt.alloc())?;
-    assert_eq!(rt; classes, 4);
-    assert!(rt; is_copied);
+    let alloc = rt.alloc();
+    let kernel = kernel_faces(alloc)?;
+    assert_eq!(rt; kernel.classes.len(), 4);
+    assert!(rt; is_copied(alloc, &kernel)?);
     Ok(())
 }

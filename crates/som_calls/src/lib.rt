@@ -9,7 +9,6 @@ mod fields;
 mod flat_code;
 #[cfg(test)]
 mod hierarchies;
-#[cfg(test)]
 mod hosts;
 #[cfg(test)]
 mod images;
@@ -35,3 +34,5 @@ mod tables;
 mod texts;
 #[cfg(test)]
 mod worked;
+
+pub use hosts::answer_of;

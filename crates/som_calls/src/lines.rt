@@ -2,60 +2,53 @@ use som_model::{
     Boxed, ClassDecl, ClassFace, ClassKey, Entry, List, Module, NoMemory, Release, Sig, Text,
     ValueType, Way,
 };
-use som_plain::{both, one, plain_class, two, under_object};
+use som_plain::{named, plain_class, under_object};
 use som_show::shown;
 use std::alloc::Global;
 use std::test::Fail;
 
-fn key(module: Module, name: Text) -> ClassKey {
-    ClassKey::Named { module, name }
-}
-
 // A class made of SOMClass and Meta.
 fn derived(alloc: Global) -> Result<ClassKey, NoMemory> {
-    let class = Text::from_slice(alloc, b"SOMClass")?;
-    let meta = Text::from_slice(alloc, b"Meta")?;
-    let parents = two(
-        alloc,
-        key(Module::Kernel, class),
-        key(Module::Library, meta),
-    )?;
+    let mut parents = List::new(alloc);
+    parents.push(named(alloc, Module::Kernel, b"SOMClass")?)?;
+    parents.push(named(alloc, Module::Library, b"Meta")?)?;
     Ok(ClassKey::Derived { parents })
 }
 
 fn proxy(alloc: Global) -> Result<ClassKey, NoMemory> {
-    let bell = Text::from_slice(alloc, b"Bell")?;
-    let of = Boxed::new(alloc, key(Module::Library, bell))?;
-    Ok(ClassKey::Proxy { of })
+    Ok(ClassKey::Proxy {
+        of: Boxed::new(alloc, named(alloc, Module::Library, b"Bell")?)?,
+    })
 }
 
 fn made_types(alloc: Global) -> Result<List<ValueType>, NoMemory> {
-    let (derived, proxy) = both(derived(alloc), proxy(alloc))?;
-    two(alloc, ValueType::Class(derived), ValueType::Class(proxy))
+    let mut types = List::new(alloc);
+    types.push(ValueType::Class(derived(alloc)?))?;
+    types.push(ValueType::Class(proxy(alloc)?))?;
+    Ok(types)
 }
 
 fn entries(alloc: Global) -> Result<List<Entry>, NoMemory> {
-    let name = Text::from_slice(alloc, b"is")?;
-    let params = made_types(alloc)?;
-    let result = ValueType::Boolean;
-    let is = Entry::Introduced {
-        name,
-        sig: Sig { result, params },
+    let mut entries = List::new(alloc);
+    entries.push(Entry::Introduced {
+        name: Text::from_slice(alloc, b"is")?,
+        sig: Sig {
+            result: ValueType::Boolean,
+            params: made_types(alloc)?,
+        },
         way: Way::Lookup,
-    };
-    one(alloc, is)
+    })?;
+    Ok(entries)
 }
 
 fn bell(alloc: Global) -> Result<ClassDecl, NoMemory> {
-    let name = Text::from_slice(alloc, b"Bell")?;
-    let (parents, entries) = both(under_object(alloc), entries(alloc))?;
     let face = ClassFace {
-        name,
+        name: Text::from_slice(alloc, b"Bell")?,
         major: 4_294_967_295,
         minor: 10,
-        parents,
+        parents: under_object(alloc)?,
         metaclass: None,
-        entries,
+        entries: entries(alloc)?,
     };
     Ok(plain_class(alloc, face, List::new(alloc)))
 }
@@ -70,7 +63,9 @@ fn are_lines(lines: &List<Text>, wanted: &[&[u8]]) -> bool {
 }
 
 fn bells(alloc: Global) -> Result<Release, NoMemory> {
-    let classes = one(alloc, bell(alloc)?)?;
+    let bell = bell(alloc)?;
+    let mut classes = List::new(alloc);
+    classes.push(bell)?;
     Ok(Release { classes })
 }
 

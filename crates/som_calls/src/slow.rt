@@ -55,15 +55,11 @@ impl Sink for SlowSink {
     ghost bounded = { λ sink. sink.bounded };
 }
 
-fn put_both(alloc: Global, store: &mut MemStore) -> Result<(), Fail> {
-    put(alloc, store, b"hello.cli", &CLIENT)?;
-    put(alloc, store, b"hello.img", &LIBRARY)
-}
-
 // A store with the first two images.
 fn hello(alloc: Global) -> Result<MemStore, Fail> {
     let mut store = MemStore::new(alloc);
-    put_both(alloc, &mut store)?;
+    put(alloc, &mut store, b"hello.cli", &CLIENT)?;
+    put(alloc, &mut store, b"hello.img", &LIBRARY)?;
     Ok(store)
 }
 

@@ -10,11 +10,13 @@ fn found(answer: &Got, bytes: &[u8]) -> bool {
     }
 }
 
-// Three calls of a store fail; the last of them leaves nothing.
-fn set_failing(store: &mut MemStore) -> Result<(), NoMemory> {
+// A store of which three calls fail; the last of them leaves nothing.
+fn failing_store(alloc: Global) -> Result<MemStore, NoMemory> {
+    let mut store = MemStore::new(alloc);
     store.fail(0)?;
     store.fail(4)?;
-    store.fail_put(7, Leaves::Nothing)
+    store.fail_put(7, Leaves::Nothing)?;
+    Ok(store)
 }
 
 // Whether a put ends so, and leaves these bytes under the name, or none.
@@ -39,8 +41,7 @@ fn a_store_gives_what_was_put(rt: HostRuntime) -> Result<(), Fail> {
     let name = Text::from_slice(rt.alloc(), b"name")?;
     let old = List::from_slice(rt.alloc(), b"old")?;
     let new = List::from_slice(rt.alloc(), b"new")?;
-    let mut store = MemStore::new(rt.alloc());
-    set_failing(&mut store)?;
+    let mut store = failing_store(rt.alloc())?;
     assert!(rt; ends_so(&mut store, &name, &old, Put::Failed, None));
     assert!(rt; ends_so(&mut store, &name, &old, Put::Done, Some(b"old")));
     assert!(rt; matches!(store.get(&name), Got::Failed));

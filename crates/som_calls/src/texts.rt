@@ -1,6 +1,5 @@
 use som_compile::{Source, Trees, read_texts};
 use som_model::{List, NoMemory, Text};
-use som_plain::two;
 use std::alloc::Global;
 use std::test::Fail;
 
@@ -19,9 +18,10 @@ fn trees_of(alloc: Global, texts: &List<Source>) -> Result<Trees, Fail> {
 }
 
 fn two_mains(alloc: Global) -> Result<List<Source>, NoMemory> {
-    let first = source(alloc, b"m.main", b"main { print 1; print 2; }")?;
-    let second = source(alloc, b"n.main", b"main { }")?;
-    two(alloc, first, second)
+    let mut texts = List::new(alloc);
+    texts.push(source(alloc, b"m.main", b"main { print 1; print 2; }")?)?;
+    texts.push(source(alloc, b"n.main", b"main { }")?)?;
+    Ok(texts)
 }
 
 #[test]

@@ -1,4 +1,4 @@
-use som_cases::{Answer, File, Files};
+use crate::files::{File, Files};
 use som_cmd::run_som;
 use som_host::{host_entry, host_table};
 use som_io::{Got, Leaves, MemSink, MemStore, Put, Store};
@@ -26,6 +26,13 @@ impl Failing {
             sink: Vec::new(alloc),
         }
     }
+}
+
+/// What a command printed, and its status.
+#[derive(Drop)]
+pub struct Answer {
+    pub printed: List<u8>,
+    pub status: u8,
 }
 
 /// What a command came to.
@@ -65,22 +72,14 @@ pub fn outcome_of(
     failing: &Failing,
 ) -> Result<Outcome, NoMemory> {
     let mut store = store_of(alloc, files, failing.store.as_slice())?;
-    let answer = answer_of(alloc, words, &mut store, failing.sink.as_slice())?;
-    let changed = changed_files(alloc, store, files, words, failing.store.len())?;
-    Ok(Outcome { answer, changed })
-}
-
-// What a command prints to a sink of which these calls fail, and its status.
-fn answer_of(
-    alloc: Global,
-    words: &List<Text>,
-    store: &mut MemStore,
-    failing: &[u64],
-) -> Result<Answer, NoMemory> {
-    let mut out = sink_of(alloc, failing)?;
-    let status = status_of(alloc, words, store, &mut out)?;
+    let mut out = sink_of(alloc, failing.sink.as_slice())?;
+    let status = status_of(alloc, words, &mut store, &mut out)?;
     let printed = out.bytes().copy(alloc)?;
-    Ok(Answer { printed, status })
+    let changed = changed_files(alloc, store, files, words, failing.store.len())?;
+    Ok(Outcome {
+        answer: Answer { printed, status },
+        changed,
+    })
 }
 
 // A sink of which these calls fail.
@@ -115,15 +114,6 @@ fn changed_files(
 // A store that holds the files, of which these calls fail.
 fn store_of(alloc: Global, files: &Files, failing: &[FailingCall]) -> Result<MemStore, NoMemory> {
     let mut store = MemStore::new(alloc);
-    let made = put_files(&mut store, files)?;
-    for failing in failing {
-        store.fail_put(made.saturating_add(failing.call), failing.leaves)?;
-    }
-    Ok(store)
-}
-
-// Puts the files, and answers how many calls that took.
-fn put_files(store: &mut MemStore, files: &Files) -> Result<u64, NoMemory> {
     let mut made = 0u64;
     for file in files.as_slice() {
         let Some(bytes) = files.get(file.name.as_slice()) else {
@@ -134,7 +124,10 @@ fn put_files(store: &mut MemStore, files: &Files) -> Result<u64, NoMemory> {
         }
         made = made.saturating_add(1);
     }
-    Ok(made)
+    for failing in failing {
+        store.fail_put(made.saturating_add(failing.call), failing.leaves)?;
+    }
+    Ok(store)
 }
 
 // The store after a command, and the files that were found to be changed.

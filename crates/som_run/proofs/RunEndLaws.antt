@@ -1,5 +1,5 @@
 -- How a run ends of images that a store holds.
-use Rattle.std.proofs.Common.{◌≡◌, ℕ, Bool, true, false, List, Option, Some, None, Result, Ok, Err, sym, ap, subst, ◌∙◌}
+use Rattle.std.proofs.Common.{◌≡◌, ℕ, Bool, true, false, List, Option, Some, None, Result, Ok, ap, subst, ◌∙◌}
 use Rattle.std.specs.FinMap.{get}
 use Rattle.std.specs.Option.{option_map}
 use Rattle.som_model.specs.declared.program.Release.{Release}
@@ -20,8 +20,7 @@ use Rattle.som_linking.specs.Pairs.{Obstacle, Breaks, DoesntKeep, obstacle}
 use Rattle.som_io.specs.Outside.{ShowsAll}
 use Rattle.som_steps.specs.declared.stop.Refusal.{Refusal}
 use Rattle.som_steps.specs.Endings.{Ending, refusing}
-use Rattle.som_steps.specs.Fetching.{file_of}
-use Rattle.som_steps.specs.ImageSteps.{client_in, library_in, program_in, read_or, release_in}
+use Rattle.som_steps.specs.ImageSteps.{program_in, read_or, release_in}
 use Rattle.som_steps.specs.Lines.{not_kept}
 use Rattle.som_steps.specs.Outcomes.{EndsAs}
 use Rattle.som_steps.proofs.ByteLaws.{client_read, library_read}
@@ -29,7 +28,7 @@ use Rattle.som_steps.proofs.FileLaws.{got_by}
 use Rattle.som_pair.specs.declared.pair.Pair.{Pair}
 use Rattle.som_pair.specs.Pairs.{clear_or, kept_pair, linked_in, pair_in}
 use Rattle.som_pair.proofs.Reading.{both, pair_of}
-use Rattle.som_run.specs.RunAnswer.{IsRunAnswer, ending_by, ran, run_ending}
+use Rattle.som_run.specs.RunAnswer.{IsRunAnswer, ending_by, ran}
 use Rattle.som_run.specs.RunEnds.{AreUnder, RunsAs, TellsNotKept}
 
 module _ (files : Files) (c l : List ℕ) (p : ClientProgram) (r : Release) (u : AreUnder files c l p r) where

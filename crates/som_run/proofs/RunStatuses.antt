@@ -1,5 +1,5 @@
 -- With which statuses a run ends.
-use Rattle.std.proofs.Common.{◌≡◌, ◌≢◌, ℕ, ◌==◌, Bool, true, false, List, [], ◌∷◌, Option, refl, sym, subst, ◌∙◌, inl, inr, arith}
+use Rattle.std.proofs.Common.{◌≡◌, ◌≢◌, ℕ, ◌==◌, Bool, true, false, List, [], ◌∷◌, Option, refl, sym, subst, ◌∙◌, inl, inr}
 use Rattle.std.proofs.lemmas.Bool.{eqb-true}
 use Rattle.std.specs.Prelude.{IsTrue}
 use Rattle.som_model.specs.declared.syntax.Block.{Block}
@@ -59,16 +59,16 @@ by_failures status is true b e f = inr (inr (inr (inl (eqb-true status 8 e))))
 by_failures status is false true e f = inr (inr (inr (inr (inl (eqb-true status 10 f)))))
 by_failures status is false false e f = is (differs status 8 e) (differs status 10 f)
 
-pub main_status : (w : World) (main : Block) (fuel : ℕ) (shows : List ℕ → Bool) (before now : ℕ) (old new : Option (List ℕ)) (status : ℕ) → EndsMain w main fuel shows before now old new status → Mem status main_statuses
-main_status w main fuel shows before now old new status e = by_failures status (λ not8 not10. ended_in (means_in w main fuel) status (e.ended not8 not10)) (status == 8) (status == 10) refl refl
+pub main_status : {w : World} {main : Block} {fuel : ℕ} {shows : List ℕ → Bool} {before now : ℕ} {old new : Option (List ℕ)} {status : ℕ} → EndsMain w main fuel shows before now old new status → Mem status main_statuses
+main_status {w} {main} {fuel} {shows} {before} {now} {old} {new} {status} e = by_failures status (λ not8 not10. ended_in (means_in w main fuel) status (e.ended not8 not10)) (status == 8) (status == 10) refl refl
 
 -- it ends with no other status
-pub never : (n status : ℕ) → Mem status main_statuses → 0 ≢ n → 1 ≢ n → 9 ≢ n → 8 ≢ n → 10 ≢ n → status ≢ n
-never n status (inl e) a b c d f is = a (sym e ∙ is)
-never n status (inr (inl e)) a b c d f is = b (sym e ∙ is)
-never n status (inr (inr (inl e))) a b c d f is = c (sym e ∙ is)
-never n status (inr (inr (inr (inl e)))) a b c d f is = d (sym e ∙ is)
-never n status (inr (inr (inr (inr (inl e))))) a b c d f is = f (sym e ∙ is)
+pub never : (n status : ℕ) → Mem status main_statuses → (0 == n) ≡ false → (1 == n) ≡ false → (9 == n) ≡ false → (8 == n) ≡ false → (10 == n) ≡ false → status ≢ n
+never n status (inl e) a b c d f is = differs 0 n a (sym e ∙ is)
+never n status (inr (inl e)) a b c d f is = differs 1 n b (sym e ∙ is)
+never n status (inr (inr (inl e))) a b c d f is = differs 9 n c (sym e ∙ is)
+never n status (inr (inr (inr (inl e)))) a b c d f is = differs 8 n d (sym e ∙ is)
+never n status (inr (inr (inr (inr (inl e))))) a b c d f is = differs 10 n f (sym e ∙ is)
 never n status (inr (inr (inr (inr (inr none))))) a b c d f is = none
 
 pub main_in : (status : ℕ) → Mem status main_statuses → Mem status run_statuses

@@ -1,5 +1,5 @@
 -- What a run comes to is its answer: what is refused, and what main means.
-use Rattle.std.proofs.Common.{◌≡◌, ◌≢◌, ℕ, Bool, List, Option, Some, None, Result, Ok, Err, refl, sym, ap, subst, ◌∙◌, inl}
+use Rattle.std.proofs.Common.{◌≡◌, ◌≢◌, ℕ, Bool, List, Option, Some, None, Ok, Err, refl, sym, ap, subst, ◌∙◌, inl}
 use Rattle.som_model.specs.declared.syntax.Block.{Block}
 use Rattle.som_model.specs.Bytes.{Files}
 use Rattle.som_model.specs.Class.{Class}
@@ -11,7 +11,6 @@ use Rattle.som_model.specs.World.{World, world}
 use Rattle.som_classmgr.specs.Asking.{answers_of}
 use Rattle.som_classmgr.specs.Linked.{Linkage}
 use Rattle.som_io.specs.Outside.{ShowsAll, ShowsFront}
-use Rattle.som_steps.specs.declared.stop.Refusal.{Refusal}
 use Rattle.som_steps.specs.declared.stop.CommandStop.{CommandStop}
 use Rattle.som_steps.specs.declared.stop.CommandStop.TheVariants as stops
 use Rattle.som_steps.specs.Answering.{StopAnswers}
