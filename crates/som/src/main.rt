@@ -6,7 +6,8 @@ mod standard_output;
 
 use files::FileStore;
 use som_cmd::run_som;
-use som_model::{List, NoMemory, Text};
+use som_host::{host_entry, host_table};
+use som_model::{HostCode, List, NoMemory, Text};
 use standard_output::StandardOutput;
 use std::alloc::Global;
 use std::env::Env;
@@ -21,7 +22,7 @@ mod tests;
 const USAGE: &str = "usage: som library OUT FILE..
        som client OUT LIBRARY FILE..
        som check IMAGE IMAGE..
-       som run CLIENT LIBRARY [--fuel N]
+       som run CLIENT LIBRARY [--fuel N] [--trace [CLASS]]
        som show IMAGE
 a FILE ends in .idl, .bod or .main; docs/COMMANDS.md tells the rest";
 
@@ -64,11 +65,30 @@ fn words_of<R: Env + AllocGlobal>(rt: &R, alloc: Global) -> Result<List<Text>, N
     Ok(words)
 }
 
-// The status of a command, with the files of the system and standard output.
-fn run<R: Files + Print>(rt: &R, alloc: Global, words: &List<Text>) -> u8 {
+// The status of a command, with the files of the system, standard output and the host's procedures.
+fn run<R: Files + Print>(rt: &R, alloc: Global, words: &List<Text>) -> Result<u8, NoMemory> {
+    let host = host_table(
+        host_entry(HostCode::Min, Box::new(alloc, |a: i32, b: i32| a.min(b))?),
+        host_entry(HostCode::Max, Box::new(alloc, |a: i32, b: i32| a.max(b))?),
+        host_entry(HostCode::And, Box::new(alloc, |a: i32, b: i32| a & b)?),
+        host_entry(HostCode::Or, Box::new(alloc, |a: i32, b: i32| a | b)?),
+        host_entry(HostCode::Xor, Box::new(alloc, |a: i32, b: i32| a ^ b)?),
+        host_entry(
+            HostCode::WrapAdd,
+            Box::new(alloc, |a: i32, b: i32| a.wrapping_add(b))?,
+        ),
+    );
     let mut store = FileStore::new(rt, alloc);
     let mut out = StandardOutput::new(rt);
-    run_som(alloc, words, &mut store, &mut out)
+    Ok(run_som(alloc, words, &mut store, &mut out, &host))
+}
+
+// The same, or that of want of memory before it.
+fn status_of<R: Files + Print>(rt: &R, alloc: Global, words: &List<Text>) -> u8 {
+    match run(rt, alloc, words) {
+        Ok(status) => status,
+        Err(NoMemory) => NO_MEMORY,
+    }
 }
 
 // A command's status, before which words that have no form are told more. It stays what it is where that fails.
@@ -82,9 +102,9 @@ fn tell_usage<R: Eprint>(rt: &R, status: u8) -> u8 {
 fn main(rt: HostRuntime) -> ExitCode {
     let alloc = rt.alloc();
     let status = match words_of(&rt, alloc) {
-        Ok(words) => run(&rt, alloc, &words),
+        Ok(words) => status_of(&rt, alloc, &words),
         // No words at all have no form either.
-        Err(NoWords::Bad) => run(&rt, alloc, &List::new(alloc)),
+        Err(NoWords::Bad) => status_of(&rt, alloc, &List::new(alloc)),
         Err(NoWords::Memory) => NO_MEMORY,
     };
     ExitCode::from(tell_usage(&rt, status))

@@ -1,4 +1,4 @@
-ghost use Rattle.som_answering.specs.Answering.{IsMet, Resumes};
+ghost use Rattle.som_answering.specs.Answering.{IsMet, IsNotForName, Resumes};
 ghost use Rattle.som_moves.specs.Moving.{Keeps};
 ghost use Rattle.som_moves.specs.Scene.{scene};
 ghost use Rattle.som_objects.specs.Objects.{Objects};
@@ -20,7 +20,7 @@ use som_values::Reference;
 use std::alloc::Global;
 use std::sync::ledger::Ledger;
 
-/// A value comes to what waited for it, which has been taken from what waits.
+/// A value comes to what waited for it, which has been taken from what waits. The name of a dispatch alone counts steps.
 pub fn resume<R: Runtime, L: Ledger>(
     alloc: Global,
     runtime: &R,
@@ -35,6 +35,7 @@ pub fn resume<R: Runtime, L: Ledger>(
         (scene (R.linked runtime.now) (R.known runtime.now) (R.program runtime.now) (R.made runtime.now) objects.new task.new f) waiting value result }
     ensures keeps { (f : ℕ) → Keeps (scene (R.linked runtime.now) (R.known runtime.now) (R.program runtime.now) (R.made runtime.now) objects.old task.old f)
         (scene (R.linked runtime.now) (R.known runtime.now) (R.program runtime.now) (R.made runtime.now) objects.new task.new f) }
+    ensures steps { IsNotForName waiting → steps.new ≡ steps.old }
 {
     match waiting {
         Waiting::Call(body) => to_body(body, value),

@@ -2,8 +2,9 @@ ghost use Rattle.std.specs.Prelude.{◌<◌, ◌^◌, Some};
 
 use crate::images::{CLIENT, LIBRARY};
 use som_cmd::run_som;
+use som_host::{host_entry, host_table};
 use som_io::{MemStore, Put, Sent, Sink, Store};
-use som_model::{List, Text};
+use som_model::{HostCode, List, NoMemory, Text};
 use som_plain::texts;
 use std::alloc::Global;
 use std::test::Fail;
@@ -62,6 +63,27 @@ fn hello(alloc: Global) -> Result<MemStore, Fail> {
     Ok(store)
 }
 
+// The status of a command, with the host's procedures.
+fn status_of(
+    alloc: Global,
+    words: &List<Text>,
+    store: &mut MemStore,
+    out: &mut SlowSink,
+) -> Result<u8, NoMemory> {
+    let host = host_table(
+        host_entry(HostCode::Min, Box::new(alloc, |a: i32, b: i32| a.min(b))?),
+        host_entry(HostCode::Max, Box::new(alloc, |a: i32, b: i32| a.max(b))?),
+        host_entry(HostCode::And, Box::new(alloc, |a: i32, b: i32| a & b)?),
+        host_entry(HostCode::Or, Box::new(alloc, |a: i32, b: i32| a | b)?),
+        host_entry(HostCode::Xor, Box::new(alloc, |a: i32, b: i32| a ^ b)?),
+        host_entry(
+            HostCode::WrapAdd,
+            Box::new(alloc, |a: i32, b: i32| a.wrapping_add(b))?,
+        ),
+    );
+    Ok(run_som(alloc, words, store, out, &host))
+}
+
 // The status of a run of these of which one write fails, and what it prints.
 fn run_failing(alloc: Global, failing: u64) -> Result<(u8, Vec<u8>), Fail> {
     let words = texts(alloc, &RUN)?;
@@ -72,7 +94,7 @@ fn run_failing(alloc: Global, failing: u64) -> Result<(u8, Vec<u8>), Fail> {
         failing,
         faults: 0,
     };
-    let status = run_som(alloc, &words, &mut store, &mut out);
+    let status = status_of(alloc, &words, &mut store, &mut out)?;
     let SlowSink { bytes, .. } = out;
     Ok((status, bytes))
 }

@@ -6,10 +6,11 @@ use Rattle.som_model.specs.Compatible.{Accepted, CompatBreach}
 use Rattle.som_order.specs.Names.{name_at}
 use Rattle.som_steps.proofs.OutcomeLaws.{text_of, status_is}
 use Rattle.som_steps.specs.Endings.{Ending, refusing}
+use Rattle.som_steps.specs.Lines.{not_kept}
 use Rattle.som_steps.specs.Outcomes.{EndsAs}
 use Rattle.som_check.proofs.CheckLaws.{one_check_answer}
 use Rattle.som_check.proofs.CheckMeaning.{under_conform, accepted_if, none_if, accepts_under, refuses_under}
-use Rattle.som_check.specs.CheckAnswer.{IsCheckAnswer, not_kept, first_not_kept, accepting}
+use Rattle.som_check.specs.CheckAnswer.{IsCheckAnswer, first_not_kept, accepting}
 use Rattle.som_check.specs.CheckEnds.{TellsAccepted, TellsBreach, AreUnder}
 
 never_both : (rs : List Release) (number : ℕ) (b : CompatBreach) → first_not_kept rs ≡ None → first_not_kept rs ≡ Some (number, b) → ⊥

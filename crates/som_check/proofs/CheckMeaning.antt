@@ -15,11 +15,11 @@ use Rattle.som_libimage.proofs.Decoded.{library_again}
 use Rattle.som_rules.proofs.Before.{none_both}
 use Rattle.som_compat.proofs.Plain.{map_empty}
 use Rattle.som_steps.specs.declared.stop.Refusal.{Refusal}
-use Rattle.som_steps.specs.Lines.{absent}
+use Rattle.som_steps.specs.Lines.{absent, not_kept}
 use Rattle.som_steps.specs.Endings.{refusing}
 use Rattle.som_steps.specs.ImageSteps.{read_or}
 use Rattle.som_steps.proofs.ByteLaws.{library_read}
-use Rattle.som_check.specs.CheckAnswer.{IsCheckAnswer, refuses, accepts, not_kept, images_in, releases_in, AllConform, first_not_kept, accepting}
+use Rattle.som_check.specs.CheckAnswer.{IsCheckAnswer, refuses, accepts, images_in, releases_in, AllConform, first_not_kept, accepting}
 use Rattle.som_check.specs.CheckEnds.{AreUnder}
 
 -- ---- lists of releases

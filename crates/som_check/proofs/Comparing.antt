@@ -14,9 +14,9 @@ use Rattle.som_libimage.specs.Limits.{IsWithinLimits}
 use Rattle.som_compat.specs.Conditions.{Conforms}
 use Rattle.som_steps.specs.declared.stop.Refusal.{Refusal}
 use Rattle.som_steps.specs.Steps.{Follows}
-use Rattle.som_steps.specs.Lines.{named}
+use Rattle.som_steps.specs.Lines.{not_kept}
 use Rattle.som_steps.specs.declared.stop.CommandStop.TheVariants as stops
-use Rattle.som_check.specs.CheckAnswer.{accepted_line, not_kept, first_not_kept}
+use Rattle.som_check.specs.CheckAnswer.{accepted_line, first_not_kept}
 use Rattle.som_check.specs.CheckSteps.{accepted_or}
 use Rattle.som_steps.proofs.ReleaseLaws.{may_be}
 

@@ -9,10 +9,10 @@ use Rattle.som_steps.proofs.ByteLaws.{client_read, library_read}
 use Rattle.som_steps.proofs.OutcomeLaws.{text_of, status_is}
 use Rattle.som_steps.specs.Endings.{Ending}
 use Rattle.som_steps.specs.Outcomes.{EndsAs}
-use Rattle.som_steps.specs.StoredImages.{IsUnder}
+use Rattle.som_steps.specs.StoredImages.{IsClientUnder, IsUnder}
 use Rattle.som_check.proofs.ShowLaws.{one_show_answer}
 use Rattle.som_check.specs.ShowAnswer.{shows_client, showing, showing_client, IsShowAnswer, shows_library}
-use Rattle.som_check.specs.ShowEnds.{ShowsProgram, ShowsRelease, IsClientUnder}
+use Rattle.som_check.specs.ShowEnds.{ShowsProgram, ShowsRelease}
 use Rattle.som_check.proofs.ImageKinds.{of_client, of_library}
 
 module _ (n : List ℕ) (files : Files) (status : ℕ) (new_files : Option Files) (old new : Option (List ℕ)) (e : EndsAs (IsShowAnswer n files) status new_files old new) where

@@ -1,6 +1,5 @@
 -- What checking images prints and answers: the first step of all that refuses, or that each release is accepted.
 use Rattle.std.specs.Prelude.{◌≡◌, ℕ, List, [], ◌∷◌, ◌++◌, map, Option, Some, None, Result, Ok, Err, codes}
-use Rattle.std.specs.Fmt.{decimal}
 use Rattle.som_model.specs.declared.program.Release.{Release}
 use Rattle.som_model.specs.Bytes.{Files}
 use Rattle.som_model.specs.Lists.{Mem, first}
@@ -13,25 +12,13 @@ use Rattle.som_steps.specs.declared.stop.Refusal.{Refusal}
 use Rattle.som_steps.specs.Endings.{Ending, refusing}
 use Rattle.som_steps.specs.Fetching.{file_of}
 use Rattle.som_steps.specs.ImageSteps.{release_in, rules_kept}
+use Rattle.som_steps.specs.Lines.{not_kept}
 use Rattle.som_steps.specs.Status.{failing_statuses}
-use Rattle.som_steps.specs.declared.stop.Why.TheVariants as why
 
 -- ---- lines
 
 abbrev pub accepted_line : List ℕ
 accepted_line = codes "accepted" ++ 10 ∷ []
-
--- what doesn't apply is a dash
-abbrev pub or_dash : Option (List ℕ) → List ℕ
-or_dash None = codes "-"
-or_dash (Some name) = name
-
--- the newer image doesn't keep what the one before it promised
-abbrev pub not_kept : List ℕ → CompatBreach → Refusal
-not_kept image b = record {
-  line = codes "incompatible K" ++ decimal b.rule ++ codes " " ++ b.class ++ codes " " ++ or_dash b.name ++ codes " " ++ decimal b.place ++ codes " in " ++ image ++ 10 ∷ [];
-  why = why.Incompatible;
-}
 
 -- ---- steps: the first of a list that refuses, refuses for all
 

@@ -5,8 +5,9 @@ use Rattle.som_model.specs.Bytes.{Files}
 use Rattle.som_model.specs.Compatible.{Accepted, CompatBreach}
 use Rattle.som_order.specs.Names.{name_at}
 use Rattle.som_io.specs.Outside.{ShowsAll}
+use Rattle.som_steps.specs.Lines.{not_kept}
 use Rattle.som_steps.specs.StoredImages.{IsUnder}
-use Rattle.som_check.specs.CheckAnswer.{accepted_line, not_kept}
+use Rattle.som_check.specs.CheckAnswer.{accepted_line}
 
 -- the store holds the image of each of these releases under its name
 abbrev pub AreUnder : Files → List (List ℕ) → List Release → Type 0

@@ -4,7 +4,8 @@ use Rattle.som_model.specs.Compatible.{CompatBreach}
 use Rattle.som_model.specs.Steps.{◌>>=◌}
 use Rattle.som_order.specs.Names.{name_at}
 use Rattle.som_steps.specs.declared.stop.Refusal.{Refusal}
-use Rattle.som_check.specs.CheckAnswer.{accepted_line, not_kept, releases_in, all_rules_kept, first_not_kept}
+use Rattle.som_steps.specs.Lines.{not_kept}
+use Rattle.som_check.specs.CheckAnswer.{accepted_line, releases_in, all_rules_kept, first_not_kept}
 
 -- the line that accepts, or the refusal that tells what isn't kept
 abbrev pub accepted_or : List (List ℕ) → Option (ℕ × CompatBreach) → Result (List ℕ) Refusal

@@ -1,5 +1,5 @@
 ghost use Rattle.som_check.specs.Cause.{FailsGetting};
-ghost use Rattle.som_check.specs.CheckAnswer.{IsCheckAnswer, all_rules_kept, check_statuses, first_not_kept, images_in, not_kept, or_dash, releases_in};
+ghost use Rattle.som_check.specs.CheckAnswer.{IsCheckAnswer, all_rules_kept, check_statuses, first_not_kept, images_in, releases_in};
 ghost use Rattle.som_check.specs.CheckSteps.{accepted_or, line_checked};
 ghost use Rattle.som_compat.specs.Told.{told};
 ghost use Rattle.som_io.specs.Outside.{Rose};
@@ -10,6 +10,7 @@ ghost use Rattle.som_model.specs.Lists.{Mem};
 ghost use Rattle.som_order.specs.Names.{name_at};
 ghost use Rattle.som_steps.specs.Answering.{AnswersTold};
 ghost use Rattle.som_steps.specs.Cause.{HasCause, IsQuiet};
+ghost use Rattle.som_steps.specs.Lines.{not_kept, or_dash};
 ghost use Rattle.som_steps.specs.Outcomes.{EndsAsTold, ShowsSome, StoreFails};
 ghost use Rattle.som_steps.specs.Refusing.{EndsIn, HasStatusIn, RefusesAs};
 ghost use Rattle.som_steps.specs.Status.{is_calm_status};
@@ -20,9 +21,9 @@ ghost use Rattle.std.specs.Prelude.{All, IfOk, IsTrue, [], length, map, option_c
 use som_compat::{Breach, check_list};
 use som_io::{Sink, Store};
 use som_model::{Interface, List, NoMemory, Release, Text};
-use som_show::add_number;
 use som_steps::{
-    CommandStop, End, Output, Refusal, Why, fetch, line_of, look_at_rules, read_release, tell,
+    CommandStop, End, Output, Refusal, fetch, line_of, look_at_rules, read_release,
+    refuse_incompatible, tell,
 };
 use std::alloc::Global;
 
@@ -94,22 +95,14 @@ fn or_dash<'a>(name: Option<&'a Text>) -> &'a [u8]
 fn refuse_breach(alloc: Global, image: &Text, breach: &Breach<'_>) -> Result<Refusal, NoMemory>
     ensures { IfOk result (λ r. r ≡ not_kept image.now (told breach.now)) }
 {
-    let mut line = Vec::new(alloc);
-    line.extend_from_slice(b"incompatible K")?;
-    add_number(&mut line, u64::from(breach.rule))?;
-    line.push(b' ')?;
-    line.extend_from_slice(breach.class.as_slice())?;
-    line.push(b' ')?;
-    line.extend_from_slice(or_dash(breach.name))?;
-    line.push(b' ')?;
-    add_number(&mut line, u64::from(breach.place))?;
-    line.extend_from_slice(b" in ")?;
-    line.extend_from_slice(image.as_slice())?;
-    line.push(b'\n')?;
-    Ok(Refusal {
-        line: Text::from_vec(line),
-        why: Why::Incompatible,
-    })
+    refuse_incompatible(
+        alloc,
+        image,
+        breach.rule,
+        breach.class,
+        or_dash(breach.name),
+        breach.place,
+    )
 }
 
 // The classes that each release shows.

@@ -1,12 +1,12 @@
 -- What a call comes to is what the command comes to that it asks for.
-use Rattle.std.proofs.Common.{◌≡◌, ◌≢◌, ◌==◌, ℕ, Bool, true, false, List, Option, Some, None, refl, sym, subst, ◌∙◌, inl, inr, arith}
+use Rattle.std.proofs.Common.{◌≡◌, ◌≢◌, ◌⊎◌, ◌==◌, ℕ, Bool, true, false, List, Option, Some, None, refl, sym, subst, ◌∙◌, inl, inr, arith}
 use Rattle.std.proofs.lemmas.Bool.{eqb-true}
 use Rattle.som_model.specs.declared.program.Release.{Release}
 use Rattle.som_model.specs.declared.program.ClientProgram.{ClientProgram}
 use Rattle.som_model.specs.Bytes.{Files}
-use Rattle.som_model.specs.Compatible.{CompatBreach}
+use Rattle.som_model.specs.Compatible.{CompatBreach, Compatible, first_break}
 use Rattle.som_model.specs.Lists.{Mem}
-use Rattle.som_io.specs.Outside.{ShowsAll, ShowsFront}
+use Rattle.som_io.specs.Outside.{Rose, ShowsAll, ShowsFront}
 use Rattle.som_steps.proofs.OutcomeLaws.{ends_with, told_with, some_with}
 use Rattle.som_steps.proofs.Printed.{nothing_written, shows_nothing}
 use Rattle.som_steps.proofs.Statuses.{differs}
@@ -23,14 +23,20 @@ use Rattle.som_check.specs.CheckAnswer.{IsCheckAnswer, first_not_kept}
 use Rattle.som_check.specs.ShowEnds.{ShowsProgram, ShowsRelease}
 use Rattle.som_check.specs.CheckEnds.{TellsAccepted, TellsBreach}
 use Rattle.som_check.specs.ShowAnswer.{IsShowAnswer}
-use Rattle.som_run.proofs.RunEndLaws.{means_by}
-use Rattle.som_run.specs.RunEnds.{RunsAs}
+use Rattle.som_model.specs.Class.{interface_of}
+use Rattle.som_model.specs.Means.{means as meaning_of}
+use Rattle.som_model.specs.RunText.{run_text}
+use Rattle.som_compile.specs.declared.source.Source.{Source}
+use Rattle.som_run.proofs.NewestLaws.{newest_keeps, newest_metaclasses, newest_under}
+use Rattle.som_run.proofs.RunEndLaws.{front_by, means_by, unkept_by}
+use Rattle.som_run.specs.Newest.{RunsOnNewest}
+use Rattle.som_run.specs.RunEnds.{RunsAs, TellsNotKept}
 use Rattle.som_run.specs.RunAnswer.{IsRunAnswer}
 use Rattle.som_cmd.proofs.OneAnswer.{some_answer}
 use Rattle.som_cmd.specs.Words.{Asked, Bad, Library, Run, Show, Check, Client}
 use Rattle.som_cmd.specs.Answer.{IsAnswer, bad_words, runs, shows, checks, bad_line, compiles, compiles_client}
 use Rattle.som_cmd.specs.Cause.{FailsOn}
-use Rattle.som_cmd.specs.Ends.{EndsAsTold, StoreFails, ShowsSome, AreImagesOf, IsImageOf, IsImageOfClient, AreChecked}
+use Rattle.som_cmd.specs.Ends.{EndsAsTold, StoreFails, ShowsSome, AreImagesOf, AreNewest, IsImageOf, IsImageOfClient, AreChecked}
 use Rattle.som_cmd.proofs.WordLaws.{HasMains}
 use Rattle.som_cmd.specs.Refused.{TellsBadWords, TellsOneLine, statuses_of}
 use Rattle.som_cmd.specs.PutEnds.{KeepsFiles, AreTextsOf, AreClientTextsOf, PutsProgram, PutsRelease}
@@ -110,8 +116,8 @@ ends_by : (asked by : Asked) (files : Option Files) (told : Files) → asked ≡
 ends_by asked by files told is same status new_files old new e =
     subst (λ (x : Option Files). EndsAsTold by x status new_files old new) same (subst (λ (x : Asked). EndsAsTold x files status new_files old new) is e)
 
-run_alone : (files : Files) (c l : List ℕ) (fuel : ℕ) (e : Ending) → IsAnswer files (Run c l fuel) e → IsRunAnswer c l fuel files e
-run_alone files c l fuel e (runs _ _ _ _ a) = a
+run_alone : (files : Files) (c l : List ℕ) (fuel : ℕ) (calls : List ℕ → Bool) (e : Ending) → IsAnswer files (Run c l fuel calls) e → IsRunAnswer c l fuel calls files e
+run_alone files c l fuel calls e (runs _ _ _ _ _ a) = a
 
 show_alone : (files : Files) (n : List ℕ) (e : Ending) → IsAnswer files (Show n) e → IsShowAnswer n files e
 show_alone files n e (shows _ _ a) = a
@@ -126,12 +132,27 @@ client_alone : (files : Files) (out library : List ℕ) (names : List (List ℕ)
 client_alone files out library names e (compiles_client _ _ _ _ a) = a
 
 module _ (asked : Asked) (files : Option Files) (status : ℕ) (new_files : Option Files) (old new : Option (List ℕ)) (e : EndsAsTold asked files status new_files old new) where
-  -- it is an end as the client means
-  pub means : (p : ClientProgram) (r : Release) (fuel : ℕ) → AreImagesOf asked files p r fuel → RunsAs p r fuel status old new
-  means p r fuel m =
-      means_by m.client m.library fuel m.told status new_files old new p r
-      (ends_with (λ x. IsAnswer m.told (Run m.client m.library fuel) x) (IsRunAnswer m.client m.library fuel m.told) (run_alone m.told m.client m.library fuel) status new_files old new
-      (ends_by asked (Run m.client m.library fuel) files m.told m.asked_is m.files_are status new_files old new e)) m.images
+  -- it is the end of the run that is asked for
+  run_by : (told : Files) (c l : List ℕ) (fuel : ℕ) (calls : List ℕ → Bool) → asked ≡ Run c l fuel calls → files ≡ Some told → steps.EndsAs (IsRunAnswer c l fuel calls told) status new_files old new
+  run_by told c l fuel calls is same =
+      ends_with (λ x. IsAnswer told (Run c l fuel calls) x) (IsRunAnswer c l fuel calls told) (run_alone told c l fuel calls) status new_files old new
+      (ends_by asked (Run c l fuel calls) files told is same status new_files old new e)
+
+  -- as the client means
+  pub means : (client library : List ℕ) (p : ClientProgram) (r : Release) (fuel : ℕ) (calls : List ℕ → Bool) → AreImagesOf asked files client library p r fuel calls → Compatible p.base (interface_of r) → RunsAs p r fuel calls status old new
+  means client library p r fuel calls m kept = means_by m.told client library p r m.images fuel calls status new_files old new (run_by m.told client library fuel calls m.asked_is m.files_are) kept
+
+  -- or that tells what the library doesn't keep
+  pub unkept : (client library : List ℕ) (p : ClientProgram) (r : Release) (fuel : ℕ) (calls : List ℕ → Bool) (b : CompatBreach) → AreImagesOf asked files client library p r fuel calls → first_break p.base (interface_of r) ≡ Some b
+      → TellsNotKept library b status old new
+  unkept client library p r fuel calls b m is = unkept_by m.told client library p r m.images fuel calls status new_files old new (run_by m.told client library fuel calls m.asked_is m.files_are) b is
+
+  -- or as the client means on the newest of accepted releases
+  pub means_on_newest : (earlier : List Release) (newest : Release) (place : ℕ) (texts : List Source) (p : ClientProgram) (fuel : ℕ) (calls : List ℕ → Bool) → AreNewest asked files earlier newest place texts p fuel calls
+      → RunsAs p newest fuel calls status old new
+  means_on_newest earlier newest place texts p fuel calls m =
+      means_by m.told m.client m.library p newest (newest_under m.told m.client m.library earlier newest place texts p m.images) fuel calls status new_files old new
+      (run_by m.told m.client m.library fuel calls m.asked_is m.files_are) (newest_keeps m.told m.client m.library earlier newest place texts p m.images)
 
   -- that shows the release
   shown_by : (told : Files) (n : List ℕ) → asked ≡ Show n → files ≡ Some told → steps.EndsAs (IsShowAnswer n told) status new_files old new
@@ -175,4 +196,36 @@ module _ (asked : Asked) (files : Option Files) (status : ℕ) (new_files : Opti
     puts = puts_client_by out m.library m.names m.told status new_files old new p
         (ends_with (λ x. IsAnswer m.told (Client out m.library m.names) x) (IsClientAnswer out m.library m.names m.told) (client_alone m.told out m.library m.names) status new_files old new
         (ends_by asked (Client out m.library m.names) files m.told m.asked_is m.files_are status new_files old new e)) m.texts;
+  }
+
+-- ---- the newest of accepted releases
+
+module _ (asked : Asked) (files : Option Files) (earlier : List Release) (newest : Release) (place : ℕ) (texts : List Source) (p : ClientProgram) (fuel : ℕ) (calls : List ℕ → Bool) (m : AreNewest asked files earlier newest place texts p fuel calls) where
+  -- a front of a run's answer is one of what the client means
+  front_of : (old new : Option (List ℕ)) (e : Ending) → IsAnswer m.told (Run m.client m.library fuel calls) e → ShowsFront old new e.text → ShowsFront old new (run_text calls (meaning_of newest p fuel))
+  front_of old new e a shown =
+      subst (λ (x : Ending). ShowsFront old new x.text)
+      (front_by m.told m.client m.library p newest (newest_under m.told m.client m.library earlier newest place texts p m.images) fuel calls e (run_alone m.told m.client m.library fuel calls e a)
+      (newest_keeps m.told m.client m.library earlier newest place texts p m.images)) shown
+
+  front_told : (by : Asked) (before : Option Files) → by ≡ Run m.client m.library fuel calls → before ≡ Some m.told → (count now : ℕ) (old new : Option (List ℕ)) → ShowsSome by before count now old new
+      → ShowsFront old new (run_text calls (meaning_of newest p fuel)) ⊎ (Rose count now × (line : List ℕ) × FailsOn before by line × ShowsFront old new line)
+  front_told by None is same count now old new s = absurd cc
+  front_told by (Some told) is same count now old new (inl (e, a, shown)) =
+      inl (front_of old new e (subst (λ (x : Files). IsAnswer x (Run m.client m.library fuel calls) e) (some_files told m.told same) (subst (λ (x : Asked). IsAnswer told x e) is a)) shown)
+    where
+      some_files : (a b : Files) → Some a ≡ Some b → a ≡ b
+      some_files a b e = cc
+  front_told by (Some told) is same count now old new (inr (rose, line, is_line, shown)) = inr (rose, line, is_line, shown)
+
+  -- so a call comes to what the client means on the newest, unless the store or the sink failed or memory ran out
+  pub newest_runs : (status count now sink_before sink_now : ℕ) (new_files : Option Files) (old new : Option (List ℕ)) → (status ≢ 6 → status ≢ 8 → status ≢ 10 → EndsAsTold asked files status new_files old new)
+      → (status ≡ 6 → StoreFails asked files count now old new) → (status ≡ 8 → Rose sink_before sink_now) → ((status ≡ 8) ⊎ (status ≡ 10) → ShowsSome asked files count now old new)
+      → RunsOnNewest p newest fuel calls (FailsOn files asked) count now sink_before sink_now status old new
+  newest_runs status count now sink_before sink_now new_files old new ends fails sink front = record {
+    runs = λ not6 not8 not10. means_on_newest asked files status new_files old new (ends not6 not8 not10) earlier newest place texts p fuel calls m;
+    store_failed = fails;
+    sink_failed = sink;
+    front = λ either. front_told asked files m.asked_is m.files_are count now old new (front either);
+    metaclasses = newest_metaclasses m.told m.client m.library earlier newest place texts p m.images;
   }

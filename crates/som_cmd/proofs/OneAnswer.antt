@@ -1,18 +1,18 @@
 -- Whatever is asked for, there is one answer.
-use Rattle.std.proofs.Common.{◌≡◌, refl}
+use Rattle.std.proofs.Common.{◌≡◌, refl, sym, ◌∙◌}
 use Rattle.som_model.specs.Bytes.{Files}
 use Rattle.som_steps.specs.Endings.{Ending}
 use Rattle.som_build.proofs.PutAnswered.{library_answer, client_answer, one_library_answer, one_client_answer}
 use Rattle.som_check.proofs.ShowLaws.{some_show_answer, one_show_answer}
 use Rattle.som_check.proofs.CheckLaws.{some_check_answer, one_check_answer}
-use Rattle.som_run.proofs.RunAnswered.{some_run_answer, one_run_answer}
+use Rattle.som_run.specs.RunAnswer.{run_ending}
 use Rattle.som_cmd.specs.Answer.{runs, shows, IsAnswer, bad_words, checks, compiles, compiles_client, bad_line}
 use Rattle.som_cmd.specs.Words.{Asked, Run, Show, Check, Library, Client, Bad}
 use Rattle.som_cmd.proofs.WordLaws.{HasMains}
 
 -- there is an answer to what has as many files with a main as it needs
 pub some_answer : (files : Files) (asked : Asked) → HasMains asked → (told : Ending) × IsAnswer files asked told
-some_answer files (Run c l fuel) mains = let a = some_run_answer files c l fuel in (a.0, runs c l fuel a.0 a.1)
+some_answer files (Run c l fuel calls) mains = (run_ending c l fuel calls files, runs c l fuel calls (run_ending c l fuel calls files) refl)
 some_answer files (Show n) mains = let a = some_show_answer files n in (a.0, shows n a.0 a.1)
 some_answer files (Check ns) mains = let a = some_check_answer files ns in (a.0, checks ns a.0 a.1)
 some_answer files (Library out names) mains = let a = library_answer files out names in (a.0, compiles out names a.0 a.1)
@@ -21,7 +21,7 @@ some_answer files Bad mains = (record { text = bad_line; status = 2; files = fil
 
 -- and no other
 pub one_answer : (files : Files) (asked : Asked) (a b : Ending) → IsAnswer files asked a → IsAnswer files asked b → a ≡ b
-one_answer files (Run c l fuel) a b (runs _ _ _ _ x) (runs _ _ _ _ y) = one_run_answer files c l fuel a b x y
+one_answer files (Run c l fuel calls) a b (runs _ _ _ _ _ x) (runs _ _ _ _ _ y) = x ∙ sym y
 one_answer files (Show n) a b (shows _ _ x) (shows _ _ y) = one_show_answer files n a b x y
 one_answer files (Check ns) a b (checks _ _ x) (checks _ _ y) = one_check_answer files ns a b x y
 one_answer files (Library out names) a b (compiles _ _ _ x) (compiles _ _ _ y) = one_library_answer files out names a b x y

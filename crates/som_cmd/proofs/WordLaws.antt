@@ -3,9 +3,10 @@ use Rattle.std.proofs.Common.{◌≡◌, ℕ, suc, ◌+◌, ◌<◌, ◌≤◌, 
 use Rattle.std.proofs.lemmas.Bool.{eqb-true}
 use Rattle.std.proofs.lemmas.List.{drop_more, drop_all}
 use Rattle.std.specs.Str.{bytes_eq}
+use Rattle.som_model.specs.declared.limits.TheConstants.{DEFAULT_FUEL}
 use Rattle.som_model.specs.Lists.{every}
 use Rattle.som_compile.specs.Sources.{is_main, mains_in}
-use Rattle.som_cmd.specs.Words.{Asked, Show, Check, Library, Client, Bad, are_files, asked, asked_of, client_asked, fuel_in, is_file, is_name, library_asked, run_with}
+use Rattle.som_cmd.specs.Words.{Asked, Show, Check, Library, Client, Bad, are_files, asked, asked_of, client_asked, fuel_of, is_file, is_name, library_asked, run_asked, run_with, trace_in}
 
 -- ---- one word after the other
 
@@ -75,16 +76,24 @@ client_mains out library files true true false e = tt
 client_mains out library files true false c e = tt
 client_mains out library files false b c e = tt
 
-run_mains : (client library : List ℕ) (fuel : Option ℕ) → HasMains (run_with client library fuel)
-run_mains client library None = tt
-run_mains client library (Some fuel) = tt
+run_mains : (client library : List ℕ) (fuel : Option ℕ) (trace : Option (List ℕ → Bool)) → HasMains (run_with client library fuel trace)
+run_mains client library None trace = tt
+run_mains client library (Some fuel) None = tt
+run_mains client library (Some fuel) (Some calls) = tt
+
+runs_mains : (client library : List ℕ) (rest : List (List ℕ)) → HasMains (run_asked client library rest)
+runs_mains client library [] = run_mains client library (Some DEFAULT_FUEL) (trace_in [])
+runs_mains client library (flag ∷ []) = run_mains client library (Some DEFAULT_FUEL) (trace_in (flag ∷ []))
+runs_mains client library (flag ∷ word ∷ rest) =
+    if_mains (bytes_eq flag (codes "--fuel")) (run_with client library (fuel_of word) (trace_in rest)) (run_with client library (Some DEFAULT_FUEL) (trace_in (flag ∷ word ∷ rest)))
+    (run_mains client library (fuel_of word) (trace_in rest)) (run_mains client library (Some DEFAULT_FUEL) (trace_in (flag ∷ word ∷ rest)))
 
 pub asked_mains : (words : List (List ℕ)) → HasMains (asked words)
 asked_mains [] = tt
 asked_mains (word ∷ []) = tt
 asked_mains (word ∷ image ∷ []) = if_mains _ (Show image) Bad tt tt
 asked_mains (word ∷ client ∷ library ∷ rest) =
-    if_mains _ (run_with client library (fuel_in rest)) _ (run_mains client library (fuel_in rest))
+    if_mains _ (run_asked client library rest) _ (runs_mains client library rest)
     (if_mains (bytes_eq word (codes "library")) (library_asked client (library ∷ rest)) _ (library_mains client (library ∷ rest) (is_name client) (are_files 0 (library ∷ rest)) refl)
     (if_mains (bytes_eq word (codes "client")) (client_asked client library rest) (asked_of word (client ∷ library ∷ rest)) (client_mains client library rest (is_name client) (is_name library) (are_files 1 rest) refl)
     (if_mains _ (Check (client ∷ library ∷ rest)) Bad tt tt)))

@@ -1,5 +1,5 @@
 -- What a call prints and answers, and the files that it leaves, where neither store nor sink fails and memory lasts.
-use Rattle.std.specs.Prelude.{ℕ, List, [], ◌∷◌, ◌++◌, codes}
+use Rattle.std.specs.Prelude.{ℕ, Bool, List, [], ◌∷◌, ◌++◌, codes}
 use Rattle.som_model.specs.Bytes.{Files}
 use Rattle.som_steps.specs.Endings.{Ending}
 use Rattle.som_build.specs.LibraryAnswer.{IsLibraryAnswer}
@@ -15,7 +15,7 @@ bad_line = codes "som: bad command line" ++ 10 ∷ []
 -- The ending of what is asked for: words of no form are refused, and else it is that of the command, by its first step that refuses.
 pub data IsAnswer (files : Files) : Asked → Ending → Type 0 where
   bad_words : IsAnswer files Bad (record { text = bad_line; status = 2; files = files })
-  runs : (client library : List ℕ) (fuel : ℕ) (e : Ending) → IsRunAnswer client library fuel files e → IsAnswer files (Run client library fuel) e
+  runs : (client library : List ℕ) (fuel : ℕ) (shows : List ℕ → Bool) (e : Ending) → IsRunAnswer client library fuel shows files e → IsAnswer files (Run client library fuel shows) e
   shows : (image : List ℕ) (e : Ending) → IsShowAnswer image files e → IsAnswer files (Show image) e
   checks : (images : List (List ℕ)) (e : Ending) → IsCheckAnswer images files e → IsAnswer files (Check images) e
   compiles : (out : List ℕ) (names : List (List ℕ)) (e : Ending) → IsLibraryAnswer out names files e → IsAnswer files (Library out names) e

@@ -3,12 +3,12 @@ use Rattle.std.specs.Prelude.{ℕ, List, Option}
 use Rattle.som_model.specs.Bytes.{Files}
 use Rattle.som_build.specs.Cause.{FailsClient, FailsLibrary}
 use Rattle.som_check.specs.Cause.{FailsGetting, FailsShowing}
-use Rattle.som_run.specs.Cause.{FailsRunning}
+use Rattle.som_pair.specs.Cause.{FailsRunning}
 use Rattle.som_cmd.specs.Words.{Library, Asked, Run, Show, Check, Client, Bad}
 
 -- the line says that the get or put of a name failed which the command gets or puts, and no step before refuses
 abbrev pub FailsOn : Option Files → Asked → List ℕ → Type 0
-FailsOn files (Run client library fuel) line = FailsRunning files client library line
+FailsOn files (Run client library fuel shows) line = FailsRunning files client library line
 FailsOn files (Show image) line = FailsShowing files image line
 FailsOn files (Check names) line = FailsGetting files names line
 FailsOn files (Library out names) line = FailsLibrary files out names line

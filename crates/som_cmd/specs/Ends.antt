@@ -1,13 +1,14 @@
 -- How a call may end.
-use Rattle.std.specs.Prelude.{ℕ, List, Option, Some, ◌≡◌, ◌≤◌, length}
+use Rattle.std.specs.Prelude.{ℕ, Bool, List, [], ◌∷◌, ◌++◌, Option, Some, ◌≡◌, ◌≤◌, length}
 use Rattle.som_model.specs.declared.program.Release.{Release}
 use Rattle.som_model.specs.declared.program.ClientProgram.{ClientProgram}
 use Rattle.som_model.specs.Bytes.{Files}
-use Rattle.som_steps.specs.StoredImages.{IsUnder}
+use Rattle.som_steps.specs.StoredImages.{IsClientUnder, IsUnder}
 use Rattle.som_steps.specs.Outcomes as steps
 use Rattle.som_check.specs.CheckEnds.{AreUnder}
-use Rattle.som_check.specs.ShowEnds.{IsClientUnder}
-use Rattle.som_run.specs.RunEnds.{AreFirstImages}
+use Rattle.som_compile.specs.declared.source.Source.{Source}
+use Rattle.som_run.specs.Newest.{HoldsNewest}
+use Rattle.som_run.specs.RunEnds.{AreUnder as AreRun}
 use Rattle.som_cmd.specs.Words.{Asked, Run, Show, Check}
 use Rattle.som_cmd.specs.Answer.{IsAnswer}
 use Rattle.som_cmd.specs.Cause.{FailsOn}
@@ -24,14 +25,21 @@ StoreFails asked files before now old new = steps.StoreFails (FailsOn files aske
 abbrev pub ShowsSome : Asked → Option Files → ℕ → ℕ → Option (List ℕ) → Option (List ℕ) → Type 0
 ShowsSome asked files before now old new = steps.ShowsSome (λ told. IsAnswer told asked) (FailsOn files asked) files before now old new
 
--- a run with so much fuel is asked for, and the store holds the image of a client and that of the release that it was compiled against
-pub record AreImagesOf (asked : Asked) (files : Option Files) (p : ClientProgram) (r : Release) (fuel : ℕ) : Type 0 where
+-- a run of one image on another is asked for, with so much fuel and these calls shown, and the store holds that of a client program and that of a release, which conform
+pub record AreImagesOf (asked : Asked) (files : Option Files) (client library : List ℕ) (p : ClientProgram) (r : Release) (fuel : ℕ) (shows : List ℕ → Bool) : Type 0 where
+  pub told : Files
+  pub files_are : files ≡ Some told
+  pub asked_is : asked ≡ Run client library fuel shows
+  pub images : AreRun told client library p r
+
+-- the same of the image of a client program that was compiled from these texts against the release at a place of accepted ones, and of that of the newest of these
+pub record AreNewest (asked : Asked) (files : Option Files) (earlier : List Release) (newest : Release) (place : ℕ) (texts : List Source) (p : ClientProgram) (fuel : ℕ) (shows : List ℕ → Bool) : Type 0 where
   pub told : Files
   pub files_are : files ≡ Some told
   pub client : List ℕ
   pub library : List ℕ
-  pub asked_is : asked ≡ Run client library fuel
-  pub images : AreFirstImages told client library p r
+  pub asked_is : asked ≡ Run client library fuel shows
+  pub images : HoldsNewest told client library earlier newest place texts p
 
 -- an image is to be shown, and the store holds that of the release, which conforms
 pub record IsImageOf (asked : Asked) (files : Option Files) (r : Release) : Type 0 where

@@ -12,7 +12,7 @@ use Rattle.som_cmd.specs.Words.{Asked, Run, Show, Check, Library, Client, Bad}
 
 -- the files after a call: no command but `library` and `client` changes any
 abbrev pub KeepsFiles : Asked → Option Files → ℕ → ℕ → ℕ → Option Files → Option (List ℕ) → Option (List ℕ) → Type 0
-KeepsFiles (Run client library fuel) files before now status new_files old new = new_files ≡ files
+KeepsFiles (Run client library fuel shows) files before now status new_files old new = new_files ≡ files
 KeepsFiles (Show image) files before now status new_files old new = new_files ≡ files
 KeepsFiles (Check images) files before now status new_files old new = new_files ≡ files
 KeepsFiles Bad files before now status new_files old new = new_files ≡ files

@@ -6,22 +6,23 @@ use Rattle.som_build.specs.LibraryAnswer.{library_statuses}
 use Rattle.som_build.specs.ClientAnswer.{client_statuses}
 use Rattle.som_check.specs.CheckAnswer.{check_statuses}
 use Rattle.som_check.specs.ShowAnswer.{show_statuses}
-use Rattle.som_run.specs.RunAnswer.{IsRunRefusal, run_statuses}
+use Rattle.som_pair.specs.Refusals.{IsRunRefusal}
+use Rattle.som_run.specs.RunAnswer.{run_statuses}
 use Rattle.som_cmd.specs.Answer.{bad_line}
 use Rattle.som_cmd.specs.Words.{Asked, Run, Show, Check, Library, Client, Bad}
 
 -- the statuses of what is asked for; words of no form are refused, or the sink fails or memory runs out meanwhile
 abbrev pub statuses_of : Asked → List ℕ
-statuses_of (Run client library fuel) = run_statuses
+statuses_of (Run client library fuel shows) = run_statuses
 statuses_of (Show image) = show_statuses
 statuses_of (Check images) = check_statuses
 statuses_of (Library out names) = library_statuses
 statuses_of (Client out library names) = client_statuses
 statuses_of Bad = 2 ∷ 8 ∷ 10 ∷ []
 
--- a run that is refused tells it by one line alone: a name isn't there, an image isn't taken, or the client wasn't compiled against the faces of the library
+-- a run that is refused tells it by one line alone: an image isn't there, can't be read or breaks a rule, or the library doesn't keep what the client was compiled against
 abbrev pub TellsOneLine : Asked → ℕ → Option (List ℕ) → Option (List ℕ) → Type 0
-TellsOneLine (Run client library fuel) status old new = (status ≡ 4) ⊎ (status ≡ 5) ⊎ (status ≡ 7) → TellsRefusal (IsRunRefusal client library) status old new
+TellsOneLine (Run client library fuel shows) status old new = (status ≡ 4) ⊎ (status ≡ 5) ⊎ (status ≡ 7) → TellsRefusal (IsRunRefusal client library) status old new
 TellsOneLine (Show image) status old new = Unit {0}
 TellsOneLine (Check images) status old new = Unit {0}
 TellsOneLine (Library out names) status old new = Unit {0}

@@ -4,15 +4,16 @@ use Rattle.std.specs.Str.{bytes_eq}
 use Rattle.std.specs.List.{ends_with}
 use Rattle.som_model.specs.declared.limits.TheConstants.{DEFAULT_FUEL, MAX_FUEL}
 use Rattle.som_model.specs.Lists.{every}
+use Rattle.som_model.specs.RunText.{calls_of, every_call, no_trace}
 use Rattle.som_compile.specs.Sources.{is_bodies, is_main, mains_in}
-use Rattle.som_cliimage.specs.Limits as client
+use Rattle.som_ran.specs.Traces.{shown_in}
 use Rattle.som_cmd.specs.declared.words.Command.{Command}
 use Rattle.som_cmd.specs.declared.words.Command.TheVariants as commands
 
--- what words ask for: to run a client image on a library image with so much fuel; to show an image; to check images; to compile texts to a library image,
--- or to a client image against a library image; or they have no form
+-- what words ask for: to run a client image on a library image with so much fuel, and to show these calls, by the name of the class whose body it is; to show an image;
+-- to check images; to compile texts to a library image, or to a client image against a library image; or they have no form
 pub data Asked : Type 0 where
-  Run : (client library : List ℕ) (fuel : ℕ) → Asked
+  Run : (client library : List ℕ) (fuel : ℕ) (shows : List ℕ → Bool) → Asked
   Show : (image : List ℕ) → Asked
   Check : (images : List (List ℕ)) → Asked
   Library : (out : List ℕ) (files : List (List ℕ)) → Asked
@@ -21,7 +22,7 @@ pub data Asked : Type 0 where
 
 -- what a command of the code asks for
 abbrev pub asked_by : Command → Asked
-asked_by (commands.Run client library fuel) = Run client.now library.now fuel
+asked_by (commands.Run client library fuel trace) = Run client.now library.now fuel (shown_in trace)
 asked_by (commands.Show image) = Show image.now
 asked_by (commands.Check images) = Check images.now
 asked_by (commands.Library out files) = Library out.now files.now
@@ -49,19 +50,27 @@ is_number word = not (length word == 0) && not (leads_with_zero word) && every i
 abbrev pub fuel_of : List ℕ → Option ℕ
 fuel_of word = if is_number word && nat_le (value_after 0 word) MAX_FUEL then Some (value_after 0 word) else None
 
--- the fuel that the words after the names ask for: `--fuel N`, or nothing
-abbrev pub fuel_in : List (List ℕ) → Option ℕ
-fuel_in [] = Some DEFAULT_FUEL
-fuel_in (flag ∷ word ∷ []) = if bytes_eq flag (codes "--fuel") then fuel_of word else None
-fuel_in _ = None
-
--- a run with this fuel, if there is one
-abbrev pub run_with : List ℕ → List ℕ → Option ℕ → Asked
-run_with client library None = Bad
-run_with client library (Some fuel) = Run client library fuel
-
 abbrev pub is_name : List ℕ → Bool
 is_name word = not (length word == 0)
+
+-- the calls that the words after the fuel ask to be shown: `--trace`, `--trace CLASS`, or nothing
+abbrev pub trace_in : List (List ℕ) → Option (List ℕ → Bool)
+trace_in [] = Some no_trace
+trace_in (flag ∷ []) = if bytes_eq flag (codes "--trace") then Some every_call else None
+trace_in (flag ∷ class ∷ []) = if bytes_eq flag (codes "--trace") && is_name class then Some (calls_of class) else None
+trace_in _ = None
+
+-- a run with this fuel and this trace, if there are both
+abbrev pub run_with : List ℕ → List ℕ → Option ℕ → Option (List ℕ → Bool) → Asked
+run_with client library (Some fuel) (Some shows) = Run client library fuel shows
+run_with client library (Some fuel) None = Bad
+run_with client library None trace = Bad
+
+-- what the words after the names ask for: `--fuel N` or nothing, and then a trace
+abbrev pub run_asked : List ℕ → List ℕ → List (List ℕ) → Asked
+run_asked client library (flag ∷ word ∷ rest) =
+    if bytes_eq flag (codes "--fuel") then run_with client library (fuel_of word) (trace_in rest) else run_with client library (Some DEFAULT_FUEL) (trace_in (flag ∷ word ∷ rest))
+run_asked client library rest = run_with client library (Some DEFAULT_FUEL) (trace_in rest)
 
 -- the name of a file of interfaces
 abbrev pub is_idl : List ℕ → Bool
@@ -87,12 +96,12 @@ library_asked out files = if is_name out && are_files 0 files then Library out f
 abbrev pub client_asked : List ℕ → List ℕ → List (List ℕ) → Asked
 client_asked out library files = if is_name out && is_name library && are_files 1 files then Client out library files else Bad
 
--- `show IMAGE`, `run CLIENT LIBRARY`, `run CLIENT LIBRARY --fuel N`, `check IMAGE IMAGE ..`, `library OUT FILE ..` or `client OUT LIBRARY FILE ..`,
--- where no name is empty
+-- `show IMAGE`, `run CLIENT LIBRARY`, then `--fuel N` or not, then `--trace`, `--trace CLASS` or neither, `check IMAGE IMAGE ..`, `library OUT FILE ..` or
+-- `client OUT LIBRARY FILE ..`, where no name is empty
 abbrev pub asked : List (List ℕ) → Asked
 asked (word ∷ image ∷ []) = if bytes_eq word (codes "show") && not (length image == 0) then Show image else Bad
 asked (word ∷ client ∷ library ∷ rest) =
-    if bytes_eq word (codes "run") && not (length client == 0) && not (length library == 0) then run_with client library (fuel_in rest) else (
+    if bytes_eq word (codes "run") && not (length client == 0) && not (length library == 0) then run_asked client library rest else (
     if bytes_eq word (codes "library") then library_asked client (library ∷ rest) else (
     if bytes_eq word (codes "client") then client_asked client library rest else asked_of word (client ∷ library ∷ rest)))
 asked words = Bad

@@ -6,6 +6,5 @@ mod top;
 mod words;
 
 pub use laws::{answer_law, fuel_law};
-pub use som_run::first_image_law;
 pub use som_steps::fault_law;
 pub use top::run_som;

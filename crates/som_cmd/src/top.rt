@@ -1,22 +1,27 @@
 ghost use Rattle.som_check.specs.CheckAnswer.{first_not_kept};
 ghost use Rattle.som_check.specs.CheckEnds.{TellsAccepted, TellsBreach};
 ghost use Rattle.som_check.specs.ShowEnds.{ShowsProgram, ShowsRelease};
-ghost use Rattle.som_cmd.specs.Ends.{AreChecked, AreImagesOf, EndsAsTold, IsImageOf, IsImageOfClient, ShowsSome, StoreFails};
+ghost use Rattle.som_cmd.specs.Cause.{FailsOn};
+ghost use Rattle.som_cmd.specs.Ends.{AreChecked, AreImagesOf, AreNewest, EndsAsTold, IsImageOf, IsImageOfClient, ShowsSome, StoreFails};
 ghost use Rattle.som_cmd.specs.PutEnds.{AreClientTextsOf, AreTextsOf, KeepsFiles, PutsProgram, PutsRelease};
 ghost use Rattle.som_cmd.specs.Refused.{TellsBadWords, TellsOneLine, statuses_of};
 ghost use Rattle.som_cmd.specs.Words.{Bad, asked};
 ghost use Rattle.som_io.specs.Outside.{Rose};
-ghost use Rattle.som_model.specs.Compatible.{CompatBreach};
+ghost use Rattle.som_compile.specs.declared.source.Source.{Source};
+ghost use Rattle.som_model.specs.Class.{interface_of};
+ghost use Rattle.som_model.specs.Compatible.{CompatBreach, Compatible, first_break};
 ghost use Rattle.som_model.specs.Lists.{Mem};
 ghost use Rattle.som_model.specs.declared.program.ClientProgram.{ClientProgram};
 ghost use Rattle.som_model.specs.declared.program.Release.{Release};
-ghost use Rattle.som_run.specs.RunEnds.{RunsAs};
+ghost use Rattle.som_run.specs.Newest.{RunsOnNewest};
+ghost use Rattle.som_run.specs.RunEnds.{RunsAs, TellsNotKept};
 ghost use Rattle.som_steps.specs.Status.{is_calm_status};
-ghost use Rattle.std.specs.Prelude.{IsTrue, List as Seq, Some, ℕ, ◌≡◌, ◌≢◌, ◌⊎◌};
+ghost use Rattle.std.specs.Prelude.{Bool, IsTrue, List as Seq, Some, ℕ, ◌≡◌, ◌≢◌, ◌⊎◌};
 
 use crate::words::{Command, command_of};
 use som_build::{build_client, build_library};
 use som_check::{check_images, show_image};
+use som_host::HostTable;
 use som_io::{Sink, Store};
 use som_model::{List, Text};
 use som_run::run_client;
@@ -29,6 +34,7 @@ fn do_command<S: Store, K: Sink>(
     words: &List<Text>,
     store: &mut S,
     out: &mut K,
+    host: &HostTable,
 ) -> u8
     ensures answered { result ≢ 6 → result ≢ 8 → result ≢ 10 →
         EndsAsTold (asked words.now) (S.files store.old) result (S.files store.new) (K.written out.old) (K.written out.new) }
@@ -48,7 +54,8 @@ fn do_command<S: Store, K: Sink>(
             client,
             library,
             fuel,
-        } => run_client(alloc, client, library, fuel, store, out),
+            trace,
+        } => run_client(alloc, client, library, fuel, trace, store, out, host),
         Command::Show { image } => show_image(alloc, image, store, out),
         Command::Check { images } => check_images(alloc, images, store, out),
         Command::Library { out: name, files } => build_library(alloc, name, files, store, out),
@@ -70,15 +77,28 @@ pub fn run_som<S: Store, K: Sink>(
     words: &List<Text>,
     store: &mut S,
     out: &mut K,
+    host: &HostTable,
 ) -> u8
     // Without faults and with memory it is the answer: its text, its status, its files.
     ensures answered { result ≢ 6 → result ≢ 8 → result ≢ 10 →
         EndsAsTold (asked words.now) (S.files store.old) result (S.files store.new) (K.written out.old) (K.written out.new) }
 
-    // A client runs on the library that it was compiled against as its source means among the library's classes,
-    // with the fuel that is asked for.
-    ensures meaning { (p : ClientProgram) (r : Release) (fuel : ℕ) → AreImagesOf (asked words.now) (S.files store.old) p r fuel
-        → result ≢ 6 → result ≢ 8 → result ≢ 10 → RunsAs p r fuel result (K.written out.old) (K.written out.new) }
+    // Where each release of a list was accepted against the one before it, a client that was compiled from texts against any of them runs on
+    // the newest: what is printed is exactly the text of what the texts mean among the newest release's classes, with the fuel that is asked for,
+    // and the status is that meaning's. Only want of memory, or a fault of the store or the sink that is counted, ends it otherwise.
+    // And the metaclass of each of these classes, also of one that is made of others, descends from the metaclass of each of its parents.
+    ensures newest { (earlier : Seq Release) (newest : Release) (place : ℕ) (texts : Seq Source) (p : ClientProgram) (fuel : ℕ) (shows : Seq ℕ → Bool) →
+        AreNewest (asked words.now) (S.files store.old) earlier newest place texts p fuel shows →
+        RunsOnNewest p newest fuel shows (FailsOn (S.files store.old) (asked words.now)) (S.faults store.old) (S.faults store.new) (K.faults out.old) (K.faults out.new)
+        result (K.written out.old) (K.written out.new) }
+
+    // A client program that conforms runs on any release that conforms and keeps all that it was compiled against, whoever made their images.
+    ensures meaning { (client library : Seq ℕ) (p : ClientProgram) (r : Release) (fuel : ℕ) (shows : Seq ℕ → Bool) → AreImagesOf (asked words.now) (S.files store.old) client library p r fuel shows
+        → Compatible p.base (interface_of r) → result ≢ 6 → result ≢ 8 → result ≢ 10 → RunsAs p r fuel shows result (K.written out.old) (K.written out.new) }
+
+    // Of any other release that conforms the first thing is told that it doesn't keep.
+    ensures incompatible { (client library : Seq ℕ) (p : ClientProgram) (r : Release) (fuel : ℕ) (shows : Seq ℕ → Bool) (b : CompatBreach) → AreImagesOf (asked words.now) (S.files store.old) client library p r fuel shows
+        → first_break p.base (interface_of r) ≡ Some b → result ≢ 6 → result ≢ 8 → result ≢ 10 → TellsNotKept library b result (K.written out.old) (K.written out.new) }
 
     // The image of a release that conforms is shown as that release.
     ensures shown { (r : Release) → IsImageOf (asked words.now) (S.files store.old) r
@@ -133,5 +153,5 @@ pub fn run_som<S: Store, K: Sink>(
     // No file is changed, but by `library` and `client`, which put an image at status 0, or whose put failed in this call, and then what was written says so.
     ensures files { KeepsFiles (asked words.now) (S.files store.old) (S.faults store.old) (S.faults store.new) result (S.files store.new) (K.written out.old) (K.written out.new) }
 {
-    do_command(alloc, words, store, out)
+    do_command(alloc, words, store, out, host)
 }

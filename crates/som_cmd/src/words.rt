@@ -1,10 +1,13 @@
-ghost use Rattle.som_cmd.specs.Words.{are_files, asked, asked_by, asked_of, client_asked, fuel_in, fuel_of, is_digit, is_file, is_name, leads_with_zero, library_asked};
+ghost use Rattle.som_cmd.specs.Words.{are_files, asked, asked_by, asked_of, client_asked, fuel_of, is_digit, is_file, is_name, leads_with_zero, library_asked, run_asked, run_with, trace_in};
 ghost use Rattle.som_compile.specs.Sources.{is_main, mains_in};
 ghost use Rattle.som_model.specs.Lists.{every};
+ghost use Rattle.som_ran.specs.Traces.{shown_in};
+ghost use Rattle.std.specs.Option.{option_map};
 ghost use Rattle.std.specs.Prelude.{codes, ◌≡◌};
 ghost use Rattle.std.specs.Str.{bytes_eq};
 
 use som_model::{DEFAULT_FUEL, List, MAX_FUEL, Text};
+use som_run::Trace;
 
 /// What the words ask for. The names are lent by the words.
 #[derive(Clone, Copy)]
@@ -13,6 +16,7 @@ pub enum Command<'a> {
         client: &'a Text,
         library: &'a Text,
         fuel: u32,
+        trace: Trace<'a>,
     },
     Show {
         image: &'a Text,
@@ -190,20 +194,66 @@ fn value_of(digits: &[u8]) -> Option<u32>
     }
 }
 
-// The fuel that the words after the names ask for.
-fn fuel_in(words: &[Text]) -> Option<u32>
-    ensures { result ≡ fuel_in words.now }
+// The calls that the words after the fuel ask to be shown.
+fn trace_in(words: &[Text]) -> Option<Trace<'_>>
+    ensures { option_map shown_in result ≡ trace_in words.now }
 {
     match words {
-        [] => Some(DEFAULT_FUEL),
-        [flag, word] => {
-            if flag.is(b"--fuel") {
-                value_of(word.as_slice())
+        [] => Some(Trace::Nothing),
+        [flag] => {
+            if flag.is(b"--trace") {
+                Some(Trace::Every)
+            } else {
+                None
+            }
+        }
+        [flag, class] => {
+            if flag.is(b"--trace") && !class.is_empty() {
+                Some(Trace::Only(class))
             } else {
                 None
             }
         }
         _ => None,
+    }
+}
+
+// A run with this fuel and this trace, if there are both.
+fn run_with<'a>(
+    client: &'a Text,
+    library: &'a Text,
+    fuel: Option<u32>,
+    trace: Option<Trace<'a>>,
+) -> Command<'a>
+    ensures { asked_by result ≡ run_with client.now library.now fuel (option_map shown_in trace.entry) }
+{
+    match fuel {
+        Some(fuel) => match trace {
+            Some(trace) => Command::Run {
+                client,
+                library,
+                fuel,
+                trace,
+            },
+            None => Command::Bad,
+        },
+        None => Command::Bad,
+    }
+}
+
+// What the words after the names of a run ask for.
+fn run_asked<'a>(client: &'a Text, library: &'a Text, words: &'a [Text]) -> Command<'a>
+    ensures { asked_by result ≡ run_asked client.now library.now words.now }
+{
+    match words {
+        [flag, word, rest @ ..] => {
+            if flag.is(b"--fuel") {
+                run_with(client, library, value_of(word.as_slice()), trace_in(rest))
+            } else {
+                run_with(client, library, Some(DEFAULT_FUEL), trace_in(words))
+            }
+        }
+        _ => run_with(client, library, Some(DEFAULT_FUEL), trace_in(words)),
     }
 }
 
@@ -221,14 +271,7 @@ pub fn command_of(words: &List<Text>) -> Command<'_>
         }
         [word, client, library, rest @ ..] => {
             if is_run(word) && !client.is_empty() && !library.is_empty() {
-                match fuel_in(rest) {
-                    Some(fuel) => Command::Run {
-                        client,
-                        library,
-                        fuel,
-                    },
-                    None => Command::Bad,
-                }
+                run_asked(client, library, rest)
             } else if is_library(word) {
                 library_with(client, &words.as_slice()[2..])
             } else if is_client(word) {

@@ -4,3 +4,4 @@ pub mod Kernels
 pub mod Worlds
 pub mod Steps
 pub mod Counting
+pub mod Hooking

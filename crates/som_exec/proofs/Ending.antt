@@ -111,7 +111,7 @@ module _ (old : Scene) (units : ℕ) (st : Stands old) where
     made_same es a m = subst (λ z. Makes old.known.classes old.made new.made z) (sym a) m
 
     -- what was told before comes first
-    told_first : (r : Result Bool Stop) → RanOn shows prefix before after mid new r → (end_of (goal old units)).events ≡ told_so_far old ++ events_now old units
+    pub told_first : (r : Result Bool Stop) → RanOn shows prefix before after mid new r → (end_of (goal old units)).events ≡ told_so_far old ++ events_now old units
     told_first r ran =
         let b = ran.begins (meaning old) n st.frames s stands_mid in
         let e : (end_of (goal old units)).events ≡ st.state.events ++ (ran.events ++ b.0) = b.1 ∙ append_assoc st.state.events ran.events b.0 in

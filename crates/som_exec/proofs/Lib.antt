@@ -2,3 +2,4 @@ pub mod Sparing
 pub mod AtFirst
 pub mod Ending
 pub mod Whole
+pub mod Counting

@@ -102,7 +102,7 @@ module _ (c : Scene) (new : Objects) (made : ClassKey → Bool) (spares : Spares
   stands_still x = record {
     frames = x.frames;
     state = x.state;
-    stands = record { at = at_still x.frames x.state x.stands.at; stands = x.stands.stands };
+    stands = record { at = at_still x.frames x.state x.stands.at; stands = x.stands.stands; direct = x.stands.direct };
     nothing_left = x.nothing_left;
     events = x.events;
     objects = x.objects;

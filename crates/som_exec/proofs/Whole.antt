@@ -1,9 +1,9 @@
 -- An advance of a task that was just started is a whole run.
-use Rattle.std.proofs.Common.{◌≡◌, ◌+◌, ℕ, Bool, false, List, [], ◌∷◌, ◌++◌, length, drop, Option, if◌then◌else◌, refl, sym, ap, subst, ◌∙◌, arith, append-nil}
+use Rattle.std.proofs.Common.{◌≡◌, ◌≤◌, ◌+◌, ◌*◌, ℕ, Bool, false, List, [], ◌∷◌, ◌++◌, length, drop, Option, if◌then◌else◌, refl, sym, ap, subst, ◌∙◌, arith, append-nil}
 use Rattle.std.specs.List.{concat}
 use Rattle.som_model.specs.State.{Event}
 use Rattle.som_model.specs.Runs.{Ran, Goes, Ends, end_of}
-use Rattle.som_model.specs.RunText.{events_lines, run_lines, run_text, with_prefix}
+use Rattle.som_model.specs.RunText.{call_count, events_lines, run_lines, run_text, with_prefix}
 use Rattle.som_model.specs.declared.program.Fault.{Fault}
 use Rattle.som_telling.specs.declared.running.Running.{Running}
 use Rattle.som_io.specs.Outside.{ShowsAll, ShowsFront}
@@ -11,8 +11,8 @@ use Rattle.som_moves.specs.Moving.{Makes}
 use Rattle.som_moves.specs.Scene.{Scene}
 use Rattle.som_exec.specs.declared.advanced.Advanced.TheVariants as answers
 use Rattle.som_exec.specs.declared.outcome.Outcome.TheVariants as outcomes
-use Rattle.som_exec.specs.Advance.{Comes, added_text, events_now, goal, last_lines}
-use Rattle.som_exec.specs.Run.{RunsSo, text_with}
+use Rattle.som_exec.specs.Advance.{Comes, CountsNow, added_text, events_now, goal, last_lines}
+use Rattle.som_exec.specs.Run.{CountsRun, RunsSo, text_with}
 use Rattle.som_exec.specs.Stands.{meaning, told_so_far}
 
 -- without a prefix lines are what they are
@@ -40,6 +40,10 @@ module _ (old : Scene) (fuel : ℕ) (granted : old.task.granted ≡ 0) (begun : 
 
   events_are : events_now old fuel ≡ (end_of r).events
   events_are = ap (λ (es : List Event). drop (length es) (end_of (goal old fuel)).events) none_told ∙ ap (λ (z : Ran (Unit {0})). (end_of z).events) goal_is
+
+  -- the same of what is counted
+  pub counts_run : (new : Scene) (b c : ℕ) → CountsNow old fuel new b c → CountsRun old fuel new b c
+  counts_run new b c x direct = subst (λ (es : List Event). c ≤ b + 2 * call_count es + 2) events_are (x direct)
 
   text_is : (shows : List ℕ → Bool) (prefix : List ℕ) → added_text old fuel shows prefix ≡ text_with shows prefix r
   text_is shows prefix =

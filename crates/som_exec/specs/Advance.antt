@@ -1,17 +1,18 @@
 -- What an advance comes to: what main means with the units granted before and these.
-use Rattle.std.specs.Prelude.{◌≡◌, ◌≢◌, ◌≤◌, ◌+◌, ◌++◌, ℕ, Bool, true, List, [], length, drop, Option}
+use Rattle.std.specs.Prelude.{◌≡◌, ◌≢◌, ◌≤◌, ◌+◌, ◌*◌, ◌++◌, ℕ, Bool, true, List, [], length, drop, Option}
 use Rattle.std.specs.List.{concat}
 use Rattle.som_model.specs.declared.key.ClassKey.{ClassKey}
 use Rattle.som_model.specs.declared.program.Fault.{Fault}
 use Rattle.som_model.specs.State as state
 use Rattle.som_model.specs.State.{Event, State}
 use Rattle.som_model.specs.Runs.{Ran, Goes, Ends, Faulted, Spent, end_of}
-use Rattle.som_model.specs.RunText.{end_lines, events_lines, with_prefix}
+use Rattle.som_model.specs.RunText.{call_count, end_lines, events_lines, with_prefix}
 use Rattle.som_io.specs.Outside.{Rose, ShowsAll, ShowsFront}
 use Rattle.som_telling.specs.Places.{running_in}
 use Rattle.som_telling.specs.Told.{end_text}
 use Rattle.som_moves.specs.Moving.{Keeps, Makes}
 use Rattle.som_moves.specs.Scene.{Scene}
+use Rattle.som_looping.specs.Counted.{IsDirectScene}
 use Rattle.som_looping.specs.Standing.{with_units}
 use Rattle.som_exec.specs.declared.advanced.Advanced.{Advanced}
 use Rattle.som_exec.specs.declared.advanced.Advanced.TheVariants as answers
@@ -69,6 +70,10 @@ module _ (old : Scene) (units : ℕ) where
     pub makes : IfEnded answer (Makes old.known.classes old.made new.made events_now)
     pub keeps_made : (k : ClassKey) → old.made k ≡ true → new.made k ≡ true
     pub keeps : Keeps (with_granted old units) new
+
+-- where nothing searches for a name and no class that is made has hooks: two steps are counted for each call event that comes now, and two more
+abbrev pub CountsNow : Scene → ℕ → Scene → ℕ → ℕ → Type 0
+CountsNow old units new before now = IsDirectScene new → now ≤ before + 2 * call_count (events_now old units) + 2
 
 -- the line of a fault is told, and its place is named; or a front of it, where memory was wanting or the sink failed
 abbrev pub EndsBy : List ℕ → Option (List ℕ) → Option (List ℕ) → Fault → state.Place → Advanced → Type 0

@@ -1,15 +1,16 @@
 -- What a whole run comes to: what main means with its fuel.
-use Rattle.std.specs.Prelude.{◌≡◌, ◌≢◌, ◌≤◌, ℕ, Bool, true, List, [], length, Option}
+use Rattle.std.specs.Prelude.{◌≡◌, ◌≢◌, ◌≤◌, ◌+◌, ◌*◌, ℕ, Bool, true, List, [], length, Option}
 use Rattle.std.specs.List.{concat}
 use Rattle.som_model.specs.declared.key.ClassKey.{ClassKey}
 use Rattle.som_model.specs.State as state
 use Rattle.som_model.specs.State.{State}
 use Rattle.som_model.specs.Runs.{Ran, Goes, Ends, Faulted, Spent, end_of}
-use Rattle.som_model.specs.RunText.{run_lines, run_text, with_prefix}
+use Rattle.som_model.specs.RunText.{call_count, run_lines, run_text, with_prefix}
 use Rattle.som_io.specs.Outside.{Rose, ShowsAll, ShowsFront}
 use Rattle.som_telling.specs.Places.{running_in}
 use Rattle.som_moves.specs.Moving.{Keeps, Makes}
 use Rattle.som_moves.specs.Scene.{Scene}
+use Rattle.som_looping.specs.Counted.{IsDirectScene}
 use Rattle.som_exec.specs.declared.outcome.Outcome.{Outcome}
 use Rattle.som_exec.specs.declared.outcome.Outcome.TheVariants as outcomes
 use Rattle.som_exec.specs.Advance.{with_granted}
@@ -43,6 +44,10 @@ pub record RunsSo (old : Scene) (fuel : ℕ) (shows : List ℕ → Bool) (prefix
   pub makes : IfRan outcome (Makes old.known.classes old.made new.made (end_of (meaning old fuel)).events)
   pub keeps_made : (k : ClassKey) → old.made k ≡ true → new.made k ≡ true
   pub keeps : Keeps (with_granted old fuel) new
+
+-- where nothing searches for a name and no class that is made has hooks: two steps are counted for each call event, and two more
+abbrev pub CountsRun : Scene → ℕ → Scene → ℕ → ℕ → Type 0
+CountsRun old fuel new before now = IsDirectScene new → now ≤ before + 2 * call_count (end_of (meaning old fuel)).events + 2
 
 -- the count of the sink's faults never falls, and rose where it failed
 pub record Counts (before now : ℕ) (outcome : Outcome) : Type 0 where

@@ -23,6 +23,7 @@ pub trait Advances: Moves {
         ensures prefix { Self.prefix self.new ≡ Self.prefix self.old }
         ensures lent { Self.lent self.new ≡ Self.lent self.old }
         ensures written { Self.written self.new ≡ Self.written self.old }
+        ensures counted { Self.counted self.new ≡ Self.counted self.old }
         ensures count { Self.faults self.new ≡ Self.faults self.old }
         ensures calm { Self.calm self.old → Self.calm self.new };
 
@@ -33,6 +34,7 @@ pub trait Advances: Moves {
         ensures tells { OnOk result (ShowsAll (Self.written self.old) (Self.written self.new) (end_text (Self.prefix self.old) (Faulted fault (place_shown (setting_of (Self.scene self.old)) at)))) }
         ensures front { ShowsFront (Self.written self.old) (Self.written self.new) (end_text (Self.prefix self.old) (Faulted fault (place_shown (setting_of (Self.scene self.old)) at))) }
         ensures scene { Self.scene self.new ≡ Self.scene self.old }
+        ensures counted { Self.counted self.new ≡ Self.counted self.old }
         ensures lent { Self.lent self.new ≡ Self.lent self.old }
 
         ensures later { Self.faults self.old ≤ Self.faults self.new }

@@ -1,5 +1,6 @@
-ghost use Rattle.som_exec.specs.Advance.{Comes, Counts, EndsBy, StaysCalm, with_granted};
+ghost use Rattle.som_exec.specs.Advance.{Comes, Counts, CountsNow, EndsBy, StaysCalm, with_granted};
 ghost use Rattle.som_exec.specs.Stands.{Stands};
+ghost use Rattle.som_looping.specs.Counted.{CountsOn};
 ghost use Rattle.som_looping.specs.Ran.{RanOn, ended};
 ghost use Rattle.som_looping.specs.Stepped.{Counts as StopCounts, StaysCalm as StopsCalm};
 ghost use Rattle.som_moves.specs.Scene.{setting_of};
@@ -14,12 +15,14 @@ use som_moves::Stop;
 use som_telling::{Place, Untold};
 
 /// Grants units to a task that stands, and goes on until main is over, it has a fault, or no unit is left. What it comes
-/// to is what main means with the units granted before and these.
+/// to is what main means with the units granted before and these. Where nothing searches for a name and no class that is
+/// made has hooks, two steps are counted for each call event that comes now, and two more.
 pub fn advance<M: Advances>(moves: &mut M, units: u32) -> Advanced
     requires stands { Stands (M.scene moves.old) }
     requires units { (M.scene moves.old).task.granted + units < 2 ^ 32 }
     ensures comes { Comes (M.scene moves.old) units (M.shows moves.old) (M.prefix moves.old) (M.written moves.old) (M.written moves.new) (M.scene moves.new) result }
     ensures lent { M.lent moves.new ≡ M.lent moves.old }
+    ensures counted { CountsNow (M.scene moves.old) units (M.scene moves.new) (M.counted moves.old) (M.counted moves.new) }
     ensures counts { Counts (M.faults moves.old) (M.faults moves.new) result }
     ensures calms { StaysCalm (M.calm moves.old) (M.calm moves.new) (M.faults moves.old) (M.faults moves.new) result }
 {
@@ -39,6 +42,7 @@ fn go_on<M: Advances>(moves: &mut M, units: u32) -> Result<(), Stop>
     ensures ran { RanOn (M.shows moves.old) (M.prefix moves.old) (M.written moves.old) (M.written moves.new) (with_granted (M.scene moves.old) units) (M.scene moves.new) (ended result) }
     ensures prefix { M.prefix moves.new ≡ M.prefix moves.old }
     ensures lent { M.lent moves.new ≡ M.lent moves.old }
+    ensures counted { CountsOn (with_granted (M.scene moves.old) units) (M.scene moves.new) (M.counted moves.old) (M.counted moves.new) (ended result) }
     ensures counts { StopCounts (M.faults moves.old) (M.faults moves.new) (ended result) }
     ensures calms { StopsCalm (M.calm moves.old) (M.calm moves.new) (M.faults moves.old) (M.faults moves.new) (ended result) }
 {
@@ -52,6 +56,7 @@ fn end_by<M: Advances>(moves: &mut M, fault: Fault, at: Place) -> Advanced
     requires { IsOwnPlace (setting_of (M.scene moves.old)) (M.scene moves.old).objects at }
     ensures ends { EndsBy (M.prefix moves.old) (M.written moves.old) (M.written moves.new) fault (place_shown (setting_of (M.scene moves.old)) at) result }
     ensures scene { M.scene moves.new ≡ M.scene moves.old }
+    ensures counted { M.counted moves.new ≡ M.counted moves.old }
     ensures lent { M.lent moves.new ≡ M.lent moves.old }
     ensures counts { Counts (M.faults moves.old) (M.faults moves.new) result }
     ensures calms { StaysCalm (M.calm moves.old) (M.calm moves.new) (M.faults moves.old) (M.faults moves.new) result }

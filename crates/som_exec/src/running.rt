@@ -1,5 +1,5 @@
 ghost use Rattle.som_exec.specs.Stands.{Stands};
-ghost use Rattle.som_exec.specs.Run.{Counts, RunsSo, StaysCalm};
+ghost use Rattle.som_exec.specs.Run.{Counts, CountsRun, RunsSo, StaysCalm};
 ghost use Rattle.std.specs.Prelude.{◌≡◌, false};
 
 use crate::{Advanced, Advances, Outcome, advance};
@@ -11,6 +11,7 @@ pub fn run<M: Advances>(moves: &mut M, fuel: u32) -> Outcome
     requires begun { (M.scene moves.old).task.begun ≡ false }
     ensures runs { RunsSo (M.scene moves.old) fuel (M.shows moves.old) (M.prefix moves.old) (M.written moves.old) (M.written moves.new) (M.scene moves.new) result }
     ensures lent { M.lent moves.new ≡ M.lent moves.old }
+    ensures counted { CountsRun (M.scene moves.old) fuel (M.scene moves.new) (M.counted moves.old) (M.counted moves.new) }
     ensures counts { Counts (M.faults moves.old) (M.faults moves.new) result }
     ensures calms { StaysCalm (M.calm moves.old) (M.calm moves.new) (M.faults moves.old) (M.faults moves.new) result }
 {

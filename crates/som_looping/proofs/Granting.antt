@@ -68,4 +68,5 @@ units_granted c means n units granted begun fs s h none = record {
     fuel = omega (arith, none);
   };
   stands = stands_granted (step_of c) means fs s n h.stands units;
+  direct = h.direct;
 }

@@ -1,3 +1,4 @@
 pub mod Standing
 pub mod Stepped
 pub mod Ran
+pub mod Counted

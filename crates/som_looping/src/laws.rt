@@ -24,4 +24,5 @@ pub fn start_law()
 {
     som_tested::loaded_law();
     som_passing::tests_law();
+    som_direct::frames_law();
 }

@@ -1,3 +1,4 @@
+ghost use Rattle.som_looping.specs.Counted.{Counted};
 ghost use Rattle.som_looping.specs.Standing.{IsSomewhere};
 ghost use Rattle.som_looping.specs.Stepped.{Counts, StaysCalm, Stepped};
 ghost use Rattle.som_moves.specs.Scene.{Scene};
@@ -22,6 +23,9 @@ pub trait Moves {
     /// How often the sink failed.
     ghost faults: { Self → ℕ };
 
+    /// How many steps were counted.
+    ghost counted: { Self → ℕ };
+
     /// That nothing is set to make the sink fail.
     ghost calm: { Self → Type 0 };
 
@@ -39,6 +43,7 @@ pub trait Moves {
         ensures shows { shows self.new ≡ shows self.old }
         ensures prefix { prefix self.new ≡ prefix self.old }
         ensures lent { lent self.new ≡ lent self.old }
+        ensures counted { Counted (scene self.old) (counted self.old) (counted self.new) }
         ensures counts { Counts (faults self.old) (faults self.new) result }
         ensures calms { StaysCalm (calm self.old) (calm self.new) (faults self.old) (faults self.new) result };
 }

@@ -9,3 +9,4 @@ pub mod Waking
 pub mod Giving
 pub mod Joined
 pub mod Leaving
+pub mod Counting

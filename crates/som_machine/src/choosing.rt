@@ -1,3 +1,4 @@
+ghost use Rattle.som_looping.specs.Counted.{Counted};
 ghost use Rattle.som_looping.specs.Standing.{IsSomewhere};
 ghost use Rattle.som_looping.specs.Stepped.{Counts, StaysCalm, Stepped};
 ghost use Rattle.som_machine.specs.Doing.{Does, IsKind, untold as sinkless};
@@ -40,6 +41,7 @@ pub fn step_next<R: Runtime, K: Sink, L: Ledger>(
     ensures stepped { Stepped (shows_of trace.now) prefix.now (K.written out.old) (K.written out.new)
         (scene (R.linked runtime.old) (R.known runtime.old) (R.program runtime.old) (R.made runtime.old) objects.old task.old fuel.old)
         (scene (R.linked runtime.new) (R.known runtime.new) (R.program runtime.new) (R.made runtime.new) objects.new task.new fuel.new) result }
+    ensures counted { Counted (scene (R.linked runtime.old) (R.known runtime.old) (R.program runtime.old) (R.made runtime.old) objects.old task.old fuel.old) steps.old steps.new }
     ensures counts { Counts (K.faults out.old) (K.faults out.new) result }
     ensures calms { StaysCalm (K.calm out.old) (K.calm out.new) (K.faults out.old) (K.faults out.new) result }
 {
@@ -70,10 +72,11 @@ fn do_next<R: Runtime, K: Sink, L: Ledger>(
 ) -> Result<Now, Stop>
     requires somewhere { IsSomewhere (scene (R.linked runtime.old) (R.known runtime.old) (R.program runtime.old) (R.made runtime.old) objects.old task.old fuel.old) }
     requires kind { IsKind task.old (Some kind) }
-    ensures { Does (shows_of trace.now) prefix.now (K.written out.old) (K.written out.new)
+    ensures does { Does (shows_of trace.now) prefix.now (K.written out.old) (K.written out.new)
         (scene (R.linked runtime.old) (R.known runtime.old) (R.program runtime.old) (R.made runtime.old) objects.old task.old fuel.old)
         (scene (R.linked runtime.new) (R.known runtime.new) (R.program runtime.new) (R.made runtime.new) objects.new task.new fuel.new)
         (K.faults out.old) (K.faults out.new) (K.calm out.old) (K.calm out.new) result }
+    ensures counted { Counted (scene (R.linked runtime.old) (R.known runtime.old) (R.program runtime.old) (R.made runtime.old) objects.old task.old fuel.old) steps.old steps.new }
 {
     match kind {
         Kind::Calls => untold(call_next(alloc, runtime, task, &*objects, steps)),

@@ -1,4 +1,5 @@
 ghost use Rattle.som_io.specs.Outside.{Rose};
+ghost use Rattle.som_looping.specs.Counted.{Counted};
 ghost use Rattle.som_looping.specs.Standing.{IsSomewhere};
 ghost use Rattle.som_machine.specs.Came.{Came, CameSilent, IsCall};
 ghost use Rattle.som_moves.specs.Scene.{scene};
@@ -56,6 +57,7 @@ pub fn invoke_next<R: Runtime, K: Sink, L: Ledger>(
     ensures came { Came (shows_of trace.now) prefix.now (K.written out.old) (K.written out.new)
         (scene (R.linked runtime.old) (R.known runtime.old) (R.program runtime.old) (R.made runtime.old) objects.old task.old fuel.old)
         (scene (R.linked runtime.new) (R.known runtime.new) (R.program runtime.new) (R.made runtime.new) objects.new task.new fuel.new) result }
+    ensures counted { Counted (scene (R.linked runtime.old) (R.known runtime.old) (R.program runtime.old) (R.made runtime.old) objects.old task.old fuel.old) steps.old steps.new }
 
     ensures later { K.faults out.old ≤ K.faults out.new }
     ensures cause { result ≡ Err stops.SinkFailed → Rose (K.faults out.old) (K.faults out.new) }

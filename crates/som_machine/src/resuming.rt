@@ -1,3 +1,4 @@
+ghost use Rattle.som_looping.specs.Counted.{Counted};
 ghost use Rattle.som_looping.specs.Standing.{IsSomewhere};
 ghost use Rattle.som_machine.specs.Came.{CameSilent, IsResuming, IsValue, place_in};
 ghost use Rattle.som_moves.specs.Scene.{scene};
@@ -27,9 +28,10 @@ pub fn resume_next<R: Runtime, L: Ledger>(
 ) -> Result<Now, Stop>
     requires resuming { IsResuming task.old.frames }
     requires somewhere { (f : ℕ) × IsSomewhere (scene (R.linked runtime.now) (R.known runtime.now) (R.program runtime.now) (R.made runtime.now) objects.old task.old f) }
-    ensures { (f : ℕ) → IsSomewhere (scene (R.linked runtime.now) (R.known runtime.now) (R.program runtime.now) (R.made runtime.now) objects.old task.old f)
+    ensures came { (f : ℕ) → IsSomewhere (scene (R.linked runtime.now) (R.known runtime.now) (R.program runtime.now) (R.made runtime.now) objects.old task.old f)
         → CameSilent (scene (R.linked runtime.now) (R.known runtime.now) (R.program runtime.now) (R.made runtime.now) objects.old task.old f)
         (scene (R.linked runtime.now) (R.known runtime.now) (R.program runtime.now) (R.made runtime.now) objects.new task.new f) result }
+    ensures counted { (f : ℕ) → Counted (scene (R.linked runtime.now) (R.known runtime.now) (R.program runtime.now) (R.made runtime.now) objects.old task.old f) steps.old steps.new }
 {
     let value = take_value(&mut task.frames.now);
     match task.frames.waiting.pop() {

@@ -1,7 +1,8 @@
 use crate::files::{File, Files};
 use som_cmd::run_som;
+use som_host::{host_entry, host_table};
 use som_io::{Got, Leaves, MemSink, MemStore, Put, Store};
-use som_model::{List, NoMemory, Text};
+use som_model::{HostCode, List, NoMemory, Text};
 use std::alloc::Global;
 
 /// A call on the store that fails, and what it leaves where it is a put.
@@ -42,6 +43,27 @@ pub struct Outcome {
     pub changed: Vec<File>,
 }
 
+// The status of a command, with the host's procedures.
+fn status_of(
+    alloc: Global,
+    words: &List<Text>,
+    store: &mut MemStore,
+    out: &mut MemSink,
+) -> Result<u8, NoMemory> {
+    let host = host_table(
+        host_entry(HostCode::Min, Box::new(alloc, |a: i32, b: i32| a.min(b))?),
+        host_entry(HostCode::Max, Box::new(alloc, |a: i32, b: i32| a.max(b))?),
+        host_entry(HostCode::And, Box::new(alloc, |a: i32, b: i32| a & b)?),
+        host_entry(HostCode::Or, Box::new(alloc, |a: i32, b: i32| a | b)?),
+        host_entry(HostCode::Xor, Box::new(alloc, |a: i32, b: i32| a ^ b)?),
+        host_entry(
+            HostCode::WrapAdd,
+            Box::new(alloc, |a: i32, b: i32| a.wrapping_add(b))?,
+        ),
+    );
+    Ok(run_som(alloc, words, store, out, &host))
+}
+
 /// Runs a command over the files.
 pub fn outcome_of(
     alloc: Global,
@@ -51,7 +73,7 @@ pub fn outcome_of(
 ) -> Result<Outcome, NoMemory> {
     let mut store = store_of(alloc, files, failing.store.as_slice())?;
     let mut out = sink_of(alloc, failing.sink.as_slice())?;
-    let status = run_som(alloc, words, &mut store, &mut out);
+    let status = status_of(alloc, words, &mut store, &mut out)?;
     let printed = out.bytes().copy(alloc)?;
     let changed = changed_files(alloc, store, files, words, failing.store.len())?;
     Ok(Outcome {

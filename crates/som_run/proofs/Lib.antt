@@ -1,9 +1,4 @@
-mod RunLaws
-mod RunRefusals
-mod RunMeaning
-mod ClientLaws
-mod LibraryLaws
-mod OneRun
-mod Telling
-pub mod RunAnswered
+mod RunStatuses
+mod Running
 pub mod RunEndLaws
+pub mod NewestLaws

@@ -1,5 +1,3 @@
-pub mod Taking
 pub mod RunAnswer
-pub mod RunSteps
-pub mod Cause
 pub mod RunEnds
+pub mod Newest

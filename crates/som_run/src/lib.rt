@@ -1,10 +1,7 @@
 //! The command `run`: a client image on a library image.
 #![tactic(auto)]
 
-mod first_client;
-mod first_library;
-mod laws;
 mod run;
 
-pub use laws::first_image_law;
 pub use run::run_client;
+pub use som_ran::Trace;

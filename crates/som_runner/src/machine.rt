@@ -44,6 +44,8 @@ impl<'a, R: Runtime, K: Sink, L: Ledger> Moves for Machine<'a, R, K, L> {
 
     ghost faults = { λ m. K.faults m.out.now };
 
+    ghost counted = { λ m. m.steps.now };
+
     ghost calm = { λ m. K.calm m.out.now };
 
     ghost lent = { λ m. m.runtime.ghost_name ∷ m.task.ghost_name ∷ m.objects.ghost_name ∷ m.out.ghost_name ∷ m.steps.ghost_name ∷ [] };

@@ -1,16 +1,14 @@
-ghost use Rattle.som_exec.specs.Run.{Counts, EndsSo, IfRan, StaysCalm};
+ghost use Rattle.som_direct.specs.Counted.{IsDirectRun, IsSearchFree};
+ghost use Rattle.som_exec.specs.Run.{Counts, StaysCalm};
 ghost use Rattle.som_exec.specs.Stands.{Stands};
-ghost use Rattle.som_io.specs.Outside.{ShowsAll, ShowsFront};
 ghost use Rattle.som_model.specs.Means.{means_in};
-ghost use Rattle.som_model.specs.RunText.{run_text};
+ghost use Rattle.som_model.specs.RunText.{call_count};
 ghost use Rattle.som_model.specs.Runs.{end_of};
-ghost use Rattle.som_model.specs.declared.key.ClassKey.{ClassKey};
-ghost use Rattle.som_moves.specs.Moving.{Makes};
 ghost use Rattle.som_moves.specs.Scene.{scene};
 ghost use Rattle.som_objects.specs.Objects.{Objects};
 ghost use Rattle.som_runner.specs.Runs.{RunsMain};
 ghost use Rattle.som_telling.specs.Filters.{shows_of};
-ghost use Rattle.std.specs.Prelude.{◌≡◌, false, true};
+ghost use Rattle.std.specs.Prelude.{◌≡◌, ◌≤◌, ◌+◌, ◌*◌, false};
 
 use crate::Machine;
 use som_exec::{Outcome, Task, start};
@@ -26,7 +24,8 @@ use std::sync::ledger::Ledger;
 
 /// Runs the main of a linked kernel by this fuel, with objects of its own: it answers the end of what main means, and
 /// tells its text, or a front of it where memory was wanting or the sink failed. The classes that were used are made,
-/// and the kernel is else as it was.
+/// and the kernel is else as it was. Where no block searches for a name and no class that is made by the end has hooks,
+/// at most two steps are counted for each call event, and two more.
 pub fn run<R: Runtime, K: Sink, L: Ledger>(
     alloc: Global,
     runtime: &mut R,
@@ -36,11 +35,9 @@ pub fn run<R: Runtime, K: Sink, L: Ledger>(
     out: &mut K,
     steps: &mut Steps<L>,
 ) -> Outcome
-    ensures ended { EndsSo (means_in (R.world runtime.old) (R.program runtime.old) fuel) result }
-    ensures text { IfRan result (ShowsAll (K.written out.old) (K.written out.new) (run_text (shows_of trace.now) (means_in (R.world runtime.old) (R.program runtime.old) fuel))) }
-    ensures front { ShowsFront (K.written out.old) (K.written out.new) (run_text (shows_of trace.now) (means_in (R.world runtime.old) (R.program runtime.old) fuel)) }
-    ensures makes { IfRan result (Makes (R.known runtime.old).classes (R.made runtime.old) (R.made runtime.new) (end_of (means_in (R.world runtime.old) (R.program runtime.old) fuel)).events) }
-    ensures keeps_made { (k : ClassKey) → R.made runtime.old k ≡ true → R.made runtime.new k ≡ true }
+    ensures runs { RunsMain (R.world runtime.old) (R.program runtime.old) fuel (shows_of trace.now) (K.written out.old) (K.written out.new) (R.known runtime.old).classes (R.made runtime.old) (R.made runtime.new) result }
+    ensures steps { IsSearchFree (R.known runtime.old).classes (R.program runtime.old) (R.made runtime.new)
+        → steps.new ≤ steps.old + 2 * call_count (end_of (means_in (R.world runtime.old) (R.program runtime.old) fuel)).events + 2 }
 
     ensures counts { Counts (K.faults out.old) (K.faults out.new) result }
     ensures calms { StaysCalm (K.calm out.old) (K.calm out.new) (K.faults out.old) (K.faults out.new) result }
@@ -77,6 +74,8 @@ fn run_task<'a, R: Runtime, K: Sink, L: Ledger>(
     requires granted { task.task.granted ≡ 0 }
     requires begun { task.task.begun ≡ false }
     ensures runs { RunsMain (R.linked runtime.old).world (R.program runtime.old) fuel (shows_of trace.now) (K.written out.old) (K.written out.new) (R.known runtime.old).classes (R.made runtime.old) (R.made runtime.new) result }
+    ensures steps { IsDirectRun (R.linked runtime.old).world (R.program runtime.old) (R.made runtime.new)
+        → steps.new ≤ steps.old + 2 * call_count (end_of (means_in (R.linked runtime.old).world (R.program runtime.old) fuel)).events + 2 }
 
     ensures counts { Counts (K.faults out.old) (K.faults out.new) result }
     ensures calms { StaysCalm (K.calm out.old) (K.calm out.new) (K.faults out.old) (K.faults out.new) result }

@@ -1,9 +1,13 @@
 ghost use Rattle.som_code.specs.declared.instruction.Instruction.{Instruction};
+ghost use Rattle.som_direct.specs.Counted.{AreWithoutHooks, first_looks};
+ghost use Rattle.som_direct.specs.Direct.{AreDirect};
 ghost use Rattle.som_io.specs.Outside.{Rose};
 ghost use Rattle.som_moves.specs.Scene.{scene};
 ghost use Rattle.som_moves.specs.declared.stop.Stop.TheVariants as stops;
-ghost use Rattle.som_stepping.specs.Chosen.{IsInvoking, IsPlain};
+ghost use Rattle.som_passing.specs.Named.{setting};
+ghost use Rattle.som_stepping.specs.Chosen.{IsInvoking};
 ghost use Rattle.som_stepping.specs.Stepping.{Invoked, IsStanding};
+ghost use Rattle.som_task.specs.Standing.{left_shown};
 ghost use Rattle.som_task.specs.declared.call.Left.{Left as Bodies};
 ghost use Rattle.som_task.specs.declared.frames.Now.TheVariants as nows;
 ghost use Rattle.som_objects.specs.declared.cell.Cell.{Cell as Value};
@@ -25,7 +29,8 @@ use std::alloc::Global;
 use std::sync::ledger::Ledger;
 
 /// The next body of a call is invoked: its test is passed, a unit is taken, its line is told where the filter shows it,
-/// and it begins; where no body is left, the call answers. Where no unit is left, all is as it was.
+/// and it begins; where no body is left, the call answers. Where no unit is left, all is as it was. A body takes two steps
+/// at most where no class that is made has hooks and the body looks nothing up by its name.
 pub fn invoke<R: Runtime, K: Sink, L: Ledger>(
     alloc: Global,
     runtime: &mut R,
@@ -47,7 +52,9 @@ pub fn invoke<R: Runtime, K: Sink, L: Ledger>(
         (scene (R.linked runtime.old) (R.known runtime.old) (R.program runtime.old) (R.made runtime.old) objects.old task.old fuel.old)
         (scene (R.linked runtime.new) (R.known runtime.new) (R.program runtime.new) (R.made runtime.new) objects.new task.new fuel.new) result }
     ensures spent { result ≡ Err stops.Spent → (runtime.new ≡ runtime.old) × (task.new ≡ task.old) × (objects.new ≡ objects.old) × (fuel.new ≡ fuel.old) × (K.written out.new ≡ K.written out.old) }
-    ensures steps { (left : Bodies) (cell : Value) (xs : List ℕ) (cs : List (List Instruction)) → task.old.frames.now ≡ nows.Invoking left cell → IsPlain (R.linked runtime.old) left xs cs → steps.new ≤ steps.old + 2 }
+    ensures steps { (left : Bodies) (cell : Value) (xs : List ℕ) (cs : List (List Instruction)) → task.old.frames.now ≡ nows.Invoking left cell
+        → AreDirect (R.linked runtime.old).world (left_shown (setting (R.linked runtime.old) xs cs) left) → AreWithoutHooks (R.linked runtime.old).world (R.made runtime.old)
+        → steps.new ≤ steps.old + first_looks (left_shown (setting (R.linked runtime.old) xs cs) left) }
 
     ensures later { K.faults out.old ≤ K.faults out.new }
     ensures cause { result ≡ Err stops.SinkFailed → Rose (K.faults out.old) (K.faults out.new) }

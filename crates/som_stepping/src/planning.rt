@@ -1,12 +1,13 @@
 ghost use Rattle.som_code.specs.declared.instruction.Instruction.{Instruction};
 ghost use Rattle.som_codes.specs.Coded.{AreCodes, Coded};
+ghost use Rattle.som_direct.specs.Counted.{first_looks};
 ghost use Rattle.som_io.specs.Outside.{Rose};
 ghost use Rattle.som_model.specs.Means.{hooks_of};
 ghost use Rattle.som_moves.specs.declared.stop.Stop.TheVariants as stops;
 ghost use Rattle.som_passing.specs.Entered.{IsReady};
 ghost use Rattle.som_passing.specs.Named.{HasOwner, setting};
 ghost use Rattle.som_stepping.specs.Chosen.{First, IsFirst, Planned, Tested, count_of, self_of, way_of};
-ghost use Rattle.som_task.specs.Standing.{call_shown};
+ghost use Rattle.som_task.specs.Standing.{call_shown, left_shown};
 ghost use Rattle.som_telling.specs.Filters.{shows_of};
 ghost use Rattle.som_values.specs.Shown.{IsNumbered, key_of};
 ghost use Rattle.std.specs.Prelude.{◌≡◌, ◌≢◌, ◌≤◌, ◌<◌, ◌^◌, ◌++◌, ◌+◌, [], ℕ, Err, List};
@@ -47,7 +48,7 @@ pub(crate) fn plan<R: Runtime, K: Sink, L: Ledger>(
     ensures planned { Planned (R.linked runtime.now) objects.now left.now (shows_of trace.now) prefix.now (K.written out.old) (K.written out.new) codes.old codes.new fuel.old fuel.new result }
     ensures codes { AreCodes (R.known runtime.now) (R.program runtime.now) codes.new }
     ensures more { (added : List Coded) × (codes.new ≡ codes.old ++ added) }
-    ensures cost { (xs : List ℕ) (cs : List (List Instruction)) → hooks_of (R.linked runtime.now).world (key_of (R.linked runtime.now).keys left.now.class) (call_shown (setting (R.linked runtime.now) xs cs) left.now.call) ≡ [] → steps.new ≤ steps.old + 2 }
+    ensures cost { (xs : List ℕ) (cs : List (List Instruction)) → hooks_of (R.linked runtime.now).world (key_of (R.linked runtime.now).keys left.now.class) (call_shown (setting (R.linked runtime.now) xs cs) left.now.call) ≡ [] → steps.new ≤ steps.old + first_looks (left_shown (setting (R.linked runtime.now) xs cs) left.now) }
 
     ensures later { K.faults out.old ≤ K.faults out.new }
     ensures cause { result ≡ Err stops.SinkFailed → Rose (K.faults out.old) (K.faults out.new) }

@@ -5,7 +5,7 @@ use Rattle.som_model.specs.declared.limits.TheConstants.{MAX_SELECTS}
 use Rattle.som_fields.specs.declared.method.Ranges.{Ranges}
 use Rattle.som_fields.specs.Reading.{number_at, method_at}
 use Rattle.som_wire.specs.Reading.{select_at, own_selects_at, class_from_at, class_selects_at, ascending_at, selects_at}
-use Rattle.som_steps.proofs.FieldFaults.{Reads, then_reads, either_reads, number_reads, counted_reads, method_reads}
+use Rattle.som_steps.proofs.FieldFaults.{then_reads, either_reads, number_reads, counted_reads, method_reads}
 use Rattle.som_steps.proofs.BlockFaults.{Readable, two_reads}
 
 select_reads : (ranges : Ranges) → Readable (select_at ranges)

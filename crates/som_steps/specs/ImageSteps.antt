@@ -42,6 +42,10 @@ kept_or name (Some b) = Err (broken name b)
 abbrev pub release_in : List ℕ → List ℕ → Result Release Refusal
 release_in name bytes = read_or name (library_in bytes)
 
+-- the program of a client image under a name
+abbrev pub program_in : List ℕ → List ℕ → Result ClientProgram Refusal
+program_in name bytes = read_or name (client_in bytes)
+
 -- whether a release under a name breaks no rule
 abbrev pub rules_kept : List ℕ → Release → Result (Unit {0}) Refusal
 rules_kept name r = kept_or name (release_breach r)

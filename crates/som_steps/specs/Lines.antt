@@ -1,7 +1,8 @@
 -- Lines that refuse, and the line that says that the store failed.
-use Rattle.std.specs.Prelude.{ℕ, List, [], ◌∷◌, ◌++◌, codes}
+use Rattle.std.specs.Prelude.{ℕ, List, [], ◌∷◌, ◌++◌, Option, Some, None, codes}
 use Rattle.std.specs.Fmt.{decimal}
 use Rattle.som_model.specs.Rules.{RuleBreach}
+use Rattle.som_model.specs.Compatible.{CompatBreach}
 use Rattle.som_fields.specs.declared.fault.ImageFault.{ImageFault}
 use Rattle.som_fields.specs.declared.fault.ImageFault.TheVariants as faults
 use Rattle.som_steps.specs.declared.stop.Refusal.{Refusal}
@@ -53,3 +54,19 @@ broken name b = record {
   line = codes "image S" ++ decimal b.rule ++ codes " " ++ name ++ codes " " ++ b.class ++ codes " " ++ b.member ++ 10 ∷ [];
   why = why.Image;
 }
+
+-- what doesn't apply is a dash
+abbrev pub or_dash : Option (List ℕ) → List ℕ
+or_dash None = codes "-"
+or_dash (Some name) = name
+
+-- a newer image breaks this rule on what is promised: the old class, the name of what is lost or changed, and its place
+abbrev pub incompatible : List ℕ → ℕ → List ℕ → List ℕ → ℕ → Refusal
+incompatible image rule class name place = record {
+  line = codes "incompatible K" ++ decimal rule ++ codes " " ++ class ++ codes " " ++ name ++ codes " " ++ decimal place ++ codes " in " ++ image ++ 10 ∷ [];
+  why = why.Incompatible;
+}
+
+-- the newer image doesn't keep this of what was promised
+abbrev pub not_kept : List ℕ → CompatBreach → Refusal
+not_kept image b = incompatible image b.rule b.class (or_dash b.name) b.place

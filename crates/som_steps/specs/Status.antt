@@ -20,7 +20,7 @@ end_status ends.Spent = 9
 
 -- the statuses that come where neither store nor sink fails
 abbrev pub is_calm_status : ℕ → Bool
-is_calm_status n = (n == 0) || (n == 2) || (n == 3) || (n == 4) || (n == 5) || (n == 7) || (n == 9) || (n == 10) || (n == 11)
+is_calm_status n = (n == 0) || (n == 1) || (n == 2) || (n == 3) || (n == 4) || (n == 5) || (n == 7) || (n == 9) || (n == 10) || (n == 11)
 
 -- the statuses that any command may end with: the store failed, the sink failed, memory ran out
 abbrev pub failing_statuses : List ℕ

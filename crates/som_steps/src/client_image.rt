@@ -1,8 +1,10 @@
+ghost use Rattle.som_cliimage.specs.Limits.{IsWithinLimits};
 ghost use Rattle.som_fields.specs.Fields.{Gives};
 ghost use Rattle.som_model.specs.Conforming.{program_breach};
 ghost use Rattle.som_steps.specs.Cause.{IsQuiet};
-ghost use Rattle.som_steps.specs.ImageSteps.{client_in, kept_or, read_or, sound_program};
+ghost use Rattle.som_steps.specs.ImageSteps.{client_in, kept_or, program_in, sound_program};
 ghost use Rattle.som_steps.specs.Steps.{Follows};
+ghost use Rattle.std.specs.Prelude.{IfOk};
 
 use crate::image_lines::{refuse_broken, refuse_bytes};
 use crate::stop::CommandStop;
@@ -16,15 +18,21 @@ use std::alloc::Global;
 // The program of a client image, or the first fault of the bytes.
 #[tactic(auto, using(crate::proofs::ByteLaws::client_gives))]
 fn client_in(alloc: Global, bytes: &List<u8>) -> Result<ClientProgram, ImageFault>
-    ensures { Gives result (client_in bytes.now) }
+    ensures gives { Gives result (client_in bytes.now) }
+    ensures within { IfOk result IsWithinLimits }
 {
     let _all = bytes.as_bytes();
     decode(alloc, bytes)
 }
 
-// The program of a client image, or the refusal that tells the first fault of the bytes.
-fn read_program(alloc: Global, name: &Text, bytes: &List<u8>) -> Result<ClientProgram, CommandStop>
-    ensures follows { Follows result (read_or name.now (client_in bytes.now)) }
+/// The program of a client image, or the refusal that tells the first fault of the bytes.
+pub fn read_program(
+    alloc: Global,
+    name: &Text,
+    bytes: &List<u8>,
+) -> Result<ClientProgram, CommandStop>
+    ensures follows { Follows result (program_in name.now bytes.now) }
+    ensures within { IfOk result IsWithinLimits }
     ensures quiet { IsQuiet result }
 {
     match client_in(alloc, bytes) {

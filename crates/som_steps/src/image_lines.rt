@@ -1,5 +1,5 @@
 ghost use Rattle.som_rules.specs.Told.{told};
-ghost use Rattle.som_steps.specs.Lines.{broken, fault_number, fault_place, unread};
+ghost use Rattle.som_steps.specs.Lines.{broken, fault_number, fault_place, incompatible, unread};
 ghost use Rattle.std.specs.Prelude.{IfOk, ◌≡◌};
 
 use crate::stop::{Refusal, Why};
@@ -74,5 +74,35 @@ pub fn refuse_broken(alloc: Global, name: &Text, rule: &Broken) -> Result<Refusa
     Ok(Refusal {
         line: Text::from_vec(line),
         why: Why::Image,
+    })
+}
+
+/// The refusal of a newer image that breaks a rule on what is promised: the rule, the old class, the name of what is lost or changed,
+/// and its place.
+pub fn refuse_incompatible(
+    alloc: Global,
+    image: &Text,
+    rule: u8,
+    class: &Text,
+    name: &[u8],
+    place: u32,
+) -> Result<Refusal, NoMemory>
+    ensures { IfOk result (λ r. r ≡ incompatible image.now rule class.now name.now place) }
+{
+    let mut line = Vec::new(alloc);
+    line.extend_from_slice(b"incompatible K")?;
+    add_number(&mut line, u64::from(rule))?;
+    line.push(b' ')?;
+    line.extend_from_slice(class.as_slice())?;
+    line.push(b' ')?;
+    line.extend_from_slice(name)?;
+    line.push(b' ')?;
+    add_number(&mut line, u64::from(place))?;
+    line.extend_from_slice(b" in ")?;
+    line.extend_from_slice(image.as_slice())?;
+    line.push(b'\n')?;
+    Ok(Refusal {
+        line: Text::from_vec(line),
+        why: Why::Incompatible,
     })
 }

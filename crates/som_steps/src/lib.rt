@@ -13,8 +13,9 @@ mod printing;
 mod put;
 mod stop;
 
-pub use client_image::sound_program;
+pub use client_image::{read_program, sound_program};
 pub use files::fetch;
+pub use image_lines::{refuse_broken, refuse_incompatible};
 pub use laws::fault_law;
 pub use library_image::{look_at_rules, read_release, sound_release};
 pub use line::{line_of, named_line};

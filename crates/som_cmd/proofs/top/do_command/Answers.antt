@@ -1,5 +1,6 @@
 use Rattle.std.proofs.Common.{ℕ, List, refl, subst, inl, inr}
 use Rattle.som_io.specs.Outside.{ShowsAll, ShowsFront}
+use Rattle.som_ran.specs.Traces.{shown_in}
 use Rattle.som_run.specs.RunAnswer.{IsRunAnswer}
 use Rattle.som_check.specs.ShowAnswer.{IsShowAnswer}
 use Rattle.som_check.specs.CheckAnswer.{IsCheckAnswer}
@@ -15,22 +16,22 @@ use Rattle.som_cmd.proofs.top.do_command.Goals as goal
 
 pub returns-in-Run-clause-answered : goal.returns-in-Run-clause-answered
 returns-in-Run-clause-answered g c = λ not6 not8 not10.
-    answered (asked c.args.words.now) (Run c.in-Run.client.now c.in-Run.library.now c.in-Run.fuel) c.in-Run.ensures (IsRunAnswer c.in-Run.client.now c.in-Run.library.now c.in-Run.fuel) (λ files e a. runs c.in-Run.client.now c.in-Run.library.now c.in-Run.fuel e a) (g.S.Store.files c.args.store.now) c.run_client.result (g.S.Store.files c.run_client.new.store) (g.K.Sink.written c.args.out.now) (g.K.Sink.written c.run_client.new.out) (c.run_client.ensures.answered not6 not8 not10)
+    answered (asked c.args.words.now) (Run c.in-Run.client.now c.in-Run.library.now c.in-Run.fuel (shown_in c.in-Run.trace)) c.in-Run.ensures (IsRunAnswer c.in-Run.client.now c.in-Run.library.now c.in-Run.fuel (shown_in c.in-Run.trace)) (λ files e a. runs c.in-Run.client.now c.in-Run.library.now c.in-Run.fuel (shown_in c.in-Run.trace) e a) (g.S.Store.files c.args.store.now) c.run_client.result (g.S.Store.files c.run_client.new.store) (g.K.Sink.written c.args.out.now) (g.K.Sink.written c.run_client.new.out) (c.run_client.ensures.answered not6 not8 not10)
 
 pub returns-in-Run-clause-statuses : goal.returns-in-Run-clause-statuses
-returns-in-Run-clause-statuses g c = among (asked c.args.words.now) (Run c.in-Run.client.now c.in-Run.library.now c.in-Run.fuel) c.in-Run.ensures c.run_client.result c.run_client.ensures.statuses
+returns-in-Run-clause-statuses g c = among (asked c.args.words.now) (Run c.in-Run.client.now c.in-Run.library.now c.in-Run.fuel (shown_in c.in-Run.trace)) c.in-Run.ensures c.run_client.result c.run_client.ensures.statuses
 
 pub returns-in-Run-clause-one_line : goal.returns-in-Run-clause-one_line
-returns-in-Run-clause-one_line g c = one_line (asked c.args.words.now) (Run c.in-Run.client.now c.in-Run.library.now c.in-Run.fuel) c.in-Run.ensures c.run_client.result (g.K.Sink.written c.args.out.now) (g.K.Sink.written c.run_client.new.out) c.run_client.ensures.one_line
+returns-in-Run-clause-one_line g c = one_line (asked c.args.words.now) (Run c.in-Run.client.now c.in-Run.library.now c.in-Run.fuel (shown_in c.in-Run.trace)) c.in-Run.ensures c.run_client.result (g.K.Sink.written c.args.out.now) (g.K.Sink.written c.run_client.new.out) c.run_client.ensures.one_line
 
 pub returns-in-Run-clause-store_failed : goal.returns-in-Run-clause-store_failed
-returns-in-Run-clause-store_failed g c = λ six. store_failed (asked c.args.words.now) (Run c.in-Run.client.now c.in-Run.library.now c.in-Run.fuel) c.in-Run.ensures (g.S.Store.files c.args.store.now) (g.S.Store.faults c.args.store.now) (g.S.Store.faults c.run_client.new.store) (g.K.Sink.written c.args.out.now) (g.K.Sink.written c.run_client.new.out) (c.run_client.ensures.store_failed six)
+returns-in-Run-clause-store_failed g c = λ six. store_failed (asked c.args.words.now) (Run c.in-Run.client.now c.in-Run.library.now c.in-Run.fuel (shown_in c.in-Run.trace)) c.in-Run.ensures (g.S.Store.files c.args.store.now) (g.S.Store.faults c.args.store.now) (g.S.Store.faults c.run_client.new.store) (g.K.Sink.written c.args.out.now) (g.K.Sink.written c.run_client.new.out) (c.run_client.ensures.store_failed six)
 
 pub returns-in-Run-clause-front : goal.returns-in-Run-clause-front
-returns-in-Run-clause-front g c = λ either. front (asked c.args.words.now) (Run c.in-Run.client.now c.in-Run.library.now c.in-Run.fuel) c.in-Run.ensures (IsRunAnswer c.in-Run.client.now c.in-Run.library.now c.in-Run.fuel) (λ files e a. runs c.in-Run.client.now c.in-Run.library.now c.in-Run.fuel e a) (g.S.Store.files c.args.store.now) (g.S.Store.faults c.args.store.now) (g.S.Store.faults c.run_client.new.store) (g.K.Sink.written c.args.out.now) (g.K.Sink.written c.run_client.new.out) (c.run_client.ensures.front either)
+returns-in-Run-clause-front g c = λ either. front (asked c.args.words.now) (Run c.in-Run.client.now c.in-Run.library.now c.in-Run.fuel (shown_in c.in-Run.trace)) c.in-Run.ensures (IsRunAnswer c.in-Run.client.now c.in-Run.library.now c.in-Run.fuel (shown_in c.in-Run.trace)) (λ files e a. runs c.in-Run.client.now c.in-Run.library.now c.in-Run.fuel (shown_in c.in-Run.trace) e a) (g.S.Store.files c.args.store.now) (g.S.Store.faults c.args.store.now) (g.S.Store.faults c.run_client.new.store) (g.K.Sink.written c.args.out.now) (g.K.Sink.written c.run_client.new.out) (c.run_client.ensures.front either)
 
 pub returns-in-Run-clause-files : goal.returns-in-Run-clause-files
-returns-in-Run-clause-files g c = files_kept (asked c.args.words.now) (Run c.in-Run.client.now c.in-Run.library.now c.in-Run.fuel) c.in-Run.ensures (g.S.Store.files c.args.store.now) (g.S.Store.faults c.args.store.now) (g.S.Store.faults c.run_client.new.store) c.run_client.result (g.S.Store.files c.run_client.new.store) (g.K.Sink.written c.args.out.now) (g.K.Sink.written c.run_client.new.out) c.run_client.ensures.files
+returns-in-Run-clause-files g c = files_kept (asked c.args.words.now) (Run c.in-Run.client.now c.in-Run.library.now c.in-Run.fuel (shown_in c.in-Run.trace)) c.in-Run.ensures (g.S.Store.files c.args.store.now) (g.S.Store.faults c.args.store.now) (g.S.Store.faults c.run_client.new.store) c.run_client.result (g.S.Store.files c.run_client.new.store) (g.K.Sink.written c.args.out.now) (g.K.Sink.written c.run_client.new.out) c.run_client.ensures.files
 
 -- ---- an image that is shown
 

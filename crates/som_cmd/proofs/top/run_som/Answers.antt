@@ -1,9 +1,17 @@
 use Rattle.som_cmd.specs.Words.{asked}
-use Rattle.som_cmd.proofs.EndLaws.{means, shown, shown_client, accepted, breach, compiled, client_compiled}
+use Rattle.som_cmd.proofs.EndLaws.{means, newest_runs, unkept, shown, shown_client, accepted, breach, compiled, client_compiled}
 use Rattle.som_cmd.proofs.top.run_som.Goals as goal
 
+pub returns-clause-newest : goal.returns-clause-newest
+returns-clause-newest g c = λ earlier newest place texts p fuel calls images.
+    newest_runs (asked c.args.words.now) (g.S.Store.files c.args.store.now) earlier newest place texts p fuel calls images c.do_command.result (g.S.Store.faults c.args.store.now) (g.S.Store.faults c.do_command.new.store) (g.K.Sink.faults c.args.out.now) (g.K.Sink.faults c.do_command.new.out)
+    (g.S.Store.files c.do_command.new.store) (g.K.Sink.written c.args.out.now) (g.K.Sink.written c.do_command.new.out) c.do_command.ensures.answered c.do_command.ensures.store_failed c.do_command.ensures.sink_failed c.do_command.ensures.front
+
 pub returns-clause-meaning : goal.returns-clause-meaning
-returns-clause-meaning g c = λ p r fuel images not6 not8 not10. means (asked c.args.words.now) (g.S.Store.files c.args.store.now) c.do_command.result (g.S.Store.files c.do_command.new.store) (g.K.Sink.written c.args.out.now) (g.K.Sink.written c.do_command.new.out) (c.do_command.ensures.answered not6 not8 not10) p r fuel images
+returns-clause-meaning g c = λ client library p r fuel calls images kept not6 not8 not10. means (asked c.args.words.now) (g.S.Store.files c.args.store.now) c.do_command.result (g.S.Store.files c.do_command.new.store) (g.K.Sink.written c.args.out.now) (g.K.Sink.written c.do_command.new.out) (c.do_command.ensures.answered not6 not8 not10) client library p r fuel calls images kept
+
+pub returns-clause-incompatible : goal.returns-clause-incompatible
+returns-clause-incompatible g c = λ client library p r fuel calls b images is not6 not8 not10. unkept (asked c.args.words.now) (g.S.Store.files c.args.store.now) c.do_command.result (g.S.Store.files c.do_command.new.store) (g.K.Sink.written c.args.out.now) (g.K.Sink.written c.do_command.new.out) (c.do_command.ensures.answered not6 not8 not10) client library p r fuel calls b images is
 
 pub returns-clause-shown : goal.returns-clause-shown
 returns-clause-shown g c = λ r image not6 not8 not10. shown (asked c.args.words.now) (g.S.Store.files c.args.store.now) c.do_command.result (g.S.Store.files c.do_command.new.store) (g.K.Sink.written c.args.out.now) (g.K.Sink.written c.do_command.new.out) (c.do_command.ensures.answered not6 not8 not10) r image

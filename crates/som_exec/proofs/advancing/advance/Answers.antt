@@ -2,8 +2,9 @@ use Rattle.std.proofs.Common.{ℕ, List, subst, sym}
 use Rattle.som_moves.specs.Scene.{Scene, setting_of}
 use Rattle.som_task.specs.Standing.{place_shown}
 use Rattle.som_moves.specs.declared.stop.Stop.TheVariants as stops
-use Rattle.som_exec.specs.Advance.{Comes, EndsBy}
-use Rattle.som_exec.proofs.Ending.{done_comes, fault_comes, fault_place, going_comes, ran_same, starved_comes, sunk_comes}
+use Rattle.som_exec.specs.Advance.{Comes, CountsNow, EndsBy}
+use Rattle.som_exec.proofs.Ending.{done_comes, fault_comes, fault_place, going_comes, ran_same, starved_comes, sunk_comes, told_first}
+use Rattle.som_exec.proofs.Counting.{counts_now}
 use Rattle.som_exec.proofs.advancing.advance.Goals as goal
 
 pub end_by-requires : goal.end_by-requires
@@ -40,3 +41,31 @@ returns-in-Err-Fault-clause-comes g c =
     let ends = subst (λ (z : List ℕ). EndsBy z told after fault place c.end_by.result) c.go_on.ensures.prefix c.end_by.ensures.ends in
     subst (λ (z : Scene). Comes old c.args.units shows prefix before after z c.end_by.result) (sym c.end_by.ensures.scene)
     (fault_comes old c.args.units c.requires.stands shows prefix before told after new fault at ran c.end_by.result ends)
+
+pub returns-in-Ok-clause-counted : goal.returns-in-Ok-clause-counted
+returns-in-Ok-clause-counted g c =
+    let old = g.M.Moves.scene c.args.moves.now in
+    counts_now old c.args.units c.requires.stands (g.M.Moves.scene c.go_on.new.moves) (g.M.Moves.counted c.args.moves.now) (g.M.Moves.counted c.go_on.new.moves) (told_first old c.args.units c.requires.stands _ _ _ _ _ _ c.in-Ok.ensures.ran) c.in-Ok.ensures.counted
+
+pub returns-in-Err-Spent-clause-counted : goal.returns-in-Err-Spent-clause-counted
+returns-in-Err-Spent-clause-counted g c =
+    let old = g.M.Moves.scene c.args.moves.now in
+    counts_now old c.args.units c.requires.stands (g.M.Moves.scene c.go_on.new.moves) (g.M.Moves.counted c.args.moves.now) (g.M.Moves.counted c.go_on.new.moves) (told_first old c.args.units c.requires.stands _ _ _ _ _ _ c.in-Err-Spent.ensures.ran) c.in-Err-Spent.ensures.counted
+
+pub returns-in-Err-SinkFailed-clause-counted : goal.returns-in-Err-SinkFailed-clause-counted
+returns-in-Err-SinkFailed-clause-counted g c =
+    let old = g.M.Moves.scene c.args.moves.now in
+    counts_now old c.args.units c.requires.stands (g.M.Moves.scene c.go_on.new.moves) (g.M.Moves.counted c.args.moves.now) (g.M.Moves.counted c.go_on.new.moves) (told_first old c.args.units c.requires.stands _ _ _ _ _ _ c.in-Err-SinkFailed.ensures.ran) c.in-Err-SinkFailed.ensures.counted
+
+pub returns-in-Err-NoMemory-clause-counted : goal.returns-in-Err-NoMemory-clause-counted
+returns-in-Err-NoMemory-clause-counted g c =
+    let old = g.M.Moves.scene c.args.moves.now in
+    counts_now old c.args.units c.requires.stands (g.M.Moves.scene c.go_on.new.moves) (g.M.Moves.counted c.args.moves.now) (g.M.Moves.counted c.go_on.new.moves) (told_first old c.args.units c.requires.stands _ _ _ _ _ _ c.in-Err-NoMemory.ensures.ran) c.in-Err-NoMemory.ensures.counted
+
+pub returns-in-Err-Fault-clause-counted : goal.returns-in-Err-Fault-clause-counted
+returns-in-Err-Fault-clause-counted g c =
+    let old = g.M.Moves.scene c.args.moves.now in
+    let before = g.M.Moves.counted c.args.moves.now in
+    let counted = counts_now old c.args.units c.requires.stands (g.M.Moves.scene c.go_on.new.moves) (g.M.Moves.counted c.args.moves.now) (g.M.Moves.counted c.go_on.new.moves) (told_first old c.args.units c.requires.stands _ _ _ _ _ _ c.in-Err-Fault.ensures.ran) c.in-Err-Fault.ensures.counted in
+    subst (λ (z : Scene). CountsNow old c.args.units z before (g.M.Moves.counted c.end_by.new.moves)) (sym c.end_by.ensures.scene)
+    (subst (λ n. CountsNow old c.args.units (g.M.Moves.scene c.go_on.new.moves) before n) (sym c.end_by.ensures.counted) counted)

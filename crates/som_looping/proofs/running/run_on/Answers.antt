@@ -1,7 +1,9 @@
-use Rattle.std.proofs.Common.{Ok, Err, refl, sym, ap, subst, ◌∙◌}
+use Rattle.std.proofs.Common.{Ok, Err, true, false, refl, sym, ap, subst, ◌∙◌}
 use Rattle.std.proofs.lemmas.Result.{err_from_is_err_and}
 use Rattle.som_looping.specs.Ran.{RanOn, ended}
 use Rattle.som_looping.proofs.Joining.{calm_none, calm_both, counts_none, counts_both}
+use Rattle.som_looping.specs.Counted.{CountsOn}
+use Rattle.som_looping.proofs.Counting.{counted_none, counted_then}
 use Rattle.som_looping.proofs.Going.{ran_none, ran_then}
 use Rattle.som_looping.proofs.running.run_on.Goals as goal
 
@@ -12,6 +14,7 @@ loop-init g c = record {
   shows = refl;
   prefix = refl;
   lent = refl;
+  counted = counted_none _ _;
   counts = counts_none _;
   calms = calm_none _ _;
 }
@@ -33,6 +36,7 @@ loop-preserved g c =
       shows = c.in_ok-run_unit.ensures.shows ∙ i.shows;
       prefix = c.in_ok-run_unit.ensures.prefix ∙ i.prefix;
       lent = c.in_ok-run_unit.ensures.lent ∙ i.lent;
+      counted = counted_then _ _ _ _ _ _ _ _ _ _ i.counted (Ok true) (rw c.if-branch.true at c.in_ok-run_unit.ensures.ran) (rw c.if-branch.true at c.in_ok-run_unit.ensures.counted);
       counts = counts_both _ _ _ _ i.counts (rw c.if-branch.true at c.in_ok-run_unit.ensures.counts);
       calms = calm_both _ _ _ _ _ _ _ i.calms (rw c.if-branch.true at c.in_ok-run_unit.ensures.calms);
     }
@@ -41,3 +45,16 @@ pub returns-clause-ran : goal.returns-clause-ran
 returns-clause-ran g c =
     let i = c.loop.invariant in
     ran_then _ _ _ _ i.shows i.prefix _ _ _ _ _ _ _ i.ran (rw c.if-branch.false at c.in_ok-run_unit.ensures.ran)
+
+pub returns-in_err-run_unit-clause-counted : goal.returns-in_err-run_unit-clause-counted
+returns-in_err-run_unit-clause-counted g c =
+    let i = c.loop.invariant in
+    let p = err_from_is_err_and c.from_residual.result c.from_residual.ensures.1 in
+    subst (λ r. CountsOn (g.M.Moves.scene c.args.moves.now) (g.M.Moves.scene c.run_unit.new.moves) (g.M.Moves.counted c.args.moves.now) (g.M.Moves.counted c.run_unit.new.moves) (ended r))
+    (sym (p.1 ∙ ap (λ z. Err z) p.2))
+    (counted_then _ _ _ _ _ _ _ _ _ _ i.counted _ c.in_err-run_unit.ensures.ran c.in_err-run_unit.ensures.counted)
+
+pub returns-clause-counted : goal.returns-clause-counted
+returns-clause-counted g c =
+    let i = c.loop.invariant in
+    counted_then _ _ _ _ _ _ _ _ _ _ i.counted (Ok false) (rw c.if-branch.false at c.in_ok-run_unit.ensures.ran) (rw c.if-branch.false at c.in_ok-run_unit.ensures.counted)

@@ -1,4 +1,5 @@
 use Rattle.std.proofs.Common.{◌≡◌, Ok, true}
+use Rattle.som_looping.specs.Counted.{CountsOn}
 use Rattle.som_looping.specs.Ran.{RanOn}
 use Rattle.som_looping.specs.Standing.{IsSomewhere}
 use Rattle.som_looping.specs.Stepped.{Counts, StaysCalm}
@@ -11,6 +12,7 @@ invariant-loop g l = record {
   shows : g.M.Moves.shows l.moves ≡ g.M.Moves.shows l.fn.moves;
   prefix : g.M.Moves.prefix l.moves ≡ g.M.Moves.prefix l.fn.moves;
   lent : g.M.Moves.lent l.moves ≡ g.M.Moves.lent l.fn.moves;
+  counted : CountsOn (g.M.Moves.scene l.fn.moves) (g.M.Moves.scene l.moves) (g.M.Moves.counted l.fn.moves) (g.M.Moves.counted l.moves) (Ok true);
   counts : Counts (g.M.Moves.faults l.fn.moves) (g.M.Moves.faults l.moves) (Ok true);
   calms : StaysCalm (g.M.Moves.calm l.fn.moves) (g.M.Moves.calm l.moves) (g.M.Moves.faults l.fn.moves) (g.M.Moves.faults l.moves) (Ok true);
 }

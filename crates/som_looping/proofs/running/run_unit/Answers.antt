@@ -1,7 +1,9 @@
-use Rattle.std.proofs.Common.{◌≤◌, Err, refl, sym, ap, subst, ◌∙◌}
+use Rattle.std.proofs.Common.{◌≤◌, Ok, Err, true, false, refl, sym, ap, subst, ◌∙◌}
 use Rattle.std.proofs.lemmas.Result.{err_from_is_err_and}
 use Rattle.som_looping.specs.Ran.{RanOn}
 use Rattle.som_looping.proofs.Joining.{calm_none, calm_both, counts_none, counts_both}
+use Rattle.som_looping.specs.Counted.{CountsOn}
+use Rattle.som_looping.proofs.Counting.{counted_none, counted_step}
 use Rattle.som_looping.proofs.Going.{ran_none, ran_on}
 use Rattle.som_looping.proofs.Lowering.{fewer, same_units, step_falls, step_lowers, still_somewhere}
 use Rattle.som_looping.proofs.running.run_unit.Goals as goal
@@ -13,6 +15,7 @@ loop-moves-init g c = record {
   shows = refl;
   prefix = refl;
   lent = refl;
+  counted = counted_none _ _;
   counts = counts_none _;
   calms = calm_none _ _;
   units = sym c.fuel-fuel.ensures;
@@ -52,6 +55,7 @@ loop-moves-preserved g c =
       shows = c.in_ok-step.ensures.shows ∙ i.shows;
       prefix = c.in_ok-step.ensures.prefix ∙ i.prefix;
       lent = c.in_ok-step.ensures.lent ∙ i.lent;
+      counted = counted_step _ _ _ _ _ _ _ _ _ _ i.counted c.in_ok-step.ensures.counted (Ok true) (rw c.if-not-branch.false at c.in_ok-step.ensures.stepped);
       counts = counts_both _ _ _ _ i.counts (rw c.if-not-branch.false at c.in_ok-step.ensures.counts);
       calms = calm_both _ _ _ _ _ _ _ i.calms (rw c.if-not-branch.false at c.in_ok-step.ensures.calms);
       units = same_units c.fuel-fuel.result _ _ i.units (step_falls _ _ _ _ _ _ i.somewhere (rw c.if-not-branch.false at c.in_ok-step.ensures.stepped)) (subst (λ z. c.fuel-fuel.result ≤ z) c.fuel.ensures c.if-fuel.false);
@@ -62,3 +66,21 @@ pub returns-then-fuel-clause-somewhere : goal.returns-then-fuel-clause-somewhere
 returns-then-fuel-clause-somewhere g c e =
     let i = c.loop-moves.invariant in
     still_somewhere _ _ _ _ _ _ i.somewhere (rw c.if-not-branch.false at c.in_ok-step.ensures.stepped)
+
+pub returns-in_err-step-clause-counted : goal.returns-in_err-step-clause-counted
+returns-in_err-step-clause-counted g c =
+    let i = c.loop-moves.invariant in
+    let p = err_from_is_err_and c.from_residual.result c.from_residual.ensures.1 in
+    subst (CountsOn (g.M.Moves.scene c.args.moves.now) (g.M.Moves.scene c.step.new.self) (g.M.Moves.counted c.args.moves.now) (g.M.Moves.counted c.step.new.self))
+    (sym (p.1 ∙ ap (λ z. Err z) p.2))
+    (counted_step _ _ _ _ _ _ _ _ _ _ i.counted c.in_err-step.ensures.counted _ c.in_err-step.ensures.stepped)
+
+pub returns-then-not-branch-clause-counted : goal.returns-then-not-branch-clause-counted
+returns-then-not-branch-clause-counted g c =
+    let i = c.loop-moves.invariant in
+    counted_step _ _ _ _ _ _ _ _ _ _ i.counted c.in_ok-step.ensures.counted (Ok false) (rw c.if-not-branch.true at c.in_ok-step.ensures.stepped)
+
+pub returns-then-fuel-clause-counted : goal.returns-then-fuel-clause-counted
+returns-then-fuel-clause-counted g c =
+    let i = c.loop-moves.invariant in
+    counted_step _ _ _ _ _ _ _ _ _ _ i.counted c.in_ok-step.ensures.counted (Ok true) (rw c.if-not-branch.false at c.in_ok-step.ensures.stepped)

@@ -2,6 +2,7 @@ use Rattle.std.proofs.Common.{refl, rules}
 use Rattle.som_moves.specs.Scene.{scene}
 use Rattle.som_telling.specs.Filters.{shows_of}
 use Rattle.som_runner.proofs.Alone.{runs_left}
+use Rattle.som_runner.proofs.Counting.{run_counts}
 use Rattle.som_runner.proofs.running.run_task.Goals as goal
 
 pub returns-clause-runs : goal.returns-clause-runs
@@ -12,3 +13,12 @@ returns-clause-runs g c =
     runs_left (g.R.Runtime.linked r) (g.R.ClassKeys.known r) (g.R.Runtime.program r) (g.R.Classes.made r) c.new-objects.result c.args.task.task 0 c.args.fuel (shows_of c.args.trace.now) c.from_vec-prefix.result (g.K.Sink.written c.args.out.now)
     (scene (g.R.Runtime.linked q) (g.R.ClassKeys.known q) (g.R.Runtime.program q) (g.R.Classes.made q) m.objects.now m.task.now m.fuel) c.run.result c.run.ensures.runs
     (search rules) (search rules) refl (search rules)
+
+pub returns-clause-steps : goal.returns-clause-steps
+returns-clause-steps g c =
+    let r = c.args.runtime.now in
+    let m = c.run.new.moves in
+    let q = m.runtime.now in
+    let keeps = c.run.ensures.runs.keeps in
+    run_counts (scene (g.R.Runtime.linked r) (g.R.ClassKeys.known r) (g.R.Runtime.program r) (g.R.Classes.made r) c.new-objects.result c.args.task.task 0)
+    (scene (g.R.Runtime.linked q) (g.R.ClassKeys.known q) (g.R.Runtime.program q) (g.R.Classes.made q) m.objects.now m.task.now m.fuel) keeps.linked keeps.main _ (search rules) c.args.steps.now m.steps.now c.args.fuel c.run.ensures.counted (search rules)

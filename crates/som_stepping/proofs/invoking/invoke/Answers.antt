@@ -10,12 +10,10 @@ use Rattle.som_beginning.specs.Beginning.{Began, Begins}
 use Rattle.som_stepping.specs.Stepping.{Invoked, Stands}
 use Rattle.som_stepping.proofs.Coming.{all_front, invoked_none, invoked_stopped, invoked_wanting, ready, self_had}
 use Rattle.som_stepping.proofs.Began.{begins_mid, invoked, then_waits}
-use Rattle.som_model.specs.Means.{hooks_of}
-use Rattle.som_task.specs.declared.call.Left.{Left}
-use Rattle.som_task.specs.Standing.{call_shown}
+use Rattle.som_direct.specs.Counted.{first_looks}
+use Rattle.som_task.specs.Standing.{left_shown}
 use Rattle.som_passing.specs.Named.{setting}
-use Rattle.som_values.specs.Shown.{key_of}
-use Rattle.som_stepping.proofs.Costing.{looks_none}
+use Rattle.som_stepping.proofs.Costing.{cost_of, left_made, looks_none}
 use Rattle.som_stepping.proofs.invoking.invoke.Goals as goal
 
 pub plan-requires-clause-ready : goal.plan-requires-clause-ready
@@ -161,26 +159,42 @@ returns-clause-invoked g c =
     (c.begin.ensures.began c.plan.new.fuel))))
 
 pub returns-in_err-planned-clause-steps : goal.returns-in_err-planned-clause-steps
-returns-in_err-planned-clause-steps g c left cell xs cs is plain =
-    c.plan.ensures.cost xs cs (subst (λ (y : Left). hooks_of (g.R.Runtime.linked c.args.runtime.now).world (key_of (g.R.Runtime.linked c.args.runtime.now).keys y.class) (call_shown (setting (g.R.Runtime.linked c.args.runtime.now) xs cs) y.call) ≡ []) (sym (c.left_of-left.ensures left cell is)) plain.hooks)
+returns-in_err-planned-clause-steps g c left cell xs cs is direct without =
+    let r = c.args.runtime.now in
+    let x = c.requires.standing in
+    let made = g.R.Classes.made r in
+    cost_of (g.R.Runtime.linked r) made xs cs _ left _ _ (c.left_of-left.ensures left cell is) without
+    (left_made (scene (g.R.Runtime.linked r) (g.R.ClassKeys.known r) (g.R.Runtime.program r) made c.args.objects.now c.args.task.now c.args.fuel.now) x.0 x.1 x.2 _ left cell is x.3) (c.plan.ensures.cost xs cs)
 
 pub returns-in_default-clause-steps : goal.returns-in_default-clause-steps
-returns-in_default-clause-steps g c left cell xs cs is plain =
-    c.plan.ensures.cost xs cs (subst (λ (y : Left). hooks_of (g.R.Runtime.linked c.args.runtime.now).world (key_of (g.R.Runtime.linked c.args.runtime.now).keys y.class) (call_shown (setting (g.R.Runtime.linked c.args.runtime.now) xs cs) y.call) ≡ []) (sym (c.left_of-left.ensures left cell is)) plain.hooks)
+returns-in_default-clause-steps g c left cell xs cs is direct without =
+    let r = c.args.runtime.now in
+    let x = c.requires.standing in
+    let made = g.R.Classes.made r in
+    cost_of (g.R.Runtime.linked r) made xs cs _ left _ _ (c.left_of-left.ensures left cell is) without
+    (left_made (scene (g.R.Runtime.linked r) (g.R.ClassKeys.known r) (g.R.Runtime.program r) made c.args.objects.now c.args.task.now c.args.fuel.now) x.0 x.1 x.2 _ left cell is x.3) (c.plan.ensures.cost xs cs)
 
 pub returns-in_err-taken-clause-steps : goal.returns-in_err-taken-clause-steps
-returns-in_err-taken-clause-steps g c left cell xs cs is plain =
-    c.plan.ensures.cost xs cs (subst (λ (y : Left). hooks_of (g.R.Runtime.linked c.args.runtime.now).world (key_of (g.R.Runtime.linked c.args.runtime.now).keys y.class) (call_shown (setting (g.R.Runtime.linked c.args.runtime.now) xs cs) y.call) ≡ []) (sym (c.left_of-left.ensures left cell is)) plain.hooks)
+returns-in_err-taken-clause-steps g c left cell xs cs is direct without =
+    let r = c.args.runtime.now in
+    let x = c.requires.standing in
+    let made = g.R.Classes.made r in
+    cost_of (g.R.Runtime.linked r) made xs cs _ left _ _ (c.left_of-left.ensures left cell is) without
+    (left_made (scene (g.R.Runtime.linked r) (g.R.ClassKeys.known r) (g.R.Runtime.program r) made c.args.objects.now c.args.task.now c.args.fuel.now) x.0 x.1 x.2 _ left cell is x.3) (c.plan.ensures.cost xs cs)
 
 pub returns-clause-steps : goal.returns-clause-steps
-returns-clause-steps g c left cell xs cs is plain =
-    let l = g.R.Runtime.linked c.args.runtime.now in
+returns-clause-steps g c left cell xs cs is direct without =
+    let r = c.args.runtime.now in
+    let l = g.R.Runtime.linked r in
+    let made = g.R.Classes.made r in
+    let x = c.requires.standing in
     let e = c.left_of-left.ensures left cell is in
-    let cost = c.plan.ensures.cost xs cs (subst (λ (y : Left). hooks_of l.world (key_of l.keys y.class) (call_shown (setting l xs cs) y.call) ≡ []) (sym e) plain.hooks) in
+    let cost = cost_of l made xs cs _ left _ _ e without
+    (left_made (scene l (g.R.ClassKeys.known r) (g.R.Runtime.program r) made c.args.objects.now c.args.task.now c.args.fuel.now) x.0 x.1 x.2 _ left cell is x.3) (c.plan.ensures.cost xs cs) in
     let shows = shows_of c.args.trace.now in
     let prefix = c.args.prefix.now in
     let before = g.K.Sink.written c.args.out.now in
     let after = g.K.Sink.written c.plan.new.out in
     let here = subst (λ y. Planned l c.args.objects.now y shows prefix before after c.args.task.now.codes c.plan.new.codes c.args.fuel.now c.plan.new.fuel (Ok c.in_ok-planned.planned)) e c.in_ok-planned.ensures.planned in
     let planned = subst (λ x. Planned l c.args.objects.now left shows prefix before after c.args.task.now.codes c.plan.new.codes c.args.fuel.now c.plan.new.fuel (Ok x)) c.in-Some.is here in
-    subst (λ n. n ≤ c.args.steps.now + 2) (sym (c.begin.ensures.steps (looks_none l left xs cs plain c.plan.new.codes c.in-Some.plan planned.0 (count_of left c.in-Some.plan.role) planned.1 planned.5))) cost
+    subst (λ n. n ≤ c.args.steps.now + first_looks (left_shown (setting l xs cs) left)) (sym (c.begin.ensures.steps (looks_none l left xs cs direct c.plan.new.codes c.in-Some.plan planned.0 (count_of left c.in-Some.plan.role) planned.1 planned.5))) cost

@@ -6,7 +6,7 @@ use Rattle.som_telling.specs.Filters.{shows_of}
 use Rattle.som_telling.specs.Told.{event_text}
 use Rattle.som_stepping.specs.Chosen.{Planned, way_of}
 use Rattle.som_stepping.proofs.Firsts.{event_is, first_of, planned_ok, planned_stopped, planned_wanting, untold_wants, view_first}
-use Rattle.som_stepping.proofs.Costing.{costs_two}
+use Rattle.som_stepping.proofs.Costing.{costs_first}
 use Rattle.som_stepping.proofs.planning.plan.Goals as goal
 
 pub test-requires-clause-me : goal.test-requires-clause-me
@@ -75,16 +75,16 @@ returns-clause-planned g c =
     (subst (λ e. ShowsAll before after (event_text shows c.args.prefix.now e)) told c.in_ok-tell_call.ensures.ok) prepared.begun c.count.ensures.is
 
 pub returns-in_default-clause-cost : goal.returns-in_default-clause-cost
-returns-in_default-clause-cost g c xs cs hooks = costs_two c.args.steps.now c.next.new.steps c.next.result (c.next.ensures.cost xs cs hooks)
+returns-in_default-clause-cost g c xs cs hooks = costs_first c.args.steps.now c.next.new.steps c.next.result (g.R.Runtime.linked c.args.runtime.now) _ _ c.args.left.now.stage (c.next.ensures.cost xs cs hooks) (c.next.ensures.next xs cs)
 
 pub returns-in_err-test-clause-cost : goal.returns-in_err-test-clause-cost
-returns-in_err-test-clause-cost g c xs cs hooks = costs_two c.args.steps.now c.next.new.steps c.next.result (c.next.ensures.cost xs cs hooks)
+returns-in_err-test-clause-cost g c xs cs hooks = costs_first c.args.steps.now c.next.new.steps c.next.result (g.R.Runtime.linked c.args.runtime.now) _ _ c.args.left.now.stage (c.next.ensures.cost xs cs hooks) (c.next.ensures.next xs cs)
 
 pub returns-in_err-tell_call-clause-cost : goal.returns-in_err-tell_call-clause-cost
-returns-in_err-tell_call-clause-cost g c xs cs hooks = costs_two c.args.steps.now c.next.new.steps c.next.result (c.next.ensures.cost xs cs hooks)
+returns-in_err-tell_call-clause-cost g c xs cs hooks = costs_first c.args.steps.now c.next.new.steps c.next.result (g.R.Runtime.linked c.args.runtime.now) _ _ c.args.left.now.stage (c.next.ensures.cost xs cs hooks) (c.next.ensures.next xs cs)
 
 pub returns-in_err-begun-clause-cost : goal.returns-in_err-begun-clause-cost
-returns-in_err-begun-clause-cost g c xs cs hooks = costs_two c.args.steps.now c.next.new.steps c.next.result (c.next.ensures.cost xs cs hooks)
+returns-in_err-begun-clause-cost g c xs cs hooks = costs_first c.args.steps.now c.next.new.steps c.next.result (g.R.Runtime.linked c.args.runtime.now) _ _ c.args.left.now.stage (c.next.ensures.cost xs cs hooks) (c.next.ensures.next xs cs)
 
 pub returns-clause-cost : goal.returns-clause-cost
-returns-clause-cost g c xs cs hooks = costs_two c.args.steps.now c.next.new.steps c.next.result (c.next.ensures.cost xs cs hooks)
+returns-clause-cost g c xs cs hooks = costs_first c.args.steps.now c.next.new.steps c.next.result (g.R.Runtime.linked c.args.runtime.now) _ _ c.args.left.now.stage (c.next.ensures.cost xs cs hooks) (c.next.ensures.next xs cs)

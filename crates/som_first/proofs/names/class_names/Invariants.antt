@@ -1,6 +1,0 @@
-use Rattle.som_order.specs.Names.{texts}
-use Rattle.som_first.proofs.Named.{NamesSoFar}
-use Rattle.som_first.proofs.names.class_names.Given as goal
-
-abbrev pub invariant-loop-class : goal.invariant-loop-class
-invariant-loop-class l = NamesSoFar l.classes l.class-index (texts l.names.keys)

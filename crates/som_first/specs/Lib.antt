@@ -1,3 +1,0 @@
-pub mod FirstImages
-pub mod FirstRuns
-pub mod Linking

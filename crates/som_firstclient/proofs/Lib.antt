@@ -1,4 +1,0 @@
-pub mod CallFields
-pub mod ClientFields
-pub mod NamedCalls
-pub mod NamedClients

@@ -1,0 +1,4 @@
+pub mod Reading
+mod Failing
+mod Refusals
+mod Linking
