@@ -12,7 +12,8 @@ TABLE = crates/som_rows/data/try.rows
 # proof, which tells where what comes differs
 try:
 	@if [ -x $(SOM) ]; then examples/session $(SOM) examples/zoo/try.commands $(OUT)/examples/try; \
-	else cat examples/zoo/try.expected && $(MAKE) --no-print-directory table; fi
+	else cat examples/zoo/try.expected && echo && echo "# There is no program yet, so these commands are now run as a table, with no proof, in a minute or two:" && \
+	$(MAKE) --no-print-directory table; fi
 
 # runs the commands of a table with no proof, and tells where something else is printed: make table TABLE=mine.rows
 table:
