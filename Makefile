@@ -18,7 +18,7 @@ try:
 # runs the commands of a table with no proof, and tells where something else is printed: make table TABLE=mine.rows
 table:
 	cd crates/som_rows && rt try --steps 1 --seconds 300 --data fixtures.rows=data/fixtures.rows --data table.rows=$(abspath $(TABLE)) -- fixtures.rows table.rows
-	@echo "# 0 differences: each command printed what its table has. The line on an interpreter can be passed over."
+	@echo "# 0 differences says that each command printed what the table has. The line on an interpreter can be passed over."
 
 # the program: `rt run` first proves what isn't proved yet
 $(SOM): $(shell find crates -name out -prune -o -name '*.rt' -print -o -name '*.antt' -print)
