@@ -46,15 +46,17 @@ fn word_of(holds: Holds) -> &'static [u8] {
     }
 }
 
-// The class whose body a class has for the method that a name means in it, and what that is.
+// The class whose body a class has for the method that a name means in a class, the same or another, and what that is.
 fn counted_body<L: Ledger>(
     kernel: &Kernel<Linked>,
     class: ClassNo,
+    meant_in: ClassNo,
     name: &Text,
     blank: Blank,
 ) -> Option<(ClassNo, Holds)>
     requires made { IsMadeIn kernel.now class }
     requires numbered { IsNumbered kernel.now.classes class }
+    requires meant_in { IsMadeIn kernel.now meant_in }
     requires name { blank.name ≡ L.name }
     requires parts { blank.parts ≡ L.parts }
     requires some { 0 < blank.parts }
@@ -63,7 +65,7 @@ fn counted_body<L: Ledger>(
     let classes = kernel.classes();
     let _count = classes.count();
     let mut steps: Steps<L> = Steps::new(blank);
-    let method = kernel.find(class, name, &mut steps)?;
+    let method = kernel.find(meant_in, name, &mut steps)?;
     if kernel.is_a(class, method.class()) {
         let body = kernel.resolve(class, method, &mut steps);
         let view = kernel.body(body);
@@ -73,7 +75,7 @@ fn counted_body<L: Ledger>(
     }
 }
 
-// The same of the parent at a place.
+// The same of the parent at a place, for the method that the name means in the class.
 fn counted_above<L: Ledger>(
     kernel: &Kernel<Linked>,
     class: ClassNo,
@@ -131,7 +133,24 @@ pub fn tell_body(
     let (class, method) = first_word(rest);
     let class = made_called(alloc, kernel, class)?;
     let method = Text::from_slice(alloc, method)?;
-    let answer = counted_body::<Brand>(kernel, class, &method, Blank::new(1));
+    let answer = counted_body::<Brand>(kernel, class, class, &method, Blank::new(1));
+    tell_held(alloc, kernel, answer, out)?;
+    Ok(())
+}
+
+/// Tells whose body a class that is made has for the method that a name means in another.
+pub fn tell_body_of(
+    alloc: Global,
+    kernel: &Kernel<Linked>,
+    rest: &[u8],
+    out: &mut List<u8>,
+) -> Result<(), Unasked> {
+    let (class, rest) = first_word(rest);
+    let (other, method) = first_word(rest);
+    let class = made_called(alloc, kernel, class)?;
+    let other = made_called(alloc, kernel, other)?;
+    let method = Text::from_slice(alloc, method)?;
+    let answer = counted_body::<Brand>(kernel, class, other, &method, Blank::new(1));
     tell_held(alloc, kernel, answer, out)?;
     Ok(())
 }

@@ -1,4 +1,4 @@
-use crate::bodies::{tell_body, tell_body_above};
+use crate::bodies::{tell_body, tell_body_above, tell_body_of};
 use crate::classes::{
     tell_descent, tell_found, tell_hooks, tell_is_made, tell_metaclass, tell_parents, tell_version,
 };
@@ -31,6 +31,7 @@ fn tell_answer(
         b"metaclass" => tell_metaclass(alloc, kernel, rest, out),
         b"hooks" => tell_hooks(alloc, kernel, rest, out),
         b"body" => tell_body(alloc, kernel, rest, out),
+        b"body_of" => tell_body_of(alloc, kernel, rest, out),
         b"above" => tell_body_above(alloc, kernel, rest, out),
         b"entry" => tell_entry(alloc, kernel, rest, out),
         b"variables" => tell_variables(alloc, kernel, rest, out),
