@@ -4,7 +4,7 @@ use Rattle.som_model.specs.declared.key.ClassKey.{ClassKey}
 use Rattle.som_model.specs.declared.key.MethodRef.{MethodRef}
 use Rattle.som_model.specs.declared.class.Entry.{Entry}
 use Rattle.som_model.specs.Class.{Class, entry_name}
-use Rattle.som_model.specs.Classes.{hierarchy, is_a, parents_of}
+use Rattle.som_model.specs.Classes.{hierarchy, is_a}
 use Rattle.som_model.specs.Owner.{entry_at}
 use Rattle.som_model.proofs.NamedLaws.{hierarchy_parents}
 use Rattle.som_hierarchy.proofs.Lists.{get_mem}
