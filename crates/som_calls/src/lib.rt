@@ -9,6 +9,7 @@ mod fields;
 mod flat_code;
 #[cfg(test)]
 mod hierarchies;
+#[cfg(test)]
 mod hosts;
 #[cfg(test)]
 mod images;
@@ -34,5 +35,3 @@ mod tables;
 mod texts;
 #[cfg(test)]
 mod worked;
-
-pub use hosts::answer_of;
