@@ -4,3 +4,4 @@ pub mod Cause
 pub mod Ends
 pub mod PutEnds
 pub mod Refused
+pub mod Complete

@@ -2,6 +2,7 @@ ghost use Rattle.som_check.specs.CheckAnswer.{first_not_kept};
 ghost use Rattle.som_check.specs.CheckEnds.{TellsAccepted, TellsBreach};
 ghost use Rattle.som_check.specs.ShowEnds.{ShowsProgram, ShowsRelease};
 ghost use Rattle.som_cmd.specs.Cause.{FailsOn};
+ghost use Rattle.som_cmd.specs.Complete.{EndsOrWants};
 ghost use Rattle.som_cmd.specs.Ends.{AreChecked, AreImagesOf, AreNewest, EndsAsTold, IsImageOf, IsImageOfClient, ShowsSome, StoreFails};
 ghost use Rattle.som_cmd.specs.PutEnds.{AreClientTextsOf, AreTextsOf, KeepsFiles, PutsProgram, PutsRelease};
 ghost use Rattle.som_cmd.specs.Refused.{TellsBadWords, TellsOneLine, statuses_of};
@@ -82,6 +83,11 @@ pub fn run_som<S: Store, K: Sink>(
     // Without faults and with memory it is the answer: its text, its status, its files.
     ensures answered { result ≢ 6 → result ≢ 8 → result ≢ 10 →
         EndsAsTold (asked words.now) (S.files store.old) result (S.files store.new) (K.written out.old) (K.written out.new) }
+
+    // Where neither the count of the store's faults nor that of the sink's rose in this call, it is the answer, or memory ran out: then a front of
+    // its text was written, and the files are as they were.
+    ensures complete { (Rose (S.faults store.old) (S.faults store.new) → ⊥) → (Rose (K.faults out.old) (K.faults out.new) → ⊥) →
+        EndsOrWants (asked words.now) (S.files store.old) result (S.files store.new) (K.written out.old) (K.written out.new) }
 
     // Where each release of a list was accepted against the one before it, a client that was compiled from texts against any of them runs on
     // the newest: what is printed is exactly the text of what the texts mean among the newest release's classes, with the fuel that is asked for,

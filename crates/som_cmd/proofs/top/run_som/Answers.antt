@@ -1,6 +1,12 @@
 use Rattle.som_cmd.specs.Words.{asked}
+use Rattle.som_cmd.proofs.Complete.{complete}
 use Rattle.som_cmd.proofs.EndLaws.{means, newest_runs, unkept, shown, shown_client, accepted, breach, compiled, client_compiled}
 use Rattle.som_cmd.proofs.top.run_som.Goals as goal
+
+pub returns-clause-complete : goal.returns-clause-complete
+returns-clause-complete g c = λ steady quiet.
+    complete (g.S.Store.faults c.args.store.now) (g.S.Store.faults c.do_command.new.store) steady (g.K.Sink.faults c.args.out.now) (g.K.Sink.faults c.do_command.new.out) quiet (asked c.args.words.now) c.do_command.result
+    (g.S.Store.files c.do_command.new.store) (g.K.Sink.written c.args.out.now) (g.K.Sink.written c.do_command.new.out) (g.S.Store.files c.args.store.now) c.do_command.ensures.answered c.do_command.ensures.store_failed c.do_command.ensures.sink_failed c.do_command.ensures.front c.do_command.ensures.files
 
 pub returns-clause-newest : goal.returns-clause-newest
 returns-clause-newest g c = λ earlier newest place texts p fuel calls images.
