@@ -3,3 +3,4 @@ mod FuelLaws
 mod FuelSpelled
 mod OneAnswer
 mod EndLaws
+mod CountLaws
