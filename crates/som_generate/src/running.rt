@@ -22,17 +22,16 @@ use som_io::{Sending, Sink};
 use som_linking::LinkFault;
 use som_model::{ClientProgram, DEFAULT_FUEL, NoMemory, Release};
 use som_ran::run_unseen;
-use som_runner::Finished;
 use som_runtime::Runtime;
 use std::alloc::Global;
 
 // Writes how many units are left where main is over, and answers the status.
-fn end_run<K: Sink>(alloc: Global, finished: &Finished, out: &mut K) -> u8
-    ensures ends { EndsAfter finished.now.outcome finished.now.left (K.faults out.old) (K.faults out.new) (K.written out.old) (K.written out.new) result }
-    ensures calm { K.calm out.old → finished.now.outcome ≢ outcomes.SinkFailed → result ≢ 8 }
+fn end_run<K: Sink>(alloc: Global, outcome: &Outcome, left: u32, out: &mut K) -> u8
+    ensures ends { EndsAfter outcome.now left (K.faults out.old) (K.faults out.new) (K.written out.old) (K.written out.new) result }
+    ensures calm { K.calm out.old → outcome.now ≢ outcomes.SinkFailed → result ≢ 8 }
 {
-    match finished.outcome {
-        Outcome::Done => print_left(alloc, finished.left, out),
+    match outcome {
+        Outcome::Done => print_left(alloc, left, out),
         Outcome::SourceFault { .. } => 1,
         Outcome::Spent => 9,
         Outcome::SinkFailed => 8,
@@ -53,13 +52,17 @@ fn run_kernel<R: Runtime, K: Sink>(
     ensures calm { K.calm out.old → result ≢ 8 }
 {
     match run_unseen(alloc, runtime, fuel, host, out) {
-        Ok(finished) => end_run(alloc, &finished, out),
+        Ok(finished) => end_run(alloc, &finished.outcome, finished.left, out),
         Err(NoMemory) => 10,
     }
 }
 
 // The kernel of a client and of a release that keeps what the client was compiled against.
-fn link(alloc: Global, release: &Release, program: &ClientProgram) -> Result<Kernel<Linked>, NoMemory>
+fn link(
+    alloc: Global,
+    release: &Release,
+    program: &ClientProgram,
+) -> Result<Kernel<Linked>, NoMemory>
     requires clear { obstacle release.now program.now ≡ None }
     requires release { releases.IsWithinLimits release.now }
     requires program { programs.IsWithinLimits program.now }

@@ -27,6 +27,7 @@ pub(crate) fn run_filtered<R: Runtime, K: Sink>(
     ensures runs { RunsTraced (R.world runtime.old) (R.program runtime.old) fuel (shows_of filter.now) (K.faults out.old) (K.faults out.new) (K.written out.old) (K.written out.new) result.outcome }
     ensures left { LeavesFuel (means_in (R.world runtime.old) (R.program runtime.old) fuel) result.left result.outcome }
     ensures later { K.faults out.old ≤ K.faults out.new }
+    ensures stays_calm { K.calm out.old → K.calm out.new }
     ensures calm { K.calm out.old → result.outcome ≢ outcomes.SinkFailed }
 {
     run_counted::<Brand, R, K>(alloc, runtime, fuel, filter, host, out, Blank::new(1))
@@ -48,6 +49,7 @@ fn run_counted<L: Ledger, R: Runtime, K: Sink>(
     ensures runs { RunsTraced (R.world runtime.old) (R.program runtime.old) fuel (shows_of filter.now) (K.faults out.old) (K.faults out.new) (K.written out.old) (K.written out.new) result.outcome }
     ensures left { LeavesFuel (means_in (R.world runtime.old) (R.program runtime.old) fuel) result.left result.outcome }
     ensures later { K.faults out.old ≤ K.faults out.new }
+    ensures stays_calm { K.calm out.old → K.calm out.new }
     ensures calm { K.calm out.old → result.outcome ≢ outcomes.SinkFailed }
 {
     let mut steps: Steps<L> = Steps::new(blank);

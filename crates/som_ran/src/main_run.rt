@@ -28,6 +28,7 @@ pub fn run_unseen<R: Runtime, K: Sink>(
     ensures runs { IfOk result (λ finished. RunsTraced (R.world runtime.old) (R.program runtime.old) fuel no_trace (K.faults out.old) (K.faults out.new) (K.written out.old) (K.written out.new) finished.outcome) }
     ensures left { IfOk result (λ finished. LeavesFuel (means_in (R.world runtime.old) (R.program runtime.old) fuel) finished.left finished.outcome) }
     ensures later { K.faults out.old ≤ K.faults out.new }
+    ensures stays_calm { K.calm out.old → K.calm out.new }
     ensures untold { OnErr result (K.written out.new ≡ K.written out.old) }
     ensures calm { K.calm out.old → IfOk result (λ finished. finished.outcome ≢ outcomes.SinkFailed) }
 {
