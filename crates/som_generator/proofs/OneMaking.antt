@@ -119,7 +119,7 @@ client_is_one base ss (Err (unmade.Texts v)) (Err (unmade.Texts w)) x y = ap (λ
 client_is_one base ss (Err (unmade.Texts v)) (Err (unmade.NotKept k)) x y = absurd y
 client_is_one base ss (Err (unmade.NotKept k)) r x y = absurd x
 
-kept_of : CompatBreach → NotKept
+abbrev kept_of : CompatBreach → NotKept
 kept_of b = record { rule = b.rule; class = b.class; name = b.name; place = b.place }
 
 abbrev some_breach : CompatBreach → Option CompatBreach
@@ -132,7 +132,7 @@ breach_apart : {C : Type 0} (b : CompatBreach) → None ≡ some_breach b → C
 breach_apart b e = cc
 
 comparing_is_one : (old new : Interface) → IsOne (ComparingComes old new)
-comparing_is_one old new (Ok tt) (Ok tt) x y = refl
+comparing_is_one old new (Ok u) (Ok v) x y = refl
 comparing_is_one old new (Ok u) (Err (unmade.Texts w)) x y = absurd y
 comparing_is_one old new (Ok u) (Err (unmade.NotKept k)) x y = breach_apart (breach_of k) (sym x ∙ y)
 comparing_is_one old new (Err (unmade.Texts v)) r x y = absurd x

@@ -1,5 +1,5 @@
 -- The texts of the generator under their names, as they are compiled.
-use Rattle.std.specs.Prelude.{ℕ, List, [], ◌∷◌, codes}
+use Rattle.std.specs.Prelude.{ℕ, List, [], ◌∷◌, ◌++◌, codes}
 use Rattle.som_compile.specs.declared.source.Source.{Source}
 use Rattle.som_generator.specs.declared.edition.Edition.{Edition}
 use Rattle.som_generator.specs.declared.edition.Edition.TheVariants.{First, Second}

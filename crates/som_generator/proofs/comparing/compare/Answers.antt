@@ -2,7 +2,7 @@ use Rattle.std.proofs.Common.{Some, sym, ap, ◌∙◌}
 use Rattle.som_model.specs.Class.{interface_of}
 use Rattle.som_model.specs.Compatible.{CompatBreach}
 use Rattle.som_compat.specs.Told.{told}
-use Rattle.som_generator.proofs.Comparing.{all_kept, first_lost, may_compare}
+use Rattle.som_generator.proofs.Compared.{all_kept, first_lost, may_compare}
 use Rattle.som_generator.proofs.comparing.compare.Goals as goal
 
 pub check_list-requires : goal.check_list-requires
