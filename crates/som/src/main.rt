@@ -24,6 +24,7 @@ const USAGE: &str = "usage: som library OUT FILE..
        som check IMAGE IMAGE..
        som run CLIENT LIBRARY [--fuel N] [--trace [CLASS]]
        som show IMAGE
+       som generate N
 a FILE ends in .idl, .bod or .main; docs/COMMANDS.md tells the rest";
 
 /// The status of words that have no form.

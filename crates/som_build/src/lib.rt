@@ -9,3 +9,4 @@ mod texts;
 
 pub use client::build_client;
 pub use library::build_library;
+pub use text_refusals::refuse_texts;

@@ -80,8 +80,8 @@ pub fn refuse_limit(alloc: Global, quantity: &[u8], number: u32) -> Result<Refus
     })
 }
 
-// The refusal that tells what is wrong with texts.
-fn refuse_texts(alloc: Global, fault: &TextFault) -> Result<Refusal, NoMemory>
+/// The refusal that tells what is wrong with texts.
+pub fn refuse_texts(alloc: Global, fault: &TextFault) -> Result<Refusal, NoMemory>
     ensures { IfOk result (λ r. r ≡ text_refused fault.now) }
 {
     match fault {

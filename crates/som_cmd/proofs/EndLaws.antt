@@ -32,12 +32,17 @@ use Rattle.som_run.proofs.RunEndLaws.{front_by, means_by, unkept_by}
 use Rattle.som_run.specs.Newest.{RunsOnNewest}
 use Rattle.som_run.specs.RunEnds.{RunsAs, TellsNotKept}
 use Rattle.som_run.specs.RunAnswer.{IsRunAnswer}
+use Rattle.som_generator.specs.declared.made.Made.{Made}
+use Rattle.som_generate.proofs.AnswerLaws.{generated_by}
+use Rattle.som_generate.specs.GenerateAnswer.{IsGenerateAnswer}
+use Rattle.som_generate.specs.GenerateEnds.{TellsGenerated}
+use Rattle.som_generate.specs.Printing.{ShowsSomeOf}
 use Rattle.som_cmd.proofs.OneAnswer.{some_answer}
-use Rattle.som_cmd.specs.Words.{Asked, Bad, Library, Run, Show, Check, Client}
-use Rattle.som_cmd.specs.Answer.{IsAnswer, bad_words, runs, shows, checks, bad_line, compiles, compiles_client}
+use Rattle.som_cmd.specs.Words.{Asked, Bad, Library, Run, Show, Check, Client, Generate}
+use Rattle.som_cmd.specs.Answer.{IsAnswer, bad_words, runs, shows, checks, bad_line, compiles, compiles_client, generates}
 use Rattle.som_cmd.specs.Cause.{FailsOn}
-use Rattle.som_cmd.specs.Ends.{EndsAsTold, StoreFails, ShowsSome, AreImagesOf, AreNewest, IsImageOf, IsImageOfClient, AreChecked}
-use Rattle.som_cmd.proofs.WordLaws.{HasMains}
+use Rattle.som_cmd.specs.Ends.{EndsAsTold, StoreFails, ShowsSome, AreImagesOf, AreNewest, IsImageOf, IsImageOfClient, IsMadeFor, AreChecked}
+use Rattle.som_cmd.proofs.WordLaws.{IsAnswerable}
 use Rattle.som_cmd.specs.Refused.{TellsBadWords, TellsOneLine, statuses_of}
 use Rattle.som_cmd.specs.PutEnds.{KeepsFiles, AreTextsOf, AreClientTextsOf, PutsProgram, PutsRelease}
 
@@ -63,6 +68,16 @@ among asked by is status m = subst (λ (x : Asked). Mem status (statuses_of x)) 
 
 pub one_line : (asked by : Asked) → by ≡ asked → (status : ℕ) (old new : Option (List ℕ)) → TellsOneLine by status old new → TellsOneLine asked status old new
 one_line asked by is status old new t = subst (λ (x : Asked). TellsOneLine x status old new) is t
+
+-- ---- what is generated is so whatever files there are
+
+pub generated_told : (n : ℕ) (files : Option Files) (status : ℕ) (old new : Option (List ℕ)) → ((told : Files) → steps.EndsAs (IsGenerateAnswer n told) status (Some told) old new) → steps.EndsAsTold (IsGenerateAnswer n) files status files old new
+generated_told n None status old new e = tt
+generated_told n (Some told) status old new e = e told
+
+pub generated_some : (n : ℕ) (files : Option Files) (count now : ℕ) (old new : Option (List ℕ)) → ((told : Files) → ShowsSomeOf (IsGenerateAnswer n told) old new) → steps.ShowsSome (IsGenerateAnswer n) (FailsOn files (Generate n)) files count now old new
+generated_some n None count now old new s = tt
+generated_some n (Some told) count now old new s = inl (s told)
 
 -- ---- words of no form
 
@@ -106,7 +121,7 @@ pub bad_status : (status : ℕ) → (status ≢ 8 → status ≢ 10 → status �
 bad_status status is = by_failures status is (status == 8) (status == 10) refl refl
 
 -- where nothing was written, a front of the answer's text was
-pub none_written : (asked : Asked) → HasMains asked → (files : Option Files) (count now : ℕ) (written : Option (List ℕ)) → ShowsSome asked files count now written written
+pub none_written : (asked : Asked) → IsAnswerable asked → (files : Option Files) (count now : ℕ) (written : Option (List ℕ)) → ShowsSome asked files count now written written
 none_written asked mains files count now written = nothing_written (λ before. IsAnswer before asked) (FailsOn files asked) (λ before. some_answer before asked mains) files count now written
 
 -- ---- the end of the call is that of the command that it asks for
@@ -130,6 +145,9 @@ library_alone files out names e (compiles _ _ _ a) = a
 
 client_alone : (files : Files) (out library : List ℕ) (names : List (List ℕ)) (e : Ending) → IsAnswer files (Client out library names) e → IsClientAnswer out library names files e
 client_alone files out library names e (compiles_client _ _ _ _ a) = a
+
+generate_alone : (files : Files) (n : ℕ) (e : Ending) → IsAnswer files (Generate n) e → IsGenerateAnswer n files e
+generate_alone files n e (generates _ _ a) = a
 
 module _ (asked : Asked) (files : Option Files) (status : ℕ) (new_files : Option Files) (old new : Option (List ℕ)) (e : EndsAsTold asked files status new_files old new) where
   -- it is the end of the run that is asked for
@@ -197,6 +215,13 @@ module _ (asked : Asked) (files : Option Files) (status : ℕ) (new_files : Opti
         (ends_with (λ x. IsAnswer m.told (Client out m.library m.names) x) (IsClientAnswer out m.library m.names m.told) (client_alone m.told out m.library m.names) status new_files old new
         (ends_by asked (Client out m.library m.names) files m.told m.asked_is m.files_are status new_files old new e)) m.texts;
   }
+
+  -- or that tells what is generated
+  pub generated : (n : ℕ) (m : Made) → IsMadeFor asked files n m → TellsGenerated n m status old new
+  generated n m is =
+      generated_by n m is.made is.told status new_files old new
+      (ends_with (λ x. IsAnswer is.told (Generate n) x) (IsGenerateAnswer n is.told) (generate_alone is.told n) status new_files old new
+      (ends_by asked (Generate n) files is.told is.asked_is is.files_are status new_files old new e))
 
 -- ---- the newest of accepted releases
 

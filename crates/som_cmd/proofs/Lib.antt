@@ -4,3 +4,4 @@ mod FuelSpelled
 mod OneAnswer
 mod EndLaws
 mod Complete
+mod CountLaws

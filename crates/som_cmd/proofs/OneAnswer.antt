@@ -6,17 +6,19 @@ use Rattle.som_build.proofs.PutAnswered.{library_answer, client_answer, one_libr
 use Rattle.som_check.proofs.ShowLaws.{some_show_answer, one_show_answer}
 use Rattle.som_check.proofs.CheckLaws.{some_check_answer, one_check_answer}
 use Rattle.som_run.specs.RunAnswer.{run_ending}
-use Rattle.som_cmd.specs.Answer.{runs, shows, IsAnswer, bad_words, checks, compiles, compiles_client, bad_line}
-use Rattle.som_cmd.specs.Words.{Asked, Run, Show, Check, Library, Client, Bad}
-use Rattle.som_cmd.proofs.WordLaws.{HasMains}
+use Rattle.som_generate.proofs.AnswerLaws.{one_generate_answer, some_generate_answer}
+use Rattle.som_cmd.specs.Answer.{runs, shows, IsAnswer, bad_words, checks, compiles, compiles_client, generates, bad_line}
+use Rattle.som_cmd.specs.Words.{Asked, Run, Show, Check, Library, Client, Generate, Bad}
+use Rattle.som_cmd.proofs.WordLaws.{IsAnswerable}
 
--- there is an answer to what has as many files with a main as it needs
-pub some_answer : (files : Files) (asked : Asked) → HasMains asked → (told : Ending) × IsAnswer files asked told
+-- there is an answer to what has as many files with a main as it needs, or no more classes than can be generated
+pub some_answer : (files : Files) (asked : Asked) → IsAnswerable asked → (told : Ending) × IsAnswer files asked told
 some_answer files (Run c l fuel calls) mains = (run_ending c l fuel calls files, runs c l fuel calls (run_ending c l fuel calls files) refl)
 some_answer files (Show n) mains = let a = some_show_answer files n in (a.0, shows n a.0 a.1)
 some_answer files (Check ns) mains = let a = some_check_answer files ns in (a.0, checks ns a.0 a.1)
 some_answer files (Library out names) mains = let a = library_answer files out names in (a.0, compiles out names a.0 a.1)
 some_answer files (Client out library names) mains = let a = client_answer files out library names mains in (a.0, compiles_client out library names a.0 a.1)
+some_answer files (Generate n) few = let a = some_generate_answer n few files in (a.0, generates n a.0 a.1)
 some_answer files Bad mains = (record { text = bad_line; status = 2; files = files }, bad_words)
 
 -- and no other
@@ -26,4 +28,5 @@ one_answer files (Show n) a b (shows _ _ x) (shows _ _ y) = one_show_answer file
 one_answer files (Check ns) a b (checks _ _ x) (checks _ _ y) = one_check_answer files ns a b x y
 one_answer files (Library out names) a b (compiles _ _ _ x) (compiles _ _ _ y) = one_library_answer files out names a b x y
 one_answer files (Client out library names) a b (compiles_client _ _ _ _ x) (compiles_client _ _ _ _ y) = one_client_answer files out library names a b x y
+one_answer files (Generate n) a b (generates _ _ x) (generates _ _ y) = one_generate_answer n files a b x y
 one_answer files Bad a b bad_words bad_words = refl

@@ -1,12 +1,14 @@
--- The words name as many files with a main as what they ask for needs.
+-- The words name as many files with a main as what they ask for needs, and no more classes than can be generated.
 use Rattle.std.proofs.Common.{◌≡◌, ℕ, suc, ◌+◌, ◌<◌, ◌≤◌, ◌==◌, Bool, true, false, ◌&&◌, if◌then◌else◌, List, [], ◌∷◌, length, drop, get_or, codes, Option, Some, None, refl, sym, ap, subst, ◌∙◌, arith}
-use Rattle.std.proofs.lemmas.Bool.{eqb-true}
+use Rattle.std.specs.Prelude.{nat_le}
+use Rattle.std.proofs.lemmas.Bool.{eqb-true, leb-true}
 use Rattle.std.proofs.lemmas.List.{drop_more, drop_all}
 use Rattle.std.specs.Str.{bytes_eq}
 use Rattle.som_model.specs.declared.limits.TheConstants.{DEFAULT_FUEL}
 use Rattle.som_model.specs.Lists.{every}
 use Rattle.som_compile.specs.Sources.{is_main, mains_in}
-use Rattle.som_cmd.specs.Words.{Asked, Show, Check, Library, Client, Bad, are_files, asked, asked_of, client_asked, fuel_of, is_file, is_name, library_asked, run_asked, run_with, trace_in}
+use Rattle.som_generator.specs.declared.limits.TheConstants.{MAX_CLASSES}
+use Rattle.som_cmd.specs.Words.{Asked, Show, Check, Library, Client, Generate, Bad, are_files, asked, asked_of, client_asked, counted, fuel_of, generate_asked, generate_with, is_file, is_name, library_asked, run_asked, run_with, trace_in}
 
 -- ---- one word after the other
 
@@ -48,13 +50,14 @@ all_counted words i count over so =
 
 -- ---- what is asked for
 
--- it has as many files with a main as it needs: none for a library, one for a client
-abbrev pub HasMains : Asked → Type 0
-HasMains (Library out files) = mains_in files ≡ 0
-HasMains (Client out library files) = mains_in files ≡ 1
-HasMains _ = Unit {0}
+-- it has as many files with a main as it needs, none for a library and one for a client, or so many classes can be generated
+abbrev pub IsAnswerable : Asked → Type 0
+IsAnswerable (Library out files) = mains_in files ≡ 0
+IsAnswerable (Client out library files) = mains_in files ≡ 1
+IsAnswerable (Generate count) = count ≤ MAX_CLASSES
+IsAnswerable _ = Unit {0}
 
-if_mains : (b : Bool) (x y : Asked) → HasMains x → HasMains y → HasMains (if b then x else y)
+if_mains : (b : Bool) (x y : Asked) → IsAnswerable x → IsAnswerable y → IsAnswerable (if b then x else y)
 if_mains true x y h k = h
 if_mains false x y h k = k
 
@@ -65,38 +68,47 @@ second false b e = absurd cc
 as_many : (n : ℕ) (files : List (List ℕ)) → are_files n files ≡ true → mains_in files ≡ n
 as_many n files e = eqb-true (mains_in files) n (second (every is_file files) (mains_in files == n) e)
 
-library_mains : (out : List ℕ) (files : List (List ℕ)) (a b : Bool) → are_files 0 files ≡ b → HasMains (if a && b then Library out files else Bad)
+library_mains : (out : List ℕ) (files : List (List ℕ)) (a b : Bool) → are_files 0 files ≡ b → IsAnswerable (if a && b then Library out files else Bad)
 library_mains out files true true e = as_many 0 files e
 library_mains out files true false e = tt
 library_mains out files false b e = tt
 
-client_mains : (out library : List ℕ) (files : List (List ℕ)) (a b c : Bool) → are_files 1 files ≡ c → HasMains (if a && b && c then Client out library files else Bad)
+client_mains : (out library : List ℕ) (files : List (List ℕ)) (a b c : Bool) → are_files 1 files ≡ c → IsAnswerable (if a && b && c then Client out library files else Bad)
 client_mains out library files true true true e = as_many 1 files e
 client_mains out library files true true false e = tt
 client_mains out library files true false c e = tt
 client_mains out library files false b c e = tt
 
-run_mains : (client library : List ℕ) (fuel : Option ℕ) (trace : Option (List ℕ → Bool)) → HasMains (run_with client library fuel trace)
+run_mains : (client library : List ℕ) (fuel : Option ℕ) (trace : Option (List ℕ → Bool)) → IsAnswerable (run_with client library fuel trace)
 run_mains client library None trace = tt
 run_mains client library (Some fuel) None = tt
 run_mains client library (Some fuel) (Some calls) = tt
 
-runs_mains : (client library : List ℕ) (rest : List (List ℕ)) → HasMains (run_asked client library rest)
+runs_mains : (client library : List ℕ) (rest : List (List ℕ)) → IsAnswerable (run_asked client library rest)
 runs_mains client library [] = run_mains client library (Some DEFAULT_FUEL) (trace_in [])
 runs_mains client library (flag ∷ []) = run_mains client library (Some DEFAULT_FUEL) (trace_in (flag ∷ []))
 runs_mains client library (flag ∷ word ∷ rest) =
     if_mains (bytes_eq flag (codes "--fuel")) (run_with client library (fuel_of word) (trace_in rest)) (run_with client library (Some DEFAULT_FUEL) (trace_in (flag ∷ word ∷ rest)))
     (run_mains client library (fuel_of word) (trace_in rest)) (run_mains client library (Some DEFAULT_FUEL) (trace_in (flag ∷ word ∷ rest)))
 
-pub asked_mains : (words : List (List ℕ)) → HasMains (asked words)
+few_counted : (n : ℕ) (a b : Bool) → nat_le n MAX_CLASSES ≡ b → IsAnswerable (generate_with (if a && b then Some n else None))
+few_counted n true true e = leb-true n MAX_CLASSES e
+few_counted n true false e = tt
+few_counted n false b e = tt
+
+generate_few : (o : Option ℕ) → IsAnswerable (generate_with (counted o))
+generate_few None = tt
+generate_few (Some n) = few_counted n (nat_le 1 n) (nat_le n MAX_CLASSES) refl
+
+pub asked_mains : (words : List (List ℕ)) → IsAnswerable (asked words)
 asked_mains [] = tt
 asked_mains (word ∷ []) = tt
-asked_mains (word ∷ image ∷ []) = if_mains _ (Show image) Bad tt tt
+asked_mains (word ∷ image ∷ []) = if_mains _ (Show image) _ tt (if_mains (bytes_eq word (codes "generate")) (generate_asked image) Bad (generate_few (fuel_of image)) tt)
 asked_mains (word ∷ client ∷ library ∷ rest) =
     if_mains _ (run_asked client library rest) _ (runs_mains client library rest)
     (if_mains (bytes_eq word (codes "library")) (library_asked client (library ∷ rest)) _ (library_mains client (library ∷ rest) (is_name client) (are_files 0 (library ∷ rest)) refl)
     (if_mains (bytes_eq word (codes "client")) (client_asked client library rest) (asked_of word (client ∷ library ∷ rest)) (client_mains client library rest (is_name client) (is_name library) (are_files 1 rest) refl)
     (if_mains _ (Check (client ∷ library ∷ rest)) Bad tt tt)))
 
-pub mains_by : (words : List (List ℕ)) (by : Asked) → by ≡ asked words → HasMains by
-mains_by words by is = subst HasMains (sym is) (asked_mains words)
+pub mains_by : (words : List (List ℕ)) (by : Asked) → by ≡ asked words → IsAnswerable by
+mains_by words by is = subst IsAnswerable (sym is) (asked_mains words)

@@ -7,7 +7,8 @@ use Rattle.som_build.specs.ClientAnswer.{IsClientAnswer}
 use Rattle.som_check.specs.CheckAnswer.{IsCheckAnswer}
 use Rattle.som_check.specs.ShowAnswer.{IsShowAnswer}
 use Rattle.som_run.specs.RunAnswer.{IsRunAnswer}
-use Rattle.som_cmd.specs.Words.{Library, Asked, Run, Show, Check, Client, Bad}
+use Rattle.som_generate.specs.GenerateAnswer.{IsGenerateAnswer}
+use Rattle.som_cmd.specs.Words.{Library, Asked, Run, Show, Check, Client, Generate, Bad}
 
 abbrev pub bad_line : List ℕ
 bad_line = codes "som: bad command line" ++ 10 ∷ []
@@ -20,3 +21,4 @@ pub data IsAnswer (files : Files) : Asked → Ending → Type 0 where
   checks : (images : List (List ℕ)) (e : Ending) → IsCheckAnswer images files e → IsAnswer files (Check images) e
   compiles : (out : List ℕ) (names : List (List ℕ)) (e : Ending) → IsLibraryAnswer out names files e → IsAnswer files (Library out names) e
   compiles_client : (out library : List ℕ) (names : List (List ℕ)) (e : Ending) → IsClientAnswer out library names files e → IsAnswer files (Client out library names) e
+  generates : (count : ℕ) (e : Ending) → IsGenerateAnswer count files e → IsAnswer files (Generate count) e

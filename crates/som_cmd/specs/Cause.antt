@@ -4,7 +4,7 @@ use Rattle.som_model.specs.Bytes.{Files}
 use Rattle.som_build.specs.Cause.{FailsClient, FailsLibrary}
 use Rattle.som_check.specs.Cause.{FailsGetting, FailsShowing}
 use Rattle.som_pair.specs.Cause.{FailsRunning}
-use Rattle.som_cmd.specs.Words.{Library, Asked, Run, Show, Check, Client, Bad}
+use Rattle.som_cmd.specs.Words.{Library, Asked, Run, Show, Check, Client, Generate, Bad}
 
 -- the line says that the get or put of a name failed which the command gets or puts, and no step before refuses
 abbrev pub FailsOn : Option Files → Asked → List ℕ → Type 0
@@ -13,4 +13,5 @@ FailsOn files (Show image) line = FailsShowing files image line
 FailsOn files (Check names) line = FailsGetting files names line
 FailsOn files (Library out names) line = FailsLibrary files out names line
 FailsOn files (Client out library names) line = FailsClient files out library names line
+FailsOn files (Generate count) line = ⊥
 FailsOn files Bad line = ⊥

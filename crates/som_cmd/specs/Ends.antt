@@ -9,7 +9,9 @@ use Rattle.som_check.specs.CheckEnds.{AreUnder}
 use Rattle.som_compile.specs.declared.source.Source.{Source}
 use Rattle.som_run.specs.Newest.{HoldsNewest}
 use Rattle.som_run.specs.RunEnds.{AreUnder as AreRun}
-use Rattle.som_cmd.specs.Words.{Asked, Run, Show, Check}
+use Rattle.som_generator.specs.declared.made.Made.{Made}
+use Rattle.som_generator.specs.Making.{IsMade}
+use Rattle.som_cmd.specs.Words.{Asked, Run, Show, Check, Generate}
 use Rattle.som_cmd.specs.Answer.{IsAnswer}
 use Rattle.som_cmd.specs.Cause.{FailsOn}
 
@@ -64,3 +66,10 @@ pub record AreChecked (asked : Asked) (files : Option Files) (names : List (List
   pub asked_is : asked ≡ Check names
   pub two : 2 ≤ length rs
   pub under : AreUnder told names rs
+
+-- so many classes are to be generated, and this is what is made of them
+pub record IsMadeFor (asked : Asked) (files : Option Files) (count : ℕ) (m : Made) : Type 0 where
+  pub told : Files
+  pub files_are : files ≡ Some told
+  pub asked_is : asked ≡ Generate count
+  pub made : IsMade count m

@@ -8,8 +8,9 @@ use Rattle.som_check.specs.CheckAnswer.{check_statuses}
 use Rattle.som_check.specs.ShowAnswer.{show_statuses}
 use Rattle.som_pair.specs.Refusals.{IsRunRefusal}
 use Rattle.som_run.specs.RunAnswer.{run_statuses}
+use Rattle.som_generate.specs.GenerateAnswer.{generate_statuses}
 use Rattle.som_cmd.specs.Answer.{bad_line}
-use Rattle.som_cmd.specs.Words.{Asked, Run, Show, Check, Library, Client, Bad}
+use Rattle.som_cmd.specs.Words.{Asked, Run, Show, Check, Library, Client, Generate, Bad}
 
 -- the statuses of what is asked for; words of no form are refused, or the sink fails or memory runs out meanwhile
 abbrev pub statuses_of : Asked → List ℕ
@@ -18,6 +19,7 @@ statuses_of (Show image) = show_statuses
 statuses_of (Check images) = check_statuses
 statuses_of (Library out names) = library_statuses
 statuses_of (Client out library names) = client_statuses
+statuses_of (Generate count) = generate_statuses
 statuses_of Bad = 2 ∷ 8 ∷ 10 ∷ []
 
 -- a run that is refused tells it by one line alone: an image isn't there, can't be read or breaks a rule, or the library doesn't keep what the client was compiled against
@@ -27,6 +29,7 @@ TellsOneLine (Show image) status old new = Unit {0}
 TellsOneLine (Check images) status old new = Unit {0}
 TellsOneLine (Library out names) status old new = Unit {0}
 TellsOneLine (Client out library names) status old new = Unit {0}
+TellsOneLine (Generate count) status old new = Unit {0}
 TellsOneLine Bad status old new = Unit {0}
 
 -- the one line for words of no form was written at status 2, and at any other a front of it

@@ -6,18 +6,20 @@ use Rattle.som_model.specs.declared.limits.TheConstants.{DEFAULT_FUEL, MAX_FUEL}
 use Rattle.som_model.specs.Lists.{every}
 use Rattle.som_model.specs.RunText.{calls_of, every_call, no_trace}
 use Rattle.som_compile.specs.Sources.{is_bodies, is_main, mains_in}
+use Rattle.som_generator.specs.declared.limits.TheConstants.{MAX_CLASSES}
 use Rattle.som_ran.specs.Traces.{shown_in}
 use Rattle.som_cmd.specs.declared.words.Command.{Command}
 use Rattle.som_cmd.specs.declared.words.Command.TheVariants as commands
 
 -- what words ask for: to run a client image on a library image with so much fuel, and to show these calls, by the name of the class whose body it is; to show an image;
--- to check images; to compile texts to a library image, or to a client image against a library image; or they have no form
+-- to check images; to compile texts to a library image, or to a client image against a library image; to generate so many classes; or they have no form
 pub data Asked : Type 0 where
   Run : (client library : List ℕ) (fuel : ℕ) (shows : List ℕ → Bool) → Asked
   Show : (image : List ℕ) → Asked
   Check : (images : List (List ℕ)) → Asked
   Library : (out : List ℕ) (files : List (List ℕ)) → Asked
   Client : (out library : List ℕ) (files : List (List ℕ)) → Asked
+  Generate : (count : ℕ) → Asked
   Bad : Asked
 
 -- what a command of the code asks for
@@ -27,6 +29,7 @@ asked_by (commands.Show image) = Show image.now
 asked_by (commands.Check images) = Check images.now
 asked_by (commands.Library out files) = Library out.now files.now
 asked_by (commands.Client out library files) = Client out.now library.now files.now
+asked_by (commands.Generate count) = Generate count
 asked_by commands.Bad = Bad
 
 abbrev pub is_digit : ℕ → Bool
@@ -49,6 +52,15 @@ is_number word = not (length word == 0) && not (leads_with_zero word) && every i
 -- the number of a word that is one, of at most as much fuel as may be asked for
 abbrev pub fuel_of : List ℕ → Option ℕ
 fuel_of word = if is_number word && nat_le (value_after 0 word) MAX_FUEL then Some (value_after 0 word) else None
+
+-- a number that is at least one, of at most as many classes as can be generated
+abbrev pub counted : Option ℕ → Option ℕ
+counted (Some n) = if nat_le 1 n && nat_le n MAX_CLASSES then Some n else None
+counted None = None
+
+-- the count of a word that is a number
+abbrev pub count_of : List ℕ → Option ℕ
+count_of word = counted (fuel_of word)
 
 abbrev pub is_name : List ℕ → Bool
 is_name word = not (length word == 0)
@@ -96,10 +108,20 @@ library_asked out files = if is_name out && are_files 0 files then Library out f
 abbrev pub client_asked : List ℕ → List ℕ → List (List ℕ) → Asked
 client_asked out library files = if is_name out && is_name library && are_files 1 files then Client out library files else Bad
 
--- `show IMAGE`, `run CLIENT LIBRARY`, then `--fuel N` or not, then `--trace`, `--trace CLASS` or neither, `check IMAGE IMAGE ..`, `library OUT FILE ..` or
--- `client OUT LIBRARY FILE ..`, where no name is empty
+-- so many classes are generated, if there is a count
+abbrev pub generate_with : Option ℕ → Asked
+generate_with (Some count) = Generate count
+generate_with None = Bad
+
+-- what `generate` asks for with a word
+abbrev pub generate_asked : List ℕ → Asked
+generate_asked word = generate_with (count_of word)
+
+-- `show IMAGE`, `generate N`, `run CLIENT LIBRARY`, then `--fuel N` or not, then `--trace`, `--trace CLASS` or neither, `check IMAGE IMAGE ..`,
+-- `library OUT FILE ..` or `client OUT LIBRARY FILE ..`, where no name is empty
 abbrev pub asked : List (List ℕ) → Asked
-asked (word ∷ image ∷ []) = if bytes_eq word (codes "show") && not (length image == 0) then Show image else Bad
+asked (word ∷ image ∷ []) =
+    if bytes_eq word (codes "show") && not (length image == 0) then Show image else (if bytes_eq word (codes "generate") then generate_asked image else Bad)
 asked (word ∷ client ∷ library ∷ rest) =
     if bytes_eq word (codes "run") && not (length client == 0) && not (length library == 0) then run_asked client library rest else (
     if bytes_eq word (codes "library") then library_asked client (library ∷ rest) else (

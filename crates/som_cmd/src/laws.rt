@@ -1,5 +1,6 @@
 ghost use Rattle.som_cmd.specs.Answer.{IsAnswer};
-ghost use Rattle.som_cmd.specs.Words.{Asked, asked, fuel_of};
+ghost use Rattle.som_cmd.specs.Words.{Asked, asked, count_of, fuel_of};
+ghost use Rattle.som_generator.specs.declared.limits.TheConstants.{MAX_CLASSES};
 ghost use Rattle.som_model.specs.Bytes.{Files};
 ghost use Rattle.som_model.specs.declared.limits.TheConstants.{MAX_FUEL};
 ghost use Rattle.som_steps.specs.Endings.{Ending};
@@ -15,4 +16,9 @@ pub fn answer_law()
 /// The fuel of a word is the number of which the word is the decimal spelling, if it is no greater than may be asked for.
 pub fn fuel_law()
     ensures { (word : List ℕ) (n : ℕ) → (fuel_of word ≡ Some n) ↔ ((word ≡ decimal n) × (n ≤ MAX_FUEL)) }
+{}
+
+/// The count of a word is the number of which the word is the decimal spelling, if it is at least one and so many classes can be generated.
+pub fn count_law()
+    ensures { (word : List ℕ) (n : ℕ) → (count_of word ≡ Some n) ↔ ((word ≡ decimal n) × (1 ≤ n) × (n ≤ MAX_CLASSES)) }
 {}

@@ -3,10 +3,12 @@ ghost use Rattle.som_check.specs.CheckEnds.{TellsAccepted, TellsBreach};
 ghost use Rattle.som_check.specs.ShowEnds.{ShowsProgram, ShowsRelease};
 ghost use Rattle.som_cmd.specs.Cause.{FailsOn};
 ghost use Rattle.som_cmd.specs.Complete.{EndsOrWants};
-ghost use Rattle.som_cmd.specs.Ends.{AreChecked, AreImagesOf, AreNewest, EndsAsTold, IsImageOf, IsImageOfClient, ShowsSome, StoreFails};
+ghost use Rattle.som_cmd.specs.Ends.{AreChecked, AreImagesOf, AreNewest, EndsAsTold, IsImageOf, IsImageOfClient, IsMadeFor, ShowsSome, StoreFails};
 ghost use Rattle.som_cmd.specs.PutEnds.{AreClientTextsOf, AreTextsOf, KeepsFiles, PutsProgram, PutsRelease};
 ghost use Rattle.som_cmd.specs.Refused.{TellsBadWords, TellsOneLine, statuses_of};
 ghost use Rattle.som_cmd.specs.Words.{Bad, asked};
+ghost use Rattle.som_generate.specs.GenerateEnds.{TellsGenerated};
+ghost use Rattle.som_generator.specs.declared.made.Made.{Made};
 ghost use Rattle.som_io.specs.Outside.{Rose};
 ghost use Rattle.som_compile.specs.declared.source.Source.{Source};
 ghost use Rattle.som_model.specs.Class.{interface_of};
@@ -22,6 +24,7 @@ ghost use Rattle.std.specs.Prelude.{Bool, IsTrue, List as Seq, Some, ℕ, ◌≡
 use crate::words::{Command, command_of};
 use som_build::{build_client, build_library};
 use som_check::{check_images, show_image};
+use som_generate::generate;
 use som_host::HostTable;
 use som_io::{Sink, Store};
 use som_model::{List, Text};
@@ -65,6 +68,7 @@ fn do_command<S: Store, K: Sink>(
             library,
             files,
         } => build_client(alloc, name, library, files, store, out),
+        Command::Generate { count } => generate(alloc, count, host, out),
         Command::Bad => match line_of(alloc, b"som: bad command line") {
             Ok(line) => say(out, &line, 2),
             Err(_) => 10,
@@ -130,6 +134,10 @@ pub fn run_som<S: Store, K: Sink>(
     // Texts that stand for a client program against the release of an image are compiled to its image, which then stands under the name.
     ensures client_compiled { (name : Seq ℕ) (p : ClientProgram) → AreClientTextsOf (asked words.now) (S.files store.old) name p
         → result ≢ 6 → result ≢ 8 → result ≢ 10 → PutsProgram (S.files store.old) name p result (S.files store.new) (K.written out.old) (K.written out.new) }
+
+    // What the generator makes of so many classes, and its client comes to on the second release, is printed, with that run's status.
+    ensures generated { (n : ℕ) (m : Made) → IsMadeFor (asked words.now) (S.files store.old) n m
+        → result ≢ 6 → result ≢ 8 → result ≢ 10 → TellsGenerated n m result (K.written out.old) (K.written out.new) }
 
     // Each command ends with one of these statuses.
     ensures statuses { Mem result (statuses_of (asked words.now)) }

@@ -1,4 +1,4 @@
-ghost use Rattle.som_cmd.specs.Words.{are_files, asked, asked_by, asked_of, client_asked, fuel_of, is_digit, is_file, is_name, leads_with_zero, library_asked, run_asked, run_with, trace_in};
+ghost use Rattle.som_cmd.specs.Words.{are_files, asked, asked_by, asked_of, client_asked, count_of, fuel_of, generate_asked, is_digit, is_file, is_name, leads_with_zero, library_asked, run_asked, run_with, trace_in};
 ghost use Rattle.som_compile.specs.Sources.{is_main, mains_in};
 ghost use Rattle.som_model.specs.Lists.{every};
 ghost use Rattle.som_ran.specs.Traces.{shown_in};
@@ -6,6 +6,7 @@ ghost use Rattle.std.specs.Option.{option_map};
 ghost use Rattle.std.specs.Prelude.{codes, ◌≡◌};
 ghost use Rattle.std.specs.Str.{bytes_eq};
 
+use som_generator::MAX_CLASSES;
 use som_model::{DEFAULT_FUEL, List, MAX_FUEL, Text};
 use som_run::Trace;
 
@@ -32,6 +33,9 @@ pub enum Command<'a> {
         out: &'a Text,
         library: &'a Text,
         files: &'a [Text],
+    },
+    Generate {
+        count: u32,
     },
     /// The words have no form.
     Bad,
@@ -65,6 +69,12 @@ fn is_client(word: &Text) -> bool
     ensures { result ≡ bytes_eq word.now (codes "client") }
 {
     word.is(b"client")
+}
+
+fn is_generate(word: &Text) -> bool
+    ensures { result ≡ bytes_eq word.now (codes "generate") }
+{
+    word.is(b"generate")
 }
 
 fn is_main(word: &Text) -> bool
@@ -194,6 +204,32 @@ fn value_of(digits: &[u8]) -> Option<u32>
     }
 }
 
+// The count of a word of decimal digits, if there may be so many classes.
+fn count_of(digits: &[u8]) -> Option<u32>
+    ensures { result ≡ count_of digits.now }
+{
+    match value_of(digits) {
+        Some(count) => {
+            if count >= 1 && count <= MAX_CLASSES {
+                Some(count)
+            } else {
+                None
+            }
+        }
+        None => None,
+    }
+}
+
+// What `generate` asks for with a word.
+fn generate_with(word: &Text) -> Command<'_>
+    ensures { asked_by result ≡ generate_asked word.now }
+{
+    match count_of(word.as_slice()) {
+        Some(count) => Command::Generate { count },
+        None => Command::Bad,
+    }
+}
+
 // The calls that the words after the fuel ask to be shown.
 fn trace_in(words: &[Text]) -> Option<Trace<'_>>
     ensures { option_map shown_in result ≡ trace_in words.now }
@@ -265,6 +301,8 @@ pub fn command_of(words: &List<Text>) -> Command<'_>
         [word, image] => {
             if is_show(word) && !image.is_empty() {
                 Command::Show { image }
+            } else if is_generate(word) {
+                generate_with(image)
             } else {
                 Command::Bad
             }

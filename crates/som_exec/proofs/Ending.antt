@@ -8,6 +8,7 @@ use Rattle.std.proofs.lemmas.List.Folds.{concat-append}
 use Rattle.som_model.specs.declared.program.Fault.{Fault}
 use Rattle.som_model.specs.declared.syntax.Block.{Block}
 use Rattle.som_model.specs.Means.{means_in}
+use Rattle.som_model.specs.State as state
 use Rattle.som_model.specs.State.{Event, State}
 use Rattle.som_model.specs.Runs.{Ran, Goes, Ends, Faulted, Spent, end_of, with_more}
 use Rattle.som_model.specs.RunText.{event_lines, events_lines, with_prefix}
@@ -27,7 +28,7 @@ use Rattle.som_looping.specs.Ran.{RanOn, Waits}
 use Rattle.som_looping.proofs.Granting.{units_granted}
 use Rattle.som_exec.specs.declared.advanced.Advanced.{Advanced}
 use Rattle.som_exec.specs.declared.advanced.Advanced.TheVariants as answers
-use Rattle.som_exec.specs.Advance.{Comes, EndsBy, added_text, events_now, goal, last_lines, with_granted}
+use Rattle.som_exec.specs.Advance.{Comes, EndsBy, LeavesFuel, added_text, events_now, goal, last_lines, with_granted}
 use Rattle.som_exec.specs.Stands.{Stands, meaning, told_so_far}
 
 -- ---- texts
@@ -135,6 +136,12 @@ module _ (old : Scene) (units : ℕ) (st : Stands old) where
           keeps_made = ran.outside.keeps_made;
           keeps = ran.outside.keeps;
         }
+
+    -- and as much fuel is left as the meaning leaves
+    pub done_leaves : RanOn shows prefix before after mid new (Ok false) → LeavesFuel old units new.fuel answers.Done
+    done_leaves ran =
+        let a = ran.comes (meaning old) n st.frames s stands_mid in
+        sym a.fuel ∙ ap (λ (z : Ran (Unit {0})). (end_of z).fuel) (sym a.is)
 
     -- ---- no unit is left
 
@@ -250,3 +257,11 @@ module _ (old : Scene) (units : ℕ) (st : Stands old) where
     fault_comes answers.Done e = absurd e
     fault_comes answers.SinkFailed e = record { events = told_first shows prefix before told new (Err (stops.Fault f at)) ran; ended = tt; text = tt; front = front_then e; stands = tt; objects = tt; makes = tt; keeps_made = ran.outside.keeps_made; keeps = ran.outside.keeps }
     fault_comes answers.NoMemory e = record { events = told_first shows prefix before told new (Err (stops.Fault f at)) ran; ended = tt; text = tt; front = front_then e; stands = tt; objects = tt; makes = tt; keeps_made = ran.outside.keeps_made; keeps = ran.outside.keeps }
+
+-- an end by a fault is not that of a main that is over
+pub fault_leaves : (old : Scene) (units left : ℕ) (prefix : List ℕ) (told after : Option (List ℕ)) (f : Fault) (place : state.Place) (a : Advanced) → EndsBy prefix told after f place a → LeavesFuel old units left a
+fault_leaves old units left prefix told after f place (answers.SourceFault r running) e = tt
+fault_leaves old units left prefix told after f place answers.Going e = tt
+fault_leaves old units left prefix told after f place answers.Done e = absurd e
+fault_leaves old units left prefix told after f place answers.SinkFailed e = tt
+fault_leaves old units left prefix told after f place answers.NoMemory e = tt

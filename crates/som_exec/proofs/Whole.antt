@@ -45,6 +45,10 @@ module _ (old : Scene) (fuel : ℕ) (granted : old.task.granted ≡ 0) (begun : 
   pub counts_run : (new : Scene) (b c : ℕ) → CountsNow old fuel new b c → CountsRun old fuel new b c
   counts_run new b c x direct = subst (λ (es : List Event). c ≤ b + 2 * call_count es + 2) events_are (x direct)
 
+  -- what is left is the same
+  pub leaves_run : (left : ℕ) → left ≡ (end_of (goal old fuel)).fuel → left ≡ (end_of r).fuel
+  leaves_run left e = e ∙ ap (λ (z : Ran (Unit {0})). (end_of z).fuel) goal_is
+
   text_is : (shows : List ℕ → Bool) (prefix : List ℕ) → added_text old fuel shows prefix ≡ text_with shows prefix r
   text_is shows prefix =
       ap (λ (es : List Event). concat (with_prefix prefix (events_lines shows es ++ last_lines (goal old fuel)))) events_are

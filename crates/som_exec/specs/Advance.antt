@@ -71,6 +71,11 @@ module _ (old : Scene) (units : ℕ) where
     pub keeps_made : (k : ClassKey) → old.made k ≡ true → new.made k ≡ true
     pub keeps : Keeps (with_granted old units) new
 
+  -- where main is over, as much fuel is left as the meaning leaves
+  abbrev pub LeavesFuel : ℕ → Advanced → Type 0
+  LeavesFuel left answers.Done = left ≡ (end_of goal).fuel
+  LeavesFuel left _ = Unit {0}
+
 -- where nothing searches for a name and no class that is made has hooks: two steps are counted for each call event that comes now, and two more
 abbrev pub CountsNow : Scene → ℕ → Scene → ℕ → ℕ → Type 0
 CountsNow old units new before now = IsDirectScene new → now ≤ before + 2 * call_count (events_now old units) + 2

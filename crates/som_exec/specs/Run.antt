@@ -45,6 +45,11 @@ pub record RunsSo (old : Scene) (fuel : ℕ) (shows : List ℕ → Bool) (prefix
   pub keeps_made : (k : ClassKey) → old.made k ≡ true → new.made k ≡ true
   pub keeps : Keeps (with_granted old fuel) new
 
+-- where main is over, as much fuel is left as its meaning leaves
+abbrev pub LeavesFuel : Ran (Unit {0}) → ℕ → Outcome → Type 0
+LeavesFuel r left outcomes.Done = left ≡ (end_of r).fuel
+LeavesFuel r left _ = Unit {0}
+
 -- where nothing searches for a name and no class that is made has hooks: two steps are counted for each call event, and two more
 abbrev pub CountsRun : Scene → ℕ → Scene → ℕ → ℕ → Type 0
 CountsRun old fuel new before now = IsDirectScene new → now ≤ before + 2 * call_count (end_of (meaning old fuel)).events + 2

@@ -1,4 +1,4 @@
-ghost use Rattle.som_exec.specs.Advance.{Comes, Counts, CountsNow, EndsBy, StaysCalm, with_granted};
+ghost use Rattle.som_exec.specs.Advance.{Comes, Counts, CountsNow, EndsBy, LeavesFuel, StaysCalm, with_granted};
 ghost use Rattle.som_exec.specs.Stands.{Stands};
 ghost use Rattle.som_looping.specs.Counted.{CountsOn};
 ghost use Rattle.som_looping.specs.Ran.{RanOn, ended};
@@ -15,12 +15,14 @@ use som_moves::Stop;
 use som_telling::{Place, Untold};
 
 /// Grants units to a task that stands, and goes on until main is over, it has a fault, or no unit is left. What it comes
-/// to is what main means with the units granted before and these. Where nothing searches for a name and no class that is
-/// made has hooks, two steps are counted for each call event that comes now, and two more.
+/// to is what main means with the units granted before and these. Where main is over, the units are left that the meaning
+/// leaves. Where nothing searches for a name and no class that is made has hooks, two steps are counted for each call
+/// event that comes now, and two more.
 pub fn advance<M: Advances>(moves: &mut M, units: u32) -> Advanced
     requires stands { Stands (M.scene moves.old) }
     requires units { (M.scene moves.old).task.granted + units < 2 ^ 32 }
     ensures comes { Comes (M.scene moves.old) units (M.shows moves.old) (M.prefix moves.old) (M.written moves.old) (M.written moves.new) (M.scene moves.new) result }
+    ensures left { LeavesFuel (M.scene moves.old) units (M.scene moves.new).fuel result }
     ensures lent { M.lent moves.new ≡ M.lent moves.old }
     ensures counted { CountsNow (M.scene moves.old) units (M.scene moves.new) (M.counted moves.old) (M.counted moves.new) }
     ensures counts { Counts (M.faults moves.old) (M.faults moves.new) result }

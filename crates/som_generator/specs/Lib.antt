@@ -1,2 +1,5 @@
 pub mod Generated
+pub mod Texts
 pub mod Written
+pub mod Making
+pub mod Steps

@@ -4,13 +4,26 @@
 
 mod bodies;
 mod client_main;
+mod clients;
+mod comparing;
 mod edition;
+mod fault;
 mod interfaces;
 mod laws;
+mod libraries;
+mod limits;
+mod made;
+mod making;
+mod sources;
 mod words;
 
 pub use bodies::bodies_text;
 pub use client_main::main_text;
 pub use edition::Edition;
+pub use fault::{MakeFault, NotKept, Unmade};
 pub use interfaces::interfaces_text;
-pub use laws::written_law;
+pub use laws::{making_law, written_law};
+pub use limits::MAX_CLASSES;
+pub use made::{Client, Library, Made};
+pub use making::make;
+pub use sources::{client_texts, library_texts};

@@ -1,12 +1,13 @@
+ghost use Rattle.som_exec.specs.Run.{LeavesFuel};
 ghost use Rattle.som_exec.specs.declared.outcome.Outcome.TheVariants as outcomes;
+ghost use Rattle.som_model.specs.Means.{means_in};
 ghost use Rattle.som_ran.specs.Mains.{RunsTraced};
 ghost use Rattle.som_telling.specs.Filters.{shows_of};
-ghost use Rattle.std.specs.Prelude.{◌<◌, ◌≡◌, ◌≢◌};
+ghost use Rattle.std.specs.Prelude.{◌<◌, ◌≡◌, ◌≢◌, ◌≤◌};
 
-use som_exec::Outcome;
 use som_host::HostTable;
 use som_io::Sink;
-use som_runner::run;
+use som_runner::{Finished, finish};
 use som_runtime::Runtime;
 use som_tables::Steps;
 use som_telling::TraceFilter;
@@ -14,7 +15,7 @@ use std::alloc::Global;
 use std::marker::Brand;
 use std::sync::ledger::{Blank, Ledger};
 
-/// Runs main, and shows the calls that a filter shows.
+/// Runs main, shows the calls that a filter shows, and answers what it came to and what is left of the fuel.
 pub(crate) fn run_filtered<R: Runtime, K: Sink>(
     alloc: Global,
     runtime: &mut R,
@@ -22,9 +23,12 @@ pub(crate) fn run_filtered<R: Runtime, K: Sink>(
     filter: &TraceFilter,
     host: &HostTable,
     out: &mut K,
-) -> Outcome
-    ensures runs { RunsTraced (R.world runtime.old) (R.program runtime.old) fuel (shows_of filter.now) (K.faults out.old) (K.faults out.new) (K.written out.old) (K.written out.new) result }
-    ensures calm { K.calm out.old → result ≢ outcomes.SinkFailed }
+) -> Finished
+    ensures runs { RunsTraced (R.world runtime.old) (R.program runtime.old) fuel (shows_of filter.now) (K.faults out.old) (K.faults out.new) (K.written out.old) (K.written out.new) result.outcome }
+    ensures left { LeavesFuel (means_in (R.world runtime.old) (R.program runtime.old) fuel) result.left result.outcome }
+    ensures later { K.faults out.old ≤ K.faults out.new }
+    ensures stays_calm { K.calm out.old → K.calm out.new }
+    ensures calm { K.calm out.old → result.outcome ≢ outcomes.SinkFailed }
 {
     run_counted::<Brand, R, K>(alloc, runtime, fuel, filter, host, out, Blank::new(1))
 }
@@ -38,13 +42,16 @@ fn run_counted<L: Ledger, R: Runtime, K: Sink>(
     host: &HostTable,
     out: &mut K,
     blank: Blank,
-) -> Outcome
+) -> Finished
     requires name { blank.name ≡ L.name }
     requires parts { blank.parts ≡ L.parts }
     requires some { 0 < blank.parts }
-    ensures runs { RunsTraced (R.world runtime.old) (R.program runtime.old) fuel (shows_of filter.now) (K.faults out.old) (K.faults out.new) (K.written out.old) (K.written out.new) result }
-    ensures calm { K.calm out.old → result ≢ outcomes.SinkFailed }
+    ensures runs { RunsTraced (R.world runtime.old) (R.program runtime.old) fuel (shows_of filter.now) (K.faults out.old) (K.faults out.new) (K.written out.old) (K.written out.new) result.outcome }
+    ensures left { LeavesFuel (means_in (R.world runtime.old) (R.program runtime.old) fuel) result.left result.outcome }
+    ensures later { K.faults out.old ≤ K.faults out.new }
+    ensures stays_calm { K.calm out.old → K.calm out.new }
+    ensures calm { K.calm out.old → result.outcome ≢ outcomes.SinkFailed }
 {
     let mut steps: Steps<L> = Steps::new(blank);
-    run(alloc, runtime, fuel, filter, host, out, &mut steps)
+    finish(alloc, runtime, fuel, filter, host, out, &mut steps)
 }

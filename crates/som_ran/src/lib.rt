@@ -5,5 +5,5 @@ mod filtered;
 mod main_run;
 mod trace;
 
-pub use main_run::run_main;
+pub use main_run::{run_main, run_unseen};
 pub use trace::Trace;

@@ -1,8 +1,10 @@
+ghost use Rattle.som_exec.specs.Run.{LeavesFuel};
 ghost use Rattle.som_exec.specs.declared.outcome.Outcome.TheVariants as outcomes;
+ghost use Rattle.som_model.specs.Means.{means_in};
 ghost use Rattle.som_model.specs.RunText.{calls_of, every_call, no_trace};
 ghost use Rattle.som_ran.specs.Mains.{EndsMain, RunsTraced, outcome_status};
 ghost use Rattle.som_ran.specs.Traces.{shown_in};
-ghost use Rattle.std.specs.Prelude.{IfOk, OnErr, ◌≡◌, ◌≢◌};
+ghost use Rattle.std.specs.Prelude.{IfOk, OnErr, ◌≡◌, ◌≢◌, ◌≤◌};
 
 use crate::filtered::run_filtered;
 use crate::trace::Trace;
@@ -10,21 +12,25 @@ use som_exec::Outcome;
 use som_host::HostTable;
 use som_io::Sink;
 use som_model::{NoMemory, Text};
+use som_runner::Finished;
 use som_runtime::Runtime;
 use som_telling::{TraceChoice, trace_filter};
 use std::alloc::Global;
 
-// Runs main, and shows no call.
-fn run_unseen<R: Runtime, K: Sink>(
+/// Runs main, shows no call, and answers what it came to, and what is left of the fuel where main is over.
+pub fn run_unseen<R: Runtime, K: Sink>(
     alloc: Global,
     runtime: &mut R,
     fuel: u32,
     host: &HostTable,
     out: &mut K,
-) -> Result<Outcome, NoMemory>
-    ensures runs { IfOk result (RunsTraced (R.world runtime.old) (R.program runtime.old) fuel no_trace (K.faults out.old) (K.faults out.new) (K.written out.old) (K.written out.new)) }
+) -> Result<Finished, NoMemory>
+    ensures runs { IfOk result (λ finished. RunsTraced (R.world runtime.old) (R.program runtime.old) fuel no_trace (K.faults out.old) (K.faults out.new) (K.written out.old) (K.written out.new) finished.outcome) }
+    ensures left { IfOk result (λ finished. LeavesFuel (means_in (R.world runtime.old) (R.program runtime.old) fuel) finished.left finished.outcome) }
+    ensures later { K.faults out.old ≤ K.faults out.new }
+    ensures stays_calm { K.calm out.old → K.calm out.new }
     ensures untold { OnErr result (K.written out.new ≡ K.written out.old) }
-    ensures calm { K.calm out.old → IfOk result (λ outcome. outcome ≢ outcomes.SinkFailed) }
+    ensures calm { K.calm out.old → IfOk result (λ finished. finished.outcome ≢ outcomes.SinkFailed) }
 {
     let filter = trace_filter(TraceChoice::Nothing, Box::new(alloc, |_name: &Text| false)?);
     Ok(run_filtered(alloc, runtime, fuel, &filter, host, out))
@@ -37,10 +43,10 @@ fn run_seen<R: Runtime, K: Sink>(
     fuel: u32,
     host: &HostTable,
     out: &mut K,
-) -> Result<Outcome, NoMemory>
-    ensures runs { IfOk result (RunsTraced (R.world runtime.old) (R.program runtime.old) fuel every_call (K.faults out.old) (K.faults out.new) (K.written out.old) (K.written out.new)) }
+) -> Result<Finished, NoMemory>
+    ensures runs { IfOk result (λ finished. RunsTraced (R.world runtime.old) (R.program runtime.old) fuel every_call (K.faults out.old) (K.faults out.new) (K.written out.old) (K.written out.new) finished.outcome) }
     ensures untold { OnErr result (K.written out.new ≡ K.written out.old) }
-    ensures calm { K.calm out.old → IfOk result (λ outcome. outcome ≢ outcomes.SinkFailed) }
+    ensures calm { K.calm out.old → IfOk result (λ finished. finished.outcome ≢ outcomes.SinkFailed) }
 {
     let filter = trace_filter(TraceChoice::Every, Box::new(alloc, |_name: &Text| true)?);
     Ok(run_filtered(alloc, runtime, fuel, &filter, host, out))
@@ -54,10 +60,10 @@ fn run_class_seen<R: Runtime, K: Sink>(
     class: &Text,
     host: &HostTable,
     out: &mut K,
-) -> Result<Outcome, NoMemory>
-    ensures runs { IfOk result (RunsTraced (R.world runtime.old) (R.program runtime.old) fuel (calls_of class.now) (K.faults out.old) (K.faults out.new) (K.written out.old) (K.written out.new)) }
+) -> Result<Finished, NoMemory>
+    ensures runs { IfOk result (λ finished. RunsTraced (R.world runtime.old) (R.program runtime.old) fuel (calls_of class.now) (K.faults out.old) (K.faults out.new) (K.written out.old) (K.written out.new) finished.outcome) }
     ensures untold { OnErr result (K.written out.new ≡ K.written out.old) }
-    ensures calm { K.calm out.old → IfOk result (λ outcome. outcome ≢ outcomes.SinkFailed) }
+    ensures calm { K.calm out.old → IfOk result (λ finished. finished.outcome ≢ outcomes.SinkFailed) }
 {
     let wanted = class.copy(alloc)?;
     let filter = trace_filter(
@@ -75,10 +81,10 @@ fn run_traced<R: Runtime, K: Sink>(
     trace: Trace<'_>,
     host: &HostTable,
     out: &mut K,
-) -> Result<Outcome, NoMemory>
-    ensures runs { IfOk result (RunsTraced (R.world runtime.old) (R.program runtime.old) fuel (shown_in trace.entry) (K.faults out.old) (K.faults out.new) (K.written out.old) (K.written out.new)) }
+) -> Result<Finished, NoMemory>
+    ensures runs { IfOk result (λ finished. RunsTraced (R.world runtime.old) (R.program runtime.old) fuel (shown_in trace.entry) (K.faults out.old) (K.faults out.new) (K.written out.old) (K.written out.new) finished.outcome) }
     ensures untold { OnErr result (K.written out.new ≡ K.written out.old) }
-    ensures calm { K.calm out.old → IfOk result (λ outcome. outcome ≢ outcomes.SinkFailed) }
+    ensures calm { K.calm out.old → IfOk result (λ finished. finished.outcome ≢ outcomes.SinkFailed) }
 {
     match trace {
         Trace::Nothing => run_unseen(alloc, runtime, fuel, host, out),
@@ -114,7 +120,7 @@ pub fn run_main<R: Runtime, K: Sink>(
     ensures calm { K.calm out.old → result ≢ 8 }
 {
     match run_traced(alloc, runtime, fuel, trace, host, out) {
-        Ok(outcome) => status_of(&outcome),
+        Ok(finished) => status_of(&finished.outcome),
         Err(_) => 10,
     }
 }

@@ -2,10 +2,12 @@
 #![tactic(auto)]
 
 mod advancing;
+mod finished;
 mod machine;
 mod running;
 mod telling;
 
 pub use advancing::advance;
+pub use finished::Finished;
 pub use machine::Machine;
-pub use running::run;
+pub use running::{finish, run};

@@ -1,5 +1,5 @@
 ghost use Rattle.som_direct.specs.Counted.{IsDirectRun, IsSearchFree};
-ghost use Rattle.som_exec.specs.Run.{Counts, StaysCalm};
+ghost use Rattle.som_exec.specs.Run.{Counts, LeavesFuel, StaysCalm};
 ghost use Rattle.som_exec.specs.Stands.{Stands};
 ghost use Rattle.som_model.specs.Means.{means_in};
 ghost use Rattle.som_model.specs.RunText.{call_count};
@@ -10,7 +10,7 @@ ghost use Rattle.som_runner.specs.Runs.{RunsMain};
 ghost use Rattle.som_telling.specs.Filters.{shows_of};
 ghost use Rattle.std.specs.Prelude.{◌≡◌, ◌≤◌, ◌+◌, ◌*◌, false};
 
-use crate::Machine;
+use crate::{Finished, Machine};
 use som_exec::{Outcome, Task, start};
 use som_host::HostTable;
 use som_io::Sink;
@@ -48,14 +48,46 @@ pub fn run<R: Runtime, K: Sink, L: Ledger>(
     ensures linked { R.linked runtime.new ≡ R.linked runtime.old }
     ensures program { R.program runtime.new ≡ R.program runtime.old }
 {
+    let Finished { outcome, left: _ } = finish(alloc, runtime, fuel, trace, host, out, steps);
+    outcome
+}
+
+/// The same, and where main is over it answers the units too that are left of the fuel, which are those that main's
+/// meaning leaves.
+pub fn finish<R: Runtime, K: Sink, L: Ledger>(
+    alloc: Global,
+    runtime: &mut R,
+    fuel: u32,
+    trace: &TraceFilter,
+    host: &HostTable,
+    out: &mut K,
+    steps: &mut Steps<L>,
+) -> Finished
+    ensures runs { RunsMain (R.world runtime.old) (R.program runtime.old) fuel (shows_of trace.now) (K.written out.old) (K.written out.new) (R.known runtime.old).classes (R.made runtime.old) (R.made runtime.new) result.outcome }
+    ensures left { LeavesFuel (means_in (R.world runtime.old) (R.program runtime.old) fuel) result.left result.outcome }
+    ensures steps { IsSearchFree (R.known runtime.old).classes (R.program runtime.old) (R.made runtime.new)
+        → steps.new ≤ steps.old + 2 * call_count (end_of (means_in (R.world runtime.old) (R.program runtime.old) fuel)).events + 2 }
+
+    ensures counts { Counts (K.faults out.old) (K.faults out.new) result.outcome }
+    ensures calms { StaysCalm (K.calm out.old) (K.calm out.new) (K.faults out.old) (K.faults out.new) result.outcome }
+
+    ensures keys { R.keys runtime.new ≡ R.keys runtime.old }
+    ensures world { R.world runtime.new ≡ R.world runtime.old }
+    ensures known { R.known runtime.new ≡ R.known runtime.old }
+    ensures linked { R.linked runtime.new ≡ R.linked runtime.old }
+    ensures program { R.program runtime.new ≡ R.program runtime.old }
+{
     runtime.know();
     match start(alloc, &*runtime) {
         Ok(started) => {
-            let outcome = run_task(alloc, started, runtime, fuel, trace, host, out, steps);
+            let finished = run_task(alloc, started, runtime, fuel, trace, host, out, steps);
             runtime.know();
-            outcome
+            finished
         },
-        Err(NoMemory) => Outcome::NoMemory,
+        Err(NoMemory) => Finished {
+            outcome: Outcome::NoMemory,
+            left: 0,
+        },
     }
 }
 
@@ -69,16 +101,17 @@ fn run_task<'a, R: Runtime, K: Sink, L: Ledger>(
     host: &'a HostTable,
     out: &'a mut K,
     steps: &'a mut Steps<L>,
-) -> Outcome
+) -> Finished
     requires stands { (os : Objects) → Stands (scene (R.linked runtime.old) (R.known runtime.old) (R.program runtime.old) (R.made runtime.old) os task.task 0) }
     requires granted { task.task.granted ≡ 0 }
     requires begun { task.task.begun ≡ false }
-    ensures runs { RunsMain (R.linked runtime.old).world (R.program runtime.old) fuel (shows_of trace.now) (K.written out.old) (K.written out.new) (R.known runtime.old).classes (R.made runtime.old) (R.made runtime.new) result }
+    ensures runs { RunsMain (R.linked runtime.old).world (R.program runtime.old) fuel (shows_of trace.now) (K.written out.old) (K.written out.new) (R.known runtime.old).classes (R.made runtime.old) (R.made runtime.new) result.outcome }
+    ensures left { LeavesFuel (means_in (R.linked runtime.old).world (R.program runtime.old) fuel) result.left result.outcome }
     ensures steps { IsDirectRun (R.linked runtime.old).world (R.program runtime.old) (R.made runtime.new)
         → steps.new ≤ steps.old + 2 * call_count (end_of (means_in (R.linked runtime.old).world (R.program runtime.old) fuel)).events + 2 }
 
-    ensures counts { Counts (K.faults out.old) (K.faults out.new) result }
-    ensures calms { StaysCalm (K.calm out.old) (K.calm out.new) (K.faults out.old) (K.faults out.new) result }
+    ensures counts { Counts (K.faults out.old) (K.faults out.new) result.outcome }
+    ensures calms { StaysCalm (K.calm out.old) (K.calm out.new) (K.faults out.old) (K.faults out.new) result.outcome }
 
     ensures known { R.known runtime.new ≡ R.known runtime.old }
     ensures linked { R.linked runtime.new ≡ R.linked runtime.old }
@@ -99,5 +132,9 @@ fn run_task<'a, R: Runtime, K: Sink, L: Ledger>(
         out,
         steps,
     };
-    som_exec::run(&mut machine, fuel)
+    let outcome = som_exec::run(&mut machine, fuel);
+    Finished {
+        outcome,
+        left: machine.fuel,
+    }
 }

@@ -6,9 +6,10 @@ use Rattle.som_check.specs.ShowAnswer.{IsShowAnswer}
 use Rattle.som_check.specs.CheckAnswer.{IsCheckAnswer}
 use Rattle.som_build.specs.LibraryAnswer.{IsLibraryAnswer}
 use Rattle.som_build.specs.ClientAnswer.{IsClientAnswer}
-use Rattle.som_cmd.specs.Words.{asked, Run, Show, Check, Library, Client, Bad}
-use Rattle.som_cmd.specs.Answer.{runs, shows, checks, compiles, compiles_client}
-use Rattle.som_cmd.proofs.EndLaws.{among, answered, bad_ends, bad_fronts, bad_status, bad_told, bad_untold, files_kept, front, none_written, one_line, store_failed}
+use Rattle.som_generate.specs.GenerateAnswer.{IsGenerateAnswer}
+use Rattle.som_cmd.specs.Words.{asked, Run, Show, Check, Library, Client, Generate, Bad}
+use Rattle.som_cmd.specs.Answer.{runs, shows, checks, compiles, compiles_client, generates}
+use Rattle.som_cmd.proofs.EndLaws.{among, answered, bad_ends, bad_fronts, bad_status, bad_told, bad_untold, files_kept, front, generated_some, generated_told, none_written, one_line, store_failed}
 use Rattle.som_cmd.proofs.WordLaws.{asked_mains, mains_by}
 use Rattle.som_cmd.proofs.top.do_command.Goals as goal
 
@@ -122,6 +123,36 @@ returns-in-Client-clause-files g c = files_kept (asked c.args.words.now) (Client
 
 pub build_client-requires : goal.build_client-requires
 build_client-requires g c = mains_by c.args.words.now (Client c.in-Client.name.now c.in-Client.library.now c.in-Client.files.now) c.in-Client.ensures
+
+-- ---- what is generated
+
+pub generate-requires : goal.generate-requires
+generate-requires g c = mains_by c.args.words.now (Generate c.in-Generate.count) c.in-Generate.ensures
+
+pub returns-in-Generate-clause-answered : goal.returns-in-Generate-clause-answered
+returns-in-Generate-clause-answered g c = λ not6 not8 not10.
+    answered (asked c.args.words.now) (Generate c.in-Generate.count) c.in-Generate.ensures (IsGenerateAnswer c.in-Generate.count) (λ files e a. generates c.in-Generate.count e a) (g.S.Store.files c.args.store.now) c.generate.result (g.S.Store.files c.args.store.now) (g.K.Sink.written c.args.out.now) (g.K.Sink.written c.generate.new.out)
+    (generated_told c.in-Generate.count (g.S.Store.files c.args.store.now) c.generate.result (g.K.Sink.written c.args.out.now) (g.K.Sink.written c.generate.new.out) (c.generate.ensures.answered not8 not10))
+
+pub returns-in-Generate-clause-statuses : goal.returns-in-Generate-clause-statuses
+returns-in-Generate-clause-statuses g c = among (asked c.args.words.now) (Generate c.in-Generate.count) c.in-Generate.ensures c.generate.result c.generate.ensures.statuses
+
+pub returns-in-Generate-clause-one_line : goal.returns-in-Generate-clause-one_line
+returns-in-Generate-clause-one_line g c = one_line (asked c.args.words.now) (Generate c.in-Generate.count) c.in-Generate.ensures c.generate.result (g.K.Sink.written c.args.out.now) (g.K.Sink.written c.generate.new.out) tt
+
+pub returns-in-Generate-clause-store_failed : goal.returns-in-Generate-clause-store_failed
+returns-in-Generate-clause-store_failed g c = λ six. absurd (c.generate.ensures.no_store six)
+
+pub returns-in-Generate-clause-front : goal.returns-in-Generate-clause-front
+returns-in-Generate-clause-front g c = λ either.
+    front (asked c.args.words.now) (Generate c.in-Generate.count) c.in-Generate.ensures (IsGenerateAnswer c.in-Generate.count) (λ files e a. generates c.in-Generate.count e a) (g.S.Store.files c.args.store.now) (g.S.Store.faults c.args.store.now) (g.S.Store.faults c.args.store.now) (g.K.Sink.written c.args.out.now) (g.K.Sink.written c.generate.new.out)
+    (generated_some c.in-Generate.count (g.S.Store.files c.args.store.now) (g.S.Store.faults c.args.store.now) (g.S.Store.faults c.args.store.now) (g.K.Sink.written c.args.out.now) (g.K.Sink.written c.generate.new.out) (c.generate.ensures.front either))
+
+pub returns-in-Generate-clause-calm : goal.returns-in-Generate-clause-calm
+returns-in-Generate-clause-calm g c = λ store sink. c.generate.ensures.calm sink
+
+pub returns-in-Generate-clause-files : goal.returns-in-Generate-clause-files
+returns-in-Generate-clause-files g c = files_kept (asked c.args.words.now) (Generate c.in-Generate.count) c.in-Generate.ensures (g.S.Store.files c.args.store.now) (g.S.Store.faults c.args.store.now) (g.S.Store.faults c.args.store.now) c.generate.result (g.S.Store.files c.args.store.now) (g.K.Sink.written c.args.out.now) (g.K.Sink.written c.generate.new.out) refl
 
 -- ---- words of no form
 

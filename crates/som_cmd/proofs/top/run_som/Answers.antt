@@ -1,6 +1,6 @@
 use Rattle.som_cmd.specs.Words.{asked}
 use Rattle.som_cmd.proofs.Complete.{complete}
-use Rattle.som_cmd.proofs.EndLaws.{means, newest_runs, unkept, shown, shown_client, accepted, breach, compiled, client_compiled}
+use Rattle.som_cmd.proofs.EndLaws.{means, newest_runs, unkept, shown, shown_client, accepted, breach, compiled, client_compiled, generated}
 use Rattle.som_cmd.proofs.top.run_som.Goals as goal
 
 pub returns-clause-complete : goal.returns-clause-complete
@@ -36,3 +36,6 @@ returns-clause-compiled g c = λ name r texts not6 not8 not10. compiled (asked c
 
 pub returns-clause-client_compiled : goal.returns-clause-client_compiled
 returns-clause-client_compiled g c = λ name p texts not6 not8 not10. client_compiled (asked c.args.words.now) (g.S.Store.files c.args.store.now) c.do_command.result (g.S.Store.files c.do_command.new.store) (g.K.Sink.written c.args.out.now) (g.K.Sink.written c.do_command.new.out) (c.do_command.ensures.answered not6 not8 not10) name p texts
+
+pub returns-clause-generated : goal.returns-clause-generated
+returns-clause-generated g c = λ n m made not6 not8 not10. generated (asked c.args.words.now) (g.S.Store.files c.args.store.now) c.do_command.result (g.S.Store.files c.do_command.new.store) (g.K.Sink.written c.args.out.now) (g.K.Sink.written c.do_command.new.out) (c.do_command.ensures.answered not6 not8 not10) n m made

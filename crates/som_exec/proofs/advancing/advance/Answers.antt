@@ -3,7 +3,7 @@ use Rattle.som_moves.specs.Scene.{Scene, setting_of}
 use Rattle.som_task.specs.Standing.{place_shown}
 use Rattle.som_moves.specs.declared.stop.Stop.TheVariants as stops
 use Rattle.som_exec.specs.Advance.{Comes, CountsNow, EndsBy}
-use Rattle.som_exec.proofs.Ending.{done_comes, fault_comes, fault_place, going_comes, ran_same, starved_comes, sunk_comes, told_first}
+use Rattle.som_exec.proofs.Ending.{done_comes, done_leaves, fault_comes, fault_leaves, fault_place, going_comes, ran_same, starved_comes, sunk_comes, told_first}
 use Rattle.som_exec.proofs.Counting.{counts_now}
 use Rattle.som_exec.proofs.advancing.advance.Goals as goal
 
@@ -69,3 +69,10 @@ returns-in-Err-Fault-clause-counted g c =
     let counted = counts_now old c.args.units c.requires.stands (g.M.Moves.scene c.go_on.new.moves) (g.M.Moves.counted c.args.moves.now) (g.M.Moves.counted c.go_on.new.moves) (told_first old c.args.units c.requires.stands _ _ _ _ _ _ c.in-Err-Fault.ensures.ran) c.in-Err-Fault.ensures.counted in
     subst (λ (z : Scene). CountsNow old c.args.units z before (g.M.Moves.counted c.end_by.new.moves)) (sym c.end_by.ensures.scene)
     (subst (λ n. CountsNow old c.args.units (g.M.Moves.scene c.go_on.new.moves) before n) (sym c.end_by.ensures.counted) counted)
+
+pub returns-in-Ok-clause-left : goal.returns-in-Ok-clause-left
+returns-in-Ok-clause-left g c = done_leaves (g.M.Moves.scene c.args.moves.now) c.args.units c.requires.stands _ _ _ _ (g.M.Moves.scene c.go_on.new.moves) c.in-Ok.ensures.ran
+
+pub returns-in-Err-Fault-clause-left : goal.returns-in-Err-Fault-clause-left
+returns-in-Err-Fault-clause-left g c =
+    fault_leaves (g.M.Moves.scene c.args.moves.now) c.args.units (g.M.Moves.scene c.end_by.new.moves).fuel _ _ _ _ _ c.end_by.result c.end_by.ensures.ends

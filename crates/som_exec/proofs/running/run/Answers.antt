@@ -1,4 +1,4 @@
-use Rattle.som_exec.proofs.Whole.{counts_run, done_runs, fault_runs, spent_runs, starved_runs, sunk_runs}
+use Rattle.som_exec.proofs.Whole.{counts_run, done_runs, fault_runs, leaves_run, spent_runs, starved_runs, sunk_runs}
 use Rattle.som_exec.proofs.running.run.Goals as goal
 
 pub returns-in-Going-clause-runs : goal.returns-in-Going-clause-runs
@@ -30,3 +30,6 @@ returns-in-SinkFailed-clause-counted g c = counts_run (g.M.Moves.scene c.args.mo
 
 pub returns-in-NoMemory-clause-counted : goal.returns-in-NoMemory-clause-counted
 returns-in-NoMemory-clause-counted g c = counts_run (g.M.Moves.scene c.args.moves.now) c.args.fuel c.requires.granted c.requires.begun (g.M.Moves.scene c.advance.new.moves) (g.M.Moves.counted c.args.moves.now) (g.M.Moves.counted c.advance.new.moves) c.in-NoMemory.ensures.counted
+
+pub returns-in-Done-clause-left : goal.returns-in-Done-clause-left
+returns-in-Done-clause-left g c = leaves_run (g.M.Moves.scene c.args.moves.now) c.args.fuel c.requires.granted c.requires.begun (g.M.Moves.scene c.advance.new.moves).fuel c.in-Done.ensures.left

@@ -1,0 +1,4 @@
+pub mod PrintLaws
+pub mod MainLaws
+pub mod Clear
+pub mod AnswerLaws

@@ -1,0 +1,7 @@
+use Rattle.som_generate.proofs.MainLaws.{client_prints}
+use Rattle.som_generate.proofs.running.run_client.Goals as goal
+
+pub returns-in-Ok-clause-prints : goal.returns-in-Ok-clause-prints
+returns-in-Ok-clause-prints g c =
+    client_prints c.args.release.now c.args.program.now c.in-Ok.kernel (g.K.Sink.faults c.args.out.now) (g.K.Sink.faults c.run_kernel.new.out) (g.K.Sink.written c.args.out.now) (g.K.Sink.written c.run_kernel.new.out)
+    c.run_kernel.result c.in-Ok.ensures.classes c.in-Ok.ensures.main c.run_kernel.ensures.prints

@@ -1,0 +1,5 @@
+pub mod GenerateAnswer
+pub mod Printing
+pub mod AfterMain
+pub mod Stopping
+pub mod GenerateEnds

@@ -1,0 +1,21 @@
+-- The texts of the generator under their names, as they are compiled.
+use Rattle.std.specs.Prelude.{ℕ, List, [], ◌∷◌, ◌++◌, codes}
+use Rattle.som_compile.specs.declared.source.Source.{Source}
+use Rattle.som_generator.specs.declared.edition.Edition.{Edition}
+use Rattle.som_generator.specs.declared.edition.Edition.TheVariants.{First, Second}
+use Rattle.som_generator.specs.Generated.{bodies_text, interfaces_text, main_text}
+
+-- the number of a release, which its texts are named by
+abbrev pub release_number : Edition → List ℕ
+release_number First = codes "1"
+release_number Second = codes "2"
+
+-- the texts of a release of so many classes
+abbrev pub library_texts : Edition → ℕ → List Source
+library_texts e n =
+    record { name = release_number e ++ codes ".idl"; bytes = interfaces_text e n }
+    ∷ record { name = release_number e ++ codes ".bod"; bytes = bodies_text e n } ∷ []
+
+-- the text of its client
+abbrev pub client_texts : ℕ → List Source
+client_texts n = record { name = codes "c.main"; bytes = main_text n } ∷ []

@@ -1,0 +1,8 @@
+use som_exec::Outcome;
+
+/// What a run came to, and, where main is over, the units that are left of its fuel.
+#[derive(Drop)]
+pub struct Finished {
+    pub outcome: Outcome,
+    pub left: u32,
+}
