@@ -6,7 +6,7 @@ use Rattle.som_io.specs.Outside.{Rose, ShowsFront}
 use Rattle.som_steps.proofs.Statuses.{differs}
 use Rattle.som_steps.specs.Endings.{Ending}
 use Rattle.som_build.specs.PutEnds.{LeavesFiles, as_they_were, with_image, put_failed}
-use Rattle.som_cmd.specs.Words.{Asked, Bad, Library, Run, Show, Check, Client}
+use Rattle.som_cmd.specs.Words.{Asked, Bad, Library, Run, Show, Check, Client, Generate}
 use Rattle.som_cmd.specs.Answer.{IsAnswer}
 use Rattle.som_cmd.specs.Cause.{FailsOn}
 use Rattle.som_cmd.specs.Complete.{EndsOrWants, WantsMemory}
@@ -32,6 +32,7 @@ module _ (count now : ℕ) (steady : Rose count now → ⊥) where
   kept (Check images) files status new_files old new ten k = k
   kept (Library out names) files status new_files old new ten k = unchanged _ files out status new_files old new ten k
   kept (Client out library names) files status new_files old new ten k = unchanged _ files out status new_files old new ten k
+  kept (Generate count) files status new_files old new ten k = k
   kept Bad files status new_files old new ten k = k
 
   wants : (asked : Asked) (files : Files) (status : ℕ) (new_files : Option Files) (old new : Option (List ℕ)) → status ≡ 10 → new_files ≡ Some files
