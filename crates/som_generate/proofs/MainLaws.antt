@@ -20,11 +20,10 @@ use Rattle.som_exec.specs.declared.outcome.Outcome.{Outcome}
 use Rattle.som_exec.specs.declared.outcome.Outcome.TheVariants as outcomes
 use Rattle.som_exec.specs.Run.{LeavesFuel}
 use Rattle.som_ran.specs.Mains.{RunsTraced}
-use Rattle.som_steps.proofs.SayLaws.{all_is_front}
 use Rattle.som_generate.specs.AfterMain.{EndsAfter}
 use Rattle.som_generate.specs.GenerateAnswer.{left_line, left_text, ran_text}
 use Rattle.som_generate.specs.Printing.{Prints}
-use Rattle.som_generate.proofs.PrintLaws.{longer, none_printed, prints_after}
+use Rattle.som_generate.proofs.PrintLaws.{all_is_front, longer, none_printed, prints_after}
 
 -- ---- after main
 

@@ -5,7 +5,6 @@ use Rattle.som_io.specs.Line.{SendHasCause, SendsLine}
 use Rattle.som_io.specs.Outside.{Rose, ShowsAll, ShowsFront}
 use Rattle.som_io.specs.declared.line.Sending.{Sending}
 use Rattle.som_io.specs.declared.line.Sending.TheVariants as sending
-use Rattle.som_steps.proofs.SayLaws.{all_is_front}
 use Rattle.som_generate.specs.Printing.{Prints, sent_status}
 
 -- ---- texts
@@ -26,6 +25,11 @@ shows_front (Some old) mid new a b f g =
 pub longer : (old new : Option (List ℕ)) (a b : List ℕ) → ShowsFront old new a → ShowsFront old new (a ++ b)
 longer None new a b f = (a ++ b, tt)
 longer (Some old) new a b f = (f.0 ++ b, (f.1.0, sym (append_assoc f.1.0 f.0 b) ∙ ap (λ (t : List ℕ). t ++ b) f.1.1, f.1.2))
+
+-- all of a text is a front of it
+pub all_is_front : (old new : Option (List ℕ)) (text : List ℕ) → ShowsAll old new text → ShowsFront old new text
+all_is_front None new text f = (text, tt)
+all_is_front (Some old) new text f = ([], (text, append-nil text, f))
 
 rose_earlier : (count mid now : ℕ) → count ≤ mid → Rose mid now → Rose count now
 rose_earlier count mid now le r = omega (arith, le, r)
@@ -62,7 +66,7 @@ starved_first a b end before now old new f = record {
 }
 
 -- nothing was printed for want of memory
-nothing_shown : (written : Option (List ℕ)) (text : List ℕ) → ShowsFront written written text
+pub nothing_shown : (written : Option (List ℕ)) (text : List ℕ) → ShowsFront written written text
 nothing_shown None text = (text, tt)
 nothing_shown (Some old) text = (text, ([], refl, ap (λ (t : List ℕ). Some t) (sym (append-nil old))))
 

@@ -1,9 +1,9 @@
 //! The command `generate`: two releases of so many classes and a client are made, and the client runs on the second.
 #![tactic(auto)]
 
-mod generate;
+mod generating;
 mod printing;
 mod refusing;
 mod running;
 
-pub use generate::generate;
+pub use generating::generate;

@@ -1,6 +1,6 @@
 use Rattle.som_generate.specs.GenerateAnswer.{client_run, generated_text}
 use Rattle.som_generate.proofs.AnswerLaws.{is_made, made_calm, made_ends, made_fronts, made_in, never_six, never_two, quietly, stop_among, stop_answered, stop_fronts}
-use Rattle.som_generate.proofs.generate.generate.Goals as goal
+use Rattle.som_generate.proofs.generating.generate.Goals as goal
 
 -- ---- all was made
 
