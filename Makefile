@@ -3,13 +3,22 @@
 OUT = crates/som/out
 SOM = $(OUT)/som
 HELLO = examples/hello/hello
+EXAMPLES = zoo shop document plugin
+TABLE = crates/som_rows/data/try.rows
 
-.PHONY: try hello examples test bench
+.PHONY: try table hello examples test bench
 
-# shows a few commands with what they print, and runs them with no proof: the run tells where what comes differs
+# the promise, with what each command prints: by the program where it is built, and else by a run of the same commands with no
+# proof, which tells where what comes differs
 try:
-	cat crates/som_rows/data/try.rows
-	cd crates/som_rows && rt try --steps 1 --data fixtures.rows=data/fixtures.rows --data try.rows=data/try.rows -- fixtures.rows try.rows
+	@if [ -x $(SOM) ]; then examples/session $(SOM) examples/zoo/try.commands $(OUT)/examples/try; \
+	else cat examples/zoo/try.expected && echo && echo "# There is no program yet, so these commands are now run as a table, with no proof, in a minute or two:" && \
+	$(MAKE) --no-print-directory table; fi
+
+# runs the commands of a table with no proof, and tells where something else is printed: make table TABLE=mine.rows
+table:
+	cd crates/som_rows && rt try --steps 1 --seconds 300 --data fixtures.rows=data/fixtures.rows --data table.rows=$(abspath $(TABLE)) -- fixtures.rows table.rows
+	@echo "# 0 differences says that each command printed what the table has. The line on an interpreter can be passed over."
 
 # the program: `rt run` first proves what isn't proved yet
 $(SOM): $(shell find crates -name out -prune -o -name '*.rt' -print -o -name '*.antt' -print)
@@ -24,13 +33,9 @@ hello: $(SOM)
 	cmp $(OUT)/hello.cli crates/som/data/hello.cli
 	$(SOM) run $(OUT)/hello.cli $(OUT)/hello.img
 
-# compiles the releases of the zoo and two clients of the first, shows them, and looks which releases keep what the first
-# promised: all but zoo4. What is printed has to be examples/expected
+# runs the commands of each example and shows what they print, which has to be what stands in its .expected
 examples: $(SOM)
-	mkdir -p $(OUT)/zoo
-	cd $(OUT)/zoo && ../../../../examples/session ../som > printed
-	cat $(OUT)/zoo/printed
-	cmp $(OUT)/zoo/printed examples/expected
+	@for e in $(EXAMPLES); do examples/session $(SOM) examples/$$e/$$e.commands $(OUT)/examples/$$e || exit 1; echo; done
 
 # the gate: every proof, every edit that has to be refused, every test, and the program as two compilers build it
 test:

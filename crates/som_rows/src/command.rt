@@ -1,4 +1,4 @@
-use crate::files::{File, Files};
+use som_cases::{Answer, File, Files};
 use som_cmd::run_som;
 use som_host::{host_entry, host_table};
 use som_io::{Got, Leaves, MemSink, MemStore, Put, Store};
@@ -26,13 +26,6 @@ impl Failing {
             sink: Vec::new(alloc),
         }
     }
-}
-
-/// What a command printed, and its status.
-#[derive(Drop)]
-pub struct Answer {
-    pub printed: List<u8>,
-    pub status: u8,
 }
 
 /// What a command came to.
@@ -72,14 +65,22 @@ pub fn outcome_of(
     failing: &Failing,
 ) -> Result<Outcome, NoMemory> {
     let mut store = store_of(alloc, files, failing.store.as_slice())?;
-    let mut out = sink_of(alloc, failing.sink.as_slice())?;
-    let status = status_of(alloc, words, &mut store, &mut out)?;
-    let printed = out.bytes().copy(alloc)?;
+    let answer = answer_of(alloc, words, &mut store, failing.sink.as_slice())?;
     let changed = changed_files(alloc, store, files, words, failing.store.len())?;
-    Ok(Outcome {
-        answer: Answer { printed, status },
-        changed,
-    })
+    Ok(Outcome { answer, changed })
+}
+
+// What a command prints to a sink of which these calls fail, and its status.
+fn answer_of(
+    alloc: Global,
+    words: &List<Text>,
+    store: &mut MemStore,
+    failing: &[u64],
+) -> Result<Answer, NoMemory> {
+    let mut out = sink_of(alloc, failing)?;
+    let status = status_of(alloc, words, store, &mut out)?;
+    let printed = out.bytes().copy(alloc)?;
+    Ok(Answer { printed, status })
 }
 
 // A sink of which these calls fail.
@@ -114,6 +115,15 @@ fn changed_files(
 // A store that holds the files, of which these calls fail.
 fn store_of(alloc: Global, files: &Files, failing: &[FailingCall]) -> Result<MemStore, NoMemory> {
     let mut store = MemStore::new(alloc);
+    let made = put_files(&mut store, files)?;
+    for failing in failing {
+        store.fail_put(made.saturating_add(failing.call), failing.leaves)?;
+    }
+    Ok(store)
+}
+
+// Puts the files, and answers how many calls that took.
+fn put_files(store: &mut MemStore, files: &Files) -> Result<u64, NoMemory> {
     let mut made = 0u64;
     for file in files.as_slice() {
         let Some(bytes) = files.get(file.name.as_slice()) else {
@@ -124,10 +134,7 @@ fn store_of(alloc: Global, files: &Files, failing: &[FailingCall]) -> Result<Mem
         }
         made = made.saturating_add(1);
     }
-    for failing in failing {
-        store.fail_put(made.saturating_add(failing.call), failing.leaves)?;
-    }
-    Ok(store)
+    Ok(made)
 }
 
 // The store after a command, and the files that were found to be changed.

@@ -2,26 +2,15 @@
 #![tactic(auto)]
 
 mod command;
-mod compare;
-mod expansion;
-mod fields;
-mod files;
-mod report;
-mod rows;
 mod runner;
-mod single;
-mod table;
-mod words;
-mod wrong;
 
-use report::Sums;
 use runner::Runner;
+use som_cases::{Report, Sums, lines_of};
 use som_model::NoMemory;
 use std::alloc::Global;
 use std::env::Env;
 use std::rt::Files;
 use std::{env, fs, io};
-use table::lines_of;
 
 fn main(rt: HostRuntime) -> io::Result<()> {
     run_tables(&rt, rt.alloc())
@@ -30,19 +19,41 @@ fn main(rt: HostRuntime) -> io::Result<()> {
 // Runs the tables that the arguments name.
 fn run_tables<R: Env + Files + Print + AllocGlobal>(rt: &R, alloc: Global) -> io::Result<()> {
     let mut runner = Runner::new(alloc).map_err(out_of_memory)?;
+    run_all(rt, alloc, &mut runner)
+}
+
+fn run_all<R: Env + Files + Print + AllocGlobal>(
+    rt: &R,
+    alloc: Global,
+    runner: &mut Runner,
+) -> io::Result<()> {
     let mut sums = Sums::NONE;
     for name in env::args(rt)?.skip(1) {
-        let table = fs::read(rt, name.as_str())?;
-        let lines = lines_of(alloc, table.as_slice()).map_err(out_of_memory)?;
-        runner
-            .run_table(name.as_str(), lines.as_slice())
-            .map_err(out_of_memory)?;
-        rt.print(runner.report.text.as_str())?;
-        let table = runner.report.sums;
-        println!(rt; "{name}: {}", table)?;
-        sums.add(table);
+        sums.add(run_table(rt, alloc, runner, name.as_str())?);
     }
     println!(rt; "all: {}", sums)
+}
+
+// Runs a table, and tells what came of it.
+fn run_table<R: Files + Print + AllocGlobal>(
+    rt: &R,
+    alloc: Global,
+    runner: &mut Runner,
+    name: &str,
+) -> io::Result<Sums> {
+    let table = fs::read(rt, name)?;
+    let lines = lines_of(alloc, table.as_slice()).map_err(out_of_memory)?;
+    runner
+        .run_table(name, lines.as_slice())
+        .map_err(out_of_memory)?;
+    tell(rt, name, &runner.report)
+}
+
+fn tell<R: Print>(rt: &R, name: &str, report: &Report) -> io::Result<Sums> {
+    rt.print(report.text.as_str())?;
+    let sums = report.sums;
+    println!(rt; "{name}: {}", sums)?;
+    Ok(sums)
 }
 
 fn out_of_memory(_e: NoMemory) -> io::Error {

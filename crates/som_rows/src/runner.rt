@@ -1,16 +1,9 @@
-ghost use Rattle.std.specs.Prelude.{◌≤◌, length};
-
-use crate::command::{Answer, Failing, FailingCall, Outcome, outcome_of};
-use crate::compare::Value;
-use crate::expansion::{Expansion, Turns, Variable};
-use crate::fields::Fields;
-use crate::files::{File, Files};
-use crate::report::{Place, Report};
-use crate::rows::{add_variables, rows_of};
-use crate::single::single_bytes;
-use crate::table::{Kind, Line};
-use crate::words::{first_word, number_of, words_in};
-use crate::wrong::Wrong;
+use crate::command::{Failing, FailingCall, Outcome, outcome_of};
+use som_cases::{
+    Answer, Contents, File, Files, Kind, Line, Place, Report, Value, Variable, Wrong,
+    add_variables, case_len, first_word, number_of, single_bytes, status_of, wanted_status,
+    words_in,
+};
 use som_io::Leaves;
 use som_model::{List, NoMemory, Text};
 use som_trees::shown;
@@ -47,10 +40,11 @@ pub struct Runner {
 
 impl Runner {
     pub fn new(alloc: Global) -> Result<Runner, NoMemory> {
+        let report = Report::new(alloc, "")?;
         Ok(Runner {
             alloc,
             fixtures: Vec::new(alloc),
-            report: Report::new(alloc, "")?,
+            report,
             files: Files::new(alloc),
             variables: Vec::new(alloc),
             failing: Failing::new(alloc),
@@ -115,7 +109,7 @@ impl Runner {
     // Runs the lines after an `each` once for each of its rows.
     #[cycle(lines)]
     fn run_rows(&mut self, line: &Line<'_>, after: &[Line<'_>]) -> Result<(), NoMemory> {
-        let rows = match rows_of(&self.expansion(), line.rest, line.block.as_slice()) {
+        let rows = match self.contents().rows(line.rest, line.block.as_slice()) {
             Ok(rows) => rows,
             Err(Wrong::Unclear) => return self.report.tell_unclear(line.number),
             Err(Wrong::Memory) => return Err(NoMemory),
@@ -145,32 +139,12 @@ impl Runner {
         }
     }
 
-    fn expansion(&self) -> Expansion<'_> {
-        Expansion {
-            alloc: self.alloc,
-            variables: self.variables.as_slice(),
-        }
-    }
-
-    // A text with its repetitions, variables and numbers replaced.
-    fn expanded(&self, text: &[u8]) -> Result<Vec<u8>, Wrong> {
-        let mut out = Vec::new(self.alloc);
-        self.expansion().expand(text, Turns::NONE, &mut out)?;
-        Ok(out)
-    }
-
-    // A text with all its forms replaced.
-    fn filled(&self, text: &[u8]) -> Result<Vec<u8>, Wrong> {
-        single_bytes(self.alloc, self.expanded(text)?.as_slice())
-    }
-
-    // The bytes of the fields of a text.
-    fn fields(&self, text: &[u8]) -> Result<Vec<u8>, Wrong> {
-        let fields = Fields {
+    fn contents(&self) -> Contents<'_> {
+        Contents {
             alloc: self.alloc,
             files: &self.files,
-        };
-        fields.bytes(self.filled(text)?.as_slice())
+            variables: self.variables.as_slice(),
+        }
     }
 
     fn use_fixtures(&mut self, rest: &[u8]) -> Result<(), Wrong> {
@@ -184,61 +158,17 @@ impl Runner {
     }
 
     fn give(&mut self, line: &Line<'_>) -> Result<(), Wrong> {
-        let head = self.expanded(line.rest)?;
+        let head = self.contents().expanded(line.rest)?;
         let (name, rest) = first_word(head.as_slice());
-        let bytes = self.content(rest, line.block.as_slice())?;
+        let bytes = self.contents().file(rest, line.block.as_slice())?;
         let name = Text::from_vec(single_bytes(self.alloc, name)?);
         let bytes = Some(List::from_vec(bytes));
         self.files.put(File { name, bytes })?;
         Ok(())
     }
 
-    // What a file holds, by what stands after its name, and by the block.
-    fn content(&self, rest: &[u8], block: &[u8]) -> Result<Vec<u8>, Wrong> {
-        match first_word(rest) {
-            (b"", _) => self.filled(block),
-            (b":", b"bytes") => self.fields(block),
-            (b"=", other) if block.is_empty() => {
-                let (other, change) = first_word(other);
-                let other = single_bytes(self.alloc, other)?;
-                let bytes = self.files.get(other.as_slice()).ok_or(Wrong::Unclear)?;
-                self.changed(bytes.as_slice(), change)
-            }
-            _ => Err(Wrong::Unclear),
-        }
-    }
-
-    // Bytes that are cut, changed at a place, or followed by others.
-    fn changed(&self, bytes: &[u8], change: &[u8]) -> Result<Vec<u8>, Wrong> {
-        match change {
-            [] => Ok(Vec::from_slice(self.alloc, bytes)?),
-            [b'.', b'.', len @ ..] => {
-                let len = place_of(len).ok_or(Wrong::Unclear)?;
-                let front = bytes.get(..len).ok_or(Wrong::Unclear)?;
-                Ok(Vec::from_slice(self.alloc, front)?)
-            }
-            [b'@', change @ ..] => {
-                let (place, fields) = first_word(change);
-                let place = place_of(place).ok_or(Wrong::Unclear)?;
-                let fields = self.fields(fields)?;
-                let (front, rest) = bytes.split_at_checked(place).ok_or(Wrong::Unclear)?;
-                let rest = rest.get(fields.len()..).ok_or(Wrong::Unclear)?;
-                let mut all = Vec::from_slice(self.alloc, front)?;
-                all.extend_from_slice(fields.as_slice())?;
-                all.extend_from_slice(rest)?;
-                Ok(all)
-            }
-            [b'+', fields @ ..] => {
-                let mut all = Vec::from_slice(self.alloc, bytes)?;
-                all.extend_from_slice(self.fields(fields)?.as_slice())?;
-                Ok(all)
-            }
-            _ => Err(Wrong::Unclear),
-        }
-    }
-
     fn add_failing(&mut self, rest: &[u8]) -> Result<(), Wrong> {
-        let head = self.expanded(rest)?;
+        let head = self.contents().expanded(rest)?;
         let (side, rest) = first_word(head.as_slice());
         let (call, leaves) = first_word(rest);
         let call = number_of(call).ok_or(Wrong::Unclear)?;
@@ -254,12 +184,25 @@ impl Runner {
     }
 
     fn run_command(&mut self, line: &Line<'_>, after: &[Line<'_>]) -> Result<(), Wrong> {
-        let words = self.command_words(line.rest)?;
-        let printed = self.filled(line.block.as_slice())?;
-        let Outcome {
-            answer: got,
-            changed,
-        } = outcome_of(self.alloc, &words, &self.files, &self.failing)?;
+        let Outcome { answer, changed } = self.outcome(line.rest)?;
+        self.compare_answers(line, after, &answer)?;
+        self.put_changed(changed)?;
+        Ok(())
+    }
+
+    fn outcome(&self, rest: &[u8]) -> Result<Outcome, Wrong> {
+        let words = self.command_words(rest)?;
+        Ok(outcome_of(self.alloc, &words, &self.files, &self.failing)?)
+    }
+
+    // Compares what a command printed and its status with what its lines say.
+    fn compare_answers(
+        &mut self,
+        line: &Line<'_>,
+        after: &[Line<'_>],
+        got: &Answer,
+    ) -> Result<(), Wrong> {
+        let printed = self.contents().filled(line.block.as_slice())?;
         let (status_line, status) = wanted_status(after).unwrap_or((line.number, 0));
         let wanted = Answer {
             printed: List::from_vec(printed),
@@ -267,7 +210,12 @@ impl Runner {
         };
         let variables = self.variables.as_slice();
         self.report
-            .compare_answers(line.number, status_line, variables, &wanted, &got)?;
+            .compare_answers(line.number, status_line, variables, &wanted, got)?;
+        Ok(())
+    }
+
+    // Puts what a command changed. The next command begins with no call that fails.
+    fn put_changed(&mut self, changed: Vec<File>) -> Result<(), NoMemory> {
         self.last = Some(Last {
             before: self.files.as_slice().len(),
             open: true,
@@ -280,7 +228,7 @@ impl Runner {
     }
 
     fn command_words(&self, rest: &[u8]) -> Result<List<Text>, Wrong> {
-        let head = self.expanded(rest)?;
+        let head = self.contents().expanded(rest)?;
         let mut words = List::new(self.alloc);
         for word in words_in(self.alloc, head.as_slice())? {
             let bytes = if matches!(word, b"\"\"") {
@@ -305,7 +253,7 @@ impl Runner {
     }
 
     fn check_file(&mut self, line: &Line<'_>) -> Result<(), Wrong> {
-        let head = self.expanded(line.rest)?;
+        let head = self.contents().expanded(line.rest)?;
         let (name, rest) = first_word(head.as_slice());
         let name = single_bytes(self.alloc, name)?;
         let wanted = self.wanted_file(name.as_slice(), rest, line.block.as_slice())?;
@@ -330,7 +278,7 @@ impl Runner {
             return Ok(None);
         }
         if rest != b"same".as_slice() {
-            return Ok(Some(List::from_vec(self.content(rest, block)?)));
+            return Ok(Some(List::from_vec(self.contents().file(rest, block)?)));
         }
         let last = self.last.ok_or(Wrong::Unclear)?;
         match self.files.get_among(last.before, name) {
@@ -341,15 +289,19 @@ impl Runner {
 
     // Compares the tokens or the tree of a file.
     fn check_shown(&mut self, line: &Line<'_>) -> Result<(), Wrong> {
-        let head = self.expanded(line.rest)?;
+        let head = self.contents().expanded(line.rest)?;
         let (kind, name) = first_word(head.as_slice());
-        let wanted = self.filled(line.block.as_slice())?;
-        let name = single_bytes(self.alloc, name)?;
-        let bytes = self.files.get(name.as_slice()).ok_or(Wrong::Unclear)?;
-        let got = shown(self.alloc, kind, bytes)?.ok_or(Wrong::Unclear)?;
+        let got = self.lines_shown(kind, name)?;
+        let wanted = self.contents().filled(line.block.as_slice())?;
         let wanted = Value::Bytes(wanted.as_slice());
         self.compare(line.number, kind, wanted, Value::Bytes(got.as_slice()))?;
         Ok(())
+    }
+
+    fn lines_shown(&self, kind: &[u8], name: &[u8]) -> Result<List<u8>, Wrong> {
+        let name = single_bytes(self.alloc, name)?;
+        let bytes = self.files.get(name.as_slice()).ok_or(Wrong::Unclear)?;
+        shown(self.alloc, kind, bytes)?.ok_or(Wrong::Unclear)
     }
 
     fn compare(
@@ -375,40 +327,10 @@ fn value_of(bytes: Option<&List<u8>>) -> Value<'_> {
     }
 }
 
-// How many lines there are before the next case.
-fn case_len(lines: &[Line<'_>]) -> usize
-    ensures { result ≤ length lines.now }
-{
-    lines
-        .iter()
-        .position(|line| line.kind == Kind::Case)
-        .unwrap_or(lines.len())
-}
-
 fn find_fixture<'a>(fixtures: &'a [Fixture], name: &[u8]) -> Option<&'a Fixture> {
     for fixture in fixtures.iter().rev() {
         if fixture.name.is(name) {
             return Some(fixture);
-        }
-    }
-    None
-}
-
-fn place_of(digits: &[u8]) -> Option<usize> {
-    usize::try_from(number_of(digits)?).ok()
-}
-
-fn status_of(digits: &[u8]) -> Option<u8> {
-    u8::try_from(number_of(digits)?).ok()
-}
-
-// The status that a line before the next command tells, and the number of that line.
-fn wanted_status(lines: &[Line<'_>]) -> Option<(usize, u8)> {
-    for line in lines {
-        match line.kind {
-            Kind::Status => return Some((line.number, status_of(line.rest)?)),
-            Kind::Wanted => {}
-            _ => return None,
         }
     }
     None
