@@ -27,7 +27,17 @@ fn take_turns<R: Runtime, L: Ledger>(
 {
     tell_task(rt, "", Ending::Going, &*task)?;
     for units in turns {
-        turn(rt, kernel, task, "", number_of(*units)?, objects, trace, host, steps)?;
+        turn(
+            rt,
+            kernel,
+            task,
+            "",
+            number_of(*units)?,
+            objects,
+            trace,
+            host,
+            steps,
+        )?;
     }
     Ok(())
 }
@@ -44,5 +54,14 @@ pub fn go_alone<R: Runtime, L: Ledger>(
     let alloc = rt.alloc();
     let mut task = start(alloc, &*kernel)?;
     let mut objects = ObjectStore::new(alloc);
-    take_turns(rt, kernel, &mut task, turns, &mut objects, trace, host, steps)
+    take_turns(
+        rt,
+        kernel,
+        &mut task,
+        turns,
+        &mut objects,
+        trace,
+        host,
+        steps,
+    )
 }

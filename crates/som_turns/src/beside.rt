@@ -30,7 +30,9 @@ fn take_round<R: Runtime, L: Ledger>(
     ensures beside { OnOk result (AreBeside (R.linked kernel.new) (R.known kernel.new) (R.program kernel.new) (R.made kernel.new) objects.new first.new second.new) }
 {
     turn(rt, kernel, first, "0: ", units, objects, trace, host, steps)?;
-    turn(rt, kernel, second, "1: ", units, objects, trace, host, steps)
+    turn(
+        rt, kernel, second, "1: ", units, objects, trace, host, steps,
+    )
 }
 
 // Takes the rounds of two tasks.
@@ -51,7 +53,15 @@ fn take_rounds<R: Runtime, L: Ledger>(
     tell_task(rt, "1: ", Ending::Going, &*second)?;
     for units in rounds {
         take_round(
-            rt, kernel, first, second, number_of(*units)?, objects, trace, host, steps,
+            rt,
+            kernel,
+            first,
+            second,
+            number_of(*units)?,
+            objects,
+            trace,
+            host,
+            steps,
         )?;
     }
     Ok(())
@@ -73,7 +83,17 @@ fn go_with<R: Runtime, L: Ledger>(
     let alloc = rt.alloc();
     let mut second = start(alloc, &*kernel)?;
     let mut objects = ObjectStore::new(alloc);
-    take_rounds(rt, kernel, first, &mut second, rounds, &mut objects, trace, host, steps)
+    take_rounds(
+        rt,
+        kernel,
+        first,
+        &mut second,
+        rounds,
+        &mut objects,
+        trace,
+        host,
+        steps,
+    )
 }
 
 /// Starts two tasks over one store, and gives each a turn by as many units as each digit says.

@@ -59,7 +59,17 @@ fn run_by_units<R: Runtime, L: Ledger>(
 ) -> Result<Ending, NotTaken> {
     let mut task = start(alloc, &*kernel)?;
     let mut objects = ObjectStore::new(alloc);
-    go_by_units(alloc, kernel, &mut task, fuel, &mut objects, trace, host, text, steps)
+    go_by_units(
+        alloc,
+        kernel,
+        &mut task,
+        fuel,
+        &mut objects,
+        trace,
+        host,
+        text,
+        steps,
+    )
 }
 
 // Runs main at once by this fuel.

@@ -47,10 +47,7 @@ pub fn take_on(
     digits: &[u8],
 ) -> Result<(), NotTaken> {
     let alloc = rt.alloc();
-    let trace = trace_filter(
-        TraceChoice::Nothing,
-        Box::new(alloc, |_name: &Text| false)?,
-    );
+    let trace = trace_filter(TraceChoice::Nothing, Box::new(alloc, |_name: &Text| false)?);
     let host = host_table(
         host_entry(HostCode::Min, Box::new(alloc, |x: i32, y: i32| x.min(y))?),
         host_entry(HostCode::Max, Box::new(alloc, |x: i32, y: i32| x.max(y))?),

@@ -32,6 +32,9 @@ pub fn tell_task(
 ) -> Result<(), NotTaken> {
     let begun = if task.begun() { "begun" } else { "not begun" };
     let word = word_of(ending);
-    print!(rt; "- {name}{word}, {begun}, granted {}, serials", task.granted())?;
+    print!(rt;
+        "- {name}{word}, {begun}, granted {}, serials",
+        task.granted()
+    )?;
     tell_serials(rt, task.serials().as_slice())
 }
