@@ -1,5 +1,6 @@
 -- A task that went on, and another beside it.
-use Rattle.std.proofs.Common.{◌≡◌, ℕ, suc, ◌+◌, ◌<◌, ◌≤◌, ◌==◌, ◌⊎◌, inl, inr, Bool, true, false, if◌then◌else◌, List, [], ◌∷◌, ◌++◌, length, Option, refl, sym, ap, subst, ◌∙◌, arith, cc}
+use Rattle.std.proofs.Common.{◌≡◌, ℕ, suc, ◌+◌, ◌<◌, ◌≤◌, ◌==◌, ◌⊎◌, inl, inr, Bool, true, false, if◌then◌else◌, Result, Ok, Err, List, [], ◌∷◌, ◌++◌, length, Option, refl, sym, ap, subst, ◌∙◌, arith}
+use Rattle.std.specs.Prelude.{OnOk}
 use Rattle.som_model.specs.declared.key.ClassKey.{ClassKey}
 use Rattle.som_model.specs.declared.syntax.Block.{Block}
 use Rattle.som_model.specs.Lists.{Mem}
@@ -18,6 +19,11 @@ use Rattle.som_exec.specs.Stands.{IsStanding, Stands, StandsAnywhere}
 use Rattle.som_exec.proofs.Sparing.{stands_still}
 use Rattle.som_runner.specs.Going.{is_going}
 use Rattle.som_turns.specs.Beside.{AreBeside, CanGoOn}
+
+-- what holds after a call holds where it answers a value
+pub on_ok : {T E P : Type 0} (r : Result T E) → P → OnOk r P
+on_ok (Ok x) p = p
+on_ok (Err e) p = tt
 
 -- a serial of a longer list is one of the first, or one of those that were added
 made_front : (xs ys : List ℕ) (n : ℕ) → IsMade (xs ++ ys) n → IsMade xs n ⊎ Mem n ys
@@ -52,7 +58,7 @@ module _ (l l' : Linked) (known known' : Numbering) (main main' : Block) (made m
   new = scene l' known' main' made' os' t'.task 0
 
   module _ (x : Comes old units shows prefix before after new answer) (live : t'.live ≡ is_going answer) where
-    pub can_go_on : CanGoOn l' known' main' made' os' t'
+    can_go_on : CanGoOn l' known' main' made' os' t'
     can_go_on is = still_going answer (Stands new) x.stands (sym live ∙ is)
 
     module _ (was : t.live ≡ true) (other : Task) (b : AreBeside l known main made os t other) where
@@ -79,8 +85,16 @@ module _ (l l' : Linked) (known known' : Numbering) (main main' : Block) (made m
         | inr more ↦ (let lt : length os < n = (x.keeps.above n more).0 in let le : n ≤ length os = given is n k in let f : ⊥ = omega (arith, lt, le) in f)
       ]
 
-      pub beside : AreBeside l' known' main' made' os' t' other
+      beside : AreBeside l' known' main' made' os' t' other
       beside = record { one = can_go_on; other_one = other_stands; apart = λ here is n. still_apart is n }
+
+    -- the same, where a call after it answers a value
+    pub can_go_on_ok : {T E : Type 0} (r : Result T E) → OnOk r (CanGoOn l' known' main' made' os' t')
+    can_go_on_ok r = on_ok r can_go_on
+
+    pub beside_ok : {T E : Type 0} (r : Result T E) → t.live ≡ true → OnOk r ((other : Task) → AreBeside l known main made os t other → AreBeside l' known' main' made' os' t' other)
+    beside_ok (Ok x) was = λ other b. beside was other b
+    beside_ok (Err e) was = tt
 
 -- the same two tasks, the other one first
 pub turned : (l : Linked) (known : Numbering) (main : Block) (made : ClassKey → Bool) (os : Objects) (t other : Task) → AreBeside l known main made os t other → AreBeside l known main made os other t

@@ -8,12 +8,10 @@ use som_exec::{Task, start};
 use som_host::HostTable;
 use som_objects::ObjectStore;
 use som_runtime::Runtime;
-use som_tables::Steps;
 use som_telling::TraceFilter;
-use std::sync::ledger::Ledger;
 
 // Takes the turns of a task that has no others beside it.
-fn take_turns<R: Runtime, L: Ledger>(
+fn take_turns<R: Runtime>(
     rt: &HostRuntime,
     kernel: &mut R,
     task: &mut Task,
@@ -21,9 +19,8 @@ fn take_turns<R: Runtime, L: Ledger>(
     objects: &mut ObjectStore,
     trace: &TraceFilter,
     host: &HostTable,
-    steps: &mut Steps<L>,
 ) -> Result<(), NotTaken>
-    requires stands { CanGoOn (R.linked kernel.old) (R.known kernel.old) (R.program kernel.old) (R.made kernel.old) objects.old task.old }
+    requires { CanGoOn (R.linked kernel.old) (R.known kernel.old) (R.program kernel.old) (R.made kernel.old) objects.old task.old }
 {
     tell_task(rt, "", Ending::Going, &*task)?;
     for units in turns {
@@ -36,32 +33,21 @@ fn take_turns<R: Runtime, L: Ledger>(
             objects,
             trace,
             host,
-            steps,
         )?;
     }
     Ok(())
 }
 
 /// Starts a task, and goes on with it by as many units as each digit says.
-pub fn go_alone<R: Runtime, L: Ledger>(
+pub fn go_alone<R: Runtime>(
     rt: &HostRuntime,
     kernel: &mut R,
     turns: &[u8],
     trace: &TraceFilter,
     host: &HostTable,
-    steps: &mut Steps<L>,
 ) -> Result<(), NotTaken> {
     let alloc = rt.alloc();
     let mut task = start(alloc, &*kernel)?;
     let mut objects = ObjectStore::new(alloc);
-    take_turns(
-        rt,
-        kernel,
-        &mut task,
-        turns,
-        &mut objects,
-        trace,
-        host,
-        steps,
-    )
+    take_turns(rt, kernel, &mut task, turns, &mut objects, trace, host)
 }

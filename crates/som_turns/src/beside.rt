@@ -10,12 +10,10 @@ use som_exec::{Task, start};
 use som_host::HostTable;
 use som_objects::ObjectStore;
 use som_runtime::Runtime;
-use som_tables::Steps;
 use som_telling::TraceFilter;
-use std::sync::ledger::Ledger;
 
 // A turn of each of two tasks, one after the other.
-fn take_round<R: Runtime, L: Ledger>(
+fn take_round<R: Runtime>(
     rt: &HostRuntime,
     kernel: &mut R,
     first: &mut Task,
@@ -24,19 +22,16 @@ fn take_round<R: Runtime, L: Ledger>(
     objects: &mut ObjectStore,
     trace: &TraceFilter,
     host: &HostTable,
-    steps: &mut Steps<L>,
 ) -> Result<(), NotTaken>
-    requires beside { AreBeside (R.linked kernel.old) (R.known kernel.old) (R.program kernel.old) (R.made kernel.old) objects.old first.old second.old }
-    ensures beside { OnOk result (AreBeside (R.linked kernel.new) (R.known kernel.new) (R.program kernel.new) (R.made kernel.new) objects.new first.new second.new) }
+    requires { AreBeside (R.linked kernel.old) (R.known kernel.old) (R.program kernel.old) (R.made kernel.old) objects.old first.old second.old }
+    ensures { OnOk result (AreBeside (R.linked kernel.new) (R.known kernel.new) (R.program kernel.new) (R.made kernel.new) objects.new first.new second.new) }
 {
-    turn(rt, kernel, first, "0: ", units, objects, trace, host, steps)?;
-    turn(
-        rt, kernel, second, "1: ", units, objects, trace, host, steps,
-    )
+    turn(rt, kernel, first, "0: ", units, objects, trace, host)?;
+    turn(rt, kernel, second, "1: ", units, objects, trace, host)
 }
 
 // Takes the rounds of two tasks.
-fn take_rounds<R: Runtime, L: Ledger>(
+fn take_rounds<R: Runtime>(
     rt: &HostRuntime,
     kernel: &mut R,
     first: &mut Task,
@@ -45,9 +40,8 @@ fn take_rounds<R: Runtime, L: Ledger>(
     objects: &mut ObjectStore,
     trace: &TraceFilter,
     host: &HostTable,
-    steps: &mut Steps<L>,
 ) -> Result<(), NotTaken>
-    requires beside { AreBeside (R.linked kernel.old) (R.known kernel.old) (R.program kernel.old) (R.made kernel.old) objects.old first.old second.old }
+    requires { AreBeside (R.linked kernel.old) (R.known kernel.old) (R.program kernel.old) (R.made kernel.old) objects.old first.old second.old }
 {
     tell_task(rt, "0: ", Ending::Going, &*first)?;
     tell_task(rt, "1: ", Ending::Going, &*second)?;
@@ -61,21 +55,19 @@ fn take_rounds<R: Runtime, L: Ledger>(
             objects,
             trace,
             host,
-            steps,
         )?;
     }
     Ok(())
 }
 
 // Starts the second of two tasks, and takes their rounds.
-fn go_with<R: Runtime, L: Ledger>(
+fn go_with<R: Runtime>(
     rt: &HostRuntime,
     kernel: &mut R,
     first: &mut Task,
     rounds: &[u8],
     trace: &TraceFilter,
     host: &HostTable,
-    steps: &mut Steps<L>,
 ) -> Result<(), NotTaken>
     requires stands { StandsAnywhere (R.linked kernel.old) (R.known kernel.old) (R.program kernel.old) (R.made kernel.old) first.old }
     requires none { first.old.task.serials ≡ [] }
@@ -92,19 +84,17 @@ fn go_with<R: Runtime, L: Ledger>(
         &mut objects,
         trace,
         host,
-        steps,
     )
 }
 
 /// Starts two tasks over one store, and gives each a turn by as many units as each digit says.
-pub fn go_beside<R: Runtime, L: Ledger>(
+pub fn go_beside<R: Runtime>(
     rt: &HostRuntime,
     kernel: &mut R,
     rounds: &[u8],
     trace: &TraceFilter,
     host: &HostTable,
-    steps: &mut Steps<L>,
 ) -> Result<(), NotTaken> {
     let mut first = start(rt.alloc(), &*kernel)?;
-    go_with(rt, kernel, &mut first, rounds, trace, host, steps)
+    go_with(rt, kernel, &mut first, rounds, trace, host)
 }

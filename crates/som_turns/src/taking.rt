@@ -1,5 +1,3 @@
-ghost use Rattle.std.specs.Prelude.{◌≡◌, ◌<◌};
-
 use crate::alone::go_alone;
 use crate::beside::go_beside;
 use crate::fuels::compare_all;
@@ -8,32 +6,23 @@ use som_classmgr::{Kernel, Linked};
 use som_host::{HostTable, host_entry, host_table};
 use som_model::{HostCode, Text};
 use som_runtime::Runtime;
-use som_tables::Steps;
 use som_telling::{TraceChoice, TraceFilter, trace_filter};
-use std::marker::Brand;
-use std::sync::ledger::{Blank, Ledger};
 
-// Does what is asked, with a count of steps of its own.
-fn take_by<R: Runtime, L: Ledger>(
+// Does what is asked with any linked kernel.
+fn take_by<R: Runtime>(
     rt: &HostRuntime,
     kind: &str,
     kernel: &mut R,
     digits: &[u8],
     trace: &TraceFilter,
     host: &HostTable,
-    blank: Blank,
-) -> Result<(), NotTaken>
-    requires name { blank.name ≡ L.name }
-    requires parts { blank.parts ≡ L.parts }
-    requires some { 0 < blank.parts }
-{
-    let mut steps: Steps<L> = Steps::new(blank);
+) -> Result<(), NotTaken> {
     if kind == "alone" {
-        go_alone(rt, kernel, digits, trace, host, &mut steps)
+        go_alone(rt, kernel, digits, trace, host)
     } else if kind == "beside" {
-        go_beside(rt, kernel, digits, trace, host, &mut steps)
+        go_beside(rt, kernel, digits, trace, host)
     } else if kind == "fuels" {
-        compare_all(rt, kernel, digits, trace, host, &mut steps)
+        compare_all(rt, kernel, digits, trace, host)
     } else {
         Err(NotTaken::Word)
     }
@@ -59,5 +48,5 @@ pub fn take_on(
             Box::new(alloc, |x: i32, y: i32| x.wrapping_add(y))?,
         ),
     );
-    take_by::<Kernel<Linked>, Brand>(rt, kind, kernel, digits, &trace, &host, Blank::new(1))
+    take_by(rt, kind, kernel, digits, &trace, &host)
 }

@@ -11,9 +11,7 @@ use som_io::MemSink;
 use som_model::Text;
 use som_objects::ObjectStore;
 use som_runtime::Runtime;
-use som_tables::Steps;
 use som_telling::TraceFilter;
-use std::sync::ledger::Ledger;
 
 /// The number that a digit stands for.
 pub fn number_of(digit: u8) -> Result<u32, NotTaken> {
@@ -25,7 +23,7 @@ pub fn number_of(digit: u8) -> Result<u32, NotTaken> {
 
 /// A turn of a task of this name: it goes on by these units, if it is live, and what it told is printed, and then how far it
 /// has come.
-pub fn turn<R: Runtime, L: Ledger>(
+pub fn turn<R: Runtime>(
     rt: &HostRuntime,
     kernel: &mut R,
     task: &mut Task,
@@ -34,9 +32,8 @@ pub fn turn<R: Runtime, L: Ledger>(
     objects: &mut ObjectStore,
     trace: &TraceFilter,
     host: &HostTable,
-    steps: &mut Steps<L>,
 ) -> Result<(), NotTaken>
-    requires stands { CanGoOn (R.linked kernel.old) (R.known kernel.old) (R.program kernel.old) (R.made kernel.old) objects.old task.old }
+    requires { CanGoOn (R.linked kernel.old) (R.known kernel.old) (R.program kernel.old) (R.made kernel.old) objects.old task.old }
     ensures stands { OnOk result (CanGoOn (R.linked kernel.new) (R.known kernel.new) (R.program kernel.new) (R.made kernel.new) objects.new task.new) }
     ensures beside { OnOk result ((other : Waiting) → AreBeside (R.linked kernel.old) (R.known kernel.old) (R.program kernel.old) (R.made kernel.old) objects.old task.old other
         → AreBeside (R.linked kernel.new) (R.known kernel.new) (R.program kernel.new) (R.made kernel.new) objects.new task.new other) }
@@ -49,7 +46,7 @@ pub fn turn<R: Runtime, L: Ledger>(
     let prefix = Text::from_slice(alloc, name.as_bytes())?;
     let mut text = MemSink::new(alloc);
     let ending = go_on(
-        alloc, kernel, task, units, objects, trace, host, &prefix, &mut text, steps,
+        alloc, kernel, task, units, objects, trace, host, &prefix, &mut text,
     )?;
     tell_text(rt, &text)?;
     tell_task(rt, name, ending, &*task)

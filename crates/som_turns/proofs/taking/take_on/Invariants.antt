@@ -1,4 +1,0 @@
-use Rattle.som_turns.proofs.taking.take_on.Given as goal
-
-abbrev pub ghosts-take_by : goal.ghosts-take_by
-ghosts-take_by a = record { name = a.blank.name; parts = a.blank.parts }
