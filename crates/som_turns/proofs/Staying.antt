@@ -1,5 +1,5 @@
 -- A task that went on, and another beside it.
-use Rattle.std.proofs.Common.{◌≡◌, ℕ, suc, ◌+◌, ◌<◌, ◌≤◌, ◌==◌, ◌⊎◌, inl, inr, Bool, true, false, if◌then◌else◌, Result, Ok, Err, List, [], ◌∷◌, ◌++◌, length, Option, refl, sym, ap, subst, ◌∙◌, arith}
+use Rattle.std.proofs.Common.{◌≡◌, ℕ, suc, ◌+◌, ◌<◌, ◌≤◌, ◌==◌, ◌⊎◌, inl, inr, Bool, true, false, if◌then◌else◌, Result, Ok, Err, List, [], ◌∷◌, ◌++◌, length, Option, refl, sym, subst, ◌∙◌, arith}
 use Rattle.std.specs.Prelude.{OnOk}
 use Rattle.som_model.specs.declared.key.ClassKey.{ClassKey}
 use Rattle.som_model.specs.declared.syntax.Block.{Block}
@@ -15,7 +15,7 @@ use Rattle.som_exec.specs.declared.advanced.Advanced.{Advanced}
 use Rattle.som_exec.specs.declared.advanced.Advanced.TheVariants as answers
 use Rattle.som_exec.specs.declared.task.Task.{Task}
 use Rattle.som_exec.specs.Advance.{Comes, IfGoing}
-use Rattle.som_exec.specs.Stands.{IsStanding, Stands, StandsAnywhere}
+use Rattle.som_exec.specs.Stands.{Stands, StandsAnywhere}
 use Rattle.som_exec.proofs.Sparing.{stands_still}
 use Rattle.som_runner.specs.Going.{is_going}
 use Rattle.som_turns.specs.Beside.{AreBeside, CanGoOn}
