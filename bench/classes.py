@@ -35,11 +35,13 @@ def interfaces(shape, count, is_newer):
 
 def bodies(count, is_newer):
     extra = (lambda k: f"G{k}::x{k}() {{ return {k}; }}\n") if is_newer else (lambda k: "")
-    return "".join(f"G{k}::tell() {{ return {k}; }}\nG{k}::m{k}(n) {{ somThis.a{k} = n; return n + {k}; }}\n{extra(k)}" for k in range(count))
+    return "".join(f"G{k}::tell() {{ return {k}; }}\nG{k}::m{k}(n) {{ somThis.a{k} = n; return n + {k}; }}\n{extra(k)}"
+                   for k in range(count))
 
 
 def main_of(count):
-    calls = "".join(f"  s = host wrapadd(s, (new G{k}).m{k}({k}));\n  s = host wrapadd(s, (new G{k}).tell());\n" for k in range(count))
+    calls = "".join(f"  s = host wrapadd(s, (new G{k}).m{k}({k}));\n  s = host wrapadd(s, (new G{k}).tell());\n"
+                    for k in range(count))
     return f"main\n{{\n  var s : long = 0;\n{calls}  print s;\n}}\n"
 
 
@@ -74,9 +76,11 @@ def source(name, count, is_newer):
 
 def client_source(count):
     """Objects come from a function that the compiler doesn't look into, so that the calls go by the tables of methods."""
-    calls = "".join(f"  s += static_cast<unsigned>(made<G{k}>()->m{k}({k}));\n  s += static_cast<unsigned>(made<G{k}>()->tell());\n" for k in range(count))
+    number = "static_cast<unsigned>"
+    calls = "".join(f"  s += {number}(made<G{k}>()->m{k}({k}));\n  s += {number}(made<G{k}>()->tell());\n" for k in range(count))
     made = "template <class T> __attribute__((noipa)) T *made() { return new T; }\n"
-    return f'#include "old.h"\n#include <iostream>\n{made}int main()\n{{\n  unsigned s = 0;\n{calls}  std::cout << static_cast<int>(s) << std::endl;\n}}\n'
+    end = "  std::cout << static_cast<int>(s) << std::endl;\n"
+    return f'#include "old.h"\n#include <iostream>\n{made}int main()\n{{\n  unsigned s = 0;\n{calls}{end}}}\n'
 
 
 # ---- Python
@@ -84,7 +88,8 @@ def client_source(count):
 def module_class(shape, k):
     above = ", ".join(f"G{parent}" for parent in parents(shape, k)) or "object"
     init = "    def __init__(self):\n        self.a0 = 0\n" if k == 0 else ""
-    return f"class G{k}({above}):\n{init}    def tell(self):\n        return {k}\n    def m{k}(self, n):\n        self.a{k} = n\n        return n + {k}\n"
+    tell = f"    def tell(self):\n        return {k}\n"
+    return f"class G{k}({above}):\n{init}{tell}    def m{k}(self, n):\n        self.a{k} = n\n        return n + {k}\n"
 
 
 def module(shape, count):

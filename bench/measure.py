@@ -1,4 +1,4 @@
-#!/usr/bin/env python3
+#!/usr/bin/env -S python3 -B
 """Measures som on made inputs beside what people use instead, and writes the tables of docs/PERFORMANCE.md.
 
     bench/measure.py PROGRAM [--rounds N] [--only WORD..] [--page FILE]
@@ -7,8 +7,8 @@ PROGRAM is the built program. It is run by hand, as `make bench`, and is no part
 and GNU /usr/bin/time, and takes the rest where it is installed: omniidl, g++, abidiff. A command that isn't there has no row.
 
 Seconds are those of the processor, the user's and the system's, as wait4 tells them: the least of several runs. Memory is the peak
-of one run, as /usr/bin/time tells it. Each command has a minute on the clock, 2 GB and a native stack of 8 MB. Temporary files
-stand in a folder that is deleted. `classes.py` says what the releases are, `clients.py` what the loops of the runner are,
+of one run, as /usr/bin/time tells it. Each command has a minute of the processor, 2 GB and a native stack of 8 MB. Temporary
+files stand in a folder that is deleted. `classes.py` says what the releases are, `clients.py` what the loops of the runner are,
 `timing.py` how a growth is fitted.
 
 --only measures just some of the tables `classes`, `loops`, `growth`, and prints them; the page is written where all are measured.
@@ -29,7 +29,7 @@ import timing
 
 SHAPES = ("tree", "ladder")
 SIZES = (1, 25, 100, 400, 1000, 4000)
-TURNS = {"som": 200_000, "C++": 2_000_000, "Python": 200_000}
+TURNS = {"som": 200_000, "C++": 10_000_000, "Python": 3_000_000}
 SLOW_TURNS = 200_000
 TOTAL_CALLS = 819_200
 DEPTHS = (16, 256, 1024, 4096)
@@ -44,7 +44,7 @@ LOOPS = ["g++", "-O2", "-fno-optimize-sibling-calls"]
 
 @dataclasses.dataclass(frozen=True)
 class Step:
-    """A command of the table of classes: the files that it needs and the file that it makes, its good statuses and what it prints."""
+    """A command of the table of classes: the files that it needs, the file that it makes, its good statuses, what it prints."""
     name: str
     command: list
     needs: tuple = ()
@@ -160,7 +160,7 @@ def class_table(program, rounds):
 
 def built_loops(program, folder):
     """Writes and builds what the loops need. Whether g++ is there."""
-    for name, content in (("r.idl", clients.INTERFACES), ("r.bod", clients.BODIES), ("cells.h", clients.HEADER), ("cells.cpp", clients.SOURCE), ("loops.cpp", clients.cpp_main()), ("cells.py", clients.MODULE), ("loops.py", clients.python_main())):
+    for name, content in clients.FILES.items():
         write(folder, name, content)
     subprocess.run([program, "library", "r", "r.idl", "r.bod"], cwd=folder, check=True)
     if not is_installed(["g++"]):
@@ -170,11 +170,11 @@ def built_loops(program, folder):
     return True
 
 
-def som_loop(program, folder, main, fuel):
+def som_loop(program, folder, main, fuel, name="l"):
     """The command that runs a main, once it is compiled."""
     write(folder, "l.main", main)
-    subprocess.run([program, "client", "l", "r", "l.main"], cwd=folder, check=True)
-    return [program, "run", "l", "r", "--fuel", str(fuel)]
+    subprocess.run([program, "client", name, "r", "l.main"], cwd=folder, check=True)
+    return [program, "run", name, "r", "--fuel", str(fuel)]
 
 
 def cpp_loop(key, turns, depth=0):
@@ -210,12 +210,11 @@ def a_turn(commands, turns, folder, rounds):
 def loop_row(program, folder, key, has_cpp, rounds):
     client = clients.CLIENTS[key]
     check_units(program, folder, key, client)
-    command = som_loop(program, folder, clients.main_of(client, TURNS["som"]), clients.units_of(client, TURNS["som"]))
-    shutil.copy(pathlib.Path(folder, "l"), pathlib.Path(folder, "many"))
-    none = som_loop(program, folder, clients.main_of(client, 0), clients.units_of(client, TURNS["som"]))
-    command[2] = "many"
-    nanoseconds, megabytes = a_turn((none, command), TURNS["som"], folder, rounds)
-    cells = [client.name, str(client.units), f"{nanoseconds:,.0f}", f"{client.units / nanoseconds * 1e9:,.0f}", f"{megabytes:.1f}"]
+    fuel = clients.units_of(client, TURNS["som"])
+    many = som_loop(program, folder, clients.main_of(client, TURNS["som"]), fuel, "many")
+    none = som_loop(program, folder, clients.main_of(client, 0), fuel)
+    nanoseconds, megabytes = a_turn((none, many), TURNS["som"], folder, rounds)
+    cells = [client.name, str(client.units), f"{nanoseconds:,.0f}", f"{client.units / nanoseconds * 1e3:.1f}", f"{megabytes:.1f}"]
     for language, text, loop in (("C++", client.cpp if has_cpp else "", cpp_loop), ("Python", client.python, python_loop)):
         turns = TURNS[language] if key not in ("line", "kept") else SLOW_TURNS
         taken = a_turn((loop(key, 0), loop(key, turns)), turns, folder, rounds) if text else None
@@ -225,7 +224,7 @@ def loop_row(program, folder, key, has_cpp, rounds):
 
 
 def loop_table(program, rounds):
-    yield "| A turn of the loop | Units | Nanoseconds | Units a second | Peak MB | C++ nanoseconds | Python nanoseconds |"
+    yield "| A turn of the loop | Units | Nanoseconds | Million units a second | Peak MB | C++ nanoseconds | Python nanoseconds |"
     yield "|---|---|---|---|---|---|---|"
     with tempfile.TemporaryDirectory() as folder:
         has_cpp = built_loops(program, folder)
@@ -238,7 +237,7 @@ def loop_table(program, rounds):
 def growth_row(name, size, commands, folder, rounds):
     """A row with seconds and memory of som, C++ and Python."""
     cells = [measured(command, folder, rounds) if command else None for command in commands]
-    texts = ["" if cell is None else cell if isinstance(cell, str) else f"{timing.seconds_text(cell)}, {cell.megabytes:.1f}" for cell in cells]
+    texts = [f"{timing.seconds_text(cell)}, {cell.megabytes:.1f}" if isinstance(cell, timing.Taken) else cell or "" for cell in cells]
     print(name, size, texts, file=sys.stderr, flush=True)
     return f"| {name} | {size:,} | {' | '.join(texts)} |"
 
@@ -254,13 +253,15 @@ def amounts_of(program, folder, key, name, has_cpp, rounds):
 def depths_of(program, folder, has_cpp, rounds):
     """Calls to a depth, as many in all at each depth; one deeper than the deepest has to be a fault."""
     fuel = 4 * TOTAL_CALLS
-    deepest = timing.run_once(som_loop(program, folder, clients.deep_main(DEPTHS[-1] + 1, 1), fuel), folder, is_printed=True)
+    too_deep = som_loop(program, folder, clients.deep_main(DEPTHS[-1] + 1, 1), fuel)
+    deepest = timing.run_once(too_deep, folder, is_printed=True)
     if (deepest.status, deepest.printed) != (1, b"fault Depth in Cell::down\n"):
         sys.exit(f"one call too deep ended with {deepest.status} and {deepest.printed[:80]}")
     for depth in DEPTHS:
         turns = TOTAL_CALLS // depth
+        som = som_loop(program, folder, clients.deep_main(depth, turns), fuel)
         peers = [cpp_loop("deep", turns, depth) if has_cpp else None, python_loop("deep", turns, depth)]
-        yield growth_row(f"depth of {TOTAL_CALLS:,} calls", depth, [som_loop(program, folder, clients.deep_main(depth, turns), fuel), *peers], folder, rounds)
+        yield growth_row(f"depth of {TOTAL_CALLS:,} calls", depth, [som, *peers], folder, rounds)
 
 
 def most_classes(program, folder, rounds):

@@ -9,7 +9,9 @@ import tempfile
 import threading
 
 TIME = "/usr/bin/time"
+LIMITED = ["/bin/sh", "-c", 'ulimit -t "$0"; exec "$@"']
 LIMIT_SECONDS = 60
+LIMIT_CLOCK = 240
 LIMIT_BYTES = 2 << 30
 STACK_BYTES = 8 << 20
 MOST_RUNS = 40
@@ -41,16 +43,17 @@ def set_limits():
 
 
 def run_once(command, folder, environment=None, is_printed=False):
-    """Runs a command, and kills it with all that it started where it takes more than a minute on the clock."""
+    """Runs a command, and kills it with all that it started where it takes far too long on the clock."""
     late = threading.Event()
     with tempfile.TemporaryFile() as output:
         sink = output if is_printed else subprocess.DEVNULL
-        process = subprocess.Popen(command, cwd=folder, env=environment, stdin=subprocess.DEVNULL, stdout=sink, stderr=subprocess.DEVNULL, start_new_session=True)
+        process = subprocess.Popen(command, cwd=folder, env=environment, stdin=subprocess.DEVNULL, stdout=sink,
+                                   stderr=subprocess.DEVNULL, start_new_session=True)
 
         def stop():
             late.set()
             os.killpg(process.pid, signal.SIGKILL)
-        timer = threading.Timer(LIMIT_SECONDS, stop)
+        timer = threading.Timer(LIMIT_CLOCK, stop)
         timer.start()
         _, status, usage = os.wait4(process.pid, 0)
         timer.cancel()
@@ -62,12 +65,13 @@ def run_once(command, folder, environment=None, is_printed=False):
 def measure(command, folder, rounds, environment=None, good=(0,)):
     """What a command takes, or in a word why it can't be told."""
     with tempfile.NamedTemporaryFile("r") as told:
-        first = run_once([TIME, "-q", "-o", told.name, "-f", "%M", *command], folder, environment)
-        if first.is_late:
-            return "over 60 s"
-        if first.status not in good:
-            return "gave up"
-        megabytes = int(told.read().split()[-1]) / 1024
+        first = run_once([*LIMITED, str(LIMIT_SECONDS), TIME, "-q", "-o", told.name, "-f", "%M", *command], folder, environment)
+        kilobytes = told.read().split()
+    if first.is_late or first.seconds >= LIMIT_SECONDS - 1:
+        return f"over {LIMIT_SECONDS} s"
+    if first.status not in good:
+        return "over 2 GB" if kilobytes and int(kilobytes[-1]) << 10 > LIMIT_BYTES // 2 else "gave up"
+    megabytes = int(kilobytes[-1]) / 1024
     left = 0 if first.seconds > 5 else min(MOST_RUNS, max(rounds, math.ceil(0.2 / max(first.seconds, 0.001))))
     runs = [run_once(command, folder, environment) for _ in range(left)]
     return Taken(min([first.seconds, *(run.seconds for run in runs if run.status in good and not run.is_late)]), megabytes)
