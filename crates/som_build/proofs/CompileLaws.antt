@@ -1,6 +1,6 @@
 -- What each step answers and leaves of a command that compiles something and puts its image is what the command does.
-use Rattle.std.proofs.Common.{◌≡◌, ℕ, ◌≤◌, List, Option, Some, None, Result, Ok, Err, sym, subst, inl, inr, arith}
-use Rattle.som_io.specs.Outside.{Rose}
+use Rattle.std.proofs.Common.{◌≡◌, ℕ, ◌≤◌, List, Option, Some, None, Result, Ok, Err, sym, subst, inl, inr}
+use Rattle.som_io.proofs.ShownLaws.{rose_earlier}
 use Rattle.som_model.specs.declared.program.Interface.{Interface}
 use Rattle.som_model.specs.Bytes.{Files}
 use Rattle.som_model.specs.Class.{interface_of}
@@ -115,9 +115,6 @@ client_image_stored files before new out library names parts image count now res
     made_stored CompilesParts files before new out (parts_in library names) parts image count now result same f g cause s
 
 -- ---- where the store failed
-
-rose_earlier : (count mid now : ℕ) → count ≤ mid → Rose mid now → Rose count now
-rose_earlier count mid now le r = omega arith
 
 have_image : {A : Type 0} (Comes : Compiling A) (files : Option Files) (got : Files → Result A Refusal) (x : A) (image : List ℕ) → FollowsTold files (Ok x) got → Compiled (Comes x) (Ok image)
     → HaveImage files (λ told. IsMade Comes (got told))

@@ -1,6 +1,6 @@
 -- The parts of a client: its library and its texts, one after the other.
-use Rattle.std.proofs.Common.{◌≡◌, ℕ, ◌≤◌, List, Option, Some, None, Result, Ok, Err, sym, ap, subst, ◌∙◌, inl, inr, arith}
-use Rattle.som_io.specs.Outside.{Rose}
+use Rattle.std.proofs.Common.{◌≡◌, ℕ, ◌≤◌, List, Option, Some, None, Result, Ok, Err, sym, ap, subst, ◌∙◌, inl, inr}
+use Rattle.som_io.proofs.ShownLaws.{rose_earlier}
 use Rattle.som_model.specs.declared.program.Release.{Release}
 use Rattle.som_model.specs.Bytes.{Files}
 use Rattle.som_model.specs.Steps.{◌>>=◌}
@@ -78,9 +78,6 @@ all_there (Some told) now library names bytes texts base same f g h =
     all_parts library names told bytes texts base f (subst (λ (x : Option Files). FollowsTold x (Ok texts) (texts_in names)) same g) h
 
 -- ---- where the store failed
-
-rose_earlier : (count mid now : ℕ) → count ≤ mid → Rose mid now → Rose count now
-rose_earlier count mid now le r = omega arith
 
 has_bytes : (files : Option Files) (name bytes : List ℕ) → FollowsTold files (Ok bytes) (file_of name) → Has files name
 has_bytes None name bytes f = tt

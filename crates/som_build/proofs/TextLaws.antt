@@ -2,7 +2,7 @@
 use Rattle.std.proofs.Common.{◌≡◌, ℕ, ◌+◌, ◌<◌, ◌≤◌, Bool, true, false, if◌then◌else◌, nat_le, List, [], ◌∷◌, ◌++◌, length, take, drop, get_or, codes, Option, Some, None, Result, Ok, Err, refl, sym, ap, subst, ◌∙◌, append_assoc, arith}
 use Rattle.std.proofs.lemmas.Grind.{common_steps}
 use Rattle.std.proofs.lemmas.List.{map-append, take_more, take_all, take-append-drop}
-use Rattle.som_io.specs.Outside.{Rose}
+use Rattle.som_io.proofs.ShownLaws.{rose_earlier}
 use Rattle.som_model.specs.declared.limits.TheConstants.{MAX_BYTES}
 use Rattle.som_model.specs.Bytes.{Files}
 use Rattle.som_model.specs.Steps.{◌>>=◌}
@@ -172,9 +172,6 @@ texts_more before (n ∷ ns) ms files ss e =
     ∙ ap (λ (k : ℕ). before_all (p.first ∷ p.others) (texts_after k ms files)) (sum_parts before (length p.first.bytes) (bytes_in p.others)))
 
 -- ---- the loop
-
-rose_earlier : (count later now : ℕ) → count ≤ later → Rose later now → Rose count now
-rose_earlier count later now le r = omega arith
 
 -- the texts under these names are there, where the files are told
 abbrev pub Got : Option Files → List (List ℕ) → List Source → Type 0

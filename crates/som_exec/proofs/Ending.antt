@@ -1,5 +1,5 @@
 -- What a run of a task comes to, after units were granted, is what an advance comes to.
-use Rattle.std.proofs.Common.{◌≡◌, ◌+◌, ℕ, Bool, true, false, List, [], ◌++◌, length, drop, Option, Some, None, Result, Ok, Err, if◌then◌else◌, refl, sym, ap, subst, ◌∙◌, append_assoc, append-nil}
+use Rattle.std.proofs.Common.{◌≡◌, ◌+◌, ℕ, Bool, true, false, List, [], ◌++◌, length, drop, Option, Result, Ok, Err, if◌then◌else◌, refl, sym, ap, subst, ◌∙◌, append_assoc, append-nil}
 use Rattle.std.proofs.Math.Seq.{drop-append_seam}
 use Rattle.std.specs.List.{concat}
 use Rattle.std.proofs.lemmas.List.{map-append}
@@ -13,6 +13,7 @@ use Rattle.som_model.specs.State.{Event, State}
 use Rattle.som_model.specs.Runs.{Ran, Goes, Ends, Faulted, Spent, end_of, with_more}
 use Rattle.som_model.specs.RunText.{event_lines, events_lines, with_prefix}
 use Rattle.som_io.specs.Outside.{ShowsAll, ShowsFront}
+use Rattle.som_io.proofs.ShownLaws.{front_all, front_both, front_longer, shows_both}
 use Rattle.som_telling.specs.declared.running.Place.{Place}
 use Rattle.som_telling.specs.Told.{end_text}
 use Rattle.som_task.specs.Own.{IsOwnPlace}
@@ -39,28 +40,6 @@ text_of prefix lines = concat (with_prefix prefix lines)
 
 text_both : (prefix : List ℕ) (xs ys : List (List ℕ)) → text_of prefix (xs ++ ys) ≡ text_of prefix xs ++ text_of prefix ys
 text_both prefix xs ys = ap concat (map-append (λ line. prefix ++ line) xs ys) ∙ concat-append (with_prefix prefix xs) (with_prefix prefix ys)
-
-shown_both : (before mid after : Option (List ℕ)) (a b : List ℕ) → ShowsAll before mid a → ShowsAll mid after b → ShowsAll before after (a ++ b)
-shown_both None mid after a b p q = tt
-shown_both (Some o) mid after a b p q = subst (λ z. ShowsAll z after b) p q ∙ ap Some (append_assoc o a b)
-
-front_shown : (o : List ℕ) (mid after : Option (List ℕ)) (a b : List ℕ) → mid ≡ Some (o ++ a) → ShowsFront mid after b → ShowsFront (Some o) after (a ++ b)
-front_shown o mid after a b p q =
-    let f : ShowsFront (Some (o ++ a)) after b = subst (λ z. ShowsFront z after b) p q in
-    (f.0, (a ++ f.1.0, append_assoc a f.1.0 f.0 ∙ ap (λ z. a ++ z) f.1.1, f.1.2 ∙ ap Some (append_assoc o a f.1.0)))
-
-front_both : (before mid after : Option (List ℕ)) (a b : List ℕ) → ShowsAll before mid a → ShowsFront mid after b → ShowsFront before after (a ++ b)
-front_both None mid after a b p q = ([], tt)
-front_both (Some o) mid after a b p q = front_shown o mid after a b p q
-
--- a front of a text is one of a longer text
-front_longer : (before after : Option (List ℕ)) (a b : List ℕ) → ShowsFront before after a → ShowsFront before after (a ++ b)
-front_longer None after a b p = ([], tt)
-front_longer (Some o) after a b p = (p.0 ++ b, (p.1.0, sym (append_assoc p.1.0 p.0 b) ∙ ap (λ z. z ++ b) p.1.1, p.1.2))
-
-front_all : (before after : Option (List ℕ)) (a : List ℕ) → ShowsAll before after a → ShowsFront before after a
-front_all None after a p = ([], tt)
-front_all (Some o) after a p = ([], (a, append-nil a, p))
 
 -- ---- what it was before
 
@@ -241,7 +220,7 @@ module _ (old : Scene) (units : ℕ) (st : Stands old) where
 
     pub fault_comes : (a : Advanced) → EndsBy prefix told after f (place_shown (setting_of new) at) a → Comes old units shows prefix before after new a
     fault_comes (answers.SourceFault r running) e =
-        let text = subst (ShowsAll before after) (sym text_now) (shown_both before told after (text_of prefix (events_lines shows ran.events)) last ran.outside.tells e.2) in
+        let text = subst (ShowsAll before after) (sym text_now) (shows_both before told after (text_of prefix (events_lines shows ran.events)) last ran.outside.tells e.2) in
         record {
           events = told_first shows prefix before told new (Err (stops.Fault f at)) ran;
           ended = (place_shown (setting_of new) at, x.then, named r e.0, e.1);

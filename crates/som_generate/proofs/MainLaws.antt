@@ -1,5 +1,5 @@
 -- What is printed of main and after it.
-use Rattle.std.proofs.Common.{◌≡◌, ◌≢◌, ℕ, ◌≤◌, Bool, List, [], ◌++◌, Option, refl, sym, ap, subst, ◌∙◌, arith}
+use Rattle.std.proofs.Common.{◌≡◌, ◌≢◌, ℕ, ◌≤◌, List, [], ◌++◌, Option, refl, sym, ap, subst, ◌∙◌, arith}
 use Rattle.std.proofs.lemmas.List.{append-nil}
 use Rattle.som_io.specs.Outside.{Rose, ShowsAll, ShowsFront}
 use Rattle.som_model.specs.declared.limits.TheConstants.{DEFAULT_FUEL}
@@ -9,11 +9,10 @@ use Rattle.som_model.specs.declared.syntax.Block.{Block}
 use Rattle.som_model.specs.Class.{Class}
 use Rattle.som_model.specs.Classes.{classes}
 use Rattle.som_model.specs.Means.{means, means_in}
-use Rattle.som_model.specs.Runs.{Ran, Goes, Ends, Faulted, Spent, end_of}
+use Rattle.som_model.specs.Runs.{Ran, Goes, Spent, end_of}
 use Rattle.som_model.specs.RunText.{no_trace, run_status, run_text}
-use Rattle.som_model.specs.State.{Place, State}
+use Rattle.som_model.specs.State.{State}
 use Rattle.som_model.specs.World.{World, world}
-use Rattle.som_model.specs.declared.program.Fault.{Fault}
 use Rattle.som_classmgr.specs.Asking.{answers_of}
 use Rattle.som_classmgr.specs.Linked.{Linkage}
 use Rattle.som_exec.specs.declared.outcome.Outcome.{Outcome}
@@ -23,7 +22,8 @@ use Rattle.som_ran.specs.Mains.{RunsTraced}
 use Rattle.som_generate.specs.AfterMain.{EndsAfter}
 use Rattle.som_generate.specs.GenerateAnswer.{left_line, left_text, ran_text}
 use Rattle.som_generate.specs.Printing.{Prints}
-use Rattle.som_generate.proofs.PrintLaws.{all_is_front, longer, none_printed, prints_after}
+use Rattle.som_io.proofs.ShownLaws.{front_all, front_longer}
+use Rattle.som_generate.proofs.PrintLaws.{none_printed, prints_after}
 
 -- ---- after main
 
@@ -46,12 +46,12 @@ module _ (m : Ran (Unit {0})) (before mid now : ℕ) (old told new : Option (Lis
       record {
         ended = λ not8 not10. is ∙ sym ends;
         whole = λ not8 not10. shown;
-        front = all_is_front old new (ran_text m) shown;
+        front = front_all old new (ran_text m) shown;
         cause = λ e. absurd (fine (sym is ∙ e));
       }
 
   front_so : ShowsFront old told (run_text no_trace m) → new ≡ told → ShowsFront old new (ran_text m)
-  front_so f same = longer old new (run_text no_trace m) (left_text m) (subst (λ (x : Option (List ℕ)). ShowsFront old x (run_text no_trace m)) (sym same) f)
+  front_so f same = front_longer old new (run_text no_trace m) (left_text m) (subst (λ (x : Option (List ℕ)). ShowsFront old x (run_text no_trace m)) (sym same) f)
 
   -- the sink failed in it
   sunk : ShowsFront old told (run_text no_trace m) → Rose before mid → status ≡ 8 → new ≡ told → now ≡ mid → Prints (ran_text m) (run_status m) before now old new status

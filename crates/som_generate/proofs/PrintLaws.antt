@@ -1,38 +1,11 @@
 -- Texts that are printed one after the other.
-use Rattle.std.proofs.Common.{◌≡◌, ◌≢◌, ℕ, ◌≤◌, List, [], ◌++◌, Option, Some, None, refl, sym, ap, subst, ◌∙◌, append_assoc, arith}
-use Rattle.std.proofs.lemmas.List.{append-nil}
+use Rattle.std.proofs.Common.{◌≡◌, ◌≢◌, ℕ, ◌≤◌, List, ◌++◌, Option, refl, sym, subst, arith}
 use Rattle.som_io.specs.Line.{SendHasCause, SendsLine}
 use Rattle.som_io.specs.Outside.{Rose, ShowsAll, ShowsFront}
 use Rattle.som_io.specs.declared.line.Sending.{Sending}
 use Rattle.som_io.specs.declared.line.Sending.TheVariants as sending
+use Rattle.som_io.proofs.ShownLaws.{front_all, front_both, front_longer, front_none, rose_earlier, shows_both}
 use Rattle.som_generate.specs.Printing.{Prints, sent_status}
-
--- ---- texts
-
--- a text after another
-shows_more : (old mid new : Option (List ℕ)) (a b : List ℕ) → ShowsAll old mid a → ShowsAll mid new b → ShowsAll old new (a ++ b)
-shows_more None mid new a b f g = tt
-shows_more (Some old) mid new a b f g = subst (λ (m : Option (List ℕ)). ShowsAll m new b) f g ∙ ap (λ (t : List ℕ). Some t) (append_assoc old a b)
-
--- a front of a text after another
-shows_front : (old mid new : Option (List ℕ)) (a b : List ℕ) → ShowsAll old mid a → ShowsFront mid new b → ShowsFront old new (a ++ b)
-shows_front None mid new a b f g = (a ++ b, tt)
-shows_front (Some old) mid new a b f g =
-    let h = subst (λ (m : Option (List ℕ)). ShowsFront m new b) f g in
-    (h.0, (a ++ h.1.0, append_assoc a h.1.0 h.0 ∙ ap (λ (t : List ℕ). a ++ t) h.1.1, h.1.2 ∙ ap (λ (t : List ℕ). Some t) (append_assoc old a h.1.0)))
-
--- a front of a text is one of a longer text
-pub longer : (old new : Option (List ℕ)) (a b : List ℕ) → ShowsFront old new a → ShowsFront old new (a ++ b)
-longer None new a b f = (a ++ b, tt)
-longer (Some old) new a b f = (f.0 ++ b, (f.1.0, sym (append_assoc f.1.0 f.0 b) ∙ ap (λ (t : List ℕ). t ++ b) f.1.1, f.1.2))
-
--- all of a text is a front of it
-pub all_is_front : (old new : Option (List ℕ)) (text : List ℕ) → ShowsAll old new text → ShowsFront old new text
-all_is_front None new text f = (text, tt)
-all_is_front (Some old) new text f = ([], (text, append-nil text, f))
-
-rose_earlier : (count mid now : ℕ) → count ≤ mid → Rose mid now → Rose count now
-rose_earlier count mid now le r = omega (arith, le, r)
 
 -- ---- calls
 
@@ -40,8 +13,8 @@ rose_earlier count mid now le r = omega (arith, le, r)
 pub prints_after : (a b : List ℕ) (end before mid now : ℕ) (old told new : Option (List ℕ)) (status : ℕ) → ShowsAll old told a → before ≤ mid → Prints b end mid now told new status → Prints (a ++ b) end before now old new status
 prints_after a b end before mid now old told new status first le p = record {
   ended = p.ended;
-  whole = λ not8 not10. shows_more old told new a b first (p.whole not8 not10);
-  front = shows_front old told new a b first p.front;
+  whole = λ not8 not10. shows_both old told new a b first (p.whole not8 not10);
+  front = front_both old told new a b first p.front;
   cause = λ e. rose_earlier before mid now le (p.cause e);
 }
 
@@ -50,7 +23,7 @@ pub failed_first : (a b : List ℕ) (end before now : ℕ) (old new : Option (Li
 failed_first a b end before now old new f rose = record {
   ended = λ not8 not10. absurd (not8 refl);
   whole = λ not8 not10. absurd (not8 refl);
-  front = longer old new a b f;
+  front = front_longer old new a b f;
   cause = λ e. rose;
 }
 
@@ -61,20 +34,16 @@ pub starved_first : (a b : List ℕ) (end before now : ℕ) (old new : Option (L
 starved_first a b end before now old new f = record {
   ended = λ not8 not10. absurd (not10 refl);
   whole = λ not8 not10. absurd (not10 refl);
-  front = longer old new a b f;
+  front = front_longer old new a b f;
   cause = λ e. ten_is_no_eight e;
 }
 
 -- nothing was printed for want of memory
-pub nothing_shown : (written : Option (List ℕ)) (text : List ℕ) → ShowsFront written written text
-nothing_shown None text = (text, tt)
-nothing_shown (Some old) text = (text, ([], refl, ap (λ (t : List ℕ). Some t) (sym (append-nil old))))
-
 pub none_printed : (text : List ℕ) (end before now : ℕ) (old new : Option (List ℕ)) → new ≡ old → Prints text end before now old new 10
 none_printed text end before now old new same = record {
   ended = λ not8 not10. absurd (not10 refl);
   whole = λ not8 not10. absurd (not10 refl);
-  front = subst (λ (x : Option (List ℕ)). ShowsFront old x text) (sym same) (nothing_shown old text);
+  front = subst (λ (x : Option (List ℕ)). ShowsFront old x text) (sym same) (front_none old text);
   cause = λ e. ten_is_no_eight e;
 }
 
@@ -84,7 +53,7 @@ sent_prints : (line : List ℕ) (before now : ℕ) (old new : Option (List ℕ))
 sent_prints line before now old new sending.Whole all cause = record {
   ended = λ not8 not10. refl;
   whole = λ not8 not10. all;
-  front = all_is_front old new line all;
+  front = front_all old new line all;
   cause = λ e. absurd (omega (arith, e));
 }
 sent_prints line before now old new sending.Failed front cause = record {

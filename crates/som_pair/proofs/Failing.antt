@@ -1,7 +1,7 @@
 -- Where the store failed.
-use Rattle.std.proofs.Common.{◌≡◌, ◌≤◌, ℕ, List, Option, Some, None, Result, Ok, Err, inl, inr, arith}
+use Rattle.std.proofs.Common.{◌≡◌, ◌≤◌, ℕ, List, Option, Some, None, Result, Ok, Err, inl, inr}
 use Rattle.som_model.specs.Bytes.{Files}
-use Rattle.som_io.specs.Outside.{Rose}
+use Rattle.som_io.proofs.ShownLaws.{rose_earlier}
 use Rattle.som_classmgr.specs.Linked.{Linkage}
 use Rattle.som_steps.specs.declared.stop.CommandStop.{CommandStop}
 use Rattle.som_steps.specs.Fetching.{file_of, Has}
@@ -12,9 +12,6 @@ use Rattle.som_steps.proofs.FileLaws.{found_by}
 use Rattle.som_steps.specs.declared.stop.CommandStop.TheVariants as stops
 use Rattle.som_pair.specs.declared.pair.Pair.{Pair}
 use Rattle.som_pair.specs.Cause.{FailsRunning}
-
-rose_earlier : (count mid now : ℕ) → count ≤ mid → Rose mid now → Rose count now
-rose_earlier count mid now le r = omega arith
 
 has_bytes : (files : Option Files) (name bytes : List ℕ) → FollowsTold files (Ok bytes) (file_of name) → Has files name
 has_bytes None name bytes f = tt

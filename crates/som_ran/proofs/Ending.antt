@@ -1,6 +1,5 @@
 -- The status of a run of main is that of what it came to.
-use Rattle.std.proofs.Common.{◌≡◌, ◌≢◌, ℕ, Bool, List, [], Option, Some, None, refl, sym, ap, subst, ◌∙◌, arith}
-use Rattle.std.proofs.lemmas.List.{append-nil}
+use Rattle.std.proofs.Common.{◌≡◌, ◌≢◌, ℕ, Bool, List, Option, refl, sym, ap, subst, ◌∙◌, arith}
 use Rattle.som_model.specs.declared.key.ClassKey.{ClassKey}
 use Rattle.som_model.specs.declared.syntax.Block.{Block}
 use Rattle.som_model.specs.Class.{Class}
@@ -9,6 +8,7 @@ use Rattle.som_model.specs.Runs.{Ran}
 use Rattle.som_model.specs.RunText.{run_status, run_text}
 use Rattle.som_model.specs.World.{World}
 use Rattle.som_io.specs.Outside.{ShowsAll, ShowsFront}
+use Rattle.som_io.proofs.ShownLaws.{front_none}
 use Rattle.som_exec.specs.Run.{Counts, EndsSo, IfRan}
 use Rattle.som_exec.specs.declared.outcome.Outcome.{Outcome}
 use Rattle.som_exec.specs.declared.outcome.Outcome.TheVariants as outcomes
@@ -64,14 +64,10 @@ runs_so w main fuel shows before now old new all made made' outcome r counts = r
 
 -- ---- where there was no memory to begin
 
-nothing_shown : (written : Option (List ℕ)) (text : List ℕ) → ShowsFront written written text
-nothing_shown None text = (text, tt)
-nothing_shown (Some old) text = (text, ([], refl, ap (λ (t : List ℕ). Some t) (sym (append-nil old))))
-
 pub not_begun : (w : World) (main : Block) (fuel : ℕ) (shows : List ℕ → Bool) (before now : ℕ) (old new : Option (List ℕ)) → new ≡ old → EndsMain w main fuel shows before now old new 10
 not_begun w main fuel shows before now old new same = record {
   ended = λ not8 not10. absurd (not10 refl);
   text = λ not8 not10. absurd (not10 refl);
-  front = subst (λ (x : Option (List ℕ)). ShowsFront old x (run_text shows (means_in w main fuel))) (sym same) (nothing_shown old (run_text shows (means_in w main fuel)));
+  front = subst (λ (x : Option (List ℕ)). ShowsFront old x (run_text shows (means_in w main fuel))) (sym same) (front_none old (run_text shows (means_in w main fuel)));
   cause = λ e. absurd (omega (arith, e));
 }

@@ -1,19 +1,14 @@
 -- Texts that are written one after the other.
 use Rattle.std.proofs.Common.{◌≡◌, ℕ, zero, suc, ◌+◌, ◌<◌, ◌≤◌, List, [], ◌∷◌, ◌++◌, length, get_or, drop, Option, Some, None, sym, ap, subst, ◌∙◌, append_assoc, drop-cons, arith, refl}
 use Rattle.std.specs.List.{concat}
-use Rattle.std.proofs.lemmas.List.{append-nil}
 use Rattle.som_io.specs.Outside.{Shows, ShowsAll, ShowsFront}
+use Rattle.som_io.proofs.ShownLaws.{all_left, front_longer, left_longer}
 use Rattle.som_telling.specs.Told.{bytes_of}
 use denote.Ref.{Bor}
 
--- nothing is written
-pub none_yet : (w : Option (List ℕ)) (t : List ℕ) → Shows w w t t
-none_yet None t = tt
-none_yet (Some b) t = ([], refl, ap (λ (x : List ℕ). Some x) (sym (append-nil b)))
-
 -- nothing waits and all is left
 pub begins : (w : Option (List ℕ)) (text waiting rest : List ℕ) → waiting ≡ [] → rest ≡ text → Shows w w text (waiting ++ rest)
-begins w text waiting rest e f = subst (Shows w w text) (sym (ap (λ (x : List ℕ). x ++ rest) e ∙ f)) (none_yet w text)
+begins w text waiting rest e f = subst (Shows w w text) (sym (ap (λ (x : List ℕ). x ++ rest) e ∙ f)) (all_left w text)
 
 -- of what is left of a text a part is written
 pub onward : (first old new : Option (List ℕ)) (text t u : List ℕ) → Shows first old text t → Shows old new t u → Shows first new text u
@@ -22,28 +17,20 @@ onward (Some b) old new text t u p q =
     let r = subst (λ (o : Option (List ℕ)). Shows o new t u) p.2 q in
     (p.0 ++ r.0, append_assoc p.0 r.0 u ∙ ap (λ (x : List ℕ). p.0 ++ x) r.1 ∙ p.1, r.2 ∙ ap (λ (x : List ℕ). Some x) (append_assoc b p.0 r.0))
 
--- a longer text has a longer rest
-pub longer : (old new : Option (List ℕ)) (t u more : List ℕ) → Shows old new t u → Shows old new (t ++ more) (u ++ more)
-longer None new t u more p = tt
-longer (Some b) new t u more p = (p.0, sym (append_assoc p.0 u more) ∙ ap (λ (x : List ℕ). x ++ more) p.1, p.2)
-
 -- a whole text is written, and what comes after it is left
 pub whole : (old new : Option (List ℕ)) (t more : List ℕ) → ShowsAll old new t → Shows old new (t ++ more) more
 whole None new t more p = tt
 whole (Some b) new t more p = (t, refl, p)
 
--- the same for fronts
+-- the same for a front
 pub front_onward : (first old new : Option (List ℕ)) (text t : List ℕ) → Shows first old text t → ShowsFront old new t → ShowsFront first new text
 front_onward first old new text t p q = (q.0, onward first old new text t q.0 p q.1)
-
-pub front_longer : (old new : Option (List ℕ)) (t more : List ℕ) → ShowsFront old new t → ShowsFront old new (t ++ more)
-front_longer old new t more q = (q.0 ++ more, longer old new t q.0 more q.1)
 
 -- a piece is written after what waited, or waits with it
 
 pub piece_goes : (first old new : Option (List ℕ)) (text waiting waits piece rest : List ℕ) → Shows first old text (waiting ++ (piece ++ rest)) → Shows old new (waiting ++ piece) waits → Shows first new text (waits ++ rest)
 piece_goes first old new text waiting waits piece rest p q =
-    onward first old new text (waiting ++ piece ++ rest) (waits ++ rest) (subst (Shows first old text) (sym (append_assoc waiting piece rest)) p) (longer old new (waiting ++ piece) waits rest q)
+    onward first old new text (waiting ++ piece ++ rest) (waits ++ rest) (subst (Shows first old text) (sym (append_assoc waiting piece rest)) p) (left_longer old new (waiting ++ piece) waits rest q)
 
 pub piece_fronts : (first old new : Option (List ℕ)) (text waiting piece rest : List ℕ) → Shows first old text (waiting ++ (piece ++ rest)) → ShowsFront old new (waiting ++ piece) → ShowsFront first new text
 piece_fronts first old new text waiting piece rest p q =

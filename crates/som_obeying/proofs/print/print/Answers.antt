@@ -7,7 +7,8 @@ use Rattle.som_telling.specs.Told.{event_text}
 use Rattle.som_values.specs.Shown.{shown}
 use Rattle.som_task.specs.Settings.{shows}
 use Rattle.som_moves.specs.Scene.{scene}
-use Rattle.som_obeying.proofs.Telling.{front_none, untold_wants}
+use Rattle.som_io.proofs.ShownLaws.{front_none}
+use Rattle.som_obeying.proofs.Telling.{untold_wants}
 use Rattle.som_obeying.proofs.Special.{print_begins, print_comes, wants_comes}
 use Rattle.som_obeying.proofs.print.print.Goals as goal
 

@@ -1,12 +1,13 @@
 use Rattle.std.proofs.Common.{◌++◌, subst}
 use Rattle.som_io.specs.Outside.{ShowsAll, ShowsFront}
-use Rattle.som_telling.proofs.Lines.{none_yet, whole, front_onward, front_longer}
+use Rattle.som_io.proofs.ShownLaws.{all_left, front_longer}
+use Rattle.som_telling.proofs.Lines.{whole, front_onward}
 use Rattle.som_telling.proofs.line.add.Goals as goal
 
 pub returns-in_err-extend_from_slice-clause-front : goal.returns-in_err-extend_from_slice-clause-front
 returns-in_err-extend_from_slice-clause-front g c =
     let t = c.args.waiting.now.items ++ c.args.piece.now in
-    (t, none_yet (g.K.Sink.written c.args.out.now) t)
+    (t, all_left (g.K.Sink.written c.args.out.now) t)
 
 pub returns-in_err-send_all-clause-front : goal.returns-in_err-send_all-clause-front
 returns-in_err-send_all-clause-front g c =

@@ -2,7 +2,8 @@ use Rattle.std.proofs.Common.{rules, ◌≡◌, ℕ, List, ◌++◌, None, refl,
 use Rattle.std.specs.List.{concat, flat_map}
 use Rattle.som_io.specs.Outside.{Shows, ShowsFront}
 use Rattle.som_telling.specs.Pieces.{AreParts, part_pieces, pieces_left}
-use Rattle.som_telling.proofs.Lines.{none_yet, begins, piece_goes, piece_fronts, ends_front}
+use Rattle.som_io.proofs.ShownLaws.{all_left}
+use Rattle.som_telling.proofs.Lines.{begins, piece_goes, piece_fronts, ends_front}
 use Rattle.som_telling.proofs.Parts.{turned, parts_turned}
 use Rattle.som_telling.proofs.Steps.{next_text, no_text}
 use Rattle.som_telling.proofs.line.send_parts.Goals as goal
@@ -10,7 +11,7 @@ use Rattle.som_telling.proofs.line.send_parts.Goals as goal
 pub returns-in_err-left-clause-front : goal.returns-in_err-left-clause-front
 returns-in_err-left-clause-front g c =
     let t = concat (flat_map (part_pieces (g.N.ClassKeys.known c.args.classes.now)) c.args.parts.now) in
-    (t, none_yet (g.K.Sink.written c.args.out.now) t)
+    (t, all_left (g.K.Sink.written c.args.out.now) t)
 
 pub loop-waiting-init : goal.loop-waiting-init
 loop-waiting-init g c =

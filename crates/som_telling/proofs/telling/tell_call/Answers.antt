@@ -4,18 +4,18 @@ use Rattle.som_telling.specs.Events.{call_event}
 use Rattle.som_telling.specs.Filters.{shows_of}
 use Rattle.som_telling.specs.Told.{event_text}
 use Rattle.som_telling.proofs.EventLines.{call_pieces}
-use Rattle.som_telling.proofs.Lines.{none_yet}
+use Rattle.som_io.proofs.ShownLaws.{all_left}
 use Rattle.som_telling.proofs.telling.tell_call.Goals as goal
 
 pub returns-in_err-is_shown-clause-front : goal.returns-in_err-is_shown-clause-front
 returns-in_err-is_shown-clause-front g c =
     let t = event_text (shows_of c.args.filter.now) c.args.prefix.now (call_event (g.N.ClassKeys.known c.args.classes.now) c.args.call) in
-    (t, none_yet (g.K.Sink.written c.args.out.now) t)
+    (t, all_left (g.K.Sink.written c.args.out.now) t)
 
 pub returns-then-not-branch-clause-front : goal.returns-then-not-branch-clause-front
 returns-then-not-branch-clause-front g c =
     let t = event_text (shows_of c.args.filter.now) c.args.prefix.now (call_event (g.N.ClassKeys.known c.args.classes.now) c.args.call) in
-    (t, none_yet (g.K.Sink.written c.args.out.now) t)
+    (t, all_left (g.K.Sink.written c.args.out.now) t)
 
 pub returns-clause-ok : goal.returns-clause-ok
 returns-clause-ok g c =
