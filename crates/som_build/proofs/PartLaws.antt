@@ -7,13 +7,13 @@ use Rattle.som_model.specs.Steps.{◌>>=◌}
 use Rattle.som_compile.specs.declared.source.Source.{Source}
 use Rattle.som_steps.specs.declared.stop.Refusal.{Refusal}
 use Rattle.som_steps.specs.declared.stop.CommandStop.{CommandStop}
-use Rattle.som_steps.specs.Fetching.{file_of, Has}
+use Rattle.som_steps.specs.Fetching.{file_of}
 use Rattle.som_steps.specs.ImageSteps.{sound_release}
 use Rattle.som_steps.specs.Cause.{HasCause, IsQuietStop}
 use Rattle.som_steps.specs.Lines.{store_failed}
 use Rattle.som_steps.specs.Steps.{Stops, Follows, FollowsTold}
 use Rattle.som_steps.proofs.ImageLaws.{stops_first}
-use Rattle.som_steps.proofs.FileLaws.{found_by}
+use Rattle.som_steps.proofs.FileLaws.{has_bytes}
 use Rattle.som_steps.specs.declared.stop.CommandStop.TheVariants as stops
 use Rattle.som_build.specs.declared.client_parts.ClientParts.{ClientParts}
 use Rattle.som_build.specs.Texts.{texts_in}
@@ -78,10 +78,6 @@ all_there (Some told) now library names bytes texts base same f g h =
     all_parts library names told bytes texts base f (subst (λ (x : Option Files). FollowsTold x (Ok texts) (texts_in names)) same g) h
 
 -- ---- where the store failed
-
-has_bytes : (files : Option Files) (name bytes : List ℕ) → FollowsTold files (Ok bytes) (file_of name) → Has files name
-has_bytes None name bytes f = tt
-has_bytes (Some told) name bytes f = (bytes, found_by _ name bytes f)
 
 pub library_fails : (files : Option Files) (library : List ℕ) (names : List (List ℕ)) (count now : ℕ) (stop : CommandStop) → HasCause {A = List ℕ} (λ line. line ≡ store_failed library) count now (Err stop)
     → HasCause {A = ClientParts} (FailsGettingParts files library names) count now (Err stop)

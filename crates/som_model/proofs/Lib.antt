@@ -1,12 +1,9 @@
 pub mod KeyLaws
 pub mod SameLaws
 pub mod NamedLaws
-pub mod FormLaws
-pub mod NewLaws
-pub mod PrintLaws
+pub mod CallLaws
 pub mod LoopLaws
 pub mod FuelLaws
 pub mod TextLaws
 pub mod MadeLaws
-pub mod ImageLaws
 pub mod TypingLaws

@@ -1,21 +1,17 @@
 -- Where the store failed.
-use Rattle.std.proofs.Common.{◌≡◌, ◌≤◌, ℕ, List, Option, Some, None, Result, Ok, Err, inl, inr}
+use Rattle.std.proofs.Common.{◌≡◌, ◌≤◌, ℕ, List, Option, Result, Ok, Err, inl, inr}
 use Rattle.som_model.specs.Bytes.{Files}
 use Rattle.som_io.proofs.ShownLaws.{rose_earlier}
 use Rattle.som_classmgr.specs.Linked.{Linkage}
 use Rattle.som_steps.specs.declared.stop.CommandStop.{CommandStop}
-use Rattle.som_steps.specs.Fetching.{file_of, Has}
+use Rattle.som_steps.specs.Fetching.{file_of}
 use Rattle.som_steps.specs.Cause.{HasCause, IsQuiet, IsQuietStop}
 use Rattle.som_steps.specs.Lines.{store_failed}
 use Rattle.som_steps.specs.Steps.{FollowsTold}
-use Rattle.som_steps.proofs.FileLaws.{found_by}
+use Rattle.som_steps.proofs.FileLaws.{has_bytes}
 use Rattle.som_steps.specs.declared.stop.CommandStop.TheVariants as stops
 use Rattle.som_pair.specs.declared.pair.Pair.{Pair}
 use Rattle.som_pair.specs.Cause.{FailsRunning}
-
-has_bytes : (files : Option Files) (name bytes : List ℕ) → FollowsTold files (Ok bytes) (file_of name) → Has files name
-has_bytes None name bytes f = tt
-has_bytes (Some told) name bytes f = (bytes, found_by _ name bytes f)
 
 pub client_fails : (files : Option Files) (c l : List ℕ) (count now : ℕ) (stop : CommandStop) → HasCause {A = List ℕ} (λ line. line ≡ store_failed c) count now (Err stop) → HasCause {A = Pair} (FailsRunning files c l) count now (Err stop)
 client_fails files c l count now (stops.StoreFailed line) cause = (cause.0, inl cause.1)
