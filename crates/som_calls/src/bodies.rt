@@ -1,121 +1,74 @@
-use som_model::{
-    Block, Body, ClassDecl, ClassFace, ClientProgram, Entry, Interface, List, NoMemory, Release,
-    Sig, Text, ValueType, Way,
-};
-use som_plain::{plain_class, under_object};
+use crate::images::{HELLO, release_of};
+use crate::programs::{OWN, program_of};
+use som_model::{ClassDecl, ClientProgram, List, Release};
 use som_rules::VerifyFault;
 use som_verify::{program_ok, release_ok};
 use std::alloc::Global;
 use std::test::Fail;
 
-fn method(alloc: Global, name: &[u8]) -> Result<Entry, NoMemory> {
-    Ok(Entry::Introduced {
-        name: Text::from_slice(alloc, name)?,
-        sig: Sig {
-            result: ValueType::Void,
-            params: List::new(alloc),
-        },
-        way: Way::Offset,
-    })
+/// What is taken from a class.
+#[derive(Clone, Copy)]
+enum Taken {
+    Methods,
+    Bodies,
 }
 
-fn entries(alloc: Global, methods: &[&[u8]]) -> Result<List<Entry>, NoMemory> {
-    let mut entries = List::new(alloc);
-    for name in methods {
-        entries.push(method(alloc, *name)?)?;
+fn take_from(alloc: Global, class: &mut ClassDecl, taken: Taken) {
+    match taken {
+        Taken::Methods => class.face.entries = List::new(alloc),
+        Taken::Bodies => class.bodies = List::new(alloc),
     }
-    Ok(entries)
 }
 
-fn face(alloc: Global, methods: &[&[u8]]) -> Result<ClassFace, NoMemory> {
-    Ok(ClassFace {
-        name: Text::from_slice(alloc, b"Dog")?,
-        major: 0,
-        minor: 0,
-        parents: under_object(alloc)?,
-        metaclass: None,
-        entries: entries(alloc, methods)?,
-    })
-}
-
-fn empty_bodies(alloc: Global, count: usize) -> Result<List<Body>, NoMemory> {
-    let mut bodies = List::new(alloc);
-    for _ in 0..count {
-        bodies.push(Body::User(Block {
-            statements: List::new(alloc),
-        }))?;
+// The classes, with this taken from the first of them.
+fn without(alloc: Global, classes: List<ClassDecl>, taken: Taken) -> List<ClassDecl> {
+    let mut classes = classes.into_vec();
+    if let Some(class) = classes.first_mut() {
+        take_from(alloc, class, taken);
     }
-    Ok(bodies)
+    List::from_vec(classes)
 }
 
-// The class Dog alone, with these methods and so many bodies.
-fn dogs(alloc: Global, methods: &[&[u8]], bodies: usize) -> Result<List<ClassDecl>, NoMemory> {
-    let bodies = empty_bodies(alloc, bodies)?;
-    let face = face(alloc, methods)?;
-    let mut classes = List::new(alloc);
-    classes.push(plain_class(alloc, face, bodies))?;
-    Ok(classes)
-}
-
-// What is told of a library of that class, and of a client.
-fn library_answer(
-    alloc: Global,
-    methods: &[&[u8]],
-    bodies: usize,
-) -> Result<Result<(), VerifyFault>, NoMemory> {
-    let classes = dogs(alloc, methods, bodies)?;
-    Ok(release_ok(alloc, &Release { classes }))
-}
-
-fn client_answer(
-    alloc: Global,
-    methods: &[&[u8]],
-    bodies: usize,
-) -> Result<Result<(), VerifyFault>, NoMemory> {
-    let classes = dogs(alloc, methods, bodies)?;
-    let program = ClientProgram {
-        base: Interface {
-            classes: List::new(alloc),
-        },
-        classes,
-        main: Block {
-            statements: List::new(alloc),
-        },
-    };
-    Ok(program_ok(alloc, &program))
-}
-
-fn is_told_of_dog(answer: &Result<(), VerifyFault>, rule: u8) -> bool {
+// Whether it is told of a class that its bodies aren't those of its methods.
+fn is_told(answer: Result<(), VerifyFault>, class: &[u8]) -> bool {
     match answer {
         Err(VerifyFault::Rule(broken)) => {
-            broken.rule == rule && broken.class.is(b"Dog") && broken.member.is(b"-")
+            broken.rule == 14 && broken.class.is(class) && broken.member.is(b"-")
         }
         _ => false,
     }
 }
 
-#[test]
-fn each_introduced_method_has_one_body(rt: HostRuntime) -> Result<(), Fail> {
-    let alloc = rt.alloc();
-    let cases: [(&[&[u8]], usize, bool); 5] = [
-        (&[b"go"], 1, true),
-        (&[b"go"], 0, false),
-        (&[b"go"], 2, false),
-        (&[b"go", b"run"], 1, false),
-        (&[], 1, false),
-    ];
-    for (methods, bodies, fits) in cases {
-        let answer = library_answer(alloc, methods, bodies)?;
-        assert_eq!(rt; answer.is_ok(), fits, "{bodies} bodies");
-        assert_eq!(rt; is_told_of_dog(&answer, 14), !fits, "{bodies} bodies");
-    }
-    Ok(())
+// Whether that is told of the library's class, once this is taken from it.
+fn is_told_of_library(alloc: Global, taken: Taken) -> Result<bool, Fail> {
+    let Release { classes } = release_of(alloc, HELLO)?;
+    let release = Release {
+        classes: without(alloc, classes, taken),
+    };
+    Ok(is_told(release_ok(alloc, &release), b"Hello"))
+}
+
+// Whether that is told of the client's class, once this is taken from it.
+fn is_told_of_client(alloc: Global, taken: Taken) -> Result<bool, Fail> {
+    let ClientProgram {
+        base,
+        classes,
+        main,
+    } = program_of(alloc, OWN)?;
+    let program = ClientProgram {
+        base,
+        classes: without(alloc, classes, taken),
+        main,
+    };
+    Ok(is_told(program_ok(alloc, &program), b"K"))
 }
 
 #[test]
-fn each_method_of_a_client_has_a_body(rt: HostRuntime) -> Result<(), Fail> {
+fn each_method_has_a_body_and_each_body_a_method(rt: HostRuntime) -> Result<(), Fail> {
     let alloc = rt.alloc();
-    let answer = client_answer(alloc, &[b"go"], 0)?;
-    assert!(rt; is_told_of_dog(&answer, 14));
+    assert!(rt; is_told_of_library(alloc, Taken::Methods)?);
+    assert!(rt; is_told_of_library(alloc, Taken::Bodies)?);
+    assert!(rt; is_told_of_client(alloc, Taken::Methods)?);
+    assert!(rt; is_told_of_client(alloc, Taken::Bodies)?);
     Ok(())
 }

@@ -1,35 +1,46 @@
 use som_model::HostCode;
 use som_plain::answer_of;
-use std::test::Fail;
+use std::alloc::Global;
 
 const LEAST: i32 = i32::MIN;
 
 const GREATEST: i32 = i32::MAX;
 
-#[test]
-fn a_host_answers_at_the_edges(rt: HostRuntime) -> Result<(), Fail> {
-    for (code, a, b, wanted) in [
-        (HostCode::Min, 3, -4, -4),
-        (HostCode::Min, LEAST, GREATEST, LEAST),
-        (HostCode::Max, 3, -4, 3),
-        (HostCode::Max, LEAST, GREATEST, GREATEST),
-        (HostCode::And, 6, 3, 2),
-        (HostCode::And, LEAST, -1, LEAST),
-        (HostCode::And, LEAST, GREATEST, 0),
-        (HostCode::Or, 4, 1, 5),
-        (HostCode::Or, LEAST, GREATEST, -1),
-        (HostCode::Xor, -1, 1, -2),
-        (HostCode::Xor, LEAST, LEAST, 0),
-        (HostCode::Xor, GREATEST, -1, LEAST),
-        (HostCode::WrapAdd, GREATEST, 1, LEAST),
-        (HostCode::WrapAdd, LEAST, -1, GREATEST),
-        (HostCode::WrapAdd, LEAST, GREATEST, -1),
-    ] {
-        assert_eq!(rt;
-            answer_of(rt.alloc(), code, a, b)?,
-            wanted,
-            "{code:?} of {a} and {b}"
-        );
+// Whether a procedure answers the third of these numbers for the first two, in each case.
+fn answers(alloc: Global, code: HostCode, cases: &[(i32, i32, i32)]) -> bool {
+    for (a, b, wanted) in cases {
+        match answer_of(alloc, code, *a, *b) {
+            Ok(number) => if number != *wanted {
+                return false;
+            },
+            Err(_) => return false,
+        }
     }
-    Ok(())
+    true
+}
+
+#[test]
+fn the_lower_and_the_higher_number_are_answered_at_the_edges(rt: HostRuntime) {
+    let alloc = rt.alloc();
+    let lower = [(3, -4, -4), (LEAST, GREATEST, LEAST)];
+    assert!(rt; answers(alloc, HostCode::Min, &lower));
+    let higher = [(3, -4, 3), (LEAST, GREATEST, GREATEST)];
+    assert!(rt; answers(alloc, HostCode::Max, &higher));
+}
+
+#[test]
+fn bits_and_sums_are_answered_at_the_edges(rt: HostRuntime) {
+    let alloc = rt.alloc();
+    let both = [(6, 3, 2), (LEAST, -1, LEAST), (LEAST, GREATEST, 0)];
+    assert!(rt; answers(alloc, HostCode::And, &both));
+    let either = [(4, 1, 5), (LEAST, GREATEST, -1)];
+    assert!(rt; answers(alloc, HostCode::Or, &either));
+    let one = [(-1, 1, -2), (LEAST, LEAST, 0), (GREATEST, -1, LEAST)];
+    assert!(rt; answers(alloc, HostCode::Xor, &one));
+    let sum = [
+        (GREATEST, 1, LEAST),
+        (LEAST, -1, GREATEST),
+        (LEAST, GREATEST, -1),
+    ];
+    assert!(rt; answers(alloc, HostCode::WrapAdd, &sum));
 }

@@ -4,8 +4,6 @@
 #[cfg(test)]
 mod bodies;
 #[cfg(test)]
-mod fields;
-#[cfg(test)]
 mod flat_code;
 #[cfg(test)]
 mod hierarchies;
@@ -18,20 +16,14 @@ mod interfaces;
 #[cfg(test)]
 mod lines;
 #[cfg(test)]
-mod numbers;
-#[cfg(test)]
 mod objects;
-#[cfg(test)]
-mod orders;
 #[cfg(test)]
 mod programs;
 #[cfg(test)]
-mod slow;
+mod sinks;
 #[cfg(test)]
 mod stores;
 #[cfg(test)]
 mod tables;
-#[cfg(test)]
-mod texts;
 #[cfg(test)]
 mod worked;

@@ -1,5 +1,5 @@
 ghost use Rattle.som_objects.specs.Objects.{IsKnown, IsGone};
-ghost use Rattle.std.specs.Prelude.{◌≡◌, IfOk, length};
+ghost use Rattle.std.specs.Prelude.{◌≡◌, [], IfOk, length};
 
 use som_model::{List, NoMemory};
 use som_objects::{Cell, Gone, ObjRef, ObjectStore};
@@ -32,28 +32,24 @@ fn refuses(store: &mut ObjectStore, object: &ObjRef) -> bool
     !is_read && !is_written && !is_freed
 }
 
-#[test]
-fn a_cell_is_written_and_read(rt: HostRuntime) -> Result<(), Fail> {
-    let alloc = rt.alloc();
-    let mut store = ObjectStore::new(alloc);
-    let object = store.make(ClassNo::new(3), one_cell(alloc, 5)?)?;
-    assert_eq!(rt; store.class(&object), Ok(ClassNo::new(3)));
-    assert!(rt; is_long(store.read(&object, 0), 5));
-    assert_eq!(rt; store.write(&object, 0, Cell::Long(7)), Ok(()));
-    assert!(rt; is_long(store.read(&object, 0), 7));
-    Ok(())
+// Whether an object gets the key of one that was freed, and the old reference doesn't reach it.
+fn keeps_apart(alloc: Global, store: &mut ObjectStore) -> Result<bool, NoMemory>
+    requires { store.old ≡ [] }
+{
+    let cells = one_cell(alloc, 5)?;
+    let old = store.make(ClassNo::new(1), cells)?;
+    match store.free(&old) {
+        Ok(()) => {}
+        Err(_) => return Ok(false),
+    }
+    let cells = one_cell(alloc, 9)?;
+    let new = store.make(ClassNo::new(2), cells)?;
+    let is_reused = new.key == old.key && is_long(store.read(&new, 0), 9);
+    Ok(is_reused && refuses(store, &old))
 }
 
 #[test]
-fn an_old_reference_does_not_reach_the_object_under_its_key(rt: HostRuntime) -> Result<(), Fail> {
-    let alloc = rt.alloc();
-    let mut store = ObjectStore::new(alloc);
-    let old = store.make(ClassNo::new(1), one_cell(alloc, 5)?)?;
-    assert_eq!(rt; store.free(&old), Ok(()));
-    let new = store.make(ClassNo::new(2), one_cell(alloc, 9)?)?;
-    assert_eq!(rt; new.key, old.key);
-    assert!(rt; is_long(store.read(&new, 0), 9));
-    assert_eq!(rt; store.made(), 2);
-    assert!(rt; refuses(&mut store, &old));
-    Ok(())
+fn an_old_reference_does_not_reach_the_object_under_its_key(rt: HostRuntime) {
+    let mut store = ObjectStore::new(rt.alloc());
+    assert!(rt; matches!(keeps_apart(rt.alloc(), &mut store), Ok(true)));
 }

@@ -1,21 +1,26 @@
 ghost use Rattle.som_cliimage.specs.Limits.{IsWithinLimits};
+ghost use Rattle.std.specs.Prelude.{IfOk};
 
-use crate::images::CLIENT;
 use som_cliimage::{decode, encode};
-use som_fields::ImageFault;
 use som_model::{ClientProgram, List};
 use som_verify::program_ok;
 use std::alloc::Global;
 use std::test::Fail;
 
-// The library of CLIENT, and a class K of the client's own under Hello, with a variable, an introduced method g and an override of
-// sayHello. All blocks are empty.
-const OWN: [u8; 90] = [
-    b'S', b'O', b'M', b'C', 1, 0, 1, 0, 5, b'H', b'e', b'l', b'l', b'o', 0, 0, 0, 1, 0, 0, 0, 0, 1,
-    0, 0, 0, 0, 1, 0, 8, b's', b'a', b'y', b'H', b'e', b'l', b'l', b'o', 0, 0, 0, 0, 1, 0, 1, b'K',
-    0, 0, 0, 1, 0, 0, 0, 0, 1, 0, 4, 0, 0, 1, 0, 1, b'g', 0, 0, 0, 1, 0, 1, b'x', 1, 0, 0, 0, 0, 0,
-    0, 1, 0, 4, 0, 0, 0, 0, 0, 0, 0, 0, 0, 0,
-];
+// One call of sayHello on a new object of the library's class Hello.
+const CALL: &[u8] = b"SOMC\x01\0\x01\
+    \0\x05Hello\0\0\0\x01\0\0\0\0\x01\0\0\0\0\x01\0\x08sayHello\0\0\0\
+    \0\0\
+    \0\0\0\x01\x0a\x2f\0\x04\0\0\x29\0\x04\0";
+
+/// The library of CALL, and a class K of the client's own under Hello, with a variable, an introduced method g and an override of
+/// sayHello. All blocks are empty.
+pub const OWN: &[u8] = b"SOMC\x01\0\x01\
+    \0\x05Hello\0\0\0\x01\0\0\0\0\x01\0\0\0\0\x01\0\x08sayHello\0\0\0\
+    \0\x01\
+    \0\x01K\0\0\0\x01\0\0\0\0\x01\0\x04\0\0\x01\0\x01g\0\0\0\
+    \x01\0\x01x\x01\0\0\0\0\0\0\x01\0\x04\0\0\0\0\0\0\
+    \0\0\0\0";
 
 // The library's R introduces f, and its A and B under R; the client's C under both takes the body that B has for f. Main is empty.
 const SELECTED: &[u8] = b"SOMC\x02\0\x03\
@@ -28,40 +33,34 @@ const SELECTED: &[u8] = b"SOMC\x02\0\x03\
     \0\x01\0\x07\0\x01\0\x04\0\0\x01\
     \0\0\0\0";
 
-// The image of a program, which has to break no rule.
-fn image_of(alloc: Global, program: &ClientProgram) -> Result<List<u8>, Fail>
+/// The program that an image spells.
+pub fn program_of(alloc: Global, bytes: &[u8]) -> Result<ClientProgram, Fail>
+    ensures { IfOk result IsWithinLimits }
+{
+    let image = List::from_slice(alloc, bytes)?;
+    Ok(decode(alloc, &image)?)
+}
+
+// Whether a program breaks no rule, and has this image.
+fn has_image(alloc: Global, program: &ClientProgram, bytes: &[u8]) -> Result<bool, Fail>
     requires { IsWithinLimits program.now }
 {
     match program_ok(alloc, program) {
-        Ok(()) => Ok(encode(alloc, program)?),
-        Err(_) => Err(Fail::from("a program that breaks no rule")),
+        Ok(()) => Ok(encode(alloc, program)?.as_slice() == bytes),
+        Err(_) => Ok(false),
     }
 }
 
-// The image of the program that an image spells.
-fn client_again(alloc: Global, bytes: &[u8]) -> Result<List<u8>, Fail> {
-    let image = List::from_slice(alloc, bytes)?;
-    let program = decode(alloc, &image)?;
-    image_of(alloc, &program)
+// Whether an image is written again, of the program that it spells.
+fn is_written_again(alloc: Global, bytes: &[u8]) -> Result<bool, Fail> {
+    let program = program_of(alloc, bytes)?;
+    has_image(alloc, &program, bytes)
 }
 
 #[test]
 fn a_program_that_was_read_is_written_again(rt: HostRuntime) -> Result<(), Fail> {
-    let alloc = rt.alloc();
-    for image in [CLIENT.as_slice(), OWN.as_slice(), SELECTED] {
-        assert_eq!(rt; client_again(alloc, image)?.as_slice(), image);
-    }
+    assert!(rt; is_written_again(rt.alloc(), CALL)?);
+    assert!(rt; is_written_again(rt.alloc(), OWN)?);
+    assert!(rt; is_written_again(rt.alloc(), SELECTED)?);
     Ok(())
-}
-
-#[test]
-fn a_library_is_no_client(rt: HostRuntime) -> Result<(), Fail> {
-    let alloc = rt.alloc();
-    match decode(alloc, &List::from_slice(alloc, b"SOML\x09")?) {
-        Ok(_) => Err(Fail::from("a program")),
-        Err(fault) => {
-            assert_eq!(rt; fault, ImageFault::Magic { offset: 0 });
-            Ok(())
-        }
-    }
 }

@@ -1,6 +1,5 @@
-use som_io::{Got, Leaves, MemSink, MemStore, Put, Sending, Store, send};
-use som_model::{List, NoMemory, Text};
-use std::alloc::Global;
+use som_io::{Got, Leaves, MemStore, Put, Store};
+use som_model::{List, Text};
 use std::test::Fail;
 
 fn found(answer: &Got, bytes: &[u8]) -> bool {
@@ -8,15 +7,6 @@ fn found(answer: &Got, bytes: &[u8]) -> bool {
         Got::Bytes(list) => list.as_slice() == bytes,
         _ => false,
     }
-}
-
-// A store of which three calls fail; the last of them leaves nothing.
-fn failing_store(alloc: Global) -> Result<MemStore, NoMemory> {
-    let mut store = MemStore::new(alloc);
-    store.fail(0)?;
-    store.fail(4)?;
-    store.fail_put(7, Leaves::Nothing)?;
-    Ok(store)
 }
 
 // Whether a put ends so, and leaves these bytes under the name, or none.
@@ -41,23 +31,15 @@ fn a_store_gives_what_was_put(rt: HostRuntime) -> Result<(), Fail> {
     let name = Text::from_slice(rt.alloc(), b"name")?;
     let old = List::from_slice(rt.alloc(), b"old")?;
     let new = List::from_slice(rt.alloc(), b"new")?;
-    let mut store = failing_store(rt.alloc())?;
+    let mut store = MemStore::new(rt.alloc());
+    // Of the calls, counted from 0, three fail, and the last of them leaves nothing.
+    assert!(rt; store.fail(0).is_ok());
+    assert!(rt; store.fail(4).is_ok());
+    assert!(rt; store.fail_put(7, Leaves::Nothing).is_ok());
     assert!(rt; ends_so(&mut store, &name, &old, Put::Failed, None));
     assert!(rt; ends_so(&mut store, &name, &old, Put::Done, Some(b"old")));
     assert!(rt; matches!(store.get(&name), Got::Failed));
     assert!(rt; ends_so(&mut store, &name, &new, Put::Done, Some(b"new")));
     assert!(rt; ends_so(&mut store, &name, &old, Put::Failed, None));
-    Ok(())
-}
-
-#[test]
-fn a_line_is_sent_whole(rt: HostRuntime) -> Result<(), Fail> {
-    let mut sink = MemSink::new(rt.alloc());
-    sink.fail(1)?;
-    assert_eq!(rt; send(&mut sink, b"one\n"), Sending::Whole);
-    assert_eq!(rt; send(&mut sink, b"two\n"), Sending::Failed);
-    assert_eq!(rt; send(&mut sink, b""), Sending::Whole);
-    assert_eq!(rt; send(&mut sink, b"three\n"), Sending::Whole);
-    assert_eq!(rt; sink.bytes().as_slice(), b"one\nthree\n".as_slice());
     Ok(())
 }
