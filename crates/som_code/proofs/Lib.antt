@@ -4,6 +4,7 @@ pub mod Pieces
 pub mod Exprs
 pub mod Keeps
 pub mod Flows
+pub mod StmtForms
 pub mod Stmts
 pub mod Bools
 pub mod Led

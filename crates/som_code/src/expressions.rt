@@ -1,11 +1,11 @@
 ghost use Rattle.som_code.specs.Laid.{lay_and, lay_each, lay_expr, lay_or, lay_right};
 ghost use Rattle.som_model.specs.Blocks.{is_call};
 ghost use Rattle.som_model.specs.Values.{binary_op};
-ghost use Rattle.std.specs.Prelude.{◌≡◌, ◌++◌, length, map, true, OnOk};
+ghost use Rattle.std.specs.Prelude.{◌≡◌, ◌++◌, ◌∷◌, [], length, map, true, OnOk};
 
 use crate::emit::{emit, emit_text, patch};
 use crate::{Constant, Instruction};
-use som_model::{Boxed, Expr, List, MethodRef, NoMemory, Text, ValueType};
+use som_model::{Boxed, ClassKey, Expr, HostCode, List, MethodRef, NoMemory, Text, ValueType};
 use std::alloc::Global;
 
 // The numbers of the operators that look at their right side only where it decides.
@@ -38,28 +38,93 @@ pub(crate) fn emit_expr(
             emit_part(alloc, code, left)?;
             emit_right(alloc, code, *op, right)
         }
-        Expr::New(class) => emit(code, Instruction::New(class.copy(alloc)?)),
-        Expr::Class(class) => emit(code, Instruction::Class(class.copy(alloc)?)),
+        Expr::New(class) => emit_new(alloc, code, class),
+        Expr::Class(class) => emit_class(alloc, code, class),
         Expr::Manager => emit(code, Instruction::Manager),
-        Expr::Cast { class, of } => {
-            emit_part(alloc, code, of)?;
-            emit(code, Instruction::Cast(class.copy(alloc)?))
-        }
-        Expr::Isa { class, of } => {
-            emit_part(alloc, code, of)?;
-            emit(code, Instruction::Isa(class.copy(alloc)?))
-        }
-        Expr::Proxy { class, of } => {
-            emit_part(alloc, code, of)?;
-            emit(code, Instruction::Proxy(class.copy(alloc)?))
-        }
-        Expr::Host { code: host, a, b } => {
-            emit_part(alloc, code, a)?;
-            emit_part(alloc, code, b)?;
-            emit(code, Instruction::Host(*host))
-        }
+        Expr::Cast { class, of } => emit_cast(alloc, code, of, class),
+        Expr::Isa { class, of } => emit_isa(alloc, code, of, class),
+        Expr::Proxy { class, of } => emit_proxy(alloc, code, of, class),
+        Expr::Host { code: host, a, b } => emit_host_call(alloc, code, *host, a, b),
         _ => emit_call(alloc, code, e),
     }
+}
+
+fn emit_new(alloc: Global, code: &mut Vec<Instruction>, class: &ClassKey) -> Result<(), NoMemory>
+    ensures { OnOk result (code.new.items
+        ≡ code.old.items ++ Instruction.New class.now ∷ []) }
+{
+    let class = class.copy(alloc)?;
+    emit(code, Instruction::New(class))
+}
+
+fn emit_class(alloc: Global, code: &mut Vec<Instruction>, class: &ClassKey) -> Result<(), NoMemory>
+    ensures { OnOk result (code.new.items
+        ≡ code.old.items ++ Instruction.Class class.now ∷ []) }
+{
+    let class = class.copy(alloc)?;
+    emit(code, Instruction::Class(class))
+}
+
+#[cycle(emit_expr)]
+fn emit_cast(
+    alloc: Global,
+    code: &mut Vec<Instruction>,
+    of: &Boxed<Expr>,
+    class: &ClassKey,
+) -> Result<(), NoMemory>
+    ensures { OnOk result (code.new.items
+        ≡ code.old.items ++ lay_expr (Expr.Cast class.now of.now) (length code.old.items)) }
+{
+    emit_part(alloc, code, of)?;
+    let class = class.copy(alloc)?;
+    emit(code, Instruction::Cast(class))
+}
+
+#[cycle(emit_expr)]
+fn emit_isa(
+    alloc: Global,
+    code: &mut Vec<Instruction>,
+    of: &Boxed<Expr>,
+    class: &ClassKey,
+) -> Result<(), NoMemory>
+    ensures { OnOk result (code.new.items
+        ≡ code.old.items ++ lay_expr (Expr.Isa class.now of.now) (length code.old.items)) }
+{
+    emit_part(alloc, code, of)?;
+    let class = class.copy(alloc)?;
+    emit(code, Instruction::Isa(class))
+}
+
+#[cycle(emit_expr)]
+fn emit_proxy(
+    alloc: Global,
+    code: &mut Vec<Instruction>,
+    of: &Boxed<Expr>,
+    class: &ClassKey,
+) -> Result<(), NoMemory>
+    ensures { OnOk result (code.new.items
+        ≡ code.old.items ++ lay_expr (Expr.Proxy class.now of.now) (length code.old.items)) }
+{
+    emit_part(alloc, code, of)?;
+    let class = class.copy(alloc)?;
+    emit(code, Instruction::Proxy(class))
+}
+
+// The code of a call of the host.
+#[cycle(emit_expr)]
+fn emit_host_call(
+    alloc: Global,
+    code: &mut Vec<Instruction>,
+    host: HostCode,
+    a: &Boxed<Expr>,
+    b: &Boxed<Expr>,
+) -> Result<(), NoMemory>
+    ensures { OnOk result (code.new.items
+        ≡ code.old.items ++ lay_expr (Expr.Host host a.now b.now) (length code.old.items)) }
+{
+    emit_part(alloc, code, a)?;
+    emit_part(alloc, code, b)?;
+    emit(code, Instruction::Host(host))
 }
 
 // The code of a call.

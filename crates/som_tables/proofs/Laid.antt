@@ -1,10 +1,10 @@
 -- Rows that stand in memory: how they stay, and how one is read.
-use Rattle.std.proofs.Common.{◌≡◌, ℕ, ◌+◌, ◌-◌, ◌<◌, ◌≤◌, ◌/◌, ◌%◌, ◌++◌, ◌∷◌, List, [], length, take, Option, Some, None, IsSome, is_some, slice_get, refl, sym, ap, ◌∙◌, subst, arith, length-append}
+use Rattle.std.proofs.Common.{◌≡◌, ℕ, ◌+◌, ◌-◌, ◌<◌, ◌/◌, ◌%◌, ◌++◌, ◌∷◌, List, [], length, take, Option, Some, None, IsSome, is_some, slice_get, refl, sym, ap, ◌∙◌, subst, arith, length-append}
 use Rattle.std.specs.Option.{option_map_or, option_flatten, unwrap_or}
 use Rattle.std.proofs.lemmas.Option.{slice_get_within}
 use Rattle.som_tables.specs.Rows.{Added, row_at, inherited, HasToken, introduced_count}
 use Rattle.som_tables.specs.Layout.{found_at, page_start, start_among, line_at, start_of, IsInside, AreInside, block_cell, Extends, IsBlock, IsLaid, IsTable}
-use Rattle.som_tables.proofs.Options.{none_is_not_some, none_else_some, value_of_some, found-declare, found-undeclare, length-take_last, slice_get-Extends, length-Extends}
+use Rattle.som_tables.proofs.Options.{none_is_not_some, value_of_some, found-declare, found-undeclare, length-take_last, slice_get-Extends, length-Extends}
 use Rattle.som_tables.proofs.Inherited.{inherited_none, inherited_equal, HaveRowsBelow_equal}
 
 block_cell_grown : {C : Type 0} (cells new : List C) → Extends cells new → (start : Option ℕ) (p : ℕ) (o : Option C) → (IsSome start → IsSome o) → block_cell cells start p ≡ o → block_cell new start p ≡ o

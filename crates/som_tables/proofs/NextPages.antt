@@ -1,13 +1,13 @@
 -- The pages of a row that is laid.
 use Rattle.std.specs.Prelude.{Result, Ok, Err, IfOk}
-use Rattle.std.proofs.Common.{◌≡◌, ◌≢◌, ℕ, suc, inl, inr, drop, drop-cons, get_or, ◌+◌, ◌*◌, ◌/◌, ◌%◌, ◌<◌, ◌≤◌, List, [], ◌∷◌, ◌++◌, length, length-append, Option, Some, None, IsSome, is_some, slice_get, refl, sym, ap, ◌∙◌, subst, arith}
+use Rattle.std.proofs.Common.{◌≡◌, ◌≢◌, ℕ, suc, inl, inr, drop, drop-cons, get_or, ◌+◌, ◌*◌, ◌/◌, ◌%◌, ◌<◌, ◌≤◌, List, [], ◌∷◌, ◌++◌, length, length-append, Option, Some, None, is_some, slice_get, refl, sym, ap, ◌∙◌, subst, arith}
 use Rattle.std.specs.Option.{option_or, option_flatten}
 use Rattle.std.proofs.lemmas.Option.{slice_get_past}
 use Rattle.std.proofs.lemmas.Bool.{cases_lt}
 use Rattle.std.proofs.lemmas.Nat.{div-add-mod'}
-use Rattle.som_tables.specs.Rows.{Added, HasRow, HasToken, SomeHasToken, HaveRowsBelow, first_some, replaced_at, inherited, AreInherited, introduced_count}
-use Rattle.som_tables.specs.Layout.{found_at, page_start, start_among, line_at, start_of, first_start_of, IsInside, AreInside, Extends, IsBlock, IsLaid, IsTable, IsStart, IsPage, ArePages, IsLine, next_cell}
-use Rattle.som_tables.proofs.Options.{none_is_not_some, none_else_some, option_or_cases, slice_get-append_left, slice_get-append_right, slice_get-push, length-Extends}
+use Rattle.som_tables.specs.Rows.{Added, HasRow, SomeHasToken, HaveRowsBelow, first_some, replaced_at, inherited, AreInherited, introduced_count}
+use Rattle.som_tables.specs.Layout.{found_at, page_start, start_among, line_at, start_of, IsInside, AreInside, Extends, IsBlock, IsLaid, IsStart, IsPage, ArePages, IsLine, next_cell}
+use Rattle.som_tables.proofs.Options.{none_is_not_some, none_else_some, option_or_cases, slice_get-append_left, slice_get-append_right, slice_get-push}
 use Rattle.som_tables.proofs.Inherited.{first_some_equal, first_some_where, replaced_inherited}
 use Rattle.som_tables.proofs.Laid.{IsBlock-grown, IsBlock-none, page_grown, inside_grown, on_page}
 use Rattle.som_tables.proofs.NextBlocks.{shared_block}
@@ -130,7 +130,3 @@ common_more f parents i q old new all lt is step before =
 pub if_ok : {T E : Type 0} (r : Result T E) (P Q : T → Type 0) → ((x : T) → P x → Q x) → IfOk r P → IfOk r Q
 if_ok (Ok x) P Q to is = to x is
 if_ok (Err e) P Q to is = tt
-
-pub if_both : {T E : Type 0} (r : Result T E) (P Q R : T → Type 0) → ((x : T) → P x → Q x → R x) → IfOk r P → IfOk r Q → IfOk r R
-if_both (Ok x) P Q R to p q = to x p q
-if_both (Err e) P Q R to p q = tt

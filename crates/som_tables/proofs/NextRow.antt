@@ -1,10 +1,10 @@
 -- A table in which one more class has its row.
-use Rattle.std.proofs.Common.{◌≡◌, ◌≢◌, ℕ, ◌<◌, ◌≤◌, inl, inr, List, [], refl, length, Option, Some, None, IsSome, is_some, slice_get, sym, ap, ◌∙◌, subst, arith}
+use Rattle.std.proofs.Common.{◌≡◌, ◌≢◌, ℕ, ◌<◌, ◌≤◌, inl, inr, List, [], length, Option, Some, None, IsSome, is_some, slice_get, sym, ap, ◌∙◌, subst, arith}
 use Rattle.std.specs.Prelude.{slice_set}
 use Rattle.std.specs.Option.{option_or, option_map_or, option_flatten, unwrap_or}
 use Rattle.std.proofs.lemmas.Option.{slice_get_within}
 use Rattle.std.proofs.lemmas.List.{length-set}
-use Rattle.std.proofs.lemmas.Bool.{cases_lt, cases_eq}
+use Rattle.std.proofs.lemmas.Bool.{cases_eq}
 use Rattle.som_tables.specs.Rows.{Added, row_at, first_some, replaced_at, own_at, inherited, HasToken, HasRow, SomeHasToken, HaveRowsBelow, AreInherited, IsDeclared, introduced_count}
 use Rattle.som_tables.specs.Layout.{found_at, line_at, start_among, start_of, Extends, IsBlock, IsLaid, IsTable, IsLine, AreInside, next_cell}
 use Rattle.som_tables.proofs.Options.{none_is_not_some, none_else_some, option_or-some, slice_get_some, slice_get-set_same, slice_get-set_other}

@@ -1,4 +1,4 @@
-ghost use Rattle.std.specs.Prelude.{◌≡◌, ◌+◌, ◌<◌, ◌++◌, None, length, IfOk, OnOk, ℕ, slice_get};
+ghost use Rattle.std.specs.Prelude.{◌≡◌, ◌+◌, ◌<◌, ◌++◌, None, Some, length, IfOk, OnOk, ℕ, slice_get};
 ghost use Rattle.std.specs.Option.{option_or};
 ghost use Rattle.som_tables.specs.Rows.{replaced_at, AreInherited, HaveRowsBelow, introduced_count};
 ghost use Rattle.som_tables.specs.Layout.{Extends, IsBlock, IsLaid, IsStart, start_of, next_cell};
@@ -9,6 +9,31 @@ use crate::row::{Row, introduced_by, replaced_cell, replaces_any};
 use crate::starts::first_start;
 use crate::{ClassNo, Kind, Token};
 use std::alloc::AllocError;
+
+/// The cell at a place of a list.
+fn cell_at<C: Copy>(cells: &[C], place: usize) -> C
+    requires { place < length cells.now }
+    ensures { slice_get cells.now place ≡ Some result }
+{
+    cells[place]
+}
+
+/// The cell at a place of a block's copy: the one that replaces it, or else the one of the block, which begins there.
+fn copied_cell<K: Kind>(
+    cells: &[K::Cell],
+    replaced: &[(Token<K>, K::Cell)],
+    class: ClassNo,
+    from: usize,
+    place: usize,
+) -> K::Cell
+    requires { from + place < length cells.now }
+    ensures { Some result ≡ option_or (replaced_at replaced.now (class, place)) (slice_get cells.now (from + place)) }
+{
+    match replaced_cell(replaced, class, place) {
+        Some(cell) => cell,
+        None => cell_at(cells, from + place),
+    }
+}
 
 /// Copies the cells of a block to the end, but for those that are replaced.
 fn copy_block<K: Kind>(
@@ -24,10 +49,7 @@ fn copy_block<K: Kind>(
         ≡ option_or (replaced_at replaced.now (class, p)) (slice_get cells.old.items (from + p))) }
 {
     for place in 0..count {
-        let cell = match replaced_cell(replaced, class, place) {
-            Some(cell) => cell,
-            None => cells[from + place],
-        };
+        let cell = copied_cell(cells.as_slice(), replaced, class, from, place);
         cells.push(cell)?;
     }
     Ok(())

@@ -153,7 +153,7 @@ fn next_page<K: Kind>(
     }
 }
 
-/// Lays the blocks of a row that it inherits, and makes its pages.
+/// Lays the blocks of a row that it inherits, and puts its pages on the empty list.
 fn lay_pages<K: Kind>(
     alloc: Global,
     rows: &[Option<Row<K>>],
@@ -163,23 +163,24 @@ fn lay_pages<K: Kind>(
     row: &Row<K>,
     class: ClassNo,
     own: Place,
-) -> Result<Line, AllocError>
+    pages: &mut Vec<Place>,
+) -> Result<(), AllocError>
     requires table { IsTable rows.now lines.now starts.old.items cells.old.items }
     requires below { HaveRowsBelow class rows.now row.now.parents }
     requires inherited { AreInherited rows.now row.now.parents row.now.replaced }
+    requires empty { pages.old.items ≡ [] }
     ensures grown { Extends cells.old.items cells.new.items }
     ensures more { Extends starts.old.items starts.new.items }
-    ensures inside { IfOk result (λ line. AreInside starts.new.items line) }
-    ensures long { IfOk result (λ line. length line ≡ class / 64 + 1) }
-    ensures pages { IfOk result (λ line. ArePages rows.now class row.now own (class / 64 + 1) line starts.new.items cells.new.items) }
+    ensures inside { OnOk result (AreInside starts.new.items pages.new.items) }
+    ensures long { OnOk result (length pages.new.items ≡ class / 64 + 1) }
+    ensures pages { OnOk result (ArePages rows.now class row.now own (class / 64 + 1) pages.new.items starts.new.items cells.new.items) }
 {
     let count = class.number() as usize / PAGE + 1;
-    let mut pages = Vec::with_capacity(alloc, count)?;
     for number in 0..count {
         let page = next_page(alloc, rows, lines, starts, cells, row, class, own, number)?;
         pages.push(page)?;
     }
-    Ok(Line { pages })
+    Ok(())
 }
 
 /// Lays the row of a class, and on an error so much of it as there was memory for.
@@ -201,7 +202,11 @@ fn lay_line<K: Kind>(
     ensures line { IfOk result (λ line. IsLine rows.now class row.now (start_among line starts.new.items) cells.new.items) }
 {
     let own = lay_own(cells, row.introduced())?;
-    lay_pages(alloc, rows, lines, starts, cells, row, class, own)
+    let mut pages = Vec::with_capacity(alloc, class.number() as usize / PAGE + 1)?;
+    lay_pages(
+        alloc, rows, lines, starts, cells, row, class, own, &mut pages,
+    )?;
+    Ok(Line { pages })
 }
 
 /// Lays the row of a class. Where there is no memory the starts and the cells are as they were.

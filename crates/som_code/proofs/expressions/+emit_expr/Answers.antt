@@ -1,4 +1,5 @@
-use Rattle.std.proofs.Common.{◌∙◌}
+use Rattle.std.proofs.Common.{◌∙◌, refl}
+use Rattle.som_model.specs.declared.syntax.Expr.TheVariants as exprs
 use Rattle.som_code.specs.declared.instruction.Instruction.TheVariants as ops
 use Rattle.som_code.specs.Laid.{lay_expr}
 use Rattle.som_code.proofs.Emits.{on_ok, and_emits, or_emits, host_laid}
@@ -14,6 +15,6 @@ emit_or-returns t c =
     or_emits c.args.code.now.items (ops.Jump 0) (lay_expr c.args.right.now) _ _ _ _ _ _ _ (c.len-test.ensures ∙ c.args.code.now.ok.0) c.in_ok-emit.ensures c.in_ok-emit-2.ensures c.in_ok-emit-3.ensures
     c.in_ok-emit_part.ensures (c.len-end.ensures ∙ c.emit_part.new.code.ok.0) c.patch.ensures
 
-pub emit_expr-returns-in_ok-emit_part-in-Host-2 : goal.emit_expr-returns-in_ok-emit_part-in-Host-2
-emit_expr-returns-in_ok-emit_part-in-Host-2 t c = on_ok c.emit-in-Host.result c.emit-in-Host.ensures
-    (λ p. host_laid c.args.code.now.items _ _ _ c.args.e.now c.in-Host.host c.in-Host.a c.in-Host.b c.in-Host.is c.in_ok-emit_part-in-Host.ensures c.in_ok-emit_part-in-Host-2.ensures p)
+pub emit_host_call-returns : goal.emit_host_call-returns
+emit_host_call-returns t c = on_ok c.emit.result c.emit.ensures
+    (λ p. host_laid c.args.code.now.items _ _ _ (exprs.Host c.args.host c.args.a.now c.args.b.now) c.args.host c.args.a.now c.args.b.now refl c.in_ok-emit_part.ensures c.in_ok-emit_part-2.ensures p)

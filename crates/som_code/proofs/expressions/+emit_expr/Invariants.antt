@@ -44,3 +44,15 @@ decreases-emit_parent_call l = 6 * goal.size-emit_parent_call l + 3
 
 abbrev pub decreases-emit_parents_call : goal.decreases-emit_parents_call
 decreases-emit_parents_call l = 6 * goal.size-emit_parents_call l + 3
+
+abbrev pub decreases-emit_cast : goal.decreases-emit_cast
+decreases-emit_cast l = 6 * size-Expr l.of.now + 3
+
+abbrev pub decreases-emit_isa : goal.decreases-emit_isa
+decreases-emit_isa l = 6 * size-Expr l.of.now + 3
+
+abbrev pub decreases-emit_proxy : goal.decreases-emit_proxy
+decreases-emit_proxy l = 6 * size-Expr l.of.now + 3
+
+abbrev pub decreases-emit_host_call : goal.decreases-emit_host_call
+decreases-emit_host_call l = 6 * max (size-Expr l.a.now) (size-Expr l.b.now) + 3

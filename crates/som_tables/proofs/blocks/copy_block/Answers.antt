@@ -1,13 +1,9 @@
-use Rattle.std.proofs.Common.{◌≡◌, ℕ, ◌+◌, ◌<◌, inl, inr, List, [], ◌∷◌, ◌++◌, length, length-append, Some, slice_get, sym, ap, ◌∙◌, subst, arith}
+use Rattle.std.proofs.Common.{◌≡◌, ℕ, ◌+◌, ◌<◌, inl, inr, List, [], ◌∷◌, ◌++◌, length, length-append, Some, slice_get, ap, ◌∙◌, subst, arith}
 use Rattle.std.specs.Option.{option_or}
 use Rattle.std.proofs.lemmas.Bool.{cases_lt}
 use Rattle.som_tables.specs.Rows.{replaced_at}
-use Rattle.som_tables.proofs.Options.{Extends-append, Extends-trans, slice_get-append_left, slice_get-push}
-use Rattle.std.proofs.lemmas.Option.{slice_get-get_or, get_or_from_slice_get}
-use Rattle.std.proofs.Common.{get_or, None, Option}
-use Rattle.som_tables.specs.Layout.{Extends}
+use Rattle.som_tables.proofs.Options.{Extends-append, Extends-trans, slice_get-append_left, slice_get-Extends, slice_get-push}
 use Rattle.som_tables.proofs.blocks.copy_block.Goals as goal
-use Rattle.som_tables.proofs.blocks.copy_block.Goals.{in-Some, in-None}
 
 -- one more cell of the block
 one_more : {C : Type 0} (rs : List ((ℕ × ℕ) × C)) (class from place : ℕ) (old cells : List C) (cell : C) → length cells ≡ length old + place
@@ -20,28 +16,22 @@ one_more {C} rs class from place old cells cell long is before p lt = elim (case
       subst (λ q. slice_get (cells ++ cell ∷ []) (length old + q) ≡ option_or (replaced_at rs (class, q)) (slice_get old (from + q))) e (slice_get-push cells cell (length old + place) long ∙ is))
 ]
 
-replaced_is : {C : Type 0} (o q : Option C) (x y : C) → x ≡ y → Some y ≡ o → Some x ≡ option_or o q
-replaced_is o q x y e is = ap (λ z. Some z) e ∙ ap (λ z. option_or z q) is
-
-kept_is : {C : Type 0} (o : Option C) (old xs : List C) (k : ℕ) (x y : C) → x ≡ y → None ≡ o → k < length old → Extends old xs → y ≡ get_or xs k y → Some x ≡ option_or o (slice_get old k)
-kept_is o old xs k x y e is lt more read =
-    let there = slice_get-get_or old k y lt in
-    ap (λ z. Some z) (e ∙ read ∙ get_or_from_slice_get xs k (get_or old k y) y (more k (get_or old k y) there)) ∙ sym there ∙ ap (λ z. option_or z (slice_get old k)) is
+pub copied_cell-cell-requires : goal.copied_cell-cell-requires
+copied_cell-cell-requires g c = let lt = c.requires c.loop-place.place (omega arith) in rw c.as_slice.ensures.value (omega (arith, c.loop-place.invariant.long))
 
 pub loop-place-preserved : goal.loop-place-preserved
 loop-place-preserved g c =
     let i = c.loop-place.invariant in
     let xs = c.loop-place.cells.items in
     let old = c.args.cells.now.items in
-    let cell : Some c.match-replaced_cell.cell ≡ option_or (replaced_at c.args.replaced.now (c.args.class, c.loop-place.place)) (slice_get old (c.args.from + c.loop-place.place)) =
-    elim c.match-replaced_cell.branch [
-      | in-Some w ↦ replaced_is _ (slice_get old (c.args.from + c.loop-place.place)) c.match-replaced_cell.cell w.in-Some.cell w.cell-is w.in-Some.ensures
-      | in-None w ↦ (let lt : c.args.from + c.loop-place.place < length old = c.requires c.loop-place.place (omega arith) in
-          kept_is _ old xs (c.args.from + c.loop-place.place) c.match-replaced_cell.cell w.index.result.now w.cell-is w.in-None.ensures lt i.grown w.index.ensures)
-    ] in
-    record {
-      grown = rw c.in_ok-push.ensures.items (Extends-trans _ _ _ i.grown (Extends-append xs (c.match-replaced_cell.cell ∷ [])));
-      long = rw c.in_ok-push.ensures.items (omega (arith, i.long, length-append xs (c.match-replaced_cell.cell ∷ [])));
-      copied = rw c.in_ok-push.ensures.items
-          (one_more c.args.replaced.now c.args.class c.args.from c.loop-place.place c.args.cells.now.items xs c.match-replaced_cell.cell i.long cell i.copied);
-    }
+    let at = c.args.from + c.loop-place.place in
+    let new = c.copied_cell-cell.result in
+    let kept = slice_get-Extends old xs i.grown at (c.requires c.loop-place.place (omega arith)) in
+    let replaced = replaced_at c.args.replaced.now (c.args.class, c.loop-place.place) in
+    let here : Some new ≡ option_or replaced (slice_get xs at) = rw c.as_slice.ensures.value at c.copied_cell-cell.ensures in
+    let cell : Some new ≡ option_or replaced (slice_get old at) = here ∙ ap (λ o. option_or replaced o) kept in
+    rw c.in_ok-push.ensures.items (record {
+      grown = Extends-trans _ _ _ i.grown (Extends-append xs (new ∷ []));
+      long = omega (arith, i.long, length-append xs (new ∷ []));
+      copied = one_more c.args.replaced.now c.args.class c.args.from c.loop-place.place old xs new i.long cell i.copied;
+    })

@@ -1,5 +1,5 @@
 use Rattle.std.proofs.Common.{◌≡◌, ◌∙◌, Some, length, refl, sym, arith}
-use Rattle.som_tables.specs.Layout.{start_of, first_start_of}
+use Rattle.som_tables.specs.Layout.{start_of}
 use Rattle.som_tables.proofs.NextBlocks.{shared_block, absent_block, block_within, copied_block}
 use Rattle.som_tables.proofs.blocks.next_block.Goals.{in_default-via-in-Some+else-replaces_any, in_default-via-in_default}
 use Rattle.som_tables.proofs.blocks.next_block.Goals as goal

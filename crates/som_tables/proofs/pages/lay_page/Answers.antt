@@ -1,4 +1,4 @@
-use Rattle.std.proofs.Common.{◌≡◌, ◌∷◌, [], arith, length-append}
+use Rattle.std.proofs.Common.{◌∷◌, [], arith, length-append}
 use Rattle.som_tables.specs.Layout.{start_of}
 use Rattle.som_tables.proofs.Options.{Extends-trans}
 use Rattle.som_tables.proofs.Laid.{IsLaid-grown}

@@ -1,4 +1,4 @@
-use Rattle.std.proofs.Common.{◌≡◌, ◌∷◌, [], None, ℕ, refl, ap, is_some, arith, length-append}
+use Rattle.std.proofs.Common.{◌∷◌, [], None, ℕ, refl, ap, is_some, arith, length-append}
 use Rattle.som_tables.proofs.Options.{Extends-trans, none_is_not_some}
 use Rattle.som_tables.proofs.Laid.{IsTable-grown}
 use Rattle.som_tables.proofs.NextPages.{inside_more, pages_more}
@@ -25,7 +25,7 @@ loop-number-preserved g c =
     })
 
 pub loop-number-init : goal.loop-number-init
-loop-number-init g c = rw c.in_ok-pages.ensures.items (record {
+loop-number-init g c = rw c.requires.empty (record {
   grown = λ i x e. e;
   more = λ i x e. e;
   table = c.requires.table;

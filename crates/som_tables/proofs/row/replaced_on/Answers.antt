@@ -1,6 +1,5 @@
 use Rattle.std.proofs.Common.{◌∙◌, sym, ap, ◌++◌, ◌∷◌, []}
 use Rattle.std.proofs.lemmas.List.{take_all}
-use Rattle.som_tables.specs.Layout.{on_page}
 use Rattle.som_tables.proofs.Paging.{on_more, on_same}
 use Rattle.som_tables.proofs.row.replaced_on.Goals.{then-is_on+in_ok-push, else-is_on}
 use Rattle.som_tables.proofs.row.replaced_on.Goals as goal
