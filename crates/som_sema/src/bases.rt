@@ -15,8 +15,8 @@ ghost use Rattle.std.specs.Prelude.{◌≡◌, ◌<◌, ◌+◌, length, take, f
 
 use indexmap::IndexSet;
 use som_drafts::{Draft, base_names, breach, each_draft, metaclass_names};
-use som_model::{List, NoMemory, ValueType};
-use som_rules::{Declared, KERNEL_CLASSES, VerifyFault, descends_by, find_class, type_is_known};
+use som_model::{List, NoMemory};
+use som_rules::{Declared, KERNEL_CLASSES, VerifyFault, descends_by, find_class};
 use som_scope::{Scope, key_of};
 use std::alloc::Global;
 
@@ -76,8 +76,8 @@ fn stands(
     requires { IsTable (classes_of classes.now) (texts table.now.keys) }
     ensures { IfOk result (λ b. b ≡ is_some (class_at (take place (with_kernel (classes_of classes.now))) (names_of_classes.key_of (module_in_scope scope.now) name.now))) }
 {
-    let kind = ValueType::Class(key_of(alloc, scope, name)?);
-    Ok(type_is_known(table, classes, place, &kind))
+    let key = key_of(alloc, scope, name)?;
+    Ok(find_class(table, classes, &key, place).is_some())
 }
 
 /// S4: each metaclass item names a class that descends from SOMClass.

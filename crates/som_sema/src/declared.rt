@@ -390,10 +390,36 @@ fn overrides(
     ensures { IfOk result (λ os. os ≡ map (override_of (with_kernel (classes_of classes.now))
         (key_at_place (with_kernel (classes_of classes.now)) place)) (spec_items.overridden draft.now.text.now.items)) }
 {
-    let marks = marks(alloc, draft.text.items.as_slice())?;
-    let names = overridden(alloc, &marks)?;
+    let names = overridden_names(alloc, draft.text.items.as_slice())?;
+    each_override(alloc, kernel, classes, lists, above, &names, place)
+}
+
+fn overridden_names(alloc: Global, items: &[Item]) -> Result<Vec<&[u8]>, NoMemory>
+    ensures { IfOk result (λ names. texts names.items ≡ spec_items.overridden items.now) }
+{
+    let marks = marks(alloc, items)?;
+    overridden(alloc, &marks)
+}
+
+// An override with an empty block for each of these names.
+fn each_override(
+    alloc: Global,
+    kernel: &[ClassFace],
+    classes: &[Declared],
+    lists: &[List<usize>],
+    above: &Ranking,
+    names: &[&[u8]],
+    place: usize,
+) -> Result<List<Override>, NoMemory>
+    requires kernel { kernel.now ≡ kernel_interface.classes }
+    requires lists { AreLists (with_kernel (classes_of classes.now)) lists.now }
+    requires place { place < length (with_kernel (classes_of classes.now)) }
+    requires above { IsRanking (with_kernel (classes_of classes.now)) (slice_index_or lists.now place []) above.now }
+    ensures { IfOk result (λ os. os ≡ map (override_of (with_kernel (classes_of classes.now))
+        (key_at_place (with_kernel (classes_of classes.now)) place)) (texts names.now)) }
+{
     let mut all = List::new(alloc);
-    for name in names.as_slice() {
+    for name in names {
         all.push(empty_override(alloc, kernel, classes, lists, above, *name, place)?)?;
     }
     Ok(all)

@@ -99,11 +99,73 @@ fn own_inherited(
     if marks.is_empty() {
         return Ok(());
     }
+    given_inherited(
+        alloc,
+        scope,
+        classes,
+        ancestors,
+        introducers,
+        draft,
+        &marks,
+        place,
+    )
+}
+
+// The same of the modifiers that are given, one or more.
+fn given_inherited(
+    alloc: Global,
+    scope: &Scope,
+    classes: &[Declared],
+    ancestors: &AncestorTable,
+    introducers: &Introducers,
+    draft: &Draft,
+    marks: &[Mark],
+    place: usize,
+) -> Result<(), VerifyFault>
+    requires ancestors { IsAncestorTable (classes_of classes.now) ancestors.now }
+    requires introducers { AreIntroducers (with_kernel (classes_of classes.now)) introducers.now }
+    requires marks { map given_by marks.now ≡ given draft.now.text.now.items }
+    requires place { place < length (with_kernel (classes_of classes.now)) }
+    ensures { Tells (first (flat_map (replaces_inherited (module_in_scope scope.now) (with_kernel (classes_of classes.now))
+        (key_at (with_kernel (classes_of classes.now)) place) (plain_draft draft.now)) (map given_by marks.now))) result }
+{
+    let text = selecting_in(alloc, draft, marks)?;
+    ranked_inherited(
+        alloc,
+        scope,
+        classes,
+        ancestors,
+        introducers,
+        &text,
+        draft,
+        marks,
+        place,
+    )
+}
+
+// The same, where it is known what the text selects.
+fn ranked_inherited(
+    alloc: Global,
+    scope: &Scope,
+    classes: &[Declared],
+    ancestors: &AncestorTable,
+    introducers: &Introducers,
+    text: &Selecting,
+    draft: &Draft,
+    marks: &[Mark],
+    place: usize,
+) -> Result<(), VerifyFault>
+    requires ancestors { IsAncestorTable (classes_of classes.now) ancestors.now }
+    requires introducers { AreIntroducers (with_kernel (classes_of classes.now)) introducers.now }
+    requires text { IsOfText draft.now.text.now text.now }
+    requires place { place < length (with_kernel (classes_of classes.now)) }
+    ensures { Tells (first (flat_map (replaces_inherited (module_in_scope scope.now) (with_kernel (classes_of classes.now))
+        (key_at (with_kernel (classes_of classes.now)) place) (plain_draft draft.now)) (map given_by marks.now))) result }
+{
     let lists = ancestors.lists.as_slice();
     let above = ranking_above(alloc, introducers, classes, lists, place)?;
-    let text = selecting_in(alloc, draft, &marks)?;
     marks_inherited(
-        alloc, scope, classes, ancestors, &above, &text, draft, &marks, place,
+        alloc, scope, classes, ancestors, &above, text, draft, marks, place,
     )
 }
 

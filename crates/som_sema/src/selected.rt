@@ -9,14 +9,14 @@ ghost use Rattle.som_rules.specs.Places.{key_at as key_at_place, with_kernel};
 ghost use Rattle.som_rules.specs.Walk.{AreLists};
 ghost use Rattle.som_drafts.specs.Drafts.{plain_draft};
 ghost use Rattle.som_sema.specs.Finished.{place_of, select_of, selects_at};
-ghost use Rattle.som_drafts.specs.Items.{chosen_by, given_by, or_object};
+ghost use Rattle.som_drafts.specs.Items.{chosen, chosen_by, given_by, or_object};
 ghost use Rattle.som_sema.specs.Selecting.{choice_of};
 ghost use Rattle.std.specs.Prelude.{◌≡◌, ◌<◌, ◌≤◌, [], length, map, flat_map, slice_index_or, IfOk};
 
 use crate::declared::introducer;
 use crate::faces::ranking_above;
 use som_drafts::{Draft, Mark, marks, parent_names};
-use som_idl::Modifier;
+use som_idl::{Item, Modifier};
 use som_introducers::{Introducers, Ranking};
 use som_model::{ClassFace, List, MethodRef, NoMemory, Select, Text};
 use som_rules::Declared;
@@ -47,19 +47,87 @@ pub fn selects(
     ensures { IfOk result (λ ss. ss ≡ selects_at (with_kernel (classes_of classes.now))
         (key_at_place (with_kernel (classes_of classes.now)) place) (plain_draft draft.now)) }
 {
-    let marks = marks(alloc, draft.text.items.as_slice())?;
-    let choices = choices(alloc, &marks)?;
+    let choices = choices_of(alloc, draft.text.items.as_slice())?;
     if choices.is_empty() {
         return Ok(List::new(alloc));
     }
-    let above = ranking_above(alloc, introducers, classes, lists, place)?;
-    let parents = parent_names(alloc, draft.text.parents.as_slice())?;
-    each_select(
-        alloc, kernel, classes, lists, &above, &parents, &choices, place,
+    chosen_selects(
+        alloc,
+        kernel,
+        classes,
+        lists,
+        introducers,
+        draft,
+        &choices,
+        place,
     )
 }
 
-// What is selected, in the order of the text.
+// The same, where a text selects something.
+fn chosen_selects(
+    alloc: Global,
+    kernel: &[ClassFace],
+    classes: &[Declared],
+    lists: &[List<usize>],
+    introducers: &Introducers,
+    draft: &Draft,
+    choices: &[Choice],
+    place: usize,
+) -> Result<List<Select>, NoMemory>
+    requires kernel { kernel.now ≡ kernel_interface.classes }
+    requires lists { AreLists (with_kernel (classes_of classes.now)) lists.now }
+    requires introducers { AreIntroducers (with_kernel (classes_of classes.now)) introducers.now }
+    requires place { place < length (with_kernel (classes_of classes.now)) }
+    requires parents { length (or_object draft.now.text.now.parents) ≤ 255 }
+    ensures { IfOk result (λ ss. ss ≡ map (select_of (with_kernel (classes_of classes.now))
+        (key_at_place (with_kernel (classes_of classes.now)) place) (or_object draft.now.text.now.parents)) (map choice_of choices.now)) }
+{
+    let parents = parent_names(alloc, draft.text.parents.as_slice())?;
+    ranked_selects(
+        alloc,
+        kernel,
+        classes,
+        lists,
+        introducers,
+        &parents,
+        choices,
+        place,
+    )
+}
+
+// The same among these parents.
+fn ranked_selects(
+    alloc: Global,
+    kernel: &[ClassFace],
+    classes: &[Declared],
+    lists: &[List<usize>],
+    introducers: &Introducers,
+    parents: &[&[u8]],
+    choices: &[Choice],
+    place: usize,
+) -> Result<List<Select>, NoMemory>
+    requires kernel { kernel.now ≡ kernel_interface.classes }
+    requires lists { AreLists (with_kernel (classes_of classes.now)) lists.now }
+    requires introducers { AreIntroducers (with_kernel (classes_of classes.now)) introducers.now }
+    requires place { place < length (with_kernel (classes_of classes.now)) }
+    requires parents { length parents.now ≤ 255 }
+    ensures { IfOk result (λ ss. ss ≡ map (select_of (with_kernel (classes_of classes.now))
+        (key_at_place (with_kernel (classes_of classes.now)) place) (texts parents.now)) (map choice_of choices.now)) }
+{
+    let above = ranking_above(alloc, introducers, classes, lists, place)?;
+    each_select(
+        alloc, kernel, classes, lists, &above, parents, choices, place,
+    )
+}
+
+// What items select, in the order of the text.
+fn choices_of(alloc: Global, items: &[Item]) -> Result<Vec<Choice<'_>>, NoMemory>
+    ensures { IfOk result (λ all. map choice_of all.items ≡ chosen items.now) }
+{
+    let marks = marks(alloc, items)?;
+    choices(alloc, &marks)
+}
+
 fn choices<'a>(alloc: Global, marks: &[Mark<'a>]) -> Result<Vec<Choice<'a>>, NoMemory>
     ensures { IfOk result (λ all. map choice_of all.items ≡ flat_map chosen_by (map given_by marks.now)) }
 {

@@ -1,14 +1,14 @@
-use Rattle.std.proofs.Common.{List, ℕ, map, refl}
-use Rattle.std.specs.Borrow.{Bor}
+use Rattle.std.proofs.Common.{◌≡◌, ℕ, List, map, ap, subst, ◌∙◌}
+use Rattle.std.specs.Prelude.{IfOk}
 use Rattle.som_order.specs.Names.{texts}
 use Rattle.som_rules.specs.Modules.{classes_of}
 use Rattle.som_rules.specs.Places.{key_at, with_kernel}
 use Rattle.som_sema.specs.Finished.{override_of}
-use Rattle.som_scope.proofs.Going.{next_value}
+use Rattle.som_drafts.specs.Items.{overridden}
 use Rattle.som_sema.proofs.declared.overrides.Goals as goal
 
-pub loop-name-preserved : goal.loop-name-preserved
-loop-name-preserved c =
-    let f = override_of (with_kernel (classes_of c.args.classes.now)) (key_at (with_kernel (classes_of c.args.classes.now)) c.args.place) in
-    next_value (λ (z : List (Bor (List ℕ))). map f (texts z)) c.as_slice-name-items.result.now c.loop-name.name-index _ _ _ _ _ _ _
-    c.loop-name-test.true refl c.in_ok-push.ensures.ok c.in_ok-empty_override.ensures refl c.loop-name.invariant
+pub returns : goal.returns
+returns c =
+    let cs = with_kernel (classes_of c.args.classes.now) in
+    subst (λ (z : List (List ℕ)). IfOk c.each_override.result (λ os. os ≡ map (override_of cs (key_at cs c.args.place)) z))
+    (ap texts c.deref.ensures.value ∙ c.in_ok-names.ensures ∙ ap overridden c.as_slice.ensures) c.each_override.ensures
