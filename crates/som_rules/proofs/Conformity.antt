@@ -48,6 +48,10 @@ tells_here o r e t = tells_first o r (or_else o r) e t refl
 pub tells_later : (o r : Option RuleBreach) (result : Result (Unit {0}) VerifyFault) → o ≡ None → Tells r result → Tells (or_else o r) result
 tells_later o r result none t = subst (λ z. Tells (or_else z r) result) (sym none) t
 
+-- the same where the pass answers something
+pub tells_after : {A : Type 0} (o r : Option RuleBreach) (result : Result A VerifyFault) → o ≡ None → Tells r result → Tells (or_else o r) result
+tells_after o r result none t = subst (λ z. Tells (or_else z r) result) (sym none) t
+
 -- what is told of the declared classes of a release is told of the release
 pub declared_tells : (r : Release) (cs : List Class) (result : Result (Unit {0}) VerifyFault) → cs ≡ library_classes r → Tells (rules_breach 0 cs) result → Tells (declared_breach r) result
 declared_tells r cs result same t = subst (λ o. Tells o result) (ap (rules_breach 0) same ∙ faces_first r) t

@@ -31,3 +31,4 @@ pub mod PlainBodies
 pub mod PlainWhole
 pub mod FacesOnly
 pub mod Unbroken
+pub mod Declaring

@@ -1,5 +1,5 @@
 -- The rule S10 of selects, and what it says of the parents that they name.
-use Rattle.std.proofs.Common.{◌≡◌, inl, inr, Bool, true, false, not, ◌&&◌, List, [], ◌∷◌, ◌++◌, map, flat_map, slice_get, Option, Some, None, refl, sym, ap, ◌∙◌, subst, true≢false}
+use Rattle.std.proofs.Common.{◌≡◌, inl, inr, true, false, not, List, [], ◌∷◌, ◌++◌, map, flat_map, slice_get, Option, Some, None, refl, sym, ap, ◌∙◌, subst, true≢false}
 use Rattle.som_model.specs.Lists.{Mem, first, some}
 use Rattle.som_model.specs.Keys.{same_method}
 use Rattle.som_model.specs.Class.{Class}
@@ -8,7 +8,6 @@ use Rattle.som_model.specs.Owner.{owner}
 use Rattle.som_model.specs.Rules.{demand_of, is_parent_below, s10}
 use Rattle.som_model.specs.declared.key.ClassKey.{ClassKey}
 use Rattle.som_model.specs.declared.key.MethodRef.{MethodRef}
-use Rattle.som_model.specs.declared.class.Override.{Override}
 use Rattle.som_model.specs.declared.class.Select.{Select}
 use Rattle.som_model.proofs.KeyLaws.{both}
 use Rattle.som_laws.proofs.Members.{mem_left, mem_right, mem_split, mem_some, some_mem, not_true, Apart}

@@ -2,7 +2,6 @@
 use Rattle.std.proofs.Common.{◌≡◌, ℕ, zero, suc, ◌<◌, inl, inr, List, [], ◌∷◌, ◌++◌, length, slice_index_or, None, Result, Err, refl, sym, ap, ◌∙◌, subst, arith}
 use Rattle.som_model.specs.Lists.{Mem, first}
 use Rattle.som_model.specs.Class.{Class}
-use Rattle.som_model.specs.Rules.{RuleBreach}
 use Rattle.som_model.specs.declared.key.ClassKey.{ClassKey}
 use Rattle.som_model.specs.declared.key.MethodRef.{MethodRef}
 use Rattle.som_rules.specs.declared.types.VerifyFault.{VerifyFault}

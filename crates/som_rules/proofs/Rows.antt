@@ -104,9 +104,13 @@ stands_with cs place c a b e f =
 pub no_parent : (cs : List Class) (place : ℕ) (c : Class) → all_stand cs place c.decl.face.parents ≡ false → first (s2 (take place cs) c) ≡ Some (breach 2 c (codes "-"))
 no_parent cs place c e = ap first (stands_with cs place c false (all_stand cs place (option_list c.decl.face.metaclass)) e refl)
 
-pub no_meta : (cs : List Class) (place : ℕ) (c : Class) → all_stand cs place c.decl.face.parents ≡ true → all_stand cs place (option_list c.decl.face.metaclass) ≡ false
-    → first (s2 (take place cs) c) ≡ Some (breach 2 c (codes "-"))
-no_meta cs place c e f = ap first (stands_with cs place c true false e f)
+and_false : (a : Bool) → (a && false) ≡ false
+and_false true = refl
+and_false false = refl
+
+pub no_meta : (cs : List Class) (place : ℕ) (c : Class) → all_stand cs place (option_list c.decl.face.metaclass) ≡ false → first (s2 (take place cs) c) ≡ Some (breach 2 c (codes "-"))
+no_meta cs place c f = ap first (stands_with cs place c (all_stand cs place c.decl.face.parents) false refl f
+    ∙ ap (λ (z : Bool). if z then [] else breach 2 c (codes "-") ∷ []) (and_false (all_stand cs place c.decl.face.parents)))
 
 pub stands : (cs : List Class) (place : ℕ) (c : Class) → all_stand cs place c.decl.face.parents ≡ true → all_stand cs place (option_list c.decl.face.metaclass) ≡ true
     → first (s2 (take place cs) c) ≡ None

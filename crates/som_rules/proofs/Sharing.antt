@@ -1,17 +1,14 @@
 -- Only names that stand twice among all classes can stand twice among the ancestors of one.
-use Rattle.std.proofs.Common.{◌≡◌, ℕ, zero, suc, ◌+◌, ◌<◌, ◌⊎◌, inl, inr, Bool, true, false, not, if◌then◌else◌, List, [], ◌∷◌, ◌++◌, map, flat_map, length, drop, take, slice_index_or, refl, sym, ap, ◌∙◌, subst, arith, true≢false}
+use Rattle.std.proofs.Common.{◌≡◌, ℕ, ◌⊎◌, inl, inr, Bool, true, false, not, if◌then◌else◌, List, [], ◌∷◌, ◌++◌, flat_map, refl, sym, ap, ◌∙◌, subst, true≢false}
 use Rattle.std.specs.Prelude.{filter}
 use Rattle.std.proofs.lemmas.List.Elements.{filter-append}
 use Rattle.std.proofs.lemmas.List.{append-nil}
 use Rattle.std.specs.Str.{bytes_eq}
 use Rattle.som_model.specs.Lists.{Mem, among, doubles, some}
-use Rattle.som_model.specs.Class.{Class, introduced}
 use Rattle.som_model.proofs.KeyLaws.{exact_bytes}
 use Rattle.som_laws.proofs.Laws.{among_mem}
 use Rattle.som_laws.proofs.Members.{mem_left, mem_right, mem_split, some_mem, Apart}
-use Rattle.som_rules.specs.Places.{class_of_place, face_at}
-use Rattle.som_rules.specs.Along.{introduced_at}
-use Rattle.som_rules.specs.Shared.{Twice, Covers, all_introduced, kept}
+use Rattle.som_rules.specs.Shared.{Twice, Covers}
 
 -- ---- what is noted
 

@@ -25,3 +25,7 @@ of_library d = class_in modules.Library d
 -- the declared classes of a release
 abbrev pub of_release : List ClassDecl → List Class
 of_release ds = map of_library ds
+
+-- the fault of a pass that found this breach
+abbrev pub Refuses : RuleBreach → VerifyFault → Type 0
+Refuses found e = (breach : Option RuleBreach) → breach ≡ Some found → Tells {A = Unit {0}} breach (Err e)

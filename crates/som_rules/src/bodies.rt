@@ -6,7 +6,7 @@ ghost use Rattle.som_rules.specs.Modules.{class_of, classes_of};
 ghost use Rattle.som_rules.specs.Told.{Tells};
 ghost use Rattle.std.specs.Prelude.{◌≡◌, length, flat_map};
 
-use crate::pass::breach;
+use crate::pass::refusal;
 use crate::types::{Declared, VerifyFault};
 use som_model::{Body, Entry, Sig, ValueType, Variable};
 use std::alloc::Global;
@@ -26,7 +26,7 @@ fn own_bodies_fit(alloc: Global, class: &Declared) -> Result<(), VerifyFault>
 {
     let decl = class.decl;
     if decl.bodies.len() != number_introduced(decl.face.entries.as_slice()) {
-        return Err(breach(alloc, 14, decl, b"-")?);
+        return Err(refusal(alloc, 14, decl, b"-"));
     }
     each_body_fits(alloc, class)
 }
@@ -54,7 +54,7 @@ fn each_body_fits(alloc: Global, class: &Declared) -> Result<(), VerifyFault>
                 [] => return Ok(()),
                 [body, later @ ..] => {
                     if !fits(decl.variables.as_slice(), sig, body) {
-                        return Err(breach(alloc, 14, decl, name.as_slice())?);
+                        return Err(refusal(alloc, 14, decl, name.as_slice()));
                     }
                     bodies = later;
                 }

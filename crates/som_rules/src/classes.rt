@@ -2,14 +2,14 @@ ghost use Rattle.som_model.specs.Class.{class_in};
 ghost use Rattle.som_model.specs.Conforming.{each_after, first_of_members};
 ghost use Rattle.som_model.specs.Kernel.{kernel as kernels, kernel_interface};
 ghost use Rattle.som_model.specs.Lists.{first, or_else};
-ghost use Rattle.som_model.specs.Rules.{s2};
+ghost use Rattle.som_model.specs.Rules.{s2, s3};
 ghost use Rattle.som_order.specs.Names.{texts};
 ghost use Rattle.som_rules.specs.Faces.{classes_breach, methods_breach, placed_breach, standing_breach, types_breach};
 ghost use Rattle.som_rules.specs.Modules.{classes_of};
 ghost use Rattle.som_rules.specs.Places.{IsTable, with_kernel};
 ghost use Rattle.som_rules.specs.Told.{Tells};
-ghost use Rattle.som_rules.specs.Walk.{AreLists};
-ghost use Rattle.std.specs.Prelude.{◌≡◌, ◌≤◌, ◌++◌, length, map, IfOk, None};
+ghost use Rattle.som_rules.specs.Walk.{AreAncestors, AreLists, AreLow};
+ghost use Rattle.std.specs.Prelude.{◌≡◌, ◌≤◌, ◌++◌, length, flat_map, map, IfOk, None};
 
 use crate::ancestry::ancestors;
 use crate::introduced::names_introduced_once;
@@ -75,8 +75,21 @@ pub fn standing_ancestors(
     ensures lists { IfOk result (λ lists. AreLists (with_kernel (classes_of classes.now)) lists.items) }
 {
     let rows = parents_stand(alloc, table, classes)?;
+    distinct_ancestors(alloc, classes, &rows)
+}
+
+// The ancestors of each class by the places of the parents, where no parent stands twice.
+fn distinct_ancestors(
+    alloc: Global,
+    classes: &[Declared],
+    rows: &[List<usize>],
+) -> Result<Vec<List<usize>>, VerifyFault>
+    requires { AreLow rows.now }
+    ensures tells { Tells (first (flat_map s3 (classes_of classes.now))) result }
+    ensures lists { IfOk result (λ lists. AreAncestors rows.now (length rows.now) lists.items) }
+{
     parents_differ(alloc, classes)?;
-    Ok(ancestors(alloc, &rows)?)
+    Ok(ancestors(alloc, rows)?)
 }
 
 // The rules S4 to S10, for classes whose ancestors are known.

@@ -1,7 +1,7 @@
 ghost use Rattle.som_model.specs.Class.{bare};
 ghost use Rattle.som_rules.specs.Faces.{faces_breach};
 ghost use Rattle.som_rules.specs.Told.{Tells, of_release};
-ghost use Rattle.std.specs.Prelude.{◌≡◌, map, IfOk};
+ghost use Rattle.std.specs.Prelude.{◌≡◌, ◌++◌, ◌∷◌, [], map, IfOk, OnOk};
 
 use crate::classes::{classes_hold, declare};
 use crate::types::VerifyFault;
@@ -22,13 +22,20 @@ pub fn bare_classes(alloc: Global, faces: &[ClassFace]) -> Result<List<ClassDecl
 {
     let mut classes = List::new(alloc);
     for face in faces {
-        classes.push(ClassDecl {
-            face: face.copy(alloc)?,
-            variables: List::new(alloc),
-            bodies: List::new(alloc),
-            overrides: List::new(alloc),
-            selects: List::new(alloc),
-        })?;
+        add_bare(alloc, &mut classes, face)?;
     }
     Ok(classes)
+}
+
+fn add_bare(alloc: Global, classes: &mut List<ClassDecl>, face: &ClassFace) -> Result<(), NoMemory>
+    ensures { OnOk result (classes.new ≡ classes.old ++ bare face.now ∷ []) }
+{
+    let face = face.copy(alloc)?;
+    classes.push(ClassDecl {
+        face,
+        variables: List::new(alloc),
+        bodies: List::new(alloc),
+        overrides: List::new(alloc),
+        selects: List::new(alloc),
+    })
 }

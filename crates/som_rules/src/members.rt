@@ -8,7 +8,7 @@ ghost use Rattle.som_rules.specs.Told.{Tells};
 ghost use Rattle.std.specs.Prelude.{◌≡◌, map, flat_map, IfOk};
 
 use crate::double::{add, first_double, has_double};
-use crate::pass::breach;
+use crate::pass::refusal;
 use crate::types::{Declared, VerifyFault};
 use som_model::{Entry, NoMemory, Variable};
 use som_order::name_of;
@@ -28,7 +28,7 @@ fn own_parents_differ(alloc: Global, class: &Declared) -> Result<(), VerifyFault
     ensures { Tells (first (s3 (class_of class.now))) result }
 {
     if has_double(class.decl.face.parents.as_slice()) {
-        return Err(breach(alloc, 3, class.decl, b"-")?);
+        return Err(refusal(alloc, 3, class.decl, b"-"));
     }
     Ok(())
 }
@@ -98,6 +98,6 @@ pub fn each_once(
 {
     match first_double(alloc, names)? {
         None => Ok(()),
-        Some(name) => Err(breach(alloc, rule, class.decl, name)?),
+        Some(name) => Err(refusal(alloc, rule, class.decl, name)),
     }
 }

@@ -11,7 +11,7 @@ ghost use Rattle.som_rules.specs.Walk.{AreLists};
 ghost use Rattle.std.specs.Prelude.{◌≡◌, true, drop, flat_map, is_some, None};
 
 use crate::ancestry::{has_place, item};
-use crate::pass::breach;
+use crate::pass::refusal;
 use crate::table::{KERNEL_CLASSES, SOM_CLASS, find_class};
 use crate::types::{Declared, VerifyFault};
 use indexmap::IndexSet;
@@ -52,7 +52,7 @@ fn own_metaclass_descends(
 {
     let decl = class.decl;
     if !descends(table, classes, lists, &decl.face.metaclass) {
-        return Err(breach(alloc, 4, decl, b"-")?);
+        return Err(refusal(alloc, 4, decl, b"-"));
     }
     Ok(())
 }

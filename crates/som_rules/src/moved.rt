@@ -10,7 +10,7 @@ ghost use Rattle.som_rules.specs.Walk.{AreLists};
 ghost use Rattle.std.specs.Prelude.{◌≡◌, ◌<◌, drop, length, flat_map};
 
 use crate::inherited::{Method, is_inherited};
-use crate::pass::breach;
+use crate::pass::refusal;
 use crate::table::KERNEL_CLASSES;
 use crate::types::{Declared, VerifyFault};
 use indexmap::IndexSet;
@@ -66,7 +66,7 @@ fn own_entries_moved_up(
                 place,
                 &Method { class: to, name },
             ) {
-                return Err(breach(alloc, 9, decl, name.as_slice())?);
+                return Err(refusal(alloc, 9, decl, name.as_slice()));
             }
         }
     }

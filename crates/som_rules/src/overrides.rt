@@ -16,7 +16,7 @@ ghost use Rattle.std.specs.Prelude.{◌≡◌, ◌<◌, ◌++◌, [], true, drop
 
 use crate::inherited::{Method, is_inherited, moved_to};
 use crate::introduced::entries_at;
-use crate::pass::breach;
+use crate::pass::refusal;
 use crate::selects::selects_follow;
 use crate::table::{KERNEL_CLASSES, find_class};
 use crate::types::{Declared, VerifyFault};
@@ -118,7 +118,7 @@ fn overrides_follow<'a>(
     for item in decl.overrides.as_slice() {
         let method = owner_of(table, kernel, classes, &item.method);
         if !may_override(table, kernel, classes, lists, place, before, &method) {
-            return Err(breach(alloc, 10, decl, item.method.name.as_slice())?);
+            return Err(refusal(alloc, 10, decl, item.method.name.as_slice()));
         }
         before.push(method)?;
     }

@@ -7,9 +7,9 @@ ghost use Rattle.som_rules.specs.Modules.{class_of, classes_of};
 ghost use Rattle.som_rules.specs.Places.{IsRows, IsTable, with_kernel};
 ghost use Rattle.som_rules.specs.Standing.{ClassStands, RowStands, all_stand, kernel_rows};
 ghost use Rattle.som_rules.specs.Told.{Tells};
-ghost use Rattle.std.specs.Prelude.{◌≡◌, length, IfOk};
+ghost use Rattle.std.specs.Prelude.{◌≡◌, ◌++◌, ◌∷◌, [], length, IfOk, OnOk};
 
-use crate::pass::breach;
+use crate::pass::refusal;
 use crate::table::find_class;
 use crate::types::{Declared, VerifyFault};
 use indexmap::IndexSet;
@@ -29,11 +29,28 @@ pub fn parents_stand(
         (length (with_kernel (classes_of classes.now))) rows.items) }
 {
     let mut rows = kernel_parents(alloc)?;
+    add_parents(alloc, table, classes, &mut rows)?;
+    Ok(rows)
+}
+
+// Adds the parents of these classes after those of the kernel's.
+fn add_parents(
+    alloc: Global,
+    table: &IndexSet<&[u8]>,
+    classes: &[Declared],
+    rows: &mut Vec<List<usize>>,
+) -> Result<(), VerifyFault>
+    requires table { IsTable (classes_of classes.now) (texts table.now.keys) }
+    requires rows { rows.old.items ≡ kernel_rows }
+    ensures tells { Tells (first (each_after s2 kernel (classes_of classes.now))) result }
+    ensures rows { OnOk result (IsRows (with_kernel (classes_of classes.now))
+        (length (with_kernel (classes_of classes.now))) rows.new.items) }
+{
     for class in classes {
         let row = standing_row(alloc, table, classes, class, rows.len())?;
         rows.push(row)?;
     }
-    Ok(rows)
+    Ok(())
 }
 
 // The parents of a class by their places, if they and the metaclass stand before the place.
@@ -48,15 +65,12 @@ fn standing_row(
     ensures { ClassStands (with_kernel (classes_of classes.now)) place (class_of class.now) result }
 {
     let decl = class.decl;
+    if !metaclass_stands(table, classes, &decl.face.metaclass, place) {
+        return Err(refusal(alloc, 2, decl, b"-"));
+    }
     match row_of(alloc, table, classes, decl.face.parents.as_slice(), place)? {
-        None => Err(breach(alloc, 2, decl, b"-")?),
-        Some(row) => {
-            if metaclass_stands(table, classes, &decl.face.metaclass, place) {
-                Ok(row)
-            } else {
-                Err(breach(alloc, 2, decl, b"-")?)
-            }
-        }
+        Some(row) => Ok(row),
+        None => Err(refusal(alloc, 2, decl, b"-")),
     }
 }
 
@@ -65,11 +79,25 @@ fn kernel_parents(alloc: Global) -> Result<Vec<List<usize>>, NoMemory>
     ensures { IfOk result (λ rows. rows.items ≡ kernel_rows) }
 {
     let mut rows = Vec::new(alloc);
-    rows.push(List::new(alloc))?;
-    rows.push(List::from_slice(alloc, &[0])?)?;
-    rows.push(List::from_slice(alloc, &[0])?)?;
-    rows.push(List::from_slice(alloc, &[1])?)?;
+    add_kernel_parents(alloc, &mut rows)?;
     Ok(rows)
+}
+
+fn add_kernel_parents(alloc: Global, rows: &mut Vec<List<usize>>) -> Result<(), NoMemory>
+    requires { rows.old.items ≡ [] }
+    ensures { OnOk result (rows.new.items ≡ kernel_rows) }
+{
+    add_row(alloc, rows, &[])?;
+    add_row(alloc, rows, &[0])?;
+    add_row(alloc, rows, &[0])?;
+    add_row(alloc, rows, &[1])
+}
+
+fn add_row(alloc: Global, rows: &mut Vec<List<usize>>, row: &[usize]) -> Result<(), NoMemory>
+    ensures { OnOk result (rows.new.items ≡ rows.old.items ++ row.now ∷ []) }
+{
+    rows.push(List::from_slice(alloc, row)?)?;
+    Ok(())
 }
 
 // The places of the parents, if all stand before the place.

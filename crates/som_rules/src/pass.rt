@@ -1,3 +1,4 @@
+ghost use Rattle.som_rules.specs.Told.{Refuses};
 ghost use Rattle.som_rules.specs.declared.types.VerifyFault.TheVariants as faults;
 ghost use Rattle.std.specs.Prelude.{◌≡◌, IfOk};
 
@@ -20,4 +21,14 @@ pub fn breach(
         class: class.face.name.copy(alloc)?,
         member: Text::from_slice(alloc, member)?,
     }))
+}
+
+/// Why a pass fails that finds a breach of a rule by a member of a class: that breach, or want of memory to tell it.
+pub fn refusal(alloc: Global, rule: u8, class: &ClassDecl, member: &[u8]) -> VerifyFault
+    ensures { Refuses (record { rule = rule; class = class.now.face.name; member = member.now }) result }
+{
+    match breach(alloc, rule, class, member) {
+        Ok(fault) => fault,
+        Err(NoMemory) => VerifyFault::NoMemory,
+    }
 }

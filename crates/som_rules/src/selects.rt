@@ -14,7 +14,7 @@ ghost use Rattle.std.specs.Prelude.{◌≡◌, ◌<◌, true, length, map, flat_
 use crate::descent::descends_by;
 use crate::inherited::Method;
 use crate::overrides::{may_override, owner_of};
-use crate::pass::breach;
+use crate::pass::refusal;
 use crate::table::{KERNEL_CLASSES, find_class};
 use crate::types::{Declared, VerifyFault};
 use indexmap::IndexSet;
@@ -50,7 +50,7 @@ pub fn selects_follow<'a>(
         if !may_select(
             table, kernel, classes, lists, place, before, &method, parents, parent,
         ) {
-            return Err(breach(alloc, 10, decl, item.method.name.as_slice())?);
+            return Err(refusal(alloc, 10, decl, item.method.name.as_slice()));
         }
         before.push(method)?;
     }

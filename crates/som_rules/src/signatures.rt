@@ -8,7 +8,7 @@ ghost use Rattle.som_rules.specs.Typed.{entry_types, sig_types, variable_types};
 ghost use Rattle.std.specs.Prelude.{◌≡◌, take, flat_map};
 
 use crate::known::{type_is_known, type_is_of_value};
-use crate::pass::breach;
+use crate::pass::refusal;
 use crate::types::{Declared, VerifyFault};
 use indexmap::IndexSet;
 use som_model::{Entry, Sig, ValueType};
@@ -61,7 +61,7 @@ fn signatures_known(
     for entry in decl.face.entries.as_slice() {
         if let Entry::Introduced { name, sig, .. } = entry {
             if !sig_is_known(table, classes, number, sig) {
-                return Err(breach(alloc, 5, decl, name.as_slice())?);
+                return Err(refusal(alloc, 5, decl, name.as_slice()));
             }
         }
     }
@@ -82,7 +82,7 @@ fn variables_known(
     let decl = class.decl;
     for variable in decl.variables.as_slice() {
         if !type_is_of_value(table, classes, number, &variable.kind) {
-            return Err(breach(alloc, 5, decl, variable.name.as_slice())?);
+            return Err(refusal(alloc, 5, decl, variable.name.as_slice()));
         }
     }
     Ok(())

@@ -10,7 +10,7 @@ ghost use Rattle.som_rules.specs.Places.{Finds, IsTable, module_at, with_kernel}
 ghost use Rattle.som_rules.specs.Told.{Tells};
 ghost use Rattle.std.specs.Prelude.{◌≡◌, ◌<◌, [], length, map, IfOk, OnOk};
 
-use crate::pass::breach;
+use crate::pass::refusal;
 use crate::types::{Declared, VerifyFault};
 use indexmap::IndexSet;
 use som_model::{ClassKey, Module, NoMemory};
@@ -52,7 +52,7 @@ fn note_classes<'a>(
     for class in classes {
         let decl = class.decl;
         if !note_name(seen, decl.face.name.as_slice())? {
-            return Err(breach(alloc, 1, decl, b"-")?);
+            return Err(refusal(alloc, 1, decl, b"-"));
         }
     }
     Ok(())

@@ -1,9 +1,9 @@
-use Rattle.std.proofs.Common.{◌∙◌, ◌+◌, ◌<◌, arith, sym, ap, subst, List, ℕ, flat_map, length}
+use Rattle.std.proofs.Common.{◌∙◌, ◌+◌, ◌<◌, arith, subst, List, ℕ, flat_map, length}
 use Rattle.std.proofs.lemmas.Option.{get_or_from_slice_get}
 use Rattle.som_rules.specs.declared.types.Declared.{Declared}
 use Rattle.som_model.specs.Lists.{first}
 use Rattle.som_model.specs.Rules.{RuleBreach}
-use Rattle.som_rules.specs.Along.{doubles_breach, s8_at}
+use Rattle.som_rules.specs.Along.{doubles_breach}
 use Rattle.som_rules.specs.Shared.{row_names}
 use Rattle.som_rules.specs.Modules.{class_of, classes_of}
 use Rattle.som_rules.specs.Places.{with_kernel}

@@ -19,7 +19,7 @@ returns-then-not-may_override-clause-tells c =
     let lt = subst (λ (z : List Override). i < length z) c.as_slice-item-items.ensures c.loop-item-test.true in
     let is = c.item-item.is ∙ ap (λ (z : List Override). slice_index_or z i o) c.as_slice-item-items.ensures in
     let asks = c.may_override.ensures ∙ ap (λ (z : List Method). may_override cs k (map method_of z) r) c.deref.ensures.value in
-    rw c.in_ok-breach.ensures
+    c.refusal.ensures _
     (override_stops cs k (class_of c.args.class.now) (map method_of c.loop-item.before.items) c.args.class.now.decl.now.overrides i _ c.loop-item.invariant.0 o lt is r c.owner_of-method.ensures c.may_override.result asks
     c.if-not-may_override.true
     ∙ ap (λ (n : List ℕ). Some (breach 10 (class_of c.args.class.now) n)) (sym c.as_slice.ensures))

@@ -1,5 +1,4 @@
 use Rattle.std.proofs.Common.{◌+◌, length, None, sym, ap, ◌∙◌, true≢false}
-use Rattle.som_model.specs.Lists.{some}
 use Rattle.som_model.specs.Classes.{is_a}
 use Rattle.som_rules.specs.Modules.{classes_of}
 use Rattle.som_rules.specs.Places.{key_at, with_kernel}

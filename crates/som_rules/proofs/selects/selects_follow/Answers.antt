@@ -23,7 +23,7 @@ returns-then-not-may_select c =
     ∙ ap (λ (z : List Method). may_select cs k (map method_of z) r (slice_get c.as_slice-parents.result.now c.from-parent.result)) c.deref.ensures.value
     ∙ ap (λ n. may_select cs k (map method_of c.loop-item.before.items) r (slice_get c.as_slice-parents.result.now n)) c.from-parent.ensures
     ∙ ap (λ (ks : List ClassKey). may_select cs k (map method_of c.loop-item.before.items) r (slice_get ks s.parent)) c.as_slice-parents.ensures in
-    rw c.in_ok-breach.ensures
+    c.refusal.ensures _
     (select_stops cs k (class_of c.args.class.now) (map method_of c.loop-item.before.items) c.args.class.now.decl.now.selects i _ c.loop-item.invariant s lt is r c.owner_of-method.ensures c.may_select.result asks
     c.if-not-may_select.true
     ∙ ap (λ (n : List ℕ). Some (breach 10 (class_of c.args.class.now) n)) (sym c.as_slice.ensures))

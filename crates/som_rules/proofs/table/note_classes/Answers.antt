@@ -8,7 +8,7 @@ pub loop-class-init : goal.loop-class-init
 loop-class-init c = record { are = c.requires; same = refl }
 
 pub returns-then-not-branch-clause-tells : goal.returns-then-not-branch-clause-tells
-returns-then-not-branch-clause-tells c = rw c.in_ok-breach.ensures
+returns-then-not-branch-clause-tells c = c.refusal.ensures _
     (names_stop kernel c.args.classes.now c.loop-class.class-index (texts c.loop-class.seen.keys) c.class-item.result c.in_ok-note_name.field-0 c.loop-class-test.true c.class-item.is
     c.if-not-branch.true (rw c.as_slice.ensures at c.in_ok-note_name.ensures.is_new) c.loop-class.invariant)
 
