@@ -9,7 +9,7 @@ use crate::body_context::BodyContext;
 use crate::expressions::value_expression;
 use crate::fault::BodyFault;
 use crate::local::Local;
-use crate::plain_statements::{answer, call, demanded, free, print, set_local, set_variable};
+use crate::plain_statements::{answer, call, free, print, set_local, set_variable};
 use crate::scoping::declared_kind;
 use crate::typed_expr::TypedExpr;
 use som_body::{BlockText, ExprText, StmtText};
@@ -110,12 +110,15 @@ fn choice<'a>(
     let TypedExpr { expr, kind } = value_expression(alloc, context, locals.as_slice(), condition)?;
     let then = block(alloc, context, locals, then)?;
     let other = block(alloc, context, locals, other)?;
-    let made = Stmt::If {
-        condition: expr.into_inner(),
-        then,
-        other,
-    };
-    demanded(17, is_boolean(kind), made)
+    if is_boolean(kind) {
+        Ok(Stmt::If {
+            condition: expr.into_inner(),
+            then,
+            other,
+        })
+    } else {
+        Err(BodyFault::Rule(17))
+    }
 }
 
 #[cycle(statements)]
@@ -133,11 +136,14 @@ fn repetition<'a>(
 {
     let TypedExpr { expr, kind } = value_expression(alloc, context, locals.as_slice(), condition)?;
     let body = block(alloc, context, locals, body)?;
-    let made = Stmt::While {
-        condition: expr.into_inner(),
-        block: body,
-    };
-    demanded(17, is_boolean(kind), made)
+    if is_boolean(kind) {
+        Ok(Stmt::While {
+            condition: expr.into_inner(),
+            block: body,
+        })
+    } else {
+        Err(BodyFault::Rule(17))
+    }
 }
 
 // A local is in scope after its declaration, and not in its own value.
