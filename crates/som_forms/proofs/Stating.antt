@@ -1,5 +1,5 @@
 -- Statements by their values: where a value breaks a rule, and what a demand comes to.
-use Rattle.std.proofs.Common.{◌≡◌, ℕ, zero, suc, ◌<◌, Bool, true, false, List, [], ◌∷◌, length, slice_get, slice_index_or, Option, Some, None, Ok, Err, refl, sym, ap, ◌∙◌, arith}
+use Rattle.std.proofs.Common.{◌≡◌, ℕ, zero, suc, ◌<◌, Bool, true, false, List, [], ◌∷◌, length, slice_get, slice_index_or, Option, Some, None, Result, Ok, Err, refl, sym, ap, ◌∙◌, subst, arith}
 use Rattle.som_model.specs.declared.key.ValueType.{ValueType}
 use Rattle.som_model.specs.declared.syntax.Stmt.{Stmt}
 use Rattle.som_model.specs.declared.syntax.Stmt.TheVariants as stmts
@@ -11,11 +11,13 @@ use Rattle.som_typing.specs.declared.code_place.TypeFault.TheVariants as types
 use Rattle.som_typing.specs.Kinds.{Fails, IsType, type_at}
 use Rattle.som_typing.proofs.KindLaws.{index_mem}
 use Rattle.som_forms.specs.declared.local.Local.{Local}
+use Rattle.som_forms.specs.declared.fault.BodyFault.{BodyFault}
 use Rattle.som_forms.specs.Locals.{Names, kinds_of, local_of}
 use Rattle.som_forms.specs.Methods.{variable_place}
 use Rattle.som_forms.specs.Expressions.{Among, Elab, Elaborated, facts_among}
 use Rattle.som_forms.specs.Statements.{Breaks, Placed, Told, placed, ruled, set_local, set_variable}
 use Rattle.som_forms.specs.Code.{AreLocals, Stops, names_at, of_type_fault}
+use Rattle.som_forms.specs.Stated.{Keeps, demanded}
 
 -- where a value breaks a rule, what follows is not looked at
 pub value_stops : {B : Type 0} (value : Elab) (f : Elaborated → Ruled B) (e : TypeFault) → Fails value e → Stops (ruled (value >>= f)) (of_type_fault e)
@@ -32,6 +34,12 @@ allowed scope comes rule test s e holds = e ∙ ap (λ b. ruled (needs rule b (p
 
 pub refused : (scope : Names) (comes : Told Placed) (rule : ℕ) (test : Bool) (s : Stmt) → comes ≡ ruled (needs rule test (placed scope s)) → test ≡ false → comes ≡ Err (Breaks rule)
 refused scope comes rule test s e fails = e ∙ ap (λ b. ruled (needs rule b (placed scope s))) fails
+
+-- the same of a statement that is made or refused
+pub kept : (cs : List Class) (ls : List Local) (comes : Told Placed) (rule : ℕ) (holds : Bool) (s : Stmt) (r : Result Stmt BodyFault)
+    → comes ≡ ruled (needs rule holds (placed (names_at cs ls) s)) → r ≡ demanded rule holds s → Keeps cs comes ls r
+kept cs ls comes rule true s r e is = subst (λ z. Keeps cs comes ls z) (sym is) e
+kept cs ls comes rule false s r e is = subst (λ z. Keeps cs comes ls z) (sym is) e
 
 -- ---- what is set
 

@@ -1,5 +1,5 @@
 -- A block by its statements one after the other, and statements that hold blocks.
-use Rattle.std.proofs.Common.{◌≡◌, ℕ, ◌+◌, ◌<◌, ◌≤◌, true, false, List, [], ◌∷◌, ◌++◌, length, map, take, drop, get_or, Result, Ok, Err, refl, sym, ap, ◌∙◌, subst, append_assoc}
+use Rattle.std.proofs.Common.{◌≡◌, ℕ, ◌+◌, ◌<◌, ◌≤◌, List, [], ◌∷◌, ◌++◌, length, map, take, drop, get_or, Result, Ok, Err, refl, sym, ap, ◌∙◌, subst, append_assoc}
 use Rattle.std.proofs.lemmas.List.{append-nil, at_drop_more, drop_all}
 use Rattle.som_model.specs.declared.syntax.Stmt.{Stmt}
 use Rattle.som_model.specs.declared.syntax.Stmt.TheVariants as stmts
@@ -14,10 +14,10 @@ use Rattle.som_forms.specs.declared.fault.BodyFault.{BodyFault}
 use Rattle.som_forms.specs.declared.fault.BodyFault.TheVariants as faults
 use Rattle.som_forms.specs.Locals.{Names}
 use Rattle.som_forms.specs.Expressions.{Among, Elab, Elaborated}
-use Rattle.som_forms.specs.Statements.{Breaks, Placed, StmtElab, Told, elaborated_block, elaborated_stmt, in_turn, placed, ruled}
+use Rattle.som_forms.specs.Statements.{Placed, StmtElab, Told, elaborated_block, elaborated_stmt, in_turn, placed, ruled}
 use Rattle.som_forms.specs.Code.{AreLocals, Stops, names_at}
-use Rattle.som_forms.specs.Stated.{Keeps, Leaves, States, if_by, while_by}
-use Rattle.som_forms.proofs.Stating.{allowed, refused}
+use Rattle.som_forms.specs.Stated.{Keeps, Leaves, States, demanded, if_by, while_by}
+use Rattle.som_forms.proofs.Stating.{kept}
 use Rattle.som_forms.proofs.TextForms.{block_is}
 
 -- where something is wrong, what follows is not looked at
@@ -119,16 +119,13 @@ as_before cs step all left before now done p = ap (take (length before)) p.more 
 -- ---- forms
 
 -- a statement that declares nothing leaves its scope
-leaves_scope : (cs : List Class) (comes : Told Placed) (s : Stmt) (before after : List Local) → AreLocals cs before → after ≡ before → comes ≡ Ok (record { stmt = s; scope = names_at cs before }) → Leaves cs comes s before after
-leaves_scope cs comes s before after locals same k = record {
+pub leaves : (cs : List Class) (comes : Told Placed) (before after : List Local) (r : Result Stmt BodyFault) → AreLocals cs before → after ≡ before → Keeps cs comes before r → States cs comes before after r
+leaves cs comes before after (Ok s) locals same k = record {
   makes = k ∙ ap (λ z. Ok (record { stmt = s; scope = names_at cs z })) (sym same);
   locals = subst (λ z. AreLocals cs z) (sym same) locals;
   declared = [];
   more = same ∙ sym (append-nil before);
 }
-
-leaves : (cs : List Class) (comes : Told Placed) (before after : List Local) (r : Result Stmt BodyFault) → AreLocals cs before → after ≡ before → Keeps cs comes before r → States cs comes before after r
-leaves cs comes before after (Ok s) locals same k = leaves_scope cs comes s before after locals same k
 leaves cs comes before after (Err e) locals same k = k
 
 -- what a statement comes to by its form
@@ -142,32 +139,18 @@ plainly cs comes form before shown r locals same is k =
     formed cs comes (form before) before before r is (leaves cs (form before) before before r locals refl (subst (λ (z : List Local). Keeps cs (form z) z r) same k))
 
 -- a condition, blocks, and then the condition's type
-module _ (cs : List Class) (ls : List Local) (value : Elab) (p : Elaborated) (given : value ≡ Ok p) where
-  module _ (block : Told Block) (b : Block) (body : block ≡ Ok b) where
-    while_comes : while_by value block (names_at cs ls) ≡ ruled (needs 17 (is_boolean p.type) (placed (names_at cs ls) (stmts.While p.expr b)))
-    while_comes =
-        ap (λ (z : Elab). while_by z block (names_at cs ls)) given
-        ∙ ap (λ (z : Told Block). z >>= λ b. ruled (needs 17 (is_boolean p.type) (placed (names_at cs ls) (stmts.While p.expr b)))) body
+pub while_kept : (cs : List Class) (ls : List Local) (value : Elab) (p : Elaborated) (block : Told Block) (b : Block) (r : Result Stmt BodyFault)
+    → value ≡ Ok p → block ≡ Ok b → r ≡ demanded 17 (is_boolean p.type) (stmts.While p.expr b)
+    → Keeps cs (while_by value block (names_at cs ls)) ls r
+while_kept cs ls value p block b r e f is =
+    kept cs ls (while_by value block (names_at cs ls)) 17 (is_boolean p.type) (stmts.While p.expr b) r
+    (ap (λ (z : Elab). while_by z block (names_at cs ls)) e ∙ ap (λ (z : Told Block). z >>= λ b. ruled (needs 17 (is_boolean p.type) (placed (names_at cs ls) (stmts.While p.expr b)))) f) is
 
-    pub while_made : (after : List Local) → AreLocals cs ls → after ≡ ls → is_boolean p.type ≡ true → Leaves cs (while_by value block (names_at cs ls)) (stmts.While p.expr b) ls after
-    while_made after locals same holds =
-        leaves_scope cs (while_by value block (names_at cs ls)) (stmts.While p.expr b) ls after locals same
-        (allowed (names_at cs ls) (while_by value block (names_at cs ls)) 17 (is_boolean p.type) (stmts.While p.expr b) while_comes holds)
-
-    pub while_refused : is_boolean p.type ≡ false → while_by value block (names_at cs ls) ≡ Err (Breaks 17)
-    while_refused fails = refused (names_at cs ls) (while_by value block (names_at cs ls)) 17 (is_boolean p.type) (stmts.While p.expr b) while_comes fails
-
-  module _ (first second : Told Block) (b c : Block) (one : first ≡ Ok b) (other : second ≡ Ok c) where
-    if_comes : if_by value first second (names_at cs ls) ≡ ruled (needs 17 (is_boolean p.type) (placed (names_at cs ls) (stmts.If p.expr b c)))
-    if_comes =
-        ap (λ (z : Elab). if_by z first second (names_at cs ls)) given
-        ∙ ap (λ (z : Told Block). z >>= λ b. second >>= λ c. ruled (needs 17 (is_boolean p.type) (placed (names_at cs ls) (stmts.If p.expr b c)))) one
-        ∙ ap (λ (z : Told Block). z >>= λ c. ruled (needs 17 (is_boolean p.type) (placed (names_at cs ls) (stmts.If p.expr b c)))) other
-
-    pub if_made : (after : List Local) → AreLocals cs ls → after ≡ ls → is_boolean p.type ≡ true → Leaves cs (if_by value first second (names_at cs ls)) (stmts.If p.expr b c) ls after
-    if_made after locals same holds =
-        leaves_scope cs (if_by value first second (names_at cs ls)) (stmts.If p.expr b c) ls after locals same
-        (allowed (names_at cs ls) (if_by value first second (names_at cs ls)) 17 (is_boolean p.type) (stmts.If p.expr b c) if_comes holds)
-
-    pub if_refused : is_boolean p.type ≡ false → if_by value first second (names_at cs ls) ≡ Err (Breaks 17)
-    if_refused fails = refused (names_at cs ls) (if_by value first second (names_at cs ls)) 17 (is_boolean p.type) (stmts.If p.expr b c) if_comes fails
+pub if_kept : (cs : List Class) (ls : List Local) (value : Elab) (p : Elaborated) (first second : Told Block) (b c : Block) (r : Result Stmt BodyFault)
+    → value ≡ Ok p → first ≡ Ok b → second ≡ Ok c → r ≡ demanded 17 (is_boolean p.type) (stmts.If p.expr b c)
+    → Keeps cs (if_by value first second (names_at cs ls)) ls r
+if_kept cs ls value p first second b c r e f g is =
+    kept cs ls (if_by value first second (names_at cs ls)) 17 (is_boolean p.type) (stmts.If p.expr b c) r
+    (ap (λ (z : Elab). if_by z first second (names_at cs ls)) e
+    ∙ ap (λ (z : Told Block). z >>= λ b. second >>= λ c. ruled (needs 17 (is_boolean p.type) (placed (names_at cs ls) (stmts.If p.expr b c)))) f
+    ∙ ap (λ (z : Told Block). z >>= λ c. ruled (needs 17 (is_boolean p.type) (placed (names_at cs ls) (stmts.If p.expr b c)))) g) is
