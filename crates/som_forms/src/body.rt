@@ -5,6 +5,7 @@ ghost use Rattle.som_forms.specs.Statements.{elaborated_block};
 ghost use Rattle.som_model.specs.Lists.{doubles, every, first};
 ghost use Rattle.som_model.specs.Rules.{is_known};
 ghost use Rattle.som_model.specs.Typing.{in_main};
+ghost use Rattle.som_order.specs.Names.{texts};
 ghost use Rattle.som_rules.specs.Places.{class_of_place};
 ghost use Rattle.som_scope.specs.Words.{words as texts_of};
 ghost use Rattle.som_typing.specs.Kinds.{IsDeclared};
@@ -60,13 +61,20 @@ pub fn method_body(
 }
 
 // Whether a word stands a second time.
-#[tactic(auto, using(crate::proofs::Parameters::word_next))]
 fn has_double(alloc: Global, words: &[Word]) -> Result<bool, NoMemory>
     ensures { IfOk result (λ double. double ≡ is_some (first (doubles bytes_eq [] (texts_of words.now)))) }
 {
     let mut seen = IndexSet::new(alloc);
+    has_double_after(&mut seen, words)
+}
+
+// Whether one of these words was seen before, or stands a second time.
+#[tactic(auto, using(crate::proofs::Parameters::word_next))]
+fn has_double_after<'a>(seen: &mut IndexSet<&'a [u8]>, words: &'a [Word]) -> Result<bool, NoMemory>
+    ensures { IfOk result (λ double. double ≡ is_some (first (doubles bytes_eq (texts seen.old.keys) (texts_of words.now)))) }
+{
     for word in words {
-        if !note_name(&mut seen, word.text.as_slice())? {
+        if !note_name(seen, word.text.as_slice())? {
             return Ok(true);
         }
     }
