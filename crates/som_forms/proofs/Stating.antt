@@ -1,5 +1,5 @@
 -- Statements by their values: where a value breaks a rule, and what a demand comes to.
-use Rattle.std.proofs.Common.{◌≡◌, ℕ, zero, suc, ◌<◌, Bool, true, false, List, [], ◌∷◌, length, slice_get, slice_index_or, Option, Some, None, Result, Ok, Err, refl, sym, ap, ◌∙◌, subst, arith}
+use Rattle.std.proofs.Common.{◌≡◌, ℕ, zero, suc, ◌<◌, Bool, true, false, if◌then◌else◌, List, [], ◌∷◌, length, slice_get, slice_index_or, Option, Some, None, Result, Ok, Err, refl, sym, ap, ◌∙◌, subst, arith}
 use Rattle.som_model.specs.declared.key.ValueType.{ValueType}
 use Rattle.som_model.specs.declared.syntax.Stmt.{Stmt}
 use Rattle.som_model.specs.declared.syntax.Stmt.TheVariants as stmts
@@ -12,12 +12,13 @@ use Rattle.som_typing.specs.Kinds.{Fails, IsType, type_at}
 use Rattle.som_typing.proofs.KindLaws.{index_mem}
 use Rattle.som_forms.specs.declared.local.Local.{Local}
 use Rattle.som_forms.specs.declared.fault.BodyFault.{BodyFault}
+use Rattle.som_forms.specs.declared.fault.BodyFault.TheVariants as faults
 use Rattle.som_forms.specs.Locals.{Names, kinds_of, local_of}
 use Rattle.som_forms.specs.Methods.{variable_place}
 use Rattle.som_forms.specs.Expressions.{Among, Elab, Elaborated, facts_among}
 use Rattle.som_forms.specs.Statements.{Breaks, Placed, Told, placed, ruled, set_local, set_variable}
 use Rattle.som_forms.specs.Code.{AreLocals, Stops, names_at, of_type_fault}
-use Rattle.som_forms.specs.Stated.{Keeps, demanded}
+use Rattle.som_forms.specs.Stated.{Keeps, by_value}
 
 -- where a value breaks a rule, what follows is not looked at
 pub value_stops : {B : Type 0} (value : Elab) (f : Elaborated → Ruled B) (e : TypeFault) → Fails value e → Stops (ruled (value >>= f)) (of_type_fault e)
@@ -28,18 +29,21 @@ pub part_stops : {B : Type 0} (value : Elab) (f : Elaborated → Told B) (e : Ty
 part_stops value f (types.Rule r) t = ap (λ (z : Elab). ruled z >>= f) t
 part_stops value f types.NoMemory t = tt
 
--- what a demand comes to, where it holds and where it doesn't
-pub allowed : (scope : Names) (comes : Told Placed) (rule : ℕ) (test : Bool) (s : Stmt) → comes ≡ ruled (needs rule test (placed scope s)) → test ≡ true → comes ≡ Ok (record { stmt = s; scope = scope })
-allowed scope comes rule test s e holds = e ∙ ap (λ b. ruled (needs rule b (placed scope s))) holds
+-- what a demand comes to
+pub kept : (cs : List Class) (ls : List Local) (comes : Told Placed) (rule : ℕ) (holds test : Bool) (s : Stmt) (r : Result Stmt BodyFault)
+    → comes ≡ ruled (needs rule test (placed (names_at cs ls) s)) → holds ≡ test → r ≡ (if holds then Ok s else Err (faults.Rule rule)) → Keeps cs comes ls r
+kept cs ls comes rule true test s r e h is = subst (λ z. Keeps cs comes ls z) (sym is) (e ∙ ap (λ b. ruled (needs rule b (placed (names_at cs ls) s))) (sym h))
+kept cs ls comes rule false test s r e h is = subst (λ z. Keeps cs comes ls z) (sym is) (e ∙ ap (λ b. ruled (needs rule b (placed (names_at cs ls) s))) (sym h))
 
-pub refused : (scope : Names) (comes : Told Placed) (rule : ℕ) (test : Bool) (s : Stmt) → comes ≡ ruled (needs rule test (placed scope s)) → test ≡ false → comes ≡ Err (Breaks rule)
-refused scope comes rule test s e fails = e ∙ ap (λ b. ruled (needs rule b (placed scope s))) fails
+-- the same of a form, by its value
+pub tested : (cs : List Class) (ls : List Local) (value : Elab) (form : Elaborated → Ruled Placed) (p : Elaborated) (rule : ℕ) (holds test : Bool) (s : Stmt) (r : Result Stmt BodyFault)
+    → value ≡ Ok p → form p ≡ needs rule test (placed (names_at cs ls) s) → holds ≡ test → r ≡ (if holds then Ok s else Err (faults.Rule rule)) → Keeps cs (by_value value form) ls r
+tested cs ls value form p rule holds test s r e f h is =
+    kept cs ls (by_value value form) rule holds test s r (ap (λ (z : Elab). by_value z form) e ∙ ap (λ (z : Ruled Placed). ruled z) f) h is
 
--- the same of a statement that is made or refused
-pub kept : (cs : List Class) (ls : List Local) (comes : Told Placed) (rule : ℕ) (holds : Bool) (s : Stmt) (r : Result Stmt BodyFault)
-    → comes ≡ ruled (needs rule holds (placed (names_at cs ls) s)) → r ≡ demanded rule holds s → Keeps cs comes ls r
-kept cs ls comes rule true s r e is = subst (λ z. Keeps cs comes ls z) (sym is) e
-kept cs ls comes rule false s r e is = subst (λ z. Keeps cs comes ls z) (sym is) e
+-- what the form asks for is not there
+pub missing : (value : Elab) (form : Elaborated → Ruled Placed) (p : Elaborated) (rule : ℕ) → value ≡ Ok p → form p ≡ Err rule → by_value value form ≡ Err (Breaks rule)
+missing value form p rule e f = ap (λ (z : Elab). by_value z form) e ∙ ap (λ (z : Ruled Placed). ruled z) f
 
 -- ---- what is set
 

@@ -1,5 +1,5 @@
 -- A block by its statements one after the other, and statements that hold blocks.
-use Rattle.std.proofs.Common.{◌≡◌, ℕ, ◌+◌, ◌<◌, ◌≤◌, List, [], ◌∷◌, ◌++◌, length, map, take, drop, get_or, Result, Ok, Err, refl, sym, ap, ◌∙◌, subst, append_assoc}
+use Rattle.std.proofs.Common.{◌≡◌, ℕ, ◌+◌, ◌<◌, ◌≤◌, Bool, if◌then◌else◌, List, [], ◌∷◌, ◌++◌, length, map, take, drop, get_or, Result, Ok, Err, refl, sym, ap, ◌∙◌, subst, append_assoc}
 use Rattle.std.proofs.lemmas.List.{append-nil, at_drop_more, drop_all}
 use Rattle.som_model.specs.declared.syntax.Stmt.{Stmt}
 use Rattle.som_model.specs.declared.syntax.Stmt.TheVariants as stmts
@@ -16,7 +16,7 @@ use Rattle.som_forms.specs.Locals.{Names}
 use Rattle.som_forms.specs.Expressions.{Among, Elab, Elaborated}
 use Rattle.som_forms.specs.Statements.{Placed, StmtElab, Told, elaborated_block, elaborated_stmt, in_turn, placed, ruled}
 use Rattle.som_forms.specs.Code.{AreLocals, Stops, names_at}
-use Rattle.som_forms.specs.Stated.{Keeps, Leaves, States, demanded, if_by, while_by}
+use Rattle.som_forms.specs.Stated.{Keeps, Leaves, States, if_by, while_by}
 use Rattle.som_forms.proofs.Stating.{kept}
 use Rattle.som_forms.proofs.TextForms.{block_is}
 
@@ -139,18 +139,18 @@ plainly cs comes form before shown r locals same is k =
     formed cs comes (form before) before before r is (leaves cs (form before) before before r locals refl (subst (λ (z : List Local). Keeps cs (form z) z r) same k))
 
 -- a condition, blocks, and then the condition's type
-pub while_kept : (cs : List Class) (ls : List Local) (value : Elab) (p : Elaborated) (block : Told Block) (b : Block) (r : Result Stmt BodyFault)
-    → value ≡ Ok p → block ≡ Ok b → r ≡ demanded 17 (is_boolean p.type) (stmts.While p.expr b)
+pub while_kept : (cs : List Class) (ls : List Local) (value : Elab) (p : Elaborated) (block : Told Block) (b : Block) (holds : Bool) (r : Result Stmt BodyFault)
+    → value ≡ Ok p → block ≡ Ok b → holds ≡ is_boolean p.type → r ≡ (if holds then Ok (stmts.While p.expr b) else Err (faults.Rule 17))
     → Keeps cs (while_by value block (names_at cs ls)) ls r
-while_kept cs ls value p block b r e f is =
-    kept cs ls (while_by value block (names_at cs ls)) 17 (is_boolean p.type) (stmts.While p.expr b) r
-    (ap (λ (z : Elab). while_by z block (names_at cs ls)) e ∙ ap (λ (z : Told Block). z >>= λ b. ruled (needs 17 (is_boolean p.type) (placed (names_at cs ls) (stmts.While p.expr b)))) f) is
+while_kept cs ls value p block b holds r e f h is =
+    kept cs ls (while_by value block (names_at cs ls)) 17 holds (is_boolean p.type) (stmts.While p.expr b) r
+    (ap (λ (z : Elab). while_by z block (names_at cs ls)) e ∙ ap (λ (z : Told Block). z >>= λ b. ruled (needs 17 (is_boolean p.type) (placed (names_at cs ls) (stmts.While p.expr b)))) f) h is
 
-pub if_kept : (cs : List Class) (ls : List Local) (value : Elab) (p : Elaborated) (first second : Told Block) (b c : Block) (r : Result Stmt BodyFault)
-    → value ≡ Ok p → first ≡ Ok b → second ≡ Ok c → r ≡ demanded 17 (is_boolean p.type) (stmts.If p.expr b c)
+pub if_kept : (cs : List Class) (ls : List Local) (value : Elab) (p : Elaborated) (first second : Told Block) (b c : Block) (holds : Bool) (r : Result Stmt BodyFault)
+    → value ≡ Ok p → first ≡ Ok b → second ≡ Ok c → holds ≡ is_boolean p.type → r ≡ (if holds then Ok (stmts.If p.expr b c) else Err (faults.Rule 17))
     → Keeps cs (if_by value first second (names_at cs ls)) ls r
-if_kept cs ls value p first second b c r e f g is =
-    kept cs ls (if_by value first second (names_at cs ls)) 17 (is_boolean p.type) (stmts.If p.expr b c) r
+if_kept cs ls value p first second b c holds r e f g h is =
+    kept cs ls (if_by value first second (names_at cs ls)) 17 holds (is_boolean p.type) (stmts.If p.expr b c) r
     (ap (λ (z : Elab). if_by z first second (names_at cs ls)) e
     ∙ ap (λ (z : Told Block). z >>= λ b. second >>= λ c. ruled (needs 17 (is_boolean p.type) (placed (names_at cs ls) (stmts.If p.expr b c)))) f
-    ∙ ap (λ (z : Told Block). z >>= λ c. ruled (needs 17 (is_boolean p.type) (placed (names_at cs ls) (stmts.If p.expr b c)))) g) is
+    ∙ ap (λ (z : Told Block). z >>= λ c. ruled (needs 17 (is_boolean p.type) (placed (names_at cs ls) (stmts.If p.expr b c)))) g) h is

@@ -1,5 +1,5 @@
 -- What statements and blocks make of the locals in scope.
-use Rattle.std.specs.Prelude.{◌≡◌, ℕ, ◌<◌, Bool, if◌then◌else◌, List, [], ◌∷◌, ◌++◌, length, Result, Ok, Err}
+use Rattle.std.specs.Prelude.{◌≡◌, ℕ, ◌<◌, List, [], ◌∷◌, ◌++◌, length, Result, Ok, Err}
 use Rattle.som_model.specs.declared.key.ValueType.{ValueType}
 use Rattle.som_model.specs.declared.limits.TheConstants.{MAX_LOCALS}
 use Rattle.som_model.specs.declared.syntax.Expr.{Expr}
@@ -17,7 +17,6 @@ use Rattle.som_typing.specs.Kinds.{IsType, type_at}
 use Rattle.som_forms.specs.declared.local.Local.{Local}
 use Rattle.som_forms.specs.declared.body_context.BodyContext.{BodyContext}
 use Rattle.som_forms.specs.declared.fault.BodyFault.{BodyFault}
-use Rattle.som_forms.specs.declared.fault.BodyFault.TheVariants as faults
 use Rattle.som_forms.specs.Locals.{Names}
 use Rattle.som_forms.specs.Expressions.{Elab, Elaborated, elaborated, elaborated_value}
 use Rattle.som_forms.specs.Statements.{Placed, Told, elaborated_block, elaborated_stmt, placed, ruled}
@@ -50,10 +49,6 @@ by_value value form = ruled (value >>= form)
 -- a declaration by its value
 abbrev pub declared_by : Elab → (Elaborated → Told Placed) → Told Placed
 declared_by value form = ruled value >>= form
-
--- a statement of which a rule asks something
-abbrev pub demanded : ℕ → Bool → Stmt → Result Stmt BodyFault
-demanded rule holds s = if holds then Ok s else Err (faults.Rule rule)
 
 -- a condition, a block, and then the condition's type
 abbrev pub while_by : Elab → Told Block → Names → Told Placed

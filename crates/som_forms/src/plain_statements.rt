@@ -2,11 +2,12 @@ ghost use Rattle.som_forms.specs.Code.{AreLocals, IsBodyContext, among_at, class
 ghost use Rattle.som_forms.specs.Locals as named;
 ghost use Rattle.som_forms.specs.Stated.{Keeps, by_value, expr_in, names_in, value_in};
 ghost use Rattle.som_forms.specs.Statements as forms;
+ghost use Rattle.som_forms.specs.declared.fault.BodyFault.TheVariants as faults;
 ghost use Rattle.som_model.specs.Class.{Class};
 ghost use Rattle.som_model.specs.Typing as typing;
 ghost use Rattle.som_typing.specs.Kinds.{IsType, Stands, kind_at, type_at};
 ghost use Rattle.som_typing.specs.Knowing.{facts_of};
-ghost use Rattle.std.specs.Prelude.{◌≡◌, ◌<◌, ◌&&◌, not, length, slice_get, List as Seq, Some};
+ghost use Rattle.std.specs.Prelude.{◌≡◌, ◌<◌, ◌&&◌, not, if◌then◌else◌, length, slice_get, List as Seq, Some, Ok, Err};
 
 use crate::body_context::BodyContext;
 use crate::expressions::{expression, value_expression};
@@ -18,6 +19,17 @@ use som_body::ExprText;
 use som_model::Stmt;
 use som_typing::{Kind, has_text, is_call, is_nothing, is_object, kind_fits, variable_kind};
 use std::alloc::Global;
+
+/// A statement of which a rule asks something.
+pub fn demanded(rule: u8, holds: bool, statement: Stmt) -> Result<Stmt, BodyFault>
+    ensures { result ≡ (if holds then Ok statement else Err (faults.Rule rule)) }
+{
+    if holds {
+        Ok(statement)
+    } else {
+        Err(BodyFault::Rule(rule))
+    }
+}
 
 /// A local that is in scope takes a value that fits it.
 pub fn set_local(
@@ -52,15 +64,15 @@ fn local_takes(
     match local_of(locals, name) {
         None => Err(BodyFault::Rule(16)),
         Some(local) => {
-            let wanted = kind_of_local(locals, local as usize);
-            if kind_fits(&context.known, wanted, kind) {
-                Ok(Stmt::SetLocal {
+            let fits = kind_fits(&context.known, kind_of_local(locals, local as usize), kind);
+            demanded(
+                17,
+                fits,
+                Stmt::SetLocal {
                     local,
                     value: expr.into_inner(),
-                })
-            } else {
-                Err(BodyFault::Rule(17))
-            }
+                },
+            )
         }
     }
 }
@@ -107,14 +119,15 @@ fn variable_takes(
         Some(variable) => match variable_kind(&context.known, &context.at, variable as usize) {
             Err(rule) => Err(BodyFault::Rule(rule)),
             Ok(wanted) => {
-                if kind_fits(&context.known, wanted, kind) {
-                    Ok(Stmt::SetVariable {
+                let fits = kind_fits(&context.known, wanted, kind);
+                demanded(
+                    17,
+                    fits,
+                    Stmt::SetVariable {
                         variable,
                         value: expr.into_inner(),
-                    })
-                } else {
-                    Err(BodyFault::Rule(17))
-                }
+                    },
+                )
             }
         },
     }
@@ -132,13 +145,7 @@ pub fn answer(
     ensures { Keeps (classes_at context.now) (forms.ruled (forms.returned (among_at context.now) (place_at context.now) (names_in context.now locals.now) value.now)) locals.now result }
 {
     match value {
-        None => {
-            if is_nothing(context.at.result) {
-                Ok(Stmt::Return)
-            } else {
-                Err(BodyFault::Rule(19))
-            }
-        }
+        None => demanded(19, is_nothing(context.at.result), Stmt::Return),
         Some(value) => answer_value(alloc, context, locals, value),
     }
 }
@@ -155,13 +162,13 @@ fn answer_value(
         (forms.value_return (among_at context.now) (place_at context.now) (names_in context.now locals.now))) locals.now result }
 {
     let TypedExpr { expr, kind } = value_expression(alloc, context, locals, value)?;
-    if is_answer(context, kind) {
-        Ok(Stmt::ReturnValue {
+    demanded(
+        19,
+        is_answer(context, kind),
+        Stmt::ReturnValue {
             value: expr.into_inner(),
-        })
-    } else {
-        Err(BodyFault::Rule(19))
-    }
+        },
+    )
 }
 
 // Whether a value is wanted, and this one fits.
@@ -190,13 +197,13 @@ pub fn print(
     ensures { Keeps (classes_at context.now) (by_value (value_in context.now locals.now value.now) (forms.printed (names_in context.now locals.now))) locals.now result }
 {
     let TypedExpr { expr, kind } = value_expression(alloc, context, locals, value)?;
-    if has_text(kind) {
-        Ok(Stmt::Print {
+    demanded(
+        17,
+        has_text(kind),
+        Stmt::Print {
             value: expr.into_inner(),
-        })
-    } else {
-        Err(BodyFault::Rule(17))
-    }
+        },
+    )
 }
 
 /// What is freed is an object, and not plain nil.
@@ -211,13 +218,13 @@ pub fn free(
     ensures { Keeps (classes_at context.now) (by_value (value_in context.now locals.now value.now) (forms.freed (names_in context.now locals.now))) locals.now result }
 {
     let TypedExpr { expr, kind } = value_expression(alloc, context, locals, value)?;
-    if is_object(kind) {
-        Ok(Stmt::Free {
+    demanded(
+        17,
+        is_object(kind),
+        Stmt::Free {
             value: expr.into_inner(),
-        })
-    } else {
-        Err(BodyFault::Rule(17))
-    }
+        },
+    )
 }
 
 /// A call stands alone, whatever it answers, and nothing else does.
@@ -232,11 +239,12 @@ pub fn call(
     ensures { Keeps (classes_at context.now) (by_value (expr_in context.now locals.now call.now) (forms.call_statement (names_in context.now locals.now))) locals.now result }
 {
     let TypedExpr { expr, .. } = expression(alloc, context, locals, call)?;
-    if is_call(expr.get()) {
-        Ok(Stmt::Call {
+    let stands = is_call(expr.get());
+    demanded(
+        20,
+        stands,
+        Stmt::Call {
             call: expr.into_inner(),
-        })
-    } else {
-        Err(BodyFault::Rule(20))
-    }
+        },
+    )
 }

@@ -1,19 +1,15 @@
 ghost use Rattle.som_forms.specs.Code.{AreLocals, Blocks, IsBodyContext, among_at, classes_at, names_at, place_at};
-ghost use Rattle.som_forms.specs.Stated.{States, block_in, declared_by, demanded, if_by, names_in, stmt_in, value_in, while_by};
+ghost use Rattle.som_forms.specs.Stated.{States, block_in, declared_by, if_by, names_in, stmt_in, value_in, while_by};
 ghost use Rattle.som_forms.specs.Statements as forms;
 ghost use Rattle.som_forms.specs.Statements.{elaborated_block};
-ghost use Rattle.som_model.specs.Class.{Class};
-ghost use Rattle.som_model.specs.Typing.{is_boolean};
-ghost use Rattle.som_model.specs.declared.syntax.Stmt.TheVariants as stmts;
 ghost use Rattle.som_scope.specs.ClassNames.{module_in_scope, type_of as type_named};
-ghost use Rattle.som_typing.specs.Kinds.{kind_at};
-ghost use Rattle.std.specs.Prelude.{◌≡◌, IfOk, List as Seq};
+ghost use Rattle.std.specs.Prelude.{◌≡◌, IfOk};
 
 use crate::body_context::BodyContext;
 use crate::expressions::value_expression;
 use crate::fault::BodyFault;
 use crate::local::Local;
-use crate::plain_statements::{answer, call, free, print, set_local, set_variable};
+use crate::plain_statements::{answer, call, demanded, free, print, set_local, set_variable};
 use crate::scoping::declared_kind;
 use crate::typed_expr::TypedExpr;
 use som_body::{BlockText, ExprText, StmtText};
@@ -111,26 +107,15 @@ fn choice<'a>(
     ensures { States (classes_at context.now) (if_by (value_in context.now locals.old.items condition.now) (block_in context.now locals.old.items then.now)
         (block_in context.now locals.old.items other.now) (names_in context.now locals.old.items)) locals.old.items locals.new.items result }
 {
-    let made = value_expression(alloc, context, locals.as_slice(), condition)?;
+    let TypedExpr { expr, kind } = value_expression(alloc, context, locals.as_slice(), condition)?;
     let then = block(alloc, context, locals, then)?;
     let other = block(alloc, context, locals, other)?;
-    chosen(made, then, other)
-}
-
-// A choice of two blocks by a boolean.
-fn chosen(condition: TypedExpr, first: Block, second: Block) -> Result<Stmt, BodyFault>
-    ensures { (cs : Seq Class) → result ≡ demanded 17 (is_boolean (kind_at cs condition.kind)) (stmts.If condition.expr first second) }
-{
-    let TypedExpr { expr, kind } = condition;
-    if is_boolean(kind) {
-        Ok(Stmt::If {
-            condition: expr.into_inner(),
-            then: first,
-            other: second,
-        })
-    } else {
-        Err(BodyFault::Rule(17))
-    }
+    let made = Stmt::If {
+        condition: expr.into_inner(),
+        then,
+        other,
+    };
+    demanded(17, is_boolean(kind), made)
 }
 
 #[cycle(statements)]
@@ -146,24 +131,13 @@ fn repetition<'a>(
     ensures { States (classes_at context.now) (while_by (value_in context.now locals.old.items condition.now) (block_in context.now locals.old.items body.now)
         (names_in context.now locals.old.items)) locals.old.items locals.new.items result }
 {
-    let made = value_expression(alloc, context, locals.as_slice(), condition)?;
+    let TypedExpr { expr, kind } = value_expression(alloc, context, locals.as_slice(), condition)?;
     let body = block(alloc, context, locals, body)?;
-    repeated(made, body)
-}
-
-// A loop of a block as long as a boolean holds.
-fn repeated(condition: TypedExpr, body: Block) -> Result<Stmt, BodyFault>
-    ensures { (cs : Seq Class) → result ≡ demanded 17 (is_boolean (kind_at cs condition.kind)) (stmts.While condition.expr body) }
-{
-    let TypedExpr { expr, kind } = condition;
-    if is_boolean(kind) {
-        Ok(Stmt::While {
-            condition: expr.into_inner(),
-            block: body,
-        })
-    } else {
-        Err(BodyFault::Rule(17))
-    }
+    let made = Stmt::While {
+        condition: expr.into_inner(),
+        block: body,
+    };
+    demanded(17, is_boolean(kind), made)
 }
 
 // A local is in scope after its declaration, and not in its own value.

@@ -71,49 +71,45 @@ statement-returns-in-Call t c =
     plainly (classes_at c.args.context.now) (stmt_in c.args.context.now c.args.locals.now.items c.args.text.now) (λ shown. by_value (expr_in c.args.context.now shown c.in-Call.text) (call_statement (names_in c.args.context.now shown))) c.args.locals.now.items _ c.call.result c.requires.locals c.as_slice-in-Call.ensures.value
     (ap (stmt_in c.args.context.now c.args.locals.now.items) c.in-Call.is ∙ forms.call_is (among_at c.args.context.now) (place_at c.args.context.now) (names_in c.args.context.now c.args.locals.now.items) c.in-Call.text) c.call.ensures
 
-pub choice-returns-in_err-made : goal.choice-returns-in_err-made
-choice-returns-in_err-made t c =
+pub choice-returns-in_err-expr : goal.choice-returns-in_err-expr
+choice-returns-in_err-expr t c =
     let p = err_from_is_err_and c.from_residual.result c.from_residual.ensures.1 in
-    rw (p.1, p.2) (part_stops (value_in c.args.context.now c.args.locals.now.items c.args.condition.now) _ c.in_err-made.field-0.0 (rw c.as_slice.ensures.value at c.in_err-made.ensures))
+    rw (p.1, p.2) (part_stops (value_in c.args.context.now c.args.locals.now.items c.args.condition.now) _ c.in_err-expr.field-0.0 (rw c.as_slice.ensures.value at c.in_err-expr.ensures))
 
 pub choice-returns-in_err-then : goal.choice-returns-in_err-then
 choice-returns-in_err-then t c =
     let p = err_from_is_err_and c.from_residual-in_err-then.result c.from_residual-in_err-then.ensures.1 in
     let e = c.in_err-then.field-0.0 in
-    rw (p.1, p.2) (value_there (value_in c.args.context.now c.args.locals.now.items c.args.condition.now) _ (typed_at (classes_at c.args.context.now) c.in_ok-made.made) e (rw c.as_slice.ensures.value at c.in_ok-made.ensures).0 (then_stops (block_in c.args.context.now c.args.locals.now.items c.args.then.now) _ e c.in_err-then.ensures.makes))
+    rw (p.1, p.2) (value_there (value_in c.args.context.now c.args.locals.now.items c.args.condition.now) _ (typed_at (classes_at c.args.context.now) c.in_ok-expr.field-0) e (rw c.as_slice.ensures.value at c.in_ok-expr.ensures).0 (then_stops (block_in c.args.context.now c.args.locals.now.items c.args.then.now) _ e c.in_err-then.ensures.makes))
 
 pub choice-returns-in_err-other : goal.choice-returns-in_err-other
 choice-returns-in_err-other t c =
     let p = err_from_is_err_and c.from_residual-in_err-other.result c.from_residual-in_err-other.ensures.1 in
     let e = c.in_err-other.field-0.0 in
     let f : Stops (block_in c.args.context.now c.args.locals.now.items c.args.other.now) e = subst (λ (z : List Local). Stops (block_in c.args.context.now z c.args.other.now) e) c.in_ok-then.ensures.scope c.in_err-other.ensures.makes in
-    rw (p.1, p.2) (value_there (value_in c.args.context.now c.args.locals.now.items c.args.condition.now) _ (typed_at (classes_at c.args.context.now) c.in_ok-made.made) e (rw c.as_slice.ensures.value at c.in_ok-made.ensures).0 (goes_to (block_in c.args.context.now c.args.locals.now.items c.args.then.now) _ c.in_ok-then.then e c.in_ok-then.ensures.makes (then_stops (block_in c.args.context.now c.args.locals.now.items c.args.other.now) _ e f)))
+    rw (p.1, p.2) (value_there (value_in c.args.context.now c.args.locals.now.items c.args.condition.now) _ (typed_at (classes_at c.args.context.now) c.in_ok-expr.field-0) e (rw c.as_slice.ensures.value at c.in_ok-expr.ensures).0 (goes_to (block_in c.args.context.now c.args.locals.now.items c.args.then.now) _ c.in_ok-then.then e c.in_ok-then.ensures.makes (then_stops (block_in c.args.context.now c.args.locals.now.items c.args.other.now) _ e f)))
 
 pub choice-returns : goal.choice-returns
 choice-returns t c =
-    let cs = classes_at c.args.context.now in
-    let ls = c.args.locals.now.items in
     let same = c.in_ok-then.ensures.scope in
     let g = subst (λ (z : List Local). block_in c.args.context.now z c.args.other.now ≡ Ok c.in_ok-other.other) same c.in_ok-other.ensures.makes in
-    leaves cs _ ls _ c.chosen.result c.requires.locals (c.in_ok-other.ensures.scope ∙ same)
-    (if_kept cs ls (value_in c.args.context.now ls c.args.condition.now) (typed_at cs c.in_ok-made.made) (block_in c.args.context.now ls c.args.then.now) (block_in c.args.context.now ls c.args.other.now) c.in_ok-then.then c.in_ok-other.other c.chosen.result
-    (rw c.as_slice.ensures.value at c.in_ok-made.ensures).0 c.in_ok-then.ensures.makes g (c.chosen.ensures cs))
+    leaves (classes_at c.args.context.now) _ c.args.locals.now.items _ c.demanded.result c.requires.locals (c.in_ok-other.ensures.scope ∙ same)
+    (if_kept (classes_at c.args.context.now) c.args.locals.now.items (value_in c.args.context.now c.args.locals.now.items c.args.condition.now) (typed_at (classes_at c.args.context.now) c.in_ok-expr.field-0) (block_in c.args.context.now c.args.locals.now.items c.args.then.now) (block_in c.args.context.now c.args.locals.now.items c.args.other.now) c.in_ok-then.then c.in_ok-other.other c.is_boolean.result c.demanded.result
+    (rw c.as_slice.ensures.value at c.in_ok-expr.ensures).0 c.in_ok-then.ensures.makes g (c.is_boolean.ensures (classes_at c.args.context.now)) (rw c.into_inner.ensures at c.demanded.ensures))
 
-pub repetition-returns-in_err-made : goal.repetition-returns-in_err-made
-repetition-returns-in_err-made t c =
+pub repetition-returns-in_err-expr : goal.repetition-returns-in_err-expr
+repetition-returns-in_err-expr t c =
     let p = err_from_is_err_and c.from_residual.result c.from_residual.ensures.1 in
-    rw (p.1, p.2) (part_stops (value_in c.args.context.now c.args.locals.now.items c.args.condition.now) _ c.in_err-made.field-0.0 (rw c.as_slice.ensures.value at c.in_err-made.ensures))
+    rw (p.1, p.2) (part_stops (value_in c.args.context.now c.args.locals.now.items c.args.condition.now) _ c.in_err-expr.field-0.0 (rw c.as_slice.ensures.value at c.in_err-expr.ensures))
 
 pub repetition-returns-in_err-body : goal.repetition-returns-in_err-body
 repetition-returns-in_err-body t c =
     let p = err_from_is_err_and c.from_residual-in_err-body.result c.from_residual-in_err-body.ensures.1 in
     let e = c.in_err-body.field-0.0 in
-    rw (p.1, p.2) (value_there (value_in c.args.context.now c.args.locals.now.items c.args.condition.now) _ (typed_at (classes_at c.args.context.now) c.in_ok-made.made) e (rw c.as_slice.ensures.value at c.in_ok-made.ensures).0 (then_stops (block_in c.args.context.now c.args.locals.now.items c.args.body.now) _ e c.in_err-body.ensures.makes))
+    rw (p.1, p.2) (value_there (value_in c.args.context.now c.args.locals.now.items c.args.condition.now) _ (typed_at (classes_at c.args.context.now) c.in_ok-expr.field-0) e (rw c.as_slice.ensures.value at c.in_ok-expr.ensures).0 (then_stops (block_in c.args.context.now c.args.locals.now.items c.args.body.now) _ e c.in_err-body.ensures.makes))
 
 pub repetition-returns : goal.repetition-returns
 repetition-returns t c =
-    let cs = classes_at c.args.context.now in
-    let ls = c.args.locals.now.items in
-    leaves cs _ ls _ c.repeated.result c.requires.locals c.in_ok-body.ensures.scope
-    (while_kept cs ls (value_in c.args.context.now ls c.args.condition.now) (typed_at cs c.in_ok-made.made) (block_in c.args.context.now ls c.args.body.now) c.in_ok-body.body c.repeated.result
-    (rw c.as_slice.ensures.value at c.in_ok-made.ensures).0 c.in_ok-body.ensures.makes (c.repeated.ensures cs))
+    leaves (classes_at c.args.context.now) _ c.args.locals.now.items _ c.demanded.result c.requires.locals c.in_ok-body.ensures.scope
+    (while_kept (classes_at c.args.context.now) c.args.locals.now.items (value_in c.args.context.now c.args.locals.now.items c.args.condition.now) (typed_at (classes_at c.args.context.now) c.in_ok-expr.field-0) (block_in c.args.context.now c.args.locals.now.items c.args.body.now) c.in_ok-body.body c.is_boolean.result c.demanded.result
+    (rw c.as_slice.ensures.value at c.in_ok-expr.ensures).0 c.in_ok-body.ensures.makes (c.is_boolean.ensures (classes_at c.args.context.now)) (rw c.into_inner.ensures at c.demanded.ensures))
