@@ -234,28 +234,27 @@ fn known_classes<'a>(
 ) -> Result<Vec<Declared<'a>>, NoMemory>
     ensures { IfOk result (λ all. classes_of all.items ≡ after_base own_module (map (class_in modules.Library) base.now) (draft_classes (plain_drafts drafts.now))) }
 {
-    let classes = declare(Vec::new(alloc), Module::Library, base)?;
-    add_drafts(classes, own_module, drafts)
+    let mut classes = declare(Vec::new(alloc), Module::Library, base)?;
+    add_drafts(&mut classes, own_module, drafts)?;
+    Ok(classes)
 }
 
-// Adds the classes of drafts to those that were declared.
 fn add_drafts<'a>(
-    declared: Vec<Declared<'a>>,
+    classes: &mut Vec<Declared<'a>>,
     own_module: Module,
     drafts: &'a [Draft],
-) -> Result<Vec<Declared<'a>>, NoMemory>
-    ensures { IfOk result (λ all. classes_of all.items ≡
-        classes_of declared.entry.items ++ map (class_in own_module) (draft_classes (plain_drafts drafts.now))) }
+) -> Result<(), NoMemory>
+    ensures { OnOk result (classes_of classes.new.items ≡
+        classes_of classes.old.items ++ map (class_in own_module) (draft_classes (plain_drafts drafts.now))) }
 {
-    let mut all = declared;
     for draft in drafts {
         let decl = &draft.decl;
-        all.push(Declared {
+        classes.push(Declared {
             module: own_module,
             decl,
         })?;
     }
-    Ok(all)
+    Ok(())
 }
 
 // The rules S8 and S9 of the declarations.

@@ -8,7 +8,7 @@ use Rattle.som_sema.proofs.build.add_drafts.Goals as goal
 
 pub loop-draft-preserved : goal.loop-draft-preserved
 loop-draft-preserved c =
-    next (λ (z : List Draft). map (class_in c.args.own_module) (draft_classes (plain_drafts z))) c.args.drafts.now c.loop-draft.draft-index _ _ (classes_of c.loop-draft.all.items) _ _ _
+    next (λ (z : List Draft). map (class_in c.args.own_module) (draft_classes (plain_drafts z))) c.args.drafts.now c.loop-draft.draft-index _ _ (classes_of c.loop-draft.classes.items) _ _ _
     c.loop-draft-test.true c.draft-item.is (pushed class_of _ _ _ c.in_ok-push.ensures.items) refl c.loop-draft.invariant
 
 pub returns : goal.returns

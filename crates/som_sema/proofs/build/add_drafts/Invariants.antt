@@ -5,5 +5,5 @@ use Rattle.som_rules.specs.Modules.{classes_of}
 use Rattle.som_sema.proofs.build.add_drafts.Given as goal
 
 abbrev pub invariant-loop-draft : goal.invariant-loop-draft
-invariant-loop-draft l = classes_of l.all.items ++ map (class_in l.own_module) (draft_classes (plain_drafts (drop l.draft-index l.drafts)))
-    ≡ classes_of l.fn.declared.items ++ map (class_in l.own_module) (draft_classes (plain_drafts l.drafts))
+invariant-loop-draft l = classes_of l.classes.items ++ map (class_in l.own_module) (draft_classes (plain_drafts (drop l.draft-index l.drafts)))
+    ≡ classes_of l.fn.classes.items ++ map (class_in l.own_module) (draft_classes (plain_drafts l.drafts))

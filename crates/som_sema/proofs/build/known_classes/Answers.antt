@@ -1,5 +1,4 @@
 use Rattle.std.proofs.Common.{List, ap, map, ◌++◌, ◌∙◌}
-use Rattle.std.proofs.lemmas.Result.{IfOk-weaker}
 use Rattle.som_model.specs.Class.{class_in}
 use Rattle.som_model.specs.declared.key.Module.TheVariants as modules
 use Rattle.som_rules.specs.Modules.{classes_of}
@@ -8,7 +7,7 @@ use Rattle.som_drafts.specs.Drafts.{plain_drafts, draft_classes}
 use Rattle.som_sema.proofs.build.known_classes.Goals as goal
 
 pub returns : goal.returns
-returns c = IfOk-weaker c.add_drafts.result _ _ (λ all drafted.
-    drafted
+returns c =
+    c.in_ok-add_drafts.ensures
     ∙ ap (λ z. z ++ map (class_in c.args.own_module) (draft_classes (plain_drafts c.args.drafts.now)))
-    (c.in_ok-classes.ensures ∙ ap (λ (z : List Declared). classes_of z ++ map (class_in modules.Library) c.args.base.now) c.new.ensures.items)) c.add_drafts.ensures
+    (c.in_ok-classes.ensures ∙ ap (λ (z : List Declared). classes_of z ++ map (class_in modules.Library) c.args.base.now) c.new.ensures.items)
