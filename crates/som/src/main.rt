@@ -1,14 +1,10 @@
 //! The program: words of the command line, files of the system, and standard output.
 #![tactic(auto)]
 
-mod files;
-mod standard_output;
-
-use files::FileStore;
 use som_cmd::run_som;
+use som_files::{FileStore, StandardOutput};
 use som_host::{host_entry, host_table};
 use som_model::{HostCode, List, NoMemory, Text};
-use standard_output::StandardOutput;
 use std::alloc::Global;
 use std::env::Env;
 use std::process::ExitCode;

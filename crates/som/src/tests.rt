@@ -1,4 +1,4 @@
-use crate::files::FileStore;
+use som_files::FileStore;
 use som_io::{Got, Put, Store};
 use som_model::{List, Text};
 use std::test::Fail;

@@ -1,9 +1,8 @@
-use crate::questions::ask_all;
 use crate::refusals::tell_refusal;
-use crate::unasked::Unasked;
 use som_classmgr::{Kernel, LinkFault, Linked};
 use som_counted::counted_law;
 use som_model::List;
+use som_questions::{Unasked, ask_all};
 use std::alloc::Global;
 
 // What linking the client and the library that two images spell comes to.

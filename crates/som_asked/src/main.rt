@@ -2,27 +2,16 @@
 //! printed with what it comes to.
 #![tactic(auto)]
 
-mod bodies;
-mod classes;
-mod lines;
 mod linking;
-mod making;
-mod methods;
-mod questions;
 mod refusals;
-mod telling;
-mod unasked;
-mod variables;
 
-use lines::{first_line, first_word};
 use linking::ask_pair;
 use som_model::List;
+use som_questions::{Unasked, first_line, first_word, told};
 use std::alloc::Global;
 use std::io::Write;
 use std::rt::Files;
 use std::{env, fs, io};
-use telling::told;
-use unasked::Unasked;
 
 // The bytes of the file that a word names.
 fn file<R: Files + AllocGlobal>(rt: &R, name: &[u8]) -> Result<List<u8>, Unasked> {

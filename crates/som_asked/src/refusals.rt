@@ -1,7 +1,6 @@
-use crate::telling::{told, told_number};
-use crate::unasked::Unasked;
 use som_classmgr::LinkFault;
 use som_model::{List, NoMemory, Text};
+use som_questions::{Unasked, told, told_number};
 
 // A rule, after a word on whose it is, the class, and the member or name.
 fn tell_rule(

@@ -1,12 +1,12 @@
 -- Which expressions are calls.
 use Rattle.std.proofs.Common.{◌≡◌, true, List, Option, sym, ◌∙◌, ap}
-use Rattle.som_read.specs.declared.tree.TypeName.{TypeName}
-use Rattle.som_read.specs.declared.tree.Word.{Word}
+use Rattle.som_syntax.specs.declared.words.TypeName.{TypeName}
+use Rattle.som_syntax.specs.declared.words.Word.{Word}
+use Rattle.som_syntax.specs.declared.expression.ExprText.{ExprText, out-ExprText, out-roll-ExprText}
+use Rattle.som_syntax.specs.declared.expression.ExprText.TheOpen.{ExprText-F}
+use Rattle.som_syntax.specs.declared.expression.ExprText.TheVariants as expr
+use Rattle.som_syntax.specs.declared.expression.ExprText.TheVariants.{rolls-Call, rolls-Lookup, rolls-Dispatch}
 use Rattle.som_body.specs.Statements.{is_call, is_call_form}
-use Rattle.som_body.specs.declared.tree.ExprText.{ExprText, out-ExprText, out-roll-ExprText}
-use Rattle.som_body.specs.declared.tree.ExprText.TheOpen.{ExprText-F}
-use Rattle.som_body.specs.declared.tree.ExprText.TheVariants as expr
-use Rattle.som_body.specs.declared.tree.ExprText.TheVariants.{rolls-Call, rolls-Lookup, rolls-Dispatch}
 
 pub step_is_call : (a : ExprText) (m : Word) (g : List ExprText) → is_call (expr.Call a m g) ≡ true
 unfolding is_call

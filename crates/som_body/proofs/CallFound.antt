@@ -2,7 +2,7 @@
 use Rattle.std.proofs.Common.{◌≡◌, ℕ, zero, suc, ◌+◌, ◌-◌, ◌<◌, ◌≤◌, max, List, [], ◌∷◌, ◌++◌, length, take, drop, Bool, true, false, cond, Option, Some, None, Ok, Err, refl, sym, ◌∙◌, ap, subst, append_assoc, length-append, inl, inr, arith}
 use Rattle.std.proofs.lemmas.Bool.{cases_lt}
 use Rattle.std.proofs.lemmas.List.{append-nil}
-use Rattle.som_read.specs.Readers.{Outcome, Parser, and_then, ◌>>=◌, pure, repeat}
+use Rattle.som_read.specs.Readers.{Outcome, Parser, ◌>>=◌, pure, repeat}
 use Rattle.som_read.specs.Tokens.{head, is_sign, is_key, same_key, same_sign, word}
 use Rattle.som_read.specs.declared.cursor.Stop.TheVariants.{Nesting}
 use Rattle.som_read.specs.declared.cursor.Turn.TheVariants.{Done}
@@ -11,31 +11,29 @@ use Rattle.som_read.specs.declared.token.Key.TheVariants as key
 use Rattle.som_read.specs.declared.token.Sign.TheVariants as sign
 use Rattle.som_read.specs.declared.token.Token.{Token}
 use Rattle.som_read.specs.declared.token.Token.TheVariants as token
-use Rattle.som_read.specs.declared.tree.Word.{Word}
+use Rattle.som_syntax.specs.declared.words.Word.{Word}
 use Rattle.som_read.proofs.Found.{climb_first, expect_found}
 use Rattle.som_read.proofs.Steps.{apart_key, same_sign_self}
-use Rattle.som_body.specs.Grammar as g
-use Rattle.som_body.specs.Levels.{top, down}
-use Rattle.som_body.specs.Reading as r
-use Rattle.som_body.specs.Reading.{tall}
+use Rattle.som_expressions.specs.Grammar as g
+use Rattle.som_expressions.specs.Levels.{top, down}
+use Rattle.som_expressions.specs.Reading as r
+use Rattle.som_expressions.specs.Reading.{tall}
+use Rattle.som_expressions.specs.declared.level.Tall.{Tall}
+use Rattle.som_syntax.specs.declared.expression.ExprText.{ExprText, out-ExprText, out-roll-ExprText}
+use Rattle.som_syntax.specs.declared.expression.ExprText.TheOpen.{ExprText-F}
+use Rattle.som_syntax.specs.declared.expression.ExprText.TheVariants as expr
+use Rattle.som_syntax.specs.declared.expression.ExprText.TheVariants.{rolls-Name, rolls-Variable}
+use Rattle.som_expressions.proofs.FormsFound.{dot, inner, step, step_climbs, pushed_none, pushed_end, word_read, name_read}
+use Rattle.som_expressions.proofs.LevelFound.{Deep, Found, climb_out, now_one, passed, next, lifted, leveled, Climbs, climbs_first, climbs_end}
+use Rattle.som_expressions.proofs.LevelLists.{top_append, take_first, take_later, top_part}
+use Rattle.som_expressions.proofs.LineFound.{arguments_found, postfix_found}
+use Rattle.som_expressions.proofs.StartLaws.{named_atom}
+use Rattle.som_expressions.proofs.StartsOf.{stepped_starts}
+use Rattle.som_expressions.proofs.Strengths.{strength, Starts, starts_wider, starts_high, postfix_wide, no_dot}
 use Rattle.som_body.specs.StatementReading as sr
 use Rattle.som_body.specs.Statements as s
-use Rattle.som_body.specs.declared.level.Line.TheVariants as line
-use Rattle.som_body.specs.declared.level.Tall.{Tall}
-use Rattle.som_body.specs.declared.tree.ExprText.{ExprText, out-ExprText, out-roll-ExprText}
-use Rattle.som_body.specs.declared.tree.ExprText.TheOpen.{ExprText-F}
-use Rattle.som_body.specs.declared.tree.ExprText.TheVariants as expr
-use Rattle.som_body.specs.declared.tree.ExprText.TheVariants.{rolls-Name, rolls-Variable}
-use Rattle.som_body.specs.declared.tree.StmtText.{StmtText}
-use Rattle.som_body.specs.declared.tree.StmtText.TheVariants as stmt
-use Rattle.som_body.proofs.FormsFound.{dot, inner, step, step_climbs, pushed_none, pushed_end, word_read, name_read}
-use Rattle.som_body.proofs.LevelFound.{Deep, short, Found, climb_out, now_one, passed, next, lifted, leveled, Climbs, climbs_first, climbs_end}
-use Rattle.som_body.proofs.LevelLists.{top_append, take_first, take_later, take_all, top_part}
-use Rattle.som_body.proofs.LineFound.{Below, arguments_found, postfix_found}
-use Rattle.som_body.proofs.StartLaws.{named_atom}
-use Rattle.som_body.proofs.StartsOf.{stepped_starts}
-use Rattle.som_body.proofs.Strengths.{strength, Starts, starts_wider, starts_high, postfix_wide, no_dot}
-use Rattle.som_body.proofs.WordFound.{any_word_found, name_found}
+use Rattle.som_syntax.specs.declared.body.StmtText.{StmtText}
+use Rattle.som_syntax.specs.declared.body.StmtText.TheVariants as stmt
 
 abbrev semicolon : Token
 semicolon = token.Mark sign.Semicolon
@@ -166,7 +164,7 @@ module _ (text_at : ℕ → List ℕ) where
       }
 
   -- the steps after a first part of one level, of which there are some
-  one_step_deep : (a : ExprText) (w z : List Token) → sr.steps_from text_at 0 (tall a 1) (dot ∷ (w ++ z)) ≡ Err (Nesting, dot ∷ (w ++ z))
+  one_step_deep : (a : ExprText) (w z : List Token) → r.steps_from text_at 0 (tall a 1) (dot ∷ (w ++ z)) ≡ Err (Nesting, dot ∷ (w ++ z))
   one_step_deep a w z = climb_out (r.step text_at (r.at text_at 0) 0) (tall a 1) (dot ∷ (w ++ z)) (dot ∷ (w ++ z)) _ (climb_first (r.step text_at (r.at text_at 0) 0) (tall a 1) (dot ∷ (w ++ z)))
       (pushed_none (is_sign sign.Dot) 0 1 (r.step_taken text_at (r.at text_at 0) (tall a 1)) (pure (Done (tall a 1))) dot (w ++ z) (same_sign_self sign.Dot) (omega arith))
 
@@ -193,7 +191,7 @@ module _ (text_at : ℕ → List ℕ) where
           deep = λ gt. without_front levels (suc n ∷ k) front (dot ∷ (w ++ z)) (repeat (step text_at d) (tall b (top levels)) ((dot ∷ w) ++ z)) counts (omega (arith, one)) (subst (λ i. Deep {A = Tall} (suc d) i (front ++ ((dot ∷ w) ++ z)) (repeat (step text_at d) (tall b (top levels)) ((dot ∷ w) ++ z))) joined (m.deep (omega (arith, gt, tops))));
         }
 
-    chain_found : (e : ℕ) → Found e (suc n ∷ k) (tall a (top l)) z (dot ∷ (w ++ z)) (sr.steps_from text_at e (tall b 1) (dot ∷ (w ++ z)))
+    chain_found : (e : ℕ) → Found e (suc n ∷ k) (tall a (top l)) z (dot ∷ (w ++ z)) (r.steps_from text_at e (tall b 1) (dot ∷ (w ++ z)))
     chain_found zero = record {
       taken = dot ∷ w;
       splits = refl;
@@ -288,12 +286,12 @@ module _ (text_at : ℕ → List ℕ) where
       other_call x = lifted (next _ (postfix_found text_at x e (semicolon ∷ z) (omega arith)) (now_one semicolon (finish_found a (top l) z is)))
 
     module _ {a : ExprText} (z : List Token) (is : s.is_call a ≡ true) (h : ℕ) where
-      named_call' : {u : List Token} {n : Word} (k : List ℕ) (w : List Token) → g.IsName text_at u n → Found e k (tall a h) (semicolon ∷ z) (dot ∷ (w ++ semicolon ∷ z)) (sr.steps_from text_at e (tall (expr.Name n) 1) (dot ∷ (w ++ semicolon ∷ z)))
+      named_call' : {u : List Token} {n : Word} (k : List ℕ) (w : List Token) → g.IsName text_at u n → Found e k (tall a h) (semicolon ∷ z) (dot ∷ (w ++ semicolon ∷ z)) (r.steps_from text_at e (tall (expr.Name n) 1) (dot ∷ (w ++ semicolon ∷ z)))
           → Found (suc e) (down (0 ∷ (k ++ 0 ∷ []))) (stmt.Call a) z (u ++ dot ∷ (w ++ semicolon ∷ z)) (sr.named_statement text_at e (u ++ dot ∷ (w ++ semicolon ∷ z)))
       unfolding sr.named_statement same_sign
       named_call' k w i chain = lifted (next _ (name_read text_at (dot ∷ (w ++ semicolon ∷ z)) i) (next _ chain (now_one semicolon (finish_found a h z is))))
 
-      own_call : {u : List Token} {n : Word} (p : ℕ) (k : List ℕ) (w : List Token) → g.IsWord text_at u n → Found e k (tall a h) (semicolon ∷ z) (dot ∷ (w ++ semicolon ∷ z)) (sr.steps_from text_at e (tall (expr.Variable n) 1) (dot ∷ (w ++ semicolon ∷ z)))
+      own_call : {u : List Token} {n : Word} (p : ℕ) (k : List ℕ) (w : List Token) → g.IsWord text_at u n → Found e k (tall a h) (semicolon ∷ z) (dot ∷ (w ++ semicolon ∷ z)) (r.steps_from text_at e (tall (expr.Variable n) 1) (dot ∷ (w ++ semicolon ∷ z)))
           → Found (suc e) (down (0 ∷ 0 ∷ 0 ∷ (k ++ 0 ∷ []))) (stmt.Call a) z (token.Word key.SomThis p ∷ dot ∷ (u ++ dot ∷ (w ++ semicolon ∷ z))) (sr.own_statement text_at e (dot ∷ (u ++ dot ∷ (w ++ semicolon ∷ z))))
       unfolding sr.own_statement same_sign
       own_call {u = u} p k w i chain = lifted (passed (token.Word key.SomThis p) (next _ (now_one dot (expect_found sign.Dot (u ++ dot ∷ (w ++ semicolon ∷ z)))) (next _ (word_read text_at (dot ∷ (w ++ semicolon ∷ z)) i)
@@ -310,13 +308,13 @@ module _ (text_at : ℕ → List ℕ) where
     abbrev CallRead : List ℕ → List Token → ExprText → List Token → Type 0
     CallRead l u a z = Found (suc e) (down (s.as_begun_by u l ++ 0 ∷ [])) (stmt.Call a) z (u ++ semicolon ∷ z) (reading (u ++ semicolon ∷ z))
 
-    name_way : (l : List ℕ) (a : ExprText) (k : Key) (p n : ℕ) (j : List ℕ) (w z : List Token) → g.is_name k ≡ true → s.is_call a ≡ true → l ≡ 1 ∷ suc n ∷ j → Found e (suc n ∷ j) (tall a (top l)) (semicolon ∷ z) (dot ∷ (w ++ semicolon ∷ z)) (sr.steps_from text_at e (tall (expr.Name (word text_at p)) 1) (dot ∷ (w ++ semicolon ∷ z)))
+    name_way : (l : List ℕ) (a : ExprText) (k : Key) (p n : ℕ) (j : List ℕ) (w z : List Token) → g.is_name k ≡ true → s.is_call a ≡ true → l ≡ 1 ∷ suc n ∷ j → Found e (suc n ∷ j) (tall a (top l)) (semicolon ∷ z) (dot ∷ (w ++ semicolon ∷ z)) (r.steps_from text_at e (tall (expr.Name (word text_at p)) 1) (dot ∷ (w ++ semicolon ∷ z)))
         → CallRead l (token.Word k p ∷ dot ∷ w) a z
     name_way l a k p n j w z is call joined chain =
         let begun : s.as_begun_by (token.Word k p ∷ dot ∷ w) l ≡ 0 ∷ suc n ∷ j = name_begun k p (dot ∷ w) l is ∙ ap (λ i. 0 ∷ drop 1 i) joined in
         leveled (ap (λ i. down (i ++ 0 ∷ [])) (sym begun)) (rw (name_first (dot ∷ (w ++ semicolon ∷ z)) (g.a_name k p is)) (named_call' z call (top l) (suc n ∷ j) w (g.a_name k p is) chain))
 
-    own_way : (l : List ℕ) (a : ExprText) (p : ℕ) (k : Key) (q n : ℕ) (j : List ℕ) (w z : List Token) → s.is_call a ≡ true → l ≡ 1 ∷ 1 ∷ 1 ∷ suc n ∷ j → Found e (suc n ∷ j) (tall a (top l)) (semicolon ∷ z) (dot ∷ (w ++ semicolon ∷ z)) (sr.steps_from text_at e (tall (expr.Variable (word text_at q)) 1) (dot ∷ (w ++ semicolon ∷ z)))
+    own_way : (l : List ℕ) (a : ExprText) (p : ℕ) (k : Key) (q n : ℕ) (j : List ℕ) (w z : List Token) → s.is_call a ≡ true → l ≡ 1 ∷ 1 ∷ 1 ∷ suc n ∷ j → Found e (suc n ∷ j) (tall a (top l)) (semicolon ∷ z) (dot ∷ (w ++ semicolon ∷ z)) (r.steps_from text_at e (tall (expr.Variable (word text_at q)) 1) (dot ∷ (w ++ semicolon ∷ z)))
         → CallRead l (token.Word key.SomThis p ∷ dot ∷ token.Word k q ∷ dot ∷ w) a z
     own_way l a p k q n j w z call joined chain =
         let begun : s.as_begun_by (token.Word key.SomThis p ∷ dot ∷ token.Word k q ∷ dot ∷ w) l ≡ 0 ∷ 0 ∷ 0 ∷ suc n ∷ j = ap (λ i. 0 ∷ 0 ∷ 0 ∷ drop 3 i) joined in

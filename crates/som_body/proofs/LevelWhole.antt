@@ -1,5 +1,5 @@
 -- A reader of whole texts with levels: it reads the texts whose levels suffice, stops exactly where a text leaves the language, and stops for want of levels only where all texts need more.
-use Rattle.std.proofs.Common.{◌≡◌, ℕ, ◌+◌, ◌<◌, ◌≤◌, suc, List, [], ◌∷◌, ◌++◌, length, take, Option, Some, None, Ok, Err, refl, sym, ◌∙◌, ap, subst, append_assoc, length-append, inl, inr, arith}
+use Rattle.std.proofs.Common.{◌≡◌, ℕ, ◌+◌, ◌<◌, ◌≤◌, suc, List, [], ◌∷◌, ◌++◌, length, take, Some, Ok, Err, refl, sym, ◌∙◌, ap, subst, append_assoc, length-append, inl, inr, arith}
 use Rattle.std.proofs.lemmas.Bool.{cases_lt}
 use Rattle.std.proofs.lemmas.List.{append-nil}
 use Rattle.som_read.specs.Readers.{Outcome, Parser}
@@ -10,11 +10,11 @@ use Rattle.som_read.specs.declared.cursor.Stop.TheVariants.{Memory, Syntax, Nest
 use Rattle.som_read.specs.declared.token.Token.{Token}
 use Rattle.som_read.proofs.Laws.{Lawful, Met, Took, Stopped, Shares}
 use Rattle.som_read.proofs.Whole.{Fails}
+use Rattle.som_expressions.specs.Levels.{top}
+use Rattle.som_expressions.proofs.LevelLists.{top_take, top_part}
+use Rattle.som_expressions.proofs.LevelFound.{Deep, Found}
 use Rattle.som_body.specs.Answer.{Leveled, Texts, NoneDeep, SomeDeep}
-use Rattle.som_body.specs.Levels.{top}
 use Rattle.som_body.proofs.CallFound.{split_off}
-use Rattle.som_body.proofs.LevelLists.{top_take, top_part}
-use Rattle.som_body.proofs.LevelFound.{Deep, Found}
 
 -- where reading stopped, the tokens before it begin a text, and with the one in hand, or the end there, none; no construct is too deep so far
 pub record LeavesAt {A : Type 0} (L : Leveled A) (d : ℕ) (ts z : List Token) : Type 0 where

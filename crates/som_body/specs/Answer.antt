@@ -7,12 +7,12 @@ use Rattle.som_read.specs.Languages.{Lang}
 use Rattle.som_read.specs.Seen.{seen, seen_before, text_at}
 use Rattle.som_read.specs.declared.token.Token.{Token}
 use Rattle.som_read.specs.declared.token.Token.TheVariants as token
-use Rattle.som_read.specs.declared.tree.SyntaxFault.{SyntaxFault}
-use Rattle.som_read.specs.declared.tree.SyntaxFault.TheVariants as faults
-use Rattle.som_body.specs.Levels.{top}
+use Rattle.som_read.specs.declared.fault.SyntaxFault.{SyntaxFault}
+use Rattle.som_read.specs.declared.fault.SyntaxFault.TheVariants as faults
+use Rattle.som_expressions.specs.Levels.{top}
 use Rattle.som_body.specs.Statements.{IsBodyFile, IsMainFile}
-use Rattle.som_body.specs.declared.tree.BodyFile.{BodyFile}
-use Rattle.som_body.specs.declared.tree.MainFile.{MainFile}
+use Rattle.som_syntax.specs.declared.body.BodyFile.{BodyFile}
+use Rattle.som_syntax.specs.declared.body.MainFile.{MainFile}
 
 -- a language whose texts have a level with each of their tokens
 abbrev pub Leveled : Type 0 → Type 1

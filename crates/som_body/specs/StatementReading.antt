@@ -1,26 +1,26 @@
 -- The readers of statements, bodies and mains, with one token in hand. `statement_at text_at d` reads a statement where d levels are left.
-use Rattle.std.specs.Prelude.{ℕ, zero, suc, ◌-◌, Bool, true, false, if◌then◌else◌, List, [], ◌∷◌, Option, Some, None}
-use Rattle.som_read.specs.Readers.{Parser, ◌>>=◌, ◌>>◌, pure, stop, when, after, expect, keyword, end, repeat, listed, repeated, keeping}
+use Rattle.std.specs.Prelude.{ℕ, zero, suc, Bool, true, false, if◌then◌else◌, List, [], ◌∷◌, Option, Some, None}
+use Rattle.som_read.specs.Readers.{Parser, ◌>>=◌, ◌>>◌, pure, stop, when, after, expect, keyword, end, listed, repeated, keeping}
 use Rattle.som_read.specs.Tokens.{is_sign, is_key}
 use Rattle.som_read.specs.declared.cursor.Stop.TheVariants.{Syntax}
 use Rattle.som_read.specs.declared.token.Key.TheVariants as key
 use Rattle.som_read.specs.declared.token.Sign.TheVariants as sign
 use Rattle.som_read.specs.declared.token.Token.{Token}
 use Rattle.som_read.specs.declared.token.Token.TheVariants as token
-use Rattle.som_read.specs.declared.tree.Word.{Word}
-use Rattle.som_body.specs.Grammar.{is_name}
-use Rattle.som_body.specs.Reading.{tall, begins_postfix, too_deep, any_word, name, kind, step, at}
+use Rattle.som_syntax.specs.declared.words.Word.{Word}
+use Rattle.som_expressions.specs.Grammar.{is_name}
+use Rattle.som_expressions.specs.Reading.{tall, begins_postfix, too_deep, any_word, name, kind, at, steps_from}
+use Rattle.som_expressions.specs.declared.level.Line.TheVariants as line
+use Rattle.som_expressions.specs.declared.level.Tall.{Tall}
+use Rattle.som_syntax.specs.declared.expression.ExprText.{ExprText}
+use Rattle.som_syntax.specs.declared.expression.ExprText.TheVariants as expr
 use Rattle.som_body.specs.Statements.{is_call, block_of}
-use Rattle.som_body.specs.declared.level.Line.TheVariants as line
-use Rattle.som_body.specs.declared.level.Tall.{Tall}
-use Rattle.som_body.specs.declared.tree.BlockText.{BlockText}
-use Rattle.som_body.specs.declared.tree.BodyFile.{BodyFile}
-use Rattle.som_body.specs.declared.tree.BodyText.{BodyText}
-use Rattle.som_body.specs.declared.tree.ExprText.{ExprText}
-use Rattle.som_body.specs.declared.tree.ExprText.TheVariants as expr
-use Rattle.som_body.specs.declared.tree.MainFile.{MainFile}
-use Rattle.som_body.specs.declared.tree.StmtText.{StmtText}
-use Rattle.som_body.specs.declared.tree.StmtText.TheVariants as stmt
+use Rattle.som_syntax.specs.declared.body.BlockText.{BlockText}
+use Rattle.som_syntax.specs.declared.body.BodyFile.{BodyFile}
+use Rattle.som_syntax.specs.declared.body.BodyText.{BodyText}
+use Rattle.som_syntax.specs.declared.body.MainFile.{MainFile}
+use Rattle.som_syntax.specs.declared.body.StmtText.{StmtText}
+use Rattle.som_syntax.specs.declared.body.StmtText.TheVariants as stmt
 
 abbrev pub begins_name : Option Token → Bool
 begins_name (Some (token.Word k p)) = is_name k
@@ -47,10 +47,6 @@ finish a = if is_call a.tree then (expect sign.Semicolon >> pure (stmt.Call a.tr
 module _ (text_at : ℕ → List ℕ) where
   -- ---- where e levels are left for the expressions of a statement
 
-  -- further steps on what was read
-  abbrev pub steps_from : ℕ → Tall → Parser Tall
-  steps_from e = repeat (step text_at (at text_at (e - 1)) e)
-
   -- an expression that ends a statement
   unfoldable pub ending : ℕ → (ExprText → StmtText) → Parser StmtText
   ending e f = at text_at e line.Expr >>= λ a. expect sign.Semicolon >> pure (f a.tree)
@@ -60,11 +56,11 @@ module _ (text_at : ℕ → List ℕ) where
   variable e = name text_at >>= λ n. expect sign.Colon >> (kind text_at >>= λ t. expect sign.Assign >> ending e (λ a. stmt.Var n t a))
 
   unfoldable pub named_statement : ℕ → Parser StmtText
-  named_statement e = name text_at >>= λ n. after (is_sign sign.Assign) (ending e (λ a. stmt.Set n a)) (steps_from e (tall (expr.Name n) 1) >>= finish)
+  named_statement e = name text_at >>= λ n. after (is_sign sign.Assign) (ending e (λ a. stmt.Set n a)) (steps_from text_at e (tall (expr.Name n) 1) >>= finish)
 
   -- after "somThis"
   unfoldable pub own_statement : ℕ → Parser StmtText
-  own_statement e = expect sign.Dot >> (any_word text_at >>= λ m. after (is_sign sign.Assign) (ending e (λ a. stmt.SetVariable m a)) (steps_from e (tall (expr.Variable m) 1) >>= finish))
+  own_statement e = expect sign.Dot >> (any_word text_at >>= λ m. after (is_sign sign.Assign) (ending e (λ a. stmt.SetVariable m a)) (steps_from text_at e (tall (expr.Variable m) 1) >>= finish))
 
   -- after "return"
   unfoldable pub returned : ℕ → Parser StmtText

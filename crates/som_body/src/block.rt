@@ -10,15 +10,12 @@ ghost use Rattle.som_read.specs.Tokens.{head, is_sign};
 ghost use Rattle.som_read.specs.declared.token.Sign.TheVariants as sign;
 ghost use Rattle.std.specs.Prelude.{◌≡◌, ◌≤◌, ◌+◌};
 
-use crate::begins::begins_postfix;
-use crate::level::Line;
-use crate::lines::line_at;
 use crate::statement::{call, freed, named, own, printed, returned, variable};
-use crate::word::is_name;
-use crate::{BlockText, StmtText};
+use som_expressions::{Line, begins_postfix, is_name, line_at, with_item};
 use som_lex::Tokens;
 use som_model::List;
 use som_read::{Cursor, Key, Sign, Stop, Token, Turn};
+use som_syntax::{BlockText, StmtText};
 use std::alloc::Global;
 
 fn begins_name(left: &Cursor<'_>) -> bool
@@ -57,8 +54,7 @@ fn next_statement(
         return Ok(Turn::Done(so_far));
     }
     let next = statement_at(alloc, tokens, left, depth)?;
-    let mut statements = so_far;
-    statements.push(next)?;
+    let statements = with_item(so_far, next)?;
     Ok(Turn::More(statements))
 }
 
@@ -135,16 +131,17 @@ fn else_part(
     requires { depth ≤ MAX_NESTING }
     ensures { Answers (spec.else_part (text_at tokens.now) (spec.statement_at (text_at tokens.now) depth) (spec.if_at (text_at tokens.now) depth) left.old.rest.now) result left.new.rest.now }
 {
-    let mut statements = List::new(alloc);
     if !left.sees_word(Key::Else) {
-        return Ok(BlockText { statements });
+        return Ok(BlockText {
+            statements: List::new(alloc),
+        });
     }
     left.skip();
     if left.sees(Sign::OpenBrace) {
         return block(alloc, tokens, left, depth);
     }
     let other = if_at(alloc, tokens, left, depth)?;
-    statements.push(other)?;
+    let statements = with_item(List::new(alloc), other)?;
     Ok(BlockText { statements })
 }
 

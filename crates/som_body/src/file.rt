@@ -1,7 +1,7 @@
 //! Bodies, files of bodies, and mains.
 
-ghost use Rattle.som_body.specs.Reading as expression;
 ghost use Rattle.som_body.specs.StatementReading as spec;
+ghost use Rattle.som_expressions.specs.Reading as expression;
 ghost use Rattle.som_model.specs.declared.limits.TheConstants.{MAX_NESTING};
 ghost use Rattle.som_read.specs.Answer.{Answers};
 ghost use Rattle.som_read.specs.Readers.{another, keeping, listed, one_more, repeated};
@@ -10,11 +10,11 @@ ghost use Rattle.som_read.specs.Tokens.{head};
 ghost use Rattle.std.specs.Prelude.{◌≡◌};
 
 use crate::block::block;
-use crate::word::{any_word, name};
-use crate::{BlockText, BodyFile, BodyText, MainFile};
+use som_expressions::{any_word, name, with_item};
 use som_lex::Tokens;
 use som_model::{List, MAX_NESTING};
-use som_read::{Cursor, Key, Sign, Stop, Turn, Word};
+use som_read::{Cursor, Key, Sign, Stop, Turn};
+use som_syntax::{BlockText, BodyFile, BodyText, MainFile, Word};
 use std::alloc::Global;
 
 fn next_param(
@@ -30,8 +30,7 @@ fn next_param(
     }
     left.skip();
     let next = name(alloc, tokens, left)?;
-    let mut names = so_far;
-    names.push(next)?;
+    let names = with_item(so_far, next)?;
     Ok(Turn::More(names))
 }
 
@@ -40,8 +39,7 @@ fn some_params(alloc: Global, tokens: &Tokens, left: &mut Cursor<'_>) -> Result<
     ensures { Answers (listed (expression.name (text_at tokens.now)) left.old.rest.now) result left.new.rest.now }
 {
     let first = name(alloc, tokens, left)?;
-    let mut so_far = List::new(alloc);
-    so_far.push(first)?;
+    let mut so_far = with_item(List::new(alloc), first)?;
     for _turn in 0..left.rest.len() + 1 {
         match next_param(alloc, tokens, left, so_far)? {
             Turn::More(more) => so_far = more,
@@ -110,8 +108,7 @@ fn next_body(
         return Ok(Turn::Done(so_far));
     }
     let next = body(alloc, tokens, left)?;
-    let mut bodies = so_far;
-    bodies.push(next)?;
+    let bodies = with_item(so_far, next)?;
     Ok(Turn::More(bodies))
 }
 

@@ -10,10 +10,11 @@ ghost use Rattle.som_read.specs.Tokens.{head};
 ghost use Rattle.som_read.specs.declared.cursor.Stop.TheVariants as stops;
 ghost use Rattle.std.specs.Prelude.{◌≡◌, ◌≢◌, All, IfOk, length};
 
+use crate::SyntaxFault;
 use crate::file::{body_file, main_file};
-use crate::{BodyFile, MainFile, SyntaxFault};
 use som_lex::Tokens;
 use som_read::{Cursor, Seen, Stop, Token, see};
+use som_syntax::{BodyFile, MainFile};
 use std::alloc::Global;
 
 fn is_refused(left: &Cursor<'_>) -> bool

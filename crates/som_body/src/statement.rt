@@ -1,21 +1,17 @@
 //! Statements without blocks.
 
 ghost use Rattle.som_body.specs.Inner.{own_rest as own_rest_of};
-ghost use Rattle.som_body.specs.Reading as expression;
 ghost use Rattle.som_body.specs.StatementReading as spec;
 ghost use Rattle.som_body.specs.Statements.{is_call as is_call_of};
 ghost use Rattle.som_model.specs.declared.limits.TheConstants.{MAX_NESTING};
 ghost use Rattle.som_read.specs.Answer.{Answers};
 ghost use Rattle.som_read.specs.Seen.{text_at};
-ghost use Rattle.std.specs.Prelude.{◌≡◌, ◌≤◌, ◌+◌};
+ghost use Rattle.std.specs.Prelude.{◌≡◌, ◌≤◌};
 
-use crate::level::{Line, Tall};
-use crate::lines::line_at;
-use crate::rules::Rules;
-use crate::word::{any_word, kind, name};
-use crate::{ExprText, StmtText};
+use som_expressions::{Line, Tall, any_word, kind, line_at, name, steps_from};
 use som_lex::Tokens;
-use som_read::{Cursor, Sign, Stop, Word};
+use som_read::{Cursor, Sign, Stop};
+use som_syntax::{ExprText, StmtText, Word};
 use std::alloc::Global;
 
 #[tactic(auto, unfolding(crate::specs::Statements::is_call))]
@@ -43,34 +39,6 @@ fn finish(left: &mut Cursor<'_>, whole: Tall) -> Result<StmtText, Stop>
     Ok(StmtText::Call {
         call: whole.tree.into_inner(),
     })
-}
-
-// Further steps on what was read, where `depth` levels are left for it.
-fn steps_from(
-    alloc: Global,
-    tokens: &Tokens,
-    left: &mut Cursor<'_>,
-    depth: usize,
-    tree: ExprText,
-) -> Result<Tall, Stop>
-    requires { depth ≤ MAX_NESTING }
-    ensures { Answers (spec.steps_from (text_at tokens.now) depth (expression.tall tree 1) left.old.rest.now) result left.new.rest.now }
-{
-    let first = Tall::new(alloc, tree, 1)?;
-    if depth == 0 {
-        return if left.sees(Sign::Dot) {
-            Err(Stop::Nesting)
-        } else {
-            Ok(first)
-        };
-    }
-    Rules {
-        alloc,
-        tokens,
-        depth: depth - 1,
-        inner: line_at,
-    }
-    .steps(left, first)
 }
 
 // After `var`.

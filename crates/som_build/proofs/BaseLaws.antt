@@ -1,5 +1,5 @@
 -- What a client is compiled against: the release of an image that breaks no rule.
-use Rattle.std.proofs.Common.{◌≡◌, ℕ, ◌≤◌, Bool, true, false, if◌then◌else◌, List, Option, Some, None, Result, Ok, Err, refl, sym, ap, subst, ◌∙◌}
+use Rattle.std.proofs.Common.{◌≡◌, ℕ, ◌≤◌, if◌then◌else◌, List, Option, Some, None, Result, Ok, Err, refl, sym, ap, subst, ◌∙◌}
 use Rattle.std.specs.Prelude.{All}
 use Rattle.std.proofs.lemmas.List.{length-map}
 use Rattle.std.proofs.lemmas.List.Elements.{All-map}
@@ -15,7 +15,7 @@ use Rattle.som_model.specs.Rules.{RuleBreach}
 use Rattle.som_model.specs.Steps.{◌>>=◌}
 use Rattle.som_fields.specs.declared.fault.ImageFault.{ImageFault}
 use Rattle.som_libimage.specs.Libraries.{library_at}
-use Rattle.som_naming.specs.ClassLimits.{FaceWithin}
+use Rattle.som_classimage.specs.ClassLimits.{FaceWithin}
 use Rattle.som_libimage.specs.Limits.{IsWithinLimits}
 use Rattle.som_libimage.proofs.Decoded.{within}
 use Rattle.som_verify.proofs.Conforming.{conforms_release, release_conforms}

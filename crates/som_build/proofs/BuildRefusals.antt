@@ -2,7 +2,6 @@
 use Rattle.std.proofs.Common.{◌≡◌, ℕ, List, ◌∷◌, Result, Ok, Err, refl, sym, ap, subst, inl, inr}
 use Rattle.som_model.specs.declared.program.Release.{Release}
 use Rattle.som_model.specs.Conforming.{release_breach}
-use Rattle.som_model.specs.Lists.{Mem}
 use Rattle.som_compile.specs.declared.fault.TextFault.{TextFault}
 use Rattle.som_compile.specs.declared.source.Source.{Source}
 use Rattle.som_compile.specs.Compiling.{Compiles}
@@ -14,7 +13,7 @@ use Rattle.som_steps.specs.ImageSteps.{library_in, sound_release}
 use Rattle.som_steps.specs.Lines.{absent}
 use Rattle.som_steps.specs.Putting.{IsSilent}
 use Rattle.som_steps.specs.Refusing.{EndsIn, HasStatusIn, RefusesAs, StopRefusesAs}
-use Rattle.som_steps.specs.Status.{end_status, status_of}
+use Rattle.som_steps.specs.Status.{end_status}
 use Rattle.som_steps.specs.Steps.{Follows}
 use Rattle.som_steps.specs.declared.stop.CommandStop.TheVariants as stops
 use Rattle.som_steps.proofs.Statuses.{absent_in, sound_only, stops_only}

@@ -3,9 +3,9 @@ ghost use Rattle.som_build.specs.Texts.{reading_name, text_refused, too_many};
 ghost use Rattle.som_compile.specs.declared.fault.TextFault.TheVariants as texts;
 ghost use Rattle.std.specs.Prelude.{IfOk, ◌≡◌};
 
+use som_ancestry::Broken;
 use som_compile::{CompileFault, ReadingFault, TextFault};
 use som_model::{NoMemory, Text};
-use som_rules::Broken;
 use som_show::add_number;
 use som_steps::{CommandStop, Refusal, Why};
 use std::alloc::Global;

@@ -1,7 +1,7 @@
 use crate::images::{HELLO, release_of};
 use crate::programs::{OWN, program_of};
+use som_ancestry::VerifyFault;
 use som_model::{ClassDecl, ClientProgram, List, Release};
-use som_rules::VerifyFault;
 use som_verify::{program_ok, release_ok};
 use std::alloc::Global;
 use std::test::Fail;

@@ -1,10 +1,11 @@
-use crate::expansion::{Expansion, Turns, Variable};
+use crate::expansion::{Expansion, Turns};
 use crate::fields::Fields;
 use crate::files::Files;
 use crate::rows::{Rows, rows_of};
 use crate::single::single_bytes;
 use crate::words::{first_word, number_of};
 use crate::wrong::Wrong;
+use som_reports::Variable;
 use std::alloc::Global;
 
 /// What the words and blocks of a case stand for, by its files and its variables.

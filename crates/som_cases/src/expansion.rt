@@ -2,15 +2,8 @@ ghost use Rattle.std.specs.Prelude.{◌≡◌, ◌<◌, ◌≤◌, IfOk, IfSome,
 
 use crate::words::{number_of, push_number, until_no_letter};
 use crate::wrong::Wrong;
-use som_model::Text;
+use som_reports::Variable;
 use std::alloc::Global;
-
-/// A variable of an `each`, with its value: a text in which at most the forms of single bytes are left.
-#[derive(Drop)]
-pub struct Variable {
-    pub name: Text,
-    pub value: Vec<u8>,
-}
 
 /// The numbers of the turns of the repetitions around a place.
 #[derive(Clone, Copy)]

@@ -1,9 +1,10 @@
 ghost use Rattle.std.specs.Prelude.{◌<◌, IfSome, length};
 
-use crate::expansion::{Expansion, Turns, Variable};
+use crate::expansion::{Expansion, Turns};
 use crate::words::{first_word, number_of, push_number, words_in};
 use crate::wrong::Wrong;
 use som_model::{NoMemory, Text};
+use som_reports::Variable;
 use std::alloc::Global;
 
 /// The rows of an `each`: the names of its variables, and their values, row by row.

@@ -10,9 +10,9 @@ use Rattle.som_model.specs.Conforming.{ReleaseOk}
 use Rattle.som_model.specs.Steps.{◌>>=◌}
 use Rattle.som_order.specs.Names.{name_at}
 use Rattle.som_fields.specs.declared.fault.ImageFault.{ImageFault}
-use Rattle.som_naming.proofs.Conforming.{none_first}
+use Rattle.som_classimage.proofs.Conforming.{none_first}
 use Rattle.som_libimage.proofs.Decoded.{library_again}
-use Rattle.som_rules.proofs.Before.{none_both}
+use Rattle.som_ancestry.proofs.Before.{none_both}
 use Rattle.som_compat.proofs.Plain.{map_empty}
 use Rattle.som_steps.specs.declared.stop.Refusal.{Refusal}
 use Rattle.som_steps.specs.Lines.{absent, not_kept}

@@ -1,11 +1,9 @@
 -- What `show` and `check` may refuse, and which statuses they may end with, whatever the store tells.
-use Rattle.std.proofs.Common.{◌≡◌, ℕ, Bool, true, false, if◌then◌else◌, List, [], ◌∷◌, Option, Some, None, Result, Ok, Err, refl, inl, inr}
+use Rattle.std.proofs.Common.{◌≡◌, ℕ, Bool, true, false, if◌then◌else◌, List, [], ◌∷◌, Option, Some, None, Ok, Err, refl, inl, inr}
 use Rattle.som_model.specs.declared.program.Release.{Release}
 use Rattle.som_model.specs.Compatible.{CompatBreach}
 use Rattle.som_model.specs.Conforming.{program_breach, release_breach}
-use Rattle.som_model.specs.Lists.{Mem}
 use Rattle.som_model.specs.Steps.{◌>>=◌}
-use Rattle.som_steps.specs.declared.output.Output.{Output}
 use Rattle.som_steps.specs.declared.stop.Refusal.{Refusal}
 use Rattle.som_steps.specs.declared.stop.CommandStop.{CommandStop}
 use Rattle.som_steps.specs.ImageSteps.{client_in, library_in, release_in, rules_kept, sound_program, sound_release}

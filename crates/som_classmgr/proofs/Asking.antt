@@ -44,7 +44,7 @@ use Rattle.som_values.specs.Variables.{AreDisjoint}
 use Rattle.som_task.specs.Settings as settings
 use Rattle.som_runtime.specs.Asked.{Agree, CanLoad, HaveNumbers, IsClosed, is_proxy, target_after}
 use Rattle.som_made.specs.Made.{IsReached}
-use Rattle.som_classmgr.specs.Linked.{IsLinked, IsMadeIn, Linkage}
+use Rattle.som_linked.specs.Linked.{IsLinked, IsMadeIn, Linkage}
 use Rattle.som_classmgr.specs.Asking.{answers_of, is_made, is_token, kind_at, linked_of, places_of}
 use Rattle.som_classmgr.proofs.Reached.{comes_there, number, ok_then}
 use Rattle.som_classmgr.proofs.Reading.{declared_key, mapped_at}

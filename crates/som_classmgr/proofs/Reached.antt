@@ -18,7 +18,7 @@ use Rattle.som_classes.specs.Loaded.{AreLoaded}
 use Rattle.som_closure.proofs.Closing.{comes_by}
 use Rattle.som_making.specs.Making.{IsNeedOf}
 use Rattle.som_made.specs.Made.{IsReached, KeepsMade}
-use Rattle.som_classmgr.specs.Linked.{IsLinked, IsMadeIn, Linkage}
+use Rattle.som_linked.specs.Linked.{IsLinked, IsMadeIn, Linkage}
 use Rattle.som_classmgr.specs.Reached.{IsMadeBy}
 use Rattle.som_made.proofs.Marks.{within_marks}
 

@@ -1,6 +1,3 @@
-pub mod Linked
-pub mod Entries
-pub mod Kept
-pub mod Shown
+pub mod Parents
 pub mod Reached
 pub mod Asking

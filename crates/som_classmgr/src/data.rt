@@ -1,4 +1,4 @@
-ghost use Rattle.som_classmgr.specs.Linked.{IsMadeIn};
+ghost use Rattle.som_linked.specs.Linked.{IsMadeIn};
 ghost use Rattle.som_meta.specs.Numbering.{IsNumbered, key_at};
 ghost use Rattle.som_model.specs.Ancestors.{Descends};
 ghost use Rattle.som_model.specs.Classes.{hierarchy};
@@ -6,7 +6,7 @@ ghost use Rattle.som_places.specs.Variables.{IsVariable, object_variables, own_v
 ghost use Rattle.std.specs.Prelude.{◌≡◌, ◌<◌, ℕ, length, slice_get};
 
 use crate::kernel::Kernel;
-use crate::linked::Linked;
+use som_linked::Linked;
 use som_model::{List, ValueType};
 use som_tables::{ClassNo, DToken};
 
@@ -18,10 +18,7 @@ impl Kernel<Linked> {
         ensures token { result ≡ (class, variable) }
         ensures variable { IsVariable self.now.classes result }
     {
-        self.stage
-            .parts
-            .places
-            .data_token(self.stage.classes(), class, u16::from(variable))
+        self.stage.data_token(class, variable)
     }
 
     /// The place of a variable in the objects of a class that is made. Two variables have two places.
@@ -35,10 +32,7 @@ impl Kernel<Linked> {
         ensures apart { (other : ℕ × ℕ) → IsVariable self.now.classes other → Descends (hierarchy self.now.classes.classes) (key_at self.now.classes class) (key_at self.now.classes other.0) →
             place_in self.now.classes.classes (key_at self.now.classes class) (key_at self.now.classes other.0) other.1 ≡ result → other ≡ variable }
     {
-        self.stage
-            .parts
-            .places
-            .data_place(self.stage.classes(), class, variable)
+        self.stage.data_place(class, variable)
     }
 
     /// The types of the variables of the objects of a class that is made, by their places.
@@ -46,9 +40,6 @@ impl Kernel<Linked> {
         requires { IsMadeIn self.now class }
         ensures { result.now ≡ object_variables self.now.classes.classes (key_at self.now.classes class) }
     {
-        self.stage
-            .parts
-            .places
-            .variables(self.stage.classes(), class)
+        self.stage.variables(class)
     }
 }

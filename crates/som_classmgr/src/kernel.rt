@@ -1,5 +1,5 @@
 ghost use Rattle.som_classes.specs.Loaded.{AreLoaded};
-ghost use Rattle.som_classmgr.specs.Linked.{IsLinked, IsMadeIn};
+ghost use Rattle.som_linked.specs.Linked.{IsLinked, IsMadeIn};
 ghost use Rattle.som_made.specs.Made.{IsReached, KeepsMade};
 ghost use Rattle.som_classmgr.specs.Reached.{IsMadeBy};
 ghost use Rattle.som_meta.specs.Numbering.{IsNumbered, key_at};
@@ -9,9 +9,8 @@ ghost use Rattle.som_model.specs.declared.key.ClassKey.{ClassKey as Key};
 ghost use Rattle.som_numbers.specs.Classes.{classes_of};
 ghost use Rattle.std.specs.Prelude.{◌≡◌, ◌↔◌, ◌++◌, ◌∷◌, ◌<◌, [], ℕ, IfOk, List as Seq, OnErr, OnOk};
 
-use crate::copies::copy_classes;
-use crate::linked::{Linked, lay};
 use som_classes::Classes;
+use som_linked::{Linked, copy_classes, lay};
 use som_model::{Block, List, NoMemory};
 use som_numbers::Keyed;
 use som_tables::ClassNo;

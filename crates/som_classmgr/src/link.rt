@@ -1,64 +1,16 @@
-ghost use Rattle.som_classmgr.specs.Linked.{IsMadeIn};
 ghost use Rattle.som_classmgr.specs.Reached.{IsMadeBy};
+ghost use Rattle.som_linked.specs.Linked.{IsMadeIn};
 ghost use Rattle.som_linking.specs.Pairs.{ProgramCounted, ReleaseCounted, obstacle};
 ghost use Rattle.som_linking.specs.Told.{Tells};
 ghost use Rattle.som_model.specs.Binds.{Binds};
-ghost use Rattle.som_model.specs.Class.{class_in};
-ghost use Rattle.som_model.specs.Classes.{classes as all_classes, client_classes, library_classes};
-ghost use Rattle.som_numbers.specs.Classes.{class_of, classes_of};
-ghost use Rattle.std.specs.Prelude.{◌≡◌, ◌↔◌, ◌++◌, ◌<◌, [], ℕ, IfOk, OnOk, map};
+ghost use Rattle.som_model.specs.Classes.{classes as all_classes};
+ghost use Rattle.std.specs.Prelude.{◌≡◌, ◌↔◌, ◌<◌, [], ℕ, IfOk};
 
 use crate::kernel::{Kernel, Unlinked, kernel_of};
-use crate::linked::Linked;
+use som_linked::{Linked, classes_of_pair};
 use som_linking::{LinkFault, look_at_pair};
-use som_model::{ClassDecl, ClassKey, ClientProgram, List, Module, NoMemory, Release};
-use som_numbers::Keyed;
+use som_model::{ClientProgram, Release};
 use std::alloc::Global;
-
-/// A copy of a class, with its key in a module.
-fn keyed(alloc: Global, origin: Module, decl: &ClassDecl) -> Result<Keyed, NoMemory>
-    ensures { IfOk result (λ class. class_of class ≡ class_in origin decl.now) }
-{
-    let name = decl.face.name.copy(alloc)?;
-    let decl = decl.copy(alloc)?;
-    Ok(Keyed {
-        key: ClassKey::Named {
-            module: origin,
-            name,
-        },
-        decl,
-    })
-}
-
-/// Adds copies of classes, with their keys in a module.
-#[tactic(auto, using(crate::proofs::Pairing::classes_more))]
-fn add_classes(
-    alloc: Global,
-    origin: Module,
-    decls: &[ClassDecl],
-    all: &mut List<Keyed>,
-) -> Result<(), NoMemory>
-    ensures { OnOk result (classes_of all.new ≡ classes_of all.old ++ map (class_in origin) decls.now) }
-{
-    for decl in decls {
-        all.push(keyed(alloc, origin, decl)?)?;
-    }
-    Ok(())
-}
-
-/// Copies of the classes of a library and of a client, with their keys.
-fn classes_of_pair(
-    alloc: Global,
-    library: &Release,
-    client: &ClientProgram,
-) -> Result<List<Keyed>, NoMemory>
-    ensures { IfOk result (λ all. classes_of all ≡ library_classes library.now ++ client_classes client.now) }
-{
-    let mut all = List::new(alloc);
-    add_classes(alloc, Module::Library, library.classes.as_slice(), &mut all)?;
-    add_classes(alloc, Module::Client, client.classes.as_slice(), &mut all)?;
-    Ok(all)
-}
 
 impl Kernel<Unlinked> {
     /// Links a client with a library: looks at the library's rules, then the client's, and then whether the library keeps what the client was compiled

@@ -1,70 +1,22 @@
-ghost use Rattle.som_bodies.specs.Bodies.{IsSourced, held_body as held_of_body};
-ghost use Rattle.som_classmgr.specs.Linked.{IsMadeIn};
-ghost use Rattle.som_classmgr.specs.Shown.{HasMethodAbove, IsAnswer, body_at, parent_at};
+ghost use Rattle.som_classmgr.specs.Parents.{HasMethodAbove, parent_at};
+ghost use Rattle.som_linked.specs.Linked.{IsMadeIn};
+ghost use Rattle.som_linked.specs.Shown.{IsAnswer, body_at};
 ghost use Rattle.som_meta.specs.Numbering.{IsNumbered, IsToken, key_at, method_at};
 ghost use Rattle.som_model.specs.Ancestors.{Descends};
-ghost use Rattle.som_model.specs.Class.{Class, introduced_sig as sig_in};
 ghost use Rattle.som_model.specs.Classes.{hierarchy};
 ghost use Rattle.som_model.specs.Implementation.{held as held_by};
 ghost use Rattle.som_model.specs.Owner.{entry_at, owner, sig_of};
 ghost use Rattle.som_model.specs.declared.key.ClassKey.{ClassKey};
 ghost use Rattle.som_owners.specs.Owners.{IsTokenOf};
 ghost use Rattle.som_runtime.specs.Asked.{held_shown};
-ghost use Rattle.std.specs.Prelude.{◌≡◌, ◌+◌, ◌<◌, ℕ, IsSome, List as Seq, Some, length, slice_get};
+ghost use Rattle.std.specs.Prelude.{◌≡◌, ◌+◌, IsSome, Some};
 
-use crate::body::BodyNo;
 use crate::kernel::Kernel;
-use crate::linked::Linked;
-use som_bodies::{BodyAt, Source};
-use som_classes::Classes;
-use som_model::{Body, Entry, MethodRef, Sig};
-use som_runtime::{BodyView, Held};
+use som_linked::{BodyNo, Linked};
+use som_model::{MethodRef, Sig};
+use som_runtime::BodyView;
 use som_tables::{ClassNo, MToken, Steps};
 use std::sync::ledger::Ledger;
-
-/// What a declared body is.
-fn held_body(body: &Body) -> Held<'_>
-    ensures { (name : Seq ℕ) → held_shown name result ≡ held_of_body body.now }
-{
-    match body {
-        Body::User(block) => Held::User(block),
-        Body::Get(place) => Held::Get(*place),
-        Body::Set(place) => Held::Set(*place),
-    }
-}
-
-/// What a class holds for a method, by where its body stands.
-fn held_at<'a>(classes: &'a Classes, body: &BodyAt) -> Held<'a>
-    requires { IsSourced classes.now body.now }
-    ensures { held_by classes.now.classes (key_at classes.now body.now.class) (method_at classes.now body.now.method)
-        ≡ Some (held_shown (method_at classes.now body.now.method).name result) }
-{
-    let _count = classes.count();
-    match body.source {
-        Source::Introduced(place) => {
-            held_body(&classes.declared(body.class).decl.bodies.as_slice()[usize::from(place)])
-        }
-        Source::Overriding(place) => {
-            let overrides = classes.declared(body.class).decl.overrides.as_slice();
-            Held::User(&overrides[usize::from(place)].block)
-        }
-        Source::Kernel => Held::Kernel,
-        Source::Forward => Held::Forward,
-        Source::Nothing => Held::Nothing,
-    }
-}
-
-/// The signature of the entry of a declared class at a place.
-fn introduced_sig(classes: &Classes, class: ClassNo, place: u16) -> &Sig
-    requires declared { class < length classes.now.classes }
-    requires entry { (c : Class) → slice_get classes.now.classes class ≡ Some c → IsSome (sig_in (slice_get c.decl.face.entries place)) }
-    ensures { (c : Class) → slice_get classes.now.classes class ≡ Some c → sig_in (slice_get c.decl.face.entries place) ≡ Some result.now }
-{
-    match &classes.declared(class).decl.face.entries.as_slice()[usize::from(place)] {
-        Entry::Introduced { sig, .. } => sig,
-        Entry::Moved { .. } => unreachable!(),
-    }
-}
 
 impl Kernel<Linked> {
     /// The body that a class has for a method, its own or an inherited one, by two counted steps.
@@ -75,13 +27,7 @@ impl Kernel<Linked> {
         ensures body { IsAnswer self.now (key_at self.now.classes class) method result }
         ensures cost { steps.new ≡ steps.old + 2 }
     {
-        let classes = self.stage.classes();
-        BodyNo(
-            self.stage
-                .parts
-                .bodies
-                .resolve(classes, class, method, steps),
-        )
+        self.stage.resolve(class, method, steps)
     }
 
     /// The body that the parent of a class at a place has for a method, its own or an inherited one, by two counted steps.
@@ -112,13 +58,7 @@ impl Kernel<Linked> {
         ensures held { held_by self.now.classes.classes (key_at self.now.classes result.class) (method_at self.now.classes result.method)
             ≡ Some (held_shown (method_at self.now.classes result.method).name result.held) }
     {
-        let classes = self.stage.classes();
-        let body = self.stage.parts.bodies.body(body.0);
-        BodyView {
-            class: body.class,
-            method: body.method,
-            held: held_at(classes, body),
-        }
+        self.stage.body(body)
     }
 
     /// The token of the owner of a method that an entry of its class names.
@@ -135,10 +75,6 @@ impl Kernel<Linked> {
         ensures method { result.0.now ≡ method_at self.now.classes token }
         ensures sig { sig_of self.now.classes.classes (method_at self.now.classes token) ≡ Some result.1.now }
     {
-        let classes = self.stage.classes();
-        let class = token.class();
-        let introduced = &self.stage.methods.as_slice()[class.number() as usize];
-        let entry = &introduced.as_slice()[token.place() as usize];
-        (&entry.method, introduced_sig(classes, class, entry.place))
+        self.stage.method(token)
     }
 }

@@ -1,4 +1,4 @@
-ghost use Rattle.som_classmgr.specs.Linked.{IsMadeIn};
+ghost use Rattle.som_linked.specs.Linked.{IsMadeIn};
 ghost use Rattle.som_meta.specs.Numbering.{AreNumbered, IsNumbered, key_at};
 ghost use Rattle.som_model.specs.Classes.{hierarchy, is_a as descends, version_of};
 ghost use Rattle.som_model.specs.Invoked.{class_found, version_fits as fits};
@@ -12,27 +12,13 @@ ghost use Rattle.std.specs.Option.{option_map};
 ghost use Rattle.std.specs.Prelude.{◌≡◌, ◌↔◌, ◌∷◌, ◌<◌, [], ℕ, IfNone, IfSome, IsTrue, length, map};
 
 use crate::kernel::Kernel;
-use crate::linked::Linked;
 use som_classes::Classes;
+use som_linked::Linked;
 use som_meta::Ancestry;
 use som_model::{Block, ClassKey, List, Text};
 use som_numbers::Kind;
 use som_tables::ClassNo;
 use som_telling::KeyView;
-
-/// How many of the marks are set.
-fn count_set(marks: &[bool]) -> u32
-    requires { length marks.now < 4294967296 }
-    ensures { result ≡ count_by (λ m. m) marks.now }
-{
-    let mut count = 0;
-    for mark in marks {
-        if *mark {
-            count += 1;
-        }
-    }
-    count
-}
 
 /// Whether a version is the one that is asked for: any is, where 0.0 is asked for, and else one of the same major version with at least that minor one.
 fn version_fits(version: (u32, u32), major: i32, minor: i32) -> bool
@@ -64,7 +50,7 @@ impl Kernel<Linked> {
     pub fn main(&self) -> &Block
         ensures { result.now ≡ self.now.main }
     {
-        &self.stage.main
+        self.stage.main()
     }
 
     /// The number of the class of a key, made or not.
@@ -146,15 +132,14 @@ impl Kernel<Linked> {
         requires { IsNumbered self.now.classes class }
         ensures { IsTrue result ↔ IsMadeIn self.now class }
     {
-        self.stage.parts.made[class.number() as usize]
+        self.stage.is_made(class)
     }
 
     /// How many classes are made.
     pub fn made(&self) -> u32
         ensures { result ≡ count_by (λ m. m) self.now.parts.made }
     {
-        let _count = self.stage.classes().count();
-        count_set(self.stage.parts.made.as_slice())
+        self.stage.made()
     }
 
     /// The metaclass of a class that is made.
@@ -165,7 +150,7 @@ impl Kernel<Linked> {
         ensures numbered { IsNumbered self.now.classes result }
         ensures key { key_at self.now.classes result ≡ meta self.now.classes.classes (key_at self.now.classes class) }
     {
-        self.stage.closure.metaclass(class)
+        self.stage.metaclass(class)
     }
 
     /// The hooks of the metaclass of a class that is made, in the order in which their before bodies run. They are made.
@@ -175,8 +160,6 @@ impl Kernel<Linked> {
         ensures keys { map (key_at self.now.classes) result.now ≡ hooks_of self.now.classes.classes (meta self.now.classes.classes (key_at self.now.classes class)) }
         ensures made { (n : ℕ) → Mem n result.now → IsMadeIn self.now n }
     {
-        let _classes = self.classes();
-        let metaclass = self.metaclass(class);
-        &self.stage.parts.hooks[metaclass.number() as usize]
+        self.stage.hooks(class)
     }
 }

@@ -2,7 +2,7 @@ ghost use Rattle.som_model.specs.Kernel.{som_class_mgr};
 
 use crate::asked::{own_count, proxy_number, zero_in};
 use crate::kernel::Kernel;
-use crate::linked::Linked;
+use som_linked::Linked;
 use som_model::{Block, ClassKey, List, MethodRef, NoMemory, Sig, Text, ValueType};
 use som_numbers::Kind;
 use som_runtime::{BodyView, Runtime};

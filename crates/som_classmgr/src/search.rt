@@ -1,12 +1,12 @@
 ghost use Rattle.som_byname.specs.Added.{IsMeant, count_to};
-ghost use Rattle.som_classmgr.specs.Linked.{IsMadeIn};
+ghost use Rattle.som_linked.specs.Linked.{IsMadeIn};
 ghost use Rattle.som_meta.specs.Numbering.{key_at};
 ghost use Rattle.som_model.specs.Classes.{ancestors};
 ghost use Rattle.som_model.specs.Owner.{introduces};
 ghost use Rattle.std.specs.Prelude.{◌≡◌, ◌+◌};
 
 use crate::kernel::Kernel;
-use crate::linked::Linked;
+use som_linked::Linked;
 use som_model::Text;
 use som_tables::{ClassNo, MToken, Steps};
 use std::sync::ledger::Ledger;
@@ -24,7 +24,6 @@ impl Kernel<Linked> {
         ensures meant { IsMeant self.now.classes class name.now result }
         ensures cost { steps.new ≡ steps.old + count_to (introduces self.now.classes.classes name.now) (ancestors self.now.classes.classes (key_at self.now.classes class)) }
     {
-        let _classes = self.stage.classes();
-        self.stage.parts.names.find(class, name, steps)
+        self.stage.find(class, name, steps)
     }
 }

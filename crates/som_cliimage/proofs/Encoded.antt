@@ -2,7 +2,6 @@
 use Rattle.std.proofs.Common.{◌≡◌, ℕ, List, [], ◌∷◌, map, Some, Result, Ok, refl, ap, subst, ◌∙◌}
 use Rattle.som_model.specs.declared.key.Module.TheVariants as modules
 use Rattle.som_model.specs.declared.class.ClassFace.{ClassFace}
-use Rattle.som_model.specs.declared.class.ClassDecl.{ClassDecl}
 use Rattle.som_model.specs.declared.program.ClientProgram.{ClientProgram}
 use Rattle.som_model.specs.Steps.{◌>>=◌}
 use Rattle.som_model.specs.Class.{Class}
@@ -10,9 +9,9 @@ use Rattle.som_model.specs.Kernel.{kernel}
 use Rattle.som_model.specs.Conforming.{ProgramOk}
 use Rattle.som_model.specs.Images.{client_image}
 use Rattle.som_fields.specs.declared.fault.ImageFault.{ImageFault}
-use Rattle.som_naming.specs.Interfaces.{NamesDiffer}
-use Rattle.som_naming.proofs.Conforming.{faces_names, declared_faces}
-use Rattle.som_naming.proofs.NamedInterfaces.{a_class}
+use Rattle.som_classimage.specs.Interfaces.{NamesDiffer}
+use Rattle.som_classimage.proofs.Conforming.{faces_names, declared_faces}
+use Rattle.som_classimage.proofs.NamedInterfaces.{a_class}
 use Rattle.som_cliimage.specs.declared.wire.WireProgram.{WireProgram}
 use Rattle.som_cliimage.specs.Naming.{program_named}
 use Rattle.som_cliimage.specs.Spelling.{FitsProgram, client}

@@ -1,5 +1,5 @@
 -- What the rules say of the base and of the client's own classes, each alone.
-use Rattle.std.proofs.Common.{◌≡◌, ℕ, Bool, List, [], ◌∷◌, ◌++◌, map, None, refl, sym, ap, subst, ◌∙◌, append_assoc}
+use Rattle.std.proofs.Common.{◌≡◌, ℕ, List, [], ◌∷◌, ◌++◌, sym, ap, subst, ◌∙◌, append_assoc}
 use Rattle.std.specs.Prelude.{flat_map}
 use Rattle.std.proofs.lemmas.List.{append-nil}
 use Rattle.std.proofs.lemmas.Grind.{flat_map-append}
@@ -8,9 +8,9 @@ use Rattle.som_model.specs.Lists.{first}
 use Rattle.som_model.specs.Class.{Class}
 use Rattle.som_model.specs.Kernel.{kernel}
 use Rattle.som_model.specs.Classes.{interface_classes, client_classes}
-use Rattle.som_model.specs.Rules.{RuleBreach, s1, s2, s3, s4, s5, s6, s7, s8, s9, s10, s14}
+use Rattle.som_model.specs.Rules.{RuleBreach, s1, s2, s5, s6, s7, s8, s9, s10, s14}
 use Rattle.som_model.specs.Conforming.{each_after, class_typed, main_typed, ProgramOk}
-use Rattle.som_naming.proofs.Conforming.{neither_is, none_first, both_empty}
+use Rattle.som_classimage.proofs.Conforming.{neither_is, none_first, both_empty}
 
 -- a rule on the classes before each, of two lists one after the other
 after_both : (rule : List Class → Class → List RuleBreach) (before xs ys : List Class) → each_after rule before (xs ++ ys) ≡ each_after rule before xs ++ each_after rule (before ++ xs) ys

@@ -10,16 +10,15 @@ use Rattle.std.proofs.lemmas.List.Elements.{All-from_recursion, recursion_from_A
 use Rattle.som_model.specs.declared.limits.TheConstants.{MAX_CLIENT_CLASSES}
 use Rattle.som_model.specs.declared.key.Module.TheVariants as modules
 use Rattle.som_model.specs.declared.key.ClassKey.{ClassKey}
-use Rattle.som_model.specs.declared.key.ClassKey.TheVariants as keys
 use Rattle.som_model.specs.declared.syntax.Block.{Block}
 use Rattle.som_model.specs.declared.class.ClassFace.{ClassFace}
 use Rattle.som_model.specs.declared.class.ClassDecl.{ClassDecl}
 use Rattle.som_model.specs.declared.program.Interface.{Interface}
 use Rattle.som_model.specs.declared.program.ClientProgram.{ClientProgram}
 use Rattle.som_model.specs.Keys.{same_key}
-use Rattle.som_model.specs.Class.{Class, class_in, bare}
+use Rattle.som_model.specs.Class.{Class, class_in}
 use Rattle.som_model.specs.Kernel.{kernel, kernel_key}
-use Rattle.som_model.specs.Classes.{interface_classes, client_classes}
+use Rattle.som_model.specs.Classes.{interface_classes}
 use Rattle.som_model.specs.Images as images
 use Rattle.som_model.specs.Images.{Spelled, ◌then◌, each, tag, where_it_is, image_version, client_image}
 use Rattle.som_model.proofs.NamedLaws.{same_named}
@@ -39,15 +38,14 @@ use Rattle.som_naming.proofs.Places.{all_of, all_mapped, all_joined, distinct_jo
 use Rattle.som_naming.proofs.Spelled.{some_bytes, bytes_are, split, guarded}
 use Rattle.som_naming.proofs.NamedStmts.{block_forth}
 use Rattle.som_naming.proofs.StmtsBack.{block_back}
-use Rattle.som_naming.specs.ReadClasses.{ranges_of}
-use Rattle.som_naming.specs.SpelledClasses.{FitsClass, FitsParts, FitsSection, section, version_with, head}
-use Rattle.som_naming.specs.NamedClasses.{face_named, classes_named, interface_named, with_selects}
-use Rattle.som_naming.specs.Interfaces.{NamesDiffer, interface_image, NamedFrom}
-use Rattle.som_naming.proofs.ClassPlaces.{fit_length, ranges_known}
-use Rattle.som_naming.proofs.NamedSelects.{section_ascends, section_fits, section_forth, SectionBack, section_back}
-use Rattle.som_naming.proofs.NamedClasses.{map_selecting, each_selecting, many_selecting, keys_selecting, slots_selecting, key_in, keys_told, slots_told, faces_kept, as_many_classes, as_many_keys, library_key, Distinct, distinct_of, distinct_keys, no_doubles, faces_forth, parts_forth, Pairs, pairs_back, directory_of}
-use Rattle.som_naming.proofs.NamedInterfaces.{a_class, known_by, interface_forth, interface_back}
-use Rattle.som_naming.proofs.NamedInterfaces as interfaces
+use Rattle.som_classimage.specs.SpelledClasses.{FitsClass, FitsParts, FitsSection, section, version_with, head}
+use Rattle.som_classimage.specs.NamedClasses.{face_named, classes_named, interface_named, with_selects}
+use Rattle.som_classimage.specs.Interfaces.{NamesDiffer, interface_image, NamedFrom}
+use Rattle.som_classimage.proofs.ClassPlaces.{fit_length, ranges_known}
+use Rattle.som_classimage.proofs.NamedSelects.{section_ascends, section_fits, section_forth, SectionBack, section_back}
+use Rattle.som_classimage.proofs.NamedClasses.{map_selecting, each_selecting, many_selecting, keys_selecting, slots_selecting, key_in, keys_told, slots_told, faces_kept, as_many_classes, as_many_keys, library_key, Distinct, distinct_of, distinct_keys, no_doubles, faces_forth, parts_forth, Pairs, pairs_back, directory_of}
+use Rattle.som_classimage.proofs.NamedInterfaces.{a_class, known_by, interface_forth, interface_back}
+use Rattle.som_classimage.proofs.NamedInterfaces as interfaces
 use Rattle.som_cliimage.specs.declared.wire.WireProgram.{WireProgram}
 use Rattle.som_cliimage.specs.Reading.{client_ranges}
 use Rattle.som_cliimage.specs.Spelling.{FitsMain, FitsProgram, client}

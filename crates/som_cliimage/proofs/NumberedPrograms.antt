@@ -2,9 +2,9 @@
 use Rattle.std.proofs.Common.{◌≡◌, ℕ, ◌+◌, ◌≤◌, List, [], ◌∷◌, ◌++◌, length, map, refl, sym, ap, subst, ◌∙◌, arith}
 use Rattle.std.specs.Prelude.{All}
 use Rattle.std.specs.List.{AllByRecursion}
-use Rattle.std.proofs.lemmas.List.{length-map, length-append, map-append}
+use Rattle.std.proofs.lemmas.List.{length-map, map-append}
 use Rattle.std.proofs.lemmas.List.Elements.{All-from_recursion}
-use Rattle.som_model.specs.declared.limits.TheConstants.{MAX_LIBRARY_CLASSES, MAX_CLIENT_CLASSES}
+use Rattle.som_model.specs.declared.limits.TheConstants.{MAX_LIBRARY_CLASSES}
 use Rattle.som_model.specs.declared.key.Module.TheVariants as modules
 use Rattle.som_model.specs.declared.key.ClassKey.{ClassKey}
 use Rattle.som_model.specs.declared.key.ClassKey.TheVariants as keys
@@ -14,8 +14,7 @@ use Rattle.som_model.specs.declared.class.ClassDecl.{ClassDecl}
 use Rattle.som_model.specs.declared.program.Interface.{Interface}
 use Rattle.som_model.specs.declared.program.ClientProgram.{ClientProgram}
 use Rattle.som_model.specs.Class.{Class, class_in, entry_name}
-use Rattle.som_model.specs.Kernel.{kernel}
-use Rattle.som_model.specs.Classes.{interface_classes, client_classes}
+use Rattle.som_model.specs.Classes.{client_classes}
 use Rattle.som_fields.specs.declared.face.WireFace.{WireFace}
 use Rattle.som_fields.specs.declared.method.Ranges.{Ranges}
 use Rattle.som_fields.specs.Spelling.{FitsFace}
@@ -27,23 +26,22 @@ use Rattle.som_numbering.specs.NumberedBlocks.{block_numbered}
 use Rattle.som_numbering.specs.ReadyBlocks.{BlockReady}
 use Rattle.som_numbering.proofs.NumberedKinds.{TurnsBack, all_both, counted_turn}
 use Rattle.som_numbering.proofs.TurnedBlocks.{ready_turns}
-use Rattle.som_naming.specs.SpelledClasses.{FitsParts, FitsSection}
-use Rattle.som_naming.specs.NamedClasses.{face_named, classes_named, interface_named, with_selects}
-use Rattle.som_naming.specs.ClassLimits.{FaceWithin}
+use Rattle.som_classimage.specs.SpelledClasses.{FitsParts, FitsSection}
+use Rattle.som_classimage.specs.NamedClasses.{face_named, classes_named, with_selects}
+use Rattle.som_classimage.specs.ClassLimits.{FaceWithin}
 use Rattle.som_numbering.specs.NumberedClasses.{face_numbered, FaceKnown, part_numbered, selects_numbered}
 use Rattle.som_numbering.proofs.NumberedFaces.{face_turns}
 use Rattle.som_numbering.proofs.NumberedParts.{ClassReady}
 use Rattle.som_numbering.proofs.NumberedClasses.{faces_of, keys_kept, names_kept, slots_kept, faces_fit, parts_fit, classes_back}
-use Rattle.som_naming.proofs.NamedClasses.{directory_of, as_many_keys}
-use Rattle.som_naming.proofs.NamedInterfaces.{a_class, known_by}
-use Rattle.som_cliimage.specs.declared.wire.WireProgram.{WireProgram}
+use Rattle.som_classimage.proofs.NamedClasses.{directory_of, as_many_keys}
+use Rattle.som_classimage.proofs.NamedInterfaces.{a_class, known_by}
 use Rattle.som_cliimage.specs.Reading.{client_ranges}
 use Rattle.som_cliimage.specs.Spelling.{FitsMain, FitsProgram}
 use Rattle.som_cliimage.specs.Naming.{client_directory, program_named}
 use Rattle.som_cliimage.specs.Numbering.{interface_directory, program_directory, program_numbered}
 use Rattle.som_cliimage.specs.Limits.{IsWithinLimits}
-use Rattle.som_naming.proofs.NamedParts.{plain}
-use Rattle.som_naming.proofs.NamedSelects.{section_fits}
+use Rattle.som_classimage.proofs.NamedParts.{plain}
+use Rattle.som_classimage.proofs.NamedSelects.{section_fits}
 use Rattle.som_numbering.proofs.NumberedSelects.{selects_turn}
 use Rattle.som_wire.specs.declared.selects.WireSelects.{WireSelects}
 use Rattle.som_cliimage.proofs.NamedPrograms.{known_to, many_keys, client_ranges_known}

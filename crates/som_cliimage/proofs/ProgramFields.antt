@@ -1,7 +1,7 @@
 -- Reading a client image answers what the bytes spell, and nothing else.
-use Rattle.std.proofs.Common.{◌≡◌, ℕ, ◌+◌, ◌^◌, ◌<◌, ◌≤◌, List, [], ◌∷◌, ◌++◌, length, map, Result, Ok, Err, refl, sym, ap, subst, ◌∙◌, arith}
-use Rattle.std.specs.Prelude.{nat_lt, codes, All, slice_index}
-use Rattle.std.specs.List.{flat_map, AllByRecursion}
+use Rattle.std.proofs.Common.{◌≡◌, ℕ, ◌+◌, ◌^◌, ◌<◌, ◌≤◌, List, [], ◌∷◌, ◌++◌, length, Result, Ok, refl, sym, ap, subst, ◌∙◌, arith}
+use Rattle.std.specs.Prelude.{nat_lt, codes, All}
+use Rattle.std.specs.List.{flat_map}
 use Rattle.std.specs.Int.{w16}
 use Rattle.std.proofs.lemmas.List.{length-append}
 use Rattle.std.proofs.lemmas.List.Elements.{All-from_recursion, recursion_from_All}
@@ -14,23 +14,23 @@ use Rattle.som_fields.specs.declared.read.Read.{Read}
 use Rattle.som_fields.specs.declared.face.WireFace.{WireFace}
 use Rattle.som_fields.specs.declared.method.Ranges.{Ranges}
 use Rattle.som_fields.specs.Fields.{Stands, done}
-use Rattle.som_fields.specs.Spelling.{counted, face, AreShort, FitsMethod}
-use Rattle.som_fields.proofs.Parts.{IsField, Stands-join, Stands-back, Stands-front, bind_ok, guard_no, came, took, went}
+use Rattle.som_fields.specs.Spelling.{counted, face, AreShort}
+use Rattle.som_fields.proofs.Parts.{IsField, Stands-join, guard_no, came, took, went}
 use Rattle.som_wire.specs.declared.syntax.WirePart.{WirePart}
 use Rattle.som_wire.specs.declared.syntax.WireBlock.{WireBlock}
 use Rattle.som_wire.specs.declared.selects.WireSelects.{WireSelects}
-use Rattle.som_wire.specs.Fitting.{levels_left, FitsBlock}
+use Rattle.som_wire.specs.Fitting.{levels_left}
 use Rattle.som_wire.specs.Reading.{block_at}
 use Rattle.som_wire.specs.Spelling.{part, block}
 use Rattle.som_wire.proofs.StmtFields.{block_field}
 use Rattle.som_naming.proofs.Places.{all_joined}
-use Rattle.som_naming.specs.ReadClasses.{ranges_of, faces_after_at, faces_at, parts_at, section_at, head_at, at_end}
-use Rattle.som_naming.specs.SpelledClasses.{FitsFaces, FitsFacesAfter, FitsParts, section, version_with, head}
-use Rattle.som_naming.proofs.ClassFields.{faces_few, short_ranges, faces_after_field, faces_field, parts_field, beginning, IsVersion, head_field, IsSection, section_field, all_bytes, stands_whole, ends_there}
+use Rattle.som_classimage.specs.ReadClasses.{faces_at, parts_at, section_at, head_at, at_end}
+use Rattle.som_classimage.specs.SpelledClasses.{FitsFaces, FitsParts, section, version_with, head}
+use Rattle.som_classimage.proofs.ClassFields.{faces_few, short_ranges, faces_after_field, faces_field, parts_field, beginning, IsVersion, head_field, IsSection, section_field, all_bytes, stands_whole, ends_there}
 use Rattle.som_cliimage.specs.declared.wire.WireProgram.{WireProgram}
 use Rattle.som_cliimage.specs.Reading.{client_ranges, own_faces_at, program_at, wire_at}
 use Rattle.som_cliimage.specs.Spelling.{FitsOwnFaces, FitsMain, ending, bodies, program, FitsProgram, client}
-use Rattle.som_naming.proofs.NamedSelects.{version_known}
+use Rattle.som_classimage.proofs.NamedSelects.{version_known}
 
 -- ---- ranges
 

@@ -1,5 +1,5 @@
 -- A client program that conforms and is within the limits names nothing that isn't there: so it can be numbered.
-use Rattle.std.proofs.Common.{◌≡◌, ℕ, ◌+◌, ◌<◌, ◌≤◌, ◌^◌, inl, inr, Bool, true, List, [], ◌∷◌, ◌++◌, length, map, Result, Ok, Err, refl, sym, ap, subst, ◌∙◌, append_assoc, arith}
+use Rattle.std.proofs.Common.{◌≡◌, ℕ, ◌+◌, ◌<◌, ◌≤◌, ◌^◌, inl, inr, true, List, [], ◌∷◌, ◌++◌, length, map, Result, Ok, Err, refl, sym, ap, subst, ◌∙◌, append_assoc, arith}
 use Rattle.std.specs.Prelude.{flat_map, All, IfOk, codes}
 use Rattle.std.specs.List.{AllByRecursion}
 use Rattle.std.proofs.lemmas.List.{length-map, length-append}
@@ -9,7 +9,6 @@ use Rattle.som_model.specs.declared.memory.NoMemory.{NoMemory}
 use Rattle.som_model.specs.declared.limits.TheConstants.{MAX_ENTRIES}
 use Rattle.som_model.specs.declared.key.Module.TheVariants as modules
 use Rattle.som_model.specs.declared.key.ClassKey.{ClassKey}
-use Rattle.som_model.specs.declared.syntax.Block.{Block}
 use Rattle.som_model.specs.declared.class.ClassFace.{ClassFace}
 use Rattle.som_model.specs.declared.class.ClassDecl.{ClassDecl}
 use Rattle.som_model.specs.declared.class.Variable.{Variable}
@@ -21,13 +20,12 @@ use Rattle.som_model.specs.Rules.{RuleBreach, name_of, demand_of, is_value_type,
 use Rattle.som_model.specs.Owner.{introduces}
 use Rattle.som_model.specs.Typing.{Ruled, class_facts, in_main}
 use Rattle.som_model.specs.TypedBlocks.{Scope, block_scope}
-use Rattle.som_model.specs.Conforming.{main_typed, ProgramOk}
+use Rattle.som_model.specs.Conforming.{ProgramOk}
 use Rattle.som_fields.specs.declared.face.WireFace.{WireFace}
 use Rattle.som_wire.specs.declared.syntax.WireBlock.{WireBlock}
 use Rattle.som_wire.specs.declared.syntax.WirePart.{WirePart}
 use Rattle.som_wire.specs.declared.selects.WireSelects.{WireSelects}
 use Rattle.som_naming.specs.declared.directory.Directory.{Directory}
-use Rattle.som_naming.specs.Naming.{Tells}
 use Rattle.som_naming.specs.Naming.{Differ}
 use Rattle.som_numbering.specs.Numbering.{class_names, AreNamed, IsDirectory}
 use Rattle.som_numbering.specs.NumberedBlocks.{block_numbered}
@@ -35,13 +33,13 @@ use Rattle.som_numbering.specs.ReadyBlocks.{BlockReady}
 use Rattle.som_naming.proofs.Places.{all_map, all_joined}
 use Rattle.som_numbering.proofs.KnownMethods.{keys_of, covers}
 use Rattle.som_numbering.proofs.TypedBlocks.{typed_is_ready}
-use Rattle.som_naming.specs.ClassLimits.{FaceWithin, ClassWithin}
+use Rattle.som_classimage.specs.ClassLimits.{FaceWithin, ClassWithin}
 use Rattle.som_numbering.specs.NumberedClasses.{face_numbered, FaceKnown, part_numbered, selects_numbered, ClassKnown}
-use Rattle.som_naming.proofs.Conforming.{both_empty}
+use Rattle.som_classimage.proofs.Conforming.{both_empty}
 use Rattle.som_numbering.proofs.Directories.{IsOwn, FewEntries, kernel_own, kernel_few, declared_own, directory_is}
 use Rattle.som_numbering.proofs.NumberedParts.{ClassReady}
 use Rattle.som_numbering.proofs.NumberedClasses.{few_own}
-use Rattle.som_naming.proofs.NamedInterfaces.{a_class}
+use Rattle.som_classimage.proofs.NamedInterfaces.{a_class}
 use Rattle.som_numbering.proofs.ReadyClasses.{NamesBefore, stand_before, all_front, types_told, face_known, names_new, classes_ready}
 use Rattle.som_cliimage.specs.declared.wire.WireProgram.{WireProgram}
 use Rattle.som_cliimage.specs.Spelling.{FitsProgram}

@@ -1,5 +1,5 @@
 -- The image with numbers that comes of numbering a client program.
-use Rattle.std.specs.Prelude.{◌+◌, List, ◌++◌, length, map}
+use Rattle.std.specs.Prelude.{◌+◌, ◌++◌, length, map}
 use Rattle.som_model.specs.declared.key.Module.TheVariants as modules
 use Rattle.som_model.specs.declared.key.ClassKey.TheVariants as keys
 use Rattle.som_model.specs.declared.program.Interface.{Interface}

@@ -9,7 +9,7 @@ use Rattle.som_fields.specs.declared.method.Ranges.{Ranges}
 use Rattle.som_fields.specs.Fields.{done}
 use Rattle.som_wire.specs.Fitting.{levels_left}
 use Rattle.som_wire.specs.Reading.{block_at}
-use Rattle.som_naming.specs.ReadClasses.{ranges_of, faces_after_at, faces_at, parts_at, section_at, head_at, at_end}
+use Rattle.som_classimage.specs.ReadClasses.{ranges_of, faces_after_at, faces_at, parts_at, section_at, head_at, at_end}
 use Rattle.som_cliimage.specs.declared.wire.WireProgram.{WireProgram}
 
 -- the kernel's classes, those of the base, and the client's own, with as many entries as each has

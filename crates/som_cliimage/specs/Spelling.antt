@@ -9,7 +9,7 @@ use Rattle.som_fields.specs.Spelling.{counted, face, FitsMethod}
 use Rattle.som_wire.specs.declared.syntax.WireBlock.{WireBlock}
 use Rattle.som_wire.specs.Spelling.{part, block}
 use Rattle.som_wire.specs.Fitting.{levels_left, FitsBlock}
-use Rattle.som_naming.specs.SpelledClasses.{FitsFaces, FitsFacesAfter, FitsParts, FitsSection, section, version_with, head}
+use Rattle.som_classimage.specs.SpelledClasses.{FitsFaces, FitsFacesAfter, FitsParts, FitsSection, section, version_with, head}
 use Rattle.som_cliimage.specs.declared.wire.WireProgram.{WireProgram}
 use Rattle.som_cliimage.specs.Reading.{client_ranges}
 

@@ -11,9 +11,10 @@ ghost use Rattle.std.specs.Prelude.{◌≡◌, map, All, IfOk};
 use crate::directory::{interface_directory, program_directory};
 use crate::wire::WireProgram;
 use indexmap::IndexSet;
+use som_classimage::KERNEL_CLASSES;
 use som_fields::WireFace;
 use som_model::{ClassFace, ClientProgram, List, NoMemory};
-use som_naming::{Directory, KERNEL_CLASSES};
+use som_naming::Directory;
 use som_numbering::{
     class_names, number_block, number_face, number_faces, number_parts, number_selects,
 };

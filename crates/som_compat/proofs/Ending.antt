@@ -16,8 +16,8 @@ use Rattle.som_model.specs.Compatible.{CompatBreach, incompatible, order_of, fir
 use Rattle.som_laws.proofs.Laws.{descends_test}
 use Rattle.som_order.specs.Names.{name_at}
 use Rattle.som_order.specs.Difference.{first_difference}
-use Rattle.som_rules.specs.Places.{class_of_place, key_at}
-use Rattle.som_rules.specs.Plainly.{IsAmong}
+use Rattle.som_ancestry.specs.Places.{class_of_place, key_at}
+use Rattle.som_lawful.specs.Plainly.{IsAmong}
 use Rattle.som_compat.specs.Conditions.{IsCounted, Conforms}
 use Rattle.som_compat.specs.Finding.{FindsName, face_names}
 use Rattle.som_compat.specs.Metaclasses.{IsDeclared}

@@ -1,7 +1,7 @@
 -- What is known of the classes of an interface that conforms.
 use Rattle.std.proofs.Common.{◌≡◌, ℕ, zero, suc, ◌<◌, ◌≤◌, ◌⊎◌, inl, inr, Bool, true, false, List, [], ◌∷◌, ◌++◌, map, length, take, Some, slice_get, slice_index_or, refl, sym, ap, ◌∙◌, subst, arith, true≢false}
 use Rattle.std.specs.Str.{bytes_eq}
-use Rattle.som_rules.proofs.Before.{every_mem}
+use Rattle.som_ancestry.proofs.Before.{every_mem}
 use Rattle.som_model.specs.declared.key.Module.TheVariants as modules
 use Rattle.som_model.specs.declared.key.ClassKey.{ClassKey}
 use Rattle.som_model.specs.declared.key.ClassKey.TheVariants as keys
@@ -20,20 +20,20 @@ use Rattle.som_model.specs.Rules.{name_of}
 use Rattle.som_model.proofs.KeyLaws.{exact_bytes, exact_keys}
 use Rattle.som_model.proofs.NamedLaws.{hierarchy_parents, hierarchy_same, parents_named}
 use Rattle.som_laws.proofs.Members.{mem_left, mem_right, mem_split}
-use Rattle.som_rules.specs.Told.{of_library, of_release}
-use Rattle.som_rules.specs.Places.{all_classes, class_of_place, key_at, face_at, module_at, IsTable}
-use Rattle.som_rules.specs.Standing.{kernel_rows}
-use Rattle.som_rules.specs.Plainly.{IsAmong, Introduces, Differ, FacesHold}
-use Rattle.som_rules.specs.Modules.{AreDeclared}
-use Rattle.som_rules.proofs.DeclaredClasses.{map_declared}
-use Rattle.som_rules.proofs.Finding.{key_named}
-use Rattle.som_rules.proofs.KeyLists.{keys_once, class_there, height_there}
-use Rattle.som_rules.proofs.Falling.{mem_there, falls}
-use Rattle.som_rules.proofs.Rows.{kernel_low, kernel_by}
-use Rattle.som_rules.proofs.ClassTable.{is_table}
-use Rattle.som_rules.proofs.PlainLists.{map_mem, apart_by, apart_differ}
-use Rattle.som_rules.proofs.PlainNames.{say_names}
-use Rattle.som_rules.proofs.PlainWhole.{faces_say}
+use Rattle.som_ancestry.specs.Told.{of_library, of_release}
+use Rattle.som_ancestry.specs.Places.{all_classes, class_of_place, key_at, face_at, module_at, IsTable}
+use Rattle.som_ancestry.specs.Standing.{kernel_rows}
+use Rattle.som_lawful.specs.Plainly.{IsAmong, Introduces, Differ, FacesHold}
+use Rattle.som_ancestry.specs.Modules.{AreDeclared}
+use Rattle.som_ancestry.proofs.DeclaredClasses.{map_declared}
+use Rattle.som_ancestry.proofs.Finding.{key_named}
+use Rattle.som_ancestry.proofs.KeyLists.{keys_once, class_there, height_there}
+use Rattle.som_lawful.proofs.Falling.{mem_there, falls}
+use Rattle.som_ancestry.proofs.Rows.{kernel_low, kernel_by}
+use Rattle.som_ancestry.proofs.ClassTable.{is_table}
+use Rattle.som_lawful.proofs.PlainLists.{map_mem, apart_by, apart_differ}
+use Rattle.som_lawful.proofs.PlainNames.{say_names}
+use Rattle.som_lawful.proofs.PlainWhole.{faces_say}
 use Rattle.som_compat.specs.Conditions.{IsCounted, Conforms}
 use Rattle.som_compat.specs.Views.{shown}
 

@@ -35,20 +35,22 @@ use Rattle.som_model.specs.Resolution.{byname}
 use Rattle.som_model.specs.Blocks.{is_call}
 use Rattle.som_model.specs.Typing.{ClassFacts, CodePlace, ExprType, Of, PlainNil, Ruled, Typed, class_facts, needs, there, is_nothing, is_boolean, is_class, has_text, kind_is_known, fits, all_fit, descends_to, local_type, own_variable, self_type, unary_type, binary_type, host_type, new_type, class_type, cast_type, isa_type, proxy_type, offset_call_type, named_call_type, parent_call_type, parents_call_type}
 use Rattle.som_model.specs.Kernel.{som_class_mgr}
-use Rattle.som_read.specs.declared.tree.TypeName.{TypeName}
-use Rattle.som_body.specs.declared.tree.ExprText.{ExprText, out-ExprText, roll-out-ExprText, map-ExprText, fold-roll-ExprText}
-use Rattle.som_body.specs.declared.tree.ExprText.TheOpen.{ExprText-F}
-use Rattle.som_body.specs.declared.tree.StmtText.{StmtText, out-StmtText, roll-out-StmtText, map-StmtText, fold-roll-StmtText}
-use Rattle.som_body.specs.declared.tree.StmtText.TheOpen.{StmtText-F}
-use Rattle.som_body.specs.declared.tree.BlockText.{BlockText, fold-roll-BlockText}
+use Rattle.som_syntax.specs.declared.words.TypeName.{TypeName}
+use Rattle.som_syntax.specs.declared.expression.ExprText.{ExprText, out-ExprText, roll-out-ExprText, map-ExprText, fold-roll-ExprText}
+use Rattle.som_syntax.specs.declared.expression.ExprText.TheOpen.{ExprText-F}
+use Rattle.som_expressions.specs.Within as expression
+use Rattle.som_expressions.specs.Within.{ExprTextWithin}
+use Rattle.som_syntax.specs.declared.body.StmtText.{StmtText, out-StmtText, roll-out-StmtText, map-StmtText, fold-roll-StmtText}
+use Rattle.som_syntax.specs.declared.body.StmtText.TheOpen.{StmtText-F}
+use Rattle.som_syntax.specs.declared.body.BlockText.{BlockText, fold-roll-BlockText}
 use Rattle.som_body.specs.Within as text
-use Rattle.som_body.specs.Within.{ExprTextWithin, StmtTextWithin, BlockTextWithin}
+use Rattle.som_body.specs.Within.{StmtTextWithin, BlockTextWithin}
 use Rattle.som_naming.specs.BlockLimits.{ArgsWithin, ExprPartsWithin, ExprWithin, StmtPartsWithin, StatementsWithin, StmtWithin, BlockWithin}
-use Rattle.som_naming.specs.ClassLimits.{EntryWithin}
+use Rattle.som_classimage.specs.ClassLimits.{EntryWithin}
 use Rattle.som_scope.specs.ClassNames.{result_of, type_of}
-use Rattle.som_forms.specs.Locals.{Named, Names, in_scope, kinds_of, local_of, names_of}
-use Rattle.som_forms.specs.Methods.{Method, introduced_method, method_by, method_for, method_of, own_method, parent_place, variable_place}
-use Rattle.som_forms.specs.Expressions.{Among, Elab, Elaborated, class_named, expr_step, elaborated, elaborated_value, exprs_of, facts_among, formed, unary_form, binary_form, host_form, cast_form, isa_form, proxy_form, call_form, called_by, lookup_form, dispatch_form, parent_form, parents_form, part, parts, types_of, valued}
+use Rattle.som_terms.specs.Locals.{Named, Names, in_scope, kinds_of, local_of, names_of}
+use Rattle.som_terms.specs.Methods.{Method, introduced_method, method_by, method_for, method_of, own_method, parent_place, variable_place}
+use Rattle.som_terms.specs.Expressions.{Among, Elab, Elaborated, class_named, expr_step, elaborated, elaborated_value, exprs_of, facts_among, formed, unary_form, binary_form, host_form, cast_form, isa_form, proxy_form, call_form, called_by, lookup_form, dispatch_form, parent_form, parents_form, part, parts, types_of, valued}
 use Rattle.som_forms.specs.Statements.{BlockElab, ManyLocals, Placed, StmtElab, Told, block_step, call_statement, declared, elaborated_block, elaborated_stmt, freed, in_turn, placed, printed, returned, ruled, set_local, set_variable, stmt_step, value_return, with_local}
 
 -- ---- what there is room for
@@ -361,7 +363,7 @@ module _ (a : Among) (at : CodePlace) (room : Roomy a at) where
         (args_within ts args.value hs args.first (parents_few m.value.ref (types_of args.value) x.0 x.1))
 
     -- ---- by the outermost part
-    layer_within : (layer : ExprText-F ExprText) (p : Elaborated) → text.ExprPartsWithin Inner layer → expr_step a at scope (map-ExprText ExprText Elab (elaborated a at scope) layer) ≡ Ok p → PartsWithin p
+    layer_within : (layer : ExprText-F ExprText) (p : Elaborated) → expression.ExprPartsWithin Inner layer → expr_step a at scope (map-ExprText ExprText Elab (elaborated a at scope) layer) ≡ Ok p → PartsWithin p
     layer_within (ExprText-F.Number n) p h e =
         made (exprs.Long (cast_signed w32 n)) (Expr-F.Long (cast_signed w32 n)) (Ok (Of types.Long)) p (exprs.rolls-Long (cast_signed w32 n)) e (sfits_to_z (record { fits = omega (arith, h) }))
     layer_within (ExprText-F.Literal t) p h e = made (exprs.Str t) (Expr-F.Str t) (Ok (Of types.Str)) p (exprs.rolls-Str t) e h

@@ -29,27 +29,29 @@ use Rattle.som_model.specs.EffectiveOrder.{effective_order}
 use Rattle.som_model.specs.Kernel.{kernel}
 use Rattle.som_model.specs.Owner.{owner, sig_of}
 use Rattle.som_model.specs.Typing.{in_body}
-use Rattle.som_read.specs.declared.tree.Word.{Word}
-use Rattle.som_idl.specs.declared.tree.IdlInterface.{IdlInterface}
+use Rattle.som_syntax.specs.declared.words.Word.{Word}
+use Rattle.som_syntax.specs.declared.interface.IdlInterface.{IdlInterface}
 use Rattle.som_idl.specs.Within.{ItemWithin, InterfaceWithin}
-use Rattle.som_body.specs.declared.tree.BodyText.{BodyText}
+use Rattle.som_syntax.specs.declared.body.BodyText.{BodyText}
 use Rattle.som_body.specs.Within.{BodyTextWithin}
-use Rattle.som_rules.specs.Places.{with_kernel}
-use Rattle.som_rules.proofs.Before.{every_mem}
-use Rattle.som_rules.proofs.PlainLists.{mem_map}
+use Rattle.som_ancestry.specs.Places.{with_kernel}
+use Rattle.som_ancestry.proofs.Before.{every_mem}
+use Rattle.som_lawful.proofs.PlainLists.{mem_map}
 use Rattle.som_naming.specs.BlockLimits.{TextWithin, BlockWithin, StmtWithin}
 use Rattle.som_wire.specs.Fitting.{levels_left}
-use Rattle.som_naming.specs.ClassLimits.{EntryWithin, BodyWithin, FaceWithin, ClassWithin}
-use Rattle.som_elab.specs.Accessors.{Access, accessor_body, accessors_of, body_of, place_of}
-use Rattle.som_sema.specs.Building.{after_base, declarations, module_over}
-use Rattle.som_sema.specs.Finished.{declare, entry_for, introducer, override_of, select_of, selects_at}
+use Rattle.som_classimage.specs.ClassLimits.{EntryWithin, BodyWithin, FaceWithin, ClassWithin}
+use Rattle.som_methods.specs.Accessors.{Access, accessor_body, accessors_of, body_of, place_of}
+use Rattle.som_declarations.specs.Known.{after_base}
+use Rattle.som_sema.specs.Building.{declarations, module_over}
+use Rattle.som_declarations.specs.Finished.{declare, entry_for, introducer, override_of, select_of, selects_at}
 use Rattle.som_drafts.specs.Items.{chosen, listed, major_in, minor_in, or_object, overridden}
-use Rattle.som_elab.specs.PlainLimits.{LimitsKept}
+use Rattle.som_methods.specs.PlainLimits.{LimitsKept}
 use Rattle.som_drafts.specs.Drafts.{InterfaceDraft, draft_of, introduces, draft_class, draft_classes}
-use Rattle.som_forms.specs.Expressions.{Among}
-use Rattle.som_elab.specs.Bodies.{drafts_of_classes, classes_over, drafts_over, texts_for}
+use Rattle.som_terms.specs.Expressions.{Among}
+use Rattle.som_elab.specs.Elaboration.{drafts_of_classes, classes_over, drafts_over}
+use Rattle.som_methods.specs.Bodies.{texts_for}
 use Rattle.som_forms.specs.MethodBody.{parameters}
-use Rattle.som_elab.specs.Elaboration.{with_blocks}
+use Rattle.som_blocks.specs.Blocks.{with_blocks}
 use Rattle.som_elab.proofs.Apart.{TextApart, no_text, a_text, EntryApart, accessor, of_text, EntriesApart, no_entry, moved, introduced as one_introduced, OverrideApart, without_sig, with_sig, OverridesApart, no_override, an_override, ClassApart, EachApart, no_class, a_class, entries_apart, overrides_apart}
 use Rattle.som_compile.proofs.BlocksWithin.{PlaceFits, SigsFit, whole_block_within}
 use Rattle.som_compile.proofs.InterfacesWithin.{Named, all_join, all_map, all_members, member_of_all, all_variables, entry_named, introduces_named, major_within, minor_within, number_within, order_named, some_parent, word_within}

@@ -5,11 +5,11 @@ use Rattle.som_model.specs.declared.program.ClientProgram.{ClientProgram}
 use Rattle.som_model.specs.declared.program.Interface.{Interface}
 use Rattle.som_model.specs.Images.{client_image}
 use Rattle.som_lex.specs.declared.token.Tokens.{Tokens}
-use Rattle.som_body.specs.declared.tree.MainFile.{MainFile}
+use Rattle.som_syntax.specs.declared.body.MainFile.{MainFile}
 use Rattle.som_cliimage.specs.Limits.{IsWithinLimits}
 use Rattle.som_cliimage.proofs.Encoded.{image_there}
-use Rattle.som_sema.specs.declared.types.Refused.{Refused}
-use Rattle.som_elab.specs.Elaboration.{Answers, Refusal}
+use Rattle.som_declarations.specs.declared.types.Refused.{Refused}
+use Rattle.som_blocks.specs.Blocks.{Answers, Refusal}
 use Rattle.som_compile.specs.declared.fault.TextFault.{TextFault}
 use Rattle.som_compile.specs.declared.fault.CompileFault.{CompileFault}
 use Rattle.som_compile.specs.declared.fault.CompileFault.TheVariants as faults

@@ -13,15 +13,15 @@ use Rattle.som_model.specs.declared.class.Variable.{Variable}
 use Rattle.som_model.specs.Lists.{Mem, among, find, first_some, or_else, without}
 use Rattle.som_model.specs.Class.{entry_name, entry_of, introduced}
 use Rattle.som_model.specs.EffectiveOrder.{effective_order}
-use Rattle.som_read.specs.declared.tree.Word.{Word}
-use Rattle.som_idl.specs.declared.tree.IdlInterface.{IdlInterface}
-use Rattle.som_idl.specs.declared.tree.Export.{Export}
-use Rattle.som_idl.specs.declared.tree.Export.TheVariants as exports
-use Rattle.som_idl.specs.declared.tree.Item.{Item}
-use Rattle.som_idl.specs.declared.tree.Item.TheVariants as items
+use Rattle.som_syntax.specs.declared.words.Word.{Word}
+use Rattle.som_syntax.specs.declared.interface.IdlInterface.{IdlInterface}
+use Rattle.som_syntax.specs.declared.interface.Export.{Export}
+use Rattle.som_syntax.specs.declared.interface.Export.TheVariants as exports
+use Rattle.som_syntax.specs.declared.interface.Item.{Item}
+use Rattle.som_syntax.specs.declared.interface.Item.TheVariants as items
 use Rattle.som_idl.specs.Within.{WordWithin, ExportWithin, ItemWithin, InterfaceWithin}
 use Rattle.som_naming.specs.BlockLimits.{TextWithin}
-use Rattle.som_sema.specs.Finished.{entry_or_moved}
+use Rattle.som_declarations.specs.Finished.{entry_or_moved}
 use Rattle.som_scope.specs.ClassNames.{key_of, type_of}
 use Rattle.som_drafts.specs.Items.{by_name, listed, listed_in, major_in, minor_in, number_of, or_object}
 use Rattle.som_drafts.specs.Drafts.{accessors, export_entries, export_variables, getter, introduces, item_variables, setter, variables, variables_of}

@@ -11,13 +11,13 @@ use Rattle.som_lex.specs.Front.{IsFault, IsTextFault, no_token, a_digit_after_ze
 use Rattle.som_lex.specs.Cut.{IsCut, Stops, here, after_gap, after_token}
 use Rattle.som_lex.specs.Spans.{AreTokens, offset_of}
 use Rattle.som_lex.proofs.OneCut.{one_cut, one_fault, cut_apart}
-use Rattle.som_read.specs.declared.tree.SyntaxFault.{SyntaxFault}
-use Rattle.som_read.specs.declared.tree.SyntaxFault.TheVariants as parsing
-use Rattle.som_idl.specs.declared.tree.IdlFile.{IdlFile}
+use Rattle.som_read.specs.declared.fault.SyntaxFault.{SyntaxFault}
+use Rattle.som_read.specs.declared.fault.SyntaxFault.TheVariants as parsing
+use Rattle.som_syntax.specs.declared.interface.IdlFile.{IdlFile}
 use Rattle.som_idl.specs.Answer.{IsAnswer}
 use Rattle.som_idl.proofs.Theorem.{one_answer, some_answer}
-use Rattle.som_body.specs.declared.tree.BodyFile.{BodyFile}
-use Rattle.som_body.specs.declared.tree.MainFile.{MainFile}
+use Rattle.som_syntax.specs.declared.body.BodyFile.{BodyFile}
+use Rattle.som_syntax.specs.declared.body.MainFile.{MainFile}
 use Rattle.som_body.specs.Answer.{AreBodies, IsMain}
 use Rattle.som_body.proofs.Theorem.{one_bodies_answer, one_main_answer, some_bodies_answer, some_main_answer}
 use Rattle.som_compile.specs.declared.fault.ReadingFault.TheVariants as reading

@@ -10,21 +10,21 @@ use Rattle.som_model.specs.declared.program.Interface.{Interface}
 use Rattle.som_model.specs.declared.program.Release.{Release}
 use Rattle.som_model.specs.declared.program.ClientProgram.{ClientProgram}
 use Rattle.som_model.specs.Typing.{in_main}
-use Rattle.som_idl.specs.declared.tree.IdlFile.{IdlFile}
-use Rattle.som_idl.specs.declared.tree.IdlInterface.{IdlInterface}
+use Rattle.som_syntax.specs.declared.interface.IdlFile.{IdlFile}
+use Rattle.som_syntax.specs.declared.interface.IdlInterface.{IdlInterface}
 use Rattle.som_idl.specs.Within.{FileWithin, InterfaceWithin}
-use Rattle.som_body.specs.declared.tree.BlockText.{BlockText}
-use Rattle.som_body.specs.declared.tree.BodyFile.{BodyFile}
-use Rattle.som_body.specs.declared.tree.BodyText.{BodyText}
+use Rattle.som_syntax.specs.declared.body.BlockText.{BlockText}
+use Rattle.som_syntax.specs.declared.body.BodyFile.{BodyFile}
+use Rattle.som_syntax.specs.declared.body.BodyText.{BodyText}
 use Rattle.som_body.specs.Within.{BlockTextWithin, BodyFileWithin, BodyTextWithin}
-use Rattle.som_naming.specs.ClassLimits.{ClassWithin, EntryWithin, FaceWithin}
+use Rattle.som_classimage.specs.ClassLimits.{ClassWithin, EntryWithin, FaceWithin}
 use Rattle.som_libimage.specs.Limits.{IsWithinLimits}
 use Rattle.som_cliimage.specs.Limits.{IsWithinLimits as ProgramWithin}
-use Rattle.som_elab.specs.PlainLimits.{LimitsKept}
+use Rattle.som_methods.specs.PlainLimits.{LimitsKept}
 use Rattle.som_scope.specs.Words.{interfaces_of}
-use Rattle.som_elab.proofs.LimitLaws.{limits_law}
-use Rattle.som_elab.specs.Bodies.{bodies_of, classes_over, drafts_over}
-use Rattle.som_elab.specs.Elaboration.{among_over, elaborated_program, elaborated_release, nothing_before}
+use Rattle.som_methods.proofs.LimitLaws.{limits_law}
+use Rattle.som_methods.specs.Bodies.{bodies_of}
+use Rattle.som_elab.specs.Elaboration.{classes_over, drafts_over, among_over, elaborated_program, elaborated_release, nothing_before}
 use Rattle.som_elab.proofs.Apart.{ClassesApart, program_apart, release_apart}
 use Rattle.som_compile.proofs.BlocksWithin.{SigsFit, sigs_fit, whole_block_within}
 use Rattle.som_compile.proofs.InterfacesWithin.{all_flat, member_of_all}

@@ -6,9 +6,9 @@ use Rattle.som_model.specs.declared.program.ClientProgram.{ClientProgram}
 use Rattle.som_model.specs.declared.program.Interface.{Interface}
 use Rattle.som_model.specs.declared.program.Release.{Release}
 use Rattle.som_model.specs.Conforming.{ProgramOk, ReleaseOk}
-use Rattle.som_body.specs.declared.tree.MainFile.{MainFile}
+use Rattle.som_syntax.specs.declared.body.MainFile.{MainFile}
 use Rattle.som_scope.specs.Words.{interfaces_of}
-use Rattle.som_elab.specs.Bodies.{bodies_of}
+use Rattle.som_methods.specs.Bodies.{bodies_of}
 use Rattle.som_elab.proofs.Conforms.{release_conforms as release_ok, program_conforms as program_ok}
 use Rattle.som_libimage.specs.Limits.{IsWithinLimits}
 use Rattle.som_cliimage.specs.Limits.{IsWithinLimits as IsProgramWithin}

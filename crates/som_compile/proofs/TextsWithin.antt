@@ -7,7 +7,7 @@ use Rattle.som_lex.specs.Spans.{IsSpelled}
 use Rattle.som_lex.proofs.Spans.{all_spelled}
 use Rattle.som_idl.specs.Within.{FileWithin}
 use Rattle.som_idl.proofs.WithinLimits.{tree_within}
-use Rattle.som_body.specs.declared.tree.MainFile.{MainFile}
+use Rattle.som_syntax.specs.declared.body.MainFile.{MainFile}
 use Rattle.som_body.specs.Within.{MainFileWithin}
 use Rattle.som_body.proofs.WithinLimits.{bodies_tree_within, main_tree_within}
 use Rattle.som_compile.specs.declared.kind.SourceKind.{SourceKind}

@@ -6,14 +6,15 @@ use Rattle.som_model.specs.declared.program.Interface.{Interface}
 use Rattle.som_model.specs.declared.program.Release.{Release}
 use Rattle.som_model.specs.Classes.{interface_classes}
 use Rattle.som_model.specs.Images.{client_image, library_image}
-use Rattle.som_body.specs.declared.tree.MainFile.{MainFile}
-use Rattle.som_rules.specs.Faces.{faces_breach}
-use Rattle.som_sema.specs.declared.types.Refused.{Refused}
-use Rattle.som_sema.specs.declared.types.Refused.TheVariants as refusals
+use Rattle.som_syntax.specs.declared.body.MainFile.{MainFile}
+use Rattle.som_ancestry.specs.Faces.{faces_breach}
+use Rattle.som_declarations.specs.declared.types.Refused.{Refused}
+use Rattle.som_declarations.specs.declared.types.Refused.TheVariants as refusals
 use Rattle.som_scope.specs.Words.{interfaces_of}
-use Rattle.som_elab.specs.Bodies.{bodies_of}
-use Rattle.som_elab.specs.Elaboration.{Limit, Refusal, Rule, elaborated_program, elaborated_release}
-use Rattle.som_naming.specs.ClassLimits.{FaceWithin}
+use Rattle.som_methods.specs.Bodies.{bodies_of}
+use Rattle.som_blocks.specs.Blocks.{Limit, Refusal, Rule}
+use Rattle.som_elab.specs.Elaboration.{elaborated_program, elaborated_release}
+use Rattle.som_classimage.specs.ClassLimits.{FaceWithin}
 use Rattle.som_compile.specs.declared.fault.TextFault.{TextFault}
 use Rattle.som_compile.specs.declared.fault.TextFault.TheVariants as texts
 use Rattle.som_compile.specs.declared.source.Source.{Source}

@@ -6,8 +6,8 @@ use Rattle.som_lex.specs.declared.fault.LexFault.TheVariants as lexing
 use Rattle.som_lex.specs.declared.token.Tokens.{Tokens}
 use Rattle.som_lex.specs.Cut.{Stops}
 use Rattle.som_lex.specs.Spans.{AreTokens, offset_of}
-use Rattle.som_read.specs.declared.tree.SyntaxFault.{SyntaxFault}
-use Rattle.som_read.specs.declared.tree.SyntaxFault.TheVariants as parsing
+use Rattle.som_read.specs.declared.fault.SyntaxFault.{SyntaxFault}
+use Rattle.som_read.specs.declared.fault.SyntaxFault.TheVariants as parsing
 use Rattle.som_idl.specs.Answer.{IsAnswer}
 use Rattle.som_body.specs.Answer.{AreBodies, IsMain}
 use Rattle.som_compile.specs.declared.fault.ReadingFault.{ReadingFault}

@@ -6,11 +6,11 @@ ghost use Rattle.std.specs.Prelude.{◌≡◌, ◌≤◌, [], ◌∷◌, length}
 
 use crate::read::read_texts;
 use crate::{CompileFault, Source, TextFault};
-use som_body::MainFile;
+use som_declarations::Refused;
 use som_elab::{build_release, elaborate};
 use som_fields::EncodeFault;
 use som_model::{Interface, List};
-use som_sema::Refused;
+use som_syntax::MainFile;
 use std::alloc::Global;
 
 // What is told of texts that stand for nothing.

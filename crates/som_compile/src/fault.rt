@@ -1,5 +1,5 @@
+use som_ancestry::Broken;
 use som_model::{NoMemory, Text};
-use som_rules::Broken;
 
 /// Why a text can't be read: its bytes are no tokens, or its tokens are no text of the grammar.
 #[derive(Clone, Copy, Debug, PartialEq, Eq)]

@@ -1,9 +1,8 @@
 ghost use Rattle.som_compile.specs.Reading.{no_trees, with_last};
 ghost use Rattle.std.specs.Prelude.{◌≡◌, OnErr, OnOk};
 
-use som_body::{BodyFile, MainFile};
-use som_idl::IdlFile;
 use som_model::{List, NoMemory};
+use som_syntax::{BodyFile, IdlFile, MainFile};
 use std::alloc::Global;
 
 /// The tree of one text.

@@ -17,7 +17,7 @@ use Rattle.som_model.specs.Class.{entry_name}
 use Rattle.som_model.specs.Counts.{ClassCounted, FaceCounted, block_counted, body_counted, is_short}
 use Rattle.som_model.specs.Lists.{Mem, every}
 use Rattle.som_naming.specs.BlockLimits.{BlockWithin, TextWithin}
-use Rattle.som_naming.specs.ClassLimits.{BodyWithin, ClassWithin, EntryWithin, FaceWithin}
+use Rattle.som_classimage.specs.ClassLimits.{BodyWithin, ClassWithin, EntryWithin, FaceWithin}
 use Rattle.som_libimage.specs.Limits as libraries
 use Rattle.som_cliimage.specs.Limits as clients
 use Rattle.som_linking.specs.Pairs.{ProgramCounted, ReleaseCounted}

@@ -1,3 +1,1 @@
 pub mod Unsaid
-pub mod Calling
-pub mod Doubling

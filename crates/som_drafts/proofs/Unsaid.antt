@@ -1,11 +1,11 @@
 -- What items and modifiers say, and what they don't.
 use Rattle.std.proofs.Common.{◌≡◌, ℕ, Bool, true, false, if◌then◌else◌, List, [], ◌∷◌, ◌++◌, refl, ap}
 use Rattle.som_model.specs.Lists.{among, without}
-use Rattle.som_read.specs.declared.tree.Word.{Word}
-use Rattle.som_idl.specs.declared.tree.Item.{Item}
-use Rattle.som_idl.specs.declared.tree.Item.TheVariants as items
-use Rattle.som_idl.specs.declared.tree.Modifier.{Modifier}
-use Rattle.som_idl.specs.declared.tree.Modifier.TheVariants as modifiers
+use Rattle.som_syntax.specs.declared.words.Word.{Word}
+use Rattle.som_syntax.specs.declared.interface.Item.{Item}
+use Rattle.som_syntax.specs.declared.interface.Item.TheVariants as items
+use Rattle.som_syntax.specs.declared.interface.Modifier.{Modifier}
+use Rattle.som_syntax.specs.declared.interface.Modifier.TheVariants as modifiers
 use Rattle.som_drafts.specs.Items.{Given, chosen_in, is_by_name, is_override, is_select, listed_in, with_modifier}
 
 pub not_listed : (i : Item) → ((ws : List Word) → i ≡ items.ReleaseOrder ws → ⊥) → listed_in i ≡ []

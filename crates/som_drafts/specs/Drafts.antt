@@ -10,13 +10,13 @@ use Rattle.som_model.specs.declared.class.Entry.TheVariants as entries
 use Rattle.som_model.specs.declared.class.Variable.{Variable}
 use Rattle.som_model.specs.declared.class.ClassDecl.{ClassDecl}
 use Rattle.som_model.specs.Lists.{among, first}
-use Rattle.som_read.specs.declared.tree.Word.{Word}
-use Rattle.som_idl.specs.declared.tree.IdlInterface.{IdlInterface}
-use Rattle.som_idl.specs.declared.tree.Param.{Param}
-use Rattle.som_idl.specs.declared.tree.Export.{Export}
-use Rattle.som_idl.specs.declared.tree.Export.TheVariants as exports
-use Rattle.som_idl.specs.declared.tree.Item.{Item}
-use Rattle.som_idl.specs.declared.tree.Item.TheVariants as items
+use Rattle.som_syntax.specs.declared.words.Word.{Word}
+use Rattle.som_syntax.specs.declared.interface.IdlInterface.{IdlInterface}
+use Rattle.som_syntax.specs.declared.interface.Param.{Param}
+use Rattle.som_syntax.specs.declared.interface.Export.{Export}
+use Rattle.som_syntax.specs.declared.interface.Export.TheVariants as exports
+use Rattle.som_syntax.specs.declared.interface.Item.{Item}
+use Rattle.som_syntax.specs.declared.interface.Item.TheVariants as items
 use Rattle.som_scope.specs.ClassNames.{key_of, type_of, result_of}
 use Rattle.som_drafts.specs.Items.{by_name, major_in, metaclass_names, minor_in, number_of, or_object}
 use Rattle.som_drafts.specs.declared.drafts.Draft.{Draft}

@@ -1,11 +1,11 @@
 -- What the items of an implementation section say.
 use Rattle.std.specs.Prelude.{ℕ, Bool, true, false, if◌then◌else◌, List, [], ◌∷◌, map, flat_map, codes, Option, Some, None, unwrap_or}
 use Rattle.som_model.specs.Lists.{among, first_some, without}
-use Rattle.som_read.specs.declared.tree.Word.{Word}
-use Rattle.som_idl.specs.declared.tree.Item.{Item}
-use Rattle.som_idl.specs.declared.tree.Item.TheVariants as items
-use Rattle.som_idl.specs.declared.tree.Modifier.{Modifier}
-use Rattle.som_idl.specs.declared.tree.Modifier.TheVariants as modifiers
+use Rattle.som_syntax.specs.declared.words.Word.{Word}
+use Rattle.som_syntax.specs.declared.interface.Item.{Item}
+use Rattle.som_syntax.specs.declared.interface.Item.TheVariants as items
+use Rattle.som_syntax.specs.declared.interface.Modifier.{Modifier}
+use Rattle.som_syntax.specs.declared.interface.Modifier.TheVariants as modifiers
 use Rattle.som_drafts.specs.declared.given.Mark.{Mark}
 use Rattle.som_scope.specs.Words.{words, once}
 

@@ -2,8 +2,8 @@ ghost use Rattle.som_drafts.specs.Items as spec;
 ghost use Rattle.som_drafts.specs.Items.{given_by, given_in};
 ghost use Rattle.std.specs.Prelude.{◌≡◌, ◌++◌, map, IfOk, OnOk};
 
-use som_idl::{Item, Modifier};
 use som_model::NoMemory;
+use som_syntax::{Item, Modifier};
 use std::alloc::Global;
 
 /// A modifier that is given to a method.

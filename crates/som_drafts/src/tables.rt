@@ -1,24 +1,16 @@
 ghost use Rattle.som_model.specs.Lists.{among, without};
 ghost use Rattle.som_order.specs.Names.{texts};
 ghost use Rattle.som_scope.specs.Words.{once};
-ghost use Rattle.som_drafts.specs.Items.{given_by, is_by_name, is_override, is_select, with_modifier};
+ghost use Rattle.som_drafts.specs.Items.{given_by, is_override, is_select, with_modifier};
 ghost use Rattle.std.specs.Prelude.{◌≡◌, map, IfOk};
 
 use crate::given::Mark;
 use indexmap::IndexSet;
-use som_idl::Modifier;
 use som_model::NoMemory;
 use som_order::{find_name, note_name};
 use som_scope::{add, table_of};
+use som_syntax::Modifier;
 use std::alloc::Global;
-
-/// A table of the methods that are called by name.
-pub fn by_name<'a>(alloc: Global, marks: &[Mark<'a>]) -> Result<IndexSet<&'a [u8]>, NoMemory>
-    ensures { IfOk result (λ known. texts known.keys ≡ once (with_modifier is_by_name (map given_by marks.now))) }
-{
-    let names = with_name_lookup(alloc, marks)?;
-    table_of(alloc, &names)
-}
 
 /// A table of the methods with `override`.
 pub fn replaced<'a>(alloc: Global, marks: &[Mark<'a>]) -> Result<IndexSet<&'a [u8]>, NoMemory>
@@ -45,18 +37,6 @@ pub fn overridden<'a>(alloc: Global, marks: &[Mark<'a>]) -> Result<Vec<&'a [u8]>
     let replaced = first_places(alloc, &names)?;
     let selecting = selecting(alloc, marks)?;
     not_among(alloc, &replaced, &selecting)
-}
-
-fn with_name_lookup<'a>(alloc: Global, marks: &[Mark<'a>]) -> Result<Vec<&'a [u8]>, NoMemory>
-    ensures { IfOk result (λ names. texts names.items ≡ with_modifier is_by_name (map given_by marks.now)) }
-{
-    let mut names = Vec::new(alloc);
-    for mark in marks {
-        if let Modifier::NameLookup = mark.modifier {
-            add(&mut names, mark.method)?;
-        }
-    }
-    Ok(names)
 }
 
 fn with_override<'a>(alloc: Global, marks: &[Mark<'a>]) -> Result<Vec<&'a [u8]>, NoMemory>

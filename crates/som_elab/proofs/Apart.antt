@@ -22,20 +22,21 @@ use Rattle.som_model.specs.Class.{Class, class_in}
 use Rattle.som_model.specs.Owner.{owner, sig_of}
 use Rattle.som_model.specs.Rules.{RuleBreach}
 use Rattle.som_model.specs.Typing.{in_body, in_main}
-use Rattle.som_idl.specs.declared.tree.IdlInterface.{IdlInterface}
-use Rattle.som_body.specs.declared.tree.BodyText.{BodyText}
-use Rattle.som_body.specs.declared.tree.BlockText.{BlockText}
+use Rattle.som_syntax.specs.declared.interface.IdlInterface.{IdlInterface}
+use Rattle.som_syntax.specs.declared.body.BodyText.{BodyText}
+use Rattle.som_syntax.specs.declared.body.BlockText.{BlockText}
 use Rattle.som_scope.specs.Words.{words}
 use Rattle.som_drafts.specs.Drafts.{InterfaceDraft}
-use Rattle.som_sema.specs.Finished.{selects_at}
-use Rattle.som_sema.specs.Building.{declarations, most_classes, texts_breach}
-use Rattle.som_elab.specs.Accessors.{body_of}
-use Rattle.som_elab.specs.Limits.{Passed, limit_passed}
-use Rattle.som_forms.specs.Expressions.{Among}
+use Rattle.som_declarations.specs.Finished.{selects_at}
+use Rattle.som_sema.specs.Building.{most_classes, texts_breach}
+use Rattle.som_methods.specs.Accessors.{body_of}
+use Rattle.som_methods.specs.Limits.{Passed, limit_passed}
+use Rattle.som_terms.specs.Expressions.{Among}
 use Rattle.som_forms.specs.Statements.{Breaks, Told, elaborated_block}
-use Rattle.som_elab.specs.Bodies.{bodies_breach, classes_over, drafts_over, texts_for}
+use Rattle.som_methods.specs.Bodies.{bodies_breach, texts_for}
+use Rattle.som_elab.specs.Elaboration.{classes_over, drafts_over, among_over, classes_passed, elaborated_classes, nothing_before, elaborated_release, elaborated_program}
 use Rattle.som_forms.specs.MethodBody.{parameters, elaborated_body}
-use Rattle.som_elab.specs.Elaboration.{Refusal, refused_at, obeying, keeping, text_block, entry_body, entry_bodies, override_block, override_blocks, with_blocks, elaborated_class, elaborated_each, elaborated_main, among_over, classes_passed, elaborated_classes, nothing_before, elaborated_release, elaborated_program}
+use Rattle.som_blocks.specs.Blocks.{Refusal, refused_at, obeying, keeping, text_block, entry_body, entry_bodies, override_block, override_blocks, with_blocks, elaborated_class, elaborated_each, elaborated_main}
 
 -- ---- steps
 

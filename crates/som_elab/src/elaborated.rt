@@ -1,35 +1,35 @@
-ghost use Rattle.som_elab.specs.Bodies as spec;
-ghost use Rattle.som_elab.specs.Bodies.{bodies_of, drafts_over};
-ghost use Rattle.som_elab.specs.Contexts.{FewParameters, ParentsCounted, StandAfterOthers, checked_steps, elaborated_module};
-ghost use Rattle.som_elab.specs.Elaboration.{Answers, among_over};
-ghost use Rattle.som_elab.specs.Texts.{given};
+ghost use Rattle.som_elab.specs.Elaboration as spec;
+ghost use Rattle.som_methods.specs.Bodies.{bodies_of};
+ghost use Rattle.som_elab.specs.Elaboration.{drafts_over, among_over};
+ghost use Rattle.som_blocks.specs.Contexts.{FewParameters, ParentsCounted, StandAfterOthers, checked_steps};
+ghost use Rattle.som_elab.specs.Modules.{elaborated_module};
+ghost use Rattle.som_blocks.specs.Blocks.{Answers};
+ghost use Rattle.som_methods.specs.Texts.{given};
 ghost use Rattle.som_introducers.specs.Introducers.{AreIntroducers};
 ghost use Rattle.som_model.specs.Class.{class_in};
 ghost use Rattle.som_model.specs.Classes.{interface_classes};
 ghost use Rattle.som_model.specs.declared.key.Module.TheVariants as modules;
-ghost use Rattle.som_rules.specs.Faces.{classes_breach, faces_breach};
-ghost use Rattle.som_rules.specs.Modules.{classes_of};
-ghost use Rattle.som_rules.specs.Places.{with_kernel};
+ghost use Rattle.som_ancestry.specs.Faces.{classes_breach, faces_breach};
+ghost use Rattle.som_ancestry.specs.Modules.{classes_of};
+ghost use Rattle.som_ancestry.specs.Places.{with_kernel};
 ghost use Rattle.som_scope.specs.ClassNames.{module_in_scope};
 ghost use Rattle.som_scope.specs.Words.{interfaces_of, lent};
-ghost use Rattle.som_sema.specs.Building.{after_base, texts_breach};
+ghost use Rattle.som_declarations.specs.Known.{after_base};
+ghost use Rattle.som_sema.specs.Building.{texts_breach};
 ghost use Rattle.som_drafts.specs.Drafts.{draft_classes, plain_drafts};
 ghost use Rattle.som_typing.specs.Bodies.{AreParts};
-ghost use Rattle.std.specs.Prelude.{◌≡◌, ◌++◌, ℕ, length, map, option_copied, IfOk, OnOk, None};
+ghost use Rattle.std.specs.Prelude.{◌≡◌, ℕ, length, map, option_copied, IfOk, None};
 
-use crate::all_bodies::{AllBodies, checked_bodies};
-use crate::classes::completed_classes;
-use crate::contexts::ModuleContext;
-use crate::grouped::ModuleTexts;
-use crate::texts::all_texts;
-use som_body::{BlockText, BodyFile, BodyText};
+use som_ancestry::{Declared, bare_classes};
+use som_blocks::{AllBodies, ModuleContext, checked_bodies, completed_classes};
+use som_declarations::{Refused, known_classes, refused};
 use som_drafts::Draft;
-use som_idl::{IdlFile, IdlInterface};
 use som_introducers::{Introducers, introducers_of};
+use som_methods::{ModuleTexts, all_texts};
 use som_model::{Block, ClassDecl, Interface, List, Module, NoMemory, kernel_faces};
-use som_rules::{Declared, bare_classes, declare};
 use som_scope::{Scope, scope_of};
-use som_sema::{Refused, all_interfaces, build_faces, refused};
+use som_sema::{all_interfaces, build_faces};
+use som_syntax::{BlockText, BodyFile, BodyText, IdlFile, IdlInterface};
 use som_typing::{Parts, know, parts_of};
 use std::alloc::Global;
 
@@ -160,38 +160,6 @@ fn bodies_among(
         Ok(parts) => bodies_in_context(alloc, scope, &parts, classes, drafts, texts, main),
         Err(fault) => Err(refused(fault)),
     }
-}
-
-// The classes of the base, and then the declared ones.
-fn known_classes<'a>(
-    alloc: Global,
-    own_module: Module,
-    base: &'a [ClassDecl],
-    drafts: &'a [Draft],
-) -> Result<Vec<Declared<'a>>, NoMemory>
-    ensures { IfOk result (λ all. classes_of all.items ≡ after_base own_module (map (class_in modules.Library) base.now) (draft_classes (plain_drafts drafts.now))) }
-{
-    let mut classes = declare(Vec::new(alloc), Module::Library, base)?;
-    add_drafts(&mut classes, own_module, drafts)?;
-    Ok(classes)
-}
-
-fn add_drafts<'a>(
-    classes: &mut Vec<Declared<'a>>,
-    own_module: Module,
-    drafts: &'a [Draft],
-) -> Result<(), NoMemory>
-    ensures { OnOk result (classes_of classes.new.items ≡
-        classes_of classes.old.items ++ map (class_in own_module) (draft_classes (plain_drafts drafts.now))) }
-{
-    for draft in drafts {
-        let decl = &draft.decl;
-        classes.push(Declared {
-            module: own_module,
-            decl,
-        })?;
-    }
-    Ok(())
 }
 
 fn bodies_in_context(

@@ -1,14 +1,6 @@
-pub mod Went
-pub mod TypedExpressions
 pub mod TypedBodies
 pub mod Stating
 pub mod NamesInScope
 pub mod TextForms
 pub mod TextSteps
 pub mod Parameters
-pub mod PartLaws
-pub mod MethodLaws
-pub mod NameLaws
-pub mod ElabLaws
-pub mod FormLaws
-pub mod GroupLaws

@@ -11,12 +11,12 @@ use Rattle.som_model.specs.Class.{Class}
 use Rattle.som_model.specs.Typing.{fits, kind_is_known, needs}
 use Rattle.som_typing.specs.Kinds.{IsType}
 use Rattle.som_laws.proofs.Members.{mem_split}
-use Rattle.som_rules.proofs.DeclaredClasses.{long_map}
-use Rattle.som_forms.specs.declared.local.Local.{Local}
-use Rattle.som_forms.specs.Locals.{Named, Names, in_scope, local_of, names_of}
-use Rattle.som_forms.specs.Expressions.{Among, Elab, Elaborated, facts_among}
+use Rattle.som_ancestry.proofs.DeclaredClasses.{long_map}
+use Rattle.som_terms.specs.declared.local.Local.{Local}
+use Rattle.som_terms.specs.Locals.{Named, Names, in_scope, local_of, names_of}
+use Rattle.som_terms.specs.Expressions.{Among, Elab, Elaborated, facts_among}
+use Rattle.som_terms.specs.Code.{AreLocals, named_at, names_at}
 use Rattle.som_forms.specs.Statements.{Breaks, ManyLocals, Placed, Told, declared, ruled, with_local}
-use Rattle.som_forms.specs.Code.{AreLocals, named_at, names_at}
 use Rattle.som_forms.specs.Stated.{Leaves, Opens, declared_by}
 
 placed_if : {A : Type 0} (b : Bool) (x : A) (rest : Option A) (r : Bool) → is_some rest ≡ r → is_some (if b then Some x else rest) ≡ (if b then true else r)

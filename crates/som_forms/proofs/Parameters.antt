@@ -9,17 +9,18 @@ use Rattle.som_model.specs.declared.limits.TheConstants.{MAX_PARAMETERS}
 use Rattle.som_model.specs.Lists.{among, doubles, first}
 use Rattle.som_model.specs.Class.{Class}
 use Rattle.som_model.specs.Typing.{in_body}
-use Rattle.som_read.specs.declared.tree.Word.{Word}
-use Rattle.som_body.specs.declared.tree.BodyText.{BodyText}
+use Rattle.som_syntax.specs.declared.words.Word.{Word}
+use Rattle.som_syntax.specs.declared.body.BodyText.{BodyText}
 use Rattle.som_typing.specs.Kinds.{IsType, type_at}
 use Rattle.som_scope.specs.Words.{words}
-use Rattle.som_forms.specs.declared.local.Local.{Local}
+use Rattle.som_terms.specs.declared.local.Local.{Local}
+use Rattle.som_terms.specs.Locals.{Named, Names}
+use Rattle.som_terms.specs.Expressions.{Among}
+use Rattle.som_terms.specs.Code.{AreLocals, named_at, names_at}
 use Rattle.som_forms.specs.declared.fault.BodyFault.{BodyFault}
-use Rattle.som_forms.specs.Locals.{Named, Names}
-use Rattle.som_forms.specs.Expressions.{Among}
 use Rattle.som_forms.specs.Statements.{Breaks, Told, elaborated_block}
 use Rattle.som_forms.specs.MethodBody.{elaborated_body, parameters}
-use Rattle.som_forms.specs.Code.{AreLocals, Blocks, named_at, names_at}
+use Rattle.som_forms.specs.Code.{Blocks}
 use Rattle.som_forms.proofs.NamesInScope.{few_placed, one_local}
 
 -- ---- the names of parameters

@@ -10,14 +10,15 @@ use Rattle.som_typing.specs.declared.code_place.TypeFault.{TypeFault}
 use Rattle.som_typing.specs.declared.code_place.TypeFault.TheVariants as types
 use Rattle.som_typing.specs.Kinds.{Fails, IsType, type_at}
 use Rattle.som_typing.proofs.KindLaws.{index_mem}
-use Rattle.som_forms.specs.declared.local.Local.{Local}
+use Rattle.som_terms.specs.declared.local.Local.{Local}
+use Rattle.som_terms.specs.Locals.{Names, kinds_of, local_of}
+use Rattle.som_terms.specs.Methods.{variable_place}
+use Rattle.som_terms.specs.Expressions.{Among, Elab, Elaborated, facts_among}
+use Rattle.som_terms.specs.Code.{AreLocals, names_at}
 use Rattle.som_forms.specs.declared.fault.BodyFault.{BodyFault}
 use Rattle.som_forms.specs.declared.fault.BodyFault.TheVariants as faults
-use Rattle.som_forms.specs.Locals.{Names, kinds_of, local_of}
-use Rattle.som_forms.specs.Methods.{variable_place}
-use Rattle.som_forms.specs.Expressions.{Among, Elab, Elaborated, facts_among}
 use Rattle.som_forms.specs.Statements.{Breaks, Placed, Told, placed, ruled, set_local, set_variable}
-use Rattle.som_forms.specs.Code.{AreLocals, Stops, names_at, of_type_fault}
+use Rattle.som_forms.specs.Code.{Stops, of_type_fault}
 use Rattle.som_forms.specs.Stated.{Keeps, by_value}
 
 -- where a value breaks a rule, what follows is not looked at

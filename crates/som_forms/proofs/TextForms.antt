@@ -2,17 +2,17 @@
 use Rattle.std.proofs.Common.{◌≡◌, map, Option, Ok, sym, ap, ◌∙◌}
 use Rattle.som_model.specs.Steps.{◌>>=◌}
 use Rattle.som_model.specs.Typing.{CodePlace}
-use Rattle.som_read.specs.declared.tree.TypeName.{TypeName}
-use Rattle.som_read.specs.declared.tree.Word.{Word}
-use Rattle.som_body.specs.declared.tree.ExprText.{ExprText}
-use Rattle.som_body.specs.declared.tree.StmtText.{StmtText, fold-roll-StmtText, roll-StmtText}
-use Rattle.som_body.specs.declared.tree.StmtText.TheVariants as texts
-use Rattle.som_body.specs.declared.tree.StmtText.TheVariants.{rolls-Var, rolls-Set, rolls-SetVariable, rolls-If, rolls-While, rolls-Return, rolls-Print, rolls-Free, rolls-Call}
-use Rattle.som_body.specs.declared.tree.StmtText.TheOpen.{StmtText-F}
-use Rattle.som_body.specs.declared.tree.BlockText.{BlockText, fold-roll-BlockText}
+use Rattle.som_syntax.specs.declared.words.TypeName.{TypeName}
+use Rattle.som_syntax.specs.declared.words.Word.{Word}
+use Rattle.som_syntax.specs.declared.expression.ExprText.{ExprText}
+use Rattle.som_syntax.specs.declared.body.StmtText.{StmtText, fold-roll-StmtText, roll-StmtText}
+use Rattle.som_syntax.specs.declared.body.StmtText.TheVariants as texts
+use Rattle.som_syntax.specs.declared.body.StmtText.TheVariants.{rolls-Var, rolls-Set, rolls-SetVariable, rolls-If, rolls-While, rolls-Return, rolls-Print, rolls-Free, rolls-Call}
+use Rattle.som_syntax.specs.declared.body.StmtText.TheOpen.{StmtText-F}
+use Rattle.som_syntax.specs.declared.body.BlockText.{BlockText, fold-roll-BlockText}
 use Rattle.som_scope.specs.ClassNames.{type_of}
-use Rattle.som_forms.specs.Locals.{Names}
-use Rattle.som_forms.specs.Expressions.{Among, elaborated, elaborated_value}
+use Rattle.som_terms.specs.Locals.{Names}
+use Rattle.som_terms.specs.Expressions.{Among, elaborated, elaborated_value}
 use Rattle.som_forms.specs.Statements.{BlockElab, StmtElab, block_step, call_statement, declared, elaborated_block, elaborated_stmt, freed, in_turn, printed, returned, ruled, set_local, set_variable, stmt_step}
 use Rattle.som_forms.specs.Stated.{by_value, declared_by, if_by, while_by}
 

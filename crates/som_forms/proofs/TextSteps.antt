@@ -7,15 +7,16 @@ use Rattle.som_model.specs.declared.syntax.Block.{Block}
 use Rattle.som_model.specs.Steps.{◌>>=◌}
 use Rattle.som_model.specs.Class.{Class}
 use Rattle.som_model.specs.Typing.{CodePlace, is_boolean, needs}
-use Rattle.som_body.specs.declared.tree.StmtText.{StmtText}
-use Rattle.som_body.specs.declared.tree.BlockText.{BlockText}
-use Rattle.som_forms.specs.declared.local.Local.{Local}
+use Rattle.som_syntax.specs.declared.body.StmtText.{StmtText}
+use Rattle.som_syntax.specs.declared.body.BlockText.{BlockText}
+use Rattle.som_terms.specs.declared.local.Local.{Local}
+use Rattle.som_terms.specs.Locals.{Names}
+use Rattle.som_terms.specs.Expressions.{Among, Elab, Elaborated}
+use Rattle.som_terms.specs.Code.{AreLocals, names_at}
 use Rattle.som_forms.specs.declared.fault.BodyFault.{BodyFault}
 use Rattle.som_forms.specs.declared.fault.BodyFault.TheVariants as faults
-use Rattle.som_forms.specs.Locals.{Names}
-use Rattle.som_forms.specs.Expressions.{Among, Elab, Elaborated}
 use Rattle.som_forms.specs.Statements.{Placed, StmtElab, Told, elaborated_block, elaborated_stmt, in_turn, placed, ruled}
-use Rattle.som_forms.specs.Code.{AreLocals, Stops, names_at}
+use Rattle.som_forms.specs.Code.{Stops}
 use Rattle.som_forms.specs.Stated.{Keeps, Leaves, States, if_by, while_by}
 use Rattle.som_forms.proofs.Stating.{kept}
 use Rattle.som_forms.proofs.TextForms.{block_is}

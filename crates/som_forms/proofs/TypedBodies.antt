@@ -9,22 +9,18 @@ use Rattle.som_model.specs.declared.limits.TheConstants.{MAX_LOCALS}
 use Rattle.som_model.specs.Steps.{◌>>=◌}
 use Rattle.som_model.specs.Blocks.{is_call}
 use Rattle.som_model.specs.Typing.{ClassFacts, CodePlace, Of, Ruled, Typed, needs, there, is_nothing, is_boolean, is_class, has_text, kind_is_known, fits, own_variable, value, expr_type}
-use Rattle.som_model.specs.TypedBlocks.{Scope, Scoped, var_scope, local_set, variable_set, stmt_scope, block_scope}
-use Rattle.som_model.specs.TypedBlocks.{stmt_step as typed_step}
-use Rattle.som_model.specs.TypedBlocks.{block_step as typed_block}
-use Rattle.som_model.specs.TypedBlocks.{in_turn as typed_in_turn}
-use Rattle.som_model.specs.TypedBlocks.{value_return as typed_return}
-use Rattle.som_body.specs.declared.tree.ExprText.{ExprText}
-use Rattle.som_body.specs.declared.tree.StmtText.{StmtText, roll-StmtText, map-StmtText, fold-roll-StmtText}
-use Rattle.som_body.specs.declared.tree.StmtText.TheOpen.{StmtText-F, BlockText-F}
-use Rattle.som_body.specs.declared.tree.BlockText.{BlockText, roll-BlockText, map-BlockText, ind-BlockText, fold-roll-BlockText}
+use Rattle.som_model.specs.TypedBlocks.{Scope, Scoped, var_scope, local_set, variable_set, stmt_scope, block_scope, stmt_step as typed_step, block_step as typed_block, in_turn as typed_in_turn, value_return as typed_return}
+use Rattle.som_syntax.specs.declared.expression.ExprText.{ExprText}
+use Rattle.som_syntax.specs.declared.body.StmtText.{StmtText, roll-StmtText, map-StmtText, fold-roll-StmtText}
+use Rattle.som_syntax.specs.declared.body.StmtText.TheOpen.{StmtText-F, BlockText-F}
+use Rattle.som_syntax.specs.declared.body.BlockText.{BlockText, roll-BlockText, map-BlockText, ind-BlockText, fold-roll-BlockText}
 use Rattle.som_scope.specs.ClassNames.{type_of}
-use Rattle.som_forms.specs.Locals.{Named, Names, in_scope, kinds_of, local_of}
-use Rattle.som_forms.specs.Methods.{variable_place}
-use Rattle.som_forms.specs.Expressions.{Among, Elaborated, elaborated, elaborated_value, facts_among}
+use Rattle.som_terms.specs.Locals.{Named, Names, in_scope, kinds_of, local_of}
+use Rattle.som_terms.specs.Methods.{variable_place}
+use Rattle.som_terms.specs.Expressions.{Among, Elaborated, elaborated, elaborated_value, facts_among}
+use Rattle.som_terms.proofs.Went.{held, same_answer, went}
+use Rattle.som_terms.proofs.TypedExpressions.{expr_typed, value_typed_by}
 use Rattle.som_forms.specs.Statements.{BlockElab, ManyLocals, Placed, StmtElab, Told, block_step, call_statement, declared, elaborated_block, elaborated_stmt, freed, in_turn, placed, printed, ruled, set_local, set_variable, stmt_step, value_return, with_local}
-use Rattle.som_forms.proofs.Went.{held, same_answer, went}
-use Rattle.som_forms.proofs.TypedExpressions.{expr_typed, value_typed_by}
 
 ruled_ok : {A : Type 0} (x : Ruled A) (r : A) → ruled x ≡ Ok r → x ≡ Ok r
 ruled_ok (Ok a) r e = ap Ok (same_answer e)

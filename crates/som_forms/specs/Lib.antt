@@ -1,9 +1,4 @@
-pub mod Locals
-pub mod Methods
-pub mod Expressions
 pub mod Statements
 pub mod MethodBody
-pub mod Groups
 pub mod Code
 pub mod Stated
-pub mod Forms

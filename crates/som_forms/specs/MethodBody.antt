@@ -7,11 +7,11 @@ use Rattle.som_model.specs.declared.class.Sig.{Sig}
 use Rattle.som_model.specs.Lists.{doubles, first}
 use Rattle.som_model.specs.Class.{Class}
 use Rattle.som_model.specs.Typing.{in_body}
-use Rattle.som_read.specs.declared.tree.Word.{Word}
-use Rattle.som_body.specs.declared.tree.BodyText.{BodyText}
+use Rattle.som_syntax.specs.declared.words.Word.{Word}
+use Rattle.som_syntax.specs.declared.body.BodyText.{BodyText}
 use Rattle.som_scope.specs.Words.{words}
-use Rattle.som_forms.specs.Locals.{Names}
-use Rattle.som_forms.specs.Expressions.{Among}
+use Rattle.som_terms.specs.Locals.{Names}
+use Rattle.som_terms.specs.Expressions.{Among}
 use Rattle.som_forms.specs.Statements.{Breaks, Told, elaborated_block}
 
 -- the parameters with the types of a signature

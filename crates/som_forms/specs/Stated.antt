@@ -9,18 +9,19 @@ use Rattle.som_model.specs.declared.syntax.Block.{Block}
 use Rattle.som_model.specs.Steps.{◌>>=◌}
 use Rattle.som_model.specs.Class.{Class}
 use Rattle.som_model.specs.Typing.{Ruled, is_boolean, needs}
-use Rattle.som_body.specs.declared.tree.ExprText.{ExprText}
-use Rattle.som_body.specs.declared.tree.StmtText.{StmtText}
-use Rattle.som_body.specs.declared.tree.BlockText.{BlockText}
+use Rattle.som_syntax.specs.declared.expression.ExprText.{ExprText}
+use Rattle.som_syntax.specs.declared.body.StmtText.{StmtText}
+use Rattle.som_syntax.specs.declared.body.BlockText.{BlockText}
 use Rattle.som_typing.specs.declared.kind.Kind.{Kind}
 use Rattle.som_typing.specs.Kinds.{IsType, type_at}
-use Rattle.som_forms.specs.declared.local.Local.{Local}
-use Rattle.som_forms.specs.declared.body_context.BodyContext.{BodyContext}
+use Rattle.som_terms.specs.declared.local.Local.{Local}
+use Rattle.som_terms.specs.declared.body_context.BodyContext.{BodyContext}
+use Rattle.som_terms.specs.Locals.{Names}
+use Rattle.som_terms.specs.Expressions.{Elab, Elaborated, elaborated, elaborated_value}
+use Rattle.som_terms.specs.Code.{AreLocals, among_at, classes_at, names_at, place_at}
 use Rattle.som_forms.specs.declared.fault.BodyFault.{BodyFault}
-use Rattle.som_forms.specs.Locals.{Names}
-use Rattle.som_forms.specs.Expressions.{Elab, Elaborated, elaborated, elaborated_value}
 use Rattle.som_forms.specs.Statements.{Placed, Told, elaborated_block, elaborated_stmt, placed, ruled}
-use Rattle.som_forms.specs.Code.{AreLocals, Stops, among_at, classes_at, names_at, place_at}
+use Rattle.som_forms.specs.Code.{Stops}
 
 -- the names of the locals in scope
 abbrev pub names_in : BodyContext → List Local → Names

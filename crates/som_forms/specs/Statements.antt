@@ -8,14 +8,14 @@ use Rattle.som_model.specs.declared.limits.TheConstants.{MAX_LOCALS}
 use Rattle.som_model.specs.Steps.{◌>>=◌}
 use Rattle.som_model.specs.Blocks.{is_call}
 use Rattle.som_model.specs.Typing.{CodePlace, Of, Ruled, needs, there, is_nothing, is_boolean, is_class, has_text, kind_is_known, fits, own_variable}
-use Rattle.som_body.specs.declared.tree.ExprText.{ExprText}
-use Rattle.som_body.specs.declared.tree.StmtText.{StmtText, fold-StmtText}
-use Rattle.som_body.specs.declared.tree.StmtText.TheOpen.{StmtText-F, BlockText-F}
-use Rattle.som_body.specs.declared.tree.BlockText.{BlockText, fold-BlockText}
+use Rattle.som_syntax.specs.declared.expression.ExprText.{ExprText}
+use Rattle.som_syntax.specs.declared.body.StmtText.{StmtText, fold-StmtText}
+use Rattle.som_syntax.specs.declared.body.StmtText.TheOpen.{StmtText-F, BlockText-F}
+use Rattle.som_syntax.specs.declared.body.BlockText.{BlockText, fold-BlockText}
 use Rattle.som_scope.specs.ClassNames.{type_of}
-use Rattle.som_forms.specs.Locals.{Named, Names, in_scope, kinds_of, local_of}
-use Rattle.som_forms.specs.Methods.{variable_place}
-use Rattle.som_forms.specs.Expressions.{Among, Elaborated, elaborated, elaborated_value, facts_among}
+use Rattle.som_terms.specs.Locals.{Named, Names, in_scope, kinds_of, local_of}
+use Rattle.som_terms.specs.Methods.{variable_place}
+use Rattle.som_terms.specs.Expressions.{Among, Elaborated, elaborated, elaborated_value, facts_among}
 
 -- what is wrong with a body: it breaks a rule, or too many parameters and locals are visible at one point
 pub data BodyBreach : Type 0 where

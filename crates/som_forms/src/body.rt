@@ -1,4 +1,4 @@
-ghost use Rattle.som_forms.specs.Code.{AreLocals, Blocks, ClassFits, among_by, names_at};
+ghost use Rattle.som_forms.specs.Code.{Blocks};
 ghost use Rattle.som_forms.specs.MethodBody as spec;
 ghost use Rattle.som_forms.specs.MethodBody.{elaborated_body};
 ghost use Rattle.som_forms.specs.Statements.{elaborated_block};
@@ -6,23 +6,22 @@ ghost use Rattle.som_model.specs.Lists.{doubles, every, first};
 ghost use Rattle.som_model.specs.Rules.{is_known};
 ghost use Rattle.som_model.specs.Typing.{in_main};
 ghost use Rattle.som_order.specs.Names.{texts};
-ghost use Rattle.som_rules.specs.Places.{class_of_place};
+ghost use Rattle.som_ancestry.specs.Places.{class_of_place};
 ghost use Rattle.som_scope.specs.Words.{words as texts_of};
+ghost use Rattle.som_terms.specs.Code.{AreLocals, ClassFits, among_by, names_at};
 ghost use Rattle.som_typing.specs.Kinds.{IsDeclared};
 ghost use Rattle.som_typing.specs.Knowing.{IsKnowledge, all_of, sig_is_known};
 ghost use Rattle.std.specs.Prelude.{◌≡◌, ◌≤◌, ◌⊎◌, true, length, is_some, [], IfOk, Some};
 ghost use Rattle.std.specs.Str.{bytes_eq};
 
-use crate::body_context::BodyContext;
 use crate::fault::BodyFault;
-use crate::local::Local;
 use crate::statements::block;
 use indexmap::IndexSet;
-use som_body::{BlockText, BodyText};
 use som_model::{Block, MAX_PARAMETERS, NoMemory, Sig, ValueType};
 use som_order::note_name;
-use som_read::Word;
 use som_scope::Scope;
+use som_syntax::{BlockText, BodyText, Word};
+use som_terms::{BodyContext, Local};
 use som_typing::{CodePlace, Kind, Knowledge, known_kind};
 use std::alloc::Global;
 

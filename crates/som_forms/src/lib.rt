@@ -1,25 +1,12 @@
-//! The named expressions, statements and blocks that the text of one body stands for, or the first thing that is wrong with it.
+//! The named statements and blocks that the text of one body stands for, or the first thing that is wrong with it.
 #![tactic(auto)]
 
 mod body;
-mod body_context;
-mod calls;
-mod expressions;
 mod fault;
-mod leaves;
-mod local;
-mod methods;
-mod names;
-mod operators;
-mod parent_calls;
-mod parts;
 mod plain_statements;
 mod scoping;
 mod statements;
-mod typed_expr;
 
 pub use body::{main_body, method_body};
-pub use body_context::BodyContext;
 pub use fault::BodyFault;
-pub use local::Local;
-pub use typed_expr::TypedExpr;
+pub use som_terms::{BodyContext, Local, TypedExpr};

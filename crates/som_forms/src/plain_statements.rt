@@ -1,22 +1,20 @@
-ghost use Rattle.som_forms.specs.Code.{AreLocals, IsBodyContext, among_at, classes_at, names_at, place_at, typed_at};
-ghost use Rattle.som_forms.specs.Locals as named;
 ghost use Rattle.som_forms.specs.Stated.{Keeps, by_value, expr_in, names_in, value_in};
 ghost use Rattle.som_forms.specs.Statements as forms;
 ghost use Rattle.som_forms.specs.declared.fault.BodyFault.TheVariants as faults;
 ghost use Rattle.som_model.specs.Class.{Class};
 ghost use Rattle.som_model.specs.Typing as typing;
+ghost use Rattle.som_terms.specs.Code.{AreLocals, IsBodyContext, among_at, classes_at, names_at, place_at, typed_at};
+ghost use Rattle.som_terms.specs.Locals as named;
 ghost use Rattle.som_typing.specs.Kinds.{IsType, Stands, kind_at, type_at};
 ghost use Rattle.som_typing.specs.Knowing.{facts_of};
 ghost use Rattle.std.specs.Prelude.{◌≡◌, ◌<◌, ◌&&◌, not, if◌then◌else◌, length, slice_get, List as Seq, Some, Ok, Err};
 
-use crate::body_context::BodyContext;
-use crate::expressions::{expression, value_expression};
 use crate::fault::BodyFault;
-use crate::local::Local;
-use crate::names::{local_of, variable_place};
-use crate::typed_expr::TypedExpr;
-use som_body::ExprText;
 use som_model::Stmt;
+use som_syntax::ExprText;
+use som_terms::{
+    BodyContext, Local, TypedExpr, expression, local_of, value_expression, variable_place,
+};
 use som_typing::{Kind, has_text, is_call, is_nothing, is_object, kind_fits, variable_kind};
 use std::alloc::Global;
 

@@ -1,21 +1,18 @@
-ghost use Rattle.som_forms.specs.Code.{AreLocals, Blocks, IsBodyContext, among_at, classes_at, names_at, place_at};
+ghost use Rattle.som_forms.specs.Code.{Blocks};
 ghost use Rattle.som_forms.specs.Stated.{States, block_in, declared_by, if_by, names_in, stmt_in, value_in, while_by};
 ghost use Rattle.som_forms.specs.Statements as forms;
 ghost use Rattle.som_forms.specs.Statements.{elaborated_block};
 ghost use Rattle.som_scope.specs.ClassNames.{module_in_scope, type_of as type_named};
+ghost use Rattle.som_terms.specs.Code.{AreLocals, IsBodyContext, among_at, classes_at, names_at, place_at};
 ghost use Rattle.std.specs.Prelude.{◌≡◌, IfOk};
 
-use crate::body_context::BodyContext;
-use crate::expressions::value_expression;
 use crate::fault::BodyFault;
-use crate::local::Local;
 use crate::plain_statements::{answer, call, demanded, free, print, set_local, set_variable};
 use crate::scoping::declared_kind;
-use crate::typed_expr::TypedExpr;
-use som_body::{BlockText, ExprText, StmtText};
 use som_model::{Block, List, Stmt};
-use som_read::TypeName;
 use som_scope::type_of;
+use som_syntax::{BlockText, ExprText, StmtText, TypeName};
+use som_terms::{BodyContext, Local, TypedExpr, value_expression};
 use som_typing::is_boolean;
 use std::alloc::Global;
 

@@ -1,5 +1,5 @@
 -- What the command comes to is its answer, and there is one and no other.
-use Rattle.std.proofs.Common.{◌≡◌, ◌≢◌, ℕ, ◌≤◌, ◌==◌, Bool, true, false, List, [], ◌∷◌, Option, Some, None, Result, Ok, Err, refl, sym, ap, subst, ◌∙◌, inl, inr, arith}
+use Rattle.std.proofs.Common.{◌≡◌, ◌≢◌, ℕ, ◌≤◌, ◌==◌, Bool, true, false, List, [], ◌∷◌, Option, Some, Result, Ok, Err, refl, sym, ap, subst, ◌∙◌, inl, inr}
 use Rattle.std.specs.Prelude.{IsTrue}
 use Rattle.std.proofs.lemmas.Bool.{eqb-true}
 use Rattle.som_io.specs.Outside.{ShowsAll, ShowsFront}
@@ -17,16 +17,16 @@ use Rattle.som_steps.specs.Answering.{StopAnswers}
 use Rattle.som_steps.specs.Cause.{IsQuietStop}
 use Rattle.som_steps.specs.Endings.{Ending, refusing}
 use Rattle.som_steps.specs.Outcomes.{EndsAs}
-use Rattle.som_steps.specs.Refusing.{HasStatusIn, StopRefusesAs}
+use Rattle.som_steps.specs.Refusing.{HasStatusIn}
 use Rattle.som_steps.specs.Saying.{StopSaysAll, StopSaysFailure, StopSaysFront}
-use Rattle.som_steps.specs.Status.{is_calm_status, status_of}
+use Rattle.som_steps.specs.Status.{is_calm_status}
 use Rattle.som_steps.proofs.Printed.{shows_nothing, stop_ends}
 use Rattle.som_steps.proofs.Statuses.{differs}
 use Rattle.som_generator.specs.declared.fault.MakeFault.{MakeFault}
 use Rattle.som_generator.specs.declared.fault.MakeFault.TheVariants as faults
 use Rattle.som_generator.specs.declared.fault.Unmade.{Unmade}
 use Rattle.som_generator.specs.declared.fault.Unmade.TheVariants as unmade
-use Rattle.som_generator.specs.declared.limits.TheConstants.{MAX_CLASSES}
+use Rattle.som_generated.specs.declared.limits.TheConstants.{MAX_CLASSES}
 use Rattle.som_generator.specs.declared.made.Made.{Made}
 use Rattle.som_generator.specs.Making.{Answers, IsMade, Makes, made}
 use Rattle.som_generator.proofs.OneMaking.{one_making}

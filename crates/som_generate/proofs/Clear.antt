@@ -12,12 +12,12 @@ use Rattle.som_libimage.specs.Limits as releases
 use Rattle.som_libimage.proofs.Decoded.{image_within as release_within}
 use Rattle.som_cliimage.proofs.Decoded.{image_within as program_within}
 use Rattle.som_scope.specs.Words.{interfaces_of}
-use Rattle.som_elab.specs.Bodies.{bodies_of}
+use Rattle.som_methods.specs.Bodies.{bodies_of}
 use Rattle.som_elab.proofs.Apart.{program_apart}
 use Rattle.som_compile.proofs.Standing.{program_conforms, release_conforms}
 use Rattle.som_verify.proofs.Conforming.{conforms_program, conforms_release}
 use Rattle.som_linking.specs.Pairs.{Obstacle, Breaks, DoesntKeep, obstacle}
-use Rattle.som_generator.specs.declared.edition.Edition.TheVariants.{First, Second}
+use Rattle.som_generated.specs.declared.edition.Edition.TheVariants.{First, Second}
 use Rattle.som_generator.specs.declared.made.Made.{Made}
 use Rattle.som_generator.specs.Making.{IsMade}
 use Rattle.som_generator.specs.Texts.{client_texts, library_texts}

@@ -14,7 +14,7 @@ use Rattle.som_model.specs.RunText.{no_trace, run_status, run_text}
 use Rattle.som_model.specs.State.{State}
 use Rattle.som_model.specs.World.{World, world}
 use Rattle.som_classmgr.specs.Asking.{answers_of}
-use Rattle.som_classmgr.specs.Linked.{Linkage}
+use Rattle.som_linked.specs.Linked.{Linkage}
 use Rattle.som_exec.specs.declared.outcome.Outcome.{Outcome}
 use Rattle.som_exec.specs.declared.outcome.Outcome.TheVariants as outcomes
 use Rattle.som_exec.specs.Run.{LeavesFuel}

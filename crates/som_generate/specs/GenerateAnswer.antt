@@ -1,5 +1,5 @@
 -- What `generate` prints and answers: the first step that refuses, or what the client comes to on the second release.
-use Rattle.std.specs.Prelude.{◌≡◌, ℕ, List, [], ◌∷◌, ◌++◌, Result, Ok, Err, codes}
+use Rattle.std.specs.Prelude.{◌≡◌, ℕ, List, [], ◌∷◌, ◌++◌, Ok, Err, codes}
 use Rattle.std.specs.Fmt.{decimal}
 use Rattle.som_model.specs.declared.limits.TheConstants.{DEFAULT_FUEL}
 use Rattle.som_model.specs.Bytes.{Files}
@@ -10,12 +10,12 @@ use Rattle.som_steps.specs.declared.stop.Refusal.{Refusal}
 use Rattle.som_steps.specs.Endings.{Ending, refusing}
 use Rattle.som_steps.specs.Lines.{not_kept}
 use Rattle.som_build.specs.Texts.{text_refused}
-use Rattle.som_generator.specs.declared.edition.Edition.TheVariants.{Second}
+use Rattle.som_generated.specs.declared.edition.Edition.TheVariants.{Second}
+use Rattle.som_generated.specs.Generated.{release_number}
 use Rattle.som_generator.specs.declared.fault.Unmade.{Unmade}
 use Rattle.som_generator.specs.declared.fault.Unmade.TheVariants as unmade
 use Rattle.som_generator.specs.declared.made.Made.{Made}
 use Rattle.som_generator.specs.Making.{Makes, breach_of}
-use Rattle.som_generator.specs.Texts.{release_number}
 
 -- ---- lines
 

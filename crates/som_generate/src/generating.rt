@@ -1,6 +1,6 @@
 ghost use Rattle.som_generate.specs.GenerateAnswer.{IsGenerateAnswer, generate_statuses};
 ghost use Rattle.som_generate.specs.Printing.{ShowsSomeOf};
-ghost use Rattle.som_generator.specs.declared.limits.TheConstants.{MAX_CLASSES};
+ghost use Rattle.som_generated.specs.declared.limits.TheConstants.{MAX_CLASSES};
 ghost use Rattle.som_io.specs.Outside.{Rose};
 ghost use Rattle.som_model.specs.Bytes.{Files};
 ghost use Rattle.som_model.specs.Lists.{Mem};

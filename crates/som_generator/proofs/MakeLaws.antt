@@ -1,14 +1,12 @@
 -- The steps one after the other come to what is made, or to the first that refuses.
-use Rattle.std.proofs.Common.{◌≡◌, ℕ, ◌≤◌, List, [], ◌∷◌, Result, Ok, Err, Option, Some, None, refl, sym, ap, subst, ◌∙◌, inl, inr}
+use Rattle.std.proofs.Common.{◌≡◌, ℕ, ◌≤◌, [], ◌∷◌, Ok, Err, sym, subst, ◌∙◌, inl, inr}
 use Rattle.som_model.specs.declared.program.Release.{Release}
 use Rattle.som_model.specs.Class.{interface_of}
-use Rattle.som_model.specs.Compatible.{Accepted, CompatBreach}
 use Rattle.som_model.specs.Conforming.{ReleaseOk}
 use Rattle.som_model.specs.Lists.{Mem}
 use Rattle.som_compat.specs.Conditions.{Conforms}
-use Rattle.som_compile.specs.declared.source.Source.{Source}
 use Rattle.som_compile.specs.Compiling.{IsBase}
-use Rattle.som_generator.specs.declared.edition.Edition.TheVariants.{First, Second}
+use Rattle.som_generated.specs.declared.edition.Edition.TheVariants.{First, Second}
 use Rattle.som_generator.specs.declared.fault.MakeFault.{MakeFault}
 use Rattle.som_generator.specs.declared.fault.MakeFault.TheVariants as faults
 use Rattle.som_generator.specs.declared.fault.Unmade.{Unmade}
@@ -16,7 +14,7 @@ use Rattle.som_generator.specs.declared.fault.Unmade.TheVariants as unmade
 use Rattle.som_generator.specs.declared.made.Client.{Client}
 use Rattle.som_generator.specs.declared.made.Library.{Library}
 use Rattle.som_generator.specs.declared.made.Made.{Made}
-use Rattle.som_generator.specs.Making.{Answers, IsClient, IsLibrary, IsMade, Makes, client_refused, first_refused, made, not_kept, second_refused}
+use Rattle.som_generator.specs.Making.{Answers, Makes, client_refused, first_refused, made, not_kept, second_refused}
 use Rattle.som_generator.specs.Steps.{ClientComes, ComparingComes, LibraryComes}
 use Rattle.som_generator.specs.Texts.{client_texts, library_texts}
 use Rattle.som_generator.proofs.Standing.{library_base, library_compared, library_conforms}

@@ -4,8 +4,7 @@ use Rattle.som_model.specs.declared.program.ClientProgram.{ClientProgram}
 use Rattle.som_model.specs.declared.program.Interface.{Interface}
 use Rattle.som_model.specs.declared.program.Release.{Release}
 use Rattle.som_model.specs.Class.{interface_of}
-use Rattle.som_model.specs.Compatible.{CompatBreach, first_break}
-use Rattle.som_model.specs.Images.{client_image, library_image}
+use Rattle.som_model.specs.Compatible.{CompatBreach}
 use Rattle.som_libimage.proofs.Decoded.{library_again}
 use Rattle.som_cliimage.proofs.Decoded.{client_again}
 use Rattle.som_compile.specs.declared.fault.TextFault.{TextFault}
@@ -13,14 +12,14 @@ use Rattle.som_compile.specs.declared.source.Source.{Source}
 use Rattle.som_compile.specs.Compiling.{Compiles, CompilesClient, an_image, a_client_image}
 use Rattle.som_compile.proofs.CompileLaws.{one_compiling}
 use Rattle.som_compile.proofs.ClientLaws.{one_client}
-use Rattle.som_generator.specs.declared.edition.Edition.TheVariants.{First, Second}
+use Rattle.som_generated.specs.declared.edition.Edition.TheVariants.{First, Second}
 use Rattle.som_generator.specs.declared.fault.NotKept.{NotKept}
 use Rattle.som_generator.specs.declared.fault.Unmade.{Unmade}
 use Rattle.som_generator.specs.declared.fault.Unmade.TheVariants as unmade
 use Rattle.som_generator.specs.declared.made.Client.{Client}
 use Rattle.som_generator.specs.declared.made.Library.{Library}
 use Rattle.som_generator.specs.declared.made.Made.{Made}
-use Rattle.som_generator.specs.Making.{IsClient, IsLibrary, IsMade, Makes, breach_of, client_refused, first_refused, made, not_kept, second_refused}
+use Rattle.som_generator.specs.Making.{IsClient, IsLibrary, Makes, breach_of, client_refused, first_refused, made, not_kept, second_refused}
 use Rattle.som_generator.specs.Steps.{ClientComes, ComparingComes, LibraryComes}
 use Rattle.som_generator.specs.Texts.{client_texts, library_texts}
 

@@ -1,6 +1,5 @@
 -- What was compiled, and what its image is read back as.
-use Rattle.std.proofs.Common.{◌≡◌, ℕ, ◌≤◌, List, [], ◌∷◌, length, Some, None, Result, Ok, Err, All, refl, sym, ap, subst, ◌∙◌, arith, get_or}
-use Rattle.std.specs.Prelude.{IfOk}
+use Rattle.std.proofs.Common.{◌≡◌, ℕ, ◌≤◌, List, [], ◌∷◌, Some, Result, Ok, Err, refl, sym, ap, subst, ◌∙◌, arith, get_or}
 use Rattle.std.proofs.lemmas.List.{length-map}
 use Rattle.std.proofs.lemmas.List.Elements.{All-map}
 use Rattle.som_model.specs.declared.class.ClassDecl.{ClassDecl}
@@ -11,7 +10,7 @@ use Rattle.som_model.specs.declared.program.Release.{Release}
 use Rattle.som_model.specs.Class.{interface_of}
 use Rattle.som_model.specs.Conforming.{ProgramOk, ReleaseOk}
 use Rattle.som_model.specs.Images.{client_image, library_image}
-use Rattle.som_naming.specs.ClassLimits.{ClassWithin, FaceWithin}
+use Rattle.som_classimage.specs.ClassLimits.{ClassWithin, FaceWithin}
 use Rattle.som_libimage.specs.Limits.{IsWithinLimits}
 use Rattle.som_libimage.proofs.Decoded.{image_within}
 use Rattle.som_compat.specs.Conditions.{Conforms, IsCounted}

@@ -1,5 +1,3 @@
-pub mod Generated
 pub mod Texts
-pub mod Written
 pub mod Making
 pub mod Steps

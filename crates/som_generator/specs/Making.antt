@@ -1,15 +1,13 @@
 -- What comes of the generator's texts: the images of both releases and of the client, or the first step that refuses.
 use Rattle.std.specs.Prelude.{◌≡◌, ℕ, List, [], ◌∷◌, Some, Result, Ok, Err}
-use Rattle.som_model.specs.declared.program.ClientProgram.{ClientProgram}
 use Rattle.som_model.specs.declared.program.Interface.{Interface}
-use Rattle.som_model.specs.declared.program.Release.{Release}
 use Rattle.som_model.specs.Class.{interface_of}
 use Rattle.som_model.specs.Compatible.{Accepted, CompatBreach, first_break}
 use Rattle.som_model.specs.Images.{client_image, library_image}
 use Rattle.som_compile.specs.declared.fault.TextFault.{TextFault}
 use Rattle.som_compile.specs.declared.source.Source.{Source}
 use Rattle.som_compile.specs.Compiling.{Compiles, CompilesClient, StandFor, StandForClient}
-use Rattle.som_generator.specs.declared.edition.Edition.TheVariants.{First, Second}
+use Rattle.som_generated.specs.declared.edition.Edition.TheVariants.{First, Second}
 use Rattle.som_generator.specs.declared.fault.MakeFault.{MakeFault}
 use Rattle.som_generator.specs.declared.fault.MakeFault.TheVariants as faults
 use Rattle.som_generator.specs.declared.fault.NotKept.{NotKept}

@@ -1,14 +1,8 @@
 -- The texts of the generator under their names, as they are compiled.
 use Rattle.std.specs.Prelude.{ℕ, List, [], ◌∷◌, ◌++◌, codes}
 use Rattle.som_compile.specs.declared.source.Source.{Source}
-use Rattle.som_generator.specs.declared.edition.Edition.{Edition}
-use Rattle.som_generator.specs.declared.edition.Edition.TheVariants.{First, Second}
-use Rattle.som_generator.specs.Generated.{bodies_text, interfaces_text, main_text}
-
--- the number of a release, which its texts are named by
-abbrev pub release_number : Edition → List ℕ
-release_number First = codes "1"
-release_number Second = codes "2"
+use Rattle.som_generated.specs.declared.edition.Edition.{Edition}
+use Rattle.som_generated.specs.Generated.{bodies_text, interfaces_text, main_text, release_number}
 
 -- the texts of a release of so many classes
 abbrev pub library_texts : Edition → ℕ → List Source

@@ -1,29 +1,18 @@
-//! The texts of the generator: two releases of any number of classes, and a client that uses each class; and the images that they
-//! are compiled to.
+//! The texts of the generator under their names, and the images that they are compiled to.
 #![tactic(auto)]
 
-mod bodies;
-mod client_main;
 mod clients;
 mod comparing;
-mod edition;
 mod fault;
-mod interfaces;
 mod laws;
 mod libraries;
-mod limits;
 mod made;
 mod making;
 mod sources;
-mod words;
 
-pub use bodies::bodies_text;
-pub use client_main::main_text;
-pub use edition::Edition;
 pub use fault::{MakeFault, NotKept, Unmade};
-pub use interfaces::interfaces_text;
-pub use laws::{making_law, written_law};
-pub use limits::MAX_CLASSES;
+pub use laws::making_law;
 pub use made::{Client, Library, Made};
 pub use making::make;
+pub use som_generated::{Edition, MAX_CLASSES};
 pub use sources::{client_texts, library_texts};

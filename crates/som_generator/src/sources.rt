@@ -1,12 +1,9 @@
-ghost use Rattle.som_compile.specs.declared.source.Source.{Source as CompiledText};
-ghost use Rattle.som_generator.specs.Texts.{client_texts, library_texts, release_number};
+ghost use Rattle.som_generated.specs.Generated.{release_number};
+ghost use Rattle.som_generator.specs.Texts.{client_texts, library_texts};
 ghost use Rattle.std.specs.Prelude.{◌≡◌, ◌++◌, IfOk, codes};
 
-use crate::bodies::bodies_text;
-use crate::client_main::main_text;
-use crate::edition::Edition;
-use crate::interfaces::interfaces_text;
 use som_compile::Source;
+use som_generated::{Edition, bodies_text, interfaces_text, main_text};
 use som_model::{List, NoMemory, Text};
 use std::alloc::Global;
 

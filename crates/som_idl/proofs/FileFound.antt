@@ -8,11 +8,11 @@ use Rattle.som_read.specs.declared.token.Key.TheVariants as key
 use Rattle.som_read.specs.declared.token.Sign.TheVariants as sign
 use Rattle.som_read.specs.declared.token.Token.{Token}
 use Rattle.som_read.specs.declared.token.Token.TheVariants as token
-use Rattle.som_read.specs.declared.tree.Word.{Word}
-use Rattle.som_idl.specs.declared.tree.Export.{Export}
-use Rattle.som_idl.specs.declared.tree.IdlFile.{IdlFile}
-use Rattle.som_idl.specs.declared.tree.IdlInterface.{IdlInterface}
-use Rattle.som_idl.specs.declared.tree.Item.{Item}
+use Rattle.som_syntax.specs.declared.words.Word.{Word}
+use Rattle.som_syntax.specs.declared.interface.Export.{Export}
+use Rattle.som_syntax.specs.declared.interface.IdlFile.{IdlFile}
+use Rattle.som_syntax.specs.declared.interface.IdlInterface.{IdlInterface}
+use Rattle.som_syntax.specs.declared.interface.Item.{Item}
 use Rattle.som_idl.specs.Grammar as g
 use Rattle.som_idl.specs.Reading as r
 use Rattle.som_read.proofs.Steps.{same_key_self, same_sign_self}

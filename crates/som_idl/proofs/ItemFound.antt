@@ -9,12 +9,12 @@ use Rattle.som_read.specs.declared.token.Key.TheVariants as key
 use Rattle.som_read.specs.declared.token.Sign.TheVariants as sign
 use Rattle.som_read.specs.declared.token.Token.{Token}
 use Rattle.som_read.specs.declared.token.Token.TheVariants as token
-use Rattle.som_read.specs.declared.tree.TypeName.{TypeName}
-use Rattle.som_read.specs.declared.tree.TypeName.TheVariants as types
-use Rattle.som_read.specs.declared.tree.Word.{Word}
-use Rattle.som_idl.specs.declared.tree.Item.{Item}
-use Rattle.som_idl.specs.declared.tree.Item.TheVariants as items
-use Rattle.som_idl.specs.declared.tree.Modifier.{Modifier}
+use Rattle.som_syntax.specs.declared.words.TypeName.{TypeName}
+use Rattle.som_syntax.specs.declared.words.TypeName.TheVariants as types
+use Rattle.som_syntax.specs.declared.words.Word.{Word}
+use Rattle.som_syntax.specs.declared.interface.Item.{Item}
+use Rattle.som_syntax.specs.declared.interface.Item.TheVariants as items
+use Rattle.som_syntax.specs.declared.interface.Modifier.{Modifier}
 use Rattle.som_idl.specs.declared.item.Setting.{Setting}
 use Rattle.som_idl.specs.declared.item.Setting.TheVariants as settings
 use Rattle.som_idl.specs.Grammar as g

@@ -8,12 +8,12 @@ use Rattle.som_read.specs.declared.token.Key.TheVariants as key
 use Rattle.som_read.specs.declared.token.Sign.TheVariants as sign
 use Rattle.som_read.specs.declared.token.Token.{Token}
 use Rattle.som_read.specs.declared.token.Token.TheVariants as token
-use Rattle.som_read.specs.declared.tree.TypeName.{TypeName}
-use Rattle.som_read.specs.declared.tree.TypeName.TheVariants as types
-use Rattle.som_read.specs.declared.tree.Word.{Word}
-use Rattle.som_idl.specs.declared.tree.Export.{Export}
-use Rattle.som_idl.specs.declared.tree.Export.TheVariants as exports
-use Rattle.som_idl.specs.declared.tree.Param.{Param}
+use Rattle.som_syntax.specs.declared.words.TypeName.{TypeName}
+use Rattle.som_syntax.specs.declared.words.TypeName.TheVariants as types
+use Rattle.som_syntax.specs.declared.words.Word.{Word}
+use Rattle.som_syntax.specs.declared.interface.Export.{Export}
+use Rattle.som_syntax.specs.declared.interface.Export.TheVariants as exports
+use Rattle.som_syntax.specs.declared.interface.Param.{Param}
 use Rattle.som_idl.specs.Grammar as g
 use Rattle.som_idl.specs.Reading as r
 use Rattle.som_read.proofs.Steps.{same_sign_self, apart_key}

@@ -7,13 +7,13 @@ use Rattle.som_read.specs.Seen.{seen, places_from, text_at}
 use Rattle.som_read.specs.Tokens.{head}
 use Rattle.som_read.specs.declared.cursor.Stop.{Stop}
 use Rattle.som_read.specs.declared.token.Token.{Token}
-use Rattle.som_read.specs.declared.tree.SyntaxFault.{SyntaxFault}
-use Rattle.som_read.specs.declared.tree.SyntaxFault.TheVariants as faults
+use Rattle.som_read.specs.declared.fault.SyntaxFault.{SyntaxFault}
+use Rattle.som_read.specs.declared.fault.SyntaxFault.TheVariants as faults
 use Rattle.som_idl.specs.Answer.{IsAnswer, is_refused}
 use Rattle.som_idl.specs.Grammar as g
 use Rattle.som_idl.specs.Reading as r
-use Rattle.som_idl.specs.declared.tree.IdlFile.{IdlFile}
-use Rattle.som_idl.specs.declared.tree.IdlInterface.{IdlInterface}
+use Rattle.som_syntax.specs.declared.interface.IdlFile.{IdlFile}
+use Rattle.som_syntax.specs.declared.interface.IdlInterface.{IdlInterface}
 use Rattle.som_read.proofs.FirstFault.{place_of, first_fault, fault_or_text, one_fault}
 use Rattle.som_read.proofs.Whole.{read_whole, read_fails, one_value, ends}
 use Rattle.som_idl.proofs.FileFound.{file_found}

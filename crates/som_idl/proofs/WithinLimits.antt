@@ -14,17 +14,17 @@ use Rattle.som_read.specs.Languages.{Lang, Listed, Repeated, Kept, the_first, th
 use Rattle.som_read.specs.Seen.{seen, seen_as, seen_from, text_at, token_of, is_left_out}
 use Rattle.som_read.specs.declared.token.Token.{Token}
 use Rattle.som_read.specs.declared.token.Token.TheVariants as token
-use Rattle.som_read.specs.declared.tree.TypeName.{TypeName}
-use Rattle.som_read.specs.declared.tree.Word.{Word}
+use Rattle.som_syntax.specs.declared.words.TypeName.{TypeName}
+use Rattle.som_syntax.specs.declared.words.Word.{Word}
 use Rattle.som_idl.specs.Grammar as g
 use Rattle.som_idl.specs.Within.{WordWithin, VersionWithin, TypeWithin, ResultWithin, ParamWithin, ExportWithin, ModifierWithin, ItemWithin, InterfaceWithin, FileWithin}
 use Rattle.som_model.specs.declared.limits.TheConstants.{MAX_NAME}
-use Rattle.som_idl.specs.declared.tree.Export.{Export}
-use Rattle.som_idl.specs.declared.tree.IdlFile.{IdlFile}
-use Rattle.som_idl.specs.declared.tree.IdlInterface.{IdlInterface}
-use Rattle.som_idl.specs.declared.tree.Item.{Item}
-use Rattle.som_idl.specs.declared.tree.Modifier.{Modifier}
-use Rattle.som_idl.specs.declared.tree.Param.{Param}
+use Rattle.som_syntax.specs.declared.interface.Export.{Export}
+use Rattle.som_syntax.specs.declared.interface.IdlFile.{IdlFile}
+use Rattle.som_syntax.specs.declared.interface.IdlInterface.{IdlInterface}
+use Rattle.som_syntax.specs.declared.interface.Item.{Item}
+use Rattle.som_syntax.specs.declared.interface.Modifier.{Modifier}
+use Rattle.som_syntax.specs.declared.interface.Param.{Param}
 
 -- a word is no longer than a name may be, and a number is one that a version may have
 abbrev pub TokenWithin : (ℕ → List ℕ) → Token → Type 0

@@ -6,10 +6,10 @@ use Rattle.som_read.specs.Seen.{seen, text_at}
 use Rattle.som_read.specs.declared.token.Key.TheVariants as key
 use Rattle.som_read.specs.declared.token.Token.{Token}
 use Rattle.som_read.specs.declared.token.Token.TheVariants as token
-use Rattle.som_read.specs.declared.tree.SyntaxFault.{SyntaxFault}
-use Rattle.som_read.specs.declared.tree.SyntaxFault.TheVariants as faults
+use Rattle.som_read.specs.declared.fault.SyntaxFault.{SyntaxFault}
+use Rattle.som_read.specs.declared.fault.SyntaxFault.TheVariants as faults
 use Rattle.som_idl.specs.Grammar.{IsFile}
-use Rattle.som_idl.specs.declared.tree.IdlFile.{IdlFile}
+use Rattle.som_syntax.specs.declared.interface.IdlFile.{IdlFile}
 
 -- a directive that isn't ignored, or a word that no interface file may have
 abbrev pub is_refused : Option Token → Bool

@@ -8,10 +8,10 @@ ghost use Rattle.som_read.specs.Tokens.{head};
 ghost use Rattle.std.specs.Prelude.{◌≡◌};
 
 use crate::name::{kind, name, names, outcome};
-use crate::{Export, Param};
 use som_lex::Tokens;
 use som_model::List;
 use som_read::{Cursor, Key, Sign, Stop, Turn};
+use som_syntax::{Export, Param};
 use std::alloc::Global;
 
 #[tactic(auto, unfolding(crate::specs::Reading::param))]

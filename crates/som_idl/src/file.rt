@@ -10,10 +10,10 @@ ghost use Rattle.std.specs.Prelude.{◌≡◌};
 use crate::export::exports;
 use crate::item::items;
 use crate::name::{name, names};
-use crate::{Export, IdlFile, IdlInterface, Item};
 use som_lex::Tokens;
 use som_model::List;
-use som_read::{Cursor, Key, Sign, Stop, Turn, Word};
+use som_read::{Cursor, Key, Sign, Stop, Turn};
+use som_syntax::{Export, IdlFile, IdlInterface, Item, Word};
 use std::alloc::Global;
 
 // The items of the implementation section, if there is one, and the exports after it.

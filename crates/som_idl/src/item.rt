@@ -9,10 +9,10 @@ ghost use Rattle.som_read.specs.declared.token.Sign.TheVariants as signs;
 ghost use Rattle.std.specs.Prelude.{◌≡◌};
 
 use crate::name::{is_name, name, names};
-use crate::{Item, Modifier};
 use som_lex::Tokens;
 use som_model::List;
-use som_read::{Cursor, Key, Sign, Stop, Token, Turn, TypeName, word_at};
+use som_read::{Cursor, Key, Sign, Stop, Token, Turn, word_at};
+use som_syntax::{Item, Modifier, TypeName};
 use std::alloc::Global;
 
 #[tactic(auto, unfolding(crate::specs::Reading::modifier))]

@@ -10,9 +10,7 @@ mod item;
 mod laws;
 mod name;
 mod parse;
-mod tree;
 
 pub use laws::{one_answer, one_tree, some_answer};
 pub use parse::parse_idl;
-pub use som_read::{SyntaxFault, TypeName, Word};
-pub use tree::{Export, IdlFile, IdlInterface, Item, Modifier, Param};
+pub use som_read::SyntaxFault;

@@ -9,7 +9,8 @@ ghost use Rattle.std.specs.Prelude.{◌≡◌};
 
 use som_lex::Tokens;
 use som_model::List;
-use som_read::{Cursor, Key, Sign, Stop, Token, Turn, TypeName, Word, word_at};
+use som_read::{Cursor, Key, Sign, Stop, Token, Turn, word_at};
+use som_syntax::{TypeName, Word};
 use std::alloc::Global;
 
 pub(crate) fn is_name(key: Key) -> bool

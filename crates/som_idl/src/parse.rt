@@ -9,10 +9,11 @@ ghost use Rattle.som_read.specs.Tokens.{head};
 ghost use Rattle.som_read.specs.declared.cursor.Stop.TheVariants as stops;
 ghost use Rattle.std.specs.Prelude.{◌≡◌, ◌≢◌, All, IfOk};
 
+use crate::SyntaxFault;
 use crate::file::file;
-use crate::{IdlFile, SyntaxFault};
 use som_lex::Tokens;
 use som_read::{Cursor, Key, Seen, Stop, Token, see};
+use som_syntax::IdlFile;
 use std::alloc::Global;
 
 fn is_refused(left: &Cursor<'_>) -> bool

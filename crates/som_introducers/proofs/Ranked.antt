@@ -7,8 +7,8 @@ use Rattle.som_model.specs.Lists.{Mem, among, find}
 use Rattle.som_model.proofs.KeyLaws.{exact_numbers}
 use Rattle.som_order.specs.Names.{name_at}
 use Rattle.som_laws.proofs.Members.{both_or_none}
-use Rattle.som_rules.proofs.Doubled.{take_last}
-use Rattle.som_rules.proofs.Listed.{mem_at}
+use Rattle.som_ancestry.proofs.Doubled.{take_last}
+use Rattle.som_ancestry.proofs.Listed.{mem_at}
 use Rattle.som_introducers.specs.Introducers.{AreGathered, first_introducer, introduces, stands}
 use Rattle.som_introducers.specs.Ranking.{AreRanks, rank_from}
 use Rattle.som_introducers.proofs.Seen.{stands_both}

@@ -14,10 +14,10 @@ use Rattle.som_model.specs.Lists.{Mem, among}
 use Rattle.som_model.proofs.KeyLaws.{exact_bytes, exact_numbers}
 use Rattle.som_laws.proofs.Members.{both_or_none}
 use Rattle.som_order.specs.Names.{name_at}
-use Rattle.som_rules.specs.Along.{introduced_at}
-use Rattle.som_rules.specs.Places.{face_at}
-use Rattle.som_rules.proofs.Doubled.{take_last}
-use Rattle.som_rules.proofs.Numbering.{map_append}
+use Rattle.som_ancestry.specs.Along.{introduced_at}
+use Rattle.som_ancestry.specs.Places.{face_at}
+use Rattle.som_ancestry.proofs.Doubled.{take_last}
+use Rattle.som_ancestry.proofs.Numbering.{map_append}
 use Rattle.som_introducers.specs.Introducers.{AreGathered, AreSeen, At, at_first, at_one, introduces, places_of, stands}
 
 -- ---- the places of a name

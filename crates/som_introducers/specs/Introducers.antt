@@ -4,7 +4,7 @@ use Rattle.std.specs.Str.{bytes_eq}
 use Rattle.som_model.specs.Class.{Class}
 use Rattle.som_model.specs.Lists.{Mem, among, find, some}
 use Rattle.som_order.specs.Names.{name_at, texts}
-use Rattle.som_rules.specs.Along.{introduced_at}
+use Rattle.som_ancestry.specs.Along.{introduced_at}
 use Rattle.som_introducers.specs.declared.introducers.Introducers.{Introducers}
 
 -- whether the class at a place introduces a name

@@ -2,14 +2,14 @@ ghost use Rattle.som_introducers.specs.Introducers.{AreIntroducers, AreSeen, At,
 ghost use Rattle.som_model.specs.Class.{introduced};
 ghost use Rattle.som_model.specs.Kernel.{kernel_interface};
 ghost use Rattle.som_order.specs.Names.{texts};
-ghost use Rattle.som_rules.specs.Modules.{classes_of};
-ghost use Rattle.som_rules.specs.Places.{with_kernel};
+ghost use Rattle.som_ancestry.specs.Modules.{classes_of};
+ghost use Rattle.som_ancestry.specs.Places.{with_kernel};
 ghost use Rattle.std.specs.Prelude.{◌≡◌, ◌<◌, ◌++◌, ◌∷◌, [], List as Seq, length, slice_index_or, slice_set, IfOk, OnOk};
 
 use indexmap::IndexSet;
+use som_ancestry::{Declared, KERNEL_CLASSES, entries_at};
 use som_model::{ClassFace, Entry, List, NoMemory};
 use som_order::{find_name, note_name};
-use som_rules::{Declared, KERNEL_CLASSES, entries_at};
 use std::alloc::Global;
 
 /// Each name that a class introduces, with the places of the classes that introduce it.

@@ -13,10 +13,10 @@ use Rattle.som_fields.proofs.Parts.{IsField, Stands-join, guard_no, came, took, 
 use Rattle.som_wire.specs.declared.syntax.WirePart.{WirePart}
 use Rattle.som_wire.specs.declared.selects.WireSelects.{WireSelects}
 use Rattle.som_wire.specs.Spelling.{part}
-use Rattle.som_naming.specs.ReadClasses.{ranges_of, faces_at, parts_at, section_at, head_at, at_end}
-use Rattle.som_naming.specs.SpelledClasses.{FitsParts, FitsFaces, head, section, version_with}
-use Rattle.som_naming.proofs.ClassFields.{spell_faces, faces_field, ranges_short, parts_field, beginning, IsVersion, head_field, IsSection, section_field, all_bytes, stands_whole, ends_there}
-use Rattle.som_naming.proofs.NamedSelects.{version_known}
+use Rattle.som_classimage.specs.ReadClasses.{ranges_of, faces_at, parts_at, section_at, head_at, at_end}
+use Rattle.som_classimage.specs.SpelledClasses.{FitsParts, FitsFaces, head, section, version_with}
+use Rattle.som_classimage.proofs.ClassFields.{spell_faces, faces_field, ranges_short, parts_field, beginning, IsVersion, head_field, IsSection, section_field, all_bytes, stands_whole, ends_there}
+use Rattle.som_classimage.proofs.NamedSelects.{version_known}
 use Rattle.som_libimage.specs.declared.wire.WireRelease.{WireRelease}
 use Rattle.som_libimage.specs.Reading.{classes_at, wire_at}
 use Rattle.som_libimage.specs.Spelling.{bodies, classes, FitsRelease, library}

@@ -1,5 +1,5 @@
 -- A release is spelled as the image that it is named from, and each release with a spelling is named from one.
-use Rattle.std.proofs.Common.{◌≡◌, ℕ, suc, ◌+◌, ◌≤◌, Bool, List, [], ◌∷◌, ◌++◌, length, map, Some, refl, sym, ap, subst, ◌∙◌, append_assoc, arith}
+use Rattle.std.proofs.Common.{◌≡◌, ℕ, ◌+◌, ◌≤◌, Bool, List, [], ◌∷◌, ◌++◌, length, map, Some, refl, sym, ap, subst, ◌∙◌, append_assoc, arith}
 use Rattle.std.specs.Prelude.{nat_le, codes}
 use Rattle.std.specs.List.{flat_map, AllByRecursion}
 use Rattle.std.specs.Int.{w16, to_be_bytes}
@@ -9,7 +9,6 @@ use Rattle.std.proofs.lemmas.List.Elements.{All-from_recursion, recursion_from_A
 use Rattle.som_model.specs.declared.limits.TheConstants.{MAX_LIBRARY_CLASSES}
 use Rattle.som_model.specs.declared.key.Module.TheVariants as modules
 use Rattle.som_model.specs.declared.key.ClassKey.{ClassKey}
-use Rattle.som_model.specs.declared.class.ClassFace.{ClassFace}
 use Rattle.som_model.specs.declared.class.ClassDecl.{ClassDecl}
 use Rattle.som_model.specs.declared.program.Release.{Release}
 use Rattle.som_model.specs.Class.{Class, class_in}
@@ -20,22 +19,19 @@ use Rattle.som_model.specs.Images.{Spelled, ◌then◌, each, tag, where_it_is, 
 use Rattle.som_fields.specs.declared.face.WireFace.{WireFace}
 use Rattle.som_fields.specs.declared.method.Ranges.{Ranges}
 use Rattle.som_fields.specs.Spelling as wire
-use Rattle.som_fields.specs.Spelling.{FitsFace, FitsMethod}
-use Rattle.som_wire.specs.declared.syntax.WirePart.{WirePart}
+use Rattle.som_fields.specs.Spelling.{FitsFace}
 use Rattle.som_wire.specs.declared.selects.WireSelects.{WireSelects}
 use Rattle.som_wire.specs.Spelling as spelling
-use Rattle.som_wire.specs.Fitting.{FitAscending}
 use Rattle.som_naming.specs.declared.directory.Directory.{Directory}
-use Rattle.som_naming.specs.ReadClasses.{ranges_of}
-use Rattle.som_naming.specs.SpelledClasses.{FitsClass, FitsParts, FitsSection, version_with, section}
-use Rattle.som_naming.specs.Naming.{kernel_directory, library_directory, ranges_in, entry_names, Tells, NoDoubles}
-use Rattle.som_naming.specs.NamedClasses.{face_named, classes_named, with_selects}
-use Rattle.som_naming.specs.Interfaces.{NamesDiffer}
-use Rattle.som_naming.proofs.ClassPlaces.{fit_length, ranges_known}
+use Rattle.som_classimage.specs.ReadClasses.{ranges_of}
+use Rattle.som_classimage.specs.SpelledClasses.{FitsClass, FitsParts, FitsSection, version_with, section}
+use Rattle.som_naming.specs.Naming.{library_directory, ranges_in, entry_names, Tells, NoDoubles}
+use Rattle.som_classimage.specs.NamedClasses.{face_named, classes_named, with_selects}
+use Rattle.som_classimage.specs.Interfaces.{NamesDiffer}
+use Rattle.som_classimage.proofs.ClassPlaces.{fit_length, ranges_known}
 use Rattle.som_naming.proofs.Spelled.{some_bytes, bytes_are, split, guarded}
-use Rattle.som_naming.proofs.NamedParts.{plain}
-use Rattle.som_naming.proofs.NamedClasses.{distinct_of, faces_kept, as_many_classes, map_selecting, each_selecting, many_selecting, known_classes, told_selecting, as_many_keys, no_doubles, faces_forth, parts_forth, Pairs, pairs_back, directory_of}
-use Rattle.som_naming.proofs.NamedSelects.{section_ascends, section_fits, section_forth, SectionBack, section_back}
+use Rattle.som_classimage.proofs.NamedClasses.{distinct_of, faces_kept, as_many_classes, map_selecting, each_selecting, many_selecting, known_classes, told_selecting, as_many_keys, no_doubles, faces_forth, parts_forth, Pairs, pairs_back, directory_of}
+use Rattle.som_classimage.proofs.NamedSelects.{section_ascends, section_fits, section_forth, SectionBack, section_back}
 use Rattle.som_libimage.specs.declared.wire.WireRelease.{WireRelease}
 use Rattle.som_libimage.specs.Spelling.{FitsRelease, library}
 use Rattle.som_libimage.specs.Naming.{release_named}

@@ -1,20 +1,16 @@
 -- A release that was numbered fits an image, and is named back to the release.
-use Rattle.std.proofs.Common.{◌≡◌, ℕ, suc, ◌+◌, ◌≤◌, List, [], ◌∷◌, ◌++◌, length, map, refl, sym, ap, subst, ◌∙◌, arith}
+use Rattle.std.proofs.Common.{◌≡◌, ℕ, ◌+◌, ◌≤◌, List, [], ◌∷◌, ◌++◌, length, map, sym, ap, subst, ◌∙◌, arith}
 use Rattle.std.specs.List.{AllByRecursion}
 use Rattle.std.specs.Str.{bytes_eq}
 use Rattle.std.proofs.lemmas.List.{length-map}
 use Rattle.std.proofs.lemmas.List.Elements.{All-from_recursion}
 use Rattle.som_model.specs.declared.limits.TheConstants.{MAX_LIBRARY_CLASSES, MAX_ENTRIES}
-use Rattle.som_model.specs.declared.key.Module.{Module}
 use Rattle.som_model.specs.declared.key.Module.TheVariants as modules
 use Rattle.som_model.specs.declared.key.ClassKey.{ClassKey}
-use Rattle.som_model.specs.declared.key.ClassKey.TheVariants as keys
-use Rattle.som_model.specs.declared.class.Entry.{Entry}
-use Rattle.som_model.specs.declared.class.Entry.TheVariants as named_entries
 use Rattle.som_model.specs.declared.class.ClassDecl.{ClassDecl}
 use Rattle.som_model.specs.declared.program.Release.{Release}
 use Rattle.som_model.specs.Lists.{doubles}
-use Rattle.som_model.specs.Class.{Class, class_in, entry_name}
+use Rattle.som_model.specs.Class.{Class, class_in}
 use Rattle.som_model.specs.Rules.{name_of}
 use Rattle.som_model.specs.Kernel.{kernel}
 use Rattle.som_model.specs.Classes.{library_classes}
@@ -24,21 +20,21 @@ use Rattle.som_fields.specs.Spelling.{FitsFace}
 use Rattle.som_wire.specs.declared.syntax.WirePart.{WirePart}
 use Rattle.som_wire.specs.declared.selects.WireSelects.{WireSelects}
 use Rattle.som_naming.specs.declared.directory.Directory.{Directory}
-use Rattle.som_naming.specs.SpelledClasses.{FitsParts, FitsSection}
+use Rattle.som_classimage.specs.SpelledClasses.{FitsParts, FitsSection}
 use Rattle.som_libimage.specs.Spelling.{FitsRelease}
-use Rattle.som_naming.specs.Naming.{name_in, names_in, kernel_directory, library_directory, ranges_in, entry_names, Tells}
-use Rattle.som_naming.specs.NamedClasses.{classes_named, with_selects}
+use Rattle.som_naming.specs.Naming.{names_in, kernel_directory, library_directory, ranges_in, Tells}
+use Rattle.som_classimage.specs.NamedClasses.{classes_named, with_selects}
 use Rattle.som_libimage.specs.Naming.{release_named}
 use Rattle.som_naming.specs.Naming.{release_directory}
 use Rattle.som_numbering.specs.Numbering.{class_names, IsDirectory}
-use Rattle.som_numbering.specs.NumberedClasses.{entry_numbered, face_numbered, part_numbered, selects_numbered}
+use Rattle.som_numbering.specs.NumberedClasses.{face_numbered, part_numbered, selects_numbered}
 use Rattle.som_libimage.specs.Numbering.{release_numbered}
-use Rattle.som_naming.proofs.ClassPlaces.{ranges_known}
-use Rattle.som_naming.proofs.NamedSelects.{section_fits}
+use Rattle.som_classimage.proofs.ClassPlaces.{ranges_known}
+use Rattle.som_classimage.proofs.NamedSelects.{section_fits}
 use Rattle.som_numbering.proofs.NumberedSelects.{selects_turn}
 use Rattle.som_naming.proofs.Places.{all_joined}
 use Rattle.som_numbering.proofs.Directories.{IsOwn, FewEntries, kernel_own, kernel_few, declared_own, directory_is}
-use Rattle.som_numbering.proofs.NumberedParts.{ClassReady, class_turns}
+use Rattle.som_numbering.proofs.NumberedParts.{ClassReady}
 use Rattle.som_numbering.proofs.NumberedClasses.{own_key, keys_told, slots_told, few_own, faces_of, keys_kept, slots_kept, faces_fit, parts_fit, classes_back}
 
 pub told : (r : Release) → Tells (release_directory r) (kernel ++ library_classes r)

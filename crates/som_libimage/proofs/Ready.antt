@@ -1,5 +1,5 @@
 -- A release that conforms and is within the limits names nothing that isn't there: so it can be numbered.
-use Rattle.std.proofs.Common.{◌≡◌, ℕ, ◌+◌, ◌<◌, ◌≤◌, ◌^◌, List, [], ◌++◌, length, map, refl, sym, ap, subst, ◌∙◌, arith}
+use Rattle.std.proofs.Common.{◌≡◌, ℕ, ◌+◌, ◌<◌, ◌≤◌, ◌^◌, List, [], ◌++◌, length, map, sym, ap, subst, ◌∙◌, arith}
 use Rattle.std.specs.Prelude.{flat_map, All}
 use Rattle.std.specs.List.{AllByRecursion}
 use Rattle.std.proofs.lemmas.List.Elements.{All-from_recursion, recursion_from_All}
@@ -22,11 +22,11 @@ use Rattle.som_naming.specs.Naming.{release_directory}
 use Rattle.som_numbering.specs.Numbering.{class_names, AreNamed, IsDirectory}
 use Rattle.som_naming.proofs.Places.{all_map}
 use Rattle.som_libimage.specs.declared.wire.WireRelease.{WireRelease}
-use Rattle.som_naming.specs.ClassLimits.{ClassWithin}
+use Rattle.som_classimage.specs.ClassLimits.{ClassWithin}
 use Rattle.som_libimage.specs.Limits.{IsWithinLimits}
 use Rattle.som_numbering.specs.NumberedClasses.{ClassKnown, face_numbered, part_numbered, selects_numbered}
 use Rattle.som_libimage.specs.Numbering.{release_numbered}
-use Rattle.som_naming.proofs.Conforming.{neither_is, none_first}
+use Rattle.som_classimage.proofs.Conforming.{neither_is, none_first}
 use Rattle.som_numbering.proofs.NumberedParts.{ClassReady}
 use Rattle.som_libimage.proofs.NumberedReleases.{told, is_directory, ReleaseTurns, release_turns}
 use Rattle.som_numbering.proofs.ReadyClasses.{names_new, stand_before, classes_ready}

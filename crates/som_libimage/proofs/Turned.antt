@@ -1,47 +1,30 @@
 -- What was numbered can be written, whatever the ranges; and what is read is within the limits.
-use Rattle.std.proofs.Common.{◌≡◌, ℕ, ◌+◌, ◌≤◌, ◌<◌, ◌^◌, List, [], ◌∷◌, length, map, Result, Ok, Err, sym, ap, subst, ◌∙◌, arith}
+use Rattle.std.proofs.Common.{◌≡◌, ℕ, ◌+◌, ◌≤◌, ◌<◌, ◌^◌, [], ◌∷◌, length, Result, Ok, Err, sym, ap, subst, ◌∙◌, arith}
 use Rattle.std.specs.Prelude.{All, IfOk}
-use Rattle.std.specs.List.{AllByRecursion}
-use Rattle.std.proofs.lemmas.List.{length-map}
-use Rattle.std.proofs.lemmas.List.Sums.{count_by-le-length}
 use Rattle.std.proofs.lemmas.List.Elements.{All-from_recursion, recursion_from_All}
 use Rattle.som_model.specs.declared.memory.NoMemory.{NoMemory}
-use Rattle.som_model.specs.declared.limits.TheConstants.{MAX_ENTRIES, MAX_LIBRARY_CLASSES}
-use Rattle.som_model.specs.declared.key.ClassKey.{ClassKey}
-use Rattle.som_model.specs.declared.class.Override.{Override}
-use Rattle.som_model.specs.declared.class.Variable.{Variable}
+use Rattle.som_model.specs.declared.limits.TheConstants.{MAX_LIBRARY_CLASSES}
 use Rattle.som_model.specs.declared.program.Release.{Release}
-use Rattle.som_fields.specs.declared.entry.WireEntry.{WireEntry}
-use Rattle.som_fields.specs.declared.entry.WireEntry.TheVariants as entries
-use Rattle.som_fields.specs.declared.face.WireFace.{WireFace}
 use Rattle.som_fields.specs.declared.method.Ranges.{Ranges}
-use Rattle.som_fields.specs.Spelling.{AreShort, FitsEntry, FitsFace, FitsMethod}
-use Rattle.som_wire.specs.declared.syntax.WireBody.{WireBody}
-use Rattle.som_wire.specs.declared.syntax.WireBody.TheVariants as bodies
-use Rattle.som_wire.specs.declared.syntax.WireOverride.{WireOverride}
-use Rattle.som_wire.specs.declared.syntax.WirePart.{WirePart}
-use Rattle.som_wire.specs.Fitting.{FitsVariable, FitsBody, FitsOverride, FitsSomePart}
-use Rattle.som_wire.proofs.SomeFits.{part_some}
+use Rattle.som_fields.specs.Spelling.{FitsFace, FitsMethod}
+use Rattle.som_wire.specs.Fitting.{FitsSomePart}
 use Rattle.som_naming.specs.declared.directory.Directory.{Directory}
-use Rattle.som_naming.specs.Naming.{library_directory, key_at, kind_named, ranges_in}
-use Rattle.som_naming.specs.BlockLimits.{TextWithin, BlockWithin}
-use Rattle.som_naming.proofs.Places.{all_map, all_mapped}
+use Rattle.som_naming.specs.Naming.{library_directory, ranges_in}
 use Rattle.som_libimage.specs.declared.wire.WireRelease.{WireRelease}
-use Rattle.som_naming.specs.ReadClasses.{is_introduced, introduced_count, ranges_of}
-use Rattle.som_naming.specs.SpelledClasses.{FitsClass, FitsParts, FitsFaces, FitsSomeSection}
+use Rattle.som_classimage.specs.ReadClasses.{ranges_of}
+use Rattle.som_classimage.specs.SpelledClasses.{FitsParts, FitsSomeSection}
 use Rattle.som_libimage.specs.Spelling.{FitsRelease}
-use Rattle.som_naming.specs.NamedClasses.{classes_named, with_selects}
+use Rattle.som_classimage.specs.NamedClasses.{classes_named, with_selects}
 use Rattle.som_libimage.specs.Naming.{release_named}
-use Rattle.som_naming.specs.ClassLimits.{EntryWithin, FaceWithin, BodyWithin, ClassWithin}
+use Rattle.som_classimage.specs.ClassLimits.{ClassWithin}
 use Rattle.som_libimage.specs.Limits.{IsWithinLimits}
 use Rattle.som_libimage.specs.Numbering.{release_numbered}
-use Rattle.som_naming.proofs.ClassPlaces.{ranges_known}
-use Rattle.som_naming.proofs.ClassFields.{faces_few, ranges_short, section_written}
-use Rattle.som_naming.proofs.NamedClasses.{many_selecting}
-use Rattle.som_naming.proofs.NamedSelects.{section_ascends}
-use Rattle.som_naming.proofs.NamedLimits.{named_is_within}
+use Rattle.som_classimage.proofs.ClassPlaces.{ranges_known}
+use Rattle.som_classimage.proofs.ClassFields.{faces_few, ranges_short, section_written}
+use Rattle.som_classimage.proofs.NamedClasses.{many_selecting}
+use Rattle.som_classimage.proofs.NamedSelects.{section_ascends}
 use Rattle.som_libimage.proofs.NumberedReleases.{ReleaseTurns}
-use Rattle.som_naming.proofs.ClassesTurned.{parts_written, classes_within, few_classes, selecting_within}
+use Rattle.som_classimage.proofs.ClassesTurned.{parts_written, classes_within, few_classes, selecting_within}
 
 -- ---- what was numbered
 

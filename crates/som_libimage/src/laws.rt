@@ -1,4 +1,4 @@
-ghost use Rattle.som_naming.specs.Interfaces.{NamesDiffer};
+ghost use Rattle.som_classimage.specs.Interfaces.{NamesDiffer};
 ghost use Rattle.som_libimage.specs.Libraries.{SpellsLibrary, library_at};
 ghost use Rattle.som_libimage.specs.Limits.{IsWithinLimits};
 ghost use Rattle.som_model.specs.Class.{interface_of};

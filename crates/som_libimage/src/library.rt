@@ -1,4 +1,4 @@
-ghost use Rattle.som_naming.specs.Interfaces.{NamesDiffer};
+ghost use Rattle.som_classimage.specs.Interfaces.{NamesDiffer};
 ghost use Rattle.som_libimage.specs.Libraries.{SpellsLibrary, library_at};
 ghost use Rattle.som_libimage.specs.Limits.{IsWithinLimits};
 ghost use Rattle.som_libimage.specs.Naming.{release_named};
@@ -12,9 +12,10 @@ ghost use Rattle.std.specs.Prelude.{◌≡◌, Some, Ok, IfOk};
 use crate::numbered::number_release;
 use crate::release::{read_release, write_release};
 use crate::wire::WireRelease;
+use som_classimage::{KERNEL_CLASSES, name_classes};
 use som_fields::{EncodeFault, ImageFault};
 use som_model::{List, NoMemory, Release};
-use som_naming::{Directory, KERNEL_CLASSES, name_classes};
+use som_naming::Directory;
 use std::alloc::Global;
 
 // The release that a release of an image stands for.

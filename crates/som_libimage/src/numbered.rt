@@ -6,8 +6,9 @@ ghost use Rattle.som_model.specs.Conforming.{ReleaseOk};
 ghost use Rattle.std.specs.Prelude.{◌≡◌, IfOk};
 
 use crate::wire::WireRelease;
+use som_classimage::KERNEL_CLASSES;
 use som_model::{NoMemory, Release};
-use som_naming::{Directory, KERNEL_CLASSES};
+use som_naming::Directory;
 use som_numbering::{class_names, number_faces, number_parts, number_selects};
 use std::alloc::Global;
 

@@ -4,12 +4,12 @@ ghost use Rattle.som_fields.specs.Fields.{Gives};
 ghost use Rattle.std.specs.Prelude.{◌≡◌, ◌≤◌, length, IfOk};
 
 use crate::wire::WireRelease;
-use som_fields::{ImageFault, Read, write_u16};
-use som_model::{List, NoMemory};
-use som_naming::{
+use som_classimage::{
     KERNEL_CLASSES, new_image, ranges_of, read_faces, read_head, read_parts, read_section,
     version_with, with_faces, with_parts, with_section,
 };
+use som_fields::{ImageFault, Read, write_u16};
+use som_model::{List, NoMemory};
 use std::alloc::Global;
 
 const MAGIC: &[u8] = b"SOML";

@@ -1,7 +1,7 @@
 -- What a refusal to link tells.
 use Rattle.std.specs.Prelude.{◌≡◌, ℕ, List, Option, Some, None, Result, Ok, Err, codes}
 use Rattle.som_model.specs.Compatible.{CompatBreach}
-use Rattle.som_rules.specs.Told.{told}
+use Rattle.som_ancestry.specs.Told.{told}
 use Rattle.som_linking.specs.declared.fault.LinkFault.{LinkFault}
 use Rattle.som_linking.specs.declared.fault.LinkFault.TheVariants as faults
 use Rattle.som_linking.specs.Pairs.{Obstacle, Breaks, DoesntKeep}

@@ -2,9 +2,9 @@ ghost use Rattle.som_compat.specs.Told.{told};
 ghost use Rattle.som_linking.specs.Told.{TellsBreach, or_dash};
 ghost use Rattle.std.specs.Prelude.{◌≡◌, IfOk, option_copied};
 
+use som_ancestry::Broken;
 use som_compat::Breach;
 use som_model::{NoMemory, Text};
-use som_rules::Broken;
 use std::alloc::Global;
 
 /// Why a client isn't linked with a library: a rule that the library breaks, or else, as `client` says, the client; or what the library doesn't keep

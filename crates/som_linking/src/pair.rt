@@ -11,9 +11,9 @@ ghost use Rattle.std.specs.Option.{option_map};
 ghost use Rattle.std.specs.Prelude.{◌≡◌, ◌++◌, IfOk, false, true};
 
 use crate::fault::{LinkFault, incompatible};
+use som_ancestry::VerifyFault;
 use som_compat::compatible;
 use som_model::{ClientProgram, Release};
-use som_rules::VerifyFault;
 use som_verify::{program_ok, release_ok};
 use std::alloc::Global;
 

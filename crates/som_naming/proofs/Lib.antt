@@ -12,13 +12,3 @@ pub mod ExprsBack
 pub mod StmtsBack
 pub mod NamedLimits
 pub mod KnownNumbers
-pub mod EachFields
-pub mod ClassPlaces
-pub mod NamedFaces
-pub mod NamedParts
-pub mod NamedSelects
-pub mod NamedInterfaces
-pub mod Conforming
-pub mod ClassFields
-pub mod NamedClasses
-pub mod ClassesTurned

@@ -3,8 +3,3 @@ pub mod NamedBlocks
 pub mod BlockLimits
 pub mod KnownNumbers
 pub mod Forms
-pub mod ReadClasses
-pub mod SpelledClasses
-pub mod NamedClasses
-pub mod ClassLimits
-pub mod Interfaces

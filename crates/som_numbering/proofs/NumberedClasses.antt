@@ -1,10 +1,7 @@
 -- Classes that were numbered fit an image, and are named back to the classes.
-use Rattle.std.proofs.Common.{◌≡◌, ℕ, suc, ◌+◌, ◌≤◌, List, [], ◌∷◌, ◌++◌, length, map, refl, sym, ap, subst, ◌∙◌, arith}
+use Rattle.std.proofs.Common.{◌≡◌, ℕ, ◌+◌, ◌≤◌, List, [], ◌∷◌, ◌++◌, length, map, refl, ap, ◌∙◌}
 use Rattle.std.specs.List.{AllByRecursion}
-use Rattle.std.specs.Str.{bytes_eq}
-use Rattle.std.proofs.lemmas.List.{length-map}
-use Rattle.std.proofs.lemmas.List.Elements.{All-from_recursion}
-use Rattle.som_model.specs.declared.limits.TheConstants.{MAX_LIBRARY_CLASSES, MAX_ENTRIES}
+use Rattle.som_model.specs.declared.limits.TheConstants.{MAX_ENTRIES}
 use Rattle.som_model.specs.declared.key.Module.{Module}
 use Rattle.som_model.specs.declared.key.Module.TheVariants as modules
 use Rattle.som_model.specs.declared.key.ClassKey.{ClassKey}
@@ -12,26 +9,16 @@ use Rattle.som_model.specs.declared.key.ClassKey.TheVariants as keys
 use Rattle.som_model.specs.declared.class.Entry.{Entry}
 use Rattle.som_model.specs.declared.class.Entry.TheVariants as named_entries
 use Rattle.som_model.specs.declared.class.ClassDecl.{ClassDecl}
-use Rattle.som_model.specs.declared.program.Release.{Release}
-use Rattle.som_model.specs.Lists.{doubles}
 use Rattle.som_model.specs.Class.{Class, class_in, entry_name}
-use Rattle.som_model.specs.Rules.{name_of}
-use Rattle.som_model.specs.Kernel.{kernel}
-use Rattle.som_model.specs.Classes.{library_classes}
 use Rattle.som_fields.specs.declared.face.WireFace.{WireFace}
-use Rattle.som_fields.specs.declared.method.Ranges.{Ranges}
 use Rattle.som_fields.specs.Spelling.{FitsFace}
-use Rattle.som_wire.specs.declared.syntax.WirePart.{WirePart}
 use Rattle.som_naming.specs.declared.directory.Directory.{Directory}
-use Rattle.som_naming.specs.SpelledClasses.{FitsParts}
-use Rattle.som_naming.specs.Naming.{name_in, names_in, kernel_directory, library_directory, ranges_in, entry_names, Tells}
-use Rattle.som_naming.specs.NamedClasses.{classes_named}
-use Rattle.som_naming.specs.Naming.{release_directory}
-use Rattle.som_numbering.specs.Numbering.{class_names, IsDirectory}
+use Rattle.som_classimage.specs.SpelledClasses.{FitsParts}
+use Rattle.som_naming.specs.Naming.{name_in, names_in, ranges_in, entry_names}
+use Rattle.som_classimage.specs.NamedClasses.{classes_named}
 use Rattle.som_numbering.specs.NumberedClasses.{entry_numbered, face_numbered, part_numbered}
-use Rattle.som_naming.proofs.ClassPlaces.{ranges_known}
-use Rattle.som_naming.proofs.NamedParts.{plain}
-use Rattle.som_numbering.proofs.Directories.{IsOwn, FewEntries, kernel_own, kernel_few, declared_own, directory_is}
+use Rattle.som_classimage.proofs.NamedParts.{plain}
+use Rattle.som_numbering.proofs.Directories.{FewEntries}
 use Rattle.som_numbering.proofs.NumberedParts.{ClassReady, class_turns}
 
 -- ---- the directory of a release

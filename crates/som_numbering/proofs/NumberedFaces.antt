@@ -1,30 +1,19 @@
 -- Numbers and slots are named back to what they were made of, and they fit: classes, methods and faces.
-use Rattle.std.proofs.Common.{◌≡◌, ℕ, ◌<◌, ◌≤◌, true, false, List, [], ◌∷◌, length, map, get_or, Option, Some, None, refl, ap, ◌∙◌, arith}
-use Rattle.std.specs.Prelude.{All, IfSome}
-use Rattle.std.specs.List.{AllByRecursion}
-use Rattle.std.specs.Str.{bytes_eq}
-use Rattle.std.proofs.Math.ListN.{get_or-map as get_or_mapped}
-use Rattle.std.proofs.lemmas.List.{length-map}
-use Rattle.std.proofs.lemmas.List.Elements.{All-from_recursion, recursion_from_All}
+use Rattle.std.proofs.Common.{◌≡◌, ℕ, ◌<◌, ◌≤◌, false, List, [], ◌∷◌, length, map, Option, Some, None, refl, ap, ◌∙◌, arith}
+use Rattle.std.specs.Prelude.{IfSome}
 use Rattle.som_model.specs.declared.limits.TheConstants.{MAX_PARAMETERS, MAX_PARENTS, MAX_ENTRIES}
 use Rattle.som_model.specs.declared.key.ClassKey.{ClassKey}
-use Rattle.som_model.specs.declared.key.MethodRef.{MethodRef}
 use Rattle.som_model.specs.declared.key.ValueType.{ValueType}
-use Rattle.som_model.specs.declared.key.ValueType.TheVariants as values
 use Rattle.som_model.specs.declared.class.Sig.{Sig}
 use Rattle.som_model.specs.declared.class.Entry.{Entry}
 use Rattle.som_model.specs.declared.class.Entry.TheVariants as named_entries
 use Rattle.som_model.specs.declared.class.ClassFace.{ClassFace}
 use Rattle.som_model.specs.Lists.{Mem}
-use Rattle.som_model.specs.Keys.{same_key}
-use Rattle.som_model.specs.Kernel.{som_object}
-use Rattle.som_model.proofs.KeyLaws.{exact_bytes, exact_keys}
-use Rattle.som_fields.specs.Spelling.{FitsKind, FitsSig, FitsEntry, FitsFace, FitsMethod, FitsCounted}
-use Rattle.som_naming.specs.declared.directory.Directory.{Directory}
-use Rattle.som_naming.specs.Naming.{key_at, kind_named, method_named, ranges_in}
-use Rattle.som_naming.specs.NamedClasses.{sig_named, entry_named, metaclass_named, face_named}
-use Rattle.som_naming.specs.ClassLimits.{EntryWithin, FaceWithin}
-use Rattle.som_numbering.specs.Numbering.{number_of, slot_of, method_numbered, MethodKnown, kind_numbered, IsKnown, IsValue}
+use Rattle.som_fields.specs.Spelling.{FitsKind, FitsSig, FitsEntry, FitsFace}
+use Rattle.som_naming.specs.Naming.{key_at, kind_named}
+use Rattle.som_classimage.specs.NamedClasses.{sig_named, entry_named, metaclass_named, face_named}
+use Rattle.som_classimage.specs.ClassLimits.{EntryWithin, FaceWithin}
+use Rattle.som_numbering.specs.Numbering.{number_of, kind_numbered, IsValue}
 use Rattle.som_numbering.specs.NumberedClasses.{sig_numbered, SigKnown, entry_numbered, EntryKnown, metaclass_numbered, face_numbered, FaceKnown}
 use Rattle.som_numbering.proofs.NumberedKinds.{TurnsBack, all_both, each_of, counted_turn, key_turns, kind_turns, value_turns}
 

@@ -1,6 +1,5 @@
 -- Parts with numbers and slots are named back to what they were made of, and they fit.
 use Rattle.std.proofs.Common.{◌≡◌, ℕ, ◌<◌, ◌^◌, List, length, map, refl, sym, ap, ◌∙◌, arith}
-use Rattle.std.specs.Prelude.{All}
 use Rattle.std.specs.List.{count_by, AllByRecursion}
 use Rattle.std.proofs.lemmas.List.{length-map}
 use Rattle.som_model.specs.declared.limits.TheConstants.{MAX_VARIABLES, MAX_OVERRIDES}
@@ -27,12 +26,12 @@ use Rattle.som_numbering.specs.NumberedBlocks.{block_numbered}
 use Rattle.som_naming.specs.BlockLimits.{TextWithin}
 use Rattle.som_numbering.proofs.NumberedKinds.{TurnsBack, all_both, each_of, counted_turn, method_turns, value_turns}
 use Rattle.som_numbering.proofs.TurnedBlocks.{ready_turns}
-use Rattle.som_naming.specs.ReadClasses.{is_introduced}
-use Rattle.som_naming.specs.SpelledClasses.{FitsClass}
-use Rattle.som_naming.specs.NamedClasses.{variable_named, body_named, override_named, class_named}
-use Rattle.som_naming.specs.ClassLimits.{ClassWithin}
+use Rattle.som_classimage.specs.ReadClasses.{is_introduced}
+use Rattle.som_classimage.specs.SpelledClasses.{FitsClass}
+use Rattle.som_classimage.specs.NamedClasses.{variable_named, body_named, override_named, class_named}
+use Rattle.som_classimage.specs.ClassLimits.{ClassWithin}
 use Rattle.som_numbering.specs.NumberedClasses.{variable_numbered, body_numbered, override_numbered, BodyReady, OverrideReady, entry_numbered, face_numbered, part_numbered, ClassKnown}
-use Rattle.som_naming.proofs.NamedParts.{a_class, plain, introduced_is}
+use Rattle.som_classimage.proofs.NamedParts.{a_class, plain, introduced_is}
 use Rattle.som_numbering.proofs.NumberedFaces.{face_turns}
 
 abbrev a_variable : List ℕ → ValueType → Variable

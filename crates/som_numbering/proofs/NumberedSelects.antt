@@ -1,6 +1,6 @@
 -- The selects of classes with numbers are named back to what they were made of, and they fit.
 use Rattle.std.proofs.Common.{◌≡◌, ℕ, zero, suc, ◌+◌, ◌<◌, ◌≤◌, ◌^◌, ◌==◌, Bool, true, false, true≢false, List, [], ◌∷◌, ◌++◌, length, map, take, get_or, refl, sym, ap, subst, ◌∙◌, arith}
-use Rattle.std.specs.Prelude.{All, if◌then◌else◌}
+use Rattle.std.specs.Prelude.{if◌then◌else◌}
 use Rattle.std.specs.List.{AllByRecursion}
 use Rattle.std.proofs.lemmas.Bool.{eqb-true}
 use Rattle.std.proofs.lemmas.List.Elements.{recursion_from_All}
@@ -16,9 +16,9 @@ use Rattle.som_wire.specs.declared.selects.WireSelects.{WireSelects}
 use Rattle.som_wire.specs.Fitting.{FitsSelect, FitAscending}
 use Rattle.som_naming.specs.declared.directory.Directory.{Directory}
 use Rattle.som_naming.specs.Naming.{ranges_in}
-use Rattle.som_naming.specs.NamedClasses.{select_named, selects_under, selecting, with_selects}
-use Rattle.som_naming.proofs.NamedParts.{plain}
-use Rattle.som_naming.proofs.NamedSelects.{with_own, none_under, here_under, without_first, no_selects, some_selects}
+use Rattle.som_classimage.specs.NamedClasses.{select_named, selects_under, selecting, with_selects}
+use Rattle.som_classimage.proofs.NamedParts.{plain}
+use Rattle.som_classimage.proofs.NamedSelects.{with_own, none_under, here_under, without_first, no_selects, some_selects}
 use Rattle.som_numbering.specs.Numbering.{MethodKnown}
 use Rattle.som_numbering.specs.NumberedClasses.{select_numbered, selects_numbered}
 use Rattle.som_numbering.proofs.NumberedKinds.{TurnsBack, counted_turn, method_turns}

@@ -1,6 +1,6 @@
 -- Classes that keep the rules and are within the limits name nothing that isn't there: so they can be numbered.
 use Rattle.std.proofs.Common.{◌≡◌, ℕ, zero, suc, ◌<◌, ◌≤◌, ◌^◌, ◌==◌, inl, inr, Bool, true, false, not, ◌&&◌, if◌then◌else◌, true≢false, List, [], ◌∷◌, ◌++◌, length, map, Option, Some, None, is_some, slice_get, Ok, Err, refl, sym, ap, subst, ◌∙◌, append_assoc, arith}
-use Rattle.std.specs.Prelude.{flat_map, All, IfSome, unwrap_or}
+use Rattle.std.specs.Prelude.{flat_map, All, IfSome}
 use Rattle.std.specs.List.{AllByRecursion}
 use Rattle.std.specs.Str.{bytes_eq}
 use Rattle.std.proofs.lemmas.Bool.{eqb-true}
@@ -24,27 +24,27 @@ use Rattle.som_model.specs.declared.class.Override.{Override}
 use Rattle.som_model.specs.declared.class.Select.{Select}
 use Rattle.som_model.specs.declared.class.ClassFace.{ClassFace}
 use Rattle.som_model.specs.declared.class.ClassDecl.{ClassDecl}
-use Rattle.som_model.specs.Lists.{Mem, among, doubles, every, option_list, place_from, some}
-use Rattle.som_model.specs.Keys.{same_key, same_method}
-use Rattle.som_model.specs.Class.{Class, class_in, entry_name, entry_of, introduced}
-use Rattle.som_model.specs.Classes.{class_at, hierarchy}
-use Rattle.som_model.specs.Owner.{entry_at, introduces, owner, owner_within, sig_of}
+use Rattle.som_model.specs.Lists.{Mem, among, doubles, every, option_list, some}
+use Rattle.som_model.specs.Keys.{same_method}
+use Rattle.som_model.specs.Class.{Class, class_in, introduced}
+use Rattle.som_model.specs.Classes.{class_at}
+use Rattle.som_model.specs.Owner.{entry_at, introduces, owner, sig_of}
 use Rattle.som_model.specs.Rules.{RuleBreach, name_of, breach, demand, demand_of, is_known, is_value_type, is_proper, body_fits, s1, s2, s5, s9, s10, s10_from, s10_selects, is_replaced_once, is_parent_below, s14}
 use Rattle.som_model.specs.Typing.{Ruled, CodePlace, class_facts, in_body}
 use Rattle.som_model.specs.TypedBlocks.{Scope, block_scope}
 use Rattle.som_model.specs.Conforming.{each_after, block_breach, bodies_typed, override_typed, class_typed}
-use Rattle.som_model.proofs.KeyLaws.{both, exact_bytes, exact_keys}
-use Rattle.som_naming.specs.Naming.{Tells, entry_names}
+use Rattle.som_model.proofs.KeyLaws.{both}
+use Rattle.som_naming.specs.Naming.{Tells}
 use Rattle.som_naming.specs.declared.directory.Directory.{Directory}
 use Rattle.som_numbering.specs.Numbering.{MethodKnown, IsKnown, IsValue}
 use Rattle.som_naming.specs.BlockLimits.{BlockWithin}
 use Rattle.som_numbering.specs.ReadyBlocks.{BlockReady}
-use Rattle.som_naming.proofs.Places.{all_map, place_of_map}
+use Rattle.som_naming.proofs.Places.{all_map}
 use Rattle.som_numbering.proofs.KnownMethods.{keys_of, known_mem, some_known, has_entry, method_known, covers}
 use Rattle.som_numbering.proofs.TypedBlocks.{typed_is_ready}
-use Rattle.som_naming.specs.ClassLimits.{BodyWithin, ClassWithin}
-use Rattle.som_numbering.specs.NumberedClasses.{EntryKnown, FaceKnown, BodyReady, OverrideReady, ClassKnown}
-use Rattle.som_naming.proofs.Conforming.{both_empty, not_broken, names_joined}
+use Rattle.som_classimage.specs.ClassLimits.{BodyWithin, ClassWithin}
+use Rattle.som_numbering.specs.NumberedClasses.{EntryKnown, FaceKnown, BodyReady, OverrideReady}
+use Rattle.som_classimage.proofs.Conforming.{both_empty, not_broken, names_joined}
 use Rattle.som_numbering.proofs.NumberedParts.{ClassReady}
 
 -- ---- demands that hold

@@ -1,5 +1,5 @@
 -- Whether all that blocks name is in a directory: what numbering has to find.
-use Rattle.std.specs.Prelude.{Bool, true, ◌&&◌, List, [], get_or, is_some}
+use Rattle.std.specs.Prelude.{Bool, true, ◌&&◌, [], get_or, is_some}
 use Rattle.std.specs.List.{list_all}
 use Rattle.std.specs.Str.{bytes_eq}
 use Rattle.som_model.specs.declared.key.ClassKey.{ClassKey}

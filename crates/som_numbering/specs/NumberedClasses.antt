@@ -1,5 +1,5 @@
 -- The faces and parts with numbers that come of numbering classes.
-use Rattle.std.specs.Prelude.{ℕ, suc, ◌<◌, ◌^◌, if◌then◌else◌, true, false, List, [], ◌∷◌, map, All, Option, Some, None, IfSome}
+use Rattle.std.specs.Prelude.{ℕ, suc, ◌<◌, ◌^◌, if◌then◌else◌, List, [], ◌∷◌, map, All, Option, Some, None, IfSome}
 use Rattle.som_model.specs.declared.key.ClassKey.{ClassKey}
 use Rattle.som_model.specs.declared.class.Sig.{Sig}
 use Rattle.som_model.specs.declared.class.Entry.{Entry}
@@ -25,7 +25,6 @@ use Rattle.som_wire.specs.declared.syntax.WireBody.TheVariants as bodies
 use Rattle.som_wire.specs.declared.syntax.WireOverride.{WireOverride}
 use Rattle.som_wire.specs.declared.syntax.WirePart.{WirePart}
 use Rattle.som_naming.specs.declared.directory.Directory.{Directory}
-use Rattle.som_naming.specs.Naming.{release_directory}
 use Rattle.som_numbering.specs.Numbering.{number_of, method_numbered, MethodKnown, kind_numbered, IsKnown, IsValue}
 use Rattle.som_numbering.specs.NumberedBlocks.{block_numbered}
 use Rattle.som_numbering.specs.ReadyBlocks.{BlockReady}

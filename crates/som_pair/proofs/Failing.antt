@@ -2,7 +2,7 @@
 use Rattle.std.proofs.Common.{◌≡◌, ◌≤◌, ℕ, List, Option, Result, Ok, Err, inl, inr}
 use Rattle.som_model.specs.Bytes.{Files}
 use Rattle.som_io.proofs.ShownLaws.{rose_earlier}
-use Rattle.som_classmgr.specs.Linked.{Linkage}
+use Rattle.som_linked.specs.Linked.{Linkage}
 use Rattle.som_steps.specs.declared.stop.CommandStop.{CommandStop}
 use Rattle.som_steps.specs.Fetching.{file_of}
 use Rattle.som_steps.specs.Cause.{HasCause, IsQuiet, IsQuietStop}

@@ -4,8 +4,8 @@ use Rattle.som_model.specs.Bytes.{Files}
 use Rattle.som_model.specs.Classes.{classes as all_classes}
 use Rattle.som_model.specs.Compatible.{CompatBreach}
 use Rattle.som_model.specs.Steps.{◌>>=◌}
-use Rattle.som_rules.specs.Told.{told}
-use Rattle.som_classmgr.specs.Linked.{Linkage}
+use Rattle.som_ancestry.specs.Told.{told}
+use Rattle.som_linked.specs.Linked.{Linkage}
 use Rattle.som_linking.specs.declared.fault.LinkFault.{LinkFault}
 use Rattle.som_linking.specs.declared.fault.LinkFault.TheVariants as faults
 use Rattle.som_linking.specs.Pairs.{Obstacle, obstacle}

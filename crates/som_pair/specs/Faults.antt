@@ -1,6 +1,6 @@
 -- How a fault of linking is told.
 use Rattle.std.specs.Prelude.{◌≡◌, ℕ, List, true, false, Option, Some, None}
-use Rattle.som_rules.specs.Told.{told}
+use Rattle.som_ancestry.specs.Told.{told}
 use Rattle.som_linking.specs.declared.fault.LinkFault.{LinkFault}
 use Rattle.som_linking.specs.declared.fault.LinkFault.TheVariants as faults
 use Rattle.som_steps.specs.declared.stop.Refusal.{Refusal}

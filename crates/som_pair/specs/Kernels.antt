@@ -2,7 +2,7 @@
 use Rattle.std.specs.Prelude.{◌≡◌, ℕ, List, Option, Some, None, Result, Ok, Err}
 use Rattle.som_model.specs.Bytes.{Files}
 use Rattle.som_model.specs.Classes.{classes as all_classes}
-use Rattle.som_classmgr.specs.Linked.{Linkage}
+use Rattle.som_linked.specs.Linked.{Linkage}
 use Rattle.som_steps.specs.declared.stop.Refusal.{Refusal}
 use Rattle.som_steps.specs.declared.stop.CommandStop.{CommandStop}
 use Rattle.som_steps.specs.Steps.{Stops}

@@ -2,9 +2,9 @@ ghost use Rattle.som_linking.specs.declared.fault.LinkFault.TheVariants as fault
 ghost use Rattle.som_pair.specs.Faults.{Refuses, fault_told};
 ghost use Rattle.std.specs.Prelude.{IfOk, Some, ◌≡◌};
 
+use som_ancestry::Broken;
 use som_linking::LinkFault;
 use som_model::{NoMemory, Text};
-use som_rules::Broken;
 use som_steps::{CommandStop, Refusal, refuse_broken, refuse_incompatible};
 use std::alloc::Global;
 

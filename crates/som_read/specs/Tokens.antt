@@ -7,7 +7,7 @@ use Rattle.som_read.specs.declared.token.Key.{Key}
 use Rattle.som_read.specs.declared.token.Sign.{Sign}
 use Rattle.som_read.specs.declared.token.Token.{Token}
 use Rattle.som_read.specs.declared.token.Token.TheVariants as token
-use Rattle.som_read.specs.declared.tree.Word.{Word}
+use Rattle.som_syntax.specs.declared.words.Word.{Word}
 
 -- the token in hand
 abbrev pub head : List Token → Option Token

@@ -6,12 +6,12 @@
 #![tactic(auto)]
 
 mod cursor;
+mod fault;
 mod seen;
 mod token;
-mod tree;
 mod words;
 
 pub use cursor::{Cursor, Stop, Turn};
+pub use fault::SyntaxFault;
 pub use seen::{Seen, see, word_at};
 pub use token::{Key, Sign, Token};
-pub use tree::{SyntaxFault, TypeName, Word};

@@ -6,9 +6,10 @@ ghost use Rattle.som_read.specs.Tokens.{word};
 ghost use Rattle.std.specs.Prelude.{◌≡◌, ◌-◌, length, slice_index_or, [], ◌∷◌, ◌++◌, All, IfOk, OnOk};
 
 use crate::words::{key_of, sign_of};
-use crate::{Cursor, Token, Word};
+use crate::{Cursor, Token};
 use som_lex::{LexToken, TokenKind, Tokens, is_ignored, number_value};
 use som_model::{NoMemory, Text};
+use som_syntax::Word;
 use std::alloc::Global;
 
 /// The tokens of a text without ignored directives, and their places in the list of all tokens.

@@ -16,8 +16,8 @@ use Rattle.som_model.specs.Rules.{s5, s14}
 use Rattle.som_model.specs.Compatible.{Compatible, EachNext, class_breaks, release_of}
 use Rattle.som_model.specs.Conforming.{ReleaseOk, faces_breach, first_of_members, first_of_names}
 use Rattle.som_model.specs.Loads.{HasOwnKey, IsOrdered, keys_of}
-use Rattle.som_rules.proofs.FacesOnly.{face_only}
-use Rattle.som_rules.proofs.PlainFaces.{or_none}
+use Rattle.som_lawful.proofs.FacesOnly.{face_only}
+use Rattle.som_ancestry.proofs.Conformity.{or_none}
 use Rattle.som_hierarchy.specs.Keeping.{ClassesKeep}
 use Rattle.som_hierarchy.proofs.Keeping.{goes_along, keeps_itself}
 use Rattle.som_hierarchy.proofs.Lists.{map_mem}

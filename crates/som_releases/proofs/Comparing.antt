@@ -16,7 +16,7 @@ use Rattle.som_model.proofs.KeyLaws.{Exact, exact_bytes, exact_keys, both}
 use Rattle.som_model.proofs.SameLaws.{exact_option, exact_sigs}
 use Rattle.som_laws.proofs.Members.{mem_right, mem_split}
 use Rattle.som_laws.proofs.Laws.{ancestors as ancestors_are}
-use Rattle.som_rules.proofs.FacesOnly.{face_only, is_a_faces}
+use Rattle.som_lawful.proofs.FacesOnly.{face_only, is_a_faces}
 use Rattle.som_hierarchy.specs.Keeping.{ClassesKeep, IsPair}
 use Rattle.som_hierarchy.proofs.Lists.{find_mem, map_mem, mem_map, option_mem}
 use Rattle.som_hierarchy.proofs.Standing.{falls, found, not_kernels, tells}

@@ -14,7 +14,7 @@ use Rattle.som_model.specs.Kernel.{som_class}
 use Rattle.som_model.specs.Metaclass.{is_low, lowest, meta, meta_within, rank_step}
 use Rattle.som_model.specs.Owner.{entry_at, owner, owner_within, sig_of}
 use Rattle.som_model.specs.Compatible.{signature}
-use Rattle.som_rules.proofs.FacesOnly.{face_only, is_a_faces}
+use Rattle.som_lawful.proofs.FacesOnly.{face_only, is_a_faces}
 use Rattle.som_hierarchy.proofs.Metas.{declared_in, made}
 use Rattle.som_hierarchy.proofs.Owners.{entry_is, entry_unknown, moved_to, moves, stays}
 

@@ -24,16 +24,17 @@ use Rattle.som_model.specs.Loads.{FacesLoad, HasOwnKey, IsOrdered, keys_of}
 use Rattle.som_model.proofs.KeyLaws.{both, exact_keys}
 use Rattle.som_model.proofs.NamedLaws.{out_named}
 use Rattle.som_laws.proofs.Members.{Apart, apart_doubles, mem_right, mem_split}
-use Rattle.som_rules.specs.Modules.{AreDeclared, module_in}
-use Rattle.som_rules.specs.Places.{IsTable, class_of_place}
-use Rattle.som_rules.specs.Plainly.{ClassesHold, Introduces, IsAmong}
-use Rattle.som_rules.proofs.Before.{none_both}
-use Rattle.som_rules.proofs.ClassTable.{is_table}
-use Rattle.som_rules.proofs.Falling.{falls}
-use Rattle.som_rules.proofs.KeyLists.{height_there}
-use Rattle.som_rules.proofs.PlainFaces.{classes_say, or_none}
-use Rattle.som_rules.proofs.PlainLists.{differ_apart}
-use Rattle.som_rules.proofs.PlainNames.{say_names}
+use Rattle.som_ancestry.specs.Modules.{AreDeclared, module_in}
+use Rattle.som_ancestry.specs.Places.{IsTable, class_of_place}
+use Rattle.som_lawful.specs.Plainly.{ClassesHold, Introduces, IsAmong}
+use Rattle.som_ancestry.proofs.Before.{none_both}
+use Rattle.som_ancestry.proofs.ClassTable.{is_table}
+use Rattle.som_lawful.proofs.Falling.{falls}
+use Rattle.som_ancestry.proofs.KeyLists.{height_there}
+use Rattle.som_ancestry.proofs.Conformity.{or_none}
+use Rattle.som_lawful.proofs.PlainFaces.{classes_say}
+use Rattle.som_lawful.proofs.PlainLists.{differ_apart}
+use Rattle.som_lawful.proofs.PlainNames.{say_names}
 use Rattle.som_hierarchy.proofs.Lists.{find_left, find_mem, get_mem, map_mem, mem_get, mem_map}
 use Rattle.som_hierarchy.proofs.Owners.{entry_class, entry_mem, moved_to}
 use Rattle.som_hierarchy.proofs.Standing.{named_one}

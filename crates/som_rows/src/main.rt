@@ -1,61 +1,31 @@
 //! Runs tables of cases on the top call, and tells where what comes differs from what was written down.
 #![tactic(auto)]
 
-mod command;
-mod runner;
-
-use runner::Runner;
-use som_cases::{Report, Sums, lines_of};
-use som_model::NoMemory;
+use som_cmd::run_som;
+use som_host::HostTable;
+use som_io::{MemSink, MemStore};
+use som_model::{List, Text};
+use som_tried::{Commands, run_tables};
 use std::alloc::Global;
-use std::env::Env;
-use std::rt::Files;
-use std::{env, fs, io};
+use std::io;
+
+// The commands of the top call.
+#[derive(Clone, Copy)]
+struct Top;
+
+impl Commands for Top {
+    fn run(
+        &self,
+        alloc: Global,
+        words: &List<Text>,
+        store: &mut MemStore,
+        out: &mut MemSink,
+        host: &HostTable,
+    ) -> u8 {
+        run_som(alloc, words, store, out, host)
+    }
+}
 
 fn main(rt: HostRuntime) -> io::Result<()> {
-    run_tables(&rt, rt.alloc())
-}
-
-// Runs the tables that the arguments name.
-fn run_tables<R: Env + Files + Print + AllocGlobal>(rt: &R, alloc: Global) -> io::Result<()> {
-    let mut runner = Runner::new(alloc).map_err(out_of_memory)?;
-    run_all(rt, alloc, &mut runner)
-}
-
-fn run_all<R: Env + Files + Print + AllocGlobal>(
-    rt: &R,
-    alloc: Global,
-    runner: &mut Runner,
-) -> io::Result<()> {
-    let mut sums = Sums::NONE;
-    for name in env::args(rt)?.skip(1) {
-        sums.add(run_table(rt, alloc, runner, name.as_str())?);
-    }
-    println!(rt; "all: {}", sums)
-}
-
-// Runs a table, and tells what came of it.
-fn run_table<R: Files + Print + AllocGlobal>(
-    rt: &R,
-    alloc: Global,
-    runner: &mut Runner,
-    name: &str,
-) -> io::Result<Sums> {
-    let table = fs::read(rt, name)?;
-    let lines = lines_of(alloc, table.as_slice()).map_err(out_of_memory)?;
-    runner
-        .run_table(name, lines.as_slice())
-        .map_err(out_of_memory)?;
-    tell(rt, name, &runner.report)
-}
-
-fn tell<R: Print>(rt: &R, name: &str, report: &Report) -> io::Result<Sums> {
-    rt.print(report.text.as_str())?;
-    let sums = report.sums;
-    println!(rt; "{name}: {}", sums)?;
-    Ok(sums)
-}
-
-fn out_of_memory(_e: NoMemory) -> io::Error {
-    io::Error::from(io::ErrorKind::OutOfMemory)
+    run_tables(&rt, rt.alloc(), &Top)
 }

@@ -6,12 +6,12 @@ use Rattle.som_model.specs.Class.{Class, entry_of, introduced_sig}
 use Rattle.som_model.specs.Classes.{is_a}
 use Rattle.som_model.specs.Owner.{introduces}
 use Rattle.som_model.specs.declared.key.ClassKey.{ClassKey}
-use Rattle.som_rules.specs.Places.{with_kernel, key_at, face_at, IsTable, Finds}
-use Rattle.som_rules.specs.Walk.{AreLists}
-use Rattle.som_rules.specs.Inherited.{inherits}
-use Rattle.som_rules.proofs.KeyLists.{alike}
-use Rattle.som_rules.proofs.Descending.{is_a_place, is_a_none}
-use Rattle.som_rules.proofs.Owners.{entry_there}
+use Rattle.som_ancestry.specs.Places.{with_kernel, key_at, face_at, IsTable, Finds}
+use Rattle.som_ancestry.specs.Walk.{AreLists}
+use Rattle.som_ancestry.specs.Inherited.{inherits}
+use Rattle.som_ancestry.proofs.KeyLists.{alike}
+use Rattle.som_ancestry.proofs.Descending.{is_a_place, is_a_none}
+use Rattle.som_ancestry.proofs.Owners.{entry_there}
 
 middle : (a b c : Bool) → b ≡ false → false ≡ ((a && b) && c)
 middle true true c e = absurd (true≢false e)

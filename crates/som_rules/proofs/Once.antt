@@ -6,14 +6,9 @@ use Rattle.som_model.specs.Ancestors.{anc}
 use Rattle.som_model.specs.Class.{Class}
 use Rattle.som_model.specs.Classes.{class_at, hierarchy}
 use Rattle.som_model.specs.Rules.{breach, introduced_by, s8}
-use Rattle.som_rules.specs.Along.{introduced_at, s8_at}
-use Rattle.som_rules.specs.Places.{with_kernel, class_of_place, key_at, face_at}
-use Rattle.som_model.specs.declared.class.ClassFace.{ClassFace}
-use Rattle.som_rules.proofs.Rows.{face_there}
-use Rattle.som_rules.specs.Walk.{AreLists}
-use Rattle.som_rules.specs.declared.types.Declared.{Declared}
-use Rattle.som_rules.specs.Modules.{class_of, classes_of}
-use Rattle.som_rules.proofs.DeclaredClasses.{long_map, item_of}
+use Rattle.som_ancestry.specs.Along.{introduced_at, s8_at}
+use Rattle.som_ancestry.specs.Places.{with_kernel, class_of_place, key_at}
+use Rattle.som_ancestry.specs.Walk.{AreLists}
 
 introduced_there : (cs : List Class) (a : ℕ) → class_at cs (key_at cs a) ≡ Some (class_of_place cs a) → introduced_by cs (key_at cs a) ≡ introduced_at cs a
 introduced_there cs a e = rw e refl
@@ -48,14 +43,3 @@ s8_is cs all i c t at =
     sym (along (with_kernel cs) all t (slice_index_or all (i + 4) []) (t.low (i + 4)))
     ∙ ap (flat_map (introduced_by (with_kernel cs))) (t.by (i + 4) r.0)
     ∙ ap (λ k. flat_map (introduced_by (with_kernel cs)) (anc (hierarchy (with_kernel cs)) k)) r.1)
-
--- the entries of a declared class
-pub entries_there : (ds : List Declared) (p : ℕ) (d : Declared) → 4 ≤ p → p < length (with_kernel (classes_of ds)) → (slice_index_or ds (p - 4) d).decl.now.face.entries ≡ (face_at (with_kernel (classes_of ds)) p).entries
-entries_there ds p d le lt =
-    let cs = classes_of ds in
-    let e : p ≡ suc (suc (suc (suc (p - 4)))) = omega (arith, le) in
-    let own : p - 4 < length ds = omega (arith, le, lt, long_map class_of ds) in
-    let within : p - 4 < length cs = omega (arith, le, lt) in
-    ap (λ (c : Class). c.decl.face.entries) (item_of ds (p - 4) d own)
-    ∙ ap (λ (z : ClassFace). z.entries) (sym (face_there cs (p - 4) (class_of d) within))
-    ∙ ap (λ z. (face_at (with_kernel cs) z).entries) (sym e)

@@ -8,9 +8,9 @@ use Rattle.som_model.specs.Rules.{RuleBreach, breach, demand_of}
 use Rattle.som_model.specs.declared.key.ClassKey.{ClassKey}
 use Rattle.som_model.specs.declared.key.MethodRef.{MethodRef}
 use Rattle.som_model.specs.declared.class.Override.{Override}
-use Rattle.som_rules.specs.Inherited.{may_override, overridden, overrides_from}
-use Rattle.som_rules.proofs.ClassTable.{drop_end}
-use Rattle.som_rules.proofs.Passes.{first_both}
+use Rattle.som_ancestry.specs.Inherited.{may_override, overridden, overrides_from}
+use Rattle.som_ancestry.proofs.ClassTable.{drop_end}
+use Rattle.som_ancestry.proofs.Passes.{first_both}
 
 drop_here : (os : List Override) (i : ℕ) (o : Override) → i < length os → o ≡ slice_index_or os i o → drop i os ≡ o ∷ drop (i + 1) os
 drop_here os i o lt is =

@@ -4,11 +4,11 @@ use Rattle.som_model.specs.Lists.{Mem, first}
 use Rattle.som_model.specs.Class.{Class}
 use Rattle.som_model.specs.declared.key.ClassKey.{ClassKey}
 use Rattle.som_model.specs.declared.key.MethodRef.{MethodRef}
-use Rattle.som_rules.specs.declared.types.VerifyFault.{VerifyFault}
-use Rattle.som_rules.specs.Told.{Tells}
-use Rattle.som_rules.specs.Inherited.{overridden, overrides_from, replaced_from, selects_from}
-use Rattle.som_rules.proofs.Conformity.{tells_here, tells_later}
-use Rattle.som_rules.proofs.Passes.{first_both}
+use Rattle.som_ancestry.specs.declared.types.VerifyFault.{VerifyFault}
+use Rattle.som_ancestry.specs.Told.{Tells}
+use Rattle.som_ancestry.specs.Inherited.{overridden, overrides_from, replaced_from, selects_from}
+use Rattle.som_ancestry.proofs.Conformity.{tells_here, tells_later}
+use Rattle.som_ancestry.proofs.Passes.{first_both}
 
 -- a breach of the overrides is that of both
 pub overrides_tell : (cs : List Class) (k : ClassKey) (c : Class) (none : List MethodRef) (e : VerifyFault) → none ≡ [] → Tells {A = Unit {0}} (first (overrides_from cs k c none c.decl.overrides)) (Err e)

@@ -7,10 +7,10 @@ use Rattle.som_model.specs.Rules.{RuleBreach, breach, demand_of}
 use Rattle.som_model.specs.declared.key.ClassKey.{ClassKey}
 use Rattle.som_model.specs.declared.key.MethodRef.{MethodRef}
 use Rattle.som_model.specs.declared.class.Select.{Select}
-use Rattle.som_rules.specs.Inherited.{may_select, selects_from}
-use Rattle.som_rules.proofs.ClassTable.{drop_end}
+use Rattle.som_ancestry.specs.Inherited.{may_select, selects_from}
+use Rattle.som_ancestry.proofs.ClassTable.{drop_end}
 use Rattle.som_rules.proofs.Overriding.{demanded, refused}
-use Rattle.som_rules.proofs.Passes.{first_both}
+use Rattle.som_ancestry.proofs.Passes.{first_both}
 
 drop_here : (ss : List Select) (i : ℕ) (s : Select) → i < length ss → s ≡ slice_index_or ss i s → drop i ss ≡ s ∷ drop (i + 1) ss
 drop_here ss i s lt is =

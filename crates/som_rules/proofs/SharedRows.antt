@@ -15,13 +15,13 @@ use Rattle.som_model.proofs.NamedLaws.{hierarchy_same}
 use Rattle.som_laws.proofs.Laws.{among_mem, ancestors_apart}
 use Rattle.som_laws.proofs.Members.{Apart}
 use Rattle.som_order.specs.Names.{texts}
-use Rattle.som_rules.specs.Places.{class_of_place, face_at, key_at}
-use Rattle.som_rules.specs.Walk.{AreLists}
-use Rattle.som_rules.specs.Along.{introduced_at, doubles_breach, s8_at}
+use Rattle.som_ancestry.specs.Places.{class_of_place, face_at, key_at}
+use Rattle.som_ancestry.specs.Walk.{AreLists}
+use Rattle.som_ancestry.specs.Along.{introduced_at, doubles_breach, s8_at}
 use Rattle.som_rules.specs.Shared.{Twice, AreSharedRows, all_introduced, kept, row_names}
-use Rattle.som_rules.proofs.ClassTable.{drop_end}
-use Rattle.som_rules.proofs.Finding.{mem_place}
-use Rattle.som_rules.proofs.PlainLists.{mem_map}
+use Rattle.som_ancestry.proofs.ClassTable.{drop_end}
+use Rattle.som_ancestry.proofs.Finding.{mem_place}
+use Rattle.som_lawful.proofs.PlainLists.{mem_map}
 use Rattle.som_rules.proofs.Sharing.{doubles_kept, twice_among}
 
 abbrev names_of : Class → List (List ℕ)

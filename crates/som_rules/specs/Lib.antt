@@ -1,12 +1,1 @@
-pub mod Told
-pub mod Modules
-pub mod Places
-pub mod Standing
-pub mod Walk
-pub mod Along
 pub mod Shared
-pub mod Fitting
-pub mod Typed
-pub mod Inherited
-pub mod Faces
-pub mod Plainly

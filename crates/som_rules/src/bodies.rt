@@ -1,13 +1,12 @@
 ghost use Rattle.som_model.specs.Class.{introduced};
 ghost use Rattle.som_model.specs.Lists.{first};
 ghost use Rattle.som_model.specs.Rules.{body_fits, s14};
-ghost use Rattle.som_rules.specs.Fitting.{bodies_from, takes};
-ghost use Rattle.som_rules.specs.Modules.{class_of, classes_of};
-ghost use Rattle.som_rules.specs.Told.{Tells};
+ghost use Rattle.som_lawful.specs.Fitting.{bodies_from, takes};
+ghost use Rattle.som_ancestry.specs.Modules.{class_of, classes_of};
+ghost use Rattle.som_ancestry.specs.Told.{Tells};
 ghost use Rattle.std.specs.Prelude.{◌≡◌, length, flat_map};
 
-use crate::pass::refusal;
-use crate::types::{Declared, VerifyFault};
+use som_ancestry::{Declared, VerifyFault, refusal};
 use som_model::{Body, Entry, Sig, ValueType, Variable};
 use std::alloc::Global;
 

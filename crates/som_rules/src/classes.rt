@@ -1,44 +1,25 @@
-ghost use Rattle.som_model.specs.Class.{class_in};
 ghost use Rattle.som_model.specs.Conforming.{each_after, first_of_members};
 ghost use Rattle.som_model.specs.Kernel.{kernel as kernels, kernel_interface};
 ghost use Rattle.som_model.specs.Lists.{first, or_else};
-ghost use Rattle.som_model.specs.Rules.{s2, s3};
+ghost use Rattle.som_model.specs.Rules.{s2};
 ghost use Rattle.som_order.specs.Names.{texts};
-ghost use Rattle.som_rules.specs.Faces.{classes_breach, methods_breach, placed_breach, standing_breach, types_breach};
-ghost use Rattle.som_rules.specs.Modules.{classes_of};
-ghost use Rattle.som_rules.specs.Places.{IsTable, with_kernel};
-ghost use Rattle.som_rules.specs.Told.{Tells};
-ghost use Rattle.som_rules.specs.Walk.{AreAncestors, AreLists, AreLow};
-ghost use Rattle.std.specs.Prelude.{◌≡◌, ◌≤◌, ◌++◌, length, flat_map, map, IfOk, None};
+ghost use Rattle.som_ancestry.specs.Faces.{classes_breach, methods_breach, placed_breach, standing_breach, types_breach};
+ghost use Rattle.som_ancestry.specs.Modules.{classes_of};
+ghost use Rattle.som_ancestry.specs.Places.{IsTable, with_kernel};
+ghost use Rattle.som_ancestry.specs.Told.{Tells};
+ghost use Rattle.som_ancestry.specs.Walk.{AreLists};
+ghost use Rattle.std.specs.Prelude.{◌≡◌, ◌≤◌, length, None};
 
-use crate::ancestry::ancestors;
 use crate::introduced::names_introduced_once;
-use crate::members::{entries_differ, parents_differ, variables_differ};
+use crate::members::{entries_differ, variables_differ};
 use crate::metaclasses::metaclasses_descend;
 use crate::moved::entries_moved_up;
 use crate::overrides::overrides_inherited;
-use crate::parents::parents_stand;
 use crate::signatures::types_known;
-use crate::table::{KERNEL_CLASSES, class_names};
-use crate::types::{Declared, VerifyFault};
 use indexmap::IndexSet;
-use som_model::{ClassDecl, ClassFace, List, Module, NoMemory, kernel_faces};
+use som_ancestry::{Declared, KERNEL_CLASSES, VerifyFault, class_names, standing_ancestors};
+use som_model::{ClassFace, List, kernel_faces};
 use std::alloc::Global;
-
-/// Adds classes of a module to those that were declared.
-pub fn declare<'a>(
-    declared: Vec<Declared<'a>>,
-    home: Module,
-    classes: &'a [ClassDecl],
-) -> Result<Vec<Declared<'a>>, NoMemory>
-    ensures { IfOk result (λ all. classes_of all.items ≡ classes_of declared.entry.items ++ map (class_in home) classes.now) }
-{
-    let mut all = declared;
-    for decl in classes {
-        all.push(Declared { module: home, decl })?;
-    }
-    Ok(all)
-}
 
 /// The rules S1 to S10, which look at no body, where the types of the first `base` classes name no class after them.
 pub fn classes_hold(alloc: Global, classes: &[Declared], base: usize) -> Result<(), VerifyFault>
@@ -62,34 +43,6 @@ fn named_hold(
 {
     let lists = standing_ancestors(alloc, table, classes)?;
     placed_hold(alloc, table, classes, lists.as_slice(), base)
-}
-
-/// The ancestors of each class by places, where parents stand before their classes and none stands twice.
-pub fn standing_ancestors(
-    alloc: Global,
-    table: &IndexSet<&[u8]>,
-    classes: &[Declared],
-) -> Result<Vec<List<usize>>, VerifyFault>
-    requires { IsTable (classes_of classes.now) (texts table.now.keys) }
-    ensures tells { Tells (standing_breach (classes_of classes.now)) result }
-    ensures lists { IfOk result (λ lists. AreLists (with_kernel (classes_of classes.now)) lists.items) }
-{
-    let rows = parents_stand(alloc, table, classes)?;
-    distinct_ancestors(alloc, classes, &rows)
-}
-
-// The ancestors of each class by the places of the parents, where no parent stands twice.
-fn distinct_ancestors(
-    alloc: Global,
-    classes: &[Declared],
-    rows: &[List<usize>],
-) -> Result<Vec<List<usize>>, VerifyFault>
-    requires { AreLow rows.now }
-    ensures tells { Tells (first (flat_map s3 (classes_of classes.now))) result }
-    ensures lists { IfOk result (λ lists. AreAncestors rows.now (length rows.now) lists.items) }
-{
-    parents_differ(alloc, classes)?;
-    Ok(ancestors(alloc, rows)?)
 }
 
 // The rules S4 to S10, for classes whose ancestors are known.

@@ -1,11 +1,9 @@
-ghost use Rattle.som_model.specs.Class.{bare};
-ghost use Rattle.som_rules.specs.Faces.{faces_breach};
-ghost use Rattle.som_rules.specs.Told.{Tells, of_release};
-ghost use Rattle.std.specs.Prelude.{◌≡◌, ◌++◌, ◌∷◌, [], map, IfOk, OnOk};
+ghost use Rattle.som_ancestry.specs.Faces.{faces_breach};
+ghost use Rattle.som_ancestry.specs.Told.{Tells, of_release};
 
-use crate::classes::{classes_hold, declare};
-use crate::types::VerifyFault;
-use som_model::{ClassDecl, ClassFace, List, Module, NoMemory};
+use crate::classes::classes_hold;
+use som_ancestry::{VerifyFault, declare};
+use som_model::{ClassDecl, Module};
 use std::alloc::Global;
 
 /// The rules S1 to S10, which look at no body.
@@ -14,28 +12,4 @@ pub fn faces_ok(alloc: Global, classes: &[ClassDecl]) -> Result<(), VerifyFault>
 {
     let declared = declare(Vec::new(alloc), Module::Library, classes)?;
     classes_hold(alloc, &declared, 0)
-}
-
-/// Classes of which the faces alone are known.
-pub fn bare_classes(alloc: Global, faces: &[ClassFace]) -> Result<List<ClassDecl>, NoMemory>
-    ensures { IfOk result (λ classes. classes ≡ map bare faces.now) }
-{
-    let mut classes = List::new(alloc);
-    for face in faces {
-        add_bare(alloc, &mut classes, face)?;
-    }
-    Ok(classes)
-}
-
-fn add_bare(alloc: Global, classes: &mut List<ClassDecl>, face: &ClassFace) -> Result<(), NoMemory>
-    ensures { OnOk result (classes.new ≡ classes.old ++ bare face.now ∷ []) }
-{
-    let face = face.copy(alloc)?;
-    classes.push(ClassDecl {
-        face,
-        variables: List::new(alloc),
-        bodies: List::new(alloc),
-        overrides: List::new(alloc),
-        selects: List::new(alloc),
-    })
 }

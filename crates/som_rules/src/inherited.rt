@@ -2,26 +2,17 @@ ghost use Rattle.som_model.specs.Class.{entry_of, introduced_sig};
 ghost use Rattle.som_model.specs.Kernel.{kernel_interface};
 ghost use Rattle.som_model.specs.Lists.{some};
 ghost use Rattle.som_order.specs.Names.{texts};
-ghost use Rattle.som_rules.specs.Inherited.{inherits, moved_to as moved};
-ghost use Rattle.som_rules.specs.Modules.{classes_of};
-ghost use Rattle.som_rules.specs.Places.{IsTable, key_at, with_kernel};
-ghost use Rattle.som_rules.specs.Walk.{AreLists};
+ghost use Rattle.som_ancestry.specs.Inherited.{inherits, moved_to as moved};
+ghost use Rattle.som_ancestry.specs.Modules.{classes_of};
+ghost use Rattle.som_ancestry.specs.Places.{IsTable, key_at, with_kernel};
+ghost use Rattle.som_ancestry.specs.Walk.{AreLists};
 ghost use Rattle.std.specs.Prelude.{◌≡◌, ◌==◌, ◌&&◌, ◌<◌, not, length, is_some, option_copied, slice_index_or, []};
 
-use crate::ancestry::{has_place, item};
-use crate::introduced::entries_at;
-use crate::table::{KERNEL_CLASSES, find_class};
-use crate::types::Declared;
 use indexmap::IndexSet;
+use som_ancestry::{
+    Declared, KERNEL_CLASSES, Method, entries_at, find_class, find_entry, has_place, item,
+};
 use som_model::{ClassFace, ClassKey, Entry, List, Sig, Text};
-use som_order::name_of;
-
-/// A method by a class and a name.
-#[derive(Clone, Copy)]
-pub struct Method<'a> {
-    pub class: &'a ClassKey,
-    pub name: &'a Text,
-}
 
 /// Whether the class at a place has a proper ancestor that introduces the method.
 pub fn is_inherited(
@@ -63,36 +54,4 @@ fn introduces(entries: &[Entry], name: &Text) -> bool
         Some(Entry::Introduced { .. }) => true,
         _ => false,
     }
-}
-
-/// To where the entry of that name was moved, if it was.
-pub fn moved_to<'a>(entries: &'a [Entry], name: &Text) -> Option<&'a ClassKey>
-    ensures { option_copied result ≡ moved (entry_of entries.now name.now) }
-{
-    match find_entry(entries, name) {
-        Some(Entry::Moved { to, .. }) => Some(to),
-        _ => None,
-    }
-}
-
-/// The signature that the entry of that name introduces, if it does.
-pub fn introduced_by<'a>(entries: &'a [Entry], name: &Text) -> Option<&'a Sig>
-    ensures { option_copied result ≡ introduced_sig (entry_of entries.now name.now) }
-{
-    match find_entry(entries, name) {
-        Some(Entry::Introduced { sig, .. }) => Some(sig),
-        _ => None,
-    }
-}
-
-/// The entry of that name.
-pub fn find_entry<'a>(entries: &'a [Entry], name: &Text) -> Option<&'a Entry>
-    ensures { option_copied result ≡ entry_of entries.now name.now }
-{
-    for entry in entries {
-        if name_of(entry).is(name.as_slice()) {
-            return Some(entry);
-        }
-    }
-    None
 }

@@ -3,21 +3,18 @@ ghost use Rattle.som_model.specs.Kernel.{kernel_interface};
 ghost use Rattle.som_model.specs.Lists.{Mem, first};
 ghost use Rattle.som_model.specs.Rules.{s8};
 ghost use Rattle.som_order.specs.Names.{texts};
-ghost use Rattle.som_rules.specs.Along.{doubles_breach, s8_at};
-ghost use Rattle.som_rules.specs.Modules.{class_of, classes_of};
-ghost use Rattle.som_rules.specs.Places.{face_at, with_kernel};
+ghost use Rattle.som_ancestry.specs.Along.{doubles_breach, s8_at};
+ghost use Rattle.som_ancestry.specs.Modules.{class_of, classes_of};
+ghost use Rattle.som_ancestry.specs.Places.{face_at, with_kernel};
 ghost use Rattle.som_rules.specs.Shared.{AreSharedRows, row_names};
-ghost use Rattle.som_rules.specs.Told.{Tells};
-ghost use Rattle.som_rules.specs.Walk.{AreLists};
-ghost use Rattle.som_rules.specs.declared.types.Declared.{Declared as Known};
+ghost use Rattle.som_ancestry.specs.Told.{Tells};
+ghost use Rattle.som_ancestry.specs.Walk.{AreLists};
+ghost use Rattle.som_ancestry.specs.declared.types.Declared.{Declared as Known};
 ghost use Rattle.std.specs.Prelude.{◌≡◌, ◌<◌, ◌+◌, ◌++◌, ℕ, [], drop, length, flat_map, slice_get, slice_index_or, OnOk, Some};
 
-use crate::ancestry::item;
-use crate::double::add;
 use crate::members::each_once;
 use crate::shared::{add_rows, shared_rows};
-use crate::table::KERNEL_CLASSES;
-use crate::types::{Declared, VerifyFault};
+use som_ancestry::{Declared, KERNEL_CLASSES, VerifyFault, add, item};
 use som_model::{ClassFace, Entry, List, NoMemory};
 use std::alloc::Global;
 
@@ -97,22 +94,4 @@ pub fn add_introduced<'a>(names: &mut Vec<&'a [u8]>, entries: &'a [Entry]) -> Re
         }
     }
     Ok(())
-}
-
-/// The entries of the class at a place.
-pub fn entries_at<'a>(
-    kernel: &'a [ClassFace],
-    classes: &[Declared<'a>],
-    place: usize,
-) -> &'a [Entry]
-    requires kernel { kernel.now ≡ kernel_interface.classes }
-    requires place { place < length (with_kernel (classes_of classes.now)) }
-    ensures { result.now ≡ (face_at (with_kernel (classes_of classes.now)) place).entries }
-{
-    if place < KERNEL_CLASSES {
-        kernel[place].entries.as_slice()
-    } else {
-        let decl = classes[place - KERNEL_CLASSES].decl;
-        decl.face.entries.as_slice()
-    }
 }

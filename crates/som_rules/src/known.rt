@@ -1,12 +1,11 @@
 ghost use Rattle.som_model.specs.Rules.{is_known, is_value_type};
 ghost use Rattle.som_order.specs.Names.{texts};
-ghost use Rattle.som_rules.specs.Modules.{classes_of};
-ghost use Rattle.som_rules.specs.Places.{IsTable, with_kernel};
+ghost use Rattle.som_ancestry.specs.Modules.{classes_of};
+ghost use Rattle.som_ancestry.specs.Places.{IsTable, with_kernel};
 ghost use Rattle.std.specs.Prelude.{◌≡◌, take};
 
-use crate::table::find_class;
-use crate::types::Declared;
 use indexmap::IndexSet;
+use som_ancestry::{Declared, find_class};
 use som_model::ValueType;
 
 /// Whether a type is of no class, or of one among the first `number` classes, the kernel's counted.

@@ -1,37 +1,16 @@
 ghost use Rattle.som_model.specs.Class.{entry_name};
 ghost use Rattle.som_model.specs.Lists.{first};
-ghost use Rattle.som_model.specs.Rules.{s3, s6, s7};
+ghost use Rattle.som_model.specs.Rules.{s6, s7};
 ghost use Rattle.som_order.specs.Names.{texts};
-ghost use Rattle.som_rules.specs.Along.{doubles_breach};
-ghost use Rattle.som_rules.specs.Modules.{class_of, classes_of};
-ghost use Rattle.som_rules.specs.Told.{Tells};
+ghost use Rattle.som_ancestry.specs.Along.{doubles_breach};
+ghost use Rattle.som_ancestry.specs.Modules.{class_of, classes_of};
+ghost use Rattle.som_ancestry.specs.Told.{Tells};
 ghost use Rattle.std.specs.Prelude.{◌≡◌, map, flat_map, IfOk};
 
-use crate::double::{add, first_double, has_double};
-use crate::pass::refusal;
-use crate::types::{Declared, VerifyFault};
+use som_ancestry::{Declared, VerifyFault, add, first_double, refusal};
 use som_model::{Entry, NoMemory, Variable};
 use som_order::name_of;
 use std::alloc::Global;
-
-/// S3: no parent of a class stands twice.
-pub fn parents_differ(alloc: Global, classes: &[Declared]) -> Result<(), VerifyFault>
-    ensures { Tells (first (flat_map s3 (classes_of classes.now))) result }
-{
-    for class in classes {
-        own_parents_differ(alloc, class)?;
-    }
-    Ok(())
-}
-
-fn own_parents_differ(alloc: Global, class: &Declared) -> Result<(), VerifyFault>
-    ensures { Tells (first (s3 (class_of class.now))) result }
-{
-    if has_double(class.decl.face.parents.as_slice()) {
-        return Err(refusal(alloc, 3, class.decl, b"-"));
-    }
-    Ok(())
-}
 
 /// S6: the names of a release order are distinct.
 pub fn entries_differ(alloc: Global, classes: &[Declared]) -> Result<(), VerifyFault>

@@ -4,17 +4,16 @@ ghost use Rattle.som_model.specs.Kernel.{kernel, som_class};
 ghost use Rattle.som_model.specs.Lists.{every, first, option_list};
 ghost use Rattle.som_model.specs.Rules.{s2, s4};
 ghost use Rattle.som_order.specs.Names.{texts};
-ghost use Rattle.som_rules.specs.Modules.{class_of, classes_of};
-ghost use Rattle.som_rules.specs.Places.{IsTable, with_kernel};
-ghost use Rattle.som_rules.specs.Told.{Tells};
-ghost use Rattle.som_rules.specs.Walk.{AreLists};
+ghost use Rattle.som_ancestry.specs.Modules.{class_of, classes_of};
+ghost use Rattle.som_ancestry.specs.Places.{IsTable, with_kernel};
+ghost use Rattle.som_ancestry.specs.Told.{Tells};
+ghost use Rattle.som_ancestry.specs.Walk.{AreLists};
 ghost use Rattle.std.specs.Prelude.{◌≡◌, true, drop, flat_map, is_some, None};
 
-use crate::ancestry::{has_place, item};
-use crate::pass::refusal;
-use crate::table::{KERNEL_CLASSES, SOM_CLASS, find_class};
-use crate::types::{Declared, VerifyFault};
 use indexmap::IndexSet;
+use som_ancestry::{
+    Declared, KERNEL_CLASSES, SOM_CLASS, VerifyFault, find_class, has_place, item, refusal,
+};
 use som_model::{ClassKey, List};
 use std::alloc::Global;
 

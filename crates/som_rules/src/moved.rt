@@ -2,18 +2,16 @@ ghost use Rattle.som_model.specs.Kernel.{kernel_interface};
 ghost use Rattle.som_model.specs.Lists.{first};
 ghost use Rattle.som_model.specs.Rules.{s9};
 ghost use Rattle.som_order.specs.Names.{texts};
-ghost use Rattle.som_rules.specs.Inherited.{moved_entry};
-ghost use Rattle.som_rules.specs.Modules.{class_of, classes_of};
-ghost use Rattle.som_rules.specs.Places.{IsTable, key_at, with_kernel};
-ghost use Rattle.som_rules.specs.Told.{Tells};
-ghost use Rattle.som_rules.specs.Walk.{AreLists};
+ghost use Rattle.som_ancestry.specs.Inherited.{moved_entry};
+ghost use Rattle.som_ancestry.specs.Modules.{class_of, classes_of};
+ghost use Rattle.som_ancestry.specs.Places.{IsTable, key_at, with_kernel};
+ghost use Rattle.som_ancestry.specs.Told.{Tells};
+ghost use Rattle.som_ancestry.specs.Walk.{AreLists};
 ghost use Rattle.std.specs.Prelude.{◌≡◌, ◌<◌, drop, length, flat_map};
 
-use crate::inherited::{Method, is_inherited};
-use crate::pass::refusal;
-use crate::table::KERNEL_CLASSES;
-use crate::types::{Declared, VerifyFault};
+use crate::inherited::is_inherited;
 use indexmap::IndexSet;
+use som_ancestry::{Declared, KERNEL_CLASSES, Method, VerifyFault, refusal};
 use som_model::{ClassFace, Entry, List};
 use std::alloc::Global;
 

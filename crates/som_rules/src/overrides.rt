@@ -2,25 +2,23 @@ ghost use Rattle.som_model.specs.Conforming.{each_after};
 ghost use Rattle.som_model.specs.Kernel.{kernel as kernels, kernel_interface};
 ghost use Rattle.som_model.specs.Keys.{same_method};
 ghost use Rattle.som_model.specs.Lists.{Mem, first, some};
-ghost use Rattle.som_model.specs.Owner.{owner};
 ghost use Rattle.som_model.specs.Classes.{class_at};
 ghost use Rattle.som_model.specs.Rules.{s2, s9, s10};
 ghost use Rattle.som_model.specs.declared.key.ClassKey.{ClassKey};
 ghost use Rattle.som_order.specs.Names.{texts};
-ghost use Rattle.som_rules.specs.Inherited.{may_override as allowed, method_of, overridden, overrides_from, replaced_from};
-ghost use Rattle.som_rules.specs.Modules.{class_of, classes_of};
-ghost use Rattle.som_rules.specs.Places.{IsTable, key_at, with_kernel};
-ghost use Rattle.som_rules.specs.Told.{Tells};
-ghost use Rattle.som_rules.specs.Walk.{AreLists};
+ghost use Rattle.som_ancestry.specs.Inherited.{may_override as allowed, method_of, overridden, overrides_from, replaced_from};
+ghost use Rattle.som_ancestry.specs.Modules.{class_of, classes_of};
+ghost use Rattle.som_ancestry.specs.Places.{IsTable, key_at, with_kernel};
+ghost use Rattle.som_ancestry.specs.Told.{Tells};
+ghost use Rattle.som_ancestry.specs.Walk.{AreLists};
 ghost use Rattle.std.specs.Prelude.{◌≡◌, ◌<◌, ◌++◌, [], true, drop, length, map, flat_map, is_some, None, OnOk};
 
-use crate::inherited::{Method, is_inherited, moved_to};
-use crate::introduced::entries_at;
-use crate::pass::refusal;
+use crate::inherited::is_inherited;
 use crate::selects::selects_follow;
-use crate::table::{KERNEL_CLASSES, find_class};
-use crate::types::{Declared, VerifyFault};
 use indexmap::IndexSet;
+use som_ancestry::{
+    Declared, KERNEL_CLASSES, Method, VerifyFault, entries_at, find_class, owner_of, refusal,
+};
 use som_model::{ClassFace, List, MethodRef};
 use std::alloc::Global;
 
@@ -160,37 +158,4 @@ fn is_same(method: &Method, other: &Method) -> bool
     ensures { result ≡ same_method (method_of method.now) (method_of other.now) }
 {
     method.class.is(other.class) && method.name.is(other.name.as_slice())
-}
-
-/// The method as the class has it that introduces it.
-pub fn owner_of<'a>(
-    table: &IndexSet<&[u8]>,
-    kernel: &'a [ClassFace],
-    classes: &[Declared<'a>],
-    method: &'a MethodRef,
-) -> Method<'a>
-    requires table { IsTable (classes_of classes.now) (texts table.now.keys) }
-    requires kernel { kernel.now ≡ kernel_interface.classes }
-    requires moved { first (flat_map (s9 (with_kernel (classes_of classes.now))) (classes_of classes.now)) ≡ None }
-    ensures { method_of result ≡ owner (with_kernel (classes_of classes.now)) method.now }
-{
-    let name = &method.name;
-    match find_class(
-        table,
-        classes,
-        &method.class,
-        classes.len() + KERNEL_CLASSES,
-    ) {
-        None => Method {
-            class: &method.class,
-            name,
-        },
-        Some(place) => match moved_to(entries_at(kernel, classes, place), name) {
-            None => Method {
-                class: &method.class,
-                name,
-            },
-            Some(to) => Method { class: to, name },
-        },
-    }
 }

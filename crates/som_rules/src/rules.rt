@@ -1,11 +1,11 @@
-ghost use Rattle.som_rules.specs.Faces.{rules_breach};
-ghost use Rattle.som_rules.specs.Modules.{classes_of};
-ghost use Rattle.som_rules.specs.Told.{Tells};
+ghost use Rattle.som_ancestry.specs.Faces.{rules_breach};
+ghost use Rattle.som_ancestry.specs.Modules.{classes_of};
+ghost use Rattle.som_ancestry.specs.Told.{Tells};
 ghost use Rattle.std.specs.Prelude.{◌≤◌, length};
 
 use crate::bodies::bodies_fit;
 use crate::classes::classes_hold;
-use crate::types::{Declared, VerifyFault};
+use som_ancestry::{Declared, VerifyFault};
 use std::alloc::Global;
 
 /// The rules that look into no block, where of the first `base` classes the faces alone are known: their types

@@ -4,20 +4,18 @@ ghost use Rattle.som_model.specs.Lists.{Mem, first};
 ghost use Rattle.som_model.specs.Rules.{is_parent_below, s9};
 ghost use Rattle.som_model.specs.declared.key.ClassKey.{ClassKey as Key};
 ghost use Rattle.som_order.specs.Names.{texts};
-ghost use Rattle.som_rules.specs.Inherited.{may_select as allowed, method_of, selects_from};
-ghost use Rattle.som_rules.specs.Modules.{class_of, classes_of};
-ghost use Rattle.som_rules.specs.Places.{IsTable, key_at, with_kernel};
-ghost use Rattle.som_rules.specs.Told.{Tells};
-ghost use Rattle.som_rules.specs.Walk.{AreLists};
+ghost use Rattle.som_ancestry.specs.Inherited.{may_select as allowed, method_of, selects_from};
+ghost use Rattle.som_ancestry.specs.Modules.{class_of, classes_of};
+ghost use Rattle.som_ancestry.specs.Places.{IsTable, key_at, with_kernel};
+ghost use Rattle.som_ancestry.specs.Told.{Tells};
+ghost use Rattle.som_ancestry.specs.Walk.{AreLists};
 ghost use Rattle.std.specs.Prelude.{◌≡◌, ◌<◌, true, length, map, flat_map, is_some, slice_get, None};
 
-use crate::descent::descends_by;
-use crate::inherited::Method;
-use crate::overrides::{may_override, owner_of};
-use crate::pass::refusal;
-use crate::table::{KERNEL_CLASSES, find_class};
-use crate::types::{Declared, VerifyFault};
+use crate::overrides::may_override;
 use indexmap::IndexSet;
+use som_ancestry::{
+    Declared, KERNEL_CLASSES, Method, VerifyFault, descends_by, find_class, owner_of, refusal,
+};
 use som_model::{ClassFace, ClassKey, List};
 use std::alloc::Global;
 

@@ -1,16 +1,15 @@
 ghost use Rattle.som_model.specs.Lists.{every, first};
 ghost use Rattle.som_model.specs.Rules.{is_known, is_value_type, s5};
 ghost use Rattle.som_order.specs.Names.{texts};
-ghost use Rattle.som_rules.specs.Modules.{class_of, classes_of};
-ghost use Rattle.som_rules.specs.Places.{IsTable, with_kernel};
-ghost use Rattle.som_rules.specs.Told.{Tells};
-ghost use Rattle.som_rules.specs.Typed.{entry_types, sig_types, variable_types};
+ghost use Rattle.som_ancestry.specs.Modules.{class_of, classes_of};
+ghost use Rattle.som_ancestry.specs.Places.{IsTable, with_kernel};
+ghost use Rattle.som_ancestry.specs.Told.{Tells};
+ghost use Rattle.som_lawful.specs.Typed.{entry_types, sig_types, variable_types};
 ghost use Rattle.std.specs.Prelude.{◌≡◌, take, flat_map};
 
 use crate::known::{type_is_known, type_is_of_value};
-use crate::pass::refusal;
-use crate::types::{Declared, VerifyFault};
 use indexmap::IndexSet;
+use som_ancestry::{Declared, VerifyFault, refusal};
 use som_model::{Entry, Sig, ValueType};
 use std::alloc::Global;
 

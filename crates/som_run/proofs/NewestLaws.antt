@@ -12,16 +12,16 @@ use Rattle.som_model.specs.Classes.{classes, client_classes, interface_classes, 
 use Rattle.som_model.specs.Compatible.{Compatible}
 use Rattle.som_model.specs.Conforming.{ProgramOk, ReleaseOk}
 use Rattle.som_model.specs.Lists.{Mem}
-use Rattle.som_rules.specs.Faces.{faces_breach}
+use Rattle.som_ancestry.specs.Faces.{faces_breach}
 use Rattle.som_hierarchy.proofs.Metas.{meta_of_parent}
-use Rattle.som_naming.specs.ClassLimits.{FaceWithin}
+use Rattle.som_classimage.specs.ClassLimits.{FaceWithin}
 use Rattle.som_libimage.proofs.Decoded.{image_within as release_within}
 use Rattle.som_cliimage.proofs.Decoded.{image_within as program_within}
 use Rattle.som_cliimage.specs.Limits.{IsWithinLimits}
 use Rattle.som_compat.specs.Conditions.{IsCounted}
 use Rattle.som_compat.proofs.Released.{interface_conforms}
 use Rattle.som_counted.proofs.Classes.{program_counts, release_counts}
-use Rattle.som_elab.specs.Bodies.{bodies_of}
+use Rattle.som_methods.specs.Bodies.{bodies_of}
 use Rattle.som_elab.proofs.Apart.{program_apart}
 use Rattle.som_elab.proofs.Conforms.{program_conforms}
 use Rattle.som_linking.proofs.Pairs.{passes}

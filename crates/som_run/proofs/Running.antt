@@ -9,7 +9,7 @@ use Rattle.som_model.specs.Runs.{Ran}
 use Rattle.som_model.specs.RunText.{run_status, run_text}
 use Rattle.som_model.specs.World.{World, world}
 use Rattle.som_classmgr.specs.Asking.{answers_of}
-use Rattle.som_classmgr.specs.Linked.{Linkage}
+use Rattle.som_linked.specs.Linked.{Linkage}
 use Rattle.som_io.specs.Outside.{ShowsAll, ShowsFront}
 use Rattle.som_steps.specs.declared.stop.CommandStop.{CommandStop}
 use Rattle.som_steps.specs.declared.stop.CommandStop.TheVariants as stops

@@ -22,35 +22,37 @@ use Rattle.som_model.specs.Owner.{owner, sig_of}
 use Rattle.som_model.specs.Steps.{◌>>=◌}
 use Rattle.som_model.specs.Typing.{in_body}
 use Rattle.som_laws.proofs.Laws.{among_mem}
-use Rattle.som_read.specs.declared.tree.TypeName.{TypeName}
-use Rattle.som_read.specs.declared.tree.Word.{Word}
-use Rattle.som_idl.specs.declared.tree.Export.TheVariants as exports
-use Rattle.som_idl.specs.declared.tree.IdlInterface.{IdlInterface}
-use Rattle.som_body.specs.declared.tree.BodyText.{BodyText}
-use Rattle.som_rules.specs.Plainly.{ClassesHold}
-use Rattle.som_rules.proofs.Before.{none_both}
-use Rattle.som_rules.proofs.Owners.{flat_none}
+use Rattle.som_syntax.specs.declared.words.TypeName.{TypeName}
+use Rattle.som_syntax.specs.declared.words.Word.{Word}
+use Rattle.som_syntax.specs.declared.interface.Export.TheVariants as exports
+use Rattle.som_syntax.specs.declared.interface.IdlInterface.{IdlInterface}
+use Rattle.som_syntax.specs.declared.body.BodyText.{BodyText}
+use Rattle.som_lawful.specs.Plainly.{ClassesHold}
+use Rattle.som_ancestry.proofs.Before.{none_both}
+use Rattle.som_ancestry.proofs.Owners.{flat_none}
 use Rattle.som_scope.specs.ClassNames.{type_of}
 use Rattle.som_scope.specs.Words.{words}
-use Rattle.som_sema.specs.Building.{after_base, declarations, module_over, texts_breach}
+use Rattle.som_declarations.specs.Known.{after_base}
+use Rattle.som_sema.specs.Building.{declarations, module_over, texts_breach}
 use Rattle.som_drafts.specs.Drafts.{InterfaceDraft, draft_of, variables}
 use Rattle.som_drafts.specs.Items.{chosen, overridden}
-use Rattle.som_sema.specs.Finished.{override_of, selects_at}
+use Rattle.som_declarations.specs.Finished.{override_of, selects_at}
 use Rattle.som_sema.proofs.TextBases.{demanded_text}
 use Rattle.som_sema.proofs.TextInherited.{overridden_says}
-use Rattle.som_rules.specs.Places.{with_kernel}
-use Rattle.som_rules.proofs.PlainLists.{mem_map}
-use Rattle.som_forms.specs.Expressions.{Among}
-use Rattle.som_forms.specs.Locals.{names_of}
+use Rattle.som_ancestry.specs.Places.{with_kernel}
+use Rattle.som_lawful.proofs.PlainLists.{mem_map}
+use Rattle.som_terms.specs.Expressions.{Among}
+use Rattle.som_terms.specs.Locals.{names_of}
+use Rattle.som_terms.proofs.Went.{same_answer, went}
 use Rattle.som_forms.specs.MethodBody.{elaborated_body, parameters}
 use Rattle.som_forms.specs.Statements.{Breaks, elaborated_block}
-use Rattle.som_forms.proofs.Went.{same_answer, went}
-use Rattle.som_elab.specs.Accessors.{Access, accessor_body, attribute_accessors, body_of, place_of}
-use Rattle.som_elab.specs.Bodies.{classes_over, drafts_over, entry_has_one, has_one, operations, text_s13, text_s14, texts_for}
-use Rattle.som_elab.specs.Elaboration.{among_over, elaborated_class, entry_bodies, entry_body, override_block, override_blocks, text_block, with_blocks}
+use Rattle.som_methods.specs.Accessors.{Access, accessor_body, attribute_accessors, body_of, place_of}
+use Rattle.som_elab.specs.Elaboration.{classes_over, drafts_over, among_over}
+use Rattle.som_methods.specs.Bodies.{entry_has_one, has_one, operations, text_s13, text_s14, texts_for}
+use Rattle.som_blocks.specs.Blocks.{elaborated_class, entry_bodies, entry_body, override_block, override_blocks, text_block, with_blocks}
 use Rattle.som_elab.proofs.ClassBodies.{kinds_are, refused_ok}
 use Rattle.som_elab.proofs.Declared.{operation_there, own, variables_apart}
-use Rattle.som_elab.proofs.Fitting.{accessed, at_place, introduced_there, made, variable_made}
+use Rattle.som_methods.proofs.Fitting.{accessed, at_place, introduced_there, made, variable_made}
 use Rattle.som_elab.proofs.Signatures.{as_many, body_signed, draft_there, is_for, operation_signed, override_has_sig}
 use Rattle.som_says.specs.Keeping.{known_classes}
 use Rattle.som_says.specs.Named.{HasMethod, HasVariable}

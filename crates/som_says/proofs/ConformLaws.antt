@@ -23,27 +23,28 @@ use Rattle.som_model.specs.Rules.{RuleBreach}
 use Rattle.som_model.specs.Steps.{◌>>=◌}
 use Rattle.som_model.specs.Typing.{in_main}
 use Rattle.som_laws.proofs.Laws.{among_mem}
-use Rattle.som_idl.specs.declared.tree.IdlInterface.{IdlInterface}
-use Rattle.som_body.specs.declared.tree.BlockText.{BlockText}
-use Rattle.som_body.specs.declared.tree.BodyText.{BodyText}
-use Rattle.som_rules.specs.Faces.{faces_breach}
-use Rattle.som_rules.proofs.PlainLists.{map_mem}
+use Rattle.som_syntax.specs.declared.interface.IdlInterface.{IdlInterface}
+use Rattle.som_syntax.specs.declared.body.BlockText.{BlockText}
+use Rattle.som_syntax.specs.declared.body.BodyText.{BodyText}
+use Rattle.som_ancestry.specs.Faces.{faces_breach}
+use Rattle.som_lawful.proofs.PlainLists.{map_mem}
 use Rattle.som_sema.specs.Building.{most_classes, texts_breach}
 use Rattle.som_drafts.specs.Drafts.{InterfaceDraft}
-use Rattle.som_sema.specs.Finished.{selects_at}
-use Rattle.som_forms.specs.Expressions.{Among}
+use Rattle.som_declarations.specs.Finished.{selects_at}
+use Rattle.som_terms.specs.Expressions.{Among}
+use Rattle.som_terms.proofs.Went.{went}
 use Rattle.som_forms.specs.MethodBody.{elaborated_body}
 use Rattle.som_forms.specs.Statements.{Told, elaborated_block}
-use Rattle.som_forms.proofs.Went.{went}
-use Rattle.som_elab.specs.Accessors.{body_of}
-use Rattle.som_elab.specs.Bodies.{bodies_breach, classes_over, drafts_over, operations, texts_for}
-use Rattle.som_elab.specs.Elaboration.{Refusal, among_over, classes_passed, elaborated_class, elaborated_classes, elaborated_each, elaborated_main, elaborated_program, elaborated_release, entry_bodies, entry_body, keeping, nothing_before, obeying, override_block, override_blocks, refused_at, text_block, with_blocks}
-use Rattle.som_elab.specs.Limits.{Passed, limit_passed}
+use Rattle.som_methods.specs.Accessors.{body_of}
+use Rattle.som_methods.specs.Bodies.{bodies_breach, operations, texts_for}
+use Rattle.som_elab.specs.Elaboration.{classes_over, drafts_over, among_over, classes_passed, elaborated_classes, elaborated_program, elaborated_release, nothing_before}
+use Rattle.som_blocks.specs.Blocks.{Refusal, elaborated_class, elaborated_each, elaborated_main, entry_bodies, entry_body, keeping, obeying, override_block, override_blocks, refused_at, text_block, with_blocks}
+use Rattle.som_methods.specs.Limits.{Passed, limit_passed}
 use Rattle.som_elab.proofs.Apart.{kept, obeyed}
 use Rattle.som_elab.proofs.ClassBodies.{refused_ok}
 use Rattle.som_elab.proofs.Conforms.{declarations_hold}
 use Rattle.som_elab.proofs.Declared.{drafts_are, operation_there, own}
-use Rattle.som_elab.proofs.LimitLaws.{is_at_most, limits_law, says_at_most}
+use Rattle.som_methods.proofs.LimitLaws.{is_at_most, limits_law, says_at_most}
 use Rattle.som_says.specs.Conforming.{BodiesStand, ClientConforms, LibraryConforms, ModuleConforms, by_operation, by_override}
 use Rattle.som_says.proofs.KeepingLaws.{keeping_law}
 use Rattle.som_says.proofs.OneBody.{counted_mem, mem_counted, one_counted}

@@ -10,16 +10,16 @@ use Rattle.som_model.specs.declared.class.Way.TheVariants as ways
 use Rattle.som_model.specs.Kernel.{som_class_mgr}
 use Rattle.som_model.specs.Steps.{◌>>=◌}
 use Rattle.som_model.specs.Typing.{ClassFacts, CodePlace, Of, PlainNil, Typed, there, all_fit, local_type, own_variable, self_type, unary_type, binary_type, host_type, new_type, class_type, cast_type, isa_type, proxy_type, offset_call_type, named_call_type, parent_call_type, parents_call_type}
-use Rattle.som_read.specs.declared.tree.Word.{Word}
-use Rattle.som_body.specs.declared.tree.ExprText.{ExprText, roll-ExprText, map-ExprText, ind-ExprText, fold-roll-ExprText}
-use Rattle.som_body.specs.declared.tree.ExprText.TheOpen.{ExprText-F}
-use Rattle.som_body.specs.declared.tree.ExprText.TheVariants as texts
+use Rattle.som_syntax.specs.declared.words.Word.{Word}
+use Rattle.som_syntax.specs.declared.expression.ExprText.{ExprText, roll-ExprText, map-ExprText, ind-ExprText, fold-roll-ExprText}
+use Rattle.som_syntax.specs.declared.expression.ExprText.TheOpen.{ExprText-F}
+use Rattle.som_syntax.specs.declared.expression.ExprText.TheVariants as texts
 use Rattle.som_scope.specs.ClassNames.{result_of}
-use Rattle.som_forms.specs.Locals.{Names, kinds_of, local_of}
-use Rattle.som_forms.specs.Methods.{Method, method_of, method_for, own_method, variable_place, parent_place}
-use Rattle.som_forms.specs.Expressions.{Among, Elab, Elaborated, binary_form, call_form, called_by, cast_form, class_named, dispatch_form, elaborated, elaborated_value, expr_step, exprs_of, facts_among, formed, host_form, isa_form, lookup_form, parent_form, parents_form, part, parts, proxy_form, types_of, unary_form}
-use Rattle.som_forms.proofs.Went.{held, same_answer, went}
-use Rattle.som_forms.proofs.TypedExpressions.{expr_typed, valued_part}
+use Rattle.som_terms.specs.Locals.{Names, kinds_of, local_of}
+use Rattle.som_terms.specs.Methods.{Method, method_of, method_for, own_method, variable_place, parent_place}
+use Rattle.som_terms.specs.Expressions.{Among, Elab, Elaborated, binary_form, call_form, called_by, cast_form, class_named, dispatch_form, elaborated, elaborated_value, expr_step, exprs_of, facts_among, formed, host_form, isa_form, lookup_form, parent_form, parents_form, part, parts, proxy_form, types_of, unary_form}
+use Rattle.som_terms.proofs.Went.{held, same_answer, went}
+use Rattle.som_terms.proofs.TypedExpressions.{expr_typed, valued_part}
 use Rattle.som_says.specs.Named.{HasMethod, IsOf}
 use Rattle.som_says.specs.Expressions.{ExprSays, ExprsSay, a_number, a_literal, a_boolean, plain_nil, self, a_manager, a_local, a_variable, a_unary, a_binary, a_host_call, a_new, a_class, a_cast, an_isa, a_proxy, an_offset_call, a_call_by_name, a_lookup, a_dispatch, a_parent_call, a_parents_call, no_expression, one_expression}
 use Rattle.som_says.proofs.NamedLaws.{ObjectHas, local_is, method_is, object_has, own_has, parent_is, there_is, variable_is}

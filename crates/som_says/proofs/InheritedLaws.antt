@@ -20,22 +20,23 @@ use Rattle.som_model.proofs.KeyLaws.{exact_bytes, exact_keys}
 use Rattle.som_model.proofs.NamedLaws.{hierarchy_same}
 use Rattle.som_laws.proofs.Laws.{among_mem, ancestors as ancestors_law}
 use Rattle.som_laws.proofs.Members.{find_first, find_none, mem_split}
-use Rattle.som_read.specs.declared.tree.Word.{Word}
-use Rattle.som_idl.specs.declared.tree.IdlInterface.{IdlInterface}
-use Rattle.som_idl.specs.declared.tree.Export.{Export}
-use Rattle.som_idl.specs.declared.tree.Export.TheVariants as exports
-use Rattle.som_rules.specs.Modules.{AreDeclared}
-use Rattle.som_rules.specs.Places.{with_kernel}
-use Rattle.som_rules.specs.Plainly.{Introduces, IntroducedOnce, IsAbove, NamesApart, ParentsBefore}
-use Rattle.som_rules.proofs.DeclaredClasses.{faces_declared, map_declared}
-use Rattle.som_rules.proofs.Owners.{mem_middle}
-use Rattle.som_rules.proofs.PlainMoves.{flat_mem, lower}
+use Rattle.som_syntax.specs.declared.words.Word.{Word}
+use Rattle.som_syntax.specs.declared.interface.IdlInterface.{IdlInterface}
+use Rattle.som_syntax.specs.declared.interface.Export.{Export}
+use Rattle.som_syntax.specs.declared.interface.Export.TheVariants as exports
+use Rattle.som_ancestry.specs.Modules.{AreDeclared}
+use Rattle.som_ancestry.specs.Places.{with_kernel}
+use Rattle.som_lawful.specs.Plainly.{Introduces, IntroducedOnce, IsAbove, NamesApart, ParentsBefore}
+use Rattle.som_ancestry.proofs.DeclaredClasses.{faces_declared, map_declared}
+use Rattle.som_ancestry.proofs.Owners.{mem_middle}
+use Rattle.som_lawful.proofs.PlainMoves.{flat_mem, lower}
 use Rattle.som_scope.specs.ClassNames.{type_of}
 use Rattle.som_drafts.specs.Drafts.{InterfaceDraft, accessors, export_entries, introduces}
 use Rattle.som_drafts.specs.Items.{by_name}
 use Rattle.som_sema.specs.Ancestry.{AreDrafts}
-use Rattle.som_sema.specs.Building.{after_base, declarations, module_over}
-use Rattle.som_sema.specs.Finished.{introducer}
+use Rattle.som_declarations.specs.Known.{after_base}
+use Rattle.som_sema.specs.Building.{declarations, module_over}
+use Rattle.som_declarations.specs.Finished.{introducer}
 use Rattle.som_sema.specs.TextRules.{is_inherited}
 use Rattle.som_sema.proofs.Introducing.{AllSame, IntroduceSame, introduced_mem, introduced_so}
 use Rattle.som_sema.proofs.Outlines.{hierarchy_outline, outline}
@@ -43,7 +44,7 @@ use Rattle.som_sema.proofs.Replaced.{introduce_same, outlines}
 use Rattle.som_sema.proofs.TextBases.{are_drafts}
 use Rattle.som_sema.proofs.TextInherited.{inherits_from}
 use Rattle.som_elab.proofs.Declared.{find_mem}
-use Rattle.som_elab.proofs.Fitting.{introduced_there}
+use Rattle.som_methods.proofs.Fitting.{introduced_there}
 use Rattle.som_says.specs.Keeping.{interfaces_over, known_classes}
 
 -- ---- an interface declares no entry that was moved

@@ -18,22 +18,24 @@ use Rattle.som_model.specs.Conforming.{each_after, first_of_members, first_of_na
 use Rattle.som_model.specs.Kernel.{kernel}
 use Rattle.som_model.specs.Rules.{RuleBreach, s1, s2, s3, s5, s6, s7, s8, s9, s10}
 use Rattle.som_laws.proofs.Members.{mem_left, mem_right, mem_split, not_true, without_mem}
-use Rattle.som_idl.specs.declared.tree.IdlInterface.{IdlInterface}
-use Rattle.som_rules.specs.Faces.{classes_breach, faces_breach}
-use Rattle.som_rules.specs.Inherited.{inherits, moved_entry}
-use Rattle.som_rules.specs.Places.{with_kernel}
-use Rattle.som_rules.specs.Modules.{AreDeclared}
-use Rattle.som_rules.specs.Plainly.{ClassesHold, EntriesDiffer, IntroducedOnce, MovedUp, NamesApart, ParentsBefore}
-use Rattle.som_rules.proofs.DeclaredClasses.{faces_declared}
-use Rattle.som_rules.proofs.Finding.{kernel_declared}
-use Rattle.som_rules.proofs.PlainFaces.{classes_say, none_or, or_none}
-use Rattle.som_rules.proofs.PlainLists.{each_says, map_mem, mem_map, none_flat, says_each}
-use Rattle.som_rules.proofs.PlainMembers.{demand_of_none, entries_say, say_types, say_variables, types_say, variables_say}
-use Rattle.som_rules.proofs.PlainMoves.{lower, moved_says, once_says, says_inherits, say_once}
-use Rattle.som_rules.proofs.PlainNames.{names_say, parents_differ_say, parents_say, say_names, say_parents_differ}
-use Rattle.som_sema.specs.Building.{after_base, declarations, module_over, texts_breach}
+use Rattle.som_syntax.specs.declared.interface.IdlInterface.{IdlInterface}
+use Rattle.som_ancestry.specs.Faces.{classes_breach, faces_breach}
+use Rattle.som_ancestry.specs.Inherited.{inherits, moved_entry}
+use Rattle.som_ancestry.specs.Places.{with_kernel}
+use Rattle.som_ancestry.specs.Modules.{AreDeclared}
+use Rattle.som_lawful.specs.Plainly.{ClassesHold, EntriesDiffer, IntroducedOnce, MovedUp, NamesApart, ParentsBefore}
+use Rattle.som_ancestry.proofs.DeclaredClasses.{faces_declared}
+use Rattle.som_ancestry.proofs.Finding.{kernel_declared}
+use Rattle.som_ancestry.proofs.Conformity.{none_or, or_none}
+use Rattle.som_lawful.proofs.PlainFaces.{classes_say}
+use Rattle.som_lawful.proofs.PlainLists.{each_says, map_mem, mem_map, none_flat, says_each}
+use Rattle.som_lawful.proofs.PlainMembers.{demand_of_none, entries_say, say_types, say_variables, types_say, variables_say}
+use Rattle.som_lawful.proofs.PlainMoves.{lower, moved_says, once_says, says_inherits, say_once}
+use Rattle.som_lawful.proofs.PlainNames.{names_say, parents_differ_say, parents_say, say_names, say_parents_differ}
+use Rattle.som_declarations.specs.Known.{after_base}
+use Rattle.som_sema.specs.Building.{declarations, module_over, texts_breach}
 use Rattle.som_sema.specs.TextRules.{is_inherited, text_s10_from, text_s2_from, text_s4}
-use Rattle.som_sema.specs.Finished.{declare, entry_for, entry_or_moved, introducer}
+use Rattle.som_declarations.specs.Finished.{declare, entry_for, entry_or_moved, introducer}
 use Rattle.som_sema.proofs.BaseKept.{base_closed, s8_more}
 use Rattle.som_sema.proofs.BaseLaws.{base_moves, base_names, base_stands, moves_more, own_first}
 use Rattle.som_sema.proofs.Outlines.{outline, same_bases, same_names}
@@ -43,9 +45,9 @@ use Rattle.som_sema.proofs.TextInherited.{from_inherited, inherited_law, inherit
 use Rattle.som_sema.proofs.TextLaws.{bases_law, items_law, metaclasses_law, modifiers_law, names_law}
 use Rattle.som_sema.proofs.TextsConform.{texts_conform}
 use Rattle.som_drafts.specs.Drafts.{InterfaceDraft, draft_classes}
-use Rattle.som_drafts.specs.OwnRules.{text_s6, text_s11, text_s12}
+use Rattle.som_alone.specs.OwnRules.{text_s6, text_s11, text_s12}
 use Rattle.som_drafts.specs.Items.{listed}
-use Rattle.som_elab.proofs.Fitting.{introduced_there}
+use Rattle.som_methods.proofs.Fitting.{introduced_there}
 use Rattle.som_says.specs.Lowest.{KeepBelow}
 use Rattle.som_says.proofs.Chains.{AreNumbered, first_told, none_below, told_at, told_there, twelve}
 use Rattle.som_says.proofs.RuleNumbers.{first_is, of_s1, of_s2, of_s3, of_s4, of_s5, of_s6, of_s7, of_s8, of_s9, of_s10, of_s11, of_s12}

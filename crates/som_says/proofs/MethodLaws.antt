@@ -20,24 +20,24 @@ use Rattle.som_model.specs.Resolution.{byname}
 use Rattle.som_model.proofs.KeyLaws.{both, exact_bytes, exact_keys}
 use Rattle.som_laws.proofs.Laws.{among_mem, ancestors as ancestors_law, byname_found, byname_none}
 use Rattle.som_laws.proofs.Members.{find_first}
-use Rattle.som_idl.specs.declared.tree.IdlInterface.{IdlInterface}
-use Rattle.som_rules.specs.Modules.{AreDeclared}
-use Rattle.som_rules.specs.Places.{with_kernel}
-use Rattle.som_rules.specs.Plainly.{ClassesHold, Introduces}
-use Rattle.som_rules.proofs.Owners.{mem_middle}
-use Rattle.som_rules.proofs.PlainLists.{mem_map}
-use Rattle.som_rules.proofs.PlainMoves.{says_inherits}
+use Rattle.som_syntax.specs.declared.interface.IdlInterface.{IdlInterface}
+use Rattle.som_ancestry.specs.Modules.{AreDeclared}
+use Rattle.som_ancestry.specs.Places.{with_kernel}
+use Rattle.som_lawful.specs.Plainly.{ClassesHold, Introduces}
+use Rattle.som_ancestry.proofs.Owners.{mem_middle}
+use Rattle.som_lawful.proofs.PlainLists.{mem_map}
+use Rattle.som_lawful.proofs.PlainMoves.{says_inherits}
 use Rattle.som_scope.specs.ClassNames.{key_of}
 use Rattle.som_drafts.specs.Drafts.{InterfaceDraft, draft_of}
 use Rattle.som_drafts.specs.Items.{Chosen, chosen, or_object}
-use Rattle.som_sema.specs.Building.{after_base, declarations, module_over, texts_breach}
-use Rattle.som_sema.specs.Finished.{introducer, place_of, select_of}
+use Rattle.som_declarations.specs.Known.{after_base}
+use Rattle.som_sema.specs.Building.{declarations, module_over, texts_breach}
+use Rattle.som_declarations.specs.Finished.{introducer, place_of, select_of}
 use Rattle.som_sema.specs.TextRules.{is_inherited, text_s10}
 use Rattle.som_sema.proofs.Introducing.{same_introducer}
 use Rattle.som_sema.proofs.Replaced.{inherited_own}
 use Rattle.som_sema.proofs.TextInherited.{selected_says}
-use Rattle.som_elab.specs.Bodies.{classes_over}
-use Rattle.som_elab.specs.Elaboration.{among_over}
+use Rattle.som_elab.specs.Elaboration.{classes_over, among_over}
 use Rattle.som_elab.proofs.Declared.{find_mem, own}
 use Rattle.som_elab.proofs.Signatures.{class_there}
 use Rattle.som_says.specs.Bodies.{SelectSays, SelectsSay, no_select, one_select}

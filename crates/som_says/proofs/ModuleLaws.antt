@@ -11,18 +11,19 @@ use Rattle.som_model.specs.Classes.{interface_classes}
 use Rattle.som_model.specs.Lists.{Mem, first}
 use Rattle.som_model.specs.Steps.{◌>>=◌}
 use Rattle.som_model.specs.Typing.{in_main}
-use Rattle.som_idl.specs.declared.tree.IdlInterface.{IdlInterface}
-use Rattle.som_body.specs.declared.tree.BlockText.{BlockText}
-use Rattle.som_body.specs.declared.tree.BodyText.{BodyText}
-use Rattle.som_rules.specs.Faces.{faces_breach}
-use Rattle.som_rules.proofs.PlainFaces.{or_none}
+use Rattle.som_syntax.specs.declared.interface.IdlInterface.{IdlInterface}
+use Rattle.som_syntax.specs.declared.body.BlockText.{BlockText}
+use Rattle.som_syntax.specs.declared.body.BodyText.{BodyText}
+use Rattle.som_ancestry.specs.Faces.{faces_breach}
+use Rattle.som_ancestry.proofs.Conformity.{or_none}
 use Rattle.som_sema.specs.Building.{texts_breach}
 use Rattle.som_drafts.specs.Drafts.{InterfaceDraft}
+use Rattle.som_terms.proofs.Went.{same_answer, went}
 use Rattle.som_forms.specs.Statements.{elaborated_block}
-use Rattle.som_forms.proofs.Went.{same_answer, went}
-use Rattle.som_elab.specs.Bodies.{bodies_breach, classes_over, drafts_over, text_s13, text_s14}
-use Rattle.som_elab.specs.Elaboration.{among_over, classes_passed, elaborated_class, elaborated_classes, elaborated_each, elaborated_main, elaborated_program, elaborated_release, keeping, nothing_before, obeying}
-use Rattle.som_elab.specs.Limits.{limit_passed}
+use Rattle.som_methods.specs.Bodies.{bodies_breach, text_s13, text_s14}
+use Rattle.som_elab.specs.Elaboration.{classes_over, drafts_over, among_over, classes_passed, elaborated_classes, elaborated_program, elaborated_release, nothing_before}
+use Rattle.som_blocks.specs.Blocks.{elaborated_class, elaborated_each, elaborated_main, keeping, obeying}
+use Rattle.som_methods.specs.Limits.{limit_passed}
 use Rattle.som_elab.proofs.Apart.{kept, obeyed}
 use Rattle.som_elab.proofs.ClassBodies.{refused_ok}
 use Rattle.som_elab.proofs.Conforms.{declarations_hold}

@@ -15,8 +15,8 @@ use Rattle.som_model.specs.Resolution.{byname}
 use Rattle.som_model.specs.Typing.{CodePlace, ExprType, Of, PlainNil, there}
 use Rattle.som_model.proofs.KeyLaws.{exact_bytes, exact_keys}
 use Rattle.som_laws.proofs.Members.{find_first}
-use Rattle.som_forms.specs.Locals.{Names, local_of, names_of}
-use Rattle.som_forms.specs.Methods.{Method, introduced_method, method_by, method_for, method_of, own_method, parent_place, variable_place}
+use Rattle.som_terms.specs.Locals.{Names, local_of, names_of}
+use Rattle.som_terms.specs.Methods.{Method, introduced_method, method_by, method_for, method_of, own_method, parent_place, variable_place}
 use Rattle.som_says.specs.Named.{HasMethod, IsLocal, IsParent, IsVariable}
 
 -- ---- places

@@ -3,10 +3,10 @@ use Rattle.std.proofs.Common.{◌≡◌, ℕ, zero, suc, ◌&&◌, inl, inr, Boo
 use Rattle.std.specs.Str.{bytes_eq}
 use Rattle.som_model.specs.Lists.{Mem}
 use Rattle.som_model.proofs.KeyLaws.{both, exact_bytes}
-use Rattle.som_body.specs.declared.tree.BodyText.{BodyText}
-use Rattle.som_rules.proofs.PlainMembers.{both_true}
+use Rattle.som_syntax.specs.declared.body.BodyText.{BodyText}
+use Rattle.som_lawful.proofs.PlainMembers.{both_true}
 use Rattle.som_drafts.specs.Drafts.{InterfaceDraft}
-use Rattle.som_elab.specs.Bodies.{texts_for}
+use Rattle.som_methods.specs.Bodies.{texts_for}
 use Rattle.som_says.specs.Conforming.{HasOneBody, IsOfMethod}
 
 module _ (d : InterfaceDraft) (name : List ℕ) where

@@ -1,5 +1,5 @@
 -- That what is told of a rule has its number.
-use Rattle.std.proofs.Common.{◌≡◌, ℕ, suc, Bool, true, false, not, if◌then◌else◌, List, [], ◌∷◌, ◌++◌, map, flat_map, take, codes, Option, Some, refl, sym, ap, ◌∙◌, is_some}
+use Rattle.std.proofs.Common.{◌≡◌, ℕ, suc, Bool, true, false, not, if◌then◌else◌, List, [], ◌∷◌, ◌++◌, map, flat_map, take, codes, Some, refl, sym, ap, ◌∙◌}
 use Rattle.som_model.specs.declared.key.ClassKey.{ClassKey}
 use Rattle.som_model.specs.declared.key.Module.{Module}
 use Rattle.som_model.specs.declared.class.Entry.{Entry}
@@ -9,12 +9,12 @@ use Rattle.som_model.specs.Class.{Class, introduced}
 use Rattle.som_model.specs.Conforming.{each_after}
 use Rattle.som_model.specs.Lists.{among, first}
 use Rattle.som_model.specs.Rules.{RuleBreach, breach, name_of, s1, s3, s5, s7, s8, s9}
-use Rattle.som_rules.specs.Inherited.{moved_entry}
-use Rattle.som_rules.specs.Places.{key_at}
-use Rattle.som_rules.specs.Typed.{entry_types, variable_types}
+use Rattle.som_ancestry.specs.Inherited.{moved_entry}
+use Rattle.som_ancestry.specs.Places.{key_at}
+use Rattle.som_lawful.specs.Typed.{entry_types, variable_types}
 use Rattle.som_drafts.specs.Drafts.{InterfaceDraft}
 use Rattle.som_drafts.specs.Items.{Given, given, item_words, listed, metaclass_names}
-use Rattle.som_drafts.specs.OwnRules.{second, text_breach, text_demand, text_s6, text_s11, text_s12}
+use Rattle.som_alone.specs.OwnRules.{second, text_breach, text_s6, text_s11, text_s12}
 use Rattle.som_sema.specs.TextRules.{base_stands, bases, makes_classes, replaces_inherited, text_s10, text_s10_from, text_s2, text_s2_from, text_s4}
 
 -- all of these breaches are of a rule

@@ -5,9 +5,9 @@ use Rattle.som_model.specs.declared.program.ClientProgram.{ClientProgram}
 use Rattle.som_model.specs.declared.program.Interface.{Interface}
 use Rattle.som_model.specs.declared.program.Release.{Release}
 use Rattle.som_model.specs.Classes.{interface_classes}
-use Rattle.som_rules.specs.Faces.{faces_breach}
+use Rattle.som_ancestry.specs.Faces.{faces_breach}
 use Rattle.som_scope.specs.Words.{interfaces_of}
-use Rattle.som_elab.specs.Bodies.{bodies_of}
+use Rattle.som_methods.specs.Bodies.{bodies_of}
 use Rattle.som_compile.specs.Compiling.{StandFor, StandForClient}
 use Rattle.som_compile.specs.declared.source.Source.{Source}
 use Rattle.som_says.specs.Sources.{ClientSourcesConform, LibrarySourcesConform}

@@ -17,20 +17,22 @@ use Rattle.som_model.specs.Owner.{owner, sig_of}
 use Rattle.som_model.proofs.KeyLaws.{exact_bytes}
 use Rattle.som_laws.proofs.Laws.{among_mem}
 use Rattle.som_laws.proofs.Members.{find_first}
-use Rattle.som_idl.specs.declared.tree.IdlInterface.{IdlInterface}
-use Rattle.som_body.specs.declared.tree.BodyText.{BodyText}
-use Rattle.som_rules.specs.Plainly.{ClassesHold}
-use Rattle.som_rules.proofs.Before.{both_none, none_both}
-use Rattle.som_rules.proofs.Owners.{flat_none}
-use Rattle.som_rules.proofs.PlainFaces.{none_or, or_none}
-use Rattle.som_rules.proofs.PlainLists.{map_mem, none_flat}
-use Rattle.som_sema.specs.Building.{after_base, declarations}
+use Rattle.som_syntax.specs.declared.interface.IdlInterface.{IdlInterface}
+use Rattle.som_syntax.specs.declared.body.BodyText.{BodyText}
+use Rattle.som_lawful.specs.Plainly.{ClassesHold}
+use Rattle.som_ancestry.proofs.Before.{both_none, none_both}
+use Rattle.som_ancestry.proofs.Owners.{flat_none}
+use Rattle.som_ancestry.proofs.Conformity.{none_or, or_none}
+use Rattle.som_lawful.proofs.PlainLists.{map_mem, none_flat}
+use Rattle.som_declarations.specs.Known.{after_base}
+use Rattle.som_sema.specs.Building.{declarations}
 use Rattle.som_drafts.specs.Drafts.{InterfaceDraft}
 use Rattle.som_sema.proofs.TextBases.{demanded_text}
-use Rattle.som_drafts.specs.OwnRules.{text_demand}
-use Rattle.som_elab.specs.Bodies.{bodies_breach, body_sig, classes_over, draft_named, drafts_over, entry_has_one, has_one, operations, override_sig, overridden_sig, stands_for, takes_as_many, text_s13, text_s14, texts_for}
+use Rattle.som_alone.specs.OwnRules.{text_demand}
+use Rattle.som_methods.specs.Bodies.{bodies_breach, body_sig, draft_named, entry_has_one, has_one, operations, override_sig, overridden_sig, stands_for, takes_as_many, text_s13, text_s14, texts_for}
+use Rattle.som_elab.specs.Elaboration.{classes_over, drafts_over}
 use Rattle.som_elab.proofs.Declared.{drafts_are, find_mem, own}
-use Rattle.som_elab.proofs.Fitting.{introduced_there}
+use Rattle.som_methods.proofs.Fitting.{introduced_there}
 use Rattle.som_elab.proofs.Signatures.{entry_there, named, override_signed}
 use Rattle.som_says.specs.Conforming.{BodiesStand, HasBody, HasOneBody, IsNamed, by_operation, by_override}
 use Rattle.som_says.proofs.OneBody.{one_body, one_counted}

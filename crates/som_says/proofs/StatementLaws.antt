@@ -7,19 +7,19 @@ use Rattle.som_model.specs.declared.limits.TheConstants.{MAX_LOCALS}
 use Rattle.som_model.specs.Steps.{◌>>=◌}
 use Rattle.som_model.specs.Blocks.{is_call}
 use Rattle.som_model.specs.Typing.{ClassFacts, CodePlace, Of, Ruled, needs, there, is_nothing, is_boolean, is_class, has_text, kind_is_known, fits, own_variable}
-use Rattle.som_read.specs.declared.tree.TypeName.{TypeName}
-use Rattle.som_read.specs.declared.tree.Word.{Word}
-use Rattle.som_body.specs.declared.tree.ExprText.{ExprText}
-use Rattle.som_body.specs.declared.tree.StmtText.{StmtText, roll-StmtText, map-StmtText, fold-roll-StmtText}
-use Rattle.som_body.specs.declared.tree.StmtText.TheOpen.{StmtText-F, BlockText-F}
-use Rattle.som_body.specs.declared.tree.StmtText.TheVariants as texts
-use Rattle.som_body.specs.declared.tree.BlockText.{BlockText, roll-BlockText, map-BlockText, ind-BlockText, fold-roll-BlockText}
+use Rattle.som_syntax.specs.declared.words.TypeName.{TypeName}
+use Rattle.som_syntax.specs.declared.words.Word.{Word}
+use Rattle.som_syntax.specs.declared.expression.ExprText.{ExprText}
+use Rattle.som_syntax.specs.declared.body.StmtText.{StmtText, roll-StmtText, map-StmtText, fold-roll-StmtText}
+use Rattle.som_syntax.specs.declared.body.StmtText.TheOpen.{StmtText-F, BlockText-F}
+use Rattle.som_syntax.specs.declared.body.StmtText.TheVariants as texts
+use Rattle.som_syntax.specs.declared.body.BlockText.{BlockText, roll-BlockText, map-BlockText, ind-BlockText, fold-roll-BlockText}
 use Rattle.som_scope.specs.ClassNames.{type_of}
-use Rattle.som_forms.specs.Locals.{Named, Names, in_scope, kinds_of, local_of}
-use Rattle.som_forms.specs.Methods.{variable_place}
-use Rattle.som_forms.specs.Expressions.{Among, Elaborated, elaborated, elaborated_value, facts_among}
+use Rattle.som_terms.specs.Locals.{Named, Names, in_scope, kinds_of, local_of}
+use Rattle.som_terms.specs.Methods.{variable_place}
+use Rattle.som_terms.specs.Expressions.{Among, Elaborated, elaborated, elaborated_value, facts_among}
+use Rattle.som_terms.proofs.Went.{held, same_answer, went}
 use Rattle.som_forms.specs.Statements.{BlockElab, ManyLocals, Placed, StmtElab, block_step, call_statement, declared, elaborated_block, elaborated_stmt, freed, in_turn, placed, printed, ruled, set_local, set_variable, stmt_step, value_return, with_local}
-use Rattle.som_forms.proofs.Went.{held, same_answer, went}
 use Rattle.som_says.specs.Expressions.{ExprSays}
 use Rattle.som_says.specs.Statements.{BlockSays, StmtSays, StmtsSay, a_block, a_call, a_choice, a_declaration, a_free, a_loop, a_print, a_return, a_return_with_value, a_variable_assignment, an_assignment, local_named, no_statement, one_statement}
 use Rattle.som_says.proofs.NamedLaws.{local_is, there_is, variable_is}

@@ -13,17 +13,17 @@ use Rattle.som_model.specs.declared.class.Way.{Way}
 use Rattle.som_model.specs.Class.{Class}
 use Rattle.som_model.specs.Lists.{Mem}
 use Rattle.som_model.specs.Typing.{in_body}
-use Rattle.som_read.specs.declared.tree.TypeName.{TypeName}
-use Rattle.som_read.specs.declared.tree.Word.{Word}
-use Rattle.som_idl.specs.declared.tree.Export.TheVariants as exports
-use Rattle.som_idl.specs.declared.tree.IdlInterface.{IdlInterface}
-use Rattle.som_body.specs.declared.tree.BodyText.{BodyText}
+use Rattle.som_syntax.specs.declared.words.TypeName.{TypeName}
+use Rattle.som_syntax.specs.declared.words.Word.{Word}
+use Rattle.som_syntax.specs.declared.interface.Export.TheVariants as exports
+use Rattle.som_syntax.specs.declared.interface.IdlInterface.{IdlInterface}
+use Rattle.som_syntax.specs.declared.body.BodyText.{BodyText}
 use Rattle.som_scope.specs.Words.{words}
 use Rattle.som_drafts.specs.Drafts.{getter, setter}
 use Rattle.som_drafts.specs.Items.{Chosen}
-use Rattle.som_forms.specs.Expressions.{Among, class_named}
-use Rattle.som_forms.specs.Locals.{Names, kinds_of, names_of}
-use Rattle.som_elab.specs.Bodies.{operations}
+use Rattle.som_terms.specs.Expressions.{Among, class_named}
+use Rattle.som_terms.specs.Locals.{Names, kinds_of, names_of}
+use Rattle.som_methods.specs.Bodies.{operations}
 use Rattle.som_says.specs.Named.{HasMethod, HasVariable}
 use Rattle.som_says.specs.Statements.{BlockSays}
 

@@ -12,18 +12,18 @@ use Rattle.som_model.specs.Class.{Class, class_in}
 use Rattle.som_model.specs.Lists.{Mem}
 use Rattle.som_model.specs.Owner.{owner, sig_of}
 use Rattle.som_model.specs.Typing.{in_main}
-use Rattle.som_idl.specs.declared.tree.IdlInterface.{IdlInterface}
-use Rattle.som_body.specs.declared.tree.BlockText.{BlockText}
-use Rattle.som_body.specs.declared.tree.BodyText.{BodyText}
+use Rattle.som_syntax.specs.declared.interface.IdlInterface.{IdlInterface}
+use Rattle.som_syntax.specs.declared.body.BlockText.{BlockText}
+use Rattle.som_syntax.specs.declared.body.BodyText.{BodyText}
 use Rattle.som_sema.specs.Building.{most_classes}
 use Rattle.som_drafts.specs.Drafts.{InterfaceDraft}
-use Rattle.som_forms.specs.Expressions.{Among}
+use Rattle.som_terms.specs.Expressions.{Among}
 use Rattle.som_forms.specs.MethodBody.{elaborated_body}
 use Rattle.som_forms.specs.Statements.{elaborated_block}
-use Rattle.som_elab.specs.Accessors.{body_of}
-use Rattle.som_elab.specs.Bodies.{classes_over, drafts_over, operations}
-use Rattle.som_elab.specs.Elaboration.{among_over, nothing_before}
-use Rattle.som_elab.specs.PlainLimits.{LimitsKept}
+use Rattle.som_methods.specs.Accessors.{body_of}
+use Rattle.som_elab.specs.Elaboration.{classes_over, drafts_over, among_over, nothing_before}
+use Rattle.som_methods.specs.Bodies.{operations}
+use Rattle.som_methods.specs.PlainLimits.{LimitsKept}
 use Rattle.som_says.specs.Keeping.{TextsKeep}
 
 -- a method of which a class has a body in the texts, and its signature: the class introduces it by an operation, or overrides it without `select`

@@ -11,13 +11,13 @@ use Rattle.som_model.specs.declared.class.Way.{Way}
 use Rattle.som_model.specs.declared.class.Way.TheVariants as ways
 use Rattle.som_model.specs.Class.{Class}
 use Rattle.som_model.specs.Typing.{CodePlace}
-use Rattle.som_read.specs.declared.tree.TypeName.{TypeName}
-use Rattle.som_read.specs.declared.tree.Word.{Word}
-use Rattle.som_body.specs.declared.tree.ExprText.{ExprText}
-use Rattle.som_body.specs.declared.tree.ExprText.TheVariants as texts
+use Rattle.som_syntax.specs.declared.words.TypeName.{TypeName}
+use Rattle.som_syntax.specs.declared.words.Word.{Word}
+use Rattle.som_syntax.specs.declared.expression.ExprText.{ExprText}
+use Rattle.som_syntax.specs.declared.expression.ExprText.TheVariants as texts
 use Rattle.som_scope.specs.ClassNames.{result_of}
-use Rattle.som_forms.specs.Expressions.{Among, class_named}
-use Rattle.som_forms.specs.Locals.{Names}
+use Rattle.som_terms.specs.Expressions.{Among, class_named}
+use Rattle.som_terms.specs.Locals.{Names}
 use Rattle.som_says.specs.Named.{HasMethod, IsLocal, IsOf, IsParent, IsVariable}
 
 module _ (a : Among) (at : CodePlace) (scope : Names) where

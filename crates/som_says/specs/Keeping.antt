@@ -6,9 +6,9 @@ use Rattle.som_model.specs.declared.program.Interface.{Interface}
 use Rattle.som_model.specs.Class.{Class, class_in, introduced}
 use Rattle.som_model.specs.Classes.{interface_classes}
 use Rattle.som_model.specs.Lists.{Mem}
-use Rattle.som_idl.specs.declared.tree.IdlInterface.{IdlInterface}
-use Rattle.som_rules.specs.Places.{with_kernel}
-use Rattle.som_rules.specs.Plainly.{IntroducedOnce, NamesApart, ParentsDiffer, TypesKnown, VariablesDiffer}
+use Rattle.som_syntax.specs.declared.interface.IdlInterface.{IdlInterface}
+use Rattle.som_ancestry.specs.Places.{with_kernel}
+use Rattle.som_lawful.specs.Plainly.{IntroducedOnce, NamesApart, ParentsDiffer, TypesKnown, VariablesDiffer}
 use Rattle.som_sema.specs.Building.{module_over}
 use Rattle.som_sema.specs.PlainTexts.{BasesStand, Inherits, ItemsDiffer, MetaclassesDescend, ModifiersStand, NamesDiffer, ReplacedInherited}
 use Rattle.som_drafts.specs.Drafts.{InterfaceDraft, draft_classes, draft_of}

@@ -2,9 +2,9 @@
 use Rattle.std.specs.Prelude.{ℕ, ◌<◌, List}
 use Rattle.som_model.specs.declared.key.Module.{Module}
 use Rattle.som_model.specs.declared.program.Interface.{Interface}
-use Rattle.som_idl.specs.declared.tree.IdlInterface.{IdlInterface}
-use Rattle.som_rules.specs.Places.{with_kernel}
-use Rattle.som_rules.specs.Plainly.{IntroducedOnce, NamesApart, ParentsDiffer, TypesKnown, VariablesDiffer}
+use Rattle.som_syntax.specs.declared.interface.IdlInterface.{IdlInterface}
+use Rattle.som_ancestry.specs.Places.{with_kernel}
+use Rattle.som_lawful.specs.Plainly.{IntroducedOnce, NamesApart, ParentsDiffer, TypesKnown, VariablesDiffer}
 use Rattle.som_sema.specs.Building.{module_over}
 use Rattle.som_sema.specs.PlainTexts.{BasesStand, ItemsDiffer, MetaclassesDescend, ModifiersStand, NamesDiffer, ReplacedInherited}
 use Rattle.som_says.specs.Keeping.{OrdersStand, first_place, interfaces_over, known_classes, own_classes}

@@ -8,14 +8,13 @@ use Rattle.som_model.specs.declared.program.Interface.{Interface}
 use Rattle.som_model.specs.declared.program.Release.{Release}
 use Rattle.som_model.specs.Class.{class_in}
 use Rattle.som_model.specs.Typing.{in_main}
-use Rattle.som_idl.specs.declared.tree.IdlInterface.{IdlInterface}
-use Rattle.som_body.specs.declared.tree.BlockText.{BlockText}
-use Rattle.som_body.specs.declared.tree.BodyText.{BodyText}
+use Rattle.som_syntax.specs.declared.interface.IdlInterface.{IdlInterface}
+use Rattle.som_syntax.specs.declared.body.BlockText.{BlockText}
+use Rattle.som_syntax.specs.declared.body.BodyText.{BodyText}
 use Rattle.som_drafts.specs.Drafts.{InterfaceDraft}
 use Rattle.som_drafts.specs.Items.{chosen, overridden}
-use Rattle.som_forms.specs.Expressions.{Among}
-use Rattle.som_elab.specs.Bodies.{drafts_over}
-use Rattle.som_elab.specs.Elaboration.{among_over, nothing_before}
+use Rattle.som_terms.specs.Expressions.{Among}
+use Rattle.som_elab.specs.Elaboration.{drafts_over, among_over, nothing_before}
 use Rattle.som_says.specs.Bodies.{EntriesSay, OverridesSay, SelectsSay}
 use Rattle.som_says.specs.Statements.{BlockSays}
 

@@ -13,8 +13,8 @@ use Rattle.som_model.specs.Classes.{hierarchy}
 use Rattle.som_model.specs.Owner.{entry_at, introduces}
 use Rattle.som_model.specs.Resolution.{byname}
 use Rattle.som_model.specs.Typing.{CodePlace, Of, expr_type}
-use Rattle.som_forms.specs.Expressions.{Among, facts_among}
-use Rattle.som_forms.specs.Locals.{Names, kinds_of, names_of}
+use Rattle.som_terms.specs.Expressions.{Among, facts_among}
+use Rattle.som_terms.specs.Locals.{Names, kinds_of, names_of}
 
 -- the parameter or local with this number has this name
 abbrev pub IsLocal : Names → List ℕ → ℕ → Type 0

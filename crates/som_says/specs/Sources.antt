@@ -1,11 +1,11 @@
 -- When whole texts conform, as bytes under names.
 use Rattle.std.specs.Prelude.{◌≡◌, List, [], ◌∷◌, Ok}
 use Rattle.som_model.specs.declared.program.Interface.{Interface}
-use Rattle.som_body.specs.declared.tree.MainFile.{MainFile}
+use Rattle.som_syntax.specs.declared.body.MainFile.{MainFile}
 use Rattle.som_compile.specs.declared.source.Source.{Source}
 use Rattle.som_compile.specs.declared.trees.Trees.{Trees}
 use Rattle.som_compile.specs.Reading.{ReadsAll}
-use Rattle.som_elab.specs.Bodies.{bodies_of}
+use Rattle.som_methods.specs.Bodies.{bodies_of}
 use Rattle.som_scope.specs.Words.{interfaces_of}
 use Rattle.som_says.specs.Conforming.{ClientConforms, LibraryConforms}
 

@@ -5,15 +5,15 @@ use Rattle.som_model.specs.declared.syntax.Expr.{Expr}
 use Rattle.som_model.specs.declared.syntax.Stmt.{Stmt}
 use Rattle.som_model.specs.declared.syntax.Stmt.TheVariants as stmts
 use Rattle.som_model.specs.Typing.{CodePlace}
-use Rattle.som_read.specs.declared.tree.TypeName.{TypeName}
-use Rattle.som_read.specs.declared.tree.Word.{Word}
-use Rattle.som_body.specs.declared.tree.BlockText.{BlockText}
-use Rattle.som_body.specs.declared.tree.ExprText.{ExprText}
-use Rattle.som_body.specs.declared.tree.StmtText.{StmtText}
-use Rattle.som_body.specs.declared.tree.StmtText.TheVariants as texts
+use Rattle.som_syntax.specs.declared.words.TypeName.{TypeName}
+use Rattle.som_syntax.specs.declared.words.Word.{Word}
+use Rattle.som_syntax.specs.declared.expression.ExprText.{ExprText}
+use Rattle.som_syntax.specs.declared.body.BlockText.{BlockText}
+use Rattle.som_syntax.specs.declared.body.StmtText.{StmtText}
+use Rattle.som_syntax.specs.declared.body.StmtText.TheVariants as texts
 use Rattle.som_scope.specs.ClassNames.{type_of}
-use Rattle.som_forms.specs.Expressions.{Among}
-use Rattle.som_forms.specs.Locals.{Named, Names}
+use Rattle.som_terms.specs.Expressions.{Among}
+use Rattle.som_terms.specs.Locals.{Named, Names}
 use Rattle.som_says.specs.Expressions.{ExprSays}
 use Rattle.som_says.specs.Named.{IsLocal, IsVariable}
 

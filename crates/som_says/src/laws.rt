@@ -1,14 +1,12 @@
-ghost use Rattle.som_body.specs.declared.tree.BlockText.{BlockText};
-ghost use Rattle.som_body.specs.declared.tree.BodyText.{BodyText};
-ghost use Rattle.som_body.specs.declared.tree.ExprText.{ExprText};
+ghost use Rattle.som_syntax.specs.declared.body.BlockText.{BlockText};
+ghost use Rattle.som_syntax.specs.declared.body.BodyText.{BodyText};
+ghost use Rattle.som_syntax.specs.declared.expression.ExprText.{ExprText};
 ghost use Rattle.som_compile.specs.Compiling.{StandFor, StandForClient};
 ghost use Rattle.som_compile.specs.declared.source.Source.{Source};
-ghost use Rattle.som_elab.specs.Bodies.{bodies_breach, classes_over, drafts_over};
-ghost use Rattle.som_elab.specs.Elaboration.{elaborated_program, elaborated_release};
-ghost use Rattle.som_forms.specs.Expressions.{Among, Elaborated, elaborated};
-ghost use Rattle.som_forms.specs.Locals.{Names};
+ghost use Rattle.som_methods.specs.Bodies.{bodies_breach};
+ghost use Rattle.som_elab.specs.Elaboration.{classes_over, drafts_over, elaborated_program, elaborated_release};
 ghost use Rattle.som_forms.specs.Statements.{elaborated_block};
-ghost use Rattle.som_idl.specs.declared.tree.IdlInterface.{IdlInterface};
+ghost use Rattle.som_syntax.specs.declared.interface.IdlInterface.{IdlInterface};
 ghost use Rattle.som_model.specs.Classes.{interface_classes};
 ghost use Rattle.som_model.specs.Rules.{RuleBreach};
 ghost use Rattle.som_model.specs.Typing.{CodePlace};
@@ -17,7 +15,7 @@ ghost use Rattle.som_model.specs.declared.program.ClientProgram.{ClientProgram};
 ghost use Rattle.som_model.specs.declared.program.Interface.{Interface};
 ghost use Rattle.som_model.specs.declared.program.Release.{Release};
 ghost use Rattle.som_model.specs.declared.syntax.Block.{Block};
-ghost use Rattle.som_rules.specs.Faces.{faces_breach};
+ghost use Rattle.som_ancestry.specs.Faces.{faces_breach};
 ghost use Rattle.som_says.specs.Conforming.{BodiesStand, ClientConforms, LibraryConforms};
 ghost use Rattle.som_says.specs.Expressions.{ExprSays};
 ghost use Rattle.som_says.specs.Keeping.{TextsKeep};
@@ -26,6 +24,8 @@ ghost use Rattle.som_says.specs.Modules.{ProgramSays, ReleaseSays};
 ghost use Rattle.som_says.specs.Sources.{ClientSourcesConform, LibrarySourcesConform};
 ghost use Rattle.som_says.specs.Statements.{BlockSays};
 ghost use Rattle.som_sema.specs.Building.{texts_breach};
+ghost use Rattle.som_terms.specs.Expressions.{Among, Elaborated, elaborated};
+ghost use Rattle.som_terms.specs.Locals.{Names};
 ghost use Rattle.std.specs.Prelude.{◌≡◌, ◌↔◌, suc, List as Seq, None, Ok, Some};
 
 /// The expression that a text of one stands for is what the text says.

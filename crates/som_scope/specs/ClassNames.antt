@@ -10,8 +10,8 @@ use Rattle.som_model.specs.declared.class.ClassFace.{ClassFace}
 use Rattle.som_model.specs.Kernel.{kernel_interface}
 use Rattle.som_model.specs.Lists.{among}
 use Rattle.som_order.specs.Names.{texts}
-use Rattle.som_read.specs.declared.tree.TypeName.{TypeName}
-use Rattle.som_read.specs.declared.tree.TypeName.TheVariants as names
+use Rattle.som_syntax.specs.declared.words.TypeName.{TypeName}
+use Rattle.som_syntax.specs.declared.words.TypeName.TheVariants as names
 use Rattle.som_scope.specs.declared.scope.Scope.{Scope}
 use Rattle.som_scope.specs.Words.{once}
 

@@ -2,10 +2,10 @@
 use Rattle.std.specs.Prelude.{ℕ, List, [], map, flat_map}
 use Rattle.std.specs.Str.{bytes_eq}
 use Rattle.std.specs.Borrow.{Bor}
-use Rattle.som_rules.specs.Walk.{adds}
-use Rattle.som_read.specs.declared.tree.Word.{Word}
-use Rattle.som_idl.specs.declared.tree.IdlFile.{IdlFile}
-use Rattle.som_idl.specs.declared.tree.IdlInterface.{IdlInterface}
+use Rattle.som_ancestry.specs.Walk.{adds}
+use Rattle.som_syntax.specs.declared.words.Word.{Word}
+use Rattle.som_syntax.specs.declared.interface.IdlFile.{IdlFile}
+use Rattle.som_syntax.specs.declared.interface.IdlInterface.{IdlInterface}
 
 -- the interfaces of all files, in order
 abbrev pub interfaces_of : List IdlFile → List IdlInterface

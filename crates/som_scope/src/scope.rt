@@ -8,9 +8,9 @@ ghost use Rattle.std.specs.Prelude.{◌≡◌, map, IfOk};
 
 use crate::tables::{face_names, interface_names};
 use indexmap::IndexSet;
-use som_idl::{IdlInterface, TypeName};
 use som_model::{ClassFace, ClassKey, List, Module, NoMemory, Text, ValueType};
 use som_order::find_name;
+use som_syntax::{IdlInterface, TypeName};
 use std::alloc::Global;
 
 /// The names of the classes that texts may speak of: the module's own, the base's and the kernel's.

@@ -5,9 +5,9 @@ ghost use Rattle.som_scope.specs.Words.{lent, once};
 ghost use Rattle.std.specs.Prelude.{◌≡◌, ◌++◌, ◌∷◌, [], IfOk, OnErr, OnOk};
 
 use indexmap::IndexSet;
-use som_idl::IdlInterface;
 use som_model::{ClassFace, NoMemory};
 use som_order::note_name;
+use som_syntax::IdlInterface;
 use std::alloc::Global;
 
 /// Adds a name.

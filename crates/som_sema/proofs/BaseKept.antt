@@ -20,12 +20,12 @@ use Rattle.som_model.proofs.KeyLaws.{exact_keys}
 use Rattle.som_model.proofs.NamedLaws.{height_named, hierarchy_parents, hierarchy_same, parents_named}
 use Rattle.som_laws.proofs.Laws as plain
 use Rattle.som_laws.proofs.Members.{find_first, map_on, mem_left, mem_right, mem_split}
-use Rattle.som_rules.specs.Modules.{AreDeclared, module_of}
-use Rattle.som_rules.specs.Plainly.{IsAmong}
-use Rattle.som_rules.proofs.Before.{demanded, every_mem, none_both}
-use Rattle.som_rules.proofs.Owners.{mem_middle}
-use Rattle.som_rules.proofs.PlainLists.{says_each, each_says}
-use Rattle.som_rules.proofs.PlainNames.{among_known, known_among}
+use Rattle.som_ancestry.specs.Modules.{AreDeclared, module_of}
+use Rattle.som_lawful.specs.Plainly.{IsAmong}
+use Rattle.som_ancestry.proofs.Before.{demanded, every_mem, none_both}
+use Rattle.som_ancestry.proofs.Owners.{mem_middle}
+use Rattle.som_lawful.proofs.PlainLists.{says_each, each_says}
+use Rattle.som_lawful.proofs.PlainNames.{among_known, known_among}
 
 -- each parent and metaclass of these classes is among them
 pub record AreClosed (cs : List Class) : Type 0 where

@@ -1,5 +1,5 @@
 -- From drafts to declarations.
-use Rattle.std.proofs.Common.{◌≡◌, ℕ, suc, ◌+◌, ◌-◌, ◌<◌, ◌≤◌, inl, inr, slice_index_or, List, [], ◌∷◌, ◌++◌, length, map, take, drop, refl, sym, ap, ◌∙◌, subst, arith, append_assoc, length-append}
+use Rattle.std.proofs.Common.{◌≡◌, ℕ, suc, ◌+◌, inl, inr, List, [], ◌∷◌, ◌++◌, length, map, take, drop, refl, sym, ap, ◌∙◌, subst, arith, append_assoc, length-append}
 use Rattle.som_model.specs.Class.{Class, bare, class_in}
 use Rattle.som_model.specs.Classes.{interface_classes}
 use Rattle.som_model.specs.declared.key.Module.{Module}
@@ -7,23 +7,21 @@ use Rattle.som_model.specs.declared.key.Module.TheVariants as modules
 use Rattle.som_model.specs.declared.class.ClassDecl.{ClassDecl}
 use Rattle.som_model.specs.declared.class.ClassFace.{ClassFace}
 use Rattle.som_model.specs.declared.program.Interface.{Interface}
-use Rattle.som_rules.specs.Modules.{AreDeclared, class_of, classes_of}
-use Rattle.som_rules.specs.Places.{class_of_place, face_at, key_at, module_at, with_kernel}
-use Rattle.som_rules.proofs.Finding.{kernel_declared, mem_place}
-use Rattle.som_model.specs.declared.key.ClassKey.TheVariants as keys
-use Rattle.som_rules.specs.declared.types.Declared.{Declared}
-use Rattle.som_rules.proofs.DeclaredClasses.{are_declared, item_of, long_map, map_declared}
-use Rattle.som_rules.proofs.Rows.{face_there}
+use Rattle.som_ancestry.specs.Modules.{AreDeclared, classes_of}
+use Rattle.som_ancestry.specs.Places.{key_at, with_kernel}
+use Rattle.som_ancestry.specs.declared.types.Declared.{Declared}
+use Rattle.som_ancestry.proofs.DeclaredClasses.{long_map, map_declared}
 use Rattle.som_laws.proofs.Members.{mem_split}
 use Rattle.som_model.specs.Lists.{first}
-use Rattle.som_sema.specs.Building.{after_base, declared_all, moved_breach, draft_breach}
+use Rattle.som_declarations.specs.Known.{after_base}
+use Rattle.som_sema.specs.Building.{declared_all, moved_breach, draft_breach}
 use Rattle.som_sema.specs.TextRules.{text_s10_from}
 use Rattle.som_sema.proofs.Composing.{front_is, rest_is}
-use Rattle.som_sema.specs.Finished.{declare, declare_at, declared_from}
+use Rattle.som_declarations.specs.Finished.{declare, declare_at, declared_from}
 use Rattle.som_drafts.specs.Drafts.{InterfaceDraft, draft_classes}
 use Rattle.som_sema.specs.Ancestry.{IsAncestorTable}
 use Rattle.som_sema.specs.declared.ancestry.AncestorTable.{AncestorTable}
-use Rattle.som_sema.proofs.Noting.{at_end}
+use Rattle.som_declarations.proofs.Noting.{at_end}
 use Rattle.som_sema.proofs.Alike.{alike_both, alike_declared, alike_self, alike_table}
 
 -- the classes stand at the places that follow each other
@@ -72,22 +70,6 @@ bare_is (f ∷ fs) = ap (λ z. class_in modules.Library (bare f) ∷ z) (bare_is
 
 pub base_is : (base : Interface) (ds : List ClassDecl) (fs : List ClassFace) → ds ≡ map bare fs → fs ≡ base.classes → map (class_in modules.Library) ds ≡ interface_classes base
 base_is base ds fs e f = ap (map (class_in modules.Library)) e ∙ bare_is fs ∙ ap (map (λ f. class_in modules.Library (bare f))) f
-
--- the face of a declared class
-pub face_there_in : (ds : List Declared) (p : ℕ) (d : Declared) → 4 ≤ p → p < length (with_kernel (classes_of ds)) → (slice_index_or ds (p - 4) d).decl.now.face ≡ face_at (with_kernel (classes_of ds)) p
-face_there_in ds p d le lt =
-    let cs = classes_of ds in
-    let e : p ≡ suc (suc (suc (suc (p - 4)))) = omega (arith, le) in
-    let own : p - 4 < length ds = omega (arith, le, lt, long_map class_of ds) in
-    let within : p - 4 < length cs = omega (arith, le, lt) in
-    ap (λ (c : Class). c.decl.face) (item_of ds (p - 4) d own)
-    ∙ sym (face_there cs (p - 4) (class_of d) within)
-    ∙ ap (λ z. face_at (with_kernel cs) z) (sym e)
-
--- the key of a class by its module and its name
-pub key_there : (ds : List Declared) (p : ℕ) → p < length (with_kernel (classes_of ds))
-    → key_at (with_kernel (classes_of ds)) p ≡ keys.Named (module_at (with_kernel (classes_of ds)) p) (face_at (with_kernel (classes_of ds)) p).name
-key_there ds p lt = (kernel_declared (classes_of ds) (are_declared ds)).by (class_of_place (with_kernel (classes_of ds)) p) (mem_place (with_kernel (classes_of ds)) p lt)
 
 -- what the drafts break, by the classes that were declared
 pub draft_class_is : (module_of : List ℕ → Module) (m : Module) (ds : List Declared) (bs : List ClassDecl) (drafts : List InterfaceDraft) (n : ℕ) → classes_of ds ≡ after_base m (map (class_in modules.Library) bs) (draft_classes drafts) → n ≡ length bs

@@ -1,6 +1,3 @@
-pub mod Declaring
-pub mod Noting
-pub mod Introducers
 pub mod Alike
 pub mod BaseLaws
 pub mod TextBases

@@ -7,13 +7,13 @@ use Rattle.som_model.specs.Lists.{among, first, or_else}
 use Rattle.som_model.specs.Class.{Class}
 use Rattle.som_laws.proofs.Laws.{among_mem}
 use Rattle.som_laws.proofs.Members.{both_or_none}
-use Rattle.som_idl.specs.declared.tree.Modifier.{Modifier}
-use Rattle.som_idl.specs.declared.tree.Modifier.TheVariants as modifiers
-use Rattle.som_rules.proofs.Passes.{first_both}
+use Rattle.som_syntax.specs.declared.interface.Modifier.{Modifier}
+use Rattle.som_syntax.specs.declared.interface.Modifier.TheVariants as modifiers
+use Rattle.som_ancestry.proofs.Passes.{first_both}
 use Rattle.som_scope.specs.Words.{once}
 use Rattle.som_drafts.specs.Drafts.{InterfaceDraft}
 use Rattle.som_drafts.specs.Items.{Given}
-use Rattle.som_drafts.specs.OwnRules.{text_breach, text_demand}
+use Rattle.som_alone.specs.OwnRules.{text_breach, text_demand}
 use Rattle.som_sema.specs.TextRules.{may_take, replaces}
 use Rattle.som_sema.proofs.TextLaws.{mem_of_once, says_once}
 

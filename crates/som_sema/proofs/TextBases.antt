@@ -8,19 +8,19 @@ use Rattle.som_model.specs.Rules.{RuleBreach, s2}
 use Rattle.som_model.specs.declared.key.Module.{Module}
 use Rattle.som_model.specs.declared.key.ClassKey.{ClassKey}
 use Rattle.som_laws.proofs.Members.{mem_left, mem_right, mem_split}
-use Rattle.som_rules.proofs.Before.{both_none, mem_every, none_both}
-use Rattle.som_rules.proofs.Owners.{flat_none}
-use Rattle.som_rules.proofs.PlainLists.{map_mem}
-use Rattle.som_rules.proofs.PlainNames.{demand_none}
-use Rattle.som_idl.specs.declared.tree.IdlInterface.{IdlInterface}
-use Rattle.som_rules.specs.declared.types.VerifyFault.{VerifyFault}
-use Rattle.som_rules.specs.Told.{Tells}
-use Rattle.som_rules.proofs.Passes.{first_both, tells_first}
+use Rattle.som_ancestry.proofs.Before.{both_none, mem_every, none_both}
+use Rattle.som_ancestry.proofs.Owners.{flat_none}
+use Rattle.som_lawful.proofs.PlainLists.{map_mem}
+use Rattle.som_lawful.proofs.PlainNames.{demand_none}
+use Rattle.som_syntax.specs.declared.interface.IdlInterface.{IdlInterface}
+use Rattle.som_ancestry.specs.declared.types.VerifyFault.{VerifyFault}
+use Rattle.som_ancestry.specs.Told.{Tells}
+use Rattle.som_ancestry.proofs.Passes.{first_both, tells_first}
 use Rattle.som_drafts.specs.declared.drafts.Draft.{Draft}
 use Rattle.som_scope.specs.ClassNames.{key_of}
 use Rattle.som_drafts.specs.Items.{metaclass_names, or_object}
 use Rattle.som_drafts.specs.Drafts.{InterfaceDraft, plain_drafts, draft_of, plain_draft, draft_class, draft_classes}
-use Rattle.som_drafts.specs.OwnRules.{text_demand}
+use Rattle.som_alone.specs.OwnRules.{text_demand}
 use Rattle.som_sema.specs.TextRules.{base_stands, bases, text_s2, text_s2_from}
 use Rattle.som_sema.specs.Ancestry.{AreDrafts}
 

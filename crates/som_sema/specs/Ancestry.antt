@@ -7,11 +7,11 @@ use Rattle.som_model.specs.Kernel.{kernel}
 use Rattle.som_model.specs.Rules.{name_of, s1, s2}
 use Rattle.som_model.specs.Class.{Class}
 use Rattle.som_order.specs.Names.{texts}
-use Rattle.som_rules.specs.Modules.{AreDeclared}
-use Rattle.som_rules.specs.Places.{IsRows, with_kernel}
-use Rattle.som_rules.specs.Walk.{AreAncestors}
+use Rattle.som_ancestry.specs.Modules.{AreDeclared}
+use Rattle.som_ancestry.specs.Places.{IsRows, with_kernel}
+use Rattle.som_ancestry.specs.Walk.{AreAncestors}
 use Rattle.som_drafts.specs.Drafts.{InterfaceDraft, draft_class}
-use Rattle.som_idl.specs.declared.tree.IdlInterface.{IdlInterface}
+use Rattle.som_syntax.specs.declared.interface.IdlInterface.{IdlInterface}
 use Rattle.som_scope.specs.Words.{once}
 use Rattle.som_drafts.specs.Items.{or_object, selecting}
 use Rattle.som_sema.specs.declared.ancestry.AncestorTable.{AncestorTable}

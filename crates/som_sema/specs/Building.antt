@@ -1,5 +1,5 @@
 -- The declarations that texts stand for, and what is told of them.
-use Rattle.std.specs.Prelude.{◌≡◌, ℕ, ◌<◌, ◌≤◌, List, ◌++◌, map, flat_map, length, codes, Option, None, Some, Result, Ok, Err}
+use Rattle.std.specs.Prelude.{◌≡◌, ℕ, ◌<◌, ◌≤◌, List, map, flat_map, length, codes, Option, None, Some, Result, Ok, Err}
 use Rattle.som_model.specs.declared.key.Module.{Module}
 use Rattle.som_model.specs.declared.key.Module.TheVariants as modules
 use Rattle.som_model.specs.declared.class.ClassDecl.{ClassDecl}
@@ -10,27 +10,22 @@ use Rattle.som_model.specs.Class.{Class, class_in}
 use Rattle.som_model.specs.Classes.{interface_classes}
 use Rattle.som_model.specs.Conforming.{each_after}
 use Rattle.som_model.specs.Rules.{RuleBreach, s1, s3, s5, s7, s8, s9}
-use Rattle.som_idl.specs.declared.tree.IdlInterface.{IdlInterface}
-use Rattle.som_rules.specs.Places.{with_kernel}
-use Rattle.som_rules.specs.Told.{told}
-use Rattle.som_rules.specs.declared.types.VerifyFault.{VerifyFault}
-use Rattle.som_rules.specs.declared.types.VerifyFault.TheVariants as verify
-use Rattle.som_sema.specs.declared.types.Refused.{Refused}
-use Rattle.som_sema.specs.declared.types.Refused.TheVariants as faults
+use Rattle.som_syntax.specs.declared.interface.IdlInterface.{IdlInterface}
+use Rattle.som_ancestry.specs.Places.{with_kernel}
+use Rattle.som_ancestry.specs.Told.{told}
+use Rattle.som_declarations.specs.declared.types.Refused.{Refused}
+use Rattle.som_declarations.specs.declared.types.Refused.TheVariants as faults
 use Rattle.som_scope.specs.Words.{interface_names, once}
 use Rattle.som_scope.specs.ClassNames.{face_names, kernel_names, module_by_names}
 use Rattle.som_drafts.specs.Drafts.{InterfaceDraft, draft_of, draft_classes}
-use Rattle.som_sema.specs.Finished.{declare, declare_selecting}
-use Rattle.som_drafts.specs.OwnRules.{text_s6, text_s11, text_s12}
+use Rattle.som_declarations.specs.Known.{after_base}
+use Rattle.som_declarations.specs.Finished.{declare, declare_selecting}
+use Rattle.som_alone.specs.OwnRules.{text_s6, text_s11, text_s12}
 use Rattle.som_sema.specs.TextRules.{text_s2_from, text_s4, text_s10_from}
 
 -- where the names in the texts of a module lead, which is compiled against a base
 abbrev pub module_over : Module → Interface → List IdlInterface → List ℕ → Module
 module_over m base is = module_by_names m (once (interface_names is)) (once (face_names base.classes)) kernel_names
-
--- the classes of a module after those of its base
-abbrev pub after_base : Module → List Class → List ClassDecl → List Class
-after_base m base ds = base ++ map (class_in m) ds
 
 -- the declarations that go with these drafts
 abbrev pub declared_all : Module → List Class → List InterfaceDraft → List ClassDecl
@@ -99,11 +94,6 @@ most_classes modules.Kernel = MAX_LIBRARY_CLASSES
 most_classes modules.Library = MAX_LIBRARY_CLASSES
 most_classes modules.Client = MAX_CLIENT_CLASSES
 most_classes (modules.Upper level) = MAX_CLIENT_CLASSES
-
--- a breach or want of memory, as it is answered
-abbrev pub refused_by : VerifyFault → Refused
-refused_by (verify.Rule b) = faults.Rule b
-refused_by verify.NoMemory = faults.NoMemory
 
 -- the declarations exactly where the limit of classes and the rules hold, and else the first of these that fails; want of memory says nothing
 abbrev pub FacesTold : Module → Interface → List IdlInterface → Result (List ClassDecl) Refused → Type 0

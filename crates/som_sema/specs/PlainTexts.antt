@@ -9,10 +9,10 @@ use Rattle.som_model.specs.Classes.{ancestors, hierarchy}
 use Rattle.som_model.specs.Owner.{introduced_by}
 use Rattle.som_model.specs.Kernel.{som_class}
 use Rattle.som_laws.specs.First.{IsFirst}
-use Rattle.som_read.specs.declared.tree.Word.{Word}
-use Rattle.som_idl.specs.declared.tree.Item.TheVariants as items
-use Rattle.som_rules.specs.Places.{key_at}
-use Rattle.som_rules.specs.Plainly.{Differ, IsAmong}
+use Rattle.som_syntax.specs.declared.words.Word.{Word}
+use Rattle.som_syntax.specs.declared.interface.Item.TheVariants as items
+use Rattle.som_ancestry.specs.Places.{key_at}
+use Rattle.som_lawful.specs.Plainly.{Differ, IsAmong}
 use Rattle.som_scope.specs.ClassNames.{key_of}
 use Rattle.som_drafts.specs.Items.{Chosen, chosen, given, is_call, is_override, is_select, item_words, listed, or_object, overridden, with_modifier}
 use Rattle.som_drafts.specs.Drafts.{InterfaceDraft}

@@ -2,10 +2,10 @@ ghost use Rattle.som_model.specs.Classes.{class_at, is_a};
 ghost use Rattle.som_model.specs.Kernel.{som_class};
 ghost use Rattle.som_model.specs.Lists.{first};
 ghost use Rattle.som_order.specs.Names.{texts};
-ghost use Rattle.som_rules.specs.Modules.{classes_of};
-ghost use Rattle.som_rules.specs.Places.{IsTable, key_at as key_at_place, with_kernel};
-ghost use Rattle.som_rules.specs.Told.{Tells};
-ghost use Rattle.som_rules.specs.Walk.{AreLists};
+ghost use Rattle.som_ancestry.specs.Modules.{classes_of};
+ghost use Rattle.som_ancestry.specs.Places.{IsTable, key_at as key_at_place, with_kernel};
+ghost use Rattle.som_ancestry.specs.Told.{Tells};
+ghost use Rattle.som_ancestry.specs.Walk.{AreLists};
 ghost use Rattle.som_scope.specs.ClassNames as names_of_classes;
 ghost use Rattle.som_scope.specs.ClassNames.{module_in_scope};
 ghost use Rattle.som_drafts.specs.Drafts.{plain_draft, plain_drafts};
@@ -14,9 +14,10 @@ ghost use Rattle.som_drafts.specs.declared.drafts.Draft.{Draft as Known};
 ghost use Rattle.std.specs.Prelude.{◌≡◌, ◌<◌, ◌+◌, length, take, flat_map, is_some, slice_get, IfOk, Some};
 
 use indexmap::IndexSet;
-use som_drafts::{Draft, base_names, breach, each_draft, metaclass_names};
+use som_alone::{base_names, breach, each_draft, metaclass_names};
+use som_ancestry::{Declared, KERNEL_CLASSES, VerifyFault, descends_by, find_class};
+use som_drafts::Draft;
 use som_model::{List, NoMemory};
-use som_rules::{Declared, KERNEL_CLASSES, VerifyFault, descends_by, find_class};
 use som_scope::{Scope, key_of};
 use std::alloc::Global;
 

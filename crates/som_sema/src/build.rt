@@ -2,30 +2,31 @@ ghost use Rattle.som_model.specs.Class.{class_in};
 ghost use Rattle.som_model.specs.Classes.{interface_classes};
 ghost use Rattle.som_model.specs.Kernel.{kernel_interface};
 ghost use Rattle.som_model.specs.declared.key.Module.TheVariants as modules;
-ghost use Rattle.som_rules.specs.Faces.{faces_breach};
-ghost use Rattle.som_rules.specs.Modules.{classes_of};
-ghost use Rattle.som_rules.specs.Told.{Tells};
+ghost use Rattle.som_ancestry.specs.Faces.{faces_breach};
+ghost use Rattle.som_ancestry.specs.Modules.{classes_of};
+ghost use Rattle.som_ancestry.specs.Told.{Tells};
 ghost use Rattle.som_scope.specs.ClassNames.{module_in_scope};
 ghost use Rattle.som_scope.specs.Words.{interfaces_of, lent};
 ghost use Rattle.som_sema.specs.Ancestry.{AreDrafts, IsAncestorTable};
 ghost use Rattle.som_sema.specs.Building as spec;
-ghost use Rattle.som_sema.specs.Building.{FacesTold, after_base, declared_all, draft_rules_breach, finished_breach, moved_breach, refused_by, texts_breach};
+ghost use Rattle.som_sema.specs.Building.{FacesTold, declared_all, draft_rules_breach, finished_breach, moved_breach, texts_breach};
+ghost use Rattle.som_declarations.specs.Known.{after_base};
 ghost use Rattle.som_drafts.specs.Drafts.{draft_classes, draft_of, plain_drafts};
 ghost use Rattle.std.specs.Prelude.{◌≡◌, ◌++◌, map, IfOk, OnOk, None};
 
 use crate::ancestry::AncestorTable;
-use crate::declared::declarations;
 use crate::inherited::replaced_inherited;
 use crate::rules::{drafts_hold, moves_hold};
-use crate::types::Refused;
-use som_drafts::{Draft, drafts_of, items_differ, modifiers_stand};
-use som_idl::{IdlFile, IdlInterface};
+use som_alone::{drafts_of, items_differ, modifiers_stand};
+use som_ancestry::{Declared, KERNEL_CLASSES, VerifyFault, bare_classes, declare};
+use som_declarations::{Refused, declarations, known_classes, refused};
+use som_drafts::Draft;
 use som_model::{
     ClassDecl, ClassFace, Interface, List, MAX_CLIENT_CLASSES, MAX_LIBRARY_CLASSES, Module,
     NoMemory, Text, kernel_faces,
 };
-use som_rules::{Declared, KERNEL_CLASSES, VerifyFault, bare_classes, declare};
 use som_scope::{Scope, scope_of};
+use som_syntax::{IdlFile, IdlInterface};
 use std::alloc::Global;
 
 /// The declarations that texts stand for, without bodies, or the first limit or rule that they break. They are compiled
@@ -51,16 +52,6 @@ pub fn build_faces(
     match faces(alloc, all, base, own_module) {
         Ok(classes) => Ok(classes),
         Err(fault) => Err(refused(fault)),
-    }
-}
-
-/// A breach or want of memory, as it is answered.
-pub fn refused(fault: VerifyFault) -> Refused
-    ensures { result ≡ refused_by fault }
-{
-    match fault {
-        VerifyFault::Rule(broken) => Refused::Rule(broken),
-        VerifyFault::NoMemory => Refused::NoMemory,
     }
 }
 
@@ -223,38 +214,6 @@ fn finished_hold(
     replaced_inherited(alloc, scope, kernel, known, ancestors, drafts, from)?;
     modifiers_stand(alloc, drafts)?;
     items_differ(alloc, drafts)
-}
-
-// The classes of the base, and then those that were drafted.
-fn known_classes<'a>(
-    alloc: Global,
-    own_module: Module,
-    base: &'a [ClassDecl],
-    drafts: &'a [Draft],
-) -> Result<Vec<Declared<'a>>, NoMemory>
-    ensures { IfOk result (λ all. classes_of all.items ≡ after_base own_module (map (class_in modules.Library) base.now) (draft_classes (plain_drafts drafts.now))) }
-{
-    let mut classes = declare(Vec::new(alloc), Module::Library, base)?;
-    add_drafts(&mut classes, own_module, drafts)?;
-    Ok(classes)
-}
-
-fn add_drafts<'a>(
-    classes: &mut Vec<Declared<'a>>,
-    own_module: Module,
-    drafts: &'a [Draft],
-) -> Result<(), NoMemory>
-    ensures { OnOk result (classes_of classes.new.items ≡
-        classes_of classes.old.items ++ map (class_in own_module) (draft_classes (plain_drafts drafts.now))) }
-{
-    for draft in drafts {
-        let decl = &draft.decl;
-        classes.push(Declared {
-            module: own_module,
-            decl,
-        })?;
-    }
-    Ok(())
 }
 
 // The rules S8 and S9 of the declarations.

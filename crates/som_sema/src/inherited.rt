@@ -4,9 +4,9 @@ ghost use Rattle.som_introducers.specs.Introducers.{AreIntroducers};
 ghost use Rattle.som_model.specs.Kernel.{kernel_interface};
 ghost use Rattle.som_model.specs.Lists.{first};
 ghost use Rattle.som_order.specs.Names.{texts};
-ghost use Rattle.som_rules.specs.Modules.{classes_of};
-ghost use Rattle.som_rules.specs.Places.{key_at, with_kernel};
-ghost use Rattle.som_rules.specs.Told.{Tells};
+ghost use Rattle.som_ancestry.specs.Modules.{classes_of};
+ghost use Rattle.som_ancestry.specs.Places.{key_at, with_kernel};
+ghost use Rattle.som_ancestry.specs.Told.{Tells};
 ghost use Rattle.som_scope.specs.ClassNames.{module_in_scope};
 ghost use Rattle.som_scope.specs.Words.{once};
 ghost use Rattle.som_sema.specs.Ancestry.{Inherits, IsAncestorTable, IsOfText};
@@ -18,16 +18,16 @@ ghost use Rattle.std.specs.Prelude.{◌≡◌, ◌<◌, ◌+◌, length, map, fl
 
 use crate::ancestry::AncestorTable;
 use crate::bases::descends_from;
-use crate::declared::introducer_place;
-use crate::faces::ranking_above;
 use indexmap::IndexSet;
-use som_drafts::{Draft, Mark, breach, marks, parent_names, selecting};
-use som_idl::Modifier;
+use som_alone::breach;
+use som_ancestry::{Declared, VerifyFault};
+use som_declarations::{introducer_place, ranking_above};
+use som_drafts::{Draft, Mark, marks, parent_names, selecting};
 use som_introducers::{Introducers, Ranking, introducers_of};
 use som_model::{ClassFace, NoMemory};
 use som_order::find_name;
-use som_rules::{Declared, VerifyFault};
 use som_scope::{Scope, table_of};
+use som_syntax::Modifier;
 use std::alloc::Global;
 
 /// The methods with `select` in a text, and the parents of its interface.

@@ -4,12 +4,12 @@ ghost use Rattle.som_model.specs.Kernel.{kernel, kernel_interface};
 ghost use Rattle.som_model.specs.Lists.{first};
 ghost use Rattle.som_model.specs.Rules.{s1, s2, s3, s5, s7};
 ghost use Rattle.som_order.specs.Names.{texts};
-ghost use Rattle.som_rules.specs.Faces.{faces_breach};
-ghost use Rattle.som_rules.specs.Modules.{classes_of};
-ghost use Rattle.som_rules.specs.Places.{IsTable, with_kernel};
-ghost use Rattle.som_rules.specs.Told.{Tells};
+ghost use Rattle.som_ancestry.specs.Faces.{faces_breach};
+ghost use Rattle.som_ancestry.specs.Modules.{classes_of};
+ghost use Rattle.som_ancestry.specs.Places.{IsTable, with_kernel};
+ghost use Rattle.som_ancestry.specs.Told.{Tells};
 ghost use Rattle.som_scope.specs.ClassNames.{module_in_scope};
-ghost use Rattle.som_rules.specs.Walk.{AreLists};
+ghost use Rattle.som_ancestry.specs.Walk.{AreLists};
 ghost use Rattle.som_sema.specs.Ancestry.{AreAncestorLists, AreDrafts, IsAncestorTable};
 ghost use Rattle.som_sema.specs.Building.{draft_breach, members_breach, moved_breach, named_breach};
 ghost use Rattle.som_drafts.specs.Drafts.{draft_classes, plain_drafts};
@@ -19,12 +19,11 @@ ghost use Rattle.std.specs.Prelude.{◌≡◌, ◌≤◌, ◌+◌, length, map, 
 use crate::ancestry::{AncestorTable, ancestor_lists};
 use crate::bases::{bases_stand, metaclasses_descend};
 use indexmap::IndexSet;
-use som_drafts::{Draft, names_differ};
+use som_alone::names_differ;
+use som_ancestry::{Declared, KERNEL_CLASSES, VerifyFault, class_names, parents_differ};
+use som_drafts::Draft;
 use som_model::{ClassFace, List};
-use som_rules::{
-    Declared, KERNEL_CLASSES, VerifyFault, class_names, entries_moved_up, names_introduced_once,
-    parents_differ, types_known, variables_differ,
-};
+use som_rules::{entries_moved_up, names_introduced_once, types_known, variables_differ};
 use som_scope::Scope;
 use std::alloc::Global;
 

@@ -4,7 +4,7 @@ use Rattle.som_model.specs.declared.class.ClassDecl.{ClassDecl}
 use Rattle.som_model.specs.declared.program.Release.{Release}
 use Rattle.som_model.specs.Class.{interface_of}
 use Rattle.som_model.specs.Conforming.{ReleaseOk}
-use Rattle.som_naming.specs.ClassLimits.{ClassWithin}
+use Rattle.som_classimage.specs.ClassLimits.{ClassWithin}
 use Rattle.som_libimage.specs.Limits.{IsWithinLimits}
 use Rattle.som_compat.specs.Conditions.{Conforms, IsCounted}
 use Rattle.som_compat.proofs.Released.{interface_conforms}

@@ -8,10 +8,10 @@ ghost use Rattle.std.specs.Prelude.{IfOk};
 
 use crate::image_lines::{refuse_broken, refuse_bytes};
 use crate::stop::CommandStop;
+use som_ancestry::VerifyFault;
 use som_cliimage::decode;
 use som_fields::ImageFault;
 use som_model::{ClientProgram, List, Text};
-use som_rules::VerifyFault;
 use som_verify::program_ok;
 use std::alloc::Global;
 

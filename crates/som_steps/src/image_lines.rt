@@ -1,11 +1,11 @@
-ghost use Rattle.som_rules.specs.Told.{told};
+ghost use Rattle.som_ancestry.specs.Told.{told};
 ghost use Rattle.som_steps.specs.Lines.{broken, fault_number, fault_place, incompatible, unread};
 ghost use Rattle.std.specs.Prelude.{IfOk, ◌≡◌};
 
 use crate::stop::{Refusal, Why};
+use som_ancestry::Broken;
 use som_fields::ImageFault;
 use som_model::{NoMemory, Text};
-use som_rules::Broken;
 use som_show::add_number;
 use std::alloc::Global;
 

@@ -8,10 +8,10 @@ ghost use Rattle.std.specs.Prelude.{IfOk};
 
 use crate::image_lines::{refuse_broken, refuse_bytes};
 use crate::stop::CommandStop;
+use som_ancestry::VerifyFault;
 use som_fields::ImageFault;
 use som_libimage::decode;
 use som_model::{List, NoMemory, Release, Text};
-use som_rules::VerifyFault;
 use som_verify::release_ok;
 use std::alloc::Global;
 

@@ -1,8 +1,8 @@
 //! The trees of expressions.
 
 use crate::lines::Lines;
-use som_body::{ExprText, TypeName, Word};
 use som_model::{HostCode, List, NoMemory};
+use som_syntax::{ExprText, TypeName, Word};
 
 fn host_name(code: HostCode) -> &'static str {
     match code {

@@ -1,8 +1,8 @@
 //! The trees of interface files.
 
 use crate::lines::Lines;
-use som_idl::{Export, IdlFile, IdlInterface, Item, Modifier, Param};
 use som_model::NoMemory;
+use som_syntax::{Export, IdlFile, IdlInterface, Item, Modifier, Param};
 
 impl Lines {
     /// Adds a line for each interface.

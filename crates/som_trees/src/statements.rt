@@ -1,8 +1,8 @@
 //! The trees of bodies and mains.
 
 use crate::lines::Lines;
-use som_body::{BlockText, BodyFile, BodyText, ExprText, MainFile, StmtText, Word};
 use som_model::NoMemory;
+use som_syntax::{BlockText, BodyFile, BodyText, ExprText, MainFile, StmtText, Word};
 
 impl Lines {
     /// Adds a line for each body.

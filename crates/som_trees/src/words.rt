@@ -2,7 +2,7 @@
 
 use crate::lines::Lines;
 use som_model::NoMemory;
-use som_read::{TypeName, Word};
+use som_syntax::{TypeName, Word};
 
 impl Lines {
     /// Adds a word, with the place of its token.

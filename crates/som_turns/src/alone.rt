@@ -1,7 +1,5 @@
-ghost use Rattle.som_turns.specs.Beside.{CanGoOn};
+ghost use Rattle.som_units.specs.Beside.{CanGoOn};
 
-use crate::ending::Ending;
-use crate::not_taken::NotTaken;
 use crate::telling::tell_task;
 use crate::turning::{number_of, turn};
 use som_exec::{Task, start};
@@ -9,6 +7,7 @@ use som_host::HostTable;
 use som_objects::ObjectStore;
 use som_runtime::Runtime;
 use som_telling::TraceFilter;
+use som_units::{Ending, NotTaken};
 
 // Takes the turns of a task that has no others beside it.
 fn take_turns<R: Runtime>(

@@ -1,9 +1,7 @@
 ghost use Rattle.som_exec.specs.Stands.{StandsAnywhere};
-ghost use Rattle.som_turns.specs.Beside.{AreBeside};
+ghost use Rattle.som_units.specs.Beside.{AreBeside};
 ghost use Rattle.std.specs.Prelude.{◌≡◌, [], OnOk};
 
-use crate::ending::Ending;
-use crate::not_taken::NotTaken;
 use crate::telling::tell_task;
 use crate::turning::{number_of, turn};
 use som_exec::{Task, start};
@@ -11,6 +9,7 @@ use som_host::HostTable;
 use som_objects::ObjectStore;
 use som_runtime::Runtime;
 use som_telling::TraceFilter;
+use som_units::{Ending, NotTaken};
 
 // A turn of each of two tasks, one after the other.
 fn take_round<R: Runtime>(

@@ -1,7 +1,7 @@
-use crate::not_taken::NotTaken;
 use som_classmgr::{Kernel, Linked};
 use som_counted::counted_law;
 use som_model::List;
+use som_units::NotTaken;
 use std::alloc::Global;
 
 /// The kernel of the library and the client that two images spell.

@@ -3,18 +3,15 @@
 
 mod alone;
 mod beside;
-mod ending;
 mod fuels;
-mod going;
 mod linking;
-mod not_taken;
 mod taking;
 mod telling;
 mod turning;
 
 use linking::linked;
-use not_taken::NotTaken;
 use som_model::List;
+use som_units::NotTaken;
 use std::rt::Files;
 use std::{env, fs};
 use taking::take_on;

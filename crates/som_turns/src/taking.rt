@@ -1,12 +1,12 @@
 use crate::alone::go_alone;
 use crate::beside::go_beside;
 use crate::fuels::compare_all;
-use crate::not_taken::NotTaken;
 use som_classmgr::{Kernel, Linked};
 use som_host::{HostTable, host_entry, host_table};
 use som_model::{HostCode, Text};
 use som_runtime::Runtime;
 use som_telling::{TraceChoice, TraceFilter, trace_filter};
+use som_units::NotTaken;
 
 // Does what is asked with any linked kernel.
 fn take_by<R: Runtime>(

@@ -1,7 +1,6 @@
-use crate::ending::{Ending, word_of};
-use crate::not_taken::NotTaken;
 use som_exec::Task;
 use som_io::MemSink;
+use som_units::{Ending, NotTaken, word_of};
 use std::io;
 use std::io::Write;
 

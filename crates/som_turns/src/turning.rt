@@ -1,9 +1,7 @@
 ghost use Rattle.som_exec.specs.declared.task.Task.{Task as Waiting};
-ghost use Rattle.som_turns.specs.Beside.{AreBeside, CanGoOn};
+ghost use Rattle.som_units.specs.Beside.{AreBeside, CanGoOn};
 ghost use Rattle.std.specs.Prelude.{OnOk};
 
-use crate::going::go_on;
-use crate::not_taken::NotTaken;
 use crate::telling::{tell_task, tell_text};
 use som_exec::Task;
 use som_host::HostTable;
@@ -12,6 +10,7 @@ use som_model::Text;
 use som_objects::ObjectStore;
 use som_runtime::Runtime;
 use som_telling::TraceFilter;
+use som_units::{NotTaken, go_on};
 
 /// The number that a digit stands for.
 pub fn number_of(digit: u8) -> Result<u32, NotTaken> {

@@ -18,25 +18,25 @@ use Rattle.som_model.specs.Typing.{Ruled, class_facts, in_body}
 use Rattle.som_model.specs.TypedBlocks.{Scope, block_scope}
 use Rattle.som_typing.specs.declared.kind.Kind.{Kind}
 use Rattle.som_typing.specs.declared.kind.Kind.TheVariants as kinds
-use Rattle.som_rules.specs.declared.types.VerifyFault.{VerifyFault}
-use Rattle.som_rules.specs.declared.types.VerifyFault.TheVariants as faults
+use Rattle.som_ancestry.specs.declared.types.VerifyFault.{VerifyFault}
+use Rattle.som_ancestry.specs.declared.types.VerifyFault.TheVariants as faults
 use Rattle.som_typing.specs.declared.knowledge.Knowledge.{Knowledge}
 use Rattle.som_typing.specs.Bodies.{AllSigsKnown, SigsKnown, StandsAt, body_breaks}
-use Rattle.som_rules.specs.declared.types.Declared.{Declared}
-use Rattle.som_rules.specs.Modules.{class_of, classes_of}
-use Rattle.som_rules.specs.Places.{class_of_place, nobody, with_kernel}
+use Rattle.som_ancestry.specs.declared.types.Declared.{Declared}
+use Rattle.som_ancestry.specs.Modules.{class_of, classes_of}
+use Rattle.som_ancestry.specs.Places.{class_of_place, nobody, with_kernel}
 use Rattle.som_typing.specs.Kinds.{AreTypes, IsType, type_at}
 use Rattle.som_typing.specs.Knowing.{all_of, facts_of, sig_is_known}
 use Rattle.som_typing.specs.Scopes.{Ends, blocked_by, scope_at}
-use Rattle.som_rules.specs.Told.{Tells}
-use Rattle.som_rules.proofs.DeclaredClasses.{item_of, long_map}
+use Rattle.som_ancestry.specs.Told.{Tells}
+use Rattle.som_ancestry.proofs.DeclaredClasses.{item_of, long_map}
 use Rattle.som_model.proofs.KeyLaws.{both}
 use Rattle.som_laws.proofs.Members.{mem_split}
 use Rattle.som_typing.proofs.Facts.{signature_said}
-use Rattle.som_rules.proofs.Numbering.{map_append}
-use Rattle.som_rules.proofs.PlainLists.{mem_map}
-use Rattle.som_rules.proofs.Rows.{take_whole}
-use Rattle.som_rules.proofs.Passes.{first_both, tells_first}
+use Rattle.som_ancestry.proofs.Numbering.{map_append}
+use Rattle.som_lawful.proofs.PlainLists.{mem_map}
+use Rattle.som_ancestry.proofs.Rows.{take_whole}
+use Rattle.som_ancestry.proofs.Passes.{first_both, tells_first}
 
 -- ---- one block
 

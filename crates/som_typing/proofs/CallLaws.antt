@@ -19,10 +19,10 @@ use Rattle.som_model.proofs.KeyLaws.{both, exact_keys}
 use Rattle.som_typing.specs.declared.code_place.CodePlace.{CodePlace as Place}
 use Rattle.som_typing.specs.Kinds.{code_at, parent_at}
 use Rattle.som_typing.specs.Knowing.{sig_is_known}
-use Rattle.som_rules.specs.Places.{Finds, class_of_place, face_at, key_at}
-use Rattle.som_rules.specs.Walk.{AreLists}
+use Rattle.som_ancestry.specs.Places.{Finds, class_of_place, face_at, key_at}
+use Rattle.som_ancestry.specs.Walk.{AreLists}
 use Rattle.som_typing.proofs.Facts.{kind_said, object_of, object_said}
-use Rattle.som_rules.proofs.KeyLists.{alike}
+use Rattle.som_ancestry.proofs.KeyLists.{alike}
 use Rattle.som_typing.proofs.KnownLaws.{descends_from_none}
 
 -- what a known signature answers is of a type that is known

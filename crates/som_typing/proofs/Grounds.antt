@@ -5,11 +5,11 @@ use Rattle.som_model.specs.Class.{Class}
 use Rattle.som_model.specs.Conforming.{first_of_names, first_of_members}
 use Rattle.som_model.specs.Kernel.{kernel}
 use Rattle.som_model.specs.Rules.{RuleBreach, s5, s14}
-use Rattle.som_rules.specs.Faces.{classes_breach, rules_breach}
-use Rattle.som_rules.specs.Places.{with_kernel}
-use Rattle.som_rules.proofs.Before.{none_both}
-use Rattle.som_rules.proofs.PlainFaces.{or_none}
-use Rattle.som_rules.proofs.PlainMembers.{types_say}
+use Rattle.som_ancestry.specs.Faces.{classes_breach, rules_breach}
+use Rattle.som_ancestry.specs.Places.{with_kernel}
+use Rattle.som_ancestry.proofs.Before.{none_both}
+use Rattle.som_ancestry.proofs.Conformity.{or_none}
+use Rattle.som_lawful.proofs.PlainMembers.{types_say}
 use Rattle.som_typing.specs.Bodies.{AllSigsKnown}
 use Rattle.som_typing.proofs.NamesKnown.{declared_sig}
 

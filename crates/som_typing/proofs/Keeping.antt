@@ -12,7 +12,7 @@ use Rattle.som_typing.specs.declared.code_place.TypeFault.TheVariants as faults
 use Rattle.som_typing.specs.Kinds.{AreTypes, Fails, IsType, Types, kind_at, type_at}
 use Rattle.som_typing.specs.Scopes.{Keeps, Leaves, scope_at}
 use Rattle.som_laws.proofs.Members.{mem_split}
-use Rattle.som_rules.proofs.Numbering.{map_append}
+use Rattle.som_ancestry.proofs.Numbering.{map_append}
 
 -- a type that is wanted is that of a kind
 pub type_kind : (cs : List Class) (k : Kind) → IsType cs k → kind_at cs k ≡ Of (type_at cs k)

@@ -7,16 +7,16 @@ use Rattle.som_model.specs.Class.{Class, entry_of, introduced_sig}
 use Rattle.som_model.specs.Classes.{class_at}
 use Rattle.som_model.specs.Owner.{entry_at}
 use Rattle.som_model.specs.Typing.{class_facts}
-use Rattle.som_rules.specs.declared.types.Declared.{Declared}
+use Rattle.som_ancestry.specs.declared.types.Declared.{Declared}
 use Rattle.som_typing.specs.Knowing.{NamesKnown, sig_is_known}
-use Rattle.som_rules.specs.Modules.{class_of, classes_of}
-use Rattle.som_rules.specs.Places.{Finds, IsTable, class_of_place, face_at, key_at, with_kernel}
-use Rattle.som_rules.specs.Walk.{AreLists}
-use Rattle.som_rules.proofs.DeclaredClasses.{long_map}
-use Rattle.som_rules.proofs.Descending.{is_a_none}
+use Rattle.som_ancestry.specs.Modules.{class_of, classes_of}
+use Rattle.som_ancestry.specs.Places.{Finds, IsTable, class_of_place, face_at, key_at, with_kernel}
+use Rattle.som_ancestry.specs.Walk.{AreLists}
+use Rattle.som_ancestry.proofs.DeclaredClasses.{long_map}
+use Rattle.som_ancestry.proofs.Descending.{is_a_none}
 use Rattle.som_typing.proofs.Facts.{descent_said, owner_said, signature_said}
-use Rattle.som_rules.proofs.Finding.{known_at_all}
-use Rattle.som_rules.proofs.Owners.{entry_there, entry_unknown}
+use Rattle.som_ancestry.proofs.Finding.{known_at_all}
+use Rattle.som_ancestry.proofs.Owners.{entry_there, entry_unknown}
 
 -- no class descends from one that isn't known
 pub descends_from_none : (cs : List Class) (all : List (List ℕ)) (x : ℕ) (k : ClassKey) → AreLists cs all → x < length cs → Finds (length cs) cs k None → false ≡ (class_facts cs).is_a (key_at cs x) k

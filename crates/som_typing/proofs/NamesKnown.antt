@@ -18,14 +18,14 @@ use Rattle.som_model.specs.declared.class.Sig.{Sig}
 use Rattle.som_model.specs.declared.class.Way.{Way}
 use Rattle.som_model.specs.declared.class.Variable.{Variable}
 use Rattle.som_laws.proofs.Members.{find_first, mem_split, mem_left, mem_right}
-use Rattle.som_rules.specs.Faces.{classes_breach}
+use Rattle.som_ancestry.specs.Faces.{classes_breach}
 use Rattle.som_typing.specs.Knowing.{NamesKnown, sig_is_known}
-use Rattle.som_rules.specs.Places.{class_of_place, face_at, nobody, with_kernel}
-use Rattle.som_rules.specs.Plainly.{IsAmong, TypesKnown}
-use Rattle.som_rules.proofs.Before.{every_mem, known_by_s2, mem_every, mem_known, none_both}
-use Rattle.som_rules.proofs.Owners.{mem_middle}
-use Rattle.som_rules.proofs.PlainFaces.{or_none}
-use Rattle.som_rules.proofs.PlainMembers.{both_true, types_say}
+use Rattle.som_ancestry.specs.Places.{class_of_place, face_at, nobody, with_kernel}
+use Rattle.som_lawful.specs.Plainly.{IsAmong, TypesKnown}
+use Rattle.som_ancestry.proofs.Before.{every_mem, known_by_s2, mem_every, mem_known, none_both}
+use Rattle.som_ancestry.proofs.Owners.{mem_middle}
+use Rattle.som_ancestry.proofs.Conformity.{or_none}
+use Rattle.som_lawful.proofs.PlainMembers.{both_true, types_say}
 
 abbrev entry_known : List Class → Entry → Bool
 entry_known all (entries.Introduced name sig way) = sig_is_known all sig

@@ -13,8 +13,8 @@ use Rattle.som_model.specs.Rules.{RuleBreach}
 use Rattle.som_order.specs.Names.{texts}
 use Rattle.som_typing.specs.Kinds.{IsDeclared}
 use Rattle.som_typing.specs.Knowing.{sig_is_known}
-use Rattle.som_rules.specs.Places.{IsTable, class_of_place, with_kernel}
-use Rattle.som_rules.specs.Walk.{AreLists}
+use Rattle.som_ancestry.specs.Places.{IsTable, class_of_place, with_kernel}
+use Rattle.som_ancestry.specs.Walk.{AreLists}
 use Rattle.som_typing.specs.declared.blocks.Parts.{Parts}
 
 -- what a method's body breaks; readers and writers of variables have no block

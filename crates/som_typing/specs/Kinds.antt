@@ -13,7 +13,7 @@ use Rattle.som_typing.specs.declared.kind.Kind.TheVariants as kinds
 use Rattle.som_typing.specs.declared.code_place.CodePlace.{CodePlace as Place}
 use Rattle.som_typing.specs.declared.code_place.TypeFault.{TypeFault}
 use Rattle.som_typing.specs.declared.code_place.TypeFault.TheVariants as faults
-use Rattle.som_rules.specs.Places.{class_of_place, key_at}
+use Rattle.som_ancestry.specs.Places.{class_of_place, key_at}
 
 -- the type of an expression of this kind
 abbrev pub kind_at : List Class → Kind → ExprType

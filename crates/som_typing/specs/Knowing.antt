@@ -15,9 +15,9 @@ use Rattle.som_typing.specs.declared.kind.Kind.{Kind}
 use Rattle.som_typing.specs.declared.code_place.CodePlace.{CodePlace as Place}
 use Rattle.som_typing.specs.declared.expressions.Code.{Code}
 use Rattle.som_typing.specs.declared.knowledge.Knowledge.{Knowledge}
-use Rattle.som_rules.specs.Modules.{classes_of}
-use Rattle.som_rules.specs.Places.{IsTable, class_of_place, face_at, with_kernel}
-use Rattle.som_rules.specs.Walk.{AreLists}
+use Rattle.som_ancestry.specs.Modules.{classes_of}
+use Rattle.som_ancestry.specs.Places.{IsTable, class_of_place, face_at, with_kernel}
+use Rattle.som_ancestry.specs.Walk.{AreLists}
 use Rattle.som_typing.specs.Kinds.{AreTypes, PlaceStands, code_at, type_at}
 
 -- the kernel's classes and the declared ones

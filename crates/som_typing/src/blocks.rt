@@ -1,11 +1,11 @@
 ghost use Rattle.som_model.specs.Conforming.{class_typed as typed_class, first_of_names, main_typed as typed_main};
 ghost use Rattle.som_model.specs.Kernel.{kernel};
 ghost use Rattle.som_model.specs.Lists.{first};
-ghost use Rattle.som_rules.specs.Faces.{rules_breach};
-ghost use Rattle.som_rules.specs.Modules.{classes_of};
-ghost use Rattle.som_rules.specs.Places.{with_kernel};
-ghost use Rattle.som_rules.specs.Told.{Tells};
-ghost use Rattle.som_rules.specs.declared.types.VerifyFault.TheVariants as faults;
+ghost use Rattle.som_ancestry.specs.Faces.{rules_breach};
+ghost use Rattle.som_ancestry.specs.Modules.{classes_of};
+ghost use Rattle.som_ancestry.specs.Places.{with_kernel};
+ghost use Rattle.som_ancestry.specs.Told.{Tells};
+ghost use Rattle.som_ancestry.specs.declared.types.VerifyFault.TheVariants as faults;
 ghost use Rattle.som_typing.specs.Bodies.{AllSigsKnown, AreParts};
 ghost use Rattle.som_typing.specs.Knowing.{IsKnowledge, all_of};
 ghost use Rattle.std.specs.Prelude.{◌≡◌, ◌≤◌, ◌++◌, drop, length, flat_map, IfErr, IfOk, None};
@@ -13,8 +13,8 @@ ghost use Rattle.std.specs.Prelude.{◌≡◌, ◌≤◌, ◌++◌, drop, length
 use crate::knowledge::{Knowledge, know};
 use crate::typed_bodies::{bodies_typed, main_typed};
 use indexmap::IndexSet;
+use som_ancestry::{Declared, VerifyFault, class_names, declared_ancestors};
 use som_model::{Block, Interface, List, kernel_faces};
-use som_rules::{Declared, VerifyFault, class_names, declared_ancestors};
 use std::alloc::Global;
 
 /// What typing is to know of classes: their names, the kernel's faces, and the ancestors of each by places.

@@ -1,6 +1,6 @@
 ghost use Rattle.som_model.specs.Keys.{same_key};
 ghost use Rattle.som_model.specs.Typing as typing;
-ghost use Rattle.som_rules.specs.Places.{key_at};
+ghost use Rattle.som_ancestry.specs.Places.{key_at};
 ghost use Rattle.som_typing.specs.Kinds.{AllStand, Comes, IsType, Names, PlaceStands, Stands, code_at, is_proper_at, key_of, kind_at, parent_at, type_at};
 ghost use Rattle.som_typing.specs.Knowing.{IsKnowledge, all_of, facts_of, sig_is_known};
 ghost use Rattle.std.specs.Prelude.{◌≡◌, ◌<◌, ◌&&◌, not, true, length, map, Ok, IfSome};
@@ -12,8 +12,8 @@ use crate::knowledge::{
     Knowledge, decl_at, descends_from, is_below, is_instance, kind_fits, kind_of, metaclass_of,
     owner, place_of, signature_of, type_fits,
 };
+use som_ancestry::SOM_CLASS;
 use som_model::{ClassKey, MAX_PARAMETERS, MethodRef, Sig, ValueType};
-use som_rules::SOM_CLASS;
 
 /// The body's own object; S20 is broken outside of bodies of classes.
 pub fn self_kind(known: &Knowledge, at: &CodePlace) -> Result<Kind, u8>

@@ -13,8 +13,8 @@ use crate::parts::{
     binary, cast, host, isa, named, named_call, offset_call, parent_call, parents_call, proxy,
     ruled, unary,
 };
+use som_ancestry::SOM_CLASS_MGR;
 use som_model::{Expr, List};
-use som_rules::SOM_CLASS_MGR;
 use std::alloc::Global;
 
 /// Where expressions stand: what is known, the place of the code, and the kinds of the locals in scope.

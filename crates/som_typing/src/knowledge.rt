@@ -2,11 +2,11 @@ ghost use Rattle.som_model.specs.Kernel.{kernel_interface};
 ghost use Rattle.som_model.specs.Typing.{descends_to, fits, kind_is_known};
 ghost use Rattle.som_model.specs.declared.key.ValueType.TheVariants as types;
 ghost use Rattle.som_order.specs.Names.{texts};
-ghost use Rattle.som_rules.specs.Faces.{classes_breach};
-ghost use Rattle.som_rules.specs.Inherited.{method_of};
-ghost use Rattle.som_rules.specs.Modules.{classes_of};
-ghost use Rattle.som_rules.specs.Places.{Finds, IsTable, class_of_place, face_at, key_at, with_kernel};
-ghost use Rattle.som_rules.specs.Walk.{AreLists};
+ghost use Rattle.som_ancestry.specs.Faces.{classes_breach};
+ghost use Rattle.som_ancestry.specs.Inherited.{method_of};
+ghost use Rattle.som_ancestry.specs.Modules.{classes_of};
+ghost use Rattle.som_ancestry.specs.Places.{Finds, IsTable, class_of_place, face_at, key_at, with_kernel};
+ghost use Rattle.som_ancestry.specs.Walk.{AreLists};
 ghost use Rattle.som_typing.specs.Kinds.{IsDeclared, IsType, Stands, kind_at, type_at};
 ghost use Rattle.som_typing.specs.Knowing.{IsKnowledge, all_of, facts_of, sig_is_known};
 ghost use Rattle.std.specs.Prelude.{◌≡◌, ◌<◌, ℕ, None, true, length, is_some, option_copied, IfSome};
@@ -14,10 +14,10 @@ ghost use Rattle.std.specs.Prelude.{◌≡◌, ◌<◌, ℕ, None, true, length,
 use crate::forms::{is_boolean, is_long, is_nothing, is_string};
 use crate::kind::Kind;
 use indexmap::IndexSet;
-use som_model::{ClassDecl, ClassFace, ClassKey, Entry, List, MethodRef, Sig, ValueType};
-use som_rules::{
+use som_ancestry::{
     Declared, KERNEL_CLASSES, Method, descends_by, entries_at, find_class, introduced_by, owner_of,
 };
+use som_model::{ClassDecl, ClassFace, ClassKey, Entry, List, MethodRef, Sig, ValueType};
 
 /// What typing knows of classes that break no rule on faces: their names, their places, and their ancestors by places.
 #[derive(Clone, Copy)]

@@ -2,8 +2,8 @@ ghost use Rattle.som_model.specs.Class.{Class};
 ghost use Rattle.som_model.specs.Conforming.{block_breach, bodies_typed as all_typed, class_typed as typed_class, main_typed as typed_main, override_typed as typed_override};
 ghost use Rattle.som_model.specs.Lists.{every, first};
 ghost use Rattle.som_model.specs.Rules.{is_known};
-ghost use Rattle.som_rules.specs.Modules.{class_of, classes_of};
-ghost use Rattle.som_rules.specs.Told.{Tells};
+ghost use Rattle.som_ancestry.specs.Modules.{class_of, classes_of};
+ghost use Rattle.som_ancestry.specs.Told.{Tells};
 ghost use Rattle.som_typing.specs.Bodies.{AllSigsKnown, SigsKnown, StandsAt, body_breaks};
 ghost use Rattle.som_typing.specs.Kinds.{AreTypes, IsType, type_at};
 ghost use Rattle.som_typing.specs.Knowing.{IsKnowledge, all_of, sig_is_known};
@@ -14,8 +14,8 @@ use crate::code_place::{CodePlace, TypeFault};
 use crate::kind::Kind;
 use crate::knowledge::{Knowledge, kind_of, signature_of};
 use crate::statements::block_typed;
+use som_ancestry::{Broken, Declared, KERNEL_CLASSES, VerifyFault, breach};
 use som_model::{Block, Body, Entry, NoMemory, Override, Sig, Text, ValueType};
-use som_rules::{Broken, Declared, KERNEL_CLASSES, VerifyFault, breach};
 use std::alloc::Global;
 
 /// Each body of the classes from a place on is well typed.

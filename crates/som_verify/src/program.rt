@@ -1,14 +1,15 @@
 ghost use Rattle.som_model.specs.Class.{bare};
 ghost use Rattle.som_model.specs.Conforming.{ProgramOk, declared_program_breach, program_breach};
-ghost use Rattle.som_rules.specs.Modules.{classes_of};
-ghost use Rattle.som_rules.specs.Plainly.{program_classes};
-ghost use Rattle.som_rules.specs.Told.{Tells};
-ghost use Rattle.som_rules.specs.declared.types.Broken.{Broken};
-ghost use Rattle.som_rules.specs.declared.types.VerifyFault.TheVariants as faults;
+ghost use Rattle.som_ancestry.specs.Modules.{classes_of};
+ghost use Rattle.som_lawful.specs.Plainly.{program_classes};
+ghost use Rattle.som_ancestry.specs.Told.{Tells};
+ghost use Rattle.som_ancestry.specs.declared.types.Broken.{Broken};
+ghost use Rattle.som_ancestry.specs.declared.types.VerifyFault.TheVariants as faults;
 ghost use Rattle.std.specs.Prelude.{◌≡◌, map, Err, IfOk};
 
+use som_ancestry::{Declared, VerifyFault, bare_classes, declare};
 use som_model::{ClassDecl, ClientProgram, Module, NoMemory};
-use som_rules::{Declared, VerifyFault, bare_classes, declare, rules_hold};
+use som_rules::rules_hold;
 use som_typing::program_typed;
 use std::alloc::Global;
 

@@ -1,11 +1,12 @@
 ghost use Rattle.som_model.specs.Conforming.{ReleaseOk, release_breach};
-ghost use Rattle.som_rules.specs.Told.{Tells};
-ghost use Rattle.som_rules.specs.declared.types.Broken.{Broken};
-ghost use Rattle.som_rules.specs.declared.types.VerifyFault.TheVariants as faults;
+ghost use Rattle.som_ancestry.specs.Told.{Tells};
+ghost use Rattle.som_ancestry.specs.declared.types.Broken.{Broken};
+ghost use Rattle.som_ancestry.specs.declared.types.VerifyFault.TheVariants as faults;
 ghost use Rattle.std.specs.Prelude.{◌≡◌, Err, IfOk};
 
+use som_ancestry::{VerifyFault, declare};
 use som_model::{ClassDecl, Module, Release};
-use som_rules::{VerifyFault, declare, rules_hold};
+use som_rules::rules_hold;
 use som_typing::blocks_typed;
 use std::alloc::Global;
 

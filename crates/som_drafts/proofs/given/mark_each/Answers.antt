@@ -1,5 +1,5 @@
 use Rattle.std.proofs.Common.{map, ap}
-use Rattle.som_idl.specs.declared.tree.Modifier.{Modifier}
+use Rattle.som_syntax.specs.declared.interface.Modifier.{Modifier}
 use Rattle.som_drafts.specs.Items.{given_by}
 use Rattle.som_scope.proofs.Going.{map_end, map_next, pushed}
 use Rattle.som_drafts.proofs.given.mark_each.Goals as goal

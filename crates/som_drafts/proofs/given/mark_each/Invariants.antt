@@ -1,6 +1,6 @@
 use Rattle.std.proofs.Common.{◌≡◌, ◌++◌, drop, map}
 use Rattle.som_drafts.specs.Items.{given_by}
-use Rattle.som_idl.specs.declared.tree.Modifier.{Modifier}
+use Rattle.som_syntax.specs.declared.interface.Modifier.{Modifier}
 use Rattle.som_drafts.proofs.given.mark_each.Given as goal
 
 abbrev pub invariant-loop-modifier : goal.invariant-loop-modifier

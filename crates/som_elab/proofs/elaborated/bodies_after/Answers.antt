@@ -3,12 +3,12 @@ use Rattle.som_model.specs.Class.{Class, class_in}
 use Rattle.som_model.specs.declared.key.Module.TheVariants as modules
 use Rattle.som_scope.specs.ClassNames.{module_in_scope}
 use Rattle.som_drafts.specs.Drafts.{plain_drafts}
-use Rattle.som_rules.specs.Faces.{classes_breach}
-use Rattle.som_rules.specs.Modules.{classes_of}
-use Rattle.som_rules.specs.Places.{with_kernel}
-use Rattle.som_elab.specs.Elaboration.{Answers}
-use Rattle.som_elab.specs.Contexts.{checked_steps}
-use Rattle.som_elab.specs.Texts.{given}
+use Rattle.som_ancestry.specs.Faces.{classes_breach}
+use Rattle.som_ancestry.specs.Modules.{classes_of}
+use Rattle.som_ancestry.specs.Places.{with_kernel}
+use Rattle.som_blocks.specs.Blocks.{Answers}
+use Rattle.som_blocks.specs.Contexts.{checked_steps}
+use Rattle.som_methods.specs.Texts.{given}
 use Rattle.som_elab.proofs.elaborated.bodies_after.Goals as goal
 
 pub bodies_among-requires-clause-rules : goal.bodies_among-requires-clause-rules

@@ -4,9 +4,9 @@ use Rattle.som_scope.specs.ClassNames.{face_names, module_in_scope, kernel_names
 use Rattle.som_drafts.specs.Drafts.{plain_drafts}
 use Rattle.som_scope.specs.Words.{interface_names, lent, once}
 use Rattle.som_sema.proofs.Finishing.{base_is}
-use Rattle.som_rules.proofs.DeclaredClasses.{long_map}
-use Rattle.som_elab.specs.Contexts.{ParentsCounted}
-use Rattle.som_elab.specs.Texts.{given}
+use Rattle.som_ancestry.proofs.DeclaredClasses.{long_map}
+use Rattle.som_blocks.specs.Contexts.{ParentsCounted}
+use Rattle.som_methods.specs.Texts.{given}
 use Rattle.som_elab.proofs.Declared.{parents_counted}
 use Rattle.som_elab.proofs.ModuleLaws.{few_over, rules_over, steps_over}
 use Rattle.som_elab.proofs.elaborated.grouped_over.Goals as goal

@@ -4,7 +4,7 @@ use Rattle.som_model.specs.declared.limits.TheConstants.{MAX_LOCALS}
 use Rattle.som_model.specs.Typing.{fits}
 use Rattle.som_typing.specs.Kinds.{kind_at}
 use Rattle.som_typing.specs.Knowing.{facts_of}
-use Rattle.som_forms.specs.Code.{among_at, classes_at}
+use Rattle.som_terms.specs.Code.{among_at, classes_at}
 use Rattle.som_forms.proofs.NamesInScope.{var_many, var_misfits, var_opens, var_seen, var_unknown}
 use Rattle.som_forms.proofs.scoping.declared_kind.Goals as goal
 

@@ -1,6 +1,6 @@
 use Rattle.std.proofs.Common.{is_some, Option, ℕ, sym, ap, ◌∙◌}
-use Rattle.som_forms.specs.Code.{names_at}
-use Rattle.som_forms.proofs.NameLaws.{place_said}
+use Rattle.som_terms.specs.Code.{names_at}
+use Rattle.som_terms.proofs.NameLaws.{place_said}
 use Rattle.som_forms.proofs.NamesInScope.{scope_by}
 use Rattle.som_forms.proofs.scoping.is_in_scope.Goals as goal
 

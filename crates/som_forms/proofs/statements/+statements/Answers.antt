@@ -1,7 +1,8 @@
 use Rattle.std.proofs.Common.{◌≡◌, List, ap, ◌∙◌, subst, Ok}
 use Rattle.std.proofs.lemmas.Result.{err_from_is_err_and}
-use Rattle.som_forms.specs.declared.local.Local.{Local}
-use Rattle.som_forms.specs.Code.{Stops, among_at, classes_at, typed_at, place_at}
+use Rattle.som_terms.specs.declared.local.Local.{Local}
+use Rattle.som_terms.specs.Code.{among_at, classes_at, typed_at, place_at}
+use Rattle.som_forms.specs.Code.{Stops}
 use Rattle.som_forms.specs.Stated.{block_in, by_value, expr_in, names_in, stmt_in, value_in}
 use Rattle.som_forms.specs.Statements.{call_statement, elaborated_stmt, freed, printed, returned, ruled, set_local, set_variable}
 use Rattle.som_forms.proofs.Stating.{part_stops}

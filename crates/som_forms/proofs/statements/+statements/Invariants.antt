@@ -1,7 +1,7 @@
 use Rattle.std.proofs.Common.{◌+◌, ◌*◌, max, drop}
-use Rattle.som_body.specs.declared.tree.StmtText.{size-StmtText}
-use Rattle.som_body.specs.declared.tree.BlockText.{size-BlockText}
-use Rattle.som_forms.specs.Code.{among_at, classes_at, place_at}
+use Rattle.som_syntax.specs.declared.body.StmtText.{size-StmtText}
+use Rattle.som_syntax.specs.declared.body.BlockText.{size-BlockText}
+use Rattle.som_terms.specs.Code.{among_at, classes_at, place_at}
 use Rattle.som_forms.specs.Statements.{elaborated_stmt}
 use Rattle.som_forms.proofs.TextSteps.{IsPart}
 use Rattle.som_forms.proofs.statements.+statements.Given as goal

@@ -1,7 +1,7 @@
 use Rattle.std.proofs.Common.{refl}
 use Rattle.std.proofs.lemmas.Result.{err_from_is_err_and}
 use Rattle.som_scope.specs.ClassNames.{module_in_scope, type_of}
-use Rattle.som_forms.specs.Code.{among_at, classes_at, typed_at}
+use Rattle.som_terms.specs.Code.{among_at, classes_at, typed_at}
 use Rattle.som_forms.specs.Stated.{names_in, value_in}
 use Rattle.som_forms.specs.Statements.{declared}
 use Rattle.som_forms.proofs.NamesInScope.{declares}

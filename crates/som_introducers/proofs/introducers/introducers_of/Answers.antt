@@ -1,8 +1,8 @@
 use Rattle.std.proofs.Common.{◌≤◌, arith, length}
 use Rattle.som_order.specs.Names.{texts}
-use Rattle.som_rules.specs.Modules.{classes_of}
-use Rattle.som_rules.specs.Places.{with_kernel}
-use Rattle.som_rules.proofs.DeclaredClasses.{known_number}
+use Rattle.som_ancestry.specs.Modules.{classes_of}
+use Rattle.som_ancestry.specs.Places.{with_kernel}
+use Rattle.som_ancestry.proofs.DeclaredClasses.{known_number}
 use Rattle.som_introducers.specs.Introducers.{at_first}
 use Rattle.som_introducers.proofs.Seen.{class_more, gathered}
 use Rattle.som_introducers.proofs.introducers.introducers_of.Goals as goal

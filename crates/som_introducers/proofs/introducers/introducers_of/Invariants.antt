@@ -1,6 +1,6 @@
 use Rattle.som_order.specs.Names.{texts}
-use Rattle.som_rules.specs.Modules.{classes_of}
-use Rattle.som_rules.specs.Places.{with_kernel}
+use Rattle.som_ancestry.specs.Modules.{classes_of}
+use Rattle.som_ancestry.specs.Places.{with_kernel}
 use Rattle.som_introducers.specs.Introducers.{AreSeen, at_first}
 use Rattle.som_introducers.proofs.introducers.introducers_of.Given as goal
 

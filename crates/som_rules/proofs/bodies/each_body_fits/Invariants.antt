@@ -1,7 +1,7 @@
 use Rattle.std.proofs.Common.{◌≡◌, drop}
 use Rattle.som_model.specs.Lists.{first}
-use Rattle.som_rules.specs.Modules.{class_of}
-use Rattle.som_rules.specs.Fitting.{bodies_from}
+use Rattle.som_ancestry.specs.Modules.{class_of}
+use Rattle.som_lawful.specs.Fitting.{bodies_from}
 use Rattle.som_rules.proofs.bodies.each_body_fits.Given as goal
 
 abbrev pub invariant-loop-entry : goal.invariant-loop-entry

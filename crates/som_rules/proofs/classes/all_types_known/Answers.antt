@@ -1,7 +1,7 @@
 use Rattle.std.proofs.Common.{refl}
 use Rattle.std.proofs.lemmas.Result.{err_from_is_err_and}
-use Rattle.som_rules.proofs.DeclaredClasses.{known_number}
-use Rattle.som_rules.proofs.Sets.{base_stops, own_tells, rest_is}
+use Rattle.som_ancestry.proofs.DeclaredClasses.{known_number}
+use Rattle.som_ancestry.proofs.Sets.{base_stops, own_tells, rest_is}
 use Rattle.som_rules.proofs.classes.all_types_known.Goals as goal
 
 pub returns-in_err-types_known : goal.returns-in_err-types_known

@@ -1,6 +1,6 @@
 use Rattle.std.proofs.lemmas.Result.{err_from_is_err_and}
-use Rattle.som_rules.specs.Modules.{classes_of}
-use Rattle.som_rules.proofs.Conformity.{names_pass, names_stop}
+use Rattle.som_ancestry.specs.Modules.{classes_of}
+use Rattle.som_ancestry.proofs.Conformity.{names_pass, names_stop}
 use Rattle.som_rules.proofs.classes.classes_hold.Goals as goal
 
 pub returns-in_err-table : goal.returns-in_err-table

@@ -1,9 +1,9 @@
 use Rattle.std.proofs.Common.{subst, sym, List, ℕ}
 use Rattle.std.proofs.lemmas.Result.{err_from_is_err_and}
-use Rattle.som_rules.specs.Modules.{classes_of}
-use Rattle.som_rules.specs.Places.{with_kernel}
-use Rattle.som_rules.specs.Walk.{AreLists}
-use Rattle.som_rules.proofs.Conformity.{first_none, tells_here, tells_later}
+use Rattle.som_ancestry.specs.Modules.{classes_of}
+use Rattle.som_ancestry.specs.Places.{with_kernel}
+use Rattle.som_ancestry.specs.Walk.{AreLists}
+use Rattle.som_ancestry.proofs.Conformity.{first_none, tells_here, tells_later}
 use Rattle.som_rules.proofs.classes.named_hold.Goals as goal
 
 pub returns-in_err-lists : goal.returns-in_err-lists

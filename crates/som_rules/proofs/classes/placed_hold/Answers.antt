@@ -1,6 +1,6 @@
 use Rattle.std.proofs.Common.{Err}
 use Rattle.std.proofs.lemmas.Result.{err_from_is_err_and}
-use Rattle.som_rules.proofs.Conformity.{tells_here, tells_later}
+use Rattle.som_ancestry.proofs.Conformity.{tells_here, tells_later}
 use Rattle.som_rules.proofs.classes.placed_hold.Goals as goal
 
 pub returns-in_err-metaclasses_descend : goal.returns-in_err-metaclasses_descend

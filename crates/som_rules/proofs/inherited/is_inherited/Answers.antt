@@ -2,8 +2,8 @@ use Rattle.std.proofs.Common.{◌&&◌, sym, ap, ◌∙◌}
 use Rattle.som_model.specs.Class.{entry_of, introduced_sig}
 use Rattle.std.specs.Prelude.{is_some}
 use Rattle.som_order.specs.Names.{texts}
-use Rattle.som_rules.specs.Modules.{classes_of}
-use Rattle.som_rules.proofs.DeclaredClasses.{known_number}
+use Rattle.som_ancestry.specs.Modules.{classes_of}
+use Rattle.som_ancestry.proofs.DeclaredClasses.{known_number}
 use Rattle.som_rules.proofs.Inheriting.{from_nobody, inherited_is, not_above}
 use Rattle.som_rules.proofs.inherited.is_inherited.Goals as goal
 

@@ -1,14 +1,14 @@
 use Rattle.std.proofs.Common.{◌∙◌, ◌+◌, ◌<◌, arith, subst, List, ℕ, flat_map, length}
 use Rattle.std.proofs.lemmas.Option.{get_or_from_slice_get}
-use Rattle.som_rules.specs.declared.types.Declared.{Declared}
+use Rattle.som_ancestry.specs.declared.types.Declared.{Declared}
 use Rattle.som_model.specs.Lists.{first}
 use Rattle.som_model.specs.Rules.{RuleBreach}
-use Rattle.som_rules.specs.Along.{doubles_breach}
+use Rattle.som_ancestry.specs.Along.{doubles_breach}
 use Rattle.som_rules.specs.Shared.{row_names}
-use Rattle.som_rules.specs.Modules.{class_of, classes_of}
-use Rattle.som_rules.specs.Places.{with_kernel}
-use Rattle.som_rules.specs.Told.{Tells}
-use Rattle.som_rules.proofs.DeclaredClasses.{long_map}
+use Rattle.som_ancestry.specs.Modules.{class_of, classes_of}
+use Rattle.som_ancestry.specs.Places.{with_kernel}
+use Rattle.som_ancestry.specs.Told.{Tells}
+use Rattle.som_ancestry.proofs.DeclaredClasses.{long_map}
 use Rattle.som_rules.proofs.Once.{place_within}
 use Rattle.som_rules.proofs.SharedRows.{long_rows, shared_is}
 use Rattle.som_rules.proofs.introduced.introduced_once_in.Goals as goal

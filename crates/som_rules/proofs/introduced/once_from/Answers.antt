@@ -2,12 +2,12 @@ use Rattle.std.proofs.Common.{◌≡◌, drop, flat_map, Option, None, Err, ap, 
 use Rattle.std.proofs.lemmas.Result.{err_from_is_err_and}
 use Rattle.som_model.specs.Lists.{first}
 use Rattle.som_model.specs.Rules.{RuleBreach, s8}
-use Rattle.som_rules.specs.Modules.{class_of, classes_of}
-use Rattle.som_rules.specs.Places.{with_kernel}
-use Rattle.som_rules.specs.Told.{Tells}
-use Rattle.som_rules.proofs.DeclaredClasses.{at_of}
+use Rattle.som_ancestry.specs.Modules.{class_of, classes_of}
+use Rattle.som_ancestry.specs.Places.{with_kernel}
+use Rattle.som_ancestry.specs.Told.{Tells}
+use Rattle.som_ancestry.proofs.DeclaredClasses.{at_of}
 use Rattle.som_rules.proofs.Once.{s8_is}
-use Rattle.som_rules.proofs.Passes.{all_pass, goes_on, stops}
+use Rattle.som_ancestry.proofs.Passes.{all_pass, goes_on, stops}
 use Rattle.som_rules.proofs.introduced.once_from.Goals as goal
 
 pub returns-in_err-introduced_once_in : goal.returns-in_err-introduced_once_in

@@ -1,7 +1,7 @@
 use Rattle.std.proofs.Common.{sym, ◌∙◌}
-use Rattle.som_rules.specs.Modules.{classes_of}
-use Rattle.som_rules.specs.Places.{with_kernel}
-use Rattle.som_rules.proofs.Finding.{known_is}
+use Rattle.som_ancestry.specs.Modules.{classes_of}
+use Rattle.som_ancestry.specs.Places.{with_kernel}
+use Rattle.som_ancestry.proofs.Finding.{known_is}
 use Rattle.som_rules.proofs.known.type_is_known.Goals as goal
 
 pub returns-in-Class : goal.returns-in-Class

@@ -2,8 +2,8 @@ use Rattle.std.proofs.Common.{flat_map}
 use Rattle.std.proofs.lemmas.Result.{err_from_is_err_and}
 use Rattle.som_model.specs.Lists.{first}
 use Rattle.som_model.specs.Rules.{s6}
-use Rattle.som_rules.specs.Modules.{class_of, classes_of}
-use Rattle.som_rules.proofs.Passes.{all_pass, item_goes_on, item_stops}
+use Rattle.som_ancestry.specs.Modules.{class_of, classes_of}
+use Rattle.som_ancestry.proofs.Passes.{all_pass, item_goes_on, item_stops}
 use Rattle.som_rules.proofs.members.entries_differ.Goals as goal
 
 pub returns-in_err-own_entries_differ : goal.returns-in_err-own_entries_differ

@@ -1,8 +1,8 @@
 use Rattle.std.proofs.Common.{List, ap, ◌∙◌, map}
 use Rattle.som_model.specs.declared.class.Variable.{Variable}
 use Rattle.som_order.specs.Names.{texts}
-use Rattle.som_rules.specs.Modules.{class_of}
-use Rattle.som_rules.proofs.Doubled.{doubles_tell}
+use Rattle.som_ancestry.specs.Modules.{class_of}
+use Rattle.som_ancestry.proofs.Doubled.{doubles_tell}
 use Rattle.som_rules.proofs.members.own_variables_differ.Goals as goal
 
 pub returns : goal.returns

@@ -1,7 +1,7 @@
 use Rattle.std.proofs.Common.{◌≡◌, drop, flat_map}
 use Rattle.som_model.specs.Rules.{s7}
 use Rattle.som_model.specs.Lists.{first}
-use Rattle.som_rules.specs.Modules.{classes_of}
+use Rattle.som_ancestry.specs.Modules.{classes_of}
 use Rattle.som_rules.proofs.members.variables_differ.Given as goal
 
 abbrev pub invariant-loop-class : goal.invariant-loop-class

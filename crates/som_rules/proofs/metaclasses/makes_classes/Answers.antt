@@ -2,11 +2,11 @@ use Rattle.std.proofs.Common.{◌==◌, ◌+◌, length, None, sym, ap, ◌∙�
 use Rattle.som_model.specs.Kernel.{som_class}
 use Rattle.som_model.specs.Lists.{some}
 use Rattle.som_model.specs.Classes.{is_a}
-use Rattle.som_rules.specs.Modules.{classes_of}
-use Rattle.som_rules.specs.Places.{with_kernel}
-use Rattle.som_rules.proofs.Finding.{known_at_all}
-use Rattle.som_rules.proofs.DeclaredClasses.{known_number}
-use Rattle.som_rules.proofs.Descending.{is_a_place}
+use Rattle.som_ancestry.specs.Modules.{classes_of}
+use Rattle.som_ancestry.specs.Places.{with_kernel}
+use Rattle.som_ancestry.proofs.Finding.{known_at_all}
+use Rattle.som_ancestry.proofs.DeclaredClasses.{known_number}
+use Rattle.som_ancestry.proofs.Descending.{is_a_place}
 use Rattle.som_rules.proofs.metaclasses.makes_classes.Goals as goal
 
 pub returns-in-None : goal.returns-in-None

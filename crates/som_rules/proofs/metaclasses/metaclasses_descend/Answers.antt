@@ -2,10 +2,10 @@ use Rattle.std.proofs.Common.{drop, flat_map}
 use Rattle.std.proofs.lemmas.Result.{err_from_is_err_and}
 use Rattle.som_model.specs.Lists.{first}
 use Rattle.som_model.specs.Rules.{s4}
-use Rattle.som_rules.specs.Modules.{class_of, classes_of}
-use Rattle.som_rules.specs.Places.{with_kernel}
-use Rattle.som_rules.proofs.Before.{declared_metaclass}
-use Rattle.som_rules.proofs.Passes.{all_pass, item_goes_on, item_stops}
+use Rattle.som_ancestry.specs.Modules.{class_of, classes_of}
+use Rattle.som_ancestry.specs.Places.{with_kernel}
+use Rattle.som_ancestry.proofs.Before.{declared_metaclass}
+use Rattle.som_ancestry.proofs.Passes.{all_pass, item_goes_on, item_stops}
 use Rattle.som_rules.proofs.metaclasses.metaclasses_descend.Goals as goal
 
 pub own_metaclass_descends-requires-clause-known : goal.own_metaclass_descends-requires-clause-known

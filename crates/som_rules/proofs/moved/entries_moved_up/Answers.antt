@@ -3,13 +3,13 @@ use Rattle.std.proofs.lemmas.Result.{err_from_is_err_and}
 use Rattle.som_model.specs.Lists.{first}
 use Rattle.som_model.specs.Rules.{s9}
 use Rattle.som_model.specs.declared.key.ClassKey.{ClassKey}
-use Rattle.som_rules.specs.Inherited.{moved_entry}
-use Rattle.som_rules.specs.Modules.{class_of, classes_of}
-use Rattle.som_rules.specs.Places.{with_kernel}
-use Rattle.som_rules.specs.Told.{Tells}
-use Rattle.som_rules.proofs.DeclaredClasses.{item_at, known_number}
+use Rattle.som_ancestry.specs.Inherited.{moved_entry}
+use Rattle.som_ancestry.specs.Modules.{class_of, classes_of}
+use Rattle.som_ancestry.specs.Places.{with_kernel}
+use Rattle.som_ancestry.specs.Told.{Tells}
+use Rattle.som_ancestry.proofs.DeclaredClasses.{item_at, known_number}
 use Rattle.som_rules.proofs.Once.{all_at}
-use Rattle.som_rules.proofs.Passes.{all_pass, item_goes_on, item_stops}
+use Rattle.som_ancestry.proofs.Passes.{all_pass, item_goes_on, item_stops}
 use Rattle.som_rules.proofs.moved.entries_moved_up.Goals as goal
 
 pub own_entries_moved_up-requires-clause-place : goal.own_entries_moved_up-requires-clause-place

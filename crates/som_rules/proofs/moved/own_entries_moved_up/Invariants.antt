@@ -1,8 +1,8 @@
 use Rattle.std.proofs.Common.{◌≡◌, drop, flat_map}
 use Rattle.som_model.specs.Lists.{first}
-use Rattle.som_rules.specs.Inherited.{moved_entry}
-use Rattle.som_rules.specs.Modules.{class_of, classes_of}
-use Rattle.som_rules.specs.Places.{key_at, with_kernel}
+use Rattle.som_ancestry.specs.Inherited.{moved_entry}
+use Rattle.som_ancestry.specs.Modules.{class_of, classes_of}
+use Rattle.som_ancestry.specs.Places.{key_at, with_kernel}
 use Rattle.som_rules.proofs.moved.own_entries_moved_up.Given as goal
 
 abbrev pub invariant-loop-entry : goal.invariant-loop-entry

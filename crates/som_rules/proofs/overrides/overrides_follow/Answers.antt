@@ -2,10 +2,10 @@ use Rattle.std.proofs.Common.{◌<◌, ◌≤◌, ℕ, List, [], ◌∷◌, leng
 use Rattle.std.proofs.lemmas.List.{map-append}
 use Rattle.som_model.specs.Rules.{breach}
 use Rattle.som_model.specs.declared.class.Override.{Override}
-use Rattle.som_rules.specs.declared.inherited.Method.{Method}
-use Rattle.som_rules.specs.Inherited.{may_override, method_of}
-use Rattle.som_rules.specs.Modules.{class_of, classes_of}
-use Rattle.som_rules.specs.Places.{key_at, with_kernel}
+use Rattle.som_ancestry.specs.declared.methods.Method.{Method}
+use Rattle.som_ancestry.specs.Inherited.{may_override, method_of}
+use Rattle.som_ancestry.specs.Modules.{class_of, classes_of}
+use Rattle.som_ancestry.specs.Places.{key_at, with_kernel}
 use Rattle.som_rules.proofs.Overriding.{override_stops, overrides_end, overrides_go_on, owners_end, owners_grow}
 use Rattle.som_rules.proofs.overrides.overrides_follow.Goals as goal
 

@@ -1,8 +1,8 @@
 use Rattle.std.proofs.Common.{◌≡◌, drop, flat_map}
 use Rattle.som_model.specs.Rules.{s10}
-use Rattle.som_rules.specs.Places.{with_kernel}
+use Rattle.som_ancestry.specs.Places.{with_kernel}
 use Rattle.som_model.specs.Lists.{first}
-use Rattle.som_rules.specs.Modules.{classes_of}
+use Rattle.som_ancestry.specs.Modules.{classes_of}
 use Rattle.som_rules.proofs.overrides.overrides_inherited.Given as goal
 
 abbrev pub invariant-loop-place : goal.invariant-loop-place

@@ -1,8 +1,8 @@
 use Rattle.std.proofs.Common.{map, ap}
 use Rattle.std.proofs.lemmas.Result.{err_from_is_err_and}
-use Rattle.som_rules.specs.Inherited.{method_of}
-use Rattle.som_rules.specs.Modules.{class_of, classes_of}
-use Rattle.som_rules.specs.Places.{key_at, with_kernel}
+use Rattle.som_ancestry.specs.Inherited.{method_of}
+use Rattle.som_ancestry.specs.Modules.{class_of, classes_of}
+use Rattle.som_ancestry.specs.Places.{key_at, with_kernel}
 use Rattle.som_rules.proofs.Replacing.{overrides_tell, selects_tell}
 use Rattle.som_rules.proofs.overrides.own_overrides_inherited.Goals as goal
 

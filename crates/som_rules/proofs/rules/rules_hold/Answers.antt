@@ -2,11 +2,11 @@ use Rattle.std.proofs.Common.{ap, flat_map, sym, ◌∙◌, subst}
 use Rattle.std.proofs.lemmas.Result.{err_from_is_err_and}
 use Rattle.som_model.specs.Lists.{first}
 use Rattle.som_model.specs.Rules.{s14}
-use Rattle.som_rules.specs.Modules.{class_of, classes_of}
-use Rattle.som_rules.specs.Told.{Tells}
-use Rattle.som_rules.proofs.Conformity.{tells_here, tells_later}
-use Rattle.som_rules.proofs.DeclaredClasses.{drop_map}
-use Rattle.som_rules.proofs.Sets.{rest_is}
+use Rattle.som_ancestry.specs.Modules.{class_of, classes_of}
+use Rattle.som_ancestry.specs.Told.{Tells}
+use Rattle.som_ancestry.proofs.Conformity.{tells_here, tells_later}
+use Rattle.som_ancestry.proofs.DeclaredClasses.{drop_map}
+use Rattle.som_ancestry.proofs.Sets.{rest_is}
 use Rattle.som_rules.proofs.rules.rules_hold.Goals as goal
 
 pub returns-in_err-classes_hold : goal.returns-in_err-classes_hold

@@ -1,10 +1,10 @@
 use Rattle.std.proofs.Common.{◌+◌, length, None, sym, ap, ◌∙◌, true≢false}
 use Rattle.som_model.specs.Classes.{is_a}
-use Rattle.som_rules.specs.Modules.{classes_of}
-use Rattle.som_rules.specs.Places.{key_at, with_kernel}
-use Rattle.som_rules.proofs.Finding.{known_at_all}
-use Rattle.som_rules.proofs.DeclaredClasses.{known_number}
-use Rattle.som_rules.proofs.Descending.{is_a_none}
+use Rattle.som_ancestry.specs.Modules.{classes_of}
+use Rattle.som_ancestry.specs.Places.{key_at, with_kernel}
+use Rattle.som_ancestry.proofs.Finding.{known_at_all}
+use Rattle.som_ancestry.proofs.DeclaredClasses.{known_number}
+use Rattle.som_ancestry.proofs.Descending.{is_a_none}
 use Rattle.som_rules.proofs.selects.descends.Goals as goal
 
 pub returns-in-None : goal.returns-in-None

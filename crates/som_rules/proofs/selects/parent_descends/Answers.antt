@@ -2,8 +2,8 @@ use Rattle.std.proofs.Common.{◌∙◌, sym, ap, subst, Some}
 use Rattle.std.proofs.lemmas.Option.{slice_get-get_or, slice_get_past}
 use Rattle.som_model.specs.Lists.{Mem}
 use Rattle.som_model.specs.Rules.{is_parent_below}
-use Rattle.som_rules.specs.Modules.{classes_of}
-use Rattle.som_rules.specs.Places.{with_kernel}
+use Rattle.som_ancestry.specs.Modules.{classes_of}
+use Rattle.som_ancestry.specs.Places.{with_kernel}
 use Rattle.som_rules.proofs.Replacing.{index_mem}
 use Rattle.som_rules.proofs.selects.parent_descends.Goals as goal
 

@@ -3,10 +3,10 @@ use Rattle.std.proofs.lemmas.List.{map-append}
 use Rattle.som_model.specs.Rules.{breach}
 use Rattle.som_model.specs.declared.key.ClassKey.{ClassKey}
 use Rattle.som_model.specs.declared.class.Select.{Select}
-use Rattle.som_rules.specs.declared.inherited.Method.{Method}
-use Rattle.som_rules.specs.Inherited.{may_select, method_of}
-use Rattle.som_rules.specs.Modules.{class_of, classes_of}
-use Rattle.som_rules.specs.Places.{key_at, with_kernel}
+use Rattle.som_ancestry.specs.declared.methods.Method.{Method}
+use Rattle.som_ancestry.specs.Inherited.{may_select, method_of}
+use Rattle.som_ancestry.specs.Modules.{class_of, classes_of}
+use Rattle.som_ancestry.specs.Places.{key_at, with_kernel}
 use Rattle.som_rules.proofs.Selecting.{select_stops, selects_end, selects_go_on}
 use Rattle.som_rules.proofs.selects.selects_follow.Goals as goal
 

@@ -1,8 +1,8 @@
 use Rattle.std.proofs.Common.{◌≡◌, drop, map}
 use Rattle.som_model.specs.Lists.{first}
-use Rattle.som_rules.specs.Inherited.{method_of, selects_from}
-use Rattle.som_rules.specs.Modules.{class_of, classes_of}
-use Rattle.som_rules.specs.Places.{key_at, with_kernel}
+use Rattle.som_ancestry.specs.Inherited.{method_of, selects_from}
+use Rattle.som_ancestry.specs.Modules.{class_of, classes_of}
+use Rattle.som_ancestry.specs.Places.{key_at, with_kernel}
 use Rattle.som_rules.proofs.selects.selects_follow.Given as goal
 
 abbrev pub invariant-loop-item : goal.invariant-loop-item

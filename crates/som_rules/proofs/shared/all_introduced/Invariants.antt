@@ -1,8 +1,8 @@
 use Rattle.std.proofs.Common.{◌≡◌, ◌++◌, drop}
 use Rattle.som_order.specs.Names.{texts}
 use Rattle.som_rules.specs.Shared.{all_introduced}
-use Rattle.som_rules.specs.Modules.{classes_of}
-use Rattle.som_rules.specs.Places.{with_kernel}
+use Rattle.som_ancestry.specs.Modules.{classes_of}
+use Rattle.som_ancestry.specs.Places.{with_kernel}
 use Rattle.som_rules.proofs.shared.all_introduced.Given as goal
 
 abbrev pub invariant-loop-place : goal.invariant-loop-place

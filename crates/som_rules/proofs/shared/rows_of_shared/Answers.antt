@@ -1,8 +1,8 @@
 use Rattle.std.proofs.Common.{◌<◌, ◌≤◌, length, arith}
 use Rattle.som_order.specs.Names.{texts}
-use Rattle.som_rules.specs.Modules.{classes_of}
-use Rattle.som_rules.specs.Places.{with_kernel}
-use Rattle.som_rules.proofs.DeclaredClasses.{known_number}
+use Rattle.som_ancestry.specs.Modules.{classes_of}
+use Rattle.som_ancestry.specs.Places.{with_kernel}
+use Rattle.som_ancestry.proofs.DeclaredClasses.{known_number}
 use Rattle.som_rules.proofs.SharedRows.{rows_grow, rows_end}
 use Rattle.som_rules.proofs.shared.rows_of_shared.Goals as goal
 

@@ -1,7 +1,7 @@
 use Rattle.std.proofs.Common.{◌≡◌, ◌++◌, drop, map}
 use Rattle.som_order.specs.Names.{texts}
-use Rattle.som_rules.specs.Modules.{classes_of}
-use Rattle.som_rules.specs.Places.{with_kernel}
+use Rattle.som_ancestry.specs.Modules.{classes_of}
+use Rattle.som_ancestry.specs.Places.{with_kernel}
 use Rattle.som_rules.proofs.SharedRows.{row}
 use Rattle.som_rules.proofs.shared.rows_of_shared.Given as goal
 

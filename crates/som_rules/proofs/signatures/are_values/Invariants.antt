@@ -1,8 +1,8 @@
 use Rattle.std.proofs.Common.{◌≡◌, drop, take}
 use Rattle.som_model.specs.Lists.{every}
 use Rattle.som_model.specs.Rules.{is_value_type}
-use Rattle.som_rules.specs.Modules.{classes_of}
-use Rattle.som_rules.specs.Places.{with_kernel}
+use Rattle.som_ancestry.specs.Modules.{classes_of}
+use Rattle.som_ancestry.specs.Places.{with_kernel}
 use Rattle.som_rules.proofs.signatures.are_values.Given as goal
 
 abbrev pub invariant-loop-kind : goal.invariant-loop-kind

@@ -1,8 +1,8 @@
 use Rattle.std.proofs.Common.{◌≡◌, drop, take, flat_map}
 use Rattle.som_model.specs.Lists.{first}
-use Rattle.som_rules.specs.Modules.{class_of, classes_of}
-use Rattle.som_rules.specs.Places.{with_kernel}
-use Rattle.som_rules.specs.Typed.{entry_types}
+use Rattle.som_ancestry.specs.Modules.{class_of, classes_of}
+use Rattle.som_ancestry.specs.Places.{with_kernel}
+use Rattle.som_lawful.specs.Typed.{entry_types}
 use Rattle.som_rules.proofs.signatures.signatures_known.Given as goal
 
 abbrev pub invariant-loop-entry : goal.invariant-loop-entry

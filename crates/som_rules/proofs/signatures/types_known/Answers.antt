@@ -2,9 +2,9 @@ use Rattle.std.proofs.Common.{take, flat_map}
 use Rattle.std.proofs.lemmas.Result.{err_from_is_err_and}
 use Rattle.som_model.specs.Lists.{first}
 use Rattle.som_model.specs.Rules.{s5}
-use Rattle.som_rules.specs.Modules.{class_of, classes_of}
-use Rattle.som_rules.specs.Places.{with_kernel}
-use Rattle.som_rules.proofs.Passes.{all_pass, item_goes_on, item_stops}
+use Rattle.som_ancestry.specs.Modules.{class_of, classes_of}
+use Rattle.som_ancestry.specs.Places.{with_kernel}
+use Rattle.som_ancestry.proofs.Passes.{all_pass, item_goes_on, item_stops}
 use Rattle.som_rules.proofs.signatures.types_known.Goals as goal
 
 pub returns-in_err-own_types_known : goal.returns-in_err-own_types_known

@@ -1,7 +1,7 @@
 use Rattle.std.proofs.Common.{List, ℕ, ap, refl, subst, ◌∙◌, ◌≡◌}
 use Rattle.std.specs.Borrow.{Bor}
 use Rattle.std.specs.Prelude.{IfOk}
-use Rattle.som_idl.specs.declared.tree.IdlInterface.{IdlInterface}
+use Rattle.som_syntax.specs.declared.interface.IdlInterface.{IdlInterface}
 use Rattle.som_order.specs.Names.{texts}
 use Rattle.som_scope.specs.Words.{interface_names, lent, once}
 use Rattle.som_scope.proofs.Going.{next_value, rest_end}

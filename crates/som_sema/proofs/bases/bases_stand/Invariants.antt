@@ -3,8 +3,8 @@ use Rattle.som_model.specs.Lists.{first}
 use Rattle.som_scope.specs.ClassNames.{module_in_scope}
 use Rattle.som_drafts.specs.Drafts.{plain_drafts}
 use Rattle.som_sema.specs.TextRules.{text_s2_from}
-use Rattle.som_rules.specs.Modules.{classes_of}
-use Rattle.som_rules.specs.Places.{with_kernel}
+use Rattle.som_ancestry.specs.Modules.{classes_of}
+use Rattle.som_ancestry.specs.Places.{with_kernel}
 use Rattle.som_sema.proofs.bases.bases_stand.Given as goal
 
 abbrev pub invariant-loop-draft : goal.invariant-loop-draft

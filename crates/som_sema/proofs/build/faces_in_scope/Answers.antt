@@ -2,8 +2,8 @@ use Rattle.std.proofs.Common.{◌≡◌, List, ap, ◌∙◌, subst}
 use Rattle.std.specs.Prelude.{IfOk}
 use Rattle.som_model.specs.Classes.{interface_classes}
 use Rattle.som_model.specs.declared.class.ClassDecl.{ClassDecl}
-use Rattle.som_rules.specs.Faces.{faces_breach}
-use Rattle.som_rules.specs.Told.{Tells}
+use Rattle.som_ancestry.specs.Faces.{faces_breach}
+use Rattle.som_ancestry.specs.Told.{Tells}
 use Rattle.som_scope.specs.ClassNames.{module_in_scope}
 use Rattle.som_scope.specs.Words.{lent}
 use Rattle.som_sema.specs.Building.{declared_all, draft_rules_breach}

@@ -1,6 +1,6 @@
 use Rattle.std.proofs.Common.{◌∙◌}
-use Rattle.som_rules.proofs.DeclaredClasses.{are_declared}
-use Rattle.som_rules.proofs.PlainFaces.{none_or}
+use Rattle.som_ancestry.proofs.DeclaredClasses.{are_declared}
+use Rattle.som_ancestry.proofs.Conformity.{none_or}
 use Rattle.som_sema.proofs.Composing.{own_names}
 use Rattle.som_sema.proofs.rules.drafts_hold.Goals as goal
 

@@ -1,4 +1,4 @@
-use Rattle.som_turns.specs.Beside.{CanGoOn}
+use Rattle.som_units.specs.Beside.{CanGoOn}
 use Rattle.som_turns.proofs.alone.take_turns.Given as goal
 
 -- the task can be gone on with in each turn

@@ -1,4 +1,4 @@
-use Rattle.som_turns.proofs.Staying.{at_first}
+use Rattle.som_units.proofs.Staying.{at_first}
 use Rattle.som_turns.proofs.beside.go_with.Goals as goal
 
 pub take_rounds-requires : goal.take_rounds-requires

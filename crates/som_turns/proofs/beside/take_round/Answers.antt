@@ -1,5 +1,5 @@
 use Rattle.std.proofs.lemmas.Result.{on_ok_weaker}
-use Rattle.som_turns.proofs.Staying.{turned}
+use Rattle.som_units.proofs.Staying.{turned}
 use Rattle.som_turns.proofs.beside.take_round.Goals as goal
 
 pub turn-requires-2 : goal.turn-requires-2

@@ -1,4 +1,4 @@
-use Rattle.som_turns.specs.Beside.{AreBeside}
+use Rattle.som_units.specs.Beside.{AreBeside}
 use Rattle.som_turns.proofs.beside.take_rounds.Given as goal
 
 -- the tasks are beside each other in each round

@@ -1,4 +1,4 @@
-use Rattle.som_turns.proofs.Staying.{on_ok}
+use Rattle.som_units.proofs.Staying.{on_ok}
 use Rattle.som_turns.proofs.turning.turn.Goals as goal
 
 pub returns-clause-stands : goal.returns-clause-stands

@@ -2,9 +2,9 @@ use Rattle.std.proofs.Common.{drop, flat_map}
 use Rattle.std.proofs.lemmas.Result.{err_from_is_err_and}
 use Rattle.som_model.specs.Conforming.{class_typed}
 use Rattle.som_model.specs.Lists.{first}
-use Rattle.som_rules.specs.Modules.{classes_of}
-use Rattle.som_rules.specs.Places.{with_kernel}
-use Rattle.som_rules.proofs.Unbroken.{wants_memory}
+use Rattle.som_ancestry.specs.Modules.{classes_of}
+use Rattle.som_ancestry.specs.Places.{with_kernel}
+use Rattle.som_ancestry.proofs.Unbroken.{wants_memory}
 use Rattle.som_typing.proofs.Grounds.{names_none}
 use Rattle.som_typing.proofs.blocks.blocks_typed.Goals as goal
 

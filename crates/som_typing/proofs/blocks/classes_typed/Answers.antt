@@ -1,11 +1,11 @@
 use Rattle.std.proofs.Common.{List, drop, flat_map, sym, ◌∙◌, subst}
 use Rattle.som_model.specs.Conforming.{class_typed}
 use Rattle.som_model.specs.Lists.{first}
-use Rattle.som_rules.specs.declared.types.Declared.{Declared}
+use Rattle.som_ancestry.specs.declared.types.Declared.{Declared}
 use Rattle.som_typing.specs.Bodies.{AllSigsKnown}
-use Rattle.som_rules.specs.Modules.{classes_of}
-use Rattle.som_rules.specs.Places.{with_kernel}
-use Rattle.som_rules.specs.Told.{Tells}
+use Rattle.som_ancestry.specs.Modules.{classes_of}
+use Rattle.som_ancestry.specs.Places.{with_kernel}
+use Rattle.som_ancestry.specs.Told.{Tells}
 use Rattle.som_typing.proofs.Grounds.{faces_none, sigs_known}
 use Rattle.som_typing.proofs.blocks.classes_typed.Goals as goal
 

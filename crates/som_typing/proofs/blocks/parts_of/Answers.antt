@@ -1,6 +1,6 @@
 use Rattle.std.proofs.lemmas.Result.{err_from_is_err_and}
-use Rattle.som_rules.specs.Modules.{classes_of}
-use Rattle.som_rules.proofs.Unbroken.{names_apart, no_breach}
+use Rattle.som_ancestry.specs.Modules.{classes_of}
+use Rattle.som_ancestry.proofs.Unbroken.{names_apart, no_breach}
 use Rattle.som_typing.proofs.blocks.parts_of.Goals as goal
 
 pub returns-in_err-table-clause-fault : goal.returns-in_err-table-clause-fault

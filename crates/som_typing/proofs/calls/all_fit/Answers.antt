@@ -3,7 +3,7 @@ use Rattle.som_typing.specs.declared.kind.Kind.TheVariants as kinds
 use Rattle.som_typing.specs.Kinds.{kind_at}
 use Rattle.som_typing.specs.Knowing.{all_of, facts_of}
 use Rattle.som_typing.proofs.CallLaws.{differ_in_length}
-use Rattle.som_rules.proofs.DeclaredClasses.{long_map}
+use Rattle.som_ancestry.proofs.DeclaredClasses.{long_map}
 use Rattle.som_typing.proofs.KindLaws.{all_stand_at}
 use Rattle.som_typing.proofs.calls.all_fit.Goals as goal
 

@@ -2,7 +2,7 @@ use Rattle.std.proofs.Common.{sym, ap, ◌∙◌, true≢false, option_copied, a
 use Rattle.std.specs.Prelude.{unwrap_or}
 use Rattle.som_model.specs.Kernel.{som_class}
 use Rattle.som_typing.specs.Knowing.{all_of, facts_of}
-use Rattle.som_rules.specs.Places.{key_at}
+use Rattle.som_ancestry.specs.Places.{key_at}
 use Rattle.som_typing.proofs.CallLaws.{class_typed_by, object_there}
 use Rattle.som_typing.proofs.Facts.{known_said}
 use Rattle.som_typing.proofs.calls.class_kind.Goals as goal

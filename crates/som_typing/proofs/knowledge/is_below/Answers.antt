@@ -1,6 +1,6 @@
 use Rattle.std.proofs.Common.{sym, ◌∙◌}
 use Rattle.som_typing.specs.Knowing.{all_of}
-use Rattle.som_rules.specs.Places.{key_at}
+use Rattle.som_ancestry.specs.Places.{key_at}
 use Rattle.som_typing.proofs.Facts.{descent_said}
 use Rattle.som_typing.proofs.knowledge.is_below.Goals as goal
 

@@ -1,4 +1,4 @@
-use Rattle.som_rules.specs.Modules.{classes_of}
+use Rattle.som_ancestry.specs.Modules.{classes_of}
 use Rattle.som_typing.proofs.NamesKnown.{moved_holds, names_known}
 use Rattle.som_typing.proofs.knowledge.know.Goals as goal
 

@@ -1,9 +1,9 @@
 use Rattle.std.proofs.Common.{◌+◌, length, sym, ◌∙◌, subst}
 use Rattle.som_typing.specs.Knowing.{all_of}
-use Rattle.som_rules.specs.Places.{Finds}
-use Rattle.som_rules.proofs.DeclaredClasses.{known_number}
+use Rattle.som_ancestry.specs.Places.{Finds}
+use Rattle.som_ancestry.proofs.DeclaredClasses.{known_number}
 use Rattle.som_typing.proofs.Facts.{known_said}
-use Rattle.som_rules.proofs.Finding.{known_at_all}
+use Rattle.som_ancestry.proofs.Finding.{known_at_all}
 use Rattle.som_typing.proofs.knowledge.place_of.Goals as goal
 
 pub returns-clause-finds : goal.returns-clause-finds

@@ -1,9 +1,9 @@
 use Rattle.std.proofs.Common.{ap, ◌∙◌}
 use Rattle.som_model.specs.Class.{entry_of, introduced_sig}
 use Rattle.som_order.specs.Names.{texts}
-use Rattle.som_rules.specs.Inherited.{method_of}
+use Rattle.som_ancestry.specs.Inherited.{method_of}
 use Rattle.som_typing.specs.Knowing.{all_of}
-use Rattle.som_rules.specs.Modules.{classes_of}
+use Rattle.som_ancestry.specs.Modules.{classes_of}
 use Rattle.som_typing.proofs.KnownLaws.{no_signature, signature_known, signature_there}
 use Rattle.som_typing.proofs.knowledge.signature_of.Goals as goal
 

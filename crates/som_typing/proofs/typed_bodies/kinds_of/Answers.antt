@@ -1,6 +1,6 @@
 use Rattle.som_model.specs.Rules.{is_known}
 use Rattle.som_typing.specs.Knowing.{all_of}
-use Rattle.som_rules.proofs.Before.{every_mem}
+use Rattle.som_ancestry.proofs.Before.{every_mem}
 use Rattle.som_typing.proofs.BodySteps.{item_mem, more_kinds, more_types}
 use Rattle.som_typing.proofs.typed_bodies.kinds_of.Goals as goal
 

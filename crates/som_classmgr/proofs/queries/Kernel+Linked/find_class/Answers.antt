@@ -6,7 +6,7 @@ use Rattle.som_model.specs.Invoked.{version_fits}
 use Rattle.som_model.specs.World.{named_class}
 use Rattle.som_meta.specs.Numbering.{Numbering, key_at}
 use Rattle.som_classes.specs.Loaded.{AreLoaded}
-use Rattle.som_classmgr.specs.Linked.{Linkage}
+use Rattle.som_linked.specs.Linked.{Linkage}
 use Rattle.som_classmgr.proofs.Reading.{declared_numbered, found_none, found_some}
 use Rattle.som_classmgr.proofs.queries.Kernel+Linked.find_class.Goals as goal
 

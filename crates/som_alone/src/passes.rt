@@ -1,0 +1,47 @@
+ghost use Rattle.som_model.specs.Lists.{first};
+ghost use Rattle.som_model.specs.Rules.{RuleBreach};
+ghost use Rattle.som_ancestry.specs.Told.{Tells};
+ghost use Rattle.som_ancestry.specs.declared.types.VerifyFault.TheVariants as faults;
+ghost use Rattle.som_ancestry.specs.declared.types.VerifyFault.{VerifyFault as Fault};
+ghost use Rattle.som_drafts.specs.Drafts.{InterfaceDraft, plain_draft, plain_drafts};
+ghost use Rattle.som_drafts.specs.declared.drafts.Draft.{Draft as Known};
+ghost use Rattle.std.specs.Prelude.{◌≡◌, ◌<◌, ℕ, List as Seq, length, flat_map, slice_get, IfOk, Result, Some};
+
+use som_ancestry::{Broken, VerifyFault};
+use som_drafts::Draft;
+use som_model::{NoMemory, Text};
+use std::alloc::Global;
+
+/// The breach of a rule by a member of a class, as an error.
+pub fn breach(
+    alloc: Global,
+    rule: u8,
+    draft: &Draft,
+    member: &[u8],
+) -> Result<VerifyFault, NoMemory>
+    ensures { IfOk result (λ e. e ≡ faults.Rule
+        (record { rule = rule; class = draft.now.decl.face.name; member = member.now })) }
+{
+    Ok(VerifyFault::Rule(Broken {
+        rule,
+        class: draft.decl.face.name.copy(alloc)?,
+        member: Text::from_slice(alloc, member)?,
+    }))
+}
+
+/// A rule at each class in order, by the classes' places.
+pub fn each_draft<F: Fn(usize) -> Result<(), VerifyFault>>(
+    drafts: &[Draft],
+    rule: F,
+) -> Result<(), VerifyFault>
+    requires callable { (place : ℕ) → place < length drafts.now → F.pre rule place }
+    ensures { (one : InterfaceDraft → Seq RuleBreach) →
+        ((place : ℕ) (d : Known) (r : Result (Unit {0}) Fault) → slice_get drafts.now place ≡ Some d →
+        F.post rule place r → Tells (first (one (plain_draft d))) r) →
+        Tells (first (flat_map one (plain_drafts drafts.now))) result }
+{
+    for place in 0..drafts.len() {
+        rule(place)?;
+    }
+    Ok(())
+}

@@ -1,0 +1,17 @@
+pub mod DeclaredClasses
+pub mod Passes
+pub mod Doubled
+pub mod ClassTable
+pub mod Finding
+pub mod Rows
+pub mod Numbering
+pub mod WalkLaw
+pub mod Listed
+pub mod KeyLists
+pub mod Before
+pub mod Descending
+pub mod Sets
+pub mod Conformity
+pub mod Unbroken
+pub mod Declaring
+pub mod Owners

@@ -1,0 +1,10 @@
+pub mod EachFields
+pub mod ClassPlaces
+pub mod NamedFaces
+pub mod NamedParts
+pub mod NamedSelects
+pub mod NamedInterfaces
+pub mod Conforming
+pub mod ClassFields
+pub mod NamedClasses
+pub mod ClassesTurned

@@ -1,0 +1,5 @@
+pub mod ReadClasses
+pub mod SpelledClasses
+pub mod NamedClasses
+pub mod ClassLimits
+pub mod Interfaces

@@ -1,0 +1,4 @@
+pub mod Declaring
+pub mod Noting
+pub mod Introducers
+pub mod PlacedFaces

@@ -1,0 +1,5 @@
+pub mod Finished
+pub mod Noted
+pub mod Known
+pub mod Selecting
+pub mod Refusals

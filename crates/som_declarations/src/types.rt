@@ -1,0 +1,21 @@
+use som_ancestry::Broken;
+use som_model::{NoMemory, Text};
+
+/// Why texts stand for no classes: the first rule that they break, a limit that they pass, or want of memory.
+#[derive(Drop)]
+pub enum Refused {
+    Rule(Broken),
+    Limit { quantity: Text, number: u32 },
+    NoMemory,
+}
+
+impl From<NoMemory> for Refused {
+    ghost use Rattle.std.specs.Prelude.{◌≡◌};
+    ghost use Rattle.som_declarations.specs.declared.types.Refused.TheVariants as faults;
+
+    ghost from_gives = { λ _ e. e ≡ faults.NoMemory };
+
+    fn from(_e: NoMemory) -> Refused {
+        Refused::NoMemory
+    }
+}

@@ -1,0 +1,15 @@
+pub mod Deeper
+pub mod LevelLists
+pub mod OperatorLaws
+pub mod WordLaws
+pub mod PrimaryLaws
+pub mod StartLaws
+pub mod LineLaws
+pub mod LevelFound
+pub mod Strengths
+pub mod WordFound
+pub mod StartsOf
+pub mod FormsFound
+pub mod LineFound
+pub mod TokensWithin
+pub mod WithinLimits

@@ -1,0 +1,10 @@
+pub mod PlainLists
+pub mod PlainNames
+pub mod PlainMembers
+pub mod Falling
+pub mod PlainMoves
+pub mod PlainSelects
+pub mod PlainFaces
+pub mod PlainBodies
+pub mod PlainWhole
+pub mod FacesOnly

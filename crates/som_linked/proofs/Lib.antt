@@ -1,0 +1,5 @@
+pub mod Entering
+pub mod Holding
+pub mod Above
+pub mod Answering
+pub mod Pairing

@@ -1,0 +1,4 @@
+pub mod Linked
+pub mod Entries
+pub mod Kept
+pub mod Shown

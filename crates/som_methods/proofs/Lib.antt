@@ -1,0 +1,6 @@
+pub mod LimitLaws
+pub mod Selecting
+pub mod Grouping
+pub mod OwnTexts
+pub mod NamedClasses
+pub mod Fitting

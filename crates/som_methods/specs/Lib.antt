@@ -1,0 +1,6 @@
+pub mod Accessors
+pub mod Bodies
+pub mod Texts
+pub mod Grouped
+pub mod Limits
+pub mod PlainLimits
