@@ -17,11 +17,11 @@ use Rattle.som_model.specs.Keys.{same_key}
 use Rattle.som_model.specs.Owner.{owner}
 use Rattle.som_model.specs.Typing.{class_facts}
 use Rattle.som_syntax.specs.declared.body.BodyText.{BodyText}
-use Rattle.som_typing.specs.Kinds.{IsDeclared}
-use Rattle.som_typing.specs.Knowing.{sig_is_known}
+use Rattle.som_kinds.specs.Kinds.{IsDeclared}
+use Rattle.som_kinds.specs.Knowing.{sig_is_known}
 use Rattle.som_ancestry.specs.Modules.{classes_of}
 use Rattle.som_ancestry.specs.Places.{class_of_place, with_kernel}
-use Rattle.som_typing.proofs.Facts.{signature_said}
+use Rattle.som_kinds.proofs.Facts.{signature_said}
 use Rattle.som_ancestry.proofs.Finding.{mem_place}
 use Rattle.som_declarations.specs.declared.types.Refused.{Refused}
 use Rattle.som_forms.specs.declared.fault.BodyFault.{BodyFault}

@@ -16,7 +16,7 @@ use Rattle.som_model.specs.Owner.{owner, sig_of}
 use Rattle.som_model.specs.Steps.{◌>>=◌}
 use Rattle.som_model.specs.Typing.{class_facts}
 use Rattle.som_syntax.specs.declared.body.BodyText.{BodyText}
-use Rattle.som_typing.proofs.Facts.{signature_said}
+use Rattle.som_kinds.proofs.Facts.{signature_said}
 use Rattle.som_declarations.specs.declared.types.Refused.{Refused}
 use Rattle.som_methods.specs.Accessors.{body_of}
 use Rattle.som_drafts.specs.Drafts.{InterfaceDraft, plain_drafts, plain_draft}

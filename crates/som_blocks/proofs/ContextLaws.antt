@@ -11,15 +11,15 @@ use Rattle.som_model.specs.Rules.{RuleBreach, s5}
 use Rattle.som_laws.proofs.Members.{mem_split}
 use Rattle.som_typing.specs.Bodies.{AllSigsKnown}
 use Rattle.som_ancestry.specs.Faces.{classes_breach}
-use Rattle.som_typing.specs.Kinds.{IsDeclared}
-use Rattle.som_typing.specs.Knowing.{IsKnowledge}
+use Rattle.som_kinds.specs.Kinds.{IsDeclared}
+use Rattle.som_kinds.specs.Knowing.{IsKnowledge}
 use Rattle.som_ancestry.specs.Modules.{classes_of}
 use Rattle.som_ancestry.specs.Places.{class_of_place, nobody, with_kernel}
 use Rattle.som_ancestry.specs.declared.types.Declared.{Declared}
 use Rattle.som_ancestry.proofs.Before.{none_both}
-use Rattle.som_typing.proofs.BodySteps.{item_mem}
+use Rattle.som_kinds.proofs.KindLists.{item_mem}
 use Rattle.som_ancestry.proofs.DeclaredClasses.{long_map}
-use Rattle.som_typing.proofs.NamesKnown.{declared_sig}
+use Rattle.som_kinds.proofs.NamesKnown.{declared_sig}
 use Rattle.som_ancestry.proofs.Owners.{flat_none}
 use Rattle.som_ancestry.proofs.Conformity.{or_none}
 use Rattle.som_lawful.proofs.PlainLists.{map_mem, mem_map}

@@ -16,7 +16,7 @@ use Rattle.som_syntax.specs.declared.body.BodyText.{BodyText}
 use Rattle.som_syntax.specs.declared.body.BlockText.{BlockText}
 use Rattle.som_typing.specs.Bodies.{AllSigsKnown}
 use Rattle.som_introducers.specs.Introducers.{AreIntroducers}
-use Rattle.som_typing.specs.Knowing.{IsKnowledge, all_of}
+use Rattle.som_kinds.specs.Knowing.{IsKnowledge, all_of}
 use Rattle.som_ancestry.specs.Modules.{classes_of}
 use Rattle.som_declarations.specs.declared.types.Refused.{Refused}
 use Rattle.som_declarations.specs.declared.types.Refused.TheVariants as refusals

@@ -7,7 +7,7 @@ ghost use Rattle.som_methods.specs.Texts.{given};
 ghost use Rattle.som_ancestry.specs.Modules.{classes_of};
 ghost use Rattle.som_ancestry.specs.Told.{Tells};
 ghost use Rattle.som_drafts.specs.Drafts.{plain_drafts};
-ghost use Rattle.som_typing.specs.Knowing.{IsKnowledge, all_of};
+ghost use Rattle.som_kinds.specs.Knowing.{IsKnowledge, all_of};
 ghost use Rattle.std.specs.Prelude.{◌≡◌, option_copied, None};
 
 use crate::class_bodies::{ClassBodies, refusal};
@@ -17,10 +17,10 @@ use som_ancestry::VerifyFault;
 use som_declarations::{Refused, refused};
 use som_drafts::Draft;
 use som_forms::main_body;
+use som_kinds::Knowledge;
 use som_methods::{ModuleTexts, bodies_counted, bodies_named, limits_kept};
 use som_model::{Block, List};
 use som_syntax::BlockText;
-use som_typing::Knowledge;
 use std::alloc::Global;
 
 /// The bodies of all classes of a module, and the block of main.

@@ -11,8 +11,8 @@ ghost use Rattle.som_drafts.specs.Drafts.{plain_draft};
 ghost use Rattle.som_declarations.specs.Finished.{selects_at};
 ghost use Rattle.som_drafts.specs.Items.{or_object};
 ghost use Rattle.som_terms.specs.Code.{ClassFits};
-ghost use Rattle.som_typing.specs.Kinds.{IsDeclared};
-ghost use Rattle.som_typing.specs.Knowing.{sig_is_known};
+ghost use Rattle.som_kinds.specs.Kinds.{IsDeclared};
+ghost use Rattle.som_kinds.specs.Knowing.{sig_is_known};
 ghost use Rattle.std.specs.Prelude.{◌≡◌, ◌≤◌, length, true, IfOk, Some};
 
 use crate::contexts::ModuleContext;
@@ -20,12 +20,12 @@ use som_ancestry::Broken;
 use som_declarations::{Refused, selects};
 use som_drafts::Draft;
 use som_forms::{BodyFault, method_body};
+use som_kinds::{decl_at, signature_of};
 use som_methods::{ModuleTexts, accessors_of, body_named, first_for};
 use som_model::{
     Block, Body, Entry, List, MAX_LOCALS, MethodRef, NoMemory, Override, Select, Sig, Text,
 };
 use som_syntax::BodyText;
-use som_typing::{decl_at, signature_of};
 use std::alloc::Global;
 
 /// The bodies of the entries that a class introduces, its overrides with their blocks, and its selects.

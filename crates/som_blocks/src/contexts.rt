@@ -1,6 +1,6 @@
 use som_introducers::Introducers;
+use som_kinds::Knowledge;
 use som_scope::Scope;
-use som_typing::Knowledge;
 
 /// What the bodies of a module's texts stand among: all classes, which of them introduce each name, and what the names of
 /// classes stand for.

@@ -9,7 +9,7 @@ use Rattle.som_model.specs.Lists.{place_from, some}
 use Rattle.som_model.specs.Steps.{◌>>=◌}
 use Rattle.som_model.specs.Class.{Class}
 use Rattle.som_model.specs.Typing.{fits, kind_is_known, needs}
-use Rattle.som_typing.specs.Kinds.{IsType}
+use Rattle.som_kinds.specs.Kinds.{IsType}
 use Rattle.som_laws.proofs.Members.{mem_split}
 use Rattle.som_ancestry.proofs.DeclaredClasses.{long_map}
 use Rattle.som_terms.specs.declared.local.Local.{Local}

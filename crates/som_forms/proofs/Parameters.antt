@@ -11,7 +11,7 @@ use Rattle.som_model.specs.Class.{Class}
 use Rattle.som_model.specs.Typing.{in_body}
 use Rattle.som_syntax.specs.declared.words.Word.{Word}
 use Rattle.som_syntax.specs.declared.body.BodyText.{BodyText}
-use Rattle.som_typing.specs.Kinds.{IsType, type_at}
+use Rattle.som_kinds.specs.Kinds.{IsType, type_at}
 use Rattle.som_scope.specs.Words.{words}
 use Rattle.som_terms.specs.declared.local.Local.{Local}
 use Rattle.som_terms.specs.Locals.{Named, Names}

@@ -6,10 +6,10 @@ use Rattle.som_model.specs.declared.syntax.Stmt.TheVariants as stmts
 use Rattle.som_model.specs.Steps.{◌>>=◌}
 use Rattle.som_model.specs.Class.{Class}
 use Rattle.som_model.specs.Typing.{CodePlace, Ruled, fits, needs, own_variable, there}
-use Rattle.som_typing.specs.declared.code_place.TypeFault.{TypeFault}
-use Rattle.som_typing.specs.declared.code_place.TypeFault.TheVariants as types
-use Rattle.som_typing.specs.Kinds.{Fails, IsType, type_at}
-use Rattle.som_typing.proofs.KindLaws.{index_mem}
+use Rattle.som_kinds.specs.declared.code_place.TypeFault.{TypeFault}
+use Rattle.som_kinds.specs.declared.code_place.TypeFault.TheVariants as types
+use Rattle.som_kinds.specs.Kinds.{Fails, IsType, type_at}
+use Rattle.som_kinds.proofs.KindLaws.{index_mem}
 use Rattle.som_terms.specs.declared.local.Local.{Local}
 use Rattle.som_terms.specs.Locals.{Names, kinds_of, local_of}
 use Rattle.som_terms.specs.Methods.{variable_place}

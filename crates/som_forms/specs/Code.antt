@@ -1,8 +1,8 @@
 -- What the code makes of the text of a block.
 use Rattle.std.specs.Prelude.{◌≡◌, Result, Ok, Err}
 use Rattle.som_model.specs.declared.syntax.Block.{Block}
-use Rattle.som_typing.specs.declared.code_place.TypeFault.{TypeFault}
-use Rattle.som_typing.specs.declared.code_place.TypeFault.TheVariants as types
+use Rattle.som_kinds.specs.declared.code_place.TypeFault.{TypeFault}
+use Rattle.som_kinds.specs.declared.code_place.TypeFault.TheVariants as types
 use Rattle.som_forms.specs.declared.fault.BodyFault.{BodyFault}
 use Rattle.som_forms.specs.declared.fault.BodyFault.TheVariants as faults
 use Rattle.som_forms.specs.Statements.{Breaks, ManyLocals, Told}

@@ -12,8 +12,8 @@ use Rattle.som_model.specs.Typing.{Ruled, is_boolean, needs}
 use Rattle.som_syntax.specs.declared.expression.ExprText.{ExprText}
 use Rattle.som_syntax.specs.declared.body.StmtText.{StmtText}
 use Rattle.som_syntax.specs.declared.body.BlockText.{BlockText}
-use Rattle.som_typing.specs.declared.kind.Kind.{Kind}
-use Rattle.som_typing.specs.Kinds.{IsType, type_at}
+use Rattle.som_kinds.specs.declared.kind.Kind.{Kind}
+use Rattle.som_kinds.specs.Kinds.{IsType, type_at}
 use Rattle.som_terms.specs.declared.local.Local.{Local}
 use Rattle.som_terms.specs.declared.body_context.BodyContext.{BodyContext}
 use Rattle.som_terms.specs.Locals.{Names}

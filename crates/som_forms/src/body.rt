@@ -9,20 +9,20 @@ ghost use Rattle.som_order.specs.Names.{texts};
 ghost use Rattle.som_ancestry.specs.Places.{class_of_place};
 ghost use Rattle.som_scope.specs.Words.{words as texts_of};
 ghost use Rattle.som_terms.specs.Code.{AreLocals, ClassFits, among_by, names_at};
-ghost use Rattle.som_typing.specs.Kinds.{IsDeclared};
-ghost use Rattle.som_typing.specs.Knowing.{IsKnowledge, all_of, sig_is_known};
+ghost use Rattle.som_kinds.specs.Kinds.{IsDeclared};
+ghost use Rattle.som_kinds.specs.Knowing.{IsKnowledge, all_of, sig_is_known};
 ghost use Rattle.std.specs.Prelude.{◌≡◌, ◌≤◌, ◌⊎◌, true, length, is_some, [], IfOk, Some};
 ghost use Rattle.std.specs.Str.{bytes_eq};
 
 use crate::fault::BodyFault;
 use crate::statements::block;
 use indexmap::IndexSet;
+use som_kinds::{CodePlace, Kind, Knowledge, known_kind};
 use som_model::{Block, MAX_PARAMETERS, NoMemory, Sig, ValueType};
 use som_order::note_name;
 use som_scope::Scope;
 use som_syntax::{BlockText, BodyText, Word};
 use som_terms::{BodyContext, Local};
-use som_typing::{CodePlace, Kind, Knowledge, known_kind};
 use std::alloc::Global;
 
 /// The block that a text has for a method of the class at a place, or what is first wrong with it: a parameter with the

@@ -1,5 +1,5 @@
+use som_kinds::TypeFault;
 use som_model::NoMemory;
-use som_typing::TypeFault;
 use std::alloc::AllocFailed;
 
 /// Why a body stands for no block: the number of the rule that its first wrong construct breaks, or more parameters and

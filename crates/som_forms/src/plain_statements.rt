@@ -5,17 +5,17 @@ ghost use Rattle.som_model.specs.Class.{Class};
 ghost use Rattle.som_model.specs.Typing as typing;
 ghost use Rattle.som_terms.specs.Code.{AreLocals, IsBodyContext, among_at, classes_at, names_at, place_at, typed_at};
 ghost use Rattle.som_terms.specs.Locals as named;
-ghost use Rattle.som_typing.specs.Kinds.{IsType, Stands, kind_at, type_at};
-ghost use Rattle.som_typing.specs.Knowing.{facts_of};
+ghost use Rattle.som_kinds.specs.Kinds.{IsType, Stands, kind_at, type_at};
+ghost use Rattle.som_kinds.specs.Knowing.{facts_of};
 ghost use Rattle.std.specs.Prelude.{◌≡◌, ◌<◌, ◌&&◌, not, if◌then◌else◌, length, slice_get, List as Seq, Some, Ok, Err};
 
 use crate::fault::BodyFault;
+use som_kinds::{Kind, has_text, is_call, is_nothing, is_object, kind_fits, variable_kind};
 use som_model::Stmt;
 use som_syntax::ExprText;
 use som_terms::{
     BodyContext, Local, TypedExpr, expression, local_of, value_expression, variable_place,
 };
-use som_typing::{Kind, has_text, is_call, is_nothing, is_object, kind_fits, variable_kind};
 use std::alloc::Global;
 
 /// A statement of which a rule asks something.

@@ -5,13 +5,13 @@ ghost use Rattle.som_model.specs.declared.limits.TheConstants.{MAX_LOCALS};
 ghost use Rattle.som_model.specs.declared.syntax.Expr.{Expr};
 ghost use Rattle.som_terms.specs.Code.{AreLocals, IsBodyContext, among_at, classes_at, names_at};
 ghost use Rattle.som_terms.specs.Locals.{in_scope};
-ghost use Rattle.som_typing.specs.Kinds.{Stands, kind_at};
+ghost use Rattle.som_kinds.specs.Kinds.{Stands, kind_at};
 ghost use Rattle.std.specs.Prelude.{◌≡◌, ◌≤◌, List as Seq, length, nat_lt};
 
 use crate::fault::BodyFault;
+use som_kinds::{Kind, kind_fits, kind_of};
 use som_model::{MAX_LOCALS, ValueType};
 use som_terms::{BodyContext, Local, local_of};
-use som_typing::{Kind, kind_fits, kind_of};
 
 /// Whether a parameter or local has the name.
 pub fn is_in_scope(locals: &[Local], name: &[u8]) -> bool

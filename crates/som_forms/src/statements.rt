@@ -9,11 +9,11 @@ ghost use Rattle.std.specs.Prelude.{◌≡◌, IfOk};
 use crate::fault::BodyFault;
 use crate::plain_statements::{answer, call, demanded, free, print, set_local, set_variable};
 use crate::scoping::declared_kind;
+use som_kinds::is_boolean;
 use som_model::{Block, List, Stmt};
 use som_scope::type_of;
 use som_syntax::{BlockText, ExprText, StmtText, TypeName};
 use som_terms::{BodyContext, Local, TypedExpr, value_expression};
-use som_typing::is_boolean;
 use std::alloc::Global;
 
 /// The named block that a text stands for among the locals in scope, or what its first wrong construct breaks. What it

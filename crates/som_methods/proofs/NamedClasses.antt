@@ -8,7 +8,7 @@ use Rattle.som_model.specs.Class.{Class}
 use Rattle.som_model.specs.Typing.{class_facts}
 use Rattle.som_syntax.specs.declared.interface.IdlInterface.{IdlInterface}
 use Rattle.som_syntax.specs.declared.interface.Export.{Export}
-use Rattle.som_typing.proofs.Facts.{signature_said}
+use Rattle.som_kinds.proofs.Facts.{signature_said}
 use Rattle.som_declarations.specs.Noted.{first_place}
 use Rattle.som_drafts.specs.Drafts.{InterfaceDraft, plain_drafts, plain_draft}
 use Rattle.som_drafts.specs.declared.drafts.Draft.{Draft}

@@ -8,7 +8,7 @@ ghost use Rattle.som_ancestry.specs.Told.{Tells};
 ghost use Rattle.som_ancestry.specs.declared.types.VerifyFault.TheVariants as faults;
 ghost use Rattle.som_drafts.specs.Drafts.{plain_draft, plain_drafts};
 ghost use Rattle.som_declarations.specs.Noted.{IsKnown};
-ghost use Rattle.som_typing.specs.Knowing.{IsKnowledge, all_of};
+ghost use Rattle.som_kinds.specs.Knowing.{IsKnowledge, all_of};
 ghost use Rattle.std.specs.Prelude.{◌≡◌, flat_map, option_copied, option_map, slice_get, IfOk};
 ghost use Rattle.std.specs.Str.{bytes_eq};
 
@@ -17,9 +17,9 @@ use crate::operations::is_operation;
 use som_ancestry::{Broken, VerifyFault, find_entry};
 use som_declarations::{Places, first_place, note, place_table};
 use som_drafts::Draft;
+use som_kinds::{Knowledge, signature_of};
 use som_model::{Entry, NoMemory, Override, Sig, Text};
 use som_syntax::BodyText;
-use som_typing::{Knowledge, signature_of};
 use std::alloc::Global;
 
 /// S13: each body names a class of the texts, and a method that the class declares by an operation or overrides and that has

@@ -5,8 +5,8 @@ use Rattle.som_model.specs.declared.syntax.Expr.TheVariants as exprs
 use Rattle.som_model.specs.Class.{Class}
 use Rattle.som_model.specs.Steps.{◌>>=◌}
 use Rattle.som_model.specs.Typing.{CodePlace, Of}
-use Rattle.som_typing.specs.declared.code_place.TypeFault.{TypeFault}
-use Rattle.som_typing.proofs.KindLaws.{part_there}
+use Rattle.som_kinds.specs.declared.code_place.TypeFault.{TypeFault}
+use Rattle.som_kinds.proofs.KindLaws.{part_there}
 use Rattle.som_syntax.specs.declared.words.TypeName.{TypeName}
 use Rattle.som_syntax.specs.declared.words.Word.{Word}
 use Rattle.som_syntax.specs.declared.expression.ExprText.{ExprText, fold-roll-ExprText}

@@ -9,9 +9,9 @@ use Rattle.som_model.specs.declared.syntax.Expr.TheVariants as exprs
 use Rattle.som_model.specs.Class.{Class}
 use Rattle.som_model.specs.Steps.{◌>>=◌}
 use Rattle.som_model.specs.Typing.{ClassFacts, CodePlace, ExprType, all_fit, needs, there, cast_type, class_type, isa_type, named_call_type, new_type, offset_call_type, parent_call_type, parents_call_type, proxy_type}
-use Rattle.som_typing.specs.declared.kind.Kind.{Kind}
-use Rattle.som_typing.specs.declared.code_place.TypeFault.{TypeFault}
-use Rattle.som_typing.specs.Kinds.{kind_at}
+use Rattle.som_kinds.specs.declared.kind.Kind.{Kind}
+use Rattle.som_kinds.specs.declared.code_place.TypeFault.{TypeFault}
+use Rattle.som_kinds.specs.Kinds.{kind_at}
 use Rattle.som_terms.specs.declared.typed_expr.TypedExpr.{TypedExpr}
 use Rattle.som_terms.specs.declared.parts.Parts.{Parts}
 use Rattle.som_terms.specs.Methods.{Method, method_for, method_of, own_method, parent_place}

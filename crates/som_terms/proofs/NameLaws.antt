@@ -11,14 +11,14 @@ use Rattle.som_model.specs.Lists.{Mem, place_from}
 use Rattle.som_model.specs.Steps.{◌>>=◌}
 use Rattle.som_model.specs.Typing.{CodePlace, Of, Ruled, there, own_variable}
 use Rattle.som_model.proofs.KeyLaws.{exact_keys}
-use Rattle.som_typing.specs.declared.kind.Kind.{Kind}
-use Rattle.som_typing.specs.declared.kind.Kind.TheVariants as kinds
-use Rattle.som_typing.specs.declared.code_place.CodePlace.{CodePlace as Place}
-use Rattle.som_typing.specs.declared.code_place.TypeFault.{TypeFault}
-use Rattle.som_typing.specs.declared.knowledge.Knowledge.{Knowledge}
-use Rattle.som_typing.specs.Kinds.{Comes, IsType, Names as Looks, PlaceStands, Stands, code_at, kind_at, type_at}
-use Rattle.som_typing.specs.Knowing.{IsKnowledge, all_of}
-use Rattle.som_typing.proofs.KindLaws.{index_mem}
+use Rattle.som_kinds.specs.declared.kind.Kind.{Kind}
+use Rattle.som_kinds.specs.declared.kind.Kind.TheVariants as kinds
+use Rattle.som_kinds.specs.declared.code_place.CodePlace.{CodePlace as Place}
+use Rattle.som_kinds.specs.declared.code_place.TypeFault.{TypeFault}
+use Rattle.som_kinds.specs.declared.knowledge.Knowledge.{Knowledge}
+use Rattle.som_kinds.specs.Kinds.{Comes, IsType, Names as Looks, PlaceStands, Stands, code_at, kind_at, type_at}
+use Rattle.som_kinds.specs.Knowing.{IsKnowledge, all_of}
+use Rattle.som_kinds.proofs.KindLaws.{index_mem}
 use Rattle.som_terms.specs.declared.local.Local.{Local}
 use Rattle.som_terms.specs.declared.typed_expr.TypedExpr.{TypedExpr}
 use Rattle.som_terms.specs.Locals.{Names, kinds_of, names_of}

@@ -4,11 +4,11 @@ use Rattle.som_model.specs.declared.syntax.Expr.{Expr}
 use Rattle.som_model.specs.Class.{Class}
 use Rattle.som_model.specs.Steps.{◌>>=◌}
 use Rattle.som_model.specs.Typing.{ExprType, Ruled, Typed}
-use Rattle.som_typing.specs.declared.kind.Kind.{Kind}
-use Rattle.som_typing.specs.declared.code_place.TypeFault.{TypeFault}
-use Rattle.som_typing.specs.declared.code_place.TypeFault.TheVariants as faults
-use Rattle.som_typing.specs.Kinds.{AllStand, Fails, Stands, kind_at}
-use Rattle.som_typing.proofs.KindLaws.{all_stand_more, part_there}
+use Rattle.som_kinds.specs.declared.kind.Kind.{Kind}
+use Rattle.som_kinds.specs.declared.code_place.TypeFault.{TypeFault}
+use Rattle.som_kinds.specs.declared.code_place.TypeFault.TheVariants as faults
+use Rattle.som_kinds.specs.Kinds.{AllStand, Fails, Stands, kind_at}
+use Rattle.som_kinds.proofs.KindLaws.{all_stand_more, part_there}
 use Rattle.som_syntax.specs.declared.expression.ExprText.{ExprText}
 use Rattle.som_terms.specs.declared.typed_expr.TypedExpr.{TypedExpr}
 use Rattle.som_terms.specs.declared.parts.Parts.{Parts}

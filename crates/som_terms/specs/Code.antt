@@ -5,10 +5,10 @@ use Rattle.som_model.specs.Lists.{Mem}
 use Rattle.som_model.specs.Class.{Class}
 use Rattle.som_model.specs.Typing.{CodePlace}
 use Rattle.som_ancestry.specs.Places.{class_of_place}
-use Rattle.som_typing.specs.Kinds.{Fails, IsType, PlaceStands, Stands, code_at, kind_at, type_at}
-use Rattle.som_typing.specs.Knowing.{IsKnowledge, all_of}
-use Rattle.som_typing.specs.declared.knowledge.Knowledge.{Knowledge}
-use Rattle.som_typing.specs.declared.code_place.TypeFault.{TypeFault}
+use Rattle.som_kinds.specs.Kinds.{Fails, IsType, PlaceStands, Stands, code_at, kind_at, type_at}
+use Rattle.som_kinds.specs.Knowing.{IsKnowledge, all_of}
+use Rattle.som_kinds.specs.declared.knowledge.Knowledge.{Knowledge}
+use Rattle.som_kinds.specs.declared.code_place.TypeFault.{TypeFault}
 use Rattle.som_scope.specs.declared.scope.Scope.{Scope}
 use Rattle.som_scope.specs.ClassNames.{module_in_scope}
 use Rattle.som_terms.specs.declared.typed_expr.TypedExpr.{TypedExpr}

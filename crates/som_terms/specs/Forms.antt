@@ -12,9 +12,9 @@ use Rattle.som_model.specs.Lists.{find, place_from}
 use Rattle.som_model.specs.Owner.{introduces}
 use Rattle.som_model.specs.Steps.{◌>>=◌}
 use Rattle.som_model.specs.Typing.{ClassFacts, CodePlace, Of, Ruled, Typed, named_call_type, offset_call_type, parent_call_type, parents_call_type, there}
-use Rattle.som_typing.specs.declared.kind.Kind.{Kind}
-use Rattle.som_typing.specs.Kinds.{AllStand, kind_at}
-use Rattle.som_typing.specs.Knowing.{facts_of}
+use Rattle.som_kinds.specs.declared.kind.Kind.{Kind}
+use Rattle.som_kinds.specs.Kinds.{AllStand, kind_at}
+use Rattle.som_kinds.specs.Knowing.{facts_of}
 use Rattle.som_ancestry.specs.Places.{key_at}
 use Rattle.som_syntax.specs.declared.expression.ExprText.{ExprText}
 use Rattle.som_terms.specs.declared.local.Local.{Local}

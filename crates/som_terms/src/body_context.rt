@@ -1,5 +1,5 @@
+use som_kinds::{CodePlace, Knowledge};
 use som_scope::Scope;
-use som_typing::{CodePlace, Knowledge};
 
 /// Where the text of a body stands: what is known of all classes, what the names of classes stand for, and the place of
 /// the code.

@@ -3,17 +3,17 @@ ghost use Rattle.som_ancestry.specs.Places.{key_at};
 ghost use Rattle.som_terms.specs.Code.{IsBodyContext, Makes, among_at, classes_at, typed_at};
 ghost use Rattle.som_terms.specs.Expressions as spec;
 ghost use Rattle.som_terms.specs.Forms.{AreParts, dispatch_by, facts_at, lookup_by, method_at, offset_by, parts_at};
-ghost use Rattle.som_typing.specs.Kinds.{Stands};
+ghost use Rattle.som_kinds.specs.Kinds.{Stands};
 ghost use Rattle.std.specs.Prelude.{◌<◌, length};
 
 use crate::body_context::BodyContext;
 use crate::methods::{FoundMethod, method_for, method_ref};
 use crate::parts::{Parts, formed};
 use crate::typed_expr::TypedExpr;
+use som_kinds::{TypeFault, all_fit, named_call_kind, offset_call_kind};
 use som_model::{Expr, Text, ValueType, Way};
 use som_scope::result_of;
 use som_syntax::TypeName;
-use som_typing::{TypeFault, all_fit, named_call_kind, offset_call_kind};
 use std::alloc::Global;
 
 /// A call of the method that the receiver has.

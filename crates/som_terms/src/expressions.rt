@@ -3,7 +3,7 @@ ghost use Rattle.som_terms.specs.Expressions as spec;
 ghost use Rattle.som_terms.specs.Expressions.{elaborated, elaborated_value, part, parts};
 ghost use Rattle.som_terms.specs.Forms.{AreMade, elab_at, of_all, of_one};
 ghost use Rattle.som_terms.specs.Groups.{is_class_operation, is_inherited_call, is_method_call, is_operation};
-ghost use Rattle.som_typing.specs.Kinds.{Fails, Stands};
+ghost use Rattle.som_kinds.specs.Kinds.{Fails, Stands};
 ghost use Rattle.std.specs.Prelude.{◌≡◌, true, IfErr, IfOk, map};
 
 use crate::body_context::BodyContext;
@@ -15,9 +15,9 @@ use crate::parent_calls::{parent_call, parents_call};
 use crate::parts::{Parts, add, no_parts, valued};
 use crate::typed_expr::TypedExpr;
 use som_ancestry::SOM_CLASS_MGR;
+use som_kinds::{Kind, TypeFault};
 use som_model::{Boxed, Expr, HostCode, List, Text};
 use som_syntax::{ExprText, TypeName};
-use som_typing::{Kind, TypeFault};
 use std::alloc::Global;
 
 /// The named expression that a text stands for, void included, or the lowest rule that its first wrong part breaks.

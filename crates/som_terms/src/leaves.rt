@@ -11,9 +11,9 @@ use crate::local::Local;
 use crate::names::{local_of, variable_place};
 use crate::parts::formed;
 use crate::typed_expr::TypedExpr;
+use som_kinds::{Kind, TypeFault, class_kind, new_kind, self_kind, variable_kind};
 use som_model::{Expr, Text};
 use som_scope::key_of;
-use som_typing::{Kind, TypeFault, class_kind, new_kind, self_kind, variable_kind};
 use std::alloc::Global;
 
 /// A literal.

@@ -1,4 +1,4 @@
-use som_typing::Kind;
+use som_kinds::Kind;
 
 /// A parameter or local: its name, which the text holds, and its type.
 #[derive(Clone, Copy)]

@@ -7,13 +7,13 @@ ghost use Rattle.som_model.specs.declared.key.MethodRef.{MethodRef as Ref};
 ghost use Rattle.som_ancestry.specs.Places.{face_at, key_at};
 ghost use Rattle.som_terms.specs.Forms.{Finds, first_method, method_by_entry};
 ghost use Rattle.som_terms.specs.Methods as spec;
-ghost use Rattle.som_typing.specs.Kinds.{PlaceStands, Stands, code_at, kind_at};
-ghost use Rattle.som_typing.specs.Knowing.{IsKnowledge, all_of};
+ghost use Rattle.som_kinds.specs.Kinds.{PlaceStands, Stands, code_at, kind_at};
+ghost use Rattle.som_kinds.specs.Knowing.{IsKnowledge, all_of};
 ghost use Rattle.std.specs.Prelude.{◌≡◌, ◌<◌, ℕ, [], length, map, slice_index_or, IfOk};
 
 use som_ancestry::{KERNEL_CLASSES, find_entry};
+use som_kinds::{CodePlace, Kind, Knowledge, entries_of};
 use som_model::{ClassKey, Entry, List, MethodRef, Module, NoMemory, Sig, Text, Way};
-use som_typing::{CodePlace, Kind, Knowledge, entries_of};
 use std::alloc::Global;
 
 /// A method that is found: the place of the class that introduces it, its signature and the way in which it is called.

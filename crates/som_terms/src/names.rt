@@ -5,14 +5,14 @@ ghost use Rattle.som_model.specs.declared.limits.TheConstants.{MAX_LOCALS, MAX_P
 ghost use Rattle.som_terms.specs.Code.{ClassFits};
 ghost use Rattle.som_terms.specs.Forms.{local_place};
 ghost use Rattle.som_terms.specs.Methods as spec;
-ghost use Rattle.som_typing.specs.Kinds.{PlaceStands, code_at};
-ghost use Rattle.som_typing.specs.Knowing.{IsKnowledge, all_of};
+ghost use Rattle.som_kinds.specs.Kinds.{PlaceStands, code_at};
+ghost use Rattle.som_kinds.specs.Knowing.{IsKnowledge, all_of};
 ghost use Rattle.std.specs.Prelude.{◌≡◌, ◌<◌, ◌≤◌, length, IfSome};
 ghost use Rattle.std.specs.Str.{bytes_eq};
 
 use crate::local::Local;
+use som_kinds::{CodePlace, Knowledge, decl_at};
 use som_model::{ClassKey, Variable};
-use som_typing::{CodePlace, Knowledge, decl_at};
 
 /// The place of a parameter or local by its name.
 pub fn local_of(locals: &[Local], name: &[u8]) -> Option<u16>

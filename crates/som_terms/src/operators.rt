@@ -1,15 +1,15 @@
 ghost use Rattle.som_model.specs.Class.{Class};
 ghost use Rattle.som_terms.specs.Code.{IsBodyContext, Makes, among_at, classes_at, typed_at};
 ghost use Rattle.som_terms.specs.Expressions as spec;
-ghost use Rattle.som_typing.specs.Kinds.{Stands};
+ghost use Rattle.som_kinds.specs.Kinds.{Stands};
 ghost use Rattle.std.specs.Prelude.{List as Seq};
 
 use crate::body_context::BodyContext;
 use crate::parts::formed;
 use crate::typed_expr::TypedExpr;
+use som_kinds::{TypeFault, binary_kind, cast_kind, host_kind, isa_kind, proxy_kind, unary_kind};
 use som_model::{Expr, HostCode};
 use som_scope::key_of;
-use som_typing::{TypeFault, binary_kind, cast_kind, host_kind, isa_kind, proxy_kind, unary_kind};
 use std::alloc::Global;
 
 /// An operator of one operand.

@@ -3,8 +3,8 @@ ghost use Rattle.som_terms.specs.Code.{IsBodyContext, Makes, among_at, classes_a
 ghost use Rattle.som_terms.specs.Expressions as spec;
 ghost use Rattle.som_terms.specs.Forms.{AreParts, facts_at, parent_by, parent_from, parents_by, parts_at};
 ghost use Rattle.som_terms.specs.Methods as methods;
-ghost use Rattle.som_typing.specs.Kinds.{PlaceStands, code_at};
-ghost use Rattle.som_typing.specs.Knowing.{IsKnowledge, all_of};
+ghost use Rattle.som_kinds.specs.Kinds.{PlaceStands, code_at};
+ghost use Rattle.som_kinds.specs.Knowing.{IsKnowledge, all_of};
 ghost use Rattle.std.specs.Prelude.{◌≡◌, ◌<◌, length, is_some, true};
 
 use crate::body_context::BodyContext;
@@ -12,9 +12,9 @@ use crate::methods::{method_of, method_ref, own_method};
 use crate::names::parent_place;
 use crate::parts::{Parts, formed};
 use crate::typed_expr::TypedExpr;
+use som_kinds::{CodePlace, Knowledge, TypeFault, parent_call_kind, parents_call_kind, place_of};
 use som_model::{ClassKey, Expr, Text};
 use som_scope::key_of;
-use som_typing::{CodePlace, Knowledge, TypeFault, parent_call_kind, parents_call_kind, place_of};
 use std::alloc::Global;
 
 /// A call of the method that a parent of the body's class has.

@@ -3,12 +3,12 @@ ghost use Rattle.som_model.specs.Typing.{Typed};
 ghost use Rattle.som_terms.specs.Code.{Makes, typed_at};
 ghost use Rattle.som_terms.specs.Expressions as spec;
 ghost use Rattle.som_terms.specs.Forms.{Adds, AreParts, parts_at};
-ghost use Rattle.som_typing.specs.Kinds.{Comes, Stands};
+ghost use Rattle.som_kinds.specs.Kinds.{Comes, Stands};
 ghost use Rattle.std.specs.Prelude.{◌≡◌, List as Seq, [], OnOk};
 
 use crate::typed_expr::TypedExpr;
+use som_kinds::{Kind, TypeFault, is_nothing};
 use som_model::{Boxed, Expr, List, NoMemory};
-use som_typing::{Kind, TypeFault, is_nothing};
 use std::alloc::Global;
 
 /// The parts of an expression in their order, and the kind of each.

@@ -1,7 +1,7 @@
 ghost use Rattle.std.specs.Prelude.{◌≡◌, IfOk};
 
+use som_kinds::Kind;
 use som_model::{Boxed, Expr, NoMemory};
-use som_typing::Kind;
 use std::alloc::Global;
 
 /// A named expression, as a part of what holds it, and its type.

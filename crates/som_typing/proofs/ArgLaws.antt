@@ -4,9 +4,9 @@ use Rattle.std.proofs.lemmas.List.{map-append}
 use Rattle.som_model.specs.declared.syntax.Expr.{Expr}
 use Rattle.som_model.specs.Class.{Class}
 use Rattle.som_model.specs.Typing.{Typed, value, values}
-use Rattle.som_typing.specs.declared.kind.Kind.{Kind}
-use Rattle.som_typing.specs.Kinds.{kind_at}
-use Rattle.som_typing.proofs.KindLaws.{after_those, values_more}
+use Rattle.som_kinds.specs.declared.kind.Kind.{Kind}
+use Rattle.som_kinds.specs.Kinds.{kind_at}
+use Rattle.som_kinds.proofs.KindLaws.{after_those, values_more}
 
 drop_at : (es : List Expr) (i : ℕ) (e : Expr) → i < length es → e ≡ slice_index_or es i e → drop i es ≡ e ∷ drop (suc i) es
 drop_at es i e lt is = drop-cons es i e lt ∙ ap (λ z. z ∷ drop (suc i) es) (sym is)

@@ -8,12 +8,12 @@ use Rattle.som_model.specs.Class.{Class}
 use Rattle.som_model.specs.Typing.{ClassFacts, CodePlace, ExprType, Ruled, Typed, needs, is_boolean}
 use Rattle.som_model.specs.TypedBlocks.{Scope, Scoped, stmt_scope, block_scope, in_turn}
 use Rattle.som_model.proofs.TypingLaws.{block_typed}
-use Rattle.som_typing.specs.declared.kind.Kind.{Kind}
-use Rattle.som_typing.specs.declared.code_place.TypeFault.{TypeFault}
-use Rattle.som_typing.specs.declared.code_place.TypeFault.TheVariants as faults
-use Rattle.som_typing.specs.Kinds.{AreTypes, Fails, kind_at}
-use Rattle.som_typing.specs.Scopes.{Ends, Keeps, Leaves, Scopes, scope_at}
-use Rattle.som_typing.proofs.Keeping.{tested, then_fails}
+use Rattle.som_kinds.specs.declared.kind.Kind.{Kind}
+use Rattle.som_kinds.specs.declared.code_place.TypeFault.{TypeFault}
+use Rattle.som_kinds.specs.declared.code_place.TypeFault.TheVariants as faults
+use Rattle.som_kinds.specs.Kinds.{AreTypes, Fails, kind_at}
+use Rattle.som_kinds.specs.Scopes.{Ends, Keeps, Leaves, Scopes, scope_at}
+use Rattle.som_kinds.proofs.Keeping.{tested, then_fails}
 
 -- of a block these statements are left, and what was declared so far is in scope
 pub record IsPart (cs : List Class) (w : ClassFacts) (at : CodePlace) (all left : List Stmt) (before now : List Kind) : Type 0 where

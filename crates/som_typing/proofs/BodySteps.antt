@@ -1,6 +1,6 @@
 -- Bodies one after the other, and the block of each.
 use Rattle.std.proofs.Common.{◌≡◌, ℕ, zero, suc, ◌+◌, ◌-◌, ◌<◌, ◌≤◌, inl, inr, List, [], ◌∷◌, ◌++◌, length, take, drop, get_or, slice_index_or, flat_map, codes, true, Option, Some, None, Result, Ok, Err, refl, sym, ap, ◌∙◌, subst, arith}
-use Rattle.std.proofs.lemmas.List.{at_drop_more, take_more}
+use Rattle.std.proofs.lemmas.List.{at_drop_more}
 use Rattle.som_model.specs.declared.syntax.Block.{Block}
 use Rattle.som_model.specs.declared.key.ValueType.{ValueType}
 use Rattle.som_model.specs.declared.class.Sig.{Sig}
@@ -16,24 +16,23 @@ use Rattle.som_model.specs.Conforming.{bodies_typed, block_breach, main_typed, o
 use Rattle.som_model.specs.Rules.{RuleBreach, breach, is_known}
 use Rattle.som_model.specs.Typing.{Ruled, class_facts, in_body}
 use Rattle.som_model.specs.TypedBlocks.{Scope, block_scope}
-use Rattle.som_typing.specs.declared.kind.Kind.{Kind}
-use Rattle.som_typing.specs.declared.kind.Kind.TheVariants as kinds
+use Rattle.som_kinds.specs.declared.kind.Kind.{Kind}
+use Rattle.som_kinds.specs.declared.kind.Kind.TheVariants as kinds
 use Rattle.som_ancestry.specs.declared.types.VerifyFault.{VerifyFault}
 use Rattle.som_ancestry.specs.declared.types.VerifyFault.TheVariants as faults
-use Rattle.som_typing.specs.declared.knowledge.Knowledge.{Knowledge}
+use Rattle.som_kinds.specs.declared.knowledge.Knowledge.{Knowledge}
 use Rattle.som_typing.specs.Bodies.{AllSigsKnown, SigsKnown, StandsAt, body_breaks}
 use Rattle.som_ancestry.specs.declared.types.Declared.{Declared}
 use Rattle.som_ancestry.specs.Modules.{class_of, classes_of}
 use Rattle.som_ancestry.specs.Places.{class_of_place, nobody, with_kernel}
-use Rattle.som_typing.specs.Kinds.{AreTypes, IsType, type_at}
-use Rattle.som_typing.specs.Knowing.{all_of, facts_of, sig_is_known}
-use Rattle.som_typing.specs.Scopes.{Ends, blocked_by, scope_at}
+use Rattle.som_kinds.specs.Kinds.{AreTypes, IsType, type_at}
+use Rattle.som_kinds.specs.Knowing.{all_of, facts_of, sig_is_known}
+use Rattle.som_kinds.specs.Scopes.{Ends, blocked_by, scope_at}
 use Rattle.som_ancestry.specs.Told.{Tells}
 use Rattle.som_ancestry.proofs.DeclaredClasses.{item_of, long_map}
 use Rattle.som_model.proofs.KeyLaws.{both}
-use Rattle.som_laws.proofs.Members.{mem_split}
-use Rattle.som_typing.proofs.Facts.{signature_said}
-use Rattle.som_ancestry.proofs.Numbering.{map_append}
+use Rattle.som_kinds.proofs.Facts.{signature_said}
+use Rattle.som_kinds.proofs.KindLists.{item_mem}
 use Rattle.som_lawful.proofs.PlainLists.{mem_map}
 use Rattle.som_ancestry.proofs.Rows.{take_whole}
 use Rattle.som_ancestry.proofs.Passes.{first_both, tells_first}
@@ -64,11 +63,6 @@ module _ (known : Knowledge) (place : ℕ) (c : Class) (sig : Sig) (block : Bloc
       (ap (λ (z : Ruled Scope). first (told_of c name z)) (sym block_is ∙ is))
 
 -- ---- one member after the other
-
-pub item_mem : {A : Type 0} (xs : List A) (i : ℕ) (x : A) → i < length xs → x ≡ slice_index_or xs i x → Mem x xs
-item_mem [] i x lt is = absurd (omega arith)
-item_mem (y ∷ xs) zero x lt is = inl is
-item_mem (y ∷ xs) (suc i) x lt is = inr (item_mem xs i x (omega arith) is)
 
 module _ {A : Type 0} (one : A → List RuleBreach) (xs : List A) (i : ℕ) (x : A) (lt : i < length xs) (is : x ≡ get_or xs i x) where
   next_is : first (flat_map one (drop i xs)) ≡ or_else (first (one x)) (first (flat_map one (drop (i + 1) xs)))
@@ -170,24 +164,6 @@ module _ (known : Knowledge) (main : Block) where
       → Tells {A = Unit {0}} (first (main_typed (all_of known) main)) (Err (faults.Rule (record { rule = rule; class = class; member = member })))
   main_breaks rule class member is named shown =
       ap (λ (z : Ruled Scope). first (main_told z)) is ∙ ap (λ z. Some (record { rule = rule; class = z; member = codes "-" })) (sym named) ∙ ap (λ z. Some (record { rule = rule; class = class; member = z })) (sym shown)
-
--- ---- the kinds of types
-
-pub no_types : (cs : List Class) → AreTypes cs []
-no_types cs = record { by = λ k m. absurd m }
-
-pub more_types : (cs : List Class) (kinds : List Kind) (k : Kind) → AreTypes cs kinds → IsType cs k → AreTypes cs (kinds ++ k ∷ [])
-more_types cs kinds k types is = record {
-  by = λ x m. elim (mem_split x kinds (k ∷ []) m) [
-    | inl n ↦ types.by x n
-    | inr n ↦ elim n [ inl same ↦ subst (IsType cs) (sym same) is | inr z ↦ absurd z ]
-  ];
-}
-
-pub more_kinds : (cs : List Class) (kinds : List Kind) (k : Kind) (ts : List ValueType) (i : ℕ) (t : ValueType) → i < length ts → t ≡ get_or ts i t → type_at cs k ≡ t
-    → scope_at cs kinds ≡ take i ts → scope_at cs (kinds ++ k ∷ []) ≡ take (i + 1) ts
-more_kinds cs kinds k ts i t lt is kind so =
-    map_append (type_at cs) kinds (k ∷ []) ∙ ap (λ z. z ++ type_at cs k ∷ []) so ∙ ap (λ z. take i ts ++ z ∷ []) (kind ∙ is) ∙ sym (take_more ts i t lt)
 
 -- each type of a signature is known
 pub sig_parts : (cs : List Class) (sig : Sig) → sig_is_known cs sig ≡ true → (is_known cs sig.result ≡ true) × (every (is_known cs) sig.params ≡ true)

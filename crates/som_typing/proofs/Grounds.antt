@@ -11,7 +11,7 @@ use Rattle.som_ancestry.proofs.Before.{none_both}
 use Rattle.som_ancestry.proofs.Conformity.{or_none}
 use Rattle.som_lawful.proofs.PlainMembers.{types_say}
 use Rattle.som_typing.specs.Bodies.{AllSigsKnown}
-use Rattle.som_typing.proofs.NamesKnown.{declared_sig}
+use Rattle.som_kinds.proofs.NamesKnown.{declared_sig}
 
 module _ (cs : List Class) (n : ℕ) (rules : rules_breach n cs ≡ None) where
   pub faces_none : classes_breach n cs ≡ None

@@ -1,13 +1,7 @@
-pub mod KindLaws
 pub mod ExprLaws
-pub mod Facts
-pub mod NamesKnown
 pub mod TypedForms
-pub mod Keeping
 pub mod BlockSteps
 pub mod BodySteps
 pub mod Grounds
-pub mod KnownLaws
-pub mod CallLaws
 pub mod ArgLaws
 pub mod PartLaws

@@ -8,13 +8,13 @@ use Rattle.som_model.specs.declared.syntax.HostCode.{HostCode}
 use Rattle.som_model.specs.Class.{Class}
 use Rattle.som_model.specs.Steps.{◌>>=◌}
 use Rattle.som_model.specs.Typing.{ClassFacts, CodePlace, ExprType, Of, Ruled, Typed, binary_type, expr_type, host_type, named_call_type, offset_call_type, value, values}
-use Rattle.som_typing.specs.declared.kind.Kind.{Kind}
-use Rattle.som_typing.specs.declared.kind.Kind.TheVariants as kinds
-use Rattle.som_typing.specs.declared.code_place.TypeFault.{TypeFault}
-use Rattle.som_typing.specs.declared.code_place.TypeFault.TheVariants as faults
-use Rattle.som_typing.specs.Kinds.{AreTyped, Comes, Fails, IsType, Names, Stands, Types, as_type, kind_at, of_all, then, type_at}
+use Rattle.som_kinds.specs.declared.kind.Kind.{Kind}
+use Rattle.som_kinds.specs.declared.kind.Kind.TheVariants as kinds
+use Rattle.som_kinds.specs.declared.code_place.TypeFault.{TypeFault}
+use Rattle.som_kinds.specs.declared.code_place.TypeFault.TheVariants as faults
+use Rattle.som_kinds.specs.Kinds.{AreTyped, Comes, Fails, IsType, Names, Stands, Types, as_type, kind_at, of_all, then, type_at}
 use Rattle.som_typing.proofs.ExprLaws.{binary_typed, dispatch_typed, host_typed, lookup_typed, offset_call_typed}
-use Rattle.som_typing.proofs.KindLaws.{part_there}
+use Rattle.som_kinds.proofs.KindLaws.{part_there}
 
 -- an expression that is another comes to the same
 pub types_as : (cs : List Class) (typed : Expr → Typed) (e x : Expr) (form : Typed) (r : Result Kind TypeFault) → e ≡ x → typed x ≡ form → Types cs form r → Types cs (typed e) r

@@ -11,8 +11,8 @@ use Rattle.som_model.specs.Conforming.{block_breach}
 use Rattle.som_model.specs.Kernel.{kernel_interface}
 use Rattle.som_model.specs.Rules.{RuleBreach}
 use Rattle.som_order.specs.Names.{texts}
-use Rattle.som_typing.specs.Kinds.{IsDeclared}
-use Rattle.som_typing.specs.Knowing.{sig_is_known}
+use Rattle.som_kinds.specs.Kinds.{IsDeclared}
+use Rattle.som_kinds.specs.Knowing.{sig_is_known}
 use Rattle.som_ancestry.specs.Places.{IsTable, class_of_place, with_kernel}
 use Rattle.som_ancestry.specs.Walk.{AreLists}
 use Rattle.som_typing.specs.declared.blocks.Parts.{Parts}

@@ -1,4 +1,2 @@
-pub mod Kinds
-pub mod Knowing
-pub mod Scopes
+pub mod Codes
 pub mod Bodies

@@ -7,13 +7,13 @@ ghost use Rattle.som_ancestry.specs.Places.{with_kernel};
 ghost use Rattle.som_ancestry.specs.Told.{Tells};
 ghost use Rattle.som_ancestry.specs.declared.types.VerifyFault.TheVariants as faults;
 ghost use Rattle.som_typing.specs.Bodies.{AllSigsKnown, AreParts};
-ghost use Rattle.som_typing.specs.Knowing.{IsKnowledge, all_of};
+ghost use Rattle.som_kinds.specs.Knowing.{IsKnowledge, all_of};
 ghost use Rattle.std.specs.Prelude.{◌≡◌, ◌≤◌, ◌++◌, drop, length, flat_map, IfErr, IfOk, None};
 
-use crate::knowledge::{Knowledge, know};
 use crate::typed_bodies::{bodies_typed, main_typed};
 use indexmap::IndexSet;
 use som_ancestry::{Declared, VerifyFault, class_names, declared_ancestors};
+use som_kinds::{Knowledge, know};
 use som_model::{Block, Interface, List, kernel_faces};
 use std::alloc::Global;
 

@@ -1,19 +1,19 @@
 ghost use Rattle.som_model.specs.Blocks.{is_call};
 ghost use Rattle.som_model.specs.Typing as typing;
-ghost use Rattle.som_typing.specs.Kinds.{AreTyped, AreTypes, Fails, PlaceStands, Types};
-ghost use Rattle.som_typing.specs.Knowing.{IsKnowledge, all_of, IsCode, classes_in, typed_by, typed_in};
+ghost use Rattle.som_kinds.specs.Kinds.{AreTyped, AreTypes, Fails, PlaceStands, Types};
+ghost use Rattle.som_kinds.specs.Knowing.{IsKnowledge, all_of, typed_by};
+ghost use Rattle.som_typing.specs.Codes.{IsCode, classes_in, typed_in};
 ghost use Rattle.std.specs.Prelude.{◌≡◌, true, IfErr, IfOk, map};
 
-use crate::calls::{class_kind, new_kind, self_kind, variable_kind};
-use crate::code_place::{CodePlace, TypeFault};
-use crate::forms::{local_kind, value};
-use crate::kind::Kind;
-use crate::knowledge::Knowledge;
 use crate::parts::{
     binary, cast, host, isa, named, named_call, offset_call, parent_call, parents_call, proxy,
     ruled, unary,
 };
 use som_ancestry::SOM_CLASS_MGR;
+use som_kinds::{
+    CodePlace, Kind, Knowledge, TypeFault, class_kind, local_kind, new_kind, self_kind, value,
+    variable_kind,
+};
 use som_model::{Expr, List};
 use std::alloc::Global;
 

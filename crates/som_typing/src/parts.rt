@@ -2,18 +2,15 @@ ghost use Rattle.som_model.specs.Class.{Class};
 ghost use Rattle.som_model.specs.Typing as typing;
 ghost use Rattle.som_model.specs.Typing.{ExprType, Ruled, Typed};
 ghost use Rattle.som_model.specs.declared.key.ValueType.{ValueType as Wanted};
-ghost use Rattle.som_typing.specs.Kinds.{AllStand, AreTyped, Comes, Fails, Names, Stands, Types, as_type, kind_at, then};
-ghost use Rattle.som_typing.specs.Knowing.{IsCode, classes_in, facts_in, place_in};
+ghost use Rattle.som_kinds.specs.Kinds.{AllStand, AreTyped, Comes, Fails, Names, Stands, Types, as_type, kind_at, then};
+ghost use Rattle.som_typing.specs.Codes.{IsCode, classes_in, facts_in, place_in};
 ghost use Rattle.std.specs.Prelude.{List as Seq, IfErr, IfOk};
 
-use crate::calls::{
-    cast_kind, isa_kind, named_call_kind, offset_call_kind, parent_call_kind, parents_call_kind,
-    proxy_kind,
-};
-use crate::code_place::TypeFault;
 use crate::expressions::Code;
-use crate::forms::{binary_kind, host_kind, unary_kind};
-use crate::kind::Kind;
+use som_kinds::{
+    Kind, TypeFault, binary_kind, cast_kind, host_kind, isa_kind, named_call_kind,
+    offset_call_kind, parent_call_kind, parents_call_kind, proxy_kind, unary_kind,
+};
 use som_model::{ClassKey, MethodRef, ValueType};
 
 /// A rule that is broken is a fault.

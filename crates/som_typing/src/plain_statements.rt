@@ -2,18 +2,17 @@ ghost use Rattle.som_model.specs.Blocks.{is_call as calls};
 ghost use Rattle.som_model.specs.Class.{Class};
 ghost use Rattle.som_model.specs.TypedBlocks.{local_set, plain_return, value_return, variable_set};
 ghost use Rattle.som_model.specs.Typing as typing;
-ghost use Rattle.som_typing.specs.Kinds.{AreTypes, IsType, PlaceStands, Stands, code_at, kind_at, type_at};
-ghost use Rattle.som_typing.specs.Knowing.{IsKnowledge, all_of, facts_of, typed_by};
-ghost use Rattle.som_typing.specs.Scopes.{Keeps, scope_at, then_scope, valued_by};
-ghost use Rattle.som_typing.specs.declared.code_place.TypeFault.TheVariants as faults;
+ghost use Rattle.som_kinds.specs.Kinds.{AreTypes, IsType, PlaceStands, Stands, code_at, kind_at, type_at};
+ghost use Rattle.som_kinds.specs.Knowing.{IsKnowledge, all_of, facts_of, typed_by};
+ghost use Rattle.som_kinds.specs.Scopes.{Keeps, scope_at, then_scope, valued_by};
+ghost use Rattle.som_kinds.specs.declared.code_place.TypeFault.TheVariants as faults;
 ghost use Rattle.std.specs.Prelude.{◌≡◌, ◌&&◌, not, if◌then◌else◌, List as Seq, Ok, Err};
 
-use crate::calls::variable_kind;
-use crate::code_place::{CodePlace, TypeFault};
 use crate::expressions::{expr_kind, value_kind};
-use crate::forms::{has_text, is_nothing, is_object, local_kind};
-use crate::kind::Kind;
-use crate::knowledge::{Knowledge, kind_fits};
+use som_kinds::{
+    CodePlace, Kind, Knowledge, TypeFault, has_text, is_call, is_nothing, is_object, kind_fits,
+    local_kind, variable_kind,
+};
 use som_model::Expr;
 use std::alloc::Global;
 
@@ -160,18 +159,4 @@ pub(crate) fn call_stands(
 {
     let _answer = expr_kind(alloc, known, at, scope, call)?;
     demand(20, is_call(call))
-}
-
-/// Whether an expression is a call.
-pub fn is_call(call: &Expr) -> bool
-    ensures { result ≡ calls call.now }
-{
-    match call {
-        Expr::OffsetCall { .. } => true,
-        Expr::Lookup { .. } => true,
-        Expr::Dispatch { .. } => true,
-        Expr::ParentCall { .. } => true,
-        Expr::ParentsCall { .. } => true,
-        _ => false,
-    }
 }

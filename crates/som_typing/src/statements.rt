@@ -1,17 +1,14 @@
 ghost use Rattle.som_model.specs.TypedBlocks.{var_scope};
-ghost use Rattle.som_typing.specs.Kinds.{AreTypes, PlaceStands};
-ghost use Rattle.som_typing.specs.Knowing.{IsKnowledge, all_of, facts_of};
-ghost use Rattle.som_typing.specs.Scopes.{Closes, Scopes, blocked_by, if_scope, scope_at, stated_by, then_scope, valued_by, while_scope};
+ghost use Rattle.som_kinds.specs.Kinds.{AreTypes, PlaceStands};
+ghost use Rattle.som_kinds.specs.Knowing.{IsKnowledge, all_of, facts_of};
+ghost use Rattle.som_kinds.specs.Scopes.{Closes, Scopes, blocked_by, if_scope, scope_at, stated_by, then_scope, valued_by, while_scope};
 
-use crate::code_place::{CodePlace, TypeFault};
 use crate::expressions::value_kind;
-use crate::forms::is_boolean;
-use crate::kind::Kind;
-use crate::knowledge::{Knowledge, kind_fits, kind_of};
 use crate::plain_statements::{
     call_stands, demand, is_freed, is_printed, return_stands, set_local, set_variable,
     value_returns,
 };
+use som_kinds::{CodePlace, Kind, Knowledge, TypeFault, is_boolean, kind_fits, kind_of};
 use som_model::{Block, Expr, Stmt, ValueType};
 use std::alloc::Global;
 

@@ -1,20 +1,17 @@
 ghost use Rattle.som_model.specs.Class.{Class};
 ghost use Rattle.som_model.specs.Conforming.{block_breach, bodies_typed as all_typed, class_typed as typed_class, main_typed as typed_main, override_typed as typed_override};
-ghost use Rattle.som_model.specs.Lists.{every, first};
-ghost use Rattle.som_model.specs.Rules.{is_known};
+ghost use Rattle.som_model.specs.Lists.{first};
 ghost use Rattle.som_ancestry.specs.Modules.{class_of, classes_of};
 ghost use Rattle.som_ancestry.specs.Told.{Tells};
 ghost use Rattle.som_typing.specs.Bodies.{AllSigsKnown, SigsKnown, StandsAt, body_breaks};
-ghost use Rattle.som_typing.specs.Kinds.{AreTypes, IsType, type_at};
-ghost use Rattle.som_typing.specs.Knowing.{IsKnowledge, all_of, sig_is_known};
-ghost use Rattle.som_typing.specs.Scopes.{scope_at};
-ghost use Rattle.std.specs.Prelude.{◌≡◌, true, drop, flat_map, IfOk};
+ghost use Rattle.som_kinds.specs.Knowing.{IsKnowledge, all_of, sig_is_known};
+ghost use Rattle.std.specs.Prelude.{◌≡◌, true, drop, flat_map};
 
-use crate::code_place::{CodePlace, TypeFault};
-use crate::kind::Kind;
-use crate::knowledge::{Knowledge, kind_of, signature_of};
 use crate::statements::block_typed;
 use som_ancestry::{Broken, Declared, KERNEL_CLASSES, VerifyFault, breach};
+use som_kinds::{
+    CodePlace, Kind, Knowledge, TypeFault, kind_of, kinds_of, known_kind, signature_of,
+};
 use som_model::{Block, Body, Entry, NoMemory, Override, Sig, Text, ValueType};
 use std::alloc::Global;
 
@@ -176,36 +173,5 @@ pub fn main_typed(alloc: Global, known: &Knowledge, main: &Block) -> Result<(), 
             member: Text::from_slice(alloc, b"-")?,
         })),
         Err(TypeFault::NoMemory) => Err(VerifyFault::NoMemory),
-    }
-}
-
-/// The kinds of types that are known.
-pub fn kinds_of(
-    alloc: Global,
-    known: &Knowledge,
-    types: &[ValueType],
-) -> Result<Vec<Kind>, NoMemory>
-    requires known { IsKnowledge known.now }
-    requires types { every (is_known (all_of known.now)) types.now ≡ true }
-    ensures are { IfOk result (λ kinds. scope_at (all_of known.now) kinds.items ≡ types.now) }
-    ensures types { IfOk result (λ kinds. AreTypes (all_of known.now) kinds.items) }
-{
-    let mut kinds = Vec::new(alloc);
-    for kind in types {
-        kinds.push(known_kind(known, kind))?;
-    }
-    Ok(kinds)
-}
-
-/// The kind of a type that is known.
-pub fn known_kind(known: &Knowledge, kind: &ValueType) -> Kind
-    requires known { IsKnowledge known.now }
-    requires kind { is_known (all_of known.now) kind.now ≡ true }
-    ensures is { type_at (all_of known.now) result ≡ kind.now }
-    ensures a_type { IsType (all_of known.now) result }
-{
-    match kind_of(known, kind) {
-        Some(found) => found,
-        None => unreachable!(),
     }
 }

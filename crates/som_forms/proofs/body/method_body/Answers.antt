@@ -1,5 +1,5 @@
-use Rattle.som_typing.specs.Kinds.{type_at}
-use Rattle.som_typing.specs.Knowing.{all_of}
+use Rattle.som_kinds.specs.Kinds.{type_at}
+use Rattle.som_kinds.specs.Knowing.{all_of}
 use Rattle.som_ancestry.specs.Places.{class_of_place}
 use Rattle.som_terms.specs.Code.{among_by, names_at}
 use Rattle.som_forms.proofs.Parameters.{body_told}

@@ -1,9 +1,9 @@
 use Rattle.std.proofs.Common.{arith, inl, inr, sym, ap, ◌∙◌}
 use Rattle.som_model.specs.Rules.{is_known}
 use Rattle.som_syntax.specs.declared.words.Word.{Word}
-use Rattle.som_typing.specs.Knowing.{all_of}
+use Rattle.som_kinds.specs.Knowing.{all_of}
 use Rattle.som_ancestry.proofs.Before.{every_mem}
-use Rattle.som_typing.proofs.BodySteps.{item_mem}
+use Rattle.som_kinds.proofs.KindLists.{item_mem}
 use Rattle.som_terms.specs.declared.local.Local.{Local}
 use Rattle.som_forms.proofs.Parameters.{all_placed, named_like, one_placed}
 use Rattle.som_forms.proofs.body.parameters.Goals as goal

@@ -1,4 +1,4 @@
-use Rattle.som_typing.specs.Knowing.{all_of}
+use Rattle.som_kinds.specs.Knowing.{all_of}
 use Rattle.som_forms.proofs.Parameters.{ArePlaced}
 use Rattle.som_forms.proofs.body.parameters.Given as goal
 

@@ -1,6 +1,6 @@
 use Rattle.std.proofs.Common.{None, ap, ◌∙◌, refl}
 use Rattle.som_model.specs.Typing.{is_nothing}
-use Rattle.som_typing.proofs.Keeping.{type_kind}
+use Rattle.som_kinds.proofs.Keeping.{type_kind}
 use Rattle.som_terms.specs.Code.{among_at, classes_at, place_at}
 use Rattle.som_forms.specs.Stated.{names_in}
 use Rattle.som_forms.specs.Statements.{returned, ruled}

@@ -1,7 +1,7 @@
 use Rattle.std.proofs.Common.{sym, ap, ◌∙◌}
 use Rattle.som_model.specs.Typing.{Ruled, fits}
-use Rattle.som_typing.specs.Kinds.{kind_at, type_at}
-use Rattle.som_typing.specs.Knowing.{facts_of}
+use Rattle.som_kinds.specs.Kinds.{kind_at, type_at}
+use Rattle.som_kinds.specs.Knowing.{facts_of}
 use Rattle.som_terms.specs.Code.{among_at, classes_at, typed_at}
 use Rattle.som_terms.proofs.NameLaws.{place_said}
 use Rattle.som_forms.specs.Stated.{names_in}

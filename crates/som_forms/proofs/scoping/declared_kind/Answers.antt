@@ -2,8 +2,8 @@ use Rattle.std.proofs.Common.{length, sym, ap, ◌∙◌}
 use Rattle.std.proofs.lemmas.Bool.{ltb-true}
 use Rattle.som_model.specs.declared.limits.TheConstants.{MAX_LOCALS}
 use Rattle.som_model.specs.Typing.{fits}
-use Rattle.som_typing.specs.Kinds.{kind_at}
-use Rattle.som_typing.specs.Knowing.{facts_of}
+use Rattle.som_kinds.specs.Kinds.{kind_at}
+use Rattle.som_kinds.specs.Knowing.{facts_of}
 use Rattle.som_terms.specs.Code.{among_at, classes_at}
 use Rattle.som_forms.proofs.NamesInScope.{var_many, var_misfits, var_opens, var_seen, var_unknown}
 use Rattle.som_forms.proofs.scoping.declared_kind.Goals as goal

@@ -1,7 +1,7 @@
 use Rattle.std.proofs.Common.{◌≡◌, drop, flat_map}
 use Rattle.som_model.specs.Lists.{first}
 use Rattle.som_drafts.specs.Drafts.{plain_drafts}
-use Rattle.som_typing.specs.Knowing.{all_of}
+use Rattle.som_kinds.specs.Knowing.{all_of}
 use Rattle.som_methods.specs.Bodies.{text_s13}
 use Rattle.som_methods.specs.Texts.{given}
 use Rattle.som_methods.proofs.named_bodies.each_named.Given as goal

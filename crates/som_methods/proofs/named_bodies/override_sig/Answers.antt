@@ -1,6 +1,6 @@
 use Rattle.std.proofs.Common.{option_copied}
 use Rattle.som_drafts.specs.Drafts.{plain_draft}
-use Rattle.som_typing.specs.Knowing.{all_of}
+use Rattle.som_kinds.specs.Knowing.{all_of}
 use Rattle.som_methods.proofs.NamedClasses.{signed_override}
 use Rattle.som_methods.proofs.named_bodies.override_sig.Goals as goal
 

@@ -1,6 +1,6 @@
 use Rattle.std.proofs.Common.{map, refl}
 use Rattle.som_model.specs.Typing.{named_call_type}
-use Rattle.som_typing.specs.Kinds.{kind_at}
+use Rattle.som_kinds.specs.Kinds.{kind_at}
 use Rattle.som_terms.specs.Code.{classes_at, typed_at}
 use Rattle.som_terms.specs.Forms.{facts_at}
 use Rattle.som_terms.proofs.FormLaws.{dispatch_made}

@@ -1,5 +1,5 @@
 use Rattle.std.proofs.Common.{Err}
-use Rattle.som_typing.specs.declared.code_place.TypeFault.TheVariants as faults
+use Rattle.som_kinds.specs.declared.code_place.TypeFault.TheVariants as faults
 use Rattle.som_terms.specs.Code.{classes_at, typed_at}
 use Rattle.som_terms.specs.Forms.{facts_at, method_at}
 use Rattle.som_terms.proofs.FormLaws.{fitting_fails, fitting_made}

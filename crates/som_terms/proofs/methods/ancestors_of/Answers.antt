@@ -1,5 +1,5 @@
 use Rattle.std.proofs.Common.{map, ap, ◌∙◌}
-use Rattle.som_typing.specs.Knowing.{all_of}
+use Rattle.som_kinds.specs.Knowing.{all_of}
 use Rattle.som_ancestry.specs.Places.{key_at}
 use Rattle.som_terms.proofs.methods.ancestors_of.Goals as goal
 

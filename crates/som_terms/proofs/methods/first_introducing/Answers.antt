@@ -1,5 +1,5 @@
 use Rattle.std.proofs.Common.{sym, ◌∙◌, arith}
-use Rattle.som_typing.specs.Knowing.{all_of}
+use Rattle.som_kinds.specs.Knowing.{all_of}
 use Rattle.som_ancestry.proofs.Listed.{mem_at}
 use Rattle.som_terms.specs.Forms.{method_at}
 use Rattle.som_terms.proofs.MethodLaws.{first_here, first_skips}

@@ -1,5 +1,5 @@
 use Rattle.std.proofs.Common.{◌≡◌, drop}
-use Rattle.som_typing.specs.Knowing.{all_of}
+use Rattle.som_kinds.specs.Knowing.{all_of}
 use Rattle.som_terms.specs.Forms.{first_method}
 use Rattle.som_terms.proofs.methods.first_introducing.Given as goal
 

@@ -1,7 +1,7 @@
 use Rattle.std.proofs.Common.{subst}
 use Rattle.som_model.specs.Lists.{find}
 use Rattle.som_model.specs.Owner.{introduces}
-use Rattle.som_typing.specs.Knowing.{all_of}
+use Rattle.som_kinds.specs.Knowing.{all_of}
 use Rattle.som_terms.specs.Methods.{method_by}
 use Rattle.som_terms.specs.Forms.{Finds}
 use Rattle.som_terms.proofs.methods.method_of.Goals as goal

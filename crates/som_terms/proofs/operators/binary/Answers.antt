@@ -1,5 +1,5 @@
 use Rattle.som_model.specs.Typing.{binary_type}
-use Rattle.som_typing.specs.Kinds.{kind_at}
+use Rattle.som_kinds.specs.Kinds.{kind_at}
 use Rattle.som_terms.proofs.operators.binary.Goals as goal
 
 pub returns : goal.returns

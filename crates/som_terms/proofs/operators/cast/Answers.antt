@@ -1,6 +1,6 @@
 use Rattle.std.proofs.Common.{refl}
 use Rattle.som_model.specs.Typing.{cast_type}
-use Rattle.som_typing.specs.Kinds.{kind_at}
+use Rattle.som_kinds.specs.Kinds.{kind_at}
 use Rattle.som_terms.specs.Code.{among_at, classes_at, typed_at}
 use Rattle.som_terms.specs.Forms.{facts_at}
 use Rattle.som_terms.proofs.FormLaws.{cast_made}

@@ -1,5 +1,5 @@
 use Rattle.som_model.specs.Typing.{host_type}
-use Rattle.som_typing.specs.Kinds.{kind_at}
+use Rattle.som_kinds.specs.Kinds.{kind_at}
 use Rattle.som_terms.proofs.operators.host.Goals as goal
 
 pub returns : goal.returns

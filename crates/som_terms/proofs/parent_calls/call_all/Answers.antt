@@ -1,6 +1,6 @@
 use Rattle.std.proofs.Common.{map}
 use Rattle.som_model.specs.Typing.{parents_call_type}
-use Rattle.som_typing.specs.Kinds.{kind_at}
+use Rattle.som_kinds.specs.Kinds.{kind_at}
 use Rattle.som_ancestry.specs.Places.{key_at}
 use Rattle.som_terms.specs.Code.{classes_at, place_at}
 use Rattle.som_terms.specs.Forms.{facts_at}

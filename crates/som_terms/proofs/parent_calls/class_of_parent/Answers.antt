@@ -1,6 +1,6 @@
 use Rattle.std.proofs.Common.{sym, ◌∙◌, true≢false}
-use Rattle.som_typing.specs.Knowing.{all_of}
-use Rattle.som_typing.proofs.Facts.{known_said}
+use Rattle.som_kinds.specs.Knowing.{all_of}
+use Rattle.som_kinds.proofs.Facts.{known_said}
 use Rattle.som_terms.proofs.NameLaws.{parent_known}
 use Rattle.som_terms.proofs.parent_calls.class_of_parent.Goals as goal
 

@@ -1,7 +1,7 @@
 use Rattle.std.proofs.Common.{drop, flat_map}
 use Rattle.std.proofs.lemmas.Result.{err_from_is_err_and}
 use Rattle.som_model.specs.Conforming.{class_typed, main_typed}
-use Rattle.som_typing.specs.Knowing.{all_of}
+use Rattle.som_kinds.specs.Knowing.{all_of}
 use Rattle.som_ancestry.specs.Modules.{classes_of}
 use Rattle.som_typing.proofs.BodySteps.{both_here, both_later}
 use Rattle.som_typing.proofs.blocks.all_typed.Goals as goal

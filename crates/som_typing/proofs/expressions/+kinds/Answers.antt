@@ -3,13 +3,13 @@ use Rattle.std.proofs.lemmas.Result.{err_from_is_err_and}
 use Rattle.som_model.specs.Typing.{Of, PlainNil, value, value_of}
 use Rattle.som_model.specs.declared.key.ValueType.TheVariants as types
 use Rattle.som_model.specs.declared.syntax.Expr.{Expr}
-use Rattle.som_typing.specs.declared.kind.Kind.{Kind}
-use Rattle.som_typing.specs.declared.kind.Kind.TheVariants as kinds
-use Rattle.som_typing.specs.Kinds.{AllStand, Fails, Types, kind_at, type_at}
-use Rattle.som_typing.specs.Knowing.{classes_in, facts_in, place_in, typed_in}
+use Rattle.som_kinds.specs.declared.kind.Kind.{Kind}
+use Rattle.som_kinds.specs.declared.kind.Kind.TheVariants as kinds
+use Rattle.som_kinds.specs.Kinds.{AllStand, Fails, Types, kind_at, type_at}
+use Rattle.som_typing.specs.Codes.{classes_in, facts_in, place_in, typed_in}
 use Rattle.som_typing.proofs.ArgLaws.{args_go_on}
 use Rattle.som_typing.proofs.ExprLaws.{boolean_typed, cast_typed, class_typed, isa_typed, local_typed, long_typed, me_typed, new_typed, nil_typed, parent_call_typed, parents_call_typed, proxy_typed, str_typed, unary_typed, variable_typed}
-use Rattle.som_typing.proofs.KindLaws.{all_stand_more}
+use Rattle.som_kinds.proofs.KindLaws.{all_stand_more}
 use Rattle.som_typing.proofs.PartLaws.{binary_fails, binary_goes_on, comes_on, dispatch_fails, dispatch_goes_on, host_fails, host_goes_on, if_ok_so, lookup_fails, lookup_goes_on, offset_call_fails, offset_call_goes_on, part_as, stands_if_ok, types_as}
 use Rattle.som_typing.proofs.expressions.+kinds.Goals as goal
 

@@ -1,8 +1,8 @@
 use Rattle.std.proofs.Common.{◌≡◌, drop, map}
 use Rattle.som_model.specs.Typing as typing
-use Rattle.som_typing.specs.Kinds.{AllStand, kind_at}
-use Rattle.som_typing.specs.Knowing.{classes_in, typed_in}
-use Rattle.som_typing.proofs.KindLaws.{after_those}
+use Rattle.som_kinds.specs.Kinds.{AllStand, kind_at}
+use Rattle.som_typing.specs.Codes.{classes_in, typed_in}
+use Rattle.som_kinds.proofs.KindLaws.{after_those}
 use Rattle.som_typing.proofs.expressions.+kinds.Given as goal
 
 abbrev pub invariant-values_in-loop-arg : goal.invariant-values_in-loop-arg

@@ -1,5 +1,5 @@
 use Rattle.som_model.specs.Typing.{cast_type}
-use Rattle.som_typing.specs.Knowing.{classes_in, facts_in}
+use Rattle.som_typing.specs.Codes.{classes_in, facts_in}
 use Rattle.som_typing.proofs.PartLaws.{comes_on, fails_on}
 use Rattle.som_typing.proofs.parts.cast.Goals as goal
 

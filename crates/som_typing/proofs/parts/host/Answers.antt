@@ -1,5 +1,5 @@
 use Rattle.som_model.specs.Typing.{host_type}
-use Rattle.som_typing.specs.Kinds.{kind_at}
+use Rattle.som_kinds.specs.Kinds.{kind_at}
 use Rattle.som_typing.proofs.PartLaws.{comes_on, fails_on}
 use Rattle.som_typing.proofs.parts.host.Goals as goal
 

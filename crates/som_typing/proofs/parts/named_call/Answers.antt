@@ -1,6 +1,6 @@
 use Rattle.som_model.specs.Typing.{named_call_type}
-use Rattle.som_typing.specs.Kinds.{kind_at}
-use Rattle.som_typing.specs.Knowing.{classes_in, facts_in}
+use Rattle.som_kinds.specs.Kinds.{kind_at}
+use Rattle.som_typing.specs.Codes.{classes_in, facts_in}
 use Rattle.som_typing.proofs.PartLaws.{comes_all, fails_on}
 use Rattle.som_typing.proofs.parts.named_call.Goals as goal
 

@@ -1,7 +1,7 @@
 use Rattle.std.proofs.Common.{sym, subst}
 use Rattle.som_model.specs.Typing.{parent_call_type}
-use Rattle.som_typing.specs.Kinds.{AllStand}
-use Rattle.som_typing.specs.Knowing.{classes_in, facts_in, place_in}
+use Rattle.som_kinds.specs.Kinds.{AllStand}
+use Rattle.som_typing.specs.Codes.{classes_in, facts_in, place_in}
 use Rattle.som_typing.proofs.PartLaws.{comes_all, fails_on}
 use Rattle.som_typing.proofs.parts.parent_call.Goals as goal
 

@@ -1,8 +1,8 @@
 use Rattle.std.proofs.lemmas.Result.{err_from_is_err_and}
 use Rattle.som_model.specs.Blocks.{is_call}
-use Rattle.som_typing.specs.Knowing.{all_of}
-use Rattle.som_typing.specs.Knowing.{typed_by}
-use Rattle.som_typing.proofs.Keeping.{part_fails, tested}
+use Rattle.som_kinds.specs.Knowing.{all_of}
+use Rattle.som_kinds.specs.Knowing.{typed_by}
+use Rattle.som_kinds.proofs.Keeping.{part_fails, tested}
 use Rattle.som_typing.proofs.plain_statements.call_stands.Goals as goal
 
 pub returns-in_err-_answer : goal.returns-in_err-_answer

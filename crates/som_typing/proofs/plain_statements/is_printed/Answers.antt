@@ -1,8 +1,8 @@
 use Rattle.std.proofs.lemmas.Result.{err_from_is_err_and}
 use Rattle.som_model.specs.Typing.{has_text}
-use Rattle.som_typing.specs.Knowing.{all_of}
-use Rattle.som_typing.specs.Scopes.{valued_by}
-use Rattle.som_typing.proofs.Keeping.{part_fails, tested}
+use Rattle.som_kinds.specs.Knowing.{all_of}
+use Rattle.som_kinds.specs.Scopes.{valued_by}
+use Rattle.som_kinds.proofs.Keeping.{part_fails, tested}
 use Rattle.som_typing.proofs.plain_statements.is_printed.Goals as goal
 
 pub returns-in_err-given : goal.returns-in_err-given

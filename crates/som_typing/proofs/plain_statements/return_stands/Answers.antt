@@ -1,9 +1,9 @@
 use Rattle.std.proofs.Common.{ap, ◌∙◌, refl}
 use Rattle.som_model.specs.Typing.{is_nothing}
 use Rattle.som_model.specs.TypedBlocks.{plain_return}
-use Rattle.som_typing.specs.Kinds.{code_at}
-use Rattle.som_typing.specs.Scopes.{scope_at}
-use Rattle.som_typing.proofs.Keeping.{demanded, type_kind}
+use Rattle.som_kinds.specs.Kinds.{code_at}
+use Rattle.som_kinds.specs.Scopes.{scope_at}
+use Rattle.som_kinds.proofs.Keeping.{demanded, type_kind}
 use Rattle.som_typing.proofs.plain_statements.return_stands.Goals as goal
 
 pub returns : goal.returns

@@ -1,9 +1,9 @@
 use Rattle.std.proofs.lemmas.Result.{err_from_is_err_and}
 use Rattle.som_model.specs.Typing.{own_variable}
-use Rattle.som_typing.specs.Kinds.{code_at}
-use Rattle.som_typing.specs.Knowing.{all_of, facts_of}
-use Rattle.som_typing.specs.Scopes.{scope_at, valued_by}
-use Rattle.som_typing.proofs.Keeping.{assigned, part_fails, unassigned}
+use Rattle.som_kinds.specs.Kinds.{code_at}
+use Rattle.som_kinds.specs.Knowing.{all_of, facts_of}
+use Rattle.som_kinds.specs.Scopes.{scope_at, valued_by}
+use Rattle.som_kinds.proofs.Keeping.{assigned, part_fails, unassigned}
 use Rattle.som_typing.proofs.plain_statements.set_variable.Goals as goal
 
 pub returns-in_err-given : goal.returns-in_err-given

@@ -1,10 +1,10 @@
 use Rattle.std.proofs.Common.{not, ◌&&◌}
 use Rattle.std.proofs.lemmas.Result.{err_from_is_err_and}
 use Rattle.som_model.specs.Typing.{Of, fits, is_nothing}
-use Rattle.som_typing.specs.Kinds.{type_at}
-use Rattle.som_typing.specs.Knowing.{all_of, facts_of}
-use Rattle.som_typing.specs.Scopes.{valued_by}
-use Rattle.som_typing.proofs.Keeping.{part_fails, tested}
+use Rattle.som_kinds.specs.Kinds.{type_at}
+use Rattle.som_kinds.specs.Knowing.{all_of, facts_of}
+use Rattle.som_kinds.specs.Scopes.{valued_by}
+use Rattle.som_kinds.proofs.Keeping.{part_fails, tested}
 use Rattle.som_typing.proofs.plain_statements.value_returns.Goals as goal
 
 pub returns-in_err-given : goal.returns-in_err-given

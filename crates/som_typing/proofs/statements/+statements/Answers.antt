@@ -2,12 +2,12 @@ use Rattle.std.proofs.Common.{◌≡◌, List, refl, ap, ◌∙◌, subst, Ok}
 use Rattle.std.proofs.lemmas.Result.{err_from_is_err_and}
 use Rattle.som_model.specs.Typing.{has_text, is_class, needs}
 use Rattle.som_model.specs.TypedBlocks.{call_statement, local_set, plain_return, value_return, variable_set}
-use Rattle.som_typing.specs.declared.kind.Kind.{Kind}
-use Rattle.som_typing.specs.Kinds.{Fails, code_at}
-use Rattle.som_typing.specs.Knowing.{all_of, facts_of}
-use Rattle.som_typing.specs.Scopes.{blocked_by, scope_at, stated_by, then_scope, valued_by}
+use Rattle.som_kinds.specs.declared.kind.Kind.{Kind}
+use Rattle.som_kinds.specs.Kinds.{Fails, code_at}
+use Rattle.som_kinds.specs.Knowing.{all_of, facts_of}
+use Rattle.som_kinds.specs.Scopes.{blocked_by, scope_at, stated_by, then_scope, valued_by}
 use Rattle.som_typing.proofs.BlockSteps.{after_block, after_part, begins, breaks, ends, formed, goes_on, if_kept, kept, plainly, while_kept}
-use Rattle.som_typing.proofs.Keeping.{part_fails, then_fails}
+use Rattle.som_kinds.proofs.Keeping.{part_fails, then_fails}
 use Rattle.som_typing.proofs.TypedForms as forms
 use Rattle.som_typing.proofs.statements.+statements.Goals as goal
 

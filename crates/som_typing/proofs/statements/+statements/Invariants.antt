@@ -1,8 +1,8 @@
 use Rattle.std.proofs.Common.{◌+◌, ◌*◌, max, drop}
 use Rattle.som_model.specs.declared.syntax.Stmt.{size-Stmt}
 use Rattle.som_model.specs.declared.syntax.Block.{size-Block}
-use Rattle.som_typing.specs.Kinds.{code_at}
-use Rattle.som_typing.specs.Knowing.{all_of, facts_of}
+use Rattle.som_kinds.specs.Kinds.{code_at}
+use Rattle.som_kinds.specs.Knowing.{all_of, facts_of}
 use Rattle.som_typing.proofs.BlockSteps.{IsPart}
 use Rattle.som_typing.proofs.statements.+statements.Given as goal
 

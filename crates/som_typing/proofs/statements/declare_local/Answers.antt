@@ -1,8 +1,8 @@
 use Rattle.std.proofs.Common.{sym, ◌∙◌}
 use Rattle.std.proofs.lemmas.Result.{err_from_is_err_and}
-use Rattle.som_typing.specs.Knowing.{all_of, facts_of}
-use Rattle.som_typing.specs.Scopes.{scope_at, valued_by}
-use Rattle.som_typing.proofs.Keeping.{declares, part_fails, var_misfits}
+use Rattle.som_kinds.specs.Knowing.{all_of, facts_of}
+use Rattle.som_kinds.specs.Scopes.{scope_at, valued_by}
+use Rattle.som_kinds.proofs.Keeping.{declares, part_fails, var_misfits}
 use Rattle.som_typing.proofs.statements.declare_local.Goals as goal
 
 pub returns-in_err-given : goal.returns-in_err-given

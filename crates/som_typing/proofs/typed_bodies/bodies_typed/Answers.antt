@@ -2,7 +2,7 @@ use Rattle.std.proofs.Common.{drop, flat_map}
 use Rattle.std.proofs.lemmas.Result.{err_from_is_err_and}
 use Rattle.som_model.specs.Conforming.{class_typed}
 use Rattle.som_model.specs.Lists.{first}
-use Rattle.som_typing.specs.Knowing.{all_of}
+use Rattle.som_kinds.specs.Knowing.{all_of}
 use Rattle.som_ancestry.specs.Modules.{class_of, classes_of}
 use Rattle.som_typing.proofs.BodySteps.{declared_sigs, declared_stands}
 use Rattle.som_ancestry.proofs.Passes.{all_pass, item_goes_on, item_stops}

@@ -1,6 +1,6 @@
 use Rattle.std.proofs.Common.{◌≡◌, drop, flat_map}
 use Rattle.som_model.specs.Conforming.{class_typed}
-use Rattle.som_typing.specs.Knowing.{all_of}
+use Rattle.som_kinds.specs.Knowing.{all_of}
 use Rattle.som_model.specs.Lists.{first}
 use Rattle.som_ancestry.specs.Modules.{classes_of}
 use Rattle.som_typing.proofs.typed_bodies.bodies_typed.Given as goal

@@ -1,7 +1,7 @@
 use Rattle.std.proofs.Common.{flat_map}
 use Rattle.std.proofs.lemmas.Result.{err_from_is_err_and}
 use Rattle.som_model.specs.Conforming.{bodies_typed, override_typed}
-use Rattle.som_typing.specs.Knowing.{all_of}
+use Rattle.som_kinds.specs.Knowing.{all_of}
 use Rattle.som_ancestry.specs.Modules.{class_of}
 use Rattle.som_typing.proofs.BodySteps.{both_here, both_later}
 use Rattle.som_typing.proofs.typed_bodies.class_typed.Goals as goal

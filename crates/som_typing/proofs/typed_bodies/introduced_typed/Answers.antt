@@ -1,7 +1,7 @@
 use Rattle.std.proofs.lemmas.Result.{err_from_is_err_and}
 use Rattle.som_model.specs.Conforming.{bodies_typed}
 use Rattle.som_model.specs.Lists.{first}
-use Rattle.som_typing.specs.Knowing.{all_of}
+use Rattle.som_kinds.specs.Knowing.{all_of}
 use Rattle.som_ancestry.specs.Modules.{class_of}
 use Rattle.som_typing.proofs.BodySteps.{body_holds, body_stops, entry_mem, first_and_rest}
 use Rattle.som_typing.proofs.typed_bodies.introduced_typed.Goals as goal

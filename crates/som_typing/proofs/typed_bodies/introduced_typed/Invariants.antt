@@ -1,7 +1,7 @@
 use Rattle.std.proofs.Common.{◌≡◌, drop}
 use Rattle.som_model.specs.Conforming.{bodies_typed}
 use Rattle.som_model.specs.Lists.{first}
-use Rattle.som_typing.specs.Knowing.{all_of}
+use Rattle.som_kinds.specs.Knowing.{all_of}
 use Rattle.som_ancestry.specs.Modules.{class_of}
 use Rattle.som_typing.proofs.typed_bodies.introduced_typed.Given as goal
 

@@ -1,5 +1,5 @@
 use Rattle.std.proofs.Common.{◌∙◌}
-use Rattle.som_typing.specs.Knowing.{all_of}
+use Rattle.som_kinds.specs.Knowing.{all_of}
 use Rattle.som_ancestry.specs.Modules.{class_of}
 use Rattle.som_typing.proofs.BodySteps.{block_holds, sig_parts}
 use Rattle.som_typing.proofs.typed_bodies.method_typed.Goals as goal

@@ -1,4 +1,4 @@
-use Rattle.som_typing.specs.Knowing.{all_of}
+use Rattle.som_kinds.specs.Knowing.{all_of}
 use Rattle.som_ancestry.specs.Modules.{class_of}
 use Rattle.som_typing.proofs.BodySteps.{signed, unsigned}
 use Rattle.som_typing.proofs.typed_bodies.override_typed.Goals as goal

@@ -2,7 +2,7 @@ use Rattle.std.proofs.Common.{flat_map}
 use Rattle.std.proofs.lemmas.Result.{err_from_is_err_and}
 use Rattle.som_model.specs.Conforming.{override_typed}
 use Rattle.som_model.specs.Lists.{first}
-use Rattle.som_typing.specs.Knowing.{all_of}
+use Rattle.som_kinds.specs.Knowing.{all_of}
 use Rattle.som_ancestry.specs.Modules.{class_of}
 use Rattle.som_typing.proofs.BodySteps.{next_breaks, next_holds}
 use Rattle.som_typing.proofs.typed_bodies.overrides_typed.Goals as goal

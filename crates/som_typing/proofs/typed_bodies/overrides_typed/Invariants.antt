@@ -1,7 +1,7 @@
 use Rattle.std.proofs.Common.{◌≡◌, drop, flat_map}
 use Rattle.som_model.specs.Conforming.{override_typed}
 use Rattle.som_model.specs.Lists.{first}
-use Rattle.som_typing.specs.Knowing.{all_of}
+use Rattle.som_kinds.specs.Knowing.{all_of}
 use Rattle.som_ancestry.specs.Modules.{class_of}
 use Rattle.som_typing.proofs.typed_bodies.overrides_typed.Given as goal
 
