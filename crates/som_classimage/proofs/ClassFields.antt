@@ -27,10 +27,10 @@ use Rattle.som_fields.proofs.ManyFields.{many_field}
 use Rattle.som_fields.proofs.FaceFields.{face_field}
 use Rattle.som_wire.specs.Reading.{part_at}
 use Rattle.som_fields.specs.declared.method.WireMethod.{WireMethod}
-use Rattle.som_wire.specs.declared.selects.WireSelect.{WireSelect}
-use Rattle.som_wire.specs.declared.selects.WireSelects.{WireSelects}
-use Rattle.som_wire.specs.Spelling.{part, selects}
-use Rattle.som_wire.specs.Fitting.{FitsSelect, FitsClassSelects, FitAscending, FitsSelects}
+use Rattle.som_spelling.specs.declared.selects.WireSelect.{WireSelect}
+use Rattle.som_spelling.specs.declared.selects.WireSelects.{WireSelects}
+use Rattle.som_spelling.specs.Spelling.{part, selects}
+use Rattle.som_spelling.specs.Fitting.{FitsSelect, FitsClassSelects, FitAscending, FitsSelects}
 use Rattle.som_wire.proofs.SelectFields.{selects_field, selects_some}
 use Rattle.som_wire.proofs.PartFields.{part_field}
 use Rattle.som_classimage.specs.ReadClasses.{introduced_count, ranges_of, faces_after_at, faces_at, parts_at, magic_at, head_at, section_at}

@@ -22,11 +22,11 @@ use Rattle.som_fields.specs.declared.entry.WireEntry.TheVariants as entries
 use Rattle.som_fields.specs.declared.face.WireFace.{WireFace}
 use Rattle.som_fields.specs.Spelling as wire
 use Rattle.som_fields.specs.Spelling.{FitsFace}
-use Rattle.som_wire.specs.declared.selects.WireSelect.{WireSelect}
-use Rattle.som_wire.specs.declared.selects.WireSelects.{WireSelects}
-use Rattle.som_wire.specs.declared.syntax.WirePart.{WirePart}
+use Rattle.som_spelling.specs.declared.selects.WireSelect.{WireSelect}
+use Rattle.som_spelling.specs.declared.selects.WireSelects.{WireSelects}
+use Rattle.som_spelling.specs.declared.syntax.WirePart.{WirePart}
 use Rattle.som_naming.specs.declared.directory.Directory.{Directory}
-use Rattle.som_wire.specs.Spelling as spelling
+use Rattle.som_spelling.specs.Spelling as spelling
 use Rattle.som_classimage.specs.SpelledClasses.{FitsParts}
 use Rattle.som_naming.specs.Naming.{name_in, names_in, kernel_directory, library_directory, ranges_in, entry_names, Tells, NoDoubles}
 use Rattle.som_classimage.specs.NamedClasses.{entry_named, face_named, classes_named, selects_under, selecting, with_selects}

@@ -18,10 +18,10 @@ use Rattle.som_fields.specs.declared.method.WireMethod.{WireMethod}
 use Rattle.som_fields.specs.declared.method.Ranges.{Ranges}
 use Rattle.som_fields.specs.Spelling as wire
 use Rattle.som_fields.specs.Spelling.{FitsMethod}
-use Rattle.som_wire.specs.declared.selects.WireSelect.{WireSelect}
-use Rattle.som_wire.specs.declared.selects.WireSelects.{WireSelects}
-use Rattle.som_wire.specs.Spelling as spelling
-use Rattle.som_wire.specs.Fitting.{FitsSelect, FitAscending}
+use Rattle.som_spelling.specs.declared.selects.WireSelect.{WireSelect}
+use Rattle.som_spelling.specs.declared.selects.WireSelects.{WireSelects}
+use Rattle.som_spelling.specs.Spelling as spelling
+use Rattle.som_spelling.specs.Fitting.{FitsSelect, FitAscending}
 use Rattle.som_naming.specs.declared.directory.Directory.{Directory}
 use Rattle.som_naming.specs.Naming.{ranges_in, Tells, NoDoubles}
 use Rattle.som_classimage.specs.SpelledClasses.{version_with, section, FitsSection}

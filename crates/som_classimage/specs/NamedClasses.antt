@@ -18,13 +18,13 @@ use Rattle.som_fields.specs.declared.entry.WireEntry.TheVariants as entries
 use Rattle.som_fields.specs.declared.face.WireFace.{WireFace}
 use Rattle.som_fields.specs.declared.method.Ranges.{Ranges}
 use Rattle.som_fields.specs.Spelling.{FitsMethod}
-use Rattle.som_wire.specs.declared.selects.WireSelect.{WireSelect}
-use Rattle.som_wire.specs.declared.selects.WireSelects.{WireSelects}
-use Rattle.som_wire.specs.declared.syntax.WireVariable.{WireVariable}
-use Rattle.som_wire.specs.declared.syntax.WireBody.{WireBody}
-use Rattle.som_wire.specs.declared.syntax.WireBody.TheVariants as bodies
-use Rattle.som_wire.specs.declared.syntax.WireOverride.{WireOverride}
-use Rattle.som_wire.specs.declared.syntax.WirePart.{WirePart}
+use Rattle.som_spelling.specs.declared.selects.WireSelect.{WireSelect}
+use Rattle.som_spelling.specs.declared.selects.WireSelects.{WireSelects}
+use Rattle.som_spelling.specs.declared.syntax.WireVariable.{WireVariable}
+use Rattle.som_spelling.specs.declared.syntax.WireBody.{WireBody}
+use Rattle.som_spelling.specs.declared.syntax.WireBody.TheVariants as bodies
+use Rattle.som_spelling.specs.declared.syntax.WireOverride.{WireOverride}
+use Rattle.som_spelling.specs.declared.syntax.WirePart.{WirePart}
 use Rattle.som_naming.specs.declared.directory.Directory.{Directory}
 use Rattle.som_naming.specs.Naming.{library_directory, key_at, method_named, kind_named}
 use Rattle.som_naming.specs.NamedBlocks.{block_named}

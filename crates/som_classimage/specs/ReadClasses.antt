@@ -13,8 +13,8 @@ use Rattle.som_fields.specs.declared.face.WireFace.{WireFace}
 use Rattle.som_fields.specs.declared.method.Ranges.{Ranges}
 use Rattle.som_fields.specs.Fields.{done, many_at}
 use Rattle.som_fields.specs.Reading.{number_at, face_at}
-use Rattle.som_wire.specs.declared.syntax.WirePart.{WirePart}
-use Rattle.som_wire.specs.declared.selects.WireSelects.{WireSelects}
+use Rattle.som_spelling.specs.declared.syntax.WirePart.{WirePart}
+use Rattle.som_spelling.specs.declared.selects.WireSelects.{WireSelects}
 use Rattle.som_wire.specs.Reading.{part_at, selects_at}
 
 -- whether an entry is introduced

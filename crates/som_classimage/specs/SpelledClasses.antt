@@ -4,10 +4,10 @@ use Rattle.som_model.specs.declared.limits.TheConstants.{MAX_LIBRARY_CLASSES}
 use Rattle.som_fields.specs.declared.face.WireFace.{WireFace}
 use Rattle.som_fields.specs.declared.method.Ranges.{Ranges}
 use Rattle.som_fields.specs.Spelling.{FitsCounted, face, FitsFace, FitsMethod}
-use Rattle.som_wire.specs.declared.syntax.WirePart.{WirePart}
-use Rattle.som_wire.specs.declared.selects.WireSelects.{WireSelects}
-use Rattle.som_wire.specs.Spelling.{part, selects}
-use Rattle.som_wire.specs.Fitting.{FitsPart, FitsSelects, FitsSomeSelects}
+use Rattle.som_spelling.specs.declared.syntax.WirePart.{WirePart}
+use Rattle.som_spelling.specs.declared.selects.WireSelects.{WireSelects}
+use Rattle.som_spelling.specs.Spelling.{part, selects}
+use Rattle.som_spelling.specs.Fitting.{FitsPart, FitsSelects, FitsSomeSelects}
 use Rattle.som_classimage.specs.ReadClasses.{introduced_count}
 
 -- each fits the other of its place, and there are as many

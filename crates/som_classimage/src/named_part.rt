@@ -1,4 +1,4 @@
-ghost use Rattle.som_wire.specs.Fitting.{FitsBody, FitsOverride, FitsVariable};
+ghost use Rattle.som_spelling.specs.Fitting.{FitsBody, FitsOverride, FitsVariable};
 ghost use Rattle.som_classimage.specs.NamedClasses.{
   AreSelectsOf,
   body_named,

@@ -1,5 +1,5 @@
-ghost use Rattle.som_wire.specs.Fitting.{FitsSomePart};
-ghost use Rattle.som_wire.specs.Spelling.{part};
+ghost use Rattle.som_spelling.specs.Fitting.{FitsSomePart};
+ghost use Rattle.som_spelling.specs.Spelling.{part};
 ghost use Rattle.som_classimage.specs.ReadClasses.{introduced_count, parts_at};
 ghost use Rattle.som_model.specs.declared.limits.TheConstants.{MAX_ENTRIES};
 ghost use Rattle.som_fields.specs.Fields.{Gives};

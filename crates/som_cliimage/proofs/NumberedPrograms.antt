@@ -18,7 +18,7 @@ use Rattle.som_model.specs.Classes.{client_classes}
 use Rattle.som_fields.specs.declared.face.WireFace.{WireFace}
 use Rattle.som_fields.specs.declared.method.Ranges.{Ranges}
 use Rattle.som_fields.specs.Spelling.{FitsFace}
-use Rattle.som_wire.specs.declared.syntax.WirePart.{WirePart}
+use Rattle.som_spelling.specs.declared.syntax.WirePart.{WirePart}
 use Rattle.som_naming.specs.declared.directory.Directory.{Directory}
 use Rattle.som_naming.specs.Naming.{names_in, kernel_directory, library_directory, ranges_in, entry_names, Tells}
 use Rattle.som_naming.specs.NamedBlocks.{block_named}
@@ -43,7 +43,7 @@ use Rattle.som_cliimage.specs.Limits.{IsWithinLimits}
 use Rattle.som_classimage.proofs.NamedParts.{plain}
 use Rattle.som_classimage.proofs.NamedSelects.{section_fits}
 use Rattle.som_numbering.proofs.NumberedSelects.{selects_turn}
-use Rattle.som_wire.specs.declared.selects.WireSelects.{WireSelects}
+use Rattle.som_spelling.specs.declared.selects.WireSelects.{WireSelects}
 use Rattle.som_cliimage.proofs.NamedPrograms.{known_to, many_keys, client_ranges_known}
 
 -- ---- the directory of a program

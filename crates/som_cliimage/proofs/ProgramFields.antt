@@ -16,12 +16,12 @@ use Rattle.som_fields.specs.declared.method.Ranges.{Ranges}
 use Rattle.som_fields.specs.Fields.{Stands, done}
 use Rattle.som_fields.specs.Spelling.{counted, face, AreShort}
 use Rattle.som_fields.proofs.Parts.{IsField, Stands-join, guard_no, came, took, went}
-use Rattle.som_wire.specs.declared.syntax.WirePart.{WirePart}
-use Rattle.som_wire.specs.declared.syntax.WireBlock.{WireBlock}
-use Rattle.som_wire.specs.declared.selects.WireSelects.{WireSelects}
-use Rattle.som_wire.specs.Fitting.{levels_left}
+use Rattle.som_spelling.specs.declared.syntax.WirePart.{WirePart}
+use Rattle.som_spelling.specs.declared.syntax.WireBlock.{WireBlock}
+use Rattle.som_spelling.specs.declared.selects.WireSelects.{WireSelects}
+use Rattle.som_spelling.specs.Fitting.{levels_left}
 use Rattle.som_wire.specs.Reading.{block_at}
-use Rattle.som_wire.specs.Spelling.{part, block}
+use Rattle.som_spelling.specs.Spelling.{part, block}
 use Rattle.som_wire.proofs.StmtFields.{block_field}
 use Rattle.som_naming.proofs.Places.{all_joined}
 use Rattle.som_classimage.specs.ReadClasses.{faces_at, parts_at, section_at, head_at, at_end}

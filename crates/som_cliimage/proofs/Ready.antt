@@ -22,9 +22,9 @@ use Rattle.som_model.specs.Typing.{Ruled, class_facts, in_main}
 use Rattle.som_model.specs.TypedBlocks.{Scope, block_scope}
 use Rattle.som_model.specs.Conforming.{ProgramOk}
 use Rattle.som_fields.specs.declared.face.WireFace.{WireFace}
-use Rattle.som_wire.specs.declared.syntax.WireBlock.{WireBlock}
-use Rattle.som_wire.specs.declared.syntax.WirePart.{WirePart}
-use Rattle.som_wire.specs.declared.selects.WireSelects.{WireSelects}
+use Rattle.som_spelling.specs.declared.syntax.WireBlock.{WireBlock}
+use Rattle.som_spelling.specs.declared.syntax.WirePart.{WirePart}
+use Rattle.som_spelling.specs.declared.selects.WireSelects.{WireSelects}
 use Rattle.som_naming.specs.declared.directory.Directory.{Directory}
 use Rattle.som_naming.specs.Naming.{Differ}
 use Rattle.som_numbering.specs.Numbering.{class_names, AreNamed, IsDirectory}

@@ -5,7 +5,7 @@ use Rattle.std.proofs.lemmas.List.{length-map}
 use Rattle.std.proofs.lemmas.List.Elements.{All-from_recursion, recursion_from_All}
 use Rattle.som_model.specs.declared.limits.TheConstants.{MAX_CLIENT_CLASSES}
 use Rattle.som_fields.specs.Spelling.{FitsFace, FitsMethod}
-use Rattle.som_wire.specs.Fitting.{levels_left, FitsSomePart, FitsSomeBlock}
+use Rattle.som_spelling.specs.Fitting.{levels_left, FitsSomePart, FitsSomeBlock}
 use Rattle.som_wire.proofs.SomeFits.{block_some}
 use Rattle.som_naming.specs.declared.directory.Directory.{Directory}
 use Rattle.som_naming.specs.Naming.{library_directory, ranges_in}

@@ -7,7 +7,7 @@ use Rattle.som_fields.specs.declared.read.Read.{Read}
 use Rattle.som_fields.specs.declared.face.WireFace.{WireFace}
 use Rattle.som_fields.specs.declared.method.Ranges.{Ranges}
 use Rattle.som_fields.specs.Fields.{done}
-use Rattle.som_wire.specs.Fitting.{levels_left}
+use Rattle.som_spelling.specs.Fitting.{levels_left}
 use Rattle.som_wire.specs.Reading.{block_at}
 use Rattle.som_classimage.specs.ReadClasses.{ranges_of, faces_after_at, faces_at, parts_at, section_at, head_at, at_end}
 use Rattle.som_cliimage.specs.declared.wire.WireProgram.{WireProgram}

@@ -6,9 +6,9 @@ use Rattle.som_model.specs.declared.limits.TheConstants.{MAX_CLIENT_CLASSES}
 use Rattle.som_fields.specs.declared.face.WireFace.{WireFace}
 use Rattle.som_fields.specs.declared.method.Ranges.{Ranges}
 use Rattle.som_fields.specs.Spelling.{counted, face, FitsMethod}
-use Rattle.som_wire.specs.declared.syntax.WireBlock.{WireBlock}
-use Rattle.som_wire.specs.Spelling.{part, block}
-use Rattle.som_wire.specs.Fitting.{levels_left, FitsBlock}
+use Rattle.som_spelling.specs.declared.syntax.WireBlock.{WireBlock}
+use Rattle.som_spelling.specs.Spelling.{part, block}
+use Rattle.som_spelling.specs.Fitting.{levels_left, FitsBlock}
 use Rattle.som_classimage.specs.SpelledClasses.{FitsFaces, FitsFacesAfter, FitsParts, FitsSection, section, version_with, head}
 use Rattle.som_cliimage.specs.declared.wire.WireProgram.{WireProgram}
 use Rattle.som_cliimage.specs.Reading.{client_ranges}

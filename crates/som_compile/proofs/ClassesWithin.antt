@@ -38,7 +38,7 @@ use Rattle.som_ancestry.specs.Places.{with_kernel}
 use Rattle.som_ancestry.proofs.Before.{every_mem}
 use Rattle.som_lawful.proofs.PlainLists.{mem_map}
 use Rattle.som_naming.specs.BlockLimits.{TextWithin, BlockWithin, StmtWithin}
-use Rattle.som_wire.specs.Fitting.{levels_left}
+use Rattle.som_spelling.specs.Fitting.{levels_left}
 use Rattle.som_classimage.specs.ClassLimits.{EntryWithin, BodyWithin, FaceWithin, ClassWithin}
 use Rattle.som_methods.specs.Accessors.{Access, accessor_body, accessors_of, body_of, place_of}
 use Rattle.som_declarations.specs.Known.{after_base}

@@ -12,7 +12,7 @@ use Rattle.som_model.specs.declared.syntax.Stmt.TheOpen.{Stmt-F}
 use Rattle.som_model.specs.declared.syntax.Block.{Block, fold-roll-Block}
 use Rattle.som_model.specs.Counts.{args_counted, block_counted, block_counted_step, expr_counted, expr_counted_step, is_short, stmt_counted_step}
 use Rattle.som_model.specs.Lists.{every}
-use Rattle.som_wire.specs.Fitting.{levels_left}
+use Rattle.som_spelling.specs.Fitting.{levels_left}
 use Rattle.som_naming.specs.BlockLimits.{ArgsWithin, BlockWithin, ExprPartsWithin, ExprWithin, StatementsWithin, StmtPartsWithin, StmtWithin, TextWithin}
 
 pub first_of : {A B : Type 0} → A × B → A

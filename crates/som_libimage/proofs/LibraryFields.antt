@@ -10,9 +10,9 @@ use Rattle.som_fields.specs.declared.read.Read.{Read}
 use Rattle.som_fields.specs.declared.face.WireFace.{WireFace}
 use Rattle.som_fields.specs.Fields.{Stands, done}
 use Rattle.som_fields.proofs.Parts.{IsField, Stands-join, guard_no, came, took, went}
-use Rattle.som_wire.specs.declared.syntax.WirePart.{WirePart}
-use Rattle.som_wire.specs.declared.selects.WireSelects.{WireSelects}
-use Rattle.som_wire.specs.Spelling.{part}
+use Rattle.som_spelling.specs.declared.syntax.WirePart.{WirePart}
+use Rattle.som_spelling.specs.declared.selects.WireSelects.{WireSelects}
+use Rattle.som_spelling.specs.Spelling.{part}
 use Rattle.som_classimage.specs.ReadClasses.{ranges_of, faces_at, parts_at, section_at, head_at, at_end}
 use Rattle.som_classimage.specs.SpelledClasses.{FitsParts, FitsFaces, head, section, version_with}
 use Rattle.som_classimage.proofs.ClassFields.{spell_faces, faces_field, ranges_short, parts_field, beginning, IsVersion, head_field, IsSection, section_field, all_bytes, stands_whole, ends_there}

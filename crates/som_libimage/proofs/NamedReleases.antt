@@ -20,8 +20,8 @@ use Rattle.som_fields.specs.declared.face.WireFace.{WireFace}
 use Rattle.som_fields.specs.declared.method.Ranges.{Ranges}
 use Rattle.som_fields.specs.Spelling as wire
 use Rattle.som_fields.specs.Spelling.{FitsFace}
-use Rattle.som_wire.specs.declared.selects.WireSelects.{WireSelects}
-use Rattle.som_wire.specs.Spelling as spelling
+use Rattle.som_spelling.specs.declared.selects.WireSelects.{WireSelects}
+use Rattle.som_spelling.specs.Spelling as spelling
 use Rattle.som_naming.specs.declared.directory.Directory.{Directory}
 use Rattle.som_classimage.specs.ReadClasses.{ranges_of}
 use Rattle.som_classimage.specs.SpelledClasses.{FitsClass, FitsParts, FitsSection, version_with, section}

@@ -7,7 +7,7 @@ use Rattle.som_model.specs.declared.limits.TheConstants.{MAX_LIBRARY_CLASSES}
 use Rattle.som_model.specs.declared.program.Release.{Release}
 use Rattle.som_fields.specs.declared.method.Ranges.{Ranges}
 use Rattle.som_fields.specs.Spelling.{FitsFace, FitsMethod}
-use Rattle.som_wire.specs.Fitting.{FitsSomePart}
+use Rattle.som_spelling.specs.Fitting.{FitsSomePart}
 use Rattle.som_naming.specs.declared.directory.Directory.{Directory}
 use Rattle.som_naming.specs.Naming.{library_directory, ranges_in}
 use Rattle.som_libimage.specs.declared.wire.WireRelease.{WireRelease}

@@ -3,7 +3,7 @@ use Rattle.std.specs.Prelude.{ℕ, List, ◌++◌, codes}
 use Rattle.std.specs.List.{flat_map}
 use Rattle.std.specs.Int.{w16}
 use Rattle.som_fields.specs.Spelling.{counted, face}
-use Rattle.som_wire.specs.Spelling.{part}
+use Rattle.som_spelling.specs.Spelling.{part}
 use Rattle.som_classimage.specs.ReadClasses.{ranges_of}
 use Rattle.som_classimage.specs.SpelledClasses.{FitsParts, FitsFaces, FitsSection, section, version_with, head}
 use Rattle.som_libimage.specs.declared.wire.WireRelease.{WireRelease}

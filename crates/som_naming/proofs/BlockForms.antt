@@ -14,9 +14,9 @@ use Rattle.som_model.specs.Images as images
 use Rattle.som_model.specs.Images.{Spelled, AtLevel, ◌then◌, each, tag, where_it_is, at_level, expr_step}
 use Rattle.som_fields.specs.Spelling as wire
 use Rattle.som_fields.proofs.NumberFields.{number-w8}
-use Rattle.som_wire.specs.declared.syntax.WireExpr.{WireExpr}
-use Rattle.som_wire.specs.Spelling as spelling
-use Rattle.som_wire.proofs.ExprFields.{flat_of}
+use Rattle.som_spelling.specs.declared.syntax.WireExpr.{WireExpr}
+use Rattle.som_spelling.specs.Spelling as spelling
+use Rattle.som_spelling.proofs.Forms.{flat_of}
 use Rattle.som_naming.proofs.Spelled.{some_bytes, bytes_are, split, guarded}
 
 -- a tag at a level, and what follows it

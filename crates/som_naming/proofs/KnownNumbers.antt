@@ -9,12 +9,12 @@ use Rattle.som_fields.specs.declared.kind.WireType.{WireType}
 use Rattle.som_fields.specs.declared.kind.WireType.TheVariants as types
 use Rattle.som_fields.specs.declared.method.WireMethod.{WireMethod}
 use Rattle.som_fields.specs.Spelling.{FitsKind, FitsMethod}
-use Rattle.som_wire.specs.declared.syntax.WireExpr.{WireExpr, out-WireExpr, roll-out-WireExpr, map-WireExpr, fold-roll-WireExpr}
-use Rattle.som_wire.specs.declared.syntax.WireExpr.TheOpen.{WireExpr-F}
-use Rattle.som_wire.specs.declared.syntax.WireStmt.{WireStmt, out-WireStmt, roll-out-WireStmt, map-WireStmt, fold-roll-WireStmt}
-use Rattle.som_wire.specs.declared.syntax.WireStmt.TheOpen.{WireStmt-F}
-use Rattle.som_wire.specs.declared.syntax.WireBlock.{WireBlock, fold-roll-WireBlock}
-use Rattle.som_wire.specs.Fitting.{FitsArgs, FitsExprParts, FitsExpr, FitsCall, FitsStmtParts, FitsStatements, FitsStmt, FitsBlock}
+use Rattle.som_spelling.specs.declared.syntax.WireExpr.{WireExpr, out-WireExpr, roll-out-WireExpr, map-WireExpr, fold-roll-WireExpr}
+use Rattle.som_spelling.specs.declared.syntax.WireExpr.TheOpen.{WireExpr-F}
+use Rattle.som_spelling.specs.declared.syntax.WireStmt.{WireStmt, out-WireStmt, roll-out-WireStmt, map-WireStmt, fold-roll-WireStmt}
+use Rattle.som_spelling.specs.declared.syntax.WireStmt.TheOpen.{WireStmt-F}
+use Rattle.som_spelling.specs.declared.syntax.WireBlock.{WireBlock, fold-roll-WireBlock}
+use Rattle.som_spelling.specs.Fitting.{FitsArgs, FitsExprParts, FitsExpr, FitsCall, FitsStmtParts, FitsStatements, FitsStmt, FitsBlock}
 use Rattle.som_naming.specs.declared.directory.Directory.{Directory}
 use Rattle.som_naming.specs.Naming.{ranges_in}
 use Rattle.som_naming.specs.KnownNumbers.{all_found, is_class, is_method, is_type, known_step, expr_known, stmt_known_step, block_known_step, stmt_known, block_known, statements_known}

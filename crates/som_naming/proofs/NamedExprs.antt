@@ -9,10 +9,10 @@ use Rattle.som_model.specs.Images as images
 use Rattle.som_model.specs.Images.{Spelled, AtLevel, ◌then◌, tag, at_level, expr_step}
 use Rattle.som_fields.specs.Spelling.{FitsMethod}
 use Rattle.som_fields.specs.declared.method.WireMethod.{WireMethod}
-use Rattle.som_wire.specs.declared.syntax.WireExpr.{WireExpr, out-WireExpr, roll-WireExpr, roll-out-WireExpr, map-WireExpr, fold-roll-WireExpr}
-use Rattle.som_wire.specs.declared.syntax.WireExpr.TheOpen.{WireExpr-F}
-use Rattle.som_wire.specs.Fitting.{FitsArgs, FitsExprParts, FitsExpr}
-use Rattle.som_wire.specs.Spelling as spelling
+use Rattle.som_spelling.specs.declared.syntax.WireExpr.{WireExpr, out-WireExpr, roll-WireExpr, roll-out-WireExpr, map-WireExpr, fold-roll-WireExpr}
+use Rattle.som_spelling.specs.declared.syntax.WireExpr.TheOpen.{WireExpr-F}
+use Rattle.som_spelling.specs.Fitting.{FitsArgs, FitsExprParts, FitsExpr}
+use Rattle.som_spelling.specs.Spelling as spelling
 use Rattle.som_naming.specs.declared.directory.Directory.{Directory}
 use Rattle.som_naming.specs.Naming.{ranges_in, Tells, NoDoubles}
 use Rattle.som_naming.specs.NamedBlocks.{expr_named}

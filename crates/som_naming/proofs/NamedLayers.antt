@@ -8,12 +8,12 @@ use Rattle.som_model.specs.declared.syntax.Stmt.TheVariants.{rolls-Var, rolls-Se
 use Rattle.som_model.specs.declared.syntax.Stmt.TheOpen.{Stmt-F}
 use Rattle.som_model.specs.declared.syntax.Block.{Block}
 use Rattle.som_model.specs.Blocks.{is_call, is_call_form}
-use Rattle.som_wire.specs.declared.syntax.WireExpr.{WireExpr, out-WireExpr, roll-WireExpr, roll-out-WireExpr, map-WireExpr, fold-roll-WireExpr}
-use Rattle.som_wire.specs.declared.syntax.WireExpr.TheOpen.{WireExpr-F}
-use Rattle.som_wire.specs.declared.syntax.WireStmt.{WireStmt, roll-WireStmt, map-WireStmt, fold-roll-WireStmt}
-use Rattle.som_wire.specs.declared.syntax.WireStmt.TheOpen.{WireStmt-F}
-use Rattle.som_wire.specs.declared.syntax.WireBlock.{WireBlock, fold-roll-WireBlock}
-use Rattle.som_wire.specs.Fitting.{calls}
+use Rattle.som_spelling.specs.declared.syntax.WireExpr.{WireExpr, out-WireExpr, roll-WireExpr, roll-out-WireExpr, map-WireExpr, fold-roll-WireExpr}
+use Rattle.som_spelling.specs.declared.syntax.WireExpr.TheOpen.{WireExpr-F}
+use Rattle.som_spelling.specs.declared.syntax.WireStmt.{WireStmt, roll-WireStmt, map-WireStmt, fold-roll-WireStmt}
+use Rattle.som_spelling.specs.declared.syntax.WireStmt.TheOpen.{WireStmt-F}
+use Rattle.som_spelling.specs.declared.syntax.WireBlock.{WireBlock, fold-roll-WireBlock}
+use Rattle.som_spelling.specs.Fitting.{calls}
 use Rattle.som_naming.specs.declared.directory.Directory.{Directory}
 use Rattle.som_naming.specs.Naming.{key_at, method_named, kind_named}
 use Rattle.som_naming.specs.NamedBlocks.{expr_named, expr_named_step, stmt_named, stmt_named_step, block_named, block_named_step}

@@ -12,12 +12,12 @@ use Rattle.som_model.specs.declared.syntax.Stmt.TheVariants as stmts
 use Rattle.som_model.specs.declared.syntax.Stmt.TheOpen.{Stmt-F}
 use Rattle.som_model.specs.declared.syntax.Block.{Block}
 use Rattle.som_fields.specs.declared.method.WireMethod.{WireMethod}
-use Rattle.som_wire.specs.declared.syntax.WireExpr.{WireExpr, out-WireExpr, roll-out-WireExpr, roll-WireExpr, map-WireExpr, fold-roll-WireExpr}
-use Rattle.som_wire.specs.declared.syntax.WireExpr.TheOpen.{WireExpr-F}
-use Rattle.som_wire.specs.declared.syntax.WireStmt.{WireStmt, out-WireStmt, roll-out-WireStmt, roll-WireStmt, map-WireStmt, fold-roll-WireStmt}
-use Rattle.som_wire.specs.declared.syntax.WireStmt.TheOpen.{WireStmt-F}
-use Rattle.som_wire.specs.declared.syntax.WireBlock.{WireBlock, fold-roll-WireBlock}
-use Rattle.som_wire.specs.Fitting.{FitsArgs, FitsExprParts, FitsExpr, FitsCall, FitsStmtParts, FitsStatements, FitsStmt, FitsBlock, levels_left}
+use Rattle.som_spelling.specs.declared.syntax.WireExpr.{WireExpr, out-WireExpr, roll-out-WireExpr, roll-WireExpr, map-WireExpr, fold-roll-WireExpr}
+use Rattle.som_spelling.specs.declared.syntax.WireExpr.TheOpen.{WireExpr-F}
+use Rattle.som_spelling.specs.declared.syntax.WireStmt.{WireStmt, out-WireStmt, roll-out-WireStmt, roll-WireStmt, map-WireStmt, fold-roll-WireStmt}
+use Rattle.som_spelling.specs.declared.syntax.WireStmt.TheOpen.{WireStmt-F}
+use Rattle.som_spelling.specs.declared.syntax.WireBlock.{WireBlock, fold-roll-WireBlock}
+use Rattle.som_spelling.specs.Fitting.{FitsArgs, FitsExprParts, FitsExpr, FitsCall, FitsStmtParts, FitsStatements, FitsStmt, FitsBlock, levels_left}
 use Rattle.som_naming.specs.declared.directory.Directory.{Directory}
 use Rattle.som_naming.specs.Naming.{key_at, method_named, kind_named}
 use Rattle.som_naming.specs.NamedBlocks.{expr_named_step, expr_named, stmt_named_step, block_named_step, stmt_named, block_named}

@@ -16,13 +16,13 @@ use Rattle.som_model.specs.Images as images
 use Rattle.som_model.specs.Images.{Spelled, AtLevel, ◌then◌, each, tag, where_it_is, stmt_step, block_step}
 use Rattle.som_fields.specs.Spelling.{FitsMethod}
 use Rattle.som_fields.specs.declared.method.WireMethod.{WireMethod}
-use Rattle.som_wire.specs.declared.syntax.WireExpr.{WireExpr, out-WireExpr}
-use Rattle.som_wire.specs.declared.syntax.WireStmt.{WireStmt, roll-WireStmt, out-roll-WireStmt, map-WireStmt, fold-roll-WireStmt}
-use Rattle.som_wire.specs.declared.syntax.WireStmt.TheOpen.{WireStmt-F}
-use Rattle.som_wire.specs.declared.syntax.WireBlock.{WireBlock, fold-roll-WireBlock}
-use Rattle.som_wire.specs.Fitting.{FitsExpr, calls, FitsStmtParts, FitsStmt, FitsBlock}
-use Rattle.som_wire.specs.Spelling as spelling
-use Rattle.som_wire.proofs.StmtFields.{block_is}
+use Rattle.som_spelling.specs.declared.syntax.WireExpr.{WireExpr, out-WireExpr}
+use Rattle.som_spelling.specs.declared.syntax.WireStmt.{WireStmt, roll-WireStmt, out-roll-WireStmt, map-WireStmt, fold-roll-WireStmt}
+use Rattle.som_spelling.specs.declared.syntax.WireStmt.TheOpen.{WireStmt-F}
+use Rattle.som_spelling.specs.declared.syntax.WireBlock.{WireBlock, fold-roll-WireBlock}
+use Rattle.som_spelling.specs.Fitting.{FitsExpr, calls, FitsStmtParts, FitsStmt, FitsBlock}
+use Rattle.som_spelling.specs.Spelling as spelling
+use Rattle.som_spelling.proofs.Forms.{block_is}
 use Rattle.som_naming.specs.declared.directory.Directory.{Directory}
 use Rattle.som_naming.specs.Naming.{ranges_in, Tells}
 use Rattle.som_naming.specs.NamedBlocks.{expr_named, stmt_named, stmt_named_step, block_named, block_named_step}

@@ -7,7 +7,7 @@ use Rattle.som_model.specs.declared.syntax.Expr.TheOpen.{Expr-F}
 use Rattle.som_model.specs.declared.syntax.Stmt.{Stmt, out-Stmt}
 use Rattle.som_model.specs.declared.syntax.Stmt.TheOpen.{Stmt-F}
 use Rattle.som_model.specs.declared.syntax.Block.{Block}
-use Rattle.som_wire.specs.Fitting.{levels_left}
+use Rattle.som_spelling.specs.Fitting.{levels_left}
 
 abbrev pub TextWithin : List ℕ → Type 0
 TextWithin t = length t ≤ MAX_TEXT

@@ -2,8 +2,8 @@
 use Rattle.std.specs.Prelude.{Bool, true, false}
 use Rattle.som_model.specs.declared.syntax.Expr.{Expr, out-Expr}
 use Rattle.som_model.specs.declared.syntax.Expr.TheOpen.{Expr-F}
-use Rattle.som_wire.specs.declared.syntax.WireExpr.{WireExpr, out-WireExpr}
-use Rattle.som_wire.specs.declared.syntax.WireExpr.TheOpen.{WireExpr-F}
+use Rattle.som_spelling.specs.declared.syntax.WireExpr.{WireExpr, out-WireExpr}
+use Rattle.som_spelling.specs.declared.syntax.WireExpr.TheOpen.{WireExpr-F}
 
 -- ---- expressions with names
 

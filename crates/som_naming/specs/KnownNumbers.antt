@@ -4,11 +4,11 @@ use Rattle.std.specs.List.{list_all}
 use Rattle.som_fields.specs.declared.kind.WireType.{WireType}
 use Rattle.som_fields.specs.declared.kind.WireType.TheVariants as types
 use Rattle.som_fields.specs.declared.method.WireMethod.{WireMethod}
-use Rattle.som_wire.specs.declared.syntax.WireExpr.{WireExpr, fold-WireExpr}
-use Rattle.som_wire.specs.declared.syntax.WireExpr.TheOpen.{WireExpr-F}
-use Rattle.som_wire.specs.declared.syntax.WireStmt.{WireStmt, fold-WireStmt}
-use Rattle.som_wire.specs.declared.syntax.WireStmt.TheOpen.{WireStmt-F, WireBlock-F}
-use Rattle.som_wire.specs.declared.syntax.WireBlock.{WireBlock, fold-WireBlock}
+use Rattle.som_spelling.specs.declared.syntax.WireExpr.{WireExpr, fold-WireExpr}
+use Rattle.som_spelling.specs.declared.syntax.WireExpr.TheOpen.{WireExpr-F}
+use Rattle.som_spelling.specs.declared.syntax.WireStmt.{WireStmt, fold-WireStmt}
+use Rattle.som_spelling.specs.declared.syntax.WireStmt.TheOpen.{WireStmt-F, WireBlock-F}
+use Rattle.som_spelling.specs.declared.syntax.WireBlock.{WireBlock, fold-WireBlock}
 use Rattle.som_naming.specs.declared.directory.Directory.{Directory}
 use Rattle.som_naming.specs.Naming.{ranges_in}
 

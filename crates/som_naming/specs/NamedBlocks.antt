@@ -6,13 +6,13 @@ use Rattle.som_model.specs.declared.syntax.Stmt.{Stmt}
 use Rattle.som_model.specs.declared.syntax.Stmt.TheVariants as stmts
 use Rattle.som_model.specs.declared.syntax.Block.{Block}
 use Rattle.som_fields.specs.Spelling.{FitsMethod}
-use Rattle.som_wire.specs.declared.syntax.WireExpr.{WireExpr, fold-WireExpr}
-use Rattle.som_wire.specs.declared.syntax.WireExpr.TheOpen.{WireExpr-F}
-use Rattle.som_wire.specs.declared.syntax.WireStmt.{WireStmt, fold-WireStmt}
-use Rattle.som_wire.specs.declared.syntax.WireStmt.TheOpen.{WireStmt-F, WireBlock-F}
-use Rattle.som_wire.specs.declared.syntax.WireBlock.{WireBlock, fold-WireBlock}
-use Rattle.som_wire.specs.Fitting.{FitsBlock, levels_left}
-use Rattle.som_wire.specs.Spelling as spelling
+use Rattle.som_spelling.specs.declared.syntax.WireExpr.{WireExpr, fold-WireExpr}
+use Rattle.som_spelling.specs.declared.syntax.WireExpr.TheOpen.{WireExpr-F}
+use Rattle.som_spelling.specs.declared.syntax.WireStmt.{WireStmt, fold-WireStmt}
+use Rattle.som_spelling.specs.declared.syntax.WireStmt.TheOpen.{WireStmt-F, WireBlock-F}
+use Rattle.som_spelling.specs.declared.syntax.WireBlock.{WireBlock, fold-WireBlock}
+use Rattle.som_spelling.specs.Fitting.{FitsBlock, levels_left}
+use Rattle.som_spelling.specs.Spelling as spelling
 use Rattle.som_naming.specs.declared.directory.Directory.{Directory}
 use Rattle.som_naming.specs.Naming.{key_at, method_named, kind_named, ranges_in}
 

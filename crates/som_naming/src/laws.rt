@@ -1,6 +1,6 @@
-ghost use Rattle.som_wire.specs.Fitting.{FitsBlock, levels_left};
-ghost use Rattle.som_wire.specs.Spelling.{block};
-ghost use Rattle.som_wire.specs.declared.syntax.WireBlock.{WireBlock};
+ghost use Rattle.som_spelling.specs.Fitting.{FitsBlock, levels_left};
+ghost use Rattle.som_spelling.specs.Spelling.{block};
+ghost use Rattle.som_spelling.specs.declared.syntax.WireBlock.{WireBlock};
 ghost use Rattle.som_model.specs.Class.{Class};
 ghost use Rattle.som_model.specs.Images as images;
 ghost use Rattle.som_model.specs.declared.syntax.Block.{Block};

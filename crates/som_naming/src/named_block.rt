@@ -1,4 +1,4 @@
-ghost use Rattle.som_wire.specs.Fitting.{FitsBlock, levels_left};
+ghost use Rattle.som_spelling.specs.Fitting.{FitsBlock, levels_left};
 ghost use Rattle.som_model.specs.declared.syntax.Stmt.TheVariants as stmts;
 ghost use Rattle.som_naming.specs.KnownNumbers.{block_known, expr_known, is_type, statements_known, stmt_known};
 ghost use Rattle.som_naming.specs.NamedBlocks.{block_named, expr_named, stmt_named};
@@ -11,7 +11,7 @@ use crate::known::name_type;
 use crate::named_expr::name_expr;
 use som_fields::WireType;
 use som_model::{Block, List, NoMemory, Stmt};
-use som_wire::{WireBlock, WireExpr, WireStmt};
+use som_spelling::{WireBlock, WireExpr, WireStmt};
 use std::alloc::Global;
 
 /// The block that a block of an image stands for.

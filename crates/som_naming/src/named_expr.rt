@@ -7,7 +7,7 @@ ghost use Rattle.std.specs.Prelude.{◌≡◌, true, map, IfOk};
 use crate::Directory;
 use crate::known::{name_class, name_method, name_type};
 use som_model::{Boxed, Expr, List, NoMemory};
-use som_wire::WireExpr;
+use som_spelling::WireExpr;
 use std::alloc::Global;
 
 // Keys, types and methods are named last: an exit drops what was named before it, and that is least to do where no key is.

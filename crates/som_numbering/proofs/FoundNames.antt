@@ -15,7 +15,7 @@ use Rattle.som_model.specs.declared.syntax.Block.{Block, fold-roll-Block}
 use Rattle.som_model.specs.Lists.{Mem, place_from}
 use Rattle.som_model.specs.Keys.{same_key}
 use Rattle.som_model.proofs.KeyLaws.{Exact, both, exact_bytes, exact_keys}
-use Rattle.som_wire.specs.Fitting.{levels_left}
+use Rattle.som_spelling.specs.Fitting.{levels_left}
 use Rattle.som_naming.specs.declared.directory.Directory.{Directory}
 use Rattle.som_numbering.specs.Numbering.{number_of, MethodKnown, IsKnown}
 use Rattle.som_naming.specs.KnownNumbers.{all_found}

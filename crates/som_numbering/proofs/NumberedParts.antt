@@ -15,9 +15,9 @@ use Rattle.som_model.specs.declared.class.ClassFace.{ClassFace}
 use Rattle.som_model.specs.declared.class.ClassDecl.{ClassDecl}
 use Rattle.som_model.specs.Class.{introduced}
 use Rattle.som_fields.specs.Spelling.{FitsFace, FitsMethod}
-use Rattle.som_wire.specs.declared.syntax.WireBody.{WireBody}
-use Rattle.som_wire.specs.declared.syntax.WireOverride.{WireOverride}
-use Rattle.som_wire.specs.Fitting.{FitsVariable, FitsBody, FitsOverride}
+use Rattle.som_spelling.specs.declared.syntax.WireBody.{WireBody}
+use Rattle.som_spelling.specs.declared.syntax.WireOverride.{WireOverride}
+use Rattle.som_spelling.specs.Fitting.{FitsVariable, FitsBody, FitsOverride}
 use Rattle.som_naming.specs.declared.directory.Directory.{Directory}
 use Rattle.som_naming.specs.Naming.{ranges_in}
 use Rattle.som_numbering.specs.Numbering.{IsValue}

@@ -11,9 +11,9 @@ use Rattle.som_model.specs.declared.class.ClassDecl.{ClassDecl}
 use Rattle.som_model.specs.Images.{has_selects}
 use Rattle.som_fields.specs.declared.method.WireMethod.{WireMethod}
 use Rattle.som_fields.specs.Spelling.{FitsMethod}
-use Rattle.som_wire.specs.declared.selects.WireSelect.{WireSelect}
-use Rattle.som_wire.specs.declared.selects.WireSelects.{WireSelects}
-use Rattle.som_wire.specs.Fitting.{FitsSelect, FitAscending}
+use Rattle.som_spelling.specs.declared.selects.WireSelect.{WireSelect}
+use Rattle.som_spelling.specs.declared.selects.WireSelects.{WireSelects}
+use Rattle.som_spelling.specs.Fitting.{FitsSelect, FitAscending}
 use Rattle.som_naming.specs.declared.directory.Directory.{Directory}
 use Rattle.som_naming.specs.Naming.{ranges_in}
 use Rattle.som_classimage.specs.NamedClasses.{select_named, selects_under, selecting, with_selects}

@@ -22,7 +22,7 @@ use Rattle.som_model.specs.Blocks.{is_call}
 use Rattle.som_model.specs.Typing.{ClassFacts, CodePlace, ExprType, Of, PlainNil, Ruled, Typed, needs, there, is_nothing, kind_is_known, fits, all_fit, descends_to, is_boolean, value_of, value, values, gives, unary_type, binary_type, cast_type, isa_type, proxy_type, offset_call_type, named_call_type, parent_call_type, parents_call_type, host_type, is_reference, has_text, is_class, expr_step, expr_type}
 use Rattle.som_model.specs.TypedBlocks.{Scope, Scoped, var_scope, local_set, variable_set, value_return, in_turn, stmt_step, block_step, stmt_scope, block_scope}
 use Rattle.som_model.proofs.TypingLaws.{block_typed}
-use Rattle.som_wire.specs.Fitting.{levels_left}
+use Rattle.som_spelling.specs.Fitting.{levels_left}
 use Rattle.som_naming.specs.declared.directory.Directory.{Directory}
 use Rattle.som_numbering.specs.Numbering.{MethodKnown, IsKnown, IsValue}
 use Rattle.som_naming.specs.BlockLimits.{ArgsWithin, ExprPartsWithin, ExprWithin, StmtPartsWithin, StatementsWithin, StmtWithin, BlockWithin}

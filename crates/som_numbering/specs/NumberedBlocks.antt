@@ -4,11 +4,11 @@ use Rattle.som_model.specs.declared.syntax.Expr.TheOpen.{Expr-F}
 use Rattle.som_model.specs.declared.syntax.Stmt.{Stmt, fold-Stmt}
 use Rattle.som_model.specs.declared.syntax.Stmt.TheOpen.{Stmt-F, Block-F}
 use Rattle.som_model.specs.declared.syntax.Block.{Block, fold-Block}
-use Rattle.som_wire.specs.declared.syntax.WireExpr.{WireExpr}
-use Rattle.som_wire.specs.declared.syntax.WireExpr.TheVariants as exprs
-use Rattle.som_wire.specs.declared.syntax.WireStmt.{WireStmt}
-use Rattle.som_wire.specs.declared.syntax.WireStmt.TheVariants as stmts
-use Rattle.som_wire.specs.declared.syntax.WireBlock.{WireBlock}
+use Rattle.som_spelling.specs.declared.syntax.WireExpr.{WireExpr}
+use Rattle.som_spelling.specs.declared.syntax.WireExpr.TheVariants as exprs
+use Rattle.som_spelling.specs.declared.syntax.WireStmt.{WireStmt}
+use Rattle.som_spelling.specs.declared.syntax.WireStmt.TheVariants as stmts
+use Rattle.som_spelling.specs.declared.syntax.WireBlock.{WireBlock}
 use Rattle.som_naming.specs.declared.directory.Directory.{Directory}
 use Rattle.som_numbering.specs.Numbering.{number_of, method_numbered, kind_numbered}
 

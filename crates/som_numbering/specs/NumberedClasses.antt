@@ -17,13 +17,13 @@ use Rattle.som_fields.specs.declared.sig.WireSig.{WireSig}
 use Rattle.som_fields.specs.declared.entry.WireEntry.{WireEntry}
 use Rattle.som_fields.specs.declared.entry.WireEntry.TheVariants as entries
 use Rattle.som_fields.specs.declared.face.WireFace.{WireFace}
-use Rattle.som_wire.specs.declared.selects.WireSelect.{WireSelect}
-use Rattle.som_wire.specs.declared.selects.WireSelects.{WireSelects}
-use Rattle.som_wire.specs.declared.syntax.WireVariable.{WireVariable}
-use Rattle.som_wire.specs.declared.syntax.WireBody.{WireBody}
-use Rattle.som_wire.specs.declared.syntax.WireBody.TheVariants as bodies
-use Rattle.som_wire.specs.declared.syntax.WireOverride.{WireOverride}
-use Rattle.som_wire.specs.declared.syntax.WirePart.{WirePart}
+use Rattle.som_spelling.specs.declared.selects.WireSelect.{WireSelect}
+use Rattle.som_spelling.specs.declared.selects.WireSelects.{WireSelects}
+use Rattle.som_spelling.specs.declared.syntax.WireVariable.{WireVariable}
+use Rattle.som_spelling.specs.declared.syntax.WireBody.{WireBody}
+use Rattle.som_spelling.specs.declared.syntax.WireBody.TheVariants as bodies
+use Rattle.som_spelling.specs.declared.syntax.WireOverride.{WireOverride}
+use Rattle.som_spelling.specs.declared.syntax.WirePart.{WirePart}
 use Rattle.som_naming.specs.declared.directory.Directory.{Directory}
 use Rattle.som_numbering.specs.Numbering.{number_of, method_numbered, MethodKnown, kind_numbered, IsKnown, IsValue}
 use Rattle.som_numbering.specs.NumberedBlocks.{block_numbered}

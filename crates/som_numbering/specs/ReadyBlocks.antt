@@ -8,7 +8,7 @@ use Rattle.som_model.specs.declared.syntax.Stmt.TheOpen.{Stmt-F}
 use Rattle.som_model.specs.declared.syntax.Block.{Block}
 use Rattle.som_model.specs.Lists.{Mem}
 use Rattle.som_model.specs.Blocks.{is_call}
-use Rattle.som_wire.specs.Fitting.{levels_left}
+use Rattle.som_spelling.specs.Fitting.{levels_left}
 use Rattle.som_naming.specs.declared.directory.Directory.{Directory}
 use Rattle.som_numbering.specs.Numbering.{MethodKnown, IsKnown, IsValue}
 use Rattle.som_naming.specs.BlockLimits.{TextWithin, ArgsWithin, StatementsWithin}

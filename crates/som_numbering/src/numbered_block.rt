@@ -1,4 +1,4 @@
-ghost use Rattle.som_wire.specs.declared.syntax.WireStmt.TheVariants as stmts;
+ghost use Rattle.som_spelling.specs.declared.syntax.WireStmt.TheVariants as stmts;
 ghost use Rattle.som_numbering.specs.FoundNames.{block_found, expr_found, kind_found, statements_found, stmt_found};
 ghost use Rattle.som_numbering.specs.Numbering.{IsDirectory, kind_numbered};
 ghost use Rattle.som_numbering.specs.NumberedBlocks.{block_numbered, expr_numbered, stmt_numbered};
@@ -11,7 +11,7 @@ use crate::numbered_expr::number_expr;
 use indexmap::IndexSet;
 use som_model::{Block, Expr, List, NoMemory, Stmt, ValueType};
 use som_naming::Directory;
-use som_wire::{WireBlock, WireStmt};
+use som_spelling::{WireBlock, WireStmt};
 use std::alloc::Global;
 
 /// The block of an image that stands for a block, by the names of the directory's classes.

@@ -9,7 +9,7 @@ use indexmap::IndexSet;
 use som_fields::WireFace;
 use som_model::{ClassDecl, List, NoMemory};
 use som_naming::Directory;
-use som_wire::WirePart;
+use som_spelling::WirePart;
 use std::alloc::Global;
 
 /// The faces of an image that stand for those of these classes.

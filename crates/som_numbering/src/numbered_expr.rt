@@ -11,7 +11,7 @@ use crate::found::{number_class, number_kind, number_method};
 use indexmap::IndexSet;
 use som_model::{Boxed, Expr, List, NoMemory};
 use som_naming::Directory;
-use som_wire::WireExpr;
+use som_spelling::WireExpr;
 use std::alloc::Global;
 
 /// The expression of an image that stands for an expression.

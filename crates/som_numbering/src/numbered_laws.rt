@@ -1,4 +1,4 @@
-ghost use Rattle.som_wire.specs.Fitting.{FitsBlock, levels_left};
+ghost use Rattle.som_spelling.specs.Fitting.{FitsBlock, levels_left};
 ghost use Rattle.som_model.specs.Class.{Class};
 ghost use Rattle.som_model.specs.Typing.{CodePlace, class_facts};
 ghost use Rattle.som_model.specs.TypedBlocks.{Scope, block_scope};

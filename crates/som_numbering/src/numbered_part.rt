@@ -8,7 +8,7 @@ use crate::number_block;
 use indexmap::IndexSet;
 use som_model::{Body, ClassDecl, List, NoMemory, Override, Variable};
 use som_naming::Directory;
-use som_wire::{WireBody, WireOverride, WirePart, WireVariable};
+use som_spelling::{WireBody, WireOverride, WirePart, WireVariable};
 use std::alloc::Global;
 
 #[tactic(auto, using(crate::proofs::Numbering::as_type))]

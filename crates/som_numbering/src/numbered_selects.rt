@@ -7,7 +7,7 @@ use crate::lookup::number_method;
 use indexmap::IndexSet;
 use som_model::{ClassDecl, List, NoMemory, Select};
 use som_naming::Directory;
-use som_wire::{WireSelect, WireSelects};
+use som_spelling::{WireSelect, WireSelects};
 use std::alloc::Global;
 
 /// The selects of an image that stand for those of these classes, of which the first has the number `first`.

@@ -6,16 +6,16 @@ use Rattle.som_fields.specs.declared.read.Read.{Read}
 use Rattle.som_fields.specs.declared.method.Ranges.{Ranges}
 use Rattle.som_fields.specs.Fields.{many_at}
 use Rattle.som_fields.specs.Reading.{number_at, text_at, below_at, kind_at, method_at}
-use Rattle.som_wire.specs.declared.syntax.WireExpr.{WireExpr}
-use Rattle.som_wire.specs.declared.syntax.WireStmt.{WireStmt}
-use Rattle.som_wire.specs.declared.syntax.WireBlock.{WireBlock}
-use Rattle.som_wire.specs.Fitting.{levels_left}
+use Rattle.som_spelling.specs.declared.syntax.WireExpr.{WireExpr}
+use Rattle.som_spelling.specs.declared.syntax.WireStmt.{WireStmt}
+use Rattle.som_spelling.specs.declared.syntax.WireBlock.{WireBlock}
+use Rattle.som_spelling.specs.Fitting.{levels_left}
 use Rattle.som_wire.specs.Making.{of_one, of_two, of_three, of_four}
 use Rattle.som_wire.specs.Reading.{operator_at, signed_at, truth_at, host_after, host_at, too_deep, args_at, parent_call_after, call_after, pair_after, operation_after, expr_after, is_call_tag, is_expr_tag, expr_at, call_at, statements_at, flow_after, stmt_after, is_stmt_tag, stmt_at, block_at, variable_at, body_after, body_at, override_at, variables_at, bodies_at, overrides_at, part_at}
 use Rattle.som_fields.specs.declared.fault.ImageFault.TheVariants as faults
-use Rattle.som_wire.specs.declared.syntax.WireExpr.TheVariants as exprs
-use Rattle.som_wire.specs.declared.syntax.WireStmt.TheVariants as stmts
-use Rattle.som_wire.specs.declared.syntax.WireBody.TheVariants as bodies
+use Rattle.som_spelling.specs.declared.syntax.WireExpr.TheVariants as exprs
+use Rattle.som_spelling.specs.declared.syntax.WireStmt.TheVariants as stmts
+use Rattle.som_spelling.specs.declared.syntax.WireBody.TheVariants as bodies
 use Rattle.som_wire.specs.Making as making
 use Rattle.som_steps.proofs.FieldFaults.{IsOfBytes, Reads, then_reads, either_reads, number_reads, text_reads, below_reads, many_reads, counted_reads, kind_reads, method_reads}
 

@@ -12,7 +12,7 @@ use Rattle.som_fields.specs.Fields.{many_at}
 use Rattle.som_fields.specs.Reading.{number_at, face_at}
 use Rattle.som_fields.specs.declared.face.WireFace.{WireFace}
 use Rattle.som_fields.specs.declared.method.Ranges.{Ranges}
-use Rattle.som_wire.specs.Fitting.{levels_left}
+use Rattle.som_spelling.specs.Fitting.{levels_left}
 use Rattle.som_wire.specs.Reading.{block_at, part_at, selects_at}
 use Rattle.som_classimage.specs.ReadClasses.{each_at, faces_after_at, faces_at, parts_at, magic_at, head_at, section_at, ranges_of, introduced_count}
 use Rattle.som_libimage.specs.Reading.{classes_at, wire_at}

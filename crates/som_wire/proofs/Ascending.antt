@@ -7,7 +7,7 @@ use Rattle.som_fields.specs.declared.method.Ranges.{Ranges}
 use Rattle.som_model.specs.Steps.{◌>>=◌}
 use Rattle.som_fields.specs.Fields.{Fails, done}
 use Rattle.som_fields.proofs.Loop.{with_front, failed, front_nil, regroup}
-use Rattle.som_wire.specs.declared.selects.WireSelects.{WireSelects}
+use Rattle.som_spelling.specs.declared.selects.WireSelects.{WireSelects}
 use Rattle.som_wire.specs.Reading.{class_selects_at, ascending_at}
 
 module _ (ranges : Ranges) (bytes : List ℕ) (count first start : ℕ) where

@@ -7,7 +7,6 @@ use Rattle.std.proofs.lemmas.Bool.{ltb-true, lt-ltb}
 use Rattle.std.proofs.lemmas.Int.{of_z-to_z, to_z-of_z}
 use Rattle.std.proofs.Math.Facts.{sfits_to_z, Fits-of_z}
 use Rattle.std.proofs.lemmas.List.{length-map}
-use Rattle.std.proofs.lemmas.List.Concat.{flat_map-cons}
 use Rattle.som_model.specs.Bytes.{AreBytes}
 use Rattle.som_model.specs.Steps.{◌>>=◌}
 use Rattle.som_model.specs.declared.limits.TheConstants.{MAX_PARAMETERS}
@@ -27,13 +26,14 @@ use Rattle.som_fields.proofs.NumberFields.{byte_field, short_field, long_field, 
 use Rattle.som_fields.proofs.ManyFields.{counted_field}
 use Rattle.som_fields.proofs.TypeFields.{tagged, kind_field}
 use Rattle.som_fields.proofs.EntryFields.{method_field}
-use Rattle.som_wire.specs.declared.syntax.WireExpr.{WireExpr, out-WireExpr, roll-WireExpr, out-roll-WireExpr, roll-out-WireExpr, fold-roll-WireExpr}
-use Rattle.som_wire.specs.declared.syntax.WireExpr.TheVariants as exprs
-use Rattle.som_wire.specs.declared.syntax.WireExpr.TheVariants.{rolls-Long, rolls-Str, rolls-Boolean, rolls-Nil, rolls-Local, rolls-Me, rolls-Variable, rolls-New, rolls-Class, rolls-Manager, rolls-Unary, rolls-Cast, rolls-Isa, rolls-Proxy, rolls-Binary, rolls-Host, rolls-OffsetCall, rolls-Lookup, rolls-Dispatch, rolls-ParentCall, rolls-ParentsCall}
-use Rattle.som_wire.specs.declared.syntax.WireExpr.TheOpen.{WireExpr-F}
+use Rattle.som_spelling.specs.declared.syntax.WireExpr.{WireExpr, out-WireExpr, roll-WireExpr, out-roll-WireExpr, roll-out-WireExpr, fold-roll-WireExpr}
+use Rattle.som_spelling.specs.declared.syntax.WireExpr.TheVariants as exprs
+use Rattle.som_spelling.specs.declared.syntax.WireExpr.TheVariants.{rolls-Long, rolls-Str, rolls-Boolean, rolls-Nil, rolls-Local, rolls-Me, rolls-Variable, rolls-New, rolls-Class, rolls-Manager, rolls-Unary, rolls-Cast, rolls-Isa, rolls-Proxy, rolls-Binary, rolls-Host, rolls-OffsetCall, rolls-Lookup, rolls-Dispatch, rolls-ParentCall, rolls-ParentsCall}
+use Rattle.som_spelling.specs.declared.syntax.WireExpr.TheOpen.{WireExpr-F}
 use Rattle.som_wire.specs.Making.{Reads, of_one, of_two, of_three, of_four}
-use Rattle.som_wire.specs.Spelling.{truth, host, args, expr_step, expr}
-use Rattle.som_wire.specs.Fitting.{FitsArgs, FitsExprParts, FitsExpr, calls, FitsCall}
+use Rattle.som_spelling.specs.Spelling.{truth, host, args, expr_step, expr}
+use Rattle.som_spelling.specs.Fitting.{FitsArgs, FitsExprParts, FitsExpr, calls, FitsCall}
+use Rattle.som_spelling.proofs.Forms.{flat_of}
 use Rattle.som_wire.specs.Reading.{signed_at, operator_at, truth_at, host_after, host_at, too_deep, args_at, call_after, expr_after, is_call_tag, is_expr_tag, expr_at, call_at}
 use Rattle.som_wire.proofs.Made.{IsMade, made_none, made_one, made_two, made_three, made_four, fits_alike, IsCase, a_case, pick}
 
@@ -133,10 +133,6 @@ host_field : IsField host_at code AnyCode
 host_field = record { takes = host_takes; again = host_again }
 
 -- ---- arguments
-
-pub flat_of : {A : Type 0} (f : A → List ℕ) (xs : List A) → flat_map (λ (t : List ℕ). t) (map f xs) ≡ flat_map f xs
-flat_of f [] = refl
-flat_of f (x ∷ xs) = flat_map-cons (λ (t : List ℕ). t) (f x) (map f xs) ∙ ap (λ (t : List ℕ). f x ++ t) (flat_of f xs) ∙ sym (flat_map-cons f x xs)
 
 pub args_are : (es : List WireExpr) → args (map expr es) ≡ counted w8 expr es
 args_are es = ap (λ (n : ℕ). number w8 n ++ flat_map (λ (t : List ℕ). t) (map expr es)) (length-map es expr) ∙ ap (λ (t : List ℕ). number w8 (length es) ++ t) (flat_of expr es)

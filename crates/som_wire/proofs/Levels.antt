@@ -6,8 +6,8 @@ use Rattle.som_fields.specs.declared.read.Read.{Read}
 use Rattle.som_fields.specs.declared.method.Ranges.{Ranges}
 use Rattle.som_fields.specs.Fields.{Gives}
 use Rattle.som_fields.specs.Reading.{number_at}
-use Rattle.som_wire.specs.declared.syntax.WireExpr.{WireExpr}
-use Rattle.som_wire.specs.declared.syntax.WireStmt.{WireStmt}
+use Rattle.som_spelling.specs.declared.syntax.WireExpr.{WireExpr}
+use Rattle.som_spelling.specs.declared.syntax.WireStmt.{WireStmt}
 use Rattle.som_wire.specs.Reading.{expr_after, expr_at, call_after, call_at, stmt_after, stmt_at, statements_at}
 
 -- the same of a number that isn't zero

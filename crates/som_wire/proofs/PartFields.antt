@@ -18,14 +18,14 @@ use Rattle.som_fields.proofs.NumberFields.{byte_field, short_field, text_field}
 use Rattle.som_fields.proofs.ManyFields.{many_field, counted_field}
 use Rattle.som_fields.proofs.TypeFields.{kind_field}
 use Rattle.som_fields.proofs.EntryFields.{method_field}
-use Rattle.som_wire.specs.declared.syntax.WireBlock.{WireBlock}
-use Rattle.som_wire.specs.declared.syntax.WireVariable.{WireVariable}
-use Rattle.som_wire.specs.declared.syntax.WireBody.{WireBody}
-use Rattle.som_wire.specs.declared.syntax.WireBody.TheVariants as bodies
-use Rattle.som_wire.specs.declared.syntax.WireOverride.{WireOverride}
+use Rattle.som_spelling.specs.declared.syntax.WireBlock.{WireBlock}
+use Rattle.som_spelling.specs.declared.syntax.WireVariable.{WireVariable}
+use Rattle.som_spelling.specs.declared.syntax.WireBody.{WireBody}
+use Rattle.som_spelling.specs.declared.syntax.WireBody.TheVariants as bodies
+use Rattle.som_spelling.specs.declared.syntax.WireOverride.{WireOverride}
 use Rattle.som_wire.specs.Making.{Reads, of_one}
-use Rattle.som_wire.specs.Spelling.{block, variable, body, overridden, part}
-use Rattle.som_wire.specs.Fitting.{levels_left, FitsBlock, FitsVariable, FitsBody, FitsOverride, FitsPart}
+use Rattle.som_spelling.specs.Spelling.{block, variable, body, overridden, part}
+use Rattle.som_spelling.specs.Fitting.{levels_left, FitsBlock, FitsVariable, FitsBody, FitsOverride, FitsPart}
 use Rattle.som_wire.specs.Reading.{block_at, variable_at, body_after, body_at, override_at, variables_at, bodies_at, overrides_at, part_at}
 use Rattle.som_wire.proofs.Made.{made_one, made_two, made_three, IsCase, a_case, pick, made_field}
 use Rattle.som_wire.proofs.StmtFields.{block_field}

@@ -22,10 +22,10 @@ use Rattle.som_fields.proofs.Parts.{IsField, Stands-join, bind_ok, guard_no, gua
 use Rattle.som_fields.proofs.NumberFields.{byte_field, short_field}
 use Rattle.som_fields.proofs.ManyFields.{counted_field}
 use Rattle.som_fields.proofs.EntryFields.{method_field}
-use Rattle.som_wire.specs.declared.selects.WireSelect.{WireSelect}
-use Rattle.som_wire.specs.declared.selects.WireSelects.{WireSelects}
-use Rattle.som_wire.specs.Spelling.{select, class_selects, selects}
-use Rattle.som_wire.specs.Fitting.{FitsSelect, FitsOwnSelects, FitsClassSelects, FitAscending, FitsSelects}
+use Rattle.som_spelling.specs.declared.selects.WireSelect.{WireSelect}
+use Rattle.som_spelling.specs.declared.selects.WireSelects.{WireSelects}
+use Rattle.som_spelling.specs.Spelling.{select, class_selects, selects}
+use Rattle.som_spelling.specs.Fitting.{FitsSelect, FitsOwnSelects, FitsClassSelects, FitAscending, FitsSelects}
 use Rattle.som_wire.specs.Reading.{select_at, own_selects_at, class_from_at, class_selects_at, ascending_at, selects_at}
 use Rattle.som_wire.proofs.Made.{made_two, made_field}
 

@@ -1,9 +1,8 @@
 -- Statements and blocks are fields.
-use Rattle.std.proofs.Common.{◌≡◌, ℕ, zero, suc, ◌+◌, ◌<◌, ◌≤◌, ◌^◌, false, eqb, List, [], ◌∷◌, ◌++◌, length, map, Result, Ok, refl, sym, ap, subst, ◌∙◌, arith}
+use Rattle.std.proofs.Common.{◌≡◌, ℕ, zero, suc, ◌+◌, ◌<◌, ◌≤◌, ◌^◌, false, eqb, List, [], ◌∷◌, ◌++◌, length, Result, Ok, refl, sym, ap, subst, ◌∙◌, arith}
 use Rattle.std.specs.Prelude.{All}
 use Rattle.std.specs.List.{flat_map}
 use Rattle.std.specs.Int.{w8, w16, w32}
-use Rattle.std.proofs.lemmas.List.{length-map}
 use Rattle.som_model.specs.Bytes.{AreBytes}
 use Rattle.som_model.specs.Steps.{◌>>=◌}
 use Rattle.som_fields.specs.declared.fault.ImageFault.{ImageFault}
@@ -17,27 +16,21 @@ use Rattle.som_fields.proofs.Parts.{IsField, Stands-join, came, took, went}
 use Rattle.som_fields.proofs.NumberFields.{byte_field, short_field, long_field}
 use Rattle.som_fields.proofs.ManyFields.{many_field}
 use Rattle.som_fields.proofs.TypeFields.{kind_field}
-use Rattle.som_wire.specs.declared.syntax.WireExpr.{WireExpr}
-use Rattle.som_wire.specs.declared.syntax.WireStmt.{WireStmt, out-WireStmt, roll-WireStmt, out-roll-WireStmt, roll-out-WireStmt, fold-roll-WireStmt}
-use Rattle.som_wire.specs.declared.syntax.WireStmt.TheVariants as stmts
-use Rattle.som_wire.specs.declared.syntax.WireStmt.TheVariants.{rolls-Var, rolls-SetLocal, rolls-SetVariable, rolls-Return, rolls-ReturnValue, rolls-Print, rolls-Free, rolls-Call, rolls-If, rolls-While}
-use Rattle.som_wire.specs.declared.syntax.WireStmt.TheOpen.{WireStmt-F}
-use Rattle.som_wire.specs.declared.syntax.WireBlock.{WireBlock, fold-roll-WireBlock}
+use Rattle.som_spelling.specs.declared.syntax.WireExpr.{WireExpr}
+use Rattle.som_spelling.specs.declared.syntax.WireStmt.{WireStmt, out-WireStmt, roll-WireStmt, out-roll-WireStmt, roll-out-WireStmt, fold-roll-WireStmt}
+use Rattle.som_spelling.specs.declared.syntax.WireStmt.TheVariants as stmts
+use Rattle.som_spelling.specs.declared.syntax.WireStmt.TheVariants.{rolls-Var, rolls-SetLocal, rolls-SetVariable, rolls-Return, rolls-ReturnValue, rolls-Print, rolls-Free, rolls-Call, rolls-If, rolls-While}
+use Rattle.som_spelling.specs.declared.syntax.WireStmt.TheOpen.{WireStmt-F}
+use Rattle.som_spelling.specs.declared.syntax.WireBlock.{WireBlock}
 use Rattle.som_wire.specs.Making.{Reads, of_one, of_two, of_three}
-use Rattle.som_wire.specs.Spelling.{expr, block_step, stmt_step, stmt, block}
-use Rattle.som_wire.specs.Fitting.{FitsExpr, FitsCall, FitsStmtParts, FitsStatements, FitsStmt, FitsBlock}
+use Rattle.som_spelling.specs.Spelling.{expr, block_step, stmt_step, stmt, block}
+use Rattle.som_spelling.specs.Fitting.{FitsExpr, FitsCall, FitsStmtParts, FitsStatements, FitsStmt, FitsBlock}
+use Rattle.som_spelling.proofs.Forms.{block_is}
 use Rattle.som_wire.specs.Reading.{expr_at, call_at, statements_at, stmt_after, is_stmt_tag, stmt_at, block_at}
 use Rattle.som_wire.proofs.Made.{IsMade, made_none, made_one, made_two, made_three, IsCase, a_case, pick}
-use Rattle.som_wire.proofs.ExprFields.{flat_of, none_deep, expr_field, call_field}
+use Rattle.som_wire.proofs.ExprFields.{none_deep, expr_field, call_field}
 
 -- ---- blocks, by the statements that can stand in them
-
--- a block is spelled by its statements
-pub block_is : (ss : List WireStmt) → block (record { statements = ss }) ≡ counted w32 stmt ss
-block_is ss =
-    fold-roll-WireBlock (List ℕ) (List ℕ) stmt_step block_step (record { statements = ss })
-    ∙ ap (λ (n : ℕ). number w32 n ++ flat_map (λ (t : List ℕ). t) (map stmt ss)) (length-map ss stmt)
-    ∙ ap (λ (t : List ℕ). number w32 (length ss) ++ t) (flat_of stmt ss)
 
 module _ (one : Reads WireStmt) (Fits : WireStmt → Type 0) (field : IsField one stmt Fits) where
   abbrev after_count : List ℕ → Read ℕ → Result (Read WireBlock) ImageFault

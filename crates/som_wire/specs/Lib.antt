@@ -1,5 +1,3 @@
 pub mod Making
-pub mod Spelling
-pub mod Fitting
 pub mod Reading
 pub mod Writing

@@ -11,19 +11,19 @@ use Rattle.som_fields.specs.declared.read.Read.{Read}
 use Rattle.som_fields.specs.declared.method.Ranges.{Ranges}
 use Rattle.som_fields.specs.Fields.{done, many_at, counted_at}
 use Rattle.som_fields.specs.Reading.{number_at, text_at, below_at, kind_at, method_at}
-use Rattle.som_wire.specs.declared.syntax.WireVariable.{WireVariable}
-use Rattle.som_wire.specs.declared.syntax.WireBody.{WireBody}
-use Rattle.som_wire.specs.declared.syntax.WireBody.TheVariants as bodies
-use Rattle.som_wire.specs.declared.syntax.WireOverride.{WireOverride}
-use Rattle.som_wire.specs.declared.syntax.WirePart.{WirePart}
-use Rattle.som_wire.specs.declared.selects.WireSelect.{WireSelect}
-use Rattle.som_wire.specs.declared.selects.WireSelects.{WireSelects}
-use Rattle.som_wire.specs.declared.syntax.WireExpr.{WireExpr}
-use Rattle.som_wire.specs.declared.syntax.WireExpr.TheVariants as exprs
-use Rattle.som_wire.specs.declared.syntax.WireStmt.{WireStmt}
-use Rattle.som_wire.specs.declared.syntax.WireStmt.TheVariants as stmts
-use Rattle.som_wire.specs.declared.syntax.WireBlock.{WireBlock}
-use Rattle.som_wire.specs.Fitting.{levels_left}
+use Rattle.som_spelling.specs.declared.syntax.WireVariable.{WireVariable}
+use Rattle.som_spelling.specs.declared.syntax.WireBody.{WireBody}
+use Rattle.som_spelling.specs.declared.syntax.WireBody.TheVariants as bodies
+use Rattle.som_spelling.specs.declared.syntax.WireOverride.{WireOverride}
+use Rattle.som_spelling.specs.declared.syntax.WirePart.{WirePart}
+use Rattle.som_spelling.specs.declared.selects.WireSelect.{WireSelect}
+use Rattle.som_spelling.specs.declared.selects.WireSelects.{WireSelects}
+use Rattle.som_spelling.specs.declared.syntax.WireExpr.{WireExpr}
+use Rattle.som_spelling.specs.declared.syntax.WireExpr.TheVariants as exprs
+use Rattle.som_spelling.specs.declared.syntax.WireStmt.{WireStmt}
+use Rattle.som_spelling.specs.declared.syntax.WireStmt.TheVariants as stmts
+use Rattle.som_spelling.specs.declared.syntax.WireBlock.{WireBlock}
+use Rattle.som_spelling.specs.Fitting.{levels_left}
 use Rattle.som_wire.specs.Making.{Reads, of_one, of_two, of_three, of_four}
 
 -- a number of one byte that is below a limit, as that of an operator

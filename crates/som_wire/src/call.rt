@@ -3,9 +3,9 @@ ghost use Rattle.som_fields.specs.Fields.{Gives};
 ghost use Rattle.std.specs.Prelude.{◌≡◌, ◌≤◌, length, IfOk};
 
 use crate::pair::read_tagged_call;
-use crate::syntax::WireExpr;
 use som_fields::{ImageFault, Ranges, Read, read_u8};
 use som_model::List;
+use som_spelling::WireExpr;
 use std::alloc::Global;
 
 // A call where no more level is left.

@@ -1,4 +1,4 @@
-ghost use Rattle.som_wire.specs.Fitting.{
+ghost use Rattle.som_spelling.specs.Fitting.{
   FitsBlock,
   FitsExpr,
   FitsPart,
@@ -9,10 +9,10 @@ ghost use Rattle.som_wire.specs.Fitting.{
   levels_left,
 };
 ghost use Rattle.som_wire.specs.Reading.{block_at, part_at, selects_at};
-ghost use Rattle.som_wire.specs.Spelling.{block, expr, part, selects};
-ghost use Rattle.som_wire.specs.declared.syntax.WireBlock.{WireBlock};
-ghost use Rattle.som_wire.specs.declared.syntax.WirePart.{WirePart};
-ghost use Rattle.som_wire.specs.declared.selects.WireSelects.{WireSelects};
+ghost use Rattle.som_spelling.specs.Spelling.{block, expr, part, selects};
+ghost use Rattle.som_spelling.specs.declared.syntax.WireBlock.{WireBlock};
+ghost use Rattle.som_spelling.specs.declared.syntax.WirePart.{WirePart};
+ghost use Rattle.som_spelling.specs.declared.selects.WireSelects.{WireSelects};
 ghost use Rattle.som_fields.specs.Fields.{NoneBeginsAnother, done};
 ghost use Rattle.som_fields.specs.Spelling.{AreShort, FitsMethod};
 ghost use Rattle.som_fields.specs.declared.method.Ranges.{Ranges};

@@ -4,9 +4,9 @@ ghost use Rattle.std.specs.Prelude.{◌≡◌, ◌≤◌, length, IfOk};
 
 use crate::expr::{read_args, read_operand};
 use crate::operand::{read_host, read_operator};
-use crate::syntax::WireExpr;
 use som_fields::{ImageFault, Ranges, Read, read_method, read_text, read_type, read_u8};
 use som_model::List;
+use som_spelling::WireExpr;
 use std::alloc::Global;
 
 // What follows the tag of two operands at a place, or of a call.

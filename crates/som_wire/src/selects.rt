@@ -1,4 +1,4 @@
-ghost use Rattle.som_wire.specs.Fitting.{FitsOwnSelects, FitsSelect, FitsSelects, FitsSomeSelects};
+ghost use Rattle.som_spelling.specs.Fitting.{FitsOwnSelects, FitsSelect, FitsSelects, FitsSomeSelects};
 ghost use Rattle.som_wire.specs.Reading.{
   ascending_at,
   class_from_at,
@@ -7,7 +7,7 @@ ghost use Rattle.som_wire.specs.Reading.{
   select_at,
   selects_at,
 };
-ghost use Rattle.som_wire.specs.Spelling.{class_selects, select, selects};
+ghost use Rattle.som_spelling.specs.Spelling.{class_selects, select, selects};
 ghost use Rattle.som_fields.specs.Fields.{Gives, Stands, done};
 ghost use Rattle.som_fields.specs.Spelling.{FitsMethod, FitsSomeRanges};
 ghost use Rattle.std.specs.List.{flat_map};
@@ -15,25 +15,12 @@ ghost use Rattle.std.specs.Prelude.{◌≡◌, ◌-◌, ◌<◌, ◌≤◌, ◌^
 
 use crate::block::know_ranges;
 use som_fields::{
-    ImageFault, Ranges, Read, WireMethod, read_many, read_method, read_u8, read_u16, write_method,
-    write_u8, write_u16,
+    ImageFault, Ranges, Read, read_many, read_method, read_u8, read_u16, write_method, write_u8,
+    write_u16,
 };
 use som_model::{List, MAX_SELECTS, NoMemory};
+use som_spelling::{WireSelect, WireSelects};
 use std::alloc::Global;
-
-/// A method, and the place of the parent whose body of it a class takes.
-#[derive(Clone, Copy, Debug, PartialEq, Eq)]
-pub struct WireSelect {
-    pub method: WireMethod,
-    pub parent: u8,
-}
-
-/// The selects of a class, which goes by its number.
-#[derive(Drop)]
-pub struct WireSelects {
-    pub class: u16,
-    pub selects: List<WireSelect>,
-}
 
 #[tactic(auto, unfolding(crate::specs::Reading::select_at))]
 fn read_select(

@@ -1,14 +1,14 @@
-ghost use Rattle.som_wire.specs.Fitting.{FitsSomeExpr, FitsSomeStmt, FitsSomeStmtParts, FitsStatements};
-ghost use Rattle.som_wire.specs.Spelling.{block, expr, stmt};
+ghost use Rattle.som_spelling.specs.Fitting.{FitsSomeExpr, FitsSomeStmt, FitsSomeStmtParts, FitsStatements};
+ghost use Rattle.som_spelling.specs.Spelling.{block, expr, stmt};
 ghost use Rattle.som_wire.specs.Writing.{stmt_blocks, stmt_front};
 ghost use Rattle.som_fields.specs.Spelling.{FitsKind, kind as kind_bytes, most_classes, number as number_bytes};
 ghost use Rattle.std.specs.Int.{w8, w16};
 ghost use Rattle.std.specs.Prelude.{◌≡◌, ◌++◌, false, OnOk};
 
-use crate::syntax::{WireBlock, WireExpr, WireStmt};
 use crate::write_expr::{append_byte, append_expr, append_short};
 use som_fields::{WireType, write_type, write_u8, write_u32};
 use som_model::{List, NoMemory};
+use som_spelling::{WireBlock, WireExpr, WireStmt};
 use std::alloc::Global;
 
 /// Appends a block. After an error a part of it may have been appended.

@@ -6,7 +6,7 @@ use Rattle.som_fields.specs.declared.read.Read.{Read}
 use Rattle.som_fields.specs.declared.face.WireFace.{WireFace}
 use Rattle.som_fields.specs.declared.method.Ranges.{Ranges}
 use Rattle.som_fields.specs.Fields.{Gives}
-use Rattle.som_wire.specs.declared.syntax.WirePart.{WirePart}
+use Rattle.som_spelling.specs.declared.syntax.WirePart.{WirePart}
 use Rattle.som_wire.specs.Reading.{part_at}
 use Rattle.som_classimage.specs.ReadClasses.{introduced_count}
 use Rattle.som_classimage.proofs.EachFields.{goes_on, ends, is_done}

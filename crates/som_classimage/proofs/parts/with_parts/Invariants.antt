@@ -1,6 +1,6 @@
 use Rattle.std.proofs.Common.{◌≡◌, ◌++◌, take}
 use Rattle.std.specs.List.{flat_map}
-use Rattle.som_wire.specs.Spelling.{part}
+use Rattle.som_spelling.specs.Spelling.{part}
 use Rattle.som_classimage.proofs.parts.with_parts.Given as goal
 
 abbrev pub invariant-loop-part : goal.invariant-loop-part

@@ -1,6 +1,6 @@
 use Rattle.std.proofs.Common.{◌≡◌, ◌+◌, ◌*◌, map, max, take}
-use Rattle.som_wire.specs.declared.syntax.WireStmt.{size-WireStmt}
-use Rattle.som_wire.specs.declared.syntax.WireBlock.{size-WireBlock}
+use Rattle.som_spelling.specs.declared.syntax.WireStmt.{size-WireStmt}
+use Rattle.som_spelling.specs.declared.syntax.WireBlock.{size-WireBlock}
 use Rattle.som_naming.specs.NamedBlocks.{stmt_named}
 use Rattle.som_naming.proofs.named_block.+named_block.Given as goal
 

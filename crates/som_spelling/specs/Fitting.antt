@@ -5,18 +5,18 @@ use Rattle.som_model.specs.declared.limits.TheConstants.{MAX_NESTING, MAX_PARAME
 use Rattle.som_fields.specs.declared.method.WireMethod.{WireMethod}
 use Rattle.som_fields.specs.Spelling.{FitsText, FitsCounted, FitsKind, FitsMethod, FitsSomeRanges, most_classes}
 use Rattle.som_fields.specs.declared.method.Ranges.{Ranges}
-use Rattle.som_wire.specs.declared.syntax.WireVariable.{WireVariable}
-use Rattle.som_wire.specs.declared.syntax.WireBody.{WireBody}
-use Rattle.som_wire.specs.declared.syntax.WireBody.TheVariants as bodies
-use Rattle.som_wire.specs.declared.syntax.WireOverride.{WireOverride}
-use Rattle.som_wire.specs.declared.syntax.WirePart.{WirePart}
-use Rattle.som_wire.specs.declared.selects.WireSelect.{WireSelect}
-use Rattle.som_wire.specs.declared.selects.WireSelects.{WireSelects}
-use Rattle.som_wire.specs.declared.syntax.WireExpr.{WireExpr, out-WireExpr}
-use Rattle.som_wire.specs.declared.syntax.WireExpr.TheOpen.{WireExpr-F}
-use Rattle.som_wire.specs.declared.syntax.WireStmt.{WireStmt, out-WireStmt}
-use Rattle.som_wire.specs.declared.syntax.WireStmt.TheOpen.{WireStmt-F}
-use Rattle.som_wire.specs.declared.syntax.WireBlock.{WireBlock}
+use Rattle.som_spelling.specs.declared.syntax.WireVariable.{WireVariable}
+use Rattle.som_spelling.specs.declared.syntax.WireBody.{WireBody}
+use Rattle.som_spelling.specs.declared.syntax.WireBody.TheVariants as bodies
+use Rattle.som_spelling.specs.declared.syntax.WireOverride.{WireOverride}
+use Rattle.som_spelling.specs.declared.syntax.WirePart.{WirePart}
+use Rattle.som_spelling.specs.declared.selects.WireSelect.{WireSelect}
+use Rattle.som_spelling.specs.declared.selects.WireSelects.{WireSelects}
+use Rattle.som_spelling.specs.declared.syntax.WireExpr.{WireExpr, out-WireExpr}
+use Rattle.som_spelling.specs.declared.syntax.WireExpr.TheOpen.{WireExpr-F}
+use Rattle.som_spelling.specs.declared.syntax.WireStmt.{WireStmt, out-WireStmt}
+use Rattle.som_spelling.specs.declared.syntax.WireStmt.TheOpen.{WireStmt-F}
+use Rattle.som_spelling.specs.declared.syntax.WireBlock.{WireBlock}
 
 -- arguments that fit
 abbrev pub FitsArgs : (WireExpr → Type 0) → List WireExpr → Type 0

@@ -5,18 +5,18 @@ use Rattle.std.specs.Int.{w8, w16, w32, cast_unsigned}
 use Rattle.som_model.specs.declared.syntax.HostCode.{HostCode}
 use Rattle.som_model.specs.declared.syntax.HostCode.TheVariants as hosts
 use Rattle.som_fields.specs.Spelling.{number, text, counted, kind, method}
-use Rattle.som_wire.specs.declared.syntax.WireVariable.{WireVariable}
-use Rattle.som_wire.specs.declared.syntax.WireBody.{WireBody}
-use Rattle.som_wire.specs.declared.syntax.WireBody.TheVariants as bodies
-use Rattle.som_wire.specs.declared.syntax.WireOverride.{WireOverride}
-use Rattle.som_wire.specs.declared.syntax.WirePart.{WirePart}
-use Rattle.som_wire.specs.declared.selects.WireSelect.{WireSelect}
-use Rattle.som_wire.specs.declared.selects.WireSelects.{WireSelects}
-use Rattle.som_wire.specs.declared.syntax.WireExpr.{WireExpr, fold-WireExpr}
-use Rattle.som_wire.specs.declared.syntax.WireExpr.TheOpen.{WireExpr-F}
-use Rattle.som_wire.specs.declared.syntax.WireStmt.{WireStmt, fold-WireStmt}
-use Rattle.som_wire.specs.declared.syntax.WireStmt.TheOpen.{WireStmt-F, WireBlock-F}
-use Rattle.som_wire.specs.declared.syntax.WireBlock.{WireBlock, fold-WireBlock}
+use Rattle.som_spelling.specs.declared.syntax.WireVariable.{WireVariable}
+use Rattle.som_spelling.specs.declared.syntax.WireBody.{WireBody}
+use Rattle.som_spelling.specs.declared.syntax.WireBody.TheVariants as bodies
+use Rattle.som_spelling.specs.declared.syntax.WireOverride.{WireOverride}
+use Rattle.som_spelling.specs.declared.syntax.WirePart.{WirePart}
+use Rattle.som_spelling.specs.declared.selects.WireSelect.{WireSelect}
+use Rattle.som_spelling.specs.declared.selects.WireSelects.{WireSelects}
+use Rattle.som_spelling.specs.declared.syntax.WireExpr.{WireExpr, fold-WireExpr}
+use Rattle.som_spelling.specs.declared.syntax.WireExpr.TheOpen.{WireExpr-F}
+use Rattle.som_spelling.specs.declared.syntax.WireStmt.{WireStmt, fold-WireStmt}
+use Rattle.som_spelling.specs.declared.syntax.WireStmt.TheOpen.{WireStmt-F, WireBlock-F}
+use Rattle.som_spelling.specs.declared.syntax.WireBlock.{WireBlock, fold-WireBlock}
 
 abbrev pub truth : Bool → ℕ
 truth false = 0
