@@ -1,6 +1,7 @@
 use crate::images::{HELLO, release_of};
 use som_compat::conforms;
-use som_model::{Interface, NoMemory, Release, kernel_faces};
+use som_kernel::kernel_faces;
+use som_model::{Interface, NoMemory, Release};
 use std::alloc::Global;
 use std::test::Fail;
 

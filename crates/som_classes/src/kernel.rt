@@ -3,7 +3,8 @@ ghost use Rattle.som_model.specs.Kernel.{kernel};
 ghost use Rattle.som_numbers.specs.Classes.{class_of, classes_of};
 ghost use Rattle.std.specs.Prelude.{◌≡◌, ◌++◌, IfOk, map};
 
-use som_model::{ClassDecl, ClassFace, ClassKey, List, Module, NoMemory, kernel_faces};
+use som_kernel::kernel_faces;
+use som_model::{ClassDecl, ClassFace, ClassKey, List, Module, NoMemory};
 use som_numbers::Keyed;
 use std::alloc::Global;
 

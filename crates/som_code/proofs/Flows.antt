@@ -7,7 +7,7 @@ use Rattle.som_model.specs.Acts.{◌>>=◌, ◌>>◌, pure, take_unit, unit_from
 use Rattle.som_model.specs.Calls.{Calls, Here}
 use Rattle.som_model.specs.Expressions.{Frame, Evals, is_true}
 use Rattle.som_model.specs.Statements.{Flow, Next, Return, Returned, Runs, go_on, while_loop, all_of, leave}
-use Rattle.som_model.proofs.LoopLaws.{while_is}
+use Rattle.som_meaning.proofs.LoopLaws.{while_is}
 use Rattle.som_code.specs.declared.instruction.Instruction.{Instruction}
 use Rattle.som_code.specs.declared.instruction.Instruction.TheVariants as ops
 use Rattle.som_code.specs.Machine.{After, On, Over}

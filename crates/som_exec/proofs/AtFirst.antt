@@ -9,7 +9,7 @@ use Rattle.som_model.specs.Runs.{end_of}
 use Rattle.som_model.specs.World.{World}
 use Rattle.som_model.specs.Calls.{class_here}
 use Rattle.som_model.specs.State.{Nil, InMain}
-use Rattle.som_model.proofs.MadeLaws.{main_within}
+use Rattle.som_meaning.proofs.MadeLaws.{main_within}
 use Rattle.som_code.specs.Laid.{lay_body}
 use Rattle.som_code.specs.Effect.{beginning as first_conf, conf}
 use Rattle.som_code.specs.declared.instruction.Instruction.{Instruction}

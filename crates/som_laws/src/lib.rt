@@ -1,13 +1,9 @@
-//! That the definitions of `som_model` say what they mean. Laws of the definitions are the contracts of functions with no body.
-//! Proofs of other crates cite its laws, and no code calls it.
+//! That the definitions of hierarchies, keys and orders in `som_model` say what they mean. Laws of the definitions are the contracts of
+//! functions with no body. Proofs of other crates cite its laws, and no code calls it.
 #![tactic(auto)]
 
-mod meaning;
 mod theorems;
 
-pub use meaning::{
-    exact_fuel_law, kernel_bodies_law, loop_law, more_fuel_law, objects_law, told_law,
-};
 pub use theorems::{
     ancestors_law, ancestors_once_law, ancestors_step_law, answer_step_law, byname_law,
     descends_step_law, effective_order_law, implementation_law, implementation_leftmost_law,

@@ -1,9 +1,4 @@
 pub mod KeyLaws
 pub mod SameLaws
 pub mod NamedLaws
-pub mod CallLaws
-pub mod LoopLaws
-pub mod FuelLaws
-pub mod TextLaws
-pub mod MadeLaws
 pub mod TypingLaws

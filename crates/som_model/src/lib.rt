@@ -6,7 +6,6 @@ mod class;
 mod copy_class;
 mod copy_key;
 mod copy_syntax;
-mod kernel;
 mod key;
 mod limits;
 mod list;
@@ -19,7 +18,6 @@ mod text_bytes;
 
 pub use boxed::Boxed;
 pub use class::{Body, ClassDecl, ClassFace, Entry, Override, Select, Sig, Variable, Way};
-pub use kernel::kernel_faces;
 pub use key::{ClassKey, MethodRef, Module, ValueType};
 pub use limits::{
     DEFAULT_FUEL, MAX_BYTES, MAX_CLIENT_CLASSES, MAX_DEPTH, MAX_ENTRIES, MAX_FUEL,

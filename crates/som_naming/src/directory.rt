@@ -11,7 +11,8 @@ ghost use Rattle.som_model.specs.Class.{entry_name};
 ghost use Rattle.std.specs.Prelude.{◌≡◌, map, IfOk, OnOk};
 
 use som_fields::{WireEntry, WireFace};
-use som_model::{ClassFace, ClassKey, Entry, List, Module, NoMemory, Release, Text, kernel_faces};
+use som_kernel::kernel_faces;
+use som_model::{ClassFace, ClassKey, Entry, List, Module, NoMemory, Release, Text};
 use std::alloc::Global;
 
 /// What class numbers and slots stand for: the key of each class, and the names of its entries.

@@ -21,9 +21,10 @@ use som_alone::{drafts_of, items_differ, modifiers_stand};
 use som_ancestry::{Declared, KERNEL_CLASSES, VerifyFault, bare_classes, declare};
 use som_declarations::{Refused, declarations, known_classes, refused};
 use som_drafts::Draft;
+use som_kernel::kernel_faces;
 use som_model::{
     ClassDecl, ClassFace, Interface, List, MAX_CLIENT_CLASSES, MAX_LIBRARY_CLASSES, Module,
-    NoMemory, Text, kernel_faces,
+    NoMemory, Text,
 };
 use som_scope::{Scope, scope_of};
 use som_syntax::{IdlFile, IdlInterface};

@@ -23,7 +23,7 @@ use Rattle.som_model.specs.Means.{body_class, hooks_of, bodies, calls, nothing_y
 use Rattle.som_model.specs.Typing.{in_main}
 use Rattle.som_model.specs.TypedBlocks.{Scope, block_scope}
 use Rattle.som_model.proofs.KeyLaws.{both}
-use Rattle.som_model.proofs.CallLaws.{call_none, call_some}
+use Rattle.som_meaning.proofs.CallLaws.{call_none, call_some}
 use Rattle.som_typed.specs.Values.{is_there, has_type, have_types, are_arguments}
 use Rattle.som_typed.specs.Heaps.{AreTyped}
 use Rattle.som_typed.specs.Preserving.{Leaves}

@@ -13,8 +13,9 @@ ghost use Rattle.std.specs.Prelude.{◌≡◌, ◌≤◌, ◌++◌, drop, length
 use crate::typed_bodies::{bodies_typed, main_typed};
 use indexmap::IndexSet;
 use som_ancestry::{Declared, VerifyFault, class_names, declared_ancestors};
+use som_kernel::kernel_faces;
 use som_kinds::{Knowledge, know};
-use som_model::{Block, Interface, List, kernel_faces};
+use som_model::{Block, Interface, List};
 use std::alloc::Global;
 
 /// What typing is to know of classes: their names, the kernel's faces, and the ancestors of each by places.

@@ -21,7 +21,7 @@ use Rattle.som_model.specs.Expressions.{Frame, local_in, is_true, read, class_ob
 use Rattle.som_model.specs.Statements.{assign, print_value}
 use Rattle.som_model.specs.Invoked.{first_argument, stands_for, class_found, found_object, asks, KernelBody, Idle, Free, New, NewNoInit, FindClass, Asks, kernel_body, table, result_zero}
 use Rattle.som_model.specs.Means.{body_class, hooks_of}
-use Rattle.som_model.proofs.FuelLaws.{used_both}
+use Rattle.som_meaning.proofs.FuelLaws.{used_both}
 use Rattle.som_code.specs.declared.instruction.Instruction.{Instruction}
 use Rattle.som_code.specs.declared.instruction.Instruction.TheVariants as ops
 use Rattle.som_code.specs.Machine as machine

@@ -1,5 +1,5 @@
-use Rattle.som_model.proofs.LoopLaws.{while_is, while_told}
-use Rattle.som_laws.proofs.meaning.loop_law.Goals as goal
+use Rattle.som_meaning.proofs.LoopLaws.{while_is, while_told}
+use Rattle.som_meaning.proofs.laws.loop_law.Goals as goal
 
 pub returns-clause-done : goal.returns-clause-done
 returns-clause-done c condition body frame s = while_is condition body frame s

@@ -12,7 +12,7 @@ ghost use Rattle.som_model.specs.Kernel.{
 };
 ghost use Rattle.std.specs.Prelude.{◌≡◌, IfOk, OnOk, OnErr, [], ◌∷◌, ◌++◌, ℕ, codes};
 
-use crate::{
+use som_model::{
     ClassFace, ClassKey, Entry, Interface, List, Module, NoMemory, Sig, Text, ValueType, Way,
 };
 use std::alloc::Global;

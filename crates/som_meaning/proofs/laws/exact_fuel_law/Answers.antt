@@ -1,7 +1,7 @@
 use Rattle.som_model.specs.Means.{main_act, beginning}
-use Rattle.som_model.proofs.FuelLaws.{exact_same, exact_less}
-use Rattle.som_laws.proofs.Runs.{w, law, either}
-use Rattle.som_laws.proofs.meaning.exact_fuel_law.Goals as goal
+use Rattle.som_meaning.proofs.FuelLaws.{exact_same, exact_less}
+use Rattle.som_meaning.proofs.Runs.{w, law, either}
+use Rattle.som_meaning.proofs.laws.exact_fuel_law.Goals as goal
 
 pub returns-clause-same : goal.returns-clause-same
 returns-clause-same c r p fuel over = exact_same (main_act (w r p) p.main).does (law r p) fuel (beginning (w r p) fuel) over

@@ -1,7 +1,7 @@
 use Rattle.som_model.specs.Means.{main_act, means, told_in, nothing_yet}
 use Rattle.som_model.specs.RunText.{line_added}
-use Rattle.som_laws.proofs.Runs.{w, told_by}
-use Rattle.som_laws.proofs.meaning.told_law.Goals as goal
+use Rattle.som_meaning.proofs.Runs.{w, told_by}
+use Rattle.som_meaning.proofs.laws.told_law.Goals as goal
 
 pub returns : goal.returns
 returns c r p fuel shows prefix out =

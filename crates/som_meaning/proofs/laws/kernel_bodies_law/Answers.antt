@@ -1,5 +1,5 @@
 use Rattle.std.proofs.Common.{refl}
-use Rattle.som_laws.proofs.meaning.kernel_bodies_law.Goals as goal
+use Rattle.som_meaning.proofs.laws.kernel_bodies_law.Goals as goal
 
 pub returns-clause-all : goal.returns-clause-all
 returns-clause-all c = refl

@@ -24,7 +24,7 @@ use Rattle.som_model.specs.Expressions.{Frame, Evals, is_true, read, each_of, ei
 use Rattle.som_model.specs.Statements.{Flow, Next, Return, Returned, Runs, go_on, assign, turn, turns, turns_grown, while_loop, all_of, block_step, stmt_step, exec, run_block}
 use Rattle.som_model.specs.Invoked.{first_argument, stands_for, class_found, found_object, asks, KernelBody, Idle, Free, New, NewNoInit, FindClass, Asks, table, kernel_body, free_body, kernel_does, forward_body, body_does}
 use Rattle.som_model.specs.Means.{body_class, hooks_of, invoke, invoke_held, invoke_in, invoke_hook, each_hook, bodies, calls, beginning, main_act, means_in}
-use Rattle.som_model.proofs.CallLaws.{call_none, call_some}
+use Rattle.som_meaning.proofs.CallLaws.{call_none, call_some}
 
 -- the objects that there are, and the units that are left
 abbrev pub size : State → ℕ

@@ -10,8 +10,8 @@ use Rattle.som_model.specs.Runs.{Faulted, Spent, Ran, Goes, Ends, IsMore, Lawful
 use Rattle.som_model.specs.Fuel.{IsOver, IsSpent}
 use Rattle.som_model.specs.RunText.{line_added}
 use Rattle.som_model.specs.Means.{main_act, means, beginning}
-use Rattle.som_model.proofs.TextLaws.{added_lines}
-use Rattle.som_laws.specs.Told.{IsToldAs}
+use Rattle.som_meaning.proofs.TextLaws.{added_lines}
+use Rattle.som_meaning.specs.Told.{IsToldAs}
 
 over_or_spent : {A : Type 0} (r r' : Ran A) → IsMore 0 r r' → IsOver r ⊎ IsSpent r
 over_or_spent (Goes a s) r' h = inl tt

@@ -1,4 +1,4 @@
-ghost use Rattle.som_laws.specs.Told.{IsToldAs};
+ghost use Rattle.som_meaning.specs.Told.{IsToldAs};
 ghost use Rattle.som_model.specs.Class.{introduced};
 ghost use Rattle.som_model.specs.Classes.{classes};
 ghost use Rattle.som_model.specs.Expressions.{Evals, Frame};

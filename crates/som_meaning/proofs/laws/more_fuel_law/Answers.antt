@@ -1,9 +1,9 @@
 use Rattle.std.proofs.Common.{◌+◌}
 use Rattle.som_model.specs.Runs.{end_of}
 use Rattle.som_model.specs.Means.{means}
-use Rattle.som_model.proofs.FuelLaws.{more_events, more_objects, over_more, used_more}
-use Rattle.som_laws.proofs.Runs.{more}
-use Rattle.som_laws.proofs.meaning.more_fuel_law.Goals as goal
+use Rattle.som_meaning.proofs.FuelLaws.{more_events, more_objects, over_more, used_more}
+use Rattle.som_meaning.proofs.Runs.{more}
+use Rattle.som_meaning.proofs.laws.more_fuel_law.Goals as goal
 
 pub returns-clause-over : goal.returns-clause-over
 returns-clause-over c r p fuel k over = over_more k (means r p fuel) (means r p (fuel + k)) over (more r p fuel k)
