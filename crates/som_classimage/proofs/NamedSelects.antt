@@ -27,6 +27,7 @@ use Rattle.som_naming.specs.Naming.{ranges_in, Tells, NoDoubles}
 use Rattle.som_classimage.specs.SpelledClasses.{version_with, section, FitsSection}
 use Rattle.som_classimage.specs.NamedClasses.{select_named, selects_under, selecting, with_selects}
 use Rattle.som_naming.proofs.Places.{all_map, all_of}
+use Rattle.som_naming.proofs.OwnSelects.{with_own}
 use Rattle.som_naming.proofs.Spelled.{some_bytes, bytes_are, split, Forth, Back, counted_forth, counted_back}
 use Rattle.som_naming.proofs.BlockForms.{two, byte_forth, byte_back, join}
 use Rattle.som_naming.proofs.Numbers.{method_forth, method_back}
@@ -34,10 +35,6 @@ use Rattle.som_classimage.proofs.NamedParts.{plain}
 
 abbrev a_select : MethodRef → ℕ → Select
 a_select method parent = record { method = method; parent = parent }
-
--- a class with these selects in the place of its own
-abbrev pub with_own : ClassDecl → List Select → ClassDecl
-with_own c ss = record { face = c.face; variables = c.variables; bodies = c.bodies; overrides = c.overrides; selects = ss }
 
 -- ---- which selects stand under a number
 

@@ -30,9 +30,9 @@ use Rattle.som_classimage.specs.SpelledClasses.{FitsParts, FitsSection}
 use Rattle.som_classimage.specs.NamedClasses.{face_named, classes_named, with_selects}
 use Rattle.som_classimage.specs.ClassLimits.{FaceWithin}
 use Rattle.som_numbering.specs.NumberedClasses.{face_numbered, FaceKnown, part_numbered, selects_numbered}
-use Rattle.som_numbering.proofs.NumberedFaces.{face_turns}
-use Rattle.som_numbering.proofs.NumberedParts.{ClassReady}
-use Rattle.som_numbering.proofs.NumberedClasses.{faces_of, keys_kept, names_kept, slots_kept, faces_fit, parts_fit, classes_back}
+use Rattle.som_roundtrip.proofs.NumberedFaces.{face_turns}
+use Rattle.som_roundtrip.proofs.NumberedParts.{ClassReady}
+use Rattle.som_roundtrip.proofs.NumberedClasses.{faces_of, keys_kept, names_kept, slots_kept, faces_fit, parts_fit, classes_back}
 use Rattle.som_classimage.proofs.NamedClasses.{directory_of, as_many_keys}
 use Rattle.som_classimage.proofs.NamedInterfaces.{a_class, known_by}
 use Rattle.som_cliimage.specs.Reading.{client_ranges}
@@ -42,7 +42,7 @@ use Rattle.som_cliimage.specs.Numbering.{interface_directory, program_directory,
 use Rattle.som_cliimage.specs.Limits.{IsWithinLimits}
 use Rattle.som_classimage.proofs.NamedParts.{plain}
 use Rattle.som_classimage.proofs.NamedSelects.{section_fits}
-use Rattle.som_numbering.proofs.NumberedSelects.{selects_turn}
+use Rattle.som_roundtrip.proofs.NumberedSelects.{selects_turn}
 use Rattle.som_spelling.specs.declared.selects.WireSelects.{WireSelects}
 use Rattle.som_cliimage.proofs.NamedPrograms.{known_to, many_keys, client_ranges_known}
 

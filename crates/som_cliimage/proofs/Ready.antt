@@ -37,10 +37,10 @@ use Rattle.som_classimage.specs.ClassLimits.{FaceWithin, ClassWithin}
 use Rattle.som_numbering.specs.NumberedClasses.{face_numbered, FaceKnown, part_numbered, selects_numbered, ClassKnown}
 use Rattle.som_classimage.proofs.Conforming.{both_empty}
 use Rattle.som_numbering.proofs.Directories.{IsOwn, FewEntries, kernel_own, kernel_few, declared_own, directory_is}
-use Rattle.som_numbering.proofs.NumberedParts.{ClassReady}
-use Rattle.som_numbering.proofs.NumberedClasses.{few_own}
+use Rattle.som_roundtrip.proofs.NumberedParts.{ClassReady}
+use Rattle.som_roundtrip.proofs.NumberedClasses.{few_own}
 use Rattle.som_classimage.proofs.NamedInterfaces.{a_class}
-use Rattle.som_numbering.proofs.ReadyClasses.{NamesBefore, stand_before, all_front, types_told, face_known, names_new, classes_ready}
+use Rattle.som_roundtrip.proofs.ReadyClasses.{NamesBefore, stand_before, all_front, types_told, face_known, names_new, classes_ready}
 use Rattle.som_cliimage.specs.declared.wire.WireProgram.{WireProgram}
 use Rattle.som_cliimage.specs.Spelling.{FitsProgram}
 use Rattle.som_cliimage.specs.Naming.{program_named}

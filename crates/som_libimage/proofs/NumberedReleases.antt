@@ -31,11 +31,11 @@ use Rattle.som_numbering.specs.NumberedClasses.{face_numbered, part_numbered, se
 use Rattle.som_libimage.specs.Numbering.{release_numbered}
 use Rattle.som_classimage.proofs.ClassPlaces.{ranges_known}
 use Rattle.som_classimage.proofs.NamedSelects.{section_fits}
-use Rattle.som_numbering.proofs.NumberedSelects.{selects_turn}
+use Rattle.som_roundtrip.proofs.NumberedSelects.{selects_turn}
 use Rattle.som_naming.proofs.Places.{all_joined}
 use Rattle.som_numbering.proofs.Directories.{IsOwn, FewEntries, kernel_own, kernel_few, declared_own, directory_is}
-use Rattle.som_numbering.proofs.NumberedParts.{ClassReady}
-use Rattle.som_numbering.proofs.NumberedClasses.{own_key, keys_told, slots_told, few_own, faces_of, keys_kept, slots_kept, faces_fit, parts_fit, classes_back}
+use Rattle.som_roundtrip.proofs.NumberedParts.{ClassReady}
+use Rattle.som_roundtrip.proofs.NumberedClasses.{own_key, keys_told, slots_told, few_own, faces_of, keys_kept, slots_kept, faces_fit, parts_fit, classes_back}
 
 pub told : (r : Release) → Tells (release_directory r) (kernel ++ library_classes r)
 told r = record {

@@ -27,9 +27,9 @@ use Rattle.som_libimage.specs.Limits.{IsWithinLimits}
 use Rattle.som_numbering.specs.NumberedClasses.{ClassKnown, face_numbered, part_numbered, selects_numbered}
 use Rattle.som_libimage.specs.Numbering.{release_numbered}
 use Rattle.som_classimage.proofs.Conforming.{neither_is, none_first}
-use Rattle.som_numbering.proofs.NumberedParts.{ClassReady}
+use Rattle.som_roundtrip.proofs.NumberedParts.{ClassReady}
 use Rattle.som_libimage.proofs.NumberedReleases.{told, is_directory, ReleaseTurns, release_turns}
-use Rattle.som_numbering.proofs.ReadyClasses.{names_new, stand_before, classes_ready}
+use Rattle.som_roundtrip.proofs.ReadyClasses.{names_new, stand_before, classes_ready}
 
 -- ---- the rules that are used
 

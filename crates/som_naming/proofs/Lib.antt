@@ -12,3 +12,4 @@ pub mod ExprsBack
 pub mod StmtsBack
 pub mod NamedLimits
 pub mod KnownNumbers
+pub mod OwnSelects

@@ -4,9 +4,5 @@ pub mod TypedBlocks
 pub mod KnownMethods
 pub mod TurnedBlocks
 pub mod FoundNames
-pub mod NumberedFaces
-pub mod NumberedParts
-pub mod NumberedSelects
-pub mod ReadyClasses
+pub mod SelectsSoFar
 pub mod Directories
-pub mod NumberedClasses

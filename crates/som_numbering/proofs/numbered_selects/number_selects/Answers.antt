@@ -2,7 +2,7 @@ use Rattle.std.proofs.Common.{refl, sym, ◌∙◌, arith}
 use Rattle.som_model.specs.declared.class.ClassDecl.{ClassDecl}
 use Rattle.som_naming.proofs.Places.{item_all}
 use Rattle.som_numbering.specs.NumberedClasses.{ClassKnown}
-use Rattle.som_numbering.proofs.NumberedSelects.{has_some, has_none, none_more, some_more}
+use Rattle.som_numbering.proofs.SelectsSoFar.{has_some, has_none, none_more, some_more}
 use Rattle.som_numbering.proofs.numbered_selects.number_selects.Goals.{then-not-is_empty+in_ok-number_own+in_ok-push, else-not-is_empty}
 use Rattle.som_numbering.proofs.numbered_selects.number_selects.Goals as goal
 

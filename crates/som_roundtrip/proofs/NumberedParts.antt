@@ -32,7 +32,7 @@ use Rattle.som_classimage.specs.NamedClasses.{variable_named, body_named, overri
 use Rattle.som_classimage.specs.ClassLimits.{ClassWithin}
 use Rattle.som_numbering.specs.NumberedClasses.{variable_numbered, body_numbered, override_numbered, BodyReady, OverrideReady, entry_numbered, face_numbered, part_numbered, ClassKnown}
 use Rattle.som_classimage.proofs.NamedParts.{a_class, plain, introduced_is}
-use Rattle.som_numbering.proofs.NumberedFaces.{face_turns}
+use Rattle.som_roundtrip.proofs.NumberedFaces.{face_turns}
 
 abbrev a_variable : List ℕ → ValueType → Variable
 a_variable name kind = record { name = name; kind = kind }

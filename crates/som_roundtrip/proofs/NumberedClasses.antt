@@ -19,7 +19,7 @@ use Rattle.som_classimage.specs.NamedClasses.{classes_named}
 use Rattle.som_numbering.specs.NumberedClasses.{entry_numbered, face_numbered, part_numbered}
 use Rattle.som_classimage.proofs.NamedParts.{plain}
 use Rattle.som_numbering.proofs.Directories.{FewEntries}
-use Rattle.som_numbering.proofs.NumberedParts.{ClassReady, class_turns}
+use Rattle.som_roundtrip.proofs.NumberedParts.{ClassReady, class_turns}
 
 -- ---- the directory of a release
 

@@ -45,7 +45,7 @@ use Rattle.som_numbering.proofs.TypedBlocks.{typed_is_ready}
 use Rattle.som_classimage.specs.ClassLimits.{BodyWithin, ClassWithin}
 use Rattle.som_numbering.specs.NumberedClasses.{EntryKnown, FaceKnown, BodyReady, OverrideReady}
 use Rattle.som_classimage.proofs.Conforming.{both_empty, not_broken, names_joined}
-use Rattle.som_numbering.proofs.NumberedParts.{ClassReady}
+use Rattle.som_roundtrip.proofs.NumberedParts.{ClassReady}
 
 -- ---- demands that hold
 
