@@ -11,14 +11,7 @@ use Rattle.som_scope.specs.Words.{once}
 use Rattle.som_alone.specs.declared.modifiers.Said.{Said as SaidTables}
 use Rattle.som_drafts.specs.Items.{Given, given, is_call, is_override, is_select, item_words, listed, replaced}
 use Rattle.som_drafts.specs.Drafts.{InterfaceDraft}
-
--- a breach by a member of the class of an interface
-abbrev pub text_breach : ℕ → InterfaceDraft → List ℕ → RuleBreach
-text_breach rule d member = record { rule = rule; class = d.class.face.name; member = member }
-
--- the same, unless the demand holds
-abbrev pub text_demand : ℕ → InterfaceDraft → List ℕ → Bool → List RuleBreach
-text_demand rule d member holds = if holds then [] else text_breach rule d member ∷ []
+use Rattle.som_refusals.specs.Demands.{text_breach}
 
 -- those of the names that stand a second time
 abbrev pub second : ℕ → InterfaceDraft → List (List ℕ) → List RuleBreach

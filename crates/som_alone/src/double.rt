@@ -6,12 +6,12 @@ ghost use Rattle.som_alone.specs.OwnRules.{second};
 ghost use Rattle.std.specs.Prelude.{◌≡◌, [], IfOk, option_copied};
 ghost use Rattle.std.specs.Str.{bytes_eq};
 
-use crate::passes::breach;
 use indexmap::IndexSet;
 use som_ancestry::VerifyFault;
 use som_drafts::Draft;
 use som_model::NoMemory;
 use som_order::note_name;
+use som_refusals::breach;
 use std::alloc::Global;
 
 /// Whether no name of a class stands twice, where a rule asks for it.

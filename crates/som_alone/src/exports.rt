@@ -9,6 +9,7 @@ ghost use Rattle.som_drafts.specs.Items as spec;
 ghost use Rattle.std.specs.Prelude.{◌≡◌, ◌++◌, ◌∷◌, [], flat_map, IfOk, OnOk};
 
 use indexmap::IndexSet;
+use som_drafts::prefixed;
 use som_model::{Entry, List, NoMemory, Sig, Text, ValueType, Way};
 use som_order::find_name;
 use som_scope::{Scope, result_of, type_of};
@@ -172,15 +173,6 @@ fn writer(
         params,
     };
     Ok(introduce(by_name, name, sig))
-}
-
-/// A name after a prefix.
-pub fn prefixed(alloc: Global, prefix: &[u8], name: &[u8]) -> Result<Text, NoMemory>
-    ensures { IfOk result (λ text. text ≡ prefix.now ++ name.now) }
-{
-    let mut bytes = Vec::from_slice(alloc, prefix)?;
-    bytes.extend_from_slice(name)?;
-    Ok(Text::from_vec(bytes))
 }
 
 fn introduce(by_name: &IndexSet<&[u8]>, name: Text, sig: Sig) -> Entry

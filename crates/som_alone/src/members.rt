@@ -1,20 +1,17 @@
 ghost use Rattle.som_model.specs.Class.{introduced};
 ghost use Rattle.som_model.specs.Lists.{first};
-ghost use Rattle.som_order.specs.Names.{texts};
 ghost use Rattle.som_ancestry.specs.Told.{Tells};
 ghost use Rattle.som_drafts.specs.Drafts.{plain_draft, plain_drafts};
 ghost use Rattle.som_drafts.specs.Items as spec;
 ghost use Rattle.som_alone.specs.OwnRules.{second, text_s12, text_s6};
 ghost use Rattle.som_drafts.specs.declared.drafts.Draft.{Draft as Known};
-ghost use Rattle.std.specs.Prelude.{◌≡◌, ◌<◌, length, flat_map, slice_get, IfOk, Some};
+ghost use Rattle.std.specs.Prelude.{◌≡◌, ◌<◌, length, flat_map, slice_get, Some};
 
 use crate::double::no_double;
-use crate::passes::each_draft;
 use crate::single::item_words;
 use som_ancestry::VerifyFault;
-use som_drafts::{Draft, listed};
-use som_model::{Entry, NoMemory};
-use som_scope::add;
+use som_drafts::{Draft, introduced_names, listed};
+use som_refusals::each_draft;
 use std::alloc::Global;
 
 /// S6: the names that a class introduces are distinct, and those of its release order are.
@@ -49,19 +46,6 @@ fn listed_differ(alloc: Global, draft: &Draft) -> Result<(), VerifyFault>
 {
     let names = listed(alloc, draft.text.items.as_slice())?;
     no_double(alloc, 6, draft, &names)
-}
-
-/// The names that entries introduce.
-pub fn introduced_names(alloc: Global, entries: &[Entry]) -> Result<Vec<&[u8]>, NoMemory>
-    ensures { IfOk result (λ names. texts names.items ≡ introduced entries.now) }
-{
-    let mut names = Vec::new(alloc);
-    for entry in entries {
-        if let Entry::Introduced { name, .. } = entry {
-            add(&mut names, name.as_slice())?;
-        }
-    }
-    Ok(names)
 }
 
 /// S12: the release order, the metaclass and the versions are said once.

@@ -10,13 +10,12 @@ ghost use Rattle.som_alone.specs.OwnRules as rules;
 ghost use Rattle.som_drafts.specs.declared.drafts.Draft.{Draft as Known};
 ghost use Rattle.std.specs.Prelude.{◌≡◌, ◌<◌, ◌++◌, ◌∷◌, ◌&&◌, true, not, [], length, map, flat_map, slice_get, option_copied, IfOk, Some};
 
-use crate::members::introduced_names;
-use crate::passes::{breach, each_draft};
 use indexmap::IndexSet;
 use som_ancestry::VerifyFault;
-use som_drafts::{Draft, Mark, marks, replaced};
+use som_drafts::{Draft, Mark, introduced_names, marks, replaced};
 use som_model::{Entry, NoMemory};
 use som_order::{find_name, note_name};
+use som_refusals::{breach, each_draft};
 use som_scope::table_of;
 use som_syntax::Modifier;
 use std::alloc::Global;

@@ -1,19 +1,11 @@
 -- The ancestors of classes by their places.
-use Rattle.std.specs.Prelude.{◌≡◌, ℕ, suc, ◌<◌, ◌==◌, Bool, false, if◌then◌else◌, List, [], ◌∷◌, ◌++◌, map, length, slice_index_or, Some}
+use Rattle.std.specs.Prelude.{◌≡◌, ℕ, suc, ◌<◌, ◌==◌, Bool, false, List, [], map, length, slice_index_or, Some}
 use Rattle.som_model.specs.Lists.{Mem, some}
 use Rattle.som_model.specs.Hierarchy.{Hierarchy}
 use Rattle.som_model.specs.Ancestors.{anc}
 use Rattle.som_model.specs.Class.{Class}
 use Rattle.som_model.specs.Classes.{class_at, hierarchy}
 use Rattle.som_ancestry.specs.Places.{class_of_place, key_at}
-
--- what is seen, and then what is new in the list, each once
-abbrev pub add_new : {A : Type 0} → (A → A → Bool) → List A → A → List A
-add_new same seen x = if some (same x) seen then seen else seen ++ x ∷ []
-
-abbrev pub adds : {A : Type 0} → (A → A → Bool) → List A → List A → List A
-adds same seen [] = seen
-adds same seen (x ∷ xs) = adds same (add_new same seen x) xs
 
 -- the hierarchy of the rows, where a class is higher than its place
 abbrev pub rows_of : List (List ℕ) → Hierarchy ℕ

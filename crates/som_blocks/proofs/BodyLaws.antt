@@ -23,7 +23,7 @@ use Rattle.som_ancestry.specs.Modules.{classes_of}
 use Rattle.som_ancestry.specs.Places.{class_of_place, with_kernel}
 use Rattle.som_kinds.proofs.Facts.{signature_said}
 use Rattle.som_ancestry.proofs.Finding.{mem_place}
-use Rattle.som_declarations.specs.declared.types.Refused.{Refused}
+use Rattle.som_refusals.specs.declared.types.Refused.{Refused}
 use Rattle.som_forms.specs.declared.fault.BodyFault.{BodyFault}
 use Rattle.som_forms.specs.declared.fault.BodyFault.TheVariants as faults
 use Rattle.som_blocks.specs.declared.contexts.ModuleContext.{ModuleContext}

@@ -17,7 +17,7 @@ use Rattle.som_model.specs.Steps.{◌>>=◌}
 use Rattle.som_model.specs.Typing.{class_facts}
 use Rattle.som_syntax.specs.declared.body.BodyText.{BodyText}
 use Rattle.som_kinds.proofs.Facts.{signature_said}
-use Rattle.som_declarations.specs.declared.types.Refused.{Refused}
+use Rattle.som_refusals.specs.declared.types.Refused.{Refused}
 use Rattle.som_methods.specs.Accessors.{body_of}
 use Rattle.som_drafts.specs.Drafts.{InterfaceDraft, plain_drafts, plain_draft}
 use Rattle.som_drafts.specs.declared.drafts.Draft.{Draft}

@@ -2,8 +2,8 @@
 use Rattle.std.proofs.Common.{◌≡◌, ℕ, ◌+◌, ◌<◌, ◌≤◌, List, [], ◌∷◌, ◌++◌, length, drop, get_or, Result, Ok, Err, refl, sym, ap, ◌∙◌, subst, append_assoc, append-nil}
 use Rattle.std.proofs.lemmas.List.{at_drop_more, at_drop_all}
 use Rattle.som_model.specs.Steps.{◌>>=◌}
-use Rattle.som_declarations.specs.declared.types.Refused.{Refused}
-use Rattle.som_declarations.specs.declared.types.Refused.TheVariants as refusals
+use Rattle.som_refusals.specs.declared.types.Refused.{Refused}
+use Rattle.som_refusals.specs.declared.types.Refused.TheVariants as refusals
 use Rattle.som_blocks.specs.Blocks.{Answers, Refusal}
 
 module _ {A B : Type 0} (c : Result A Refusal) (f : A → Result B Refusal) where

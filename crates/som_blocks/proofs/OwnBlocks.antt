@@ -11,7 +11,7 @@ use Rattle.som_model.specs.Class.{Class}
 use Rattle.som_model.specs.Owner.{owner, sig_of}
 use Rattle.som_model.specs.Steps.{◌>>=◌}
 use Rattle.som_syntax.specs.declared.body.BodyText.{BodyText}
-use Rattle.som_declarations.specs.declared.types.Refused.{Refused}
+use Rattle.som_refusals.specs.declared.types.Refused.{Refused}
 use Rattle.som_methods.specs.Accessors.{body_of}
 use Rattle.som_drafts.specs.Drafts.{InterfaceDraft}
 use Rattle.som_declarations.specs.Finished.{selects_at}

@@ -19,8 +19,8 @@ use Rattle.som_model.specs.Typing.{in_main}
 use Rattle.som_syntax.specs.declared.body.BodyText.{BodyText}
 use Rattle.som_syntax.specs.declared.body.BlockText.{BlockText}
 use Rattle.som_ancestry.specs.Told.{told}
-use Rattle.som_declarations.specs.declared.types.Refused.{Refused}
-use Rattle.som_declarations.specs.declared.types.Refused.TheVariants as faults
+use Rattle.som_refusals.specs.declared.types.Refused.{Refused}
+use Rattle.som_refusals.specs.declared.types.Refused.TheVariants as faults
 use Rattle.som_drafts.specs.Drafts.{InterfaceDraft}
 use Rattle.som_declarations.specs.Finished.{selects_at}
 use Rattle.som_methods.specs.Accessors.{body_of}

@@ -18,8 +18,8 @@ use Rattle.som_typing.specs.Bodies.{AllSigsKnown}
 use Rattle.som_introducers.specs.Introducers.{AreIntroducers}
 use Rattle.som_kinds.specs.Knowing.{IsKnowledge, all_of}
 use Rattle.som_ancestry.specs.Modules.{classes_of}
-use Rattle.som_declarations.specs.declared.types.Refused.{Refused}
-use Rattle.som_declarations.specs.declared.types.Refused.TheVariants as refusals
+use Rattle.som_refusals.specs.declared.types.Refused.{Refused}
+use Rattle.som_refusals.specs.declared.types.Refused.TheVariants as refusals
 use Rattle.som_methods.specs.Limits.{limit_passed}
 use Rattle.som_drafts.specs.Drafts.{InterfaceDraft, draft_classes}
 use Rattle.som_declarations.specs.Finished.{selects_at}

@@ -14,12 +14,12 @@ use crate::class_bodies::{ClassBodies, refusal};
 use crate::classes::all_bodies;
 use crate::contexts::ModuleContext;
 use som_ancestry::VerifyFault;
-use som_declarations::{Refused, refused};
 use som_drafts::Draft;
 use som_forms::main_body;
 use som_kinds::Knowledge;
 use som_methods::{ModuleTexts, bodies_counted, bodies_named, limits_kept};
 use som_model::{Block, List};
+use som_refusals::{Refused, refused};
 use som_syntax::BlockText;
 use std::alloc::Global;
 

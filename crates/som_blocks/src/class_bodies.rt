@@ -17,7 +17,7 @@ ghost use Rattle.std.specs.Prelude.{◌≡◌, ◌≤◌, length, true, IfOk, So
 
 use crate::contexts::ModuleContext;
 use som_ancestry::Broken;
-use som_declarations::{Refused, selects};
+use som_declarations::selects;
 use som_drafts::Draft;
 use som_forms::{BodyFault, method_body};
 use som_kinds::{decl_at, signature_of};
@@ -25,6 +25,7 @@ use som_methods::{ModuleTexts, accessors_of, body_named, first_for};
 use som_model::{
     Block, Body, Entry, List, MAX_LOCALS, MethodRef, NoMemory, Override, Select, Sig, Text,
 };
+use som_refusals::Refused;
 use som_syntax::BodyText;
 use std::alloc::Global;
 

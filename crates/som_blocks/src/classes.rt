@@ -9,10 +9,10 @@ ghost use Rattle.std.specs.Prelude.{◌≡◌, IfOk, None};
 use crate::class_bodies::{ClassBodies, class_bodies};
 use crate::contexts::ModuleContext;
 use som_ancestry::KERNEL_CLASSES;
-use som_declarations::Refused;
 use som_drafts::Draft;
 use som_methods::ModuleTexts;
 use som_model::{ClassDecl, List, NoMemory};
+use som_refusals::Refused;
 use std::alloc::Global;
 
 /// The bodies of classes, which are the last of all classes, or what is first wrong with one of them.

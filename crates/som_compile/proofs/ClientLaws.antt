@@ -8,7 +8,7 @@ use Rattle.som_lex.specs.declared.token.Tokens.{Tokens}
 use Rattle.som_syntax.specs.declared.body.MainFile.{MainFile}
 use Rattle.som_cliimage.specs.Limits.{IsWithinLimits}
 use Rattle.som_cliimage.proofs.Encoded.{image_there}
-use Rattle.som_declarations.specs.declared.types.Refused.{Refused}
+use Rattle.som_refusals.specs.declared.types.Refused.{Refused}
 use Rattle.som_blocks.specs.Blocks.{Answers, Refusal}
 use Rattle.som_compile.specs.declared.fault.TextFault.{TextFault}
 use Rattle.som_compile.specs.declared.fault.CompileFault.{CompileFault}

@@ -8,8 +8,8 @@ use Rattle.som_model.specs.Classes.{interface_classes}
 use Rattle.som_model.specs.Images.{client_image, library_image}
 use Rattle.som_syntax.specs.declared.body.MainFile.{MainFile}
 use Rattle.som_ancestry.specs.Faces.{faces_breach}
-use Rattle.som_declarations.specs.declared.types.Refused.{Refused}
-use Rattle.som_declarations.specs.declared.types.Refused.TheVariants as refusals
+use Rattle.som_refusals.specs.declared.types.Refused.{Refused}
+use Rattle.som_refusals.specs.declared.types.Refused.TheVariants as refusals
 use Rattle.som_scope.specs.Words.{interfaces_of}
 use Rattle.som_methods.specs.Bodies.{bodies_of}
 use Rattle.som_blocks.specs.Blocks.{Limit, Refusal, Rule}

@@ -6,10 +6,10 @@ ghost use Rattle.std.specs.Prelude.{◌≡◌, ◌≤◌, [], ◌∷◌, length}
 
 use crate::read::read_texts;
 use crate::{CompileFault, Source, TextFault};
-use som_declarations::Refused;
 use som_elab::{build_release, elaborate};
 use som_fields::EncodeFault;
 use som_model::{Interface, List};
+use som_refusals::Refused;
 use som_syntax::MainFile;
 use std::alloc::Global;
 

@@ -1,4 +1,3 @@
 pub mod Declaring
-pub mod Noting
 pub mod Introducers
 pub mod PlacedFaces

@@ -1,5 +1,3 @@
 pub mod Finished
-pub mod Noted
 pub mod Known
 pub mod Selecting
-pub mod Refusals

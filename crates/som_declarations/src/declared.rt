@@ -13,11 +13,10 @@ ghost use Rattle.som_drafts.specs.Items.{listed as listed_names};
 ghost use Rattle.som_introducers.specs.Introducers as names_first;
 ghost use Rattle.som_introducers.specs.Introducers.{AreIntroducers};
 ghost use Rattle.som_introducers.specs.Ranking.{IsRanking};
-ghost use Rattle.som_declarations.specs.Noted.{IsKnown, all_at, counted};
+ghost use Rattle.som_noted.specs.Noted.{IsKnown, all_at, counted};
 ghost use Rattle.std.specs.Prelude.{◌≡◌, ◌<◌, ◌+◌, ℕ, [], List as Seq, length, map, slice_get, slice_index_or, option_copied, unwrap_or, IfOk};
 
 use crate::faces::{key_at, ranking_above};
-use crate::places::{Noted, Places, first_place, note, place_table};
 use som_ancestry::Declared;
 use som_drafts::{Draft, listed, marks, overridden};
 use som_introducers::{Introducers, Ranking, first_introducer, introducers_of};
@@ -25,6 +24,7 @@ use som_model::{
     Block, ClassDecl, ClassFace, ClassKey, Entry, List, MethodRef, NoMemory, Override, Text,
     Variable,
 };
+use som_noted::{Noted, Places, first_place, note, place_table};
 use som_order::{effective_order, name_of};
 use som_syntax::Item;
 use std::alloc::Global;

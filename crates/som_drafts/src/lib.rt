@@ -5,9 +5,11 @@
 mod drafts;
 mod given;
 mod items;
+mod names;
 mod tables;
 
 pub use drafts::Draft;
 pub use given::{Mark, marks};
 pub use items::{listed, parent_names};
+pub use names::{introduced_names, prefixed};
 pub use tables::{overridden, replaced, selecting};

@@ -20,10 +20,10 @@ use Rattle.som_ancestry.specs.Places.{with_kernel}
 use Rattle.som_ancestry.specs.Told.{Tells}
 use Rattle.som_ancestry.specs.declared.types.VerifyFault.{VerifyFault}
 use Rattle.som_ancestry.specs.declared.types.VerifyFault.TheVariants as broken
-use Rattle.som_declarations.specs.declared.types.Refused.{Refused}
-use Rattle.som_declarations.specs.declared.types.Refused.TheVariants as refusals
+use Rattle.som_refusals.specs.declared.types.Refused.{Refused}
+use Rattle.som_refusals.specs.declared.types.Refused.TheVariants as refusals
 use Rattle.som_declarations.specs.Known.{after_base}
-use Rattle.som_declarations.specs.Refusals.{refused_by}
+use Rattle.som_refusals.specs.Refusals.{refused_by}
 use Rattle.som_sema.specs.Building.{FacesTold, declarations, module_over, most_classes, texts_breach}
 use Rattle.som_methods.specs.Limits.{KeepsLimit, Passed, limit_passed}
 use Rattle.som_drafts.specs.Drafts.{InterfaceDraft, draft_classes}

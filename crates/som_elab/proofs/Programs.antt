@@ -10,7 +10,7 @@ use Rattle.som_model.specs.Steps.{◌>>=◌}
 use Rattle.som_syntax.specs.declared.interface.IdlInterface.{IdlInterface}
 use Rattle.som_syntax.specs.declared.body.BodyText.{BodyText}
 use Rattle.som_syntax.specs.declared.body.BlockText.{BlockText}
-use Rattle.som_declarations.specs.declared.types.Refused.{Refused}
+use Rattle.som_refusals.specs.declared.types.Refused.{Refused}
 use Rattle.som_elab.specs.declared.elaborated.ElaboratedModule.{ElaboratedModule}
 use Rattle.som_blocks.specs.Blocks.{Answers, Refusal, elaborated_main}
 use Rattle.som_elab.specs.Elaboration.{among_over, elaborated_classes, elaborated_program, elaborated_release, nothing_before}

@@ -9,8 +9,8 @@ ghost use Rattle.som_scope.specs.Words.{interfaces_of};
 ghost use Rattle.std.specs.Prelude.{◌≡◌, IfOk, None};
 
 use crate::elaborated::{ElaboratedModule, elaborate_module};
-use som_declarations::Refused;
 use som_model::{ClientProgram, Interface, List, Module, Release};
+use som_refusals::Refused;
 use som_syntax::{BodyFile, IdlFile, MainFile};
 use std::alloc::Global;
 

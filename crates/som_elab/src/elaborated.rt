@@ -22,13 +22,14 @@ ghost use Rattle.std.specs.Prelude.{◌≡◌, ℕ, length, map, option_copied, 
 
 use som_ancestry::{Declared, bare_classes};
 use som_blocks::{AllBodies, ModuleContext, checked_bodies, completed_classes};
-use som_declarations::{Refused, known_classes, refused};
+use som_declarations::known_classes;
 use som_drafts::Draft;
 use som_introducers::{Introducers, introducers_of};
 use som_kernel::kernel_faces;
 use som_kinds::know;
 use som_methods::{ModuleTexts, all_texts};
 use som_model::{Block, ClassDecl, Interface, List, Module, NoMemory};
+use som_refusals::{Refused, refused};
 use som_scope::{Scope, scope_of};
 use som_sema::{all_interfaces, build_faces};
 use som_syntax::{BlockText, BodyFile, BodyText, IdlFile, IdlInterface};

@@ -15,8 +15,8 @@ use Rattle.som_methods.specs.PlainLimits.{LimitsKept}
 use Rattle.som_methods.specs.Limits.{KeepsLimit, Passed, at_most, class_limits, entry_limits, limit_passed}
 use Rattle.som_drafts.specs.Drafts.{InterfaceDraft, plain_draft, plain_drafts}
 use Rattle.som_drafts.specs.declared.drafts.Draft.{Draft}
-use Rattle.som_declarations.specs.declared.types.Refused.{Refused}
-use Rattle.som_declarations.specs.declared.types.Refused.TheVariants as refusals
+use Rattle.som_refusals.specs.declared.types.Refused.{Refused}
+use Rattle.som_refusals.specs.declared.types.Refused.TheVariants as refusals
 use Rattle.som_drafts.specs.Items.{chosen}
 
 kept_by : (b : Bool) (p : Passed) → first (if b then [] else p ∷ []) ≡ None → b ≡ true

@@ -9,7 +9,7 @@ use Rattle.som_model.specs.Typing.{class_facts}
 use Rattle.som_syntax.specs.declared.interface.IdlInterface.{IdlInterface}
 use Rattle.som_syntax.specs.declared.interface.Export.{Export}
 use Rattle.som_kinds.proofs.Facts.{signature_said}
-use Rattle.som_declarations.specs.Noted.{first_place}
+use Rattle.som_noted.specs.Noted.{first_place}
 use Rattle.som_drafts.specs.Drafts.{InterfaceDraft, plain_drafts, plain_draft}
 use Rattle.som_drafts.specs.declared.drafts.Draft.{Draft}
 use Rattle.som_methods.specs.Bodies.{draft_named, operation_name, operations, overridden_sig, override_sig}

@@ -9,7 +9,7 @@ use Rattle.som_syntax.specs.declared.body.BodyText.{BodyText}
 use Rattle.som_ancestry.specs.Told.{Tells}
 use Rattle.som_ancestry.specs.declared.types.VerifyFault.{VerifyFault}
 use Rattle.som_drafts.specs.Drafts.{InterfaceDraft}
-use Rattle.som_alone.specs.OwnRules.{text_demand}
+use Rattle.som_refusals.specs.Demands.{text_demand}
 use Rattle.som_methods.specs.Bodies.{entry_has_one, has_one, operations, text_s14, texts_for}
 use Rattle.som_methods.specs.Texts.{of_class}
 

@@ -13,7 +13,7 @@ use Rattle.som_syntax.specs.declared.interface.Export.TheVariants as exports
 use Rattle.som_syntax.specs.declared.body.BodyFile.{BodyFile}
 use Rattle.som_syntax.specs.declared.body.BodyText.{BodyText}
 use Rattle.som_drafts.specs.Drafts.{InterfaceDraft}
-use Rattle.som_alone.specs.OwnRules.{text_demand}
+use Rattle.som_refusals.specs.Demands.{text_demand}
 
 -- the bodies of all files, in order
 abbrev pub bodies_of : List BodyFile → List BodyText

@@ -7,8 +7,8 @@ use Rattle.som_model.specs.Lists.{first}
 use Rattle.som_syntax.specs.declared.interface.Item.{Item}
 use Rattle.som_drafts.specs.Drafts.{InterfaceDraft}
 use Rattle.som_drafts.specs.Items.{Chosen, chosen, chosen_by, given_in}
-use Rattle.som_declarations.specs.declared.types.Refused.{Refused}
-use Rattle.som_declarations.specs.declared.types.Refused.TheVariants as faults
+use Rattle.som_refusals.specs.declared.types.Refused.{Refused}
+use Rattle.som_refusals.specs.declared.types.Refused.TheVariants as faults
 
 -- a limit that is passed
 pub record Passed : Type 0 where

@@ -3,7 +3,7 @@ use Rattle.std.specs.Prelude.{ℕ, suc, if◌then◌else◌, List, [], ◌∷◌
 use Rattle.std.specs.Borrow.{Bor}
 use Rattle.std.specs.Str.{bytes_eq}
 use Rattle.som_syntax.specs.declared.body.BodyText.{BodyText}
-use Rattle.som_declarations.specs.Noted.{At}
+use Rattle.som_noted.specs.Noted.{At}
 use Rattle.som_drafts.specs.Drafts.{InterfaceDraft}
 
 -- the bodies that are borrowed

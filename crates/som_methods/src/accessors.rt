@@ -5,7 +5,7 @@ ghost use Rattle.som_syntax.specs.declared.words.Word.{Word as Named};
 ghost use Rattle.std.specs.Prelude.{◌≡◌, ◌++◌, map, flat_map, option_map, option_copied, IfOk, OnOk};
 ghost use Rattle.std.specs.Str.{bytes_eq};
 
-use som_alone::prefixed;
+use som_drafts::prefixed;
 use som_model::{NoMemory, Text};
 use som_syntax::{Export, IdlInterface, Word};
 use std::alloc::Global;

@@ -11,9 +11,9 @@ ghost use Rattle.std.specs.Prelude.{◌≡◌, ◌<◌, ◌==◌, length, flat_m
 use crate::grouped::ModuleTexts;
 use crate::operations::is_operation;
 use crate::texts::count_for;
-use som_alone::{breach, each_draft, introduced_names};
 use som_ancestry::VerifyFault;
-use som_drafts::Draft;
+use som_drafts::{Draft, introduced_names};
+use som_refusals::{breach, each_draft};
 use som_syntax::BodyText;
 use std::alloc::Global;
 

@@ -5,12 +5,12 @@ ghost use Rattle.som_drafts.specs.Drafts.{plain_draft, plain_drafts};
 ghost use Rattle.std.specs.Prelude.{flat_map};
 
 use crate::selects::selected;
-use som_declarations::Refused;
 use som_drafts::Draft;
 use som_model::{
     Entry, MAX_ENTRIES, MAX_OVERRIDES, MAX_PARAMETERS, MAX_PARENTS, MAX_SELECTS, MAX_VARIABLES,
     Text,
 };
+use som_refusals::Refused;
 use std::alloc::Global;
 
 /// No class passes a limit.

@@ -14,7 +14,8 @@ use Rattle.som_ancestry.specs.Places.{key_at}
 use Rattle.som_lawful.specs.Typed.{entry_types, variable_types}
 use Rattle.som_drafts.specs.Drafts.{InterfaceDraft}
 use Rattle.som_drafts.specs.Items.{Given, given, item_words, listed, metaclass_names}
-use Rattle.som_alone.specs.OwnRules.{second, text_breach, text_s6, text_s11, text_s12}
+use Rattle.som_refusals.specs.Demands.{text_breach}
+use Rattle.som_alone.specs.OwnRules.{second, text_s6, text_s11, text_s12}
 use Rattle.som_sema.specs.TextRules.{base_stands, bases, makes_classes, replaces_inherited, text_s10, text_s10_from, text_s2, text_s2_from, text_s4}
 
 -- all of these breaches are of a rule

@@ -27,8 +27,8 @@ use Rattle.som_lawful.proofs.PlainLists.{map_mem, none_flat}
 use Rattle.som_declarations.specs.Known.{after_base}
 use Rattle.som_sema.specs.Building.{declarations}
 use Rattle.som_drafts.specs.Drafts.{InterfaceDraft}
+use Rattle.som_refusals.specs.Demands.{text_demand}
 use Rattle.som_sema.proofs.TextBases.{demanded_text}
-use Rattle.som_alone.specs.OwnRules.{text_demand}
 use Rattle.som_methods.specs.Bodies.{bodies_breach, body_sig, draft_named, entry_has_one, has_one, operations, override_sig, overridden_sig, stands_for, takes_as_many, text_s13, text_s14, texts_for}
 use Rattle.som_elab.specs.Elaboration.{classes_over, drafts_over}
 use Rattle.som_elab.proofs.Declared.{drafts_are, find_mem, own}

@@ -9,8 +9,8 @@ use Rattle.som_syntax.specs.declared.interface.IdlInterface.{IdlInterface}
 use Rattle.som_ancestry.specs.Told.{Tells}
 use Rattle.som_ancestry.specs.declared.types.VerifyFault.{VerifyFault}
 use Rattle.som_ancestry.specs.declared.types.VerifyFault.TheVariants as verify
-use Rattle.som_declarations.specs.declared.types.Refused.{Refused}
-use Rattle.som_declarations.specs.Refusals.{refused_by}
+use Rattle.som_refusals.specs.declared.types.Refused.{Refused}
+use Rattle.som_refusals.specs.Refusals.{refused_by}
 use Rattle.som_sema.specs.Building.{FacesTold, declarations, declared_all, draft_rules_breach, module_over, most_classes, texts_breach}
 use Rattle.som_drafts.specs.Drafts.{InterfaceDraft, draft_of}
 

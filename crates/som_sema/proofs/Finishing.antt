@@ -21,7 +21,7 @@ use Rattle.som_declarations.specs.Finished.{declare, declare_at, declared_from}
 use Rattle.som_drafts.specs.Drafts.{InterfaceDraft, draft_classes}
 use Rattle.som_sema.specs.Ancestry.{IsAncestorTable}
 use Rattle.som_sema.specs.declared.ancestry.AncestorTable.{AncestorTable}
-use Rattle.som_declarations.proofs.Noting.{at_end}
+use Rattle.som_noted.proofs.Noting.{at_end}
 use Rattle.som_sema.proofs.Alike.{alike_both, alike_declared, alike_self, alike_table}
 
 -- the classes stand at the places that follow each other

@@ -26,8 +26,9 @@ use Rattle.som_lawful.proofs.PlainNames.{demand_none}
 use Rattle.som_scope.specs.ClassNames.{key_of}
 use Rattle.som_drafts.specs.Items.{listed, metaclass_names}
 use Rattle.som_drafts.specs.Drafts.{InterfaceDraft, draft_class, draft_classes}
+use Rattle.som_refusals.specs.Demands.{text_breach}
 use Rattle.som_declarations.specs.Finished.{declare, entry_for, entry_or_moved, introducer}
-use Rattle.som_alone.specs.OwnRules.{second, text_breach, text_s6}
+use Rattle.som_alone.specs.OwnRules.{second, text_s6}
 use Rattle.som_sema.specs.TextRules.{makes_classes, text_s4}
 use Rattle.som_sema.proofs.Outlines.{outline}
 use Rattle.som_sema.proofs.TextBases.{demanded_text}

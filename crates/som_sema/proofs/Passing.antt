@@ -13,7 +13,7 @@ use Rattle.som_ancestry.proofs.Passes.{first_both}
 use Rattle.som_scope.specs.Words.{once}
 use Rattle.som_drafts.specs.Drafts.{InterfaceDraft}
 use Rattle.som_drafts.specs.Items.{Given}
-use Rattle.som_alone.specs.OwnRules.{text_breach, text_demand}
+use Rattle.som_refusals.specs.Demands.{text_breach, text_demand}
 use Rattle.som_sema.specs.TextRules.{may_take, replaces}
 use Rattle.som_sema.proofs.TextLaws.{mem_of_once, says_once}
 

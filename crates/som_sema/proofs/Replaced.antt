@@ -30,7 +30,7 @@ use Rattle.som_ancestry.proofs.Before.{none_both}
 use Rattle.som_ancestry.proofs.Owners.{mem_middle}
 use Rattle.som_lawful.proofs.PlainLists.{apart_differ, differ_apart, map_mem, mem_map}
 use Rattle.som_lawful.proofs.PlainMoves.{descent, lower, says_inherits}
-use Rattle.som_ancestry.specs.Walk.{add_new, adds}
+use Rattle.som_order.specs.Once.{add_new, adds}
 use Rattle.som_scope.specs.ClassNames.{key_of}
 use Rattle.som_drafts.specs.Items.{Chosen, Given, chosen, chosen_by, chosen_in, given, is_override, is_select, or_object, overridden, replaced, selecting, with_modifier}
 use Rattle.som_syntax.specs.declared.interface.Modifier.{Modifier}
@@ -40,7 +40,7 @@ use Rattle.som_declarations.specs.Finished.{declare, introducer, override_of, pl
 use Rattle.som_alone.specs.OwnRules.{text_s11}
 use Rattle.som_sema.specs.TextRules.{is_inherited, text_s10, text_s10_from}
 use Rattle.som_sema.proofs.Introducing.{AllSame, all_both, all_self, introduced_mem, introduced_so, own_same}
-use Rattle.som_declarations.proofs.Noting.{at_end}
+use Rattle.som_noted.proofs.Noting.{at_end}
 use Rattle.som_sema.proofs.Outlines.{hierarchy_outline, outline, same_descent}
 use Rattle.som_sema.proofs.OwnClasses.{join_apart, left_apart}
 use Rattle.som_sema.proofs.TextInherited.{Takes, inherits_from, overridden_says, selected_says}

@@ -20,7 +20,7 @@ use Rattle.som_drafts.specs.declared.drafts.Draft.{Draft}
 use Rattle.som_scope.specs.ClassNames.{key_of}
 use Rattle.som_drafts.specs.Items.{metaclass_names, or_object}
 use Rattle.som_drafts.specs.Drafts.{InterfaceDraft, plain_drafts, draft_of, plain_draft, draft_class, draft_classes}
-use Rattle.som_alone.specs.OwnRules.{text_demand}
+use Rattle.som_refusals.specs.Demands.{text_demand}
 use Rattle.som_sema.specs.TextRules.{base_stands, bases, text_s2, text_s2_from}
 use Rattle.som_sema.specs.Ancestry.{AreDrafts}
 

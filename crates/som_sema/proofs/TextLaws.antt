@@ -19,7 +19,7 @@ use Rattle.som_syntax.specs.declared.interface.Item.TheVariants as items
 use Rattle.som_syntax.specs.declared.interface.Modifier.{Modifier}
 use Rattle.som_syntax.specs.declared.interface.Modifier.TheVariants as modifiers
 use Rattle.som_lawful.specs.Plainly.{Differ, IsAmong}
-use Rattle.som_ancestry.specs.Walk.{add_new, adds}
+use Rattle.som_order.specs.Once.{add_new, adds}
 use Rattle.som_ancestry.proofs.Before.{both_none, none_both}
 use Rattle.som_ancestry.proofs.Owners.{flat_none}
 use Rattle.som_lawful.proofs.PlainLists.{apart_by, apart_differ, by_apart, differ_apart, map_mem, map_none, mem_map, none_flat, none_map}
@@ -29,7 +29,8 @@ use Rattle.som_scope.specs.ClassNames.{key_of}
 use Rattle.som_drafts.specs.Items.{Given, given, is_call, is_override, is_select, item_words, listed, metaclass_in, metaclass_names, or_object, replaced, with_modifier}
 use Rattle.som_scope.specs.Words.{once}
 use Rattle.som_drafts.specs.Drafts.{InterfaceDraft}
-use Rattle.som_alone.specs.OwnRules.{Said, may_be, misplaced, nothing_said, said_after, second, text_breach, text_demand, text_s6, text_s11, text_s12}
+use Rattle.som_refusals.specs.Demands.{text_breach, text_demand}
+use Rattle.som_alone.specs.OwnRules.{Said, may_be, misplaced, nothing_said, said_after, second, text_s6, text_s11, text_s12}
 use Rattle.som_sema.specs.TextRules.{base_stands, bases, makes_classes, text_s2, text_s2_from, text_s4}
 use Rattle.som_sema.specs.PlainTexts.{BasesStand, ItemsDiffer, MetaclassesDescend, ModifiersStand, NamesDiffer}
 use Rattle.som_sema.proofs.TextBases.{demanded_text}

@@ -13,8 +13,8 @@ use Rattle.som_model.specs.Rules.{RuleBreach, s1, s3, s5, s7, s8, s9}
 use Rattle.som_syntax.specs.declared.interface.IdlInterface.{IdlInterface}
 use Rattle.som_ancestry.specs.Places.{with_kernel}
 use Rattle.som_ancestry.specs.Told.{told}
-use Rattle.som_declarations.specs.declared.types.Refused.{Refused}
-use Rattle.som_declarations.specs.declared.types.Refused.TheVariants as faults
+use Rattle.som_refusals.specs.declared.types.Refused.{Refused}
+use Rattle.som_refusals.specs.declared.types.Refused.TheVariants as faults
 use Rattle.som_scope.specs.Words.{interface_names, once}
 use Rattle.som_scope.specs.ClassNames.{face_names, kernel_names, module_by_names}
 use Rattle.som_drafts.specs.Drafts.{InterfaceDraft, draft_of, draft_classes}

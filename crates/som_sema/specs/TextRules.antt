@@ -15,7 +15,7 @@ use Rattle.som_scope.specs.ClassNames.{key_of}
 use Rattle.som_ancestry.specs.Places.{key_at}
 use Rattle.som_drafts.specs.Items.{Given, given, metaclass_names, or_object, selecting}
 use Rattle.som_drafts.specs.Drafts.{InterfaceDraft}
-use Rattle.som_alone.specs.OwnRules.{text_demand}
+use Rattle.som_refusals.specs.Demands.{text_demand}
 use Rattle.som_declarations.specs.Finished.{introducer}
 
 -- the names of the parents, and then of the metaclass items

@@ -14,10 +14,11 @@ ghost use Rattle.som_drafts.specs.declared.drafts.Draft.{Draft as Known};
 ghost use Rattle.std.specs.Prelude.{◌≡◌, ◌<◌, ◌+◌, length, take, flat_map, is_some, slice_get, IfOk, Some};
 
 use indexmap::IndexSet;
-use som_alone::{base_names, breach, each_draft, metaclass_names};
+use som_alone::{base_names, metaclass_names};
 use som_ancestry::{Declared, KERNEL_CLASSES, VerifyFault, descends_by, find_class};
 use som_drafts::Draft;
 use som_model::{List, NoMemory};
+use som_refusals::{breach, each_draft};
 use som_scope::{Scope, key_of};
 use std::alloc::Global;
 

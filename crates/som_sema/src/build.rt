@@ -19,13 +19,14 @@ use crate::inherited::replaced_inherited;
 use crate::rules::{drafts_hold, moves_hold};
 use som_alone::{drafts_of, items_differ, modifiers_stand};
 use som_ancestry::{Declared, KERNEL_CLASSES, VerifyFault, bare_classes, declare};
-use som_declarations::{Refused, declarations, known_classes, refused};
+use som_declarations::{declarations, known_classes};
 use som_drafts::Draft;
 use som_kernel::kernel_faces;
 use som_model::{
     ClassDecl, ClassFace, Interface, List, MAX_CLIENT_CLASSES, MAX_LIBRARY_CLASSES, Module,
     NoMemory, Text,
 };
+use som_refusals::{Refused, refused};
 use som_scope::{Scope, scope_of};
 use som_syntax::{IdlFile, IdlInterface};
 use std::alloc::Global;

@@ -19,13 +19,13 @@ ghost use Rattle.std.specs.Prelude.{◌≡◌, ◌<◌, ◌+◌, length, map, fl
 use crate::ancestry::AncestorTable;
 use crate::bases::descends_from;
 use indexmap::IndexSet;
-use som_alone::breach;
 use som_ancestry::{Declared, VerifyFault};
 use som_declarations::{introducer_place, ranking_above};
 use som_drafts::{Draft, Mark, marks, parent_names, selecting};
 use som_introducers::{Introducers, Ranking, introducers_of};
 use som_model::{ClassFace, NoMemory};
 use som_order::find_name;
+use som_refusals::breach;
 use som_scope::{Scope, table_of};
 use som_syntax::Modifier;
 use std::alloc::Global;

@@ -1,6 +1,6 @@
 use Rattle.std.proofs.Common.{sym, ◌∙◌}
-use Rattle.som_declarations.specs.Noted.{counted}
-use Rattle.som_declarations.proofs.Noting.{counted_at, counted_none}
+use Rattle.som_noted.specs.Noted.{counted}
+use Rattle.som_noted.proofs.Noting.{counted_at, counted_none}
 use Rattle.som_declarations.proofs.declared.entry_at.Goals as goal
 
 pub returns-in-None : goal.returns-in-None

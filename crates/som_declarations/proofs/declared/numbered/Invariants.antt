@@ -1,5 +1,5 @@
 use Rattle.std.proofs.Common.{◌≡◌, ◌++◌, drop}
-use Rattle.som_declarations.specs.Noted.{all_at, counted}
+use Rattle.som_noted.specs.Noted.{all_at, counted}
 use Rattle.som_declarations.proofs.declared.numbered.Given as goal
 
 abbrev pub invariant-loop-place : goal.invariant-loop-place

@@ -1,5 +1,5 @@
 use Rattle.std.proofs.Common.{◌≡◌, ◌++◌, drop}
-use Rattle.som_declarations.specs.Noted.{all_at}
+use Rattle.som_noted.specs.Noted.{all_at}
 use Rattle.som_drafts.specs.Drafts.{plain_drafts}
 use Rattle.som_methods.specs.Texts.{class_places}
 use Rattle.som_methods.proofs.named_bodies.class_places.Given as goal

@@ -1,4 +1,4 @@
-ghost use Rattle.som_declarations.specs.Refusals.{refused_by};
+ghost use Rattle.som_refusals.specs.Refusals.{refused_by};
 ghost use Rattle.std.specs.Prelude.{◌≡◌};
 
 use crate::types::Refused;

@@ -1,8 +1,8 @@
 -- Why texts stand for no classes, as the code tells it.
 use Rattle.som_ancestry.specs.declared.types.VerifyFault.{VerifyFault}
 use Rattle.som_ancestry.specs.declared.types.VerifyFault.TheVariants as verify
-use Rattle.som_declarations.specs.declared.types.Refused.{Refused}
-use Rattle.som_declarations.specs.declared.types.Refused.TheVariants as faults
+use Rattle.som_refusals.specs.declared.types.Refused.{Refused}
+use Rattle.som_refusals.specs.declared.types.Refused.TheVariants as faults
 
 -- a breach or want of memory, as it is answered
 abbrev pub refused_by : VerifyFault → Refused

@@ -11,7 +11,7 @@ pub enum Refused {
 
 impl From<NoMemory> for Refused {
     ghost use Rattle.std.specs.Prelude.{◌≡◌};
-    ghost use Rattle.som_declarations.specs.declared.types.Refused.TheVariants as faults;
+    ghost use Rattle.som_refusals.specs.declared.types.Refused.TheVariants as faults;
 
     ghost from_gives = { λ _ e. e ≡ faults.NoMemory };
 

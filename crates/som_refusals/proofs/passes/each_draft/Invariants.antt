@@ -5,7 +5,7 @@ use Rattle.som_drafts.specs.Drafts.{InterfaceDraft, plain_drafts, plain_draft}
 use Rattle.som_drafts.specs.declared.drafts.Draft.{Draft}
 use Rattle.som_ancestry.specs.declared.types.VerifyFault.{VerifyFault}
 use Rattle.som_ancestry.specs.Told.{Tells}
-use Rattle.som_alone.proofs.passes.each_draft.Given as goal
+use Rattle.som_refusals.proofs.passes.each_draft.Given as goal
 
 abbrev pub invariant-loop-place : goal.invariant-loop-place
 invariant-loop-place g l = (one : InterfaceDraft → List RuleBreach)

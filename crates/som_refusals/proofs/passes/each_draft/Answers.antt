@@ -3,7 +3,7 @@ use Rattle.std.proofs.lemmas.Result.{err_from_is_err_and}
 use Rattle.som_model.specs.Lists.{first}
 use Rattle.som_drafts.specs.Drafts.{plain_drafts, plain_draft}
 use Rattle.som_ancestry.proofs.Passes.{goes_on, stops, all_pass}
-use Rattle.som_alone.proofs.passes.each_draft.Goals as goal
+use Rattle.som_refusals.proofs.passes.each_draft.Goals as goal
 
 pub returns-in_err-rule : goal.returns-in_err-rule
 returns-in_err-rule g c = λ one f.

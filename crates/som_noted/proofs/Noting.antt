@@ -11,8 +11,8 @@ use Rattle.som_order.specs.Names.{name_at}
 use Rattle.som_laws.proofs.Members.{both_or_none}
 use Rattle.som_ancestry.proofs.Doubled.{take_last}
 use Rattle.som_ancestry.proofs.Numbering.{map_append}
-use Rattle.som_declarations.specs.Noted.{At, Know, all_at, at, counted, first_place}
-use Rattle.som_declarations.specs.declared.places.Noted.{Noted}
+use Rattle.som_noted.specs.Noted.{At, Know, all_at, at, counted, first_place}
+use Rattle.som_noted.specs.declared.places.Noted.{Noted}
 
 pub bytes_swap : (x y : List ℕ) → bytes_eq x y ≡ bytes_eq y x
 bytes_swap x y = both_or_none (bytes_eq x y) (bytes_eq y x)

@@ -2,8 +2,8 @@ use Rattle.std.proofs.Common.{◌∷◌, ◌+◌, drop, ap, refl, ◌∙◌}
 use Rattle.som_model.specs.Class.{introduced}
 use Rattle.som_order.specs.Names.{texts}
 use Rattle.som_scope.proofs.Going.{next_none, next_value, rest_end}
-use Rattle.som_alone.proofs.members.introduced_names.Goals as goal
-use Rattle.som_alone.proofs.members.introduced_names.Goals.{in-Introduced+in_ok-add, in_default}
+use Rattle.som_drafts.proofs.names.introduced_names.Goals as goal
+use Rattle.som_drafts.proofs.names.introduced_names.Goals.{in-Introduced+in_ok-add, in_default}
 
 pub loop-entry-preserved : goal.loop-entry-preserved
 loop-entry-preserved c = elim c.match-entry.branch [

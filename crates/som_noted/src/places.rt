@@ -1,5 +1,5 @@
-ghost use Rattle.som_declarations.specs.Noted as spec;
-ghost use Rattle.som_declarations.specs.Noted.{At, IsKnown, all_at};
+ghost use Rattle.som_noted.specs.Noted as spec;
+ghost use Rattle.som_noted.specs.Noted.{At, IsKnown, all_at};
 ghost use Rattle.std.specs.Prelude.{◌≡◌, ◌++◌, ◌∷◌, [], if◌then◌else◌, List as Seq, IfOk, OnErr, OnOk};
 
 use indexmap::IndexSet;

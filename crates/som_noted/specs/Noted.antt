@@ -5,8 +5,8 @@ use Rattle.som_model.specs.Lists.{among}
 use Rattle.som_model.specs.Class.{entry_name}
 use Rattle.som_model.specs.declared.class.Entry.{Entry}
 use Rattle.som_order.specs.Names.{name_at, texts}
-use Rattle.som_declarations.specs.declared.places.Noted.{Noted}
-use Rattle.som_declarations.specs.declared.places.Places.{Places}
+use Rattle.som_noted.specs.declared.places.Noted.{Noted}
+use Rattle.som_noted.specs.declared.places.Places.{Places}
 
 pub record At : Type 0 where
   pub name : List ℕ

@@ -1,0 +1,29 @@
+ghost use Rattle.som_model.specs.Class.{introduced};
+ghost use Rattle.som_order.specs.Names.{texts};
+ghost use Rattle.std.specs.Prelude.{◌≡◌, ◌++◌, IfOk};
+
+use som_model::{Entry, NoMemory, Text};
+use som_scope::add;
+use std::alloc::Global;
+
+/// The names that entries introduce.
+pub fn introduced_names(alloc: Global, entries: &[Entry]) -> Result<Vec<&[u8]>, NoMemory>
+    ensures { IfOk result (λ names. texts names.items ≡ introduced entries.now) }
+{
+    let mut names = Vec::new(alloc);
+    for entry in entries {
+        if let Entry::Introduced { name, .. } = entry {
+            add(&mut names, name.as_slice())?;
+        }
+    }
+    Ok(names)
+}
+
+/// A name after a prefix.
+pub fn prefixed(alloc: Global, prefix: &[u8], name: &[u8]) -> Result<Text, NoMemory>
+    ensures { IfOk result (λ text. text ≡ prefix.now ++ name.now) }
+{
+    let mut bytes = Vec::from_slice(alloc, prefix)?;
+    bytes.extend_from_slice(name)?;
+    Ok(Text::from_vec(bytes))
+}
