@@ -13,10 +13,11 @@ use Rattle.som_model.proofs.KeyLaws.{exact_keys}
 use Rattle.som_model.proofs.NamedLaws.{height_named, hierarchy_parents, hierarchy_same, parents_named}
 use Rattle.som_order.specs.Names.{name_at}
 use Rattle.som_ancestry.specs.Places.{with_kernel, class_of_place, key_at, face_at, module_at, IsTable, IsRows}
-use Rattle.som_ancestry.specs.Walk.{rows_of, AreAncestors, AreLists}
+use Rattle.som_laws.specs.Rows.{rows_of, AreAncestors}
+use Rattle.som_ancestry.specs.Walk.{AreLists}
 use Rattle.som_ancestry.proofs.Finding.{key_named, named_there}
 use Rattle.som_ancestry.proofs.Numbering.{numbered}
-use Rattle.som_ancestry.proofs.Listed.{known_low}
+use Rattle.som_laws.proofs.Listed.{known_low}
 
 class_first : (cs : List Class) (k : ClassKey) (a : ℕ) → a < length cs → ((j : ℕ) → j < a → same_key (key_at cs j) k ≡ false) → same_key (key_at cs a) k ≡ true → class_at cs k ≡ Some (class_of_place cs a)
 class_first [] k a lt f e = absurd (omega arith)

@@ -5,8 +5,6 @@ pub mod ClassTable
 pub mod Finding
 pub mod Rows
 pub mod Numbering
-pub mod WalkLaw
-pub mod Listed
 pub mod KeyLists
 pub mod Before
 pub mod Descending

@@ -1,6 +1,6 @@
 ghost use Rattle.som_model.specs.Lists.{Mem, joined, some};
-ghost use Rattle.som_order.specs.Once.{add_new, adds};
-ghost use Rattle.som_ancestry.specs.Walk.{AreAncestors, AreLow, AreMarks};
+ghost use Rattle.som_laws.specs.Once.{add_new, adds};
+ghost use Rattle.som_laws.specs.Rows.{AreAncestors, AreLow, AreMarks};
 ghost use Rattle.std.specs.Prelude.{◌≡◌, ◌==◌, ℕ, ◌+◌, ◌<◌, ◌≤◌, ◌∷◌, [], map, length, slice_index_or, IfOk, OnOk};
 
 use som_model::{List, NoMemory};

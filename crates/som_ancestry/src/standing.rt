@@ -6,7 +6,8 @@ ghost use Rattle.som_ancestry.specs.Faces.{standing_breach};
 ghost use Rattle.som_ancestry.specs.Modules.{classes_of};
 ghost use Rattle.som_ancestry.specs.Places.{IsTable, with_kernel};
 ghost use Rattle.som_ancestry.specs.Told.{Tells};
-ghost use Rattle.som_ancestry.specs.Walk.{AreAncestors, AreLists, AreLow};
+ghost use Rattle.som_laws.specs.Rows.{AreAncestors, AreLow};
+ghost use Rattle.som_ancestry.specs.Walk.{AreLists};
 ghost use Rattle.std.specs.Prelude.{◌≡◌, ◌++◌, length, flat_map, map, IfOk};
 
 use crate::ancestry::ancestors;

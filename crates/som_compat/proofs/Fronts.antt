@@ -13,7 +13,7 @@ use Rattle.som_laws.proofs.Members.{mem_left, mem_right, mem_split, joined_mem, 
 use Rattle.som_laws.proofs.Laws.{ancestors as ancestors_are, descends_test, descends_through}
 use Rattle.som_ancestry.specs.Places.{class_of_place, key_at, face_at, Finds}
 use Rattle.som_lawful.specs.Plainly.{IsAmong}
-use Rattle.som_order.specs.Once.{adds}
+use Rattle.som_laws.specs.Once.{adds}
 use Rattle.som_ancestry.proofs.DeclaredClasses.{long_map}
 use Rattle.som_lawful.proofs.PlainLists.{mem_map, map_mem}
 use Rattle.som_compat.specs.declared.rows.Row.{Row}

@@ -6,7 +6,7 @@ use Rattle.som_model.specs.Ancestors.{Descends}
 use Rattle.som_model.specs.Class.{Class}
 use Rattle.som_model.specs.Classes.{hierarchy, is_a}
 use Rattle.som_ancestry.specs.Places.{key_at}
-use Rattle.som_ancestry.specs.Walk.{rows_of}
+use Rattle.som_laws.specs.Rows.{rows_of}
 use Rattle.som_compat.specs.declared.rows.Row.{Row}
 use Rattle.som_compat.specs.Views.{numbers_of}
 

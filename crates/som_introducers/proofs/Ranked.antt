@@ -8,7 +8,7 @@ use Rattle.som_model.proofs.KeyLaws.{exact_numbers}
 use Rattle.som_order.specs.Names.{name_at}
 use Rattle.som_laws.proofs.Members.{both_or_none}
 use Rattle.som_ancestry.proofs.Doubled.{take_last}
-use Rattle.som_ancestry.proofs.Listed.{mem_at}
+use Rattle.som_laws.proofs.Listed.{mem_at}
 use Rattle.som_introducers.specs.Introducers.{AreGathered, first_introducer, introduces, stands}
 use Rattle.som_introducers.specs.Ranking.{AreRanks, rank_from}
 use Rattle.som_introducers.proofs.Seen.{stands_both}

@@ -1,2 +1,4 @@
 pub mod Members
 pub mod Laws
+pub mod WalkLaw
+pub mod Listed

@@ -1,2 +1,4 @@
 pub mod First
 pub mod Added
+pub mod Once
+pub mod Rows

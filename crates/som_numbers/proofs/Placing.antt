@@ -14,9 +14,9 @@ use Rattle.som_model.specs.Kernel.{som_object}
 use Rattle.som_model.specs.Metaclass.{rank}
 use Rattle.som_model.proofs.NamedLaws.{hierarchy_same}
 use Rattle.som_laws.proofs.Members.{map_on, not_true, some_mem}
-use Rattle.som_order.specs.Once.{adds}
-use Rattle.som_ancestry.specs.Walk.{AreAncestors, AreLow, AreMarks, rows_of}
-use Rattle.som_ancestry.proofs.Listed.{falls, known_low, next_list}
+use Rattle.som_laws.specs.Once.{adds}
+use Rattle.som_laws.specs.Rows.{AreAncestors, AreLow, AreMarks, rows_of}
+use Rattle.som_laws.proofs.Listed.{falls, known_low, next_list}
 use Rattle.som_meta.specs.Numbering.{AreApart}
 use Rattle.som_meta.proofs.Plans.{same_at}
 use Rattle.som_numbers.specs.declared.position.Kind.{Kind}

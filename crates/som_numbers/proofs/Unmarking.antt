@@ -4,7 +4,7 @@ use Rattle.std.proofs.lemmas.Bool.{cases_eq, cases_lt, eqb-true}
 use Rattle.std.proofs.lemmas.List.{get_or-set_same, get_or-set_other, get_or_past, drop_all}
 use Rattle.som_model.specs.Lists.{Mem}
 use Rattle.som_laws.proofs.Members.{not_true, some_mem}
-use Rattle.som_ancestry.specs.Walk.{AreMarks}
+use Rattle.som_laws.specs.Rows.{AreMarks}
 
 -- each class that is marked is one of these
 abbrev pub AreOnly : List Bool → List ℕ → Type 0

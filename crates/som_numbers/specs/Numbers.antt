@@ -9,7 +9,7 @@ use Rattle.som_model.specs.Classes.{hierarchy}
 use Rattle.som_model.specs.Kernel.{som_object}
 use Rattle.som_model.specs.Loads.{keys_of}
 use Rattle.som_model.specs.Metaclass.{rank}
-use Rattle.som_ancestry.specs.Walk.{AreAncestors, AreMarks, AreLow}
+use Rattle.som_laws.specs.Rows.{AreAncestors, AreMarks, AreLow}
 use Rattle.som_meta.specs.Numbering.{AreApart, IsNumbered, Numbering, key_at}
 use Rattle.som_numbers.specs.declared.keyed.Keyed.{Keyed}
 use Rattle.som_numbers.specs.declared.position.Kind.{Kind}

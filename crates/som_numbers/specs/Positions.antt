@@ -1,8 +1,8 @@
 -- Where the numbered classes stand: their parents and ancestors by number.
 use Rattle.std.specs.Prelude.{◌≡◌, ◌==◌, ℕ, ◌+◌, ◌≤◌, List, [], ◌∷◌, map, length, slice_get, slice_index_or, Some}
 use Rattle.som_model.specs.Lists.{Mem, joined}
-use Rattle.som_order.specs.Once.{adds}
-use Rattle.som_ancestry.specs.Walk.{AreMarks}
+use Rattle.som_laws.specs.Once.{adds}
+use Rattle.som_laws.specs.Rows.{AreMarks}
 use Rattle.som_numbers.specs.declared.position.Position.{Position}
 use Rattle.som_numbers.specs.declared.position.Kind.{Kind}
 use Rattle.som_numbers.specs.declared.position.Kind.TheVariants as kinds

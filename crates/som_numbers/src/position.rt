@@ -1,8 +1,8 @@
 ghost use Rattle.som_model.specs.Lists.{Mem, joined, some};
 ghost use Rattle.som_numbers.specs.Positions.{AreLow, AreMarked, IsNext, lists};
 ghost use Rattle.som_numbers.specs.declared.position.Kind.TheVariants as kinds;
-ghost use Rattle.som_order.specs.Once.{add_new, adds};
-ghost use Rattle.som_ancestry.specs.Walk.{AreMarks};
+ghost use Rattle.som_laws.specs.Once.{add_new, adds};
+ghost use Rattle.som_laws.specs.Rows.{AreMarks};
 ghost use Rattle.std.specs.Prelude.{◌≡◌, ◌≢◌, ◌==◌, ◌+◌, ◌<◌, ◌≤◌, ℕ, [], ◌∷◌, IfOk, OnOk, Some, false, length, map, slice_get, slice_index_or};
 
 use som_model::{List, NoMemory};

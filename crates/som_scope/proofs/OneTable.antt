@@ -5,7 +5,7 @@ use Rattle.std.specs.Borrow.{Bor}
 use Rattle.std.specs.Str.{bytes_eq}
 use Rattle.som_model.specs.Lists.{among}
 use Rattle.som_order.specs.Names.{texts}
-use Rattle.som_order.specs.Once.{adds}
+use Rattle.som_laws.specs.Once.{adds}
 
 -- one name more
 pub next_name : (names : List (Bor (List ℕ))) (i : ℕ) (d : Bor (List ℕ)) (before : List (List ℕ)) → i < length names

@@ -2,7 +2,7 @@
 use Rattle.std.specs.Prelude.{ℕ, List, [], map, flat_map}
 use Rattle.std.specs.Str.{bytes_eq}
 use Rattle.std.specs.Borrow.{Bor}
-use Rattle.som_order.specs.Once.{adds}
+use Rattle.som_laws.specs.Once.{adds}
 use Rattle.som_syntax.specs.declared.words.Word.{Word}
 use Rattle.som_syntax.specs.declared.interface.IdlFile.{IdlFile}
 use Rattle.som_syntax.specs.declared.interface.IdlInterface.{IdlInterface}

@@ -30,7 +30,7 @@ use Rattle.som_ancestry.proofs.Before.{none_both}
 use Rattle.som_ancestry.proofs.Owners.{mem_middle}
 use Rattle.som_lawful.proofs.PlainLists.{apart_differ, differ_apart, map_mem, mem_map}
 use Rattle.som_lawful.proofs.PlainMoves.{descent, lower, says_inherits}
-use Rattle.som_order.specs.Once.{add_new, adds}
+use Rattle.som_laws.specs.Once.{add_new, adds}
 use Rattle.som_scope.specs.ClassNames.{key_of}
 use Rattle.som_drafts.specs.Items.{Chosen, Given, chosen, chosen_by, chosen_in, given, is_override, is_select, or_object, overridden, replaced, selecting, with_modifier}
 use Rattle.som_syntax.specs.declared.interface.Modifier.{Modifier}

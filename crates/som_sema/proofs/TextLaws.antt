@@ -19,7 +19,7 @@ use Rattle.som_syntax.specs.declared.interface.Item.TheVariants as items
 use Rattle.som_syntax.specs.declared.interface.Modifier.{Modifier}
 use Rattle.som_syntax.specs.declared.interface.Modifier.TheVariants as modifiers
 use Rattle.som_lawful.specs.Plainly.{Differ, IsAmong}
-use Rattle.som_order.specs.Once.{add_new, adds}
+use Rattle.som_laws.specs.Once.{add_new, adds}
 use Rattle.som_ancestry.proofs.Before.{both_none, none_both}
 use Rattle.som_ancestry.proofs.Owners.{flat_none}
 use Rattle.som_lawful.proofs.PlainLists.{apart_by, apart_differ, by_apart, differ_apart, map_mem, map_none, mem_map, none_flat, none_map}

@@ -9,7 +9,7 @@ use Rattle.som_model.specs.Class.{Class}
 use Rattle.som_order.specs.Names.{texts}
 use Rattle.som_ancestry.specs.Modules.{AreDeclared}
 use Rattle.som_ancestry.specs.Places.{IsRows, with_kernel}
-use Rattle.som_ancestry.specs.Walk.{AreAncestors}
+use Rattle.som_laws.specs.Rows.{AreAncestors}
 use Rattle.som_drafts.specs.Drafts.{InterfaceDraft, draft_class}
 use Rattle.som_syntax.specs.declared.interface.IdlInterface.{IdlInterface}
 use Rattle.som_scope.specs.Words.{once}

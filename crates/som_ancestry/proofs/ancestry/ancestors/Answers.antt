@@ -1,5 +1,5 @@
 use Rattle.std.proofs.Common.{arith, ap, length}
-use Rattle.som_ancestry.proofs.Listed.{known_low, next_of}
+use Rattle.som_laws.proofs.Listed.{known_low, next_of}
 use Rattle.som_ancestry.proofs.ancestry.ancestors.Goals as goal
 
 pub ancestors_of-requires-clause-row : goal.ancestors_of-requires-clause-row

@@ -1,4 +1,4 @@
-use Rattle.som_ancestry.specs.Walk.{AreAncestors}
+use Rattle.som_laws.specs.Rows.{AreAncestors}
 use Rattle.som_ancestry.proofs.ancestry.ancestors.Given as goal
 
 abbrev pub invariant-loop-place : goal.invariant-loop-place

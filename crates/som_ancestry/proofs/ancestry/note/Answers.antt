@@ -1,4 +1,4 @@
-use Rattle.som_ancestry.proofs.Listed.{marks_more}
+use Rattle.som_laws.proofs.Listed.{marks_more}
 use Rattle.som_ancestry.proofs.ancestry.note.Goals as goal
 
 pub returns-in_ok-push-clause-marks : goal.returns-in_ok-push-clause-marks

@@ -1,5 +1,5 @@
 use Rattle.std.proofs.Common.{arith}
-use Rattle.som_ancestry.proofs.Listed.{mem_at}
+use Rattle.som_laws.proofs.Listed.{mem_at}
 use Rattle.som_ancestry.proofs.ancestry.note_all.Goals as goal
 
 pub note-requires-clause-class : goal.note-requires-clause-class

@@ -1,6 +1,6 @@
 use Rattle.std.proofs.Common.{◌≡◌, ◌==◌, drop, length}
-use Rattle.som_order.specs.Once.{adds}
-use Rattle.som_ancestry.specs.Walk.{AreMarks}
+use Rattle.som_laws.specs.Once.{adds}
+use Rattle.som_laws.specs.Rows.{AreMarks}
 use Rattle.som_ancestry.proofs.ancestry.note_all.Given as goal
 
 abbrev pub invariant-loop-other : goal.invariant-loop-other

@@ -1,5 +1,5 @@
 use Rattle.std.proofs.Common.{arith}
-use Rattle.som_ancestry.proofs.Listed.{mem_at, parent_more}
+use Rattle.som_laws.proofs.Listed.{mem_at, parent_more}
 use Rattle.som_ancestry.proofs.ancestry.note_parents.Goals as goal
 
 pub item-requires : goal.item-requires

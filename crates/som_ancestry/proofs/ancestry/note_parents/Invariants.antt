@@ -1,7 +1,7 @@
 use Rattle.std.proofs.Common.{◌≡◌, ◌==◌, [], drop, length, map, slice_index_or}
 use Rattle.som_model.specs.Lists.{joined}
-use Rattle.som_order.specs.Once.{adds}
-use Rattle.som_ancestry.specs.Walk.{AreMarks}
+use Rattle.som_laws.specs.Once.{adds}
+use Rattle.som_laws.specs.Rows.{AreMarks}
 use Rattle.som_ancestry.proofs.ancestry.note_parents.Given as goal
 
 abbrev pub invariant-loop-parent : goal.invariant-loop-parent

@@ -1,7 +1,7 @@
 use Rattle.std.proofs.Common.{◌≡◌, drop}
 use Rattle.std.specs.Str.{bytes_eq}
 use Rattle.som_order.specs.Names.{texts}
-use Rattle.som_order.specs.Once.{adds}
+use Rattle.som_laws.specs.Once.{adds}
 use Rattle.som_scope.specs.Words.{once}
 use Rattle.som_drafts.proofs.tables.first_places.Given as goal
 

@@ -1,5 +1,5 @@
 use Rattle.std.proofs.Common.{◌≡◌, ◌+◌, length, arith, sym, ◌∙◌}
-use Rattle.som_ancestry.proofs.Listed.{mem_at}
+use Rattle.som_laws.proofs.Listed.{mem_at}
 use Rattle.som_introducers.proofs.Ranked.{lower, no_lower, rank_none}
 use Rattle.som_introducers.proofs.ranking.least_rank.Goals as goal
 use Rattle.som_introducers.proofs.ranking.least_rank.Goals.{then-rank-least, else-rank-least}

@@ -1,5 +1,5 @@
 use Rattle.std.proofs.Common.{◌-◌, arith, refl, sym, ◌∙◌}
-use Rattle.som_ancestry.proofs.Listed.{mem_at}
+use Rattle.som_laws.proofs.Listed.{mem_at}
 use Rattle.som_introducers.proofs.Ranked.{ranked_none}
 use Rattle.som_introducers.proofs.ranking.rank_all.Goals as goal
 

@@ -1,5 +1,5 @@
 use Rattle.std.proofs.Common.{◌∙◌, ap, arith, slice_index_or, []}
-use Rattle.som_ancestry.proofs.Listed.{parent_more}
+use Rattle.som_laws.proofs.Listed.{parent_more}
 use Rattle.som_numbers.specs.Positions.{lists}
 use Rattle.som_numbers.proofs.Items.{item_at, item_mem}
 use Rattle.som_numbers.proofs.position.note_parents.Goals as goal

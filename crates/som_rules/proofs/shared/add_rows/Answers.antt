@@ -1,4 +1,4 @@
-use Rattle.som_ancestry.proofs.Listed.{mem_at}
+use Rattle.som_laws.proofs.Listed.{mem_at}
 use Rattle.som_rules.proofs.shared.add_rows.Goals as goal
 
 pub row_at-requires : goal.row_at-requires

@@ -1,6 +1,6 @@
 use Rattle.std.proofs.Common.{sym, ◌∙◌, arith}
 use Rattle.som_kinds.specs.Knowing.{all_of}
-use Rattle.som_ancestry.proofs.Listed.{mem_at}
+use Rattle.som_laws.proofs.Listed.{mem_at}
 use Rattle.som_terms.specs.Forms.{method_at}
 use Rattle.som_terms.proofs.MethodLaws.{first_here, first_skips}
 use Rattle.som_terms.proofs.methods.first_introducing.Goals as goal

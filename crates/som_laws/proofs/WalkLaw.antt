@@ -3,7 +3,7 @@ use Rattle.std.proofs.Common.{◌≡◌, inl, inr, Bool, true, false, if◌then�
 use Rattle.std.proofs.lemmas.List.{append-nil}
 use Rattle.som_model.specs.Lists.{Mem, without, firsts, some}
 use Rattle.som_laws.proofs.Members.{mem_left, mem_right, mem_split, some_mem, mem_some, Apart, firsts_apart}
-use Rattle.som_order.specs.Once.{add_new, adds}
+use Rattle.som_laws.specs.Once.{add_new, adds}
 
 choose_in : {A : Type 0} (b : Bool) (a x : A) (seen : List A) → Mem a seen → Mem a (if b then seen else seen ++ x ∷ [])
 choose_in true a x seen m = m

@@ -10,9 +10,9 @@ use Rattle.som_model.specs.Ancestors.{Descends, itself, by_parent, anc}
 use Rattle.som_model.proofs.KeyLaws.{exact_numbers}
 use Rattle.som_laws.proofs.Laws.{ancestors, ancestors_step}
 use Rattle.som_laws.proofs.Members.{map_on}
-use Rattle.som_order.specs.Once.{adds}
-use Rattle.som_ancestry.specs.Walk.{rows_of, AreLow, AreMarks, AreAncestors}
-use Rattle.som_ancestry.proofs.WalkLaw.{adds_both, firsts_adds}
+use Rattle.som_laws.specs.Once.{adds}
+use Rattle.som_laws.specs.Rows.{rows_of, AreLow, AreMarks, AreAncestors}
+use Rattle.som_laws.proofs.WalkLaw.{adds_both, firsts_adds}
 
 pub mem_at : (xs : List ℕ) (i d : ℕ) → i < length xs → Mem (slice_index_or xs i d) xs
 mem_at [] i d lt = absurd (omega arith)
