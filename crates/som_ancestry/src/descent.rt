@@ -1,41 +1,11 @@
 ghost use Rattle.som_model.specs.Class.{Class};
 ghost use Rattle.som_model.specs.Classes.{is_a};
-ghost use Rattle.som_model.specs.Conforming.{first_of_names};
-ghost use Rattle.som_model.specs.Kernel.{kernel};
-ghost use Rattle.som_ancestry.specs.Modules.{classes_of};
-ghost use Rattle.som_ancestry.specs.Places.{key_at, with_kernel};
+ghost use Rattle.som_model.specs.Lists.{some};
+ghost use Rattle.som_ancestry.specs.Places.{key_at};
 ghost use Rattle.som_ancestry.specs.Walk.{AreLists};
-ghost use Rattle.som_ancestry.specs.declared.types.VerifyFault.TheVariants as faults;
-ghost use Rattle.std.specs.Prelude.{◌≡◌, ◌<◌, List as Seq, length, IfErr, IfOk, None};
+ghost use Rattle.std.specs.Prelude.{◌≡◌, ◌==◌, ◌<◌, [], List as Seq, length, slice_index_or};
 
-use crate::ancestry::{has_place, item};
-use crate::standing::standing_ancestors;
-use crate::table::class_names;
-use crate::types::{Declared, VerifyFault};
-use som_model::{List, NoMemory};
-use std::alloc::Global;
-
-/// The ancestors of the kernel's classes and of these, by places, where names and parents break no rule.
-pub fn declared_ancestors(alloc: Global, classes: &[Declared]) -> Result<Vec<List<usize>>, NoMemory>
-    requires { first_of_names kernel (classes_of classes.now) ≡ None }
-    ensures { IfOk result (λ lists. AreLists (with_kernel (classes_of classes.now)) lists.items) }
-{
-    match walk(alloc, classes) {
-        Ok(lists) => Ok(lists),
-        Err(VerifyFault::NoMemory) => Err(NoMemory),
-        Err(VerifyFault::Rule(_)) => unreachable!(),
-    }
-}
-
-// The same, through passes that would tell a breach.
-fn walk(alloc: Global, classes: &[Declared]) -> Result<Vec<List<usize>>, VerifyFault>
-    requires { first_of_names kernel (classes_of classes.now) ≡ None }
-    ensures lists { IfOk result (λ lists. AreLists (with_kernel (classes_of classes.now)) lists.items) }
-    ensures fault { IfErr result (λ e. e ≡ faults.NoMemory) }
-{
-    let table = class_names(alloc, classes)?;
-    standing_ancestors(alloc, &table, classes)
-}
+use som_model::List;
 
 /// Whether the class at a place descends from that at another, by the lists of their ancestors.
 pub fn descends_by(lists: &[List<usize>], class: usize, ancestor: usize) -> bool
@@ -44,4 +14,24 @@ pub fn descends_by(lists: &[List<usize>], class: usize, ancestor: usize) -> bool
         result ≡ is_a cs (key_at cs class) (key_at cs ancestor) }
 {
     has_place(item(lists, class), ancestor)
+}
+
+/// The list at a place.
+pub fn item(known: &[List<usize>], place: usize) -> &[usize]
+    requires { place < length known.now }
+    ensures { result.now ≡ slice_index_or known.now place [] }
+{
+    known[place].as_slice()
+}
+
+/// Whether a place is on a list.
+pub fn has_place(list: &[usize], place: usize) -> bool
+    ensures { result ≡ some (λ a. place == a) list.now }
+{
+    for other in list {
+        if place == *other {
+            return true;
+        }
+    }
+    false
 }

@@ -7,9 +7,10 @@ ghost use Rattle.som_model.specs.declared.key.Module.TheVariants as modules;
 ghost use Rattle.som_ancestry.specs.Modules.{classes_of};
 ghost use Rattle.std.specs.Prelude.{◌≡◌, ◌++◌, map, IfOk, OnOk};
 
-use som_ancestry::{Declared, declare};
+use som_ancestry::Declared;
 use som_drafts::Draft;
 use som_model::{ClassDecl, Module, NoMemory};
+use som_standing::declare;
 use std::alloc::Global;
 
 /// The classes of the base, and then those that were drafted.

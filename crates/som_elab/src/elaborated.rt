@@ -20,7 +20,7 @@ ghost use Rattle.som_drafts.specs.Drafts.{draft_classes, plain_drafts};
 ghost use Rattle.som_typing.specs.Bodies.{AreParts};
 ghost use Rattle.std.specs.Prelude.{◌≡◌, ℕ, length, map, option_copied, IfOk, None};
 
-use som_ancestry::{Declared, bare_classes};
+use som_ancestry::Declared;
 use som_blocks::{AllBodies, ModuleContext, checked_bodies, completed_classes};
 use som_declarations::known_classes;
 use som_drafts::Draft;
@@ -32,6 +32,7 @@ use som_model::{Block, ClassDecl, Interface, List, Module, NoMemory};
 use som_refusals::{Refused, refused};
 use som_scope::{Scope, scope_of};
 use som_sema::{all_interfaces, build_faces};
+use som_standing::bare_classes;
 use som_syntax::{BlockText, BodyFile, BodyText, IdlFile, IdlInterface};
 use som_typing::{Parts, parts_of};
 use std::alloc::Global;

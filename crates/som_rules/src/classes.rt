@@ -17,9 +17,10 @@ use crate::moved::entries_moved_up;
 use crate::overrides::overrides_inherited;
 use crate::signatures::types_known;
 use indexmap::IndexSet;
-use som_ancestry::{Declared, KERNEL_CLASSES, VerifyFault, class_names, standing_ancestors};
+use som_ancestry::{Declared, KERNEL_CLASSES, VerifyFault, class_names};
 use som_kernel::kernel_faces;
 use som_model::{ClassFace, List};
+use som_standing::standing_ancestors;
 use std::alloc::Global;
 
 /// The rules S1 to S10, which look at no body, where the types of the first `base` classes name no class after them.

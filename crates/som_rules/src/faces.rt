@@ -2,8 +2,9 @@ ghost use Rattle.som_ancestry.specs.Faces.{faces_breach};
 ghost use Rattle.som_ancestry.specs.Told.{Tells, of_release};
 
 use crate::classes::classes_hold;
-use som_ancestry::{VerifyFault, declare};
+use som_ancestry::VerifyFault;
 use som_model::{ClassDecl, Module};
+use som_standing::declare;
 use std::alloc::Global;
 
 /// The rules S1 to S10, which look at no body.

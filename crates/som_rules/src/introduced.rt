@@ -14,8 +14,9 @@ ghost use Rattle.std.specs.Prelude.{◌≡◌, ◌<◌, ◌+◌, ◌++◌, ℕ, 
 
 use crate::members::each_once;
 use crate::shared::{add_rows, shared_rows};
-use som_ancestry::{Declared, KERNEL_CLASSES, VerifyFault, add, item};
+use som_ancestry::{Declared, KERNEL_CLASSES, VerifyFault, item};
 use som_model::{ClassFace, Entry, List, NoMemory};
+use som_standing::add;
 use std::alloc::Global;
 
 /// S8: each name is introduced by at most one class among the ancestors of a class. It is asked of the classes from

@@ -7,9 +7,10 @@ ghost use Rattle.som_ancestry.specs.Modules.{class_of, classes_of};
 ghost use Rattle.som_ancestry.specs.Told.{Tells};
 ghost use Rattle.std.specs.Prelude.{◌≡◌, map, flat_map, IfOk};
 
-use som_ancestry::{Declared, VerifyFault, add, first_double, refusal};
+use som_ancestry::{Declared, VerifyFault, refusal};
 use som_model::{Entry, NoMemory, Variable};
 use som_order::name_of;
+use som_standing::{add, first_double};
 use std::alloc::Global;
 
 /// S6: the names of a release order are distinct.

@@ -9,9 +9,10 @@ ghost use Rattle.std.specs.Prelude.{◌≡◌, ◌<◌, ◌++◌, ◌∷◌, [],
 
 use crate::introduced::add_introduced;
 use indexmap::IndexSet;
-use som_ancestry::{Declared, KERNEL_CLASSES, add, entries_at};
+use som_ancestry::{Declared, KERNEL_CLASSES, entries_at};
 use som_model::{ClassFace, Entry, List, NoMemory};
 use som_order::{find_name, note_name};
+use som_standing::add;
 use std::alloc::Global;
 
 /// Of each class, the kernel's first, the names that it introduces and that are introduced twice among all classes:

@@ -10,8 +10,9 @@ ghost use Rattle.som_sema.specs.Ancestry.{AreAncestorLists};
 ghost use Rattle.std.specs.Prelude.{◌≡◌, IfErr, IfOk, None};
 
 use indexmap::IndexSet;
-use som_ancestry::{Declared, VerifyFault, ancestors, parents_stand};
+use som_ancestry::{Declared, VerifyFault};
 use som_model::{List, NoMemory};
+use som_standing::{ancestors, parents_stand};
 use std::alloc::Global;
 
 /// The names of classes by their places, and the ancestors of each.

@@ -18,7 +18,7 @@ use crate::ancestry::AncestorTable;
 use crate::inherited::replaced_inherited;
 use crate::rules::{drafts_hold, moves_hold};
 use som_alone::{drafts_of, items_differ, modifiers_stand};
-use som_ancestry::{Declared, KERNEL_CLASSES, VerifyFault, bare_classes, declare};
+use som_ancestry::{Declared, KERNEL_CLASSES, VerifyFault};
 use som_declarations::{declarations, known_classes};
 use som_drafts::Draft;
 use som_kernel::kernel_faces;
@@ -28,6 +28,7 @@ use som_model::{
 };
 use som_refusals::{Refused, refused};
 use som_scope::{Scope, scope_of};
+use som_standing::{bare_classes, declare};
 use som_syntax::{IdlFile, IdlInterface};
 use std::alloc::Global;
 

@@ -20,11 +20,12 @@ use crate::ancestry::{AncestorTable, ancestor_lists};
 use crate::bases::{bases_stand, metaclasses_descend};
 use indexmap::IndexSet;
 use som_alone::names_differ;
-use som_ancestry::{Declared, KERNEL_CLASSES, VerifyFault, class_names, parents_differ};
+use som_ancestry::{Declared, KERNEL_CLASSES, VerifyFault, class_names};
 use som_drafts::Draft;
 use som_model::{ClassFace, List};
 use som_rules::{entries_moved_up, names_introduced_once, types_known, variables_differ};
 use som_scope::Scope;
+use som_standing::parents_differ;
 use std::alloc::Global;
 
 /// The rules S1 to S7 of a module's classes, which stand after those of a base that conforms.

@@ -12,10 +12,11 @@ ghost use Rattle.std.specs.Prelude.{◌≡◌, ◌≤◌, ◌++◌, drop, length
 
 use crate::typed_bodies::{bodies_typed, main_typed};
 use indexmap::IndexSet;
-use som_ancestry::{Declared, VerifyFault, class_names, declared_ancestors};
+use som_ancestry::{Declared, VerifyFault, class_names};
 use som_kernel::kernel_faces;
 use som_kinds::{Knowledge, know};
 use som_model::{Block, Interface, List};
+use som_standing::declared_ancestors;
 use std::alloc::Global;
 
 /// What typing is to know of classes: their names, the kernel's faces, and the ancestors of each by places.

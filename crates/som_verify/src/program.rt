@@ -7,9 +7,10 @@ ghost use Rattle.som_ancestry.specs.declared.types.Broken.{Broken};
 ghost use Rattle.som_ancestry.specs.declared.types.VerifyFault.TheVariants as faults;
 ghost use Rattle.std.specs.Prelude.{◌≡◌, map, Err, IfOk};
 
-use som_ancestry::{Declared, VerifyFault, bare_classes, declare};
+use som_ancestry::{Declared, VerifyFault};
 use som_model::{ClassDecl, ClientProgram, Module, NoMemory};
 use som_rules::rules_hold;
+use som_standing::{bare_classes, declare};
 use som_typing::program_typed;
 use std::alloc::Global;
 

@@ -4,9 +4,10 @@ ghost use Rattle.som_ancestry.specs.declared.types.Broken.{Broken};
 ghost use Rattle.som_ancestry.specs.declared.types.VerifyFault.TheVariants as faults;
 ghost use Rattle.std.specs.Prelude.{◌≡◌, Err, IfOk};
 
-use som_ancestry::{VerifyFault, declare};
+use som_ancestry::VerifyFault;
 use som_model::{ClassDecl, Module, Release};
 use som_rules::rules_hold;
+use som_standing::declare;
 use som_typing::blocks_typed;
 use std::alloc::Global;
 
