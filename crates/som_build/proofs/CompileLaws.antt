@@ -4,12 +4,12 @@ use Rattle.som_io.proofs.ShownLaws.{rose_earlier}
 use Rattle.som_model.specs.declared.program.Interface.{Interface}
 use Rattle.som_model.specs.Bytes.{Files}
 use Rattle.som_model.specs.Class.{interface_of}
-use Rattle.som_compile.specs.declared.fault.CompileFault.{CompileFault}
-use Rattle.som_compile.specs.declared.fault.TextFault.{TextFault}
-use Rattle.som_compile.specs.declared.source.Source.{Source}
+use Rattle.som_reading.specs.declared.fault.CompileFault.{CompileFault}
+use Rattle.som_reading.specs.declared.fault.TextFault.{TextFault}
+use Rattle.som_reading.specs.declared.source.Source.{Source}
+use Rattle.som_reading.specs.Reading.{Says}
+use Rattle.som_reading.specs.declared.fault.CompileFault.TheVariants as compiling
 use Rattle.som_compile.specs.Compiling.{Compiles, CompilesClient}
-use Rattle.som_compile.specs.Reading.{Says}
-use Rattle.som_compile.specs.declared.fault.CompileFault.TheVariants as compiling
 use Rattle.som_steps.specs.declared.output.Output.{Output}
 use Rattle.som_steps.specs.declared.stop.Refusal.{Refusal}
 use Rattle.som_steps.specs.declared.stop.CommandStop.{CommandStop}
@@ -19,12 +19,14 @@ use Rattle.som_steps.specs.Lines.{store_failed}
 use Rattle.som_steps.specs.Steps.{FollowsTold}
 use Rattle.som_steps.specs.Putting.{StoredTold}
 use Rattle.som_steps.specs.declared.stop.CommandStop.TheVariants as stops
-use Rattle.som_build.specs.declared.client_parts.ClientParts.{ClientParts}
-use Rattle.som_build.specs.Cause.{FailsGettingParts, FailsGettingTexts, HaveImage, FailsClient, FailsLibrary}
-use Rattle.som_build.specs.Texts.{texts_in}
-use Rattle.som_build.specs.PutAnswer.{Compiling, IsMade, IsPutAnswer, not_got, not_compiled}
-use Rattle.som_build.specs.PutSteps.{Compiled, Refuses, PutsTold}
-use Rattle.som_build.specs.ClientAnswer.{CompilesParts, parts_in}
+use Rattle.som_texts.specs.declared.client_parts.ClientParts.{ClientParts}
+use Rattle.som_texts.specs.Getting.{FailsGettingParts, FailsGettingTexts}
+use Rattle.som_texts.specs.Texts.{texts_in}
+use Rattle.som_texts.specs.PutAnswer.{Compiling, IsMade, IsPutAnswer, not_got, not_compiled}
+use Rattle.som_texts.specs.PutSteps.{Compiled, Refuses, PutsTold}
+use Rattle.som_texts.specs.Parts.{parts_in}
+use Rattle.som_build.specs.Cause.{HaveImage, FailsClient, FailsLibrary}
+use Rattle.som_build.specs.ClientAnswer.{CompilesParts}
 
 -- ---- what the texts are compiled to
 

@@ -1,5 +1,3 @@
-mod TextLaws
-mod PartLaws
 mod BaseLaws
 mod CompileLaws
 mod BuildRefusals

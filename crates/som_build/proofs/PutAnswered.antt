@@ -4,23 +4,24 @@ use Rattle.som_model.specs.declared.program.Release.{Release}
 use Rattle.som_model.specs.Bytes.{Files}
 use Rattle.som_model.specs.Class.{interface_of}
 use Rattle.som_model.specs.Steps.{◌>>=◌}
-use Rattle.som_compile.specs.declared.fault.TextFault.{TextFault}
-use Rattle.som_compile.specs.declared.source.Source.{Source}
+use Rattle.som_reading.specs.declared.fault.TextFault.{TextFault}
+use Rattle.som_reading.specs.declared.source.Source.{Source}
+use Rattle.som_reading.specs.Sources.{mains_in}
 use Rattle.som_compile.specs.Compiling.{Compiles}
-use Rattle.som_compile.specs.Sources.{mains_in}
 use Rattle.som_compile.proofs.CompileLaws.{some_compiling, one_compiling}
 use Rattle.som_compile.proofs.ClientLaws.{some_client, one_client}
 use Rattle.som_steps.specs.declared.stop.Refusal.{Refusal}
 use Rattle.som_steps.specs.Endings.{Ending, refusing}
 use Rattle.som_steps.specs.Fetching.{file_of}
 use Rattle.som_steps.specs.ImageSteps.{sound_release}
-use Rattle.som_build.specs.declared.client_parts.ClientParts.{ClientParts}
-use Rattle.som_build.specs.Texts.{text_refused, texts_in}
-use Rattle.som_build.specs.PutAnswer.{Compiling, IsPutAnswer, not_got, not_compiled, puts, putting}
+use Rattle.som_texts.specs.declared.client_parts.ClientParts.{ClientParts}
+use Rattle.som_texts.specs.Texts.{text_refused, texts_in}
+use Rattle.som_texts.specs.PutAnswer.{Compiling, IsPutAnswer, not_got, not_compiled, puts, putting}
+use Rattle.som_texts.specs.Parts.{parts_in}
+use Rattle.som_texts.proofs.TextLaws.{mains_named, texts_known}
 use Rattle.som_build.specs.LibraryAnswer.{IsLibraryAnswer}
-use Rattle.som_build.specs.ClientAnswer.{CompilesParts, IsClientAnswer, parts_in}
+use Rattle.som_build.specs.ClientAnswer.{CompilesParts, IsClientAnswer}
 use Rattle.som_build.proofs.BaseLaws.{base_read}
-use Rattle.som_build.proofs.TextLaws.{mains_named, texts_known}
 
 abbrev Told : Type 0
 Told = Result (List ℕ) TextFault

@@ -30,15 +30,16 @@ use Rattle.som_steps.specs.Outcomes.{EndsAs, EndsAsTold, ShowsSome}
 use Rattle.som_steps.proofs.FileLaws.{got_by}
 use Rattle.som_steps.specs.declared.stop.Why.TheVariants as why
 use Rattle.som_steps.specs.declared.stop.CommandStop.TheVariants as stops
+use Rattle.som_texts.specs.declared.client_parts.ClientParts.{ClientParts}
+use Rattle.som_texts.specs.PutAnswer.{Compiling, IsMade, IsPutAnswer, putting, puts}
+use Rattle.som_texts.specs.PutSteps.{Puts, PutsTold}
+use Rattle.som_texts.specs.Parts.{parts_in}
+use Rattle.som_texts.proofs.PartLaws.{all_parts}
+use Rattle.som_texts.proofs.TextLaws.{texts_known}
 use Rattle.som_build.proofs.PutAnswered.{one_library_answer, one_client_answer}
-use Rattle.som_build.specs.declared.client_parts.ClientParts.{ClientParts}
-use Rattle.som_build.specs.PutAnswer.{Compiling, IsMade, IsPutAnswer, putting, puts}
-use Rattle.som_build.specs.PutSteps.{Puts, PutsTold}
-use Rattle.som_build.specs.ClientAnswer.{parts_in, IsClientAnswer}
+use Rattle.som_build.specs.ClientAnswer.{IsClientAnswer}
 use Rattle.som_build.specs.PutEnds.{SaysPutFailed, LeavesFiles, as_they_were, with_image, put_failed, PutsImage, HoldsClientTexts, HoldsTexts, LeavesFilesTold}
 use Rattle.som_build.proofs.BaseLaws.{base_under, shows_base}
-use Rattle.som_build.proofs.PartLaws.{all_parts}
-use Rattle.som_build.proofs.TextLaws.{texts_known}
 use Rattle.som_build.specs.LibraryAnswer.{IsLibraryAnswer}
 
 module _ {A : Type 0} (Comes : Compiling A) (out : List ℕ) (got : Files → Result A Refusal) where

@@ -1,26 +1,13 @@
 -- What compiling a client prints, answers and leaves: the first step that refuses, or the image under a name.
-use Rattle.std.specs.Prelude.{ℕ, List, ◌∷◌, Result, Ok}
+use Rattle.std.specs.Prelude.{ℕ, List, Result}
 use Rattle.som_model.specs.Bytes.{Files}
 use Rattle.som_model.specs.Class.{interface_of}
-use Rattle.som_model.specs.Steps.{◌>>=◌}
-use Rattle.som_compile.specs.declared.fault.TextFault.{TextFault}
+use Rattle.som_reading.specs.declared.fault.TextFault.{TextFault}
 use Rattle.som_compile.specs.Compiling.{CompilesClient}
-use Rattle.som_steps.specs.declared.stop.Refusal.{Refusal}
 use Rattle.som_steps.specs.Endings.{Ending}
-use Rattle.som_steps.specs.Fetching.{file_of}
-use Rattle.som_steps.specs.ImageSteps.{sound_release}
-use Rattle.som_build.specs.declared.client_parts.ClientParts.{ClientParts}
-use Rattle.som_build.specs.Texts.{texts_in}
-use Rattle.som_build.specs.PutAnswer.{IsMade, IsPutAnswer}
-use Rattle.som_build.specs.LibraryAnswer.{library_statuses}
-
--- the release under one name and the texts under others: all are got before the image is read and its rules are looked at
-abbrev pub parts_in : List ℕ → List (List ℕ) → Files → Result ClientParts Refusal
-parts_in library names files = do
-  bytes ← file_of library files
-  texts ← texts_in names files
-  base ← sound_release library bytes
-  Ok (record { base = base; texts = texts })
+use Rattle.som_texts.specs.declared.client_parts.ClientParts.{ClientParts}
+use Rattle.som_texts.specs.Parts.{parts_in}
+use Rattle.som_texts.specs.PutAnswer.{IsMade, IsPutAnswer}
 
 -- the texts are compiled against what the release shows
 abbrev pub CompilesParts : ClientParts → Result (List ℕ) TextFault → Type 0
@@ -33,7 +20,3 @@ IsClientCompiled files library names image = IsMade CompilesParts (parts_in libr
 -- The library and the texts are got, the library is tested, the texts are compiled against it, and the image is put under the name.
 abbrev pub IsClientAnswer : List ℕ → List ℕ → List (List ℕ) → Files → Ending → Type 0
 IsClientAnswer out library names files e = IsPutAnswer CompilesParts files out (parts_in library names files) e
-
--- the statuses of `client`: those of `library`, and that the library is no image
-abbrev pub client_statuses : List ℕ
-client_statuses = 5 ∷ library_statuses

@@ -1,6 +1,3 @@
-pub mod Texts
-pub mod PutAnswer
-pub mod PutSteps
 pub mod LibraryAnswer
 pub mod ClientAnswer
 pub mod Cause

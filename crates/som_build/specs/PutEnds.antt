@@ -6,12 +6,12 @@ use Rattle.som_model.specs.declared.program.Release.{Release}
 use Rattle.som_model.specs.declared.program.ClientProgram.{ClientProgram}
 use Rattle.som_model.specs.Bytes.{Files}
 use Rattle.som_model.specs.Class.{interface_of}
-use Rattle.som_compile.specs.declared.source.Source.{Source}
+use Rattle.som_reading.specs.declared.source.Source.{Source}
 use Rattle.som_compile.specs.Compiling.{StandFor, StandForClient}
 use Rattle.som_steps.specs.Lines.{store_failed}
 use Rattle.som_steps.specs.Putting.{PutFails}
 use Rattle.som_steps.specs.StoredImages.{IsUnder}
-use Rattle.som_build.specs.Texts.{texts_in}
+use Rattle.som_texts.specs.Texts.{texts_in}
 
 -- what was written says that a put under the name failed: that line alone, or a front of it where the sink failed or memory ran out
 abbrev pub SaysPutFailed : List ℕ → ℕ → Option (List ℕ) → Option (List ℕ) → Type 0

@@ -1,25 +1,26 @@
 ghost use Rattle.som_build.specs.Cause.{FailsClient};
-ghost use Rattle.som_build.specs.ClientAnswer.{CompilesParts, IsClientAnswer, IsClientCompiled, client_statuses, parts_in};
+ghost use Rattle.som_build.specs.ClientAnswer.{CompilesParts, IsClientAnswer, IsClientCompiled};
 ghost use Rattle.som_build.specs.PutEnds.{LeavesFilesTold};
-ghost use Rattle.som_build.specs.PutSteps.{Compiled, PutsTold};
-ghost use Rattle.som_compile.specs.Sources.{bytes_in, mains_in, names_of};
 ghost use Rattle.som_io.specs.Outside.{Rose};
 ghost use Rattle.som_libimage.specs.Limits.{IsWithinLimits};
 ghost use Rattle.som_model.specs.Conforming.{ReleaseOk};
 ghost use Rattle.som_model.specs.Lists.{Mem};
 ghost use Rattle.som_model.specs.declared.limits.TheConstants.{MAX_BYTES};
+ghost use Rattle.som_reading.specs.Sources.{bytes_in, mains_in, names_of};
 ghost use Rattle.som_steps.specs.Cause.{HasCause, IsQuiet};
 ghost use Rattle.som_steps.specs.Outcomes.{EndsAsTold, ShowsSome, StoreFails};
 ghost use Rattle.som_steps.specs.Refusing.{EndsIn};
 ghost use Rattle.som_steps.specs.Status.{is_calm_status};
+ghost use Rattle.som_texts.specs.Parts.{parts_in};
+ghost use Rattle.som_texts.specs.PutSteps.{Compiled, PutsTold};
+ghost use Rattle.som_texts.specs.Statuses.{client_statuses};
 ghost use Rattle.std.specs.Prelude.{IsTrue, ◌≡◌, ◌≢◌, ◌≤◌, ◌⊎◌};
 
-use crate::client_parts::{ClientParts, fetch_parts};
-use crate::text_refusals::stop_of;
 use som_compile::compile_client;
 use som_io::{Sink, Store};
 use som_model::{List, Text};
 use som_steps::{CommandStop, Output, put_image, tell};
+use som_texts::{ClientParts, fetch_parts, stop_of};
 use std::alloc::Global;
 
 // The image that the parts of a client are compiled to.
@@ -41,7 +42,7 @@ fn image_of(alloc: Global, parts: &ClientParts) -> Result<List<u8>, CommandStop>
 
 // Compiles the texts under names, of which one is that of a main, against the library under another, and puts the image of
 // the client program that they stand for under a third.
-#[tactic(auto, using(crate::proofs::CompileLaws::parts_refused, crate::proofs::CompileLaws::client_image_refused, crate::proofs::CompileLaws::client_image_stored, crate::proofs::CompileLaws::part_fails, crate::proofs::CompileLaws::client_image_fails, crate::proofs::CompileLaws::client_put_fails, crate::proofs::TextLaws::mains_named, crate::proofs::BuildRefusals::client_refused_in, crate::proofs::BuildRefusals::client_put_ends_in))]
+#[tactic(auto, using(crate::proofs::CompileLaws::parts_refused, crate::proofs::CompileLaws::client_image_refused, crate::proofs::CompileLaws::client_image_stored, crate::proofs::CompileLaws::part_fails, crate::proofs::CompileLaws::client_image_fails, crate::proofs::CompileLaws::client_put_fails, som_texts::proofs::TextLaws::mains_named, crate::proofs::BuildRefusals::client_refused_in, crate::proofs::BuildRefusals::client_put_ends_in))]
 fn put_client<S: Store>(
     alloc: Global,
     name: &Text,

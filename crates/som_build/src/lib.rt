@@ -2,11 +2,8 @@
 #![tactic(auto)]
 
 mod client;
-mod client_parts;
 mod library;
-mod text_refusals;
-mod texts;
 
 pub use client::build_client;
 pub use library::build_library;
-pub use text_refusals::refuse_texts;
+pub use som_texts::refuse_texts;

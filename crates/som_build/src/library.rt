@@ -1,25 +1,26 @@
 ghost use Rattle.som_build.specs.Cause.{FailsLibrary};
-ghost use Rattle.som_build.specs.LibraryAnswer.{AreCompiled, IsLibraryAnswer, library_statuses};
+ghost use Rattle.som_build.specs.LibraryAnswer.{AreCompiled, IsLibraryAnswer};
 ghost use Rattle.som_build.specs.PutEnds.{LeavesFilesTold};
-ghost use Rattle.som_build.specs.PutSteps.{Compiled, PutsTold};
-ghost use Rattle.som_build.specs.Texts.{texts_in};
 ghost use Rattle.som_compile.specs.Compiling.{Compiles};
-ghost use Rattle.som_compile.specs.Sources.{bytes_in, mains_in, names_of};
 ghost use Rattle.som_io.specs.Outside.{Rose};
 ghost use Rattle.som_model.specs.Lists.{Mem};
 ghost use Rattle.som_model.specs.declared.limits.TheConstants.{MAX_BYTES};
+ghost use Rattle.som_reading.specs.Sources.{bytes_in, mains_in, names_of};
 ghost use Rattle.som_steps.specs.Cause.{HasCause, IsQuiet};
 ghost use Rattle.som_steps.specs.Outcomes.{EndsAsTold, ShowsSome, StoreFails};
 ghost use Rattle.som_steps.specs.Refusing.{EndsIn};
 ghost use Rattle.som_steps.specs.Status.{is_calm_status};
+ghost use Rattle.som_texts.specs.PutSteps.{Compiled, PutsTold};
+ghost use Rattle.som_texts.specs.Statuses.{library_statuses};
+ghost use Rattle.som_texts.specs.Texts.{texts_in};
 ghost use Rattle.std.specs.Prelude.{IsTrue, ◌≡◌, ◌≢◌, ◌≤◌, ◌⊎◌};
 
-use crate::text_refusals::stop_of;
-use crate::texts::fetch_texts;
-use som_compile::{Source, compile_library};
+use som_compile::compile_library;
 use som_io::{Sink, Store};
 use som_model::{List, Text};
+use som_reading::Source;
 use som_steps::{CommandStop, Output, put_image, tell};
+use som_texts::{fetch_texts, stop_of};
 use std::alloc::Global;
 
 // The image that texts are compiled to.
@@ -37,7 +38,7 @@ fn image_of(alloc: Global, texts: &List<Source>) -> Result<List<u8>, CommandStop
 }
 
 // Compiles the texts under names, of which none is that of a main, and puts the image of the release that they stand for under another.
-#[tactic(auto, using(crate::proofs::CompileLaws::texts_refused, crate::proofs::CompileLaws::image_refused, crate::proofs::CompileLaws::image_stored, crate::proofs::CompileLaws::get_fails, crate::proofs::CompileLaws::image_fails, crate::proofs::CompileLaws::put_fails, crate::proofs::TextLaws::mains_named, crate::proofs::BuildRefusals::image_refused_in, crate::proofs::BuildRefusals::put_ends_in))]
+#[tactic(auto, using(crate::proofs::CompileLaws::texts_refused, crate::proofs::CompileLaws::image_refused, crate::proofs::CompileLaws::image_stored, crate::proofs::CompileLaws::get_fails, crate::proofs::CompileLaws::image_fails, crate::proofs::CompileLaws::put_fails, som_texts::proofs::TextLaws::mains_named, crate::proofs::BuildRefusals::image_refused_in, crate::proofs::BuildRefusals::put_ends_in))]
 fn put_library<S: Store>(
     alloc: Global,
     name: &Text,

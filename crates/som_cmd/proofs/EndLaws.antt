@@ -13,8 +13,8 @@ use Rattle.som_steps.proofs.Statuses.{differs}
 use Rattle.som_steps.specs.Endings.{Ending}
 use Rattle.som_steps.specs.Answering.{Answering}
 use Rattle.som_steps.specs.Outcomes as steps
+use Rattle.som_texts.specs.PutAnswer.{puts}
 use Rattle.som_build.proofs.PutEndLaws.{puts_by, puts_client_by}
-use Rattle.som_build.specs.PutAnswer.{puts}
 use Rattle.som_build.specs.LibraryAnswer.{IsLibraryAnswer}
 use Rattle.som_build.specs.ClientAnswer.{IsClientAnswer}
 use Rattle.som_check.proofs.ShowEndLaws.{shows_by, shows_client_by}
@@ -26,7 +26,7 @@ use Rattle.som_check.specs.ShowAnswer.{IsShowAnswer}
 use Rattle.som_model.specs.Class.{interface_of}
 use Rattle.som_model.specs.Means.{means as meaning_of}
 use Rattle.som_model.specs.RunText.{run_text}
-use Rattle.som_compile.specs.declared.source.Source.{Source}
+use Rattle.som_reading.specs.declared.source.Source.{Source}
 use Rattle.som_run.proofs.NewestLaws.{newest_keeps, newest_metaclasses, newest_under}
 use Rattle.som_run.proofs.RunEndLaws.{front_by, means_by, unkept_by}
 use Rattle.som_run.specs.Newest.{RunsOnNewest}

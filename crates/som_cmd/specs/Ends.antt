@@ -6,7 +6,7 @@ use Rattle.som_model.specs.Bytes.{Files}
 use Rattle.som_steps.specs.StoredImages.{IsClientUnder, IsUnder}
 use Rattle.som_steps.specs.Outcomes as steps
 use Rattle.som_check.specs.CheckEnds.{AreUnder}
-use Rattle.som_compile.specs.declared.source.Source.{Source}
+use Rattle.som_reading.specs.declared.source.Source.{Source}
 use Rattle.som_run.specs.Newest.{HoldsNewest}
 use Rattle.som_run.specs.RunEnds.{AreUnder as AreRun}
 use Rattle.som_generator.specs.declared.made.Made.{Made}

@@ -2,8 +2,7 @@
 use Rattle.std.specs.Prelude.{ℕ, List, [], ◌∷◌, Option, ◌≡◌, ◌⊎◌}
 use Rattle.som_io.specs.Outside.{ShowsAll, ShowsFront}
 use Rattle.som_steps.specs.Refusing.{TellsRefusal}
-use Rattle.som_build.specs.LibraryAnswer.{library_statuses}
-use Rattle.som_build.specs.ClientAnswer.{client_statuses}
+use Rattle.som_texts.specs.Statuses.{library_statuses, client_statuses}
 use Rattle.som_check.specs.CheckAnswer.{check_statuses}
 use Rattle.som_check.specs.ShowAnswer.{show_statuses}
 use Rattle.som_pair.specs.Refusals.{IsRunRefusal}

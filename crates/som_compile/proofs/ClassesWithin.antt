@@ -1,49 +1,40 @@
 -- The classes that texts declare, and the blocks of their bodies, are within the limits of images.
-use Rattle.std.proofs.Common.{◌≡◌, ℕ, ◌<◌, ◌≤◌, ◌^◌, ◌&&◌, inl, inr, Bool, true, false, if◌then◌else◌, nat_le, List, [], ◌∷◌, length, map, Option, Some, None, option_map, refl, sym, ap, subst, arith, leb-true}
+use Rattle.std.proofs.Common.{◌≡◌, ℕ, ◌≤◌, inl, inr, List, [], ◌∷◌, length, map, Option, Some, refl, sym, ap, subst, arith}
 use Rattle.std.specs.List.{AllByRecursion}
 use Rattle.std.specs.Str.{bytes_eq}
 use Rattle.std.proofs.lemmas.List.{length-map}
 use Rattle.std.proofs.lemmas.List.Elements.{recursion_from_All, All-from_recursion}
-use Rattle.som_model.specs.declared.limits.TheConstants.{MAX_PARAMETERS, MAX_SELECTS, MAX_TEXT}
-use Rattle.som_model.specs.declared.key.ClassKey.{ClassKey}
+use Rattle.som_model.specs.declared.limits.TheConstants.{MAX_PARAMETERS, MAX_SELECTS}
 use Rattle.som_model.specs.declared.key.Module.{Module}
 use Rattle.som_model.specs.declared.key.Module.TheVariants as modules
-use Rattle.som_model.specs.declared.key.ValueType.{ValueType}
 use Rattle.som_model.specs.declared.syntax.Block.{Block}
 use Rattle.som_model.specs.declared.class.Sig.{Sig}
-use Rattle.som_model.specs.declared.class.Way.{Way}
 use Rattle.som_model.specs.declared.class.Entry.{Entry}
-use Rattle.som_model.specs.declared.class.Entry.TheVariants as entries
 use Rattle.som_model.specs.declared.class.Variable.{Variable}
 use Rattle.som_model.specs.declared.class.Body.{Body}
-use Rattle.som_model.specs.declared.class.Body.TheVariants as bodies
 use Rattle.som_model.specs.declared.class.Override.{Override}
 use Rattle.som_model.specs.declared.class.Select.{Select}
 use Rattle.som_model.specs.declared.class.ClassFace.{ClassFace}
 use Rattle.som_model.specs.declared.class.ClassDecl.{ClassDecl}
 use Rattle.som_model.specs.declared.program.Interface.{Interface}
-use Rattle.som_model.specs.Lists.{Mem, every, find}
+use Rattle.som_model.specs.Lists.{Mem, find}
 use Rattle.som_model.specs.Class.{Class, bare, class_in, entry_of, introduced}
 use Rattle.som_model.specs.Classes.{interface_classes}
 use Rattle.som_model.specs.EffectiveOrder.{effective_order}
 use Rattle.som_model.specs.Kernel.{kernel}
 use Rattle.som_model.specs.Owner.{owner, sig_of}
 use Rattle.som_model.specs.Typing.{in_body}
-use Rattle.som_syntax.specs.declared.words.Word.{Word}
 use Rattle.som_syntax.specs.declared.interface.IdlInterface.{IdlInterface}
 use Rattle.som_idl.specs.Within.{ItemWithin, InterfaceWithin}
 use Rattle.som_syntax.specs.declared.body.BodyText.{BodyText}
-use Rattle.som_body.specs.Within.{BodyTextWithin}
 use Rattle.som_ancestry.specs.Places.{with_kernel}
-use Rattle.som_ancestry.proofs.Before.{every_mem}
 use Rattle.som_lawful.proofs.PlainLists.{mem_map}
-use Rattle.som_naming.specs.BlockLimits.{TextWithin, BlockWithin, StmtWithin}
-use Rattle.som_spelling.specs.Fitting.{levels_left}
+use Rattle.som_naming.specs.BlockLimits.{TextWithin, BlockWithin}
 use Rattle.som_classimage.specs.ClassLimits.{EntryWithin, BodyWithin, FaceWithin, ClassWithin}
-use Rattle.som_methods.specs.Accessors.{Access, accessor_body, accessors_of, body_of, place_of}
+use Rattle.som_methods.specs.Accessors.{Access, accessors_of, body_of}
 use Rattle.som_declarations.specs.Known.{after_base}
 use Rattle.som_sema.specs.Building.{declarations, module_over}
-use Rattle.som_declarations.specs.Finished.{declare, entry_for, introducer, override_of, select_of, selects_at}
+use Rattle.som_declarations.specs.Finished.{declare, entry_for, introducer, select_of, selects_at}
 use Rattle.som_drafts.specs.Items.{chosen, listed, major_in, minor_in, or_object, overridden}
 use Rattle.som_methods.specs.PlainLimits.{LimitsKept}
 use Rattle.som_drafts.specs.Drafts.{InterfaceDraft, draft_of, introduces, draft_class, draft_classes}
@@ -53,45 +44,12 @@ use Rattle.som_methods.specs.Bodies.{texts_for}
 use Rattle.som_forms.specs.MethodBody.{parameters}
 use Rattle.som_blocks.specs.Blocks.{with_blocks}
 use Rattle.som_elab.proofs.Apart.{TextApart, no_text, a_text, EntryApart, accessor, of_text, EntriesApart, no_entry, moved, introduced as one_introduced, OverrideApart, without_sig, with_sig, OverridesApart, no_override, an_override, ClassApart, EachApart, no_class, a_class, entries_apart, overrides_apart}
-use Rattle.som_compile.proofs.BlocksWithin.{PlaceFits, SigsFit, whole_block_within}
-use Rattle.som_compile.proofs.InterfacesWithin.{Named, all_join, all_map, all_members, member_of_all, all_variables, entry_named, introduces_named, major_within, minor_within, number_within, order_named, some_parent, word_within}
-
--- a body whose statements can be counted, whatever file it is of
-pub record IsShort (b : BodyText) : Type 0 where
-  pub most : ℕ
-  pub few : most < 2 ^ 32
-  pub within : BodyTextWithin most b
+use Rattle.som_within.proofs.BlocksWithin.{PlaceFits, SigsFit, whole_block_within}
+use Rattle.som_within.proofs.BodiesWithin.{IsShort, access_within, all_texts, empty_overrides, no_block, parameters_few}
+use Rattle.som_within.proofs.EntriesWithin.{EntriesFit, entry_within, kernel_within}
+use Rattle.som_within.proofs.InterfacesWithin.{Named, all_join, all_map, all_members, member_of_all, all_variables, entry_named, introduces_named, major_within, minor_within, number_within, order_named, some_parent, word_within}
 
 -- ---- bodies
-
-no_block : BlockWithin (record { statements = [] })
-no_block = (omega arith, All-from_recursion (StmtWithin (levels_left 1)) [] tt)
-
-parameters_few : (ws : List Word) (kinds : List ValueType) → length (parameters ws kinds) ≤ length kinds
-parameters_few [] kinds = omega arith
-parameters_few (w ∷ ws) [] = omega arith
-parameters_few (w ∷ ws) (kind ∷ kinds) = let le = parameters_few ws kinds in omega (arith, le)
-
-module _ (P : BodyText → Type 0) where
-  picked : (b : BodyText) (bs : List BodyText) → P b → AllByRecursion P bs → (test : Bool) → AllByRecursion P (if test then b ∷ bs else bs)
-  picked b bs p ps true = (p, ps)
-  picked b bs p ps false = ps
-
-  all_texts : (class name : List ℕ) (bs : List BodyText) → AllByRecursion P bs → AllByRecursion P (texts_for bs class name)
-  all_texts class name [] p = tt
-  all_texts class name (b ∷ bs) p = picked b (texts_for bs class name) p.0 (all_texts class name bs p.1) (bytes_eq b.class.text class && bytes_eq b.method.text name)
-
--- an accessor's body has no block
-one_access : (vs : List Variable) (a : Access) → BodyWithin (accessor_body vs a)
-one_access vs a = by_kind a.sets
-  where
-    by_kind : (b : Bool) → BodyWithin (if b then bodies.Set (place_of (map (λ (v : Variable). v.name) vs) a.attribute) else bodies.Get (place_of (map (λ (v : Variable). v.name) vs) a.attribute))
-    by_kind true = tt
-    by_kind false = tt
-
-access_within : (vs : List Variable) (o : Option Access) (body : Body) → option_map (accessor_body vs) o ≡ Some body → BodyWithin body
-access_within vs None body e = absurd (let z = e in cc)
-access_within vs (Some a) body e = let same : accessor_body vs a ≡ body = (let z = e in cc) in subst BodyWithin same (one_access vs a)
 
 -- the bodies of a class, of which there is room for what its blocks name
 module _ (a : Among) (sigs : SigsFit a.classes) (c : Class) (place : PlaceFits (Some c)) (bs : List BodyText) (short : AllByRecursion IsShort bs) where
@@ -124,49 +82,10 @@ module _ (a : Among) (sigs : SigsFit a.classes) (c : Class) (place : PlaceFits (
       let r = overrides_within os q.1 more is in
       ((override_within o q.0 (sig_of a.classes (owner a.classes o.method)) refl p one, r.0), omega (arith, r.1))
 
--- ---- entries of the kernel
-
-abbrev short_entry : Entry → Bool
-short_entry (entries.Introduced name sig way) = nat_le (length name) MAX_TEXT && nat_le (length sig.params) MAX_PARAMETERS
-short_entry (entries.Moved name to) = nat_le (length name) MAX_TEXT
-
-both_true : (a b : Bool) → (a && b) ≡ true → (a ≡ true) × (b ≡ true)
-both_true true true e = (refl, refl)
-both_true true false e = cc
-both_true false b e = cc
-
-short_within : (e : Entry) → short_entry e ≡ true → EntryWithin e
-short_within (entries.Introduced name sig way) e =
-    let p = both_true (nat_le (length name) MAX_TEXT) (nat_le (length sig.params) MAX_PARAMETERS) e in
-    (leb-true (length name) MAX_TEXT p.0, leb-true (length sig.params) MAX_PARAMETERS p.1)
-short_within (entries.Moved name to) e = leb-true (length name) MAX_TEXT e
-
-abbrev short_class : Class → Bool
-short_class c = every short_entry c.decl.face.entries
-
-abbrev pub EntriesFit : Class → Type 0
-EntriesFit c = AllByRecursion EntryWithin c.decl.face.entries
-
-kernel_short : every short_class kernel ≡ true
-kernel_short = refl
-
-kernel_within : AllByRecursion EntriesFit kernel
-kernel_within =
-    all_members EntriesFit kernel (λ c m. all_members EntryWithin c.decl.face.entries (λ e n.
-    short_within e (every_mem short_entry e c.decl.face.entries (every_mem short_class c kernel kernel_short m) n)))
-
 -- ---- declarations
 
 abbrev finished : List Class → (List ℕ → Module) → Module → IdlInterface → InterfaceDraft
 finished cs module_of m i = record { text = i; class = declare cs m (draft_of module_of i) }
-
-entry_within : (e : Entry) → Named e → ((name : List ℕ) (sig : Sig) (way : Way) → e ≡ entries.Introduced name sig way → length sig.params ≤ MAX_PARAMETERS) → EntryWithin e
-entry_within (entries.Introduced name sig way) named few = (named, few name sig way refl)
-entry_within (entries.Moved name to) named few = named
-
-empty_overrides : (cs : List Class) (k : ClassKey) (names : List (List ℕ)) → AllByRecursion (λ (o : Override). BlockWithin o.block) (map (override_of cs k) names)
-empty_overrides cs k [] = tt
-empty_overrides cs k (name ∷ names) = (no_block, empty_overrides cs k names)
 
 -- where the counts of the declared classes are within the limits
 module _ (m : Module) (base : Interface) (is : List IdlInterface) (within : AllByRecursion InterfaceWithin is) (kept : LimitsKept (drafts_over m base is)) where

@@ -1,61 +1,33 @@
 -- Compiling a client's texts comes to one thing, and the code to that.
-use Rattle.std.proofs.Common.{◌≡◌, ℕ, suc, ◌≤◌, Bool, true, false, if◌then◌else◌, List, [], ◌∷◌, length, get_or, Option, Some, Result, Ok, Err, refl, sym, ap, subst, ◌∙◌}
+use Rattle.std.proofs.Common.{◌≡◌, ℕ, ◌≤◌, List, [], ◌∷◌, length, get_or, Option, Some, Result, Ok, Err, refl, sym, ap, subst, ◌∙◌}
 use Rattle.som_model.specs.declared.limits.TheConstants.{MAX_BYTES}
 use Rattle.som_model.specs.declared.program.ClientProgram.{ClientProgram}
 use Rattle.som_model.specs.declared.program.Interface.{Interface}
 use Rattle.som_model.specs.Images.{client_image}
-use Rattle.som_lex.specs.declared.token.Tokens.{Tokens}
 use Rattle.som_syntax.specs.declared.body.MainFile.{MainFile}
 use Rattle.som_cliimage.specs.Limits.{IsWithinLimits}
 use Rattle.som_cliimage.proofs.Encoded.{image_there}
 use Rattle.som_refusals.specs.declared.types.Refused.{Refused}
 use Rattle.som_blocks.specs.Blocks.{Answers, Refusal}
-use Rattle.som_compile.specs.declared.fault.TextFault.{TextFault}
-use Rattle.som_compile.specs.declared.fault.CompileFault.{CompileFault}
-use Rattle.som_compile.specs.declared.fault.CompileFault.TheVariants as faults
-use Rattle.som_compile.specs.declared.kind.SourceKind.TheVariants as kinds
-use Rattle.som_compile.specs.declared.source.Source.{Source}
-use Rattle.som_compile.specs.declared.trees.TextTree.{TextTree}
-use Rattle.som_compile.specs.declared.trees.TextTree.TheVariants as trees
-use Rattle.som_compile.specs.declared.trees.Trees.{Trees}
-use Rattle.som_compile.specs.Reading.{IsParsed, Reads, a_tree, ReadsAll, no_more, one_more, Says, Tells, with_first}
+use Rattle.som_reading.specs.declared.fault.TextFault.{TextFault}
+use Rattle.som_reading.specs.declared.fault.CompileFault.{CompileFault}
+use Rattle.som_reading.specs.declared.fault.CompileFault.TheVariants as faults
+use Rattle.som_reading.specs.declared.source.Source.{Source}
+use Rattle.som_reading.specs.declared.trees.Trees.{Trees}
+use Rattle.som_reading.specs.Reading.{ReadsAll, Says, Tells}
+use Rattle.som_reading.specs.Sources.{bytes_in, mains_in, names_of}
+use Rattle.som_reading.proofs.MainLaws.{one_main_read}
+use Rattle.som_reading.proofs.ReadLaws.{some_readings, same_trees, same_unread, read_or_not}
 use Rattle.som_compile.specs.Compiling.{IsBase, StandForClient, CompilesClient, client_unread, client_unbuilt, a_client_image, building_told, refusal_told, program_of}
-use Rattle.som_compile.specs.Sources.{bytes_in, is_bodies, is_main, mains_in, names_of}
-use Rattle.som_compile.proofs.ReadLaws.{some_readings, same_trees, same_unread, read_or_not}
 use Rattle.som_compile.proofs.CompileLaws.{Compiling, compiling_failed, refusal_joins}
 use Rattle.som_compile.proofs.Standing.{program_conforms, program_fits}
 
--- ---- there are as many mains as names of mains
-
-main_counted : (main bodies : Bool) (t : Tokens) (f : TextTree) (ts : Trees) (n : ℕ) → IsParsed (if main then kinds.Main else (if bodies then kinds.Bodies else kinds.Interfaces)) t (Ok f)
-    → length ts.mains ≡ n → length (with_first f ts).mains ≡ (if main then suc n else n)
-main_counted true bodies t (trees.Interfaces f) ts n x e = absurd x
-main_counted true bodies t (trees.Bodies f) ts n x e = absurd x
-main_counted true bodies t (trees.Main f) ts n x e = ap (λ (k : ℕ). suc k) e
-main_counted false true t (trees.Interfaces f) ts n x e = absurd x
-main_counted false true t (trees.Bodies f) ts n x e = e
-main_counted false true t (trees.Main f) ts n x e = absurd x
-main_counted false false t (trees.Interfaces f) ts n x e = e
-main_counted false false t (trees.Bodies f) ts n x e = absurd x
-main_counted false false t (trees.Main f) ts n x e = absurd x
-
-tree_counted : (s : Source) (f : TextTree) (ts : Trees) (n : ℕ) → Reads s (Ok f) → length ts.mains ≡ n → length (with_first f ts).mains ≡ (if is_main s.name then suc n else n)
-tree_counted s f ts n (a_tree t _ e c x) l = main_counted (is_main s.name) (is_bodies s.name) t f ts n x l
-
-pub mains_counted : (ss : List Source) (ts : Trees) → ReadsAll ss (Ok ts) → length ts.mains ≡ mains_in (names_of ss)
-mains_counted _ _ no_more = refl
-mains_counted _ _ (one_more {s = s} {ss = ss} {f = f} {ts = ts} x p) = tree_counted s f ts (mains_in (names_of ss)) x (mains_counted ss ts p)
+-- ---- there is an answer
 
 pub only_one : {A : Type 0} (xs : List A) → length xs ≡ 1 → (x : A) × (xs ≡ x ∷ [])
 only_one [] e = cc
 only_one (x ∷ []) e = (x, refl)
 only_one (x ∷ y ∷ xs) e = absurd (let z = e in cc)
-
--- a main is read where there is one
-pub one_main_read : (ss : List Source) (ts : Trees) → Says (ReadsAll ss) (Ok ts) → mains_in (names_of ss) ≡ 1 → length ts.mains ≡ 1
-one_main_read ss ts x e = mains_counted ss ts x ∙ e
-
--- ---- there is an answer
 
 -- a client program that texts stand for has an image
 pub client_stands_image : (base : Interface) (ss : List Source) (p : ClientProgram) → IsBase base → bytes_in ss ≤ MAX_BYTES → StandForClient base ss p → (image : List ℕ) × (client_image p ≡ Some image)

@@ -1,11 +1,6 @@
-pub mod ReadLaws
-pub mod ReleaseWithin
-pub mod CompileLaws
-pub mod FewTokens
 pub mod FewParameters
-pub mod BlocksWithin
-pub mod Standing
-pub mod InterfacesWithin
 pub mod ClassesWithin
-pub mod TextsWithin
+pub mod ReleaseWithin
+pub mod Standing
+pub mod CompileLaws
 pub mod ClientLaws

@@ -1,5 +1,5 @@
 -- An image has room for the release and for the program that texts stand for.
-use Rattle.std.proofs.Common.{◌≡◌, ℕ, ◌<◌, ◌≤◌, ◌^◌, List, [], ◌∷◌, length, Ok, All, sym, subst, arith}
+use Rattle.std.proofs.Common.{◌≡◌, ℕ, ◌<◌, ◌≤◌, ◌^◌, List, [], length, Ok, All, sym, subst, arith}
 use Rattle.std.specs.List.{AllByRecursion}
 use Rattle.std.proofs.lemmas.List.Elements.{recursion_from_All, All-from_recursion}
 use Rattle.som_model.specs.declared.limits.TheConstants.{MAX_CLIENT_CLASSES, MAX_LIBRARY_CLASSES, MAX_NESTING}
@@ -10,43 +10,23 @@ use Rattle.som_model.specs.declared.program.Interface.{Interface}
 use Rattle.som_model.specs.declared.program.Release.{Release}
 use Rattle.som_model.specs.declared.program.ClientProgram.{ClientProgram}
 use Rattle.som_model.specs.Typing.{in_main}
-use Rattle.som_syntax.specs.declared.interface.IdlFile.{IdlFile}
 use Rattle.som_syntax.specs.declared.interface.IdlInterface.{IdlInterface}
-use Rattle.som_idl.specs.Within.{FileWithin, InterfaceWithin}
+use Rattle.som_idl.specs.Within.{InterfaceWithin}
 use Rattle.som_syntax.specs.declared.body.BlockText.{BlockText}
-use Rattle.som_syntax.specs.declared.body.BodyFile.{BodyFile}
 use Rattle.som_syntax.specs.declared.body.BodyText.{BodyText}
-use Rattle.som_body.specs.Within.{BlockTextWithin, BodyFileWithin, BodyTextWithin}
+use Rattle.som_body.specs.Within.{BlockTextWithin}
 use Rattle.som_classimage.specs.ClassLimits.{ClassWithin, EntryWithin, FaceWithin}
 use Rattle.som_libimage.specs.Limits.{IsWithinLimits}
 use Rattle.som_cliimage.specs.Limits.{IsWithinLimits as ProgramWithin}
 use Rattle.som_methods.specs.PlainLimits.{LimitsKept}
-use Rattle.som_scope.specs.Words.{interfaces_of}
 use Rattle.som_methods.proofs.LimitLaws.{limits_law}
-use Rattle.som_methods.specs.Bodies.{bodies_of}
 use Rattle.som_elab.specs.Elaboration.{classes_over, drafts_over, among_over, elaborated_program, elaborated_release, nothing_before}
 use Rattle.som_elab.proofs.Apart.{ClassesApart, program_apart, release_apart}
-use Rattle.som_compile.proofs.BlocksWithin.{SigsFit, sigs_fit, whole_block_within}
-use Rattle.som_compile.proofs.InterfacesWithin.{all_flat, member_of_all}
-use Rattle.som_compile.proofs.ClassesWithin.{EntriesFit, IsShort, classes_within, entries_fit}
-
--- what is said of each file is said of each interface, and of each body
-pub interfaces_within : (files : List IdlFile) → AllByRecursion FileWithin files → AllByRecursion InterfaceWithin (interfaces_of files)
-interfaces_within files p = all_flat FileWithin InterfaceWithin (λ (f : IdlFile). f.interfaces) (λ f w. recursion_from_All InterfaceWithin f.interfaces w.interfaces) files p
-
--- a file of bodies whose statements can be counted
-pub record IsShortFile (f : BodyFile) : Type 0 where
-  pub most : ℕ
-  pub few : most < 2 ^ 32
-  pub within : BodyFileWithin most f
-
-short_bodies : (most : ℕ) → most < 2 ^ 32 → (bs : List BodyText) → AllByRecursion (BodyTextWithin most) bs → AllByRecursion IsShort bs
-short_bodies most few [] p = tt
-short_bodies most few (b ∷ bs) p = (record { most = most; few = few; within = p.0 }, short_bodies most few bs p.1)
-
-pub bodies_within : (files : List BodyFile) → AllByRecursion IsShortFile files → AllByRecursion IsShort (bodies_of files)
-bodies_within files p =
-    all_flat IsShortFile IsShort (λ (f : BodyFile). f.bodies) (λ f w. short_bodies w.most w.few f.bodies (recursion_from_All (BodyTextWithin w.most) f.bodies w.within.bodies)) files p
+use Rattle.som_within.proofs.BlocksWithin.{SigsFit, sigs_fit, whole_block_within}
+use Rattle.som_within.proofs.InterfacesWithin.{member_of_all}
+use Rattle.som_within.proofs.BodiesWithin.{IsShort}
+use Rattle.som_within.proofs.EntriesWithin.{EntriesFit}
+use Rattle.som_compile.proofs.ClassesWithin.{classes_within, entries_fit}
 
 sigs : (m : Module) (base : Interface) (is : List IdlInterface) → AllByRecursion FaceWithin base.classes → AllByRecursion InterfaceWithin is → LimitsKept (drafts_over m base is) → SigsFit (classes_over m base is)
 sigs m base is faces within kept =

@@ -12,11 +12,12 @@ use Rattle.som_methods.specs.Bodies.{bodies_of}
 use Rattle.som_elab.proofs.Conforms.{release_conforms as release_ok, program_conforms as program_ok}
 use Rattle.som_libimage.specs.Limits.{IsWithinLimits}
 use Rattle.som_cliimage.specs.Limits.{IsWithinLimits as IsProgramWithin}
-use Rattle.som_compile.specs.declared.source.Source.{Source}
+use Rattle.som_reading.specs.declared.source.Source.{Source}
+use Rattle.som_reading.specs.Sources.{bytes_in}
+use Rattle.som_reading.proofs.TextsWithin.{IsShortMain, texts_within}
+use Rattle.som_within.proofs.FilesWithin.{bodies_within, interfaces_within}
 use Rattle.som_compile.specs.Compiling.{IsBase, StandFor, StandForClient}
-use Rattle.som_compile.specs.Sources.{bytes_in}
-use Rattle.som_compile.proofs.ReleaseWithin.{bodies_within, interfaces_within, program_within, release_within}
-use Rattle.som_compile.proofs.TextsWithin.{IsShortMain, texts_within}
+use Rattle.som_compile.proofs.ReleaseWithin.{program_within, release_within}
 
 pub release_conforms : (ss : List Source) (r : Release) → StandFor ss r → ReleaseOk r
 release_conforms ss r s = release_ok (interfaces_of s.trees.interfaces) (bodies_of s.trees.bodies) r s.built

@@ -15,11 +15,11 @@ use Rattle.som_methods.specs.Bodies.{bodies_of}
 use Rattle.som_blocks.specs.Blocks.{Limit, Refusal, Rule}
 use Rattle.som_elab.specs.Elaboration.{elaborated_program, elaborated_release}
 use Rattle.som_classimage.specs.ClassLimits.{FaceWithin}
-use Rattle.som_compile.specs.declared.fault.TextFault.{TextFault}
-use Rattle.som_compile.specs.declared.fault.TextFault.TheVariants as texts
-use Rattle.som_compile.specs.declared.source.Source.{Source}
-use Rattle.som_compile.specs.declared.trees.Trees.{Trees}
-use Rattle.som_compile.specs.Reading.{ReadsAll}
+use Rattle.som_reading.specs.declared.fault.TextFault.{TextFault}
+use Rattle.som_reading.specs.declared.fault.TextFault.TheVariants as texts
+use Rattle.som_reading.specs.declared.source.Source.{Source}
+use Rattle.som_reading.specs.declared.trees.Trees.{Trees}
+use Rattle.som_reading.specs.Reading.{ReadsAll}
 
 -- what is told of the first rule that texts break, or of the first limit that they pass
 abbrev pub refusal_told : Refusal → TextFault

@@ -1,3 +1,1 @@
-pub mod Sources
-pub mod Reading
 pub mod Compiling

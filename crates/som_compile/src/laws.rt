@@ -1,20 +1,12 @@
-//! Laws of reading and compiling.
+//! Laws of compiling.
 
 ghost use Rattle.som_compile.specs.Compiling.{Compiles, CompilesClient, IsBase};
-ghost use Rattle.som_compile.specs.Reading.{ReadsAll};
-ghost use Rattle.som_compile.specs.Sources.{bytes_in, mains_in, names_of};
-ghost use Rattle.som_compile.specs.declared.fault.TextFault.{TextFault};
-ghost use Rattle.som_compile.specs.declared.source.Source.{Source};
-ghost use Rattle.som_compile.specs.declared.trees.Trees.{Trees};
 ghost use Rattle.som_model.specs.declared.limits.TheConstants.{MAX_BYTES};
 ghost use Rattle.som_model.specs.declared.program.Interface.{Interface};
+ghost use Rattle.som_reading.specs.Sources.{bytes_in, mains_in, names_of};
+ghost use Rattle.som_reading.specs.declared.fault.TextFault.{TextFault};
+ghost use Rattle.som_reading.specs.declared.source.Source.{Source};
 ghost use Rattle.std.specs.Prelude.{◌≡◌, ◌≤◌, ℕ, List, Result};
-
-/// Whatever the texts are, reading them comes to one thing, and to no other.
-pub fn reading_law()
-    ensures some { (ss : List Source) → (told : Result Trees TextFault) × ReadsAll ss told }
-    ensures one { (ss : List Source) (a b : Result Trees TextFault) → ReadsAll ss a → ReadsAll ss b → a ≡ b }
-{}
 
 /// Compiling a library's texts comes to one thing, and to no other.
 pub fn compiling_law()

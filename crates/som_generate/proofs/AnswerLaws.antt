@@ -7,9 +7,9 @@ use Rattle.som_model.specs.Bytes.{Files}
 use Rattle.som_model.specs.Lists.{Mem}
 use Rattle.som_model.specs.Runs.{Ran, Goes, Ends, Faulted, Spent}
 use Rattle.som_model.specs.RunText.{run_status}
-use Rattle.som_compile.specs.declared.fault.TextFault.{TextFault}
-use Rattle.som_compile.specs.declared.fault.TextFault.TheVariants as texts
-use Rattle.som_build.specs.Texts.{text_refused}
+use Rattle.som_reading.specs.declared.fault.TextFault.{TextFault}
+use Rattle.som_reading.specs.declared.fault.TextFault.TheVariants as texts
+use Rattle.som_texts.specs.Texts.{text_refused}
 use Rattle.som_steps.specs.declared.stop.CommandStop.{CommandStop}
 use Rattle.som_steps.specs.declared.stop.CommandStop.TheVariants as stops
 use Rattle.som_steps.specs.declared.stop.Refusal.{Refusal}

@@ -9,7 +9,7 @@ use Rattle.som_model.specs.RunText.{no_trace, run_status, run_text}
 use Rattle.som_steps.specs.declared.stop.Refusal.{Refusal}
 use Rattle.som_steps.specs.Endings.{Ending, refusing}
 use Rattle.som_steps.specs.Lines.{not_kept}
-use Rattle.som_build.specs.Texts.{text_refused}
+use Rattle.som_texts.specs.Texts.{text_refused}
 use Rattle.som_generated.specs.declared.edition.Edition.TheVariants.{Second}
 use Rattle.som_generated.specs.Generated.{release_number}
 use Rattle.som_generator.specs.declared.fault.Unmade.{Unmade}

@@ -4,10 +4,10 @@ ghost use Rattle.som_generator.specs.declared.fault.Unmade.TheVariants as unmade
 ghost use Rattle.som_steps.specs.Lines.{or_dash};
 ghost use Rattle.std.specs.Prelude.{IfOk, ◌≡◌};
 
-use som_build::refuse_texts;
 use som_generator::{MakeFault, NotKept, Unmade};
 use som_model::{NoMemory, Text};
 use som_steps::{CommandStop, Refusal, refuse_incompatible};
+use som_texts::refuse_texts;
 use std::alloc::Global;
 
 // A name, or a dash where it doesn't apply.

@@ -4,10 +4,10 @@ use Rattle.som_model.specs.declared.program.Interface.{Interface}
 use Rattle.som_model.specs.declared.limits.TheConstants.{MAX_BYTES}
 use Rattle.som_model.specs.Class.{interface_of}
 use Rattle.som_model.specs.Compatible.{CompatBreach, first_break}
-use Rattle.som_compile.specs.declared.fault.TextFault.{TextFault}
-use Rattle.som_compile.specs.declared.source.Source.{Source}
+use Rattle.som_reading.specs.declared.fault.TextFault.{TextFault}
+use Rattle.som_reading.specs.declared.source.Source.{Source}
+use Rattle.som_reading.specs.Sources.{bytes_in, mains_in, names_of}
 use Rattle.som_compile.specs.Compiling.{Compiles, CompilesClient, IsBase}
-use Rattle.som_compile.specs.Sources.{bytes_in, mains_in, names_of}
 use Rattle.som_compile.proofs.CompileLaws.{some_compiling}
 use Rattle.som_compile.proofs.ClientLaws.{some_client}
 use Rattle.som_generated.specs.declared.edition.Edition.TheVariants.{First, Second}

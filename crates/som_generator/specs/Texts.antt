@@ -1,6 +1,6 @@
 -- The texts of the generator under their names, as they are compiled.
 use Rattle.std.specs.Prelude.{ℕ, List, [], ◌∷◌, ◌++◌, codes}
-use Rattle.som_compile.specs.declared.source.Source.{Source}
+use Rattle.som_reading.specs.declared.source.Source.{Source}
 use Rattle.som_generated.specs.declared.edition.Edition.{Edition}
 use Rattle.som_generated.specs.Generated.{bodies_text, interfaces_text, main_text, release_number}
 

@@ -1,5 +1,5 @@
-use som_compile::TextFault;
 use som_model::{NoMemory, Text};
+use som_reading::TextFault;
 
 /// What a newer release doesn't keep of an older one: the rule, the class of the older one, the name of what is lost or changed,
 /// where the rule is about such a thing, and its place.

@@ -2,9 +2,9 @@ ghost use Rattle.som_generated.specs.Generated.{release_number};
 ghost use Rattle.som_generator.specs.Texts.{client_texts, library_texts};
 ghost use Rattle.std.specs.Prelude.{◌≡◌, ◌++◌, IfOk, codes};
 
-use som_compile::Source;
 use som_generated::{Edition, bodies_text, interfaces_text, main_text};
 use som_model::{List, NoMemory, Text};
+use som_reading::Source;
 use std::alloc::Global;
 
 // A text under a name.

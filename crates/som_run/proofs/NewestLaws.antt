@@ -27,7 +27,7 @@ use Rattle.som_elab.proofs.Conforms.{program_conforms}
 use Rattle.som_linking.proofs.Pairs.{passes}
 use Rattle.som_releases.proofs.Accepting.{to_last}
 use Rattle.som_scope.specs.Words.{interfaces_of}
-use Rattle.som_compile.specs.declared.source.Source.{Source}
+use Rattle.som_reading.specs.declared.source.Source.{Source}
 use Rattle.som_run.specs.Newest.{HoldsNewest, MetaclassesDescend}
 use Rattle.som_run.specs.RunEnds.{AreUnder}
 

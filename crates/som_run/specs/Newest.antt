@@ -14,7 +14,7 @@ use Rattle.som_model.specs.Means.{means}
 use Rattle.som_model.specs.Metaclass.{meta}
 use Rattle.som_model.specs.RunText.{run_text}
 use Rattle.som_io.specs.Outside.{Rose, ShowsFront}
-use Rattle.som_compile.specs.declared.source.Source.{Source}
+use Rattle.som_reading.specs.declared.source.Source.{Source}
 use Rattle.som_compile.specs.Compiling.{StandForClient}
 use Rattle.som_steps.specs.Outcomes.{StoreFails}
 use Rattle.som_steps.specs.StoredImages.{HoldsImage}

@@ -8,8 +8,8 @@ use Rattle.som_model.specs.Classes.{interface_classes}
 use Rattle.som_ancestry.specs.Faces.{faces_breach}
 use Rattle.som_scope.specs.Words.{interfaces_of}
 use Rattle.som_methods.specs.Bodies.{bodies_of}
+use Rattle.som_reading.specs.declared.source.Source.{Source}
 use Rattle.som_compile.specs.Compiling.{StandFor, StandForClient}
-use Rattle.som_compile.specs.declared.source.Source.{Source}
 use Rattle.som_says.specs.Sources.{ClientSourcesConform, LibrarySourcesConform}
 use Rattle.som_says.proofs.ConformLaws.{client_stands, library_stands}
 

@@ -2,9 +2,9 @@
 use Rattle.std.specs.Prelude.{◌≡◌, List, [], ◌∷◌, Ok}
 use Rattle.som_model.specs.declared.program.Interface.{Interface}
 use Rattle.som_syntax.specs.declared.body.MainFile.{MainFile}
-use Rattle.som_compile.specs.declared.source.Source.{Source}
-use Rattle.som_compile.specs.declared.trees.Trees.{Trees}
-use Rattle.som_compile.specs.Reading.{ReadsAll}
+use Rattle.som_reading.specs.declared.source.Source.{Source}
+use Rattle.som_reading.specs.declared.trees.Trees.{Trees}
+use Rattle.som_reading.specs.Reading.{ReadsAll}
 use Rattle.som_methods.specs.Bodies.{bodies_of}
 use Rattle.som_scope.specs.Words.{interfaces_of}
 use Rattle.som_says.specs.Conforming.{ClientConforms, LibraryConforms}

@@ -1,7 +1,8 @@
 use Rattle.std.proofs.Common.{[], ◌∷◌}
 use Rattle.som_steps.proofs.Printed.{fails}
 use Rattle.som_steps.proofs.Statuses.{ends_in}
-use Rattle.som_build.specs.ClientAnswer.{CompilesParts, parts_in}
+use Rattle.som_texts.specs.Parts.{parts_in}
+use Rattle.som_build.specs.ClientAnswer.{CompilesParts}
 use Rattle.som_build.specs.Cause.{FailsClient}
 use Rattle.som_build.proofs.PutAnswered.{client_answer}
 use Rattle.som_build.proofs.PutEndLaws.{put_ends, put_fronts, keeps_told}

@@ -2,7 +2,7 @@ use Rattle.std.proofs.Common.{[], ◌∷◌}
 use Rattle.som_steps.proofs.Printed.{fails}
 use Rattle.som_steps.proofs.Statuses.{ends_in}
 use Rattle.som_compile.specs.Compiling.{Compiles}
-use Rattle.som_build.specs.Texts.{texts_in}
+use Rattle.som_texts.specs.Texts.{texts_in}
 use Rattle.som_build.specs.Cause.{FailsLibrary}
 use Rattle.som_build.proofs.PutAnswered.{library_answer}
 use Rattle.som_build.proofs.PutEndLaws.{put_ends, put_fronts, keeps_told}

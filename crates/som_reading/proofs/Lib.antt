@@ -1,0 +1,4 @@
+pub mod ReadLaws
+pub mod MainLaws
+pub mod FewTokens
+pub mod TextsWithin

@@ -1,0 +1,47 @@
+use som_ancestry::Broken;
+use som_model::{NoMemory, Text};
+
+/// Why a text can't be read: its bytes are no tokens, or its tokens are no text of the grammar.
+#[derive(Clone, Copy, Debug, PartialEq, Eq)]
+pub enum ReadingFault {
+    BadByte,
+    OpenText,
+    OpenComment,
+    NumberTooLarge,
+    Syntax,
+    NotInProfile,
+}
+
+/// What is wrong with texts: the text of this name can't be read from the byte at this place on, they break a rule, or they
+/// pass a limit.
+#[derive(Drop)]
+pub enum TextFault {
+    Unread {
+        fault: ReadingFault,
+        name: Text,
+        place: usize,
+    },
+    Rule(Broken),
+    Limit {
+        quantity: Text,
+        number: u32,
+    },
+}
+
+/// Why texts aren't compiled.
+#[derive(Drop)]
+pub enum CompileFault {
+    Text(TextFault),
+    NoMemory,
+}
+
+impl From<NoMemory> for CompileFault {
+    ghost use Rattle.std.specs.Prelude.{◌≡◌};
+    ghost use Rattle.som_reading.specs.declared.fault.CompileFault.TheVariants as faults;
+
+    ghost from_gives = { λ _ e. e ≡ faults.NoMemory };
+
+    fn from(_e: NoMemory) -> CompileFault {
+        CompileFault::NoMemory
+    }
+}

@@ -1,0 +1,47 @@
+ghost use Rattle.som_reading.specs.Reading.{no_trees, with_last};
+ghost use Rattle.std.specs.Prelude.{◌≡◌, OnErr, OnOk};
+
+use som_model::{List, NoMemory};
+use som_syntax::{BodyFile, IdlFile, MainFile};
+use std::alloc::Global;
+
+/// The tree of one text.
+#[derive(Drop)]
+pub enum TextTree {
+    Interfaces(IdlFile),
+    Bodies(BodyFile),
+    Main(MainFile),
+}
+
+/// The trees of texts, those of each kind in the order of the texts.
+#[derive(Drop)]
+pub struct Trees {
+    pub interfaces: List<IdlFile>,
+    pub bodies: List<BodyFile>,
+    pub mains: List<MainFile>,
+}
+
+impl Trees {
+    /// The trees of no texts.
+    pub fn new(alloc: Global) -> Trees
+        ensures { result ≡ no_trees }
+    {
+        Trees {
+            interfaces: List::new(alloc),
+            bodies: List::new(alloc),
+            mains: List::new(alloc),
+        }
+    }
+
+    /// Adds the tree of the next text.
+    pub fn push(&mut self, tree: TextTree) -> Result<(), NoMemory>
+        ensures ok { OnOk result (self.new ≡ with_last self.old tree) }
+        ensures err { OnErr result (self.new ≡ self.old) }
+    {
+        match tree {
+            TextTree::Interfaces(file) => self.interfaces.push(file),
+            TextTree::Bodies(file) => self.bodies.push(file),
+            TextTree::Main(file) => self.mains.push(file),
+        }
+    }
+}

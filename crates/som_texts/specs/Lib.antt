@@ -1,0 +1,6 @@
+pub mod Texts
+pub mod Parts
+pub mod Statuses
+pub mod Getting
+pub mod PutAnswer
+pub mod PutSteps
