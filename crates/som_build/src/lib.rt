@@ -6,4 +6,3 @@ mod library;
 
 pub use client::build_client;
 pub use library::build_library;
-pub use som_texts::refuse_texts;
