@@ -6,7 +6,7 @@ HELLO = examples/hello/hello
 EXAMPLES = zoo shop document plugin
 TABLE = crates/som_rows/data/try.rows
 
-.PHONY: try table hello examples test bench
+.PHONY: try table hello examples test planted bench
 
 # the promise, with what each command prints: by the program where it is built, and else by a run of the same commands with no
 # proof, which tells where what comes differs
@@ -40,6 +40,11 @@ examples: $(SOM)
 # the gate: every proof, every edit that has to be refused, every test, and the program as two compilers build it
 test:
 	.ci/run
+
+# the bugs that the gate does not try, those of the crates that are named, and else of all, which takes hours; what is not refused
+# is told at the end: make planted NAMES="som_hooks som_proxy"
+planted:
+	@tools/planted $(NAMES)
 
 # how long the commands take, as a table for docs/PERFORMANCE.md
 bench: $(SOM)
