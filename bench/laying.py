@@ -3,7 +3,7 @@
 
     bench/laying.py [PROGRAM]
 
-PROGRAM is the built program (crates/som_lay/out/som_lay if none is given). It is run by hand and is no part of the gate. Time and
+PROGRAM is the built program (crates/som_queries/out/som_queries if none is given). It is run by hand and is no part of the gate. Time and
 memory are those of GNU /usr/bin/time, each of one run.
 
   ladder  two classes a level, each under both of the level above, the last of them the client's
@@ -63,26 +63,26 @@ def towers(height, below):
     return library(faces), client(faces, [])
 
 
-def measured(program, images, words):
+def measured(program, images, word):
     with tempfile.TemporaryDirectory() as folder:
         paths = [os.path.join(folder, name) for name in ("library.img", "client.cli")]
         for path, image in zip(paths, images):
             with open(path, "wb") as file:
                 file.write(image)
-        run = subprocess.run([TIME, "-f", "%U %S %M", program, paths[1], paths[0], *words], capture_output=True, text=True, check=True)
+        run = subprocess.run([TIME, "-f", "%U %S %M", program, f"{word}:{paths[1]}:{paths[0]}"], capture_output=True, text=True, check=True)
     user, system, kilobytes = run.stderr.split()
     return run.stdout.split("\n")[0], float(user) + float(system), int(kilobytes) / 1024
 
 
 def main():
     here = os.path.dirname(os.path.dirname(os.path.abspath(__file__)))
-    program = os.path.abspath(sys.argv[1]) if len(sys.argv) > 1 else os.path.join(here, "crates/som_lay/out/som_lay")
+    program = os.path.abspath(sys.argv[1]) if len(sys.argv) > 1 else os.path.join(here, "crates/som_queries/out/som_queries")
     inputs = [(f"ladder of {n + own}", ladder(n, own)) for n, own in ((1024, 16), (2048, 16), (4096, 256))]
     inputs += [(f"towers of {height}", towers(height, below)) for height, below in ((40, 1000), (80, 2000), (150, 2284))]
     for name, images in inputs:
-        for words in ([], ["make"]):
-            told, seconds, megabytes = measured(program, images, words)
-            print(f"| {name} | {told} | {' '.join(words) or 'lay'} | {seconds:.2f} | {megabytes:.0f} |", flush=True)
+        for word in ("lay", "make"):
+            told, seconds, megabytes = measured(program, images, word)
+            print(f"| {name} | {told} | {word} | {seconds:.2f} | {megabytes:.0f} |", flush=True)
 
 
 main()

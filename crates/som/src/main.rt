@@ -11,9 +11,6 @@ use std::process::ExitCode;
 use std::rt::Files;
 use std::{env, io};
 
-#[cfg(test)]
-mod tests;
-
 /// What people are told beside the line of a command that has no form.
 const USAGE: &str = "usage: som library OUT FILE..
        som client OUT LIBRARY FILE..

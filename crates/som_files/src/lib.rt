@@ -3,6 +3,8 @@
 
 mod files;
 mod standard_output;
+#[cfg(test)]
+mod tests;
 
 pub use files::FileStore;
 pub use standard_output::StandardOutput;

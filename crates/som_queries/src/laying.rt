@@ -1,0 +1,29 @@
+//! How many classes have numbers, and how many are made.
+
+use crate::query_fault::QueryFault;
+use som_classmgr::{Kernel, Linked};
+use som_model::NoMemory;
+use som_tables::ClassNo;
+use std::alloc::Global;
+
+// Makes all classes, and answers how many that are.
+fn make_all(alloc: Global, linked: &mut Kernel<Linked>) -> Result<u32, NoMemory> {
+    for number in 0..linked.classes().count() {
+        linked.reach(alloc, ClassNo::new(number))?;
+    }
+    Ok(linked.made())
+}
+
+/// Tells how many classes have numbers.
+pub fn tell_numbered(rt: &HostRuntime, kernel: &Kernel<Linked>) -> Result<(), QueryFault> {
+    println!(rt; "numbered {}", kernel.classes().count())?;
+    Ok(())
+}
+
+/// Tells that, makes all of them, one after the other, and tells how many are made.
+pub fn tell_made(rt: &HostRuntime, kernel: &mut Kernel<Linked>) -> Result<(), QueryFault> {
+    tell_numbered(rt, &*kernel)?;
+    let made = make_all(rt.alloc(), kernel)?;
+    println!(rt; "made {made}")?;
+    Ok(())
+}
