@@ -1,3 +1,5 @@
+//! The first name of a list that stands there twice, as the breach of a rule.
+
 ghost use Rattle.som_model.specs.Lists.{doubles, first};
 ghost use Rattle.som_order.specs.Names.{texts};
 ghost use Rattle.som_ancestry.specs.Told.{Tells};

@@ -1,3 +1,5 @@
+//! The entries that an interface introduces: its operations, and the accessors of its attributes.
+
 ghost use Rattle.som_model.specs.declared.key.ValueType.TheVariants as types;
 ghost use Rattle.som_order.specs.Names.{texts};
 ghost use Rattle.som_syntax.specs.declared.words.Word.{Word as Named};

@@ -1,3 +1,5 @@
+//! The table of an interface's methods that are called by name.
+
 ghost use Rattle.som_order.specs.Names.{texts};
 ghost use Rattle.som_scope.specs.Words.{once};
 ghost use Rattle.som_drafts.specs.Items.{given_by, is_by_name, with_modifier};

@@ -1,3 +1,5 @@
+//! Drafts from interfaces: name, versions, parents, metaclass, entries and variables.
+
 ghost use Rattle.som_model.specs.Lists.{first};
 ghost use Rattle.som_order.specs.Names.{texts};
 ghost use Rattle.som_scope.specs.ClassNames as names_of_classes;
@@ -18,7 +20,7 @@ use som_scope::{Scope, key_of, keys_of};
 use som_syntax::{IdlInterface, Item, Word};
 use std::alloc::Global;
 
-/// The drafts of interfaces.
+/// The drafts of interfaces, one for each, in order.
 pub fn drafts_of<'a>(
     alloc: Global,
     scope: &Scope,

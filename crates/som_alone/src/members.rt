@@ -1,3 +1,5 @@
+//! S6 and S12: no member and no item of an interface stands twice.
+
 ghost use Rattle.som_model.specs.Class.{introduced};
 ghost use Rattle.som_model.specs.Lists.{first};
 ghost use Rattle.som_ancestry.specs.Told.{Tells};

@@ -1,3 +1,5 @@
+//! S11: each modifier of a method stands where it may, and once.
+
 ghost use Rattle.som_model.specs.Class.{introduced};
 ghost use Rattle.som_model.specs.Lists.{among, first};
 ghost use Rattle.som_order.specs.Names.{texts};
@@ -20,7 +22,8 @@ use som_scope::table_of;
 use som_syntax::Modifier;
 use std::alloc::Global;
 
-/// The methods that the modifiers before a place were given to: `override`, how they are called, and `select`.
+/// The methods that the modifiers before a place were given to: `override`, how they are called, and `select`. These are
+/// tables; `Said` of the definitions has them as lists.
 #[derive(Drop)]
 pub struct Said<'a> {
     pub replaced: IndexSet<&'a [u8]>,

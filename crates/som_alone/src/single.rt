@@ -1,3 +1,5 @@
+//! The items of an implementation section that may stand once: metaclass, versions, release order.
+
 ghost use Rattle.som_order.specs.Names.{texts};
 ghost use Rattle.som_drafts.specs.Items as spec;
 ghost use Rattle.std.specs.Prelude.{◌≡◌, ◌++◌, IfOk, OnOk};

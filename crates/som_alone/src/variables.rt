@@ -1,3 +1,5 @@
+//! The instance variables of an interface: its attributes, and those of its implementation section.
+
 ghost use Rattle.som_scope.specs.ClassNames as names_of_classes;
 ghost use Rattle.som_scope.specs.ClassNames.{module_in_scope};
 ghost use Rattle.som_drafts.specs.Drafts as drafting;

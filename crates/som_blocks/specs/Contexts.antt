@@ -106,6 +106,6 @@ main_block a (Some text) = elaborated_main a text
 abbrev pub module_steps : Among → Module → List BodyText → List InterfaceDraft → Option BlockText → Result AllBodies Refusal
 module_steps a m bs ds main = each_steps a m bs ds >>= λ cs. main_block a main >>= λ block. Ok (record { classes = cs; main = block })
 
--- the same, where the rules on bodies and the limits come first
+-- the bodies of classes and of main, where the rules on bodies and the limits come first
 abbrev pub checked_steps : Among → Module → List BodyText → List InterfaceDraft → Option BlockText → Result AllBodies Refusal
 checked_steps a m bs ds main = obeying (bodies_breach a.classes ds bs) (keeping (limit_passed ds) (module_steps a m bs ds main))

@@ -1,3 +1,5 @@
+//! The bodies of a whole module and its main, after the rules and limits on them.
+
 ghost use Rattle.som_methods.specs.Bodies.{bodies_breach};
 ghost use Rattle.som_blocks.specs.Contexts as spec;
 ghost use Rattle.som_blocks.specs.Contexts.{IsModuleContext, IsUnlimitedContext, StandAfterOthers, among_in, checked_steps, module_steps};

@@ -1,3 +1,5 @@
+//! The bodies, overrides and selects of one class, checked in the order of its entries.
+
 ghost use Rattle.som_methods.specs.Bodies.{texts_for};
 ghost use Rattle.som_blocks.specs.Contexts.{IsModuleContext, among_in, class_steps, classes_in, refused_as, signed_steps};
 ghost use Rattle.som_blocks.specs.Blocks as spec;
@@ -56,7 +58,7 @@ pub fn class_bodies(
     own_bodies(alloc, context, place, draft, own)
 }
 
-// The same, where no body of another class needs to be looked at.
+// The bodies of the class at a place, by the texts of this class alone.
 fn own_bodies(
     alloc: Global,
     context: &ModuleContext,

@@ -1,3 +1,5 @@
+//! The bodies of all classes of a module, and the declarations that hold them.
+
 ghost use Rattle.som_blocks.specs.Contexts.{IsModuleContext, StandAfterOthers, among_in, completed, each_steps};
 ghost use Rattle.som_blocks.specs.Blocks.{Answers, with_blocks};
 ghost use Rattle.som_methods.specs.Limits.{limit_passed};
@@ -37,7 +39,7 @@ pub fn all_bodies(
     Ok(all)
 }
 
-/// The classes with their bodies.
+/// The declarations of drafts, each with the bodies at its index, all of which are moved.
 pub fn completed_classes(
     alloc: Global,
     drafts: Vec<Draft>,

@@ -1,3 +1,5 @@
+//! `ModuleContext`, what the checker knows of a module before it looks into bodies.
+
 use som_introducers::Introducers;
 use som_kinds::Knowledge;
 use som_scope::Scope;

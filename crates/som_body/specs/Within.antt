@@ -31,7 +31,7 @@ unfoldable pub StmtTextWithin : ℕ → ℕ → StmtText → Type 0
 StmtTextWithin most zero s = ⊥
 StmtTextWithin most (suc left) s = StmtPartsWithin (ExprTextWithin left) (StatementsWithin most (StmtTextWithin most left)) (out-StmtText s)
 
--- the same of a block
+-- a block, where no block has more than so many statements and so many levels are left
 abbrev pub BlockTextWithin : ℕ → ℕ → BlockText → Type 0
 BlockTextWithin most left b = StatementsWithin most (StmtTextWithin most left) b
 

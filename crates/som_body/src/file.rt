@@ -126,7 +126,7 @@ fn bodies(alloc: Global, tokens: &Tokens, left: &mut Cursor<'_>) -> Result<List<
     Err(Stop::Syntax)
 }
 
-/// A whole file of bodies.
+/// Reads a whole file of bodies, up to the end of its tokens.
 #[tactic(auto, unfolding(crate::specs::StatementReading::body_file))]
 pub(crate) fn body_file(
     alloc: Global,
@@ -140,7 +140,7 @@ pub(crate) fn body_file(
     Ok(BodyFile { bodies })
 }
 
-/// A whole main.
+/// Reads the file of a main, up to the end of its tokens.
 #[tactic(auto, unfolding(crate::specs::StatementReading::main_file))]
 pub(crate) fn main_file(
     alloc: Global,

@@ -26,7 +26,7 @@ abbrev pub refusal_told : Refusal → TextFault
 refusal_told (Rule b) = texts.Rule (record { rule = b.rule; class = b.class; member = b.member })
 refusal_told (Limit p) = texts.Limit p.quantity p.number
 
--- the same of what the code answers; want of memory is no fault of the texts
+-- what is told of a refusal that the code answers; want of memory is no fault of the texts
 abbrev pub building_told : Refused → Option TextFault
 building_told (refusals.Rule b) = Some (texts.Rule b)
 building_told (refusals.Limit quantity number) = Some (texts.Limit quantity number)

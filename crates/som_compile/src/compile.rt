@@ -1,3 +1,5 @@
+//! The compiler: files to the image of a library or of a client, or the first error.
+
 ghost use Rattle.som_compile.specs.Compiling.{Compiles, CompilesClient, IsBase, building_told};
 ghost use Rattle.som_model.specs.declared.limits.TheConstants.{MAX_BYTES};
 ghost use Rattle.som_reading.specs.Reading.{Says, Tells};

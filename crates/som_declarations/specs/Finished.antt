@@ -58,7 +58,7 @@ declare_at cs k d = record {
 abbrev pub declare : List Class → Module → InterfaceDraft → ClassDecl
 declare cs m d = declare_at cs (class_in m d.class).key d
 
--- the same with what the text selects, over all classes as they are declared
+-- the declaration of a class of a module with what its text selects, over all classes as they are declared
 abbrev pub declare_selecting : List Class → List Class → Module → InterfaceDraft → ClassDecl
 declare_selecting cs all m d = record (declare cs m d) { selects = selects_at all (class_in m d.class).key d }
 

@@ -1,3 +1,5 @@
+//! Class declarations from drafts, where each moved or overridden method gets the class that introduces it.
+
 ghost use Rattle.som_model.specs.Class.{Class, entry_of, introduced};
 ghost use Rattle.som_model.specs.EffectiveOrder as orders;
 ghost use Rattle.som_model.specs.Kernel.{kernel_interface};
@@ -47,7 +49,7 @@ pub fn declarations(
     declarations_by(alloc, kernel, classes, lists, &introducers, drafts, from)
 }
 
-// The same, where it is known which classes introduce each name.
+// The declarations of a module's classes, where it is known which classes introduce each name.
 fn declarations_by(
     alloc: Global,
     kernel: &[ClassFace],
@@ -93,7 +95,7 @@ fn declaration(
     declaration_below(alloc, kernel, classes, lists, &above, draft, place)
 }
 
-// The same, where the ancestors have ranks.
+// The declaration of the class at a place, where its ancestors have ranks.
 fn declaration_below(
     alloc: Global,
     kernel: &[ClassFace],

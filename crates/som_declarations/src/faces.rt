@@ -1,3 +1,5 @@
+//! Faces, keys and ranks of ancestors by the place of a class in the class table.
+
 ghost use Rattle.som_introducers.specs.Introducers.{AreIntroducers};
 ghost use Rattle.som_introducers.specs.Ranking.{IsRanking};
 ghost use Rattle.som_model.specs.Kernel.{kernel_interface};

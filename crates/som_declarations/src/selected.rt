@@ -63,7 +63,7 @@ pub fn selects(
     )
 }
 
-// The same, where a text selects something.
+// The selects of these choices, which the text of the class at a place makes.
 fn chosen_selects(
     alloc: Global,
     kernel: &[ClassFace],
@@ -95,7 +95,7 @@ fn chosen_selects(
     )
 }
 
-// The same among these parents.
+// The selects of these choices among these parents, in their order.
 fn ranked_selects(
     alloc: Global,
     kernel: &[ClassFace],

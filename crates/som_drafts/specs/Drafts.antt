@@ -90,7 +90,7 @@ pub record InterfaceDraft : Type 0 where
 abbrev pub draft_of : (List ℕ → Module) → IdlInterface → InterfaceDraft
 draft_of module_of i = record { text = i; class = draft_class module_of i }
 
--- the same, borrowed
+-- the interface and the class of a draft, as the code borrows them
 abbrev pub plain_draft : Draft → InterfaceDraft
 plain_draft d = record { text = d.text.now; class = d.decl }
 

@@ -1,3 +1,5 @@
+//! `Draft`, an interface with the part of its class declaration that asks no other class.
+
 use som_model::ClassDecl;
 use som_syntax::IdlInterface;
 

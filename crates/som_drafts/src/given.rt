@@ -1,3 +1,5 @@
+//! The modifiers of an implementation section, each beside the method that it is given to.
+
 ghost use Rattle.som_drafts.specs.Items as spec;
 ghost use Rattle.som_drafts.specs.Items.{given_by, given_in};
 ghost use Rattle.std.specs.Prelude.{◌≡◌, ◌++◌, map, IfOk, OnOk};
@@ -6,7 +8,7 @@ use som_model::NoMemory;
 use som_syntax::{Item, Modifier};
 use std::alloc::Global;
 
-/// A modifier that is given to a method.
+/// One modifier of an implementation section, beside the name of the method that it is given to.
 #[derive(Clone, Copy)]
 pub struct Mark<'a> {
     pub method: &'a [u8],

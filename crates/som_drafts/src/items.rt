@@ -1,3 +1,5 @@
+//! The names of parents and of the release order that a text gives.
+
 ghost use Rattle.som_order.specs.Names.{texts};
 ghost use Rattle.som_scope.specs.Words.{words};
 ghost use Rattle.som_drafts.specs.Items as spec;

@@ -1,3 +1,5 @@
+//! The names that entries introduce, and names after a prefix, as those of accessors.
+
 ghost use Rattle.som_model.specs.Class.{introduced};
 ghost use Rattle.som_order.specs.Names.{texts};
 ghost use Rattle.std.specs.Prelude.{◌≡◌, ◌++◌, IfOk};
@@ -6,7 +8,7 @@ use som_model::{Entry, NoMemory, Text};
 use som_scope::add;
 use std::alloc::Global;
 
-/// The names that entries introduce.
+/// The names that entries introduce, in order; those of moved entries are left out.
 pub fn introduced_names(alloc: Global, entries: &[Entry]) -> Result<Vec<&[u8]>, NoMemory>
     ensures { IfOk result (λ names. texts names.items ≡ introduced entries.now) }
 {
@@ -19,7 +21,7 @@ pub fn introduced_names(alloc: Global, entries: &[Entry]) -> Result<Vec<&[u8]>, 
     Ok(names)
 }
 
-/// A name after a prefix.
+/// The bytes of a prefix and then of a name, as one text.
 pub fn prefixed(alloc: Global, prefix: &[u8], name: &[u8]) -> Result<Text, NoMemory>
     ensures { IfOk result (λ text. text ≡ prefix.now ++ name.now) }
 {

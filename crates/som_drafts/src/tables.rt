@@ -1,3 +1,5 @@
+//! Tables of the methods that a text overrides or selects.
+
 ghost use Rattle.som_model.specs.Lists.{among, without};
 ghost use Rattle.som_order.specs.Names.{texts};
 ghost use Rattle.som_scope.specs.Words.{once};

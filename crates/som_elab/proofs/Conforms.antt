@@ -88,7 +88,7 @@ module _ (a : Among) (m : Module) (bs : List BodyText) where
       ∙ ap (λ z. plain (class_in m x.value) ∷ z) (each_same ds y.value y.first)
       ∙ ap (λ (z : List ClassDecl). map plain (map (class_in m) z)) (same_answer y.further)
 
-  -- the same with what texts select
+  -- classes with bodies are what their texts declare but for these bodies, selects included
   module _ (fill : IdlInterface → ClassDecl) (of_text : IdlInterface → InterfaceDraft)
       (fills : (i : IdlInterface) (c : ClassDecl) → elaborated_class a m bs (of_text i) ≡ Ok c → selecting (class_in m (fill i)) ≡ selecting (class_in m c)) where
     each_selecting : (is : List IdlInterface) (cs : List ClassDecl) → elaborated_each a m bs (map of_text is) ≡ Ok cs → map selecting (map (class_in m) (map fill is)) ≡ map selecting (map (class_in m) cs)

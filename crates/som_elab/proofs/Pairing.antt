@@ -11,7 +11,7 @@ use Rattle.som_elab.specs.Elaboration.{drafts_of_classes}
 abbrev pub paired : (Bor IdlInterface) × ClassDecl → InterfaceDraft
 paired p = record { text = p.0.now; class = p.1 }
 
--- the same, with one borrow less
+-- an interface and a declaration that are passed together, with one borrow less
 abbrev pub one_less : (Bor (Bor IdlInterface)) × ClassDecl → (Bor IdlInterface) × ClassDecl
 one_less p = (p.0.now, p.1)
 

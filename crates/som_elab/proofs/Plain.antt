@@ -35,7 +35,7 @@ emptied o = record { method = o.method; block = record { statements = [] } }
 abbrev pub plain : Class → Class
 plain c = record { key = c.key; decl = record { face = c.decl.face; variables = c.decl.variables; bodies = []; overrides = map emptied c.decl.overrides; selects = [] } }
 
--- the same with its selects
+-- a class without its bodies and blocks, but with its selects
 abbrev pub selecting : Class → Class
 selecting c = record { key = c.key; decl = record { face = c.decl.face; variables = c.decl.variables; bodies = []; overrides = map emptied c.decl.overrides; selects = c.decl.selects } }
 

@@ -95,7 +95,7 @@ module _ (cs ds : List Class) (e : map plain cs ≡ map plain ds) where
   front : (i : ℕ) → map plain (with_kernel (take i cs)) ≡ map plain (with_kernel (take i ds))
   front i = ap (λ z. map plain kernel ++ z) (take_plain cs i ∙ ap (take i) e ∙ sym (take_plain ds i))
 
-  -- overrides of the same methods
+  -- each override of one class has one in the other that differs in its block alone
   override_mem : (c d : Class) → plain d ≡ plain c → (o : Override) → Mem o d.decl.overrides → (p : Override) × Mem p c.decl.overrides × (emptied o ≡ emptied p)
   override_mem c d p o m = mem_same emptied c.decl.overrides d.decl.overrides (sym (ap (λ (z : Class). z.decl.overrides) p)) o m
 

@@ -132,7 +132,7 @@ module _ (m : Module) (base : Interface) (is : List IdlInterface) (holds : Class
   signed_by b None e = absurd (true≢false (sym e))
   signed_by b (Some sig) e = (sig, refl)
 
-  -- and so it is of a method with a signature
+  -- a body for a method is of one that has a signature
   pub body_signed : (bs : List BodyText) → first (flat_map (text_s13 cs ds) bs) ≡ None → (i : IdlInterface) → Mem i is → (name : List ℕ) (b : BodyText) (rest : List BodyText)
       → texts_for bs (of_text i).class.face.name name ≡ b ∷ rest → (sig : Sig) × (body_sig cs (of_text i) name ≡ Some sig)
   body_signed bs s13 i n name b rest e =

@@ -1,3 +1,5 @@
+//! `build_release` and `elaborate`: syntax trees to a release, or to a client program.
+
 ghost use Rattle.som_methods.specs.Bodies.{bodies_of};
 ghost use Rattle.som_blocks.specs.Contexts.{FewParameters};
 ghost use Rattle.som_blocks.specs.Blocks.{Answers};

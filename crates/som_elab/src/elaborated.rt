@@ -1,3 +1,5 @@
+//! One module through the front end: declarations first, and then its bodies and main.
+
 ghost use Rattle.som_elab.specs.Elaboration as spec;
 ghost use Rattle.som_methods.specs.Bodies.{bodies_of};
 ghost use Rattle.som_elab.specs.Elaboration.{drafts_over, among_over};
@@ -102,7 +104,7 @@ fn bodies_over(
     grouped_over(alloc, own_module, base, interfaces, drafts, &texts, main)
 }
 
-// The same, where the bodies are put together by classes.
+// The bodies of classes that break no rule on faces, where their texts are put together by classes.
 fn grouped_over(
     alloc: Global,
     own_module: Module,
@@ -126,7 +128,7 @@ fn grouped_over(
     bodies_after(alloc, &scope, bares.as_slice(), drafts, texts, main)
 }
 
-// The same, where the classes of the base are declared.
+// The bodies of classes and of main, where the classes of the base are declared.
 fn bodies_after(
     alloc: Global,
     scope: &Scope,
@@ -193,7 +195,7 @@ fn bodies_in_context(
     )
 }
 
-// The same, where it is known which classes introduce each name.
+// The bodies of classes and of main, where it is known which classes introduce each name.
 fn bodies_by(
     alloc: Global,
     scope: &Scope,

@@ -1,3 +1,5 @@
+//! The law that what the front end builds keeps every rule of releases and programs.
+
 ghost use Rattle.som_syntax.specs.declared.body.BlockText.{BlockText as MainText};
 ghost use Rattle.som_syntax.specs.declared.body.BodyText.{BodyText};
 ghost use Rattle.som_elab.specs.Elaboration.{elaborated_program, elaborated_release};

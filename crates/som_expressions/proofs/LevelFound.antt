@@ -35,7 +35,7 @@ short {d = d} {l = l} m = elim (cases_lt (length m.front) (length l)) [
   | inr le ↦ (let e : top (take (length m.front) l) ≡ top l = ap top (take_all (length m.front) l le) in absurd (omega (arith, m.low, m.high, e, top_part (suc (length m.front)) l)))
 ]
 
--- the same of a longer text
+-- in a longer text the level too many is where it was
 pub deep_more : {A B : Type 0} {d : ℕ} {l : List ℕ} {w : List Token} {o : Outcome A} {o' : Outcome B} (k : List ℕ) (v : List Token) (m : Deep d l w o) → o' ≡ Err (Nesting, m.rest) → v ≡ w → Deep d (l ++ k) v o'
 deep_more {d = d} {l = l} k v m e same = record {
   front = m.front;
@@ -46,7 +46,7 @@ deep_more {d = d} {l = l} k v m e same = record {
   high = subst (λ x. d < top x) (sym (take_first (suc (length m.front)) l k (omega (arith, short m)))) m.high;
 }
 
--- the same after other tokens, whose levels suffice
+-- the level too many after other tokens, whose levels suffice
 pub deep_after : {A B : Type 0} {d : ℕ} {l : List ℕ} {w : List Token} {o : Outcome A} {o' : Outcome B} (k : List ℕ) (u v : List Token) (m : Deep d l w o) → o' ≡ Err (Nesting, m.rest) → length k ≡ length u → top k ≤ d → v ≡ u ++ w → Deep d (k ++ l) v o'
 deep_after {d = d} {l = l} k u v m e counts le same =
     let at : length (u ++ m.front) ≡ length k + length m.front = omega (arith, counts, length-append u m.front) in

@@ -40,6 +40,7 @@ abbrev pub IsLow : ℕ → Turn Tall Tall → Type 0
 IsLow d (More a) = a.height ≤ d
 IsLow d (Done a) = a.height ≤ d
 
+-- arguments, so far or all, of which none takes more levels than these
 abbrev pub AreLow : ℕ → Turn Given Given → Type 0
 AreLow d (More g) = g.height ≤ d
 AreLow d (Done g) = g.height ≤ d

@@ -49,7 +49,7 @@ by_table f p q = λ ts. by_found (found f (head ts)) p q ts
 abbrev pub pushed : {B : Type 0} → (Option Token → Bool) → ℕ → ℕ → Parser B → Parser B → Parser B
 pushed test d h p q = λ ts. if test (head ts) then (if nat_le (h + 1) d then p (drop 1 ts) else Err (Nesting, ts)) else q ts
 
--- the same where a table has the operators
+-- Where a table has an operator for the token in hand, p by its number after it, one level down. Else q.
 abbrev pub operator_by : {B : Type 0} → Option ℕ → ℕ → ℕ → (ℕ → Parser B) → Parser B → Parser B
 operator_by (Some op) d h p q = λ ts. if nat_le (h + 1) d then p op (drop 1 ts) else Err (Nesting, ts)
 operator_by None d h p q = q

@@ -38,7 +38,7 @@ impl Tall {
     }
 }
 
-/// Arguments, and how many levels the deepest takes.
+/// The arguments that a call is given, and how many levels the deepest takes.
 #[derive(Drop)]
 pub(crate) struct Given {
     pub(crate) args: List<ExprText>,

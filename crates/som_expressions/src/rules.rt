@@ -24,7 +24,7 @@ pub(crate) struct Rules<'t, F> {
 }
 
 impl<'t, F: Fn(Global, &Tokens, &mut Cursor<'_>, usize, Line) -> Result<Tall, Stop>> Rules<'t, F> {
-    /// A line one level down.
+    /// Reads a line of the grammar with one level less left.
     pub(crate) fn below(&self, left: &mut Cursor<'_>, line: Line) -> Result<Tall, Stop>
         requires inner { Reads self.now.tokens.now self.now.depth (F.pre self.now.inner) (F.post self.now.inner) }
         ensures reads { Answers (spec.at (text_at self.now.tokens.now) self.now.depth line left.old.rest.now) result left.new.rest.now }

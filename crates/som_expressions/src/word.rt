@@ -55,7 +55,7 @@ pub fn is_name(key: Key) -> bool
     }
 }
 
-/// Any word.
+/// Takes any word, also one that a grammar treats specially.
 #[tactic(auto, unfolding(crate::specs::Reading::any_word, som_read::specs::Readers::take_word))]
 pub fn any_word(alloc: Global, tokens: &Tokens, left: &mut Cursor<'_>) -> Result<Word, Stop>
     ensures { Answers (spec.any_word (text_at tokens.now) left.old.rest.now) result left.new.rest.now }
@@ -70,7 +70,7 @@ pub fn any_word(alloc: Global, tokens: &Tokens, left: &mut Cursor<'_>) -> Result
     }
 }
 
-/// A name.
+/// Takes a word that may be a name, or stops with the token still in hand.
 #[tactic(auto, unfolding(crate::specs::Reading::name, som_read::specs::Readers::take_word))]
 pub fn name(alloc: Global, tokens: &Tokens, left: &mut Cursor<'_>) -> Result<Word, Stop>
     ensures { Answers (spec.name (text_at tokens.now) left.old.rest.now) result left.new.rest.now }
@@ -119,7 +119,7 @@ pub(crate) fn host(tokens: &Tokens, left: &mut Cursor<'_>) -> Result<HostCode, S
     }
 }
 
-/// A type.
+/// Takes a type: `long`, `boolean`, `string`, or the name of a class.
 #[tactic(auto, unfolding(crate::specs::Reading::kind))]
 pub fn kind(alloc: Global, tokens: &Tokens, left: &mut Cursor<'_>) -> Result<TypeName, Stop>
     ensures { Answers (spec.kind (text_at tokens.now) left.old.rest.now) result left.new.rest.now }

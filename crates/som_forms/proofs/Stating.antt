@@ -36,7 +36,7 @@ pub kept : (cs : List Class) (ls : List Local) (comes : Told Placed) (rule : ℕ
 kept cs ls comes rule true test s r e h is = subst (λ z. Keeps cs comes ls z) (sym is) (e ∙ ap (λ b. ruled (needs rule b (placed (names_at cs ls) s))) (sym h))
 kept cs ls comes rule false test s r e h is = subst (λ z. Keeps cs comes ls z) (sym is) (e ∙ ap (λ b. ruled (needs rule b (placed (names_at cs ls) s))) (sym h))
 
--- the same of a form, by its value
+-- what a demand comes to that a form asks of a value
 pub tested : (cs : List Class) (ls : List Local) (value : Elab) (form : Elaborated → Ruled Placed) (p : Elaborated) (rule : ℕ) (holds test : Bool) (s : Stmt) (r : Result Stmt BodyFault)
     → value ≡ Ok p → form p ≡ needs rule test (placed (names_at cs ls) s) → holds ≡ test → r ≡ (if holds then Ok s else Err (faults.Rule rule)) → Keeps cs (by_value value form) ls r
 tested cs ls value form p rule holds test s r e f h is =

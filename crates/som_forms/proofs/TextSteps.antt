@@ -133,7 +133,7 @@ leaves cs comes before after (Err e) locals same k = k
 pub formed : (cs : List Class) (comes form : Told Placed) (before after : List Local) (r : Result Stmt BodyFault) → comes ≡ form → States cs form before after r → States cs comes before after r
 formed cs comes form before after r same t = subst (λ (z : Told Placed). States cs z before after r) (sym same) t
 
--- the same where the form takes the locals as a slice
+-- what a statement comes to by its form, where the form takes the locals as a slice
 pub plainly : (cs : List Class) (comes : Told Placed) (form : List Local → Told Placed) (before shown : List Local) (r : Result Stmt BodyFault) → AreLocals cs before → shown ≡ before → comes ≡ form before
     → Keeps cs (form shown) shown r → States cs comes before before r
 plainly cs comes form before shown r locals same is k =

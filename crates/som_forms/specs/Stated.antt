@@ -31,7 +31,7 @@ names_in s ls = names_at (classes_at s) ls
 abbrev pub expr_in : BodyContext → List Local → ExprText → Elab
 expr_in s ls e = elaborated (among_at s) (place_at s) (names_in s ls) e
 
--- the same of one that has a value
+-- what the text of an expression that has to have a value comes to among these locals
 abbrev pub value_in : BodyContext → List Local → ExprText → Elab
 value_in s ls e = elaborated_value (among_at s) (place_at s) (names_in s ls) e
 
@@ -55,7 +55,7 @@ declared_by value form = ruled value >>= form
 abbrev pub while_by : Elab → Told Block → Names → Told Placed
 while_by value block scope = ruled value >>= λ p. block >>= λ b. ruled (needs 17 (is_boolean p.type) (placed scope (stmts.While p.expr b)))
 
--- the same with two blocks
+-- a condition, two blocks, and then the condition's type
 abbrev pub if_by : Elab → Told Block → Told Block → Names → Told Placed
 if_by value chosen other scope =
     ruled value >>= λ p. chosen >>= λ b. other >>= λ c. ruled (needs 17 (is_boolean p.type) (placed scope (stmts.If p.expr b c)))
@@ -72,7 +72,7 @@ abbrev pub States : List Class → Told Placed → List Local → List Local →
 States cs comes before after (Ok s) = Leaves cs comes s before after
 States cs comes before after (Err fault) = Stops comes fault
 
--- the same of a statement that declares nothing
+-- a statement that declares nothing is made, or what is wrong with it is told
 abbrev pub Keeps : List Class → Told Placed → List Local → Result Stmt BodyFault → Type 0
 Keeps cs comes ls (Ok s) = comes ≡ Ok (record { stmt = s; scope = names_at cs ls })
 Keeps cs comes ls (Err fault) = Stops comes fault

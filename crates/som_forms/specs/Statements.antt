@@ -22,6 +22,7 @@ pub data BodyBreach : Type 0 where
   Breaks : ℕ → BodyBreach
   ManyLocals : BodyBreach
 
+-- what the text of a body comes to, or the breach that is told of it
 abbrev pub Told : Type 0 → Type 0
 Told A = Result A BodyBreach
 

@@ -1,3 +1,5 @@
+//! The checker of whole bodies: parameters as the first locals, and then the block.
+
 ghost use Rattle.som_forms.specs.Code.{Blocks};
 ghost use Rattle.som_forms.specs.MethodBody as spec;
 ghost use Rattle.som_forms.specs.MethodBody.{elaborated_body};

@@ -1,3 +1,5 @@
+//! `BodyFault`, why a body is refused: a broken rule, too many locals or want of memory.
+
 use som_kinds::TypeFault;
 use som_model::NoMemory;
 use std::alloc::AllocFailed;

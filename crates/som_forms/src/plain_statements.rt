@@ -1,3 +1,5 @@
+//! The checker of statements without blocks: assignment, return, print, free and call.
+
 ghost use Rattle.som_forms.specs.Stated.{Keeps, by_value, expr_in, names_in, value_in};
 ghost use Rattle.som_forms.specs.Statements as forms;
 ghost use Rattle.som_forms.specs.declared.fault.BodyFault.TheVariants as faults;

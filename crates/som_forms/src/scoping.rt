@@ -1,3 +1,5 @@
+//! Whether a local may be declared: its name, its type and the number of locals.
+
 ghost use Rattle.som_forms.specs.Stated.{Opens, names_in};
 ghost use Rattle.som_forms.specs.Statements.{declared};
 ghost use Rattle.som_model.specs.Class.{Class};

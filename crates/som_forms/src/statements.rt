@@ -1,3 +1,5 @@
+//! The checker of blocks, and of statements that hold blocks or declare a local.
+
 ghost use Rattle.som_forms.specs.Code.{Blocks};
 ghost use Rattle.som_forms.specs.Stated.{States, block_in, declared_by, if_by, names_in, stmt_in, value_in, while_by};
 ghost use Rattle.som_forms.specs.Statements as forms;

@@ -67,7 +67,7 @@ module _ (olds mids news : List Class) (oo : IsOrdered olds) (om : IsOrdered mid
       let r = between c m in
       subst (λ z. Descends (hierarchy N) z y) (sym r.2) (b.ancestors r.0 y r.1 (subst (λ z. Descends (hierarchy M) z y) r.2 d))
 
-  -- it stands on the same class of the kernel
+  -- a class of the old stands in the new on the class of the kernel on which it stands in between
   stands_on : (c : Class) → Mem c olds → StandsLow M c.key → StandsLow N c.key
   stands_on c m s =
       let r = between c m in

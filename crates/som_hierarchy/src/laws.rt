@@ -1,3 +1,5 @@
+//! Laws of class hierarchies by keys: places, ancestors, owners of methods, metaclasses.
+
 ghost use Rattle.som_hierarchy.specs.Keeping.{ClassesKeep};
 ghost use Rattle.som_model.specs.Loads.{FacesLoad, IsOrdered};
 ghost use Rattle.som_hierarchy.specs.Metaclasses.{Declares, IsDeclared, StandsLow};

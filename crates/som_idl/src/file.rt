@@ -137,7 +137,7 @@ fn entries(
     Err(Stop::Syntax)
 }
 
-/// The whole file.
+/// Reads a whole file, up to the end of its tokens.
 #[tactic(auto, unfolding(crate::specs::Reading::file))]
 pub(crate) fn file(alloc: Global, tokens: &Tokens, left: &mut Cursor<'_>) -> Result<IdlFile, Stop>
     ensures { Answers (spec.file (text_at tokens.now) left.old.rest.now) result left.new.rest.now }

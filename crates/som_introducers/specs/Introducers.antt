@@ -31,6 +31,7 @@ AreIntroducers cs w = AreGathered cs (texts w.names.keys) w.places.items
 
 -- ---- as they are gathered
 
+-- a name beside the place of a class that introduces it
 pub record At : Type 0 where
   pub name : List ℕ
   pub place : ℕ

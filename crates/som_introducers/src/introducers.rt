@@ -1,3 +1,5 @@
+//! The index from the name of a method to the classes that introduce it.
+
 ghost use Rattle.som_introducers.specs.Introducers.{AreIntroducers, AreSeen, At, at_first, at_one};
 ghost use Rattle.som_model.specs.Class.{introduced};
 ghost use Rattle.som_model.specs.Kernel.{kernel_interface};

@@ -1,3 +1,5 @@
+//! The ranks of classes on a list of ancestors, by which the first introducer of a name is found.
+
 ghost use Rattle.som_introducers.specs.Introducers as spec;
 ghost use Rattle.som_introducers.specs.Introducers.{AreIntroducers, stands};
 ghost use Rattle.som_introducers.specs.Ranking.{AreRanks, IsRanking, rank_from};

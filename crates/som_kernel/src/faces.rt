@@ -1,3 +1,5 @@
+//! The faces of SOMObject, SOMClass, SOMClassMgr and SOMMBeforeAfter, method by method.
+
 ghost use Rattle.som_model.specs.Kernel.{
   kernel_key,
   method,

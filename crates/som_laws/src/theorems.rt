@@ -1,3 +1,5 @@
+//! Laws of ancestors, descent, resolution of methods, names, keys and release orders.
+
 ghost use Rattle.som_model.specs.Ancestors.{Descends, anc, descends};
 ghost use Rattle.som_model.specs.EffectiveOrder.{effective_order};
 ghost use Rattle.som_model.specs.Hierarchy.{Falls, Hierarchy, Tells};

@@ -61,7 +61,7 @@ kind_is b _ _ (a_sign s) = by_tests (is_letter b) (is_digit b) (b == quote) (b =
 kind_is b _ _ (a_double {c = c} s) = by_tests (is_letter b) (is_digit b) (b == quote) (b == hash) (double_letter b c s) (double_digit b c s) (double_quote b c s) (double_hash b c s)
 kind_is _ _ _ (a_directive _) = refl
 
--- the same bytes spell one kind
+-- no bytes spell tokens of two kinds
 pub one_kind : (u : List ℕ) (kind other : TokenKind) → Spells kind u → Spells other u → kind ≡ other
 one_kind [] kind other s t = elim s [ ]
 one_kind (b ∷ u) kind other s t = kind_is b u kind s ∙ sym (kind_is b u other t)

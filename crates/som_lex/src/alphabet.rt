@@ -1,3 +1,5 @@
+//! The classes of bytes that the lexer tells apart: letters, digits, blanks, signs, escapes.
+
 ghost use Rattle.std.specs.Prelude.{◌≡◌, if◌then◌else◌};
 ghost use Rattle.som_lex.specs.Alphabet as spec;
 ghost use Rattle.som_lex.specs.Line.{next_is as next_is_of};

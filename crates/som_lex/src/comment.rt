@@ -1,3 +1,5 @@
+//! The lexer of comments: to the end of a line, or between `/*` and `*/`.
+
 ghost use Rattle.std.specs.Prelude.{◌≡◌, ◌≢◌, ◌≤◌, ◌<◌, ◌+◌, ◌^◌, ◌==◌, not, false, ℕ, List, ◌∷◌, length, IfOk};
 ghost use Rattle.std.specs.List.{prefix_len};
 ghost use Rattle.som_lex.specs.Lexeme.{block_at};

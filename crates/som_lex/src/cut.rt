@@ -1,3 +1,5 @@
+//! The main loop of the lexer, from a text to all its tokens.
+
 ghost use Rattle.std.specs.Prelude.{◌≡◌, ◌≢◌, ◌++◌, ◌^◌, ◌<◌, length, All, IfOk, IfErr, OnOk};
 ghost use Rattle.som_lex.specs.Cut.{IsLexed, Stops};
 ghost use Rattle.som_lex.specs.Lexeme.{token_in};

@@ -1,3 +1,5 @@
+//! `LexFault`, the errors of the lexer, each with the byte at which it stands.
+
 ghost use Rattle.std.specs.Prelude.{◌≡◌};
 ghost use Rattle.som_lex.specs.declared.fault.LexFault.TheVariants as faults;
 

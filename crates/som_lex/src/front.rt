@@ -1,3 +1,5 @@
+//! One step of the lexer: the token, blank or comment at a place, chosen by its first bytes.
+
 ghost use Rattle.std.specs.Prelude.{◌≡◌, ◌≤◌, ◌<◌, ◌+◌, ◌^◌, length, IfOk};
 ghost use Rattle.som_lex.specs.Lexeme.{lexeme_at, sign_at};
 

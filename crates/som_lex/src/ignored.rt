@@ -1,3 +1,5 @@
+//! Which preprocessor directives are ignored: `include`, `define`, and the guards around them.
+
 ghost use Rattle.std.specs.Prelude.{◌≡◌, ◌≤◌, ◌||◌, length, codes};
 ghost use Rattle.std.specs.List.{prefix_len};
 ghost use Rattle.std.specs.Str.{bytes_eq};

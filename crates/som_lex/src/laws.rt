@@ -1,3 +1,5 @@
+//! Laws of the lexer: it has exactly one answer, and literals mean their bytes and escapes.
+
 ghost use Rattle.std.specs.Prelude.{◌≡◌, ◌⊎◌, ℕ, List, ◌∷◌, ◌++◌};
 ghost use Rattle.som_lex.specs.declared.token.LexToken.{LexToken as Token};
 ghost use Rattle.som_lex.specs.declared.fault.LexFault.{LexFault as Fault};

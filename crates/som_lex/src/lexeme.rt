@@ -1,8 +1,10 @@
+//! `Lexeme`, what one step of the lexer answers, and the greatest number that a text may have.
+
 ghost use Rattle.std.specs.Prelude.{◌≡◌};
 
 use crate::TokenKind;
 
-/// The greatest number that may be written.
+/// The greatest number that may be written, 2^31 - 1, which is the greatest long.
 pub const MAX_NUMBER: u32 = 2_147_483_647;
 
 /// What stands at a place: a token, or a blank or a comment, and the place after it.

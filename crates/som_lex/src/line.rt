@@ -1,3 +1,5 @@
+//! Line ends in a source text, and whether a place is the first on its line but for blanks.
+
 ghost use Rattle.std.specs.Prelude.{◌≡◌, ◌≤◌, ◌<◌, ◌+◌, ℕ, List, ◌∷◌, length};
 ghost use Rattle.som_lex.specs.Alphabet.{hash};
 ghost use Rattle.som_lex.specs.Line.{line_end, line_ends as line_ends_of, fresh_after as fresh_after_of};

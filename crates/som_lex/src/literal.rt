@@ -1,3 +1,5 @@
+//! The lexer of text literals, from the opening quote to the closing one.
+
 ghost use Rattle.std.specs.Prelude.{◌≡◌, ◌≤◌, ◌<◌, ◌+◌, ◌^◌, false, length, if◌then◌else◌, IfOk};
 ghost use Rattle.som_lex.specs.Alphabet as spec;
 ghost use Rattle.som_lex.specs.Lexeme.{literal_at};

@@ -1,3 +1,5 @@
+//! Tokens with their kinds and places in the source, and the list of all tokens of a text.
+
 ghost use Rattle.std.specs.Prelude.{◌≡◌, ◌<◌, length};
 ghost use Rattle.std.specs.List.{slice_index_or};
 

@@ -1,3 +1,5 @@
+//! The values of tokens: the number that digits spell, and the bytes of a literal after its escapes.
+
 ghost use Rattle.std.specs.Prelude.{◌≡◌, ◌≤◌, ◌++◌, false, IfOk, OnOk};
 ghost use Rattle.som_lex.specs.Alphabet.{escaped as escaped_of};
 ghost use Rattle.som_lex.specs.Values.{number_of, text_of, inside_of};

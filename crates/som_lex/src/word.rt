@@ -1,3 +1,5 @@
+//! The lexer of words and decimal numbers, with their limits.
+
 ghost use Rattle.std.specs.Prelude.{◌≡◌, ◌≤◌, ◌<◌, ◌+◌, ◌*◌, ◌^◌, ℕ, List, ◌∷◌, length, min, true, IfOk};
 ghost use Rattle.std.specs.List.{prefix_len};
 ghost use Rattle.som_lex.specs.Alphabet as spec;

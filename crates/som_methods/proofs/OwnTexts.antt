@@ -13,7 +13,7 @@ use Rattle.som_refusals.specs.Demands.{text_demand}
 use Rattle.som_methods.specs.Bodies.{entry_has_one, has_one, operations, text_s14, texts_for}
 use Rattle.som_methods.specs.Texts.{of_class}
 
--- a method of the class has the same bodies
+-- all bodies of a method stand among those of its class
 pub own_texts : (bs : List BodyText) (class name : List ℕ) → texts_for (of_class bs class) class name ≡ texts_for bs class name
 own_texts [] class name = refl
 own_texts (b ∷ bs) class name = by (bytes_eq b.class.text class) refl (own_texts bs class name)

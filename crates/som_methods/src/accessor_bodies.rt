@@ -1,3 +1,5 @@
+//! The bodies of accessors, which read or write one instance variable.
+
 ghost use Rattle.som_methods.specs.Accessors as spec;
 ghost use Rattle.som_methods.specs.Accessors.{access, accessor_body, accessors_of, body_of};
 ghost use Rattle.som_model.specs.declared.class.Variable.{Variable as Kept};

@@ -1,3 +1,5 @@
+//! The accessors `_get_` and `_set_` of an interface's attributes.
+
 ghost use Rattle.som_methods.specs.Accessors as spec;
 ghost use Rattle.som_methods.specs.Accessors.{Access, access, attribute_accessors, export_accessors};
 ghost use Rattle.som_model.specs.Lists.{find};
@@ -10,7 +12,7 @@ use som_model::{NoMemory, Text};
 use som_syntax::{Export, IdlInterface, Word};
 use std::alloc::Global;
 
-/// A method that reads or sets an attribute.
+/// A method that reads or sets an attribute: its name, the attribute as the text has it, and whether it sets.
 #[derive(Drop)]
 pub struct Accessor<'a> {
     pub name: Text,
@@ -18,7 +20,7 @@ pub struct Accessor<'a> {
     pub sets: bool,
 }
 
-/// The accessors that an interface declares.
+/// The accessors that an interface declares, in the order of its attributes, each reader before its writer.
 pub fn accessors_of(alloc: Global, text: &IdlInterface) -> Result<Vec<Accessor<'_>>, NoMemory>
     ensures { IfOk result (λ all. map access all.items ≡ spec.accessors_of text.now) }
 {
@@ -96,7 +98,7 @@ fn add_attribute<'a>(
     Ok(())
 }
 
-/// The accessor of a name.
+/// The first accessor of this name, if there is one.
 pub fn accessor_named<'a>(accessors: &'a [Accessor], name: &[u8]) -> Option<&'a Accessor<'a>>
     ensures { option_map access (option_copied result) ≡ find (λ (a : Access). bytes_eq name.now a.name) (map access accessors.now) }
 {

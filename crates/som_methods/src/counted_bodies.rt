@@ -1,3 +1,5 @@
+//! S14: each operation and each overridden method has exactly one body.
+
 ghost use Rattle.som_methods.specs.Bodies.{entry_has_one, has_one, text_s14, texts_for};
 ghost use Rattle.som_methods.specs.Texts.{given};
 ghost use Rattle.som_model.specs.Class.{introduced};

@@ -1,3 +1,5 @@
+//! `ModuleTexts`, the bodies of a module indexed by class.
+
 ghost use Rattle.som_syntax.specs.declared.body.BodyText.{BodyText as Given};
 ghost use Rattle.som_methods.specs.Grouped.{AreGrouped, groups_of, more_at};
 ghost use Rattle.som_methods.specs.Texts as spec;
@@ -21,7 +23,7 @@ pub struct ModuleTexts<'t, 'a> {
 }
 
 impl<'t, 'a> ModuleTexts<'t, 'a> {
-    /// Looks at each body once.
+    /// Indexes these bodies by class, in one pass.
     pub fn grouped(alloc: Global, all: &'t [&'a BodyText]) -> Result<ModuleTexts<'t, 'a>, NoMemory>
         ensures { IfOk result (λ t. given t.all.now ≡ given all.now) }
     {
@@ -37,7 +39,7 @@ impl<'t, 'a> ModuleTexts<'t, 'a> {
         })
     }
 
-    /// Those of one class, in order.
+    /// The bodies of one class, in the order of the texts; none where the class has none.
     pub fn of_class(&self, class: &[u8]) -> &[&'a BodyText]
         ensures { given result.now ≡ spec.of_class (given self.now.all.now) class.now }
     {

@@ -1,3 +1,5 @@
+//! The law of limits: what the check of a class against its limits says.
+
 ghost use Rattle.som_drafts.specs.Drafts.{InterfaceDraft};
 ghost use Rattle.som_methods.specs.Limits.{limit_passed};
 ghost use Rattle.som_methods.specs.PlainLimits.{LimitsKept};

@@ -1,3 +1,5 @@
+//! The check of each class against the limits on its members.
+
 ghost use Rattle.som_methods.specs.Limits as spec;
 ghost use Rattle.som_methods.specs.Limits.{KeepsLimit, class_limits, entry_limits, limit_passed};
 ghost use Rattle.som_model.specs.Lists.{first};
@@ -13,7 +15,7 @@ use som_model::{
 use som_refusals::Refused;
 use std::alloc::Global;
 
-/// No class passes a limit.
+/// Ok where each class is within its limits, or the first limit that the first class beyond one passes.
 #[tactic(auto, using(crate::proofs::LimitLaws::limit_stops))]
 pub fn limits_kept(alloc: Global, drafts: &[Draft]) -> Result<(), Refused>
     ensures { KeepsLimit (limit_passed (plain_drafts drafts.now)) result }

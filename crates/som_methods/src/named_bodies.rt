@@ -1,3 +1,5 @@
+//! S13: each body is for a declared or overridden method, and takes as many parameters.
+
 ghost use Rattle.som_methods.specs.Bodies as spec;
 ghost use Rattle.som_methods.specs.Bodies.{draft_named, stands_for, text_s13};
 ghost use Rattle.som_methods.specs.Texts as places;

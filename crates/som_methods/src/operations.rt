@@ -1,3 +1,5 @@
+//! Whether an interface declares a method by an operation.
+
 ghost use Rattle.som_methods.specs.Bodies.{operation_name, operations};
 ghost use Rattle.som_model.specs.Lists.{among};
 ghost use Rattle.std.specs.Prelude.{◌≡◌, flat_map};

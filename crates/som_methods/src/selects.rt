@@ -1,3 +1,5 @@
+//! The parents that an interface selects for its methods.
+
 ghost use Rattle.som_methods.specs.Limits.{chosen_at};
 ghost use Rattle.som_drafts.specs.Items.{chosen, chosen_in};
 ghost use Rattle.std.specs.Prelude.{◌≡◌, ◌+◌, flat_map, length, IfOk, OnOk};

@@ -1,3 +1,5 @@
+//! The bodies of all files, and how many of them are for a method of a class.
+
 ghost use Rattle.som_methods.specs.Bodies.{bodies_of, texts_for};
 ghost use Rattle.som_methods.specs.Texts.{given};
 ghost use Rattle.som_model.specs.Lists.{first};

@@ -14,7 +14,7 @@ use Rattle.som_model.specs.Keys.{same_key}
 use Rattle.som_model.specs.Same.{same_list, same_option, same_type, same_sig, same_way, same_entry, same_face, same_interface}
 use Rattle.som_model.proofs.KeyLaws.{Exact, both, exact_bytes, exact_numbers, exact_keys}
 
--- two answers that say the same of two values are one
+-- an answer that is true exactly where two values are equal is that of an exact test of them
 pub by_equality : {A : Type 0} (same : A → A → Bool) → Exact same → (x y : A) (answer : Bool) → (IsTrue answer ↔ (x ≡ y)) → answer ≡ same x y
 by_equality same e x y true h = sym (ap (same x) (sym (h.0 refl)) ∙ e.one x)
 by_equality same e x y false h = differ (same x y) refl

@@ -279,7 +279,7 @@ after_no_unit n m m' = record { by = λ s le. unit_then 0 n s.fuel s m m' le (λ
 pub after_unit : {A : Type 0} (b n : ℕ) (m m' : Act A) → Extends b n m m' → Extends (suc b) n (take_unit >> m) (take_unit >> m')
 after_unit b n m m' e = record { by = λ s le. unit_then (suc b) n s.fuel s m m' le (λ s' l. let d : s'.fuel ≤ b = omega (arith, l) in e.by s' d) }
 
--- what is done for each number of turns: from so much fuel on, more turns do the same and more, where there is as much fuel more
+-- what is done for each number of turns: from so much fuel on, more turns do what fewer did, and more, where there is as much fuel more
 pub record Grown {A : Type 0} (m : ℕ → Act A) : Type 0 where
   pub by : (k n : ℕ) → Extends n k (m n) (m (n + k))
 

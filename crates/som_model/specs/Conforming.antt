@@ -31,7 +31,7 @@ first_of_names before cs =
     (or_else (first (flat_map s3 cs))
     (first (flat_map (s4 (before ++ cs)) cs))))
 
--- the same for S6 to S10
+-- the lowest rule from S6 to S10 that is broken, of these classes after those before them: its first class, and there the first member
 abbrev pub first_of_members : List Class → List Class → Option RuleBreach
 first_of_members before cs =
     or_else (first (flat_map s6 cs))
@@ -52,7 +52,7 @@ declared_breach r = let cs = library_classes r in
     (or_else (first_of_members kernel cs)
     (first (flat_map s14 cs))))
 
--- the same of a client program: the faces that it was compiled against come first, and their types name no class of the client
+-- the first breach of the rules of a client program that look into no block: the faces that it was compiled against come first, and their types name no class of the client
 abbrev pub declared_program_breach : ClientProgram → Option RuleBreach
 declared_program_breach p = let base = interface_classes p.base in let own = client_classes p in
     or_else (first_of_names kernel (base ++ own))
@@ -92,7 +92,7 @@ override_typed_by w cs c o = override_breach_by w c o (sig_of cs (owner cs o.met
 abbrev pub class_typed_by : ClassFacts → List Class → Class → List RuleBreach
 class_typed_by w cs c = bodies_typed_by w c c.decl.face.entries c.decl.bodies ++ flat_map (override_typed_by w cs c) c.decl.overrides
 
--- the same, by what the declarations of these classes say
+-- what a block, bodies, an override and a class break, by what the declarations of these classes say
 abbrev pub block_breach : List Class → Class → List ℕ → Sig → Block → List RuleBreach
 block_breach cs = block_breach_by (class_facts cs)
 

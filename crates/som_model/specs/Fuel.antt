@@ -3,11 +3,11 @@ use Rattle.std.specs.Prelude.{◌≡◌, ℕ}
 use Rattle.som_model.specs.State.{State}
 use Rattle.som_model.specs.Runs.{Faulted, Spent, Ran, Goes, Ends}
 
--- the same state with so much fuel
+-- a state with its fuel replaced by so much
 abbrev pub with_fuel : ℕ → State → State
 with_fuel n s = record { fuel = n; events = s.events; heap = s.heap }
 
--- the same end, events and objects, with so much fuel left
+-- a run with the fuel that it leaves replaced by so much: its end, events and objects stay
 abbrev pub left_with : {A : Type 0} → ℕ → Ran A → Ran A
 left_with n (Goes a s) = Goes a (with_fuel n s)
 left_with n (Ends c s) = Ends c (with_fuel n s)

@@ -144,14 +144,14 @@ module _ (w : World) (call : Calls) (at : Place) (self : Ref) where
     offset_call w call at Offset som_init (To r) []
     pure (To r)
 
-  -- the same without that call
+  -- a new object of the class that self stands for, on which nothing is called
   abbrev pub new_no_init_body : Act Value
   new_no_init_body = do
     k ← tried at (stands_for self)
     r ← make w k Nil
     pure (To r)
 
-  -- a proxy's body: the same call on its target
+  -- a proxy's body: it calls the method on its target, with the arguments that it was given
   abbrev pub forward_body : MethodRef → List Value → Act Value
   forward_body method args = do
     asked at (λ h. live h self)

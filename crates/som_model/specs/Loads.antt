@@ -33,9 +33,9 @@ pub record IsOrdered (cs : List Class) : Type 0 where
   pub differ : doubles same_key [] (keys_of cs) ≡ []
   -- each parent is a class of the kernel or stands earlier
   pub parents : (i : ℕ) (c : Class) (k : ClassKey) → slice_get cs i ≡ Some c → Mem k c.decl.face.parents → Mem k (keys_of (kernel ++ take i cs))
-  -- so does each metaclass
+  -- each metaclass is a class of the kernel or stands earlier
   pub metaclasses : (i : ℕ) (c : Class) (k : ClassKey) → slice_get cs i ≡ Some c → c.decl.face.metaclass ≡ Some k → Mem k (keys_of (kernel ++ take i cs))
-  -- and each class to which an entry was moved
+  -- each class to which an entry was moved is one of the kernel or stands earlier
   pub targets : (i : ℕ) (c : Class) (name : List ℕ) (to : ClassKey) → slice_get cs i ≡ Some c → Mem (entries.Moved name to) c.decl.face.entries → Mem to (keys_of (kernel ++ take i cs))
 
 pub record FacesLoad (cs : List Class) : Type 0 where

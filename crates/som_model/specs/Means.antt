@@ -87,7 +87,7 @@ main_act w main = main_from w MAX_DEPTH main
 abbrev pub means_in : World → Block → ℕ → Ran (Unit {0})
 means_in w main fuel = (main_act w main).does (beginning w fuel)
 
--- the same run as it is told to a sink that keeps events so, after what it has kept before
+-- what main does from the beginning, before a sink that keeps events so, after what the sink has kept before
 abbrev pub told_in : World → Block → ℕ → Adds → Out → Kept (Unit {0})
 told_in w main fuel add out = (main_act w main).told add (record { fuel = fuel; out = out; heap = nothing_yet w })
 

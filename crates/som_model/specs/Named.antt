@@ -22,7 +22,7 @@ use Rattle.som_model.specs.declared.program.Release.{Release}
 use Rattle.som_model.specs.declared.program.ClientProgram.{ClientProgram}
 use Rattle.som_model.specs.Lists.{joined, option_list}
 
--- what is named
+-- what a program names: a class, or a method by its reference
 pub data Named : Type 0 where
   AClass : ClassKey → Named
   AMethod : MethodRef → Named

@@ -19,7 +19,7 @@ impl_within h has_body chosen a (suc n) x = if has_body x then Some x else inher
 abbrev pub impl : {K : Type 0} → Hierarchy K → (has_body : K → Bool) → (chosen : K → Option K) → K → K → Option K
 impl h has_body chosen a x = impl_within h has_body chosen a (h.height x) x
 
--- the same where X descends from A, and nothing where it doesn't
+-- the class whose body X has for a method that A introduces, where X descends from A, and nothing where it doesn't
 abbrev pub answer : {K : Type 0} → Hierarchy K → (has_body : K → Bool) → (chosen : K → Option K) → K → K → Option K
 answer h has_body chosen a x = if descends h x a then impl h has_body chosen a x else None
 

@@ -108,7 +108,7 @@ s9 cs c = flat_map (s9_entry cs c) c.decl.face.entries
 abbrev pub is_replaced_once : List Class → Class → List MethodRef → MethodRef → Bool
 is_replaced_once cs c before r = is_proper cs c r.class && introduces cs r.name r.class && not (some (same_method r) before)
 
--- S10, of the overrides
+-- S10, of the overrides: a proper ancestor introduces the method, and none before replaces it
 abbrev pub s10_from : List Class → Class → List MethodRef → List Override → List RuleBreach
 s10_from cs c before [] = []
 s10_from cs c before (o ∷ os) =
@@ -121,7 +121,7 @@ abbrev pub is_parent_below : List Class → ClassKey → Option ClassKey → Boo
 is_parent_below cs a None = false
 is_parent_below cs a (Some p) = is_a cs p a
 
--- S10, of the selects: beside the same, the place is that of a parent that descends from the method's class
+-- S10, of the selects: a proper ancestor introduces the method, none before replaces it, and the place is that of a parent that descends from the method's class
 abbrev pub s10_selects : List Class → Class → List MethodRef → List Select → List RuleBreach
 s10_selects cs c before [] = []
 s10_selects cs c before (s ∷ ss) =

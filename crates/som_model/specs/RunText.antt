@@ -106,7 +106,7 @@ run_status (Ends c s) = cut_status c
 
 -- ---- what a sink keeps
 
--- lines with the same bytes before each
+-- lines, each after a prefix
 abbrev pub with_prefix : List ℕ → List (List ℕ) → List (List ℕ)
 with_prefix prefix ls = map (λ line. prefix ++ line) ls
 

@@ -50,13 +50,13 @@ pub record IsResumed (k : ℕ) (s t : State) : Type 0 where
   pub events : IsPrefix s.events t.events
   pub objects : IsLater s.heap t.heap
 
--- what the same act does with k units more: the same, with these units left over; or, where the fuel was spent, it goes on from there
+-- two runs of one act, the second with k units more: it does what the first did and has these units left; or, where the first spent its fuel, it goes on from there
 abbrev pub IsMore : {A : Type 0} → ℕ → Ran A → Ran A → Type 0
 IsMore k (Goes a s) r = r ≡ Goes a (with_more k s)
 IsMore k (Ends (Faulted f at) s) r = r ≡ Ends (Faulted f at) (with_more k s)
 IsMore k (Ends Spent s) r = IsResumed k s (end_of r)
 
--- the same state after these events, and the same run
+-- a state, and a run, with these events seen before its own
 abbrev pub after : List Event → State → State
 after es s = record { fuel = s.fuel; events = es ++ s.events; heap = s.heap }
 
@@ -64,7 +64,7 @@ abbrev pub moved : {A : Type 0} → List Event → Ran A → Ran A
 moved es (Goes a s) = Goes a (after es s)
 moved es (Ends c s) = Ends c (after es s)
 
--- the laws of a run: events are only added; fuel is only taken; objects stay; it doesn't look at what was seen before; and more fuel does the same and more
+-- the laws of a run: events are only added; fuel is only taken; objects stay; it doesn't look at what was seen before; and with more fuel it does what it did with less, and more
 pub record Lawful {A : Type 0} (does : State → Ran A) : Type 0 where
   pub grows : (s : State) → IsPrefix s.events (end_of (does s)).events
   pub falls : (s : State) → (end_of (does s)).fuel ≤ s.fuel
@@ -79,7 +79,7 @@ pub record Out : Type 0 where
   pub bytes : Option (List ℕ)
   pub calls : ℕ
 
--- how an event is kept
+-- how a sink adds an event to what it has kept
 abbrev pub Adds : Type 0
 Adds = Out → Event → Out
 
@@ -88,13 +88,13 @@ abbrev pub added : Adds → Out → List Event → Out
 added add o [] = o
 added add o (e ∷ es) = added add (add o e) es
 
--- the fuel, what is kept of the events, and the objects
+-- what a sink was told, with the state of a run: the fuel, what is kept of the events, and the objects
 pub record Told : Type 0 where
   pub fuel : ℕ
   pub out : Out
   pub heap : Heap
 
--- the same as Ran, with what is kept of the events
+-- what an act comes to, as in Ran, but with what a sink keeps of the events in place of them
 pub data Kept (A : Type 0) : Type 0 where
   KGoes : A → Told → Kept A
   KEnds : Cut → Told → Kept A
@@ -119,7 +119,7 @@ fresh t = record { fuel = t.fuel; events = []; heap = t.heap }
 
 -- ---- acts
 
--- an act: what it does from a state, and the same with what is kept, however events are kept; it keeps the laws, and what is kept is what its events say
+-- an act: what it does from a state, and what it does before a sink that keeps events, however it keeps them; it keeps the laws, and what is kept is what its events say
 pub record Act (A : Type 0) : Type 0 where
   pub does : State → Ran A
   pub told : Adds → Told → Kept A

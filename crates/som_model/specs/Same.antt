@@ -32,7 +32,7 @@ same_type types.Str types.Str = true
 same_type (types.Class k) (types.Class m) = same_key k m
 same_type _ _ = false
 
--- the same result and the same parameters
+-- whether two signatures are one: result and parameters
 abbrev pub same_sig : Sig → Sig → Bool
 same_sig a b = same_type a.result b.result && same_list same_type a.params b.params
 
@@ -51,6 +51,6 @@ same_face a b =
     bytes_eq a.name b.name && ((a.major == b.major) && ((a.minor == b.minor)
     && (same_list same_key a.parents b.parents && (same_option same_key a.metaclass b.metaclass && same_list same_entry a.entries b.entries))))
 
--- the same faces in the same order
+-- whether two interfaces are one: face by face, in order
 abbrev pub same_interface : Interface → Interface → Bool
 same_interface a b = same_list same_face a.classes b.classes

@@ -51,7 +51,7 @@ abbrev pub turns : ℕ → Evals → Runs → Runs
 turns zero condition body = turn condition body (λ frame. pure (Next frame))
 turns (suc n) condition body = turn condition body (turns n condition body)
 
--- more turns do the same and more, where there is as much fuel more
+-- a loop of more turns does what it did in fewer, and more, where there is as much fuel more
 bool_extends : {A : Type 0} (b k : ℕ) (c : Bool) (x x' y : Act A) → Extends b k x x' → Extends b k (if c then x else y) (if c then x' else y)
 bool_extends b k true x x' y h = h
 bool_extends b k false x x' y h = itself b k y

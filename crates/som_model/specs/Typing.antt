@@ -32,7 +32,7 @@ abbrev declared_metaclass : Option Class → ClassKey
 declared_metaclass None = som_class
 declared_metaclass (Some c) = unwrap_or c.decl.face.metaclass som_class
 
--- what these classes say
+-- what typing asks of these classes, where the class of a class's own object is the metaclass that it declares
 unfoldable pub class_facts : List Class → ClassFacts
 class_facts cs = record {
   is_known = λ k. is_some (class_at cs k);
@@ -42,7 +42,7 @@ class_facts cs = record {
   signature = λ r. sig_of cs (owner cs r);
 }
 
--- the same of the classes of a run, where the class of a class's own object is its metaclass, made or declared
+-- what typing asks of the classes of a run, where the class of a class's own object is its metaclass, made or declared
 unfoldable pub running_facts : List Class → ClassFacts
 running_facts cs = record {
   is_known = λ k. is_some (class_at cs k);

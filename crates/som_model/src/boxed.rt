@@ -1,3 +1,5 @@
+//! `Boxed<T>`, an owned pointer that contracts see as the value behind it.
+
 ghost use Rattle.std.specs.Prelude.{◌≡◌, IfOk};
 
 use crate::NoMemory;

@@ -1,3 +1,5 @@
+//! The parts of a class declaration: signatures, release order, face, variables, bodies and overrides.
+
 use crate::key::{ClassKey, MethodRef, ValueType};
 use crate::syntax::Block;
 use crate::{List, Text};

@@ -1,3 +1,5 @@
+//! Copies of signatures, entries, faces, declarations, interfaces and releases with all that they hold.
+
 ghost use Rattle.std.specs.Prelude.{◌≡◌, IfOk, map};
 
 use crate::copy_key::copy_keys;

@@ -1,3 +1,5 @@
+//! Copies of class keys, types and references to methods with all that they hold.
+
 ghost use Rattle.std.specs.Prelude.{◌≡◌, IfOk};
 
 use crate::{Boxed, ClassKey, List, MethodRef, NoMemory, ValueType};

@@ -1,3 +1,5 @@
+//! Copies of expressions, statements and blocks with all that they hold.
+
 ghost use Rattle.som_model.specs.Blocks.{is_call};
 ghost use Rattle.std.specs.Prelude.{◌≡◌, true, IfOk};
 

@@ -1,3 +1,5 @@
+//! The names of classes, of methods and of types.
+
 use crate::{Boxed, List, Text};
 
 /// Where a named class stands: in the kernel, in the library, in a library above it, or in the client.

@@ -1,3 +1,5 @@
+//! `List<T>`, a vector that contracts see as a list of the values of its items.
+
 ghost use Rattle.som_model.specs.Bytes.{AreBytes};
 ghost use Rattle.std.specs.Prelude.{◌≡◌, IfOk, OnErr, OnOk, [], length, ◌++◌, ◌∷◌, ◌==◌};
 

@@ -1,3 +1,5 @@
+//! `NoMemory`, the error of every call that takes memory.
+
 use std::alloc::{AllocError, AllocFailed};
 
 /// Want of memory. It may come from each call that is handed an allocator, and leaves what was lent as it was.

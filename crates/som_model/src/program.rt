@@ -1,3 +1,5 @@
+//! Whole programs, which are interfaces, releases and client programs, and the faults of a run.
+
 use crate::List;
 use crate::class::{ClassDecl, ClassFace};
 use crate::syntax::Block;

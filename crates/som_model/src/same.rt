@@ -1,3 +1,5 @@
+//! Equality tests of keys, types, signatures and interfaces.
+
 ghost use Rattle.som_model.specs.Keys.{same_key};
 ghost use Rattle.som_model.specs.Same.{same_interface, same_sig, same_type};
 ghost use Rattle.std.specs.Prelude.{IsTrue, ◌↔◌, ◌≡◌};

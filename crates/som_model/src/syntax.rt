@@ -1,7 +1,10 @@
+//! The syntax tree of bodies: blocks, statements and expressions with names, as images and runs have them.
+
 use crate::key::{ClassKey, MethodRef, ValueType};
 use crate::{Boxed, List, Text};
 
-/// The procedures that a program may ask of its host.
+/// The procedures that a program may ask of its host, each of two longs: the lesser and the greater, the operations on
+/// their 32 bits, and the sum that wraps at 32 bits.
 #[derive(Clone, Copy, Debug, PartialEq, Eq)]
 pub enum HostCode {
     Min,

@@ -1,3 +1,5 @@
+//! `Text`, an immutable string of bytes, whose copies share their buffer.
+
 ghost use Rattle.std.specs.Prelude.{◌≡◌, IfErr, IfOk, length, ◌==◌};
 ghost use Rattle.std.specs.Str.{bytes_eq};
 

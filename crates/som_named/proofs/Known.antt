@@ -135,7 +135,7 @@ module _ (cs : List Class) (main : Block) (l : Loads cs main) where
       let f = found_is cs o k c.0 c.1 in
       subst (λ z. Mem z (keys_of all)) f.1 (mem_map (λ (c : Class). c.key) c.0 all f.0)
 
-  -- and so is each class of which a block names a proxy
+  -- each class of which a block names a proxy is declared, or one of the kernel
   pub block_law : (b : Block) → Mem b (blocks_of all main) → (k : ClassKey) → Mem (keys.Proxy k) (proxies_in b) → Mem k (keys_of all)
   block_law b m k at =
       let r = (block_covered b).by (keys.Proxy k) at in

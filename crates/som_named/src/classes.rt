@@ -1,3 +1,5 @@
+//! The classes whose proxies are named in the bodies of whole classes and in main.
+
 ghost use Rattle.som_model.specs.Made.{proxies_in};
 ghost use Rattle.som_named.specs.Forms.{body_proxies, override_proxies};
 ghost use Rattle.som_named.specs.Proxied.{AreProxied, decl_proxies, proxies_of};
@@ -36,7 +38,8 @@ pub fn with_class(
     Ok(all)
 }
 
-/// The same with those of a block, as main.
+/// The classes so far, and then those of which a block, as main, names proxies. It takes the list and gives it back, so that
+/// where memory runs out nobody holds a half.
 pub fn with_block(
     alloc: Global,
     named: List<ClassKey>,

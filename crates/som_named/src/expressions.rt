@@ -1,3 +1,5 @@
+//! The walk over expressions that gathers the classes whose proxies they name.
+
 ghost use Rattle.som_model.specs.Blocks.{is_call};
 ghost use Rattle.som_model.specs.Lists.{joined};
 ghost use Rattle.som_named.specs.Forms.{expr_proxies};
@@ -47,7 +49,7 @@ pub(crate) fn note_expr(alloc: Global, e: &Expr, named: &mut List<ClassKey>) -> 
     }
 }
 
-// The same of a call.
+// The classes of which a call names proxies, its receiver first.
 #[cycle(note_expr)]
 fn note_call(alloc: Global, e: &Expr, named: &mut List<ClassKey>) -> Result<(), NoMemory>
     requires { is_call e.now ≡ true }

@@ -1,3 +1,5 @@
+//! The law that each class of which a proxy is named is declared, where classes can be loaded.
+
 ghost use Rattle.som_model.specs.Class.{Class};
 ghost use Rattle.som_model.specs.Kernel.{kernel};
 ghost use Rattle.som_model.specs.Lists.{Mem};

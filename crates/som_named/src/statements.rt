@@ -1,3 +1,5 @@
+//! The walk over statements and blocks that gathers the classes whose proxies they name.
+
 ghost use Rattle.som_model.specs.Made.{proxies_in};
 ghost use Rattle.som_named.specs.Forms.{expr_proxies, stmt_proxies};
 ghost use Rattle.som_named.specs.Proxied.{proxies_of};

@@ -8,6 +8,7 @@ use Rattle.som_order.specs.Names.{name_at, texts}
 use Rattle.som_noted.specs.declared.places.Noted.{Noted}
 use Rattle.som_noted.specs.declared.places.Places.{Places}
 
+-- a name beside a place, as the list has it
 pub record At : Type 0 where
   pub name : List ℕ
   pub place : ℕ

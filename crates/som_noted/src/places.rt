@@ -1,3 +1,5 @@
+//! A symbol table from names to places, where the first entry of a name counts.
+
 ghost use Rattle.som_noted.specs.Noted as spec;
 ghost use Rattle.som_noted.specs.Noted.{At, IsKnown, all_at};
 ghost use Rattle.std.specs.Prelude.{◌≡◌, ◌++◌, ◌∷◌, [], if◌then◌else◌, List as Seq, IfOk, OnErr, OnOk};
@@ -7,14 +9,14 @@ use som_model::NoMemory;
 use som_order::{find_name, note_name};
 use std::alloc::Global;
 
-/// A name with a place.
+/// An entry of a list: a name, lent by its text, with a place.
 #[derive(Clone, Copy)]
 pub struct Noted<'a> {
     pub name: &'a [u8],
     pub place: usize,
 }
 
-/// The first place of each name.
+/// A symbol table: `places` has at the index of a name in `names` the first place of that name.
 #[derive(Drop)]
 pub struct Places<'a> {
     pub names: IndexSet<&'a [u8]>,
@@ -34,7 +36,7 @@ pub fn place_table<'a>(alloc: Global, all: &[Noted<'a>]) -> Result<Places<'a>, N
     Ok(Places { names, places })
 }
 
-/// The first place of a name.
+/// The first place of a name, and None where the table has no such name.
 pub fn first_place(table: &Places, name: &[u8]) -> Option<usize>
     ensures { (ps : Seq At) → IsKnown ps table.now → result ≡ spec.first_place ps name.now }
 {
@@ -53,7 +55,7 @@ fn push_if(places: &mut Vec<usize>, is_new: bool, place: usize) -> Result<(), No
     Ok(())
 }
 
-/// Adds a name with a place.
+/// Adds a name with a place at the end; where memory runs out the list is as it was.
 pub fn note<'a>(all: &mut Vec<Noted<'a>>, name: &'a [u8], place: usize) -> Result<(), NoMemory>
     ensures ok { OnOk result (all_at all.new.items ≡ all_at all.old.items ++ record { name = name.now; place = place } ∷ []) }
     ensures err { OnErr result (all.new.items ≡ all.old.items) }

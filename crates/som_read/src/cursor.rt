@@ -34,14 +34,14 @@ pub enum Turn<A, B> {
     Done(B),
 }
 
-/// The tokens that are left.
+/// A parser's place in a text: the tokens that are left, which it lends.
 #[derive(Drop)]
 pub struct Cursor<'a> {
     pub rest: &'a [Token],
 }
 
 impl<'a> Cursor<'a> {
-    /// The token in hand.
+    /// The token in hand, and None at the end of the text.
     pub fn peek(&self) -> Option<Token>
         ensures { result ≡ tokens.head self.now.rest.now }
     {
@@ -105,7 +105,7 @@ impl<'a> Cursor<'a> {
         Ok(())
     }
 
-    /// A number.
+    /// Takes a number and answers its value, or stops with the token still in hand.
     #[tactic(auto, unfolding(crate::specs::Readers::number))]
     pub fn number(&mut self) -> Result<u32, Stop>
         ensures { Answers (spec.number self.old.rest.now) result self.new.rest.now }
@@ -119,7 +119,7 @@ impl<'a> Cursor<'a> {
         }
     }
 
-    /// The end of the text.
+    /// Ok at the end of the text alone; it takes no token.
     #[tactic(auto, unfolding(crate::specs::Readers::end))]
     pub fn end(&self) -> Result<(), Stop>
         ensures { Answers (spec.end self.now.rest.now) result self.now.rest.now }

@@ -1,3 +1,5 @@
+//! `SyntaxFault`, the errors of the parsers, each with the token at which it stands.
+
 use thiserror::Error;
 
 /// Why a text wasn't read: the place of the first token that doesn't fit, or want of memory.

@@ -1,3 +1,5 @@
+//! Keywords, punctuation and the classified tokens that the parsers read.
+
 /// What a word is: the words that a grammar treats specially, and all others.
 #[derive(Clone, Copy, Debug, PartialEq, Eq)]
 pub enum Key {

@@ -1,3 +1,5 @@
+//! The errors of a compilation: a file that can't be read, a broken rule or a passed limit.
+
 use som_ancestry::Broken;
 use som_model::{NoMemory, Text};
 
@@ -28,7 +30,7 @@ pub enum TextFault {
     },
 }
 
-/// Why texts aren't compiled.
+/// Why texts aren't compiled: something is wrong with them, or memory ran out, which says nothing of them.
 #[derive(Drop)]
 pub enum CompileFault {
     Text(TextFault),

@@ -1,3 +1,5 @@
+//! The kind of a file by the end of its name: interfaces, bodies or a main.
+
 ghost use Rattle.som_reading.specs.Sources.{kind_of as kind_by_name};
 ghost use Rattle.std.specs.Prelude.{◌≡◌};
 

@@ -1,3 +1,5 @@
+//! Files through lexer and parser to their syntax trees, up to the first error.
+
 ghost use Rattle.som_lex.specs.Spans.{IsSpelled};
 ghost use Rattle.som_reading.specs.Reading.{IsParsed, Reads, ReadsAll, Says, Tells, lexing_told, parsing_told};
 ghost use Rattle.som_reading.specs.declared.fault.TextFault.TheVariants as texts;

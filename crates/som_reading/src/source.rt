@@ -1,3 +1,5 @@
+//! `Source`, a file to be compiled: its name and its bytes.
+
 use som_model::{List, Text};
 
 /// A text to be compiled, and the name that it has.

@@ -1,3 +1,5 @@
+//! The syntax trees of all files of one compilation, by the kind of file.
+
 ghost use Rattle.som_reading.specs.Reading.{no_trees, with_last};
 ghost use Rattle.std.specs.Prelude.{◌≡◌, OnErr, OnOk};
 
@@ -5,7 +7,7 @@ use som_model::{List, NoMemory};
 use som_syntax::{BodyFile, IdlFile, MainFile};
 use std::alloc::Global;
 
-/// The tree of one text.
+/// The tree of one text, of the kind that the text's name says.
 #[derive(Drop)]
 pub enum TextTree {
     Interfaces(IdlFile),
@@ -22,7 +24,7 @@ pub struct Trees {
 }
 
 impl Trees {
-    /// The trees of no texts.
+    /// Three empty lists, which take no memory.
     pub fn new(alloc: Global) -> Trees
         ensures { result ≡ no_trees }
     {

@@ -7,6 +7,6 @@ use Rattle.som_drafts.specs.Drafts.{InterfaceDraft}
 abbrev pub text_breach : ℕ → InterfaceDraft → List ℕ → RuleBreach
 text_breach rule d member = record { rule = rule; class = d.class.face.name; member = member }
 
--- the same, unless the demand holds
+-- a breach by a member of the class of an interface, unless the demand holds
 abbrev pub text_demand : ℕ → InterfaceDraft → List ℕ → Bool → List RuleBreach
 text_demand rule d member holds = if holds then [] else text_breach rule d member ∷ []

@@ -1,3 +1,5 @@
+//! A rule as a pass over all drafts, up to the first breach.
+
 ghost use Rattle.som_model.specs.Lists.{first};
 ghost use Rattle.som_model.specs.Rules.{RuleBreach};
 ghost use Rattle.som_ancestry.specs.Told.{Tells};
@@ -12,7 +14,7 @@ use som_drafts::Draft;
 use som_model::{NoMemory, Text};
 use std::alloc::Global;
 
-/// The breach of a rule by a member of a class, as an error.
+/// The breach of a rule by a member of a draft's class, with copies of both names.
 pub fn breach(
     alloc: Global,
     rule: u8,
@@ -29,7 +31,7 @@ pub fn breach(
     }))
 }
 
-/// A rule at each class in order, by the classes' places.
+/// Asks a rule of each draft in order, by its place in the list; the first fault ends the pass.
 pub fn each_draft<F: Fn(usize) -> Result<(), VerifyFault>>(
     drafts: &[Draft],
     rule: F,

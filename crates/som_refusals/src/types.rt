@@ -1,3 +1,5 @@
+//! `Refused`, why texts declare no classes: a broken rule, a passed limit or want of memory.
+
 use som_ancestry::Broken;
 use som_model::{NoMemory, Text};
 

@@ -43,7 +43,7 @@ interface_ordered i e =
     let b = or_none (first (flat_map (s5 (kernel ++ cs)) cs)) (first_of_members kernel cs) a.1 in
     ordered cs (face_own i.classes) a.0 b.1
 
--- the same of the interface of a release
+-- ---- the interface of a release is ordered where its classes are
 
 map_get : {A B : Type 0} (f : A → B) (xs : List A) (i : ℕ) (y : B) → slice_get (map f xs) i ≡ Some y → (x : A) × (slice_get xs i ≡ Some x) × (y ≡ f x)
 map_get f [] i y e = absurd (cc)

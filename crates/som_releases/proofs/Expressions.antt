@@ -66,7 +66,7 @@ module _ (w v : ClassFacts) (r : Refines w v) (at : CodePlace) (scope : List Val
     named = subst (AreKnown w) (sym (fold-roll-Expr (List Named) expr_names_step l)) n;
   }
 
-  -- the same type
+  -- an expression whose type is what it was
   equal : (l : Expr-F Expr) (t : ExprType) → expr_step v at scope (map-Expr Expr Typed V l) ≡ Ok t → AreKnown w (expr_names_step (map-Expr Expr (List Named) expr_names l)) → Carried (roll-Expr l) t
   equal l t e n = carried l t t e (inl refl) n
 

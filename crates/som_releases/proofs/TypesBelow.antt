@@ -91,7 +91,7 @@ BelowAll v (s ∷ ss) (t ∷ ts) = Below v s t × BelowAll v ss ts
 BelowAll v [] (t ∷ ts) = ⊥
 BelowAll v (s ∷ ss) [] = ⊥
 
--- what doesn't look into classes is the same of both
+-- what doesn't look into classes says of a type what it says of one below it
 pub alike : {B : Type 0} (v : ClassFacts) (f : ExprType → B) → ((a b : ClassKey) → f (Of (types.Class a)) ≡ f (Of (types.Class b))) → (s t : ExprType) → Below v s t → f s ≡ f t
 alike v f same s t (inl e) = ap f e
 alike v f same s t (inr (a, b, e, g, d)) = ap f e ∙ same a b ∙ sym (ap f g)

@@ -1,3 +1,5 @@
+//! Laws of releases: which clients of an older release bind to a newer one, and can be loaded with it.
+
 ghost use Rattle.som_hierarchy.specs.Keeping.{ClassesKeep};
 ghost use Rattle.som_model.specs.Binds.{Binds};
 ghost use Rattle.som_model.specs.Class.{Class, interface_of};

@@ -1,3 +1,5 @@
+//! Laws of the front end: a program is what its texts say, and there is one where they conform.
+
 ghost use Rattle.som_ancestry.specs.Faces.{faces_breach};
 ghost use Rattle.som_compile.specs.Compiling.{StandFor, StandForClient};
 ghost use Rattle.som_elab.specs.Elaboration.{classes_over, drafts_over, elaborated_program, elaborated_release};
@@ -33,7 +35,7 @@ pub fn expression_law()
     ensures { (a : Among) (at : CodePlace) (scope : Names) (e : ExprText) (p : Elaborated) → elaborated a at scope e ≡ Ok p → ExprSays a at scope e p.expr }
 {}
 
-/// So is the block that a text of one stands for.
+/// The block that a text of one stands for is what the text says.
 pub fn block_law()
     ensures { (a : Among) (at : CodePlace) (scope : Names) (b : BlockText) (block : Block) → elaborated_block a at b scope ≡ Ok block → BlockSays a at scope b block }
 {}
@@ -75,7 +77,7 @@ pub fn conforming_law()
         ClientConforms base is bs main ↔ ((p : ClientProgram) × (elaborated_program base is bs main ≡ Ok p)) }
 {}
 
-/// So it is with whole texts: they conform exactly where there is a release for which they stand, or a client program.
+/// Whole texts, as bytes under names, conform exactly where there is a release for which they stand, or a client program.
 pub fn sources_law()
     ensures library { (ss : Seq Source) → LibrarySourcesConform ss ↔ ((r : Release) × StandFor ss r) }
     ensures client { (base : Interface) (ss : Seq Source) → faces_breach (interface_classes base) ≡ None →

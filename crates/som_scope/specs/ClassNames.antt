@@ -27,7 +27,7 @@ kernel_names = once (face_names kernel_interface.classes)
 abbrev pub module_by_names : Module → List (List ℕ) → List (List ℕ) → List (List ℕ) → List ℕ → Module
 module_by_names m own base kernel name = if among name own then m else (if among name base then modules.Library else (if among name kernel then modules.Kernel else m))
 
--- the same by the tables
+-- the module of the class that a name stands for, by the tables of a scope
 abbrev pub module_in_scope : Scope → List ℕ → Module
 module_in_scope s = module_by_names s.module (texts s.own.keys) (texts s.base.keys) (texts s.kernel.keys)
 

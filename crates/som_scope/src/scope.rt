@@ -1,3 +1,5 @@
+//! The scope of class names: which module, key and type a name of a text stands for.
+
 ghost use Rattle.som_model.specs.Kernel.{kernel_interface};
 ghost use Rattle.som_order.specs.Names.{texts};
 ghost use Rattle.som_scope.specs.ClassNames as names_of_classes;
@@ -13,7 +15,7 @@ use som_order::find_name;
 use som_syntax::{IdlInterface, TypeName};
 use std::alloc::Global;
 
-/// The names of the classes that texts may speak of: the module's own, the base's and the kernel's.
+/// The names of the classes that texts may speak of: the module's own, the base's and the kernel's. Locals are no part of it.
 #[derive(Drop)]
 pub struct Scope<'a, 'b, 'k> {
     pub module: Module,
@@ -79,7 +81,7 @@ pub fn keys_of(alloc: Global, scope: &Scope, names: &[&[u8]]) -> Result<List<Cla
     Ok(keys)
 }
 
-/// The type that is written.
+/// The value type of a written type; a name becomes the key of its class, whether or not there is such a class.
 pub fn type_of(alloc: Global, scope: &Scope, kind: &TypeName) -> Result<ValueType, NoMemory>
     ensures { IfOk result (λ t. t ≡ names_of_classes.type_of (module_in_scope scope.now) kind.now) }
 {

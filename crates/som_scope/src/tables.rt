@@ -1,3 +1,5 @@
+//! Symbol tables of class names, each name at its first place.
+
 ghost use Rattle.som_order.specs.Names.{texts};
 ghost use Rattle.som_scope.specs.ClassNames as names_of_classes;
 ghost use Rattle.som_scope.specs.Words as words;
@@ -10,7 +12,7 @@ use som_order::note_name;
 use som_syntax::IdlInterface;
 use std::alloc::Global;
 
-/// Adds a name.
+/// Adds a name at the end; where memory runs out the list is as it was.
 pub fn add<'a>(names: &mut Vec<&'a [u8]>, name: &'a [u8]) -> Result<(), NoMemory>
     ensures ok { OnOk result (texts names.new.items ≡ texts names.old.items ++ name.now ∷ []) }
     ensures err { OnErr result (names.new.items ≡ names.old.items) }

@@ -27,7 +27,7 @@ module _ (own_module : Module) (base : Interface) (is : List IdlInterface) (h : 
       ∙ ap (λ z. draft_rules_breach (module_over own_module base is) own_module z ds) known
       ∙ ap (draft_rules_breach (module_over own_module base is) own_module (interface_classes base)) drafts_same
 
-  -- and so are the declarations
+  -- the declarations of the drafts are those of the texts
   pub declared_are : declared_all m bs ds ≡ declarations own_module base is
   declared_are =
       ap (λ z. declared_all z bs ds) own

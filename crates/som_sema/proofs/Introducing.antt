@@ -155,7 +155,7 @@ find_so : {A : Type 0} (f g : A → Bool) (xs : List A) → ((a : A) → f a ≡
 find_so f g [] e = refl
 find_so f g (x ∷ xs) e = ap (λ (b : Bool). if b then Some x else find f xs) (e x) ∙ ap (λ o. if g x then Some x else o) (find_so f g xs e)
 
--- the introducer of a name is the same
+-- a name has one introducer in classes of one outline that introduce one list of names each
 pub same_introducer : (xs ys : List Class) → map outline xs ≡ map outline ys → AllSame xs ys → (k : ClassKey) (name : List ℕ) → introducer xs k name ≡ introducer ys k name
 same_introducer xs ys same all k name =
     let h : hierarchy xs ≡ hierarchy ys = sym (hierarchy_outline xs) ∙ ap hierarchy same ∙ hierarchy_outline ys in

@@ -309,7 +309,7 @@ module _ (module_of : List ℕ → Module) (m : Module) (i : Interface) (ds : Li
   pub drafts_select : SelectsInherited full
   drafts_select = selects_inherited module_of m base ds are.by chosen_by_texts full_declared full_names full_stand full_entries (base_bare i.classes) inherited chosen_so items.1
 
-  -- and so is what they override
+  -- what texts override is inherited
   pub drafts_override : OverridesInherited full
   drafts_override = overrides_inherited module_of m base ds are.by chosen_by_texts full_declared full_names full_stand full_entries (base_bare i.classes) inherited
 

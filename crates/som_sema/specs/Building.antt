@@ -77,7 +77,7 @@ draft_rules_breach module_of m base ds =
 abbrev pub declarations : Module → Interface → List IdlInterface → List ClassDecl
 declarations m base is = declared_all m (interface_classes base) (map (draft_of (module_over m base is)) is)
 
--- the same with what the texts select
+-- what the texts declare, with what they select
 abbrev pub declared_selecting : Module → List Class → List InterfaceDraft → List ClassDecl
 declared_selecting m base ds = map (declare_selecting (with_kernel (after_base m base (draft_classes ds))) (with_kernel (after_base m base (declared_all m base ds))) m) ds
 

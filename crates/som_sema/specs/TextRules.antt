@@ -29,7 +29,7 @@ base_stands module_of before d name = text_demand 2 d name (is_some (class_at be
 abbrev pub text_s2 : (List ℕ → Module) → List Class → InterfaceDraft → List RuleBreach
 text_s2 module_of before d = flat_map (base_stands module_of before d) (bases d.text)
 
--- the same of each class in order, the first of them at that place
+-- S2 of each class in order, the first of them at that place
 abbrev pub text_s2_from : (List ℕ → Module) → List Class → ℕ → List InterfaceDraft → List RuleBreach
 text_s2_from module_of cs place [] = []
 text_s2_from module_of cs place (d ∷ ds) = text_s2 module_of (take place cs) d ++ text_s2_from module_of cs (suc place) ds
@@ -63,7 +63,7 @@ replaces_inherited module_of cs k d g = text_demand 10 d g.method (replaces modu
 abbrev pub text_s10 : (List ℕ → Module) → List Class → ClassKey → InterfaceDraft → List RuleBreach
 text_s10 module_of cs k d = flat_map (replaces_inherited module_of cs k d) (given d.text.items)
 
--- the same of each class in order, the first of them at that place
+-- S10 of each class in order, the first of them at that place
 abbrev pub text_s10_from : (List ℕ → Module) → List Class → ℕ → List InterfaceDraft → List RuleBreach
 text_s10_from module_of cs place [] = []
 text_s10_from module_of cs place (d ∷ ds) = text_s10 module_of cs (key_at cs place) d ++ text_s10_from module_of cs (suc place) ds

@@ -1,3 +1,5 @@
+//! The table of class names with the ancestors of each class.
+
 ghost use Rattle.som_model.specs.Conforming.{each_after};
 ghost use Rattle.som_model.specs.Kernel.{kernel};
 ghost use Rattle.som_model.specs.Lists.{first};
@@ -39,7 +41,7 @@ pub fn ancestor_lists(
     }
 }
 
-// The same, through a pass that would tell a breach.
+// The ancestors of classes of which none breaks S2, by the pass that would tell such a breach.
 fn list_ancestors(
     alloc: Global,
     table: &IndexSet<&[u8]>,

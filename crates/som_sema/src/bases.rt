@@ -1,3 +1,5 @@
+//! S2 and S4 of texts: parents and metaclasses are declared before, and metaclasses are below SOMClass.
+
 ghost use Rattle.som_model.specs.Classes.{class_at, is_a};
 ghost use Rattle.som_model.specs.Kernel.{som_class};
 ghost use Rattle.som_model.specs.Lists.{first};

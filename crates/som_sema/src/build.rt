@@ -1,3 +1,5 @@
+//! The checker of interface files: S1 to S12 in order, and then the declarations.
+
 ghost use Rattle.som_model.specs.Class.{class_in};
 ghost use Rattle.som_model.specs.Classes.{interface_classes};
 ghost use Rattle.som_model.specs.Kernel.{kernel_interface};
@@ -110,7 +112,7 @@ fn faces(
     faces_in_scope(alloc, &scope, kernel, base, interfaces)
 }
 
-// The same, where it is known what names stand for.
+// The declarations, or the first rule that is broken, where it is known what names stand for.
 fn faces_in_scope(
     alloc: Global,
     scope: &Scope,
@@ -130,7 +132,7 @@ fn faces_in_scope(
     built(alloc, scope, kernel, bares.as_slice(), drafts.as_slice())
 }
 
-// The same from drafts.
+// The declarations of drafts, or the first rule that they break.
 fn built(
     alloc: Global,
     scope: &Scope,
@@ -148,7 +150,7 @@ fn built(
     built_among(alloc, scope, kernel, base, classes.as_slice(), drafts)
 }
 
-// The same, where all classes stand in one list.
+// The declarations of drafts, or the first rule that they break, where all classes stand in one list.
 fn built_among(
     alloc: Global,
     scope: &Scope,

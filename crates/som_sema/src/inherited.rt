@@ -57,7 +57,7 @@ pub fn replaced_inherited(
     inherited_by(alloc, scope, classes, ancestors, &introducers, drafts, from)
 }
 
-// The same, where it is known which classes introduce each name.
+// S10 of drafts, where it is known which classes introduce each name.
 fn inherited_by(
     alloc: Global,
     scope: &Scope,
@@ -111,7 +111,7 @@ fn own_inherited(
     )
 }
 
-// The same of the modifiers that are given, one or more.
+// S10 of the modifiers that a draft gives, one or more.
 fn given_inherited(
     alloc: Global,
     scope: &Scope,
@@ -143,7 +143,7 @@ fn given_inherited(
     )
 }
 
-// The same, where it is known what the text selects.
+// S10 of the modifiers that a draft gives, where it is known what its text selects.
 fn ranked_inherited(
     alloc: Global,
     scope: &Scope,

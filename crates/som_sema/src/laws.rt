@@ -1,3 +1,5 @@
+//! Laws of the rules on texts: what each says, and what declarations of such texts keep.
+
 ghost use Rattle.som_syntax.specs.declared.interface.IdlInterface.{IdlInterface};
 ghost use Rattle.som_model.specs.Class.{Class};
 ghost use Rattle.som_model.specs.Classes.{hierarchy, interface_classes};

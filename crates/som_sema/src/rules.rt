@@ -1,3 +1,5 @@
+//! S1 to S9 of a module's classes above a base that conforms.
+
 ghost use Rattle.som_model.specs.Class.{class_in};
 ghost use Rattle.som_model.specs.Conforming.{each_after};
 ghost use Rattle.som_model.specs.Kernel.{kernel, kernel_interface};

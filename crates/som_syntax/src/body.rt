@@ -1,3 +1,5 @@
+//! The syntax tree of bodies and mains: statements and blocks as they stand in a text.
+
 use crate::expression::ExprText;
 use crate::words::{TypeName, Word};
 use som_model::List;
@@ -8,7 +10,7 @@ pub struct BodyFile {
     pub bodies: List<BodyText>,
 }
 
-/// The main of a client.
+/// The main of a client, a file of one block.
 #[derive(Drop)]
 pub struct MainFile {
     pub block: BlockText,
@@ -23,7 +25,7 @@ pub struct BodyText {
     pub block: BlockText,
 }
 
-/// Statements in order.
+/// A block: its statements in order.
 #[cycle(syntax)]
 #[derive(Drop)]
 pub struct BlockText {

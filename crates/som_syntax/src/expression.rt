@@ -1,3 +1,5 @@
+//! The syntax tree of expressions as they stand in a text.
+
 use crate::words::{TypeName, Word};
 use som_model::{Boxed, HostCode, List, Text};
 

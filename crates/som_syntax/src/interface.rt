@@ -1,3 +1,5 @@
+//! The syntax tree of interface files: interfaces, exports and implementation sections.
+
 use crate::words::{TypeName, Word};
 use som_model::List;
 

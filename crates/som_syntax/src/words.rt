@@ -1,3 +1,5 @@
+//! Words and type names with their places among the tokens.
+
 use som_model::Text;
 
 /// A word of the text, with its place among the tokens.
@@ -7,7 +9,7 @@ pub struct Word {
     pub token: usize,
 }
 
-/// A type as it is written.
+/// A type as it is written; a class by its name, which no scope has looked up.
 #[derive(Drop)]
 pub enum TypeName {
     Long,

@@ -19,7 +19,7 @@ use Rattle.som_terms.specs.Expressions.{Among, Elab, Elaborated, call_form, disp
 use Rattle.som_terms.specs.Code.{Makes}
 use Rattle.som_terms.specs.Forms.{of_all}
 
--- a text that is another comes to the same
+-- what a text comes to, a text that equals it comes to
 pub makes_as : (cs : List Class) (elab : ExprText → Elab) (e x : ExprText) (form : Elab) (r : Result TypedExpr TypeFault) → e ≡ x → elab x ≡ form → Makes cs form r → Makes cs (elab e) r
 makes_as cs elab e x form r is same makes = subst (λ z. Makes cs z r) (sym (ap elab is ∙ same)) makes
 

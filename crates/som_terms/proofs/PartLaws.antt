@@ -107,7 +107,7 @@ pub one_goes_on : (cs : List Class) (e x : ExprText) (elab : ExprText → Elab) 
     → Makes cs (form p) r → Makes cs (of_one (elab x) form) r
 one_goes_on cs e x elab form p r is made m = subst (λ z. Makes cs (z >>= form) r) (sym (ap (λ z. part (elab z)) (sym is) ∙ made)) m
 
--- an expression that is another comes to the same
+-- what an expression comes to, one that equals it comes to
 pub form_as : (cs : List Class) (e x : Expr) (type : Typed) (r : Result TypedExpr TypeFault) → e ≡ x → Makes cs (formed e type) r → Makes cs (formed x type) r
 form_as cs e x type r is m = subst (λ z. Makes cs (formed z type) r) is m
 

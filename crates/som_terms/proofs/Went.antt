@@ -22,7 +22,7 @@ held rule false further r e = absurd (let z = e in cc)
 pub both_steps : {A B C E : Type 0} (x : Result A E) (y : Result B E) (f : A → B → Result C E) (u : A) (v : B) → x ≡ Ok u → y ≡ Ok v → (x >>= λ s. y >>= f s) ≡ f u v
 both_steps x y f u v e g = ap (λ z. z >>= λ s. y >>= f s) e ∙ ap (λ z. z >>= f u) g
 
--- what was answered is the same
+-- two equal results hold one answer
 abbrev answer : (A E : Type 0) → A → Result A E
 answer A E x = Ok x
 

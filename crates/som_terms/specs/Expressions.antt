@@ -114,7 +114,7 @@ abbrev pub lookup_form : Among → Option TypeName → Elaborated → List ℕ �
 lookup_form a answer on name args =
     formed (exprs.Lookup (result_of a.module_of answer) name on.expr (exprs_of args)) (named_call_type (facts_among a) (result_of a.module_of answer) on.type (types_of args))
 
--- the same by dispatch
+-- a call by dispatch, which asks for its result alone
 abbrev pub dispatch_form : Among → Option TypeName → Elaborated → List ℕ → List Elaborated → Elab
 dispatch_form a answer on name args =
     formed (exprs.Dispatch (result_of a.module_of answer) name on.expr (exprs_of args)) (named_call_type (facts_among a) (result_of a.module_of answer) on.type (types_of args))
@@ -160,6 +160,6 @@ expr_step a at scope (ExprText-F.Host code e f) = part e >>= λ p. part f >>= ho
 abbrev pub elaborated : Among → CodePlace → Names → ExprText → Elab
 elaborated a at scope = fold-ExprText Elab (expr_step a at scope)
 
--- the same of a text that has a value
+-- what the text of an expression that has to have a value comes to
 abbrev pub elaborated_value : Among → CodePlace → Names → ExprText → Elab
 elaborated_value a at scope e = part (elaborated a at scope e)

@@ -81,7 +81,7 @@ pub record AreMade (cs : List Class) (comes : Ruled (List Elaborated)) (ps : Par
   pub made : comes ≡ Ok (parts_at cs ps)
   pub are : AreParts cs ps
 
--- one more part
+-- one part more, after those before it. `Adds` of a run is how a sink keeps events
 pub record Adds (cs : List Class) (before : Parts) (m : TypedExpr) (after : Parts) : Type 0 where
   pub parts : parts_at cs after ≡ parts_at cs before ++ typed_at cs m ∷ []
   pub are : AreParts cs after
@@ -101,11 +101,11 @@ dispatch_by w answer on name args = formed (exprs.Dispatch answer name on.expr (
 abbrev pub parent_by : ClassFacts → CodePlace → ℕ → MethodRef → List Elaborated → Elab
 parent_by w at n r args = formed (exprs.ParentCall n r (exprs_of args)) (parent_call_type w at n r (types_of args))
 
--- the same of a parent by its key and its place
+-- a call of a parent's method, by the parent's key and its place
 abbrev pub parent_from : Among → CodePlace → ClassKey → List ℕ → List Elaborated → ℕ → Elab
 parent_from a at k name args n = there 16 (method_of a.classes k name) >>= λ m. parent_by (facts_among a) at n m.ref args
 
--- the same of all parents
+-- a call of the method that all parents have, where it is found
 abbrev pub parents_by : ClassFacts → CodePlace → MethodRef → List Elaborated → Elab
 parents_by w at r args = formed (exprs.ParentsCall r (exprs_of args)) (parents_call_type w at r (types_of args))
 

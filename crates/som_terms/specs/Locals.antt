@@ -4,7 +4,7 @@ use Rattle.std.specs.Str.{bytes_eq}
 use Rattle.som_model.specs.declared.key.ValueType.{ValueType}
 use Rattle.som_model.specs.Lists.{among, place_from}
 
--- a parameter or local: its name and its type
+-- a parameter or local: its name and its type. `Named` of `som_model` is what programs name: classes and methods
 pub record Named : Type 0 where
   pub name : List ℕ
   pub kind : ValueType

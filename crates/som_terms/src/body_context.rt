@@ -1,3 +1,5 @@
+//! `BodyContext`, what the type checker knows where the text of a body stands.
+
 use som_kinds::{CodePlace, Knowledge};
 use som_scope::Scope;
 

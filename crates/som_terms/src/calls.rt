@@ -1,3 +1,5 @@
+//! Type checking of calls on a receiver: by offset, by name lookup and by dispatch.
+
 ghost use Rattle.som_model.specs.declared.class.Way.TheVariants as ways;
 ghost use Rattle.som_ancestry.specs.Places.{key_at};
 ghost use Rattle.som_terms.specs.Code.{IsBodyContext, Makes, among_at, classes_at, typed_at};
@@ -163,7 +165,7 @@ pub fn lookup_call(
     lookup(alloc, context, answer, on, name, args)
 }
 
-/// The same by dispatch.
+/// A call by dispatch of a method that answers what is written.
 pub fn dispatch_call(
     alloc: Global,
     context: &BodyContext,
@@ -182,7 +184,7 @@ pub fn dispatch_call(
     dispatch(alloc, context, answer, on, name, args)
 }
 
-// The same by dispatch.
+// A call by dispatch of a method that answers a type.
 fn dispatch(
     alloc: Global,
     context: &BodyContext,

@@ -1,3 +1,5 @@
+//! The type checker of expressions: from a syntax tree to a named and typed expression.
+
 ghost use Rattle.som_terms.specs.Code.{AreLocals, IsBodyContext, Makes, among_at, classes_at, names_at, place_at, typed_at};
 ghost use Rattle.som_terms.specs.Expressions as spec;
 ghost use Rattle.som_terms.specs.Expressions.{elaborated, elaborated_value, part, parts};
@@ -195,7 +197,7 @@ fn inherited_call(
     }
 }
 
-/// The same of a text that has a value.
+/// The named expression of a text that has to have a value, or the lowest rule that its first wrong part breaks.
 #[cycle(texts)]
 pub fn value_expression(
     alloc: Global,

@@ -1,3 +1,5 @@
+//! Type checking of expressions without parts: literals, locals, self, variables, new objects, classes.
+
 ghost use Rattle.som_model.specs.Class.{Class};
 ghost use Rattle.som_model.specs.Typing.{Of, self_type};
 ghost use Rattle.som_model.specs.declared.key.ValueType.TheVariants as types;
@@ -16,14 +18,14 @@ use som_model::{Expr, Text};
 use som_scope::key_of;
 use std::alloc::Global;
 
-/// A literal.
+/// A text literal, which is a string.
 pub fn literal(alloc: Global, text: &Text) -> Result<TypedExpr, TypeFault>
     ensures { (cs : Seq Class) → Makes cs (spec.formed (exprs.Str text.now) (Ok (Of types.Str))) result }
 {
     Ok(TypedExpr::new(alloc, Expr::Str(text.copy(alloc)?), Kind::Str)?)
 }
 
-/// A parameter or local, by its name.
+/// A parameter or local, by its name, or rule 16 where none has it.
 pub fn local(
     alloc: Global,
     context: &BodyContext,
@@ -42,7 +44,7 @@ pub fn local(
     }
 }
 
-/// The body's own object.
+/// `self`, of the class whose body it is; main has none, which breaks rule 20.
 pub fn me(alloc: Global, context: &BodyContext) -> Result<TypedExpr, TypeFault>
     requires { IsBodyContext context.now }
     ensures { Makes (classes_at context.now) (spec.formed exprs.Me (self_type (place_at context.now))) result }
@@ -50,7 +52,7 @@ pub fn me(alloc: Global, context: &BodyContext) -> Result<TypedExpr, TypeFault>
     formed(alloc, Expr::Me, self_kind(&context.known, &context.at))
 }
 
-/// A variable of the body's class, by its name.
+/// A variable of the body's class, by its name, or rule 16 where none has it.
 pub fn variable(alloc: Global, context: &BodyContext, name: &[u8]) -> Result<TypedExpr, TypeFault>
     requires { IsBodyContext context.now }
     ensures { Makes (classes_at context.now) (spec.variable_form (place_at context.now) name.now) result }
@@ -65,7 +67,7 @@ pub fn variable(alloc: Global, context: &BodyContext, name: &[u8]) -> Result<Typ
     }
 }
 
-/// A new object of a class.
+/// A new object of a class by its name, of that class.
 pub fn new_object(alloc: Global, context: &BodyContext, name: &[u8]) -> Result<TypedExpr, TypeFault>
     requires { IsBodyContext context.now }
     ensures { Makes (classes_at context.now) (spec.new_form (among_at context.now) name.now) result }
@@ -75,7 +77,7 @@ pub fn new_object(alloc: Global, context: &BodyContext, name: &[u8]) -> Result<T
     formed(alloc, Expr::New(class), kind)
 }
 
-/// The object of a class.
+/// The object that stands for a class, by the class's name; it is of the metaclass.
 pub fn class_object(
     alloc: Global,
     context: &BodyContext,

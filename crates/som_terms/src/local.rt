@@ -1,3 +1,5 @@
+//! `Local`, a parameter or local variable in scope.
+
 use som_kinds::Kind;
 
 /// A parameter or local: its name, which the text holds, and its type.

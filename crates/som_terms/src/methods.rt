@@ -1,3 +1,5 @@
+//! Method resolution: a name to the signature of the first ancestor that introduces it.
+
 ghost use Rattle.som_model.specs.Class.{entry_of};
 ghost use Rattle.som_model.specs.Classes.{ancestors};
 ghost use Rattle.som_model.specs.Lists.{Mem};

@@ -1,3 +1,5 @@
+//! Name resolution in a body: locals, instance variables and parents to their places.
+
 ghost use Rattle.som_model.specs.Keys.{same_key};
 ghost use Rattle.som_model.specs.Lists.{place_from};
 ghost use Rattle.som_model.specs.declared.class.Variable.{Variable as Slot};

@@ -1,3 +1,5 @@
+//! Type checking of operators, host procedures, casts, class tests and proxies.
+
 ghost use Rattle.som_model.specs.Class.{Class};
 ghost use Rattle.som_terms.specs.Code.{IsBodyContext, Makes, among_at, classes_at, typed_at};
 ghost use Rattle.som_terms.specs.Expressions as spec;
@@ -12,7 +14,7 @@ use som_model::{Expr, HostCode};
 use som_scope::key_of;
 use std::alloc::Global;
 
-/// An operator of one operand.
+/// An operator of one operand, by its number, over a checked operand.
 pub fn unary(alloc: Global, op: u8, part: TypedExpr) -> Result<TypedExpr, TypeFault>
     ensures { (cs : Seq Class) → Makes cs (spec.unary_form op (typed_at cs part)) result }
 {
@@ -20,7 +22,7 @@ pub fn unary(alloc: Global, op: u8, part: TypedExpr) -> Result<TypedExpr, TypeFa
     formed(alloc, Expr::Unary { op, of }, unary_kind(op, kind))
 }
 
-/// An operator of two operands.
+/// An operator of two operands, by its number, over checked operands.
 pub fn binary(
     alloc: Global,
     op: u8,
@@ -35,7 +37,7 @@ pub fn binary(
     formed(alloc, Expr::Binary { op, left, right }, kind)
 }
 
-/// A procedure of the host.
+/// A procedure of the host over two checked operands.
 pub fn host(
     alloc: Global,
     code: HostCode,
@@ -50,7 +52,7 @@ pub fn host(
     formed(alloc, Expr::Host { code, a, b }, kind)
 }
 
-/// A reference taken as one of a class.
+/// A reference as one of a class by its name; a run tests it.
 pub fn cast(
     alloc: Global,
     context: &BodyContext,
@@ -67,7 +69,7 @@ pub fn cast(
     formed(alloc, Expr::Cast { class, of }, kind)
 }
 
-/// Whether a reference is of a class.
+/// The boolean whether a reference is of a class by its name.
 pub fn isa(
     alloc: Global,
     context: &BodyContext,
@@ -84,7 +86,7 @@ pub fn isa(
     formed(alloc, Expr::Isa { class, of }, kind)
 }
 
-/// A proxy of a reference.
+/// A proxy of a class by its name, for a reference that fits that class.
 pub fn proxy(
     alloc: Global,
     context: &BodyContext,

@@ -1,3 +1,5 @@
+//! Type checking of calls of the method that one parent, or all parents, have.
+
 ghost use Rattle.som_ancestry.specs.Places.{key_at};
 ghost use Rattle.som_terms.specs.Code.{IsBodyContext, Makes, among_at, classes_at, place_at};
 ghost use Rattle.som_terms.specs.Expressions as spec;
@@ -36,7 +38,7 @@ pub fn parent_call(
     }
 }
 
-// The same of a parent by its key and its place.
+// A call of the method that a parent has, by the parent's key and its place.
 fn call_parent(
     alloc: Global,
     context: &BodyContext,

@@ -1,3 +1,5 @@
+//! The checked operands and arguments of an expression, and the typed expression that they make.
+
 ghost use Rattle.som_model.specs.Class.{Class};
 ghost use Rattle.som_model.specs.Typing.{Typed};
 ghost use Rattle.som_terms.specs.Code.{Makes, typed_at};
@@ -11,14 +13,14 @@ use som_kinds::{Kind, TypeFault, is_nothing};
 use som_model::{Boxed, Expr, List, NoMemory};
 use std::alloc::Global;
 
-/// The parts of an expression in their order, and the kind of each.
+/// The operands or arguments of an expression in their order, and at each index of `kinds` the kind of one.
 #[derive(Drop)]
 pub struct Parts {
     pub exprs: List<Expr>,
     pub kinds: Vec<Kind>,
 }
 
-/// No parts.
+/// No parts, which take no memory.
 pub fn no_parts(alloc: Global) -> Parts
     ensures parts { (cs : Seq Class) → parts_at cs result ≡ [] }
     ensures are { (cs : Seq Class) → AreParts cs result }
@@ -29,7 +31,7 @@ pub fn no_parts(alloc: Global) -> Parts
     }
 }
 
-/// One more part.
+/// Adds a part at the end, out of its box.
 pub fn add(parts: &mut Parts, made: TypedExpr) -> Result<(), NoMemory>
     ensures { OnOk result ((cs : Seq Class) → AreParts cs parts.old → Stands cs made.kind → Adds cs parts.old made parts.new) }
 {
@@ -50,7 +52,7 @@ pub fn valued(made: TypedExpr) -> Result<TypedExpr, TypeFault>
     }
 }
 
-/// An expression with the kind that its form has.
+/// An expression in a box, with the kind that its form has, or the rule that the form breaks.
 pub fn formed(alloc: Global, expr: Expr, kind: Result<Kind, u8>) -> Result<TypedExpr, TypeFault>
     ensures { (cs : Seq Class) (type : Typed) → Comes cs type kind → Makes cs (spec.formed expr type) result }
 {

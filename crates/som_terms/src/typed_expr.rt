@@ -1,3 +1,5 @@
+//! `TypedExpr`, an expression with its type.
+
 ghost use Rattle.std.specs.Prelude.{◌≡◌, IfOk};
 
 use som_kinds::Kind;

@@ -176,7 +176,7 @@ module _ (w : World) (known : ClassKey → Bool) (sound : IsSound w known) where
         (each_of (map E (exprs ks)) frame) (each_of (map C (exprs ks)) frame) (parts_keep ks qs.value qs.first g frame (in_later w h g at.class here le i) (types_later w h g le scope frame a)))
         (E k.0 frame) (C k.0 frame) (part_keeps k.0 k.1 q.value q.first h frame i a))
 
-    -- the same where each is tested to be a value
+    -- parts of which each is tested to be a value keep the objects typed, and answer values of their types
     parts_exist : (ks : List Kept) (ts : List ExprType) → values (map T (exprs ks)) ≡ Ok ts → (h : Heap) (frame : Frame) → InClass w at.class here h → have_types w h scope frame ≡ true
         → Keeps w h (each_of (map E (exprs ks)) frame) (each_of (map (such_that otherwise (λ v g. is_value w g v)) (map C (exprs ks))) frame) (AreOf w ts)
     parts_exist [] ts f h frame i a = subst (λ z. Keeps w h (pure []) (pure []) (AreOf w z)) (same_answer f) (pure_keeps w h (AreOf w []) [] (λ g le ty. tt))

@@ -54,7 +54,7 @@ module _ (otherwise : Act (Unit {0})) where
   such_that test e frame = checked_value test (e frame)
 
   module _ (w : World) where
-    -- ---- expressions: the same steps, whose parts have values that the steps take
+    -- ---- expressions: the steps of their meaning, with tests that the parts have values which the steps take
 
     module _ (call : Calls) (here : Here) where
       -- an expression, by what its parts do: what it names is there, and its parts have values that it takes

@@ -23,7 +23,7 @@ abbrev pub is_kind : World → ValueType → Heap → Bool
 is_kind w (types.Class k) h = is_class w k h
 is_kind w kind h = true
 
--- there is the local, and it holds a value of the same kind
+-- there is the local, and it holds a value of the kind of this one
 abbrev pub has_local : Option Value → Value → Bool
 has_local None v = false
 has_local (Some u) v = are_of_one_kind u v

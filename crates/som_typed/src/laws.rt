@@ -1,3 +1,5 @@
+//! Type soundness of runs: typed code keeps values typed, and no test of a step fails.
+
 ghost use Rattle.som_model.specs.Acts.{fault};
 ghost use Rattle.som_model.specs.Class.{Class, interface_of};
 ghost use Rattle.som_model.specs.Classes.{classes, client_classes, interface_classes, library_classes};
@@ -51,9 +53,9 @@ pub fn preservation_law()
     ensures blocks { (cs : Seq Class) (main : Block) → Loads cs main → BlocksKeepTypes cs }
 {}
 
-/// So it is with a client program on a release with which it can be loaded, and on the last of a list of
-/// releases, each of which was accepted against the one before, where it conforms and was compiled against
-/// any of them.
+/// In a run of a client program on a release with which it can be loaded no test fails, and all objects stay
+/// well typed. None fails either on the last of a list of releases, each of which was accepted against the one
+/// before, where the program conforms and was compiled against any of them.
 pub fn typed_program_law()
     ensures checks { (r : Release) (p : ClientProgram) → Loads (library_classes r ++ client_classes p) p.main →
         (otherwise : Act (Unit {0})) (fuel : ℕ) →
