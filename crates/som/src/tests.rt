@@ -1,3 +1,5 @@
+//! Tests of the program's outside: files of the system that are put and got again.
+
 use som_files::FileStore;
 use som_io::{Got, Put, Store};
 use som_model::{List, Text};
