@@ -77,7 +77,7 @@ fn run<R: Files + Print>(rt: &R, alloc: Global, words: &List<Text>) -> Result<u8
     Ok(run_som(alloc, words, &mut store, &mut out, &host))
 }
 
-// The same, or that of want of memory before it.
+// The status of what the words ask for, or that of want of memory before they are looked at.
 fn status_of<R: Files + Print>(rt: &R, alloc: Global, words: &List<Text>) -> u8 {
     match run(rt, alloc, words) {
         Ok(status) => status,

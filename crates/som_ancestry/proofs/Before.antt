@@ -103,7 +103,7 @@ metaclass_known cs i c e lt is =
     mem_every (λ k. is_some (class_at (with_kernel cs) k)) (option_list c.decl.face.metaclass) (λ k m.
     known_by_s2 cs i c e (slice_get-get_or cs i c lt ∙ ap (λ z. Some z) (sym is)) k (mem_right k c.decl.face.parents (option_list c.decl.face.metaclass) m))
 
--- the same of a declared class
+-- the metaclass of a declared class is known
 pub declared_metaclass : (ds : List Declared) (i : ℕ) (d : Declared) → first (each_after s2 kernel (classes_of ds)) ≡ None → i < length ds → d ≡ slice_index_or ds i d
     → every (λ k. is_some (class_at (with_kernel (classes_of ds)) k)) (option_list d.decl.now.face.metaclass) ≡ true
 declared_metaclass ds i d e lt is = metaclass_known (classes_of ds) i (class_of d) e (omega (arith, long_map class_of ds)) (ap class_of is ∙ item_of ds i d lt)

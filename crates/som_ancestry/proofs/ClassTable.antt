@@ -51,6 +51,7 @@ map_append f (x ∷ xs) ys = ap (λ z. f x ∷ z) (map_append f xs ys)
 names_more : (k : List Class) (cs : List Class) (i : ℕ) (c : Class) → i < length cs → map name_of (front k cs (i + 1)) ≡ map name_of (front k cs i) ++ (slice_index_or cs i c).decl.face.name ∷ []
 names_more k cs i c lt = ap (map name_of) (front_more k cs i c lt) ∙ map_append name_of (front k cs i) (slice_index_or cs i c ∷ [])
 
+-- the names noted are those of the classes k and of the first i after them, none of which breaks S1
 pub record NamesSoFar (k : List Class) (cs : List Class) (i : ℕ) (names : List (List ℕ)) : Type 0 where
   pub are : names ≡ map name_of (front k cs i)
   pub same : first (each_after s1 (front k cs i) (drop i cs)) ≡ first (each_after s1 k cs)
@@ -156,7 +157,7 @@ name_added seen new known name is_new same fresh is kept =
     let e : is_new ≡ true = is ∙ ap (λ z. not (among name z)) same ∙ ap not fresh in
     (if_new is_new (among name seen) seen new name e is kept).1 ∙ ap (λ z. z ++ name ∷ []) same
 
--- the same of declared classes
+-- noting the name of one declared class more
 
 pub names_next : (k : List Class) (ds : List Declared) (i : ℕ) (names seen : List (List ℕ)) (d : Declared) (is_new : Bool) → i < length ds → d ≡ slice_index_or ds i d
     → is_new ≡ true → is_new ≡ not (among d.decl.now.face.name names) → seen ≡ (if is_new then names ++ d.decl.now.face.name ∷ [] else names)

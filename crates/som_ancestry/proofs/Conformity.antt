@@ -48,7 +48,7 @@ tells_here o r e t = tells_first o r (or_else o r) e t refl
 pub tells_later : (o r : Option RuleBreach) (result : Result (Unit {0}) VerifyFault) → o ≡ None → Tells r result → Tells (or_else o r) result
 tells_later o r result none t = subst (λ z. Tells (or_else z r) result) (sym none) t
 
--- the same where the pass answers something
+-- where the first rules have none, a pass that answers something tells the first of the others
 pub tells_after : {A : Type 0} (o r : Option RuleBreach) (result : Result A VerifyFault) → o ≡ None → Tells r result → Tells (or_else o r) result
 tells_after o r result none t = subst (λ z. Tells (or_else z r) result) (sym none) t
 

@@ -103,7 +103,7 @@ module _ (cs : List Class) (names : List (List ℕ)) (t : IsTable cs names) wher
         height_there i lt);
   }
 
--- the same, of lists that are borrowed
+-- borrowed lists, which are the ancestors of borrowed rows, are the lists of all classes
 pub lists_of : (cs : List Class) (names : List (List ℕ)) → IsTable cs names → (rows shown all lent : List (List ℕ)) → IsRows (with_kernel cs) (length (with_kernel cs)) rows
     → shown ≡ rows → AreAncestors shown (length shown) all → lent ≡ all → AreLists (with_kernel cs) lent
 lists_of cs names t rows shown all lent table e lists f =

@@ -33,7 +33,7 @@ pub stops : {A B : Type 0} (one : B → List RuleBreach) (g : A → B) (cs : Lis
     → first (flat_map one (map g (drop i cs))) ≡ whole → Tells {A = Unit {0}} whole (Err e)
 stops one g cs whole i e lt f same = let r = at_place one g cs i lt in tells_first (first (one (g r.0))) _ _ e (f r.0 r.1) (sym r.2 ∙ same)
 
--- the same of a class that is an item
+-- the first breach of the items from a place on, where the item there is known: its own, or else the first of those after it
 at_item : {A B C : Type 0} (one : B → List C) (g : A → B) (cs : List A) (i : ℕ) (c : A) → i < length cs → c ≡ slice_index_or cs i c
     → first (flat_map one (map g (drop i cs))) ≡ or_else (first (one (g c))) (first (flat_map one (map g (drop (i + 1) cs))))
 at_item one g [] i c lt is = absurd (omega arith)

@@ -199,7 +199,7 @@ stop_rows cs i place rows c (faults.Rule b) lt is at_end tells so =
     tells_first (first (s2 (front kernel cs i) c)) _ _ (faults.Rule b) (ap first (sym (here cs i place c e lt)) ∙ tells) (sym (step cs i c lt is) ∙ so.same)
 stop_rows cs i place rows c faults.NoMemory lt is at_end tells so = tt
 
--- the same of declared classes
+-- the row of one declared class more, or its breach
 
 pub rows_next : (ds : List Declared) (i place : ℕ) (rows : List (List ℕ)) (row : List ℕ) (d : Declared) → i < length ds → d ≡ slice_index_or ds i d → place ≡ length rows
     → ClassStands (with_kernel (classes_of ds)) place (class_of d) (Ok row) → RowsSoFar (classes_of ds) i rows → RowsSoFar (classes_of ds) (i + 1) (rows ++ row ∷ [])

@@ -30,7 +30,7 @@ parents_apart cs e =
     let two = or_none (first (each_after s2 kernel cs)) (or_else (first (flat_map s3 cs)) (first (flat_map (s4 (with_kernel cs)) cs))) later in
     both_none (first (each_after s2 kernel cs)) (first (flat_map s3 cs)) two.0 (or_none (first (flat_map s3 cs)) (first (flat_map (s4 (with_kernel cs)) cs)) two.1).0
 
--- the same of what a pass answers
+-- where there is no breach, a pass fails for want of memory alone
 pub only_memory : {A : Type 0} (o : Option RuleBreach) (r : Result A VerifyFault) → o ≡ None → Tells o r → IfErr r (λ e. e ≡ faults.NoMemory)
 only_memory o (Ok x) none t = tt
 only_memory o (Err e) none t = no_breach o e none t

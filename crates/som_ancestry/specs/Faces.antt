@@ -7,7 +7,7 @@ use Rattle.som_model.specs.Conforming.{each_after, first_of_names, first_of_memb
 pub use Rattle.som_model.specs.Conforming.{faces_breach}
 use Rattle.som_model.specs.Rules.{RuleBreach, s2, s3, s4, s5, s8, s9, s10, s14}
 
--- the same, where the types of the first n classes name no class after them
+-- the first breach of S1 to S10, where the types of the first n classes name no class after them
 abbrev pub classes_breach : ℕ → List Class → Option RuleBreach
 classes_breach n cs =
     or_else (first_of_names kernel cs)
@@ -26,7 +26,7 @@ standing_breach cs = or_else (first (each_after s2 kernel cs)) (first (flat_map 
 abbrev pub types_breach : ℕ → List Class → Option RuleBreach
 types_breach n cs = first (flat_map (s5 (kernel ++ take n cs)) (take n cs) ++ flat_map (s5 (kernel ++ cs)) (drop n cs))
 
--- the same of S4 to S10
+-- the first breach of S4 to S10, where the types of the first n classes name no class after them
 abbrev pub placed_breach : ℕ → List Class → Option RuleBreach
 placed_breach n cs = or_else (first (flat_map (s4 (kernel ++ cs)) cs)) (or_else (types_breach n cs) (first_of_members kernel cs))
 

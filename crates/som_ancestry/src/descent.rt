@@ -1,3 +1,5 @@
+//! Answers by lists of ancestors whether the class at one place descends from that at another.
+
 ghost use Rattle.som_model.specs.Class.{Class};
 ghost use Rattle.som_model.specs.Classes.{is_a};
 ghost use Rattle.som_model.specs.Lists.{some};

@@ -1,3 +1,5 @@
+//! Looks up entries of release orders: all of a class, and that of a name, moved up or with its signature.
+
 ghost use Rattle.som_model.specs.Class.{entry_of, introduced_sig};
 ghost use Rattle.som_model.specs.Kernel.{kernel_interface};
 ghost use Rattle.som_ancestry.specs.Inherited.{moved_to as moved};

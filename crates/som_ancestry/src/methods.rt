@@ -1,3 +1,5 @@
+//! Resolves a method by a class and a name to its owner, the class that introduces it.
+
 ghost use Rattle.som_model.specs.Kernel.{kernel_interface};
 ghost use Rattle.som_model.specs.Lists.{first};
 ghost use Rattle.som_model.specs.Owner.{owner};

@@ -1,3 +1,5 @@
+//! Makes the fault of a pass of the checker, which names a rule, a class and a member.
+
 ghost use Rattle.som_ancestry.specs.Told.{Refuses};
 ghost use Rattle.som_ancestry.specs.declared.types.VerifyFault.TheVariants as faults;
 ghost use Rattle.std.specs.Prelude.{◌≡◌, IfOk};

@@ -1,3 +1,5 @@
+//! The class table: checks that names of classes differ, and looks up the place of a class by its key.
+
 ghost use Rattle.som_model.specs.Conforming.{each_after};
 ghost use Rattle.som_model.specs.Kernel.{kernel};
 ghost use Rattle.som_model.specs.Keys.{same_module};

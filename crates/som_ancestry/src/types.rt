@@ -1,3 +1,5 @@
+//! The types of the checker: a class with its module, a broken rule, and why a pass fails.
+
 use som_model::{ClassDecl, Module, NoMemory, Text};
 use std::alloc::AllocFailed;
 

@@ -116,7 +116,7 @@ module _ {A : Type 0} (Comes : Compiling A) (out : List ℕ) (got : Files → Re
       put_failed f.1 f.2 cause.0 (failing line f.0 status old new says fails front (status == 6) (status == 8) (status == 10) refl refl refl) f.3
   keeps is_line files (Err stops.NoMemory) new_files f count now status cause old new says fails front silent = as_they_were (not_done (Err stops.NoMemory) stops.NoMemory refl status old new says) f
 
-  -- the same over a store, where it told its files
+  -- the files that a put leaves in a store, where it told its files
   pub keeps_told : (is_line : List ℕ → Type 0) (files : Option Files) (outcome : Result Output CommandStop) (new_files : Option Files) → PutsTold Comes files out got outcome new_files → (count now status : ℕ) → HasCause is_line count now outcome
       → (old new : Option (List ℕ)) → AllSaid outcome status old new → (status ≡ 6 → SaysFailure outcome old new) → SaysFront outcome old new → (outcome ≡ Ok nothing → status ≡ 0)
       → LeavesFilesTold (λ told. IsMade Comes (got told)) files out count now status new_files old new

@@ -25,7 +25,7 @@ pub data LeavesFiles (IsImage : List ℕ → Type 0) (files : Files) (out : List
   put_failed : (image : List ℕ) → IsImage image → Rose before now → SaysPutFailed out status old new → PutFails files out image new_files
       → LeavesFiles IsImage files out before now status new_files old new
 
--- the same over a store, where it told its files
+-- the files after compiling to an image over a store, where it told its files
 abbrev pub LeavesFilesTold : (Files → List ℕ → Type 0) → Option Files → List ℕ → ℕ → ℕ → ℕ → Option Files → Option (List ℕ) → Option (List ℕ) → Type 0
 LeavesFilesTold IsImage None out before now status new_files old new = Unit {0}
 LeavesFilesTold IsImage (Some files) out before now status new_files old new = LeavesFiles (IsImage files) files out before now status new_files old new

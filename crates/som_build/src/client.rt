@@ -1,3 +1,5 @@
+//! The command `client`: compiles texts against a library, and puts the client image.
+
 ghost use Rattle.som_build.specs.Cause.{FailsClient};
 ghost use Rattle.som_build.specs.ClientAnswer.{CompilesParts, IsClientAnswer, IsClientCompiled};
 ghost use Rattle.som_build.specs.PutEnds.{LeavesFilesTold};

@@ -1,3 +1,5 @@
+//! The command `library`: compiles texts to a release, and puts the library image.
+
 ghost use Rattle.som_build.specs.Cause.{FailsLibrary};
 ghost use Rattle.som_build.specs.LibraryAnswer.{AreCompiled, IsLibraryAnswer};
 ghost use Rattle.som_build.specs.PutEnds.{LeavesFilesTold};

@@ -1,3 +1,5 @@
+//! The command `check`: decodes library images, checks their rules, and compares each with the one before.
+
 ghost use Rattle.som_check.specs.Cause.{FailsGetting};
 ghost use Rattle.som_check.specs.CheckAnswer.{IsCheckAnswer, all_rules_kept, check_statuses, first_not_kept, images_in, releases_in};
 ghost use Rattle.som_check.specs.CheckSteps.{accepted_or, line_checked};

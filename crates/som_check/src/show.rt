@@ -1,3 +1,5 @@
+//! The command `show`: decodes an image, checks its rules, and prints its classes.
+
 ghost use Rattle.som_check.specs.Cause.{FailsShowing};
 ghost use Rattle.som_check.specs.ShowAnswer.{IsShowAnswer, is_client, show_statuses};
 ghost use Rattle.som_check.specs.ShowSteps.{lines_shown, program_lines, release_lines};

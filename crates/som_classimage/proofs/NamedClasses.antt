@@ -93,7 +93,7 @@ module _ (d : Directory) where
   as_many_classes (f ∷ fs) [] e = absurd (omega arith)
   as_many_classes (f ∷ fs) (p ∷ ps) e = ap suc (as_many_classes fs ps (omega arith))
 
--- what doesn't look at selects is the same of classes with selects
+-- what doesn't look at selects is equal for classes with them and without
 module _ (d : Directory) where
   pub map_selecting : {B : Type 0} (f : ClassDecl → B) → ((ss : List WireSelect) (c : ClassDecl) → f (selecting d ss c) ≡ f c) → (n : ℕ) (gs : List WireSelects) (ds : List ClassDecl) → map f (with_selects d n gs ds) ≡ map f ds
   map_selecting f same n gs [] = refl

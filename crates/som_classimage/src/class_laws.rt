@@ -1,3 +1,5 @@
+//! States that faces with names are spelled as the faces with numbers that they are named from.
+
 ghost use Rattle.som_classimage.specs.Interfaces.{NamedFrom, NamesDiffer, interface_image};
 ghost use Rattle.som_classimage.specs.NamedClasses.{interface_named};
 ghost use Rattle.som_classimage.specs.SpelledClasses.{FitsFaces};

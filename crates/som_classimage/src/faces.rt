@@ -1,3 +1,5 @@
+//! Decodes and encodes the faces in an image, and counts the classes and entries that they give.
+
 ghost use Rattle.som_classimage.specs.ReadClasses.{faces_after_at, faces_at, ranges_of};
 ghost use Rattle.som_classimage.specs.SpelledClasses.{FitsFaces, FitsFacesAfter};
 ghost use Rattle.som_fields.specs.Fields.{Gives, Stands, done};

@@ -1,3 +1,5 @@
+//! Decodes and encodes the head of an image: the bytes that tell its kind, and its version.
+
 ghost use Rattle.som_classimage.specs.ReadClasses.{head_at, magic_at};
 ghost use Rattle.som_classimage.specs.SpelledClasses.{head};
 ghost use Rattle.std.specs.Prelude.{◌≡◌, ◌≤◌, length, IfOk};

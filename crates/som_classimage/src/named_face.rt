@@ -1,3 +1,5 @@
+//! Turns the faces of an image to faces with names, and to the interface that they make.
+
 ghost use Rattle.som_naming.specs.Naming.{key_at, kind_named};
 ghost use Rattle.som_classimage.specs.NamedClasses.{
   entry_named,

@@ -1,3 +1,5 @@
+//! Turns faces, parts and selects of an image to declared classes.
+
 ghost use Rattle.som_spelling.specs.Fitting.{FitsBody, FitsOverride, FitsVariable};
 ghost use Rattle.som_classimage.specs.NamedClasses.{
   AreSelectsOf,

@@ -1,3 +1,5 @@
+//! Looks up the selects under a class's number, and turns them to selects with names.
+
 ghost use Rattle.som_classimage.specs.NamedClasses.{AreSelectsOf, select_named, selects_under};
 ghost use Rattle.som_naming.specs.Naming.{ranges_in};
 ghost use Rattle.som_fields.specs.Spelling.{FitsMethod};

@@ -1,3 +1,5 @@
+//! Decodes and encodes the parts in an image, one for each face.
+
 ghost use Rattle.som_spelling.specs.Fitting.{FitsSomePart};
 ghost use Rattle.som_spelling.specs.Spelling.{part};
 ghost use Rattle.som_classimage.specs.ReadClasses.{introduced_count, parts_at};

@@ -1,3 +1,5 @@
+//! Decodes and encodes the selects section, which images have from version 2 on.
+
 ghost use Rattle.som_classimage.specs.ReadClasses.{section_at};
 ghost use Rattle.som_classimage.specs.SpelledClasses.{FitsSomeSection, section, version_with};
 ghost use Rattle.som_fields.specs.Fields.{Gives};

@@ -41,6 +41,7 @@ module _ (p : ClientProgram) where
   abbrev pub all : List Class
   all = before ++ own
 
+  -- the rules that are used of a client program
   pub record Holds : Type 0 where
     pub names : each_after s1 kernel (base ++ own) ≡ []
     pub base_names : each_after s1 kernel base ≡ []

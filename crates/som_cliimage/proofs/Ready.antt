@@ -159,7 +159,7 @@ module _ (p : ClientProgram) (ok : ProgramOk p) (within : IsWithinLimits p) wher
       let t = main_scope (block_scope (class_facts (all p)) in_main p.main []) rules.main in
       typed_is_ready (class_facts (all p)) directory_of (covers (all p) directory_of (program_told p)) in_main [] t.0 p.main within.main t.1
 
--- ---- what numbering asks for
+-- ---- what numbering asks of a client program
 
 pub record IsReady (p : ClientProgram) : Type 0 where
   pub base_directory : IsDirectory (class_names (interface_directory p.base)) (interface_directory p.base)

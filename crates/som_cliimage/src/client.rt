@@ -1,3 +1,5 @@
+//! The decoder and the encoder of client images, between bytes and a program with names.
+
 ghost use Rattle.som_cliimage.specs.Programs.{ProgramNamesDiffer, SpellsProgram, client_at};
 ghost use Rattle.som_cliimage.specs.Limits.{IsWithinLimits};
 ghost use Rattle.som_model.specs.Conforming.{ProgramOk};

@@ -1,3 +1,5 @@
+//! Makes the directory of a client image: the kernel's classes, those of the base, and the client's own.
+
 ghost use Rattle.som_cliimage.specs.Numbering.{interface_directory, program_directory};
 ghost use Rattle.std.specs.Prelude.{◌≡◌, IfOk};
 

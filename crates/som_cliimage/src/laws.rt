@@ -1,3 +1,5 @@
+//! States that a conforming program has an image, and that bytes spell one program at most.
+
 ghost use Rattle.som_cliimage.specs.Limits.{IsWithinLimits};
 ghost use Rattle.som_cliimage.specs.Programs.{ProgramNamesDiffer, SpellsProgram, client_at};
 ghost use Rattle.som_model.specs.Conforming.{ProgramOk};

@@ -1,3 +1,5 @@
+//! Turns the program of a client image to a program with names.
+
 ghost use Rattle.som_cliimage.specs.Naming.{client_directory, program_named};
 ghost use Rattle.som_cliimage.specs.Spelling.{FitsProgram};
 ghost use Rattle.std.specs.Prelude.{◌≡◌, IfOk};

@@ -1,3 +1,5 @@
+//! Turns a client program with names to the program of an image.
+
 ghost use Rattle.som_cliimage.specs.Limits.{IsWithinLimits};
 ghost use Rattle.som_cliimage.specs.Naming.{program_named};
 ghost use Rattle.som_cliimage.specs.Numbering.{program_numbered};

@@ -1,3 +1,5 @@
+//! Decodes and encodes the sections of a client image: head, base, own classes, selects and main.
+
 ghost use Rattle.som_cliimage.specs.Reading.{client_ranges, program_at, wire_at};
 ghost use Rattle.som_cliimage.specs.Spelling.{FitsOwnFaces, FitsProgram, client};
 ghost use Rattle.som_classimage.specs.SpelledClasses.{FitsFaces};

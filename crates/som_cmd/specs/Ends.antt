@@ -34,7 +34,7 @@ pub record AreImagesOf (asked : Asked) (files : Option Files) (client library : 
   pub asked_is : asked ≡ Run client library fuel shows
   pub images : AreRun told client library p r
 
--- the same of the image of a client program that was compiled from these texts against the release at a place of accepted ones, and of that of the newest of these
+-- a run of one image on another is asked for, with so much fuel and these calls shown, and the store holds that of a client program that was compiled from these texts against the release at a place of accepted ones, and that of the newest of these
 pub record AreNewest (asked : Asked) (files : Option Files) (earlier : List Release) (newest : Release) (place : ℕ) (texts : List Source) (p : ClientProgram) (fuel : ℕ) (shows : List ℕ → Bool) : Type 0 where
   pub told : Files
   pub files_are : files ≡ Some told
@@ -51,7 +51,7 @@ pub record IsImageOf (asked : Asked) (files : Option Files) (r : Release) : Type
   pub asked_is : asked ≡ Show name
   pub under : IsUnder told name r
 
--- the same of a client program
+-- an image is to be shown, and the store holds that of the client program, which conforms
 pub record IsImageOfClient (asked : Asked) (files : Option Files) (p : ClientProgram) : Type 0 where
   pub told : Files
   pub files_are : files ≡ Some told

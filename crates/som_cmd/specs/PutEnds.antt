@@ -37,16 +37,16 @@ pub record AreClientTextsOf (asked : Asked) (files : Option Files) (out : List �
   pub asked_is : asked ≡ Client out library names
   pub texts : HoldsClientTexts told library names p
 
--- the image, which is there, stands under the name, no other file is changed, nothing was written, and the status is 0
+-- the store told its files, and the image, which is there, stands under the name, no other file is changed, nothing was written, and the status is 0
 pub record PutsImage (image_is : Option (List ℕ)) (files : Option Files) (out : List ℕ) (status : ℕ) (new_files : Option Files) (old new : Option (List ℕ)) : Type 0 where
   pub told : Files
   pub files_are : files ≡ Some told
   pub puts : build.PutsImage image_is told out status new_files old new
 
--- the same of the image of the release
+-- the image of the release is there and stands under the name, and nothing else is changed or written
 abbrev pub PutsRelease : Option Files → List ℕ → Release → ℕ → Option Files → Option (List ℕ) → Option (List ℕ) → Type 0
 PutsRelease files out r status new_files old new = PutsImage (library_image r) files out status new_files old new
 
--- and of the client program
+-- the image of the client program is there and stands under the name, and nothing else is changed or written
 abbrev pub PutsProgram : Option Files → List ℕ → ClientProgram → ℕ → Option Files → Option (List ℕ) → Option (List ℕ) → Type 0
 PutsProgram files out p status new_files old new = PutsImage (client_image p) files out status new_files old new

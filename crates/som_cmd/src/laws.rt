@@ -1,3 +1,5 @@
+//! States that there is one answer to any words and files, and which words are numbers.
+
 ghost use Rattle.som_cmd.specs.Answer.{IsAnswer};
 ghost use Rattle.som_cmd.specs.Words.{Asked, asked, count_of, fuel_of};
 ghost use Rattle.som_generated.specs.declared.limits.TheConstants.{MAX_CLASSES};

@@ -1,3 +1,5 @@
+//! The dispatcher of commands: does what the words ask for, and answers the status.
+
 ghost use Rattle.som_check.specs.CheckAnswer.{first_not_kept};
 ghost use Rattle.som_check.specs.CheckEnds.{TellsAccepted, TellsBreach};
 ghost use Rattle.som_check.specs.ShowEnds.{ShowsProgram, ShowsRelease};

@@ -1,3 +1,5 @@
+//! Parses the words of the command line to a command, with its names, fuel, trace or count.
+
 ghost use Rattle.som_cmd.specs.Words.{are_files, asked, asked_by, asked_of, client_asked, count_of, fuel_of, generate_asked, is_digit, is_file, is_name, leads_with_zero, library_asked, run_asked, run_with, trace_in};
 ghost use Rattle.som_model.specs.Lists.{every};
 ghost use Rattle.som_ran.specs.Traces.{shown_in};

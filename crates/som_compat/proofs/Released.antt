@@ -131,6 +131,6 @@ may_be_compared r e few counts = record {
   counts = All-map IsCounted (λ (d : ClassDecl). d.face) r.classes counts;
 }
 
--- the same of a release that conforms
+-- a release that conforms, and is within the counts, has an interface that may be compared
 pub interface_conforms : (r : Release) → ReleaseOk r → length r.classes ≤ 4096 → All (λ (d : ClassDecl). IsCounted d.face) r.classes → Conforms (interface_of r)
 interface_conforms r ok few counts = may_be_compared r ok.rules few counts

@@ -26,7 +26,7 @@ pub record Keeps (old new : Interface) : Type 0 where
   pub ancestors : (c : Class) (a : ClassKey) → Mem c (interface_classes old) → Descends (hierarchy (release_of old)) c.key a → Descends (hierarchy (release_of new)) c.key a
   -- K4: each name of its release order stands at the same place in the new
   pub places : (c n : Class) (place : ℕ) (name : List ℕ) → IsPair old new c n → slice_get (order_of c) place ≡ Some name → slice_get (order_of n) place ≡ Some name
-  -- K5: and has the same signature
+  -- K5: each name of its release order has one signature in the old and the new
   pub signatures : (c : Class) (name : List ℕ) → Mem c (interface_classes old) → Mem name (order_of c) → signature (release_of old) c.key name ≡ signature (release_of new) c.key name
   -- K6: the new metaclass descends from the metaclass that the old declares
   pub metaclasses : (c : Class) (m : ClassKey) → Mem c (interface_classes old) → c.decl.face.metaclass ≡ Some m → Descends (hierarchy (release_of new)) (meta (release_of new) c.key) m

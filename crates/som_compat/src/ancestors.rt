@@ -1,3 +1,5 @@
+//! Checks that a class of a newer interface keeps the ancestors of the older one (K3).
+
 ghost use Rattle.som_compat.specs.Conditions.{Conforms};
 ghost use Rattle.som_compat.specs.Marks.{AreAbove, IsFront, Marked, lost_from};
 ghost use Rattle.som_compat.specs.Told.{told_by};

@@ -1,3 +1,5 @@
+//! The type of what a newer interface doesn't keep, with the rule, the class and the place.
+
 ghost use Rattle.som_model.specs.Compatible.{declared_name};
 ghost use Rattle.std.specs.Prelude.{◌≡◌, option_copied};
 

@@ -1,3 +1,5 @@
+//! Answers whether an interface may be compared: its faces break no rule and are within the counts.
+
 ghost use Rattle.som_compat.specs.Conditions.{Conforms, IsCounted};
 ghost use Rattle.som_model.specs.Class.{bare};
 ghost use Rattle.std.specs.Prelude.{◌≡◌, ◌↔◌, All, IfOk, IsTrue, map};

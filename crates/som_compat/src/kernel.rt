@@ -1,3 +1,5 @@
+//! The signatures that the kernel's classes introduce, by class and name, and whether two are equal.
+
 ghost use Rattle.som_compat.specs.Finding.{FindsName};
 ghost use Rattle.som_compat.specs.KernelSigs.{sig_of_kernel, told_sig, type_of};
 ghost use Rattle.som_model.specs.Class.{entry_of, introduced_sig};

@@ -1,3 +1,5 @@
+//! States that compatibility holds of every class and member, and goes along from release to release.
+
 ghost use Rattle.som_compat.specs.Conditions.{Conforms, IsCounted};
 ghost use Rattle.som_compat.specs.Metaclasses.{Declares, IsDeclared};
 ghost use Rattle.som_compat.specs.Plainly.{Keeps};

@@ -1,3 +1,5 @@
+//! Checks a list of interfaces, each against the one before it.
+
 ghost use Rattle.som_compat.specs.Conditions.{Conforms};
 ghost use Rattle.som_compat.specs.Told.{told_by_list};
 ghost use Rattle.som_model.specs.Compatible.{Compatible, EachLater, list_breaks};

@@ -1,3 +1,5 @@
+//! Looks up classes of an interface by their keys, and their faces by places.
+
 ghost use Rattle.som_compat.specs.Views.{classes_of, shown};
 ghost use Rattle.som_model.specs.declared.key.ClassKey.TheVariants as keys;
 ghost use Rattle.som_ancestry.specs.Places.{Finds, class_of_place, key_at};

@@ -1,3 +1,5 @@
+//! Marks classes along rows of parents, upwards or downwards, in an array of flags by places.
+
 ghost use Rattle.som_compat.specs.Marks.{Above, AreLow, IsReached, Marked, count, some_marked};
 ghost use Rattle.som_model.specs.Lists.{Mem};
 ghost use Rattle.std.specs.Prelude.{◌≡◌, ◌↔◌, ◌+◌, ◌<◌, ◌≤◌, ◌⊎◌, ℕ, false, length, slice_index_or};

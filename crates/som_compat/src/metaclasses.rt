@@ -1,3 +1,5 @@
+//! Checks that the metaclass of a newer class descends from the one that the older declares (K6).
+
 ghost use Rattle.som_compat.specs.Marks.{Above, AreAbove, Marked};
 ghost use Rattle.som_compat.specs.Metaclasses.{IsDeclared};
 ghost use Rattle.som_compat.specs.Told.{metaclass_marked, some_declares, told_by};

@@ -1,3 +1,5 @@
+//! Sorts the places of classes by their names, and finds the place of a name by binary search.
+
 ghost use Rattle.som_compat.specs.Finding.{FindsName, face_names};
 ghost use Rattle.som_model.specs.declared.limits.TheConstants.{MAX_LIBRARY_CLASSES};
 ghost use Rattle.std.specs.Prelude.{◌<◌, ◌≤◌, IfSome, length};

@@ -1,3 +1,5 @@
+//! Compares a newer interface with an older one, class by class and rule by rule, in fixed memory.
+
 ghost use Rattle.som_compat.specs.Conditions.{Conforms};
 ghost use Rattle.som_compat.specs.Told.{told_by};
 ghost use Rattle.som_compat.specs.Views.{IsView, classes_of, interface, shown};

@@ -1,3 +1,5 @@
+//! The row of a class: its parents and metaclass by places, in an array of fixed length.
+
 ghost use Rattle.som_compat.specs.Conditions.{IsCounted};
 ghost use Rattle.som_compat.specs.Views.{IsRow, classes_of, numbers_of};
 ghost use Rattle.som_model.specs.Lists.{Mem};
@@ -28,6 +30,7 @@ impl Row {
         metaclass: None,
     };
 
+    /// The places of the parents in order, lent from the row.
     pub fn parents(&self) -> &[u16]
         ensures { result.now ≡ numbers_of self.now }
     {

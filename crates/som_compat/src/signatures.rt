@@ -1,3 +1,5 @@
+//! Checks that each entry keeps its signature through its owner (K5).
+
 ghost use Rattle.som_compat.specs.Conditions.{Conforms};
 ghost use Rattle.som_compat.specs.Told.{changed, entry_sig, sig_told, signature_told, told_by};
 ghost use Rattle.som_compat.specs.Views.{IsShown, classes_of, interface, shown};

@@ -1,3 +1,5 @@
+//! Makes the rows of the kernel's classes and an interface's, and marks the ancestors of a class.
+
 ghost use Rattle.som_compat.specs.Conditions.{Conforms};
 ghost use Rattle.som_compat.specs.Marks.{AreAbove, Marked};
 ghost use Rattle.som_compat.specs.Views.{AreRows, IsRow, IsView, classes_of, interface};

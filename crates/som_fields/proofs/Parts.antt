@@ -87,7 +87,7 @@ found_of one spell Fits field bytes all place (Err fault) le given = tt
 pub only_of : {A : Type 0} (one : List ℕ → ℕ → Result (Read A) ImageFault) (spell : A → List ℕ) (Fits : A → Type 0) → IsField one spell Fits → (bytes : List ℕ) (place : ℕ) (result : Result (Read A) ImageFault) → Gives result (one bytes place) → (v : A) (next : ℕ) → Stands bytes place (spell v) next → Fits v → Gives result (done v next)
 only_of {A} one spell Fits field bytes place result given v next h fits = subst (λ (x : Result (Read A) ImageFault). Gives result x) (field.again bytes place v next h fits) given
 
--- the same of a reader that takes no memory
+-- what a reader that takes no memory may give: a value that fits, whose spelling stands where it was read
 pub found_in : {A : Type 0} (one : List ℕ → ℕ → Result (Read A) ImageFault) (spell : A → List ℕ) (Fits : A → Type 0) → IsField one spell Fits → (bytes : List ℕ) → AreBytes bytes → (place : ℕ) (result : Result (Read A) ImageFault) → place ≤ length bytes → result ≡ one bytes place → IfOk result (λ r. Stands bytes place (spell r.value) r.next × Fits r.value)
 found_in one spell Fits field bytes all place (Ok r) le is = field.takes bytes all place r le (sym is)
 found_in one spell Fits field bytes all place (Err fault) le is = tt

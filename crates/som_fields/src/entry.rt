@@ -1,3 +1,5 @@
+//! Decodes and encodes an entry of a release order: its name, and a signature or the class it was moved to.
+
 ghost use Rattle.std.specs.Prelude.{◌≡◌, ◌≤◌, [], ◌∷◌, ◌++◌, ℕ, length, IfOk, OnOk, OnErr};
 ghost use Rattle.som_fields.specs.Fields.{Stands, Gives, done};
 ghost use Rattle.som_fields.specs.Spelling.{entry, FitsEntry, way as way_of, most_classes};

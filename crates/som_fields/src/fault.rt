@@ -1,3 +1,5 @@
+//! The faults of decoding, each with the byte where it is, and those of encoding.
+
 ghost use Rattle.std.specs.Prelude.{◌≡◌};
 ghost use Rattle.som_fields.specs.declared.fault.ImageFault.TheVariants as faults;
 ghost use Rattle.som_fields.specs.declared.fault.EncodeFault.TheVariants as encode_faults;

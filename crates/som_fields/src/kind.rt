@@ -1,3 +1,5 @@
+//! Decodes and encodes a type: a tag, and after that of a class the class's number.
+
 ghost use Rattle.std.specs.Prelude.{◌≡◌, ◌≤◌, ◌++◌, ℕ, true, length, IfOk, OnOk, OnErr};
 ghost use Rattle.som_fields.specs.Fields.{Stands, done};
 ghost use Rattle.som_fields.specs.Spelling.{kind, FitsKind, most_classes};
@@ -67,7 +69,7 @@ fn read_tagged(
     })
 }
 
-/// Appends a type.
+/// Appends a type: its tag, and after the tag of a class the class's number in 2 bytes.
 pub fn write_type(out: &mut List<u8>, value: &WireType) -> Result<(), NoMemory>
     requires { FitsKind most_classes true value.now }
     ensures ok { OnOk result (out.new ≡ out.old ++ kind value.now) }

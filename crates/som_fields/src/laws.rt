@@ -1,3 +1,5 @@
+//! States that a field has one spelling at most, which begins no other.
+
 ghost use Rattle.std.specs.Prelude.{ℕ, ◌<◌, ◌^◌, Bool};
 ghost use Rattle.std.specs.Int.{w8, w16, w32};
 ghost use Rattle.som_fields.specs.Fields.{NoneBeginsAnother};

@@ -1,3 +1,5 @@
+//! Decodes a counted row of fields by a closure that decodes one.
+
 ghost use Rattle.std.specs.Prelude.{ℕ, ◌≤◌, length, IfOk};
 ghost use Rattle.som_fields.specs.Fields.{Gives, many_at};
 

@@ -1,3 +1,5 @@
+//! Decodes and encodes a method: the number of a class, and the slot of an entry of it.
+
 ghost use Rattle.std.specs.Prelude.{◌≡◌, ◌<◌, ◌≤◌, ◌^◌, ◌++◌, ℕ, length, slice_index, IfOk, OnOk, OnErr};
 ghost use Rattle.som_fields.specs.Fields.{Stands, done};
 ghost use Rattle.som_fields.specs.Spelling.{method, FitsMethod, FitsSomeRanges, AreShort};
@@ -76,7 +78,7 @@ fn read_class_and_slot(
     })
 }
 
-/// Appends a method.
+/// Appends a method: the class's number and the slot, in 2 bytes each.
 pub fn write_method(out: &mut List<u8>, value: &WireMethod) -> Result<(), NoMemory>
     requires { FitsSomeRanges value.now }
     ensures ok { OnOk result (out.new ≡ out.old ++ method value.now) }

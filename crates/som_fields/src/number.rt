@@ -1,3 +1,5 @@
+//! Decodes and encodes numbers of 1, 2 and 4 bytes.
+
 ghost use Rattle.std.specs.Prelude.{◌≡◌, ◌≤◌, ◌<◌, ◌^◌, ◌++◌, ℕ, length, IfOk, OnOk, OnErr};
 ghost use Rattle.std.specs.Int.{w8, w16, w32};
 ghost use Rattle.som_fields.specs.Fields.{Stands, done};
@@ -25,7 +27,7 @@ pub fn read_u8(bytes: &List<u8>, place: usize) -> Result<Read<u8>, ImageFault>
     })
 }
 
-/// Reads a number of 2 bytes at a place.
+/// Reads a number of 2 bytes at a place, of which the first is the highest.
 pub fn read_u16(bytes: &List<u8>, place: usize) -> Result<Read<u16>, ImageFault>
     requires { place ≤ length bytes.now }
     ensures found { IfOk result (λ r. Stands bytes.now place (number w16 r.value) r.next × (r.value < 2 ^ 16)) }
@@ -44,7 +46,7 @@ pub fn read_u16(bytes: &List<u8>, place: usize) -> Result<Read<u16>, ImageFault>
     })
 }
 
-/// Reads a number of 4 bytes at a place.
+/// Reads a number of 4 bytes at a place, of which the first is the highest.
 pub fn read_u32(bytes: &List<u8>, place: usize) -> Result<Read<u32>, ImageFault>
     requires { place ≤ length bytes.now }
     ensures found { IfOk result (λ r. Stands bytes.now place (number w32 r.value) r.next × (r.value < 2 ^ 32)) }
@@ -91,7 +93,7 @@ pub fn write_u8(out: &mut List<u8>, value: u8) -> Result<(), NoMemory>
     out.extend_from_slice(&value.to_be_bytes())
 }
 
-/// Appends a number of 2 bytes.
+/// Appends a number of 2 bytes, the highest first.
 pub fn write_u16(out: &mut List<u8>, value: u16) -> Result<(), NoMemory>
     ensures ok { OnOk result (out.new ≡ out.old ++ number w16 value) }
     ensures err { OnErr result (out.new ≡ out.old) }
@@ -99,7 +101,7 @@ pub fn write_u16(out: &mut List<u8>, value: u16) -> Result<(), NoMemory>
     out.extend_from_slice(&value.to_be_bytes())
 }
 
-/// Appends a number of 4 bytes.
+/// Appends a number of 4 bytes, the highest first.
 pub fn write_u32(out: &mut List<u8>, value: u32) -> Result<(), NoMemory>
     ensures ok { OnOk result (out.new ≡ out.old ++ number w32 value) }
     ensures err { OnErr result (out.new ≡ out.old) }

@@ -1,3 +1,5 @@
+//! Decodes and encodes the signature of a method: its result, and its parameters after their number.
+
 ghost use Rattle.std.specs.Prelude.{◌≡◌, ◌≤◌, ◌++◌, ℕ, true, false, length, All, IfOk, OnOk, OnErr};
 ghost use Rattle.std.specs.List.{flat_map};
 ghost use Rattle.som_fields.specs.Fields.{Stands, Gives, done, many_at};

@@ -1,3 +1,5 @@
+//! Decodes and encodes a text: its length, and its bytes.
+
 ghost use Rattle.std.specs.Prelude.{◌≡◌, ◌≤◌, ◌++◌, ℕ, length, IfOk, OnOk, OnErr};
 ghost use Rattle.som_fields.specs.Fields.{Stands, Gives, done};
 ghost use Rattle.som_fields.specs.Spelling.{text, FitsText};

@@ -1,3 +1,5 @@
+//! The system's files as a store: a put goes into a new file, which is then renamed.
+
 ghost use Rattle.std.specs.Prelude.{◌<◌, ◌^◌, None};
 
 use som_io::{Got, Put, Store};

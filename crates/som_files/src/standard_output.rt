@@ -1,3 +1,5 @@
+//! Standard output as a sink.
+
 ghost use Rattle.std.specs.Prelude.{◌<◌, ◌^◌, None};
 
 use som_io::{Sent, Sink};

@@ -1,4 +1,4 @@
-//! The store over real files.
+//! Tests of the store over real files: what is put is got again.
 
 use crate::FileStore;
 use som_io::{Got, Put, Store};

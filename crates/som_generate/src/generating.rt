@@ -1,3 +1,5 @@
+//! The command `generate`, from the number of classes to the status.
+
 ghost use Rattle.som_generate.specs.GenerateAnswer.{IsGenerateAnswer, generate_statuses};
 ghost use Rattle.som_generate.specs.Printing.{ShowsSomeOf};
 ghost use Rattle.som_generated.specs.declared.limits.TheConstants.{MAX_CLASSES};

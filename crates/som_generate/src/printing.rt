@@ -1,3 +1,5 @@
+//! Writes the lines of `generate` that end with a number.
+
 ghost use Rattle.som_generate.specs.GenerateAnswer.{left_line, numbered_line};
 ghost use Rattle.som_generate.specs.Printing.{Prints, sent_status};
 ghost use Rattle.som_io.specs.Line.{SendHasCause, SendsLine};

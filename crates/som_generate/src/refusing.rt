@@ -1,3 +1,5 @@
+//! Makes the line that tells which step of the generator refuses.
+
 ghost use Rattle.som_generate.specs.GenerateAnswer.{unmade_told};
 ghost use Rattle.som_generate.specs.Stopping.{StopsFor};
 ghost use Rattle.som_generator.specs.declared.fault.Unmade.TheVariants as unmade_of;

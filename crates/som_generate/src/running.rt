@@ -1,3 +1,5 @@
+//! Links the generated client with the second release, and interprets its main.
+
 ghost use Rattle.som_cliimage.specs.Limits as programs;
 ghost use Rattle.som_generate.specs.AfterMain.{EndsAfter};
 ghost use Rattle.som_generate.specs.GenerateAnswer.{client_run, generated_text, ran_text};

@@ -1,3 +1,5 @@
+//! Writes the bodies files of the generated releases.
+
 ghost use Rattle.som_generated.specs.Generated.{bodies_text, body_lines, extra_method, has_tag, only_if, only_second, own_method, returns_number, top_body};
 ghost use Rattle.std.specs.Prelude.{[], ◌≡◌, ◌++◌, ◌∷◌, IfOk, OnOk, codes};
 ghost use Rattle.std.specs.Fmt.{decimal};

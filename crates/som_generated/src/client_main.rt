@@ -1,3 +1,5 @@
+//! Writes the main of the generated client, which calls the methods of each class and adds up their answers.
+
 ghost use Rattle.som_generated.specs.Generated.{adding_line, adding_lines, class_name, main_text, own_method};
 ghost use Rattle.std.specs.Prelude.{◌≡◌, ◌++◌, IfOk, OnOk, codes};
 

@@ -1,3 +1,5 @@
+//! The type that tells the two generated releases apart.
+
 /// Which of the two releases.
 #[derive(Clone, Copy, Debug, PartialEq, Eq)]
 pub enum Edition {

@@ -1,3 +1,5 @@
+//! Writes the IDL of the generated releases.
+
 ghost use Rattle.som_generated.specs.Generated.{implementation, interface_line, interfaces_text, methods, only_second, parent, release_order, root, tag_overridden, top_interface};
 ghost use Rattle.std.specs.Prelude.{◌≡◌, ◌++◌, IfOk, OnOk};
 

@@ -1,3 +1,5 @@
+//! States what the generated texts are for three classes, byte by byte.
+
 ghost use Rattle.som_generated.specs.Generated.{bodies_text, interfaces_text, main_text};
 ghost use Rattle.som_generated.specs.Written.{client_main, first_bodies, first_interfaces, second_bodies, second_interfaces};
 ghost use Rattle.som_generated.specs.declared.edition.Edition.TheVariants as editions;

@@ -1,3 +1,5 @@
+//! Writes the names of generated classes and methods, and tells which classes override `tag`.
+
 ghost use Rattle.som_generated.specs.Generated.{class_name, extra_method, has_tag, numbered, only_if, own_method};
 ghost use Rattle.std.specs.Prelude.{◌≡◌, ◌++◌, OnOk};
 
@@ -19,14 +21,14 @@ pub fn add_class_name(text: &mut Vec<u8>, number: u32) -> Result<(), NoMemory>
     add_numbered(text, b"G", number)
 }
 
-/// Writes the method that the class of a number introduces in both releases.
+/// Writes the name of the method that the class of a number introduces in both releases.
 pub fn add_own_method(text: &mut Vec<u8>, number: u32) -> Result<(), NoMemory>
     ensures { OnOk result (text.new.items ≡ text.old.items ++ own_method number) }
 {
     add_numbered(text, b"m", number)
 }
 
-/// Writes the method that it introduces in the second release alone.
+/// Writes the name of the method that the class of a number introduces in the second release alone.
 pub fn add_extra_method(text: &mut Vec<u8>, number: u32) -> Result<(), NoMemory>
     ensures { OnOk result (text.new.items ≡ text.old.items ++ extra_method number) }
 {

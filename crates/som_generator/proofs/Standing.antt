@@ -37,7 +37,7 @@ pub uncompiled : (ss : List Source) (f : CompileFault) (r : MakeFault) → Says 
 uncompiled ss (compiling.Text w) r says is = subst (λ (x : MakeFault). Answers {A = List ℕ} (ImageComes ss) (Err x)) (sym is) says
 uncompiled ss compiling.NoMemory r says is = subst (λ (x : MakeFault). Answers {A = List ℕ} (ImageComes ss) (Err x)) (sym is) tt
 
--- the same of a library, whose texts aren't compiled
+-- why a library isn't made whose texts aren't compiled
 pub unbuilt_library : (ss : List Source) (r : MakeFault) → Answers {A = List ℕ} (ImageComes ss) (Err r) → Answers {A = Library} (LibraryComes ss) (Err r)
 unbuilt_library ss (faults.Unmade (unmade.Texts w)) a = a
 unbuilt_library ss (faults.Unmade (unmade.NotKept k)) a = absurd a

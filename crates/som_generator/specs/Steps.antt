@@ -25,7 +25,7 @@ ImageComes ss (Ok image) = Compiles ss (Ok image)
 ImageComes ss (Err (unmade.Texts w)) = Compiles ss (Err w)
 ImageComes ss (Err (unmade.NotKept k)) = ⊥
 
--- the same with the release
+-- what making a library of texts comes to: its release and image, or why the texts aren't compiled
 abbrev pub LibraryComes : List Source → Result Library Unmade → Type 0
 LibraryComes ss (Ok l) = IsLibrary ss l
 LibraryComes ss (Err (unmade.Texts w)) = Compiles ss (Err w)
@@ -37,7 +37,7 @@ ClientImageComes base ss (Ok image) = CompilesClient base ss (Ok image)
 ClientImageComes base ss (Err (unmade.Texts w)) = CompilesClient base ss (Err w)
 ClientImageComes base ss (Err (unmade.NotKept k)) = ⊥
 
--- the same with the program
+-- what making a client of texts comes to: its program and image, or why the texts aren't compiled
 abbrev pub ClientComes : Interface → List Source → Result Client Unmade → Type 0
 ClientComes base ss (Ok c) = IsClient base ss c
 ClientComes base ss (Err (unmade.Texts w)) = CompilesClient base ss (Err w)

@@ -1,3 +1,5 @@
+//! Compiles the generated client, decodes its image again, and checks its rules.
+
 ghost use Rattle.som_compile.specs.Compiling.{IsBase};
 ghost use Rattle.som_generated.specs.declared.limits.TheConstants.{MAX_CLASSES};
 ghost use Rattle.som_generator.specs.Making.{Answers};

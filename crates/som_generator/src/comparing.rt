@@ -1,3 +1,5 @@
+//! Compares the two generated releases, and copies the names of what isn't kept.
+
 ghost use Rattle.som_compat.specs.Conditions.{Conforms};
 ghost use Rattle.som_compat.specs.Told.{told};
 ghost use Rattle.som_generator.specs.Making.{Answers, breach_of};

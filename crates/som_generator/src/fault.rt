@@ -1,3 +1,5 @@
+//! The types of why the generator makes nothing: a step that refuses, or want of memory.
+
 use som_model::{NoMemory, Text};
 use som_reading::TextFault;
 

@@ -1,3 +1,5 @@
+//! Compiles a generated release, decodes its image again, and checks its rules.
+
 ghost use Rattle.som_generated.specs.declared.limits.TheConstants.{MAX_CLASSES};
 ghost use Rattle.som_generator.specs.Making.{Answers};
 ghost use Rattle.som_generator.specs.Steps.{ImageComes, LibraryComes, fault_of};

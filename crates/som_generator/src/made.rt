@@ -1,3 +1,5 @@
+//! The types of what the generator makes: releases and a client, each with its image.
+
 use som_model::{ClientProgram, List, Release};
 
 /// The release that the texts of a library stand for, and its image.

@@ -1,3 +1,5 @@
+//! Makes both generated releases and the client, compiled and compared as the commands do it.
+
 ghost use Rattle.som_generator.specs.Making.{Answers, Makes};
 ghost use Rattle.som_generated.specs.declared.limits.TheConstants.{MAX_CLASSES};
 ghost use Rattle.std.specs.Prelude.{◌≤◌};

@@ -1,3 +1,5 @@
+//! Puts names to the generated texts: interfaces, bodies and main.
+
 ghost use Rattle.som_generated.specs.Generated.{release_number};
 ghost use Rattle.som_generator.specs.Texts.{client_texts, library_texts};
 ghost use Rattle.std.specs.Prelude.{◌≡◌, ◌++◌, IfOk, codes};
@@ -47,7 +49,7 @@ pub fn library_texts(alloc: Global, edition: Edition, count: u32) -> Result<List
     Ok(texts)
 }
 
-/// The text of its client.
+/// The text of a client that uses each of so many classes.
 pub fn client_texts(alloc: Global, count: u32) -> Result<List<Source>, NoMemory>
     ensures { IfOk result (λ texts. texts ≡ client_texts count) }
 {

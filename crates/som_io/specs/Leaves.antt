@@ -11,7 +11,7 @@ abbrev pub left_after : Leaves → List FailingPut → ℕ → Leaves
 left_after so [] call = so
 left_after so (put ∷ puts) call = left_after (if put.call == call then put.leaves else so) puts call
 
--- the same, and the old bytes where nothing was said
+-- what the call of a number leaves, as was said last of it, or the old bytes where nothing was said
 abbrev pub left_by : List FailingPut → ℕ → Leaves
 left_by puts call = left_after leaves.Old puts call
 

@@ -1,3 +1,5 @@
+//! Counts the calls on a store or sink in memory, of which some are set to fail.
+
 ghost use Rattle.std.specs.Prelude.{◌≡◌, ◌<◌, ◌^◌, OnErr, OnOk};
 
 use som_model::NoMemory;

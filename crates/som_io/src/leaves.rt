@@ -1,3 +1,5 @@
+//! The type of what a failed put leaves in a store in memory, and what was said of a call's number.
+
 ghost use Rattle.som_io.specs.Leaves.{left_by};
 ghost use Rattle.std.specs.Prelude.{◌≡◌};
 

@@ -1,3 +1,5 @@
+//! Writes a line to a sink piece by piece, until the sink has taken all of it or fails.
+
 ghost use Rattle.som_io.specs.Line.{SendHasCause, SendsLine};
 ghost use Rattle.som_io.specs.declared.line.Sending.TheVariants as sending;
 ghost use Rattle.std.specs.Prelude.{◌≡◌, ◌≢◌, ◌≤◌};

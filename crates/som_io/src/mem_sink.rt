@@ -1,3 +1,5 @@
+//! A sink in memory, for tests, whose faults are planned by the number of a write.
+
 ghost use Rattle.som_io.specs.Calls.{after_next, fails_next, none_made, set_to_fail};
 ghost use Rattle.som_io.specs.MemSink.{bytes_of, calls_of};
 ghost use Rattle.som_io.specs.Sink.{Appends, Takes};

@@ -1,3 +1,5 @@
+//! A store in memory, for tests, whose faults are planned by the number of a call.
+
 ghost use Rattle.som_io.specs.Calls.{after_next, fails_next, none_made, set_to_fail};
 ghost use Rattle.som_io.specs.Leaves.{leaving, left_by};
 ghost use Rattle.som_io.specs.MemStore.{calls_of, files_among, files_of, puts_of};

@@ -1,3 +1,5 @@
+//! The trait of sinks: what a write answers, and the count of faults.
+
 ghost use Rattle.som_io.specs.Sink.{Appends, Takes, WriteHasCause};
 ghost use Rattle.som_io.specs.declared.sink.Sent.TheVariants as sent;
 ghost use Rattle.std.specs.Prelude.{◌≡◌, ◌≢◌, ◌<◌, ◌≤◌, ◌^◌, ℕ, List, Option};

@@ -1,3 +1,5 @@
+//! The trait of stores: what gets and puts answer, and the count of faults.
+
 ghost use Rattle.som_io.specs.Store.{Finds, GetHasCause, Holds, PutHasCause};
 ghost use Rattle.som_io.specs.declared.store.Got.TheVariants as gets;
 ghost use Rattle.som_io.specs.declared.store.Put.TheVariants as puts;

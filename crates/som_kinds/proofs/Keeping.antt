@@ -38,7 +38,7 @@ pub demanded : (cs : List Class) (ruled : Ruled Scope) (scope : List Kind) (rule
 demanded cs ruled scope rule true test r e h is = subst (λ z. Keeps cs ruled scope z) (sym is) (e ∙ ap (λ b. needs rule b (Ok (scope_at cs scope))) (sym h))
 demanded cs ruled scope rule false test r e h is = subst (λ z. Keeps cs ruled scope z) (sym is) (e ∙ ap (λ b. needs rule b (Ok (scope_at cs scope))) (sym h))
 
--- the same of a test of a part's type
+-- what a demand on a part's type comes to, where the part has one
 pub tested : (cs : List Class) (typed : Typed) (rule : ℕ) (test : ExprType → Bool) (scope : List Kind) (k : Kind) (holds : Bool) (r : Result (Unit {0}) TypeFault)
     → typed ≡ Ok (kind_at cs k) → holds ≡ test (kind_at cs k) → r ≡ (if holds then Ok tt else Err (faults.Rule rule))
     → Keeps cs (typed >>= λ t. needs rule (test t) (Ok (scope_at cs scope))) scope r

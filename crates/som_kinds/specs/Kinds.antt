@@ -64,7 +64,7 @@ abbrev pub Comes : List Class → Typed → Result Kind ℕ → Type 0
 Comes cs typed (Ok kind) = (typed ≡ Ok (kind_at cs kind)) × Stands cs kind
 Comes cs typed (Err rule) = typed ≡ Err rule
 
--- the same of a type that is looked up
+-- what looking up a type comes to: a kind, or the rule that it breaks
 abbrev pub Names : List Class → Ruled ValueType → Result Kind ℕ → Type 0
 Names cs ruled (Ok kind) = (ruled ≡ Ok (type_at cs kind)) × IsType cs kind
 Names cs ruled (Err rule) = ruled ≡ Err rule

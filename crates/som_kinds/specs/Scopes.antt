@@ -38,7 +38,7 @@ then_scope typed further = typed >>= further
 abbrev pub while_scope : Typed → Ruled Scope → Scope → Ruled Scope
 while_scope typed block scope = typed >>= λ t. block >>= λ _. needs 17 (is_boolean t) (Ok scope)
 
--- the same with two blocks
+-- a condition, two blocks, and then the condition's type
 abbrev pub if_scope : Typed → Ruled Scope → Ruled Scope → Scope → Ruled Scope
 if_scope typed first second scope = typed >>= λ t. first >>= λ _. second >>= λ _. needs 17 (is_boolean t) (Ok scope)
 
@@ -60,12 +60,12 @@ abbrev pub Scopes : List Class → Ruled Scope → List Kind → List Kind → R
 Scopes cs ruled before after (Ok _) = Leaves cs ruled before after
 Scopes cs ruled before after (Err e) = Fails ruled e
 
--- the same of a statement that declares nothing
+-- a statement that declares nothing leaves the scope before it, or breaks a rule
 abbrev pub Keeps : List Class → Ruled Scope → List Kind → Result (Unit {0}) TypeFault → Type 0
 Keeps cs ruled scope (Ok _) = ruled ≡ Ok (scope_at cs scope)
 Keeps cs ruled scope (Err e) = Fails ruled e
 
--- the same of a block
+-- a block ends with what was in scope before it, or breaks a rule
 abbrev pub Closes : Ruled Scope → List Kind → List Kind → Result (Unit {0}) TypeFault → Type 0
 Closes ruled before after (Ok _) = Ends ruled before after
 Closes ruled before after (Err e) = Fails ruled e

@@ -1,3 +1,5 @@
+//! Types the expressions that name classes and methods: self, new, casts, proxies, and calls of each form.
+
 ghost use Rattle.som_model.specs.Keys.{same_key};
 ghost use Rattle.som_model.specs.Typing as typing;
 ghost use Rattle.som_ancestry.specs.Places.{key_at};

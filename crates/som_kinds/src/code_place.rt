@@ -1,3 +1,5 @@
+//! The types of where code stands, in a body or in main, and of why code has no type.
+
 use crate::kind::Kind;
 use som_model::NoMemory;
 use std::alloc::AllocFailed;

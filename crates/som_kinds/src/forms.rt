@@ -1,3 +1,5 @@
+//! Types operators, host calls and locals, which need nothing of classes, and tells kinds of values apart.
+
 ghost use Rattle.som_model.specs.Blocks.{is_call as calls};
 ghost use Rattle.som_model.specs.Class.{Class};
 ghost use Rattle.som_model.specs.Typing as typing;

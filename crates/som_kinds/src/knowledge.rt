@@ -1,3 +1,5 @@
+//! The type checker's view of classes: their places, entries, ancestors and signatures, and which kind fits.
+
 ghost use Rattle.som_model.specs.Kernel.{kernel_interface};
 ghost use Rattle.som_model.specs.Lists.{every};
 ghost use Rattle.som_model.specs.Rules.{is_known};
@@ -130,7 +132,7 @@ pub fn descends_from(known: &Knowledge, class: usize, ancestor: &ClassKey) -> bo
     }
 }
 
-/// The same, of an ancestor by its place.
+/// Whether the class at a place descends from that at another.
 pub fn is_below(known: &Knowledge, class: usize, ancestor: usize) -> bool
     requires known { IsKnowledge known.now }
     requires class { class < length (all_of known.now) }
@@ -191,7 +193,7 @@ fn class_fits(known: &Knowledge, ancestor: usize, given: Kind) -> bool
     }
 }
 
-/// The same, of a type that is wanted.
+/// Whether a value of a kind may stand where one of a type is wanted, the class of which need not be known.
 pub fn type_fits(known: &Knowledge, wanted: &ValueType, given: Kind) -> bool
     requires known { IsKnowledge known.now }
     requires given { Stands (all_of known.now) given }

@@ -1,3 +1,5 @@
+//! States what the absence of a breach says of each class and member, and that parents are lower.
+
 ghost use Rattle.som_model.specs.Class.{Class};
 ghost use Rattle.som_model.specs.Classes.{hierarchy};
 ghost use Rattle.som_model.specs.Hierarchy.{Falls};
@@ -20,7 +22,7 @@ pub fn parents_lower_law()
     ensures { (ds : Seq Decl) → NamesDiffer ds → ParentsStand ds → Falls (hierarchy (all_classes ds)) }
 {}
 
-/// The same, of classes in any modules.
+/// Where the parents of classes in any modules stand before these, each parent is lower than its class.
 pub fn declared_lower_law()
     ensures { (cs : Seq Class) → AreDeclared cs → NamesApart cs → ParentsBefore cs → Falls (hierarchy (with_kernel cs)) }
 {}

@@ -31,7 +31,7 @@ use Rattle.som_roundtrip.proofs.NumberedParts.{ClassReady}
 use Rattle.som_libimage.proofs.NumberedReleases.{told, is_directory, ReleaseTurns, release_turns}
 use Rattle.som_roundtrip.proofs.ReadyClasses.{names_new, stand_before, classes_ready}
 
--- ---- the rules that are used
+-- ---- the rules that are used of a release
 
 record Holds (r : Release) : Type 0 where
   names : each_after s1 kernel (library_classes r) ≡ []
@@ -65,7 +65,7 @@ holds r ok =
       blocks = none_first (flat_map (class_typed (kernel ++ library_classes r)) (library_classes r)) ok.blocks;
     }
 
--- what numbering asks for
+-- what numbering asks of a release
 pub record IsReady (r : Release) : Type 0 where
   pub directory : IsDirectory (class_names (release_directory r)) (release_directory r)
   pub classes : All (ClassKnown (release_directory r)) r.classes

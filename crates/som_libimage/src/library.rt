@@ -1,3 +1,5 @@
+//! The decoder and the encoder of library images, between bytes and a release with names.
+
 ghost use Rattle.som_classimage.specs.Interfaces.{NamesDiffer};
 ghost use Rattle.som_libimage.specs.Libraries.{SpellsLibrary, library_at};
 ghost use Rattle.som_libimage.specs.Limits.{IsWithinLimits};

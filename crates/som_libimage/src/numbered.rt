@@ -1,3 +1,5 @@
+//! Turns a release with names to the release of an image.
+
 ghost use Rattle.som_libimage.specs.Limits.{IsWithinLimits};
 ghost use Rattle.som_libimage.specs.Naming.{release_named};
 ghost use Rattle.som_libimage.specs.Numbering.{release_numbered};

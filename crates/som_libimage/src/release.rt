@@ -1,3 +1,5 @@
+//! Decodes and encodes the sections of a library image: head, faces, parts and selects.
+
 ghost use Rattle.som_libimage.specs.Reading.{classes_at, wire_at};
 ghost use Rattle.som_libimage.specs.Spelling.{FitsRelease, library};
 ghost use Rattle.som_fields.specs.Fields.{Gives};

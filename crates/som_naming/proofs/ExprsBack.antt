@@ -54,7 +54,7 @@ module _ (d : Directory) (cs : List Class) (tells : Tells d cs) where
         let f = counted_back spelled_below spelling.expr (expr_named d) Inner w8 0 MAX_PARAMETERS es (omega arith) each bytes (sym (counted_map w8 MAX_PARAMETERS below (images.expr cs) es) ∙ e) in
         record { it = f.it; spelled = args_are f.it ∙ f.spelled; fits = f.fits; names = f.names }
 
-    -- the same of the outermost part
+    -- what the outermost part of an expression is named from
     abbrev FromLayer : Expr-F Expr → List ℕ → Type 0
     FromLayer layer bytes = From (λ (w : WireExpr-F WireExpr). spelling.expr_step (map-WireExpr WireExpr (List ℕ) spelling.expr w)) (FitsExprParts classes Method Inner) (expr_layer d) layer bytes
 

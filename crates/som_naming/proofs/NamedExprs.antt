@@ -79,7 +79,7 @@ module _ (d : Directory) (cs : List Class) (tells : Tells d cs) (single : NoDoub
         ∙ forth_layer layer h
         ∙ ap some_bytes (sym (fold-roll-WireExpr (List ℕ) spelling.expr_step layer))
 
-  -- the same where so many levels are left
+  -- an expression with numbers for which there are levels enough is spelled as the one with names
   pub expr_forth : (left level : ℕ) → left + level ≡ suc MAX_NESTING → (e : WireExpr) → FitsExpr left classes Method e → ExprForth level e
   unfolding FitsExpr
   expr_forth zero level sum e h = absurd h

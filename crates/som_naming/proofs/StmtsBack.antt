@@ -89,7 +89,7 @@ module _ (d : Directory) (cs : List Class) (tells : Tells d cs) where
         let w = inner e bytes g.1 in
         record { it = w.it; spelled = w.spelled; fits = (w.fits, sym (call_named d w.it) ∙ ap is_call w.names ∙ g.0); names = w.names }
 
-    -- the same of the outermost part
+    -- what the outermost part of a statement is named from
     abbrev FromLayer : Stmt-F Stmt Block → List ℕ → Type 0
     FromLayer layer bytes = From (λ (w : WireStmt-F WireStmt WireBlock). spelling.stmt_step (map-WireStmt WireStmt WireBlock (List ℕ) (List ℕ) spelling.stmt spelling.block w)) (FitsStmtParts classes Inner CallFits (FitsBlock left classes Method)) (stmt_layer d) layer bytes
 

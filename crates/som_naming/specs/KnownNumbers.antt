@@ -78,6 +78,6 @@ stmt_known d = fold-WireStmt Bool Bool (stmt_known_step d) block_known_step
 abbrev pub block_known : Directory → WireBlock → Bool
 block_known d = fold-WireBlock Bool Bool (stmt_known_step d) block_known_step
 
--- the same, asked of each statement
+-- whether the numbers in each statement of a block stand for something
 unfoldable pub statements_known : Directory → WireBlock → Bool
 statements_known d b = list_all (stmt_known d) b.statements

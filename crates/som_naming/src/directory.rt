@@ -1,3 +1,5 @@
+//! The directory of an image: the key of each class number, and the name of each slot.
+
 ghost use Rattle.som_naming.specs.Naming.{
   kernel_directory,
   library_directory,

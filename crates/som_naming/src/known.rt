@@ -1,3 +1,5 @@
+//! Names the classes, methods and types in expressions, where a directory is known to have their numbers.
+
 ghost use Rattle.som_naming.specs.KnownNumbers.{is_class, is_method, is_type};
 ghost use Rattle.som_naming.specs.Naming.{key_at, kind_named, method_named};
 ghost use Rattle.std.specs.Prelude.{◌≡◌, true, IfOk};

@@ -1,3 +1,5 @@
+//! States that blocks with numbers are spelled as the named blocks that they stand for, within the limits.
+
 ghost use Rattle.som_spelling.specs.Fitting.{FitsBlock, levels_left};
 ghost use Rattle.som_spelling.specs.Spelling.{block};
 ghost use Rattle.som_spelling.specs.declared.syntax.WireBlock.{WireBlock};

@@ -1,3 +1,5 @@
+//! Looks up in a directory what a number stands for: a class, a type, or a method.
+
 ghost use Rattle.som_naming.specs.Naming.{key_at, kind_named, method_named, ranges_in};
 ghost use Rattle.som_fields.specs.Spelling.{FitsKind, FitsMethod};
 ghost use Rattle.std.specs.Prelude.{◌≡◌, ◌<◌, true, length, IfOk};

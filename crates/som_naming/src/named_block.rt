@@ -1,3 +1,5 @@
+//! Turns blocks of an image to blocks with names, statement by statement.
+
 ghost use Rattle.som_spelling.specs.Fitting.{FitsBlock, levels_left};
 ghost use Rattle.som_model.specs.declared.syntax.Stmt.TheVariants as stmts;
 ghost use Rattle.som_naming.specs.KnownNumbers.{block_known, expr_known, is_type, statements_known, stmt_known};

@@ -1,3 +1,5 @@
+//! Turns expressions of an image to expressions with names.
+
 ghost use Rattle.som_naming.specs.Forms.{is_wire_operation, is_wire_receiver_call};
 ghost use Rattle.som_naming.specs.KnownNumbers.{all_found, expr_known};
 ghost use Rattle.som_naming.specs.NamedBlocks.{expr_named};

@@ -87,7 +87,7 @@ names_end ks i seen over so =
 
 -- ---- what is a member has a place
 
--- what stands at a place
+-- an item of a list stands at a place of it
 pub record StandsAt {A : Type 0} (xs : List A) (x : A) (n : ℕ) : Type 0 where
   pub within : n < length xs
   pub there : (d : A) → get_or xs n d ≡ x

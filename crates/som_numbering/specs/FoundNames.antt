@@ -79,6 +79,6 @@ stmt_found d = fold-Stmt Bool Bool (stmt_found_step d) block_found_step
 abbrev pub block_found : Directory → Block → Bool
 block_found d = fold-Block Bool Bool (stmt_found_step d) block_found_step
 
--- the same, asked of each statement
+-- whether what each statement of a block names is found
 unfoldable pub statements_found : Directory → Block → Bool
 statements_found d b = list_all (stmt_found d) b.statements

@@ -1,3 +1,5 @@
+//! Numbers the classes, methods and types in expressions, where a directory is known to have their names.
+
 ghost use Rattle.som_numbering.specs.FoundNames.{has_number, has_slot, kind_found};
 ghost use Rattle.som_numbering.specs.Numbering.{
   IsDirectory,

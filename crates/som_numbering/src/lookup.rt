@@ -1,3 +1,5 @@
+//! Looks up numbers in a directory: that of a class by its key, and the slot of a method by its name.
+
 ghost use Rattle.som_model.specs.Lists.{Mem};
 ghost use Rattle.som_model.specs.declared.limits.TheConstants.{MAX_ENTRIES};
 ghost use Rattle.som_numbering.specs.Numbering.{

@@ -1,3 +1,5 @@
+//! Turns blocks with names to blocks of an image, statement by statement.
+
 ghost use Rattle.som_spelling.specs.declared.syntax.WireStmt.TheVariants as stmts;
 ghost use Rattle.som_numbering.specs.FoundNames.{block_found, expr_found, kind_found, statements_found, stmt_found};
 ghost use Rattle.som_numbering.specs.Numbering.{IsDirectory, kind_numbered};

@@ -1,3 +1,5 @@
+//! Turns declared classes to the faces and the parts of an image.
+
 ghost use Rattle.som_numbering.specs.NumberedClasses.{ClassKnown, face_numbered, part_numbered};
 ghost use Rattle.som_numbering.specs.Numbering.{IsDirectory};
 ghost use Rattle.som_order.specs.Names.{texts};

@@ -1,3 +1,5 @@
+//! Turns expressions with names to expressions of an image.
+
 ghost use Rattle.som_naming.specs.Forms.{is_operation, is_receiver_call};
 ghost use Rattle.som_naming.specs.KnownNumbers.{all_found};
 ghost use Rattle.som_numbering.specs.FoundNames.{expr_found};

@@ -1,3 +1,5 @@
+//! Turns a face with names to a face of an image: its types, entries, parents and metaclass.
+
 ghost use Rattle.som_numbering.specs.Numbering.{
   IsDirectory,
   IsKnown,

@@ -1,3 +1,5 @@
+//! States that blocks which are well typed can be numbered, and are named back to themselves.
+
 ghost use Rattle.som_spelling.specs.Fitting.{FitsBlock, levels_left};
 ghost use Rattle.som_model.specs.Class.{Class};
 ghost use Rattle.som_model.specs.Typing.{CodePlace, class_facts};

@@ -1,3 +1,5 @@
+//! Turns a class's variables, bodies and overrides to the part of an image.
+
 ghost use Rattle.som_numbering.specs.NumberedClasses.{BodyReady, ClassKnown, OverrideReady, body_numbered, override_numbered, part_numbered, variable_numbered};
 ghost use Rattle.som_numbering.specs.Numbering.{IsDirectory, IsValue};
 ghost use Rattle.som_order.specs.Names.{texts};

@@ -1,3 +1,5 @@
+//! Turns the selects of classes to those of an image, under the numbers of the classes.
+
 ghost use Rattle.som_numbering.specs.NumberedClasses.{ClassKnown, select_numbered, selects_numbered};
 ghost use Rattle.som_numbering.specs.Numbering.{IsDirectory, MethodKnown};
 ghost use Rattle.som_order.specs.Names.{texts};

@@ -1,3 +1,5 @@
+//! Compares two release orders name by name, up to the first place at which the new one leaves the old.
+
 ghost use Rattle.som_model.specs.Class.{entry_name};
 ghost use Rattle.som_order.specs.Difference.{first_difference};
 ghost use Rattle.std.specs.Prelude.{◌≡◌, ◌≤◌, length, map, slice_get, option_copied};

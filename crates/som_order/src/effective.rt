@@ -1,3 +1,5 @@
+//! Makes a class's release order: the names that it lists, then those that it introduces and doesn't list.
+
 ghost use Rattle.som_model.specs.EffectiveOrder as orders;
 ghost use Rattle.som_model.specs.Lists.{among, without};
 ghost use Rattle.som_order.specs.Names.{texts};

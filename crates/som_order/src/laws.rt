@@ -1,3 +1,5 @@
+//! States what the first difference of two release orders says: that one begins the other, or where it parts.
+
 ghost use Rattle.som_order.specs.Difference.{IsPrefix, PartsAt, first_difference};
 ghost use Rattle.std.specs.Prelude.{◌≡◌, ◌↔◌, List, ℕ, Some, None};
 

@@ -1,3 +1,5 @@
+//! Notes names in a set that keeps their order, and looks up the place of a name in it.
+
 ghost use Rattle.som_model.specs.Lists.{among};
 ghost use Rattle.som_order.specs.Names.{name_at, texts};
 ghost use Rattle.std.specs.Prelude.{◌≡◌, ◌<◌, ◌++◌, ◌∷◌, [], not, if◌then◌else◌, length, is_some, IfOk, IfSome, OnErr};

@@ -19,7 +19,7 @@ abbrev pub Links : Result Pair Refusal → Result Linkage CommandStop → Type 0
 Links steps (Ok k) = (pair : Pair) × (steps ≡ Ok pair) × IsKernelOf pair k
 Links steps (Err stop) = Stops stop steps
 
--- the same over a store, where it tells its files
+-- the kernel that linking over a store comes to, or what is refused, where the store tells its files
 abbrev pub LinksTold : Option Files → List ℕ → List ℕ → Result Linkage CommandStop → Type 0
 LinksTold None client library result = Unit {0}
 LinksTold (Some files) client library result = Links (linked_in client library files) result

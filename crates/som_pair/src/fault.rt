@@ -1,3 +1,5 @@
+//! Makes the lines that refuse to link a client with a library.
+
 ghost use Rattle.som_linking.specs.declared.fault.LinkFault.TheVariants as faults;
 ghost use Rattle.som_pair.specs.Faults.{Refuses, fault_told};
 ghost use Rattle.std.specs.Prelude.{IfOk, Some, ◌≡◌};

@@ -1,3 +1,5 @@
+//! The step that links a client image with a library image to a kernel.
+
 ghost use Rattle.som_cliimage.specs.Limits as programs;
 ghost use Rattle.som_libimage.specs.Limits as releases;
 ghost use Rattle.som_pair.specs.Cause.{FailsRunning};

@@ -1,3 +1,5 @@
+//! The step that gets the client program and the release that are to be linked.
+
 ghost use Rattle.som_cliimage.specs.Limits as programs;
 ghost use Rattle.som_libimage.specs.Limits as releases;
 ghost use Rattle.som_pair.specs.Cause.{FailsRunning};

@@ -24,7 +24,7 @@ outcome_status outcomes.Spent = 9
 outcome_status outcomes.SinkFailed = 8
 outcome_status outcomes.NoMemory = 10
 
--- the same of a status: that of the meaning's end, 8 where the sink failed, or 10 for want of memory
+-- main ends with a status: that of the meaning's end, 8 where the sink failed, or 10 for want of memory
 pub record EndsMain (w : World) (main : Block) (fuel : ℕ) (shows : List ℕ → Bool) (before now : ℕ) (old new : Option (List ℕ)) (status : ℕ) : Type 0 where
   pub ended : status ≢ 8 → status ≢ 10 → status ≡ run_status (means_in w main fuel)
   pub text : status ≢ 8 → status ≢ 10 → ShowsAll old new (run_text shows (means_in w main fuel))

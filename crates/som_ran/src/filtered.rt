@@ -1,3 +1,5 @@
+//! Starts the interpreter on main with a trace filter, and counts the steps of look-ups.
+
 ghost use Rattle.som_exec.specs.Run.{LeavesFuel};
 ghost use Rattle.som_exec.specs.declared.outcome.Outcome.TheVariants as outcomes;
 ghost use Rattle.som_model.specs.Means.{means_in};
@@ -33,7 +35,7 @@ pub(crate) fn run_filtered<R: Runtime, K: Sink>(
     run_counted::<Brand, R, K>(alloc, runtime, fuel, filter, host, out, Blank::new(1))
 }
 
-// The same, where the steps of look-ups are counted.
+// Runs main with a filter, and counts the steps of look-ups.
 fn run_counted<L: Ledger, R: Runtime, K: Sink>(
     alloc: Global,
     runtime: &mut R,

@@ -1,3 +1,5 @@
+//! Starts the interpreter on main with the trace that is asked for, and answers the status.
+
 ghost use Rattle.som_exec.specs.Run.{LeavesFuel};
 ghost use Rattle.som_exec.specs.declared.outcome.Outcome.TheVariants as outcomes;
 ghost use Rattle.som_model.specs.Means.{means_in};

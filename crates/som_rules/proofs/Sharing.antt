@@ -61,7 +61,7 @@ not_false : (b : Bool) → not b ≡ false → b ≡ true
 not_false true e = refl
 not_false false e = absurd (true≢false e)
 
--- the same, as noting a name tells it
+-- a name that was seen before or wasn't, as noting it tells
 pub seen_first : (name : List ℕ) (done seen shared more : List (List ℕ)) (new : Bool) → new ≡ not (among name seen) → more ≡ (if new then seen ++ name ∷ [] else seen) → new ≡ true
     → Covers done seen shared → Covers (done ++ name ∷ []) more shared
 seen_first name done seen shared more new is grown yes_ c =

@@ -1,3 +1,5 @@
+//! Checks the bodies of classes (S14): one for each entry that is introduced, which fits its signature.
+
 ghost use Rattle.som_model.specs.Class.{introduced};
 ghost use Rattle.som_model.specs.Lists.{first};
 ghost use Rattle.som_model.specs.Rules.{body_fits, s14};

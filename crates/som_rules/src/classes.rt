@@ -1,3 +1,5 @@
+//! Checks the rules on faces of declared classes in order (S1 to S10), and answers the first breach.
+
 ghost use Rattle.som_model.specs.Conforming.{each_after, first_of_members};
 ghost use Rattle.som_model.specs.Kernel.{kernel as kernels, kernel_interface};
 ghost use Rattle.som_model.specs.Lists.{first, or_else};

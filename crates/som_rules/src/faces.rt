@@ -1,3 +1,5 @@
+//! Checks the rules on faces (S1 to S10) for the classes of one library.
+
 ghost use Rattle.som_ancestry.specs.Faces.{faces_breach};
 ghost use Rattle.som_ancestry.specs.Told.{Tells, of_release};
 

@@ -1,3 +1,5 @@
+//! Answers whether a class inherits a method: one that a proper ancestor introduces.
+
 ghost use Rattle.som_model.specs.Class.{entry_of, introduced_sig};
 ghost use Rattle.som_model.specs.Kernel.{kernel_interface};
 ghost use Rattle.som_model.specs.Lists.{some};

@@ -1,3 +1,5 @@
+//! Checks that no two ancestors of a class introduce one name (S8).
+
 ghost use Rattle.som_model.specs.Class.{introduced};
 ghost use Rattle.som_model.specs.Kernel.{kernel_interface};
 ghost use Rattle.som_model.specs.Lists.{Mem, first};

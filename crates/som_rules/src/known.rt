@@ -1,3 +1,5 @@
+//! Answers whether a type is known among the first classes, and whether it is that of a value.
+
 ghost use Rattle.som_model.specs.Rules.{is_known, is_value_type};
 ghost use Rattle.som_order.specs.Names.{texts};
 ghost use Rattle.som_ancestry.specs.Modules.{classes_of};

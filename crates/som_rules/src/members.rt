@@ -1,3 +1,5 @@
+//! Checks that the names of a class's release order differ (S6), and those of its variables (S7).
+
 ghost use Rattle.som_model.specs.Class.{entry_name};
 ghost use Rattle.som_model.specs.Lists.{first};
 ghost use Rattle.som_model.specs.Rules.{s6, s7};

@@ -1,3 +1,5 @@
+//! Checks that metaclasses descend from SOMClass (S4).
+
 ghost use Rattle.som_model.specs.Classes.{class_at, is_a};
 ghost use Rattle.som_model.specs.Conforming.{each_after};
 ghost use Rattle.som_model.specs.Kernel.{kernel, som_class};

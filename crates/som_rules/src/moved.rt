@@ -1,3 +1,5 @@
+//! Checks that each entry that was moved up names an ancestor which introduces it (S9).
+
 ghost use Rattle.som_model.specs.Kernel.{kernel_interface};
 ghost use Rattle.som_model.specs.Lists.{first};
 ghost use Rattle.som_model.specs.Rules.{s9};

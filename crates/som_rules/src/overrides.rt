@@ -1,3 +1,5 @@
+//! Checks that overrides and selects are of inherited methods, and that none stands twice (S10).
+
 ghost use Rattle.som_model.specs.Conforming.{each_after};
 ghost use Rattle.som_model.specs.Kernel.{kernel as kernels, kernel_interface};
 ghost use Rattle.som_model.specs.Keys.{same_method};
@@ -91,7 +93,7 @@ fn own_overrides_inherited<'a>(
     )
 }
 
-// The same, after the overrides of these methods.
+// S10, of the overrides of the class at a place, after those of these methods.
 fn overrides_follow<'a>(
     alloc: Global,
     table: &IndexSet<&[u8]>,

@@ -1,3 +1,5 @@
+//! Checks all rules that look into no block: those on faces, and that on bodies.
+
 ghost use Rattle.som_ancestry.specs.Faces.{rules_breach};
 ghost use Rattle.som_ancestry.specs.Modules.{classes_of};
 ghost use Rattle.som_ancestry.specs.Told.{Tells};

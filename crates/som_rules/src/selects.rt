@@ -1,3 +1,5 @@
+//! Checks the selects of a class (S10): each names a parent that descends from the method's owner.
+
 ghost use Rattle.som_model.specs.Classes.{class_at, is_a};
 ghost use Rattle.som_model.specs.Kernel.{kernel_interface};
 ghost use Rattle.som_model.specs.Lists.{Mem, first};

@@ -1,3 +1,5 @@
+//! Filters the names that more than one class introduces, since no other name can break S8.
+
 ghost use Rattle.som_model.specs.Class.{introduced};
 ghost use Rattle.som_model.specs.Kernel.{kernel_interface};
 ghost use Rattle.som_model.specs.Lists.{Mem};

@@ -1,3 +1,5 @@
+//! Checks the types of signatures and variables (S5): each class is known, and void is a result alone.
+
 ghost use Rattle.som_model.specs.Lists.{every, first};
 ghost use Rattle.som_model.specs.Rules.{is_known, is_value_type, s5};
 ghost use Rattle.som_order.specs.Names.{texts};

@@ -1,3 +1,5 @@
+//! The command `run`: links a client image with a library image, and interprets main.
+
 ghost use Rattle.som_io.specs.Outside.{Rose};
 ghost use Rattle.som_model.specs.Lists.{Mem};
 ghost use Rattle.som_pair.specs.Cause.{FailsRunning};

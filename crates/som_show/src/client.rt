@@ -1,3 +1,5 @@
+//! Formats a client program as lines: the faces of its base, and its own classes.
+
 ghost use Rattle.som_show.specs.Shown.{client_lines, face_lines};
 ghost use Rattle.std.specs.Prelude.{◌≡◌, ◌++◌, flat_map, IfOk, OnOk};
 

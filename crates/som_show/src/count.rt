@@ -1,3 +1,5 @@
+//! Formats the first lines, which tell how many classes a library or a client has.
+
 ghost use Rattle.som_show.specs.Shown.{client_line, library_line};
 ghost use Rattle.std.specs.Prelude.{◌≡◌, IfOk};
 

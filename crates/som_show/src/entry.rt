@@ -1,3 +1,5 @@
+//! Formats the release order of a class as lines, one for each entry with its place.
+
 ghost use Rattle.som_show.specs.Shown.{entry_line, entry_lines, entry_text, method_text, way_text};
 ghost use Rattle.std.specs.Prelude.{◌≡◌, ◌++◌, IfOk, OnOk};
 

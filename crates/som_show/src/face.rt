@@ -1,3 +1,5 @@
+//! Formats the face of a class as lines: name, version, parents, metaclass and release order.
+
 ghost use Rattle.som_model.specs.ClassNames.{class_name};
 ghost use Rattle.som_show.specs.Shown.{class_line, face_lines, metaclass_lines};
 ghost use Rattle.std.specs.Prelude.{◌≡◌, ◌++◌, IfOk, OnOk};

@@ -1,3 +1,5 @@
+//! Formats numbers, names of classes and types at the end of a line.
+
 ghost use Rattle.som_model.specs.ClassNames.{class_name, name_list};
 ghost use Rattle.som_show.specs.Shown.{type_name};
 ghost use Rattle.std.specs.Fmt.{decimal};
@@ -15,7 +17,7 @@ pub fn add_number(line: &mut Vec<u8>, number: u64) -> Result<(), NoMemory>
     Ok(())
 }
 
-/// Writes the name of a class.
+/// Writes the name of a class: a declared one's own, and that of a derived or proxy class with those that it is made of.
 #[cycle(names)]
 pub fn add_class(line: &mut Vec<u8>, key: &ClassKey) -> Result<(), NoMemory>
     ensures { OnOk result (line.new.items ≡ line.old.items ++ class_name key.now) }
@@ -51,7 +53,7 @@ pub fn add_classes(line: &mut Vec<u8>, keys: &[ClassKey]) -> Result<(), NoMemory
     Ok(())
 }
 
-/// Writes a type.
+/// Writes a type, as IDL spells it, or the name of its class.
 pub fn add_type(line: &mut Vec<u8>, kind: &ValueType) -> Result<(), NoMemory>
     ensures { OnOk result (line.new.items ≡ line.old.items ++ type_name kind.now) }
 {

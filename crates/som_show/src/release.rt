@@ -1,3 +1,5 @@
+//! Formats a release as lines, class by class.
+
 ghost use Rattle.som_show.specs.Shown.{class_lines, shown_lines};
 ghost use Rattle.std.specs.Prelude.{◌≡◌, ◌++◌, IfOk, OnOk};
 

@@ -1,3 +1,5 @@
+//! The types of the selects of an image, with numbers for classes and methods.
+
 use som_fields::WireMethod;
 use som_model::List;
 

@@ -1,3 +1,5 @@
+//! The syntax trees of an image: blocks, statements, expressions and parts, with numbers for names.
+
 use som_fields::{WireMethod, WireType};
 use som_model::{Boxed, HostCode, List, Text};
 

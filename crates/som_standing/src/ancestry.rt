@@ -1,3 +1,5 @@
+//! Computes the ancestors of all classes by places, each list from the lists of the class's parents.
+
 ghost use Rattle.som_model.specs.Lists.{Mem, joined, some};
 ghost use Rattle.som_laws.specs.Once.{add_new, adds};
 ghost use Rattle.som_laws.specs.Rows.{AreAncestors, AreLow, AreMarks};

@@ -1,3 +1,5 @@
+//! Makes class declarations of faces alone, without variables, bodies, overrides and selects.
+
 ghost use Rattle.som_model.specs.Class.{bare};
 ghost use Rattle.std.specs.Prelude.{◌≡◌, ◌++◌, ◌∷◌, [], map, IfOk, OnOk};
 

@@ -1,3 +1,5 @@
+//! Answers the ancestors of declared classes where names and parents are known to break no rule.
+
 ghost use Rattle.som_model.specs.Conforming.{first_of_names};
 ghost use Rattle.som_model.specs.Kernel.{kernel};
 ghost use Rattle.som_ancestry.specs.Modules.{classes_of};
@@ -23,7 +25,7 @@ pub fn declared_ancestors(alloc: Global, classes: &[Declared]) -> Result<Vec<Lis
     }
 }
 
-// The same, through passes that would tell a breach.
+// The lists of ancestors by passes that would tell a breach, of which there is none.
 fn walk(alloc: Global, classes: &[Declared]) -> Result<Vec<List<usize>>, VerifyFault>
     requires { first_of_names kernel (classes_of classes.now) ≡ None }
     ensures lists { IfOk result (λ lists. AreLists (with_kernel (classes_of classes.now)) lists.items) }

@@ -1,3 +1,5 @@
+//! Searches for doubles: the first name that stands twice among names, and a class that is named twice.
+
 ghost use Rattle.som_model.specs.Keys.{same_key};
 ghost use Rattle.som_model.specs.Lists.{doubles, first, some};
 ghost use Rattle.som_order.specs.Names.{texts};
@@ -33,6 +35,7 @@ fn double_after<'a>(
     Ok(None)
 }
 
+/// Adds a lent name after the others. It fails for want of memory alone.
 pub fn add<'a>(names: &mut Vec<&'a [u8]>, name: &'a [u8]) -> Result<(), NoMemory>
     ensures { OnOk result (texts names.new.items ≡ texts names.old.items ++ name.now ∷ []) }
 {

@@ -1,3 +1,5 @@
+//! Checks that parents stand before their classes (S2) and differ (S3), and answers them by places.
+
 ghost use Rattle.som_model.specs.Conforming.{each_after};
 ghost use Rattle.som_model.specs.Kernel.{kernel};
 ghost use Rattle.som_model.specs.Lists.{first, option_list};

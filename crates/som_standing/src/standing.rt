@@ -1,3 +1,5 @@
+//! Declares the classes of a module, and checks their parents on the way to the lists of ancestors.
+
 ghost use Rattle.som_model.specs.Class.{class_in};
 ghost use Rattle.som_model.specs.Lists.{first};
 ghost use Rattle.som_model.specs.Rules.{s3};

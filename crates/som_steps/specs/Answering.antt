@@ -27,7 +27,7 @@ abbrev pub Answers : (Ending → Type 0) → Files → Result Output CommandStop
 Answers IsAnswer files (Ok o) = IsAnswer (printed files o)
 Answers IsAnswer files (Err stop) = StopAnswers IsAnswer files stop
 
--- the same over a store, where it tells its files
+-- what a command came to over a store is its answer, where the store tells its files
 abbrev pub AnswersTold : Answering → Option Files → Result Output CommandStop → Type 0
 AnswersTold IsAnswer None result = Unit {0}
 AnswersTold IsAnswer (Some files) result = Answers (IsAnswer files) files result

@@ -14,7 +14,7 @@ pub record EndsAs (IsAnswer : Ending → Type 0) (status : ℕ) (files : Option 
   pub text_is : ShowsAll old new told.text
   pub files_are : files ≡ Some told.files
 
--- the same over a store, where it told its files
+-- as the answer says over a store, where it told its files
 abbrev pub EndsAsTold : Answering → Option Files → ℕ → Option Files → Option (List ℕ) → Option (List ℕ) → Type 0
 EndsAsTold IsAnswer None status files old new = Unit {0}
 EndsAsTold IsAnswer (Some before) status files old new = EndsAs (IsAnswer before) status files old new

@@ -22,7 +22,7 @@ Stored files out image (Err (stops.Refused r)) new = ⊥
 Stored files out image (Err (stops.StoreFailed line)) new = PutFails files out image new
 Stored files out image (Err stops.NoMemory) new = new ≡ Some files
 
--- the same over a store, where it tells its files
+-- what putting an image under a name answers and leaves over a store, where it tells its files
 abbrev pub StoredTold : Option Files → List ℕ → List ℕ → Result Output CommandStop → Option Files → Type 0
 StoredTold None out image result new = Unit {0}
 StoredTold (Some files) out image result new = Stored files out image result new

@@ -15,7 +15,7 @@ abbrev pub Follows : {A : Type 0} → Result A CommandStop → Result A Refusal 
 Follows (Ok x) steps = steps ≡ Ok x
 Follows (Err stop) steps = Stops stop steps
 
--- the same over a store, where it tells its files
+-- what a step of the code answers over a store is what the step says, where the store tells its files
 abbrev pub FollowsTold : {A : Type 0} → Option Files → Result A CommandStop → (Files → Result A Refusal) → Type 0
 FollowsTold None result steps = Unit {0}
 FollowsTold (Some files) result steps = Follows result (steps files)

@@ -1,3 +1,5 @@
+//! The step that decodes a client image and checks its rules, or refuses it.
+
 ghost use Rattle.som_cliimage.specs.Limits.{IsWithinLimits};
 ghost use Rattle.som_fields.specs.Fields.{Gives};
 ghost use Rattle.som_model.specs.Conforming.{program_breach};

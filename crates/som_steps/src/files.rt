@@ -1,3 +1,5 @@
+//! The step that gets the bytes under a name from a store.
+
 ghost use Rattle.som_steps.specs.Cause.{HasCause, IsQuiet};
 ghost use Rattle.som_steps.specs.Fetching.{file_of};
 ghost use Rattle.som_steps.specs.Lines.{absent, store_failed};

@@ -1,3 +1,5 @@
+//! Makes the lines that refuse an image: bytes at fault, a broken rule, or a promise that isn't kept.
+
 ghost use Rattle.som_ancestry.specs.Told.{told};
 ghost use Rattle.som_steps.specs.Lines.{broken, fault_number, fault_place, incompatible, unread};
 ghost use Rattle.std.specs.Prelude.{IfOk, ◌≡◌};

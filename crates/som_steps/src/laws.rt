@@ -1,3 +1,5 @@
+//! States that no bytes are decoded as want of memory, so the line of a fault has a number from 1 on.
+
 ghost use Rattle.som_cliimage.specs.Programs.{client_at};
 ghost use Rattle.som_fields.specs.declared.fault.ImageFault.TheVariants as faults;
 ghost use Rattle.som_libimage.specs.Libraries.{library_at};

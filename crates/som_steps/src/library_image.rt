@@ -1,3 +1,5 @@
+//! The step that decodes a library image and checks its rules, or refuses it.
+
 ghost use Rattle.som_fields.specs.Fields.{Gives};
 ghost use Rattle.som_libimage.specs.Limits.{IsWithinLimits};
 ghost use Rattle.som_model.specs.Conforming.{ReleaseOk};

@@ -1,3 +1,5 @@
+//! Makes texts of lines from fixed bytes and a name.
+
 ghost use Rattle.std.specs.Prelude.{IfOk, [], ◌++◌, ◌∷◌, ◌≡◌};
 
 use som_model::{NoMemory, Text};

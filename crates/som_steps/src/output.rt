@@ -1,3 +1,5 @@
+//! The type of what a command prints and how it ends where no step refuses, and the status of each end.
+
 use som_model::{List, Text};
 
 /// How a command ends that no step refuses.

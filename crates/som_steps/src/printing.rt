@@ -1,3 +1,5 @@
+//! Writes the lines that a command came to, and answers its status.
+
 ghost use Rattle.som_io.specs.Outside.{Rose, ShowsAll, ShowsFront};
 ghost use Rattle.som_steps.specs.Cause.{IsQuiet, IsQuietStop};
 ghost use Rattle.som_steps.specs.Putting.{nothing};
@@ -28,7 +30,8 @@ pub fn say<K: Sink>(out: &mut K, line: &Text, status: u8) -> u8
     }
 }
 
-// The same of lines, one after the other: a line is written once those before it are.
+// Writes lines, each once those before it are written, and answers the status that goes with them, or that of the sink's
+// failure or of want of memory.
 fn say_lines<K: Sink>(out: &mut K, lines: &[Text], status: u8) -> u8
     requires sink { status ≢ 8 }
     requires memory { status ≢ 10 }

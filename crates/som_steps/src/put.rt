@@ -1,3 +1,5 @@
+//! The step that puts an image under a name into a store.
+
 ghost use Rattle.som_steps.specs.Cause.{HasCause, IsQuiet};
 ghost use Rattle.som_steps.specs.Lines.{store_failed};
 ghost use Rattle.som_steps.specs.Putting.{IsSilent, StoredTold};

@@ -1,3 +1,5 @@
+//! The types of what stops a command: a refusal with its line, a fault of the store, want of memory.
+
 ghost use Rattle.som_steps.specs.declared.stop.CommandStop.TheVariants as stops;
 ghost use Rattle.std.specs.Prelude.{◌≡◌};
 

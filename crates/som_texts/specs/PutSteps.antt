@@ -40,7 +40,7 @@ Puts Comes files out got (Err (stops.Refused r)) new = IsPutAnswer Comes files o
 Puts Comes files out got (Err (stops.StoreFailed line)) new = Leaves (IsMade Comes got) files out line new
 Puts Comes files out got (Err stops.NoMemory) new = new ≡ Some files
 
--- the same over a store, where it tells its files
+-- what the command answers and leaves over a store, where it tells its files
 abbrev pub PutsTold : {A : Type 0} → Compiling A → Option Files → List ℕ → (Files → Result A Refusal) → Result Output CommandStop → Option Files → Type 0
 PutsTold Comes None out got result new = Unit {0}
 PutsTold Comes (Some files) out got result new = Puts Comes files out (got files) result new

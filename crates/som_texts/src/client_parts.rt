@@ -1,3 +1,5 @@
+//! The step that gets the library and the texts that a client is compiled from.
+
 ghost use Rattle.som_libimage.specs.Limits.{IsWithinLimits};
 ghost use Rattle.som_model.specs.Conforming.{ReleaseOk};
 ghost use Rattle.som_model.specs.declared.limits.TheConstants.{MAX_BYTES};

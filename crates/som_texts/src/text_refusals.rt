@@ -1,3 +1,5 @@
+//! Makes the lines that refuse texts: a fault of the parser, a broken rule, or a limit that is passed.
+
 ghost use Rattle.som_reading.specs.declared.fault.TextFault.TheVariants as texts;
 ghost use Rattle.som_texts.specs.PutSteps.{Refuses};
 ghost use Rattle.som_texts.specs.Texts.{reading_name, text_refused, too_many};

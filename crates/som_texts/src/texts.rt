@@ -1,3 +1,5 @@
+//! The step that gets texts under names, as long as their bytes together stay within the limit.
+
 ghost use Rattle.som_model.specs.declared.limits.TheConstants.{MAX_BYTES};
 ghost use Rattle.som_reading.specs.Sources.{bytes_in, names_of};
 ghost use Rattle.som_steps.specs.Cause.{HasCause, IsQuiet};

@@ -98,7 +98,7 @@ if_kept cs typed k a b s u before holds r e f g h is =
     subst (λ (z : Ruled Scope). Keeps cs (typed >>= λ t. z >>= λ _. b >>= λ _. needs 17 (is_boolean t) (Ok (scope_at cs before))) before r) (sym f)
     (while_kept cs typed k b u before holds r e g h is)
 
--- the same of a statement by its form, whose scope is shown as a slice
+-- what a statement that keeps its scope comes to by its form, where the scope is shown as a slice
 pub plainly : (cs : List Class) (ruled : Ruled Scope) (form : List Kind → Ruled Scope) (before shown : List Kind) (r : Result (Unit {0}) TypeFault) → AreTypes cs before → shown ≡ before → ruled ≡ form before
     → Keeps cs (form shown) shown r → Scopes cs ruled before before r
 plainly cs ruled form before shown r types same is k = formed cs ruled (form before) before before r is (kept cs (form before) before before r types refl (subst (λ (z : List Kind). Keeps cs (form z) z r) same k))

@@ -16,11 +16,11 @@ use Rattle.som_kinds.specs.Kinds.{AreTyped, Comes, Fails, IsType, Names, Stands,
 use Rattle.som_typing.proofs.ExprLaws.{binary_typed, dispatch_typed, host_typed, lookup_typed, offset_call_typed}
 use Rattle.som_kinds.proofs.KindLaws.{part_there}
 
--- an expression that is another comes to the same
+-- expressions that are equal come to one type or fault
 pub types_as : (cs : List Class) (typed : Expr → Typed) (e x : Expr) (form : Typed) (r : Result Kind TypeFault) → e ≡ x → typed x ≡ form → Types cs form r → Types cs (typed e) r
 types_as cs typed e x form r is same types = subst (λ z. Types cs z r) (sym (ap typed is ∙ same)) types
 
--- and so does a part of it
+-- parts that are equal come to one type or fault
 pub part_as : (cs : List Class) (typed : Expr → Typed) (e x : Expr) (r : Result Kind TypeFault) → e ≡ x → Types cs (value (typed e)) r → Types cs (value (typed x)) r
 part_as cs typed e x r is types = subst (λ (z : Expr). Types cs (value (typed z)) r) is types
 
@@ -29,7 +29,7 @@ pub fails_on : {A : Type 0} (typed : Ruled A) (form : A → Typed) (f : TypeFaul
 fails_on typed form (faults.Rule rule) e = ap (λ z. z >>= form) e
 fails_on typed form faults.NoMemory e = tt
 
--- and else its type goes by that of the part
+-- a form whose part has a type goes by that type
 pub comes_on : (cs : List Class) (typed : Typed) (form : ExprType → Typed) (t : ExprType) (r : Result Kind ℕ) → typed ≡ Ok t → Comes cs (form t) r → Comes cs (then typed form) r
 comes_on cs typed form t r e comes = subst (λ z. Comes cs z r) (sym (part_there typed form t e)) comes
 

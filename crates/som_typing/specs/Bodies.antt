@@ -32,7 +32,7 @@ pub record StandsAt (cs : List Class) (place : ℕ) (c : Class) : Type 0 where
 pub record SigsKnown (cs : List Class) (c : Class) : Type 0 where
   pub by : (name : List ℕ) (sig : Sig) (way : Way) → Mem (entries.Introduced name sig way) c.decl.face.entries → sig_is_known cs sig ≡ true
 
--- the same of each of these classes
+-- the types of the signatures that each of these classes introduces name classes that are known
 pub record AllSigsKnown (cs own : List Class) : Type 0 where
   pub by : (c : Class) → Mem c own → SigsKnown cs c
 

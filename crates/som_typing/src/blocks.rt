@@ -1,3 +1,5 @@
+//! Types the blocks of declared classes and the main of a client, and makes what the type checker is to know.
+
 ghost use Rattle.som_model.specs.Conforming.{class_typed as typed_class, first_of_names, main_typed as typed_main};
 ghost use Rattle.som_model.specs.Kernel.{kernel};
 ghost use Rattle.som_model.specs.Lists.{first};
@@ -72,7 +74,8 @@ fn classes_typed(
     bodies_typed(alloc, &known, base)
 }
 
-/// The same of a client program, whose main comes last.
+/// The blocks of the classes after the first `base`, and then main, are well typed, where no rule is broken that looks into
+/// no block.
 pub fn program_typed(
     alloc: Global,
     classes: &[Declared],

@@ -1,3 +1,5 @@
+//! Types whole expressions, each part of them once and from left to right.
+
 ghost use Rattle.som_model.specs.Blocks.{is_call};
 ghost use Rattle.som_model.specs.Typing as typing;
 ghost use Rattle.som_kinds.specs.Kinds.{AreTyped, AreTypes, Fails, PlaceStands, Types};
@@ -94,7 +96,7 @@ fn kind_in(alloc: Global, code: &Code, expr: &Expr) -> Result<Kind, TypeFault>
     }
 }
 
-// The same of a call.
+// The kind of a call, or the rule that its first wrong part breaks.
 #[cycle(kinds)]
 fn call_in(alloc: Global, code: &Code, call: &Expr) -> Result<Kind, TypeFault>
     requires code { IsCode code.now }

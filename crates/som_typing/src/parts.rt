@@ -1,3 +1,5 @@
+//! Types the forms of expressions by what came of their parts, a kind or a fault.
+
 ghost use Rattle.som_model.specs.Class.{Class};
 ghost use Rattle.som_model.specs.Typing as typing;
 ghost use Rattle.som_model.specs.Typing.{ExprType, Ruled, Typed};
@@ -20,7 +22,7 @@ pub fn ruled(found: Result<Kind, u8>) -> Result<Kind, TypeFault>
     Ok(found?)
 }
 
-/// The same of a type that is looked up.
+/// A rule that looking up a type breaks is a fault.
 pub fn named(found: Result<Kind, u8>) -> Result<Kind, TypeFault>
     ensures { (cs : Seq Class) (ruled : Ruled Wanted) → Names cs ruled found → Types cs (as_type ruled) result }
 {

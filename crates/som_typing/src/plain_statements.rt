@@ -1,3 +1,5 @@
+//! Types the statements without blocks by what came of their expressions.
+
 ghost use Rattle.som_model.specs.Blocks.{is_call as calls};
 ghost use Rattle.som_model.specs.Class.{Class};
 ghost use Rattle.som_model.specs.TypedBlocks.{local_set, plain_return, value_return, variable_set};
@@ -16,7 +18,7 @@ use som_kinds::{
 use som_model::Expr;
 use std::alloc::Global;
 
-/// A demand of a rule.
+/// Ok where what a rule demands holds, and else the fault with the rule's number.
 pub(crate) fn demand(rule: u8, holds: bool) -> Result<(), TypeFault>
     ensures { result ≡ (if holds then Ok tt else Err (faults.Rule rule)) }
 {

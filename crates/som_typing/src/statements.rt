@@ -1,3 +1,5 @@
+//! Types the statements of blocks, with a scope that ends where its block ends.
+
 ghost use Rattle.som_model.specs.TypedBlocks.{var_scope};
 ghost use Rattle.som_kinds.specs.Kinds.{AreTypes, PlaceStands};
 ghost use Rattle.som_kinds.specs.Knowing.{IsKnowledge, all_of, facts_of};

@@ -1,3 +1,5 @@
+//! Types the bodies and overrides of classes, in order, and main.
+
 ghost use Rattle.som_model.specs.Class.{Class};
 ghost use Rattle.som_model.specs.Conforming.{block_breach, bodies_typed as all_typed, class_typed as typed_class, main_typed as typed_main, override_typed as typed_override};
 ghost use Rattle.som_model.specs.Lists.{first};

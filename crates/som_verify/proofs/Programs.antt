@@ -74,7 +74,7 @@ module _ (p : ClientProgram) (ds : List Declared) (n : ℕ) (same : classes_of d
   pub program_tells : (r : Result (Unit {0}) VerifyFault) → Tells (rules_breach n (classes_of ds)) r → Tells (declared_program_breach p) r
   program_tells r t = subst (λ o. Tells o r) rules_part t
 
-  -- and the same of all rules
+  -- what all rules tell of the declared classes and of main is told of the program
   pub all_tell : (r : Result (Unit {0}) VerifyFault)
       → Tells (or_else (rules_breach n (classes_of ds)) (first (flat_map (class_typed (with_kernel (classes_of ds))) (classes_of (drop n ds)) ++ main_typed (with_kernel (classes_of ds)) p.main))) r
       → Tells (program_breach p) r

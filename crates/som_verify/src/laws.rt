@@ -1,3 +1,5 @@
+//! States that a release or client program conforms exactly where each rule holds of every class and member.
+
 ghost use Rattle.som_model.specs.Classes.{interface_classes};
 ghost use Rattle.som_model.specs.Conforming.{ProgramOk, ReleaseOk, declared_breach, declared_program_breach, faces_breach, program_breach, release_breach};
 ghost use Rattle.som_model.specs.declared.program.ClientProgram.{ClientProgram};

@@ -1,3 +1,5 @@
+//! Checks a client program: its base by the faces, its own classes, and main last.
+
 ghost use Rattle.som_model.specs.Class.{bare};
 ghost use Rattle.som_model.specs.Conforming.{ProgramOk, declared_program_breach, program_breach};
 ghost use Rattle.som_ancestry.specs.Modules.{classes_of};

@@ -1,3 +1,5 @@
+//! Checks a release, and answers the first rule that it breaks.
+
 ghost use Rattle.som_model.specs.Conforming.{ReleaseOk, release_breach};
 ghost use Rattle.som_ancestry.specs.Told.{Tells};
 ghost use Rattle.som_ancestry.specs.declared.types.Broken.{Broken};

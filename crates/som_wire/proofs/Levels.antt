@@ -10,7 +10,7 @@ use Rattle.som_spelling.specs.declared.syntax.WireExpr.{WireExpr}
 use Rattle.som_spelling.specs.declared.syntax.WireStmt.{WireStmt}
 use Rattle.som_wire.specs.Reading.{expr_after, expr_at, call_after, call_at, stmt_after, stmt_at, statements_at}
 
--- the same of a number that isn't zero
+-- a number that isn't zero comes after the one that is less by one
 one_less : (left : ℕ) → (left ≡ 0 → ⊥) → suc (left - 1) ≡ left
 one_less zero some = absurd (some refl)
 one_less (suc n) some = omega arith

@@ -110,7 +110,7 @@ module _ {A B C D T : Type 0} (one : Reads A) (s : A → List ℕ) (F : A → Ty
   pub made_four : IsMade (of_four one two three four make) (λ (p : A × B × C × D). make p.0 p.1 p.2 p.3) spell_four Fits_four
   made_four = record { takes = takes_four; again = again_four }
 
--- the same with parts that fit alike
+-- a reader makes its value of parts that fit by one test, and so by another that agrees with it
 pub fits_alike : {P T : Type 0} (one : Reads T) (make : P → T) (spell : P → List ℕ) (F G : P → Type 0) → ((p : P) → F p → G p) → ((p : P) → G p → F p) → IsMade one make spell F → IsMade one make spell G
 fits_alike one make spell F G there back made = record {
   takes = λ bytes all place r le e. let m = made.takes bytes all place r le e in (m.0, m.1, m.2, m.3, there m.0 m.4);

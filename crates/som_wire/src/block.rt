@@ -1,3 +1,5 @@
+//! Decodes and encodes whole blocks, whose statements nest up to a limit.
+
 ghost use Rattle.som_spelling.specs.Fitting.{FitsBlock, FitsSomeBlock, levels_left};
 ghost use Rattle.som_wire.specs.Reading.{block_at};
 ghost use Rattle.som_spelling.specs.Spelling.{block};

@@ -1,3 +1,5 @@
+//! Decodes calls, which stand as expressions and as statements, with a count of the levels that are left.
+
 ghost use Rattle.som_wire.specs.Reading.{call_at, is_call_tag, too_deep};
 ghost use Rattle.som_fields.specs.Fields.{Gives};
 ghost use Rattle.std.specs.Prelude.{◌≡◌, ◌≤◌, length, IfOk};

@@ -1,3 +1,5 @@
+//! Decodes expressions by their tags, with a count of the levels that are left.
+
 ghost use Rattle.som_wire.specs.Reading.{
   class_form_after,
   args_at,

@@ -1,3 +1,5 @@
+//! States that spellings begin no other, that what fits can be written, and that what was written is read.
+
 ghost use Rattle.som_spelling.specs.Fitting.{
   FitsBlock,
   FitsExpr,

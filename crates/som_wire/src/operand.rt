@@ -1,3 +1,5 @@
+//! Decodes small operands: signed numbers, classes, operators, truth values and procedures of the host.
+
 ghost use Rattle.som_wire.specs.Reading.{host_at, operator_at, signed_at, truth_at};
 ghost use Rattle.som_fields.specs.Reading.{below_at};
 ghost use Rattle.std.specs.Prelude.{◌≡◌, ◌≤◌, length, IfOk};

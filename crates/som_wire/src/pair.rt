@@ -1,3 +1,5 @@
+//! Decodes the expressions after their tags that hold two operands, or a receiver and arguments.
+
 ghost use Rattle.som_wire.specs.Reading.{call_after, expr_at, named_call_after, pair_after, parent_call_after};
 ghost use Rattle.som_fields.specs.Fields.{Gives};
 ghost use Rattle.std.specs.Prelude.{◌≡◌, ◌≤◌, length, IfOk};

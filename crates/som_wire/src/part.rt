@@ -1,3 +1,5 @@
+//! Decodes and encodes the part of a class: its variables, bodies and overrides.
+
 ghost use Rattle.som_spelling.specs.Fitting.{
   FitsBody,
   FitsOverride,

@@ -1,3 +1,5 @@
+//! Decodes and encodes the selects of classes, under class numbers that ascend.
+
 ghost use Rattle.som_spelling.specs.Fitting.{FitsOwnSelects, FitsSelect, FitsSelects, FitsSomeSelects};
 ghost use Rattle.som_wire.specs.Reading.{
   ascending_at,

@@ -1,3 +1,5 @@
+//! Decodes statements by their tags, and the blocks in them, with a count of the levels that are left.
+
 ghost use Rattle.som_wire.specs.Reading.{
   plain_after,
   call_at,

@@ -1,3 +1,5 @@
+//! Encodes expressions: the tag and its fields, and then the expressions within.
+
 ghost use Rattle.som_spelling.specs.Fitting.{FitsArgs, FitsSomeExpr, FitsSomeExprParts};
 ghost use Rattle.som_spelling.specs.Spelling.{expr, host, truth};
 ghost use Rattle.som_wire.specs.Writing.{expr_head, expr_operands};

@@ -1,3 +1,5 @@
+//! Encodes blocks: each statement by its tag and its fields, and then the blocks within.
+
 ghost use Rattle.som_spelling.specs.Fitting.{FitsSomeExpr, FitsSomeStmt, FitsSomeStmtParts, FitsStatements};
 ghost use Rattle.som_spelling.specs.Spelling.{block, expr, stmt};
 ghost use Rattle.som_wire.specs.Writing.{stmt_blocks, stmt_front};
