@@ -47,7 +47,7 @@ value_classed ks c first cell h ws meets e = cell_classed c.linked c.made ks c.t
 abbrev pub IsCast : Objects → Cell → Result (Unit {0}) Fault → List ClassKey → World → ClassKey → Type 0
 IsCast os cell r ks w k = (xs : List ℕ) (h : Heap) → Holds (showing ks xs) os h → IsSeen (showing ks xs) cell → passed (shown (showing ks xs) cell) r ≡ cast w k h (shown (showing ks xs) cell)
 
--- in other words for the same classes
+-- a cast among classes by other names that are equal to these
 pub cast_moved : (os : Objects) (cell : Cell) (r : Result (Unit {0}) Fault) (ks ks' : List ClassKey) (w w' : World) (k k' : ClassKey) → ks' ≡ ks → w' ≡ w → k ≡ k' → IsCast os cell r ks w k → IsCast os cell r ks' w' k'
 cast_moved os cell r ks ks' w w' k k' e d a is = subst (λ z. IsCast os cell r z w' k') (sym e) (subst (λ z. IsCast os cell r ks z k') (sym d) (subst (λ z. IsCast os cell r ks w z) a is))
 

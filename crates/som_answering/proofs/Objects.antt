@@ -117,7 +117,7 @@ module _ (l : Linked) (kn : Numbering) (main : Block) (made more : ClassKey → 
   new_stops e passed ws s runs fuel = stop_moved later (act_of earlier b ws) s b.place tests b.levels (waiting ws) (Used k ∷ []) (does ws s) e
       (holding_more l made more t.serials os t.statics.items s.heap made_more runs.around.holding) (passed s.heap runs.around.holding.heap.holds numbered)
 
--- ---- in other words for the same classes
+-- ---- scenes whose parts are equal
 
 pub from_old : (l l' : Linked) (kn kn' : Numbering) (main main' : Block) (made : ClassKey → Bool) (os : Objects) (t : Task) (f : ℕ) (c : Scene) (b : Body) (r : Result Now Stop) (es : List Event) → l' ≡ l → kn' ≡ kn → main' ≡ main
     → ComesTo (scene l' kn' main' made os t f) c b r es → ComesTo (scene l kn main made os t f) c b r es

@@ -1,3 +1,5 @@
+//! Calls by reference, by name, and of one parent's body.
+
 ghost use Rattle.som_answering.specs.Calling.{ComesTo, HasPushed};
 ghost use Rattle.som_obeying.specs.Obeying.{next_of};
 ghost use Rattle.som_code.specs.declared.instruction.Instruction.TheVariants as ops;

@@ -1,3 +1,5 @@
+//! The class that code names at a `new`, and the test of the object against it.
+
 ghost use Rattle.som_code.specs.declared.instruction.Instruction.TheVariants as ops;
 ghost use Rattle.som_codes.specs.Coded.{AreCodes, codes_of};
 ghost use Rattle.som_model.specs.Kernel.{som_object};

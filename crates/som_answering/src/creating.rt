@@ -1,3 +1,5 @@
+//! `new C`: somNew called on the class object.
+
 ghost use Rattle.som_answering.specs.Calling.{ComesTo};
 ghost use Rattle.som_obeying.specs.Obeying.{IfTold, next_of};
 ghost use Rattle.som_code.specs.declared.instruction.Instruction.TheVariants as ops;

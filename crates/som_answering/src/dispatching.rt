@@ -1,3 +1,5 @@
+//! Dispatch: somDispatchName is asked for the name, and then the call goes by that name.
+
 ghost use Rattle.som_answering.specs.Answering.{IsMet, Resumes};
 ghost use Rattle.som_answering.specs.Calling.{ComesTo, PassesIn};
 ghost use Rattle.som_obeying.specs.Obeying.{next_of};

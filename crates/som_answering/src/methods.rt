@@ -1,3 +1,5 @@
+//! The method that code names at an instruction which calls all parents.
+
 ghost use Rattle.som_code.specs.declared.instruction.Instruction.TheVariants as ops;
 ghost use Rattle.som_codes.specs.Coded.{AreCodes, codes_of};
 ghost use Rattle.som_model.specs.Kernel.{som_init};

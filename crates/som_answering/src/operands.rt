@@ -1,3 +1,5 @@
+//! Receiver and arguments taken off the operand stack for a call.
+
 ghost use Rattle.som_instructions.specs.Cells.{lower_cells, top_cell};
 ghost use Rattle.std.specs.Prelude.{◌≡◌, ◌+◌, ◌-◌, ◌<◌, ◌^◌, IfOk, OnOk, drop, length, take};
 

@@ -1,3 +1,5 @@
+//! Calls of all parents' bodies, one parent after the other.
+
 ghost use Rattle.som_answering.specs.Calling.{ComesTo};
 ghost use Rattle.som_answering.specs.Parents.{IsFirst, IsNone, Nexts};
 ghost use Rattle.som_code.specs.declared.instruction.Instruction.TheVariants as ops;

@@ -1,3 +1,5 @@
+//! A value given to what waited for it, by what that is.
+
 ghost use Rattle.som_answering.specs.Answering.{IsMet, IsNotForName, Resumes};
 ghost use Rattle.som_moves.specs.Moving.{Keeps};
 ghost use Rattle.som_moves.specs.Scene.{scene};

@@ -1,3 +1,5 @@
+//! The tests of calls, with their faults in the caller's place.
+
 ghost use Rattle.som_answering.specs.Calling.{PassesIn};
 ghost use Rattle.som_obeying.specs.Obeying.{stop_at};
 ghost use Rattle.som_code.specs.declared.instruction.Instruction.{Instruction};

@@ -1,3 +1,5 @@
+//! Values that come to a waiting body, `new` or somFree.
+
 ghost use Rattle.som_answering.specs.Answering.{IsMet, Resumes};
 ghost use Rattle.som_meta.specs.Numbering.{Numbering};
 ghost use Rattle.som_model.specs.declared.key.ClassKey.{ClassKey};

@@ -57,7 +57,7 @@ module _ (keys : List ClassKey) (w : World) (h : Heap) (r : Ref) where
         → (live h r then_try λ q. class_argued h args then_try λ k. Ok (Boolean (test (class_of w h q) k))) ≡ Err f
     object_untested n f p e = of_class n (λ c. class_argued h args then_try λ k. Ok (Boolean (test c k))) p ∙ argued_err (key_of keys n) f e
 
-    -- the same of the class whose class object self is
+    -- a test of the class whose class object self is
     pub class_tested : (n m : ℕ) (b : Bool) → Ok (key_of keys n) ≡ stands_for r → Ok (key_of keys m) ≡ class_argued h args → b ≡ test (key_of keys n) (key_of keys m)
         → (stands_for r then_try λ c. class_argued h args then_try λ k. Ok (Boolean (test c k))) ≡ Ok (Boolean b)
     class_tested n m b p e is = then_ok (stands_for r) (key_of keys n) (λ c. class_argued h args then_try λ k. Ok (Boolean (test c k))) p ∙ argued_ok (key_of keys n) m b e is

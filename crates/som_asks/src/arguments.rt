@@ -1,3 +1,5 @@
+//! The arguments of the kernel's methods: a number, a text or a class object.
+
 ghost use Rattle.som_asks.specs.Arguments.{class_argued, class_tried, first_cell, further_cells};
 ghost use Rattle.som_model.specs.Invoked.{first_argument, stands_for};
 ghost use Rattle.som_model.specs.State.{Heap};

@@ -1,3 +1,5 @@
+//! The kernel's bodies that only ask, each answered by its question.
+
 ghost use Rattle.som_asks.specs.Answered.{CanAsk, IsAnswered, MayAsk};
 ghost use Rattle.som_asks.specs.Kinds.{LooksUpNone, asking_shown};
 ghost use Rattle.som_model.specs.Invoked.{asks};

@@ -1,3 +1,5 @@
+//! somFindClass: a class found by name and version.
+
 ghost use Rattle.som_model.specs.Invoked.{class_found};
 ghost use Rattle.som_values.specs.Shown.{IsNumbered, Showing, all_shown, key_of};
 ghost use Rattle.std.specs.Option.{option_map};

@@ -1,3 +1,5 @@
+//! The kernel's bodies by the names of their methods.
+
 ghost use Rattle.som_asks.specs.Kinds.{body_shown};
 ghost use Rattle.som_model.specs.Invoked.{kernel_body as kernel_body_in, table};
 ghost use Rattle.std.specs.Prelude.{◌≡◌, drop};
@@ -47,7 +49,7 @@ pub fn kernel_body(name: &Text) -> KernelBody
     }
 }
 
-// The same of what objects are asked.
+// The kernel's body for the name of a method that any object can be asked.
 fn object_body(name: &[u8]) -> KernelBody
     ensures { body_shown result ≡ kernel_body_in (drop 3 table) name.now }
 {
@@ -68,7 +70,7 @@ fn object_body(name: &[u8]) -> KernelBody
     }
 }
 
-// The same of what the kernel's other classes introduce.
+// The kernel's body for the name of a method that the kernel's other classes introduce.
 fn class_body(name: &[u8]) -> KernelBody
     ensures { body_shown result ≡ kernel_body_in (drop 9 table) name.now }
 {

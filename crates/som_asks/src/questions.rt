@@ -1,3 +1,5 @@
+//! The answers of the kernel's methods on classes, names, methods and versions, one by one.
+
 ghost use Rattle.som_asks.specs.Answered.{AnswersTo, CanAsk, IsAsked};
 ghost use Rattle.som_model.specs.Invoked as questions;
 ghost use Rattle.som_model.specs.World.{World};

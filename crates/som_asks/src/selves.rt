@@ -1,3 +1,5 @@
+//! What is asked of self's class: name, methods and version.
+
 ghost use Rattle.som_asks.specs.Answered.{CanAsk, MayAsk};
 ghost use Rattle.som_asks.specs.Arguments.{IsText};
 ghost use Rattle.som_model.specs.ClassNames.{class_name};

@@ -106,7 +106,7 @@ all_none P none empty = subst (All P) (sym empty) (λ n d lt. absurd (let f : �
 pub no_arguments : (l : Linked) (made : ClassKey → Bool) (xs : List ℕ) (os : Objects) (statics : List (Option (List Cell))) (h : Heap) → Holding l made xs os statics h → (on : Cell) → IsUsable l made xs os on → (none : List Cell) → none ≡ [] → HaveOwner l made os on none
 no_arguments l made xs os statics h holding on usable none empty = (record { serials = xs; statics = statics; heap = h; holding = holding }, usable, all_none (IsUsable l made xs os) none empty)
 
--- what is said of a call from a place, at the same place by other words
+-- what is said of a call from a place is said of it from an equal place
 pub offset_at : (l : Linked) (os : Objects) (from at : Place) → from ≡ at → (call : Result Call Stopped) (manner : Way) (tok : ℕ × ℕ) (on : Cell) (args : List Cell)
     → ((xs : List ℕ) (cs : List (List Instruction)) (h : Heap) (r : MethodRef) → l.world.owner r ≡ l.method tok → Holds (showing l.keys xs) os h → IsSeen (showing l.keys xs) on
     → Passes (setting l xs cs) h from call (λ next. passes_offset l.world next (place_shown (setting l xs cs) from) (manner_of manner) r (shown (showing l.keys xs) on) (all_shown (showing l.keys xs) args)))

@@ -42,7 +42,7 @@ use Rattle.som_moves.proofs.Growing.{Grows, around_later}
 pub found_is : (ks : List ClassKey) (w : World) (l : Linked) → l.keys ≡ ks → l.world ≡ w → (vs : List Value) (o x : Option ℕ) → option_map (key_of ks) o ≡ class_found w vs → o ≡ x → class_found l.world vs ≡ option_map (key_of l.keys) x
 found_is ks w l d e vs o x is same = ap (λ (v : World). class_found v vs) e ∙ sym is ∙ ap (λ (y : List ClassKey). option_map (key_of y) o) (sym d) ∙ ap (option_map (key_of l.keys)) same
 
--- the same kernel, by other words
+-- what began in a scene began in one whose parts are equal
 pub carried : (c : Scene) (b : Begun) (levels : ℕ) (me : Reference) (args : List Cell) (r : Result Now Stop) (l l' : Linked) (k k' : Numbering) (main main' : Block) (made : ClassKey → Bool) (os : Objects) (t : Task) (f : ℕ) → l' ≡ l → k' ≡ k → main' ≡ main
     → Began c (scene l k main made os t f) b levels me args r → Began c (scene l' k' main' made os t f) b levels me args r
 carried c b levels me args r l l' k k' main main' made os t f d e m x =

@@ -1,3 +1,5 @@
+//! How a task goes on after an answer, or stops by a fault in the body's place.
+
 ghost use Rattle.som_beginning.specs.Beginning.{answer_at, stopped_at, write_at};
 ghost use Rattle.som_telling.specs.declared.running.Place.TheVariants as places;
 ghost use Rattle.std.specs.Prelude.{◌≡◌};

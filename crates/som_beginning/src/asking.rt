@@ -1,3 +1,5 @@
+//! The start of a kernel body that only asks.
+
 ghost use Rattle.som_asks.specs.Kinds.{LooksUpNone};
 ghost use Rattle.som_asks.specs.declared.kinds.KernelBody.TheVariants as kinds;
 ghost use Rattle.som_beginning.specs.Beginning.{Began, CanBegin};

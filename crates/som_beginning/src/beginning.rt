@@ -1,3 +1,5 @@
+//! The start of any body on self with its arguments.
+
 ghost use Rattle.som_beginning.specs.Beginning.{Began, MayBegin};
 ghost use Rattle.som_beginning.specs.Begun.{LooksUpNone};
 ghost use Rattle.som_moves.specs.Scene.{scene};
@@ -48,7 +50,7 @@ pub fn begin<R: Runtime, L: Ledger>(
     )
 }
 
-// The same, by what is begun.
+// A body begins, by what it holds.
 fn begin_what<R: Runtime, L: Ledger>(
     alloc: Global,
     runtime: &mut R,

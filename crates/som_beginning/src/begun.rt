@@ -1,3 +1,5 @@
+//! A body that is about to begin: its class, method, and what it holds.
+
 use som_asks::KernelBody;
 use som_tables::{ClassNo, MToken};
 

@@ -1,3 +1,5 @@
+//! Calls that a body of the kernel makes, and what waits for their values.
+
 ghost use Rattle.som_beginning.specs.Beginning.{call_at};
 ghost use Rattle.std.specs.Prelude.{◌≡◌, ◌++◌, ◌∷◌, [], OnOk};
 

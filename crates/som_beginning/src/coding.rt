@@ -1,3 +1,5 @@
+//! The start of a body with code, as a new frame.
+
 ghost use Rattle.som_beginning.specs.Beginning.{Began};
 ghost use Rattle.som_beginning.specs.declared.begun.What.TheVariants as whats;
 ghost use Rattle.som_moves.specs.Scene.{scene};

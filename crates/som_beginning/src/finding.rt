@@ -1,3 +1,5 @@
+//! The start of somFindClass, which makes the class that it finds.
+
 ghost use Rattle.som_asks.specs.declared.kinds.KernelBody.TheVariants as kinds;
 ghost use Rattle.som_beginning.specs.Beginning.{Began};
 ghost use Rattle.som_beginning.specs.declared.begun.What.TheVariants as whats;

@@ -1,3 +1,5 @@
+//! The start of a proxy's body, which hands the call on to the target.
+
 ghost use Rattle.som_beginning.specs.Beginning.{Began, CanBegin};
 ghost use Rattle.som_beginning.specs.declared.begun.What.TheVariants as whats;
 ghost use Rattle.som_moves.specs.Scene.{scene};
@@ -17,7 +19,7 @@ use som_telling::Manner;
 use som_values::Reference;
 use std::alloc::Global;
 
-/// A proxy's body: the same call on its target.
+/// A proxy's body: it makes the call that it got on its target.
 pub(crate) fn begin_forwarding<R: Runtime>(
     alloc: Global,
     runtime: &R,

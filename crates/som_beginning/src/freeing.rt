@@ -1,3 +1,5 @@
+//! The start of somFree, which calls somUninit first.
+
 ghost use Rattle.som_asks.specs.declared.kinds.KernelBody.TheVariants as kinds;
 ghost use Rattle.som_beginning.specs.Beginning.{Began, MayBegin};
 ghost use Rattle.som_beginning.specs.declared.begun.What.TheVariants as whats;

@@ -1,3 +1,5 @@
+//! The start of any body of the kernel's, by what it does.
+
 ghost use Rattle.som_beginning.specs.Beginning.{Began, MayBegin};
 ghost use Rattle.som_beginning.specs.Begun.{LooksUpNone};
 ghost use Rattle.som_beginning.specs.declared.begun.What.TheVariants as whats;
@@ -20,7 +22,7 @@ use som_values::Reference;
 use std::alloc::Global;
 use std::sync::ledger::Ledger;
 
-/// A body of the kernel's.
+/// A body of the kernel's begins, by what it does; one that asks answers at once.
 pub(crate) fn begin_kernel<R: Runtime, L: Ledger>(
     alloc: Global,
     runtime: &mut R,

@@ -1,3 +1,5 @@
+//! The starts of somNew and somNewNoInit, which make objects.
+
 ghost use Rattle.som_asks.specs.declared.kinds.KernelBody.TheVariants as kinds;
 ghost use Rattle.som_beginning.specs.Beginning.{Began, MayBegin};
 ghost use Rattle.som_beginning.specs.declared.begun.What.TheVariants as whats;

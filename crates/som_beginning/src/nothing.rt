@@ -1,3 +1,5 @@
+//! The start of a body that does nothing.
+
 ghost use Rattle.som_beginning.specs.Beginning.{Began};
 ghost use Rattle.som_beginning.specs.Begun.{IsIdle};
 ghost use Rattle.som_moves.specs.Scene.{Scene};

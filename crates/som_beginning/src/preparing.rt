@@ -1,3 +1,5 @@
+//! What a body that the kernel shows begins with; its block is laid out at first use.
+
 ghost use Rattle.som_beginning.specs.Begun.{IsHeld, IsPrepared, IsWhat, held_of};
 ghost use Rattle.som_codes.specs.Coded.{AreCodes, Coded, key_of as body_of};
 ghost use Rattle.std.specs.Prelude.{◌≡◌, ◌<◌, ◌^◌, ◌++◌, IfOk, List, OnErr};

@@ -1,3 +1,5 @@
+//! The starts of the bodies that get and set a variable.
+
 ghost use Rattle.som_asks.specs.Arguments.{first_cell};
 ghost use Rattle.som_beginning.specs.Beginning.{Began, MayBegin};
 ghost use Rattle.som_beginning.specs.declared.begun.What.TheVariants as whats;

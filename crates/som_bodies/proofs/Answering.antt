@@ -177,7 +177,7 @@ module _ (k : Numbering) (rows : List (Option (Added ℕ))) (before : List BodyA
             let same : class_with parents cells replaced ≡ row = ap (λ z. class_with parents z replaced) cells_are ∙ ap (λ z. class_with parents (numbers_from (length before) (length d.own)) z) replaced_are in
             subst (λ z. AreBodies k (rows_with now z)) (sym is) (f.filled declared now (e ∙ ap (λ z. slice_set rows n (Some z)) same) kept (subst (λ z. GivesTokens rows now n z) same gives))
 
--- ---- the same as the code has it
+-- ---- all bodies, in the form that the code has
 
 pub whole_is : (all before a b own others : List BodyAt) → all ≡ before ++ a ++ b → a ≡ own → b ≡ others → all ≡ before ++ own ++ others
 whole_is all before a b own others e f g = e ∙ ap (λ z. before ++ z ++ b) f ∙ ap (λ z. before ++ own ++ z) g

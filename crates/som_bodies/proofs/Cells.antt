@@ -140,7 +140,7 @@ bodies_more n way i (u ∷ ts) t =
     let sum : length ts + suc i ≡ suc (length ts) + i = omega arith in
     ap (λ l. body_at n u (source_of way u i) ∷ l) (bodies_more n way (suc i) ts t ∙ ap (λ j. bodies_from n way (suc i) ts ++ body_at n t (source_of way t j) ∷ []) sum)
 
--- the same of the first items of a list, in the form of a loop's step
+-- one body more for the first items of a list, in the form of a loop's step
 pub bodies_step : (n : ℕ) (way : Way) (ts : List (ℕ × ℕ)) (i : ℕ) (t : ℕ × ℕ) → i < length ts → t ≡ get_or ts i t → bodies_from n way 0 (take (i + 1) ts) ≡ bodies_from n way 0 (take i ts) ++ body_at n t (source_of way t i) ∷ []
 bodies_step n way ts i t lt is =
     let le : i ≤ length ts = omega (arith, lt) in

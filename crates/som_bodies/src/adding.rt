@@ -1,3 +1,5 @@
+//! How the bodies of one class come to the list of all bodies, and their numbers to its cells.
+
 ghost use Rattle.som_bodies.specs.Adding.{bodies_from, cells_from, numbers_from, source_of};
 ghost use Rattle.som_bodies.specs.declared.adding.Way.TheVariants as ways;
 ghost use Rattle.som_bodies.specs.declared.body.BodyAt.{BodyAt as Body};

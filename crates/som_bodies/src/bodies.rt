@@ -1,3 +1,5 @@
+//! Rows of methods: the number of the body that answers, for each class and method.
+
 ghost use Rattle.som_bodies.specs.Filling.{IsDraft, IsFilling};
 ghost use Rattle.som_bodies.specs.Bodies.{AreBodies, HaveParentRows, IsAnswer, rows_with};
 ghost use Rattle.som_bodies.specs.Adding.{HaveChosen};

@@ -1,3 +1,5 @@
+//! A body of a run: the class that has it, its method, and where its text or kernel code stands.
+
 use som_tables::{ClassNo, MToken};
 
 /// Where a body stands in the class that has it.

@@ -1,3 +1,5 @@
+//! The bodies that a class has for methods, its own or others', and the cells of parents that it selects.
+
 ghost use Rattle.som_bodies.specs.Adding.{AreForwarded, AreOthers, AreOwn, AreSelected, HaveChosen, IsChosenCell, bodies_from, life, own_way_of};
 ghost use Rattle.som_bodies.specs.declared.adding.Way.TheVariants as ways;
 ghost use Rattle.som_classes.specs.Loaded.{AreLoaded};
@@ -183,7 +185,7 @@ fn is_declared(classes: &Classes, class: ClassNo) -> bool
     class.number() < classes.declared_count()
 }
 
-/// The same of any class; made classes select nothing.
+/// For each method for which a class selects a parent the cell in that parent's row; a made class selects nothing.
 pub(crate) fn selected_cells(
     alloc: Global,
     classes: &Classes,

@@ -1,3 +1,5 @@
+//! The law by which an index of names finds the method that a name means.
+
 ghost use Rattle.som_byname.specs.Added.{HaveDistinctEntries, HasClasses, IsMeant, count_to};
 ghost use Rattle.som_meta.specs.Numbering.{Numbering, key_at};
 ghost use Rattle.som_model.specs.Classes.{ancestors};

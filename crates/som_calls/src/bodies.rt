@@ -1,3 +1,5 @@
+//! The breach that is told where a method's body is missing or too many.
+
 use crate::images::{HELLO, release_of};
 use crate::programs::{OWN, program_of};
 use som_ancestry::VerifyFault;

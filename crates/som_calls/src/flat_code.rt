@@ -1,3 +1,5 @@
+//! The instructions of nested loops and choices, one by one.
+
 use crate::images::release_of;
 use som_code::{Code, Constant, Instruction, lay_out};
 use som_model::{Body, Release};

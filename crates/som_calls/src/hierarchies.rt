@@ -1,3 +1,5 @@
+//! Ancestors, descent and bodies in a diamond of four classes.
+
 use som_model::{List, NoMemory};
 use som_plain::{ancestors, descends, implementation};
 use std::alloc::Global;

@@ -1,3 +1,5 @@
+//! The host's procedures at the edges of longs.
+
 use som_model::HostCode;
 use som_plain::answer_of;
 use std::alloc::Global;

@@ -1,3 +1,5 @@
+//! Library images, read, copied and written again.
+
 ghost use Rattle.som_libimage.specs.Limits.{IsWithinLimits};
 ghost use Rattle.std.specs.Prelude.{IfOk};
 

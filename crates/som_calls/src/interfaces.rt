@@ -1,3 +1,5 @@
+//! The faces of a release and of the kernel, as the rules see them.
+
 use crate::images::{HELLO, release_of};
 use som_compat::conforms;
 use som_kernel::kernel_faces;

@@ -1,3 +1,5 @@
+//! The lines that `show` has for a release with proxies, derived classes and great versions.
+
 use som_model::{Boxed, ClassFace, ClassKey, List, Module, NoMemory, Release, Text};
 use som_plain::{named, plain_class};
 use som_show::shown;

@@ -1,3 +1,5 @@
+//! An old reference after its object's key is used again in the object store.
+
 ghost use Rattle.som_objects.specs.Objects.{IsKnown, IsGone};
 ghost use Rattle.std.specs.Prelude.{◌≡◌, [], IfOk, length};
 

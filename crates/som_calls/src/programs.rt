@@ -1,3 +1,5 @@
+//! Client images, read and written again.
+
 ghost use Rattle.som_cliimage.specs.Limits.{IsWithinLimits};
 ghost use Rattle.std.specs.Prelude.{IfOk};
 

@@ -1,3 +1,5 @@
+//! A sink that takes few bytes a write, and fails in mid-line.
+
 ghost use Rattle.std.specs.Prelude.{◌<◌, ◌^◌, Some};
 
 use som_io::{Sending, Sent, Sink, send};

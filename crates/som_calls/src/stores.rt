@@ -1,3 +1,5 @@
+//! A store in memory, with calls that fail.
+
 use som_io::{Got, Leaves, MemStore, Put, Store};
 use som_model::{List, Text};
 use std::test::Fail;

@@ -1,3 +1,5 @@
+//! A class table in which a class replaces one of its parent's cells.
+
 ghost use Rattle.std.specs.Prelude.{◌≡◌, []};
 
 use som_tables::{MethodKind, Table};

@@ -1,3 +1,5 @@
+//! The sample hierarchy and an index of names, worked out.
+
 ghost use Rattle.som_sample.specs.Names.{IsIndex};
 ghost use Rattle.std.specs.Prelude.{◌≡◌, ◌<◌};
 

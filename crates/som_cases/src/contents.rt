@@ -1,3 +1,5 @@
+//! What files and words of a case hold once all forms are replaced.
+
 use crate::expansion::{Expansion, Turns};
 use crate::fields::Fields;
 use crate::files::Files;

@@ -1,3 +1,5 @@
+//! Repetitions, variables and numbers in the texts of cases, replaced.
+
 ghost use Rattle.std.specs.Prelude.{◌≡◌, ◌<◌, ◌≤◌, IfOk, IfSome, length};
 
 use crate::words::{number_of, push_number, until_no_letter};

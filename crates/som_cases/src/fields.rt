@@ -1,3 +1,5 @@
+//! Bytes put together from named fields, as images have them.
+
 ghost use Rattle.std.specs.Prelude.{◌<◌, ◌≤◌, IfOk, length};
 
 use crate::files::Files;

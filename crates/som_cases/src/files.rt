@@ -1,3 +1,5 @@
+//! The files of a case, with what each name held earlier.
+
 use som_model::{List, NoMemory, Text};
 use std::alloc::Global;
 use std::mem;

@@ -1,3 +1,5 @@
+//! The rows of an `each`: variables and their values, listed or by a range.
+
 ghost use Rattle.std.specs.Prelude.{◌<◌, IfSome, length};
 
 use crate::expansion::{Expansion, Turns};

@@ -1,3 +1,5 @@
+//! The forms that stand for single bytes.
+
 use crate::words::byte_of;
 use crate::wrong::Wrong;
 use std::alloc::Global;

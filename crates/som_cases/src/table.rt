@@ -1,10 +1,12 @@
+//! The lines of a table of cases, by their first words.
+
 ghost use Rattle.std.specs.Prelude.{◌≤◌, length};
 
 use crate::words::{first_word, number_of};
 use som_model::NoMemory;
 use std::alloc::Global;
 
-/// What the first word of a line says.
+/// What a line of a table is, by its first word.
 #[derive(Clone, Copy, Debug, PartialEq, Eq)]
 pub enum Kind {
     /// `==`: a case begins.

@@ -1,3 +1,5 @@
+//! Words and numbers at the front of a text.
+
 ghost use Rattle.std.specs.Prelude.{◌≡◌, ◌+◌, ◌≤◌, length};
 
 use crate::wrong::Wrong;
@@ -47,7 +49,7 @@ pub fn words_in(alloc: Global, text: &[u8]) -> Result<Vec<&[u8]>, NoMemory> {
     Ok(words)
 }
 
-/// A number in decimal digits.
+/// A number in decimal digits; none where there is another byte or no digit, or where it is no u64.
 pub fn number_of(text: &[u8]) -> Option<u64> {
     if text.is_empty() {
         return None;

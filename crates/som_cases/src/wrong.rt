@@ -1,3 +1,5 @@
+//! Why a line of a case comes to nothing.
+
 use som_model::NoMemory;
 use std::alloc::{AllocError, AllocFailed};
 

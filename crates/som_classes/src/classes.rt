@@ -1,3 +1,5 @@
+//! The classes of a run in one value: numbers, owners of methods and members, as an `Ancestry`.
+
 ghost use Rattle.som_classes.specs.Loaded.{AreLoaded};
 ghost use Rattle.som_members.specs.Members.{HaveTokens, override_method, select_method};
 ghost use Rattle.som_meta.specs.Numbering.{AreApart, IsNumbered, IsToken, key_at, method_at};
@@ -31,7 +33,8 @@ use som_tables::{ClassNo, MToken};
 use std::alloc::Global;
 use std::marker::Model;
 
-/// The classes of a run by their numbers, and the tokens of their methods. Contracts see the declared classes, and the key that each number stands for.
+/// The classes of a run by their numbers, and the tokens of their methods; the trait of this name in `som_values` is what
+/// values ask. Contracts see the declared classes, and the key that each number stands for.
 #[derive(Drop)]
 pub struct Classes {
     numbers: Numbers,

@@ -1,3 +1,5 @@
+//! The kernel's four classes as declarations, put before those of a program.
+
 ghost use Rattle.som_model.specs.Class.{bare, class_in};
 ghost use Rattle.som_model.specs.Kernel.{kernel};
 ghost use Rattle.som_numbers.specs.Classes.{class_of, classes_of};

@@ -1,3 +1,5 @@
+//! The law by which loaded classes are declared, named, and can be laid.
+
 ghost use Rattle.som_classes.specs.Loaded.{AreLoaded};
 ghost use Rattle.som_members.specs.Members.{AreNamed, CanLay};
 ghost use Rattle.som_meta.specs.Numbering.{Numbering};

@@ -1,3 +1,5 @@
+//! The proxy classes that blocks name, each of which gets a number.
+
 ghost use Rattle.som_model.specs.Lists.{Mem};
 ghost use Rattle.som_model.specs.Loads.{keys_of};
 ghost use Rattle.som_model.specs.Made.{blocks_of, proxies_in};

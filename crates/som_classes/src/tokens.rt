@@ -1,3 +1,5 @@
+//! The tokens of the methods that each declared class introduces.
+
 ghost use Rattle.som_classes.specs.Kept.{AreIntroduced};
 ghost use Rattle.som_meta.specs.Numbering.{tokens_from};
 ghost use Rattle.som_model.specs.Class.{introduced};

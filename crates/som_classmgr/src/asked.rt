@@ -1,3 +1,5 @@
+//! Answers for a runner: zero values of variables, and the class of a target's proxies.
+
 ghost use Rattle.som_classmgr.specs.Asking.{kind_at};
 ghost use Rattle.som_meta.specs.Numbering.{IsNumbered, key_at};
 ghost use Rattle.som_model.specs.Classes.{variable_type};

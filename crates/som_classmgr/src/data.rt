@@ -1,3 +1,5 @@
+//! Variables as a linked kernel answers them: tokens, places and types.
+
 ghost use Rattle.som_linked.specs.Linked.{IsMadeIn};
 ghost use Rattle.som_meta.specs.Numbering.{IsNumbered, key_at};
 ghost use Rattle.som_model.specs.Ancestors.{Descends};

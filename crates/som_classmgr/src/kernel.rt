@@ -1,3 +1,5 @@
+//! The kernel and its stages, unlinked and linked; a linked one makes classes as they are reached.
+
 ghost use Rattle.som_classes.specs.Loaded.{AreLoaded};
 ghost use Rattle.som_linked.specs.Linked.{IsLinked, IsMadeIn};
 ghost use Rattle.som_made.specs.Made.{IsReached, KeepsMade};

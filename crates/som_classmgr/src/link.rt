@@ -1,3 +1,5 @@
+//! Linking: a client and a library become a linked kernel, or the first obstacle is answered.
+
 ghost use Rattle.som_classmgr.specs.Reached.{IsMadeBy};
 ghost use Rattle.som_linked.specs.Linked.{IsMadeIn};
 ghost use Rattle.som_linking.specs.Pairs.{ProgramCounted, ReleaseCounted, obstacle};

@@ -1,3 +1,5 @@
+//! Methods as a linked kernel answers them: bodies, also of a parent, owners and signatures.
+
 ghost use Rattle.som_classmgr.specs.Parents.{HasMethodAbove, parent_at};
 ghost use Rattle.som_linked.specs.Linked.{IsMadeIn};
 ghost use Rattle.som_linked.specs.Shown.{IsAnswer, body_at};

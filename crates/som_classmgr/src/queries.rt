@@ -1,3 +1,5 @@
+//! Questions on the classes of a linked kernel: keys, versions, parents, metaclasses, hooks, descent.
+
 ghost use Rattle.som_linked.specs.Linked.{IsMadeIn};
 ghost use Rattle.som_meta.specs.Numbering.{AreNumbered, IsNumbered, key_at};
 ghost use Rattle.som_model.specs.Classes.{hierarchy, is_a as descends, version_of};

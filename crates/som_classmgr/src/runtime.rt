@@ -1,3 +1,5 @@
+//! A linked kernel as a `Runtime`: what a runner asks of classes, methods and variables.
+
 ghost use Rattle.som_model.specs.Kernel.{som_class_mgr};
 
 use crate::asked::{own_count, proxy_number, zero_in};

@@ -1,3 +1,5 @@
+//! The method that a name means in a made class, as a linked kernel finds it.
+
 ghost use Rattle.som_byname.specs.Added.{IsMeant, count_to};
 ghost use Rattle.som_linked.specs.Linked.{IsMadeIn};
 ghost use Rattle.som_meta.specs.Numbering.{key_at};

@@ -34,7 +34,7 @@ use Rattle.som_closure.specs.Metas.{HasParents, HaveMetas, meta_at, metaclass_in
 abbrev pub chosen : List Class → ClassKey → ClassKey
 chosen cs x = made_of (lowest cs (firsts same_key (option_list (metaclass_in (class_at cs x)) ++ map (meta cs) (parents_of cs x))))
 
--- the same with the metaclasses of parents by fewer levels
+-- what a metaclass is made of, with the metaclasses of parents by fewer levels
 abbrev chosen_within : List Class → ℕ → ClassKey → ClassKey
 chosen_within cs n x = made_of (lowest cs (firsts same_key (option_list (metaclass_in (class_at cs x)) ++ map (meta_within cs n) (parents_of cs x))))
 

@@ -163,7 +163,7 @@ comes_by cs rs ss f x (root y m) = root y (f y m)
 comes_by cs rs ss f x (parent y p d m) = parent y p (comes_by cs rs ss f y d) m
 comes_by cs rs ss f x (metaclass y d) = metaclass y (comes_by cs rs ss f y d)
 
--- the same where both have the same members
+-- what comes of roots comes of others that have equal members
 pub comes_same : (cs : List Class) (rs ss : List ClassKey) → ((x : ClassKey) → Mem x rs ↔ Mem x ss) → (x : ClassKey) → ComesOf cs rs x ↔ ComesOf cs ss x
 comes_same cs rs ss f x = (comes_by cs rs ss (λ y m. (f y).0 m) x, comes_by cs ss rs (λ y m. (f y).1 m) x)
 

@@ -1,3 +1,5 @@
+//! The metaclass of one class: SOMClass for the kernel's, else what the plan says, with its number.
+
 ghost use Rattle.som_classes.specs.Loaded.{AreLoaded};
 ghost use Rattle.som_closure.specs.Metas.{HasParents, HaveMetas, meta_at, metaclass_in, plan_numbers};
 ghost use Rattle.som_meta.specs.Numbering.{AreNumbered, IsNumbered, key_at};

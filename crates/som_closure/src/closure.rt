@@ -1,3 +1,5 @@
+//! The closure of a run's classes under metaclasses, each with the number of its metaclass.
+
 ghost use Rattle.som_closure.specs.Metas.{AreClosed};
 ghost use Rattle.som_meta.specs.Numbering.{IsNumbered, key_at};
 ghost use Rattle.som_model.specs.Kernel.{kernel};

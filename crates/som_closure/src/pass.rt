@@ -1,3 +1,5 @@
+//! The pass over all class numbers that finds each metaclass, and numbers those that are derived.
+
 ghost use Rattle.som_closure.specs.Metas.{AreMetas};
 ghost use Rattle.som_model.specs.Lists.{Mem};
 ghost use Rattle.som_model.specs.Made.{ComesOf};

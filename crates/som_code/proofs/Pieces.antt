@@ -76,7 +76,7 @@ module _ (w : World) (here : Here) (zero_value : Value) (call : Calls) (code : L
         (λ x t _. (rest x).by b st fr t (sits_back code a (f a) (g b) h)));
   }
 
-  -- a piece that does the same from the same operands
+  -- in the place of a piece one that does what it does from equal operands
   pub puts_same : (taken taken' : List Value) (m m' : Evals) (f f' : Lays) → taken ≡ taken' → ((fr : Frame) (s : State) → (m fr).does s ≡ (m' fr).does s) → ((a : ℕ) → f a ≡ f' a) → Puts taken m f → Puts taken' m' f'
   puts_same taken taken' m m' f f' e same lays p = subst (λ z. Puts z m' f') e (record {
     by = λ a st fr s h.

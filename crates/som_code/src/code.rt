@@ -1,3 +1,5 @@
+//! The code of a body, in which each jump leads to an instruction.
+
 ghost use Rattle.som_code.specs.Sound.{IsSound, is_led};
 ghost use Rattle.std.specs.Prelude.{◌≡◌, ◌<◌, length, slice_get, Some, true};
 

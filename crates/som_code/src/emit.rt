@@ -1,3 +1,5 @@
+//! Instructions put at the end of code, or changed at a place.
+
 ghost use Rattle.som_code.specs.Laid.{set_local};
 ghost use Rattle.std.specs.Prelude.{◌≡◌, ◌<◌, ◌++◌, ◌∷◌, [], length, slice_set, OnOk};
 

@@ -1,3 +1,5 @@
+//! The code of expressions: operands, operators and calls.
+
 ghost use Rattle.som_code.specs.Laid.{lay_and, lay_each, lay_expr, lay_or, lay_right};
 ghost use Rattle.som_model.specs.Blocks.{is_call};
 ghost use Rattle.som_model.specs.Values.{binary_op};

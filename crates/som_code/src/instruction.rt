@@ -1,3 +1,5 @@
+//! The instructions of an operand stack machine.
+
 use som_model::{ClassKey, HostCode, MethodRef, Text, ValueType};
 
 /// A value that stands in code.

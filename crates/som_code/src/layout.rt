@@ -1,3 +1,5 @@
+//! A block laid out as the code of a body.
+
 ghost use Rattle.som_code.specs.Laid.{lay_body};
 ghost use Rattle.som_code.specs.Same.{HasEffect};
 ghost use Rattle.som_code.specs.Sound.{is_return};
@@ -19,7 +21,7 @@ pub fn lay_out(alloc: Global, block: &Block, params: u8) -> Result<Code, NoMemor
     lay_out_for(alloc, block, params as usize)
 }
 
-/// The same for any number of parameters.
+/// Lays out a block as a body of any number of parameters.
 pub fn lay_out_for(alloc: Global, block: &Block, params: usize) -> Result<Code, NoMemory>
     requires { params < 2 ^ 63 }
     ensures effect { IfOk result (λ code. HasEffect code block.now params) }

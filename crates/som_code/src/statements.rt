@@ -1,3 +1,5 @@
+//! The code of blocks and statements, with the jumps of choices and loops.
+
 ghost use Rattle.som_code.specs.Laid.{lay_block, lay_choice, lay_expr, lay_loop, lay_stmt};
 ghost use Rattle.som_model.specs.Kernel.{som_free};
 ghost use Rattle.std.specs.Prelude.{◌≡◌, ◌<◌, ◌≤◌, ◌+◌, ◌^◌, ◌++◌, ◌∷◌, [], length, IfOk, OnOk};

@@ -57,7 +57,8 @@ pub fn variables_law()
     ensures main { (cs : List Class) (main : Block) → Loads cs main → (params : ℕ) → AreOfMain (lay_body main params) }
 {}
 
-/// A block that a class has as a body of its own is one of the blocks that may run. A run asks the same of its world.
+/// A block that a class has as a body of its own is one of the blocks that may run, and so is one that the world of a
+/// run has for a class and a method.
 pub fn held_law()
     ensures declared { (cs : List Class) (main : Block) (k : ClassKey) (r : MethodRef) (b : Block) →
         held cs k r ≡ Some (User b) → Mem b (blocks_of cs main) }

@@ -1,3 +1,5 @@
+//! The law by which what an image has room for is within the counts of linking.
+
 ghost use Rattle.som_cliimage.specs.Limits as clients;
 ghost use Rattle.som_libimage.specs.Limits as libraries;
 ghost use Rattle.som_linking.specs.Pairs.{ProgramCounted, ReleaseCounted};

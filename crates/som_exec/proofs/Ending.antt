@@ -43,7 +43,7 @@ text_both prefix xs ys = ap concat (map-append (λ line. prefix ++ line) xs ys) 
 
 -- ---- what it was before
 
--- the same of a stop by its name
+-- what a run came to, by a stop that is equal
 pub ran_same : (shows : List ℕ → Bool) (prefix : List ℕ) (before after : Option (List ℕ)) (old new : Scene) (x y : Stop) → x ≡ y → RanOn shows prefix before after old new (Err x) → RanOn shows prefix before after old new (Err y)
 ran_same shows prefix before after old new x y e ran = subst (λ (z : Stop). RanOn shows prefix before after old new (Err z)) e ran
 
@@ -57,7 +57,7 @@ module _ (old : Scene) (units : ℕ) (st : Stands old) where
   abbrev n : ℕ
   n = old.task.granted + units
 
-  -- with the units that are granted it stands for the same meaning
+  -- with the units that are granted it stands for the meaning that it stood for
   pub stands_mid : StandsFor mid (meaning old) n st.frames s
   stands_mid = units_granted old (meaning old) old.task.granted units n true st.frames st.state st.stands st.nothing_left
 

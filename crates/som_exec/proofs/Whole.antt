@@ -41,11 +41,11 @@ module _ (old : Scene) (fuel : ℕ) (granted : old.task.granted ≡ 0) (begun : 
   events_are : events_now old fuel ≡ (end_of r).events
   events_are = ap (λ (es : List Event). drop (length es) (end_of (goal old fuel)).events) none_told ∙ ap (λ (z : Ran (Unit {0})). (end_of z).events) goal_is
 
-  -- the same of what is counted
+  -- what is counted of a whole run
   pub counts_run : (new : Scene) (b c : ℕ) → CountsNow old fuel new b c → CountsRun old fuel new b c
   counts_run new b c x direct = subst (λ (es : List Event). c ≤ b + 2 * call_count es + 2) events_are (x direct)
 
-  -- what is left is the same
+  -- what a whole run leaves of its fuel
   pub leaves_run : (left : ℕ) → left ≡ (end_of (goal old fuel)).fuel → left ≡ (end_of r).fuel
   leaves_run left e = e ∙ ap (λ (z : Ran (Unit {0})). (end_of z).fuel) goal_is
 

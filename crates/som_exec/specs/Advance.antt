@@ -18,7 +18,7 @@ use Rattle.som_exec.specs.declared.advanced.Advanced.{Advanced}
 use Rattle.som_exec.specs.declared.advanced.Advanced.TheVariants as answers
 use Rattle.som_exec.specs.Stands.{Stands, meaning, told_so_far}
 
--- the same task, begun, to which so many units more are granted, which are all that is left
+-- a scene with a begun task, to which so many units more are granted, which are all that is left
 abbrev pub with_granted : Scene → ℕ → Scene
 with_granted c units = with_units c (c.task.granted + units) true units
 

@@ -1,3 +1,5 @@
+//! What an advance came to.
+
 use som_model::Fault;
 use som_telling::Running;
 

@@ -1,3 +1,5 @@
+//! The trait of a task to which units are granted and which tells its fault.
+
 ghost use Rattle.som_io.specs.Outside.{Rose, ShowsAll, ShowsFront};
 ghost use Rattle.som_looping.specs.Standing.{with_units};
 ghost use Rattle.som_model.specs.Runs.{Faulted};

@@ -1,3 +1,5 @@
+//! A task advanced by more units of fuel.
+
 ghost use Rattle.som_exec.specs.Advance.{Comes, Counts, CountsNow, EndsBy, LeavesFuel, StaysCalm, with_granted};
 ghost use Rattle.som_exec.specs.Stands.{Stands};
 ghost use Rattle.som_looping.specs.Counted.{CountsOn};

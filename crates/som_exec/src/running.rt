@@ -1,3 +1,5 @@
+//! A task run with all of its fuel at once.
+
 ghost use Rattle.som_exec.specs.Run.{Counts, CountsRun, LeavesFuel, RunsSo, StaysCalm};
 ghost use Rattle.som_exec.specs.Stands.{Stands, meaning};
 ghost use Rattle.std.specs.Prelude.{◌≡◌, false};

@@ -1,3 +1,5 @@
+//! A task started where main begins.
+
 ghost use Rattle.som_codes.specs.Coded.{AreCodes, Coded};
 ghost use Rattle.som_exec.specs.Beginning.{IsFirst};
 ghost use Rattle.som_exec.specs.Stands.{Stands, StandsAnywhere};

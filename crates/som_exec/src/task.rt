@@ -1,8 +1,11 @@
+//! A task as its user holds it: live or not, with the units granted so far.
+
 ghost use Rattle.std.specs.Prelude.{◌≡◌};
 
 use som_model::List;
 
-/// A task that can be gone on with, as long as it is live.
+/// A task as its user holds it, around the state that is the Task of `som_task`. It can be gone on with as long as it is
+/// live.
 #[derive(Drop)]
 pub struct Task {
     pub task: som_task::Task,

@@ -1,3 +1,5 @@
+//! The table of the host's six procedures, called by their codes.
+
 ghost use Rattle.som_host.specs.Closures.{Answers};
 ghost use Rattle.som_host.specs.Entries.{code_of};
 ghost use Rattle.som_model.specs.declared.syntax.HostCode.TheVariants as codes;

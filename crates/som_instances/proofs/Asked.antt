@@ -100,7 +100,7 @@ module _ (l : Linked) (made : ClassKey → Bool) (xs : List ℕ) (os : Objects) 
   }
   target_usable (Err e) is = tt
 
--- the same of a reference that is one to an object
+-- what is asked of a reference that is one to an object
 module _ (l : Linked) (made : ClassKey → Bool) (os : Objects) (me : Reference) (r : ObjRef) (is : me ≡ references.Object r) where
   pub whole_in_use : IsInUse l made os me → IsWhole l made os r
   whole_in_use task = whole_of l made os task.0 me r is (task.1, task.2, task.3)

@@ -1,3 +1,5 @@
+//! The class of what a reference refers to.
+
 ghost use Rattle.som_instances.specs.Making.{IsInUse};
 ghost use Rattle.som_model.specs.State.{Heap};
 ghost use Rattle.som_values.specs.Shown.{IsNumbered, key_of, shown_ref, showing};

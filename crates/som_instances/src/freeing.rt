@@ -1,3 +1,5 @@
+//! The end of a task's object.
+
 ghost use Rattle.som_instances.specs.Making.{ended};
 ghost use Rattle.som_model.specs.State.{Heap, Object};
 ghost use Rattle.som_model.specs.declared.key.ClassKey.{ClassKey};

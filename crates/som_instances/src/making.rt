@@ -1,3 +1,5 @@
+//! New objects of a task, with zero values, and for a proxy its target.
+
 ghost use Rattle.som_instances.specs.Making.{AreWith, IsNext};
 ghost use Rattle.som_model.specs.State.{Heap};
 ghost use Rattle.som_objects.specs.Objects.{KeepsKnown};

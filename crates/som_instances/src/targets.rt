@@ -1,3 +1,5 @@
+//! The target that a proxy stands for.
+
 ghost use Rattle.som_instances.specs.Making.{IsInUse};
 ghost use Rattle.som_instances.specs.Targets.{HasTarget, IsTarget, targeted};
 ghost use Rattle.som_model.specs.State.{Heap};
@@ -37,7 +39,7 @@ pub fn target<R: Runtime>(
     }
 }
 
-// The same of an object.
+// The target that an object has, if it is a proxy.
 fn object_target<R: Runtime>(
     alloc: Global,
     runtime: &R,
@@ -55,7 +57,7 @@ fn object_target<R: Runtime>(
     }
 }
 
-// The same of an object of this class.
+// The target that a live object of this class has, if it is a proxy.
 fn live_target<R: Runtime>(
     alloc: Global,
     runtime: &R,

@@ -1,3 +1,5 @@
+//! Instructions on locals: get, set, and the end of a scope.
+
 ghost use Rattle.som_code.specs.declared.instruction.Instruction.TheVariants as ops;
 ghost use Rattle.som_instructions.specs.Cells.{local_cell, set_cell};
 ghost use Rattle.som_instructions.specs.Doing.{Did};

@@ -1,3 +1,5 @@
+//! The operand stack of a body: push and pop.
+
 ghost use Rattle.som_instructions.specs.Cells.{lower_cells, top_cell};
 ghost use Rattle.std.specs.Prelude.{◌≡◌, ◌++◌, ◌∷◌, [], OnOk};
 

@@ -1,3 +1,5 @@
+//! Instructions that apply operators and the host's procedures to operands.
+
 ghost use Rattle.som_code.specs.declared.instruction.Instruction.TheVariants as ops;
 ghost use Rattle.som_instructions.specs.Doing.{Did};
 ghost use Rattle.som_model.specs.State.{Heap};

@@ -1,3 +1,5 @@
+//! The instructions `as` and `isa`, which test the class of the top.
+
 ghost use Rattle.som_code.specs.declared.instruction.Instruction.TheVariants as ops;
 ghost use Rattle.som_instructions.specs.Cells.{top_cell};
 ghost use Rattle.som_instructions.specs.Doing.{Did, HasClasses};

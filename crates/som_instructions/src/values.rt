@@ -1,3 +1,5 @@
+//! Instructions that push constants, self and the class manager object, or drop the top.
+
 ghost use Rattle.som_code.specs.declared.instruction.Instruction.TheVariants as ops;
 ghost use Rattle.som_instructions.specs.Cells.{constant_cell, me_cell};
 ghost use Rattle.som_instructions.specs.Doing.{Did};

@@ -1,3 +1,5 @@
+//! The laws of laid rows, for methods and for variables.
+
 ghost use Rattle.som_laying.specs.Laying.{Bodies, IsBody, IsLaid, IsRow, IsScheme, IsToken, Scheme};
 ghost use Rattle.som_laying.specs.Places.{IsDataRow, IsPlaced, data_place, variables};
 ghost use Rattle.som_model.specs.Ancestors.{Descends};
@@ -27,7 +29,7 @@ pub fn bodies_law<K>()
         (y : K) × (impl s.classes (s.method t).has_body (s.method t).chosen (s.method t).class (s.key n) ≡ Some y) × IsBody b c y t }
 {}
 
-/// The same of rows of places.
+/// Of rows of places what `laying_law` says of rows of bodies.
 pub fn placing_law<K, V>()
     ensures none { (s : Scheme K) (own : K → Seq V) (rows : Seq (Option (Added ℕ))) → ((n : ℕ) → row_at rows n ≡ None) → IsPlaced s own rows }
     ensures next { (s : Scheme K) → IsScheme s → (own : K → Seq V) (rows : Seq (Option (Added ℕ))) → IsPlaced s own rows → (n : ℕ) (a : Added ℕ) →

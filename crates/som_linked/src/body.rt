@@ -1,3 +1,5 @@
+//! The number of a body, as a look-up answers it.
+
 use std::marker::Model;
 
 /// The number of a body, which a look-up answers and nothing else.

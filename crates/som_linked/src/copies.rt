@@ -1,3 +1,5 @@
+//! Copies of the classes of a library and a client, with their keys.
+
 ghost use Rattle.som_model.specs.Class.{class_in};
 ghost use Rattle.som_model.specs.Classes.{client_classes, library_classes};
 ghost use Rattle.som_numbers.specs.Classes.{class_of, classes_of};

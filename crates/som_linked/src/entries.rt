@@ -1,3 +1,5 @@
+//! The methods that declared classes introduce, with their places among the entries.
+
 ghost use Rattle.som_linked.specs.Entries.{AreMethods, entries_from};
 ghost use Rattle.std.specs.Prelude.{◌≡◌, ◌<◌, ◌++◌, ◌∷◌, [], IfOk, OnOk, length};
 

@@ -1,3 +1,5 @@
+//! The law by which methods are found by name in classes that are made.
+
 ghost use Rattle.som_byname.specs.Added.{HasClasses};
 ghost use Rattle.som_classes.specs.Loaded.{AreLoaded};
 ghost use Rattle.som_linked.specs.Linked.{IsLinked, IsMadeIn, Linkage};

@@ -1,3 +1,5 @@
+//! The linked kernel's contents: how it is laid, and how classes are reached, that is, made with their needs.
+
 ghost use Rattle.som_classes.specs.Loaded.{AreLoaded};
 ghost use Rattle.som_linked.specs.Linked.{IsLinked, IsMadeIn};
 ghost use Rattle.som_made.specs.Made.{AreParts, IsReached, KeepsMade};

@@ -1,3 +1,5 @@
+//! Which classes of a linked kernel are made, with their metaclasses and hooks.
+
 ghost use Rattle.som_linked.specs.Linked.{IsMadeIn};
 ghost use Rattle.som_meta.specs.Numbering.{AreNumbered, IsNumbered, key_at};
 ghost use Rattle.som_model.specs.Lists.{Mem};

@@ -1,3 +1,5 @@
+//! Methods of a linked kernel: the body that answers, what a body holds, and the signature of a token.
+
 ghost use Rattle.som_bodies.specs.Bodies.{IsSourced, held_body as held_of_body};
 ghost use Rattle.som_linked.specs.Linked.{IsMadeIn};
 ghost use Rattle.som_linked.specs.Shown.{IsAnswer, body_at};

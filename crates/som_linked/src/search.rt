@@ -1,3 +1,5 @@
+//! The search for a method by its name in a linked kernel.
+
 ghost use Rattle.som_byname.specs.Added.{IsMeant, count_to};
 ghost use Rattle.som_linked.specs.Linked.{IsMadeIn};
 ghost use Rattle.som_meta.specs.Numbering.{key_at};

@@ -1,3 +1,5 @@
+//! The fault of linking, with the names that its line tells.
+
 ghost use Rattle.som_compat.specs.Told.{told};
 ghost use Rattle.som_linking.specs.Told.{TellsBreach, or_dash};
 ghost use Rattle.std.specs.Prelude.{◌≡◌, IfOk, option_copied};

@@ -1,3 +1,5 @@
+//! The test of a client with a library: the first rule that is broken, or what the library doesn't keep.
+
 ghost use Rattle.som_compat.specs.Conditions.{Conforms};
 ghost use Rattle.som_linking.specs.Pairs.{Breaks, DoesntKeep, ProgramCounted, ReleaseCounted, obstacle};
 ghost use Rattle.som_linking.specs.Told.{Tells};

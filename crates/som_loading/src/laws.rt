@@ -1,3 +1,5 @@
+//! The laws of classes that can be loaded: what numbers, owners, members and laying ask of them holds.
+
 ghost use Rattle.som_loading.specs.Targets.{AreMade, HaveTargets, IsTarget};
 ghost use Rattle.som_members.specs.Members.{AreNamed, CanLay};
 ghost use Rattle.som_meta.specs.Numbering.{AreApart, Numbering};

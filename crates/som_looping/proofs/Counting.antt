@@ -23,7 +23,7 @@ use Rattle.som_looping.proofs.Lowering.{sound_at}
 pub counted_none : (c : Scene) (n : ℕ) → CountsOn c c n n (Ok true)
 counted_none c n means granted fs s h d = record { frames = fs; then = s; stands = h; count = omega arith }
 
--- the program is the same before, and fewer classes are made
+-- before a step the program is what it is after it, and fewer classes are made
 earlier : (shows : List ℕ → Bool) (prefix : List ℕ) (before after : Option (List ℕ)) (old new : Scene) (r : Result Bool Stop) (es : List _) → Outside shows prefix before after old new r es → IsDirectScene new → IsDirectScene old
 earlier shows prefix before after old new r es o d =
     let e : IsDirectRun old.linked.world old.main new.made = subst (λ (l : Linked). IsDirectRun l.world old.main new.made) o.keeps.linked (subst (λ (b : Block). IsDirectRun new.linked.world b new.made) o.keeps.main d) in

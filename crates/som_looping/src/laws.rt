@@ -1,3 +1,5 @@
+//! The laws of a task that stands: where it starts, and how granted units add up.
+
 ghost use Rattle.som_frames.specs.Frames.{Frames};
 ghost use Rattle.som_frames.specs.Step.{main_frames};
 ghost use Rattle.som_looping.specs.Standing.{StandsAt, StandsFor, with_units};
@@ -9,7 +11,7 @@ ghost use Rattle.som_moves.specs.Scene.{Scene};
 ghost use Rattle.som_runtime.specs.Asked.{Agree, CanLoad};
 ghost use Rattle.std.specs.Prelude.{◌≡◌, ◌+◌, ℕ, Bool};
 
-/// A task that stands with no unit left, and is granted some, stands with these for the same meaning with as many more.
+/// A task that stands with no unit left, and is granted some, stands for its meaning with as many units more.
 pub fn granted_law()
     ensures { (c : Scene) (means : ℕ → Ran (Unit {0})) (n units granted : ℕ) (begun : Bool) (fs : Frames) (s : State) →
         StandsFor c means n fs s → s.fuel ≡ 0 → StandsFor (with_units c granted begun units) means (n + units) fs (with_more units s) }

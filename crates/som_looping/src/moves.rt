@@ -1,3 +1,5 @@
+//! The trait of a task that goes on step by step.
+
 ghost use Rattle.som_looping.specs.Counted.{Counted};
 ghost use Rattle.som_looping.specs.Standing.{IsSomewhere};
 ghost use Rattle.som_looping.specs.Stepped.{Counts, StaysCalm, Stepped};

@@ -1,3 +1,5 @@
+//! The loop of the interpreter: steps until main is over or the task stops.
+
 ghost use Rattle.som_looping.specs.Counted.{CountsOn};
 ghost use Rattle.som_looping.specs.Ran.{RanOn, ended};
 ghost use Rattle.som_looping.specs.Standing.{IsSomewhere};

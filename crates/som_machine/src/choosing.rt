@@ -1,3 +1,5 @@
+//! One step of a task, whatever is next in it.
+
 ghost use Rattle.som_looping.specs.Counted.{Counted};
 ghost use Rattle.som_looping.specs.Standing.{IsSomewhere};
 ghost use Rattle.som_looping.specs.Stepped.{Counts, StaysCalm, Stepped};
@@ -89,7 +91,7 @@ fn do_next<R: Runtime, K: Sink, L: Ledger>(
     }
 }
 
-// The same of what tells no line.
+// The answer of a step that tells no line: a sink that failed counts as want of memory.
 fn untold(answer: Result<Now, Stop>) -> Result<Now, Stop>
     ensures { result ≡ sinkless answer }
 {

@@ -1,3 +1,5 @@
+//! The steps that make a call and invoke its bodies.
+
 ghost use Rattle.som_io.specs.Outside.{Rose};
 ghost use Rattle.som_looping.specs.Counted.{Counted};
 ghost use Rattle.som_looping.specs.Standing.{IsSomewhere};

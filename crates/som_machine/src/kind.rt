@@ -1,10 +1,12 @@
+//! Which of five steps is next in a task.
+
 ghost use Rattle.som_machine.specs.Doing.{HasCode, IsKind};
 ghost use Rattle.std.specs.Prelude.{◌≡◌};
 
 use som_obeying::is_call;
 use som_task::{Now, Task};
 
-/// What is next in a task: an instruction that makes a call, one that makes none, a call that is made, a body that is
+/// The kind of step that is next in a task: an instruction that makes a call, one that makes none, a call that is made, a body that is
 /// invoked, or a value that comes to what waits.
 #[derive(Clone, Copy)]
 pub(crate) enum Kind {

@@ -1,3 +1,5 @@
+//! The fault of a step, told in the place of the body or of what waits.
+
 ghost use Rattle.som_machine.specs.Came.{in_place};
 ghost use Rattle.std.specs.Prelude.{◌≡◌};
 
@@ -5,7 +7,7 @@ use som_moves::Stop;
 use som_task::Now;
 use som_telling::Place;
 
-/// The same, with a fault in this place.
+/// The answer of a step, of which a fault is in this place.
 pub(crate) fn placed(answer: Result<Now, Stop>, place: Place) -> Result<Now, Stop>
     ensures { result ≡ in_place place answer }
 {

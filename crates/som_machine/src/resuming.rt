@@ -1,3 +1,5 @@
+//! The step that gives a value to what waits last.
+
 ghost use Rattle.som_looping.specs.Counted.{Counted};
 ghost use Rattle.som_looping.specs.Standing.{IsSomewhere};
 ghost use Rattle.som_machine.specs.Came.{CameSilent, IsResuming, IsValue, place_in};

@@ -1,3 +1,5 @@
+//! The step of an instruction without a call.
+
 ghost use Rattle.som_io.specs.Outside.{Rose};
 ghost use Rattle.som_looping.specs.Standing.{IsSomewhere};
 ghost use Rattle.som_machine.specs.Came.{Came, IsBody, IsWithoutCall, with_next};
@@ -55,7 +57,7 @@ pub fn obey_next<R: Runtime, K: Sink>(
     obey_taken(alloc, runtime, task, objects, host, prefix, fuel, out)
 }
 
-// The same where a unit is left for it.
+// The instruction is obeyed, where a unit is left for it.
 fn obey_taken<R: Runtime, K: Sink>(
     alloc: Global,
     runtime: &mut R,

@@ -1,3 +1,5 @@
+//! The parts of made classes: rows, names and hooks; and how classes are made in order.
+
 ghost use Rattle.som_classes.specs.Loaded.{AreLoaded};
 ghost use Rattle.som_made.specs.Made.{AreMarked, AreParts, CanBeMade, HaveMadeBelow, KeepsMade};
 ghost use Rattle.som_made.specs.Making.{parts_of};

@@ -1,3 +1,5 @@
+//! The names of a class that is made, added to the index of names.
+
 ghost use Rattle.som_byname.specs.Added.{HasClass};
 ghost use Rattle.som_meta.specs.Numbering.{AreNumbered, IsNumbered, names_of};
 ghost use Rattle.som_model.specs.Class.{introduced};

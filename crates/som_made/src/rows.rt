@@ -1,3 +1,5 @@
+//! The rows of methods and of variables of a class that is made.
+
 ghost use Rattle.som_bodies.specs.Bodies.{AreBodies, HaveParentRows};
 ghost use Rattle.som_made.specs.Made.{KeepsFilled};
 ghost use Rattle.som_meta.specs.Numbering.{IsNumbered};

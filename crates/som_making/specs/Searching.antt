@@ -12,7 +12,7 @@ use Rattle.som_making.specs.Making.{IsMarked, IsNeeded, IsNeedOf}
 abbrev pub in_turn : ℕ × ℕ → ℕ × ℕ → Ordering
 in_turn x y = ordering_then (nat_cmp x.0 y.0) (nat_cmp x.1 y.1)
 
--- the same classes, by number and by rank and number
+-- both hold the classes of one search, by number, and by rank and number
 pub record AreSame (k : Numbering) (classes : List ℕ) (ranked : List (ℕ × ℕ)) : Type 0 where
   pub there : (n : ℕ) → Mem n classes → Mem (rank k.classes (key_at k n), n) ranked
   pub only : (r n : ℕ) → Mem (r, n) ranked → Mem n classes × (r ≡ rank k.classes (key_at k n))

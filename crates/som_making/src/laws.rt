@@ -1,3 +1,5 @@
+//! The law by which the kernel's four classes need only each other.
+
 ghost use Rattle.som_classes.specs.Loaded.{AreLoaded};
 ghost use Rattle.som_making.specs.Making.{HaveNeeds};
 ghost use Rattle.som_meta.specs.Numbering.{Numbering};

@@ -1,3 +1,5 @@
+//! The classes still to be made for one class, by rank and then by number.
+
 ghost use Rattle.som_making.specs.Making.{AreToMake, HaveNeeds, IsMarked};
 ghost use Rattle.som_making.specs.Searching.{in_turn};
 ghost use Rattle.som_meta.specs.Numbering.{IsNumbered};

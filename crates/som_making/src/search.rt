@@ -1,3 +1,5 @@
+//! The search over parents and metaclasses for all that a class needs and that isn't made.
+
 ghost use Rattle.som_classes.specs.Loaded.{AreLoaded};
 ghost use Rattle.som_closure.specs.Metas.{AreClosed};
 ghost use Rattle.som_making.specs.Making.{IsMarked, IsNeedOf};
@@ -13,7 +15,7 @@ use som_tables::ClassNo;
 use std::alloc::Global;
 use std::collections::BTreeSet;
 
-/// The classes that a search has come to, in the order in which it did, and the same by rank and number.
+/// The classes that a search has come to: in the order in which it did, and as pairs of rank and number.
 #[derive(Drop)]
 pub(crate) struct Found {
     pub(crate) classes: List<ClassNo>,

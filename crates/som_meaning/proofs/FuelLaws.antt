@@ -13,7 +13,7 @@ module _ {A : Type 0} (does : State → Ran A) (law : Lawful does) where
   more_to : (n m : ℕ) (s : State) → n ≤ m → IsMore (m - n) (does (with_fuel n s)) (does (with_fuel m s))
   more_to n m s le = let e : n + (m - n) ≡ m = omega (arith, le) in subst (λ z. IsMore (m - n) (does (with_fuel n s)) (does (with_fuel z s))) e (more_at n (m - n) s)
 
-  -- with just so much fuel as was taken, the same end with nothing left
+  -- with just so much fuel as was taken the end stays, with nothing left
   none_left : (l : ℕ) (r r' : Ran A) → IsMore l r r' → (l ≡ 0 → r' ≡ r) → IsOver r' → (end_of r').fuel ≡ l → r ≡ left_with 0 r'
   none_left l (Goes a s) r' h same over left =
       let is : (with_more l s).fuel ≡ l = sym (ap (λ (z : Ran A). (end_of z).fuel) h) ∙ left in

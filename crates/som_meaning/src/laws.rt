@@ -1,3 +1,5 @@
+//! The laws of the meaning: fuel, objects, what a sink is told, and loops turn by turn.
+
 ghost use Rattle.som_meaning.specs.Told.{IsToldAs};
 ghost use Rattle.som_model.specs.Class.{introduced};
 ghost use Rattle.som_model.specs.Classes.{classes};

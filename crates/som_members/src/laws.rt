@@ -1,3 +1,5 @@
+//! The law by which tokens of members stay, as one class more gets a number.
+
 ghost use Rattle.som_members.specs.Own.{IsMembers};
 ghost use Rattle.som_members.specs.declared.members.Members.{Members as Kept};
 ghost use Rattle.som_meta.specs.Numbering.{Numbering};

@@ -1,3 +1,5 @@
+//! Own bodies and selected parents of declared classes, asked by the token of a method.
+
 ghost use Rattle.som_members.specs.Members.{AreNamed, CanLay, HaveTokens, override_method, select_method};
 ghost use Rattle.som_members.specs.Own.{AreOwn, IsKept, IsMembers};
 ghost use Rattle.som_meta.specs.Numbering.{IsNumbered, IsToken, Numbering, key_at, method_at};

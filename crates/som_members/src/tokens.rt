@@ -1,3 +1,5 @@
+//! One class's overrides and selects as tokens, and the search for a token among them.
+
 ghost use Rattle.som_members.specs.Members.{Exist, HaveTokens, IsFirst, IsNotBefore, override_method, select_method};
 ghost use Rattle.som_members.specs.Own.{IsOwn};
 ghost use Rattle.som_owners.specs.Owners.{AreFaces};

@@ -32,7 +32,7 @@ map_step f false false x rest kept e is = ap (λ l. f x ∷ l) is
 map_step f true false x rest kept e is = absurd (true≢false e)
 map_step f false true x rest kept e is = absurd (true≢false (sym e))
 
--- a test on numbers that is one on their keys leaves out the same
+-- a test on numbers that agrees with one on keys leaves out the numbers of those keys that the other leaves out
 without-keys : (f : ℕ → ClassKey) (P : ℕ → Type 0) (test : ℕ → Bool) (tests : ClassKey → Bool) → ((n : ℕ) → P n → test n ≡ tests (f n)) → (ns : List ℕ) → All P ns → map f (without test ns) ≡ without tests (map f ns)
 without-keys f P test tests same [] all = refl
 without-keys f P test tests same (n ∷ ns) all = map_step f (test n) (tests (f n)) n (without test ns) (without tests (map f ns)) (same n (All-head P n ns all)) (without-keys f P test tests same ns (All-tail P n ns all))

@@ -1,3 +1,5 @@
+//! What is asked of a hierarchy over class numbers: ancestors, descent, own bodies and introduced methods.
+
 ghost use Rattle.som_meta.specs.Numbering.{AreNumbered, IsNumbered, IsToken, Numbering, key_at, method_at, tokens_of};
 ghost use Rattle.som_model.specs.Classes.{ancestors as ancestors_of, is_a as descends};
 ghost use Rattle.som_model.specs.Implementation.{has_body as has_own_body, is_kernel as is_kernel_key};

@@ -1,3 +1,5 @@
+//! The metaclasses that a class's metaclass has to descend from: the declared one and those of parents.
+
 ghost use Rattle.som_meta.specs.Planning.{constraints as constraints_of};
 ghost use Rattle.som_model.specs.Lists.{firsts, some};
 ghost use Rattle.std.specs.Prelude.{◌≡◌, IfOk, nat_eq};

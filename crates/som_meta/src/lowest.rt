@@ -1,3 +1,5 @@
+//! Of several classes, those that are proper ancestors of no other.
+
 ghost use Rattle.som_meta.specs.Numbering.{AreNumbered, IsNumbered};
 ghost use Rattle.som_meta.specs.Planning.{is_above_some, lowest_numbers};
 ghost use Rattle.std.specs.Prelude.{◌≡◌, IfOk};

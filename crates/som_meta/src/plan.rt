@@ -1,3 +1,5 @@
+//! The choice of a metaclass: one that exists, or one that is to be derived from several.
+
 ghost use Rattle.som_meta.specs.Numbering.{AreApart, AreNumbered};
 ghost use Rattle.som_meta.specs.Planning.{chosen_key, constraints as constraints_of, plan_key, plan_of, planned};
 ghost use Rattle.std.specs.Prelude.{◌≡◌, IfOk};

@@ -1,3 +1,5 @@
+//! Why a task stops: a fault in a place, no fuel, a sink that failed, or want of memory.
+
 use som_model::{Fault, NoMemory};
 use som_telling::{Place, Untold};
 use std::alloc::AllocError;

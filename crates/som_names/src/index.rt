@@ -1,3 +1,5 @@
+//! The index of names: which method a name means in a class, by asking its ancestors in order.
+
 ghost use Rattle.som_names.specs.Index.{KeepsOthers, ancestors_at, asked, found, named_at, own_token};
 ghost use Rattle.std.specs.Prelude.{◌≡◌, ◌+◌, [], None, OnErr, OnOk, Some, length};
 

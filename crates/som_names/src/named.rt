@@ -1,3 +1,5 @@
+//! What the index of names keeps of one class: its ancestors, and its names with their tokens.
+
 ghost use Rattle.som_names.specs.Index.{token_in};
 ghost use Rattle.std.specs.Prelude.{◌≡◌, IfOk};
 

@@ -38,7 +38,7 @@ one_list [] e = absurd (omega (arith, e))
 one_list (x ∷ []) e = refl
 one_list (x ∷ y ∷ xs) e = absurd (omega (arith, e))
 
--- two made keys are one where they are made in one way of the same
+-- two made keys are equal only where their kinds and their parents are
 made_one : (k j : Kind) (xs ys : List ClassKey) → k ≢ kinds.Declared → j ≢ kinds.Declared → (k ≡ kinds.Proxy → length xs ≡ 1) → (j ≡ kinds.Proxy → length ys ≡ 1) → made_key k xs ≡ made_key j ys → (k ≡ j) × (xs ≡ ys)
 made_one kinds.Declared j xs ys a b f g e = absurd (a refl)
 made_one k kinds.Declared xs ys a b f g e = absurd (b refl)

@@ -26,7 +26,7 @@ derived_stands xs ys x t is so = ((λ h. ap keys.Derived (so.0 h) ∙ sym is), (
 pub proxy_stands : (a b x : ClassKey) (t : Bool) → x ≡ keys.Proxy b → IsTrue t ↔ (a ≡ b) → IsTrue t ↔ (keys.Proxy a ≡ x)
 proxy_stands a b x t is so = ((λ h. ap keys.Proxy (so.0 h) ∙ sym is), (λ e. so.1 (one_proxy a b (e ∙ is))))
 
--- the same of a class's key
+-- a test for a class's key is a test for what the class is made of
 pub key_stands : (a b x : ClassKey) (t : Bool) → a ≡ b → IsTrue t ↔ (b ≡ x) → IsTrue t ↔ (a ≡ x)
 key_stands a b x t e so = ((λ h. e ∙ so.0 h), (λ f. so.1 (sym e ∙ f)))
 

@@ -37,7 +37,7 @@ made_key kinds.Declared ks = som_object
 made_key kinds.Derived ks = keys.Derived ks
 made_key kinds.Proxy ks = keys.Proxy (first_key ks)
 
--- the same by the numbers of its parents
+-- the key of a class by the numbers of its parents
 abbrev pub position_key : List ClassKey → Position → ClassKey
 position_key ks p = made_key p.kind (map (at ks) p.parents)
 
@@ -81,7 +81,7 @@ pub record AreKept (ks : List Keyed) (ps : List Position) (names : Names) (highe
   pub listed : AreListed (length ks) ps table
   pub unmarked : AreMarks marks []
 
--- the same, where the class of a key has a number: its own, or the one that comes next
+-- the numbers where the class of a key has one: its own, or the one that comes next
 unfoldable pub with_key : Numbering → ClassKey → Numbering
 with_key k key = if some (same_key key) k.keys then k else record { classes = k.classes; keys = k.keys ++ key ∷ [] }
 

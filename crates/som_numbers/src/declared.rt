@@ -1,3 +1,5 @@
+//! The numbers and positions of declared classes: each number is the class's place.
+
 ghost use Rattle.som_model.specs.Lists.{Mem};
 ghost use Rattle.som_model.specs.Loads.{keys_of};
 ghost use Rattle.som_model.specs.declared.key.ClassKey.{ClassKey as Key};

@@ -1,3 +1,5 @@
+//! A declared class with its key.
+
 ghost use Rattle.std.specs.Prelude.{◌≡◌, ◌<◌, Some, length, slice_get};
 
 use som_model::{ClassDecl, ClassKey};

@@ -1,3 +1,5 @@
+//! Whether a class number stands for a key, and the made class that a key means.
+
 ghost use Rattle.som_meta.specs.Numbering.{IsNumbered, key_at};
 ghost use Rattle.som_model.specs.Lists.{Mem};
 ghost use Rattle.som_model.specs.declared.key.ClassKey.{ClassKey as Key};

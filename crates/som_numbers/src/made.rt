@@ -1,3 +1,5 @@
+//! The greatest rank among several classes.
+
 ghost use Rattle.som_model.specs.Classes.{greatest};
 ghost use Rattle.som_model.specs.Lists.{Mem};
 ghost use Rattle.som_numbers.specs.Positions.{rank_list};

@@ -1,3 +1,5 @@
+//! Derived classes and proxy classes, found by the parents that they are made of.
+
 ghost use Rattle.std.specs.HashMap.{spare};
 ghost use Rattle.std.specs.Prelude.{◌≡◌, ◌≢◌, ◌<◌, ◌≤◌, ◌++◌, ◌∷◌, [], ℕ, List as Seq, None, OnErr, OnOk, Some, length};
 ghost use Rattle.som_numbers.specs.Made.{AreListed, HasRoom, TellsSame, found, found_made};

@@ -1,3 +1,5 @@
+//! The class of a name, sought in the client, then level by level, in the library and in the kernel.
+
 ghost use Rattle.som_model.specs.Lists.{first_some};
 ghost use Rattle.som_model.specs.Loads.{keys_of};
 ghost use Rattle.som_model.specs.World.{named_class};

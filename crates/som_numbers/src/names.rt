@@ -1,3 +1,5 @@
+//! Declared classes by their names, where one name has at most a class in each module.
+
 ghost use Rattle.som_model.specs.Keys.{same_key};
 ghost use Rattle.som_model.specs.declared.key.ClassKey.TheVariants as keys;
 ghost use Rattle.som_numbers.specs.Names.{AreNoted, face_names, last_of};

@@ -1,3 +1,5 @@
+//! The numbers of a run's classes, declared and made, by which they are asked and found.
+
 ghost use Rattle.som_hierarchy.specs.Metaclasses.{IsDeclared};
 ghost use Rattle.som_meta.specs.Numbering.{AreApart, AreNumbered, IsNumbered, key_at};
 ghost use Rattle.som_model.specs.Classes.{ancestors as ancestors_at, hierarchy, is_a as descends};

@@ -1,3 +1,5 @@
+//! Where a class stands in the hierarchy: parents, ancestors, rank, and marks for quick tests of descent.
+
 ghost use Rattle.som_model.specs.Lists.{Mem, joined, some};
 ghost use Rattle.som_numbers.specs.Positions.{AreLow, AreMarked, IsNext, lists};
 ghost use Rattle.som_numbers.specs.declared.position.Kind.TheVariants as kinds;
@@ -9,7 +11,8 @@ use som_model::{List, NoMemory};
 use som_tables::ClassNo;
 use std::alloc::Global;
 
-/// Whether a class is declared, or is made of the classes that are its parents: derived from several, or that of the proxies of one.
+/// How a class comes about: it is declared, or is made of the classes that are its parents, derived from several, or that
+/// of the proxies of one.
 #[derive(Clone, Copy, Debug, PartialEq, Eq)]
 pub enum Kind {
     Declared,

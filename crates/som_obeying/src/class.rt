@@ -1,3 +1,5 @@
+//! The instruction that makes a class and pushes its class object.
+
 ghost use Rattle.som_code.specs.declared.instruction.Instruction.TheVariants as ops;
 ghost use Rattle.som_model.specs.Made.{ComesOf};
 ghost use Rattle.som_model.specs.State.{Used};

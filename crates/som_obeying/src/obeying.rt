@@ -1,3 +1,5 @@
+//! The next instruction of a body obeyed, or the end of its code with a zero value.
+
 ghost use Rattle.som_io.specs.Outside.{Rose};
 ghost use Rattle.som_moves.specs.Moving.{Keeps};
 ghost use Rattle.som_moves.specs.Scene.{scene};

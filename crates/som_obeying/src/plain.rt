@@ -1,3 +1,5 @@
+//! Instructions that change nothing but the frame of their body.
+
 ghost use Rattle.som_instructions.specs.Cells.{top_cell};
 ghost use Rattle.som_instructions.specs.Doing.{Did, HasClasses};
 ghost use Rattle.som_model.specs.State.{Heap};

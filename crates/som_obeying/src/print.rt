@@ -1,3 +1,5 @@
+//! The instruction that prints the top to the sink.
+
 ghost use Rattle.som_code.specs.declared.instruction.Instruction.TheVariants as ops;
 ghost use Rattle.som_instructions.specs.Cells.{top_cell};
 ghost use Rattle.som_io.specs.Outside.{Rose, ShowsFront};

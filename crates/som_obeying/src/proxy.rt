@@ -1,3 +1,5 @@
+//! The instruction that makes a proxy of the top.
+
 ghost use Rattle.som_code.specs.declared.instruction.Instruction.TheVariants as ops;
 ghost use Rattle.som_instructions.specs.Cells.{top_cell};
 ghost use Rattle.som_model.specs.State.{Heap, Ref, receiver as receiver_in};
@@ -75,7 +77,7 @@ pub(crate) fn proxy<R: Runtime>(
     }
 }
 
-// The same where the target passed its test, and a unit is left.
+// Makes the proxy, where the target passed its test and a unit is left.
 fn build<R: Runtime>(
     alloc: Global,
     runtime: &mut R,

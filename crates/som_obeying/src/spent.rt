@@ -1,3 +1,5 @@
+//! Whether the next instruction makes a call, or wants a unit of fuel where none is left.
+
 ghost use Rattle.som_codes.specs.Coded.{codes_of};
 ghost use Rattle.som_frames.specs.Frames.{Waiting};
 ghost use Rattle.som_instructions.specs.Cells.{top_cell};

@@ -1,3 +1,5 @@
+//! One instruction without a call, chosen by its form.
+
 ghost use Rattle.som_io.specs.Outside.{Rose};
 ghost use Rattle.som_moves.specs.Moving.{Keeps};
 ghost use Rattle.som_moves.specs.Scene.{scene};

@@ -1,3 +1,5 @@
+//! The instruction by which a turn of a loop takes a unit of fuel.
+
 ghost use Rattle.som_code.specs.declared.instruction.Instruction.TheVariants as ops;
 ghost use Rattle.som_meta.specs.Numbering.{Numbering};
 ghost use Rattle.som_model.specs.declared.syntax.Block.{Block};

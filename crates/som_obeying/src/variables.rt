@@ -1,3 +1,5 @@
+//! The instructions that get and set self's variables.
+
 ghost use Rattle.som_code.specs.declared.instruction.Instruction.TheVariants as ops;
 ghost use Rattle.som_model.specs.Calls.{class_here};
 ghost use Rattle.som_moves.specs.Moving.{Keeps};

@@ -1,3 +1,5 @@
+//! A cell: the value of one variable, local or operand.
+
 use crate::ObjRef;
 use som_model::Text;
 use som_tables::ClassNo;

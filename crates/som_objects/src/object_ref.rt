@@ -1,3 +1,5 @@
+//! A reference to an object, by key and serial, and the answer for an object that was freed.
+
 /// A reference to an object: the key under which it is kept, and its serial. Keys are used again once an object was freed;
 /// serials aren't, so two references are to one object where their serials are equal.
 #[derive(Clone, Copy, Debug)]
@@ -6,6 +8,6 @@ pub struct ObjRef {
     pub serial: u64,
 }
 
-/// The object was freed.
+/// The answer for a reference to an object that was freed.
 #[derive(Clone, Copy, Debug, PartialEq, Eq)]
 pub struct Gone;

@@ -1,3 +1,5 @@
+//! A slot of the object store: an object's serial, class and cells.
+
 use crate::Cell;
 use som_model::List;
 use som_tables::ClassNo;

@@ -1,3 +1,5 @@
+//! The object store: objects are made, read, written and freed under keys that are used again.
+
 ghost use Rattle.som_objects.specs.Objects.{IsKnown, KeepsKnown, IsGone, HasClass, HasCell, InRange, Makes, Writes, Frees};
 ghost use Rattle.som_objects.specs.Slots.{live_slot, slot_at};
 ghost use Rattle.std.specs.Option.{option_copied, is_some};
@@ -65,6 +67,7 @@ impl ObjectStore {
         Ok(ObjRef { key, serial })
     }
 
+    /// The class of an object, or Gone where it was freed.
     pub fn class(&self, object: &ObjRef) -> Result<ClassNo, Gone>
         requires { IsKnown self.now object.now }
         ensures class { IfOk result (HasClass self.now object.now) }
@@ -76,7 +79,7 @@ impl ObjectStore {
         }
     }
 
-    /// The cell at a place of an object.
+    /// The cell at a place of an object, or Gone where it was freed.
     pub fn read(&self, object: &ObjRef, place: u32) -> Result<&Cell, Gone>
         requires known { IsKnown self.now object.now }
         requires place { InRange self.now object.now place }
@@ -89,7 +92,7 @@ impl ObjectStore {
         }
     }
 
-    /// Changes the cell at a place of an object, and takes no memory.
+    /// Changes the cell at a place of an object, and takes no memory; or answers Gone where the object was freed.
     pub fn write(&mut self, object: &ObjRef, place: u32, cell: Cell) -> Result<(), Gone>
         requires known { IsKnown self.old object.now }
         requires place { InRange self.old object.now place }
@@ -115,7 +118,7 @@ impl ObjectStore {
         Ok(())
     }
 
-    /// Ends an object.
+    /// Ends an object, which leaves its key to a later one; or answers Gone where it was freed before.
     pub fn free(&mut self, object: &ObjRef) -> Result<(), Gone>
         requires { IsKnown self.old object.now }
         ensures freed { OnOk result (Frees self.old self.new object.now) }

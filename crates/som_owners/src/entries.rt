@@ -1,3 +1,5 @@
+//! The entries of a class by name, and how many of them introduce methods.
+
 ghost use Rattle.som_model.specs.Class.{entry_name, entry_of, introduced};
 ghost use Rattle.std.specs.Str.{bytes_eq};
 ghost use Rattle.std.specs.Prelude.{◌≡◌, ◌+◌, ◌<◌, ◌∷◌, [], IsSome, Some, length, map, slice_get};

@@ -1,3 +1,5 @@
+//! For each entry of a declared class, the token of the method that owns it.
+
 ghost use Rattle.som_meta.specs.Numbering.{key_at};
 ghost use Rattle.som_model.specs.Class.{entry_name};
 ghost use Rattle.som_model.specs.Owner.{entry_at, owner};

@@ -1,3 +1,5 @@
+//! The body that is next in a call: hooks before, the method's own, hooks after.
+
 ghost use Rattle.som_code.specs.declared.instruction.Instruction.{Instruction};
 ghost use Rattle.som_model.specs.Means.{hooks_of as hooks_in};
 ghost use Rattle.som_model.specs.Calls.{Request};
@@ -40,7 +42,7 @@ pub fn next<'a, R: Runtime, L: Ledger>(
     }
 }
 
-// The first that a hook has for before from a place on, and else the method's.
+// The first body that a hook has for before from a place on, and else the method's body.
 fn before_body<'a, R: Runtime, L: Ledger>(
     runtime: &'a R,
     left: &Left,
@@ -64,7 +66,7 @@ fn before_body<'a, R: Runtime, L: Ledger>(
     }
 }
 
-// The method's: that of the parent whose body is wanted, and else that of the object's class.
+// The method's body: that of the parent whose body is wanted, and else that of the object's class.
 fn method_body<'a, R: Runtime, L: Ledger>(
     runtime: &'a R,
     left: &Left,
@@ -98,7 +100,7 @@ fn rest_after<R: Runtime, L: Ledger>(runtime: &R, hooks: &[ClassNo], steps: &mut
     }
 }
 
-// The last that the first so many hooks have for after.
+// The last body for after that the first so many hooks have.
 fn after_body<'a, R: Runtime, L: Ledger>(
     runtime: &'a R,
     hooks: &[ClassNo],

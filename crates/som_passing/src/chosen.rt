@@ -1,3 +1,5 @@
+//! The body chosen in a call, and what is left after it.
+
 use som_runtime::BodyView;
 use som_task::Stage;
 

@@ -1,3 +1,5 @@
+//! The class of a live object.
+
 ghost use Rattle.som_model.specs.State.{Heap};
 ghost use Rattle.som_passing.specs.Named.{HasClassOf, HasOwner, IsLive, IsMadeClass};
 ghost use Rattle.som_values.specs.Shown.{IsSeenRef, shown_ref, showing};

@@ -1,3 +1,5 @@
+//! A call entered one level deeper, with all its bodies left, or the fault Depth.
+
 ghost use Rattle.som_code.specs.declared.instruction.Instruction.{Instruction};
 ghost use Rattle.som_model.specs.State.{Heap};
 ghost use Rattle.som_passing.specs.Entered.{Enters, IsReady};

@@ -1,3 +1,5 @@
+//! The hooks of a call, and which of them have bodies for before and for after.
+
 ghost use Rattle.som_model.specs.Calls.{Request};
 ghost use Rattle.som_model.specs.declared.key.ClassKey.{ClassKey};
 ghost use Rattle.som_passing.specs.Chosen.{AreHooks, HasHooks, IsFirst, IsHook, IsLast, IsNamed, IsOwn};

@@ -1,3 +1,5 @@
+//! The tests of a call: by reference, by name, or of a parent's method.
+
 ghost use Rattle.som_code.specs.declared.instruction.Instruction.{Instruction};
 ghost use Rattle.som_frames.specs.Passed.{passes_named, passes_offset, passes_parent};
 ghost use Rattle.som_model.specs.State.{Heap};

@@ -1,3 +1,5 @@
+//! The tests of a call and of a body that never fail in a typed run.
+
 ghost use Rattle.som_code.specs.declared.instruction.Instruction.{Instruction};
 ghost use Rattle.som_model.specs.State.{Heap};
 ghost use Rattle.som_passing.specs.Named.{HasOwner, IsAsked, setting};

@@ -33,7 +33,7 @@ abbrev pub cells_of : ℕ → ℕ → ℕ → ℕ → List ((ℕ × ℕ) × ℕ)
 cells_of n i place zero = []
 cells_of n i place (suc count) = ((n, i), place) ∷ cells_of n (suc i) (suc place) count
 
--- the same of the variables of several classes, each class's after those before it
+-- the cells of the variables of several classes, each class's after those before it
 abbrev pub cells_from : (ℕ → ℕ) → ℕ → List ℕ → List ((ℕ × ℕ) × ℕ)
 cells_from count place [] = []
 cells_from count place (n ∷ ns) = cells_of n 0 place (count n) ++ cells_from count (place + count n) ns

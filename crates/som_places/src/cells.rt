@@ -1,3 +1,5 @@
+//! The cells of rows of variables: places given out one class after the other.
+
 ghost use Rattle.som_meta.specs.Numbering.{AreNumbered, key_at};
 ghost use Rattle.som_places.specs.Placed.{cells_from, cells_of};
 ghost use Rattle.som_places.specs.Variables.{own_variables};

@@ -1,3 +1,5 @@
+//! The law by which two variables of an object have two places.
+
 ghost use Rattle.som_classes.specs.Loaded.{AreLoaded};
 ghost use Rattle.som_meta.specs.Numbering.{Numbering, key_at};
 ghost use Rattle.som_model.specs.Ancestors.{Descends};

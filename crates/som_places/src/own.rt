@@ -1,3 +1,5 @@
+//! How many variables of its own a class has, and their types.
+
 ghost use Rattle.som_classes.specs.Loaded.{AreLoaded};
 ghost use Rattle.som_meta.specs.Numbering.{AreNumbered, IsNumbered, key_at};
 ghost use Rattle.som_places.specs.Variables.{own_variables, types_of};

@@ -1,3 +1,5 @@
+//! Rows of variables: the place of each variable in a class's objects, and the types by place.
+
 ghost use Rattle.som_laying.specs.Places.{IsPlaced};
 ghost use Rattle.som_meta.specs.Numbering.{AreNumbered, IsNumbered, key_at};
 ghost use Rattle.som_model.specs.Ancestors.{Descends};

@@ -1,3 +1,5 @@
+//! The ancestors of a class, as the definition lists them.
+
 ghost use Rattle.som_model.specs.Ancestors.{anc, anc_within};
 ghost use Rattle.som_model.specs.Lists.{firsts, joined, without};
 ghost use Rattle.som_plain.specs.Rows.{hierarchy_of};

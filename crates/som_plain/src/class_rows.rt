@@ -1,3 +1,5 @@
+//! The parents, own bodies and choices of classes that are plain numbers.
+
 ghost use Rattle.som_plain.specs.Rows.{body_at, choice_at, parents_of};
 ghost use Rattle.std.specs.Prelude.{◌≡◌};
 

@@ -1,3 +1,5 @@
+//! A host of six closures, and what it answers.
+
 ghost use Rattle.som_model.specs.Values.{host_number};
 ghost use Rattle.std.specs.Prelude.{◌≡◌, IfOk};
 

@@ -1,3 +1,5 @@
+//! Descent and the class that answers for a method, as the definitions say.
+
 ghost use Rattle.som_model.specs.Ancestors as definitions;
 ghost use Rattle.som_model.specs.Ancestors.{anc_within, member};
 ghost use Rattle.som_model.specs.Lists.{some};
@@ -15,7 +17,7 @@ pub fn descends(rows: &[List<usize>], x: usize, a: usize) -> bool
     descends_within(rows, x, a, x)
 }
 
-// Whether it does so within so many levels.
+// Whether a class descends from another within so many levels.
 #[cycle(descent)]
 #[tactic(auto, using(crate::proofs::Levels::member_level))]
 fn descends_within(rows: &[List<usize>], x: usize, a: usize, levels: usize) -> bool

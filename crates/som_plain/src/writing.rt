@@ -1,3 +1,5 @@
+//! Names, keys and classes written in short.
+
 ghost use Rattle.som_model.specs.Kernel.{som_object};
 ghost use Rattle.std.specs.Prelude.{◌≡◌, ◌∷◌, [], IfOk, map};
 

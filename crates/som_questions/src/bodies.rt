@@ -1,3 +1,5 @@
+//! Questions on bodies: which class answers for a method, itself or a parent.
+
 ghost use Rattle.som_linked.specs.Linked.{IsMadeIn};
 ghost use Rattle.som_meta.specs.Numbering.{IsNumbered};
 ghost use Rattle.std.specs.Prelude.{◌≡◌, ◌<◌, IfSome};
@@ -75,7 +77,7 @@ fn counted_body<L: Ledger>(
     }
 }
 
-// The same of the parent at a place, for the method that the name means in the class.
+// The class whose body the parent at a place has for the method that the name means in the class, and what that is.
 fn counted_above<L: Ledger>(
     kernel: &Kernel<Linked>,
     class: ClassNo,

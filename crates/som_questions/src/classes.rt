@@ -1,3 +1,5 @@
+//! Questions on classes: versions, parents, descent, metaclasses, hooks, and search by name.
+
 use crate::lines::{first_word, number_of};
 use crate::making::{class_called, made_called};
 use crate::telling::{module_of, told, told_class, told_classes, told_number, told_truth};

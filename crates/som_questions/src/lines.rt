@@ -1,3 +1,5 @@
+//! Lines and words of a text of questions.
+
 use crate::unasked::Unasked;
 
 fn cut_at(text: &[u8], end: u8) -> (&[u8], &[u8]) {
@@ -19,7 +21,7 @@ pub fn first_word(line: &[u8]) -> (&[u8], &[u8]) {
     (word, rest.trim_ascii_start())
 }
 
-/// A number in decimal digits.
+/// A number in decimal digits, where a greater one than four bytes have counts as the greatest; or `Unasked::Line`.
 pub fn number_of(word: &[u8]) -> Result<u32, Unasked> {
     if word.is_empty() {
         return Err(Unasked::Line);

@@ -1,3 +1,5 @@
+//! Classes of a kernel by their names, and the question that makes them.
+
 ghost use Rattle.som_linked.specs.Linked.{IsMadeIn};
 ghost use Rattle.som_meta.specs.Numbering.{IsNumbered};
 ghost use Rattle.std.specs.Prelude.{IfOk};

@@ -1,3 +1,5 @@
+//! Questions on methods: owner, signature, and types.
+
 ghost use Rattle.som_meta.specs.Numbering.{IsToken};
 ghost use Rattle.som_model.specs.Class.{entry_name as name_in};
 ghost use Rattle.std.specs.Prelude.{◌≡◌, ◌<◌, IfOk, IfSome, Some, length, slice_get};

@@ -1,3 +1,5 @@
+//! Each question by its first word, and all lines of a text asked in order.
+
 use crate::bodies::{tell_body, tell_body_above, tell_body_of};
 use crate::classes::{
     tell_descent, tell_found, tell_hooks, tell_is_made, tell_metaclass, tell_parents, tell_version,

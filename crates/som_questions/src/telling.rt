@@ -1,3 +1,5 @@
+//! Words, numbers and class names added to an answer.
+
 ghost use Rattle.som_meta.specs.Numbering.{AreNumbered, IsNumbered};
 
 use itoa::Buffer;

@@ -1,3 +1,5 @@
+//! Why a case of questions wasn't asked to its end.
+
 use som_fields::ImageFault;
 use som_model::NoMemory;
 use std::io;

@@ -1,3 +1,5 @@
+//! Questions on variables: their types and places.
+
 ghost use Rattle.som_linked.specs.Linked.{IsMadeIn};
 ghost use Rattle.som_meta.specs.Numbering.{IsNumbered};
 

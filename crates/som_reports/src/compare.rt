@@ -1,3 +1,5 @@
+//! The comparison of what was wanted with what came.
+
 ghost use Rattle.som_reports.specs.Same.{Same};
 ghost use Rattle.std.specs.Prelude.{◌≡◌, ◌↔◌, IsTrue};
 

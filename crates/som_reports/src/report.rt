@@ -1,3 +1,5 @@
+//! The report of a table: counts, and a line for each difference.
+
 ghost use Rattle.som_reports.specs.Same.{Same};
 ghost use Rattle.std.specs.Prelude.{◌≡◌, ◌≢◌, ◌<◌, OnOk};
 
@@ -7,7 +9,7 @@ use som_model::NoMemory;
 use std::alloc::Global;
 use std::fmt;
 
-/// Where the comparison stands, and of what.
+/// Where a comparison stands in a table: the number of its line, what is compared, and the variables of its row.
 #[derive(Clone, Copy)]
 pub struct Place<'a> {
     pub line: usize,

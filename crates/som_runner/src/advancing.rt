@@ -1,3 +1,5 @@
+//! A task over a linked kernel that goes on by the units granted to it.
+
 ghost use Rattle.som_direct.specs.Counted.{IsDirectRun, IsSearchFree};
 ghost use Rattle.som_exec.specs.Advance.{Comes, Counts, StaysCalm, events_now};
 ghost use Rattle.som_exec.specs.Stands.{IsStanding, Stands};
@@ -63,7 +65,7 @@ pub fn advance<R: Runtime, K: Sink, L: Ledger>(
     answer
 }
 
-// The same of what a task has.
+// The units are granted to the state of a task, and it goes on.
 fn go_on<'a, R: Runtime, K: Sink, L: Ledger>(
     alloc: Global,
     task: &'a mut som_task::Task,

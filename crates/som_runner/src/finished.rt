@@ -1,3 +1,5 @@
+//! The outcome of a run, with the fuel that is left.
+
 use som_exec::Outcome;
 
 /// What a run came to, and, where main is over, the units that are left of its fuel.

@@ -1,3 +1,5 @@
+//! The machine: a task with its kernel, object store, host, sink and trace, as the loop steps it.
+
 ghost use Rattle.som_moves.specs.Scene.{scene};
 ghost use Rattle.som_telling.specs.Filters.{shows_of};
 ghost use Rattle.std.specs.Prelude.{◌∷◌, []};

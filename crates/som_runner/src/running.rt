@@ -1,3 +1,5 @@
+//! Main of a linked kernel run from start to end.
+
 ghost use Rattle.som_direct.specs.Counted.{IsDirectRun, IsSearchFree};
 ghost use Rattle.som_exec.specs.Run.{Counts, LeavesFuel, StaysCalm};
 ghost use Rattle.som_exec.specs.Stands.{Stands};
@@ -52,7 +54,7 @@ pub fn run<R: Runtime, K: Sink, L: Ledger>(
     outcome
 }
 
-/// The same, and where main is over it answers the units too that are left of the fuel, which are those that main's
+/// As `run`, and where main is over it answers the units too that are left of the fuel, which are those that main's
 /// meaning leaves.
 pub fn finish<R: Runtime, K: Sink, L: Ledger>(
     alloc: Global,

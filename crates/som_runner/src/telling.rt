@@ -1,3 +1,5 @@
+//! The line of a fault at the end of a run.
+
 ghost use Rattle.som_io.specs.Outside.{Rose, ShowsAll, ShowsFront};
 ghost use Rattle.som_model.specs.Runs.{Faulted};
 ghost use Rattle.som_telling.specs.Places.{IsPlace, place_of, running_in};

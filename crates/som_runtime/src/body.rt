@@ -1,3 +1,5 @@
+//! A body as a linked kernel shows it to a runner.
+
 use som_model::Block;
 use som_tables::{ClassNo, MToken};
 

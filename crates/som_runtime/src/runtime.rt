@@ -1,3 +1,5 @@
+//! The questions that a runner asks of a linked kernel, with what each answer means.
+
 ghost use Rattle.som_meta.specs.Numbering.{IsToken};
 ghost use Rattle.som_model.specs.Invoked.{class_found};
 ghost use Rattle.som_model.specs.Made.{ComesOf};
@@ -29,7 +31,7 @@ pub trait Runtime: Classes + ClassKeys {
     /// What the kernel says of its numbers.
     ghost linked: { Self → Linked };
 
-    /// The main that runs.
+    /// The block of the main that runs.
     ghost program: { Self → Main };
 
     /// All that is asked speaks of the same classes, which can be loaded; those that are made have their parents and
@@ -56,7 +58,7 @@ pub trait Runtime: Classes + ClassKeys {
         ensures made { OnOk result (Self.made self.new (key_of (Self.keys self.old) class) ≡ true) }
         ensures only { (k : Key) → Self.made self.new k ≡ true → (Self.made self.old k ≡ true) ⊎ ComesOf (Self.known self.old).classes (key_of (Self.keys self.old) class ∷ []) k };
 
-    /// The number of a class.
+    /// The number of the class of a key, which has to have one.
     fn number_of(&self, class: &ClassKey) -> ClassNo
         requires { IsKey (Self.keys self.now) class.now }
         ensures numbered { IsNumbered (Self.keys self.now) result }
@@ -74,7 +76,7 @@ pub trait Runtime: Classes + ClassKeys {
         requires ancestor { IsNumbered (Self.keys self.now) ancestor }
         ensures { result ≡ (Self.world self.now).is_a (key_of (Self.keys self.now) class) (key_of (Self.keys self.now) ancestor) };
 
-    /// The parents of a class.
+    /// The parents of a class, from left to right.
     fn parents(&self, class: ClassNo) -> &List<ClassNo>
         requires { IsNumbered (Self.keys self.now) class }
         ensures numbered { All (IsNumbered (Self.keys self.now)) result.now }
@@ -93,12 +95,12 @@ pub trait Runtime: Classes + ClassKeys {
         ensures token { IsToken (Self.known self.now) result }
         ensures method { (linked self.now).method result ≡ (Self.world self.now).owner method.now };
 
-    /// The signature of a method.
+    /// The types of the parameters and of the result of the method of a token.
     fn signature(&self, method: MToken) -> &Sig
         requires { IsToken (Self.known self.now) method }
         ensures { (Self.world self.now).sig ((linked self.now).method method) ≡ Some result.now };
 
-    /// The method that a name means in a class.
+    /// The token of the method that a name means in a class that is made, or none.
     fn find<L: Ledger>(&self, class: ClassNo, name: &Text, steps: &mut Steps<L>) -> Option<MToken>
         requires numbered { IsNumbered (Self.keys self.now) class }
         requires made { Self.made self.now (key_of (Self.keys self.now) class) ≡ true }
@@ -119,12 +121,12 @@ pub trait Runtime: Classes + ClassKeys {
         ensures body { IsAnswer (Self.world self.now) (linked self.now) class method result }
         ensures cost { steps.new ≡ steps.old + 2 };
 
-    /// The class that somFindClass finds.
+    /// The class that somFindClass finds for a name and a version, made or not, or none.
     fn find_class(&self, name: &Text, major: i32, minor: i32) -> Option<ClassNo>
         ensures numbered { IfSome result (IsNumbered (Self.keys self.now)) }
         ensures key { option_map (key_of (Self.keys self.now)) result ≡ class_found (Self.world self.now) (Str name.now ∷ Long major ∷ Long minor ∷ []) };
 
-    /// The version of a class.
+    /// The major and the minor version of a class.
     fn version(&self, class: ClassNo) -> (u32, u32)
         requires { IsNumbered (Self.keys self.now) class }
         ensures { result ≡ (Self.world self.now).version (key_of (Self.keys self.now) class) };

@@ -1,3 +1,5 @@
+//! An index of names over a diamond, and a search in it.
+
 ghost use Rattle.som_names.specs.Index.{KeepsOthers, named_at};
 ghost use Rattle.som_sample.specs.Names.{IsIndex, named};
 ghost use Rattle.std.specs.Prelude.{◌≡◌, ◌+◌, ◌∷◌, [], None, Some, IfOk, OnOk, length, map};

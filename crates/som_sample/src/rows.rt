@@ -1,3 +1,5 @@
+//! The rows of the sample: ancestors, introduced methods and own bodies of eleven classes.
+
 ghost use Rattle.std.specs.Prelude.{◌≡◌, ◌++◌, ◌∷◌, [], IfOk, OnOk};
 ghost use Rattle.som_sample.specs.Sample.{ancestor_rows, body_rows, token_rows};
 

@@ -1,3 +1,5 @@
+//! The sample hierarchy as an `Ancestry` in memory.
+
 ghost use Rattle.std.specs.Prelude.{◌≡◌, ◌<◌, Some, length, nat_eq, slice_get};
 ghost use Rattle.som_model.specs.Lists.{some};
 ghost use Rattle.som_tables.specs.Rows.{same_token};

@@ -1,3 +1,5 @@
+//! Metaclasses, hooks and forwards of the sample, worked out.
+
 ghost use Rattle.som_meta.specs.Numbering.{key_at, method_at};
 ghost use Rattle.som_meta.specs.declared.plan.MetaPlan.TheVariants.{Derive, Existing};
 ghost use Rattle.som_sample.specs.Sample.{first_meta, library_method, left, lower_too, right, sample as the_sample, second_meta};

@@ -1,3 +1,5 @@
+//! The laws by which the classes of a run can be laid, and what a cell of a laid row is then.
+
 ghost use Rattle.som_laying.specs.Laying.{Bodies, IsBody, IsLaid, IsScheme};
 ghost use Rattle.som_meta.specs.Numbering.{IsToken, key_at, method_at};
 ghost use Rattle.som_model.specs.Ancestors.{Descends};

@@ -1,3 +1,5 @@
+//! A call made: its bodies are left to invoke, or the fault is Nil or Depth.
+
 ghost use Rattle.som_moves.specs.Scene.{scene};
 ghost use Rattle.som_stepping.specs.Stepping.{ComesTo, IsStanding};
 ghost use Rattle.som_task.specs.declared.frames.Now.TheVariants as nows;

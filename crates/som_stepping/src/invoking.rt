@@ -1,3 +1,5 @@
+//! The next body of a call invoked, with its unit of fuel and its trace line.
+
 ghost use Rattle.som_code.specs.declared.instruction.Instruction.{Instruction};
 ghost use Rattle.som_direct.specs.Counted.{AreWithoutHooks, first_looks};
 ghost use Rattle.som_direct.specs.Direct.{AreDirect};

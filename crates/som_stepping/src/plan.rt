@@ -1,3 +1,5 @@
+//! The plan of the next body of a call.
+
 use som_beginning::Begun;
 use som_passing::Role;
 use som_task::Stage;

@@ -1,3 +1,5 @@
+//! How the next body is planned: chosen, tested, paid for, told and laid out.
+
 ghost use Rattle.som_code.specs.declared.instruction.Instruction.{Instruction};
 ghost use Rattle.som_codes.specs.Coded.{AreCodes, Coded};
 ghost use Rattle.som_direct.specs.Counted.{first_looks};

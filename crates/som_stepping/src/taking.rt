@@ -1,3 +1,5 @@
+//! What a body is invoked with, and what waits for its end, out of the bodies that are left.
+
 ghost use Rattle.som_objects.specs.declared.cell.Cell.TheVariants as cells;
 ghost use Rattle.som_objects.specs.declared.cell.Cell.{Cell as Value};
 ghost use Rattle.som_passing.specs.declared.chosen.Role.TheVariants as roles;

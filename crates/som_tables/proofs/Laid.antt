@@ -42,7 +42,7 @@ empty_table {C} = record {
   inside = λ c k from is. absurd (none_is_not_some {A = ℕ} None refl (ap (λ o. is_some o) is));
 }
 
--- the same pages tell the same
+-- where lines have equal pages, blocks begin at equal places
 line_equal : (lines more : List (Option (List (Option ℕ)))) → ((c : ℕ) → found_at more c ≡ found_at lines c) → (starts : List (Option ℕ)) (c a : ℕ) → start_of more starts c a ≡ start_of lines starts c a
 line_equal lines more same starts c a = ap (λ o. start_among (unwrap_or o []) starts a) (same c)
 

@@ -46,7 +46,7 @@ row_at-last_declared cs =
     let none : Option (Added _) = None in
     found-declare cs (length (cs ++ none ∷ []) - 1) ∙ ap option_flatten (slice_get_past cs (length (cs ++ none ∷ []) - 1) (omega (arith, length-append cs (none ∷ []))))
 
--- a row comes of the same rows, whatever classes have none
+-- a row that rows give is given by equal rows too, whatever classes have none
 pub GivesRow_equal : {C : Type 0} (cs ds es : List (Option (Added C))) (n : ℕ) (a : Added C) → ((c : ℕ) → row_at ds c ≡ row_at cs c) → GivesRow ds es n a → GivesRow cs es n a
 GivesRow_equal cs ds es n a same gives t = gives t
     ∙ ap (λ o. option_or (replaced_at a.replaced t) (option_or (own_at n a.introduced t) o)) (first_some_equal (λ p. inherited ds p t) (λ p. inherited cs p t) a.parents (λ p. inherited_equal cs ds same p t))

@@ -55,7 +55,7 @@ IsStart-grown cs n row own start a cells new more is = record {
   same = is.same;
 }
 
--- pages with the same starts tell the same
+-- what has the starts of a page is a page
 pub IsPage-same : {C : Type 0} (cs : List (Option (Added C))) (n : ℕ) (row : Added C) (own : Option ℕ) (k : ℕ) (f g : ℕ → Option ℕ) (cells : List C) → ((p : ℕ) → p < 64 → g p ≡ f p) → IsPage cs n row own k f cells → IsPage cs n row own k g cells
 IsPage-same cs n row own k f g cells same page p lt = subst (λ o. IsStart cs n row own o (k * 64 + p) cells) (sym (same p lt)) (page p lt)
 

@@ -30,7 +30,7 @@ abbrev pub first_some : {A B : Type 0} → (A → Option B) → List A → Optio
 first_some f [] = None
 first_some f (x ∷ xs) = option_or (f x) (first_some f xs)
 
--- both name the same place of the same class
+-- whether two tokens name one place of one class
 abbrev pub same_token : ℕ × ℕ → ℕ × ℕ → Bool
 same_token s t = (s.0 == t.0) && (s.1 == t.1)
 
@@ -47,7 +47,7 @@ own_at c introduced t = if t.0 == c then slice_get introduced t.1 else None
 abbrev pub row_cell : {C : Type 0} → (ℕ → Option C) → ℕ → ℕ × ℕ → Added C → Option C
 row_cell above c t a = option_or (replaced_at a.replaced t) (option_or (own_at c a.introduced t) (first_some above a.parents))
 
--- the same along n levels of parents
+-- the cell of t in the row of class c, along n levels of parents
 abbrev pub inherited_within : {C : Type 0} → List (Option (Added C)) → ℕ × ℕ → ℕ → ℕ → Option C
 inherited_within cs t zero c = None
 inherited_within cs t (suc n) c = option_and_then (row_cell (inherited_within cs t n) c t) (row_at cs c)

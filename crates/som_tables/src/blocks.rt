@@ -1,3 +1,5 @@
+//! The blocks of a row: each holds one class's cells, shared with a parent's row or copied from it.
+
 ghost use Rattle.std.specs.Prelude.{◌≡◌, ◌+◌, ◌<◌, ◌++◌, None, Some, length, IfOk, OnOk, ℕ, slice_get};
 ghost use Rattle.std.specs.Option.{option_or};
 ghost use Rattle.som_tables.specs.Rows.{replaced_at, AreInherited, HaveRowsBelow, introduced_count};
@@ -82,7 +84,8 @@ fn next_block<K: Kind>(
     }
 }
 
-/// The block for a class in the row of another or the same: its own block, or one that it inherits. A class has none for those with higher numbers.
+/// The block for a class in its own row or in another's: its own block, or one that it inherits. A class has none for
+/// those with higher numbers.
 pub(crate) fn block_of<K: Kind>(
     rows: &[Option<Row<K>>],
     lines: &[Option<Line>],

@@ -1,3 +1,5 @@
+//! The number of a class in a table.
+
 ghost use Rattle.std.specs.Prelude.{◌≡◌};
 
 use std::marker::Model;

@@ -1,4 +1,6 @@
-/// What a table is for, which decides what its cells are.
+//! The two kinds of tables: those of methods, and those of variables.
+
+/// What a table is for, methods or variables, which decides what its cells are.
 pub trait Kind {
     type Cell: Copy;
 }

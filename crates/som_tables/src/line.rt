@@ -1,3 +1,5 @@
+//! The pages of a class's row, in which the start of each block is looked up.
+
 ghost use Rattle.std.specs.Prelude.{◌≡◌};
 ghost use Rattle.som_tables.specs.Layout.{found_at, line_at};
 

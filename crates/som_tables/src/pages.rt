@@ -1,3 +1,5 @@
+//! How a row is laid page by page, where pages of a parent are shared that differ in nothing.
+
 ghost use Rattle.std.specs.Prelude.{◌≡◌, ◌≢◌, ◌+◌, ◌/◌, ◌<◌, [], length, true, None, IfOk, OnOk, OnErr, ℕ, List, Option, slice_get};
 ghost use Rattle.som_tables.specs.Rows.{replaced_at, AreInherited, HaveRowsBelow};
 ghost use Rattle.som_tables.specs.Layout.{Extends, IsInside, IsLaid, IsLine, IsPage, IsTable, AreInside, ArePages, found_at, line_at, page_start, start_among, start_of};

@@ -1,3 +1,5 @@
+//! A place in a list, or none, as a number of four bytes.
+
 ghost use Rattle.std.specs.Prelude.{◌≡◌, None, Some, IfOk};
 
 use std::alloc::AllocError;

@@ -1,3 +1,5 @@
+//! What a row is made of: the parents, the introduced cells, and those that replace others.
+
 ghost use Rattle.std.specs.Prelude.{◌≡◌, ◌==◌, ◌/◌, [], false, IfOk, None, ℕ, length};
 ghost use Rattle.som_tables.specs.Layout.{on_page};
 ghost use Rattle.som_tables.specs.Rows.{class_with, introduced_count, replaced_at};

@@ -1,3 +1,5 @@
+//! Pages of starts: where the blocks of 64 classes begin, looked up and compared among parents.
+
 ghost use Rattle.std.specs.Prelude.{◌≡◌, ◌<◌, ◌/◌, ◌%◌, ℕ, List, Option, IfSome};
 ghost use Rattle.std.specs.Option.{option_or};
 ghost use Rattle.som_tables.specs.Rows.{first_some};

@@ -1,3 +1,5 @@
+//! The count of a look-up's steps, which a proof sees and no code keeps.
+
 ghost use Rattle.std.specs.Prelude.{◌≡◌, ◌+◌, ◌<◌, length, slice_get, Some};
 ghost use Rattle.som_tables.specs.Layout.{start_of};
 

@@ -1,3 +1,5 @@
+//! The table: classes get rows, and a cell is found by a class and a token in two reads.
+
 ghost use Rattle.std.specs.Prelude.{◌≡◌, ◌<◌, ◌≤◌, ◌+◌, ◌-◌, ◌++◌, ◌∷◌, [], length, take, slice_set, is_some, IfOk, OnOk, OnErr, Some, None, IsNone};
 ghost use Rattle.som_tables.specs.Rows.{GivesRow, GivesTokens, AreDistinct, AreInherited, HasToken, HaveRows, HaveRowsBelow, IsDeclared, KeepsOtherRows, KeepsRows, class_with, inherited, introduced_count, row_at};
 
@@ -184,7 +186,7 @@ impl<K: Kind> Table<K> {
         }
     }
 
-    /// The same cell as `resolve` gives, with no step counted.
+    /// The cell that `resolve` gives, with no step counted.
     pub fn cell(&self, class: ClassNo, token: Token<K>) -> K::Cell
         requires { HasToken self.now class token }
         ensures { Some result ≡ inherited self.now class token }

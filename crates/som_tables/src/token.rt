@@ -1,3 +1,5 @@
+//! Tokens of methods and of variables: the class that introduced a cell, and its place there.
+
 ghost use Rattle.std.specs.Prelude.{◌≡◌, ⊤, nat_eq};
 ghost use Rattle.std.specs.Ordering.{on, eq_of_both};
 ghost use Rattle.std.specs.Cmp.Rules.{comparing};

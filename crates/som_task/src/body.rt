@@ -1,3 +1,5 @@
+//! A frame of a running body: self, place in its code, locals and operands.
+
 use som_objects::Cell;
 use som_telling::Place;
 use som_values::Reference;

@@ -1,3 +1,5 @@
+//! A call that has passed its tests, and which bodies of hooks and of the method are left to invoke.
+
 use som_objects::Cell;
 use som_tables::{ClassNo, MToken};
 use som_telling::{Manner, Place};

@@ -1,3 +1,5 @@
+//! The frames of a task: what is done next, and what waits for a value.
+
 use crate::{Body, Call, Left};
 use som_objects::{Cell, ObjRef};
 use som_telling::Place;

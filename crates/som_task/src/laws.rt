@@ -24,7 +24,7 @@ ghost use Rattle.som_values.specs.Shown.{IsMade, IsNumbered, key_of, place_of, s
 ghost use Rattle.std.specs.Option.{option_flatten};
 ghost use Rattle.std.specs.Prelude.{◌≡◌, ◌≢◌, ◌≤◌, ◌+◌, ◌++◌, ◌∷◌, [], ℕ, List, None, Ok, Option, Some, false, length, slice_get, slice_set, true};
 
-/// Frames stand for the same, and name what is the task's, where serials and codes are added at the end and the store
+/// Frames stand for what they stood for, and name what is the task's, where serials and codes are added at the end and the store
 /// keeps the references that it knows.
 pub fn frames_law()
     ensures same { (k : Linked) (xs ys : List ℕ) (cs ds : List (List Instruction)) (os : Objects) (f : Frames) →

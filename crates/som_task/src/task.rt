@@ -1,11 +1,13 @@
+//! The state of a task: frames, codes, cells of class objects, serials of its objects, and units granted.
+
 use crate::Frames;
 use som_codes::Codes;
 use som_model::List;
 use som_objects::Cell;
 
-/// A task: its frames, the codes of the bodies that it ran, the variables of class objects by class numbers, where one
-/// was ever written, the serials of its objects in the order in which it made them, the units granted, and whether it
-/// was ever gone on with.
+/// The state of a task, which the Task of `som_exec` holds: its frames, the codes of the bodies that it ran, the variables
+/// of class objects by class numbers, where one was ever written, the serials of its objects in the order in which it made
+/// them, the units granted, and whether it was ever gone on with.
 #[derive(Drop)]
 pub struct Task {
     pub frames: Frames,

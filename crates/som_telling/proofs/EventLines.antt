@@ -41,7 +41,7 @@ call_shown shows prefix r way k e =
     call_text prefix r.class k r.name (way_name way)
     ∙ ap (λ (b : Bool). concat (with_prefix prefix (if b then call_line r way k ∷ [] else []))) (sym e)
 
--- the same of what is known to be these
+-- the pieces of a call's line, of which front, names and word are known to be these
 pub call_pieces : (shows : List ℕ → Bool) (prefix : List ℕ) (k : Numbering) (call : Call) (front name word : List ℕ) (owner class : ℕ) →
     front ≡ prefix → owner ≡ call.method.0 → name ≡ (method_at k call.method).name → word ≡ way_name (manner_of call.manner) → class ≡ call.class
     → shows (class_name (key_at k call.class)) ≡ true

@@ -22,7 +22,7 @@ pub whole : (old new : Option (List ℕ)) (t more : List ℕ) → ShowsAll old n
 whole None new t more p = tt
 whole (Some b) new t more p = (t, refl, p)
 
--- the same for a front
+-- a front of the rest that is shown makes a front of the whole text
 pub front_onward : (first old new : Option (List ℕ)) (text t : List ℕ) → Shows first old text t → ShowsFront old new t → ShowsFront first new text
 front_onward first old new text t p q = (q.0, onward first old new text t q.0 p q.1)
 
@@ -40,7 +40,7 @@ piece_fronts first old new text waiting piece rest p q =
 pub ends_front : (first old new : Option (List ℕ)) (text waiting : List ℕ) → Shows first old text (waiting ++ []) → ShowsFront old new waiting → ShowsFront first new text
 ends_front first old new text waiting p q = front_onward first old new text (waiting ++ []) p (front_longer old new waiting [] q)
 
--- the same of the pieces of a list, the one at a place
+-- the pieces of a list from a place on: the one there, and those after it
 
 next_bytes : (ps : List (Bor (List ℕ))) (i : ℕ) (d : Bor (List ℕ)) → i < length ps → concat (bytes_of (drop i ps)) ≡ (get_or ps i d).now ++ concat (bytes_of (drop (i + 1) ps))
 next_bytes ps i d lt =

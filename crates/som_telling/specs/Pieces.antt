@@ -60,7 +60,7 @@ IsPart k (parts.Name class) = IsNumbered k class
 IsPart k (parts.Rest classes) = AreNumbered k classes.now
 IsPart k parts.End = Unit {0}
 
--- the same of each part
+-- the classes that these parts name are the hierarchy's
 abbrev pub AreParts : Numbering → List Part → Type 0
 AreParts k ps = AllByRecursion (IsPart k) ps
 

@@ -1,3 +1,5 @@
+//! The filter of a trace: which calls it shows.
+
 ghost use Rattle.som_telling.specs.Choices.{Answers, shown_by};
 ghost use Rattle.std.specs.Prelude.{◌≡◌};
 

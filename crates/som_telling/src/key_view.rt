@@ -1,3 +1,5 @@
+//! The key of a class one level deep, and what the lines of a run ask of classes.
+
 ghost use Rattle.som_meta.specs.Numbering.{IsNumbered, IsToken, Numbering, key_at, method_at};
 ghost use Rattle.som_telling.specs.Views.{IsView};
 ghost use Rattle.std.specs.Prelude.{◌≡◌};

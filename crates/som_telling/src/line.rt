@@ -1,3 +1,5 @@
+//! Lines written to a sink in few writes, and why a line wasn't told whole.
+
 ghost use Rattle.som_io.specs.Outside.{Rose, Shows, ShowsAll, ShowsFront};
 ghost use Rattle.som_telling.specs.Pieces.{AreParts, part_pieces};
 ghost use Rattle.som_telling.specs.Told.{bytes_of};

@@ -1,3 +1,5 @@
+//! How a body was reached, with the word that a trace has for it.
+
 ghost use Rattle.som_model.specs.RunText.{way_name};
 ghost use Rattle.som_telling.specs.Events.{manner_of};
 ghost use Rattle.std.specs.Prelude.{◌≡◌};
@@ -14,7 +16,7 @@ pub enum Manner {
     Forward,
 }
 
-/// The word for it in a trace.
+/// The word that a trace has for the manner.
 pub(crate) fn word_of<'a>(manner: Manner) -> &'a [u8]
     ensures { result.now ≡ way_name (manner_of manner) }
 {

@@ -1,3 +1,5 @@
+//! A class's name compared with a text, or built where it is short enough.
+
 ghost use Rattle.som_meta.specs.Numbering.{IsNumbered, key_at};
 ghost use Rattle.som_model.specs.ClassNames.{class_name};
 ghost use Rattle.som_telling.specs.Names.{within};

@@ -1,3 +1,5 @@
+//! The name of a class piece by piece, however long names of made classes are.
+
 ghost use Rattle.som_meta.specs.Numbering.{AreNumbered, IsNumbered, key_at};
 ghost use Rattle.som_telling.specs.Pieces.{AreParts, IsNext, list_pieces, name_pieces, pieces_left, rest_pieces};
 ghost use Rattle.som_telling.specs.declared.pieces.Part.TheVariants as parts;
@@ -34,7 +36,7 @@ pub(crate) fn whole_name<'a>(alloc: Global, class: ClassNo) -> Result<Vec<Part<'
     Ok(left)
 }
 
-/// The same parts, the last first.
+/// Parts in the opposite order, the last first.
 pub(crate) fn last_first<'a>(alloc: Global, parts: &[Part<'a>]) -> Result<Vec<Part<'a>>, NoMemory>
     ensures { IfOk result (λ left. left.items ≡ reverse parts.now) }
 {

@@ -1,3 +1,5 @@
+//! Where a run is: main or a body, by numbers and by names.
+
 ghost use Rattle.som_meta.specs.Numbering.{Numbering};
 ghost use Rattle.som_telling.specs.Places.{IsPlace, place_of, running_in};
 ghost use Rattle.std.specs.Prelude.{◌≡◌, IfOk};
@@ -8,14 +10,14 @@ use som_model::{NoMemory, Text};
 use som_tables::{ClassNo, MToken};
 use std::alloc::Global;
 
-/// Where a run is: in main, or in the body of a class for a method.
+/// Where a run is, by numbers: in main, or in the body of a class for a method.
 #[derive(Clone, Copy)]
 pub enum Place {
     Main,
     Body { class: ClassNo, method: MToken },
 }
 
-/// The same by the name of the class whose body it is, and that of the method.
+/// Where a run is, by names: in main, or in the body of a class of this name for a method of this name.
 #[derive(Drop)]
 pub enum Running {
     Main,

@@ -1,3 +1,5 @@
+//! Whether a trace shows the calls of a class's bodies.
+
 ghost use Rattle.som_meta.specs.Numbering.{IsNumbered, key_at};
 ghost use Rattle.som_model.specs.ClassNames.{class_name};
 ghost use Rattle.som_telling.specs.Choices.{Answers};

@@ -1,3 +1,5 @@
+//! The lines of a run: printed texts, call events, and the fault at the end.
+
 ghost use Rattle.som_io.specs.Outside.{Rose, ShowsAll, ShowsFront};
 ghost use Rattle.som_model.specs.Runs.{Faulted};
 ghost use Rattle.som_model.specs.RunText.{fault_name};

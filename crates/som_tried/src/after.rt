@@ -1,3 +1,5 @@
+//! The files that a command changed in its store.
+
 use som_cases::{File, Files};
 use som_io::{Got, MemStore, Store};
 use som_model::{List, NoMemory, Text};

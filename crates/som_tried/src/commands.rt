@@ -1,3 +1,5 @@
+//! The trait by which commands of cases are run.
+
 use som_host::{HostTable, host_entry, host_table};
 use som_io::{MemSink, MemStore};
 use som_model::{HostCode, List, NoMemory, Text};

@@ -1,3 +1,5 @@
+//! One command over a store and a sink in memory, with calls that are made to fail.
+
 use crate::after::changed_files;
 use crate::commands::{Commands, status_of};
 use som_cases::{File, Files};
@@ -29,7 +31,7 @@ impl Failing {
     }
 }
 
-/// What a command came to.
+/// What a command of a case came to: its text and status, and the files that it changed.
 #[derive(Drop)]
 pub struct Outcome {
     pub answer: Answer,

@@ -1,3 +1,5 @@
+//! The runner of cases: it keeps files, runs commands, and compares what comes.
+
 use crate::commands::Commands;
 use crate::outcome::{Failing, FailingCall, Outcome, outcome_of};
 use som_cases::{
@@ -26,7 +28,7 @@ struct Last {
     open: bool,
 }
 
-/// Runs the cases of tables.
+/// Runs the cases of tables, one table after the other; the fixtures of one stay for the next.
 #[derive(Drop)]
 pub struct Runner {
     alloc: Global,

@@ -1,3 +1,5 @@
+//! Tables read by name from the files of the system, run, and summed up.
+
 use crate::commands::Commands;
 use crate::runner::Runner;
 use som_cases::lines_of;

@@ -88,7 +88,7 @@ module _ (l l' : Linked) (known known' : Numbering) (main main' : Block) (made m
       beside : AreBeside l' known' main' made' os' t' other
       beside = record { one = can_go_on; other_one = other_stands; apart = λ here is n. still_apart is n }
 
-    -- the same, where a call after it answers a value
+    -- it can be gone on with, where a call after it answers a value
     pub can_go_on_ok : {T E : Type 0} (r : Result T E) → OnOk r (CanGoOn l' known' main' made' os' t')
     can_go_on_ok r = on_ok r can_go_on
 
@@ -96,7 +96,7 @@ module _ (l l' : Linked) (known known' : Numbering) (main main' : Block) (made m
     beside_ok (Ok x) was = λ other b. beside was other b
     beside_ok (Err e) was = tt
 
--- the same two tasks, the other one first
+-- two tasks beside each other, the other one first
 pub turned : (l : Linked) (known : Numbering) (main : Block) (made : ClassKey → Bool) (os : Objects) (t other : Task) → AreBeside l known main made os t other → AreBeside l known main made os other t
 turned l known main made os t other b = record { one = b.other_one; other_one = b.one; apart = λ is was n k m. b.apart was is n m k }
 

@@ -1,3 +1,5 @@
+//! How far main has come, with the word for it.
+
 use crate::not_taken::NotTaken;
 use som_exec::{Advanced, Outcome};
 
@@ -9,7 +11,7 @@ pub enum Ending {
     Fault,
 }
 
-/// The word for it.
+/// The word that a line tells for an ending.
 pub fn word_of(ending: Ending) -> &'static str {
     match ending {
         Ending::Going => "going",

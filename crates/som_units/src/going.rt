@@ -1,3 +1,5 @@
+//! A live task advanced beside another over one object store.
+
 ghost use Rattle.som_exec.specs.declared.task.Task.{Task as Waiting};
 ghost use Rattle.som_units.specs.Beside.{AreBeside, CanGoOn};
 ghost use Rattle.std.specs.Prelude.{◌≡◌, ◌<◌, OnOk, true};
@@ -41,7 +43,7 @@ pub fn go_on<R: Runtime>(
     )
 }
 
-// The same, where the steps of look-ups are counted.
+// Goes on with a live task, with the steps of look-ups counted.
 fn go_counted<L: Ledger, R: Runtime>(
     alloc: Global,
     kernel: &mut R,

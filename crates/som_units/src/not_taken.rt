@@ -1,3 +1,5 @@
+//! Why tasks weren't taken to their end.
+
 use som_fields::ImageFault;
 use som_linking::LinkFault;
 use som_model::NoMemory;

@@ -1,3 +1,5 @@
+//! A main run by single units, and a main run at once.
+
 ghost use Rattle.som_units.specs.Beside.{CanGoOn};
 ghost use Rattle.std.specs.Prelude.{OnOk, ◌≡◌, ◌<◌, true};
 
@@ -97,7 +99,7 @@ pub fn run_at_once<R: Runtime>(
     run_counted::<Brand, R>(alloc, kernel, fuel, trace, host, text, Blank::new(1))
 }
 
-// The same, where the steps of look-ups are counted.
+// Runs main at once, with the steps of look-ups counted.
 fn run_counted<L: Ledger, R: Runtime>(
     alloc: Global,
     kernel: &mut R,

@@ -24,7 +24,7 @@ pub same_places : (xs : List ℕ) (m n : ℕ) → place_of xs m < length xs → 
 same_places [] m n p q = absurd (let f : ⊥ = omega (arith, p) in f)
 same_places (x ∷ xs) m n p q = in_front x m n (place_of xs m) (place_of xs n) (length xs) (x == m) (x == n) refl refl (same_places xs m n) p q
 
--- two tests that say the same when they hold are one
+-- two tests are one where each holds when the other does
 one_test : (b c : Bool) → (b ≡ true → c ≡ true) → (c ≡ true → b ≡ true) → b ≡ c
 one_test true true f g = refl
 one_test false false f g = refl

@@ -8,7 +8,7 @@ use Rattle.som_values.specs.declared.stopped.Stopped.{Stopped}
 use Rattle.som_values.specs.declared.stopped.Stopped.TheVariants as stops
 use Rattle.som_values.specs.Shown.{Showing, shown, shown_ref}
 
--- a cell that stands for the value, the same fault, or want of memory
+-- a cell that stands for the meaning's value, the meaning's fault, or want of memory
 abbrev pub Answers : Showing → Result Cell Stopped → Tried Value → Type 0
 Answers s (Ok cell) t = t ≡ Ok (shown s cell)
 Answers s (Err (stops.Fault f)) t = t ≡ Err f
@@ -19,12 +19,12 @@ abbrev pub shown_tried : Showing → Result Cell Fault → Tried Value
 shown_tried s (Ok cell) = Ok (shown s cell)
 shown_tried s (Err f) = Err f
 
--- the same of references
+-- what an answered reference stands for, or the fault
 abbrev pub shown_found : Showing → Result Reference Fault → Tried Ref
 shown_found s (Ok r) = Ok (shown_ref s r)
 shown_found s (Err f) = Err f
 
--- the same of numbers
+-- what an answered number stands for, or the fault
 abbrev pub long_tried : Result ℤ Fault → Tried Value
 long_tried (Ok z) = Ok (Long z)
 long_tried (Err f) = Err f

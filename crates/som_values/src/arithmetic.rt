@@ -1,3 +1,5 @@
+//! Arithmetic on longs, with the faults of overflow and of division by zero.
+
 ghost use Rattle.som_model.specs.State.{Long};
 ghost use Rattle.som_model.specs.Values.{binary, unary};
 ghost use Rattle.som_model.specs.Values as ops;

@@ -1,3 +1,5 @@
+//! What values ask of the classes of a run: descent, metaclasses, and the class manager's class.
+
 ghost use Rattle.som_model.specs.declared.key.ClassKey.{ClassKey};
 ghost use Rattle.som_model.specs.Kernel.{som_class_mgr};
 ghost use Rattle.som_model.specs.World.{World};
@@ -7,7 +9,7 @@ ghost use Rattle.std.specs.Prelude.{◌≡◌, Bool, List, true};
 use som_model::ClassKey as Key;
 use som_tables::ClassNo;
 
-/// The classes of a run, by their numbers.
+/// What values ask of the classes of a run, by their numbers; the classes themselves are the struct of `som_classes`.
 pub trait Classes {
     /// The key that each number stands for.
     ghost keys: { Self → List ClassKey };
@@ -23,7 +25,7 @@ pub trait Classes {
         requires { IsNumbered (keys self.now) class }
         ensures { result ≡ (world self.now).is_a (key_of (keys self.now) class) ancestor.now };
 
-    /// The same of two keys.
+    /// Whether the class of a key is that of another key or descends from it.
     fn is_a(&self, class: &Key, ancestor: &Key) -> bool
         requires { IsKey (keys self.now) class.now }
         ensures { result ≡ (world self.now).is_a class.now ancestor.now };

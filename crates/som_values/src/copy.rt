@@ -1,3 +1,5 @@
+//! Copies of cells, and zero values by type.
+
 ghost use Rattle.som_model.specs.State.{zero_of};
 ghost use Rattle.som_objects.specs.Objects.{Objects};
 ghost use Rattle.som_values.specs.Shown.{IsSeen, Showing, all_shown, shown};

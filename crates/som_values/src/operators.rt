@@ -1,3 +1,5 @@
+//! What operators make of cells: values, or faults.
+
 ghost use Rattle.som_model.specs.State.{Long, Str};
 ghost use Rattle.som_model.specs.Values.{binary as binary_value, binary_op, unary as unary_value, unary_op};
 ghost use Rattle.som_model.specs.Values as ops;

@@ -1,3 +1,5 @@
+//! The text of a value, and the line that `print` shows of it.
+
 ghost use Rattle.som_model.specs.RunText.{printed_line};
 ghost use Rattle.som_model.specs.Values.{text_of as text_in};
 ghost use Rattle.som_values.specs.Shown.{Showing, shown};

@@ -1,3 +1,5 @@
+//! References as a type of their own, taken out of cells and put into them.
+
 ghost use Rattle.som_values.specs.Shown.{cell_of, reference_in};
 ghost use Rattle.std.specs.Prelude.{◌≡◌};
 

@@ -1,3 +1,5 @@
+//! Why an operator answers no value: a fault of the program, or want of memory.
+
 use som_model::{Fault, NoMemory};
 
 /// Why an operator answers no value: the program is at fault, or there is no memory.

@@ -1,3 +1,5 @@
+//! Tests of values against classes and types: conditions, casts, `isa`, and arguments.
+
 ghost use Rattle.som_model.specs.declared.key.ValueType.TheVariants as types;
 ghost use Rattle.som_model.specs.Expressions.{is_true as is_true_in};
 ghost use Rattle.som_model.specs.State.{Heap};

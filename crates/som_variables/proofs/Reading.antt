@@ -134,7 +134,7 @@ module _ (l : Linked) (made : ClassKey → Bool) (xs : List ℕ) (os : Objects) 
       made_of = subst (λ (t : Tried Value). within.Answers t (ValueIn made)) (class_means c n cell is) (read_in made c n (To (ClassObject (key_of l.keys of))) h acts.holding.made_of);
     }
 
--- ---- the same of a reference that is one to an object, or to a class object
+-- ---- what is read through a reference to an object, or to a class object
 
 module _ (l : Linked) (made : ClassKey → Bool) (os : Objects) (statics : Statics) (me : Reference) where
   module _ (r : ObjRef) (is : me ≡ references.Object r) where

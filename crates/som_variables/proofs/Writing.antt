@@ -67,8 +67,6 @@ object_written l linked made xs os os' statics h r c n cell (Err (stops.Fault f)
     ap (λ (b : Bool). if b then Ok (write (Object i) c n (shown (showing l.keys xs) cell) h) else fault) (gone_there l made xs os statics h r acts is.0) ∙ ap (λ x. Err x) (sym is.1)
 object_written l linked made xs os os' statics h r c n cell (Err stops.NoMemory) is acts usable = tt
 
--- a store that is the same holds the same
-
 -- the objects of others stay
 pub others_written : (l : Linked) (os os' : Objects) (r : ObjRef) (c : ClassKey) (n : ℕ) (cell : Cell) (answer : Result (Unit {0}) Stopped) → IsWritten l os os' r c n cell answer → OnErr answer (os' ≡ os)
     → (ys : List ℕ) → (IsMade ys r.serial → ⊥) → Spares ys os os'

@@ -42,7 +42,7 @@ abbrev pub assigned : ClassKey → ℕ → Value → Value → Heap → Tried He
 assigned k n (To r) v h = if is_live h r then Ok (write r k n v h) else Err faults.Freed
 assigned k n _ v h = Err faults.Nil
 
--- the task has the heap that was wanted, or the same fault is answered, or want of memory
+-- the task has the heap of the meaning, or the meaning's fault is answered, or want of memory
 abbrev pub Becomes : Linked → (ClassKey → Bool) → List ℕ → Objects → List (Option (List Cell)) → Result (Unit {0}) Stopped → Tried Heap → Type 0
 Becomes l made xs os statics (Ok _) t = (h : Heap) × (t ≡ Ok h) × Holding l made xs os statics h
 Becomes l made xs os statics (Err (stops.Fault f)) t = t ≡ Err f

@@ -1,3 +1,5 @@
+//! Variables of objects, read and written in the object store.
+
 ghost use Rattle.som_model.specs.Rules.{is_void};
 ghost use Rattle.som_objects.specs.Objects.{HasClass, InRange, IsKnown, KeepsKnown};
 ghost use Rattle.som_values.specs.Shown.{IsNumbered, key_of};
@@ -50,7 +52,7 @@ pub(crate) fn read_object<R: Runtime>(
     }
 }
 
-// The same of an object of this class.
+// The variable of a live object of this class.
 fn read_live<R: Runtime>(
     alloc: Global,
     runtime: &R,
@@ -96,7 +98,7 @@ pub(crate) fn write_object<R: Runtime>(
     }
 }
 
-// The same of an object of this class.
+// The variable of a live object of this class gets the value.
 fn write_live<R: Runtime>(
     runtime: &R,
     objects: &mut ObjectStore,

@@ -1,3 +1,5 @@
+//! Variables of class objects, whose cells are made at the first write.
+
 ghost use Rattle.som_model.specs.Rules.{is_void};
 ghost use Rattle.som_objects.specs.declared.cell.Cell.{Cell as Held};
 ghost use Rattle.som_values.specs.Shown.{IsNumbered, key_of};

@@ -1,3 +1,5 @@
+//! Self's variables, read and assigned, whether self is an object or a class object.
+
 ghost use Rattle.som_model.specs.Expressions.{read as read_in};
 ghost use Rattle.som_model.specs.Rules.{is_void};
 ghost use Rattle.som_model.specs.State.{Heap};
@@ -44,7 +46,7 @@ pub fn read<R: Runtime>(
     }
 }
 
-// The same of what isn't nil.
+// The variable of a self that isn't nil.
 fn read_of<R: Runtime>(
     alloc: Global,
     runtime: &R,
@@ -107,7 +109,7 @@ pub fn assign<R: Runtime>(
     }
 }
 
-// The same of what isn't nil.
+// The variable of a self that isn't nil gets the value.
 fn assign_on<R: Runtime>(
     alloc: Global,
     runtime: &R,

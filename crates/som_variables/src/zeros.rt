@@ -1,3 +1,5 @@
+//! Zero values by type, and the cells of a new object.
+
 ghost use Rattle.som_model.specs.State.{zero_of as zero_value};
 ghost use Rattle.som_objects.specs.Objects.{Objects};
 ghost use Rattle.som_task.specs.Own.{IsOwn};
