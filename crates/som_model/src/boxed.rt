@@ -7,9 +7,15 @@ use std::alloc::Global;
 use std::marker::Model;
 
 /// A `Box`, which contracts see as the value in it: what lies where in memory is no part of that value.
-#[derive(Drop)]
 pub struct Boxed<T> {
     inner: Box<T>,
+}
+
+impl<T: Drop> Drop for Boxed<T> {
+    fn drop(self) {
+        let Boxed { inner } = self;
+        drop(inner);
+    }
 }
 
 impl<T> Model for Boxed<T> {

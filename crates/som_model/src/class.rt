@@ -5,10 +5,17 @@ use crate::syntax::Block;
 use crate::{List, Text};
 
 /// The signature of a method. The names of parameters are no part of it.
-#[derive(Drop)]
 pub struct Sig {
     pub result: ValueType,
     pub params: List<ValueType>,
+}
+
+impl Drop for Sig {
+    fn drop(self) {
+        let Sig { result, params } = self;
+        drop(result);
+        drop(params);
+    }
 }
 
 /// How `e.m(..)` calls a method: by its place in the release order, or by its name.
@@ -19,14 +26,27 @@ pub enum Way {
 }
 
 /// An entry of a release order: a method that the class introduces, or one that was moved up to an ancestor.
-#[derive(Drop)]
 pub enum Entry {
     Introduced { name: Text, sig: Sig, way: Way },
     Moved { name: Text, to: ClassKey },
 }
 
+impl Drop for Entry {
+    fn drop(self) {
+        match self {
+            Entry::Introduced { name, sig, way: _ } => {
+                drop(name);
+                drop(sig);
+            }
+            Entry::Moved { name, to } => {
+                drop(name);
+                drop(to);
+            }
+        }
+    }
+}
+
 /// What others see of a class. The entries are its effective release order.
-#[derive(Drop)]
 pub struct ClassFace {
     pub name: Text,
     pub major: u32,
@@ -36,33 +56,79 @@ pub struct ClassFace {
     pub entries: List<Entry>,
 }
 
+impl Drop for ClassFace {
+    fn drop(self) {
+        let ClassFace {
+            name,
+            major: _,
+            minor: _,
+            parents,
+            metaclass,
+            entries,
+        } = self;
+        drop(name);
+        drop(parents);
+        drop(metaclass);
+        drop(entries);
+    }
+}
+
 /// An instance variable, which only the bodies of its class see.
-#[derive(Drop)]
 pub struct Variable {
     pub name: Text,
     pub kind: ValueType,
 }
 
+impl Drop for Variable {
+    fn drop(self) {
+        let Variable { name, kind } = self;
+        drop(name);
+        drop(kind);
+    }
+}
+
 /// The body of a method: a block, or one that reads or writes the variable at a place.
-#[derive(Drop)]
 pub enum Body {
     User(Block),
     Get(u8),
     Set(u8),
 }
 
+impl Drop for Body {
+    fn drop(self) {
+        match self {
+            Body::User(it) => drop(it),
+            Body::Get(_) => {}
+            Body::Set(_) => {}
+        }
+    }
+}
+
 /// A body for a method that an ancestor introduces.
-#[derive(Drop)]
 pub struct Override {
     pub method: MethodRef,
     pub block: Block,
 }
 
+impl Drop for Override {
+    fn drop(self) {
+        let Override { method, block } = self;
+        drop(method);
+        drop(block);
+    }
+}
+
 /// The body that a parent, by its place among the parents, has for a method that an ancestor introduces.
-#[derive(Drop)]
 pub struct Select {
     pub method: MethodRef,
     pub parent: u8,
+}
+
+impl Drop for Select {
+    fn drop(self) {
+        let Select { method, parent: _ } = self;
+        drop(method);
+    }
 }
 
 /// A class as it is declared. There is one body for each introduced entry, in their order. A method that

@@ -13,7 +13,6 @@ pub enum Module {
 }
 
 /// The name of a class: a declared one by its module and name, a made one by what it is made of.
-#[derive(Drop)]
 pub enum ClassKey {
     Named { module: Module, name: Text },
     /// The metaclass that is derived from several.
@@ -22,8 +21,17 @@ pub enum ClassKey {
     Proxy { of: Boxed<ClassKey> },
 }
 
+impl Drop for ClassKey {
+    fn drop(self) {
+        match self {
+            ClassKey::Named { module: _, name } => drop(name),
+            ClassKey::Derived { parents } => drop(parents),
+            ClassKey::Proxy { of } => drop(of),
+        }
+    }
+}
+
 /// The type of a value; `Void` is the result of a method that answers nothing.
-#[derive(Drop)]
 pub enum ValueType {
     Void,
     Long,
@@ -32,9 +40,28 @@ pub enum ValueType {
     Class(ClassKey),
 }
 
+impl Drop for ValueType {
+    fn drop(self) {
+        match self {
+            ValueType::Void => {}
+            ValueType::Long => {}
+            ValueType::Boolean => {}
+            ValueType::Str => {}
+            ValueType::Class(it) => drop(it),
+        }
+    }
+}
+
 /// The name of a method: a class, and the name of one of its entries.
-#[derive(Drop)]
 pub struct MethodRef {
     pub class: ClassKey,
     pub name: Text,
+}
+
+impl Drop for MethodRef {
+    fn drop(self) {
+        let MethodRef { class, name } = self;
+        drop(class);
+        drop(name);
+    }
 }

@@ -5,9 +5,15 @@ use crate::class::{ClassDecl, ClassFace};
 use crate::syntax::Block;
 
 /// What a client is compiled against: the faces of a release's classes.
-#[derive(Drop)]
 pub struct Interface {
     pub classes: List<ClassFace>,
+}
+
+impl Drop for Interface {
+    fn drop(self) {
+        let Interface { classes } = self;
+        drop(classes);
+    }
 }
 
 /// A release of a class library.

@@ -12,9 +12,15 @@ use std::rc::Rc;
 
 /// A text: any bytes. Texts are ordered by their bytes. A text that was made of a slice shares its bytes with its copies,
 /// so that a name is there once however often it is named; one that was made of a vector has them for itself.
-#[derive(Drop)]
 pub struct Text {
     bytes: TextBytes,
+}
+
+impl Drop for Text {
+    fn drop(self) {
+        let Text { bytes } = self;
+        drop(bytes);
+    }
 }
 
 impl Model for Text {

@@ -9,6 +9,6 @@ returns-clause-ok c =
     let old = files_among c.args.files.now.entries in
     let name = c.in_ok-copy.field-0 in
     let bytes = c.in_ok-copy-2.field-0 in
-    files_among-one c.args.files.now.entries c.insert-2.new.self.entries name bytes c.in_ok-insert.ensures.updates.0
+    files_among-one c.args.files.now.entries c.insert.new.self.entries name bytes c.in_ok-insert.ensures.updates.0
     ∙ ap (λ k. finmap.insert old k bytes) c.in_ok-copy.ensures
     ∙ ap (finmap.insert old c.args.name.now) c.in_ok-copy-2.ensures
