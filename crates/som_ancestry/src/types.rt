@@ -11,11 +11,18 @@ pub struct Declared<'a> {
 }
 
 /// A rule that is broken, the class, and the member; a member that doesn't apply is `-`.
-#[derive(Drop)]
 pub struct Broken {
     pub rule: u8,
     pub class: Text,
     pub member: Text,
+}
+
+impl Drop for Broken {
+    fn drop(self) {
+        let Broken { rule: _, class, member } = self;
+        drop(class);
+        drop(member);
+    }
 }
 
 /// Why a release isn't known to keep the rules.

@@ -24,10 +24,17 @@ use std::mem;
 use std::sync::ledger::Ledger;
 
 /// The rows of the classes of a run: for each method the number of the body that a class has for it. A class has a row from when it is filled.
-#[derive(Drop)]
 pub struct Bodies {
     table: Table<MethodKind>,
     all: List<BodyAt>,
+}
+
+impl Drop for Bodies {
+    fn drop(self) {
+        let Bodies { table, all } = self;
+        drop(table);
+        drop(all);
+    }
 }
 
 impl Model for Bodies {

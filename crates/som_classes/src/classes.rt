@@ -35,13 +35,23 @@ use std::marker::Model;
 
 /// The classes of a run by their numbers, and the tokens of their methods; the trait of this name in `som_values` is what
 /// values ask. Contracts see the declared classes, and the key that each number stands for.
-#[derive(Drop)]
 pub struct Classes {
     numbers: Numbers,
     owners: Owners,
     members: Members,
     introduced: List<List<MToken>>,
     none: List<MToken>,
+}
+
+impl Drop for Classes {
+    fn drop(self) {
+        let Classes { numbers, owners, members, introduced, none } = self;
+        drop(numbers);
+        drop(owners);
+        drop(members);
+        drop(introduced);
+        drop(none);
+    }
 }
 
 impl Model for Classes {

@@ -31,9 +31,15 @@ impl Stage for Unlinked {}
 impl Stage for Linked {}
 
 /// A kernel. Contracts see what its stage holds: of a linked one its classes, its main, and what there is of the classes that are made.
-#[derive(Drop)]
 pub struct Kernel<S: Stage> {
     pub(crate) stage: S,
+}
+
+impl<S: Stage + Drop> Drop for Kernel<S> {
+    fn drop(self) {
+        let Kernel { stage } = self;
+        drop(stage);
+    }
 }
 
 impl<S: Stage> Model for Kernel<S> {

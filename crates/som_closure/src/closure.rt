@@ -21,10 +21,17 @@ use std::marker::Model;
 
 /// The classes of a run, and the metaclass of each. Contracts see the declared classes, and the key that each number stands for; with these the metaclasses
 /// are told by the definition.
-#[derive(Drop)]
 pub struct Closure {
     classes: Classes,
     metas: List<ClassNo>,
+}
+
+impl Drop for Closure {
+    fn drop(self) {
+        let Closure { classes, metas } = self;
+        drop(classes);
+        drop(metas);
+    }
 }
 
 impl Model for Closure {

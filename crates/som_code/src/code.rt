@@ -8,9 +8,15 @@ use std::marker::Model;
 
 /// The code of a body, which contracts see as its instructions. Wherever a run of it stands there is an
 /// instruction, and each jump leads on, or back to a `Turn`.
-#[derive(Drop)]
 pub struct Code {
     instructions: Vec<Instruction>,
+}
+
+impl Drop for Code {
+    fn drop(self) {
+        let Code { instructions } = self;
+        drop(instructions);
+    }
 }
 
 impl Model for Code {

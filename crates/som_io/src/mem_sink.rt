@@ -13,10 +13,17 @@ use std::alloc::Global;
 
 /// A sink in memory, of which calls can be set to fail.
 /// Its clauses say which call fails, so they are more than those of `Sink`, which follow from them.
-#[derive(Drop)]
 pub struct MemSink {
     bytes: List<u8>,
     counter: Counter,
+}
+
+impl Drop for MemSink {
+    fn drop(self) {
+        let MemSink { bytes, counter } = self;
+        drop(bytes);
+        drop(counter);
+    }
 }
 
 impl MemSink {

@@ -21,12 +21,20 @@ use std::collections::BTreeMap;
 
 /// A store in memory, of which calls can be set to fail. A put that fails leaves what was said of it, and else the old bytes.
 /// Its clauses say which call fails, so they are more than those of `Store`, which follow from them.
-#[derive(Drop)]
 pub struct MemStore {
     alloc: Global,
     files: BTreeMap<Text, List<u8>>,
     counter: Counter,
     failing: Vec<FailingPut>,
+}
+
+impl Drop for MemStore {
+    fn drop(self) {
+        let MemStore { alloc: _, files, counter, failing } = self;
+        drop(files);
+        drop(counter);
+        drop(failing);
+    }
 }
 
 // What stands under a name.

@@ -24,12 +24,21 @@ use std::marker::Model;
 
 /// What a linked kernel holds: its classes, the main that they were linked with, the methods that declared classes introduce, and of the classes that are
 /// made their rows, names and hooks.
-#[derive(Drop)]
 pub struct Linked {
     pub(crate) closure: Closure,
     pub(crate) main: Block,
     pub(crate) methods: List<List<MethodEntry>>,
     pub(crate) parts: MadeClasses,
+}
+
+impl Drop for Linked {
+    fn drop(self) {
+        let Linked { closure, main, methods, parts } = self;
+        drop(closure);
+        drop(main);
+        drop(methods);
+        drop(parts);
+    }
 }
 
 impl Model for Linked {

@@ -21,13 +21,23 @@ use som_tables::ClassNo;
 use std::alloc::Global;
 
 /// What there is of the classes that are made: rows, names and hooks. A class counts as made once all of them stand.
-#[derive(Drop)]
 pub struct MadeClasses {
     pub bodies: Bodies,
     pub places: Places,
     pub names: NameIndex,
     pub made: Vec<bool>,
     pub hooks: Vec<List<ClassNo>>,
+}
+
+impl Drop for MadeClasses {
+    fn drop(self) {
+        let MadeClasses { bodies, places, names, made, hooks } = self;
+        drop(bodies);
+        drop(places);
+        drop(names);
+        drop(made);
+        drop(hooks);
+    }
 }
 
 /// So many marks, none of them set.

@@ -17,9 +17,15 @@ use som_tables::{ClassNo, MToken};
 use std::alloc::Global;
 
 /// For each declared class the tokens of the methods that it overrides, and of those for which it selects a parent.
-#[derive(Drop)]
 pub struct Members {
     own: List<Own>,
+}
+
+impl Drop for Members {
+    fn drop(self) {
+        let Members { own } = self;
+        drop(own);
+    }
 }
 
 fn all_tokens(alloc: Global, numbers: &Numbers, owners: &Owners) -> Result<List<Own>, NoMemory>

@@ -12,9 +12,15 @@ use std::marker::Model;
 use std::sync::ledger::Ledger;
 
 /// For each class the methods that it introduces by their names, and its ancestors. A name stands once, whatever classes inherit it.
-#[derive(Drop)]
 pub struct NameIndex {
     classes: HashMap<ClassNo, Named>,
+}
+
+impl Drop for NameIndex {
+    fn drop(self) {
+        let NameIndex { classes } = self;
+        drop(classes);
+    }
 }
 
 impl Model for NameIndex {

@@ -18,10 +18,17 @@ use som_model::{ClassFace, ClassKey, Entry, List, Module, NoMemory, Release, Tex
 use std::alloc::Global;
 
 /// What class numbers and slots stand for: the key of each class, and the names of its entries.
-#[derive(Drop)]
 pub struct Directory {
     pub keys: List<ClassKey>,
     pub slots: List<List<Text>>,
+}
+
+impl Drop for Directory {
+    fn drop(self) {
+        let Directory { keys, slots } = self;
+        drop(keys);
+        drop(slots);
+    }
 }
 
 impl Directory {

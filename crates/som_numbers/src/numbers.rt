@@ -32,7 +32,6 @@ const MOST_NUMBERS: usize = 4_294_967_294;
 
 /// The classes of a run by their numbers: the declared ones by their places, and after them those that are made of others, in the order in which they
 /// were first asked for. Contracts see the declared classes, and the key that each number stands for.
-#[derive(Drop)]
 pub struct Numbers {
     classes: List<Keyed>,
     positions: List<Position>,
@@ -40,6 +39,17 @@ pub struct Numbers {
     highest: u8,
     table: MadeTable,
     marks: Vec<bool>,
+}
+
+impl Drop for Numbers {
+    fn drop(self) {
+        let Numbers { classes, positions, names, highest: _, table, marks } = self;
+        drop(classes);
+        drop(positions);
+        drop(names);
+        drop(table);
+        drop(marks);
+    }
 }
 
 impl Model for Numbers {

@@ -14,10 +14,16 @@ use std::alloc::Global;
 use std::marker::Model;
 
 /// All objects that were made, by their serials. An object that was freed leaves its key to a later one.
-#[derive(Drop)]
 pub struct ObjectStore {
     slots: Slab<Slot>,
     made: u64,
+}
+
+impl Drop for ObjectStore {
+    fn drop(self) {
+        let ObjectStore { slots, made: _ } = self;
+        drop(slots);
+    }
 }
 
 impl Model for ObjectStore {

@@ -14,9 +14,15 @@ use som_tables::{ClassNo, MToken, Token};
 use std::alloc::Global;
 
 /// For each declared class the tokens of its entries, in their order: those of the methods that own them.
-#[derive(Drop)]
 pub struct Owners {
     tokens: List<List<MToken>>,
+}
+
+impl Drop for Owners {
+    fn drop(self) {
+        let Owners { tokens } = self;
+        drop(tokens);
+    }
 }
 
 fn token_in(tokens: &[MToken], place: usize) -> MToken

@@ -19,10 +19,17 @@ use std::alloc::Global;
 use std::marker::Model;
 
 /// Rows of the places of variables, and of each class that has one the types of the variables of its objects by their places.
-#[derive(Drop)]
 pub struct Places {
     table: Table<DataKind>,
     variables: Vec<Option<List<ValueType>>>,
+}
+
+impl Drop for Places {
+    fn drop(self) {
+        let Places { table, variables } = self;
+        drop(table);
+        drop(variables);
+    }
 }
 
 impl Model for Places {

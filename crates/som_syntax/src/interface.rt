@@ -35,10 +35,17 @@ pub enum Export {
     },
 }
 
-#[derive(Drop)]
 pub struct Param {
     pub kind: TypeName,
     pub name: Word,
+}
+
+impl Drop for Param {
+    fn drop(self) {
+        let Param { kind, name } = self;
+        drop(kind);
+        drop(name);
+    }
 }
 
 /// An item of an implementation section.
@@ -67,11 +74,21 @@ pub enum Item {
 }
 
 /// What an item says of a method of this class.
-#[derive(Drop)]
 pub enum Modifier {
     Override,
     NameLookup,
     Offset,
     /// The method's implementation is that of a parent.
     Select { parent: Word },
+}
+
+impl Drop for Modifier {
+    fn drop(self) {
+        match self {
+            Modifier::Override => {}
+            Modifier::NameLookup => {}
+            Modifier::Offset => {}
+            Modifier::Select { parent } => drop(parent),
+        }
+    }
 }

@@ -14,12 +14,21 @@ use std::marker::Model;
 use std::sync::ledger::Ledger;
 
 /// Classes by their numbers, each with a row or none so far. Contracts see for each number what its row is made of, or nothing.
-#[derive(Drop)]
 pub struct Table<K: Kind> {
     rows: Vec<Option<Row<K>>>,
     lines: Vec<Option<Line>>,
     starts: Vec<Place>,
     cells: Vec<K::Cell>,
+}
+
+impl<K: Kind + Drop> Drop for Table<K> {
+    fn drop(self) {
+        let Table { rows, lines, starts, cells } = self;
+        drop(rows);
+        drop(lines);
+        drop(starts);
+        drop(cells);
+    }
 }
 
 impl<K: Kind> Model for Table<K> {

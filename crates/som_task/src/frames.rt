@@ -66,8 +66,15 @@ pub enum Waiting {
 }
 
 /// What a task does next, and what waits, the one that waits for it last.
-#[derive(Drop)]
 pub struct Frames {
     pub now: Now,
     pub waiting: Vec<Waiting>,
+}
+
+impl Drop for Frames {
+    fn drop(self) {
+        let Frames { now, waiting } = self;
+        drop(now);
+        drop(waiting);
+    }
 }
