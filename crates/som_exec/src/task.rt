@@ -6,16 +6,10 @@ use som_model::List;
 
 /// A task as its user holds it, around the state that is the Task of `som_task`. It can be gone on with as long as it is
 /// live.
+#[derive(Drop)]
 pub struct Task {
     pub task: som_task::Task,
     pub live: bool,
-}
-
-impl Drop for Task {
-    fn drop(self) {
-        let Task { task, live: _ } = self;
-        drop(task);
-    }
 }
 
 impl Task {

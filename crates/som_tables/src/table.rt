@@ -21,7 +21,7 @@ pub struct Table<K: Kind> {
     cells: Vec<K::Cell>,
 }
 
-impl<K: Kind + Drop> Drop for Table<K> {
+impl<K: Kind> Drop for Table<K> {
     fn drop(self) {
         let Table { rows, lines, starts, cells } = self;
         drop(rows);
