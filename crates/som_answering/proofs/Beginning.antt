@@ -28,12 +28,12 @@ use Rattle.som_task.specs.Standing.{body_shown}
 use Rattle.std.proofs.lemmas.List.{length-map}
 use Rattle.som_runtime.specs.Asked.{IsClosed}
 use Rattle.som_runtime.specs.Holding.{IsUsable}
-use Rattle.som_passing.specs.Named.{IsMadeClass}
+use Rattle.som_runtime.specs.Named.{IsMadeClass}
 use Rattle.som_answering.proofs.Firsts.{get_map}
 use Rattle.som_moves.specs.declared.stop.Stop.{Stop}
 use Rattle.som_moves.specs.Scene.{Scene, scene, setting_of}
 use Rattle.som_instructions.specs.Cells.{values_of}
-use Rattle.som_obeying.specs.Obeying.{act_of, next_of}
+use Rattle.som_moves.specs.NextInstruction.{act_of, next_of}
 use Rattle.som_answering.specs.Calling.{ComesTo}
 use Rattle.som_answering.specs.Parents.{Nexts}
 use Rattle.som_answering.proofs.Arguments.{arguments_shown, kept_shown}

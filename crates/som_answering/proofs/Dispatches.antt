@@ -36,13 +36,13 @@ use Rattle.som_task.specs.Standing.{body_shown, place_shown}
 use Rattle.som_task.specs.Own.{IsOwn, IsOwnPlace, IsOwnWaiting}
 use Rattle.som_task.proofs.Lists.{all_more}
 use Rattle.som_runtime.specs.Holding.{IsUsable}
-use Rattle.som_passing.specs.Named.{HaveOwner, IsOnLive, IsUsableCall, Owner}
+use Rattle.som_runtime.specs.Named.{HaveOwner, IsOnLive, IsUsableCall, Owner}
 use Rattle.som_moves.specs.declared.stop.Stop.{Stop}
 use Rattle.som_moves.specs.Scene.{IsFineWaiting, Scene, scene, setting_of}
 use Rattle.som_instructions.specs.Cells.{lower_cells, top_cell, values_of}
 use Rattle.som_answering.specs.Answering.{Meets, Resumes, answer_to}
 use Rattle.som_answering.specs.Calling.{ComesTo, PassesIn}
-use Rattle.som_obeying.specs.Obeying.{Runs, act_of, next_of}
+use Rattle.som_moves.specs.NextInstruction.{Runs, act_of, next_of}
 use Rattle.som_answering.proofs.Arguments.{all_lower, all_top, arguments_shown, below_shown, nil_usable, receiver_shown, usable, values_in}
 use Rattle.som_answering.proofs.Growing.{none, put}
 use Rattle.som_answering.proofs.Offset.{kept, taken}

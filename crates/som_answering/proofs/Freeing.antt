@@ -35,7 +35,7 @@ use Rattle.som_moves.specs.declared.stop.Stop.TheVariants as stops
 use Rattle.som_moves.specs.Scene.{IsFineWaiting, Scene, scene, setting_of}
 use Rattle.som_moves.specs.Moving.{Failed, Keeps}
 use Rattle.som_answering.specs.Answering.{Resumes, answer_to}
-use Rattle.som_obeying.specs.Obeying.{stop_at}
+use Rattle.som_moves.specs.NextInstruction.{stop_at}
 use Rattle.som_answering.proofs.Growing.{around_later, none}
 use Rattle.som_moves.proofs.Untold.{at_state}
 

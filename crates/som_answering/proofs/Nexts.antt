@@ -36,7 +36,7 @@ use Rattle.som_task.specs.Own.{AreOwn, IsOwn, IsOwnMe, IsOwnPlace, IsOwnWaiting}
 use Rattle.som_task.proofs.Lists.{all_more}
 use Rattle.som_runtime.specs.Asked.{IsClosed}
 use Rattle.som_runtime.specs.Holding.{IsUsable, IsUsableMe}
-use Rattle.som_passing.specs.Named.{IsMadeClass, IsOnLive, IsUsableCall}
+use Rattle.som_runtime.specs.Named.{IsMadeClass, IsOnLive, IsUsableCall}
 use Rattle.som_moves.specs.declared.stop.Stop.{Stop}
 use Rattle.som_moves.specs.Scene.{Around, IsFineWaiting, Scene, scene, setting_of}
 use Rattle.som_answering.specs.Calling.{PassesIn}

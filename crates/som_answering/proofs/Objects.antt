@@ -31,11 +31,11 @@ use Rattle.som_task.specs.Settings.{Linked, Setting, class_named, shows}
 use Rattle.som_task.specs.Standing.{body_shown, place_shown}
 use Rattle.som_task.specs.Own.{IsOwnPlace, IsOwnWaiting}
 use Rattle.som_runtime.specs.Holding.{Holding, IsUsable}
-use Rattle.som_passing.specs.Named.{HaveOwner, IsOnLive, IsUsableCall, Owner}
+use Rattle.som_runtime.specs.Named.{HaveOwner, IsOnLive, IsUsableCall, Owner}
 use Rattle.som_moves.specs.declared.stop.Stop.{Stop}
 use Rattle.som_moves.specs.Scene.{IsFineWaiting, Scene, scene, setting_of}
 use Rattle.som_answering.specs.Calling.{ComesTo, PassesIn}
-use Rattle.som_obeying.specs.Obeying.{Runs, act_of, next_of}
+use Rattle.som_moves.specs.NextInstruction.{Runs, act_of, next_of}
 use Rattle.som_answering.proofs.Arguments.{usable_operands}
 use Rattle.som_answering.proofs.Growing.{none, put}
 use Rattle.som_answering.proofs.Passing.{passed_went, stop_moved}

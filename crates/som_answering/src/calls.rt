@@ -1,7 +1,7 @@
 //! Calls by reference, by name, and of one parent's body.
 
 ghost use Rattle.som_answering.specs.Calling.{ComesTo, HasPushed};
-ghost use Rattle.som_obeying.specs.Obeying.{next_of};
+ghost use Rattle.som_moves.specs.NextInstruction.{next_of};
 ghost use Rattle.som_code.specs.declared.instruction.Instruction.TheVariants as ops;
 ghost use Rattle.som_model.specs.declared.key.MethodRef.{MethodRef};
 ghost use Rattle.som_meta.specs.Numbering.{Numbering};
@@ -15,7 +15,7 @@ ghost use Rattle.som_task.specs.Standing.{here_shown};
 ghost use Rattle.som_values.specs.Shown.{key_of};
 ghost use Rattle.som_moves.specs.declared.stop.Stop.{Stop as Stopping};
 ghost use Rattle.som_moves.specs.declared.stop.Stop.TheVariants as stops;
-ghost use Rattle.som_passing.specs.Named.{IsMadeClass, Owner};
+ghost use Rattle.som_runtime.specs.Named.{IsMadeClass, Owner};
 ghost use Rattle.som_runtime.specs.Holding.{IsUsable};
 ghost use Rattle.som_task.specs.declared.task.Task.{Task};
 ghost use Rattle.std.specs.List.{All};

@@ -1,7 +1,7 @@
 //! `new C`: somNew called on the class object.
 
 ghost use Rattle.som_answering.specs.Calling.{ComesTo};
-ghost use Rattle.som_obeying.specs.Obeying.{IfTold, next_of};
+ghost use Rattle.som_moves.specs.NextInstruction.{IfTold, next_of};
 ghost use Rattle.som_code.specs.declared.instruction.Instruction.TheVariants as ops;
 ghost use Rattle.som_model.specs.Made.{ComesOf};
 ghost use Rattle.som_model.specs.State.{Used};
@@ -9,7 +9,7 @@ ghost use Rattle.som_model.specs.declared.key.ClassKey.{ClassKey};
 ghost use Rattle.som_moves.specs.Scene.{scene};
 ghost use Rattle.som_moves.specs.declared.stop.Stop.{Stop as Stopping};
 ghost use Rattle.som_moves.specs.declared.stop.Stop.TheVariants as stops;
-ghost use Rattle.som_passing.specs.Named.{Owner};
+ghost use Rattle.som_runtime.specs.Named.{Owner};
 ghost use Rattle.som_task.specs.declared.frames.Waiting.TheVariants as waits;
 ghost use Rattle.som_task.specs.declared.task.Task.{Task};
 ghost use Rattle.som_values.specs.Shown.{IsNumbered, key_of};

@@ -2,7 +2,7 @@
 
 ghost use Rattle.som_answering.specs.Answering.{IsMet, Resumes};
 ghost use Rattle.som_answering.specs.Calling.{ComesTo, PassesIn};
-ghost use Rattle.som_obeying.specs.Obeying.{next_of};
+ghost use Rattle.som_moves.specs.NextInstruction.{next_of};
 ghost use Rattle.som_code.specs.declared.instruction.Instruction.{Instruction};
 ghost use Rattle.som_code.specs.declared.instruction.Instruction.TheVariants as ops;
 ghost use Rattle.som_codes.specs.Coded.{codes_of};
@@ -12,7 +12,7 @@ ghost use Rattle.som_model.specs.declared.key.ValueType.{ValueType as Kind};
 ghost use Rattle.som_model.specs.declared.key.ValueType.TheVariants as types;
 ghost use Rattle.som_moves.specs.Scene.{scene};
 ghost use Rattle.som_objects.specs.declared.cell.Cell.TheVariants as cells;
-ghost use Rattle.som_passing.specs.Named.{HaveOwner, IsOnLive, IsUsableCall, Owner, setting};
+ghost use Rattle.som_runtime.specs.Named.{HaveOwner, IsOnLive, IsUsableCall, Owner, setting};
 ghost use Rattle.som_runtime.specs.Holding.{IsUsable};
 ghost use Rattle.som_task.specs.Own.{IsOwnPlace};
 ghost use Rattle.som_task.specs.Settings.{instruction_at, result_wanted};

@@ -3,14 +3,14 @@
 ghost use Rattle.som_answering.specs.Calling.{ComesTo};
 ghost use Rattle.som_answering.specs.Parents.{IsFirst, IsNone, Nexts};
 ghost use Rattle.som_code.specs.declared.instruction.Instruction.TheVariants as ops;
-ghost use Rattle.som_obeying.specs.Obeying.{next_of};
+ghost use Rattle.som_moves.specs.NextInstruction.{next_of};
 ghost use Rattle.som_used.specs.Needs.{PlaceIn};
 ghost use Rattle.som_codes.specs.Coded.{codes_of};
 ghost use Rattle.som_model.specs.Calls.{class_here, parent_at as parent_in};
 ghost use Rattle.som_model.specs.declared.key.MethodRef.{MethodRef};
 ghost use Rattle.som_moves.specs.Scene.{scene};
 ghost use Rattle.som_objects.specs.Objects.{Objects};
-ghost use Rattle.som_passing.specs.Named.{IsMadeClass, setting};
+ghost use Rattle.som_runtime.specs.Named.{IsMadeClass, setting};
 ghost use Rattle.som_task.specs.Own.{IsOwnPlace};
 ghost use Rattle.som_task.specs.Settings.{instruction_at, method_named};
 ghost use Rattle.som_task.specs.Standing.{here_shown, place_shown};

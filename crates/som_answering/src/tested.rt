@@ -1,14 +1,14 @@
 //! The tests of calls, with their faults in the caller's place.
 
 ghost use Rattle.som_answering.specs.Calling.{PassesIn};
-ghost use Rattle.som_obeying.specs.Obeying.{stop_at};
+ghost use Rattle.som_moves.specs.NextInstruction.{stop_at};
 ghost use Rattle.som_code.specs.declared.instruction.Instruction.{Instruction};
 ghost use Rattle.som_frames.specs.Passed.{passes_named, passes_offset, passes_parent};
 ghost use Rattle.som_model.specs.State.{Heap};
 ghost use Rattle.som_model.specs.declared.key.ClassKey.{ClassKey};
 ghost use Rattle.som_model.specs.declared.key.MethodRef.{MethodRef};
 ghost use Rattle.som_objects.specs.Objects.{Objects};
-ghost use Rattle.som_passing.specs.Named.{HaveOwner, IsMadeClass, IsOnLive, IsUsableCall, setting};
+ghost use Rattle.som_runtime.specs.Named.{HaveOwner, IsMadeClass, IsOnLive, IsUsableCall, setting};
 ghost use Rattle.som_runtime.specs.Holding.{IsUsable, IsUsableMe};
 ghost use Rattle.som_task.specs.Own.{IsOwnPlace};
 ghost use Rattle.som_task.specs.Settings.{Linked};

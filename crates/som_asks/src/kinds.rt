@@ -8,7 +8,7 @@ ghost use Rattle.std.specs.Str.{bytes_eq};
 use som_model::Text;
 
 /// What a body of the kernel's that only asks is asked.
-#[derive(Clone, Copy, Debug)]
+#[derive(Clone, Copy)]
 pub enum Asking {
     GetClass,
     GetClassName,
@@ -23,7 +23,7 @@ pub enum Asking {
 }
 
 /// A body of the kernel's: it does nothing, or frees, makes or finds a class, or asks.
-#[derive(Clone, Copy, Debug)]
+#[derive(Clone, Copy)]
 pub enum KernelBody {
     Idle,
     Free,

@@ -48,7 +48,7 @@ use Rattle.som_task.specs.Standing.{call_shown, place_shown}
 use Rattle.som_runtime.specs.Asked.{Agree, CanLoad}
 use Rattle.som_runtime.specs.Holding.{Holding, IsUsable}
 use Rattle.som_instances.specs.Targets.{targeted}
-use Rattle.som_passing.specs.Named.{HaveOwner, IsOnLive, IsUsableCall, setting}
+use Rattle.som_runtime.specs.Named.{HaveOwner, IsOnLive, IsUsableCall, setting}
 use Rattle.som_passing.specs.Passed.{Passes}
 use Rattle.som_asks.specs.declared.kinds.KernelBody.TheVariants as kinds
 use Rattle.som_moves.specs.declared.stop.Stop.TheVariants as stops

@@ -40,7 +40,7 @@ use Rattle.som_asks.specs.declared.kinds.KernelBody.{KernelBody}
 use Rattle.som_asks.specs.declared.kinds.KernelBody.TheVariants as kinds
 use Rattle.som_asks.specs.Kinds.{body_shown}
 use Rattle.som_instances.specs.Making.{IsNext}
-use Rattle.som_passing.specs.Named.{HaveOwner, IsOnLive, IsUsableCall}
+use Rattle.som_runtime.specs.Named.{HaveOwner, IsOnLive, IsUsableCall}
 use Rattle.som_passing.specs.Passed.{Passes}
 use Rattle.som_moves.specs.declared.stop.Stop.TheVariants as stops
 use Rattle.som_moves.specs.Scene.{Around, Scene, scene, setting_of}

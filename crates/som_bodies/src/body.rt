@@ -3,7 +3,7 @@
 use som_tables::{ClassNo, MToken};
 
 /// Where a body stands in the class that has it.
-#[derive(Clone, Copy, Debug, PartialEq, Eq)]
+#[derive(Clone, Copy, PartialEq, Eq)]
 pub enum Source {
     /// Its place among the bodies for the methods that the class introduces.
     Introduced(u16),
@@ -18,7 +18,7 @@ pub enum Source {
 }
 
 /// A body: the class that has it, the token of its method, and where it stands.
-#[derive(Clone, Copy, Debug, PartialEq, Eq)]
+#[derive(Clone, Copy, PartialEq, Eq)]
 pub struct BodyAt {
     pub class: ClassNo,
     pub method: MToken,

@@ -39,7 +39,7 @@ use Rattle.som_classes.proofs.Bodies.{found, key_0, made_unknown}
 use Rattle.som_classes.proofs.Loading as loading
 use Rattle.som_places.specs.Variables.{object_variables, own_variables, place_in, types_of, variables_in}
 use Rattle.som_places.proofs.Placing.{falls, place_kind, places_differ, tells}
-use Rattle.som_making.specs.Making.{IsMarked}
+use Rattle.som_classes.specs.Making.{IsMarked}
 use Rattle.som_values.specs.Variables.{AreDisjoint}
 use Rattle.som_task.specs.Settings as settings
 use Rattle.som_runtime.specs.Asked.{Agree, CanLoad, HaveNumbers, IsClosed, is_proxy, target_after}

@@ -16,7 +16,7 @@ use Rattle.som_meta.specs.Numbering.{IsNumbered, Numbering, key_at}
 use Rattle.som_numbers.proofs.Declaring.{at_mem, mem_at}
 use Rattle.som_classes.specs.Loaded.{AreLoaded}
 use Rattle.som_closure.proofs.Closing.{comes_by}
-use Rattle.som_making.specs.Making.{IsNeedOf}
+use Rattle.som_classes.specs.Making.{IsNeedOf}
 use Rattle.som_made.specs.Made.{IsReached, KeepsMade}
 use Rattle.som_linked.specs.Linked.{IsLinked, IsMadeIn, Linkage}
 use Rattle.som_classmgr.specs.Reached.{IsMadeBy}

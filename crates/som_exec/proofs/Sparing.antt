@@ -23,7 +23,7 @@ use Rattle.som_task.proofs.Lists.{all_more}
 use Rattle.som_task.proofs.Later.{own_frames_still}
 use Rattle.som_task.proofs.Objects.{heap_spared, serials_spared}
 use Rattle.som_task.proofs.Classes.{statics_still}
-use Rattle.som_passing.specs.Named.{IsOnLive}
+use Rattle.som_runtime.specs.Named.{IsOnLive}
 use Rattle.som_moves.specs.Scene.{Around, IsFineBody, IsFineLeft, IsFineNow, IsFineWaiting, IsInPlace, IsNext, Scene, setting_of}
 use Rattle.som_looping.specs.Standing.{StandsAt}
 use Rattle.som_exec.specs.Stands.{Stands}

@@ -10,7 +10,7 @@ use crate::{ImageFault, Read, read_u8, write_u8};
 use som_model::{List, NoMemory};
 
 /// The type of a value, or of none. A class goes by its number.
-#[derive(Clone, Copy, Debug, PartialEq, Eq)]
+#[derive(Clone, Copy, PartialEq, Eq)]
 pub enum WireType {
     Void,
     Long,

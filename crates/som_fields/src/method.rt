@@ -10,7 +10,7 @@ use crate::{ImageFault, Read};
 use som_model::{List, NoMemory};
 
 /// A method: the number of a class, and a place in that class's entries.
-#[derive(Clone, Copy, Debug, PartialEq, Eq)]
+#[derive(Clone, Copy, PartialEq, Eq)]
 pub struct WireMethod {
     pub class: u16,
     pub slot: u16,

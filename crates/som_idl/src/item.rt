@@ -130,7 +130,7 @@ fn variables(
 }
 
 // What a word sets that stands directly before an equals sign.
-#[derive(Clone, Copy, Debug)]
+#[derive(Clone, Copy)]
 enum Setting {
     Metaclass,
     Major,

@@ -4,7 +4,7 @@ ghost use Rattle.som_io.specs.Leaves.{left_by};
 ghost use Rattle.std.specs.Prelude.{◌≡◌};
 
 /// What a put that fails leaves under its name: the old bytes, the new ones, or none.
-#[derive(Clone, Copy, Debug, PartialEq, Eq)]
+#[derive(Clone, Copy, PartialEq, Eq)]
 pub enum Leaves {
     Old,
     New,
@@ -12,7 +12,7 @@ pub enum Leaves {
 }
 
 /// A call that was set to fail, and what it leaves where it is a put.
-#[derive(Clone, Copy, Debug, PartialEq, Eq)]
+#[derive(Clone, Copy, PartialEq, Eq)]
 pub struct FailingPut {
     pub call: u64,
     pub leaves: Leaves,

@@ -5,7 +5,7 @@ ghost use Rattle.som_io.specs.declared.sink.Sent.TheVariants as sent;
 ghost use Rattle.std.specs.Prelude.{◌≡◌, ◌≢◌, ◌<◌, ◌≤◌, ◌^◌, ℕ, List, Option};
 
 /// What a sink answers to a write: how many bytes it took, from the front of the piece.
-#[derive(Clone, Copy, Debug, PartialEq, Eq)]
+#[derive(Clone, Copy, PartialEq, Eq)]
 pub enum Sent {
     Bytes(usize),
     Failed,

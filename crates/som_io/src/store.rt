@@ -18,7 +18,7 @@ pub enum Got {
 }
 
 /// What a store answers to a put.
-#[derive(Clone, Copy, Debug, PartialEq, Eq)]
+#[derive(Clone, Copy, PartialEq, Eq)]
 pub enum Put {
     Done,
     Failed,

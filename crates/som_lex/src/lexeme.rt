@@ -8,7 +8,7 @@ use crate::TokenKind;
 pub const MAX_NUMBER: u32 = 2_147_483_647;
 
 /// What stands at a place: a token, or a blank or a comment, and the place after it.
-#[derive(Clone, Copy, Debug)]
+#[derive(Clone, Copy)]
 pub struct Lexeme {
     pub token: Option<TokenKind>,
     pub end: usize,

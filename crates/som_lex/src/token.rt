@@ -5,7 +5,7 @@ ghost use Rattle.std.specs.List.{slice_index_or};
 
 use som_model::List;
 
-#[derive(Clone, Copy, Debug, PartialEq, Eq)]
+#[derive(Clone, Copy, PartialEq, Eq)]
 pub enum TokenKind {
     Word,
     Number,
@@ -16,7 +16,7 @@ pub enum TokenKind {
 }
 
 /// A token: the bytes of its source from `start` up to and without `end`.
-#[derive(Clone, Copy, Debug, PartialEq, Eq)]
+#[derive(Clone, Copy, PartialEq, Eq)]
 pub struct LexToken {
     pub kind: TokenKind,
     pub start: usize,

@@ -23,7 +23,7 @@ use Rattle.som_names.specs.Index.{ancestors_at}
 use Rattle.som_byname.specs.Added.{HasClass, HasClasses}
 use Rattle.som_classes.specs.Loaded.{AreLoaded}
 use Rattle.som_closure.proofs.Choosing.{all_mem}
-use Rattle.som_making.specs.Making.{IsNeedOf}
+use Rattle.som_classes.specs.Making.{IsNeedOf}
 use Rattle.som_linked.specs.Linked.{IsLinked, IsMadeIn, Linkage}
 use Rattle.som_made.proofs.Marks.{within_marks}
 use Rattle.som_linked.proofs.Holding.{answers_above}

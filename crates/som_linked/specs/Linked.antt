@@ -8,7 +8,7 @@ use Rattle.som_model.specs.Kernel.{kernel}
 use Rattle.som_model.specs.Loads.{Loads}
 use Rattle.som_model.specs.Made.{IsMade}
 use Rattle.som_meta.specs.Numbering.{Numbering}
-use Rattle.som_making.specs.Making.{HaveNeeds, IsMarked}
+use Rattle.som_classes.specs.Making.{HaveNeeds, IsMarked}
 use Rattle.som_made.specs.Made.{AreParts, Parts}
 
 pub record Linkage : Type 0 where

@@ -3,7 +3,7 @@
 use std::marker::Model;
 
 /// The number of a body, which a look-up answers and nothing else.
-#[derive(Clone, Copy, Debug, PartialEq, Eq)]
+#[derive(Clone, Copy, PartialEq, Eq)]
 pub struct BodyNo(pub(crate) u64);
 
 impl Model for BodyNo {

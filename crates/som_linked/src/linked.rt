@@ -4,7 +4,7 @@ ghost use Rattle.som_classes.specs.Loaded.{AreLoaded};
 ghost use Rattle.som_linked.specs.Linked.{IsLinked, IsMadeIn};
 ghost use Rattle.som_made.specs.Made.{AreParts, IsReached, KeepsMade};
 ghost use Rattle.som_made.specs.Making.{parts_of};
-ghost use Rattle.som_making.specs.Making.{HaveNeeds, IsMarked};
+ghost use Rattle.som_classes.specs.Making.{HaveNeeds, IsMarked};
 ghost use Rattle.som_meta.specs.Numbering.{IsNumbered};
 ghost use Rattle.som_model.specs.Kernel.{kernel};
 ghost use Rattle.som_model.specs.Loads.{Loads};

@@ -8,7 +8,7 @@ use Rattle.som_frames.specs.Frames.{Frames}
 use Rattle.som_frames.proofs.Task.{stands_events}
 use Rattle.som_direct.specs.Counted.{IsDirectRun, looks}
 use Rattle.som_direct.proofs.Counting.{count_both, count_front, looks_counted, looks_most}
-use Rattle.som_passing.specs.Tests.{runner_tests}
+use Rattle.som_runtime.specs.Tests.{runner_tests}
 use Rattle.som_task.specs.Settings.{Linked}
 use Rattle.som_moves.specs.declared.stop.Stop.{Stop}
 use Rattle.som_moves.specs.Scene.{Scene}

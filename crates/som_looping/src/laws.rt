@@ -25,6 +25,6 @@ pub fn start_law()
         StandsFor c (means_in c.linked.world c.main) 0 (main_frames MAX_DEPTH c.main) (beginning c.linked.world 0) }
 {
     som_tested::loaded_law();
-    som_passing::tests_law();
+    som_runtime::tests_law();
     som_direct::frames_law();
 }

@@ -8,7 +8,7 @@ ghost use Rattle.som_model.specs.State.{State};
 ghost use Rattle.som_frames.specs.Frames.{Waiting};
 ghost use Rattle.som_moves.specs.Scene.{scene};
 ghost use Rattle.som_moves.specs.declared.stop.Stop.TheVariants as stops;
-ghost use Rattle.som_obeying.specs.Obeying.{Runs, act_of};
+ghost use Rattle.som_moves.specs.NextInstruction.{Runs, act_of};
 ghost use Rattle.som_objects.specs.declared.cell.Cell.TheVariants as cells;
 ghost use Rattle.som_task.specs.declared.body.Body.{Body as Runner};
 ghost use Rattle.som_task.specs.declared.frames.Now.TheVariants as nows;

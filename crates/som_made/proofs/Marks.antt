@@ -1,6 +1,6 @@
 -- Marks and lists by number, one of them set.
 use Rattle.std.proofs.Common.{◌≡◌, ◌≢◌, ◌↔◌, ◌⊎◌, ℕ, zero, suc, ◌<◌, inl, inr, Bool, true, false, List, [], ◌∷◌, length, replicate, slice_index_or, slice_set, refl, sym, ap, arith, true≢false}
-use Rattle.som_making.specs.Making.{IsMarked}
+use Rattle.som_classes.specs.Making.{IsMarked}
 use Rattle.som_made.specs.Made.{AreMarked}
 
 pub marked_set : (marks : List Bool) (p k : ℕ) → p < length marks → IsMarked (slice_set marks p true) k ↔ (IsMarked marks k ⊎ (k ≡ p))

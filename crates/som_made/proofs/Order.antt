@@ -8,7 +8,7 @@ use Rattle.som_hierarchy.proofs.Lists.{get_mem, mem_get, take_get}
 use Rattle.som_hierarchy.proofs.Metas.{in_four}
 use Rattle.som_meta.specs.Numbering.{IsNumbered, Numbering, key_at}
 use Rattle.som_classes.specs.Loaded.{AreLoaded}
-use Rattle.som_making.specs.Making.{AreToMake, HaveNeeds, IsMarked, IsNeedOf, IsNeeded}
+use Rattle.som_classes.specs.Making.{AreToMake, HaveNeeds, IsMarked, IsNeedOf, IsNeeded}
 use Rattle.som_made.specs.Made.{AreMarked, CanBeMade, HaveMadeBelow, IsReached}
 
 -- ---- lists and their fronts

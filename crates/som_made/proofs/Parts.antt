@@ -15,7 +15,7 @@ use Rattle.som_names.specs.Index.{KeepsOthers, ancestors_at, named_at}
 use Rattle.som_byname.specs.Added.{HasClass}
 use Rattle.som_bodies.specs.Bodies.{AreBodies, MethodRows}
 use Rattle.som_places.specs.Placed.{ArePlaces, DataRows}
-use Rattle.som_making.specs.Making.{IsMarked}
+use Rattle.som_classes.specs.Making.{IsMarked}
 use Rattle.som_made.specs.Made.{AreHooks, AreParts, HaveMadeBelow, IsWhole, KeepsFilled, KeepsMade, Parts, hooks_at}
 use Rattle.som_made.proofs.Marks.{long_set, marked_set, none_marked, set_other, set_there}
 use Rattle.som_made.proofs.Filled.{still_filled}

@@ -11,7 +11,7 @@ use Rattle.som_names.specs.Index.{ancestors_at, named_at}
 use Rattle.som_byname.specs.Added.{HasClass}
 use Rattle.som_bodies.specs.Bodies.{AreBodies, MethodRows}
 use Rattle.som_places.specs.Placed.{ArePlaces, DataRows}
-use Rattle.som_making.specs.Making.{IsMarked, IsNeeded}
+use Rattle.som_classes.specs.Making.{IsMarked, IsNeeded}
 
 -- rows of methods and of variables, an index of names, and by number which classes are made, and the hooks that each has as a metaclass
 pub record Parts : Type 0 where

@@ -3,7 +3,7 @@
 ghost use Rattle.som_classes.specs.Loaded.{AreLoaded};
 ghost use Rattle.som_made.specs.Made.{AreMarked, AreParts, CanBeMade, HaveMadeBelow, KeepsMade};
 ghost use Rattle.som_made.specs.Making.{parts_of};
-ghost use Rattle.som_making.specs.Making.{IsMarked};
+ghost use Rattle.som_classes.specs.Making.{IsMarked};
 ghost use Rattle.som_meta.specs.Numbering.{IsNumbered, key_at};
 ghost use Rattle.som_model.specs.Classes.{parents_of};
 ghost use Rattle.som_model.specs.Lists.{Mem};

@@ -16,7 +16,7 @@ use Rattle.som_hierarchy.proofs.Keeping.{kernel_parent}
 use Rattle.som_meta.specs.Numbering.{IsNumbered, Numbering, key_at}
 use Rattle.som_classes.specs.Loaded.{AreLoaded}
 use Rattle.som_closure.proofs.Choosing.{low_meta, second_key, second_numbered}
-use Rattle.som_making.specs.Making.{HaveNeeds}
+use Rattle.som_classes.specs.Making.{HaveNeeds}
 
 class_of : (n : ℕ) → n < 4 → (c : Class) × (slice_get kernel n ≡ Some c)
 class_of zero lt = (_, refl)

@@ -7,7 +7,7 @@ use Rattle.som_model.specs.Lists.{Mem}
 use Rattle.som_model.specs.Metaclass.{rank}
 use Rattle.som_laws.proofs.Members.{mem_left, mem_right, mem_split}
 use Rattle.som_meta.specs.Numbering.{Numbering, key_at}
-use Rattle.som_making.specs.Making.{IsMarked}
+use Rattle.som_classes.specs.Making.{IsMarked}
 use Rattle.som_making.specs.Searching.{AreNoted, AreSame, in_turn}
 
 exact : (x y : ℕ × ℕ) → in_turn x y ≡ Equal → x ≡ y

@@ -24,7 +24,7 @@ use Rattle.som_numbers.proofs.Declaring.{at_mem, mem_at}
 use Rattle.som_classes.specs.Loaded.{AreLoaded}
 use Rattle.som_closure.specs.Metas.{AreClosed}
 use Rattle.som_closure.proofs.Choosing.{low_is, second_key, second_numbered}
-use Rattle.som_making.specs.Making.{AreToMake, HaveNeeds, IsMarked, IsNeeded, IsNeedOf, StandsBefore}
+use Rattle.som_classes.specs.Making.{AreToMake, HaveNeeds, IsMarked, IsNeeded, IsNeedOf, StandsBefore}
 use Rattle.som_making.specs.Searching.{AreSame, AreSearched, in_turn}
 
 -- what follows from two clauses on a value

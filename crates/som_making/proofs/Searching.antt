@@ -11,7 +11,7 @@ use Rattle.som_laws.proofs.Members.{mem_left, mem_split}
 use Rattle.som_hierarchy.proofs.Lists.{map_mem, mem_map}
 use Rattle.som_meta.specs.Numbering.{AreApart, IsNumbered, Numbering, key_at}
 use Rattle.som_numbers.proofs.Items.{item_mem}
-use Rattle.som_making.specs.Making.{IsMarked, IsNeeded, IsNeedOf}
+use Rattle.som_classes.specs.Making.{IsMarked, IsNeeded, IsNeedOf}
 use Rattle.som_making.specs.Searching.{AreNoted, AreSearched}
 
 -- the items so far and one more

@@ -6,7 +6,7 @@ use Rattle.som_model.specs.Lists.{Mem}
 use Rattle.som_model.specs.Classes.{parents_of}
 use Rattle.som_model.specs.Metaclass.{rank}
 use Rattle.som_meta.specs.Numbering.{IsNumbered, Numbering, key_at}
-use Rattle.som_making.specs.Making.{IsMarked, IsNeeded, IsNeedOf}
+use Rattle.som_classes.specs.Making.{IsMarked, IsNeeded, IsNeedOf}
 
 -- by rank, and of one rank by number
 abbrev pub in_turn : ℕ × ℕ → ℕ × ℕ → Ordering

@@ -1,7 +1,7 @@
 //! The law by which the kernel's four classes need only each other.
 
 ghost use Rattle.som_classes.specs.Loaded.{AreLoaded};
-ghost use Rattle.som_making.specs.Making.{HaveNeeds};
+ghost use Rattle.som_classes.specs.Making.{HaveNeeds};
 ghost use Rattle.som_meta.specs.Numbering.{Numbering};
 ghost use Rattle.std.specs.Prelude.{◌<◌};
 

@@ -1,6 +1,6 @@
 //! The classes still to be made for one class, by rank and then by number.
 
-ghost use Rattle.som_making.specs.Making.{AreToMake, HaveNeeds, IsMarked};
+ghost use Rattle.som_classes.specs.Making.{AreToMake, HaveNeeds, IsMarked};
 ghost use Rattle.som_making.specs.Searching.{in_turn};
 ghost use Rattle.som_meta.specs.Numbering.{IsNumbered};
 ghost use Rattle.std.specs.BTreeSet.{IsOrdered};

@@ -2,7 +2,7 @@
 
 ghost use Rattle.som_classes.specs.Loaded.{AreLoaded};
 ghost use Rattle.som_closure.specs.Metas.{AreClosed};
-ghost use Rattle.som_making.specs.Making.{IsMarked, IsNeedOf};
+ghost use Rattle.som_classes.specs.Making.{IsMarked, IsNeedOf};
 ghost use Rattle.som_making.specs.Searching.{AreNoted, AreSame, AreSearched};
 ghost use Rattle.som_meta.specs.Numbering.{IsNumbered, key_at};
 ghost use Rattle.som_model.specs.Classes.{parents_of};

@@ -19,7 +19,7 @@ impl Drop for Sig {
 }
 
 /// How `e.m(..)` calls a method: by its place in the release order, or by its name.
-#[derive(Clone, Copy, Debug, PartialEq, Eq)]
+#[derive(Clone, Copy, PartialEq, Eq)]
 pub enum Way {
     Offset,
     Lookup,

@@ -3,7 +3,7 @@
 use crate::{Boxed, List, Text};
 
 /// Where a named class stands: in the kernel, in the library, in a library above it, or in the client.
-#[derive(Clone, Copy, Debug, PartialEq, Eq)]
+#[derive(Clone, Copy, PartialEq, Eq)]
 pub enum Module {
     Kernel,
     Library,

@@ -31,7 +31,7 @@ pub struct ClientProgram {
 }
 
 /// What a running program may do wrong.
-#[derive(Clone, Copy, Debug, PartialEq, Eq)]
+#[derive(Clone, Copy, PartialEq, Eq)]
 pub enum Fault {
     Nil,
     Freed,

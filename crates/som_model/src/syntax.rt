@@ -5,7 +5,7 @@ use crate::{Boxed, List, Text};
 
 /// The procedures that a program may ask of its host, each of two longs: the lesser and the greater, the operations on
 /// their 32 bits, and the sum that wraps at 32 bits.
-#[derive(Clone, Copy, Debug, PartialEq, Eq)]
+#[derive(Clone, Copy, PartialEq, Eq)]
 pub enum HostCode {
     Min,
     Max,

@@ -13,7 +13,7 @@ use std::alloc::Global;
 
 /// How a class comes about: it is declared, or is made of the classes that are its parents, derived from several, or that
 /// of the proxies of one.
-#[derive(Clone, Copy, Debug, PartialEq, Eq)]
+#[derive(Clone, Copy, PartialEq, Eq)]
 pub enum Kind {
     Declared,
     Derived,

@@ -4,7 +4,8 @@ ghost use Rattle.som_io.specs.Outside.{Rose};
 ghost use Rattle.som_moves.specs.Moving.{Keeps};
 ghost use Rattle.som_moves.specs.Scene.{scene};
 ghost use Rattle.som_moves.specs.declared.stop.Stop.TheVariants as stops;
-ghost use Rattle.som_obeying.specs.Obeying.{IsRunning, Obeyed, following, is_call, next_of};
+ghost use Rattle.som_moves.specs.NextInstruction.{is_call, next_of};
+ghost use Rattle.som_obeying.specs.Obeying.{IsRunning, Obeyed, following};
 ghost use Rattle.std.specs.Prelude.{◌≡◌, ◌≢◌, ◌≤◌, Err, false};
 
 use crate::class::class_object;

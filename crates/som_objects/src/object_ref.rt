@@ -2,12 +2,12 @@
 
 /// A reference to an object: the key under which it is kept, and its serial. Keys are used again once an object was freed;
 /// serials aren't, so two references are to one object where their serials are equal.
-#[derive(Clone, Copy, Debug)]
+#[derive(Clone, Copy)]
 pub struct ObjRef {
     pub key: usize,
     pub serial: u64,
 }
 
 /// The answer for a reference to an object that was freed.
-#[derive(Clone, Copy, Debug, PartialEq, Eq)]
+#[derive(Clone, Copy, PartialEq, Eq)]
 pub struct Gone;

@@ -16,7 +16,7 @@ use Rattle.som_task.specs.Settings.{Linked}
 use Rattle.som_task.specs.Standing.{parent_shown}
 use Rattle.som_runtime.specs.declared.body.BodyView.{BodyView}
 use Rattle.som_runtime.specs.Asked.{Agree, CanLoad, IsAnswer, IsClosed}
-use Rattle.som_passing.specs.Named.{IsMadeClass, setting}
+use Rattle.som_runtime.specs.Named.{IsMadeClass, setting}
 use Rattle.som_passing.specs.Entered.{IsReady, asked_class}
 use Rattle.som_passing.specs.Chosen.{HasHooks, IsHook}
 use Rattle.som_passing.proofs.Known.{answers_itself, kernel_owns, key_linked, one_hook}

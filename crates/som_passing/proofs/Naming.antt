@@ -22,7 +22,7 @@ use Rattle.som_values.specs.Shown.{Showing, IsSeen, all_shown, key_of, showing}
 use Rattle.som_values.specs.Stored.{Holds}
 use Rattle.som_task.specs.Settings.{Linked}
 use Rattle.som_runtime.specs.Asked.{Agree}
-use Rattle.som_passing.specs.Named.{HasClassOf}
+use Rattle.som_runtime.specs.Named.{HasClassOf}
 use Rattle.som_passing.specs.Passed.{method_in, method_shown, named_in}
 
 method_by : (w : World) (h : Heap) (wanted : ValueType) (name : List ℕ) (self : Ref) (args : List Value) (x : ClassKey) (m : MethodRef) (s : Sig) (r : Tried (Unit {0}))

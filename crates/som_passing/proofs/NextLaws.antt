@@ -21,7 +21,7 @@ use Rattle.som_runtime.specs.declared.body.BodyView.{BodyView}
 use Rattle.som_runtime.specs.Asked.{Agree, IsAnswer, held_shown}
 use Rattle.som_passing.specs.declared.chosen.Chosen.{Chosen}
 use Rattle.som_passing.specs.declared.chosen.Role.TheVariants as roles
-use Rattle.som_passing.specs.Named.{setting}
+use Rattle.som_runtime.specs.Named.{setting}
 use Rattle.som_passing.specs.Entered.{asked_class}
 use Rattle.som_passing.specs.Chosen.{AreHooks, HasHooks, IsFirst, IsNext, IsRest, invoked, view_invoked}
 

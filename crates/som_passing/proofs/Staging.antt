@@ -19,7 +19,7 @@ use Rattle.som_runtime.specs.declared.body.BodyView.{BodyView}
 use Rattle.som_runtime.specs.Asked.{held_shown}
 use Rattle.som_passing.specs.declared.chosen.Role.{Role}
 use Rattle.som_passing.specs.declared.chosen.Role.TheVariants as roles
-use Rattle.som_passing.specs.Named.{IsTokenOf}
+use Rattle.som_runtime.specs.Named.{IsTokenOf}
 use Rattle.som_passing.specs.Chosen.{AreHooks, IsFirst, IsLast, IsOwn, invoked, view_invoked}
 
 get_map : (f : ℕ → ClassKey) (ns : List ℕ) (p d : ℕ) → p < length ns → slice_get (map f ns) p ≡ Some (f (get_or ns p d))

@@ -1,5 +1,3 @@
-pub mod Tests
-pub mod Named
 pub mod Passed
 pub mod Entered
 pub mod Chosen

@@ -6,7 +6,7 @@ ghost use Rattle.som_model.specs.Calls.{Request};
 ghost use Rattle.som_model.specs.declared.key.ClassKey.{ClassKey};
 ghost use Rattle.som_passing.specs.Chosen.{AreHooks, Costs, HasHooks, IsHook, IsNamed, IsNext, IsRest};
 ghost use Rattle.som_passing.specs.Entered.{IsReady};
-ghost use Rattle.som_passing.specs.Named.{setting};
+ghost use Rattle.som_runtime.specs.Named.{setting};
 ghost use Rattle.som_task.specs.Standing.{bodies_left, call_shown, left_shown};
 ghost use Rattle.som_task.specs.declared.call.Stage.TheVariants as stages;
 ghost use Rattle.som_values.specs.Shown.{key_of};

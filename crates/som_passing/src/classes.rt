@@ -1,7 +1,7 @@
 //! The class of a live object.
 
 ghost use Rattle.som_model.specs.State.{Heap};
-ghost use Rattle.som_passing.specs.Named.{HasClassOf, HasOwner, IsLive, IsMadeClass};
+ghost use Rattle.som_runtime.specs.Named.{HasClassOf, HasOwner, IsLive, IsMadeClass};
 ghost use Rattle.som_values.specs.Shown.{IsSeenRef, shown_ref, showing};
 ghost use Rattle.som_values.specs.Stored.{Holds};
 ghost use Rattle.std.specs.Prelude.{ℕ, List};

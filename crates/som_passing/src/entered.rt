@@ -3,8 +3,8 @@
 ghost use Rattle.som_code.specs.declared.instruction.Instruction.{Instruction};
 ghost use Rattle.som_model.specs.State.{Heap};
 ghost use Rattle.som_passing.specs.Entered.{Enters, IsReady};
-ghost use Rattle.som_passing.specs.Named.{IsAsked, IsMadeClass, IsOnLive, Owner, setting};
-ghost use Rattle.som_passing.specs.Tests.{call_stands};
+ghost use Rattle.som_runtime.specs.Named.{IsAsked, IsMadeClass, IsOnLive, Owner, setting};
+ghost use Rattle.som_runtime.specs.Tests.{call_stands};
 ghost use Rattle.som_runtime.specs.Holding.{IsUsableRef};
 ghost use Rattle.som_task.specs.Standing.{call_shown};
 ghost use Rattle.som_task.specs.declared.call.Stage.TheVariants as stages;

@@ -4,7 +4,7 @@ ghost use Rattle.som_model.specs.Calls.{Request};
 ghost use Rattle.som_model.specs.declared.key.ClassKey.{ClassKey};
 ghost use Rattle.som_passing.specs.Chosen.{AreHooks, HasHooks, IsFirst, IsHook, IsLast, IsNamed, IsOwn};
 ghost use Rattle.som_passing.specs.Entered.{IsReady};
-ghost use Rattle.som_passing.specs.Named.{IsMadeClass};
+ghost use Rattle.som_runtime.specs.Named.{IsMadeClass};
 ghost use Rattle.som_task.specs.Standing.{bodies_left};
 ghost use Rattle.som_task.specs.declared.call.Stage.TheVariants as stages;
 ghost use Rattle.som_values.specs.Shown.{key_of};

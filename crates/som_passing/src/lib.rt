@@ -6,7 +6,6 @@ mod chosen;
 mod classes;
 mod entered;
 mod hooks;
-mod laws;
 mod passed;
 mod tests;
 mod tokens;
@@ -15,7 +14,6 @@ pub use choosing::next;
 pub use chosen::{Chosen, Role};
 use classes::live_class;
 pub use entered::enter;
-pub use laws::tests_law;
 pub use passed::{pass_named, pass_offset, pass_parent};
 pub use tests::{can_run, has_method};
 pub use tokens::{

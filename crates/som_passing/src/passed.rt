@@ -6,7 +6,7 @@ ghost use Rattle.som_model.specs.State.{Heap};
 ghost use Rattle.som_model.specs.declared.key.ClassKey.{ClassKey};
 ghost use Rattle.som_model.specs.declared.key.MethodRef.{MethodRef};
 ghost use Rattle.som_objects.specs.Objects.{Objects};
-ghost use Rattle.som_passing.specs.Named.{HaveOwner, IsLive, IsMadeClass, IsOnLive, IsUsableCall, setting};
+ghost use Rattle.som_runtime.specs.Named.{HaveOwner, IsLive, IsMadeClass, IsOnLive, IsUsableCall, setting};
 ghost use Rattle.som_passing.specs.Passed.{Passes, method_in, method_shown, named_in, named_shown};
 ghost use Rattle.som_runtime.specs.Holding.{IsUsable, IsUsableMe};
 ghost use Rattle.som_task.specs.Own.{IsOwnPlace};

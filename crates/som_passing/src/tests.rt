@@ -2,8 +2,8 @@
 
 ghost use Rattle.som_code.specs.declared.instruction.Instruction.{Instruction};
 ghost use Rattle.som_model.specs.State.{Heap};
-ghost use Rattle.som_passing.specs.Named.{HasOwner, IsAsked, setting};
-ghost use Rattle.som_passing.specs.Tests.{call_stands, stands};
+ghost use Rattle.som_runtime.specs.Named.{HasOwner, IsAsked, setting};
+ghost use Rattle.som_runtime.specs.Tests.{call_stands, stands};
 ghost use Rattle.som_task.specs.Standing.{call_shown};
 ghost use Rattle.som_values.specs.Shown.{IsNumbered, IsSeenRef, key_of, shown_ref, showing};
 ghost use Rattle.som_values.specs.Stored.{Holds};

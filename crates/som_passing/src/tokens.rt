@@ -1,7 +1,7 @@
 //! The tokens of the kernel's methods that the interpreter itself calls.
 
 ghost use Rattle.som_model.specs.Kernel.{after_method, before_method, som_dispatch_name, som_free, som_init, som_new, som_uninit};
-ghost use Rattle.som_passing.specs.Named.{IsTokenOf};
+ghost use Rattle.som_runtime.specs.Named.{IsTokenOf};
 ghost use Rattle.std.specs.Prelude.{◌≡◌};
 
 use som_runtime::Runtime;

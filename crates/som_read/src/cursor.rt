@@ -10,7 +10,7 @@ use som_model::NoMemory;
 use std::alloc::{AllocError, AllocFailed};
 
 /// Why a reader stopped. The cursor is then at the token that didn't fit.
-#[derive(Clone, Copy, Debug, PartialEq, Eq)]
+#[derive(Clone, Copy, PartialEq, Eq)]
 pub enum Stop {
     Memory,
     Syntax,

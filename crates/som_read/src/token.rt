@@ -1,7 +1,7 @@
 //! Keywords, punctuation and the classified tokens that the parsers read.
 
 /// What a word is: the words that a grammar treats specially, and all others.
-#[derive(Clone, Copy, Debug, PartialEq, Eq)]
+#[derive(Clone, Copy, PartialEq, Eq)]
 pub enum Key {
     /// No grammar treats it specially.
     Plain,
@@ -65,7 +65,7 @@ pub enum Key {
     WrapAdd,
 }
 
-#[derive(Clone, Copy, Debug, PartialEq, Eq)]
+#[derive(Clone, Copy, PartialEq, Eq)]
 pub enum Sign {
     OpenBrace,
     CloseBrace,
@@ -94,7 +94,7 @@ pub enum Sign {
 }
 
 /// A token as grammars see it. A word and a literal have their place in the list of all tokens.
-#[derive(Clone, Copy, Debug)]
+#[derive(Clone, Copy)]
 pub enum Token {
     Word(Key, usize),
     Number(u32),

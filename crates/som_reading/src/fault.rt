@@ -4,7 +4,7 @@ use som_ancestry::Broken;
 use som_model::{NoMemory, Text};
 
 /// Why a text can't be read: its bytes are no tokens, or its tokens are no text of the grammar.
-#[derive(Clone, Copy, Debug, PartialEq, Eq)]
+#[derive(Clone, Copy, PartialEq, Eq)]
 pub enum ReadingFault {
     BadByte,
     OpenText,

@@ -6,7 +6,7 @@ ghost use Rattle.std.specs.Prelude.{◌≡◌};
 use som_model::Text;
 
 /// What stands in a text: interfaces, bodies of methods, or the main of a client.
-#[derive(Clone, Copy, Debug, PartialEq, Eq)]
+#[derive(Clone, Copy, PartialEq, Eq)]
 pub enum SourceKind {
     Interfaces,
     Bodies,

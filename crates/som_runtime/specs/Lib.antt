@@ -1,2 +1,4 @@
 pub mod Asked
 pub mod Holding
+pub mod Named
+pub mod Tests

@@ -3,6 +3,8 @@
 
 mod body;
 mod runtime;
+mod test_laws;
 
 pub use body::{BodyView, Held};
 pub use runtime::Runtime;
+pub use test_laws::tests_law;

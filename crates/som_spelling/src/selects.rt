@@ -4,7 +4,7 @@ use som_fields::WireMethod;
 use som_model::List;
 
 /// A method, and the place of the parent whose body of it a class takes.
-#[derive(Clone, Copy, Debug, PartialEq, Eq)]
+#[derive(Clone, Copy, PartialEq, Eq)]
 pub struct WireSelect {
     pub method: WireMethod,
     pub parent: u8,

@@ -6,7 +6,7 @@ ghost use Rattle.som_direct.specs.Direct.{AreDirect};
 ghost use Rattle.som_io.specs.Outside.{Rose};
 ghost use Rattle.som_moves.specs.Scene.{scene};
 ghost use Rattle.som_moves.specs.declared.stop.Stop.TheVariants as stops;
-ghost use Rattle.som_passing.specs.Named.{setting};
+ghost use Rattle.som_runtime.specs.Named.{setting};
 ghost use Rattle.som_stepping.specs.Chosen.{IsInvoking};
 ghost use Rattle.som_stepping.specs.Stepping.{Invoked, IsStanding};
 ghost use Rattle.som_task.specs.Standing.{left_shown};

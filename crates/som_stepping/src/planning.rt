@@ -7,7 +7,7 @@ ghost use Rattle.som_io.specs.Outside.{Rose};
 ghost use Rattle.som_model.specs.Means.{hooks_of};
 ghost use Rattle.som_moves.specs.declared.stop.Stop.TheVariants as stops;
 ghost use Rattle.som_passing.specs.Entered.{IsReady};
-ghost use Rattle.som_passing.specs.Named.{HasOwner, setting};
+ghost use Rattle.som_runtime.specs.Named.{HasOwner, setting};
 ghost use Rattle.som_stepping.specs.Chosen.{First, IsFirst, Planned, Tested, count_of, self_of, way_of};
 ghost use Rattle.som_task.specs.Standing.{call_shown, left_shown};
 ghost use Rattle.som_telling.specs.Filters.{shows_of};

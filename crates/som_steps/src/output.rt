@@ -3,7 +3,7 @@
 use som_model::{List, Text};
 
 /// How a command ends that no step refuses.
-#[derive(Clone, Copy, Debug, PartialEq, Eq)]
+#[derive(Clone, Copy, PartialEq, Eq)]
 pub enum End {
     Done,
     /// A run whose fuel was spent.

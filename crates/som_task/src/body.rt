@@ -5,7 +5,7 @@ use som_telling::Place;
 use som_values::Reference;
 
 /// The zero value of a type.
-#[derive(Clone, Copy, Debug)]
+#[derive(Clone, Copy)]
 pub enum Zero {
     Nil,
     Long,

@@ -18,7 +18,7 @@ pub struct Call {
 }
 
 /// Which bodies of a call are left.
-#[derive(Clone, Copy, Debug)]
+#[derive(Clone, Copy)]
 pub enum Stage {
     /// Those of the hooks from this place on, the method's, and then those of all hooks.
     Before(usize),

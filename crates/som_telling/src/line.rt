@@ -15,7 +15,7 @@ use som_model::NoMemory;
 use std::alloc::{AllocError, Global};
 
 /// Why a line wasn't told whole.
-#[derive(Clone, Copy, Debug, PartialEq, Eq)]
+#[derive(Clone, Copy, PartialEq, Eq)]
 pub enum Untold {
     SinkFailed,
     NoMemory,

@@ -5,7 +5,7 @@ ghost use Rattle.som_telling.specs.Events.{manner_of};
 ghost use Rattle.std.specs.Prelude.{◌≡◌};
 
 /// How a body was reached.
-#[derive(Clone, Copy, Debug, PartialEq, Eq)]
+#[derive(Clone, Copy, PartialEq, Eq)]
 pub enum Manner {
     Offset,
     Lookup,

@@ -7,7 +7,7 @@ use som_objects::{Cell, ObjRef};
 use som_tables::ClassNo;
 
 /// A reference: to an object, to the class object of a class, or to the class manager object.
-#[derive(Clone, Copy, Debug)]
+#[derive(Clone, Copy)]
 pub enum Reference {
     Object(ObjRef),
     Class(ClassNo),

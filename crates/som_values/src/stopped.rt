@@ -3,7 +3,7 @@
 use som_model::{Fault, NoMemory};
 
 /// Why an operator answers no value: the program is at fault, or there is no memory.
-#[derive(Clone, Copy, Debug, PartialEq, Eq)]
+#[derive(Clone, Copy, PartialEq, Eq)]
 pub enum Stopped {
     Fault(Fault),
     NoMemory,

@@ -3,7 +3,7 @@ use Rattle.std.proofs.lemmas.Result.{err_from_is_err_and}
 use Rattle.som_codes.specs.Coded.{codes_of}
 use Rattle.som_model.specs.Kernel.{som_new}
 use Rattle.som_model.specs.State.{Used}
-use Rattle.som_passing.specs.Named.{Owner}
+use Rattle.som_runtime.specs.Named.{Owner}
 use Rattle.som_values.specs.Shown.{IsNumbered, key_of}
 use Rattle.som_task.specs.declared.frames.Now.TheVariants as nows
 use Rattle.som_task.specs.declared.frames.Waiting.TheVariants as waits

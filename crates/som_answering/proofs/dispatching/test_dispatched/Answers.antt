@@ -1,7 +1,7 @@
 use Rattle.std.proofs.Common.{sym, subst}
 use Rattle.som_answering.specs.Calling.{PassesIn}
 use Rattle.som_frames.specs.Passed.{passes_named}
-use Rattle.som_passing.specs.Named.{setting}
+use Rattle.som_runtime.specs.Named.{setting}
 use Rattle.som_task.specs.Standing.{place_shown}
 use Rattle.som_telling.specs.Events.{manner_of}
 use Rattle.som_telling.specs.declared.manner.Manner.TheVariants as manners

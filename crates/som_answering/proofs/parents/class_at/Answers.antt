@@ -1,6 +1,6 @@
 use Rattle.std.proofs.Common.{[], None, sym, ap, ◌∙◌}
 use Rattle.som_model.specs.Calls.{class_here}
-use Rattle.som_passing.specs.Named.{setting}
+use Rattle.som_runtime.specs.Named.{setting}
 use Rattle.som_task.specs.Standing.{here_shown}
 use Rattle.som_values.specs.Shown.{key_of}
 use Rattle.som_answering.proofs.Naming.{root_number}

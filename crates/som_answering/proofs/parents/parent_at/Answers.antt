@@ -1,7 +1,7 @@
 use Rattle.std.proofs.Common.{[], None, map, sym, ap, subst, ◌∙◌}
 use Rattle.std.specs.List.{All}
 use Rattle.som_model.specs.Calls.{class_here, parent_at}
-use Rattle.som_passing.specs.Named.{setting}
+use Rattle.som_runtime.specs.Named.{setting}
 use Rattle.som_task.specs.Standing.{here_shown}
 use Rattle.som_values.specs.Shown.{IsNumbered, key_of}
 use Rattle.som_answering.proofs.Beginning.{at_key, at_made, past_key, past_made}

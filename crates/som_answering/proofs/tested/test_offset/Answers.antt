@@ -1,5 +1,5 @@
 use Rattle.som_frames.specs.Passed.{passes_offset}
-use Rattle.som_passing.specs.Named.{setting}
+use Rattle.som_runtime.specs.Named.{setting}
 use Rattle.som_task.specs.Standing.{place_shown}
 use Rattle.som_telling.specs.Events.{manner_of}
 use Rattle.som_telling.specs.declared.manner.Manner.TheVariants as manners

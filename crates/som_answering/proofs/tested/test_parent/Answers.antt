@@ -1,5 +1,5 @@
 use Rattle.som_frames.specs.Passed.{passes_parent}
-use Rattle.som_passing.specs.Named.{setting}
+use Rattle.som_runtime.specs.Named.{setting}
 use Rattle.som_task.specs.Standing.{here_shown}
 use Rattle.som_values.specs.Shown.{all_shown, key_of, showing}
 use Rattle.som_answering.proofs.Passing.{fails_in}

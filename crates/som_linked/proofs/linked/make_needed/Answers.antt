@@ -1,5 +1,5 @@
 use Rattle.std.proofs.Common.{ℕ, List, subst, take}
-use Rattle.som_making.specs.Making.{AreToMake}
+use Rattle.som_classes.specs.Making.{AreToMake}
 use Rattle.som_made.specs.Made.{AreMarked}
 use Rattle.som_made.proofs.Order.{can_be_made, only_reached}
 use Rattle.som_linked.proofs.linked.make_needed.Goals as goal

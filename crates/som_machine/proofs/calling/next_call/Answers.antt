@@ -1,5 +1,5 @@
 use Rattle.std.proofs.Common.{◌≡◌, true, slice_get, subst, sym}
-use Rattle.som_obeying.specs.Obeying.{is_call}
+use Rattle.som_moves.specs.NextInstruction.{is_call}
 use Rattle.som_machine.proofs.Giving.{call_there}
 use Rattle.som_machine.proofs.calling.next_call.Goals as goal
 

@@ -1,6 +1,6 @@
 use Rattle.std.proofs.Common.{◌≡◌, ℕ, List, map, subst, sym}
 use Rattle.std.specs.BTreeSet.{IsOrdered}
-use Rattle.som_making.specs.Making.{AreToMake}
+use Rattle.som_classes.specs.Making.{AreToMake}
 use Rattle.som_making.specs.Searching.{in_turn}
 use Rattle.som_making.proofs.Ordering.{both, in_order_is}
 use Rattle.som_making.proofs.making.to_make.Goals as goal

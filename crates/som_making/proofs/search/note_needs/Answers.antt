@@ -2,7 +2,7 @@ use Rattle.std.proofs.Common.{◌≡◌, ℕ, List, arith, map, subst}
 use Rattle.som_model.specs.Lists.{Mem}
 use Rattle.som_model.specs.Classes.{hierarchy}
 use Rattle.som_meta.specs.Numbering.{Numbering, key_at}
-use Rattle.som_making.specs.Making.{IsNeedOf}
+use Rattle.som_classes.specs.Making.{IsNeedOf}
 use Rattle.som_making.specs.Searching.{AreNoted}
 use Rattle.som_making.proofs.Noting.{noted_both}
 use Rattle.som_making.proofs.Searching.{needs_in, needs_out, parents_low}

@@ -1,7 +1,7 @@
 use Rattle.std.proofs.Common.{◌≡◌, false, refl, sym, subst, ◌∙◌, arith}
 use Rattle.som_task.specs.Settings.{shows}
 use Rattle.som_moves.specs.Scene.{scene, setting_of}
-use Rattle.som_obeying.specs.Obeying.{act_of, is_call}
+use Rattle.som_moves.specs.NextInstruction.{act_of, is_call}
 use Rattle.som_obeying.proofs.Placing.{has_code, next_none, next_some}
 use Rattle.som_obeying.proofs.Spending.{none_goes, spent_none, takes_none, takes_spent}
 use Rattle.som_obeying.proofs.Varying.{top_own}

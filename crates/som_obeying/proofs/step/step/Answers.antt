@@ -7,7 +7,8 @@ use Rattle.som_task.specs.Settings.{shows}
 use Rattle.som_instructions.specs.Cells.{top_cell}
 use Rattle.som_moves.specs.Scene.{scene, setting_of}
 use Rattle.som_moves.specs.declared.stop.Stop.TheVariants as stops
-use Rattle.som_obeying.specs.Obeying.{following, is_call, is_plain}
+use Rattle.som_moves.specs.NextInstruction.{is_call}
+use Rattle.som_obeying.specs.Obeying.{following, is_plain}
 use Rattle.som_moves.proofs.Knowing.{closed_all}
 use Rattle.som_obeying.proofs.Placing.{class_key, has_code, next_none, next_some, plain_left, proxy_key, top_classed}
 use Rattle.som_obeying.proofs.Special.{end_comes, return_comes, value_comes}

@@ -6,7 +6,7 @@ use Rattle.som_task.specs.Settings.{shows}
 use Rattle.som_task.specs.Standing.{me_shown}
 use Rattle.som_values.specs.Shown.{key_of}
 use Rattle.som_moves.specs.Scene.{scene, setting_of}
-use Rattle.som_obeying.specs.Obeying.{act_of}
+use Rattle.som_moves.specs.NextInstruction.{act_of}
 use Rattle.som_moves.proofs.Knowing.{closed_all}
 use Rattle.som_obeying.proofs.Coming.{begins_nothing}
 use Rattle.som_obeying.proofs.Special.{wants_comes}

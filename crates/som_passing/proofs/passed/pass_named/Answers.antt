@@ -1,6 +1,6 @@
 use Rattle.som_passing.proofs.Owning.{call_usable, self_usable}
 use Rattle.som_passing.proofs.Naming.{named_fails, named_of_equal}
-use Rattle.som_passing.specs.Named.{setting}
+use Rattle.som_runtime.specs.Named.{setting}
 use Rattle.som_task.specs.Standing.{place_shown}
 use Rattle.som_telling.specs.Events.{manner_of}
 use Rattle.som_values.specs.Shown.{all_shown, shown, showing}

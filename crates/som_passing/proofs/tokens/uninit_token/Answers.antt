@@ -1,6 +1,6 @@
 use Rattle.std.proofs.Common.{ℕ, sym, subst}
 use Rattle.som_model.specs.Kernel.{som_uninit}
-use Rattle.som_passing.specs.Named.{IsTokenOf}
+use Rattle.som_runtime.specs.Named.{IsTokenOf}
 use Rattle.som_passing.proofs.Known.{uninit_token}
 use Rattle.som_passing.proofs.tokens.uninit_token.Goals as goal
 

@@ -3,7 +3,7 @@ use Rattle.std.proofs.lemmas.Result.{err_from_is_err_and}
 use Rattle.som_telling.specs.Filters.{shows_of}
 use Rattle.som_moves.specs.Scene.{scene}
 use Rattle.som_passing.specs.Entered.{IsReady}
-use Rattle.som_passing.specs.Named.{HasOwner}
+use Rattle.som_runtime.specs.Named.{HasOwner}
 use Rattle.som_stepping.specs.Chosen.{First, IsFirst, Planned, count_of, line_of, plan_first, self_of}
 use Rattle.som_stepping.specs.Taken.{args_of}
 use Rattle.som_beginning.specs.Beginning.{Began, Begins}
@@ -12,7 +12,7 @@ use Rattle.som_stepping.proofs.Coming.{all_front, invoked_none, invoked_stopped,
 use Rattle.som_stepping.proofs.Began.{begins_mid, invoked, then_waits}
 use Rattle.som_direct.specs.Counted.{first_looks}
 use Rattle.som_task.specs.Standing.{left_shown}
-use Rattle.som_passing.specs.Named.{setting}
+use Rattle.som_runtime.specs.Named.{setting}
 use Rattle.som_stepping.proofs.Costing.{cost_of, left_made, looks_none}
 use Rattle.som_stepping.proofs.invoking.invoke.Goals as goal
 

@@ -1,5 +1,5 @@
 use Rattle.std.proofs.Common.{sym, subst}
-use Rattle.som_passing.specs.Named.{HasOwner}
+use Rattle.som_runtime.specs.Named.{HasOwner}
 use Rattle.som_stepping.proofs.planning.test.Goals as goal
 
 pub can_run-requires-clause-me : goal.can_run-requires-clause-me

@@ -1,7 +1,7 @@
 //! What is tested of calls and bodies never fails in a typed run: the law is the contract of a function without a body.
 
 ghost use Rattle.som_model.specs.World.{World};
-ghost use Rattle.som_passing.specs.Tests.{runner_tests};
+ghost use Rattle.som_runtime.specs.Tests.{runner_tests};
 ghost use Rattle.som_tested.specs.Implied.{AreImplied};
 
 /// The tests ask no more than what is always there in a typed run.
