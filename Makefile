@@ -4,7 +4,7 @@ OUT = crates/som/out
 SOM = $(OUT)/som
 HELLO = examples/hello/hello
 EXAMPLES = zoo shop document plugin
-TABLE = crates/som_rows/data/try.rows
+TABLE = crates/som_test_tables/data/try.rows
 
 .PHONY: try table hello examples test planted bench
 
@@ -17,7 +17,7 @@ try:
 
 # runs the commands of a table with no proof, and tells where something else is printed: make table TABLE=mine.rows
 table:
-	cd crates/som_rows && rt try --steps 1 --seconds 300 --data fixtures.rows=data/fixtures.rows --data table.rows=$(abspath $(TABLE)) -- fixtures.rows table.rows
+	cd crates/som_test_tables && rt try --steps 1 --seconds 300 --data fixtures.rows=data/fixtures.rows --data table.rows=$(abspath $(TABLE)) -- fixtures.rows table.rows
 	@echo "# 0 differences says that each command printed what the table has. The line on an interpreter can be passed over."
 
 # the program: `rt run` first proves what isn't proved yet

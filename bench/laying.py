@@ -3,7 +3,7 @@
 
     bench/laying.py [PROGRAM]
 
-PROGRAM is the built program (crates/som_queries/out/som_queries if none is given). It is run by hand and is no part of the gate. Time and
+PROGRAM is the built program (crates/som_test_kernel/out/som_test_kernel if none is given). It is run by hand and is no part of the gate. Time and
 memory are those of GNU /usr/bin/time, each of one run.
 
   ladder  two classes a level, each under both of the level above, the last of them the client's
@@ -76,7 +76,7 @@ def measured(program, images, word):
 
 def main():
     here = os.path.dirname(os.path.dirname(os.path.abspath(__file__)))
-    program = os.path.abspath(sys.argv[1]) if len(sys.argv) > 1 else os.path.join(here, "crates/som_queries/out/som_queries")
+    program = os.path.abspath(sys.argv[1]) if len(sys.argv) > 1 else os.path.join(here, "crates/som_test_kernel/out/som_test_kernel")
     inputs = [(f"ladder of {n + own}", ladder(n, own)) for n, own in ((1024, 16), (2048, 16), (4096, 256))]
     inputs += [(f"towers of {height}", towers(height, below)) for height, below in ((40, 1000), (80, 2000), (150, 2284))]
     for name, images in inputs:

@@ -2,8 +2,8 @@
 #![tactic(auto)]
 
 use som_cmd::run_som;
-use som_files::{FileStore, StandardOutput};
 use som_host::{host_entry, host_table};
+use som_io_system::{FileStore, StandardOutput};
 use som_model::{HostCode, List, NoMemory, Text};
 use std::alloc::Global;
 use std::env::Env;

@@ -1,11 +1,11 @@
 -- Which expressions are calls.
 use Rattle.std.proofs.Common.{◌≡◌, true, List, Option, sym, ◌∙◌, ap}
-use Rattle.som_syntax.specs.declared.words.TypeName.{TypeName}
-use Rattle.som_syntax.specs.declared.words.Word.{Word}
-use Rattle.som_syntax.specs.declared.expression.ExprText.{ExprText, out-ExprText, out-roll-ExprText}
-use Rattle.som_syntax.specs.declared.expression.ExprText.TheOpen.{ExprText-F}
-use Rattle.som_syntax.specs.declared.expression.ExprText.TheVariants as expr
-use Rattle.som_syntax.specs.declared.expression.ExprText.TheVariants.{rolls-Call, rolls-Lookup, rolls-Dispatch}
+use Rattle.som_ast.specs.declared.words.TypeName.{TypeName}
+use Rattle.som_ast.specs.declared.words.Word.{Word}
+use Rattle.som_ast.specs.declared.expression.ExprText.{ExprText, out-ExprText, out-roll-ExprText}
+use Rattle.som_ast.specs.declared.expression.ExprText.TheOpen.{ExprText-F}
+use Rattle.som_ast.specs.declared.expression.ExprText.TheVariants as expr
+use Rattle.som_ast.specs.declared.expression.ExprText.TheVariants.{rolls-Call, rolls-Lookup, rolls-Dispatch}
 use Rattle.som_body.specs.Statements.{is_call, is_call_form}
 
 pub step_is_call : (a : ExprText) (m : Word) (g : List ExprText) → is_call (expr.Call a m g) ≡ true

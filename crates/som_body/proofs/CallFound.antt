@@ -2,38 +2,38 @@
 use Rattle.std.proofs.Common.{◌≡◌, ℕ, zero, suc, ◌+◌, ◌-◌, ◌<◌, ◌≤◌, max, List, [], ◌∷◌, ◌++◌, length, take, drop, Bool, true, false, cond, Option, Some, None, Ok, Err, refl, sym, ◌∙◌, ap, subst, append_assoc, length-append, inl, inr, arith}
 use Rattle.std.proofs.lemmas.Bool.{cases_lt}
 use Rattle.std.proofs.lemmas.List.{append-nil}
-use Rattle.som_read.specs.Readers.{Outcome, Parser, ◌>>=◌, pure, repeat}
-use Rattle.som_read.specs.Tokens.{head, is_sign, is_key, same_key, same_sign, word}
-use Rattle.som_read.specs.declared.cursor.Stop.TheVariants.{Nesting}
-use Rattle.som_read.specs.declared.cursor.Turn.TheVariants.{Done}
-use Rattle.som_read.specs.declared.token.Key.{Key}
-use Rattle.som_read.specs.declared.token.Key.TheVariants as key
-use Rattle.som_read.specs.declared.token.Sign.TheVariants as sign
-use Rattle.som_read.specs.declared.token.Token.{Token}
-use Rattle.som_read.specs.declared.token.Token.TheVariants as token
-use Rattle.som_syntax.specs.declared.words.Word.{Word}
-use Rattle.som_read.proofs.Found.{climb_first, expect_found}
-use Rattle.som_read.proofs.Steps.{apart_key, same_sign_self}
-use Rattle.som_expressions.specs.Grammar as g
-use Rattle.som_expressions.specs.Levels.{top, down}
-use Rattle.som_expressions.specs.Reading as r
-use Rattle.som_expressions.specs.Reading.{tall}
-use Rattle.som_expressions.specs.declared.level.Tall.{Tall}
-use Rattle.som_syntax.specs.declared.expression.ExprText.{ExprText, out-ExprText, out-roll-ExprText}
-use Rattle.som_syntax.specs.declared.expression.ExprText.TheOpen.{ExprText-F}
-use Rattle.som_syntax.specs.declared.expression.ExprText.TheVariants as expr
-use Rattle.som_syntax.specs.declared.expression.ExprText.TheVariants.{rolls-Name, rolls-Variable}
-use Rattle.som_expressions.proofs.FormsFound.{dot, inner, step, step_climbs, pushed_none, pushed_end, word_read, name_read}
-use Rattle.som_expressions.proofs.LevelFound.{Deep, Found, climb_out, now_one, passed, next, lifted, leveled, Climbs, climbs_first, climbs_end}
-use Rattle.som_expressions.proofs.LevelLists.{top_append, take_first, take_later, top_part}
-use Rattle.som_expressions.proofs.LineFound.{arguments_found, postfix_found}
-use Rattle.som_expressions.proofs.StartLaws.{named_atom}
-use Rattle.som_expressions.proofs.StartsOf.{stepped_starts}
-use Rattle.som_expressions.proofs.Strengths.{strength, Starts, starts_wider, starts_high, postfix_wide, no_dot}
+use Rattle.som_parse.specs.Readers.{Outcome, Parser, ◌>>=◌, pure, repeat}
+use Rattle.som_parse.specs.Tokens.{head, is_sign, is_key, same_key, same_sign, word}
+use Rattle.som_parse.specs.declared.cursor.Stop.TheVariants.{Nesting}
+use Rattle.som_parse.specs.declared.cursor.Turn.TheVariants.{Done}
+use Rattle.som_parse.specs.declared.token.Key.{Key}
+use Rattle.som_parse.specs.declared.token.Key.TheVariants as key
+use Rattle.som_parse.specs.declared.token.Sign.TheVariants as sign
+use Rattle.som_parse.specs.declared.token.Token.{Token}
+use Rattle.som_parse.specs.declared.token.Token.TheVariants as token
+use Rattle.som_ast.specs.declared.words.Word.{Word}
+use Rattle.som_parse.proofs.Found.{climb_first, expect_found}
+use Rattle.som_parse.proofs.Steps.{apart_key, same_sign_self}
+use Rattle.som_body.specs.Grammar as g
+use Rattle.som_body.specs.Levels.{top, down}
+use Rattle.som_body.specs.Reading as r
+use Rattle.som_body.specs.Reading.{tall}
+use Rattle.som_body.specs.declared.level.Tall.{Tall}
+use Rattle.som_ast.specs.declared.expression.ExprText.{ExprText, out-ExprText, out-roll-ExprText}
+use Rattle.som_ast.specs.declared.expression.ExprText.TheOpen.{ExprText-F}
+use Rattle.som_ast.specs.declared.expression.ExprText.TheVariants as expr
+use Rattle.som_ast.specs.declared.expression.ExprText.TheVariants.{rolls-Name, rolls-Variable}
+use Rattle.som_body.proofs.FormsFound.{dot, inner, step, step_climbs, pushed_none, pushed_end, word_read, name_read}
+use Rattle.som_body.proofs.LevelFound.{Deep, Found, climb_out, now_one, passed, next, lifted, leveled, Climbs, climbs_first, climbs_end}
+use Rattle.som_body.proofs.LevelLists.{top_append, take_first, take_later, top_part}
+use Rattle.som_body.proofs.LineFound.{arguments_found, postfix_found}
+use Rattle.som_body.proofs.StartLaws.{named_atom}
+use Rattle.som_body.proofs.StartsOf.{stepped_starts}
+use Rattle.som_body.proofs.Strengths.{strength, Starts, starts_wider, starts_high, postfix_wide, no_dot}
 use Rattle.som_body.specs.StatementReading as sr
 use Rattle.som_body.specs.Statements as s
-use Rattle.som_syntax.specs.declared.body.StmtText.{StmtText}
-use Rattle.som_syntax.specs.declared.body.StmtText.TheVariants as stmt
+use Rattle.som_ast.specs.declared.body.StmtText.{StmtText}
+use Rattle.som_ast.specs.declared.body.StmtText.TheVariants as stmt
 
 abbrev semicolon : Token
 semicolon = token.Mark sign.Semicolon

@@ -1,6 +1,6 @@
 -- Readers of statements where one more level is left, in the code's numbers.
 use Rattle.std.proofs.Common.{◌≡◌, ℕ, suc, List, sym, ap}
-use Rattle.som_read.specs.declared.token.Token.{Token}
+use Rattle.som_parse.specs.declared.token.Token.{Token}
 use Rattle.som_body.specs.StatementReading as statements
 
 module _ (text_at : ℕ → List ℕ) where

@@ -1,29 +1,29 @@
 -- Files of bodies and mains are read where their levels suffice, and else are answered as a level too many.
 use Rattle.std.proofs.Common.{◌≡◌, ℕ, suc, ◌+◌, map, List, [], ◌∷◌, ◌++◌, length, false, Ok, refl, ap, subst, append_assoc, length-append, arith}
 use Rattle.std.proofs.lemmas.List.{append-nil}
-use Rattle.som_read.specs.Languages.{Listed}
-use Rattle.som_read.specs.Readers.{Outcome, Parser, listed, one_more, repeated, keeping, end}
-use Rattle.som_read.specs.Tokens.{head, same_sign}
-use Rattle.som_read.specs.declared.cursor.Turn.{Turn}
-use Rattle.som_read.specs.declared.token.Key.TheVariants as key
-use Rattle.som_read.specs.declared.token.Sign.TheVariants as sign
-use Rattle.som_read.specs.declared.token.Token.{Token}
-use Rattle.som_read.specs.declared.token.Token.TheVariants as token
-use Rattle.som_syntax.specs.declared.words.Word.{Word}
-use Rattle.som_read.proofs.Found.{expect_found, keyword_found, not_sign, listed_starts}
-use Rattle.som_read.proofs.Steps.{same_sign_self}
-use Rattle.som_expressions.specs.Grammar as g
-use Rattle.som_expressions.specs.Reading as r
-use Rattle.som_expressions.specs.Levels.{top}
-use Rattle.som_expressions.proofs.FormsFound.{word_read}
-use Rattle.som_expressions.proofs.LevelFound.{Found, now, now_one, made, next, Climbs, climbs_first, climbs_end, level_chain}
-use Rattle.som_expressions.proofs.WordFound.{name_starts, names_found}
+use Rattle.som_parse.specs.Languages.{Listed}
+use Rattle.som_parse.specs.Readers.{Outcome, Parser, listed, one_more, repeated, keeping, end}
+use Rattle.som_parse.specs.Tokens.{head, same_sign}
+use Rattle.som_parse.specs.declared.cursor.Turn.{Turn}
+use Rattle.som_parse.specs.declared.token.Key.TheVariants as key
+use Rattle.som_parse.specs.declared.token.Sign.TheVariants as sign
+use Rattle.som_parse.specs.declared.token.Token.{Token}
+use Rattle.som_parse.specs.declared.token.Token.TheVariants as token
+use Rattle.som_ast.specs.declared.words.Word.{Word}
+use Rattle.som_parse.proofs.Found.{expect_found, keyword_found, not_sign, listed_starts}
+use Rattle.som_parse.proofs.Steps.{same_sign_self}
+use Rattle.som_body.specs.Grammar as g
+use Rattle.som_body.specs.Reading as r
+use Rattle.som_body.specs.Levels.{top}
+use Rattle.som_body.proofs.FormsFound.{word_read}
+use Rattle.som_body.proofs.LevelFound.{Found, now, now_one, made, next, Climbs, climbs_first, climbs_end, level_chain}
+use Rattle.som_body.proofs.WordFound.{name_starts, names_found}
 use Rattle.som_body.specs.StatementReading as sr
 use Rattle.som_body.specs.Statements as s
-use Rattle.som_syntax.specs.declared.body.BlockText.{BlockText}
-use Rattle.som_syntax.specs.declared.body.BodyFile.{BodyFile}
-use Rattle.som_syntax.specs.declared.body.BodyText.{BodyText}
-use Rattle.som_syntax.specs.declared.body.MainFile.{MainFile}
+use Rattle.som_ast.specs.declared.body.BlockText.{BlockText}
+use Rattle.som_ast.specs.declared.body.BodyFile.{BodyFile}
+use Rattle.som_ast.specs.declared.body.BodyText.{BodyText}
+use Rattle.som_ast.specs.declared.body.MainFile.{MainFile}
 use Rattle.som_body.proofs.FileLaws.{long_body}
 use Rattle.som_body.proofs.StatementFound.{block_read}
 

@@ -1,24 +1,24 @@
 -- The readers of bodies and of mains read their languages, whatever the levels.
 use Rattle.std.proofs.Common.{◌≡◌, ℕ, ◌+◌, map, List, [], ◌∷◌, ◌++◌, Option, Some, refl, length-append, arith}
 use Rattle.std.proofs.lemmas.List.{append-nil}
-use Rattle.som_read.specs.Languages.{Lang, Listed, Repeated, nothing_yet, one_kept, one_left_out, Kept, it_is_kept}
-use Rattle.som_read.specs.Readers.{◌>>◌, keyword, keeping}
-use Rattle.som_read.specs.declared.token.Key.TheVariants as key
-use Rattle.som_read.specs.declared.token.Sign.TheVariants as sign
-use Rattle.som_read.specs.declared.token.Token.{Token}
-use Rattle.som_read.specs.declared.token.Token.TheVariants as token
-use Rattle.som_syntax.specs.declared.words.Word.{Word}
-use Rattle.som_read.proofs.Laws.{Lawful, wider, bind_law, pure_law}
-use Rattle.som_read.proofs.Repetition.{repeated_law, keeping_law}
-use Rattle.som_read.proofs.Steps.{after_sign, expect_then, keyword_then, end_then}
-use Rattle.som_read.proofs.Turns.{IsLong}
-use Rattle.som_expressions.specs.Grammar as g
-use Rattle.som_expressions.proofs.WordLaws.{any_word_law, names_law}
+use Rattle.som_parse.specs.Languages.{Lang, Listed, Repeated, nothing_yet, one_kept, one_left_out, Kept, it_is_kept}
+use Rattle.som_parse.specs.Readers.{◌>>◌, keyword, keeping}
+use Rattle.som_parse.specs.declared.token.Key.TheVariants as key
+use Rattle.som_parse.specs.declared.token.Sign.TheVariants as sign
+use Rattle.som_parse.specs.declared.token.Token.{Token}
+use Rattle.som_parse.specs.declared.token.Token.TheVariants as token
+use Rattle.som_ast.specs.declared.words.Word.{Word}
+use Rattle.som_parse.proofs.Laws.{Lawful, wider, bind_law, pure_law}
+use Rattle.som_parse.proofs.Repetition.{repeated_law, keeping_law}
+use Rattle.som_parse.proofs.Steps.{after_sign, expect_then, keyword_then, end_then}
+use Rattle.som_parse.proofs.Turns.{IsLong}
+use Rattle.som_body.specs.Grammar as g
+use Rattle.som_body.proofs.WordLaws.{any_word_law, names_law}
 use Rattle.som_body.specs.Answer.{Texts}
 use Rattle.som_body.specs.StatementReading as sr
 use Rattle.som_body.specs.Statements as s
-use Rattle.som_syntax.specs.declared.body.BlockText.{BlockText}
-use Rattle.som_syntax.specs.declared.body.BodyText.{BodyText}
+use Rattle.som_ast.specs.declared.body.BlockText.{BlockText}
+use Rattle.som_ast.specs.declared.body.BodyText.{BodyText}
 use Rattle.som_body.proofs.StatementLaws.{Block, all_kept, block_law, statement_at_law, if_at_law}
 
 module _ (text_at : ℕ → List ℕ) where

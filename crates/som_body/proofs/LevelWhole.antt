@@ -2,17 +2,17 @@
 use Rattle.std.proofs.Common.{◌≡◌, ℕ, ◌+◌, ◌<◌, ◌≤◌, suc, List, [], ◌∷◌, ◌++◌, length, take, Some, Ok, Err, refl, sym, ◌∙◌, ap, subst, append_assoc, length-append, inl, inr, arith}
 use Rattle.std.proofs.lemmas.Bool.{cases_lt}
 use Rattle.std.proofs.lemmas.List.{append-nil}
-use Rattle.som_read.specs.Readers.{Outcome, Parser}
-use Rattle.som_read.specs.Tokens.{head}
-use Rattle.som_read.specs.Faults.{Begins}
-use Rattle.som_read.specs.declared.cursor.Stop.{Stop}
-use Rattle.som_read.specs.declared.cursor.Stop.TheVariants.{Memory, Syntax, Nesting}
-use Rattle.som_read.specs.declared.token.Token.{Token}
-use Rattle.som_read.proofs.Laws.{Lawful, Met, Took, Stopped, Shares}
-use Rattle.som_read.proofs.Whole.{Fails}
-use Rattle.som_expressions.specs.Levels.{top}
-use Rattle.som_expressions.proofs.LevelLists.{top_take, top_part}
-use Rattle.som_expressions.proofs.LevelFound.{Deep, Found}
+use Rattle.som_parse.specs.Readers.{Outcome, Parser}
+use Rattle.som_parse.specs.Tokens.{head}
+use Rattle.som_parse.specs.Faults.{Begins}
+use Rattle.som_parse.specs.declared.cursor.Stop.{Stop}
+use Rattle.som_parse.specs.declared.cursor.Stop.TheVariants.{Memory, Syntax, Nesting}
+use Rattle.som_parse.specs.declared.token.Token.{Token}
+use Rattle.som_parse.proofs.Laws.{Lawful, Met, Took, Stopped, Shares}
+use Rattle.som_parse.proofs.Whole.{Fails}
+use Rattle.som_body.specs.Levels.{top}
+use Rattle.som_body.proofs.LevelLists.{top_take, top_part}
+use Rattle.som_body.proofs.LevelFound.{Deep, Found}
 use Rattle.som_body.specs.Answer.{Leveled, Texts, NoneDeep, SomeDeep}
 use Rattle.som_body.proofs.CallFound.{split_off}
 

@@ -1,32 +1,32 @@
 -- What the grammar derives as a statement or a block is read where its levels suffice, and else is answered as a level too many.
 use Rattle.std.proofs.Common.{◌≡◌, ℕ, zero, suc, ◌+◌, ◌<◌, ◌≤◌, List, [], ◌∷◌, ◌++◌, length, take, Bool, true, false, Option, Some, None, refl, ◌∙◌, ap, append_assoc, length-append, arith}
-use Rattle.som_read.specs.Readers.{Outcome, Parser, ◌>>=◌, one_more, repeated, keeping}
-use Rattle.som_read.specs.Tokens.{head, is_sign, is_key, same_key, same_sign}
-use Rattle.som_read.specs.declared.cursor.Turn.{Turn}
-use Rattle.som_read.specs.declared.token.Key.{Key}
-use Rattle.som_read.specs.declared.token.Key.TheVariants as key
-use Rattle.som_read.specs.declared.token.Sign.TheVariants as sign
-use Rattle.som_read.specs.declared.token.Token.{Token}
-use Rattle.som_read.specs.declared.token.Token.TheVariants as token
-use Rattle.som_syntax.specs.declared.words.TypeName.{TypeName}
-use Rattle.som_syntax.specs.declared.words.Word.{Word}
-use Rattle.som_read.proofs.Found.{expect_found, keyword_found}
-use Rattle.som_read.proofs.Steps.{apart_key, same_key_self}
-use Rattle.som_expressions.specs.Grammar as g
-use Rattle.som_expressions.specs.Levels.{top, down}
-use Rattle.som_expressions.specs.Reading as r
-use Rattle.som_syntax.specs.declared.expression.ExprText.{ExprText}
-use Rattle.som_expressions.proofs.FormsFound.{opening, closing, closes, word_read, name_read, kind_read}
-use Rattle.som_expressions.proofs.LevelFound.{Found, now, now_one, single, passed, made, next, lifted, Climbs, climbs_first, climbs_end, level_chain}
-use Rattle.som_expressions.proofs.LineFound.{expr_found}
-use Rattle.som_expressions.proofs.StartsOf.{expr_starts, postfix_starts}
-use Rattle.som_expressions.proofs.Strengths.{Starts, starts_deep, starts_low, starts_not, no_semicolon}
+use Rattle.som_parse.specs.Readers.{Outcome, Parser, ◌>>=◌, one_more, repeated, keeping}
+use Rattle.som_parse.specs.Tokens.{head, is_sign, is_key, same_key, same_sign}
+use Rattle.som_parse.specs.declared.cursor.Turn.{Turn}
+use Rattle.som_parse.specs.declared.token.Key.{Key}
+use Rattle.som_parse.specs.declared.token.Key.TheVariants as key
+use Rattle.som_parse.specs.declared.token.Sign.TheVariants as sign
+use Rattle.som_parse.specs.declared.token.Token.{Token}
+use Rattle.som_parse.specs.declared.token.Token.TheVariants as token
+use Rattle.som_ast.specs.declared.words.TypeName.{TypeName}
+use Rattle.som_ast.specs.declared.words.Word.{Word}
+use Rattle.som_parse.proofs.Found.{expect_found, keyword_found}
+use Rattle.som_parse.proofs.Steps.{apart_key, same_key_self}
+use Rattle.som_body.specs.Grammar as g
+use Rattle.som_body.specs.Levels.{top, down}
+use Rattle.som_body.specs.Reading as r
+use Rattle.som_ast.specs.declared.expression.ExprText.{ExprText}
+use Rattle.som_body.proofs.FormsFound.{opening, closing, closes, word_read, name_read, kind_read}
+use Rattle.som_body.proofs.LevelFound.{Found, now, now_one, single, passed, made, next, lifted, Climbs, climbs_first, climbs_end, level_chain}
+use Rattle.som_body.proofs.LineFound.{expr_found}
+use Rattle.som_body.proofs.StartsOf.{expr_starts, postfix_starts}
+use Rattle.som_body.proofs.Strengths.{Starts, starts_deep, starts_low, starts_not, no_semicolon}
 use Rattle.som_body.specs.StatementReading as sr
 use Rattle.som_body.specs.Statements as s
 use Rattle.som_body.specs.Statements.{block_of}
-use Rattle.som_syntax.specs.declared.body.BlockText.{BlockText}
-use Rattle.som_syntax.specs.declared.body.StmtText.{StmtText}
-use Rattle.som_syntax.specs.declared.body.StmtText.TheVariants as stmt
+use Rattle.som_ast.specs.declared.body.BlockText.{BlockText}
+use Rattle.som_ast.specs.declared.body.StmtText.{StmtText}
+use Rattle.som_ast.specs.declared.body.StmtText.TheVariants as stmt
 use Rattle.som_body.proofs.CallFound.{call_found, name_first}
 
 abbrev semicolon : Token

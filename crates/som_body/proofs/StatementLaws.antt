@@ -1,38 +1,38 @@
 -- The readers of statements and blocks read their languages, whatever the levels.
 use Rattle.std.proofs.Common.{◌≡◌, ℕ, zero, suc, ◌+◌, ◌-◌, List, [], ◌∷◌, ◌++◌, Bool, true, false, cond, Option, Some, None, refl, ◌∙◌, subst, append_assoc, length-append, arith}
 use Rattle.std.proofs.lemmas.List.{append-nil}
-use Rattle.som_read.specs.Languages.{Lang, Repeated, nothing_yet, one_kept, one_left_out, Kept, it_is_kept}
-use Rattle.som_read.specs.Readers.{Parser, ◌>>◌, ◌>>=◌, pure, stop, expect, keeping}
-use Rattle.som_read.specs.Tokens.{is_sign, is_key, word}
-use Rattle.som_read.specs.declared.cursor.Stop.TheVariants.{Syntax}
-use Rattle.som_read.specs.declared.token.Key.TheVariants as key
-use Rattle.som_read.specs.declared.token.Sign.TheVariants as sign
-use Rattle.som_read.specs.declared.token.Token.{Token}
-use Rattle.som_read.specs.declared.token.Token.TheVariants as token
-use Rattle.som_syntax.specs.declared.words.TypeName.TheVariants as types
-use Rattle.som_syntax.specs.declared.words.Word.{Word}
-use Rattle.som_read.proofs.Laws.{Lawful, Member, wider, bind_law, pure_law, stop_law, when_law}
-use Rattle.som_read.proofs.Repetition.{repeated_law, keeping_law}
-use Rattle.som_read.proofs.Steps.{is_key_true, after_sign, after_key, expect_then, keyword_then}
-use Rattle.som_read.proofs.Turns.{IsLong}
-use Rattle.som_expressions.specs.Grammar as g
-use Rattle.som_expressions.specs.Levels.{down}
-use Rattle.som_expressions.specs.Reading as r
-use Rattle.som_expressions.specs.Reading.{tall}
-use Rattle.som_expressions.specs.declared.level.Line.TheVariants as line
-use Rattle.som_expressions.specs.declared.level.Tall.{Tall}
-use Rattle.som_syntax.specs.declared.expression.ExprText.{ExprText}
-use Rattle.som_syntax.specs.declared.expression.ExprText.TheVariants as expr
-use Rattle.som_expressions.proofs.LineLaws.{Stepped, at_law, steps_law}
-use Rattle.som_expressions.proofs.OperatorLaws.{too_deep_law}
-use Rattle.som_expressions.proofs.PrimaryLaws.{OnLine}
-use Rattle.som_expressions.proofs.StartLaws.{named_atom, postfix_starts, zero_expr}
-use Rattle.som_expressions.proofs.WordLaws.{any_word_law, name_law, kind_law}
+use Rattle.som_parse.specs.Languages.{Lang, Repeated, nothing_yet, one_kept, one_left_out, Kept, it_is_kept}
+use Rattle.som_parse.specs.Readers.{Parser, ◌>>◌, ◌>>=◌, pure, stop, expect, keeping}
+use Rattle.som_parse.specs.Tokens.{is_sign, is_key, word}
+use Rattle.som_parse.specs.declared.cursor.Stop.TheVariants.{Syntax}
+use Rattle.som_parse.specs.declared.token.Key.TheVariants as key
+use Rattle.som_parse.specs.declared.token.Sign.TheVariants as sign
+use Rattle.som_parse.specs.declared.token.Token.{Token}
+use Rattle.som_parse.specs.declared.token.Token.TheVariants as token
+use Rattle.som_ast.specs.declared.words.TypeName.TheVariants as types
+use Rattle.som_ast.specs.declared.words.Word.{Word}
+use Rattle.som_parse.proofs.Laws.{Lawful, Member, wider, bind_law, pure_law, stop_law, when_law}
+use Rattle.som_parse.proofs.Repetition.{repeated_law, keeping_law}
+use Rattle.som_parse.proofs.Steps.{is_key_true, after_sign, after_key, expect_then, keyword_then}
+use Rattle.som_parse.proofs.Turns.{IsLong}
+use Rattle.som_body.specs.Grammar as g
+use Rattle.som_body.specs.Levels.{down}
+use Rattle.som_body.specs.Reading as r
+use Rattle.som_body.specs.Reading.{tall}
+use Rattle.som_body.specs.declared.level.Line.TheVariants as line
+use Rattle.som_body.specs.declared.level.Tall.{Tall}
+use Rattle.som_ast.specs.declared.expression.ExprText.{ExprText}
+use Rattle.som_ast.specs.declared.expression.ExprText.TheVariants as expr
+use Rattle.som_body.proofs.LineLaws.{Stepped, at_law, steps_law}
+use Rattle.som_body.proofs.OperatorLaws.{too_deep_law}
+use Rattle.som_body.proofs.PrimaryLaws.{OnLine}
+use Rattle.som_body.proofs.StartLaws.{named_atom, postfix_starts, zero_expr}
+use Rattle.som_body.proofs.WordLaws.{any_word_law, name_law, kind_law}
 use Rattle.som_body.specs.StatementReading as sr
 use Rattle.som_body.specs.Statements as s
-use Rattle.som_syntax.specs.declared.body.BlockText.{BlockText}
-use Rattle.som_syntax.specs.declared.body.StmtText.{StmtText}
-use Rattle.som_syntax.specs.declared.body.StmtText.TheVariants as stmt
+use Rattle.som_ast.specs.declared.body.BlockText.{BlockText}
+use Rattle.som_ast.specs.declared.body.StmtText.{StmtText}
+use Rattle.som_ast.specs.declared.body.StmtText.TheVariants as stmt
 use Rattle.som_body.proofs.CallForms.{step_is_call, lookup_is_call, dispatch_is_call}
 
 pub all_kept : {A : Type 0} {L : Lang A} {u : List Token} {o : Option A} → Kept L u o → o ≡ None → ⊥

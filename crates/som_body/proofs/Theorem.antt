@@ -4,30 +4,30 @@ use Rattle.std.proofs.lemmas.Bool.{cases_lt}
 use Rattle.std.proofs.Math.Seq.{take-length}
 use Rattle.som_lex.specs.declared.token.Tokens.{Tokens}
 use Rattle.som_model.specs.declared.limits.TheConstants.{MAX_NESTING}
-use Rattle.som_read.specs.Faults.{Begins, seen_at}
-use Rattle.som_read.specs.Readers.{Outcome, Parser, ◌>>◌, keyword, repeated, keeping}
-use Rattle.som_read.specs.Seen.{seen, seen_before, seen_from, places_from, text_at}
-use Rattle.som_read.specs.Tokens.{head}
-use Rattle.som_read.specs.declared.cursor.Stop.{Stop}
-use Rattle.som_read.specs.declared.cursor.Stop.TheVariants.{Memory, Syntax, Nesting}
-use Rattle.som_read.specs.declared.token.Key.TheVariants as key
-use Rattle.som_read.specs.declared.token.Token.{Token}
-use Rattle.som_read.specs.declared.fault.SyntaxFault.{SyntaxFault}
-use Rattle.som_read.specs.declared.fault.SyntaxFault.TheVariants as faults
-use Rattle.som_read.proofs.FirstFault.{place_of, begins_later, first_fault, fault_or_text, one_fault}
-use Rattle.som_read.proofs.Laws.{Lawful}
-use Rattle.som_read.proofs.Places.{CutAt, cut}
-use Rattle.som_read.proofs.Whole.{ends}
-use Rattle.som_expressions.specs.Levels.{top}
-use Rattle.som_expressions.proofs.LevelFound.{Found}
-use Rattle.som_expressions.proofs.LevelLists.{top_take, top_part}
+use Rattle.som_parse.specs.Faults.{Begins, seen_at}
+use Rattle.som_parse.specs.Readers.{Outcome, Parser, ◌>>◌, keyword, repeated, keeping}
+use Rattle.som_parse.specs.Seen.{seen, seen_before, seen_from, places_from, text_at}
+use Rattle.som_parse.specs.Tokens.{head}
+use Rattle.som_parse.specs.declared.cursor.Stop.{Stop}
+use Rattle.som_parse.specs.declared.cursor.Stop.TheVariants.{Memory, Syntax, Nesting}
+use Rattle.som_parse.specs.declared.token.Key.TheVariants as key
+use Rattle.som_parse.specs.declared.token.Token.{Token}
+use Rattle.som_parse.specs.declared.fault.SyntaxFault.{SyntaxFault}
+use Rattle.som_parse.specs.declared.fault.SyntaxFault.TheVariants as faults
+use Rattle.som_parse.proofs.FirstFault.{place_of, begins_later, first_fault, fault_or_text, one_fault}
+use Rattle.som_parse.proofs.Laws.{Lawful}
+use Rattle.som_parse.proofs.Places.{CutAt, cut}
+use Rattle.som_parse.proofs.Whole.{ends}
+use Rattle.som_body.specs.Levels.{top}
+use Rattle.som_body.proofs.LevelFound.{Found}
+use Rattle.som_body.proofs.LevelLists.{top_take, top_part}
 use Rattle.som_body.specs.Answer.{Leveled, Texts, NoneDeep, SomeDeep, IsNestingFault, IsSyntaxFault, IsAnswer, is_refused}
 use Rattle.som_body.specs.StatementReading as sr
 use Rattle.som_body.specs.Statements as s
-use Rattle.som_syntax.specs.declared.body.BlockText.{BlockText}
-use Rattle.som_syntax.specs.declared.body.BodyFile.{BodyFile}
-use Rattle.som_syntax.specs.declared.body.BodyText.{BodyText}
-use Rattle.som_syntax.specs.declared.body.MainFile.{MainFile}
+use Rattle.som_ast.specs.declared.body.BlockText.{BlockText}
+use Rattle.som_ast.specs.declared.body.BodyFile.{BodyFile}
+use Rattle.som_ast.specs.declared.body.BodyText.{BodyText}
+use Rattle.som_ast.specs.declared.body.MainFile.{MainFile}
 use Rattle.som_body.proofs.FileFound.{body_file_found, main_file_found}
 use Rattle.som_body.proofs.FileLaws.{body_file_law, main_file_law}
 use Rattle.som_body.proofs.LevelWhole.{LeavesAt, NestsAt, whole_read, syntax_fails, nesting_fails, memory_fails, one_value}

@@ -5,28 +5,28 @@ use Rattle.std.proofs.lemmas.List.Elements.{All-nil, All-cons}
 use Rattle.som_lex.specs.declared.token.Tokens.{Tokens}
 use Rattle.som_lex.specs.Spans.{IsSpelled}
 use Rattle.som_model.specs.declared.limits.TheConstants.{MAX_NESTING}
-use Rattle.som_read.specs.Seen.{text_at}
-use Rattle.som_read.specs.Tokens.{word}
-use Rattle.som_read.specs.declared.token.Token.{Token}
-use Rattle.som_syntax.specs.declared.words.Word.{Word}
-use Rattle.som_expressions.specs.Grammar as g
-use Rattle.som_expressions.specs.Levels.{top, down}
-use Rattle.som_expressions.specs.Within.{WordWithin, ExprTextWithin}
-use Rattle.som_syntax.specs.declared.expression.ExprText.{ExprText}
-use Rattle.som_syntax.specs.declared.expression.ExprText.TheVariants as expr
-use Rattle.som_expressions.proofs.LevelLists.{top_append, top_down}
-use Rattle.som_expressions.proofs.TokensWithin.{AreWithin, after, left, right, push, listed_within, tokens_within}
-use Rattle.som_expressions.proofs.WithinLimits.{ExprLow, raised, word_within, name_within, type_within, postfix_within, expr_within}
+use Rattle.som_parse.specs.Seen.{text_at}
+use Rattle.som_parse.specs.Tokens.{word}
+use Rattle.som_parse.specs.declared.token.Token.{Token}
+use Rattle.som_ast.specs.declared.words.Word.{Word}
+use Rattle.som_body.specs.Grammar as g
+use Rattle.som_body.specs.Levels.{top, down}
+use Rattle.som_body.specs.ExpressionWithin.{WordWithin, ExprTextWithin}
+use Rattle.som_ast.specs.declared.expression.ExprText.{ExprText}
+use Rattle.som_ast.specs.declared.expression.ExprText.TheVariants as expr
+use Rattle.som_body.proofs.LevelLists.{top_append, top_down}
+use Rattle.som_body.proofs.TokensWithin.{AreWithin, after, left, right, push, listed_within, tokens_within}
+use Rattle.som_body.proofs.ExpressionsWithinLimits.{ExprLow, raised, word_within, name_within, type_within, postfix_within, expr_within}
 use Rattle.som_body.specs.Answer.{AreBodies, IsMain}
 use Rattle.som_body.specs.Statements as s
 use Rattle.som_body.specs.Within.{StmtPartsWithin, StatementsWithin, StmtTextWithin, BlockTextWithin, BodyTextWithin, BodyFileWithin, MainFileWithin}
-use Rattle.som_syntax.specs.declared.body.BlockText.{BlockText}
-use Rattle.som_syntax.specs.declared.body.BodyFile.{BodyFile}
-use Rattle.som_syntax.specs.declared.body.BodyText.{BodyText}
-use Rattle.som_syntax.specs.declared.body.MainFile.{MainFile}
-use Rattle.som_syntax.specs.declared.body.StmtText.{StmtText, out-StmtText, roll-StmtText, out-roll-StmtText}
-use Rattle.som_syntax.specs.declared.body.StmtText.TheOpen.{StmtText-F}
-use Rattle.som_syntax.specs.declared.body.StmtText.TheVariants as stmt
+use Rattle.som_ast.specs.declared.body.BlockText.{BlockText}
+use Rattle.som_ast.specs.declared.body.BodyFile.{BodyFile}
+use Rattle.som_ast.specs.declared.body.BodyText.{BodyText}
+use Rattle.som_ast.specs.declared.body.MainFile.{MainFile}
+use Rattle.som_ast.specs.declared.body.StmtText.{StmtText, out-StmtText, roll-StmtText, out-roll-StmtText}
+use Rattle.som_ast.specs.declared.body.StmtText.TheOpen.{StmtText-F}
+use Rattle.som_ast.specs.declared.body.StmtText.TheVariants as stmt
 use Rattle.som_body.proofs.CallFound.{Opens, opens_name, opens_variable, opens_other, Rest, no_rest, some_rest, parted, opens, name_is_no_call, variable_is_no_call, name_begun, other_begun}
 use Rattle.som_body.proofs.StatementFound.{stmt_starts}
 

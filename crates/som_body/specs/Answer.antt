@@ -2,17 +2,17 @@
 use Rattle.std.specs.Prelude.{◌≡◌, ◌<◌, ◌≤◌, ℕ, ◌+◌, Bool, true, false, List, ◌++◌, length, take, Option, Some, Result, Ok, Err}
 use Rattle.som_lex.specs.declared.token.Tokens.{Tokens}
 use Rattle.som_model.specs.declared.limits.TheConstants.{MAX_NESTING}
-use Rattle.som_read.specs.Faults.{Begins, IsFirstFault, seen_at}
-use Rattle.som_read.specs.Languages.{Lang}
-use Rattle.som_read.specs.Seen.{seen, seen_before, text_at}
-use Rattle.som_read.specs.declared.token.Token.{Token}
-use Rattle.som_read.specs.declared.token.Token.TheVariants as token
-use Rattle.som_read.specs.declared.fault.SyntaxFault.{SyntaxFault}
-use Rattle.som_read.specs.declared.fault.SyntaxFault.TheVariants as faults
-use Rattle.som_expressions.specs.Levels.{top}
+use Rattle.som_parse.specs.Faults.{Begins, IsFirstFault, seen_at}
+use Rattle.som_parse.specs.Languages.{Lang}
+use Rattle.som_parse.specs.Seen.{seen, seen_before, text_at}
+use Rattle.som_parse.specs.declared.token.Token.{Token}
+use Rattle.som_parse.specs.declared.token.Token.TheVariants as token
+use Rattle.som_parse.specs.declared.fault.SyntaxFault.{SyntaxFault}
+use Rattle.som_parse.specs.declared.fault.SyntaxFault.TheVariants as faults
+use Rattle.som_body.specs.Levels.{top}
 use Rattle.som_body.specs.Statements.{IsBodyFile, IsMainFile}
-use Rattle.som_syntax.specs.declared.body.BodyFile.{BodyFile}
-use Rattle.som_syntax.specs.declared.body.MainFile.{MainFile}
+use Rattle.som_ast.specs.declared.body.BodyFile.{BodyFile}
+use Rattle.som_ast.specs.declared.body.MainFile.{MainFile}
 
 -- a language whose texts have a level with each of their tokens
 abbrev pub Leveled : Type 0 → Type 1

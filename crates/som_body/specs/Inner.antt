@@ -1,15 +1,15 @@
 -- What the code's reader of statements is made of.
 use Rattle.std.specs.Prelude.{ℕ, List}
-use Rattle.som_read.specs.Readers.{Parser, ◌>>=◌, after, when}
-use Rattle.som_read.specs.Tokens.{is_sign, is_key}
-use Rattle.som_read.specs.declared.token.Key.TheVariants as key
-use Rattle.som_read.specs.declared.token.Sign.TheVariants as sign
-use Rattle.som_syntax.specs.declared.words.Word.{Word}
-use Rattle.som_expressions.specs.Reading.{tall, steps_from}
-use Rattle.som_syntax.specs.declared.expression.ExprText.TheVariants as expr
+use Rattle.som_parse.specs.Readers.{Parser, ◌>>=◌, after, when}
+use Rattle.som_parse.specs.Tokens.{is_sign, is_key}
+use Rattle.som_parse.specs.declared.token.Key.TheVariants as key
+use Rattle.som_parse.specs.declared.token.Sign.TheVariants as sign
+use Rattle.som_ast.specs.declared.words.Word.{Word}
+use Rattle.som_body.specs.Reading.{tall, steps_from}
+use Rattle.som_ast.specs.declared.expression.ExprText.TheVariants as expr
 use Rattle.som_body.specs.StatementReading.{ending, returned, begins_name, own_statement, named_statement, call_statement, finish}
-use Rattle.som_syntax.specs.declared.body.StmtText.{StmtText}
-use Rattle.som_syntax.specs.declared.body.StmtText.TheVariants as stmt
+use Rattle.som_ast.specs.declared.body.StmtText.{StmtText}
+use Rattle.som_ast.specs.declared.body.StmtText.TheVariants as stmt
 
 -- a statement after "somThis", "." and the word
 abbrev pub own_rest : (ℕ → List ℕ) → ℕ → Word → Parser StmtText

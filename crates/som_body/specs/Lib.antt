@@ -1,3 +1,8 @@
+pub mod Levels
+pub mod Grammar
+pub mod Reading
+pub mod ExpressionInner
+pub mod ExpressionWithin
 pub mod Statements
 pub mod StatementReading
 pub mod Answer

@@ -1,26 +1,26 @@
 -- The readers of statements, bodies and mains, with one token in hand. `statement_at text_at d` reads a statement where d levels are left.
 use Rattle.std.specs.Prelude.{ℕ, zero, suc, Bool, true, false, if◌then◌else◌, List, [], ◌∷◌, Option, Some, None}
-use Rattle.som_read.specs.Readers.{Parser, ◌>>=◌, ◌>>◌, pure, stop, when, after, expect, keyword, end, listed, repeated, keeping}
-use Rattle.som_read.specs.Tokens.{is_sign, is_key}
-use Rattle.som_read.specs.declared.cursor.Stop.TheVariants.{Syntax}
-use Rattle.som_read.specs.declared.token.Key.TheVariants as key
-use Rattle.som_read.specs.declared.token.Sign.TheVariants as sign
-use Rattle.som_read.specs.declared.token.Token.{Token}
-use Rattle.som_read.specs.declared.token.Token.TheVariants as token
-use Rattle.som_syntax.specs.declared.words.Word.{Word}
-use Rattle.som_expressions.specs.Grammar.{is_name}
-use Rattle.som_expressions.specs.Reading.{tall, begins_postfix, too_deep, any_word, name, kind, at, steps_from}
-use Rattle.som_expressions.specs.declared.level.Line.TheVariants as line
-use Rattle.som_expressions.specs.declared.level.Tall.{Tall}
-use Rattle.som_syntax.specs.declared.expression.ExprText.{ExprText}
-use Rattle.som_syntax.specs.declared.expression.ExprText.TheVariants as expr
+use Rattle.som_parse.specs.Readers.{Parser, ◌>>=◌, ◌>>◌, pure, stop, when, after, expect, keyword, end, listed, repeated, keeping}
+use Rattle.som_parse.specs.Tokens.{is_sign, is_key}
+use Rattle.som_parse.specs.declared.cursor.Stop.TheVariants.{Syntax}
+use Rattle.som_parse.specs.declared.token.Key.TheVariants as key
+use Rattle.som_parse.specs.declared.token.Sign.TheVariants as sign
+use Rattle.som_parse.specs.declared.token.Token.{Token}
+use Rattle.som_parse.specs.declared.token.Token.TheVariants as token
+use Rattle.som_ast.specs.declared.words.Word.{Word}
+use Rattle.som_body.specs.Grammar.{is_name}
+use Rattle.som_body.specs.Reading.{tall, begins_postfix, too_deep, any_word, name, kind, at, steps_from}
+use Rattle.som_body.specs.declared.level.Line.TheVariants as line
+use Rattle.som_body.specs.declared.level.Tall.{Tall}
+use Rattle.som_ast.specs.declared.expression.ExprText.{ExprText}
+use Rattle.som_ast.specs.declared.expression.ExprText.TheVariants as expr
 use Rattle.som_body.specs.Statements.{is_call, block_of}
-use Rattle.som_syntax.specs.declared.body.BlockText.{BlockText}
-use Rattle.som_syntax.specs.declared.body.BodyFile.{BodyFile}
-use Rattle.som_syntax.specs.declared.body.BodyText.{BodyText}
-use Rattle.som_syntax.specs.declared.body.MainFile.{MainFile}
-use Rattle.som_syntax.specs.declared.body.StmtText.{StmtText}
-use Rattle.som_syntax.specs.declared.body.StmtText.TheVariants as stmt
+use Rattle.som_ast.specs.declared.body.BlockText.{BlockText}
+use Rattle.som_ast.specs.declared.body.BodyFile.{BodyFile}
+use Rattle.som_ast.specs.declared.body.BodyText.{BodyText}
+use Rattle.som_ast.specs.declared.body.MainFile.{MainFile}
+use Rattle.som_ast.specs.declared.body.StmtText.{StmtText}
+use Rattle.som_ast.specs.declared.body.StmtText.TheVariants as stmt
 
 abbrev pub begins_name : Option Token → Bool
 begins_name (Some (token.Word k p)) = is_name k

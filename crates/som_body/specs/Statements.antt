@@ -1,22 +1,22 @@
 -- The grammar of statements, bodies and mains. `IsStmt text_at l u s`: the tokens u are a statement, s is its tree, and l the levels with each of the tokens.
 use Rattle.std.specs.Prelude.{◌≡◌, ℕ, Bool, true, false, if◌then◌else◌, List, [], ◌∷◌, ◌++◌, drop, map, Some, None}
-use Rattle.som_read.specs.Languages.{Listed}
-use Rattle.som_read.specs.declared.token.Key.TheVariants as key
-use Rattle.som_read.specs.declared.token.Sign.TheVariants as sign
-use Rattle.som_read.specs.declared.token.Token.{Token}
-use Rattle.som_read.specs.declared.token.Token.TheVariants as token
-use Rattle.som_syntax.specs.declared.words.TypeName.{TypeName}
-use Rattle.som_syntax.specs.declared.words.Word.{Word}
-use Rattle.som_expressions.specs.Levels.{down}
-use Rattle.som_expressions.specs.Grammar.{is_name, IsWord, IsName, IsType, IsExpr, IsPostfix}
-use Rattle.som_syntax.specs.declared.expression.ExprText.{ExprText, out-ExprText}
-use Rattle.som_syntax.specs.declared.expression.ExprText.TheOpen.{ExprText-F}
-use Rattle.som_syntax.specs.declared.body.BlockText.{BlockText}
-use Rattle.som_syntax.specs.declared.body.BodyFile.{BodyFile}
-use Rattle.som_syntax.specs.declared.body.BodyText.{BodyText}
-use Rattle.som_syntax.specs.declared.body.MainFile.{MainFile}
-use Rattle.som_syntax.specs.declared.body.StmtText.{StmtText}
-use Rattle.som_syntax.specs.declared.body.StmtText.TheVariants as stmt
+use Rattle.som_parse.specs.Languages.{Listed}
+use Rattle.som_parse.specs.declared.token.Key.TheVariants as key
+use Rattle.som_parse.specs.declared.token.Sign.TheVariants as sign
+use Rattle.som_parse.specs.declared.token.Token.{Token}
+use Rattle.som_parse.specs.declared.token.Token.TheVariants as token
+use Rattle.som_ast.specs.declared.words.TypeName.{TypeName}
+use Rattle.som_ast.specs.declared.words.Word.{Word}
+use Rattle.som_body.specs.Levels.{down}
+use Rattle.som_body.specs.Grammar.{is_name, IsWord, IsName, IsType, IsExpr, IsPostfix}
+use Rattle.som_ast.specs.declared.expression.ExprText.{ExprText, out-ExprText}
+use Rattle.som_ast.specs.declared.expression.ExprText.TheOpen.{ExprText-F}
+use Rattle.som_ast.specs.declared.body.BlockText.{BlockText}
+use Rattle.som_ast.specs.declared.body.BodyFile.{BodyFile}
+use Rattle.som_ast.specs.declared.body.BodyText.{BodyText}
+use Rattle.som_ast.specs.declared.body.MainFile.{MainFile}
+use Rattle.som_ast.specs.declared.body.StmtText.{StmtText}
+use Rattle.som_ast.specs.declared.body.StmtText.TheVariants as stmt
 
 -- whether the outermost form of an expression is a call
 abbrev pub is_call_form : {A : Type 0} → ExprText-F A → Bool

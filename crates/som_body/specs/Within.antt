@@ -1,14 +1,14 @@
 -- Trees of bodies and mains whose words, numbers, literals, levels and statements are within their limits, as those of texts are.
 use Rattle.std.specs.Prelude.{ℕ, zero, suc, ◌≤◌, length, All, IfSome}
 use Rattle.som_model.specs.declared.limits.TheConstants.{MAX_NESTING}
-use Rattle.som_expressions.specs.Within.{WordWithin, TypeWithin, ExprTextWithin}
-use Rattle.som_syntax.specs.declared.expression.ExprText.{ExprText}
-use Rattle.som_syntax.specs.declared.body.BlockText.{BlockText}
-use Rattle.som_syntax.specs.declared.body.BodyFile.{BodyFile}
-use Rattle.som_syntax.specs.declared.body.BodyText.{BodyText}
-use Rattle.som_syntax.specs.declared.body.MainFile.{MainFile}
-use Rattle.som_syntax.specs.declared.body.StmtText.{StmtText, out-StmtText}
-use Rattle.som_syntax.specs.declared.body.StmtText.TheOpen.{StmtText-F}
+use Rattle.som_body.specs.ExpressionWithin.{WordWithin, TypeWithin, ExprTextWithin}
+use Rattle.som_ast.specs.declared.expression.ExprText.{ExprText}
+use Rattle.som_ast.specs.declared.body.BlockText.{BlockText}
+use Rattle.som_ast.specs.declared.body.BodyFile.{BodyFile}
+use Rattle.som_ast.specs.declared.body.BodyText.{BodyText}
+use Rattle.som_ast.specs.declared.body.MainFile.{MainFile}
+use Rattle.som_ast.specs.declared.body.StmtText.{StmtText, out-StmtText}
+use Rattle.som_ast.specs.declared.body.StmtText.TheOpen.{StmtText-F}
 
 -- the fields of a statement, by which expressions and blocks can stand in it
 abbrev pub StmtPartsWithin : (ExprText → Type 0) → (BlockText → Type 0) → StmtText-F StmtText BlockText → Type 0

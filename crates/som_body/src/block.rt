@@ -3,19 +3,19 @@
 ghost use Rattle.som_body.specs.Inner.{plain_statement as plain_statement_of};
 ghost use Rattle.som_body.specs.StatementReading as spec;
 ghost use Rattle.som_model.specs.declared.limits.TheConstants.{MAX_NESTING};
-ghost use Rattle.som_read.specs.Answer.{Answers};
-ghost use Rattle.som_read.specs.Readers.{keeping, one_more, repeated};
-ghost use Rattle.som_read.specs.Seen.{text_at};
-ghost use Rattle.som_read.specs.Tokens.{head, is_sign};
-ghost use Rattle.som_read.specs.declared.token.Sign.TheVariants as sign;
+ghost use Rattle.som_parse.specs.Answer.{Answers};
+ghost use Rattle.som_parse.specs.Readers.{keeping, one_more, repeated};
+ghost use Rattle.som_parse.specs.Seen.{text_at};
+ghost use Rattle.som_parse.specs.Tokens.{head, is_sign};
+ghost use Rattle.som_parse.specs.declared.token.Sign.TheVariants as sign;
 ghost use Rattle.std.specs.Prelude.{◌≡◌, ◌≤◌, ◌+◌};
 
 use crate::statement::{call, freed, named, own, printed, returned, variable};
-use som_expressions::{Line, begins_postfix, is_name, line_at, with_item};
+use crate::{Line, begins_postfix, is_name, line_at, with_item};
+use som_ast::{BlockText, StmtText};
 use som_lex::Tokens;
 use som_model::List;
-use som_read::{Cursor, Key, Sign, Stop, Token, Turn};
-use som_syntax::{BlockText, StmtText};
+use som_parse::{Cursor, Key, Sign, Stop, Token, Turn};
 use std::alloc::Global;
 
 fn begins_name(left: &Cursor<'_>) -> bool
@@ -58,7 +58,7 @@ fn next_statement(
     Ok(Turn::More(statements))
 }
 
-#[tactic(auto, unfolding(som_read::specs::Readers::repeated, som_read::specs::Readers::repeat))]
+#[tactic(auto, unfolding(som_parse::specs::Readers::repeated, som_parse::specs::Readers::repeat))]
 #[cycle(statements)]
 fn statements(
     alloc: Global,

@@ -1,20 +1,20 @@
 //! Bodies, files of bodies, and mains.
 
 ghost use Rattle.som_body.specs.StatementReading as spec;
-ghost use Rattle.som_expressions.specs.Reading as expression;
+ghost use Rattle.som_body.specs.Reading as expression;
 ghost use Rattle.som_model.specs.declared.limits.TheConstants.{MAX_NESTING};
-ghost use Rattle.som_read.specs.Answer.{Answers};
-ghost use Rattle.som_read.specs.Readers.{another, keeping, listed, one_more, repeated};
-ghost use Rattle.som_read.specs.Seen.{text_at};
-ghost use Rattle.som_read.specs.Tokens.{head};
+ghost use Rattle.som_parse.specs.Answer.{Answers};
+ghost use Rattle.som_parse.specs.Readers.{another, keeping, listed, one_more, repeated};
+ghost use Rattle.som_parse.specs.Seen.{text_at};
+ghost use Rattle.som_parse.specs.Tokens.{head};
 ghost use Rattle.std.specs.Prelude.{◌≡◌};
 
 use crate::block::block;
-use som_expressions::{any_word, name, with_item};
+use crate::{any_word, name, with_item};
+use som_ast::{BlockText, BodyFile, BodyText, MainFile, Word};
 use som_lex::Tokens;
 use som_model::{List, MAX_NESTING};
-use som_read::{Cursor, Key, Sign, Stop, Turn};
-use som_syntax::{BlockText, BodyFile, BodyText, MainFile, Word};
+use som_parse::{Cursor, Key, Sign, Stop, Turn};
 use std::alloc::Global;
 
 fn next_param(
@@ -34,7 +34,7 @@ fn next_param(
     Ok(Turn::More(names))
 }
 
-#[tactic(auto, unfolding(som_read::specs::Readers::listed, som_read::specs::Readers::repeat))]
+#[tactic(auto, unfolding(som_parse::specs::Readers::listed, som_parse::specs::Readers::repeat))]
 fn some_params(alloc: Global, tokens: &Tokens, left: &mut Cursor<'_>) -> Result<List<Word>, Stop>
     ensures { Answers (listed (expression.name (text_at tokens.now)) left.old.rest.now) result left.new.rest.now }
 {
@@ -112,7 +112,7 @@ fn next_body(
     Ok(Turn::More(bodies))
 }
 
-#[tactic(auto, unfolding(som_read::specs::Readers::repeated, som_read::specs::Readers::repeat))]
+#[tactic(auto, unfolding(som_parse::specs::Readers::repeated, som_parse::specs::Readers::repeat))]
 fn bodies(alloc: Global, tokens: &Tokens, left: &mut Cursor<'_>) -> Result<List<BodyText>, Stop>
     ensures { Answers (repeated spec.ends_file (keeping (spec.body (text_at tokens.now) MAX_NESTING)) left.old.rest.now) result left.new.rest.now }
 {

@@ -2,13 +2,13 @@
 
 ghost use Rattle.som_body.specs.Answer.{AreBodies, IsMain, Texts};
 ghost use Rattle.som_body.specs.Statements.{IsBodyFile, IsMainFile};
-ghost use Rattle.som_syntax.specs.declared.body.BodyFile.{BodyFile};
-ghost use Rattle.som_syntax.specs.declared.body.MainFile.{MainFile};
+ghost use Rattle.som_ast.specs.declared.body.BodyFile.{BodyFile};
+ghost use Rattle.som_ast.specs.declared.body.MainFile.{MainFile};
 ghost use Rattle.som_lex.specs.declared.token.Tokens.{Tokens};
-ghost use Rattle.som_read.specs.Seen.{text_at};
-ghost use Rattle.som_read.specs.declared.token.Token.{Token};
-ghost use Rattle.som_read.specs.declared.fault.SyntaxFault.{SyntaxFault};
-ghost use Rattle.som_read.specs.declared.fault.SyntaxFault.TheVariants as faults;
+ghost use Rattle.som_parse.specs.Seen.{text_at};
+ghost use Rattle.som_parse.specs.declared.token.Token.{Token};
+ghost use Rattle.som_parse.specs.declared.fault.SyntaxFault.{SyntaxFault};
+ghost use Rattle.som_parse.specs.declared.fault.SyntaxFault.TheVariants as faults;
 ghost use Rattle.std.specs.Prelude.{◌≡◌, ◌≢◌, List, Result, Err};
 
 /// The grammar derives no tokens as two files of bodies, with whatever levels.

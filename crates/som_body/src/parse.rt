@@ -5,16 +5,16 @@ ghost use Rattle.som_body.specs.StatementReading.{body_file as body_file_of, mai
 ghost use Rattle.som_body.specs.Within.{BodyFileWithin, MainFileWithin};
 ghost use Rattle.som_lex.specs.Spans.{IsSpelled};
 ghost use Rattle.som_model.specs.declared.limits.TheConstants.{MAX_NESTING};
-ghost use Rattle.som_read.specs.Seen.{places_from, seen_from, text_at};
-ghost use Rattle.som_read.specs.Tokens.{head};
-ghost use Rattle.som_read.specs.declared.cursor.Stop.TheVariants as stops;
+ghost use Rattle.som_parse.specs.Seen.{places_from, seen_from, text_at};
+ghost use Rattle.som_parse.specs.Tokens.{head};
+ghost use Rattle.som_parse.specs.declared.cursor.Stop.TheVariants as stops;
 ghost use Rattle.std.specs.Prelude.{◌≡◌, ◌≢◌, All, IfOk, length};
 
 use crate::SyntaxFault;
 use crate::file::{body_file, main_file};
+use som_ast::{BodyFile, MainFile};
 use som_lex::Tokens;
-use som_read::{Cursor, Seen, Stop, Token, see};
-use som_syntax::{BodyFile, MainFile};
+use som_parse::{Cursor, Seen, Stop, Token, see};
 use std::alloc::Global;
 
 fn is_refused(left: &Cursor<'_>) -> bool

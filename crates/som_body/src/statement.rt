@@ -4,14 +4,14 @@ ghost use Rattle.som_body.specs.Inner.{own_rest as own_rest_of};
 ghost use Rattle.som_body.specs.StatementReading as spec;
 ghost use Rattle.som_body.specs.Statements.{is_call as is_call_of};
 ghost use Rattle.som_model.specs.declared.limits.TheConstants.{MAX_NESTING};
-ghost use Rattle.som_read.specs.Answer.{Answers};
-ghost use Rattle.som_read.specs.Seen.{text_at};
+ghost use Rattle.som_parse.specs.Answer.{Answers};
+ghost use Rattle.som_parse.specs.Seen.{text_at};
 ghost use Rattle.std.specs.Prelude.{◌≡◌, ◌≤◌};
 
-use som_expressions::{Line, Tall, any_word, kind, line_at, name, steps_from};
+use crate::{Line, Tall, any_word, kind, line_at, name, steps_from};
+use som_ast::{ExprText, StmtText, Word};
 use som_lex::Tokens;
-use som_read::{Cursor, Sign, Stop};
-use som_syntax::{ExprText, StmtText, Word};
+use som_parse::{Cursor, Sign, Stop};
 use std::alloc::Global;
 
 #[tactic(auto, unfolding(crate::specs::Statements::is_call))]

@@ -18,33 +18,33 @@ use Rattle.som_model.specs.Kernel.{class_mgr_face, som_class_mgr, som_object}
 use Rattle.som_model.specs.Made.{ComesOf, IsMade, metaclass, parent, root}
 use Rattle.som_model.specs.Metaclass.{meta}
 use Rattle.som_model.specs.Rules.{is_void}
-use Rattle.som_model.specs.State.{Nil, Value, zero_of}
-use Rattle.som_model.specs.World.{world}
+use Rattle.som_semantics.specs.State.{Nil, Value, zero_of}
+use Rattle.som_semantics.specs.World.{world}
 use Rattle.som_model.proofs.KeyLaws.{exact_keys}
 use Rattle.som_model.proofs.NamedLaws.{hierarchy_parents, out_named}
-use Rattle.som_laws.proofs.Laws.{descends_test}
-use Rattle.som_laws.proofs.Members.{not_true}
-use Rattle.som_hierarchy.proofs.Lists.{map_mem, mem_get}
-use Rattle.som_hierarchy.proofs.Standing as standing
-use Rattle.som_hierarchy.specs.Metaclasses.{IsDeclared}
+use Rattle.som_model_laws.proofs.Laws.{descends_test}
+use Rattle.som_model_laws.proofs.Members.{not_true}
+use Rattle.som_model_laws.proofs.Lists.{map_mem, mem_get}
+use Rattle.som_model_laws.proofs.Standing as standing
+use Rattle.som_model_laws.specs.Metaclasses.{IsDeclared}
 use Rattle.som_meta.specs.Numbering.{IsNumbered, IsToken, Numbering, key_at, names_of}
-use Rattle.som_numbers.specs.declared.position.Kind.{Kind}
-use Rattle.som_numbers.specs.declared.position.Kind.TheVariants as kinds
-use Rattle.som_numbers.specs.Numbers.{IsProxy}
-use Rattle.som_numbers.proofs.Adding.{out_derived, out_proxy}
-use Rattle.som_numbers.proofs.Declaring.{at_mem, mem_at}
-use Rattle.som_numbers.proofs.Making.{some_class}
-use Rattle.som_classes.specs.Loaded.{AreLoaded}
-use Rattle.som_classes.proofs.Bodies.{found, key_0, made_unknown}
-use Rattle.som_classes.proofs.Loading as loading
-use Rattle.som_places.specs.Variables.{object_variables, own_variables, place_in, types_of, variables_in}
-use Rattle.som_places.proofs.Placing.{falls, place_kind, places_differ, tells}
-use Rattle.som_classes.specs.Making.{IsMarked}
+use Rattle.som_class_ids.specs.declared.position.Kind.{Kind}
+use Rattle.som_class_ids.specs.declared.position.Kind.TheVariants as kinds
+use Rattle.som_class_ids.specs.Numbers.{IsProxy}
+use Rattle.som_class_ids.proofs.Adding.{out_derived, out_proxy}
+use Rattle.som_class_ids.proofs.Declaring.{at_mem, mem_at}
+use Rattle.som_class_ids.proofs.Making.{some_class}
+use Rattle.som_class_table.specs.Loaded.{AreLoaded}
+use Rattle.som_class_table.proofs.Bodies.{found, key_0, made_unknown}
+use Rattle.som_class_table.proofs.LoadedClasses as loading
+use Rattle.som_class_variables.specs.Variables.{object_variables, own_variables, place_in, types_of, variables_in}
+use Rattle.som_class_variables.proofs.Placing.{falls, place_kind, places_differ, tells}
+use Rattle.som_class_table.specs.Making.{IsMarked}
 use Rattle.som_values.specs.Variables.{AreDisjoint}
-use Rattle.som_task.specs.Settings as settings
-use Rattle.som_runtime.specs.Asked.{Agree, CanLoad, HaveNumbers, IsClosed, is_proxy, target_after}
-use Rattle.som_made.specs.Made.{IsReached}
-use Rattle.som_linked.specs.Linked.{IsLinked, IsMadeIn, Linkage}
+use Rattle.som_interp_state.specs.Settings as settings
+use Rattle.som_interp_state.specs.Asked.{Agree, CanLoad, HaveNumbers, IsClosed, is_proxy, target_after}
+use Rattle.som_class_loaded.specs.Made.{IsReached}
+use Rattle.som_class_kernel.specs.Linked.{IsLinked, IsMadeIn, Linkage}
 use Rattle.som_classmgr.specs.Asking.{answers_of, is_made, is_token, kind_at, linked_of, places_of}
 use Rattle.som_classmgr.proofs.Reached.{comes_there, number, ok_then}
 use Rattle.som_classmgr.proofs.Reading.{declared_key, mapped_at}

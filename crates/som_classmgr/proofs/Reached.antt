@@ -9,18 +9,18 @@ use Rattle.som_model.specs.Loads.{keys_of}
 use Rattle.som_model.specs.Made.{ComesOf, root, parent, metaclass}
 use Rattle.som_model.specs.Made as made
 use Rattle.som_model.specs.Metaclass.{meta}
-use Rattle.som_laws.proofs.Members.{mem_left, mem_right, mem_split}
-use Rattle.som_hierarchy.proofs.Lists.{get_mem, map_mem, mem_get, mem_map}
-use Rattle.som_hierarchy.proofs.Metas.{in_four}
+use Rattle.som_model_laws.proofs.Members.{mem_left, mem_right, mem_split}
+use Rattle.som_model_laws.proofs.Lists.{get_mem, map_mem, mem_get, mem_map}
+use Rattle.som_model_laws.proofs.Metas.{in_four}
 use Rattle.som_meta.specs.Numbering.{IsNumbered, Numbering, key_at}
-use Rattle.som_numbers.proofs.Declaring.{at_mem, mem_at}
-use Rattle.som_classes.specs.Loaded.{AreLoaded}
-use Rattle.som_closure.proofs.Closing.{comes_by}
-use Rattle.som_classes.specs.Making.{IsNeedOf}
-use Rattle.som_made.specs.Made.{IsReached, KeepsMade}
-use Rattle.som_linked.specs.Linked.{IsLinked, IsMadeIn, Linkage}
+use Rattle.som_class_ids.proofs.Declaring.{at_mem, mem_at}
+use Rattle.som_class_table.specs.Loaded.{AreLoaded}
+use Rattle.som_class_load_order.proofs.Closing.{comes_by}
+use Rattle.som_class_table.specs.Making.{IsNeedOf}
+use Rattle.som_class_loaded.specs.Made.{IsReached, KeepsMade}
+use Rattle.som_class_kernel.specs.Linked.{IsLinked, IsMadeIn, Linkage}
 use Rattle.som_classmgr.specs.Reached.{IsMadeBy}
-use Rattle.som_made.proofs.Marks.{within_marks}
+use Rattle.som_class_loaded.proofs.Marks.{within_marks}
 
 pub ok_then : {T E : Type 0} (r : Result T E) {A B : Type 0} → (A → B) → OnOk r A → OnOk r B
 ok_then (Ok x) f a = f a

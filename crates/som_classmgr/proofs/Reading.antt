@@ -5,17 +5,17 @@ use Rattle.som_model.specs.declared.key.ClassKey.{ClassKey}
 use Rattle.som_model.specs.Lists.{Mem}
 use Rattle.som_model.specs.Class.{Class}
 use Rattle.som_model.specs.Classes.{hierarchy, version_of}
-use Rattle.som_model.specs.Invoked.{class_found, version_fits}
-use Rattle.som_model.specs.State.{Long, Str}
-use Rattle.som_model.specs.World.{World, named_class, world}
+use Rattle.som_semantics.specs.Invoked.{class_found, version_fits}
+use Rattle.som_semantics.specs.State.{Long, Str}
+use Rattle.som_semantics.specs.World.{World, named_class, world}
 use Rattle.som_model.proofs.NamedLaws.{hierarchy_parents}
-use Rattle.som_hierarchy.proofs.Lists.{get_mem}
-use Rattle.som_hierarchy.proofs.Standing as standing
-use Rattle.som_hierarchy.specs.Metaclasses.{IsDeclared}
+use Rattle.som_model_laws.proofs.Lists.{get_mem}
+use Rattle.som_model_laws.proofs.Standing as standing
+use Rattle.som_model_laws.specs.Metaclasses.{IsDeclared}
 use Rattle.som_meta.specs.Numbering.{IsNumbered, Numbering, key_at}
-use Rattle.som_numbers.proofs.Making.{some_class}
-use Rattle.som_classes.specs.Loaded.{AreLoaded}
-use Rattle.som_classes.proofs.Bodies.{found, made_unknown}
+use Rattle.som_class_ids.proofs.Making.{some_class}
+use Rattle.som_class_table.specs.Loaded.{AreLoaded}
+use Rattle.som_class_table.proofs.Bodies.{found, made_unknown}
 use Rattle.som_classmgr.specs.Parents.{parent_at}
 
 -- a declared class has a module and a name

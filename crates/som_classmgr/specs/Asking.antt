@@ -12,12 +12,12 @@ use Rattle.som_model.specs.Classes.{hierarchy, is_a, parents_of, variable_type, 
 use Rattle.som_model.specs.Owner.{introduces, owner, sig_of}
 use Rattle.som_model.specs.Implementation.{held, implementation}
 use Rattle.som_model.specs.Metaclass.{hooks, meta}
-use Rattle.som_model.specs.World.{World, named_class}
+use Rattle.som_semantics.specs.World.{World, named_class}
 use Rattle.som_meta.specs.Numbering.{Numbering, key_at, method_at, names_of}
-use Rattle.som_places.specs.Variables.{object_variables, own_variables, place_in}
-use Rattle.som_task.specs.Settings.{Linked}
+use Rattle.som_class_variables.specs.Variables.{object_variables, own_variables, place_in}
+use Rattle.som_interp_state.specs.Settings.{Linked}
 use Rattle.som_values.specs.Variables.{Places}
-use Rattle.som_runtime.specs.Asked.{target_after}
+use Rattle.som_interp_state.specs.Asked.{target_after}
 
 abbrev reference : List ℕ → Option ClassKey → Option MethodRef
 reference name None = None

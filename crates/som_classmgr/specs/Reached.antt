@@ -5,7 +5,7 @@ use Rattle.som_model.specs.Kernel.{kernel}
 use Rattle.som_model.specs.Loads.{keys_of}
 use Rattle.som_model.specs.Made.{ComesOf}
 use Rattle.som_meta.specs.Numbering.{IsNumbered, key_at}
-use Rattle.som_linked.specs.Linked.{IsMadeIn, Linkage}
+use Rattle.som_class_kernel.specs.Linked.{IsMadeIn, Linkage}
 
 -- all is made that comes of the kernel's classes and of those reached for, and besides only what comes of those for which memory ran out
 pub record IsMadeBy (reached tried : List ClassKey) (l : Linkage) : Type 0 where

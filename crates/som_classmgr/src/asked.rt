@@ -3,18 +3,18 @@
 ghost use Rattle.som_classmgr.specs.Asking.{kind_at};
 ghost use Rattle.som_meta.specs.Numbering.{IsNumbered, key_at};
 ghost use Rattle.som_model.specs.Classes.{variable_type};
-ghost use Rattle.som_model.specs.State.{zero_of};
+ghost use Rattle.som_semantics.specs.State.{zero_of};
 ghost use Rattle.som_model.specs.declared.key.ClassKey.{ClassKey as Key};
 ghost use Rattle.som_model.specs.declared.key.ClassKey.TheVariants as made_of;
-ghost use Rattle.som_places.specs.Variables.{own_variables};
-ghost use Rattle.som_task.specs.Standing.{zero_shown};
+ghost use Rattle.som_class_variables.specs.Variables.{own_variables};
+ghost use Rattle.som_interp_state.specs.Standing.{zero_shown};
 ghost use Rattle.std.specs.Prelude.{◌≡◌, ◌<◌, ℕ, false, length, true};
 
-use som_classes::Classes;
+use som_class_ids::Kind;
+use som_class_table::Classes;
+use som_interp_state::Zero;
 use som_model::{ValueType, Variable};
-use som_numbers::Kind;
 use som_tables::ClassNo;
-use som_task::Zero;
 
 /// The zero value of a type.
 fn zero_of_kind(kind: &ValueType) -> Zero

@@ -1,14 +1,14 @@
 //! Variables as a linked kernel answers them: tokens, places and types.
 
-ghost use Rattle.som_linked.specs.Linked.{IsMadeIn};
+ghost use Rattle.som_class_kernel.specs.Linked.{IsMadeIn};
 ghost use Rattle.som_meta.specs.Numbering.{IsNumbered, key_at};
 ghost use Rattle.som_model.specs.Ancestors.{Descends};
 ghost use Rattle.som_model.specs.Classes.{hierarchy};
-ghost use Rattle.som_places.specs.Variables.{IsVariable, object_variables, own_variables, place_in};
+ghost use Rattle.som_class_variables.specs.Variables.{IsVariable, object_variables, own_variables, place_in};
 ghost use Rattle.std.specs.Prelude.{◌≡◌, ◌<◌, ℕ, length, slice_get};
 
 use crate::kernel::Kernel;
-use som_linked::Linked;
+use som_class_kernel::Linked;
 use som_model::{List, ValueType};
 use som_tables::{ClassNo, DToken};
 

@@ -1,20 +1,20 @@
 //! The kernel and its stages, unlinked and linked; a linked one makes classes as they are reached.
 
-ghost use Rattle.som_classes.specs.Loaded.{AreLoaded};
-ghost use Rattle.som_linked.specs.Linked.{IsLinked, IsMadeIn};
-ghost use Rattle.som_made.specs.Made.{IsReached, KeepsMade};
+ghost use Rattle.som_class_table.specs.Loaded.{AreLoaded};
+ghost use Rattle.som_class_kernel.specs.Linked.{IsLinked, IsMadeIn};
+ghost use Rattle.som_class_loaded.specs.Made.{IsReached, KeepsMade};
 ghost use Rattle.som_classmgr.specs.Reached.{IsMadeBy};
 ghost use Rattle.som_meta.specs.Numbering.{IsNumbered, key_at};
 ghost use Rattle.som_model.specs.Kernel.{kernel};
 ghost use Rattle.som_model.specs.Loads.{Loads};
 ghost use Rattle.som_model.specs.declared.key.ClassKey.{ClassKey as Key};
-ghost use Rattle.som_numbers.specs.Classes.{classes_of};
+ghost use Rattle.som_class_ids.specs.Classes.{classes_of};
 ghost use Rattle.std.specs.Prelude.{◌≡◌, ◌↔◌, ◌++◌, ◌∷◌, ◌<◌, [], ℕ, IfOk, List as Seq, OnErr, OnOk};
 
-use som_classes::Classes;
-use som_linked::{Linked, copy_classes, lay};
+use som_class_ids::Keyed;
+use som_class_kernel::{Linked, copy_classes, lay};
+use som_class_table::Classes;
 use som_model::{Block, List, NoMemory};
-use som_numbers::Keyed;
 use som_tables::ClassNo;
 use std::alloc::Global;
 use std::marker::Model;

@@ -12,7 +12,7 @@ mod runtime;
 mod search;
 
 pub use kernel::{Kernel, Stage, Unlinked};
-pub use som_linked::{BodyNo, Linked, names_law};
-pub use som_linking::LinkFault;
-pub use som_runtime::{BodyView, Held};
-pub use som_telling::KeyView;
+pub use som_class_kernel::{BodyNo, Linked, names_law};
+pub use som_interp_state::{BodyView, Held};
+pub use som_link_check::LinkFault;
+pub use som_trace::KeyView;

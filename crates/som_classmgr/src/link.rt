@@ -1,16 +1,16 @@
 //! Linking: a client and a library become a linked kernel, or the first obstacle is answered.
 
 ghost use Rattle.som_classmgr.specs.Reached.{IsMadeBy};
-ghost use Rattle.som_linked.specs.Linked.{IsMadeIn};
-ghost use Rattle.som_linking.specs.Pairs.{ProgramCounted, ReleaseCounted, obstacle};
-ghost use Rattle.som_linking.specs.Told.{Tells};
+ghost use Rattle.som_class_kernel.specs.Linked.{IsMadeIn};
+ghost use Rattle.som_link_check.specs.Pairs.{ProgramCounted, ReleaseCounted, obstacle};
+ghost use Rattle.som_link_check.specs.Told.{Tells};
 ghost use Rattle.som_model.specs.Binds.{Binds};
 ghost use Rattle.som_model.specs.Classes.{classes as all_classes};
 ghost use Rattle.std.specs.Prelude.{◌≡◌, ◌↔◌, ◌<◌, [], ℕ, IfOk};
 
 use crate::kernel::{Kernel, Unlinked, kernel_of};
-use som_linked::{Linked, classes_of_pair};
-use som_linking::{LinkFault, look_at_pair};
+use som_class_kernel::{Linked, classes_of_pair};
+use som_link_check::{LinkFault, look_at_pair};
 use som_model::{ClientProgram, Release};
 use std::alloc::Global;
 

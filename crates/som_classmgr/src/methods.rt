@@ -1,22 +1,22 @@
 //! Methods as a linked kernel answers them: bodies, also of a parent, owners and signatures.
 
 ghost use Rattle.som_classmgr.specs.Parents.{HasMethodAbove, parent_at};
-ghost use Rattle.som_linked.specs.Linked.{IsMadeIn};
-ghost use Rattle.som_linked.specs.Shown.{IsAnswer, body_at};
+ghost use Rattle.som_class_kernel.specs.Linked.{IsMadeIn};
+ghost use Rattle.som_class_kernel.specs.Shown.{IsAnswer, body_at};
 ghost use Rattle.som_meta.specs.Numbering.{IsNumbered, IsToken, key_at, method_at};
 ghost use Rattle.som_model.specs.Ancestors.{Descends};
 ghost use Rattle.som_model.specs.Classes.{hierarchy};
 ghost use Rattle.som_model.specs.Implementation.{held as held_by};
 ghost use Rattle.som_model.specs.Owner.{entry_at, owner, sig_of};
 ghost use Rattle.som_model.specs.declared.key.ClassKey.{ClassKey};
-ghost use Rattle.som_owners.specs.Owners.{IsTokenOf};
-ghost use Rattle.som_runtime.specs.Asked.{held_shown};
+ghost use Rattle.som_class_methods.specs.Owners.{IsTokenOf};
+ghost use Rattle.som_interp_state.specs.Asked.{held_shown};
 ghost use Rattle.std.specs.Prelude.{◌≡◌, ◌+◌, IsSome, Some};
 
 use crate::kernel::Kernel;
-use som_linked::{BodyNo, Linked};
+use som_class_kernel::{BodyNo, Linked};
+use som_interp_state::BodyView;
 use som_model::{MethodRef, Sig};
-use som_runtime::BodyView;
 use som_tables::{ClassNo, MToken, Steps};
 use std::sync::ledger::Ledger;
 

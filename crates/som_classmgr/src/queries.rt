@@ -1,26 +1,26 @@
 //! Questions on the classes of a linked kernel: keys, versions, parents, metaclasses, hooks, descent.
 
-ghost use Rattle.som_linked.specs.Linked.{IsMadeIn};
+ghost use Rattle.som_class_kernel.specs.Linked.{IsMadeIn};
 ghost use Rattle.som_meta.specs.Numbering.{AreNumbered, IsNumbered, key_at};
 ghost use Rattle.som_model.specs.Classes.{hierarchy, is_a as descends, version_of};
-ghost use Rattle.som_model.specs.Invoked.{class_found, version_fits as fits};
+ghost use Rattle.som_semantics.specs.Invoked.{class_found, version_fits as fits};
 ghost use Rattle.som_model.specs.Lists.{Mem};
 ghost use Rattle.som_model.specs.Metaclass.{hooks as hooks_of, meta};
-ghost use Rattle.som_model.specs.State.{Long, Str};
-ghost use Rattle.som_model.specs.World.{world};
-ghost use Rattle.som_telling.specs.Views.{IsView};
+ghost use Rattle.som_semantics.specs.State.{Long, Str};
+ghost use Rattle.som_semantics.specs.World.{world};
+ghost use Rattle.som_trace.specs.Views.{IsView};
 ghost use Rattle.std.specs.List.{count_by};
 ghost use Rattle.std.specs.Option.{option_map};
 ghost use Rattle.std.specs.Prelude.{◌≡◌, ◌↔◌, ◌∷◌, ◌<◌, [], ℕ, IfNone, IfSome, IsTrue, length, map};
 
 use crate::kernel::Kernel;
-use som_classes::Classes;
-use som_linked::Linked;
+use som_class_ids::Kind;
+use som_class_kernel::Linked;
+use som_class_table::Classes;
 use som_meta::Ancestry;
 use som_model::{Block, ClassKey, List, Text};
-use som_numbers::Kind;
 use som_tables::ClassNo;
-use som_telling::KeyView;
+use som_trace::KeyView;
 
 /// Whether a version is the one that is asked for: any is, where 0.0 is asked for, and else one of the same major version with at least that minor one.
 fn version_fits(version: (u32, u32), major: i32, minor: i32) -> bool

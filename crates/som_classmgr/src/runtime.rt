@@ -4,13 +4,12 @@ ghost use Rattle.som_model.specs.Kernel.{som_class_mgr};
 
 use crate::asked::{own_count, proxy_number, zero_in};
 use crate::kernel::Kernel;
-use som_linked::Linked;
+use som_class_ids::Kind;
+use som_class_kernel::Linked;
+use som_interp_state::{BodyView, Runtime, Zero};
 use som_model::{Block, ClassKey, List, MethodRef, NoMemory, Sig, Text, ValueType};
-use som_numbers::Kind;
-use som_runtime::{BodyView, Runtime};
 use som_tables::{ClassNo, MToken, Steps};
-use som_task::Zero;
-use som_telling::{ClassKeys, KeyView};
+use som_trace::{ClassKeys, KeyView};
 use som_values::Classes;
 use std::alloc::Global;
 use std::sync::ledger::Ledger;

@@ -1,14 +1,14 @@
 //! The method that a name means in a made class, as a linked kernel finds it.
 
-ghost use Rattle.som_byname.specs.Added.{IsMeant, count_to};
-ghost use Rattle.som_linked.specs.Linked.{IsMadeIn};
+ghost use Rattle.som_class_loaded.specs.Added.{IsMeant, count_to};
+ghost use Rattle.som_class_kernel.specs.Linked.{IsMadeIn};
 ghost use Rattle.som_meta.specs.Numbering.{key_at};
 ghost use Rattle.som_model.specs.Classes.{ancestors};
 ghost use Rattle.som_model.specs.Owner.{introduces};
 ghost use Rattle.std.specs.Prelude.{◌≡◌, ◌+◌};
 
 use crate::kernel::Kernel;
-use som_linked::Linked;
+use som_class_kernel::Linked;
 use som_model::Text;
 use som_tables::{ClassNo, MToken, Steps};
 use std::sync::ledger::Ledger;

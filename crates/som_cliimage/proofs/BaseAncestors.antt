@@ -11,9 +11,9 @@ use Rattle.som_model.specs.Classes.{class_at, parents_in, parents_by, parents_of
 use Rattle.som_model.specs.Rules.{is_proper}
 use Rattle.som_model.proofs.KeyLaws.{both, exact_keys}
 use Rattle.som_model.proofs.NamedLaws.{out_named}
-use Rattle.som_naming.proofs.Places.{all_map, all_joined}
-use Rattle.som_numbering.proofs.KnownMethods.{keys_of}
-use Rattle.som_numbering.proofs.Directories.{IsOwn}
+use Rattle.som_image_decode.proofs.Places.{all_map, all_joined}
+use Rattle.som_image_encode.proofs.KnownMethods.{keys_of}
+use Rattle.som_image_encode.proofs.Directories.{IsOwn}
 
 -- ---- lists
 

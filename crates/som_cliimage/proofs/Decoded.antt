@@ -5,9 +5,9 @@ use Rattle.som_model.specs.declared.program.ClientProgram.{ClientProgram}
 use Rattle.som_model.specs.Bytes.{AreBytes}
 use Rattle.som_model.specs.Steps.{◌>>=◌}
 use Rattle.som_model.specs.Images.{client_image}
-use Rattle.som_fields.specs.declared.fault.ImageFault.{ImageFault}
-use Rattle.som_fields.specs.Fields.{Gives}
-use Rattle.som_fields.proofs.Parts.{bind_ok}
+use Rattle.som_image_fields.specs.declared.fault.ImageFault.{ImageFault}
+use Rattle.som_image_fields.specs.Fields.{Gives}
+use Rattle.som_image_fields.proofs.Parts.{bind_ok}
 use Rattle.som_cliimage.specs.declared.wire.WireProgram.{WireProgram}
 use Rattle.som_cliimage.specs.Reading.{wire_at}
 use Rattle.som_cliimage.specs.Naming.{program_named}

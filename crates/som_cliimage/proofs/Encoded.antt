@@ -8,10 +8,10 @@ use Rattle.som_model.specs.Class.{Class}
 use Rattle.som_model.specs.Kernel.{kernel}
 use Rattle.som_model.specs.Conforming.{ProgramOk}
 use Rattle.som_model.specs.Images.{client_image}
-use Rattle.som_fields.specs.declared.fault.ImageFault.{ImageFault}
-use Rattle.som_classimage.specs.Interfaces.{NamesDiffer}
-use Rattle.som_classimage.proofs.Conforming.{faces_names, declared_faces}
-use Rattle.som_classimage.proofs.NamedInterfaces.{a_class}
+use Rattle.som_image_fields.specs.declared.fault.ImageFault.{ImageFault}
+use Rattle.som_image_classes.specs.Interfaces.{NamesDiffer}
+use Rattle.som_image_classes.proofs.Conforming.{faces_names, declared_faces}
+use Rattle.som_image_classes.proofs.NamedInterfaces.{a_class}
 use Rattle.som_cliimage.specs.declared.wire.WireProgram.{WireProgram}
 use Rattle.som_cliimage.specs.Naming.{program_named}
 use Rattle.som_cliimage.specs.Spelling.{FitsProgram, client}

@@ -10,7 +10,7 @@ use Rattle.som_model.specs.Kernel.{kernel}
 use Rattle.som_model.specs.Classes.{interface_classes, client_classes}
 use Rattle.som_model.specs.Rules.{RuleBreach, s1, s2, s5, s6, s7, s8, s9, s10, s14}
 use Rattle.som_model.specs.Conforming.{each_after, class_typed, main_typed, ProgramOk}
-use Rattle.som_classimage.proofs.Conforming.{neither_is, none_first, both_empty}
+use Rattle.som_image_classes.proofs.Conforming.{neither_is, none_first, both_empty}
 
 -- a rule on the classes before each, of two lists one after the other
 after_both : (rule : List Class → Class → List RuleBreach) (before xs ys : List Class) → each_after rule before (xs ++ ys) ≡ each_after rule before xs ++ each_after rule (before ++ xs) ys

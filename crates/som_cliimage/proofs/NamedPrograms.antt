@@ -22,30 +22,30 @@ use Rattle.som_model.specs.Classes.{interface_classes}
 use Rattle.som_model.specs.Images as images
 use Rattle.som_model.specs.Images.{Spelled, ◌then◌, each, tag, where_it_is, image_version, client_image}
 use Rattle.som_model.proofs.NamedLaws.{same_named}
-use Rattle.som_fields.specs.declared.face.WireFace.{WireFace}
-use Rattle.som_fields.specs.declared.method.Ranges.{Ranges}
-use Rattle.som_fields.specs.Spelling as wire
-use Rattle.som_fields.specs.Spelling.{FitsFace, FitsMethod}
-use Rattle.som_spelling.specs.declared.syntax.WireBlock.{WireBlock}
-use Rattle.som_spelling.specs.declared.syntax.WirePart.{WirePart}
-use Rattle.som_spelling.specs.declared.selects.WireSelects.{WireSelects}
-use Rattle.som_spelling.specs.Spelling as spelling
-use Rattle.som_spelling.specs.Fitting.{FitsBlock, levels_left}
-use Rattle.som_naming.specs.declared.directory.Directory.{Directory}
-use Rattle.som_naming.specs.Naming.{names_in, kernel_directory, library_directory, ranges_in, entry_names, Tells, NoDoubles}
-use Rattle.som_naming.specs.NamedBlocks.{block_named}
-use Rattle.som_naming.proofs.Places.{all_of, all_mapped, all_joined, distinct_joined}
-use Rattle.som_naming.proofs.Spelled.{some_bytes, bytes_are, split, guarded}
-use Rattle.som_naming.proofs.NamedStmts.{block_forth}
-use Rattle.som_naming.proofs.StmtsBack.{block_back}
-use Rattle.som_classimage.specs.SpelledClasses.{FitsClass, FitsParts, FitsSection, section, version_with, head}
-use Rattle.som_classimage.specs.NamedClasses.{face_named, classes_named, interface_named, with_selects}
-use Rattle.som_classimage.specs.Interfaces.{NamesDiffer, interface_image, NamedFrom}
-use Rattle.som_classimage.proofs.ClassPlaces.{fit_length, ranges_known}
-use Rattle.som_classimage.proofs.NamedSelects.{section_ascends, section_fits, section_forth, SectionBack, section_back}
-use Rattle.som_classimage.proofs.NamedClasses.{map_selecting, each_selecting, many_selecting, keys_selecting, slots_selecting, key_in, keys_told, slots_told, faces_kept, as_many_classes, as_many_keys, library_key, Distinct, distinct_of, distinct_keys, no_doubles, faces_forth, parts_forth, Pairs, pairs_back, directory_of}
-use Rattle.som_classimage.proofs.NamedInterfaces.{a_class, known_by, interface_forth, interface_back}
-use Rattle.som_classimage.proofs.NamedInterfaces as interfaces
+use Rattle.som_image_fields.specs.declared.face.WireFace.{WireFace}
+use Rattle.som_image_fields.specs.declared.method.Ranges.{Ranges}
+use Rattle.som_image_fields.specs.Spelling as wire
+use Rattle.som_image_fields.specs.Spelling.{FitsFace, FitsMethod}
+use Rattle.som_image_fields.specs.declared.syntax.WireBlock.{WireBlock}
+use Rattle.som_image_fields.specs.declared.syntax.WirePart.{WirePart}
+use Rattle.som_image_fields.specs.declared.selects.WireSelects.{WireSelects}
+use Rattle.som_image_fields.specs.SyntaxSpelling as spelling
+use Rattle.som_image_fields.specs.Fitting.{FitsBlock, levels_left}
+use Rattle.som_image_decode.specs.declared.directory.Directory.{Directory}
+use Rattle.som_image_decode.specs.Naming.{names_in, kernel_directory, library_directory, ranges_in, entry_names, Tells, NoDoubles}
+use Rattle.som_image_decode.specs.NamedBlocks.{block_named}
+use Rattle.som_image_decode.proofs.Places.{all_of, all_mapped, all_joined, distinct_joined}
+use Rattle.som_image_decode.proofs.Spelled.{some_bytes, bytes_are, split, guarded}
+use Rattle.som_image_decode.proofs.NamedStmts.{block_forth}
+use Rattle.som_image_decode.proofs.StmtsBack.{block_back}
+use Rattle.som_image_classes.specs.SpelledClasses.{FitsClass, FitsParts, FitsSection, section, version_with, head}
+use Rattle.som_image_classes.specs.NamedClasses.{face_named, classes_named, interface_named, with_selects}
+use Rattle.som_image_classes.specs.Interfaces.{NamesDiffer, interface_image, NamedFrom}
+use Rattle.som_image_classes.proofs.ClassPlaces.{fit_length, ranges_known}
+use Rattle.som_image_classes.proofs.NamedSelects.{section_ascends, section_fits, section_forth, SectionBack, section_back}
+use Rattle.som_image_classes.proofs.NamedClasses.{map_selecting, each_selecting, many_selecting, keys_selecting, slots_selecting, key_in, keys_told, slots_told, faces_kept, as_many_classes, as_many_keys, library_key, Distinct, distinct_of, distinct_keys, no_doubles, faces_forth, parts_forth, Pairs, pairs_back, directory_of}
+use Rattle.som_image_classes.proofs.NamedInterfaces.{a_class, known_by, interface_forth, interface_back}
+use Rattle.som_image_classes.proofs.NamedInterfaces as interfaces
 use Rattle.som_cliimage.specs.declared.wire.WireProgram.{WireProgram}
 use Rattle.som_cliimage.specs.Reading.{client_ranges}
 use Rattle.som_cliimage.specs.Spelling.{FitsMain, FitsProgram, client}

@@ -1,13 +1,13 @@
 -- What naming a client program asks for.
 use Rattle.std.proofs.Common.{◌≡◌, ℕ, ◌+◌, ◌<◌, ◌^◌, length, sym, ap, subst, ◌∙◌, arith}
 use Rattle.std.specs.Prelude.{All}
-use Rattle.som_fields.specs.declared.method.Ranges.{Ranges}
-use Rattle.som_fields.specs.Spelling.{FitsFace}
-use Rattle.som_naming.specs.declared.directory.Directory.{Directory}
-use Rattle.som_naming.specs.Naming.{ranges_in}
-use Rattle.som_classimage.specs.SpelledClasses.{FitsParts}
-use Rattle.som_classimage.specs.NamedClasses.{AreSelectsOf}
-use Rattle.som_classimage.proofs.ClassFields.{section_known}
+use Rattle.som_image_fields.specs.declared.method.Ranges.{Ranges}
+use Rattle.som_image_fields.specs.Spelling.{FitsFace}
+use Rattle.som_image_decode.specs.declared.directory.Directory.{Directory}
+use Rattle.som_image_decode.specs.Naming.{ranges_in}
+use Rattle.som_image_classes.specs.SpelledClasses.{FitsParts}
+use Rattle.som_image_classes.specs.NamedClasses.{AreSelectsOf}
+use Rattle.som_image_classes.proofs.ClassFields.{section_known}
 use Rattle.som_cliimage.proofs.ProgramFields.{ranges_short}
 use Rattle.som_cliimage.specs.declared.wire.WireProgram.{WireProgram}
 use Rattle.som_cliimage.specs.Reading.{client_ranges}

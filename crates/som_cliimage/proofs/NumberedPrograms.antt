@@ -15,35 +15,35 @@ use Rattle.som_model.specs.declared.program.Interface.{Interface}
 use Rattle.som_model.specs.declared.program.ClientProgram.{ClientProgram}
 use Rattle.som_model.specs.Class.{Class, class_in, entry_name}
 use Rattle.som_model.specs.Classes.{client_classes}
-use Rattle.som_fields.specs.declared.face.WireFace.{WireFace}
-use Rattle.som_fields.specs.declared.method.Ranges.{Ranges}
-use Rattle.som_fields.specs.Spelling.{FitsFace}
-use Rattle.som_spelling.specs.declared.syntax.WirePart.{WirePart}
-use Rattle.som_naming.specs.declared.directory.Directory.{Directory}
-use Rattle.som_naming.specs.Naming.{names_in, kernel_directory, library_directory, ranges_in, entry_names, Tells}
-use Rattle.som_naming.specs.NamedBlocks.{block_named}
-use Rattle.som_numbering.specs.NumberedBlocks.{block_numbered}
-use Rattle.som_numbering.specs.ReadyBlocks.{BlockReady}
-use Rattle.som_numbering.proofs.NumberedKinds.{TurnsBack, all_both, counted_turn}
-use Rattle.som_numbering.proofs.TurnedBlocks.{ready_turns}
-use Rattle.som_classimage.specs.SpelledClasses.{FitsParts, FitsSection}
-use Rattle.som_classimage.specs.NamedClasses.{face_named, classes_named, with_selects}
-use Rattle.som_classimage.specs.ClassLimits.{FaceWithin}
-use Rattle.som_numbering.specs.NumberedClasses.{face_numbered, FaceKnown, part_numbered, selects_numbered}
-use Rattle.som_roundtrip.proofs.NumberedFaces.{face_turns}
-use Rattle.som_roundtrip.proofs.NumberedParts.{ClassReady}
-use Rattle.som_roundtrip.proofs.NumberedClasses.{faces_of, keys_kept, names_kept, slots_kept, faces_fit, parts_fit, classes_back}
-use Rattle.som_classimage.proofs.NamedClasses.{directory_of, as_many_keys}
-use Rattle.som_classimage.proofs.NamedInterfaces.{a_class, known_by}
+use Rattle.som_image_fields.specs.declared.face.WireFace.{WireFace}
+use Rattle.som_image_fields.specs.declared.method.Ranges.{Ranges}
+use Rattle.som_image_fields.specs.Spelling.{FitsFace}
+use Rattle.som_image_fields.specs.declared.syntax.WirePart.{WirePart}
+use Rattle.som_image_decode.specs.declared.directory.Directory.{Directory}
+use Rattle.som_image_decode.specs.Naming.{names_in, kernel_directory, library_directory, ranges_in, entry_names, Tells}
+use Rattle.som_image_decode.specs.NamedBlocks.{block_named}
+use Rattle.som_image_encode.specs.NumberedBlocks.{block_numbered}
+use Rattle.som_image_encode.specs.ReadyBlocks.{BlockReady}
+use Rattle.som_image_encode.proofs.NumberedKinds.{TurnsBack, all_both, counted_turn}
+use Rattle.som_image_encode.proofs.TurnedBlocks.{ready_turns}
+use Rattle.som_image_classes.specs.SpelledClasses.{FitsParts, FitsSection}
+use Rattle.som_image_classes.specs.NamedClasses.{face_named, classes_named, with_selects}
+use Rattle.som_image_classes.specs.ClassLimits.{FaceWithin}
+use Rattle.som_image_encode.specs.NumberedClasses.{face_numbered, FaceKnown, part_numbered, selects_numbered}
+use Rattle.som_image_laws.proofs.NumberedFaces.{face_turns}
+use Rattle.som_image_laws.proofs.NumberedParts.{ClassReady}
+use Rattle.som_image_laws.proofs.NumberedClasses.{faces_of, keys_kept, names_kept, slots_kept, faces_fit, parts_fit, classes_back}
+use Rattle.som_image_classes.proofs.NamedClasses.{directory_of, as_many_keys}
+use Rattle.som_image_classes.proofs.NamedInterfaces.{a_class, known_by}
 use Rattle.som_cliimage.specs.Reading.{client_ranges}
 use Rattle.som_cliimage.specs.Spelling.{FitsMain, FitsProgram}
 use Rattle.som_cliimage.specs.Naming.{client_directory, program_named}
 use Rattle.som_cliimage.specs.Numbering.{interface_directory, program_directory, program_numbered}
 use Rattle.som_cliimage.specs.Limits.{IsWithinLimits}
-use Rattle.som_classimage.proofs.NamedParts.{plain}
-use Rattle.som_classimage.proofs.NamedSelects.{section_fits}
-use Rattle.som_roundtrip.proofs.NumberedSelects.{selects_turn}
-use Rattle.som_spelling.specs.declared.selects.WireSelects.{WireSelects}
+use Rattle.som_image_classes.proofs.NamedParts.{plain}
+use Rattle.som_image_classes.proofs.NamedSelects.{section_fits}
+use Rattle.som_image_laws.proofs.NumberedSelects.{selects_turn}
+use Rattle.som_image_fields.specs.declared.selects.WireSelects.{WireSelects}
 use Rattle.som_cliimage.proofs.NamedPrograms.{known_to, many_keys, client_ranges_known}
 
 -- ---- the directory of a program

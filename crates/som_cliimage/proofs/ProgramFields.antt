@@ -8,29 +8,29 @@ use Rattle.std.proofs.lemmas.List.Elements.{All-from_recursion, recursion_from_A
 use Rattle.som_model.specs.declared.limits.TheConstants.{MAX_ENTRIES, MAX_LIBRARY_CLASSES, MAX_CLIENT_CLASSES}
 use Rattle.som_model.specs.Bytes.{AreBytes}
 use Rattle.som_model.specs.Steps.{◌>>=◌}
-use Rattle.som_fields.specs.declared.fault.ImageFault.{ImageFault}
-use Rattle.som_fields.specs.declared.fault.ImageFault.TheVariants as faults
-use Rattle.som_fields.specs.declared.read.Read.{Read}
-use Rattle.som_fields.specs.declared.face.WireFace.{WireFace}
-use Rattle.som_fields.specs.declared.method.Ranges.{Ranges}
-use Rattle.som_fields.specs.Fields.{Stands, done}
-use Rattle.som_fields.specs.Spelling.{counted, face, AreShort}
-use Rattle.som_fields.proofs.Parts.{IsField, Stands-join, guard_no, came, took, went}
-use Rattle.som_spelling.specs.declared.syntax.WirePart.{WirePart}
-use Rattle.som_spelling.specs.declared.syntax.WireBlock.{WireBlock}
-use Rattle.som_spelling.specs.declared.selects.WireSelects.{WireSelects}
-use Rattle.som_spelling.specs.Fitting.{levels_left}
+use Rattle.som_image_fields.specs.declared.fault.ImageFault.{ImageFault}
+use Rattle.som_image_fields.specs.declared.fault.ImageFault.TheVariants as faults
+use Rattle.som_image_fields.specs.declared.read.Read.{Read}
+use Rattle.som_image_fields.specs.declared.face.WireFace.{WireFace}
+use Rattle.som_image_fields.specs.declared.method.Ranges.{Ranges}
+use Rattle.som_image_fields.specs.Fields.{Stands, done}
+use Rattle.som_image_fields.specs.Spelling.{counted, face, AreShort}
+use Rattle.som_image_fields.proofs.Parts.{IsField, Stands-join, guard_no, came, took, went}
+use Rattle.som_image_fields.specs.declared.syntax.WirePart.{WirePart}
+use Rattle.som_image_fields.specs.declared.syntax.WireBlock.{WireBlock}
+use Rattle.som_image_fields.specs.declared.selects.WireSelects.{WireSelects}
+use Rattle.som_image_fields.specs.Fitting.{levels_left}
 use Rattle.som_wire.specs.Reading.{block_at}
-use Rattle.som_spelling.specs.Spelling.{part, block}
+use Rattle.som_image_fields.specs.SyntaxSpelling.{part, block}
 use Rattle.som_wire.proofs.StmtFields.{block_field}
-use Rattle.som_naming.proofs.Places.{all_joined}
-use Rattle.som_classimage.specs.ReadClasses.{faces_at, parts_at, section_at, head_at, at_end}
-use Rattle.som_classimage.specs.SpelledClasses.{FitsFaces, FitsParts, section, version_with, head}
-use Rattle.som_classimage.proofs.ClassFields.{faces_few, short_ranges, faces_after_field, faces_field, parts_field, beginning, IsVersion, head_field, IsSection, section_field, all_bytes, stands_whole, ends_there}
+use Rattle.som_image_decode.proofs.Places.{all_joined}
+use Rattle.som_image_classes.specs.ReadClasses.{faces_at, parts_at, section_at, head_at, at_end}
+use Rattle.som_image_classes.specs.SpelledClasses.{FitsFaces, FitsParts, section, version_with, head}
+use Rattle.som_image_classes.proofs.ClassFields.{faces_few, short_ranges, faces_after_field, faces_field, parts_field, beginning, IsVersion, head_field, IsSection, section_field, all_bytes, stands_whole, ends_there}
 use Rattle.som_cliimage.specs.declared.wire.WireProgram.{WireProgram}
 use Rattle.som_cliimage.specs.Reading.{client_ranges, own_faces_at, program_at, wire_at}
 use Rattle.som_cliimage.specs.Spelling.{FitsOwnFaces, FitsMain, ending, bodies, program, FitsProgram, client}
-use Rattle.som_classimage.proofs.NamedSelects.{version_known}
+use Rattle.som_image_classes.proofs.NamedSelects.{version_known}
 
 -- ---- ranges
 

@@ -21,26 +21,26 @@ use Rattle.som_model.specs.Owner.{introduces}
 use Rattle.som_model.specs.Typing.{Ruled, class_facts, in_main}
 use Rattle.som_model.specs.TypedBlocks.{Scope, block_scope}
 use Rattle.som_model.specs.Conforming.{ProgramOk}
-use Rattle.som_fields.specs.declared.face.WireFace.{WireFace}
-use Rattle.som_spelling.specs.declared.syntax.WireBlock.{WireBlock}
-use Rattle.som_spelling.specs.declared.syntax.WirePart.{WirePart}
-use Rattle.som_spelling.specs.declared.selects.WireSelects.{WireSelects}
-use Rattle.som_naming.specs.declared.directory.Directory.{Directory}
-use Rattle.som_naming.specs.Naming.{Differ}
-use Rattle.som_numbering.specs.Numbering.{class_names, AreNamed, IsDirectory}
-use Rattle.som_numbering.specs.NumberedBlocks.{block_numbered}
-use Rattle.som_numbering.specs.ReadyBlocks.{BlockReady}
-use Rattle.som_naming.proofs.Places.{all_map, all_joined}
-use Rattle.som_numbering.proofs.KnownMethods.{keys_of, covers}
-use Rattle.som_numbering.proofs.TypedBlocks.{typed_is_ready}
-use Rattle.som_classimage.specs.ClassLimits.{FaceWithin, ClassWithin}
-use Rattle.som_numbering.specs.NumberedClasses.{face_numbered, FaceKnown, part_numbered, selects_numbered, ClassKnown}
-use Rattle.som_classimage.proofs.Conforming.{both_empty}
-use Rattle.som_numbering.proofs.Directories.{IsOwn, FewEntries, kernel_own, kernel_few, declared_own, directory_is}
-use Rattle.som_roundtrip.proofs.NumberedParts.{ClassReady}
-use Rattle.som_roundtrip.proofs.NumberedClasses.{few_own}
-use Rattle.som_classimage.proofs.NamedInterfaces.{a_class}
-use Rattle.som_roundtrip.proofs.ReadyClasses.{NamesBefore, stand_before, all_front, types_told, face_known, names_new, classes_ready}
+use Rattle.som_image_fields.specs.declared.face.WireFace.{WireFace}
+use Rattle.som_image_fields.specs.declared.syntax.WireBlock.{WireBlock}
+use Rattle.som_image_fields.specs.declared.syntax.WirePart.{WirePart}
+use Rattle.som_image_fields.specs.declared.selects.WireSelects.{WireSelects}
+use Rattle.som_image_decode.specs.declared.directory.Directory.{Directory}
+use Rattle.som_image_decode.specs.Naming.{Differ}
+use Rattle.som_image_encode.specs.Numbering.{class_names, AreNamed, IsDirectory}
+use Rattle.som_image_encode.specs.NumberedBlocks.{block_numbered}
+use Rattle.som_image_encode.specs.ReadyBlocks.{BlockReady}
+use Rattle.som_image_decode.proofs.Places.{all_map, all_joined}
+use Rattle.som_image_encode.proofs.KnownMethods.{keys_of, covers}
+use Rattle.som_image_encode.proofs.TypedBlocks.{typed_is_ready}
+use Rattle.som_image_classes.specs.ClassLimits.{FaceWithin, ClassWithin}
+use Rattle.som_image_encode.specs.NumberedClasses.{face_numbered, FaceKnown, part_numbered, selects_numbered, ClassKnown}
+use Rattle.som_image_classes.proofs.Conforming.{both_empty}
+use Rattle.som_image_encode.proofs.Directories.{IsOwn, FewEntries, kernel_own, kernel_few, declared_own, directory_is}
+use Rattle.som_image_laws.proofs.NumberedParts.{ClassReady}
+use Rattle.som_image_laws.proofs.NumberedClasses.{few_own}
+use Rattle.som_image_classes.proofs.NamedInterfaces.{a_class}
+use Rattle.som_image_laws.proofs.ReadyClasses.{NamesBefore, stand_before, all_front, types_told, face_known, names_new, classes_ready}
 use Rattle.som_cliimage.specs.declared.wire.WireProgram.{WireProgram}
 use Rattle.som_cliimage.specs.Spelling.{FitsProgram}
 use Rattle.som_cliimage.specs.Naming.{program_named}

@@ -4,20 +4,20 @@ use Rattle.std.specs.Prelude.{All}
 use Rattle.std.proofs.lemmas.List.{length-map}
 use Rattle.std.proofs.lemmas.List.Elements.{All-from_recursion, recursion_from_All}
 use Rattle.som_model.specs.declared.limits.TheConstants.{MAX_CLIENT_CLASSES}
-use Rattle.som_fields.specs.Spelling.{FitsFace, FitsMethod}
-use Rattle.som_spelling.specs.Fitting.{levels_left, FitsSomePart, FitsSomeBlock}
+use Rattle.som_image_fields.specs.Spelling.{FitsFace, FitsMethod}
+use Rattle.som_image_fields.specs.Fitting.{levels_left, FitsSomePart, FitsSomeBlock}
 use Rattle.som_wire.proofs.SomeFits.{block_some}
-use Rattle.som_naming.specs.declared.directory.Directory.{Directory}
-use Rattle.som_naming.specs.Naming.{library_directory, ranges_in}
-use Rattle.som_naming.proofs.Places.{all_map, all_mapped}
-use Rattle.som_classimage.specs.NamedClasses.{face_named, classes_named, with_selects}
-use Rattle.som_classimage.specs.ClassLimits.{FaceWithin, ClassWithin}
-use Rattle.som_classimage.proofs.ClassFields.{faces_few, section_written}
-use Rattle.som_classimage.proofs.NamedClasses.{many_selecting}
-use Rattle.som_classimage.proofs.NamedSelects.{section_ascends}
-use Rattle.som_classimage.specs.SpelledClasses.{FitsSomeSection}
-use Rattle.som_naming.proofs.NamedLimits.{named_is_within}
-use Rattle.som_classimage.proofs.ClassesTurned.{parts_written, face_within, classes_within, few_classes, selecting_within}
+use Rattle.som_image_decode.specs.declared.directory.Directory.{Directory}
+use Rattle.som_image_decode.specs.Naming.{library_directory, ranges_in}
+use Rattle.som_image_decode.proofs.Places.{all_map, all_mapped}
+use Rattle.som_image_classes.specs.NamedClasses.{face_named, classes_named, with_selects}
+use Rattle.som_image_classes.specs.ClassLimits.{FaceWithin, ClassWithin}
+use Rattle.som_image_classes.proofs.ClassFields.{faces_few, section_written}
+use Rattle.som_image_classes.proofs.NamedClasses.{many_selecting}
+use Rattle.som_image_classes.proofs.NamedSelects.{section_ascends}
+use Rattle.som_image_classes.specs.SpelledClasses.{FitsSomeSection}
+use Rattle.som_image_decode.proofs.NamedLimits.{named_is_within}
+use Rattle.som_image_classes.proofs.ClassesTurned.{parts_written, face_within, classes_within, few_classes, selecting_within}
 use Rattle.som_cliimage.specs.declared.wire.WireProgram.{WireProgram}
 use Rattle.som_cliimage.specs.Reading.{client_ranges}
 use Rattle.som_cliimage.specs.Spelling.{FitsProgram}

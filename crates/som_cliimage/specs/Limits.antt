@@ -2,8 +2,8 @@
 use Rattle.std.specs.Prelude.{◌≤◌, length, All}
 use Rattle.som_model.specs.declared.limits.TheConstants.{MAX_LIBRARY_CLASSES, MAX_CLIENT_CLASSES}
 use Rattle.som_model.specs.declared.program.ClientProgram.{ClientProgram}
-use Rattle.som_naming.specs.BlockLimits.{BlockWithin}
-use Rattle.som_classimage.specs.ClassLimits.{FaceWithin, ClassWithin}
+use Rattle.som_image_decode.specs.BlockLimits.{BlockWithin}
+use Rattle.som_image_classes.specs.ClassLimits.{FaceWithin, ClassWithin}
 
 -- a client program that an image has room for
 pub record IsWithinLimits (p : ClientProgram) : Type 0 where

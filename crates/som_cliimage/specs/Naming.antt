@@ -2,11 +2,11 @@
 use Rattle.std.specs.Prelude.{◌+◌, List, length}
 use Rattle.som_model.specs.declared.key.Module.TheVariants as modules
 use Rattle.som_model.specs.declared.program.ClientProgram.{ClientProgram}
-use Rattle.som_fields.specs.declared.face.WireFace.{WireFace}
-use Rattle.som_naming.specs.declared.directory.Directory.{Directory}
-use Rattle.som_naming.specs.Naming.{library_directory, with_classes}
-use Rattle.som_naming.specs.NamedBlocks.{block_named}
-use Rattle.som_classimage.specs.NamedClasses.{classes_named, interface_by, with_selects}
+use Rattle.som_image_fields.specs.declared.face.WireFace.{WireFace}
+use Rattle.som_image_decode.specs.declared.directory.Directory.{Directory}
+use Rattle.som_image_decode.specs.Naming.{library_directory, with_classes}
+use Rattle.som_image_decode.specs.NamedBlocks.{block_named}
+use Rattle.som_image_classes.specs.NamedClasses.{classes_named, interface_by, with_selects}
 use Rattle.som_cliimage.specs.declared.wire.WireProgram.{WireProgram}
 
 -- the kernel's classes, those of the base, and the client's own

@@ -5,10 +5,10 @@ use Rattle.som_model.specs.declared.key.ClassKey.TheVariants as keys
 use Rattle.som_model.specs.declared.program.Interface.{Interface}
 use Rattle.som_model.specs.declared.program.ClientProgram.{ClientProgram}
 use Rattle.som_model.specs.Class.{entry_name}
-use Rattle.som_naming.specs.declared.directory.Directory.{Directory}
-use Rattle.som_naming.specs.Naming.{kernel_directory}
-use Rattle.som_numbering.specs.NumberedBlocks.{block_numbered}
-use Rattle.som_numbering.specs.NumberedClasses.{face_numbered, part_numbered, selects_numbered}
+use Rattle.som_image_decode.specs.declared.directory.Directory.{Directory}
+use Rattle.som_image_decode.specs.Naming.{kernel_directory}
+use Rattle.som_image_encode.specs.NumberedBlocks.{block_numbered}
+use Rattle.som_image_encode.specs.NumberedClasses.{face_numbered, part_numbered, selects_numbered}
 use Rattle.som_cliimage.specs.declared.wire.WireProgram.{WireProgram}
 
 -- the kernel's classes and those of an interface, and the names of their entries

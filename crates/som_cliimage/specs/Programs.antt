@@ -2,8 +2,8 @@
 use Rattle.std.specs.Prelude.{◌≡◌, ℕ, List, map, Result, Ok}
 use Rattle.som_model.specs.declared.program.ClientProgram.{ClientProgram}
 use Rattle.som_model.specs.Steps.{◌>>=◌}
-use Rattle.som_fields.specs.declared.fault.ImageFault.{ImageFault}
-use Rattle.som_classimage.specs.Interfaces.{NamesDiffer}
+use Rattle.som_image_fields.specs.declared.fault.ImageFault.{ImageFault}
+use Rattle.som_image_classes.specs.Interfaces.{NamesDiffer}
 use Rattle.som_cliimage.specs.Reading.{wire_at}
 use Rattle.som_cliimage.specs.Naming.{program_named}
 use Rattle.som_cliimage.specs.Spelling.{FitsProgram, client}

@@ -2,14 +2,14 @@
 use Rattle.std.specs.Prelude.{ℕ, ◌+◌, List, ◌++◌, length, codes, Result}
 use Rattle.som_model.specs.declared.limits.TheConstants.{MAX_CLIENT_CLASSES}
 use Rattle.som_model.specs.Steps.{◌>>=◌}
-use Rattle.som_fields.specs.declared.fault.ImageFault.{ImageFault}
-use Rattle.som_fields.specs.declared.read.Read.{Read}
-use Rattle.som_fields.specs.declared.face.WireFace.{WireFace}
-use Rattle.som_fields.specs.declared.method.Ranges.{Ranges}
-use Rattle.som_fields.specs.Fields.{done}
-use Rattle.som_spelling.specs.Fitting.{levels_left}
+use Rattle.som_image_fields.specs.declared.fault.ImageFault.{ImageFault}
+use Rattle.som_image_fields.specs.declared.read.Read.{Read}
+use Rattle.som_image_fields.specs.declared.face.WireFace.{WireFace}
+use Rattle.som_image_fields.specs.declared.method.Ranges.{Ranges}
+use Rattle.som_image_fields.specs.Fields.{done}
+use Rattle.som_image_fields.specs.Fitting.{levels_left}
 use Rattle.som_wire.specs.Reading.{block_at}
-use Rattle.som_classimage.specs.ReadClasses.{ranges_of, faces_after_at, faces_at, parts_at, section_at, head_at, at_end}
+use Rattle.som_image_classes.specs.ReadClasses.{ranges_of, faces_after_at, faces_at, parts_at, section_at, head_at, at_end}
 use Rattle.som_cliimage.specs.declared.wire.WireProgram.{WireProgram}
 
 -- the kernel's classes, those of the base, and the client's own, with as many entries as each has

@@ -3,13 +3,13 @@ use Rattle.std.specs.Prelude.{ℕ, ◌+◌, List, ◌++◌, length, codes}
 use Rattle.std.specs.List.{flat_map}
 use Rattle.std.specs.Int.{w16}
 use Rattle.som_model.specs.declared.limits.TheConstants.{MAX_CLIENT_CLASSES}
-use Rattle.som_fields.specs.declared.face.WireFace.{WireFace}
-use Rattle.som_fields.specs.declared.method.Ranges.{Ranges}
-use Rattle.som_fields.specs.Spelling.{counted, face, FitsMethod}
-use Rattle.som_spelling.specs.declared.syntax.WireBlock.{WireBlock}
-use Rattle.som_spelling.specs.Spelling.{part, block}
-use Rattle.som_spelling.specs.Fitting.{levels_left, FitsBlock}
-use Rattle.som_classimage.specs.SpelledClasses.{FitsFaces, FitsFacesAfter, FitsParts, FitsSection, section, version_with, head}
+use Rattle.som_image_fields.specs.declared.face.WireFace.{WireFace}
+use Rattle.som_image_fields.specs.declared.method.Ranges.{Ranges}
+use Rattle.som_image_fields.specs.Spelling.{counted, face, FitsMethod}
+use Rattle.som_image_fields.specs.declared.syntax.WireBlock.{WireBlock}
+use Rattle.som_image_fields.specs.SyntaxSpelling.{part, block}
+use Rattle.som_image_fields.specs.Fitting.{levels_left, FitsBlock}
+use Rattle.som_image_classes.specs.SpelledClasses.{FitsFaces, FitsFacesAfter, FitsParts, FitsSection, section, version_with, head}
 use Rattle.som_cliimage.specs.declared.wire.WireProgram.{WireProgram}
 use Rattle.som_cliimage.specs.Reading.{client_ranges}
 

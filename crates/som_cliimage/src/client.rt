@@ -4,13 +4,13 @@ ghost use Rattle.som_cliimage.specs.Programs.{ProgramNamesDiffer, SpellsProgram,
 ghost use Rattle.som_cliimage.specs.Limits.{IsWithinLimits};
 ghost use Rattle.som_model.specs.Conforming.{ProgramOk};
 ghost use Rattle.som_model.specs.Images.{client_image};
-ghost use Rattle.som_fields.specs.Fields.{Gives};
+ghost use Rattle.som_image_fields.specs.Fields.{Gives};
 ghost use Rattle.std.specs.Prelude.{◌≡◌, Some, Ok, IfOk};
 
 use crate::named::name_program;
 use crate::numbered::number_program;
 use crate::program::{read_program, write_program};
-use som_fields::{EncodeFault, ImageFault};
+use som_image_fields::{EncodeFault, ImageFault};
 use som_model::{ClientProgram, List};
 use std::alloc::Global;
 

@@ -3,8 +3,8 @@
 ghost use Rattle.som_cliimage.specs.Numbering.{interface_directory, program_directory};
 ghost use Rattle.std.specs.Prelude.{◌≡◌, IfOk};
 
+use som_image_decode::Directory;
 use som_model::{ClientProgram, Interface, Module, NoMemory};
-use som_naming::Directory;
 use std::alloc::Global;
 
 /// The kernel's classes and those of an interface.

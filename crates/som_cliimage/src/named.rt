@@ -5,10 +5,10 @@ ghost use Rattle.som_cliimage.specs.Spelling.{FitsProgram};
 ghost use Rattle.std.specs.Prelude.{◌≡◌, IfOk};
 
 use crate::wire::WireProgram;
-use som_classimage::{KERNEL_CLASSES, name_classes, name_interface};
-use som_fields::WireFace;
+use som_image_classes::{KERNEL_CLASSES, name_classes, name_interface};
+use som_image_decode::{Directory, name_block};
+use som_image_fields::WireFace;
 use som_model::{ClientProgram, List, Module, NoMemory};
-use som_naming::{Directory, name_block};
 use std::alloc::Global;
 
 // The kernel's classes, those of the base, and the client's own.

@@ -4,22 +4,22 @@ ghost use Rattle.som_cliimage.specs.Limits.{IsWithinLimits};
 ghost use Rattle.som_cliimage.specs.Naming.{program_named};
 ghost use Rattle.som_cliimage.specs.Numbering.{program_numbered};
 ghost use Rattle.som_cliimage.specs.Spelling.{FitsProgram};
-ghost use Rattle.som_numbering.specs.NumberedClasses.{FaceKnown, face_numbered};
+ghost use Rattle.som_image_encode.specs.NumberedClasses.{FaceKnown, face_numbered};
 ghost use Rattle.som_model.specs.Conforming.{ProgramOk};
-ghost use Rattle.som_numbering.specs.Numbering.{IsDirectory};
+ghost use Rattle.som_image_encode.specs.Numbering.{IsDirectory};
 ghost use Rattle.som_order.specs.Names.{texts};
 ghost use Rattle.std.specs.Prelude.{◌≡◌, map, All, IfOk};
 
 use crate::directory::{interface_directory, program_directory};
 use crate::wire::WireProgram;
 use indexmap::IndexSet;
-use som_classimage::KERNEL_CLASSES;
-use som_fields::WireFace;
-use som_model::{ClassFace, ClientProgram, List, NoMemory};
-use som_naming::Directory;
-use som_numbering::{
+use som_image_classes::KERNEL_CLASSES;
+use som_image_decode::Directory;
+use som_image_encode::{
     class_names, number_block, number_face, number_faces, number_parts, number_selects,
 };
+use som_image_fields::WireFace;
+use som_model::{ClassFace, ClientProgram, List, NoMemory};
 use std::alloc::Global;
 
 fn number_each(

@@ -2,16 +2,16 @@
 
 ghost use Rattle.som_cliimage.specs.Reading.{client_ranges, program_at, wire_at};
 ghost use Rattle.som_cliimage.specs.Spelling.{FitsOwnFaces, FitsProgram, client};
-ghost use Rattle.som_classimage.specs.SpelledClasses.{FitsFaces};
-ghost use Rattle.som_fields.specs.Fields.{Gives};
+ghost use Rattle.som_image_classes.specs.SpelledClasses.{FitsFaces};
+ghost use Rattle.som_image_fields.specs.Fields.{Gives};
 ghost use Rattle.std.specs.Prelude.{◌≡◌, ◌≤◌, length, IfOk};
 
 use crate::wire::WireProgram;
-use som_classimage::{
+use som_image_classes::{
     KERNEL_CLASSES, new_image, ranges_of, read_faces, read_faces_after, read_head, read_parts,
     read_section, version_with, with_faces, with_parts, with_section,
 };
-use som_fields::{ImageFault, Ranges, Read, WireFace, write_u16};
+use som_image_fields::{ImageFault, Ranges, Read, WireFace, write_u16};
 use som_model::{List, MAX_CLIENT_CLASSES, NoMemory};
 use som_wire::{read_block, write_block};
 use std::alloc::Global;

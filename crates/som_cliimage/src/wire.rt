@@ -1,6 +1,6 @@
 //! The type of a client program with numbers for its classes and methods.
 
-use som_fields::WireFace;
+use som_image_fields::WireFace;
 use som_model::List;
 use som_wire::{WireBlock, WirePart, WireSelects};
 

@@ -3,8 +3,8 @@ use Rattle.std.proofs.Common.{◌≡◌, ◌≢◌, ◌⊎◌, ◌==◌, ℕ, Bo
 use Rattle.std.proofs.lemmas.Bool.{eqb-true}
 use Rattle.som_model.specs.Bytes.{Files}
 use Rattle.som_io.specs.Outside.{Rose}
-use Rattle.som_steps.proofs.Statuses.{differs}
-use Rattle.som_build.specs.PutEnds.{LeavesFiles, as_they_were, with_image, put_failed}
+use Rattle.som_cmd_steps.proofs.Statuses.{differs}
+use Rattle.som_cmd_build.specs.PutEnds.{LeavesFiles, as_they_were, with_image, put_failed}
 use Rattle.som_cmd.specs.Words.{Asked, Bad, Library, Run, Show, Check, Client, Generate}
 use Rattle.som_cmd.specs.Complete.{EndsOrWants, WantsMemory}
 use Rattle.som_cmd.specs.Ends.{EndsAsTold, ShowsSome, StoreFails}

@@ -4,7 +4,7 @@ use Rattle.std.specs.Prelude.{nat_le}
 use Rattle.std.specs.Fmt.{decimal}
 use Rattle.std.proofs.lemmas.Bool.{le-leb, leb-true, and_parts, and_from}
 use Rattle.som_model.specs.declared.limits.TheConstants.{MAX_FUEL}
-use Rattle.som_generated.specs.declared.limits.TheConstants.{MAX_CLASSES}
+use Rattle.som_generator.specs.declared.limits.TheConstants.{MAX_CLASSES}
 use Rattle.som_cmd.specs.Words.{count_of, counted, fuel_of}
 use Rattle.som_cmd.proofs.FuelSpelled.{asks, spelled}
 

@@ -7,36 +7,36 @@ use Rattle.som_model.specs.Bytes.{Files}
 use Rattle.som_model.specs.Compatible.{CompatBreach, Compatible, first_break}
 use Rattle.som_model.specs.Lists.{Mem}
 use Rattle.som_io.specs.Outside.{Rose, ShowsAll, ShowsFront}
-use Rattle.som_steps.proofs.OutcomeLaws.{ends_with, told_with, some_with}
-use Rattle.som_steps.proofs.Printed.{nothing_written, shows_nothing}
-use Rattle.som_steps.proofs.Statuses.{differs}
-use Rattle.som_steps.specs.Endings.{Ending}
-use Rattle.som_steps.specs.Answering.{Answering}
-use Rattle.som_steps.specs.Outcomes as steps
-use Rattle.som_texts.specs.PutAnswer.{puts}
-use Rattle.som_build.proofs.PutEndLaws.{puts_by, puts_client_by}
-use Rattle.som_build.specs.LibraryAnswer.{IsLibraryAnswer}
-use Rattle.som_build.specs.ClientAnswer.{IsClientAnswer}
-use Rattle.som_check.proofs.ShowEndLaws.{shows_by, shows_client_by}
-use Rattle.som_check.proofs.CheckEndLaws.{accepted_by, breach_by}
-use Rattle.som_check.specs.CheckAnswer.{IsCheckAnswer, first_not_kept}
-use Rattle.som_check.specs.ShowEnds.{ShowsProgram, ShowsRelease}
-use Rattle.som_check.specs.CheckEnds.{TellsAccepted, TellsBreach}
-use Rattle.som_check.specs.ShowAnswer.{IsShowAnswer}
+use Rattle.som_cmd_steps.proofs.OutcomeLaws.{ends_with, told_with, some_with}
+use Rattle.som_cmd_steps.proofs.Printed.{nothing_written, shows_nothing}
+use Rattle.som_cmd_steps.proofs.Statuses.{differs}
+use Rattle.som_cmd_steps.specs.Endings.{Ending}
+use Rattle.som_cmd_steps.specs.Answering.{Answering}
+use Rattle.som_cmd_steps.specs.Outcomes as steps
+use Rattle.som_cmd_sources.specs.PutAnswer.{puts}
+use Rattle.som_cmd_build.proofs.PutEndLaws.{puts_by, puts_client_by}
+use Rattle.som_cmd_build.specs.LibraryAnswer.{IsLibraryAnswer}
+use Rattle.som_cmd_build.specs.ClientAnswer.{IsClientAnswer}
+use Rattle.som_cmd_check.proofs.ShowEndLaws.{shows_by, shows_client_by}
+use Rattle.som_cmd_check.proofs.CheckEndLaws.{accepted_by, breach_by}
+use Rattle.som_cmd_check.specs.CheckAnswer.{IsCheckAnswer, first_not_kept}
+use Rattle.som_cmd_check.specs.ShowEnds.{ShowsProgram, ShowsRelease}
+use Rattle.som_cmd_check.specs.CheckEnds.{TellsAccepted, TellsBreach}
+use Rattle.som_cmd_check.specs.ShowAnswer.{IsShowAnswer}
 use Rattle.som_model.specs.Class.{interface_of}
-use Rattle.som_model.specs.Means.{means as meaning_of}
-use Rattle.som_model.specs.RunText.{run_text}
-use Rattle.som_reading.specs.declared.source.Source.{Source}
-use Rattle.som_run.proofs.NewestLaws.{newest_keeps, newest_metaclasses, newest_under}
-use Rattle.som_run.proofs.RunEndLaws.{front_by, means_by, unkept_by}
-use Rattle.som_run.specs.Newest.{RunsOnNewest}
-use Rattle.som_run.specs.RunEnds.{RunsAs, TellsNotKept}
-use Rattle.som_run.specs.RunAnswer.{IsRunAnswer}
+use Rattle.som_semantics.specs.Means.{means as meaning_of}
+use Rattle.som_semantics.specs.RunText.{run_text}
+use Rattle.som_sources.specs.declared.source.Source.{Source}
+use Rattle.som_cmd_run.proofs.NewestLaws.{newest_keeps, newest_metaclasses, newest_under}
+use Rattle.som_cmd_run.proofs.RunEndLaws.{front_by, means_by, unkept_by}
+use Rattle.som_cmd_run.specs.Newest.{RunsOnNewest}
+use Rattle.som_cmd_run.specs.RunEnds.{RunsAs, TellsNotKept}
+use Rattle.som_cmd_run.specs.RunAnswer.{IsRunAnswer}
 use Rattle.som_generator.specs.declared.made.Made.{Made}
-use Rattle.som_generate.proofs.AnswerLaws.{generated_by}
-use Rattle.som_generate.specs.GenerateAnswer.{IsGenerateAnswer}
-use Rattle.som_generate.specs.GenerateEnds.{TellsGenerated}
-use Rattle.som_generate.specs.Printing.{ShowsSomeOf}
+use Rattle.som_cmd_generate.proofs.AnswerLaws.{generated_by}
+use Rattle.som_cmd_generate.specs.GenerateAnswer.{IsGenerateAnswer}
+use Rattle.som_cmd_generate.specs.GenerateEnds.{TellsGenerated}
+use Rattle.som_cmd_generate.specs.Printing.{ShowsSomeOf}
 use Rattle.som_cmd.proofs.OneAnswer.{some_answer}
 use Rattle.som_cmd.specs.Words.{Asked, Bad, Library, Run, Show, Check, Client, Generate}
 use Rattle.som_cmd.specs.Answer.{IsAnswer, bad_words, runs, shows, checks, bad_line, compiles, compiles_client, generates}

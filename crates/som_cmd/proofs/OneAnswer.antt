@@ -1,12 +1,12 @@
 -- Whatever is asked for, there is one answer.
 use Rattle.std.proofs.Common.{◌≡◌, refl, sym, ◌∙◌}
 use Rattle.som_model.specs.Bytes.{Files}
-use Rattle.som_steps.specs.Endings.{Ending}
-use Rattle.som_build.proofs.PutAnswered.{library_answer, client_answer, one_library_answer, one_client_answer}
-use Rattle.som_check.proofs.ShowLaws.{some_show_answer, one_show_answer}
-use Rattle.som_check.proofs.CheckLaws.{some_check_answer, one_check_answer}
-use Rattle.som_run.specs.RunAnswer.{run_ending}
-use Rattle.som_generate.proofs.AnswerLaws.{one_generate_answer, some_generate_answer}
+use Rattle.som_cmd_steps.specs.Endings.{Ending}
+use Rattle.som_cmd_build.proofs.PutAnswered.{library_answer, client_answer, one_library_answer, one_client_answer}
+use Rattle.som_cmd_check.proofs.ShowLaws.{some_show_answer, one_show_answer}
+use Rattle.som_cmd_check.proofs.CheckLaws.{some_check_answer, one_check_answer}
+use Rattle.som_cmd_run.specs.RunAnswer.{run_ending}
+use Rattle.som_cmd_generate.proofs.AnswerLaws.{one_generate_answer, some_generate_answer}
 use Rattle.som_cmd.specs.Answer.{runs, shows, IsAnswer, bad_words, checks, compiles, compiles_client, generates, bad_line}
 use Rattle.som_cmd.specs.Words.{Asked, Run, Show, Check, Library, Client, Generate, Bad}
 use Rattle.som_cmd.proofs.WordLaws.{IsAnswerable}

@@ -6,8 +6,8 @@ use Rattle.std.proofs.lemmas.List.{drop_more, drop_all}
 use Rattle.std.specs.Str.{bytes_eq}
 use Rattle.som_model.specs.declared.limits.TheConstants.{DEFAULT_FUEL}
 use Rattle.som_model.specs.Lists.{every}
-use Rattle.som_reading.specs.Sources.{is_main, mains_in}
-use Rattle.som_generated.specs.declared.limits.TheConstants.{MAX_CLASSES}
+use Rattle.som_sources.specs.Sources.{is_main, mains_in}
+use Rattle.som_generator.specs.declared.limits.TheConstants.{MAX_CLASSES}
 use Rattle.som_cmd.specs.Words.{Asked, Show, Check, Library, Client, Generate, Bad, are_files, asked, asked_of, client_asked, counted, fuel_of, generate_asked, generate_with, is_file, is_name, library_asked, run_asked, run_with, trace_in}
 
 -- ---- one word after the other

@@ -1,13 +1,13 @@
 -- What a call prints and answers, and the files that it leaves, where neither store nor sink fails and memory lasts.
 use Rattle.std.specs.Prelude.{ℕ, Bool, List, [], ◌∷◌, ◌++◌, codes}
 use Rattle.som_model.specs.Bytes.{Files}
-use Rattle.som_steps.specs.Endings.{Ending}
-use Rattle.som_build.specs.LibraryAnswer.{IsLibraryAnswer}
-use Rattle.som_build.specs.ClientAnswer.{IsClientAnswer}
-use Rattle.som_check.specs.CheckAnswer.{IsCheckAnswer}
-use Rattle.som_check.specs.ShowAnswer.{IsShowAnswer}
-use Rattle.som_run.specs.RunAnswer.{IsRunAnswer}
-use Rattle.som_generate.specs.GenerateAnswer.{IsGenerateAnswer}
+use Rattle.som_cmd_steps.specs.Endings.{Ending}
+use Rattle.som_cmd_build.specs.LibraryAnswer.{IsLibraryAnswer}
+use Rattle.som_cmd_build.specs.ClientAnswer.{IsClientAnswer}
+use Rattle.som_cmd_check.specs.CheckAnswer.{IsCheckAnswer}
+use Rattle.som_cmd_check.specs.ShowAnswer.{IsShowAnswer}
+use Rattle.som_cmd_run.specs.RunAnswer.{IsRunAnswer}
+use Rattle.som_cmd_generate.specs.GenerateAnswer.{IsGenerateAnswer}
 use Rattle.som_cmd.specs.Words.{Library, Asked, Run, Show, Check, Client, Generate, Bad}
 
 abbrev pub bad_line : List ℕ

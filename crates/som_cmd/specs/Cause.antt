@@ -1,9 +1,9 @@
 -- Which lines of a call may say that the store failed.
 use Rattle.std.specs.Prelude.{ℕ, List, Option}
 use Rattle.som_model.specs.Bytes.{Files}
-use Rattle.som_build.specs.Cause.{FailsClient, FailsLibrary}
-use Rattle.som_check.specs.Cause.{FailsGetting, FailsShowing}
-use Rattle.som_pair.specs.Cause.{FailsRunning}
+use Rattle.som_cmd_build.specs.Cause.{FailsClient, FailsLibrary}
+use Rattle.som_cmd_check.specs.Cause.{FailsGetting, FailsShowing}
+use Rattle.som_cmd_link.specs.Cause.{FailsRunning}
 use Rattle.som_cmd.specs.Words.{Library, Asked, Run, Show, Check, Client, Generate, Bad}
 
 -- the line says that the get or put of a name failed which the command gets or puts, and no step before refuses

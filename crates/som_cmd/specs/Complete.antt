@@ -2,8 +2,8 @@
 use Rattle.std.specs.Prelude.{◌≡◌, ◌⊎◌, ℕ, List, Option, Some, None}
 use Rattle.som_model.specs.Bytes.{Files}
 use Rattle.som_io.specs.Outside.{ShowsFront}
-use Rattle.som_steps.specs.Endings.{Ending}
-use Rattle.som_steps.specs.Outcomes.{EndsAs}
+use Rattle.som_cmd_steps.specs.Endings.{Ending}
+use Rattle.som_cmd_steps.specs.Outcomes.{EndsAs}
 use Rattle.som_cmd.specs.Words.{Asked}
 use Rattle.som_cmd.specs.Answer.{IsAnswer}
 

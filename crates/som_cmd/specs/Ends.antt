@@ -3,12 +3,12 @@ use Rattle.std.specs.Prelude.{ℕ, Bool, List, [], ◌∷◌, ◌++◌, Option, 
 use Rattle.som_model.specs.declared.program.Release.{Release}
 use Rattle.som_model.specs.declared.program.ClientProgram.{ClientProgram}
 use Rattle.som_model.specs.Bytes.{Files}
-use Rattle.som_steps.specs.StoredImages.{IsClientUnder, IsUnder}
-use Rattle.som_steps.specs.Outcomes as steps
-use Rattle.som_check.specs.CheckEnds.{AreUnder}
-use Rattle.som_reading.specs.declared.source.Source.{Source}
-use Rattle.som_run.specs.Newest.{HoldsNewest}
-use Rattle.som_run.specs.RunEnds.{AreUnder as AreRun}
+use Rattle.som_cmd_steps.specs.StoredImages.{IsClientUnder, IsUnder}
+use Rattle.som_cmd_steps.specs.Outcomes as steps
+use Rattle.som_cmd_check.specs.CheckEnds.{AreUnder}
+use Rattle.som_sources.specs.declared.source.Source.{Source}
+use Rattle.som_cmd_run.specs.Newest.{HoldsNewest}
+use Rattle.som_cmd_run.specs.RunEnds.{AreUnder as AreRun}
 use Rattle.som_generator.specs.declared.made.Made.{Made}
 use Rattle.som_generator.specs.Making.{IsMade}
 use Rattle.som_cmd.specs.Words.{Asked, Run, Show, Check, Generate}

@@ -4,10 +4,10 @@ use Rattle.som_model.specs.declared.program.Release.{Release}
 use Rattle.som_model.specs.declared.program.ClientProgram.{ClientProgram}
 use Rattle.som_model.specs.Bytes.{Files}
 use Rattle.som_model.specs.Images.{client_image, library_image}
-use Rattle.som_build.specs.LibraryAnswer.{AreCompiled}
-use Rattle.som_build.specs.ClientAnswer.{IsClientCompiled}
-use Rattle.som_build.specs.PutEnds.{HoldsClientTexts, HoldsTexts, LeavesFilesTold}
-use Rattle.som_build.specs.PutEnds as build
+use Rattle.som_cmd_build.specs.LibraryAnswer.{AreCompiled}
+use Rattle.som_cmd_build.specs.ClientAnswer.{IsClientCompiled}
+use Rattle.som_cmd_build.specs.PutEnds.{HoldsClientTexts, HoldsTexts, LeavesFilesTold}
+use Rattle.som_cmd_build.specs.PutEnds as build
 use Rattle.som_cmd.specs.Words.{Asked, Run, Show, Check, Library, Client, Generate, Bad}
 
 -- the files after a call: no command but `library` and `client` changes any

@@ -1,13 +1,13 @@
 -- With which statuses a call may end, and what it tells where it is refused, whatever store and sink tell.
 use Rattle.std.specs.Prelude.{ℕ, List, [], ◌∷◌, Option, ◌≡◌, ◌⊎◌}
 use Rattle.som_io.specs.Outside.{ShowsAll, ShowsFront}
-use Rattle.som_steps.specs.Refusing.{TellsRefusal}
-use Rattle.som_texts.specs.Statuses.{library_statuses, client_statuses}
-use Rattle.som_check.specs.CheckAnswer.{check_statuses}
-use Rattle.som_check.specs.ShowAnswer.{show_statuses}
-use Rattle.som_pair.specs.Refusals.{IsRunRefusal}
-use Rattle.som_run.specs.RunAnswer.{run_statuses}
-use Rattle.som_generate.specs.GenerateAnswer.{generate_statuses}
+use Rattle.som_cmd_steps.specs.Refusing.{TellsRefusal}
+use Rattle.som_cmd_sources.specs.Statuses.{library_statuses, client_statuses}
+use Rattle.som_cmd_check.specs.CheckAnswer.{check_statuses}
+use Rattle.som_cmd_check.specs.ShowAnswer.{show_statuses}
+use Rattle.som_cmd_link.specs.Refusals.{IsRunRefusal}
+use Rattle.som_cmd_run.specs.RunAnswer.{run_statuses}
+use Rattle.som_cmd_generate.specs.GenerateAnswer.{generate_statuses}
 use Rattle.som_cmd.specs.Answer.{bad_line}
 use Rattle.som_cmd.specs.Words.{Asked, Run, Show, Check, Library, Client, Generate, Bad}
 

@@ -4,10 +4,10 @@ use Rattle.std.specs.Str.{bytes_eq}
 use Rattle.std.specs.List.{ends_with}
 use Rattle.som_model.specs.declared.limits.TheConstants.{DEFAULT_FUEL, MAX_FUEL}
 use Rattle.som_model.specs.Lists.{every}
-use Rattle.som_model.specs.RunText.{calls_of, every_call, no_trace}
-use Rattle.som_reading.specs.Sources.{is_bodies, is_main, mains_in}
-use Rattle.som_generated.specs.declared.limits.TheConstants.{MAX_CLASSES}
-use Rattle.som_ran.specs.Traces.{shown_in}
+use Rattle.som_semantics.specs.RunText.{calls_of, every_call, no_trace}
+use Rattle.som_sources.specs.Sources.{is_bodies, is_main, mains_in}
+use Rattle.som_generator.specs.declared.limits.TheConstants.{MAX_CLASSES}
+use Rattle.som_cmd_main.specs.Traces.{shown_in}
 use Rattle.som_cmd.specs.declared.words.Command.{Command}
 use Rattle.som_cmd.specs.declared.words.Command.TheVariants as commands
 

@@ -2,10 +2,10 @@
 
 ghost use Rattle.som_cmd.specs.Answer.{IsAnswer};
 ghost use Rattle.som_cmd.specs.Words.{Asked, asked, count_of, fuel_of};
-ghost use Rattle.som_generated.specs.declared.limits.TheConstants.{MAX_CLASSES};
+ghost use Rattle.som_generator.specs.declared.limits.TheConstants.{MAX_CLASSES};
 ghost use Rattle.som_model.specs.Bytes.{Files};
 ghost use Rattle.som_model.specs.declared.limits.TheConstants.{MAX_FUEL};
-ghost use Rattle.som_steps.specs.Endings.{Ending};
+ghost use Rattle.som_cmd_steps.specs.Endings.{Ending};
 ghost use Rattle.std.specs.Fmt.{decimal};
 ghost use Rattle.std.specs.Prelude.{List, Some, ℕ, ◌↔◌, ◌≡◌, ◌≤◌};
 

@@ -1,15 +1,15 @@
 //! The dispatcher of commands: does what the words ask for, and answers the status.
 
-ghost use Rattle.som_check.specs.CheckAnswer.{first_not_kept};
-ghost use Rattle.som_check.specs.CheckEnds.{TellsAccepted, TellsBreach};
-ghost use Rattle.som_check.specs.ShowEnds.{ShowsProgram, ShowsRelease};
+ghost use Rattle.som_cmd_check.specs.CheckAnswer.{first_not_kept};
+ghost use Rattle.som_cmd_check.specs.CheckEnds.{TellsAccepted, TellsBreach};
+ghost use Rattle.som_cmd_check.specs.ShowEnds.{ShowsProgram, ShowsRelease};
 ghost use Rattle.som_cmd.specs.Cause.{FailsOn};
 ghost use Rattle.som_cmd.specs.Complete.{EndsOrWants};
 ghost use Rattle.som_cmd.specs.Ends.{AreChecked, AreImagesOf, AreNewest, EndsAsTold, IsImageOf, IsImageOfClient, IsMadeFor, ShowsSome, StoreFails};
 ghost use Rattle.som_cmd.specs.PutEnds.{AreClientTextsOf, AreTextsOf, KeepsFiles, PutsProgram, PutsRelease};
 ghost use Rattle.som_cmd.specs.Refused.{TellsBadWords, TellsOneLine, statuses_of};
 ghost use Rattle.som_cmd.specs.Words.{Bad, asked};
-ghost use Rattle.som_generate.specs.GenerateEnds.{TellsGenerated};
+ghost use Rattle.som_cmd_generate.specs.GenerateEnds.{TellsGenerated};
 ghost use Rattle.som_generator.specs.declared.made.Made.{Made};
 ghost use Rattle.som_io.specs.Outside.{Rose};
 ghost use Rattle.som_model.specs.Class.{interface_of};
@@ -17,21 +17,21 @@ ghost use Rattle.som_model.specs.Compatible.{CompatBreach, Compatible, first_bre
 ghost use Rattle.som_model.specs.Lists.{Mem};
 ghost use Rattle.som_model.specs.declared.program.ClientProgram.{ClientProgram};
 ghost use Rattle.som_model.specs.declared.program.Release.{Release};
-ghost use Rattle.som_reading.specs.declared.source.Source.{Source};
-ghost use Rattle.som_run.specs.Newest.{RunsOnNewest};
-ghost use Rattle.som_run.specs.RunEnds.{RunsAs, TellsNotKept};
-ghost use Rattle.som_steps.specs.Status.{is_calm_status};
+ghost use Rattle.som_sources.specs.declared.source.Source.{Source};
+ghost use Rattle.som_cmd_run.specs.Newest.{RunsOnNewest};
+ghost use Rattle.som_cmd_run.specs.RunEnds.{RunsAs, TellsNotKept};
+ghost use Rattle.som_cmd_steps.specs.Status.{is_calm_status};
 ghost use Rattle.std.specs.Prelude.{Bool, IsTrue, List as Seq, Some, ℕ, ◌≡◌, ◌≢◌, ◌⊎◌};
 
 use crate::words::{Command, command_of};
-use som_build::{build_client, build_library};
-use som_check::{check_images, show_image};
-use som_generate::generate;
+use som_cmd_build::{build_client, build_library};
+use som_cmd_check::{check_images, show_image};
+use som_cmd_generate::generate;
+use som_cmd_run::run_client;
+use som_cmd_steps::{line_of, say};
 use som_host::HostTable;
 use som_io::{Sink, Store};
 use som_model::{List, Text};
-use som_run::run_client;
-use som_steps::{line_of, say};
 use std::alloc::Global;
 
 // Does what the words ask for: what the call comes to, in the words of the command that it asks for.

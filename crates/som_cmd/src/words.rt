@@ -2,15 +2,15 @@
 
 ghost use Rattle.som_cmd.specs.Words.{are_files, asked, asked_by, asked_of, client_asked, count_of, fuel_of, generate_asked, is_digit, is_file, is_name, leads_with_zero, library_asked, run_asked, run_with, trace_in};
 ghost use Rattle.som_model.specs.Lists.{every};
-ghost use Rattle.som_ran.specs.Traces.{shown_in};
-ghost use Rattle.som_reading.specs.Sources.{is_main, mains_in};
+ghost use Rattle.som_cmd_main.specs.Traces.{shown_in};
+ghost use Rattle.som_sources.specs.Sources.{is_main, mains_in};
 ghost use Rattle.std.specs.Option.{option_map};
 ghost use Rattle.std.specs.Prelude.{codes, ◌≡◌};
 ghost use Rattle.std.specs.Str.{bytes_eq};
 
+use som_cmd_run::Trace;
 use som_generator::MAX_CLASSES;
 use som_model::{DEFAULT_FUEL, List, MAX_FUEL, Text};
-use som_run::Trace;
 
 /// What the words ask for. The names are lent by the words.
 #[derive(Clone, Copy)]

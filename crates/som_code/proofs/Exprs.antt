@@ -2,13 +2,13 @@
 use Rattle.std.proofs.Common.{◌≡◌, ℕ, List, [], ◌∷◌, ◌++◌, map, length, reverse, slice_get, refl, sym, subst}
 use Rattle.som_model.specs.declared.syntax.Expr.{Expr, ind-Expr, roll-Expr, fold-roll-Expr, map-Expr}
 use Rattle.som_model.specs.declared.syntax.Expr.TheOpen.{Expr-F}
-use Rattle.som_model.specs.World.{World}
-use Rattle.som_model.specs.State.{Value, Long, Boolean, Str, Nil, To, Manager, Offset, Lookup}
-use Rattle.som_model.specs.Runs.{Act}
-use Rattle.som_model.specs.Acts.{◌>>=◌, pure, tried, asked}
-use Rattle.som_model.specs.Values.{BinaryOp, And, Or, unary, unary_op, binary, binary_op, host, cast, isa}
-use Rattle.som_model.specs.Calls.{Calls, Here, class_here, parent_at, offset_call, named_call, dispatch_call, parent_call, parents_calls}
-use Rattle.som_model.specs.Expressions.{Evals, local_in, read, each_of, either, class_object, new_on, proxy_on, expr_step as eval_step, eval}
+use Rattle.som_semantics.specs.World.{World}
+use Rattle.som_semantics.specs.State.{Value, Long, Boolean, Str, Nil, To, Manager, Offset, Lookup}
+use Rattle.som_semantics.specs.Runs.{Act}
+use Rattle.som_semantics.specs.Acts.{◌>>=◌, pure, tried, asked}
+use Rattle.som_semantics.specs.Values.{BinaryOp, And, Or, unary, unary_op, binary, binary_op, host, cast, isa}
+use Rattle.som_semantics.specs.Calls.{Calls, Here, class_here, parent_at, offset_call, named_call, dispatch_call, parent_call, parents_calls}
+use Rattle.som_semantics.specs.Expressions.{Evals, local_in, read, each_of, either, class_object, new_on, proxy_on, expr_step as eval_step, eval}
 use Rattle.som_code.specs.declared.instruction.Constant.TheVariants as constants
 use Rattle.som_code.specs.declared.instruction.Instruction.{Instruction}
 use Rattle.som_code.specs.declared.instruction.Instruction.TheVariants as ops

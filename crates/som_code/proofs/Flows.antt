@@ -1,13 +1,13 @@
 -- Pieces of code that go on with other locals, or end the body.
 use Rattle.std.proofs.Common.{◌≡◌, ◌≤◌, ◌+◌, ℕ, zero, suc, List, [], ◌∷◌, ◌++◌, length, take, if◌then◌else◌, refl, sym, ap, ◌∙◌, subst, arith, length-append}
-use Rattle.som_model.specs.World.{World}
-use Rattle.som_model.specs.State.{Value, Event, Heap, State}
-use Rattle.som_model.specs.Runs.{Ran, Goes, Ends, end_of, follow, Act}
-use Rattle.som_model.specs.Acts.{◌>>=◌, ◌>>◌, pure, take_unit, unit_from, self_le}
-use Rattle.som_model.specs.Calls.{Calls, Here}
-use Rattle.som_model.specs.Expressions.{Frame, Evals, is_true}
-use Rattle.som_model.specs.Statements.{Flow, Next, Return, Returned, Runs, go_on, while_loop, all_of, leave}
-use Rattle.som_meaning.proofs.LoopLaws.{while_is}
+use Rattle.som_semantics.specs.World.{World}
+use Rattle.som_semantics.specs.State.{Value, Event, Heap, State}
+use Rattle.som_semantics.specs.Runs.{Ran, Goes, Ends, end_of, follow, Act}
+use Rattle.som_semantics.specs.Acts.{◌>>=◌, ◌>>◌, pure, take_unit, unit_from, self_le}
+use Rattle.som_semantics.specs.Calls.{Calls, Here}
+use Rattle.som_semantics.specs.Expressions.{Frame, Evals, is_true}
+use Rattle.som_semantics.specs.Statements.{Flow, Next, Return, Returned, Runs, go_on, while_loop, all_of, leave}
+use Rattle.som_semantics.proofs.LoopLaws.{while_is}
 use Rattle.som_code.specs.declared.instruction.Instruction.{Instruction}
 use Rattle.som_code.specs.declared.instruction.Instruction.TheVariants as ops
 use Rattle.som_code.specs.Machine.{After, On, Over}

@@ -1,11 +1,11 @@
 -- How many locals a statement leaves visible.
 use Rattle.std.proofs.Common.{◌≡◌, ◌≤◌, ◌+◌, ℕ, zero, suc, List, [], ◌∷◌, ◌++◌, length, take, Bool, true, false, if◌then◌else◌, refl, sym, ap, ◌∙◌, subst, arith, length-append}
 use Rattle.std.specs.Prelude.{slice_set}
-use Rattle.som_model.specs.State.{Value, State}
-use Rattle.som_model.specs.Runs.{Ran, Goes, Ends, follow, Act}
-use Rattle.som_model.specs.Acts.{◌>>=◌, ◌>>◌, pure, take_unit}
-use Rattle.som_model.specs.Expressions.{Frame, Evals, is_true}
-use Rattle.som_model.specs.Statements.{Flow, Next, Return, Returned, Runs, go_on, turn, turns, while_loop, all_of, leave}
+use Rattle.som_semantics.specs.State.{Value, State}
+use Rattle.som_semantics.specs.Runs.{Ran, Goes, Ends, follow, Act}
+use Rattle.som_semantics.specs.Acts.{◌>>=◌, ◌>>◌, pure, take_unit}
+use Rattle.som_semantics.specs.Expressions.{Frame, Evals, is_true}
+use Rattle.som_semantics.specs.Statements.{Flow, Next, Return, Returned, Runs, go_on, turn, turns, while_loop, all_of, leave}
 
 -- an act that went on did so through its first part
 pub came : {A B : Type 0} (r : Ran A) (k : A → State → Ran B) (y : B) (t : State) → follow r k ≡ Goes y t → (x : A) × (u : State) × (r ≡ Goes x u) × (k x u ≡ Goes y t)

@@ -6,7 +6,7 @@ use Rattle.som_model.specs.declared.syntax.Stmt.{Stmt, roll-Stmt, fold-roll-Stmt
 use Rattle.som_model.specs.declared.syntax.Stmt.TheOpen.{Stmt-F, Block-F}
 use Rattle.som_model.specs.declared.syntax.Block.{Block, ind-Block, fold-roll-Block, map-Block}
 use Rattle.som_model.specs.Kernel.{som_free}
-use Rattle.som_model.specs.Values.{BinaryOp, And, Or, binary_op}
+use Rattle.som_semantics.specs.Values.{BinaryOp, And, Or, binary_op}
 use Rattle.som_code.specs.declared.instruction.Constant.TheVariants as constants
 use Rattle.som_code.specs.declared.instruction.Instruction.{Instruction}
 use Rattle.som_code.specs.declared.instruction.Instruction.TheVariants as ops

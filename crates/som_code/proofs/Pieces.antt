@@ -2,12 +2,12 @@
 use Rattle.std.proofs.Common.{◌≡◌, ◌+◌, ℕ, List, [], ◌∷◌, ◌++◌, length, reverse, take, drop, slice_get, Some, Bool, true, false, if◌then◌else◌, refl, sym, ap, ◌∙◌, subst, arith, suc, length-append, append_assoc}
 use Rattle.std.proofs.lemmas.List.{reverse-append, reverse-reverse, length-reverse}
 use Rattle.std.proofs.Math.Seq.{take-append_seam, drop-append_seam}
-use Rattle.som_model.specs.World.{World}
-use Rattle.som_model.specs.State.{Value, Boolean, State}
-use Rattle.som_model.specs.Runs.{Ran, Goes, Ends, follow, Act}
-use Rattle.som_model.specs.Acts.{◌>>=◌, pure}
-use Rattle.som_model.specs.Calls.{Calls, Here}
-use Rattle.som_model.specs.Expressions.{Frame, Evals, is_true, each_of}
+use Rattle.som_semantics.specs.World.{World}
+use Rattle.som_semantics.specs.State.{Value, Boolean, State}
+use Rattle.som_semantics.specs.Runs.{Ran, Goes, Ends, follow, Act}
+use Rattle.som_semantics.specs.Acts.{◌>>=◌, pure}
+use Rattle.som_semantics.specs.Calls.{Calls, Here}
+use Rattle.som_semantics.specs.Expressions.{Frame, Evals, is_true, each_of}
 use Rattle.som_code.specs.declared.instruction.Constant.TheVariants as constants
 use Rattle.som_code.specs.declared.instruction.Instruction.{Instruction}
 use Rattle.som_code.specs.declared.instruction.Instruction.TheVariants as ops

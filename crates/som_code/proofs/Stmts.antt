@@ -8,14 +8,14 @@ use Rattle.som_model.specs.declared.syntax.Stmt.{Stmt, roll-Stmt, fold-roll-Stmt
 use Rattle.som_model.specs.declared.syntax.Stmt.TheOpen.{Stmt-F, Block-F}
 use Rattle.som_model.specs.declared.syntax.Block.{Block, ind-Block, roll-Block, fold-roll-Block, map-Block}
 use Rattle.som_model.specs.Kernel.{som_free}
-use Rattle.som_model.specs.World.{World}
-use Rattle.som_model.specs.State.{Value, Offset, State}
-use Rattle.som_model.specs.Runs.{Ran, Goes, Ends, follow, Act}
-use Rattle.som_model.specs.Acts.{◌>>=◌, ◌>>◌, pure}
-use Rattle.som_model.specs.Calls.{Calls, Here, class_here, offset_call}
-use Rattle.som_model.specs.Expressions.{Frame, Evals, is_true, eval}
-use Rattle.som_model.specs.Statements.{Flow, Next, Return, Returned, Runs, assign, print_value, all_of, stmt_step as run_step, block_step as run_block_step, exec, run_block}
-use Rattle.som_model.specs.Invoked.{answer_of}
+use Rattle.som_semantics.specs.World.{World}
+use Rattle.som_semantics.specs.State.{Value, Offset, State}
+use Rattle.som_semantics.specs.Runs.{Ran, Goes, Ends, follow, Act}
+use Rattle.som_semantics.specs.Acts.{◌>>=◌, ◌>>◌, pure}
+use Rattle.som_semantics.specs.Calls.{Calls, Here, class_here, offset_call}
+use Rattle.som_semantics.specs.Expressions.{Frame, Evals, is_true, eval}
+use Rattle.som_semantics.specs.Statements.{Flow, Next, Return, Returned, Runs, assign, print_value, all_of, stmt_step as run_step, block_step as run_block_step, exec, run_block}
+use Rattle.som_semantics.specs.Invoked.{answer_of}
 use Rattle.som_code.specs.declared.instruction.Instruction.{Instruction}
 use Rattle.som_code.specs.declared.instruction.Instruction.TheVariants as ops
 use Rattle.som_code.specs.Machine.{After, On, Over, over, ComesTo}

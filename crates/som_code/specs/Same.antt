@@ -4,13 +4,13 @@ use Rattle.som_code.specs.declared.instruction.Instruction.{Instruction}
 use Rattle.som_code.specs.Machine.{ComesTo}
 use Rattle.som_code.specs.Effect.{beginning, step}
 use Rattle.som_model.specs.declared.syntax.Block.{Block}
-use Rattle.som_model.specs.World.{World}
-use Rattle.som_model.specs.State.{Value, State}
-use Rattle.som_model.specs.Runs.{Act}
-use Rattle.som_model.specs.Acts.{◌>>=◌, pure}
-use Rattle.som_model.specs.Calls.{Calls, Here}
-use Rattle.som_model.specs.Statements.{run_block}
-use Rattle.som_model.specs.Invoked.{answer_of}
+use Rattle.som_semantics.specs.World.{World}
+use Rattle.som_semantics.specs.State.{Value, State}
+use Rattle.som_semantics.specs.Runs.{Act}
+use Rattle.som_semantics.specs.Acts.{◌>>=◌, pure}
+use Rattle.som_semantics.specs.Calls.{Calls, Here}
+use Rattle.som_semantics.specs.Statements.{run_block}
+use Rattle.som_semantics.specs.Invoked.{answer_of}
 
 -- what a block does as a body with these parameters: where it ends without a value, it answers this one
 abbrev pub body_act : World → Calls → Here → Value → Block → List Value → Act Value

@@ -2,7 +2,7 @@
 
 ghost use Rattle.som_code.specs.Laid.{lay_and, lay_each, lay_expr, lay_or, lay_right};
 ghost use Rattle.som_model.specs.Blocks.{is_call};
-ghost use Rattle.som_model.specs.Values.{binary_op};
+ghost use Rattle.som_semantics.specs.Values.{binary_op};
 ghost use Rattle.std.specs.Prelude.{◌≡◌, ◌++◌, ◌∷◌, [], length, map, true, OnOk};
 
 use crate::emit::{emit, emit_text, patch};

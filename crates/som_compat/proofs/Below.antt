@@ -3,7 +3,7 @@ use Rattle.std.proofs.Common.{◌≡◌, ℕ, ◌+◌, ◌<◌, inl, inr, Bool, 
 use Rattle.std.proofs.lemmas.Bool.{cases_lt}
 use Rattle.som_model.specs.Lists.{Mem}
 use Rattle.som_model.specs.Ancestors.{Descends, itself, by_parent}
-use Rattle.som_laws.specs.Rows.{rows_of, AreLow}
+use Rattle.som_model_laws.specs.Rows.{rows_of, AreLow}
 use Rattle.som_compat.specs.Marks.{Marked, some_marked}
 use Rattle.som_compat.proofs.Marking.{marked_set, low_end}
 

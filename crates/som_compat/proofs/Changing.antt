@@ -13,10 +13,10 @@ use Rattle.som_model.specs.Classes.{hierarchy}
 use Rattle.som_model.specs.Owner.{entry_at, owner, owner_within, sig_of}
 use Rattle.som_model.specs.Compatible.{failing, first_changed, signature, incompatible, k4, k5}
 use Rattle.som_model.proofs.KeyLaws.{exact_bytes}
-use Rattle.som_ancestry.specs.Inherited.{moved_to}
-use Rattle.som_ancestry.specs.Places.{key_at, face_at}
-use Rattle.som_lawful.specs.Plainly.{Differ}
-use Rattle.som_lawful.proofs.Falling.{mem_there}
+use Rattle.som_verify_classes.specs.Inherited.{moved_to}
+use Rattle.som_verify_classes.specs.Places.{key_at, face_at}
+use Rattle.som_verify_classes.specs.Plainly.{Differ}
+use Rattle.som_verify_classes.proofs.Falling.{mem_there}
 use Rattle.som_compat.specs.Conditions.{Conforms}
 use Rattle.som_compat.specs.Views.{interface, classes_of, shown, IsShown}
 use Rattle.som_compat.specs.Told.{entry_sig, changed}

@@ -9,12 +9,12 @@ use Rattle.som_model.specs.Kernel.{som_class}
 use Rattle.som_model.specs.Metaclass.{meta}
 use Rattle.som_model.specs.Compatible.{incompatible, declared_name, k6}
 use Rattle.som_model.proofs.KeyLaws.{both}
-use Rattle.som_laws.proofs.Members.{both_or_none, not_true}
-use Rattle.som_laws.proofs.Laws.{descends_test}
-use Rattle.som_ancestry.specs.Places.{class_of_place, key_at, face_at, Finds}
-use Rattle.som_lawful.specs.Plainly.{IsAmong}
-use Rattle.som_lawful.proofs.Falling.{mem_there}
-use Rattle.som_ancestry.proofs.Finding.{mem_place}
+use Rattle.som_model_laws.proofs.Members.{both_or_none, not_true}
+use Rattle.som_model_laws.proofs.Laws.{descends_test}
+use Rattle.som_verify_classes.specs.Places.{class_of_place, key_at, face_at, Finds}
+use Rattle.som_verify_classes.specs.Plainly.{IsAmong}
+use Rattle.som_verify_classes.proofs.Falling.{mem_there}
+use Rattle.som_verify_classes.proofs.Finding.{mem_place}
 use Rattle.som_compat.specs.declared.rows.Row.{Row}
 use Rattle.som_compat.specs.Metaclasses.{IsDeclared, Declares}
 use Rattle.som_compat.specs.Views.{AreRows, IsWithin, key_of}

@@ -13,11 +13,11 @@ use Rattle.som_model.specs.Ancestors.{Descends}
 use Rattle.som_model.specs.Class.{Class, entry_name}
 use Rattle.som_model.specs.Classes.{class_at, hierarchy, ancestors, is_a}
 use Rattle.som_model.specs.Compatible.{CompatBreach, incompatible, order_of, first_changed, k2, k3, k4, k5, k6, class_breaks, first_break}
-use Rattle.som_laws.proofs.Laws.{descends_test}
+use Rattle.som_model_laws.proofs.Laws.{descends_test}
 use Rattle.som_order.specs.Names.{name_at}
 use Rattle.som_order.specs.Difference.{first_difference}
-use Rattle.som_ancestry.specs.Places.{class_of_place, key_at}
-use Rattle.som_lawful.specs.Plainly.{IsAmong}
+use Rattle.som_verify_classes.specs.Places.{class_of_place, key_at}
+use Rattle.som_verify_classes.specs.Plainly.{IsAmong}
 use Rattle.som_compat.specs.Conditions.{IsCounted, Conforms}
 use Rattle.som_compat.specs.Finding.{FindsName, face_names}
 use Rattle.som_compat.specs.Metaclasses.{IsDeclared}

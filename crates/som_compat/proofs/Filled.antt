@@ -3,8 +3,8 @@ use Rattle.std.proofs.Common.{◌≡◌, ℕ, zero, suc, ◌+◌, ◌<◌, inl, 
 use Rattle.som_model.specs.declared.key.ClassKey.{ClassKey}
 use Rattle.som_model.specs.Lists.{Mem}
 use Rattle.som_model.specs.Class.{Class}
-use Rattle.som_laws.proofs.Members.{mem_split}
-use Rattle.som_ancestry.specs.Places.{key_at}
+use Rattle.som_model_laws.proofs.Members.{mem_split}
+use Rattle.som_verify_classes.specs.Places.{key_at}
 
 pub set_take : {A : Type 0} (xs : List A) (i : ℕ) (x : A) → i < length xs → take (i + 1) (slice_set xs i x) ≡ take i xs ++ x ∷ []
 set_take [] i x lt = absurd (omega arith)

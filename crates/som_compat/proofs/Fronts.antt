@@ -9,13 +9,13 @@ use Rattle.som_model.specs.Class.{Class}
 use Rattle.som_model.specs.Classes.{hierarchy, ancestors, is_a}
 use Rattle.som_model.specs.Compatible.{incompatible, declared_name, k3}
 use Rattle.som_model.proofs.KeyLaws.{exact_keys}
-use Rattle.som_laws.proofs.Members.{mem_left, mem_right, mem_split, joined_mem, mem_joined, not_true, Apart}
-use Rattle.som_laws.proofs.Laws.{ancestors as ancestors_are, descends_test, descends_through}
-use Rattle.som_ancestry.specs.Places.{class_of_place, key_at, face_at, Finds}
-use Rattle.som_lawful.specs.Plainly.{IsAmong}
-use Rattle.som_laws.specs.Once.{adds}
-use Rattle.som_ancestry.proofs.DeclaredClasses.{long_map}
-use Rattle.som_lawful.proofs.PlainLists.{mem_map, map_mem}
+use Rattle.som_model_laws.proofs.Members.{mem_left, mem_right, mem_split, joined_mem, mem_joined, not_true, Apart}
+use Rattle.som_model_laws.proofs.Laws.{ancestors as ancestors_are, descends_test, descends_through}
+use Rattle.som_verify_classes.specs.Places.{class_of_place, key_at, face_at, Finds}
+use Rattle.som_verify_classes.specs.Plainly.{IsAmong}
+use Rattle.som_model_laws.specs.Once.{adds}
+use Rattle.som_verify_classes.proofs.DeclaredClasses.{long_map}
+use Rattle.som_verify_classes.proofs.PlainLists.{mem_map, map_mem}
 use Rattle.som_compat.specs.declared.rows.Row.{Row}
 use Rattle.som_compat.specs.Views.{AreRows}
 use Rattle.som_compat.specs.Marks.{Marked, count, lost_from, Above, IsReached, IsFront}

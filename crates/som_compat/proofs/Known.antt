@@ -1,7 +1,7 @@
 -- What is known of the classes of an interface that conforms.
 use Rattle.std.proofs.Common.{◌≡◌, ℕ, zero, suc, ◌<◌, ◌≤◌, ◌⊎◌, inl, inr, Bool, true, false, List, [], ◌∷◌, ◌++◌, map, length, take, Some, slice_get, slice_index_or, refl, sym, ap, ◌∙◌, subst, arith, true≢false}
 use Rattle.std.specs.Str.{bytes_eq}
-use Rattle.som_ancestry.proofs.Before.{every_mem}
+use Rattle.som_verify_classes.proofs.Before.{every_mem}
 use Rattle.som_model.specs.declared.key.Module.TheVariants as modules
 use Rattle.som_model.specs.declared.key.ClassKey.{ClassKey}
 use Rattle.som_model.specs.declared.key.ClassKey.TheVariants as keys
@@ -19,21 +19,21 @@ use Rattle.som_model.specs.Compatible.{release_of}
 use Rattle.som_model.specs.Rules.{name_of}
 use Rattle.som_model.proofs.KeyLaws.{exact_bytes, exact_keys}
 use Rattle.som_model.proofs.NamedLaws.{hierarchy_parents, hierarchy_same, parents_named}
-use Rattle.som_laws.proofs.Members.{mem_left, mem_right, mem_split}
-use Rattle.som_ancestry.specs.Told.{of_library, of_release}
-use Rattle.som_ancestry.specs.Places.{all_classes, class_of_place, key_at, face_at, module_at, IsTable}
-use Rattle.som_ancestry.specs.Standing.{kernel_rows}
-use Rattle.som_lawful.specs.Plainly.{IsAmong, Introduces, Differ, FacesHold}
-use Rattle.som_ancestry.specs.Modules.{AreDeclared}
-use Rattle.som_ancestry.proofs.DeclaredClasses.{map_declared}
-use Rattle.som_ancestry.proofs.Finding.{key_named}
-use Rattle.som_ancestry.proofs.KeyLists.{keys_once, class_there, height_there}
-use Rattle.som_lawful.proofs.Falling.{mem_there, falls}
-use Rattle.som_ancestry.proofs.Rows.{kernel_low, kernel_by}
-use Rattle.som_ancestry.proofs.ClassTable.{is_table}
-use Rattle.som_lawful.proofs.PlainLists.{map_mem, apart_by, apart_differ}
-use Rattle.som_lawful.proofs.PlainNames.{say_names}
-use Rattle.som_lawful.proofs.PlainWhole.{faces_say}
+use Rattle.som_model_laws.proofs.Members.{mem_left, mem_right, mem_split}
+use Rattle.som_verify_classes.specs.Told.{of_library, of_release}
+use Rattle.som_verify_classes.specs.Places.{all_classes, class_of_place, key_at, face_at, module_at, IsTable}
+use Rattle.som_verify_classes.specs.Standing.{kernel_rows}
+use Rattle.som_verify_classes.specs.Plainly.{IsAmong, Introduces, Differ, FacesHold}
+use Rattle.som_verify_classes.specs.Modules.{AreDeclared}
+use Rattle.som_verify_classes.proofs.DeclaredClasses.{map_declared}
+use Rattle.som_verify_classes.proofs.Finding.{key_named}
+use Rattle.som_verify_classes.proofs.KeyLists.{keys_once, class_there, height_there}
+use Rattle.som_verify_classes.proofs.Falling.{mem_there, falls}
+use Rattle.som_verify_classes.proofs.Rows.{kernel_low, kernel_by}
+use Rattle.som_verify_classes.proofs.ClassTable.{is_table}
+use Rattle.som_verify_classes.proofs.PlainLists.{map_mem, apart_by, apart_differ}
+use Rattle.som_verify_classes.proofs.PlainNames.{say_names}
+use Rattle.som_verify_classes.proofs.PlainWhole.{faces_say}
 use Rattle.som_compat.specs.Conditions.{IsCounted, Conforms}
 use Rattle.som_compat.specs.Views.{shown}
 

@@ -4,7 +4,7 @@ use Rattle.std.specs.Prelude.{IfOk}
 use Rattle.som_model.specs.declared.program.Interface.{Interface}
 use Rattle.som_model.specs.Lists.{Mem, first}
 use Rattle.som_model.specs.Compatible.{breaks, Compatible, list_breaks, EachNext, EachLater}
-use Rattle.som_ancestry.proofs.Before.{none_both}
+use Rattle.som_verify_classes.proofs.Before.{none_both}
 use Rattle.som_compat.specs.declared.breach.Breach.{Breach}
 use Rattle.som_compat.specs.Conditions.{Conforms}
 use Rattle.som_compat.specs.Told.{told_by_list}

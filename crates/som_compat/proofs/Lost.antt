@@ -8,11 +8,11 @@ use Rattle.som_model.specs.Ancestors.{anc}
 use Rattle.som_model.specs.Class.{Class}
 use Rattle.som_model.specs.Classes.{is_a}
 use Rattle.som_model.specs.Compatible.{failing}
-use Rattle.som_laws.proofs.Members.{mem_left, mem_right, mem_split, some_mem, mem_some, Apart}
-use Rattle.som_laws.proofs.Laws.{ancestors_step}
-use Rattle.som_laws.specs.Once.{add_new, adds}
-use Rattle.som_laws.proofs.WalkLaw.{adds_both, firsts_adds}
-use Rattle.som_ancestry.proofs.Numbering.{map_append}
+use Rattle.som_model_laws.proofs.Members.{mem_left, mem_right, mem_split, some_mem, mem_some, Apart}
+use Rattle.som_model_laws.proofs.Laws.{ancestors_step}
+use Rattle.som_model_laws.specs.Once.{add_new, adds}
+use Rattle.som_model_laws.proofs.WalkLaw.{adds_both, firsts_adds}
+use Rattle.som_verify_classes.proofs.Numbering.{map_append}
 use Rattle.som_compat.specs.Marks.{Marked, count, lost_from}
 
 choose_prefix : {A : Type 0} (b : Bool) (x : A) (seen : List A) → (more : List A) × ((if b then seen else seen ++ x ∷ []) ≡ seen ++ more)

@@ -3,7 +3,7 @@ use Rattle.std.proofs.Common.{◌≡◌, ◌↔◌, ℕ, zero, suc, ◌+◌, ◌
 use Rattle.std.proofs.lemmas.Bool.{cases_lt}
 use Rattle.som_model.specs.Lists.{Mem}
 use Rattle.som_model.specs.Ancestors.{Descends, itself, by_parent}
-use Rattle.som_laws.specs.Rows.{rows_of}
+use Rattle.som_model_laws.specs.Rows.{rows_of}
 use Rattle.som_compat.specs.declared.rows.Row.{Row}
 use Rattle.som_compat.specs.Views.{numbers_of}
 use Rattle.som_compat.specs.Marks.{Marked, lists_of}

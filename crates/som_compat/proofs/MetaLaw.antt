@@ -17,13 +17,13 @@ use Rattle.som_model.specs.Kernel.{kernel, som_class}
 use Rattle.som_model.specs.Metaclass.{rank, rank_step, is_low, is_above, lowest, meta_within, meta}
 use Rattle.som_model.proofs.KeyLaws.{exact_keys}
 use Rattle.som_model.proofs.NamedLaws.{out_named, height_named, rank_named, hierarchy_parents, parents_named}
-use Rattle.som_laws.proofs.Members.{mem_left, mem_right, mem_split, some_mem, mem_without, without_mem, firsts_mem, find_first}
-use Rattle.som_laws.proofs.Laws.{mem_firsts, descends_test, descends_through}
-use Rattle.som_ancestry.specs.Places.{class_of_place, key_at, face_at}
-use Rattle.som_lawful.proofs.Falling.{mem_there}
-use Rattle.som_ancestry.proofs.Owners.{mem_middle}
-use Rattle.som_lawful.proofs.PlainLists.{mem_map, map_mem}
-use Rattle.som_lawful.proofs.PlainNames.{option_mem}
+use Rattle.som_model_laws.proofs.Members.{mem_left, mem_right, mem_split, some_mem, mem_without, without_mem, firsts_mem, find_first}
+use Rattle.som_model_laws.proofs.Laws.{mem_firsts, descends_test, descends_through}
+use Rattle.som_verify_classes.specs.Places.{class_of_place, key_at, face_at}
+use Rattle.som_verify_classes.proofs.Falling.{mem_there}
+use Rattle.som_verify_classes.proofs.Owners.{mem_middle}
+use Rattle.som_verify_classes.proofs.PlainLists.{mem_map, map_mem}
+use Rattle.som_verify_classes.proofs.PlainNames.{option_mem}
 use Rattle.som_compat.specs.Metaclasses.{IsDeclared, Declares}
 use Rattle.som_compat.proofs.Known.{IsKnown}
 

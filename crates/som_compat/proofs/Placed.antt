@@ -17,10 +17,10 @@ use Rattle.som_model.specs.Kernel.{kernel}
 use Rattle.som_model.specs.Rules.{name_of}
 use Rattle.som_model.specs.Compatible.{release_of}
 use Rattle.som_model.proofs.NamedLaws.{out_named}
-use Rattle.som_ancestry.specs.Places.{class_of_place, key_at, nobody, Finds}
-use Rattle.som_lawful.specs.Plainly.{IsAmong}
-use Rattle.som_ancestry.proofs.DeclaredClasses.{long_map}
-use Rattle.som_lawful.proofs.Falling.{mem_there}
+use Rattle.som_verify_classes.specs.Places.{class_of_place, key_at, nobody, Finds}
+use Rattle.som_verify_classes.specs.Plainly.{IsAmong}
+use Rattle.som_verify_classes.proofs.DeclaredClasses.{long_map}
+use Rattle.som_verify_classes.proofs.Falling.{mem_there}
 use Rattle.som_compat.specs.Finding.{FindsName, face_names}
 use Rattle.som_compat.specs.Views.{shown, interface, classes_of}
 

@@ -16,13 +16,13 @@ use Rattle.som_model.specs.Compatible.{release_of, CompatBreach, incompatible, o
 use Rattle.som_model.proofs.KeyLaws.{Exact, exact_keys, exact_bytes, both}
 use Rattle.som_model.proofs.SameLaws.{exact_option, exact_sigs}
 use Rattle.som_model.proofs.NamedLaws.{same_named}
-use Rattle.som_laws.proofs.Members.{mem_right, mem_split, mem_some}
-use Rattle.som_laws.proofs.Laws.{ancestors as ancestors_are, descends_test}
-use Rattle.som_ancestry.proofs.Before.{none_both, both_none}
-use Rattle.som_lawful.proofs.Falling.{mem_there}
-use Rattle.som_ancestry.proofs.Owners.{flat_none}
-use Rattle.som_lawful.proofs.PlainLists.{none_flat, map_mem}
-use Rattle.som_lawful.proofs.PlainNames.{option_mem}
+use Rattle.som_model_laws.proofs.Members.{mem_right, mem_split, mem_some}
+use Rattle.som_model_laws.proofs.Laws.{ancestors as ancestors_are, descends_test}
+use Rattle.som_verify_classes.proofs.Before.{none_both, both_none}
+use Rattle.som_verify_classes.proofs.Falling.{mem_there}
+use Rattle.som_verify_classes.proofs.Owners.{flat_none}
+use Rattle.som_verify_classes.proofs.PlainLists.{none_flat, map_mem}
+use Rattle.som_verify_classes.proofs.PlainNames.{option_mem}
 use Rattle.som_compat.specs.Conditions.{Conforms}
 use Rattle.som_compat.specs.Plainly.{IsPair, Keeps}
 use Rattle.som_compat.specs.Views.{shown}

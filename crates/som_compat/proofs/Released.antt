@@ -20,13 +20,13 @@ use Rattle.som_model.specs.Kernel.{kernel, som_class}
 use Rattle.som_model.specs.Keys.{same_key}
 use Rattle.som_model.specs.Owner.{introduces}
 use Rattle.som_model.specs.Rules.{RuleBreach, breach, demand, demand_of, introduced_by, is_known, is_value_type, name_of, s1, s2, s3, s4, s5, s6, s7, s8, s9, s10, s14}
-use Rattle.som_ancestry.specs.Faces.{faces_breach}
-use Rattle.som_ancestry.specs.Inherited.{inherits, moved_entry}
-use Rattle.som_ancestry.proofs.Before.{both_none, none_both}
-use Rattle.som_ancestry.proofs.Conformity.{faces_first, none_or, or_none}
-use Rattle.som_ancestry.proofs.DeclaredClasses.{long_map}
+use Rattle.som_verify_classes.specs.Faces.{faces_breach}
+use Rattle.som_verify_classes.specs.Inherited.{inherits, moved_entry}
+use Rattle.som_verify_classes.proofs.Before.{both_none, none_both}
+use Rattle.som_verify_classes.proofs.Conformity.{faces_first, none_or, or_none}
+use Rattle.som_verify_classes.proofs.DeclaredClasses.{long_map}
 use Rattle.som_compat.specs.Conditions.{Conforms, IsCounted}
-use Rattle.som_lawful.proofs.FacesOnly.{ancestors_faces, face_only, introduced_faces, introduces_faces, is_a_faces, known_faces, names_faces, type_faces, value_faces}
+use Rattle.som_verify_classes.proofs.FacesOnly.{ancestors_faces, face_only, introduced_faces, introduces_faces, is_a_faces, known_faces, names_faces, type_faces, value_faces}
 
 faces_more : (before : List Class) (c : Class) → map face_only before ++ face_only c ∷ [] ≡ map face_only (before ++ c ∷ [])
 faces_more [] c = refl

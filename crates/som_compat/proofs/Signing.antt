@@ -3,7 +3,7 @@ use Rattle.std.proofs.Common.{◌≡◌, sym, subst, true}
 use Rattle.som_model.specs.declared.class.Sig.{Sig}
 use Rattle.som_model.specs.Same.{same_sig}
 use Rattle.som_model.proofs.SameLaws.{exact_sigs}
-use Rattle.som_laws.proofs.Members.{both_or_none}
+use Rattle.som_model_laws.proofs.Members.{both_or_none}
 
 turned : (a b : Sig) → same_sig a b ≡ true → same_sig b a ≡ true
 turned a b e = subst (λ z. same_sig b z ≡ true) (sym (exact_sigs.two a b e)) (exact_sigs.one b)

@@ -9,12 +9,12 @@ use Rattle.som_model.specs.Classes.{hierarchy, interface_classes}
 use Rattle.som_model.specs.Kernel.{kernel, som_class}
 use Rattle.som_model.specs.Metaclass.{meta}
 use Rattle.som_model.specs.Compatible.{release_of, order_of, signature, Compatible, EachNext, EachLater}
-use Rattle.som_laws.proofs.Members.{mem_right, mem_split}
-use Rattle.som_laws.proofs.Laws.{descends_through}
-use Rattle.som_ancestry.specs.Places.{class_of_place, key_at}
-use Rattle.som_lawful.specs.Plainly.{IsAmong}
-use Rattle.som_lawful.proofs.Falling.{mem_there}
-use Rattle.som_ancestry.proofs.Finding.{mem_place}
+use Rattle.som_model_laws.proofs.Members.{mem_right, mem_split}
+use Rattle.som_model_laws.proofs.Laws.{descends_through}
+use Rattle.som_verify_classes.specs.Places.{class_of_place, key_at}
+use Rattle.som_verify_classes.specs.Plainly.{IsAmong}
+use Rattle.som_verify_classes.proofs.Falling.{mem_there}
+use Rattle.som_verify_classes.proofs.Finding.{mem_place}
 use Rattle.som_compat.specs.Conditions.{Conforms}
 use Rattle.som_compat.specs.Metaclasses.{IsDeclared}
 use Rattle.som_compat.specs.Plainly.{IsPair, Keeps}

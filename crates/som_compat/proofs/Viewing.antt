@@ -9,14 +9,14 @@ use Rattle.som_model.specs.Ancestors.{Descends, itself, by_parent}
 use Rattle.som_model.specs.Class.{Class, entry_of, introduced_sig}
 use Rattle.som_model.specs.Classes.{class_at, hierarchy, is_a}
 use Rattle.som_model.specs.Owner.{sig_of}
-use Rattle.som_laws.proofs.Members.{both_or_none}
-use Rattle.som_laws.proofs.Laws.{descends_test}
-use Rattle.som_ancestry.specs.Places.{class_of_place, key_at, face_at, Finds}
-use Rattle.som_lawful.specs.Plainly.{IsAmong}
-use Rattle.som_ancestry.proofs.Finding.{mem_place}
-use Rattle.som_lawful.proofs.Falling.{mem_there}
-use Rattle.som_lawful.proofs.PlainLists.{mem_map, map_mem}
-use Rattle.som_ancestry.proofs.DeclaredClasses.{long_map}
+use Rattle.som_model_laws.proofs.Members.{both_or_none}
+use Rattle.som_model_laws.proofs.Laws.{descends_test}
+use Rattle.som_verify_classes.specs.Places.{class_of_place, key_at, face_at, Finds}
+use Rattle.som_verify_classes.specs.Plainly.{IsAmong}
+use Rattle.som_verify_classes.proofs.Finding.{mem_place}
+use Rattle.som_verify_classes.proofs.Falling.{mem_there}
+use Rattle.som_verify_classes.proofs.PlainLists.{mem_map, map_mem}
+use Rattle.som_verify_classes.proofs.DeclaredClasses.{long_map}
 use Rattle.som_compat.specs.declared.rows.Row.{Row}
 use Rattle.som_compat.specs.Conditions.{IsCounted, Conforms}
 use Rattle.som_compat.specs.Views.{shown, interface, classes_of, numbers_of, IsRow, AreRows}

@@ -4,7 +4,7 @@ use Rattle.som_model.specs.declared.limits.TheConstants.{MAX_ENTRIES, MAX_LIBRAR
 use Rattle.som_model.specs.declared.class.ClassFace.{ClassFace}
 use Rattle.som_model.specs.declared.program.Interface.{Interface}
 use Rattle.som_model.specs.Classes.{interface_classes}
-use Rattle.som_ancestry.specs.Faces.{faces_breach}
+use Rattle.som_verify_classes.specs.Faces.{faces_breach}
 
 -- one parent at least, and no more parents and entries than a class may have
 pub record IsCounted (f : ClassFace) : Type 0 where

@@ -5,8 +5,8 @@ use Rattle.som_model.specs.Lists.{Mem}
 use Rattle.som_model.specs.Ancestors.{Descends}
 use Rattle.som_model.specs.Class.{Class}
 use Rattle.som_model.specs.Classes.{hierarchy, is_a}
-use Rattle.som_ancestry.specs.Places.{key_at}
-use Rattle.som_laws.specs.Rows.{rows_of}
+use Rattle.som_verify_classes.specs.Places.{key_at}
+use Rattle.som_model_laws.specs.Rows.{rows_of}
 use Rattle.som_compat.specs.declared.rows.Row.{Row}
 use Rattle.som_compat.specs.Views.{numbers_of}
 

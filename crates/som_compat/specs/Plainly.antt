@@ -8,7 +8,7 @@ use Rattle.som_model.specs.Class.{Class}
 use Rattle.som_model.specs.Classes.{hierarchy, interface_classes}
 use Rattle.som_model.specs.Metaclass.{meta}
 use Rattle.som_model.specs.Compatible.{release_of, order_of, signature}
-use Rattle.som_lawful.specs.Plainly.{IsAmong}
+use Rattle.som_verify_classes.specs.Plainly.{IsAmong}
 
 -- a class of the old, and that of the same name in the new
 pub record IsPair (old new : Interface) (c n : Class) : Type 0 where

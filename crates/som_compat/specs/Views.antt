@@ -7,7 +7,7 @@ use Rattle.som_model.specs.Lists.{Mem}
 use Rattle.som_model.specs.declared.key.Module.TheVariants as modules
 use Rattle.som_model.specs.Class.{Class, class_in, bare}
 use Rattle.som_model.specs.Compatible.{release_of}
-use Rattle.som_ancestry.specs.Places.{class_of_place, key_at, face_at}
+use Rattle.som_verify_classes.specs.Places.{class_of_place, key_at, face_at}
 use Rattle.som_compat.specs.declared.rows.Row.{Row}
 use Rattle.som_compat.specs.declared.view.View.{View}
 use Rattle.som_compat.specs.Conditions.{Conforms}

@@ -10,9 +10,9 @@ ghost use Rattle.som_model.specs.Keys.{same_key};
 ghost use Rattle.som_model.specs.Lists.{Mem, first, joined};
 ghost use Rattle.som_model.specs.declared.key.ClassKey.{ClassKey as Key};
 ghost use Rattle.som_model.specs.declared.limits.TheConstants.{MAX_PARENTS};
-ghost use Rattle.som_ancestry.specs.Places.{class_of_place, face_at, key_at};
-ghost use Rattle.som_lawful.specs.Plainly.{IsAmong};
-ghost use Rattle.som_laws.specs.Once.{adds};
+ghost use Rattle.som_verify_classes.specs.Places.{class_of_place, face_at, key_at};
+ghost use Rattle.som_verify_classes.specs.Plainly.{IsAmong};
+ghost use Rattle.som_model_laws.specs.Once.{adds};
 ghost use Rattle.std.specs.Prelude.{◌≡◌, ◌↔◌, ◌+◌, ◌<◌, ◌≤◌, ◌⊎◌, ◌∷◌, [], ℕ, IfSome, length, map};
 
 use crate::breach::{Breach, declared_text};

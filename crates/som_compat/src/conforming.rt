@@ -4,11 +4,11 @@ ghost use Rattle.som_compat.specs.Conditions.{Conforms, IsCounted};
 ghost use Rattle.som_model.specs.Class.{bare};
 ghost use Rattle.std.specs.Prelude.{◌≡◌, ◌↔◌, All, IfOk, IsTrue, map};
 
-use som_ancestry::VerifyFault;
 use som_model::{
     ClassDecl, ClassFace, Interface, List, MAX_ENTRIES, MAX_LIBRARY_CLASSES, MAX_PARENTS, NoMemory,
 };
-use som_rules::faces_ok;
+use som_verify_classes::VerifyFault;
+use som_verify_rules::faces_ok;
 use std::alloc::Global;
 
 /// Whether an interface may be compared: it breaks no rule that looks at faces, and is within the counts.

@@ -7,7 +7,7 @@ ghost use Rattle.som_model.specs.Kernel.{before_after_face, class_face, class_mg
 ghost use Rattle.som_model.specs.Keys.{same_key};
 ghost use Rattle.som_model.specs.Rules.{name_of};
 ghost use Rattle.som_model.specs.Same.{same_list, same_sig, same_type};
-ghost use Rattle.som_ancestry.specs.Places.{face_at};
+ghost use Rattle.som_verify_classes.specs.Places.{face_at};
 ghost use Rattle.std.specs.Prelude.{◌≡◌, ◌<◌, [], map};
 ghost use Rattle.std.specs.Str.{bytes_eq};
 

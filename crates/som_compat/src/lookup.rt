@@ -2,8 +2,8 @@
 
 ghost use Rattle.som_compat.specs.Views.{classes_of, shown};
 ghost use Rattle.som_model.specs.declared.key.ClassKey.TheVariants as keys;
-ghost use Rattle.som_ancestry.specs.Places.{Finds, class_of_place, key_at};
-ghost use Rattle.som_lawful.specs.Plainly.{IsAmong};
+ghost use Rattle.som_verify_classes.specs.Places.{Finds, class_of_place, key_at};
+ghost use Rattle.som_verify_classes.specs.Plainly.{IsAmong};
 ghost use Rattle.std.specs.Prelude.{◌≡◌, ◌+◌, ◌<◌, ◌≤◌, IfSome, length};
 
 use crate::kernel::kernel_place;

@@ -9,8 +9,8 @@ ghost use Rattle.som_model.specs.Compatible.{k6};
 ghost use Rattle.som_model.specs.Lists.{first};
 ghost use Rattle.som_model.specs.Metaclass.{meta};
 ghost use Rattle.som_model.specs.declared.key.ClassKey.{ClassKey as Key};
-ghost use Rattle.som_ancestry.specs.Places.{key_at};
-ghost use Rattle.som_lawful.specs.Plainly.{IsAmong};
+ghost use Rattle.som_verify_classes.specs.Places.{key_at};
+ghost use Rattle.som_verify_classes.specs.Plainly.{IsAmong};
 ghost use Rattle.std.specs.Prelude.{◌≡◌, ◌↔◌, ◌<◌, ◌≤◌, ℕ, Some, length};
 
 use crate::breach::{Breach, declared_text};

@@ -5,7 +5,7 @@ ghost use Rattle.som_compat.specs.Views.{IsRow, classes_of, numbers_of};
 ghost use Rattle.som_model.specs.Lists.{Mem};
 ghost use Rattle.som_model.specs.declared.key.ClassKey.{ClassKey as Key};
 ghost use Rattle.som_model.specs.declared.limits.TheConstants.{MAX_LIBRARY_CLASSES, MAX_PARENTS};
-ghost use Rattle.som_lawful.specs.Plainly.{IsAmong};
+ghost use Rattle.som_verify_classes.specs.Plainly.{IsAmong};
 ghost use Rattle.std.specs.Prelude.{◌≡◌, ◌≤◌, length, Some};
 
 use crate::lookup::Lookup;

@@ -10,7 +10,7 @@ ghost use Rattle.som_model.specs.Lists.{first};
 ghost use Rattle.som_model.specs.Owner.{sig_of};
 ghost use Rattle.som_model.specs.Same.{same_option, same_sig};
 ghost use Rattle.som_model.specs.declared.limits.TheConstants.{MAX_ENTRIES};
-ghost use Rattle.som_ancestry.specs.Places.{face_at};
+ghost use Rattle.som_verify_classes.specs.Places.{face_at};
 ghost use Rattle.std.specs.Prelude.{◌≡◌, ◌<◌, ◌≤◌, None, Some, length, map, option_copied};
 
 use crate::breach::Breach;

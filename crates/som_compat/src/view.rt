@@ -5,7 +5,7 @@ ghost use Rattle.som_compat.specs.Marks.{AreAbove, Marked};
 ghost use Rattle.som_compat.specs.Views.{AreRows, IsRow, IsView, classes_of, interface};
 ghost use Rattle.som_model.specs.declared.class.ClassFace.{ClassFace as Face};
 ghost use Rattle.som_model.specs.declared.limits.TheConstants.{MAX_PARENTS};
-ghost use Rattle.som_ancestry.specs.Places.{face_at, key_at};
+ghost use Rattle.som_verify_classes.specs.Places.{face_at, key_at};
 ghost use Rattle.std.specs.Prelude.{◌≡◌, ◌+◌, ◌<◌, ◌≤◌, List as Seq, ℕ, None, length, replicate, take};
 
 use crate::lookup::{KERNEL_CLASSES, Lookup};

@@ -24,30 +24,30 @@ use Rattle.som_model.specs.EffectiveOrder.{effective_order}
 use Rattle.som_model.specs.Kernel.{kernel}
 use Rattle.som_model.specs.Owner.{owner, sig_of}
 use Rattle.som_model.specs.Typing.{in_body}
-use Rattle.som_syntax.specs.declared.interface.IdlInterface.{IdlInterface}
+use Rattle.som_ast.specs.declared.interface.IdlInterface.{IdlInterface}
 use Rattle.som_idl.specs.Within.{ItemWithin, InterfaceWithin}
-use Rattle.som_syntax.specs.declared.body.BodyText.{BodyText}
-use Rattle.som_ancestry.specs.Places.{with_kernel}
-use Rattle.som_lawful.proofs.PlainLists.{mem_map}
-use Rattle.som_naming.specs.BlockLimits.{TextWithin, BlockWithin}
-use Rattle.som_classimage.specs.ClassLimits.{EntryWithin, BodyWithin, FaceWithin, ClassWithin}
-use Rattle.som_methods.specs.Accessors.{Access, accessors_of, body_of}
-use Rattle.som_declarations.specs.Known.{after_base}
+use Rattle.som_ast.specs.declared.body.BodyText.{BodyText}
+use Rattle.som_verify_classes.specs.Places.{with_kernel}
+use Rattle.som_verify_classes.proofs.PlainLists.{mem_map}
+use Rattle.som_image_decode.specs.BlockLimits.{TextWithin, BlockWithin}
+use Rattle.som_image_classes.specs.ClassLimits.{EntryWithin, BodyWithin, FaceWithin, ClassWithin}
+use Rattle.som_elab_methods.specs.Accessors.{Access, accessors_of, body_of}
+use Rattle.som_sema_decls.specs.Known.{after_base}
 use Rattle.som_sema.specs.Building.{declarations, module_over}
-use Rattle.som_declarations.specs.Finished.{declare, entry_for, introducer, select_of, selects_at}
-use Rattle.som_drafts.specs.Items.{chosen, listed, major_in, minor_in, or_object, overridden}
-use Rattle.som_methods.specs.PlainLimits.{LimitsKept}
-use Rattle.som_drafts.specs.Drafts.{InterfaceDraft, draft_of, introduces, draft_class, draft_classes}
-use Rattle.som_terms.specs.Expressions.{Among}
+use Rattle.som_sema_decls.specs.Finished.{declare, entry_for, introducer, select_of, selects_at}
+use Rattle.som_sema_drafts.specs.Items.{chosen, listed, major_in, minor_in, or_object, overridden}
+use Rattle.som_elab_methods.specs.PlainLimits.{LimitsKept}
+use Rattle.som_sema_drafts.specs.Drafts.{InterfaceDraft, draft_of, introduces, draft_class, draft_classes}
+use Rattle.som_elab_body.specs.Expressions.{Among}
 use Rattle.som_elab.specs.Elaboration.{drafts_of_classes, classes_over, drafts_over}
-use Rattle.som_methods.specs.Bodies.{texts_for}
-use Rattle.som_forms.specs.MethodBody.{parameters}
-use Rattle.som_blocks.specs.Blocks.{with_blocks}
+use Rattle.som_elab_methods.specs.Bodies.{texts_for}
+use Rattle.som_elab_body.specs.MethodBody.{parameters}
+use Rattle.som_elab.specs.Blocks.{with_blocks}
 use Rattle.som_elab.proofs.Apart.{TextApart, no_text, a_text, EntryApart, accessor, of_text, EntriesApart, no_entry, moved, introduced as one_introduced, OverrideApart, without_sig, with_sig, OverridesApart, no_override, an_override, ClassApart, EachApart, no_class, a_class, entries_apart, overrides_apart}
-use Rattle.som_within.proofs.BlocksWithin.{PlaceFits, SigsFit, whole_block_within}
-use Rattle.som_within.proofs.BodiesWithin.{IsShort, access_within, all_texts, empty_overrides, no_block, parameters_few}
-use Rattle.som_within.proofs.EntriesWithin.{EntriesFit, entry_within, kernel_within}
-use Rattle.som_within.proofs.InterfacesWithin.{Named, all_join, all_map, all_members, member_of_all, all_variables, entry_named, introduces_named, major_within, minor_within, number_within, order_named, some_parent, word_within}
+use Rattle.som_compile.proofs.BlocksWithin.{PlaceFits, SigsFit, whole_block_within}
+use Rattle.som_compile.proofs.BodiesWithin.{IsShort, access_within, all_texts, empty_overrides, no_block, parameters_few}
+use Rattle.som_compile.proofs.EntriesWithin.{EntriesFit, entry_within, kernel_within}
+use Rattle.som_compile.proofs.InterfacesWithin.{Named, all_join, all_map, all_members, member_of_all, all_variables, entry_named, introduces_named, major_within, minor_within, number_within, order_named, some_parent, word_within}
 
 -- ---- bodies
 

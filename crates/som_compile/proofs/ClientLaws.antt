@@ -4,20 +4,20 @@ use Rattle.som_model.specs.declared.limits.TheConstants.{MAX_BYTES}
 use Rattle.som_model.specs.declared.program.ClientProgram.{ClientProgram}
 use Rattle.som_model.specs.declared.program.Interface.{Interface}
 use Rattle.som_model.specs.Images.{client_image}
-use Rattle.som_syntax.specs.declared.body.MainFile.{MainFile}
+use Rattle.som_ast.specs.declared.body.MainFile.{MainFile}
 use Rattle.som_cliimage.specs.Limits.{IsWithinLimits}
 use Rattle.som_cliimage.proofs.Encoded.{image_there}
-use Rattle.som_refusals.specs.declared.types.Refused.{Refused}
-use Rattle.som_blocks.specs.Blocks.{Answers, Refusal}
-use Rattle.som_reading.specs.declared.fault.TextFault.{TextFault}
-use Rattle.som_reading.specs.declared.fault.CompileFault.{CompileFault}
-use Rattle.som_reading.specs.declared.fault.CompileFault.TheVariants as faults
-use Rattle.som_reading.specs.declared.source.Source.{Source}
-use Rattle.som_reading.specs.declared.trees.Trees.{Trees}
-use Rattle.som_reading.specs.Reading.{ReadsAll, Says, Tells}
-use Rattle.som_reading.specs.Sources.{bytes_in, mains_in, names_of}
-use Rattle.som_reading.proofs.MainLaws.{one_main_read}
-use Rattle.som_reading.proofs.ReadLaws.{some_readings, same_trees, same_unread, read_or_not}
+use Rattle.som_sema_drafts.specs.declared.types.Refused.{Refused}
+use Rattle.som_elab.specs.Blocks.{Answers, Refusal}
+use Rattle.som_sources.specs.declared.fault.TextFault.{TextFault}
+use Rattle.som_sources.specs.declared.fault.CompileFault.{CompileFault}
+use Rattle.som_sources.specs.declared.fault.CompileFault.TheVariants as faults
+use Rattle.som_sources.specs.declared.source.Source.{Source}
+use Rattle.som_sources.specs.declared.trees.Trees.{Trees}
+use Rattle.som_sources.specs.Reading.{ReadsAll, Says, Tells}
+use Rattle.som_sources.specs.Sources.{bytes_in, mains_in, names_of}
+use Rattle.som_sources.proofs.MainLaws.{one_main_read}
+use Rattle.som_sources.proofs.ReadLaws.{some_readings, same_trees, same_unread, read_or_not}
 use Rattle.som_compile.specs.Compiling.{IsBase, StandForClient, CompilesClient, client_unread, client_unbuilt, a_client_image, building_told, refusal_told, program_of}
 use Rattle.som_compile.proofs.CompileLaws.{Compiling, compiling_failed, refusal_joins}
 use Rattle.som_compile.proofs.Standing.{program_conforms, program_fits}

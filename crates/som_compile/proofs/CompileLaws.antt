@@ -5,19 +5,19 @@ use Rattle.som_model.specs.declared.program.Release.{Release}
 use Rattle.som_model.specs.Images.{library_image}
 use Rattle.som_libimage.specs.Limits.{IsWithinLimits}
 use Rattle.som_libimage.proofs.Encoded.{image_there}
-use Rattle.som_ancestry.specs.Told.{told}
-use Rattle.som_refusals.specs.declared.types.Refused.{Refused}
-use Rattle.som_refusals.specs.declared.types.Refused.TheVariants as refusals
-use Rattle.som_blocks.specs.Blocks.{Answers, Limit, Refusal, Rule}
-use Rattle.som_reading.specs.declared.fault.TextFault.{TextFault}
-use Rattle.som_reading.specs.declared.fault.TextFault.TheVariants as texts
-use Rattle.som_reading.specs.declared.fault.CompileFault.{CompileFault}
-use Rattle.som_reading.specs.declared.fault.CompileFault.TheVariants as faults
-use Rattle.som_reading.specs.declared.source.Source.{Source}
-use Rattle.som_reading.specs.declared.trees.Trees.{Trees}
-use Rattle.som_reading.specs.Reading.{ReadsAll, Says, Tells}
-use Rattle.som_reading.specs.Sources.{bytes_in}
-use Rattle.som_reading.proofs.ReadLaws.{some_readings, same_trees, same_unread, read_or_not}
+use Rattle.som_verify_classes.specs.Told.{told}
+use Rattle.som_sema_drafts.specs.declared.types.Refused.{Refused}
+use Rattle.som_sema_drafts.specs.declared.types.Refused.TheVariants as refusals
+use Rattle.som_elab.specs.Blocks.{Answers, Limit, Refusal, Rule}
+use Rattle.som_sources.specs.declared.fault.TextFault.{TextFault}
+use Rattle.som_sources.specs.declared.fault.TextFault.TheVariants as texts
+use Rattle.som_sources.specs.declared.fault.CompileFault.{CompileFault}
+use Rattle.som_sources.specs.declared.fault.CompileFault.TheVariants as faults
+use Rattle.som_sources.specs.declared.source.Source.{Source}
+use Rattle.som_sources.specs.declared.trees.Trees.{Trees}
+use Rattle.som_sources.specs.Reading.{ReadsAll, Says, Tells}
+use Rattle.som_sources.specs.Sources.{bytes_in}
+use Rattle.som_sources.proofs.ReadLaws.{some_readings, same_trees, same_unread, read_or_not}
 use Rattle.som_compile.specs.Compiling.{StandFor, Compiles, unread, unbuilt, an_image, building_told, refusal_told, release_of}
 use Rattle.som_compile.proofs.Standing.{release_conforms, release_fits}
 

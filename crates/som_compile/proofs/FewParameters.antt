@@ -13,8 +13,8 @@ use Rattle.som_model.specs.declared.limits.TheConstants.{MAX_PARAMETERS}
 use Rattle.som_model.specs.Lists.{Mem}
 use Rattle.som_model.specs.Class.{Class, class_in, bare}
 use Rattle.som_model.specs.Classes.{interface_classes}
-use Rattle.som_classimage.specs.ClassLimits.{EntryWithin, FaceWithin}
-use Rattle.som_blocks.specs.Contexts.{FewParameters}
+use Rattle.som_image_classes.specs.ClassLimits.{EntryWithin, FaceWithin}
+use Rattle.som_elab.specs.Contexts.{FewParameters}
 
 entry_few : (es : List Entry) → AllByRecursion EntryWithin es → (name : List ℕ) (sig : Sig) (way : Way) → Mem (entries.Introduced name sig way) es → length sig.params ≤ MAX_PARAMETERS
 entry_few [] p name sig way m = absurd m

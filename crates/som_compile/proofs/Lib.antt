@@ -1,3 +1,8 @@
+pub mod BlocksWithin
+pub mod InterfacesWithin
+pub mod EntriesWithin
+pub mod BodiesWithin
+pub mod FilesWithin
 pub mod FewParameters
 pub mod ClassesWithin
 pub mod ReleaseWithin

@@ -10,22 +10,22 @@ use Rattle.som_model.specs.declared.program.Interface.{Interface}
 use Rattle.som_model.specs.declared.program.Release.{Release}
 use Rattle.som_model.specs.declared.program.ClientProgram.{ClientProgram}
 use Rattle.som_model.specs.Typing.{in_main}
-use Rattle.som_syntax.specs.declared.interface.IdlInterface.{IdlInterface}
+use Rattle.som_ast.specs.declared.interface.IdlInterface.{IdlInterface}
 use Rattle.som_idl.specs.Within.{InterfaceWithin}
-use Rattle.som_syntax.specs.declared.body.BlockText.{BlockText}
-use Rattle.som_syntax.specs.declared.body.BodyText.{BodyText}
+use Rattle.som_ast.specs.declared.body.BlockText.{BlockText}
+use Rattle.som_ast.specs.declared.body.BodyText.{BodyText}
 use Rattle.som_body.specs.Within.{BlockTextWithin}
-use Rattle.som_classimage.specs.ClassLimits.{ClassWithin, EntryWithin, FaceWithin}
+use Rattle.som_image_classes.specs.ClassLimits.{ClassWithin, EntryWithin, FaceWithin}
 use Rattle.som_libimage.specs.Limits.{IsWithinLimits}
 use Rattle.som_cliimage.specs.Limits.{IsWithinLimits as ProgramWithin}
-use Rattle.som_methods.specs.PlainLimits.{LimitsKept}
-use Rattle.som_methods.proofs.LimitLaws.{limits_law}
+use Rattle.som_elab_methods.specs.PlainLimits.{LimitsKept}
+use Rattle.som_elab_methods.proofs.LimitLaws.{limits_law}
 use Rattle.som_elab.specs.Elaboration.{classes_over, drafts_over, among_over, elaborated_program, elaborated_release, nothing_before}
 use Rattle.som_elab.proofs.Apart.{ClassesApart, program_apart, release_apart}
-use Rattle.som_within.proofs.BlocksWithin.{SigsFit, sigs_fit, whole_block_within}
-use Rattle.som_within.proofs.InterfacesWithin.{member_of_all}
-use Rattle.som_within.proofs.BodiesWithin.{IsShort}
-use Rattle.som_within.proofs.EntriesWithin.{EntriesFit}
+use Rattle.som_compile.proofs.BlocksWithin.{SigsFit, sigs_fit, whole_block_within}
+use Rattle.som_compile.proofs.InterfacesWithin.{member_of_all}
+use Rattle.som_compile.proofs.BodiesWithin.{IsShort}
+use Rattle.som_compile.proofs.EntriesWithin.{EntriesFit}
 use Rattle.som_compile.proofs.ClassesWithin.{classes_within, entries_fit}
 
 sigs : (m : Module) (base : Interface) (is : List IdlInterface) → AllByRecursion FaceWithin base.classes → AllByRecursion InterfaceWithin is → LimitsKept (drafts_over m base is) → SigsFit (classes_over m base is)

@@ -6,16 +6,16 @@ use Rattle.som_model.specs.declared.program.ClientProgram.{ClientProgram}
 use Rattle.som_model.specs.declared.program.Interface.{Interface}
 use Rattle.som_model.specs.declared.program.Release.{Release}
 use Rattle.som_model.specs.Conforming.{ProgramOk, ReleaseOk}
-use Rattle.som_syntax.specs.declared.body.MainFile.{MainFile}
-use Rattle.som_scope.specs.Words.{interfaces_of}
-use Rattle.som_methods.specs.Bodies.{bodies_of}
+use Rattle.som_ast.specs.declared.body.MainFile.{MainFile}
+use Rattle.som_sema_scope.specs.Words.{interfaces_of}
+use Rattle.som_elab_methods.specs.Bodies.{bodies_of}
 use Rattle.som_elab.proofs.Conforms.{release_conforms as release_ok, program_conforms as program_ok}
 use Rattle.som_libimage.specs.Limits.{IsWithinLimits}
 use Rattle.som_cliimage.specs.Limits.{IsWithinLimits as IsProgramWithin}
-use Rattle.som_reading.specs.declared.source.Source.{Source}
-use Rattle.som_reading.specs.Sources.{bytes_in}
-use Rattle.som_reading.proofs.TextsWithin.{IsShortMain, texts_within}
-use Rattle.som_within.proofs.FilesWithin.{bodies_within, interfaces_within}
+use Rattle.som_sources.specs.declared.source.Source.{Source}
+use Rattle.som_sources.specs.Sources.{bytes_in}
+use Rattle.som_sources.proofs.TextsWithin.{IsShortMain, texts_within}
+use Rattle.som_compile.proofs.FilesWithin.{bodies_within, interfaces_within}
 use Rattle.som_compile.specs.Compiling.{IsBase, StandFor, StandForClient}
 use Rattle.som_compile.proofs.ReleaseWithin.{program_within, release_within}
 

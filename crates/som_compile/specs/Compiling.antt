@@ -6,20 +6,20 @@ use Rattle.som_model.specs.declared.program.Interface.{Interface}
 use Rattle.som_model.specs.declared.program.Release.{Release}
 use Rattle.som_model.specs.Classes.{interface_classes}
 use Rattle.som_model.specs.Images.{client_image, library_image}
-use Rattle.som_syntax.specs.declared.body.MainFile.{MainFile}
-use Rattle.som_ancestry.specs.Faces.{faces_breach}
-use Rattle.som_refusals.specs.declared.types.Refused.{Refused}
-use Rattle.som_refusals.specs.declared.types.Refused.TheVariants as refusals
-use Rattle.som_scope.specs.Words.{interfaces_of}
-use Rattle.som_methods.specs.Bodies.{bodies_of}
-use Rattle.som_blocks.specs.Blocks.{Limit, Refusal, Rule}
+use Rattle.som_ast.specs.declared.body.MainFile.{MainFile}
+use Rattle.som_verify_classes.specs.Faces.{faces_breach}
+use Rattle.som_sema_drafts.specs.declared.types.Refused.{Refused}
+use Rattle.som_sema_drafts.specs.declared.types.Refused.TheVariants as refusals
+use Rattle.som_sema_scope.specs.Words.{interfaces_of}
+use Rattle.som_elab_methods.specs.Bodies.{bodies_of}
+use Rattle.som_elab.specs.Blocks.{Limit, Refusal, Rule}
 use Rattle.som_elab.specs.Elaboration.{elaborated_program, elaborated_release}
-use Rattle.som_classimage.specs.ClassLimits.{FaceWithin}
-use Rattle.som_reading.specs.declared.fault.TextFault.{TextFault}
-use Rattle.som_reading.specs.declared.fault.TextFault.TheVariants as texts
-use Rattle.som_reading.specs.declared.source.Source.{Source}
-use Rattle.som_reading.specs.declared.trees.Trees.{Trees}
-use Rattle.som_reading.specs.Reading.{ReadsAll}
+use Rattle.som_image_classes.specs.ClassLimits.{FaceWithin}
+use Rattle.som_sources.specs.declared.fault.TextFault.{TextFault}
+use Rattle.som_sources.specs.declared.fault.TextFault.TheVariants as texts
+use Rattle.som_sources.specs.declared.source.Source.{Source}
+use Rattle.som_sources.specs.declared.trees.Trees.{Trees}
+use Rattle.som_sources.specs.Reading.{ReadsAll}
 
 -- what is told of the first rule that texts break, or of the first limit that they pass
 abbrev pub refusal_told : Refusal → TextFault

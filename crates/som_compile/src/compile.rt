@@ -2,16 +2,16 @@
 
 ghost use Rattle.som_compile.specs.Compiling.{Compiles, CompilesClient, IsBase, building_told};
 ghost use Rattle.som_model.specs.declared.limits.TheConstants.{MAX_BYTES};
-ghost use Rattle.som_reading.specs.Reading.{Says, Tells};
-ghost use Rattle.som_reading.specs.Sources.{bytes_in, mains_in, names_of};
+ghost use Rattle.som_sources.specs.Reading.{Says, Tells};
+ghost use Rattle.som_sources.specs.Sources.{bytes_in, mains_in, names_of};
 ghost use Rattle.std.specs.Prelude.{◌≡◌, ◌≤◌, [], ◌∷◌, length};
 
+use som_ast::MainFile;
 use som_elab::{build_release, elaborate};
-use som_fields::EncodeFault;
+use som_image_fields::EncodeFault;
 use som_model::{Interface, List};
-use som_reading::{CompileFault, Source, TextFault, read_texts};
-use som_refusals::Refused;
-use som_syntax::MainFile;
+use som_sema_drafts::Refused;
+use som_sources::{CompileFault, Source, TextFault, read_texts};
 use std::alloc::Global;
 
 // What is told of texts that stand for nothing.
@@ -57,7 +57,7 @@ pub fn compile_library(alloc: Global, sources: &List<Source>) -> Result<List<u8>
 
 /// The image of the client program that texts stand for which are compiled against a base, or what is first wrong with them.
 /// One of the texts is a main.
-#[tactic(auto, using(crate::proofs::ClientLaws::client_none_read, crate::proofs::ClientLaws::client_none_built, crate::proofs::ClientLaws::client_written, som_reading::proofs::MainLaws::one_main_read, crate::proofs::ClientLaws::client_fits))]
+#[tactic(auto, using(crate::proofs::ClientLaws::client_none_read, crate::proofs::ClientLaws::client_none_built, crate::proofs::ClientLaws::client_written, som_sources::proofs::MainLaws::one_main_read, crate::proofs::ClientLaws::client_fits))]
 pub fn compile_client(
     alloc: Global,
     base: &Interface,

@@ -3,9 +3,9 @@
 ghost use Rattle.som_compile.specs.Compiling.{Compiles, CompilesClient, IsBase};
 ghost use Rattle.som_model.specs.declared.limits.TheConstants.{MAX_BYTES};
 ghost use Rattle.som_model.specs.declared.program.Interface.{Interface};
-ghost use Rattle.som_reading.specs.Sources.{bytes_in, mains_in, names_of};
-ghost use Rattle.som_reading.specs.declared.fault.TextFault.{TextFault};
-ghost use Rattle.som_reading.specs.declared.source.Source.{Source};
+ghost use Rattle.som_sources.specs.Sources.{bytes_in, mains_in, names_of};
+ghost use Rattle.som_sources.specs.declared.fault.TextFault.{TextFault};
+ghost use Rattle.som_sources.specs.declared.source.Source.{Source};
 ghost use Rattle.std.specs.Prelude.{◌≡◌, ◌≤◌, ℕ, List, Result};
 
 /// Compiling a library's texts comes to one thing, and to no other.

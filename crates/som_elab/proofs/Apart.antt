@@ -22,21 +22,21 @@ use Rattle.som_model.specs.Class.{Class, class_in}
 use Rattle.som_model.specs.Owner.{owner, sig_of}
 use Rattle.som_model.specs.Rules.{RuleBreach}
 use Rattle.som_model.specs.Typing.{in_body, in_main}
-use Rattle.som_syntax.specs.declared.interface.IdlInterface.{IdlInterface}
-use Rattle.som_syntax.specs.declared.body.BodyText.{BodyText}
-use Rattle.som_syntax.specs.declared.body.BlockText.{BlockText}
-use Rattle.som_scope.specs.Words.{words}
-use Rattle.som_drafts.specs.Drafts.{InterfaceDraft}
-use Rattle.som_declarations.specs.Finished.{selects_at}
+use Rattle.som_ast.specs.declared.interface.IdlInterface.{IdlInterface}
+use Rattle.som_ast.specs.declared.body.BodyText.{BodyText}
+use Rattle.som_ast.specs.declared.body.BlockText.{BlockText}
+use Rattle.som_sema_scope.specs.Words.{words}
+use Rattle.som_sema_drafts.specs.Drafts.{InterfaceDraft}
+use Rattle.som_sema_decls.specs.Finished.{selects_at}
 use Rattle.som_sema.specs.Building.{most_classes, texts_breach}
-use Rattle.som_methods.specs.Accessors.{body_of}
-use Rattle.som_methods.specs.Limits.{Passed, limit_passed}
-use Rattle.som_terms.specs.Expressions.{Among}
-use Rattle.som_forms.specs.Statements.{Breaks, Told, elaborated_block}
-use Rattle.som_methods.specs.Bodies.{bodies_breach, texts_for}
+use Rattle.som_elab_methods.specs.Accessors.{body_of}
+use Rattle.som_elab_methods.specs.Limits.{Passed, limit_passed}
+use Rattle.som_elab_body.specs.Expressions.{Among}
+use Rattle.som_elab_body.specs.Statements.{Breaks, Told, elaborated_block}
+use Rattle.som_elab_methods.specs.Bodies.{bodies_breach, texts_for}
 use Rattle.som_elab.specs.Elaboration.{classes_over, drafts_over, among_over, classes_passed, elaborated_classes, nothing_before, elaborated_release, elaborated_program}
-use Rattle.som_forms.specs.MethodBody.{parameters, elaborated_body}
-use Rattle.som_blocks.specs.Blocks.{Refusal, refused_at, obeying, keeping, text_block, entry_body, entry_bodies, override_block, override_blocks, with_blocks, elaborated_class, elaborated_each, elaborated_main}
+use Rattle.som_elab_body.specs.MethodBody.{parameters, elaborated_body}
+use Rattle.som_elab.specs.Blocks.{Refusal, refused_at, obeying, keeping, text_block, entry_body, entry_bodies, override_block, override_blocks, with_blocks, elaborated_class, elaborated_each, elaborated_main}
 
 -- ---- steps
 

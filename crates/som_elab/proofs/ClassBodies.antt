@@ -26,29 +26,29 @@ use Rattle.som_model.specs.Owner.{owner, sig_of}
 use Rattle.som_model.specs.Rules.{RuleBreach, breach}
 use Rattle.som_model.specs.Typing.{Ruled, class_facts, in_body}
 use Rattle.som_model.specs.TypedBlocks.{Scope, Scoped, block_scope, block_step, stmt_step}
-use Rattle.som_syntax.specs.declared.words.Word.{Word}
-use Rattle.som_syntax.specs.declared.interface.IdlInterface.{IdlInterface}
-use Rattle.som_syntax.specs.declared.body.BodyText.{BodyText}
-use Rattle.som_lawful.specs.Plainly.{ClassesHold, Fits, a_block, signatures}
-use Rattle.som_methods.specs.Accessors.{Access, accessor_body, body_of}
-use Rattle.som_declarations.specs.Known.{after_base}
+use Rattle.som_ast.specs.declared.words.Word.{Word}
+use Rattle.som_ast.specs.declared.interface.IdlInterface.{IdlInterface}
+use Rattle.som_ast.specs.declared.body.BodyText.{BodyText}
+use Rattle.som_verify_classes.specs.Plainly.{ClassesHold, Fits, a_block, signatures}
+use Rattle.som_elab_methods.specs.Accessors.{Access, accessor_body, body_of}
+use Rattle.som_sema_decls.specs.Known.{after_base}
 use Rattle.som_sema.specs.Building.{declarations, texts_breach}
-use Rattle.som_drafts.specs.Drafts.{InterfaceDraft}
-use Rattle.som_declarations.specs.Finished.{selects_at}
-use Rattle.som_scope.specs.Words.{words}
-use Rattle.som_terms.specs.Locals.{kinds_of}
-use Rattle.som_terms.specs.Expressions.{Among}
-use Rattle.som_forms.specs.Statements.{Breaks, Told, elaborated_block}
-use Rattle.som_methods.specs.Bodies.{body_sig, text_s13, texts_for}
+use Rattle.som_sema_drafts.specs.Drafts.{InterfaceDraft}
+use Rattle.som_sema_decls.specs.Finished.{selects_at}
+use Rattle.som_sema_scope.specs.Words.{words}
+use Rattle.som_elab_body.specs.Locals.{kinds_of}
+use Rattle.som_elab_body.specs.Expressions.{Among}
+use Rattle.som_elab_body.specs.Statements.{Breaks, Told, elaborated_block}
+use Rattle.som_elab_methods.specs.Bodies.{body_sig, text_s13, texts_for}
 use Rattle.som_elab.specs.Elaboration.{classes_over, drafts_over, among_over}
-use Rattle.som_forms.specs.MethodBody.{elaborated_body, parameters}
-use Rattle.som_blocks.specs.Blocks.{elaborated_class, entry_bodies, entry_body, override_block, override_blocks, refused_at, text_block, with_blocks}
+use Rattle.som_elab_body.specs.MethodBody.{elaborated_body, parameters}
+use Rattle.som_elab.specs.Blocks.{elaborated_class, entry_bodies, entry_body, override_block, override_blocks, refused_at, text_block, with_blocks}
 use Rattle.som_elab.proofs.Declared.{body_fits, own}
-use Rattle.som_methods.proofs.Fitting.{accessed}
+use Rattle.som_elab_methods.proofs.Fitting.{accessed}
 use Rattle.som_elab.proofs.Plain.{emptied, plain, scope_other}
 use Rattle.som_elab.proofs.Signatures.{as_many, operation_signed, override_signed}
-use Rattle.som_terms.proofs.Went.{same_answer, went}
-use Rattle.som_forms.proofs.TypedBodies.{text_typed}
+use Rattle.som_elab_body.proofs.Went.{same_answer, went}
+use Rattle.som_elab_body.proofs.TypedBodies.{text_typed}
 
 pub refused_ok : {A : Type 0} (class member : List ℕ) (x : Told A) (r : A) → refused_at class member x ≡ Ok r → x ≡ Ok r
 refused_ok class member (Ok a) r e = ap Ok (same_answer e)

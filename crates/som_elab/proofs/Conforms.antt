@@ -19,38 +19,38 @@ use Rattle.som_model.specs.Rules.{RuleBreach, s5}
 use Rattle.som_model.specs.Typing.{Ruled, class_facts, in_main}
 use Rattle.som_model.specs.TypedBlocks.{Scope, block_scope}
 use Rattle.std.specs.Prelude.{codes}
-use Rattle.som_laws.proofs.Members.{mem_split}
-use Rattle.som_syntax.specs.declared.interface.IdlInterface.{IdlInterface}
-use Rattle.som_syntax.specs.declared.body.BlockText.{BlockText}
-use Rattle.som_syntax.specs.declared.body.BodyText.{BodyText}
-use Rattle.som_ancestry.specs.Faces.{faces_breach}
-use Rattle.som_ancestry.specs.Modules.{AreDeclared}
-use Rattle.som_ancestry.specs.Places.{with_kernel}
-use Rattle.som_lawful.specs.Plainly.{BodiesFit, ClassesHold, Fits, SelectsInherited, TypesKnown}
-use Rattle.som_ancestry.proofs.Before.{both_none, none_both}
-use Rattle.som_ancestry.proofs.DeclaredClasses.{faces_declared, long_map, map_declared}
-use Rattle.som_ancestry.proofs.Conformity.{or_none}
-use Rattle.som_lawful.proofs.PlainFaces.{classes_say}
-use Rattle.som_lawful.proofs.PlainLists.{map_mem, says_each}
-use Rattle.som_lawful.proofs.PlainMembers.{types_say}
-use Rattle.som_lawful.proofs.PlainWhole.{say_program, say_rules}
-use Rattle.som_declarations.specs.Known.{after_base}
+use Rattle.som_model_laws.proofs.Members.{mem_split}
+use Rattle.som_ast.specs.declared.interface.IdlInterface.{IdlInterface}
+use Rattle.som_ast.specs.declared.body.BlockText.{BlockText}
+use Rattle.som_ast.specs.declared.body.BodyText.{BodyText}
+use Rattle.som_verify_classes.specs.Faces.{faces_breach}
+use Rattle.som_verify_classes.specs.Modules.{AreDeclared}
+use Rattle.som_verify_classes.specs.Places.{with_kernel}
+use Rattle.som_verify_classes.specs.Plainly.{BodiesFit, ClassesHold, Fits, SelectsInherited, TypesKnown}
+use Rattle.som_verify_classes.proofs.Before.{both_none, none_both}
+use Rattle.som_verify_classes.proofs.DeclaredClasses.{faces_declared, long_map, map_declared}
+use Rattle.som_verify_classes.proofs.Conformity.{or_none}
+use Rattle.som_verify_classes.proofs.PlainFaces.{classes_say}
+use Rattle.som_verify_classes.proofs.PlainLists.{map_mem, says_each}
+use Rattle.som_verify_classes.proofs.PlainMembers.{types_say}
+use Rattle.som_verify_classes.proofs.PlainWhole.{say_program, say_rules}
+use Rattle.som_sema_decls.specs.Known.{after_base}
 use Rattle.som_sema.specs.Building.{declarations, module_over, texts_breach}
-use Rattle.som_methods.specs.Limits.{Passed, limit_passed}
-use Rattle.som_drafts.specs.Drafts.{InterfaceDraft, draft_classes, draft_of}
-use Rattle.som_declarations.specs.Finished.{declare_selecting, selects_at}
+use Rattle.som_elab_methods.specs.Limits.{Passed, limit_passed}
+use Rattle.som_sema_drafts.specs.Drafts.{InterfaceDraft, draft_classes, draft_of}
+use Rattle.som_sema_decls.specs.Finished.{declare_selecting, selects_at}
 use Rattle.som_sema.proofs.TextsConform.{texts_conform, texts_select}
-use Rattle.som_terms.specs.Expressions.{Among}
-use Rattle.som_forms.specs.Statements.{elaborated_block}
-use Rattle.som_methods.specs.Bodies.{bodies_breach, text_s13, text_s14}
+use Rattle.som_elab_body.specs.Expressions.{Among}
+use Rattle.som_elab_body.specs.Statements.{elaborated_block}
+use Rattle.som_elab_methods.specs.Bodies.{bodies_breach, text_s13, text_s14}
 use Rattle.som_elab.specs.Elaboration.{classes_over, drafts_over, among_over, classes_passed, elaborated_classes, elaborated_program, elaborated_release, nothing_before}
-use Rattle.som_blocks.specs.Blocks.{Refusal, elaborated_class, elaborated_each, elaborated_main, entry_bodies, keeping, obeying, override_blocks, with_blocks}
+use Rattle.som_elab.specs.Blocks.{Refusal, elaborated_class, elaborated_each, elaborated_main, entry_bodies, keeping, obeying, override_blocks, with_blocks}
 use Rattle.som_elab.proofs.ClassBodies.{ClassStands, class_stands, methods_kept, refused_ok, same_but_bodies}
 use Rattle.som_elab.proofs.Declared.{drafts_are, draft_classes_are, own}
 use Rattle.som_elab.proofs.Plain.{facts_other, plain, selecting, sig_other}
 use Rattle.som_elab.proofs.PlainRules.{classes_other, selects_other, types_other}
-use Rattle.som_terms.proofs.Went.{same_answer, went}
-use Rattle.som_forms.proofs.TypedBodies.{text_typed}
+use Rattle.som_elab_body.proofs.Went.{same_answer, went}
+use Rattle.som_elab_body.proofs.TypedBodies.{text_typed}
 
 kept : {A : Type 0} (o : Option Passed) (further : Result A Refusal) (r : A) → keeping o further ≡ Ok r → further ≡ Ok r
 kept None further r e = e

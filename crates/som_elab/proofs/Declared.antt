@@ -17,33 +17,33 @@ use Rattle.som_model.specs.Classes.{interface_classes}
 use Rattle.som_model.specs.Conforming.{each_after}
 use Rattle.som_model.specs.Rules.{s1, s3, s5, s7}
 use Rattle.som_model.proofs.KeyLaws.{exact_bytes}
-use Rattle.som_laws.proofs.Members.{Apart, find_first, find_none, mem_left, mem_right, mem_some, mem_split}
-use Rattle.som_syntax.specs.declared.words.Word.{Word}
-use Rattle.som_syntax.specs.declared.words.TypeName.{TypeName}
-use Rattle.som_syntax.specs.declared.interface.IdlInterface.{IdlInterface}
-use Rattle.som_syntax.specs.declared.interface.Export.{Export}
-use Rattle.som_syntax.specs.declared.interface.Export.TheVariants as exports
-use Rattle.som_ancestry.specs.Places.{with_kernel}
-use Rattle.som_lawful.specs.Plainly.{Fits}
-use Rattle.som_ancestry.proofs.Conformity.{or_none}
-use Rattle.som_lawful.proofs.PlainLists.{differ_apart, map_mem, mem_map}
-use Rattle.som_lawful.proofs.PlainMembers.{variables_say}
-use Rattle.som_lawful.proofs.PlainMoves.{flat_mem, mem_flat}
-use Rattle.som_methods.specs.Accessors.{Access, accessor_body, accessors_of, attribute_accessors, body_of, export_accessors}
-use Rattle.som_declarations.specs.Known.{after_base}
+use Rattle.som_model_laws.proofs.Members.{Apart, find_first, find_none, mem_left, mem_right, mem_some, mem_split}
+use Rattle.som_ast.specs.declared.words.Word.{Word}
+use Rattle.som_ast.specs.declared.words.TypeName.{TypeName}
+use Rattle.som_ast.specs.declared.interface.IdlInterface.{IdlInterface}
+use Rattle.som_ast.specs.declared.interface.Export.{Export}
+use Rattle.som_ast.specs.declared.interface.Export.TheVariants as exports
+use Rattle.som_verify_classes.specs.Places.{with_kernel}
+use Rattle.som_verify_classes.specs.Plainly.{Fits}
+use Rattle.som_verify_classes.proofs.Conformity.{or_none}
+use Rattle.som_verify_classes.proofs.PlainLists.{differ_apart, map_mem, mem_map}
+use Rattle.som_verify_classes.proofs.PlainMembers.{variables_say}
+use Rattle.som_verify_classes.proofs.PlainMoves.{flat_mem, mem_flat}
+use Rattle.som_elab_methods.specs.Accessors.{Access, accessor_body, accessors_of, attribute_accessors, body_of, export_accessors}
+use Rattle.som_sema_decls.specs.Known.{after_base}
 use Rattle.som_sema.specs.Building.{declarations, declared_all, draft_breach, finished_breach, members_breach, module_over, named_breach, texts_breach}
-use Rattle.som_declarations.specs.Finished.{declare, entry_for, entry_or_moved, introducer}
-use Rattle.som_scope.specs.ClassNames.{key_of, type_of}
+use Rattle.som_sema_decls.specs.Finished.{declare, entry_for, entry_or_moved, introducer}
+use Rattle.som_sema_scope.specs.ClassNames.{key_of, type_of}
 use Rattle.std.proofs.lemmas.List.{length-map}
-use Rattle.som_drafts.specs.Items.{by_name, or_object}
-use Rattle.som_drafts.specs.Drafts.{InterfaceDraft, accessors, draft_of, export_entries, getter, introduces, setter, draft_class, draft_classes, variables}
-use Rattle.som_alone.specs.OwnRules.{text_s6}
+use Rattle.som_sema_drafts.specs.Items.{by_name, or_object}
+use Rattle.som_sema_drafts.specs.Drafts.{InterfaceDraft, accessors, draft_of, export_entries, getter, introduces, setter, draft_class, draft_classes, variables}
+use Rattle.som_sema_local.specs.OwnRules.{text_s6}
 use Rattle.som_sema.specs.TextRules.{text_s2_from, text_s4}
 use Rattle.som_sema.proofs.TextLaws.{map_same, names_law}
-use Rattle.som_blocks.specs.Contexts.{ParentsCounted}
+use Rattle.som_elab.specs.Contexts.{ParentsCounted}
 use Rattle.som_elab.specs.Elaboration.{drafts_of_classes, drafts_over}
-use Rattle.som_methods.specs.Bodies.{operation_name, operations}
-use Rattle.som_methods.proofs.Fitting.{accessed, accessor_fits, both_flat}
+use Rattle.som_elab_methods.specs.Bodies.{operation_name, operations}
+use Rattle.som_elab_methods.proofs.Fitting.{accessed, accessor_fits, both_flat}
 
 -- ---- the one of a name
 

@@ -1,3 +1,9 @@
+pub mod Gathering
+pub mod OwnBlocks
+pub mod BodyLaws
+pub mod Completing
+pub mod ContextLaws
+pub mod ClassSteps
 pub mod Pairing
 pub mod ModuleLaws
 pub mod Programs

@@ -12,33 +12,33 @@ use Rattle.som_model.specs.Rules.{RuleBreach}
 use Rattle.som_model.specs.Class.{Class, class_in}
 use Rattle.som_model.specs.Classes.{interface_classes}
 use Rattle.som_model.specs.Steps.{◌>>=◌}
-use Rattle.som_syntax.specs.declared.interface.IdlInterface.{IdlInterface}
-use Rattle.som_syntax.specs.declared.body.BodyText.{BodyText}
-use Rattle.som_syntax.specs.declared.body.BlockText.{BlockText}
-use Rattle.som_ancestry.specs.Faces.{classes_breach, faces_breach}
-use Rattle.som_ancestry.specs.Places.{with_kernel}
-use Rattle.som_ancestry.specs.Told.{Tells}
-use Rattle.som_ancestry.specs.declared.types.VerifyFault.{VerifyFault}
-use Rattle.som_ancestry.specs.declared.types.VerifyFault.TheVariants as broken
-use Rattle.som_refusals.specs.declared.types.Refused.{Refused}
-use Rattle.som_refusals.specs.declared.types.Refused.TheVariants as refusals
-use Rattle.som_declarations.specs.Known.{after_base}
-use Rattle.som_refusals.specs.Refusals.{refused_by}
+use Rattle.som_ast.specs.declared.interface.IdlInterface.{IdlInterface}
+use Rattle.som_ast.specs.declared.body.BodyText.{BodyText}
+use Rattle.som_ast.specs.declared.body.BlockText.{BlockText}
+use Rattle.som_verify_classes.specs.Faces.{classes_breach, faces_breach}
+use Rattle.som_verify_classes.specs.Places.{with_kernel}
+use Rattle.som_verify_classes.specs.Told.{Tells}
+use Rattle.som_verify_classes.specs.declared.types.VerifyFault.{VerifyFault}
+use Rattle.som_verify_classes.specs.declared.types.VerifyFault.TheVariants as broken
+use Rattle.som_sema_drafts.specs.declared.types.Refused.{Refused}
+use Rattle.som_sema_drafts.specs.declared.types.Refused.TheVariants as refusals
+use Rattle.som_sema_decls.specs.Known.{after_base}
+use Rattle.som_sema_drafts.specs.Refusals.{refused_by}
 use Rattle.som_sema.specs.Building.{FacesTold, declarations, module_over, most_classes, texts_breach}
-use Rattle.som_methods.specs.Limits.{KeepsLimit, Passed, limit_passed}
-use Rattle.som_drafts.specs.Drafts.{InterfaceDraft, draft_classes}
-use Rattle.som_blocks.specs.declared.class_bodies.ClassBodies.{ClassBodies}
-use Rattle.som_blocks.specs.declared.all_bodies.AllBodies.{AllBodies}
+use Rattle.som_elab_methods.specs.Limits.{KeepsLimit, Passed, limit_passed}
+use Rattle.som_sema_drafts.specs.Drafts.{InterfaceDraft, draft_classes}
+use Rattle.som_elab.specs.declared.class_bodies.ClassBodies.{ClassBodies}
+use Rattle.som_elab.specs.declared.all_bodies.AllBodies.{AllBodies}
 use Rattle.som_elab.specs.declared.elaborated.ElaboratedModule.{ElaboratedModule}
 use Rattle.som_elab.specs.Elaboration.{drafts_of_classes, classes_over, drafts_over, among_over, classes_passed}
-use Rattle.som_methods.specs.Bodies.{bodies_breach}
-use Rattle.som_terms.specs.Expressions.{Among}
-use Rattle.som_blocks.specs.Blocks.{Answers, Refusal, elaborated_each, keeping, obeying}
+use Rattle.som_elab_methods.specs.Bodies.{bodies_breach}
+use Rattle.som_elab_body.specs.Expressions.{Among}
+use Rattle.som_elab.specs.Blocks.{Answers, Refusal, elaborated_each, keeping, obeying}
 use Rattle.som_sema.proofs.TextsConform.{texts_conform}
-use Rattle.som_blocks.specs.Contexts.{FewParameters, checked_steps, completed, each_steps, main_block}
+use Rattle.som_elab.specs.Contexts.{FewParameters, checked_steps, completed, each_steps, main_block}
 use Rattle.som_elab.specs.Modules.{elaborated_module}
-use Rattle.som_blocks.proofs.Completing.{each_completed}
-use Rattle.som_blocks.proofs.Gathering.{stops}
+use Rattle.som_elab.proofs.Completing.{each_completed}
+use Rattle.som_elab.proofs.Gathering.{stops}
 
 -- ---- rules and limits that come first
 

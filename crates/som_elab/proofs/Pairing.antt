@@ -2,9 +2,9 @@
 use Rattle.std.proofs.Common.{◌≡◌, List, [], ◌∷◌, map, zip, refl, ap}
 use Rattle.std.specs.Borrow.{Bor}
 use Rattle.som_model.specs.declared.class.ClassDecl.{ClassDecl}
-use Rattle.som_syntax.specs.declared.interface.IdlInterface.{IdlInterface}
-use Rattle.som_drafts.specs.Drafts.{InterfaceDraft}
-use Rattle.som_scope.specs.Words.{lent}
+use Rattle.som_ast.specs.declared.interface.IdlInterface.{IdlInterface}
+use Rattle.som_sema_drafts.specs.Drafts.{InterfaceDraft}
+use Rattle.som_sema_scope.specs.Words.{lent}
 use Rattle.som_elab.specs.Elaboration.{drafts_of_classes}
 
 -- an interface and a declaration that are passed together

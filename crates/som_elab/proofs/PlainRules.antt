@@ -15,9 +15,9 @@ use Rattle.som_model.specs.Classes.{hierarchy}
 use Rattle.som_model.specs.Kernel.{kernel}
 use Rattle.som_model.specs.Owner.{owner}
 use Rattle.som_model.specs.Rules.{name_of}
-use Rattle.som_ancestry.specs.Places.{with_kernel}
-use Rattle.som_lawful.specs.Plainly.{ClassesHold, Differ, Introduces, IsAbove, IsAmong, IsNamed, IsValue, SelectsInherited, TypesKnown}
-use Rattle.som_lawful.proofs.PlainLists.{map_mem, mem_map}
+use Rattle.som_verify_classes.specs.Places.{with_kernel}
+use Rattle.som_verify_classes.specs.Plainly.{ClassesHold, Differ, Introduces, IsAbove, IsAmong, IsNamed, IsValue, SelectsInherited, TypesKnown}
+use Rattle.som_verify_classes.proofs.PlainLists.{map_mem, mem_map}
 use Rattle.som_elab.proofs.Plain.{emptied, plain, plain_hierarchy, plain_owner, plain_same, selecting, unselected}
 
 -- places and members

@@ -7,15 +7,15 @@ use Rattle.som_model.specs.declared.program.Interface.{Interface}
 use Rattle.som_model.specs.declared.program.Release.{Release}
 use Rattle.som_model.specs.declared.program.ClientProgram.{ClientProgram}
 use Rattle.som_model.specs.Steps.{◌>>=◌}
-use Rattle.som_syntax.specs.declared.interface.IdlInterface.{IdlInterface}
-use Rattle.som_syntax.specs.declared.body.BodyText.{BodyText}
-use Rattle.som_syntax.specs.declared.body.BlockText.{BlockText}
-use Rattle.som_refusals.specs.declared.types.Refused.{Refused}
+use Rattle.som_ast.specs.declared.interface.IdlInterface.{IdlInterface}
+use Rattle.som_ast.specs.declared.body.BodyText.{BodyText}
+use Rattle.som_ast.specs.declared.body.BlockText.{BlockText}
+use Rattle.som_sema_drafts.specs.declared.types.Refused.{Refused}
 use Rattle.som_elab.specs.declared.elaborated.ElaboratedModule.{ElaboratedModule}
-use Rattle.som_blocks.specs.Blocks.{Answers, Refusal, elaborated_main}
+use Rattle.som_elab.specs.Blocks.{Answers, Refusal, elaborated_main}
 use Rattle.som_elab.specs.Elaboration.{among_over, elaborated_classes, elaborated_program, elaborated_release, nothing_before}
 use Rattle.som_elab.specs.Modules.{elaborated_module}
-use Rattle.som_blocks.proofs.Gathering.{stops}
+use Rattle.som_elab.proofs.Gathering.{stops}
 
 abbrev release_of : ElaboratedModule → Release
 release_of w = record { classes = w.classes }

@@ -19,19 +19,19 @@ use Rattle.som_model.specs.Kernel.{kernel}
 use Rattle.som_model.specs.Owner.{entry_at, owner, owner_within, sig_of}
 use Rattle.som_model.specs.Rules.{RuleBreach, name_of}
 use Rattle.som_model.proofs.KeyLaws.{both, exact_bytes}
-use Rattle.som_laws.proofs.Members.{Apart, find_first, find_none, mem_right}
-use Rattle.som_syntax.specs.declared.interface.IdlInterface.{IdlInterface}
-use Rattle.som_syntax.specs.declared.body.BodyText.{BodyText}
-use Rattle.som_lawful.specs.Plainly.{ClassesHold, Introduces}
-use Rattle.som_ancestry.proofs.Owners.{flat_none}
-use Rattle.som_lawful.proofs.PlainLists.{differ_apart, map_mem, mem_map}
-use Rattle.som_methods.specs.Accessors.{body_of}
-use Rattle.som_declarations.specs.Known.{after_base}
+use Rattle.som_model_laws.proofs.Members.{Apart, find_first, find_none, mem_right}
+use Rattle.som_ast.specs.declared.interface.IdlInterface.{IdlInterface}
+use Rattle.som_ast.specs.declared.body.BodyText.{BodyText}
+use Rattle.som_verify_classes.specs.Plainly.{ClassesHold, Introduces}
+use Rattle.som_verify_classes.proofs.Owners.{flat_none}
+use Rattle.som_verify_classes.proofs.PlainLists.{differ_apart, map_mem, mem_map}
+use Rattle.som_elab_methods.specs.Accessors.{body_of}
+use Rattle.som_sema_decls.specs.Known.{after_base}
 use Rattle.som_sema.specs.Building.{declarations}
-use Rattle.som_declarations.specs.Finished.{override_of}
-use Rattle.som_drafts.specs.Items.{overridden}
-use Rattle.som_drafts.specs.Drafts.{InterfaceDraft}
-use Rattle.som_methods.specs.Bodies.{body_sig, draft_named, operation_sig, operations, overridden_sig, override_sig, stands_for, takes_as_many, text_s13, texts_for}
+use Rattle.som_sema_decls.specs.Finished.{override_of}
+use Rattle.som_sema_drafts.specs.Items.{overridden}
+use Rattle.som_sema_drafts.specs.Drafts.{InterfaceDraft}
+use Rattle.som_elab_methods.specs.Bodies.{body_sig, draft_named, operation_sig, operations, overridden_sig, override_sig, stands_for, takes_as_many, text_s13, texts_for}
 use Rattle.som_elab.specs.Elaboration.{classes_over, drafts_over}
 use Rattle.som_elab.proofs.Declared.{drafts_are, draft_classes_are, find_mem, find_own, operation_there, own}
 

@@ -10,17 +10,17 @@ use Rattle.som_model.specs.Lists.{first}
 use Rattle.som_model.specs.Steps.{◌>>=◌}
 use Rattle.som_model.specs.Class.{Class}
 use Rattle.som_model.specs.Classes.{interface_classes}
-use Rattle.som_syntax.specs.declared.interface.IdlInterface.{IdlInterface}
-use Rattle.som_syntax.specs.declared.body.BodyText.{BodyText}
-use Rattle.som_syntax.specs.declared.body.BlockText.{BlockText}
-use Rattle.som_ancestry.specs.Places.{with_kernel}
-use Rattle.som_declarations.specs.Known.{after_base}
-use Rattle.som_blocks.specs.Blocks.{Refusal, elaborated_each, elaborated_main, keeping, obeying}
-use Rattle.som_drafts.specs.Drafts.{InterfaceDraft}
+use Rattle.som_ast.specs.declared.interface.IdlInterface.{IdlInterface}
+use Rattle.som_ast.specs.declared.body.BodyText.{BodyText}
+use Rattle.som_ast.specs.declared.body.BlockText.{BlockText}
+use Rattle.som_verify_classes.specs.Places.{with_kernel}
+use Rattle.som_sema_decls.specs.Known.{after_base}
+use Rattle.som_elab.specs.Blocks.{Refusal, elaborated_each, elaborated_main, keeping, obeying}
+use Rattle.som_sema_drafts.specs.Drafts.{InterfaceDraft}
 use Rattle.som_sema.specs.Building.{declarations, module_over, most_classes, texts_breach}
-use Rattle.som_methods.specs.Limits.{Passed, at_most, limit_passed}
-use Rattle.som_terms.specs.Expressions.{Among}
-use Rattle.som_methods.specs.Bodies.{bodies_breach}
+use Rattle.som_elab_methods.specs.Limits.{Passed, at_most, limit_passed}
+use Rattle.som_elab_body.specs.Expressions.{Among}
+use Rattle.som_elab_methods.specs.Bodies.{bodies_breach}
 
 -- interfaces with declarations, one by one
 abbrev pub drafts_of_classes : List IdlInterface → List ClassDecl → List InterfaceDraft

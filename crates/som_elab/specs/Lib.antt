@@ -1,2 +1,4 @@
+pub mod Blocks
+pub mod Contexts
 pub mod Elaboration
 pub mod Modules

@@ -3,11 +3,11 @@ use Rattle.std.specs.Prelude.{List, Option, Result, Ok}
 use Rattle.som_model.specs.declared.key.Module.{Module}
 use Rattle.som_model.specs.declared.program.Interface.{Interface}
 use Rattle.som_model.specs.Steps.{◌>>=◌}
-use Rattle.som_syntax.specs.declared.interface.IdlInterface.{IdlInterface}
-use Rattle.som_syntax.specs.declared.body.BodyText.{BodyText}
-use Rattle.som_syntax.specs.declared.body.BlockText.{BlockText}
-use Rattle.som_blocks.specs.Blocks.{Refusal}
-use Rattle.som_blocks.specs.Contexts.{main_block}
+use Rattle.som_ast.specs.declared.interface.IdlInterface.{IdlInterface}
+use Rattle.som_ast.specs.declared.body.BodyText.{BodyText}
+use Rattle.som_ast.specs.declared.body.BlockText.{BlockText}
+use Rattle.som_elab.specs.Blocks.{Refusal}
+use Rattle.som_elab.specs.Contexts.{main_block}
 use Rattle.som_elab.specs.Elaboration.{among_over, elaborated_classes}
 use Rattle.som_elab.specs.declared.elaborated.ElaboratedModule.{ElaboratedModule}
 

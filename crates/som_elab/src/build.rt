@@ -1,19 +1,19 @@
 //! `build_release` and `elaborate`: syntax trees to a release, or to a client program.
 
-ghost use Rattle.som_methods.specs.Bodies.{bodies_of};
-ghost use Rattle.som_blocks.specs.Contexts.{FewParameters};
-ghost use Rattle.som_blocks.specs.Blocks.{Answers};
+ghost use Rattle.som_elab_methods.specs.Bodies.{bodies_of};
+ghost use Rattle.som_elab.specs.Contexts.{FewParameters};
+ghost use Rattle.som_elab.specs.Blocks.{Answers};
 ghost use Rattle.som_elab.specs.Elaboration.{elaborated_program, elaborated_release};
 ghost use Rattle.som_model.specs.Classes.{interface_classes};
 ghost use Rattle.som_model.specs.Conforming.{ProgramOk, ReleaseOk};
-ghost use Rattle.som_ancestry.specs.Faces.{faces_breach};
-ghost use Rattle.som_scope.specs.Words.{interfaces_of};
+ghost use Rattle.som_verify_classes.specs.Faces.{faces_breach};
+ghost use Rattle.som_sema_scope.specs.Words.{interfaces_of};
 ghost use Rattle.std.specs.Prelude.{◌≡◌, IfOk, None};
 
 use crate::elaborated::{ElaboratedModule, elaborate_module};
+use som_ast::{BodyFile, IdlFile, MainFile};
 use som_model::{ClientProgram, Interface, List, Module, Release};
-use som_refusals::Refused;
-use som_syntax::{BodyFile, IdlFile, MainFile};
+use som_sema_drafts::Refused;
 use std::alloc::Global;
 
 /// The release that the texts of a library stand for, or the first rule that they break or limit that they pass.

@@ -1,42 +1,41 @@
 //! One module through the front end: declarations first, and then its bodies and main.
 
 ghost use Rattle.som_elab.specs.Elaboration as spec;
-ghost use Rattle.som_methods.specs.Bodies.{bodies_of};
+ghost use Rattle.som_elab_methods.specs.Bodies.{bodies_of};
 ghost use Rattle.som_elab.specs.Elaboration.{drafts_over, among_over};
-ghost use Rattle.som_blocks.specs.Contexts.{FewParameters, ParentsCounted, StandAfterOthers, checked_steps};
+ghost use Rattle.som_elab.specs.Contexts.{FewParameters, ParentsCounted, StandAfterOthers, checked_steps};
 ghost use Rattle.som_elab.specs.Modules.{elaborated_module};
-ghost use Rattle.som_blocks.specs.Blocks.{Answers};
-ghost use Rattle.som_methods.specs.Texts.{given};
-ghost use Rattle.som_introducers.specs.Introducers.{AreIntroducers};
+ghost use Rattle.som_elab.specs.Blocks.{Answers};
+ghost use Rattle.som_elab_methods.specs.Texts.{given};
+ghost use Rattle.som_sema_names.specs.Introducers.{AreIntroducers};
 ghost use Rattle.som_model.specs.Class.{class_in};
 ghost use Rattle.som_model.specs.Classes.{interface_classes};
 ghost use Rattle.som_model.specs.declared.key.Module.TheVariants as modules;
-ghost use Rattle.som_ancestry.specs.Faces.{classes_breach, faces_breach};
-ghost use Rattle.som_ancestry.specs.Modules.{classes_of};
-ghost use Rattle.som_ancestry.specs.Places.{with_kernel};
-ghost use Rattle.som_scope.specs.ClassNames.{module_in_scope};
-ghost use Rattle.som_scope.specs.Words.{interfaces_of, lent};
-ghost use Rattle.som_declarations.specs.Known.{after_base};
+ghost use Rattle.som_verify_classes.specs.Faces.{classes_breach, faces_breach};
+ghost use Rattle.som_verify_classes.specs.Modules.{classes_of};
+ghost use Rattle.som_verify_classes.specs.Places.{with_kernel};
+ghost use Rattle.som_sema_scope.specs.ClassNames.{module_in_scope};
+ghost use Rattle.som_sema_scope.specs.Words.{interfaces_of, lent};
+ghost use Rattle.som_sema_decls.specs.Known.{after_base};
 ghost use Rattle.som_sema.specs.Building.{texts_breach};
-ghost use Rattle.som_drafts.specs.Drafts.{draft_classes, plain_drafts};
-ghost use Rattle.som_typing.specs.Bodies.{AreParts};
+ghost use Rattle.som_sema_drafts.specs.Drafts.{draft_classes, plain_drafts};
+ghost use Rattle.som_verify_types.specs.Bodies.{AreParts};
 ghost use Rattle.std.specs.Prelude.{◌≡◌, ℕ, length, map, option_copied, IfOk, None};
 
-use som_ancestry::Declared;
-use som_blocks::{AllBodies, ModuleContext, checked_bodies, completed_classes};
-use som_declarations::known_classes;
-use som_drafts::Draft;
-use som_introducers::{Introducers, introducers_of};
-use som_kernel::kernel_faces;
-use som_kinds::know;
-use som_methods::{ModuleTexts, all_texts};
+use crate::{AllBodies, ModuleContext, checked_bodies, completed_classes};
+use som_ast::{BlockText, BodyFile, BodyText, IdlFile, IdlInterface};
+use som_builtins::kernel_faces;
+use som_elab_methods::{ModuleTexts, all_texts};
 use som_model::{Block, ClassDecl, Interface, List, Module, NoMemory};
-use som_refusals::{Refused, refused};
-use som_scope::{Scope, scope_of};
 use som_sema::{all_interfaces, build_faces};
-use som_standing::bare_classes;
-use som_syntax::{BlockText, BodyFile, BodyText, IdlFile, IdlInterface};
-use som_typing::{Parts, parts_of};
+use som_sema_decls::known_classes;
+use som_sema_drafts::{Draft, Refused, refused};
+use som_sema_names::{Introducers, introducers_of};
+use som_sema_scope::{Scope, scope_of};
+use som_verify_classes::Declared;
+use som_verify_forms::know;
+use som_verify_parents::bare_classes;
+use som_verify_types::{Parts, parts_of};
 use std::alloc::Global;
 
 /// The classes of a module, and its main.

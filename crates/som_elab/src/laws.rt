@@ -1,15 +1,15 @@
 //! The law that what the front end builds keeps every rule of releases and programs.
 
-ghost use Rattle.som_syntax.specs.declared.body.BlockText.{BlockText as MainText};
-ghost use Rattle.som_syntax.specs.declared.body.BodyText.{BodyText};
+ghost use Rattle.som_ast.specs.declared.body.BlockText.{BlockText as MainText};
+ghost use Rattle.som_ast.specs.declared.body.BodyText.{BodyText};
 ghost use Rattle.som_elab.specs.Elaboration.{elaborated_program, elaborated_release};
-ghost use Rattle.som_syntax.specs.declared.interface.IdlInterface.{IdlInterface};
+ghost use Rattle.som_ast.specs.declared.interface.IdlInterface.{IdlInterface};
 ghost use Rattle.som_model.specs.Classes.{interface_classes};
 ghost use Rattle.som_model.specs.Conforming.{ProgramOk, ReleaseOk};
 ghost use Rattle.som_model.specs.declared.program.ClientProgram.{ClientProgram};
 ghost use Rattle.som_model.specs.declared.program.Interface.{Interface};
 ghost use Rattle.som_model.specs.declared.program.Release.{Release};
-ghost use Rattle.som_ancestry.specs.Faces.{faces_breach};
+ghost use Rattle.som_verify_classes.specs.Faces.{faces_breach};
 ghost use Rattle.std.specs.Prelude.{◌≡◌, List as Seq, None, Ok};
 
 /// The release that texts stand for conforms, and so does a client program, over a base whose faces break no rule.

@@ -1,4 +1,4 @@
-pub mod Beginning
-pub mod Stands
-pub mod Advance
-pub mod Run
+pub mod Came
+pub mod Doing
+pub mod Going
+pub mod Runs

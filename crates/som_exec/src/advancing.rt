@@ -1,73 +1,116 @@
-//! A task advanced by more units of fuel.
+//! A task over a linked kernel that goes on by the units granted to it.
 
-ghost use Rattle.som_exec.specs.Advance.{Comes, Counts, CountsNow, EndsBy, LeavesFuel, StaysCalm, with_granted};
-ghost use Rattle.som_exec.specs.Stands.{Stands};
-ghost use Rattle.som_looping.specs.Counted.{CountsOn};
-ghost use Rattle.som_looping.specs.Ran.{RanOn, ended};
-ghost use Rattle.som_looping.specs.Stepped.{Counts as StopCounts, StaysCalm as StopsCalm};
-ghost use Rattle.som_moves.specs.Scene.{setting_of};
-ghost use Rattle.som_task.specs.Own.{IsOwnPlace};
-ghost use Rattle.som_task.specs.Standing.{place_shown};
-ghost use Rattle.std.specs.Prelude.{◌≡◌, ◌+◌, ◌<◌, ◌^◌};
+ghost use Rattle.som_machine_laws.specs.Counted.{IsDirectRun, IsSearchFree};
+ghost use Rattle.som_interp_task.specs.Advance.{Comes, Counts, StaysCalm, events_now};
+ghost use Rattle.som_interp_task.specs.Stands.{IsStanding, Stands};
+ghost use Rattle.som_semantics.specs.RunText.{call_count};
+ghost use Rattle.som_interp_loop.specs.Scene.{scene};
+ghost use Rattle.som_exec.specs.Going.{is_going as can_go_on};
+ghost use Rattle.som_trace.specs.Filters.{shows_of};
+ghost use Rattle.std.specs.Prelude.{◌≡◌, ◌≤◌, ◌<◌, ◌+◌, ◌*◌, ◌^◌, true};
 
-use crate::{Advanced, Advances};
-use som_looping::run_on;
-use som_model::Fault;
-use som_moves::Stop;
-use som_telling::{Place, Untold};
+use crate::Machine;
+use som_host::HostTable;
+use som_interp_state::Runtime;
+use som_interp_task::{Advanced, Task};
+use som_io::Sink;
+use som_model::Text;
+use som_objects::ObjectStore;
+use som_tables::Steps;
+use som_trace::TraceFilter;
+use std::alloc::Global;
+use std::sync::ledger::Ledger;
 
-/// Grants units to a task that stands, and goes on until main is over, it has a fault, or no unit is left. What it comes
-/// to is what main means with the units granted before and these. Where main is over, the units are left that the meaning
-/// leaves. Where nothing searches for a name and no class that is made has hooks, two steps are counted for each call
-/// event that comes now, and two more.
-pub fn advance<M: Advances>(moves: &mut M, units: u32) -> Advanced
-    requires stands { Stands (M.scene moves.old) }
-    requires units { (M.scene moves.old).task.granted + units < 2 ^ 32 }
-    ensures comes { Comes (M.scene moves.old) units (M.shows moves.old) (M.prefix moves.old) (M.written moves.old) (M.written moves.new) (M.scene moves.new) result }
-    ensures left { LeavesFuel (M.scene moves.old) units (M.scene moves.new).fuel result }
-    ensures lent { M.lent moves.new ≡ M.lent moves.old }
-    ensures counted { CountsNow (M.scene moves.old) units (M.scene moves.new) (M.counted moves.old) (M.counted moves.new) }
-    ensures counts { Counts (M.faults moves.old) (M.faults moves.new) result }
-    ensures calms { StaysCalm (M.calm moves.old) (M.calm moves.new) (M.faults moves.old) (M.faults moves.new) result }
+/// Grants units to a live task that stands, and goes on until its main is over, it has a fault, or no unit is left. What
+/// it comes to is what main means with the units granted before and these. The task is live where it can be gone on with.
+/// Where no block searches for a name and no class that is made by then has hooks, at most two steps are counted for each
+/// call event that comes now, and two more.
+pub fn advance<R: Runtime, K: Sink, L: Ledger>(
+    alloc: Global,
+    task: &mut Task,
+    runtime: &mut R,
+    units: u32,
+    objects: &mut ObjectStore,
+    trace: &TraceFilter,
+    host: &HostTable,
+    prefix: &Text,
+    out: &mut K,
+    steps: &mut Steps<L>,
+) -> Advanced
+    requires live { task.old.live ≡ true }
+    requires stands { IsStanding (R.linked runtime.old) (R.known runtime.old) (R.program runtime.old) (R.made runtime.old) objects.old task.old }
+    requires units { task.old.task.granted + units < 2 ^ 32 }
+    ensures comes { Comes (scene (R.linked runtime.old) (R.known runtime.old) (R.program runtime.old) (R.made runtime.old) objects.old task.old.task 0) units (shows_of trace.now) prefix.now (K.written out.old) (K.written out.new)
+        (scene (R.linked runtime.new) (R.known runtime.new) (R.program runtime.new) (R.made runtime.new) objects.new task.new.task 0) result }
+    ensures live { task.new.live ≡ can_go_on result }
+    ensures steps { IsSearchFree (R.known runtime.old).classes (R.program runtime.old) (R.made runtime.new)
+        → steps.new ≤ steps.old + 2 * call_count (events_now (scene (R.linked runtime.old) (R.known runtime.old) (R.program runtime.old) (R.made runtime.old) objects.old task.old.task 0) units) + 2 }
+    ensures counts { Counts (K.faults out.old) (K.faults out.new) result }
+    ensures calms { StaysCalm (K.calm out.old) (K.calm out.new) (K.faults out.old) (K.faults out.new) result }
 {
-    match go_on(moves, units) {
-        Ok(()) => Advanced::Done,
-        Err(Stop::Fault { fault, at }) => end_by(moves, fault, at),
-        Err(Stop::Spent) => Advanced::Going,
-        Err(Stop::SinkFailed) => Advanced::SinkFailed,
-        Err(Stop::NoMemory) => Advanced::NoMemory,
-    }
+    runtime.know();
+    let answer = go_on(
+        alloc,
+        &mut task.task,
+        runtime,
+        units,
+        objects,
+        trace,
+        host,
+        prefix,
+        out,
+        steps,
+    );
+    task.live = is_going(&answer);
+    answer
 }
 
-/// Goes on with these units.
-fn go_on<M: Advances>(moves: &mut M, units: u32) -> Result<(), Stop>
-    requires stands { Stands (M.scene moves.old) }
-    requires units { (M.scene moves.old).task.granted + units < 2 ^ 32 }
-    ensures ran { RanOn (M.shows moves.old) (M.prefix moves.old) (M.written moves.old) (M.written moves.new) (with_granted (M.scene moves.old) units) (M.scene moves.new) (ended result) }
-    ensures prefix { M.prefix moves.new ≡ M.prefix moves.old }
-    ensures lent { M.lent moves.new ≡ M.lent moves.old }
-    ensures counted { CountsOn (with_granted (M.scene moves.old) units) (M.scene moves.new) (M.counted moves.old) (M.counted moves.new) (ended result) }
-    ensures counts { StopCounts (M.faults moves.old) (M.faults moves.new) (ended result) }
-    ensures calms { StopsCalm (M.calm moves.old) (M.calm moves.new) (M.faults moves.old) (M.faults moves.new) (ended result) }
+// The units are granted to the state of a task, and it goes on.
+fn go_on<'a, R: Runtime, K: Sink, L: Ledger>(
+    alloc: Global,
+    task: &'a mut som_interp_state::Task,
+    runtime: &'a mut R,
+    units: u32,
+    objects: &'a mut ObjectStore,
+    trace: &'a TraceFilter,
+    host: &'a HostTable,
+    prefix: &'a Text,
+    out: &'a mut K,
+    steps: &'a mut Steps<L>,
+) -> Advanced
+    requires stands { Stands (scene (R.linked runtime.old) (R.known runtime.old) (R.program runtime.old) (R.made runtime.old) objects.old task.old 0) }
+    requires units { task.old.granted + units < 2 ^ 32 }
+    ensures comes { Comes (scene (R.linked runtime.old) (R.known runtime.old) (R.program runtime.old) (R.made runtime.old) objects.old task.old 0) units (shows_of trace.now) prefix.now (K.written out.old) (K.written out.new)
+        (scene (R.linked runtime.new) (R.known runtime.new) (R.program runtime.new) (R.made runtime.new) objects.new task.new 0) result }
+    ensures steps { IsDirectRun (R.linked runtime.old).world (R.program runtime.old) (R.made runtime.new)
+        → steps.new ≤ steps.old + 2 * call_count (events_now (scene (R.linked runtime.old) (R.known runtime.old) (R.program runtime.old) (R.made runtime.old) objects.old task.old 0) units) + 2 }
+    ensures counts { Counts (K.faults out.old) (K.faults out.new) result }
+    ensures calms { StaysCalm (K.calm out.old) (K.calm out.new) (K.faults out.old) (K.faults out.new) result }
 {
-    som_looping::granted_law();
-    moves.grant(units);
-    run_on(moves)
+    let mut machine = Machine {
+        alloc,
+        runtime,
+        task,
+        objects,
+        host,
+        trace,
+        prefix,
+        fuel: 0,
+        out,
+        steps,
+    };
+    som_interp_task::advance(&mut machine, units)
 }
 
-/// Ends by a fault in a place, of which the line is told.
-fn end_by<M: Advances>(moves: &mut M, fault: Fault, at: Place) -> Advanced
-    requires { IsOwnPlace (setting_of (M.scene moves.old)) (M.scene moves.old).objects at }
-    ensures ends { EndsBy (M.prefix moves.old) (M.written moves.old) (M.written moves.new) fault (place_shown (setting_of (M.scene moves.old)) at) result }
-    ensures scene { M.scene moves.new ≡ M.scene moves.old }
-    ensures counted { M.counted moves.new ≡ M.counted moves.old }
-    ensures lent { M.lent moves.new ≡ M.lent moves.old }
-    ensures counts { Counts (M.faults moves.old) (M.faults moves.new) result }
-    ensures calms { StaysCalm (M.calm moves.old) (M.calm moves.new) (M.faults moves.old) (M.faults moves.new) result }
+// Whether a task can be gone on with after this.
+fn is_going(answer: &Advanced) -> bool
+    ensures { result ≡ can_go_on answer.now }
 {
-    match moves.tell_fault(fault, at) {
-        Ok(at) => Advanced::SourceFault { fault, at },
-        Err(Untold::SinkFailed) => Advanced::SinkFailed,
-        Err(Untold::NoMemory) => Advanced::NoMemory,
+    match answer {
+        Advanced::Going => true,
+        Advanced::Done => false,
+        Advanced::SourceFault { .. } => false,
+        Advanced::SinkFailed => false,
+        Advanced::NoMemory => false,
     }
 }

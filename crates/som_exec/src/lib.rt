@@ -1,20 +1,30 @@
-//! A task: it starts where main begins, goes on by units, and ends as main does.
+//! The interpreter: a program is run over a linked kernel, the procedures of the host and a sink. A task starts where main begins,
+//! goes on by units, and ends as main does.
 #![tactic(auto)]
 
-mod advanced;
-mod advances;
 mod advancing;
-mod laws;
-mod outcome;
+mod back;
+mod calling;
+mod choosing;
+mod finished;
+mod instruction_step;
+mod invoking;
+mod kind;
+mod machine;
+mod placing;
+mod resuming;
 mod running;
-mod starting;
-mod task;
+mod telling;
 
-pub use advanced::Advanced;
-pub use advances::Advances;
 pub use advancing::advance;
-pub use laws::standing_law;
-pub use outcome::Outcome;
-pub use running::run;
-pub use starting::start;
-pub use task::Task;
+pub use back::put_back;
+pub use calling::call_next;
+pub use choosing::step_next;
+pub use finished::Finished;
+pub use instruction_step::obey_next;
+pub use invoking::{invoke_next, make_next};
+pub use machine::Machine;
+pub use resuming::resume_next;
+pub use running::{finish, run};
+pub use som_interp_task::{Advanced, Outcome, Task, start};
+pub use som_trace::{Running, TraceChoice, TraceFilter, trace_filter};

@@ -1,29 +1,142 @@
-//! A task run with all of its fuel at once.
+//! Main of a linked kernel run from start to end.
 
-ghost use Rattle.som_exec.specs.Run.{Counts, CountsRun, LeavesFuel, RunsSo, StaysCalm};
-ghost use Rattle.som_exec.specs.Stands.{Stands, meaning};
-ghost use Rattle.std.specs.Prelude.{◌≡◌, false};
+ghost use Rattle.som_machine_laws.specs.Counted.{IsDirectRun, IsSearchFree};
+ghost use Rattle.som_interp_task.specs.Run.{Counts, LeavesFuel, StaysCalm};
+ghost use Rattle.som_interp_task.specs.Stands.{Stands};
+ghost use Rattle.som_semantics.specs.Means.{means_in};
+ghost use Rattle.som_semantics.specs.RunText.{call_count};
+ghost use Rattle.som_semantics.specs.Runs.{end_of};
+ghost use Rattle.som_interp_loop.specs.Scene.{scene};
+ghost use Rattle.som_objects.specs.Objects.{Objects};
+ghost use Rattle.som_exec.specs.Runs.{RunsMain};
+ghost use Rattle.som_trace.specs.Filters.{shows_of};
+ghost use Rattle.std.specs.Prelude.{◌≡◌, ◌≤◌, ◌+◌, ◌*◌, false};
 
-use crate::{Advanced, Advances, Outcome, advance};
+use crate::{Finished, Machine};
+use som_host::HostTable;
+use som_interp_state::Runtime;
+use som_interp_task::{Outcome, Task, start};
+use som_io::Sink;
+use som_model::{NoMemory, Text};
+use som_objects::ObjectStore;
+use som_tables::Steps;
+use som_trace::TraceFilter;
+use std::alloc::Global;
+use std::sync::ledger::Ledger;
 
-/// Goes on with a task that was just started, by all of its fuel: what it comes to is what main means with that fuel.
-/// Where main is over, the units are left that its meaning leaves.
-pub fn run<M: Advances>(moves: &mut M, fuel: u32) -> Outcome
-    requires stands { Stands (M.scene moves.old) }
-    requires granted { (M.scene moves.old).task.granted ≡ 0 }
-    requires begun { (M.scene moves.old).task.begun ≡ false }
-    ensures runs { RunsSo (M.scene moves.old) fuel (M.shows moves.old) (M.prefix moves.old) (M.written moves.old) (M.written moves.new) (M.scene moves.new) result }
-    ensures left { LeavesFuel (meaning (M.scene moves.old) fuel) (M.scene moves.new).fuel result }
-    ensures lent { M.lent moves.new ≡ M.lent moves.old }
-    ensures counted { CountsRun (M.scene moves.old) fuel (M.scene moves.new) (M.counted moves.old) (M.counted moves.new) }
-    ensures counts { Counts (M.faults moves.old) (M.faults moves.new) result }
-    ensures calms { StaysCalm (M.calm moves.old) (M.calm moves.new) (M.faults moves.old) (M.faults moves.new) result }
+/// Runs the main of a linked kernel by this fuel, with objects of its own: it answers the end of what main means, and
+/// tells its text, or a front of it where memory was wanting or the sink failed. The classes that were used are made,
+/// and the kernel is else as it was. Where no block searches for a name and no class that is made by the end has hooks,
+/// at most two steps are counted for each call event, and two more.
+pub fn run<R: Runtime, K: Sink, L: Ledger>(
+    alloc: Global,
+    runtime: &mut R,
+    fuel: u32,
+    trace: &TraceFilter,
+    host: &HostTable,
+    out: &mut K,
+    steps: &mut Steps<L>,
+) -> Outcome
+    ensures runs { RunsMain (R.world runtime.old) (R.program runtime.old) fuel (shows_of trace.now) (K.written out.old) (K.written out.new) (R.known runtime.old).classes (R.made runtime.old) (R.made runtime.new) result }
+    ensures steps { IsSearchFree (R.known runtime.old).classes (R.program runtime.old) (R.made runtime.new)
+        → steps.new ≤ steps.old + 2 * call_count (end_of (means_in (R.world runtime.old) (R.program runtime.old) fuel)).events + 2 }
+
+    ensures counts { Counts (K.faults out.old) (K.faults out.new) result }
+    ensures calms { StaysCalm (K.calm out.old) (K.calm out.new) (K.faults out.old) (K.faults out.new) result }
+
+    ensures keys { R.keys runtime.new ≡ R.keys runtime.old }
+    ensures world { R.world runtime.new ≡ R.world runtime.old }
+    ensures known { R.known runtime.new ≡ R.known runtime.old }
+    ensures linked { R.linked runtime.new ≡ R.linked runtime.old }
+    ensures program { R.program runtime.new ≡ R.program runtime.old }
 {
-    match advance(moves, fuel) {
-        Advanced::Going => Outcome::Spent,
-        Advanced::Done => Outcome::Done,
-        Advanced::SourceFault { fault, at } => Outcome::SourceFault { fault, at },
-        Advanced::SinkFailed => Outcome::SinkFailed,
-        Advanced::NoMemory => Outcome::NoMemory,
+    let Finished { outcome, left: _ } = finish(alloc, runtime, fuel, trace, host, out, steps);
+    outcome
+}
+
+/// As `run`, and where main is over it answers the units too that are left of the fuel, which are those that main's
+/// meaning leaves.
+pub fn finish<R: Runtime, K: Sink, L: Ledger>(
+    alloc: Global,
+    runtime: &mut R,
+    fuel: u32,
+    trace: &TraceFilter,
+    host: &HostTable,
+    out: &mut K,
+    steps: &mut Steps<L>,
+) -> Finished
+    ensures runs { RunsMain (R.world runtime.old) (R.program runtime.old) fuel (shows_of trace.now) (K.written out.old) (K.written out.new) (R.known runtime.old).classes (R.made runtime.old) (R.made runtime.new) result.outcome }
+    ensures left { LeavesFuel (means_in (R.world runtime.old) (R.program runtime.old) fuel) result.left result.outcome }
+    ensures steps { IsSearchFree (R.known runtime.old).classes (R.program runtime.old) (R.made runtime.new)
+        → steps.new ≤ steps.old + 2 * call_count (end_of (means_in (R.world runtime.old) (R.program runtime.old) fuel)).events + 2 }
+
+    ensures counts { Counts (K.faults out.old) (K.faults out.new) result.outcome }
+    ensures calms { StaysCalm (K.calm out.old) (K.calm out.new) (K.faults out.old) (K.faults out.new) result.outcome }
+
+    ensures keys { R.keys runtime.new ≡ R.keys runtime.old }
+    ensures world { R.world runtime.new ≡ R.world runtime.old }
+    ensures known { R.known runtime.new ≡ R.known runtime.old }
+    ensures linked { R.linked runtime.new ≡ R.linked runtime.old }
+    ensures program { R.program runtime.new ≡ R.program runtime.old }
+{
+    runtime.know();
+    match start(alloc, &*runtime) {
+        Ok(started) => {
+            let finished = run_task(alloc, started, runtime, fuel, trace, host, out, steps);
+            runtime.know();
+            finished
+        },
+        Err(NoMemory) => Finished {
+            outcome: Outcome::NoMemory,
+            left: 0,
+        },
+    }
+}
+
+// Runs a task that was just started, with objects of its own.
+fn run_task<'a, R: Runtime, K: Sink, L: Ledger>(
+    alloc: Global,
+    task: Task,
+    runtime: &'a mut R,
+    fuel: u32,
+    trace: &'a TraceFilter,
+    host: &'a HostTable,
+    out: &'a mut K,
+    steps: &'a mut Steps<L>,
+) -> Finished
+    requires stands { (os : Objects) → Stands (scene (R.linked runtime.old) (R.known runtime.old) (R.program runtime.old) (R.made runtime.old) os task.task 0) }
+    requires granted { task.task.granted ≡ 0 }
+    requires begun { task.task.begun ≡ false }
+    ensures runs { RunsMain (R.linked runtime.old).world (R.program runtime.old) fuel (shows_of trace.now) (K.written out.old) (K.written out.new) (R.known runtime.old).classes (R.made runtime.old) (R.made runtime.new) result.outcome }
+    ensures left { LeavesFuel (means_in (R.linked runtime.old).world (R.program runtime.old) fuel) result.left result.outcome }
+    ensures steps { IsDirectRun (R.linked runtime.old).world (R.program runtime.old) (R.made runtime.new)
+        → steps.new ≤ steps.old + 2 * call_count (end_of (means_in (R.linked runtime.old).world (R.program runtime.old) fuel)).events + 2 }
+
+    ensures counts { Counts (K.faults out.old) (K.faults out.new) result.outcome }
+    ensures calms { StaysCalm (K.calm out.old) (K.calm out.new) (K.faults out.old) (K.faults out.new) result.outcome }
+
+    ensures known { R.known runtime.new ≡ R.known runtime.old }
+    ensures linked { R.linked runtime.new ≡ R.linked runtime.old }
+    ensures program { R.program runtime.new ≡ R.program runtime.old }
+{
+    let Task { mut task, live: _ } = task;
+    let mut objects = ObjectStore::new(alloc);
+    let prefix = Text::from_vec(Vec::new(alloc));
+    let mut machine = Machine {
+        alloc,
+        runtime,
+        task: &mut task,
+        objects: &mut objects,
+        host,
+        trace,
+        prefix: &prefix,
+        fuel: 0,
+        out,
+        steps,
+    };
+    let outcome = som_interp_task::run(&mut machine, fuel);
+    Finished {
+        outcome,
+        left: machine.fuel,
     }
 }

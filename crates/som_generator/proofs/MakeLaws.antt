@@ -6,7 +6,7 @@ use Rattle.som_model.specs.Conforming.{ReleaseOk}
 use Rattle.som_model.specs.Lists.{Mem}
 use Rattle.som_compat.specs.Conditions.{Conforms}
 use Rattle.som_compile.specs.Compiling.{IsBase}
-use Rattle.som_generated.specs.declared.edition.Edition.TheVariants.{First, Second}
+use Rattle.som_generator.specs.declared.edition.Edition.TheVariants.{First, Second}
 use Rattle.som_generator.specs.declared.fault.MakeFault.{MakeFault}
 use Rattle.som_generator.specs.declared.fault.MakeFault.TheVariants as faults
 use Rattle.som_generator.specs.declared.fault.Unmade.{Unmade}

@@ -7,12 +7,12 @@ use Rattle.som_model.specs.Class.{interface_of}
 use Rattle.som_model.specs.Compatible.{CompatBreach}
 use Rattle.som_libimage.proofs.Decoded.{library_again}
 use Rattle.som_cliimage.proofs.Decoded.{client_again}
-use Rattle.som_reading.specs.declared.fault.TextFault.{TextFault}
-use Rattle.som_reading.specs.declared.source.Source.{Source}
+use Rattle.som_sources.specs.declared.fault.TextFault.{TextFault}
+use Rattle.som_sources.specs.declared.source.Source.{Source}
 use Rattle.som_compile.specs.Compiling.{Compiles, CompilesClient, an_image, a_client_image}
 use Rattle.som_compile.proofs.CompileLaws.{one_compiling}
 use Rattle.som_compile.proofs.ClientLaws.{one_client}
-use Rattle.som_generated.specs.declared.edition.Edition.TheVariants.{First, Second}
+use Rattle.som_generator.specs.declared.edition.Edition.TheVariants.{First, Second}
 use Rattle.som_generator.specs.declared.fault.NotKept.{NotKept}
 use Rattle.som_generator.specs.declared.fault.Unmade.{Unmade}
 use Rattle.som_generator.specs.declared.fault.Unmade.TheVariants as unmade

@@ -1,10 +1,10 @@
 -- The texts have no more bytes than the texts of one command may have.
 use Rattle.std.proofs.Common.{ℕ, ◌≤◌, arith}
 use Rattle.som_model.specs.declared.limits.TheConstants.{MAX_BYTES}
-use Rattle.som_reading.specs.Sources.{bytes_in}
-use Rattle.som_generated.specs.declared.edition.Edition.{Edition}
-use Rattle.som_generated.specs.declared.limits.TheConstants.{MAX_CLASSES}
-use Rattle.som_generated.proofs.Lengths.{bodies_length, interfaces_length, main_length}
+use Rattle.som_sources.specs.Sources.{bytes_in}
+use Rattle.som_generator.specs.declared.edition.Edition.{Edition}
+use Rattle.som_generator.specs.declared.limits.TheConstants.{MAX_CLASSES}
+use Rattle.som_generator.proofs.Lengths.{bodies_length, interfaces_length, main_length}
 use Rattle.som_generator.specs.Texts.{client_texts, library_texts}
 
 pub library_small : (e : Edition) (n : ℕ) → n ≤ MAX_CLASSES → bytes_in (library_texts e n) ≤ MAX_BYTES

@@ -4,16 +4,16 @@ use Rattle.som_model.specs.declared.program.Interface.{Interface}
 use Rattle.som_model.specs.declared.limits.TheConstants.{MAX_BYTES}
 use Rattle.som_model.specs.Class.{interface_of}
 use Rattle.som_model.specs.Compatible.{CompatBreach, first_break}
-use Rattle.som_reading.specs.declared.fault.TextFault.{TextFault}
-use Rattle.som_reading.specs.declared.source.Source.{Source}
-use Rattle.som_reading.specs.Sources.{bytes_in, mains_in, names_of}
+use Rattle.som_sources.specs.declared.fault.TextFault.{TextFault}
+use Rattle.som_sources.specs.declared.source.Source.{Source}
+use Rattle.som_sources.specs.Sources.{bytes_in, mains_in, names_of}
 use Rattle.som_compile.specs.Compiling.{Compiles, CompilesClient, IsBase}
 use Rattle.som_compile.proofs.CompileLaws.{some_compiling}
 use Rattle.som_compile.proofs.ClientLaws.{some_client}
-use Rattle.som_generated.specs.declared.edition.Edition.TheVariants.{First, Second}
+use Rattle.som_generator.specs.declared.edition.Edition.TheVariants.{First, Second}
 use Rattle.som_generator.specs.declared.fault.Unmade.{Unmade}
 use Rattle.som_generator.specs.declared.fault.Unmade.TheVariants as unmade
-use Rattle.som_generated.specs.declared.limits.TheConstants.{MAX_CLASSES}
+use Rattle.som_generator.specs.declared.limits.TheConstants.{MAX_CLASSES}
 use Rattle.som_generator.specs.declared.made.Client.{Client}
 use Rattle.som_generator.specs.declared.made.Library.{Library}
 use Rattle.som_generator.specs.Making.{Makes, client_refused, first_refused, not_kept, second_refused}

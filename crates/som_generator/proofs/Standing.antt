@@ -10,16 +10,16 @@ use Rattle.som_model.specs.declared.program.Release.{Release}
 use Rattle.som_model.specs.Class.{interface_of}
 use Rattle.som_model.specs.Conforming.{ProgramOk, ReleaseOk}
 use Rattle.som_model.specs.Images.{client_image, library_image}
-use Rattle.som_classimage.specs.ClassLimits.{ClassWithin, FaceWithin}
+use Rattle.som_image_classes.specs.ClassLimits.{ClassWithin, FaceWithin}
 use Rattle.som_libimage.specs.Limits.{IsWithinLimits}
 use Rattle.som_libimage.proofs.Decoded.{image_within}
 use Rattle.som_compat.specs.Conditions.{Conforms, IsCounted}
 use Rattle.som_compat.proofs.Released.{interface_conforms}
-use Rattle.som_reading.specs.declared.source.Source.{Source}
-use Rattle.som_reading.specs.declared.fault.CompileFault.{CompileFault}
-use Rattle.som_reading.specs.declared.fault.CompileFault.TheVariants as compiling
-use Rattle.som_reading.specs.declared.fault.TextFault.{TextFault}
-use Rattle.som_reading.specs.Reading.{Says}
+use Rattle.som_sources.specs.declared.source.Source.{Source}
+use Rattle.som_sources.specs.declared.fault.CompileFault.{CompileFault}
+use Rattle.som_sources.specs.declared.fault.CompileFault.TheVariants as compiling
+use Rattle.som_sources.specs.declared.fault.TextFault.{TextFault}
+use Rattle.som_sources.specs.Reading.{Says}
 use Rattle.som_compile.specs.Compiling.{Compiles, CompilesClient, IsBase, StandFor, StandForClient, an_image, a_client_image, client_unbuilt, client_unread, unbuilt, unread}
 use Rattle.som_compile.proofs.Standing.{program_conforms, release_conforms}
 use Rattle.som_generator.specs.declared.made.Client.{Client}

@@ -4,10 +4,10 @@ use Rattle.som_model.specs.declared.program.Interface.{Interface}
 use Rattle.som_model.specs.Class.{interface_of}
 use Rattle.som_model.specs.Compatible.{Accepted, CompatBreach, first_break}
 use Rattle.som_model.specs.Images.{client_image, library_image}
-use Rattle.som_reading.specs.declared.fault.TextFault.{TextFault}
-use Rattle.som_reading.specs.declared.source.Source.{Source}
+use Rattle.som_sources.specs.declared.fault.TextFault.{TextFault}
+use Rattle.som_sources.specs.declared.source.Source.{Source}
 use Rattle.som_compile.specs.Compiling.{Compiles, CompilesClient, StandFor, StandForClient}
-use Rattle.som_generated.specs.declared.edition.Edition.TheVariants.{First, Second}
+use Rattle.som_generator.specs.declared.edition.Edition.TheVariants.{First, Second}
 use Rattle.som_generator.specs.declared.fault.MakeFault.{MakeFault}
 use Rattle.som_generator.specs.declared.fault.MakeFault.TheVariants as faults
 use Rattle.som_generator.specs.declared.fault.NotKept.{NotKept}

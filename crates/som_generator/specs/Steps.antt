@@ -2,9 +2,9 @@
 use Rattle.std.specs.Prelude.{◌≡◌, ℕ, List, Some, None, Result, Ok, Err}
 use Rattle.som_model.specs.declared.program.Interface.{Interface}
 use Rattle.som_model.specs.Compatible.{first_break}
-use Rattle.som_reading.specs.declared.fault.CompileFault.{CompileFault}
-use Rattle.som_reading.specs.declared.fault.CompileFault.TheVariants as compiling
-use Rattle.som_reading.specs.declared.source.Source.{Source}
+use Rattle.som_sources.specs.declared.fault.CompileFault.{CompileFault}
+use Rattle.som_sources.specs.declared.fault.CompileFault.TheVariants as compiling
+use Rattle.som_sources.specs.declared.source.Source.{Source}
 use Rattle.som_compile.specs.Compiling.{Compiles, CompilesClient}
 use Rattle.som_generator.specs.declared.fault.MakeFault.{MakeFault}
 use Rattle.som_generator.specs.declared.fault.MakeFault.TheVariants as faults

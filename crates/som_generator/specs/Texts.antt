@@ -1,8 +1,8 @@
 -- The texts of the generator under their names, as they are compiled.
 use Rattle.std.specs.Prelude.{ℕ, List, [], ◌∷◌, ◌++◌, codes}
-use Rattle.som_reading.specs.declared.source.Source.{Source}
-use Rattle.som_generated.specs.declared.edition.Edition.{Edition}
-use Rattle.som_generated.specs.Generated.{bodies_text, interfaces_text, main_text, release_number}
+use Rattle.som_sources.specs.declared.source.Source.{Source}
+use Rattle.som_generator.specs.declared.edition.Edition.{Edition}
+use Rattle.som_generator.specs.Generated.{bodies_text, interfaces_text, main_text, release_number}
 
 -- the texts of a release of so many classes
 abbrev pub library_texts : Edition → ℕ → List Source

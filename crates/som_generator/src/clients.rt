@@ -1,7 +1,7 @@
 //! Compiles the generated client, decodes its image again, and checks its rules.
 
 ghost use Rattle.som_compile.specs.Compiling.{IsBase};
-ghost use Rattle.som_generated.specs.declared.limits.TheConstants.{MAX_CLASSES};
+ghost use Rattle.som_generator.specs.declared.limits.TheConstants.{MAX_CLASSES};
 ghost use Rattle.som_generator.specs.Making.{Answers};
 ghost use Rattle.som_generator.specs.Steps.{ClientComes, ClientImageComes};
 ghost use Rattle.som_generator.specs.Texts.{client_texts};
@@ -10,20 +10,20 @@ ghost use Rattle.som_model.specs.Conforming.{ProgramOk};
 ghost use Rattle.som_model.specs.Images.{client_image};
 ghost use Rattle.som_model.specs.declared.limits.TheConstants.{MAX_BYTES};
 ghost use Rattle.som_model.specs.declared.program.ClientProgram.{ClientProgram as Program};
-ghost use Rattle.som_reading.specs.Sources.{bytes_in, mains_in, names_of};
+ghost use Rattle.som_sources.specs.Sources.{bytes_in, mains_in, names_of};
 ghost use Rattle.std.specs.Prelude.{◌≡◌, ◌≤◌, IfOk, Some};
 
 use crate::fault::MakeFault;
 use crate::libraries::fault_of;
 use crate::made::Client;
 use crate::sources::client_texts;
-use som_ancestry::VerifyFault;
 use som_cliimage::decode;
 use som_compile::compile_client;
-use som_fields::ImageFault;
+use som_image_fields::ImageFault;
 use som_model::{ClientProgram, Interface, List, NoMemory, Release};
-use som_reading::Source;
+use som_sources::Source;
 use som_verify::program_ok;
+use som_verify_classes::VerifyFault;
 use std::alloc::Global;
 
 // The image that the texts of a client are compiled to.

@@ -1,7 +1,7 @@
 //! The types of why the generator makes nothing: a step that refuses, or want of memory.
 
 use som_model::{NoMemory, Text};
-use som_reading::TextFault;
+use som_sources::TextFault;
 
 /// What a newer release doesn't keep of an older one: the rule, the class of the older one, the name of what is lost or changed,
 /// where the rule is about such a thing, and its place.

@@ -1,6 +1,6 @@
 //! States that what the generator makes is determined by the number of classes.
 
-ghost use Rattle.som_generated.specs.declared.limits.TheConstants.{MAX_CLASSES};
+ghost use Rattle.som_generator.specs.declared.limits.TheConstants.{MAX_CLASSES};
 ghost use Rattle.som_generator.specs.Making.{Makes};
 ghost use Rattle.som_generator.specs.declared.fault.Unmade.{Unmade as Fault};
 ghost use Rattle.som_generator.specs.declared.made.Made.{Made as Product};

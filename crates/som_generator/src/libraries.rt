@@ -1,6 +1,6 @@
 //! Compiles a generated release, decodes its image again, and checks its rules.
 
-ghost use Rattle.som_generated.specs.declared.limits.TheConstants.{MAX_CLASSES};
+ghost use Rattle.som_generator.specs.declared.limits.TheConstants.{MAX_CLASSES};
 ghost use Rattle.som_generator.specs.Making.{Answers};
 ghost use Rattle.som_generator.specs.Steps.{ImageComes, LibraryComes, fault_of};
 ghost use Rattle.som_generator.specs.Texts.{library_texts};
@@ -8,20 +8,20 @@ ghost use Rattle.som_model.specs.Conforming.{ReleaseOk};
 ghost use Rattle.som_model.specs.Images.{library_image};
 ghost use Rattle.som_model.specs.declared.limits.TheConstants.{MAX_BYTES};
 ghost use Rattle.som_model.specs.declared.program.Release.{Release as Classes};
-ghost use Rattle.som_reading.specs.Sources.{bytes_in, mains_in, names_of};
+ghost use Rattle.som_sources.specs.Sources.{bytes_in, mains_in, names_of};
 ghost use Rattle.std.specs.Prelude.{◌≡◌, ◌≤◌, IfOk, Some};
 
+use crate::Edition;
 use crate::fault::{MakeFault, Unmade};
 use crate::made::Library;
 use crate::sources::library_texts;
-use som_ancestry::VerifyFault;
 use som_compile::compile_library;
-use som_fields::ImageFault;
-use som_generated::Edition;
+use som_image_fields::ImageFault;
 use som_libimage::decode;
 use som_model::{List, NoMemory, Release};
-use som_reading::{CompileFault, Source};
+use som_sources::{CompileFault, Source};
 use som_verify::release_ok;
+use som_verify_classes::VerifyFault;
 use std::alloc::Global;
 
 /// Why texts aren't compiled.

@@ -1,15 +1,15 @@
 //! Makes both generated releases and the client, compiled and compared as the commands do it.
 
 ghost use Rattle.som_generator.specs.Making.{Answers, Makes};
-ghost use Rattle.som_generated.specs.declared.limits.TheConstants.{MAX_CLASSES};
+ghost use Rattle.som_generator.specs.declared.limits.TheConstants.{MAX_CLASSES};
 ghost use Rattle.std.specs.Prelude.{◌≤◌};
 
+use crate::Edition;
 use crate::clients::make_client;
 use crate::comparing::compare;
 use crate::fault::MakeFault;
 use crate::libraries::make_library;
 use crate::made::Made;
-use som_generated::Edition;
 use std::alloc::Global;
 
 /// Makes the texts of so many classes, and goes with them the way of the commands: both releases are compiled, then the client

@@ -1,12 +1,12 @@
 //! Puts names to the generated texts: interfaces, bodies and main.
 
-ghost use Rattle.som_generated.specs.Generated.{release_number};
+ghost use Rattle.som_generator.specs.Generated.{release_number};
 ghost use Rattle.som_generator.specs.Texts.{client_texts, library_texts};
 ghost use Rattle.std.specs.Prelude.{◌≡◌, ◌++◌, IfOk, codes};
 
-use som_generated::{Edition, bodies_text, interfaces_text, main_text};
+use crate::{Edition, bodies_text, interfaces_text, main_text};
 use som_model::{List, NoMemory, Text};
-use som_reading::Source;
+use som_sources::Source;
 use std::alloc::Global;
 
 // A text under a name.

@@ -2,7 +2,7 @@
 use Rattle.std.specs.Prelude.{◌≡◌, ℤ, FitsSigned}
 use Rattle.std.specs.Int.{w32}
 use Rattle.som_model.specs.declared.syntax.HostCode.{HostCode}
-use Rattle.som_model.specs.Values.{host_number}
+use Rattle.som_semantics.specs.Values.{host_number}
 
 -- a closure may be called on every two numbers of 32 bits, and answers what the code stands for; `may` and `does` are what the closure
 -- asks of a call and says of its answer

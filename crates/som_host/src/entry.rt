@@ -1,7 +1,7 @@
 //! One procedure of the host: its code, and a closure that is proved to answer for it.
 
 ghost use Rattle.som_host.specs.Closures.{Answers};
-ghost use Rattle.som_model.specs.Values.{host_number};
+ghost use Rattle.som_semantics.specs.Values.{host_number};
 ghost use Rattle.std.specs.Prelude.{◌≡◌};
 
 use som_model::HostCode;

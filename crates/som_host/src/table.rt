@@ -3,7 +3,7 @@
 ghost use Rattle.som_host.specs.Closures.{Answers};
 ghost use Rattle.som_host.specs.Entries.{code_of};
 ghost use Rattle.som_model.specs.declared.syntax.HostCode.TheVariants as codes;
-ghost use Rattle.som_model.specs.Values.{host_number};
+ghost use Rattle.som_semantics.specs.Values.{host_number};
 ghost use Rattle.std.specs.Prelude.{◌≡◌};
 
 use crate::HostEntry;

@@ -1,22 +1,22 @@
 -- What the grammar derives as a section, an interface or a file is read.
 use Rattle.std.proofs.Common.{◌≡◌, ℕ, List, [], ◌∷◌, ◌++◌, true, false, Option, Some, Ok, refl, subst, append_assoc}
 use Rattle.std.proofs.lemmas.List.{append-nil}
-use Rattle.som_read.specs.Languages.{Repeated, Kept}
-use Rattle.som_read.specs.Readers.{repeated, end}
-use Rattle.som_read.specs.Tokens.{head, is_sign, same_sign}
-use Rattle.som_read.specs.declared.token.Key.TheVariants as key
-use Rattle.som_read.specs.declared.token.Sign.TheVariants as sign
-use Rattle.som_read.specs.declared.token.Token.{Token}
-use Rattle.som_read.specs.declared.token.Token.TheVariants as token
-use Rattle.som_syntax.specs.declared.words.Word.{Word}
-use Rattle.som_syntax.specs.declared.interface.Export.{Export}
-use Rattle.som_syntax.specs.declared.interface.IdlFile.{IdlFile}
-use Rattle.som_syntax.specs.declared.interface.IdlInterface.{IdlInterface}
-use Rattle.som_syntax.specs.declared.interface.Item.{Item}
+use Rattle.som_parse.specs.Languages.{Repeated, Kept}
+use Rattle.som_parse.specs.Readers.{repeated, end}
+use Rattle.som_parse.specs.Tokens.{head, is_sign, same_sign}
+use Rattle.som_parse.specs.declared.token.Key.TheVariants as key
+use Rattle.som_parse.specs.declared.token.Sign.TheVariants as sign
+use Rattle.som_parse.specs.declared.token.Token.{Token}
+use Rattle.som_parse.specs.declared.token.Token.TheVariants as token
+use Rattle.som_ast.specs.declared.words.Word.{Word}
+use Rattle.som_ast.specs.declared.interface.Export.{Export}
+use Rattle.som_ast.specs.declared.interface.IdlFile.{IdlFile}
+use Rattle.som_ast.specs.declared.interface.IdlInterface.{IdlInterface}
+use Rattle.som_ast.specs.declared.interface.Item.{Item}
 use Rattle.som_idl.specs.Grammar as g
 use Rattle.som_idl.specs.Reading as r
-use Rattle.som_read.proofs.Steps.{same_key_self, same_sign_self}
-use Rattle.som_read.proofs.Found.{expect_found, keyword_found, repeated_found}
+use Rattle.som_parse.proofs.Steps.{same_key_self, same_sign_self}
+use Rattle.som_parse.proofs.Found.{expect_found, keyword_found, repeated_found}
 use Rattle.som_idl.proofs.FileLaws.{long_entry}
 use Rattle.som_idl.proofs.NameFound.{name_found, names_found, exports_found}
 use Rattle.som_idl.proofs.ItemFound.{items_found}

@@ -1,19 +1,19 @@
 -- The readers of sections, interfaces and files read their languages.
 use Rattle.std.proofs.Common.{ℕ, List, ◌∷◌, ◌++◌, Option, arith}
 use Rattle.std.proofs.lemmas.List.{append-nil}
-use Rattle.som_read.specs.Languages.{Listed, Repeated, Kept}
-use Rattle.som_read.specs.declared.token.Key.TheVariants as key
-use Rattle.som_read.specs.declared.token.Sign.TheVariants as sign
-use Rattle.som_read.specs.declared.token.Token.{Token}
-use Rattle.som_read.specs.declared.token.Token.TheVariants as token
-use Rattle.som_syntax.specs.declared.words.Word.{Word}
-use Rattle.som_syntax.specs.declared.interface.IdlInterface.{IdlInterface}
+use Rattle.som_parse.specs.Languages.{Listed, Repeated, Kept}
+use Rattle.som_parse.specs.declared.token.Key.TheVariants as key
+use Rattle.som_parse.specs.declared.token.Sign.TheVariants as sign
+use Rattle.som_parse.specs.declared.token.Token.{Token}
+use Rattle.som_parse.specs.declared.token.Token.TheVariants as token
+use Rattle.som_ast.specs.declared.words.Word.{Word}
+use Rattle.som_ast.specs.declared.interface.IdlInterface.{IdlInterface}
 use Rattle.som_idl.specs.Grammar as g
 use Rattle.som_idl.specs.Reading as r
-use Rattle.som_read.proofs.Laws.{Lawful, wider, bind_law, pure_law}
-use Rattle.som_read.proofs.Steps.{after_sign, after_key, expect_then, keyword_then, end_then}
-use Rattle.som_read.proofs.Repetition.{repeated_law}
-use Rattle.som_read.proofs.Turns.{IsLong}
+use Rattle.som_parse.proofs.Laws.{Lawful, wider, bind_law, pure_law}
+use Rattle.som_parse.proofs.Steps.{after_sign, after_key, expect_then, keyword_then, end_then}
+use Rattle.som_parse.proofs.Repetition.{repeated_law}
+use Rattle.som_parse.proofs.Turns.{IsLong}
 use Rattle.som_idl.proofs.NameLaws.{name_law, names_law, exports_law}
 use Rattle.som_idl.proofs.ItemLaws.{items_law}
 

@@ -1,26 +1,26 @@
 -- What the grammar derives as items is read, whatever follows.
 use Rattle.std.proofs.Common.{◌≡◌, ℕ, List, [], ◌∷◌, ◌++◌, Bool, true, false, Option, Some, None, Ok, refl, ◌∙◌, append_assoc}
-use Rattle.som_read.specs.Languages.{Listed, Repeated}
-use Rattle.som_read.specs.Readers as readers
-use Rattle.som_read.specs.Readers.{listed}
-use Rattle.som_read.specs.Tokens.{head, is_sign, same_sign, same_key, word}
-use Rattle.som_read.specs.declared.token.Key.{Key}
-use Rattle.som_read.specs.declared.token.Key.TheVariants as key
-use Rattle.som_read.specs.declared.token.Sign.TheVariants as sign
-use Rattle.som_read.specs.declared.token.Token.{Token}
-use Rattle.som_read.specs.declared.token.Token.TheVariants as token
-use Rattle.som_syntax.specs.declared.words.TypeName.{TypeName}
-use Rattle.som_syntax.specs.declared.words.TypeName.TheVariants as types
-use Rattle.som_syntax.specs.declared.words.Word.{Word}
-use Rattle.som_syntax.specs.declared.interface.Item.{Item}
-use Rattle.som_syntax.specs.declared.interface.Item.TheVariants as items
-use Rattle.som_syntax.specs.declared.interface.Modifier.{Modifier}
+use Rattle.som_parse.specs.Languages.{Listed, Repeated}
+use Rattle.som_parse.specs.Readers as readers
+use Rattle.som_parse.specs.Readers.{listed}
+use Rattle.som_parse.specs.Tokens.{head, is_sign, same_sign, same_key, word}
+use Rattle.som_parse.specs.declared.token.Key.{Key}
+use Rattle.som_parse.specs.declared.token.Key.TheVariants as key
+use Rattle.som_parse.specs.declared.token.Sign.TheVariants as sign
+use Rattle.som_parse.specs.declared.token.Token.{Token}
+use Rattle.som_parse.specs.declared.token.Token.TheVariants as token
+use Rattle.som_ast.specs.declared.words.TypeName.{TypeName}
+use Rattle.som_ast.specs.declared.words.TypeName.TheVariants as types
+use Rattle.som_ast.specs.declared.words.Word.{Word}
+use Rattle.som_ast.specs.declared.interface.Item.{Item}
+use Rattle.som_ast.specs.declared.interface.Item.TheVariants as items
+use Rattle.som_ast.specs.declared.interface.Modifier.{Modifier}
 use Rattle.som_idl.specs.declared.item.Setting.{Setting}
 use Rattle.som_idl.specs.declared.item.Setting.TheVariants as settings
 use Rattle.som_idl.specs.Grammar as g
 use Rattle.som_idl.specs.Reading as r
-use Rattle.som_read.proofs.Steps.{same_key_self, same_sign_self, apart_key, differs_key}
-use Rattle.som_read.proofs.Found.{expect_found, number_found, take_word_found, listed_found, repeated_found, starts_more, not_sign}
+use Rattle.som_parse.proofs.Steps.{same_key_self, same_sign_self, apart_key, differs_key}
+use Rattle.som_parse.proofs.Found.{expect_found, number_found, take_word_found, listed_found, repeated_found, starts_more, not_sign}
 use Rattle.som_idl.proofs.ItemLaws.{long_item}
 use Rattle.som_idl.proofs.NameFound.{names_start, name_found, listed_names}
 

@@ -1,24 +1,24 @@
 -- The readers of items read their languages.
 use Rattle.std.proofs.Common.{◌≡◌, ◌≢◌, ℕ, List, [], ◌∷◌, ◌++◌, Bool, true, false, cond, Option, Some, None, refl, subst, sym, length-append, arith}
 use Rattle.std.proofs.lemmas.List.{append-nil}
-use Rattle.som_read.specs.Languages.{Listed, Repeated}
-use Rattle.som_read.specs.Tokens.{is_sign, same_key, word}
-use Rattle.som_read.specs.declared.token.Key.{Key}
-use Rattle.som_read.specs.declared.token.Key.TheVariants as key
-use Rattle.som_read.specs.declared.token.Sign.TheVariants as sign
-use Rattle.som_read.specs.declared.token.Token.{Token}
-use Rattle.som_read.specs.declared.token.Token.TheVariants as token
-use Rattle.som_syntax.specs.declared.words.TypeName.{TypeName}
-use Rattle.som_syntax.specs.declared.words.TypeName.TheVariants as types
-use Rattle.som_syntax.specs.declared.interface.Item.{Item}
-use Rattle.som_syntax.specs.declared.interface.Item.TheVariants as items
+use Rattle.som_parse.specs.Languages.{Listed, Repeated}
+use Rattle.som_parse.specs.Tokens.{is_sign, same_key, word}
+use Rattle.som_parse.specs.declared.token.Key.{Key}
+use Rattle.som_parse.specs.declared.token.Key.TheVariants as key
+use Rattle.som_parse.specs.declared.token.Sign.TheVariants as sign
+use Rattle.som_parse.specs.declared.token.Token.{Token}
+use Rattle.som_parse.specs.declared.token.Token.TheVariants as token
+use Rattle.som_ast.specs.declared.words.TypeName.{TypeName}
+use Rattle.som_ast.specs.declared.words.TypeName.TheVariants as types
+use Rattle.som_ast.specs.declared.interface.Item.{Item}
+use Rattle.som_ast.specs.declared.interface.Item.TheVariants as items
 use Rattle.som_idl.specs.declared.item.Setting.TheVariants as settings
 use Rattle.som_idl.specs.Grammar as g
 use Rattle.som_idl.specs.Reading as r
-use Rattle.som_read.proofs.Laws.{Lawful, wider, bind_law, pure_law, when_law, after_law}
-use Rattle.som_read.proofs.Steps.{IsTaken, it_is_taken, take_word_law, IsNumber, the_number, number_law, after_sign, after_key, expect_then, keyword_then, same_key_is, same_key_differs}
-use Rattle.som_read.proofs.Repetition.{listed_law, repeated_law}
-use Rattle.som_read.proofs.Turns.{IsLong}
+use Rattle.som_parse.proofs.Laws.{Lawful, wider, bind_law, pure_law, when_law, after_law}
+use Rattle.som_parse.proofs.Steps.{IsTaken, it_is_taken, take_word_law, IsNumber, the_number, number_law, after_sign, after_key, expect_then, keyword_then, same_key_is, same_key_differs}
+use Rattle.som_parse.proofs.Repetition.{listed_law, repeated_law}
+use Rattle.som_parse.proofs.Turns.{IsLong}
 use Rattle.som_idl.proofs.NameLaws.{name_law, names_law}
 
 module _ (text_at : ℕ → List ℕ) where

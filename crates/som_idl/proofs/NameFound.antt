@@ -1,24 +1,24 @@
 -- What the grammar derives as a name, a type, a parameter or an export is read, whatever follows.
 use Rattle.std.proofs.Common.{◌≡◌, ℕ, List, [], ◌∷◌, ◌++◌, Bool, true, false, Option, Ok, refl, append_assoc}
-use Rattle.som_read.specs.Languages.{Listed, Repeated, Kept, it_is_kept}
-use Rattle.som_read.specs.Readers.{listed, keeping}
-use Rattle.som_read.specs.Tokens.{head, is_sign, same_sign, same_key, word}
-use Rattle.som_read.specs.declared.token.Key.{Key}
-use Rattle.som_read.specs.declared.token.Key.TheVariants as key
-use Rattle.som_read.specs.declared.token.Sign.TheVariants as sign
-use Rattle.som_read.specs.declared.token.Token.{Token}
-use Rattle.som_read.specs.declared.token.Token.TheVariants as token
-use Rattle.som_syntax.specs.declared.words.TypeName.{TypeName}
-use Rattle.som_syntax.specs.declared.words.TypeName.TheVariants as types
-use Rattle.som_syntax.specs.declared.words.Word.{Word}
-use Rattle.som_syntax.specs.declared.interface.Export.{Export}
-use Rattle.som_syntax.specs.declared.interface.Export.TheVariants as exports
-use Rattle.som_syntax.specs.declared.interface.Param.{Param}
+use Rattle.som_parse.specs.Languages.{Listed, Repeated, Kept, it_is_kept}
+use Rattle.som_parse.specs.Readers.{listed, keeping}
+use Rattle.som_parse.specs.Tokens.{head, is_sign, same_sign, same_key, word}
+use Rattle.som_parse.specs.declared.token.Key.{Key}
+use Rattle.som_parse.specs.declared.token.Key.TheVariants as key
+use Rattle.som_parse.specs.declared.token.Sign.TheVariants as sign
+use Rattle.som_parse.specs.declared.token.Token.{Token}
+use Rattle.som_parse.specs.declared.token.Token.TheVariants as token
+use Rattle.som_ast.specs.declared.words.TypeName.{TypeName}
+use Rattle.som_ast.specs.declared.words.TypeName.TheVariants as types
+use Rattle.som_ast.specs.declared.words.Word.{Word}
+use Rattle.som_ast.specs.declared.interface.Export.{Export}
+use Rattle.som_ast.specs.declared.interface.Export.TheVariants as exports
+use Rattle.som_ast.specs.declared.interface.Param.{Param}
 use Rattle.som_idl.specs.Grammar as g
 use Rattle.som_idl.specs.Reading as r
-use Rattle.som_read.proofs.Steps.{same_sign_self, apart_key}
-use Rattle.som_read.proofs.Found.{expect_found, keyword_found, take_word_found, listed_found, repeated_found, keeping_found, StartsWith, starts_more, not_key, not_sign, listed_starts}
-use Rattle.som_read.proofs.Turns.{IsLong}
+use Rattle.som_parse.proofs.Steps.{same_sign_self, apart_key}
+use Rattle.som_parse.proofs.Found.{expect_found, keyword_found, take_word_found, listed_found, repeated_found, keeping_found, StartsWith, starts_more, not_key, not_sign, listed_starts}
+use Rattle.som_parse.proofs.Turns.{IsLong}
 use Rattle.som_idl.proofs.NameLaws.{long_export}
 
 -- ---- first words

@@ -1,22 +1,22 @@
 -- The readers of names, types, parameters and exports read their languages.
 use Rattle.std.proofs.Common.{◌≡◌, ℕ, List, [], ◌∷◌, Bool, true, false, cond, Option, Some, None, refl, subst, length-append, arith}
 use Rattle.std.proofs.lemmas.List.{append-nil}
-use Rattle.som_read.specs.Languages.{Listed, Repeated, Kept, it_is_kept}
-use Rattle.som_read.specs.Readers.{listed, keeping}
-use Rattle.som_read.specs.Tokens.{is_key, word}
-use Rattle.som_read.specs.declared.token.Key.{Key}
-use Rattle.som_read.specs.declared.token.Key.TheVariants as key
-use Rattle.som_read.specs.declared.token.Sign.TheVariants as sign
-use Rattle.som_read.specs.declared.token.Token.{Token}
-use Rattle.som_read.specs.declared.token.Token.TheVariants as token
-use Rattle.som_syntax.specs.declared.words.Word.{Word}
-use Rattle.som_syntax.specs.declared.interface.Export.{Export}
+use Rattle.som_parse.specs.Languages.{Listed, Repeated, Kept, it_is_kept}
+use Rattle.som_parse.specs.Readers.{listed, keeping}
+use Rattle.som_parse.specs.Tokens.{is_key, word}
+use Rattle.som_parse.specs.declared.token.Key.{Key}
+use Rattle.som_parse.specs.declared.token.Key.TheVariants as key
+use Rattle.som_parse.specs.declared.token.Sign.TheVariants as sign
+use Rattle.som_parse.specs.declared.token.Token.{Token}
+use Rattle.som_parse.specs.declared.token.Token.TheVariants as token
+use Rattle.som_ast.specs.declared.words.Word.{Word}
+use Rattle.som_ast.specs.declared.interface.Export.{Export}
 use Rattle.som_idl.specs.Grammar as g
 use Rattle.som_idl.specs.Reading as r
-use Rattle.som_read.proofs.Laws.{Lawful, wider, bind_law, pure_law, when_law}
-use Rattle.som_read.proofs.Steps.{IsTaken, it_is_taken, take_word_law, after_sign, after_key, expect_then, keyword_then}
-use Rattle.som_read.proofs.Repetition.{listed_law, repeated_law, keeping_law}
-use Rattle.som_read.proofs.Turns.{IsLong}
+use Rattle.som_parse.proofs.Laws.{Lawful, wider, bind_law, pure_law, when_law}
+use Rattle.som_parse.proofs.Steps.{IsTaken, it_is_taken, take_word_law, after_sign, after_key, expect_then, keyword_then}
+use Rattle.som_parse.proofs.Repetition.{listed_law, repeated_law, keeping_law}
+use Rattle.som_parse.proofs.Turns.{IsLong}
 
 module _ (text_at : ℕ → List ℕ) where
   named_by : (b : Bool) (k : Key) (p : ℕ) (a : Word) → g.is_name k ≡ b → ◌≡◌ {A = Option Word} (cond b (Some (word text_at p)) None) (Some a) → g.IsName text_at (token.Word k p ∷ []) a

@@ -1,21 +1,21 @@
 -- What reading a whole file comes to, in the grammar's words.
 use Rattle.std.proofs.Common.{◌≡◌, ◌≢◌, ℕ, ◌-◌, List, [], length, get_or, Bool, true, false, Result, Ok, Err, refl, sym, ◌∙◌, ap, subst}
 use Rattle.som_lex.specs.declared.token.Tokens.{Tokens}
-use Rattle.som_read.specs.Faults.{IsFirstFault, seen_at}
-use Rattle.som_read.specs.Readers.{Outcome, repeated}
-use Rattle.som_read.specs.Seen.{seen, places_from, text_at}
-use Rattle.som_read.specs.Tokens.{head}
-use Rattle.som_read.specs.declared.cursor.Stop.{Stop}
-use Rattle.som_read.specs.declared.token.Token.{Token}
-use Rattle.som_read.specs.declared.fault.SyntaxFault.{SyntaxFault}
-use Rattle.som_read.specs.declared.fault.SyntaxFault.TheVariants as faults
+use Rattle.som_parse.specs.Faults.{IsFirstFault, seen_at}
+use Rattle.som_parse.specs.Readers.{Outcome, repeated}
+use Rattle.som_parse.specs.Seen.{seen, places_from, text_at}
+use Rattle.som_parse.specs.Tokens.{head}
+use Rattle.som_parse.specs.declared.cursor.Stop.{Stop}
+use Rattle.som_parse.specs.declared.token.Token.{Token}
+use Rattle.som_parse.specs.declared.fault.SyntaxFault.{SyntaxFault}
+use Rattle.som_parse.specs.declared.fault.SyntaxFault.TheVariants as faults
 use Rattle.som_idl.specs.Answer.{IsAnswer, is_refused}
 use Rattle.som_idl.specs.Grammar as g
 use Rattle.som_idl.specs.Reading as r
-use Rattle.som_syntax.specs.declared.interface.IdlFile.{IdlFile}
-use Rattle.som_syntax.specs.declared.interface.IdlInterface.{IdlInterface}
-use Rattle.som_read.proofs.FirstFault.{place_of, first_fault, fault_or_text, one_fault}
-use Rattle.som_read.proofs.Whole.{read_whole, read_fails, one_value, ends}
+use Rattle.som_ast.specs.declared.interface.IdlFile.{IdlFile}
+use Rattle.som_ast.specs.declared.interface.IdlInterface.{IdlInterface}
+use Rattle.som_parse.proofs.FirstFault.{place_of, first_fault, fault_or_text, one_fault}
+use Rattle.som_parse.proofs.Whole.{read_whole, read_fails, one_value, ends}
 use Rattle.som_idl.proofs.FileFound.{file_found}
 use Rattle.som_idl.proofs.FileLaws.{file_law}
 

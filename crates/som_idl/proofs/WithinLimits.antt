@@ -10,21 +10,21 @@ use Rattle.som_lex.specs.declared.token.TokenKind.TheVariants as kinds
 use Rattle.som_lex.specs.declared.token.Tokens.{Tokens}
 use Rattle.som_lex.specs.Spans.{IsSpelled, bytes_of}
 use Rattle.som_lex.specs.Spelling.{FitsLimit}
-use Rattle.som_read.specs.Languages.{Lang, Listed, Repeated, Kept, the_first, the_next, nothing_yet, one_kept, one_left_out, it_is_kept}
-use Rattle.som_read.specs.Seen.{seen, seen_as, seen_from, text_at, token_of, is_left_out}
-use Rattle.som_read.specs.declared.token.Token.{Token}
-use Rattle.som_read.specs.declared.token.Token.TheVariants as token
-use Rattle.som_syntax.specs.declared.words.TypeName.{TypeName}
-use Rattle.som_syntax.specs.declared.words.Word.{Word}
+use Rattle.som_parse.specs.Languages.{Lang, Listed, Repeated, Kept, the_first, the_next, nothing_yet, one_kept, one_left_out, it_is_kept}
+use Rattle.som_parse.specs.Seen.{seen, seen_as, seen_from, text_at, token_of, is_left_out}
+use Rattle.som_parse.specs.declared.token.Token.{Token}
+use Rattle.som_parse.specs.declared.token.Token.TheVariants as token
+use Rattle.som_ast.specs.declared.words.TypeName.{TypeName}
+use Rattle.som_ast.specs.declared.words.Word.{Word}
 use Rattle.som_idl.specs.Grammar as g
 use Rattle.som_idl.specs.Within.{WordWithin, VersionWithin, TypeWithin, ResultWithin, ParamWithin, ExportWithin, ModifierWithin, ItemWithin, InterfaceWithin, FileWithin}
 use Rattle.som_model.specs.declared.limits.TheConstants.{MAX_NAME}
-use Rattle.som_syntax.specs.declared.interface.Export.{Export}
-use Rattle.som_syntax.specs.declared.interface.IdlFile.{IdlFile}
-use Rattle.som_syntax.specs.declared.interface.IdlInterface.{IdlInterface}
-use Rattle.som_syntax.specs.declared.interface.Item.{Item}
-use Rattle.som_syntax.specs.declared.interface.Modifier.{Modifier}
-use Rattle.som_syntax.specs.declared.interface.Param.{Param}
+use Rattle.som_ast.specs.declared.interface.Export.{Export}
+use Rattle.som_ast.specs.declared.interface.IdlFile.{IdlFile}
+use Rattle.som_ast.specs.declared.interface.IdlInterface.{IdlInterface}
+use Rattle.som_ast.specs.declared.interface.Item.{Item}
+use Rattle.som_ast.specs.declared.interface.Modifier.{Modifier}
+use Rattle.som_ast.specs.declared.interface.Param.{Param}
 
 -- a word is no longer than a name may be, and a number is one that a version may have
 abbrev pub TokenWithin : (ℕ → List ℕ) → Token → Type 0

@@ -1,15 +1,15 @@
 -- What `parse_idl` may answer.
 use Rattle.std.specs.Prelude.{◌≡◌, Bool, true, false, Option, Some, Result, Ok, Err}
 use Rattle.som_lex.specs.declared.token.Tokens.{Tokens}
-use Rattle.som_read.specs.Faults.{IsFirstFault, seen_at}
-use Rattle.som_read.specs.Seen.{seen, text_at}
-use Rattle.som_read.specs.declared.token.Key.TheVariants as key
-use Rattle.som_read.specs.declared.token.Token.{Token}
-use Rattle.som_read.specs.declared.token.Token.TheVariants as token
-use Rattle.som_read.specs.declared.fault.SyntaxFault.{SyntaxFault}
-use Rattle.som_read.specs.declared.fault.SyntaxFault.TheVariants as faults
+use Rattle.som_parse.specs.Faults.{IsFirstFault, seen_at}
+use Rattle.som_parse.specs.Seen.{seen, text_at}
+use Rattle.som_parse.specs.declared.token.Key.TheVariants as key
+use Rattle.som_parse.specs.declared.token.Token.{Token}
+use Rattle.som_parse.specs.declared.token.Token.TheVariants as token
+use Rattle.som_parse.specs.declared.fault.SyntaxFault.{SyntaxFault}
+use Rattle.som_parse.specs.declared.fault.SyntaxFault.TheVariants as faults
 use Rattle.som_idl.specs.Grammar.{IsFile}
-use Rattle.som_syntax.specs.declared.interface.IdlFile.{IdlFile}
+use Rattle.som_ast.specs.declared.interface.IdlFile.{IdlFile}
 
 -- a directive that isn't ignored, or a word that no interface file may have
 abbrev pub is_refused : Option Token → Bool

@@ -1,24 +1,24 @@
 -- The grammar of interface files. `IsFile text_at u f`: the tokens u are a file, and f is its tree, where text_at gives the text of the word at each place.
 use Rattle.std.specs.Prelude.{◌≡◌, ◌≢◌, ℕ, Bool, true, false, List, [], ◌∷◌, ◌++◌, Option, Some, None}
-use Rattle.som_read.specs.Languages.{Listed, Repeated, Kept}
-use Rattle.som_read.specs.Tokens.{word}
-use Rattle.som_read.specs.declared.token.Key.{Key}
-use Rattle.som_read.specs.declared.token.Key.TheVariants as key
-use Rattle.som_read.specs.declared.token.Sign.TheVariants as sign
-use Rattle.som_read.specs.declared.token.Token.{Token}
-use Rattle.som_read.specs.declared.token.Token.TheVariants as token
-use Rattle.som_syntax.specs.declared.words.TypeName.{TypeName}
-use Rattle.som_syntax.specs.declared.words.TypeName.TheVariants as types
-use Rattle.som_syntax.specs.declared.words.Word.{Word}
-use Rattle.som_syntax.specs.declared.interface.Export.{Export}
-use Rattle.som_syntax.specs.declared.interface.Export.TheVariants as exports
-use Rattle.som_syntax.specs.declared.interface.IdlFile.{IdlFile}
-use Rattle.som_syntax.specs.declared.interface.IdlInterface.{IdlInterface}
-use Rattle.som_syntax.specs.declared.interface.Item.{Item}
-use Rattle.som_syntax.specs.declared.interface.Item.TheVariants as items
-use Rattle.som_syntax.specs.declared.interface.Modifier.{Modifier}
-use Rattle.som_syntax.specs.declared.interface.Modifier.TheVariants as modifiers
-use Rattle.som_syntax.specs.declared.interface.Param.{Param}
+use Rattle.som_parse.specs.Languages.{Listed, Repeated, Kept}
+use Rattle.som_parse.specs.Tokens.{word}
+use Rattle.som_parse.specs.declared.token.Key.{Key}
+use Rattle.som_parse.specs.declared.token.Key.TheVariants as key
+use Rattle.som_parse.specs.declared.token.Sign.TheVariants as sign
+use Rattle.som_parse.specs.declared.token.Token.{Token}
+use Rattle.som_parse.specs.declared.token.Token.TheVariants as token
+use Rattle.som_ast.specs.declared.words.TypeName.{TypeName}
+use Rattle.som_ast.specs.declared.words.TypeName.TheVariants as types
+use Rattle.som_ast.specs.declared.words.Word.{Word}
+use Rattle.som_ast.specs.declared.interface.Export.{Export}
+use Rattle.som_ast.specs.declared.interface.Export.TheVariants as exports
+use Rattle.som_ast.specs.declared.interface.IdlFile.{IdlFile}
+use Rattle.som_ast.specs.declared.interface.IdlInterface.{IdlInterface}
+use Rattle.som_ast.specs.declared.interface.Item.{Item}
+use Rattle.som_ast.specs.declared.interface.Item.TheVariants as items
+use Rattle.som_ast.specs.declared.interface.Modifier.{Modifier}
+use Rattle.som_ast.specs.declared.interface.Modifier.TheVariants as modifiers
+use Rattle.som_ast.specs.declared.interface.Param.{Param}
 
 -- whether a word may be a name: it is neither refused nor one of these words, which always have their meaning
 abbrev pub is_name : Key → Bool

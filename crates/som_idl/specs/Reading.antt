@@ -1,27 +1,27 @@
 -- The readers of the grammar, with one token in hand.
 use Rattle.std.specs.Prelude.{ℕ, Bool, true, false, if◌then◌else◌, List, [], Option, Some, None}
-use Rattle.som_read.specs.Readers.{Parser, ◌>>=◌, ◌>>◌, pure, when, after, expect, keyword, number, take_word, end, listed, repeated, keeping}
-use Rattle.som_read.specs.Tokens.{is_sign, is_key, same_key, word}
-use Rattle.som_read.specs.declared.token.Key.{Key}
-use Rattle.som_read.specs.declared.token.Key.TheVariants as key
-use Rattle.som_read.specs.declared.token.Sign.TheVariants as sign
-use Rattle.som_read.specs.declared.token.Token.{Token}
-use Rattle.som_read.specs.declared.token.Token.TheVariants as token
-use Rattle.som_syntax.specs.declared.words.TypeName.{TypeName}
-use Rattle.som_syntax.specs.declared.words.TypeName.TheVariants as types
-use Rattle.som_syntax.specs.declared.words.Word.{Word}
+use Rattle.som_parse.specs.Readers.{Parser, ◌>>=◌, ◌>>◌, pure, when, after, expect, keyword, number, take_word, end, listed, repeated, keeping}
+use Rattle.som_parse.specs.Tokens.{is_sign, is_key, same_key, word}
+use Rattle.som_parse.specs.declared.token.Key.{Key}
+use Rattle.som_parse.specs.declared.token.Key.TheVariants as key
+use Rattle.som_parse.specs.declared.token.Sign.TheVariants as sign
+use Rattle.som_parse.specs.declared.token.Token.{Token}
+use Rattle.som_parse.specs.declared.token.Token.TheVariants as token
+use Rattle.som_ast.specs.declared.words.TypeName.{TypeName}
+use Rattle.som_ast.specs.declared.words.TypeName.TheVariants as types
+use Rattle.som_ast.specs.declared.words.Word.{Word}
 use Rattle.som_idl.specs.Grammar.{is_name}
 use Rattle.som_idl.specs.declared.item.Setting.{Setting}
 use Rattle.som_idl.specs.declared.item.Setting.TheVariants as settings
-use Rattle.som_syntax.specs.declared.interface.Export.{Export}
-use Rattle.som_syntax.specs.declared.interface.Export.TheVariants as exports
-use Rattle.som_syntax.specs.declared.interface.IdlFile.{IdlFile}
-use Rattle.som_syntax.specs.declared.interface.IdlInterface.{IdlInterface}
-use Rattle.som_syntax.specs.declared.interface.Item.{Item}
-use Rattle.som_syntax.specs.declared.interface.Item.TheVariants as items
-use Rattle.som_syntax.specs.declared.interface.Modifier.{Modifier}
-use Rattle.som_syntax.specs.declared.interface.Modifier.TheVariants as modifiers
-use Rattle.som_syntax.specs.declared.interface.Param.{Param}
+use Rattle.som_ast.specs.declared.interface.Export.{Export}
+use Rattle.som_ast.specs.declared.interface.Export.TheVariants as exports
+use Rattle.som_ast.specs.declared.interface.IdlFile.{IdlFile}
+use Rattle.som_ast.specs.declared.interface.IdlInterface.{IdlInterface}
+use Rattle.som_ast.specs.declared.interface.Item.{Item}
+use Rattle.som_ast.specs.declared.interface.Item.TheVariants as items
+use Rattle.som_ast.specs.declared.interface.Modifier.{Modifier}
+use Rattle.som_ast.specs.declared.interface.Modifier.TheVariants as modifiers
+use Rattle.som_ast.specs.declared.interface.Param.{Param}
 
 -- what a word sets that stands directly before "="
 abbrev pub setting_of : Key → Option Setting

@@ -1,18 +1,18 @@
 -- Trees whose names and version numbers are within their limits, as those of texts are.
 use Rattle.std.specs.Prelude.{ℕ, ◌≤◌, ⊤, length, All, Option, IfSome}
 use Rattle.som_model.specs.declared.limits.TheConstants.{MAX_NAME, MAX_VERSION}
-use Rattle.som_syntax.specs.declared.words.TypeName.{TypeName}
-use Rattle.som_syntax.specs.declared.words.TypeName.TheVariants as types
-use Rattle.som_syntax.specs.declared.words.Word.{Word}
-use Rattle.som_syntax.specs.declared.interface.Export.{Export}
-use Rattle.som_syntax.specs.declared.interface.Export.TheVariants as exports
-use Rattle.som_syntax.specs.declared.interface.IdlFile.{IdlFile}
-use Rattle.som_syntax.specs.declared.interface.IdlInterface.{IdlInterface}
-use Rattle.som_syntax.specs.declared.interface.Item.{Item}
-use Rattle.som_syntax.specs.declared.interface.Item.TheVariants as items
-use Rattle.som_syntax.specs.declared.interface.Modifier.{Modifier}
-use Rattle.som_syntax.specs.declared.interface.Modifier.TheVariants as modifiers
-use Rattle.som_syntax.specs.declared.interface.Param.{Param}
+use Rattle.som_ast.specs.declared.words.TypeName.{TypeName}
+use Rattle.som_ast.specs.declared.words.TypeName.TheVariants as types
+use Rattle.som_ast.specs.declared.words.Word.{Word}
+use Rattle.som_ast.specs.declared.interface.Export.{Export}
+use Rattle.som_ast.specs.declared.interface.Export.TheVariants as exports
+use Rattle.som_ast.specs.declared.interface.IdlFile.{IdlFile}
+use Rattle.som_ast.specs.declared.interface.IdlInterface.{IdlInterface}
+use Rattle.som_ast.specs.declared.interface.Item.{Item}
+use Rattle.som_ast.specs.declared.interface.Item.TheVariants as items
+use Rattle.som_ast.specs.declared.interface.Modifier.{Modifier}
+use Rattle.som_ast.specs.declared.interface.Modifier.TheVariants as modifiers
+use Rattle.som_ast.specs.declared.interface.Param.{Param}
 
 abbrev pub WordWithin : Word → Type 0
 WordWithin w = length w.text ≤ MAX_NAME

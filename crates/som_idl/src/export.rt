@@ -1,17 +1,17 @@
 //! Attributes and operations.
 
 ghost use Rattle.som_idl.specs.Reading as spec;
-ghost use Rattle.som_read.specs.Answer.{Answers};
-ghost use Rattle.som_read.specs.Readers.{another, keeping, listed, one_more};
-ghost use Rattle.som_read.specs.Seen.{text_at};
-ghost use Rattle.som_read.specs.Tokens.{head};
+ghost use Rattle.som_parse.specs.Answer.{Answers};
+ghost use Rattle.som_parse.specs.Readers.{another, keeping, listed, one_more};
+ghost use Rattle.som_parse.specs.Seen.{text_at};
+ghost use Rattle.som_parse.specs.Tokens.{head};
 ghost use Rattle.std.specs.Prelude.{◌≡◌};
 
 use crate::name::{kind, name, names, outcome};
+use som_ast::{Export, Param};
 use som_lex::Tokens;
 use som_model::List;
-use som_read::{Cursor, Key, Sign, Stop, Turn};
-use som_syntax::{Export, Param};
+use som_parse::{Cursor, Key, Sign, Stop, Turn};
 use std::alloc::Global;
 
 #[tactic(auto, unfolding(crate::specs::Reading::param))]
@@ -42,7 +42,7 @@ fn next_param(
     Ok(Turn::More(params))
 }
 
-#[tactic(auto, unfolding(som_read::specs::Readers::listed, som_read::specs::Readers::repeat))]
+#[tactic(auto, unfolding(som_parse::specs::Readers::listed, som_parse::specs::Readers::repeat))]
 fn some_params(alloc: Global, tokens: &Tokens, left: &mut Cursor<'_>) -> Result<List<Param>, Stop>
     ensures { Answers (listed (spec.param (text_at tokens.now)) left.old.rest.now) result left.new.rest.now }
 {
@@ -145,7 +145,7 @@ fn next_export(
 }
 
 /// The exports up to the implementation section or the end of the interface.
-#[tactic(auto, unfolding(crate::specs::Reading::exports_at, som_read::specs::Readers::repeated, som_read::specs::Readers::repeat))]
+#[tactic(auto, unfolding(crate::specs::Reading::exports_at, som_parse::specs::Readers::repeated, som_parse::specs::Readers::repeat))]
 pub(crate) fn exports(
     alloc: Global,
     tokens: &Tokens,

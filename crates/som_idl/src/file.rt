@@ -1,19 +1,19 @@
 //! Implementation sections, interfaces and files.
 
 ghost use Rattle.som_idl.specs.Reading as spec;
-ghost use Rattle.som_read.specs.Answer.{Answers};
-ghost use Rattle.som_read.specs.Readers.{one_more, repeated};
-ghost use Rattle.som_read.specs.Seen.{text_at};
-ghost use Rattle.som_read.specs.Tokens.{head};
+ghost use Rattle.som_parse.specs.Answer.{Answers};
+ghost use Rattle.som_parse.specs.Readers.{one_more, repeated};
+ghost use Rattle.som_parse.specs.Seen.{text_at};
+ghost use Rattle.som_parse.specs.Tokens.{head};
 ghost use Rattle.std.specs.Prelude.{◌≡◌};
 
 use crate::export::exports;
 use crate::item::items;
 use crate::name::{name, names};
+use som_ast::{Export, IdlFile, IdlInterface, Item, Word};
 use som_lex::Tokens;
 use som_model::List;
-use som_read::{Cursor, Key, Sign, Stop, Turn};
-use som_syntax::{Export, IdlFile, IdlInterface, Item, Word};
+use som_parse::{Cursor, Key, Sign, Stop, Turn};
 use std::alloc::Global;
 
 // The items of the implementation section, if there is one, and the exports after it.
@@ -119,7 +119,7 @@ fn next_entry(
     Ok(Turn::More(interfaces))
 }
 
-#[tactic(auto, unfolding(som_read::specs::Readers::repeated, som_read::specs::Readers::repeat))]
+#[tactic(auto, unfolding(som_parse::specs::Readers::repeated, som_parse::specs::Readers::repeat))]
 fn entries(
     alloc: Global,
     tokens: &Tokens,

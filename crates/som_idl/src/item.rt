@@ -1,18 +1,18 @@
 //! The items of an implementation section.
 
 ghost use Rattle.som_idl.specs.Reading as spec;
-ghost use Rattle.som_read.specs.Answer.{Answers};
-ghost use Rattle.som_read.specs.Readers.{another, listed, one_more};
-ghost use Rattle.som_read.specs.Seen.{text_at};
-ghost use Rattle.som_read.specs.Tokens.{is_sign};
-ghost use Rattle.som_read.specs.declared.token.Sign.TheVariants as signs;
+ghost use Rattle.som_parse.specs.Answer.{Answers};
+ghost use Rattle.som_parse.specs.Readers.{another, listed, one_more};
+ghost use Rattle.som_parse.specs.Seen.{text_at};
+ghost use Rattle.som_parse.specs.Tokens.{is_sign};
+ghost use Rattle.som_parse.specs.declared.token.Sign.TheVariants as signs;
 ghost use Rattle.std.specs.Prelude.{◌≡◌};
 
 use crate::name::{is_name, name, names};
+use som_ast::{Item, Modifier, TypeName};
 use som_lex::Tokens;
 use som_model::List;
-use som_read::{Cursor, Key, Sign, Stop, Token, Turn, word_at};
-use som_syntax::{Item, Modifier, TypeName};
+use som_parse::{Cursor, Key, Sign, Stop, Token, Turn, word_at};
 use std::alloc::Global;
 
 #[tactic(auto, unfolding(crate::specs::Reading::modifier))]
@@ -62,7 +62,7 @@ fn next_modifier(
     Ok(Turn::More(modifiers))
 }
 
-#[tactic(auto, unfolding(som_read::specs::Readers::listed, som_read::specs::Readers::repeat))]
+#[tactic(auto, unfolding(som_parse::specs::Readers::listed, som_parse::specs::Readers::repeat))]
 fn modifiers(alloc: Global, tokens: &Tokens, left: &mut Cursor<'_>) -> Result<List<Modifier>, Stop>
     ensures { Answers (listed (spec.modifier (text_at tokens.now)) left.old.rest.now) result left.new.rest.now }
 {
@@ -217,7 +217,7 @@ fn set(
 }
 
 // After a name that stands at a place.
-#[tactic(auto, unfolding(crate::specs::Reading::named_item, som_read::specs::Tokens::same_key))]
+#[tactic(auto, unfolding(crate::specs::Reading::named_item, som_parse::specs::Tokens::same_key))]
 fn named_item(
     alloc: Global,
     tokens: &Tokens,
@@ -238,7 +238,7 @@ fn named_item(
 }
 
 /// An item, or none where it is left out of the tree.
-#[tactic(auto, unfolding(crate::specs::Reading::item, som_read::specs::Readers::take_word))]
+#[tactic(auto, unfolding(crate::specs::Reading::item, som_parse::specs::Readers::take_word))]
 fn item(alloc: Global, tokens: &Tokens, left: &mut Cursor<'_>) -> Result<Option<Item>, Stop>
     ensures { Answers (spec.item (text_at tokens.now) left.old.rest.now) result left.new.rest.now }
 {
@@ -286,7 +286,7 @@ fn next_item(
 }
 
 /// The items up to the closing brace.
-#[tactic(auto, unfolding(crate::specs::Reading::items_at, som_read::specs::Readers::repeated, som_read::specs::Readers::repeat))]
+#[tactic(auto, unfolding(crate::specs::Reading::items_at, som_parse::specs::Readers::repeated, som_parse::specs::Readers::repeat))]
 pub(crate) fn items(
     alloc: Global,
     tokens: &Tokens,

@@ -2,12 +2,12 @@
 
 ghost use Rattle.som_idl.specs.Answer.{IsAnswer};
 ghost use Rattle.som_idl.specs.Grammar.{IsFile};
-ghost use Rattle.som_syntax.specs.declared.interface.IdlFile.{IdlFile};
+ghost use Rattle.som_ast.specs.declared.interface.IdlFile.{IdlFile};
 ghost use Rattle.som_lex.specs.declared.token.Tokens.{Tokens};
-ghost use Rattle.som_read.specs.Seen.{text_at};
-ghost use Rattle.som_read.specs.declared.token.Token.{Token};
-ghost use Rattle.som_read.specs.declared.fault.SyntaxFault.{SyntaxFault};
-ghost use Rattle.som_read.specs.declared.fault.SyntaxFault.TheVariants as faults;
+ghost use Rattle.som_parse.specs.Seen.{text_at};
+ghost use Rattle.som_parse.specs.declared.token.Token.{Token};
+ghost use Rattle.som_parse.specs.declared.fault.SyntaxFault.{SyntaxFault};
+ghost use Rattle.som_parse.specs.declared.fault.SyntaxFault.TheVariants as faults;
 ghost use Rattle.std.specs.Prelude.{◌≡◌, ◌≢◌, List, Result};
 
 /// The grammar derives no tokens as two trees.

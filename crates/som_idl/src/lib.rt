@@ -13,4 +13,4 @@ mod parse;
 
 pub use laws::{one_answer, one_tree, some_answer};
 pub use parse::parse_idl;
-pub use som_read::SyntaxFault;
+pub use som_parse::SyntaxFault;

@@ -2,15 +2,15 @@
 
 ghost use Rattle.som_idl.specs.Grammar.{is_name as is_name_of};
 ghost use Rattle.som_idl.specs.Reading as spec;
-ghost use Rattle.som_read.specs.Answer.{Answers};
-ghost use Rattle.som_read.specs.Readers.{another, listed};
-ghost use Rattle.som_read.specs.Seen.{text_at};
+ghost use Rattle.som_parse.specs.Answer.{Answers};
+ghost use Rattle.som_parse.specs.Readers.{another, listed};
+ghost use Rattle.som_parse.specs.Seen.{text_at};
 ghost use Rattle.std.specs.Prelude.{◌≡◌};
 
+use som_ast::{TypeName, Word};
 use som_lex::Tokens;
 use som_model::List;
-use som_read::{Cursor, Key, Sign, Stop, Token, Turn, word_at};
-use som_syntax::{TypeName, Word};
+use som_parse::{Cursor, Key, Sign, Stop, Token, Turn, word_at};
 use std::alloc::Global;
 
 pub(crate) fn is_name(key: Key) -> bool
@@ -33,7 +33,7 @@ pub(crate) fn is_name(key: Key) -> bool
     }
 }
 
-#[tactic(auto, unfolding(crate::specs::Reading::name, som_read::specs::Readers::take_word))]
+#[tactic(auto, unfolding(crate::specs::Reading::name, som_parse::specs::Readers::take_word))]
 pub(crate) fn name(alloc: Global, tokens: &Tokens, left: &mut Cursor<'_>) -> Result<Word, Stop>
     ensures { Answers (spec.name (text_at tokens.now) left.old.rest.now) result left.new.rest.now }
 {
@@ -69,7 +69,7 @@ fn next_name(
 }
 
 /// At least one name, with commas between.
-#[tactic(auto, unfolding(som_read::specs::Readers::listed, som_read::specs::Readers::repeat))]
+#[tactic(auto, unfolding(som_parse::specs::Readers::listed, som_parse::specs::Readers::repeat))]
 pub(crate) fn names(
     alloc: Global,
     tokens: &Tokens,

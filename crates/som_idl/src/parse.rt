@@ -4,16 +4,16 @@ ghost use Rattle.som_idl.specs.Answer.{IsAnswer, is_refused as is_refused_of};
 ghost use Rattle.som_lex.specs.Spans.{IsSpelled};
 ghost use Rattle.som_idl.specs.Reading as spec;
 ghost use Rattle.som_idl.specs.Within.{FileWithin};
-ghost use Rattle.som_read.specs.Seen.{places_from, seen_from, text_at};
-ghost use Rattle.som_read.specs.Tokens.{head};
-ghost use Rattle.som_read.specs.declared.cursor.Stop.TheVariants as stops;
+ghost use Rattle.som_parse.specs.Seen.{places_from, seen_from, text_at};
+ghost use Rattle.som_parse.specs.Tokens.{head};
+ghost use Rattle.som_parse.specs.declared.cursor.Stop.TheVariants as stops;
 ghost use Rattle.std.specs.Prelude.{◌≡◌, ◌≢◌, All, IfOk};
 
 use crate::SyntaxFault;
 use crate::file::file;
+use som_ast::IdlFile;
 use som_lex::Tokens;
-use som_read::{Cursor, Key, Seen, Stop, Token, see};
-use som_syntax::IdlFile;
+use som_parse::{Cursor, Key, Seen, Stop, Token, see};
 use std::alloc::Global;
 
 fn is_refused(left: &Cursor<'_>) -> bool

@@ -30,7 +30,12 @@ pub struct MemStore {
 
 impl Drop for MemStore {
     fn drop(self) {
-        let MemStore { alloc: _, files, counter, failing } = self;
+        let MemStore {
+            alloc: _,
+            files,
+            counter,
+            failing,
+        } = self;
         drop(files);
         drop(counter);
         drop(failing);

@@ -6,10 +6,10 @@ use Rattle.som_model.specs.Bytes.{AreBytes}
 use Rattle.som_model.specs.Steps.{◌>>=◌}
 use Rattle.som_model.specs.Class.{interface_of}
 use Rattle.som_model.specs.Images.{library_image}
-use Rattle.som_fields.specs.declared.fault.ImageFault.{ImageFault}
-use Rattle.som_fields.specs.Fields.{Gives}
-use Rattle.som_fields.proofs.Parts.{bind_ok}
-use Rattle.som_classimage.specs.Interfaces.{NamesDiffer}
+use Rattle.som_image_fields.specs.declared.fault.ImageFault.{ImageFault}
+use Rattle.som_image_fields.specs.Fields.{Gives}
+use Rattle.som_image_fields.proofs.Parts.{bind_ok}
+use Rattle.som_image_classes.specs.Interfaces.{NamesDiffer}
 use Rattle.som_libimage.specs.declared.wire.WireRelease.{WireRelease}
 use Rattle.som_libimage.specs.Reading.{wire_at}
 use Rattle.som_libimage.specs.Naming.{release_named}

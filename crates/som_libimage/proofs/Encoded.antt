@@ -5,18 +5,18 @@ use Rattle.som_model.specs.Steps.{◌>>=◌}
 use Rattle.som_model.specs.Class.{interface_of}
 use Rattle.som_model.specs.Conforming.{ReleaseOk}
 use Rattle.som_model.specs.Images.{library_image}
-use Rattle.som_fields.specs.declared.fault.ImageFault.{ImageFault}
+use Rattle.som_image_fields.specs.declared.fault.ImageFault.{ImageFault}
 use Rattle.som_libimage.specs.declared.wire.WireRelease.{WireRelease}
 use Rattle.som_libimage.specs.Naming.{release_named}
 use Rattle.som_libimage.specs.Spelling as spelling
 use Rattle.som_libimage.specs.Spelling.{FitsRelease}
-use Rattle.som_classimage.specs.Interfaces.{NamesDiffer}
+use Rattle.som_image_classes.specs.Interfaces.{NamesDiffer}
 use Rattle.som_libimage.specs.Libraries.{library_at}
 use Rattle.som_libimage.specs.Limits.{IsWithinLimits}
 use Rattle.som_libimage.specs.Numbering.{release_numbered}
 use Rattle.som_libimage.proofs.LibraryFields.{wire_again}
 use Rattle.som_libimage.proofs.NamedReleases.{release_forth}
-use Rattle.som_classimage.proofs.Conforming.{conforming_names}
+use Rattle.som_image_classes.proofs.Conforming.{conforming_names}
 use Rattle.som_libimage.proofs.Ready.{ready}
 
 abbrev read : Release → Result Release ImageFault

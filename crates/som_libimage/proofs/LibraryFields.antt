@@ -4,19 +4,19 @@ use Rattle.std.specs.Prelude.{nat_lt, codes}
 use Rattle.std.specs.List.{flat_map}
 use Rattle.som_model.specs.Bytes.{AreBytes}
 use Rattle.som_model.specs.Steps.{◌>>=◌}
-use Rattle.som_fields.specs.declared.fault.ImageFault.{ImageFault}
-use Rattle.som_fields.specs.declared.fault.ImageFault.TheVariants as faults
-use Rattle.som_fields.specs.declared.read.Read.{Read}
-use Rattle.som_fields.specs.declared.face.WireFace.{WireFace}
-use Rattle.som_fields.specs.Fields.{Stands, done}
-use Rattle.som_fields.proofs.Parts.{IsField, Stands-join, guard_no, came, took, went}
-use Rattle.som_spelling.specs.declared.syntax.WirePart.{WirePart}
-use Rattle.som_spelling.specs.declared.selects.WireSelects.{WireSelects}
-use Rattle.som_spelling.specs.Spelling.{part}
-use Rattle.som_classimage.specs.ReadClasses.{ranges_of, faces_at, parts_at, section_at, head_at, at_end}
-use Rattle.som_classimage.specs.SpelledClasses.{FitsParts, FitsFaces, head, section, version_with}
-use Rattle.som_classimage.proofs.ClassFields.{spell_faces, faces_field, ranges_short, parts_field, beginning, IsVersion, head_field, IsSection, section_field, all_bytes, stands_whole, ends_there}
-use Rattle.som_classimage.proofs.NamedSelects.{version_known}
+use Rattle.som_image_fields.specs.declared.fault.ImageFault.{ImageFault}
+use Rattle.som_image_fields.specs.declared.fault.ImageFault.TheVariants as faults
+use Rattle.som_image_fields.specs.declared.read.Read.{Read}
+use Rattle.som_image_fields.specs.declared.face.WireFace.{WireFace}
+use Rattle.som_image_fields.specs.Fields.{Stands, done}
+use Rattle.som_image_fields.proofs.Parts.{IsField, Stands-join, guard_no, came, took, went}
+use Rattle.som_image_fields.specs.declared.syntax.WirePart.{WirePart}
+use Rattle.som_image_fields.specs.declared.selects.WireSelects.{WireSelects}
+use Rattle.som_image_fields.specs.SyntaxSpelling.{part}
+use Rattle.som_image_classes.specs.ReadClasses.{ranges_of, faces_at, parts_at, section_at, head_at, at_end}
+use Rattle.som_image_classes.specs.SpelledClasses.{FitsParts, FitsFaces, head, section, version_with}
+use Rattle.som_image_classes.proofs.ClassFields.{spell_faces, faces_field, ranges_short, parts_field, beginning, IsVersion, head_field, IsSection, section_field, all_bytes, stands_whole, ends_there}
+use Rattle.som_image_classes.proofs.NamedSelects.{version_known}
 use Rattle.som_libimage.specs.declared.wire.WireRelease.{WireRelease}
 use Rattle.som_libimage.specs.Reading.{classes_at, wire_at}
 use Rattle.som_libimage.specs.Spelling.{bodies, classes, FitsRelease, library}

@@ -16,22 +16,22 @@ use Rattle.som_model.specs.Kernel.{kernel}
 use Rattle.som_model.specs.Classes.{library_classes}
 use Rattle.som_model.specs.Images as images
 use Rattle.som_model.specs.Images.{Spelled, ◌then◌, each, tag, where_it_is, image_version, library_image}
-use Rattle.som_fields.specs.declared.face.WireFace.{WireFace}
-use Rattle.som_fields.specs.declared.method.Ranges.{Ranges}
-use Rattle.som_fields.specs.Spelling as wire
-use Rattle.som_fields.specs.Spelling.{FitsFace}
-use Rattle.som_spelling.specs.declared.selects.WireSelects.{WireSelects}
-use Rattle.som_spelling.specs.Spelling as spelling
-use Rattle.som_naming.specs.declared.directory.Directory.{Directory}
-use Rattle.som_classimage.specs.ReadClasses.{ranges_of}
-use Rattle.som_classimage.specs.SpelledClasses.{FitsClass, FitsParts, FitsSection, version_with, section}
-use Rattle.som_naming.specs.Naming.{library_directory, ranges_in, entry_names, Tells, NoDoubles}
-use Rattle.som_classimage.specs.NamedClasses.{face_named, classes_named, with_selects}
-use Rattle.som_classimage.specs.Interfaces.{NamesDiffer}
-use Rattle.som_classimage.proofs.ClassPlaces.{fit_length, ranges_known}
-use Rattle.som_naming.proofs.Spelled.{some_bytes, bytes_are, split, guarded}
-use Rattle.som_classimage.proofs.NamedClasses.{distinct_of, faces_kept, as_many_classes, map_selecting, each_selecting, many_selecting, known_classes, told_selecting, as_many_keys, no_doubles, faces_forth, parts_forth, Pairs, pairs_back, directory_of}
-use Rattle.som_classimage.proofs.NamedSelects.{section_ascends, section_fits, section_forth, SectionBack, section_back}
+use Rattle.som_image_fields.specs.declared.face.WireFace.{WireFace}
+use Rattle.som_image_fields.specs.declared.method.Ranges.{Ranges}
+use Rattle.som_image_fields.specs.Spelling as wire
+use Rattle.som_image_fields.specs.Spelling.{FitsFace}
+use Rattle.som_image_fields.specs.declared.selects.WireSelects.{WireSelects}
+use Rattle.som_image_fields.specs.SyntaxSpelling as spelling
+use Rattle.som_image_decode.specs.declared.directory.Directory.{Directory}
+use Rattle.som_image_classes.specs.ReadClasses.{ranges_of}
+use Rattle.som_image_classes.specs.SpelledClasses.{FitsClass, FitsParts, FitsSection, version_with, section}
+use Rattle.som_image_decode.specs.Naming.{library_directory, ranges_in, entry_names, Tells, NoDoubles}
+use Rattle.som_image_classes.specs.NamedClasses.{face_named, classes_named, with_selects}
+use Rattle.som_image_classes.specs.Interfaces.{NamesDiffer}
+use Rattle.som_image_classes.proofs.ClassPlaces.{fit_length, ranges_known}
+use Rattle.som_image_decode.proofs.Spelled.{some_bytes, bytes_are, split, guarded}
+use Rattle.som_image_classes.proofs.NamedClasses.{distinct_of, faces_kept, as_many_classes, map_selecting, each_selecting, many_selecting, known_classes, told_selecting, as_many_keys, no_doubles, faces_forth, parts_forth, Pairs, pairs_back, directory_of}
+use Rattle.som_image_classes.proofs.NamedSelects.{section_ascends, section_fits, section_forth, SectionBack, section_back}
 use Rattle.som_libimage.specs.declared.wire.WireRelease.{WireRelease}
 use Rattle.som_libimage.specs.Spelling.{FitsRelease, library}
 use Rattle.som_libimage.specs.Naming.{release_named}

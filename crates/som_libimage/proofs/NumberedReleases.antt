@@ -14,28 +14,28 @@ use Rattle.som_model.specs.Class.{Class, class_in}
 use Rattle.som_model.specs.Rules.{name_of}
 use Rattle.som_model.specs.Kernel.{kernel}
 use Rattle.som_model.specs.Classes.{library_classes}
-use Rattle.som_fields.specs.declared.face.WireFace.{WireFace}
-use Rattle.som_fields.specs.declared.method.Ranges.{Ranges}
-use Rattle.som_fields.specs.Spelling.{FitsFace}
-use Rattle.som_spelling.specs.declared.syntax.WirePart.{WirePart}
-use Rattle.som_spelling.specs.declared.selects.WireSelects.{WireSelects}
-use Rattle.som_naming.specs.declared.directory.Directory.{Directory}
-use Rattle.som_classimage.specs.SpelledClasses.{FitsParts, FitsSection}
+use Rattle.som_image_fields.specs.declared.face.WireFace.{WireFace}
+use Rattle.som_image_fields.specs.declared.method.Ranges.{Ranges}
+use Rattle.som_image_fields.specs.Spelling.{FitsFace}
+use Rattle.som_image_fields.specs.declared.syntax.WirePart.{WirePart}
+use Rattle.som_image_fields.specs.declared.selects.WireSelects.{WireSelects}
+use Rattle.som_image_decode.specs.declared.directory.Directory.{Directory}
+use Rattle.som_image_classes.specs.SpelledClasses.{FitsParts, FitsSection}
 use Rattle.som_libimage.specs.Spelling.{FitsRelease}
-use Rattle.som_naming.specs.Naming.{names_in, kernel_directory, library_directory, ranges_in, Tells}
-use Rattle.som_classimage.specs.NamedClasses.{classes_named, with_selects}
+use Rattle.som_image_decode.specs.Naming.{names_in, kernel_directory, library_directory, ranges_in, Tells}
+use Rattle.som_image_classes.specs.NamedClasses.{classes_named, with_selects}
 use Rattle.som_libimage.specs.Naming.{release_named}
-use Rattle.som_naming.specs.Naming.{release_directory}
-use Rattle.som_numbering.specs.Numbering.{class_names, IsDirectory}
-use Rattle.som_numbering.specs.NumberedClasses.{face_numbered, part_numbered, selects_numbered}
+use Rattle.som_image_decode.specs.Naming.{release_directory}
+use Rattle.som_image_encode.specs.Numbering.{class_names, IsDirectory}
+use Rattle.som_image_encode.specs.NumberedClasses.{face_numbered, part_numbered, selects_numbered}
 use Rattle.som_libimage.specs.Numbering.{release_numbered}
-use Rattle.som_classimage.proofs.ClassPlaces.{ranges_known}
-use Rattle.som_classimage.proofs.NamedSelects.{section_fits}
-use Rattle.som_roundtrip.proofs.NumberedSelects.{selects_turn}
-use Rattle.som_naming.proofs.Places.{all_joined}
-use Rattle.som_numbering.proofs.Directories.{IsOwn, FewEntries, kernel_own, kernel_few, declared_own, directory_is}
-use Rattle.som_roundtrip.proofs.NumberedParts.{ClassReady}
-use Rattle.som_roundtrip.proofs.NumberedClasses.{own_key, keys_told, slots_told, few_own, faces_of, keys_kept, slots_kept, faces_fit, parts_fit, classes_back}
+use Rattle.som_image_classes.proofs.ClassPlaces.{ranges_known}
+use Rattle.som_image_classes.proofs.NamedSelects.{section_fits}
+use Rattle.som_image_laws.proofs.NumberedSelects.{selects_turn}
+use Rattle.som_image_decode.proofs.Places.{all_joined}
+use Rattle.som_image_encode.proofs.Directories.{IsOwn, FewEntries, kernel_own, kernel_few, declared_own, directory_is}
+use Rattle.som_image_laws.proofs.NumberedParts.{ClassReady}
+use Rattle.som_image_laws.proofs.NumberedClasses.{own_key, keys_told, slots_told, few_own, faces_of, keys_kept, slots_kept, faces_fit, parts_fit, classes_back}
 
 pub told : (r : Release) → Tells (release_directory r) (kernel ++ library_classes r)
 told r = record {

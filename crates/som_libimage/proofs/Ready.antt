@@ -14,22 +14,22 @@ use Rattle.som_model.specs.Classes.{library_classes}
 use Rattle.som_model.specs.Kernel.{kernel}
 use Rattle.som_model.specs.Rules.{s1, s2, s5, s6, s7, s8, s9, s10, s14}
 use Rattle.som_model.specs.Conforming.{each_after, class_typed, ReleaseOk}
-use Rattle.som_fields.specs.declared.face.WireFace.{WireFace}
-use Rattle.som_spelling.specs.declared.syntax.WirePart.{WirePart}
-use Rattle.som_spelling.specs.declared.selects.WireSelects.{WireSelects}
-use Rattle.som_naming.specs.declared.directory.Directory.{Directory}
-use Rattle.som_naming.specs.Naming.{release_directory}
-use Rattle.som_numbering.specs.Numbering.{class_names, AreNamed, IsDirectory}
-use Rattle.som_naming.proofs.Places.{all_map}
+use Rattle.som_image_fields.specs.declared.face.WireFace.{WireFace}
+use Rattle.som_image_fields.specs.declared.syntax.WirePart.{WirePart}
+use Rattle.som_image_fields.specs.declared.selects.WireSelects.{WireSelects}
+use Rattle.som_image_decode.specs.declared.directory.Directory.{Directory}
+use Rattle.som_image_decode.specs.Naming.{release_directory}
+use Rattle.som_image_encode.specs.Numbering.{class_names, AreNamed, IsDirectory}
+use Rattle.som_image_decode.proofs.Places.{all_map}
 use Rattle.som_libimage.specs.declared.wire.WireRelease.{WireRelease}
-use Rattle.som_classimage.specs.ClassLimits.{ClassWithin}
+use Rattle.som_image_classes.specs.ClassLimits.{ClassWithin}
 use Rattle.som_libimage.specs.Limits.{IsWithinLimits}
-use Rattle.som_numbering.specs.NumberedClasses.{ClassKnown, face_numbered, part_numbered, selects_numbered}
+use Rattle.som_image_encode.specs.NumberedClasses.{ClassKnown, face_numbered, part_numbered, selects_numbered}
 use Rattle.som_libimage.specs.Numbering.{release_numbered}
-use Rattle.som_classimage.proofs.Conforming.{neither_is, none_first}
-use Rattle.som_roundtrip.proofs.NumberedParts.{ClassReady}
+use Rattle.som_image_classes.proofs.Conforming.{neither_is, none_first}
+use Rattle.som_image_laws.proofs.NumberedParts.{ClassReady}
 use Rattle.som_libimage.proofs.NumberedReleases.{told, is_directory, ReleaseTurns, release_turns}
-use Rattle.som_roundtrip.proofs.ReadyClasses.{names_new, stand_before, classes_ready}
+use Rattle.som_image_laws.proofs.ReadyClasses.{names_new, stand_before, classes_ready}
 
 -- ---- the rules that are used of a release
 

@@ -5,26 +5,26 @@ use Rattle.std.proofs.lemmas.List.Elements.{All-from_recursion, recursion_from_A
 use Rattle.som_model.specs.declared.memory.NoMemory.{NoMemory}
 use Rattle.som_model.specs.declared.limits.TheConstants.{MAX_LIBRARY_CLASSES}
 use Rattle.som_model.specs.declared.program.Release.{Release}
-use Rattle.som_fields.specs.declared.method.Ranges.{Ranges}
-use Rattle.som_fields.specs.Spelling.{FitsFace, FitsMethod}
-use Rattle.som_spelling.specs.Fitting.{FitsSomePart}
-use Rattle.som_naming.specs.declared.directory.Directory.{Directory}
-use Rattle.som_naming.specs.Naming.{library_directory, ranges_in}
+use Rattle.som_image_fields.specs.declared.method.Ranges.{Ranges}
+use Rattle.som_image_fields.specs.Spelling.{FitsFace, FitsMethod}
+use Rattle.som_image_fields.specs.Fitting.{FitsSomePart}
+use Rattle.som_image_decode.specs.declared.directory.Directory.{Directory}
+use Rattle.som_image_decode.specs.Naming.{library_directory, ranges_in}
 use Rattle.som_libimage.specs.declared.wire.WireRelease.{WireRelease}
-use Rattle.som_classimage.specs.ReadClasses.{ranges_of}
-use Rattle.som_classimage.specs.SpelledClasses.{FitsParts, FitsSomeSection}
+use Rattle.som_image_classes.specs.ReadClasses.{ranges_of}
+use Rattle.som_image_classes.specs.SpelledClasses.{FitsParts, FitsSomeSection}
 use Rattle.som_libimage.specs.Spelling.{FitsRelease}
-use Rattle.som_classimage.specs.NamedClasses.{classes_named, with_selects}
+use Rattle.som_image_classes.specs.NamedClasses.{classes_named, with_selects}
 use Rattle.som_libimage.specs.Naming.{release_named}
-use Rattle.som_classimage.specs.ClassLimits.{ClassWithin}
+use Rattle.som_image_classes.specs.ClassLimits.{ClassWithin}
 use Rattle.som_libimage.specs.Limits.{IsWithinLimits}
 use Rattle.som_libimage.specs.Numbering.{release_numbered}
-use Rattle.som_classimage.proofs.ClassPlaces.{ranges_known}
-use Rattle.som_classimage.proofs.ClassFields.{faces_few, ranges_short, section_written}
-use Rattle.som_classimage.proofs.NamedClasses.{many_selecting}
-use Rattle.som_classimage.proofs.NamedSelects.{section_ascends}
+use Rattle.som_image_classes.proofs.ClassPlaces.{ranges_known}
+use Rattle.som_image_classes.proofs.ClassFields.{faces_few, ranges_short, section_written}
+use Rattle.som_image_classes.proofs.NamedClasses.{many_selecting}
+use Rattle.som_image_classes.proofs.NamedSelects.{section_ascends}
 use Rattle.som_libimage.proofs.NumberedReleases.{ReleaseTurns}
-use Rattle.som_classimage.proofs.ClassesTurned.{parts_written, classes_within, few_classes, selecting_within}
+use Rattle.som_image_classes.proofs.ClassesTurned.{parts_written, classes_within, few_classes, selecting_within}
 
 -- ---- what was numbered
 

@@ -2,7 +2,7 @@
 use Rattle.std.specs.Prelude.{◌≡◌, ℕ, List, Result, Ok}
 use Rattle.som_model.specs.declared.program.Release.{Release}
 use Rattle.som_model.specs.Steps.{◌>>=◌}
-use Rattle.som_fields.specs.declared.fault.ImageFault.{ImageFault}
+use Rattle.som_image_fields.specs.declared.fault.ImageFault.{ImageFault}
 use Rattle.som_libimage.specs.declared.wire.WireRelease.{WireRelease}
 use Rattle.som_libimage.specs.Reading.{wire_at}
 use Rattle.som_libimage.specs.Naming.{release_named}

@@ -2,7 +2,7 @@
 use Rattle.std.specs.Prelude.{◌≤◌, length, All}
 use Rattle.som_model.specs.declared.limits.TheConstants.{MAX_LIBRARY_CLASSES}
 use Rattle.som_model.specs.declared.program.Release.{Release}
-use Rattle.som_classimage.specs.ClassLimits.{ClassWithin}
+use Rattle.som_image_classes.specs.ClassLimits.{ClassWithin}
 
 -- a release that an image has room for
 pub record IsWithinLimits (r : Release) : Type 0 where

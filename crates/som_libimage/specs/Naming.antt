@@ -1,7 +1,7 @@
 -- The release that comes of naming the numbers and slots of an image.
 use Rattle.som_model.specs.declared.program.Release.{Release}
-use Rattle.som_naming.specs.Naming.{library_directory}
-use Rattle.som_classimage.specs.NamedClasses.{classes_named, with_selects}
+use Rattle.som_image_decode.specs.Naming.{library_directory}
+use Rattle.som_image_classes.specs.NamedClasses.{classes_named, with_selects}
 use Rattle.som_libimage.specs.declared.wire.WireRelease.{WireRelease}
 
 -- the first class of a library has the number 4

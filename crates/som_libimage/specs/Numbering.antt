@@ -1,8 +1,8 @@
 -- The image with numbers that comes of numbering a release.
 use Rattle.std.specs.Prelude.{map}
 use Rattle.som_model.specs.declared.program.Release.{Release}
-use Rattle.som_naming.specs.Naming.{release_directory}
-use Rattle.som_numbering.specs.NumberedClasses.{face_numbered, part_numbered, selects_numbered}
+use Rattle.som_image_decode.specs.Naming.{release_directory}
+use Rattle.som_image_encode.specs.NumberedClasses.{face_numbered, part_numbered, selects_numbered}
 use Rattle.som_libimage.specs.declared.wire.WireRelease.{WireRelease}
 
 abbrev pub release_numbered : Release → WireRelease

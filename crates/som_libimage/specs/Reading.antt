@@ -1,10 +1,10 @@
 -- How a library image is read from left to right: each field at its place, and the first fault.
 use Rattle.std.specs.Prelude.{ℕ, List, codes, Result}
 use Rattle.som_model.specs.Steps.{◌>>=◌}
-use Rattle.som_fields.specs.declared.fault.ImageFault.{ImageFault}
-use Rattle.som_fields.specs.declared.read.Read.{Read}
-use Rattle.som_fields.specs.Fields.{done}
-use Rattle.som_classimage.specs.ReadClasses.{ranges_of, faces_at, parts_at, section_at, head_at, at_end}
+use Rattle.som_image_fields.specs.declared.fault.ImageFault.{ImageFault}
+use Rattle.som_image_fields.specs.declared.read.Read.{Read}
+use Rattle.som_image_fields.specs.Fields.{done}
+use Rattle.som_image_classes.specs.ReadClasses.{ranges_of, faces_at, parts_at, section_at, head_at, at_end}
 use Rattle.som_libimage.specs.declared.wire.WireRelease.{WireRelease}
 
 -- the faces, a part for each, and the selects in an image of this version

@@ -2,10 +2,10 @@
 use Rattle.std.specs.Prelude.{ℕ, List, ◌++◌, codes}
 use Rattle.std.specs.List.{flat_map}
 use Rattle.std.specs.Int.{w16}
-use Rattle.som_fields.specs.Spelling.{counted, face}
-use Rattle.som_spelling.specs.Spelling.{part}
-use Rattle.som_classimage.specs.ReadClasses.{ranges_of}
-use Rattle.som_classimage.specs.SpelledClasses.{FitsParts, FitsFaces, FitsSection, section, version_with, head}
+use Rattle.som_image_fields.specs.Spelling.{counted, face}
+use Rattle.som_image_fields.specs.SyntaxSpelling.{part}
+use Rattle.som_image_classes.specs.ReadClasses.{ranges_of}
+use Rattle.som_image_classes.specs.SpelledClasses.{FitsParts, FitsFaces, FitsSection, section, version_with, head}
 use Rattle.som_libimage.specs.declared.wire.WireRelease.{WireRelease}
 
 -- the parts, and the selects where there are some

@@ -1,6 +1,6 @@
 //! States that a conforming release has an image, and that bytes spell one release at most.
 
-ghost use Rattle.som_classimage.specs.Interfaces.{NamesDiffer};
+ghost use Rattle.som_image_classes.specs.Interfaces.{NamesDiffer};
 ghost use Rattle.som_libimage.specs.Libraries.{SpellsLibrary, library_at};
 ghost use Rattle.som_libimage.specs.Limits.{IsWithinLimits};
 ghost use Rattle.som_model.specs.Class.{interface_of};

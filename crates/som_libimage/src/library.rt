@@ -1,6 +1,6 @@
 //! The decoder and the encoder of library images, between bytes and a release with names.
 
-ghost use Rattle.som_classimage.specs.Interfaces.{NamesDiffer};
+ghost use Rattle.som_image_classes.specs.Interfaces.{NamesDiffer};
 ghost use Rattle.som_libimage.specs.Libraries.{SpellsLibrary, library_at};
 ghost use Rattle.som_libimage.specs.Limits.{IsWithinLimits};
 ghost use Rattle.som_libimage.specs.Naming.{release_named};
@@ -8,16 +8,16 @@ ghost use Rattle.som_libimage.specs.Spelling.{FitsRelease};
 ghost use Rattle.som_model.specs.Class.{interface_of};
 ghost use Rattle.som_model.specs.Conforming.{ReleaseOk};
 ghost use Rattle.som_model.specs.Images.{library_image};
-ghost use Rattle.som_fields.specs.Fields.{Gives};
+ghost use Rattle.som_image_fields.specs.Fields.{Gives};
 ghost use Rattle.std.specs.Prelude.{◌≡◌, Some, Ok, IfOk};
 
 use crate::numbered::number_release;
 use crate::release::{read_release, write_release};
 use crate::wire::WireRelease;
-use som_classimage::{KERNEL_CLASSES, name_classes};
-use som_fields::{EncodeFault, ImageFault};
+use som_image_classes::{KERNEL_CLASSES, name_classes};
+use som_image_decode::Directory;
+use som_image_fields::{EncodeFault, ImageFault};
 use som_model::{List, NoMemory, Release};
-use som_naming::Directory;
 use std::alloc::Global;
 
 // The release that a release of an image stands for.

@@ -8,10 +8,10 @@ ghost use Rattle.som_model.specs.Conforming.{ReleaseOk};
 ghost use Rattle.std.specs.Prelude.{◌≡◌, IfOk};
 
 use crate::wire::WireRelease;
-use som_classimage::KERNEL_CLASSES;
+use som_image_classes::KERNEL_CLASSES;
+use som_image_decode::Directory;
+use som_image_encode::{class_names, number_faces, number_parts, number_selects};
 use som_model::{NoMemory, Release};
-use som_naming::Directory;
-use som_numbering::{class_names, number_faces, number_parts, number_selects};
 use std::alloc::Global;
 
 /// The release with numbers and slots that a release is named from.

@@ -2,15 +2,15 @@
 
 ghost use Rattle.som_libimage.specs.Reading.{classes_at, wire_at};
 ghost use Rattle.som_libimage.specs.Spelling.{FitsRelease, library};
-ghost use Rattle.som_fields.specs.Fields.{Gives};
+ghost use Rattle.som_image_fields.specs.Fields.{Gives};
 ghost use Rattle.std.specs.Prelude.{◌≡◌, ◌≤◌, length, IfOk};
 
 use crate::wire::WireRelease;
-use som_classimage::{
+use som_image_classes::{
     KERNEL_CLASSES, new_image, ranges_of, read_faces, read_head, read_parts, read_section,
     version_with, with_faces, with_parts, with_section,
 };
-use som_fields::{ImageFault, Read, write_u16};
+use som_image_fields::{ImageFault, Read, write_u16};
 use som_model::{List, NoMemory};
 use std::alloc::Global;
 

@@ -1,6 +1,6 @@
 //! The type of a release with numbers for its classes and methods.
 
-use som_fields::WireFace;
+use som_image_fields::WireFace;
 use som_model::List;
 use som_wire::{WirePart, WireSelects};
 

@@ -9,15 +9,15 @@ use Rattle.som_model.specs.Kernel.{kernel}
 use Rattle.som_model.specs.Rules.{name_of, s2}
 use Rattle.som_model.specs.declared.key.Module.{Module}
 use Rattle.som_model.specs.declared.key.ClassKey.{ClassKey}
-use Rattle.som_ancestry.specs.Places.{key_at, with_kernel}
-use Rattle.som_ancestry.specs.Modules.{AreDeclared}
-use Rattle.som_lawful.proofs.PlainLists.{s1_doubles}
-use Rattle.som_ancestry.proofs.Before.{none_both, both_none, demanded, every_mem, mem_every}
-use Rattle.som_lawful.proofs.PlainNames.{demand_none}
+use Rattle.som_verify_classes.specs.Places.{key_at, with_kernel}
+use Rattle.som_verify_classes.specs.Modules.{AreDeclared}
+use Rattle.som_verify_classes.proofs.PlainLists.{s1_doubles}
+use Rattle.som_verify_classes.proofs.Before.{none_both, both_none, demanded, every_mem, mem_every}
+use Rattle.som_verify_classes.proofs.PlainNames.{demand_none}
 use Rattle.som_sema.specs.Ancestry.{IsAncestorTable}
 use Rattle.som_sema.specs.declared.ancestry.AncestorTable.{AncestorTable}
-use Rattle.som_drafts.specs.Drafts.{InterfaceDraft, draft_classes}
-use Rattle.som_declarations.specs.Finished.{declare}
+use Rattle.som_sema_drafts.specs.Drafts.{InterfaceDraft, draft_classes}
+use Rattle.som_sema_decls.specs.Finished.{declare}
 
 pub record Core : Type 0 where
   pub key : ClassKey

@@ -5,14 +5,14 @@ use Rattle.som_model.specs.declared.class.ClassDecl.{ClassDecl}
 use Rattle.som_model.specs.declared.program.Interface.{Interface}
 use Rattle.som_model.specs.Class.{Class}
 use Rattle.som_model.specs.Classes.{interface_classes}
-use Rattle.som_syntax.specs.declared.interface.IdlInterface.{IdlInterface}
-use Rattle.som_ancestry.specs.Told.{Tells}
-use Rattle.som_ancestry.specs.declared.types.VerifyFault.{VerifyFault}
-use Rattle.som_ancestry.specs.declared.types.VerifyFault.TheVariants as verify
-use Rattle.som_refusals.specs.declared.types.Refused.{Refused}
-use Rattle.som_refusals.specs.Refusals.{refused_by}
+use Rattle.som_ast.specs.declared.interface.IdlInterface.{IdlInterface}
+use Rattle.som_verify_classes.specs.Told.{Tells}
+use Rattle.som_verify_classes.specs.declared.types.VerifyFault.{VerifyFault}
+use Rattle.som_verify_classes.specs.declared.types.VerifyFault.TheVariants as verify
+use Rattle.som_sema_drafts.specs.declared.types.Refused.{Refused}
+use Rattle.som_sema_drafts.specs.Refusals.{refused_by}
 use Rattle.som_sema.specs.Building.{FacesTold, declarations, declared_all, draft_rules_breach, module_over, most_classes, texts_breach}
-use Rattle.som_drafts.specs.Drafts.{InterfaceDraft, draft_of}
+use Rattle.som_sema_drafts.specs.Drafts.{InterfaceDraft, draft_of}
 
 module _ (own_module : Module) (base : Interface) (is : List IdlInterface) (h : List ℕ → Module) (m : Module) (bs : List Class) (ds : List InterfaceDraft)
     (names : h ≡ module_over own_module base is) (own : m ≡ own_module) (known : bs ≡ interface_classes base) (made : ds ≡ map (draft_of h) is) where

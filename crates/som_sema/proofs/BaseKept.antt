@@ -18,14 +18,14 @@ use Rattle.som_model.specs.Kernel.{class_face, kernel, object_face, som_class, s
 use Rattle.som_model.specs.Rules.{breach, demand, introduced_by, name_of, s2, s4, s8}
 use Rattle.som_model.proofs.KeyLaws.{exact_keys}
 use Rattle.som_model.proofs.NamedLaws.{height_named, hierarchy_parents, hierarchy_same, parents_named}
-use Rattle.som_laws.proofs.Laws as plain
-use Rattle.som_laws.proofs.Members.{find_first, map_on, mem_left, mem_right, mem_split}
-use Rattle.som_ancestry.specs.Modules.{AreDeclared, module_of}
-use Rattle.som_lawful.specs.Plainly.{IsAmong}
-use Rattle.som_ancestry.proofs.Before.{demanded, every_mem, none_both}
-use Rattle.som_ancestry.proofs.Owners.{mem_middle}
-use Rattle.som_lawful.proofs.PlainLists.{says_each, each_says}
-use Rattle.som_lawful.proofs.PlainNames.{among_known, known_among}
+use Rattle.som_model_laws.proofs.Laws as plain
+use Rattle.som_model_laws.proofs.Members.{find_first, map_on, mem_left, mem_right, mem_split}
+use Rattle.som_verify_classes.specs.Modules.{AreDeclared, module_of}
+use Rattle.som_verify_classes.specs.Plainly.{IsAmong}
+use Rattle.som_verify_classes.proofs.Before.{demanded, every_mem, none_both}
+use Rattle.som_verify_classes.proofs.Owners.{mem_middle}
+use Rattle.som_verify_classes.proofs.PlainLists.{says_each, each_says}
+use Rattle.som_verify_classes.proofs.PlainNames.{among_known, known_among}
 
 -- each parent and metaclass of these classes is among them
 pub record AreClosed (cs : List Class) : Type 0 where

@@ -16,14 +16,14 @@ use Rattle.som_model.specs.declared.class.Entry.{Entry}
 use Rattle.som_model.specs.declared.class.Entry.TheVariants as entries
 use Rattle.som_model.proofs.KeyLaws.{both, exact_keys}
 use Rattle.som_model.proofs.NamedLaws.{hierarchy_parents, hierarchy_same}
-use Rattle.som_laws.proofs.Laws.{descends_test}
-use Rattle.som_ancestry.specs.Faces.{faces_breach}
-use Rattle.som_ancestry.specs.Inherited.{inherits, moved_entry}
-use Rattle.som_ancestry.specs.Places.{with_kernel}
-use Rattle.som_ancestry.proofs.Owners.{demanded_of, flat_none}
-use Rattle.som_ancestry.proofs.Conformity.{or_none}
-use Rattle.som_lawful.proofs.PlainLists.{each_says, none_flat, says_each}
-use Rattle.som_lawful.proofs.PlainMembers.{both_true, demand_of_none}
+use Rattle.som_model_laws.proofs.Laws.{descends_test}
+use Rattle.som_verify_classes.specs.Faces.{faces_breach}
+use Rattle.som_verify_classes.specs.Inherited.{inherits, moved_entry}
+use Rattle.som_verify_classes.specs.Places.{with_kernel}
+use Rattle.som_verify_classes.proofs.Owners.{demanded_of, flat_none}
+use Rattle.som_verify_classes.proofs.Conformity.{or_none}
+use Rattle.som_verify_classes.proofs.PlainLists.{each_says, none_flat, says_each}
+use Rattle.som_verify_classes.proofs.PlainMembers.{both_true, demand_of_none}
 
 -- a rule that looks at the classes before each, at two lists
 pub each_both : (rule : List Class → Class → List RuleBreach) (k xs ys : List Class) → each_after rule k (xs ++ ys) ≡ each_after rule k xs ++ each_after rule (k ++ xs) ys

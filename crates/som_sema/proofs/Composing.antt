@@ -9,21 +9,21 @@ use Rattle.som_model.specs.Kernel.{kernel}
 use Rattle.som_model.specs.Rules.{RuleBreach, s1, s2, s5, s9}
 use Rattle.som_model.specs.declared.key.Module.{Module}
 use Rattle.som_order.specs.Names.{texts}
-use Rattle.som_ancestry.specs.declared.types.Declared.{Declared}
-use Rattle.som_ancestry.specs.declared.types.VerifyFault.{VerifyFault}
-use Rattle.som_ancestry.specs.Faces.{faces_breach}
-use Rattle.som_ancestry.specs.Modules.{class_of, classes_of}
-use Rattle.som_ancestry.specs.Places.{IsTable, with_kernel}
-use Rattle.som_ancestry.specs.Told.{Tells}
-use Rattle.som_ancestry.specs.Walk.{AreLists}
-use Rattle.som_ancestry.proofs.Before.{both_none}
-use Rattle.som_ancestry.proofs.ClassTable.{is_table}
-use Rattle.som_ancestry.proofs.DeclaredClasses.{are_declared, drop_map, known_number, take_map}
-use Rattle.som_ancestry.proofs.Finding.{take_all}
-use Rattle.som_ancestry.proofs.KeyLists.{lists_of}
-use Rattle.som_lawful.proofs.PlainMoves.{lower}
-use Rattle.som_lawful.proofs.PlainNames.{names_say, parents_say}
-use Rattle.som_drafts.specs.Drafts.{InterfaceDraft, draft_classes}
+use Rattle.som_verify_classes.specs.declared.types.Declared.{Declared}
+use Rattle.som_verify_classes.specs.declared.types.VerifyFault.{VerifyFault}
+use Rattle.som_verify_classes.specs.Faces.{faces_breach}
+use Rattle.som_verify_classes.specs.Modules.{class_of, classes_of}
+use Rattle.som_verify_classes.specs.Places.{IsTable, with_kernel}
+use Rattle.som_verify_classes.specs.Told.{Tells}
+use Rattle.som_verify_classes.specs.Walk.{AreLists}
+use Rattle.som_verify_classes.proofs.Before.{both_none}
+use Rattle.som_verify_classes.proofs.ClassTable.{is_table}
+use Rattle.som_verify_classes.proofs.DeclaredClasses.{are_declared, drop_map, known_number, take_map}
+use Rattle.som_verify_classes.proofs.Finding.{take_all}
+use Rattle.som_verify_classes.proofs.KeyLists.{lists_of}
+use Rattle.som_verify_classes.proofs.PlainMoves.{lower}
+use Rattle.som_verify_classes.proofs.PlainNames.{names_say, parents_say}
+use Rattle.som_sema_drafts.specs.Drafts.{InterfaceDraft, draft_classes}
 use Rattle.som_sema.specs.TextRules.{text_s2_from}
 use Rattle.som_sema.specs.Ancestry.{AreDrafts, IsAncestorTable, AreAncestorLists}
 use Rattle.som_sema.specs.declared.ancestry.AncestorTable.{AncestorTable}

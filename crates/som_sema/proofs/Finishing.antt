@@ -7,21 +7,21 @@ use Rattle.som_model.specs.declared.key.Module.TheVariants as modules
 use Rattle.som_model.specs.declared.class.ClassDecl.{ClassDecl}
 use Rattle.som_model.specs.declared.class.ClassFace.{ClassFace}
 use Rattle.som_model.specs.declared.program.Interface.{Interface}
-use Rattle.som_ancestry.specs.Modules.{AreDeclared, classes_of}
-use Rattle.som_ancestry.specs.Places.{key_at, with_kernel}
-use Rattle.som_ancestry.specs.declared.types.Declared.{Declared}
-use Rattle.som_ancestry.proofs.DeclaredClasses.{long_map, map_declared}
-use Rattle.som_laws.proofs.Members.{mem_split}
+use Rattle.som_verify_classes.specs.Modules.{AreDeclared, classes_of}
+use Rattle.som_verify_classes.specs.Places.{key_at, with_kernel}
+use Rattle.som_verify_classes.specs.declared.types.Declared.{Declared}
+use Rattle.som_verify_classes.proofs.DeclaredClasses.{long_map, map_declared}
+use Rattle.som_model_laws.proofs.Members.{mem_split}
 use Rattle.som_model.specs.Lists.{first}
-use Rattle.som_declarations.specs.Known.{after_base}
+use Rattle.som_sema_decls.specs.Known.{after_base}
 use Rattle.som_sema.specs.Building.{declared_all, moved_breach, draft_breach}
 use Rattle.som_sema.specs.TextRules.{text_s10_from}
 use Rattle.som_sema.proofs.Composing.{front_is, rest_is}
-use Rattle.som_declarations.specs.Finished.{declare, declare_at, declared_from}
-use Rattle.som_drafts.specs.Drafts.{InterfaceDraft, draft_classes}
+use Rattle.som_sema_decls.specs.Finished.{declare, declare_at, declared_from}
+use Rattle.som_sema_drafts.specs.Drafts.{InterfaceDraft, draft_classes}
 use Rattle.som_sema.specs.Ancestry.{IsAncestorTable}
 use Rattle.som_sema.specs.declared.ancestry.AncestorTable.{AncestorTable}
-use Rattle.som_noted.proofs.Noting.{at_end}
+use Rattle.som_sema_names.proofs.Noting.{at_end}
 use Rattle.som_sema.proofs.Alike.{alike_both, alike_declared, alike_self, alike_table}
 
 -- the classes stand at the places that follow each other

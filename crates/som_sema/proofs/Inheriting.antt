@@ -7,18 +7,18 @@ use Rattle.som_model.specs.declared.key.ClassKey.{ClassKey}
 use Rattle.som_model.specs.Keys.{same_key}
 use Rattle.som_model.specs.Class.{Class}
 use Rattle.som_model.specs.Classes.{is_a}
-use Rattle.som_ancestry.specs.Places.{key_at, with_kernel}
-use Rattle.som_ancestry.specs.Walk.{AreLists}
-use Rattle.som_ancestry.proofs.KeyLists.{alike}
-use Rattle.som_introducers.specs.Introducers.{first_introducer}
-use Rattle.som_introducers.specs.Ranking.{IsRanking}
-use Rattle.som_introducers.specs.declared.ranking.Ranking.{Ranking}
-use Rattle.som_declarations.specs.Finished.{introducer}
+use Rattle.som_verify_classes.specs.Places.{key_at, with_kernel}
+use Rattle.som_verify_classes.specs.Walk.{AreLists}
+use Rattle.som_verify_classes.proofs.KeyLists.{alike}
+use Rattle.som_sema_names.specs.Introducers.{first_introducer}
+use Rattle.som_sema_names.specs.Ranking.{IsRanking}
+use Rattle.som_sema_names.specs.declared.ranking.Ranking.{Ranking}
+use Rattle.som_sema_decls.specs.Finished.{introducer}
 use Rattle.som_sema.specs.TextRules.{is_inherited}
 use Rattle.som_sema.specs.Ancestry.{Inherits}
 use Rattle.som_sema.specs.declared.ancestry.AncestorTable.{AncestorTable}
 use Rattle.som_sema.proofs.Composing.{table_lists}
-use Rattle.som_declarations.proofs.Introducers.{introducer_is, introducer_low}
+use Rattle.som_sema_decls.proofs.Introducers.{introducer_is, introducer_low}
 
 module _ (cs : List Class) (w : AncestorTable) (place : ℕ) (above : Ranking) (h : Inherits cs w place above) (name : List ℕ) where
   lists : AreLists (with_kernel cs) w.lists.items

@@ -19,18 +19,18 @@ use Rattle.som_model.specs.Hierarchy.{Hierarchy}
 use Rattle.som_model.specs.EffectiveOrder.{effective_order}
 use Rattle.som_model.specs.Owner.{introduced_by, introduced_in}
 use Rattle.som_model.proofs.KeyLaws.{exact_bytes}
-use Rattle.som_laws.proofs.Laws.{among_mem, introduced_in as order_has}
-use Rattle.som_laws.proofs.Members.{both_or_none, find_none, mem_split}
-use Rattle.som_lawful.proofs.PlainLists.{mem_map}
-use Rattle.som_lawful.proofs.PlainMoves.{flat_mem}
-use Rattle.som_syntax.specs.declared.words.Word.{Word}
-use Rattle.som_syntax.specs.declared.interface.IdlInterface.{IdlInterface}
-use Rattle.som_syntax.specs.declared.interface.Export.{Export}
-use Rattle.som_syntax.specs.declared.interface.Export.TheVariants as exports
-use Rattle.som_scope.specs.ClassNames.{type_of}
-use Rattle.som_drafts.specs.Items.{by_name, listed}
-use Rattle.som_drafts.specs.Drafts.{InterfaceDraft, accessors, draft_class, export_entries, introduces}
-use Rattle.som_declarations.specs.Finished.{declare, entry_for, entry_or_moved, introducer}
+use Rattle.som_model_laws.proofs.Laws.{among_mem, introduced_in as order_has}
+use Rattle.som_model_laws.proofs.Members.{both_or_none, find_none, mem_split}
+use Rattle.som_verify_classes.proofs.PlainLists.{mem_map}
+use Rattle.som_verify_classes.proofs.PlainMoves.{flat_mem}
+use Rattle.som_ast.specs.declared.words.Word.{Word}
+use Rattle.som_ast.specs.declared.interface.IdlInterface.{IdlInterface}
+use Rattle.som_ast.specs.declared.interface.Export.{Export}
+use Rattle.som_ast.specs.declared.interface.Export.TheVariants as exports
+use Rattle.som_sema_scope.specs.ClassNames.{type_of}
+use Rattle.som_sema_drafts.specs.Items.{by_name, listed}
+use Rattle.som_sema_drafts.specs.Drafts.{InterfaceDraft, accessors, draft_class, export_entries, introduces}
+use Rattle.som_sema_decls.specs.Finished.{declare, entry_for, entry_or_moved, introducer}
 use Rattle.som_sema.proofs.Outlines.{outline, hierarchy_outline}
 use Rattle.som_sema.proofs.OwnClasses.{entry_there, order_own}
 

@@ -16,19 +16,19 @@ use Rattle.som_model.specs.EffectiveOrder.{effective_order}
 use Rattle.som_model.specs.Kernel.{som_class}
 use Rattle.som_model.specs.Rules.{breach, s4, s6, s7}
 use Rattle.som_model.proofs.KeyLaws.{exact_bytes}
-use Rattle.som_laws.proofs.Laws.{among_mem}
-use Rattle.som_laws.proofs.Members.{Apart, find_first, mem_split, without_fails, without_mem}
-use Rattle.som_lawful.specs.Plainly.{IsAmong, IsNamed, IsValue, TypesKnown}
-use Rattle.som_ancestry.proofs.Before.{both_none, none_both}
-use Rattle.som_ancestry.proofs.Owners.{mem_middle}
-use Rattle.som_lawful.proofs.PlainLists.{apart_by, by_apart, map_mem, map_none, none_map}
-use Rattle.som_lawful.proofs.PlainNames.{demand_none}
-use Rattle.som_scope.specs.ClassNames.{key_of}
-use Rattle.som_drafts.specs.Items.{listed, metaclass_names}
-use Rattle.som_drafts.specs.Drafts.{InterfaceDraft, draft_class, draft_classes}
-use Rattle.som_refusals.specs.Demands.{text_breach}
-use Rattle.som_declarations.specs.Finished.{declare, entry_for, entry_or_moved, introducer}
-use Rattle.som_alone.specs.OwnRules.{second, text_s6}
+use Rattle.som_model_laws.proofs.Laws.{among_mem}
+use Rattle.som_model_laws.proofs.Members.{Apart, find_first, mem_split, without_fails, without_mem}
+use Rattle.som_verify_classes.specs.Plainly.{IsAmong, IsNamed, IsValue, TypesKnown}
+use Rattle.som_verify_classes.proofs.Before.{both_none, none_both}
+use Rattle.som_verify_classes.proofs.Owners.{mem_middle}
+use Rattle.som_verify_classes.proofs.PlainLists.{apart_by, by_apart, map_mem, map_none, none_map}
+use Rattle.som_verify_classes.proofs.PlainNames.{demand_none}
+use Rattle.som_sema_scope.specs.ClassNames.{key_of}
+use Rattle.som_sema_drafts.specs.Items.{listed, metaclass_names}
+use Rattle.som_sema_drafts.specs.Drafts.{InterfaceDraft, draft_class, draft_classes}
+use Rattle.som_sema_drafts.specs.Demands.{text_breach}
+use Rattle.som_sema_decls.specs.Finished.{declare, entry_for, entry_or_moved, introducer}
+use Rattle.som_sema_local.specs.OwnRules.{second, text_s6}
 use Rattle.som_sema.specs.TextRules.{makes_classes, text_s4}
 use Rattle.som_sema.proofs.Outlines.{outline}
 use Rattle.som_sema.proofs.TextBases.{demanded_text}

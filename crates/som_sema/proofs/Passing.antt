@@ -5,15 +5,15 @@ use Rattle.som_model.specs.declared.key.Module.{Module}
 use Rattle.som_model.specs.declared.key.ClassKey.{ClassKey}
 use Rattle.som_model.specs.Lists.{among, first, or_else}
 use Rattle.som_model.specs.Class.{Class}
-use Rattle.som_laws.proofs.Laws.{among_mem}
-use Rattle.som_laws.proofs.Members.{both_or_none}
-use Rattle.som_syntax.specs.declared.interface.Modifier.{Modifier}
-use Rattle.som_syntax.specs.declared.interface.Modifier.TheVariants as modifiers
-use Rattle.som_ancestry.proofs.Passes.{first_both}
-use Rattle.som_scope.specs.Words.{once}
-use Rattle.som_drafts.specs.Drafts.{InterfaceDraft}
-use Rattle.som_drafts.specs.Items.{Given}
-use Rattle.som_refusals.specs.Demands.{text_breach, text_demand}
+use Rattle.som_model_laws.proofs.Laws.{among_mem}
+use Rattle.som_model_laws.proofs.Members.{both_or_none}
+use Rattle.som_ast.specs.declared.interface.Modifier.{Modifier}
+use Rattle.som_ast.specs.declared.interface.Modifier.TheVariants as modifiers
+use Rattle.som_verify_classes.proofs.Passes.{first_both}
+use Rattle.som_sema_scope.specs.Words.{once}
+use Rattle.som_sema_drafts.specs.Drafts.{InterfaceDraft}
+use Rattle.som_sema_drafts.specs.Items.{Given}
+use Rattle.som_sema_drafts.specs.Demands.{text_breach, text_demand}
 use Rattle.som_sema.specs.TextRules.{may_take, replaces}
 use Rattle.som_sema.proofs.TextLaws.{mem_of_once, says_once}
 

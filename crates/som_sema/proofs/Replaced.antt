@@ -21,26 +21,26 @@ use Rattle.som_model.specs.Owner.{entry_at, introduced_by, introduces, owner, ow
 use Rattle.som_model.specs.Rules.{s6}
 use Rattle.som_model.proofs.KeyLaws.{both, exact_bytes, exact_keys}
 use Rattle.som_model.proofs.NamedLaws.{hierarchy_same}
-use Rattle.som_laws.proofs.Laws.{among_mem, ancestors as ancestors_law}
-use Rattle.som_laws.proofs.Members.{Apart, find_first, mem_split, without_fails}
-use Rattle.som_ancestry.specs.Modules.{AreDeclared}
-use Rattle.som_ancestry.specs.Places.{key_at, with_kernel}
-use Rattle.som_lawful.specs.Plainly.{Differ, EntriesDiffer, Introduces, IsAbove, NamesApart, OverridesInherited, ParentsBefore, SelectsInherited, TakesFrom}
-use Rattle.som_ancestry.proofs.Before.{none_both}
-use Rattle.som_ancestry.proofs.Owners.{mem_middle}
-use Rattle.som_lawful.proofs.PlainLists.{apart_differ, differ_apart, map_mem, mem_map}
-use Rattle.som_lawful.proofs.PlainMoves.{descent, lower, says_inherits}
-use Rattle.som_laws.specs.Once.{add_new, adds}
-use Rattle.som_scope.specs.ClassNames.{key_of}
-use Rattle.som_drafts.specs.Items.{Chosen, Given, chosen, chosen_by, chosen_in, given, is_override, is_select, or_object, overridden, replaced, selecting, with_modifier}
-use Rattle.som_syntax.specs.declared.interface.Modifier.{Modifier}
-use Rattle.som_syntax.specs.declared.interface.Modifier.TheVariants as modifiers
-use Rattle.som_drafts.specs.Drafts.{InterfaceDraft, draft_class, draft_classes}
-use Rattle.som_declarations.specs.Finished.{declare, introducer, override_of, place_of, select_of}
-use Rattle.som_alone.specs.OwnRules.{text_s11}
+use Rattle.som_model_laws.proofs.Laws.{among_mem, ancestors as ancestors_law}
+use Rattle.som_model_laws.proofs.Members.{Apart, find_first, mem_split, without_fails}
+use Rattle.som_verify_classes.specs.Modules.{AreDeclared}
+use Rattle.som_verify_classes.specs.Places.{key_at, with_kernel}
+use Rattle.som_verify_classes.specs.Plainly.{Differ, EntriesDiffer, Introduces, IsAbove, NamesApart, OverridesInherited, ParentsBefore, SelectsInherited, TakesFrom}
+use Rattle.som_verify_classes.proofs.Before.{none_both}
+use Rattle.som_verify_classes.proofs.Owners.{mem_middle}
+use Rattle.som_verify_classes.proofs.PlainLists.{apart_differ, differ_apart, map_mem, mem_map}
+use Rattle.som_verify_classes.proofs.PlainMoves.{descent, lower, says_inherits}
+use Rattle.som_model_laws.specs.Once.{add_new, adds}
+use Rattle.som_sema_scope.specs.ClassNames.{key_of}
+use Rattle.som_sema_drafts.specs.Items.{Chosen, Given, chosen, chosen_by, chosen_in, given, is_override, is_select, or_object, overridden, replaced, selecting, with_modifier}
+use Rattle.som_ast.specs.declared.interface.Modifier.{Modifier}
+use Rattle.som_ast.specs.declared.interface.Modifier.TheVariants as modifiers
+use Rattle.som_sema_drafts.specs.Drafts.{InterfaceDraft, draft_class, draft_classes}
+use Rattle.som_sema_decls.specs.Finished.{declare, introducer, override_of, place_of, select_of}
+use Rattle.som_sema_local.specs.OwnRules.{text_s11}
 use Rattle.som_sema.specs.TextRules.{is_inherited, text_s10, text_s10_from}
 use Rattle.som_sema.proofs.Introducing.{AllSame, all_both, all_self, introduced_mem, introduced_so, own_same}
-use Rattle.som_noted.proofs.Noting.{at_end}
+use Rattle.som_sema_names.proofs.Noting.{at_end}
 use Rattle.som_sema.proofs.Outlines.{hierarchy_outline, outline, same_descent}
 use Rattle.som_sema.proofs.OwnClasses.{join_apart, left_apart}
 use Rattle.som_sema.proofs.TextInherited.{Takes, inherits_from, overridden_says, selected_says}

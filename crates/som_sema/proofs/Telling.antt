@@ -2,9 +2,9 @@
 use Rattle.std.proofs.Common.{◌≡◌, Option, None, Result, Err, sym, ap, subst, ◌∙◌}
 use Rattle.som_model.specs.Lists.{or_else}
 use Rattle.som_model.specs.Rules.{RuleBreach}
-use Rattle.som_ancestry.specs.declared.types.VerifyFault.{VerifyFault}
-use Rattle.som_ancestry.specs.declared.types.VerifyFault.TheVariants as faults
-use Rattle.som_ancestry.specs.Told.{Tells}
+use Rattle.som_verify_classes.specs.declared.types.VerifyFault.{VerifyFault}
+use Rattle.som_verify_classes.specs.declared.types.VerifyFault.TheVariants as faults
+use Rattle.som_verify_classes.specs.Told.{Tells}
 
 -- the first rules are kept, and a later one is told
 pub later : (a b : Option RuleBreach) (e : VerifyFault) → a ≡ None → Tells {A = Unit {0}} b (Err e) → Tells {A = Unit {0}} (or_else a b) (Err e)

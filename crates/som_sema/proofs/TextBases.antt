@@ -7,20 +7,20 @@ use Rattle.som_model.specs.Conforming.{each_after}
 use Rattle.som_model.specs.Rules.{RuleBreach, s2}
 use Rattle.som_model.specs.declared.key.Module.{Module}
 use Rattle.som_model.specs.declared.key.ClassKey.{ClassKey}
-use Rattle.som_laws.proofs.Members.{mem_left, mem_right, mem_split}
-use Rattle.som_ancestry.proofs.Before.{both_none, mem_every, none_both}
-use Rattle.som_ancestry.proofs.Owners.{flat_none}
-use Rattle.som_lawful.proofs.PlainLists.{map_mem}
-use Rattle.som_lawful.proofs.PlainNames.{demand_none}
-use Rattle.som_syntax.specs.declared.interface.IdlInterface.{IdlInterface}
-use Rattle.som_ancestry.specs.declared.types.VerifyFault.{VerifyFault}
-use Rattle.som_ancestry.specs.Told.{Tells}
-use Rattle.som_ancestry.proofs.Passes.{first_both, tells_first}
-use Rattle.som_drafts.specs.declared.drafts.Draft.{Draft}
-use Rattle.som_scope.specs.ClassNames.{key_of}
-use Rattle.som_drafts.specs.Items.{metaclass_names, or_object}
-use Rattle.som_drafts.specs.Drafts.{InterfaceDraft, plain_drafts, draft_of, plain_draft, draft_class, draft_classes}
-use Rattle.som_refusals.specs.Demands.{text_demand}
+use Rattle.som_model_laws.proofs.Members.{mem_left, mem_right, mem_split}
+use Rattle.som_verify_classes.proofs.Before.{both_none, mem_every, none_both}
+use Rattle.som_verify_classes.proofs.Owners.{flat_none}
+use Rattle.som_verify_classes.proofs.PlainLists.{map_mem}
+use Rattle.som_verify_classes.proofs.PlainNames.{demand_none}
+use Rattle.som_ast.specs.declared.interface.IdlInterface.{IdlInterface}
+use Rattle.som_verify_classes.specs.declared.types.VerifyFault.{VerifyFault}
+use Rattle.som_verify_classes.specs.Told.{Tells}
+use Rattle.som_verify_classes.proofs.Passes.{first_both, tells_first}
+use Rattle.som_sema_drafts.specs.declared.drafts.Draft.{Draft}
+use Rattle.som_sema_scope.specs.ClassNames.{key_of}
+use Rattle.som_sema_drafts.specs.Items.{metaclass_names, or_object}
+use Rattle.som_sema_drafts.specs.Drafts.{InterfaceDraft, plain_drafts, draft_of, plain_draft, draft_class, draft_classes}
+use Rattle.som_sema_drafts.specs.Demands.{text_demand}
 use Rattle.som_sema.specs.TextRules.{base_stands, bases, text_s2, text_s2_from}
 use Rattle.som_sema.specs.Ancestry.{AreDrafts}
 

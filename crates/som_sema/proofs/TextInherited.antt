@@ -12,26 +12,26 @@ use Rattle.som_model.specs.Classes.{ancestors, hierarchy, is_a}
 use Rattle.som_model.specs.Owner.{introduced_by}
 use Rattle.som_model.specs.Rules.{RuleBreach}
 use Rattle.som_model.proofs.KeyLaws.{both, exact_keys}
-use Rattle.som_laws.proofs.Laws.{among_mem, descends_test}
-use Rattle.som_laws.proofs.Members.{find_first, first_find, mem_without, without_fails, without_mem}
+use Rattle.som_model_laws.proofs.Laws.{among_mem, descends_test}
+use Rattle.som_model_laws.proofs.Members.{find_first, first_find, mem_without, without_fails, without_mem}
 use Rattle.som_model.proofs.NamedLaws.{hierarchy_same}
-use Rattle.som_syntax.specs.declared.words.Word.{Word}
-use Rattle.som_syntax.specs.declared.interface.Modifier.{Modifier}
-use Rattle.som_syntax.specs.declared.interface.Modifier.TheVariants as modifiers
-use Rattle.som_ancestry.specs.declared.types.VerifyFault.{VerifyFault}
-use Rattle.som_ancestry.specs.Places.{key_at}
-use Rattle.som_ancestry.specs.Told.{Tells}
-use Rattle.som_ancestry.proofs.Before.{both_none, none_both}
-use Rattle.som_ancestry.proofs.Owners.{flat_none}
-use Rattle.som_ancestry.proofs.Passes.{first_both, tells_first}
-use Rattle.som_lawful.proofs.PlainLists.{none_flat}
-use Rattle.som_lawful.proofs.PlainMembers.{both_true}
-use Rattle.som_lawful.proofs.PlainMoves.{flat_mem, mem_flat}
-use Rattle.som_scope.specs.ClassNames.{key_of}
-use Rattle.som_drafts.specs.declared.drafts.Draft.{Draft}
-use Rattle.som_drafts.specs.Items.{Chosen, Given, chosen, chosen_by, chosen_in, given, if_given, is_override, or_object, overridden, replaced, selecting, with_modifier}
-use Rattle.som_drafts.specs.Drafts.{InterfaceDraft, plain_draft, plain_drafts}
-use Rattle.som_declarations.specs.Finished.{introducer}
+use Rattle.som_ast.specs.declared.words.Word.{Word}
+use Rattle.som_ast.specs.declared.interface.Modifier.{Modifier}
+use Rattle.som_ast.specs.declared.interface.Modifier.TheVariants as modifiers
+use Rattle.som_verify_classes.specs.declared.types.VerifyFault.{VerifyFault}
+use Rattle.som_verify_classes.specs.Places.{key_at}
+use Rattle.som_verify_classes.specs.Told.{Tells}
+use Rattle.som_verify_classes.proofs.Before.{both_none, none_both}
+use Rattle.som_verify_classes.proofs.Owners.{flat_none}
+use Rattle.som_verify_classes.proofs.Passes.{first_both, tells_first}
+use Rattle.som_verify_classes.proofs.PlainLists.{none_flat}
+use Rattle.som_verify_classes.proofs.PlainMembers.{both_true}
+use Rattle.som_verify_classes.proofs.PlainMoves.{flat_mem, mem_flat}
+use Rattle.som_sema_scope.specs.ClassNames.{key_of}
+use Rattle.som_sema_drafts.specs.declared.drafts.Draft.{Draft}
+use Rattle.som_sema_drafts.specs.Items.{Chosen, Given, chosen, chosen_by, chosen_in, given, if_given, is_override, or_object, overridden, replaced, selecting, with_modifier}
+use Rattle.som_sema_drafts.specs.Drafts.{InterfaceDraft, plain_draft, plain_drafts}
+use Rattle.som_sema_decls.specs.Finished.{introducer}
 use Rattle.som_sema.specs.TextRules.{is_inherited, may_take, replaces, replaces_inherited, text_s10, text_s10_from}
 use Rattle.som_sema.specs.PlainTexts.{Inherits, ReplacedInherited}
 use Rattle.som_sema.proofs.TextBases.{demanded_text}

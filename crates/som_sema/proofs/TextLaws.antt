@@ -11,26 +11,26 @@ use Rattle.som_model.specs.Classes.{hierarchy, is_a}
 use Rattle.som_model.specs.Kernel.{som_class}
 use Rattle.som_model.proofs.KeyLaws.{both, exact_bytes, exact_keys}
 use Rattle.som_model.proofs.NamedLaws.{hierarchy_same}
-use Rattle.som_laws.proofs.Laws.{among_mem, descends_test}
-use Rattle.som_laws.proofs.Members.{mem_left, mem_right, mem_split}
-use Rattle.som_syntax.specs.declared.words.Word.{Word}
-use Rattle.som_syntax.specs.declared.interface.Item.{Item}
-use Rattle.som_syntax.specs.declared.interface.Item.TheVariants as items
-use Rattle.som_syntax.specs.declared.interface.Modifier.{Modifier}
-use Rattle.som_syntax.specs.declared.interface.Modifier.TheVariants as modifiers
-use Rattle.som_lawful.specs.Plainly.{Differ, IsAmong}
-use Rattle.som_laws.specs.Once.{add_new, adds}
-use Rattle.som_ancestry.proofs.Before.{both_none, none_both}
-use Rattle.som_ancestry.proofs.Owners.{flat_none}
-use Rattle.som_lawful.proofs.PlainLists.{apart_by, apart_differ, by_apart, differ_apart, map_mem, map_none, mem_map, none_flat, none_map}
-use Rattle.som_lawful.proofs.PlainMoves.{flat_mem, mem_flat}
-use Rattle.som_lawful.proofs.PlainNames.{among_known, known_among}
-use Rattle.som_scope.specs.ClassNames.{key_of}
-use Rattle.som_drafts.specs.Items.{Given, given, is_call, is_override, is_select, item_words, listed, metaclass_in, metaclass_names, or_object, replaced, with_modifier}
-use Rattle.som_scope.specs.Words.{once}
-use Rattle.som_drafts.specs.Drafts.{InterfaceDraft}
-use Rattle.som_refusals.specs.Demands.{text_breach, text_demand}
-use Rattle.som_alone.specs.OwnRules.{Said, may_be, misplaced, nothing_said, said_after, second, text_s6, text_s11, text_s12}
+use Rattle.som_model_laws.proofs.Laws.{among_mem, descends_test}
+use Rattle.som_model_laws.proofs.Members.{mem_left, mem_right, mem_split}
+use Rattle.som_ast.specs.declared.words.Word.{Word}
+use Rattle.som_ast.specs.declared.interface.Item.{Item}
+use Rattle.som_ast.specs.declared.interface.Item.TheVariants as items
+use Rattle.som_ast.specs.declared.interface.Modifier.{Modifier}
+use Rattle.som_ast.specs.declared.interface.Modifier.TheVariants as modifiers
+use Rattle.som_verify_classes.specs.Plainly.{Differ, IsAmong}
+use Rattle.som_model_laws.specs.Once.{add_new, adds}
+use Rattle.som_verify_classes.proofs.Before.{both_none, none_both}
+use Rattle.som_verify_classes.proofs.Owners.{flat_none}
+use Rattle.som_verify_classes.proofs.PlainLists.{apart_by, apart_differ, by_apart, differ_apart, map_mem, map_none, mem_map, none_flat, none_map}
+use Rattle.som_verify_classes.proofs.PlainMoves.{flat_mem, mem_flat}
+use Rattle.som_verify_classes.proofs.PlainNames.{among_known, known_among}
+use Rattle.som_sema_scope.specs.ClassNames.{key_of}
+use Rattle.som_sema_drafts.specs.Items.{Given, given, is_call, is_override, is_select, item_words, listed, metaclass_in, metaclass_names, or_object, replaced, with_modifier}
+use Rattle.som_sema_scope.specs.Words.{once}
+use Rattle.som_sema_drafts.specs.Drafts.{InterfaceDraft}
+use Rattle.som_sema_drafts.specs.Demands.{text_breach, text_demand}
+use Rattle.som_sema_local.specs.OwnRules.{Said, may_be, misplaced, nothing_said, said_after, second, text_s6, text_s11, text_s12}
 use Rattle.som_sema.specs.TextRules.{base_stands, bases, makes_classes, text_s2, text_s2_from, text_s4}
 use Rattle.som_sema.specs.PlainTexts.{BasesStand, ItemsDiffer, MetaclassesDescend, ModifiersStand, NamesDiffer}
 use Rattle.som_sema.proofs.TextBases.{demanded_text}

@@ -12,30 +12,30 @@ use Rattle.som_model.specs.Classes.{hierarchy, interface_classes}
 use Rattle.som_model.specs.Conforming.{each_after, first_of_members, first_of_names}
 use Rattle.som_model.specs.Kernel.{kernel}
 use Rattle.som_model.specs.Rules.{RuleBreach, s1, s2, s3, s4, s5, s6, s7, s8, s9, s10}
-use Rattle.som_syntax.specs.declared.interface.IdlInterface.{IdlInterface}
-use Rattle.som_laws.proofs.Members.{mem_right, mem_split}
-use Rattle.som_ancestry.specs.Faces.{classes_breach, faces_breach}
-use Rattle.som_ancestry.specs.Modules.{AreDeclared}
-use Rattle.som_ancestry.specs.Places.{with_kernel}
-use Rattle.som_lawful.specs.Plainly.{EntriesDiffer, IsAmong, NamesApart, OverridesInherited, ParentsBefore, SelectsInherited}
-use Rattle.som_lawful.proofs.PlainSelects.{say_replaced}
-use Rattle.som_ancestry.specs.Told.{of_release}
-use Rattle.som_ancestry.proofs.Before.{both_none}
-use Rattle.som_ancestry.proofs.DeclaredClasses.{faces_declared, long_map, map_declared}
-use Rattle.som_ancestry.proofs.Finding.{kernel_declared}
-use Rattle.som_ancestry.proofs.Conformity.{none_or, or_none}
-use Rattle.som_lawful.proofs.PlainMembers.{entries_say, say_types, types_say}
-use Rattle.som_lawful.proofs.PlainMoves.{lower}
-use Rattle.som_lawful.proofs.PlainNames.{among_known, known_among, names_say, parents_say}
+use Rattle.som_ast.specs.declared.interface.IdlInterface.{IdlInterface}
+use Rattle.som_model_laws.proofs.Members.{mem_right, mem_split}
+use Rattle.som_verify_classes.specs.Faces.{classes_breach, faces_breach}
+use Rattle.som_verify_classes.specs.Modules.{AreDeclared}
+use Rattle.som_verify_classes.specs.Places.{with_kernel}
+use Rattle.som_verify_classes.specs.Plainly.{EntriesDiffer, IsAmong, NamesApart, OverridesInherited, ParentsBefore, SelectsInherited}
+use Rattle.som_verify_classes.proofs.PlainSelects.{say_replaced}
+use Rattle.som_verify_classes.specs.Told.{of_release}
+use Rattle.som_verify_classes.proofs.Before.{both_none}
+use Rattle.som_verify_classes.proofs.DeclaredClasses.{faces_declared, long_map, map_declared}
+use Rattle.som_verify_classes.proofs.Finding.{kernel_declared}
+use Rattle.som_verify_classes.proofs.Conformity.{none_or, or_none}
+use Rattle.som_verify_classes.proofs.PlainMembers.{entries_say, say_types, types_say}
+use Rattle.som_verify_classes.proofs.PlainMoves.{lower}
+use Rattle.som_verify_classes.proofs.PlainNames.{among_known, known_among, names_say, parents_say}
 use Rattle.som_model.specs.declared.class.Select.{Select}
-use Rattle.som_declarations.specs.Known.{after_base}
+use Rattle.som_sema_decls.specs.Known.{after_base}
 use Rattle.som_sema.specs.Building.{declarations, declared_all, draft_rules_breach, items_breach, module_over, moved_breach, draft_breach, selecting_declarations, texts_breach}
-use Rattle.som_declarations.specs.Finished.{place_of, select_of, selects_at}
-use Rattle.som_drafts.specs.Items.{chosen, or_object}
+use Rattle.som_sema_decls.specs.Finished.{place_of, select_of, selects_at}
+use Rattle.som_sema_drafts.specs.Items.{chosen, or_object}
 use Rattle.som_sema.proofs.Introducing.{same_introducer}
 use Rattle.som_sema.proofs.Replaced.{filled, inherited_own, introduce_same, map_where, none_selected, outlines, overrides_inherited, same_entries, same_outlines, selects_inherited}
-use Rattle.som_drafts.specs.Drafts.{InterfaceDraft, draft_of, draft_classes}
-use Rattle.som_alone.specs.OwnRules.{text_s6, text_s11, text_s12}
+use Rattle.som_sema_drafts.specs.Drafts.{InterfaceDraft, draft_of, draft_classes}
+use Rattle.som_sema_local.specs.OwnRules.{text_s6, text_s11, text_s12}
 use Rattle.som_sema.specs.TextRules.{text_s10, text_s10_from, text_s2_from, text_s4}
 use Rattle.som_sema.specs.Ancestry.{AreDrafts}
 use Rattle.som_sema.proofs.BaseKept.{AreClosed, base_closed, s4_more, s8_more}

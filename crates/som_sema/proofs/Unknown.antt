@@ -11,8 +11,8 @@ use Rattle.som_model.specs.declared.key.ClassKey.{ClassKey}
 use Rattle.som_model.specs.declared.key.ClassKey.TheVariants as keys
 use Rattle.som_model.proofs.KeyLaws.{exact_keys}
 use Rattle.som_model.proofs.NamedLaws.{height_named, hierarchy_same}
-use Rattle.som_laws.proofs.Members.{not_true}
-use Rattle.som_ancestry.specs.Places.{Finds, key_at, with_kernel}
+use Rattle.som_model_laws.proofs.Members.{not_true}
+use Rattle.som_verify_classes.specs.Places.{Finds, key_at, with_kernel}
 
 place_none : (n : ℕ) (cs : List Class) (k : ClassKey) → ((p : ℕ) → p < length cs → key_at cs p ≡ k → ⊥) → place_from n (λ (c : Class). same_key c.key k) cs ≡ None
 place_none n [] k f = refl

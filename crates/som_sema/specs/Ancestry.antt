@@ -7,17 +7,17 @@ use Rattle.som_model.specs.Kernel.{kernel}
 use Rattle.som_model.specs.Rules.{name_of, s1, s2}
 use Rattle.som_model.specs.Class.{Class}
 use Rattle.som_order.specs.Names.{texts}
-use Rattle.som_ancestry.specs.Modules.{AreDeclared}
-use Rattle.som_ancestry.specs.Places.{IsRows, with_kernel}
-use Rattle.som_laws.specs.Rows.{AreAncestors}
-use Rattle.som_drafts.specs.Drafts.{InterfaceDraft, draft_class}
-use Rattle.som_syntax.specs.declared.interface.IdlInterface.{IdlInterface}
-use Rattle.som_scope.specs.Words.{once}
-use Rattle.som_drafts.specs.Items.{or_object, selecting}
+use Rattle.som_verify_classes.specs.Modules.{AreDeclared}
+use Rattle.som_verify_classes.specs.Places.{IsRows, with_kernel}
+use Rattle.som_model_laws.specs.Rows.{AreAncestors}
+use Rattle.som_sema_drafts.specs.Drafts.{InterfaceDraft, draft_class}
+use Rattle.som_ast.specs.declared.interface.IdlInterface.{IdlInterface}
+use Rattle.som_sema_scope.specs.Words.{once}
+use Rattle.som_sema_drafts.specs.Items.{or_object, selecting}
 use Rattle.som_sema.specs.declared.ancestry.AncestorTable.{AncestorTable}
 use Rattle.som_sema.specs.declared.inherited.Selecting.{Selecting}
-use Rattle.som_introducers.specs.Ranking.{IsRanking}
-use Rattle.som_introducers.specs.declared.ranking.Ranking.{Ranking}
+use Rattle.som_sema_names.specs.Ranking.{IsRanking}
+use Rattle.som_sema_names.specs.declared.ranking.Ranking.{Ranking}
 
 -- lists of places, made of the parents' places, are the ancestors of these classes
 pub record AreAncestorLists (cs : List Class) (all : List (List ℕ)) : Type 0 where

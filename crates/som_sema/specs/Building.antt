@@ -10,17 +10,17 @@ use Rattle.som_model.specs.Class.{Class, class_in}
 use Rattle.som_model.specs.Classes.{interface_classes}
 use Rattle.som_model.specs.Conforming.{each_after}
 use Rattle.som_model.specs.Rules.{RuleBreach, s1, s3, s5, s7, s8, s9}
-use Rattle.som_syntax.specs.declared.interface.IdlInterface.{IdlInterface}
-use Rattle.som_ancestry.specs.Places.{with_kernel}
-use Rattle.som_ancestry.specs.Told.{told}
-use Rattle.som_refusals.specs.declared.types.Refused.{Refused}
-use Rattle.som_refusals.specs.declared.types.Refused.TheVariants as faults
-use Rattle.som_scope.specs.Words.{interface_names, once}
-use Rattle.som_scope.specs.ClassNames.{face_names, kernel_names, module_by_names}
-use Rattle.som_drafts.specs.Drafts.{InterfaceDraft, draft_of, draft_classes}
-use Rattle.som_declarations.specs.Known.{after_base}
-use Rattle.som_declarations.specs.Finished.{declare, declare_selecting}
-use Rattle.som_alone.specs.OwnRules.{text_s6, text_s11, text_s12}
+use Rattle.som_ast.specs.declared.interface.IdlInterface.{IdlInterface}
+use Rattle.som_verify_classes.specs.Places.{with_kernel}
+use Rattle.som_verify_classes.specs.Told.{told}
+use Rattle.som_sema_drafts.specs.declared.types.Refused.{Refused}
+use Rattle.som_sema_drafts.specs.declared.types.Refused.TheVariants as faults
+use Rattle.som_sema_scope.specs.Words.{interface_names, once}
+use Rattle.som_sema_scope.specs.ClassNames.{face_names, kernel_names, module_by_names}
+use Rattle.som_sema_drafts.specs.Drafts.{InterfaceDraft, draft_of, draft_classes}
+use Rattle.som_sema_decls.specs.Known.{after_base}
+use Rattle.som_sema_decls.specs.Finished.{declare, declare_selecting}
+use Rattle.som_sema_local.specs.OwnRules.{text_s6, text_s11, text_s12}
 use Rattle.som_sema.specs.TextRules.{text_s2_from, text_s4, text_s10_from}
 
 -- where the names in the texts of a module lead, which is compiled against a base

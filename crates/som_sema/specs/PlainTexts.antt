@@ -8,14 +8,14 @@ use Rattle.som_model.specs.Class.{Class, introduced}
 use Rattle.som_model.specs.Classes.{ancestors, hierarchy}
 use Rattle.som_model.specs.Owner.{introduced_by}
 use Rattle.som_model.specs.Kernel.{som_class}
-use Rattle.som_laws.specs.First.{IsFirst}
-use Rattle.som_syntax.specs.declared.words.Word.{Word}
-use Rattle.som_syntax.specs.declared.interface.Item.TheVariants as items
-use Rattle.som_ancestry.specs.Places.{key_at}
-use Rattle.som_lawful.specs.Plainly.{Differ, IsAmong}
-use Rattle.som_scope.specs.ClassNames.{key_of}
-use Rattle.som_drafts.specs.Items.{Chosen, chosen, given, is_call, is_override, is_select, item_words, listed, or_object, overridden, with_modifier}
-use Rattle.som_drafts.specs.Drafts.{InterfaceDraft}
+use Rattle.som_model_laws.specs.First.{IsFirst}
+use Rattle.som_ast.specs.declared.words.Word.{Word}
+use Rattle.som_ast.specs.declared.interface.Item.TheVariants as items
+use Rattle.som_verify_classes.specs.Places.{key_at}
+use Rattle.som_verify_classes.specs.Plainly.{Differ, IsAmong}
+use Rattle.som_sema_scope.specs.ClassNames.{key_of}
+use Rattle.som_sema_drafts.specs.Items.{Chosen, chosen, given, is_call, is_override, is_select, item_words, listed, or_object, overridden, with_modifier}
+use Rattle.som_sema_drafts.specs.Drafts.{InterfaceDraft}
 
 -- S2: each parent, SOMObject where none is named, and each metaclass item names a class that stands before; the first interface's class stands at place n
 pub record BasesStand (module_of : List ℕ → Module) (cs : List Class) (n : ℕ) (ds : List InterfaceDraft) : Type 0 where

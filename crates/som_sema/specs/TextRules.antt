@@ -8,15 +8,15 @@ use Rattle.som_model.specs.Class.{Class}
 use Rattle.som_model.specs.Classes.{class_at, is_a}
 use Rattle.som_model.specs.Kernel.{som_class}
 use Rattle.som_model.specs.Rules.{RuleBreach}
-use Rattle.som_syntax.specs.declared.interface.IdlInterface.{IdlInterface}
-use Rattle.som_syntax.specs.declared.interface.Modifier.{Modifier}
-use Rattle.som_syntax.specs.declared.interface.Modifier.TheVariants as modifiers
-use Rattle.som_scope.specs.ClassNames.{key_of}
-use Rattle.som_ancestry.specs.Places.{key_at}
-use Rattle.som_drafts.specs.Items.{Given, given, metaclass_names, or_object, selecting}
-use Rattle.som_drafts.specs.Drafts.{InterfaceDraft}
-use Rattle.som_refusals.specs.Demands.{text_demand}
-use Rattle.som_declarations.specs.Finished.{introducer}
+use Rattle.som_ast.specs.declared.interface.IdlInterface.{IdlInterface}
+use Rattle.som_ast.specs.declared.interface.Modifier.{Modifier}
+use Rattle.som_ast.specs.declared.interface.Modifier.TheVariants as modifiers
+use Rattle.som_sema_scope.specs.ClassNames.{key_of}
+use Rattle.som_verify_classes.specs.Places.{key_at}
+use Rattle.som_sema_drafts.specs.Items.{Given, given, metaclass_names, or_object, selecting}
+use Rattle.som_sema_drafts.specs.Drafts.{InterfaceDraft}
+use Rattle.som_sema_drafts.specs.Demands.{text_demand}
+use Rattle.som_sema_decls.specs.Finished.{introducer}
 
 -- the names of the parents, and then of the metaclass items
 abbrev pub bases : IdlInterface → List (List ℕ)

@@ -5,16 +5,16 @@ ghost use Rattle.som_model.specs.Kernel.{kernel};
 ghost use Rattle.som_model.specs.Lists.{first};
 ghost use Rattle.som_model.specs.Rules.{s2};
 ghost use Rattle.som_order.specs.Names.{texts};
-ghost use Rattle.som_ancestry.specs.Modules.{classes_of};
-ghost use Rattle.som_ancestry.specs.Places.{IsTable};
-ghost use Rattle.som_ancestry.specs.declared.types.VerifyFault.TheVariants as faults;
+ghost use Rattle.som_verify_classes.specs.Modules.{classes_of};
+ghost use Rattle.som_verify_classes.specs.Places.{IsTable};
+ghost use Rattle.som_verify_classes.specs.declared.types.VerifyFault.TheVariants as faults;
 ghost use Rattle.som_sema.specs.Ancestry.{AreAncestorLists};
 ghost use Rattle.std.specs.Prelude.{◌≡◌, IfErr, IfOk, None};
 
 use indexmap::IndexSet;
-use som_ancestry::{Declared, VerifyFault};
 use som_model::{List, NoMemory};
-use som_standing::{ancestors, parents_stand};
+use som_verify_classes::{Declared, VerifyFault};
+use som_verify_parents::{ancestors, parents_stand};
 use std::alloc::Global;
 
 /// The names of classes by their places, and the ancestors of each.

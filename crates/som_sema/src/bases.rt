@@ -4,24 +4,23 @@ ghost use Rattle.som_model.specs.Classes.{class_at, is_a};
 ghost use Rattle.som_model.specs.Kernel.{som_class};
 ghost use Rattle.som_model.specs.Lists.{first};
 ghost use Rattle.som_order.specs.Names.{texts};
-ghost use Rattle.som_ancestry.specs.Modules.{classes_of};
-ghost use Rattle.som_ancestry.specs.Places.{IsTable, key_at as key_at_place, with_kernel};
-ghost use Rattle.som_ancestry.specs.Told.{Tells};
-ghost use Rattle.som_ancestry.specs.Walk.{AreLists};
-ghost use Rattle.som_scope.specs.ClassNames as names_of_classes;
-ghost use Rattle.som_scope.specs.ClassNames.{module_in_scope};
-ghost use Rattle.som_drafts.specs.Drafts.{plain_draft, plain_drafts};
+ghost use Rattle.som_verify_classes.specs.Modules.{classes_of};
+ghost use Rattle.som_verify_classes.specs.Places.{IsTable, key_at as key_at_place, with_kernel};
+ghost use Rattle.som_verify_classes.specs.Told.{Tells};
+ghost use Rattle.som_verify_classes.specs.Walk.{AreLists};
+ghost use Rattle.som_sema_scope.specs.ClassNames as names_of_classes;
+ghost use Rattle.som_sema_scope.specs.ClassNames.{module_in_scope};
+ghost use Rattle.som_sema_drafts.specs.Drafts.{plain_draft, plain_drafts};
 ghost use Rattle.som_sema.specs.TextRules.{text_s2, text_s2_from, text_s4};
-ghost use Rattle.som_drafts.specs.declared.drafts.Draft.{Draft as Known};
+ghost use Rattle.som_sema_drafts.specs.declared.drafts.Draft.{Draft as Known};
 ghost use Rattle.std.specs.Prelude.{◌≡◌, ◌<◌, ◌+◌, length, take, flat_map, is_some, slice_get, IfOk, Some};
 
 use indexmap::IndexSet;
-use som_alone::{base_names, metaclass_names};
-use som_ancestry::{Declared, KERNEL_CLASSES, VerifyFault, descends_by, find_class};
-use som_drafts::Draft;
 use som_model::{List, NoMemory};
-use som_refusals::{breach, each_draft};
-use som_scope::{Scope, key_of};
+use som_sema_drafts::{Draft, breach, each_draft};
+use som_sema_local::{base_names, metaclass_names};
+use som_sema_scope::{Scope, key_of};
+use som_verify_classes::{Declared, KERNEL_CLASSES, VerifyFault, descends_by, find_class};
 use std::alloc::Global;
 
 /// The place of the class of classes.

@@ -4,34 +4,33 @@ ghost use Rattle.som_model.specs.Class.{class_in};
 ghost use Rattle.som_model.specs.Classes.{interface_classes};
 ghost use Rattle.som_model.specs.Kernel.{kernel_interface};
 ghost use Rattle.som_model.specs.declared.key.Module.TheVariants as modules;
-ghost use Rattle.som_ancestry.specs.Faces.{faces_breach};
-ghost use Rattle.som_ancestry.specs.Modules.{classes_of};
-ghost use Rattle.som_ancestry.specs.Told.{Tells};
-ghost use Rattle.som_scope.specs.ClassNames.{module_in_scope};
-ghost use Rattle.som_scope.specs.Words.{interfaces_of, lent};
+ghost use Rattle.som_verify_classes.specs.Faces.{faces_breach};
+ghost use Rattle.som_verify_classes.specs.Modules.{classes_of};
+ghost use Rattle.som_verify_classes.specs.Told.{Tells};
+ghost use Rattle.som_sema_scope.specs.ClassNames.{module_in_scope};
+ghost use Rattle.som_sema_scope.specs.Words.{interfaces_of, lent};
 ghost use Rattle.som_sema.specs.Ancestry.{AreDrafts, IsAncestorTable};
 ghost use Rattle.som_sema.specs.Building as spec;
 ghost use Rattle.som_sema.specs.Building.{FacesTold, declared_all, draft_rules_breach, finished_breach, moved_breach, texts_breach};
-ghost use Rattle.som_declarations.specs.Known.{after_base};
-ghost use Rattle.som_drafts.specs.Drafts.{draft_classes, draft_of, plain_drafts};
+ghost use Rattle.som_sema_decls.specs.Known.{after_base};
+ghost use Rattle.som_sema_drafts.specs.Drafts.{draft_classes, draft_of, plain_drafts};
 ghost use Rattle.std.specs.Prelude.{◌≡◌, ◌++◌, map, IfOk, OnOk, None};
 
 use crate::ancestry::AncestorTable;
 use crate::inherited::replaced_inherited;
 use crate::rules::{drafts_hold, moves_hold};
-use som_alone::{drafts_of, items_differ, modifiers_stand};
-use som_ancestry::{Declared, KERNEL_CLASSES, VerifyFault};
-use som_declarations::{declarations, known_classes};
-use som_drafts::Draft;
-use som_kernel::kernel_faces;
+use som_ast::{IdlFile, IdlInterface};
+use som_builtins::kernel_faces;
 use som_model::{
     ClassDecl, ClassFace, Interface, List, MAX_CLIENT_CLASSES, MAX_LIBRARY_CLASSES, Module,
     NoMemory, Text,
 };
-use som_refusals::{Refused, refused};
-use som_scope::{Scope, scope_of};
-use som_standing::{bare_classes, declare};
-use som_syntax::{IdlFile, IdlInterface};
+use som_sema_decls::{declarations, known_classes};
+use som_sema_drafts::{Draft, Refused, refused};
+use som_sema_local::{drafts_of, items_differ, modifiers_stand};
+use som_sema_scope::{Scope, scope_of};
+use som_verify_classes::{Declared, KERNEL_CLASSES, VerifyFault};
+use som_verify_parents::{bare_classes, declare};
 use std::alloc::Global;
 
 /// The declarations that texts stand for, without bodies, or the first limit or rule that they break. They are compiled

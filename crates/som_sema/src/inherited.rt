@@ -1,17 +1,17 @@
 //! What modifiers replace is inherited: S10 of texts.
 
-ghost use Rattle.som_introducers.specs.Introducers.{AreIntroducers};
+ghost use Rattle.som_sema_names.specs.Introducers.{AreIntroducers};
 ghost use Rattle.som_model.specs.Kernel.{kernel_interface};
 ghost use Rattle.som_model.specs.Lists.{first};
 ghost use Rattle.som_order.specs.Names.{texts};
-ghost use Rattle.som_ancestry.specs.Modules.{classes_of};
-ghost use Rattle.som_ancestry.specs.Places.{key_at, with_kernel};
-ghost use Rattle.som_ancestry.specs.Told.{Tells};
-ghost use Rattle.som_scope.specs.ClassNames.{module_in_scope};
-ghost use Rattle.som_scope.specs.Words.{once};
+ghost use Rattle.som_verify_classes.specs.Modules.{classes_of};
+ghost use Rattle.som_verify_classes.specs.Places.{key_at, with_kernel};
+ghost use Rattle.som_verify_classes.specs.Told.{Tells};
+ghost use Rattle.som_sema_scope.specs.ClassNames.{module_in_scope};
+ghost use Rattle.som_sema_scope.specs.Words.{once};
 ghost use Rattle.som_sema.specs.Ancestry.{Inherits, IsAncestorTable, IsOfText};
-ghost use Rattle.som_drafts.specs.Drafts.{plain_draft, plain_drafts};
-ghost use Rattle.som_drafts.specs.Items.{given, given_by, or_object};
+ghost use Rattle.som_sema_drafts.specs.Drafts.{plain_draft, plain_drafts};
+ghost use Rattle.som_sema_drafts.specs.Items.{given, given_by, or_object};
 ghost use Rattle.som_sema.specs.TextRules as rules;
 ghost use Rattle.som_sema.specs.TextRules.{replaces, replaces_inherited, text_s10, text_s10_from};
 ghost use Rattle.std.specs.Prelude.{◌≡◌, ◌<◌, ◌+◌, length, map, flat_map, IfOk};
@@ -19,15 +19,14 @@ ghost use Rattle.std.specs.Prelude.{◌≡◌, ◌<◌, ◌+◌, length, map, fl
 use crate::ancestry::AncestorTable;
 use crate::bases::descends_from;
 use indexmap::IndexSet;
-use som_ancestry::{Declared, VerifyFault};
-use som_declarations::{introducer_place, ranking_above};
-use som_drafts::{Draft, Mark, marks, parent_names, selecting};
-use som_introducers::{Introducers, Ranking, introducers_of};
+use som_ast::Modifier;
 use som_model::{ClassFace, NoMemory};
 use som_order::find_name;
-use som_refusals::breach;
-use som_scope::{Scope, table_of};
-use som_syntax::Modifier;
+use som_sema_decls::{introducer_place, ranking_above};
+use som_sema_drafts::{Draft, Mark, breach, marks, parent_names, selecting};
+use som_sema_names::{Introducers, Ranking, introducers_of};
+use som_sema_scope::{Scope, table_of};
+use som_verify_classes::{Declared, VerifyFault};
 use std::alloc::Global;
 
 /// The methods with `select` in a text, and the parents of its interface.

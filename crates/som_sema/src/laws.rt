@@ -1,6 +1,6 @@
 //! Laws of the rules on texts: what each says, and what declarations of such texts keep.
 
-ghost use Rattle.som_syntax.specs.declared.interface.IdlInterface.{IdlInterface};
+ghost use Rattle.som_ast.specs.declared.interface.IdlInterface.{IdlInterface};
 ghost use Rattle.som_model.specs.Class.{Class};
 ghost use Rattle.som_model.specs.Classes.{hierarchy, interface_classes};
 ghost use Rattle.som_model.specs.Hierarchy.{Falls};
@@ -8,14 +8,14 @@ ghost use Rattle.som_model.specs.Lists.{first};
 ghost use Rattle.som_model.specs.declared.key.Module.TheVariants as modules;
 ghost use Rattle.som_model.specs.declared.key.Module.{Module};
 ghost use Rattle.som_model.specs.declared.program.Interface.{Interface};
-ghost use Rattle.som_ancestry.specs.Faces.{classes_breach, faces_breach};
-ghost use Rattle.som_ancestry.specs.Told.{of_release};
-ghost use Rattle.som_lawful.specs.Plainly.{SelectsInherited};
-ghost use Rattle.som_declarations.specs.Known.{after_base};
+ghost use Rattle.som_verify_classes.specs.Faces.{classes_breach, faces_breach};
+ghost use Rattle.som_verify_classes.specs.Told.{of_release};
+ghost use Rattle.som_verify_classes.specs.Plainly.{SelectsInherited};
+ghost use Rattle.som_sema_decls.specs.Known.{after_base};
 ghost use Rattle.som_sema.specs.Building.{declarations, selecting_declarations, texts_breach};
-ghost use Rattle.som_drafts.specs.Drafts.{InterfaceDraft};
+ghost use Rattle.som_sema_drafts.specs.Drafts.{InterfaceDraft};
 ghost use Rattle.som_sema.specs.PlainTexts.{BasesStand, ItemsDiffer, MetaclassesDescend, ModifiersStand, NamesDiffer, ReplacedInherited};
-ghost use Rattle.som_alone.specs.OwnRules.{text_s11, text_s12, text_s6};
+ghost use Rattle.som_sema_local.specs.OwnRules.{text_s11, text_s12, text_s6};
 ghost use Rattle.som_sema.specs.TextRules.{text_s10_from, text_s2_from, text_s4};
 ghost use Rattle.std.specs.Prelude.{◌≡◌, ◌↔◌, ℕ, List as Seq, [], flat_map, length, None};
 

@@ -10,3 +10,4 @@ mod rules;
 
 pub use build::{all_interfaces, build_faces};
 pub use laws::{declarations_law, text_rules_law};
+pub use som_sema_drafts::Refused;

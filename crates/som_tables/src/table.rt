@@ -23,7 +23,12 @@ pub struct Table<K: Kind> {
 
 impl<K: Kind> Drop for Table<K> {
     fn drop(self) {
-        let Table { rows, lines, starts, cells } = self;
+        let Table {
+            rows,
+            lines,
+            starts,
+            cells,
+        } = self;
         drop(rows);
         drop(lines);
         drop(starts);

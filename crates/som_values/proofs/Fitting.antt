@@ -1,9 +1,9 @@
 -- Values that are more or fewer than the types don't fit them.
 use Rattle.std.proofs.Common.{◌≡◌, suc, Bool, true, false, ◌&&◌, List, [], ◌∷◌, length, refl, ap}
 use Rattle.som_model.specs.declared.key.ValueType.{ValueType}
-use Rattle.som_model.specs.World.{World}
-use Rattle.som_model.specs.State.{Heap}
-use Rattle.som_model.specs.Values.{fits, all_fit}
+use Rattle.som_semantics.specs.World.{World}
+use Rattle.som_semantics.specs.State.{Heap}
+use Rattle.som_semantics.specs.Values.{fits, all_fit}
 use Rattle.som_objects.specs.declared.cell.Cell.{Cell}
 use Rattle.som_values.specs.Shown.{Showing, shown, all_shown}
 

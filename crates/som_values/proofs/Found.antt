@@ -1,7 +1,7 @@
 -- The receiver that a cell refers to.
 use Rattle.std.proofs.Common.{◌≡◌, Option, Some, None, Result, refl, sym, ap, subst, ◌∙◌}
 use Rattle.som_model.specs.declared.program.Fault.{Fault}
-use Rattle.som_model.specs.State.{Heap, Ref, Tried, live, receiver}
+use Rattle.som_semantics.specs.State.{Heap, Ref, Tried, live, receiver}
 use Rattle.som_objects.specs.declared.cell.Cell.{Cell}
 use Rattle.som_objects.specs.declared.cell.Cell.TheVariants as cells
 use Rattle.som_values.specs.declared.reference.Reference.{Reference}

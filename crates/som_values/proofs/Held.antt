@@ -3,7 +3,7 @@ use Rattle.std.proofs.Common.{◌≡◌, ◌≢◌, ℕ, zero, suc, ◌==◌, in
 use Rattle.std.proofs.lemmas.Bool.{cases_eq}
 use Rattle.som_model.specs.declared.key.ClassKey.{ClassKey}
 use Rattle.som_model.specs.Keys.{same_key}
-use Rattle.som_model.specs.State.{Value, Variables, put}
+use Rattle.som_semantics.specs.State.{Value, Variables, put}
 use Rattle.som_model.proofs.KeyLaws.{both, exact_numbers, exact_keys}
 use Rattle.som_objects.specs.declared.cell.Cell.{Cell}
 use Rattle.som_values.specs.Shown.{Showing, shown, IsSeen, showing}

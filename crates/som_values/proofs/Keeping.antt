@@ -2,7 +2,7 @@
 use Rattle.std.proofs.Common.{◌≡◌, ◌≢◌, ℕ, zero, suc, ◌+◌, ◌-◌, ◌<◌, ◌≤◌, ◌==◌, ◌⊎◌, inl, inr, Bool, true, false, if◌then◌else◌, List, [], ◌∷◌, ◌++◌, length, Option, Some, None, slice_get, slice_set, refl, sym, ap, subst, ◌∙◌, arith, length-append}
 use Rattle.std.proofs.lemmas.Bool.{cases_eq}
 use Rattle.som_model.specs.declared.key.ClassKey.{ClassKey}
-use Rattle.som_model.specs.State.{Instance, Value, Heap, Object, changed, with_variable, no_longer_live, write, freed}
+use Rattle.som_semantics.specs.State.{Instance, Value, Heap, Object, changed, with_variable, no_longer_live, write, freed}
 use Rattle.som_model.proofs.KeyLaws.{exact_numbers}
 use Rattle.som_objects.specs.declared.cell.Cell.{Cell}
 use Rattle.som_objects.specs.declared.cell.Cell.TheVariants as cells

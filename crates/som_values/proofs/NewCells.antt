@@ -4,7 +4,7 @@ use Rattle.std.specs.List.{All}
 use Rattle.std.proofs.lemmas.List.{take_more, map-append}
 use Rattle.std.proofs.lemmas.List.Elements.{All-push}
 use Rattle.som_model.specs.declared.key.ValueType.{ValueType}
-use Rattle.som_model.specs.State.{Value, zero_of}
+use Rattle.som_semantics.specs.State.{Value, zero_of}
 use Rattle.som_objects.specs.declared.cell.Cell.{Cell}
 use Rattle.som_values.specs.Shown.{Showing, shown, all_shown}
 

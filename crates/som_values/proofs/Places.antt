@@ -2,7 +2,7 @@
 use Rattle.std.proofs.Common.{◌≡◌, ℕ, suc, ◌<◌, ◌==◌, Bool, true, false, if◌then◌else◌, List, [], ◌∷◌, ◌++◌, length, refl, sym, ap, subst, ◌∙◌, arith}
 use Rattle.som_model.specs.declared.key.ClassKey.{ClassKey}
 use Rattle.som_model.specs.Keys.{same_key}
-use Rattle.som_model.specs.State.{same_value, To, Object}
+use Rattle.som_semantics.specs.State.{same_value, To, Object}
 use Rattle.som_model.proofs.KeyLaws.{exact_numbers, exact_keys}
 use Rattle.som_objects.specs.declared.cell.Cell.{Cell}
 use Rattle.som_objects.specs.declared.cell.Cell.TheVariants as cells

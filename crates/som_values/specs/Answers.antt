@@ -1,7 +1,7 @@
 -- What is answered in the place of the meaning's values and faults.
 use Rattle.std.specs.Prelude.{◌≡◌, ℤ, Result, Ok, Err, Bool}
 use Rattle.som_model.specs.declared.program.Fault.{Fault}
-use Rattle.som_model.specs.State.{Value, Long, Boolean, Ref, Tried}
+use Rattle.som_semantics.specs.State.{Value, Long, Boolean, Ref, Tried}
 use Rattle.som_objects.specs.declared.cell.Cell.{Cell}
 use Rattle.som_values.specs.declared.reference.Reference.{Reference}
 use Rattle.som_values.specs.declared.stopped.Stopped.{Stopped}

@@ -1,6 +1,6 @@
 -- The operators of the meaning, as the code names them.
-use Rattle.som_model.specs.Values.{UnaryOp, BinaryOp}
-use Rattle.som_model.specs.Values as ops
+use Rattle.som_semantics.specs.Values.{UnaryOp, BinaryOp}
+use Rattle.som_semantics.specs.Values as ops
 use Rattle.som_values.specs.declared.operator.Binary.{Binary}
 use Rattle.som_values.specs.declared.operator.Binary.TheVariants as binaries
 use Rattle.som_values.specs.declared.operator.Unary.{Unary}

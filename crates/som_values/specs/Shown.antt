@@ -2,7 +2,7 @@
 use Rattle.std.specs.Prelude.{◌≡◌, ℕ, suc, ◌==◌, ◌<◌, if◌then◌else◌, List, [], ◌∷◌, length, map, get_or, Option, Some, None}
 use Rattle.som_model.specs.declared.key.ClassKey.{ClassKey}
 use Rattle.som_model.specs.Kernel.{som_object}
-use Rattle.som_model.specs.State.{Value, Long, Boolean, Str, Nil, To, Ref, Object, ClassObject, Manager}
+use Rattle.som_semantics.specs.State.{Value, Long, Boolean, Str, Nil, To, Ref, Object, ClassObject, Manager}
 use Rattle.som_objects.specs.declared.cell.Cell.{Cell}
 use Rattle.som_objects.specs.declared.cell.Cell.TheVariants as cells
 use Rattle.som_values.specs.declared.reference.Reference.{Reference}

@@ -5,8 +5,8 @@ use Rattle.som_model.specs.declared.key.ValueType.{ValueType}
 use Rattle.som_model.specs.declared.key.ValueType.TheVariants as types
 use Rattle.som_model.specs.declared.program.Fault.{Fault}
 use Rattle.som_model.specs.declared.program.Fault.TheVariants as faults
-use Rattle.som_model.specs.World.{World}
-use Rattle.som_model.specs.State.{Instance, Heap, Ref, is_live, class_of}
+use Rattle.som_semantics.specs.World.{World}
+use Rattle.som_semantics.specs.State.{Instance, Heap, Ref, is_live, class_of}
 use Rattle.som_objects.specs.declared.cell.Cell.{Cell}
 use Rattle.som_objects.specs.declared.cell.Cell.TheVariants as cells
 use Rattle.som_objects.specs.Objects.{Live, Objects, live_at, IsKnown}

@@ -1,7 +1,7 @@
 -- The variables of an object, in its cells.
 use Rattle.std.specs.Prelude.{◌≡◌, ℕ, List, Option, Some, slice_get}
 use Rattle.som_model.specs.declared.key.ClassKey.{ClassKey}
-use Rattle.som_model.specs.State.{Variables}
+use Rattle.som_semantics.specs.State.{Variables}
 use Rattle.som_objects.specs.declared.cell.Cell.{Cell}
 use Rattle.som_values.specs.Shown.{Showing, shown}
 

@@ -1,8 +1,8 @@
 //! Arithmetic on longs, with the faults of overflow and of division by zero.
 
-ghost use Rattle.som_model.specs.State.{Long};
-ghost use Rattle.som_model.specs.Values.{binary, unary};
-ghost use Rattle.som_model.specs.Values as ops;
+ghost use Rattle.som_semantics.specs.State.{Long};
+ghost use Rattle.som_semantics.specs.Values.{binary, unary};
+ghost use Rattle.som_semantics.specs.Values as ops;
 ghost use Rattle.som_values.specs.Answers.{long_tried};
 ghost use Rattle.std.specs.Prelude.{◌≡◌};
 

@@ -2,7 +2,7 @@
 
 ghost use Rattle.som_model.specs.declared.key.ClassKey.{ClassKey};
 ghost use Rattle.som_model.specs.Kernel.{som_class_mgr};
-ghost use Rattle.som_model.specs.World.{World};
+ghost use Rattle.som_semantics.specs.World.{World};
 ghost use Rattle.som_values.specs.Shown.{IsKey, IsNumbered, key_of};
 ghost use Rattle.std.specs.Prelude.{◌≡◌, Bool, List, true};
 

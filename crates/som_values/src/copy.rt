@@ -1,6 +1,6 @@
 //! Copies of cells, and zero values by type.
 
-ghost use Rattle.som_model.specs.State.{zero_of};
+ghost use Rattle.som_semantics.specs.State.{zero_of};
 ghost use Rattle.som_objects.specs.Objects.{Objects};
 ghost use Rattle.som_values.specs.Shown.{IsSeen, Showing, all_shown, shown};
 ghost use Rattle.som_values.specs.Stored.{IsKept};

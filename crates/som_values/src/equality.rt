@@ -1,6 +1,6 @@
 //! Equality of values.
 
-ghost use Rattle.som_model.specs.State.{same_value};
+ghost use Rattle.som_semantics.specs.State.{same_value};
 ghost use Rattle.som_values.specs.Shown.{AreApart, IsSeen, Showing, shown};
 ghost use Rattle.std.specs.Prelude.{◌≡◌};
 

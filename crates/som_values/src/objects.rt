@@ -1,6 +1,6 @@
 //! Tests of references: whether an object lives, what may receive a call, and the class of an object.
 
-ghost use Rattle.som_model.specs.State.{Heap, is_live as is_live_in, live as live_in, receiver as receiver_in};
+ghost use Rattle.som_semantics.specs.State.{Heap, is_live as is_live_in, live as live_in, receiver as receiver_in};
 ghost use Rattle.som_objects.specs.Objects.{Objects};
 ghost use Rattle.som_values.specs.Answers.{shown_found};
 ghost use Rattle.som_values.specs.Shown.{IsNumbered, IsSeen, IsSeenRef, Showing, cell_of, shown, shown_ref, showing};

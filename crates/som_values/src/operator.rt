@@ -1,6 +1,6 @@
 //! Operators by the numbers that code has for them.
 
-ghost use Rattle.som_model.specs.Values.{binary_op, unary_op};
+ghost use Rattle.som_semantics.specs.Values.{binary_op, unary_op};
 ghost use Rattle.som_values.specs.Operators.{binary_of, unary_of};
 ghost use Rattle.std.specs.Prelude.{◌≡◌};
 

@@ -1,8 +1,8 @@
 //! What operators make of cells: values, or faults.
 
-ghost use Rattle.som_model.specs.State.{Long, Str};
-ghost use Rattle.som_model.specs.Values.{binary as binary_value, binary_op, unary as unary_value, unary_op};
-ghost use Rattle.som_model.specs.Values as ops;
+ghost use Rattle.som_semantics.specs.State.{Long, Str};
+ghost use Rattle.som_semantics.specs.Values.{binary as binary_value, binary_op, unary as unary_value, unary_op};
+ghost use Rattle.som_semantics.specs.Values as ops;
 ghost use Rattle.som_objects.specs.Objects.{Objects};
 ghost use Rattle.som_values.specs.Answers.{Answers};
 ghost use Rattle.som_values.specs.Operators.{IsOnNumbers, binary_of, unary_of};

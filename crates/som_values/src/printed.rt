@@ -1,7 +1,7 @@
 //! The text of a value, and the line that `print` shows of it.
 
-ghost use Rattle.som_model.specs.RunText.{printed_line};
-ghost use Rattle.som_model.specs.Values.{text_of as text_in};
+ghost use Rattle.som_semantics.specs.RunText.{printed_line};
+ghost use Rattle.som_semantics.specs.Values.{text_of as text_in};
 ghost use Rattle.som_values.specs.Shown.{Showing, shown};
 ghost use Rattle.std.specs.Fmt.{signed_decimal};
 ghost use Rattle.std.specs.Prelude.{◌≡◌, ◌++◌, IfOk, OnOk};

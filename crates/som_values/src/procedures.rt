@@ -1,6 +1,6 @@
 //! Calls of the host's procedures on cells.
 
-ghost use Rattle.som_model.specs.Values.{host as host_value, number_of};
+ghost use Rattle.som_semantics.specs.Values.{host as host_value, number_of};
 ghost use Rattle.som_objects.specs.Objects.{Objects};
 ghost use Rattle.som_values.specs.Shown.{IsSeen, Showing, shown};
 ghost use Rattle.som_values.specs.Stored.{IsKept};

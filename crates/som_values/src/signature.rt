@@ -1,7 +1,7 @@
 //! Whether arguments and a wanted result fit a method's signature, for calls by name.
 
-ghost use Rattle.som_model.specs.State.{Heap};
-ghost use Rattle.som_model.specs.Values.{serves as serves_in, sig_fits as sig_fits_in};
+ghost use Rattle.som_semantics.specs.State.{Heap};
+ghost use Rattle.som_semantics.specs.Values.{serves as serves_in, sig_fits as sig_fits_in};
 ghost use Rattle.som_values.specs.Shown.{IsSeen, all_shown, showing};
 ghost use Rattle.som_values.specs.Stored.{Holds, IsClassed, IsKept, IsKnownType};
 ghost use Rattle.std.specs.List.{All};

@@ -1,9 +1,9 @@
 //! Tests of values against classes and types: conditions, casts, `isa`, and arguments.
 
 ghost use Rattle.som_model.specs.declared.key.ValueType.TheVariants as types;
-ghost use Rattle.som_model.specs.Expressions.{is_true as is_true_in};
-ghost use Rattle.som_model.specs.State.{Heap};
-ghost use Rattle.som_model.specs.Values.{all_fit as all_fit_in, cast as cast_in, fits as fits_in, isa as isa_in};
+ghost use Rattle.som_semantics.specs.Expressions.{is_true as is_true_in};
+ghost use Rattle.som_semantics.specs.State.{Heap};
+ghost use Rattle.som_semantics.specs.Values.{all_fit as all_fit_in, cast as cast_in, fits as fits_in, isa as isa_in};
 ghost use Rattle.som_values.specs.Answers.{passed, truth_tried};
 ghost use Rattle.som_values.specs.Shown.{IsSeen, Showing, all_shown, shown, showing};
 ghost use Rattle.som_values.specs.Stored.{Holds, IsClassed, IsKept};

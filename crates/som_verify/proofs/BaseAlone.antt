@@ -18,20 +18,20 @@ use Rattle.som_model.specs.Kernel.{class_face, kernel, object_face, som_class, s
 use Rattle.som_model.specs.Owner.{owner}
 use Rattle.som_model.specs.Rules.{name_of}
 use Rattle.som_model.proofs.NamedLaws.{hierarchy_parents, parents_named}
-use Rattle.som_laws.proofs.Members.{mem_left, mem_right, mem_split}
-use Rattle.som_ancestry.specs.Modules.{AreDeclared, module_of}
-use Rattle.som_ancestry.specs.Places.{IsTable, key_at, with_kernel}
-use Rattle.som_lawful.specs.Plainly.{ClassesHold, EntriesDiffer, Introduces, IntroducedOnce, IsAbove, IsAmong, MetaclassesDescend, MovedUp, NamesApart, OverridesInherited, ParentsBefore, ParentsDiffer, SelectsInherited, VariablesDiffer, program_classes}
-use Rattle.som_ancestry.proofs.ClassTable.{is_table}
-use Rattle.som_ancestry.proofs.DeclaredClasses.{faces_declared}
-use Rattle.som_lawful.proofs.Falling.{mem_there}
-use Rattle.som_ancestry.proofs.Finding.{kernel_declared}
-use Rattle.som_ancestry.proofs.KeyLists.{class_there}
-use Rattle.som_ancestry.proofs.Conformity.{none_or}
-use Rattle.som_lawful.proofs.PlainFaces.{say_member_rules, say_names_rules}
-use Rattle.som_lawful.proofs.PlainMembers.{say_types}
-use Rattle.som_lawful.proofs.PlainNames.{say_names}
-use Rattle.som_lawful.proofs.PlainWhole.{program_declared, program_says}
+use Rattle.som_model_laws.proofs.Members.{mem_left, mem_right, mem_split}
+use Rattle.som_verify_classes.specs.Modules.{AreDeclared, module_of}
+use Rattle.som_verify_classes.specs.Places.{IsTable, key_at, with_kernel}
+use Rattle.som_verify_classes.specs.Plainly.{ClassesHold, EntriesDiffer, Introduces, IntroducedOnce, IsAbove, IsAmong, MetaclassesDescend, MovedUp, NamesApart, OverridesInherited, ParentsBefore, ParentsDiffer, SelectsInherited, VariablesDiffer, program_classes}
+use Rattle.som_verify_classes.proofs.ClassTable.{is_table}
+use Rattle.som_verify_classes.proofs.DeclaredClasses.{faces_declared}
+use Rattle.som_verify_classes.proofs.Falling.{mem_there}
+use Rattle.som_verify_classes.proofs.Finding.{kernel_declared}
+use Rattle.som_verify_classes.proofs.KeyLists.{class_there}
+use Rattle.som_verify_classes.proofs.Conformity.{none_or}
+use Rattle.som_verify_classes.proofs.PlainFaces.{say_member_rules, say_names_rules}
+use Rattle.som_verify_classes.proofs.PlainMembers.{say_types}
+use Rattle.som_verify_classes.proofs.PlainNames.{say_names}
+use Rattle.som_verify_classes.proofs.PlainWhole.{program_declared, program_says}
 
 get_front : {A : Type 0} (xs ys : List A) (i : ℕ) (x : A) → slice_get xs i ≡ Some x → slice_get (xs ++ ys) i ≡ Some x
 get_front [] ys i x e = absurd (cc)

@@ -7,13 +7,13 @@ use Rattle.som_model.specs.Classes.{client_classes, library_classes}
 use Rattle.som_model.specs.Conforming.{ReleaseOk, ProgramOk, declared_breach, declared_program_breach, release_breach, program_breach, class_typed, main_typed, all_of_release, all_of_program}
 use Rattle.som_model.specs.declared.program.Release.{Release}
 use Rattle.som_model.specs.declared.program.ClientProgram.{ClientProgram}
-use Rattle.som_ancestry.specs.declared.types.Broken.{Broken}
-use Rattle.som_ancestry.specs.declared.types.VerifyFault.{VerifyFault}
-use Rattle.som_ancestry.specs.declared.types.VerifyFault.TheVariants as faults
-use Rattle.som_ancestry.specs.Faces.{rules_breach}
-use Rattle.som_ancestry.specs.Places.{with_kernel}
-use Rattle.som_ancestry.specs.Told.{Tells}
-use Rattle.som_ancestry.proofs.Conformity.{faces_first, tells_here, or_none, none_or}
+use Rattle.som_verify_classes.specs.declared.types.Broken.{Broken}
+use Rattle.som_verify_classes.specs.declared.types.VerifyFault.{VerifyFault}
+use Rattle.som_verify_classes.specs.declared.types.VerifyFault.TheVariants as faults
+use Rattle.som_verify_classes.specs.Faces.{rules_breach}
+use Rattle.som_verify_classes.specs.Places.{with_kernel}
+use Rattle.som_verify_classes.specs.Told.{Tells}
+use Rattle.som_verify_classes.proofs.Conformity.{faces_first, tells_here, or_none, none_or}
 
 -- releases
 

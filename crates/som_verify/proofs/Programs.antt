@@ -10,15 +10,15 @@ use Rattle.som_model.specs.declared.key.Module.TheVariants as modules
 use Rattle.som_model.specs.declared.class.ClassDecl.{ClassDecl}
 use Rattle.som_model.specs.declared.class.ClassFace.{ClassFace}
 use Rattle.som_model.specs.declared.program.ClientProgram.{ClientProgram}
-use Rattle.som_ancestry.specs.declared.types.Declared.{Declared}
-use Rattle.som_ancestry.specs.declared.types.VerifyFault.{VerifyFault}
-use Rattle.som_ancestry.specs.Faces.{classes_breach, rules_breach}
-use Rattle.som_ancestry.specs.Modules.{class_of, classes_of}
-use Rattle.som_ancestry.specs.Places.{with_kernel}
-use Rattle.som_lawful.specs.Plainly.{program_classes}
-use Rattle.som_ancestry.specs.Told.{Tells}
-use Rattle.som_ancestry.proofs.Conformity.{regrouped, tells_here}
-use Rattle.som_ancestry.proofs.DeclaredClasses.{long_map, drop_map}
+use Rattle.som_verify_classes.specs.declared.types.Declared.{Declared}
+use Rattle.som_verify_classes.specs.declared.types.VerifyFault.{VerifyFault}
+use Rattle.som_verify_classes.specs.Faces.{classes_breach, rules_breach}
+use Rattle.som_verify_classes.specs.Modules.{class_of, classes_of}
+use Rattle.som_verify_classes.specs.Places.{with_kernel}
+use Rattle.som_verify_classes.specs.Plainly.{program_classes}
+use Rattle.som_verify_classes.specs.Told.{Tells}
+use Rattle.som_verify_classes.proofs.Conformity.{regrouped, tells_here}
+use Rattle.som_verify_classes.proofs.DeclaredClasses.{long_map, drop_map}
 
 map_both : (fs : List ClassFace) → map (class_in modules.Library) (map bare fs) ≡ map (λ f. class_in modules.Library (bare f)) fs
 map_both [] = refl

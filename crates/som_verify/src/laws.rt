@@ -4,7 +4,7 @@ ghost use Rattle.som_model.specs.Classes.{interface_classes};
 ghost use Rattle.som_model.specs.Conforming.{ProgramOk, ReleaseOk, declared_breach, declared_program_breach, faces_breach, program_breach, release_breach};
 ghost use Rattle.som_model.specs.declared.program.ClientProgram.{ClientProgram};
 ghost use Rattle.som_model.specs.declared.program.Release.{Release};
-ghost use Rattle.som_lawful.specs.Plainly.{ProgramHolds, RulesHold};
+ghost use Rattle.som_verify_classes.specs.Plainly.{ProgramHolds, RulesHold};
 ghost use Rattle.std.specs.Prelude.{◌≡◌, ◌↔◌, None};
 
 /// A release breaks no rule exactly where each rule holds of every class and all of its members.

@@ -2,18 +2,18 @@
 
 ghost use Rattle.som_model.specs.Class.{bare};
 ghost use Rattle.som_model.specs.Conforming.{ProgramOk, declared_program_breach, program_breach};
-ghost use Rattle.som_ancestry.specs.Modules.{classes_of};
-ghost use Rattle.som_lawful.specs.Plainly.{program_classes};
-ghost use Rattle.som_ancestry.specs.Told.{Tells};
-ghost use Rattle.som_ancestry.specs.declared.types.Broken.{Broken};
-ghost use Rattle.som_ancestry.specs.declared.types.VerifyFault.TheVariants as faults;
+ghost use Rattle.som_verify_classes.specs.Modules.{classes_of};
+ghost use Rattle.som_verify_classes.specs.Plainly.{program_classes};
+ghost use Rattle.som_verify_classes.specs.Told.{Tells};
+ghost use Rattle.som_verify_classes.specs.declared.types.Broken.{Broken};
+ghost use Rattle.som_verify_classes.specs.declared.types.VerifyFault.TheVariants as faults;
 ghost use Rattle.std.specs.Prelude.{◌≡◌, map, Err, IfOk};
 
-use som_ancestry::{Declared, VerifyFault};
 use som_model::{ClassDecl, ClientProgram, Module, NoMemory};
-use som_rules::rules_hold;
-use som_standing::{bare_classes, declare};
-use som_typing::program_typed;
+use som_verify_classes::{Declared, VerifyFault};
+use som_verify_parents::{bare_classes, declare};
+use som_verify_rules::rules_hold;
+use som_verify_types::program_typed;
 use std::alloc::Global;
 
 /// Whether a client program breaks no rule that looks at no block, and else the first, with its class and member.

@@ -1,16 +1,16 @@
 //! Checks a release, and answers the first rule that it breaks.
 
 ghost use Rattle.som_model.specs.Conforming.{ReleaseOk, release_breach};
-ghost use Rattle.som_ancestry.specs.Told.{Tells};
-ghost use Rattle.som_ancestry.specs.declared.types.Broken.{Broken};
-ghost use Rattle.som_ancestry.specs.declared.types.VerifyFault.TheVariants as faults;
+ghost use Rattle.som_verify_classes.specs.Told.{Tells};
+ghost use Rattle.som_verify_classes.specs.declared.types.Broken.{Broken};
+ghost use Rattle.som_verify_classes.specs.declared.types.VerifyFault.TheVariants as faults;
 ghost use Rattle.std.specs.Prelude.{◌≡◌, Err, IfOk};
 
-use som_ancestry::VerifyFault;
 use som_model::{ClassDecl, Module, Release};
-use som_rules::rules_hold;
-use som_standing::declare;
-use som_typing::blocks_typed;
+use som_verify_classes::VerifyFault;
+use som_verify_parents::declare;
+use som_verify_rules::rules_hold;
+use som_verify_types::blocks_typed;
 use std::alloc::Global;
 
 /// Whether a release conforms, and else the first rule that it breaks, with its class and member.

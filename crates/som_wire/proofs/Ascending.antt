@@ -1,13 +1,13 @@
 -- Reading the selects of classes one after the other, as a loop does.
 use Rattle.std.proofs.Common.{◌≡◌, ℕ, suc, ◌-◌, ◌+◌, ◌≤◌, ◌<◌, List, [], ◌∷◌, ◌++◌, Result, Ok, Err, refl, sym, ap, subst, ◌∙◌, append_assoc, arith}
 use Rattle.std.proofs.lemmas.List.{append-nil}
-use Rattle.som_fields.specs.declared.fault.ImageFault.{ImageFault}
-use Rattle.som_fields.specs.declared.read.Read.{Read}
-use Rattle.som_fields.specs.declared.method.Ranges.{Ranges}
+use Rattle.som_image_fields.specs.declared.fault.ImageFault.{ImageFault}
+use Rattle.som_image_fields.specs.declared.read.Read.{Read}
+use Rattle.som_image_fields.specs.declared.method.Ranges.{Ranges}
 use Rattle.som_model.specs.Steps.{◌>>=◌}
-use Rattle.som_fields.specs.Fields.{Fails, done}
-use Rattle.som_fields.proofs.Loop.{with_front, failed, front_nil, regroup}
-use Rattle.som_spelling.specs.declared.selects.WireSelects.{WireSelects}
+use Rattle.som_image_fields.specs.Fields.{Fails, done}
+use Rattle.som_image_fields.proofs.Loop.{with_front, failed, front_nil, regroup}
+use Rattle.som_image_fields.specs.declared.selects.WireSelects.{WireSelects}
 use Rattle.som_wire.specs.Reading.{class_selects_at, ascending_at}
 
 module _ (ranges : Ranges) (bytes : List ℕ) (count first start : ℕ) where

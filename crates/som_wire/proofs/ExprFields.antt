@@ -12,28 +12,28 @@ use Rattle.som_model.specs.Steps.{◌>>=◌}
 use Rattle.som_model.specs.declared.limits.TheConstants.{MAX_PARAMETERS}
 use Rattle.som_model.specs.declared.syntax.HostCode.{HostCode}
 use Rattle.som_model.specs.declared.syntax.HostCode.TheVariants as hosts
-use Rattle.som_fields.specs.declared.fault.ImageFault.{ImageFault}
-use Rattle.som_fields.specs.declared.fault.ImageFault.TheVariants as faults
-use Rattle.som_fields.specs.declared.read.Read.{Read}
-use Rattle.som_fields.specs.declared.kind.WireType.{WireType}
-use Rattle.som_fields.specs.declared.method.WireMethod.{WireMethod}
-use Rattle.som_fields.specs.declared.method.Ranges.{Ranges}
-use Rattle.som_fields.specs.Fields.{Stands, done}
-use Rattle.som_fields.specs.Spelling.{number, text, FitsText, counted, kind, FitsKind, method, FitsMethod, AreShort}
-use Rattle.som_fields.specs.Reading.{number_at, text_at, below_at, kind_at, method_at}
-use Rattle.som_fields.proofs.Parts.{IsField, guard_yes, same_read, came, took}
-use Rattle.som_fields.proofs.NumberFields.{byte_field, short_field, long_field, below_field, text_field}
-use Rattle.som_fields.proofs.ManyFields.{counted_field}
-use Rattle.som_fields.proofs.TypeFields.{tagged, kind_field}
-use Rattle.som_fields.proofs.EntryFields.{method_field}
-use Rattle.som_spelling.specs.declared.syntax.WireExpr.{WireExpr, out-WireExpr, roll-WireExpr, out-roll-WireExpr, roll-out-WireExpr, fold-roll-WireExpr}
-use Rattle.som_spelling.specs.declared.syntax.WireExpr.TheVariants as exprs
-use Rattle.som_spelling.specs.declared.syntax.WireExpr.TheVariants.{rolls-Long, rolls-Str, rolls-Boolean, rolls-Nil, rolls-Local, rolls-Me, rolls-Variable, rolls-New, rolls-Class, rolls-Manager, rolls-Unary, rolls-Cast, rolls-Isa, rolls-Proxy, rolls-Binary, rolls-Host, rolls-OffsetCall, rolls-Lookup, rolls-Dispatch, rolls-ParentCall, rolls-ParentsCall}
-use Rattle.som_spelling.specs.declared.syntax.WireExpr.TheOpen.{WireExpr-F}
+use Rattle.som_image_fields.specs.declared.fault.ImageFault.{ImageFault}
+use Rattle.som_image_fields.specs.declared.fault.ImageFault.TheVariants as faults
+use Rattle.som_image_fields.specs.declared.read.Read.{Read}
+use Rattle.som_image_fields.specs.declared.kind.WireType.{WireType}
+use Rattle.som_image_fields.specs.declared.method.WireMethod.{WireMethod}
+use Rattle.som_image_fields.specs.declared.method.Ranges.{Ranges}
+use Rattle.som_image_fields.specs.Fields.{Stands, done}
+use Rattle.som_image_fields.specs.Spelling.{number, text, FitsText, counted, kind, FitsKind, method, FitsMethod, AreShort}
+use Rattle.som_image_fields.specs.Reading.{number_at, text_at, below_at, kind_at, method_at}
+use Rattle.som_image_fields.proofs.Parts.{IsField, guard_yes, same_read, came, took}
+use Rattle.som_image_fields.proofs.NumberFields.{byte_field, short_field, long_field, below_field, text_field}
+use Rattle.som_image_fields.proofs.ManyFields.{counted_field}
+use Rattle.som_image_fields.proofs.TypeFields.{tagged, kind_field}
+use Rattle.som_image_fields.proofs.EntryFields.{method_field}
+use Rattle.som_image_fields.specs.declared.syntax.WireExpr.{WireExpr, out-WireExpr, roll-WireExpr, out-roll-WireExpr, roll-out-WireExpr, fold-roll-WireExpr}
+use Rattle.som_image_fields.specs.declared.syntax.WireExpr.TheVariants as exprs
+use Rattle.som_image_fields.specs.declared.syntax.WireExpr.TheVariants.{rolls-Long, rolls-Str, rolls-Boolean, rolls-Nil, rolls-Local, rolls-Me, rolls-Variable, rolls-New, rolls-Class, rolls-Manager, rolls-Unary, rolls-Cast, rolls-Isa, rolls-Proxy, rolls-Binary, rolls-Host, rolls-OffsetCall, rolls-Lookup, rolls-Dispatch, rolls-ParentCall, rolls-ParentsCall}
+use Rattle.som_image_fields.specs.declared.syntax.WireExpr.TheOpen.{WireExpr-F}
 use Rattle.som_wire.specs.Making.{Reads, of_one, of_two, of_three, of_four}
-use Rattle.som_spelling.specs.Spelling.{truth, host, args, expr_step, expr}
-use Rattle.som_spelling.specs.Fitting.{FitsArgs, FitsExprParts, FitsExpr, calls, FitsCall}
-use Rattle.som_spelling.proofs.Forms.{flat_of}
+use Rattle.som_image_fields.specs.SyntaxSpelling.{truth, host, args, expr_step, expr}
+use Rattle.som_image_fields.specs.Fitting.{FitsArgs, FitsExprParts, FitsExpr, calls, FitsCall}
+use Rattle.som_image_fields.proofs.Forms.{flat_of}
 use Rattle.som_wire.specs.Reading.{signed_at, operator_at, truth_at, host_after, host_at, too_deep, args_at, call_after, expr_after, is_call_tag, is_expr_tag, expr_at, call_at}
 use Rattle.som_wire.proofs.Made.{IsMade, made_none, made_one, made_two, made_three, made_four, fits_alike, IsCase, a_case, pick}
 

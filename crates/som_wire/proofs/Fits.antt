@@ -2,16 +2,16 @@
 use Rattle.std.proofs.Common.{ℕ, zero, suc, ◌≤◌, Bool, true, false, List, arith}
 use Rattle.std.specs.Prelude.{IsTrue}
 use Rattle.std.proofs.lemmas.List.Elements.{All-weaker}
-use Rattle.som_fields.specs.declared.kind.WireType.{WireType}
-use Rattle.som_fields.specs.declared.kind.WireType.TheVariants as types
-use Rattle.som_fields.specs.declared.method.WireMethod.{WireMethod}
-use Rattle.som_fields.specs.Spelling.{FitsKind, FitsSomeRanges, most_classes}
-use Rattle.som_spelling.specs.declared.syntax.WireExpr.{WireExpr, out-WireExpr}
-use Rattle.som_spelling.specs.declared.syntax.WireExpr.TheOpen.{WireExpr-F}
-use Rattle.som_spelling.specs.declared.syntax.WireStmt.{WireStmt, out-WireStmt}
-use Rattle.som_spelling.specs.declared.syntax.WireStmt.TheOpen.{WireStmt-F}
-use Rattle.som_spelling.specs.declared.syntax.WireBlock.{WireBlock}
-use Rattle.som_spelling.specs.Fitting.{FitsArgs, FitsExprParts, FitsExpr, FitsCall, FitsStmtParts, FitsStatements, FitsStmt, FitsBlock, levels_left, FitsSomeExpr, FitsSomeExprParts, FitsSomeStmt, FitsSomeStmtParts, FitsSomeBlock}
+use Rattle.som_image_fields.specs.declared.kind.WireType.{WireType}
+use Rattle.som_image_fields.specs.declared.kind.WireType.TheVariants as types
+use Rattle.som_image_fields.specs.declared.method.WireMethod.{WireMethod}
+use Rattle.som_image_fields.specs.Spelling.{FitsKind, FitsSomeRanges, most_classes}
+use Rattle.som_image_fields.specs.declared.syntax.WireExpr.{WireExpr, out-WireExpr}
+use Rattle.som_image_fields.specs.declared.syntax.WireExpr.TheOpen.{WireExpr-F}
+use Rattle.som_image_fields.specs.declared.syntax.WireStmt.{WireStmt, out-WireStmt}
+use Rattle.som_image_fields.specs.declared.syntax.WireStmt.TheOpen.{WireStmt-F}
+use Rattle.som_image_fields.specs.declared.syntax.WireBlock.{WireBlock}
+use Rattle.som_image_fields.specs.Fitting.{FitsArgs, FitsExprParts, FitsExpr, FitsCall, FitsStmtParts, FitsStatements, FitsStmt, FitsBlock, levels_left, FitsSomeExpr, FitsSomeExprParts, FitsSomeStmt, FitsSomeStmtParts, FitsSomeBlock}
 
 pub kind_more : (c d : ℕ) (r s : Bool) → c ≤ d → (IsTrue r → IsTrue s) → (t : WireType) → FitsKind c r t → FitsKind d s t
 kind_more c d r s le also types.Void fits = also fits

@@ -1,13 +1,13 @@
 -- Reading where a level is left.
 use Rattle.std.proofs.Common.{◌≡◌, ℕ, zero, suc, ◌-◌, List, Result, Ok, refl, subst, arith}
 use Rattle.std.specs.Int.{w8}
-use Rattle.som_fields.specs.declared.fault.ImageFault.{ImageFault}
-use Rattle.som_fields.specs.declared.read.Read.{Read}
-use Rattle.som_fields.specs.declared.method.Ranges.{Ranges}
-use Rattle.som_fields.specs.Fields.{Gives}
-use Rattle.som_fields.specs.Reading.{number_at}
-use Rattle.som_spelling.specs.declared.syntax.WireExpr.{WireExpr}
-use Rattle.som_spelling.specs.declared.syntax.WireStmt.{WireStmt}
+use Rattle.som_image_fields.specs.declared.fault.ImageFault.{ImageFault}
+use Rattle.som_image_fields.specs.declared.read.Read.{Read}
+use Rattle.som_image_fields.specs.declared.method.Ranges.{Ranges}
+use Rattle.som_image_fields.specs.Fields.{Gives}
+use Rattle.som_image_fields.specs.Reading.{number_at}
+use Rattle.som_image_fields.specs.declared.syntax.WireExpr.{WireExpr}
+use Rattle.som_image_fields.specs.declared.syntax.WireStmt.{WireStmt}
 use Rattle.som_wire.specs.Reading.{expr_after, expr_at, call_after, call_at, stmt_after, stmt_at, statements_at}
 
 -- a number that isn't zero comes after the one that is less by one

@@ -4,13 +4,13 @@ use Rattle.std.specs.Int.{w8}
 use Rattle.std.proofs.lemmas.Bool.{eqb-true}
 use Rattle.som_model.specs.Bytes.{AreBytes}
 use Rattle.som_model.specs.Steps.{◌>>=◌}
-use Rattle.som_fields.specs.declared.fault.ImageFault.{ImageFault}
-use Rattle.som_fields.specs.declared.read.Read.{Read}
-use Rattle.som_fields.specs.Fields.{Stands, done}
-use Rattle.som_fields.specs.Spelling.{number}
-use Rattle.som_fields.specs.Reading.{number_at}
-use Rattle.som_fields.proofs.Parts.{IsField, Stands-join, came, took, went}
-use Rattle.som_fields.proofs.NumberFields.{byte_field, number-w8}
+use Rattle.som_image_fields.specs.declared.fault.ImageFault.{ImageFault}
+use Rattle.som_image_fields.specs.declared.read.Read.{Read}
+use Rattle.som_image_fields.specs.Fields.{Stands, done}
+use Rattle.som_image_fields.specs.Spelling.{number}
+use Rattle.som_image_fields.specs.Reading.{number_at}
+use Rattle.som_image_fields.proofs.Parts.{IsField, Stands-join, came, took, went}
+use Rattle.som_image_fields.proofs.NumberFields.{byte_field, number-w8}
 use Rattle.som_wire.specs.Making.{Reads, of_one, of_two, of_three, of_four}
 
 -- what is read are the parts of a value that fit, and where such parts are spelled their value is read

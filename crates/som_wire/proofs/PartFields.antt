@@ -5,27 +5,27 @@ use Rattle.std.specs.List.{flat_map}
 use Rattle.std.specs.Int.{w8, w16}
 use Rattle.som_model.specs.Bytes.{AreBytes}
 use Rattle.som_model.specs.declared.limits.TheConstants.{MAX_VARIABLES, MAX_OVERRIDES}
-use Rattle.som_fields.specs.declared.fault.ImageFault.{ImageFault}
-use Rattle.som_fields.specs.declared.read.Read.{Read}
-use Rattle.som_fields.specs.declared.kind.WireType.{WireType}
-use Rattle.som_fields.specs.declared.method.WireMethod.{WireMethod}
-use Rattle.som_fields.specs.declared.method.Ranges.{Ranges}
-use Rattle.som_fields.specs.Fields.{Stands, done}
-use Rattle.som_fields.specs.Spelling.{number, text, FitsText, counted, FitsCounted, kind, FitsKind, method, FitsMethod, AreShort}
-use Rattle.som_fields.specs.Reading.{number_at, text_at, kind_at, method_at}
-use Rattle.som_fields.proofs.Parts.{IsField, took}
-use Rattle.som_fields.proofs.NumberFields.{byte_field, short_field, text_field}
-use Rattle.som_fields.proofs.ManyFields.{many_field, counted_field}
-use Rattle.som_fields.proofs.TypeFields.{kind_field}
-use Rattle.som_fields.proofs.EntryFields.{method_field}
-use Rattle.som_spelling.specs.declared.syntax.WireBlock.{WireBlock}
-use Rattle.som_spelling.specs.declared.syntax.WireVariable.{WireVariable}
-use Rattle.som_spelling.specs.declared.syntax.WireBody.{WireBody}
-use Rattle.som_spelling.specs.declared.syntax.WireBody.TheVariants as bodies
-use Rattle.som_spelling.specs.declared.syntax.WireOverride.{WireOverride}
+use Rattle.som_image_fields.specs.declared.fault.ImageFault.{ImageFault}
+use Rattle.som_image_fields.specs.declared.read.Read.{Read}
+use Rattle.som_image_fields.specs.declared.kind.WireType.{WireType}
+use Rattle.som_image_fields.specs.declared.method.WireMethod.{WireMethod}
+use Rattle.som_image_fields.specs.declared.method.Ranges.{Ranges}
+use Rattle.som_image_fields.specs.Fields.{Stands, done}
+use Rattle.som_image_fields.specs.Spelling.{number, text, FitsText, counted, FitsCounted, kind, FitsKind, method, FitsMethod, AreShort}
+use Rattle.som_image_fields.specs.Reading.{number_at, text_at, kind_at, method_at}
+use Rattle.som_image_fields.proofs.Parts.{IsField, took}
+use Rattle.som_image_fields.proofs.NumberFields.{byte_field, short_field, text_field}
+use Rattle.som_image_fields.proofs.ManyFields.{many_field, counted_field}
+use Rattle.som_image_fields.proofs.TypeFields.{kind_field}
+use Rattle.som_image_fields.proofs.EntryFields.{method_field}
+use Rattle.som_image_fields.specs.declared.syntax.WireBlock.{WireBlock}
+use Rattle.som_image_fields.specs.declared.syntax.WireVariable.{WireVariable}
+use Rattle.som_image_fields.specs.declared.syntax.WireBody.{WireBody}
+use Rattle.som_image_fields.specs.declared.syntax.WireBody.TheVariants as bodies
+use Rattle.som_image_fields.specs.declared.syntax.WireOverride.{WireOverride}
 use Rattle.som_wire.specs.Making.{Reads, of_one}
-use Rattle.som_spelling.specs.Spelling.{block, variable, body, overridden, part}
-use Rattle.som_spelling.specs.Fitting.{levels_left, FitsBlock, FitsVariable, FitsBody, FitsOverride, FitsPart}
+use Rattle.som_image_fields.specs.SyntaxSpelling.{block, variable, body, overridden, part}
+use Rattle.som_image_fields.specs.Fitting.{levels_left, FitsBlock, FitsVariable, FitsBody, FitsOverride, FitsPart}
 use Rattle.som_wire.specs.Reading.{block_at, variable_at, body_after, body_at, override_at, variables_at, bodies_at, overrides_at, part_at}
 use Rattle.som_wire.proofs.Made.{made_one, made_two, made_three, IsCase, a_case, pick, made_field}
 use Rattle.som_wire.proofs.StmtFields.{block_field}

@@ -1,10 +1,10 @@
 -- What was written is read at its place.
 use Rattle.std.proofs.Common.{◌≡◌, ℕ, List, ◌++◌, length, drop, Result, refl, sym, ap, ◌∙◌, append_assoc, arith}
 use Rattle.std.proofs.lemmas.List.{drop_at, length-append}
-use Rattle.som_fields.specs.declared.fault.ImageFault.{ImageFault}
-use Rattle.som_fields.specs.declared.read.Read.{Read}
-use Rattle.som_fields.specs.Fields.{Stands, done}
-use Rattle.som_fields.proofs.Parts.{IsField}
+use Rattle.som_image_fields.specs.declared.fault.ImageFault.{ImageFault}
+use Rattle.som_image_fields.specs.declared.read.Read.{Read}
+use Rattle.som_image_fields.specs.Fields.{Stands, done}
+use Rattle.som_image_fields.proofs.Parts.{IsField}
 
 -- a text stands where it was put
 stands_between : (before text after : List ℕ) → Stands (before ++ text ++ after) (length before) text (length (before ++ text))

@@ -10,22 +10,22 @@ use Rattle.som_model.specs.declared.limits.TheConstants.{MAX_SELECTS}
 use Rattle.som_model.specs.Bytes.{AreBytes}
 use Rattle.som_model.specs.Steps.{◌>>=◌}
 use Rattle.som_model.proofs.KeyLaws.{both}
-use Rattle.som_fields.specs.declared.fault.ImageFault.{ImageFault}
-use Rattle.som_fields.specs.declared.fault.ImageFault.TheVariants as faults
-use Rattle.som_fields.specs.declared.read.Read.{Read}
-use Rattle.som_fields.specs.declared.method.WireMethod.{WireMethod}
-use Rattle.som_fields.specs.declared.method.Ranges.{Ranges}
-use Rattle.som_fields.specs.Fields.{Stands, done}
-use Rattle.som_fields.specs.Spelling.{number, counted, method, FitsMethod, FitsSomeRanges, AreShort, most_classes}
-use Rattle.som_fields.specs.Reading.{number_at, method_at}
-use Rattle.som_fields.proofs.Parts.{IsField, Stands-join, bind_ok, guard_no, guard_yes, same_read, came, took, went}
-use Rattle.som_fields.proofs.NumberFields.{byte_field, short_field}
-use Rattle.som_fields.proofs.ManyFields.{counted_field}
-use Rattle.som_fields.proofs.EntryFields.{method_field}
-use Rattle.som_spelling.specs.declared.selects.WireSelect.{WireSelect}
-use Rattle.som_spelling.specs.declared.selects.WireSelects.{WireSelects}
-use Rattle.som_spelling.specs.Spelling.{select, class_selects, selects}
-use Rattle.som_spelling.specs.Fitting.{FitsSelect, FitsOwnSelects, FitsClassSelects, FitAscending, FitsSelects}
+use Rattle.som_image_fields.specs.declared.fault.ImageFault.{ImageFault}
+use Rattle.som_image_fields.specs.declared.fault.ImageFault.TheVariants as faults
+use Rattle.som_image_fields.specs.declared.read.Read.{Read}
+use Rattle.som_image_fields.specs.declared.method.WireMethod.{WireMethod}
+use Rattle.som_image_fields.specs.declared.method.Ranges.{Ranges}
+use Rattle.som_image_fields.specs.Fields.{Stands, done}
+use Rattle.som_image_fields.specs.Spelling.{number, counted, method, FitsMethod, FitsSomeRanges, AreShort, most_classes}
+use Rattle.som_image_fields.specs.Reading.{number_at, method_at}
+use Rattle.som_image_fields.proofs.Parts.{IsField, Stands-join, bind_ok, guard_no, guard_yes, same_read, came, took, went}
+use Rattle.som_image_fields.proofs.NumberFields.{byte_field, short_field}
+use Rattle.som_image_fields.proofs.ManyFields.{counted_field}
+use Rattle.som_image_fields.proofs.EntryFields.{method_field}
+use Rattle.som_image_fields.specs.declared.selects.WireSelect.{WireSelect}
+use Rattle.som_image_fields.specs.declared.selects.WireSelects.{WireSelects}
+use Rattle.som_image_fields.specs.SyntaxSpelling.{select, class_selects, selects}
+use Rattle.som_image_fields.specs.Fitting.{FitsSelect, FitsOwnSelects, FitsClassSelects, FitAscending, FitsSelects}
 use Rattle.som_wire.specs.Reading.{select_at, own_selects_at, class_from_at, class_selects_at, ascending_at, selects_at}
 use Rattle.som_wire.proofs.Made.{made_two, made_field}
 

@@ -1,16 +1,16 @@
 -- What fits certain classes and entries can stand somewhere.
 use Rattle.std.proofs.Common.{ℕ, ◌<◌, ◌≤◌, ◌^◌, false, arith}
 use Rattle.std.proofs.lemmas.List.Elements.{All-weaker}
-use Rattle.som_fields.specs.declared.method.WireMethod.{WireMethod}
-use Rattle.som_fields.specs.declared.method.Ranges.{Ranges}
-use Rattle.som_fields.specs.Spelling.{FitsMethod, FitsSomeRanges, AreShort, most_classes}
-use Rattle.som_spelling.specs.declared.syntax.WireBlock.{WireBlock}
-use Rattle.som_spelling.specs.declared.syntax.WireVariable.{WireVariable}
-use Rattle.som_spelling.specs.declared.syntax.WireBody.{WireBody}
-use Rattle.som_spelling.specs.declared.syntax.WireBody.TheVariants as bodies
-use Rattle.som_spelling.specs.declared.syntax.WireOverride.{WireOverride}
-use Rattle.som_spelling.specs.declared.syntax.WirePart.{WirePart}
-use Rattle.som_spelling.specs.Fitting.{FitsBlock, levels_left, FitsSomeBlock, FitsVariable, FitsBody, FitsOverride, FitsPart, FitsSomePart}
+use Rattle.som_image_fields.specs.declared.method.WireMethod.{WireMethod}
+use Rattle.som_image_fields.specs.declared.method.Ranges.{Ranges}
+use Rattle.som_image_fields.specs.Spelling.{FitsMethod, FitsSomeRanges, AreShort, most_classes}
+use Rattle.som_image_fields.specs.declared.syntax.WireBlock.{WireBlock}
+use Rattle.som_image_fields.specs.declared.syntax.WireVariable.{WireVariable}
+use Rattle.som_image_fields.specs.declared.syntax.WireBody.{WireBody}
+use Rattle.som_image_fields.specs.declared.syntax.WireBody.TheVariants as bodies
+use Rattle.som_image_fields.specs.declared.syntax.WireOverride.{WireOverride}
+use Rattle.som_image_fields.specs.declared.syntax.WirePart.{WirePart}
+use Rattle.som_image_fields.specs.Fitting.{FitsBlock, levels_left, FitsSomeBlock, FitsVariable, FitsBody, FitsOverride, FitsPart, FitsSomePart}
 use Rattle.som_wire.proofs.Fits.{kind_more, block_more}
 
 module _ (ranges : Ranges) (known : AreShort ranges) where

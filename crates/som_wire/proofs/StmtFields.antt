@@ -5,27 +5,27 @@ use Rattle.std.specs.List.{flat_map}
 use Rattle.std.specs.Int.{w8, w16, w32}
 use Rattle.som_model.specs.Bytes.{AreBytes}
 use Rattle.som_model.specs.Steps.{◌>>=◌}
-use Rattle.som_fields.specs.declared.fault.ImageFault.{ImageFault}
-use Rattle.som_fields.specs.declared.read.Read.{Read}
-use Rattle.som_fields.specs.declared.kind.WireType.{WireType}
-use Rattle.som_fields.specs.declared.method.Ranges.{Ranges}
-use Rattle.som_fields.specs.Fields.{Stands, done, many_at}
-use Rattle.som_fields.specs.Spelling.{number, counted, kind, FitsKind, FitsMethod, AreShort}
-use Rattle.som_fields.specs.Reading.{number_at, kind_at}
-use Rattle.som_fields.proofs.Parts.{IsField, Stands-join, came, took, went}
-use Rattle.som_fields.proofs.NumberFields.{byte_field, short_field, long_field}
-use Rattle.som_fields.proofs.ManyFields.{many_field}
-use Rattle.som_fields.proofs.TypeFields.{kind_field}
-use Rattle.som_spelling.specs.declared.syntax.WireExpr.{WireExpr}
-use Rattle.som_spelling.specs.declared.syntax.WireStmt.{WireStmt, out-WireStmt, roll-WireStmt, out-roll-WireStmt, roll-out-WireStmt, fold-roll-WireStmt}
-use Rattle.som_spelling.specs.declared.syntax.WireStmt.TheVariants as stmts
-use Rattle.som_spelling.specs.declared.syntax.WireStmt.TheVariants.{rolls-Var, rolls-SetLocal, rolls-SetVariable, rolls-Return, rolls-ReturnValue, rolls-Print, rolls-Free, rolls-Call, rolls-If, rolls-While}
-use Rattle.som_spelling.specs.declared.syntax.WireStmt.TheOpen.{WireStmt-F}
-use Rattle.som_spelling.specs.declared.syntax.WireBlock.{WireBlock}
+use Rattle.som_image_fields.specs.declared.fault.ImageFault.{ImageFault}
+use Rattle.som_image_fields.specs.declared.read.Read.{Read}
+use Rattle.som_image_fields.specs.declared.kind.WireType.{WireType}
+use Rattle.som_image_fields.specs.declared.method.Ranges.{Ranges}
+use Rattle.som_image_fields.specs.Fields.{Stands, done, many_at}
+use Rattle.som_image_fields.specs.Spelling.{number, counted, kind, FitsKind, FitsMethod, AreShort}
+use Rattle.som_image_fields.specs.Reading.{number_at, kind_at}
+use Rattle.som_image_fields.proofs.Parts.{IsField, Stands-join, came, took, went}
+use Rattle.som_image_fields.proofs.NumberFields.{byte_field, short_field, long_field}
+use Rattle.som_image_fields.proofs.ManyFields.{many_field}
+use Rattle.som_image_fields.proofs.TypeFields.{kind_field}
+use Rattle.som_image_fields.specs.declared.syntax.WireExpr.{WireExpr}
+use Rattle.som_image_fields.specs.declared.syntax.WireStmt.{WireStmt, out-WireStmt, roll-WireStmt, out-roll-WireStmt, roll-out-WireStmt, fold-roll-WireStmt}
+use Rattle.som_image_fields.specs.declared.syntax.WireStmt.TheVariants as stmts
+use Rattle.som_image_fields.specs.declared.syntax.WireStmt.TheVariants.{rolls-Var, rolls-SetLocal, rolls-SetVariable, rolls-Return, rolls-ReturnValue, rolls-Print, rolls-Free, rolls-Call, rolls-If, rolls-While}
+use Rattle.som_image_fields.specs.declared.syntax.WireStmt.TheOpen.{WireStmt-F}
+use Rattle.som_image_fields.specs.declared.syntax.WireBlock.{WireBlock}
 use Rattle.som_wire.specs.Making.{Reads, of_one, of_two, of_three}
-use Rattle.som_spelling.specs.Spelling.{expr, block_step, stmt_step, stmt, block}
-use Rattle.som_spelling.specs.Fitting.{FitsExpr, FitsCall, FitsStmtParts, FitsStatements, FitsStmt, FitsBlock}
-use Rattle.som_spelling.proofs.Forms.{block_is}
+use Rattle.som_image_fields.specs.SyntaxSpelling.{expr, block_step, stmt_step, stmt, block}
+use Rattle.som_image_fields.specs.Fitting.{FitsExpr, FitsCall, FitsStmtParts, FitsStatements, FitsStmt, FitsBlock}
+use Rattle.som_image_fields.proofs.Forms.{block_is}
 use Rattle.som_wire.specs.Reading.{expr_at, call_at, statements_at, stmt_after, is_stmt_tag, stmt_at, block_at}
 use Rattle.som_wire.proofs.Made.{IsMade, made_none, made_one, made_two, made_three, IsCase, a_case, pick}
 use Rattle.som_wire.proofs.ExprFields.{none_deep, expr_field, call_field}

@@ -4,16 +4,16 @@ use Rattle.std.specs.Prelude.{OnOk}
 use Rattle.std.specs.Int.{w8, w32}
 use Rattle.std.proofs.lemmas.List.{append-nil, take_all}
 use Rattle.std.specs.List.{flat_map}
-use Rattle.som_fields.specs.Spelling.{number, counted}
-use Rattle.som_spelling.specs.declared.syntax.WireExpr.{WireExpr, out-WireExpr, roll-WireExpr, roll-out-WireExpr, fold-roll-WireExpr}
-use Rattle.som_spelling.specs.declared.syntax.WireExpr.TheOpen.{WireExpr-F}
-use Rattle.som_spelling.specs.declared.syntax.WireStmt.{WireStmt, out-WireStmt, roll-WireStmt, roll-out-WireStmt, fold-roll-WireStmt}
-use Rattle.som_spelling.specs.declared.syntax.WireStmt.TheOpen.{WireStmt-F}
-use Rattle.som_spelling.specs.declared.syntax.WireBlock.{WireBlock}
-use Rattle.som_spelling.specs.Spelling.{args, expr_step, expr, block_step, stmt_step, stmt, block}
+use Rattle.som_image_fields.specs.Spelling.{number, counted}
+use Rattle.som_image_fields.specs.declared.syntax.WireExpr.{WireExpr, out-WireExpr, roll-WireExpr, roll-out-WireExpr, fold-roll-WireExpr}
+use Rattle.som_image_fields.specs.declared.syntax.WireExpr.TheOpen.{WireExpr-F}
+use Rattle.som_image_fields.specs.declared.syntax.WireStmt.{WireStmt, out-WireStmt, roll-WireStmt, roll-out-WireStmt, fold-roll-WireStmt}
+use Rattle.som_image_fields.specs.declared.syntax.WireStmt.TheOpen.{WireStmt-F}
+use Rattle.som_image_fields.specs.declared.syntax.WireBlock.{WireBlock}
+use Rattle.som_image_fields.specs.SyntaxSpelling.{args, expr_step, expr, block_step, stmt_step, stmt, block}
 use Rattle.som_wire.specs.Writing.{head_of, operands_of, expr_head, expr_operands, front_of, blocks_of, stmt_front, stmt_blocks}
 use Rattle.som_wire.proofs.ExprFields.{args_are}
-use Rattle.som_spelling.proofs.Forms.{block_is}
+use Rattle.som_image_fields.proofs.Forms.{block_is}
 
 -- two texts that were appended are the one that they make
 appended : (before between after x y whole : List ℕ) → whole ≡ x ++ y → between ≡ before ++ x → after ≡ between ++ y → after ≡ before ++ whole

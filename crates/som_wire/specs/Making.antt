@@ -1,9 +1,9 @@
 -- Fields that stand one after the other, and what is made of them.
 use Rattle.std.specs.Prelude.{ℕ, List, Result}
 use Rattle.som_model.specs.Steps.{◌>>=◌}
-use Rattle.som_fields.specs.declared.fault.ImageFault.{ImageFault}
-use Rattle.som_fields.specs.declared.read.Read.{Read}
-use Rattle.som_fields.specs.Fields.{done}
+use Rattle.som_image_fields.specs.declared.fault.ImageFault.{ImageFault}
+use Rattle.som_image_fields.specs.declared.read.Read.{Read}
+use Rattle.som_image_fields.specs.Fields.{done}
 
 -- how something is read at a place of the bytes
 abbrev pub Reads : Type 0 → Type 0

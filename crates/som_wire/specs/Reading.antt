@@ -5,25 +5,25 @@ use Rattle.som_model.specs.declared.limits.TheConstants.{MAX_PARAMETERS, MAX_VAR
 use Rattle.som_model.specs.declared.syntax.HostCode.{HostCode}
 use Rattle.som_model.specs.declared.syntax.HostCode.TheVariants as hosts
 use Rattle.som_model.specs.Steps.{◌>>=◌}
-use Rattle.som_fields.specs.declared.fault.ImageFault.{ImageFault}
-use Rattle.som_fields.specs.declared.fault.ImageFault.TheVariants as faults
-use Rattle.som_fields.specs.declared.read.Read.{Read}
-use Rattle.som_fields.specs.declared.method.Ranges.{Ranges}
-use Rattle.som_fields.specs.Fields.{done, many_at, counted_at}
-use Rattle.som_fields.specs.Reading.{number_at, text_at, below_at, kind_at, method_at}
-use Rattle.som_spelling.specs.declared.syntax.WireVariable.{WireVariable}
-use Rattle.som_spelling.specs.declared.syntax.WireBody.{WireBody}
-use Rattle.som_spelling.specs.declared.syntax.WireBody.TheVariants as bodies
-use Rattle.som_spelling.specs.declared.syntax.WireOverride.{WireOverride}
-use Rattle.som_spelling.specs.declared.syntax.WirePart.{WirePart}
-use Rattle.som_spelling.specs.declared.selects.WireSelect.{WireSelect}
-use Rattle.som_spelling.specs.declared.selects.WireSelects.{WireSelects}
-use Rattle.som_spelling.specs.declared.syntax.WireExpr.{WireExpr}
-use Rattle.som_spelling.specs.declared.syntax.WireExpr.TheVariants as exprs
-use Rattle.som_spelling.specs.declared.syntax.WireStmt.{WireStmt}
-use Rattle.som_spelling.specs.declared.syntax.WireStmt.TheVariants as stmts
-use Rattle.som_spelling.specs.declared.syntax.WireBlock.{WireBlock}
-use Rattle.som_spelling.specs.Fitting.{levels_left}
+use Rattle.som_image_fields.specs.declared.fault.ImageFault.{ImageFault}
+use Rattle.som_image_fields.specs.declared.fault.ImageFault.TheVariants as faults
+use Rattle.som_image_fields.specs.declared.read.Read.{Read}
+use Rattle.som_image_fields.specs.declared.method.Ranges.{Ranges}
+use Rattle.som_image_fields.specs.Fields.{done, many_at, counted_at}
+use Rattle.som_image_fields.specs.Reading.{number_at, text_at, below_at, kind_at, method_at}
+use Rattle.som_image_fields.specs.declared.syntax.WireVariable.{WireVariable}
+use Rattle.som_image_fields.specs.declared.syntax.WireBody.{WireBody}
+use Rattle.som_image_fields.specs.declared.syntax.WireBody.TheVariants as bodies
+use Rattle.som_image_fields.specs.declared.syntax.WireOverride.{WireOverride}
+use Rattle.som_image_fields.specs.declared.syntax.WirePart.{WirePart}
+use Rattle.som_image_fields.specs.declared.selects.WireSelect.{WireSelect}
+use Rattle.som_image_fields.specs.declared.selects.WireSelects.{WireSelects}
+use Rattle.som_image_fields.specs.declared.syntax.WireExpr.{WireExpr}
+use Rattle.som_image_fields.specs.declared.syntax.WireExpr.TheVariants as exprs
+use Rattle.som_image_fields.specs.declared.syntax.WireStmt.{WireStmt}
+use Rattle.som_image_fields.specs.declared.syntax.WireStmt.TheVariants as stmts
+use Rattle.som_image_fields.specs.declared.syntax.WireBlock.{WireBlock}
+use Rattle.som_image_fields.specs.Fitting.{levels_left}
 use Rattle.som_wire.specs.Making.{Reads, of_one, of_two, of_three, of_four}
 
 -- a number of one byte that is below a limit, as that of an operator

@@ -1,13 +1,13 @@
 -- What is appended in two steps: a tag with its fields, and then the expressions or blocks after them.
 use Rattle.std.specs.Prelude.{ℕ, List, [], ◌∷◌, ◌++◌}
 use Rattle.std.specs.Int.{w8, w16, w32, cast_unsigned}
-use Rattle.som_fields.specs.Spelling.{number, text, counted, kind, method}
-use Rattle.som_spelling.specs.declared.syntax.WireExpr.{WireExpr, out-WireExpr}
-use Rattle.som_spelling.specs.declared.syntax.WireExpr.TheOpen.{WireExpr-F}
-use Rattle.som_spelling.specs.declared.syntax.WireStmt.{WireStmt, out-WireStmt}
-use Rattle.som_spelling.specs.declared.syntax.WireStmt.TheOpen.{WireStmt-F}
-use Rattle.som_spelling.specs.declared.syntax.WireBlock.{WireBlock}
-use Rattle.som_spelling.specs.Spelling.{truth, host, expr, block}
+use Rattle.som_image_fields.specs.Spelling.{number, text, counted, kind, method}
+use Rattle.som_image_fields.specs.declared.syntax.WireExpr.{WireExpr, out-WireExpr}
+use Rattle.som_image_fields.specs.declared.syntax.WireExpr.TheOpen.{WireExpr-F}
+use Rattle.som_image_fields.specs.declared.syntax.WireStmt.{WireStmt, out-WireStmt}
+use Rattle.som_image_fields.specs.declared.syntax.WireStmt.TheOpen.{WireStmt-F}
+use Rattle.som_image_fields.specs.declared.syntax.WireBlock.{WireBlock}
+use Rattle.som_image_fields.specs.SyntaxSpelling.{truth, host, expr, block}
 
 -- the tag of an expression, and the fields before the expressions in it
 abbrev pub head_of : WireExpr-F WireExpr → List ℕ

@@ -1,18 +1,17 @@
 //! Decodes and encodes whole blocks, whose statements nest up to a limit.
 
-ghost use Rattle.som_spelling.specs.Fitting.{FitsBlock, FitsSomeBlock, levels_left};
+ghost use Rattle.som_image_fields.specs.Fitting.{FitsBlock, FitsSomeBlock, levels_left};
 ghost use Rattle.som_wire.specs.Reading.{block_at};
-ghost use Rattle.som_spelling.specs.Spelling.{block};
+ghost use Rattle.som_image_fields.specs.SyntaxSpelling.{block};
 ghost use Rattle.som_model.specs.declared.limits.TheConstants.{MAX_NESTING};
-ghost use Rattle.som_fields.specs.Fields.{Stands, Gives, done};
-ghost use Rattle.som_fields.specs.Spelling.{FitsMethod, AreShort};
+ghost use Rattle.som_image_fields.specs.Fields.{Stands, Gives, done};
+ghost use Rattle.som_image_fields.specs.Spelling.{FitsMethod, AreShort};
 ghost use Rattle.std.specs.Prelude.{◌≡◌, ◌+◌, ◌<◌, ◌≤◌, ◌^◌, ◌++◌, ℕ, length, slice_index, IfOk, OnOk, OnErr};
 
 use crate::stmt::read_statements;
 use crate::write_stmt::append_block;
-use som_fields::{ImageFault, Ranges, Read};
+use som_image_fields::{ImageFault, Ranges, Read, WireBlock};
 use som_model::{List, MAX_NESTING, NoMemory};
-use som_spelling::WireBlock;
 use std::alloc::Global;
 
 /// Reads a block at a place, whose statements have this level: 1 in a body, and at most one more than may nest.

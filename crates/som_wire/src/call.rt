@@ -1,13 +1,12 @@
 //! Decodes calls, which stand as expressions and as statements, with a count of the levels that are left.
 
 ghost use Rattle.som_wire.specs.Reading.{call_at, is_call_tag, too_deep};
-ghost use Rattle.som_fields.specs.Fields.{Gives};
+ghost use Rattle.som_image_fields.specs.Fields.{Gives};
 ghost use Rattle.std.specs.Prelude.{◌≡◌, ◌≤◌, length, IfOk};
 
 use crate::pair::read_tagged_call;
-use som_fields::{ImageFault, Ranges, Read, read_u8};
+use som_image_fields::{ImageFault, Ranges, Read, WireExpr, read_u8};
 use som_model::List;
-use som_spelling::WireExpr;
 use std::alloc::Global;
 
 // A call where no more level is left.

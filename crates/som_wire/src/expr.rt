@@ -10,14 +10,15 @@ ghost use Rattle.som_wire.specs.Reading.{
   operation_after,
   too_deep,
 };
-ghost use Rattle.som_fields.specs.Fields.{Gives};
+ghost use Rattle.som_image_fields.specs.Fields.{Gives};
 ghost use Rattle.std.specs.Prelude.{◌≡◌, ◌≤◌, length, IfOk};
 
 use crate::operand::{read_class, read_operator, read_signed, read_truth};
 use crate::pair::read_pair;
-use som_fields::{ImageFault, Ranges, Read, read_many, read_text, read_u8, read_u16};
+use som_image_fields::{
+    ImageFault, Ranges, Read, WireExpr, read_many, read_text, read_u8, read_u16,
+};
 use som_model::{Boxed, List, MAX_PARAMETERS};
-use som_spelling::WireExpr;
 use std::alloc::Global;
 
 // An expression where no more level is left.

@@ -1,6 +1,6 @@
 //! States that spellings begin no other, that what fits can be written, and that what was written is read.
 
-ghost use Rattle.som_spelling.specs.Fitting.{
+ghost use Rattle.som_image_fields.specs.Fitting.{
   FitsBlock,
   FitsExpr,
   FitsPart,
@@ -11,13 +11,13 @@ ghost use Rattle.som_spelling.specs.Fitting.{
   levels_left,
 };
 ghost use Rattle.som_wire.specs.Reading.{block_at, part_at, selects_at};
-ghost use Rattle.som_spelling.specs.Spelling.{block, expr, part, selects};
-ghost use Rattle.som_spelling.specs.declared.syntax.WireBlock.{WireBlock};
-ghost use Rattle.som_spelling.specs.declared.syntax.WirePart.{WirePart};
-ghost use Rattle.som_spelling.specs.declared.selects.WireSelects.{WireSelects};
-ghost use Rattle.som_fields.specs.Fields.{NoneBeginsAnother, done};
-ghost use Rattle.som_fields.specs.Spelling.{AreShort, FitsMethod};
-ghost use Rattle.som_fields.specs.declared.method.Ranges.{Ranges};
+ghost use Rattle.som_image_fields.specs.SyntaxSpelling.{block, expr, part, selects};
+ghost use Rattle.som_image_fields.specs.declared.syntax.WireBlock.{WireBlock};
+ghost use Rattle.som_image_fields.specs.declared.syntax.WirePart.{WirePart};
+ghost use Rattle.som_image_fields.specs.declared.selects.WireSelects.{WireSelects};
+ghost use Rattle.som_image_fields.specs.Fields.{NoneBeginsAnother, done};
+ghost use Rattle.som_image_fields.specs.Spelling.{AreShort, FitsMethod};
+ghost use Rattle.som_image_fields.specs.declared.method.Ranges.{Ranges};
 ghost use Rattle.std.specs.Prelude.{◌≡◌, ◌<◌, ◌≤◌, ◌^◌, ◌++◌, ℕ, List, length};
 
 /// An expression, a block, a part or the selects of classes have at most one spelling, and none begins another.

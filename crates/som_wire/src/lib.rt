@@ -25,13 +25,10 @@ pub use block::{read_block, write_block};
 pub use laws::{no_spelling_begins_another, what_fits_can_be_written, what_was_written_is_read};
 pub use part::{read_part, write_part};
 pub use selects::{read_selects, write_selects};
-pub use som_fields::{
-    EncodeFault, ImageFault, Ranges, Read, WireEntry, WireFace, WireMethod, WireSig, WireType,
-    read_entry, read_face, read_method, read_sig, read_text, read_type, read_u8, read_u16,
-    read_u32, write_entry, write_face, write_method, write_sig, write_text, write_type, write_u8,
-    write_u16, write_u32,
-};
-pub use som_spelling::{
-    WireBlock, WireBody, WireExpr, WireOverride, WirePart, WireSelect, WireSelects, WireStmt,
-    WireVariable,
+pub use som_image_fields::{
+    EncodeFault, ImageFault, Ranges, Read, WireBlock, WireBody, WireEntry, WireExpr, WireFace,
+    WireMethod, WireOverride, WirePart, WireSelect, WireSelects, WireSig, WireStmt, WireType,
+    WireVariable, read_entry, read_face, read_method, read_sig, read_text, read_type, read_u8,
+    read_u16, read_u32, write_entry, write_face, write_method, write_sig, write_text, write_type,
+    write_u8, write_u16, write_u32,
 };

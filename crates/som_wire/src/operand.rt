@@ -1,10 +1,10 @@
 //! Decodes small operands: signed numbers, classes, operators, truth values and procedures of the host.
 
 ghost use Rattle.som_wire.specs.Reading.{host_at, operator_at, signed_at, truth_at};
-ghost use Rattle.som_fields.specs.Reading.{below_at};
+ghost use Rattle.som_image_fields.specs.Reading.{below_at};
 ghost use Rattle.std.specs.Prelude.{◌≡◌, ◌≤◌, length, IfOk};
 
-use som_fields::{ImageFault, Read, read_u8, read_u16, read_u32};
+use som_image_fields::{ImageFault, Read, read_u8, read_u16, read_u32};
 use som_model::{HostCode, List};
 
 #[tactic(auto, unfolding(crate::specs::Reading::signed_at))]
@@ -21,7 +21,7 @@ pub(crate) fn read_signed(bytes: &List<u8>, place: usize) -> Result<Read<i32>, I
 }
 
 // The number of a class.
-#[tactic(auto, unfolding(som_fields::specs::Reading::below_at))]
+#[tactic(auto, unfolding(som_image_fields::specs::Reading::below_at))]
 pub(crate) fn read_class(
     bytes: &List<u8>,
     place: usize,

@@ -1,14 +1,15 @@
 //! Decodes the expressions after their tags that hold two operands, or a receiver and arguments.
 
 ghost use Rattle.som_wire.specs.Reading.{call_after, expr_at, named_call_after, pair_after, parent_call_after};
-ghost use Rattle.som_fields.specs.Fields.{Gives};
+ghost use Rattle.som_image_fields.specs.Fields.{Gives};
 ghost use Rattle.std.specs.Prelude.{◌≡◌, ◌≤◌, length, IfOk};
 
 use crate::expr::{read_args, read_operand};
 use crate::operand::{read_host, read_operator};
-use som_fields::{ImageFault, Ranges, Read, read_method, read_text, read_type, read_u8};
+use som_image_fields::{
+    ImageFault, Ranges, Read, WireExpr, read_method, read_text, read_type, read_u8,
+};
 use som_model::List;
-use som_spelling::WireExpr;
 use std::alloc::Global;
 
 // What follows the tag of two operands at a place, or of a call.

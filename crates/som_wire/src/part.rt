@@ -1,6 +1,6 @@
 //! Decodes and encodes the part of a class: its variables, bodies and overrides.
 
-ghost use Rattle.som_spelling.specs.Fitting.{
+ghost use Rattle.som_image_fields.specs.Fitting.{
   FitsBody,
   FitsOverride,
   FitsPart,
@@ -18,20 +18,20 @@ ghost use Rattle.som_wire.specs.Reading.{
   variable_at,
   variables_at,
 };
-ghost use Rattle.som_spelling.specs.Spelling.{body as body_bytes, overridden, part, variable as variable_bytes};
-ghost use Rattle.som_fields.specs.Fields.{Stands, Gives, done};
-ghost use Rattle.som_fields.specs.Spelling.{FitsSomeRanges, most_classes};
+ghost use Rattle.som_image_fields.specs.SyntaxSpelling.{body as body_bytes, overridden, part, variable as variable_bytes};
+ghost use Rattle.som_image_fields.specs.Fields.{Stands, Gives, done};
+ghost use Rattle.som_image_fields.specs.Spelling.{FitsSomeRanges, most_classes};
 ghost use Rattle.std.specs.List.{flat_map};
 ghost use Rattle.std.specs.Prelude.{◌≡◌, ◌≤◌, ◌++◌, ℕ, length, All, IfOk, OnOk, OnErr};
 
 use crate::block::{append_block_of_body, know_ranges, read_block};
 use crate::write_expr::append_byte;
-use som_fields::{
-    ImageFault, Ranges, Read, read_many, read_method, read_text, read_type, read_u8, read_u16,
-    write_method, write_text, write_type, write_u8, write_u16,
+use som_image_fields::{
+    ImageFault, Ranges, Read, WireBody, WireOverride, WirePart, WireVariable, read_many,
+    read_method, read_text, read_type, read_u8, read_u16, write_method, write_text, write_type,
+    write_u8, write_u16,
 };
 use som_model::{List, MAX_OVERRIDES, MAX_VARIABLES, NoMemory};
-use som_spelling::{WireBody, WireOverride, WirePart, WireVariable};
 use std::alloc::Global;
 
 #[tactic(auto, unfolding(crate::specs::Reading::variable_at))]

@@ -1,6 +1,6 @@
 //! Decodes and encodes the selects of classes, under class numbers that ascend.
 
-ghost use Rattle.som_spelling.specs.Fitting.{FitsOwnSelects, FitsSelect, FitsSelects, FitsSomeSelects};
+ghost use Rattle.som_image_fields.specs.Fitting.{FitsOwnSelects, FitsSelect, FitsSelects, FitsSomeSelects};
 ghost use Rattle.som_wire.specs.Reading.{
   ascending_at,
   class_from_at,
@@ -9,19 +9,18 @@ ghost use Rattle.som_wire.specs.Reading.{
   select_at,
   selects_at,
 };
-ghost use Rattle.som_spelling.specs.Spelling.{class_selects, select, selects};
-ghost use Rattle.som_fields.specs.Fields.{Gives, Stands, done};
-ghost use Rattle.som_fields.specs.Spelling.{FitsMethod, FitsSomeRanges};
+ghost use Rattle.som_image_fields.specs.SyntaxSpelling.{class_selects, select, selects};
+ghost use Rattle.som_image_fields.specs.Fields.{Gives, Stands, done};
+ghost use Rattle.som_image_fields.specs.Spelling.{FitsMethod, FitsSomeRanges};
 ghost use Rattle.std.specs.List.{flat_map};
 ghost use Rattle.std.specs.Prelude.{◌≡◌, ◌-◌, ◌<◌, ◌≤◌, ◌^◌, ◌++◌, ℕ, length, All, IfOk, OnOk, OnErr};
 
 use crate::block::know_ranges;
-use som_fields::{
-    ImageFault, Ranges, Read, read_many, read_method, read_u8, read_u16, write_method, write_u8,
-    write_u16,
+use som_image_fields::{
+    ImageFault, Ranges, Read, WireSelect, WireSelects, read_many, read_method, read_u8, read_u16,
+    write_method, write_u8, write_u16,
 };
 use som_model::{List, MAX_SELECTS, NoMemory};
-use som_spelling::{WireSelect, WireSelects};
 use std::alloc::Global;
 
 #[tactic(auto, unfolding(crate::specs::Reading::select_at))]

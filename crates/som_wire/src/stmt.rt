@@ -12,17 +12,19 @@ ghost use Rattle.som_wire.specs.Reading.{
   too_deep,
 };
 ghost use Rattle.som_wire.specs.Making.{of_two};
-ghost use Rattle.som_spelling.specs.declared.syntax.WireStmt.TheVariants as stmts;
-ghost use Rattle.som_fields.specs.Fields.{Gives};
-ghost use Rattle.som_fields.specs.Reading.{kind_at, number_at};
+ghost use Rattle.som_image_fields.specs.declared.syntax.WireStmt.TheVariants as stmts;
+ghost use Rattle.som_image_fields.specs.Fields.{Gives};
+ghost use Rattle.som_image_fields.specs.Reading.{kind_at, number_at};
 ghost use Rattle.std.specs.Int.{w8, w16};
 ghost use Rattle.std.specs.Prelude.{◌≡◌, ◌≤◌, false, length, IfOk};
 
 use crate::call::read_call;
 use crate::expr::{read_expr, read_operand};
-use som_fields::{ImageFault, Ranges, Read, read_many, read_type, read_u8, read_u16, read_u32};
+use som_image_fields::{
+    ImageFault, Ranges, Read, WireBlock, WireStmt, read_many, read_type, read_u8, read_u16,
+    read_u32,
+};
 use som_model::List;
-use som_spelling::{WireBlock, WireStmt};
 use std::alloc::Global;
 
 // A statement where no more level is left.

@@ -1,9 +1,9 @@
 //! Encodes expressions: the tag and its fields, and then the expressions within.
 
-ghost use Rattle.som_spelling.specs.Fitting.{FitsArgs, FitsSomeExpr, FitsSomeExprParts};
-ghost use Rattle.som_spelling.specs.Spelling.{expr, host, truth};
+ghost use Rattle.som_image_fields.specs.Fitting.{FitsArgs, FitsSomeExpr, FitsSomeExprParts};
+ghost use Rattle.som_image_fields.specs.SyntaxSpelling.{expr, host, truth};
 ghost use Rattle.som_wire.specs.Writing.{expr_head, expr_operands};
-ghost use Rattle.som_fields.specs.Spelling.{
+ghost use Rattle.som_image_fields.specs.Spelling.{
   FitsKind,
   FitsSomeRanges,
   FitsText,
@@ -17,11 +17,11 @@ ghost use Rattle.som_fields.specs.Spelling.{
 ghost use Rattle.std.specs.Int.{w8, w16, w32, cast_unsigned};
 ghost use Rattle.std.specs.Prelude.{◌≡◌, ◌++◌, true, OnOk};
 
-use som_fields::{
-    WireMethod, WireType, write_method, write_text, write_type, write_u8, write_u16, write_u32,
+use som_image_fields::{
+    WireExpr, WireMethod, WireType, write_method, write_text, write_type, write_u8, write_u16,
+    write_u32,
 };
 use som_model::{HostCode, List, NoMemory, Text};
-use som_spelling::WireExpr;
 use std::alloc::Global;
 
 /// Appends an expression. After an error a part of it may have been appended.

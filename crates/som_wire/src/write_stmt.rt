@@ -1,16 +1,15 @@
 //! Encodes blocks: each statement by its tag and its fields, and then the blocks within.
 
-ghost use Rattle.som_spelling.specs.Fitting.{FitsSomeExpr, FitsSomeStmt, FitsSomeStmtParts, FitsStatements};
-ghost use Rattle.som_spelling.specs.Spelling.{block, expr, stmt};
+ghost use Rattle.som_image_fields.specs.Fitting.{FitsSomeExpr, FitsSomeStmt, FitsSomeStmtParts, FitsStatements};
+ghost use Rattle.som_image_fields.specs.SyntaxSpelling.{block, expr, stmt};
 ghost use Rattle.som_wire.specs.Writing.{stmt_blocks, stmt_front};
-ghost use Rattle.som_fields.specs.Spelling.{FitsKind, kind as kind_bytes, most_classes, number as number_bytes};
+ghost use Rattle.som_image_fields.specs.Spelling.{FitsKind, kind as kind_bytes, most_classes, number as number_bytes};
 ghost use Rattle.std.specs.Int.{w8, w16};
 ghost use Rattle.std.specs.Prelude.{◌≡◌, ◌++◌, false, OnOk};
 
 use crate::write_expr::{append_byte, append_expr, append_short};
-use som_fields::{WireType, write_type, write_u8, write_u32};
+use som_image_fields::{WireBlock, WireExpr, WireStmt, WireType, write_type, write_u8, write_u32};
 use som_model::{List, NoMemory};
-use som_spelling::{WireBlock, WireExpr, WireStmt};
 use std::alloc::Global;
 
 /// Appends a block. After an error a part of it may have been appended.

@@ -1,15 +1,15 @@
 use Rattle.std.proofs.Common.{◌≡◌, ◌≢◌, ◌-◌, ◌∷◌, [], subst, rules, arith}
 use Rattle.std.proofs.lemmas.Grind.{common_steps}
 use Rattle.std.proofs.lemmas.Result.{err_from_is_err_and}
-use Rattle.som_read.proofs.Loops.{turn_start, turn_done, turn_more, turn_stops, turn_none}
-use Rattle.som_read.specs.Readers.{keeping, repeated, one_more}
-use Rattle.som_read.specs.Answer.{Answers}
-use Rattle.som_read.specs.Seen.{text_at}
+use Rattle.som_parse.proofs.Loops.{turn_start, turn_done, turn_more, turn_stops, turn_none}
+use Rattle.som_parse.specs.Readers.{keeping, repeated, one_more}
+use Rattle.som_parse.specs.Answer.{Answers}
+use Rattle.som_parse.specs.Seen.{text_at}
 use Rattle.som_body.proofs.Deeper.{statement_deeper, if_deeper}
-use Rattle.som_read.specs.declared.cursor.Stop.TheVariants.{Memory}
-use Rattle.som_read.specs.Tokens.{is_sign}
-use Rattle.som_read.specs.declared.token.Sign.TheVariants as sign
-use Rattle.som_expressions.specs.Reading.{too_deep}
+use Rattle.som_parse.specs.declared.cursor.Stop.TheVariants.{Memory}
+use Rattle.som_parse.specs.Tokens.{is_sign}
+use Rattle.som_parse.specs.declared.token.Sign.TheVariants as sign
+use Rattle.som_body.specs.Reading.{too_deep}
 use Rattle.som_body.specs.StatementReading as spec
 use Rattle.som_body.proofs.block.+statements.Goals as goal
 

@@ -1,8 +1,8 @@
 use Rattle.std.proofs.Common.{◌≡◌, ◌+◌, ◌-◌, ◌*◌}
-use Rattle.som_read.specs.Readers.{keeping, repeated, one_more, turns}
-use Rattle.som_read.specs.Seen.{text_at}
-use Rattle.som_read.specs.Tokens.{is_sign}
-use Rattle.som_read.specs.declared.token.Sign.TheVariants as sign
+use Rattle.som_parse.specs.Readers.{keeping, repeated, one_more, turns}
+use Rattle.som_parse.specs.Seen.{text_at}
+use Rattle.som_parse.specs.Tokens.{is_sign}
+use Rattle.som_parse.specs.declared.token.Sign.TheVariants as sign
 use Rattle.som_body.specs.StatementReading as spec
 use Rattle.som_body.proofs.block.+statements.Given as goal
 

@@ -1,10 +1,10 @@
 use Rattle.std.proofs.Common.{◌≡◌, ◌≢◌, ◌∷◌, [], rules, arith}
 use Rattle.std.proofs.lemmas.Grind.{common_steps}
 use Rattle.std.proofs.lemmas.Result.{err_from_is_err_and}
-use Rattle.som_read.proofs.Loops.{turn_start, turn_done, turn_more, turn_stops, turn_none}
-use Rattle.som_read.specs.Readers.{keeping, repeated, one_more}
-use Rattle.som_read.specs.Seen.{text_at}
-use Rattle.som_read.specs.declared.cursor.Stop.TheVariants.{Memory}
+use Rattle.som_parse.proofs.Loops.{turn_start, turn_done, turn_more, turn_stops, turn_none}
+use Rattle.som_parse.specs.Readers.{keeping, repeated, one_more}
+use Rattle.som_parse.specs.Seen.{text_at}
+use Rattle.som_parse.specs.declared.cursor.Stop.TheVariants.{Memory}
 use Rattle.som_model.specs.declared.limits.TheConstants.{MAX_NESTING}
 use Rattle.som_body.specs.StatementReading as spec
 use Rattle.som_body.proofs.file.bodies.Goals as goal

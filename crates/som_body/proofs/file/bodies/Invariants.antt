@@ -1,7 +1,7 @@
 use Rattle.std.proofs.Common.{◌≡◌, ◌-◌}
 use Rattle.som_model.specs.declared.limits.TheConstants.{MAX_NESTING}
-use Rattle.som_read.specs.Readers.{keeping, repeated, one_more, turns}
-use Rattle.som_read.specs.Seen.{text_at}
+use Rattle.som_parse.specs.Readers.{keeping, repeated, one_more, turns}
+use Rattle.som_parse.specs.Seen.{text_at}
 use Rattle.som_body.specs.StatementReading as spec
 use Rattle.som_body.proofs.file.bodies.Given as goal
 

@@ -1,7 +1,7 @@
 use Rattle.std.proofs.Common.{◌≡◌, ◌-◌}
-use Rattle.som_read.specs.Readers.{listed, another, turns}
-use Rattle.som_read.specs.Seen.{text_at}
-use Rattle.som_expressions.specs.Reading as spec
+use Rattle.som_parse.specs.Readers.{listed, another, turns}
+use Rattle.som_parse.specs.Seen.{text_at}
+use Rattle.som_body.specs.Reading as spec
 use Rattle.som_body.proofs.file.some_params.Given as goal
 
 abbrev pub invariant-loop-turn : goal.invariant-loop-turn

@@ -1,5 +1,5 @@
 use Rattle.std.proofs.Common.{◌≡◌, ◌∙◌, ap, sym}
-use Rattle.som_read.specs.declared.cursor.Stop.TheVariants.{Syntax, Nesting}
+use Rattle.som_parse.specs.declared.cursor.Stop.TheVariants.{Syntax, Nesting}
 use Rattle.som_body.specs.Answer.{is_refused}
 use Rattle.som_body.proofs.Stopping.{stops_as}
 use Rattle.som_body.proofs.Theorem.{bodies_fault, main_fault}

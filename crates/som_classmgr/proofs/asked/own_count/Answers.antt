@@ -1,6 +1,6 @@
 use Rattle.std.proofs.Common.{◌∙◌, arith}
-use Rattle.som_numbers.specs.Classes.{class_of}
-use Rattle.som_places.proofs.Having.{count_declared, count_made}
+use Rattle.som_class_ids.specs.Classes.{class_of}
+use Rattle.som_class_variables.proofs.Having.{count_declared, count_made}
 use Rattle.som_classmgr.proofs.asked.own_count.Goals as goal
 
 pub returns-then-number-declared_count : goal.returns-then-number-declared_count

@@ -1,7 +1,7 @@
 use Rattle.std.proofs.Common.{◌∙◌, List, ap, arith}
 use Rattle.som_model.specs.declared.class.Variable.{Variable}
-use Rattle.som_model.specs.State.{zero_of}
-use Rattle.som_numbers.specs.Classes.{class_of}
+use Rattle.som_semantics.specs.State.{zero_of}
+use Rattle.som_class_ids.specs.Classes.{class_of}
 use Rattle.som_classmgr.specs.Asking.{kind_at}
 use Rattle.som_classmgr.proofs.Asking.{kind_declared, kind_made}
 use Rattle.som_classmgr.proofs.asked.zero_in.Goals as goal

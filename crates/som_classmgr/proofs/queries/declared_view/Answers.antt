@@ -1,5 +1,5 @@
 use Rattle.std.proofs.Common.{◌∙◌, sym}
-use Rattle.som_numbers.specs.Classes.{class_of}
+use Rattle.som_class_ids.specs.Classes.{class_of}
 use Rattle.som_classmgr.proofs.Reading.{declared_key}
 use Rattle.som_classmgr.proofs.queries.declared_view.Goals as goal
 

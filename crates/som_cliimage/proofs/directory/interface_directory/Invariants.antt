@@ -2,7 +2,7 @@ use Rattle.std.proofs.Common.{◌≡◌, ◌++◌, map, take}
 use Rattle.som_model.specs.declared.key.Module.TheVariants as modules
 use Rattle.som_model.specs.declared.key.ClassKey.TheVariants as keys
 use Rattle.som_model.specs.Class.{entry_name}
-use Rattle.som_naming.specs.Naming.{kernel_directory}
+use Rattle.som_image_decode.specs.Naming.{kernel_directory}
 use Rattle.som_cliimage.proofs.directory.interface_directory.Given as goal
 
 -- the kernel's keys and names, and those so far

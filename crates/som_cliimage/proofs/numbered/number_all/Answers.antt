@@ -1,6 +1,6 @@
 use Rattle.std.proofs.Common.{ℕ, ◌+◌, ap, ◌∙◌, arith}
 use Rattle.som_order.specs.Names.{texts}
-use Rattle.som_numbering.specs.NumberedClasses.{selects_numbered}
+use Rattle.som_image_encode.specs.NumberedClasses.{selects_numbered}
 use Rattle.som_cliimage.proofs.Ready.{ready, named_ready, directory_ready, known_ready, few_ready, main_ready, numbered_is}
 use Rattle.som_cliimage.proofs.numbered.number_all.Goals as goal
 

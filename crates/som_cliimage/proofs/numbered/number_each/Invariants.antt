@@ -1,5 +1,5 @@
 use Rattle.std.proofs.Common.{◌≡◌, map, take}
-use Rattle.som_numbering.specs.NumberedClasses.{face_numbered}
+use Rattle.som_image_encode.specs.NumberedClasses.{face_numbered}
 use Rattle.som_cliimage.proofs.numbered.number_each.Given as goal
 
 abbrev pub invariant-loop-face : goal.invariant-loop-face

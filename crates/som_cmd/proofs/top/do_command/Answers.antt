@@ -1,12 +1,12 @@
 use Rattle.std.proofs.Common.{ℕ, List, refl, subst, inl, inr}
 use Rattle.som_io.specs.Outside.{ShowsAll, ShowsFront}
-use Rattle.som_ran.specs.Traces.{shown_in}
-use Rattle.som_run.specs.RunAnswer.{IsRunAnswer}
-use Rattle.som_check.specs.ShowAnswer.{IsShowAnswer}
-use Rattle.som_check.specs.CheckAnswer.{IsCheckAnswer}
-use Rattle.som_build.specs.LibraryAnswer.{IsLibraryAnswer}
-use Rattle.som_build.specs.ClientAnswer.{IsClientAnswer}
-use Rattle.som_generate.specs.GenerateAnswer.{IsGenerateAnswer}
+use Rattle.som_cmd_main.specs.Traces.{shown_in}
+use Rattle.som_cmd_run.specs.RunAnswer.{IsRunAnswer}
+use Rattle.som_cmd_check.specs.ShowAnswer.{IsShowAnswer}
+use Rattle.som_cmd_check.specs.CheckAnswer.{IsCheckAnswer}
+use Rattle.som_cmd_build.specs.LibraryAnswer.{IsLibraryAnswer}
+use Rattle.som_cmd_build.specs.ClientAnswer.{IsClientAnswer}
+use Rattle.som_cmd_generate.specs.GenerateAnswer.{IsGenerateAnswer}
 use Rattle.som_cmd.specs.Words.{asked, Run, Show, Check, Library, Client, Generate, Bad}
 use Rattle.som_cmd.specs.Answer.{runs, shows, checks, compiles, compiles_client, generates}
 use Rattle.som_cmd.proofs.EndLaws.{among, answered, bad_ends, bad_fronts, bad_status, bad_told, bad_untold, files_kept, front, generated_some, generated_told, none_written, one_line, store_failed}

@@ -1,6 +1,6 @@
 use Rattle.std.proofs.Common.{◌≡◌, ◌+◌, length}
 use Rattle.som_model.specs.declared.key.ClassKey.{ClassKey}
-use Rattle.som_lawful.specs.Plainly.{IsAmong}
+use Rattle.som_verify_classes.specs.Plainly.{IsAmong}
 use Rattle.som_compat.specs.Marks.{AreAbove, lost_from}
 use Rattle.som_compat.specs.Views.{classes_of}
 use Rattle.som_compat.proofs.ancestors.first_lost.Given as goal

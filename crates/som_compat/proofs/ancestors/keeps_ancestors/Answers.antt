@@ -5,7 +5,7 @@ use Rattle.som_model.specs.Keys.{same_key}
 use Rattle.som_model.specs.Class.{Class}
 use Rattle.som_model.specs.Classes.{ancestors}
 use Rattle.som_model.specs.Compatible.{declared_name}
-use Rattle.som_laws.specs.Once.{adds}
+use Rattle.som_model_laws.specs.Once.{adds}
 use Rattle.som_compat.specs.Marks.{lost_from}
 use Rattle.som_compat.specs.Views.{classes_of, shown}
 use Rattle.som_compat.proofs.Filled.{take_mem}

@@ -1,6 +1,6 @@
 use Rattle.std.proofs.Common.{◌≡◌, ◌↔◌, ◌⊎◌, ◌<◌, ◌≤◌, ℕ, take, length}
 use Rattle.som_model.specs.Lists.{Mem}
-use Rattle.som_ancestry.specs.Places.{key_at}
+use Rattle.som_verify_classes.specs.Places.{key_at}
 use Rattle.som_compat.specs.Marks.{Marked}
 use Rattle.som_compat.specs.Views.{classes_of}
 use Rattle.som_compat.proofs.ancestors.mark_keys.Given as goal

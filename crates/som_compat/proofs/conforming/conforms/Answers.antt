@@ -3,8 +3,8 @@ use Rattle.std.specs.Prelude.{All}
 use Rattle.som_model.specs.declared.class.ClassFace.{ClassFace}
 use Rattle.som_model.specs.declared.class.ClassDecl.{ClassDecl}
 use Rattle.som_model.specs.Class.{bare}
-use Rattle.som_ancestry.specs.Faces.{faces_breach}
-use Rattle.som_ancestry.specs.Told.{of_release}
+use Rattle.som_verify_classes.specs.Faces.{faces_breach}
+use Rattle.som_verify_classes.specs.Told.{of_release}
 use Rattle.som_compat.specs.Conditions.{IsCounted}
 use Rattle.som_compat.specs.Views.{shown}
 use Rattle.som_compat.proofs.Known.{interface_is}

@@ -1,5 +1,5 @@
 use Rattle.std.proofs.Common.{◌≡◌, ◌<◌, ℕ, length, slice_index_or}
-use Rattle.som_ancestry.specs.Places.{face_at}
+use Rattle.som_verify_classes.specs.Places.{face_at}
 use Rattle.som_compat.specs.declared.rows.Row.{Row}
 use Rattle.som_compat.specs.Views.{classes_of, IsRow}
 use Rattle.som_compat.proofs.view.fill.Given as goal

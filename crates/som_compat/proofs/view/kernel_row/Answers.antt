@@ -1,5 +1,5 @@
 use Rattle.std.proofs.Common.{◌≡◌, sym, subst, refl, ℕ, arith}
-use Rattle.som_ancestry.specs.Places.{face_at}
+use Rattle.som_verify_classes.specs.Places.{face_at}
 use Rattle.som_compat.specs.Views.{classes_of, IsRow}
 use Rattle.som_compat.proofs.Viewing.{root_row, single_row}
 use Rattle.som_compat.proofs.view.kernel_row.Goals as goal

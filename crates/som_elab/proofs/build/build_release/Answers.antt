@@ -1,8 +1,8 @@
 use Rattle.std.proofs.Common.{ap}
 use Rattle.std.proofs.lemmas.Result.{err_from_is_err_and}
 use Rattle.som_model.specs.declared.program.Interface.{Interface}
-use Rattle.som_scope.specs.Words.{interfaces_of}
-use Rattle.som_methods.specs.Bodies.{bodies_of}
+use Rattle.som_sema_scope.specs.Words.{interfaces_of}
+use Rattle.som_elab_methods.specs.Bodies.{bodies_of}
 use Rattle.som_elab.proofs.Conforms.{release_conforms}
 use Rattle.som_elab.proofs.Programs.{release_made, release_refused}
 use Rattle.som_elab.proofs.build.build_release.Goals as goal

@@ -1,6 +1,6 @@
 use Rattle.std.proofs.lemmas.Result.{err_from_is_err_and}
-use Rattle.som_scope.specs.Words.{interfaces_of}
-use Rattle.som_methods.specs.Bodies.{bodies_of}
+use Rattle.som_sema_scope.specs.Words.{interfaces_of}
+use Rattle.som_elab_methods.specs.Bodies.{bodies_of}
 use Rattle.som_elab.proofs.Conforms.{program_conforms}
 use Rattle.som_elab.proofs.Programs.{program_made, program_refused}
 use Rattle.som_elab.proofs.build.elaborate.Goals as goal

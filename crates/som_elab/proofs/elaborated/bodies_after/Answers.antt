@@ -1,14 +1,14 @@
 use Rattle.std.proofs.Common.{◌≡◌, List, length, map, None, option_copied, sym, ap, ◌∙◌, subst}
 use Rattle.som_model.specs.Class.{Class, class_in}
 use Rattle.som_model.specs.declared.key.Module.TheVariants as modules
-use Rattle.som_scope.specs.ClassNames.{module_in_scope}
-use Rattle.som_drafts.specs.Drafts.{plain_drafts}
-use Rattle.som_ancestry.specs.Faces.{classes_breach}
-use Rattle.som_ancestry.specs.Modules.{classes_of}
-use Rattle.som_ancestry.specs.Places.{with_kernel}
-use Rattle.som_blocks.specs.Blocks.{Answers}
-use Rattle.som_blocks.specs.Contexts.{checked_steps}
-use Rattle.som_methods.specs.Texts.{given}
+use Rattle.som_sema_scope.specs.ClassNames.{module_in_scope}
+use Rattle.som_sema_drafts.specs.Drafts.{plain_drafts}
+use Rattle.som_verify_classes.specs.Faces.{classes_breach}
+use Rattle.som_verify_classes.specs.Modules.{classes_of}
+use Rattle.som_verify_classes.specs.Places.{with_kernel}
+use Rattle.som_elab.specs.Blocks.{Answers}
+use Rattle.som_elab.specs.Contexts.{checked_steps}
+use Rattle.som_elab_methods.specs.Texts.{given}
 use Rattle.som_elab.proofs.elaborated.bodies_after.Goals as goal
 
 pub bodies_among-requires-clause-rules : goal.bodies_among-requires-clause-rules

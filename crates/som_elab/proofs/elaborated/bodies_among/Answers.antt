@@ -1,5 +1,5 @@
-use Rattle.som_ancestry.specs.Modules.{classes_of}
-use Rattle.som_blocks.proofs.ContextLaws.{names_kept}
+use Rattle.som_verify_classes.specs.Modules.{classes_of}
+use Rattle.som_elab.proofs.ContextLaws.{names_kept}
 use Rattle.som_elab.proofs.elaborated.bodies_among.Goals as goal
 
 pub parts_of-requires : goal.parts_of-requires

@@ -1,13 +1,13 @@
 use Rattle.std.proofs.Common.{List, option_copied, ◌∙◌, subst}
-use Rattle.som_scope.specs.ClassNames.{module_in_scope}
-use Rattle.som_drafts.specs.Drafts.{plain_drafts}
-use Rattle.som_ancestry.specs.declared.types.Declared.{Declared}
-use Rattle.som_ancestry.specs.Modules.{classes_of}
-use Rattle.som_ancestry.specs.Places.{with_kernel}
-use Rattle.som_blocks.specs.Blocks.{Answers}
-use Rattle.som_blocks.specs.Contexts.{checked_steps}
-use Rattle.som_methods.specs.Texts.{given}
-use Rattle.som_blocks.proofs.ContextLaws.{basis_of}
+use Rattle.som_sema_scope.specs.ClassNames.{module_in_scope}
+use Rattle.som_sema_drafts.specs.Drafts.{plain_drafts}
+use Rattle.som_verify_classes.specs.declared.types.Declared.{Declared}
+use Rattle.som_verify_classes.specs.Modules.{classes_of}
+use Rattle.som_verify_classes.specs.Places.{with_kernel}
+use Rattle.som_elab.specs.Blocks.{Answers}
+use Rattle.som_elab.specs.Contexts.{checked_steps}
+use Rattle.som_elab_methods.specs.Texts.{given}
+use Rattle.som_elab.proofs.ContextLaws.{basis_of}
 use Rattle.som_elab.proofs.elaborated.bodies_by.Goals as goal
 
 pub know-known-requires : goal.know-known-requires

@@ -1,9 +1,9 @@
 use Rattle.std.proofs.Common.{List, option_copied, subst}
-use Rattle.som_syntax.specs.declared.body.BodyText.{BodyText}
-use Rattle.som_drafts.specs.Drafts.{plain_drafts}
-use Rattle.som_scope.specs.Words.{lent}
-use Rattle.som_blocks.specs.Contexts.{checked_steps}
-use Rattle.som_blocks.specs.Blocks.{Answers}
+use Rattle.som_ast.specs.declared.body.BodyText.{BodyText}
+use Rattle.som_sema_drafts.specs.Drafts.{plain_drafts}
+use Rattle.som_sema_scope.specs.Words.{lent}
+use Rattle.som_elab.specs.Contexts.{checked_steps}
+use Rattle.som_elab.specs.Blocks.{Answers}
 use Rattle.som_elab.specs.Elaboration.{among_over}
 use Rattle.som_elab.proofs.elaborated.bodies_over.Goals as goal
 

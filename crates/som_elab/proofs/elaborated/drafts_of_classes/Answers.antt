@@ -4,7 +4,7 @@ use Rattle.std.proofs.lemmas.Iterator.Consumers.{YieldsList-at, YieldsList-end}
 use Rattle.std.proofs.lemmas.Iterator.Adapters.{YieldsList-from_vec}
 use Rattle.std.specs.Slice.Iter.{iter_rest}
 use Rattle.som_elab.specs.Elaboration.{drafts_of_classes}
-use Rattle.som_scope.specs.Words.{lent}
+use Rattle.som_sema_scope.specs.Words.{lent}
 use Rattle.som_elab.proofs.Pairing.{paired, paired_drafts}
 use Rattle.som_elab.proofs.elaborated.drafts_of_classes.Goals as goal
 

@@ -1,5 +1,5 @@
 use Rattle.std.proofs.Common.{◌≡◌, map}
-use Rattle.som_drafts.specs.Drafts.{plain_drafts}
+use Rattle.som_sema_drafts.specs.Drafts.{plain_drafts}
 use Rattle.som_elab.proofs.Pairing.{one_less, paired}
 use Rattle.som_elab.proofs.elaborated.drafts_of_classes.Given as goal
 

@@ -1,13 +1,13 @@
 use Rattle.std.proofs.Common.{List, Ok, option_copied, sym, ap, ◌∙◌}
 use Rattle.std.proofs.lemmas.Result.{err_from_is_err_and}
 use Rattle.som_model.specs.declared.class.ClassDecl.{ClassDecl}
-use Rattle.som_drafts.specs.Drafts.{InterfaceDraft, plain_drafts}
-use Rattle.som_scope.specs.Words.{interfaces_of, lent}
+use Rattle.som_sema_drafts.specs.Drafts.{InterfaceDraft, plain_drafts}
+use Rattle.som_sema_scope.specs.Words.{interfaces_of, lent}
 use Rattle.som_elab.specs.Elaboration.{drafts_of_classes}
-use Rattle.som_methods.specs.Bodies.{bodies_of}
+use Rattle.som_elab_methods.specs.Bodies.{bodies_of}
 use Rattle.som_elab.specs.declared.elaborated.ElaboratedModule.{ElaboratedModule}
-use Rattle.som_blocks.specs.Contexts.{completed}
-use Rattle.som_methods.specs.Texts.{given}
+use Rattle.som_elab.specs.Contexts.{completed}
+use Rattle.som_elab_methods.specs.Texts.{given}
 use Rattle.som_elab.proofs.ModuleLaws.{drafts_shown, faces_refused, faces_shown, shown_made, shown_refused}
 use Rattle.som_elab.proofs.elaborated.elaborate_module.Goals as goal
 

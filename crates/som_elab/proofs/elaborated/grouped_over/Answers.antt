@@ -1,12 +1,12 @@
 use Rattle.std.proofs.Common.{length, option_copied, sym, ap, ◌∙◌, subst}
 use Rattle.som_model.specs.Class.{bare}
-use Rattle.som_scope.specs.ClassNames.{face_names, module_in_scope, kernel_names, module_by_names}
-use Rattle.som_drafts.specs.Drafts.{plain_drafts}
-use Rattle.som_scope.specs.Words.{interface_names, lent, once}
+use Rattle.som_sema_scope.specs.ClassNames.{face_names, module_in_scope, kernel_names, module_by_names}
+use Rattle.som_sema_drafts.specs.Drafts.{plain_drafts}
+use Rattle.som_sema_scope.specs.Words.{interface_names, lent, once}
 use Rattle.som_sema.proofs.Finishing.{base_is}
-use Rattle.som_ancestry.proofs.DeclaredClasses.{long_map}
-use Rattle.som_blocks.specs.Contexts.{ParentsCounted}
-use Rattle.som_methods.specs.Texts.{given}
+use Rattle.som_verify_classes.proofs.DeclaredClasses.{long_map}
+use Rattle.som_elab.specs.Contexts.{ParentsCounted}
+use Rattle.som_elab_methods.specs.Texts.{given}
 use Rattle.som_elab.proofs.Declared.{parents_counted}
 use Rattle.som_elab.proofs.ModuleLaws.{few_over, rules_over, steps_over}
 use Rattle.som_elab.proofs.elaborated.grouped_over.Goals as goal

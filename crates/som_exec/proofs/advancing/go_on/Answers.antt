@@ -1,12 +1,21 @@
-use Rattle.std.proofs.Common.{subst, sym}
-use Rattle.som_model.specs.Runs.{with_more}
-use Rattle.som_moves.specs.Scene.{Scene}
-use Rattle.som_looping.specs.Standing.{IsSomewhere}
-use Rattle.som_exec.proofs.Ending.{stands_mid}
+use Rattle.std.proofs.Common.{rules}
+use Rattle.som_interp_loop.specs.Scene.{scene}
+use Rattle.som_trace.specs.Filters.{shows_of}
+use Rattle.som_exec.proofs.Alone.{comes_left}
+use Rattle.som_exec.proofs.Counting.{advance_counts}
 use Rattle.som_exec.proofs.advancing.go_on.Goals as goal
 
-pub run_on-requires : goal.run_on-requires
-run_on-requires g c =
-    let stands = c.requires.stands in
-    let old = g.M.Moves.scene c.args.moves.now in
-    subst (λ (z : Scene). IsSomewhere z) (sym c.grant.ensures.scene) (stands.frames, with_more c.args.units stands.state, (stands_mid old c.args.units stands).at)
+pub returns-clause-comes : goal.returns-clause-comes
+returns-clause-comes g c =
+    let r = c.args.runtime.now in
+    comes_left (scene (g.R.Runtime.linked r) (g.R.ClassKeys.known r) (g.R.Runtime.program r) (g.R.Classes.made r) c.args.objects.now c.args.task.now 0) c.args.units (shows_of c.args.trace.now) c.args.prefix.now (g.K.Sink.written c.args.out.now) c.advance.new.moves.fuel c.advance.result c.advance.ensures.comes
+    (search rules) (search rules) (search rules) (search rules) (search rules) (search rules) (search rules)
+
+pub returns-clause-steps : goal.returns-clause-steps
+returns-clause-steps g c =
+    let r = c.args.runtime.now in
+    let m = c.advance.new.moves in
+    let q = m.runtime.now in
+    let keeps = c.advance.ensures.comes.keeps in
+    advance_counts (scene (g.R.Runtime.linked r) (g.R.ClassKeys.known r) (g.R.Runtime.program r) (g.R.Classes.made r) c.args.objects.now c.args.task.now 0)
+    (scene (g.R.Runtime.linked q) (g.R.ClassKeys.known q) (g.R.Runtime.program q) (g.R.Classes.made q) m.objects.now m.task.now m.fuel) keeps.linked keeps.main _ (search rules) c.args.steps.now m.steps.now c.args.units c.advance.ensures.counted (search rules)

@@ -3,8 +3,8 @@ use Rattle.som_model.specs.declared.class.ClassFace.{ClassFace}
 use Rattle.som_model.specs.declared.limits.TheConstants.{MAX_BYTES}
 use Rattle.som_model.specs.declared.program.Interface.{Interface}
 use Rattle.som_model.specs.Class.{interface_of}
-use Rattle.som_reading.specs.declared.source.Source.{Source}
-use Rattle.som_reading.specs.Sources.{bytes_in}
+use Rattle.som_sources.specs.declared.source.Source.{Source}
+use Rattle.som_sources.specs.Sources.{bytes_in}
 use Rattle.som_generator.specs.Making.{Answers}
 use Rattle.som_generator.specs.Steps.{ClientComes}
 use Rattle.som_generator.proofs.Sizes.{client_small}

@@ -1,7 +1,7 @@
 use Rattle.std.proofs.Common.{◌≤◌, List, sym, subst}
 use Rattle.som_model.specs.declared.limits.TheConstants.{MAX_BYTES}
-use Rattle.som_reading.specs.declared.source.Source.{Source}
-use Rattle.som_reading.specs.Sources.{bytes_in}
+use Rattle.som_sources.specs.declared.source.Source.{Source}
+use Rattle.som_sources.specs.Sources.{bytes_in}
 use Rattle.som_generator.proofs.Sizes.{library_small}
 use Rattle.som_generator.proofs.libraries.make_library.Goals as goal
 

@@ -1,11 +1,11 @@
 use Rattle.std.proofs.Common.{◌≢◌, ◌∷◌, [], rules, arith}
 use Rattle.std.proofs.lemmas.Grind.{common_steps}
 use Rattle.std.proofs.lemmas.Result.{err_from_is_err_and}
-use Rattle.som_read.proofs.Loops.{turn_first_from, turn_done, turn_more, turn_stops, turn_none}
-use Rattle.som_read.specs.declared.cursor.Stop.TheVariants.{Memory}
-use Rattle.som_syntax.specs.declared.interface.Param.{Param}
-use Rattle.som_read.specs.Readers.{listed, another}
-use Rattle.som_read.specs.Seen.{text_at}
+use Rattle.som_parse.proofs.Loops.{turn_first_from, turn_done, turn_more, turn_stops, turn_none}
+use Rattle.som_parse.specs.declared.cursor.Stop.TheVariants.{Memory}
+use Rattle.som_ast.specs.declared.interface.Param.{Param}
+use Rattle.som_parse.specs.Readers.{listed, another}
+use Rattle.som_parse.specs.Seen.{text_at}
 use Rattle.som_idl.specs.Reading as spec
 use Rattle.som_idl.proofs.export.some_params.Goals as goal
 

@@ -1,6 +1,6 @@
 use Rattle.std.proofs.Common.{◌≡◌, ◌-◌}
-use Rattle.som_read.specs.Readers.{listed, another, turns}
-use Rattle.som_read.specs.Seen.{text_at}
+use Rattle.som_parse.specs.Readers.{listed, another, turns}
+use Rattle.som_parse.specs.Seen.{text_at}
 use Rattle.som_idl.specs.Reading as spec
 use Rattle.som_idl.proofs.export.some_params.Given as goal
 

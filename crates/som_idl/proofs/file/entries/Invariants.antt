@@ -1,6 +1,6 @@
 use Rattle.std.proofs.Common.{◌≡◌, ◌-◌}
-use Rattle.som_read.specs.Readers.{repeated, one_more, turns}
-use Rattle.som_read.specs.Seen.{text_at}
+use Rattle.som_parse.specs.Readers.{repeated, one_more, turns}
+use Rattle.som_parse.specs.Seen.{text_at}
 use Rattle.som_idl.specs.Reading as spec
 use Rattle.som_idl.proofs.file.entries.Given as goal
 

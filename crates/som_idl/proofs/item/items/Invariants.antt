@@ -1,8 +1,8 @@
 use Rattle.std.proofs.Common.{◌≡◌, ◌-◌}
-use Rattle.som_read.specs.Readers.{one_more, turns}
-use Rattle.som_read.specs.Seen.{text_at}
-use Rattle.som_read.specs.Tokens.{is_sign}
-use Rattle.som_read.specs.declared.token.Sign.TheVariants as sign
+use Rattle.som_parse.specs.Readers.{one_more, turns}
+use Rattle.som_parse.specs.Seen.{text_at}
+use Rattle.som_parse.specs.Tokens.{is_sign}
+use Rattle.som_parse.specs.declared.token.Sign.TheVariants as sign
 use Rattle.som_idl.specs.Reading as spec
 use Rattle.som_idl.proofs.item.items.Given as goal
 

@@ -1,12 +1,12 @@
 use Rattle.std.proofs.Common.{◌≡◌, sym, ap, subst, ◌∙◌}
-use Rattle.som_fields.specs.declared.method.Ranges.{Ranges}
-use Rattle.som_naming.specs.declared.directory.Directory.{Directory}
-use Rattle.som_classimage.specs.SpelledClasses.{FitsParts}
-use Rattle.som_classimage.specs.ReadClasses.{ranges_of}
-use Rattle.som_naming.specs.Naming.{ranges_in}
-use Rattle.som_classimage.specs.NamedClasses.{AreSelectsOf}
-use Rattle.som_classimage.proofs.ClassPlaces.{ranges_known}
-use Rattle.som_classimage.proofs.ClassFields.{ranges_short, section_known}
+use Rattle.som_image_fields.specs.declared.method.Ranges.{Ranges}
+use Rattle.som_image_decode.specs.declared.directory.Directory.{Directory}
+use Rattle.som_image_classes.specs.SpelledClasses.{FitsParts}
+use Rattle.som_image_classes.specs.ReadClasses.{ranges_of}
+use Rattle.som_image_decode.specs.Naming.{ranges_in}
+use Rattle.som_image_classes.specs.NamedClasses.{AreSelectsOf}
+use Rattle.som_image_classes.proofs.ClassPlaces.{ranges_known}
+use Rattle.som_image_classes.proofs.ClassFields.{ranges_short, section_known}
 use Rattle.som_libimage.proofs.library.name_release.Goals as goal
 
 pub name_classes-requires-clause-selects : goal.name_classes-requires-clause-selects

@@ -1,5 +1,5 @@
 use Rattle.std.proofs.Common.{List, ℕ, length, subst}
-use Rattle.som_laws.specs.Rows.{AreAncestors}
+use Rattle.som_model_laws.specs.Rows.{AreAncestors}
 use Rattle.som_sema.proofs.ancestry.list_ancestors.Goals as goal
 
 pub ancestors-requires : goal.ancestors-requires

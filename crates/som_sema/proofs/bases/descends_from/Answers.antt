@@ -2,10 +2,10 @@ use Rattle.std.proofs.Common.{length, ◌+◌, sym, ap, ◌∙◌, subst, ◌<�
 use Rattle.std.specs.Prelude.{None}
 use Rattle.som_model.specs.Classes.{is_a}
 use Rattle.som_model.specs.declared.key.ClassKey.{ClassKey}
-use Rattle.som_ancestry.specs.Modules.{classes_of}
-use Rattle.som_ancestry.specs.Places.{Finds, key_at, with_kernel}
-use Rattle.som_ancestry.proofs.DeclaredClasses.{known_number}
-use Rattle.som_scope.specs.ClassNames.{module_in_scope}
+use Rattle.som_verify_classes.specs.Modules.{classes_of}
+use Rattle.som_verify_classes.specs.Places.{Finds, key_at, with_kernel}
+use Rattle.som_verify_classes.proofs.DeclaredClasses.{known_number}
+use Rattle.som_sema_scope.specs.ClassNames.{module_in_scope}
 use Rattle.som_sema.proofs.Unknown.{unknown_class}
 use Rattle.som_sema.proofs.bases.descends_from.Goals as goal
 

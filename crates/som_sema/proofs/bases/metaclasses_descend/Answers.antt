@@ -1,7 +1,7 @@
-use Rattle.som_scope.specs.ClassNames.{module_in_scope}
+use Rattle.som_sema_scope.specs.ClassNames.{module_in_scope}
 use Rattle.som_sema.specs.TextRules.{text_s4}
-use Rattle.som_ancestry.specs.Modules.{classes_of}
-use Rattle.som_ancestry.specs.Places.{with_kernel}
+use Rattle.som_verify_classes.specs.Modules.{classes_of}
+use Rattle.som_verify_classes.specs.Places.{with_kernel}
 use Rattle.som_sema.proofs.bases.metaclasses_descend.Goals as goal
 
 pub returns : goal.returns

@@ -1,11 +1,11 @@
 use Rattle.std.proofs.Common.{◌≡◌, drop, take, flat_map}
 use Rattle.som_model.specs.Lists.{first}
 use Rattle.som_order.specs.Names.{texts}
-use Rattle.som_scope.specs.ClassNames.{module_in_scope}
-use Rattle.som_drafts.specs.Drafts.{plain_draft}
+use Rattle.som_sema_scope.specs.ClassNames.{module_in_scope}
+use Rattle.som_sema_drafts.specs.Drafts.{plain_draft}
 use Rattle.som_sema.specs.TextRules.{base_stands}
-use Rattle.som_ancestry.specs.Modules.{classes_of}
-use Rattle.som_ancestry.specs.Places.{with_kernel}
+use Rattle.som_verify_classes.specs.Modules.{classes_of}
+use Rattle.som_verify_classes.specs.Places.{with_kernel}
 use Rattle.som_sema.proofs.bases.own_bases_stand.Given as goal
 
 abbrev pub invariant-loop-name : goal.invariant-loop-name

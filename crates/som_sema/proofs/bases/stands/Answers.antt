@@ -1,9 +1,9 @@
 use Rattle.std.proofs.Common.{ap, sym, take, ◌∙◌}
 use Rattle.std.specs.Prelude.{is_some}
 use Rattle.som_model.specs.Classes.{class_at}
-use Rattle.som_ancestry.specs.Modules.{classes_of}
-use Rattle.som_ancestry.specs.Places.{with_kernel}
-use Rattle.som_ancestry.proofs.Finding.{known_is}
+use Rattle.som_verify_classes.specs.Modules.{classes_of}
+use Rattle.som_verify_classes.specs.Places.{with_kernel}
+use Rattle.som_verify_classes.proofs.Finding.{known_is}
 use Rattle.som_sema.proofs.bases.stands.Goals as goal
 
 pub returns : goal.returns

@@ -1,8 +1,8 @@
 use Rattle.std.proofs.Common.{List, refl}
 use Rattle.std.specs.Borrow.{Bor}
-use Rattle.som_syntax.specs.declared.interface.IdlInterface.{IdlInterface}
-use Rattle.som_scope.specs.Words.{lent}
-use Rattle.som_scope.proofs.Going.{next, pushed, rest_end}
+use Rattle.som_ast.specs.declared.interface.IdlInterface.{IdlInterface}
+use Rattle.som_sema_scope.specs.Words.{lent}
+use Rattle.som_sema_scope.proofs.Going.{next, pushed, rest_end}
 use Rattle.som_sema.proofs.build.add_interfaces.Goals as goal
 
 pub loop-interface-preserved : goal.loop-interface-preserved

@@ -1,5 +1,5 @@
 use Rattle.std.proofs.Common.{◌≡◌, ◌++◌, drop}
-use Rattle.som_scope.specs.Words.{lent}
+use Rattle.som_sema_scope.specs.Words.{lent}
 use Rattle.som_sema.proofs.build.add_interfaces.Given as goal
 
 abbrev pub invariant-loop-interface : goal.invariant-loop-interface

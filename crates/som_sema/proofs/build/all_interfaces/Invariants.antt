@@ -1,5 +1,5 @@
 use Rattle.std.proofs.Common.{◌≡◌, ◌++◌, drop}
-use Rattle.som_scope.specs.Words.{interfaces_of, lent}
+use Rattle.som_sema_scope.specs.Words.{interfaces_of, lent}
 use Rattle.som_sema.proofs.build.all_interfaces.Given as goal
 
 abbrev pub invariant-loop-file : goal.invariant-loop-file

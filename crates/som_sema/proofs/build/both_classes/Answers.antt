@@ -2,8 +2,8 @@ use Rattle.std.proofs.Common.{List, ap, map, ◌++◌, ◌∙◌}
 use Rattle.std.proofs.lemmas.Result.{IfOk-weaker}
 use Rattle.som_model.specs.Class.{class_in}
 use Rattle.som_model.specs.declared.key.Module.TheVariants as modules
-use Rattle.som_ancestry.specs.Modules.{classes_of}
-use Rattle.som_ancestry.specs.declared.types.Declared.{Declared}
+use Rattle.som_verify_classes.specs.Modules.{classes_of}
+use Rattle.som_verify_classes.specs.declared.types.Declared.{Declared}
 use Rattle.som_sema.proofs.build.both_classes.Goals as goal
 
 pub returns : goal.returns

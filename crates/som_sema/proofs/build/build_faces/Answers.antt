@@ -1,8 +1,8 @@
 use Rattle.std.proofs.Common.{length, ap, ◌∙◌, arith}
 use Rattle.std.specs.Borrow.{Bor}
-use Rattle.som_syntax.specs.declared.interface.IdlInterface.{IdlInterface}
-use Rattle.som_ancestry.proofs.DeclaredClasses.{long_map}
-use Rattle.som_scope.specs.Words.{interfaces_of, lent}
+use Rattle.som_ast.specs.declared.interface.IdlInterface.{IdlInterface}
+use Rattle.som_verify_classes.proofs.DeclaredClasses.{long_map}
+use Rattle.som_sema_scope.specs.Words.{interfaces_of, lent}
 use Rattle.som_sema.proofs.Answered.{err_told}
 use Rattle.som_sema.proofs.build.build_faces.Goals as goal
 

@@ -1,5 +1,5 @@
 use Rattle.std.proofs.Common.{ap, ◌∙◌}
-use Rattle.som_ancestry.specs.Modules.{classes_of}
+use Rattle.som_verify_classes.specs.Modules.{classes_of}
 use Rattle.som_sema.proofs.build.built.Goals as goal
 
 pub built_among-requires-clause-known : goal.built_among-requires-clause-known

@@ -1,8 +1,8 @@
 use Rattle.std.proofs.Common.{ap, sym, ◌∙◌, refl}
 use Rattle.std.proofs.lemmas.Result.{err_from_is_err_and}
-use Rattle.som_ancestry.specs.Faces.{faces_breach}
-use Rattle.som_scope.specs.ClassNames.{module_in_scope}
-use Rattle.som_drafts.specs.Drafts.{plain_drafts}
+use Rattle.som_verify_classes.specs.Faces.{faces_breach}
+use Rattle.som_sema_scope.specs.ClassNames.{module_in_scope}
+use Rattle.som_sema_drafts.specs.Drafts.{plain_drafts}
 use Rattle.som_sema.proofs.Finishing.{base_front, own_rest, draft_class_is}
 use Rattle.som_sema.proofs.Telling.{after_none, here, told_as}
 use Rattle.som_sema.proofs.build.built_among.Goals as goal

@@ -1,8 +1,8 @@
 use Rattle.std.proofs.Common.{List, ap, sym, ◌∙◌, subst, refl}
 use Rattle.som_model.specs.Class.{Class}
-use Rattle.som_ancestry.specs.Faces.{faces_breach}
-use Rattle.som_ancestry.specs.Modules.{classes_of}
-use Rattle.som_ancestry.specs.Told.{Tells}
+use Rattle.som_verify_classes.specs.Faces.{faces_breach}
+use Rattle.som_verify_classes.specs.Modules.{classes_of}
+use Rattle.som_verify_classes.specs.Told.{Tells}
 use Rattle.som_sema.specs.Ancestry.{IsAncestorTable}
 use Rattle.som_sema.proofs.Finishing.{base_front, moved_is}
 use Rattle.som_sema.proofs.build.entries_hold.Goals as goal

@@ -2,10 +2,10 @@ use Rattle.std.proofs.Common.{◌≡◌, List, ap, map, ◌∙◌, refl, subst}
 use Rattle.std.specs.Prelude.{IfOk}
 use Rattle.som_model.specs.Classes.{interface_classes}
 use Rattle.som_model.specs.declared.class.ClassDecl.{ClassDecl}
-use Rattle.som_ancestry.specs.Told.{Tells}
-use Rattle.som_scope.specs.ClassNames.{face_names, kernel_names, module_by_names, module_in_scope}
-use Rattle.som_scope.specs.Words.{interface_names, lent, once}
-use Rattle.som_drafts.specs.Drafts.{draft_of}
+use Rattle.som_verify_classes.specs.Told.{Tells}
+use Rattle.som_sema_scope.specs.ClassNames.{face_names, kernel_names, module_by_names, module_in_scope}
+use Rattle.som_sema_scope.specs.Words.{interface_names, lent, once}
+use Rattle.som_sema_drafts.specs.Drafts.{draft_of}
 use Rattle.som_sema.proofs.Answered.{breach_is, declared_are}
 use Rattle.som_sema.proofs.build.faces.Goals as goal
 

@@ -2,12 +2,12 @@ use Rattle.std.proofs.Common.{◌≡◌, List, ap, ◌∙◌, subst}
 use Rattle.std.specs.Prelude.{IfOk}
 use Rattle.som_model.specs.Classes.{interface_classes}
 use Rattle.som_model.specs.declared.class.ClassDecl.{ClassDecl}
-use Rattle.som_ancestry.specs.Faces.{faces_breach}
-use Rattle.som_ancestry.specs.Told.{Tells}
-use Rattle.som_scope.specs.ClassNames.{module_in_scope}
-use Rattle.som_scope.specs.Words.{lent}
+use Rattle.som_verify_classes.specs.Faces.{faces_breach}
+use Rattle.som_verify_classes.specs.Told.{Tells}
+use Rattle.som_sema_scope.specs.ClassNames.{module_in_scope}
+use Rattle.som_sema_scope.specs.Words.{lent}
 use Rattle.som_sema.specs.Building.{declared_all, draft_rules_breach}
-use Rattle.som_drafts.specs.Drafts.{plain_drafts}
+use Rattle.som_sema_drafts.specs.Drafts.{plain_drafts}
 use Rattle.som_sema.proofs.Finishing.{base_is}
 use Rattle.som_sema.proofs.TextBases.{are_drafts}
 use Rattle.som_sema.proofs.build.faces_in_scope.Goals as goal

@@ -3,11 +3,11 @@ use Rattle.std.proofs.lemmas.Result.{err_from_is_err_and}
 use Rattle.som_model.specs.Class.{class_in}
 use Rattle.som_model.specs.declared.key.Module.TheVariants as modules
 use Rattle.som_model.specs.declared.class.ClassDecl.{ClassDecl}
-use Rattle.som_ancestry.specs.Modules.{classes_of}
-use Rattle.som_ancestry.proofs.DeclaredClasses.{long_map}
-use Rattle.som_scope.specs.ClassNames.{module_in_scope}
+use Rattle.som_verify_classes.specs.Modules.{classes_of}
+use Rattle.som_verify_classes.proofs.DeclaredClasses.{long_map}
+use Rattle.som_sema_scope.specs.ClassNames.{module_in_scope}
 use Rattle.som_sema.specs.Building.{finished_breach}
-use Rattle.som_drafts.specs.Drafts.{plain_drafts}
+use Rattle.som_sema_drafts.specs.Drafts.{plain_drafts}
 use Rattle.som_sema.proofs.Composing.{table_lists}
 use Rattle.som_sema.proofs.Finishing.{declared_is, finished_table}
 use Rattle.som_sema.proofs.Telling.{told_as}

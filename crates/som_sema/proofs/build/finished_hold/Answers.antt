@@ -1,7 +1,7 @@
 use Rattle.std.proofs.Common.{◌∙◌, sym, refl}
 use Rattle.std.proofs.lemmas.Result.{err_from_is_err_and}
-use Rattle.som_scope.specs.ClassNames.{module_in_scope}
-use Rattle.som_drafts.specs.Drafts.{plain_drafts}
+use Rattle.som_sema_scope.specs.ClassNames.{module_in_scope}
+use Rattle.som_sema_drafts.specs.Drafts.{plain_drafts}
 use Rattle.som_sema.proofs.Finishing.{inherited_is}
 use Rattle.som_sema.proofs.Telling.{after_none, here, later, told_as}
 use Rattle.som_sema.proofs.build.finished_hold.Goals as goal

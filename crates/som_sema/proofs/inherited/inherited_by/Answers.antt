@@ -1,8 +1,8 @@
 use Rattle.std.proofs.Common.{arith}
 use Rattle.std.proofs.lemmas.Result.{err_from_is_err_and}
-use Rattle.som_ancestry.specs.Modules.{classes_of}
-use Rattle.som_ancestry.specs.Places.{with_kernel}
-use Rattle.som_scope.specs.ClassNames.{module_in_scope}
+use Rattle.som_verify_classes.specs.Modules.{classes_of}
+use Rattle.som_verify_classes.specs.Places.{with_kernel}
+use Rattle.som_sema_scope.specs.ClassNames.{module_in_scope}
 use Rattle.som_sema.proofs.TextInherited.{inherited_more, inherited_stop}
 use Rattle.som_sema.proofs.inherited.inherited_by.Goals as goal
 

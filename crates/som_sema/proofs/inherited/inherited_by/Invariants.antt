@@ -1,10 +1,10 @@
 use Rattle.std.proofs.Common.{◌≡◌, ◌+◌, drop}
 use Rattle.som_model.specs.Lists.{first}
-use Rattle.som_scope.specs.ClassNames.{module_in_scope}
-use Rattle.som_drafts.specs.Drafts.{plain_drafts}
+use Rattle.som_sema_scope.specs.ClassNames.{module_in_scope}
+use Rattle.som_sema_drafts.specs.Drafts.{plain_drafts}
 use Rattle.som_sema.specs.TextRules.{text_s10_from}
-use Rattle.som_ancestry.specs.Modules.{classes_of}
-use Rattle.som_ancestry.specs.Places.{with_kernel}
+use Rattle.som_verify_classes.specs.Modules.{classes_of}
+use Rattle.som_verify_classes.specs.Places.{with_kernel}
 use Rattle.som_sema.proofs.inherited.inherited_by.Given as goal
 
 abbrev pub invariant-loop-draft : goal.invariant-loop-draft

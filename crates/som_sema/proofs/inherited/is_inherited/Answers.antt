@@ -1,6 +1,6 @@
 use Rattle.std.proofs.Common.{[], slice_index_or}
-use Rattle.som_ancestry.specs.Modules.{classes_of}
-use Rattle.som_ancestry.specs.Places.{with_kernel}
+use Rattle.som_verify_classes.specs.Modules.{classes_of}
+use Rattle.som_verify_classes.specs.Places.{with_kernel}
 use Rattle.som_sema.proofs.Inheriting.{other_place}
 use Rattle.som_sema.proofs.inherited.is_inherited.Goals as goal
 

@@ -1,13 +1,13 @@
 use Rattle.std.proofs.Common.{List, flat_map, map, refl}
 use Rattle.som_order.specs.Names.{texts}
-use Rattle.som_ancestry.specs.Modules.{classes_of}
-use Rattle.som_ancestry.specs.Places.{key_at, with_kernel}
-use Rattle.som_scope.specs.ClassNames.{module_in_scope}
-use Rattle.som_drafts.specs.Drafts.{plain_draft}
-use Rattle.som_drafts.specs.Items.{given_by, or_object, selecting}
+use Rattle.som_verify_classes.specs.Modules.{classes_of}
+use Rattle.som_verify_classes.specs.Places.{key_at, with_kernel}
+use Rattle.som_sema_scope.specs.ClassNames.{module_in_scope}
+use Rattle.som_sema_drafts.specs.Drafts.{plain_draft}
+use Rattle.som_sema_drafts.specs.Items.{given_by, or_object, selecting}
 use Rattle.som_sema.specs.TextRules.{replaces_inherited}
-use Rattle.som_drafts.specs.declared.given.Mark.{Mark}
-use Rattle.som_refusals.specs.Demands.{text_breach}
+use Rattle.som_sema_drafts.specs.declared.given.Mark.{Mark}
+use Rattle.som_sema_drafts.specs.Demands.{text_breach}
 use Rattle.som_sema.proofs.Passing.{breaks, fails, holds, stays}
 use Rattle.som_sema.proofs.inherited.marks_inherited.Goals as goal
 

@@ -1,7 +1,7 @@
 use Rattle.std.proofs.Common.{◌<◌, [], length, slice_index_or, sym, subst}
-use Rattle.som_ancestry.specs.Modules.{classes_of}
-use Rattle.som_ancestry.specs.Places.{with_kernel}
-use Rattle.som_scope.specs.ClassNames.{key_of, module_in_scope}
+use Rattle.som_verify_classes.specs.Modules.{classes_of}
+use Rattle.som_verify_classes.specs.Places.{with_kernel}
+use Rattle.som_sema_scope.specs.ClassNames.{key_of, module_in_scope}
 use Rattle.som_sema.proofs.Composing.{table_lists, table_names}
 use Rattle.som_sema.proofs.Inheriting.{at_low, not_taken, taken_so}
 use Rattle.som_sema.proofs.inherited.may_take.Goals as goal

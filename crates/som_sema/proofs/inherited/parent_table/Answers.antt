@@ -1,8 +1,8 @@
 use Rattle.std.proofs.Common.{◌≡◌, ℕ, List, ap, subst, ◌∙◌}
 use Rattle.std.specs.Prelude.{IfOk}
 use Rattle.som_order.specs.Names.{texts}
-use Rattle.som_drafts.specs.Items.{or_object}
-use Rattle.som_scope.specs.Words.{once}
+use Rattle.som_sema_drafts.specs.Items.{or_object}
+use Rattle.som_sema_scope.specs.Words.{once}
 use Rattle.som_sema.proofs.inherited.parent_table.Goals as goal
 
 pub returns : goal.returns

@@ -1,4 +1,4 @@
-use Rattle.som_ancestry.specs.Modules.{classes_of}
+use Rattle.som_verify_classes.specs.Modules.{classes_of}
 use Rattle.som_sema.proofs.Composing.{table_lists}
 use Rattle.som_sema.proofs.Inheriting.{along_known}
 use Rattle.som_sema.proofs.inherited.ranked_inherited.Goals as goal

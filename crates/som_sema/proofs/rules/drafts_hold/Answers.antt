@@ -1,6 +1,6 @@
 use Rattle.std.proofs.Common.{◌∙◌}
-use Rattle.som_ancestry.proofs.DeclaredClasses.{are_declared}
-use Rattle.som_ancestry.proofs.Conformity.{none_or}
+use Rattle.som_verify_classes.proofs.DeclaredClasses.{are_declared}
+use Rattle.som_verify_classes.proofs.Conformity.{none_or}
 use Rattle.som_sema.proofs.Composing.{own_names}
 use Rattle.som_sema.proofs.rules.drafts_hold.Goals as goal
 

@@ -1,4 +1,4 @@
-use Rattle.som_ancestry.specs.Modules.{classes_of}
+use Rattle.som_verify_classes.specs.Modules.{classes_of}
 use Rattle.som_sema.proofs.Composing.{table_lists, table_names}
 use Rattle.som_sema.proofs.rules.moves_hold.Goals as goal
 

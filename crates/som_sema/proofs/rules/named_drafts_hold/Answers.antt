@@ -1,9 +1,9 @@
 use Rattle.std.proofs.lemmas.Result.{err_from_is_err_and}
 use Rattle.som_order.specs.Names.{texts}
-use Rattle.som_ancestry.specs.Modules.{classes_of}
-use Rattle.som_ancestry.proofs.Conformity.{none_or}
-use Rattle.som_scope.specs.ClassNames.{module_in_scope}
-use Rattle.som_drafts.specs.Drafts.{plain_drafts}
+use Rattle.som_verify_classes.specs.Modules.{classes_of}
+use Rattle.som_verify_classes.proofs.Conformity.{none_or}
+use Rattle.som_sema_scope.specs.ClassNames.{module_in_scope}
+use Rattle.som_sema_drafts.specs.Drafts.{plain_drafts}
 use Rattle.som_sema.proofs.Composing.{all_stand, lists_are}
 use Rattle.som_sema.proofs.Telling.{later}
 use Rattle.som_sema.proofs.rules.named_drafts_hold.Goals as goal

@@ -1,11 +1,11 @@
 use Rattle.std.proofs.Common.{◌+◌, subst, refl, arith}
 use Rattle.som_model.specs.Lists.{first}
-use Rattle.som_ancestry.specs.Modules.{classes_of}
-use Rattle.som_ancestry.specs.Places.{with_kernel}
-use Rattle.som_ancestry.specs.Told.{Tells}
-use Rattle.som_ancestry.proofs.DeclaredClasses.{known_number}
-use Rattle.som_scope.specs.ClassNames.{module_in_scope}
-use Rattle.som_drafts.specs.Drafts.{plain_drafts}
+use Rattle.som_verify_classes.specs.Modules.{classes_of}
+use Rattle.som_verify_classes.specs.Places.{with_kernel}
+use Rattle.som_verify_classes.specs.Told.{Tells}
+use Rattle.som_verify_classes.proofs.DeclaredClasses.{known_number}
+use Rattle.som_sema_scope.specs.ClassNames.{module_in_scope}
+use Rattle.som_sema_drafts.specs.Drafts.{plain_drafts}
 use Rattle.som_sema.specs.TextRules.{text_s2_from}
 use Rattle.som_sema.proofs.Composing.{front_place}
 use Rattle.som_sema.proofs.rules.own_bases_stand.Goals as goal

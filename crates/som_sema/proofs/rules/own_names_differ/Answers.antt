@@ -1,5 +1,5 @@
 use Rattle.std.proofs.Common.{subst}
-use Rattle.som_ancestry.specs.Told.{Tells}
+use Rattle.som_verify_classes.specs.Told.{Tells}
 use Rattle.som_sema.proofs.Composing.{own_names}
 use Rattle.som_sema.proofs.rules.own_names_differ.Goals as goal
 

@@ -1,5 +1,5 @@
 use Rattle.std.proofs.Common.{refl}
-use Rattle.som_ancestry.proofs.Sets.{rest_is}
+use Rattle.som_verify_classes.proofs.Sets.{rest_is}
 use Rattle.som_sema.proofs.Composing.{own_types_tell}
 use Rattle.som_sema.proofs.rules.own_types_known.Goals as goal
 

@@ -1,5 +1,5 @@
 use Rattle.som_model.specs.Rules.{s7}
-use Rattle.som_ancestry.proofs.Sets.{rest_is}
+use Rattle.som_verify_classes.proofs.Sets.{rest_is}
 use Rattle.som_sema.proofs.Composing.{own_tell}
 use Rattle.som_sema.proofs.rules.own_variables_differ.Goals as goal
 

@@ -1,6 +1,6 @@
 use Rattle.std.proofs.Common.{map, ap, ◌∙◌}
 use Rattle.std.proofs.lemmas.List.{take_all}
-use Rattle.som_model.specs.State.{zero_of}
+use Rattle.som_semantics.specs.State.{zero_of}
 use Rattle.som_values.specs.Shown.{IsSeen}
 use Rattle.som_values.specs.Stored.{IsKept}
 use Rattle.som_values.proofs.NewCells.{zeros_on, all_on}

@@ -1,6 +1,6 @@
 use Rattle.std.proofs.Common.{◌≡◌, map, take}
 use Rattle.std.specs.List.{All}
-use Rattle.som_model.specs.State.{zero_of}
+use Rattle.som_semantics.specs.State.{zero_of}
 use Rattle.som_objects.specs.Objects.{Objects}
 use Rattle.som_values.specs.Shown.{Showing, IsSeen, all_shown}
 use Rattle.som_values.specs.Stored.{IsKept}

@@ -1,7 +1,7 @@
 use Rattle.std.proofs.Common.{◌≡◌, ℕ, List, drop}
 use Rattle.std.specs.List.{All}
-use Rattle.som_model.specs.State.{Heap}
-use Rattle.som_model.specs.Values.{all_fit}
+use Rattle.som_semantics.specs.State.{Heap}
+use Rattle.som_semantics.specs.Values.{all_fit}
 use Rattle.som_values.specs.Shown.{IsSeen, all_shown, showing}
 use Rattle.som_values.specs.Stored.{Holds}
 use Rattle.som_values.proofs.tests.all_fit.Given as goal

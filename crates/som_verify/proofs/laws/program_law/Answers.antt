@@ -1,4 +1,4 @@
-use Rattle.som_lawful.proofs.PlainWhole.{program_says, say_program}
+use Rattle.som_verify_classes.proofs.PlainWhole.{program_says, say_program}
 use Rattle.som_verify.proofs.laws.program_law.Goals as goal
 
 pub returns : goal.returns

@@ -1,4 +1,4 @@
-use Rattle.som_lawful.proofs.PlainWhole.{rules_say, say_rules}
+use Rattle.som_verify_classes.proofs.PlainWhole.{rules_say, say_rules}
 use Rattle.som_verify.proofs.laws.rules_law.Goals as goal
 
 pub returns : goal.returns

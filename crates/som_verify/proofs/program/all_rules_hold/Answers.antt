@@ -1,8 +1,8 @@
 use Rattle.std.proofs.Common.{ap, ◌∙◌, length, map}
 use Rattle.std.proofs.lemmas.Result.{err_from_is_err_and}
 use Rattle.som_model.specs.Class.{bare}
-use Rattle.som_ancestry.specs.Modules.{classes_of}
-use Rattle.som_ancestry.proofs.Conformity.{tells_later}
+use Rattle.som_verify_classes.specs.Modules.{classes_of}
+use Rattle.som_verify_classes.proofs.Conformity.{tells_later}
 use Rattle.som_verify.proofs.Programs.{all_tell, few, rules_tell}
 use Rattle.som_verify.proofs.program.all_rules_hold.Goals as goal
 

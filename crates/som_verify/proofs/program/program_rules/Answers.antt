@@ -1,6 +1,6 @@
 use Rattle.std.proofs.Common.{ap, ◌∙◌, length, map}
 use Rattle.som_model.specs.Class.{bare}
-use Rattle.som_ancestry.specs.Modules.{classes_of}
+use Rattle.som_verify_classes.specs.Modules.{classes_of}
 use Rattle.som_verify.proofs.Programs.{program_tells}
 use Rattle.som_verify.proofs.program.program_rules.Goals as goal
 

@@ -2,9 +2,9 @@ use Rattle.std.proofs.Common.{ap, ◌∙◌, ◌++◌, map}
 use Rattle.std.proofs.lemmas.Result.{err_from_is_err_and}
 use Rattle.som_model.specs.declared.key.Module.TheVariants as modules
 use Rattle.som_model.specs.Class.{class_in}
-use Rattle.som_ancestry.specs.Modules.{classes_of}
+use Rattle.som_verify_classes.specs.Modules.{classes_of}
 use Rattle.som_verify.proofs.Conforming.{release_tells, release_tells_rules}
-use Rattle.som_ancestry.proofs.Conformity.{tells_later}
+use Rattle.som_verify_classes.proofs.Conformity.{tells_later}
 use Rattle.som_verify.proofs.release.all_rules_hold.Goals as goal
 
 pub returns-in_err-rules_hold : goal.returns-in_err-rules_hold

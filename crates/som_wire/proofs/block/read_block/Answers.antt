@@ -1,7 +1,7 @@
-use Rattle.som_fields.specs.Spelling.{FitsMethod}
-use Rattle.som_fields.proofs.Parts.{found_of, only_of}
-use Rattle.som_spelling.specs.Spelling.{block}
-use Rattle.som_spelling.specs.Fitting.{levels_left, FitsBlock}
+use Rattle.som_image_fields.specs.Spelling.{FitsMethod}
+use Rattle.som_image_fields.proofs.Parts.{found_of, only_of}
+use Rattle.som_image_fields.specs.SyntaxSpelling.{block}
+use Rattle.som_image_fields.specs.Fitting.{levels_left, FitsBlock}
 use Rattle.som_wire.specs.Reading.{block_at}
 use Rattle.som_wire.proofs.StmtFields.{block_field}
 use Rattle.som_wire.proofs.block.read_block.Goals as goal

@@ -1,8 +1,8 @@
-use Rattle.som_fields.specs.Spelling.{FitsMethod}
-use Rattle.som_fields.proofs.Apart.{apart}
-use Rattle.som_spelling.specs.Fitting.{FitsExpr, FitsBlock, FitsPart, FitsSelects}
+use Rattle.som_image_fields.specs.Spelling.{FitsMethod}
+use Rattle.som_image_fields.proofs.Apart.{apart}
+use Rattle.som_image_fields.specs.Fitting.{FitsExpr, FitsBlock, FitsPart, FitsSelects}
 use Rattle.som_wire.specs.Reading.{expr_at, block_at, part_at, selects_at}
-use Rattle.som_spelling.specs.Spelling as spelling
+use Rattle.som_image_fields.specs.SyntaxSpelling as spelling
 use Rattle.som_wire.proofs.ExprFields.{expr_field}
 use Rattle.som_wire.proofs.StmtFields.{block_field}
 use Rattle.som_wire.proofs.PartFields.{part_field}

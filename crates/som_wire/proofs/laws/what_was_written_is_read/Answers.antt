@@ -1,7 +1,7 @@
-use Rattle.som_fields.specs.Spelling.{FitsMethod}
-use Rattle.som_spelling.specs.Fitting.{FitsBlock, FitsPart, FitsSelects}
+use Rattle.som_image_fields.specs.Spelling.{FitsMethod}
+use Rattle.som_image_fields.specs.Fitting.{FitsBlock, FitsPart, FitsSelects}
 use Rattle.som_wire.specs.Reading.{block_at, part_at, selects_at}
-use Rattle.som_spelling.specs.Spelling as spelling
+use Rattle.som_image_fields.specs.SyntaxSpelling as spelling
 use Rattle.som_wire.proofs.StmtFields.{block_field}
 use Rattle.som_wire.proofs.PartFields.{part_field}
 use Rattle.som_wire.proofs.SelectFields.{selects_field}

@@ -1,6 +1,6 @@
 use Rattle.std.proofs.Common.{◌≡◌, ◌++◌, take}
 use Rattle.std.specs.List.{flat_map}
-use Rattle.som_spelling.specs.Spelling.{overridden}
+use Rattle.som_image_fields.specs.SyntaxSpelling.{overridden}
 use Rattle.som_wire.proofs.part.append_overrides.Given as goal
 
 abbrev pub invariant-loop-replaced : goal.invariant-loop-replaced

@@ -1,6 +1,6 @@
 use Rattle.std.proofs.Common.{◌≡◌, ◌++◌, take}
 use Rattle.std.specs.List.{flat_map}
-use Rattle.som_spelling.specs.Spelling.{variable}
+use Rattle.som_image_fields.specs.SyntaxSpelling.{variable}
 use Rattle.som_wire.proofs.part.append_variables.Given as goal
 
 abbrev pub invariant-loop-variable : goal.invariant-loop-variable

@@ -1,6 +1,6 @@
-use Rattle.som_fields.proofs.Parts.{found_of, only_of}
-use Rattle.som_spelling.specs.Spelling.{part}
-use Rattle.som_spelling.specs.Fitting.{FitsPart}
+use Rattle.som_image_fields.proofs.Parts.{found_of, only_of}
+use Rattle.som_image_fields.specs.SyntaxSpelling.{part}
+use Rattle.som_image_fields.specs.Fitting.{FitsPart}
 use Rattle.som_wire.specs.Reading.{part_at}
 use Rattle.som_wire.proofs.PartFields.{part_field}
 use Rattle.som_wire.proofs.part.read_part.Goals as goal

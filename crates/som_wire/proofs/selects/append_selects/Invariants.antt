@@ -1,6 +1,6 @@
 use Rattle.std.proofs.Common.{◌≡◌, ◌++◌, take}
 use Rattle.std.specs.List.{flat_map}
-use Rattle.som_spelling.specs.Spelling.{select}
+use Rattle.som_image_fields.specs.SyntaxSpelling.{select}
 use Rattle.som_wire.proofs.selects.append_selects.Given as goal
 
 abbrev pub invariant-loop-one : goal.invariant-loop-one

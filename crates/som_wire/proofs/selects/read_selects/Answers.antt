@@ -1,7 +1,7 @@
-use Rattle.som_fields.specs.Spelling.{FitsMethod}
-use Rattle.som_fields.proofs.Parts.{found_of, only_of}
-use Rattle.som_spelling.specs.Spelling.{selects}
-use Rattle.som_spelling.specs.Fitting.{FitsSelects}
+use Rattle.som_image_fields.specs.Spelling.{FitsMethod}
+use Rattle.som_image_fields.proofs.Parts.{found_of, only_of}
+use Rattle.som_image_fields.specs.SyntaxSpelling.{selects}
+use Rattle.som_image_fields.specs.Fitting.{FitsSelects}
 use Rattle.som_wire.specs.Reading.{selects_at}
 use Rattle.som_wire.proofs.SelectFields.{selects_field}
 use Rattle.som_wire.proofs.selects.read_selects.Goals as goal

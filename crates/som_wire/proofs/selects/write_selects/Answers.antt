@@ -1,4 +1,4 @@
-use Rattle.som_fields.specs.Spelling.{FitsSomeRanges, most_classes}
+use Rattle.som_image_fields.specs.Spelling.{FitsSomeRanges, most_classes}
 use Rattle.som_wire.proofs.SelectFields.{all_own, few_some}
 use Rattle.som_wire.proofs.selects.write_selects.Goals as goal
 

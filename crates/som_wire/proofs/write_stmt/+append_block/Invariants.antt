@@ -1,8 +1,8 @@
 use Rattle.std.proofs.Common.{◌≡◌, ◌++◌, length, take}
 use Rattle.std.specs.List.{flat_map}
 use Rattle.std.specs.Int.{w32}
-use Rattle.som_fields.specs.Spelling.{number}
-use Rattle.som_spelling.specs.Spelling.{stmt}
+use Rattle.som_image_fields.specs.Spelling.{number}
+use Rattle.som_image_fields.specs.SyntaxSpelling.{stmt}
 use Rattle.som_wire.proofs.write_stmt.+append_block.Given as goal
 
 abbrev pub invariant-append_block-loop-statement : goal.invariant-append_block-loop-statement

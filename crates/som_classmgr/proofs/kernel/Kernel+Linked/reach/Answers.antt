@@ -1,6 +1,6 @@
 use Rattle.std.proofs.Common.{◌∷◌, subst, sym}
 use Rattle.som_meta.specs.Numbering.{key_at}
-use Rattle.som_linked.specs.Linked.{Linkage}
+use Rattle.som_class_kernel.specs.Linked.{Linkage}
 use Rattle.som_classmgr.specs.Reached.{IsMadeBy}
 use Rattle.som_classmgr.proofs.Reached.{err_then, ok_then, reached_more, tried_more}
 use Rattle.som_classmgr.proofs.kernel.Kernel+Linked.reach.Goals as goal

@@ -3,7 +3,7 @@ use Rattle.som_model.specs.Ancestors.{Descends}
 use Rattle.som_model.specs.Classes.{hierarchy}
 use Rattle.som_model.specs.declared.key.ClassKey.{ClassKey}
 use Rattle.som_meta.specs.Numbering.{key_at}
-use Rattle.som_linked.specs.Shown.{IsAnswer}
+use Rattle.som_class_kernel.specs.Shown.{IsAnswer}
 use Rattle.som_classmgr.proofs.Reached.{number}
 use Rattle.som_classmgr.proofs.Reading.{parent_shown}
 use Rattle.som_classmgr.proofs.methods.Kernel+Linked.parent_resolve.Goals as goal

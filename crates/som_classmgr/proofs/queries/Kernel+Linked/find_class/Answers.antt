@@ -2,11 +2,11 @@ use Rattle.std.proofs.Common.{◌≡◌, ◌<◌, ◌∙◌, if◌then◌else◌
 use Rattle.std.specs.Option.{option_map}
 use Rattle.std.specs.Int.{w32}
 use Rattle.std.proofs.lemmas.Int.{to_z-of_z}
-use Rattle.som_model.specs.Invoked.{version_fits}
-use Rattle.som_model.specs.World.{named_class}
+use Rattle.som_semantics.specs.Invoked.{version_fits}
+use Rattle.som_semantics.specs.World.{named_class}
 use Rattle.som_meta.specs.Numbering.{Numbering, key_at}
-use Rattle.som_classes.specs.Loaded.{AreLoaded}
-use Rattle.som_linked.specs.Linked.{Linkage}
+use Rattle.som_class_table.specs.Loaded.{AreLoaded}
+use Rattle.som_class_kernel.specs.Linked.{Linkage}
 use Rattle.som_classmgr.proofs.Reading.{declared_numbered, found_none, found_some}
 use Rattle.som_classmgr.proofs.queries.Kernel+Linked.find_class.Goals as goal
 

@@ -2,7 +2,7 @@ use Rattle.std.proofs.Common.{◌≡◌, ◌∙◌, List, ap, arith, length, map
 use Rattle.som_model.specs.declared.key.ClassKey.{ClassKey}
 use Rattle.som_model.specs.declared.key.ClassKey.TheVariants as keys
 use Rattle.som_meta.specs.Numbering.{Numbering, key_at}
-use Rattle.som_linked.specs.Linked.{Linkage}
+use Rattle.som_class_kernel.specs.Linked.{Linkage}
 use Rattle.som_classmgr.proofs.Reading.{low_numbered, mapped_at}
 use Rattle.som_classmgr.proofs.queries.Kernel+Linked.key.Goals as goal
 

@@ -1,9 +1,9 @@
 use Rattle.std.proofs.Common.{◌≡◌, ◌∙◌, length, map, ap, arith, subst}
 use Rattle.som_model.specs.Classes.{hierarchy}
 use Rattle.som_meta.specs.Numbering.{Numbering, key_at}
-use Rattle.som_classes.specs.Loaded.{AreLoaded}
-use Rattle.som_linked.specs.Linked.{IsLinked, Linkage}
-use Rattle.som_linked.proofs.Above.{parents_made}
+use Rattle.som_class_table.specs.Loaded.{AreLoaded}
+use Rattle.som_class_kernel.specs.Linked.{IsLinked, Linkage}
+use Rattle.som_class_kernel.proofs.Above.{parents_made}
 use Rattle.som_classmgr.proofs.Reading.{low_numbered}
 use Rattle.som_classmgr.proofs.queries.Kernel+Linked.parents.Goals as goal
 

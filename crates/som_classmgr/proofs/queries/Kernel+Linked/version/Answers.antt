@@ -1,8 +1,8 @@
 use Rattle.std.proofs.Common.{◌≡◌, ◌∙◌, Some, length, ap, arith, slice_get, subst}
 use Rattle.som_meta.specs.Numbering.{Numbering}
-use Rattle.som_numbers.specs.Classes.{class_of}
-use Rattle.som_classes.specs.Loaded.{AreLoaded}
-use Rattle.som_linked.specs.Linked.{Linkage}
+use Rattle.som_class_ids.specs.Classes.{class_of}
+use Rattle.som_class_table.specs.Loaded.{AreLoaded}
+use Rattle.som_class_kernel.specs.Linked.{Linkage}
 use Rattle.som_classmgr.proofs.Reading.{version_at, version_made}
 use Rattle.som_classmgr.proofs.queries.Kernel+Linked.version.Goals as goal
 

@@ -1,9 +1,9 @@
 use Rattle.std.proofs.Common.{◌∙◌, ◌∷◌, [], ap, sym}
 use Rattle.std.specs.Int.{w32}
 use Rattle.std.proofs.lemmas.Int.{to_z-of_z}
-use Rattle.som_model.specs.Invoked.{class_found}
-use Rattle.som_model.specs.State.{Long, Str}
-use Rattle.som_model.specs.World.{World}
+use Rattle.som_semantics.specs.Invoked.{class_found}
+use Rattle.som_semantics.specs.State.{Long, Str}
+use Rattle.som_semantics.specs.World.{World}
 use Rattle.som_classmgr.proofs.Asking.{answers_are}
 use Rattle.som_classmgr.proofs.runtime.KernelLinkedRuntime.find_class.Goals as goal
 

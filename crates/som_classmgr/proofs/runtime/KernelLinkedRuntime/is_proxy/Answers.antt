@@ -1,8 +1,8 @@
 use Rattle.std.proofs.Common.{◌≡◌, false, subst, sym}
 use Rattle.som_model.specs.declared.key.ClassKey.TheVariants as keys
 use Rattle.som_meta.specs.Numbering.{Numbering, key_at}
-use Rattle.som_classes.specs.Loaded.{AreLoaded}
-use Rattle.som_runtime.specs.Asked.{is_proxy}
+use Rattle.som_class_table.specs.Loaded.{AreLoaded}
+use Rattle.som_interp_state.specs.Asked.{is_proxy}
 use Rattle.som_classmgr.proofs.Asking.{proxy_no, proxy_yes}
 use Rattle.som_classmgr.proofs.runtime.KernelLinkedRuntime.is_proxy.Goals as goal
 

@@ -1,5 +1,5 @@
 use Rattle.std.proofs.Common.{◌≡◌, ◌∙◌, ◌+◌, ◌-◌, arith, sym, ap}
-use Rattle.som_ancestry.specs.Places.{class_of_place}
+use Rattle.som_verify_classes.specs.Places.{class_of_place}
 use Rattle.som_compat.specs.Views.{classes_of}
 use Rattle.som_compat.proofs.Placed.{shown_at}
 use Rattle.som_compat.proofs.lookup.Lookup.face.Goals as goal

@@ -1,8 +1,0 @@
-mod Standing
-mod Asked
-mod Coded
-pub mod Pushing
-mod Found
-mod Called
-mod Written
-mod Made

@@ -1,5 +1,0 @@
-use Rattle.som_bodies.proofs.Facts.{derived}
-use Rattle.som_bodies.proofs.replaced.other_bodies.Goals as goal
-
-pub returns-in-Derived : goal.returns-in-Derived
-returns-in-Derived c = rw c.new.ensures (derived c.args.classes.now c.requires.loaded c.args.class _ (c.kind.ensures.derived c.in-Derived.is))

@@ -1,0 +1,13 @@
+use Rattle.std.proofs.Common.{◌≡◌, ◌≤◌, ◌+◌, ◌-◌}
+use Rattle.som_parse.specs.Readers.{repeat, turns}
+use Rattle.som_parse.specs.Seen.{text_at}
+use Rattle.som_body.specs.ExpressionInner.{operators_of, operand_of}
+use Rattle.som_body.specs.Reading as spec
+use Rattle.som_body.proofs.rules.Rules.operations.Given as goal
+
+abbrev pub invariant-loop-turn : goal.invariant-loop-turn
+invariant-loop-turn g l = record {
+  same : repeat (spec.operation (text_at l.self.tokens.now) (spec.at (text_at l.self.tokens.now) l.self.depth) (operators_of l.line) (operand_of l.line) (l.self.depth + 1)) l.fn.first l.fn.left.rest.now
+      ≡ turns (spec.operation (text_at l.self.tokens.now) (spec.at (text_at l.self.tokens.now) l.self.depth) (operators_of l.line) (operand_of l.line) (l.self.depth + 1)) (l._turn-end - l._turn) l.so_far l.left.rest.now;
+  low : l.so_far.height ≤ l.self.depth + 1;
+}

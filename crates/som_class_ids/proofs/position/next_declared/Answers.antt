@@ -1,0 +1,4 @@
+use Rattle.som_class_ids.proofs.position.next_declared.Goals as goal
+
+pub note_next-requires-clause-parents : goal.note_next-requires-clause-parents
+note_next-requires-clause-parents c = λ p m. c.requires.parents p (rw c.as_slice.ensures at m)

@@ -1,0 +1,4 @@
+pub mod Rows
+pub mod DataRows
+pub mod Members
+pub mod Scheme

@@ -1,0 +1,3 @@
+pub mod Laying
+pub mod Places
+pub mod Schemes

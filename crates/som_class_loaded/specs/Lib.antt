@@ -1,0 +1,3 @@
+pub mod Added
+pub mod Made
+pub mod Making

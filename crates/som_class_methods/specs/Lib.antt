@@ -1,0 +1,4 @@
+pub mod Owners
+pub mod Tokens
+pub mod Members
+pub mod Own

@@ -1,0 +1,4 @@
+pub mod Targets
+pub mod Loaded
+pub mod Kept
+pub mod Making

@@ -1,0 +1,184 @@
+//! Rows of variables: the place of each variable in a class's objects, and the types by place.
+
+ghost use Rattle.som_class_layout_laws.specs.Places.{IsPlaced};
+ghost use Rattle.som_meta.specs.Numbering.{AreNumbered, IsNumbered, key_at};
+ghost use Rattle.som_model.specs.Ancestors.{Descends};
+ghost use Rattle.som_model.specs.Classes.{ancestors as ancestors_of, hierarchy};
+ghost use Rattle.som_class_variables.specs.Placed.{ArePlaces, HaveParentRows};
+ghost use Rattle.som_class_variables.specs.Variables.{IsVariable, data_scheme, object_variables, own_variables, place_in};
+ghost use Rattle.som_tables.specs.Rows.{HasRow, IsDeclared, row_at};
+ghost use Rattle.std.specs.Prelude.{◌≡◌, ◌≢◌, ◌<◌, ◌∷◌, ℕ, IfOk, None, OnErr, OnOk, Some, is_some, length, map, slice_get, slice_set};
+
+use crate::cells::{first_places, places_from};
+use crate::own::{know_loaded, own_count, types_of_all};
+use som_class_table::Classes;
+use som_meta::Ancestry;
+use som_model::{List, NoMemory, ValueType};
+use som_tables::{ClassNo, DToken, DataKind, Table, Token};
+use std::alloc::Global;
+use std::marker::Model;
+
+/// Rows of the places of variables, and of each class that has one the types of the variables of its objects by their places.
+pub struct Places {
+    table: Table<DataKind>,
+    variables: Vec<Option<List<ValueType>>>,
+}
+
+impl Drop for Places {
+    fn drop(self) {
+        let Places { table, variables } = self;
+        drop(table);
+        drop(variables);
+    }
+}
+
+impl Model for Places {
+    ghost use Rattle.som_model.specs.contracts.key.ValueType as kind;
+    ghost use Rattle.som_class_variables.specs.Placed.{DataRows, rows_with};
+    ghost use Rattle.std.specs.Coded.{codes};
+
+    ghost Value = { DataRows };
+
+    ghost coded = { Prim.hlevel (codes, kind.the_row.coded) };
+
+    ghost view = { λ p. rows_with p.table p.variables.items };
+}
+
+/// The proper ancestors of a class, in order.
+fn above(classes: &Classes, class: ClassNo) -> &[ClassNo]
+    requires { IsNumbered classes.now class }
+    ensures numbered { AreNumbered classes.now result.now }
+    ensures keys { map (key_at classes.now) (class ∷ result.now) ≡ ancestors_of classes.now.classes (key_at classes.now class) }
+{
+    know_loaded(classes);
+    &classes.ancestors(class).as_slice()[1..]
+}
+
+/// Gives a class its row: its own variables have the first places, and those of its ancestors others than in the rows of its parents.
+fn fill_row(
+    alloc: Global,
+    classes: &Classes,
+    table: &mut Table<DataKind>,
+    class: ClassNo,
+) -> Result<(), NoMemory>
+    requires placed { IsPlaced (data_scheme classes.now) (own_variables classes.now.classes) table.old }
+    requires numbered { IsNumbered classes.now class }
+    requires class { IsDeclared table.old class }
+    requires parents { HaveParentRows classes.now table.old class }
+    ensures placed { OnOk result (IsPlaced (data_scheme classes.now) (own_variables classes.now.classes) table.new) }
+    ensures filled { OnOk result (HasRow table.new class) }
+    ensures others { (n : ℕ) → n ≢ class → row_at table.new n ≡ row_at table.old n }
+    ensures long { length table.new ≡ length table.old }
+    ensures err { OnErr result (table.new ≡ table.old) }
+{
+    know_loaded(classes);
+    let count = own_count(classes, class);
+    let own = first_places(alloc, count)?;
+    let others = places_from(alloc, classes, count, above(classes, class))?;
+    let parents = classes.parents(class).as_slice();
+    table.fill(alloc, class, parents, own.as_slice(), others.as_slice())?;
+    Ok(())
+}
+
+/// Puts a value at a place.
+fn put<T: Drop>(values: &mut Vec<Option<T>>, place: usize, value: T)
+    requires { place < length values.old.items }
+    ensures { values.new.items ≡ slice_set values.old.items place (Some value) }
+{
+    values[place] = Some(value);
+}
+
+/// So many places with no values.
+fn none_of<T: Drop>(alloc: Global, count: u32) -> Result<Vec<Option<T>>, NoMemory>
+    ensures { IfOk result (λ values. length values.items ≡ count) }
+{
+    let mut values = Vec::new(alloc);
+    for _number in 0..count {
+        values.push(None)?;
+    }
+    Ok(values)
+}
+
+/// A table in which so many classes have numbers, and none has a row.
+fn without_rows(alloc: Global, count: u32) -> Result<Table<DataKind>, NoMemory>
+    ensures long { IfOk result (λ table. length table ≡ count) }
+    ensures none { IfOk result (λ table. (n : ℕ) → row_at table n ≡ None) }
+{
+    let mut table = Table::new(alloc);
+    for _number in 0..count {
+        table.declare()?;
+    }
+    Ok(table)
+}
+
+impl Places {
+    /// A number for each class, and no row.
+    pub fn new(alloc: Global, classes: &Classes) -> Result<Places, NoMemory>
+        ensures places { IfOk result (λ places. ArePlaces classes.now places) }
+        ensures none { IfOk result (λ places. (n : ℕ) → row_at places.rows n ≡ None) }
+    {
+        let count = classes.count();
+        let table = without_rows(alloc, count)?;
+        let variables = none_of(alloc, count)?;
+        Ok(Places { table, variables })
+    }
+
+    /// Gives a class its row, where its parents have theirs. Where memory runs out all is as it was.
+    pub fn fill(&mut self, alloc: Global, classes: &Classes, class: ClassNo) -> Result<(), NoMemory>
+        requires places { ArePlaces classes.now self.old }
+        requires class { IsDeclared self.old.rows class }
+        requires parents { HaveParentRows classes.now self.old.rows class }
+        ensures places { ArePlaces classes.now self.new }
+        ensures filled { OnOk result (HasRow self.new.rows class) }
+        ensures others { (n : ℕ) → n ≢ class → row_at self.new.rows n ≡ row_at self.old.rows n }
+        ensures err { OnErr result (self.new ≡ self.old) }
+    {
+        let types = types_of_all(alloc, classes, classes.ancestors(class).as_slice())?;
+        fill_row(alloc, classes, &mut self.table, class)?;
+        put(&mut self.variables, class.number() as usize, types);
+        Ok(())
+    }
+
+    /// Whether a class has a row.
+    pub fn has_row(&self, class: ClassNo) -> bool
+        ensures { result ≡ is_some (row_at self.now.rows class) }
+    {
+        self.table.has_row(class)
+    }
+
+    /// The token of a variable of a class's own.
+    pub fn data_token(&self, classes: &Classes, class: ClassNo, variable: u16) -> DToken
+        requires class { IsNumbered classes.now class }
+        requires variable { variable < length (own_variables classes.now.classes (key_at classes.now class)) }
+        ensures token { result ≡ (class, variable) }
+        ensures variable { IsVariable classes.now result }
+    {
+        Token::new(class, variable)
+    }
+
+    /// The place of a variable in the objects of a class that has a row.
+    pub fn data_place(&self, classes: &Classes, class: ClassNo, variable: DToken) -> u32
+        requires places { ArePlaces classes.now self.now }
+        requires row { HasRow self.now.rows class }
+        requires variable { IsVariable classes.now variable }
+        requires below { Descends (hierarchy classes.now.classes) (key_at classes.now class) (key_at classes.now variable.0) }
+        ensures place { result ≡ place_in classes.now.classes (key_at classes.now class) (key_at classes.now variable.0) variable.1 }
+        ensures kind { slice_get (object_variables classes.now.classes (key_at classes.now class)) result ≡ slice_get (own_variables classes.now.classes (key_at classes.now variable.0)) variable.1 }
+        ensures within { result < length (object_variables classes.now.classes (key_at classes.now class)) }
+    {
+        know_loaded(classes);
+        self.table.cell(class, variable)
+    }
+
+    /// The types of the variables of the objects of a class that has a row, by their places.
+    pub fn variables(&self, classes: &Classes, class: ClassNo) -> &List<ValueType>
+        requires places { ArePlaces classes.now self.now }
+        requires row { HasRow self.now.rows class }
+        ensures { result.now ≡ object_variables classes.now.classes (key_at classes.now class) }
+    {
+        match &self.variables.as_slice()[class.number() as usize] {
+            Some(types) => types,
+            None => unreachable!(),
+        }
+    }
+}

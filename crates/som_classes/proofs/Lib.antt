@@ -1,4 +1,0 @@
-pub mod Proxying
-pub mod Loading
-pub mod Bodies
-pub mod Listing

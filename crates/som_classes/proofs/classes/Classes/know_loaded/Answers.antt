@@ -1,4 +1,0 @@
-use Rattle.som_classes.proofs.classes.Classes.know_loaded.Goals as goal
-
-pub returns : goal.returns
-returns c = rw (← c.self.view_is) c.self.invariant.loaded

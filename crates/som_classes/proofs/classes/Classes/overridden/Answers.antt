@@ -1,8 +1,0 @@
-use Rattle.std.proofs.Common.{arith}
-use Rattle.som_classes.proofs.classes.Classes.overridden.Goals as goal
-
-pub overridden-requires : goal.overridden-requires
-overridden-requires c = (let lt = rw (← c.self.view_is) at c.requires in omega (arith, lt, c.self.invariant.members_are.each))
-
-pub returns : goal.returns
-returns c = rw (← c.self.view_is) (λ d at. c.overridden.ensures c.self.inside.numbers d c.self.invariant.members_are at)

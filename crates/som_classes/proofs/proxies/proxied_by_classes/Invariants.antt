@@ -1,7 +1,0 @@
-use Rattle.std.proofs.Common.{◌≡◌, flat_map, take}
-use Rattle.som_named.specs.Proxied.{decl_proxies, declarations, proxies_of}
-use Rattle.som_numbers.specs.Classes.{classes_of}
-use Rattle.som_classes.proofs.proxies.proxied_by_classes.Given as goal
-
-abbrev pub invariant-loop-class : goal.invariant-loop-class
-invariant-loop-class l = proxies_of l.named ≡ flat_map decl_proxies (declarations (classes_of (take l.class-index l.classes)))

@@ -1,7 +1,0 @@
-use Rattle.std.proofs.Common.{◌≡◌, ◌++◌, take}
-use Rattle.std.specs.List.{flat_map}
-use Rattle.som_fields.specs.Spelling.{face}
-use Rattle.som_classimage.proofs.faces.with_faces.Given as goal
-
-abbrev pub invariant-loop-face : goal.invariant-loop-face
-invariant-loop-face l = l.image ≡ l.fn.front ++ flat_map face (take l.face-index l.faces)

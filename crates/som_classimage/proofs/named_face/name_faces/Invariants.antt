@@ -1,6 +1,0 @@
-use Rattle.std.proofs.Common.{◌≡◌, map, take}
-use Rattle.som_classimage.specs.NamedClasses.{face_named}
-use Rattle.som_classimage.proofs.named_face.name_faces.Given as goal
-
-abbrev pub invariant-loop-face : goal.invariant-loop-face
-invariant-loop-face l = l.named ≡ map (face_named l.keys) (take l.face-index l.faces)

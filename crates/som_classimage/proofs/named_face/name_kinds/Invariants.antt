@@ -1,6 +1,0 @@
-use Rattle.std.proofs.Common.{◌≡◌, map, take}
-use Rattle.som_naming.specs.Naming.{kind_named}
-use Rattle.som_classimage.proofs.named_face.name_kinds.Given as goal
-
-abbrev pub invariant-loop-kind : goal.invariant-loop-kind
-invariant-loop-kind l = l.named ≡ map (kind_named l.keys) (take l.kind-index l.kinds)

@@ -1,6 +1,0 @@
-use Rattle.std.proofs.Common.{◌≡◌, map, take}
-use Rattle.som_naming.specs.Naming.{key_at}
-use Rattle.som_classimage.proofs.named_face.name_parents.Given as goal
-
-abbrev pub invariant-loop-parent : goal.invariant-loop-parent
-invariant-loop-parent l = l.named ≡ map (key_at l.keys) (take l.parent-index l.parents)

@@ -1,9 +1,0 @@
-pub mod Pieces
-pub mod Covered
-pub mod KernelCalls
-pub mod Known
-pub mod Blocks
-pub mod Proxies
-pub mod Needs
-pub mod Needed
-pub mod Declared

@@ -1,6 +1,0 @@
-use Rattle.std.proofs.Common.{◌≡◌, ◌++◌, drop}
-use Rattle.som_order.specs.Names.{texts}
-use Rattle.som_declarations.proofs.declared.copies.Given as goal
-
-abbrev pub invariant-loop-name : goal.invariant-loop-name
-invariant-loop-name l = l.copies ++ texts (drop l.name-index l.names) ≡ texts l.names

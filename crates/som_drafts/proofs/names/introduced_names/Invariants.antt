@@ -1,7 +1,0 @@
-use Rattle.std.proofs.Common.{◌≡◌, ◌++◌, drop}
-use Rattle.som_model.specs.Class.{introduced}
-use Rattle.som_order.specs.Names.{texts}
-use Rattle.som_drafts.proofs.names.introduced_names.Given as goal
-
-abbrev pub invariant-loop-entry : goal.invariant-loop-entry
-invariant-loop-entry l = texts l.names.items ++ introduced (drop l.entry-index l.entries) ≡ introduced l.entries

@@ -1,0 +1,14 @@
+pub mod Went
+pub mod TypedExpressions
+pub mod PartLaws
+pub mod MethodLaws
+pub mod NameLaws
+pub mod ElabLaws
+pub mod FormLaws
+pub mod GroupLaws
+pub mod TypedBodies
+pub mod Stating
+pub mod NamesInScope
+pub mod TextForms
+pub mod TextSteps
+pub mod Parameters

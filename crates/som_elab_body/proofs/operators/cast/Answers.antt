@@ -1,0 +1,15 @@
+use Rattle.std.proofs.Common.{refl}
+use Rattle.som_model.specs.Typing.{cast_type}
+use Rattle.som_verify_forms.specs.Kinds.{kind_at}
+use Rattle.som_elab_body.specs.Code.{among_at, classes_at, typed_at}
+use Rattle.som_elab_body.specs.Forms.{facts_at}
+use Rattle.som_elab_body.proofs.FormLaws.{cast_made}
+use Rattle.som_elab_body.proofs.operators.cast.Goals as goal
+
+pub returns : goal.returns
+returns c =
+    let s = c.args.context.now in
+    let cs = classes_at s in
+    let k = c.in_ok-class.class in
+    cast_made cs (among_at s) c.args.name.now k c.formed.result c.in_ok-class.ensures (typed_at cs c.args.part) c.args.part.expr refl
+    (c.formed.ensures cs (cast_type (facts_at s) k (kind_at cs c.args.part.kind)) c.cast_kind-kind.ensures)

@@ -1,0 +1,10 @@
+pub mod Locals
+pub mod Methods
+pub mod Expressions
+pub mod Groups
+pub mod Code
+pub mod Forms
+pub mod Statements
+pub mod MethodBody
+pub mod BlockCode
+pub mod Stated

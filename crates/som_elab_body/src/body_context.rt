@@ -1,0 +1,13 @@
+//! `BodyContext`, what the type checker knows where the text of a body stands.
+
+use som_sema_scope::Scope;
+use som_verify_forms::{CodePlace, Knowledge};
+
+/// Where the text of a body stands: what is known of all classes, what the names of classes stand for, and the place of
+/// the code.
+#[derive(Clone, Copy)]
+pub struct BodyContext<'a, 's, 'o, 'b, 'k> {
+    pub known: Knowledge<'a>,
+    pub scope: &'s Scope<'o, 'b, 'k>,
+    pub at: CodePlace,
+}

@@ -1,0 +1,32 @@
+use Rattle.std.proofs.Common.{◌≤◌, ◌+◌, ◌*◌, subst}
+use Rattle.som_interp_task.specs.Run.{LeavesFuel}
+use Rattle.som_semantics.specs.Means.{means_in}
+use Rattle.som_semantics.specs.RunText.{call_count}
+use Rattle.som_semantics.specs.Runs.{end_of}
+use Rattle.som_semantics.specs.World.{World}
+use Rattle.som_trace.specs.Filters.{shows_of}
+use Rattle.som_exec.proofs.Alone.{not_started}
+use Rattle.som_exec.proofs.Counting.{direct_run}
+use Rattle.som_exec.specs.Runs.{RunsMain}
+use Rattle.som_exec.proofs.running.finish.Goals as goal
+
+pub returns-in-Ok-clause-runs : goal.returns-in-Ok-clause-runs
+returns-in-Ok-clause-runs g c =
+    let r = c.args.runtime.now in
+    subst (λ (w : World). RunsMain w (g.R.Runtime.program r) c.args.fuel (shows_of c.args.trace.now) (g.K.Sink.written c.args.out.now) (g.K.Sink.written c.run_task-finished.new.out) (g.R.ClassKeys.known r).classes (g.R.Classes.made r) (g.R.Classes.made c.run_task-finished.new.runtime) c.run_task-finished.result.outcome)
+    c.know.ensures.agree.linked_answers c.run_task-finished.ensures.runs
+
+pub returns-in-Err-clause-runs : goal.returns-in-Err-clause-runs
+returns-in-Err-clause-runs g c = not_started _ _ _ _ (g.K.Sink.written c.args.out.now) _ _
+
+pub returns-in-Ok-clause-steps : goal.returns-in-Ok-clause-steps
+returns-in-Ok-clause-steps g c free =
+    let r = c.args.runtime.now in
+    let made = g.R.Classes.made c.run_task-finished.new.runtime in
+    subst (λ (w : World). c.run_task-finished.new.steps ≤ c.args.steps.now + 2 * call_count (end_of (means_in w (g.R.Runtime.program r) c.args.fuel)).events + 2) c.know.ensures.agree.linked_answers
+    (c.run_task-finished.ensures.steps (direct_run (g.R.Classes.keys r) (g.R.Classes.world r) (g.R.ClassKeys.known r) (g.R.Runtime.linked r) (g.R.Runtime.program r) made c.know.ensures.agree c.know.ensures.loads free))
+
+pub returns-in-Ok-clause-left : goal.returns-in-Ok-clause-left
+returns-in-Ok-clause-left g c =
+    let r = c.args.runtime.now in
+    subst (λ (w : World). LeavesFuel (means_in w (g.R.Runtime.program r) c.args.fuel) c.run_task-finished.result.left c.run_task-finished.result.outcome) c.know.ensures.agree.linked_answers c.run_task-finished.ensures.left

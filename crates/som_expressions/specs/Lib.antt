@@ -1,5 +1,0 @@
-pub mod Levels
-pub mod Grammar
-pub mod Reading
-pub mod Inner
-pub mod Within

@@ -1,4 +1,0 @@
-pub mod Statements
-pub mod MethodBody
-pub mod Code
-pub mod Stated

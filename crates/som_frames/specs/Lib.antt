@@ -1,9 +1,0 @@
-pub mod Frames
-pub mod CallBodies
-pub mod Tested
-pub mod Passed
-pub mod Step
-pub mod Comes
-pub mod Stands
-pub mod Weight
-pub mod Counts

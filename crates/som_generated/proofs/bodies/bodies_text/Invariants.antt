@@ -1,6 +1,0 @@
-use Rattle.std.proofs.Common.{◌≡◌, ◌++◌, flat_map}
-use Rattle.som_generated.specs.Generated.{body_lines, numbers}
-use Rattle.som_generated.proofs.bodies.bodies_text.Given as goal
-
-abbrev pub invariant-loop-number : goal.invariant-loop-number
-invariant-loop-number l = l.text.items ≡ l.initial.text.items ++ flat_map (body_lines l.edition) (numbers l.number)

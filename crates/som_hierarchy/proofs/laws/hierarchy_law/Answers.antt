@@ -1,8 +1,0 @@
-use Rattle.som_hierarchy.proofs.Standing.{falls, tells}
-use Rattle.som_hierarchy.proofs.laws.hierarchy_law.Goals as goal
-
-pub returns-clause-lower : goal.returns-clause-lower
-returns-clause-lower c = falls
-
-pub returns-clause-apart : goal.returns-clause-apart
-returns-clause-apart c = tells

@@ -1,3 +1,0 @@
-pub mod Metaclasses
-pub mod Owning
-pub mod Keeping

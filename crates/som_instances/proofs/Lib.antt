@@ -1,3 +1,0 @@
-pub mod Nexts
-pub mod Ends
-pub mod Asked

@@ -1,9 +1,0 @@
-use Rattle.som_task.proofs.Objects.{spares_freed}
-use Rattle.som_instances.proofs.Ends.{object_freed}
-use Rattle.som_instances.proofs.freeing.free.Goals as goal
-
-pub returns-in-Ok-clause-means : goal.returns-in-Ok-clause-means
-returns-in-Ok-clause-means c = object_freed c.args.objects.now c.free.new.self c.args.object.now c.requires c.in-Ok.ensures.freed
-
-pub returns-in-Ok-clause-others : goal.returns-in-Ok-clause-others
-returns-in-Ok-clause-others c = λ ys other. spares_freed ys c.args.objects.now c.free.new.self c.args.object.now other c.in-Ok.ensures.freed

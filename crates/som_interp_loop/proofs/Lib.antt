@@ -1,0 +1,9 @@
+pub mod Fine
+pub mod Growing
+pub mod Knowing
+pub mod Untold
+pub mod Joining
+pub mod Going
+pub mod Lowering
+pub mod Granting
+pub mod Counting

@@ -1,0 +1,7 @@
+pub mod Scene
+pub mod Moving
+pub mod NextInstruction
+pub mod Standing
+pub mod Stepped
+pub mod Ran
+pub mod Counted

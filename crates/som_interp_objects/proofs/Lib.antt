@@ -1,0 +1,8 @@
+pub mod Zero
+pub mod ObjectClasses
+pub mod Placed
+pub mod Reading
+pub mod Writing
+pub mod Nexts
+pub mod Ends
+pub mod Asked

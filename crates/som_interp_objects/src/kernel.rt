@@ -1,0 +1,90 @@
+//! What a kernel says of variables, in the words of a task.
+
+ghost use Rattle.som_interp_state.specs.Asked.{AreTypes, target_after};
+ghost use Rattle.som_interp_objects.specs.Cells.{IsPlain};
+ghost use Rattle.som_model.specs.Rules.{is_void};
+ghost use Rattle.som_semantics.specs.State.{zeros};
+ghost use Rattle.som_values.specs.Shown.{IsNumbered, key_of};
+ghost use Rattle.std.specs.Prelude.{◌≡◌, Some, false, length, true};
+
+use crate::zero_cell;
+use som_interp_state::Runtime;
+use som_model::{List, ValueType};
+use som_objects::Cell;
+use som_tables::ClassNo;
+use std::alloc::Global;
+
+/// The place of a variable of a class among the cells of an object, by the object's class.
+pub(crate) fn place_of<R: Runtime>(
+    runtime: &R,
+    object: ClassNo,
+    class: ClassNo,
+    variable: u8,
+) -> Option<u32>
+    requires object { IsNumbered (R.linked runtime.now).keys object }
+    requires made { R.made runtime.now (key_of (R.linked runtime.now).keys object) ≡ true }
+    requires class { IsNumbered (R.linked runtime.now).keys class }
+    ensures { result ≡ (R.linked runtime.now).variables object (key_of (R.linked runtime.now).keys class) variable }
+{
+    runtime.know();
+    runtime.place(object, class, variable)
+}
+
+/// The place of a variable that an object has, since its class descends from the variable's.
+pub(crate) fn sure_place<R: Runtime>(
+    runtime: &R,
+    object: ClassNo,
+    class: ClassNo,
+    variable: u8,
+) -> u32
+    requires object { IsNumbered (R.linked runtime.now).keys object }
+    requires made { R.made runtime.now (key_of (R.linked runtime.now).keys object) ≡ true }
+    requires class { IsNumbered (R.linked runtime.now).keys class }
+    requires below { (R.linked runtime.now).world.is_a (key_of (R.linked runtime.now).keys object) (key_of (R.linked runtime.now).keys class) ≡ true }
+    requires variable { is_void ((R.linked runtime.now).world.variable (key_of (R.linked runtime.now).keys class) variable) ≡ false }
+    ensures { (R.linked runtime.now).variables object (key_of (R.linked runtime.now).keys class) variable ≡ Some result }
+{
+    runtime.know();
+    match runtime.place(object, class, variable) {
+        Some(place) => place,
+        None => unreachable!(),
+    }
+}
+
+/// The cell of a variable's zero value.
+pub(crate) fn zero_variable<R: Runtime>(
+    alloc: Global,
+    runtime: &R,
+    class: ClassNo,
+    variable: u8,
+) -> Cell
+    requires { IsNumbered (R.linked runtime.now).keys class }
+    ensures { IsPlain result (zeros (R.linked runtime.now).world (key_of (R.linked runtime.now).keys class) variable) }
+{
+    runtime.know();
+    zero_cell(alloc, runtime.zero(class, variable))
+}
+
+/// The types of the cells of a class's objects.
+pub(crate) fn types_of<R: Runtime>(runtime: &R, class: ClassNo) -> &List<ValueType>
+    requires numbered { IsNumbered (R.linked runtime.now).keys class }
+    requires made { R.made runtime.now (key_of (R.linked runtime.now).keys class) ≡ true }
+    ensures types { AreTypes (R.linked runtime.now).world (R.linked runtime.now) class result.now }
+    ensures target { (R.linked runtime.now).target class ≡ target_after (key_of (R.linked runtime.now).keys class) (length result.now) }
+{
+    runtime.know();
+    runtime.variables(class)
+}
+
+/// The class of a class object, which has its variables.
+pub(crate) fn metaclass_of<R: Runtime>(runtime: &R, class: ClassNo) -> ClassNo
+    requires numbered { IsNumbered (R.linked runtime.now).keys class }
+    requires made { R.made runtime.now (key_of (R.linked runtime.now).keys class) ≡ true }
+    ensures numbered { IsNumbered (R.linked runtime.now).keys result }
+    ensures made { R.made runtime.now (key_of (R.linked runtime.now).keys result) ≡ true }
+    ensures key { key_of (R.linked runtime.now).keys result ≡ (R.linked runtime.now).world.meta (key_of (R.linked runtime.now).keys class) }
+    ensures variables { (R.linked runtime.now).statics class ≡ (R.linked runtime.now).variables result }
+{
+    runtime.know();
+    runtime.metaclass(class)
+}

@@ -1,0 +1,5 @@
+pub mod Sparing
+pub mod AtFirst
+pub mod Ending
+pub mod Whole
+pub mod Counting

@@ -1,0 +1,4 @@
+pub mod Beginning
+pub mod Stands
+pub mod Advance
+pub mod Run

@@ -1,0 +1,66 @@
+-- What a whole run comes to: what main means with its fuel.
+use Rattle.std.specs.Prelude.{◌≡◌, ◌≢◌, ◌≤◌, ◌+◌, ◌*◌, ℕ, Bool, true, List, [], length, Option}
+use Rattle.std.specs.List.{concat}
+use Rattle.som_model.specs.declared.key.ClassKey.{ClassKey}
+use Rattle.som_semantics.specs.State as state
+use Rattle.som_semantics.specs.State.{State}
+use Rattle.som_semantics.specs.Runs.{Ran, Goes, Ends, Faulted, Spent, end_of}
+use Rattle.som_semantics.specs.RunText.{call_count, run_lines, run_text, with_prefix}
+use Rattle.som_io.specs.Outside.{Rose, ShowsAll, ShowsFront}
+use Rattle.som_trace.specs.Places.{running_in}
+use Rattle.som_interp_loop.specs.Moving.{Keeps, Makes}
+use Rattle.som_interp_loop.specs.Scene.{Scene}
+use Rattle.som_interp_loop.specs.Counted.{IsDirectScene}
+use Rattle.som_interp_task.specs.declared.outcome.Outcome.{Outcome}
+use Rattle.som_interp_task.specs.declared.outcome.Outcome.TheVariants as outcomes
+use Rattle.som_interp_task.specs.Advance.{with_granted}
+use Rattle.som_interp_task.specs.Stands.{meaning}
+
+-- this holds where the meaning's end is answered; where memory was wanting, or the sink failed, nothing is said
+abbrev pub IfRan : Outcome → Type 0 → Type 0
+IfRan outcomes.SinkFailed P = Unit {0}
+IfRan outcomes.NoMemory P = Unit {0}
+IfRan _ P = P
+
+-- the end of a run is what is answered
+abbrev pub EndsSo : Ran (Unit {0}) → Outcome → Type 0
+EndsSo r outcomes.Done = (s : State) × (r ≡ Goes (tt {0}) s)
+EndsSo r (outcomes.SourceFault fault at) = (place : state.Place) × (s : State) × (r ≡ Ends (Faulted fault place) s) × (at ≡ running_in place)
+EndsSo r outcomes.Spent = (s : State) × (r ≡ Ends Spent s)
+EndsSo r outcomes.SinkFailed = Unit {0}
+EndsSo r outcomes.NoMemory = Unit {0}
+
+-- the lines of a run, each after the prefix
+abbrev pub text_with : (List ℕ → Bool) → List ℕ → Ran (Unit {0}) → List ℕ
+text_with shows prefix r = concat (with_prefix prefix (run_lines shows r))
+
+-- a run by this fuel: it answers the end of main's meaning, and tells its text, or a front of it where memory was wanting or the sink failed; without a prefix that is the text of the definition; it has made as many objects as the meaning, what was used is made, and of all else it keeps what it keeps in every move
+pub record RunsSo (old : Scene) (fuel : ℕ) (shows : List ℕ → Bool) (prefix : List ℕ) (before after : Option (List ℕ)) (new : Scene) (outcome : Outcome) : Type 0 where
+  pub ended : EndsSo (meaning old fuel) outcome
+  pub text : IfRan outcome (ShowsAll before after (text_with shows prefix (meaning old fuel)))
+  pub plain : prefix ≡ [] → IfRan outcome (ShowsAll before after (run_text shows (meaning old fuel)))
+  pub front : ShowsFront before after (text_with shows prefix (meaning old fuel))
+  pub objects : IfRan outcome (length new.task.serials ≡ length (end_of (meaning old fuel)).heap.objects)
+  pub makes : IfRan outcome (Makes old.known.classes old.made new.made (end_of (meaning old fuel)).events)
+  pub keeps_made : (k : ClassKey) → old.made k ≡ true → new.made k ≡ true
+  pub keeps : Keeps (with_granted old fuel) new
+
+-- where main is over, as much fuel is left as its meaning leaves
+abbrev pub LeavesFuel : Ran (Unit {0}) → ℕ → Outcome → Type 0
+LeavesFuel r left outcomes.Done = left ≡ (end_of r).fuel
+LeavesFuel r left _ = Unit {0}
+
+-- where nothing searches for a name and no class that is made has hooks: two steps are counted for each call event, and two more
+abbrev pub CountsRun : Scene → ℕ → Scene → ℕ → ℕ → Type 0
+CountsRun old fuel new before now = IsDirectScene new → now ≤ before + 2 * call_count (end_of (meaning old fuel)).events + 2
+
+-- the count of the sink's faults never falls, and rose where it failed
+pub record Counts (before now : ℕ) (outcome : Outcome) : Type 0 where
+  pub later : before ≤ now
+  pub cause : outcome ≡ outcomes.SinkFailed → Rose before now
+
+-- a calm sink stays so, and doesn't fail
+pub record StaysCalm (calm calm' : Type 0) (before now : ℕ) (outcome : Outcome) : Type 0 where
+  pub stays : calm → calm'
+  pub count : calm → now ≡ before
+  pub fine : calm → outcome ≢ outcomes.SinkFailed

@@ -1,7 +1,0 @@
-use Rattle.std.proofs.Common.{◌≡◌, take}
-use Rattle.som_introducers.specs.Introducers.{stands}
-use Rattle.som_introducers.specs.Ranking.{rank_from}
-use Rattle.som_introducers.proofs.ranking.least_rank.Given as goal
-
-abbrev pub invariant-loop-place : goal.invariant-loop-place
-invariant-loop-place l = l.least ≡ rank_from 0 (λ x. stands x (take l.place-index l.places)) l.list

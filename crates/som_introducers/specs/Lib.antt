@@ -1,2 +1,0 @@
-pub mod Introducers
-pub mod Ranking

@@ -1,7 +1,0 @@
-use Rattle.std.proofs.Common.{◌∙◌}
-use Rattle.som_kinds.specs.Knowing.{all_of}
-use Rattle.som_kinds.proofs.Facts.{kind_said}
-use Rattle.som_kinds.proofs.knowledge.known_kind.Goals as goal
-
-pub unreachable-requires : goal.unreachable-requires
-unreachable-requires c = let known = c.in-None.ensures.known ∙ kind_said (all_of c.args.known.now) c.args.kind.now ∙ c.requires.kind in cc

@@ -1,5 +1,0 @@
-use Rattle.som_lawful.proofs.PlainWhole.{faces_say, say_faces}
-use Rattle.som_lawful.proofs.laws.faces_law.Goals as goal
-
-pub returns : goal.returns
-returns c = λ ds. (faces_say ds, say_faces ds)

@@ -1,4 +1,0 @@
-pub mod Members
-pub mod Laws
-pub mod WalkLaw
-pub mod Listed

@@ -1,5 +1,0 @@
-use Rattle.som_laws.proofs.Laws.{key_test}
-use Rattle.som_laws.proofs.theorems.key_law.Goals as goal
-
-pub returns : goal.returns
-returns c a b = key_test a b

@@ -1,4 +1,0 @@
-pub mod First
-pub mod Added
-pub mod Once
-pub mod Rows

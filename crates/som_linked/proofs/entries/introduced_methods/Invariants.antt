@@ -1,6 +1,0 @@
-use Rattle.std.proofs.Common.{◌≡◌, ◌++◌, drop}
-use Rattle.som_linked.specs.Entries.{entries_from}
-use Rattle.som_linked.proofs.entries.introduced_methods.Given as goal
-
-abbrev pub invariant-loop-place : goal.invariant-loop-place
-invariant-loop-place l = l.methods ++ entries_from l.class l.place (drop l.place l.entries) ≡ entries_from l.class 0 l.entries

@@ -1,5 +1,0 @@
-use Rattle.som_linked.proofs.Above.{has_classes}
-use Rattle.som_linked.proofs.laws.names_law.Goals as goal
-
-pub returns : goal.returns
-returns c = λ l n linked loaded made. has_classes l linked loaded n made

@@ -1,9 +1,0 @@
-use Rattle.std.proofs.Common.{ap}
-use Rattle.som_linked.specs.Linked.{Linkage}
-use Rattle.som_linked.proofs.Answering.{answer_of}
-use Rattle.som_linked.proofs.linked.Linked.resolve.Goals as goal
-
-pub returns-clause-body : goal.returns-clause-body
-returns-clause-body g c =
-    answer_of c.args.self.now c.classes-classes.ensures.linked c.classes-classes.ensures.loaded c.args.class c.requires.made c.args.method c.requires.method
-    c.classes-classes.ensures.value (ap (λ (z : Linkage). z.parts.bodies) c.self.view_is) c.resolve.result c.resolve.ensures.body

@@ -1,8 +1,0 @@
-use Rattle.som_loading.proofs.Loading.{can_be_laid, can_lay}
-use Rattle.som_loading.proofs.laws.lay_law.Goals as goal
-
-pub returns-clause-keys : goal.returns-clause-keys
-returns-clause-keys c = can_be_laid
-
-pub returns-clause-numbers : goal.returns-clause-numbers
-returns-clause-numbers c = can_lay

@@ -1,8 +1,0 @@
-use Rattle.som_loading.proofs.Loading.{target, targets_of}
-use Rattle.som_loading.proofs.laws.made_law.Goals as goal
-
-pub returns-clause-proxy : goal.returns-clause-proxy
-returns-clause-proxy c = target
-
-pub returns-clause-numbers : goal.returns-clause-numbers
-returns-clause-numbers c = targets_of

@@ -1,5 +1,0 @@
-pub mod Joining
-pub mod Going
-pub mod Lowering
-pub mod Granting
-pub mod Counting

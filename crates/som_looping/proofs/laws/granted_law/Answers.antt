@@ -1,5 +1,0 @@
-use Rattle.som_looping.proofs.Granting.{units_granted}
-use Rattle.som_looping.proofs.laws.granted_law.Goals as goal
-
-pub returns : goal.returns
-returns c means n units granted begun fs s h none = units_granted means n units granted begun fs s h none

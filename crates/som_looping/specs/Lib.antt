@@ -1,4 +1,0 @@
-pub mod Standing
-pub mod Stepped
-pub mod Ran
-pub mod Counted

@@ -1,0 +1,16 @@
+pub mod Frames
+pub mod CallBodies
+pub mod Tested
+pub mod Passed
+pub mod Step
+pub mod Comes
+pub mod Stands
+pub mod Weight
+pub mod Counts
+pub mod Needs
+pub mod Implied
+pub mod Naming
+pub mod Having
+pub mod Searching
+pub mod Direct
+pub mod Counted

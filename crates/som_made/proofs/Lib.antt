@@ -1,5 +1,0 @@
-pub mod Marks
-pub mod Filled
-pub mod Parts
-pub mod Order
-pub mod Introducing

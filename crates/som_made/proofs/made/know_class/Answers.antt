@@ -1,6 +1,0 @@
-use Rattle.som_made.proofs.Parts.{parents_low}
-use Rattle.som_made.proofs.made.know_class.Goals as goal
-
-pub returns-clause-lower : goal.returns-clause-lower
-returns-clause-lower c =
-    parents_low c.args.classes.now c.count-count.ensures.apart c.args.class c.requires c.parents-parents.result.now c.parents-parents.ensures.lower c.parents-parents.ensures.keys

@@ -1,4 +1,0 @@
-pub mod Noting
-pub mod Searching
-pub mod Ordering
-pub mod FirstFour

@@ -1,6 +1,0 @@
-use Rattle.std.proofs.Common.{map, take}
-use Rattle.som_members.specs.Members.{HaveTokens, select_method}
-use Rattle.som_members.proofs.tokens.select_tokens.Given as goal
-
-abbrev pub invariant-loop-one : goal.invariant-loop-one
-invariant-loop-one l = HaveTokens l.numbers (map select_method (take l.one-index l.selects)) l.tokens

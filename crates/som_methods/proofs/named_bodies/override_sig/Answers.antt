@@ -1,8 +1,0 @@
-use Rattle.std.proofs.Common.{option_copied}
-use Rattle.som_drafts.specs.Drafts.{plain_draft}
-use Rattle.som_kinds.specs.Knowing.{all_of}
-use Rattle.som_methods.proofs.NamedClasses.{signed_override}
-use Rattle.som_methods.proofs.named_bodies.override_sig.Goals as goal
-
-pub returns-in-Some : goal.returns-in-Some
-returns-in-Some c = signed_override (all_of c.args.known.now) (plain_draft c.args.draft.now) c.args.name.now c.as_slice-2.result.now c.as_slice.result.now c.in-Some.replaced.now (option_copied c.signature_of.result) c.as_slice.ensures c.as_slice-2.ensures c.in-Some.ensures c.signature_of.ensures.is

@@ -1,0 +1,9 @@
+pub mod Members
+pub mod Laws
+pub mod WalkLaw
+pub mod Listed
+pub mod Lists
+pub mod Standing
+pub mod Metas
+pub mod Owners
+pub mod Keeping

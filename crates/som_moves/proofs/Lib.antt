@@ -1,4 +1,0 @@
-pub mod Fine
-pub mod Growing
-pub mod Knowing
-pub mod Untold

@@ -1,5 +1,0 @@
-use Rattle.som_numbering.proofs.FoundNames.{slot_there}
-use Rattle.som_numbering.proofs.found.number_method.Goals as goal
-
-pub number_method-requires-clause-known : goal.number_method-requires-clause-known
-number_method-requires-clause-known c = slot_there c.args.directory.now c.args.method.now c.requires.found

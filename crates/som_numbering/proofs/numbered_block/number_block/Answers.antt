@@ -1,5 +1,0 @@
-use Rattle.som_numbering.proofs.FoundNames.{ready_is_found}
-use Rattle.som_numbering.proofs.numbered_block.number_block.Goals as goal
-
-pub number_inner-requires-clause-found : goal.number_inner-requires-clause-found
-number_inner-requires-clause-found c = ready_is_found c.args.directory.now c.args.block.now c.requires.ready

@@ -1,6 +1,0 @@
-use Rattle.std.proofs.Common.{◌≡◌, map, take}
-use Rattle.som_numbering.specs.Numbering.{kind_numbered}
-use Rattle.som_numbering.proofs.numbered_face.number_kinds.Given as goal
-
-abbrev pub invariant-loop-kind : goal.invariant-loop-kind
-invariant-loop-kind l = l.numbered ≡ map (kind_numbered l.directory.keys) (take l.kind-index l.kinds)

@@ -1,5 +1,0 @@
-use Rattle.std.proofs.Common.{length}
-use Rattle.som_plain.proofs.ancestry.+first_occurrences.Given as goal
-
-abbrev pub decreases-first_occurrences : goal.decreases-first_occurrences
-decreases-first_occurrences l = length l.classes.now

@@ -1,4 +1,0 @@
-use Rattle.som_questions.proofs.bodies.tell_body_of.Given as goal
-
-abbrev pub ghosts-counted_body : goal.ghosts-counted_body
-ghosts-counted_body a = record { name = a.blank.name; parts = a.blank.parts }

@@ -1,5 +1,0 @@
-use Rattle.som_reading.proofs.ReadLaws.{none_read}
-use Rattle.som_reading.proofs.read.read_texts.Goals as goal
-
-pub loop-source-init : goal.loop-source-init
-loop-source-init c = none_read c.as_slice-sources.result.now c.new-trees.result c.new-trees.ensures

@@ -1,0 +1,182 @@
+-- Nothing is broken exactly where each rule of compatibility holds of every class and member.
+use Rattle.std.proofs.Common.{◌≡◌, ℕ, zero, suc, ◌≤◌, ◌+◌, ◌==◌, nat_le, inl, inr, Bool, true, false, ◌&&◌, if◌then◌else◌, List, [], ◌∷◌, ◌++◌, map, flat_map, Option, Some, None, slice_get, refl, sym, ap, ◌∙◌, subst, arith}
+use Rattle.std.specs.Str.{bytes_eq}
+use Rattle.som_model.specs.declared.key.ClassKey.{ClassKey}
+use Rattle.som_model.specs.Lists.{Mem, option_list}
+use Rattle.som_model.specs.Keys.{same_key}
+use Rattle.som_model.specs.Same.{same_option, same_sig}
+use Rattle.som_model.specs.Ancestors.{Descends}
+use Rattle.som_model.specs.Class.{Class}
+use Rattle.som_model.specs.Classes.{ancestors, class_at, hierarchy, is_a}
+use Rattle.som_model.specs.Kernel.{kernel}
+use Rattle.som_model.specs.Metaclass.{meta}
+use Rattle.som_model.specs.Compatible.{CompatBreach, incompatible, order_of, failing, first_changed, signature, k2, k3, k4, k5, k6, class_breaks}
+use Rattle.som_model.specs.Loads.{IsOrdered, keys_of}
+use Rattle.som_model.proofs.KeyLaws.{Exact, exact_bytes, exact_keys, both}
+use Rattle.som_model.proofs.SameLaws.{exact_option, exact_sigs}
+use Rattle.som_model_laws.proofs.Members.{mem_right, mem_split}
+use Rattle.som_model_laws.proofs.Laws.{ancestors as ancestors_are}
+use Rattle.som_verify_classes.proofs.FacesOnly.{face_only, is_a_faces}
+use Rattle.som_model_laws.specs.Keeping.{ClassesKeep, IsPair}
+use Rattle.som_model_laws.proofs.Lists.{find_mem, map_mem, mem_map, option_mem}
+use Rattle.som_model_laws.proofs.Standing.{falls, found, not_kernels, tells}
+use Rattle.som_release_laws.proofs.FacesAlone.{faces_at, meta_faces, signature_faces}
+use Rattle.som_release_laws.proofs.Facing.{tested, tests}
+use Rattle.som_release_laws.proofs.Lists.{both_none, flat_all, flat_at, none_left}
+
+map_nothing : {A B : Type 0} (f : A → B) (xs : List A) → map f xs ≡ [] → xs ≡ []
+map_nothing f [] e = refl
+map_nothing f (x ∷ xs) e = absurd (cc)
+
+-- none fails the test
+fails_by : {A : Type 0} (test : A → Bool) (x y : A) (n : ℕ) (ys : List A) (b : Bool) → test y ≡ b → (failing test (n + 1) ys ≡ [] → Mem x ys → test x ≡ true)
+    → (if b then failing test (n + 1) ys else (y, n) ∷ failing test (n + 1) ys) ≡ [] → Mem x (y ∷ ys) → test x ≡ true
+fails_by test x y n ys true t f e (inl is) = ap test is ∙ t
+fails_by test x y n ys true t f e (inr k) = f e k
+fails_by test x y n ys false t f e m = cc
+
+none_fails : {A : Type 0} (test : A → Bool) (n : ℕ) (xs : List A) → failing test n xs ≡ [] → (x : A) → Mem x xs → test x ≡ true
+none_fails test n [] e x m = absurd m
+none_fails test n (y ∷ ys) e x m = fails_by test x y n ys (test y) refl (λ f k. none_fails test (n + 1) ys f x k) e m
+
+fails_none : {A : Type 0} (test : A → Bool) (n : ℕ) (xs : List A) → ((x : A) → Mem x xs → test x ≡ true) → failing test n xs ≡ []
+fails_none test n [] f = refl
+fails_none test n (y ∷ ys) f = let here : test y ≡ true = f y (inl refl) in rw here (fails_none test (n + 1) ys (λ x m. f x (inr m)))
+
+-- none strays
+strays_by : (n : ℕ) (x y z : List ℕ) (ys zs : List (List ℕ)) (i : ℕ) (b : Bool) → bytes_eq y z ≡ b → (first_changed (n + 1) ys zs ≡ [] → (j : ℕ) → slice_get ys j ≡ Some x → slice_get zs j ≡ Some x)
+    → (if b then first_changed (n + 1) ys zs else (y, n) ∷ []) ≡ [] → slice_get (y ∷ ys) i ≡ Some x → slice_get (z ∷ zs) i ≡ Some x
+strays_by n x y z ys zs zero true t f e at = ap (λ w. Some w) (sym (exact_bytes.two y z t)) ∙ at
+strays_by n x y z ys zs (suc i) true t f e at = f e i at
+strays_by n x y z ys zs i false t f e at = absurd (cc)
+
+none_strays : (n : ℕ) (olds news : List (List ℕ)) → first_changed n olds news ≡ [] → (i : ℕ) (x : List ℕ) → slice_get olds i ≡ Some x → slice_get news i ≡ Some x
+none_strays n [] news e i x at = absurd (cc)
+none_strays n (y ∷ ys) [] e i x at = absurd (cc)
+none_strays n (y ∷ ys) (z ∷ zs) e i x at = strays_by n x y z ys zs i (bytes_eq y z) refl (λ f j g. none_strays (n + 1) ys zs f j x g) e at
+
+strays_none : (n : ℕ) (olds news : List (List ℕ)) → ((i : ℕ) (x : List ℕ) → slice_get olds i ≡ Some x → slice_get news i ≡ Some x) → first_changed n olds news ≡ []
+strays_none n [] news f = refl
+strays_none n (y ∷ ys) [] f = let e = f 0 y refl in absurd (cc)
+strays_none n (y ∷ ys) (z ∷ zs) f =
+    let e = f 0 y refl in
+    let same : z ≡ y = cc in
+    let here : bytes_eq y z ≡ true = ap (bytes_eq y) same ∙ exact_bytes.one y in
+    rw here (strays_none (n + 1) ys zs (λ i x at. f (suc i) x at))
+
+sigs : Exact (same_option same_sig)
+sigs = exact_option same_sig exact_sigs
+
+version_ok : (a b c d : ℕ) → (a == b) && nat_le c d ≡ true → (a ≡ b) × (c ≤ d)
+version_ok a b c d e = let r = both (a == b) (nat_le c d) e in let x = r.0 in let y = r.1 in (grind (arith, x), grind (arith, y))
+
+ok_version : (a b c d : ℕ) → a ≡ b → c ≤ d → (a == b) && nat_le c d ≡ true
+ok_version a b c d e le = let x : (a == b) ≡ true = grind (arith, e) in let y : nat_le c d ≡ true = grind (arith, le) in rw x y
+
+if_nothing : (b : Bool) (x : CompatBreach) → (if b then [] else x ∷ []) ≡ [] → b ≡ true
+if_nothing true x e = refl
+if_nothing false x e = absurd (cc)
+
+nothing_if : (b : Bool) (x : CompatBreach) → b ≡ true → (if b then [] else x ∷ []) ≡ []
+nothing_if b x e = rw e refl
+
+-- by the faces of the new alone
+module _ (olds news : List Class) (oo : IsOrdered olds) (on : IsOrdered news) where
+  abbrev O : List Class
+  O = kernel ++ olds
+
+  abbrev N : List Class
+  N = kernel ++ news
+
+  abbrev F : List Class
+  F = kernel ++ map face_only news
+
+  -- what the lists of one class say
+  record ClassKeeps (c : Class) : Type 0 where
+    pub pair : Class
+    pub found_one : class_at F c.key ≡ Some pair
+    pub two : k2 c pair ≡ []
+    pub three : k3 O F c ≡ []
+    pub four : k4 c pair ≡ []
+    pub five : k5 O F c ≡ []
+    pub six : k6 F c ≡ []
+
+  class_keeps : (c : Class) (o : Option Class) → class_at F c.key ≡ o
+      → ◌≡◌ {A = List CompatBreach} (elim o [ None ↦ incompatible 1 c None 0 ∷ [] | Some n ↦ k2 c n ++ (k3 O F c ++ (k4 c n ++ (k5 O F c ++ k6 F c))) ]) [] → ClassKeeps c
+  class_keeps c None f e = absurd (cc)
+  class_keeps c (Some n) f e =
+      let a = none_left (k2 c n) _ e in
+      let b = none_left (k3 O F c) _ a.1 in
+      let d = none_left (k4 c n) _ b.1 in
+      let g = none_left (k5 O F c) (k6 F c) d.1 in
+      record { pair = n; found_one = f; two = a.0; three = b.0; four = d.0; five = g.0; six = g.1 }
+
+  of_face : (n : Class) → Mem n F → (m : Class) × Mem m N × (n ≡ face_only m)
+  of_face n m = map_mem face_only n N m
+
+  module _ (e : flat_map (class_breaks O F) olds ≡ []) where
+    of_class : (c : Class) → Mem c olds → ClassKeeps c
+    of_class c m = class_keeps c (class_at F c.key) refl (flat_at (class_breaks O F) olds c e m)
+
+    -- the class of the new that it is paired with
+    paired : (c : Class) (m : Mem c olds) → (n : Class) × Mem n news × (n.key ≡ c.key) × ((of_class c m).pair ≡ face_only n)
+    paired c m =
+        let k = of_class c m in
+        let f = find_mem (λ (z : Class). same_key z.key c.key) F k.pair k.found_one in
+        let n = of_face k.pair f.0 in
+        let key : n.0.key ≡ c.key = ap (λ (z : Class). z.key) (sym n.2) ∙ exact_keys.two k.pair.key c.key f.1 in
+        elim (mem_split n.0 kernel news n.1) [
+          | inl a ↦ absurd (not_kernels olds oo n.0 c a m key)
+          | inr b ↦ (n.0, b, key, n.2)
+        ]
+
+    pair_is : (c n : Class) → (p : IsPair olds news c n) → (of_class c p.old_one).pair ≡ face_only n
+    pair_is c n p =
+        let q = paired c p.old_one in
+        let x = found news on q.0 c.key (mem_right q.0 kernel news q.1) q.2 in
+        let y = found news on n c.key (mem_right n kernel news p.new_one) p.same in
+        let same : q.0 ≡ n = one q.0 n (class_at N c.key) x y in
+        q.3 ∙ ap face_only same
+      where
+        one : (a b : Class) (o : Option Class) → o ≡ Some a → o ≡ Some b → a ≡ b
+        one a b o f g = cc
+
+    descends_new : (x a : ClassKey) → is_a F x a ≡ true → Descends (hierarchy N) x a
+    descends_new x a t = tested news on x a (sym (is_a_faces N x a) ∙ t)
+
+    pub says_keep : ClassesKeep olds news
+    says_keep = record {
+      classes = λ c m. (let q = paired c m in subst (λ z. Mem z (keys_of news)) q.2 (mem_map (λ (z : Class). z.key) q.0 news q.1));
+      major = λ c n p. (version_ok _ _ _ _ (if_nothing _ _ (subst (λ (z : Class). k2 c z ≡ []) (pair_is c n p) (of_class c p.old_one).two))).0;
+      minor = λ c n p. (version_ok _ _ _ _ (if_nothing _ _ (subst (λ (z : Class). k2 c z ≡ []) (pair_is c n p) (of_class c p.old_one).two))).1;
+      ancestors = λ c a m d. descends_new c.key a (none_fails (is_a F c.key) 0 (ancestors O c.key) (map_nothing _ _ (of_class c m).three) a ((ancestors_are (hierarchy O) (tells olds oo) (falls olds oo) c.key a).1 d));
+      places = λ c n place name p at. none_strays 0 (order_of c) (order_of n) (map_nothing _ _ (subst (λ (z : Class). k4 c z ≡ []) (pair_is c n p) (of_class c p.old_one).four)) place name at;
+      signatures = λ c name m k. sigs.two _ _ (none_fails (λ x. same_option same_sig (signature O c.key x) (signature F c.key x)) 0 (order_of c) (map_nothing _ _ (of_class c m).five) name k) ∙ signature_faces N c.key name;
+      metaclasses = λ c k m is. subst (λ z. Descends (hierarchy N) z k) (meta_faces N c.key) (descends_new (meta F c.key) k
+          (none_fails (is_a F (meta F c.key)) 0 (option_list c.decl.face.metaclass) (map_nothing _ _ (of_class c m).six) k (subst (λ (o : Option ClassKey). Mem k (option_list o)) (sym is) (inl refl))));
+    }
+
+  tests_new : (x a : ClassKey) → Descends (hierarchy N) x a → is_a F x a ≡ true
+  tests_new x a d = is_a_faces N x a ∙ tests news on x a d
+
+  none_breaks : (c n : Class) (o : Option Class) → class_at F c.key ≡ o → o ≡ Some (face_only n) → k2 c (face_only n) ≡ [] → k3 O F c ≡ [] → k4 c (face_only n) ≡ [] → k5 O F c ≡ [] → k6 F c ≡ []
+      → ◌≡◌ {A = List CompatBreach} (elim o [ None ↦ incompatible 1 c None 0 ∷ [] | Some n ↦ k2 c n ++ (k3 O F c ++ (k4 c n ++ (k5 O F c ++ k6 F c))) ]) []
+  none_breaks c n None f e a b d g h = absurd (cc)
+  none_breaks c n (Some z) f e a b d g h =
+      let is : face_only n ≡ z = cc in
+      both_none (k2 c z) _ (subst (λ (y : Class). k2 c y ≡ []) is a) (both_none (k3 O F c) _ b (both_none (k4 c z) _ (subst (λ (y : Class). k4 c y ≡ []) is d) (both_none (k5 O F c) (k6 F c) g h)))
+
+  pub keep_says : ClassesKeep olds news → flat_map (class_breaks O F) olds ≡ []
+  keep_says k = flat_all (class_breaks O F) olds (λ c m.
+      let q = map_mem (λ (z : Class). z.key) c.key news (k.classes c m) in
+      let n = q.0 in
+      let p : IsPair olds news c n = record { old_one = m; new_one = q.1; same = sym q.2 } in
+      let here : class_at F c.key ≡ Some (face_only n) = faces_at N c.key ∙ ap (λ (o : Option Class). elim o [ None ↦ None | Some z ↦ Some (face_only z) ]) (found news on n c.key (mem_right n kernel news q.1) (sym q.2)) in
+      none_breaks c n (class_at F c.key) refl here
+      (nothing_if _ _ (ok_version _ _ _ _ (k.major c n p) (k.minor c n p)))
+      (ap (map _) (fails_none (is_a F c.key) 0 (ancestors O c.key) (λ x x_in. tests_new c.key x (k.ancestors c x m ((ancestors_are (hierarchy O) (tells olds oo) (falls olds oo) c.key x).0 x_in)))))
+      (ap (map _) (strays_none 0 (order_of c) (order_of n) (λ i x at. k.places c n i x p at)))
+      (ap (map _) (fails_none (λ x. same_option same_sig (signature O c.key x) (signature F c.key x)) 0 (order_of c)
+      (λ x x_in. ap (same_option same_sig (signature O c.key x)) (signature_faces N c.key x ∙ sym (k.signatures c x m x_in)) ∙ sigs.one (signature O c.key x))))
+      (ap (map _) (fails_none (is_a F (meta F c.key)) 0 (option_list c.decl.face.metaclass)
+      (λ x x_in. tests_new (meta F c.key) x (subst (λ z. Descends (hierarchy N) z x) (sym (meta_faces N c.key)) (k.metaclasses c x m (option_mem c.decl.face.metaclass x x_in)))))))

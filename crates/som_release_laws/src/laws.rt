@@ -1,0 +1,106 @@
+//! Laws of releases: which clients of an older release bind to a newer one, and can be loaded with it.
+
+ghost use Rattle.som_model_laws.specs.Keeping.{ClassesKeep};
+ghost use Rattle.som_model.specs.Binds.{Binds};
+ghost use Rattle.som_model.specs.Class.{Class, interface_of};
+ghost use Rattle.som_model.specs.Classes.{client_classes, interface_classes, library_classes};
+ghost use Rattle.som_model.specs.Compatible.{Accepted, Compatible};
+ghost use Rattle.som_model.specs.Conforming.{ProgramOk, ReleaseOk, faces_breach};
+ghost use Rattle.som_model.specs.Counts.{ClassCounted, block_counted};
+ghost use Rattle.som_model.specs.Kernel.{kernel};
+ghost use Rattle.som_model.specs.Lists.{Mem};
+ghost use Rattle.som_model.specs.Loads.{FacesLoad, IsOrdered, Loads};
+ghost use Rattle.som_model.specs.Owner.{entry_at, owner};
+ghost use Rattle.som_model.specs.declared.key.MethodRef.{MethodRef};
+ghost use Rattle.som_model.specs.declared.limits.TheConstants.{MAX_LAID_CLASSES};
+ghost use Rattle.som_model.specs.declared.program.ClientProgram.{ClientProgram};
+ghost use Rattle.som_model.specs.declared.program.Interface.{Interface};
+ghost use Rattle.som_model.specs.declared.program.Release.{Release};
+ghost use Rattle.som_model.specs.declared.syntax.Block.{Block};
+ghost use Rattle.som_release_laws.specs.Growing.{Grows};
+ghost use Rattle.som_release_laws.specs.Releasing.{HaveParents, IsCompiled, IsReleased};
+ghost use Rattle.std.specs.Prelude.{◌≡◌, ◌≤◌, [], ◌∷◌, ◌++◌, List as Seq, IsSome, None, length, true};
+
+/// Classes have among those that stand after them what they have alone.
+pub fn growing_law()
+    ensures { (xs ys : Seq Class) → IsOrdered (xs ++ ys) → Grows (kernel ++ xs) (kernel ++ (xs ++ ys)) }
+{}
+
+/// Classes that stand above an older release have above a newer one, which keeps what that promised, all
+/// that they had, and their faces can stand together with it.
+pub fn exchange_law()
+    ensures grows { (olds news own : Seq Class) → FacesLoad (olds ++ own) → FacesLoad news → ClassesKeep olds news →
+        ((c d : Class) → Mem c news → Mem d own → c.key ≡ d.key → ⊥) →
+        Grows (kernel ++ (olds ++ own)) (kernel ++ (news ++ own)) }
+    ensures faces { (olds news own : Seq Class) → FacesLoad (olds ++ own) → FacesLoad news → ClassesKeep olds news →
+        ((c d : Class) → Mem c news → Mem d own → c.key ≡ d.key → ⊥) →
+        FacesLoad (news ++ own) }
+{}
+
+/// Classes and a main that were compiled against an older release can be loaded with a newer one that keeps
+/// what it promised: overrides and selects are of methods of proper ancestors and of different ones,
+/// accessors fit, and all bodies are well typed where the type of a class object is its metaclass.
+pub fn loading_law()
+    ensures { (olds news own : Seq Class) (main : Block) →
+        IsCompiled olds own main → IsReleased news → ClassesKeep olds news →
+        ((c d : Class) → Mem c news → Mem d own → c.key ≡ d.key → ⊥) →
+        length (news ++ own) ≤ MAX_LAID_CLASSES →
+        ((c : Class) → Mem c (news ++ own) → ClassCounted c.decl) → block_counted main ≡ true →
+        Loads (news ++ own) main }
+{}
+
+/// A client program that was compiled against an older release binds to a newer one that keeps what it
+/// promised: the classes that it names are there, the methods stand at the slots that it was compiled to,
+/// and its bodies are well typed.
+pub fn binding_law()
+    ensures { (p : ClientProgram) (r : Release) →
+        IsCompiled (interface_classes p.base) (client_classes p) p.main → IsReleased (library_classes r) →
+        ClassesKeep (interface_classes p.base) (library_classes r) → Binds p r }
+{}
+
+/// Compatibility goes along: what an interface keeps of one before, a later one that is compatible with it
+/// keeps too; and each is compatible with itself. No count is asked of any.
+pub fn compatible_along_law()
+    ensures along { (old mid new : Interface) → faces_breach (interface_classes old) ≡ None →
+        faces_breach (interface_classes mid) ≡ None → faces_breach (interface_classes new) ≡ None →
+        Compatible old mid → Compatible mid new → Compatible old new }
+    ensures itself { (i : Interface) → faces_breach (interface_classes i) ≡ None → Compatible i i }
+{}
+
+/// A client program that conforms, and whose interface a newer release is compatible with, binds to it, and
+/// can be loaded with it. Each class of the program, of its interface and of the release has a parent, which
+/// the counts of images ask.
+pub fn compatible_client_law()
+    ensures { (p : ClientProgram) (r : Release) → ProgramOk p → ReleaseOk r →
+        HaveParents (interface_classes p.base ++ client_classes p) → HaveParents (library_classes r) →
+        Compatible p.base (interface_of r) →
+        Binds p r × (
+        length (library_classes r ++ client_classes p) ≤ MAX_LAID_CLASSES →
+        ((c : Class) → Mem c (library_classes r ++ client_classes p) → ClassCounted c.decl) →
+        block_counted p.main ≡ true →
+        Loads (library_classes r ++ client_classes p) p.main) }
+{}
+
+/// Where each release of a list was accepted against the one before, a client program that was compiled
+/// against any of them binds to the last, and can be loaded with it.
+pub fn accepted_law()
+    ensures { (rs : Seq Release) (last r : Release) (p : ClientProgram) → Accepted (rs ++ last ∷ []) →
+        Mem r (rs ++ last ∷ []) → p.base ≡ interface_of r → ProgramOk p →
+        HaveParents (interface_classes p.base ++ client_classes p) → HaveParents (library_classes last) →
+        Binds p last × (
+        length (library_classes last ++ client_classes p) ≤ MAX_LAID_CLASSES →
+        ((c : Class) → Mem c (library_classes last ++ client_classes p) → ClassCounted c.decl) →
+        block_counted p.main ≡ true →
+        Loads (library_classes last ++ client_classes p) p.main) }
+{}
+
+/// Two references that had one owner have one owner among the newer release's classes.
+pub fn one_owner_law()
+    ensures { (olds news own : Seq Class) (main : Block) →
+        IsCompiled olds own main → IsReleased news → ClassesKeep olds news →
+        ((c d : Class) → Mem c news → Mem d own → c.key ≡ d.key → ⊥) → (r s : MethodRef) →
+        IsSome (entry_at (kernel ++ (olds ++ own)) r.class r.name) →
+        IsSome (entry_at (kernel ++ (olds ++ own)) s.class s.name) →
+        owner (kernel ++ (olds ++ own)) r ≡ owner (kernel ++ (olds ++ own)) s →
+        owner (kernel ++ (news ++ own)) r ≡ owner (kernel ++ (news ++ own)) s }
+{}

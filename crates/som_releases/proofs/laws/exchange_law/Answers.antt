@@ -1,9 +1,0 @@
-use Rattle.som_releases.proofs.Exchange.{exchange_grows}
-use Rattle.som_releases.proofs.Together.{faces_together}
-use Rattle.som_releases.proofs.laws.exchange_law.Goals as goal
-
-pub returns-clause-grows : goal.returns-clause-grows
-returns-clause-grows c = λ olds news own fa fn keep apart. exchange_grows olds news own fa.ordered fn.ordered keep apart
-
-pub returns-clause-faces : goal.returns-clause-faces
-returns-clause-faces c = faces_together

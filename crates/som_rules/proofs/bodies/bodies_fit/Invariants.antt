@@ -1,8 +1,0 @@
-use Rattle.std.proofs.Common.{◌≡◌, drop, flat_map}
-use Rattle.som_model.specs.Rules.{s14}
-use Rattle.som_model.specs.Lists.{first}
-use Rattle.som_ancestry.specs.Modules.{classes_of}
-use Rattle.som_rules.proofs.bodies.bodies_fit.Given as goal
-
-abbrev pub invariant-loop-class : goal.invariant-loop-class
-invariant-loop-class l = first (flat_map (s14) (classes_of (drop l.class-index l.classes))) ≡ first (flat_map (s14) (classes_of l.classes))

@@ -1,9 +1,0 @@
-use Rattle.std.proofs.Common.{List, ap, ◌∙◌, map}
-use Rattle.som_model.specs.declared.class.Variable.{Variable}
-use Rattle.som_order.specs.Names.{texts}
-use Rattle.som_ancestry.specs.Modules.{class_of}
-use Rattle.som_ancestry.proofs.Doubled.{doubles_tell}
-use Rattle.som_rules.proofs.members.own_variables_differ.Goals as goal
-
-pub returns : goal.returns
-returns c = doubles_tell 7 (class_of c.args.class.now) _ _ c.each_once.result (ap texts c.deref.ensures.value ∙ c.in_ok-names.ensures ∙ ap (λ (vs : List Variable). map (λ v. v.name) vs) c.as_slice.ensures) c.each_once.ensures

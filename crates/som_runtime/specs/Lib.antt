@@ -1,4 +1,0 @@
-pub mod Asked
-pub mod Holding
-pub mod Named
-pub mod Tests

@@ -1,5 +1,0 @@
-use Rattle.som_sample.proofs.Classes.{kernel_is}
-use Rattle.som_sample.proofs.sample.SampleAncestry.is_kernel.Goals as goal
-
-pub returns : goal.returns
-returns c = rw c.number.ensures (kernel_is c.args.class c.requires)

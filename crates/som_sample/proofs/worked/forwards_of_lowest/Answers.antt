@@ -1,6 +1,0 @@
-use Rattle.std.proofs.Common.{◌∙◌}
-use Rattle.som_sample.proofs.Choices.{forwards_lowest, if_ok}
-use Rattle.som_sample.proofs.worked.forwards_of_lowest.Goals as goal
-
-pub returns : goal.returns
-returns c = if_ok c.forwards.result _ _ (λ tokens is. is ∙ forwards_lowest) (rw c.new.ensures at c.forwards.ensures.methods)

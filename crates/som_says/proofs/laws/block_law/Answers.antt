@@ -1,5 +1,0 @@
-use Rattle.som_says.proofs.StatementLaws.{text_says}
-use Rattle.som_says.proofs.laws.block_law.Goals as goal
-
-pub returns : goal.returns
-returns c = λ a at scope b block h. text_says a at b scope block h

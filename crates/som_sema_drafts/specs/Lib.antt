@@ -1,0 +1,4 @@
+pub mod Items
+pub mod Drafts
+pub mod Demands
+pub mod Refusals

@@ -1,0 +1,3 @@
+pub mod Introducers
+pub mod Ranking
+pub mod Noted

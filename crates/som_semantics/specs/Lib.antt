@@ -1,0 +1,13 @@
+pub mod World
+pub mod State
+pub mod Runs
+pub mod Acts
+pub mod Values
+pub mod Calls
+pub mod Expressions
+pub mod Statements
+pub mod Invoked
+pub mod Means
+pub mod RunText
+pub mod Fuel
+pub mod Told

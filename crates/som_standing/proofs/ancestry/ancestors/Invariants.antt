@@ -1,5 +1,0 @@
-use Rattle.som_laws.specs.Rows.{AreAncestors}
-use Rattle.som_standing.proofs.ancestry.ancestors.Given as goal
-
-abbrev pub invariant-loop-place : goal.invariant-loop-place
-invariant-loop-place l = AreAncestors l.rows l.place l.all.items

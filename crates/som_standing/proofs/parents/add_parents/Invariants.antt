@@ -1,6 +1,0 @@
-use Rattle.som_ancestry.specs.Modules.{classes_of}
-use Rattle.som_ancestry.proofs.Rows.{RowsSoFar}
-use Rattle.som_standing.proofs.parents.add_parents.Given as goal
-
-abbrev pub invariant-loop-class : goal.invariant-loop-class
-invariant-loop-class l = RowsSoFar (classes_of l.classes) l.class-index l.rows.items

@@ -1,7 +1,0 @@
-use Rattle.som_ancestry.specs.Modules.{classes_of}
-use Rattle.som_ancestry.specs.Places.{with_kernel}
-use Rattle.som_ancestry.proofs.Rows.{RowSoFar}
-use Rattle.som_standing.proofs.parents.row_of.Given as goal
-
-abbrev pub invariant-loop-parent : goal.invariant-loop-parent
-invariant-loop-parent l = RowSoFar (with_kernel (classes_of l.classes)) l.place l.parents l.parent-index l.row

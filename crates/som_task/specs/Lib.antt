@@ -1,4 +1,0 @@
-pub mod Settings
-pub mod Standing
-pub mod Own
-pub mod Stored

@@ -1,9 +1,0 @@
-use Rattle.std.proofs.Common.{sym, ap, ◌∙◌}
-use Rattle.som_model.specs.ClassNames.{class_name}
-use Rattle.som_telling.specs.Choices.{shown_by}
-use Rattle.som_telling.proofs.Names.{named_is}
-use Rattle.som_telling.proofs.shown.is_shown.Goals as goal
-
-pub returns-in-Named : goal.returns-in-Named
-returns-in-Named g c =
-    c.answer.ensures ∙ ap (shown_by c.args.filter.now.choice) (sym (ap class_name c.in-Named.ensures ∙ named_is c.in-Named.module c.in-Named.name.now))

@@ -1,0 +1,59 @@
+//! The kernel of two images, which is made and dropped here alone.
+
+use crate::queries::{Query, answer, refuse};
+use crate::query_fault::QueryFault;
+use som_classmgr::{Kernel, LinkFault, Linked};
+use som_link_limits::counted_law;
+use som_model::List;
+use std::alloc::Global;
+use std::fs;
+use std::rt::Files;
+
+fn image<R: Files + AllocGlobal>(rt: &R, path: &str) -> Result<List<u8>, QueryFault> {
+    Ok(List::from_vec(fs::read(rt, path)?))
+}
+
+// What linking the client and the library that two images spell comes to.
+fn link(
+    alloc: Global,
+    library: &List<u8>,
+    client: &List<u8>,
+) -> Result<Result<Kernel<Linked>, LinkFault>, QueryFault> {
+    counted_law();
+    let library = som_libimage::decode(alloc, library)?;
+    let client = som_cliimage::decode(alloc, client)?;
+    Ok(Kernel::new()?.link(alloc, &library, &client))
+}
+
+fn query_kernel(
+    rt: &HostRuntime,
+    kernel: Kernel<Linked>,
+    query: &Query<'_>,
+) -> Result<(), QueryFault> {
+    let mut kernel = kernel;
+    answer(rt, &mut kernel, query)
+}
+
+fn query_images(
+    rt: &HostRuntime,
+    library: &List<u8>,
+    client: &List<u8>,
+    query: &Query<'_>,
+) -> Result<(), QueryFault> {
+    match link(rt.alloc(), library, client)? {
+        Ok(kernel) => query_kernel(rt, kernel, query),
+        Err(fault) => refuse(rt, &fault, query),
+    }
+}
+
+/// Links a client with a library, whose images two files have, and does what is asked of their kernel.
+pub fn query_files(
+    rt: &HostRuntime,
+    client: &str,
+    library: &str,
+    query: &Query<'_>,
+) -> Result<(), QueryFault> {
+    let client = image(rt, client)?;
+    let library = image(rt, library)?;
+    query_images(rt, &library, &client, query)
+}

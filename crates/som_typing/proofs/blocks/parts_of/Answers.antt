@@ -1,9 +1,0 @@
-use Rattle.std.proofs.lemmas.Result.{err_from_is_err_and}
-use Rattle.som_ancestry.specs.Modules.{classes_of}
-use Rattle.som_ancestry.proofs.Unbroken.{names_apart, no_breach}
-use Rattle.som_typing.proofs.blocks.parts_of.Goals as goal
-
-pub returns-in_err-table-clause-fault : goal.returns-in_err-table-clause-fault
-returns-in_err-table-clause-fault c =
-    let p = err_from_is_err_and c.from_residual-in_err-table.result c.from_residual-in_err-table.ensures.1 in
-    rw (p.1, p.2) (no_breach _ c.in_err-table.field-0.0 (names_apart (classes_of c.args.classes.now) c.requires) c.in_err-table.ensures.tells)

@@ -1,4 +1,0 @@
-pub mod Within
-pub mod Values
-pub mod Steps
-pub mod More

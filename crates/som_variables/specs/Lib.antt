@@ -1,4 +1,0 @@
-pub mod Acting
-pub mod Cells
-pub mod Objects
-pub mod Statics

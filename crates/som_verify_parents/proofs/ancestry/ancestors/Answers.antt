@@ -1,0 +1,14 @@
+use Rattle.std.proofs.Common.{arith, ap, length}
+use Rattle.som_model_laws.proofs.Listed.{known_low, next_of}
+use Rattle.som_verify_parents.proofs.ancestry.ancestors.Goals as goal
+
+pub ancestors_of-requires-clause-row : goal.ancestors_of-requires-clause-row
+ancestors_of-requires-clause-row c = λ p m.
+    let h = c.requires c.loop-place.place p (rw c.item.ensures at m) in
+    omega (arith, h, c.loop-place.invariant.long, ap length c.deref.ensures.value)
+
+pub ancestors_of-requires-clause-low : goal.ancestors_of-requires-clause-low
+ancestors_of-requires-clause-low c = λ p a m. known_low c.args.rows.now c.loop-place.place c.loop-place.all.items c.requires c.loop-place.invariant p a (rw c.deref.ensures.value at m)
+
+pub loop-place-preserved : goal.loop-place-preserved
+loop-place-preserved c = rw c.in_ok-push.ensures.items (next_of c.args.rows.now c.loop-place.place c.loop-place.all.items _ c.item.result.now c.in_ok-list.list c.requires c.loop-place.invariant c.item.ensures c.deref.ensures.value c.in_ok-list.ensures)

@@ -1,0 +1,86 @@
+//! Computes the ancestors of all classes by places, each list from the lists of the class's parents.
+
+ghost use Rattle.som_model.specs.Lists.{Mem, joined, some};
+ghost use Rattle.som_model_laws.specs.Once.{add_new, adds};
+ghost use Rattle.som_model_laws.specs.Rows.{AreAncestors, AreLow, AreMarks};
+ghost use Rattle.std.specs.Prelude.{◌≡◌, ◌==◌, ℕ, ◌+◌, ◌<◌, ◌≤◌, ◌∷◌, [], map, length, slice_index_or, IfOk, OnOk};
+
+use som_model::{List, NoMemory};
+use som_verify_classes::item;
+use std::alloc::Global;
+
+/// The ancestors of each class, by places. Each list is made once, from those of the class's parents.
+pub fn ancestors(alloc: Global, rows: &[List<usize>]) -> Result<Vec<List<usize>>, NoMemory>
+    requires { AreLow rows.now }
+    ensures { IfOk result (λ all. AreAncestors rows.now (length rows.now) all.items) }
+{
+    let mut all = Vec::new(alloc);
+    for place in 0..rows.len() {
+        let list = ancestors_of(alloc, &all, item(rows, place), place)?;
+        all.push(list)?;
+    }
+    Ok(all)
+}
+
+// The class, and then the ancestors of its parents, each once.
+fn ancestors_of(
+    alloc: Global,
+    known: &[List<usize>],
+    row: &[usize],
+    place: usize,
+) -> Result<List<usize>, NoMemory>
+    requires place { length known.now ≡ place }
+    requires row { (p : ℕ) → Mem p row.now → p < length known.now }
+    requires low { (p a : ℕ) → Mem a (slice_index_or known.now p []) → a ≤ p }
+    ensures { IfOk result (λ list. list ≡ adds ◌==◌ [] (place ∷ joined (map (λ p. slice_index_or known.now p []) row.now))) }
+{
+    let mut list = List::new(alloc);
+    let mut marks = Vec::new(alloc);
+    marks.resize(known.len() + 1, false)?;
+    note(&mut list, &mut marks, place)?;
+    note_parents(&mut list, &mut marks, known, row)?;
+    Ok(list)
+}
+
+fn note_parents(
+    list: &mut List<usize>,
+    marks: &mut [bool],
+    known: &[List<usize>],
+    row: &[usize],
+) -> Result<(), NoMemory>
+    requires row { (p : ℕ) → Mem p row.now → p < length known.now }
+    requires low { (p a : ℕ) → Mem a (slice_index_or known.now p []) → a ≤ p }
+    requires long { length marks.old ≡ length known.now + 1 }
+    requires marks { AreMarks marks.old list.old }
+    ensures { OnOk result (list.new ≡ adds ◌==◌ list.old (joined (map (λ p. slice_index_or known.now p []) row.now))) }
+{
+    for parent in row {
+        note_all(list, marks, item(known, *parent))?;
+    }
+    Ok(())
+}
+
+fn note_all(list: &mut List<usize>, marks: &mut [bool], others: &[usize]) -> Result<(), NoMemory>
+    requires others { (a : ℕ) → Mem a others.now → a < length marks.old }
+    requires marks { AreMarks marks.old list.old }
+    ensures list { OnOk result (list.new ≡ adds ◌==◌ list.old others.now) }
+    ensures marks { OnOk result (AreMarks marks.new list.new) }
+{
+    for other in others {
+        note(list, marks, *other)?;
+    }
+    Ok(())
+}
+
+fn note(list: &mut List<usize>, marks: &mut [bool], class: usize) -> Result<(), NoMemory>
+    requires class { class < length marks.old }
+    requires marks { AreMarks marks.old list.old }
+    ensures list { OnOk result (list.new ≡ add_new ◌==◌ list.old class) }
+    ensures marks { OnOk result (AreMarks marks.new list.new) }
+{
+    if !marks[class] {
+        list.push(class)?;
+        marks[class] = true;
+    }
+    Ok(())
+}
