@@ -6,7 +6,7 @@ HELLO = examples/hello/hello
 EXAMPLES = zoo shop document plugin
 TABLE = crates/som_test_tables/data/try.rows
 
-.PHONY: try table hello examples test planted bench
+.PHONY: try table hello examples test planted budget bench
 
 # the promise, with what each command prints: by the program where it is built, and else by a run of the same commands with no
 # proof, which tells where what comes differs
@@ -20,12 +20,12 @@ table:
 	cd crates/som_test_tables && rt try --steps 1 --seconds 300 --data fixtures.rows=data/fixtures.rows --data table.rows=$(abspath $(TABLE)) -- fixtures.rows table.rows
 	@echo "# 0 differences says that each command printed what the table has. The line on an interpreter can be passed over."
 
-# the program: `rt run` first proves what isn't proved yet
+# the program: proves what isn't proved yet, crates side by side, each once those below it are; `make test` takes these proofs
 $(SOM): $(shell find crates -name out -prune -o -name '*.rt' -print -o -name '*.antt' -print)
-	cd crates/som && rt run -- show data/hello.img
+	tools/build
 
-# compiles the first two images from their texts, looks whether they are those that stand byte by byte in docs/IMAGES.md, and
-# runs them
+# builds the program, compiles the first two images from their texts, looks whether they are those that stand byte by byte in
+# docs/IMAGES.md, and runs them
 hello: $(SOM)
 	$(SOM) library $(OUT)/hello.img $(HELLO).idl $(HELLO).bod
 	$(SOM) client $(OUT)/hello.cli $(OUT)/hello.img $(HELLO).main
@@ -45,6 +45,11 @@ test:
 # is told at the end: make planted NAMES="som_hooks som_proxy"
 planted:
 	@tools/planted $(NAMES)
+
+# the gate from nothing, and how long each proof, test and edit takes, for docs/BUDGET.md; what it says is kept in LOG, which stands
+# outside of out/, since the gate clears that
+budget:
+	tools/budget --run $(or $(LOG),/tmp/budget.log)
 
 # how long the commands take, as a table for docs/PERFORMANCE.md
 bench: $(SOM)
