@@ -6,7 +6,7 @@ HELLO = examples/hello/hello
 EXAMPLES = zoo shop document plugin
 TABLE = crates/som_test_tables/data/try.rows
 
-.PHONY: try table hello examples test planted budget bench
+.PHONY: try table hello examples test planted starve budget bench
 
 # the promise, with what each command prints: by the program where it is built, and else by a run of the same commands with no
 # proof, which tells where what comes differs
@@ -50,6 +50,11 @@ planted:
 # outside of out/, since the gate clears that
 budget:
 	tools/budget --run $(or $(LOG),/tmp/budget.log)
+
+# refuses each allocation of each command of the examples in turn, and looks what it then tells and leaves; $(CC) compiles what refuses
+starve: $(SOM)
+	$(CC) -shared -fPIC -O2 -o $(OUT)/starve.so tools/starve.c
+	tools/starve $(SOM) $(OUT)/starve.so
 
 # how long the commands take, as a table for docs/PERFORMANCE.md
 bench: $(SOM)

@@ -6,12 +6,12 @@ use som_model::NoMemory;
 use som_tables::ClassNo;
 use std::alloc::Global;
 
-// Makes all classes, and answers how many that are.
-fn make_all(alloc: Global, linked: &mut Kernel<Linked>) -> Result<u32, NoMemory> {
+// Makes all classes.
+fn make_all(alloc: Global, linked: &mut Kernel<Linked>) -> Result<(), NoMemory> {
     for number in 0..linked.classes().count() {
         linked.reach(alloc, ClassNo::new(number))?;
     }
-    Ok(linked.made())
+    Ok(())
 }
 
 /// Tells how many classes have numbers.
@@ -20,10 +20,15 @@ pub fn tell_numbered(rt: &HostRuntime, kernel: &Kernel<Linked>) -> Result<(), Qu
     Ok(())
 }
 
-/// Tells that, makes all of them, one after the other, and tells how many are made.
-pub fn tell_made(rt: &HostRuntime, kernel: &mut Kernel<Linked>) -> Result<(), QueryFault> {
-    tell_numbered(rt, &*kernel)?;
-    let made = make_all(rt.alloc(), kernel)?;
-    println!(rt; "made {made}")?;
+/// Tells how many classes are made.
+pub fn tell_made(rt: &HostRuntime, kernel: &Kernel<Linked>) -> Result<(), QueryFault> {
+    println!(rt; "made {}", kernel.made())?;
     Ok(())
+}
+
+/// Tells how many have numbers, makes all of them, one after the other, and tells how many are made.
+pub fn tell_all(rt: &HostRuntime, kernel: &mut Kernel<Linked>) -> Result<(), QueryFault> {
+    tell_numbered(rt, &*kernel)?;
+    make_all(rt.alloc(), kernel)?;
+    tell_made(rt, &*kernel)
 }

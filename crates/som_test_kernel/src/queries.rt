@@ -1,7 +1,7 @@
 //! What may be asked of a linked kernel.
 
 use crate::answers::{tell_answers, tell_refusal};
-use crate::laying::{tell_made, tell_numbered};
+use crate::laying::{tell_all, tell_made, tell_numbered};
 use crate::query_fault::QueryFault;
 use crate::taking::{Turns, take_on};
 use som_classmgr::{Kernel, LinkFault, Linked};
@@ -15,7 +15,7 @@ pub enum Query<'a> {
     Numbered,
     /// That, and how many are made when all are.
     Made,
-    /// What tasks tell that go on by the units of digits.
+    /// What tasks tell that go on by the units of digits, and how many classes are made then.
     Tasks(Turns, &'a [u8]),
 }
 
@@ -28,8 +28,11 @@ pub fn answer(
     match query {
         Query::Questions(questions) => tell_answers(rt, kernel, questions),
         Query::Numbered => tell_numbered(rt, kernel),
-        Query::Made => tell_made(rt, kernel),
-        Query::Tasks(turns, digits) => Ok(take_on(rt, *turns, kernel, digits)?),
+        Query::Made => tell_all(rt, kernel),
+        Query::Tasks(turns, digits) => {
+            take_on(rt, *turns, kernel, digits)?;
+            tell_made(rt, &*kernel)
+        }
     }
 }
 
