@@ -4,7 +4,7 @@ ghost use Rattle.std.specs.Prelude.{◌≡◌};
 
 use som_model::List;
 
-/// A task as its user holds it, around the state that is the Task of `som_task`. It can be gone on with as long as it is
+/// A task as its user holds it, around the state that is the Task of `som_interp_state`. It can be gone on with as long as it is
 /// live.
 #[derive(Drop)]
 pub struct Task {

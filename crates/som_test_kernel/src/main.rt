@@ -1,4 +1,4 @@
-//! Asks linked kernels, lets their tasks go on by units, and makes their classes: `som_queries WORD..`, where a word is `ask:FILE`,
+//! Asks linked kernels, lets their tasks go on by units, and makes their classes: `som_test_kernel WORD..`, where a word is `ask:FILE`,
 //! `lay:CLIENT:LIBRARY` or `make:CLIENT:LIBRARY`, or `alone`, `beside` or `fuels` before `:CLIENT:LIBRARY:DIGITS`.
 #![tactic(auto)]
 
