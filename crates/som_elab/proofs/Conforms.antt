@@ -45,7 +45,7 @@ use Rattle.som_elab_body.specs.Statements.{elaborated_block}
 use Rattle.som_elab_methods.specs.Bodies.{bodies_breach, text_s13, text_s14}
 use Rattle.som_elab.specs.Elaboration.{classes_over, drafts_over, among_over, classes_passed, elaborated_classes, elaborated_program, elaborated_release, nothing_before}
 use Rattle.som_elab.specs.Blocks.{Refusal, elaborated_class, elaborated_each, elaborated_main, entry_bodies, keeping, obeying, override_blocks, with_blocks}
-use Rattle.som_elab.proofs.ClassBodies.{ClassStands, class_stands, methods_kept, refused_ok, same_but_bodies}
+use Rattle.som_elab.proofs.BodiesOfClasses.{ClassStands, class_stands, methods_kept, refused_ok, same_but_bodies}
 use Rattle.som_elab.proofs.Declared.{drafts_are, draft_classes_are, own}
 use Rattle.som_elab.proofs.Plain.{facts_other, plain, selecting, sig_other}
 use Rattle.som_elab.proofs.PlainRules.{classes_other, selects_other, types_other}

@@ -11,6 +11,6 @@ pub mod Plain
 pub mod PlainRules
 pub mod Declared
 pub mod Signatures
-pub mod ClassBodies
+pub mod BodiesOfClasses
 pub mod Conforms
 pub mod Apart

@@ -50,7 +50,7 @@ use Rattle.som_elab_methods.specs.Accessors.{Access, accessor_body, attribute_ac
 use Rattle.som_elab.specs.Elaboration.{classes_over, drafts_over, among_over}
 use Rattle.som_elab_methods.specs.Bodies.{entry_has_one, has_one, operations, text_s13, text_s14, texts_for}
 use Rattle.som_elab.specs.Blocks.{elaborated_class, entry_bodies, entry_body, override_block, override_blocks, text_block, with_blocks}
-use Rattle.som_elab.proofs.ClassBodies.{kinds_are, refused_ok}
+use Rattle.som_elab.proofs.BodiesOfClasses.{kinds_are, refused_ok}
 use Rattle.som_elab.proofs.Declared.{operation_there, own, variables_apart}
 use Rattle.som_elab_methods.proofs.Fitting.{accessed, at_place, introduced_there, made, variable_made}
 use Rattle.som_elab.proofs.Signatures.{as_many, body_signed, draft_there, is_for, operation_signed, override_has_sig}

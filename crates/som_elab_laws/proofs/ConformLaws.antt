@@ -41,7 +41,7 @@ use Rattle.som_elab.specs.Elaboration.{classes_over, drafts_over, among_over, cl
 use Rattle.som_elab.specs.Blocks.{Refusal, elaborated_class, elaborated_each, elaborated_main, entry_bodies, entry_body, keeping, obeying, override_block, override_blocks, refused_at, text_block, with_blocks}
 use Rattle.som_elab_methods.specs.Limits.{Passed, limit_passed}
 use Rattle.som_elab.proofs.Apart.{kept, obeyed}
-use Rattle.som_elab.proofs.ClassBodies.{refused_ok}
+use Rattle.som_elab.proofs.BodiesOfClasses.{refused_ok}
 use Rattle.som_elab.proofs.Conforms.{declarations_hold}
 use Rattle.som_elab.proofs.Declared.{drafts_are, operation_there, own}
 use Rattle.som_elab_methods.proofs.LimitLaws.{is_at_most, limits_law, says_at_most}

@@ -25,7 +25,7 @@ use Rattle.som_elab.specs.Elaboration.{classes_over, drafts_over, among_over, cl
 use Rattle.som_elab.specs.Blocks.{elaborated_class, elaborated_each, elaborated_main, keeping, obeying}
 use Rattle.som_elab_methods.specs.Limits.{limit_passed}
 use Rattle.som_elab.proofs.Apart.{kept, obeyed}
-use Rattle.som_elab.proofs.ClassBodies.{refused_ok}
+use Rattle.som_elab.proofs.BodiesOfClasses.{refused_ok}
 use Rattle.som_elab.proofs.Conforms.{declarations_hold}
 use Rattle.som_elab.proofs.Declared.{drafts_are, own}
 use Rattle.som_elab_laws.specs.Modules.{ClassSays, ClassesSay, ProgramSays, ReleaseSays, no_class, one_class}
