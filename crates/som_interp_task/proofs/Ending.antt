@@ -9,13 +9,14 @@ use Rattle.som_model.specs.declared.program.Fault.{Fault}
 use Rattle.som_model.specs.declared.syntax.Block.{Block}
 use Rattle.som_semantics.specs.Means.{means_in}
 use Rattle.som_semantics.specs.State as state
-use Rattle.som_semantics.specs.State.{Event, State}
+use Rattle.som_semantics.specs.State.{Event, Heap, State}
 use Rattle.som_semantics.specs.Runs.{Ran, Goes, Ends, Faulted, Spent, end_of, with_more}
 use Rattle.som_semantics.specs.RunText.{event_lines, events_lines, with_prefix}
 use Rattle.som_io.specs.Outside.{ShowsAll, ShowsFront}
 use Rattle.som_io.proofs.ShownLaws.{front_all, front_both, front_longer, shows_both}
 use Rattle.som_trace.specs.declared.running.Place.{Place}
 use Rattle.som_trace.specs.Told.{end_text}
+use Rattle.som_interp_state.specs.Holding.{Holding}
 use Rattle.som_interp_state.specs.Own.{IsOwnPlace}
 use Rattle.som_interp_state.specs.Settings.{Linked}
 use Rattle.som_interp_state.specs.Standing.{place_shown}
@@ -87,6 +88,13 @@ module _ (old : Scene) (units : ℕ) (st : Stands old) where
     many_same : (r : Ran (Unit {0})) → goal old units ≡ r → length (end_of r).heap.objects ≡ length new.task.serials → length new.task.serials ≡ length (end_of (goal old units)).heap.objects
     many_same r e m = sym m ∙ ap (λ (z : Ran (Unit {0})). length (end_of z).heap.objects) (sym e)
 
+    -- the task holds the objects of a heap
+    abbrev Holds : Heap → Type 0
+    Holds h = Holding new.linked new.made new.task.serials new.objects new.task.statics.items h
+
+    holds_same : (r : Ran (Unit {0})) → goal old units ≡ r → Holds (end_of r).heap → Holds (end_of (goal old units)).heap
+    holds_same r e p = subst (λ (z : Ran (Unit {0})). Holds (end_of z).heap) (sym e) p
+
     made_same : (es : List Event) → Adds es → Makes old.known.classes old.made new.made es → Makes old.known.classes old.made new.made (events_now old units)
     made_same es a m = subst (λ z. Makes old.known.classes old.made new.made z) (sym a) m
 
@@ -111,6 +119,7 @@ module _ (old : Scene) (units : ℕ) (st : Stands old) where
           front = front_all before after _ text;
           stands = tt;
           objects = many_same (Goes (tt {0}) a.then) a.is a.holding.heap.holds.many;
+          holding = holds_same (Goes (tt {0}) a.then) a.is a.holding;
           makes = made_same ran.events added ran.outside.makes;
           keeps_made = ran.outside.keeps_made;
           keeps = ran.outside.keeps;
@@ -165,6 +174,7 @@ module _ (old : Scene) (units : ℕ) (st : Stands old) where
               objects = sym many_now ∙ ap (λ (r : Ran (Unit {0})). length (end_of r).heap.objects) (sym means_now);
             };
             objects = many_same (Ends Spent w.then) w.is many_now;
+            holding = holds_same (Ends Spent w.then) w.is w.stands.at.around.holding;
             makes = made_same ran.events added ran.outside.makes;
             keeps_made = ran.outside.keeps_made;
             keeps = ran.outside.keeps;
@@ -185,10 +195,10 @@ module _ (old : Scene) (units : ℕ) (st : Stands old) where
           (front_longer before after (text_of prefix (events_lines shows ran.events)) (text_of prefix (events_lines shows b.0)) ran.outside.front))
 
       pub sunk_comes : Comes old units shows prefix before after new answers.SinkFailed
-      sunk_comes = record { events = told_first r ran; ended = tt; text = tt; front = front_told; stands = tt; objects = tt; makes = tt; keeps_made = ran.outside.keeps_made; keeps = ran.outside.keeps }
+      sunk_comes = record { events = told_first r ran; ended = tt; text = tt; front = front_told; stands = tt; objects = tt; holding = tt; makes = tt; keeps_made = ran.outside.keeps_made; keeps = ran.outside.keeps }
 
       pub starved_comes : Comes old units shows prefix before after new answers.NoMemory
-      starved_comes = record { events = told_first r ran; ended = tt; text = tt; front = front_told; stands = tt; objects = tt; makes = tt; keeps_made = ran.outside.keeps_made; keeps = ran.outside.keeps }
+      starved_comes = record { events = told_first r ran; ended = tt; text = tt; front = front_told; stands = tt; objects = tt; holding = tt; makes = tt; keeps_made = ran.outside.keeps_made; keeps = ran.outside.keeps }
 
   -- ---- main has a fault
 
@@ -228,14 +238,15 @@ module _ (old : Scene) (units : ℕ) (st : Stands old) where
           front = front_all before after _ text;
           stands = tt;
           objects = many_same shows prefix before after new end x.is x.holding.heap.holds.many;
+          holding = holds_same shows prefix before after new end x.is x.holding;
           makes = made_same shows prefix before after new ran.events added ran.outside.makes;
           keeps_made = ran.outside.keeps_made;
           keeps = ran.outside.keeps;
         }
     fault_comes answers.Going e = absurd e
     fault_comes answers.Done e = absurd e
-    fault_comes answers.SinkFailed e = record { events = told_first shows prefix before told new (Err (stops.Fault f at)) ran; ended = tt; text = tt; front = front_then e; stands = tt; objects = tt; makes = tt; keeps_made = ran.outside.keeps_made; keeps = ran.outside.keeps }
-    fault_comes answers.NoMemory e = record { events = told_first shows prefix before told new (Err (stops.Fault f at)) ran; ended = tt; text = tt; front = front_then e; stands = tt; objects = tt; makes = tt; keeps_made = ran.outside.keeps_made; keeps = ran.outside.keeps }
+    fault_comes answers.SinkFailed e = record { events = told_first shows prefix before told new (Err (stops.Fault f at)) ran; ended = tt; text = tt; front = front_then e; stands = tt; objects = tt; holding = tt; makes = tt; keeps_made = ran.outside.keeps_made; keeps = ran.outside.keeps }
+    fault_comes answers.NoMemory e = record { events = told_first shows prefix before told new (Err (stops.Fault f at)) ran; ended = tt; text = tt; front = front_then e; stands = tt; objects = tt; holding = tt; makes = tt; keeps_made = ran.outside.keeps_made; keeps = ran.outside.keeps }
 
 -- an end by a fault is not that of a main that is over
 pub fault_leaves : (old : Scene) (units left : ℕ) (prefix : List ℕ) (told after : Option (List ℕ)) (f : Fault) (place : state.Place) (a : Advanced) → EndsBy prefix told after f place a → LeavesFuel old units left a

@@ -1,12 +1,13 @@
 -- An advance of a task that was just started is a whole run.
 use Rattle.std.proofs.Common.{◌≡◌, ◌≤◌, ◌+◌, ◌*◌, ℕ, Bool, false, List, [], ◌∷◌, ◌++◌, length, drop, Option, if◌then◌else◌, refl, sym, ap, subst, ◌∙◌, arith, append-nil}
 use Rattle.std.specs.List.{concat}
-use Rattle.som_semantics.specs.State.{Event}
+use Rattle.som_semantics.specs.State.{Event, Heap}
 use Rattle.som_semantics.specs.Runs.{Ran, Goes, Ends, end_of}
 use Rattle.som_semantics.specs.RunText.{call_count, events_lines, run_lines, run_text, with_prefix}
 use Rattle.som_model.specs.declared.program.Fault.{Fault}
 use Rattle.som_trace.specs.declared.running.Running.{Running}
 use Rattle.som_io.specs.Outside.{ShowsAll, ShowsFront}
+use Rattle.som_interp_state.specs.Holding.{Holding}
 use Rattle.som_interp_loop.specs.Moving.{Makes}
 use Rattle.som_interp_loop.specs.Scene.{Scene}
 use Rattle.som_interp_task.specs.declared.advanced.Advanced.TheVariants as answers
@@ -68,6 +69,13 @@ module _ (old : Scene) (fuel : ℕ) (granted : old.task.granted ≡ 0) (begun : 
     many : length new.task.serials ≡ length (end_of (goal old fuel)).heap.objects → length new.task.serials ≡ length (end_of r).heap.objects
     many p = p ∙ ap (λ (z : Ran (Unit {0})). length (end_of z).heap.objects) goal_is
 
+    -- the task holds the objects of a heap
+    abbrev Holds : Heap → Type 0
+    Holds h = Holding new.linked new.made new.task.serials new.objects new.task.statics.items h
+
+    holds : Holds (end_of (goal old fuel)).heap → Holds (end_of r).heap
+    holds p = subst (λ (z : Ran (Unit {0})). Holds (end_of z).heap) goal_is p
+
     makes : Makes old.known.classes old.made new.made (events_now old fuel) → Makes old.known.classes old.made new.made (end_of r).events
     makes p = subst (Makes old.known.classes old.made new.made) events_are p
 
@@ -78,6 +86,7 @@ module _ (old : Scene) (fuel : ℕ) (granted : old.task.granted ≡ 0) (begun : 
       plain = plain_text x.text;
       front = front_text x.front;
       objects = many x.objects;
+      holding = holds x.holding;
       makes = makes x.makes;
       keeps_made = x.keeps_made;
       keeps = x.keeps;
@@ -90,6 +99,7 @@ module _ (old : Scene) (fuel : ℕ) (granted : old.task.granted ≡ 0) (begun : 
       plain = plain_text x.text;
       front = front_text x.front;
       objects = many x.objects;
+      holding = holds x.holding;
       makes = makes x.makes;
       keeps_made = x.keeps_made;
       keeps = x.keeps;
@@ -102,13 +112,14 @@ module _ (old : Scene) (fuel : ℕ) (granted : old.task.granted ≡ 0) (begun : 
       plain = plain_text x.text;
       front = front_text x.front;
       objects = many x.objects;
+      holding = holds x.holding;
       makes = makes x.makes;
       keeps_made = x.keeps_made;
       keeps = x.keeps;
     }
 
     pub sunk_runs : Comes old fuel shows prefix before after new answers.SinkFailed → RunsSo old fuel shows prefix before after new outcomes.SinkFailed
-    sunk_runs x = record { ended = tt; text = tt; plain = λ e. tt; front = front_text x.front; objects = tt; makes = tt; keeps_made = x.keeps_made; keeps = x.keeps }
+    sunk_runs x = record { ended = tt; text = tt; plain = λ e. tt; front = front_text x.front; objects = tt; holding = tt; makes = tt; keeps_made = x.keeps_made; keeps = x.keeps }
 
     pub starved_runs : Comes old fuel shows prefix before after new answers.NoMemory → RunsSo old fuel shows prefix before after new outcomes.NoMemory
-    starved_runs x = record { ended = tt; text = tt; plain = λ e. tt; front = front_text x.front; objects = tt; makes = tt; keeps_made = x.keeps_made; keeps = x.keeps }
+    starved_runs x = record { ended = tt; text = tt; plain = λ e. tt; front = front_text x.front; objects = tt; holding = tt; makes = tt; keeps_made = x.keeps_made; keeps = x.keeps }

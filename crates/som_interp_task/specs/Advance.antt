@@ -10,6 +10,7 @@ use Rattle.som_semantics.specs.RunText.{call_count, end_lines, events_lines, wit
 use Rattle.som_io.specs.Outside.{Rose, ShowsAll, ShowsFront}
 use Rattle.som_trace.specs.Places.{running_in}
 use Rattle.som_trace.specs.Told.{end_text}
+use Rattle.som_interp_state.specs.Holding.{Holding}
 use Rattle.som_interp_loop.specs.Moving.{Keeps, Makes}
 use Rattle.som_interp_loop.specs.Scene.{Scene}
 use Rattle.som_interp_loop.specs.Counted.{IsDirectScene}
@@ -59,7 +60,7 @@ module _ (old : Scene) (units : ℕ) where
   Ended answers.SinkFailed = Unit {0}
   Ended answers.NoMemory = Unit {0}
 
-  -- an advance by these units: what was told before comes first of the meaning's events; it answers the meaning's end, tells its lines that weren't told before, and a front of them where memory was wanting or the sink failed; the task stands again where it can be gone on with; it has made as many objects as the meaning; the classes that were used are made; and of all else it keeps what it keeps in every move
+  -- an advance by these units: what was told before comes first of the meaning's events; it answers the meaning's end, tells its lines that weren't told before, and a front of them where memory was wanting or the sink failed; the task stands again where it can be gone on with; it has made as many objects as the meaning, whose k-th is that of its k-th serial, at an end too; the classes that were used are made; and of all else it keeps what it keeps in every move
   pub record Comes (shows : List ℕ → Bool) (prefix : List ℕ) (before after : Option (List ℕ)) (new : Scene) (answer : Advanced) : Type 0 where
     pub events : (end_of goal).events ≡ told_so_far old ++ events_now
     pub ended : Ended answer
@@ -67,6 +68,7 @@ module _ (old : Scene) (units : ℕ) where
     pub front : ShowsFront before after (added_text shows prefix)
     pub stands : IfGoing answer (Stands new)
     pub objects : IfEnded answer (length new.task.serials ≡ length (end_of goal).heap.objects)
+    pub holding : IfEnded answer (Holding new.linked new.made new.task.serials new.objects new.task.statics.items (end_of goal).heap)
     pub makes : IfEnded answer (Makes old.known.classes old.made new.made events_now)
     pub keeps_made : (k : ClassKey) → old.made k ≡ true → new.made k ≡ true
     pub keeps : Keeps (with_granted old units) new

@@ -8,6 +8,7 @@ use Rattle.som_semantics.specs.Runs.{Ran, Goes, Ends, Faulted, Spent, end_of}
 use Rattle.som_semantics.specs.RunText.{call_count, run_lines, run_text, with_prefix}
 use Rattle.som_io.specs.Outside.{Rose, ShowsAll, ShowsFront}
 use Rattle.som_trace.specs.Places.{running_in}
+use Rattle.som_interp_state.specs.Holding.{Holding}
 use Rattle.som_interp_loop.specs.Moving.{Keeps, Makes}
 use Rattle.som_interp_loop.specs.Scene.{Scene}
 use Rattle.som_interp_loop.specs.Counted.{IsDirectScene}
@@ -34,13 +35,14 @@ EndsSo r outcomes.NoMemory = Unit {0}
 abbrev pub text_with : (List ℕ → Bool) → List ℕ → Ran (Unit {0}) → List ℕ
 text_with shows prefix r = concat (with_prefix prefix (run_lines shows r))
 
--- a run by this fuel: it answers the end of main's meaning, and tells its text, or a front of it where memory was wanting or the sink failed; without a prefix that is the text of the definition; it has made as many objects as the meaning, what was used is made, and of all else it keeps what it keeps in every move
+-- a run by this fuel: it answers the end of main's meaning, and tells its text, or a front of it where memory was wanting or the sink failed; without a prefix that is the text of the definition; it has made as many objects as the meaning, whose k-th is that of its k-th serial, what was used is made, and of all else it keeps what it keeps in every move
 pub record RunsSo (old : Scene) (fuel : ℕ) (shows : List ℕ → Bool) (prefix : List ℕ) (before after : Option (List ℕ)) (new : Scene) (outcome : Outcome) : Type 0 where
   pub ended : EndsSo (meaning old fuel) outcome
   pub text : IfRan outcome (ShowsAll before after (text_with shows prefix (meaning old fuel)))
   pub plain : prefix ≡ [] → IfRan outcome (ShowsAll before after (run_text shows (meaning old fuel)))
   pub front : ShowsFront before after (text_with shows prefix (meaning old fuel))
   pub objects : IfRan outcome (length new.task.serials ≡ length (end_of (meaning old fuel)).heap.objects)
+  pub holding : IfRan outcome (Holding new.linked new.made new.task.serials new.objects new.task.statics.items (end_of (meaning old fuel)).heap)
   pub makes : IfRan outcome (Makes old.known.classes old.made new.made (end_of (meaning old fuel)).events)
   pub keeps_made : (k : ClassKey) → old.made k ≡ true → new.made k ≡ true
   pub keeps : Keeps (with_granted old fuel) new
