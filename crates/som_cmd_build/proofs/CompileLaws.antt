@@ -1,8 +1,8 @@
 -- What each step answers and leaves of a command that compiles something and puts its image is what the command does.
-use Rattle.std.proofs.Common.{◌≡◌, ℕ, ◌≤◌, List, Option, Some, None, Result, Ok, Err, sym, subst, inl, inr}
+use Rattle.std.proofs.Common.{◌≡◌, ℕ, ◌≤◌, List, Option, Some, None, Result, Ok, Err, sym, subst}
 use Rattle.som_io.proofs.ShownLaws.{rose_earlier}
 use Rattle.som_model.specs.declared.program.Interface.{Interface}
-use Rattle.som_model.specs.Bytes.{Files}
+use Rattle.som_model.specs.Bytes.{AreBytes, Files}
 use Rattle.som_model.specs.Class.{interface_of}
 use Rattle.som_sources.specs.declared.fault.CompileFault.{CompileFault}
 use Rattle.som_sources.specs.declared.fault.TextFault.{TextFault}
@@ -10,23 +10,23 @@ use Rattle.som_sources.specs.declared.source.Source.{Source}
 use Rattle.som_sources.specs.Reading.{Says}
 use Rattle.som_sources.specs.declared.fault.CompileFault.TheVariants as compiling
 use Rattle.som_compile.specs.Compiling.{Compiles, CompilesClient}
-use Rattle.som_cmd_steps.specs.declared.output.Output.{Output}
 use Rattle.som_cmd_steps.specs.declared.stop.Refusal.{Refusal}
 use Rattle.som_cmd_steps.specs.declared.stop.CommandStop.{CommandStop}
 use Rattle.som_cmd_steps.specs.Endings.{refusing}
-use Rattle.som_cmd_steps.specs.Cause.{HasCause, IsQuietStop}
-use Rattle.som_cmd_steps.specs.Lines.{store_failed}
+use Rattle.som_cmd_steps.specs.Cause.{IsQuietStop}
+use Rattle.som_cmd_steps.specs.Refusing.{RefusesAs}
 use Rattle.som_cmd_steps.specs.Steps.{FollowsTold}
-use Rattle.som_cmd_steps.specs.Putting.{StoredTold}
 use Rattle.som_cmd_steps.specs.declared.stop.CommandStop.TheVariants as stops
 use Rattle.som_cmd_sources.specs.declared.client_parts.ClientParts.{ClientParts}
 use Rattle.som_cmd_sources.specs.Getting.{FailsGettingParts, FailsGettingTexts}
 use Rattle.som_cmd_sources.specs.Texts.{texts_in}
 use Rattle.som_cmd_sources.specs.PutAnswer.{Compiling, IsMade, IsPutAnswer, not_got, not_compiled}
-use Rattle.som_cmd_sources.specs.PutSteps.{Compiled, Refuses, PutsTold}
+use Rattle.som_cmd_sources.specs.Compiled.{Compiled, Refuses}
 use Rattle.som_cmd_sources.specs.Parts.{parts_in}
-use Rattle.som_cmd_build.specs.Cause.{HaveImage, FailsClient, FailsLibrary}
+use Rattle.som_cmd_build.specs.declared.putting.PutEnd.{PutEnd}
+use Rattle.som_cmd_build.specs.declared.putting.PutEnd.TheVariants as ends
 use Rattle.som_cmd_build.specs.ClientAnswer.{CompilesParts}
+use Rattle.som_cmd_build.specs.PutSteps.{EndHasCause, Placed, PlacedTold, Puts, PutsTold}
 
 -- ---- what the texts are compiled to
 
@@ -61,7 +61,7 @@ module _ {A : Type 0} (Comes : Compiling A) where
   not_there : (files new : Option Files) (out : List ℕ) (got : Files → Result A Refusal) (stop : CommandStop) → new ≡ files → FollowsTold {A = A} files (Err stop) got → PutsTold Comes files out got (Err stop) new
   not_there None new out got stop same f = tt
   not_there (Some files) new out got (stops.Refused r) same f = (not_got r f, same)
-  not_there (Some files) new out got (stops.StoreFailed line) same f = inl same
+  not_there (Some files) new out got (stops.StoreFailed line) same f = same
   not_there (Some files) new out got stops.NoMemory same f = same
 
   -- it isn't compiled
@@ -74,18 +74,19 @@ module _ {A : Type 0} (Comes : Compiling A) where
   not_made (Some files) new out got x stops.NoMemory same f g = same
 
   -- the image is put
-  stored : (files : Files) (new : Option Files) (out : List ℕ) (got : Files → Result A Refusal) (image : List ℕ) → IsMade Comes (got files) image → (count now : ℕ) (result : Result Output CommandStop)
-      → HasCause (λ line. line ≡ store_failed out) count now result → StoredTold (Some files) out image result new → PutsTold Comes (Some files) out got result new
-  stored files new out got image are count now (Ok o) cause s = (s.0, image, are, s.1)
-  stored files new out got image are count now (Err (stops.Refused r)) cause s = absurd s
-  stored files new out got image are count now (Err (stops.StoreFailed line)) cause s = inr (cause.1, image, are, s)
-  stored files new out got image are count now (Err stops.NoMemory) cause s = s
+  placed : (files : Files) (new : Option Files) (out : List ℕ) (got : Files → Result A Refusal) (image : List ℕ) → IsMade Comes (got files) image → AreBytes image → (result : Result PutEnd CommandStop)
+      → RefusesAs (λ r. ⊥) result → Placed files out image result new → Puts Comes files out (got files) result new
+  placed files new out got image are bytes (Ok ends.Done) none p = (image, are, bytes, p)
+  placed files new out got image are bytes (Ok (ends.Failed put)) none p = (image, are, bytes, p)
+  placed files new out got image are bytes (Err (stops.Refused r)) none p = absurd none
+  placed files new out got image are bytes (Err (stops.StoreFailed line)) none p = p
+  placed files new out got image are bytes (Err stops.NoMemory) none p = p
 
-  made_stored : (files before new : Option Files) (out : List ℕ) (got : Files → Result A Refusal) (x : A) (image : List ℕ) (count now : ℕ) (result : Result Output CommandStop) → before ≡ files
-      → FollowsTold files (Ok x) got → Compiled (Comes x) (Ok image) → HasCause (λ line. line ≡ store_failed out) count now result → StoredTold before out image result new → PutsTold Comes files out got result new
-  made_stored None before new out got x image count now result same f g cause s = tt
-  made_stored (Some files) before new out got x image count now result same f g cause s =
-      stored files new out got image (x, f, g) count now result cause (subst (λ (z : Option Files). StoredTold z out image result new) same s)
+  made_put : (files before new : Option Files) (out : List ℕ) (got : Files → Result A Refusal) (x : A) (image : List ℕ) (result : Result PutEnd CommandStop) → before ≡ files
+      → FollowsTold files (Ok x) got → Compiled (Comes x) (Ok image) → AreBytes image → RefusesAs (λ r. ⊥) result → PlacedTold before out image result new → PutsTold Comes files out got result new
+  made_put None before new out got x image result same f g bytes none p = tt
+  made_put (Some files) before new out got x image result same f g bytes none p =
+      placed files new out got image (x, f, g) bytes result none (subst (λ (z : Option Files). PlacedTold z out image result new) same p)
 
 -- a library
 pub texts_refused : (files new : Option Files) (out : List ℕ) (names : List (List ℕ)) (stop : CommandStop) → new ≡ files → FollowsTold {A = List Source} files (Err stop) (texts_in names)
@@ -96,10 +97,10 @@ pub image_refused : (files new : Option Files) (out : List ℕ) (names : List (L
     → Compiled (Compiles texts) (Err stop) → PutsTold Compiles files out (texts_in names) (Err stop) new
 image_refused files new out names texts stop same f g = not_made Compiles files new out (texts_in names) texts stop same f g
 
-pub image_stored : (files before new : Option Files) (out : List ℕ) (names : List (List ℕ)) (texts : List Source) (image : List ℕ) (count now : ℕ) (result : Result Output CommandStop) → before ≡ files
-    → FollowsTold files (Ok texts) (texts_in names) → Compiled (Compiles texts) (Ok image) → HasCause (λ line. line ≡ store_failed out) count now result → StoredTold before out image result new
+pub image_put : (files before new : Option Files) (out : List ℕ) (names : List (List ℕ)) (texts : List Source) (image : List ℕ) (result : Result PutEnd CommandStop) → before ≡ files
+    → FollowsTold files (Ok texts) (texts_in names) → Compiled (Compiles texts) (Ok image) → AreBytes image → RefusesAs (λ r. ⊥) result → PlacedTold before out image result new
     → PutsTold Compiles files out (texts_in names) result new
-image_stored files before new out names texts image count now result same f g cause s = made_stored Compiles files before new out (texts_in names) texts image count now result same f g cause s
+image_put files before new out names texts image result same f g bytes none p = made_put Compiles files before new out (texts_in names) texts image result same f g bytes none p
 
 -- a client
 pub parts_refused : (files new : Option Files) (out library : List ℕ) (names : List (List ℕ)) (stop : CommandStop) → new ≡ files → FollowsTold {A = ClientParts} files (Err stop) (parts_in library names)
@@ -110,59 +111,37 @@ pub client_image_refused : (files new : Option Files) (out library : List ℕ) (
     → Compiled (CompilesParts parts) (Err stop) → PutsTold CompilesParts files out (parts_in library names) (Err stop) new
 client_image_refused files new out library names parts stop same f g = not_made CompilesParts files new out (parts_in library names) parts stop same f g
 
-pub client_image_stored : (files before new : Option Files) (out library : List ℕ) (names : List (List ℕ)) (parts : ClientParts) (image : List ℕ) (count now : ℕ) (result : Result Output CommandStop) → before ≡ files
-    → FollowsTold files (Ok parts) (parts_in library names) → Compiled (CompilesParts parts) (Ok image) → HasCause (λ line. line ≡ store_failed out) count now result → StoredTold before out image result new
+pub client_image_put : (files before new : Option Files) (out library : List ℕ) (names : List (List ℕ)) (parts : ClientParts) (image : List ℕ) (result : Result PutEnd CommandStop) → before ≡ files
+    → FollowsTold files (Ok parts) (parts_in library names) → Compiled (CompilesParts parts) (Ok image) → AreBytes image → RefusesAs (λ r. ⊥) result → PlacedTold before out image result new
     → PutsTold CompilesParts files out (parts_in library names) result new
-client_image_stored files before new out library names parts image count now result same f g cause s =
-    made_stored CompilesParts files before new out (parts_in library names) parts image count now result same f g cause s
+client_image_put files before new out library names parts image result same f g bytes none p =
+    made_put CompilesParts files before new out (parts_in library names) parts image result same f g bytes none p
 
 -- ---- where the store failed
 
-have_image : {A : Type 0} (Comes : Compiling A) (files : Option Files) (got : Files → Result A Refusal) (x : A) (image : List ℕ) → FollowsTold files (Ok x) got → Compiled (Comes x) (Ok image)
-    → HaveImage files (λ told. IsMade Comes (got told))
-have_image Comes None got x image f g = tt
-have_image Comes (Some files) got x image f g = (image, (x, f, g))
+-- in the put, after the gets
+rose_in_put : (is_line : List ℕ → Type 0) (out : List ℕ) (count mid now : ℕ) (result : Result PutEnd CommandStop) → count ≤ mid → EndHasCause (λ line. ⊥) out mid now result → EndHasCause is_line out count now result
+rose_in_put is_line out count mid now (Ok ends.Done) le cause = tt
+rose_in_put is_line out count mid now (Ok (ends.Failed put)) le cause = (rose_earlier count mid now le cause.0, cause.1)
+rose_in_put is_line out count mid now (Err (stops.Refused r)) le cause = tt
+rose_in_put is_line out count mid now (Err (stops.StoreFailed line)) le cause = absurd cause.1
+rose_in_put is_line out count mid now (Err stops.NoMemory) le cause = tt
 
--- in a get
-pub get_fails : (files : Option Files) (out : List ℕ) (names : List (List ℕ)) (count now : ℕ) (stop : CommandStop) → HasCause {A = List Source} (FailsGettingTexts files names) count now (Err stop)
-    → HasCause {A = Output} (FailsLibrary files out names) count now (Err stop)
-get_fails files out names count now (stops.StoreFailed line) cause = (cause.0, inl cause.1)
-get_fails files out names count now (stops.Refused r) cause = tt
-get_fails files out names count now stops.NoMemory cause = tt
+pub put_fails : (files : Option Files) (out : List ℕ) (names : List (List ℕ)) (count mid now : ℕ) (result : Result PutEnd CommandStop) → count ≤ mid → EndHasCause (λ line. ⊥) out mid now result
+    → EndHasCause (FailsGettingTexts files names) out count now result
+put_fails files out names count mid now result le cause = rose_in_put (FailsGettingTexts files names) out count mid now result le cause
 
-pub part_fails : (files : Option Files) (out library : List ℕ) (names : List (List ℕ)) (count now : ℕ) (stop : CommandStop) → HasCause {A = ClientParts} (FailsGettingParts files library names) count now (Err stop)
-    → HasCause {A = Output} (FailsClient files out library names) count now (Err stop)
-part_fails files out library names count now (stops.StoreFailed line) cause = (cause.0, inl cause.1)
-part_fails files out library names count now (stops.Refused r) cause = tt
-part_fails files out library names count now stops.NoMemory cause = tt
-
--- in the put
-pub put_fails : (files : Option Files) (out : List ℕ) (names : List (List ℕ)) (texts : List Source) (image : List ℕ) (count mid now : ℕ) (result : Result Output CommandStop) → count ≤ mid
-    → FollowsTold files (Ok texts) (texts_in names) → Compiled (Compiles texts) (Ok image) → HasCause (λ line. line ≡ store_failed out) mid now result
-    → HasCause (FailsLibrary files out names) count now result
-put_fails files out names texts image count mid now (Ok o) le f g cause = tt
-put_fails files out names texts image count mid now (Err (stops.StoreFailed line)) le f g cause =
-    (rose_earlier count mid now le cause.0, inr (cause.1, have_image Compiles files (texts_in names) texts image f g))
-put_fails files out names texts image count mid now (Err (stops.Refused r)) le f g cause = tt
-put_fails files out names texts image count mid now (Err stops.NoMemory) le f g cause = tt
-
-pub client_put_fails : (files : Option Files) (out library : List ℕ) (names : List (List ℕ)) (parts : ClientParts) (image : List ℕ) (count mid now : ℕ) (result : Result Output CommandStop) → count ≤ mid
-    → FollowsTold files (Ok parts) (parts_in library names) → Compiled (CompilesParts parts) (Ok image) → HasCause (λ line. line ≡ store_failed out) mid now result
-    → HasCause (FailsClient files out library names) count now result
-client_put_fails files out library names parts image count mid now (Ok o) le f g cause = tt
-client_put_fails files out library names parts image count mid now (Err (stops.StoreFailed line)) le f g cause =
-    (rose_earlier count mid now le cause.0, inr (cause.1, have_image CompilesParts files (parts_in library names) parts image f g))
-client_put_fails files out library names parts image count mid now (Err (stops.Refused r)) le f g cause = tt
-client_put_fails files out library names parts image count mid now (Err stops.NoMemory) le f g cause = tt
+pub client_put_fails : (files : Option Files) (out library : List ℕ) (names : List (List ℕ)) (count mid now : ℕ) (result : Result PutEnd CommandStop) → count ≤ mid → EndHasCause (λ line. ⊥) out mid now result
+    → EndHasCause (FailsGettingParts files library names) out count now result
+client_put_fails files out library names count mid now result le cause = rose_in_put (FailsGettingParts files library names) out count mid now result le cause
 
 -- compiling takes nothing from the store
-pub image_fails : (files : Option Files) (out : List ℕ) (names : List (List ℕ)) (count now : ℕ) (stop : CommandStop) → IsQuietStop stop → HasCause {A = Output} (FailsLibrary files out names) count now (Err stop)
+pub image_fails : (files : Option Files) (out : List ℕ) (names : List (List ℕ)) (count now : ℕ) (stop : CommandStop) → IsQuietStop stop → EndHasCause (FailsGettingTexts files names) out count now (Err stop)
 image_fails files out names count now (stops.StoreFailed line) quiet = absurd quiet
 image_fails files out names count now (stops.Refused r) quiet = tt
 image_fails files out names count now stops.NoMemory quiet = tt
 
-pub client_image_fails : (files : Option Files) (out library : List ℕ) (names : List (List ℕ)) (count now : ℕ) (stop : CommandStop) → IsQuietStop stop
-    → HasCause {A = Output} (FailsClient files out library names) count now (Err stop)
+pub client_image_fails : (files : Option Files) (out library : List ℕ) (names : List (List ℕ)) (count now : ℕ) (stop : CommandStop) → IsQuietStop stop → EndHasCause (FailsGettingParts files library names) out count now (Err stop)
 client_image_fails files out library names count now (stops.StoreFailed line) quiet = absurd quiet
 client_image_fails files out library names count now (stops.Refused r) quiet = tt
 client_image_fails files out library names count now stops.NoMemory quiet = tt

@@ -1,4 +1,5 @@
 pub mod LibraryAnswer
 pub mod ClientAnswer
 pub mod Cause
+pub mod PutSteps
 pub mod PutEnds

@@ -3,6 +3,7 @@
 
 mod client;
 mod library;
+mod putting;
 
 pub use client::build_client;
 pub use library::build_library;

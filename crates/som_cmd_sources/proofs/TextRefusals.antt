@@ -15,7 +15,7 @@ use Rattle.som_cmd_steps.specs.declared.stop.CommandStop.TheVariants as stops
 use Rattle.som_cmd_steps.proofs.Statuses.{absent_in, sound_only, stops_only}
 use Rattle.som_cmd_sources.specs.declared.client_parts.ClientParts.{ClientParts}
 use Rattle.som_cmd_sources.specs.Statuses.{client_statuses, library_statuses}
-use Rattle.som_cmd_sources.specs.PutSteps.{Compiled}
+use Rattle.som_cmd_sources.specs.Compiled.{Compiled}
 use Rattle.som_cmd_sources.specs.Texts.{text_refused, too_many}
 
 -- ---- what is got

@@ -3,4 +3,4 @@ pub mod Parts
 pub mod Statuses
 pub mod Getting
 pub mod PutAnswer
-pub mod PutSteps
+pub mod Compiled

@@ -1,7 +1,7 @@
 //! Makes the lines that refuse texts: a fault of the parser, a broken rule, or a limit that is passed.
 
 ghost use Rattle.som_sources.specs.declared.fault.TextFault.TheVariants as texts;
-ghost use Rattle.som_cmd_sources.specs.PutSteps.{Refuses};
+ghost use Rattle.som_cmd_sources.specs.Compiled.{Refuses};
 ghost use Rattle.som_cmd_sources.specs.Texts.{reading_name, text_refused, too_many};
 ghost use Rattle.std.specs.Prelude.{IfOk, ◌≡◌};
 
