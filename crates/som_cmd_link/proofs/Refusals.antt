@@ -1,12 +1,15 @@
 -- What is refused, whatever the store tells.
-use Rattle.std.proofs.Common.{◌≡◌, ℕ, List, Option, Some, None, Result, Ok, Err, true, false, refl, sym, subst, inl, inr}
+use Rattle.std.proofs.Common.{◌≡◌, ℕ, Bool, List, Option, Some, None, Result, Ok, Err, true, false, refl, sym, subst, inl, inr}
 use Rattle.som_model.specs.declared.program.ClientProgram.{ClientProgram}
 use Rattle.som_model.specs.declared.program.Release.{Release}
 use Rattle.som_image_fields.specs.declared.fault.ImageFault.{ImageFault}
+use Rattle.som_image_fields.specs.declared.fault.ImageFault.TheVariants as faults
+use Rattle.som_libimage.specs.Libraries.{library_at}
+use Rattle.som_cliimage.specs.Programs.{client_at}
 use Rattle.som_link_check.specs.Pairs.{Obstacle, Breaks, DoesntKeep, obstacle}
 use Rattle.som_cmd_steps.specs.declared.stop.Refusal.{Refusal}
 use Rattle.som_cmd_steps.specs.declared.stop.CommandStop.{CommandStop}
-use Rattle.som_cmd_steps.specs.ImageSteps.{client_in, library_in, program_in, read_or, release_in}
+use Rattle.som_cmd_steps.specs.ImageSteps.{are_bytes, client_in, library_in, program_in, read_if, read_or, release_in}
 use Rattle.som_cmd_steps.specs.Lines.{absent}
 use Rattle.som_cmd_steps.specs.Refusing.{RefusesAs, StopRefusesAs}
 use Rattle.som_cmd_steps.specs.Steps.{Follows}
@@ -31,9 +34,14 @@ library_absent c l stop is = absent_by (IsRunRefusal c l) l (inr (inl (inl refl)
 
 -- ---- it can't be read
 
-read_only : {A : Type 0} (name : List ℕ) (read : Result A ImageFault) → Only (IsImageRefusal name) (read_or name read)
-read_only name (Ok x) = tt
-read_only name (Err fault) = inr (inl (fault, refl))
+-- numbers that aren't bytes are no image for a fault of theirs, and what is read of bytes has one of its own
+of_bytes : {A : Type 0} (read : Result A ImageFault) → (read ≡ Err faults.NoMemory → ⊥) → (all : Bool) → read_if all read ≡ Err faults.NoMemory → ⊥
+of_bytes read none true e = none e
+of_bytes read none false e = cc
+
+read_only : {A : Type 0} (name : List ℕ) (read : Result A ImageFault) → (read ≡ Err faults.NoMemory → ⊥) → Only (IsImageRefusal name) (read_or name read)
+read_only name (Ok x) none = tt
+read_only name (Err fault) none = inr (inl (fault, λ e. none cc, refl))
 
 of_client : (c l : List ℕ) (r : Refusal) → IsImageRefusal c r → IsRunRefusal c l r
 of_client c l r is = inl is
@@ -45,13 +53,13 @@ only_as : {A : Type 0} (IsOne IsOther : Refusal → Type 0) → ((r : Refusal) �
 only_as IsOne IsOther into (Ok x) one = tt
 only_as IsOne IsOther into (Err r) one = into r one
 
-pub client_refused : (c l cb : List ℕ) (stop : CommandStop) → Follows {A = ClientProgram} (Err stop) (program_in c cb) → RefusesAs {A = Pair} (IsRunRefusal c l) (Err stop)
-client_refused c l cb stop f =
-    stops_only (IsRunRefusal c l) (program_in c cb) (only_as (IsImageRefusal c) (IsRunRefusal c l) (of_client c l) (program_in c cb) (read_only c (client_in cb))) stop f
+pub client_refused : ((bytes : List ℕ) → client_at bytes ≡ Err faults.NoMemory → ⊥) → (c l cb : List ℕ) (stop : CommandStop) → Follows {A = ClientProgram} (Err stop) (program_in c cb) → RefusesAs {A = Pair} (IsRunRefusal c l) (Err stop)
+client_refused none c l cb stop f =
+    stops_only (IsRunRefusal c l) (program_in c cb) (only_as (IsImageRefusal c) (IsRunRefusal c l) (of_client c l) (program_in c cb) (read_only c (client_in cb) (of_bytes (client_at cb) (none cb) (are_bytes cb)))) stop f
 
-pub library_refused : (c l lb : List ℕ) (stop : CommandStop) → Follows {A = Release} (Err stop) (release_in l lb) → RefusesAs {A = Pair} (IsRunRefusal c l) (Err stop)
-library_refused c l lb stop f =
-    stops_only (IsRunRefusal c l) (release_in l lb) (only_as (IsImageRefusal l) (IsRunRefusal c l) (of_library c l) (release_in l lb) (read_only l (library_in lb))) stop f
+pub library_refused : ((bytes : List ℕ) → library_at bytes ≡ Err faults.NoMemory → ⊥) → (c l lb : List ℕ) (stop : CommandStop) → Follows {A = Release} (Err stop) (release_in l lb) → RefusesAs {A = Pair} (IsRunRefusal c l) (Err stop)
+library_refused none c l lb stop f =
+    stops_only (IsRunRefusal c l) (release_in l lb) (only_as (IsImageRefusal l) (IsRunRefusal c l) (of_library c l) (release_in l lb) (read_only l (library_in lb) (of_bytes (library_at lb) (none lb) (are_bytes lb)))) stop f
 
 -- ---- something is in the way of linking
 

@@ -10,7 +10,7 @@ ghost use Rattle.som_cmd_steps.specs.Refusing.{RefusesAs};
 ghost use Rattle.som_cmd_steps.specs.Steps.{FollowsTold};
 ghost use Rattle.std.specs.Prelude.{IfOk, ◌≡◌, ◌≤◌};
 
-use som_cmd_steps::{CommandStop, fetch, read_program, read_release};
+use som_cmd_steps::{CommandStop, fault_law, fetch, read_program, read_release};
 use som_io::Store;
 use som_model::{ClientProgram, Release, Text};
 use std::alloc::Global;
@@ -46,6 +46,7 @@ pub fn fetch_pair<S: Store>(
     ensures quiet { S.calm store.old → IsQuiet result }
     ensures refuses { RefusesAs (IsRunRefusal client.now library.now) result }
 {
+    fault_law();
     let client_bytes = fetch(alloc, client, store)?;
     let library_bytes = fetch(alloc, library, store)?;
     let program = read_program(alloc, client, &client_bytes)?;

@@ -31,7 +31,7 @@ seven = inr (inr (inr (inr (inl refl))))
 
 image_in : (name : List ℕ) (r : Refusal) → IsImageRefusal name r → HasStatusIn run_statuses r
 image_in name r (inl is) = subst (HasStatusIn run_statuses) (sym is) seven
-image_in name r (inr (inl (fault, is))) = subst (HasStatusIn run_statuses) (sym is) five
+image_in name r (inr (inl (fault, named, is))) = subst (HasStatusIn run_statuses) (sym is) five
 image_in name r (inr (inr (b, is))) = subst (HasStatusIn run_statuses) (sym is) five
 
 refusal_in : (c l : List ℕ) (r : Refusal) → IsRunRefusal c l r → HasStatusIn run_statuses r
