@@ -18,8 +18,8 @@ module _ (count now : ℕ) (steady : Rose count now → ⊥) where
   unchanged : (IsImage : List ℕ → Type 0) (files : Files) (out : List ℕ) (status : ℕ) (new_files : Option Files) (old new : Option (List ℕ)) → status ≡ 10
       → LeavesFiles IsImage files out count now status new_files old new → new_files ≡ Some files
   unchanged IsImage files out status new_files old new ten (as_they_were not0 same) = same
-  unchanged IsImage files out status new_files old new ten (with_image image is zero put) = absurd (ten_is_none (sym ten ∙ zero))
-  unchanged IsImage files out status new_files old new ten (put_failed image is rose says fails) = absurd (steady rose)
+  unchanged IsImage files out status new_files old new ten (with_image image is bytes zero put) = absurd (ten_is_none (sym ten ∙ zero))
+  unchanged IsImage files out status new_files old new ten (put_failed image is bytes rose says fails) = absurd (steady rose)
 
   -- so does every command
   kept : (asked : Asked) (files : Files) (status : ℕ) (new_files : Option Files) (old new : Option (List ℕ)) → status ≡ 10

@@ -1,6 +1,7 @@
 -- What a call comes to is what the command comes to that it asks for.
 use Rattle.std.proofs.Common.{◌≡◌, ◌≢◌, ◌⊎◌, ◌==◌, ℕ, Bool, true, false, List, Option, Some, None, refl, sym, subst, ◌∙◌, inl, inr, arith}
 use Rattle.std.proofs.lemmas.Bool.{eqb-true}
+use Rattle.std.specs.FinMap.{empty}
 use Rattle.som_model.specs.declared.program.Release.{Release}
 use Rattle.som_model.specs.declared.program.ClientProgram.{ClientProgram}
 use Rattle.som_model.specs.Bytes.{Files}
@@ -41,7 +42,8 @@ use Rattle.som_cmd.proofs.OneAnswer.{some_answer}
 use Rattle.som_cmd.specs.Words.{Asked, Bad, Library, Run, Show, Check, Client, Generate}
 use Rattle.som_cmd.specs.Answer.{IsAnswer, bad_words, runs, shows, checks, bad_line, compiles, compiles_client, generates}
 use Rattle.som_cmd.specs.Cause.{FailsOn}
-use Rattle.som_cmd.specs.Ends.{EndsAsTold, StoreFails, ShowsSome, AreImagesOf, AreNewest, IsImageOf, IsImageOfClient, IsMadeFor, AreChecked}
+use Rattle.som_cmd.specs.Ends.{EndsAsTold, StoreFails, ShowsSome, AreImagesOf, AreNewest, IsImageOf, IsImageOfClient, AreChecked}
+use Rattle.som_cmd.specs.Generating.{Generates, GeneratesAsked, IsMadeFor}
 use Rattle.som_cmd.proofs.WordLaws.{IsAnswerable}
 use Rattle.som_cmd.specs.Refused.{TellsBadWords, TellsOneLine, statuses_of}
 use Rattle.som_cmd.specs.PutEnds.{KeepsFiles, AreTextsOf, AreClientTextsOf, PutsProgram, PutsRelease}
@@ -78,6 +80,18 @@ generated_told n (Some told) status old new e = e told
 pub generated_some : (n : ℕ) (files : Option Files) (count now : ℕ) (old new : Option (List ℕ)) → ((told : Files) → ShowsSomeOf (IsGenerateAnswer n told) old new) → steps.ShowsSome (IsGenerateAnswer n) (FailsOn files (Generate n)) files count now old new
 generated_some n None count now old new s = tt
 generated_some n (Some told) count now old new s = inl (s told)
+
+pub generated_asked : (asked by : Asked) → by ≡ asked → (status : ℕ) (old new : Option (List ℕ)) → GeneratesAsked by status old new → GeneratesAsked asked status old new
+generated_asked asked by is status old new g = subst (λ (x : Asked). GeneratesAsked x status old new) is g
+
+no_files : Files
+no_files = empty
+
+-- it tells what is generated
+pub generated : (asked : Asked) (status : ℕ) (old new : Option (List ℕ)) → GeneratesAsked asked status old new → (n : ℕ) (m : Made) → IsMadeFor asked n m → status ≢ 8 → status ≢ 10 → TellsGenerated n m status old new
+generated asked status old new g n m is not8 not10 =
+    let as_asked : Generates n status old new = generated_asked (Generate n) asked is.asked_is status old new g in
+    generated_by n m is.made no_files status (Some no_files) old new (as_asked.whole not8 not10 no_files)
 
 -- ---- words of no form
 
@@ -146,9 +160,6 @@ library_alone files out names e (compiles _ _ _ a) = a
 client_alone : (files : Files) (out library : List ℕ) (names : List (List ℕ)) (e : Ending) → IsAnswer files (Client out library names) e → IsClientAnswer out library names files e
 client_alone files out library names e (compiles_client _ _ _ _ a) = a
 
-generate_alone : (files : Files) (n : ℕ) (e : Ending) → IsAnswer files (Generate n) e → IsGenerateAnswer n files e
-generate_alone files n e (generates _ _ a) = a
-
 module _ (asked : Asked) (files : Option Files) (status : ℕ) (new_files : Option Files) (old new : Option (List ℕ)) (e : EndsAsTold asked files status new_files old new) where
   -- it is the end of the run that is asked for
   run_by : (told : Files) (c l : List ℕ) (fuel : ℕ) (calls : List ℕ → Bool) → asked ≡ Run c l fuel calls → files ≡ Some told → steps.EndsAs (IsRunAnswer c l fuel calls told) status new_files old new
@@ -196,32 +207,30 @@ module _ (asked : Asked) (files : Option Files) (status : ℕ) (new_files : Opti
   pub breach : (names : List (List ℕ)) (rs : List Release) (number : ℕ) (b : CompatBreach) → AreChecked asked files names rs → first_not_kept rs ≡ Some (number, b) → TellsBreach names number b status old new
   breach names rs number b m told = breach_by names m.told status new_files old new (checked_by names rs m) rs m.two m.under number b told
 
-  -- after which the image of the release stands under the name that the texts stand for
-  pub compiled : (out : List ℕ) (r : Release) → AreTextsOf asked files out r → PutsRelease files out r status new_files old new
-  compiled out r m = record {
-    told = m.told;
-    files_are = m.files_are;
-    puts = puts_by out m.names m.told status new_files old new r
-        (ends_with (λ x. IsAnswer m.told (Library out m.names) x) (IsLibraryAnswer out m.names m.told) (library_alone m.told out m.names) status new_files old new
-        (ends_by asked (Library out m.names) files m.told m.asked_is m.files_are status new_files old new e)) m.texts;
-  }
+  -- what stands then under the names
+  module _ (count now : ℕ) (k : KeepsFiles asked files count now status new_files old new) where
+    left_by : (by : Asked) (told : Files) → asked ≡ by → files ≡ Some told → KeepsFiles by (Some told) count now status new_files old new
+    left_by by told is same = subst (λ (x : Option Files). KeepsFiles by x count now status new_files old new) same (subst (λ (x : Asked). KeepsFiles x files count now status new_files old new) is k)
 
-  -- or that of the client program
-  pub client_compiled : (out : List ℕ) (p : ClientProgram) → AreClientTextsOf asked files out p → PutsProgram files out p status new_files old new
-  client_compiled out p m = record {
-    told = m.told;
-    files_are = m.files_are;
-    puts = puts_client_by out m.library m.names m.told status new_files old new p
-        (ends_with (λ x. IsAnswer m.told (Client out m.library m.names) x) (IsClientAnswer out m.library m.names m.told) (client_alone m.told out m.library m.names) status new_files old new
-        (ends_by asked (Client out m.library m.names) files m.told m.asked_is m.files_are status new_files old new e)) m.texts;
-  }
+    -- the image of the release that the texts stand for
+    pub compiled : (out : List ℕ) (r : Release) → AreTextsOf asked files out r → PutsRelease files out r status new_files old new
+    compiled out r m = record {
+      told = m.told;
+      files_are = m.files_are;
+      puts = puts_by out m.names m.told status new_files old new r
+          (ends_with (λ x. IsAnswer m.told (Library out m.names) x) (IsLibraryAnswer out m.names m.told) (library_alone m.told out m.names) status new_files old new
+          (ends_by asked (Library out m.names) files m.told m.asked_is m.files_are status new_files old new e)) count now (left_by (Library out m.names) m.told m.asked_is m.files_are) m.texts;
+    }
 
-  -- or that tells what is generated
-  pub generated : (n : ℕ) (m : Made) → IsMadeFor asked files n m → TellsGenerated n m status old new
-  generated n m is =
-      generated_by n m is.made is.told status new_files old new
-      (ends_with (λ x. IsAnswer is.told (Generate n) x) (IsGenerateAnswer n is.told) (generate_alone is.told n) status new_files old new
-      (ends_by asked (Generate n) files is.told is.asked_is is.files_are status new_files old new e))
+    -- or that of the client program
+    pub client_compiled : (out : List ℕ) (p : ClientProgram) → AreClientTextsOf asked files out p → PutsProgram files out p status new_files old new
+    client_compiled out p m = record {
+      told = m.told;
+      files_are = m.files_are;
+      puts = puts_client_by out m.library m.names m.told status new_files old new p
+          (ends_with (λ x. IsAnswer m.told (Client out m.library m.names) x) (IsClientAnswer out m.library m.names m.told) (client_alone m.told out m.library m.names) status new_files old new
+          (ends_by asked (Client out m.library m.names) files m.told m.asked_is m.files_are status new_files old new e)) count now (left_by (Client out m.library m.names) m.told m.asked_is m.files_are) m.texts;
+    }
 
 -- ---- the newest of accepted releases
 

@@ -5,3 +5,4 @@ mod OneAnswer
 mod EndLaws
 mod Complete
 mod CountLaws
+mod ChainLaws

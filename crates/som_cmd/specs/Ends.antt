@@ -9,9 +9,7 @@ use Rattle.som_cmd_check.specs.CheckEnds.{AreUnder}
 use Rattle.som_sources.specs.declared.source.Source.{Source}
 use Rattle.som_cmd_run.specs.Newest.{HoldsNewest}
 use Rattle.som_cmd_run.specs.RunEnds.{AreUnder as AreRun}
-use Rattle.som_generator.specs.declared.made.Made.{Made}
-use Rattle.som_generator.specs.Making.{IsMade}
-use Rattle.som_cmd.specs.Words.{Asked, Run, Show, Check, Generate}
+use Rattle.som_cmd.specs.Words.{Asked, Run, Show, Check}
 use Rattle.som_cmd.specs.Answer.{IsAnswer}
 use Rattle.som_cmd.specs.Cause.{FailsOn}
 
@@ -66,10 +64,3 @@ pub record AreChecked (asked : Asked) (files : Option Files) (names : List (List
   pub asked_is : asked ≡ Check names
   pub two : 2 ≤ length rs
   pub under : AreUnder told names rs
-
--- so many classes are to be generated, and this is what is made of them
-pub record IsMadeFor (asked : Asked) (files : Option Files) (count : ℕ) (m : Made) : Type 0 where
-  pub told : Files
-  pub files_are : files ≡ Some told
-  pub asked_is : asked ≡ Generate count
-  pub made : IsMade count m

@@ -3,5 +3,7 @@ pub mod Answer
 pub mod Cause
 pub mod Ends
 pub mod PutEnds
+pub mod Generating
+pub mod Chain
 pub mod Refused
 pub mod Complete

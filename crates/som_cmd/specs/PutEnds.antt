@@ -37,7 +37,7 @@ pub record AreClientTextsOf (asked : Asked) (files : Option Files) (out : List �
   pub asked_is : asked ≡ Client out library names
   pub texts : HoldsClientTexts told library names p
 
--- the store told its files, and the image, which is there, stands under the name, no other file is changed, nothing was written, and the status is 0
+-- the store told its files, and the image, which is there and is bytes, stands under the name, no other file is changed, nothing was written, and the status is 0
 pub record PutsImage (image_is : Option (List ℕ)) (files : Option Files) (out : List ℕ) (status : ℕ) (new_files : Option Files) (old new : Option (List ℕ)) : Type 0 where
   pub told : Files
   pub files_are : files ≡ Some told

@@ -5,7 +5,8 @@ ghost use Rattle.som_cmd_check.specs.CheckEnds.{TellsAccepted, TellsBreach};
 ghost use Rattle.som_cmd_check.specs.ShowEnds.{ShowsProgram, ShowsRelease};
 ghost use Rattle.som_cmd.specs.Cause.{FailsOn};
 ghost use Rattle.som_cmd.specs.Complete.{EndsOrWants};
-ghost use Rattle.som_cmd.specs.Ends.{AreChecked, AreImagesOf, AreNewest, EndsAsTold, IsImageOf, IsImageOfClient, IsMadeFor, ShowsSome, StoreFails};
+ghost use Rattle.som_cmd.specs.Ends.{AreChecked, AreImagesOf, AreNewest, EndsAsTold, IsImageOf, IsImageOfClient, ShowsSome, StoreFails};
+ghost use Rattle.som_cmd.specs.Generating.{GeneratesAsked, IsMadeFor};
 ghost use Rattle.som_cmd.specs.PutEnds.{AreClientTextsOf, AreTextsOf, KeepsFiles, PutsProgram, PutsRelease};
 ghost use Rattle.som_cmd.specs.Refused.{TellsBadWords, TellsOneLine, statuses_of};
 ghost use Rattle.som_cmd.specs.Words.{Bad, asked};
@@ -52,6 +53,7 @@ fn do_command<S: Store, K: Sink>(
     ensures refuses_bad_words { asked words.now ≡ Bad → result ≢ 8 → result ≢ 10 → result ≡ 2 }
     ensures bad_text { asked words.now ≡ Bad → TellsBadWords result (K.written out.old) (K.written out.new) }
     ensures one_line { TellsOneLine (asked words.now) result (K.written out.old) (K.written out.new) }
+    ensures generates { GeneratesAsked (asked words.now) result (K.written out.old) (K.written out.new) }
     ensures calm { S.calm store.old → K.calm out.old → IsTrue (is_calm_status result) }
     ensures files { KeepsFiles (asked words.now) (S.files store.old) (S.faults store.old) (S.faults store.new) result (S.files store.new) (K.written out.old) (K.written out.new) }
 {
@@ -138,8 +140,10 @@ pub fn run_som<S: Store, K: Sink>(
         → result ≢ 6 → result ≢ 8 → result ≢ 10 → PutsProgram (S.files store.old) name p result (S.files store.new) (K.written out.old) (K.written out.new) }
 
     // What the generator makes of so many classes, and its client comes to on the second release, is printed, with that run's status.
-    ensures generated { (n : ℕ) (m : Made) → IsMadeFor (asked words.now) (S.files store.old) n m
-        → result ≢ 6 → result ≢ 8 → result ≢ 10 → TellsGenerated n m result (K.written out.old) (K.written out.new) }
+    ensures generated { (n : ℕ) (m : Made) → IsMadeFor (asked words.now) n m → result ≢ 8 → result ≢ 10 → TellsGenerated n m result (K.written out.old) (K.written out.new) }
+
+    // Also over a store that tells no files `generate` is its answer, or a front of that text where the sink failed or memory ran out.
+    ensures generates { GeneratesAsked (asked words.now) result (K.written out.old) (K.written out.new) }
 
     // Each command ends with one of these statuses.
     ensures statuses { Mem result (statuses_of (asked words.now)) }
@@ -166,7 +170,8 @@ pub fn run_som<S: Store, K: Sink>(
     // Over a store and a sink of which nothing is set to fail, neither is said to fail.
     ensures calm { S.calm store.old → K.calm out.old → IsTrue (is_calm_status result) }
 
-    // No file is changed, but by `library` and `client`, which put an image at status 0, or whose put failed in this call, and then what was written says so.
+    // No file is changed, but by `library` and `client`, which put an image at status 0; or the store failed in this call, what was written says that their put did,
+    // and the files are as such a put may leave them.
     ensures files { KeepsFiles (asked words.now) (S.files store.old) (S.faults store.old) (S.faults store.new) result (S.files store.new) (K.written out.old) (K.written out.new) }
 {
     do_command(alloc, words, store, out, host)

@@ -9,7 +9,7 @@ use Rattle.som_cmd_build.specs.ClientAnswer.{IsClientAnswer}
 use Rattle.som_cmd_generate.specs.GenerateAnswer.{IsGenerateAnswer}
 use Rattle.som_cmd.specs.Words.{asked, Run, Show, Check, Library, Client, Generate, Bad}
 use Rattle.som_cmd.specs.Answer.{runs, shows, checks, compiles, compiles_client, generates}
-use Rattle.som_cmd.proofs.EndLaws.{among, answered, bad_ends, bad_fronts, bad_status, bad_told, bad_untold, files_kept, front, generated_some, generated_told, none_written, one_line, store_failed}
+use Rattle.som_cmd.proofs.EndLaws.{among, answered, bad_ends, bad_fronts, bad_status, bad_told, bad_untold, files_kept, front, generated_asked, generated_some, generated_told, none_written, one_line, store_failed}
 use Rattle.som_cmd.proofs.WordLaws.{asked_mains, mains_by}
 use Rattle.som_cmd.proofs.top.do_command.Goals as goal
 
@@ -24,6 +24,9 @@ returns-in-Run-clause-statuses g c = among (asked c.args.words.now) (Run c.in-Ru
 
 pub returns-in-Run-clause-one_line : goal.returns-in-Run-clause-one_line
 returns-in-Run-clause-one_line g c = one_line (asked c.args.words.now) (Run c.in-Run.client.now c.in-Run.library.now c.in-Run.fuel (shown_in c.in-Run.trace)) c.in-Run.ensures c.run_client.result (g.K.Sink.written c.args.out.now) (g.K.Sink.written c.run_client.new.out) c.run_client.ensures.one_line
+
+pub returns-in-Run-clause-generates : goal.returns-in-Run-clause-generates
+returns-in-Run-clause-generates g c = generated_asked (asked c.args.words.now) (Run c.in-Run.client.now c.in-Run.library.now c.in-Run.fuel (shown_in c.in-Run.trace)) c.in-Run.ensures c.run_client.result (g.K.Sink.written c.args.out.now) (g.K.Sink.written c.run_client.new.out) tt
 
 pub returns-in-Run-clause-store_failed : goal.returns-in-Run-clause-store_failed
 returns-in-Run-clause-store_failed g c = λ six. store_failed (asked c.args.words.now) (Run c.in-Run.client.now c.in-Run.library.now c.in-Run.fuel (shown_in c.in-Run.trace)) c.in-Run.ensures (g.S.Store.files c.args.store.now) (g.S.Store.faults c.args.store.now) (g.S.Store.faults c.run_client.new.store) (g.K.Sink.written c.args.out.now) (g.K.Sink.written c.run_client.new.out) (c.run_client.ensures.store_failed six)
@@ -46,6 +49,9 @@ returns-in-Show-clause-statuses g c = among (asked c.args.words.now) (Show c.in-
 pub returns-in-Show-clause-one_line : goal.returns-in-Show-clause-one_line
 returns-in-Show-clause-one_line g c = one_line (asked c.args.words.now) (Show c.in-Show.image.now) c.in-Show.ensures c.show_image.result (g.K.Sink.written c.args.out.now) (g.K.Sink.written c.show_image.new.out) tt
 
+pub returns-in-Show-clause-generates : goal.returns-in-Show-clause-generates
+returns-in-Show-clause-generates g c = generated_asked (asked c.args.words.now) (Show c.in-Show.image.now) c.in-Show.ensures c.show_image.result (g.K.Sink.written c.args.out.now) (g.K.Sink.written c.show_image.new.out) tt
+
 pub returns-in-Show-clause-store_failed : goal.returns-in-Show-clause-store_failed
 returns-in-Show-clause-store_failed g c = λ six. store_failed (asked c.args.words.now) (Show c.in-Show.image.now) c.in-Show.ensures (g.S.Store.files c.args.store.now) (g.S.Store.faults c.args.store.now) (g.S.Store.faults c.show_image.new.store) (g.K.Sink.written c.args.out.now) (g.K.Sink.written c.show_image.new.out) (c.show_image.ensures.store_failed six)
 
@@ -67,6 +73,9 @@ returns-in-Check-clause-statuses g c = among (asked c.args.words.now) (Check c.i
 pub returns-in-Check-clause-one_line : goal.returns-in-Check-clause-one_line
 returns-in-Check-clause-one_line g c = one_line (asked c.args.words.now) (Check c.in-Check.images.now) c.in-Check.ensures c.check_images.result (g.K.Sink.written c.args.out.now) (g.K.Sink.written c.check_images.new.out) tt
 
+pub returns-in-Check-clause-generates : goal.returns-in-Check-clause-generates
+returns-in-Check-clause-generates g c = generated_asked (asked c.args.words.now) (Check c.in-Check.images.now) c.in-Check.ensures c.check_images.result (g.K.Sink.written c.args.out.now) (g.K.Sink.written c.check_images.new.out) tt
+
 pub returns-in-Check-clause-store_failed : goal.returns-in-Check-clause-store_failed
 returns-in-Check-clause-store_failed g c = λ six. store_failed (asked c.args.words.now) (Check c.in-Check.images.now) c.in-Check.ensures (g.S.Store.files c.args.store.now) (g.S.Store.faults c.args.store.now) (g.S.Store.faults c.check_images.new.store) (g.K.Sink.written c.args.out.now) (g.K.Sink.written c.check_images.new.out) (c.check_images.ensures.store_failed six)
 
@@ -87,6 +96,9 @@ returns-in-Library-clause-statuses g c = among (asked c.args.words.now) (Library
 
 pub returns-in-Library-clause-one_line : goal.returns-in-Library-clause-one_line
 returns-in-Library-clause-one_line g c = one_line (asked c.args.words.now) (Library c.in-Library.name.now c.in-Library.files.now) c.in-Library.ensures c.build_library.result (g.K.Sink.written c.args.out.now) (g.K.Sink.written c.build_library.new.out) tt
+
+pub returns-in-Library-clause-generates : goal.returns-in-Library-clause-generates
+returns-in-Library-clause-generates g c = generated_asked (asked c.args.words.now) (Library c.in-Library.name.now c.in-Library.files.now) c.in-Library.ensures c.build_library.result (g.K.Sink.written c.args.out.now) (g.K.Sink.written c.build_library.new.out) tt
 
 pub returns-in-Library-clause-store_failed : goal.returns-in-Library-clause-store_failed
 returns-in-Library-clause-store_failed g c = λ six. store_failed (asked c.args.words.now) (Library c.in-Library.name.now c.in-Library.files.now) c.in-Library.ensures (g.S.Store.files c.args.store.now) (g.S.Store.faults c.args.store.now) (g.S.Store.faults c.build_library.new.store) (g.K.Sink.written c.args.out.now) (g.K.Sink.written c.build_library.new.out) (c.build_library.ensures.store_failed six)
@@ -111,6 +123,9 @@ returns-in-Client-clause-statuses g c = among (asked c.args.words.now) (Client c
 
 pub returns-in-Client-clause-one_line : goal.returns-in-Client-clause-one_line
 returns-in-Client-clause-one_line g c = one_line (asked c.args.words.now) (Client c.in-Client.name.now c.in-Client.library.now c.in-Client.files.now) c.in-Client.ensures c.build_client.result (g.K.Sink.written c.args.out.now) (g.K.Sink.written c.build_client.new.out) tt
+
+pub returns-in-Client-clause-generates : goal.returns-in-Client-clause-generates
+returns-in-Client-clause-generates g c = generated_asked (asked c.args.words.now) (Client c.in-Client.name.now c.in-Client.library.now c.in-Client.files.now) c.in-Client.ensures c.build_client.result (g.K.Sink.written c.args.out.now) (g.K.Sink.written c.build_client.new.out) tt
 
 pub returns-in-Client-clause-store_failed : goal.returns-in-Client-clause-store_failed
 returns-in-Client-clause-store_failed g c = λ six. store_failed (asked c.args.words.now) (Client c.in-Client.name.now c.in-Client.library.now c.in-Client.files.now) c.in-Client.ensures (g.S.Store.files c.args.store.now) (g.S.Store.faults c.args.store.now) (g.S.Store.faults c.build_client.new.store) (g.K.Sink.written c.args.out.now) (g.K.Sink.written c.build_client.new.out) (c.build_client.ensures.store_failed six)
@@ -139,6 +154,11 @@ returns-in-Generate-clause-statuses g c = among (asked c.args.words.now) (Genera
 
 pub returns-in-Generate-clause-one_line : goal.returns-in-Generate-clause-one_line
 returns-in-Generate-clause-one_line g c = one_line (asked c.args.words.now) (Generate c.in-Generate.count) c.in-Generate.ensures c.generate.result (g.K.Sink.written c.args.out.now) (g.K.Sink.written c.generate.new.out) tt
+
+pub returns-in-Generate-clause-generates : goal.returns-in-Generate-clause-generates
+returns-in-Generate-clause-generates g c =
+    generated_asked (asked c.args.words.now) (Generate c.in-Generate.count) c.in-Generate.ensures c.generate.result (g.K.Sink.written c.args.out.now) (g.K.Sink.written c.generate.new.out)
+    (record { whole = c.generate.ensures.answered; front = c.generate.ensures.front })
 
 pub returns-in-Generate-clause-store_failed : goal.returns-in-Generate-clause-store_failed
 returns-in-Generate-clause-store_failed g c = λ six. absurd (c.generate.ensures.no_store six)
@@ -198,3 +218,9 @@ returns-in-Ok-clause-one_line g c = one_line (asked c.args.words.now) Bad c.in-B
 
 pub returns-in-Err-clause-one_line : goal.returns-in-Err-clause-one_line
 returns-in-Err-clause-one_line g c = one_line (asked c.args.words.now) Bad c.in-Bad.ensures 10 (g.K.Sink.written c.args.out.now) (g.K.Sink.written c.args.out.now) tt
+
+pub returns-in-Ok-clause-generates : goal.returns-in-Ok-clause-generates
+returns-in-Ok-clause-generates g c = generated_asked (asked c.args.words.now) Bad c.in-Bad.ensures c.say.result (g.K.Sink.written c.args.out.now) (g.K.Sink.written c.say.new.out) tt
+
+pub returns-in-Err-clause-generates : goal.returns-in-Err-clause-generates
+returns-in-Err-clause-generates g c = generated_asked (asked c.args.words.now) Bad c.in-Bad.ensures 10 (g.K.Sink.written c.args.out.now) (g.K.Sink.written c.args.out.now) tt

@@ -32,10 +32,10 @@ pub returns-clause-breach : goal.returns-clause-breach
 returns-clause-breach g c = λ names rs number b checked told not6 not8 not10. breach (asked c.args.words.now) (g.S.Store.files c.args.store.now) c.do_command.result (g.S.Store.files c.do_command.new.store) (g.K.Sink.written c.args.out.now) (g.K.Sink.written c.do_command.new.out) (c.do_command.ensures.answered not6 not8 not10) names rs number b checked told
 
 pub returns-clause-compiled : goal.returns-clause-compiled
-returns-clause-compiled g c = λ name r texts not6 not8 not10. compiled (asked c.args.words.now) (g.S.Store.files c.args.store.now) c.do_command.result (g.S.Store.files c.do_command.new.store) (g.K.Sink.written c.args.out.now) (g.K.Sink.written c.do_command.new.out) (c.do_command.ensures.answered not6 not8 not10) name r texts
+returns-clause-compiled g c = λ name r texts not6 not8 not10. compiled (asked c.args.words.now) (g.S.Store.files c.args.store.now) c.do_command.result (g.S.Store.files c.do_command.new.store) (g.K.Sink.written c.args.out.now) (g.K.Sink.written c.do_command.new.out) (c.do_command.ensures.answered not6 not8 not10) (g.S.Store.faults c.args.store.now) (g.S.Store.faults c.do_command.new.store) c.do_command.ensures.files name r texts
 
 pub returns-clause-client_compiled : goal.returns-clause-client_compiled
-returns-clause-client_compiled g c = λ name p texts not6 not8 not10. client_compiled (asked c.args.words.now) (g.S.Store.files c.args.store.now) c.do_command.result (g.S.Store.files c.do_command.new.store) (g.K.Sink.written c.args.out.now) (g.K.Sink.written c.do_command.new.out) (c.do_command.ensures.answered not6 not8 not10) name p texts
+returns-clause-client_compiled g c = λ name p texts not6 not8 not10. client_compiled (asked c.args.words.now) (g.S.Store.files c.args.store.now) c.do_command.result (g.S.Store.files c.do_command.new.store) (g.K.Sink.written c.args.out.now) (g.K.Sink.written c.do_command.new.out) (c.do_command.ensures.answered not6 not8 not10) (g.S.Store.faults c.args.store.now) (g.S.Store.faults c.do_command.new.store) c.do_command.ensures.files name p texts
 
 pub returns-clause-generated : goal.returns-clause-generated
-returns-clause-generated g c = λ n m made not6 not8 not10. generated (asked c.args.words.now) (g.S.Store.files c.args.store.now) c.do_command.result (g.S.Store.files c.do_command.new.store) (g.K.Sink.written c.args.out.now) (g.K.Sink.written c.do_command.new.out) (c.do_command.ensures.answered not6 not8 not10) n m made
+returns-clause-generated g c = λ n m made not8 not10. generated (asked c.args.words.now) c.do_command.result (g.K.Sink.written c.args.out.now) (g.K.Sink.written c.do_command.new.out) c.do_command.ensures.generates n m made not8 not10
