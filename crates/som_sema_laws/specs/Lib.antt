@@ -1,0 +1,3 @@
+pub mod Faces
+pub mod Replacing
+pub mod Modules
