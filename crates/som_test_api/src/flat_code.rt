@@ -1,6 +1,7 @@
 //! The instructions of nested loops and choices, one by one.
 
 use crate::images::release_of;
+use crate::memory::out_of_memory;
 use som_code::{Code, Constant, Instruction, lay_out};
 use som_model::{Body, Release};
 use std::alloc::Global;
@@ -147,7 +148,7 @@ fn code_of(alloc: Global, release: &Release) -> Result<Code, Fail> {
     let [Body::User(block)] = class.bodies.as_slice() else {
         return Err(Fail::from("one body"));
     };
-    Ok(lay_out(alloc, block, 0)?)
+    Ok(lay_out(alloc, block, 0).map_err(out_of_memory)?)
 }
 
 fn nested_code(alloc: Global) -> Result<Code, Fail> {

@@ -1,5 +1,6 @@
 //! Ancestors, descent and bodies in a diamond of four classes.
 
+use crate::memory::out_of_memory;
 use som_model::{List, NoMemory};
 use som_test_naive::{ancestors, descends, implementation};
 use std::alloc::Global;
@@ -18,15 +19,15 @@ fn rows(alloc: Global) -> Result<Vec<List<usize>>, NoMemory> {
 
 #[test]
 fn ancestors_go_from_left_to_right(rt: HostRuntime) -> Result<(), Fail> {
-    let rows = rows(rt.alloc())?;
-    let found = ancestors(rt.alloc(), rows.as_slice(), 3)?;
+    let rows = rows(rt.alloc()).map_err(out_of_memory)?;
+    let found = ancestors(rt.alloc(), rows.as_slice(), 3).map_err(out_of_memory)?;
     assert!(rt; found.as_slice() == [3, 1, 0, 2].as_slice());
     Ok(())
 }
 
 #[test]
 fn descent_and_bodies_are_found(rt: HostRuntime) -> Result<(), Fail> {
-    let rows = rows(rt.alloc())?;
+    let rows = rows(rt.alloc()).map_err(out_of_memory)?;
     let rows = rows.as_slice();
     assert!(rt; descends(rows, 3, 2));
     assert!(rt; !descends(rows, 2, 1));

@@ -3,6 +3,7 @@
 ghost use Rattle.som_libimage.specs.Limits.{IsWithinLimits};
 ghost use Rattle.std.specs.Prelude.{IfOk};
 
+use crate::memory::out_of_memory;
 use som_libimage::{decode, encode};
 use som_model::{List, Release};
 use som_verify::release_ok;
@@ -63,7 +64,7 @@ const SELECTED: &[u8] = b"SOML\x02\0\x04\
 pub fn release_of(alloc: Global, bytes: &[u8]) -> Result<Release, Fail>
     ensures { IfOk result IsWithinLimits }
 {
-    let image = List::from_slice(alloc, bytes)?;
+    let image = List::from_slice(alloc, bytes).map_err(out_of_memory)?;
     Ok(decode(alloc, &image)?)
 }
 
@@ -81,7 +82,7 @@ fn has_image(alloc: Global, release: &Release, bytes: &[u8]) -> Result<bool, Fai
 fn copy_has_image(alloc: Global, release: &Release, bytes: &[u8]) -> Result<bool, Fail>
     requires { IsWithinLimits release.now }
 {
-    let copy = release.copy(alloc)?;
+    let copy = release.copy(alloc).map_err(out_of_memory)?;
     has_image(alloc, &copy, bytes)
 }
 

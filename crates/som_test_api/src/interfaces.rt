@@ -1,6 +1,7 @@
 //! The faces of a release and of the kernel, as the rules see them.
 
 use crate::images::{HELLO, release_of};
+use crate::memory::out_of_memory;
 use som_builtins::kernel_faces;
 use som_compat::conforms;
 use som_model::{Interface, NoMemory, Release};
@@ -28,7 +29,7 @@ fn is_copied(alloc: Global, interface: &Interface) -> Result<bool, NoMemory> {
 // SOMObject has no parent, and so the kernel's faces don't conform.
 #[test]
 fn the_kernel_is_copied_and_does_not_conform(rt: HostRuntime) -> Result<(), Fail> {
-    let kernel = kernel_faces(rt.alloc())?;
+    let kernel = kernel_faces(rt.alloc()).map_err(out_of_memory)?;
     assert!(rt; matches!(is_copied(rt.alloc(), &kernel), Ok(true)));
     assert!(rt; matches!(conforms(rt.alloc(), &kernel), Ok(false)));
     Ok(())

@@ -1,5 +1,6 @@
 //! The lines that `show` has for a release with proxies, derived classes and great versions.
 
+use crate::memory::out_of_memory;
 use som_model::{Boxed, ClassFace, ClassKey, List, Module, NoMemory, Release, Text};
 use som_show::shown;
 use som_test_naive::{named, plain_class};
@@ -61,7 +62,7 @@ fn are_lines(lines: &[Text]) -> bool {
 
 #[test]
 fn made_classes_and_great_versions_are_shown(rt: HostRuntime) -> Result<(), Fail> {
-    let lines = lines_of_bells(rt.alloc())?;
+    let lines = lines_of_bells(rt.alloc()).map_err(out_of_memory)?;
     assert!(rt; are_lines(lines.as_slice()));
     Ok(())
 }

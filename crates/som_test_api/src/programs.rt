@@ -3,6 +3,7 @@
 ghost use Rattle.som_cliimage.specs.Limits.{IsWithinLimits};
 ghost use Rattle.std.specs.Prelude.{IfOk};
 
+use crate::memory::out_of_memory;
 use som_cliimage::{decode, encode};
 use som_model::{ClientProgram, List};
 use som_verify::program_ok;
@@ -39,7 +40,7 @@ const SELECTED: &[u8] = b"SOMC\x02\0\x03\
 pub fn program_of(alloc: Global, bytes: &[u8]) -> Result<ClientProgram, Fail>
     ensures { IfOk result IsWithinLimits }
 {
-    let image = List::from_slice(alloc, bytes)?;
+    let image = List::from_slice(alloc, bytes).map_err(out_of_memory)?;
     Ok(decode(alloc, &image)?)
 }
 

@@ -1,5 +1,6 @@
 //! A store in memory, with calls that fail.
 
+use crate::memory::out_of_memory;
 use som_io::{Got, Leaves, MemStore, Put, Store};
 use som_model::{List, Text};
 use std::test::Fail;
@@ -30,9 +31,9 @@ fn ends_so(
 
 #[test]
 fn a_store_gives_what_was_put(rt: HostRuntime) -> Result<(), Fail> {
-    let name = Text::from_slice(rt.alloc(), b"name")?;
-    let old = List::from_slice(rt.alloc(), b"old")?;
-    let new = List::from_slice(rt.alloc(), b"new")?;
+    let name = Text::from_slice(rt.alloc(), b"name").map_err(out_of_memory)?;
+    let old = List::from_slice(rt.alloc(), b"old").map_err(out_of_memory)?;
+    let new = List::from_slice(rt.alloc(), b"new").map_err(out_of_memory)?;
     let mut store = MemStore::new(rt.alloc());
     // Of the calls, counted from 0, three fail, and the last of them leaves nothing.
     assert!(rt; store.fail(0).is_ok());

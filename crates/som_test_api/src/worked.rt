@@ -3,6 +3,7 @@
 ghost use Rattle.som_test_examples.specs.Names.{IsIndex};
 ghost use Rattle.std.specs.Prelude.{◌≡◌, ◌<◌};
 
+use crate::memory::out_of_memory;
 use som_names::NameIndex;
 use som_tables::Steps;
 use som_test_examples::{
@@ -17,7 +18,7 @@ use std::test::Fail;
 #[test]
 fn the_sample_is_worked_out(rt: HostRuntime) -> Result<(), Fail> {
     let alloc = rt.alloc();
-    let sample = Sample::new(alloc)?;
+    let sample = Sample::new(alloc).map_err(out_of_memory)?;
     assert!(rt; metaclass_of_both(alloc, &sample).is_ok());
     assert!(rt; metaclass_of_one(alloc, &sample).is_ok());
     assert!(rt; hooks_of_both(alloc, &sample).is_ok());
@@ -38,7 +39,7 @@ fn is_sought<L: Ledger>(alloc: Global, index: &NameIndex, letter: u8, blank: Bla
 
 #[test]
 fn a_name_is_sought(rt: HostRuntime) -> Result<(), Fail> {
-    let index = diamond(rt.alloc())?;
+    let index = diamond(rt.alloc()).map_err(out_of_memory)?;
     assert!(rt; is_sought::<Brand>(rt.alloc(), &index, b'c', Blank::new(1)));
     Ok(())
 }

@@ -1,0 +1,16 @@
+//! The law of what is told of texts that break a rule.
+
+ghost use Rattle.som_ast.specs.declared.interface.IdlInterface.{IdlInterface};
+ghost use Rattle.som_model.specs.Rules.{RuleBreach};
+ghost use Rattle.som_model.specs.declared.key.Module.{Module};
+ghost use Rattle.som_model.specs.declared.program.Interface.{Interface};
+ghost use Rattle.som_sema.specs.Building.{texts_breach};
+ghost use Rattle.som_sema_breach_laws.specs.Telling.{IsFirstTold};
+ghost use Rattle.std.specs.Prelude.{◌≡◌, List as Seq, Some};
+
+/// What is told of interfaces that break one of the rules S1 to S12 is the first rule that one of them
+/// breaks, the first interface that breaks it, and the first of its members that does.
+pub fn first_told_law()
+    ensures { (m : Module) (base : Interface) (is : Seq IdlInterface) (b : RuleBreach) →
+        texts_breach m base is ≡ Some b → IsFirstTold m base is b }
+{}
