@@ -1,4 +1,4 @@
--- The texts of three classes, written out: what the definitions of texts come to there.
+-- The texts of three and of five classes, written out: what the definitions of texts come to there.
 use Rattle.std.specs.Prelude.{ℕ, List, [], ◌∷◌, ◌++◌, codes}
 
 -- each line with its end
@@ -53,6 +53,54 @@ client_main = lines (
     ∷ codes "  s = host wrapadd(s, (new G1).tag());"
     ∷ codes "  s = host wrapadd(s, (new G2).m2());"
     ∷ codes "  s = host wrapadd(s, (new G2).tag());"
+    ∷ codes "  print s;"
+    ∷ codes "}"
+    ∷ [])
+
+-- ---- five classes: G3 and G4 stand below G1, and G3 has a body of its own for `tag`
+
+abbrev pub first_interfaces_of_five : List ℕ
+first_interfaces_of_five = first_interfaces ++ lines (
+    codes "interface G3 : G1 { long m3(); implementation { releaseorder: m3; tag: override; }; };"
+    ∷ codes "interface G4 : G1 { long m4(); implementation { releaseorder: m4; }; };"
+    ∷ [])
+
+abbrev pub first_bodies_of_five : List ℕ
+first_bodies_of_five = first_bodies ++ lines (
+    codes "G3::m3() { return 3; }"
+    ∷ codes "G3::tag() { return 3; }"
+    ∷ codes "G4::m4() { return 4; }"
+    ∷ [])
+
+abbrev pub second_interfaces_of_five : List ℕ
+second_interfaces_of_five = second_interfaces ++ lines (
+    codes "interface G3 : G1 { long m3(); long extra3(); implementation { releaseorder: m3, extra3; tag: override; }; };"
+    ∷ codes "interface G4 : G1 { long m4(); long extra4(); implementation { releaseorder: m4, extra4; }; };"
+    ∷ [])
+
+abbrev pub second_bodies_of_five : List ℕ
+second_bodies_of_five = second_bodies ++ lines (
+    codes "G3::m3() { return 3; }"
+    ∷ codes "G3::tag() { return 3; }"
+    ∷ codes "G3::extra3() { return 3; }"
+    ∷ codes "G4::m4() { return 4; }"
+    ∷ codes "G4::extra4() { return 4; }"
+    ∷ [])
+
+abbrev pub client_main_of_five : List ℕ
+client_main_of_five = lines (
+    codes "main {"
+    ∷ codes "  var s : long = 0;"
+    ∷ codes "  s = host wrapadd(s, (new G0).m0());"
+    ∷ codes "  s = host wrapadd(s, (new G0).tag());"
+    ∷ codes "  s = host wrapadd(s, (new G1).m1());"
+    ∷ codes "  s = host wrapadd(s, (new G1).tag());"
+    ∷ codes "  s = host wrapadd(s, (new G2).m2());"
+    ∷ codes "  s = host wrapadd(s, (new G2).tag());"
+    ∷ codes "  s = host wrapadd(s, (new G3).m3());"
+    ∷ codes "  s = host wrapadd(s, (new G3).tag());"
+    ∷ codes "  s = host wrapadd(s, (new G4).m4());"
+    ∷ codes "  s = host wrapadd(s, (new G4).tag());"
     ∷ codes "  print s;"
     ∷ codes "}"
     ∷ [])

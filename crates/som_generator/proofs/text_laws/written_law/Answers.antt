@@ -21,3 +21,23 @@ returns-clause-second_bodies c = refl
 pub returns-clause-client_main : goal.returns-clause-client_main
 unfolding digits
 returns-clause-client_main c = refl
+
+pub returns-clause-first_interfaces_of_five : goal.returns-clause-first_interfaces_of_five
+unfolding digits
+returns-clause-first_interfaces_of_five c = refl
+
+pub returns-clause-first_bodies_of_five : goal.returns-clause-first_bodies_of_five
+unfolding digits
+returns-clause-first_bodies_of_five c = refl
+
+pub returns-clause-second_interfaces_of_five : goal.returns-clause-second_interfaces_of_five
+unfolding digits
+returns-clause-second_interfaces_of_five c = refl
+
+pub returns-clause-second_bodies_of_five : goal.returns-clause-second_bodies_of_five
+unfolding digits
+returns-clause-second_bodies_of_five c = refl
+
+pub returns-clause-client_main_of_five : goal.returns-clause-client_main_of_five
+unfolding digits
+returns-clause-client_main_of_five c = refl
