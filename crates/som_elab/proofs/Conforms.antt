@@ -1,5 +1,5 @@
 -- What texts stand for conforms.
-use Rattle.std.proofs.Common.{◌≡◌, inl, inr, List, [], ◌∷◌, ◌++◌, length, map, flat_map, take, drop, Option, Some, None, Result, Ok, Err, refl, sym, ap, ◌∙◌, subst}
+use Rattle.std.proofs.Common.{◌≡◌, inl, inr, List, [], ◌∷◌, ◌++◌, length, map, flat_map, take, drop, Option, Some, None, Result, Ok, refl, sym, ap, ◌∙◌, subst}
 use Rattle.som_model.specs.declared.key.Module.{Module}
 use Rattle.som_model.specs.declared.key.Module.TheVariants as modules
 use Rattle.som_model.specs.declared.class.ClassDecl.{ClassDecl}
@@ -13,11 +13,11 @@ use Rattle.som_model.specs.Lists.{Mem, first, or_else}
 use Rattle.som_model.specs.Steps.{◌>>=◌}
 use Rattle.som_model.specs.Class.{Class, bare, class_in, introduced}
 use Rattle.som_model.specs.Classes.{client_classes, interface_classes}
-use Rattle.som_model.specs.Conforming.{ProgramOk, ReleaseOk, all_of_program, class_typed, first_of_members, first_of_names, main_typed}
+use Rattle.som_model.specs.Conforming.{ProgramOk, ReleaseOk, all_of_program, class_typed, first_of_members, first_of_names, main_typed, main_breach}
 use Rattle.som_model.specs.Kernel.{kernel}
 use Rattle.som_model.specs.Rules.{RuleBreach, s5}
-use Rattle.som_model.specs.Typing.{Ruled, class_facts, in_main}
-use Rattle.som_model.specs.TypedBlocks.{Scope, block_scope}
+use Rattle.som_model.specs.Typing.{class_facts, in_main}
+use Rattle.som_model.specs.TypedBlocks.{block_scope}
 use Rattle.std.specs.Prelude.{codes}
 use Rattle.som_model_laws.proofs.Members.{mem_split}
 use Rattle.som_ast.specs.declared.interface.IdlInterface.{IdlInterface}
@@ -266,10 +266,6 @@ release_conforms is bs r h =
     (record { rules = say_rules (record { classes = x.value }) (record { faces = record { classes = s.classes; types = s.own_types }; bodies = s.bodies }); blocks = s.blocks })
 
 -- ---- client programs
-
-abbrev main_breach : Ruled Scope → List RuleBreach
-main_breach (Ok scope) = []
-main_breach (Err rule) = record { rule = rule; class = codes "main"; member = codes "-" } ∷ []
 
 pub program_conforms : (base : Interface) (is : List IdlInterface) (bs : List BodyText) (main : BlockText) (p : ClientProgram) → faces_breach (interface_classes base) ≡ None → elaborated_program base is bs main ≡ Ok p → ProgramOk p
 unfolding elaborated_program

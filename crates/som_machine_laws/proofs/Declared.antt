@@ -20,10 +20,10 @@ use Rattle.som_model.specs.Loads.{IsOrdered, Loads}
 use Rattle.som_model.specs.Made.{blocks_of_class}
 use Rattle.som_model.specs.Owner.{owner, sig_of}
 use Rattle.som_model.specs.Same.{same_type}
-use Rattle.som_model.specs.Rules.{RuleBreach, body_fits, breach, demand, demand_of, is_void}
+use Rattle.som_model.specs.Rules.{body_fits, demand, demand_of, is_void}
 use Rattle.som_model.specs.Typing.{ClassFacts, Ruled, in_body, in_main, running_facts}
 use Rattle.som_model.specs.TypedBlocks.{Scope, block_scope}
-use Rattle.som_model.specs.Conforming.{block_breach_by, bodies_typed_by, override_typed_by, main_typed_by}
+use Rattle.som_model.specs.Conforming.{block_breach_by, bodies_typed_by, override_typed_by, main_typed_by, override_breach_by}
 use Rattle.som_semantics.specs.World.{world}
 use Rattle.som_model.proofs.KeyLaws.{both}
 use Rattle.som_model_laws.proofs.Members.{mem_split}
@@ -32,6 +32,7 @@ use Rattle.som_model_laws.proofs.Standing.{found, found_is}
 use Rattle.som_release_laws.proofs.Facing.{demanded, demanded_of}
 use Rattle.som_release_laws.proofs.Inheriting.{s10_says}
 use Rattle.som_release_laws.proofs.Lists.{flat_at, none_left}
+use Rattle.som_release_laws.proofs.TypedClasses.{well}
 use Rattle.som_type_soundness.proofs.Facts.{IsClass}
 use Rattle.som_type_soundness.proofs.Fitting.{a_class_here}
 use Rattle.som_type_soundness.proofs.Loading.{world_is}
@@ -49,21 +50,9 @@ block_in (bodies.User b) = b ∷ []
 block_in (bodies.Get n) = []
 block_in (bodies.Set n) = []
 
-abbrev body_breach : Class → List ℕ → Ruled Scope → List RuleBreach
-body_breach c name (Ok scope) = []
-body_breach c name (Err rule) = breach rule c name ∷ []
-
-abbrev override_breach : ClassFacts → Class → Override → Option Sig → List RuleBreach
-override_breach w c o None = []
-override_breach w c o (Some s) = block_breach_by w c o.method.name s o.block
-
 abbrev is_one : List ValueType → ValueType → Bool
 is_one (p ∷ []) t = same_type p t
 is_one _ t = false
-
-well : (c : Class) (name : List ℕ) (x : Ruled Scope) → body_breach c name x ≡ [] → (after : Scope) × (x ≡ Ok after)
-well c name (Ok after) e = (after, refl)
-well c name (Err rule) e = absurd (let z = e in cc)
 
 kernel_empty : (c : Class) → Mem c kernel → (c.decl.bodies ≡ []) × (c.decl.overrides ≡ [])
 kernel_empty c (inl e) = (ap (λ (z : Class). z.decl.bodies) e, ap (λ (z : Class). z.decl.overrides) e)
@@ -99,7 +88,7 @@ module _ (w : ClassFacts) (c : Class) where
   in_bodies (entries.Introduced name sig way ∷ es) (bodies.Get i ∷ bs) b n e m = in_bodies es bs b (omega (arith, n)) e m
   in_bodies (entries.Introduced name sig way ∷ es) (bodies.Set i ∷ bs) b n e m = in_bodies es bs b (omega (arith, n)) e m
 
-  in_override : (o : Override) (q : Option Sig) → IsSome q → override_breach w c o q ≡ [] → IsTypedIn w c o.block
+  in_override : (o : Override) (q : Option Sig) → IsSome q → override_breach_by w c o q ≡ [] → IsTypedIn w c o.block
   in_override o None s e = absurd (true≢false (sym s))
   in_override o (Some sig) s e = typed_in o.method.name sig o.block e
 
@@ -168,7 +157,7 @@ module _ (cs : List Class) (main : Block) (l : Loads cs main) where
         | inl k ↦ in_bodies w c c.decl.face.entries c.decl.bodies b (as_many c m) t.0 k
         | inr k ↦ (
             let r = map_mem (λ (x : Override). x.block) b c.decl.overrides k in
-            let typed : override_breach w c r.0 (sig_of all (owner all r.0.method)) ≡ [] = flat_at (override_typed_by w all c) c.decl.overrides r.0 t.1 r.1 in
+            let typed : override_breach_by w c r.0 (sig_of all (owner all r.0.method)) ≡ [] = flat_at (override_typed_by w all c) c.decl.overrides r.0 t.1 r.1 in
             let signed : IsSome (sig_of all (owner all r.0.method)) = ((s10_says all c (l.inherited c m)).overrides.0 r.0 r.1).1 in
             subst (IsTypedIn w c) (sym r.2) (in_override w c r.0 (sig_of all (owner all r.0.method)) signed typed))
       ]

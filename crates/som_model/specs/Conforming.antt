@@ -63,7 +63,7 @@ declared_program_breach p = let base = interface_classes p.base in let own = cli
 -- ---- S16 to S20, body by body, by what typing asks of the classes: in images nothing can break S15
 
 -- a method's body that breaks a rule
-abbrev body_breach : Class → List ℕ → Ruled Scope → List RuleBreach
+abbrev pub body_breach : Class → List ℕ → Ruled Scope → List RuleBreach
 body_breach c name (Ok scope) = []
 body_breach c name (Err rule) = breach rule c name ∷ []
 
@@ -80,7 +80,8 @@ bodies_typed_by w c (entries.Introduced name sig way ∷ es) (bodies.User block 
 bodies_typed_by w c (entries.Introduced name sig way ∷ es) (bodies.Get n ∷ bs) = bodies_typed_by w c es bs
 bodies_typed_by w c (entries.Introduced name sig way ∷ es) (bodies.Set n ∷ bs) = bodies_typed_by w c es bs
 
-abbrev override_breach_by : ClassFacts → Class → Override → Option Sig → List RuleBreach
+-- what an override breaks, by the signature of the method that it replaces; one without a signature breaks nothing here
+abbrev pub override_breach_by : ClassFacts → Class → Override → Option Sig → List RuleBreach
 override_breach_by w c o None = []
 override_breach_by w c o (Some sig) = block_breach_by w c o.method.name sig o.block
 
@@ -106,7 +107,7 @@ abbrev pub class_typed : List Class → Class → List RuleBreach
 class_typed cs = class_typed_by (class_facts cs) cs
 
 -- main that breaks a rule
-abbrev main_breach : Ruled Scope → List RuleBreach
+abbrev pub main_breach : Ruled Scope → List RuleBreach
 main_breach (Ok scope) = []
 main_breach (Err rule) = record { rule = rule; class = codes "main"; member = codes "-" } ∷ []
 

@@ -1,5 +1,5 @@
 -- The bodies of a class that are well typed among some classes are so among those that have what these had.
-use Rattle.std.proofs.Common.{◌≡◌, ℕ, inl, inr, List, [], ◌∷◌, ◌++◌, flat_map, length, Option, Some, None, Ok, Err, refl, sym, ap, ◌∙◌, arith}
+use Rattle.std.proofs.Common.{◌≡◌, ℕ, inl, inr, List, [], ◌∷◌, ◌++◌, flat_map, length, Some, Ok, Err, refl, sym, ap, ◌∙◌, arith}
 use Rattle.som_model.specs.declared.key.MethodRef.{MethodRef}
 use Rattle.som_model.specs.declared.syntax.Block.{Block}
 use Rattle.som_model.specs.declared.class.Sig.{Sig}
@@ -11,10 +11,9 @@ use Rattle.som_model.specs.declared.class.Override.{Override}
 use Rattle.som_model.specs.declared.class.Select.{Select}
 use Rattle.som_model.specs.Lists.{Mem}
 use Rattle.som_model.specs.Class.{Class, introduced}
-use Rattle.som_model.specs.Conforming.{block_breach_by, bodies_typed_by, class_typed_by, main_typed_by, override_typed_by}
+use Rattle.som_model.specs.Conforming.{block_breach_by, bodies_typed_by, class_typed_by, main_typed_by, override_typed_by, body_breach, override_breach_by}
 use Rattle.som_model.specs.Named.{block_names, body_names, method_names, override_names, select_names}
 use Rattle.som_model.specs.Owner.{owner, sig_of}
-use Rattle.som_model.specs.Rules.{RuleBreach, breach}
 use Rattle.som_model.specs.Typing.{ClassFacts, Ruled, in_body, in_main}
 use Rattle.som_model.specs.TypedBlocks.{Scope, block_scope}
 use Rattle.som_release_laws.specs.Refining.{AreKnown, Refines}
@@ -22,15 +21,8 @@ use Rattle.som_release_laws.proofs.Lists.{both_none, none_left}
 use Rattle.som_release_laws.proofs.Statements.{block_carried}
 use Rattle.som_release_laws.proofs.TypesBelow.{both_named, none_named}
 
-abbrev body_breach : Class → List ℕ → Ruled Scope → List RuleBreach
-body_breach c name (Ok scope) = []
-body_breach c name (Err rule) = breach rule c name ∷ []
-
-abbrev override_breach_by : ClassFacts → Class → Override → Option Sig → List RuleBreach
-override_breach_by w c o None = []
-override_breach_by w c o (Some sig) = block_breach_by w c o.method.name sig o.block
-
-well : (c : Class) (name : List ℕ) (x : Ruled Scope) → body_breach c name x ≡ [] → (after : Scope) × (x ≡ Ok after)
+-- what a body came to that breaks no rule
+pub well : (c : Class) (name : List ℕ) (x : Ruled Scope) → body_breach c name x ≡ [] → (after : Scope) × (x ≡ Ok after)
 well c name (Ok after) e = (after, refl)
 well c name (Err rule) e = absurd (cc)
 

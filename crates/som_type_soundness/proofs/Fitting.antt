@@ -1,5 +1,5 @@
 -- Each body that a class has for a method fits the method's signature, where the classes can be loaded.
-use Rattle.std.proofs.Common.{◌≡◌, ℕ, inl, inr, Bool, true, false, ◌||◌, if◌then◌else◌, List, [], ◌∷◌, ◌++◌, map, flat_map, length, ◌==◌, Option, Some, None, slice_get, Ok, Err, refl, sym, ap, ◌∙◌, subst, true≢false}
+use Rattle.std.proofs.Common.{◌≡◌, ℕ, inl, inr, Bool, true, false, ◌||◌, if◌then◌else◌, List, [], ◌∷◌, ◌++◌, map, flat_map, length, ◌==◌, Option, Some, None, slice_get, refl, sym, ap, ◌∙◌, subst, true≢false}
 use Rattle.std.specs.Prelude.{is_some, codes}
 use Rattle.std.specs.Str.{bytes_eq}
 use Rattle.som_model.specs.declared.key.Module.TheVariants as modules
@@ -33,10 +33,10 @@ use Rattle.som_model.specs.Implementation as helds
 use Rattle.som_model.specs.Metaclass.{meta, hooks}
 use Rattle.som_semantics.specs.World.{World, named_class}
 use Rattle.som_semantics.specs.Invoked.{table, kernel_body}
-use Rattle.som_model.specs.Rules.{RuleBreach, breach, body_fits, demand, is_void}
-use Rattle.som_model.specs.Conforming.{block_breach_by, bodies_typed_by, override_typed_by}
-use Rattle.som_model.specs.Typing.{ClassFacts, Ruled, in_body, running_facts}
-use Rattle.som_model.specs.TypedBlocks.{Scope, block_scope}
+use Rattle.som_model.specs.Rules.{body_fits, demand, is_void}
+use Rattle.som_model.specs.Conforming.{block_breach_by, bodies_typed_by, override_typed_by, override_breach_by}
+use Rattle.som_model.specs.Typing.{ClassFacts, in_body, running_facts}
+use Rattle.som_model.specs.TypedBlocks.{block_scope}
 use Rattle.som_model.specs.Loads.{IsOrdered, Loads}
 use Rattle.som_model.proofs.KeyLaws.{both, exact_keys}
 use Rattle.som_model.proofs.NamedLaws.{hierarchy_parents}
@@ -47,6 +47,7 @@ use Rattle.som_model_laws.proofs.Standing.{falls, found_is, parents_known, rolle
 use Rattle.som_model_laws.proofs.Owners.{entry_is, entry_mem}
 use Rattle.som_release_laws.proofs.Facing.{tests}
 use Rattle.som_release_laws.proofs.Lists.{flat_at, none_left}
+use Rattle.som_release_laws.proofs.TypedClasses.{well}
 use Rattle.som_type_soundness.proofs.Facts.{IsBody, IsClass, IsKernelSig, facts_of, sig}
 use Rattle.som_type_soundness.proofs.Classes.{kind_is, kind_some, object_at, proper_parent}
 use Rattle.som_type_soundness.proofs.Values.{one_type}
@@ -77,18 +78,6 @@ abbrev pub known_in : List Class → ClassKey → Bool
 known_in cs k = is_some (class_at cs k)
 
 -- ---- blocks
-
-abbrev body_breach : Class → List ℕ → Ruled Scope → List RuleBreach
-body_breach c name (Ok scope) = []
-body_breach c name (Err rule) = breach rule c name ∷ []
-
-well : (c : Class) (name : List ℕ) (x : Ruled Scope) → body_breach c name x ≡ [] → (after : Scope) × (x ≡ Ok after)
-well c name (Ok after) e = (after, refl)
-well c name (Err rule) e = absurd (let z = e in cc)
-
-abbrev override_breach : ClassFacts → Class → Override → Option Sig → List RuleBreach
-override_breach w c o None = []
-override_breach w c o (Some s) = block_breach_by w c o.method.name s o.block
 
 -- ---- accessors
 
@@ -282,9 +271,9 @@ module _ (cs : List Class) (main : Block) (l : Loads cs main) where
       elim (mem_split c kernel cs (found_is cs o y c e).0) [
         | inl m ↦ absurd (subst (λ z. Mem x.0 z) (kernel_overrides c m) x.1)
         | inr m ↦ (
-            let typed : override_breach F c x.0 (sig_of all (owner all x.0.method)) ≡ [] = flat_at (override_typed_by F all c) c.decl.overrides x.0 (typed_parts c m).1 x.1 in
+            let typed : override_breach_by F c x.0 (sig_of all (owner all x.0.method)) ≡ [] = flat_at (override_typed_by F all c) c.decl.overrides x.0 (typed_parts c m).1 x.1 in
             let signed : sig_of all (owner all x.0.method) ≡ Some s = ap (sig_of all) x.2 ∙ g in
-            subst (IsBody W (known_in all) y r s) x.3 (block_fits y r c x.0.method.name s x.0.block e (subst (λ q. override_breach F c x.0 q ≡ []) signed typed)))
+            subst (IsBody W (known_in all) y r s) x.3 (block_fits y r c x.0.method.name s x.0.block e (subst (λ q. override_breach_by F c x.0 q ≡ []) signed typed)))
       ]
 
   declared_by : (y : ClassKey) (r : MethodRef) (c : Class) (s : Sig) (b : Held) (t : Bool) → same_key c.key r.class ≡ t → class_at all y ≡ Some c → sig_of all r ≡ Some s → or_else (if t then introduced_body c r.name else None) (override_of all r c.decl.overrides) ≡ Some b → IsBody W (known_in all) y r s b
