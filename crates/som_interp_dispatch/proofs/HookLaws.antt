@@ -22,14 +22,16 @@ use Rattle.som_model.specs.Metaclass.{hooks}
 use Rattle.som_model.specs.Loads.{IsOrdered, Loads}
 use Rattle.som_model.proofs.KeyLaws.{both, exact_keys}
 use Rattle.som_model.proofs.NamedLaws.{same_named}
+use Rattle.som_semantics.specs.World.{answers_of}
+use Rattle.som_semantics.proofs.WorldLaws.{answers_are}
 use Rattle.som_model_laws.proofs.Members.{mem_split}
 use Rattle.som_model_laws.proofs.Standing.{found_is}
 use Rattle.som_release_laws.proofs.Facing.{tests}
 use Rattle.som_release_laws.proofs.Inheriting.{s10_says}
 use Rattle.som_type_soundness.proofs.Facts.{IsSound}
-use Rattle.som_type_soundness.proofs.Fitting.{known_in, plain}
+use Rattle.som_type_soundness.proofs.Fitting.{known_in}
 use Rattle.som_type_soundness.proofs.Methods.{one_method}
-use Rattle.som_type_soundness.proofs.Loading.{sound_world, world_is}
+use Rattle.som_type_soundness.proofs.Loading.{sound_world}
 
 -- ---- who has a body answers
 
@@ -104,11 +106,11 @@ module _ (cs : List Class) (main : Block) (l : Loads cs main) where
       by true t m k g = subst (λ z. is_a all x z ≡ true) (sym k ∙ exact_keys.two c.key r.class t) (tests cs o x x itself)
       by false t m k g = first None m k refl g
 
-  plain_sound : IsSound (plain all) (known_in all)
-  plain_sound = subst (λ w. IsSound w (known_in all)) (sym (world_is cs main l)) (sound_world cs main l)
+  plain_sound : IsSound (answers_of all) (known_in all)
+  plain_sound = subst (λ w. IsSound w (known_in all)) (sym (answers_are all)) (sound_world cs main l)
 
   -- a proxy's class has bodies for methods of the class that it is a proxy of
-  proxy_above : (x c : ClassKey) (r : MethodRef) (s : Sig) (b : Held) → (plain all).sig r ≡ Some s → (same_method r som_init || same_method r som_uninit) ≡ false → held all x r ≡ proxy_held all c r → proxy_held all c r ≡ Some b → is_a all x r.class ≡ true
+  proxy_above : (x c : ClassKey) (r : MethodRef) (s : Sig) (b : Held) → (answers_of all).sig r ≡ Some s → (same_method r som_init || same_method r som_uninit) ≡ false → held all x r ≡ proxy_held all c r → proxy_held all c r ≡ Some b → is_a all x r.class ≡ true
   proxy_above x c r s b known not_init is f = by (same_method r som_init || same_method r som_uninit) not_init (some (same_method r) (forwards all c)) is f
     where
       by : (u : Bool) → u ≡ false → (t : Bool) → held all x r ≡ (if u then Some Nothing else (if t then Some Forward else None)) → (if u then Some Nothing else (if t then Some Forward else None)) ≡ Some b → is_a all x r.class ≡ true
@@ -119,7 +121,7 @@ module _ (cs : List Class) (main : Block) (l : Loads cs main) where
           subst (λ z. is_a all z r.class ≡ true) (sym k.1) (plain_sound.through (keys.Proxy k.0) k.0 r.class (plain_sound.proxy k.0) k.2)
 
   -- a class that has a body for a method descends from the method's class
-  pub body_above : (x : ClassKey) (r : MethodRef) (s : Sig) (b : Held) → (plain all).sig r ≡ Some s → (same_method r som_init || same_method r som_uninit) ≡ false → held all x r ≡ Some b → is_a all x r.class ≡ true
+  pub body_above : (x : ClassKey) (r : MethodRef) (s : Sig) (b : Held) → (answers_of all).sig r ≡ Some s → (same_method r som_init || same_method r som_uninit) ≡ false → held all x r ≡ Some b → is_a all x r.class ≡ true
   body_above x r s b known not_init e = by (out-ClassKey x) refl e
     where
       by : (y : ClassKey-F ClassKey) → out-ClassKey x ≡ y → held_by all y x r ≡ Some b → is_a all x r.class ≡ true

@@ -16,7 +16,8 @@ use Rattle.som_model.specs.Classes.{class_at, hierarchy, is_a}
 use Rattle.som_model.specs.Owner.{owner}
 use Rattle.som_model.specs.Implementation.{has_body, select_of, selected_in, selected}
 use Rattle.som_model.specs.Rules.{is_parent_below}
-use Rattle.som_semantics.specs.World.{World, world}
+use Rattle.som_semantics.specs.World.{World, world, answers_of}
+use Rattle.som_semantics.proofs.WorldLaws.{answers_are}
 use Rattle.som_model.specs.Loads.{IsOrdered, Loads}
 use Rattle.som_model_laws.proofs.Members.{mem_split}
 use Rattle.som_model_laws.proofs.Laws.{implementation_above}
@@ -25,9 +26,9 @@ use Rattle.som_model_laws.proofs.Standing.{found_is, parents_known}
 use Rattle.som_release_laws.proofs.Facing.{tested}
 use Rattle.som_release_laws.proofs.Inheriting.{s10_says}
 use Rattle.som_type_soundness.proofs.Facts.{IsSound}
-use Rattle.som_type_soundness.proofs.Fitting.{known_in, plain}
+use Rattle.som_type_soundness.proofs.Fitting.{known_in}
 use Rattle.som_type_soundness.proofs.Methods.{one_method}
-use Rattle.som_type_soundness.proofs.Loading.{sound_world, world_is}
+use Rattle.som_type_soundness.proofs.Loading.{sound_world}
 use Rattle.som_machine_laws.specs.Needs.{AreClosed}
 
 -- it has the parents and the metaclass of each of its classes, and SOMObject and SOMClassMgr
@@ -90,10 +91,10 @@ module _ (cs : List Class) (main : Block) (l : Loads cs main) where
   made_below made up x a itself m = m
   made_below made up x a (by_parent p n d) m = made_below made up p a d (up x p m n)
 
-  plain_sound : IsSound (plain all) (known_in all)
-  plain_sound = subst (λ w. IsSound w (known_in all)) (sym (world_is cs main l)) (sound_world cs main l)
+  plain_sound : IsSound (answers_of all) (known_in all)
+  plain_sound = subst (λ w. IsSound w (known_in all)) (sym (answers_are all)) (sound_world cs main l)
 
-  plain_closed : (made : ClassKey → Bool) → AreUpwards (plain all) made → AreClosed (plain all) made
+  plain_closed : (made : ClassKey → Bool) → AreUpwards (answers_of all) made → AreClosed (answers_of all) made
   unfolding hierarchy
   plain_closed made up = record {
     object = up.object;
@@ -105,4 +106,4 @@ module _ (cs : List Class) (main : Block) (l : Loads cs main) where
   }
 
   pub closed : (made : ClassKey → Bool) → AreUpwards (world all) made → AreClosed (world all) made
-  closed made up = subst (λ w. AreClosed w made) (world_is cs main l) (plain_closed made (subst (λ w. AreUpwards w made) (sym (world_is cs main l)) up))
+  closed made up = subst (λ w. AreClosed w made) (answers_are all) (plain_closed made (subst (λ w. AreUpwards w made) (sym (answers_are all)) up))

@@ -25,6 +25,7 @@ use Rattle.som_model.specs.Typing.{ClassFacts, Ruled, in_body, in_main, running_
 use Rattle.som_model.specs.TypedBlocks.{Scope, block_scope}
 use Rattle.som_model.specs.Conforming.{block_breach_by, bodies_typed_by, override_typed_by, main_typed_by, override_breach_by}
 use Rattle.som_semantics.specs.World.{world}
+use Rattle.som_semantics.proofs.WorldLaws.{answers_are}
 use Rattle.som_model.proofs.KeyLaws.{both}
 use Rattle.som_model_laws.proofs.Members.{mem_split}
 use Rattle.som_model_laws.proofs.Lists.{get_mem, map_mem}
@@ -35,7 +36,6 @@ use Rattle.som_release_laws.proofs.Lists.{flat_at, none_left}
 use Rattle.som_release_laws.proofs.TypedClasses.{well}
 use Rattle.som_type_soundness.proofs.Facts.{IsClass}
 use Rattle.som_type_soundness.proofs.Fitting.{a_class_here}
-use Rattle.som_type_soundness.proofs.Loading.{world_is}
 use Rattle.som_type_soundness.proofs.Methods.{fits_from}
 use Rattle.som_code.specs.declared.instruction.Instruction.{Instruction}
 use Rattle.som_code.specs.declared.instruction.Instruction.TheVariants as ops
@@ -131,7 +131,7 @@ module _ (cs : List Class) (main : Block) (l : Loads cs main) where
   as_many c m = eqb-true (length c.decl.bodies) (length (introduced c.decl.face.entries)) (demanded 14 c _ (none_left _ _ (l.bodies c m)).0)
 
   is_class : (c : Class) → Mem c all → IsClass (world all) c
-  is_class c m = subst (λ z. IsClass z c) (world_is cs main l) (a_class_here cs main l c.key c (found cs o c c.key m refl) refl)
+  is_class c m = subst (λ z. IsClass z c) (answers_are all) (a_class_here cs main l c.key c (found cs o c c.key m refl) refl)
 
   has_variable : (c : Class) → Mem c all → (n : ℕ) → IsSome (variable_kind (Some c) n) → HasVariable (world all) c.key n
   has_variable c m n e = by (variable_kind (Some c) n) refl e

@@ -1,3 +1,4 @@
+pub mod WorldLaws
 pub mod CallLaws
 pub mod LoopLaws
 pub mod FuelLaws

@@ -65,13 +65,14 @@ key_in (Some c) = Some c.key
 abbrev pub named_class : List Class → List ℕ → Option ClassKey
 named_class cs name = first_some (λ m. key_in (class_at cs (keys.Named m name))) (searched cs)
 
-abbrev reference : List ℕ → Option ClassKey → Option MethodRef
+-- the method of a name in the class that was found for it
+abbrev pub reference : List ℕ → Option ClassKey → Option MethodRef
 reference name None = None
 reference name (Some k) = Some (record { class = k; name = name })
 
--- what these classes answer
-unfoldable pub world : List Class → World
-world cs = record {
+-- what these classes answer, written out
+abbrev pub answers_of : List Class → World
+answers_of cs = record {
   parents = parents_of cs;
   is_a = is_a cs;
   meta = meta cs;
@@ -85,3 +86,7 @@ world cs = record {
   version = version_of cs;
   named = named_class cs;
 }
+
+-- what these classes answer; proofs see into it only where they open it
+unfoldable pub world : List Class → World
+world cs = answers_of cs

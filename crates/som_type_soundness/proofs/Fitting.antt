@@ -23,15 +23,13 @@ use Rattle.som_model.specs.Keys.{same_key, same_method}
 use Rattle.som_model.specs.Same.{same_type}
 use Rattle.som_model.specs.Hierarchy.{Hierarchy}
 use Rattle.som_model.specs.Ancestors.{itself, by_parent}
-use Rattle.som_model.specs.Resolution.{byname}
 use Rattle.som_model.specs.Class.{Class, bare, class_in, entry_name, entry_of, introduced, introduced_sig}
 use Rattle.som_model.specs.Kernel.{kernel, som_object, som_init, som_uninit, object_face, class_face, class_mgr_face, before_after_face}
-use Rattle.som_model.specs.Classes.{class_at, ancestors, hierarchy, is_a, parents_of, variable_type, version_of}
+use Rattle.som_model.specs.Classes.{class_at, ancestors, hierarchy, is_a, variable_type}
 use Rattle.som_model.specs.Owner.{introduced_by, introduces, owner, sig_of}
-use Rattle.som_model.specs.Implementation.{Held, is_kernel, held, held_by, declared_held, introduced_body, body_named, override_of, proxy_held, forwards, implementation}
+use Rattle.som_model.specs.Implementation.{Held, is_kernel, held, held_by, declared_held, introduced_body, body_named, override_of, proxy_held, forwards}
 use Rattle.som_model.specs.Implementation as helds
-use Rattle.som_model.specs.Metaclass.{meta, hooks}
-use Rattle.som_semantics.specs.World.{World, named_class}
+use Rattle.som_semantics.specs.World.{World, answers_of}
 use Rattle.som_semantics.specs.Invoked.{table, kernel_body}
 use Rattle.som_model.specs.Rules.{body_fits, demand, is_void}
 use Rattle.som_model.specs.Conforming.{block_breach_by, bodies_typed_by, override_typed_by, override_breach_by}
@@ -52,27 +50,6 @@ use Rattle.som_type_soundness.proofs.Facts.{IsBody, IsClass, IsKernelSig, facts_
 use Rattle.som_type_soundness.proofs.Classes.{kind_is, kind_some, object_at, proper_parent}
 use Rattle.som_type_soundness.proofs.Values.{one_type}
 use Rattle.som_type_soundness.proofs.Methods.{fits_from, held_body, kernel_is, named_fits, one_method, own_is}
-
-abbrev reference : List ℕ → Option ClassKey → Option MethodRef
-reference name None = None
-reference name (Some k) = Some (record { class = k; name = name })
-
--- what these classes answer, to be seen through
-abbrev pub plain : List Class → World
-plain cs = record {
-  parents = parents_of cs;
-  is_a = is_a cs;
-  meta = meta cs;
-  hooks = hooks cs;
-  owner = owner cs;
-  sig = sig_of cs;
-  byname = λ k name. reference name (byname (hierarchy cs) (introduces cs name) k);
-  impl = implementation cs;
-  held = held cs;
-  variable = variable_type cs;
-  version = version_of cs;
-  named = named_class cs;
-}
 
 abbrev pub known_in : List Class → ClassKey → Bool
 known_in cs k = is_some (class_at cs k)
@@ -194,7 +171,7 @@ module _ (cs : List Class) (main : Block) (l : Loads cs main) where
   h = hierarchy all
 
   abbrev W : World
-  W = plain all
+  W = answers_of all
 
   abbrev F : ClassFacts
   F = facts_of W (known_in all)

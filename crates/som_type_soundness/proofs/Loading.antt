@@ -17,7 +17,8 @@ use Rattle.som_model.specs.Classes.{class_at, ancestors, hierarchy, is_a}
 use Rattle.som_model.specs.Owner.{introduces, owner, sig_of}
 use Rattle.som_model.specs.Implementation.{has_body}
 use Rattle.som_model.specs.Metaclass.{hooks}
-use Rattle.som_semantics.specs.World.{world}
+use Rattle.som_semantics.specs.World.{world, answers_of, reference}
+use Rattle.som_semantics.proofs.WorldLaws.{answers_are}
 use Rattle.som_model.specs.Typing.{ClassFacts, Ruled, in_main, running_facts}
 use Rattle.som_model.specs.TypedBlocks.{Scope, block_scope}
 use Rattle.som_model.specs.Conforming.{main_typed_by}
@@ -31,11 +32,7 @@ use Rattle.som_type_soundness.proofs.Heaps.{some_is}
 use Rattle.som_type_soundness.proofs.Facts.{IsMethod, IsSound, facts_of, sig}
 use Rattle.som_type_soundness.proofs.Classes.{before_after_at, class_class_at, class_object, known_object, manager_object, manager_real, manager_slots, meta_class, meta_real, named_object, object_at, one_proxied, proxy_of}
 use Rattle.som_type_soundness.proofs.Methods.{answers, named_above, own_owner, owner_above, some_sig}
-use Rattle.som_type_soundness.proofs.Fitting.{all_fit, known_in, plain}
-
-abbrev reference : List ℕ → Option ClassKey → Option MethodRef
-reference name None = None
-reference name (Some k) = Some (record { class = k; name = name })
+use Rattle.som_type_soundness.proofs.Fitting.{all_fit, known_in}
 
 filter_mem : {A : Type 0} (test : A → Bool) (x : A) (xs : List A) → Mem x (filter test xs) → Mem x xs
 filter_mem test x [] m = m
@@ -72,12 +69,12 @@ module _ (cs : List Class) (main : Block) (l : Loads cs main) where
       by test false n = absurd n
 
   -- a method that a class of the kernel introduces
-  kernel_method : (k : ClassKey) (name : List ℕ) (c : Class) (s : Sig) → class_at all k ≡ Some c → introduced_sig (entry_of c.decl.face.entries name) ≡ Some s → IsMethod (plain all) (record { class = k; name = name }) s
+  kernel_method : (k : ClassKey) (name : List ℕ) (c : Class) (s : Sig) → class_at all k ≡ Some c → introduced_sig (entry_of c.decl.face.entries name) ≡ Some s → IsMethod (answers_of all) (record { class = k; name = name }) s
   kernel_method k name c s e f =
       let is : sig_of all (record { class = k; name = name }) ≡ Some s = ap introduced_sig (entry_is all k name c e) ∙ f in
       record { owner = own_owner cs l.faces (record { class = k; name = name }) s is; sig = is }
 
-  sound : IsSound (plain all) (known_in all)
+  sound : IsSound (answers_of all) (known_in all)
   sound = record {
     itself = λ k. tests cs o k k itself;
     through = λ a b c p q. tests cs o a c (descends_through (hierarchy all) a b c (tested cs o a b p) (tested cs o b c q));
@@ -107,12 +104,8 @@ module _ (cs : List Class) (main : Block) (l : Loads cs main) where
   }
 
   -- the classes of a run, and typing by them, are these
-  pub world_is : plain all ≡ world all
-  unfolding world
-  world_is = refl
-
   pub sound_world : IsSound (world all) (known_in all)
-  sound_world = subst (λ w. IsSound w (known_in all)) world_is sound
+  sound_world = subst (λ w. IsSound w (known_in all)) (answers_are all) sound
 
   pub facts_are : running_facts all ≡ facts_of (world all) (known_in all)
   unfolding world running_facts

@@ -11,12 +11,13 @@ use Rattle.som_model.specs.Class.{Class}
 use Rattle.som_model.specs.Kernel.{kernel}
 use Rattle.som_model.specs.Classes.{hierarchy}
 use Rattle.som_model.specs.Owner.{introduces}
-use Rattle.som_semantics.specs.World.{World, world}
+use Rattle.som_semantics.specs.World.{World, world, reference}
 use Rattle.som_semantics.specs.State.{Value, Nil, Long, Boolean, Str, To, Ref, Heap}
 use Rattle.som_semantics.specs.Runs.{Act, end_of}
 use Rattle.som_semantics.specs.Acts.{pure, later_self}
 use Rattle.som_semantics.specs.Calls.{Here}
 use Rattle.som_semantics.specs.Means.{calls, means_in}
+use Rattle.som_semantics.proofs.WorldLaws.{answers_are}
 use Rattle.som_model.specs.Typing.{ClassFacts, expr_type}
 use Rattle.som_model.specs.TypedBlocks.{block_scope, stmt_scope}
 use Rattle.som_model.specs.Loads.{Loads}
@@ -33,7 +34,7 @@ use Rattle.som_type_soundness.proofs.Expressions.{expr_keeps}
 use Rattle.som_type_soundness.proofs.Statements.{block_keeps, stmt_keeps}
 use Rattle.som_type_soundness.proofs.Runs.{all_calls_keep, checked_means, objects_typed}
 use Rattle.som_type_soundness.proofs.Fitting.{a_class_here, known_in}
-use Rattle.som_type_soundness.proofs.Loading.{facts_are, main_scope, sound_world, world_is}
+use Rattle.som_type_soundness.proofs.Loading.{facts_are, main_scope, sound_world}
 
 referred : (v : Value) → is_reference v ≡ true → (r : Ref) × (v ≡ To r)
 referred (To r) e = (r, refl)
@@ -53,7 +54,7 @@ module _ (cs : List Class) (main : Block) (l : Loads cs main) where
   K = known_in all
 
   class_here_is : (c : Class) → Mem c cs → IsClass W c
-  class_here_is c m = subst (λ w. IsClass w c) (world_is cs main l) (a_class_here cs main l c.key c (found cs l.faces.ordered c c.key (mem_right c kernel cs m) refl) refl)
+  class_here_is c m = subst (λ w. IsClass w c) (answers_are all) (a_class_here cs main l c.key c (found cs l.faces.ordered c c.key (mem_right c kernel cs m) refl) refl)
 
   in_class : (o : Option Class) (here : Here) (h : Heap) → IsInPlace W cs o here h → InClass W o here h
   in_class None here h i = tt
@@ -82,10 +83,6 @@ module _ (cs : List Class) (main : Block) (l : Loads cs main) where
 
   pub main_objects : (fuel : ℕ) → AreTyped W (end_of (means_in W main fuel)).heap
   main_objects fuel = let after = main_scope cs main l in objects_typed W K (sound_world cs main l) (pure tt) main after.0 after.1 fuel
-
-abbrev reference : List ℕ → Option ClassKey → Option MethodRef
-reference name None = None
-reference name (Some k) = Some (record { class = k; name = name })
 
 -- a method that a name means has a signature
 pub name_signed : (cs : List Class) (k : ClassKey) (name : List ℕ) (r : MethodRef) → (world cs).byname k name ≡ Some r → IsSome ((world cs).sig r)
