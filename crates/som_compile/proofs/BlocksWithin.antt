@@ -1,5 +1,5 @@
 -- What texts of blocks within their limits are elaborated to is within the limits of images.
-use Rattle.std.proofs.Common.{◌≡◌, ℕ, zero, suc, ◌+◌, ◌<◌, ◌≤◌, ◌^◌, ◌&&◌, not, Bool, true, false, if◌then◌else◌, nat_lt, nat_le, List, [], ◌∷◌, ◌++◌, length, map, slice_get, Option, Some, None, IfSome, Result, Ok, Err, inl, inr, refl, sym, ap, subst, ◌∙◌, arith, length-append}
+use Rattle.std.proofs.Common.{◌≡◌, ℕ, zero, suc, ◌+◌, ◌<◌, ◌≤◌, ◌^◌, ◌&&◌, not, Bool, true, false, if◌then◌else◌, nat_lt, nat_le, List, [], ◌∷◌, ◌++◌, length, map, slice_get, Option, Some, None, IfSome, Ok, Err, inl, inr, refl, sym, ap, subst, ◌∙◌, arith, length-append}
 use Rattle.std.specs.Prelude.{All}
 use Rattle.std.specs.Int.{w32, cast_signed}
 use Rattle.std.specs.List.{AllByRecursion}
@@ -35,6 +35,7 @@ use Rattle.som_model.specs.Resolution.{byname}
 use Rattle.som_model.specs.Blocks.{is_call}
 use Rattle.som_model.specs.Typing.{ClassFacts, CodePlace, ExprType, Of, PlainNil, Ruled, Typed, class_facts, needs, there, is_nothing, is_boolean, is_class, has_text, kind_is_known, fits, all_fit, descends_to, local_type, own_variable, self_type, unary_type, binary_type, host_type, new_type, class_type, cast_type, isa_type, proxy_type, offset_call_type, named_call_type, parent_call_type, parents_call_type}
 use Rattle.som_model.specs.Kernel.{som_class_mgr}
+use Rattle.som_model.proofs.StepLaws.{went, held, found, same_ok}
 use Rattle.som_ast.specs.declared.words.TypeName.{TypeName}
 use Rattle.som_ast.specs.declared.expression.ExprText.{ExprText, out-ExprText, roll-out-ExprText, map-ExprText, fold-roll-ExprText}
 use Rattle.som_ast.specs.declared.expression.ExprText.TheOpen.{ExprText-F}
@@ -52,6 +53,7 @@ use Rattle.som_elab_body.specs.Locals.{Named, Names, in_scope, kinds_of, local_o
 use Rattle.som_elab_body.specs.Methods.{Method, introduced_method, method_by, method_for, method_of, own_method, parent_place, variable_place}
 use Rattle.som_elab_body.specs.Expressions.{Among, Elab, Elaborated, class_named, expr_step, elaborated, elaborated_value, exprs_of, facts_among, formed, unary_form, binary_form, host_form, cast_form, isa_form, proxy_form, call_form, called_by, lookup_form, dispatch_form, parent_form, parents_form, part, parts, types_of, valued}
 use Rattle.som_elab_body.specs.Statements.{BlockElab, ManyLocals, Placed, StmtElab, Told, block_step, call_statement, declared, elaborated_block, elaborated_stmt, freed, in_turn, placed, printed, returned, ruled, set_local, set_variable, stmt_step, value_return, with_local}
+use Rattle.som_elab_body.proofs.TypedBodies.{ruled_ok}
 
 -- ---- what there is room for
 
@@ -70,33 +72,8 @@ pub record Roomy (a : Among) (at : CodePlace) : Type 0 where
 
 -- ---- what came to a value
 
--- a step gave a value, and the next one went on with it
-record Went {A B E : Type 0} (x : Result A E) (next : A → Result B E) (r : B) : Type 0 where
-  pub value : A
-  pub first : x ≡ Ok value
-  pub further : next value ≡ Ok r
-
-went : {A B E : Type 0} (x : Result A E) (next : A → Result B E) (r : B) → (x >>= next) ≡ Ok r → Went x next r
-went (Ok a) next r e = record { value = a; first = refl; further = e }
-went (Err rule) next r e = absurd (let z = e in cc)
-
-held : {A : Type 0} (rule : ℕ) (b : Bool) (further : Ruled A) (r : A) → needs rule b further ≡ Ok r → (b ≡ true) × (further ≡ Ok r)
-held rule true further r e = (refl, e)
-held rule false further r e = absurd (let z = e in cc)
-
-found : {A : Type 0} (rule : ℕ) (o : Option A) (x : A) → there rule o ≡ Ok x → o ≡ Some x
-found rule (Some y) x e = let z = e in cc
-found rule None x e = absurd (let z = e in cc)
-
-ok_is : {A E : Type 0} (x y : A) → ◌≡◌ {A = Result A E} (Ok x) (Ok y) → x ≡ y
-ok_is x y e = let z = e in cc
-
 some_is : {A : Type 0} (x y : A) → Some x ≡ Some y → x ≡ y
 some_is x y e = let z = e in cc
-
-ruled_is : {A : Type 0} (x : Ruled A) (r : A) → ruled x ≡ Ok r → x ≡ Ok r
-ruled_is (Ok a) r e = ap (λ a. Ok a) (ok_is a r e)
-ruled_is (Err rule) r e = absurd (let z = e in cc)
 
 -- ---- places and signatures
 
@@ -193,7 +170,7 @@ formed_type e (Ok t) p h = (t, refl)
 formed_type e (Err rule) p h = absurd (let z = h in cc)
 
 valued_is : (q p : Elaborated) → valued q ≡ Ok p → q ≡ p
-valued_is q p e = ok_is q p (held 20 (not (is_nothing q.type)) (Ok q) p e).1
+valued_is q p e = same_ok q p (held 20 (not (is_nothing q.type)) (Ok q) p e).1
 
 part_is : (e : Elab) (p : Elaborated) → part e ≡ Ok p → e ≡ Ok p
 part_is e p h = let w = went e valued p h in w.first ∙ ap (λ x. Ok x) (valued_is w.value p w.further)
@@ -281,11 +258,11 @@ module _ (a : Among) (at : CodePlace) (room : Roomy a at) where
     value_within t p h e = inner t p h (part_is (elaborated a at scope t) p e)
 
     each_within : (ts : List ExprText) (ps : List Elaborated) → AllByRecursion Inner ts → parts (map (elaborated a at scope) ts) ≡ Ok ps → AllByRecursion Within (exprs_of ps)
-    each_within [] ps hs e = subst (λ (qs : List Elaborated). AllByRecursion Within (exprs_of qs)) (ok_is [] ps e) tt
+    each_within [] ps hs e = subst (λ (qs : List Elaborated). AllByRecursion Within (exprs_of qs)) (same_ok [] ps e) tt
     each_within (t ∷ ts) ps hs e =
         let first = went (part (elaborated a at scope t)) (λ p. parts (map (elaborated a at scope) ts) >>= λ qs. Ok (p ∷ qs)) ps e in
         let rest = went (parts (map (elaborated a at scope) ts)) (λ qs. Ok (first.value ∷ qs)) ps first.further in
-        subst (λ (qs : List Elaborated). AllByRecursion Within (exprs_of qs)) (ok_is (first.value ∷ rest.value) ps rest.further)
+        subst (λ (qs : List Elaborated). AllByRecursion Within (exprs_of qs)) (same_ok (first.value ∷ rest.value) ps rest.further)
         (value_within t first.value hs.0 first.first, each_within ts rest.value hs.1 rest.first)
 
     args_within : (ts : List ExprText) (ps : List Elaborated) → All Inner ts → parts (map (elaborated a at scope) ts) ≡ Ok ps → length (types_of ps) ≤ MAX_PARAMETERS → ArgsWithin Within (exprs_of ps)
@@ -428,7 +405,7 @@ module _ (a : Among) (at : CodePlace) (room : Roomy a at) where
     stands scope few s layer rolls parts = (subst (StmtPartsWithin Within BlockOut) (sym (ap out-Stmt (sym rolls) ∙ out-roll-Stmt layer)) parts, few)
 
     placed_within : (scope : Names) → length scope ≤ MAX_LOCALS → (s : Stmt) (layer : Stmt-F Stmt Block) (q : Placed) → roll-Stmt layer ≡ s → placed scope s ≡ Ok q → StmtPartsWithin Within BlockOut layer → PlacedWithin q
-    placed_within scope few s layer q rolls e parts = subst PlacedWithin (ok_is (record { stmt = s; scope = scope }) q e) (stands scope few s layer rolls parts)
+    placed_within scope few s layer q rolls e parts = subst PlacedWithin (same_ok (record { stmt = s; scope = scope }) q e) (stands scope few s layer rolls parts)
 
     part_within : (scope : Names) → length scope ≤ MAX_LOCALS → (t : ExprText) (p : Elaborated) → Inner t → elaborated_value a at scope t ≡ Ok p → Within p.expr
     part_within scope few t p h e = inner scope few t p h (part_is (elaborated a at scope t) p e)
@@ -437,7 +414,7 @@ module _ (a : Among) (at : CodePlace) (room : Roomy a at) where
     one_more scope n s layer q rolls e parts = by (nat_lt (length scope) MAX_LOCALS) refl e
       where
         by : (b : Bool) → nat_lt (length scope) MAX_LOCALS ≡ b → (if b then Ok (record { stmt = s; scope = scope ++ n ∷ [] }) else Err ManyLocals) ≡ Ok q → PlacedWithin q
-        by true is e = subst PlacedWithin (ok_is (record { stmt = s; scope = scope ++ n ∷ [] }) q e) (stands (scope ++ n ∷ []) (let lt = ltb-true (length scope) MAX_LOCALS is in omega (arith, lt, length-append scope (n ∷ []))) s layer rolls parts)
+        by true is e = subst PlacedWithin (same_ok (record { stmt = s; scope = scope ++ n ∷ [] }) q e) (stands (scope ++ n ∷ []) (let lt = ltb-true (length scope) MAX_LOCALS is in omega (arith, lt, length-append scope (n ∷ []))) s layer rolls parts)
         by false is e = absurd (let z = e in cc)
 
     var_within : (scope : Names) → length scope ≤ MAX_LOCALS → (name : List ℕ) (kind : ValueType) (t : ExprText) (q : Placed) → Inner t → (ruled (elaborated_value a at scope t) >>= declared a scope name kind) ≡ Ok q → PlacedWithin q
@@ -446,12 +423,12 @@ module _ (a : Among) (at : CodePlace) (room : Roomy a at) where
         let kept = needs 17 (fits (facts_among a) kind p.value.type) (Ok p.value) in
         let known = needs 16 (kind_is_known (facts_among a) kind) kept in
         let r = went (ruled (needs 15 (not (in_scope scope name)) known)) (λ (r : Elaborated). with_local scope (record { name = name; kind = kind }) (stmts.Var kind r.expr)) q p.further in
-        let x = held 15 (not (in_scope scope name)) known r.value (ruled_is (needs 15 (not (in_scope scope name)) known) r.value r.first) in
+        let x = held 15 (not (in_scope scope name)) known r.value (ruled_ok (needs 15 (not (in_scope scope name)) known) r.value r.first) in
         let y = held 16 (kind_is_known (facts_among a) kind) kept r.value x.1 in
         let z = held 17 (fits (facts_among a) kind p.value.type) (Ok p.value) r.value y.1 in
-        let here = part_within scope few t p.value h (ruled_is (elaborated_value a at scope t) p.value p.first) in
+        let here = part_within scope few t p.value h (ruled_ok (elaborated_value a at scope t) p.value p.first) in
         one_more scope (record { name = name; kind = kind }) (stmts.Var kind r.value.expr) (Stmt-F.Var kind r.value.expr) q (stmts.rolls-Var kind r.value.expr) r.further
-        (subst (λ (v : Elaborated). Within v.expr) (ok_is p.value r.value z.1) here)
+        (subst (λ (v : Elaborated). Within v.expr) (same_ok p.value r.value z.1) here)
 
     set_within : (scope : Names) → length scope ≤ MAX_LOCALS → (name : List ℕ) (t : ExprText) (q : Placed) → Inner t → (elaborated_value a at scope t >>= set_local a scope name) ≡ Ok q → PlacedWithin q
     set_within scope few name t q h e =
@@ -481,9 +458,9 @@ module _ (a : Among) (at : CodePlace) (room : Roomy a at) where
         let x = went (elaborated_block a at b scope) (λ x. elaborated_block a at c scope >>= end p.value x) q p.further in
         let y = went (elaborated_block a at c scope) (end p.value x.value) q x.further in
         let s = stmts.If p.value.expr x.value y.value in
-        let z = held 17 (is_boolean p.value.type) (placed scope s) q (ruled_is (needs 17 (is_boolean p.value.type) (placed scope s)) q y.further) in
+        let z = held 17 (is_boolean p.value.type) (placed scope s) q (ruled_ok (needs 17 (is_boolean p.value.type) (placed scope s)) q y.further) in
         placed_within scope few s (Stmt-F.If p.value.expr x.value y.value) q (stmts.rolls-If p.value.expr x.value y.value) z.1
-        (part_within scope few t p.value h (ruled_is (elaborated_value a at scope t) p.value p.first), block scope few b x.value hb x.first, block scope few c y.value hc y.first)
+        (part_within scope few t p.value h (ruled_ok (elaborated_value a at scope t) p.value p.first), block scope few b x.value hb x.first, block scope few c y.value hc y.first)
 
     while_within : (scope : Names) → length scope ≤ MAX_LOCALS → (t : ExprText) (b : BlockText) (q : Placed) → Inner t → BlockIn b
         → (ruled (elaborated_value a at scope t) >>= λ p. elaborated_block a at b scope >>= λ x. ruled (needs 17 (is_boolean p.type) (placed scope (stmts.While p.expr x)))) ≡ Ok q → PlacedWithin q
@@ -492,9 +469,9 @@ module _ (a : Among) (at : CodePlace) (room : Roomy a at) where
         let p = went (ruled (elaborated_value a at scope t)) (λ p. elaborated_block a at b scope >>= end p) q e in
         let x = went (elaborated_block a at b scope) (end p.value) q p.further in
         let s = stmts.While p.value.expr x.value in
-        let z = held 17 (is_boolean p.value.type) (placed scope s) q (ruled_is (needs 17 (is_boolean p.value.type) (placed scope s)) q x.further) in
+        let z = held 17 (is_boolean p.value.type) (placed scope s) q (ruled_ok (needs 17 (is_boolean p.value.type) (placed scope s)) q x.further) in
         placed_within scope few s (Stmt-F.While p.value.expr x.value) q (stmts.rolls-While p.value.expr x.value) z.1
-        (part_within scope few t p.value h (ruled_is (elaborated_value a at scope t) p.value p.first), block scope few b x.value hb x.first)
+        (part_within scope few t p.value h (ruled_ok (elaborated_value a at scope t) p.value p.first), block scope few b x.value hb x.first)
 
     return_within : (scope : Names) → length scope ≤ MAX_LOCALS → (o : Option ExprText) (q : Placed) → IfSome o Inner → returned a at scope o ≡ Ok q → PlacedWithin q
     return_within scope few None q h e =
@@ -526,32 +503,32 @@ module _ (a : Among) (at : CodePlace) (room : Roomy a at) where
     statement_within : (scope : Names) → length scope ≤ MAX_LOCALS → (layer : StmtText-F StmtText BlockText) (q : Placed) → text.StmtPartsWithin Inner BlockIn layer
         → stmt_step a at (map-StmtText StmtText BlockText StmtElab BlockElab (elaborated_stmt a at) (elaborated_block a at) layer) scope ≡ Ok q → PlacedWithin q
     statement_within scope few (StmtText-F.Var w kind t) q h e = var_within scope few w.text (type_of a.module_of kind) t q h.2 e
-    statement_within scope few (StmtText-F.Set w t) q h e = set_within scope few w.text t q h.1 (ruled_is (elaborated_value a at scope t >>= set_local a scope w.text) q e)
-    statement_within scope few (StmtText-F.SetVariable w t) q h e = set_variable_within scope few w.text t q h.1 (ruled_is (elaborated_value a at scope t >>= set_variable a at scope w.text) q e)
+    statement_within scope few (StmtText-F.Set w t) q h e = set_within scope few w.text t q h.1 (ruled_ok (elaborated_value a at scope t >>= set_local a scope w.text) q e)
+    statement_within scope few (StmtText-F.SetVariable w t) q h e = set_variable_within scope few w.text t q h.1 (ruled_ok (elaborated_value a at scope t >>= set_variable a at scope w.text) q e)
     statement_within scope few (StmtText-F.If t b c) q h e = if_within scope few t b c q h.0 h.1 h.2 e
     statement_within scope few (StmtText-F.While t b) q h e = while_within scope few t b q h.0 h.1 e
-    statement_within scope few (StmtText-F.Return o) q h e = return_within scope few o q h (ruled_is (returned a at scope o) q e)
-    statement_within scope few (StmtText-F.Print t) q h e = print_within scope few t q h (ruled_is (elaborated_value a at scope t >>= printed scope) q e)
-    statement_within scope few (StmtText-F.Free t) q h e = free_within scope few t q h (ruled_is (elaborated_value a at scope t >>= freed scope) q e)
-    statement_within scope few (StmtText-F.Call t) q h e = call_stands scope few t q h (ruled_is (elaborated a at scope t >>= call_statement scope) q e)
+    statement_within scope few (StmtText-F.Return o) q h e = return_within scope few o q h (ruled_ok (returned a at scope o) q e)
+    statement_within scope few (StmtText-F.Print t) q h e = print_within scope few t q h (ruled_ok (elaborated_value a at scope t >>= printed scope) q e)
+    statement_within scope few (StmtText-F.Free t) q h e = free_within scope few t q h (ruled_ok (elaborated_value a at scope t >>= freed scope) q e)
+    statement_within scope few (StmtText-F.Call t) q h e = call_stands scope few t q h (ruled_ok (elaborated a at scope t >>= call_statement scope) q e)
 
   -- ---- blocks, by the statements that can stand in them
   module _ (Inner : StmtText → Type 0) (Within : Stmt → Type 0) (one : (scope : Names) → length scope ≤ MAX_LOCALS → (t : StmtText) (q : Placed) → Inner t → elaborated_stmt a at t scope ≡ Ok q → Within q.stmt × (length q.scope ≤ MAX_LOCALS)) where
     in_turn_within : (scope : Names) → length scope ≤ MAX_LOCALS → (ts : List StmtText) (ss : List Stmt) → AllByRecursion Inner ts → in_turn (map (elaborated_stmt a at) ts) scope ≡ Ok ss → AllByRecursion Within ss × (length ss ≡ length ts)
-    in_turn_within scope few [] ss hs e = subst (λ (rs : List Stmt). AllByRecursion Within rs × (length rs ≡ 0)) (ok_is [] ss e) (tt, refl)
+    in_turn_within scope few [] ss hs e = subst (λ (rs : List Stmt). AllByRecursion Within rs × (length rs ≡ 0)) (same_ok [] ss e) (tt, refl)
     in_turn_within scope few (t ∷ ts) ss hs e =
         let first = went (elaborated_stmt a at t scope) (λ (p : Placed). in_turn (map (elaborated_stmt a at) ts) p.scope >>= λ more. Ok (p.stmt ∷ more)) ss e in
         let rest = went (in_turn (map (elaborated_stmt a at) ts) first.value.scope) (λ more. Ok (first.value.stmt ∷ more)) ss first.further in
         let here = one scope few t first.value hs.0 first.first in
         let later = in_turn_within first.value.scope here.1 ts rest.value hs.1 rest.first in
-        subst (λ (rs : List Stmt). AllByRecursion Within rs × (length rs ≡ suc (length ts))) (ok_is (first.value.stmt ∷ rest.value) ss rest.further) ((here.0, later.0), ap suc later.1)
+        subst (λ (rs : List Stmt). AllByRecursion Within rs × (length rs ≡ suc (length ts))) (same_ok (first.value.stmt ∷ rest.value) ss rest.further) ((here.0, later.0), ap suc later.1)
 
     statements_within : (most : ℕ) → most < 2 ^ 32 → (scope : Names) → length scope ≤ MAX_LOCALS → (t : BlockText) (b : Block) → text.StatementsWithin most Inner t → elaborated_block a at t scope ≡ Ok b → StatementsWithin Within b
     statements_within most small scope few t b h e =
         let step = ap (λ (f : BlockElab). f scope) (fold-roll-BlockText StmtElab BlockElab (stmt_step a at) block_step (record { statements = t.statements })) in
         let w = went (in_turn (map (elaborated_stmt a at) t.statements) scope) (λ (ss : List Stmt). Ok (record { statements = ss })) b (sym step ∙ e) in
         let all = in_turn_within scope few t.statements w.value (recursion_from_All Inner t.statements h.1) w.first in
-        subst (StatementsWithin Within) (ok_is (record { statements = w.value }) b w.further) (omega (arith, all.1, h.0, small), All-from_recursion Within w.value all.0)
+        subst (StatementsWithin Within) (same_ok (record { statements = w.value }) b w.further) (omega (arith, all.1, h.0, small), All-from_recursion Within w.value all.0)
 
   module _ (most : ℕ) (small : most < 2 ^ 32) where
     -- a statement, where so many levels are left

@@ -22,6 +22,7 @@ use Rattle.som_model.specs.Class.{Class, class_in}
 use Rattle.som_model.specs.Owner.{owner, sig_of}
 use Rattle.som_model.specs.Rules.{RuleBreach}
 use Rattle.som_model.specs.Typing.{in_body, in_main}
+use Rattle.som_model.proofs.StepLaws.{went, same_ok}
 use Rattle.som_ast.specs.declared.interface.IdlInterface.{IdlInterface}
 use Rattle.som_ast.specs.declared.body.BodyText.{BodyText}
 use Rattle.som_ast.specs.declared.body.BlockText.{BlockText}
@@ -39,19 +40,6 @@ use Rattle.som_elab_body.specs.MethodBody.{parameters, elaborated_body}
 use Rattle.som_elab.specs.Blocks.{Refusal, refused_at, obeying, keeping, text_block, entry_body, entry_bodies, override_block, override_blocks, with_blocks, elaborated_class, elaborated_each, elaborated_main}
 
 -- ---- steps
-
--- a step gave a value, and the next one went on with it
-pub record Went {A B E : Type 0} (x : Result A E) (next : A → Result B E) (r : B) : Type 0 where
-  pub value : A
-  pub first : x ≡ Ok value
-  pub further : next value ≡ Ok r
-
-pub went : {A B E : Type 0} (x : Result A E) (next : A → Result B E) (r : B) → (x >>= next) ≡ Ok r → Went x next r
-went (Ok a) next r e = record { value = a; first = refl; further = e }
-went (Err f) next r e = absurd (let z = e in cc)
-
-pub same_ok : {A E : Type 0} (x y : A) → ◌≡◌ {A = Result A E} (Ok x) (Ok y) → x ≡ y
-same_ok x y e = let z = e in cc
 
 -- no rule was broken, and it went on
 pub obeyed : {A : Type 0} (o : Option RuleBreach) (further : Result A Refusal) (r : A) → obeying o further ≡ Ok r → (o ≡ None) × (further ≡ Ok r)

@@ -26,6 +26,7 @@ use Rattle.som_model.specs.Owner.{owner, sig_of}
 use Rattle.som_model.specs.Rules.{RuleBreach, breach}
 use Rattle.som_model.specs.Typing.{Ruled, class_facts, in_body}
 use Rattle.som_model.specs.TypedBlocks.{Scope, Scoped, block_scope, block_step, stmt_step}
+use Rattle.som_model.proofs.StepLaws.{same_answer, went}
 use Rattle.som_ast.specs.declared.words.Word.{Word}
 use Rattle.som_ast.specs.declared.interface.IdlInterface.{IdlInterface}
 use Rattle.som_ast.specs.declared.body.BodyText.{BodyText}
@@ -47,7 +48,6 @@ use Rattle.som_elab.proofs.Declared.{body_fits, own}
 use Rattle.som_elab_methods.proofs.Fitting.{accessed}
 use Rattle.som_elab.proofs.Plain.{emptied, plain, scope_other}
 use Rattle.som_elab.proofs.Signatures.{as_many, operation_signed, override_signed}
-use Rattle.som_elab_body.proofs.Went.{same_answer, went}
 use Rattle.som_elab_body.proofs.TypedBodies.{text_typed}
 
 pub refused_ok : {A : Type 0} (class member : List ℕ) (x : Told A) (r : A) → refused_at class member x ≡ Ok r → x ≡ Ok r

@@ -18,6 +18,7 @@ use Rattle.som_model.specs.Kernel.{kernel}
 use Rattle.som_model.specs.Rules.{RuleBreach, s5}
 use Rattle.som_model.specs.Typing.{class_facts, in_main}
 use Rattle.som_model.specs.TypedBlocks.{block_scope}
+use Rattle.som_model.proofs.StepLaws.{same_answer, went}
 use Rattle.std.specs.Prelude.{codes}
 use Rattle.som_model_laws.proofs.Members.{mem_split}
 use Rattle.som_ast.specs.declared.interface.IdlInterface.{IdlInterface}
@@ -49,7 +50,6 @@ use Rattle.som_elab.proofs.BodiesOfClasses.{ClassStands, class_stands, methods_k
 use Rattle.som_elab.proofs.Declared.{drafts_are, draft_classes_are, own}
 use Rattle.som_elab.proofs.Plain.{facts_other, plain, selecting, sig_other}
 use Rattle.som_elab.proofs.PlainRules.{classes_other, selects_other, types_other}
-use Rattle.som_elab_body.proofs.Went.{same_answer, went}
 use Rattle.som_elab_body.proofs.TypedBodies.{text_typed}
 
 kept : {A : Type 0} (o : Option Passed) (further : Result A Refusal) (r : A) → keeping o further ≡ Ok r → further ≡ Ok r

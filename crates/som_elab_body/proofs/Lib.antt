@@ -1,4 +1,3 @@
-pub mod Went
 pub mod TypedExpressions
 pub mod PartLaws
 pub mod MethodLaws

@@ -1,5 +1,5 @@
 -- What a text of a block comes to is well typed where it stands.
-use Rattle.std.proofs.Common.{◌≡◌, ℕ, Bool, true, false, not, ◌&&◌, if◌then◌else◌, nat_lt, List, [], ◌∷◌, ◌++◌, length, map, slice_get, Option, Some, None, Ok, Err, refl, sym, ap, ◌∙◌, subst}
+use Rattle.std.proofs.Common.{◌≡◌, ℕ, Bool, true, false, not, ◌&&◌, if◌then◌else◌, nat_lt, List, [], ◌∷◌, ◌++◌, length, map, slice_get, Some, None, Ok, Err, refl, sym, ap, ◌∙◌, subst}
 use Rattle.som_model.specs.declared.key.ValueType.{ValueType}
 use Rattle.som_model.specs.declared.syntax.Stmt.{Stmt, roll-Stmt, map-Stmt, fold-roll-Stmt}
 use Rattle.som_model.specs.declared.syntax.Stmt.TheVariants as stmts
@@ -10,6 +10,7 @@ use Rattle.som_model.specs.Steps.{◌>>=◌}
 use Rattle.som_model.specs.Blocks.{is_call}
 use Rattle.som_model.specs.Typing.{ClassFacts, CodePlace, Of, Ruled, Typed, needs, there, is_nothing, is_boolean, is_class, has_text, kind_is_known, fits, own_variable, value, expr_type}
 use Rattle.som_model.specs.TypedBlocks.{Scope, Scoped, var_scope, local_set, variable_set, stmt_scope, block_scope, stmt_step as typed_step, block_step as typed_block, in_turn as typed_in_turn, value_return as typed_return}
+use Rattle.som_model.proofs.StepLaws.{held, same_answer, went, met}
 use Rattle.som_ast.specs.declared.expression.ExprText.{ExprText}
 use Rattle.som_ast.specs.declared.body.StmtText.{StmtText, roll-StmtText, map-StmtText, fold-roll-StmtText}
 use Rattle.som_ast.specs.declared.body.StmtText.TheOpen.{StmtText-F, BlockText-F}
@@ -18,20 +19,12 @@ use Rattle.som_sema_scope.specs.ClassNames.{type_of}
 use Rattle.som_elab_body.specs.Locals.{Named, Names, in_scope, kinds_of, local_of}
 use Rattle.som_elab_body.specs.Methods.{variable_place}
 use Rattle.som_elab_body.specs.Expressions.{Among, Elaborated, elaborated, elaborated_value, facts_among}
-use Rattle.som_elab_body.proofs.Went.{held, same_answer, went}
 use Rattle.som_elab_body.proofs.TypedExpressions.{expr_typed, value_typed_by}
 use Rattle.som_elab_body.specs.Statements.{BlockElab, ManyLocals, Placed, StmtElab, Told, block_step, call_statement, declared, elaborated_block, elaborated_stmt, freed, in_turn, placed, printed, ruled, set_local, set_variable, stmt_step, value_return, with_local}
 
-ruled_ok : {A : Type 0} (x : Ruled A) (r : A) → ruled x ≡ Ok r → x ≡ Ok r
+pub ruled_ok : {A : Type 0} (x : Ruled A) (r : A) → ruled x ≡ Ok r → x ≡ Ok r
 ruled_ok (Ok a) r e = ap Ok (same_answer e)
 ruled_ok (Err rule) r e = absurd (let z = e in cc)
-
-found : {A : Type 0} (rule : ℕ) (o : Option A) (x : A) → there rule o ≡ Ok x → o ≡ Some x
-found rule (Some y) x e = let z = e in cc
-found rule None x e = absurd (let z = e in cc)
-
-met : {A : Type 0} (rule : ℕ) (b : Bool) (further : Ruled A) → b ≡ true → needs rule b further ≡ further
-met rule b further e = ap (λ z. needs rule z further) e
 
 kinds_more : (scope : Names) (n : Named) → kinds_of (scope ++ n ∷ []) ≡ kinds_of scope ++ n.kind ∷ []
 kinds_more [] n = refl

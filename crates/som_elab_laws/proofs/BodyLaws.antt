@@ -21,6 +21,7 @@ use Rattle.som_model.specs.Lists.{Mem, doubles, first}
 use Rattle.som_model.specs.Owner.{owner, sig_of}
 use Rattle.som_model.specs.Steps.{◌>>=◌}
 use Rattle.som_model.specs.Typing.{in_body}
+use Rattle.som_model.proofs.StepLaws.{same_answer, went}
 use Rattle.som_model_laws.proofs.Laws.{among_mem}
 use Rattle.som_ast.specs.declared.words.TypeName.{TypeName}
 use Rattle.som_ast.specs.declared.words.Word.{Word}
@@ -43,7 +44,6 @@ use Rattle.som_verify_classes.specs.Places.{with_kernel}
 use Rattle.som_verify_classes.proofs.PlainLists.{mem_map}
 use Rattle.som_elab_body.specs.Expressions.{Among}
 use Rattle.som_elab_body.specs.Locals.{names_of}
-use Rattle.som_elab_body.proofs.Went.{same_answer, went}
 use Rattle.som_elab_body.specs.MethodBody.{elaborated_body, parameters}
 use Rattle.som_elab_body.specs.Statements.{Breaks, elaborated_block}
 use Rattle.som_elab_methods.specs.Accessors.{Access, accessor_body, attribute_accessors, body_of, place_of}

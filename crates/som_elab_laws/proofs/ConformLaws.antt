@@ -22,6 +22,7 @@ use Rattle.som_model.specs.Owner.{owner, sig_of}
 use Rattle.som_model.specs.Rules.{RuleBreach}
 use Rattle.som_model.specs.Steps.{◌>>=◌}
 use Rattle.som_model.specs.Typing.{in_main}
+use Rattle.som_model.proofs.StepLaws.{went}
 use Rattle.som_model_laws.proofs.Laws.{among_mem}
 use Rattle.som_ast.specs.declared.interface.IdlInterface.{IdlInterface}
 use Rattle.som_ast.specs.declared.body.BlockText.{BlockText}
@@ -32,7 +33,6 @@ use Rattle.som_sema.specs.Building.{most_classes, texts_breach}
 use Rattle.som_sema_drafts.specs.Drafts.{InterfaceDraft}
 use Rattle.som_sema_decls.specs.Finished.{selects_at}
 use Rattle.som_elab_body.specs.Expressions.{Among}
-use Rattle.som_elab_body.proofs.Went.{went}
 use Rattle.som_elab_body.specs.MethodBody.{elaborated_body}
 use Rattle.som_elab_body.specs.Statements.{Told, elaborated_block}
 use Rattle.som_elab_methods.specs.Accessors.{body_of}

@@ -10,6 +10,7 @@ use Rattle.som_model.specs.declared.class.Way.TheVariants as ways
 use Rattle.som_model.specs.Kernel.{som_class_mgr}
 use Rattle.som_model.specs.Steps.{◌>>=◌}
 use Rattle.som_model.specs.Typing.{ClassFacts, CodePlace, Of, PlainNil, Typed, there, all_fit, local_type, own_variable, self_type, unary_type, binary_type, host_type, new_type, class_type, cast_type, isa_type, proxy_type, offset_call_type, named_call_type, parent_call_type, parents_call_type}
+use Rattle.som_model.proofs.StepLaws.{held, same_answer, went, found}
 use Rattle.som_ast.specs.declared.words.Word.{Word}
 use Rattle.som_ast.specs.declared.expression.ExprText.{ExprText, roll-ExprText, map-ExprText, ind-ExprText, fold-roll-ExprText}
 use Rattle.som_ast.specs.declared.expression.ExprText.TheOpen.{ExprText-F}
@@ -18,11 +19,10 @@ use Rattle.som_sema_scope.specs.ClassNames.{result_of}
 use Rattle.som_elab_body.specs.Locals.{Names, kinds_of, local_of}
 use Rattle.som_elab_body.specs.Methods.{Method, method_of, method_for, own_method, variable_place, parent_place}
 use Rattle.som_elab_body.specs.Expressions.{Among, Elab, Elaborated, binary_form, call_form, called_by, cast_form, class_named, dispatch_form, elaborated, elaborated_value, expr_step, exprs_of, facts_among, formed, host_form, isa_form, lookup_form, parent_form, parents_form, part, parts, proxy_form, types_of, unary_form}
-use Rattle.som_elab_body.proofs.Went.{held, same_answer, went}
 use Rattle.som_elab_body.proofs.TypedExpressions.{expr_typed, valued_part}
 use Rattle.som_elab_laws.specs.Named.{HasMethod, IsOf}
 use Rattle.som_elab_laws.specs.Expressions.{ExprSays, ExprsSay, a_number, a_literal, a_boolean, plain_nil, self, a_manager, a_local, a_variable, a_unary, a_binary, a_host_call, a_new, a_class, a_cast, an_isa, a_proxy, an_offset_call, a_call_by_name, a_lookup, a_dispatch, a_parent_call, a_parents_call, no_expression, one_expression}
-use Rattle.som_elab_laws.proofs.NamedLaws.{ObjectHas, local_is, method_is, object_has, own_has, parent_is, there_is, variable_is}
+use Rattle.som_elab_laws.proofs.NamedLaws.{ObjectHas, local_is, method_is, object_has, own_has, parent_is, variable_is}
 
 -- an expression that is formed is that of its form
 formed_is : (e : Expr) (t : Typed) (p : Elaborated) → formed e t ≡ Ok p → e ≡ p.expr
@@ -89,12 +89,12 @@ module _ (a : Among) (at : CodePlace) (scope : Names) where
   layer_says (ExprText-F.Name word) p h =
       let n = went (there 16 (local_of scope word.text)) (λ n. formed (exprs.Local n) (local_type (kinds_of scope) n)) p h in
       says (ExprText-F.Name word) (texts.Name word) (exprs.Local n.value) (local_type (kinds_of scope) n.value) p (texts.rolls-Name word)
-      (a_local (local_is scope word.text n.value (there_is 16 (local_of scope word.text) n.value n.first))) n.further
+      (a_local (local_is scope word.text n.value (found 16 (local_of scope word.text) n.value n.first))) n.further
   layer_says ExprText-F.Me p h = says ExprText-F.Me texts.Me exprs.Me (self_type at) p texts.rolls-Me self h
   layer_says (ExprText-F.Variable word) p h =
       let n = went (there 16 (variable_place at.class word.text)) (λ n. formed (exprs.Variable n) (own_variable at n >>= λ kind. Ok (Of kind))) p h in
       says (ExprText-F.Variable word) (texts.Variable word) (exprs.Variable n.value) (own_variable at n.value >>= λ kind. Ok (Of kind)) p (texts.rolls-Variable word)
-      (a_variable (variable_is at word.text n.value (there_is 16 (variable_place at.class word.text) n.value n.first))) n.further
+      (a_variable (variable_is at word.text n.value (found 16 (variable_place at.class word.text) n.value n.first))) n.further
   layer_says (ExprText-F.Unary op k) p h =
       let q = went (part (E k.0)) (unary_form op) p h in
       says (ExprText-F.Unary op k.0) (texts.Unary op k.0) (exprs.Unary op q.value.expr) (unary_type op q.value.type) p (texts.rolls-Unary op k.0) (a_unary (part_says k q.value q.first)) q.further
@@ -124,7 +124,7 @@ module _ (a : Among) (at : CodePlace) (scope : Names) where
       let q = went (part (E k.0)) (λ on. parts (map E (kept_texts ks)) >>= call_form a on word.text) p h in
       let qs = went (parts (map E (kept_texts ks))) (call_form a q.value word.text) p q.further in
       let m = went (there 16 (method_for a.classes q.value.type word.text)) (λ m. called_by facts q.value qs.value m m.way) p qs.further in
-      let o = object_has a.classes q.value.type word.text m.value (there_is 16 (method_for a.classes q.value.type word.text) m.value m.first) in
+      let o = object_has a.classes q.value.type word.text m.value (found 16 (method_for a.classes q.value.type word.text) m.value m.first) in
       called_says k.0 word (kept_texts ks) q.value qs.value m.value p o (part_of k q.value o.class q.first o.type) (part_says k q.value q.first) (parts_say ks qs.value qs.first) m.value.way refl m.further
   layer_says (ExprText-F.Lookup answer k word ks) p h =
       let kind = result_of a.module_of answer in
@@ -146,12 +146,12 @@ module _ (a : Among) (at : CodePlace) (scope : Names) where
       let m = went (there 16 (method_of a.classes key word.text)) (λ m. formed (exprs.ParentCall n.value m.ref (exprs_of qs.value)) (parent_call_type facts at n.value m.ref (types_of qs.value))) p n.further in
       says (ExprText-F.Parent parent word (kept_texts ks)) (texts.Parent parent word (kept_texts ks)) (exprs.ParentCall n.value m.value.ref (exprs_of qs.value)) (parent_call_type facts at n.value m.value.ref (types_of qs.value)) p
       (texts.rolls-Parent parent word (kept_texts ks))
-      (a_parent_call (parts_say ks qs.value qs.first) (parent_is at key n.value (there_is 16 (parent_place at.class key) n.value n.first))
-      (method_is a.classes key word.text m.value (there_is 16 (method_of a.classes key word.text) m.value m.first))) m.further
+      (a_parent_call (parts_say ks qs.value qs.first) (parent_is at key n.value (found 16 (parent_place at.class key) n.value n.first))
+      (method_is a.classes key word.text m.value (found 16 (method_of a.classes key word.text) m.value m.first))) m.further
   layer_says (ExprText-F.Parents word ks) p h =
       let qs = went (parts (map E (kept_texts ks))) (parents_form a at word.text) p h in
       let m = went (there 16 (own_method a.classes at.class word.text)) (λ m. formed (exprs.ParentsCall m.ref (exprs_of qs.value)) (parents_call_type facts at m.ref (types_of qs.value))) p qs.further in
-      let o = own_has a.classes at.class word.text m.value (there_is 16 (own_method a.classes at.class word.text) m.value m.first) in
+      let o = own_has a.classes at.class word.text m.value (found 16 (own_method a.classes at.class word.text) m.value m.first) in
       says (ExprText-F.Parents word (kept_texts ks)) (texts.Parents word (kept_texts ks)) (exprs.ParentsCall m.value.ref (exprs_of qs.value)) (parents_call_type facts at m.value.ref (types_of qs.value)) p
       (texts.rolls-Parents word (kept_texts ks)) (a_parents_call (parts_say ks qs.value qs.first) o.own o.has) m.further
   layer_says (ExprText-F.Host code k l) p h =

@@ -11,6 +11,7 @@ use Rattle.som_model.specs.Classes.{interface_classes}
 use Rattle.som_model.specs.Lists.{Mem, first}
 use Rattle.som_model.specs.Steps.{◌>>=◌}
 use Rattle.som_model.specs.Typing.{in_main}
+use Rattle.som_model.proofs.StepLaws.{same_answer, went}
 use Rattle.som_ast.specs.declared.interface.IdlInterface.{IdlInterface}
 use Rattle.som_ast.specs.declared.body.BlockText.{BlockText}
 use Rattle.som_ast.specs.declared.body.BodyText.{BodyText}
@@ -18,7 +19,6 @@ use Rattle.som_verify_classes.specs.Faces.{faces_breach}
 use Rattle.som_verify_classes.proofs.Conformity.{or_none}
 use Rattle.som_sema.specs.Building.{texts_breach}
 use Rattle.som_sema_drafts.specs.Drafts.{InterfaceDraft}
-use Rattle.som_elab_body.proofs.Went.{same_answer, went}
 use Rattle.som_elab_body.specs.Statements.{elaborated_block}
 use Rattle.som_elab_methods.specs.Bodies.{bodies_breach, text_s13, text_s14}
 use Rattle.som_elab.specs.Elaboration.{classes_over, drafts_over, among_over, classes_passed, elaborated_classes, elaborated_program, elaborated_release, nothing_before}

@@ -1,5 +1,5 @@
 -- What is found by a name is of that name.
-use Rattle.std.proofs.Common.{◌≡◌, ℕ, suc, ◌+◌, Bool, true, false, if◌then◌else◌, List, [], ◌∷◌, slice_get, Option, Some, None, Ok, refl, sym, ap, ◌∙◌, subst, arith}
+use Rattle.std.proofs.Common.{◌≡◌, ℕ, suc, ◌+◌, Bool, true, false, if◌then◌else◌, List, [], ◌∷◌, slice_get, Option, Some, None, refl, sym, ap, ◌∙◌, subst, arith}
 use Rattle.std.specs.Str.{bytes_eq}
 use Rattle.som_model.specs.declared.key.ClassKey.{ClassKey}
 use Rattle.som_model.specs.declared.class.Entry.{Entry}
@@ -46,11 +46,6 @@ pub found : {A : Type 0} (test : A → Bool) (xs : List A) (n : ℕ) → place_f
 found test xs n e =
     let r = found_from test xs 0 n e in
     subst (Found test xs) (let h = r.is in omega (arith, h)) r.found
-
--- what is there
-pub there_is : {A : Type 0} (rule : ℕ) (o : Option A) (x : A) → there rule o ≡ Ok x → o ≡ Some x
-there_is rule (Some y) x e = let z = e in cc
-there_is rule None x e = absurd (let z = e in cc)
 
 -- ---- locals, variables and parents
 

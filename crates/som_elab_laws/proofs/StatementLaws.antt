@@ -6,7 +6,8 @@ use Rattle.som_model.specs.declared.syntax.Stmt.TheVariants as stmts
 use Rattle.som_model.specs.declared.limits.TheConstants.{MAX_LOCALS}
 use Rattle.som_model.specs.Steps.{◌>>=◌}
 use Rattle.som_model.specs.Blocks.{is_call}
-use Rattle.som_model.specs.Typing.{ClassFacts, CodePlace, Of, Ruled, needs, there, is_nothing, is_boolean, is_class, has_text, kind_is_known, fits, own_variable}
+use Rattle.som_model.specs.Typing.{ClassFacts, CodePlace, Of, needs, there, is_nothing, is_boolean, is_class, has_text, kind_is_known, fits, own_variable}
+use Rattle.som_model.proofs.StepLaws.{held, same_answer, went, found}
 use Rattle.som_ast.specs.declared.words.TypeName.{TypeName}
 use Rattle.som_ast.specs.declared.words.Word.{Word}
 use Rattle.som_ast.specs.declared.expression.ExprText.{ExprText}
@@ -18,16 +19,12 @@ use Rattle.som_sema_scope.specs.ClassNames.{type_of}
 use Rattle.som_elab_body.specs.Locals.{Named, Names, in_scope, kinds_of, local_of}
 use Rattle.som_elab_body.specs.Methods.{variable_place}
 use Rattle.som_elab_body.specs.Expressions.{Among, Elaborated, elaborated, elaborated_value, facts_among}
-use Rattle.som_elab_body.proofs.Went.{held, same_answer, went}
 use Rattle.som_elab_body.specs.Statements.{BlockElab, ManyLocals, Placed, StmtElab, block_step, call_statement, declared, elaborated_block, elaborated_stmt, freed, in_turn, placed, printed, ruled, set_local, set_variable, stmt_step, value_return, with_local}
+use Rattle.som_elab_body.proofs.TypedBodies.{ruled_ok}
 use Rattle.som_elab_laws.specs.Expressions.{ExprSays}
 use Rattle.som_elab_laws.specs.Statements.{BlockSays, StmtSays, StmtsSay, a_block, a_call, a_choice, a_declaration, a_free, a_loop, a_print, a_return, a_return_with_value, a_variable_assignment, an_assignment, local_named, no_statement, one_statement}
-use Rattle.som_elab_laws.proofs.NamedLaws.{local_is, there_is, variable_is}
+use Rattle.som_elab_laws.proofs.NamedLaws.{local_is, variable_is}
 use Rattle.som_elab_laws.proofs.ExpressionLaws.{expr_says, value_says}
-
-ruled_ok : {A : Type 0} (x : Ruled A) (r : A) → ruled x ≡ Ok r → x ≡ Ok r
-ruled_ok (Ok a) r e = ap Ok (same_answer e)
-ruled_ok (Err rule) r e = absurd (let z = e in cc)
 
 module _ (a : Among) (at : CodePlace) where
   abbrev facts : ClassFacts
@@ -87,14 +84,14 @@ module _ (a : Among) (at : CodePlace) where
       let k = went (there 16 (slice_get (kinds_of scope) n.value)) (λ kind. needs 17 (fits facts kind p.value.type) (placed scope (stmts.SetLocal n.value p.value.expr))) q n.further in
       let f = held 17 (fits facts k.value p.value.type) (placed scope (stmts.SetLocal n.value p.value.expr)) q k.further in
       says (StmtText-F.Set name e) (texts.Set name e) (stmts.SetLocal n.value p.value.expr) scope q (texts.rolls-Set name e)
-      (an_assignment (value_says a at scope e p.value p.first) (local_is scope name.text n.value (there_is 16 (local_of scope name.text) n.value n.first))) f.1
+      (an_assignment (value_says a at scope e p.value p.first) (local_is scope name.text n.value (found 16 (local_of scope name.text) n.value n.first))) f.1
   layer_says (StmtText-F.SetVariable name e) scope q h =
       let p = went (elaborated_value a at scope e) (set_variable a at scope name.text) q (ruled_ok _ q h) in
       let n = went (there 16 (variable_place at.class name.text)) (λ n. own_variable at n >>= λ kind. needs 17 (fits facts kind p.value.type) (placed scope (stmts.SetVariable n p.value.expr))) q p.further in
       let k = went (own_variable at n.value) (λ kind. needs 17 (fits facts kind p.value.type) (placed scope (stmts.SetVariable n.value p.value.expr))) q n.further in
       let f = held 17 (fits facts k.value p.value.type) (placed scope (stmts.SetVariable n.value p.value.expr)) q k.further in
       says (StmtText-F.SetVariable name e) (texts.SetVariable name e) (stmts.SetVariable n.value p.value.expr) scope q (texts.rolls-SetVariable name e)
-      (a_variable_assignment (value_says a at scope e p.value p.first) (variable_is at name.text n.value (there_is 16 (variable_place at.class name.text) n.value n.first))) f.1
+      (a_variable_assignment (value_says a at scope e p.value p.first) (variable_is at name.text n.value (found 16 (variable_place at.class name.text) n.value n.first))) f.1
   layer_says (StmtText-F.If e b c) scope q h =
       let p = went (ruled (elaborated_value a at scope e))
       (λ p. elaborated_block a at b.0 scope >>= λ x. elaborated_block a at c.0 scope >>= λ y. ruled (needs 17 (is_boolean p.type) (placed scope (stmts.If p.expr x y)))) q h in

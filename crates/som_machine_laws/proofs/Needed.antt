@@ -20,7 +20,7 @@ use Rattle.som_semantics.specs.Values.{binary_op}
 use Rattle.som_model.specs.Typing.{ClassFacts, CodePlace, ExprType, Of, Ruled, Typed, needs, there, is_nothing, is_boolean, is_class, has_text, fits, all_fit, own_variable, value, value_of, values, unary_type, binary_type, host_type, cast_type, isa_type, proxy_type, offset_call_type, named_call_type, parent_call_type, parents_call_type, expr_step, expr_type}
 use Rattle.som_model.specs.TypedBlocks.{Scope, Scoped, var_scope, local_set, variable_set, value_return, stmt_scope, block_scope, stmt_step, block_step, in_turn}
 use Rattle.som_model.proofs.KeyLaws.{both}
-use Rattle.som_release_laws.proofs.TypesBelow.{went, held, found}
+use Rattle.som_model.proofs.StepLaws.{went, held, found}
 use Rattle.som_code.specs.declared.instruction.Constant.TheVariants as constants
 use Rattle.som_code.specs.declared.instruction.Instruction.{Instruction}
 use Rattle.som_code.specs.declared.instruction.Instruction.TheVariants as ops

@@ -2,3 +2,4 @@ pub mod KeyLaws
 pub mod SameLaws
 pub mod NamedLaws
 pub mod TypingLaws
+pub mod StepLaws

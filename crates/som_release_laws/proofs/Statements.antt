@@ -12,9 +12,10 @@ use Rattle.som_model.specs.Named.{Named, block_names, block_names_step, expr_nam
 use Rattle.som_model.specs.Typing.{ClassFacts, CodePlace, ExprType, Of, Ruled, Typed, needs, there, is_nothing, is_boolean, is_class, has_text, kind_is_known, fits, own_variable, value, expr_type}
 use Rattle.som_model.specs.TypedBlocks.{Scope, Scoped, var_scope, local_set, variable_set, value_return, stmt_scope, block_scope, stmt_step, block_step, in_turn}
 use Rattle.som_model.proofs.KeyLaws.{both}
+use Rattle.som_model.proofs.StepLaws.{went, held, met}
 use Rattle.som_release_laws.specs.Refining.{Refines, AreKnown}
 use Rattle.som_release_laws.proofs.Lists.{both_true}
-use Rattle.som_release_laws.proofs.TypesBelow.{Below, went, held, met, none_named, both_named, kind_named, alike, fits_below, kind_below}
+use Rattle.som_release_laws.proofs.TypesBelow.{Below, none_named, both_named, kind_named, alike, fits_below, kind_below}
 use Rattle.som_release_laws.proofs.Expressions.{expr_carried, part_carried}
 
 module _ (w v : ClassFacts) (r : Refines w v) (at : CodePlace) where

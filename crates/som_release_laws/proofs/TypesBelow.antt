@@ -1,48 +1,16 @@
 -- Types that are smaller: what is asked of a type holds of one below it.
-use Rattle.std.proofs.Common.{◌≡◌, ℕ, suc, ◌⊎◌, inl, inr, Bool, true, false, List, [], ◌∷◌, ◌++◌, length, Option, Some, None, Result, Ok, Err, refl, sym, ap, ◌∙◌, subst, true≢false}
+use Rattle.std.proofs.Common.{◌≡◌, suc, ◌⊎◌, inl, inr, true, false, List, [], ◌∷◌, ◌++◌, length, Some, refl, sym, ap, ◌∙◌, subst, true≢false}
 use Rattle.som_model.specs.declared.key.ClassKey.{ClassKey}
 use Rattle.som_model.specs.declared.key.MethodRef.{MethodRef}
 use Rattle.som_model.specs.declared.key.ValueType.{ValueType}
 use Rattle.som_model.specs.declared.key.ValueType.TheVariants as types
 use Rattle.som_model.specs.declared.class.Sig.{Sig}
-use Rattle.som_model.specs.Steps.{◌>>=◌}
 use Rattle.som_model.specs.Named.{Named, AClass, AMethod, AProxy, method_names, type_names}
-use Rattle.som_model.specs.Typing.{ClassFacts, ExprType, Of, PlainNil, Ruled, needs, there, descends_to, fits, all_fit, kind_is_known}
+use Rattle.som_model.specs.Typing.{ClassFacts, ExprType, Of, PlainNil, descends_to, fits, all_fit, kind_is_known}
 use Rattle.som_model.proofs.KeyLaws.{both}
 use Rattle.som_model_laws.proofs.Members.{mem_split}
 use Rattle.som_release_laws.specs.Refining.{Refines, AreKnown}
 use Rattle.som_release_laws.proofs.Lists.{both_true}
-
--- steps that went well
-
-pub record Went {A B E : Type 0} (x : Result A E) (next : A → Result B E) (r : B) : Type 0 where
-  pub value : A
-  pub first : x ≡ Ok value
-  pub further : next value ≡ Ok r
-
-pub went : {A B E : Type 0} (x : Result A E) (next : A → Result B E) (r : B) → (x >>= next) ≡ Ok r → Went x next r
-went (Ok a) next r e = record { value = a; first = refl; further = e }
-went (Err fault) next r e = absurd (let z = e in cc)
-
-pub held : {A : Type 0} (rule : ℕ) (b : Bool) (further : Ruled A) (r : A) → needs rule b further ≡ Ok r → (b ≡ true) × (further ≡ Ok r)
-held rule true further r e = (refl, e)
-held rule false further r e = absurd (let z = e in cc)
-
-pub met : {A : Type 0} (rule : ℕ) (b : Bool) (further : Ruled A) → b ≡ true → needs rule b further ≡ further
-met rule b further e = ap (λ z. needs rule z further) e
-
-pub both_steps : {A B C E : Type 0} (x : Result A E) (y : Result B E) (f : A → B → Result C E) (u : A) (v : B) → x ≡ Ok u → y ≡ Ok v → (x >>= λ s. y >>= f s) ≡ f u v
-both_steps x y f u v e g = ap (λ z. z >>= λ s. y >>= f s) e ∙ ap (λ z. z >>= f u) g
-
-abbrev answer : (A E : Type 0) → A → Result A E
-answer A E x = Ok x
-
-pub same_answer : {A E : Type 0} {x y : A} → answer A E x ≡ answer A E y → x ≡ y
-same_answer e = let z = e in cc
-
-pub found : {A : Type 0} (rule : ℕ) (o : Option A) (x : A) → there rule o ≡ Ok x → o ≡ Some x
-found rule (Some y) x e = let z = e in cc
-found rule None x e = absurd (let z = e in cc)
 
 -- what is named
 

@@ -28,6 +28,7 @@ use Rattle.som_semantics.specs.Expressions.{Frame, Evals, local_in, read, each_o
 use Rattle.som_model.specs.Typing.{ClassFacts, CodePlace, ExprType, Of, PlainNil, Typed, Ruled, needs, there, gives, is_nothing, is_reference, descends_to, fits, all_fit, kind_is_known, value, value_of, values, unary_type, binary_type, host_type, cast_type, isa_type, proxy_type, offset_call_type, named_call_type, parent_call_type, parents_call_type, own_variable, expr_type}
 use Rattle.som_model.specs.Typing as typing
 use Rattle.som_model.proofs.KeyLaws.{both}
+use Rattle.som_model.proofs.StepLaws.{went, held, same_answer, found}
 use Rattle.som_type_soundness.specs.Values.{is_there, is_value, has_type, have_types, are_of_one_kind, is_long, unary_takes, binary_takes}
 use Rattle.som_type_soundness.specs.Heaps.{AreTyped}
 use Rattle.som_type_soundness.specs.Preserving.{IsOf}
@@ -36,7 +37,6 @@ use Rattle.som_type_soundness.specs.Checked.{check, such_that, expr_checked, che
 use Rattle.som_type_soundness.proofs.Keeping.{Answers, Keeps, bind_keeps, pure_keeps, tried_keeps, asked_keeps, check_keeps, value_keeps}
 use Rattle.som_type_soundness.proofs.Heaps.{both_true, some_is, type_later, types_later}
 use Rattle.som_type_soundness.proofs.Facts.{IsSound, InClass, facts_of}
-use Rattle.som_type_soundness.proofs.Steps.{went, met, same_answer, found}
 use Rattle.som_type_soundness.proofs.Values.{AreOf, value_at, fitting, all_fitting, descending, receiving, referring, of_long}
 use Rattle.som_type_soundness.proofs.Operators.{answers_if, unary_typed, operands, is_later}
 use Rattle.som_type_soundness.proofs.Calls.{Has, CallsKeep, casts, isas, values_exist, class_keeps, proxy_keeps, offset_keeps, named_keeps, dispatch_keeps, parent_keeps, parents_keeps, new_keeps}
@@ -159,7 +159,7 @@ module _ (w : World) (known : ClassKey → Bool) (sound : IsSound w known) where
     pub part_keeps : (e : Expr) → ExprKeeps e → (t : ExprType) → value (T e) ≡ Ok t → (h : Heap) (frame : Frame) → InClass w at.class here h → have_types w h scope frame ≡ true → Keeps w h (E e frame) (C e frame) (IsOf w t)
     part_keeps e k t f h frame i a =
         let q = went (T e) value_of t f in
-        let d = met 20 (not (is_nothing q.value)) (Ok q.value) t q.further in
+        let d = held 20 (not (is_nothing q.value)) (Ok q.value) t q.further in
         k t (q.first ∙ ap Ok (same_answer d.1)) h frame i a
 
     parts_keep : (ks : List Kept) (ts : List ExprType) → values (map T (exprs ks)) ≡ Ok ts → (h : Heap) (frame : Frame) → InClass w at.class here h → have_types w h scope frame ≡ true
@@ -260,13 +260,13 @@ module _ (w : World) (known : ClassKey → Bool) (sound : IsSound w known) where
 
     new_form : (k : ClassKey) (t : ExprType) → typing.new_type F k ≡ Ok t → (h : Heap) → Keeps w h (new_on w call here.place k) (acts.◌>>◌ (check otherwise (is_class w k)) (new_on w checked here.place k)) (IsOf w t)
     new_form k t e h =
-        let d = met 16 (known k) (Ok (Of (types.Class k))) t e in
+        let d = held 16 (known k) (Ok (Of (types.Class k))) t e in
         check_keeps w otherwise h (IsOf w t) (is_class w k) (new_on w call here.place k) (new_on w checked here.place k) (known_class k h d.0)
         (subst (λ z. Keeps w h (new_on w call here.place k) (new_on w checked here.place k) (IsOf w z)) (same_answer d.1) (new_keeps w known sound call checked keep h here.place k (sound.class k d.0)))
 
     class_form : (k : ClassKey) (t : ExprType) → typing.class_type F k ≡ Ok t → (h : Heap) → Keeps w h (class_object k) (acts.◌>>◌ (check otherwise (is_class w k)) (class_object k)) (IsOf w t)
     class_form k t e h =
-        let d = met 16 (known k) (Ok (Of (types.Class (w.meta k)))) t e in
+        let d = held 16 (known k) (Ok (Of (types.Class (w.meta k)))) t e in
         check_keeps w otherwise h (IsOf w t) (is_class w k) (class_object k) (class_object k) (known_class k h d.0)
         (subst (λ z. Keeps w h (class_object k) (class_object k) (IsOf w z)) (same_answer d.1) (class_keeps w known sound h k (sound.class k d.0)))
 
@@ -275,8 +275,8 @@ module _ (w : World) (known : ClassKey → Bool) (sound : IsSound w known) where
         (acts.◌>>◌ (check otherwise (is_class w c)) (expr_step w checked here (Expr-F.Cast c (such_that otherwise (λ v g. has_type w g an_object v) (C k.0))) frame)) (IsOf w t)
     cast_form c k t e h frame i a =
         let q = went (value (T k.0)) (cast_type F c) t e in
-        let d = met 16 (known c) (gives (is_reference q.value) (types.Class c)) t q.further in
-        let r = met 17 (is_reference q.value) (Ok (Of (types.Class c))) t d.1 in
+        let d = held 16 (known c) (gives (is_reference q.value) (types.Class c)) t q.further in
+        let r = held 17 (is_reference q.value) (Ok (Of (types.Class c))) t d.1 in
         let refers : (v : Value) (g : Heap) → IsLater h g → AreTyped w g → IsOf w q.value v g → has_type w g an_object v ≡ true = λ v g le ty j. referring w known sound g q.value v ty r.0 j in
         let n : Act Value = such_that otherwise (λ v g. has_type w g an_object v) (C k.0) frame in
         check_keeps w otherwise h (IsOf w t) (is_class w c) (expr_step w call here (Expr-F.Cast c (E k.0)) frame) (expr_step w checked here (Expr-F.Cast c (such_that otherwise (λ v g. has_type w g an_object v) (C k.0))) frame) (known_class c h d.0)
@@ -290,8 +290,8 @@ module _ (w : World) (known : ClassKey → Bool) (sound : IsSound w known) where
         (acts.◌>>◌ (check otherwise (is_class w c)) (expr_step w checked here (Expr-F.Isa c (such_that otherwise (λ v g. has_type w g an_object v) (C k.0))) frame)) (IsOf w t)
     isa_form c k t e h frame i a =
         let q = went (value (T k.0)) (isa_type F c) t e in
-        let d = met 16 (known c) (gives (is_reference q.value) types.Boolean) t q.further in
-        let r = met 17 (is_reference q.value) (Ok (Of types.Boolean)) t d.1 in
+        let d = held 16 (known c) (gives (is_reference q.value) types.Boolean) t q.further in
+        let r = held 17 (is_reference q.value) (Ok (Of types.Boolean)) t d.1 in
         let n : Act Value = such_that otherwise (λ v g. has_type w g an_object v) (C k.0) frame in
         check_keeps w otherwise h (IsOf w t) (is_class w c) (expr_step w call here (Expr-F.Isa c (E k.0)) frame) (expr_step w checked here (Expr-F.Isa c (such_that otherwise (λ v g. has_type w g an_object v) (C k.0))) frame) (known_class c h d.0)
         (bind_keeps w h (IsOf w q.value) (IsOf w t) (λ v. asked here.place (λ g. isa w c g v)) (λ v. asked here.place (λ g. isa w c g v))
@@ -303,8 +303,8 @@ module _ (w : World) (known : ClassKey → Bool) (sound : IsSound w known) where
         (acts.◌>>◌ (check otherwise (is_class w c)) (expr_step w checked here (Expr-F.Proxy c (such_that otherwise (of_class w c) (C k.0))) frame)) (IsOf w t)
     proxy_form c k t e h frame i a =
         let q = went (value (T k.0)) (proxy_type F c) t e in
-        let d = met 16 (known c) (gives (fits F (types.Class c) q.value) (types.Class c)) t q.further in
-        let r = met 17 (fits F (types.Class c) q.value) (Ok (Of (types.Class c))) t d.1 in
+        let d = held 16 (known c) (gives (fits F (types.Class c) q.value) (types.Class c)) t q.further in
+        let r = held 17 (fits F (types.Class c) q.value) (Ok (Of (types.Class c))) t d.1 in
         let n : Act Value = such_that otherwise (of_class w c) (C k.0) frame in
         check_keeps w otherwise h (IsOf w t) (is_class w c) (expr_step w call here (Expr-F.Proxy c (E k.0)) frame) (expr_step w checked here (Expr-F.Proxy c (such_that otherwise (of_class w c) (C k.0))) frame) (known_class c h d.0)
         (bind_keeps w h (IsOf w q.value) (IsOf w t) (λ v. proxy_on w here.place c v) (λ v. proxy_on w here.place c v)
@@ -318,8 +318,8 @@ module _ (w : World) (known : ClassKey → Bool) (sound : IsSound w known) where
         let qs = went (values (map T (exprs ks))) (offset_call_type F r q.value) t q.further in
         let g = went (there 16 (w.sig (w.owner r))) (λ sig. needs 17 (descends_to F r.class q.value) (needs 18 (all_fit F sig.params qs.value) (Ok (Of sig.result)))) t qs.further in
         let sig = g.value in
-        let d = met 17 (descends_to F r.class q.value) (needs 18 (all_fit F sig.params qs.value) (Ok (Of sig.result))) t g.further in
-        let f = met 18 (all_fit F sig.params qs.value) (Ok (Of sig.result)) t d.1 in
+        let d = held 17 (descends_to F r.class q.value) (needs 18 (all_fit F sig.params qs.value) (Ok (Of sig.result))) t g.further in
+        let f = held 18 (all_fit F sig.params qs.value) (Ok (Of sig.result)) t d.1 in
         let is : w.sig (w.owner r) ≡ Some sig = found 16 (w.sig (w.owner r)) sig g.first in
         let further : Calls → (Frame → Act (List Value)) → Value → Act Value = λ c es on. acts.◌>>=◌ (es frame) (λ vs. offset_call w c here.place Offset r on vs) in
         bind_keeps w h (IsOf w q.value) (IsOf w t) (further call (each_of (map E (exprs ks)))) (further checked (each_of (map C (exprs ks))))
@@ -339,9 +339,9 @@ module _ (w : World) (known : ClassKey → Bool) (sound : IsSound w known) where
     named_form kind does k ks t keeps e h frame i a =
         let q = went (value (T k.0)) (λ on. values (map T (exprs ks)) >>= named_call_type F kind on) t e in
         let qs = went (values (map T (exprs ks))) (named_call_type F kind q.value) t q.further in
-        let b = met 16 (kind_is_known F kind) (needs 17 (typing.is_class q.value) (needs 18 (nat_le (length qs.value) MAX_PARAMETERS) (Ok (Of kind)))) t qs.further in
-        let d = met 17 (typing.is_class q.value) (needs 18 (nat_le (length qs.value) MAX_PARAMETERS) (Ok (Of kind))) t b.1 in
-        let f = met 18 (nat_le (length qs.value) MAX_PARAMETERS) (Ok (Of kind)) t d.1 in
+        let b = held 16 (kind_is_known F kind) (needs 17 (typing.is_class q.value) (needs 18 (nat_le (length qs.value) MAX_PARAMETERS) (Ok (Of kind)))) t qs.further in
+        let d = held 17 (typing.is_class q.value) (needs 18 (nat_le (length qs.value) MAX_PARAMETERS) (Ok (Of kind))) t b.1 in
+        let f = held 18 (nat_le (length qs.value) MAX_PARAMETERS) (Ok (Of kind)) t d.1 in
         let plain : Act Value = acts.◌>>=◌ (E k.0 frame) (λ on. acts.◌>>=◌ (each_of (map E (exprs ks)) frame) (λ vs. does call on vs)) in
         let tested : Act (List Value) = each_of (map (such_that otherwise (λ v g. is_value w g v)) (map C (exprs ks))) frame in
         check_keeps w otherwise h (IsOf w t) (is_kind w kind) plain (acts.◌>>=◌ (such_that otherwise (λ v g. has_type w g an_object v) (C k.0) frame) (λ on. acts.◌>>=◌ tested (λ vs. does checked on vs))) (λ g le ty. kind_there kind b.0 g)
@@ -364,8 +364,8 @@ module _ (w : World) (known : ClassKey → Bool) (sound : IsSound w known) where
         let p = q.value in
         let g = went (there 16 (w.sig (w.owner r))) (λ sig. needs 17 (w.is_a p r.class) (needs 18 (all_fit F sig.params ts) (Ok (Of sig.result)))) t q.further in
         let sig = g.value in
-        let d = met 17 (w.is_a p r.class) (needs 18 (all_fit F sig.params ts) (Ok (Of sig.result))) t g.further in
-        let f = met 18 (all_fit F sig.params ts) (Ok (Of sig.result)) t d.1 in
+        let d = held 17 (w.is_a p r.class) (needs 18 (all_fit F sig.params ts) (Ok (Of sig.result))) t g.further in
+        let f = held 18 (all_fit F sig.params ts) (Ok (Of sig.result)) t d.1 in
         let is : w.sig (w.owner r) ≡ Some sig = found 16 (w.sig (w.owner r)) sig g.first in
         let parent : slice_get c.decl.face.parents n ≡ Some p = found 16 (slice_get c.decl.face.parents n) p q.first in
         let ps : w.parents (class_here here) ≡ c.decl.face.parents = ap w.parents i.1 ∙ i.0.parents in
@@ -387,8 +387,8 @@ module _ (w : World) (known : ClassKey → Bool) (sound : IsSound w known) where
     parents_form r ks t o ts e v h frame i ia a =
         let g = went (there 16 (w.sig (w.owner r))) (λ sig. needs 18 (all_fit F sig.params ts) (needs 20 (is_nothing (Of sig.result) && proper_in F o (w.owner r).class) (Ok (Of sig.result)))) t e in
         let sig = g.value in
-        let f = met 18 (all_fit F sig.params ts) (needs 20 (is_nothing (Of sig.result) && proper_in F o (w.owner r).class) (Ok (Of sig.result))) t g.further in
-        let n = met 20 (is_nothing (Of sig.result) && proper_in F o (w.owner r).class) (Ok (Of sig.result)) t f.1 in
+        let f = held 18 (all_fit F sig.params ts) (needs 20 (is_nothing (Of sig.result) && proper_in F o (w.owner r).class) (Ok (Of sig.result))) t g.further in
+        let n = held 20 (is_nothing (Of sig.result) && proper_in F o (w.owner r).class) (Ok (Of sig.result)) t f.1 in
         let b = both (is_nothing (Of sig.result)) (proper_in F o (w.owner r).class) n.0 in
         by o i b.1 sig (found 16 (w.sig (w.owner r)) sig g.first) f.0 (subst (λ z. z ≡ t) (ap Of (nothing_is sig.result b.0)) (same_answer n.1))
       where
@@ -417,7 +417,7 @@ module _ (w : World) (known : ClassKey → Bool) (sound : IsSound w known) where
     host_form code k l t e h frame i a =
         let q = went (value (T k.0)) (λ s. value (T l.0) >>= host_type s) t e in
         let u = went (value (T l.0)) (host_type q.value) t q.further in
-        let d = met 17 (typing.is_long q.value && typing.is_long u.value) (Ok (Of types.Long)) t u.further in
+        let d = held 17 (typing.is_long q.value && typing.is_long u.value) (Ok (Of types.Long)) t u.further in
         let b = both (typing.is_long q.value) (typing.is_long u.value) d.0 in
         let right : Act Value = such_that otherwise (λ v g. is_long v) (C l.0) frame in
         bind_keeps w h (IsOf w q.value) (IsOf w t) (λ x. acts.◌>>=◌ (E l.0 frame) (λ y. pure (host code x y))) (λ x. acts.◌>>=◌ right (λ y. pure (host code x y)))

@@ -17,12 +17,12 @@ use Rattle.som_semantics.specs.Expressions.{either, is_true}
 use Rattle.som_model.specs.Typing.{ExprType, Of, Typed, gives, needs, unary_type, binary_type}
 use Rattle.som_model.specs.Typing as typing
 use Rattle.som_model.proofs.KeyLaws.{both}
+use Rattle.som_model.proofs.StepLaws.{held, same_answer}
 use Rattle.som_type_soundness.specs.Values.{has_type, is_long, is_boolean, is_text, is_object, are_of_one_kind, unary_takes, binary_takes}
 use Rattle.som_type_soundness.specs.Preserving.{IsOf}
 use Rattle.som_type_soundness.proofs.Heaps.{type_later}
 use Rattle.som_type_soundness.proofs.Keeping.{Answers, Keeps, bind_keeps, pure_keeps, tried_keeps, if_keeps, weaker_keeps}
 use Rattle.som_type_soundness.proofs.Facts.{IsSound}
-use Rattle.som_type_soundness.proofs.Steps.{met, same_answer}
 use Rattle.som_type_soundness.proofs.Values.{nothing_value, of_long, of_boolean, of_text, of_printed}
 
 -- whether a number is 0
@@ -100,7 +100,7 @@ not_thirteen n le = grind (arith, le)
 
 module _ (w : World) (known : ClassKey → Bool) (sound : IsSound w known) where
   gave : (takes : Bool) (kind : ValueType) (r : ExprType) → gives takes kind ≡ Ok r → (takes ≡ true) × (Of kind ≡ r)
-  gave takes kind r e = let p = met 17 takes (Ok (Of kind)) r e in (p.0, same_answer p.1)
+  gave takes kind r e = let p = held 17 takes (Ok (Of kind)) r e in (p.0, same_answer p.1)
 
   one_long : (h : Heap) (z : ℤ) → Answers (long z) (λ u. has_type w h types.Long u ≡ true)
   one_long h z = answers_if (values.is_long z) (Long z) faults.Overflow (λ u. has_type w h types.Long u ≡ true) refl

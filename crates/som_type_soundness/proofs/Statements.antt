@@ -26,6 +26,7 @@ use Rattle.som_model.specs.Typing.{ClassFacts, CodePlace, ExprType, Of, needs, t
 use Rattle.som_model.specs.TypedBlocks.{Scope, Scoped, var_scope, local_set, variable_set, value_return, stmt_scope, block_scope, in_turn}
 use Rattle.som_model.specs.TypedBlocks as typing
 use Rattle.som_model.proofs.KeyLaws.{both}
+use Rattle.som_model.proofs.StepLaws.{went, held, same_answer, found}
 use Rattle.som_type_soundness.specs.Values.{has_type, have_types}
 use Rattle.som_type_soundness.specs.Values as values
 use Rattle.som_type_soundness.specs.Heaps.{AreTyped}
@@ -35,7 +36,6 @@ use Rattle.som_type_soundness.specs.Checked.{such_that, checked_eval, stmt_check
 use Rattle.som_type_soundness.proofs.Keeping.{Answers, Any, Keeps, bind_keeps, pure_keeps, fault_keeps, asked_keeps, emit_keeps, unit_keeps, become_keeps, bounded_keeps, if_keeps, weaker_keeps, value_keeps}
 use Rattle.som_type_soundness.proofs.Heaps.{both_true, type_later, types_later, write_typed}
 use Rattle.som_type_soundness.proofs.Facts.{IsSound, InClass, facts_of}
-use Rattle.som_type_soundness.proofs.Steps.{went, met, same_answer, found}
 use Rattle.som_type_soundness.proofs.Values.{value_at, one_more, one_set, first_ones, as_many, fitting, receiving, of_boolean, of_printed}
 use Rattle.som_type_soundness.proofs.Operators.{same_kind}
 use Rattle.som_type_soundness.proofs.Calls.{Has, CallsKeep, own_keeps}
@@ -177,8 +177,8 @@ module _ (w : World) (known : ClassKey → Bool) (sound : IsSound w known) (othe
       → Extends scope after × RunKeeps scope after (λ frame. acts.◌>>=◌ (E e frame) (λ v. pure (Next (frame ++ v ∷ [])))) (λ frame. acts.◌>>=◌ (such_that otherwise (λ v h. has_type w h kind v) (C e) frame) (λ v. pure (Next (frame ++ v ∷ []))))
   var_keeps kind e scope after h =
       let q = went (value (expr_type F at scope e)) (var_scope F scope kind) after h in
-      let k = met 16 (kind_is_known F kind) (needs 17 (fits F kind q.value) (Ok (scope ++ kind ∷ []))) after q.further in
-      let f = met 17 (fits F kind q.value) (Ok (scope ++ kind ∷ [])) after k.1 in (
+      let k = held 16 (kind_is_known F kind) (needs 17 (fits F kind q.value) (Ok (scope ++ kind ∷ []))) after q.further in
+      let f = held 17 (fits F kind q.value) (Ok (scope ++ kind ∷ [])) after k.1 in (
         (kind ∷ [], sym (same_answer f.1)),
         λ g frame i a.
             bind_keeps w g (IsOf w q.value) (FlowHas w at.result after) (λ v. pure (Next (frame ++ v ∷ []))) (λ v. pure (Next (frame ++ v ∷ [])))
@@ -193,7 +193,7 @@ module _ (w : World) (known : ClassKey → Bool) (sound : IsSound w known) (othe
       let q = went (value (expr_type F at scope e)) (local_set F scope n) after h in
       let k = went (there 16 (slice_get scope n)) (λ kind. needs 17 (fits F kind q.value) (Ok scope)) after q.further in
       let is : slice_get scope n ≡ Some k.value = found 16 (slice_get scope n) k.value k.first in
-      let f = met 17 (fits F k.value q.value) (Ok scope) after k.further in (
+      let f = held 17 (fits F k.value q.value) (Ok scope) after k.further in (
         same_scope scope after (same_answer f.1),
         λ g frame i a.
             bind_keeps w g (IsOf w q.value) (FlowHas w at.result after) (λ v. pure (Next (slice_set frame n v))) (λ v. pure (Next (slice_set frame n v)))
@@ -211,7 +211,7 @@ module _ (w : World) (known : ClassKey → Bool) (sound : IsSound w known) (othe
       let q = went (value (expr_type F at scope e)) (variable_set F at scope n) after h in
       let k = went (own_variable at n) (λ kind. needs 17 (fits F kind q.value) (Ok scope)) after q.further in
       let is = found 16 (kind_in at.class n) k.value k.first in
-      let f = met 17 (fits F k.value q.value) (Ok scope) after k.further in
+      let f = held 17 (fits F k.value q.value) (Ok scope) after k.further in
       let test : Value → Heap → Bool = λ v h. has_slot w (class_here here) n here.me h && has_type w h (w.variable (class_here here) n) v in (
         same_scope scope after (same_answer f.1),
         λ g frame i a.
@@ -239,7 +239,7 @@ module _ (w : World) (known : ClassKey → Bool) (sound : IsSound w known) (othe
       let q = went (value (expr_type F at scope e)) (λ t. B x.0 scope >>= λ _. B y.0 scope >>= λ _. needs 17 (is_boolean t) (Ok scope)) after h in
       let p = went (B x.0 scope) (λ _. B y.0 scope >>= λ _. needs 17 (is_boolean q.value) (Ok scope)) after q.further in
       let u = went (B y.0 scope) (λ _. needs 17 (is_boolean q.value) (Ok scope)) after p.further in
-      let f = met 17 (is_boolean q.value) (Ok scope) after u.further in (
+      let f = held 17 (is_boolean q.value) (Ok scope) after u.further in (
         same_scope scope after (same_answer f.1),
         λ g frame i a.
             bind_keeps w g (Any w) (FlowHas w at.result after) (λ v. if is_true v then R x.0 frame else R y.0 frame) (λ v. if is_true v then RC x.0 frame else RC y.0 frame)
@@ -254,7 +254,7 @@ module _ (w : World) (known : ClassKey → Bool) (sound : IsSound w known) (othe
   while_form e x scope after h =
       let q = went (value (expr_type F at scope e)) (λ t. B x.0 scope >>= λ _. needs 17 (is_boolean t) (Ok scope)) after h in
       let p = went (B x.0 scope) (λ _. needs 17 (is_boolean q.value) (Ok scope)) after q.further in
-      let f = met 17 (is_boolean q.value) (Ok scope) after p.further in (
+      let f = held 17 (is_boolean q.value) (Ok scope) after p.further in (
         same_scope scope after (same_answer f.1),
         λ g frame i a.
             subst (λ z. Keeps w g (while_loop (E e) (R x.0) frame) (while_loop (such_that otherwise (λ v h. values.is_boolean v) (C e)) (RC x.0) frame) (FlowHas w at.result z)) (same_answer f.1)
@@ -265,7 +265,7 @@ module _ (w : World) (known : ClassKey → Bool) (sound : IsSound w known) (othe
       → Extends scope after × RunKeeps scope after (λ frame. acts.◌>>=◌ (E e frame) (λ v. pure (Returned v))) (λ frame. acts.◌>>=◌ (C e frame) (λ v. pure (Returned v)))
   value_form e scope after h =
       let q = went (value (expr_type F at scope e)) (value_return F at scope) after h in
-      let f = met 19 (not (is_nothing (Of at.result)) && fits F at.result q.value) (Ok scope) after q.further in
+      let f = held 19 (not (is_nothing (Of at.result)) && fits F at.result q.value) (Ok scope) after q.further in
       let b = both (not (is_nothing (Of at.result))) (fits F at.result q.value) f.0 in (
         same_scope scope after (same_answer f.1),
         λ g frame i a.
@@ -278,7 +278,7 @@ module _ (w : World) (known : ClassKey → Bool) (sound : IsSound w known) (othe
       → Extends scope after × RunKeeps scope after (λ frame. acts.◌>>=◌ (E e frame) (λ v. acts.◌>>◌ (print_value v) (pure (Next frame)))) (λ frame. acts.◌>>=◌ (such_that otherwise (λ v h. values.has_text v) (C e) frame) (λ v. acts.◌>>◌ (print_value v) (pure (Next frame))))
   print_form e scope after h =
       let q = went (value (expr_type F at scope e)) (λ t. needs 17 (has_text t) (Ok scope)) after h in
-      let f = met 17 (has_text q.value) (Ok scope) after q.further in (
+      let f = held 17 (has_text q.value) (Ok scope) after q.further in (
         same_scope scope after (same_answer f.1),
         λ g frame i a.
             bind_keeps w g (IsOf w q.value) (FlowHas w at.result after) (λ v. acts.◌>>◌ (print_value v) (pure (Next frame))) (λ v. acts.◌>>◌ (print_value v) (pure (Next frame)))
@@ -293,7 +293,7 @@ module _ (w : World) (known : ClassKey → Bool) (sound : IsSound w known) (othe
       (λ frame. acts.◌>>=◌ (such_that otherwise (λ v h. has_type w h an_object v) (C e) frame) (λ v. acts.◌>>◌ (offset_call w checked here.place Offset som_free v []) (pure (Next frame))))
   free_form e scope after h =
       let q = went (value (expr_type F at scope e)) (λ t. needs 17 (is_class t) (Ok scope)) after h in
-      let f = met 17 (is_class q.value) (Ok scope) after q.further in (
+      let f = held 17 (is_class q.value) (Ok scope) after q.further in (
         same_scope scope after (same_answer f.1),
         λ g frame i a.
             bind_keeps w g (IsOf w q.value) (FlowHas w at.result after) (λ v. acts.◌>>◌ (offset_call w call here.place Offset som_free v []) (pure (Next frame))) (λ v. acts.◌>>◌ (offset_call w checked here.place Offset som_free v []) (pure (Next frame)))
@@ -308,7 +308,7 @@ module _ (w : World) (known : ClassKey → Bool) (sound : IsSound w known) (othe
       → Extends scope after × RunKeeps scope after (λ frame. acts.◌>>=◌ (E e frame) (λ v. pure (Next frame))) (λ frame. acts.◌>>=◌ (C e frame) (λ v. pure (Next frame)))
   call_form e scope after h =
       let q = went (expr_type F at scope e) (λ t. needs 20 (is_call e) (Ok scope)) after h in
-      let f = met 20 (is_call e) (Ok scope) after q.further in (
+      let f = held 20 (is_call e) (Ok scope) after q.further in (
         same_scope scope after (same_answer f.1),
         λ g frame i a.
             bind_keeps w g (IsOf w q.value) (FlowHas w at.result after) (λ v. pure (Next frame)) (λ v. pure (Next frame))
@@ -318,7 +318,7 @@ module _ (w : World) (known : ClassKey → Bool) (sound : IsSound w known) (othe
 
   return_form : (scope after : Scope) → typing.plain_return at scope ≡ Ok after → Extends scope after × RunKeeps scope after (λ frame. pure Return) (λ frame. pure Return)
   return_form scope after h =
-      let f = met 19 (is_nothing (Of at.result)) (Ok scope) after h in
+      let f = held 19 (is_nothing (Of at.result)) (Ok scope) after h in
       (same_scope scope after (same_answer f.1), λ g frame i a. pure_keeps w g (FlowHas w at.result after) Return (λ l le ty. nothing_is at.result f.0))
 
   layer : (y : Stmt-F Kept KeptBlock) (scope after : Scope) → typing.stmt_step F at (map-Stmt Stmt Block Scoped Scoped S B (bare y)) scope ≡ Ok after
