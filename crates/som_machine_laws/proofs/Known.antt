@@ -1,35 +1,26 @@
 -- What the blocks of classes that can be loaded name is there, and so is what their code names.
-use Rattle.std.proofs.Common.{◌≡◌, ℕ, inl, inr, true, List, [], ◌∷◌, ◌++◌, flat_map, Some, IsSome, slice_get, refl, sym, ap, subst}
+use Rattle.std.proofs.Common.{◌≡◌, ℕ, inl, inr, List, [], ◌∷◌, ◌++◌, flat_map, Some, IsSome, slice_get, refl, sym, ap, subst}
 use Rattle.std.specs.Prelude.{is_some}
-use Rattle.som_model.specs.declared.key.ClassKey.{ClassKey}
 use Rattle.som_model.specs.declared.key.MethodRef.{MethodRef}
 use Rattle.som_model.specs.declared.key.ValueType.{ValueType}
 use Rattle.som_model.specs.declared.key.ValueType.TheVariants as types
 use Rattle.som_model.specs.declared.syntax.Block.{Block}
 use Rattle.som_model.specs.declared.class.Sig.{Sig}
 use Rattle.som_model.specs.Lists.{Mem}
-use Rattle.som_model.specs.Ancestors.{itself}
 use Rattle.som_model.specs.Class.{Class}
-use Rattle.som_model.specs.Classes.{class_at, hierarchy}
 use Rattle.som_model.specs.Kernel.{kernel, som_free}
 use Rattle.som_model.specs.Loads.{IsOrdered, Loads, keys_of}
 use Rattle.som_model.specs.Made.{blocks_of, blocks_of_class}
-use Rattle.som_model.specs.Named.{Named, AClass, AMethod, AProxy, block_names, body_names, method_names, override_names, select_names}
+use Rattle.som_model.specs.Named.{Named, AClass, AMethod, AProxy, block_names, method_names}
 use Rattle.som_model.specs.Owner.{owner, sig_of}
 use Rattle.som_model.specs.Typing.{ClassFacts, running_facts}
 use Rattle.som_semantics.specs.World.{world}
-use Rattle.som_model_laws.proofs.Laws.{descends_through}
 use Rattle.som_model_laws.proofs.Members.{mem_split}
 use Rattle.som_model_laws.proofs.Lists.{get_mem, mem_map}
-use Rattle.som_model_laws.proofs.Owners.{entry_class}
-use Rattle.som_model_laws.proofs.Standing.{found_is}
-use Rattle.som_release_laws.specs.Refining.{AreKnown, Refines}
-use Rattle.som_release_laws.proofs.Facing.{tested, tests}
-use Rattle.som_release_laws.proofs.Inheriting.{s10_says}
+use Rattle.som_release_laws.specs.Refining.{AreKnown}
 use Rattle.som_release_laws.proofs.Prefix.{signature_entry}
-use Rattle.som_release_laws.proofs.TypedClasses.{class_carried, main_carried}
-use Rattle.som_release_laws.proofs.TypesBelow.{method_named}
-use Rattle.som_proxy_uses.proofs.Known.{as_many, class_block, some_class, some_sig}
+use Rattle.som_release_laws.proofs.TypedClasses.{main_carried}
+use Rattle.som_proxy_uses.proofs.Known.{class_block, class_known, declared, known_is, same}
 use Rattle.som_proxy_uses.proofs.Lists.{flat_mem}
 use Rattle.som_code.specs.declared.instruction.Instruction.{Instruction}
 use Rattle.som_code.specs.declared.instruction.Instruction.TheVariants as ops
@@ -89,59 +80,22 @@ module _ (cs : List Class) (main : Block) (l : Loads cs main) where
   abbrev w : ClassFacts
   w = running_facts all
 
-  -- typing by some facts finds well typed what it finds well typed
-  same : Refines w w
-  unfolding running_facts
-  same = record {
-    known = λ k e. e;
-    is_a = λ k a e. e;
-    through = λ a b c x y. tests cs o a c (descends_through (hierarchy all) a b c (tested cs o a b x) (tested cs o b c y));
-    object = λ k e. tests cs o _ _ itself;
-    signature = λ r s e. e;
-    referred = λ r s e. (let f = signature_entry all r.class r.name s e in let c = entry_class all r.class r.name f.0 f.1 in ap is_some c.1);
-    proper = λ r s c e p. p;
-  }
-
-  signature_is : (m : MethodRef) (s : Sig) → sig_of all (owner all m) ≡ Some s → w.signature m ≡ Some s
-  unfolding running_facts
-  signature_is m s e = e
-
-  -- what is known is declared, and what has a signature has an entry
-  known_is : (k : ClassKey) → w.is_known k ≡ true → is_some (class_at all k) ≡ true
-  unfolding running_facts
-  known_is k e = e
-
+  -- what has a signature has an entry
   method_is_there : (m : MethodRef) (s : Sig) → w.signature m ≡ Some s → IsMethod all m
   unfolding running_facts
   method_is_there m s e = record { entry = ap is_some (signature_entry all m.class m.name s e).1; sig = ap is_some e }
 
-  declared : (k : ClassKey) → w.is_known k ≡ true → Mem k (keys_of all)
-  declared k e =
-      let c = some_class (class_at all k) (known_is k e) in
-      let f = found_is cs o k c.0 c.1 in
-      subst (λ z. Mem z (keys_of all)) f.1 (mem_map (λ (c : Class). c.key) c.0 all f.0)
-
-  method_known : (m : MethodRef) (s : Sig) → sig_of all (owner all m) ≡ Some s → AreKnown w (method_names m)
-  method_known m s e = let f = signature_is m s e in method_named w m s f (same.referred m s f)
-
-  -- what the blocks of a class name is known
-  class_known : (c : Class) → Mem c cs → AreKnown w (flat_map body_names c.decl.bodies ++ (flat_map override_names c.decl.overrides ++ flat_map select_names c.decl.selects))
-  class_known c m =
-      let i = s10_says all c (l.inherited c m) in
-      (class_carried w w same c all all (λ m s e. e) method_known (as_many c (l.bodies c m))
-      (λ x n. some_sig (sig_of all (owner all x.method)) (i.overrides.0 x n).1) (λ x n. some_sig (sig_of all (owner all x.method)) (i.selects.0 x n).1) (l.typed c m)).1
-
   there_of : (ns : List Named) → AreKnown w ns → (n : Named) → Mem n ns → IsThere all n
-  there_of ns a (AClass k) m = declared k (a.classes k m)
+  there_of ns a (AClass k) m = declared cs main l k (known_is cs main l k (a.classes k m))
   there_of ns a (AMethod r) m = let s = a.methods r m in method_is_there r s.0 s.1
   there_of ns a (AProxy k) m = tt
 
   -- what a block names is there
   block_there : (b : Block) → Mem b (blocks_of all main) → (n : Named) → Mem n (block_names b) → IsThere all n
   block_there b m n at = elim (mem_split b (flat_map blocks_of_class cs) (main ∷ []) m) [
-    | inl x ↦ (let r = flat_mem blocks_of_class b cs x in there_of _ (class_known r.0 r.1) n (class_block r.0 b n r.2 at))
+    | inl x ↦ (let r = flat_mem blocks_of_class b cs x in there_of _ (class_known cs main l r.0 r.1) n (class_block r.0 b n r.2 at))
     | inr x ↦ elim x [
-      | inl is ↦ there_of (block_names main) (main_carried w w same main l.main_typed).1 n (subst (λ z. Mem n (block_names z)) is at)
+      | inl is ↦ there_of (block_names main) (main_carried w w (same cs main l) main l.main_typed).1 n (subst (λ z. Mem n (block_names z)) is at)
       | inr z ↦ absurd z
     ]
   ]

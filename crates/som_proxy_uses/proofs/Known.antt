@@ -90,7 +90,7 @@ module _ (cs : List Class) (main : Block) (l : Loads cs main) where
   w = running_facts all
 
   -- typing by some facts finds well typed what it finds well typed
-  same : Refines w w
+  pub same : Refines w w
   unfolding running_facts
   same = record {
     known = λ k e. e;
@@ -106,7 +106,8 @@ module _ (cs : List Class) (main : Block) (l : Loads cs main) where
   unfolding running_facts
   signature_is m s e = e
 
-  known_is : (k : ClassKey) → w.is_known k ≡ true → is_some (class_at all k) ≡ true
+  -- what is known is declared
+  pub known_is : (k : ClassKey) → w.is_known k ≡ true → is_some (class_at all k) ≡ true
   unfolding running_facts
   known_is k e = e
 
@@ -114,7 +115,7 @@ module _ (cs : List Class) (main : Block) (l : Loads cs main) where
   method_known m s e = let f = signature_is m s e in method_named w m s f (same.referred m s f)
 
   -- what the blocks of a class name is known
-  class_known : (c : Class) → Mem c cs → AreKnown w (flat_map body_names c.decl.bodies ++ (flat_map override_names c.decl.overrides ++ flat_map select_names c.decl.selects))
+  pub class_known : (c : Class) → Mem c cs → AreKnown w (flat_map body_names c.decl.bodies ++ (flat_map override_names c.decl.overrides ++ flat_map select_names c.decl.selects))
   class_known c m =
       let i = s10_says all c (l.inherited c m) in
       (class_carried w w same c all all (λ m s e. e) method_known (as_many c (l.bodies c m))
@@ -129,7 +130,7 @@ module _ (cs : List Class) (main : Block) (l : Loads cs main) where
     ]
   ]
 
-  declared : (k : ClassKey) → is_some (class_at all k) ≡ true → Mem k (keys_of all)
+  pub declared : (k : ClassKey) → is_some (class_at all k) ≡ true → Mem k (keys_of all)
   declared k e =
       let c = some_class (class_at all k) e in
       let f = found_is cs o k c.0 c.1 in
