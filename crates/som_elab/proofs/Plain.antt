@@ -26,7 +26,7 @@ use Rattle.som_model.specs.Kernel.{som_class}
 use Rattle.som_model.specs.Owner.{entry_at, owner, owner_within, sig_of}
 use Rattle.som_model.specs.Typing.{ClassFacts, CodePlace, Typed, class_facts, expr_step, expr_type, has_text, in_body, is_boolean, is_class, needs, value}
 use Rattle.som_model.specs.TypedBlocks.{Scope, Scoped, block_scope, block_step, local_set, stmt_step, value_return, var_scope, variable_set}
-use Rattle.som_sema.proofs.Outlines.{hierarchy_outline, outline}
+use Rattle.som_verify_classes.proofs.Outlines.{hierarchy_outline, outline}
 
 abbrev pub emptied : Override → Override
 emptied o = record { method = o.method; block = record { statements = [] } }

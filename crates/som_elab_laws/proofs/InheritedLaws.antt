@@ -30,6 +30,7 @@ use Rattle.som_verify_classes.specs.Plainly.{Introduces, IntroducedOnce, IsAbove
 use Rattle.som_verify_classes.proofs.DeclaredClasses.{faces_declared, map_declared}
 use Rattle.som_verify_classes.proofs.Owners.{mem_middle}
 use Rattle.som_verify_classes.proofs.PlainMoves.{flat_mem, lower}
+use Rattle.som_verify_classes.proofs.Outlines.{hierarchy_outline, outline}
 use Rattle.som_sema_scope.specs.ClassNames.{type_of}
 use Rattle.som_sema_drafts.specs.Drafts.{InterfaceDraft, accessors, export_entries, introduces}
 use Rattle.som_sema_drafts.specs.Items.{by_name}
@@ -39,7 +40,6 @@ use Rattle.som_sema.specs.Building.{declarations, module_over}
 use Rattle.som_sema_decls.specs.Finished.{introducer}
 use Rattle.som_sema.specs.TextRules.{is_inherited}
 use Rattle.som_sema.proofs.Introducing.{AllSame, IntroduceSame, introduced_mem, introduced_so}
-use Rattle.som_sema.proofs.Outlines.{hierarchy_outline, outline}
 use Rattle.som_sema.proofs.Replaced.{introduce_same, outlines}
 use Rattle.som_sema.proofs.TextBases.{are_drafts}
 use Rattle.som_sema.proofs.TextInherited.{inherits_from}

@@ -32,13 +32,13 @@ use Rattle.som_verify_classes.proofs.PlainLists.{each_says, map_mem, mem_map, no
 use Rattle.som_verify_classes.proofs.PlainMembers.{demand_of_none, entries_say, say_types, say_variables, types_say, variables_say}
 use Rattle.som_verify_classes.proofs.PlainMoves.{lower, moved_says, once_says, says_inherits, say_once}
 use Rattle.som_verify_classes.proofs.PlainNames.{names_say, parents_differ_say, parents_say, say_names, say_parents_differ}
+use Rattle.som_verify_classes.proofs.Outlines.{outline, same_bases, same_names}
 use Rattle.som_sema_decls.specs.Known.{after_base}
 use Rattle.som_sema.specs.Building.{declarations, module_over, texts_breach}
 use Rattle.som_sema.specs.TextRules.{is_inherited, text_s10_from, text_s2_from, text_s4}
 use Rattle.som_sema_decls.specs.Finished.{declare, entry_for, entry_or_moved, introducer}
 use Rattle.som_sema.proofs.BaseKept.{base_closed, s8_more}
 use Rattle.som_sema.proofs.BaseLaws.{base_moves, base_names, base_stands, moves_more, own_first}
-use Rattle.som_sema.proofs.Outlines.{outline, same_bases, same_names}
 use Rattle.som_sema.proofs.OwnClasses.{entry_there, own_outlines, own_s6}
 use Rattle.som_sema.proofs.TextBases.{texts_stand}
 use Rattle.som_sema.proofs.TextInherited.{from_inherited, inherited_law, inherits_from}

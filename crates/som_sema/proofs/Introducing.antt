@@ -23,6 +23,7 @@ use Rattle.som_model_laws.proofs.Laws.{among_mem, introduced_in as order_has}
 use Rattle.som_model_laws.proofs.Members.{both_or_none, find_none, mem_split}
 use Rattle.som_verify_classes.proofs.PlainLists.{mem_map}
 use Rattle.som_verify_classes.proofs.PlainMoves.{flat_mem}
+use Rattle.som_verify_classes.proofs.Outlines.{outline, hierarchy_outline}
 use Rattle.som_ast.specs.declared.words.Word.{Word}
 use Rattle.som_ast.specs.declared.interface.IdlInterface.{IdlInterface}
 use Rattle.som_ast.specs.declared.interface.Export.{Export}
@@ -31,7 +32,6 @@ use Rattle.som_sema_scope.specs.ClassNames.{type_of}
 use Rattle.som_sema_drafts.specs.Items.{by_name, listed}
 use Rattle.som_sema_drafts.specs.Drafts.{InterfaceDraft, accessors, draft_class, export_entries, introduces}
 use Rattle.som_sema_decls.specs.Finished.{declare, entry_for, entry_or_moved, introducer}
-use Rattle.som_sema.proofs.Outlines.{outline, hierarchy_outline}
 use Rattle.som_sema.proofs.OwnClasses.{entry_there, order_own}
 
 pub introduced_mem : (es : List Entry) (name : List ℕ) → Mem name (introduced es) → (sig : Sig) × (way : Way) × Mem (entries.Introduced name sig way) es

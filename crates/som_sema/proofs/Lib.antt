@@ -7,7 +7,6 @@ pub mod Finishing
 pub mod Telling
 pub mod Answered
 pub mod TextLaws
-pub mod Outlines
 pub mod BaseKept
 pub mod TextsConform
 pub mod OwnClasses

@@ -23,6 +23,7 @@ use Rattle.som_verify_classes.proofs.Before.{both_none, none_both}
 use Rattle.som_verify_classes.proofs.Owners.{mem_middle}
 use Rattle.som_verify_classes.proofs.PlainLists.{apart_by, by_apart, map_mem, map_none, none_map}
 use Rattle.som_verify_classes.proofs.PlainNames.{demand_none}
+use Rattle.som_verify_classes.proofs.Outlines.{outline}
 use Rattle.som_sema_scope.specs.ClassNames.{key_of}
 use Rattle.som_sema_drafts.specs.Items.{listed, metaclass_names}
 use Rattle.som_sema_drafts.specs.Drafts.{InterfaceDraft, draft_class, draft_classes}
@@ -30,7 +31,6 @@ use Rattle.som_sema_drafts.specs.Demands.{text_breach}
 use Rattle.som_sema_decls.specs.Finished.{declare, entry_for, entry_or_moved, introducer}
 use Rattle.som_sema_local.specs.OwnRules.{second, text_s6}
 use Rattle.som_sema.specs.TextRules.{makes_classes, text_s4}
-use Rattle.som_sema.proofs.Outlines.{outline}
 use Rattle.som_sema.proofs.TextBases.{demanded_text}
 
 -- entries

@@ -30,6 +30,7 @@ use Rattle.som_verify_classes.proofs.Before.{none_both}
 use Rattle.som_verify_classes.proofs.Owners.{mem_middle}
 use Rattle.som_verify_classes.proofs.PlainLists.{apart_differ, differ_apart, map_mem, mem_map}
 use Rattle.som_verify_classes.proofs.PlainMoves.{descent, lower, says_inherits}
+use Rattle.som_verify_classes.proofs.Outlines.{hierarchy_outline, outline, same_descent}
 use Rattle.som_model_laws.specs.Once.{add_new, adds}
 use Rattle.som_sema_scope.specs.ClassNames.{key_of}
 use Rattle.som_sema_drafts.specs.Items.{Chosen, Given, chosen, chosen_by, chosen_in, given, is_override, is_select, or_object, overridden, replaced, selecting, with_modifier}
@@ -41,7 +42,6 @@ use Rattle.som_sema_local.specs.OwnRules.{text_s11}
 use Rattle.som_sema.specs.TextRules.{is_inherited, text_s10, text_s10_from}
 use Rattle.som_sema.proofs.Introducing.{AllSame, all_both, all_self, introduced_mem, introduced_so, own_same}
 use Rattle.som_sema_names.proofs.Noting.{at_end}
-use Rattle.som_sema.proofs.Outlines.{hierarchy_outline, outline, same_descent}
 use Rattle.som_sema.proofs.OwnClasses.{join_apart, left_apart}
 use Rattle.som_sema.proofs.TextInherited.{Takes, inherits_from, overridden_says, selected_says}
 use Rattle.som_sema.proofs.TextLaws.{map_same, modifiers_law, says_once}

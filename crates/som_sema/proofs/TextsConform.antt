@@ -27,6 +27,7 @@ use Rattle.som_verify_classes.proofs.Conformity.{none_or, or_none}
 use Rattle.som_verify_classes.proofs.PlainMembers.{entries_say, say_types, types_say}
 use Rattle.som_verify_classes.proofs.PlainMoves.{lower}
 use Rattle.som_verify_classes.proofs.PlainNames.{among_known, known_among, names_say, parents_say}
+use Rattle.som_verify_classes.proofs.Outlines.{outline, same_bases, same_descent, same_known, same_names, same_parents}
 use Rattle.som_model.specs.declared.class.Select.{Select}
 use Rattle.som_sema_decls.specs.Known.{after_base}
 use Rattle.som_sema.specs.Building.{declarations, declared_all, draft_rules_breach, items_breach, module_over, moved_breach, draft_breach, selecting_declarations, texts_breach}
@@ -40,7 +41,6 @@ use Rattle.som_sema.specs.TextRules.{text_s10, text_s10_from, text_s2_from, text
 use Rattle.som_sema.specs.Ancestry.{AreDrafts}
 use Rattle.som_sema.proofs.BaseKept.{AreClosed, base_closed, s4_more, s8_more}
 use Rattle.som_sema.proofs.BaseLaws.{base_moves, base_names, base_stands, moves_more, own_first}
-use Rattle.som_sema.proofs.Outlines.{outline, same_bases, same_descent, same_known, same_names, same_parents}
 use Rattle.som_sema.proofs.OwnClasses.{own_outlines, own_s4, own_s6, own_s7, own_types}
 use Rattle.som_sema.proofs.TextBases.{are_drafts, texts_stand}
 

@@ -26,7 +26,7 @@ use Rattle.som_model.specs.Ancestors.{itself, by_parent}
 use Rattle.som_model.specs.Class.{Class, bare, class_in, entry_name, entry_of, introduced, introduced_sig}
 use Rattle.som_model.specs.Kernel.{kernel, som_object, som_init, som_uninit, object_face, class_face, class_mgr_face, before_after_face}
 use Rattle.som_model.specs.Classes.{class_at, ancestors, hierarchy, is_a, variable_type}
-use Rattle.som_model.specs.Owner.{introduced_by, introduces, owner, sig_of}
+use Rattle.som_model.specs.Owner.{introduced_by, owner, sig_of}
 use Rattle.som_model.specs.Implementation.{Held, is_kernel, held, held_by, declared_held, introduced_body, body_named, override_of, proxy_held, forwards}
 use Rattle.som_model.specs.Implementation as helds
 use Rattle.som_semantics.specs.World.{World, answers_of}

@@ -22,4 +22,5 @@ pub mod PlainSelects
 pub mod PlainFaces
 pub mod PlainBodies
 pub mod PlainWhole
+pub mod Outlines
 pub mod FacesOnly

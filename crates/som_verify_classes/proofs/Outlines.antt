@@ -100,8 +100,11 @@ module _ (xs ys : List Class) (same : map outline xs ≡ map outline ys) where
   pub same_parents : flat_map s3 xs ≡ flat_map s3 ys
   same_parents = sym (s3_outline xs) ∙ ap (flat_map s3) same ∙ s3_outline ys
 
+  pub same_hierarchy : hierarchy xs ≡ hierarchy ys
+  same_hierarchy = sym (hierarchy_outline xs) ∙ ap hierarchy same ∙ hierarchy_outline ys
+
   pub same_descent : (k a : ClassKey) → is_a xs k a ≡ is_a ys k a
-  same_descent k a = ap (λ (h : Hierarchy ClassKey). descends h k a) (sym (hierarchy_outline xs) ∙ ap hierarchy same ∙ hierarchy_outline ys)
+  same_descent k a = ap (λ (h : Hierarchy ClassKey). descends h k a) same_hierarchy
 
   pub same_known : (k : ClassKey) → is_some (class_at xs k) ≡ is_some (class_at ys k)
   same_known k = sym (known_outline xs k) ∙ ap (λ (z : List Class). is_some (class_at z k)) same ∙ known_outline ys k
