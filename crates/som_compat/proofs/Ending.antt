@@ -14,6 +14,7 @@ use Rattle.som_model.specs.Class.{Class, entry_name}
 use Rattle.som_model.specs.Classes.{class_at, hierarchy, ancestors, is_a}
 use Rattle.som_model.specs.Compatible.{CompatBreach, incompatible, order_of, first_changed, k2, k3, k4, k5, k6, class_breaks, first_break}
 use Rattle.som_model_laws.proofs.Laws.{descends_test}
+use Rattle.som_model_laws.proofs.CompareLists.{none_fails}
 use Rattle.som_order.specs.Names.{name_at}
 use Rattle.som_order.specs.Difference.{first_difference}
 use Rattle.som_verify_classes.specs.Places.{class_of_place, key_at}
@@ -23,7 +24,7 @@ use Rattle.som_compat.specs.Finding.{FindsName, face_names}
 use Rattle.som_compat.specs.Metaclasses.{IsDeclared}
 use Rattle.som_compat.specs.Views.{shown, interface, classes_of, IsShown}
 use Rattle.som_compat.specs.Marks.{AreAbove}
-use Rattle.som_compat.proofs.Plain.{none_fails, map_empty, class_keeps}
+use Rattle.som_compat.proofs.Plain.{map_empty, class_keeps}
 use Rattle.som_compat.proofs.Placed.{shown_at, name_here, long_classes, library_missing}
 use Rattle.som_compat.proofs.Transitive.{kernel_same}
 use Rattle.som_compat.proofs.Viewing.{known_of, among_at, unknown}

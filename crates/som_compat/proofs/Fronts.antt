@@ -11,6 +11,7 @@ use Rattle.som_model.specs.Compatible.{incompatible, declared_name, k3}
 use Rattle.som_model.proofs.KeyLaws.{exact_keys}
 use Rattle.som_model_laws.proofs.Members.{mem_left, mem_right, mem_split, joined_mem, mem_joined, not_true, Apart}
 use Rattle.som_model_laws.proofs.Laws.{ancestors as ancestors_are, descends_test, descends_through}
+use Rattle.som_model_laws.proofs.CompareLists.{fails_none}
 use Rattle.som_verify_classes.specs.Places.{class_of_place, key_at, face_at, Finds}
 use Rattle.som_verify_classes.specs.Plainly.{IsAmong}
 use Rattle.som_model_laws.specs.Once.{adds}
@@ -20,7 +21,7 @@ use Rattle.som_compat.specs.declared.rows.Row.{Row}
 use Rattle.som_compat.specs.Views.{AreRows}
 use Rattle.som_compat.specs.Marks.{Marked, count, lost_from, Above, IsReached, IsFront}
 use Rattle.som_compat.proofs.Known.{IsKnown}
-use Rattle.som_compat.proofs.Plain.{fails_none, empty_map}
+use Rattle.som_compat.proofs.Plain.{empty_map}
 use Rattle.som_compat.proofs.Placed.{among_place}
 use Rattle.som_compat.proofs.Filled.{next_take}
 use Rattle.som_compat.proofs.Marking.{marked_set}

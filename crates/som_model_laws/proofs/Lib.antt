@@ -7,3 +7,4 @@ pub mod Standing
 pub mod Metas
 pub mod Owners
 pub mod Keeping
+pub mod CompareLists

@@ -1,6 +1,5 @@
 -- Nothing is broken exactly where each rule of compatibility holds of every class and member.
-use Rattle.std.proofs.Common.{◌≡◌, ℕ, zero, suc, ◌≤◌, ◌+◌, ◌==◌, nat_le, inl, inr, Bool, true, false, ◌&&◌, if◌then◌else◌, List, [], ◌∷◌, ◌++◌, map, flat_map, Option, Some, None, slice_get, refl, sym, ap, ◌∙◌, subst, arith}
-use Rattle.std.specs.Str.{bytes_eq}
+use Rattle.std.proofs.Common.{◌≡◌, inl, inr, Bool, true, false, if◌then◌else◌, List, [], ◌∷◌, ◌++◌, map, flat_map, Option, Some, None, refl, sym, ap, ◌∙◌, subst}
 use Rattle.som_model.specs.declared.key.ClassKey.{ClassKey}
 use Rattle.som_model.specs.Lists.{Mem, option_list}
 use Rattle.som_model.specs.Keys.{same_key}
@@ -10,16 +9,16 @@ use Rattle.som_model.specs.Class.{Class}
 use Rattle.som_model.specs.Classes.{ancestors, class_at, hierarchy, is_a}
 use Rattle.som_model.specs.Kernel.{kernel}
 use Rattle.som_model.specs.Metaclass.{meta}
-use Rattle.som_model.specs.Compatible.{CompatBreach, incompatible, order_of, failing, first_changed, signature, k2, k3, k4, k5, k6, class_breaks}
+use Rattle.som_model.specs.Compatible.{CompatBreach, incompatible, order_of, signature, k2, k3, k4, k5, k6, class_breaks}
 use Rattle.som_model.specs.Loads.{IsOrdered, keys_of}
-use Rattle.som_model.proofs.KeyLaws.{Exact, exact_bytes, exact_keys, both}
-use Rattle.som_model.proofs.SameLaws.{exact_option, exact_sigs}
+use Rattle.som_model.proofs.KeyLaws.{exact_keys}
 use Rattle.som_model_laws.proofs.Members.{mem_right, mem_split}
 use Rattle.som_model_laws.proofs.Laws.{ancestors as ancestors_are}
 use Rattle.som_verify_classes.proofs.FacesOnly.{face_only, is_a_faces}
 use Rattle.som_model_laws.specs.Keeping.{ClassesKeep, IsPair}
 use Rattle.som_model_laws.proofs.Lists.{find_mem, map_mem, mem_map, option_mem}
 use Rattle.som_model_laws.proofs.Standing.{falls, found, not_kernels, tells}
+use Rattle.som_model_laws.proofs.CompareLists.{none_fails, fails_none, none_strays, strays_none, sigs, version_ok, ok_version}
 use Rattle.som_release_laws.proofs.FacesAlone.{faces_at, meta_faces, signature_faces}
 use Rattle.som_release_laws.proofs.Facing.{tested, tests}
 use Rattle.som_release_laws.proofs.Lists.{both_none, flat_all, flat_at, none_left}
@@ -27,51 +26,6 @@ use Rattle.som_release_laws.proofs.Lists.{both_none, flat_all, flat_at, none_lef
 map_nothing : {A B : Type 0} (f : A → B) (xs : List A) → map f xs ≡ [] → xs ≡ []
 map_nothing f [] e = refl
 map_nothing f (x ∷ xs) e = absurd (cc)
-
--- none fails the test
-fails_by : {A : Type 0} (test : A → Bool) (x y : A) (n : ℕ) (ys : List A) (b : Bool) → test y ≡ b → (failing test (n + 1) ys ≡ [] → Mem x ys → test x ≡ true)
-    → (if b then failing test (n + 1) ys else (y, n) ∷ failing test (n + 1) ys) ≡ [] → Mem x (y ∷ ys) → test x ≡ true
-fails_by test x y n ys true t f e (inl is) = ap test is ∙ t
-fails_by test x y n ys true t f e (inr k) = f e k
-fails_by test x y n ys false t f e m = cc
-
-none_fails : {A : Type 0} (test : A → Bool) (n : ℕ) (xs : List A) → failing test n xs ≡ [] → (x : A) → Mem x xs → test x ≡ true
-none_fails test n [] e x m = absurd m
-none_fails test n (y ∷ ys) e x m = fails_by test x y n ys (test y) refl (λ f k. none_fails test (n + 1) ys f x k) e m
-
-fails_none : {A : Type 0} (test : A → Bool) (n : ℕ) (xs : List A) → ((x : A) → Mem x xs → test x ≡ true) → failing test n xs ≡ []
-fails_none test n [] f = refl
-fails_none test n (y ∷ ys) f = let here : test y ≡ true = f y (inl refl) in rw here (fails_none test (n + 1) ys (λ x m. f x (inr m)))
-
--- none strays
-strays_by : (n : ℕ) (x y z : List ℕ) (ys zs : List (List ℕ)) (i : ℕ) (b : Bool) → bytes_eq y z ≡ b → (first_changed (n + 1) ys zs ≡ [] → (j : ℕ) → slice_get ys j ≡ Some x → slice_get zs j ≡ Some x)
-    → (if b then first_changed (n + 1) ys zs else (y, n) ∷ []) ≡ [] → slice_get (y ∷ ys) i ≡ Some x → slice_get (z ∷ zs) i ≡ Some x
-strays_by n x y z ys zs zero true t f e at = ap (λ w. Some w) (sym (exact_bytes.two y z t)) ∙ at
-strays_by n x y z ys zs (suc i) true t f e at = f e i at
-strays_by n x y z ys zs i false t f e at = absurd (cc)
-
-none_strays : (n : ℕ) (olds news : List (List ℕ)) → first_changed n olds news ≡ [] → (i : ℕ) (x : List ℕ) → slice_get olds i ≡ Some x → slice_get news i ≡ Some x
-none_strays n [] news e i x at = absurd (cc)
-none_strays n (y ∷ ys) [] e i x at = absurd (cc)
-none_strays n (y ∷ ys) (z ∷ zs) e i x at = strays_by n x y z ys zs i (bytes_eq y z) refl (λ f j g. none_strays (n + 1) ys zs f j x g) e at
-
-strays_none : (n : ℕ) (olds news : List (List ℕ)) → ((i : ℕ) (x : List ℕ) → slice_get olds i ≡ Some x → slice_get news i ≡ Some x) → first_changed n olds news ≡ []
-strays_none n [] news f = refl
-strays_none n (y ∷ ys) [] f = let e = f 0 y refl in absurd (cc)
-strays_none n (y ∷ ys) (z ∷ zs) f =
-    let e = f 0 y refl in
-    let same : z ≡ y = cc in
-    let here : bytes_eq y z ≡ true = ap (bytes_eq y) same ∙ exact_bytes.one y in
-    rw here (strays_none (n + 1) ys zs (λ i x at. f (suc i) x at))
-
-sigs : Exact (same_option same_sig)
-sigs = exact_option same_sig exact_sigs
-
-version_ok : (a b c d : ℕ) → (a == b) && nat_le c d ≡ true → (a ≡ b) × (c ≤ d)
-version_ok a b c d e = let r = both (a == b) (nat_le c d) e in let x = r.0 in let y = r.1 in (grind (arith, x), grind (arith, y))
-
-ok_version : (a b c d : ℕ) → a ≡ b → c ≤ d → (a == b) && nat_le c d ≡ true
-ok_version a b c d e le = let x : (a == b) ≡ true = grind (arith, e) in let y : nat_le c d ≡ true = grind (arith, le) in rw x y
 
 if_nothing : (b : Bool) (x : CompatBreach) → (if b then [] else x ∷ []) ≡ [] → b ≡ true
 if_nothing true x e = refl
