@@ -23,13 +23,12 @@ use Rattle.som_model.proofs.KeyLaws.{both, exact_bytes, exact_keys}
 use Rattle.som_model.proofs.NamedLaws.{out_named}
 use Rattle.som_model_laws.proofs.Laws.{ancestors as descents, descends_test}
 use Rattle.som_model_laws.proofs.Members.{both_or_none, mem_some, not_true, some_mem}
-use Rattle.som_model_laws.proofs.Lists.{get_mem, map_mem, mem_map}
+use Rattle.som_model_laws.proofs.Lists.{get_mem, map_mem, mem_map, flat_mem, mem_flat}
 use Rattle.som_model_laws.proofs.Standing as standing
 use Rattle.som_meta.specs.Numbering.{IsNumbered, IsToken, Numbering, key_at, method_at, names_of, tokens_from, tokens_of}
 use Rattle.som_class_ids.proofs.Adding.{out_derived, out_proxy}
 use Rattle.som_class_ids.proofs.Making.{some_class}
 use Rattle.som_class_layout_laws.proofs.Members.{get_member, same_methods}
-use Rattle.som_proxy_uses.proofs.Lists.{flat_mem, mem_flat}
 use Rattle.som_class_table.specs.Loaded.{AreLoaded}
 
 abbrev of_kernel : ClassFace → Class

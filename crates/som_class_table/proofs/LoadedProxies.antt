@@ -17,12 +17,11 @@ use Rattle.som_model.specs.Made.{ComesOf, all_roots, blocks_of, metaclass, paren
 use Rattle.som_model.specs.Metaclass.{is_above, is_low, lowest, made_of, meta_within}
 use Rattle.som_model.proofs.NamedLaws.{hierarchy_parents, out_named}
 use Rattle.som_model_laws.proofs.Members.{firsts_mem, mem_split, without_mem}
-use Rattle.som_model_laws.proofs.Lists.{map_mem, mem_map, option_mem}
+use Rattle.som_model_laws.proofs.Lists.{map_mem, mem_map, option_mem, flat_mem}
 use Rattle.som_model_laws.proofs.Metas.{declared_in}
 use Rattle.som_model_laws.proofs.Owners.{metaclass_known}
 use Rattle.som_model_laws.proofs.Standing.{among, found, found_is, keyed, parents_derived, parents_known, parents_proxy, stands}
 use Rattle.som_proxy_uses.proofs.Known.{block_law}
-use Rattle.som_proxy_uses.proofs.Lists.{flat_mem}
 use Rattle.som_proxy_uses.proofs.Naming.{block_covered}
 
 pub out_derived : (ks : List ClassKey) → out-ClassKey (keys.Derived ks) ≡ ClassKey-F.Derived ks

@@ -1,7 +1,6 @@
 -- What is known of the classes of an interface that conforms.
 use Rattle.std.proofs.Common.{◌≡◌, ℕ, zero, suc, ◌<◌, ◌≤◌, ◌⊎◌, inl, inr, Bool, true, false, List, [], ◌∷◌, ◌++◌, map, length, take, Some, slice_get, slice_index_or, refl, sym, ap, ◌∙◌, subst, arith, true≢false}
 use Rattle.std.specs.Str.{bytes_eq}
-use Rattle.som_verify_classes.proofs.Before.{every_mem}
 use Rattle.som_model.specs.declared.key.Module.TheVariants as modules
 use Rattle.som_model.specs.declared.key.ClassKey.{ClassKey}
 use Rattle.som_model.specs.declared.key.ClassKey.TheVariants as keys
@@ -20,6 +19,7 @@ use Rattle.som_model.specs.Rules.{name_of}
 use Rattle.som_model.proofs.KeyLaws.{exact_bytes, exact_keys}
 use Rattle.som_model.proofs.NamedLaws.{hierarchy_parents, hierarchy_same, parents_named}
 use Rattle.som_model_laws.proofs.Members.{mem_left, mem_right, mem_split}
+use Rattle.som_model_laws.proofs.Lists.{every_mem}
 use Rattle.som_verify_classes.specs.Told.{of_library, of_release}
 use Rattle.som_verify_classes.specs.Places.{all_classes, class_of_place, key_at, face_at, module_at, IsTable}
 use Rattle.som_verify_classes.specs.Standing.{kernel_rows}

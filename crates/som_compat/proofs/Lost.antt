@@ -1,6 +1,6 @@
 -- K3 by the parents: where it holds for each parent, the first lost ancestor is the first lost parent.
 use Rattle.std.proofs.Common.{◌≡◌, ◌↔◌, ℕ, zero, suc, ◌+◌, ◌-◌, ◌<◌, ◌≤◌, ◌⊎◌, inl, inr, Bool, true, false, if◌then◌else◌, List, [], ◌∷◌, ◌++◌, length, take, map, Some, None, slice_set, slice_index_or, refl, sym, ap, ◌∙◌, subst, arith, true≢false, append_assoc}
-use Rattle.std.proofs.lemmas.List.{append-nil}
+use Rattle.std.proofs.lemmas.List.{append-nil, map-append}
 use Rattle.som_model.specs.declared.key.ClassKey.{ClassKey}
 use Rattle.som_model.specs.Lists.{Mem, first, some, joined}
 use Rattle.som_model.specs.Hierarchy.{Hierarchy, Falls, Tells}
@@ -12,7 +12,6 @@ use Rattle.som_model_laws.proofs.Members.{mem_left, mem_right, mem_split, some_m
 use Rattle.som_model_laws.proofs.Laws.{ancestors_step}
 use Rattle.som_model_laws.specs.Once.{add_new, adds}
 use Rattle.som_model_laws.proofs.WalkLaw.{adds_both, firsts_adds}
-use Rattle.som_verify_classes.proofs.Numbering.{map_append}
 use Rattle.som_compat.specs.Marks.{Marked, count, lost_from}
 
 choose_prefix : {A : Type 0} (b : Bool) (x : A) (seen : List A) → (more : List A) × ((if b then seen else seen ++ x ∷ []) ≡ seen ++ more)
@@ -117,7 +116,7 @@ module _ {K : Type 0} (h : Hierarchy K) (tells : Tells h) (falls : Falls h) wher
       ap (λ z. first (failing test 0 z)) (
       ancestors_step h falls x ∙ firsts_adds h.same tells.one tells.two (x ∷ joined (map (anc h) (h.parents x)))
       ∙ ap (λ (z : List K). adds h.same (x ∷ []) (joined (map (anc h) z))) is_parents
-      ∙ ap (λ (z : List (List K)). adds h.same (x ∷ []) (joined z)) (map_append (anc h) front (p ∷ back))
+      ∙ ap (λ (z : List (List K)). adds h.same (x ∷ []) (joined z)) (map-append (anc h) front (p ∷ back))
       ∙ ap (adds h.same (x ∷ [])) (joined_append (map (anc h) front) (anc h p ∷ map (anc h) back))
       ∙ adds_both h.same (joined (map (anc h) front)) (anc h p ++ joined (map (anc h) back)) (x ∷ [])
       ∙ ap (λ (z : List K). adds h.same seen (z ++ joined (map (anc h) back))) b.1)

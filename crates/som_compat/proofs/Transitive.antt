@@ -1,5 +1,5 @@
 -- Compatibility goes along a list of interfaces.
-use Rattle.std.proofs.Common.{◌≡◌, ℕ, zero, suc, ◌<◌, inl, inr, List, [], ◌∷◌, length, Some, slice_get, refl, sym, ap, ◌∙◌, subst, arith}
+use Rattle.std.proofs.Common.{◌≡◌, ℕ, suc, ◌<◌, inl, inr, List, [], ◌∷◌, length, Some, slice_get, refl, sym, ap, ◌∙◌, subst, arith}
 use Rattle.som_model.specs.declared.key.ClassKey.{ClassKey}
 use Rattle.som_model.specs.declared.program.Interface.{Interface}
 use Rattle.som_model.specs.Lists.{Mem}
@@ -11,6 +11,7 @@ use Rattle.som_model.specs.Metaclass.{meta}
 use Rattle.som_model.specs.Compatible.{release_of, order_of, signature, Compatible, EachNext, EachLater}
 use Rattle.som_model_laws.proofs.Members.{mem_right, mem_split}
 use Rattle.som_model_laws.proofs.Laws.{descends_through}
+use Rattle.som_model_laws.proofs.Lists.{get_mem}
 use Rattle.som_verify_classes.specs.Places.{class_of_place, key_at}
 use Rattle.som_verify_classes.specs.Plainly.{IsAmong}
 use Rattle.som_verify_classes.proofs.Falling.{mem_there}
@@ -21,11 +22,6 @@ use Rattle.som_compat.specs.Plainly.{IsPair, Keeps}
 use Rattle.som_compat.proofs.Known.{IsKnown, known}
 use Rattle.som_compat.proofs.MetaLaw.{meta_law}
 use Rattle.som_compat.proofs.Plain.{keeps, kept}
-
-pub get_mem : {A : Type 0} (xs : List A) (i : ℕ) (x : A) → slice_get xs i ≡ Some x → Mem x xs
-get_mem [] i x e = absurd (cc)
-get_mem (y ∷ ys) zero x e = let same : y ≡ x = cc in inl (sym same)
-get_mem (y ∷ ys) (suc i) x e = inr (get_mem ys i x e)
 
 pub mem_get : {A : Type 0} (xs : List A) (x : A) → Mem x xs → (i : ℕ) × (slice_get xs i ≡ Some x)
 mem_get [] x m = absurd m

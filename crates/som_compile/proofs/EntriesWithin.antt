@@ -9,7 +9,7 @@ use Rattle.som_model.specs.declared.class.Entry.TheVariants as entries
 use Rattle.som_model.specs.Lists.{every}
 use Rattle.som_model.specs.Class.{Class}
 use Rattle.som_model.specs.Kernel.{kernel}
-use Rattle.som_verify_classes.proofs.Before.{every_mem}
+use Rattle.som_model_laws.proofs.Lists.{every_mem}
 use Rattle.som_image_classes.specs.ClassLimits.{EntryWithin}
 use Rattle.som_compile.proofs.InterfacesWithin.{Named, all_members}
 

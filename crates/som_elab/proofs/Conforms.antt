@@ -1,5 +1,6 @@
 -- What texts stand for conforms.
 use Rattle.std.proofs.Common.{◌≡◌, inl, inr, List, [], ◌∷◌, ◌++◌, length, map, flat_map, take, drop, Option, Some, None, Result, Ok, refl, sym, ap, ◌∙◌, subst}
+use Rattle.std.proofs.lemmas.List.{map-append}
 use Rattle.som_model.specs.declared.key.Module.{Module}
 use Rattle.som_model.specs.declared.key.Module.TheVariants as modules
 use Rattle.som_model.specs.declared.class.ClassDecl.{ClassDecl}
@@ -19,6 +20,7 @@ use Rattle.som_model.specs.Rules.{RuleBreach, s5}
 use Rattle.som_model.specs.Typing.{class_facts, in_main}
 use Rattle.som_model.specs.TypedBlocks.{block_scope}
 use Rattle.som_model.proofs.StepLaws.{same_answer, went}
+use Rattle.som_model.proofs.ListLaws.{drop_front}
 use Rattle.std.specs.Prelude.{codes}
 use Rattle.som_model_laws.proofs.Members.{mem_split}
 use Rattle.som_ast.specs.declared.interface.IdlInterface.{IdlInterface}
@@ -59,14 +61,6 @@ kept (Some p) further r e = absurd (let z = e in cc)
 obeyed : {A : Type 0} (o : Option RuleBreach) (further : Result A Refusal) (r : A) → obeying o further ≡ Ok r → (o ≡ None) × (further ≡ Ok r)
 obeyed None further r e = (refl, e)
 obeyed (Some b) further r e = absurd (let z = e in cc)
-
-drop_front : {A : Type 0} (xs ys : List A) → drop (length xs) (xs ++ ys) ≡ ys
-drop_front [] ys = refl
-drop_front (x ∷ xs) ys = drop_front xs ys
-
-map_both : {A B : Type 0} (f : A → B) (xs ys : List A) → map f (xs ++ ys) ≡ map f xs ++ map f ys
-map_both f [] ys = refl
-map_both f (x ∷ xs) ys = ap (λ z. f x ∷ z) (map_both f xs ys)
 
 -- ---- classes with their bodies, one by one
 
@@ -172,7 +166,7 @@ module _ (m : Module) (base : Interface) (is : List IdlInterface) (conforms : fa
     own_same = ap (λ (z : List ClassDecl). map plain (map (class_in m) z)) (sym (draft_classes_are m base is)) ∙ each_same (among_over m base is) m bs (drafts_over m base is) cs made
 
     after_same : map plain after ≡ map plain finished
-    after_same = map_both plain before done ∙ ap (λ z. map plain before ++ z) own_same ∙ sym (map_both plain before (map (class_in m) cs))
+    after_same = map-append plain before done ∙ ap (λ z. map plain before ++ z) own_same ∙ sym (map-append plain before (map (class_in m) cs))
 
     -- ---- what texts select
 
@@ -204,8 +198,8 @@ module _ (m : Module) (base : Interface) (is : List IdlInterface) (conforms : fa
     finished_selects =
         let made_own = subst (λ (z : List InterfaceDraft). elaborated_each (among_over m base is) m bs z ≡ Ok cs) (drafts_are m base is) made in
         let own_full = map (class_in m) (map fill is) in
-        let same = map_both selecting before own_full ∙ ap (λ z. map selecting before ++ z) (each_selecting (among_over m base is) m bs fill (own m base is) fills is cs made_own)
-        ∙ sym (map_both selecting before (map (class_in m) cs)) in
+        let same = map-append selecting before own_full ∙ ap (λ z. map selecting before ++ z) (each_selecting (among_over m base is) m bs fill (own m base is) fills is cs made_own)
+        ∙ sym (map-append selecting before (map (class_in m) cs)) in
         selects_other (before ++ own_full) finished same
         (subst (λ (z : List ClassDecl). SelectsInherited (before ++ map (class_in m) z)) (fill_all is) (texts_select m base is conforms rules))
 

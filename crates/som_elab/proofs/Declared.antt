@@ -18,6 +18,7 @@ use Rattle.som_model.specs.Conforming.{each_after}
 use Rattle.som_model.specs.Rules.{s1, s3, s5, s7}
 use Rattle.som_model.proofs.KeyLaws.{exact_bytes}
 use Rattle.som_model_laws.proofs.Members.{Apart, find_first, find_none, mem_left, mem_right, mem_some, mem_split}
+use Rattle.som_model_laws.proofs.Lists.{flat_mem, mem_flat}
 use Rattle.som_ast.specs.declared.words.Word.{Word}
 use Rattle.som_ast.specs.declared.words.TypeName.{TypeName}
 use Rattle.som_ast.specs.declared.interface.IdlInterface.{IdlInterface}
@@ -28,7 +29,6 @@ use Rattle.som_verify_classes.specs.Plainly.{Fits}
 use Rattle.som_verify_classes.proofs.Conformity.{or_none}
 use Rattle.som_verify_classes.proofs.PlainLists.{differ_apart, map_mem, mem_map}
 use Rattle.som_verify_classes.proofs.PlainMembers.{variables_say}
-use Rattle.som_verify_classes.proofs.PlainMoves.{flat_mem, mem_flat}
 use Rattle.som_elab_methods.specs.Accessors.{Access, accessor_body, accessors_of, attribute_accessors, body_of, export_accessors}
 use Rattle.som_sema_decls.specs.Known.{after_base}
 use Rattle.som_sema.specs.Building.{declarations, declared_all, draft_breach, finished_breach, members_breach, module_over, named_breach, texts_breach}

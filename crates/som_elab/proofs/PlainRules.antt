@@ -15,6 +15,7 @@ use Rattle.som_model.specs.Classes.{hierarchy}
 use Rattle.som_model.specs.Kernel.{kernel}
 use Rattle.som_model.specs.Owner.{owner}
 use Rattle.som_model.specs.Rules.{name_of}
+use Rattle.som_model.proofs.ListLaws.{get_map}
 use Rattle.som_verify_classes.specs.Places.{with_kernel}
 use Rattle.som_verify_classes.specs.Plainly.{ClassesHold, Differ, Introduces, IsAbove, IsAmong, IsNamed, IsValue, SelectsInherited, TypesKnown}
 use Rattle.som_verify_classes.proofs.PlainLists.{map_mem, mem_map}
@@ -28,19 +29,14 @@ take_plain [] (suc i) = refl
 take_plain (c ∷ cs) zero = refl
 take_plain (c ∷ cs) (suc i) = ap (λ z. plain c ∷ z) (take_plain cs i)
 
--- what stands at a place of one list stands there, but for what f takes away, in another
-at_map : {A B : Type 0} (f : A → B) (xs : List A) (i : ℕ) (x : A) → slice_get xs i ≡ Some x → slice_get (map f xs) i ≡ Some (f x)
-at_map f [] i x e = absurd (cc)
-at_map f (y ∷ xs) zero x e = let same : y ≡ x = cc in ap (λ z. Some (f z)) same
-at_map f (y ∷ xs) (suc i) x e = at_map f xs i x e
-
 map_there : {A B : Type 0} (f : A → B) (xs : List A) (i : ℕ) (y : B) → slice_get (map f xs) i ≡ Some y → (x : A) × (slice_get xs i ≡ Some x) × (f x ≡ y)
 map_there f [] i y e = absurd (cc)
 map_there f (x ∷ xs) zero y e = let same : f x ≡ y = cc in (x, refl, same)
 map_there f (x ∷ xs) (suc i) y e = map_there f xs i y e
 
+-- what stands at a place of one list stands there, but for what f takes away, in another
 at_same : {A B : Type 0} (f : A → B) (xs ys : List A) → map f xs ≡ map f ys → (i : ℕ) (y : A) → slice_get ys i ≡ Some y → (x : A) × (slice_get xs i ≡ Some x) × (f x ≡ f y)
-at_same f xs ys e i y at = map_there f xs i (f y) (ap (λ z. slice_get z i) e ∙ at_map f ys i y at)
+at_same f xs ys e i y at = map_there f xs i (f y) (ap (λ z. slice_get z i) e ∙ get_map f ys i y at)
 
 mem_same : {A B : Type 0} (f : A → B) (xs ys : List A) → map f xs ≡ map f ys → (y : A) → Mem y ys → (x : A) × Mem x xs × (f y ≡ f x)
 mem_same f xs ys e y m = map_mem f (f y) xs (subst (λ z. Mem (f y) z) (sym e) (mem_map f y ys m))

@@ -7,6 +7,7 @@ use Rattle.som_model.specs.declared.syntax.Block.{Block}
 use Rattle.som_model.specs.Steps.{◌>>=◌}
 use Rattle.som_model.specs.Class.{Class}
 use Rattle.som_model.specs.Typing.{CodePlace, is_boolean, needs}
+use Rattle.som_model.proofs.ListLaws.{take_front}
 use Rattle.som_ast.specs.declared.body.StmtText.{StmtText}
 use Rattle.som_ast.specs.declared.body.BlockText.{BlockText}
 use Rattle.som_elab_body.specs.declared.local.Local.{Local}
@@ -51,10 +52,6 @@ regroup done s (Err e) = refl
 joined_none : (rest : Told (List Stmt)) → joined [] rest ≡ rest
 joined_none (Ok more) = refl
 joined_none (Err e) = refl
-
-front_of : {A : Type 0} (xs ys : List A) → take (length xs) (xs ++ ys) ≡ xs
-front_of [] ys = refl
-front_of (x ∷ xs) ys = ap (λ z. x ∷ z) (front_of xs ys)
 
 -- of a block these texts are left, these statements are made, and what was declared so far is in scope
 pub record IsPart (cs : List Class) (step : StmtText → StmtElab) (all left : List StmtText) (before now : List Local) (done : List Stmt) : Type 0 where
@@ -115,7 +112,7 @@ module _ (cs : List Class) (a : Among) (at : CodePlace) where
       ∙ ap (λ (z : Told (List Stmt)). z >>= λ ss. Ok (record { statements = ss })) (part_ends cs (elaborated_stmt a at) b.statements i before now done le p)
 
 pub as_before : (cs : List Class) (step : StmtText → StmtElab) (all left : List StmtText) (before now : List Local) (done : List Stmt) → IsPart cs step all left before now done → take (length before) now ≡ before
-as_before cs step all left before now done p = ap (take (length before)) p.more ∙ front_of before p.declared
+as_before cs step all left before now done p = ap (take (length before)) p.more ∙ take_front before p.declared
 
 -- ---- forms
 

@@ -1,5 +1,5 @@
 -- What a text of an expression comes to has the type that is said.
-use Rattle.std.proofs.Common.{◌≡◌, Bool, true, false, not, List, [], ◌∷◌, map, Ok, Err, refl, sym, ap, ◌∙◌, subst}
+use Rattle.std.proofs.Common.{◌≡◌, Bool, false, not, List, [], ◌∷◌, map, Ok, Err, refl, sym, ap, ◌∙◌, subst}
 use Rattle.std.specs.Int.{w32, cast_signed}
 use Rattle.som_model.specs.declared.key.ValueType.TheVariants as types
 use Rattle.som_model.specs.declared.syntax.Expr.{Expr, roll-Expr, map-Expr, fold-roll-Expr}
@@ -11,16 +11,13 @@ use Rattle.som_model.specs.Steps.{◌>>=◌}
 use Rattle.som_model.specs.Kernel.{som_class_mgr}
 use Rattle.som_model.specs.Typing.{ClassFacts, CodePlace, ExprType, Of, PlainNil, Typed, needs, there, is_nothing, all_fit, value, value_of, values, local_type, own_variable, self_type, unary_type, binary_type, host_type, new_type, class_type, cast_type, isa_type, proxy_type, offset_call_type, named_call_type, parent_call_type, parents_call_type, expr_type, expr_step as typed_step}
 use Rattle.som_model.proofs.StepLaws.{both_steps, held, same_answer, went}
+use Rattle.som_model.proofs.ListLaws.{is_false}
 use Rattle.som_ast.specs.declared.expression.ExprText.{ExprText, roll-ExprText, map-ExprText, ind-ExprText, fold-roll-ExprText}
 use Rattle.som_ast.specs.declared.expression.ExprText.TheOpen.{ExprText-F}
 use Rattle.som_sema_scope.specs.ClassNames.{result_of}
 use Rattle.som_elab_body.specs.Locals.{Names, kinds_of, local_of}
 use Rattle.som_elab_body.specs.Methods.{Method, method_of, method_for, own_method, variable_place, parent_place}
 use Rattle.som_elab_body.specs.Expressions.{Among, Elab, Elaborated, binary_form, call_form, called_by, cast_form, class_named, dispatch_form, elaborated, elaborated_value, expr_step, exprs_of, facts_among, formed, host_form, isa_form, lookup_form, parent_form, parents_form, part, parts, proxy_form, types_of, unary_form, valued}
-
-is_false : (b : Bool) → not b ≡ true → b ≡ false
-is_false true e = sym e
-is_false false e = refl
 
 -- a part that was taken has a value
 pub record Valued (x : Elab) (p : Elaborated) : Type 0 where

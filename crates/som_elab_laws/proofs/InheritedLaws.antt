@@ -20,6 +20,7 @@ use Rattle.som_model.proofs.KeyLaws.{exact_bytes, exact_keys}
 use Rattle.som_model.proofs.NamedLaws.{hierarchy_same}
 use Rattle.som_model_laws.proofs.Laws.{among_mem, ancestors as ancestors_law}
 use Rattle.som_model_laws.proofs.Members.{find_first, find_none, mem_split}
+use Rattle.som_model_laws.proofs.Lists.{flat_mem}
 use Rattle.som_ast.specs.declared.words.Word.{Word}
 use Rattle.som_ast.specs.declared.interface.IdlInterface.{IdlInterface}
 use Rattle.som_ast.specs.declared.interface.Export.{Export}
@@ -29,7 +30,7 @@ use Rattle.som_verify_classes.specs.Places.{with_kernel}
 use Rattle.som_verify_classes.specs.Plainly.{Introduces, IntroducedOnce, IsAbove, NamesApart, ParentsBefore}
 use Rattle.som_verify_classes.proofs.DeclaredClasses.{faces_declared, map_declared}
 use Rattle.som_verify_classes.proofs.Owners.{mem_middle}
-use Rattle.som_verify_classes.proofs.PlainMoves.{flat_mem, lower}
+use Rattle.som_verify_classes.proofs.PlainMoves.{lower}
 use Rattle.som_verify_classes.proofs.Outlines.{hierarchy_outline, outline}
 use Rattle.som_sema_scope.specs.ClassNames.{type_of}
 use Rattle.som_sema_drafts.specs.Drafts.{InterfaceDraft, accessors, export_entries, introduces}

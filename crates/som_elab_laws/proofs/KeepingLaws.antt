@@ -1,5 +1,6 @@
 -- Interfaces break none of the rules S1 to S12 exactly where they keep each; and what is told is the lowest that is broken.
 use Rattle.std.proofs.Common.{◌≡◌, ℕ, zero, suc, ◌+◌, ◌<◌, inl, inr, true, not, List, [], ◌∷◌, ◌++◌, length, map, flat_map, Option, Some, None, refl, sym, ap, ◌∙◌, subst, arith}
+use Rattle.std.proofs.lemmas.List.{map-append}
 use Rattle.std.specs.Prelude.{◌↔◌}
 use Rattle.som_model.specs.declared.class.ClassDecl.{ClassDecl}
 use Rattle.som_model.specs.declared.key.Module.{Module}
@@ -53,10 +54,6 @@ use Rattle.som_elab_laws.proofs.Chains.{AreNumbered, first_told, none_below, tol
 use Rattle.som_elab_laws.proofs.RuleNumbers.{first_is, of_s1, of_s2, of_s3, of_s4, of_s5, of_s6, of_s7, of_s8, of_s9, of_s10, of_s11, of_s12}
 use Rattle.som_elab_laws.specs.Keeping.{OrdersStand, TextsKeep, first_place, interfaces_over, known_classes, own_classes}
 use Rattle.som_elab_laws.proofs.InheritedLaws.{above_so, all_turned, are, declared_of, entry_found, hierarchies, none_moved, other_once, same_methods}
-
-map_both : {A B : Type 0} (f : A → B) (xs ys : List A) → map f (xs ++ ys) ≡ map f xs ++ map f ys
-map_both f [] ys = refl
-map_both f (x ∷ xs) ys = ap (λ z. f x ∷ z) (map_both f xs ys)
 
 -- a rule of one class that holds of all holds of the last, and one that holds of both parts holds of all
 last_of : (rule : Class → List RuleBreach) (xs ys : List Class) → first (flat_map rule (xs ++ ys)) ≡ None → first (flat_map rule ys) ≡ None
@@ -279,7 +276,7 @@ module _ (m : Module) (base : Interface) (is : List IdlInterface) where
 
   module _ (conforms : faces_breach (interface_classes base) ≡ None) where
     same : map outline known ≡ map outline finished
-    same = map_both outline before own ∙ ap (λ z. map outline before ++ z) (own_outlines (with_kernel known) m ds) ∙ sym (map_both outline before done)
+    same = map-append outline before own ∙ ap (λ z. map outline before ++ z) (own_outlines (with_kernel known) m ds) ∙ sym (map-append outline before done)
 
     -- ---- the rules S1 and S2 of all classes, from those of the own ones
 

@@ -18,6 +18,7 @@ use Rattle.som_model.specs.Lists.{Mem, first, place_from}
 use Rattle.som_model.specs.Owner.{entry_at, introduces, owner, owner_within}
 use Rattle.som_model.specs.Resolution.{byname}
 use Rattle.som_model.proofs.KeyLaws.{both, exact_bytes, exact_keys}
+use Rattle.som_model.proofs.ListLaws.{get_map}
 use Rattle.som_model_laws.proofs.Laws.{among_mem, ancestors as ancestors_law, byname_found, byname_none}
 use Rattle.som_model_laws.proofs.Members.{find_first}
 use Rattle.som_ast.specs.declared.interface.IdlInterface.{IdlInterface}
@@ -63,11 +64,6 @@ place_step x names name n false e (inr k) rest =
 place_there : (names : List (List ℕ)) (name : List ℕ) (n : ℕ) → Mem name names → IsPlaced n name names
 place_there [] name n m = absurd m
 place_there (x ∷ names) name n m = place_step x names name n (bytes_eq name x) refl m (place_there names name (suc n))
-
-get_map : {A B : Type 0} (f : A → B) (xs : List A) (i : ℕ) (a : A) → slice_get xs i ≡ Some a → slice_get (map f xs) i ≡ Some (f a)
-get_map f [] i a e = absurd (cc)
-get_map f (x ∷ xs) zero a e = let same : x ≡ a = cc in ap (λ z. Some (f z)) same
-get_map f (x ∷ xs) (suc i) a e = get_map f xs i a e
 
 parent_at : {B : Type 0} (f : List ℕ → B) (names : List (List ℕ)) (name : List ℕ) → Mem name names → slice_get (map f names) (place_of names name) ≡ Some (f name)
 parent_at f names name m =

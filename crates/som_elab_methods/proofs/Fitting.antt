@@ -14,6 +14,7 @@ use Rattle.som_model.specs.Lists.{Mem, find}
 use Rattle.som_model.specs.Class.{introduced, introduced_sig, entry_name}
 use Rattle.som_model.proofs.KeyLaws.{exact_bytes}
 use Rattle.som_model_laws.proofs.Members.{Apart, find_first, mem_left, mem_right, mem_split}
+use Rattle.som_model_laws.proofs.Lists.{flat_mem, mem_flat}
 use Rattle.som_ast.specs.declared.words.Word.{Word}
 use Rattle.som_ast.specs.declared.words.TypeName.{TypeName}
 use Rattle.som_ast.specs.declared.interface.IdlInterface.{IdlInterface}
@@ -21,7 +22,6 @@ use Rattle.som_ast.specs.declared.interface.Export.{Export}
 use Rattle.som_ast.specs.declared.interface.Export.TheVariants as exports
 use Rattle.som_verify_classes.specs.Plainly.{Fits, a_reader, a_writer}
 use Rattle.som_verify_classes.proofs.PlainLists.{mem_map}
-use Rattle.som_verify_classes.proofs.PlainMoves.{flat_mem, mem_flat}
 use Rattle.som_sema_scope.specs.ClassNames.{type_of}
 use Rattle.som_sema_drafts.specs.Items.{by_name}
 use Rattle.som_sema_drafts.specs.Drafts.{InterfaceDraft, accessors, export_entries, export_variables, getter, introduces, item_variables, setter, variables, variables_of, way_of}

@@ -1,5 +1,5 @@
 -- The class of a signature's result is one of the classes.
-use Rattle.std.proofs.Common.{◌≡◌, inl, inr, Bool, true, false, ◌&&◌, ◌||◌, if◌then◌else◌, List, [], ◌∷◌, ◌++◌, flat_map, Option, Some, None, refl, sym, ap, ◌∙◌, subst, true≢false}
+use Rattle.std.proofs.Common.{◌≡◌, inl, inr, Bool, true, false, ◌&&◌, ◌||◌, List, [], ◌++◌, flat_map, Option, Some, None, refl, sym, ap, ◌∙◌, subst, true≢false}
 use Rattle.std.specs.Prelude.{is_some}
 use Rattle.som_model.specs.declared.key.MethodRef.{MethodRef}
 use Rattle.som_model.specs.declared.key.ValueType.{ValueType}
@@ -21,6 +21,7 @@ use Rattle.som_model.proofs.NamedLaws.{same_named}
 use Rattle.som_model_laws.proofs.Members.{mem_split}
 use Rattle.som_model_laws.proofs.Standing.{found_is}
 use Rattle.som_model_laws.proofs.Owners.{entry_class, entry_mem}
+use Rattle.som_model_laws.proofs.Lists.{every_mem}
 use Rattle.som_release_laws.proofs.Facing.{demanded_of}
 use Rattle.som_release_laws.proofs.Lists.{flat_at, none_left}
 use Rattle.som_type_soundness.proofs.Classes.{object_at, class_class_at}
@@ -38,15 +39,6 @@ is_plain _ = true
 abbrev entry_plain : Entry → Bool
 entry_plain (entries.Introduced name sig way) = is_plain sig.result
 entry_plain (entries.Moved name to) = true
-
-every_mem : {A : Type 0} (test : A → Bool) (x : A) (xs : List A) → every test xs ≡ true → Mem x xs → test x ≡ true
-every_mem test x [] e m = absurd m
-every_mem test x (y ∷ ys) e m = by (test y) refl e m (every_mem test x ys)
-  where
-    by : (b : Bool) → test y ≡ b → (if b then every test ys else false) ≡ true → Mem x (y ∷ ys) → (every test ys ≡ true → Mem x ys → test x ≡ true) → test x ≡ true
-    by true t f (inl is) further = ap test is ∙ t
-    by true t f (inr n) further = further f n
-    by false t f n further = absurd (true≢false (sym f))
 
 kernel_plain : every (λ (c : Class). every entry_plain c.decl.face.entries) kernel ≡ true
 kernel_plain = simp same_named

@@ -21,8 +21,7 @@ use Rattle.som_model.specs.Made.{blocks_of, blocks_of_class}
 use Rattle.som_model.specs.Owner.{owner}
 use Rattle.som_semantics.specs.World.{world}
 use Rattle.som_model_laws.proofs.Members.{mem_left, mem_right}
-use Rattle.som_model_laws.proofs.Lists.{find_mem, mem_map}
-use Rattle.som_proxy_uses.proofs.Lists.{mem_flat}
+use Rattle.som_model_laws.proofs.Lists.{find_mem, mem_map, mem_flat}
 
 abbrev block_in : Body → List Block
 block_in (bodies.User b) = b ∷ []

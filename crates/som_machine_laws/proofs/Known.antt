@@ -16,12 +16,11 @@ use Rattle.som_model.specs.Owner.{owner, sig_of}
 use Rattle.som_model.specs.Typing.{ClassFacts, running_facts}
 use Rattle.som_semantics.specs.World.{world}
 use Rattle.som_model_laws.proofs.Members.{mem_split}
-use Rattle.som_model_laws.proofs.Lists.{get_mem, mem_map}
+use Rattle.som_model_laws.proofs.Lists.{get_mem, mem_map, flat_mem}
 use Rattle.som_release_laws.specs.Refining.{AreKnown}
 use Rattle.som_release_laws.proofs.Prefix.{signature_entry}
 use Rattle.som_release_laws.proofs.TypedClasses.{main_carried}
 use Rattle.som_proxy_uses.proofs.Known.{class_block, class_known, declared, known_is, same}
-use Rattle.som_proxy_uses.proofs.Lists.{flat_mem}
 use Rattle.som_code.specs.declared.instruction.Instruction.{Instruction}
 use Rattle.som_code.specs.declared.instruction.Instruction.TheVariants as ops
 use Rattle.som_code.specs.Laid.{lay_body}

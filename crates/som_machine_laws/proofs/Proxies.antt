@@ -8,8 +8,7 @@ use Rattle.som_model.specs.Class.{Class}
 use Rattle.som_model.specs.Loads.{keys_of}
 use Rattle.som_model.specs.Made.{all_roots, blocks_of, proxies_in}
 use Rattle.som_model_laws.proofs.Members.{mem_left, mem_right}
-use Rattle.som_model_laws.proofs.Lists.{get_mem}
-use Rattle.som_proxy_uses.proofs.Lists.{mem_flat}
+use Rattle.som_model_laws.proofs.Lists.{get_mem, mem_flat}
 use Rattle.som_code.specs.declared.instruction.Instruction.TheVariants as ops
 use Rattle.som_code.specs.Laid.{lay_body}
 use Rattle.som_machine_laws.proofs.Covered.{body_covered}

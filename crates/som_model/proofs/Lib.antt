@@ -3,3 +3,4 @@ pub mod SameLaws
 pub mod NamedLaws
 pub mod TypingLaws
 pub mod StepLaws
+pub mod ListLaws

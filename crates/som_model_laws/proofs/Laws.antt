@@ -1,5 +1,5 @@
 -- The laws of ancestors, of the class that answers, of names and of effective orders.
-use Rattle.std.proofs.Common.{◌≡◌, ◌↔◌, ℕ, zero, suc, ◌≤◌, inl, inr, Bool, true, false, if◌then◌else◌, List, [], ◌∷◌, ◌++◌, map, length, take, drop, Option, Some, None, IsSome, refl, sym, ap, ◌∙◌, subst, arith, true≢false}
+use Rattle.std.proofs.Common.{◌≡◌, ◌↔◌, ℕ, zero, suc, ◌≤◌, inl, inr, Bool, true, false, if◌then◌else◌, List, [], ◌∷◌, map, length, take, Option, Some, None, IsSome, refl, sym, ap, ◌∙◌, subst, arith, true≢false}
 use Rattle.std.specs.Option.{option_and_then}
 use Rattle.std.specs.Str.{bytes_eq}
 use Rattle.som_model.specs.Lists.{Mem, without, firsts, joined, first, or_else, first_some, find, some, among, doubles}
@@ -10,6 +10,7 @@ use Rattle.som_model.specs.EffectiveOrder.{effective_order}
 use Rattle.som_model.specs.declared.key.ClassKey.{ClassKey}
 use Rattle.som_model.specs.Keys.{same_key}
 use Rattle.som_model.proofs.KeyLaws.{exact_bytes, exact_keys}
+use Rattle.som_model.proofs.ListLaws.{take_front, drop_front}
 use Rattle.som_model_laws.specs.First.{IsFirst}
 use Rattle.som_model_laws.specs.Added.{IsThinned, added}
 use Rattle.som_model_laws.proofs.Members.{mem_left, mem_right, mem_joined, joined_mem, no_members, map_on, without_fails, mem_without, without_thins, firsts_mem, mem_some, some_mem, some_on, both_or_none, Apart, firsts_apart, apart_doubles, find_first, first_find, find_none, none_find, first_there, first_on, first_none, first_from, first_chosen}
@@ -304,20 +305,12 @@ byname_none h introduces x = (find_none introduces (anc h x), none_find introduc
 pub key_test : (a b : ClassKey) → (same_key a b ≡ true) ↔ (a ≡ b)
 key_test a b = (exact_keys.two a b, λ e. subst (λ k. same_key a k ≡ true) e (exact_keys.one a))
 
-take_own : {A : Type 0} (xs ys : List A) → take (length xs) (xs ++ ys) ≡ xs
-take_own [] ys = refl
-take_own (x ∷ xs) ys = ap (λ l. x ∷ l) (take_own xs ys)
-
-drop_own : {A : Type 0} (xs ys : List A) → drop (length xs) (xs ++ ys) ≡ ys
-drop_own [] ys = refl
-drop_own (x ∷ xs) ys = drop_own xs ys
-
 pub listed_first : (listed introduced : List (List ℕ)) → take (length listed) (effective_order listed introduced) ≡ listed
-listed_first listed introduced = take_own listed (without (λ name. among name listed) introduced)
+listed_first listed introduced = take_front listed (without (λ name. among name listed) introduced)
 
 -- the added names are the introduced ones that the list misses
 pub added_are : (listed introduced : List (List ℕ)) → added listed introduced ≡ without (λ name. among name listed) introduced
-added_are listed introduced = drop_own listed (without (λ name. among name listed) introduced)
+added_are listed introduced = drop_front listed (without (λ name. among name listed) introduced)
 
 -- the test of a name among names
 pub among_mem : (name : List ℕ) (names : List (List ℕ)) → (among name names ≡ true) ↔ Mem name names

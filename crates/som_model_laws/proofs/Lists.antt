@@ -1,7 +1,7 @@
 -- Members and places of lists, and the first that passes a test in lists that are joined.
-use Rattle.std.proofs.Common.{◌≡◌, ℕ, zero, suc, ◌+◌, ◌<◌, inl, inr, Bool, true, false, if◌then◌else◌, List, [], ◌∷◌, ◌++◌, map, take, Option, Some, None, slice_get, refl, sym, ap, ◌∙◌, subst, arith}
+use Rattle.std.proofs.Common.{◌≡◌, ℕ, zero, suc, ◌+◌, ◌<◌, inl, inr, Bool, true, false, if◌then◌else◌, List, [], ◌∷◌, ◌++◌, map, flat_map, take, Option, Some, None, slice_get, refl, sym, ap, ◌∙◌, subst, arith, true≢false}
 use Rattle.som_model.specs.declared.key.ClassKey.{ClassKey}
-use Rattle.som_model.specs.Lists.{Mem, doubles, find, option_list, place_from, some}
+use Rattle.som_model.specs.Lists.{Mem, doubles, every, find, option_list, place_from, some}
 use Rattle.som_model.specs.Keys.{same_key}
 use Rattle.som_model.specs.Class.{Class}
 use Rattle.som_model.proofs.KeyLaws.{Exact, exact_keys}
@@ -38,6 +38,36 @@ pub option_mem : {A : Type 0} (o : Option A) (k : A) → Mem k (option_list o) �
 option_mem None k m = absurd m
 option_mem (Some x) k (inl e) = ap (λ z. Some z) (sym e)
 option_mem (Some x) k (inr m) = absurd m
+
+-- members of the lists that a function gives
+
+pub flat_mem : {A B : Type 0} (f : A → List B) (b : B) (xs : List A) → Mem b (flat_map f xs) → (a : A) × Mem a xs × Mem b (f a)
+flat_mem f b [] m = absurd m
+flat_mem f b (x ∷ xs) m = elim (mem_split b (f x) (flat_map f xs) m) [
+  | inl k ↦ (x, inl refl, k)
+  | inr k ↦ (let r = flat_mem f b xs k in (r.0, inr r.1, r.2))
+]
+
+pub mem_flat : {A B : Type 0} (f : A → List B) (b : B) (a : A) (xs : List A) → Mem a xs → Mem b (f a) → Mem b (flat_map f xs)
+mem_flat f b a [] m k = absurd m
+mem_flat f b a (x ∷ xs) (inl e) k = mem_left b (f x) (flat_map f xs) (subst (λ z. Mem b (f z)) e k)
+mem_flat f b a (x ∷ xs) (inr m) k = mem_right b (f x) (flat_map f xs) (mem_flat f b a xs m k)
+
+-- a test that each member passes
+
+every_by : {A : Type 0} (test : A → Bool) (x a : A) (xs : List A) (b : Bool) → test x ≡ b → (every test xs ≡ true → Mem a xs → test a ≡ true)
+    → (if b then every test xs else false) ≡ true → Mem a (x ∷ xs) → test a ≡ true
+every_by test x a xs true t f e (inl is) = ap test is ∙ t
+every_by test x a xs true t f e (inr m) = f e m
+every_by test x a xs false t f e m = absurd (true≢false (sym e))
+
+pub every_mem : {A : Type 0} (test : A → Bool) (a : A) (xs : List A) → every test xs ≡ true → Mem a xs → test a ≡ true
+every_mem test a [] e m = absurd m
+every_mem test a (x ∷ xs) e m = every_by test x a xs (test x) refl (every_mem test a xs) e m
+
+pub mem_every : {A : Type 0} (test : A → Bool) (xs : List A) → ((a : A) → Mem a xs → test a ≡ true) → every test xs ≡ true
+mem_every test [] f = refl
+mem_every test (x ∷ xs) f = let here : test x ≡ true = f x (inl refl) in rw here (mem_every test xs (λ a m. f a (inr m)))
 
 -- finding
 

@@ -1,5 +1,5 @@
 -- Owners, which may be several moves away.
-use Rattle.std.proofs.Common.{◌≡◌, ℕ, zero, suc, ◌<◌, ◌≤◌, inl, inr, Bool, true, false, not, if◌then◌else◌, List, [], ◌∷◌, ◌++◌, Option, Some, None, IsSome, slice_get, refl, sym, ap, ◌∙◌, subst, arith, true≢false}
+use Rattle.std.proofs.Common.{◌≡◌, ℕ, zero, suc, ◌<◌, ◌≤◌, Bool, true, false, not, List, ◌++◌, Option, Some, None, IsSome, slice_get, refl, sym, ap, ◌∙◌, subst, arith, true≢false}
 use Rattle.std.specs.Prelude.{is_some}
 use Rattle.std.specs.Str.{bytes_eq}
 use Rattle.som_model.specs.declared.key.ClassKey.{ClassKey}
@@ -19,7 +19,7 @@ use Rattle.som_model.proofs.KeyLaws.{exact_bytes, both}
 use Rattle.som_model_laws.proofs.Laws.{descends_test, descends_through}
 use Rattle.som_model.specs.Loads.{FacesLoad, IsOrdered}
 use Rattle.som_model_laws.specs.Owning.{Owns}
-use Rattle.som_model_laws.proofs.Lists.{find_mem, get_mem}
+use Rattle.som_model_laws.proofs.Lists.{find_mem, get_mem, every_mem}
 use Rattle.som_model_laws.proofs.Standing.{earlier_at, falls, found, found_is, height_at, place, rank_at, tells}
 use Rattle.som_model_laws.proofs.Metas.{kernel_none, first_four}
 
@@ -36,16 +36,6 @@ stays cs (suc n) r e = rw e refl
 pub moves : (cs : List Class) (n : ℕ) (r : MethodRef) (to : ClassKey) → moved_to (entry_at cs r.class r.name) ≡ Some to
     → owner_within cs (suc n) r ≡ owner_within cs n (record { class = to; name = r.name })
 moves cs n r to e = rw e refl
-
-every_by : {A : Type 0} (test : A → Bool) (x a : A) (xs : List A) (b : Bool) → test x ≡ b → (every test xs ≡ true → Mem a xs → test a ≡ true)
-    → (if b then every test xs else false) ≡ true → Mem a (x ∷ xs) → test a ≡ true
-every_by test x a xs true t f e (inl is) = ap test is ∙ t
-every_by test x a xs true t f e (inr m) = f e m
-every_by test x a xs false t f e m = absurd (true≢false (sym e))
-
-every_mem : {A : Type 0} (test : A → Bool) (a : A) (xs : List A) → every test xs ≡ true → Mem a xs → test a ≡ true
-every_mem test a [] e m = absurd m
-every_mem test a (x ∷ xs) e m = every_by test x a xs (test x) refl (every_mem test a xs) e m
 
 abbrev stays_there : Entry → Bool
 stays_there (entries.Introduced name sig way) = true

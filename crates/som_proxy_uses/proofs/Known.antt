@@ -25,7 +25,7 @@ use Rattle.som_model.specs.Rules.{s14}
 use Rattle.som_model.specs.Typing.{ClassFacts, running_facts}
 use Rattle.som_model_laws.proofs.Laws.{descends_through}
 use Rattle.som_model_laws.proofs.Members.{mem_left, mem_right, mem_split}
-use Rattle.som_model_laws.proofs.Lists.{map_mem, mem_map}
+use Rattle.som_model_laws.proofs.Lists.{map_mem, mem_map, flat_mem, mem_flat}
 use Rattle.som_model_laws.proofs.Owners.{entry_class}
 use Rattle.som_model_laws.proofs.Standing.{found_is}
 use Rattle.som_release_laws.specs.Refining.{AreKnown, Refines}
@@ -36,7 +36,6 @@ use Rattle.som_release_laws.proofs.Prefix.{signature_entry}
 use Rattle.som_release_laws.proofs.TypedClasses.{class_carried, main_carried}
 use Rattle.som_release_laws.proofs.TypesBelow.{method_named}
 use Rattle.som_proxy_uses.specs.Proxied.{proxies_of}
-use Rattle.som_proxy_uses.proofs.Lists.{flat_mem, mem_flat}
 use Rattle.som_proxy_uses.proofs.Naming.{block_covered}
 
 abbrev pub block_in : Body → List Block

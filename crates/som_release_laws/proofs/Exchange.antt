@@ -1,5 +1,6 @@
 -- A release is exchanged for a newer one that keeps what it promised, below the same classes.
 use Rattle.std.proofs.Common.{◌≡◌, ℕ, zero, suc, ◌≤◌, ◌⊎◌, inl, inr, List, [], ◌++◌, take, Option, Some, None, IsSome, slice_get, refl, sym, ap, ◌∙◌, subst, arith}
+use Rattle.std.proofs.lemmas.List.{map-append}
 use Rattle.std.specs.Prelude.{is_some}
 use Rattle.som_model.specs.declared.key.ClassKey.{ClassKey, out-ClassKey}
 use Rattle.som_model.specs.declared.key.ClassKey.TheOpen.{ClassKey-F}
@@ -23,7 +24,7 @@ use Rattle.som_model_laws.proofs.Lists.{apart_both, doubles_apart, get_mem, map_
 use Rattle.som_model_laws.proofs.Standing.{found, found_is, named_layer, parents_derived, parents_known, parents_proxy, parents_unknown}
 use Rattle.som_model_laws.proofs.Owners.{entry_class, entry_is, entry_mem, moved_lower, moved_to, owner_moved, owner_stays}
 use Rattle.som_release_laws.specs.Growing.{Grows}
-use Rattle.som_release_laws.proofs.Lists.{apart_right, get_right, get_split, map_append, named_entry, take_left}
+use Rattle.som_release_laws.proofs.Lists.{apart_right, get_right, get_split, named_entry, take_left}
 use Rattle.som_release_laws.proofs.Prefix.{descends_less, descends_more, ordered, signature_entry, signature_same, some_entry}
 
 module _ (olds news own : List Class) (oa : IsOrdered (olds ++ own)) (on : IsOrdered news) (keep : ClassesKeep olds news)
@@ -77,9 +78,9 @@ module _ (olds news own : List Class) (oa : IsOrdered (olds ++ own)) (on : IsOrd
   new_ordered = record {
     own = λ c m. elim (mem_split c news own m) [ inl a ↦ on.own c a | inr b ↦ oa.own c (mem_right c olds own b) ];
     differ = apart_doubles same_key exact_keys.two [] (keys_of (news ++ own)) (λ a m n. m)
-        (subst Apart (sym (map_append (λ (c : Class). c.key) news own))
+        (subst Apart (sym (map-append (λ (c : Class). c.key) news own))
         (apart_both (keys_of news) (keys_of own) (doubles_apart same_key exact_keys (keys_of news) on.differ)
-        (apart_right (keys_of olds) (keys_of own) (subst Apart (map_append (λ (c : Class). c.key) olds own) (doubles_apart same_key exact_keys (keys_of (olds ++ own)) oa.differ)))
+        (apart_right (keys_of olds) (keys_of own) (subst Apart (map-append (λ (c : Class). c.key) olds own) (doubles_apart same_key exact_keys (keys_of (olds ++ own)) oa.differ)))
         (λ a m n. let c = map_mem (λ (z : Class). z.key) a news m in let d = map_mem (λ (z : Class). z.key) a own n in apart c.0 d.0 c.1 d.1 (sym c.2 ∙ d.2))));
     parents = earlier (λ c k. Mem k c.decl.face.parents) oa.parents on.parents;
     metaclasses = earlier (λ c k. c.decl.face.metaclass ≡ Some k) oa.metaclasses on.metaclasses;

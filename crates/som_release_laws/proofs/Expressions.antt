@@ -16,13 +16,10 @@ use Rattle.som_model.specs.Named.{Named, AProxy, expr_names, expr_names_step, me
 use Rattle.som_model.specs.Typing.{ClassFacts, CodePlace, ExprType, Of, Typed, needs, there, gives, is_nothing, is_class, is_reference, descends_to, fits, all_fit, kind_is_known, value, value_of, values, unary_type, binary_type, host_type, cast_type, isa_type, proxy_type, offset_call_type, named_call_type, parent_call_type, parents_call_type, expr_step, expr_type}
 use Rattle.som_model.proofs.KeyLaws.{both}
 use Rattle.som_model.proofs.StepLaws.{went, held, met, both_steps, same_answer, found}
+use Rattle.som_model.proofs.ListLaws.{is_false}
 use Rattle.som_release_laws.specs.Refining.{Refines, AreKnown}
 use Rattle.som_release_laws.proofs.Lists.{both_true}
 use Rattle.som_release_laws.proofs.TypesBelow.{Below, BelowAll, none_named, both_named, class_named, proxy_named, method_named, kind_named, alike, as_long, descends_below, fits_below, all_fit_below, kind_below}
-
-is_false : (b : Bool) → not b ≡ true → b ≡ false
-is_false true e = sym e
-is_false false e = refl
 
 abbrev parent_in : Option Class → ℕ → Option ClassKey
 parent_in None n = None

@@ -17,12 +17,12 @@ use Rattle.som_model.specs.Typing.{ClassFacts, class_facts}
 use Rattle.som_model.specs.Loads.{IsOrdered}
 use Rattle.som_model.proofs.KeyLaws.{both}
 use Rattle.som_model_laws.proofs.Members.{mem_right}
-use Rattle.som_model_laws.proofs.Lists.{get_mem, mem_get, option_mem}
+use Rattle.som_model_laws.proofs.Lists.{get_mem, mem_get, option_mem, every_mem}
 use Rattle.som_model_laws.proofs.Owners.{metaclass_known}
 use Rattle.som_model_laws.proofs.Standing.{earlier_at, found, stands}
 use Rattle.som_release_laws.specs.Refining.{AreKnown}
 use Rattle.som_release_laws.proofs.Facing.{demanded_of}
-use Rattle.som_release_laws.proofs.Lists.{every_mem, flat_at, none_left}
+use Rattle.som_release_laws.proofs.Lists.{flat_at, none_left}
 use Rattle.som_release_laws.proofs.TypesBelow.{both_named, class_named, none_named}
 
 facts_known : (cs : List Class) (k : ClassKey) → is_some (class_at cs k) ≡ true → (class_facts cs).is_known k ≡ true

@@ -18,8 +18,9 @@ use Rattle.som_model.proofs.KeyLaws.{both}
 use Rattle.som_model_laws.proofs.Laws.{descends_test}
 use Rattle.som_model.specs.Loads.{IsOrdered}
 use Rattle.som_model_laws.proofs.Standing.{falls, tells}
+use Rattle.som_model_laws.proofs.Lists.{every_mem, mem_every}
 use Rattle.som_release_laws.specs.Growing.{Grows}
-use Rattle.som_release_laws.proofs.Lists.{both_none, both_true, every_mem, flat_less, mem_every, none_left}
+use Rattle.som_release_laws.proofs.Lists.{both_none, both_true, flat_less, none_left}
 
 pub demanded : (n : ℕ) (c : Class) (b : Bool) → demand n c b ≡ [] → b ≡ true
 demanded n c true e = refl

@@ -1,5 +1,5 @@
 -- What typing asks of classes, of some and of those that have what these had.
-use Rattle.std.proofs.Common.{◌≡◌, ℕ, Bool, true, false, not, ◌&&◌, List, ◌++◌, Option, Some, None, IsSome, refl, sym, ap, ◌∙◌, subst, arith, true≢false}
+use Rattle.std.proofs.Common.{◌≡◌, ℕ, true, false, not, ◌&&◌, List, ◌++◌, Option, Some, None, IsSome, refl, sym, ap, ◌∙◌, subst, arith, true≢false}
 use Rattle.std.specs.Prelude.{is_some, unwrap_or}
 use Rattle.som_model.specs.declared.key.ClassKey.{ClassKey}
 use Rattle.som_model.specs.declared.key.MethodRef.{MethodRef}
@@ -16,6 +16,7 @@ use Rattle.som_model.specs.Owner.{entry_at, introduces, owner, sig_of}
 use Rattle.som_model.specs.Typing.{class_facts, running_facts}
 use Rattle.som_model.specs.Loads.{FacesLoad}
 use Rattle.som_model.proofs.KeyLaws.{both, exact_keys}
+use Rattle.som_model.proofs.ListLaws.{is_false}
 use Rattle.som_model_laws.proofs.Members.{not_true}
 use Rattle.som_model_laws.proofs.Laws.{descends_through}
 use Rattle.som_model_laws.specs.Owning.{Owns}
@@ -42,10 +43,6 @@ introduced_entry cs name k i = by (entry_at cs k name) refl
 
 other_way : (a b : ClassKey) → same_key a b ≡ false → same_key b a ≡ false
 other_way a b e = not_true (same_key b a) (λ t. true≢false (sym (ap (λ z. same_key a z) (exact_keys.two b a t) ∙ exact_keys.one a) ∙ e))
-
-no_same : (b : Bool) → not b ≡ true → b ≡ false
-no_same true e = sym e
-no_same false e = refl
 
 module _ (olds news : List Class) (fa : FacesLoad olds) (fb : FacesLoad news) (grows : Grows (kernel ++ olds) (kernel ++ news))
     (one_owner : (r : MethodRef) → IsSome (entry_at (kernel ++ olds) r.class r.name) → owner (kernel ++ news) r ≡ owner (kernel ++ news) (owner (kernel ++ olds) r)) where
@@ -74,7 +71,7 @@ module _ (olds news : List Class) (fa : FacesLoad olds) (fb : FacesLoad news) (g
       let d = grows.descends c a (tested olds fa.ordered c a p.1) in
       let up = (owner_above r some).above in
       let low = at_most news fb.ordered a b up in
-      let less = lower_by news fb.ordered c a d (other_way a c (no_same (same_key a c) p.0)) in
+      let less = lower_by news fb.ordered c a d (other_way a c (is_false (same_key a c) p.0)) in
       let other : same_key b c ≡ false = not_true (same_key b c) (λ t. let same = ap h.height (exact_keys.two b c t) in omega (arith, low, less, same)) in
       both_true (not (same_key b c)) (is_a B c b) (ap not other) (tests news fb.ordered c b (descends_through h c a b d up))
 

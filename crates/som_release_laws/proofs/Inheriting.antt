@@ -1,5 +1,6 @@
 -- What overrides and selects are asked among some classes, holds of them among those that have what these had.
 use Rattle.std.proofs.Common.{◌≡◌, ℕ, inl, inr, Bool, true, false, not, ◌&&◌, List, [], ◌∷◌, ◌++◌, map, slice_get, Option, Some, None, IsSome, refl, sym, ap, ◌∙◌, subst, true≢false}
+use Rattle.std.proofs.lemmas.List.{map-append}
 use Rattle.std.specs.Prelude.{is_some}
 use Rattle.std.specs.Str.{bytes_eq}
 use Rattle.som_model.specs.declared.key.ClassKey.{ClassKey}
@@ -17,6 +18,7 @@ use Rattle.som_model.specs.Owner.{entry_at, introduces, owner}
 use Rattle.som_model.specs.Rules.{RuleBreach, demand_of, is_parent_below, is_proper, is_replaced_once, s10, s10_from, s10_selects}
 use Rattle.som_model.specs.Loads.{FacesLoad}
 use Rattle.som_model.proofs.KeyLaws.{Exact, both, exact_bytes, exact_keys}
+use Rattle.som_model.proofs.ListLaws.{map_map}
 use Rattle.som_model_laws.proofs.Members.{Apart, mem_left, mem_right, mem_split, mem_some, some_mem, not_true}
 use Rattle.som_model_laws.proofs.Laws.{descends_through}
 use Rattle.som_model_laws.proofs.Lists.{apart_both, map_mem, mem_map}
@@ -24,7 +26,7 @@ use Rattle.som_model_laws.proofs.Owners.{owner_name, owner_stays, moved_to}
 use Rattle.som_release_laws.specs.Growing.{Grows}
 use Rattle.som_release_laws.proofs.Facing.{demand_of_met, demanded_of, tested, tests}
 use Rattle.som_release_laws.proofs.Facts.{owner_above, proper_still}
-use Rattle.som_release_laws.proofs.Lists.{apart_left, apart_right, both_none, both_true, map_append, none_left}
+use Rattle.som_release_laws.proofs.Lists.{apart_left, apart_right, both_none, both_true, none_left}
 use Rattle.som_release_laws.proofs.OneOwner.{ref_one}
 
 exact_methods : Exact same_method
@@ -32,10 +34,6 @@ exact_methods = record {
   one = λ r. both_true (same_key r.class r.class) (bytes_eq r.name r.name) (exact_keys.one r.class) (exact_bytes.one r.name);
   two = λ r s e. (let p = both (same_key r.class s.class) (bytes_eq r.name s.name) e in ref_one r s (exact_keys.two r.class s.class p.0) (exact_bytes.two r.name s.name p.1));
 }
-
-map_map : {A B C : Type 0} (f : B → C) (g : A → B) (xs : List A) → map f (map g xs) ≡ map (λ x. f (g x)) xs
-map_map f g [] = refl
-map_map f g (x ∷ xs) = ap (λ z. f (g x) ∷ z) (map_map f g xs)
 
 and_true : (b : Bool) → (b && true) ≡ b
 and_true true = refl
@@ -200,9 +198,9 @@ module _ (olds news : List Class) (fa : FacesLoad olds) (fb : FacesLoad news) (g
         | inl a ↦ (let o = map_mem of_override m os a in let f = i.overrides.0 o.0 o.1 in subst Takes (sym o.2) (f.0, f.1))
         | inr a ↦ (let s = map_mem of_select m ss a in let f = i.selects.0 s.0 s.1 in subst Takes (sym s.2) (f.0, f.1))
       ] in
-      let all_a : Apart (map (owner A) (mo ++ ms)) = subst Apart (sym (map_append (owner A) mo ms)) (apart_both (map (owner A) mo) (map (owner A) ms) (subst Apart (sym (own_o A)) i.overrides.1) (subst Apart (sym (own_s A)) i.selects.1)
+      let all_a : Apart (map (owner A) (mo ++ ms)) = subst Apart (sym (map-append (owner A) mo ms)) (apart_both (map (owner A) mo) (map (owner A) ms) (subst Apart (sym (own_o A)) i.overrides.1) (subst Apart (sym (own_s A)) i.selects.1)
       (λ r m n. i.selects.2 r (subst (λ z. Mem r z) (own_o A) m) (subst (λ z. Mem r z) (own_s A) n))) in
-      let all_b : Apart (map (owner B) mo ++ map (owner B) ms) = subst Apart (map_append (owner B) mo ms) (owners_apart (mo ++ ms) takes all_a) in
+      let all_b : Apart (map (owner B) mo ++ map (owner B) ms) = subst Apart (map-append (owner B) mo ms) (owners_apart (mo ++ ms) takes all_a) in
       record {
         overrides = (
           (λ o m. (let f = i.overrides.0 o m in (proper_new o.method (f.0, f.1), introduced_new o.method (f.0, f.1), refl))),

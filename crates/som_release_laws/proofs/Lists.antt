@@ -1,7 +1,7 @@
 -- Places in lists that are joined, and keys that differ in them.
 use Rattle.std.proofs.Common.{◌≡◌, ℕ, zero, suc, ◌⊎◌, inl, inr, Bool, true, false, ◌&&◌, if◌then◌else◌, List, [], ◌∷◌, ◌++◌, map, flat_map, take, Some, IsSome, slice_get, refl, sym, ap, ◌∙◌, true≢false}
 use Rattle.std.specs.Str.{bytes_eq}
-use Rattle.som_model.specs.Lists.{Mem, every}
+use Rattle.som_model.specs.Lists.{Mem}
 use Rattle.som_model.specs.declared.class.Entry.{Entry}
 use Rattle.som_model.specs.Class.{entry_name, entry_of}
 use Rattle.som_model.proofs.KeyLaws.{exact_bytes}
@@ -31,10 +31,6 @@ pub get_right : {A : Type 0} (xs ys : List A) (j : ℕ) (x : A) → slice_get ys
 get_right [] ys j x e = (j, e, refl)
 get_right (y ∷ xs) ys j x e = let r = get_right xs ys j x e in (suc r.0, r.1, ap (λ z. y ∷ z) r.2)
 
-pub map_append : {A B : Type 0} (f : A → B) (xs ys : List A) → map f (xs ++ ys) ≡ map f xs ++ map f ys
-map_append f [] ys = refl
-map_append f (x ∷ xs) ys = ap (λ z. f x ∷ z) (map_append f xs ys)
-
 pub apart_left : {A : Type 0} (xs ys : List A) → Apart (xs ++ ys) → Apart xs
 apart_left [] ys p = tt
 apart_left (x ∷ xs) ys p = ((λ m. p.0 (mem_left x xs ys m)), apart_left xs ys p.1)
@@ -47,20 +43,6 @@ apart_right (x ∷ xs) ys p = apart_right xs ys p.1
 
 pub both_true : (a b : Bool) → a ≡ true → b ≡ true → (a && b) ≡ true
 both_true a b e f = rw (e, f) refl
-
-every_by : {A : Type 0} (test : A → Bool) (x a : A) (xs : List A) (b : Bool) → test x ≡ b → (every test xs ≡ true → Mem a xs → test a ≡ true)
-    → (if b then every test xs else false) ≡ true → Mem a (x ∷ xs) → test a ≡ true
-every_by test x a xs true t f e (inl is) = ap test is ∙ t
-every_by test x a xs true t f e (inr m) = f e m
-every_by test x a xs false t f e m = absurd (true≢false (sym e))
-
-pub every_mem : {A : Type 0} (test : A → Bool) (a : A) (xs : List A) → every test xs ≡ true → Mem a xs → test a ≡ true
-every_mem test a [] e m = absurd m
-every_mem test a (x ∷ xs) e m = every_by test x a xs (test x) refl (every_mem test a xs) e m
-
-pub mem_every : {A : Type 0} (test : A → Bool) (xs : List A) → ((a : A) → Mem a xs → test a ≡ true) → every test xs ≡ true
-mem_every test [] f = refl
-mem_every test (x ∷ xs) f = let here : test x ≡ true = f x (inl refl) in rw here (mem_every test xs (λ a m. f a (inr m)))
 
 pub none_left : {A : Type 0} (xs ys : List A) → (xs ++ ys) ≡ [] → (xs ≡ []) × (ys ≡ [])
 none_left [] ys e = (refl, e)

@@ -1,5 +1,6 @@
 -- Classes that stand before others are, descend and own alone as they do among them.
 use Rattle.std.proofs.Common.{◌≡◌, ℕ, zero, suc, List, [], ◌++◌, Option, Some, None, IsSome, refl, sym, ap, ◌∙◌, subst, true≢false}
+use Rattle.std.proofs.lemmas.List.{map-append}
 use Rattle.som_model.specs.declared.key.ClassKey.{ClassKey, out-ClassKey}
 use Rattle.som_model.specs.declared.key.ClassKey.TheOpen.{ClassKey-F}
 use Rattle.som_model.specs.declared.key.MethodRef.{MethodRef}
@@ -21,7 +22,7 @@ use Rattle.som_model_laws.proofs.Lists.{doubles_apart, find_left}
 use Rattle.som_model_laws.proofs.Standing.{found_is, height_at, named_layer, parents_derived, parents_known, parents_proxy, parents_unknown, place, stands}
 use Rattle.som_model_laws.proofs.Owners.{entry_class, entry_is, moved_lower, moved_to, moves, stays}
 use Rattle.som_release_laws.specs.Growing.{Grows}
-use Rattle.som_release_laws.proofs.Lists.{apart_left, get_left, map_append, take_left}
+use Rattle.som_release_laws.proofs.Lists.{apart_left, get_left, take_left}
 
 -- what has a signature is an entry of a known class
 pub signature_entry : (cs : List Class) (k : ClassKey) (name : List ℕ) (s : Sig) → signature cs k name ≡ Some s → (e : Entry) × (entry_at cs k name ≡ Some e)
@@ -50,7 +51,7 @@ module _ (xs ys : List Class) (o : IsOrdered (xs ++ ys)) where
   ordered = record {
     own = λ c m. o.own c (mem_left c xs ys m);
     differ = apart_doubles same_key exact_keys.two [] (keys_of xs) (λ a m n. m)
-        (apart_left (keys_of xs) (keys_of ys) (subst Apart (map_append (λ (c : Class). c.key) xs ys) (doubles_apart same_key exact_keys (keys_of (xs ++ ys)) o.differ)));
+        (apart_left (keys_of xs) (keys_of ys) (subst Apart (map-append (λ (c : Class). c.key) xs ys) (doubles_apart same_key exact_keys (keys_of (xs ++ ys)) o.differ)));
     parents = λ i c k e m. subst (λ (z : List Class). Mem k (keys_of (kernel ++ z))) (take_left xs ys i c e) (o.parents i c k (get_left xs ys i c e) m);
     metaclasses = λ i c k e m. subst (λ (z : List Class). Mem k (keys_of (kernel ++ z))) (take_left xs ys i c e) (o.metaclasses i c k (get_left xs ys i c e) m);
     targets = λ i c name to e m. subst (λ (z : List Class). Mem to (keys_of (kernel ++ z))) (take_left xs ys i c e) (o.targets i c name to (get_left xs ys i c e) m);

@@ -9,10 +9,11 @@ use Rattle.som_model.specs.Kernel.{kernel}
 use Rattle.som_model.specs.Rules.{name_of, s2}
 use Rattle.som_model.specs.declared.key.Module.{Module}
 use Rattle.som_model.specs.declared.key.ClassKey.{ClassKey}
+use Rattle.som_model_laws.proofs.Lists.{every_mem, mem_every}
 use Rattle.som_verify_classes.specs.Places.{key_at, with_kernel}
 use Rattle.som_verify_classes.specs.Modules.{AreDeclared}
 use Rattle.som_verify_classes.proofs.PlainLists.{s1_doubles}
-use Rattle.som_verify_classes.proofs.Before.{none_both, both_none, demanded, every_mem, mem_every}
+use Rattle.som_verify_classes.proofs.Before.{none_both, both_none, demanded}
 use Rattle.som_verify_classes.proofs.PlainNames.{demand_none}
 use Rattle.som_sema.specs.Ancestry.{IsAncestorTable}
 use Rattle.som_sema.specs.declared.ancestry.AncestorTable.{AncestorTable}

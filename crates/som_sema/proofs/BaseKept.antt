@@ -20,9 +20,10 @@ use Rattle.som_model.proofs.KeyLaws.{exact_keys}
 use Rattle.som_model.proofs.NamedLaws.{height_named, hierarchy_parents, hierarchy_same, parents_named}
 use Rattle.som_model_laws.proofs.Laws as plain
 use Rattle.som_model_laws.proofs.Members.{find_first, map_on, mem_left, mem_right, mem_split}
+use Rattle.som_model_laws.proofs.Lists.{every_mem}
 use Rattle.som_verify_classes.specs.Modules.{AreDeclared, module_of}
 use Rattle.som_verify_classes.specs.Plainly.{IsAmong}
-use Rattle.som_verify_classes.proofs.Before.{demanded, every_mem, none_both}
+use Rattle.som_verify_classes.proofs.Before.{demanded, none_both}
 use Rattle.som_verify_classes.proofs.Owners.{mem_middle}
 use Rattle.som_verify_classes.proofs.PlainLists.{says_each, each_says}
 use Rattle.som_verify_classes.proofs.PlainNames.{among_known, known_among}

@@ -8,6 +8,7 @@ use Rattle.som_model.specs.Conforming.{each_after}
 use Rattle.som_model.specs.Kernel.{kernel}
 use Rattle.som_model.specs.Rules.{RuleBreach, s1, s2, s5, s9}
 use Rattle.som_model.specs.declared.key.Module.{Module}
+use Rattle.som_model.proofs.ListLaws.{take_front, drop_front}
 use Rattle.som_order.specs.Names.{texts}
 use Rattle.som_verify_classes.specs.declared.types.Declared.{Declared}
 use Rattle.som_verify_classes.specs.declared.types.VerifyFault.{VerifyFault}
@@ -43,19 +44,11 @@ long_front [] (suc n) le = absurd (omega arith)
 long_front (d ∷ ds) zero le = refl
 long_front (d ∷ ds) (suc n) le = ap suc (long_front ds n (omega arith))
 
-taken : {A : Type 0} (xs ys : List A) → take (length xs) (xs ++ ys) ≡ xs
-taken [] ys = refl
-taken (x ∷ xs) ys = ap (λ z. x ∷ z) (taken xs ys)
-
-dropped : {A : Type 0} (xs ys : List A) → drop (length xs) (xs ++ ys) ≡ ys
-dropped [] ys = refl
-dropped (x ∷ xs) ys = dropped xs ys
-
 pub front_is : (ds : List Declared) (xs ys : List Class) (n : ℕ) → classes_of ds ≡ xs ++ ys → n ≡ length xs → classes_of (take n ds) ≡ xs
-front_is ds xs ys n e l = sym (take_map class_of ds n) ∙ ap (λ k. take k (classes_of ds)) l ∙ ap (take (length xs)) e ∙ taken xs ys
+front_is ds xs ys n e l = sym (take_map class_of ds n) ∙ ap (λ k. take k (classes_of ds)) l ∙ ap (take (length xs)) e ∙ take_front xs ys
 
 pub rest_is : (ds : List Declared) (xs ys : List Class) (n : ℕ) → classes_of ds ≡ xs ++ ys → n ≡ length xs → classes_of (drop n ds) ≡ ys
-rest_is ds xs ys n e l = sym (drop_map class_of ds n) ∙ ap (λ k. drop k (classes_of ds)) l ∙ ap (drop (length xs)) e ∙ dropped xs ys
+rest_is ds xs ys n e l = sym (drop_map class_of ds n) ∙ ap (λ k. drop k (classes_of ds)) l ∙ ap (drop (length xs)) e ∙ drop_front xs ys
 
 -- S1
 pub own_names : (ds : List Declared) (n : ℕ) → faces_breach (classes_of (take n ds)) ≡ None

@@ -21,8 +21,8 @@ use Rattle.som_model.specs.Owner.{introduced_by, introduced_in}
 use Rattle.som_model.proofs.KeyLaws.{exact_bytes}
 use Rattle.som_model_laws.proofs.Laws.{among_mem, introduced_in as order_has}
 use Rattle.som_model_laws.proofs.Members.{both_or_none, find_none, mem_split}
+use Rattle.som_model_laws.proofs.Lists.{flat_mem}
 use Rattle.som_verify_classes.proofs.PlainLists.{mem_map}
-use Rattle.som_verify_classes.proofs.PlainMoves.{flat_mem}
 use Rattle.som_verify_classes.proofs.Outlines.{outline, hierarchy_outline}
 use Rattle.som_ast.specs.declared.words.Word.{Word}
 use Rattle.som_ast.specs.declared.interface.IdlInterface.{IdlInterface}

@@ -21,6 +21,7 @@ use Rattle.som_model.specs.Owner.{entry_at, introduced_by, introduces, owner, ow
 use Rattle.som_model.specs.Rules.{s6}
 use Rattle.som_model.proofs.KeyLaws.{both, exact_bytes, exact_keys}
 use Rattle.som_model.proofs.NamedLaws.{hierarchy_same}
+use Rattle.som_model.proofs.ListLaws.{map_map, get_map}
 use Rattle.som_model_laws.proofs.Laws.{among_mem, ancestors as ancestors_law}
 use Rattle.som_model_laws.proofs.Members.{Apart, find_first, mem_split, without_fails}
 use Rattle.som_verify_classes.specs.Modules.{AreDeclared}
@@ -71,10 +72,6 @@ pub map_where : {A B : Type 0} (f g : A → B) (xs : List A) → ((a : A) → Me
 map_where f g [] e = refl
 map_where f g (x ∷ xs) e = ap (λ z. z ∷ map f xs) (e x (inl refl)) ∙ ap (λ z. g x ∷ z) (map_where f g xs (λ a m. e a (inr m)))
 
-map_map : {A B C : Type 0} (f : B → C) (g : A → B) (xs : List A) → map f (map g xs) ≡ map (λ x. f (g x)) xs
-map_map f g [] = refl
-map_map f g (x ∷ xs) = ap (λ z. f (g x) ∷ z) (map_map f g xs)
-
 -- a name stands at its place
 abbrev IsPlaced : ℕ → List ℕ → List (List ℕ) → Type 0
 IsPlaced n name names = (i : ℕ) × (place_from n (bytes_eq name) names ≡ Some (i + n)) × (slice_get names i ≡ Some name)
@@ -90,11 +87,6 @@ place_step x names name n false e (inr k) rest =
 place_there : (names : List (List ℕ)) (name : List ℕ) (n : ℕ) → Mem name names → IsPlaced n name names
 place_there [] name n m = absurd m
 place_there (x ∷ names) name n m = place_step x names name n (bytes_eq name x) refl m (place_there names name (suc n))
-
-get_map : {A B : Type 0} (f : A → B) (xs : List A) (i : ℕ) (a : A) → slice_get xs i ≡ Some a → slice_get (map f xs) i ≡ Some (f a)
-get_map f [] i a e = absurd (cc)
-get_map f (x ∷ xs) zero a e = let same : x ≡ a = cc in ap (λ z. Some (f z)) same
-get_map f (x ∷ xs) (suc i) a e = get_map f xs i a e
 
 parent_at : {B : Type 0} (f : List ℕ → B) (names : List (List ℕ)) (name : List ℕ) → Mem name names → slice_get (map f names) (place_of names name) ≡ Some (f name)
 parent_at f names name m =

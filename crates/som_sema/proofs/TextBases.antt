@@ -8,7 +8,8 @@ use Rattle.som_model.specs.Rules.{RuleBreach, s2}
 use Rattle.som_model.specs.declared.key.Module.{Module}
 use Rattle.som_model.specs.declared.key.ClassKey.{ClassKey}
 use Rattle.som_model_laws.proofs.Members.{mem_left, mem_right, mem_split}
-use Rattle.som_verify_classes.proofs.Before.{both_none, mem_every, none_both}
+use Rattle.som_model_laws.proofs.Lists.{mem_every}
+use Rattle.som_verify_classes.proofs.Before.{both_none, none_both}
 use Rattle.som_verify_classes.proofs.Owners.{flat_none}
 use Rattle.som_verify_classes.proofs.PlainLists.{map_mem}
 use Rattle.som_verify_classes.proofs.PlainNames.{demand_none}

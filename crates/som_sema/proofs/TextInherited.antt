@@ -14,6 +14,7 @@ use Rattle.som_model.specs.Rules.{RuleBreach}
 use Rattle.som_model.proofs.KeyLaws.{both, exact_keys}
 use Rattle.som_model_laws.proofs.Laws.{among_mem, descends_test}
 use Rattle.som_model_laws.proofs.Members.{find_first, first_find, mem_without, without_fails, without_mem}
+use Rattle.som_model_laws.proofs.Lists.{flat_mem, mem_flat}
 use Rattle.som_model.proofs.NamedLaws.{hierarchy_same}
 use Rattle.som_ast.specs.declared.words.Word.{Word}
 use Rattle.som_ast.specs.declared.interface.Modifier.{Modifier}
@@ -26,7 +27,6 @@ use Rattle.som_verify_classes.proofs.Owners.{flat_none}
 use Rattle.som_verify_classes.proofs.Passes.{first_both, tells_first}
 use Rattle.som_verify_classes.proofs.PlainLists.{none_flat}
 use Rattle.som_verify_classes.proofs.PlainMembers.{both_true}
-use Rattle.som_verify_classes.proofs.PlainMoves.{flat_mem, mem_flat}
 use Rattle.som_sema_scope.specs.ClassNames.{key_of}
 use Rattle.som_sema_drafts.specs.declared.drafts.Draft.{Draft}
 use Rattle.som_sema_drafts.specs.Items.{Chosen, Given, chosen, chosen_by, chosen_in, given, if_given, is_override, or_object, overridden, replaced, selecting, with_modifier}

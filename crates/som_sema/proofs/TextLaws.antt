@@ -1,5 +1,5 @@
 -- From lists of breaches to plain words and back.
-use Rattle.std.proofs.Common.{◌≡◌, ◌↔◌, ℕ, zero, suc, ◌+◌, inl, inr, ◌⊎◌, Bool, true, false, not, ◌&&◌, if◌then◌else◌, List, [], ◌∷◌, ◌++◌, map, flat_map, take, Some, None, slice_get, refl, sym, ap, ◌∙◌, subst, arith, true≢false}
+use Rattle.std.proofs.Common.{◌≡◌, ◌↔◌, ℕ, zero, suc, ◌+◌, inl, inr, ◌⊎◌, Bool, true, false, not, ◌&&◌, if◌then◌else◌, List, [], ◌∷◌, ◌++◌, map, flat_map, take, Some, None, slice_get, refl, sym, ap, ◌∙◌, subst, arith}
 use Rattle.std.specs.Prelude.{codes}
 use Rattle.std.specs.Str.{bytes_eq}
 use Rattle.som_model.specs.declared.key.Module.{Module}
@@ -11,8 +11,10 @@ use Rattle.som_model.specs.Classes.{hierarchy, is_a}
 use Rattle.som_model.specs.Kernel.{som_class}
 use Rattle.som_model.proofs.KeyLaws.{both, exact_bytes, exact_keys}
 use Rattle.som_model.proofs.NamedLaws.{hierarchy_same}
+use Rattle.som_model.proofs.ListLaws.{is_false}
 use Rattle.som_model_laws.proofs.Laws.{among_mem, descends_test}
 use Rattle.som_model_laws.proofs.Members.{mem_left, mem_right, mem_split}
+use Rattle.som_model_laws.proofs.Lists.{flat_mem, mem_flat}
 use Rattle.som_ast.specs.declared.words.Word.{Word}
 use Rattle.som_ast.specs.declared.interface.Item.{Item}
 use Rattle.som_ast.specs.declared.interface.Item.TheVariants as items
@@ -23,7 +25,6 @@ use Rattle.som_model_laws.specs.Once.{add_new, adds}
 use Rattle.som_verify_classes.proofs.Before.{both_none, none_both}
 use Rattle.som_verify_classes.proofs.Owners.{flat_none}
 use Rattle.som_verify_classes.proofs.PlainLists.{apart_by, apart_differ, by_apart, differ_apart, map_mem, map_none, mem_map, none_flat, none_map}
-use Rattle.som_verify_classes.proofs.PlainMoves.{flat_mem, mem_flat}
 use Rattle.som_verify_classes.proofs.PlainNames.{among_known, known_among}
 use Rattle.som_sema_scope.specs.ClassNames.{key_of}
 use Rattle.som_sema_drafts.specs.Items.{Given, given, is_call, is_override, is_select, item_words, listed, metaclass_in, metaclass_names, or_object, replaced, with_modifier}
@@ -173,10 +174,6 @@ allowed : (b : Bool) (x : List ℕ) → first (if b then [] else x ∷ []) ≡ N
 allowed true x e = refl
 allowed false x e = absurd (cc)
 
-new_name : (b : Bool) → not b ≡ true → b ≡ false
-new_name true e = absurd (true≢false (sym e))
-new_name false e = refl
-
 one_double : (b : Bool) (x : List ℕ) (before ys : List (List ℕ)) → (if b then x ∷ doubles bytes_eq before ys else doubles bytes_eq (before ++ x ∷ []) ys) ≡ [] → (b ≡ false) × (doubles bytes_eq (before ++ x ∷ []) ys ≡ [])
 one_double true x before ys e = absurd (cc)
 one_double false x before ys e = (refl, e)
@@ -206,7 +203,7 @@ placed_by modifiers.Override own known before x gs f e =
     let p = none_both (if not (among x before.replaced) then [] else x ∷ []) (misplaced own known (said_one x modifiers.Override before) gs) e in
     let r = f (said_one x modifiers.Override before) p.1 in
     record {
-      once_replaced = no_double x before.replaced (with_modifier is_override gs) (new_name (among x before.replaced) (allowed (not (among x before.replaced)) x p.0)) r.once_replaced;
+      once_replaced = no_double x before.replaced (with_modifier is_override gs) (is_false (among x before.replaced) (allowed (not (among x before.replaced)) x p.0)) r.once_replaced;
       once_called = r.once_called;
       once_selecting = r.once_selecting;
       introduced = r.introduced;
@@ -218,7 +215,7 @@ placed_by modifiers.NameLookup own known before x gs f e =
     let r = f (said_one x modifiers.NameLookup before) p.1 in
     record {
       once_replaced = r.once_replaced;
-      once_called = no_double x before.called (with_modifier is_call gs) (new_name (among x before.called) q.1) r.once_called;
+      once_called = no_double x before.called (with_modifier is_call gs) (is_false (among x before.called) q.1) r.once_called;
       once_selecting = r.once_selecting;
       introduced = λ name m. elim m [ inl is ↦ subst (λ z. among z own ≡ true) (sym is) q.0 | inr n ↦ r.introduced name n ];
       replaced = r.replaced;
@@ -229,7 +226,7 @@ placed_by modifiers.Offset own known before x gs f e =
     let r = f (said_one x modifiers.Offset before) p.1 in
     record {
       once_replaced = r.once_replaced;
-      once_called = no_double x before.called (with_modifier is_call gs) (new_name (among x before.called) q.1) r.once_called;
+      once_called = no_double x before.called (with_modifier is_call gs) (is_false (among x before.called) q.1) r.once_called;
       once_selecting = r.once_selecting;
       introduced = λ name m. elim m [ inl is ↦ subst (λ z. among z own ≡ true) (sym is) q.0 | inr n ↦ r.introduced name n ];
       replaced = r.replaced;
@@ -241,7 +238,7 @@ placed_by (modifiers.Select parent) own known before x gs f e =
     record {
       once_replaced = r.once_replaced;
       once_called = r.once_called;
-      once_selecting = no_double x before.selecting (with_modifier is_select gs) (new_name (among x before.selecting) q.1) r.once_selecting;
+      once_selecting = no_double x before.selecting (with_modifier is_select gs) (is_false (among x before.selecting) q.1) r.once_selecting;
       introduced = r.introduced;
       replaced = λ name m. elim m [ inl is ↦ subst (λ z. among z known ≡ true) (sym is) q.0 | inr n ↦ r.replaced name n ];
     }

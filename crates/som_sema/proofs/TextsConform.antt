@@ -1,5 +1,6 @@
 -- Texts that break none of the rules S1 to S12 declare classes that break none of the rules S1 to S10.
 use Rattle.std.proofs.Common.{◌≡◌, ℕ, inl, inr, List, [], ◌∷◌, ◌++◌, length, map, flat_map, take, drop, Option, None, refl, sym, ap, ◌∙◌, append_assoc}
+use Rattle.std.proofs.lemmas.List.{map-append}
 use Rattle.som_model.specs.declared.key.Module.{Module}
 use Rattle.som_model.specs.declared.key.Module.TheVariants as modules
 use Rattle.som_model.specs.declared.key.ClassKey.{ClassKey}
@@ -29,6 +30,7 @@ use Rattle.som_verify_classes.proofs.PlainMoves.{lower}
 use Rattle.som_verify_classes.proofs.PlainNames.{among_known, known_among, names_say, parents_say}
 use Rattle.som_verify_classes.proofs.Outlines.{outline, same_bases, same_descent, same_known, same_names, same_parents}
 use Rattle.som_model.specs.declared.class.Select.{Select}
+use Rattle.som_model.proofs.ListLaws.{take_front, drop_front}
 use Rattle.som_sema_decls.specs.Known.{after_base}
 use Rattle.som_sema.specs.Building.{declarations, declared_all, draft_rules_breach, items_breach, module_over, moved_breach, draft_breach, selecting_declarations, texts_breach}
 use Rattle.som_sema_decls.specs.Finished.{place_of, select_of, selects_at}
@@ -43,18 +45,6 @@ use Rattle.som_sema.proofs.BaseKept.{AreClosed, base_closed, s4_more, s8_more}
 use Rattle.som_sema.proofs.BaseLaws.{base_moves, base_names, base_stands, moves_more, own_first}
 use Rattle.som_sema.proofs.OwnClasses.{own_outlines, own_s4, own_s6, own_s7, own_types}
 use Rattle.som_sema.proofs.TextBases.{are_drafts, texts_stand}
-
-map_both : {A B : Type 0} (f : A → B) (xs ys : List A) → map f (xs ++ ys) ≡ map f xs ++ map f ys
-map_both f [] ys = refl
-map_both f (x ∷ xs) ys = ap (λ z. f x ∷ z) (map_both f xs ys)
-
-take_front : {A : Type 0} (xs ys : List A) → take (length xs) (xs ++ ys) ≡ xs
-take_front [] ys = refl
-take_front (x ∷ xs) ys = ap (λ z. x ∷ z) (take_front xs ys)
-
-drop_front : {A : Type 0} (xs ys : List A) → drop (length xs) (xs ++ ys) ≡ ys
-drop_front [] ys = refl
-drop_front (x ∷ xs) ys = drop_front xs ys
 
 -- a rule of the first classes and of those after them
 join_none : (rule : Class → List RuleBreach) (xs ys : List Class) → first (flat_map rule xs) ≡ None → first (flat_map rule ys) ≡ None → first (flat_map rule (xs ++ ys)) ≡ None
@@ -186,7 +176,7 @@ module _ (module_of : List ℕ → Module) (m : Module) (i : Interface) (ds : Li
   based = base_holds base conforms
 
   same : map outline all ≡ map outline finished
-  same = map_both outline base own ∙ ap (λ z. map outline base ++ z) (own_outlines (with_kernel all) m ds) ∙ sym (map_both outline base done)
+  same = map-append outline base own ∙ ap (λ z. map outline base ++ z) (own_outlines (with_kernel all) m ds) ∙ sym (map-append outline base done)
 
   same_all : map outline (with_kernel all) ≡ map outline (with_kernel finished)
   same_all = ap (λ z. map outline kernel ++ z) same
@@ -276,7 +266,7 @@ module _ (module_of : List ℕ → Module) (m : Module) (i : Interface) (ds : Li
   full = base ++ selected
 
   same_full : map outline all ≡ map outline full
-  same_full = map_both outline base own ∙ ap (λ z. map outline base ++ z) (same_outlines module_of m base ds are.by chosen_by_texts ds) ∙ sym (map_both outline base selected)
+  same_full = map-append outline base own ∙ ap (λ z. map outline base ++ z) (same_outlines module_of m base ds are.by chosen_by_texts ds) ∙ sym (map-append outline base selected)
 
   full_declared : AreDeclared full
   full_declared = record {

@@ -13,6 +13,7 @@ use Rattle.som_model.specs.Class.{introduced}
 use Rattle.som_model.specs.Lists.{Mem, among, without}
 use Rattle.som_model_laws.proofs.Laws.{among_mem}
 use Rattle.som_model_laws.proofs.Members.{mem_left, mem_right, mem_split}
+use Rattle.som_model_laws.proofs.Lists.{flat_mem, mem_flat}
 use Rattle.som_ast.specs.declared.words.TypeName.{TypeName}
 use Rattle.som_ast.specs.declared.words.Word.{Word}
 use Rattle.som_ast.specs.declared.interface.IdlInterface.{IdlInterface}
@@ -23,7 +24,6 @@ use Rattle.som_ast.specs.declared.interface.Item.TheVariants as items
 use Rattle.som_ast.specs.declared.interface.Modifier.{Modifier}
 use Rattle.som_ast.specs.declared.interface.Modifier.TheVariants as modifiers
 use Rattle.som_verify_classes.proofs.PlainLists.{map_mem, mem_map}
-use Rattle.som_verify_classes.proofs.PlainMoves.{flat_mem, mem_flat}
 use Rattle.som_sema_scope.specs.ClassNames.{result_of, type_of}
 use Rattle.som_sema_drafts.specs.Items.{Given, by_name, given, given_in, if_given, is_by_name, with_modifier}
 use Rattle.som_sema_drafts.specs.Drafts.{accessors, export_entries, introduces, method, way_of}

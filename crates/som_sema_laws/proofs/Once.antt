@@ -5,10 +5,10 @@ use Rattle.std.specs.Prelude.{codes, unwrap_or}
 use Rattle.som_model.specs.declared.key.Module.{Module}
 use Rattle.som_model.specs.Lists.{Mem, first, first_some}
 use Rattle.som_model_laws.proofs.Members.{Apart, first_none}
+use Rattle.som_model_laws.proofs.Lists.{mem_flat}
 use Rattle.som_ast.specs.declared.words.Word.{Word}
 use Rattle.som_ast.specs.declared.interface.Item.{Item}
 use Rattle.som_ast.specs.declared.interface.Item.TheVariants as items
-use Rattle.som_verify_classes.proofs.PlainMoves.{mem_flat}
 use Rattle.som_sema_scope.specs.ClassNames.{key_of}
 use Rattle.som_sema_scope.specs.Words.{words}
 use Rattle.som_sema_drafts.specs.Items.{item_words, listed, major_in, metaclass_names, minor_in, number_of, word_in}

@@ -2,6 +2,7 @@
 use Rattle.std.proofs.Common.{◌≡◌, ℕ, zero, suc, ◌+◌, ◌<◌, inl, inr, Bool, true, false, not, if◌then◌else◌, List, [], ◌∷◌, ◌++◌, length, take, slice_get, slice_index_or, Option, Some, None, is_some, refl, sym, ap, ◌∙◌, subst, arith, length-append, true≢false}
 use Rattle.std.proofs.lemmas.Bool.{cases_lt}
 use Rattle.std.proofs.lemmas.Option.{slice_get-get_or}
+use Rattle.std.proofs.lemmas.List.{map-append}
 use Rattle.std.specs.Str.{bytes_eq}
 use Rattle.som_model.specs.Lists.{among, or_else}
 use Rattle.som_model.specs.Class.{entry_name, entry_of}
@@ -10,7 +11,6 @@ use Rattle.som_model.proofs.KeyLaws.{exact_bytes}
 use Rattle.som_order.specs.Names.{name_at}
 use Rattle.som_model_laws.proofs.Members.{both_or_none}
 use Rattle.som_verify_classes.proofs.Doubled.{take_last}
-use Rattle.som_verify_classes.proofs.Numbering.{map_append}
 use Rattle.som_sema_names.specs.Noted.{At, Know, all_at, at, counted, first_place}
 use Rattle.som_sema_names.specs.declared.places.Noted.{Noted}
 
@@ -111,7 +111,7 @@ pub know_none : Know [] [] []
 know_none = record { long = refl; found = λ i lt. absurd (omega (arith, lt)); same = λ name. refl }
 
 pub all_more : (all : List Noted) (i : ℕ) (d : Noted) → i < length all → all_at (take (i + 1) all) ≡ all_at (take i all) ++ at (slice_index_or all i d) ∷ []
-all_more all i d lt = ap all_at (take_last all i d lt) ∙ map_append at (take i all) (slice_index_or all i d ∷ [])
+all_more all i d lt = ap all_at (take_last all i d lt) ∙ map-append at (take i all) (slice_index_or all i d ∷ [])
 
 known_by : (b : Bool) → true ≡ not b → b ≡ false
 known_by true e = absurd (true≢false e)

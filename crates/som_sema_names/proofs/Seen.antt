@@ -1,7 +1,7 @@
 -- Names that are gathered with their places, one after the other.
 use Rattle.std.proofs.Common.{◌≡◌, ℕ, zero, suc, ◌+◌, ◌<◌, ◌≤◌, ◌==◌, inl, inr, Bool, true, false, not, if◌then◌else◌, List, [], ◌∷◌, ◌++◌, length, take, slice_index_or, slice_set, Result, Ok, Err, OnOk, refl, sym, ap, ◌∙◌, subst, arith, length-append, true≢false}
 use Rattle.std.proofs.lemmas.Bool.{cases_eq, cases_lt, eqb-true}
-use Rattle.std.proofs.lemmas.List.{append-nil, append_assoc, get_or-set_same, get_or-set_other, length-set, take_all}
+use Rattle.std.proofs.lemmas.List.{append-nil, append_assoc, get_or-set_same, get_or-set_other, length-set, take_all, map-append}
 use Rattle.std.proofs.Math.ListN.{get_or-append}
 use Rattle.std.proofs.Math.Seq.{get_or-append_seam}
 use Rattle.std.specs.Str.{bytes_eq}
@@ -17,7 +17,6 @@ use Rattle.som_order.specs.Names.{name_at}
 use Rattle.som_verify_classes.specs.Along.{introduced_at}
 use Rattle.som_verify_classes.specs.Places.{face_at}
 use Rattle.som_verify_classes.proofs.Doubled.{take_last}
-use Rattle.som_verify_classes.proofs.Numbering.{map_append}
 use Rattle.som_sema_names.specs.Introducers.{AreGathered, AreSeen, At, at_first, at_one, introduces, places_of, stands}
 
 -- ---- the places of a name
@@ -159,7 +158,7 @@ entry_more : (seen : List At) (place : ℕ) (es : List Entry) (i : ℕ) (e d : E
 entry_more seen place es i e d lt is =
     append_assoc seen (at_one place (introduced (take i es))) (at_one place (introduced (e ∷ [])))
     ∙ ap (λ z. seen ++ z) (
-    sym (map_append (λ (name : List ℕ). record { name = name; place = place }) (introduced (take i es)) (introduced (e ∷ [])))
+    sym (map-append (λ (name : List ℕ). record { name = name; place = place }) (introduced (take i es)) (introduced (e ∷ [])))
     ∙ ap (at_one place) (sym (introduced_both (take i es) (e ∷ [])) ∙ ap introduced (ap (λ x. take i es ++ x ∷ []) is ∙ sym (take_last es i d lt))))
 
 pub entry_new : (seen : List At) (place : ℕ) (es : List Entry) (i : ℕ) (e d : Entry) (x name : List ℕ) (names : List (List ℕ)) (places : List (List ℕ)) → i < length es → e ≡ slice_index_or es i d

@@ -24,6 +24,7 @@ use Rattle.som_semantics.specs.World.{searched, named_class}
 use Rattle.som_model.specs.Loads.{IsOrdered}
 use Rattle.som_model.proofs.KeyLaws.{both}
 use Rattle.som_model.proofs.NamedLaws.{out_named, hierarchy_same}
+use Rattle.som_model.proofs.ListLaws.{is_false}
 use Rattle.som_model_laws.proofs.Members.{firsts_mem, without_mem, mem_split, first_from}
 use Rattle.som_model_laws.proofs.Laws.{descends_through, descends_step}
 use Rattle.som_model_laws.specs.Metaclasses.{StandsLow}
@@ -68,10 +69,6 @@ type_there (v ∷ vs) (suc n) kind e = type_there vs n kind e
 abbrev entry_types : List Class → Class → Entry → List RuleBreach
 entry_types known c (entries.Introduced name sig way) = demand_of 5 c name (is_known known sig.result && every (is_value_type known) sig.params)
 entry_types known c (entries.Moved name to) = []
-
-not_void : (b : Bool) → not b ≡ true → b ≡ false
-not_void true e = sym e
-not_void false e = refl
 
 module _ (cs : List Class) (o : IsOrdered cs) where
   abbrev all : List Class
@@ -257,5 +254,5 @@ module _ (cs : List Class) (o : IsOrdered cs) where
     | inr m ↦ (let p = none_left (flat_map (entry_types all c) c.decl.face.entries) (flat_map (λ (v : Variable). demand_of 5 c v.name (is_value_type all v.kind)) c.decl.variables) (types_hold c m) in
         let v = map_mem (λ (v : Variable). v.kind) kind c.decl.variables (get_mem (map (λ (v : Variable). v.kind) c.decl.variables) n kind f) in
         let d = demanded_of 5 c v.0.name (is_value_type all v.0.kind) (flat_at (λ (v : Variable). demand_of 5 c v.name (is_value_type all v.kind)) c.decl.variables v.0 p.1 v.1) in
-        ap is_void v.2 ∙ not_void (is_void v.0.kind) (both (not (is_void v.0.kind)) (is_known all v.0.kind) d).0)
+        ap is_void v.2 ∙ is_false (is_void v.0.kind) (both (not (is_void v.0.kind)) (is_known all v.0.kind) d).0)
   ]

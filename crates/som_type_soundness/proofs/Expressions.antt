@@ -1,5 +1,5 @@
 -- Expressions that are well typed keep the objects typed and answer values of their types, and no test in them fails.
-use Rattle.std.proofs.Common.{◌≡◌, ℕ, zero, suc, inl, inr, Bool, true, false, not, ◌&&◌, nat_le, List, [], ◌∷◌, length, map, Option, Some, None, slice_get, Ok, refl, sym, ap, ◌∙◌, subst, true≢false}
+use Rattle.std.proofs.Common.{◌≡◌, ℕ, Bool, true, false, not, ◌&&◌, nat_le, List, [], ◌∷◌, length, map, Option, Some, None, slice_get, Ok, refl, sym, ap, ◌∙◌, subst, true≢false}
 use Rattle.std.specs.Prelude.{is_some}
 use Rattle.som_model.specs.declared.key.ClassKey.{ClassKey}
 use Rattle.som_model.specs.declared.key.MethodRef.{MethodRef}
@@ -29,6 +29,8 @@ use Rattle.som_model.specs.Typing.{ClassFacts, CodePlace, ExprType, Of, PlainNil
 use Rattle.som_model.specs.Typing as typing
 use Rattle.som_model.proofs.KeyLaws.{both}
 use Rattle.som_model.proofs.StepLaws.{went, held, same_answer, found}
+use Rattle.som_model.proofs.ListLaws.{is_false}
+use Rattle.som_model_laws.proofs.Lists.{get_mem}
 use Rattle.som_type_soundness.specs.Values.{is_there, is_value, has_type, have_types, are_of_one_kind, is_long, unary_takes, binary_takes}
 use Rattle.som_type_soundness.specs.Heaps.{AreTyped}
 use Rattle.som_type_soundness.specs.Preserving.{IsOf}
@@ -55,15 +57,6 @@ proper_in w (Some c) k = not (same_key k c.key) && w.is_a c.key k
 
 abbrev variables_in : Option Instance → Variables
 variables_in o = elim o [ None ↦ (λ k n. Nil) | Some t ↦ t.variables ]
-
-is_false : (b : Bool) → not b ≡ true → b ≡ false
-is_false true e = sym e
-is_false false e = refl
-
-pub get_mem : {A : Type 0} (xs : List A) (i : ℕ) (x : A) → slice_get xs i ≡ Some x → Mem x xs
-get_mem [] i x e = absurd (let z = e in cc)
-get_mem (y ∷ ys) zero x e = let same : y ≡ x = cc in inl (sym same)
-get_mem (y ∷ ys) (suc i) x e = inr (get_mem ys i x e)
 
 module _ (w : World) where
   there_one : (h : Heap) (t : ValueType) (v : Value) → has_type w h t v ≡ true → is_value w h v ≡ true

@@ -40,7 +40,7 @@ use Rattle.som_model.proofs.KeyLaws.{both, exact_keys}
 use Rattle.som_model.proofs.NamedLaws.{hierarchy_parents}
 use Rattle.som_model_laws.proofs.Laws.{ancestors as ancestors_are}
 use Rattle.som_model_laws.proofs.Members.{mem_split, some_mem}
-use Rattle.som_model_laws.proofs.Lists.{map_mem}
+use Rattle.som_model_laws.proofs.Lists.{map_mem, flat_mem}
 use Rattle.som_model_laws.proofs.Standing.{falls, found_is, parents_known, rolled, tells}
 use Rattle.som_model_laws.proofs.Owners.{entry_is, entry_mem}
 use Rattle.som_release_laws.proofs.Facing.{tests}
@@ -152,13 +152,6 @@ kernel_overrides c (inr (inr (inr (inr m)))) = absurd m
 signed_entry : (q : Option Entry) (s : Sig) → introduced_sig q ≡ Some s → (e : Entry) × (q ≡ Some e) × (introduced_sig (Some e) ≡ Some s)
 signed_entry None s f = absurd (let z = f in cc)
 signed_entry (Some e) s f = (e, refl, f)
-
-flat_mem : {A B : Type 0} (f : A → List B) (b : B) (xs : List A) → Mem b (flat_map f xs) → (a : A) × Mem a xs × Mem b (f a)
-flat_mem f b [] m = absurd m
-flat_mem f b (x ∷ xs) m = elim (mem_split b (f x) (flat_map f xs) m) [
-  | inl k ↦ (x, inl refl, k)
-  | inr k ↦ (let r = flat_mem f b xs k in (r.0, inr r.1, r.2))
-]
 
 module _ (cs : List Class) (main : Block) (l : Loads cs main) where
   abbrev all : List Class

@@ -1,5 +1,5 @@
 -- What a rule that looks at the classes before each class says of every class.
-use Rattle.std.proofs.Common.{◌≡◌, ℕ, zero, suc, ◌<◌, arith, inl, inr, Bool, true, false, if◌then◌else◌, List, [], ◌∷◌, ◌++◌, length, take, Some, None, is_some, slice_index_or, refl, sym, ap, ◌∙◌, subst, true≢false, append_assoc, slice_get}
+use Rattle.std.proofs.Common.{◌≡◌, ℕ, zero, suc, ◌<◌, arith, inl, inr, Bool, true, false, if◌then◌else◌, List, [], ◌∷◌, ◌++◌, length, take, Some, None, is_some, slice_index_or, refl, sym, ap, ◌∙◌, subst, append_assoc, slice_get}
 use Rattle.std.proofs.lemmas.List.{append-nil}
 use Rattle.std.proofs.lemmas.Option.{slice_get-get_or}
 use Rattle.som_model.specs.Lists.{Mem, first, find, some, every, option_list}
@@ -12,6 +12,7 @@ use Rattle.som_model.specs.Rules.{RuleBreach, demand, s2}
 use Rattle.som_model.specs.declared.key.ClassKey.{ClassKey}
 use Rattle.som_model.proofs.KeyLaws.{exact_keys}
 use Rattle.som_model_laws.proofs.Members.{mem_left, mem_right, mem_split, mem_some, some_mem}
+use Rattle.som_model_laws.proofs.Lists.{every_mem, mem_every}
 use Rattle.som_verify_classes.specs.declared.types.Declared.{Declared}
 use Rattle.som_verify_classes.specs.Modules.{class_of, classes_of}
 use Rattle.som_verify_classes.specs.Places.{with_kernel}
@@ -40,20 +41,6 @@ after_says rule k (x ∷ cs) e (suc i) c at =
 pub demanded : (n : ℕ) (c : Class) (b : Bool) → first (demand n c b) ≡ None → b ≡ true
 demanded n c true e = refl
 demanded n c false e = cc
-
-every_by : {A : Type 0} (test : A → Bool) (x a : A) (xs : List A) (b : Bool) → test x ≡ b → (every test xs ≡ true → Mem a xs → test a ≡ true)
-    → (if b then every test xs else false) ≡ true → Mem a (x ∷ xs) → test a ≡ true
-every_by test x a xs true t f e (inl is) = ap test is ∙ t
-every_by test x a xs true t f e (inr m) = f e m
-every_by test x a xs false t f e m = absurd (true≢false (sym e))
-
-pub every_mem : {A : Type 0} (test : A → Bool) (a : A) (xs : List A) → every test xs ≡ true → Mem a xs → test a ≡ true
-every_mem test a [] e m = absurd m
-every_mem test a (x ∷ xs) e m = every_by test x a xs (test x) refl (every_mem test a xs) e m
-
-pub mem_every : {A : Type 0} (test : A → Bool) (xs : List A) → ((a : A) → Mem a xs → test a ≡ true) → every test xs ≡ true
-mem_every test [] f = refl
-mem_every test (x ∷ xs) f = let here : test x ≡ true = f x (inl refl) in rw here (mem_every test xs (λ a m. f a (inr m)))
 
 find_some : {A : Type 0} (test : A → Bool) (xs : List A) → is_some (find test xs) ≡ some test xs
 find_some test [] = refl

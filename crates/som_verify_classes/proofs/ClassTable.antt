@@ -1,7 +1,7 @@
 -- The names of classes by their places.
 use Rattle.std.proofs.Common.{◌≡◌, ℕ, zero, suc, ◌+◌, ◌<◌, ◌≤◌, inl, inr, Bool, true, false, not, if◌then◌else◌, List, [], ◌∷◌, ◌++◌, map, length, take, drop, Some, None, slice_index_or, codes, refl, sym, ap, ◌∙◌, subst, arith, true≢false, append_assoc, length-append}
 use Rattle.std.proofs.lemmas.Bool.{cases_lt}
-use Rattle.std.proofs.lemmas.List.{append-nil}
+use Rattle.std.proofs.lemmas.List.{append-nil, map-append}
 use Rattle.std.proofs.Math.ListN.{get_or-append}
 use Rattle.std.proofs.Math.Seq.{get_or-append_seam}
 use Rattle.std.specs.Str.{bytes_eq}
@@ -44,12 +44,8 @@ after_more rule k cs i c lt =
     ∙ first_both (rule (front k cs i) (slice_index_or cs i c)) _
     ∙ ap (λ z. or_else (first (rule (front k cs i) (slice_index_or cs i c))) (first (each_after rule z (drop (i + 1) cs)))) (sym (front_more k cs i c lt))
 
-map_append : {A B : Type 0} (f : A → B) (xs ys : List A) → map f (xs ++ ys) ≡ map f xs ++ map f ys
-map_append f [] ys = refl
-map_append f (x ∷ xs) ys = ap (λ z. f x ∷ z) (map_append f xs ys)
-
 names_more : (k : List Class) (cs : List Class) (i : ℕ) (c : Class) → i < length cs → map name_of (front k cs (i + 1)) ≡ map name_of (front k cs i) ++ (slice_index_or cs i c).decl.face.name ∷ []
-names_more k cs i c lt = ap (map name_of) (front_more k cs i c lt) ∙ map_append name_of (front k cs i) (slice_index_or cs i c ∷ [])
+names_more k cs i c lt = ap (map name_of) (front_more k cs i c lt) ∙ map-append name_of (front k cs i) (slice_index_or cs i c ∷ [])
 
 -- the names noted are those of the classes k and of the first i after them, none of which breaks S1
 pub record NamesSoFar (k : List Class) (cs : List Class) (i : ℕ) (names : List (List ℕ)) : Type 0 where
@@ -129,7 +125,7 @@ once_after : (before cs : List Class) → AreOnce (map name_of before) → first
 once_after before [] once e = subst (λ z. AreOnce (map name_of z)) (sym (append-nil before)) once
 once_after before (c ∷ cs) once e =
     let r = if_demand (among (name_of c) (map name_of before)) (breach 1 c (codes "-")) (each_after s1 (before ++ c ∷ []) cs) e in
-    let more = once_after (before ++ c ∷ []) cs (subst AreOnce (sym (map_append name_of before (c ∷ []))) (once_more (map name_of before) (name_of c) once r.0)) r.1 in
+    let more = once_after (before ++ c ∷ []) cs (subst AreOnce (sym (map-append name_of before (c ∷ []))) (once_more (map name_of before) (name_of c) once r.0)) r.1 in
     subst (λ z. AreOnce (map name_of z)) (append_assoc before (c ∷ []) cs) more
 
 kernel_once : AreOnce (map name_of kernel)

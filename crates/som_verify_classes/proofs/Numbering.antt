@@ -1,21 +1,15 @@
 -- Two hierarchies of which one numbers the other have the same ancestors, in one order.
 use Rattle.std.proofs.Common.{◌≡◌, ℕ, zero, suc, inl, inr, Bool, true, false, if◌then◌else◌, List, [], ◌∷◌, ◌++◌, map, refl, sym, ap, ◌∙◌, subst}
+use Rattle.std.proofs.lemmas.List.{map-append}
 use Rattle.som_model.specs.Lists.{Mem, without, firsts, joined}
 use Rattle.som_model.specs.Hierarchy.{Hierarchy}
 use Rattle.som_model.specs.Ancestors.{anc_within, anc}
+use Rattle.som_model.proofs.ListLaws.{map_map}
 use Rattle.som_model_laws.proofs.Members.{firsts_mem, joined_mem, map_on}
-
-pub map_append : {A B : Type 0} (f : A → B) (xs ys : List A) → map f (xs ++ ys) ≡ map f xs ++ map f ys
-map_append f [] ys = refl
-map_append f (x ∷ xs) ys = ap (λ z. f x ∷ z) (map_append f xs ys)
 
 map_joined : {A B : Type 0} (f : A → B) (xss : List (List A)) → map f (joined xss) ≡ joined (map (map f) xss)
 map_joined f [] = refl
-map_joined f (xs ∷ xss) = map_append f xs (joined xss) ∙ ap (λ z. map f xs ++ z) (map_joined f xss)
-
-map_map : {A B C : Type 0} (f : B → C) (g : A → B) (xs : List A) → map f (map g xs) ≡ map (λ x. f (g x)) xs
-map_map f g [] = refl
-map_map f g (x ∷ xs) = ap (λ z. f (g x) ∷ z) (map_map f g xs)
+map_joined f (xs ∷ xss) = map-append f xs (joined xss) ∙ ap (λ z. map f xs ++ z) (map_joined f xss)
 
 map_if : {A B : Type 0} (f : A → B) (b c : Bool) (y : A) (ys : List A) (zs : List B) → b ≡ c → map f ys ≡ zs → map f (if b then ys else y ∷ ys) ≡ (if c then zs else f y ∷ zs)
 map_if f true c y ys zs e g = rw (sym e) g

@@ -13,11 +13,12 @@ use Rattle.som_model.specs.declared.class.Entry.{Entry}
 use Rattle.som_model.specs.declared.class.Entry.TheVariants as entries
 use Rattle.som_model.proofs.KeyLaws.{exact_bytes, both}
 use Rattle.som_model_laws.proofs.Members.{mem_right, mem_split, find_first}
+use Rattle.som_model_laws.proofs.Lists.{every_mem}
 use Rattle.som_verify_classes.specs.Places.{with_kernel, class_of_place, key_at, face_at, IsTable, Finds}
 use Rattle.som_verify_classes.specs.Inherited.{inherits, moved_entry, moved_to}
 use Rattle.som_verify_classes.proofs.Finding.{known_at_all, mem_place}
 use Rattle.som_verify_classes.proofs.KeyLists.{class_there, height_there}
-use Rattle.som_verify_classes.proofs.Before.{none_both, every_mem}
+use Rattle.som_verify_classes.proofs.Before.{none_both}
 
 pub flat_none : {A B : Type 0} (f : A → List B) (xs : List A) (x : A) → first (flat_map f xs) ≡ None → Mem x xs → first (f x) ≡ None
 flat_none f [] x e m = absurd m

@@ -1,6 +1,6 @@
 -- Lists of breaches that are empty, and what they say of the members.
 use Rattle.std.proofs.Common.{◌≡◌, ◌↔◌, ℕ, zero, suc, inl, inr, Bool, true, false, not, if◌then◌else◌, List, [], ◌∷◌, ◌++◌, map, flat_map, take, Some, None, slice_get, refl, sym, ap, ◌∙◌, subst, arith, append_assoc}
-use Rattle.std.proofs.lemmas.List.{append-nil}
+use Rattle.std.proofs.lemmas.List.{append-nil, map-append}
 use Rattle.std.specs.Str.{bytes_eq}
 use Rattle.som_model.specs.Lists.{Mem, first, doubles, some, among}
 use Rattle.som_model.specs.Class.{Class}
@@ -9,7 +9,6 @@ use Rattle.som_model.specs.Rules.{RuleBreach, name_of, s1}
 use Rattle.som_model.proofs.KeyLaws.{Exact}
 use Rattle.som_model_laws.proofs.Members.{mem_left, mem_right, mem_some, Apart, apart_doubles}
 use Rattle.som_verify_classes.specs.Plainly.{Differ}
-use Rattle.som_verify_classes.proofs.Numbering.{map_append}
 use Rattle.som_verify_classes.proofs.Before.{both_none}
 use Rattle.som_verify_classes.proofs.Owners.{flat_none}
 
@@ -123,4 +122,4 @@ pub s1_doubles : (before cs : List Class) → (first (each_after s1 before cs) �
 s1_doubles before [] = (λ e. refl, λ e. refl)
 s1_doubles before (c ∷ cs) =
     s1_by (among (name_of c) (map name_of before)) _ (each_after s1 (before ++ c ∷ []) cs) (name_of c) (doubles bytes_eq (map name_of before) (map name_of cs)) _
-    (subst (λ (z : List (List ℕ)). (first (each_after s1 (before ++ c ∷ []) cs) ≡ None) ↔ (doubles bytes_eq z (map name_of cs) ≡ [])) (map_append name_of before (c ∷ [])) (s1_doubles (before ++ c ∷ []) cs))
+    (subst (λ (z : List (List ℕ)). (first (each_after s1 (before ++ c ∷ []) cs) ≡ None) ↔ (doubles bytes_eq z (map name_of cs) ≡ [])) (map-append name_of before (c ∷ [])) (s1_doubles (before ++ c ∷ []) cs))

@@ -11,9 +11,10 @@ use Rattle.som_model.specs.declared.class.Entry.TheVariants as entries
 use Rattle.som_model.specs.declared.class.Sig.{Sig}
 use Rattle.som_model.specs.declared.class.Variable.{Variable}
 use Rattle.som_model.proofs.KeyLaws.{exact_bytes, both}
+use Rattle.som_model_laws.proofs.Lists.{every_mem, mem_every}
 use Rattle.som_verify_classes.specs.Typed.{sig_types, entry_types, variable_types}
 use Rattle.som_verify_classes.specs.Plainly.{IsNamed, IsValue, TypesKnown, EntriesDiffer, VariablesDiffer}
-use Rattle.som_verify_classes.proofs.Before.{none_both, both_none, every_mem, mem_every}
+use Rattle.som_verify_classes.proofs.Before.{none_both, both_none}
 use Rattle.som_verify_classes.proofs.Owners.{flat_none, demanded_of}
 use Rattle.som_verify_classes.proofs.PlainLists.{none_flat, each_says, says_each, none_map, map_none, apart_by, by_apart, apart_differ, differ_apart}
 use Rattle.som_verify_classes.proofs.PlainNames.{among_known, known_among}

@@ -21,11 +21,12 @@ use Rattle.som_model.proofs.KeyLaws.{Exact, exact_bytes, exact_keys, both}
 use Rattle.som_model.proofs.NamedLaws.{hierarchy_same}
 use Rattle.som_model_laws.proofs.Members.{mem_left, mem_right, mem_split, mem_some, some_mem, not_true, find_first, Apart}
 use Rattle.som_model_laws.proofs.Laws.{ancestors, ancestors_apart, descends_test}
+use Rattle.som_model_laws.proofs.Lists.{flat_mem, mem_flat, every_mem, mem_every}
 use Rattle.som_verify_classes.specs.Modules.{AreDeclared}
 use Rattle.som_verify_classes.specs.Places.{with_kernel, key_at, IsTable}
 use Rattle.som_verify_classes.specs.Inherited.{inherits, moved_entry, may_override, overridden, overrides_from, selects_from}
 use Rattle.som_verify_classes.specs.Plainly.{Introduces, IsAbove, NamesApart, ParentsBefore, MetaclassesDescend, EntriesDiffer, IntroducedOnce, MovedUp, OverridesInherited}
-use Rattle.som_verify_classes.proofs.Before.{none_both, both_none, demanded, every_mem, mem_every}
+use Rattle.som_verify_classes.proofs.Before.{none_both, both_none, demanded}
 use Rattle.som_verify_classes.proofs.ClassTable.{is_table}
 use Rattle.som_verify_classes.proofs.KeyLists.{class_there}
 use Rattle.som_verify_classes.proofs.Owners.{flat_none, demanded_of, entry_unknown, mem_middle}
@@ -173,15 +174,6 @@ apart_both [] ys o = (o, λ a m n. m)
 apart_both (x ∷ xs) ys o =
     let r = apart_both xs ys o.1 in
     (r.0, λ a m n. elim m [ inl e ↦ o.0 (subst (λ z. Mem z (xs ++ ys)) e (mem_right a xs ys n)) | inr k ↦ r.1 a k n ])
-
-pub flat_mem : {A B : Type 0} (f : A → List B) (b : B) (xs : List A) → Mem b (flat_map f xs) → (x : A) × Mem x xs × Mem b (f x)
-flat_mem f b [] m = absurd m
-flat_mem f b (x ∷ xs) m = elim (mem_split b (f x) (flat_map f xs) m) [ inl n ↦ (x, inl refl, n) | inr n ↦ (let r = flat_mem f b xs n in (r.0, inr r.1, r.2)) ]
-
-pub mem_flat : {A B : Type 0} (f : A → List B) (b : B) (x : A) (xs : List A) → Mem x xs → Mem b (f x) → Mem b (flat_map f xs)
-mem_flat f b x [] m n = absurd m
-mem_flat f b x (y ∷ xs) (inl e) n = mem_left b (f y) (flat_map f xs) (subst (λ z. Mem b (f z)) e n)
-mem_flat f b x (y ∷ xs) (inr m) n = mem_right b (f y) (flat_map f xs) (mem_flat f b x xs m n)
 
 flat_apart : {A B : Type 0} (f : A → List B) (xs : List A) → Apart xs → ((x : A) → Mem x xs → Apart (f x)) → ((x y : A) (b : B) → Mem x xs → Mem y xs → Mem b (f x) → Mem b (f y) → x ≡ y)
     → Apart (flat_map f xs)

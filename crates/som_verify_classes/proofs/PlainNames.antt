@@ -11,8 +11,9 @@ use Rattle.som_model.specs.Rules.{demand, name_of, s1, s2, s3}
 use Rattle.som_model.specs.declared.key.ClassKey.{ClassKey}
 use Rattle.som_model.proofs.KeyLaws.{exact_bytes, exact_keys}
 use Rattle.som_model_laws.proofs.Members.{mem_left, mem_right, mem_split, Apart, apart_doubles}
+use Rattle.som_model_laws.proofs.Lists.{every_mem, mem_every}
 use Rattle.som_verify_classes.specs.Plainly.{IsAmong, NamesApart, ParentsBefore, ParentsDiffer}
-use Rattle.som_verify_classes.proofs.Before.{after_says, demanded, every_mem, mem_every, known_mem, mem_known}
+use Rattle.som_verify_classes.proofs.Before.{after_says, demanded, known_mem, mem_known}
 use Rattle.som_verify_classes.proofs.PlainLists.{mem_map, map_mem, each_says, says_each, says_after, none_map, map_none, apart_by, fresh_by, apart_after, by_apart, apart_differ, differ_apart, s1_doubles}
 
 pub names_say : (cs : List Class) → first (each_after s1 kernel cs) ≡ None → NamesApart cs

@@ -1,5 +1,6 @@
 -- Statements by the types of their parts: where a part breaks a rule, and what a demand comes to.
 use Rattle.std.proofs.Common.{◌≡◌, ℕ, Bool, true, false, if◌then◌else◌, inl, inr, List, [], ◌∷◌, ◌++◌, Result, Ok, Err, refl, sym, ap, ◌∙◌, subst}
+use Rattle.std.proofs.lemmas.List.{map-append}
 use Rattle.som_model.specs.declared.key.ValueType.{ValueType}
 use Rattle.som_model.specs.Steps.{◌>>=◌}
 use Rattle.som_model.specs.Class.{Class}
@@ -12,7 +13,6 @@ use Rattle.som_verify_forms.specs.declared.code_place.TypeFault.TheVariants as f
 use Rattle.som_verify_forms.specs.Kinds.{AreTypes, Fails, IsType, Types, kind_at, type_at}
 use Rattle.som_verify_forms.specs.Scopes.{Keeps, Leaves, scope_at}
 use Rattle.som_model_laws.proofs.Members.{mem_split}
-use Rattle.som_verify_classes.proofs.Numbering.{map_append}
 
 -- a type that is wanted is that of a kind
 pub type_kind : (cs : List Class) (k : Kind) → IsType cs k → kind_at cs k ≡ Of (type_at cs k)
@@ -86,7 +86,7 @@ pub declares : (cs : List Class) (w : ClassFacts) (typed : Typed) (before after 
     → fits w (type_at cs wanted) (kind_at cs k) ≡ true → IsType cs wanted → AreTypes cs before → after ≡ before ++ wanted ∷ [] → Leaves cs (typed >>= var_scope w (scope_at cs before) kind) before after
 declares cs w typed before after kind k wanted e f is g stands types more = record {
   scope = var_by cs w typed (scope_at cs before) kind k true true e f (ap (λ z. fits w z (kind_at cs k)) (sym is) ∙ g)
-      ∙ ap (λ z. Ok (scope_at cs before ++ z ∷ [])) (sym is) ∙ ap (λ z. Ok z) (sym (map_append (type_at cs) before (wanted ∷ []))) ∙ ap (λ z. Ok (scope_at cs z)) (sym more);
+      ∙ ap (λ z. Ok (scope_at cs before ++ z ∷ [])) (sym is) ∙ ap (λ z. Ok z) (sym (map-append (type_at cs) before (wanted ∷ []))) ∙ ap (λ z. Ok (scope_at cs z)) (sym more);
   types = subst (λ z. AreTypes cs z) (sym more) (record {
     by = λ x m. elim (mem_split x before (wanted ∷ []) m) [
       | inl n ↦ types.by x n

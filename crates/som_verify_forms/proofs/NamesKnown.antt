@@ -18,11 +18,12 @@ use Rattle.som_model.specs.declared.class.Sig.{Sig}
 use Rattle.som_model.specs.declared.class.Way.{Way}
 use Rattle.som_model.specs.declared.class.Variable.{Variable}
 use Rattle.som_model_laws.proofs.Members.{find_first, mem_split, mem_left, mem_right}
+use Rattle.som_model_laws.proofs.Lists.{get_mem, every_mem, mem_every}
 use Rattle.som_verify_classes.specs.Faces.{classes_breach}
 use Rattle.som_verify_forms.specs.Knowing.{NamesKnown, sig_is_known}
 use Rattle.som_verify_classes.specs.Places.{class_of_place, face_at, nobody, with_kernel}
 use Rattle.som_verify_classes.specs.Plainly.{IsAmong, TypesKnown}
-use Rattle.som_verify_classes.proofs.Before.{every_mem, known_by_s2, mem_every, mem_known, none_both}
+use Rattle.som_verify_classes.proofs.Before.{known_by_s2, mem_known, none_both}
 use Rattle.som_verify_classes.proofs.Owners.{mem_middle}
 use Rattle.som_verify_classes.proofs.Conformity.{or_none}
 use Rattle.som_verify_classes.proofs.PlainMembers.{both_true, types_say}
@@ -64,11 +65,6 @@ placed cs (suc zero) lt = inl (inr (inl refl))
 placed cs (suc (suc zero)) lt = inl (inr (inr (inl refl)))
 placed cs (suc (suc (suc zero))) lt = inl (inr (inr (inr (inl refl))))
 placed cs (suc (suc (suc (suc i)))) lt = inr (i, omega arith, slice_get-get_or cs i nobody (omega arith))
-
-got_mem : {A : Type 0} (xs : List A) (i : ℕ) (x : A) → slice_get xs i ≡ Some x → Mem x xs
-got_mem [] i x e = absurd (cc)
-got_mem (y ∷ xs) zero x e = inl (cc)
-got_mem (y ∷ xs) (suc i) x e = inr (got_mem xs i x e)
 
 -- ---- types
 
@@ -145,11 +141,11 @@ names_known n cs e =
       signatures = λ p name sig lt e. (let r = introduced_at (face_at (with_kernel cs) p).entries name sig e in elim (placed cs p lt) [
         | inl m ↦ every_mem (entry_known (with_kernel cs)) (entries.Introduced r.0 sig r.1) (face_at (with_kernel cs) p).entries
             (every_mem (λ (c : Class). every (entry_known (with_kernel cs)) c.decl.face.entries) (class_of_place (with_kernel cs) p) kernel (kernel_entries (with_kernel cs) (class_known cs) (object_known cs)) m) r.2
-        | inr q ↦ declared_sig n cs base own (class_of_place (with_kernel cs) p) r.0 sig r.1 (got_mem cs q.0 (class_of_place (with_kernel cs) p) q.2) r.2
+        | inr q ↦ declared_sig n cs base own (class_of_place (with_kernel cs) p) r.0 sig r.1 (get_mem cs q.0 (class_of_place (with_kernel cs) p) q.2) r.2
       ]);
       variables = λ p i t lt e. (let r = kind_mem (class_of_place (with_kernel cs) p).decl.variables i t e in elim (placed cs p lt) [
         | inl m ↦ absurd (no_variables (class_of_place (with_kernel cs) p) r.0 m r.1)
-        | inr q ↦ subst (λ z. is_known (with_kernel cs) z ≡ true) r.2 (declared_variable n cs base own (class_of_place (with_kernel cs) p) r.0 (got_mem cs q.0 (class_of_place (with_kernel cs) p) q.2) r.1)
+        | inr q ↦ subst (λ z. is_known (with_kernel cs) z ≡ true) r.2 (declared_variable n cs base own (class_of_place (with_kernel cs) p) r.0 (get_mem cs q.0 (class_of_place (with_kernel cs) p) q.2) r.1)
       ]);
       parents = λ p k lt m. elim (placed cs p lt) [
         | inl q ↦ every_mem (λ k. is_some (class_at (with_kernel cs) k)) k (face_at (with_kernel cs) p).parents

@@ -6,6 +6,7 @@ use Rattle.std.proofs.lemmas.List.{append-nil}
 use Rattle.std.specs.Str.{bytes_eq}
 use Rattle.som_model.specs.Lists.{Mem, among, doubles, some}
 use Rattle.som_model.proofs.KeyLaws.{exact_bytes}
+use Rattle.som_model.proofs.ListLaws.{is_false}
 use Rattle.som_model_laws.proofs.Laws.{among_mem}
 use Rattle.som_model_laws.proofs.Members.{mem_left, mem_right, mem_split, some_mem, Apart}
 use Rattle.som_verify_rules.specs.Shared.{Twice, Covers}
@@ -53,10 +54,6 @@ second_time name done seen shared more again old is grown c =
     with_it true e = rw e ((among_mem name shared).0 e, λ n m. m)
     with_it false e = rw e (mem_right name shared (name ∷ []) (inl refl), λ n m. mem_left n shared (name ∷ []) m)
 
-not_true : (b : Bool) → not b ≡ true → b ≡ false
-not_true true e = absurd (true≢false (sym e))
-not_true false e = refl
-
 not_false : (b : Bool) → not b ≡ false → b ≡ true
 not_false true e = refl
 not_false false e = absurd (true≢false e)
@@ -65,7 +62,7 @@ not_false false e = absurd (true≢false e)
 pub seen_first : (name : List ℕ) (done seen shared more : List (List ℕ)) (new : Bool) → new ≡ not (among name seen) → more ≡ (if new then seen ++ name ∷ [] else seen) → new ≡ true
     → Covers done seen shared → Covers (done ++ name ∷ []) more shared
 seen_first name done seen shared more new is grown yes_ c =
-    first_time name done seen shared more (not_true (among name seen) (sym is ∙ yes_)) (grown ∙ ap (λ (b : Bool). if b then seen ++ name ∷ [] else seen) yes_) c
+    first_time name done seen shared more (is_false (among name seen) (sym is ∙ yes_)) (grown ∙ ap (λ (b : Bool). if b then seen ++ name ∷ [] else seen) yes_) c
 
 pub seen_again : (name : List ℕ) (done seen shared more again : List (List ℕ)) (new other : Bool) → new ≡ not (among name seen) → more ≡ (if new then seen ++ name ∷ [] else seen) → new ≡ false
     → other ≡ not (among name shared) → again ≡ (if other then shared ++ name ∷ [] else shared) → Covers done seen shared → Covers (done ++ name ∷ []) more again

@@ -1,8 +1,8 @@
 use Rattle.std.proofs.Common.{arith, inl, inr, sym, ap, ◌∙◌}
 use Rattle.som_model.specs.Rules.{is_known}
+use Rattle.som_model_laws.proofs.Lists.{every_mem}
 use Rattle.som_ast.specs.declared.words.Word.{Word}
 use Rattle.som_verify_forms.specs.Knowing.{all_of}
-use Rattle.som_verify_classes.proofs.Before.{every_mem}
 use Rattle.som_verify_forms.proofs.KindLists.{item_mem}
 use Rattle.som_elab_body.specs.declared.local.Local.{Local}
 use Rattle.som_elab_body.proofs.Parameters.{all_placed, named_like, one_placed}

@@ -1,6 +1,6 @@
 use Rattle.som_model.specs.Rules.{is_known}
+use Rattle.som_model_laws.proofs.Lists.{every_mem}
 use Rattle.som_verify_forms.specs.Knowing.{all_of}
-use Rattle.som_verify_classes.proofs.Before.{every_mem}
 use Rattle.som_verify_forms.proofs.KindLists.{item_mem, more_kinds, more_types}
 use Rattle.som_verify_forms.proofs.knowledge.kinds_of.Goals as goal
 
