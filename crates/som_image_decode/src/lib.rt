@@ -2,7 +2,7 @@
 //!
 //! A `Directory` is made of the classes in the order of their numbers; by it keys, methods and types are named
 //! (`specs/Naming.antt`), and blocks with all that stands in them (`specs/NamedBlocks.antt`). Whole classes are named above, in
-//! `som_classimage`, and the crate `som_numbering` goes back.
+//! `som_image_classes`, and the crate `som_image_encode` goes back.
 #![tactic(auto)]
 
 mod directory;

@@ -43,7 +43,7 @@ pub fn tests_law()
 {}
 
 /// Where classes can be loaded, a set of them that has the parents and the metaclass of each of its classes, and
-/// SOMObject and SOMClassMgr, has their hooks and the classes that answer for them: it is closed as `som_used` asks.
+/// SOMObject and SOMClassMgr, has their hooks and the classes that answer for them: it is closed as `specs/Needs.antt` asks.
 pub fn closed_law()
     ensures { (cs : List Class) (main : Block) (made : ClassKey → Bool) → Loads cs main →
         made som_object ≡ true → made som_class_mgr ≡ true →

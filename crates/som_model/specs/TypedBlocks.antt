@@ -9,7 +9,7 @@ use Rattle.som_model.specs.Steps.{◌>>=◌}
 use Rattle.som_model.specs.Blocks.{is_call}
 use Rattle.som_model.specs.Typing.{ClassFacts, CodePlace, ExprType, Of, Ruled, needs, there, value, expr_type, kind_is_known, fits, is_nothing, is_boolean, is_class, has_text, own_variable}
 
--- the types of the parameters and locals in scope; `Scope` of `som_scope` is of the names of classes instead
+-- the types of the parameters and locals in scope; `Scope` of `som_sema_scope` is of the names of classes instead
 abbrev pub Scope : Type 0
 Scope = List ValueType
 

@@ -9,7 +9,7 @@ ghost use Rattle.std.specs.Prelude.{◌≡◌, Bool, List, true};
 use som_model::ClassKey as Key;
 use som_tables::ClassNo;
 
-/// What values ask of the classes of a run, by their numbers; the classes themselves are the struct of `som_classes`.
+/// What values ask of the classes of a run, by their numbers; the classes themselves are the struct of `som_class_table`.
 pub trait Classes {
     /// The key that each number stands for.
     ghost keys: { Self → List ClassKey };

@@ -1,10 +1,10 @@
 //! Blocks, bodies and parts of images, with numbers for classes and methods: how each is spelled, read from left to right, and
 //! written.
 //!
-//! A reader is given all bytes and a place, as those of `som_fields`, and so many levels: a statement of a body has level 1,
+//! A reader is given all bytes and a place, as those of `som_image_fields`, and so many levels: a statement of a body has level 1,
 //! and what stands in a statement or an expression one more. Its clauses say three things: what it `found` stands there in its one
 //! spelling and fits; what stands there and fits is what `only` can be read; and the fault is `exact`ly the first one, which
-//! `specs/Reading.antt` finds on the way from left to right. A writer appends the one spelling of `som_spelling`.
+//! `specs/Reading.antt` finds on the way from left to right. A writer appends the one spelling of `som_image_fields`.
 //! After want of memory `out` is as it was.
 #![tactic(auto)]
 
