@@ -50,12 +50,12 @@ pub fn hooks_of<H: Ancestry>(
     known: &H,
     metaclass: ClassNo,
 ) -> Result<List<ClassNo>, NoMemory>
-    requires apart { AreApart (H.known known.now) }
-    requires numbered { IsNumbered (H.known known.now) metaclass }
+    requires { IsNumbered (H.known known.now) metaclass }
     ensures numbered { IfOk result (λ hooks. AreNumbered (H.known known.now) hooks) }
     ensures keys { IfOk result (λ hooks. map (key_at (H.known known.now)) hooks
         ≡ hooks_at (H.known known.now).classes (key_at (H.known known.now) metaclass)) }
 {
+    known.know();
     if known.is_a(metaclass, known.before_after()) {
         hooks_among(alloc, known, known.ancestors(metaclass).as_slice())
     } else {

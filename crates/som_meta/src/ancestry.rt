@@ -1,6 +1,6 @@
 //! What is asked of a hierarchy over class numbers: ancestors, descent, own bodies and introduced methods.
 
-ghost use Rattle.som_meta.specs.Numbering.{AreNumbered, IsNumbered, IsToken, Numbering, key_at, method_at, tokens_of};
+ghost use Rattle.som_meta.specs.Numbering.{AreApart, AreNumbered, IsNumbered, IsToken, Numbering, key_at, method_at, tokens_of};
 ghost use Rattle.som_model.specs.Classes.{ancestors as ancestors_of, is_a as descends};
 ghost use Rattle.som_model.specs.Implementation.{has_body as has_own_body, is_kernel as is_kernel_key};
 ghost use Rattle.som_model.specs.Kernel.{after_method, before_after as before_after_key, before_method};
@@ -13,6 +13,10 @@ use som_tables::{ClassNo, MToken};
 pub trait Ancestry {
     /// Its classes, and the key that each number stands for.
     ghost known: { Self → Numbering };
+
+    /// No two numbers stand for one class. It does nothing: it is called to have this fact.
+    fn know(&self)
+        ensures { AreApart (known self.now) };
 
     /// Whether a class is another or descends from it.
     fn is_a(&self, class: ClassNo, ancestor: ClassNo) -> bool

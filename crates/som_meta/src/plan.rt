@@ -1,6 +1,6 @@
 //! The choice of a metaclass: one that exists, or one that is to be derived from several.
 
-ghost use Rattle.som_meta.specs.Numbering.{AreApart, AreNumbered};
+ghost use Rattle.som_meta.specs.Numbering.{AreNumbered};
 ghost use Rattle.som_meta.specs.Planning.{chosen_key, constraints as constraints_of, plan_key, plan_of, planned};
 ghost use Rattle.std.specs.Prelude.{◌≡◌, IfOk};
 
@@ -36,11 +36,11 @@ pub fn metaclass_of<H: Ancestry>(
     declared: Option<ClassNo>,
     parent_metas: &List<ClassNo>,
 ) -> Result<MetaPlan, NoMemory>
-    requires apart { AreApart (H.known known.now) }
-    requires numbered { AreNumbered (H.known known.now) (constraints_of declared parent_metas.now) }
+    requires { AreNumbered (H.known known.now) (constraints_of declared parent_metas.now) }
     ensures plan { IfOk result (λ plan. plan ≡ plan_of (planned (H.known known.now) declared parent_metas.now)) }
     ensures meta { IfOk result (λ plan. plan_key (H.known known.now) plan ≡ chosen_key (H.known known.now) declared parent_metas.now) }
 {
+    known.know();
     let all = constraints(alloc, declared, parent_metas.as_slice())?;
     let once = each_once(alloc, all.as_slice())?;
     let lowest = lowest(alloc, known, once.as_slice())?;

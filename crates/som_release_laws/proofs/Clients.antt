@@ -13,24 +13,25 @@ use Rattle.som_model.specs.Conforming.{ProgramOk, ReleaseOk}
 use Rattle.som_model.specs.Counts.{ClassCounted, block_counted}
 use Rattle.som_model.specs.Loads.{Loads}
 use Rattle.som_model_laws.specs.Keeping.{ClassesKeep}
-use Rattle.som_release_laws.specs.Releasing.{HaveParents, IsCompiled, IsReleased}
+use Rattle.som_release_laws.specs.Releasing.{HaveParents, IsCompiled, IsReleased, OwnersAreKept}
 use Rattle.som_release_laws.proofs.Accepting.{release_keeps, release_ordered, to_last}
 use Rattle.som_release_laws.proofs.Binding.{binds, modules_apart}
+use Rattle.som_release_laws.proofs.KeptOwners.{once_kept}
 use Rattle.som_release_laws.proofs.Loading.{bodies, faces, inherited, main_typed, typed}
 use Rattle.som_release_laws.proofs.Prefix.{ordered}
-use Rattle.som_release_laws.proofs.Ruled.{compiled, released}
+use Rattle.som_release_laws.proofs.Ruled.{compiled, released, released_once}
 
-pub loaded : (olds news own : List Class) (main : Block) → IsCompiled olds own main → IsReleased news → ClassesKeep olds news → ((c d : Class) → Mem c news → Mem d own → c.key ≡ d.key → ⊥)
+pub loaded : (olds news own : List Class) (main : Block) → IsCompiled olds own main → IsReleased news → ClassesKeep olds news → OwnersAreKept olds news → ((c d : Class) → Mem c news → Mem d own → c.key ≡ d.key → ⊥)
     → length (news ++ own) ≤ MAX_LAID_CLASSES → ((c : Class) → Mem c (news ++ own) → ClassCounted c.decl) → block_counted main ≡ true → Loads (news ++ own) main
-loaded olds news own main c r keep apart few counted main_counted = record {
+loaded olds news own main c r keep kept apart few counted main_counted = record {
   few = few;
   counted = counted;
   main_counted = main_counted;
-  faces = faces olds news own main c r keep apart;
-  inherited = inherited olds news own main c r keep apart;
-  bodies = bodies olds news own main c r keep apart;
-  typed = typed olds news own main c r keep apart;
-  main_typed = main_typed olds news own main c r keep apart;
+  faces = faces olds news own main c r keep kept apart;
+  inherited = inherited olds news own main c r keep kept apart;
+  bodies = bodies olds news own main c r keep kept apart;
+  typed = typed olds news own main c r keep kept apart;
+  main_typed = main_typed olds news own main c r keep kept apart;
 }
 
 abbrev pub Kept : ClientProgram → Release → Type 0
@@ -42,7 +43,8 @@ client_kept p r ok r_ok have have_r e =
     let c = compiled p ok have in
     let d = released r r_ok have_r in
     let keep = release_keeps p.base r (ordered (interface_classes p.base) (client_classes p) c.faces.ordered) (release_ordered r r_ok) e in
-    (binds p r c d keep, loaded (interface_classes p.base) (library_classes r) (client_classes p) p.main c d keep (modules_apart r p))
+    let kept = once_kept (interface_classes p.base) (library_classes r) (client_classes p) c.faces d.faces keep (modules_apart r p) (released_once r r_ok) in
+    (binds p r c d keep kept, loaded (interface_classes p.base) (library_classes r) (client_classes p) p.main c d keep kept (modules_apart r p))
 
 at_end : (xs : List Release) (x : Release) → Mem x (xs ++ x ∷ [])
 at_end [] x = inl refl

@@ -16,18 +16,19 @@ use Rattle.som_model.specs.Classes.{hierarchy, is_a}
 use Rattle.som_model.specs.Kernel.{kernel}
 use Rattle.som_model.specs.Owner.{entry_at, introduces, owner}
 use Rattle.som_model.specs.Rules.{RuleBreach, demand_of, is_parent_below, is_proper, is_replaced_once, s10, s10_from, s10_selects}
-use Rattle.som_model.specs.Loads.{FacesLoad}
+use Rattle.som_model.specs.Loads.{FacesLoad, IsOrdered}
 use Rattle.som_model.proofs.KeyLaws.{Exact, both, exact_bytes, exact_keys}
 use Rattle.som_model.proofs.ListLaws.{map_map}
 use Rattle.som_model_laws.proofs.Members.{Apart, mem_left, mem_right, mem_split, mem_some, some_mem, not_true}
 use Rattle.som_model_laws.proofs.Laws.{descends_through}
 use Rattle.som_model_laws.proofs.Lists.{apart_both, map_mem, mem_map}
-use Rattle.som_model_laws.proofs.Owners.{owner_name, owner_stays, moved_to}
+use Rattle.som_model_laws.proofs.Owners.{entry_class, owner_name, owner_stays, moved_to}
 use Rattle.som_release_laws.specs.Growing.{Grows}
 use Rattle.som_release_laws.proofs.Facing.{demand_of_met, demanded_of, tested, tests}
 use Rattle.som_release_laws.proofs.Facts.{owner_above, proper_still}
 use Rattle.som_release_laws.proofs.Lists.{apart_left, apart_right, both_none, both_true, none_left}
 use Rattle.som_release_laws.proofs.OneOwner.{ref_one}
+use Rattle.som_release_laws.proofs.Prefix.{owner_same, some_entry}
 
 exact_methods : Exact same_method
 exact_methods = record {
@@ -145,44 +146,64 @@ parent_below : (cs : List Class) (a : ClassKey) (o : Option ClassKey) → is_par
 parent_below cs a None e = absurd (true≢false (sym e))
 parent_below cs a (Some p) e = (p, refl, e)
 
+-- a method whose owner is a proper ancestor and introduces it
+abbrev pub Takes : List Class → Class → MethodRef → Type 0
+Takes cs c m = (is_proper cs c (owner cs m).class ≡ true) × (introduces cs (owner cs m).name (owner cs m).class ≡ true)
+
+taken_entry : (cs : List Class) → FacesLoad cs → (c : Class) (m : MethodRef) → Takes (kernel ++ cs) c m → IsSome (entry_at (kernel ++ cs) m.class m.name)
+taken_entry cs f c m t = owned_entry (kernel ++ cs) m refl t.1 (λ name k e. owner_stays cs f.ordered k name e)
+
+-- methods of one owner among other classes have one owner: where no two ancestors introduce one name
+module _ (cs : List Class) (f : FacesLoad cs) (c : Class)
+    (once : (a b : ClassKey) (name : List ℕ) → Descends (hierarchy (kernel ++ cs)) c.key a → Descends (hierarchy (kernel ++ cs)) c.key b → introduces (kernel ++ cs) name a ≡ true → introduces (kernel ++ cs) name b ≡ true → a ≡ b) (others : List Class) where
+  abbrev S : List Class
+  S = kernel ++ cs
+
+  ancestor : (m : MethodRef) → Takes S c m → Descends (hierarchy S) c.key (owner S m).class
+  ancestor m t = tested cs f.ordered c.key (owner S m).class (both (not (same_key (owner S m).class c.key)) (is_a S c.key (owner S m).class) t.0).1
+
+  pub once_owner : (x y : MethodRef) → Takes S c x → Takes S c y → owner others x ≡ owner others y → owner S x ≡ owner S y
+  once_owner x y s t e =
+      let same : x.name ≡ y.name = sym (owner_name others _ x) ∙ ap (λ (z : MethodRef). z.name) e ∙ owner_name others _ y in
+      let names : (owner S x).name ≡ (owner S y).name = owner_name S _ x ∙ same ∙ sym (owner_name S _ y) in
+      ref_one (owner S x) (owner S y)
+      (once (owner S x).class (owner S y).class (owner S x).name (ancestor x s) (ancestor y t) s.1 (subst (λ z. introduces S z (owner S y).class ≡ true) (sym names) t.1)) names
+
+-- and where the others stand after them
+module _ (xs ys : List Class) (o : IsOrdered (xs ++ ys)) (f : FacesLoad xs) (c : Class) where
+  owner_front : (m : MethodRef) → Takes (kernel ++ xs) c m → owner (kernel ++ (xs ++ ys)) m ≡ owner (kernel ++ xs) m
+  owner_front m t =
+      let e = some_entry (entry_at (kernel ++ xs) m.class m.name) (taken_entry xs f c m t) in
+      let d = entry_class (kernel ++ xs) m.class m.name e.0 e.1 in
+      owner_same xs ys o m.class m.name d.0 d.1
+
+  pub front_owner : (x y : MethodRef) → Takes (kernel ++ xs) c x → Takes (kernel ++ xs) c y → owner (kernel ++ (xs ++ ys)) x ≡ owner (kernel ++ (xs ++ ys)) y → owner (kernel ++ xs) x ≡ owner (kernel ++ xs) y
+  front_owner x y s t e = sym (owner_front x s) ∙ e ∙ owner_front y t
+
 module _ (olds news : List Class) (fa : FacesLoad olds) (fb : FacesLoad news) (grows : Grows (kernel ++ olds) (kernel ++ news))
     (one_owner : (r : MethodRef) → IsSome (entry_at (kernel ++ olds) r.class r.name) → owner (kernel ++ news) r ≡ owner (kernel ++ news) (owner (kernel ++ olds) r))
-    (c : Class) (once : (a b : ClassKey) (name : List ℕ) → Descends (hierarchy (kernel ++ olds)) c.key a → Descends (hierarchy (kernel ++ olds)) c.key b → introduces (kernel ++ olds) name a ≡ true → introduces (kernel ++ olds) name b ≡ true → a ≡ b) where
+    (c : Class) (one_old : (x y : MethodRef) → Takes (kernel ++ olds) c x → Takes (kernel ++ olds) c y → owner (kernel ++ news) x ≡ owner (kernel ++ news) y → owner (kernel ++ olds) x ≡ owner (kernel ++ olds) y) where
   abbrev A : List Class
   A = kernel ++ olds
 
   abbrev B : List Class
   B = kernel ++ news
 
-  abbrev Takes : MethodRef → Type 0
-  Takes m = (is_proper A c (owner A m).class ≡ true) × (introduces A (owner A m).name (owner A m).class ≡ true)
+  pub has_entry : (m : MethodRef) → Takes A c m → IsSome (entry_at A m.class m.name)
+  has_entry m t = taken_entry olds fa c m t
 
-  pub has_entry : (m : MethodRef) → Takes m → IsSome (entry_at A m.class m.name)
-  has_entry m t = owned_entry A m refl t.1 (λ name k e. owner_stays olds fa.ordered k name e)
-
-  proper_new : (m : MethodRef) → Takes m → is_proper B c (owner B m).class ≡ true
+  proper_new : (m : MethodRef) → Takes A c m → is_proper B c (owner B m).class ≡ true
   proper_new m t = proper_still olds news fa fb grows one_owner m c.key (has_entry m t) t.0
 
-  introduced_new : (m : MethodRef) → Takes m → introduces B (owner B m).name (owner B m).class ≡ true
+  introduced_new : (m : MethodRef) → Takes A c m → introduces B (owner B m).name (owner B m).class ≡ true
   introduced_new m t = (owner_above olds news fa fb grows one_owner m (has_entry m t)).introduced
 
-  ancestor : (m : MethodRef) → Takes m → Descends (hierarchy A) c.key (owner A m).class
-  ancestor m t = tested olds fa.ordered c.key (owner A m).class (both (not (same_key (owner A m).class c.key)) (is_a A c.key (owner A m).class) t.0).1
-
-  -- methods of one name have one owner
-  one_name : (x y : MethodRef) → Takes x → Takes y → x.name ≡ y.name → owner A x ≡ owner A y
-  one_name x y s t e =
-      let names : (owner A x).name ≡ (owner A y).name = owner_name A _ x ∙ e ∙ sym (owner_name A _ y) in
-      ref_one (owner A x) (owner A y)
-      (once (owner A x).class (owner A y).class (owner A x).name (ancestor x s) (ancestor y t) s.1 (subst (λ z. introduces A z (owner A y).class ≡ true) (sym names) t.1)) names
-
-  -- so different owners are of different names, and have different owners
-  owners_apart : (ms : List MethodRef) → ((m : MethodRef) → Mem m ms → Takes m) → Apart (map (owner A) ms) → Apart (map (owner B) ms)
+  -- different owners have different owners
+  owners_apart : (ms : List MethodRef) → ((m : MethodRef) → Mem m ms → Takes A c m) → Apart (map (owner A) ms) → Apart (map (owner B) ms)
   owners_apart [] t p = tt
   owners_apart (x ∷ ms) t p = (
     (λ n. (let y = map_mem (owner B) (owner B x) ms n in
-        let names : x.name ≡ y.0.name = sym (owner_name B _ x) ∙ ap (λ (z : MethodRef). z.name) y.2 ∙ owner_name B _ y.0 in
-        p.0 (subst (λ z. Mem z (map (owner A) ms)) (sym (one_name x y.0 (t x (inl refl)) (t y.0 (inr y.1)) names)) (mem_map (owner A) y.0 ms y.1)))),
+        p.0 (subst (λ z. Mem z (map (owner A) ms)) (sym (one_old x y.0 (t x (inl refl)) (t y.0 (inr y.1)) y.2)) (mem_map (owner A) y.0 ms y.1)))),
     owners_apart ms (λ m n. t m (inr n)) p.1,
   )
 
@@ -194,9 +215,9 @@ module _ (olds news : List Class) (fa : FacesLoad olds) (fb : FacesLoad news) (g
       let ms : List MethodRef = map of_select ss in
       let own_o : (z : List Class) → map (owner z) mo ≡ map (λ (o : Override). owner z o.method) os = λ z. map_map (owner z) of_override os in
       let own_s : (z : List Class) → map (owner z) ms ≡ map (λ (s : Select). owner z s.method) ss = λ z. map_map (owner z) of_select ss in
-      let takes : (m : MethodRef) → Mem m (mo ++ ms) → Takes m = λ m n. elim (mem_split m mo ms n) [
-        | inl a ↦ (let o = map_mem of_override m os a in let f = i.overrides.0 o.0 o.1 in subst Takes (sym o.2) (f.0, f.1))
-        | inr a ↦ (let s = map_mem of_select m ss a in let f = i.selects.0 s.0 s.1 in subst Takes (sym s.2) (f.0, f.1))
+      let takes : (m : MethodRef) → Mem m (mo ++ ms) → Takes A c m = λ m n. elim (mem_split m mo ms n) [
+        | inl a ↦ (let o = map_mem of_override m os a in let f = i.overrides.0 o.0 o.1 in subst (Takes A c) (sym o.2) (f.0, f.1))
+        | inr a ↦ (let s = map_mem of_select m ss a in let f = i.selects.0 s.0 s.1 in subst (Takes A c) (sym s.2) (f.0, f.1))
       ] in
       let all_a : Apart (map (owner A) (mo ++ ms)) = subst Apart (sym (map-append (owner A) mo ms)) (apart_both (map (owner A) mo) (map (owner A) ms) (subst Apart (sym (own_o A)) i.overrides.1) (subst Apart (sym (own_s A)) i.selects.1)
       (λ r m n. i.selects.2 r (subst (λ z. Mem r z) (own_o A) m) (subst (λ z. Mem r z) (own_s A) n))) in
@@ -209,7 +230,7 @@ module _ (olds news : List Class) (fa : FacesLoad olds) (fb : FacesLoad news) (g
         );
         selects = (
           (λ s m. (let f = i.selects.0 s m in
-              let t : Takes s.method = (f.0, f.1) in
+              let t : Takes A c s.method = (f.0, f.1) in
               let p = parent_below A (owner A s.method).class (slice_get c.decl.face.parents s.parent) f.2 in
               let up = (owner_above olds news fa fb grows one_owner s.method (has_entry s.method t)).above in
               let still = tests news fb.ordered p.0 (owner B s.method).class (descends_through (hierarchy B) p.0 (owner A s.method).class (owner B s.method).class (grows.descends p.0 (owner A s.method).class (tested olds fa.ordered p.0 (owner A s.method).class p.2)) up) in

@@ -1,3 +1,4 @@
+pub mod KeptOwners
 pub mod Lists
 pub mod Prefix
 pub mod Exchange

@@ -23,12 +23,12 @@ use Rattle.som_model_laws.proofs.Members.{mem_right, mem_split}
 use Rattle.som_model_laws.specs.Keeping.{ClassesKeep}
 use Rattle.som_release_laws.specs.Growing.{Grows}
 use Rattle.som_release_laws.specs.Refining.{AreKnown, Refines}
-use Rattle.som_release_laws.specs.Releasing.{IsCompiled, IsReleased}
+use Rattle.som_release_laws.specs.Releasing.{IsCompiled, IsReleased, OwnersAreKept}
 use Rattle.som_release_laws.proofs.Exchange.{exchange_grows, new_ordered}
 use Rattle.som_release_laws.proofs.FaceNames.{faces_named, variables_known}
 use Rattle.som_release_laws.proofs.Facing.{demanded}
 use Rattle.som_release_laws.proofs.Facts.{refines}
-use Rattle.som_release_laws.proofs.Inheriting.{Inherits, inherits_new, s10_says, says_s10}
+use Rattle.som_release_laws.proofs.Inheriting.{Inherits, front_owner, inherits_new, once_owner, s10_says, says_s10}
 use Rattle.som_release_laws.proofs.Lists.{none_left}
 use Rattle.som_release_laws.proofs.Objects.{exchange_object, prefix_object}
 use Rattle.som_release_laws.proofs.OneOwner.{exchange_owner, prefix_owner}
@@ -78,7 +78,7 @@ module _ (olds news : List Class) (fa : FacesLoad olds) (r : Refines (class_fact
       let i = s10_says A c s in
       class_carried w (running_facts B) r c A B (λ m s e. grows.signatures m.class m.name s e) method_known (as_many c e) (override_sig i) (select_sig i) t
 
-module _ (olds news own : List Class) (main : Block) (compiled : IsCompiled olds own main) (released : IsReleased news) (keep : ClassesKeep olds news)
+module _ (olds news own : List Class) (main : Block) (compiled : IsCompiled olds own main) (released : IsReleased news) (keep : ClassesKeep olds news) (kept : OwnersAreKept olds news)
     (apart : (c d : Class) → Mem c news → Mem d own → c.key ≡ d.key → ⊥) where
   abbrev both : List Class
   both = news ++ own
@@ -105,7 +105,7 @@ module _ (olds news own : List Class) (main : Block) (compiled : IsCompiled olds
   small = prefix_grows news own ob
 
   big_owner : (r : MethodRef) → IsSome (entry_at (kernel ++ was) r.class r.name) → owner (kernel ++ both) r ≡ owner (kernel ++ both) (owner (kernel ++ was) r)
-  big_owner = exchange_owner olds news own fa fn keep apart released.once
+  big_owner = exchange_owner olds news own fa fn keep apart kept
 
   small_owner : (r : MethodRef) → IsSome (entry_at (kernel ++ news) r.class r.name) → owner (kernel ++ both) r ≡ owner (kernel ++ both) (owner (kernel ++ news) r)
   small_owner = prefix_owner news own faces fn
@@ -118,8 +118,8 @@ module _ (olds news own : List Class) (main : Block) (compiled : IsCompiled olds
 
   pub inherited : (c : Class) → Mem c both → s10 (kernel ++ both) c ≡ []
   inherited c m = elim (mem_split c news own m) [
-    | inl a ↦ says_s10 (kernel ++ both) c (inherits_new news both fn faces small small_owner c (λ x y name. released.once c x y name a) (s10_says (kernel ++ news) c (released.inherited c a)))
-    | inr b ↦ says_s10 (kernel ++ both) c (inherits_new was both fa faces big big_owner c (λ x y name. compiled.once c x y name b) (s10_says (kernel ++ was) c (compiled.inherited c b)))
+    | inl a ↦ says_s10 (kernel ++ both) c (inherits_new news both fn faces small small_owner c (front_owner news own ob fn c) (s10_says (kernel ++ news) c (released.inherited c a)))
+    | inr b ↦ says_s10 (kernel ++ both) c (inherits_new was both fa faces big big_owner c (once_owner was fa c (λ x y name. compiled.once c x y name b) (kernel ++ both)) (s10_says (kernel ++ was) c (compiled.inherited c b)))
   ]
 
   pub bodies : (c : Class) → Mem c both → s14 c ≡ []

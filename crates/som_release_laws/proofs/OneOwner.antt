@@ -12,14 +12,13 @@ use Rattle.som_model.specs.Classes.{class_at, hierarchy}
 use Rattle.som_model.specs.Kernel.{kernel}
 use Rattle.som_model.specs.Owner.{entry_at, introduces, owner}
 use Rattle.som_model.specs.Loads.{FacesLoad, IsOrdered}
-use Rattle.som_model_laws.proofs.Laws.{descends_through}
 use Rattle.som_model_laws.specs.Keeping.{ClassesKeep}
 use Rattle.som_model_laws.proofs.Standing.{found_is, known_above}
 use Rattle.som_model_laws.proofs.Owners.{entry_class, entry_is, moved, moved_lower, moved_to, owner_moved, owner_owns, owner_stays}
-use Rattle.som_release_laws.specs.Releasing.{Once}
-use Rattle.som_release_laws.proofs.Exchange.{entry_new, kinds, new_alone, new_ordered, old_alone, pair}
+use Rattle.som_release_laws.specs.Releasing.{OwnersAreKept}
+use Rattle.som_release_laws.proofs.Exchange.{kinds, new_alone, new_ordered, old_alone, old_order, pair}
 use Rattle.som_release_laws.proofs.Facts.{introduced_entry}
-use Rattle.som_release_laws.proofs.Prefix.{descends_less, entry_same, owner_same, some_entry}
+use Rattle.som_release_laws.proofs.Prefix.{descends_less, owner_same, some_entry}
 
 pub ref_one : (a b : MethodRef) → a.class ≡ b.class → a.name ≡ b.name → a ≡ b
 ref_one a b e f =
@@ -44,9 +43,9 @@ module _ (xs ys : List Class) (fl : FacesLoad (xs ++ ys)) (fs : FacesLoad xs) wh
       owner_same xs ys fl.ordered r.class r.name c.0 c.1
       ∙ sym (owner_same xs ys fl.ordered s.class s.name d.0 d.1 ∙ owner_again xs fs.ordered s own.introduced)
 
--- a release that is exchanged
+-- a release that is exchanged, and keeps the owners
 module _ (olds news own : List Class) (fa : FacesLoad (olds ++ own)) (fn : FacesLoad news) (keep : ClassesKeep olds news)
-    (apart : (c d : Class) → Mem c news → Mem d own → c.key ≡ d.key → ⊥) (once : Once (kernel ++ news) news) where
+    (apart : (c d : Class) → Mem c news → Mem d own → c.key ≡ d.key → ⊥) (kept : OwnersAreKept olds news) where
   abbrev A : List Class
   A = kernel ++ (olds ++ own)
 
@@ -65,32 +64,21 @@ module _ (olds news own : List Class) (fa : FacesLoad (olds ++ own)) (fn : Faces
   abbrev ref : ClassKey → List ℕ → MethodRef
   ref k name = record { class = k; name = name }
 
-  -- an entry of a class of the new is one of it alone
-  alone_entry : (k : ClassKey) (name : List ℕ) (n : Class) → class_at N k ≡ Some n → IsSome (entry_at B k name) → IsSome (entry_at N k name)
-  alone_entry k name n e s = subst (λ z. IsSome z) (entry_same news own ob k name n e) s
-
   -- a class of the old
-  old_owner : (c : Class) (k : ClassKey) (name : List ℕ) (e : Entry) → Mem c olds → c.key ≡ k → entry_at A k name ≡ Some e → owner B (ref k name) ≡ owner B (owner A (ref k name))
-  old_owner c k name e m key f =
+  old_owner : (c : Class) (k : ClassKey) (name : List ℕ) (e : Entry) → Mem c olds → class_at A k ≡ Some c → entry_at A k name ≡ Some e → owner B (ref k name) ≡ owner B (owner A (ref k name))
+  old_owner c k name e m g f =
+      let key = (found_is (olds ++ own) fa.ordered k c g).1 in
       let n = pair olds news own fa.ordered fn.ordered keep apart c m in
       let here = new_alone olds news own fa.ordered fn.ordered keep apart n.0 k n.1 (n.2 ∙ key) in
+      let there = old_alone olds news own fa.ordered fn.ordered keep apart c k m key in
       let s = owner A (ref k name) in
       let own_a = owner_owns (olds ++ own) fa (ref k name) (ap is_some f) in
-      let small = descends_less olds own fa.ordered k s.class c (old_alone olds news own fa.ordered fn.ordered keep apart c k m key) own_a.above in
+      let small = descends_less olds own fa.ordered k s.class c there own_a.above in
       let up : Descends (hierarchy N) k s.class = subst (λ z. Descends (hierarchy N) z s.class) key (keep.ancestors c s.class m (subst (λ z. Descends (hierarchy O) z s.class) (sym key) small)) in
       let d = known_above news fn.ordered k s.class n.0 here up in
-      let i = introduced_entry A s.name s.class own_a.introduced in
-      let s_there = alone_entry s.class s.name d.0 d.1 (entry_new olds news own fa.ordered fn.ordered keep apart s.class s.name i.0 i.1) in
-      let r_there = alone_entry k name n.0 here (entry_new olds news own fa.ordered fn.ordered keep apart k name e f) in
-      let own_s = owner_owns news fn s s_there in
-      let own_r = owner_owns news fn (ref k name) r_there in
-      let names = own_r.name ∙ sym (own_s.name ∙ own_a.name) in
-      let at_n : k ≡ n.0.key = sym (n.2 ∙ key) in
-      let classes = once n.0 (owner N (ref k name)).class (owner N s).class (owner N (ref k name)).name n.1
-      (subst (λ z. Descends (hierarchy N) z (owner N (ref k name)).class) at_n own_r.above)
-      (subst (λ z. Descends (hierarchy N) z (owner N s).class) at_n (descends_through (hierarchy N) k s.class (owner N s).class up own_s.above))
-      own_r.introduced (subst (λ z. introduces N z (owner N s).class ≡ true) (sym names) own_s.introduced) in
-      owner_same news own ob k name n.0 here ∙ ref_one (owner N (ref k name)) (owner N s) classes names ∙ sym (owner_same news own ob s.class s.name d.0 d.1)
+      let at_k : owner N (ref k name) ≡ owner N (owner O (ref k name)) =
+      subst (λ z. owner N (ref z name) ≡ owner N (owner O (ref z name))) key (kept c name m (old_order olds news own fa.ordered fn.ordered keep apart c k name e g f)) in
+      owner_same news own ob k name n.0 here ∙ at_k ∙ ap (owner N) (sym (owner_same olds own fa.ordered k name c there)) ∙ sym (owner_same news own ob s.class s.name d.0 d.1)
 
   -- a class that is the same in both
   same_owner : (c : Class) (k : ClassKey) (name : List ℕ) (e : Entry) → class_at B k ≡ Some c → class_at A k ≡ Some c → entry_at A k name ≡ Some e
@@ -106,7 +94,7 @@ module _ (olds news own : List Class) (fa : FacesLoad (olds ++ own)) (fn : Faces
       let c = entry_class A k name e f in
       elim (kinds olds news own fa.ordered fn.ordered keep apart k c.0 c.1) [
         | inl g ↦ same_owner c.0 k name e g c.1 f rest
-        | inr m ↦ old_owner c.0 k name e m (found_is (olds ++ own) fa.ordered k c.0 c.1).1 f
+        | inr m ↦ old_owner c.0 k name e m c.1 f
       ]
 
   owner_within : (n : ℕ) (k : ClassKey) (name : List ℕ) (e : Entry) → (hierarchy A).height k ≤ n → entry_at A k name ≡ Some e → owner B (ref k name) ≡ owner B (owner A (ref k name))

@@ -210,11 +210,20 @@ released r ok parents =
     record {
       faces = faces_load cs own a.0 d.0 (λ c m. flat_at (s5 all) cs c (nothing (flat_map (s5 all) cs) b.0) m);
       parents = parents;
-      once = once_all cs own a.0 d.0;
       inherited = inherited_all cs own a.0 d.0;
       bodies = λ c m. flat_at s14 cs c (nothing (flat_map s14 cs) d.1) m;
       typed = λ c m. flat_at (class_typed all) cs c (nothing (flat_map (class_typed all) cs) ok.blocks) m;
     }
+
+-- no two ancestors of a class of a release that conforms introduce one name
+pub released_once : (r : Release) → ReleaseOk r → Once (kernel ++ library_classes r) (library_classes r)
+released_once r ok =
+    let cs = library_classes r in
+    let all = kernel ++ cs in
+    let a = or_none (first_of_names kernel cs) (or_else (first (flat_map (s5 all) cs)) (or_else (first_of_members kernel cs) (first (flat_map s14 cs)))) ok.rules in
+    let b = or_none (first (flat_map (s5 all) cs)) (or_else (first_of_members kernel cs) (first (flat_map s14 cs))) a.1 in
+    let d = or_none (first_of_members kernel cs) (first (flat_map s14 cs)) b.1 in
+    once_all cs (library_own r.classes) a.0 d.0
 
 -- a client program that conforms, where each class that it knows has a parent
 pub compiled : (p : ClientProgram) → ProgramOk p → HaveParents (interface_classes p.base ++ client_classes p) → IsCompiled (interface_classes p.base) (client_classes p) p.main

@@ -7,7 +7,8 @@ use Rattle.som_model.specs.Ancestors.{Descends}
 use Rattle.som_model.specs.Class.{Class}
 use Rattle.som_model.specs.Classes.{hierarchy}
 use Rattle.som_model.specs.Kernel.{kernel}
-use Rattle.som_model.specs.Owner.{introduces}
+use Rattle.som_model.specs.Compatible.{order_of}
+use Rattle.som_model.specs.Owner.{introduces, owner}
 use Rattle.som_model.specs.Rules.{s10, s14}
 use Rattle.som_model.specs.Conforming.{class_typed, main_typed}
 use Rattle.som_model.specs.Loads.{FacesLoad}
@@ -20,11 +21,14 @@ Once all cs = (c : Class) (a b : ClassKey) (name : List ℕ) → Mem c cs → De
 abbrev pub HaveParents : List Class → Type 0
 HaveParents cs = (c : Class) → Mem c cs → 1 ≤ length c.decl.face.parents
 
--- the classes of a release keep the rules, and each has a parent
+-- the new owner of each entry of the old is the new owner of its old owner
+abbrev pub OwnersAreKept : List Class → List Class → Type 0
+OwnersAreKept olds news = (c : Class) (name : List ℕ) → Mem c olds → Mem name (order_of c) → owner (kernel ++ news) (record { class = c.key; name = name }) ≡ owner (kernel ++ news) (owner (kernel ++ olds) (record { class = c.key; name = name }))
+
+-- the classes of a release keep the rules but S8, and each has a parent
 pub record IsReleased (news : List Class) : Type 0 where
   pub faces : FacesLoad news
   pub parents : HaveParents news
-  pub once : Once (kernel ++ news) news
   pub inherited : (c : Class) → Mem c news → s10 (kernel ++ news) c ≡ []
   pub bodies : (c : Class) → Mem c news → s14 c ≡ []
   pub typed : (c : Class) → Mem c news → class_typed (kernel ++ news) c ≡ []

@@ -18,7 +18,7 @@ ghost use Rattle.som_model.specs.declared.program.Interface.{Interface};
 ghost use Rattle.som_model.specs.declared.program.Release.{Release};
 ghost use Rattle.som_model.specs.declared.syntax.Block.{Block};
 ghost use Rattle.som_release_laws.specs.Growing.{Grows};
-ghost use Rattle.som_release_laws.specs.Releasing.{HaveParents, IsCompiled, IsReleased};
+ghost use Rattle.som_release_laws.specs.Releasing.{HaveParents, IsCompiled, IsReleased, Once, OwnersAreKept};
 ghost use Rattle.std.specs.Prelude.{◌≡◌, ◌≤◌, [], ◌∷◌, ◌++◌, List as Seq, IsSome, None, length, true};
 
 /// Classes have among those that stand after them what they have alone.
@@ -37,12 +37,20 @@ pub fn exchange_law()
         FacesLoad (news ++ own) }
 {}
 
+/// Where no two ancestors of a class of a newer release introduce one name, and the release keeps what an
+/// older one promised, it keeps the owners of the older one's entries.
+pub fn owners_law()
+    ensures { (olds news : Seq Class) → FacesLoad olds → FacesLoad news → ClassesKeep olds news →
+        Once (kernel ++ news) news → OwnersAreKept olds news }
+{}
+
 /// Classes and a main that were compiled against an older release can be loaded with a newer one that keeps
-/// what it promised: overrides and selects are of methods of proper ancestors and of different ones,
-/// accessors fit, and all bodies are well typed where the type of a class object is its metaclass.
+/// what it promised and the owners of its entries: overrides and selects are of methods of proper ancestors
+/// and of different ones, accessors fit, and all bodies are well typed where the type of a class object is
+/// its metaclass.
 pub fn loading_law()
     ensures { (olds news own : Seq Class) (main : Block) →
-        IsCompiled olds own main → IsReleased news → ClassesKeep olds news →
+        IsCompiled olds own main → IsReleased news → ClassesKeep olds news → OwnersAreKept olds news →
         ((c d : Class) → Mem c news → Mem d own → c.key ≡ d.key → ⊥) →
         length (news ++ own) ≤ MAX_LAID_CLASSES →
         ((c : Class) → Mem c (news ++ own) → ClassCounted c.decl) → block_counted main ≡ true →
@@ -50,12 +58,13 @@ pub fn loading_law()
 {}
 
 /// A client program that was compiled against an older release binds to a newer one that keeps what it
-/// promised: the classes that it names are there, the methods stand at the slots that it was compiled to,
-/// and its bodies are well typed.
+/// promised and the owners of its entries: the classes that it names are there, the methods stand at the
+/// slots that it was compiled to, and its bodies are well typed.
 pub fn binding_law()
     ensures { (p : ClientProgram) (r : Release) →
         IsCompiled (interface_classes p.base) (client_classes p) p.main → IsReleased (library_classes r) →
-        ClassesKeep (interface_classes p.base) (library_classes r) → Binds p r }
+        ClassesKeep (interface_classes p.base) (library_classes r) →
+        OwnersAreKept (interface_classes p.base) (library_classes r) → Binds p r }
 {}
 
 /// Compatibility goes along: what an interface keeps of one before, a later one that is compatible with it
@@ -94,10 +103,11 @@ pub fn accepted_law()
         Loads (library_classes last ++ client_classes p) p.main) }
 {}
 
-/// Two references that had one owner have one owner among the newer release's classes.
+/// Two references that had one owner have one owner among the classes of a newer release that keeps the
+/// owners of the older one's entries.
 pub fn one_owner_law()
     ensures { (olds news own : Seq Class) (main : Block) →
-        IsCompiled olds own main → IsReleased news → ClassesKeep olds news →
+        IsCompiled olds own main → IsReleased news → ClassesKeep olds news → OwnersAreKept olds news →
         ((c d : Class) → Mem c news → Mem d own → c.key ≡ d.key → ⊥) → (r s : MethodRef) →
         IsSome (entry_at (kernel ++ (olds ++ own)) r.class r.name) →
         IsSome (entry_at (kernel ++ (olds ++ own)) s.class s.name) →

@@ -11,15 +11,12 @@ use Rattle.som_class_load_order.proofs.choice.plan.Goals as goal
 pub metas_of-requires : goal.metas_of-requires
 metas_of-requires c = λ n m. let lt = c.parents.ensures.lower n (rw c.as_slice.ensures at m) in omega (arith, lt, c.requires.lower)
 
-pub metaclass_of-requires-clause-numbered : goal.metaclass_of-requires-clause-numbered
-metaclass_of-requires-clause-numbered c =
+pub metaclass_of-requires : goal.metaclass_of-requires
+metaclass_of-requires c =
     let k = c.args.classes.now in
     rw (c.in_ok-parents.ensures, c.as_slice.ensures)
     (constraints_numbered k c.declared_metaclass-declared.result _ c.declared_metaclass-declared.ensures.numbered
     (metas_numbered k c.args.metas.now c.requires.metas c.parents.result.now (λ n m. let lt = c.parents.ensures.lower n m in omega (arith, lt, c.requires.lower))))
-
-pub metaclass_of-requires-clause-apart : goal.metaclass_of-requires-clause-apart
-metaclass_of-requires-clause-apart c = c.requires.loaded.apart
 
 pub returns-clause-numbered : goal.returns-clause-numbered
 returns-clause-numbered c =

@@ -6,9 +6,9 @@ use Rattle.som_meta.proofs.plan.metaclass_of.Goals as goal
 pub lowest-requires : goal.lowest-requires
 lowest-requires g c =
     rw (c.as_slice-3.ensures, c.in_ok-once.ensures, c.as_slice-2.ensures, c.in_ok-all.ensures, c.as_slice.ensures)
-    (firsts-all (IsNumbered (g.H.Ancestry.known c.args.known.now)) (constraints c.args.declared c.args.parent_metas.now) c.requires.numbered)
+    (firsts-all (IsNumbered (g.H.Ancestry.known c.args.known.now)) (constraints c.args.declared c.args.parent_metas.now) c.requires)
 
 pub returns-clause-meta : goal.returns-clause-meta
 returns-clause-meta g c =
     rw (c.plan.ensures, c.in_ok-lowest.ensures, c.as_slice-3.ensures, c.in_ok-once.ensures, c.as_slice-2.ensures, c.in_ok-all.ensures, c.as_slice.ensures)
-    (plan-keys (g.H.Ancestry.known c.args.known.now) c.requires.apart c.args.declared c.args.parent_metas.now c.requires.numbered)
+    (plan-keys (g.H.Ancestry.known c.args.known.now) c.know.ensures c.args.declared c.args.parent_metas.now c.requires)
