@@ -4,13 +4,14 @@ use Rattle.std.proofs.Common.{◌≡◌, ◌≢◌, ℕ, suc, inl, inr, drop, dr
 use Rattle.std.specs.Option.{option_or, option_flatten}
 use Rattle.std.proofs.lemmas.Option.{slice_get_past}
 use Rattle.std.proofs.lemmas.Bool.{cases_lt}
+use Rattle.std.proofs.lemmas.List.{drop_all}
 use Rattle.std.proofs.lemmas.Nat.{div-add-mod'}
 use Rattle.som_tables.specs.Rows.{Added, HasRow, SomeHasToken, HaveRowsBelow, first_some, replaced_at, inherited, AreInherited, introduced_count}
-use Rattle.som_tables.specs.Layout.{found_at, page_start, start_among, line_at, start_of, IsInside, AreInside, Extends, IsBlock, IsLaid, IsStart, IsPage, ArePages, IsLine, next_cell}
+use Rattle.som_tables.specs.Layout.{found_at, page_start, start_among, line_at, start_of, first_start_of, EndBefore, IsInside, AreInside, Extends, IsBlock, IsLaid, IsStart, IsPage, ArePages, IsLine, next_cell}
 use Rattle.som_tables.proofs.Options.{none_is_not_some, none_else_some, option_or_cases, slice_get-append_left, slice_get-append_right, slice_get-push}
 use Rattle.som_tables.proofs.Inherited.{first_some_equal, first_some_where, replaced_inherited}
 use Rattle.som_tables.proofs.Laid.{IsBlock-grown, IsBlock-none, page_grown, inside_grown, on_page}
-use Rattle.som_tables.proofs.NextBlocks.{shared_block}
+use Rattle.som_tables.proofs.NextBlocks.{shared_block, absent_block}
 
 module _ {C : Type 0} (cs : List (Option (Added C))) (start : ℕ → ℕ → Option ℕ) (cells : List C) (laid : IsLaid cs start cells) (n : ℕ) (row : Added C)
     (below : HaveRowsBelow n cs row.parents) (known : AreInherited cs row.parents row.replaced) where
@@ -32,21 +33,48 @@ module _ {C : Type 0} (cs : List (Option (Added C))) (start : ℕ → ℕ → Op
   pub start_beyond : (own : Option ℕ) (a : ℕ) → n < a → IsStart cs n row own None a cells
   start_beyond own a lt = record { other = λ ne. block_none a (omega arith); same = λ e. absurd (omega arith) }
 
-  -- pages for each class up to the row's own tell all of the row
-  pub IsLine-pages : (own : Option ℕ) (pages starts : List (Option ℕ)) → length pages ≡ n / 64 + 1 → IsBlock cells own (length row.introduced) (λ p. slice_get row.introduced p)
-      → ArePages cs n row own (n / 64 + 1) pages starts cells → IsLine cs n row (start_among pages starts) cells
-  IsLine-pages own pages starts long block are =
-      let told : (a : ℕ) → a / 64 < n / 64 + 1 → IsStart cs n row own (start_among pages starts a) a cells =
-      λ a lt. subst (λ i. IsStart cs n row own (start_among pages starts a) i cells) (div-add-mod' a 64) (are (a / 64) lt (a % 64) (on_page a)) in
+  -- pages that go no further than these tell all of the row, where it has no block past them
+  pub IsLine-pages : (own : Option ℕ) (count : ℕ) (pages starts : List (Option ℕ)) → length pages ≡ count → IsBlock cells own (length row.introduced) (λ p. slice_get row.introduced p)
+      → ArePages cs n row own count pages starts cells → ((a : ℕ) → count ≤ a / 64 → IsStart cs n row own None a cells) → IsLine cs n row (start_among pages starts) cells
+  IsLine-pages own count pages starts long block are rest =
+      let told : (a : ℕ) → IsStart cs n row own (start_among pages starts a) a cells = λ a. elim (cases_lt (a / 64) count) [
+        | inl lt ↦ subst (λ i. IsStart cs n row own (start_among pages starts a) i cells) (div-add-mod' a 64) (are (a / 64) lt (a % 64) (on_page a))
+        | inr ge ↦ (let none : found_at pages (a / 64) ≡ None = ap option_flatten (slice_get_past pages (a / 64) (omega arith)) in
+            subst (λ o. IsStart cs n row own (page_start starts o (a % 64)) a cells) (sym none) (rest a (omega arith)))
+      ] in
       record {
-        blocks = λ a ne. elim (cases_lt (a / 64) (n / 64 + 1)) [
-          | inl lt ↦ (told a lt).other ne
-          | inr ge ↦ (let none : found_at pages (a / 64) ≡ None = ap option_flatten (slice_get_past pages (a / 64) (omega arith)) in
-              let le : n ≤ a = omega arith in
-              subst (λ o. IsBlock cells (page_start starts o (a % 64)) (introduced_count cs a) (next_cell cs row.parents row.replaced a)) (sym none) (block_none a le))
-        ];
-        own = subst (λ o. IsBlock cells o (length row.introduced) (λ p. slice_get row.introduced p)) (sym ((told n (omega arith)).same refl)) block;
+        blocks = λ a ne. (told a).other ne;
+        own = subst (λ o. IsBlock cells o (length row.introduced) (λ p. slice_get row.introduced p)) (sym ((told n).same refl)) block;
       }
+
+  -- no block begins past the class's own page
+  pub past_own : (own : Option ℕ) (count a : ℕ) → count ≡ n / 64 + 1 → count ≤ a / 64 → IsStart cs n row own None a cells
+  past_own own count a is le = start_beyond own a (omega arith)
+
+-- one more of the classes whose rows end before a page
+pub end_more : (lines : List (Option (List (Option ℕ)))) (classes : List ℕ) (i q count : ℕ) → i < length classes → q ≡ get_or classes i q → length (line_at lines q) ≤ count → EndBefore lines count (drop (i + 1) classes) → EndBefore lines count (drop i classes)
+end_more lines classes i q count lt is short rest =
+    let next : suc i ≡ i + 1 = omega arith in
+    let split : drop i classes ≡ q ∷ drop (i + 1) classes = drop-cons classes i q lt ∙ ap (λ x. x ∷ drop (suc i) classes) (sym is) ∙ ap (λ j. q ∷ drop j classes) next in
+    subst (λ xs. EndBefore lines count xs) (sym split) (short, rest)
+
+pub end_all : (lines : List (Option (List (Option ℕ)))) (classes : List ℕ) (i count : ℕ) → length classes ≤ i → EndBefore lines count (drop i classes)
+end_all lines classes i count le = subst (λ xs. EndBefore lines count xs) (sym (drop_all i classes le)) tt
+
+-- nor past the pages of the parents, where the class introduces no cells
+first_none : (lines : List (Option (List (Option ℕ)))) (starts : List (Option ℕ)) (count a : ℕ) (ps : List ℕ) → EndBefore lines count ps → count ≤ a / 64 → None ≡ first_start_of lines starts ps a
+first_none lines starts count a [] all le = refl
+first_none lines starts count a (q ∷ qs) all le =
+    let short : length (line_at lines q) ≤ a / 64 = omega (arith, all.0) in
+    let none : found_at (line_at lines q) (a / 64) ≡ None = ap option_flatten (slice_get_past (line_at lines q) (a / 64) short) in
+    first_none lines starts count a qs all.1 le ∙ ap (λ o. option_or (page_start starts o (a % 64)) (first_start_of lines starts qs a)) (sym none)
+
+pub past_parents : {C : Type 0} (cs : List (Option (Added C))) (lines : List (Option (List (Option ℕ)))) (starts : List (Option ℕ)) (cells : List C) → IsLaid cs (start_of lines starts) cells → (n : ℕ) (row : Added C) → AreInherited cs row.parents row.replaced
+    → (own : Option ℕ) (count a : ℕ) → own ≡ None → EndBefore lines count row.parents → count ≤ a / 64 → IsStart cs n row own None a cells
+past_parents cs lines starts cells laid n row known own count a none all le = record {
+  other = λ ne. absent_block cs (start_of lines starts) cells laid a row.parents row.replaced None (first_none lines starts count a row.parents all le) known refl;
+  same = λ e. sym none;
+}
 
 -- a start stays while cells are added
 pub IsStart-grown : {C : Type 0} (cs : List (Option (Added C))) (n : ℕ) (row : Added C) (own start : Option ℕ) (a : ℕ) (cells new : List C) → Extends cells new → IsStart cs n row own start a cells → IsStart cs n row own start a new

@@ -1,6 +1,7 @@
 -- How the rows of a table stand in memory: all cells in one list, in blocks of the cells that one class introduced. Where the blocks of a row begin stands on pages, one for each 64 class numbers; rows may share pages.
 use Rattle.std.specs.Prelude.{◌≡◌, ◌≢◌, ℕ, zero, suc, ◌+◌, ◌*◌, ◌<◌, ◌≤◌, ◌/◌, ◌%◌, ◌==◌, List, [], length, Option, Some, None, IsSome, option_and_then, slice_get, filter}
 use Rattle.std.specs.Option.{option_or, option_flatten, option_map_or, unwrap_or}
+use Rattle.std.specs.List.{AllByRecursion}
 use Rattle.som_tables.specs.Rows.{Added, row_at, first_some, replaced_at, inherited, HasToken, introduced_count, ParentsComeFirst}
 
 -- the place before a number, and none before zero
@@ -43,6 +44,10 @@ IsInside starts page = (from : ℕ) → page ≡ Some from → from + 64 ≤ len
 -- each of these pages is in the list whole
 abbrev pub AreInside : List (Option ℕ) → List (Option ℕ) → Type 0
 AreInside starts pages = (k : ℕ) → IsInside starts (found_at pages k)
+
+-- no row of these classes has a page with this number or a higher one
+abbrev pub EndBefore : List (Option (List (Option ℕ))) → ℕ → List ℕ → Type 0
+EndBefore lines count classes = AllByRecursion (λ c. length (line_at lines c) ≤ count) classes
 
 -- the cell at a place of the block that begins there
 abbrev pub block_cell : {C : Type 0} → List C → Option ℕ → ℕ → Option C

@@ -1,13 +1,13 @@
 //! The pages of a class's row, in which the start of each block is looked up.
 
-ghost use Rattle.std.specs.Prelude.{◌≡◌};
-ghost use Rattle.som_tables.specs.Layout.{found_at, line_at};
+ghost use Rattle.std.specs.Prelude.{◌≡◌, ◌≤◌, length};
+ghost use Rattle.som_tables.specs.Layout.{EndBefore, found_at, line_at};
 
 use crate::ClassNo;
 use crate::place::Place;
 use std::marker::Model;
 
-/// Where the pages of a row begin, one for each 64 class numbers. There is none where the row has no cells of these classes.
+/// Where the pages of a row begin, one for each 64 class numbers up to the last for which the row has a page. There is none where the row has no cells of these classes.
 #[derive(Drop)]
 pub(crate) struct Line {
     pub(crate) pages: Vec<Place>,
@@ -41,4 +41,34 @@ pub(crate) fn page_of(lines: &[Option<Line>], class: ClassNo, number: usize) -> 
         Some(Some(line)) => line.page(number),
         _ => Place::none(),
     }
+}
+
+/// How many pages the row of a class has, those between that are none with them.
+fn pages_in(lines: &[Option<Line>], class: ClassNo) -> usize
+    ensures { result ≡ length (line_at lines.now class) }
+{
+    match lines.get(class.number() as usize) {
+        Some(Some(line)) => line.pages.len(),
+        _ => 0,
+    }
+}
+
+/// The larger of this many pages and those of the row of a class.
+fn longer(lines: &[Option<Line>], most: usize, class: ClassNo) -> usize
+    ensures most { most ≤ result }
+    ensures class { length (line_at lines.now class) ≤ result }
+{
+    let count = pages_in(lines, class);
+    if most < count { count } else { most }
+}
+
+/// How many pages the longest row of these classes has.
+pub(crate) fn longest(lines: &[Option<Line>], classes: &[ClassNo]) -> usize
+    ensures { EndBefore lines.now result classes.now }
+{
+    let mut most = 0;
+    for class in classes {
+        most = longer(lines, most, *class);
+    }
+    most
 }

@@ -1,11 +1,11 @@
 //! How a row is laid page by page, where pages of a parent are shared that differ in nothing.
 
-ghost use Rattle.std.specs.Prelude.{◌≡◌, ◌≢◌, ◌+◌, ◌/◌, ◌<◌, [], length, true, None, IfOk, OnOk, OnErr, ℕ, List, Option, slice_get};
+ghost use Rattle.std.specs.Prelude.{◌≡◌, ◌≢◌, ◌+◌, ◌/◌, ◌<◌, ◌≤◌, [], length, true, None, IfOk, OnOk, OnErr, ℕ, List, Option, slice_get};
 ghost use Rattle.som_tables.specs.Rows.{replaced_at, AreInherited, HaveRowsBelow};
-ghost use Rattle.som_tables.specs.Layout.{Extends, IsInside, IsLaid, IsLine, IsPage, IsTable, AreInside, ArePages, found_at, line_at, page_start, start_among, start_of};
+ghost use Rattle.som_tables.specs.Layout.{Extends, IsInside, IsLaid, IsLine, IsPage, IsTable, AreInside, ArePages, EndBefore, found_at, line_at, page_start, start_among, start_of};
 
 use crate::blocks::{block_of, lay_own};
-use crate::line::{Line, page_of};
+use crate::line::{Line, longest, page_of};
 use crate::place::Place;
 use crate::row::{Row, replaces_on};
 use crate::starts::{PAGE, common_page, start_on};
@@ -155,7 +155,7 @@ fn next_page<K: Kind>(
     }
 }
 
-/// Lays the blocks of a row that it inherits, and puts its pages on the empty list.
+/// Lays the blocks of a row that it inherits, and puts so many of its pages on the empty list.
 fn lay_pages<K: Kind>(
     alloc: Global,
     rows: &[Option<Row<K>>],
@@ -165,24 +165,40 @@ fn lay_pages<K: Kind>(
     row: &Row<K>,
     class: ClassNo,
     own: Place,
+    count: usize,
     pages: &mut Vec<Place>,
 ) -> Result<(), AllocError>
     requires table { IsTable rows.now lines.now starts.old.items cells.old.items }
     requires below { HaveRowsBelow class rows.now row.now.parents }
     requires inherited { AreInherited rows.now row.now.parents row.now.replaced }
+    requires few { count ≤ 67108864 }
     requires empty { pages.old.items ≡ [] }
     ensures grown { Extends cells.old.items cells.new.items }
     ensures more { Extends starts.old.items starts.new.items }
     ensures inside { OnOk result (AreInside starts.new.items pages.new.items) }
-    ensures long { OnOk result (length pages.new.items ≡ class / 64 + 1) }
-    ensures pages { OnOk result (ArePages rows.now class row.now own (class / 64 + 1) pages.new.items starts.new.items cells.new.items) }
+    ensures long { OnOk result (length pages.new.items ≡ count) }
+    ensures pages { OnOk result (ArePages rows.now class row.now own count pages.new.items starts.new.items cells.new.items) }
 {
-    let count = class.number() as usize / PAGE + 1;
     for number in 0..count {
         let page = next_page(alloc, rows, lines, starts, cells, row, class, own, number)?;
         pages.push(page)?;
     }
     Ok(())
+}
+
+/// How many pages a row has: up to its class's own page, where it introduces cells, and else as many as the longest of its parents' rows.
+fn page_count<K: Kind>(lines: &[Option<Line>], row: &Row<K>, class: ClassNo) -> usize
+    ensures small { result ≤ 67108864 }
+    ensures few { result ≤ class / 64 + 1 }
+    ensures own { 0 < length row.now.introduced → result ≡ class / 64 + 1 }
+    ensures parents { result < class / 64 + 1 → EndBefore lines.now result row.now.parents }
+{
+    let own = class.number() as usize / PAGE + 1;
+    if !row.introduced().is_empty() {
+        return own;
+    }
+    let inherited = longest(lines, row.parents());
+    if inherited < own { inherited } else { own }
 }
 
 /// Lays the row of a class, and on an error so much of it as there was memory for.
@@ -204,9 +220,10 @@ fn lay_line<K: Kind>(
     ensures line { IfOk result (λ line. IsLine rows.now class row.now (start_among line starts.new.items) cells.new.items) }
 {
     let own = lay_own(cells, row.introduced())?;
-    let mut pages = Vec::with_capacity(alloc, class.number() as usize / PAGE + 1)?;
+    let count = page_count(lines, row, class);
+    let mut pages = Vec::with_capacity(alloc, count)?;
     lay_pages(
-        alloc, rows, lines, starts, cells, row, class, own, &mut pages,
+        alloc, rows, lines, starts, cells, row, class, own, count, &mut pages,
     )?;
     Ok(Line { pages })
 }

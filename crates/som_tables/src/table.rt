@@ -85,7 +85,7 @@ impl<K: Kind> Table<K> {
     }
 
     /// Gives a class its row, below its parents, all of which have theirs. Where parents have different cells for a token, the leftmost of them counts.
-    /// The row takes four bytes for each 64 class numbers up to its own, 256 bytes for each 64 of them for which its parents' rows don't serve, the introduced cells, and a copy of each inherited block of cells in which one is replaced.
+    /// The row takes four bytes for each 64 class numbers up to its own, or where it introduces no cells up to the last page of a parent's row, 256 bytes for each 64 of them for which its parents' rows don't serve, the introduced cells, and a copy of each inherited block of cells in which one is replaced.
     /// A table with more cells or starts than four bytes number counts as want of memory.
     pub fn fill(
         &mut self,
