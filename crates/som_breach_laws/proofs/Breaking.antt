@@ -9,7 +9,7 @@ use Rattle.som_model.specs.Class.{Class}
 use Rattle.som_model.specs.Classes.{ancestors, class_at, hierarchy, interface_classes, is_a}
 use Rattle.som_model.specs.Loads.{IsOrdered}
 use Rattle.som_model.specs.Metaclass.{meta}
-use Rattle.som_model.specs.Compatible.{CompatBreach, class_breaks, declared_name, failing, first_break, first_changed, incompatible, k2, k3, k4, k5, k6, order_of, release_of, signature}
+use Rattle.som_model.specs.Compatible.{CompatBreach, Compatible, class_breaks, declared_name, failing, first_break, first_changed, incompatible, k2, k3, k4, k5, k6, order_of, release_of, signature}
 use Rattle.som_model.proofs.KeyLaws.{Exact, both}
 use Rattle.som_model.proofs.SameLaws.{exact_option, exact_sigs}
 use Rattle.som_model_laws.proofs.Lists.{get_mem}
@@ -17,7 +17,7 @@ use Rattle.som_release_laws.proofs.Facing.{tested, tests}
 use Rattle.som_breach_laws.specs.Firsts.{HoldsOfEach, IsFirstAt}
 use Rattle.som_breach_laws.specs.Breaking.{Breaks, IsFirstBreach, IsNew, KeepsAll, KeepsAncestor, KeepsBelow, KeepsMetaclass, KeepsPlace, KeepsSignature, KeepsVersion, lost, older, loses_ancestor, moves_slot, changes_signature, loses_metaclass}
 use Rattle.som_breach_laws.proofs.Pairs.{at_new, new_at}
-use Rattle.som_breach_laws.proofs.Lists.{ToldAt, at_option, changes_first, changes_none, fails_first, fails_none, first_changes, first_fails, first_flat, first_left, first_map, first_right, first_split, flat_first, map_first, map_none, none_both, none_changes, none_fails, none_left, option_at, some_one}
+use Rattle.som_breach_laws.proofs.Lists.{ToldAt, at_option, changes_first, changes_none, fails_first, fails_none, first_changes, first_fails, first_flat, first_left, first_map, first_right, first_split, flat_first, flat_none, map_first, map_none, none_both, none_changes, none_fails, none_flat, none_left, option_at, some_one}
 
 sigs : Exact (same_option same_sig)
 sigs = exact_option same_sig exact_sigs
@@ -332,6 +332,14 @@ module _ (old new : Interface) (on : IsOrdered (interface_classes new)) where
       first_flat (class_breaks O N) (interface_classes old) b f.number f.class f.there
       (λ i c lt at. all_kept c (get_mem (interface_classes old) i c at) (f.before i c lt at))
       (class_told f.class b (get_mem (interface_classes old) f.number f.class f.there) f.breaks)
+
+  -- no breach is told exactly where each class keeps all
+
+  pub none_told : Compatible old new → (c : Class) → Mem c (interface_classes old) → KeepsAll old new c
+  none_told e c m = keeps_all c m (flat_none (class_breaks O N) (interface_classes old) e c m)
+
+  pub told_none : ((c : Class) → Mem c (interface_classes old) → KeepsAll old new c) → Compatible old new
+  told_none keep = none_flat (class_breaks O N) (interface_classes old) (λ c m. all_kept c m (keep c m))
 
   pub one_breach : (a b : CompatBreach) → IsFirstBreach old new a → IsFirstBreach old new b → a ≡ b
   one_breach a b f g = one (first_break old new) (told_first a f) (told_first b g)

@@ -1,7 +1,7 @@
 -- The first of a list that fails a test, with its place, and the first of lists that are joined.
 use Rattle.std.proofs.Common.{◌≡◌, ℕ, zero, suc, ◌<◌, ◌+◌, ◌⊎◌, inl, inr, Bool, true, false, if◌then◌else◌, List, [], ◌∷◌, ◌++◌, map, flat_map, Option, Some, None, slice_get, refl, sym, ap, ◌∙◌, subst, arith, true≢false}
 use Rattle.std.specs.Str.{bytes_eq}
-use Rattle.som_model.specs.Lists.{first, option_list, or_else}
+use Rattle.som_model.specs.Lists.{Mem, first, option_list, or_else}
 use Rattle.som_model.specs.Compatible.{failing, first_changed}
 use Rattle.som_model.proofs.KeyLaws.{exact_bytes}
 use Rattle.som_model_laws.proofs.Members.{not_true}
@@ -59,6 +59,19 @@ pub first_flat : {A B : Type 0} (f : A → List B) (xs : List A) (b : B) (n : �
 first_flat f [] b n x at g e = absurd (cc)
 first_flat f (y ∷ ys) b zero x at g e = let same : y ≡ x = cc in first_left (f y) (flat_map f ys) b (ap (λ z. first (f z)) same ∙ e)
 first_flat f (y ∷ ys) b (suc n) x at g e = first_right (f y) (flat_map f ys) b (g 0 y (omega arith) refl) (first_flat f ys b n x at (λ i z lt h. g (suc i) z (omega (arith, lt)) h) e)
+
+first_empty : {B : Type 0} (xs ys : List B) → first (xs ++ ys) ≡ None → (xs ≡ []) × (first ys ≡ None)
+first_empty [] ys e = (refl, e)
+first_empty (x ∷ xs) ys e = absurd (cc)
+
+pub flat_none : {A B : Type 0} (f : A → List B) (xs : List A) → first (flat_map f xs) ≡ None → (y : A) → Mem y xs → f y ≡ []
+flat_none f [] e y m = absurd m
+flat_none f (x ∷ xs) e y (inl same) = ap f same ∙ (first_empty (f x) (flat_map f xs) e).0
+flat_none f (x ∷ xs) e y (inr m) = flat_none f xs (first_empty (f x) (flat_map f xs) e).1 y m
+
+pub none_flat : {A B : Type 0} (f : A → List B) (xs : List A) → ((y : A) → Mem y xs → f y ≡ []) → first (flat_map f xs) ≡ None
+none_flat f [] g = refl
+none_flat f (x ∷ xs) g = ap (λ z. first (z ++ flat_map f xs)) (g x (inl refl)) ∙ none_flat f xs (λ y m. g y (inr m))
 
 -- ---- lists that a function is applied to
 

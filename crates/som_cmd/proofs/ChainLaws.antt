@@ -87,11 +87,11 @@ checked files a b r s i j = record {
 
 -- ---- a run
 
-pub base_put : (start built linked : Option Files) (client library : List ℕ) (r : Release) (p : ClientProgram) → LibraryPuts start library r built → (call : ClientPuts built client library p linked) → call.made.texts.base ≡ r
-base_put start built linked client library r p first call =
+pub base_is : (built linked : Option Files) (client library : List ℕ) (r : Release) (p : ClientProgram) → IsImageOf (Show library) built r → (call : ClientPuts built client library p linked) → call.made.texts.base ≡ r
+base_is built linked client library r p image call =
     one_under call.made.told library call.made.texts.base r
     (subst (λ (n : List ℕ). IsUnder call.made.told n call.made.texts.base) call.library_is call.made.texts.under)
-    (under_name built call.made.told library r call.made.files_are (released start built library r first))
+    (under_name built call.made.told library r call.made.files_are image)
 
 pub runs_later : (built linked files : Option Files) (client library newer : List ℕ) (earlier : List Release) (newest : Release) (place : ℕ) (p : ClientProgram) (fuel : ℕ) (shows : List ℕ → Bool)
     → (call : ClientPuts built client library p linked) → IsImageOfClient (Show client) files p → IsImageOf (Show newer) files newest → Accepted (earlier ++ newest ∷ [])
@@ -129,4 +129,4 @@ runs_first start built linked client library r p fuel shows first call differ =
     let put = released start built library r first in
     let stays = release_stays (client_image p) built linked library client call.status call.old call.new r put call.puts (λ e. differ (sym e)) in
     runs_later built linked linked client library library [] r 0 p fuel shows call (programmed built linked client library p call) stays (accepted_alone r put.under.conforms)
-    (ap (λ (x : Release). Some x) (sym (base_put start built linked client library r p first call)))
+    (ap (λ (x : Release). Some x) (sym (base_is built linked client library r p put call)))

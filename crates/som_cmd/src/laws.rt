@@ -44,9 +44,9 @@ pub fn chain_law()
         Accepted (earlier ++ newest ∷ []) → slice_get (earlier ++ newest ∷ []) place ≡ Some call.made.texts.base →
         AreNewest (Run client newer fuel shows) files earlier newest place call.made.texts.texts p fuel shows }
 
-    // The client is compiled against the release that was put.
-    ensures base { (start built linked : Option Files) (client library : List ℕ) (r : Release) (p : ClientProgram) →
-        LibraryPuts start library r built → (call : ClientPuts built client library p linked) → call.made.texts.base ≡ r }
+    // The client is compiled against the release whose image is there, put by a call before or long before.
+    ensures base { (built linked : Option Files) (client library : List ℕ) (r : Release) (p : ClientProgram) →
+        IsImageOf (Show library) built r → (call : ClientPuts built client library p linked) → call.made.texts.base ≡ r }
 
     // What was put can be shown, and two releases can be checked.
     ensures release { (files new_files : Option Files) (out : List ℕ) (r : Release) → LibraryPuts files out r new_files → IsImageOf (Show out) new_files r }

@@ -1,4 +1,4 @@
-use Rattle.som_cmd.proofs.ChainLaws.{base_put, checked, program_stays, programmed, release_stays, released, runs_first, runs_later}
+use Rattle.som_cmd.proofs.ChainLaws.{base_is, checked, program_stays, programmed, release_stays, released, runs_first, runs_later}
 use Rattle.som_cmd.proofs.laws.chain_law.Goals as goal
 
 pub returns-clause-first : goal.returns-clause-first
@@ -8,7 +8,7 @@ pub returns-clause-later : goal.returns-clause-later
 returns-clause-later c = runs_later
 
 pub returns-clause-base : goal.returns-clause-base
-returns-clause-base c = base_put
+returns-clause-base c = base_is
 
 pub returns-clause-release : goal.returns-clause-release
 returns-clause-release c = released
