@@ -47,7 +47,7 @@ fn name_statements(
     requires { statements_known directory.now block.now ≡ true }
     ensures { IfOk result (λ named. named ≡ block_named directory.now block.now) }
 {
-    let mut statements = List::new(alloc);
+    let mut statements = List::with_room(alloc, block.statements.len())?;
     for statement in block.statements.as_slice() {
         statements.push(name_stmt(alloc, directory, statement)?)?;
     }

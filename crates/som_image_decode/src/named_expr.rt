@@ -179,7 +179,7 @@ fn name_each(
     requires { list_all (expr_known directory.now) exprs.now ≡ true }
     ensures { IfOk result (λ named. named ≡ map (expr_named directory.now) exprs.now) }
 {
-    let mut named = List::new(alloc);
+    let mut named = List::with_room(alloc, exprs.len())?;
     for expr in exprs.as_slice() {
         named.push(name_expr(alloc, directory, expr)?)?;
     }

@@ -73,6 +73,15 @@ impl<T> List<T> {
 }
 
 impl<T: Drop> List<T> {
+    /// The empty list, with room for so many items.
+    pub fn with_room(alloc: Global, room: usize) -> Result<List<T>, NoMemory>
+        ensures { IfOk result (λ list. list ≡ []) }
+    {
+        Ok(List {
+            items: Vec::with_capacity(alloc, room)?,
+        })
+    }
+
     pub fn push(&mut self, item: T) -> Result<(), NoMemory>
         ensures ok { OnOk result (self.new ≡ self.old ++ item ∷ []) }
         ensures err { OnErr result (self.new ≡ self.old) }
