@@ -298,10 +298,6 @@ fn is_low(class: ClassNo) -> bool
 impl Ancestry for Classes {
     ghost known = { λ k. k };
 
-    fn know(&self) {
-        self.know_loaded();
-    }
-
     fn is_a(&self, class: ClassNo, ancestor: ClassNo) -> bool {
         self.numbers.is_a(class, ancestor)
     }

@@ -55,7 +55,6 @@ pub fn hooks_of<H: Ancestry>(
     ensures keys { IfOk result (λ hooks. map (key_at (H.known known.now)) hooks
         ≡ hooks_at (H.known known.now).classes (key_at (H.known known.now) metaclass)) }
 {
-    known.know();
     if known.is_a(metaclass, known.before_after()) {
         hooks_among(alloc, known, known.ancestors(metaclass).as_slice())
     } else {

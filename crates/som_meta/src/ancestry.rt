@@ -14,10 +14,6 @@ pub trait Ancestry {
     /// Its classes, and the key that each number stands for.
     ghost known: { Self → Numbering };
 
-    /// No two numbers stand for one class. It does nothing: it is called to have this fact.
-    fn know(&self)
-        ensures { AreApart (known self.now) };
-
     /// Whether a class is another or descends from it.
     fn is_a(&self, class: ClassNo, ancestor: ClassNo) -> bool
         requires class { IsNumbered (known self.now) class }
@@ -47,7 +43,9 @@ pub trait Ancestry {
         ensures { result ≡ is_kernel_key (key_at (known self.now) class) };
 
     /// The kernel's class SOMMBeforeAfter. Its first two methods are the one that runs before others and the one that runs after them.
+    /// That no two numbers stand for one class is said here, since the hierarchy is asked for nothing else.
     fn before_after(&self) -> ClassNo
+        ensures apart { AreApart (known self.now) }
         ensures numbered { IsNumbered (known self.now) result }
         ensures key { key_at (known self.now) result ≡ before_after_key }
         ensures before { IsToken (known self.now) (result, 0) }

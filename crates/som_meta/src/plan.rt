@@ -40,7 +40,7 @@ pub fn metaclass_of<H: Ancestry>(
     ensures plan { IfOk result (λ plan. plan ≡ plan_of (planned (H.known known.now) declared parent_metas.now)) }
     ensures meta { IfOk result (λ plan. plan_key (H.known known.now) plan ≡ chosen_key (H.known known.now) declared parent_metas.now) }
 {
-    known.know();
+    known.before_after();
     let all = constraints(alloc, declared, parent_metas.as_slice())?;
     let once = each_once(alloc, all.as_slice())?;
     let lowest = lowest(alloc, known, once.as_slice())?;

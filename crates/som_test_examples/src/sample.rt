@@ -76,8 +76,6 @@ impl Sample {
 impl Ancestry for Sample {
     ghost known = { λ _. sample };
 
-    fn know(&self) {}
-
     fn is_a(&self, class: ClassNo, ancestor: ClassNo) -> bool {
         is_among(ancestor, at(&self.ancestors, class).as_slice())
     }

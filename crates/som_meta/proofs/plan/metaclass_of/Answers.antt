@@ -11,4 +11,4 @@ lowest-requires g c =
 pub returns-clause-meta : goal.returns-clause-meta
 returns-clause-meta g c =
     rw (c.plan.ensures, c.in_ok-lowest.ensures, c.as_slice-3.ensures, c.in_ok-once.ensures, c.as_slice-2.ensures, c.in_ok-all.ensures, c.as_slice.ensures)
-    (plan-keys (g.H.Ancestry.known c.args.known.now) c.know.ensures c.args.declared c.args.parent_metas.now c.requires)
+    (plan-keys (g.H.Ancestry.known c.args.known.now) c.before_after.ensures.apart c.args.declared c.args.parent_metas.now c.requires)

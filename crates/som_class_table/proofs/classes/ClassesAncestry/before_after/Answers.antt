@@ -1,6 +1,9 @@
 use Rattle.som_class_table.proofs.Bodies.{after_is, after_token, before_is, before_token, key_3, numbered_3}
 use Rattle.som_class_table.proofs.classes.ClassesAncestry.before_after.Goals as goal
 
+pub returns-clause-apart : goal.returns-clause-apart
+returns-clause-apart c = c.know_loaded.ensures.apart
+
 pub returns-clause-numbered : goal.returns-clause-numbered
 returns-clause-numbered c = rw c.new.ensures (numbered_3 c.args.self.now c.know_loaded.ensures)
 
