@@ -181,10 +181,19 @@ impl Numbers {
             ClassKey::Named { .. } => self.find_declared(key),
             ClassKey::Derived { .. } => find_made(key, self),
             ClassKey::Proxy { of } => match self.find(of.get()) {
-                Some(target) => self.made(Kind::Proxy, &[target]),
+                Some(target) => self.proxy_of(target),
                 None => self.no_proxy(of.get()),
             },
         }
+    }
+
+    /// The number of the class of the proxies of a class, if it has one.
+    pub fn proxy_of(&self, target: ClassNo) -> Option<ClassNo>
+        requires { IsNumbered self.now target }
+        ensures some { IfSome result (λ n. IsNumbered self.now n × (key_at self.now n ≡ ClassKey.Proxy (key_at self.now target))) }
+        ensures none { IfNone result ((n : ℕ) → IsNumbered self.now n → key_at self.now n ≡ ClassKey.Proxy (key_at self.now target) → ⊥) }
+    {
+        self.made(Kind::Proxy, &[target])
     }
 
     /// A class without a number has no proxy with one.

@@ -181,6 +181,15 @@ impl Classes {
         self.numbers.find(key)
     }
 
+    /// The number of the class of the proxies of a class, if it has one.
+    pub fn proxy_of(&self, target: ClassNo) -> Option<ClassNo>
+        requires { IsNumbered self.now target }
+        ensures some { IfSome result (λ n. IsNumbered self.now n × (key_at self.now n ≡ ClassKey.Proxy (key_at self.now target))) }
+        ensures none { IfNone result ((n : ℕ) → IsNumbered self.now n → key_at self.now n ≡ ClassKey.Proxy (key_at self.now target) → ⊥) }
+    {
+        self.numbers.proxy_of(target)
+    }
+
     /// The number of the class of a name: of the client's, or else of that of the highest level above the library, or else of the library's, or else of
     /// the kernel's.
     pub fn named(&self, name: &Text) -> Option<ClassNo>

@@ -1,8 +1,7 @@
 -- What a program that runs asks of a linked kernel is told by its classes and their numbers.
-use Rattle.std.proofs.Common.{◌≡◌, ◌↔◌, ◌⊎◌, ℕ, zero, suc, ◌<◌, ◌≤◌, ◌&&◌, ◌==◌, nat_lt, inl, inr, Bool, true, false, if◌then◌else◌, List, [], ◌∷◌, length, map, get_or, Option, Some, None, IsSome, is_some, OnOk, Result, slice_get, slice_index_or, refl, sym, ap, ◌∙◌, subst, arith, true≢false}
-use Rattle.std.proofs.lemmas.Bool.{cases_lt}
+use Rattle.std.proofs.Common.{◌≡◌, ◌↔◌, ◌⊎◌, ℕ, zero, suc, ◌<◌, ◌≤◌, ◌&&◌, nat_lt, inl, inr, Bool, true, false, if◌then◌else◌, List, [], ◌∷◌, length, get_or, Option, Some, None, IsSome, is_some, OnOk, Result, slice_get, slice_index_or, refl, sym, ap, ◌∙◌, subst, arith, true≢false}
 use Rattle.std.proofs.lemmas.Option.{same_Some, slice_get_within}
-use Rattle.som_model.specs.declared.key.ClassKey.{ClassKey, out-ClassKey}
+use Rattle.som_model.specs.declared.key.ClassKey.{ClassKey}
 use Rattle.som_model.specs.declared.key.ClassKey.TheOpen.{ClassKey-F}
 use Rattle.som_model.specs.declared.key.ClassKey.TheVariants as keys
 use Rattle.som_model.specs.declared.key.ValueType.{ValueType}
@@ -26,17 +25,14 @@ use Rattle.som_model_laws.proofs.Laws.{descends_test}
 use Rattle.som_model_laws.proofs.Members.{not_true}
 use Rattle.som_model_laws.proofs.Lists.{map_mem, mem_get}
 use Rattle.som_model_laws.proofs.Standing as standing
-use Rattle.som_model_laws.specs.Metaclasses.{IsDeclared}
 use Rattle.som_meta.specs.Numbering.{IsNumbered, IsToken, Numbering, key_at, names_of}
 use Rattle.som_class_ids.specs.declared.position.Kind.{Kind}
 use Rattle.som_class_ids.specs.declared.position.Kind.TheVariants as kinds
-use Rattle.som_class_ids.specs.Numbers.{IsProxy}
 use Rattle.som_class_ids.proofs.Adding.{out_derived, out_proxy}
 use Rattle.som_class_ids.proofs.Declaring.{at_mem, mem_at}
 use Rattle.som_class_ids.proofs.Making.{some_class}
 use Rattle.som_class_table.specs.Loaded.{AreLoaded}
 use Rattle.som_class_table.proofs.Bodies.{found, key_0, made_unknown}
-use Rattle.som_class_table.proofs.LoadedClasses as loading
 use Rattle.som_class_variables.specs.Variables.{object_variables, own_variables, place_in, types_of, variables_in}
 use Rattle.som_class_variables.proofs.Placing.{falls, place_kind, places_differ, tells}
 use Rattle.som_class_table.specs.Making.{IsMarked}
@@ -47,7 +43,7 @@ use Rattle.som_class_loaded.specs.Made.{IsReached}
 use Rattle.som_class_kernel.specs.Linked.{IsLinked, IsMadeIn, Linkage}
 use Rattle.som_classmgr.specs.Asking.{answers_of, is_made, is_token, kind_at, linked_of, places_of}
 use Rattle.som_classmgr.proofs.Reached.{comes_there, number, ok_then}
-use Rattle.som_classmgr.proofs.Reading.{declared_key, mapped_at}
+use Rattle.som_classmgr.proofs.Reading.{declared_key}
 
 lt_told : (a b : ℕ) → (nat_lt a b ≡ true) ↔ (a < b)
 lt_told a b = (λ e. grind arith, λ lt. grind (arith, lt))
@@ -353,39 +349,8 @@ proxy_no k l n kinds.Declared other declared derived =
 proxy_no k l n kinds.Derived other declared derived = sym (ap is_proxy (derived refl) ∙ ap proxy_layer (out_derived ((hierarchy k.classes).parents (key_at k n))))
 proxy_no k l n kinds.Proxy other declared derived = absurd (other refl)
 
--- proxies have later numbers than declared classes
-pub proxy_late : (k : Numbering) → AreLoaded k → (n : ℕ) (of : ClassKey) → key_at k n ≡ keys.Proxy of → length k.classes ≤ n
-proxy_late k l n of e = elim (cases_lt n (length k.classes)) [
-  | inl lt ↦ absurd (let c = some_class k.classes n lt in loading.not_proxy of (subst IsDeclared e (declared_key k l n c.0 c.1)))
-  | inr ge ↦ ge
-]
-
-pub proxy_other : (k : Numbering) → AreLoaded k → (n : ℕ) (kind : Kind) → (kind ≡ kinds.Proxy → ⊥) → (kind ≡ kinds.Declared → n < length k.classes) → (kind ≡ kinds.Derived → key_at k n ≡ keys.Derived ((hierarchy k.classes).parents (key_at k n)))
-    → (of : ClassKey) → key_at k n ≡ keys.Proxy of → ⊥
-proxy_other k l n kind other declared derived of e = true≢false (proxy_yes (key_at k n) of e ∙ sym (proxy_no k l n kind other declared derived))
-
--- two classes of one proxy are one
-pub one_target : (k : Numbering) → AreLoaded k → (m n : ℕ) → IsNumbered k m → IsNumbered k n → (x : ClassKey) → x ≡ keys.Proxy (key_at k m) → x ≡ keys.Proxy (key_at k n) → m ≡ n
-one_target k l m n im num x e f = l.apart m n im num (one_proxy (key_at k m) (key_at k n) (sym e ∙ f))
-  where
-    one_proxy : (a b : ClassKey) → keys.Proxy a ≡ keys.Proxy b → a ≡ b
-    one_proxy a b g = (let h : ClassKey-F.Proxy a ≡ ClassKey-F.Proxy b = sym (out_proxy a) ∙ ap out-ClassKey g ∙ out_proxy b in cc)
-
 pub target_numbered : (k : Numbering) → AreLoaded k → (n : ℕ) (of : ClassKey) → IsNumbered k n → key_at k n ≡ keys.Proxy of → (m : ℕ) × IsNumbered k m × (key_at k m ≡ of)
 target_numbered k l n of num e =
     let c = map_mem (λ (z : Class). z.key) of k.classes (l.targets n of num e) in
     let i = mem_get k.classes c.0 c.1 in
     (i.0, l.first.numbered i.0 c.0 i.1, l.first.key i.0 c.0 i.1 ∙ sym c.2)
-
-pub not_other : (a b : ℕ) (r : Bool) → r ≡ (a == b) → r ≡ false → a ≡ b → ⊥
-not_other a b r e f same = grind (arith, e, f, same)
-
--- a proxy whose first parent is another class has another target
-pub another_target : (k : Numbering) → AreLoaded k → (n target : ℕ) → IsNumbered k n → IsNumbered k target → (ps : List ℕ) → ((p : ℕ) → Mem p ps → p < n) → map (key_at k) ps ≡ (hierarchy k.classes).parents (key_at k n) → IsProxy k n
-    → (p : ℕ) → p ≡ slice_index_or ps 0 p → key_at k n ≡ keys.Proxy (key_at k target) → p ≡ target
-another_target k l n target num it ps lower keys_are proxy p is e =
-    let first = mapped_at (key_at k) ps 0 proxy.of (ap (λ (z : List ClassKey). slice_get z 0) (keys_are ∙ proxy.parents)) in
-    let low = lower (slice_index_or ps 0 p) (first.1 p).0 in
-    let ip : IsNumbered k p = omega (arith, low, num, is) in
-    let key : key_at k p ≡ proxy.of = ap (key_at k) is ∙ (first.1 p).1 in
-    one_target k l p target ip it (key_at k n) (proxy.key ∙ ap (λ (z : ClassKey). keys.Proxy z) (sym key)) e

@@ -1,3 +1,4 @@
 pub mod Reading
 pub mod Reached
 pub mod Asking
+pub mod Counting

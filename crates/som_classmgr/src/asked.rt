@@ -4,13 +4,11 @@ ghost use Rattle.som_classmgr.specs.Asking.{kind_at};
 ghost use Rattle.som_meta.specs.Numbering.{IsNumbered, key_at};
 ghost use Rattle.som_model.specs.Classes.{variable_type};
 ghost use Rattle.som_semantics.specs.State.{zero_of};
-ghost use Rattle.som_model.specs.declared.key.ClassKey.{ClassKey as Key};
 ghost use Rattle.som_model.specs.declared.key.ClassKey.TheVariants as made_of;
 ghost use Rattle.som_class_variables.specs.Variables.{own_variables};
 ghost use Rattle.som_interp_state.specs.Standing.{zero_shown};
-ghost use Rattle.std.specs.Prelude.{◌≡◌, ◌<◌, ℕ, false, length, true};
+ghost use Rattle.std.specs.Prelude.{◌≡◌, ℕ, length};
 
-use som_class_ids::Kind;
 use som_class_table::Classes;
 use som_interp_state::Zero;
 use som_model::{ValueType, Variable};
@@ -68,32 +66,15 @@ pub(crate) fn zero_in(classes: &Classes, class: ClassNo, variable: u8) -> Zero
     }
 }
 
-/// Whether a class is that of the proxies of a target.
-fn is_proxy_of(classes: &Classes, class: ClassNo, target: ClassNo) -> bool
-    requires class { IsNumbered classes.now class }
-    requires target { IsNumbered classes.now target }
-    ensures yes { result ≡ true → key_at classes.now class ≡ made_of.Proxy (key_at classes.now target) }
-    ensures no { result ≡ false → key_at classes.now class ≡ made_of.Proxy (key_at classes.now target) → ⊥ }
-{
-    let _count = classes.count();
-    match classes.kind(class) {
-        Kind::Proxy => classes.parents(class).as_slice()[0] == target,
-        _ => false,
-    }
-}
-
-/// The class of the proxies of a target, which has a number. Proxies have the first numbers after the declared classes.
+/// The class of the proxies of a target, which has a number.
 pub(crate) fn proxy_number(classes: &Classes, target: ClassNo) -> ClassNo
     requires target { IsNumbered classes.now target }
     requires there { (n : ℕ) × IsNumbered classes.now n × (key_at classes.now n ≡ made_of.Proxy (key_at classes.now target)) }
     ensures numbered { IsNumbered classes.now result }
     ensures key { key_at classes.now result ≡ made_of.Proxy (key_at classes.now target) }
 {
-    for number in classes.declared_count()..classes.count() {
-        let class = ClassNo::new(number);
-        if is_proxy_of(classes, class, target) {
-            return class;
-        }
+    match classes.proxy_of(target) {
+        Some(class) => class,
+        None => unreachable!(),
     }
-    unreachable!()
 }

@@ -7,12 +7,21 @@ ghost use Rattle.som_model.specs.Classes.{hierarchy};
 ghost use Rattle.som_class_variables.specs.Variables.{IsVariable, object_variables, own_variables, place_in};
 ghost use Rattle.std.specs.Prelude.{◌≡◌, ◌<◌, ℕ, length, slice_get};
 
+use crate::asked::own_count;
 use crate::kernel::Kernel;
 use som_class_kernel::Linked;
 use som_model::{List, ValueType};
 use som_tables::{ClassNo, DToken};
 
 impl Kernel<Linked> {
+    /// How many variables of its own a class has, made or not.
+    pub fn variable_count(&self, class: ClassNo) -> usize
+        requires { IsNumbered self.now.classes class }
+        ensures { result ≡ length (own_variables self.now.classes.classes (key_at self.now.classes class)) }
+    {
+        own_count(self.classes(), class)
+    }
+
     /// The token of a variable of a class's own, which need not be made.
     pub fn data_token(&self, class: ClassNo, variable: u8) -> DToken
         requires class { IsNumbered self.now.classes class }

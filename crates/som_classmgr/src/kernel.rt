@@ -108,12 +108,21 @@ impl Kernel<Linked> {
         self.stage.reach(alloc, class)
     }
 
-    /// The classes by their numbers, made or not.
-    pub fn classes(&self) -> &Classes
+    /// The classes by their numbers, made or not, with their bodies: so they are lent in this crate alone.
+    pub(crate) fn classes(&self) -> &Classes
         ensures value { result.now ≡ self.now.classes }
         ensures linked { IsLinked self.now }
         ensures loaded { AreLoaded self.now.classes }
     {
         self.stage.classes()
+    }
+
+    /// What each linked kernel keeps: its classes are the kernel's and others that can be loaded with its main, and what is made has the rows, names and
+    /// hooks of these classes.
+    pub fn know(&self)
+        ensures linked { IsLinked self.now }
+        ensures loaded { AreLoaded self.now.classes }
+    {
+        let _classes = self.classes();
     }
 }

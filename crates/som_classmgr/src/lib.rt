@@ -5,6 +5,7 @@
 mod asked;
 mod data;
 mod kernel;
+mod laws;
 mod link;
 mod methods;
 mod queries;
@@ -12,7 +13,9 @@ mod runtime;
 mod search;
 
 pub use kernel::{Kernel, Stage, Unlinked};
-pub use som_class_kernel::{BodyNo, Linked, names_law};
+pub use laws::made_law;
+pub use som_class_ids::Keyed;
+pub use som_class_kernel::{BodyNo, Linked};
 pub use som_interp_state::{BodyView, Held};
 pub use som_link_check::LinkFault;
 pub use som_trace::KeyView;

@@ -11,14 +11,14 @@ ghost use Rattle.som_semantics.specs.World.{world};
 ghost use Rattle.som_trace.specs.Views.{IsView};
 ghost use Rattle.std.specs.List.{count_by};
 ghost use Rattle.std.specs.Option.{option_map};
-ghost use Rattle.std.specs.Prelude.{◌≡◌, ◌↔◌, ◌∷◌, ◌<◌, [], ℕ, IfNone, IfSome, IsTrue, length, map};
+ghost use Rattle.std.specs.Prelude.{◌≡◌, ◌↔◌, ◌∷◌, ◌<◌, [], ℕ, IfNone, IfSome, IsTrue, Some, length, map, slice_get};
 
 use crate::kernel::Kernel;
 use som_class_ids::Kind;
 use som_class_kernel::Linked;
 use som_class_table::Classes;
 use som_meta::Ancestry;
-use som_model::{Block, ClassKey, List, Text};
+use som_model::{Block, ClassFace, ClassKey, List, Text};
 use som_tables::ClassNo;
 use som_trace::KeyView;
 
@@ -48,6 +48,28 @@ fn declared_view(classes: &Classes, class: ClassNo) -> KeyView<'_>
 }
 
 impl Kernel<Linked> {
+    /// How many classes have numbers, made or not: the numbers below this one.
+    pub fn count(&self) -> u32
+        ensures { result ≡ length self.now.classes.keys }
+    {
+        self.classes().count()
+    }
+
+    /// How many classes are declared, the kernel's among them. They have the first numbers.
+    pub fn declared_count(&self) -> u32
+        ensures { result ≡ length self.now.classes.classes }
+    {
+        self.classes().declared_count()
+    }
+
+    /// The face of a declared class: all that is declared of it but its variables and bodies.
+    pub fn face(&self, class: ClassNo) -> &ClassFace
+        requires { class < length self.now.classes.classes }
+        ensures { option_map (λ c. c.decl.face) (slice_get self.now.classes.classes class) ≡ Some result.now }
+    {
+        &self.classes().declared(class).decl.face
+    }
+
     /// The client's main.
     pub fn main(&self) -> &Block
         ensures { result.now ≡ self.now.main }

@@ -25,7 +25,8 @@ fn link(
     Ok(Kernel::new()?.link(alloc, &library, &client))
 }
 
-fn query_kernel(
+/// Does what is asked of a linked kernel.
+pub fn query_kernel(
     rt: &HostRuntime,
     kernel: Kernel<Linked>,
     query: &Query<'_>,

@@ -8,7 +8,7 @@ use std::alloc::Global;
 
 // Makes all classes.
 fn make_all(alloc: Global, linked: &mut Kernel<Linked>) -> Result<(), NoMemory> {
-    for number in 0..linked.classes().count() {
+    for number in 0..linked.count() {
         linked.reach(alloc, ClassNo::new(number))?;
     }
     Ok(())
@@ -16,7 +16,7 @@ fn make_all(alloc: Global, linked: &mut Kernel<Linked>) -> Result<(), NoMemory> 
 
 /// Tells how many classes have numbers.
 pub fn tell_numbered(rt: &HostRuntime, kernel: &Kernel<Linked>) -> Result<(), QueryFault> {
-    println!(rt; "numbered {}", kernel.classes().count())?;
+    println!(rt; "numbered {}", kernel.count())?;
     Ok(())
 }
 

@@ -1,4 +1,4 @@
-//! Asks linked kernels, lets their tasks go on by units, and makes their classes: `som_test_kernel WORD..`, where a word is `ask:FILE`,
+//! Asks linked kernels, lets their tasks go on by units, and makes their classes: `som_test_kernel WORD..`, where a word is `ask:FILE`, `rows:FILE`,
 //! `lay:CLIENT:LIBRARY` or `make:CLIENT:LIBRARY`, or `alone`, `beside` or `fuels` before `:CLIENT:LIBRARY:DIGITS`.
 #![tactic(auto)]
 
@@ -9,13 +9,14 @@ mod cases;
 mod fuels;
 mod kernels;
 mod laying;
+mod levels;
 mod queries;
 mod query_fault;
 mod taking;
 mod telling;
 mod turning;
 
-use cases::ask_file;
+use cases::{Ground, ask_file};
 use kernels::query_files;
 use queries::Query;
 use query_fault::QueryFault;
@@ -49,7 +50,8 @@ fn take_turns(rt: &HostRuntime, word: &str, rest: &str, turns: Turns) -> Result<
 fn obey(rt: &HostRuntime, word: &str) -> Result<(), QueryFault> {
     let (kind, rest) = part(word)?;
     match kind.as_bytes() {
-        b"ask" => ask_file(rt, rest),
+        b"ask" => ask_file(rt, Ground::Images, rest),
+        b"rows" => ask_file(rt, Ground::Classes, rest),
         b"lay" => ask_pair(rt, rest, &Query::Numbered),
         b"make" => ask_pair(rt, rest, &Query::Made),
         b"alone" => take_turns(rt, word, rest, Turns::Alone),

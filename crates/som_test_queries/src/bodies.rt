@@ -64,8 +64,7 @@ fn counted_body<L: Ledger>(
     requires some { 0 < blank.parts }
     ensures { IfSome result (λ found. IsNumbered kernel.now.classes found.0) }
 {
-    let classes = kernel.classes();
-    let _count = classes.count();
+    kernel.know();
     let mut steps: Steps<L> = Steps::new(blank);
     let method = kernel.find(meant_in, name, &mut steps)?;
     if kernel.is_a(class, method.class()) {
@@ -92,8 +91,7 @@ fn counted_above<L: Ledger>(
     requires some { 0 < blank.parts }
     ensures { IfSome result (λ found. IsNumbered kernel.now.classes found.0) }
 {
-    let classes = kernel.classes();
-    let _count = classes.count();
+    kernel.know();
     let mut steps: Steps<L> = Steps::new(blank);
     let method = kernel.find(class, name, &mut steps)?;
     let parents = kernel.parents(class).as_slice();

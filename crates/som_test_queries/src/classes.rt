@@ -2,7 +2,7 @@
 
 use crate::lines::{first_word, number_of};
 use crate::making::{class_called, made_called};
-use crate::telling::{module_of, told, told_class, told_classes, told_number, told_truth};
+use crate::telling::{told, told_class, told_classes, told_module, told_number, told_truth};
 use crate::unasked::Unasked;
 use som_classmgr::{Kernel, Linked};
 use som_model::{List, Text};
@@ -99,7 +99,7 @@ pub fn tell_found(
     let name = Text::from_slice(alloc, name)?;
     match kernel.find_class(&name, major, minor) {
         Some(class) => {
-            told(out, module_of(kernel, class))?;
+            told_module(out, kernel, class)?;
             told_class(alloc, out, kernel, class)?;
         }
         None => told(out, b"none")?,

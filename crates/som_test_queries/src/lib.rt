@@ -11,7 +11,7 @@ mod telling;
 mod unasked;
 mod variables;
 
-pub use lines::{first_line, first_word};
+pub use lines::{first_line, first_word, number_of};
 pub use questions::ask_all;
 pub use telling::{told, told_number};
 pub use unasked::Unasked;

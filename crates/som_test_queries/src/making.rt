@@ -4,10 +4,10 @@ ghost use Rattle.som_class_kernel.specs.Linked.{IsMadeIn};
 ghost use Rattle.som_meta.specs.Numbering.{IsNumbered};
 ghost use Rattle.std.specs.Prelude.{IfOk};
 
-use crate::telling::module_of;
+use crate::telling::told_module;
 use crate::unasked::Unasked;
 use som_classmgr::{Kernel, Linked};
-use som_model::NoMemory;
+use som_model::{List, NoMemory};
 use som_tables::ClassNo;
 use som_trace::name_within;
 use std::alloc::Global;
@@ -21,7 +21,9 @@ fn is_called(
 ) -> Result<bool, NoMemory>
     requires { IsNumbered kernel.now.classes class }
 {
-    let plain = match word.strip_prefix(module_of(kernel, class)) {
+    let mut front = List::new(alloc);
+    told_module(&mut front, kernel, class)?;
+    let plain = match word.strip_prefix(front.as_slice()) {
         Some(rest) => rest,
         None => word,
     };
@@ -35,7 +37,7 @@ fn is_called(
 pub fn class_called(alloc: Global, kernel: &Kernel<Linked>, word: &[u8]) -> Result<ClassNo, Unasked>
     ensures { IfOk result (IsNumbered kernel.now.classes) }
 {
-    for number in 0..kernel.classes().count() {
+    for number in 0..kernel.count() {
         let class = ClassNo::new(number);
         if is_called(alloc, kernel, class, word)? {
             return Ok(class);
@@ -59,7 +61,7 @@ pub fn made_called(alloc: Global, kernel: &Kernel<Linked>, word: &[u8]) -> Resul
 
 // Makes all classes, one after the other.
 fn reach_all(alloc: Global, kernel: &mut Kernel<Linked>) -> Result<(), NoMemory> {
-    for number in 0..kernel.classes().count() {
+    for number in 0..kernel.count() {
         kernel.reach(alloc, ClassNo::new(number))?;
     }
     Ok(())

@@ -1,6 +1,6 @@
 //! Questions on methods: owner, signature, and types.
 
-ghost use Rattle.som_meta.specs.Numbering.{IsToken};
+ghost use Rattle.som_meta.specs.Numbering.{IsNumbered, IsToken, key_at};
 ghost use Rattle.som_model.specs.Class.{entry_name as name_in};
 ghost use Rattle.std.specs.Prelude.{◌≡◌, ◌<◌, IfOk, IfSome, Some, length, slice_get};
 
@@ -8,8 +8,8 @@ use crate::lines::first_word;
 use crate::making::class_called;
 use crate::telling::{told, told_class};
 use crate::unasked::Unasked;
-use som_classmgr::{Kernel, Linked};
-use som_model::{Entry, List, MethodRef, NoMemory, Text, ValueType};
+use som_classmgr::{Kernel, KeyView, Linked};
+use som_model::{ClassKey, Entry, List, MethodRef, NoMemory, Text, ValueType};
 use som_tables::{ClassNo, MToken};
 use std::alloc::Global;
 
@@ -37,6 +37,20 @@ fn entry_in(entries: &[Entry], place: usize) -> &Entry
     &entries[place]
 }
 
+// The key of a declared class.
+fn declared_key(alloc: Global, kernel: &Kernel<Linked>, class: ClassNo) -> Result<ClassKey, Unasked>
+    requires { IsNumbered kernel.now.classes class }
+    ensures { IfOk result (λ key. key ≡ key_at kernel.now.classes class) }
+{
+    match kernel.key(class) {
+        KeyView::Named { module, name } => {
+            let name = name.copy(alloc)?;
+            Ok(ClassKey::Named { module, name })
+        }
+        _ => Err(Unasked::Line),
+    }
+}
+
 // The token of the owner of the method that the entry of a name in a declared class names.
 fn owner_of(
     alloc: Global,
@@ -44,19 +58,18 @@ fn owner_of(
     class: ClassNo,
     name: &[u8],
 ) -> Result<MToken, Unasked>
-    requires { class < length kernel.now.classes.classes }
+    requires declared { class < length kernel.now.classes.classes }
+    requires numbered { IsNumbered kernel.now.classes class }
     ensures { IfOk result (IsToken kernel.now.classes) }
 {
-    let classes = kernel.classes();
-    let _count = classes.count();
-    let declared = classes.declared(class);
-    let entries = declared.decl.face.entries.as_slice();
+    kernel.know();
+    let entries = kernel.face(class).entries.as_slice();
     let Some(place) = place_of(entries, name) else {
         return Err(Unasked::Line);
     };
     let entry = entry_in(entries, place);
     let name = entry_name(entry).copy(alloc)?;
-    let class = declared.key.copy(alloc)?;
+    let class = declared_key(alloc, kernel, class)?;
     Ok(kernel.method_token(&MethodRef { class, name }))
 }
 
@@ -110,7 +123,7 @@ pub fn tell_entry(
 ) -> Result<(), Unasked> {
     let (class, name) = first_word(rest);
     let class = class_called(alloc, kernel, class)?;
-    if class.number() >= kernel.classes().declared_count() {
+    if class.number() >= kernel.declared_count() {
         return Err(Unasked::Line);
     }
     let token = owner_of(alloc, kernel, class, name)?;

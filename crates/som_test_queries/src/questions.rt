@@ -23,7 +23,7 @@ fn tell_answer(
     out: &mut List<u8>,
 ) -> Result<(), Unasked> {
     match word {
-        b"numbered" => Ok(told_number(out, kernel.classes().count())?),
+        b"numbered" => Ok(told_number(out, kernel.count())?),
         b"made" | b"reach" => Ok(told_number(out, kernel.made())?),
         b"is_made" => tell_is_made(alloc, kernel, rest, out),
         b"found" => tell_found(alloc, kernel, rest, out),

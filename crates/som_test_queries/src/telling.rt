@@ -64,17 +64,30 @@ pub fn told_classes(
     Ok(())
 }
 
-/// Where a class comes from.
-pub fn module_of(kernel: &Kernel<Linked>, class: ClassNo) -> &'static [u8]
+// Adds the name of a module.
+fn told_home(out: &mut List<u8>, home: Module) -> Result<(), NoMemory> {
+    match home {
+        Module::Kernel => told(out, b"kernel"),
+        Module::Library => told(out, b"library"),
+        Module::Upper(level) => {
+            told(out, b"upper")?;
+            told_number(out, u32::from(level))
+        }
+        Module::Client => told(out, b"client"),
+    }
+}
+
+/// Adds where a class comes from, as `library::`, and of a library above it also the level, as `upper2::`.
+pub fn told_module(
+    out: &mut List<u8>,
+    kernel: &Kernel<Linked>,
+    class: ClassNo,
+) -> Result<(), NoMemory>
     requires { IsNumbered kernel.now.classes class }
 {
     match kernel.key(class) {
-        KeyView::Named { module, .. } => match module {
-            Module::Kernel => b"kernel::",
-            Module::Library => b"library::",
-            Module::Upper(_) => b"upper::",
-            Module::Client => b"client::",
-        },
-        _ => b"made::",
+        KeyView::Named { module, .. } => told_home(out, module)?,
+        _ => told(out, b"made")?,
     }
+    told(out, b"::")
 }

@@ -31,14 +31,8 @@ fn place(kernel: &Kernel<Linked>, object: ClassNo, class: ClassNo, variable: u8)
     requires object { IsNumbered kernel.now.classes object }
     requires class { IsNumbered kernel.now.classes class }
 {
-    let classes = kernel.classes();
-    let _count = classes.count();
-    if class.number() >= classes.declared_count() {
-        return None;
-    }
-    if usize::from(variable) < classes.declared(class).decl.variables.len()
-        && kernel.is_a(object, class)
-    {
+    kernel.know();
+    if usize::from(variable) < kernel.variable_count(class) && kernel.is_a(object, class) {
         Some(kernel.data_place(object, kernel.data_token(class, variable)))
     } else {
         None

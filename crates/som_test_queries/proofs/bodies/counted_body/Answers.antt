@@ -9,4 +9,4 @@ pub resolve-body-requires-clause-below : goal.resolve-body-requires-clause-below
 resolve-body-requires-clause-below g c =
     let k = c.args.kernel.now.classes in
     subst (λ (n : ℕ). Descends (hierarchy k.classes) (key_at k c.args.class) (key_at k n)) c.class.ensures
-    (below_told k c.classes-classes.ensures.loaded _ _ (sym c.if-is_a.ensures))
+    (below_told k c.know.ensures.loaded _ _ (sym c.if-is_a.ensures))
