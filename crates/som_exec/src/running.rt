@@ -1,16 +1,14 @@
 //! Main of a linked kernel run from start to end.
 
 ghost use Rattle.som_machine_laws.specs.Counted.{IsDirectRun, IsSearchFree};
-ghost use Rattle.som_interp_task.specs.Run.{Counts, LeavesFuel, StaysCalm};
+ghost use Rattle.som_interp_task.specs.Run.{Counts, CountsRun, LeavesFuel, StaysCalm};
 ghost use Rattle.som_interp_task.specs.Stands.{Stands};
 ghost use Rattle.som_semantics.specs.Means.{means_in};
-ghost use Rattle.som_semantics.specs.RunText.{call_count};
-ghost use Rattle.som_semantics.specs.Runs.{end_of};
 ghost use Rattle.som_interp_loop.specs.Scene.{scene};
 ghost use Rattle.som_objects.specs.Objects.{Objects};
 ghost use Rattle.som_exec.specs.Runs.{RunsMain};
 ghost use Rattle.som_trace.specs.Filters.{shows_of};
-ghost use Rattle.std.specs.Prelude.{◌≡◌, ◌≤◌, ◌+◌, ◌*◌, false};
+ghost use Rattle.std.specs.Prelude.{◌≡◌, [], false};
 
 use crate::{Finished, Machine};
 use som_host::HostTable;
@@ -27,7 +25,7 @@ use std::sync::ledger::Ledger;
 /// Runs the main of a linked kernel by this fuel, with objects of its own: it answers the end of what main means, and
 /// tells its text, or a front of it where memory was wanting or the sink failed. The classes that were used are made,
 /// and the kernel is else as it was. Where no block searches for a name and no class that is made by the end has hooks,
-/// at most two steps are counted for each call event, and two more.
+/// at most two steps are counted for each call event, and two more; after SinkFailed and NoMemory for those alone that came.
 pub fn run<R: Runtime, K: Sink, L: Ledger>(
     alloc: Global,
     runtime: &mut R,
@@ -38,8 +36,7 @@ pub fn run<R: Runtime, K: Sink, L: Ledger>(
     steps: &mut Steps<L>,
 ) -> Outcome
     ensures runs { RunsMain (R.world runtime.old) (R.program runtime.old) fuel (shows_of trace.now) (K.written out.old) (K.written out.new) (R.known runtime.old).classes (R.made runtime.old) (R.made runtime.new) result }
-    ensures steps { IsSearchFree (R.known runtime.old).classes (R.program runtime.old) (R.made runtime.new)
-        → steps.new ≤ steps.old + 2 * call_count (end_of (means_in (R.world runtime.old) (R.program runtime.old) fuel)).events + 2 }
+    ensures steps { CountsRun (IsSearchFree (R.known runtime.old).classes (R.program runtime.old) (R.made runtime.new)) (means_in (R.world runtime.old) (R.program runtime.old) fuel) (shows_of trace.now) [] (K.written out.old) (K.written out.new) steps.old steps.new result }
 
     ensures counts { Counts (K.faults out.old) (K.faults out.new) result }
     ensures calms { StaysCalm (K.calm out.old) (K.calm out.new) (K.faults out.old) (K.faults out.new) result }
@@ -67,8 +64,7 @@ pub fn finish<R: Runtime, K: Sink, L: Ledger>(
 ) -> Finished
     ensures runs { RunsMain (R.world runtime.old) (R.program runtime.old) fuel (shows_of trace.now) (K.written out.old) (K.written out.new) (R.known runtime.old).classes (R.made runtime.old) (R.made runtime.new) result.outcome }
     ensures left { LeavesFuel (means_in (R.world runtime.old) (R.program runtime.old) fuel) result.left result.outcome }
-    ensures steps { IsSearchFree (R.known runtime.old).classes (R.program runtime.old) (R.made runtime.new)
-        → steps.new ≤ steps.old + 2 * call_count (end_of (means_in (R.world runtime.old) (R.program runtime.old) fuel)).events + 2 }
+    ensures steps { CountsRun (IsSearchFree (R.known runtime.old).classes (R.program runtime.old) (R.made runtime.new)) (means_in (R.world runtime.old) (R.program runtime.old) fuel) (shows_of trace.now) [] (K.written out.old) (K.written out.new) steps.old steps.new result.outcome }
 
     ensures counts { Counts (K.faults out.old) (K.faults out.new) result.outcome }
     ensures calms { StaysCalm (K.calm out.old) (K.calm out.new) (K.faults out.old) (K.faults out.new) result.outcome }
@@ -109,8 +105,7 @@ fn run_task<'a, R: Runtime, K: Sink, L: Ledger>(
     requires begun { task.task.begun ≡ false }
     ensures runs { RunsMain (R.linked runtime.old).world (R.program runtime.old) fuel (shows_of trace.now) (K.written out.old) (K.written out.new) (R.known runtime.old).classes (R.made runtime.old) (R.made runtime.new) result.outcome }
     ensures left { LeavesFuel (means_in (R.linked runtime.old).world (R.program runtime.old) fuel) result.left result.outcome }
-    ensures steps { IsDirectRun (R.linked runtime.old).world (R.program runtime.old) (R.made runtime.new)
-        → steps.new ≤ steps.old + 2 * call_count (end_of (means_in (R.linked runtime.old).world (R.program runtime.old) fuel)).events + 2 }
+    ensures steps { CountsRun (IsDirectRun (R.linked runtime.old).world (R.program runtime.old) (R.made runtime.new)) (means_in (R.linked runtime.old).world (R.program runtime.old) fuel) (shows_of trace.now) [] (K.written out.old) (K.written out.new) steps.old steps.new result.outcome }
 
     ensures counts { Counts (K.faults out.old) (K.faults out.new) result.outcome }
     ensures calms { StaysCalm (K.calm out.old) (K.calm out.new) (K.faults out.old) (K.faults out.new) result.outcome }

@@ -1,88 +1,123 @@
--- How many steps a run counts: those of one step after another.
-use Rattle.std.proofs.Common.{◌≡◌, ◌≤◌, ◌+◌, ◌*◌, ℕ, Bool, true, false, List, Option, Result, Ok, Err, ap, ◌∙◌, subst, arith}
+-- How many steps are counted: of one step, and of one run after another.
+use Rattle.std.proofs.Common.{◌≡◌, ◌≤◌, ◌+◌, ◌*◌, ℕ, Bool, true, false, List, [], ◌++◌, Option, Result, Ok, Err, refl, sym, ap, subst, ◌∙◌, arith, append_assoc, append-nil}
+use Rattle.std.specs.List.{concat}
 use Rattle.som_model.specs.declared.syntax.Block.{Block}
-use Rattle.som_semantics.specs.State.{State}
-use Rattle.som_semantics.specs.Runs.{Ran, end_of}
-use Rattle.som_semantics.specs.RunText.{call_count}
-use Rattle.som_machine_laws.specs.Frames.{Frames}
-use Rattle.som_machine_laws.proofs.Task.{stands_events}
+use Rattle.som_semantics.specs.State.{Event}
+use Rattle.som_semantics.specs.RunText.{call_count, events_lines, with_prefix}
+use Rattle.som_io.specs.Outside.{ShowsFront}
+use Rattle.som_io.proofs.ShownLaws.{shows_none}
 use Rattle.som_machine_laws.specs.Counted.{IsDirectRun, looks}
-use Rattle.som_machine_laws.proofs.Counting.{count_both, count_front, looks_counted, looks_most}
+use Rattle.som_machine_laws.proofs.Counting.{count_both, looks_counted, looks_most}
 use Rattle.som_interp_state.specs.Tests.{runner_tests}
 use Rattle.som_interp_state.specs.Settings.{Linked}
 use Rattle.som_interp_loop.specs.declared.stop.Stop.{Stop}
+use Rattle.som_interp_loop.specs.declared.stop.Stop.TheVariants as stops
 use Rattle.som_interp_loop.specs.Scene.{Scene}
-use Rattle.som_interp_loop.specs.Counted.{Counted, CountsAll, CountsOn, IsDirectScene}
-use Rattle.som_interp_loop.specs.Standing.{StandsFor, step_of}
+use Rattle.som_interp_loop.specs.Counted.{Counted, CountsOn, IsDirectFrom, IsDirectScene, StopsShort}
+use Rattle.som_interp_loop.specs.Moving.{Tells}
+use Rattle.som_interp_loop.specs.Ran.{Going}
+use Rattle.som_interp_loop.specs.Standing.{StandsFor}
 use Rattle.som_interp_loop.specs.Stepped.{Outside, Stepped}
-use Rattle.som_interp_loop.specs.Ran.{RanOn}
-use Rattle.som_interp_loop.proofs.Going.{step_means}
+use Rattle.som_interp_loop.proofs.Joining.{tells_both, text_of}
 use Rattle.som_interp_loop.proofs.Lowering.{sound_at}
 
--- before the first step
-pub counted_none : (c : Scene) (n : ℕ) → CountsOn c c n n (Ok true)
-counted_none c n means granted fs s h d = record { frames = fs; then = s; stands = h; count = omega arith }
-
--- before a step the program is what it is after it, and fewer classes are made
-earlier : (shows : List ℕ → Bool) (prefix : List ℕ) (before after : Option (List ℕ)) (old new : Scene) (r : Result Bool Stop) (es : List _) → Outside shows prefix before after old new r es → IsDirectScene new → IsDirectScene old
+-- before it the program is what it is after it, and fewer classes are made
+earlier : (shows : List ℕ → Bool) (prefix : List ℕ) (before after : Option (List ℕ)) (old new : Scene) (r : Result Bool Stop) (es : List Event) → Outside shows prefix before after old new r es → IsDirectScene new → IsDirectScene old
 earlier shows prefix before after old new r es o d =
     let e : IsDirectRun old.linked.world old.main new.made = subst (λ (l : Linked). IsDirectRun l.world old.main new.made) o.keeps.linked (subst (λ (b : Block). IsDirectRun new.linked.world b new.made) o.keeps.main d) in
     record { program = e.program; hooks = λ k m. e.hooks k (o.keeps_made k m) }
 
--- sums of what was counted
-sum_on : (a b c s t u es looked : ℕ) → b + 2 * s ≤ a + 2 * t → c ≤ b + looked → looked ≡ 2 * es → u ≡ t + es → c + 2 * s ≤ a + 2 * u
-sum_on a b c s t u es looked x y e f = omega (arith, x, y, e, f)
+-- ---- no step
 
-sum_end : (a b c s t u looked : ℕ) → b + 2 * s ≤ a + 2 * t → c ≤ b + looked → looked ≤ 2 → t ≤ u → c + 2 * s ≤ a + 2 * u + 2
-sum_end a b c s t u looked x y e f = omega (arith, x, y, e, f)
+pub count_none : (shows : List ℕ → Bool) (prefix : List ℕ) (before : Option (List ℕ)) (c : Scene) (n : ℕ) → CountsOn shows prefix before before c c n n [] (Ok true)
+count_none shows prefix before c n from = omega arith
 
-sum_both : (a b c s t u : ℕ) → b + 2 * s ≤ a + 2 * t → c + 2 * t ≤ b + 2 * u → c + 2 * s ≤ a + 2 * u
-sum_both a b c s t u x y = omega (arith, x, y)
+-- ---- one step
 
-sum_all : (a b c s t u : ℕ) → b + 2 * s ≤ a + 2 * t → c + 2 * t ≤ b + 2 * u + 2 → c + 2 * s ≤ a + 2 * u + 2
-sum_all a b c s t u x y = omega (arith, x, y)
+module _ (shows : List ℕ → Bool) (prefix : List ℕ) (before after : Option (List ℕ)) (old new : Scene) (a b : ℕ) (counted : Counted old a b) where
+  looked : (r : Result Bool Stop) (es : List Event) → Outside shows prefix before after old new r es → (from : IsDirectFrom old new) → b ≤ a + looks from.frames.now
+  looked r es o from =
+      let e = earlier shows prefix before after old new r es o from.direct in
+      counted from.frames from.state from.stands.at (from.stands.direct e.program) e.hooks
 
-module _ (shows : List ℕ → Bool) (prefix : List ℕ) (before after : Option (List ℕ)) (old mid new : Scene) (a b c : ℕ) (i : CountsOn old mid a b (Ok true)) where
-  module _ (step : Counted mid b c) where
-    goes_on : Stepped shows prefix before after mid new (Ok true) → CountsOn old new a c (Ok true)
-    goes_on p means granted fs s h d =
-        let e = earlier shows prefix before after mid new (Ok true) p.events p.outside d in
-        let x = i means granted fs s h e in
-        let w = p.comes x.frames x.then x.stands.at in
-        let m = step_means mid new p.outside.keeps.linked p.outside.keeps.main means granted x.frames x.then x.stands p.events (Ok true) w in
-        let looked = step x.frames x.then x.stands.at (x.stands.direct e.program) e.hooks in
-        let events = looks_counted mid.linked.world (runner_tests mid.linked.world) x.frames w.frames x.then w.then p.events (sound_at mid x.frames x.then x.stands.at) w.is w.events in
-        let both : call_count m.then.events ≡ call_count x.then.events + call_count p.events = ap call_count m.events ∙ count_both x.then.events p.events in
-        record { frames = m.frames; then = m.then; stands = m.stands; count = sum_on a b c (call_count s.events) (call_count x.then.events) (call_count m.then.events) (call_count p.events) (looks x.frames.now) x.count looked events both }
+  -- a step that stops has looked up one body at most
+  most : (r : Result Bool Stop) (es : List Event) → Outside shows prefix before after old new r es → IsDirectFrom old new → b ≤ a + 2
+  most r es o from =
+      let x = looked r es o from in
+      let y = looks_most from.frames.now in
+      omega (arith, x, y)
 
-    ends : (r : Result Bool Stop) → Stepped shows prefix before after mid new r → (means : ℕ → Ran (Unit {0})) (granted : ℕ) (fs : Frames) (s : State) → StandsFor old means granted fs s → IsDirectScene new → CountsAll means granted s a c
-    ends r p means granted fs s h d =
-        let e = earlier shows prefix before after mid new r p.events p.outside d in
-        let x = i means granted fs s h e in
-        let looked = step x.frames x.then x.stands.at (x.stands.direct e.program) e.hooks in
-        let front = count_front x.then.events (end_of (means granted)).events (stands_events (step_of mid) means x.frames x.then granted x.stands.stands) in
-        sum_end a b c (call_count s.events) (call_count x.then.events) (call_count (end_of (means granted)).events) (looks x.frames.now) x.count looked (looks_most x.frames.now) front
+  more : (r : Result Bool Stop) (es : List Event) → Outside shows prefix before after old new r es → IsDirectFrom old new → b ≤ a + 2 * call_count es + 2
+  more r es o from = let x = most r es o from in omega (arith, x)
 
-    -- a run, and then a step
-    pub counted_step : (r : Result Bool Stop) → Stepped shows prefix before after mid new r → CountsOn old new a c r
-    counted_step (Ok true) p = goes_on p
-    counted_step (Ok false) p = ends (Ok false) p
-    counted_step (Err stop) p = ends (Err stop) p
+  on : (p : Stepped shows prefix before after old new (Ok true)) → IsDirectFrom old new → b ≤ a + 2 * call_count p.events
+  on p from =
+      let x = looked (Ok true) p.events p.outside from in
+      let w = p.comes from.frames from.state from.stands.at in
+      let y = looks_counted old.linked.world (runner_tests old.linked.world) from.frames w.frames from.state w.then p.events (sound_at old from.frames from.state from.stands.at) w.is w.events in
+      omega (arith, x, y)
 
-  more_ends : (r : Result Bool Stop) → RanOn shows prefix before after mid new r → ((means : ℕ → Ran (Unit {0})) (granted : ℕ) (fs : Frames) (s : State) → StandsFor mid means granted fs s → IsDirectScene new → CountsAll means granted s b c)
-      → (means : ℕ → Ran (Unit {0})) (granted : ℕ) (fs : Frames) (s : State) → StandsFor old means granted fs s → IsDirectScene new → CountsAll means granted s a c
-  more_ends r ran q means granted fs s h d =
-      let x = i means granted fs s h (earlier shows prefix before after mid new r ran.events ran.outside d) in
-      sum_all a b c (call_count s.events) (call_count x.then.events) (call_count (end_of (means granted)).events) x.count (q means granted x.frames x.then x.stands d)
+  -- of one that didn't come to its end no event came
+  short : (r : Result Bool Stop) (es : List Event) → Outside shows prefix before after old new r es → StopsShort shows prefix before after es [] (IsDirectFrom old new) a b
+  short r es o = record {
+    came = [];
+    rest = es;
+    events = refl;
+    between = before;
+    tells = shows_none before;
+    front = subst (λ ls. ShowsFront before after (concat (with_prefix prefix ls))) (sym (append-nil (events_lines shows es))) o.front;
+    count = λ from. let x = most r es o from in omega (arith, x);
+  }
 
-  more_on : RanOn shows prefix before after mid new (Ok true) → CountsOn mid new b c (Ok true) → CountsOn old new a c (Ok true)
-  more_on ran q means granted fs s h d =
-      let x = i means granted fs s h (earlier shows prefix before after mid new (Ok true) ran.events ran.outside d) in
-      let y = q means granted x.frames x.then x.stands d in
-      record { frames = y.frames; then = y.then; stands = y.stands; count = sum_both a b c (call_count s.events) (call_count x.then.events) (call_count y.then.events) x.count y.count }
+  pub count_one : (r : Result Bool Stop) (p : Stepped shows prefix before after old new r) → CountsOn shows prefix before after old new a b p.events r
+  count_one (Ok true) p = on p
+  count_one (Ok false) p = more (Ok false) p.events p.outside
+  count_one (Err (stops.Fault f at)) p = more (Err (stops.Fault f at)) p.events p.outside
+  count_one (Err stops.Spent) p = more (Err stops.Spent) p.events p.outside
+  count_one (Err stops.SinkFailed) p = short (Err stops.SinkFailed) p.events p.outside
+  count_one (Err stops.NoMemory) p = short (Err stops.NoMemory) p.events p.outside
 
-  -- a run, and then another
-  pub counted_then : (r : Result Bool Stop) → RanOn shows prefix before after mid new r → CountsOn mid new b c r → CountsOn old new a c r
-  counted_then (Ok true) ran q = more_on ran q
-  counted_then (Ok false) ran q = more_ends (Ok false) ran q
-  counted_then (Err stop) ran q = more_ends (Err stop) ran q
+-- ---- a run, and then another
+
+module _ (shows : List ℕ → Bool) (prefix : List ℕ) (before mid after : Option (List ℕ)) (old now new : Scene) (es fs : List Event)
+    (comes : (from : IsDirectFrom old new) → Going now from.means from.granted from.state es) (first : Outside shows prefix before mid old now (Ok true) es) (a b c : ℕ) (p : CountsOn shows prefix before mid old now a b es (Ok true)) where
+  -- it starts where the first did, and where that came to
+  from_first : (r : Result Bool Stop) → Outside shows prefix mid after now new r fs → IsDirectFrom old new → IsDirectFrom old now
+  from_first r o from = record { means = from.means; granted = from.granted; frames = from.frames; state = from.state; stands = from.stands; direct = earlier shows prefix mid after now new r fs o from.direct }
+
+  from_then : IsDirectFrom old new → IsDirectFrom now new
+  from_then from = let g = comes from in record { means = from.means; granted = from.granted; frames = g.frames; state = g.then; stands = g.stands; direct = from.direct }
+
+  sum : (r : Result Bool Stop) → Outside shows prefix mid after now new r fs → (gs : List Event) (n : ℕ) → (IsDirectFrom now new → c ≤ b + 2 * call_count gs + n) → IsDirectFrom old new → c ≤ a + 2 * call_count (es ++ gs) + n
+  sum r o gs n q from =
+      let x = p (from_first r o from) in
+      let y = q (from_then from) in
+      let e = count_both es gs in
+      omega (arith, x, y, e)
+
+  exactly : Outside shows prefix mid after now new (Ok true) fs → (IsDirectFrom now new → c ≤ b + 2 * call_count fs) → IsDirectFrom old new → c ≤ a + 2 * call_count (es ++ fs)
+  exactly o q from =
+      let x = p (from_first (Ok true) o from) in
+      let y = q (from_then from) in
+      let e = count_both es fs in
+      omega (arith, x, y, e)
+
+  -- what came before it stopped short, came of both
+  short_both : (r : Result Bool Stop) → Outside shows prefix mid after now new r fs → StopsShort shows prefix mid after fs [] (IsDirectFrom now new) b c → StopsShort shows prefix before after (es ++ fs) [] (IsDirectFrom old new) a c
+  short_both r o q = record {
+    came = es ++ q.came;
+    rest = q.rest;
+    events = ap (λ z. es ++ z) q.events ∙ sym (append_assoc es q.came q.rest);
+    between = q.between;
+    tells = tells_both shows prefix before mid q.between es q.came first.tells q.tells;
+    front = q.front;
+    count = sum r o q.came 2 q.count;
+  }
+
+  pub count_then : (r : Result Bool Stop) → Outside shows prefix mid after now new r fs → CountsOn shows prefix mid after now new b c fs r → CountsOn shows prefix before after old new a c (es ++ fs) r
+  count_then (Ok true) o q = exactly o q
+  count_then (Ok false) o q = sum (Ok false) o fs 2 q
+  count_then (Err (stops.Fault f at)) o q = sum (Err (stops.Fault f at)) o fs 2 q
+  count_then (Err stops.Spent) o q = sum (Err stops.Spent) o fs 2 q
+  count_then (Err stops.SinkFailed) o q = short_both (Err stops.SinkFailed) o q
+  count_then (Err stops.NoMemory) o q = short_both (Err stops.NoMemory) o q

@@ -3,5 +3,5 @@ pub mod Moving
 pub mod NextInstruction
 pub mod Standing
 pub mod Stepped
-pub mod Ran
 pub mod Counted
+pub mod Ran

@@ -1,6 +1,5 @@
 //! The loop of the interpreter: steps until main is over or the task stops.
 
-ghost use Rattle.som_interp_loop.specs.Counted.{CountsOn};
 ghost use Rattle.som_interp_loop.specs.Ran.{RanOn, ended};
 ghost use Rattle.som_interp_loop.specs.Standing.{IsSomewhere};
 ghost use Rattle.som_interp_loop.specs.Stepped.{Counts, StaysCalm};
@@ -10,14 +9,13 @@ use crate::{Moves, Stop};
 
 /// A task goes on until its main is over, or it stops: by a fault, or where no unit is left, and then it stands where it
 /// can go on. What it comes to is what its main means with the units that were granted. Where nothing searches for a name
-/// and no class that is made has hooks, two steps are counted for each call event, and two more.
+/// and no class that is made has hooks, two steps are counted for each call event that came, and two more.
 pub fn run_on<M: Moves>(moves: &mut M) -> Result<(), Stop>
     requires { IsSomewhere (M.scene moves.old) }
-    ensures ran { RanOn (M.shows moves.old) (M.prefix moves.old) (M.written moves.old) (M.written moves.new) (M.scene moves.old) (M.scene moves.new) (ended result) }
+    ensures ran { RanOn (M.shows moves.old) (M.prefix moves.old) (M.written moves.old) (M.written moves.new) (M.counted moves.old) (M.counted moves.new) (M.scene moves.old) (M.scene moves.new) (ended result) }
     ensures shows { M.shows moves.new ≡ M.shows moves.old }
     ensures prefix { M.prefix moves.new ≡ M.prefix moves.old }
     ensures lent { M.lent moves.new ≡ M.lent moves.old }
-    ensures counted { CountsOn (M.scene moves.old) (M.scene moves.new) (M.counted moves.old) (M.counted moves.new) (ended result) }
     ensures counts { Counts (M.faults moves.old) (M.faults moves.new) (ended result) }
     ensures calms { StaysCalm (M.calm moves.old) (M.calm moves.new) (M.faults moves.old) (M.faults moves.new) (ended result) }
 {
@@ -28,11 +26,10 @@ pub fn run_on<M: Moves>(moves: &mut M) -> Result<(), Stop>
 // Goes on until a unit is taken; false where main is over.
 fn run_unit<M: Moves>(moves: &mut M) -> Result<bool, Stop>
     requires { IsSomewhere (M.scene moves.old) }
-    ensures ran { RanOn (M.shows moves.old) (M.prefix moves.old) (M.written moves.old) (M.written moves.new) (M.scene moves.old) (M.scene moves.new) result }
+    ensures ran { RanOn (M.shows moves.old) (M.prefix moves.old) (M.written moves.old) (M.written moves.new) (M.counted moves.old) (M.counted moves.new) (M.scene moves.old) (M.scene moves.new) result }
     ensures shows { M.shows moves.new ≡ M.shows moves.old }
     ensures prefix { M.prefix moves.new ≡ M.prefix moves.old }
     ensures lent { M.lent moves.new ≡ M.lent moves.old }
-    ensures counted { CountsOn (M.scene moves.old) (M.scene moves.new) (M.counted moves.old) (M.counted moves.new) result }
     ensures counts { Counts (M.faults moves.old) (M.faults moves.new) result }
     ensures calms { StaysCalm (M.calm moves.old) (M.calm moves.new) (M.faults moves.old) (M.faults moves.new) result }
     ensures somewhere { result ≡ Ok true → IsSomewhere (M.scene moves.new) }

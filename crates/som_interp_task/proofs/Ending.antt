@@ -36,17 +36,17 @@ use Rattle.som_interp_task.specs.Stands.{Stands, meaning, told_so_far}
 -- ---- texts
 
 -- the text of lines, each after the prefix
-abbrev text_of : List ℕ → List (List ℕ) → List ℕ
+abbrev pub text_of : List ℕ → List (List ℕ) → List ℕ
 text_of prefix lines = concat (with_prefix prefix lines)
 
-text_both : (prefix : List ℕ) (xs ys : List (List ℕ)) → text_of prefix (xs ++ ys) ≡ text_of prefix xs ++ text_of prefix ys
+pub text_both : (prefix : List ℕ) (xs ys : List (List ℕ)) → text_of prefix (xs ++ ys) ≡ text_of prefix xs ++ text_of prefix ys
 text_both prefix xs ys = ap concat (map-append (λ line. prefix ++ line) xs ys) ∙ concat-append (with_prefix prefix xs) (with_prefix prefix ys)
 
 -- ---- what it was before
 
 -- what a run came to, by a stop that is equal
-pub ran_same : (shows : List ℕ → Bool) (prefix : List ℕ) (before after : Option (List ℕ)) (old new : Scene) (x y : Stop) → x ≡ y → RanOn shows prefix before after old new (Err x) → RanOn shows prefix before after old new (Err y)
-ran_same shows prefix before after old new x y e ran = subst (λ (z : Stop). RanOn shows prefix before after old new (Err z)) e ran
+pub ran_same : (shows : List ℕ → Bool) (prefix : List ℕ) (before after : Option (List ℕ)) (a b : ℕ) (old new : Scene) (x y : Stop) → x ≡ y → RanOn shows prefix before after a b old new (Err x) → RanOn shows prefix before after a b old new (Err y)
+ran_same shows prefix before after a b old new x y e ran = subst (λ (z : Stop). RanOn shows prefix before after a b old new (Err z)) e ran
 
 module _ (old : Scene) (units : ℕ) (st : Stands old) where
   abbrev mid : Scene
@@ -67,7 +67,7 @@ module _ (old : Scene) (units : ℕ) (st : Stands old) where
     abbrev Adds : List Event → Type 0
     Adds es = events_now old units ≡ es
 
-    adds : (es : List Event) → (end_of (goal old units)).events ≡ st.state.events ++ es → Adds es
+    pub adds : (es : List Event) → (end_of (goal old units)).events ≡ st.state.events ++ es → Adds es
     adds es e = ap (λ z. drop (length (told_so_far old)) z) (e ∙ ap (λ z. z ++ es) st.events) ∙ drop-append_seam (told_so_far old) es
 
     -- so the text is that of these, and the last line
@@ -82,7 +82,7 @@ module _ (old : Scene) (units : ℕ) (st : Stands old) where
     whole es a r e none p =
         subst (ShowsAll before after) (sym (text_is es a r e ∙ ap (λ z. text_of prefix (events_lines shows es) ++ text_of prefix z) none ∙ append-nil (text_of prefix (events_lines shows es)))) p
 
-    end_same : (r : Ran (Unit {0})) → goal old units ≡ r → (end_of (goal old units)).events ≡ (end_of r).events
+    pub end_same : (r : Ran (Unit {0})) → goal old units ≡ r → (end_of (goal old units)).events ≡ (end_of r).events
     end_same r e = ap (λ (z : Ran (Unit {0})). (end_of z).events) e
 
     many_same : (r : Ran (Unit {0})) → goal old units ≡ r → length (end_of r).heap.objects ≡ length new.task.serials → length new.task.serials ≡ length (end_of (goal old units)).heap.objects
@@ -99,7 +99,7 @@ module _ (old : Scene) (units : ℕ) (st : Stands old) where
     made_same es a m = subst (λ z. Makes old.known.classes old.made new.made z) (sym a) m
 
     -- what was told before comes first
-    pub told_first : (r : Result Bool Stop) → RanOn shows prefix before after mid new r → (end_of (goal old units)).events ≡ told_so_far old ++ events_now old units
+    pub told_first : {a b : ℕ} (r : Result Bool Stop) → RanOn shows prefix before after a b mid new r → (end_of (goal old units)).events ≡ told_so_far old ++ events_now old units
     told_first r ran =
         let b = ran.begins (meaning old) n st.frames s stands_mid in
         let e : (end_of (goal old units)).events ≡ st.state.events ++ (ran.events ++ b.0) = b.1 ∙ append_assoc st.state.events ran.events b.0 in
@@ -107,7 +107,7 @@ module _ (old : Scene) (units : ℕ) (st : Stands old) where
 
     -- ---- main is over
 
-    pub done_comes : RanOn shows prefix before after mid new (Ok false) → Comes old units shows prefix before after new answers.Done
+    pub done_comes : {a b : ℕ} → RanOn shows prefix before after a b mid new (Ok false) → Comes old units shows prefix before after new answers.Done
     done_comes ran =
         let a = ran.comes (meaning old) n st.frames s stands_mid in
         let added = adds ran.events (end_same (Goes (tt {0}) a.then) a.is ∙ a.events) in
@@ -126,14 +126,14 @@ module _ (old : Scene) (units : ℕ) (st : Stands old) where
         }
 
     -- and as much fuel is left as the meaning leaves
-    pub done_leaves : RanOn shows prefix before after mid new (Ok false) → LeavesFuel old units new.fuel answers.Done
+    pub done_leaves : {a b : ℕ} → RanOn shows prefix before after a b mid new (Ok false) → LeavesFuel old units new.fuel answers.Done
     done_leaves ran =
         let a = ran.comes (meaning old) n st.frames s stands_mid in
         sym a.fuel ∙ ap (λ (z : Ran (Unit {0})). (end_of z).fuel) (sym a.is)
 
     -- ---- no unit is left
 
-    module _ (ran : RanOn shows prefix before after mid new (Err stops.Spent)) where
+    module _ (a b : ℕ) (ran : RanOn shows prefix before after a b mid new (Err stops.Spent)) where
       abbrev w : Waits new (meaning old) n s ran.events
       w = ran.comes (meaning old) n st.frames s stands_mid
 
@@ -182,7 +182,7 @@ module _ (old : Scene) (units : ℕ) (st : Stands old) where
 
     -- ---- the sink failed, or memory was wanting
 
-    module _ (r : Result Bool Stop) (ran : RanOn shows prefix before after mid new r) where
+    module _ (a b : ℕ) (r : Result Bool Stop) (ran : RanOn shows prefix before after a b mid new r) where
       pub front_told : ShowsFront before after (added_text old units shows prefix)
       front_told =
           let b = ran.begins (meaning old) n st.frames s stands_mid in
@@ -202,8 +202,8 @@ module _ (old : Scene) (units : ℕ) (st : Stands old) where
 
   -- ---- main has a fault
 
-  module _ (shows : List ℕ → Bool) (prefix : List ℕ) (before told after : Option (List ℕ)) (new : Scene) (f : Fault) (at : Place) (ran : RanOn shows prefix before told mid new (Err (stops.Fault f at))) where
-    abbrev x : Failed (goal old units) f at s new ran.events
+  module _ (shows : List ℕ → Bool) (prefix : List ℕ) (before told after : Option (List ℕ)) (new : Scene) (a b : ℕ) (f : Fault) (at : Place) (ran : RanOn shows prefix before told a b mid new (Err (stops.Fault f at))) where
+    abbrev pub x : Failed (goal old units) f at s new ran.events
     x = ran.comes (meaning old) n st.frames s stands_mid
 
     abbrev end : Ran (Unit {0})
@@ -212,7 +212,7 @@ module _ (old : Scene) (units : ℕ) (st : Stands old) where
     abbrev last : List ℕ
     last = end_text prefix (Faulted f (place_shown (setting_of new) at))
 
-    added : events_now old units ≡ ran.events
+    pub added : events_now old units ≡ ran.events
     added = adds shows prefix before after new ran.events (end_same shows prefix before after new end x.is ∙ x.events)
 
     text_now : added_text old units shows prefix ≡ text_of prefix (events_lines shows ran.events) ++ last
@@ -228,7 +228,7 @@ module _ (old : Scene) (units : ℕ) (st : Stands old) where
     front_then : ShowsFront told after last → ShowsFront before after (added_text old units shows prefix)
     front_then p = subst (ShowsFront before after) (sym text_now) (front_both before told after (text_of prefix (events_lines shows ran.events)) last ran.outside.tells p)
 
-    pub fault_comes : (a : Advanced) → EndsBy prefix told after f (place_shown (setting_of new) at) a → Comes old units shows prefix before after new a
+    pub fault_comes : (answer : Advanced) → EndsBy prefix told after f (place_shown (setting_of new) at) answer → Comes old units shows prefix before after new answer
     fault_comes (answers.SourceFault r running) e =
         let text = subst (ShowsAll before after) (sym text_now) (shows_both before told after (text_of prefix (events_lines shows ran.events)) last ran.outside.tells e.2) in
         record {

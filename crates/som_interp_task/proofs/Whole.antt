@@ -10,6 +10,7 @@ use Rattle.som_io.specs.Outside.{ShowsAll, ShowsFront}
 use Rattle.som_interp_state.specs.Holding.{Holding}
 use Rattle.som_interp_loop.specs.Moving.{Makes}
 use Rattle.som_interp_loop.specs.Scene.{Scene}
+use Rattle.som_interp_loop.specs.Counted.{StopsShort}
 use Rattle.som_interp_task.specs.declared.advanced.Advanced.TheVariants as answers
 use Rattle.som_interp_task.specs.declared.outcome.Outcome.TheVariants as outcomes
 use Rattle.som_interp_task.specs.Advance.{Comes, CountsNow, added_text, events_now, goal, last_lines}
@@ -43,8 +44,23 @@ module _ (old : Scene) (fuel : ℕ) (granted : old.task.granted ≡ 0) (begun : 
   events_are = ap (λ (es : List Event). drop (length es) (end_of (goal old fuel)).events) none_told ∙ ap (λ (z : Ran (Unit {0})). (end_of z).events) goal_is
 
   -- what is counted of a whole run
-  pub counts_run : (new : Scene) (b c : ℕ) → CountsNow old fuel new b c → CountsRun old fuel new b c
-  counts_run new b c x direct = subst (λ (es : List Event). c ≤ b + 2 * call_count es + 2) events_are (x direct)
+  module _ (premise : Type 0) (shows : List ℕ → Bool) (prefix : List ℕ) (before after : Option (List ℕ)) (b c : ℕ) where
+    counts_all : (premise → c ≤ b + 2 * call_count (events_now old fuel) + 2) → premise → c ≤ b + 2 * call_count (end_of r).events + 2
+    counts_all x p = subst (λ (es : List Event). c ≤ b + 2 * call_count es + 2) events_are (x p)
+
+    pub counts_short : StopsShort shows prefix before after (events_now old fuel) (last_lines (goal old fuel)) premise b c → StopsShort shows prefix before after (end_of r).events (last_lines r) premise b c
+    counts_short x =
+        subst (λ (es : List Event). StopsShort shows prefix before after es (last_lines r) premise b c) events_are
+        (subst (λ (z : Ran (Unit {0})). StopsShort shows prefix before after (events_now old fuel) (last_lines z) premise b c) goal_is x)
+
+    pub counts_spent : CountsNow premise old fuel shows prefix before after b c answers.Going → CountsRun premise r shows prefix before after b c outcomes.Spent
+    counts_spent x = counts_all x
+
+    pub counts_done : CountsNow premise old fuel shows prefix before after b c answers.Done → CountsRun premise r shows prefix before after b c outcomes.Done
+    counts_done x = counts_all x
+
+    pub counts_fault : (f : Fault) (at : Running) → CountsNow premise old fuel shows prefix before after b c (answers.SourceFault f at) → CountsRun premise r shows prefix before after b c (outcomes.SourceFault f at)
+    counts_fault f at x = counts_all x
 
   -- what a whole run leaves of its fuel
   pub leaves_run : (left : ℕ) → left ≡ (end_of (goal old fuel)).fuel → left ≡ (end_of r).fuel

@@ -13,7 +13,7 @@ use Rattle.som_trace.specs.Told.{end_text}
 use Rattle.som_interp_state.specs.Holding.{Holding}
 use Rattle.som_interp_loop.specs.Moving.{Keeps, Makes}
 use Rattle.som_interp_loop.specs.Scene.{Scene}
-use Rattle.som_interp_loop.specs.Counted.{IsDirectScene}
+use Rattle.som_interp_loop.specs.Counted.{StopsShort}
 use Rattle.som_interp_loop.specs.Standing.{with_units}
 use Rattle.som_interp_task.specs.declared.advanced.Advanced.{Advanced}
 use Rattle.som_interp_task.specs.declared.advanced.Advanced.TheVariants as answers
@@ -78,9 +78,11 @@ module _ (old : Scene) (units : ℕ) where
   LeavesFuel left answers.Done = left ≡ (end_of goal).fuel
   LeavesFuel left _ = Unit {0}
 
--- where nothing searches for a name and no class that is made has hooks: two steps are counted for each call event that comes now, and two more
-abbrev pub CountsNow : Scene → ℕ → Scene → ℕ → ℕ → Type 0
-CountsNow old units new before now = IsDirectScene new → now ≤ before + 2 * call_count (events_now old units) + 2
+-- on this premise two steps are counted for each call event that comes now, and two more: where the meaning's end is answered, all that it has now come; where the sink failed or memory was wanting, some came, whose lines were told, and they alone are counted
+abbrev pub CountsNow : Type 0 → Scene → ℕ → (List ℕ → Bool) → List ℕ → Option (List ℕ) → Option (List ℕ) → ℕ → ℕ → Advanced → Type 0
+CountsNow premise old units shows prefix before after counted now answers.SinkFailed = StopsShort shows prefix before after (events_now old units) (last_lines (goal old units)) premise counted now
+CountsNow premise old units shows prefix before after counted now answers.NoMemory = StopsShort shows prefix before after (events_now old units) (last_lines (goal old units)) premise counted now
+CountsNow premise old units shows prefix before after counted now _ = premise → now ≤ counted + 2 * call_count (events_now old units) + 2
 
 -- the line of a fault is told, and its place is named; or a front of it, where memory was wanting or the sink failed
 abbrev pub EndsBy : List ℕ → Option (List ℕ) → Option (List ℕ) → Fault → state.Place → Advanced → Type 0

@@ -11,10 +11,10 @@ use Rattle.som_trace.specs.Places.{running_in}
 use Rattle.som_interp_state.specs.Holding.{Holding}
 use Rattle.som_interp_loop.specs.Moving.{Keeps, Makes}
 use Rattle.som_interp_loop.specs.Scene.{Scene}
-use Rattle.som_interp_loop.specs.Counted.{IsDirectScene}
+use Rattle.som_interp_loop.specs.Counted.{StopsShort}
 use Rattle.som_interp_task.specs.declared.outcome.Outcome.{Outcome}
 use Rattle.som_interp_task.specs.declared.outcome.Outcome.TheVariants as outcomes
-use Rattle.som_interp_task.specs.Advance.{with_granted}
+use Rattle.som_interp_task.specs.Advance.{last_lines, with_granted}
 use Rattle.som_interp_task.specs.Stands.{meaning}
 
 -- this holds where the meaning's end is answered; where memory was wanting, or the sink failed, nothing is said
@@ -52,9 +52,11 @@ abbrev pub LeavesFuel : Ran (Unit {0}) → ℕ → Outcome → Type 0
 LeavesFuel r left outcomes.Done = left ≡ (end_of r).fuel
 LeavesFuel r left _ = Unit {0}
 
--- where nothing searches for a name and no class that is made has hooks: two steps are counted for each call event, and two more
-abbrev pub CountsRun : Scene → ℕ → Scene → ℕ → ℕ → Type 0
-CountsRun old fuel new before now = IsDirectScene new → now ≤ before + 2 * call_count (end_of (meaning old fuel)).events + 2
+-- on this premise two steps are counted for each call event of a run, and two more: where its end is answered, all have come; where the sink failed or memory was wanting, some came, whose lines were told, and they alone are counted
+abbrev pub CountsRun : Type 0 → Ran (Unit {0}) → (List ℕ → Bool) → List ℕ → Option (List ℕ) → Option (List ℕ) → ℕ → ℕ → Outcome → Type 0
+CountsRun premise r shows prefix before after counted now outcomes.SinkFailed = StopsShort shows prefix before after (end_of r).events (last_lines r) premise counted now
+CountsRun premise r shows prefix before after counted now outcomes.NoMemory = StopsShort shows prefix before after (end_of r).events (last_lines r) premise counted now
+CountsRun premise r shows prefix before after counted now _ = premise → now ≤ counted + 2 * call_count (end_of r).events + 2
 
 -- the count of the sink's faults never falls, and rose where it failed
 pub record Counts (before now : ℕ) (outcome : Outcome) : Type 0 where

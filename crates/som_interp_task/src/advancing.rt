@@ -2,7 +2,7 @@
 
 ghost use Rattle.som_interp_task.specs.Advance.{Comes, Counts, CountsNow, EndsBy, LeavesFuel, StaysCalm, with_granted};
 ghost use Rattle.som_interp_task.specs.Stands.{Stands};
-ghost use Rattle.som_interp_loop.specs.Counted.{CountsOn};
+ghost use Rattle.som_interp_loop.specs.Counted.{IsDirectScene};
 ghost use Rattle.som_interp_loop.specs.Ran.{RanOn, ended};
 ghost use Rattle.som_interp_loop.specs.Stepped.{Counts as StopCounts, StaysCalm as StopsCalm};
 ghost use Rattle.som_interp_loop.specs.Scene.{setting_of};
@@ -18,14 +18,14 @@ use som_trace::{Place, Untold};
 /// Grants units to a task that stands, and goes on until main is over, it has a fault, or no unit is left. What it comes
 /// to is what main means with the units granted before and these. Where main is over, the units are left that the meaning
 /// leaves. Where nothing searches for a name and no class that is made has hooks, two steps are counted for each call
-/// event that comes now, and two more.
+/// event that comes now, and two more; after SinkFailed and NoMemory no event counts that didn't come.
 pub fn advance<M: Advances>(moves: &mut M, units: u32) -> Advanced
     requires stands { Stands (M.scene moves.old) }
     requires units { (M.scene moves.old).task.granted + units < 2 ^ 32 }
     ensures comes { Comes (M.scene moves.old) units (M.shows moves.old) (M.prefix moves.old) (M.written moves.old) (M.written moves.new) (M.scene moves.new) result }
     ensures left { LeavesFuel (M.scene moves.old) units (M.scene moves.new).fuel result }
     ensures lent { M.lent moves.new ≡ M.lent moves.old }
-    ensures counted { CountsNow (M.scene moves.old) units (M.scene moves.new) (M.counted moves.old) (M.counted moves.new) }
+    ensures counted { CountsNow (IsDirectScene (M.scene moves.new)) (M.scene moves.old) units (M.shows moves.old) (M.prefix moves.old) (M.written moves.old) (M.written moves.new) (M.counted moves.old) (M.counted moves.new) result }
     ensures counts { Counts (M.faults moves.old) (M.faults moves.new) result }
     ensures calms { StaysCalm (M.calm moves.old) (M.calm moves.new) (M.faults moves.old) (M.faults moves.new) result }
 {
@@ -42,10 +42,9 @@ pub fn advance<M: Advances>(moves: &mut M, units: u32) -> Advanced
 fn go_on<M: Advances>(moves: &mut M, units: u32) -> Result<(), Stop>
     requires stands { Stands (M.scene moves.old) }
     requires units { (M.scene moves.old).task.granted + units < 2 ^ 32 }
-    ensures ran { RanOn (M.shows moves.old) (M.prefix moves.old) (M.written moves.old) (M.written moves.new) (with_granted (M.scene moves.old) units) (M.scene moves.new) (ended result) }
+    ensures ran { RanOn (M.shows moves.old) (M.prefix moves.old) (M.written moves.old) (M.written moves.new) (M.counted moves.old) (M.counted moves.new) (with_granted (M.scene moves.old) units) (M.scene moves.new) (ended result) }
     ensures prefix { M.prefix moves.new ≡ M.prefix moves.old }
     ensures lent { M.lent moves.new ≡ M.lent moves.old }
-    ensures counted { CountsOn (with_granted (M.scene moves.old) units) (M.scene moves.new) (M.counted moves.old) (M.counted moves.new) (ended result) }
     ensures counts { StopCounts (M.faults moves.old) (M.faults moves.new) (ended result) }
     ensures calms { StopsCalm (M.calm moves.old) (M.calm moves.new) (M.faults moves.old) (M.faults moves.new) (ended result) }
 {

@@ -1,12 +1,11 @@
-use Rattle.std.proofs.Common.{◌≤◌, ◌+◌, ◌*◌, subst}
-use Rattle.som_interp_task.specs.Run.{LeavesFuel}
+use Rattle.std.proofs.Common.{[], subst}
+use Rattle.som_machine_laws.specs.Counted.{IsDirectRun, IsSearchFree}
+use Rattle.som_interp_task.specs.Run.{CountsRun, LeavesFuel}
 use Rattle.som_semantics.specs.Means.{means_in}
-use Rattle.som_semantics.specs.RunText.{call_count}
-use Rattle.som_semantics.specs.Runs.{end_of}
 use Rattle.som_semantics.specs.World.{World}
 use Rattle.som_trace.specs.Filters.{shows_of}
 use Rattle.som_exec.proofs.Alone.{not_started}
-use Rattle.som_exec.proofs.Counting.{direct_run}
+use Rattle.som_exec.proofs.Counting.{direct_run, none_counted, run_on_premise}
 use Rattle.som_exec.specs.Runs.{RunsMain}
 use Rattle.som_exec.proofs.running.finish.Goals as goal
 
@@ -20,11 +19,19 @@ pub returns-in-Err-clause-runs : goal.returns-in-Err-clause-runs
 returns-in-Err-clause-runs g c = not_started _ _ _ _ (g.K.Sink.written c.args.out.now) _ _
 
 pub returns-in-Ok-clause-steps : goal.returns-in-Ok-clause-steps
-returns-in-Ok-clause-steps g c free =
+returns-in-Ok-clause-steps g c =
     let r = c.args.runtime.now in
-    let made = g.R.Classes.made c.run_task-finished.new.runtime in
-    subst (λ (w : World). c.run_task-finished.new.steps ≤ c.args.steps.now + 2 * call_count (end_of (means_in w (g.R.Runtime.program r) c.args.fuel)).events + 2) c.know.ensures.agree.linked_answers
-    (c.run_task-finished.ensures.steps (direct_run (g.R.Classes.keys r) (g.R.Classes.world r) (g.R.ClassKeys.known r) (g.R.Runtime.linked r) (g.R.Runtime.program r) made c.know.ensures.agree c.know.ensures.loads free))
+    let end = c.run_task-finished.new in
+    let made = g.R.Classes.made end.runtime in
+    let free : Type 0 = IsSearchFree (g.R.ClassKeys.known r).classes (g.R.Runtime.program r) made in
+    subst (λ (w : World). CountsRun free (means_in w (g.R.Runtime.program r) c.args.fuel) (shows_of c.args.trace.now) [] (g.K.Sink.written c.args.out.now) (g.K.Sink.written end.out) c.args.steps.now end.steps c.run_task-finished.result.outcome) c.know.ensures.agree.linked_answers
+    (run_on_premise (IsDirectRun (g.R.Runtime.linked r).world (g.R.Runtime.program r) made) free (direct_run (g.R.Classes.keys r) (g.R.Classes.world r) (g.R.ClassKeys.known r) (g.R.Runtime.linked r) (g.R.Runtime.program r) made c.know.ensures.agree c.know.ensures.loads)
+    (means_in (g.R.Runtime.linked r).world (g.R.Runtime.program r) c.args.fuel) (shows_of c.args.trace.now) [] (g.K.Sink.written c.args.out.now) (g.K.Sink.written end.out) c.args.steps.now end.steps c.run_task-finished.result.outcome c.run_task-finished.ensures.steps)
+
+pub returns-in-Err-clause-steps : goal.returns-in-Err-clause-steps
+returns-in-Err-clause-steps g c =
+    let r = c.args.runtime.now in
+    none_counted (IsSearchFree (g.R.ClassKeys.known r).classes (g.R.Runtime.program r) (g.R.Classes.made r)) (means_in (g.R.Classes.world r) (g.R.Runtime.program r) c.args.fuel) (shows_of c.args.trace.now) [] (g.K.Sink.written c.args.out.now) c.args.steps.now
 
 pub returns-in-Ok-clause-left : goal.returns-in-Ok-clause-left
 returns-in-Ok-clause-left g c =
