@@ -23,7 +23,8 @@ use std::sync::ledger::Ledger;
 /// Grants units to a live task that stands, and goes on until its main is over, it has a fault, or no unit is left. What
 /// it comes to is what main means with the units granted before and these. The task is live where it can be gone on with.
 /// Where no block searches for a name and no class that is made by then has hooks, at most two steps are counted for each
-/// call event that comes now, and two more; after SinkFailed and NoMemory for those events alone that came.
+/// call event that comes now, and two more; after SinkFailed and NoMemory for a front of these
+/// events alone, whose lines were told.
 pub fn advance<R: Runtime, K: Sink, L: Ledger>(
     alloc: Global,
     task: &mut Task,

@@ -25,7 +25,8 @@ use std::sync::ledger::Ledger;
 /// Runs the main of a linked kernel by this fuel, with objects of its own: it answers the end of what main means, and
 /// tells its text, or a front of it where memory was wanting or the sink failed. The classes that were used are made,
 /// and the kernel is else as it was. Where no block searches for a name and no class that is made by the end has hooks,
-/// at most two steps are counted for each call event, and two more; after SinkFailed and NoMemory for those alone that came.
+/// at most two steps are counted for each call event, and two more; after SinkFailed and NoMemory for a front of them
+/// alone, whose lines were told.
 pub fn run<R: Runtime, K: Sink, L: Ledger>(
     alloc: Global,
     runtime: &mut R,

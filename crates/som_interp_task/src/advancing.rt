@@ -18,7 +18,7 @@ use som_trace::{Place, Untold};
 /// Grants units to a task that stands, and goes on until main is over, it has a fault, or no unit is left. What it comes
 /// to is what main means with the units granted before and these. Where main is over, the units are left that the meaning
 /// leaves. Where nothing searches for a name and no class that is made has hooks, two steps are counted for each call
-/// event that comes now, and two more; after SinkFailed and NoMemory no event counts that didn't come.
+/// event that comes now, and two more; after SinkFailed and NoMemory for a front of these events alone, whose lines were told.
 pub fn advance<M: Advances>(moves: &mut M, units: u32) -> Advanced
     requires stands { Stands (M.scene moves.old) }
     requires units { (M.scene moves.old).task.granted + units < 2 ^ 32 }
