@@ -6,7 +6,7 @@ HELLO = examples/hello/hello
 EXAMPLES = zoo shop document plugin
 TABLE = crates/som_test_tables/data/try.rows
 
-.PHONY: try table hello examples test planted starve budget bench
+.PHONY: try table hello examples test planted starve budget bench pictures
 
 # the promise, with what each command prints: by the program where it is built, and else by a run of the same commands with no
 # proof, which tells where what comes differs
@@ -55,6 +55,10 @@ budget:
 starve: $(SOM)
 	$(CC) -shared -fPIC -O2 -o $(OUT)/starve.so tools/starve.c
 	tools/starve $(SOM) $(OUT)/starve.so
+
+# the pictures in docs/pictures, of what the pages and examples show; the gate tells where they aren't what these lines make
+pictures:
+	tools/graph --pictures
 
 # how long the commands take, as a table for docs/PERFORMANCE.md
 bench: $(SOM)
