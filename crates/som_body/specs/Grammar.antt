@@ -1,9 +1,11 @@
 -- The grammar of expressions in method bodies. `IsExpr text_at l u a`: the tokens u are an expression, a is its tree, and l the levels with each of the tokens, where text_at gives the text of the token at each place.
-use Rattle.std.specs.Prelude.{◌≡◌, ℕ, suc, Bool, true, false, if◌then◌else◌, List, [], ◌∷◌, ◌++◌, Option, Some, None}
+use Rattle.std.specs.Prelude.{◌≡◌, ℕ, suc, Bool, true, false, ◌&&◌, if◌then◌else◌, List, [], ◌∷◌, ◌++◌, Option, Some, None}
+use Rattle.som_lex.specs.Spelling.{is_word}
 use Rattle.som_lex.specs.Values.{text_of}
 use Rattle.som_model.specs.declared.syntax.HostCode.{HostCode}
 use Rattle.som_model.specs.declared.syntax.HostCode.TheVariants as host
 use Rattle.som_parse.specs.Tokens.{word}
+use Rattle.som_parse.specs.Words.{key_of}
 use Rattle.som_parse.specs.declared.token.Key.{Key}
 use Rattle.som_parse.specs.declared.token.Key.TheVariants as key
 use Rattle.som_parse.specs.declared.token.Sign.TheVariants as sign
@@ -52,6 +54,10 @@ is_name key.Long = false
 is_name key.Boolean = false
 is_name key.Str = false
 is_name _ = true
+
+-- whether bytes are a NAME by themselves: they are a word, and it may be a name
+abbrev pub is_name_text : List ℕ → Bool
+is_name_text bytes = is_word bytes && is_name (key_of bytes)
 
 -- "min" | "max" | "and" | "or" | "xor" | "wrapadd"
 abbrev pub host_code : Key → Option HostCode

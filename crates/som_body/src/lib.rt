@@ -37,4 +37,4 @@ pub use parse::{parse_bodies, parse_main};
 use som_ast::ExprText;
 pub use som_parse::SyntaxFault;
 pub use steps::steps_from;
-pub use word::{any_word, is_name, kind, name};
+pub use word::{any_word, is_name, is_name_text, kind, name};

@@ -1,6 +1,6 @@
 //! Words, names, types and expressions of one token.
 
-ghost use Rattle.som_body.specs.Grammar.{is_name as is_name_of, host_code as host_code_of, word_atom as word_atom_of, atom as atom_of};
+ghost use Rattle.som_body.specs.Grammar.{is_name as is_name_of, is_name_text as is_name_text_of, host_code as host_code_of, word_atom as word_atom_of, atom as atom_of};
 ghost use Rattle.som_body.specs.Reading as spec;
 ghost use Rattle.som_lex.specs.Values.{text_of};
 ghost use Rattle.som_parse.specs.Answer.{Answers};
@@ -8,9 +8,9 @@ ghost use Rattle.som_parse.specs.Seen.{text_at};
 ghost use Rattle.std.specs.Prelude.{◌≡◌, IfOk};
 
 use som_ast::{ExprText, TypeName, Word};
-use som_lex::{Tokens, literal_text};
+use som_lex::{Tokens, is_word, literal_text};
 use som_model::{HostCode, NoMemory, Text};
-use som_parse::{Cursor, Key, Stop, Token, word_at};
+use som_parse::{Cursor, Key, Stop, Token, key_of, word_at};
 use std::alloc::Global;
 
 /// Whether a word may be a name.
@@ -53,6 +53,13 @@ pub fn is_name(key: Key) -> bool
         | Key::Str => false,
         _ => true,
     }
+}
+
+/// Whether bytes are a name of bodies by themselves: a word of at most `MAX_NAME` bytes that has no other meaning there.
+pub fn is_name_text(bytes: &[u8]) -> bool
+    ensures { result ≡ is_name_text_of bytes.now }
+{
+    is_word(bytes) && is_name(key_of(bytes))
 }
 
 /// Takes any word, also one that a grammar treats specially.

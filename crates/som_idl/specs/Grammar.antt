@@ -1,7 +1,9 @@
 -- The grammar of interface files. `IsFile text_at u f`: the tokens u are a file, and f is its tree, where text_at gives the text of the word at each place.
-use Rattle.std.specs.Prelude.{◌≡◌, ◌≢◌, ℕ, Bool, true, false, List, [], ◌∷◌, ◌++◌, Option, Some, None}
+use Rattle.std.specs.Prelude.{◌≡◌, ◌≢◌, ℕ, Bool, true, false, ◌&&◌, List, [], ◌∷◌, ◌++◌, Option, Some, None}
+use Rattle.som_lex.specs.Spelling.{is_word}
 use Rattle.som_parse.specs.Languages.{Listed, Repeated, Kept}
 use Rattle.som_parse.specs.Tokens.{word}
+use Rattle.som_parse.specs.Words.{key_of}
 use Rattle.som_parse.specs.declared.token.Key.{Key}
 use Rattle.som_parse.specs.declared.token.Key.TheVariants as key
 use Rattle.som_parse.specs.declared.token.Sign.TheVariants as sign
@@ -35,6 +37,10 @@ is_name key.Implementation = false
 is_name key.True = false
 is_name key.False = false
 is_name _ = true
+
+-- whether bytes are a NAME by themselves: they are a word, and it may be a name
+abbrev pub is_name_text : List ℕ → Bool
+is_name_text bytes = is_word bytes && is_name (key_of bytes)
 
 module _ (text_at : ℕ → List ℕ) where
   -- NAME

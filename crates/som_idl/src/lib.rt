@@ -12,5 +12,6 @@ mod name;
 mod parse;
 
 pub use laws::{one_answer, one_tree, some_answer};
+pub use name::is_name_text;
 pub use parse::parse_idl;
 pub use som_parse::SyntaxFault;

@@ -1,6 +1,6 @@
 //! Names and types.
 
-ghost use Rattle.som_idl.specs.Grammar.{is_name as is_name_of};
+ghost use Rattle.som_idl.specs.Grammar.{is_name as is_name_of, is_name_text as is_name_text_of};
 ghost use Rattle.som_idl.specs.Reading as spec;
 ghost use Rattle.som_parse.specs.Answer.{Answers};
 ghost use Rattle.som_parse.specs.Readers.{another, listed};
@@ -8,9 +8,9 @@ ghost use Rattle.som_parse.specs.Seen.{text_at};
 ghost use Rattle.std.specs.Prelude.{◌≡◌};
 
 use som_ast::{TypeName, Word};
-use som_lex::Tokens;
+use som_lex::{Tokens, is_word};
 use som_model::List;
-use som_parse::{Cursor, Key, Sign, Stop, Token, Turn, word_at};
+use som_parse::{Cursor, Key, Sign, Stop, Token, Turn, key_of, word_at};
 use std::alloc::Global;
 
 pub(crate) fn is_name(key: Key) -> bool
@@ -31,6 +31,13 @@ pub(crate) fn is_name(key: Key) -> bool
         | Key::False => false,
         _ => true,
     }
+}
+
+/// Whether bytes are a name of interface files by themselves: a word of at most `MAX_NAME` bytes that has no other meaning there.
+pub fn is_name_text(bytes: &[u8]) -> bool
+    ensures { result ≡ is_name_text_of bytes.now }
+{
+    is_word(bytes) && is_name(key_of(bytes))
 }
 
 #[tactic(auto, unfolding(crate::specs::Reading::name, som_parse::specs::Readers::take_word))]

@@ -4,6 +4,7 @@ pub mod Runs
 pub mod Inverted
 pub mod Longest
 pub mod Signs
+pub mod Words
 pub mod Literals
 pub mod Comments
 pub mod Fronts

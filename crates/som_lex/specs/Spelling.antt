@@ -1,5 +1,5 @@
 -- What spells a token, and what a text literal means.
-use Rattle.std.specs.Prelude.{◌≡◌, ℕ, ◌≤◌, ⊤, true, false, List, [], ◌∷◌, ◌++◌, ◌==◌, not, length}
+use Rattle.std.specs.Prelude.{◌≡◌, ℕ, ◌≤◌, nat_le, ⊤, Bool, true, false, ◌&&◌, List, [], ◌∷◌, ◌++◌, ◌==◌, not, length}
 use Rattle.std.specs.List.{list_all}
 use Rattle.som_model.specs.declared.limits.TheConstants.{MAX_NAME, MAX_TEXT}
 use Rattle.som_lex.specs.declared.lexeme.TheConstants.{MAX_NUMBER}
@@ -31,3 +31,8 @@ FitsLimit kinds.Number bs = number_of bs ≤ MAX_NUMBER
 FitsLimit kinds.Literal bs = length (text_of bs) ≤ MAX_TEXT
 FitsLimit kinds.Sign bs = ⊤
 FitsLimit kinds.Directive bs = ⊤
+
+-- whether bytes are a word by themselves, within the limit
+abbrev pub is_word : List ℕ → Bool
+is_word [] = false
+is_word (b ∷ u) = is_letter b && list_all is_word_byte u && nat_le (length (b ∷ u)) MAX_NAME

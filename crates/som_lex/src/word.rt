@@ -1,12 +1,14 @@
 //! The lexer of words and decimal numbers, with their limits.
 
-ghost use Rattle.std.specs.Prelude.{◌≡◌, ◌≤◌, ◌<◌, ◌+◌, ◌*◌, ◌^◌, ℕ, List, ◌∷◌, length, min, true, IfOk};
-ghost use Rattle.std.specs.List.{prefix_len};
+ghost use Rattle.std.specs.Prelude.{◌≡◌, ◌≤◌, ◌<◌, ◌+◌, ◌*◌, ◌^◌, ◌&&◌, ℕ, List, ◌∷◌, length, min, nat_le, true, IfOk};
+ghost use Rattle.std.specs.List.{list_all, prefix_len};
 ghost use Rattle.som_lex.specs.Alphabet as spec;
 ghost use Rattle.som_lex.specs.Lexeme.{word_at, number_at};
+ghost use Rattle.som_lex.specs.Spelling.{is_word as is_word_of};
 ghost use Rattle.som_lex.specs.Values.{number_of};
+ghost use Rattle.som_model.specs.declared.limits.TheConstants.{MAX_NAME};
 
-use crate::alphabet::{is_digit, is_word_byte};
+use crate::alphabet::{is_digit, is_letter, is_word_byte};
 use crate::lexeme::Lexeme;
 use crate::{LexFault, MAX_NUMBER, TokenKind};
 use som_model::MAX_NAME;
@@ -17,6 +19,28 @@ pub(crate) fn word_len(bytes: &[u8]) -> usize
     ensures some { (b : ℕ) (bs : List ℕ) → bytes.now ≡ b ∷ bs → spec.is_letter b ≡ true → 0 < result }
 {
     bytes.iter().take_while(|byte| is_word_byte(**byte)).count()
+}
+
+fn is_word_text(first: u8, others: &[u8]) -> bool
+    ensures { result ≡ spec.is_letter first && list_all spec.is_word_byte others.now }
+{
+    is_letter(first) && others.iter().all(|byte| is_word_byte(*byte))
+}
+
+fn is_short(bytes: &[u8]) -> bool
+    ensures { result ≡ nat_le (length bytes.now) MAX_NAME }
+{
+    bytes.len() <= MAX_NAME as usize
+}
+
+/// Whether bytes are a word by themselves: a letter or `_`, then letters, digits and `_`, at most `MAX_NAME` bytes in all.
+pub fn is_word(bytes: &[u8]) -> bool
+    ensures { result ≡ is_word_of bytes.now }
+{
+    match bytes {
+        [] => false,
+        [first, others @ ..] => is_word_text(*first, others) && is_short(bytes),
+    }
 }
 
 fn digits_len(bytes: &[u8]) -> usize

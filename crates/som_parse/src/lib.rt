@@ -15,3 +15,4 @@ pub use cursor::{Cursor, Stop, Turn};
 pub use fault::SyntaxFault;
 pub use seen::{Seen, see, word_at};
 pub use token::{Key, Sign, Token};
+pub use words::key_of;

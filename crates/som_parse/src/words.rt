@@ -146,7 +146,8 @@ fn type_word(word: &[u8]) -> Key
     }
 }
 
-pub(crate) fn key_of(word: &[u8]) -> Key
+/// What a word is to grammars.
+pub fn key_of(word: &[u8]) -> Key
     ensures { result ≡ spec.key_of word.now }
 {
     if is_refused_declaration(word) || is_refused_type(word) || is_refused_modifier(word) {

@@ -1,3 +1,4 @@
 pub mod Firsts
 pub mod RuleNames
 pub mod Telling
+pub mod OneTold

@@ -9,8 +9,10 @@ ghost use Rattle.som_sema_breach_laws.specs.Telling.{IsFirstTold};
 ghost use Rattle.std.specs.Prelude.{◌≡◌, List as Seq, Some};
 
 /// What is told of interfaces that break one of the rules S1 to S12 is the first rule that one of them
-/// breaks, the first interface that breaks it, and the first of its members that does.
+/// breaks, the first interface that breaks it, and the first of its members that does. There is one such breach at most.
 pub fn first_told_law()
-    ensures { (m : Module) (base : Interface) (is : Seq IdlInterface) (b : RuleBreach) →
+    ensures told { (m : Module) (base : Interface) (is : Seq IdlInterface) (b : RuleBreach) →
         texts_breach m base is ≡ Some b → IsFirstTold m base is b }
+    ensures one { (m : Module) (base : Interface) (is : Seq IdlInterface) (a b : RuleBreach) →
+        IsFirstTold m base is a → IsFirstTold m base is b → a ≡ b }
 {}

@@ -1,5 +1,9 @@
+use Rattle.som_sema_breach_laws.proofs.OneTold.{one_told}
 use Rattle.som_sema_breach_laws.proofs.Telling.{first_told}
 use Rattle.som_sema_breach_laws.proofs.laws.first_told_law.Goals as goal
 
-pub returns : goal.returns
-returns c = first_told
+pub returns-clause-told : goal.returns-clause-told
+returns-clause-told c = first_told
+
+pub returns-clause-one : goal.returns-clause-one
+returns-clause-one c = one_told
