@@ -1,7 +1,7 @@
 -- Bytes that are a word by themselves spell one, and no others do.
-use Rattle.std.proofs.Common.{◌≡◌, ℕ, ◌≤◌, nat_le, Bool, true, false, ◌&&◌, List, [], ◌∷◌, length, refl, sym, ap, ◌∙◌, subst, arith}
+use Rattle.std.proofs.Common.{◌≡◌, ℕ, suc, ◌≤◌, nat_le, nat_eq, ◌+◌, Bool, true, false, ◌&&◌, if◌then◌else◌, List, [], ◌∷◌, length, refl, sym, ap, ◌∙◌, subst, arith}
 use Rattle.std.specs.Prelude.{◌↔◌}
-use Rattle.std.specs.List.{list_all}
+use Rattle.std.specs.List.{list_all, prefix_len}
 use Rattle.som_model.specs.declared.limits.TheConstants.{MAX_NAME}
 use Rattle.som_lex.specs.declared.token.TokenKind.TheVariants as kinds
 use Rattle.som_lex.specs.Alphabet.{is_letter, is_word_byte}
@@ -32,3 +32,12 @@ is_one w (a_word {b = b} {u = u} letter others) le = all (is_letter b) (list_all
 
 pub word_spelled : (w : List ℕ) → (is_word w ≡ true) ↔ (Spells kinds.Word w × FitsLimit kinds.Word w)
 word_spelled w = (spelled w, λ p. is_one w p.0 p.1)
+
+one_more : (b : Bool) (n m : ℕ) (r : Bool) → nat_eq n m ≡ r → nat_eq (if b then 1 + n else 0) (suc m) ≡ (b && r)
+one_more true n m r e = grind (arith, e)
+one_more false n m r e = grind arith
+
+-- all bytes pass where as many pass in front as there are
+pub whole : (p : ℕ → Bool) (bs : List ℕ) → nat_eq (prefix_len p bs) (length bs) ≡ list_all p bs
+whole p [] = refl
+whole p (b ∷ bs) = one_more (p b) (prefix_len p bs) (length bs) (list_all p bs) (whole p bs)

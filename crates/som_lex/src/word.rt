@@ -21,10 +21,16 @@ pub(crate) fn word_len(bytes: &[u8]) -> usize
     bytes.iter().take_while(|byte| is_word_byte(**byte)).count()
 }
 
+fn are_word_bytes(bytes: &[u8]) -> bool
+    ensures { result ≡ list_all spec.is_word_byte bytes.now }
+{
+    word_len(bytes) == bytes.len()
+}
+
 fn is_word_text(first: u8, others: &[u8]) -> bool
     ensures { result ≡ spec.is_letter first && list_all spec.is_word_byte others.now }
 {
-    is_letter(first) && others.iter().all(|byte| is_word_byte(*byte))
+    is_letter(first) && are_word_bytes(others)
 }
 
 fn is_short(bytes: &[u8]) -> bool
