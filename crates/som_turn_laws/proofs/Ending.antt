@@ -1,5 +1,5 @@
 -- A client has more fuel with each turn: what it shows grows, and an end stays.
-use Rattle.std.proofs.Common.{◌≡◌, ℕ, zero, suc, ◌+◌, ◌<◌, Bool, true, false, if◌then◌else◌, List, [], ◌∷◌, ◌++◌, drop, length, refl, sym, ap, ◌∙◌, subst, arith, true≢false}
+use Rattle.std.proofs.Common.{◌≡◌, ℕ, zero, suc, ◌+◌, ◌<◌, true, false, if◌then◌else◌, List, [], ◌++◌, drop, length, refl, sym, ap, ◌∙◌, subst, arith, true≢false}
 use Rattle.std.proofs.Math.Seq.{drop-length}
 use Rattle.som_semantics.specs.State.{Event}
 use Rattle.som_semantics.specs.Runs.{Faulted, Spent, Ran, Goes, Ends, end_of, IsMore}
@@ -7,7 +7,7 @@ use Rattle.som_semantics.specs.Fuel.{left_with, IsOver}
 use Rattle.som_semantics.specs.RunText.{no_trace, events_lines}
 use Rattle.som_semantics.specs.Means.{main_act, means_in, beginning}
 use Rattle.som_semantics.proofs.FuelLaws.{over_more}
-use Rattle.som_turn_laws.specs.Clients.{Client, IsMain, ClientEnd, Going, Done, AtFault, became, end_after, is_going, shown_after}
+use Rattle.som_turn_laws.specs.Clients.{Client, IsMain, ClientEnd, became, end_after, is_going, shown_after}
 use Rattle.som_turn_laws.specs.Turns.{fault_lines, turn_lines}
 
 -- ---- runs that are over

@@ -31,11 +31,11 @@ turn_lines client n = events_lines no_trace (turn_events client n) ++ (if is_goi
 abbrev pub Tagged : Type 0
 Tagged = ℕ × List ℕ
 
--- lines of one client
+-- lines of client i
 abbrev pub tagged : ℕ → List (List ℕ) → List Tagged
 tagged i lines = map (λ line. (i, line)) lines
 
--- how many of the turns a client has
+-- how many of the turns are client i's
 abbrev pub turns_of : ℕ → List ℕ → ℕ
 turns_of i turns = count_by (λ j. j == i) turns
 
@@ -48,7 +48,7 @@ lines_after clients before (i ∷ turns) = tagged i (turn_lines (clients i) (tur
 abbrev pub turns_lines : Clients → List ℕ → List Tagged
 turns_lines clients turns = lines_after clients [] turns
 
--- those of the lines that a client's turns brought
+-- those of the lines that the turns of client i brought
 abbrev pub from_client : ℕ → List Tagged → List Tagged
 from_client i lines = filter (λ line. line.0 == i) lines
 
@@ -59,7 +59,7 @@ alone_lines client (suc n) = run_lines no_trace (client (suc n))
 
 -- ---- text
 
--- what stands before each line of a client
+-- what stands before each line of client i
 abbrev pub client_prefix : ℕ → List ℕ
 client_prefix i = decimal i ++ codes ": "
 
@@ -77,15 +77,15 @@ end_word Going = codes "going"
 end_word Done = codes "done"
 end_word (AtFault f at) = codes "fault"
 
--- the line that tells the end of a client
+-- the line that tells the end of client i
 abbrev pub client_line : ℕ → ClientEnd → List ℕ
 client_line i end = codes "client " ++ decimal i ++ codes " " ++ end_word end ++ 10 ∷ []
 
--- these lines after some turns, of so many clients from a number on
+-- the lines that tell the ends of so many clients from number i on, after these turns
 abbrev pub ends_from : Clients → List ℕ → ℕ → ℕ → List (List ℕ)
 ends_from clients turns i zero = []
 ends_from clients turns i (suc n) = client_line i (end_after (clients i) (turns_of i turns)) ∷ ends_from clients turns (suc i) n
 
--- these lines of so many clients, in order
+-- the lines that tell the ends of so many clients after these turns, in order
 abbrev pub closing_lines : Clients → List ℕ → ℕ → List (List ℕ)
 closing_lines clients turns count = ends_from clients turns 0 count

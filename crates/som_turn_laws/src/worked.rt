@@ -11,6 +11,8 @@ pub fn printers_law()
         (0, line_a) ∷ (1, line_a) ∷ (0, line_b) ∷ (1, line_b) ∷ [] }
     ensures at_once { turns_lines two_printers (0 ∷ 0 ∷ 1 ∷ 1 ∷ []) ≡
         (0, line_a) ∷ (0, line_b) ∷ (1, line_a) ∷ (1, line_b) ∷ [] }
+    ensures shown { turns_text two_printers (0 ∷ 1 ∷ 0 ∷ 1 ∷ []) ≡
+        codes "0: a" ++ 10 ∷ codes "1: a" ++ 10 ∷ codes "0: b" ++ 10 ∷ codes "1: b" ++ 10 ∷ [] }
     ensures differ { turns_text two_printers (0 ∷ 1 ∷ 0 ∷ 1 ∷ []) ≡ turns_text two_printers (0 ∷ 0 ∷ 1 ∷ 1 ∷ []) → ⊥ }
     ensures going { closing_lines two_printers (0 ∷ 1 ∷ []) 2 ≡
         (codes "client 0 going" ++ 10 ∷ []) ∷ (codes "client 1 going" ++ 10 ∷ []) ∷ [] }

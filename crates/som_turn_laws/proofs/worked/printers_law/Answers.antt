@@ -8,6 +8,10 @@ returns-clause-by_turns c = refl
 pub returns-clause-at_once : goal.returns-clause-at_once
 returns-clause-at_once c = refl
 
+pub returns-clause-shown : goal.returns-clause-shown
+unfolding digits
+returns-clause-shown c = refl
+
 -- the sixth byte is the number of the second turn's client
 pub returns-clause-differ : goal.returns-clause-differ
 unfolding digits
