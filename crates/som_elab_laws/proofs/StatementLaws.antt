@@ -11,7 +11,7 @@ use Rattle.som_model.proofs.StepLaws.{held, same_answer, went, found}
 use Rattle.som_ast.specs.declared.words.TypeName.{TypeName}
 use Rattle.som_ast.specs.declared.words.Word.{Word}
 use Rattle.som_ast.specs.declared.expression.ExprText.{ExprText}
-use Rattle.som_ast.specs.declared.body.StmtText.{StmtText, roll-StmtText, map-StmtText, fold-roll-StmtText}
+use Rattle.som_ast.specs.declared.body.StmtText.{StmtText, roll-StmtText, map-StmtText, ind-StmtText, fold-roll-StmtText}
 use Rattle.som_ast.specs.declared.body.StmtText.TheOpen.{StmtText-F, BlockText-F}
 use Rattle.som_ast.specs.declared.body.StmtText.TheVariants as texts
 use Rattle.som_ast.specs.declared.body.BlockText.{BlockText, roll-BlockText, map-BlockText, ind-BlockText, fold-roll-BlockText}
@@ -142,9 +142,16 @@ module _ (a : Among) (at : CodePlace) where
       let ss = went (in_turn (map (elaborated_stmt a at) (kept_texts y.statements)) scope) (λ ss. Ok (record { statements = ss })) b h in
       subst (λ (z : Block). BlockSays a at scope (record { statements = kept_texts y.statements }) z) (same_answer ss.further) (a_block (turn_says y.statements scope ss.value ss.first))
 
+  stmt_rolled : (x : StmtText-F StmtText BlockText) (y : StmtText-F Kept KeptBlock) → map-StmtText Kept KeptBlock StmtText BlockText (λ (k : Kept). k.0) (λ (k : KeptBlock). k.0) y ≡ x → Says (roll-StmtText x)
+  stmt_rolled x y is = subst (λ z. Says (roll-StmtText z)) is (λ scope q h. layer_says y scope q
+      (sym (ap (λ (f : StmtElab). f scope) (fold-roll-StmtText StmtElab BlockElab (stmt_step a at) block_step (map-StmtText Kept KeptBlock StmtText BlockText (λ (k : Kept). k.0) (λ (k : KeptBlock). k.0) y))) ∙ h))
+
+  block_rolled : (x : BlockText-F StmtText BlockText) (y : BlockText-F Kept KeptBlock) → map-BlockText Kept KeptBlock StmtText BlockText (λ (k : Kept). k.0) (λ (k : KeptBlock). k.0) y ≡ x → BlockHolds (roll-BlockText x)
+  block_rolled x y is = subst (λ z. BlockHolds (roll-BlockText z)) is (λ scope b h. block_says y scope b
+      (sym (ap (λ (f : BlockElab). f scope) (fold-roll-BlockText StmtElab BlockElab (stmt_step a at) block_step (map-BlockText Kept KeptBlock StmtText BlockText (λ (k : Kept). k.0) (λ (k : KeptBlock). k.0) y))) ∙ h))
+
+  pub stmt_says : (s : StmtText) → Says s
+  stmt_says = ind-StmtText Says BlockHolds stmt_rolled block_rolled
+
   pub text_says : (t : BlockText) → BlockHolds t
-  text_says = ind-BlockText Says BlockHolds
-      (λ x y is. subst (λ z. Says (roll-StmtText z)) is (λ scope q h. layer_says y scope q
-      (sym (ap (λ (f : StmtElab). f scope) (fold-roll-StmtText StmtElab BlockElab (stmt_step a at) block_step (map-StmtText Kept KeptBlock StmtText BlockText (λ (k : Kept). k.0) (λ (k : KeptBlock). k.0) y))) ∙ h)))
-      (λ x y is. subst (λ z. BlockHolds (roll-BlockText z)) is (λ scope b h. block_says y scope b
-      (sym (ap (λ (f : BlockElab). f scope) (fold-roll-BlockText StmtElab BlockElab (stmt_step a at) block_step (map-BlockText Kept KeptBlock StmtText BlockText (λ (k : Kept). k.0) (λ (k : KeptBlock). k.0) y))) ∙ h)))
+  text_says = ind-BlockText Says BlockHolds stmt_rolled block_rolled

@@ -96,30 +96,31 @@ module _ {A B : Type 0} (read : List ℕ → Result (Read A) ImageFault) (local 
   -- ---- the field
 
   module _ (Spells : B → List ℕ → Type 0) (again : (bytes : List ℕ) (x : B) → Spells x bytes → told bytes ≡ Ok x) where
-    stops_firm : (bytes : List ℕ) (f : ImageFault) (p : ℕ) → field_of f ≡ Some p → read bytes ≡ Err f → IsFirm read 0 0 bytes f p → StopsAt told Spells bytes p
+    stops_firm : (bytes : List ℕ) (f : ImageFault) (p : ℕ) → field_of f ≡ Some p → read bytes ≡ Err f → IsFirm read 0 0 bytes f p → StopsAt told Spells f bytes p
     stops_firm bytes f p at e t = record {
       ends = t.ends;
       past = t.past;
       near = t.near;
       within = t.within;
+      stays = λ more. told_fault (take t.ends bytes ++ more) f (t.stays (take t.ends bytes ++ more) (onwards t.ends bytes more t.within));
       dead = λ x more s. not_both (sym (again (take t.ends bytes ++ more) x s) ∙ told_fault (take t.ends bytes ++ more) f (t.stays (take t.ends bytes ++ more) (onwards t.ends bytes more t.within)));
       before = λ n le. told_fault (take n bytes) (faults.Cut n) (cut_front n p bytes f at le (let a = t.past in let b = t.within in omega (arith, le, a, b)) e (read (take n bytes)) refl);
     }
 
-    stops_by : (bytes : List ℕ) (f : ImageFault) (p : ℕ) → field_of f ≡ Some p → read bytes ≡ Err f → IsTold read 0 0 bytes f → StopsAt told Spells bytes p
-    stops_by bytes (faults.Magic q) p at e t = subst (StopsAt told Spells bytes) (one_place at) (stops_firm bytes (faults.Magic q) q refl e t)
-    stops_by bytes (faults.Version q) p at e t = subst (StopsAt told Spells bytes) (one_place at) (stops_firm bytes (faults.Version q) q refl e t)
-    stops_by bytes (faults.Tag q) p at e t = subst (StopsAt told Spells bytes) (one_place at) (stops_firm bytes (faults.Tag q) q refl e t)
-    stops_by bytes (faults.Number q) p at e t = subst (StopsAt told Spells bytes) (one_place at) (stops_firm bytes (faults.Number q) q refl e t)
-    stops_by bytes (faults.Nesting q) p at e t = subst (StopsAt told Spells bytes) (one_place at) (stops_firm bytes (faults.Nesting q) q refl e t)
+    stops_by : (bytes : List ℕ) (f : ImageFault) (p : ℕ) → field_of f ≡ Some p → read bytes ≡ Err f → IsTold read 0 0 bytes f → StopsAt told Spells f bytes p
+    stops_by bytes (faults.Magic q) p at e t = subst (StopsAt told Spells (faults.Magic q) bytes) (one_place at) (stops_firm bytes (faults.Magic q) q refl e t)
+    stops_by bytes (faults.Version q) p at e t = subst (StopsAt told Spells (faults.Version q) bytes) (one_place at) (stops_firm bytes (faults.Version q) q refl e t)
+    stops_by bytes (faults.Tag q) p at e t = subst (StopsAt told Spells (faults.Tag q) bytes) (one_place at) (stops_firm bytes (faults.Tag q) q refl e t)
+    stops_by bytes (faults.Number q) p at e t = subst (StopsAt told Spells (faults.Number q) bytes) (one_place at) (stops_firm bytes (faults.Number q) q refl e t)
+    stops_by bytes (faults.Nesting q) p at e t = subst (StopsAt told Spells (faults.Nesting q) bytes) (one_place at) (stops_firm bytes (faults.Nesting q) q refl e t)
     stops_by bytes (faults.Cut q) p at e t = absurd (let z = at in cc)
     stops_by bytes (faults.Trailing q) p at e t = absurd t
     stops_by bytes faults.NoMemory p at e t = absurd t
 
-    pub stops : (bytes : List ℕ) (f : ImageFault) (p : ℕ) → told bytes ≡ Err f → field_of f ≡ Some p → StopsAt told Spells bytes p
+    pub stops : (bytes : List ℕ) (f : ImageFault) (p : ℕ) → told bytes ≡ Err f → field_of f ≡ Some p → StopsAt told Spells f bytes p
     stops bytes f p e at = by (was_read bytes f e)
       where
-        by : WasRead bytes f → StopsAt told Spells bytes p
+        by : WasRead bytes f → StopsAt told Spells f bytes p
         by (read_fault h) = stops_by bytes f p at h (local.fault bytes f (omega arith) h)
         by (read_more x h is lt) = absurd (no_place (sym at ∙ ap field_of is))
 

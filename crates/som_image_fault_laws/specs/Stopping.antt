@@ -14,14 +14,16 @@ field_of (faults.Trailing p) = None
 field_of (faults.Nesting p) = Some p
 field_of faults.NoMemory = None
 
--- the bytes stop at the field of this place
-pub record StopsAt {A : Type 0} (told : List ℕ → Result A ImageFault) (Spells : A → List ℕ → Type 0) (bytes : List ℕ) (place : ℕ) : Type 0 where
+-- the bytes stop with this fault at the field of this place
+pub record StopsAt {A : Type 0} (told : List ℕ → Result A ImageFault) (Spells : A → List ℕ → Type 0) (fault : ImageFault) (bytes : List ℕ) (place : ℕ) : Type 0 where
   -- where the field ends, which has four bytes at most
   pub ends : ℕ
   pub past : place < ends
   pub near : ends ≤ place + 4
   pub within : ends ≤ length bytes
-  -- no image begins with the bytes up to and with this field
+  -- whatever follows the bytes up to and with this field, the fault is told of them
+  pub stays : (more : List ℕ) → told (take ends bytes ++ more) ≡ Err fault
+  -- so no image begins with them
   pub dead : (x : A) (more : List ℕ) → Spells x (take ends bytes ++ more) → ⊥
   -- and of no bytes that end before it anything is told but that they end
   pub before : (n : ℕ) → n ≤ place → told (take n bytes) ≡ Err (faults.Cut n)

@@ -10,12 +10,12 @@ ghost use Rattle.som_model.specs.declared.program.ClientProgram.{ClientProgram};
 ghost use Rattle.som_model.specs.declared.program.Release.{Release};
 ghost use Rattle.std.specs.Prelude.{◌≡◌, ◌<◌, ℕ, List as Seq, length, take, Some, Err};
 
-/// The fault that is told of bytes which are no library image is the first: with the field that is told, no image begins so;
-/// before it nothing is wrong, but that an image doesn't end there. Bytes that end too early do so at their end, and before
-/// those that follow an image a whole one stands.
+/// The fault that is told of bytes which are no library image is told of all that begin as they do up to the end of the field
+/// at its place, so that no image begins so; and of bytes that end before that field nothing is told but that they end too
+/// early. Bytes that end too early do so at their end, and before those that follow an image a whole one stands.
 pub fn library_fault_law()
     ensures stops { (bytes : Seq ℕ) (f : ImageFault) (place : ℕ) → library_at bytes ≡ Err f → field_of f ≡ Some place →
-        StopsAt library_at SpellsLibrary bytes place }
+        StopsAt library_at SpellsLibrary f bytes place }
     ensures cut { (bytes : Seq ℕ) (place : ℕ) → library_at bytes ≡ Err (faults.Cut place) → place ≡ length bytes }
     ensures trailing { (bytes : Seq ℕ) (place : ℕ) → AreBytes bytes → library_at bytes ≡ Err (faults.Trailing place) →
         (place < length bytes) × (r : Release) × SpellsLibrary r (take place bytes) }
@@ -24,7 +24,7 @@ pub fn library_fault_law()
 /// So it is with bytes that are no client image.
 pub fn client_fault_law()
     ensures stops { (bytes : Seq ℕ) (f : ImageFault) (place : ℕ) → client_at bytes ≡ Err f → field_of f ≡ Some place →
-        StopsAt client_at SpellsProgram bytes place }
+        StopsAt client_at SpellsProgram f bytes place }
     ensures cut { (bytes : Seq ℕ) (place : ℕ) → client_at bytes ≡ Err (faults.Cut place) → place ≡ length bytes }
     ensures trailing { (bytes : Seq ℕ) (place : ℕ) → AreBytes bytes → client_at bytes ≡ Err (faults.Trailing place) →
         (place < length bytes) × (p : ClientProgram) × SpellsProgram p (take place bytes) }
