@@ -11,7 +11,7 @@ use Rattle.som_ast.specs.declared.interface.Param.{Param}
 use Rattle.som_ast.specs.declared.interface.Export.{Export}
 use Rattle.som_ast.specs.declared.interface.Export.TheVariants as exports
 use Rattle.som_ast.specs.declared.interface.IdlInterface.{IdlInterface}
-use Rattle.som_verify_classes.proofs.PlainMoves.{flat_mem}
+use Rattle.som_model_laws.proofs.Lists.{flat_mem}
 use Rattle.som_sema_drafts.specs.Drafts.{InterfaceDraft, getter, setter}
 use Rattle.som_elab_methods.specs.Accessors.{Access, attribute_accessors, body_of}
 use Rattle.som_elab_methods.specs.Bodies.{operation_name, operations}

@@ -24,12 +24,13 @@ use Rattle.som_verify_classes.proofs.PlainLists.{apart_differ, differ_apart}
 use Rattle.som_elab_body.specs.Locals.{Named, Names, in_scope, names_of}
 use Rattle.som_elab_body.specs.Expressions.{Among, Elaborated, elaborated_value, facts_among}
 use Rattle.som_elab_body.specs.Statements.{BlockElab, Placed, StmtElab, Told, block_step, declared, elaborated_block, elaborated_stmt, in_turn, placed, ruled, stmt_step, with_local}
-use Rattle.som_elab_body.proofs.Went.{same_answer, went}
-use Rattle.som_elab_body.proofs.Went.{held as demand_held}
+use Rattle.som_model.proofs.StepLaws.{same_answer, went}
+use Rattle.som_model.proofs.StepLaws.{held as demand_held}
 use Rattle.som_elab_laws.specs.Expressions.{ExprSays}
 use Rattle.som_elab_laws.specs.Statements.{BlockSays, StmtSays, StmtsSay, a_block, a_call, a_choice, a_declaration, a_free, a_loop, a_print, a_return, a_return_with_value, a_variable_assignment, an_assignment, local_named, no_statement, one_statement}
 use Rattle.som_elab_laws.specs.Named.{IsLocal, IsVariable}
-use Rattle.som_elab_laws.proofs.StatementLaws.{ruled_ok, stmt_says}
+use Rattle.som_elab_body.proofs.TypedBodies.{ruled_ok}
+use Rattle.som_elab_laws.proofs.StatementLaws.{stmt_says}
 use Rattle.som_elab_program_laws.specs.NothingTwice.{NothingTwice}
 use Rattle.som_elab_program_laws.proofs.OneExpression.{one_expr}
 use Rattle.som_elab_program_laws.proofs.OneName.{one_local, one_own_variable}

@@ -15,7 +15,7 @@ use Rattle.som_model.specs.Typing.{CodePlace, ExprType, Of}
 use Rattle.som_verify_classes.specs.Plainly.{Differ}
 use Rattle.som_elab_body.specs.Expressions.{Among}
 use Rattle.som_elab_body.specs.Locals.{Named, Names, names_of}
-use Rattle.som_elab_body.proofs.Went.{same_answer}
+use Rattle.som_model.proofs.StepLaws.{same_answer}
 use Rattle.som_elab_laws.specs.Named.{HasMethod, HasVariable, IsLocal, IsOf, IsParent, IsVariable}
 use Rattle.som_elab_program_laws.specs.NothingTwice.{NothingTwice}
 
