@@ -76,8 +76,8 @@ library_is bytes =
     (steps (head_at (codes "SOML") 2 bytes 0) (λ version. library.classes_at version.value bytes version.next) (at_end bytes))
 
 -- what is told is told by any reading that is the same
-over : {B : Type 0} (f g : List ℕ → Result B ImageFault) (Spells : B → List ℕ → Type 0) (bytes : List ℕ) (p : ℕ) → ((b : List ℕ) → f b ≡ g b) → StopsAt g Spells bytes p → StopsAt f Spells bytes p
-over f g Spells bytes p same s = record { ends = s.ends; past = s.past; near = s.near; within = s.within; dead = s.dead; before = λ n le. same (take n bytes) ∙ s.before n le }
+over : {B : Type 0} (f g : List ℕ → Result B ImageFault) (Spells : B → List ℕ → Type 0) (x : ImageFault) (bytes : List ℕ) (p : ℕ) → ((b : List ℕ) → f b ≡ g b) → StopsAt g Spells x bytes p → StopsAt f Spells x bytes p
+over f g Spells x bytes p same s = record { ends = s.ends; past = s.past; near = s.near; within = s.within; stays = λ more. same (take s.ends bytes ++ more) ∙ s.stays more; dead = s.dead; before = λ n le. same (take n bytes) ∙ s.before n le }
 
 bytes_front : (p : ℕ) (bytes : List ℕ) → AreBytes bytes → AreBytes (take p bytes)
 bytes_front p bytes all i = elim (cases_lt i p) [
@@ -85,9 +85,9 @@ bytes_front p bytes all i = elim (cases_lt i p) [
   | inr le ↦ rw (get_or_past (take p bytes) i 0 (omega (arith, length-take p bytes))) (omega arith)
 ]
 
-pub library_stops : (bytes : List ℕ) (f : ImageFault) (p : ℕ) → library_at bytes ≡ Err f → field_of f ≡ Some p → StopsAt library_at SpellsLibrary bytes p
+pub library_stops : (bytes : List ℕ) (f : ImageFault) (p : ℕ) → library_at bytes ≡ Err f → field_of f ≡ Some p → StopsAt library_at SpellsLibrary f bytes p
 library_stops bytes f p e at =
-    over library_at (told library_read library_local release_named) SpellsLibrary bytes p library_is
+    over library_at (told library_read library_local release_named) SpellsLibrary f bytes p library_is
     (stops library_read library_local release_named SpellsLibrary (λ b x s. sym (library_is b) ∙ library_laws.spelled_again b x s) bytes f p (sym (library_is bytes) ∙ e) at)
 
 pub library_cut : (bytes : List ℕ) (p : ℕ) → library_at bytes ≡ Err (faults.Cut p) → p ≡ length bytes
@@ -137,9 +137,9 @@ client_is bytes =
     ap (λ (z : Result WireProgram ImageFault). z >>= λ w. Ok (program_named w))
     (steps (head_at (codes "SOMC") 2 bytes 0) (λ version. program_at version.value bytes version.next) (at_end bytes))
 
-pub client_stops : (bytes : List ℕ) (f : ImageFault) (p : ℕ) → client_at bytes ≡ Err f → field_of f ≡ Some p → StopsAt client_at SpellsProgram bytes p
+pub client_stops : (bytes : List ℕ) (f : ImageFault) (p : ℕ) → client_at bytes ≡ Err f → field_of f ≡ Some p → StopsAt client_at SpellsProgram f bytes p
 client_stops bytes f p e at =
-    over client_at (told client_read client_local program_named) SpellsProgram bytes p client_is
+    over client_at (told client_read client_local program_named) SpellsProgram f bytes p client_is
     (stops client_read client_local program_named SpellsProgram (λ b x s. sym (client_is b) ∙ client_laws.spelled_again b x s) bytes f p (sym (client_is bytes) ∙ e) at)
 
 pub client_cut : (bytes : List ℕ) (p : ℕ) → client_at bytes ≡ Err (faults.Cut p) → p ≡ length bytes
