@@ -4,5 +4,5 @@
 mod refusals;
 mod verdict;
 
-pub use refusals::w_name_law;
+pub use refusals::{refused_law, w_name_law, witness_law};
 pub use verdict::{Texts, Verdict};

@@ -17,7 +17,9 @@ pub enum Verdict {
     /// It keeps all.
     Accepted,
     /// The class has another major version, or a lower minor one: no client can show that.
-    VersionOnly { class: Text },
+    VersionOnly {
+        class: Text,
+    },
     /// It breaks this rule of this class, and the program shows it: the program was compiled against the
     /// older interface, and the newer one refuses it. Texts say the program where some can.
     Shown {
