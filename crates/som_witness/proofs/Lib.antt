@@ -1,0 +1,15 @@
+pub mod Adding
+pub mod Changes
+pub mod Clients
+pub mod Conforms
+pub mod Fitting
+pub mod Forms
+pub mod Holding
+pub mod Known
+pub mod Metas
+pub mod Numbers
+pub mod Refusing
+pub mod Released
+pub mod Shown
+pub mod Slots
+pub mod WellTyped

@@ -1,0 +1,5 @@
+pub mod Names
+pub mod Program
+pub mod Showings
+pub mod Verdicts
+pub mod Wording
