@@ -9,15 +9,18 @@ use Rattle.som_model.specs.declared.class.Entry.{Entry}
 use Rattle.som_model.specs.declared.class.Entry.TheVariants as entries
 use Rattle.som_model.specs.declared.limits.TheConstants.{MAX_LAID_CLASSES, MAX_TEXT}
 use Rattle.som_model.specs.declared.syntax.Stmt.{Stmt}
+use Rattle.som_model.specs.declared.syntax.Block.{fold-roll-Block}
 use Rattle.som_model.specs.Lists.{Mem, doubles, some}
 use Rattle.som_model.specs.Keys.{same_key}
 use Rattle.som_model.specs.Class.{Class}
-use Rattle.som_model.specs.Conforming.{class_typed_by}
-use Rattle.som_model.specs.Counts.{ClassCounted}
+use Rattle.som_model.specs.Conforming.{class_typed_by, main_breach}
+use Rattle.som_model.specs.Counts.{ClassCounted, block_counted_step, stmt_counted_step}
 use Rattle.som_model.specs.Kernel.{kernel}
 use Rattle.som_model.specs.Loads.{HasOwnKey, Loads, keys_of}
 use Rattle.som_model.specs.Rules.{s3, s4, s5, s6, s7, s10, s14}
-use Rattle.som_model.specs.Typing.{running_facts}
+use Rattle.som_model.specs.Typing.{in_main, running_facts}
+use Rattle.som_model.specs.TypedBlocks.{Scoped}
+use Rattle.som_model.proofs.TypingLaws.{block_typed}
 use Rattle.som_model_laws.proofs.Lists.{get_mem}
 use Rattle.som_model_laws.proofs.Members.{mem_split}
 use Rattle.som_class_ids.specs.declared.keyed.Keyed.{Keyed}
@@ -91,7 +94,7 @@ module _ (cs : List Class) (p : ArePlain cs) where
   loads few = record {
     few = few;
     counted = counted;
-    main_counted = refl;
+    main_counted = fold-roll-Block Bool Bool stmt_counted_step block_counted_step (record { statements = [] });
     faces = record {
       ordered = record {
         own = each HasOwnKey (λ home name major minor o s. record { module_ = home; outside = not_kernel home o; is = refl });
@@ -111,7 +114,7 @@ module _ (cs : List Class) (p : ArePlain cs) where
     inherited = each (λ c. s10 (kernel ++ cs) c ≡ []) (λ home name major minor o s. refl);
     bodies = each (λ c. s14 c ≡ []) (λ home name major minor o s. refl);
     typed = each (λ c. class_typed_by (running_facts (kernel ++ cs)) (kernel ++ cs) c ≡ []) (λ home name major minor o s. refl);
-    main_typed = refl;
+    main_typed = ap (λ (f : Scoped). main_breach (f [])) (block_typed (running_facts (kernel ++ cs)) in_main []);
   }
 
 pub loads_empty : (all : List Keyed) (statements : List Stmt) → ArePlain (classes_of all) → length all ≤ MAX_LAID_CLASSES → statements ≡ [] → Loads (classes_of all) (record { statements = statements })

@@ -87,7 +87,6 @@ fn is_there(classes: &[Keyed], key: &ClassKey) -> bool
 }
 
 // Adds the class that a row declares: its module, its name, and the two numbers of its version.
-#[tactic(auto, using(crate::proofs::Loading::plain_more))]
 fn declare(alloc: Global, row: &[u8], classes: &mut List<Keyed>) -> Result<(), Unasked>
     requires { ArePlain (classes_of classes.old) }
     ensures { OnOk result (ArePlain (classes_of classes.new)) }
@@ -119,7 +118,6 @@ fn declared(alloc: Global, rows: &[u8]) -> Result<List<Keyed>, Unasked>
 }
 
 // Lays classes with an empty main, and does what is asked of their kernel.
-#[tactic(auto, using(crate::proofs::Loading::loads_empty))]
 fn query_classes(
     rt: &HostRuntime,
     classes: &List<Keyed>,
