@@ -26,6 +26,10 @@ or_split : {B : Type 0} (o p : Option B) (b : B) → or_else o p ≡ Some b → 
 or_split None p b e = inr (refl, e)
 or_split (Some x) p b e = inl e
 
+or_none : {B : Type 0} (o p : Option B) → or_else o p ≡ None → (o ≡ None) × (p ≡ None)
+or_none None p e = (refl, e)
+or_none (Some x) p e = absurd (cc)
+
 heads : {A : Type 0} (x y : A) (xs ys : List A) → x ∷ xs ≡ y ∷ ys → (x ≡ y) × (xs ≡ ys)
 heads x y xs ys e = (cc, cc)
 
@@ -123,3 +127,15 @@ module _ {A B : Type 0} where
         let t = told_first rules xs b g.1 in
         record { place = suc t.place; rule = t.rule; is_rule = t.is_rule; lower = none_lower rule rules xs t.place (nothing (over rule [] xs) g.0) t.lower; is_first = t.is_first })
   ]
+
+  -- where nothing is told, no rule gives anything
+  pub none_told : (rules : List (List A → A → List B)) (xs : List A) → told_by rules xs ≡ None
+      → (place : ℕ) (rule : List A → A → List B) → slice_get rules place ≡ Some rule → Nothing rule [] xs
+  none_told [] xs e place rule at = absurd (cc)
+  none_told (r ∷ rules) xs e zero rule at =
+      let same : r ≡ rule = cc in
+      let n = or_none (first (over r [] xs)) (told_by rules xs) e in
+      none_over rule [] xs (ap (λ (z : List A → A → List B). over z [] xs) (sym same) ∙ nothing (over r [] xs) n.0)
+  none_told (r ∷ rules) xs e (suc place) rule at =
+      let n = or_none (first (over r [] xs)) (told_by rules xs) e in
+      none_told rules xs n.1 place rule at

@@ -31,7 +31,7 @@ meets [] x us (w ∷ ys) y vs e = sooner ys (ap (λ z. z ∷ ys) (sym (heads x w
 meets (w ∷ xs) x us [] y vs e = later xs (ap (λ z. z ∷ xs) (heads w y (xs ++ x ∷ us) vs e).0)
 meets (w ∷ xs) x us (v ∷ ys) y vs e = let h = heads w v (xs ++ x ∷ us) (ys ++ y ∷ vs) e in deeper w v xs x ys y h.0 (meets xs x us ys y vs h.1)
 
-no_first : {B : Type 0} (xs : List B) (b : B) → xs ≡ [] → first xs ≡ Some b → ⊥
+pub no_first : {B : Type 0} (xs : List B) (b : B) → xs ≡ [] → first xs ≡ Some b → ⊥
 no_first [] b e f = let z = f in cc
 no_first (x ∷ xs) b e f = let z = e in cc
 

@@ -115,7 +115,7 @@ module _ (m : Module) (base : Interface) (all : List IdlInterface) where
   start : length first_ones ≡ length first_ones + 0
   start = omega arith
 
-  told_is : texts_breach m base all ≡ told_by (text_rules m base all) all
+  pub told_is : texts_breach m base all ≡ told_by (text_rules m base all) all
   told_is =
       twelve
       (first (each_after s1 first_ones (map (class_in m) (draft_classes (map d all)))))
