@@ -1,0 +1,10 @@
+pub mod Places
+pub mod Sparing
+pub mod Stepping
+pub mod Telling
+pub mod Joining
+pub mod Beginning
+pub mod Next
+pub mod Keeping
+pub mod Alone
+pub mod Finishing
