@@ -1,4 +1,4 @@
-//! The kernel of two images, which is made and dropped here alone.
+//! The kernel of two images, and the kernels of several clients with a library; no other file links images.
 
 use crate::queries::{Query, answer, refuse};
 use crate::query_fault::QueryFault;
@@ -57,4 +57,33 @@ pub fn query_files(
     let client = image(rt, client)?;
     let library = image(rt, library)?;
     query_images(rt, &library, &client, query)
+}
+
+// Adds the kernel of one client more.
+fn add_kernel(
+    alloc: Global,
+    library: &List<u8>,
+    client: &List<u8>,
+    kernels: &mut List<Kernel<Linked>>,
+) -> Result<(), QueryFault> {
+    match link(alloc, library, client)? {
+        Ok(kernel) => kernels.push(kernel)?,
+        Err(_) => return Err(QueryFault::Link),
+    }
+    Ok(())
+}
+
+/// The kernel of each client with a library, by the files of their images; the clients' have colons between.
+pub fn kernels_of(
+    rt: &HostRuntime,
+    library: &str,
+    clients: &str,
+) -> Result<List<Kernel<Linked>>, QueryFault> {
+    let alloc = rt.alloc();
+    let library = image(rt, library)?;
+    let mut kernels = List::new(alloc);
+    for client in clients.split(':') {
+        add_kernel(alloc, &library, &image(rt, client)?, &mut kernels)?;
+    }
+    Ok(kernels)
 }

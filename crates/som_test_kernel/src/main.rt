@@ -1,15 +1,18 @@
 //! Asks linked kernels, lets their tasks go on by units, and makes their classes: `som_test_kernel WORD..`, where a word is `ask:FILE`, `rows:FILE`,
-//! `lay:CLIENT:LIBRARY` or `make:CLIENT:LIBRARY`, or `alone`, `beside` or `fuels` before `:CLIENT:LIBRARY:DIGITS`.
+//! `lay:CLIENT:LIBRARY` or `make:CLIENT:LIBRARY`, or `alone`, `beside` or `fuels` before `:CLIENT:LIBRARY:DIGITS`, or
+//! `turns:PATTERN:LIBRARY:CLIENT:CLIENT..`.
 #![tactic(auto)]
 
 mod alone;
 mod answers;
 mod beside;
 mod cases;
+mod clients;
 mod fuels;
 mod kernels;
 mod laying;
 mod levels;
+mod pattern;
 mod queries;
 mod query_fault;
 mod taking;
@@ -17,6 +20,7 @@ mod telling;
 mod turning;
 
 use cases::{Ground, ask_file};
+use clients::turn_files;
 use kernels::query_files;
 use queries::Query;
 use query_fault::QueryFault;
@@ -46,6 +50,14 @@ fn take_turns(rt: &HostRuntime, word: &str, rest: &str, turns: Turns) -> Result<
     query_files(rt, client, library, &query)
 }
 
+// Gives turns to clients as a word says, which is told first.
+fn give_turns(rt: &HostRuntime, word: &str, rest: &str) -> Result<(), QueryFault> {
+    println!(rt; "= {word}")?;
+    let (pattern, rest) = part(rest)?;
+    let (library, clients) = part(rest)?;
+    turn_files(rt, pattern, library, clients)
+}
+
 // Does what a word asks.
 fn obey(rt: &HostRuntime, word: &str) -> Result<(), QueryFault> {
     let (kind, rest) = part(word)?;
@@ -57,6 +69,7 @@ fn obey(rt: &HostRuntime, word: &str) -> Result<(), QueryFault> {
         b"alone" => take_turns(rt, word, rest, Turns::Alone),
         b"beside" => take_turns(rt, word, rest, Turns::Beside),
         b"fuels" => take_turns(rt, word, rest, Turns::Fuels),
+        b"turns" => give_turns(rt, word, rest),
         _ => Err(QueryFault::Word),
     }
 }
