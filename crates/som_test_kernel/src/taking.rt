@@ -64,8 +64,8 @@ pub fn take_on(
     take_by(rt, turns, kernel, digits, &trace, &host)
 }
 
-/// Gives turns to clients, each with a kernel. The host's procedures are made here as above, since nothing is known any more of
-/// the closures in a table that a function hands back.
+/// Gives turns to clients, each with a kernel. The host's procedures are made here as above: a function that hands their table
+/// back isn't proved.
 pub fn turn_all(
     rt: &HostRuntime,
     kernels: &mut List<Kernel<Linked>>,
