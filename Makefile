@@ -6,7 +6,10 @@ HELLO = examples/hello/hello
 EXAMPLES = zoo shop document plugin
 TABLE = crates/som_test_tables/data/try.rows
 
-.PHONY: try table hello examples test planted starve budget bench pictures
+# Where `make install` puts the program and what belongs to it; DESTDIR stands before it.
+PREFIX = /usr/local
+
+.PHONY: try table hello examples report report-test pipeline install uninstall test planted starve budget bench pictures
 
 # the promise, with what each command prints: by the program where it is built, and else by a run of the same commands with no
 # proof, which tells where what comes differs
@@ -36,6 +39,30 @@ hello: $(SOM)
 # runs the commands of each example and shows what they print, which has to be what stands in its .expected
 examples: $(SOM)
 	@for e in $(EXAMPLES); do examples/session $(SOM) examples/$$e/$$e.commands $(OUT)/examples/$$e || exit 1; echo; done
+
+# the page that shows why the third release of the shop is refused: of the program where it is built, and else of what it said when
+# tools/data/examples.record was written. Any other page is made by tools/report OUT.html OLD NEW [CLIENT..]
+report:
+	@mkdir -p $(OUT)
+	@if [ -x $(SOM) ]; then examples/session $(SOM) examples/shop/shop.commands $(OUT)/examples/shop > /dev/null && \
+	cd $(OUT)/examples/shop && $(CURDIR)/tools/report --som $(abspath $(SOM)) $(abspath $(OUT))/report.html shop2 shop3 till books; \
+	else tools/report --recorded $(OUT)/report.html shop2 shop3 till books; fi
+	@echo "# open $(OUT)/report.html in a browser"
+
+# opens the reports of all examples in headless Chromium, the Debian package chromium, and keeps pictures of them outside of here
+report-test: $(SOM)
+	tools/report-test --som $(SOM)
+
+# a vendor's release gate, as docs/CI.md has it: three releases are shipped, and the fourth is stopped
+pipeline: $(SOM)
+	examples/pipeline/run $(SOM) $(OUT)/examples/pipeline
+
+# the program with a manual page, completion for bash and zsh, and highlighting for editors
+install: $(SOM)
+	tools/install $(PREFIX) $(SOM)
+
+uninstall:
+	tools/install --uninstall $(PREFIX)
 
 # the gate: every proof, every edit that has to be refused, every test, and the program as two compilers build it
 test:

@@ -141,6 +141,13 @@ def read_svg(text):
     return boxes, lines | links_named(boxes, named)
 
 
+def texts_of(text):
+    """The texts of each box of an SVG, each with its style."""
+    space = "{http://www.w3.org/2000/svg}"
+    groups = [group for group in ElementTree.fromstring(text).iter(f"{space}g") if group.get("class") in ROOMS]
+    return [[(it.get("class"), it.text) for it in group.iter(f"{space}text")] for group in groups]
+
+
 def links_named(boxes, named):
     """The links that boxes name, as lines. A fold is named by its first class."""
     number = {name: place for place, box in enumerate(boxes) for name in box.classes}

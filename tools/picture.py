@@ -15,6 +15,9 @@ WORDS = {LEFT: "first parent", FURTHER: "parent", METACLASS: "metaclass"}
 # many lines get more.
 NAME, SMALL, NAME_LINE, SMALL_LINE, PADDING, BESIDE, BETWEEN, CROWDED, MARGIN = 795, 612, 18, 13, 7, 24, 46, 160, 16
 
+# The room for the signs before the lines of a box that has any.
+SIGN = 9
+
 # How often rows are set, and how much more than others a left path weighs there.
 PASSES, HEAVY = 10, 3
 
@@ -24,11 +27,13 @@ ENTRIES, LETTERS, LAYERS, FEW_LAYERS, MANY_BOXES = 12, 44, 24, 3, 200
 
 @dataclasses.dataclass(eq=False)
 class Node:
-    """What stands in a row: a box, or where lines go through. x is its middle; above and below are what it is joined to."""
+    """What stands in a row: a box, or where lines go through. x is its middle; signs are what becomes of its lines, by their numbers; above and below are what it is
+    joined to."""
     row: int
     width: int
     box: Box | None = None
     lines: list = dataclasses.field(default_factory=list)
+    signs: dict = dataclasses.field(default_factory=dict)
     x: int = 0
     y: int = 0
     height: int = 0
@@ -44,16 +49,26 @@ def cut(text, is_whole):
     return text if is_whole or len(text) <= LETTERS else text[: LETTERS - 1] + "…"
 
 
-def lines_in(box, is_whole):
+def kept_entries(box, is_whole):
+    """The entries that a box shows."""
+    entries = box.classes[0].entries
+    return entries if is_whole or len(entries) <= ENTRIES else entries[: ENTRIES - 1]
+
+
+def head_of(box, marks):
+    """The lines above the name of a box, whose it is and what becomes of it."""
+    return [("mark", "«client»")] * (box.room == "client") + [("mark", line) for line in (marks.lines(box) if marks else ())]
+
+
+def lines_in(box, is_whole, marks=None):
     """The lines of a box, each with its style: name, small, or moved for an entry that was moved up."""
-    first = box.classes[0]
-    mark = [("mark", "«client»")] if box.room == "client" else []
+    first, mark = box.classes[0], head_of(box, marks)
     if box.is_fold:
         shown = [("small", cut(f"{one.name} {one.version}", is_whole)) for one in box.classes[:4]]
         more = [("small", f"… and {len(box.classes) - 4} more")] if len(box.classes) > 4 else []
         lines = [("name", f"{len(box.classes)} class{'es' * (len(box.classes) > 1)}"), *shown, *more]
     else:
-        kept = first.entries if is_whole or len(first.entries) <= ENTRIES else first.entries[: ENTRIES - 1]
+        kept = kept_entries(box, is_whole)
         shown = [("moved" if " -> " in entry else "small", cut(entry, is_whole)) for entry in kept]
         more = [("small", f"… and {len(first.entries) - len(kept)} more")] if len(kept) < len(first.entries) else []
         lines = [("name", f"{cut(first.name, is_whole)} {first.version}".rstrip()), *shown, *more]
@@ -66,12 +81,25 @@ def said_of(box):
     return "\n".join(lines)
 
 
-def node_of(box, is_whole):
+def signs_in(box, is_whole, marks):
+    """What becomes of the entries of a box, by the numbers of their lines; the line for further ones has what becomes of the first of these that has a mark."""
+    if not marks or box.is_fold:
+        return {}
+    name, first, kept = box.classes[0].name, len(head_of(box, marks)) + 1, len(kept_entries(box, is_whole))
+    signs = {}
+    for place in range(len(box.classes[0].entries)):
+        if (name, place) in marks.entries:
+            signs.setdefault(first + min(place, kept), marks.entries[name, place])
+    return signs
+
+
+def node_of(box, is_whole, marks=None):
     """The node of a box, as wide and high as its lines want."""
-    lines = lines_in(box, is_whole)
+    lines = lines_in(box, is_whole, marks)
     width = max(-(-len(text) * (NAME if style == "name" else SMALL) // 100) for style, text in lines)
     height = sum(NAME_LINE if style == "name" else SMALL_LINE for style, _ in lines)
-    return Node(box.layer, width + 2 * PADDING + 2, box, lines, height=height + 2 * PADDING)
+    signs = signs_in(box, is_whole, marks)
+    return Node(box.layer, width + 2 * PADDING + 2 + SIGN * bool(signs), box, lines, signs, height=height + 2 * PADDING)
 
 
 # ---- where they stand
@@ -186,12 +214,13 @@ class Picture:
     rows: list
     width: int
     height: int
+    marks: object = None
 
 
-def picture(name, boxes, edges, is_whole=False):
-    """The picture of boxes and lines; where it is to be whole no entries are left out and no names cut."""
+def picture(name, boxes, edges, is_whole=False, marks=None):
+    """The picture of boxes and lines; where it is to be whole no entries are left out and no names cut. Marks are those of a release beside another one."""
     near = keep_near(boxes, edges, is_whole)
-    node_of_box = {box: node_of(box, is_whole) for box in boxes}
+    node_of_box = {box: node_of(box, is_whole, marks) for box in boxes}
     found, through = ways(near, node_of_box)
     joined = set()
     for edge, way in found.items():
@@ -206,4 +235,4 @@ def picture(name, boxes, edges, is_whole=False):
     set_across(rows)
     bottom = set_down(rows)
     right = max((node.x + node.width // 2 for row in rows for node in row), default=0)
-    return Picture(name, list(node_of_box.values()), found, rows, right + MARGIN, bottom)
+    return Picture(name, list(node_of_box.values()), found, rows, right + MARGIN, bottom, marks)

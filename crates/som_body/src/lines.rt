@@ -20,8 +20,8 @@ use som_parse::{Cursor, Key, Sign, Stop, Turn};
 use std::alloc::Global;
 
 fn combined(alloc: Global, op: u8, first: Tall, second: Tall) -> Result<Tall, NoMemory>
-    requires first { first.height ≤ 64 }
-    requires second { second.height ≤ 64 }
+    requires first { first.height ≤ MAX_NESTING + 1 }
+    requires second { second.height ≤ MAX_NESTING + 1 }
     ensures { IfOk result (λ a. a ≡ spec.combined op first second) }
 {
     let height = first.height.max(second.height) + 1;
@@ -31,7 +31,7 @@ fn combined(alloc: Global, op: u8, first: Tall, second: Tall) -> Result<Tall, No
 
 // An operator of one operand.
 fn changed(alloc: Global, op: u8, operand: Tall) -> Result<Tall, NoMemory>
-    requires { operand.height ≤ 64 }
+    requires { operand.height ≤ MAX_NESTING + 1 }
     ensures { IfOk result (λ a. a ≡ spec.tall (ExprText.Unary op operand.tree) (operand.height + 1)) }
 {
     let Tall { tree, height } = operand;

@@ -18,8 +18,8 @@ use som_parse::{Cursor, Key, Sign, Stop, Turn};
 use std::alloc::Global;
 
 fn called(alloc: Global, receiver: Tall, method: Word, given: Given) -> Result<Tall, NoMemory>
-    requires receiver { receiver.height ≤ 64 }
-    requires given { given.height ≤ 64 }
+    requires receiver { receiver.height ≤ MAX_NESTING + 1 }
+    requires given { given.height ≤ MAX_NESTING + 1 }
     ensures { IfOk result (λ a. a ≡ spec.called receiver method given) }
 {
     let height = receiver.height.max(given.height) + 1;
@@ -32,8 +32,8 @@ fn called(alloc: Global, receiver: Tall, method: Word, given: Given) -> Result<T
 }
 
 fn named_height(call: &NamedCall) -> usize
-    requires receiver { call.now.receiver.height ≤ 64 }
-    requires given { call.now.given.height ≤ 64 }
+    requires receiver { call.now.receiver.height ≤ MAX_NESTING + 1 }
+    requires given { call.now.given.height ≤ MAX_NESTING + 1 }
     ensures { result ≡ spec.named_height call.now }
 {
     call.receiver.height.max(call.given.height) + 1

@@ -18,8 +18,8 @@ use som_parse::{Cursor, Key, Sign, Stop};
 use std::alloc::Global;
 
 fn hosted(alloc: Global, code: HostCode, first: Tall, second: Tall) -> Result<Tall, NoMemory>
-    requires first { first.height ≤ 64 }
-    requires second { second.height ≤ 64 }
+    requires first { first.height ≤ MAX_NESTING + 1 }
+    requires second { second.height ≤ MAX_NESTING + 1 }
     ensures { IfOk result (λ call. call ≡ spec.tall (ExprText.Host code first.tree second.tree) (max first.height second.height + 1)) }
 {
     let height = first.height.max(second.height) + 1;

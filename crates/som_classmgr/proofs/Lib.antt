@@ -2,3 +2,4 @@ pub mod Reading
 pub mod Reached
 pub mod Asking
 pub mod Counting
+pub mod Searching

@@ -5,7 +5,7 @@ use Rattle.som_model.specs.Bytes.{Files}
 use Rattle.som_io.specs.Outside.{Rose}
 use Rattle.som_cmd_steps.proofs.Statuses.{differs}
 use Rattle.som_cmd_build.specs.PutEnds.{LeavesFiles, as_they_were, with_image, put_failed}
-use Rattle.som_cmd.specs.Words.{Asked, Bad, Library, Run, Show, Check, Client, Generate}
+use Rattle.som_cmd.specs.Words.{Asked, Bad, Library, Run, Show, Check, Client, Tasks, Generate}
 use Rattle.som_cmd.specs.Complete.{EndsOrWants, WantsMemory}
 use Rattle.som_cmd.specs.Ends.{EndsAsTold, ShowsSome, StoreFails}
 use Rattle.som_cmd.specs.PutEnds.{KeepsFiles}
@@ -29,6 +29,7 @@ module _ (count now : ℕ) (steady : Rose count now → ⊥) where
   kept (Check images) files status new_files old new ten k = k
   kept (Library out names) files status new_files old new ten k = unchanged _ files out status new_files old new ten k
   kept (Client out library names) files status new_files old new ten k = unchanged _ files out status new_files old new ten k
+  kept (Tasks library turns clients) files status new_files old new ten k = k
   kept (Generate count) files status new_files old new ten k = k
   kept Bad files status new_files old new ten k = k
 

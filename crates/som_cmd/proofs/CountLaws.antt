@@ -5,7 +5,7 @@ use Rattle.std.specs.Fmt.{decimal}
 use Rattle.std.proofs.lemmas.Bool.{le-leb, leb-true, and_parts, and_from}
 use Rattle.som_model.specs.declared.limits.TheConstants.{MAX_FUEL}
 use Rattle.som_generator.specs.declared.limits.TheConstants.{MAX_CLASSES}
-use Rattle.som_cmd.specs.Words.{count_of, counted, fuel_of}
+use Rattle.som_cmd.specs.Words.{count_of, from_one_to, fuel_of}
 use Rattle.som_cmd.proofs.FuelSpelled.{asks, spelled}
 
 abbrev IsCount : Option ℕ → ℕ → Type 0
@@ -15,7 +15,7 @@ is_some : (b : Bool) (v n : ℕ) → (if b then Some v else None) ≡ Some n →
 is_some true v n e = (refl, cc)
 is_some false v n e = absurd cc
 
-is_count : (o : Option ℕ) (n : ℕ) → counted o ≡ Some n → IsCount o n
+is_count : (o : Option ℕ) (n : ℕ) → from_one_to MAX_CLASSES o ≡ Some n → IsCount o n
 is_count None n e = absurd cc
 is_count (Some v) n e =
     let p = is_some (nat_le 1 v && nat_le v MAX_CLASSES) v n e in
@@ -29,4 +29,4 @@ pub asks_count : (word : List ℕ) (n : ℕ) → (word ≡ decimal n) × (1 ≤ 
 asks_count word n is =
     let few : n ≤ MAX_FUEL = (let most = is.2 in omega (arith, most)) in
     let within : (nat_le 1 n && nat_le n MAX_CLASSES) ≡ true = and_from (nat_le 1 n) (nat_le n MAX_CLASSES) (le-leb 1 n is.1) (le-leb n MAX_CLASSES is.2) in
-    ap counted (asks word n (is.0, few)) ∙ ap (λ (b : Bool). if b then Some n else None) within
+    ap (from_one_to MAX_CLASSES) (asks word n (is.0, few)) ∙ ap (λ (b : Bool). if b then Some n else None) within

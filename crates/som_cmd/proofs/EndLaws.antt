@@ -1,5 +1,5 @@
 -- What a call comes to is what the command comes to that it asks for.
-use Rattle.std.proofs.Common.{◌≡◌, ◌≢◌, ◌⊎◌, ◌==◌, ℕ, Bool, true, false, List, Option, Some, None, refl, sym, subst, ◌∙◌, inl, inr, arith}
+use Rattle.std.proofs.Common.{◌≡◌, ◌≢◌, ◌⊎◌, ◌==◌, ℕ, Bool, true, false, List, length, slice_get, Option, Some, None, refl, sym, subst, ◌∙◌, inl, inr, arith}
 use Rattle.std.proofs.lemmas.Bool.{eqb-true}
 use Rattle.std.specs.FinMap.{empty}
 use Rattle.som_model.specs.declared.program.Release.{Release}
@@ -33,16 +33,22 @@ use Rattle.som_cmd_run.proofs.RunEndLaws.{front_by, means_by, unkept_by}
 use Rattle.som_cmd_run.specs.Newest.{RunsOnNewest}
 use Rattle.som_cmd_run.specs.RunEnds.{RunsAs, TellsNotKept}
 use Rattle.som_cmd_run.specs.RunAnswer.{IsRunAnswer}
+use Rattle.som_cmd_tasks.proofs.NewestLaws.{all_metaclasses, group_under, newest_keeps_all}
+use Rattle.som_cmd_tasks.proofs.TasksEndLaws.{taken_so, tells_by}
+use Rattle.som_cmd_tasks.specs.Ends.{tasks_text}
+use Rattle.som_cmd_tasks.specs.Newest.{Compiled, TurnsOnNewest, programs_of}
+use Rattle.som_cmd_tasks.specs.TasksAnswer.{IsTasksAnswer, clients_on}
+use Rattle.som_cmd_tasks.specs.TasksEnds.{KeepsAll, PrintsAlone, TellsTurns}
 use Rattle.som_generator.specs.declared.made.Made.{Made}
 use Rattle.som_cmd_generate.proofs.AnswerLaws.{generated_by}
 use Rattle.som_cmd_generate.specs.GenerateAnswer.{IsGenerateAnswer}
 use Rattle.som_cmd_generate.specs.GenerateEnds.{TellsGenerated}
 use Rattle.som_cmd_generate.specs.Printing.{ShowsSomeOf}
 use Rattle.som_cmd.proofs.OneAnswer.{some_answer}
-use Rattle.som_cmd.specs.Words.{Asked, Bad, Library, Run, Show, Check, Client, Generate}
-use Rattle.som_cmd.specs.Answer.{IsAnswer, bad_words, runs, shows, checks, bad_line, compiles, compiles_client, generates}
+use Rattle.som_cmd.specs.Words.{Asked, Bad, Library, Run, Show, Check, Client, Tasks, Generate}
+use Rattle.som_cmd.specs.Answer.{IsAnswer, bad_words, runs, shows, checks, bad_line, compiles, compiles_client, takes_turns, generates}
 use Rattle.som_cmd.specs.Cause.{FailsOn}
-use Rattle.som_cmd.specs.Ends.{EndsAsTold, StoreFails, ShowsSome, AreImagesOf, AreNewest, IsImageOf, IsImageOfClient, AreChecked}
+use Rattle.som_cmd.specs.Ends.{EndsAsTold, StoreFails, ShowsSome, AreImagesOf, AreNewest, AreNewestTasks, AreTasksOf, IsImageOf, IsImageOfClient, AreChecked}
 use Rattle.som_cmd.specs.Generating.{Generates, GeneratesAsked, IsMadeFor}
 use Rattle.som_cmd.proofs.WordLaws.{IsAnswerable}
 use Rattle.som_cmd.specs.Refused.{TellsBadWords, TellsOneLine, statuses_of}
@@ -160,6 +166,13 @@ library_alone files out names e (compiles _ _ _ a) = a
 client_alone : (files : Files) (out library : List ℕ) (names : List (List ℕ)) (e : Ending) → IsAnswer files (Client out library names) e → IsClientAnswer out library names files e
 client_alone files out library names e (compiles_client _ _ _ _ a) = a
 
+tasks_alone : (files : Files) (l ts : List ℕ) (cs : List (List ℕ)) (e : Ending) → IsAnswer files (Tasks l ts cs) e → IsTasksAnswer l ts cs files e
+tasks_alone files l ts cs e (takes_turns _ _ _ _ a) = a
+
+-- each client program prints on any release what it prints alone, whatever the turns are
+abbrev pub PrintAlone : Type 0
+PrintAlone = (r : Release) (ps : List ClientProgram) (turns : List ℕ) (i : ℕ) (p : ClientProgram) → slice_get ps i ≡ Some p → PrintsAlone r p (clients_on r ps) turns i
+
 module _ (asked : Asked) (files : Option Files) (status : ℕ) (new_files : Option Files) (old new : Option (List ℕ)) (e : EndsAsTold asked files status new_files old new) where
   -- it is the end of the run that is asked for
   run_by : (told : Files) (c l : List ℕ) (fuel : ℕ) (calls : List ℕ → Bool) → asked ≡ Run c l fuel calls → files ≡ Some told → steps.EndsAs (IsRunAnswer c l fuel calls told) status new_files old new
@@ -182,6 +195,22 @@ module _ (asked : Asked) (files : Option Files) (status : ℕ) (new_files : Opti
   means_on_newest earlier newest place texts p fuel calls m =
       means_by m.told m.client m.library p newest (newest_under m.told m.client m.library earlier newest place texts p m.images) fuel calls status new_files old new
       (run_by m.told m.client m.library fuel calls m.asked_is m.files_are) (newest_keeps m.told m.client m.library earlier newest place texts p m.images)
+
+  -- it is the end of the turns that are asked for
+  turns_by : (told : Files) (l ts : List ℕ) (cs : List (List ℕ)) → asked ≡ Tasks l ts cs → files ≡ Some told → steps.EndsAs (IsTasksAnswer l ts cs told) status new_files old new
+  turns_by told l ts cs is same =
+      ends_with (λ x. IsAnswer told (Tasks l ts cs) x) (IsTasksAnswer l ts cs told) (tasks_alone told l ts cs) status new_files old new
+      (ends_by asked (Tasks l ts cs) files told is same status new_files old new e)
+
+  -- as the clients mean
+  pub turns_told : PrintAlone → (l : List ℕ) (cs : List (List ℕ)) (r : Release) (ps : List ClientProgram) (turns : List ℕ) → AreTasksOf asked files l cs r ps turns → KeepsAll r ps → TellsTurns r ps turns status old new
+  turns_told law l cs r ps turns m keeps = tells_by m.told l cs r ps m.images keeps turns status new_files old new (turns_by m.told l turns cs m.asked_is m.files_are) (law r ps turns)
+
+  -- or as they mean on the newest of accepted releases
+  pub turns_on_newest : PrintAlone → (earlier : List Release) (newest : Release) (cs : List Compiled) (turns : List ℕ) → AreNewestTasks asked files earlier newest cs turns → TellsTurns newest (programs_of cs) turns status old new
+  turns_on_newest law earlier newest cs turns m =
+      tells_by m.told m.library m.clients newest (programs_of cs) (group_under m.told m.library earlier newest m.clients cs m.images) (newest_keeps_all m.told m.library earlier newest m.clients cs m.images) turns status new_files old new
+      (turns_by m.told m.library turns m.clients m.asked_is m.files_are) (law newest (programs_of cs) turns)
 
   -- that shows the release
   shown_by : (told : Files) (n : List ℕ) → asked ≡ Show n → files ≡ Some told → steps.EndsAs (IsShowAnswer n told) status new_files old new
@@ -262,4 +291,40 @@ module _ (asked : Asked) (files : Option Files) (earlier : List Release) (newest
     sink_failed = sink;
     front = λ either. front_told asked files m.asked_is m.files_are count now old new (front either);
     metaclasses = newest_metaclasses m.told m.client m.library earlier newest place texts p m.images;
+  }
+
+module _ (asked : Asked) (files : Option Files) (earlier : List Release) (newest : Release) (cs : List Compiled) (turns : List ℕ) (m : AreNewestTasks asked files earlier newest cs turns) where
+  abbrev ps : List ClientProgram
+  ps = programs_of cs
+
+  abbrev text : List ℕ
+  text = tasks_text (clients_on newest ps) turns (length ps)
+
+  -- a front of an answer for these turns is one of what the clients mean
+  turns_front_of : (old new : Option (List ℕ)) (e : Ending) → IsAnswer m.told (Tasks m.library turns m.clients) e → ShowsFront old new e.text → ShowsFront old new text
+  turns_front_of old new e a shown =
+      subst (λ (x : Ending). ShowsFront old new x.text)
+      (taken_so m.told m.library m.clients newest ps (group_under m.told m.library earlier newest m.clients cs m.images) (newest_keeps_all m.told m.library earlier newest m.clients cs m.images) turns e
+      (tasks_alone m.told m.library turns m.clients e a)) shown
+
+  turns_front_told : (by : Asked) (before : Option Files) → by ≡ Tasks m.library turns m.clients → before ≡ Some m.told → (count now : ℕ) (old new : Option (List ℕ)) → ShowsSome by before count now old new
+      → ShowsFront old new text ⊎ (Rose count now × (line : List ℕ) × FailsOn before by line × ShowsFront old new line)
+  turns_front_told by None is same count now old new s = absurd cc
+  turns_front_told by (Some told) is same count now old new (inl (e, a, shown)) =
+      inl (turns_front_of old new e (subst (λ (x : Files). IsAnswer x (Tasks m.library turns m.clients) e) (one_told told m.told same) (subst (λ (x : Asked). IsAnswer told x e) is a)) shown)
+    where
+      one_told : (a b : Files) → Some a ≡ Some b → a ≡ b
+      one_told a b e = cc
+  turns_front_told by (Some told) is same count now old new (inr (rose, line, is_line, shown)) = inr (rose, line, is_line, shown)
+
+  -- so a call comes to what the clients mean on the newest, turn by turn, unless the store or the sink failed or memory ran out
+  pub newest_turns : PrintAlone → (status count now sink_before sink_now : ℕ) (new_files : Option Files) (old new : Option (List ℕ)) → (status ≢ 6 → status ≢ 8 → status ≢ 10 → EndsAsTold asked files status new_files old new)
+      → (status ≡ 6 → StoreFails asked files count now old new) → (status ≡ 8 → Rose sink_before sink_now) → ((status ≡ 8) ⊎ (status ≡ 10) → ShowsSome asked files count now old new)
+      → TurnsOnNewest ps newest turns (FailsOn files asked) count now sink_before sink_now status old new
+  newest_turns law status count now sink_before sink_now new_files old new ends fails sink front = record {
+    turns_told = λ not6 not8 not10. turns_on_newest asked files status new_files old new (ends not6 not8 not10) law earlier newest cs turns m;
+    store_failed = fails;
+    sink_failed = sink;
+    front = λ either. turns_front_told asked files m.asked_is m.files_are count now old new (front either);
+    metaclasses = all_metaclasses m.told m.library earlier newest m.clients cs m.images;
   }

@@ -1,4 +1,4 @@
--- The words name as many files with a main as what they ask for needs, and no more classes than can be generated.
+-- The words name as many files with a main as what they ask for needs, no more classes than can be generated, and turns of the clients that they name.
 use Rattle.std.proofs.Common.{◌≡◌, ℕ, suc, ◌+◌, ◌<◌, ◌≤◌, ◌==◌, Bool, true, false, ◌&&◌, if◌then◌else◌, List, [], ◌∷◌, length, drop, get_or, codes, Option, Some, None, refl, sym, ap, subst, ◌∙◌, arith}
 use Rattle.std.specs.Prelude.{nat_le}
 use Rattle.std.proofs.lemmas.Bool.{eqb-true, leb-true}
@@ -7,8 +7,11 @@ use Rattle.std.specs.Str.{bytes_eq}
 use Rattle.som_model.specs.declared.limits.TheConstants.{DEFAULT_FUEL}
 use Rattle.som_model.specs.Lists.{every}
 use Rattle.som_sources.specs.Sources.{is_main, mains_in}
+use Rattle.som_cmd_tasks.specs.declared.limits.TheConstants.{MAX_PATTERN, MAX_ROUNDS}
+use Rattle.som_cmd_tasks.specs.Patterns.{AreTurns, names_client, turns_given}
+use Rattle.som_cmd_tasks.proofs.Turning.{pattern_turns}
 use Rattle.som_generator.specs.declared.limits.TheConstants.{MAX_CLASSES}
-use Rattle.som_cmd.specs.Words.{Asked, Show, Check, Library, Client, Generate, Bad, are_files, asked, asked_of, client_asked, counted, fuel_of, generate_asked, generate_with, is_file, is_name, library_asked, run_asked, run_with, trace_in}
+use Rattle.som_cmd.specs.Words.{Asked, Show, Check, Library, Client, Tasks, Generate, Bad, are_clients, are_files, asked, asked_of, client_asked, from_one_to, fuel_of, generate_asked, generate_with, is_file, is_name, is_pattern, library_asked, rounds_of, run_asked, run_with, tasks_asked, trace_in, turns_with}
 
 -- ---- one word after the other
 
@@ -50,10 +53,11 @@ all_counted words i count over so =
 
 -- ---- what is asked for
 
--- it has as many files with a main as it needs, none for a library and one for a client, or so many classes can be generated
+-- it has as many files with a main as it needs, none for a library and one for a client; or each turn is that of one of the clients, and none has too many; or so many classes can be generated
 abbrev pub IsAnswerable : Asked → Type 0
 IsAnswerable (Library out files) = mains_in files ≡ 0
 IsAnswerable (Client out library files) = mains_in files ≡ 1
+IsAnswerable (Tasks library turns clients) = AreTurns (length clients) turns
 IsAnswerable (Generate count) = count ≤ MAX_CLASSES
 IsAnswerable _ = Unit {0}
 
@@ -96,9 +100,33 @@ few_counted n true true e = leb-true n MAX_CLASSES e
 few_counted n true false e = tt
 few_counted n false b e = tt
 
-generate_few : (o : Option ℕ) → IsAnswerable (generate_with (counted o))
+generate_few : (o : Option ℕ) → IsAnswerable (generate_with (from_one_to MAX_CLASSES o))
 generate_few None = tt
 generate_few (Some n) = few_counted n (nat_le 1 n) (nat_le n MAX_CLASSES) refl
+
+rounds_few : (library pattern : List ℕ) (clients : List (List ℕ)) → every (names_client (length clients)) pattern ≡ true → length pattern ≤ MAX_PATTERN → (n : ℕ) (a b : Bool) → nat_le n MAX_ROUNDS ≡ b
+    → IsAnswerable (turns_with library pattern clients (if a && b then Some n else None))
+rounds_few library pattern clients each short n true true e = pattern_turns (length clients) pattern n each short (leb-true n MAX_ROUNDS e)
+rounds_few library pattern clients each short n true false e = tt
+rounds_few library pattern clients each short n false b e = tt
+
+turns_few : (library pattern : List ℕ) (clients : List (List ℕ)) → every (names_client (length clients)) pattern ≡ true → length pattern ≤ MAX_PATTERN → (o : Option ℕ) → IsAnswerable (turns_with library pattern clients (from_one_to MAX_ROUNDS o))
+turns_few library pattern clients each short None = tt
+turns_few library pattern clients each short (Some n) = rounds_few library pattern clients each short n (nat_le 1 n) (nat_le n MAX_ROUNDS) refl
+
+pattern_few : (library pattern word : List ℕ) (clients : List (List ℕ)) (a b c d e : Bool) → nat_le (length pattern) MAX_PATTERN ≡ d → every (names_client (length clients)) pattern ≡ e
+    → IsAnswerable (if a && b && (c && d && e) then turns_with library pattern clients (rounds_of word) else Bad)
+pattern_few library pattern word clients true true true true true short each = turns_few library pattern clients each (leb-true (length pattern) MAX_PATTERN short) (fuel_of word)
+pattern_few library pattern word clients true true true true false short each = tt
+pattern_few library pattern word clients true true true false e short each = tt
+pattern_few library pattern word clients true true false d e short each = tt
+pattern_few library pattern word clients true false c d e short each = tt
+pattern_few library pattern word clients false b c d e short each = tt
+
+tasks_few : (library pattern : List ℕ) (rest : List (List ℕ)) → IsAnswerable (tasks_asked library pattern rest)
+tasks_few library pattern [] = tt
+tasks_few library pattern (word ∷ clients) =
+    pattern_few library pattern word clients (is_name library) (are_clients clients) (nat_le 1 (length pattern)) (nat_le (length pattern) MAX_PATTERN) (every (names_client (length clients)) pattern) refl refl
 
 pub asked_mains : (words : List (List ℕ)) → IsAnswerable (asked words)
 asked_mains [] = tt
@@ -107,8 +135,9 @@ asked_mains (word ∷ image ∷ []) = if_mains _ (Show image) _ tt (if_mains (by
 asked_mains (word ∷ client ∷ library ∷ rest) =
     if_mains _ (run_asked client library rest) _ (runs_mains client library rest)
     (if_mains (bytes_eq word (codes "library")) (library_asked client (library ∷ rest)) _ (library_mains client (library ∷ rest) (is_name client) (are_files 0 (library ∷ rest)) refl)
-    (if_mains (bytes_eq word (codes "client")) (client_asked client library rest) (asked_of word (client ∷ library ∷ rest)) (client_mains client library rest (is_name client) (is_name library) (are_files 1 rest) refl)
-    (if_mains _ (Check (client ∷ library ∷ rest)) Bad tt tt)))
+    (if_mains (bytes_eq word (codes "client")) (client_asked client library rest) _ (client_mains client library rest (is_name client) (is_name library) (are_files 1 rest) refl)
+    (if_mains (bytes_eq word (codes "tasks")) (tasks_asked client library rest) (asked_of word (client ∷ library ∷ rest)) (tasks_few client library rest)
+    (if_mains _ (Check (client ∷ library ∷ rest)) Bad tt tt))))
 
 pub mains_by : (words : List (List ℕ)) (by : Asked) → by ≡ asked words → IsAnswerable by
 mains_by words by is = subst IsAnswerable (sym is) (asked_mains words)

@@ -9,7 +9,9 @@ use Rattle.som_cmd_check.specs.CheckEnds.{AreUnder}
 use Rattle.som_sources.specs.declared.source.Source.{Source}
 use Rattle.som_cmd_run.specs.Newest.{HoldsNewest}
 use Rattle.som_cmd_run.specs.RunEnds.{AreUnder as AreRun}
-use Rattle.som_cmd.specs.Words.{Asked, Run, Show, Check}
+use Rattle.som_cmd_tasks.specs.Newest.{Compiled, HoldsTasks}
+use Rattle.som_cmd_tasks.specs.TasksEnds.{AreGroupUnder}
+use Rattle.som_cmd.specs.Words.{Asked, Run, Show, Check, Tasks}
 use Rattle.som_cmd.specs.Answer.{IsAnswer}
 use Rattle.som_cmd.specs.Cause.{FailsOn}
 
@@ -64,3 +66,19 @@ pub record AreChecked (asked : Asked) (files : Option Files) (names : List (List
   pub asked_is : asked ≡ Check names
   pub two : 2 ≤ length rs
   pub under : AreUnder told names rs
+
+-- these turns of clients on a library are asked for, and the store holds the images of these client programs and that of a release, which conform
+pub record AreTasksOf (asked : Asked) (files : Option Files) (library : List ℕ) (clients : List (List ℕ)) (r : Release) (ps : List ClientProgram) (turns : List ℕ) : Type 0 where
+  pub told : Files
+  pub files_are : files ≡ Some told
+  pub asked_is : asked ≡ Tasks library turns clients
+  pub images : AreGroupUnder told library clients r ps
+
+-- these turns of clients on a library are asked for, and the store holds the images of clients that were compiled from texts against any of some accepted releases, and that of the newest of these
+pub record AreNewestTasks (asked : Asked) (files : Option Files) (earlier : List Release) (newest : Release) (cs : List Compiled) (turns : List ℕ) : Type 0 where
+  pub told : Files
+  pub files_are : files ≡ Some told
+  pub library : List ℕ
+  pub clients : List (List ℕ)
+  pub asked_is : asked ≡ Tasks library turns clients
+  pub images : HoldsTasks told library clients earlier newest cs

@@ -8,13 +8,14 @@ use Rattle.som_cmd_build.specs.LibraryAnswer.{AreCompiled}
 use Rattle.som_cmd_build.specs.ClientAnswer.{IsClientCompiled}
 use Rattle.som_cmd_build.specs.PutEnds.{HoldsClientTexts, HoldsTexts, LeavesFilesTold}
 use Rattle.som_cmd_build.specs.PutEnds as build
-use Rattle.som_cmd.specs.Words.{Asked, Run, Show, Check, Library, Client, Generate, Bad}
+use Rattle.som_cmd.specs.Words.{Asked, Run, Show, Check, Library, Client, Tasks, Generate, Bad}
 
 -- the files after a call: no command but `library` and `client` changes any
 abbrev pub KeepsFiles : Asked → Option Files → ℕ → ℕ → ℕ → Option Files → Option (List ℕ) → Option (List ℕ) → Type 0
 KeepsFiles (Run client library fuel shows) files before now status new_files old new = new_files ≡ files
 KeepsFiles (Show image) files before now status new_files old new = new_files ≡ files
 KeepsFiles (Check images) files before now status new_files old new = new_files ≡ files
+KeepsFiles (Tasks library turns clients) files before now status new_files old new = new_files ≡ files
 KeepsFiles (Generate count) files before now status new_files old new = new_files ≡ files
 KeepsFiles Bad files before now status new_files old new = new_files ≡ files
 KeepsFiles (Library out names) files before now status new_files old new = LeavesFilesTold (λ told. AreCompiled told names) files out before now status new_files old new

@@ -8,17 +8,21 @@ use Rattle.som_semantics.specs.RunText.{calls_of, every_call, no_trace}
 use Rattle.som_sources.specs.Sources.{is_bodies, is_main, mains_in}
 use Rattle.som_generator.specs.declared.limits.TheConstants.{MAX_CLASSES}
 use Rattle.som_cmd_main.specs.Traces.{shown_in}
+use Rattle.som_cmd_tasks.specs.declared.limits.TheConstants.{MAX_CLIENTS, MAX_PATTERN, MAX_ROUNDS}
+use Rattle.som_cmd_tasks.specs.Patterns.{names_client, turns_given}
 use Rattle.som_cmd.specs.declared.words.Command.{Command}
 use Rattle.som_cmd.specs.declared.words.Command.TheVariants as commands
 
 -- what words ask for: to run a client image on a library image with so much fuel, and to show these calls, by the name of the class whose body it is; to show an image;
--- to check images; to compile texts to a library image, or to a client image against a library image; to generate so many classes; or they have no form
+-- to check images; to compile texts to a library image, or to a client image against a library image; to give client images on a library image these turns; to generate so many classes;
+-- or they have no form
 pub data Asked : Type 0 where
   Run : (client library : List ℕ) (fuel : ℕ) (shows : List ℕ → Bool) → Asked
   Show : (image : List ℕ) → Asked
   Check : (images : List (List ℕ)) → Asked
   Library : (out : List ℕ) (files : List (List ℕ)) → Asked
   Client : (out library : List ℕ) (files : List (List ℕ)) → Asked
+  Tasks : (library turns : List ℕ) (clients : List (List ℕ)) → Asked
   Generate : (count : ℕ) → Asked
   Bad : Asked
 
@@ -29,6 +33,7 @@ asked_by (commands.Show image) = Show image.now
 asked_by (commands.Check images) = Check images.now
 asked_by (commands.Library out files) = Library out.now files.now
 asked_by (commands.Client out library files) = Client out.now library.now files.now
+asked_by (commands.Tasks library pattern rounds clients) = Tasks library.now (turns_given pattern.now rounds) clients.now
 asked_by (commands.Generate count) = Generate count
 asked_by commands.Bad = Bad
 
@@ -53,14 +58,18 @@ is_number word = not (length word == 0) && not (leads_with_zero word) && every i
 abbrev pub fuel_of : List ℕ → Option ℕ
 fuel_of word = if is_number word && nat_le (value_after 0 word) MAX_FUEL then Some (value_after 0 word) else None
 
--- a number that is at least one, of at most as many classes as can be generated
-abbrev pub counted : Option ℕ → Option ℕ
-counted (Some n) = if nat_le 1 n && nat_le n MAX_CLASSES then Some n else None
-counted None = None
+-- a number that is at least one, and at most this
+abbrev pub from_one_to : ℕ → Option ℕ → Option ℕ
+from_one_to most (Some n) = if nat_le 1 n && nat_le n most then Some n else None
+from_one_to most None = None
 
--- the count of a word that is a number
+-- the count of a word that is a number, of at most as many classes as can be generated
 abbrev pub count_of : List ℕ → Option ℕ
-count_of word = counted (fuel_of word)
+count_of word = from_one_to MAX_CLASSES (fuel_of word)
+
+-- the rounds of a word that is a number, of at most as many as may be asked for
+abbrev pub rounds_of : List ℕ → Option ℕ
+rounds_of word = from_one_to MAX_ROUNDS (fuel_of word)
 
 abbrev pub is_name : List ℕ → Bool
 is_name word = not (length word == 0)
@@ -108,6 +117,24 @@ library_asked out files = if is_name out && are_files 0 files then Library out f
 abbrev pub client_asked : List ℕ → List ℕ → List (List ℕ) → Asked
 client_asked out library files = if is_name out && is_name library && are_files 1 files then Client out library files else Bad
 
+-- one client or more, no more than may take turns, and none of their names empty
+abbrev pub are_clients : List (List ℕ) → Bool
+are_clients clients = nat_le 1 (length clients) && nat_le (length clients) MAX_CLIENTS && every is_name clients
+
+-- digits, no more than may be asked for, each of which names one of so many clients
+abbrev pub is_pattern : ℕ → List ℕ → Bool
+is_pattern count pattern = nat_le 1 (length pattern) && nat_le (length pattern) MAX_PATTERN && every (names_client count) pattern
+
+-- so many rounds of the turns of a pattern, if there is a number of rounds
+abbrev pub turns_with : List ℕ → List ℕ → List (List ℕ) → Option ℕ → Asked
+turns_with library pattern clients (Some rounds) = Tasks library (turns_given pattern rounds) clients
+turns_with library pattern clients None = Bad
+
+-- what `tasks` asks for with two words, and the words after these: a number of rounds and then clients
+abbrev pub tasks_asked : List ℕ → List ℕ → List (List ℕ) → Asked
+tasks_asked library pattern [] = Bad
+tasks_asked library pattern (word ∷ clients) = if is_name library && are_clients clients && is_pattern (length clients) pattern then turns_with library pattern clients (rounds_of word) else Bad
+
 -- so many classes are generated, if there is a count
 abbrev pub generate_with : Option ℕ → Asked
 generate_with (Some count) = Generate count
@@ -118,12 +145,13 @@ abbrev pub generate_asked : List ℕ → Asked
 generate_asked word = generate_with (count_of word)
 
 -- `show IMAGE`, `generate N`, `run CLIENT LIBRARY`, then `--fuel N` or not, then `--trace`, `--trace CLASS` or neither, `check IMAGE IMAGE ..`,
--- `library OUT FILE ..` or `client OUT LIBRARY FILE ..`, where no name is empty
+-- `library OUT FILE ..`, `client OUT LIBRARY FILE ..` or `tasks LIBRARY PATTERN ROUNDS CLIENT ..`, where no name is empty
 abbrev pub asked : List (List ℕ) → Asked
 asked (word ∷ image ∷ []) =
     if bytes_eq word (codes "show") && not (length image == 0) then Show image else (if bytes_eq word (codes "generate") then generate_asked image else Bad)
 asked (word ∷ client ∷ library ∷ rest) =
     if bytes_eq word (codes "run") && not (length client == 0) && not (length library == 0) then run_asked client library rest else (
     if bytes_eq word (codes "library") then library_asked client (library ∷ rest) else (
-    if bytes_eq word (codes "client") then client_asked client library rest else asked_of word (client ∷ library ∷ rest)))
+    if bytes_eq word (codes "client") then client_asked client library rest else (
+    if bytes_eq word (codes "tasks") then tasks_asked client library rest else asked_of word (client ∷ library ∷ rest))))
 asked words = Bad

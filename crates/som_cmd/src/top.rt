@@ -5,11 +5,13 @@ ghost use Rattle.som_cmd_check.specs.CheckEnds.{TellsAccepted, TellsBreach};
 ghost use Rattle.som_cmd_check.specs.ShowEnds.{ShowsProgram, ShowsRelease};
 ghost use Rattle.som_cmd.specs.Cause.{FailsOn};
 ghost use Rattle.som_cmd.specs.Complete.{EndsOrWants};
-ghost use Rattle.som_cmd.specs.Ends.{AreChecked, AreImagesOf, AreNewest, EndsAsTold, IsImageOf, IsImageOfClient, ShowsSome, StoreFails};
+ghost use Rattle.som_cmd.specs.Ends.{AreChecked, AreImagesOf, AreNewest, AreNewestTasks, AreTasksOf, EndsAsTold, IsImageOf, IsImageOfClient, ShowsSome, StoreFails};
 ghost use Rattle.som_cmd.specs.Generating.{GeneratesAsked, IsMadeFor};
 ghost use Rattle.som_cmd.specs.PutEnds.{AreClientTextsOf, AreTextsOf, KeepsFiles, PutsProgram, PutsRelease};
 ghost use Rattle.som_cmd.specs.Refused.{TellsBadWords, TellsOneLine, statuses_of};
 ghost use Rattle.som_cmd.specs.Words.{Bad, asked};
+ghost use Rattle.som_cmd_tasks.specs.Newest.{Compiled, TurnsOnNewest, programs_of};
+ghost use Rattle.som_cmd_tasks.specs.TasksEnds.{KeepsAll, TellsTurns};
 ghost use Rattle.som_cmd_generate.specs.GenerateEnds.{TellsGenerated};
 ghost use Rattle.som_generator.specs.declared.made.Made.{Made};
 ghost use Rattle.som_io.specs.Outside.{Rose};
@@ -30,6 +32,7 @@ use som_cmd_check::{check_images, show_image};
 use som_cmd_generate::generate;
 use som_cmd_run::run_client;
 use som_cmd_steps::{line_of, say};
+use som_cmd_tasks::{alone_law, run_tasks};
 use som_host::HostTable;
 use som_io::{Sink, Store};
 use som_model::{List, Text};
@@ -72,6 +75,12 @@ fn do_command<S: Store, K: Sink>(
             library,
             files,
         } => build_client(alloc, name, library, files, store, out),
+        Command::Tasks {
+            library,
+            pattern,
+            rounds,
+            clients,
+        } => run_tasks(alloc, library, pattern, rounds, clients, store, out, host),
         Command::Generate { count } => generate(alloc, count, host, out),
         Command::Bad => match line_of(alloc, b"som: bad command line") {
             Ok(line) => say(out, &line, 2),
@@ -105,6 +114,18 @@ pub fn run_som<S: Store, K: Sink>(
         AreNewest (asked words.now) (S.files store.old) earlier newest place texts p fuel shows →
         RunsOnNewest p newest fuel shows (FailsOn (S.files store.old) (asked words.now)) (S.faults store.old) (S.faults store.new) (K.faults out.old) (K.faults out.new)
         result (K.written out.old) (K.written out.new) }
+
+    // So do clients that take turns, each compiled from texts against any of these releases: what is printed is exactly the text of their turns, by what
+    // the texts of each mean among the newest release's classes, and then the line of each end. The lines of each client are those that `run` prints of it
+    // with as much fuel as it has turns, whatever the others do, and its end is the one that it has alone.
+    ensures newest_turns { (earlier : Seq Release) (newest : Release) (cs : Seq Compiled) (turns : Seq ℕ) →
+        AreNewestTasks (asked words.now) (S.files store.old) earlier newest cs turns →
+        TurnsOnNewest (programs_of cs) newest turns (FailsOn (S.files store.old) (asked words.now)) (S.faults store.old) (S.faults store.new) (K.faults out.old) (K.faults out.new)
+        result (K.written out.old) (K.written out.new) }
+
+    // Client programs that conform take turns on any release that conforms and keeps all that each was compiled against, whoever made their images.
+    ensures interleaved { (library : Seq ℕ) (clients : Seq (Seq ℕ)) (r : Release) (ps : Seq ClientProgram) (turns : Seq ℕ) → AreTasksOf (asked words.now) (S.files store.old) library clients r ps turns
+        → KeepsAll r ps → result ≢ 6 → result ≢ 8 → result ≢ 10 → TellsTurns r ps turns result (K.written out.old) (K.written out.new) }
 
     // A client program that conforms runs on any release that conforms and keeps all that it was compiled against, whoever made their images.
     ensures meaning { (client library : Seq ℕ) (p : ClientProgram) (r : Release) (fuel : ℕ) (shows : Seq ℕ → Bool) → AreImagesOf (asked words.now) (S.files store.old) client library p r fuel shows
@@ -164,7 +185,7 @@ pub fn run_som<S: Store, K: Sink>(
     // That is told by one line, which is all that is written.
     ensures bad_text { asked words.now ≡ Bad → TellsBadWords result (K.written out.old) (K.written out.new) }
 
-    // A run that is refused is told by one line alone.
+    // A run that is refused is told by one line alone, and so are turns.
     ensures one_line { TellsOneLine (asked words.now) result (K.written out.old) (K.written out.new) }
 
     // Over a store and a sink of which nothing is set to fail, neither is said to fail.
@@ -174,5 +195,6 @@ pub fn run_som<S: Store, K: Sink>(
     // and the files are as such a put may leave them.
     ensures files { KeepsFiles (asked words.now) (S.files store.old) (S.faults store.old) (S.faults store.new) result (S.files store.new) (K.written out.old) (K.written out.new) }
 {
+    alone_law();
     do_command(alloc, words, store, out, host)
 }

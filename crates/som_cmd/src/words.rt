@@ -1,14 +1,16 @@
-//! Parses the words of the command line to a command, with its names, fuel, trace or count.
+//! Parses the words of the command line to a command, with its names, fuel, trace, turns or count.
 
-ghost use Rattle.som_cmd.specs.Words.{are_files, asked, asked_by, asked_of, client_asked, count_of, fuel_of, generate_asked, is_digit, is_file, is_name, leads_with_zero, library_asked, run_asked, run_with, trace_in};
+ghost use Rattle.som_cmd.specs.Words.{are_clients, are_files, asked, asked_by, asked_of, client_asked, count_of, from_one_to, fuel_of, generate_asked, is_digit, is_file, is_name, is_pattern, leads_with_zero, library_asked, rounds_of, run_asked, run_with, tasks_asked, trace_in, turns_with};
+ghost use Rattle.som_cmd_tasks.specs.Patterns.{names_client};
 ghost use Rattle.som_model.specs.Lists.{every};
 ghost use Rattle.som_cmd_main.specs.Traces.{shown_in};
 ghost use Rattle.som_sources.specs.Sources.{is_main, mains_in};
 ghost use Rattle.std.specs.Option.{option_map};
-ghost use Rattle.std.specs.Prelude.{codes, ◌≡◌};
+ghost use Rattle.std.specs.Prelude.{codes, length, ◌≡◌};
 ghost use Rattle.std.specs.Str.{bytes_eq};
 
 use som_cmd_run::Trace;
+use som_cmd_tasks::{MAX_CLIENTS, MAX_PATTERN, MAX_ROUNDS};
 use som_generator::MAX_CLASSES;
 use som_model::{DEFAULT_FUEL, List, MAX_FUEL, Text};
 
@@ -35,6 +37,12 @@ pub enum Command<'a> {
         out: &'a Text,
         library: &'a Text,
         files: &'a [Text],
+    },
+    Tasks {
+        library: &'a Text,
+        pattern: &'a Text,
+        rounds: u32,
+        clients: &'a [Text],
     },
     Generate {
         count: u32,
@@ -71,6 +79,12 @@ fn is_client(word: &Text) -> bool
     ensures { result ≡ bytes_eq word.now (codes "client") }
 {
     word.is(b"client")
+}
+
+fn is_tasks(word: &Text) -> bool
+    ensures { result ≡ bytes_eq word.now (codes "tasks") }
+{
+    word.is(b"tasks")
 }
 
 fn is_generate(word: &Text) -> bool
@@ -206,19 +220,102 @@ fn value_of(digits: &[u8]) -> Option<u32>
     }
 }
 
-// The count of a word of decimal digits, if there may be so many classes.
-fn count_of(digits: &[u8]) -> Option<u32>
-    ensures { result ≡ count_of digits.now }
+// The number of a word of decimal digits, if it is at least one and at most this.
+fn from_one_to(most: u32, digits: &[u8]) -> Option<u32>
+    ensures { result ≡ from_one_to most (fuel_of digits.now) }
 {
     match value_of(digits) {
-        Some(count) => {
-            if count >= 1 && count <= MAX_CLASSES {
-                Some(count)
+        Some(number) => {
+            if number >= 1 && number <= most {
+                Some(number)
             } else {
                 None
             }
         }
         None => None,
+    }
+}
+
+// The count of a word of decimal digits, if there may be so many classes.
+fn count_of(digits: &[u8]) -> Option<u32>
+    ensures { result ≡ count_of digits.now }
+{
+    from_one_to(MAX_CLASSES, digits)
+}
+
+// The rounds of a word of decimal digits, if there may be so many.
+fn rounds_of(digits: &[u8]) -> Option<u32>
+    ensures { result ≡ rounds_of digits.now }
+{
+    from_one_to(MAX_ROUNDS, digits)
+}
+
+fn names_client(clients: usize, digit: u8) -> bool
+    ensures { result ≡ names_client clients digit }
+{
+    digit >= b'0' && usize::from(digit - b'0') < clients
+}
+
+// Whether each byte is a digit that names one of so many clients.
+fn name_clients(clients: usize, pattern: &[u8]) -> bool
+    ensures { result ≡ every (names_client clients) pattern.now }
+{
+    for digit in pattern {
+        if !names_client(clients, *digit) {
+            return false;
+        }
+    }
+    true
+}
+
+// Whether a word is a pattern of digits, no more than may be asked for, each of which names one of so many clients.
+fn is_pattern(clients: usize, pattern: &Text) -> bool
+    ensures { result ≡ is_pattern clients pattern.now }
+{
+    let digits = pattern.as_slice();
+    digits.len() >= 1 && digits.len() <= MAX_PATTERN && name_clients(clients, digits)
+}
+
+// Whether there is a client or more, no more than may take turns, and none of their names is empty.
+fn are_clients(clients: &[Text]) -> bool
+    ensures { result ≡ are_clients clients.now }
+{
+    clients.len() >= 1 && clients.len() <= MAX_CLIENTS && are_names(clients)
+}
+
+// So many rounds of the turns of a pattern, if there is a number of rounds.
+fn turns_with<'a>(
+    library: &'a Text,
+    pattern: &'a Text,
+    clients: &'a [Text],
+    rounds: Option<u32>,
+) -> Command<'a>
+    ensures { asked_by result ≡ turns_with library.now pattern.now clients.now rounds }
+{
+    match rounds {
+        Some(rounds) => Command::Tasks {
+            library,
+            pattern,
+            rounds,
+            clients,
+        },
+        None => Command::Bad,
+    }
+}
+
+// What `tasks` asks for with two words, and the words after these.
+fn tasks_with<'a>(library: &'a Text, pattern: &'a Text, words: &'a [Text]) -> Command<'a>
+    ensures { asked_by result ≡ tasks_asked library.now pattern.now words.now }
+{
+    match words {
+        [word, clients @ ..] => {
+            if !library.is_empty() && are_clients(clients) && is_pattern(clients.len(), pattern) {
+                turns_with(library, pattern, clients, rounds_of(word.as_slice()))
+            } else {
+                Command::Bad
+            }
+        }
+        [] => Command::Bad,
     }
 }
 
@@ -316,6 +413,8 @@ pub fn command_of(words: &List<Text>) -> Command<'_>
                 library_with(client, &words.as_slice()[2..])
             } else if is_client(word) {
                 client_with(client, library, rest)
+            } else if is_tasks(word) {
+                tasks_with(client, library, rest)
             } else {
                 command_with(word, &words.as_slice()[1..])
             }

@@ -12,13 +12,14 @@ use Rattle.som_verify.proofs.Conforming.{conforms_release, release_conforms}
 use Rattle.som_cmd_steps.specs.declared.stop.Refusal.{Refusal}
 use Rattle.som_cmd_steps.specs.declared.stop.CommandStop.{CommandStop}
 use Rattle.som_cmd_steps.specs.Endings.{Ending, refusing}
+use Rattle.som_cmd_steps.specs.Getting.{images_in}
 use Rattle.som_cmd_steps.specs.ImageSteps.{library_in, read_or, kept_or, release_in, rules_kept}
 use Rattle.som_cmd_steps.specs.Steps.{Stops, Follows, FollowsTold}
 use Rattle.som_cmd_steps.specs.Answering.{Answers, AnswersTold}
 use Rattle.som_cmd_steps.proofs.ImageLaws.{stops_first}
 use Rattle.som_cmd_steps.specs.declared.output.End.TheVariants as the_end
 use Rattle.som_cmd_steps.specs.declared.stop.CommandStop.TheVariants as stops
-use Rattle.som_cmd_check.specs.CheckAnswer.{image_absent, IsCheckAnswer, image_unread, image_broken, refuses, accepts, images_in, releases_in, all_rules_kept, AllConform, first_not_kept}
+use Rattle.som_cmd_check.specs.CheckAnswer.{image_absent, IsCheckAnswer, image_unread, image_broken, refuses, accepts, releases_in, all_rules_kept, AllConform, first_not_kept}
 use Rattle.som_cmd_check.specs.CheckSteps.{accepted_or, line_checked}
 
 -- ---- what is read, and what conforms

@@ -17,9 +17,10 @@ use Rattle.som_compat.proofs.Plain.{map_empty}
 use Rattle.som_cmd_steps.specs.declared.stop.Refusal.{Refusal}
 use Rattle.som_cmd_steps.specs.Lines.{absent, not_kept}
 use Rattle.som_cmd_steps.specs.Endings.{refusing}
+use Rattle.som_cmd_steps.specs.Getting.{images_in}
 use Rattle.som_cmd_steps.specs.ImageSteps.{read_or}
 use Rattle.som_cmd_steps.proofs.ByteLaws.{library_read}
-use Rattle.som_cmd_check.specs.CheckAnswer.{IsCheckAnswer, refuses, accepts, images_in, releases_in, AllConform, first_not_kept, accepting}
+use Rattle.som_cmd_check.specs.CheckAnswer.{IsCheckAnswer, refuses, accepts, releases_in, AllConform, first_not_kept, accepting}
 use Rattle.som_cmd_check.specs.CheckEnds.{AreUnder}
 
 -- ---- lists of releases

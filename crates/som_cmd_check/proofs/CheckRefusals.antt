@@ -1,11 +1,13 @@
 -- What `show` and `check` may refuse, and which statuses they may end with, whatever the store tells.
-use Rattle.std.proofs.Common.{◌≡◌, ℕ, Bool, true, false, if◌then◌else◌, List, [], ◌∷◌, Option, Some, None, Ok, Err, refl, inl, inr}
+use Rattle.std.proofs.Common.{◌≡◌, ℕ, Bool, true, false, if◌then◌else◌, List, [], ◌∷◌, Option, Some, None, Ok, Err, refl, sym, subst, inl, inr}
 use Rattle.som_model.specs.declared.program.Release.{Release}
 use Rattle.som_model.specs.Compatible.{CompatBreach}
 use Rattle.som_model.specs.Conforming.{program_breach, release_breach}
 use Rattle.som_model.specs.Steps.{◌>>=◌}
 use Rattle.som_cmd_steps.specs.declared.stop.Refusal.{Refusal}
 use Rattle.som_cmd_steps.specs.declared.stop.CommandStop.{CommandStop}
+use Rattle.som_cmd_steps.specs.declared.stop.CommandStop.TheVariants as stops
+use Rattle.som_cmd_steps.specs.Getting.{IsAbsentOf}
 use Rattle.som_cmd_steps.specs.ImageSteps.{client_in, library_in, release_in, rules_kept, sound_program, sound_release}
 use Rattle.som_cmd_steps.specs.Lines.{absent}
 use Rattle.som_cmd_steps.specs.Refusing.{EndsIn, HasStatusIn, RefusesAs}
@@ -67,8 +69,10 @@ checked_only names images =
     (λ rs. then_only IsCheckRefusal (all_rules_kept names rs) (λ kept. accepted_or names (first_not_kept rs)) (rules_only names rs) (λ kept. accepted_only names (first_not_kept rs)))
 
 -- an image isn't there
-pub one_absent_in : (name : List ℕ) (stop : CommandStop) → RefusesAs {A = List ℕ} (λ r. r ≡ absent name) (Err stop) → RefusesAs {A = List (List ℕ)} (HasStatusIn check_statuses) (Err stop)
-one_absent_in name stop is = absent_in check_statuses (inr (inr (inr (inl refl)))) name stop is
+pub absent_among : (names : List (List ℕ)) (stop : CommandStop) → RefusesAs {A = List (List ℕ)} (IsAbsentOf names) (Err stop) → EndsIn check_statuses (Err stop)
+absent_among names (stops.Refused r) is = subst (HasStatusIn check_statuses) (sym is.2) (inr (inr (inr (inl refl))))
+absent_among names (stops.StoreFailed line) is = tt
+absent_among names stops.NoMemory is = tt
 
 -- they aren't accepted
 pub checked_in : (names images : List (List ℕ)) (stop : CommandStop) → Follows {A = List ℕ} (Err stop) (line_checked names images) → EndsIn check_statuses (Err stop)

@@ -1,7 +1,6 @@
 mod ImageKinds
 pub mod ShowLaws
 pub mod CheckLaws
-mod CheckLoops
 mod CheckMeaning
 mod Comparing
 mod CheckRefusals

@@ -6,11 +6,11 @@ use Rattle.som_model.specs.Lists.{Mem, first}
 use Rattle.som_model.specs.Class.{interface_of}
 use Rattle.som_model.specs.Compatible.{CompatBreach, list_breaks}
 use Rattle.som_model.specs.Conforming.{ReleaseOk}
-use Rattle.som_model.specs.Steps.{◌>>=◌}
 use Rattle.som_order.specs.Names.{name_at}
 use Rattle.som_cmd_steps.specs.declared.stop.Refusal.{Refusal}
 use Rattle.som_cmd_steps.specs.Endings.{Ending, refusing}
-use Rattle.som_cmd_steps.specs.Fetching.{file_of}
+use Rattle.som_cmd_steps.specs.EachImage.{each_passes, each_read}
+use Rattle.som_cmd_steps.specs.Getting.{images_in}
 use Rattle.som_cmd_steps.specs.ImageSteps.{release_in, rules_kept}
 use Rattle.som_cmd_steps.specs.Lines.{not_kept}
 use Rattle.som_cmd_steps.specs.Status.{failing_statuses}
@@ -20,32 +20,15 @@ use Rattle.som_cmd_steps.specs.Status.{failing_statuses}
 abbrev pub accepted_line : List ℕ
 accepted_line = codes "accepted" ++ 10 ∷ []
 
--- ---- steps: the first of a list that refuses, refuses for all
-
--- the bytes under each name
-abbrev pub images_in : List (List ℕ) → Files → Result (List (List ℕ)) Refusal
-images_in [] files = Ok []
-images_in (n ∷ ns) files = do
-  b ← file_of n files
-  bs ← images_in ns files
-  Ok (b ∷ bs)
+-- ---- steps
 
 -- the release of each image, under its name
 abbrev pub releases_in : List (List ℕ) → List (List ℕ) → Result (List Release) Refusal
-releases_in [] images = Ok []
-releases_in (n ∷ ns) [] = Ok []
-releases_in (n ∷ ns) (b ∷ bs) = do
-  r ← release_in n b
-  rs ← releases_in ns bs
-  Ok (r ∷ rs)
+releases_in names images = each_read release_in names images
 
 -- each release breaks no rule
 abbrev pub all_rules_kept : List (List ℕ) → List Release → Result (Unit {0}) Refusal
-all_rules_kept [] rs = Ok tt
-all_rules_kept (n ∷ ns) [] = Ok tt
-all_rules_kept (n ∷ ns) (r ∷ rs) = do
-  kept ← rules_kept n r
-  all_rules_kept ns rs
+all_rules_kept names rs = each_passes rules_kept names rs
 
 abbrev pub AllConform : List Release → Type 0
 AllConform rs = (r : Release) → Mem r rs → ReleaseOk r

@@ -1,9 +1,7 @@
 //! The command `check`: decodes library images, checks their rules, and compares each with the one before.
 
-ghost use Rattle.som_cmd_check.specs.Cause.{FailsGetting};
-ghost use Rattle.som_cmd_check.specs.CheckAnswer.{IsCheckAnswer, all_rules_kept, check_statuses, first_not_kept, images_in, releases_in};
+ghost use Rattle.som_cmd_check.specs.CheckAnswer.{IsCheckAnswer, all_rules_kept, check_statuses, first_not_kept, releases_in};
 ghost use Rattle.som_cmd_check.specs.CheckSteps.{accepted_or, line_checked};
-ghost use Rattle.som_compat.specs.Told.{told};
 ghost use Rattle.som_io.specs.Outside.{Rose};
 ghost use Rattle.som_libimage.specs.Limits.{IsWithinLimits};
 ghost use Rattle.som_model.specs.Class.{interface_of};
@@ -12,44 +10,21 @@ ghost use Rattle.som_model.specs.Lists.{Mem};
 ghost use Rattle.som_order.specs.Names.{name_at};
 ghost use Rattle.som_cmd_steps.specs.Answering.{AnswersTold};
 ghost use Rattle.som_cmd_steps.specs.Cause.{HasCause, IsQuiet};
-ghost use Rattle.som_cmd_steps.specs.Lines.{not_kept, or_dash};
+ghost use Rattle.som_cmd_steps.specs.Getting.{FailsGetting};
 ghost use Rattle.som_cmd_steps.specs.Outcomes.{EndsAsTold, ShowsSome, StoreFails};
-ghost use Rattle.som_cmd_steps.specs.Refusing.{EndsIn, HasStatusIn, RefusesAs};
+ghost use Rattle.som_cmd_steps.specs.Refusing.{EndsIn};
 ghost use Rattle.som_cmd_steps.specs.Status.{is_calm_status};
-ghost use Rattle.som_cmd_steps.specs.Steps.{Follows, FollowsTold};
+ghost use Rattle.som_cmd_steps.specs.Steps.{Follows};
 ghost use Rattle.som_cmd_steps.specs.declared.output.End.TheVariants as ends;
-ghost use Rattle.std.specs.Prelude.{All, IfOk, IsTrue, [], length, map, option_copied, ◌<◌, ◌∷◌, ◌≡◌, ◌≢◌, ◌≤◌, ◌⊎◌};
+ghost use Rattle.std.specs.Prelude.{All, IfOk, IsTrue, [], length, map, ◌<◌, ◌∷◌, ◌≡◌, ◌≢◌, ◌≤◌, ◌⊎◌};
 
 use som_cmd_steps::{
-    CommandStop, End, Output, Refusal, fetch, line_of, look_at_rules, read_release,
-    refuse_incompatible, tell,
+    CommandStop, End, Output, fetch_all, line_of, look_at_rules, read_release, refuse_breach, tell,
 };
-use som_compat::{Breach, check_list};
+use som_compat::check_list;
 use som_io::{Sink, Store};
 use som_model::{Interface, List, NoMemory, Release, Text};
 use std::alloc::Global;
-
-// The bytes under each name.
-#[tactic(auto, using(crate::proofs::CheckRefusals::one_absent_in))]
-fn fetch_all<S: Store>(
-    alloc: Global,
-    names: &[Text],
-    store: &mut S,
-) -> Result<List<List<u8>>, CommandStop>
-    ensures answer { FollowsTold (S.files store.old) result (images_in names.now) }
-    ensures long { IfOk result (λ images. length images ≡ length names.now) }
-    ensures files { S.files store.new ≡ S.files store.old }
-    ensures later { S.faults store.old ≤ S.faults store.new }
-    ensures cause { HasCause (FailsGetting (S.files store.old) names.now) (S.faults store.old) (S.faults store.new) result }
-    ensures quiet { S.calm store.old → IsQuiet result }
-    ensures refuses { RefusesAs (HasStatusIn check_statuses) result }
-{
-    let mut images = List::new(alloc);
-    for name in names {
-        images.push(fetch(alloc, name, store)?)?;
-    }
-    Ok(images)
-}
 
 // The release of each image.
 fn read_all(
@@ -81,30 +56,6 @@ fn look_at_all_rules(alloc: Global, names: &[Text], releases: &[Release]) -> Res
         look_at_rules(alloc, &names[place], &releases[place])?;
     }
     Ok(())
-}
-
-// A name, or a dash where it doesn't apply.
-fn or_dash<'a>(name: Option<&'a Text>) -> &'a [u8]
-    ensures { result.now ≡ or_dash (option_copied name.entry) }
-{
-    match name {
-        Some(name) => name.as_slice(),
-        None => b"-",
-    }
-}
-
-// The refusal that tells what the newer image doesn't keep.
-fn refuse_breach(alloc: Global, image: &Text, breach: &Breach<'_>) -> Result<Refusal, NoMemory>
-    ensures { IfOk result (λ r. r ≡ not_kept image.now (told breach.now)) }
-{
-    refuse_incompatible(
-        alloc,
-        image,
-        breach.rule,
-        breach.class,
-        or_dash(breach.name),
-        breach.place,
-    )
 }
 
 // The classes that each release shows.
@@ -166,7 +117,7 @@ fn only(alloc: Global, line: Text) -> Result<Output, NoMemory>
 }
 
 // What comes of checking images, each against the one before it.
-#[tactic(auto, using(crate::proofs::CheckLaws::images_missing, crate::proofs::CheckLaws::images_refused, crate::proofs::CheckLaws::images_accepted, crate::proofs::CheckRefusals::checked_in))]
+#[tactic(auto, using(crate::proofs::CheckLaws::images_missing, crate::proofs::CheckRefusals::absent_among, crate::proofs::CheckLaws::images_refused, crate::proofs::CheckLaws::images_accepted, crate::proofs::CheckRefusals::checked_in))]
 fn check_output<S: Store>(
     alloc: Global,
     names: &[Text],

@@ -1,4 +1,4 @@
 pub mod Reading
 mod Failing
-mod Refusals
+pub mod Refusals
 mod Linking

@@ -35,11 +35,11 @@ library_absent c l stop is = absent_by (IsRunRefusal c l) l (inr (inl (inl refl)
 -- ---- it can't be read
 
 -- numbers that aren't bytes are no image for a fault of theirs, and what is read of bytes has one of its own
-of_bytes : {A : Type 0} (read : Result A ImageFault) → (read ≡ Err faults.NoMemory → ⊥) → (all : Bool) → read_if all read ≡ Err faults.NoMemory → ⊥
+pub of_bytes : {A : Type 0} (read : Result A ImageFault) → (read ≡ Err faults.NoMemory → ⊥) → (all : Bool) → read_if all read ≡ Err faults.NoMemory → ⊥
 of_bytes read none true e = none e
 of_bytes read none false e = cc
 
-read_only : {A : Type 0} (name : List ℕ) (read : Result A ImageFault) → (read ≡ Err faults.NoMemory → ⊥) → Only (IsImageRefusal name) (read_or name read)
+pub read_only : {A : Type 0} (name : List ℕ) (read : Result A ImageFault) → (read ≡ Err faults.NoMemory → ⊥) → Only (IsImageRefusal name) (read_or name read)
 read_only name (Ok x) none = tt
 read_only name (Err fault) none = inr (inl (fault, λ e. none cc, refl))
 
@@ -49,7 +49,7 @@ of_client c l r is = inl is
 of_library : (c l : List ℕ) (r : Refusal) → IsImageRefusal l r → IsRunRefusal c l r
 of_library c l r is = inr (inl is)
 
-only_as : {A : Type 0} (IsOne IsOther : Refusal → Type 0) → ((r : Refusal) → IsOne r → IsOther r) → (steps : Result A Refusal) → Only IsOne steps → Only IsOther steps
+pub only_as : {A : Type 0} (IsOne IsOther : Refusal → Type 0) → ((r : Refusal) → IsOne r → IsOther r) → (steps : Result A Refusal) → Only IsOne steps → Only IsOther steps
 only_as IsOne IsOther into (Ok x) one = tt
 only_as IsOne IsOther into (Err r) one = into r one
 

@@ -1,4 +1,4 @@
-mod RunStatuses
-mod Running
+pub mod RunStatuses
+pub mod Running
 pub mod RunEndLaws
 pub mod NewestLaws

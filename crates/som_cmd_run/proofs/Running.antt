@@ -32,6 +32,13 @@ world_is : (cs : List Class) → answers_of cs ≡ world cs
 unfolding world
 world_is cs = refl
 
+-- what the main of a kernel means is what its program means on its release
+pub means_so : (fuel : ℕ) (pair : Pair) (k : Linkage) → IsKernelOf pair k → means_in (answers_of k.classes.classes) k.main fuel ≡ means pair.release pair.program fuel
+means_so fuel pair k is =
+    ap (λ (w : World). means_in w k.main fuel) (world_is k.classes.classes)
+    ∙ ap (λ (cs : List Class). means_in (world cs) k.main fuel) is.classes
+    ∙ ap (λ (main : Block). means_in (world (classes pair.release pair.program)) main fuel) is.main
+
 -- a main that runs over a kernel
 abbrev pub EndsOver : Linkage → ℕ → (List ℕ → Bool) → ℕ → ℕ → Option (List ℕ) → Option (List ℕ) → ℕ → Type 0
 EndsOver k fuel shows before now old new status = EndsMain (answers_of k.classes.classes) k.main fuel shows before now old new status
@@ -60,12 +67,6 @@ module _ (c l : List ℕ) (fuel : ℕ) (shows : List ℕ → Bool) where
 
   -- ---- a main that runs
 
-  means_so : (pair : Pair) (k : Linkage) → IsKernelOf pair k → means_in (answers_of k.classes.classes) k.main fuel ≡ means pair.release pair.program fuel
-  means_so pair k is =
-      ap (λ (w : World). means_in w k.main fuel) (world_is k.classes.classes)
-      ∙ ap (λ (cs : List Class). means_in (world cs) k.main fuel) is.classes
-      ∙ ap (λ (main : Block). means_in (world (classes pair.release pair.program)) main fuel) is.main
-
   ran_answer : (told : Files) (pair : Pair) → linked_in c l told ≡ Ok pair → IsRunAnswer c l fuel shows told (ran shows told (means pair.release pair.program fuel))
   ran_answer told pair e = ap (ending_by fuel shows told) (sym e)
 
@@ -73,7 +74,7 @@ module _ (c l : List ℕ) (fuel : ℕ) (shows : List ℕ → Bool) where
       → (new_files : Option Files) → new_files ≡ files → EndsAsTold (IsRunAnswer c l fuel shows) files status new_files old new
   ran_ends None k f before now old new status e not8 not10 new_files same = tt
   ran_ends (Some told) k f before now old new status e not8 not10 new_files same =
-      let m = means_so f.0 k f.2 in
+      let m = means_so fuel f.0 k f.2 in
       record {
         told = ran shows told (means f.0.release f.0.program fuel);
         is_answer = ran_answer told f.0 f.1;
@@ -86,4 +87,4 @@ module _ (c l : List ℕ) (fuel : ℕ) (shows : List ℕ → Bool) where
       → ShowsSome (IsRunAnswer c l fuel shows) (FailsRunning files c l) files count later old new
   ran_fronts None k f before now old new status e count later = tt
   ran_fronts (Some told) k f before now old new status e count later =
-      inl (ran shows told (means f.0.release f.0.program fuel), ran_answer told f.0 f.1, subst (λ (x : Ran (Unit {0})). ShowsFront old new (run_text shows x)) (means_so f.0 k f.2) e.front)
+      inl (ran shows told (means f.0.release f.0.program fuel), ran_answer told f.0 f.1, subst (λ (x : Ran (Unit {0})). ShowsFront old new (run_text shows x)) (means_so fuel f.0 k f.2) e.front)

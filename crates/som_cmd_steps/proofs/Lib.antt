@@ -2,6 +2,7 @@ pub mod ImageLaws
 pub mod FileLaws
 pub mod ByteLaws
 pub mod ReleaseLaws
+pub mod InTurn
 mod SayLaws
 mod FieldFaults
 mod BlockFaults

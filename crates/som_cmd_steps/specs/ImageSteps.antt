@@ -50,6 +50,10 @@ program_in name bytes = read_or name (client_in bytes)
 abbrev pub rules_kept : List ℕ → Release → Result (Unit {0}) Refusal
 rules_kept name r = kept_or name (release_breach r)
 
+-- whether a client program under a name breaks no rule
+abbrev pub program_rules_kept : List ℕ → ClientProgram → Result (Unit {0}) Refusal
+program_rules_kept name p = kept_or name (program_breach p)
+
 -- what was read under a name, where it breaks no rule
 abbrev pub sound : {A : Type 0} → (A → Option RuleBreach) → List ℕ → Result A ImageFault → Result A Refusal
 sound breach name read = do

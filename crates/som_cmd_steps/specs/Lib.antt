@@ -2,7 +2,9 @@ pub mod Status
 pub mod Lines
 pub mod Endings
 pub mod Fetching
+pub mod Getting
 pub mod ImageSteps
+pub mod EachImage
 pub mod StoredImages
 pub mod Steps
 pub mod Answering

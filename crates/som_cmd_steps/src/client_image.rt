@@ -2,9 +2,9 @@
 
 ghost use Rattle.som_cliimage.specs.Limits.{IsWithinLimits};
 ghost use Rattle.som_image_fields.specs.Fields.{Gives};
-ghost use Rattle.som_model.specs.Conforming.{program_breach};
+ghost use Rattle.som_model.specs.Conforming.{ProgramOk};
 ghost use Rattle.som_cmd_steps.specs.Cause.{IsQuiet};
-ghost use Rattle.som_cmd_steps.specs.ImageSteps.{client_in, kept_or, program_in, sound_program};
+ghost use Rattle.som_cmd_steps.specs.ImageSteps.{client_in, program_in, program_rules_kept, sound_program};
 ghost use Rattle.som_cmd_steps.specs.Steps.{Follows};
 ghost use Rattle.std.specs.Prelude.{IfOk};
 
@@ -44,9 +44,14 @@ pub fn read_program(
     }
 }
 
-// Goes on where a program breaks no rule; else the refusal tells the first that it breaks.
-fn look_at_rules(alloc: Global, name: &Text, program: &ClientProgram) -> Result<(), CommandStop>
-    ensures follows { Follows result (kept_or name.now (program_breach program.now)) }
+/// Goes on where a client program breaks no rule; else the refusal tells the first that it breaks.
+pub fn look_at_program(
+    alloc: Global,
+    name: &Text,
+    program: &ClientProgram,
+) -> Result<(), CommandStop>
+    ensures follows { Follows result (program_rules_kept name.now program.now) }
+    ensures conforms { IfOk result (λ _. ProgramOk program.now) }
     ensures quiet { IsQuiet result }
 {
     match program_ok(alloc, program) {
@@ -69,6 +74,6 @@ pub fn sound_program(
     ensures quiet { IsQuiet result }
 {
     let program = read_program(alloc, name, bytes)?;
-    look_at_rules(alloc, name, &program)?;
+    look_at_program(alloc, name, &program)?;
     Ok(program)
 }

@@ -1,10 +1,12 @@
 //! Makes the lines that refuse an image: bytes at fault, a broken rule, or a promise that isn't kept.
 
 ghost use Rattle.som_verify_classes.specs.Told.{told};
-ghost use Rattle.som_cmd_steps.specs.Lines.{broken, fault_number, fault_place, incompatible, unread};
-ghost use Rattle.std.specs.Prelude.{IfOk, ◌≡◌};
+ghost use Rattle.som_cmd_steps.specs.Lines.{broken, fault_number, fault_place, incompatible, not_kept, or_dash, unread};
+ghost use Rattle.som_compat.specs.Told.{told as breach_told};
+ghost use Rattle.std.specs.Prelude.{IfOk, option_copied, ◌≡◌};
 
 use crate::stop::{Refusal, Why};
+use som_compat::Breach;
 use som_image_fields::ImageFault;
 use som_model::{NoMemory, Text};
 use som_show::add_number;
@@ -107,4 +109,28 @@ pub fn refuse_incompatible(
         line: Text::from_vec(line),
         why: Why::Incompatible,
     })
+}
+
+// A name, or a dash where it doesn't apply.
+fn or_dash<'a>(name: Option<&'a Text>) -> &'a [u8]
+    ensures { result.now ≡ or_dash (option_copied name.entry) }
+{
+    match name {
+        Some(name) => name.as_slice(),
+        None => b"-",
+    }
+}
+
+/// The refusal that tells what a newer image doesn't keep.
+pub fn refuse_breach(alloc: Global, image: &Text, breach: &Breach<'_>) -> Result<Refusal, NoMemory>
+    ensures { IfOk result (λ r. r ≡ not_kept image.now (breach_told breach.now)) }
+{
+    refuse_incompatible(
+        alloc,
+        image,
+        breach.rule,
+        breach.class,
+        or_dash(breach.name),
+        breach.place,
+    )
 }

@@ -1,4 +1,4 @@
-//! The steps that the commands share: bytes that are got under a name, an image that is read and asked for its rules, an image that
+//! The steps that the commands share: bytes that are got under names, an image that is read and asked for its rules, an image that
 //! is put, and lines that are printed; and what a call of a command comes to, whatever the command.
 #![tactic(auto)]
 
@@ -13,9 +13,9 @@ mod printing;
 mod put;
 mod stop;
 
-pub use client_image::{read_program, sound_program};
-pub use files::fetch;
-pub use image_lines::{refuse_broken, refuse_incompatible};
+pub use client_image::{look_at_program, read_program, sound_program};
+pub use files::{fetch, fetch_all};
+pub use image_lines::{refuse_breach, refuse_broken, refuse_incompatible};
 pub use laws::fault_law;
 pub use library_image::{look_at_rules, read_release, sound_release};
 pub use line::{line_of, named_line};

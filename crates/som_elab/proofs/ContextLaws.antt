@@ -12,7 +12,7 @@ use Rattle.som_model_laws.proofs.Members.{mem_split}
 use Rattle.som_verify_types.specs.Bodies.{AllSigsKnown}
 use Rattle.som_verify_classes.specs.Faces.{classes_breach}
 use Rattle.som_verify_forms.specs.Kinds.{IsDeclared}
-use Rattle.som_verify_forms.specs.Knowing.{IsKnowledge}
+use Rattle.som_verify_forms.specs.Knowing.{IsKnowledge, all_of}
 use Rattle.som_verify_classes.specs.Modules.{classes_of}
 use Rattle.som_verify_classes.specs.Places.{class_of_place, nobody, with_kernel}
 use Rattle.som_verify_classes.specs.declared.types.Declared.{Declared}
@@ -31,7 +31,7 @@ use Rattle.som_sema_drafts.specs.declared.drafts.Draft.{Draft}
 use Rattle.som_elab_methods.proofs.LimitLaws.{few_parameters, few_parents, few_variables, limits_law}
 use Rattle.som_elab_body.specs.Code.{ClassFits}
 use Rattle.som_model.specs.declared.limits.TheConstants.{MAX_PARENTS, MAX_VARIABLES}
-use Rattle.som_sema_names.specs.Introducers.{AreIntroducers}
+use Rattle.som_sema_names.specs.Searching.{IsSearch}
 use Rattle.som_elab.specs.declared.contexts.ModuleContext.{ModuleContext}
 use Rattle.som_elab.specs.Contexts.{FewParameters, IsUnlimitedContext, StandAfterOthers, IsModuleContext}
 
@@ -142,13 +142,8 @@ parents_fit m cs ds f i d lt is e =
 -- ---- what is known within the limits
 
 pub within_context : (g : ModuleContext) (ds : List InterfaceDraft) → IsUnlimitedContext g ds → limit_passed ds ≡ None → IsModuleContext g
-within_context g ds b e = record { known = b.known; signatures = b.signatures; few = all_few g.scope.now.module (classes_of g.known.classes.now) ds b.stand e; introducers = b.introducers }
+within_context g ds b e = record { known = b.known; signatures = b.signatures; few = all_few g.scope.now.module (classes_of g.known.classes.now) ds b.stand e; search = b.search }
 
-pub basis_of : (g : ModuleContext) (cs : List Declared) (n : ℕ) (ds : List InterfaceDraft) → IsKnowledge g.known → g.known.classes.now ≡ cs → classes_breach n (classes_of cs) ≡ None → StandAfterOthers g.scope.now.module (classes_of cs) ds
-    → AreIntroducers (with_kernel (classes_of cs)) g.introducers.now → IsUnlimitedContext g ds
-basis_of g cs n ds known same rules stand introducers = record {
-  known = known;
-  signatures = subst (λ (z : List Declared). AllSigsKnown (with_kernel (classes_of z)) (classes_of z)) (sym same) (signatures_known (classes_of cs) n rules);
-  stand = subst (λ (z : List Declared). StandAfterOthers g.scope.now.module (classes_of z) ds) (sym same) stand;
-  introducers = subst (λ (z : List Declared). AreIntroducers (with_kernel (classes_of z)) g.introducers.now) (sym same) introducers;
-}
+pub basis_of : (g : ModuleContext) (n : ℕ) (ds : List InterfaceDraft) → IsKnowledge g.known → classes_breach n (classes_of g.known.classes.now) ≡ None
+    → StandAfterOthers g.scope.now.module (classes_of g.known.classes.now) ds → IsSearch (all_of g.known) g.known.lists.now g.search → IsUnlimitedContext g ds
+basis_of g n ds known rules stand search = record { known = known; signatures = signatures_known (classes_of g.known.classes.now) n rules; stand = stand; search = search }

@@ -15,7 +15,7 @@ use Rattle.som_model.specs.Steps.{◌>>=◌}
 use Rattle.som_ast.specs.declared.body.BodyText.{BodyText}
 use Rattle.som_ast.specs.declared.body.BlockText.{BlockText}
 use Rattle.som_verify_types.specs.Bodies.{AllSigsKnown}
-use Rattle.som_sema_names.specs.Introducers.{AreIntroducers}
+use Rattle.som_sema_names.specs.Searching.{IsSearch}
 use Rattle.som_verify_forms.specs.Knowing.{IsKnowledge, all_of}
 use Rattle.som_verify_classes.specs.Modules.{classes_of}
 use Rattle.som_sema_drafts.specs.declared.types.Refused.{Refused}
@@ -49,7 +49,7 @@ pub record IsModuleContext (g : ModuleContext) : Type 0 where
   pub known : IsKnowledge g.known
   pub signatures : AllSigsKnown (all_of g.known) (classes_of g.known.classes.now)
   pub few : FewParameters (all_of g.known)
-  pub introducers : AreIntroducers (all_of g.known) g.introducers.now
+  pub search : IsSearch (all_of g.known) g.known.lists.now g.search
 
 -- what is wrong with the body of a member of a class, as it is answered
 abbrev pub refused_as : List ℕ → List ℕ → BodyFault → Refused
@@ -95,7 +95,7 @@ pub record IsUnlimitedContext (g : ModuleContext) (ds : List InterfaceDraft) : T
   pub known : IsKnowledge g.known
   pub signatures : AllSigsKnown (all_of g.known) (classes_of g.known.classes.now)
   pub stand : StandAfterOthers g.scope.now.module (classes_of g.known.classes.now) ds
-  pub introducers : AreIntroducers (all_of g.known) g.introducers.now
+  pub search : IsSearch (all_of g.known) g.known.lists.now g.search
 
 -- the block of main, which is empty where there is no main
 abbrev pub main_block : Among → Option BlockText → Result Block Refusal

@@ -115,7 +115,7 @@ fn written_main(alloc: Global, context: &ModuleContext, text: &BlockText) -> Res
     requires { IsModuleContext context.now }
     ensures { Answers (elaborated_main (among_in context.now) text.now) result }
 {
-    match main_body(alloc, &context.known, context.scope, text) {
+    match main_body(alloc, &context.known, &context.search, context.scope, text) {
         Ok(block) => Ok(block),
         Err(fault) => Err(refusal(alloc, b"main", b"-", fault)?),
     }

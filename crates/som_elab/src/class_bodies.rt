@@ -100,7 +100,7 @@ fn class_selects(
         known.kernel,
         known.classes,
         known.lists,
-        context.introducers,
+        context.search.introducers,
         draft,
         place,
     )
@@ -199,7 +199,15 @@ fn body_block(
     requires few { length sig.now.params ≤ MOST }
     ensures { Answers (refused_at class.now member.now (elaborated_body (among_in context.now) (class_of_place (classes_in context.now) place) sig.now text.now)) result }
 {
-    match method_body(alloc, &context.known, context.scope, place, sig, text) {
+    match method_body(
+        alloc,
+        &context.known,
+        &context.search,
+        context.scope,
+        place,
+        sig,
+        text,
+    ) {
         Ok(block) => Ok(block),
         Err(fault) => Err(refusal(alloc, class, member, fault)?),
     }

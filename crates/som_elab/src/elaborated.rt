@@ -19,6 +19,7 @@ ghost use Rattle.som_sema_scope.specs.Words.{interfaces_of, lent};
 ghost use Rattle.som_sema_decls.specs.Known.{after_base};
 ghost use Rattle.som_sema.specs.Building.{texts_breach};
 ghost use Rattle.som_sema_drafts.specs.Drafts.{draft_classes, plain_drafts};
+ghost use Rattle.som_verify_forms.specs.Knowing.{IsKnowledge, all_of};
 ghost use Rattle.som_verify_types.specs.Bodies.{AreParts};
 ghost use Rattle.std.specs.Prelude.{◌≡◌, ℕ, length, map, option_copied, IfOk, None};
 
@@ -30,10 +31,10 @@ use som_model::{Block, ClassDecl, Interface, List, Module, NoMemory};
 use som_sema::{all_interfaces, build_faces};
 use som_sema_decls::known_classes;
 use som_sema_drafts::{Draft, Refused, refused};
-use som_sema_names::{Introducers, introducers_of};
+use som_sema_names::{Introducers, MethodSearch, introducers_of, marked_rows};
 use som_sema_scope::{Scope, scope_of};
-use som_verify_classes::Declared;
-use som_verify_forms::know;
+use som_verify_classes::{Declared, KERNEL_CLASSES};
+use som_verify_forms::{Knowledge, know};
 use som_verify_parents::bare_classes;
 use som_verify_types::{Parts, parts_of};
 use std::alloc::Global;
@@ -217,9 +218,34 @@ fn bodies_by(
         classes,
         parts.lists.as_slice(),
     );
-    let context = ModuleContext {
-        known,
+    bodies_known(alloc, scope, &known, introducers, drafts, texts, main)
+}
+
+// The bodies of classes and of main, where the ancestors of each class are marked.
+fn bodies_known(
+    alloc: Global,
+    scope: &Scope,
+    known: &Knowledge,
+    introducers: &Introducers,
+    drafts: &[Draft],
+    texts: &ModuleTexts,
+    main: Option<&BlockText>,
+) -> Result<AllBodies, Refused>
+    requires known { IsKnowledge known.now }
+    requires introducers { AreIntroducers (all_of known.now) introducers.now }
+    requires rules { (base : ℕ) × (classes_breach base (classes_of known.now.classes.now) ≡ None) }
+    requires stand { StandAfterOthers scope.now.module (classes_of known.now.classes.now) (plain_drafts drafts.now) }
+    ensures { Answers (checked_steps (record { classes = all_of known.now; module_of = module_in_scope scope.now }) scope.now.module (given texts.now.all.now) (plain_drafts drafts.now) (option_copied main.entry)) result }
+{
+    let number = known.classes.len() + KERNEL_CLASSES;
+    let rows = marked_rows(alloc, known.lists, number)?;
+    let search = MethodSearch {
         introducers,
+        rows: rows.as_slice(),
+    };
+    let context = ModuleContext {
+        known: *known,
+        search,
         scope,
     };
     checked_bodies(alloc, &context, drafts, texts, main)

@@ -10,6 +10,7 @@ use Rattle.som_verify_forms.specs.Knowing.{IsKnowledge, all_of}
 use Rattle.som_verify_forms.specs.declared.knowledge.Knowledge.{Knowledge}
 use Rattle.som_verify_forms.specs.declared.code_place.TypeFault.{TypeFault}
 use Rattle.som_sema_scope.specs.declared.scope.Scope.{Scope}
+use Rattle.som_sema_names.specs.Searching.{IsSearch}
 use Rattle.som_sema_scope.specs.ClassNames.{module_in_scope}
 use Rattle.som_elab_body.specs.declared.typed_expr.TypedExpr.{TypedExpr}
 use Rattle.som_elab_body.specs.declared.local.Local.{Local}
@@ -40,6 +41,7 @@ ClassFits cs (Some place) = (length (class_of_place cs place).decl.variables ≤
 -- what is known is known, and the class of the body stands and is within the limits
 pub record IsBodyContext (s : BodyContext) : Type 0 where
   pub known : IsKnowledge s.known
+  pub search : IsSearch (all_of s.known) s.known.lists.now s.search
   pub place : PlaceStands (all_of s.known) s.at
   pub fits : ClassFits (all_of s.known) s.at.class
 

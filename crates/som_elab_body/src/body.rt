@@ -9,6 +9,7 @@ ghost use Rattle.som_model.specs.Rules.{is_known};
 ghost use Rattle.som_model.specs.Typing.{in_main};
 ghost use Rattle.som_order.specs.Names.{texts};
 ghost use Rattle.som_verify_classes.specs.Places.{class_of_place};
+ghost use Rattle.som_sema_names.specs.Searching.{IsSearch};
 ghost use Rattle.som_sema_scope.specs.Words.{words as texts_of};
 ghost use Rattle.som_elab_body.specs.Code.{AreLocals, ClassFits, among_by, names_at};
 ghost use Rattle.som_verify_forms.specs.Kinds.{IsDeclared};
@@ -23,6 +24,7 @@ use indexmap::IndexSet;
 use som_ast::{BlockText, BodyText, Word};
 use som_model::{Block, MAX_PARAMETERS, NoMemory, Sig, ValueType};
 use som_order::note_name;
+use som_sema_names::MethodSearch;
 use som_sema_scope::Scope;
 use som_verify_forms::{CodePlace, Kind, Knowledge, known_kind};
 use std::alloc::Global;
@@ -32,12 +34,14 @@ use std::alloc::Global;
 pub fn method_body(
     alloc: Global,
     known: &Knowledge,
+    search: &MethodSearch,
     scope: &Scope,
     class: usize,
     sig: &Sig,
     text: &BodyText,
 ) -> Result<Block, BodyFault>
     requires known { IsKnowledge known.now }
+    requires search { IsSearch (all_of known.now) known.now.lists.now search.now }
     requires class { IsDeclared (all_of known.now) class }
     requires fits { ClassFits (all_of known.now) (Some class) }
     requires sig { sig_is_known (all_of known.now) sig.now ≡ true }
@@ -55,6 +59,7 @@ pub fn method_body(
     };
     let context = BodyContext {
         known: *known,
+        search: *search,
         scope,
         at,
     };
@@ -122,10 +127,12 @@ fn shorter(words: &[Word], types: &[ValueType]) -> usize
 pub fn main_body(
     alloc: Global,
     known: &Knowledge,
+    search: &MethodSearch,
     scope: &Scope,
     text: &BlockText,
 ) -> Result<Block, BodyFault>
     requires known { IsKnowledge known.now }
+    requires search { IsSearch (all_of known.now) known.now.lists.now search.now }
     ensures { Blocks (elaborated_block (among_by known.now scope.now) in_main text.now []) result }
 {
     let at = CodePlace {
@@ -134,6 +141,7 @@ pub fn main_body(
     };
     let context = BodyContext {
         known: *known,
+        search: *search,
         scope,
         at,
     };

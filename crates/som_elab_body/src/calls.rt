@@ -31,7 +31,7 @@ pub fn call(
     requires args { AreParts (classes_at context.now) args }
     ensures { Makes (classes_at context.now) (spec.call_form (among_at context.now) (typed_at (classes_at context.now) on) name.now (parts_at (classes_at context.now) args)) result }
 {
-    match method_for(&context.known, on.kind, name) {
+    match method_for(&context.known, &context.search, on.kind, name) {
         None => Err(TypeFault::Rule(16)),
         Some(method) => call_found(alloc, context, on, name, args, &method),
     }

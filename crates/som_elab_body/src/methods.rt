@@ -9,11 +9,13 @@ ghost use Rattle.som_model.specs.declared.key.MethodRef.{MethodRef as Ref};
 ghost use Rattle.som_verify_classes.specs.Places.{face_at, key_at};
 ghost use Rattle.som_elab_body.specs.Forms.{Finds, first_method, method_by_entry};
 ghost use Rattle.som_elab_body.specs.Methods as spec;
+ghost use Rattle.som_sema_names.specs.Searching.{IsSearch};
 ghost use Rattle.som_verify_forms.specs.Kinds.{PlaceStands, Stands, code_at, kind_at};
 ghost use Rattle.som_verify_forms.specs.Knowing.{IsKnowledge, all_of};
-ghost use Rattle.std.specs.Prelude.{◌≡◌, ◌<◌, ℕ, [], length, map, slice_index_or, IfOk};
+ghost use Rattle.std.specs.Prelude.{◌≡◌, ◌<◌, ℕ, [], length, map, slice_index_or, IfOk, IfSome, Some};
 
 use som_model::{ClassKey, Entry, List, MethodRef, Module, NoMemory, Sig, Text, Way};
+use som_sema_names::{MethodSearch, only_introducer};
 use som_verify_classes::{KERNEL_CLASSES, find_entry};
 use som_verify_forms::{CodePlace, Kind, Knowledge, entries_of};
 use std::alloc::Global;
@@ -27,12 +29,41 @@ pub struct FoundMethod<'a> {
 }
 
 /// The method of a name that the class at a place has: that of its first ancestor that introduces the name.
-pub fn method_of<'a>(known: &Knowledge<'a>, class: usize, name: &Text) -> Option<FoundMethod<'a>>
+pub fn method_of<'a>(
+    known: &Knowledge<'a>,
+    search: &MethodSearch,
+    class: usize,
+    name: &Text,
+) -> Option<FoundMethod<'a>>
     requires known { IsKnowledge known.now }
+    requires search { IsSearch (all_of known.now) known.now.lists.now search.now }
     requires class { class < length (all_of known.now) }
     ensures { Finds (all_of known.now) name.now (spec.method_of (all_of known.now) (key_at (all_of known.now) class) name.now) result }
 {
-    first_introducing(known, ancestors_of(known, class), name)
+    match only_method(known, search, class, name) {
+        Some(found) => Some(found),
+        None => first_introducing(known, ancestors_of(known, class), name),
+    }
+}
+
+// The method of the only ancestor that introduces the name. By S8 a class has no two such ancestors, so without one the name
+// breaks a rule, and the ancestors are gone over for that name alone.
+fn only_method<'a>(
+    known: &Knowledge<'a>,
+    search: &MethodSearch,
+    class: usize,
+    name: &Text,
+) -> Option<FoundMethod<'a>>
+    requires known { IsKnowledge known.now }
+    requires search { IsSearch (all_of known.now) known.now.lists.now search.now }
+    requires class { class < length (all_of known.now) }
+    ensures { IfSome result (λ m. Finds (all_of known.now) name.now
+        (spec.method_of (all_of known.now) (key_at (all_of known.now) class) name.now) (Some m)) }
+{
+    match only_introducer(search, class, name.as_slice()) {
+        None => None,
+        Some(place) => introduced(known, place, name),
+    }
 }
 
 // The places of the ancestors of the class at a place, itself first.
@@ -89,25 +120,37 @@ fn introduced<'a>(known: &Knowledge<'a>, place: usize, name: &Text) -> Option<Fo
 }
 
 /// The method of a name that an object of a kind has.
-pub fn method_for<'a>(known: &Knowledge<'a>, kind: Kind, name: &Text) -> Option<FoundMethod<'a>>
+pub fn method_for<'a>(
+    known: &Knowledge<'a>,
+    search: &MethodSearch,
+    kind: Kind,
+    name: &Text,
+) -> Option<FoundMethod<'a>>
     requires known { IsKnowledge known.now }
+    requires search { IsSearch (all_of known.now) known.now.lists.now search.now }
     requires kind { Stands (all_of known.now) kind }
     ensures { Finds (all_of known.now) name.now (spec.method_for (all_of known.now) (kind_at (all_of known.now) kind) name.now) result }
 {
     match kind {
-        Kind::Class(class) => method_of(known, class, name),
+        Kind::Class(class) => method_of(known, search, class, name),
         _ => None,
     }
 }
 
 /// The method of a name that the class of a body has.
-pub fn own_method<'a>(known: &Knowledge<'a>, at: &CodePlace, name: &Text) -> Option<FoundMethod<'a>>
+pub fn own_method<'a>(
+    known: &Knowledge<'a>,
+    search: &MethodSearch,
+    at: &CodePlace,
+    name: &Text,
+) -> Option<FoundMethod<'a>>
     requires known { IsKnowledge known.now }
+    requires search { IsSearch (all_of known.now) known.now.lists.now search.now }
     requires place { PlaceStands (all_of known.now) at.now }
     ensures { Finds (all_of known.now) name.now (spec.own_method (all_of known.now) (code_at (all_of known.now) at.now).class name.now) result }
 {
     match at.class {
-        Some(class) => method_of(known, class, name),
+        Some(class) => method_of(known, search, class, name),
         None => None,
     }
 }

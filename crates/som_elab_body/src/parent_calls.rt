@@ -55,7 +55,7 @@ fn call_parent(
     ensures { Makes (classes_at context.now) (parent_from (among_at context.now) (place_at context.now) parent.now name.now (parts_at (classes_at context.now) args) number) result }
 {
     let class = class_of_parent(&context.known, &context.at, parent);
-    match method_of(&context.known, class, name) {
+    match method_of(&context.known, &context.search, class, name) {
         None => Err(TypeFault::Rule(16)),
         Some(method) => call_at(alloc, context, number, name, args, method.class),
     }
@@ -120,7 +120,7 @@ pub fn parents_call(
     requires args { AreParts (classes_at context.now) args }
     ensures { Makes (classes_at context.now) (spec.parents_form (among_at context.now) (place_at context.now) name.now (parts_at (classes_at context.now) args)) result }
 {
-    match own_method(&context.known, &context.at, name) {
+    match own_method(&context.known, &context.search, &context.at, name) {
         None => Err(TypeFault::Rule(16)),
         Some(method) => call_all(alloc, context, name, args, method.class),
     }

@@ -4,3 +4,4 @@ pub mod Grouping
 pub mod OwnTexts
 pub mod NamedClasses
 pub mod Fitting
+pub mod Tabled

@@ -1,18 +1,21 @@
 //! S14: each operation and each overridden method has exactly one body.
 
-ghost use Rattle.som_elab_methods.specs.Bodies.{entry_has_one, has_one, text_s14, texts_for};
+ghost use Rattle.som_elab_methods.specs.Bodies.{entry_has_one, has_one, operations as declared, text_s14};
+ghost use Rattle.som_elab_methods.specs.Tables.{HaveNames};
 ghost use Rattle.som_elab_methods.specs.Texts.{given};
 ghost use Rattle.som_model.specs.Class.{introduced};
 ghost use Rattle.som_model.specs.Lists.{first};
 ghost use Rattle.som_model.specs.declared.class.Override.{Override as Replaced};
+ghost use Rattle.som_order.specs.Names.{texts};
 ghost use Rattle.som_verify_classes.specs.Told.{Tells};
 ghost use Rattle.som_sema_drafts.specs.Drafts.{plain_draft, plain_drafts};
 ghost use Rattle.som_sema_drafts.specs.declared.drafts.Draft.{Draft as Known};
-ghost use Rattle.std.specs.Prelude.{◌≡◌, ◌<◌, ◌==◌, length, flat_map, slice_get, Some};
+ghost use Rattle.std.specs.Prelude.{◌≡◌, ◌<◌, length, flat_map, slice_get, Some};
 
+use crate::body_names::BodyNames;
 use crate::grouped::ModuleTexts;
-use crate::operations::is_operation;
-use crate::texts::count_for;
+use crate::operations::{is_operation, operation_names};
+use indexmap::IndexSet;
 use som_ast::BodyText;
 use som_sema_drafts::{Draft, breach, each_draft, introduced_names};
 use som_verify_classes::VerifyFault;
@@ -46,36 +49,55 @@ fn own_counted(alloc: Global, draft: &Draft, texts: &ModuleTexts) -> Result<(), 
 fn members_counted(alloc: Global, draft: &Draft, own: &[&BodyText]) -> Result<(), VerifyFault>
     ensures { Tells (first (text_s14 (given own.now) (plain_draft draft.now))) result }
 {
-    introduced_counted(alloc, draft, own)?;
-    overridden_counted(alloc, draft, own)
+    let bodies = BodyNames::noted(alloc, draft, own)?;
+    bodied_members(alloc, &bodies)
 }
 
-fn introduced_counted(alloc: Global, draft: &Draft, own: &[&BodyText]) -> Result<(), VerifyFault>
-    ensures { Tells (first (flat_map (entry_has_one (given own.now) (plain_draft draft.now)) (introduced draft.now.decl.face.entries))) result }
+fn bodied_members(alloc: Global, bodies: &BodyNames) -> Result<(), VerifyFault>
+    ensures { Tells (first (text_s14 (given bodies.now.own.now) (plain_draft bodies.now.draft.now))) result }
 {
+    introduced_counted(alloc, bodies)?;
+    overridden_counted(alloc, bodies)
+}
+
+fn introduced_counted(alloc: Global, bodies: &BodyNames) -> Result<(), VerifyFault>
+    ensures { Tells (first (flat_map (entry_has_one (given bodies.now.own.now) (plain_draft bodies.now.draft.now))
+        (introduced bodies.now.draft.now.decl.face.entries))) result }
+{
+    let draft = bodies.draft;
+    let operations = operation_names(alloc, draft.text)?;
     let names = introduced_names(alloc, draft.decl.face.entries.as_slice())?;
-    for name in names.as_slice() {
-        if is_operation(draft.text, *name) && !is_one(own, draft, *name) {
+    operations_counted(alloc, bodies, &operations, names.as_slice())
+}
+
+fn operations_counted(
+    alloc: Global,
+    bodies: &BodyNames,
+    operations: &IndexSet<&[u8]>,
+    names: &[&[u8]],
+) -> Result<(), VerifyFault>
+    requires { HaveNames (declared bodies.now.draft.now.text.now) (texts operations.now.keys) }
+    ensures { Tells (first (flat_map (entry_has_one (given bodies.now.own.now) (plain_draft bodies.now.draft.now)) (texts names.now))) result }
+{
+    let draft = bodies.draft;
+    for name in names {
+        if is_operation(draft.text, operations, *name) && !bodies.is_one(*name) {
             return Err(breach(alloc, 14, draft, *name)?);
         }
     }
     Ok(())
 }
 
-fn overridden_counted(alloc: Global, draft: &Draft, own: &[&BodyText]) -> Result<(), VerifyFault>
-    ensures { Tells (first (flat_map (λ (o : Replaced). has_one (given own.now) (plain_draft draft.now) o.method.name) draft.now.decl.overrides)) result }
+fn overridden_counted(alloc: Global, bodies: &BodyNames) -> Result<(), VerifyFault>
+    ensures { Tells (first (flat_map (λ (o : Replaced). has_one (given bodies.now.own.now) (plain_draft bodies.now.draft.now) o.method.name)
+        bodies.now.draft.now.decl.overrides)) result }
 {
+    let draft = bodies.draft;
     for replaced in draft.decl.overrides.as_slice() {
         let name = replaced.method.name.as_slice();
-        if !is_one(own, draft, name) {
+        if !bodies.is_one(name) {
             return Err(breach(alloc, 14, draft, name)?);
         }
     }
     Ok(())
-}
-
-fn is_one(own: &[&BodyText], draft: &Draft, name: &[u8]) -> bool
-    ensures { result ≡ (length (texts_for (given own.now) draft.now.decl.face.name name.now) == 1) }
-{
-    count_for(own, draft.decl.face.name.as_slice(), name) == 1
 }

@@ -3,12 +3,14 @@
 
 mod accessor_bodies;
 mod accessors;
+mod body_names;
 mod counted_bodies;
 mod grouped;
 mod laws;
 mod limits;
 mod named_bodies;
 mod operations;
+mod own_methods;
 mod selects;
 mod texts;
 

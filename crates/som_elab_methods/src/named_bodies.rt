@@ -2,25 +2,24 @@
 
 ghost use Rattle.som_elab_methods.specs.Bodies as spec;
 ghost use Rattle.som_elab_methods.specs.Bodies.{draft_named, stands_for, text_s13};
+ghost use Rattle.som_elab_methods.specs.OwnDrafts.{draft_of, drafts_in};
 ghost use Rattle.som_elab_methods.specs.Texts as places;
 ghost use Rattle.som_elab_methods.specs.Texts.{given};
-ghost use Rattle.som_model.specs.Lists.{find, first};
-ghost use Rattle.som_model.specs.declared.class.Override.{Override as Replaced};
+ghost use Rattle.som_model.specs.Lists.{first};
 ghost use Rattle.som_verify_classes.specs.Told.{Tells};
 ghost use Rattle.som_verify_classes.specs.declared.types.VerifyFault.TheVariants as faults;
 ghost use Rattle.som_sema_drafts.specs.Drafts.{plain_draft, plain_drafts};
 ghost use Rattle.som_sema_names.specs.Noted.{IsKnown};
 ghost use Rattle.som_verify_forms.specs.Knowing.{IsKnowledge, all_of};
 ghost use Rattle.std.specs.Prelude.{◌≡◌, flat_map, option_copied, option_map, slice_get, IfOk};
-ghost use Rattle.std.specs.Str.{bytes_eq};
 
 use crate::grouped::ModuleTexts;
-use crate::operations::is_operation;
+use crate::own_methods::OwnMethods;
 use som_ast::BodyText;
-use som_model::{Entry, NoMemory, Override, Sig, Text};
+use som_model::{Entry, NoMemory, Sig};
 use som_sema_drafts::Draft;
 use som_sema_names::{Places, first_place, note, place_table};
-use som_verify_classes::{Broken, VerifyFault, find_entry};
+use som_verify_classes::{Broken, VerifyFault};
 use som_verify_forms::{Knowledge, signature_of};
 use std::alloc::Global;
 
@@ -36,23 +35,38 @@ pub fn bodies_named(
     ensures { Tells (first (flat_map (text_s13 (all_of known.now) (plain_drafts drafts.now)) (given texts.now.all.now))) result }
 {
     let names = class_places(alloc, drafts)?;
-    each_named(alloc, known, drafts, &names, texts.all)
+    let classes = own_methods(alloc, drafts)?;
+    each_named(alloc, known, classes.as_slice(), &names, texts.all)
+}
+
+// The methods of each interface.
+fn own_methods<'d, 'b>(
+    alloc: Global,
+    drafts: &'d [Draft<'b>],
+) -> Result<Vec<OwnMethods<'d, 'b>>, NoMemory>
+    ensures { IfOk result (λ all. drafts_in all.items ≡ plain_drafts drafts.now) }
+{
+    let mut all = Vec::new(alloc);
+    for draft in drafts {
+        all.push(OwnMethods::noted(alloc, draft)?)?;
+    }
+    Ok(all)
 }
 
 fn each_named(
     alloc: Global,
     known: &Knowledge,
-    drafts: &[Draft],
+    classes: &[OwnMethods],
     names: &Places,
     texts: &[&BodyText],
 ) -> Result<(), VerifyFault>
     requires known { IsKnowledge known.now }
-    requires names { IsKnown (places.class_places 0 (plain_drafts drafts.now)) names.now }
-    ensures { Tells (first (flat_map (text_s13 (all_of known.now) (plain_drafts drafts.now)) (given texts.now))) result }
+    requires names { IsKnown (places.class_places 0 (drafts_in classes.now)) names.now }
+    ensures { Tells (first (flat_map (text_s13 (all_of known.now) (drafts_in classes.now)) (given texts.now))) result }
 {
     for text in texts {
         let text = *text;
-        if !stands(known, drafts, names, text) {
+        if !stands(known, classes, names, text) {
             return Err(wrong_body(alloc, text)?);
         }
     }
@@ -81,82 +95,86 @@ fn wrong_body(alloc: Global, text: &BodyText) -> Result<VerifyFault, NoMemory>
     }))
 }
 
-fn stands(known: &Knowledge, drafts: &[Draft], names: &Places, text: &BodyText) -> bool
+fn stands(known: &Knowledge, classes: &[OwnMethods], names: &Places, text: &BodyText) -> bool
     requires known { IsKnowledge known.now }
-    requires names { IsKnown (places.class_places 0 (plain_drafts drafts.now)) names.now }
-    ensures { result ≡ stands_for (all_of known.now) text.now (draft_named (plain_drafts drafts.now) text.now.class.text) }
+    requires names { IsKnown (places.class_places 0 (drafts_in classes.now)) names.now }
+    ensures { result ≡ stands_for (all_of known.now) text.now (draft_named (drafts_in classes.now) text.now.class.text) }
 {
-    match find_draft(drafts, names, text.class.text.as_slice()) {
+    match find_class(classes, names, text.class.text.as_slice()) {
         None => false,
-        Some(draft) => takes_as_many(known, draft, text),
+        Some(class) => takes_as_many(known, class, text),
     }
 }
 
-fn find_draft<'a, 'b>(drafts: &'a [Draft<'b>], names: &Places, name: &[u8]) -> Option<&'a Draft<'b>>
-    requires { IsKnown (places.class_places 0 (plain_drafts drafts.now)) names.now }
-    ensures { option_map plain_draft (option_copied result) ≡ draft_named (plain_drafts drafts.now) name.now }
+fn find_class<'a, 'd, 'b>(
+    classes: &'a [OwnMethods<'d, 'b>],
+    names: &Places,
+    name: &[u8],
+) -> Option<&'a OwnMethods<'d, 'b>>
+    requires { IsKnown (places.class_places 0 (drafts_in classes.now)) names.now }
+    ensures { option_map (λ m. plain_draft (draft_of m)) (option_copied result) ≡ draft_named (drafts_in classes.now) name.now }
 {
     match first_place(names, name) {
         None => None,
-        Some(place) => draft_at(drafts, place),
+        Some(place) => class_at(classes, place),
     }
 }
 
-fn draft_at<'a, 'b>(drafts: &'a [Draft<'b>], place: usize) -> Option<&'a Draft<'b>>
-    ensures { option_copied result ≡ slice_get drafts.now place }
+fn class_at<'a, 'd, 'b>(
+    classes: &'a [OwnMethods<'d, 'b>],
+    place: usize,
+) -> Option<&'a OwnMethods<'d, 'b>>
+    ensures { option_copied result ≡ slice_get classes.now place }
 {
-    drafts.get(place)
+    classes.get(place)
 }
 
-fn takes_as_many(known: &Knowledge, draft: &Draft, text: &BodyText) -> bool
+fn takes_as_many(known: &Knowledge, class: &OwnMethods, text: &BodyText) -> bool
     requires { IsKnowledge known.now }
-    ensures { result ≡ spec.takes_as_many text.now (spec.body_sig (all_of known.now) (plain_draft draft.now) text.now.method.text) }
+    ensures { result ≡ spec.takes_as_many text.now (spec.body_sig (all_of known.now) (plain_draft (draft_of class.now)) text.now.method.text) }
 {
-    match body_sig(known, draft, &text.method.text) {
+    match body_sig(known, class, text.method.text.as_slice()) {
         None => false,
         Some(sig) => text.params.len() == sig.params.len(),
     }
 }
 
-fn body_sig<'a>(known: &Knowledge<'a>, draft: &'a Draft, name: &Text) -> Option<&'a Sig>
+fn body_sig<'a, 'b>(
+    known: &Knowledge<'a>,
+    class: &OwnMethods<'a, 'b>,
+    name: &[u8],
+) -> Option<&'a Sig>
     requires { IsKnowledge known.now }
-    ensures { option_copied result ≡ spec.body_sig (all_of known.now) (plain_draft draft.now) name.now }
+    ensures { option_copied result ≡ spec.body_sig (all_of known.now) (plain_draft (draft_of class.now)) name.now }
 {
-    match operation_sig(draft, name) {
+    match operation_sig(class, name) {
         Some(sig) => Some(sig),
-        None => override_sig(known, draft, name),
+        None => override_sig(known, class, name),
     }
 }
 
-fn operation_sig<'a>(draft: &'a Draft, name: &Text) -> Option<&'a Sig>
-    ensures { option_copied result ≡ spec.operation_sig (plain_draft draft.now) name.now }
+fn operation_sig<'a, 'b>(class: &OwnMethods<'a, 'b>, name: &[u8]) -> Option<&'a Sig>
+    ensures { option_copied result ≡ spec.operation_sig (plain_draft (draft_of class.now)) name.now }
 {
-    if !is_operation(draft.text, name.as_slice()) {
+    if !class.declares(name) {
         return None;
     }
-    match find_entry(draft.decl.face.entries.as_slice(), name) {
+    match class.entry(name) {
         Some(Entry::Introduced { sig, .. }) => Some(sig),
         _ => None,
     }
 }
 
-fn override_sig<'a>(known: &Knowledge<'a>, draft: &'a Draft, name: &Text) -> Option<&'a Sig>
+fn override_sig<'a, 'b>(
+    known: &Knowledge<'a>,
+    class: &OwnMethods<'a, 'b>,
+    name: &[u8],
+) -> Option<&'a Sig>
     requires { IsKnowledge known.now }
-    ensures { option_copied result ≡ spec.override_sig (all_of known.now) (plain_draft draft.now) name.now }
+    ensures { option_copied result ≡ spec.override_sig (all_of known.now) (plain_draft (draft_of class.now)) name.now }
 {
-    match override_named(draft.decl.overrides.as_slice(), name.as_slice()) {
+    match class.replaced(name) {
         None => None,
         Some(replaced) => signature_of(known, &replaced.method),
     }
-}
-
-fn override_named<'a>(overrides: &'a [Override], name: &[u8]) -> Option<&'a Override>
-    ensures { option_copied result ≡ find (λ (o : Replaced). bytes_eq name.now o.method.name) overrides.now }
-{
-    for replaced in overrides {
-        if name == replaced.method.name.as_slice() {
-            return Some(replaced);
-        }
-    }
-    None
 }

@@ -1,9 +1,9 @@
-//! The bodies of all files, and how many of them are for a method of a class.
+//! The bodies of all files, and the first for a method of a class.
 
 ghost use Rattle.som_elab_methods.specs.Bodies.{bodies_of, texts_for};
 ghost use Rattle.som_elab_methods.specs.Texts.{given};
 ghost use Rattle.som_model.specs.Lists.{first};
-ghost use Rattle.std.specs.Prelude.{◌≡◌, ◌++◌, ◌&&◌, length, option_copied, IfOk, OnOk};
+ghost use Rattle.std.specs.Prelude.{◌≡◌, ◌++◌, ◌&&◌, option_copied, IfOk, OnOk};
 ghost use Rattle.std.specs.Str.{bytes_eq};
 
 use som_ast::{BodyFile, BodyText};
@@ -28,19 +28,6 @@ fn add_texts<'a>(all: &mut Vec<&'a BodyText>, texts: &'a [BodyText]) -> Result<(
         all.push(text)?;
     }
     Ok(())
-}
-
-/// How many bodies there are for a method of a class.
-pub fn count_for(texts: &[&BodyText], class: &[u8], method: &[u8]) -> usize
-    ensures { result ≡ length (texts_for (given texts.now) class.now method.now) }
-{
-    let mut count = 0;
-    for text in texts {
-        if is_for(*text, class, method) {
-            count += 1;
-        }
-    }
-    count
 }
 
 /// The first body for a method of a class.

@@ -4,6 +4,7 @@ pub mod Testing
 pub mod Obeying
 pub mod Entering
 pub mod Stepping
+pub mod Bursting
 pub mod Returning
 pub mod Waking
 pub mod Giving

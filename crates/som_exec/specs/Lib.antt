@@ -1,4 +1,5 @@
 pub mod Came
+pub mod Bursts
 pub mod Doing
 pub mod Going
 pub mod Runs

@@ -1,10 +1,12 @@
 //! A task over a linked kernel that goes on by the units granted to it.
 
-ghost use Rattle.som_machine_laws.specs.Counted.{IsDirectRun, IsSearchFree};
-ghost use Rattle.som_interp_task.specs.Advance.{Comes, Counts, CountsNow, StaysCalm};
+ghost use Rattle.som_machine_laws.specs.Counted.{IsSearchFree};
+ghost use Rattle.som_interp_loop.specs.Counted.{AreBounded, IsBounded};
+ghost use Rattle.som_interp_task.specs.Advance.{Comes, Counts, CountsNow, CountsSearches, StaysCalm};
 ghost use Rattle.som_interp_task.specs.Stands.{IsStanding, Stands};
 ghost use Rattle.som_interp_loop.specs.Scene.{scene};
 ghost use Rattle.som_exec.specs.Going.{is_going as can_go_on};
+ghost use Rattle.som_exec.specs.Runs.{CountsAdvance};
 ghost use Rattle.som_trace.specs.Filters.{shows_of};
 ghost use Rattle.std.specs.Prelude.{◌≡◌, ◌<◌, ◌+◌, ◌^◌, true};
 
@@ -23,8 +25,9 @@ use std::sync::ledger::Ledger;
 /// Grants units to a live task that stands, and goes on until its main is over, it has a fault, or no unit is left. What
 /// it comes to is what main means with the units granted before and these. The task is live where it can be gone on with.
 /// Where no block searches for a name and no class that is made by then has hooks, at most two steps are counted for each
-/// call event that comes now, and two more; after SinkFailed and NoMemory for a front of these
-/// events alone, whose lines were told.
+/// call event that comes now, and two more. Where blocks search, and no class that is made by then has hooks, or more than n
+/// ancestors, n more are counted at most for each event that came by a name and for each of a method that asks for one, and
+/// 2 n more. After SinkFailed and NoMemory it is so for a front of these events alone, whose lines were told.
 pub fn advance<R: Runtime, K: Sink, L: Ledger>(
     alloc: Global,
     task: &mut Task,
@@ -43,7 +46,7 @@ pub fn advance<R: Runtime, K: Sink, L: Ledger>(
     ensures comes { Comes (scene (R.linked runtime.old) (R.known runtime.old) (R.program runtime.old) (R.made runtime.old) objects.old task.old.task 0) units (shows_of trace.now) prefix.now (K.written out.old) (K.written out.new)
         (scene (R.linked runtime.new) (R.known runtime.new) (R.program runtime.new) (R.made runtime.new) objects.new task.new.task 0) result }
     ensures live { task.new.live ≡ can_go_on result }
-    ensures steps { CountsNow (IsSearchFree (R.known runtime.old).classes (R.program runtime.old) (R.made runtime.new)) (scene (R.linked runtime.old) (R.known runtime.old) (R.program runtime.old) (R.made runtime.old) objects.old task.old.task 0) units
+    ensures steps { CountsAdvance (IsSearchFree (R.known runtime.old).classes (R.program runtime.old) (R.made runtime.new)) (AreBounded (R.known runtime.old).classes (R.made runtime.new)) (scene (R.linked runtime.old) (R.known runtime.old) (R.program runtime.old) (R.made runtime.old) objects.old task.old.task 0) units
         (shows_of trace.now) prefix.now (K.written out.old) (K.written out.new) steps.old steps.new result }
     ensures counts { Counts (K.faults out.old) (K.faults out.new) result }
     ensures calms { StaysCalm (K.calm out.old) (K.calm out.new) (K.faults out.old) (K.faults out.new) result }
@@ -82,7 +85,7 @@ fn go_on<'a, R: Runtime, K: Sink, L: Ledger>(
     requires units { task.old.granted + units < 2 ^ 32 }
     ensures comes { Comes (scene (R.linked runtime.old) (R.known runtime.old) (R.program runtime.old) (R.made runtime.old) objects.old task.old 0) units (shows_of trace.now) prefix.now (K.written out.old) (K.written out.new)
         (scene (R.linked runtime.new) (R.known runtime.new) (R.program runtime.new) (R.made runtime.new) objects.new task.new 0) result }
-    ensures steps { CountsNow (IsDirectRun (R.linked runtime.old).world (R.program runtime.old) (R.made runtime.new)) (scene (R.linked runtime.old) (R.known runtime.old) (R.program runtime.old) (R.made runtime.old) objects.old task.old 0) units
+    ensures steps { CountsSearches (IsBounded (R.linked runtime.old).world (R.known runtime.old).classes (R.program runtime.old) (R.made runtime.new)) (scene (R.linked runtime.old) (R.known runtime.old) (R.program runtime.old) (R.made runtime.old) objects.old task.old 0) units
         (shows_of trace.now) prefix.now (K.written out.old) (K.written out.new) steps.old steps.new result }
     ensures counts { Counts (K.faults out.old) (K.faults out.new) result }
     ensures calms { StaysCalm (K.calm out.old) (K.calm out.new) (K.faults out.old) (K.faults out.new) result }

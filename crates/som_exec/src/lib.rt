@@ -4,6 +4,7 @@
 
 mod advancing;
 mod back;
+mod burst;
 mod calling;
 mod choosing;
 mod finished;

@@ -4,6 +4,7 @@ ghost use Rattle.som_interp_loop.specs.Scene.{scene};
 ghost use Rattle.som_trace.specs.Filters.{shows_of};
 ghost use Rattle.std.specs.Prelude.{◌∷◌, []};
 
+use crate::burst::burst;
 use crate::step_next;
 use crate::telling::tell_at;
 use som_host::HostTable;
@@ -52,6 +53,19 @@ impl<'a, R: Runtime, K: Sink, L: Ledger> Moves for Machine<'a, R, K, L> {
 
     fn fuel(&self) -> u32 {
         self.fuel
+    }
+
+    fn burst(&mut self) -> Result<(), Stop> {
+        burst(
+            self.alloc,
+            self.runtime,
+            self.task,
+            self.objects,
+            self.host,
+            self.prefix,
+            &mut self.fuel,
+            self.out,
+        )
     }
 
     fn step(&mut self) -> Result<bool, Stop> {

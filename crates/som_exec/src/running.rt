@@ -1,12 +1,13 @@
 //! Main of a linked kernel run from start to end.
 
-ghost use Rattle.som_machine_laws.specs.Counted.{IsDirectRun, IsSearchFree};
-ghost use Rattle.som_interp_task.specs.Run.{Counts, CountsRun, LeavesFuel, StaysCalm};
+ghost use Rattle.som_machine_laws.specs.Counted.{IsSearchFree};
+ghost use Rattle.som_interp_loop.specs.Counted.{AreBounded, IsBounded};
+ghost use Rattle.som_interp_task.specs.Run.{Counts, CountsRun, CountsRunSearches, LeavesFuel, StaysCalm};
 ghost use Rattle.som_interp_task.specs.Stands.{Stands};
 ghost use Rattle.som_semantics.specs.Means.{means_in};
 ghost use Rattle.som_interp_loop.specs.Scene.{scene};
 ghost use Rattle.som_objects.specs.Objects.{Objects};
-ghost use Rattle.som_exec.specs.Runs.{RunsMain};
+ghost use Rattle.som_exec.specs.Runs.{CountsMain, RunsMain};
 ghost use Rattle.som_trace.specs.Filters.{shows_of};
 ghost use Rattle.std.specs.Prelude.{◌≡◌, [], false};
 
@@ -25,8 +26,10 @@ use std::sync::ledger::Ledger;
 /// Runs the main of a linked kernel by this fuel, with objects of its own: it answers the end of what main means, and
 /// tells its text, or a front of it where memory was wanting or the sink failed. The classes that were used are made,
 /// and the kernel is else as it was. Where no block searches for a name and no class that is made by the end has hooks,
-/// at most two steps are counted for each call event, and two more; after SinkFailed and NoMemory for a front of them
-/// alone, whose lines were told.
+/// at most two steps are counted for each call event, and two more. Where blocks search, and no class that is made by the
+/// end has hooks, or more than n ancestors, n more are counted at most for each event that came by a name and for each of a
+/// method that asks for one, and 2 n more. After SinkFailed and NoMemory it is so for a front of them alone, whose lines
+/// were told.
 pub fn run<R: Runtime, K: Sink, L: Ledger>(
     alloc: Global,
     runtime: &mut R,
@@ -38,6 +41,7 @@ pub fn run<R: Runtime, K: Sink, L: Ledger>(
 ) -> Outcome
     ensures runs { RunsMain (R.world runtime.old) (R.program runtime.old) fuel (shows_of trace.now) (K.written out.old) (K.written out.new) (R.known runtime.old).classes (R.made runtime.old) (R.made runtime.new) result }
     ensures steps { CountsRun (IsSearchFree (R.known runtime.old).classes (R.program runtime.old) (R.made runtime.new)) (means_in (R.world runtime.old) (R.program runtime.old) fuel) (shows_of trace.now) [] (K.written out.old) (K.written out.new) steps.old steps.new result }
+    ensures searches { CountsRunSearches (AreBounded (R.known runtime.old).classes (R.made runtime.new)) (means_in (R.world runtime.old) (R.program runtime.old) fuel) (shows_of trace.now) [] (K.written out.old) (K.written out.new) steps.old steps.new result }
 
     ensures counts { Counts (K.faults out.old) (K.faults out.new) result }
     ensures calms { StaysCalm (K.calm out.old) (K.calm out.new) (K.faults out.old) (K.faults out.new) result }
@@ -65,7 +69,7 @@ pub fn finish<R: Runtime, K: Sink, L: Ledger>(
 ) -> Finished
     ensures runs { RunsMain (R.world runtime.old) (R.program runtime.old) fuel (shows_of trace.now) (K.written out.old) (K.written out.new) (R.known runtime.old).classes (R.made runtime.old) (R.made runtime.new) result.outcome }
     ensures left { LeavesFuel (means_in (R.world runtime.old) (R.program runtime.old) fuel) result.left result.outcome }
-    ensures steps { CountsRun (IsSearchFree (R.known runtime.old).classes (R.program runtime.old) (R.made runtime.new)) (means_in (R.world runtime.old) (R.program runtime.old) fuel) (shows_of trace.now) [] (K.written out.old) (K.written out.new) steps.old steps.new result.outcome }
+    ensures steps { CountsMain (IsSearchFree (R.known runtime.old).classes (R.program runtime.old) (R.made runtime.new)) (AreBounded (R.known runtime.old).classes (R.made runtime.new)) (means_in (R.world runtime.old) (R.program runtime.old) fuel) (shows_of trace.now) (K.written out.old) (K.written out.new) steps.old steps.new result.outcome }
 
     ensures counts { Counts (K.faults out.old) (K.faults out.new) result.outcome }
     ensures calms { StaysCalm (K.calm out.old) (K.calm out.new) (K.faults out.old) (K.faults out.new) result.outcome }
@@ -106,7 +110,7 @@ fn run_task<'a, R: Runtime, K: Sink, L: Ledger>(
     requires begun { task.task.begun ≡ false }
     ensures runs { RunsMain (R.linked runtime.old).world (R.program runtime.old) fuel (shows_of trace.now) (K.written out.old) (K.written out.new) (R.known runtime.old).classes (R.made runtime.old) (R.made runtime.new) result.outcome }
     ensures left { LeavesFuel (means_in (R.linked runtime.old).world (R.program runtime.old) fuel) result.left result.outcome }
-    ensures steps { CountsRun (IsDirectRun (R.linked runtime.old).world (R.program runtime.old) (R.made runtime.new)) (means_in (R.linked runtime.old).world (R.program runtime.old) fuel) (shows_of trace.now) [] (K.written out.old) (K.written out.new) steps.old steps.new result.outcome }
+    ensures steps { CountsRunSearches (IsBounded (R.linked runtime.old).world (R.known runtime.old).classes (R.program runtime.old) (R.made runtime.new)) (means_in (R.linked runtime.old).world (R.program runtime.old) fuel) (shows_of trace.now) [] (K.written out.old) (K.written out.new) steps.old steps.new result.outcome }
 
     ensures counts { Counts (K.faults out.old) (K.faults out.new) result.outcome }
     ensures calms { StaysCalm (K.calm out.old) (K.calm out.new) (K.faults out.old) (K.faults out.new) result.outcome }

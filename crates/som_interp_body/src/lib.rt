@@ -13,4 +13,6 @@ mod turn;
 mod variables;
 
 pub use obeying::obey;
+pub use outcome::Outcome;
 pub use spent::{is_call, is_spent};
+pub use step::obey_in_place;

@@ -9,7 +9,7 @@ ghost use Rattle.som_interp_body.specs.Obeying.{IsRunning, Obeyed};
 ghost use Rattle.std.specs.Prelude.{◌≡◌, ◌≢◌, ◌≤◌, Err, false};
 
 use crate::outcome::Outcome;
-use crate::step::step;
+use crate::step::obey_in_place;
 use som_host::HostTable;
 use som_interp_loop::Stop;
 use som_interp_state::{Body, Now, Runtime, Task};
@@ -47,7 +47,7 @@ pub fn obey<R: Runtime, K: Sink>(
     ensures calm_answer { K.calm out.old → result ≢ Err stops.SinkFailed }
 {
     let mut body = body;
-    match step(
+    match obey_in_place(
         alloc, runtime, task, objects, host, prefix, fuel, out, &mut body,
     ) {
         Ok(Outcome::GoesOn) => Ok(Now::Running(body)),

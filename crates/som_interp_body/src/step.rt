@@ -26,8 +26,8 @@ use som_model::Text;
 use som_objects::ObjectStore;
 use std::alloc::Global;
 
-/// Obeys the next instruction of a body, which makes no call.
-pub(crate) fn step<R: Runtime, K: Sink>(
+/// Obeys the next instruction of a body where it stands, which makes no call. Where it ends the body, its answer is told.
+pub fn obey_in_place<R: Runtime, K: Sink>(
     alloc: Global,
     runtime: &mut R,
     task: &mut Task,

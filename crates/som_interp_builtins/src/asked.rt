@@ -6,7 +6,8 @@ ghost use Rattle.som_semantics.specs.Invoked.{asks};
 ghost use Rattle.som_semantics.specs.State.{Heap};
 ghost use Rattle.som_objects.specs.declared.cell.Cell.{Cell as Variable};
 ghost use Rattle.som_values.specs.Shown.{all_shown, shown_ref, showing};
-ghost use Rattle.std.specs.Prelude.{◌≡◌, ℕ, List, Option};
+ghost use Rattle.som_interp_state.specs.Asked.{HaveAncestors};
+ghost use Rattle.std.specs.Prelude.{◌≡◌, ◌≤◌, ◌+◌, ℕ, List, Option};
 
 use crate::Asking;
 use crate::questions::{
@@ -21,7 +22,7 @@ use std::alloc::Global;
 use std::sync::ledger::Ledger;
 
 /// What a body of the kernel's that only asks answers, for self and its arguments. Steps are counted only where a
-/// method is looked up by its name.
+/// method is looked up by its name, and no more than a class that is made has ancestors.
 pub fn ask<R: Runtime, L: Ledger>(
     alloc: Global,
     runtime: &R,
@@ -36,6 +37,7 @@ pub fn ask<R: Runtime, L: Ledger>(
         → IsAnswered (R.linked runtime.now) (R.made runtime.now) (R.keys runtime.now) xs objects.now result
         (asks (R.world runtime.now) (asking_shown asking) (shown_ref (showing (R.keys runtime.now) xs) me) (all_shown (showing (R.keys runtime.now) xs) args.now) h) }
     ensures steps { LooksUpNone asking → steps.new ≡ steps.old }
+    ensures cost { (n : ℕ) → HaveAncestors (R.known runtime.now).classes (R.made runtime.now) n → steps.new ≤ steps.old + n }
 {
     match asking {
         Asking::GetClass => get_class(runtime, objects, me),

@@ -7,8 +7,9 @@ ghost use Rattle.som_model.specs.declared.key.ClassKey.{ClassKey as Key};
 ghost use Rattle.som_objects.specs.Objects.{Objects};
 ghost use Rattle.som_objects.specs.declared.cell.Cell.{Cell as Argument};
 ghost use Rattle.som_values.specs.declared.reference.Reference.{Reference as To};
+ghost use Rattle.som_interp_state.specs.Asked.{HaveAncestors};
 ghost use Rattle.som_interp_state.specs.Settings.{Linked};
-ghost use Rattle.std.specs.Prelude.{[], Bool, List};
+ghost use Rattle.std.specs.Prelude.{◌≤◌, ◌+◌, [], ℕ, Bool, List};
 
 use crate::arguments::{class_argument, class_in, first_number, further};
 use crate::selves::{class_of_self, has_method, name_of, version_fits};
@@ -90,7 +91,8 @@ pub(crate) fn responds_to<R: Runtime, L: Ledger>(
     steps: &mut Steps<L>,
 ) -> Result<Cell, Stopped>
     requires { CanAsk (R.linked runtime.now) (R.made runtime.now) objects.now me [] }
-    ensures { AnswersTo (R.linked runtime.now) (R.made runtime.now) (R.keys runtime.now) (R.world runtime.now) objects.now me args.now questions.RespondsTo result }
+    ensures answers { AnswersTo (R.linked runtime.now) (R.made runtime.now) (R.keys runtime.now) (R.world runtime.now) objects.now me args.now questions.RespondsTo result }
+    ensures cost { (n : ℕ) → HaveAncestors (R.known runtime.now).classes (R.made runtime.now) n → steps.new ≤ steps.old + n }
 {
     runtime.know();
     let class = class_of_self(runtime, objects, me)?;
@@ -147,7 +149,8 @@ pub(crate) fn supports_method<R: Runtime, L: Ledger>(
     steps: &mut Steps<L>,
 ) -> Result<Cell, Stopped>
     requires { IsAsked (R.linked runtime.now) (R.made runtime.now) me }
-    ensures { (os : Objects) → AnswersTo (R.linked runtime.now) (R.made runtime.now) (R.keys runtime.now) (R.world runtime.now) os me args.now questions.SupportsMethod result }
+    ensures answers { (os : Objects) → AnswersTo (R.linked runtime.now) (R.made runtime.now) (R.keys runtime.now) (R.world runtime.now) os me args.now questions.SupportsMethod result }
+    ensures cost { (n : ℕ) → HaveAncestors (R.known runtime.now).classes (R.made runtime.now) n → steps.new ≤ steps.old + n }
 {
     runtime.know();
     let class = class_in(me)?;

@@ -2,6 +2,7 @@
 
 ghost use Rattle.som_interp_builtins.specs.Answered.{CanAsk, MayAsk};
 ghost use Rattle.som_interp_builtins.specs.Arguments.{IsText};
+ghost use Rattle.som_interp_state.specs.Asked.{HaveAncestors};
 ghost use Rattle.som_model.specs.ClassNames.{class_name};
 ghost use Rattle.som_semantics.specs.Invoked.{first_argument, version_fits as fits_version};
 ghost use Rattle.som_semantics.specs.State.{Heap};
@@ -10,7 +11,7 @@ ghost use Rattle.som_objects.specs.declared.cell.Cell.{Cell as Argument};
 ghost use Rattle.som_values.specs.Shown.{IsNumbered, Showing, all_shown, key_of, shown_ref, showing};
 ghost use Rattle.som_values.specs.Stored.{IsClassOf};
 ghost use Rattle.std.specs.Option.{is_some};
-ghost use Rattle.std.specs.Prelude.{◌≡◌, [], ℕ, IfOk, List, Option, true};
+ghost use Rattle.std.specs.Prelude.{◌≡◌, ◌≤◌, ◌+◌, [], ℕ, IfOk, List, Option, true};
 
 use crate::arguments::first_text;
 use som_interp_state::Runtime;
@@ -54,7 +55,8 @@ pub(crate) fn name_of<R: Runtime>(
     }
 }
 
-/// Whether a class has a method of the name that is the first argument.
+/// Whether a class has a method of the name that is the first argument. No more steps are counted than a class that is
+/// made has ancestors.
 pub(crate) fn has_method<R: Runtime, L: Ledger>(
     alloc: Global,
     runtime: &R,
@@ -64,7 +66,8 @@ pub(crate) fn has_method<R: Runtime, L: Ledger>(
 ) -> Result<bool, NoMemory>
     requires numbered { IsNumbered (R.keys runtime.now) class }
     requires made { R.made runtime.now (key_of (R.keys runtime.now) class) ≡ true }
-    ensures { IfOk result (λ has. (s : Showing) → has ≡ is_some ((R.world runtime.now).byname (key_of (R.keys runtime.now) class) (text_in (first_argument (all_shown s args.now))))) }
+    ensures has { IfOk result (λ has. (s : Showing) → has ≡ is_some ((R.world runtime.now).byname (key_of (R.keys runtime.now) class) (text_in (first_argument (all_shown s args.now))))) }
+    ensures cost { (n : ℕ) → HaveAncestors (R.known runtime.now).classes (R.made runtime.now) n → steps.new ≤ steps.old + n }
 {
     let name = first_text(alloc, args)?;
     Ok(runtime.find(class, &name, steps).is_some())

@@ -19,7 +19,8 @@ ghost use Rattle.som_interp_state.specs.Named.{IsMadeClass, Owner};
 ghost use Rattle.som_interp_state.specs.Holding.{IsUsable};
 ghost use Rattle.som_interp_state.specs.declared.task.Task.{Task};
 ghost use Rattle.std.specs.List.{All};
-ghost use Rattle.std.specs.Prelude.{◌≡◌, ◌<◌, ◌+◌, ◌^◌, ◌∷◌, [], ℕ, Bool, Err, OnOk, Some, true};
+ghost use Rattle.som_interp_state.specs.Asked.{HaveAncestors};
+ghost use Rattle.std.specs.Prelude.{◌≡◌, ◌<◌, ◌+◌, ◌^◌, ◌∷◌, ◌≤◌, [], ℕ, Bool, Err, OnOk, Some, true};
 
 use crate::operands::{take_call, take_parent_call};
 use crate::tested::{test_named, test_offset, test_parent};
@@ -55,7 +56,8 @@ pub fn offset_call<R: Runtime>(
     Ok(Now::Calling { levels, call })
 }
 
-/// A call by name: the arguments are on top, and below them is the receiver. The body waits for its value.
+/// A call by name: the arguments are on top, and below them is the receiver. The body waits for its value. No more steps
+/// are counted than a class that is made has ancestors.
 pub fn named_call<R: Runtime, L: Ledger>(
     runtime: &R,
     objects: &ObjectStore,
@@ -72,6 +74,7 @@ pub fn named_call<R: Runtime, L: Ledger>(
         → next_of (scene (R.linked runtime.now) (R.known runtime.now) (R.program runtime.now) (R.made runtime.now) objects.now t f) body ≡ Some (ops.Lookup wanted.now name.now count)
         → ComesTo (scene (R.linked runtime.now) (R.known runtime.now) (R.program runtime.now) (R.made runtime.now) objects.now t f)
         (scene (R.linked runtime.now) (R.known runtime.now) (R.program runtime.now) (R.made runtime.now) objects.now (record t { frames = frames.new }) f) body result [] }
+    ensures searches { (n : ℕ) → HaveAncestors (R.known runtime.now).classes (R.made runtime.now) n → steps.new ≤ steps.old + n }
 {
     let (on, args) = take_call(&mut body, count)?;
     let call = test_named(

@@ -24,7 +24,8 @@ ghost use Rattle.som_trace.specs.declared.manner.Manner.TheVariants as manners;
 ghost use Rattle.som_values.specs.Shown.{IsSeen, all_shown, shown, showing};
 ghost use Rattle.som_values.specs.Stored.{Holds};
 ghost use Rattle.std.specs.List.{All};
-ghost use Rattle.std.specs.Prelude.{◌≡◌, ◌<◌, ◌+◌, ◌^◌, ◌∷◌, [], ℕ, IfNone, IfOk, IfSome, List, Some};
+ghost use Rattle.som_interp_state.specs.Asked.{HaveAncestors};
+ghost use Rattle.std.specs.Prelude.{◌≡◌, ◌<◌, ◌+◌, ◌^◌, ◌∷◌, ◌≤◌, [], ℕ, IfNone, IfOk, IfSome, List, Some};
 
 use crate::calls::wait;
 use crate::operands::take_call;
@@ -115,6 +116,7 @@ pub fn to_name<R: Runtime, L: Ledger>(
     requires { (f : ℕ) × IsMet (scene (R.linked runtime.now) (R.known runtime.now) (R.program runtime.now) (R.made runtime.now) objects.now task.now f) (waits.Name levels from code at on args) value }
     ensures resumes { (f : ℕ) → Resumes (scene (R.linked runtime.now) (R.known runtime.now) (R.program runtime.now) (R.made runtime.now) objects.now task.now f)
         (scene (R.linked runtime.now) (R.known runtime.now) (R.program runtime.now) (R.made runtime.now) objects.now task.now f) (waits.Name levels from code at on args) value result }
+    ensures searches { (n : ℕ) → HaveAncestors (R.known runtime.now).classes (R.made runtime.now) n → steps.new ≤ steps.old + n }
 {
     let name = text_of(alloc, &value)?;
     let call = test_dispatched(
@@ -154,6 +156,7 @@ fn test_dispatched<R: Runtime, L: Ledger>(
         → IsUsable (R.linked runtime.now) (R.made runtime.now) xs objects.now on.now → All (IsUsable (R.linked runtime.now) (R.made runtime.now) xs objects.now) args.items
         → IfOk result (IsUsableCall (setting (R.linked runtime.now) xs cs) (R.made runtime.now) objects.now) }
     ensures live { IfOk result (λ call. IsOnLive objects.now call.me call.parent) }
+    ensures searches { (n : ℕ) → HaveAncestors (R.known runtime.now).classes (R.made runtime.now) n → steps.new ≤ steps.old + n }
 {
     match wanted_at(codes, code, at) {
         Some(wanted) => test_named(

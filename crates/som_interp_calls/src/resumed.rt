@@ -6,7 +6,8 @@ ghost use Rattle.som_interp_loop.specs.Scene.{scene};
 ghost use Rattle.som_objects.specs.Objects.{Objects};
 ghost use Rattle.som_objects.specs.declared.cell.Cell.{Cell as Held};
 ghost use Rattle.som_interp_state.specs.declared.frames.Waiting.TheVariants as waits;
-ghost use Rattle.std.specs.Prelude.{◌≡◌, ℕ};
+ghost use Rattle.som_interp_state.specs.Asked.{HaveAncestors};
+ghost use Rattle.std.specs.Prelude.{◌≡◌, ◌≤◌, ◌+◌, ℕ};
 
 use crate::dispatching::to_name;
 use crate::methods::method_named;
@@ -21,7 +22,8 @@ use som_values::Reference;
 use std::alloc::Global;
 use std::sync::ledger::Ledger;
 
-/// A value comes to what waited for it, which has been taken from what waits. The name of a dispatch alone counts steps.
+/// A value comes to what waited for it, which has been taken from what waits. The name of a dispatch alone counts steps, and
+/// no more than a class that is made has ancestors.
 pub fn resume<R: Runtime, L: Ledger>(
     alloc: Global,
     runtime: &R,
@@ -37,6 +39,7 @@ pub fn resume<R: Runtime, L: Ledger>(
     ensures keeps { (f : ℕ) → Keeps (scene (R.linked runtime.now) (R.known runtime.now) (R.program runtime.now) (R.made runtime.now) objects.old task.old f)
         (scene (R.linked runtime.now) (R.known runtime.now) (R.program runtime.now) (R.made runtime.now) objects.new task.new f) }
     ensures steps { IsNotForName waiting → steps.new ≡ steps.old }
+    ensures searches { (n : ℕ) → HaveAncestors (R.known runtime.now).classes (R.made runtime.now) n → steps.new ≤ steps.old + n }
 {
     match waiting {
         Waiting::Call(body) => to_body(body, value),

@@ -18,7 +18,8 @@ ghost use Rattle.som_trace.specs.declared.manner.Manner.TheVariants as manners;
 ghost use Rattle.som_values.specs.Shown.{IsSeen, all_shown, key_of, shown, showing};
 ghost use Rattle.som_values.specs.Stored.{Holds};
 ghost use Rattle.std.specs.List.{All};
-ghost use Rattle.std.specs.Prelude.{◌≡◌, ℕ, Bool, IfOk, List, true};
+ghost use Rattle.som_interp_state.specs.Asked.{HaveAncestors};
+ghost use Rattle.std.specs.Prelude.{◌≡◌, ◌≤◌, ◌+◌, ℕ, Bool, IfOk, List, true};
 
 use som_interp_dispatch::{pass_named, pass_offset, pass_parent};
 use som_interp_loop::Stop;
@@ -56,7 +57,7 @@ pub(crate) fn test_offset<R: Runtime>(
     }
 }
 
-/// The tests of a call by name, in this place.
+/// The tests of a call by name, in this place. No more steps are counted than a class that is made has ancestors.
 pub(crate) fn test_named<R: Runtime, L: Ledger>(
     runtime: &R,
     objects: &ObjectStore,
@@ -77,6 +78,7 @@ pub(crate) fn test_named<R: Runtime, L: Ledger>(
         → IsUsable (R.linked runtime.now) (R.made runtime.now) xs objects.now on.now → All (IsUsable (R.linked runtime.now) (R.made runtime.now) xs objects.now) args.items
         → IfOk result (IsUsableCall (setting (R.linked runtime.now) xs cs) (R.made runtime.now) objects.now) }
     ensures live { IfOk result (λ call. IsOnLive objects.now call.me call.parent) }
+    ensures searches { (n : ℕ) → HaveAncestors (R.known runtime.now).classes (R.made runtime.now) n → steps.new ≤ steps.old + n }
 {
     let at = from;
     match pass_named(

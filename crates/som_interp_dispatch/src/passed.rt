@@ -6,6 +6,7 @@ ghost use Rattle.som_semantics.specs.State.{Heap};
 ghost use Rattle.som_model.specs.declared.key.ClassKey.{ClassKey};
 ghost use Rattle.som_model.specs.declared.key.MethodRef.{MethodRef};
 ghost use Rattle.som_objects.specs.Objects.{Objects};
+ghost use Rattle.som_interp_state.specs.Asked.{HaveAncestors};
 ghost use Rattle.som_interp_state.specs.Named.{HaveOwner, IsLive, IsMadeClass, IsOnLive, IsUsableCall, setting};
 ghost use Rattle.som_interp_dispatch.specs.Passed.{Passes, method_in, method_shown, named_in, named_shown};
 ghost use Rattle.som_interp_state.specs.Holding.{IsUsable, IsUsableMe};
@@ -16,7 +17,7 @@ ghost use Rattle.som_trace.specs.Events.{manner_of};
 ghost use Rattle.som_values.specs.Shown.{IsSeen, IsSeenRef, all_shown, cell_of, key_of, shown, shown_ref, showing};
 ghost use Rattle.som_values.specs.Stored.{Holds};
 ghost use Rattle.std.specs.List.{All};
-ghost use Rattle.std.specs.Prelude.{◌≡◌, ℕ, Bool, IfOk, List, true};
+ghost use Rattle.std.specs.Prelude.{◌≡◌, ◌≤◌, ◌+◌, ℕ, Bool, IfOk, List, true};
 
 use crate::live_class;
 use som_interp_state::{Call, Runtime};
@@ -63,7 +64,7 @@ pub fn pass_offset<R: Runtime>(
 
 /// The tests of a call by name: the receiver isn't nil, and its object isn't freed; its class has a method of the
 /// name, else the fault is NoMethod; and the arguments and the result that is wanted fit the method's signature, else
-/// it is BadArguments.
+/// it is BadArguments. No more steps are counted than a class that is made has ancestors.
 pub fn pass_named<R: Runtime, L: Ledger>(
     runtime: &R,
     objects: &ObjectStore,
@@ -84,6 +85,7 @@ pub fn pass_named<R: Runtime, L: Ledger>(
         → IsUsable (R.linked runtime.now) (R.made runtime.now) xs objects.now on.now → All (IsUsable (R.linked runtime.now) (R.made runtime.now) xs objects.now) args.items
         → IfOk result (IsUsableCall (setting (R.linked runtime.now) xs cs) (R.made runtime.now) objects.now) }
     ensures live { IfOk result (λ call. IsOnLive objects.now call.me call.parent) }
+    ensures cost { (n : ℕ) → HaveAncestors (R.known runtime.now).classes (R.made runtime.now) n → steps.new ≤ steps.old + n }
 {
     match named(runtime, objects, wanted, name, on, args.as_slice(), steps) {
         Ok((me, method)) => Ok(Call {
@@ -114,6 +116,7 @@ fn named<R: Runtime, L: Ledger>(
     ensures held { IfOk result (λ r. on.now ≡ cell_of r.0) }
     ensures live { IfOk result (λ r. IsLive objects.now r.0) }
     ensures token { IfOk result (λ r. (R.linked runtime.now).is_token r.1 ≡ true) }
+    ensures cost { (n : ℕ) → HaveAncestors (R.known runtime.now).classes (R.made runtime.now) n → steps.new ≤ steps.old + n }
 {
     let me = receiver(objects, on)?;
     let method = method_of(runtime, objects, &me, wanted, name, args, steps)?;
@@ -135,6 +138,7 @@ fn method_of<R: Runtime, L: Ledger>(
     ensures means { (xs : List ℕ) (h : Heap) → Holds (showing (R.linked runtime.now).keys xs) objects.now h → IsSeenRef (showing (R.linked runtime.now).keys xs) me.now → All (IsSeen (showing (R.linked runtime.now).keys xs)) args.now
         → method_in (R.linked runtime.now).world h wanted.now name.now (shown_ref (showing (R.linked runtime.now).keys xs) me.now) (all_shown (showing (R.linked runtime.now).keys xs) args.now) ≡ method_shown (R.linked runtime.now) result }
     ensures token { IfOk result (λ t. (R.linked runtime.now).is_token t ≡ true) }
+    ensures cost { (n : ℕ) → HaveAncestors (R.known runtime.now).classes (R.made runtime.now) n → steps.new ≤ steps.old + n }
 {
     runtime.know();
     let class = live_class(runtime, objects, *me);

@@ -6,7 +6,8 @@ ghost use Rattle.som_interp_invoke.specs.Beginning.{Began, CanBegin};
 ghost use Rattle.som_interp_invoke.specs.declared.begun.What.TheVariants as whats;
 ghost use Rattle.som_interp_loop.specs.Scene.{scene};
 ghost use Rattle.som_interp_state.specs.declared.task.Task.{Task};
-ghost use Rattle.std.specs.Prelude.{◌≡◌, ℕ};
+ghost use Rattle.som_interp_state.specs.Asked.{HaveAncestors};
+ghost use Rattle.std.specs.Prelude.{◌≡◌, ◌≤◌, ◌+◌, ℕ};
 
 use crate::Begun;
 use crate::answering::answered;
@@ -36,6 +37,7 @@ pub(crate) fn begin_asking<R: Runtime, L: Ledger>(
     ensures began { (t : Task) (f levels : ℕ) → Began (scene (R.linked runtime.now) (R.known runtime.now) (R.program runtime.now) (R.made runtime.now) objects.now t f)
         (scene (R.linked runtime.now) (R.known runtime.now) (R.program runtime.now) (R.made runtime.now) objects.now t f) begun levels me args.now result }
     ensures steps { LooksUpNone asking → steps.new ≡ steps.old }
+    ensures searches { (n : ℕ) → HaveAncestors (R.known runtime.now).classes (R.made runtime.now) n → steps.new ≤ steps.old + n }
 {
     runtime.know();
     let at = Place::Body {

@@ -4,7 +4,8 @@ ghost use Rattle.som_interp_invoke.specs.Beginning.{Began, MayBegin};
 ghost use Rattle.som_interp_invoke.specs.Begun.{LooksUpNone};
 ghost use Rattle.som_interp_loop.specs.Scene.{scene};
 ghost use Rattle.som_interp_loop.specs.declared.stop.Stop.TheVariants as stops;
-ghost use Rattle.std.specs.Prelude.{◌≡◌, ◌≢◌, ◌+◌, ◌<◌, ◌^◌, ℕ, Err, length};
+ghost use Rattle.som_interp_state.specs.Asked.{HaveAncestors};
+ghost use Rattle.std.specs.Prelude.{◌≡◌, ◌≢◌, ◌+◌, ◌<◌, ◌^◌, ◌≤◌, ℕ, Err, length};
 
 use crate::coding::begin_code;
 use crate::forwarding::begin_forwarding;
@@ -43,6 +44,7 @@ pub fn begin<R: Runtime, L: Ledger>(
     ensures unspent { result ≢ Err stops.Spent }
     ensures unsunk { result ≢ Err stops.SinkFailed }
     ensures steps { LooksUpNone begun.what → steps.new ≡ steps.old }
+    ensures searches { (n : ℕ) → HaveAncestors (R.known runtime.old).classes (R.made runtime.old) n → steps.new ≤ steps.old + n }
 {
     begin_what(
         alloc, runtime, task, objects, levels, begun, me, args, steps,
@@ -69,6 +71,7 @@ fn begin_what<R: Runtime, L: Ledger>(
     ensures began { (f : ℕ) → Began (scene (R.linked runtime.old) (R.known runtime.old) (R.program runtime.old) (R.made runtime.old) objects.old task.old f)
         (scene (R.linked runtime.new) (R.known runtime.new) (R.program runtime.new) (R.made runtime.new) objects.new task.new f) begun levels me args.items result }
     ensures steps { LooksUpNone begun.what → steps.new ≡ steps.old }
+    ensures searches { (n : ℕ) → HaveAncestors (R.known runtime.old).classes (R.made runtime.old) n → steps.new ≤ steps.old + n }
 {
     match begun.what {
         What::Code(code) => Ok(begin_code(alloc, &*runtime, levels, begun, code, me, args)),

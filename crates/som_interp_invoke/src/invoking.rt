@@ -4,6 +4,7 @@ ghost use Rattle.som_code.specs.declared.instruction.Instruction.{Instruction};
 ghost use Rattle.som_machine_laws.specs.Counted.{AreWithoutHooks, first_looks};
 ghost use Rattle.som_machine_laws.specs.Direct.{AreDirect};
 ghost use Rattle.som_io.specs.Outside.{Rose};
+ghost use Rattle.som_interp_loop.specs.Counted.{bodies_look};
 ghost use Rattle.som_interp_loop.specs.Scene.{scene};
 ghost use Rattle.som_interp_loop.specs.declared.stop.Stop.TheVariants as stops;
 ghost use Rattle.som_interp_state.specs.Named.{setting};
@@ -14,6 +15,7 @@ ghost use Rattle.som_interp_state.specs.declared.call.Left.{Left as Bodies};
 ghost use Rattle.som_interp_state.specs.declared.frames.Now.TheVariants as nows;
 ghost use Rattle.som_objects.specs.declared.cell.Cell.{Cell as Value};
 ghost use Rattle.som_trace.specs.Filters.{shows_of};
+ghost use Rattle.som_interp_state.specs.Asked.{HaveAncestors};
 ghost use Rattle.std.specs.Prelude.{◌≡◌, ◌≢◌, ◌≤◌, ◌<◌, ◌+◌, ◌^◌, Err, length, List, ℕ};
 
 use crate::begin;
@@ -31,7 +33,8 @@ use std::sync::ledger::Ledger;
 
 /// The next body of a call is invoked: its test is passed, a unit is taken, its line is told where the filter shows it,
 /// and it begins; where no body is left, the call answers. Where no unit is left, all is as it was. A body takes two steps
-/// at most where no class that is made has hooks and the body looks nothing up by its name.
+/// at most where no class that is made has hooks and the body looks nothing up by its name, and else no more than a class
+/// that is made has ancestors besides.
 pub fn invoke<R: Runtime, K: Sink, L: Ledger>(
     alloc: Global,
     runtime: &mut R,
@@ -56,6 +59,9 @@ pub fn invoke<R: Runtime, K: Sink, L: Ledger>(
     ensures steps { (left : Bodies) (cell : Value) (xs : List ℕ) (cs : List (List Instruction)) → task.old.frames.now ≡ nows.Invoking left cell
         → AreDirect (R.linked runtime.old).world (left_shown (setting (R.linked runtime.old) xs cs) left) → AreWithoutHooks (R.linked runtime.old).world (R.made runtime.old)
         → steps.new ≤ steps.old + first_looks (left_shown (setting (R.linked runtime.old) xs cs) left) }
+    ensures searches { (left : Bodies) (cell : Value) (xs : List ℕ) (cs : List (List Instruction)) (n : ℕ) → task.old.frames.now ≡ nows.Invoking left cell
+        → AreWithoutHooks (R.linked runtime.old).world (R.made runtime.old) → HaveAncestors (R.known runtime.old).classes (R.made runtime.old) n
+        → steps.new ≤ steps.old + bodies_look n (left_shown (setting (R.linked runtime.old) xs cs) left) }
 
     ensures later { K.faults out.old ≤ K.faults out.new }
     ensures cause { result ≡ Err stops.SinkFailed → Rose (K.faults out.old) (K.faults out.new) }

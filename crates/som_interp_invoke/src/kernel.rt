@@ -4,7 +4,8 @@ ghost use Rattle.som_interp_invoke.specs.Beginning.{Began, MayBegin};
 ghost use Rattle.som_interp_invoke.specs.Begun.{LooksUpNone};
 ghost use Rattle.som_interp_invoke.specs.declared.begun.What.TheVariants as whats;
 ghost use Rattle.som_interp_loop.specs.Scene.{scene};
-ghost use Rattle.std.specs.Prelude.{◌≡◌, ◌+◌, ◌<◌, ◌^◌, ℕ, length};
+ghost use Rattle.som_interp_state.specs.Asked.{HaveAncestors};
+ghost use Rattle.std.specs.Prelude.{◌≡◌, ◌+◌, ◌<◌, ◌^◌, ◌≤◌, ℕ, length};
 
 use crate::Begun;
 use crate::asking::begin_asking;
@@ -43,6 +44,7 @@ pub(crate) fn begin_kernel<R: Runtime, L: Ledger>(
     ensures began { (f : ℕ) → Began (scene (R.linked runtime.old) (R.known runtime.old) (R.program runtime.old) (R.made runtime.old) objects.old task.old f)
         (scene (R.linked runtime.new) (R.known runtime.new) (R.program runtime.new) (R.made runtime.new) objects.new task.new f) begun levels me args.now result }
     ensures steps { LooksUpNone begun.what → steps.new ≡ steps.old }
+    ensures searches { (n : ℕ) → HaveAncestors (R.known runtime.old).classes (R.made runtime.old) n → steps.new ≤ steps.old + n }
 {
     match kind {
         KernelBody::Idle => Ok(begin_nothing(begun)),

@@ -7,3 +7,5 @@ pub mod Going
 pub mod Lowering
 pub mod Granting
 pub mod Counting
+pub mod Looking
+pub mod Bodied

@@ -5,3 +5,4 @@ pub mod Standing
 pub mod Stepped
 pub mod Counted
 pub mod Ran
+pub mod Burst

@@ -1,10 +1,12 @@
 //! The trait of a task that goes on step by step.
 
+ghost use Rattle.som_interp_loop.specs.Burst.{Lowers, underway};
 ghost use Rattle.som_interp_loop.specs.Counted.{Counted};
+ghost use Rattle.som_interp_loop.specs.Ran.{RanOn};
 ghost use Rattle.som_interp_loop.specs.Standing.{IsSomewhere};
 ghost use Rattle.som_interp_loop.specs.Stepped.{Counts, StaysCalm, Stepped};
 ghost use Rattle.som_interp_loop.specs.Scene.{Scene};
-ghost use Rattle.std.specs.Prelude.{◌≡◌, ℕ, Bool, List, Option};
+ghost use Rattle.std.specs.Prelude.{◌≡◌, ℕ, Bool, List, OnOk, Option};
 
 use crate::Stop;
 
@@ -37,6 +39,19 @@ pub trait Moves {
     /// The units that are left.
     fn fuel(&self) -> u32
         ensures { result ≡ (scene self.now).fuel };
+
+    /// Steps of the body that runs, if one does, as long as they make no call and have a unit where they take one. It may
+    /// be none.
+    fn burst(&mut self) -> Result<(), Stop>
+        requires { IsSomewhere (scene self.old) }
+        ensures ran { RanOn (shows self.old) (prefix self.old) (written self.old) (written self.new) (counted self.old) (counted self.new) (scene self.old) (scene self.new) (underway result) }
+        ensures somewhere { OnOk result (IsSomewhere (scene self.new)) }
+        ensures lowers { OnOk result (Lowers (scene self.old) (scene self.new)) }
+        ensures shows { shows self.new ≡ shows self.old }
+        ensures prefix { prefix self.new ≡ prefix self.old }
+        ensures lent { lent self.new ≡ lent self.old }
+        ensures counts { Counts (faults self.old) (faults self.new) (underway result) }
+        ensures calms { StaysCalm (calm self.old) (calm self.new) (faults self.old) (faults self.new) (underway result) };
 
     /// One step: it goes on, or, answering false, main is over. Where no unit is left for it, all is as it was.
     fn step(&mut self) -> Result<bool, Stop>

@@ -1,5 +1,6 @@
 //! The loop of the interpreter: steps until main is over or the task stops.
 
+ghost use Rattle.som_interp_loop.specs.Burst.{GoesLower};
 ghost use Rattle.som_interp_loop.specs.Ran.{RanOn, ended};
 ghost use Rattle.som_interp_loop.specs.Standing.{IsSomewhere};
 ghost use Rattle.som_interp_loop.specs.Stepped.{Counts, StaysCalm};
@@ -37,11 +38,26 @@ fn run_unit<M: Moves>(moves: &mut M) -> Result<bool, Stop>
 {
     let fuel = moves.fuel();
     loop {
-        if !moves.step()? {
+        if !go_on(moves)? {
             return Ok(false);
         }
         if moves.fuel() < fuel {
             return Ok(true);
         }
     }
+}
+
+// Steps of the body that runs, if one does, and then one step, whatever is next.
+fn go_on<M: Moves>(moves: &mut M) -> Result<bool, Stop>
+    requires { IsSomewhere (M.scene moves.old) }
+    ensures ran { RanOn (M.shows moves.old) (M.prefix moves.old) (M.written moves.old) (M.written moves.new) (M.counted moves.old) (M.counted moves.new) (M.scene moves.old) (M.scene moves.new) result }
+    ensures shows { M.shows moves.new ≡ M.shows moves.old }
+    ensures prefix { M.prefix moves.new ≡ M.prefix moves.old }
+    ensures lent { M.lent moves.new ≡ M.lent moves.old }
+    ensures counts { Counts (M.faults moves.old) (M.faults moves.new) result }
+    ensures calms { StaysCalm (M.calm moves.old) (M.calm moves.new) (M.faults moves.old) (M.faults moves.new) result }
+    ensures goes { result ≡ Ok true → GoesLower (M.scene moves.old) (M.scene moves.new) }
+{
+    moves.burst()?;
+    moves.step()
 }

@@ -3,3 +3,4 @@ pub mod Later
 pub mod Objects
 pub mod Classes
 pub mod Stages
+pub mod Asking

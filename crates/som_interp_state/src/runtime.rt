@@ -3,12 +3,13 @@
 ghost use Rattle.som_meta.specs.Numbering.{IsToken};
 ghost use Rattle.som_semantics.specs.Invoked.{class_found};
 ghost use Rattle.som_model.specs.Made.{ComesOf};
-ghost use Rattle.som_model.specs.Owner.{entry_at};
+ghost use Rattle.som_model.specs.Classes.{ancestors};
+ghost use Rattle.som_model.specs.Owner.{entry_at, introduces};
 ghost use Rattle.som_semantics.specs.State.{Long, Str, zeros};
 ghost use Rattle.som_model.specs.declared.key.ClassKey.{ClassKey as Key};
 ghost use Rattle.som_model.specs.declared.key.ClassKey.TheVariants as made_of;
 ghost use Rattle.som_model.specs.declared.syntax.Block.{Block as Main};
-ghost use Rattle.som_interp_state.specs.Asked.{Agree, AreTypes, CanLoad, HaveNumbers, IsAnswer, IsClosed, is_proxy, target_after};
+ghost use Rattle.som_interp_state.specs.Asked.{Agree, AreTypes, CanLoad, HaveNumbers, IsAnswer, IsClosed, asked_for, is_proxy, target_after};
 ghost use Rattle.som_interp_state.specs.Settings.{Linked};
 ghost use Rattle.som_interp_state.specs.Standing.{zero_shown};
 ghost use Rattle.som_values.specs.Shown.{IsKey, IsNumbered, key_of};
@@ -99,12 +100,14 @@ pub trait Runtime: Classes + ClassKeys {
         requires { IsToken (Self.known self.now) method }
         ensures { (Self.world self.now).sig ((linked self.now).method method) ≡ Some result.now };
 
-    /// The token of the method that a name means in a class that is made, or none.
+    /// The token of the method that a name means in a class that is made, or none. Each class that is asked is a counted
+    /// step: the class and its ancestors in order, up to the first that introduces the name.
     fn find<L: Ledger>(&self, class: ClassNo, name: &Text, steps: &mut Steps<L>) -> Option<MToken>
         requires numbered { IsNumbered (Self.keys self.now) class }
         requires made { Self.made self.now (key_of (Self.keys self.now) class) ≡ true }
         ensures some { IfSome result (λ t. IsToken (Self.known self.now) t × ((Self.world self.now).byname (key_of (Self.keys self.now) class) name.now ≡ Some ((linked self.now).method t))) }
-        ensures none { IfNone result ((Self.world self.now).byname (key_of (Self.keys self.now) class) name.now ≡ None) };
+        ensures none { IfNone result ((Self.world self.now).byname (key_of (Self.keys self.now) class) name.now ≡ None) }
+        ensures cost { steps.new ≡ steps.old + asked_for (introduces (Self.known self.now).classes name.now) (ancestors (Self.known self.now).classes (key_of (Self.keys self.now) class)) };
 
     /// The body that answers for a method in a class, by two counted steps.
     fn resolve<L: Ledger>(

@@ -1,20 +1,20 @@
 -- An advance of a task that was just started is a whole run.
-use Rattle.std.proofs.Common.{◌≡◌, ◌≤◌, ◌+◌, ◌*◌, ℕ, Bool, false, List, [], ◌∷◌, ◌++◌, length, drop, Option, if◌then◌else◌, refl, sym, ap, subst, ◌∙◌, arith, append-nil}
+use Rattle.std.proofs.Common.{◌≡◌, ◌+◌, ℕ, Bool, false, List, [], ◌∷◌, ◌++◌, length, drop, Option, if◌then◌else◌, refl, sym, ap, subst, ◌∙◌, arith, append-nil}
 use Rattle.std.specs.List.{concat}
 use Rattle.som_semantics.specs.State.{Event, Heap}
 use Rattle.som_semantics.specs.Runs.{Ran, Goes, Ends, end_of}
-use Rattle.som_semantics.specs.RunText.{call_count, events_lines, run_lines, run_text, with_prefix}
+use Rattle.som_semantics.specs.RunText.{events_lines, run_lines, run_text, with_prefix}
 use Rattle.som_model.specs.declared.program.Fault.{Fault}
 use Rattle.som_trace.specs.declared.running.Running.{Running}
 use Rattle.som_io.specs.Outside.{ShowsAll, ShowsFront}
 use Rattle.som_interp_state.specs.Holding.{Holding}
 use Rattle.som_interp_loop.specs.Moving.{Makes}
 use Rattle.som_interp_loop.specs.Scene.{Scene}
-use Rattle.som_interp_loop.specs.Counted.{StopsShort}
+use Rattle.som_interp_loop.specs.Counted.{CountsWithin, StopsWith}
 use Rattle.som_interp_task.specs.declared.advanced.Advanced.TheVariants as answers
 use Rattle.som_interp_task.specs.declared.outcome.Outcome.TheVariants as outcomes
-use Rattle.som_interp_task.specs.Advance.{Comes, CountsNow, added_text, events_now, goal, last_lines}
-use Rattle.som_interp_task.specs.Run.{CountsRun, RunsSo, text_with}
+use Rattle.som_interp_task.specs.Advance.{Comes, CountsSearches, added_text, events_now, goal, last_lines}
+use Rattle.som_interp_task.specs.Run.{CountsRunSearches, RunsSo, text_with}
 use Rattle.som_interp_task.specs.Stands.{meaning, told_so_far}
 
 -- without a prefix lines are what they are
@@ -44,22 +44,22 @@ module _ (old : Scene) (fuel : ℕ) (granted : old.task.granted ≡ 0) (begun : 
   events_are = ap (λ (es : List Event). drop (length es) (end_of (goal old fuel)).events) none_told ∙ ap (λ (z : Ran (Unit {0})). (end_of z).events) goal_is
 
   -- what is counted of a whole run
-  module _ (premise : Type 0) (shows : List ℕ → Bool) (prefix : List ℕ) (before after : Option (List ℕ)) (b c : ℕ) where
-    counts_all : (premise → c ≤ b + 2 * call_count (events_now old fuel) + 2) → premise → c ≤ b + 2 * call_count (end_of r).events + 2
-    counts_all x p = subst (λ (es : List Event). c ≤ b + 2 * call_count es + 2) events_are (x p)
+  module _ (within : ℕ → Type 0) (shows : List ℕ → Bool) (prefix : List ℕ) (before after : Option (List ℕ)) (b c : ℕ) where
+    counts_all : CountsWithin within b c (events_now old fuel) → CountsWithin within b c (end_of r).events
+    counts_all x = subst (CountsWithin within b c) events_are x
 
-    pub counts_short : StopsShort shows prefix before after (events_now old fuel) (last_lines (goal old fuel)) premise b c → StopsShort shows prefix before after (end_of r).events (last_lines r) premise b c
+    pub counts_short : StopsWith shows prefix before after (events_now old fuel) (last_lines (goal old fuel)) (CountsWithin within b c) → StopsWith shows prefix before after (end_of r).events (last_lines r) (CountsWithin within b c)
     counts_short x =
-        subst (λ (es : List Event). StopsShort shows prefix before after es (last_lines r) premise b c) events_are
-        (subst (λ (z : Ran (Unit {0})). StopsShort shows prefix before after (events_now old fuel) (last_lines z) premise b c) goal_is x)
+        subst (λ (es : List Event). StopsWith shows prefix before after es (last_lines r) (CountsWithin within b c)) events_are
+        (subst (λ (z : Ran (Unit {0})). StopsWith shows prefix before after (events_now old fuel) (last_lines z) (CountsWithin within b c)) goal_is x)
 
-    pub counts_spent : CountsNow premise old fuel shows prefix before after b c answers.Going → CountsRun premise r shows prefix before after b c outcomes.Spent
+    pub counts_spent : CountsSearches within old fuel shows prefix before after b c answers.Going → CountsRunSearches within r shows prefix before after b c outcomes.Spent
     counts_spent x = counts_all x
 
-    pub counts_done : CountsNow premise old fuel shows prefix before after b c answers.Done → CountsRun premise r shows prefix before after b c outcomes.Done
+    pub counts_done : CountsSearches within old fuel shows prefix before after b c answers.Done → CountsRunSearches within r shows prefix before after b c outcomes.Done
     counts_done x = counts_all x
 
-    pub counts_fault : (f : Fault) (at : Running) → CountsNow premise old fuel shows prefix before after b c (answers.SourceFault f at) → CountsRun premise r shows prefix before after b c (outcomes.SourceFault f at)
+    pub counts_fault : (f : Fault) (at : Running) → CountsSearches within old fuel shows prefix before after b c (answers.SourceFault f at) → CountsRunSearches within r shows prefix before after b c (outcomes.SourceFault f at)
     counts_fault f at x = counts_all x
 
   -- what a whole run leaves of its fuel

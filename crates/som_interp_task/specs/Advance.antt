@@ -13,7 +13,7 @@ use Rattle.som_trace.specs.Told.{end_text}
 use Rattle.som_interp_state.specs.Holding.{Holding}
 use Rattle.som_interp_loop.specs.Moving.{Keeps, Makes}
 use Rattle.som_interp_loop.specs.Scene.{Scene}
-use Rattle.som_interp_loop.specs.Counted.{StopsShort}
+use Rattle.som_interp_loop.specs.Counted.{CountsWithin, StopsShort, StopsWith}
 use Rattle.som_interp_loop.specs.Standing.{with_units}
 use Rattle.som_interp_task.specs.declared.advanced.Advanced.{Advanced}
 use Rattle.som_interp_task.specs.declared.advanced.Advanced.TheVariants as answers
@@ -83,6 +83,12 @@ abbrev pub CountsNow : Type 0 → Scene → ℕ → (List ℕ → Bool) → List
 CountsNow premise old units shows prefix before after counted now answers.SinkFailed = StopsShort shows prefix before after (events_now old units) (last_lines (goal old units)) premise counted now
 CountsNow premise old units shows prefix before after counted now answers.NoMemory = StopsShort shows prefix before after (events_now old units) (last_lines (goal old units)) premise counted now
 CountsNow premise old units shows prefix before after counted now _ = premise → now ≤ counted + 2 * call_count (events_now old units) + 2
+
+-- on this premise on n no more steps are counted than may be for the events that come now, where a search asks n classes at most, and for one body and two searches more; where the sink failed or memory was wanting, some of the events came, whose lines were told, and so it is of them alone
+abbrev pub CountsSearches : (ℕ → Type 0) → Scene → ℕ → (List ℕ → Bool) → List ℕ → Option (List ℕ) → Option (List ℕ) → ℕ → ℕ → Advanced → Type 0
+CountsSearches within old units shows prefix before after counted now answers.SinkFailed = StopsWith shows prefix before after (events_now old units) (last_lines (goal old units)) (CountsWithin within counted now)
+CountsSearches within old units shows prefix before after counted now answers.NoMemory = StopsWith shows prefix before after (events_now old units) (last_lines (goal old units)) (CountsWithin within counted now)
+CountsSearches within old units shows prefix before after counted now _ = CountsWithin within counted now (events_now old units)
 
 -- the line of a fault is told, and its place is named; or a front of it, where memory was wanting or the sink failed
 abbrev pub EndsBy : List ℕ → Option (List ℕ) → Option (List ℕ) → Fault → state.Place → Advanced → Type 0

@@ -11,7 +11,7 @@ use Rattle.som_trace.specs.Places.{running_in}
 use Rattle.som_interp_state.specs.Holding.{Holding}
 use Rattle.som_interp_loop.specs.Moving.{Keeps, Makes}
 use Rattle.som_interp_loop.specs.Scene.{Scene}
-use Rattle.som_interp_loop.specs.Counted.{StopsShort}
+use Rattle.som_interp_loop.specs.Counted.{CountsWithin, StopsShort, StopsWith}
 use Rattle.som_interp_task.specs.declared.outcome.Outcome.{Outcome}
 use Rattle.som_interp_task.specs.declared.outcome.Outcome.TheVariants as outcomes
 use Rattle.som_interp_task.specs.Advance.{last_lines, with_granted}
@@ -57,6 +57,12 @@ abbrev pub CountsRun : Type 0 → Ran (Unit {0}) → (List ℕ → Bool) → Lis
 CountsRun premise r shows prefix before after counted now outcomes.SinkFailed = StopsShort shows prefix before after (end_of r).events (last_lines r) premise counted now
 CountsRun premise r shows prefix before after counted now outcomes.NoMemory = StopsShort shows prefix before after (end_of r).events (last_lines r) premise counted now
 CountsRun premise r shows prefix before after counted now _ = premise → now ≤ counted + 2 * call_count (end_of r).events + 2
+
+-- on this premise on n no more steps are counted than may be for the events of a run, where a search asks n classes at most, and for one body and two searches more; where the sink failed or memory was wanting, some of the events came, whose lines were told, and so it is of them alone
+abbrev pub CountsRunSearches : (ℕ → Type 0) → Ran (Unit {0}) → (List ℕ → Bool) → List ℕ → Option (List ℕ) → Option (List ℕ) → ℕ → ℕ → Outcome → Type 0
+CountsRunSearches within r shows prefix before after counted now outcomes.SinkFailed = StopsWith shows prefix before after (end_of r).events (last_lines r) (CountsWithin within counted now)
+CountsRunSearches within r shows prefix before after counted now outcomes.NoMemory = StopsWith shows prefix before after (end_of r).events (last_lines r) (CountsWithin within counted now)
+CountsRunSearches within r shows prefix before after counted now _ = CountsWithin within counted now (end_of r).events
 
 -- the count of the sink's faults never falls, and rose where it failed
 pub record Counts (before now : ℕ) (outcome : Outcome) : Type 0 where

@@ -1,8 +1,8 @@
 //! A task advanced by more units of fuel.
 
-ghost use Rattle.som_interp_task.specs.Advance.{Comes, Counts, CountsNow, EndsBy, LeavesFuel, StaysCalm, with_granted};
+ghost use Rattle.som_interp_task.specs.Advance.{Comes, Counts, CountsSearches, EndsBy, LeavesFuel, StaysCalm, with_granted};
 ghost use Rattle.som_interp_task.specs.Stands.{Stands};
-ghost use Rattle.som_interp_loop.specs.Counted.{IsDirectScene};
+ghost use Rattle.som_interp_loop.specs.Counted.{IsBoundedScene};
 ghost use Rattle.som_interp_loop.specs.Ran.{RanOn, ended};
 ghost use Rattle.som_interp_loop.specs.Stepped.{Counts as StopCounts, StaysCalm as StopsCalm};
 ghost use Rattle.som_interp_loop.specs.Scene.{setting_of};
@@ -17,15 +17,15 @@ use som_trace::{Place, Untold};
 
 /// Grants units to a task that stands, and goes on until main is over, it has a fault, or no unit is left. What it comes
 /// to is what main means with the units granted before and these. Where main is over, the units are left that the meaning
-/// leaves. Where nothing searches for a name and no class that is made has hooks, two steps are counted for each call
-/// event that comes now, and two more; after SinkFailed and NoMemory for a front of these events alone, whose lines were told.
+/// leaves. Where no class that is made has hooks, no more steps are counted than the call events that come now account for,
+/// and one body and two searches; after SinkFailed and NoMemory a front of these events alone, whose lines were told.
 pub fn advance<M: Advances>(moves: &mut M, units: u32) -> Advanced
     requires stands { Stands (M.scene moves.old) }
     requires units { (M.scene moves.old).task.granted + units < 2 ^ 32 }
     ensures comes { Comes (M.scene moves.old) units (M.shows moves.old) (M.prefix moves.old) (M.written moves.old) (M.written moves.new) (M.scene moves.new) result }
     ensures left { LeavesFuel (M.scene moves.old) units (M.scene moves.new).fuel result }
     ensures lent { M.lent moves.new ≡ M.lent moves.old }
-    ensures counted { CountsNow (IsDirectScene (M.scene moves.new)) (M.scene moves.old) units (M.shows moves.old) (M.prefix moves.old) (M.written moves.old) (M.written moves.new) (M.counted moves.old) (M.counted moves.new) result }
+    ensures counted { CountsSearches (IsBoundedScene (M.scene moves.new)) (M.scene moves.old) units (M.shows moves.old) (M.prefix moves.old) (M.written moves.old) (M.written moves.new) (M.counted moves.old) (M.counted moves.new) result }
     ensures counts { Counts (M.faults moves.old) (M.faults moves.new) result }
     ensures calms { StaysCalm (M.calm moves.old) (M.calm moves.new) (M.faults moves.old) (M.faults moves.new) result }
 {

@@ -1,7 +1,7 @@
 //! A task run with all of its fuel at once.
 
-ghost use Rattle.som_interp_loop.specs.Counted.{IsDirectScene};
-ghost use Rattle.som_interp_task.specs.Run.{Counts, CountsRun, LeavesFuel, RunsSo, StaysCalm};
+ghost use Rattle.som_interp_loop.specs.Counted.{IsBoundedScene};
+ghost use Rattle.som_interp_task.specs.Run.{Counts, CountsRunSearches, LeavesFuel, RunsSo, StaysCalm};
 ghost use Rattle.som_interp_task.specs.Stands.{Stands, meaning};
 ghost use Rattle.std.specs.Prelude.{◌≡◌, false};
 
@@ -16,7 +16,7 @@ pub fn run<M: Advances>(moves: &mut M, fuel: u32) -> Outcome
     ensures runs { RunsSo (M.scene moves.old) fuel (M.shows moves.old) (M.prefix moves.old) (M.written moves.old) (M.written moves.new) (M.scene moves.new) result }
     ensures left { LeavesFuel (meaning (M.scene moves.old) fuel) (M.scene moves.new).fuel result }
     ensures lent { M.lent moves.new ≡ M.lent moves.old }
-    ensures counted { CountsRun (IsDirectScene (M.scene moves.new)) (meaning (M.scene moves.old) fuel) (M.shows moves.old) (M.prefix moves.old) (M.written moves.old) (M.written moves.new) (M.counted moves.old) (M.counted moves.new) result }
+    ensures counted { CountsRunSearches (IsBoundedScene (M.scene moves.new)) (meaning (M.scene moves.old) fuel) (M.shows moves.old) (M.prefix moves.old) (M.written moves.old) (M.written moves.new) (M.counted moves.old) (M.counted moves.new) result }
     ensures counts { Counts (M.faults moves.old) (M.faults moves.new) result }
     ensures calms { StaysCalm (M.calm moves.old) (M.calm moves.new) (M.faults moves.old) (M.faults moves.new) result }
 {

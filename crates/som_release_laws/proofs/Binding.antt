@@ -27,7 +27,7 @@ use Rattle.som_model_laws.proofs.Lists.{doubles_apart, find_at, map_mem, mem_map
 use Rattle.som_model_laws.proofs.Owners.{entry_class}
 use Rattle.som_model_laws.proofs.Standing.{found, found_is, kernel_key, named_one}
 use Rattle.som_release_laws.specs.Refining.{AreKnown}
-use Rattle.som_release_laws.specs.Releasing.{IsCompiled, IsReleased, OwnersAreKept}
+use Rattle.som_release_laws.specs.Releasing.{AreLoadable, IsCompiled, OwnersAreKept}
 use Rattle.som_release_laws.proofs.Exchange.{kinds, new_ordered, pair}
 use Rattle.som_release_laws.proofs.FaceNames.{known_facts}
 use Rattle.som_release_laws.proofs.Loading.{decl_known, face_known, main_known, main_typed, typed}
@@ -60,7 +60,7 @@ is_there : (o : Option Class) → is_some o ≡ true → (c : Class) × (o ≡ S
 is_there None e = absurd (true≢false (sym e))
 is_there (Some c) e = (c, refl)
 
-module _ (p : ClientProgram) (r : Release) (compiled : IsCompiled (interface_classes p.base) (client_classes p) p.main) (released : IsReleased (library_classes r)) (keep : ClassesKeep (interface_classes p.base) (library_classes r)) (kept : OwnersAreKept (interface_classes p.base) (library_classes r)) where
+module _ (p : ClientProgram) (r : Release) (compiled : IsCompiled (interface_classes p.base) (client_classes p) p.main) (loadable : AreLoadable (library_classes r)) (keep : ClassesKeep (interface_classes p.base) (library_classes r)) (kept : OwnersAreKept (interface_classes p.base) (library_classes r)) where
   abbrev olds : List Class
   olds = interface_classes p.base
 
@@ -80,17 +80,17 @@ module _ (p : ClientProgram) (r : Release) (compiled : IsCompiled (interface_cla
   oa = compiled.faces.ordered
 
   abbrev on : IsOrdered news
-  on = released.faces.ordered
+  on = loadable.faces.ordered
 
   all_known : AreKnown (class_facts A) (program_names p)
   all_known =
       let w = class_facts A in
       both_named w (flat_map face_names p.base.classes) (flat_map decl_names p.classes ++ block_names p.main)
       (flat_named w face_names p.base.classes (λ f m.
-      face_known olds news own p.main compiled released keep kept (modules_apart r p) (class_in modules.Library (bare f)) (mem_left (class_in modules.Library (bare f)) olds own (mem_map (λ (f : ClassFace). class_in modules.Library (bare f)) f p.base.classes m))))
+      face_known olds news own p.main compiled loadable keep kept (modules_apart r p) (class_in modules.Library (bare f)) (mem_left (class_in modules.Library (bare f)) olds own (mem_map (λ (f : ClassFace). class_in modules.Library (bare f)) f p.base.classes m))))
       (both_named w (flat_map decl_names p.classes) (block_names p.main)
-      (flat_named w decl_names p.classes (λ d m. decl_known olds news own p.main compiled released keep kept (modules_apart r p) (class_in modules.Client d) (mem_map (class_in modules.Client) d p.classes m)))
-      (main_known olds news own p.main compiled released keep kept (modules_apart r p)))
+      (flat_named w decl_names p.classes (λ d m. decl_known olds news own p.main compiled loadable keep kept (modules_apart r p) (class_in modules.Client d) (mem_map (class_in modules.Client) d p.classes m)))
+      (main_known olds news own p.main compiled loadable keep kept (modules_apart r p)))
 
   -- a library class that is named is in the release
   bound : (name : List ℕ) → Mem (AClass (keys.Named modules.Library name)) (program_names p) → IsSome (class_at news (keys.Named modules.Library name))
@@ -133,6 +133,6 @@ module _ (p : ClientProgram) (r : Release) (compiled : IsCompiled (interface_cla
   binds = record {
     known = bound;
     slots = slotted;
-    typed = λ c m. typed olds news own p.main compiled released keep kept (modules_apart r p) c (mem_right c news own m);
-    main_typed = main_typed olds news own p.main compiled released keep kept (modules_apart r p);
+    typed = λ c m. typed olds news own p.main compiled loadable keep kept (modules_apart r p) c (mem_right c news own m);
+    main_typed = main_typed olds news own p.main compiled loadable keep kept (modules_apart r p);
   }

@@ -13,15 +13,15 @@ use Rattle.som_model.specs.Conforming.{ProgramOk, ReleaseOk}
 use Rattle.som_model.specs.Counts.{ClassCounted, block_counted}
 use Rattle.som_model.specs.Loads.{Loads}
 use Rattle.som_model_laws.specs.Keeping.{ClassesKeep}
-use Rattle.som_release_laws.specs.Releasing.{HaveParents, IsCompiled, IsReleased, OwnersAreKept}
+use Rattle.som_release_laws.specs.Releasing.{AreLoadable, HaveOtherKeys, HaveParents, IsCompiled, OwnersAreKept}
 use Rattle.som_release_laws.proofs.Accepting.{release_keeps, release_ordered, to_last}
 use Rattle.som_release_laws.proofs.Binding.{binds, modules_apart}
 use Rattle.som_release_laws.proofs.KeptOwners.{once_kept}
-use Rattle.som_release_laws.proofs.Loading.{bodies, faces, inherited, main_typed, typed}
+use Rattle.som_release_laws.proofs.Loading.{bodies, faces, inherited, main_typed, released_loadable, typed}
 use Rattle.som_release_laws.proofs.Prefix.{ordered}
 use Rattle.som_release_laws.proofs.Ruled.{compiled, released, released_once}
 
-pub loaded : (olds news own : List Class) (main : Block) → IsCompiled olds own main → IsReleased news → ClassesKeep olds news → OwnersAreKept olds news → ((c d : Class) → Mem c news → Mem d own → c.key ≡ d.key → ⊥)
+pub loaded : (olds news own : List Class) (main : Block) → IsCompiled olds own main → AreLoadable news → ClassesKeep olds news → OwnersAreKept olds news → HaveOtherKeys news own
     → length (news ++ own) ≤ MAX_LAID_CLASSES → ((c : Class) → Mem c (news ++ own) → ClassCounted c.decl) → block_counted main ≡ true → Loads (news ++ own) main
 loaded olds news own main c r keep kept apart few counted main_counted = record {
   few = few;
@@ -41,7 +41,7 @@ Kept p r = Binds p r × (length (library_classes r ++ client_classes p) ≤ MAX_
 pub client_kept : (p : ClientProgram) (r : Release) → ProgramOk p → ReleaseOk r → HaveParents (interface_classes p.base ++ client_classes p) → HaveParents (library_classes r) → Compatible p.base (interface_of r) → Kept p r
 client_kept p r ok r_ok have have_r e =
     let c = compiled p ok have in
-    let d = released r r_ok have_r in
+    let d = released_loadable (library_classes r) (released r r_ok have_r) in
     let keep = release_keeps p.base r (ordered (interface_classes p.base) (client_classes p) c.faces.ordered) (release_ordered r r_ok) e in
     let kept = once_kept (interface_classes p.base) (library_classes r) (client_classes p) c.faces d.faces keep (modules_apart r p) (released_once r r_ok) in
     (binds p r c d keep kept, loaded (interface_classes p.base) (library_classes r) (client_classes p) p.main c d keep kept (modules_apart r p))

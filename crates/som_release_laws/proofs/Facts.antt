@@ -103,3 +103,23 @@ module _ (olds news : List Class) (fa : FacesLoad olds) (fb : FacesLoad news) (g
       referred = signature_class;
       proper = λ r s c e p. proper_still r c (signature_some r s e) p;
     }
+
+  module _ (object : (k : ClassKey) (c : Class) → class_at A k ≡ Some c → Descends (hierarchy B) (meta B k) (meta A k)) where
+    running_known : (k : ClassKey) → is_some (class_at A k) ≡ true → is_a B (meta B k) (meta A k) ≡ true
+    running_known k e = by (class_at A k) refl e
+      where
+        by : (q : Option Class) → class_at A k ≡ q → is_some q ≡ true → is_a B (meta B k) (meta A k) ≡ true
+        by None f s = absurd (true≢false (sym s))
+        by (Some c) f s = tests news fb.ordered (meta B k) (meta A k) (object k c f)
+
+    pub running_refines : Refines (running_facts A) (running_facts B)
+    unfolding running_facts
+    running_refines = record {
+      known = known_grows olds news fa.ordered fb.ordered grows;
+      is_a = is_a_grows olds news fa.ordered fb.ordered grows;
+      through = through_new;
+      object = running_known;
+      signature = λ r s e. grows.signatures r.class r.name s e;
+      referred = signature_class;
+      proper = λ r s c e p. proper_still r c (signature_some r s e) p;
+    }

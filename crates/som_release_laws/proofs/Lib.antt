@@ -3,6 +3,7 @@ pub mod Lists
 pub mod Prefix
 pub mod Exchange
 pub mod Facing
+pub mod SameMetaclasses
 pub mod Together
 pub mod TypesBelow
 pub mod Expressions
@@ -21,3 +22,4 @@ pub mod FacesAlone
 pub mod Comparing
 pub mod Accepting
 pub mod Clients
+pub mod Along

@@ -79,14 +79,6 @@ module _ (cs : List Class) (o : IsOrdered cs) where
   pub object_here : HaveParents cs → (k : ClassKey) (c : Class) → class_at (kernel ++ cs) k ≡ Some c → Descends (hierarchy (kernel ++ cs)) (meta (kernel ++ cs) k) (object_of (Some c))
   object_here have k c e = let l = on_kernel cs o have k c e in object_descends k c (low_on l.0 k l.1 l.2) (λ m is. own_declared k c m e is)
 
--- classes before others
-module _ (xs ys : List Class) (ol : IsOrdered (xs ++ ys)) (os : IsOrdered xs) (have : HaveParents xs) where
-  pub prefix_object : (k : ClassKey) (c : Class) → class_at (kernel ++ xs) k ≡ Some c → class_at (kernel ++ (xs ++ ys)) k ≡ Some c
-      → Descends (hierarchy (kernel ++ (xs ++ ys))) (meta (kernel ++ (xs ++ ys)) k) (object_of (Some c))
-  prefix_object k c e f =
-      let l = on_kernel xs os have k c e in
-      object_descends (xs ++ ys) ol k c (low_on (xs ++ ys) ol l.0 k l.1 (descends_more xs ys ol k l.0.key l.2)) (λ m is. own_declared (xs ++ ys) ol k c m f is)
-
 -- a release that is exchanged
 module _ (olds news own : List Class) (oa : IsOrdered (olds ++ own)) (on : IsOrdered news) (keep : ClassesKeep olds news)
     (apart : (c d : Class) → Mem c news → Mem d own → c.key ≡ d.key → ⊥) (have : HaveParents (olds ++ own)) where

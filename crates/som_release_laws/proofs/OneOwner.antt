@@ -29,6 +29,10 @@ ref_one a b e f =
 pub owner_again : (cs : List Class) → IsOrdered cs → (s : MethodRef) → introduces (kernel ++ cs) s.name s.class ≡ true → owner (kernel ++ cs) s ≡ s
 owner_again cs o s i = let e = introduced_entry (kernel ++ cs) s.name s.class i in owner_stays cs o s.class s.name (ap moved_to e.1 ∙ e.2)
 
+-- the owner of an entry owns itself
+pub owner_itself : (cs : List Class) → FacesLoad cs → (r : MethodRef) → IsSome (entry_at (kernel ++ cs) r.class r.name) → owner (kernel ++ cs) r ≡ owner (kernel ++ cs) (owner (kernel ++ cs) r)
+owner_itself cs f r some = sym (owner_again cs f.ordered (owner (kernel ++ cs) r) (owner_owns cs f r some).introduced)
+
 -- classes before others
 module _ (xs ys : List Class) (fl : FacesLoad (xs ++ ys)) (fs : FacesLoad xs) where
   pub prefix_owner : (r : MethodRef) → IsSome (entry_at (kernel ++ xs) r.class r.name) → owner (kernel ++ (xs ++ ys)) r ≡ owner (kernel ++ (xs ++ ys)) (owner (kernel ++ xs) r)

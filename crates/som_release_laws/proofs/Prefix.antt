@@ -83,7 +83,7 @@ module _ (xs ys : List Class) (o : IsOrdered (xs ++ ys)) where
   pub entry_same : (k : ClassKey) (name : List ℕ) (c : Class) → class_at S k ≡ Some c → entry_at L k name ≡ entry_at S k name
   entry_same k name c e = entry_is L k name c (known_more k c e) ∙ sym (entry_is S k name c e)
 
-  height_same : (k : ClassKey) (c : Class) → class_at S k ≡ Some c → (hierarchy L).height k ≡ (hierarchy S).height k
+  pub height_same : (k : ClassKey) (c : Class) → class_at S k ≡ Some c → (hierarchy L).height k ≡ (hierarchy S).height k
   height_same k c e =
       let i = place xs ordered k c e in
       let key = (found_is xs ordered k c e).1 in

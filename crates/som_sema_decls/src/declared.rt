@@ -1,6 +1,6 @@
 //! Class declarations from drafts, where each moved or overridden method gets the class that introduces it.
 
-ghost use Rattle.som_model.specs.Class.{Class, entry_of, introduced};
+ghost use Rattle.som_model.specs.Class.{Class, introduced};
 ghost use Rattle.som_model.specs.EffectiveOrder as orders;
 ghost use Rattle.som_model.specs.Kernel.{kernel_interface};
 ghost use Rattle.som_order.specs.Names.{texts};
@@ -15,8 +15,8 @@ ghost use Rattle.som_sema_drafts.specs.Items.{listed as listed_names};
 ghost use Rattle.som_sema_names.specs.Introducers as names_first;
 ghost use Rattle.som_sema_names.specs.Introducers.{AreIntroducers};
 ghost use Rattle.som_sema_names.specs.Ranking.{IsRanking};
-ghost use Rattle.som_sema_names.specs.Noted.{IsKnown, all_at, counted};
-ghost use Rattle.std.specs.Prelude.{◌≡◌, ◌<◌, ◌+◌, ℕ, [], List as Seq, length, map, slice_get, slice_index_or, option_copied, unwrap_or, IfOk};
+ghost use Rattle.som_sema_names.specs.Noted.{IsKnown, counted};
+ghost use Rattle.std.specs.Prelude.{◌≡◌, ◌<◌, ◌+◌, ℕ, [], List as Seq, length, map, slice_index_or, option_copied, unwrap_or, IfOk};
 
 use crate::faces::{key_at, ranking_above};
 use som_ast::Item;
@@ -24,11 +24,10 @@ use som_model::{
     Block, ClassDecl, ClassFace, ClassKey, Entry, List, MethodRef, NoMemory, Override, Text,
     Variable,
 };
-use som_order::{effective_order, name_of};
+use som_order::effective_order;
 use som_sema_drafts::{Draft, listed, marks, overridden};
 use som_sema_names::{
-    Introducers, Noted, Places, Ranking, first_introducer, first_place, introducers_of, note,
-    place_table,
+    Introducers, Places, Ranking, entry_named, entry_places, first_introducer, introducers_of,
 };
 use som_verify_classes::Declared;
 use std::alloc::Global;
@@ -207,7 +206,7 @@ fn entries(
 {
     let own = draft.decl.face.entries.as_slice();
     let order = order_of(alloc, draft.text.items.as_slice(), own)?;
-    let own_places = own_places(alloc, own)?;
+    let own_places = entry_places(alloc, own)?;
     entries_in_order(
         alloc,
         kernel,
@@ -243,7 +242,7 @@ fn entries_in_order(
 {
     let mut all = List::new(alloc);
     for name in order {
-        let found = entry_at(own, own_places, name.as_slice());
+        let found = entry_named(own, own_places, name.as_slice());
         all.push(found_entry(alloc, kernel, classes, lists, above, found, name, place)?)?;
     }
     Ok(all)
@@ -307,41 +306,6 @@ fn introduced_names(alloc: Global, entries: &[Entry]) -> Result<List<Text>, NoMe
         }
     }
     Ok(names)
-}
-
-// The first place of each entry's name.
-fn own_places<'a>(alloc: Global, entries: &'a [Entry]) -> Result<Places<'a>, NoMemory>
-    ensures { IfOk result (IsKnown (counted 0 entries.now)) }
-{
-    let numbered = numbered(alloc, entries)?;
-    place_table(alloc, &numbered)
-}
-
-// The names of entries with their places.
-fn numbered<'a>(alloc: Global, entries: &'a [Entry]) -> Result<Vec<Noted<'a>>, NoMemory>
-    ensures { IfOk result (λ all. all_at all.items ≡ counted 0 entries.now) }
-{
-    let mut all = Vec::new(alloc);
-    for place in 0..entries.len() {
-        note(&mut all, name_of(&entries[place]).as_slice(), place)?;
-    }
-    Ok(all)
-}
-
-fn entry_at<'a>(entries: &'a [Entry], places: &Places, name: &[u8]) -> Option<&'a Entry>
-    requires { IsKnown (counted 0 entries.now) places.now }
-    ensures { option_copied result ≡ entry_of entries.now name.now }
-{
-    match first_place(places, name) {
-        None => None,
-        Some(place) => entry_in(entries, place),
-    }
-}
-
-fn entry_in(entries: &[Entry], place: usize) -> Option<&Entry>
-    ensures { option_copied result ≡ slice_get entries.now place }
-{
-    entries.get(place)
 }
 
 /// The class of the first ancestor that introduces a name, and the class itself where none does.

@@ -1,3 +1,4 @@
 pub mod Seen
 pub mod Ranked
 pub mod Noting
+pub mod Marks

@@ -1,3 +1,4 @@
 pub mod Introducers
 pub mod Ranking
 pub mod Noted
+pub mod Searching

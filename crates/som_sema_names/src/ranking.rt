@@ -89,7 +89,8 @@ fn place_at(list: &[usize], rank: usize) -> Option<usize>
     list.get(rank).copied()
 }
 
-fn places_at(places: &[List<usize>], index: usize) -> &[usize]
+/// The places that stand at an index.
+pub fn places_at(places: &[List<usize>], index: usize) -> &[usize]
     requires { index < length places.now }
     ensures { result.now ≡ slice_index_or places.now index [] }
 {

@@ -1,11 +1,16 @@
 -- What is known of classes, by their places.
-use Rattle.std.proofs.Common.{◌≡◌, ℕ, zero, suc, ◌<◌, ◌≤◌, ◌-◌, true, false, List, [], ◌∷◌, length, slice_index_or, option_copied, IfSome, Bor, arith, Option, Some, None, is_some, refl, sym, ap, ◌∙◌}
+use Rattle.std.proofs.Common.{◌≡◌, ℕ, zero, suc, ◌<◌, ◌≤◌, ◌-◌, true, false, List, [], ◌∷◌, length, flat_map, slice_index_or, option_copied, IfSome, Bor, arith, Option, Some, None, is_some, refl, sym, ap, ◌∙◌}
 use Rattle.som_model.specs.declared.key.ClassKey.{ClassKey}
 use Rattle.som_model.specs.declared.key.MethodRef.{MethodRef}
 use Rattle.som_model.specs.declared.class.Sig.{Sig}
+use Rattle.som_model.specs.declared.class.Way.{Way}
+use Rattle.som_model.specs.declared.class.Entry.{Entry}
+use Rattle.som_model.specs.declared.class.Entry.TheVariants as entries
 use Rattle.som_model.specs.Class.{Class, entry_of, introduced_sig}
 use Rattle.som_model.specs.Classes.{class_at}
-use Rattle.som_model.specs.Owner.{entry_at}
+use Rattle.som_model.specs.Lists.{first}
+use Rattle.som_model.specs.Owner.{entry_at, sig_of}
+use Rattle.som_model.specs.Rules.{s9}
 use Rattle.som_model.specs.Typing.{class_facts}
 use Rattle.som_verify_classes.specs.declared.types.Declared.{Declared}
 use Rattle.som_verify_forms.specs.Knowing.{NamesKnown, sig_is_known}
@@ -16,7 +21,8 @@ use Rattle.som_verify_classes.proofs.DeclaredClasses.{long_map}
 use Rattle.som_verify_classes.proofs.Descending.{is_a_none}
 use Rattle.som_verify_forms.proofs.Facts.{descent_said, owner_said, signature_said}
 use Rattle.som_verify_classes.proofs.Finding.{known_at_all}
-use Rattle.som_verify_classes.proofs.Owners.{entry_there, entry_unknown}
+use Rattle.som_verify_classes.specs.Inherited.{moved_to}
+use Rattle.som_verify_classes.proofs.Owners.{entry_there, entry_unknown, owner_here, owner_moved, owner_unknown}
 
 -- no class descends from one that isn't known
 pub descends_from_none : (cs : List Class) (all : List (List ℕ)) (x : ℕ) (k : ClassKey) → AreLists cs all → x < length cs → Finds (length cs) cs k None → false ≡ (class_facts cs).is_a (key_at cs x) k
@@ -63,3 +69,39 @@ decl_there ds p d le lt =
     past [] i d lt = absurd (omega arith)
     past (x ∷ ds) zero d lt = refl
     past (x ∷ ds) (suc i) d lt = past ds i d (omega arith)
+
+module _ (cs : List Class) (names : List (List ℕ)) (t : IsTable cs names) (r : MethodRef) where
+  -- a method of a class that isn't known has no signature
+  pub signed_nowhere : Finds (length (with_kernel cs)) (with_kernel cs) r.class None → None ≡ (class_facts (with_kernel cs)).signature r
+  signed_nowhere f = no_signature cs names t r r (sym (owner_said (with_kernel cs) r ∙ owner_unknown (with_kernel cs) r (length (with_kernel cs)) refl f)) f
+
+  -- the signature of an entry that wasn't moved
+  pub signed_here : (p : ℕ) → p < length (with_kernel cs) → key_at (with_kernel cs) p ≡ r.class → moved_to (entry_of (face_at (with_kernel cs) p).entries r.name) ≡ None
+      → introduced_sig (entry_of (face_at (with_kernel cs) p).entries r.name) ≡ (class_facts (with_kernel cs)).signature r
+  signed_here p lt is e = signature_there cs names t r r (sym (owner_said (with_kernel cs) r ∙ owner_here cs names t p r lt is e)) p lt is
+
+  -- the signature of a moved entry is that which the class introduces to which it was moved
+  pub signed_above : first (flat_map (s9 (with_kernel cs)) cs) ≡ None → (p : ℕ) (to : ClassKey) → p < length (with_kernel cs) → key_at (with_kernel cs) p ≡ r.class
+      → moved_to (entry_of (face_at (with_kernel cs) p).entries r.name) ≡ Some to → sig_of (with_kernel cs) (record { class = to; name = r.name }) ≡ (class_facts (with_kernel cs)).signature r
+  signed_above holds p to lt is e = sym (signature_said (with_kernel cs) r ∙ ap (sig_of (with_kernel cs)) (owner_moved cs names t holds p r to lt is e))
+
+module _ (cs : List Class) (names : List (List ℕ)) (t : IsTable cs names) (r : MethodRef) (p : ℕ) (lt : p < length (with_kernel cs)) (is : key_at (with_kernel cs) p ≡ r.class) where
+  pub signed_none : entry_of (face_at (with_kernel cs) p).entries r.name ≡ None → None ≡ (class_facts (with_kernel cs)).signature r
+  signed_none q = ap introduced_sig (sym q) ∙ signed_here cs names t r p lt is (ap moved_to q)
+
+  pub signed_introduced : (x : Entry) (n : List ℕ) (sig : Sig) (way : Way) → entry_of (face_at (with_kernel cs) p).entries r.name ≡ Some x → x ≡ entries.Introduced n sig way → Some sig ≡ (class_facts (with_kernel cs)).signature r
+  signed_introduced x n sig way q e =
+      let there : entry_of (face_at (with_kernel cs) p).entries r.name ≡ Some (entries.Introduced n sig way) = q ∙ ap (λ z. Some z) e in
+      ap introduced_sig (sym there) ∙ signed_here cs names t r p lt is (ap moved_to there)
+
+  pub signed_moved : first (flat_map (s9 (with_kernel cs)) cs) ≡ None → (x : Entry) (n : List ℕ) (to : ClassKey) → entry_of (face_at (with_kernel cs) p).entries r.name ≡ Some x → x ≡ entries.Moved n to
+      → sig_of (with_kernel cs) (record { class = to; name = r.name }) ≡ (class_facts (with_kernel cs)).signature r
+  signed_moved holds x n to q e = signed_above cs names t r holds p to lt is (ap moved_to (q ∙ ap (λ z. Some z) e))
+
+-- the signature that a class introduces, by its key
+pub sig_there : (cs : List Class) (names : List (List ℕ)) → IsTable cs names → (k : ClassKey) (name : List ℕ) (p : ℕ) → p < length (with_kernel cs) → key_at (with_kernel cs) p ≡ k
+    → introduced_sig (entry_of (face_at (with_kernel cs) p).entries name) ≡ sig_of (with_kernel cs) (record { class = k; name = name })
+sig_there cs names t k name p lt is = ap introduced_sig (sym (entry_there cs names t p name lt) ∙ ap (λ z. entry_at (with_kernel cs) z name) is)
+
+pub sig_nowhere : (cs : List Class) (k : ClassKey) (name : List ℕ) → Finds (length cs) cs k None → None ≡ sig_of cs (record { class = k; name = name })
+sig_nowhere cs k name f = ap introduced_sig (sym (entry_unknown cs k name (unknown (class_at cs k) (known_at_all cs k (length cs) None refl f))))

@@ -2,6 +2,7 @@
 
 ghost use Rattle.som_model.specs.Kernel.{kernel_interface};
 ghost use Rattle.som_model.specs.Lists.{every};
+ghost use Rattle.som_model.specs.Owner.{sig_of};
 ghost use Rattle.som_model.specs.Rules.{is_known};
 ghost use Rattle.som_model.specs.Typing.{descends_to, fits, kind_is_known};
 ghost use Rattle.som_model.specs.declared.key.ValueType.TheVariants as types;
@@ -19,9 +20,12 @@ ghost use Rattle.std.specs.Prelude.{◌≡◌, ◌<◌, ℕ, None, true, length,
 use crate::forms::{is_boolean, is_long, is_nothing, is_string};
 use crate::kind::Kind;
 use indexmap::IndexSet;
-use som_model::{ClassDecl, ClassFace, ClassKey, Entry, List, MethodRef, NoMemory, Sig, ValueType};
+use som_model::{
+    ClassDecl, ClassFace, ClassKey, Entry, List, MethodRef, NoMemory, Sig, Text, ValueType,
+};
 use som_verify_classes::{
-    Declared, KERNEL_CLASSES, Method, descends_by, entries_at, find_class, introduced_by, owner_of,
+    Declared, KERNEL_CLASSES, Method, descends_by, entries_at, find_class, find_entry,
+    introduced_by, owner_of,
 };
 use std::alloc::Global;
 
@@ -156,9 +160,35 @@ pub fn signature_of<'a>(known: &Knowledge<'a>, method: &'a MethodRef) -> Option<
     ensures is { option_copied result ≡ (facts_of known.now).signature method.now }
     ensures known { IfSome result (λ sig. sig_is_known (all_of known.now) sig.now ≡ true) }
 {
-    let method = owner(known, method);
-    match place_of(known, method.class) {
-        Some(place) => introduced_by(entries_of(known, place), method.name),
+    match place_of(known, &method.class) {
+        Some(place) => signature_at(known, place, method),
+        None => None,
+    }
+}
+
+// The signature of a method of the class at a place, among whose entries the name is searched once.
+fn signature_at<'a>(known: &Knowledge<'a>, place: usize, method: &'a MethodRef) -> Option<&'a Sig>
+    requires known { IsKnowledge known.now }
+    requires place { place < length (all_of known.now) }
+    requires class { key_at (all_of known.now) place ≡ method.now.class }
+    ensures is { option_copied result ≡ (facts_of known.now).signature method.now }
+    ensures known { IfSome result (λ sig. sig_is_known (all_of known.now) sig.now ≡ true) }
+{
+    match find_entry(entries_of(known, place), &method.name) {
+        None => None,
+        Some(Entry::Introduced { sig, .. }) => Some(sig),
+        Some(Entry::Moved { to, .. }) => introduced_in(known, to, &method.name),
+    }
+}
+
+// The signature that a class introduces for a name.
+fn introduced_in<'a>(known: &Knowledge<'a>, class: &ClassKey, name: &Text) -> Option<&'a Sig>
+    requires known { IsKnowledge known.now }
+    ensures is { option_copied result ≡ sig_of (all_of known.now) (record { class = class.now; name = name.now }) }
+    ensures known { IfSome result (λ sig. sig_is_known (all_of known.now) sig.now ≡ true) }
+{
+    match place_of(known, class) {
+        Some(place) => introduced_by(entries_of(known, place), name),
         None => None,
     }
 }

@@ -1,4 +1,3 @@
-pub mod Names
 pub mod Program
 pub mod Showings
 pub mod Verdicts

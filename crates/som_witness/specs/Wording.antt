@@ -12,8 +12,10 @@ use Rattle.som_model.specs.declared.class.Entry.TheVariants as entries
 use Rattle.som_model.specs.declared.program.Interface.{Interface}
 use Rattle.som_model.specs.Owner.{entry_at}
 use Rattle.som_model.specs.Compatible.{CompatBreach, declared_name, release_of}
+use Rattle.som_lex.specs.Spelling.{is_word}
+use Rattle.som_idl.specs.Grammar as interfaces
+use Rattle.som_body.specs.Grammar as bodies
 use Rattle.som_witness.specs.declared.verdict.Texts.{Texts}
-use Rattle.som_witness.specs.Names.{is_word, is_interface_name, is_body_name}
 use Rattle.som_witness.specs.Program.{w_name}
 use Rattle.som_witness.specs.Showings.{Showing, StandsBelow, KeepsObject, Overrides, CallsSlot, Calls, Passes, KeepsParameter, ReturnsNothing, ReturnsVariable, ReturnsAnswer, ReturnsClass, showing_of, told_method}
 
@@ -135,22 +137,22 @@ goes_by_slot None = true
 
 -- a type that is a class has a name of an interface file
 abbrev pub type_is_named : ValueType → Bool
-type_is_named (types.Class k) = is_interface_name (class_text k)
+type_is_named (types.Class k) = interfaces.is_name_text (class_text k)
 type_is_named _ = true
 
 -- an interface file may say that m is overridden: `releaseorder` before a colon means something else there
 abbrev pub can_override : MethodRef → Bool
-can_override m = is_interface_name (class_text m.class) && (is_interface_name m.name && not (bytes_eq m.name (codes "releaseorder")))
+can_override m = interfaces.is_name_text (class_text m.class) && (interfaces.is_name_text m.name && not (bytes_eq m.name (codes "releaseorder")))
 
 -- a body may call m on a C by its slot
 abbrev pub can_call : Interface → MethodRef → Bool
-can_call old m = is_interface_name (class_text m.class) && (is_word m.name && goes_by_slot (entry_at (release_of old) m.class m.name))
+can_call old m = interfaces.is_name_text (class_text m.class) && (is_word m.name && goes_by_slot (entry_at (release_of old) m.class m.name))
 
 -- Whether texts say what W does: none call a slot that was moved, none call by a slot what goes by its name, none override
 -- `releaseorder`, and each name has to be one where it would stand.
 unfoldable pub has_text : Interface → MethodRef → Showing → Bool
-has_text old m StandsBelow = is_interface_name (class_text m.class)
-has_text old m (KeepsObject a) = is_interface_name (class_text m.class) && is_interface_name (class_text a)
+has_text old m StandsBelow = interfaces.is_name_text (class_text m.class)
+has_text old m (KeepsObject a) = interfaces.is_name_text (class_text m.class) && interfaces.is_name_text (class_text a)
 has_text old m (Overrides params) = can_override m
 has_text old m (CallsSlot params) = false
 has_text old m (Calls params) = can_call old m
@@ -159,7 +161,7 @@ has_text old m (KeepsParameter params j kind) = can_override m && type_is_named 
 has_text old m (ReturnsNothing params) = can_override m
 has_text old m (ReturnsVariable params kind) = can_override m && type_is_named kind
 has_text old m (ReturnsAnswer params kind) = can_call old m && type_is_named kind
-has_text old m (ReturnsClass k) = is_body_name (class_text m.class) && is_interface_name (class_text k)
+has_text old m (ReturnsClass k) = bodies.is_name_text (class_text m.class) && interfaces.is_name_text (class_text k)
 
 -- the texts: the interface file, the bodies, of which a class that is only below C has none, and the main
 abbrev pub texts_of : List ℕ → MethodRef → Showing → Texts

@@ -6,9 +6,11 @@ use Rattle.som_cmd_check.specs.ShowAnswer.{IsShowAnswer}
 use Rattle.som_cmd_check.specs.CheckAnswer.{IsCheckAnswer}
 use Rattle.som_cmd_build.specs.LibraryAnswer.{IsLibraryAnswer}
 use Rattle.som_cmd_build.specs.ClientAnswer.{IsClientAnswer}
+use Rattle.som_cmd_tasks.specs.Patterns.{turns_given}
+use Rattle.som_cmd_tasks.specs.TasksAnswer.{IsTasksAnswer}
 use Rattle.som_cmd_generate.specs.GenerateAnswer.{IsGenerateAnswer}
-use Rattle.som_cmd.specs.Words.{asked, Run, Show, Check, Library, Client, Generate, Bad}
-use Rattle.som_cmd.specs.Answer.{runs, shows, checks, compiles, compiles_client, generates}
+use Rattle.som_cmd.specs.Words.{asked, Run, Show, Check, Library, Client, Tasks, Generate, Bad}
+use Rattle.som_cmd.specs.Answer.{runs, shows, checks, compiles, compiles_client, takes_turns, generates}
 use Rattle.som_cmd.proofs.EndLaws.{among, answered, bad_ends, bad_fronts, bad_status, bad_told, bad_untold, files_kept, front, generated_asked, generated_some, generated_told, none_written, one_line, store_failed}
 use Rattle.som_cmd.proofs.WordLaws.{asked_mains, mains_by}
 use Rattle.som_cmd.proofs.top.do_command.Goals as goal
@@ -138,6 +140,33 @@ returns-in-Client-clause-files g c = files_kept (asked c.args.words.now) (Client
 
 pub build_client-requires : goal.build_client-requires
 build_client-requires g c = mains_by c.args.words.now (Client c.in-Client.name.now c.in-Client.library.now c.in-Client.files.now) c.in-Client.ensures
+
+-- ---- clients that take turns
+
+pub returns-in-Tasks-clause-answered : goal.returns-in-Tasks-clause-answered
+returns-in-Tasks-clause-answered g c = λ not6 not8 not10.
+    answered (asked c.args.words.now) (Tasks c.in-Tasks.library.now (turns_given c.in-Tasks.pattern.now c.in-Tasks.rounds) c.in-Tasks.clients.now) c.in-Tasks.ensures (IsTasksAnswer c.in-Tasks.library.now (turns_given c.in-Tasks.pattern.now c.in-Tasks.rounds) c.in-Tasks.clients.now) (λ files e a. takes_turns c.in-Tasks.library.now (turns_given c.in-Tasks.pattern.now c.in-Tasks.rounds) c.in-Tasks.clients.now e a) (g.S.Store.files c.args.store.now) c.run_tasks.result (g.S.Store.files c.run_tasks.new.store) (g.K.Sink.written c.args.out.now) (g.K.Sink.written c.run_tasks.new.out) (c.run_tasks.ensures.answered not6 not8 not10)
+
+pub returns-in-Tasks-clause-statuses : goal.returns-in-Tasks-clause-statuses
+returns-in-Tasks-clause-statuses g c = among (asked c.args.words.now) (Tasks c.in-Tasks.library.now (turns_given c.in-Tasks.pattern.now c.in-Tasks.rounds) c.in-Tasks.clients.now) c.in-Tasks.ensures c.run_tasks.result c.run_tasks.ensures.statuses
+
+pub returns-in-Tasks-clause-one_line : goal.returns-in-Tasks-clause-one_line
+returns-in-Tasks-clause-one_line g c = one_line (asked c.args.words.now) (Tasks c.in-Tasks.library.now (turns_given c.in-Tasks.pattern.now c.in-Tasks.rounds) c.in-Tasks.clients.now) c.in-Tasks.ensures c.run_tasks.result (g.K.Sink.written c.args.out.now) (g.K.Sink.written c.run_tasks.new.out) c.run_tasks.ensures.one_line
+
+pub returns-in-Tasks-clause-generates : goal.returns-in-Tasks-clause-generates
+returns-in-Tasks-clause-generates g c = generated_asked (asked c.args.words.now) (Tasks c.in-Tasks.library.now (turns_given c.in-Tasks.pattern.now c.in-Tasks.rounds) c.in-Tasks.clients.now) c.in-Tasks.ensures c.run_tasks.result (g.K.Sink.written c.args.out.now) (g.K.Sink.written c.run_tasks.new.out) tt
+
+pub returns-in-Tasks-clause-store_failed : goal.returns-in-Tasks-clause-store_failed
+returns-in-Tasks-clause-store_failed g c = λ six. store_failed (asked c.args.words.now) (Tasks c.in-Tasks.library.now (turns_given c.in-Tasks.pattern.now c.in-Tasks.rounds) c.in-Tasks.clients.now) c.in-Tasks.ensures (g.S.Store.files c.args.store.now) (g.S.Store.faults c.args.store.now) (g.S.Store.faults c.run_tasks.new.store) (g.K.Sink.written c.args.out.now) (g.K.Sink.written c.run_tasks.new.out) (c.run_tasks.ensures.store_failed six)
+
+pub returns-in-Tasks-clause-front : goal.returns-in-Tasks-clause-front
+returns-in-Tasks-clause-front g c = λ either. front (asked c.args.words.now) (Tasks c.in-Tasks.library.now (turns_given c.in-Tasks.pattern.now c.in-Tasks.rounds) c.in-Tasks.clients.now) c.in-Tasks.ensures (IsTasksAnswer c.in-Tasks.library.now (turns_given c.in-Tasks.pattern.now c.in-Tasks.rounds) c.in-Tasks.clients.now) (λ files e a. takes_turns c.in-Tasks.library.now (turns_given c.in-Tasks.pattern.now c.in-Tasks.rounds) c.in-Tasks.clients.now e a) (g.S.Store.files c.args.store.now) (g.S.Store.faults c.args.store.now) (g.S.Store.faults c.run_tasks.new.store) (g.K.Sink.written c.args.out.now) (g.K.Sink.written c.run_tasks.new.out) (c.run_tasks.ensures.front either)
+
+pub returns-in-Tasks-clause-files : goal.returns-in-Tasks-clause-files
+returns-in-Tasks-clause-files g c = files_kept (asked c.args.words.now) (Tasks c.in-Tasks.library.now (turns_given c.in-Tasks.pattern.now c.in-Tasks.rounds) c.in-Tasks.clients.now) c.in-Tasks.ensures (g.S.Store.files c.args.store.now) (g.S.Store.faults c.args.store.now) (g.S.Store.faults c.run_tasks.new.store) c.run_tasks.result (g.S.Store.files c.run_tasks.new.store) (g.K.Sink.written c.args.out.now) (g.K.Sink.written c.run_tasks.new.out) c.run_tasks.ensures.files
+
+pub run_tasks-requires : goal.run_tasks-requires
+run_tasks-requires g c = mains_by c.args.words.now (Tasks c.in-Tasks.library.now (turns_given c.in-Tasks.pattern.now c.in-Tasks.rounds) c.in-Tasks.clients.now) c.in-Tasks.ensures
 
 -- ---- what is generated
 

@@ -1,6 +1,6 @@
 use Rattle.som_cmd.specs.Words.{asked}
 use Rattle.som_cmd.proofs.Complete.{complete}
-use Rattle.som_cmd.proofs.EndLaws.{means, newest_runs, unkept, shown, shown_client, accepted, breach, compiled, client_compiled, generated}
+use Rattle.som_cmd.proofs.EndLaws.{means, newest_runs, newest_turns, turns_told, unkept, shown, shown_client, accepted, breach, compiled, client_compiled, generated}
 use Rattle.som_cmd.proofs.top.run_som.Goals as goal
 
 pub returns-clause-complete : goal.returns-clause-complete
@@ -12,6 +12,14 @@ pub returns-clause-newest : goal.returns-clause-newest
 returns-clause-newest g c = λ earlier newest place texts p fuel calls images.
     newest_runs (asked c.args.words.now) (g.S.Store.files c.args.store.now) earlier newest place texts p fuel calls images c.do_command.result (g.S.Store.faults c.args.store.now) (g.S.Store.faults c.do_command.new.store) (g.K.Sink.faults c.args.out.now) (g.K.Sink.faults c.do_command.new.out)
     (g.S.Store.files c.do_command.new.store) (g.K.Sink.written c.args.out.now) (g.K.Sink.written c.do_command.new.out) c.do_command.ensures.answered c.do_command.ensures.store_failed c.do_command.ensures.sink_failed c.do_command.ensures.front
+
+pub returns-clause-newest_turns : goal.returns-clause-newest_turns
+returns-clause-newest_turns g c = λ earlier newest cs turns images.
+    newest_turns (asked c.args.words.now) (g.S.Store.files c.args.store.now) earlier newest cs turns images c.alone_law.ensures c.do_command.result (g.S.Store.faults c.args.store.now) (g.S.Store.faults c.do_command.new.store) (g.K.Sink.faults c.args.out.now) (g.K.Sink.faults c.do_command.new.out)
+    (g.S.Store.files c.do_command.new.store) (g.K.Sink.written c.args.out.now) (g.K.Sink.written c.do_command.new.out) c.do_command.ensures.answered c.do_command.ensures.store_failed c.do_command.ensures.sink_failed c.do_command.ensures.front
+
+pub returns-clause-interleaved : goal.returns-clause-interleaved
+returns-clause-interleaved g c = λ library clients r ps turns images kept not6 not8 not10. turns_told (asked c.args.words.now) (g.S.Store.files c.args.store.now) c.do_command.result (g.S.Store.files c.do_command.new.store) (g.K.Sink.written c.args.out.now) (g.K.Sink.written c.do_command.new.out) (c.do_command.ensures.answered not6 not8 not10) c.alone_law.ensures library clients r ps turns images kept
 
 pub returns-clause-meaning : goal.returns-clause-meaning
 returns-clause-meaning g c = λ client library p r fuel calls images kept not6 not8 not10. means (asked c.args.words.now) (g.S.Store.files c.args.store.now) c.do_command.result (g.S.Store.files c.do_command.new.store) (g.K.Sink.written c.args.out.now) (g.K.Sink.written c.do_command.new.out) (c.do_command.ensures.answered not6 not8 not10) client library p r fuel calls images kept

@@ -1,8 +1,8 @@
 use Rattle.std.proofs.Common.{[], ◌∷◌}
+use Rattle.som_cmd_steps.specs.Getting.{FailsGetting}
 use Rattle.som_cmd_steps.proofs.Printed.{ends, fails, fronts}
 use Rattle.som_cmd_steps.proofs.Statuses.{ends_in}
 use Rattle.som_cmd_check.specs.CheckAnswer.{IsCheckAnswer}
-use Rattle.som_cmd_check.specs.Cause.{FailsGetting}
 use Rattle.som_cmd_check.proofs.CheckLaws.{some_check_answer}
 use Rattle.som_cmd_check.proofs.check.check_images.Goals as goal
 

@@ -1,7 +1,8 @@
 use Rattle.std.proofs.Common.{◌<◌, ◌≡◌, ◌++◌, ◌∷◌, [], length, length-append, arith}
 use Rattle.som_model.specs.declared.program.Release.{Release}
 use Rattle.som_libimage.specs.Limits.{IsWithinLimits}
-use Rattle.som_cmd_check.proofs.CheckLoops.{read_more, one_more_has}
+use Rattle.som_cmd_steps.specs.ImageSteps.{release_in}
+use Rattle.som_cmd_steps.proofs.InTurn.{read_more, one_more_has}
 use Rattle.som_cmd_check.proofs.check.read_all.Goals as goal
 
 pub loop-place-preserved : goal.loop-place-preserved
@@ -9,7 +10,7 @@ loop-place-preserved c =
     let within : c.loop-place.place < length c.args.images.now = omega (arith, c.requires) in
     let pushed : c.push.new.self ≡ c.loop-place.releases ++ c.in_ok-read_release.field-0 ∷ [] = c.in_ok-push.ensures.ok in
     rw pushed (record {
-      read = read_more c.args.names.now c.args.images.now c.loop-place.place c.index-names-place.result c.index-images-place.result c.loop-place-test.true c.index-names-place.is within c.index-images-place.is
+      read = read_more release_in c.args.names.now c.args.images.now c.loop-place.place c.index-names-place.result c.index-images-place.result c.loop-place-test.true c.index-names-place.is within c.index-images-place.is
           c.loop-place.releases c.in_ok-read_release.field-0 c.loop-place.invariant.read c.in_ok-read_release.ensures.follows;
       long = let l = length-append c.loop-place.releases (c.in_ok-read_release.field-0 ∷ []) in omega (arith, l, c.loop-place.invariant.long);
       within = one_more_has (λ (r : Release). IsWithinLimits r) c.loop-place.releases c.in_ok-read_release.field-0 c.loop-place.invariant.within c.in_ok-read_release.ensures.within;

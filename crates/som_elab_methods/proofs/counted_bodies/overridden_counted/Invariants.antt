@@ -7,5 +7,5 @@ use Rattle.som_elab_methods.specs.Texts.{given}
 use Rattle.som_elab_methods.proofs.counted_bodies.overridden_counted.Given as goal
 
 abbrev pub invariant-loop-replaced : goal.invariant-loop-replaced
-invariant-loop-replaced l = first (flat_map (λ (o : Override). has_one (given l.own) (plain_draft l.draft) o.method.name) (drop l.replaced-index l.replaced-items))
-    ≡ first (flat_map (λ (o : Override). has_one (given l.own) (plain_draft l.draft) o.method.name) l.replaced-items)
+invariant-loop-replaced l = first (flat_map (λ (o : Override). has_one (given l.bodies.own.now) (plain_draft l.bodies.draft.now) o.method.name) (drop l.replaced-index l.replaced-items))
+    ≡ first (flat_map (λ (o : Override). has_one (given l.bodies.own.now) (plain_draft l.bodies.draft.now) o.method.name) l.replaced-items)

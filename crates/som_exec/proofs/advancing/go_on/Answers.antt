@@ -18,4 +18,4 @@ returns-clause-steps g c =
     let q = m.runtime.now in
     let keeps = c.advance.ensures.comes.keeps in
     advance_counts (scene (g.R.Runtime.linked r) (g.R.ClassKeys.known r) (g.R.Runtime.program r) (g.R.Classes.made r) c.args.objects.now c.args.task.now 0)
-    (scene (g.R.Runtime.linked q) (g.R.ClassKeys.known q) (g.R.Runtime.program q) (g.R.Classes.made q) m.objects.now m.task.now m.fuel) keeps.linked keeps.main _ (search rules) c.args.steps.now m.steps.now c.args.units (shows_of c.args.trace.now) c.args.prefix.now (g.K.Sink.written c.args.out.now) c.advance.result c.advance.ensures.counted (search rules) (search rules)
+    (scene (g.R.Runtime.linked q) (g.R.ClassKeys.known q) (g.R.Runtime.program q) (g.R.Classes.made q) m.objects.now m.task.now m.fuel) keeps.linked keeps.classes keeps.main _ (search rules) c.args.steps.now m.steps.now c.args.units (shows_of c.args.trace.now) c.args.prefix.now (g.K.Sink.written c.args.out.now) c.advance.result c.advance.ensures.counted (search rules) (search rules)

@@ -27,4 +27,4 @@ returns-clause-counted g c =
     let t = c.args.task.now in
     let was = scene (g.R.Runtime.linked r) (g.R.ClassKeys.known r) (g.R.Runtime.program r) (g.R.Classes.made r) c.args.objects.now t c.args.fuel.now in
     let i = c.requires.invoking in
-    invoked_counted was _ _ i.0 i.1 i.2 (c.invoke.ensures.steps i.0 i.1 t.serials (codes_of t.codes) i.2)
+    invoked_counted was _ _ i.0 i.1 i.2 (c.invoke.ensures.steps i.0 i.1 t.serials (codes_of t.codes) i.2) (λ n. c.invoke.ensures.searches i.0 i.1 t.serials (codes_of t.codes) n i.2)

@@ -33,4 +33,4 @@ returns-clause-counted g c f =
     let was = scene (g.R.Runtime.linked q) (g.R.ClassKeys.known q) (g.R.Runtime.program q) (g.R.Classes.made q) c.args.objects.now c.args.task.now f in
     let rest = c.pop.new.self.items in
     let items : c.args.task.now.frames.waiting.items ≡ rest ++ c.in-Some.first ∷ [] = c.pop.ensures.items ∙ ap (λ o. rest ++ option_to_list o) c.in-Some.is in
-    resumed_counted was _ _ c.in-Some.first rest items c.resume.ensures.steps
+    resumed_counted was _ _ c.take_value-value.result c.take_value-value.ensures.value c.in-Some.first rest items c.resume.ensures.steps c.resume.ensures.searches

@@ -21,7 +21,7 @@ returns-clause-steps g c =
     let q = m.runtime.now in
     let keeps = c.run-outcome.ensures.runs.keeps in
     run_counts (scene (g.R.Runtime.linked r) (g.R.ClassKeys.known r) (g.R.Runtime.program r) (g.R.Classes.made r) c.new-objects.result c.args.task.task 0)
-    (scene (g.R.Runtime.linked q) (g.R.ClassKeys.known q) (g.R.Runtime.program q) (g.R.Classes.made q) m.objects.now m.task.now m.fuel) keeps.linked keeps.main _ (search rules) c.args.steps.now m.steps.now c.args.fuel (shows_of c.args.trace.now) (g.K.Sink.written c.args.out.now) c.run-outcome.result c.run-outcome.ensures.counted (search rules) (search rules) (search rules)
+    (scene (g.R.Runtime.linked q) (g.R.ClassKeys.known q) (g.R.Runtime.program q) (g.R.Classes.made q) m.objects.now m.task.now m.fuel) keeps.linked keeps.classes keeps.main _ (search rules) c.args.steps.now m.steps.now c.args.fuel (shows_of c.args.trace.now) (g.K.Sink.written c.args.out.now) c.run-outcome.result c.run-outcome.ensures.counted (search rules) (search rules) (search rules)
 
 pub returns-clause-left : goal.returns-clause-left
 returns-clause-left g c = c.run-outcome.ensures.left

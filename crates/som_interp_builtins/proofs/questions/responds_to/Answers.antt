@@ -8,8 +8,8 @@ use Rattle.som_interp_builtins.proofs.Known.{alone}
 use Rattle.som_interp_builtins.proofs.Meant.{of_class, truth_answered}
 use Rattle.som_interp_builtins.proofs.questions.responds_to.Goals as goal
 
-pub returns : goal.returns
-returns g c xs statics h may =
+pub returns-clause-answers : goal.returns-clause-answers
+returns-clause-answers g c xs statics h may =
     let keys = g.R.Classes.keys c.args.runtime.now in
     let world = g.R.Classes.world c.args.runtime.now in
     let known = g.R.ClassKeys.known c.args.runtime.now in
@@ -19,4 +19,4 @@ returns g c xs statics h may =
     truth_answered linked made keys xs c.args.objects.now c.in_ok-responds.responds _
     (of_class keys world h (shown_ref s c.args.me) c.in_ok-class.class (λ k. Ok (Boolean (is_some (world.byname k (text_of (first_argument (all_shown s c.args.args.now)))))))
     (c.in_ok-class.ensures.class xs statics h (alone keys world known linked made c.know.ensures.agree xs c.args.objects.now statics h c.args.me c.args.args.now may))
-    ∙ ap (λ b. Ok (Boolean b)) (sym (c.in_ok-responds.ensures s)))
+    ∙ ap (λ b. Ok (Boolean b)) (sym (c.in_ok-responds.ensures.has s)))

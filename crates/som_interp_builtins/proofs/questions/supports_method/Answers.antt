@@ -7,8 +7,8 @@ use Rattle.som_values.specs.Shown.{all_shown, key_of, showing, shown_ref}
 use Rattle.som_interp_builtins.proofs.Meant.{then_ok, truth_answered}
 use Rattle.som_interp_builtins.proofs.questions.supports_method.Goals as goal
 
-pub returns : goal.returns
-returns g c os xs statics h may =
+pub returns-clause-answers : goal.returns-clause-answers
+returns-clause-answers g c os xs statics h may =
     let keys = g.R.Classes.keys c.args.runtime.now in
     let world = g.R.Classes.world c.args.runtime.now in
     let known = g.R.ClassKeys.known c.args.runtime.now in
@@ -18,4 +18,4 @@ returns g c os xs statics h may =
     truth_answered linked made keys xs os c.in_ok-supports.supports _
     (then_ok (stands_for (shown_ref s c.args.me)) (key_of keys c.in_ok-class.class) (λ k. Ok (Boolean (is_some (world.byname k (text_of (first_argument (all_shown s c.args.args.now)))))))
     (c.in_ok-class.ensures.means s)
-    ∙ ap (λ b. Ok (Boolean b)) (sym (c.in_ok-supports.ensures s)))
+    ∙ ap (λ b. Ok (Boolean b)) (sym (c.in_ok-supports.ensures.has s)))

@@ -18,26 +18,22 @@ test_dispatched-requires g c =
     name_owner s c.args.levels c.args.from c.args.code c.args.at c.args.on (record { levels = 0; me = None; place = places.Main; zero = zeros.Nil; code = 0; at = 0; operands = c.args.args; locals = c.args.args }) c.args.value c.in_ok-name.name (c.in_ok-name.ensures (showing (g.R.Runtime.linked r).keys c.args.task.now.serials))
     met.1.0 met.1.1 met.1.2
 
-pub returns-in_err-call : goal.returns-in_err-call
-returns-in_err-call g c = record {
-  resumes = λ f. (
-      let r = c.args.runtime.now in
-      let l = g.R.Runtime.linked r in
-      let t = c.args.task.now in
-      let s = scene l (g.R.ClassKeys.known r) (g.R.Runtime.program r) (g.R.Classes.made r) c.args.objects.now t f in
-      let p = err_from_is_err_and c.from_residual-in_err-call.result c.from_residual-in_err-call.ensures.1 in
-      subst (λ z. Resumes s s (waits.Name c.args.levels c.args.from c.args.code c.args.at c.args.on c.args.args) c.args.value z) (sym (p.1 ∙ ap (λ e. Err e) p.2))
-      (name_stops s c.args.levels c.args.from c.args.code c.args.at c.args.on (record { levels = 0; me = None; place = places.Main; zero = zeros.Nil; code = 0; at = 0; operands = c.args.args; locals = c.args.args }) c.args.value c.in_ok-name.name (c.in_ok-name.ensures (showing l.keys t.serials))
-      c.in_err-call.field-0.0 (λ h holds seen all. c.in_err-call.ensures.passes t.serials (codes_of t.codes) h holds seen all)));
-}
+pub returns-in_err-call-clause-resumes : goal.returns-in_err-call-clause-resumes
+returns-in_err-call-clause-resumes g c f =
+    let r = c.args.runtime.now in
+    let l = g.R.Runtime.linked r in
+    let t = c.args.task.now in
+    let s = scene l (g.R.ClassKeys.known r) (g.R.Runtime.program r) (g.R.Classes.made r) c.args.objects.now t f in
+    let p = err_from_is_err_and c.from_residual-in_err-call.result c.from_residual-in_err-call.ensures.1 in
+    subst (λ z. Resumes s s (waits.Name c.args.levels c.args.from c.args.code c.args.at c.args.on c.args.args) c.args.value z) (sym (p.1 ∙ ap (λ e. Err e) p.2))
+    (name_stops s c.args.levels c.args.from c.args.code c.args.at c.args.on (record { levels = 0; me = None; place = places.Main; zero = zeros.Nil; code = 0; at = 0; operands = c.args.args; locals = c.args.args }) c.args.value c.in_ok-name.name (c.in_ok-name.ensures (showing l.keys t.serials))
+    c.in_err-call.field-0.0 (λ h holds seen all. c.in_err-call.ensures.passes t.serials (codes_of t.codes) h holds seen all))
 
-pub returns : goal.returns
-returns g c = record {
-  resumes = λ f. (
-      let r = c.args.runtime.now in
-      let l = g.R.Runtime.linked r in
-      let t = c.args.task.now in
-      let of = c.in_ok-call.ensures in
-      name_goes (scene l (g.R.ClassKeys.known r) (g.R.Runtime.program r) (g.R.Classes.made r) c.args.objects.now t f) c.args.levels c.args.from c.args.code c.args.at c.args.on (record { levels = 0; me = None; place = places.Main; zero = zeros.Nil; code = 0; at = 0; operands = c.args.args; locals = c.args.args }) c.args.value c.in_ok-name.name (c.in_ok-name.ensures (showing l.keys t.serials))
-      c.in_ok-call.call (λ h holds seen all. of.passes t.serials (codes_of t.codes) h holds seen all) (λ place on args. of.usable t.serials (codes_of t.codes) place on args) of.live);
-}
+pub returns-clause-resumes : goal.returns-clause-resumes
+returns-clause-resumes g c f =
+    let r = c.args.runtime.now in
+    let l = g.R.Runtime.linked r in
+    let t = c.args.task.now in
+    let of = c.in_ok-call.ensures in
+    name_goes (scene l (g.R.ClassKeys.known r) (g.R.Runtime.program r) (g.R.Classes.made r) c.args.objects.now t f) c.args.levels c.args.from c.args.code c.args.at c.args.on (record { levels = 0; me = None; place = places.Main; zero = zeros.Nil; code = 0; at = 0; operands = c.args.args; locals = c.args.args }) c.args.value c.in_ok-name.name (c.in_ok-name.ensures (showing l.keys t.serials))
+    c.in_ok-call.call (λ h holds seen all. of.passes t.serials (codes_of t.codes) h holds seen all) (λ place on args. of.usable t.serials (codes_of t.codes) place on args) of.live

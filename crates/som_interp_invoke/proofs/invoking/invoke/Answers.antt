@@ -13,7 +13,7 @@ use Rattle.som_interp_invoke.proofs.Began.{begins_mid, invoked, then_waits}
 use Rattle.som_machine_laws.specs.Counted.{first_looks}
 use Rattle.som_interp_state.specs.Standing.{left_shown}
 use Rattle.som_interp_state.specs.Named.{setting}
-use Rattle.som_interp_invoke.proofs.Costing.{cost_of, left_made, looks_none}
+use Rattle.som_interp_invoke.proofs.Costing.{cost_begun, cost_looked, cost_of, left_made, looks_none, quiet_begun}
 use Rattle.som_interp_invoke.proofs.invoking.invoke.Goals as goal
 
 pub plan-requires-clause-ready : goal.plan-requires-clause-ready
@@ -198,3 +198,50 @@ returns-clause-steps g c left cell xs cs is direct without =
     let here = subst (λ y. Planned l c.args.objects.now y shows prefix before after c.args.task.now.codes c.plan.new.codes c.args.fuel.now c.plan.new.fuel (Ok c.in_ok-planned.planned)) e c.in_ok-planned.ensures.planned in
     let planned = subst (λ x. Planned l c.args.objects.now left shows prefix before after c.args.task.now.codes c.plan.new.codes c.args.fuel.now c.plan.new.fuel (Ok x)) c.in-Some.is here in
     subst (λ n. n ≤ c.args.steps.now + first_looks (left_shown (setting l xs cs) left)) (sym (c.begin.ensures.steps (looks_none l left xs cs direct c.plan.new.codes c.in-Some.plan planned.0 (count_of left c.in-Some.plan.role) planned.1 planned.5))) cost
+
+pub returns-in_err-planned-clause-searches : goal.returns-in_err-planned-clause-searches
+returns-in_err-planned-clause-searches g c left cell xs cs n is without have =
+    let r = c.args.runtime.now in
+    let x = c.requires.standing in
+    let l = g.R.Runtime.linked r in
+    let made = g.R.Classes.made r in
+    cost_looked n _ _ (left_shown (setting l xs cs) left) (cost_of l made xs cs _ left _ _ (c.left_of-left.ensures left cell is) without
+    (left_made (scene l (g.R.ClassKeys.known r) (g.R.Runtime.program r) made c.args.objects.now c.args.task.now c.args.fuel.now) x.0 x.1 x.2 _ left cell is x.3) (c.plan.ensures.cost xs cs))
+
+pub returns-in_default-clause-searches : goal.returns-in_default-clause-searches
+returns-in_default-clause-searches g c left cell xs cs n is without have =
+    let r = c.args.runtime.now in
+    let x = c.requires.standing in
+    let l = g.R.Runtime.linked r in
+    let made = g.R.Classes.made r in
+    cost_looked n _ _ (left_shown (setting l xs cs) left) (cost_of l made xs cs _ left _ _ (c.left_of-left.ensures left cell is) without
+    (left_made (scene l (g.R.ClassKeys.known r) (g.R.Runtime.program r) made c.args.objects.now c.args.task.now c.args.fuel.now) x.0 x.1 x.2 _ left cell is x.3) (c.plan.ensures.cost xs cs))
+
+pub returns-in_err-taken-clause-searches : goal.returns-in_err-taken-clause-searches
+returns-in_err-taken-clause-searches g c left cell xs cs n is without have =
+    let r = c.args.runtime.now in
+    let x = c.requires.standing in
+    let l = g.R.Runtime.linked r in
+    let made = g.R.Classes.made r in
+    cost_looked n _ _ (left_shown (setting l xs cs) left) (cost_of l made xs cs _ left _ _ (c.left_of-left.ensures left cell is) without
+    (left_made (scene l (g.R.ClassKeys.known r) (g.R.Runtime.program r) made c.args.objects.now c.args.task.now c.args.fuel.now) x.0 x.1 x.2 _ left cell is x.3) (c.plan.ensures.cost xs cs))
+
+pub returns-clause-searches : goal.returns-clause-searches
+returns-clause-searches g c left cell xs cs n is without have =
+    let r = c.args.runtime.now in
+    let l = g.R.Runtime.linked r in
+    let made = g.R.Classes.made r in
+    let x = c.requires.standing in
+    let e = c.left_of-left.ensures left cell is in
+    let cost = cost_of l made xs cs _ left _ _ e without
+    (left_made (scene l (g.R.ClassKeys.known r) (g.R.Runtime.program r) made c.args.objects.now c.args.task.now c.args.fuel.now) x.0 x.1 x.2 _ left cell is x.3) (c.plan.ensures.cost xs cs) in
+    let shows = shows_of c.args.trace.now in
+    let prefix = c.args.prefix.now in
+    let before = g.K.Sink.written c.args.out.now in
+    let after = g.K.Sink.written c.plan.new.out in
+    let here = subst (λ y. Planned l c.args.objects.now y shows prefix before after c.args.task.now.codes c.plan.new.codes c.args.fuel.now c.plan.new.fuel (Ok c.in_ok-planned.planned)) e c.in_ok-planned.ensures.planned in
+    let planned = subst (λ x. Planned l c.args.objects.now left shows prefix before after c.args.task.now.codes c.plan.new.codes c.args.fuel.now c.plan.new.fuel (Ok x)) c.in-Some.is here in
+    let know = c.know.ensures in
+    cost_begun l left xs cs n c.in-Some.plan planned.0 planned.1
+    (quiet_begun (g.R.Classes.keys r) (g.R.Classes.world r) (g.R.ClassKeys.known r) l (g.R.Runtime.program r) know.agree know.loads c.plan.new.codes c.in-Some.plan.begun (count_of left c.in-Some.plan.role) planned.0 planned.5)
+    c.args.steps.now c.plan.new.steps c.begin.new.steps cost c.begin.ensures.steps (c.begin.ensures.searches n have)

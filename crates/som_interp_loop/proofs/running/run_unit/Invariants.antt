@@ -2,7 +2,7 @@ use Rattle.std.proofs.Common.{◌≡◌, Ok, true}
 use Rattle.som_interp_loop.specs.Ran.{RanOn}
 use Rattle.som_interp_loop.specs.Standing.{IsSomewhere}
 use Rattle.som_interp_loop.specs.Stepped.{Counts, StaysCalm}
-use Rattle.som_interp_loop.proofs.Lowering.{weight_of}
+use Rattle.som_interp_loop.specs.Burst.{weight_of}
 use Rattle.som_interp_loop.proofs.running.run_unit.Given as goal
 
 abbrev pub invariant-loop-moves : goal.invariant-loop-moves

@@ -1,9 +1,9 @@
 use Rattle.std.proofs.Common.{ℕ, List, subst, sym}
-use Rattle.som_interp_loop.specs.Counted.{IsDirectScene}
+use Rattle.som_interp_loop.specs.Counted.{IsBoundedScene}
 use Rattle.som_interp_loop.specs.Scene.{Scene, setting_of}
 use Rattle.som_interp_state.specs.Standing.{place_shown}
 use Rattle.som_interp_loop.specs.declared.stop.Stop.TheVariants as stops
-use Rattle.som_interp_task.specs.Advance.{Comes, CountsNow, EndsBy}
+use Rattle.som_interp_task.specs.Advance.{Comes, CountsSearches, EndsBy}
 use Rattle.som_interp_task.proofs.Ending.{done_comes, done_leaves, fault_comes, fault_leaves, fault_place, going_comes, ran_same, starved_comes, sunk_comes}
 use Rattle.som_interp_task.proofs.Counting.{counts_done, counts_fault, counts_going, counts_starved, counts_sunk}
 use Rattle.som_interp_task.proofs.advancing.advance.Goals as goal
@@ -73,8 +73,8 @@ returns-in-Err-Fault-clause-counted g c =
     let at = c.in-Err-Fault.at in
     let ran = ran_same _ _ _ _ _ _ _ _ _ (stops.Fault fault at) c.in-Err-Fault.field-0-is c.in-Err-Fault.ensures.ran in
     let ends = subst (λ (z : List ℕ). EndsBy z told after fault (place_shown (setting_of new) at) c.end_by.result) c.go_on.ensures.prefix c.end_by.ensures.ends in
-    subst (λ (z : Scene). CountsNow (IsDirectScene z) old c.args.units shows prefix before after counted (g.M.Moves.counted c.end_by.new.moves) c.end_by.result) (sym c.end_by.ensures.scene)
-    (subst (λ n. CountsNow (IsDirectScene new) old c.args.units shows prefix before after counted n c.end_by.result) (sym c.end_by.ensures.counted)
+    subst (λ (z : Scene). CountsSearches (IsBoundedScene z) old c.args.units shows prefix before after counted (g.M.Moves.counted c.end_by.new.moves) c.end_by.result) (sym c.end_by.ensures.scene)
+    (subst (λ n. CountsSearches (IsBoundedScene new) old c.args.units shows prefix before after counted n c.end_by.result) (sym c.end_by.ensures.counted)
     (counts_fault old c.args.units c.requires.stands shows prefix before told after new counted now fault at ran c.end_by.result ends))
 
 pub returns-in-Ok-clause-left : goal.returns-in-Ok-clause-left

@@ -1,4 +1,4 @@
-use Rattle.som_interp_loop.specs.Counted.{IsDirectScene}
+use Rattle.som_interp_loop.specs.Counted.{IsBoundedScene}
 use Rattle.som_interp_task.proofs.Whole.{counts_done, counts_fault, counts_short, counts_spent, done_runs, fault_runs, leaves_run, spent_runs, starved_runs, sunk_runs}
 use Rattle.som_interp_task.proofs.running.run.Goals as goal
 
@@ -19,17 +19,17 @@ returns-in-NoMemory-clause-runs g c = starved_runs (g.M.Moves.scene c.args.moves
 
 pub returns-in-Going-clause-counted : goal.returns-in-Going-clause-counted
 returns-in-Going-clause-counted g c =
-    counts_spent (g.M.Moves.scene c.args.moves.now) c.args.fuel c.requires.granted c.requires.begun (IsDirectScene (g.M.Moves.scene c.advance.new.moves)) (g.M.Moves.shows c.args.moves.now) (g.M.Moves.prefix c.args.moves.now)
+    counts_spent (g.M.Moves.scene c.args.moves.now) c.args.fuel c.requires.granted c.requires.begun (IsBoundedScene (g.M.Moves.scene c.advance.new.moves)) (g.M.Moves.shows c.args.moves.now) (g.M.Moves.prefix c.args.moves.now)
     (g.M.Moves.written c.args.moves.now) (g.M.Moves.written c.advance.new.moves) (g.M.Moves.counted c.args.moves.now) (g.M.Moves.counted c.advance.new.moves) c.in-Going.ensures.counted
 
 pub returns-in-Done-clause-counted : goal.returns-in-Done-clause-counted
 returns-in-Done-clause-counted g c =
-    counts_done (g.M.Moves.scene c.args.moves.now) c.args.fuel c.requires.granted c.requires.begun (IsDirectScene (g.M.Moves.scene c.advance.new.moves)) (g.M.Moves.shows c.args.moves.now) (g.M.Moves.prefix c.args.moves.now)
+    counts_done (g.M.Moves.scene c.args.moves.now) c.args.fuel c.requires.granted c.requires.begun (IsBoundedScene (g.M.Moves.scene c.advance.new.moves)) (g.M.Moves.shows c.args.moves.now) (g.M.Moves.prefix c.args.moves.now)
     (g.M.Moves.written c.args.moves.now) (g.M.Moves.written c.advance.new.moves) (g.M.Moves.counted c.args.moves.now) (g.M.Moves.counted c.advance.new.moves) c.in-Done.ensures.counted
 
 pub returns-in-SourceFault-clause-counted : goal.returns-in-SourceFault-clause-counted
 returns-in-SourceFault-clause-counted g c =
-    counts_fault (g.M.Moves.scene c.args.moves.now) c.args.fuel c.requires.granted c.requires.begun (IsDirectScene (g.M.Moves.scene c.advance.new.moves)) (g.M.Moves.shows c.args.moves.now) (g.M.Moves.prefix c.args.moves.now)
+    counts_fault (g.M.Moves.scene c.args.moves.now) c.args.fuel c.requires.granted c.requires.begun (IsBoundedScene (g.M.Moves.scene c.advance.new.moves)) (g.M.Moves.shows c.args.moves.now) (g.M.Moves.prefix c.args.moves.now)
     (g.M.Moves.written c.args.moves.now) (g.M.Moves.written c.advance.new.moves) (g.M.Moves.counted c.args.moves.now) (g.M.Moves.counted c.advance.new.moves) c.in-SourceFault.fault c.in-SourceFault.at c.in-SourceFault.ensures.counted
 
 pub returns-in-SinkFailed-clause-counted : goal.returns-in-SinkFailed-clause-counted

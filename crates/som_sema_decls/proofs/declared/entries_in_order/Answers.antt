@@ -12,7 +12,7 @@ loop-name-preserved c =
     let k = key_at cs c.args.place in
     map_next (entry_for cs k c.args.own.now) c.args.order.now c.loop-name.name-index _ _ _ _ _ c.loop-name-test.true c.in_ok-push.ensures.ok
     (c.in_ok-found_entry.ensures
-    ∙ ap (entry_or_moved (introducer cs k c.name-item.result) c.name-item.result) (c.entry_at-found.ensures ∙ ap (entry_of c.args.own.now) c.as_slice.ensures)
+    ∙ ap (entry_or_moved (introducer cs k c.name-item.result) c.name-item.result) (c.entry_named-found.ensures ∙ ap (entry_of c.args.own.now) c.as_slice.ensures)
     ∙ ap (entry_for cs k c.args.own.now) c.name-item.is) c.loop-name.invariant
 
 pub returns : goal.returns

@@ -1,0 +1,3 @@
+pub mod Fewer
+pub mod Chains
+pub mod Counting

@@ -1,0 +1,9 @@
+pub mod Groups
+pub mod Kernels
+pub mod Refusals
+pub mod Patterns
+pub mod Ends
+pub mod Given
+pub mod TasksAnswer
+pub mod TasksEnds
+pub mod Newest

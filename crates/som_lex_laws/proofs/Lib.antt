@@ -1,0 +1,4 @@
+pub mod FirstToken
+pub mod CutPieces
+pub mod SeenPieces
+pub mod Joined

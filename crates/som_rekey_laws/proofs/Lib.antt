@@ -1,0 +1,10 @@
+mod Lists
+mod Renaming
+mod KeysApart
+mod Places
+mod OwnersKept
+mod BodiesKept
+mod MetasKept
+mod FactsKept
+mod KernelKept
+mod OrderedNames

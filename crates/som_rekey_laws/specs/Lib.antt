@@ -1,0 +1,4 @@
+pub mod Rekeying
+pub mod Apart
+pub mod Alike
+pub mod AlikeFacts

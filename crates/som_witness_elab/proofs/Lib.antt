@@ -1,0 +1,12 @@
+pub mod Names
+pub mod Below
+pub mod Rules
+pub mod Params
+pub mod Items
+pub mod Forms
+pub mod Whole
+pub mod WithG
+pub mod Overriding
+pub mod ShownByG
+pub mod ShownByOverride
+pub mod Texts

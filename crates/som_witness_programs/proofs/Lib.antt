@@ -1,0 +1,6 @@
+mod Concluding
+pub mod Counted
+mod Entries
+mod Joined
+mod Open
+mod Taken

@@ -1,0 +1,4 @@
+pub mod Conditions
+pub mod Lent
+pub mod Made
+pub mod Texted

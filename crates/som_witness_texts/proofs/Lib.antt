@@ -1,0 +1,9 @@
+pub mod Words
+pub mod OrderWord
+pub mod TextPieces
+pub mod FinePieces
+pub mod InterfaceDerived
+pub mod BodiesDerived
+pub mod Sayable
+pub mod Few
+pub mod FilesRead
