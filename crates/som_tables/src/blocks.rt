@@ -1,13 +1,13 @@
 //! The blocks of a row: each holds one class's cells, shared with a parent's row or copied from it.
 
-ghost use Rattle.std.specs.Prelude.{◌≡◌, ◌+◌, ◌<◌, ◌++◌, None, Some, length, IfOk, OnOk, ℕ, slice_get};
+ghost use Rattle.std.specs.Prelude.{◌≡◌, ◌+◌, ◌<◌, ◌≤◌, ◌++◌, None, Some, length, IfOk, OnOk, if◌then◌else◌, ℕ, slice_get};
 ghost use Rattle.std.specs.Option.{option_or};
-ghost use Rattle.som_tables.specs.Rows.{replaced_at, AreInherited, HaveRowsBelow, introduced_count};
+ghost use Rattle.som_tables.specs.Rows.{same_token, replaced_at, AreInherited, HaveRowsBelow, introduced_count};
 ghost use Rattle.som_tables.specs.Layout.{Extends, IsBlock, IsLaid, IsStart, start_of, next_cell};
 
 use crate::line::Line;
 use crate::place::Place;
-use crate::row::{Row, introduced_by, replaced_cell, replaces_any};
+use crate::row::{Row, introduced_by, replaces_any};
 use crate::starts::first_start;
 use crate::{ClassNo, Kind, Token};
 use std::alloc::AllocError;
@@ -20,20 +20,57 @@ fn cell_at<C: Copy>(cells: &[C], place: usize) -> C
     cells[place]
 }
 
-/// The cell at a place of a block's copy: the one that replaces it, or else the one of the block, which begins there.
-fn copied_cell<K: Kind>(
-    cells: &[K::Cell],
+/// Copies so many cells that stand from a place on to the end.
+fn copy_cells<C: Copy>(cells: &mut Vec<C>, from: usize, count: usize) -> Result<(), AllocError>
+    requires { (p : ℕ) → p < count → from + p < length cells.old.items }
+    ensures grown { Extends cells.old.items cells.new.items }
+    ensures long { OnOk result (length cells.new.items ≡ length cells.old.items + count) }
+    ensures copied { OnOk result ((p : ℕ) → p < count → slice_get cells.new.items (length cells.old.items + p) ≡ slice_get cells.old.items (from + p)) }
+{
+    for place in 0..count {
+        let cell = cell_at(cells.as_slice(), from + place);
+        cells.push(cell)?;
+    }
+    Ok(())
+}
+
+/// Puts a cell into the block of a class, which begins there, where it replaces one of the block's.
+fn replace_cell<K: Kind>(
+    cells: &mut Vec<K::Cell>,
+    pair: &(Token<K>, K::Cell),
+    class: ClassNo,
+    start: usize,
+)
+    requires { start ≤ length cells.old.items }
+    ensures long { length cells.new.items ≡ length cells.old.items }
+    ensures kept { (i : ℕ) → i < start → slice_get cells.new.items i ≡ slice_get cells.old.items i }
+    ensures each { (p : ℕ) → start + p < length cells.old.items → slice_get cells.new.items (start + p)
+        ≡ (if same_token pair.now.0 (class, p) then Some pair.now.1 else slice_get cells.old.items (start + p)) }
+{
+    if pair.0.class() != class {
+        return;
+    }
+    let place = start + pair.0.place() as usize;
+    if place < cells.len() {
+        cells[place] = pair.1;
+    }
+}
+
+/// Puts the cells that replace others into the block of a class, which begins there: of several for one place the first, which is put last.
+fn replace_cells<K: Kind>(
+    cells: &mut Vec<K::Cell>,
     replaced: &[(Token<K>, K::Cell)],
     class: ClassNo,
-    from: usize,
-    place: usize,
-) -> K::Cell
-    requires { from + place < length cells.now }
-    ensures { Some result ≡ option_or (replaced_at replaced.now (class, place)) (slice_get cells.now (from + place)) }
+    start: usize,
+)
+    requires { start ≤ length cells.old.items }
+    ensures long { length cells.new.items ≡ length cells.old.items }
+    ensures kept { (i : ℕ) → i < start → slice_get cells.new.items i ≡ slice_get cells.old.items i }
+    ensures each { (p : ℕ) → start + p < length cells.old.items → slice_get cells.new.items (start + p)
+        ≡ option_or (replaced_at replaced.now (class, p)) (slice_get cells.old.items (start + p)) }
 {
-    match replaced_cell(replaced, class, place) {
-        Some(cell) => cell,
-        None => cell_at(cells, from + place),
+    for at in (0..replaced.len()).rev() {
+        replace_cell(cells, &replaced[at], class, start);
     }
 }
 
@@ -50,10 +87,9 @@ fn copy_block<K: Kind>(
     ensures copied { OnOk result ((p : ℕ) → p < count → slice_get cells.new.items (length cells.old.items + p)
         ≡ option_or (replaced_at replaced.now (class, p)) (slice_get cells.old.items (from + p))) }
 {
-    for place in 0..count {
-        let cell = copied_cell(cells.as_slice(), replaced, class, from, place);
-        cells.push(cell)?;
-    }
+    let start = cells.len();
+    copy_cells(cells, from, count)?;
+    replace_cells(cells, replaced, class, start);
     Ok(())
 }
 

@@ -87,22 +87,6 @@ pub(crate) fn introduced_by<K: Kind>(rows: &[Option<Row<K>>], class: ClassNo) ->
     }
 }
 
-/// The cell that replaces the one of a token.
-pub(crate) fn replaced_cell<K: Kind>(
-    replaced: &[(Token<K>, K::Cell)],
-    class: ClassNo,
-    place: usize,
-) -> Option<K::Cell>
-    ensures { result ≡ replaced_at replaced.now (class, place) }
-{
-    for pair in replaced {
-        if pair.0.class() == class && pair.0.place() as usize == place {
-            return Some(pair.1);
-        }
-    }
-    None
-}
-
 /// Whether the cell of some token of the class is replaced. It may say so where none is.
 pub(crate) fn replaces_any<K: Kind>(replaced: &[(Token<K>, K::Cell)], class: ClassNo) -> bool
     ensures { result ≡ false → (p : ℕ) → replaced_at replaced.now (class, p) ≡ None }
