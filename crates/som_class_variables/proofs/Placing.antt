@@ -1,5 +1,5 @@
 -- The rows of variables of loaded classes.
-use Rattle.std.proofs.Common.{◌≡◌, ◌≢◌, ℕ, zero, suc, ◌+◌, ◌<◌, inl, inr, Bool, true, false, if◌then◌else◌, List, [], ◌∷◌, length, map, flat_map, take, drop, get_or, ◌-◌, Option, Some, None, IsSome, is_some, slice_get, slice_set, slice_index_or, refl, sym, ap, ◌∙◌, subst, arith, true≢false}
+use Rattle.std.proofs.Common.{◌≡◌, ◌≢◌, ℕ, zero, suc, ◌+◌, ◌<◌, ◌^◌, inl, inr, Bool, true, false, if◌then◌else◌, List, [], ◌∷◌, length, map, flat_map, take, drop, get_or, ◌-◌, Option, Some, None, IsSome, is_some, slice_get, slice_set, slice_index_or, refl, sym, ap, ◌∙◌, subst, arith, true≢false}
 use Rattle.std.proofs.lemmas.Bool.{cases_eq}
 use Rattle.std.proofs.lemmas.List.{get_or-set_other, get_or-set_same, length-set, take_all}
 use Rattle.som_model.specs.declared.key.ClassKey.{ClassKey}
@@ -15,15 +15,15 @@ use Rattle.som_model_laws.proofs.Members.{Apart, not_true}
 use Rattle.som_model_laws.proofs.Lists.{map_mem, mem_map}
 use Rattle.som_model_laws.proofs.Standing as standing
 use Rattle.som_meta.specs.Numbering.{AreNumbered, IsNumbered, Numbering, key_at}
-use Rattle.som_tables.specs.Rows.{Added, AreDistinct, AreInherited, HasRow, HaveRowsBelow, IsDeclared, SomeHasToken, class_with, row_at}
+use Rattle.som_tables.specs.Rows.{Added, AreDistinct, AreInherited, HasRow, HaveRowsBelow, IsDeclared, SomeHasToken, class_with, inherited, replaced_at, row_at}
 use Rattle.som_class_layout_laws.specs.Laying.{IsScheme}
 use Rattle.som_class_layout_laws.specs.Places.{IsDataRow, IsPlaced, before}
 use Rattle.som_class_layout_laws.proofs.DataRows.{none_placed, parents_place, placed_filled, places_apart, variable_shown}
 use Rattle.som_tables.proofs.LateRows.{Filled-set, HasRow-set_same}
 use Rattle.som_class_table.specs.Loaded.{AreLoaded}
-use Rattle.som_class_variables.specs.Variables.{IsVariable, data_scheme, object_variables, own_variables, place_in}
-use Rattle.som_class_variables.specs.Placed.{ArePlaces, DataRows, HaveParentRows, cells_from, rows_with}
-use Rattle.som_class_variables.proofs.Filling.{all_over, distinct_over, none_over, place_over}
+use Rattle.som_class_variables.specs.Variables.{IsVariable, base_scheme, cell_count, object_variables, own_variables, place_in}
+use Rattle.som_class_variables.specs.Placed.{ArePlaces, DataRows, HaveParentRows, bases_from, rows_with}
+use Rattle.som_class_variables.proofs.Filling.{all_over, base_over, distinct_over, has_cell, has_variables, none_over}
 
 place_of_mem : (xs : List ℕ) (m : ℕ) → Mem m xs → (i : ℕ) × (i < length xs) × (get_or xs i 0 ≡ m)
 place_of_mem [] m there = absurd there
@@ -64,7 +64,7 @@ module _ (k : Numbering) (l : AreLoaded k) where
   no_choice : (p : ClassKey) → None ≡ Some p → ⊥
   no_choice p e = cc
 
-  pub is_scheme : IsScheme (data_scheme k)
+  pub is_scheme : IsScheme (base_scheme k)
   is_scheme = record {
     falls = falls;
     tells = tells;
@@ -84,12 +84,12 @@ module _ (k : Numbering) (l : AreLoaded k) where
   count m = length (own (key_at k m))
 
   -- what the row of a class is made of
-  module _ (rows : List (Option (Added ℕ))) (placed : IsPlaced (data_scheme k) own rows) (n : ℕ) (num : IsNumbered k n) (free : IsDeclared rows n)
+  module _ (rows : List (Option (Added ℕ))) (placed : IsPlaced (base_scheme k) own rows) (n : ℕ) (num : IsNumbered k n) (free : IsDeclared rows n)
       (ps : List ℕ) (ps_are : map (key_at k) ps ≡ h.parents (key_at k n)) (lower : (p : ℕ) → Mem p ps → p < n) (have : HaveParentRows k rows n)
       (ns : List ℕ) (ns_numbered : AreNumbered k ns) (ns_are : map (key_at k) (n ∷ ns) ≡ ancestors k.classes (key_at k n))
-      (cells : List ℕ) (each : (i : ℕ) → i < count n → slice_get cells i ≡ Some i) where
+      (cells : List ℕ) (each : (i : ℕ) → i < cell_count (count n) → slice_get cells i ≡ Some i) where
     abbrev pub made : Added ℕ
-    made = class_with ps cells (cells_from count (count n) ns)
+    made = class_with ps cells (bases_from count (count n) ns)
 
     rows_below : (qs : List ℕ) → ((q : ℕ) → Mem q qs → Mem q ps) → HaveRowsBelow n rows qs
     rows_below [] f = tt
@@ -121,7 +121,7 @@ module _ (k : Numbering) (l : AreLoaded k) where
     not_itself : Mem n ns → ⊥
     not_itself m = apart_all.0 m
 
-    pub is_row : IsDataRow (data_scheme k) own rows n made
+    pub is_row : IsDataRow (base_scheme k) own rows n made
     is_row = record {
       numbered = num;
       parents = ps_are;
@@ -130,37 +130,60 @@ module _ (k : Numbering) (l : AreLoaded k) where
       not_own = λ i lt. none_over count (count n) ns (n, i) (not_itself);
       others = λ t is away d.
           (let m = among t.0 is.0 away d in
+          let some = has_variables (count t.0) t.1 is.1 in
           let no : h.same (key_at k t.0) (key_at k n) ≡ false = other_key t.0 is.0 n num away in
-          let sum : count n + (before h.same own (key_at k t.0) (map (key_at k) ns) + t.1) ≡ (count n + before h.same own (key_at k t.0) (map (key_at k) ns)) + t.1 = omega arith in
-          place_over h.same own (key_at k) t.0 t.1 (IsNumbered k) (one_key t.0) (other_key t.0 is.0) is.1 (count n) ns (numbered_mem ns ns_numbered) m
-          ∙ ap (λ z. Some z) (sum ∙ sym (ap (λ (b : Bool). (if b then 0 else count n + before h.same own (key_at k t.0) (map (key_at k) ns)) + t.1) no)
-          ∙ ap (λ (xs : List ClassKey). before h.same own (key_at k t.0) xs + t.1) ns_are));
+          let first : t.1 ≡ 0 = some.1 in
+          let sum : (b : ℕ) → b ≡ b + 0 = λ b. omega arith in
+          ap (λ z. replaced_at (bases_from count (count n) ns) (t.0, z)) first
+          ∙ base_over h.same own (key_at k) t.0 (IsNumbered k) (one_key t.0) (other_key t.0 is.0) some.0 (count n) ns (numbered_mem ns ns_numbered) m
+          ∙ ap (λ z. Some z) (sym (ap (λ (b : Bool). if b then 0 else count n + before h.same own (key_at k t.0) (map (key_at k) ns)) no)
+          ∙ ap (λ (xs : List ClassKey). before h.same own (key_at k t.0) xs) ns_are
+          ∙ sum (before h.same own (key_at k t.0) (ancestors k.classes (key_at k n))) ∙ ap (λ z. before h.same own (key_at k t.0) (ancestors k.classes (key_at k n)) + z) (sym first)));
     }
 
     pub row_parents : HaveRowsBelow n rows ps
     row_parents = rows_below ps (λ q m. m)
 
-    variable_above : (m i p : ℕ) → Mem m ns → i < count m → SomeHasToken rows ps (m, i)
-    variable_above m i p there lt =
+    base_above : (m p : ℕ) → Mem m ns → 0 < count m → SomeHasToken rows ps (m, 0)
+    base_above m p there lt =
         let im = numbered_mem ns ns_numbered m there in
         let away : m ≢ n = λ e. not_itself (subst (λ z. Mem z ns) e there) in
         let d : Descends h (key_at k n) (key_at k m) = (descents h tells falls (key_at k n) (key_at k m)).0 (subst (λ (xs : List ClassKey). Mem (key_at k m) xs) ns_are (inr (mem_map (key_at k) m ns there))) in
-        parents_place (data_scheme k) is_scheme own rows placed n made num ps_are (rows_below ps (λ q m. m)) (m, i) (im, lt) away d
+        parents_place (base_scheme k) is_scheme own rows placed n made num ps_are (rows_below ps (λ q m. m)) (m, 0) (im, has_cell (count m) lt) away d
 
-    pub is_inherited : AreInherited rows ps (cells_from count (count n) ns)
-    is_inherited = all_over (λ r. SomeHasToken rows ps r.0) count (count n) ns variable_above
+    pub is_inherited : AreInherited rows ps (bases_from count (count n) ns)
+    is_inherited = all_over (λ r. SomeHasToken rows ps r.0) count (count n) ns base_above
 
-    pub is_distinct : AreDistinct (cells_from count (count n) ns)
+    pub is_distinct : AreDistinct (bases_from count (count n) ns)
     is_distinct = distinct_over count (count n) ns apart_all.1
 
-    pub now_placed : (new : List (Option (Added ℕ))) → new ≡ slice_set rows n (Some made) → IsPlaced (data_scheme k) own new
-    now_placed new e = subst (λ (z : List (Option (Added ℕ))). IsPlaced (data_scheme k) own z) (sym e) (placed_filled (data_scheme k) is_scheme own rows placed n made is_row (slice_set rows n (Some made)) (Filled-set rows n made free))
+    pub now_placed : (new : List (Option (Added ℕ))) → new ≡ slice_set rows n (Some made) → IsPlaced (base_scheme k) own new
+    now_placed new e = subst (λ (z : List (Option (Added ℕ))). IsPlaced (base_scheme k) own z) (sym e) (placed_filled (base_scheme k) is_scheme own rows placed n made is_row (slice_set rows n (Some made)) (Filled-set rows n made free))
 
     pub now_filled : (new : List (Option (Added ℕ))) → new ≡ slice_set rows n (Some made) → HasRow new n
     now_filled new e = subst (λ (z : List (Option (Added ℕ))). HasRow z n) (sym e) (HasRow-set_same rows n made free)
 
     pub now_others : (new : List (Option (Added ℕ))) → new ≡ slice_set rows n (Some made) → (m : ℕ) → m ≢ n → row_at new m ≡ row_at rows m
     now_others new e m away = ap (λ (z : List (Option (Added ℕ))). row_at z m) e ∙ (Filled-set rows n made free).others m away
+
+  -- a variable's place is that of its class's base and its own number
+
+  based : (n : ℕ) (t : ℕ × ℕ) (base : ℕ) → base ≡ place_in k.classes (key_at k n) (key_at k t.0) 0 → base + t.1 ≡ place_in k.classes (key_at k n) (key_at k t.0) t.1
+  based n t base e = (let b = before h.same own (key_at k t.0) (ancestors k.classes (key_at k n)) in let first : base ≡ b + 0 = e in omega (arith, first))
+
+  pub has_base : (rows : List (Option (Added ℕ))) → IsPlaced (base_scheme k) own rows → (n : ℕ) (t : ℕ × ℕ) → HasRow rows n → IsVariable k t → Descends h (key_at k n) (key_at k t.0)
+      → inherited rows n (t.0, 0) ≡ Some (place_in k.classes (key_at k n) (key_at k t.0) 0)
+  has_base rows placed n t has is d =
+      let here = is.1 in
+      let some : 0 < count t.0 = omega (arith, here) in
+      placed.cells n (t.0, 0) has (is.0, has_cell (count t.0) some) d
+
+  pub from_base : (rows : List (Option (Added ℕ))) → IsPlaced (base_scheme k) own rows → (n : ℕ) (t : ℕ × ℕ) → HasRow rows n → IsVariable k t → Descends h (key_at k n) (key_at k t.0)
+      → (base : ℕ) → Some base ≡ inherited rows n (t.0, 0) → base + t.1 ≡ place_in k.classes (key_at k n) (key_at k t.0) t.1
+  from_base rows placed n t has is d base e =
+      let two : Some base ≡ Some (place_in k.classes (key_at k n) (key_at k t.0) 0) = e ∙ has_base rows placed n t has is d in
+      let one : base ≡ place_in k.classes (key_at k n) (key_at k t.0) 0 = cc in
+      based n t base one
 
   -- what a place shows
 
@@ -186,13 +209,17 @@ within (y ∷ xs) (suc n) x e = let l = within xs n x e in omega (arith, l)
 pub free_numbered : (k : Numbering) (v : DataRows) (n : ℕ) → ArePlaces k v → IsDeclared v.rows n → IsNumbered k n
 free_numbered k v n all free = (let l = within v.rows n None free in omega (arith, l, all.each))
 
-pub now_places : (k : Numbering) (v : DataRows) → ArePlaces k v → (n : ℕ) → IsDeclared v.rows n → (rows : List (Option (Added ℕ))) → IsPlaced (data_scheme k) (own_variables k.classes) rows → length rows ≡ length v.rows
-    → ((m : ℕ) → m ≢ n → row_at rows m ≡ row_at v.rows m) → (keys : List ClassKey) → keys ≡ ancestors k.classes (key_at k n) → (types : List ValueType) → types ≡ flat_map (own_variables k.classes) keys
+pub now_places : (k : Numbering) (v : DataRows) → ArePlaces k v → (n : ℕ) → IsDeclared v.rows n → (rows : List (Option (Added ℕ))) → IsPlaced (base_scheme k) (own_variables k.classes) rows → length rows ≡ length v.rows
+    → length (object_variables k.classes (key_at k n)) < 2 ^ 32 → ((m : ℕ) → m ≢ n → row_at rows m ≡ row_at v.rows m) → (keys : List ClassKey) → keys ≡ ancestors k.classes (key_at k n) → (types : List ValueType) → types ≡ flat_map (own_variables k.classes) keys
     → (variables : List (Option (List ValueType))) → variables ≡ slice_set v.variables n (Some types) → ArePlaces k (rows_with rows variables)
-now_places k v all n free rows placed long others keys are types types_are variables set = record {
+now_places k v all n free rows placed long small others keys are types types_are variables set = record {
   each = long ∙ all.each;
   long = ap length set ∙ length-set v.variables n (Some types) ∙ all.long;
   placed = placed;
+  few = λ m has. elim (cases_eq m n) [
+    | inl e ↦ subst (λ z. length (object_variables k.classes (key_at k z)) < 2 ^ 32) (sym e) small
+    | inr away ↦ all.few m (subst (λ (o : Option (Added ℕ)). IsSome o) (others m away) has)
+  ];
   variables = λ m has. elim (cases_eq m n) [
     | inl e ↦ (
         let num = free_numbered k v n all free in
@@ -210,7 +237,8 @@ pub no_places : (k : Numbering) (rows : List (Option (Added ℕ))) (variables : 
 no_places k rows variables each long none = record {
   each = each;
   long = long;
-  placed = none_placed (data_scheme k) (own_variables k.classes) rows none;
+  placed = none_placed (base_scheme k) (own_variables k.classes) rows none;
+  few = λ n has. absurd (let no : is_some (row_at rows n) ≡ false = ap is_some (none n) in true≢false (sym has ∙ no));
   variables = λ n has. absurd (let no : is_some (row_at rows n) ≡ false = ap is_some (none n) in true≢false (sym has ∙ no));
 }
 

@@ -1,12 +1,12 @@
 -- Rows of places, and the variables of the classes that have rows.
-use Rattle.std.specs.Prelude.{◌≡◌, ℕ, zero, suc, ◌+◌, List, [], ◌∷◌, ◌++◌, length, slice_index_or, Option, Some, None}
+use Rattle.std.specs.Prelude.{◌≡◌, ℕ, zero, suc, ◌+◌, ◌<◌, ◌^◌, List, [], ◌∷◌, ◌++◌, length, slice_index_or, Option, Some, None}
 use Rattle.som_model.specs.declared.key.ValueType.{ValueType}
 use Rattle.som_model.specs.Lists.{Mem}
 use Rattle.som_model.specs.Classes.{hierarchy}
 use Rattle.som_meta.specs.Numbering.{IsNumbered, Numbering, key_at}
 use Rattle.som_class_layout_laws.specs.Places.{IsPlaced}
 use Rattle.som_tables.specs.Rows.{Added, HasRow}
-use Rattle.som_class_variables.specs.Variables.{data_scheme, object_variables, own_variables}
+use Rattle.som_class_variables.specs.Variables.{base_scheme, object_variables, own_variables}
 
 -- what each row is made of, and the types of the variables of each class that has one
 pub record DataRows : Type 0 where
@@ -17,23 +17,25 @@ pub record DataRows : Type 0 where
 abbrev pub rows_with : List (Option (Added ℕ)) → List (Option (List ValueType)) → DataRows
 rows_with rows variables = record { rows = rows; variables = variables }
 
--- the rows of these classes: each has a number, each cell of a row is the place of a variable, and the variables are those of an object of the class
+-- the rows of these classes: each has a number, each cell of a row is a base, the place of the first variable of its class, four bytes number the variables
+-- of an object, and the types are those of the class's objects
 pub record ArePlaces (k : Numbering) (v : DataRows) : Type 0 where
   pub each : length v.rows ≡ length k.keys
   pub long : length v.variables ≡ length k.keys
-  pub placed : IsPlaced (data_scheme k) (own_variables k.classes) v.rows
+  pub placed : IsPlaced (base_scheme k) (own_variables k.classes) v.rows
+  pub few : (n : ℕ) → HasRow v.rows n → length (object_variables k.classes (key_at k n)) < 2 ^ 32
   pub variables : (n : ℕ) → HasRow v.rows n → slice_index_or v.variables n None ≡ Some (object_variables k.classes (key_at k n))
 
 -- each parent of a class has a row
 abbrev pub HaveParentRows : Numbering → List (Option (Added ℕ)) → ℕ → Type 0
 HaveParentRows k rows n = (p : ℕ) → IsNumbered k p → Mem (key_at k p) ((hierarchy k.classes).parents (key_at k n)) → HasRow rows p
 
--- the cells of a class's variables from one of them on, for so many, which stand one after the other from a place on
-abbrev pub cells_of : ℕ → ℕ → ℕ → ℕ → List ((ℕ × ℕ) × ℕ)
-cells_of n i place zero = []
-cells_of n i place (suc count) = ((n, i), place) ∷ cells_of n (suc i) (suc place) count
+-- the base of a class with so many variables, if it has any
+abbrev pub base_of : ℕ → ℕ → ℕ → List ((ℕ × ℕ) × ℕ)
+base_of n place zero = []
+base_of n place (suc count) = ((n, 0), place) ∷ []
 
--- the cells of the variables of several classes, each class's after those before it
-abbrev pub cells_from : (ℕ → ℕ) → ℕ → List ℕ → List ((ℕ × ℕ) × ℕ)
-cells_from count place [] = []
-cells_from count place (n ∷ ns) = cells_of n 0 place (count n) ++ cells_from count (place + count n) ns
+-- the bases of several classes, the variables of each of which stand after those of the classes before it
+abbrev pub bases_from : (ℕ → ℕ) → ℕ → List ℕ → List ((ℕ × ℕ) × ℕ)
+bases_from count place [] = []
+bases_from count place (n ∷ ns) = base_of n place (count n) ++ bases_from count (place + count n) ns

@@ -1,5 +1,5 @@
 -- The variables of objects, by class and by place.
-use Rattle.std.specs.Prelude.{ℕ, ◌<◌, List, [], length, map, Option, Some, None}
+use Rattle.std.specs.Prelude.{ℕ, zero, suc, ◌<◌, List, [], length, map, Option, Some, None}
 use Rattle.som_model.specs.declared.key.ClassKey.{ClassKey}
 use Rattle.som_model.specs.declared.key.ValueType.{ValueType}
 use Rattle.som_model.specs.declared.class.Variable.{Variable}
@@ -35,10 +35,15 @@ place_in cs x a i = data_place (hierarchy cs) (own_variables cs) x a i
 abbrev pub IsVariable : Numbering → ℕ × ℕ → Type 0
 IsVariable k t = IsNumbered k t.0 × (t.1 < length (own_variables k.classes (key_at k t.0)))
 
--- what laying sees of a variable: its class alone has it, and nobody selects it
-abbrev pub variable_seen : Numbering → ℕ × ℕ → Method ClassKey
-variable_seen k t = record { class = key_at k t.0; has_body = same_key (key_at k t.0); chosen = λ x. None }
+-- what laying sees of a class's variables, which stand one after the other: the class alone has them, and nobody selects them
+abbrev pub variables_seen : Numbering → ℕ × ℕ → Method ClassKey
+variables_seen k t = record { class = key_at k t.0; has_body = same_key (key_at k t.0); chosen = λ x. None }
+
+-- a class with variables introduces one cell, for the place of its first, and another class none
+abbrev pub cell_count : ℕ → ℕ
+cell_count zero = 0
+cell_count (suc variables) = 1
 
 -- the numbered classes and their variables, as laying sees them
-abbrev pub data_scheme : Numbering → Scheme ClassKey
-data_scheme k = record { classes = hierarchy k.classes; count = length k.keys; key = key_at k; introduced = λ n. length (own_variables k.classes (key_at k n)); method = variable_seen k }
+abbrev pub base_scheme : Numbering → Scheme ClassKey
+base_scheme k = record { classes = hierarchy k.classes; count = length k.keys; key = key_at k; introduced = λ n. cell_count (length (own_variables k.classes (key_at k n))); method = variables_seen k }

@@ -1,7 +1,7 @@
 //! Rows of variables: the place of each variable in the objects of a class, and the types of all by their places.
 #![tactic(auto)]
 
-mod cells;
+mod bases;
 mod laws;
 mod own;
 mod places;

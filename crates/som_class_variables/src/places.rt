@@ -5,11 +5,11 @@ ghost use Rattle.som_meta.specs.Numbering.{AreNumbered, IsNumbered, key_at};
 ghost use Rattle.som_model.specs.Ancestors.{Descends};
 ghost use Rattle.som_model.specs.Classes.{ancestors as ancestors_of, hierarchy};
 ghost use Rattle.som_class_variables.specs.Placed.{ArePlaces, HaveParentRows};
-ghost use Rattle.som_class_variables.specs.Variables.{IsVariable, data_scheme, object_variables, own_variables, place_in};
+ghost use Rattle.som_class_variables.specs.Variables.{IsVariable, base_scheme, object_variables, own_variables, place_in};
 ghost use Rattle.som_tables.specs.Rows.{HasRow, IsDeclared, row_at};
 ghost use Rattle.std.specs.Prelude.{◌≡◌, ◌≢◌, ◌<◌, ◌∷◌, ℕ, IfOk, None, OnErr, OnOk, Some, is_some, length, map, slice_get, slice_set};
 
-use crate::cells::{first_places, places_from};
+use crate::bases::{bases_above, own_base};
 use crate::own::{know_loaded, own_count, types_of_all};
 use som_class_table::Classes;
 use som_meta::Ancestry;
@@ -54,30 +54,32 @@ fn above(classes: &Classes, class: ClassNo) -> &[ClassNo]
     &classes.ancestors(class).as_slice()[1..]
 }
 
-/// Gives a class its row: its own variables have the first places, and those of its ancestors others than in the rows of its parents.
+/// Gives a class its row: its own variables have the first places, and its ancestors have other bases than in the rows of its parents. Answers how many
+/// variables its objects have.
 fn fill_row(
     alloc: Global,
     classes: &Classes,
     table: &mut Table<DataKind>,
     class: ClassNo,
-) -> Result<(), NoMemory>
-    requires placed { IsPlaced (data_scheme classes.now) (own_variables classes.now.classes) table.old }
+) -> Result<u32, NoMemory>
+    requires placed { IsPlaced (base_scheme classes.now) (own_variables classes.now.classes) table.old }
     requires numbered { IsNumbered classes.now class }
     requires class { IsDeclared table.old class }
     requires parents { HaveParentRows classes.now table.old class }
-    ensures placed { OnOk result (IsPlaced (data_scheme classes.now) (own_variables classes.now.classes) table.new) }
+    ensures placed { OnOk result (IsPlaced (base_scheme classes.now) (own_variables classes.now.classes) table.new) }
     ensures filled { OnOk result (HasRow table.new class) }
+    ensures count { IfOk result (λ count. count ≡ length (object_variables classes.now.classes (key_at classes.now class))) }
     ensures others { (n : ℕ) → n ≢ class → row_at table.new n ≡ row_at table.old n }
     ensures long { length table.new ≡ length table.old }
     ensures err { OnErr result (table.new ≡ table.old) }
 {
     know_loaded(classes);
     let count = own_count(classes, class);
-    let own = first_places(alloc, count)?;
-    let others = places_from(alloc, classes, count, above(classes, class))?;
+    let own = own_base(alloc, count)?;
+    let (others, end) = bases_above(alloc, classes, count, above(classes, class))?;
     let parents = classes.parents(class).as_slice();
     table.fill(alloc, class, parents, own.as_slice(), others.as_slice())?;
-    Ok(())
+    Ok(end)
 }
 
 /// Puts a value at a place.
@@ -134,7 +136,7 @@ impl Places {
         ensures err { OnErr result (self.new ≡ self.old) }
     {
         let types = types_of_all(alloc, classes, classes.ancestors(class).as_slice())?;
-        fill_row(alloc, classes, &mut self.table, class)?;
+        let _count = fill_row(alloc, classes, &mut self.table, class)?;
         put(&mut self.variables, class.number() as usize, types);
         Ok(())
     }
@@ -167,7 +169,8 @@ impl Places {
         ensures within { result < length (object_variables classes.now.classes (key_at classes.now class)) }
     {
         know_loaded(classes);
-        self.table.cell(class, variable)
+        let base = self.table.cell(class, Token::new(variable.class(), 0));
+        base + u32::from(variable.place())
     }
 
     /// The types of the variables of the objects of a class that has a row, by their places.
