@@ -5,6 +5,7 @@ pub mod Obeying
 pub mod Entering
 pub mod Stepping
 pub mod Bursting
+pub mod AtOnce
 pub mod Returning
 pub mod Waking
 pub mod Giving
