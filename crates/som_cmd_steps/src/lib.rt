@@ -20,6 +20,6 @@ pub use laws::fault_law;
 pub use library_image::{look_at_rules, read_release, sound_release};
 pub use line::{line_of, named_line};
 pub use output::{End, Output};
-pub use printing::{refuse, say, tell};
+pub use printing::{refuse, say, say_lines, tell};
 pub use put::put_image;
 pub use stop::{CommandStop, Refusal, Why};

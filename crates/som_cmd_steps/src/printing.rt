@@ -6,7 +6,7 @@ ghost use Rattle.som_cmd_steps.specs.Putting.{nothing};
 ghost use Rattle.som_cmd_steps.specs.Saying.{SaysAll, SaysFailure, SaysFront, StopSaysAll, StopSaysFailure, StopSaysFront};
 ghost use Rattle.som_cmd_steps.specs.Status.{is_calm_status};
 ghost use Rattle.std.specs.List.{concat};
-ghost use Rattle.std.specs.Prelude.{IsTrue, Ok, [], ◌≡◌, ◌≢◌, ◌⊎◌};
+ghost use Rattle.std.specs.Prelude.{IsTrue, Ok, [], ◌≡◌, ◌≢◌, ◌≤◌, ◌⊎◌};
 
 use crate::output::Output;
 use crate::stop::CommandStop;
@@ -30,9 +30,9 @@ pub fn say<K: Sink>(out: &mut K, line: &Text, status: u8) -> u8
     }
 }
 
-// Writes lines, each once those before it are written, and answers the status that goes with them, or that of the sink's
-// failure or of want of memory.
-fn say_lines<K: Sink>(out: &mut K, lines: &[Text], status: u8) -> u8
+/// Writes lines, each once those before it are written, and answers the status that goes with them, or that of the sink's
+/// failure or of want of memory.
+pub fn say_lines<K: Sink>(out: &mut K, lines: &[Text], status: u8) -> u8
     requires sink { status ≢ 8 }
     requires memory { status ≢ 10 }
     ensures all { result ≢ 8 → result ≢ 10 → ShowsAll (K.written out.old) (K.written out.new) (concat lines.now) }
@@ -40,7 +40,9 @@ fn say_lines<K: Sink>(out: &mut K, lines: &[Text], status: u8) -> u8
     ensures sink_failed { result ≡ 8 → Rose (K.faults out.old) (K.faults out.new) }
     ensures front { ShowsFront (K.written out.old) (K.written out.new) (concat lines.now) }
     ensures nothing { lines.now ≡ [] → result ≡ status }
+    ensures later { K.faults out.old ≤ K.faults out.new }
     ensures calm { K.calm out.old → (result ≡ status) ⊎ (result ≡ 10) }
+    ensures calm_stays { K.calm out.old → K.calm out.new }
 {
     for line in lines {
         match send(out, line.as_slice()) {

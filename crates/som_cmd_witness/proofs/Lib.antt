@@ -1,0 +1,4 @@
+mod Reading
+mod Failing
+mod Refusals
+mod Room
