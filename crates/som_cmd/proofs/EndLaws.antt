@@ -39,6 +39,7 @@ use Rattle.som_cmd_tasks.specs.Ends.{tasks_text}
 use Rattle.som_cmd_tasks.specs.Newest.{Compiled, TurnsOnNewest, programs_of}
 use Rattle.som_cmd_tasks.specs.TasksAnswer.{IsTasksAnswer, clients_on}
 use Rattle.som_cmd_tasks.specs.TasksEnds.{KeepsAll, PrintsAlone, TellsTurns}
+use Rattle.som_cmd_witness.proofs.WitnessEndLaws.{witnessed_by}
 use Rattle.som_cmd_witness.specs.WitnessAnswer.{IsWitnessAnswer}
 use Rattle.som_generator.specs.declared.made.Made.{Made}
 use Rattle.som_cmd_generate.proofs.AnswerLaws.{generated_by}
@@ -264,6 +265,16 @@ module _ (asked : Asked) (files : Option Files) (status : ℕ) (new_files : Opti
       puts = puts_client_by out m.library m.names m.told status new_files old new p
           (ends_with (λ x. IsAnswer m.told (Client out m.library m.names) x) (IsClientAnswer out m.library m.names m.told) (client_alone m.told out m.library m.names) status new_files old new
           (ends_by asked (Client out m.library m.names) files m.told m.asked_is m.files_are status new_files old new e)) count now (left_by (Client out m.library m.names) m.told m.asked_is m.files_are) m.texts;
+    }
+
+    -- what becomes of two releases
+    pub witnessed : (out older newer : List ℕ) (o n : Release) → AreWitnessed asked files out older newer o n → TellsWitnessed o n files out status new_files old new
+    witnessed out older newer o n m = record {
+      told = m.told;
+      files_are = m.files_are;
+      tells = witnessed_by m.told out older newer status count now new_files old new
+          (ends_with (λ x. IsAnswer m.told (Witness out older newer) x) (IsWitnessAnswer out older newer m.told) (witness_alone m.told out older newer) status new_files old new
+          (ends_by asked (Witness out older newer) files m.told m.asked_is m.files_are status new_files old new e)) (left_by (Witness out older newer) m.told m.asked_is m.files_are) o n m.under;
     }
 
 -- ---- the newest of accepted releases
