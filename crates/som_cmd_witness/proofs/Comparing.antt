@@ -21,6 +21,11 @@ use Rattle.som_libimage.specs.Limits.{IsWithinLimits}
 use Rattle.som_link_limits.proofs.Classes.{release_counts}
 use Rattle.som_cmd_steps.proofs.ReleaseLaws.{may_be}
 use Rattle.som_cmd_steps.proofs.Statuses.{differs}
+use Rattle.som_release_laws.proofs.Accepting.{interface_ordered}
+use Rattle.som_breach_laws.proofs.Breaking.{first_told}
+use Rattle.som_breach_laws.proofs.Moving.{interface_stands}
+use Rattle.som_witness.proofs.Clients.{shows}
+use Rattle.som_witness.proofs.Holding.{interface_holds}
 use Rattle.som_witness.specs.Program.{witness_program}
 use Rattle.som_witness.specs.Verdicts.{ShowsBreach, verdict_by, verdict_of}
 use Rattle.som_witness.specs.Wording.{witness_texts}
@@ -58,16 +63,16 @@ answered_so i j rs v e f is =
 
 -- ---- the client
 
--- that a client shows a breach: it conforms, and was compiled against the old interface
-abbrev pub Shows : Type 0
-Shows =
-    (old new : Interface) (b : CompatBreach) → length old.classes < 2 ^ 64 → faces_breach (interface_classes old) ≡ None → faces_breach (interface_classes new) ≡ None → first_break old new ≡ Some b → b.rule ≢ 2
+-- it shows the breach: it conforms, and was compiled against the older interface
+shown : (old new : Interface) (b : CompatBreach) → length old.classes < 2 ^ 64 → faces_breach (interface_classes old) ≡ None → faces_breach (interface_classes new) ≡ None → first_break old new ≡ Some b → b.rule ≢ 2
     → ShowsBreach (witness_program old new b) old new
+shown old new b small eo en told other =
+    shows old new (interface_stands old eo) (interface_stands new en) (interface_holds old eo) small b (first_told old new (interface_ordered new en) b told) other
 
 all_faces : (r : Release) → IsWithinLimits r → All FaceWithin (interface_of r).classes
 all_faces r w = All-map FaceWithin (λ (d : ClassDecl). d.face) r.classes (λ k d lt. (w.each_class k d lt).face)
 
-module _ (shows : Shows) (rs : Releases) (sound : AreSound rs) where
+module _ (rs : Releases) (sound : AreSound rs) where
   abbrev old : Interface
   old = interface_of rs.older
 
@@ -79,7 +84,7 @@ module _ (shows : Shows) (rs : Releases) (sound : AreSound rs) where
       let before = compared rs.older sound.older sound.older_within in
       let after = compared rs.newer sound.newer sound.newer_within in
       let le = before.classes in
-      ((shows old new b (omega (arith, le)) before.rules after.rules told other).conforms, program_within old new b le (all_faces rs.older sound.older_within) (few old before))
+      ((shown old new b (omega (arith, le)) before.rules after.rules told other).conforms, program_within old new b le (all_faces rs.older sound.older_within) (few old before))
 
   by_rule : (b : CompatBreach) → break_of rs ≡ Some b → (two : Bool) → (b.rule == 2) ≡ two
       → MayBePut (program_in (if two then verdicts.VersionOnly b.class else verdicts.Shown b.rule b.class b.name b.place (witness_program old new b) (witness_texts old new b)))

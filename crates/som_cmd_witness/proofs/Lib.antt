@@ -1,4 +1,10 @@
-mod Reading
+mod Comparing
 mod Failing
+mod Outcomes
+mod PutLaws
+mod Reading
 mod Refusals
 mod Room
+mod Stopping
+mod Telling
+pub mod WitnessLaws

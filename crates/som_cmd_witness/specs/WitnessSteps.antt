@@ -1,6 +1,5 @@
 -- What the steps answer and leave of asking for a witness.
-use Rattle.std.specs.Prelude.{◌≡◌, ◌⊎◌, ℕ, List, [], ◌∷◌, ◌++◌, Option, Some, None, Result, Ok, Err, codes}
-use Rattle.std.specs.List.{concat}
+use Rattle.std.specs.Prelude.{◌≡◌, ℕ, List, [], ◌∷◌, Option, Some, None, Result, Ok, Err}
 use Rattle.std.specs.FinMap.{insert}
 use Rattle.som_io.specs.Outside.{Rose, ShowsAll, ShowsFront}
 use Rattle.som_model.specs.declared.program.ClientProgram.{ClientProgram}
@@ -20,7 +19,6 @@ use Rattle.som_cmd_witness.specs.declared.releases.Releases.{Releases}
 use Rattle.som_cmd_witness.specs.declared.told.Told.{Told}
 use Rattle.som_cmd_witness.specs.Lines.{accepted_line, breach_line, texts_lines, version_line}
 use Rattle.som_cmd_witness.specs.Releases.{releases_in}
-use Rattle.som_cmd_witness.specs.WitnessEnds.{SaysPutFailed}
 
 -- ---- what is told
 
@@ -72,21 +70,26 @@ abbrev pub NotPut : Option Files → List ℕ → List ℕ → Option Files → 
 NotPut None out image new_files = Unit {0}
 NotPut (Some files) out image new_files = PutFails files out image new_files
 
+-- the files are as they were, where they are told
+abbrev pub Kept : Option Files → Option Files → Type 0
+Kept None new_files = Unit {0}
+Kept (Some files) new_files = new_files ≡ Some files
+
 -- How putting an image ends, and what is said of it: it is done, and nothing is; or it failed, and the line that says so is written, or a front of it where the sink
 -- failed or memory ran out; or memory ran out before it.
 pub data EndsPut (files : Option Files) (out image : List ℕ) (before now sink_before sink_now status : ℕ) (new_files : Option Files) (old new : Option (List ℕ)) : Type 0 where
   done : status ≡ 0 → new ≡ old → Put files out image new_files → EndsPut files out image before now sink_before sink_now status new_files old new
   failed : status ≡ 6 → ShowsAll old new (store_failed out) → Rose before now → NotPut files out image new_files → EndsPut files out image before now sink_before sink_now status new_files old new
-  unsaid : status ≡ 8 → Rose sink_before sink_now → ShowsFront old new (store_failed out) → Rose before now → NotPut files out image new_files
+  failed_unsaid : status ≡ 8 → Rose sink_before sink_now → ShowsFront old new (store_failed out) → Rose before now → NotPut files out image new_files
       → EndsPut files out image before now sink_before sink_now status new_files old new
-  said_in_part : status ≡ 10 → ShowsFront old new (store_failed out) → Rose before now → NotPut files out image new_files → EndsPut files out image before now sink_before sink_now status new_files old new
-  no_memory : status ≡ 10 → new ≡ old → new_files ≡ files → EndsPut files out image before now sink_before sink_now status new_files old new
+  failed_said_in_part : status ≡ 10 → ShowsFront old new (store_failed out) → Rose before now → NotPut files out image new_files → EndsPut files out image before now sink_before sink_now status new_files old new
+  no_memory : status ≡ 10 → new ≡ old → Kept files new_files → EndsPut files out image before now sink_before sink_now status new_files old new
 
 -- How a call ends that isn't refused. The text isn't written whole, since the sink failed or memory ran out, and nothing is put; or it is, and there is no image; or the image is put
 -- then, with what is said of that.
 pub data EndsTold (text : List ℕ) (image : Option (List ℕ)) (files : Option Files) (out : List ℕ) (before now sink_before sink_now status : ℕ) (new_files : Option Files) (old new : Option (List ℕ)) : Type 0 where
   unsaid : status ≡ 8 → Rose sink_before sink_now → ShowsFront old new text → new_files ≡ files → EndsTold text image files out before now sink_before sink_now status new_files old new
   said_in_part : status ≡ 10 → ShowsFront old new text → new_files ≡ files → EndsTold text image files out before now sink_before sink_now status new_files old new
-  nothing_to_put : image ≡ None → status ≡ 0 → ShowsAll old new text → new_files ≡ files → EndsTold text image files out before now sink_before sink_now status new_files old new
+  nothing_put : image ≡ None → status ≡ 0 → ShowsAll old new text → new_files ≡ files → EndsTold text image files out before now sink_before sink_now status new_files old new
   then_put : (bytes : List ℕ) (between : Option (List ℕ)) → image ≡ Some bytes → AreBytes bytes → ShowsAll old between text
       → EndsPut files out bytes before now sink_before sink_now status new_files between new → EndsTold text image files out before now sink_before sink_now status new_files old new

@@ -7,7 +7,7 @@ ghost use Rattle.std.specs.List.{concat};
 ghost use Rattle.std.specs.Prelude.{IsTrue};
 
 use crate::told::Told;
-use som_cmd_steps::{put_image, refuse, say_lines};
+use som_cmd_steps::{CommandStop, put_image, say, say_lines};
 use som_io::{Sink, Store};
 use som_model::{List, Text};
 use std::alloc::Global;
@@ -27,7 +27,8 @@ fn put_after<S: Store, K: Sink>(
     let _all = image.as_bytes();
     match put_image(alloc, name, image, store) {
         Ok(_) => 0,
-        Err(stop) => refuse(out, &stop),
+        Err(CommandStop::StoreFailed(line)) => say(out, &line, 6),
+        Err(_) => 10,
     }
 }
 

@@ -62,7 +62,7 @@ fn tell_of(alloc: Global, releases: &Releases) -> Result<Told, NoMemory>
 }
 
 /// What is told and put of the releases of the images under two names.
-#[tactic(auto, using(crate::proofs::Telling::none_told, crate::proofs::Telling::stops_as))]
+#[tactic(auto, using(crate::proofs::Telling::none_told, crate::proofs::Telling::both_told))]
 pub fn told_of<S: Store>(
     alloc: Global,
     old: &Text,
