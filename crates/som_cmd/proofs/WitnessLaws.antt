@@ -1,5 +1,5 @@
 -- What `witness` has put is a client that is refused on the newer release, and the texts that it prints are compiled to it.
-use Rattle.std.proofs.Common.{◌≡◌, ◌≢◌, ◌≤◌, ◌+◌, ℕ, Bool, true, List, [], ◌∷◌, length, codes, Option, Some, Result, Ok, Err, refl, sym, ap, subst, ◌∙◌, inl, inr, arith}
+use Rattle.std.proofs.Common.{◌≡◌, ◌≢◌, ◌≤◌, ◌+◌, ℕ, Bool, true, false, ◌&&◌, if◌then◌else◌, List, [], ◌∷◌, length, codes, Option, Some, Result, Ok, Err, refl, sym, ap, subst, ◌∙◌, inl, inr, arith}
 use Rattle.std.specs.FinMap.{get, insert}
 use Rattle.std.specs.Option.{ok_or}
 use Rattle.som_model.specs.declared.limits.TheConstants.{MAX_BYTES}
@@ -9,6 +9,7 @@ use Rattle.som_model.specs.declared.program.Release.{Release}
 use Rattle.som_model.specs.Bytes.{Files}
 use Rattle.som_model.specs.Class.{interface_of}
 use Rattle.som_model.specs.Compatible.{CompatBreach, first_break}
+use Rattle.som_model.specs.Images.{client_image}
 use Rattle.som_model.specs.Lists.{Mem}
 use Rattle.som_model.specs.Steps.{◌>>=◌}
 use Rattle.som_libimage.proofs.Decoded.{image_within}
@@ -24,11 +25,11 @@ use Rattle.som_cmd_steps.specs.declared.stop.Refusal.{Refusal}
 use Rattle.som_cmd_steps.specs.Fetching.{file_of}
 use Rattle.som_cmd_steps.specs.Lines.{absent}
 use Rattle.som_cmd_steps.specs.StoredImages.{IsClientUnder, IsUnder}
-use Rattle.som_cmd_sources.specs.Texts.{texts_after, texts_in}
+use Rattle.som_cmd_sources.specs.Texts.{text_in, texts_after}
 use Rattle.som_cmd_sources.proofs.TextLaws.{text_got}
 use Rattle.som_cmd_build.proofs.PutFiles.{client_still_under, get_put, still_under}
 use Rattle.som_cmd_witness.specs.WitnessEnds.{AreUnder, PutsWitness}
-use Rattle.som_cmd.specs.Words.{Asked, Client, Run, Show, asked, is_name}
+use Rattle.som_cmd.specs.Words.{Asked, Bad, Client, Run, Show, are_files, asked, is_name}
 use Rattle.som_cmd.specs.Ends.{AreImagesOf, IsImageOf, IsImageOfClient}
 use Rattle.som_cmd.specs.PutEnds.{AreClientTextsOf, PutsProgram}
 use Rattle.som_cmd.specs.Witnessing.{HoldsEach, WitnessPuts}
@@ -101,13 +102,15 @@ pub refused_later : (files new_files later : Option Files) (out older newer libr
     → interface_of r ≡ interface_of n → IsImageOfClient (Show out) later (witness_of o n b) → IsImageOf (Show library) later r
     → AreImagesOf (Run out library fuel shows) later out library (witness_of o n b) r fuel shows × (first_break (witness_of o n b).base (interface_of r) ≡ Some b)
 refused_later files new_files later out older newer library o n r b fuel shows call same i j =
-    let u = under_name later i.told library r i.files_are j in
-    (record {
-      told = i.told;
-      files_are = i.files_are;
-      asked_is = refl;
-      images = record { program = client_under_name later i.told out (witness_of o n b) i.files_are i; release = u };
-    }, (refused_by files new_files out older newer o n b call i.told library r u same).unkept)
+    let u = under_name later i.told library r i.files_are j in (
+      record {
+        told = i.told;
+        files_are = i.files_are;
+        asked_is = refl;
+        images = record { program = client_under_name later i.told out (witness_of o n b) i.files_are i; release = u };
+      },
+      (refused_by files new_files out older newer o n b call i.told library r u same).unkept,
+    )
 
 -- on the newer release itself
 newer_stays : (files new_files : Option Files) (out older newer : List ℕ) (o n : Release) (b : CompatBreach) → WitnessPuts files out older newer o n b new_files → newer ≢ out → IsImageOf (Show newer) new_files n
@@ -126,15 +129,23 @@ base_is o n b = refl
 
 -- ---- its texts
 
+abbrev Read : Type 0
+Read = Result (List Source) Refusal
+
+abbrev with_first : Source → Read → Read
+with_first s rest = rest >>= λ ss. Ok (s ∷ ss)
+
+abbrev then_others : ℕ → List (List ℕ) → Files → Source → Read
+then_others before names files s = with_first s (texts_after (before + length s.bytes) names files)
+
 -- files that hold texts, which aren't too long, come to them
 texts_held : (before : ℕ) (files : Files) (ss : List Source) → ((s : Source) → Mem s ss → get files s.name ≡ Some s.bytes) → before + bytes_in ss ≤ MAX_BYTES → texts_after before (names_of ss) files ≡ Ok ss
 texts_held before files [] holds le = refl
 texts_held before files (s ∷ ss) holds le =
     let found : file_of s.name files ≡ Ok s.bytes = ap (λ (x : Option (List ℕ)). ok_or x (absent s.name)) (holds s (inl refl)) in
-    let one = text_got (Some files) before s.name s.bytes s found (omega (arith, le)) refl in
+    let one : text_in before s.name files ≡ Ok s = text_got (Some files) before s.name s.bytes s found (omega (arith, le)) refl in
     let others = texts_held (before + length s.bytes) files ss (λ t m. holds t (inr m)) (omega (arith, le)) in
-    ap (λ (x : Result Source Refusal). x >>= λ y. texts_after (before + length y.bytes) (names_of ss) files >>= λ ys. Ok (y ∷ ys)) one
-    ∙ ap (λ (x : Result (List Source) Refusal). x >>= λ ys. Ok (s ∷ ys)) others
+    ap (λ (x : Result Source Refusal). x >>= then_others before (names_of ss) files) one ∙ ap (λ (x : Read). with_first s x) others
 
 pub compiled : (files new_files later : Option Files) (out older newer library name : List ℕ) (o n : Release) (b : CompatBreach) (t : Texts) (told : Files) → WitnessPuts files out older newer o n b new_files
     → witness_texts (interface_of o) (interface_of n) b ≡ Some t → later ≡ Some told → HoldsEach told t → IsImageOf (Show library) later o
@@ -153,15 +164,20 @@ compiled files new_files later out older newer library name o n b t told call ha
       texts = record { base = o; under = under_name later told library o same i; texts = files_of t; texts_are = texts_held 0 told (files_of t) holds (omega (arith, short)); stand = c.stand };
     }
 
-words_by : (name library idl bodies main : List ℕ) → is_name name ≡ true → is_name library ≡ true
-    → asked (codes "client" ∷ name ∷ library ∷ names_of (files_of (record { idl = idl; bodies = bodies; main = main }))) ≡ Client name library (names_of (files_of (record { idl = idl; bodies = bodies; main = main })))
-words_by [] library idl bodies main e f = absurd cc
-words_by (x ∷ xs) [] idl bodies main e f = absurd cc
-words_by (x ∷ xs) (y ∷ ys) idl [] main e f = refl
-words_by (x ∷ xs) (y ∷ ys) idl (b ∷ bs) main e f = refl
+-- names of such files are those of texts with one main
+files_fit : (idl bodies main : List ℕ) → are_files 1 (names_of (files_of (record { idl = idl; bodies = bodies; main = main }))) ≡ true
+files_fit idl [] main = refl
+files_fit idl (b ∷ bs) main = refl
+
+first_of : (a b c : Bool) (x y : Asked) → a ≡ true → b ≡ true → c ≡ true → (if a && b && c then x else y) ≡ x
+first_of true true true x y e f g = refl
+first_of true true false x y e f g = absurd cc
+first_of true false c x y e f g = absurd cc
+first_of false b c x y e f g = absurd cc
 
 pub words_are : (name library : List ℕ) (t : Texts) → is_name name ≡ true → is_name library ≡ true → asked (codes "client" ∷ name ∷ library ∷ names_of (files_of t)) ≡ Client name library (names_of (files_of t))
-words_are name library t e f = words_by name library t.idl t.bodies t.main e f
+words_are name library t e f =
+    first_of (is_name name) (is_name library) (are_files 1 (names_of (files_of t))) (Client name library (names_of (files_of t))) Bad e f (files_fit t.idl t.bodies t.main)
 
 one_image : (image : Option (List ℕ)) (a b : List ℕ) → image ≡ Some a → image ≡ Some b → a ≡ b
 one_image image a b e f = let g : Some a ≡ Some b = sym e ∙ f in cc
@@ -170,4 +186,4 @@ pub same_image : (files new_files later last : Option Files) (out older newer na
     → (made : PutsProgram later name (witness_of o n b) status last old new) → (call.told.tells.shown b call.unkept call.other).image ≡ made.puts.image
 same_image files new_files later last out older newer name o n b status old new call made =
     let put = put_of files new_files out older newer o n b call in
-    one_image _ put.image made.puts.image put.spelled made.puts.spelled
+    one_image (client_image (witness_of o n b)) put.image made.puts.image put.spelled made.puts.spelled
