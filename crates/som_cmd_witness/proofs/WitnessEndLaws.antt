@@ -139,7 +139,7 @@ module _ (files : Files) (out old new : List ℕ) (status count now : ℕ) (new_
 pub witnessed_told : (files : Option Files) (out old new : List ℕ) (status count now : ℕ) (new_files : Option Files) (was is : Option (List ℕ)) → EndsAsTold (IsWitnessAnswer out old new) files status new_files was is
     → LeavesFilesTold files out old new count now status new_files was is → TellsWitnessOf files out old new status new_files was is
 witnessed_told None out old new status count now new_files was is e left = tt
-witnessed_told (Some files) out old new status count now new_files was is e left o n under = witnessed_by files out old new status count now new_files was is e left o n under
+witnessed_told (Some files) out old new status count now new_files was is e left = λ o n under. witnessed_by files out old new status count now new_files was is e left o n under
 
 -- the client's image that was put stands under the name, and the client conforms
 pub client_under : (files : Files) (out old new : List ℕ) (o n : Release) (b : CompatBreach) → AreUnder files old new o n → first_break (interface_of o) (interface_of n) ≡ Some b → b.rule ≢ 2
