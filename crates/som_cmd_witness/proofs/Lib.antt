@@ -7,4 +7,5 @@ mod Refusals
 mod Room
 mod Stopping
 mod Telling
+pub mod WitnessEndLaws
 pub mod WitnessLaws

@@ -79,6 +79,13 @@ told_earlier text image files out before mid now sink_before sink_now status new
 told_earlier text image files out before mid now sink_before sink_now status new_files old new le (then_put bytes between is are shows ends) =
     then_put bytes between is are shows (put_earlier files out bytes before mid now sink_before sink_before sink_now status new_files between new le (omega arith) ends)
 
+-- and what is put into the files that are as they were is put into those
+pub over_same : (text : List ℕ) (image : Option (List ℕ)) (files told : Option Files) (out : List ℕ) (before mid now sink_before sink_now status : ℕ) (new_files : Option Files) (old new : Option (List ℕ)) → files ≡ told → before ≤ mid
+    → EndsTold text image files out mid now sink_before sink_now status new_files old new → EndsTold text image told out before now sink_before sink_now status new_files old new
+over_same text image files told out before mid now sink_before sink_now status new_files old new same le ends =
+    subst (λ (x : Option Files). EndsTold text image x out before now sink_before sink_now status new_files old new) same
+    (told_earlier text image files out before mid now sink_before sink_now status new_files old new le ends)
+
 module _ (text : List ℕ) (image : Option (List ℕ)) (files : Option Files) (out : List ℕ) (before now sink_before : ℕ) where
   -- the lines aren't all written
   module _ (sink_now status : ℕ) (old new : Option (List ℕ)) (zero : status ≢ 8 → status ≢ 10 → status ≡ 0) (sink : status ≡ 8 → Rose sink_before sink_now) (front : ShowsFront old new text) (not0 : status ≢ 0) where

@@ -228,15 +228,15 @@ place_by same n s t rest = if same then rest else Some (record { place = n; old_
 same_change : (c d : Change) → Some c ≡ Some d → c ≡ d
 same_change c d e = cc
 
+placed_by : (n : ℕ) (s t : ValueType) (ss : List ValueType) (rest : Option Change) (d : Change) → (rest ≡ Some d → d.place < suc n + length ss) → (same : Bool) → place_by same n s t rest ≡ Some d → d.place < n + length (s ∷ ss)
+placed_by n s t ss rest d more true f = let lt = more f in omega (arith, lt)
+placed_by n s t ss rest d more false f = let is = ap (λ (c : Change). c.place) (same_change (record { place = n; old_type = s; new_type = t }) d f) in omega (arith, is)
+
 -- a change is at the place of a parameter
 placed : (n : ℕ) (ss ts : List ValueType) (d : Change) → first_change n ss ts ≡ Some d → d.place < n + length ss
 placed n [] ts d e = absurd cc
 placed n (s ∷ ss) [] d e = absurd cc
-placed n (s ∷ ss) (t ∷ ts) d e = by (same_type s t) e
-  where
-    by : (same : Bool) → place_by same n s t (first_change (suc n) ss ts) ≡ Some d → d.place < n + length (s ∷ ss)
-    by true f = let lt = placed (suc n) ss ts d f in omega (arith, lt)
-    by false f = let is = ap (λ (c : Change). c.place) (same_change (record { place = n; old_type = s; new_type = t }) d f) in omega (arith, is)
+placed n (s ∷ ss) (t ∷ ts) d e = placed_by n s t ss (first_change (suc n) ss ts) d (placed (suc n) ss ts d) (same_type s t) e
 
 change_room : (news : List Class) (s t : Sig) (o : Option Change) → ((d : Change) → o ≡ Some d → d.place < 2 ^ 16) → length s.params ≤ MAX_PARAMETERS → HasRoom (change_showing news s t o)
 change_room news s t (Some d) low le = either (fits_among news d.new_type d.old_type) (KeepsParameter s.params d.place d.old_type) (Passes s.params d.place d.old_type) (low d refl) le

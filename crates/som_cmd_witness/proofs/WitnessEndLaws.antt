@@ -16,7 +16,7 @@ use Rattle.som_cmd_steps.specs.Fetching.{file_of}
 use Rattle.som_cmd_steps.specs.ImageSteps.{kept_or, read_or, release_in, rules_kept}
 use Rattle.som_cmd_steps.specs.Lines.{store_failed}
 use Rattle.som_cmd_steps.specs.Outcomes.{EndsAs, EndsAsTold}
-use Rattle.som_cmd_steps.specs.StoredImages.{IsUnder}
+use Rattle.som_cmd_steps.specs.StoredImages.{IsClientUnder, IsUnder}
 use Rattle.som_cmd_steps.proofs.ByteLaws.{library_read}
 use Rattle.som_cmd_steps.proofs.FileLaws.{got_by}
 use Rattle.som_cmd_steps.proofs.OutcomeLaws.{files_of, status_is, text_of}
@@ -139,4 +139,11 @@ module _ (files : Files) (out old new : List ℕ) (status count now : ℕ) (new_
 pub witnessed_told : (files : Option Files) (out old new : List ℕ) (status count now : ℕ) (new_files : Option Files) (was is : Option (List ℕ)) → EndsAsTold (IsWitnessAnswer out old new) files status new_files was is
     → LeavesFilesTold files out old new count now status new_files was is → TellsWitnessOf files out old new status new_files was is
 witnessed_told None out old new status count now new_files was is e left = tt
-witnessed_told (Some files) out old new status count now new_files was is e left o n under = witnessed_by files out old new status count now new_files was is e left o n under
+witnessed_told (Some files) out old new status count now new_files was is e left = λ o n under. witnessed_by files out old new status count now new_files was is e left o n under
+
+-- the client's image that was put stands under the name, and the client conforms
+pub client_under : (files : Files) (out old new : List ℕ) (o n : Release) (b : CompatBreach) → AreUnder files old new o n → first_break (interface_of o) (interface_of n) ≡ Some b → b.rule ≢ 2
+    → (status : ℕ) (new_files : Option Files) (was is : Option (List ℕ)) → (p : PutsWitness o n b files out status new_files was is) → IsClientUnder (insert files out p.image) out (witness_program (interface_of o) (interface_of n) b)
+client_under files out old new o n b under told other status new_files was is p =
+    let fits = client_fits (both o n) (sound_in old new (both o n) files (under_in files old new o n under)) b told other in
+    record { bytes = p.image; image_is = get_put files out p.image; bytes_are = p.bytes_are; spelled = p.spelled; conforms = fits.0 }

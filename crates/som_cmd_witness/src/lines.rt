@@ -3,7 +3,7 @@
 ghost use Rattle.som_cmd_steps.specs.Lines.{or_dash};
 ghost use Rattle.som_cmd_witness.specs.Lines.{bodies_lines, breach_line, files_lines, line, texts_lines};
 ghost use Rattle.som_cmd_witness.specs.WitnessSteps.{verdict_lines};
-ghost use Rattle.std.specs.Prelude.{IfOk, option_copied, ◌++◌, ◌≡◌};
+ghost use Rattle.std.specs.Prelude.{IfOk, option_copied, [], ◌++◌, ◌∷◌, ◌≡◌};
 
 use som_cmd_steps::line_of;
 use som_model::{List, NoMemory, Text};
