@@ -11,8 +11,9 @@ use std::process::ExitCode;
 use std::rt::Files;
 use std::{env, io};
 
-/// What people are told beside the line of a command that has no form.
-const USAGE: &str = "usage: som library OUT FILE..
+/// What people are told beside the line of a command that has no form: which program it is, and its commands.
+const USAGE: &str = "som 1.0 of Kelimbano, for SOM 2.1; images of versions 1 and 2
+usage: som library OUT FILE..
        som client OUT LIBRARY FILE..
        som check IMAGE IMAGE..
        som run CLIENT LIBRARY [--fuel N] [--trace [CLASS]]
