@@ -8,7 +8,7 @@ ghost use Rattle.som_class_variables.specs.Variables.{IsVariable, object_variabl
 ghost use Rattle.std.specs.Prelude.{◌≡◌, ◌<◌, ℕ, length, slice_get};
 
 use crate::linked::Linked;
-use som_model::{List, ValueType};
+use som_class_variables::ObjectVariables;
 use som_tables::{ClassNo, DToken};
 
 impl Linked {
@@ -41,9 +41,9 @@ impl Linked {
     }
 
     /// The types of the variables of the objects of a class that is made, by their places.
-    pub fn variables(&self, class: ClassNo) -> &List<ValueType>
+    pub fn variables(&self, class: ClassNo) -> ObjectVariables<'_>
         requires { IsMadeIn self.now class }
-        ensures { result.now ≡ object_variables self.now.classes.classes (key_at self.now.classes class) }
+        ensures { result ≡ object_variables self.now.classes.classes (key_at self.now.classes class) }
     {
         let classes = self.classes();
         self.parts.places.variables(classes, class)

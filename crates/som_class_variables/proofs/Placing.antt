@@ -1,7 +1,6 @@
 -- The rows of variables of loaded classes.
-use Rattle.std.proofs.Common.{◌≡◌, ◌≢◌, ℕ, zero, suc, ◌+◌, ◌<◌, ◌^◌, inl, inr, Bool, true, false, if◌then◌else◌, List, [], ◌∷◌, length, map, flat_map, take, drop, get_or, ◌-◌, Option, Some, None, IsSome, is_some, slice_get, slice_set, slice_index_or, refl, sym, ap, ◌∙◌, subst, arith, true≢false}
-use Rattle.std.proofs.lemmas.Bool.{cases_eq}
-use Rattle.std.proofs.lemmas.List.{get_or-set_other, get_or-set_same, length-set, take_all}
+use Rattle.std.proofs.Common.{◌≡◌, ◌≢◌, ℕ, zero, suc, ◌+◌, ◌<◌, inl, inr, Bool, true, false, if◌then◌else◌, List, [], ◌∷◌, length, map, take, drop, get_or, ◌-◌, Option, Some, None, slice_get, slice_set, refl, sym, ap, ◌∙◌, subst, arith}
+use Rattle.std.proofs.lemmas.List.{take_all}
 use Rattle.som_model.specs.declared.key.ClassKey.{ClassKey}
 use Rattle.som_model.specs.declared.key.ValueType.{ValueType}
 use Rattle.som_model.specs.Lists.{Mem}
@@ -18,11 +17,11 @@ use Rattle.som_meta.specs.Numbering.{AreNumbered, IsNumbered, Numbering, key_at}
 use Rattle.som_tables.specs.Rows.{Added, AreDistinct, AreInherited, HasRow, HaveRowsBelow, IsDeclared, SomeHasToken, class_with, inherited, replaced_at, row_at}
 use Rattle.som_class_layout_laws.specs.Laying.{IsScheme}
 use Rattle.som_class_layout_laws.specs.Places.{IsDataRow, IsPlaced, before}
-use Rattle.som_class_layout_laws.proofs.DataRows.{none_placed, parents_place, placed_filled, places_apart, variable_shown}
+use Rattle.som_class_layout_laws.proofs.DataRows.{parents_place, placed_filled, places_apart, variable_shown}
 use Rattle.som_tables.proofs.LateRows.{Filled-set, HasRow-set_same}
 use Rattle.som_class_table.specs.Loaded.{AreLoaded}
 use Rattle.som_class_variables.specs.Variables.{IsVariable, base_scheme, cell_count, object_variables, own_variables, place_in}
-use Rattle.som_class_variables.specs.Placed.{ArePlaces, DataRows, HaveParentRows, bases_from, rows_with}
+use Rattle.som_class_variables.specs.Placed.{HaveParentRows, bases_from}
 use Rattle.som_class_variables.proofs.Filling.{all_over, base_over, distinct_over, has_cell, has_variables, none_over}
 
 place_of_mem : (xs : List ℕ) (m : ℕ) → Mem m xs → (i : ℕ) × (i < length xs) × (get_or xs i 0 ≡ m)
@@ -199,48 +198,10 @@ module _ (k : Numbering) (l : AreLoaded k) where
       pair : s.0 ≡ t.0 → s.1 ≡ t.1 → s ≡ t
       pair e f = ap (λ (z : ℕ). let p : ℕ × ℕ = (z, s.1) in p) e ∙ ap (λ (z : ℕ). let p : ℕ × ℕ = (t.0, z) in p) f
 
--- all rows, where one more class has its own
-
 within : {A : Type 0} (xs : List A) (n : ℕ) (x : A) → slice_get xs n ≡ Some x → n < length xs
 within [] n x e = absurd (cc)
 within (y ∷ xs) zero x e = omega arith
 within (y ∷ xs) (suc n) x e = let l = within xs n x e in omega (arith, l)
-
-pub free_numbered : (k : Numbering) (v : DataRows) (n : ℕ) → ArePlaces k v → IsDeclared v.rows n → IsNumbered k n
-free_numbered k v n all free = (let l = within v.rows n None free in omega (arith, l, all.each))
-
-pub now_places : (k : Numbering) (v : DataRows) → ArePlaces k v → (n : ℕ) → IsDeclared v.rows n → (rows : List (Option (Added ℕ))) → IsPlaced (base_scheme k) (own_variables k.classes) rows → length rows ≡ length v.rows
-    → length (object_variables k.classes (key_at k n)) < 2 ^ 32 → ((m : ℕ) → m ≢ n → row_at rows m ≡ row_at v.rows m) → (keys : List ClassKey) → keys ≡ ancestors k.classes (key_at k n) → (types : List ValueType) → types ≡ flat_map (own_variables k.classes) keys
-    → (variables : List (Option (List ValueType))) → variables ≡ slice_set v.variables n (Some types) → ArePlaces k (rows_with rows variables)
-now_places k v all n free rows placed long small others keys are types types_are variables set = record {
-  each = long ∙ all.each;
-  long = ap length set ∙ length-set v.variables n (Some types) ∙ all.long;
-  placed = placed;
-  few = λ m has. elim (cases_eq m n) [
-    | inl e ↦ subst (λ z. length (object_variables k.classes (key_at k z)) < 2 ^ 32) (sym e) small
-    | inr away ↦ all.few m (subst (λ (o : Option (Added ℕ)). IsSome o) (others m away) has)
-  ];
-  variables = λ m has. elim (cases_eq m n) [
-    | inl e ↦ (
-        let num = free_numbered k v n all free in
-        let room : n < length v.variables = omega (arith, num, all.long) in
-        ap (λ z. slice_index_or variables z None) e ∙ ap (λ (l : List (Option (List ValueType))). slice_index_or l n None) set ∙ get_or-set_same v.variables n (Some types) None room
-        ∙ ap (λ z. Some z) (types_are ∙ ap (flat_map (own_variables k.classes)) are) ∙ ap (λ z. Some (object_variables k.classes (key_at k z))) (sym e))
-    | inr away ↦ (
-        ap (λ (l : List (Option (List ValueType))). slice_index_or l m None) set ∙ get_or-set_other v.variables n m (Some types) None away
-        ∙ all.variables m (subst (λ (o : Option (Added ℕ)). IsSome o) (others m away) has))
-  ];
-}
-
--- before any class has a row
-pub no_places : (k : Numbering) (rows : List (Option (Added ℕ))) (variables : List (Option (List ValueType))) → length rows ≡ length k.keys → length variables ≡ length k.keys → ((n : ℕ) → row_at rows n ≡ None) → ArePlaces k (rows_with rows variables)
-no_places k rows variables each long none = record {
-  each = each;
-  long = long;
-  placed = none_placed (base_scheme k) (own_variables k.classes) rows none;
-  few = λ n has. absurd (let no : is_some (row_at rows n) ≡ false = ap is_some (none n) in true≢false (sym has ∙ no));
-  variables = λ n has. absurd (let no : is_some (row_at rows n) ≡ false = ap is_some (none n) in true≢false (sym has ∙ no));
-}
 
 -- the place of a variable is one of the object's
 pub place_within : (xs ys : List ValueType) (n i : ℕ) → slice_get xs n ≡ slice_get ys i → i < length ys → n < length xs

@@ -1,6 +1,5 @@
 -- Rows of places, and the variables of the classes that have rows.
-use Rattle.std.specs.Prelude.{◌≡◌, ℕ, zero, suc, ◌+◌, ◌<◌, ◌^◌, List, [], ◌∷◌, ◌++◌, length, slice_index_or, Option, Some, None}
-use Rattle.som_model.specs.declared.key.ValueType.{ValueType}
+use Rattle.std.specs.Prelude.{◌≡◌, ℕ, zero, suc, ◌+◌, ◌<◌, ◌^◌, List, [], ◌∷◌, ◌++◌, length, slice_index_or, Option}
 use Rattle.som_model.specs.Lists.{Mem}
 use Rattle.som_model.specs.Classes.{hierarchy}
 use Rattle.som_meta.specs.Numbering.{IsNumbered, Numbering, key_at}
@@ -8,23 +7,23 @@ use Rattle.som_class_layout_laws.specs.Places.{IsPlaced}
 use Rattle.som_tables.specs.Rows.{Added, HasRow}
 use Rattle.som_class_variables.specs.Variables.{base_scheme, object_variables, own_variables}
 
--- what each row is made of, and the types of the variables of each class that has one
+-- what each row is made of, and how many variables the objects of each class have that has one
 pub record DataRows : Type 0 where
   pub rows : List (Option (Added ℕ))
-  pub variables : List (Option (List ValueType))
+  pub counts : List ℕ
 
--- these rows and variables in one
-abbrev pub rows_with : List (Option (Added ℕ)) → List (Option (List ValueType)) → DataRows
-rows_with rows variables = record { rows = rows; variables = variables }
+-- these rows and counts in one
+abbrev pub rows_with : List (Option (Added ℕ)) → List ℕ → DataRows
+rows_with rows counts = record { rows = rows; counts = counts }
 
--- the rows of these classes: each has a number, each cell of a row is a base, the place of the first variable of its class, four bytes number the variables
--- of an object, and the types are those of the class's objects
+-- the rows of these classes: each has a number, each cell of a row is a base, the place of the first variable of its class, and the variables of an object
+-- are as many as is noted, which four bytes number
 pub record ArePlaces (k : Numbering) (v : DataRows) : Type 0 where
   pub each : length v.rows ≡ length k.keys
-  pub long : length v.variables ≡ length k.keys
+  pub long : length v.counts ≡ length k.keys
   pub placed : IsPlaced (base_scheme k) (own_variables k.classes) v.rows
   pub few : (n : ℕ) → HasRow v.rows n → length (object_variables k.classes (key_at k n)) < 2 ^ 32
-  pub variables : (n : ℕ) → HasRow v.rows n → slice_index_or v.variables n None ≡ Some (object_variables k.classes (key_at k n))
+  pub counts : (n : ℕ) → HasRow v.rows n → slice_index_or v.counts n 0 ≡ length (object_variables k.classes (key_at k n))
 
 -- each parent of a class has a row
 abbrev pub HaveParentRows : Numbering → List (Option (Added ℕ)) → ℕ → Type 0

@@ -1,12 +1,12 @@
 -- The variables of objects, by class and by place.
-use Rattle.std.specs.Prelude.{ℕ, zero, suc, ◌<◌, List, [], length, map, Option, Some, None}
+use Rattle.std.specs.Prelude.{◌≡◌, ℕ, zero, suc, ◌<◌, List, [], flat_map, length, map, Option, Some, None}
 use Rattle.som_model.specs.declared.key.ClassKey.{ClassKey}
 use Rattle.som_model.specs.declared.key.ValueType.{ValueType}
 use Rattle.som_model.specs.declared.class.Variable.{Variable}
 use Rattle.som_model.specs.Class.{Class}
 use Rattle.som_model.specs.Classes.{class_at, hierarchy}
 use Rattle.som_model.specs.Keys.{same_key}
-use Rattle.som_meta.specs.Numbering.{IsNumbered, Numbering, key_at}
+use Rattle.som_meta.specs.Numbering.{AreNumbered, IsNumbered, Numbering, key_at}
 use Rattle.som_class_layout_laws.specs.Laying.{Method, Scheme}
 use Rattle.som_class_layout_laws.specs.Places.{data_place, variables}
 
@@ -26,6 +26,15 @@ own_variables cs k = variables_in (class_at cs k)
 -- the types of the variables of an object of a class, by their places: its own, and then those of its ancestors in order
 abbrev pub object_variables : List Class → ClassKey → List ValueType
 object_variables cs x = variables (hierarchy cs) (own_variables cs) x
+
+-- the types of the own variables of numbered classes, each class's after those of the classes before it
+abbrev pub variables_over : Numbering → List ℕ → List ValueType
+variables_over k ns = flat_map (own_variables k.classes) (map (key_at k) ns)
+
+-- classes with numbers, and how many variables of their own they have together
+pub record IsCounted (k : Numbering) (ns : List ℕ) (count : ℕ) : Type 0 where
+  pub numbered : AreNumbered k ns
+  pub count_is : count ≡ length (variables_over k ns)
 
 -- the place of variable i of class a in an object of class x
 abbrev pub place_in : List Class → ClassKey → ClassKey → ℕ → ℕ

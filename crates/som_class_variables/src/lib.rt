@@ -3,8 +3,10 @@
 
 mod bases;
 mod laws;
+mod object_variables;
 mod own;
 mod places;
 
 pub use laws::apart_law;
+pub use object_variables::ObjectVariables;
 pub use places::Places;

@@ -1,4 +1,4 @@
-//! Rows of variables: the place of each variable in a class's objects, and the types by place.
+//! Rows of variables: the place of each variable in a class's objects, and how many they have.
 
 ghost use Rattle.som_class_layout_laws.specs.Places.{IsPlaced};
 ghost use Rattle.som_meta.specs.Numbering.{AreNumbered, IsNumbered, key_at};
@@ -10,38 +10,35 @@ ghost use Rattle.som_tables.specs.Rows.{HasRow, IsDeclared, row_at};
 ghost use Rattle.std.specs.Prelude.{◌≡◌, ◌≢◌, ◌<◌, ◌∷◌, ℕ, IfOk, None, OnErr, OnOk, Some, is_some, length, map, slice_get, slice_set};
 
 use crate::bases::{bases_above, own_base};
-use crate::own::{know_loaded, own_count, types_of_all};
+use crate::object_variables::ObjectVariables;
+use crate::own::{know_loaded, own_count};
 use som_class_table::Classes;
 use som_meta::Ancestry;
-use som_model::{List, NoMemory, ValueType};
+use som_model::NoMemory;
 use som_tables::{ClassNo, DToken, DataKind, Table, Token};
 use std::alloc::Global;
 use std::marker::Model;
 
-/// Rows of the places of variables, and of each class that has one the types of the variables of its objects by their places.
+/// Rows of the places of variables, and of each class that has one how many variables its objects have.
 pub struct Places {
     table: Table<DataKind>,
-    variables: Vec<Option<List<ValueType>>>,
+    counts: Vec<u32>,
 }
 
 impl Drop for Places {
     fn drop(self) {
-        let Places { table, variables } = self;
+        let Places { table, counts } = self;
         drop(table);
-        drop(variables);
+        drop(counts);
     }
 }
 
 impl Model for Places {
-    ghost use Rattle.som_model.specs.contracts.key.ValueType as kind;
     ghost use Rattle.som_class_variables.specs.Placed.{DataRows, rows_with};
-    ghost use Rattle.std.specs.Coded.{codes};
 
     ghost Value = { DataRows };
 
-    ghost coded = { Prim.hlevel (codes, kind.the_row.coded) };
-
-    ghost view = { λ p. rows_with p.table p.variables.items };
+    ghost view = { λ p. rows_with p.table p.counts.items };
 }
 
 /// The proper ancestors of a class, in order.
@@ -82,23 +79,23 @@ fn fill_row(
     Ok(end)
 }
 
-/// Puts a value at a place.
-fn put<T: Drop>(values: &mut Vec<Option<T>>, place: usize, value: T)
-    requires { place < length values.old.items }
-    ensures { values.new.items ≡ slice_set values.old.items place (Some value) }
+/// Notes how many variables the objects of a class have.
+fn note_count(counts: &mut Vec<u32>, class: ClassNo, count: u32)
+    requires { class < length counts.old.items }
+    ensures { counts.new.items ≡ slice_set counts.old.items class count }
 {
-    values[place] = Some(value);
+    counts[class.number() as usize] = count;
 }
 
-/// So many places with no values.
-fn none_of<T: Drop>(alloc: Global, count: u32) -> Result<Vec<Option<T>>, NoMemory>
-    ensures { IfOk result (λ values. length values.items ≡ count) }
+/// So many classes, of none of which anything is noted.
+fn no_counts(alloc: Global, count: u32) -> Result<Vec<u32>, NoMemory>
+    ensures { IfOk result (λ counts. length counts.items ≡ count) }
 {
-    let mut values = Vec::new(alloc);
+    let mut counts = Vec::new(alloc);
     for _number in 0..count {
-        values.push(None)?;
+        counts.push(0)?;
     }
-    Ok(values)
+    Ok(counts)
 }
 
 /// A table in which so many classes have numbers, and none has a row.
@@ -121,8 +118,8 @@ impl Places {
     {
         let count = classes.count();
         let table = without_rows(alloc, count)?;
-        let variables = none_of(alloc, count)?;
-        Ok(Places { table, variables })
+        let counts = no_counts(alloc, count)?;
+        Ok(Places { table, counts })
     }
 
     /// Gives a class its row, where its parents have theirs. Where memory runs out all is as it was.
@@ -135,9 +132,8 @@ impl Places {
         ensures others { (n : ℕ) → n ≢ class → row_at self.new.rows n ≡ row_at self.old.rows n }
         ensures err { OnErr result (self.new ≡ self.old) }
     {
-        let types = types_of_all(alloc, classes, classes.ancestors(class).as_slice())?;
-        let _count = fill_row(alloc, classes, &mut self.table, class)?;
-        put(&mut self.variables, class.number() as usize, types);
+        let count = fill_row(alloc, classes, &mut self.table, class)?;
+        note_count(&mut self.counts, class, count);
         Ok(())
     }
 
@@ -174,14 +170,12 @@ impl Places {
     }
 
     /// The types of the variables of the objects of a class that has a row, by their places.
-    pub fn variables(&self, classes: &Classes, class: ClassNo) -> &List<ValueType>
+    pub fn variables<'a>(&'a self, classes: &'a Classes, class: ClassNo) -> ObjectVariables<'a>
         requires places { ArePlaces classes.now self.now }
         requires row { HasRow self.now.rows class }
-        ensures { result.now ≡ object_variables classes.now.classes (key_at classes.now class) }
+        ensures { result ≡ object_variables classes.now.classes (key_at classes.now class) }
     {
-        match &self.variables.as_slice()[class.number() as usize] {
-            Some(types) => types,
-            None => unreachable!(),
-        }
+        let count = self.counts.as_slice()[class.number() as usize];
+        ObjectVariables::new(classes, classes.ancestors(class).as_slice(), count)
     }
 }

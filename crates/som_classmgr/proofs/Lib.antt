@@ -3,3 +3,4 @@ pub mod Reached
 pub mod Asking
 pub mod Counting
 pub mod Searching
+pub mod NewCells

@@ -10,7 +10,7 @@ ghost use Rattle.std.specs.Prelude.{◌≡◌, ◌<◌, ℕ, length, slice_get};
 use crate::asked::own_count;
 use crate::kernel::Kernel;
 use som_class_kernel::Linked;
-use som_model::{List, ValueType};
+use som_class_variables::ObjectVariables;
 use som_tables::{ClassNo, DToken};
 
 impl Kernel<Linked> {
@@ -47,9 +47,9 @@ impl Kernel<Linked> {
     }
 
     /// The types of the variables of the objects of a class that is made, by their places.
-    pub fn variables(&self, class: ClassNo) -> &List<ValueType>
+    pub fn variables(&self, class: ClassNo) -> ObjectVariables<'_>
         requires { IsMadeIn self.now class }
-        ensures { result.now ≡ object_variables self.now.classes.classes (key_at self.now.classes class) }
+        ensures { result ≡ object_variables self.now.classes.classes (key_at self.now.classes class) }
     {
         self.stage.variables(class)
     }

@@ -11,6 +11,7 @@ mod methods;
 mod queries;
 mod runtime;
 mod search;
+mod zeros;
 
 pub use kernel::{Kernel, Stage, Unlinked};
 pub use laws::made_law;

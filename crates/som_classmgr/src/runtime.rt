@@ -4,10 +4,12 @@ ghost use Rattle.som_model.specs.Kernel.{som_class_mgr};
 
 use crate::asked::{own_count, proxy_number, zero_in};
 use crate::kernel::Kernel;
+use crate::zeros::zeros_of;
 use som_class_ids::Kind;
 use som_class_kernel::Linked;
 use som_interp_state::{BodyView, Runtime, Zero};
-use som_model::{Block, ClassKey, List, MethodRef, NoMemory, Sig, Text, ValueType};
+use som_model::{Block, ClassKey, List, MethodRef, NoMemory, Sig, Text};
+use som_objects::Cell;
 use som_tables::{ClassNo, MToken, Steps};
 use som_trace::{ClassKeys, KeyView};
 use som_values::Classes;
@@ -149,9 +151,13 @@ impl Runtime for Kernel<Linked> {
         }
     }
 
-    fn variables(&self, class: ClassNo) -> &List<ValueType> {
+    fn variable_cells(&self, class: ClassNo) -> u32 {
         let _classes = self.classes();
-        self.variables(class)
+        self.variables(class).count()
+    }
+
+    fn zero_cells(&self, alloc: Global, class: ClassNo) -> Result<List<Cell>, NoMemory> {
+        zeros_of(alloc, self.classes(), class)
     }
 
     fn is_proxy(&self, class: ClassNo) -> bool {

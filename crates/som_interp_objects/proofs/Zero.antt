@@ -12,7 +12,7 @@ use Rattle.som_values.specs.Variables.{Places}
 use Rattle.som_values.proofs.Keeping.{no_some, same_some}
 use Rattle.som_interp_state.specs.Settings.{Linked}
 use Rattle.som_interp_state.proofs.Lists.{all_head, all_tail}
-use Rattle.som_interp_state.specs.Asked.{AreTypes, target_after}
+use Rattle.som_interp_state.specs.Asked.{AreNewCells, AreTypes, target_after}
 use Rattle.som_interp_objects.specs.Cells.{AreNew, AreZero}
 
 first_same : {X : Type 0} {x y : X} {xs ys : List X} → x ∷ xs ≡ y ∷ ys → x ≡ y
@@ -56,15 +56,13 @@ zero_held l class types cells are means seen kept xs os = record {
   own = λ p c at. (all_at (IsSeen (showing l.keys xs)) cells p c (seen (showing l.keys xs)) at, all_at (IsKept os) cells p c (kept os) at);
 }
 
--- the cells of the types of a class's objects
-pub new_cells : {E : Type 0} (l : Linked) (class : ℕ) (types : List ValueType) (answer : Result (List Cell) E) → AreTypes l.world l class types → l.target class ≡ target_after (key_of l.keys class) (length types)
-    → IfOk answer (λ cells. (s : Showing) → all_shown s cells ≡ map zero_of types) → IfOk answer (λ cells. (s : Showing) → All (IsSeen s) cells) → IfOk answer (λ cells. (os : Objects) → All (IsKept os) cells)
-    → IfOk answer (AreNew l class)
-new_cells l class types (Ok cells) are target means seen kept = record {
-  zero = zero_held l class types cells are means seen kept;
-  target = target ∙ ap (target_after (key_of l.keys class)) (sym (same_length (showing l.keys []) cells types (means (showing l.keys []))));
+-- the cells that the kernel says
+pub are_new : {E : Type 0} (l : Linked) (class : ℕ) (answer : Result (List Cell) E) → IfOk answer (AreNewCells l.keys l.world l class) → IfOk answer (AreNew l class)
+are_new l class (Ok cells) new = record {
+  zero = zero_held l class new.types cells new.there new.zeros.means new.zeros.seen new.zeros.kept;
+  target = new.target ∙ ap (target_after (key_of l.keys class)) (sym (same_length (showing l.keys []) cells new.types (new.zeros.means (showing l.keys []))));
 }
-new_cells l class types (Err e) are target means seen kept = tt
+are_new l class (Err e) new = tt
 
 -- those of a class object are those of an object of its metaclass
 pub static_cells : {E : Type 0} (l : Linked) (of meta : ℕ) (answer : Result (List Cell) E) → l.statics of ≡ l.variables meta → IfOk answer (AreNew l meta) → IfOk answer (AreZero l (l.statics of))

@@ -1,15 +1,15 @@
 //! What a kernel says of variables, in the words of a task.
 
-ghost use Rattle.som_interp_state.specs.Asked.{AreTypes, target_after};
+ghost use Rattle.som_interp_state.specs.Asked.{AreNewCells};
 ghost use Rattle.som_interp_objects.specs.Cells.{IsPlain};
 ghost use Rattle.som_model.specs.Rules.{is_void};
 ghost use Rattle.som_semantics.specs.State.{zeros};
 ghost use Rattle.som_values.specs.Shown.{IsNumbered, key_of};
-ghost use Rattle.std.specs.Prelude.{◌≡◌, Some, false, length, true};
+ghost use Rattle.std.specs.Prelude.{◌≡◌, IfOk, Some, false, true};
 
 use crate::zero_cell;
 use som_interp_state::Runtime;
-use som_model::{List, ValueType};
+use som_model::{List, NoMemory};
 use som_objects::Cell;
 use som_tables::ClassNo;
 use std::alloc::Global;
@@ -65,15 +65,18 @@ pub(crate) fn zero_variable<R: Runtime>(
     zero_cell(alloc, runtime.zero(class, variable))
 }
 
-/// The types of the cells of a class's objects.
-pub(crate) fn types_of<R: Runtime>(runtime: &R, class: ClassNo) -> &List<ValueType>
+/// The cells of a new object of a class, but for a proxy's target, as the kernel says them.
+pub(crate) fn new_cells<R: Runtime>(
+    alloc: Global,
+    runtime: &R,
+    class: ClassNo,
+) -> Result<List<Cell>, NoMemory>
     requires numbered { IsNumbered (R.linked runtime.now).keys class }
     requires made { R.made runtime.now (key_of (R.linked runtime.now).keys class) ≡ true }
-    ensures types { AreTypes (R.linked runtime.now).world (R.linked runtime.now) class result.now }
-    ensures target { (R.linked runtime.now).target class ≡ target_after (key_of (R.linked runtime.now).keys class) (length result.now) }
+    ensures { IfOk result (AreNewCells (R.linked runtime.now).keys (R.linked runtime.now).world (R.linked runtime.now) class) }
 {
     runtime.know();
-    runtime.variables(class)
+    runtime.zero_cells(alloc, class)
 }
 
 /// The class of a class object, which has its variables.

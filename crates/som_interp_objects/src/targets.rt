@@ -72,22 +72,19 @@ fn live_target<R: Runtime>(
     ensures { IsTarget (R.linked runtime.now) objects.now object.now result }
 {
     match target_place(runtime, of) {
-        Some(count) => match u32::try_from(count) {
-            Ok(place) => read_cell(alloc, objects, object, place),
-            Err(_) => Err(Stopped::NoMemory),
-        },
+        Some(place) => read_cell(alloc, objects, object, place),
         None => Ok(Cell::Nil),
     }
 }
 
 // The place of the target among the cells of a class's objects: after their variables.
-fn target_place<R: Runtime>(runtime: &R, class: ClassNo) -> Option<usize>
+fn target_place<R: Runtime>(runtime: &R, class: ClassNo) -> Option<u32>
     requires class { IsNumbered (R.linked runtime.now).keys class }
     requires made { R.made runtime.now (key_of (R.linked runtime.now).keys class) ≡ true }
     ensures { result ≡ (R.linked runtime.now).target class }
 {
     runtime.know();
-    let count = runtime.variables(class).len();
+    let count = runtime.variable_cells(class);
     if runtime.is_proxy(class) {
         Some(count)
     } else {

@@ -8,7 +8,7 @@ ghost use Rattle.som_values.specs.Shown.{IsNumbered, Showing, key_of, shown};
 ghost use Rattle.som_interp_objects.specs.Cells.{AreNew};
 ghost use Rattle.std.specs.Prelude.{◌≡◌, IfOk, true};
 
-use crate::kernel::types_of;
+use crate::kernel::new_cells;
 use som_interp_state::{Runtime, Zero};
 use som_model::{List, NoMemory, Text, ValueType};
 use som_objects::Cell;
@@ -50,6 +50,5 @@ pub fn zero_cells<R: Runtime>(
     requires made { R.made runtime.now (key_of (R.linked runtime.now).keys class) ≡ true }
     ensures { IfOk result (AreNew (R.linked runtime.now) class) }
 {
-    let types = types_of(runtime, class);
-    som_values::zeros(alloc, types.as_slice())
+    new_cells(alloc, runtime, class)
 }

@@ -9,16 +9,17 @@ ghost use Rattle.som_semantics.specs.State.{Long, Str, zeros};
 ghost use Rattle.som_model.specs.declared.key.ClassKey.{ClassKey as Key};
 ghost use Rattle.som_model.specs.declared.key.ClassKey.TheVariants as made_of;
 ghost use Rattle.som_model.specs.declared.syntax.Block.{Block as Main};
-ghost use Rattle.som_interp_state.specs.Asked.{Agree, AreTypes, CanLoad, HaveNumbers, IsAnswer, IsClosed, asked_for, is_proxy, target_after};
+ghost use Rattle.som_interp_state.specs.Asked.{Agree, AreNewCells, CanLoad, HaveNumbers, IsAnswer, IsClosed, asked_for, is_proxy, target_after};
 ghost use Rattle.som_interp_state.specs.Settings.{Linked};
 ghost use Rattle.som_interp_state.specs.Standing.{zero_shown};
 ghost use Rattle.som_values.specs.Shown.{IsKey, IsNumbered, key_of};
 ghost use Rattle.std.specs.List.{All};
 ghost use Rattle.std.specs.Option.{option_map};
-ghost use Rattle.std.specs.Prelude.{◌≡◌, ◌⊎◌, ◌+◌, ◌∷◌, [], ℕ, IfNone, IfSome, IsSome, None, OnOk, Some, length, map, true};
+ghost use Rattle.std.specs.Prelude.{◌≡◌, ◌⊎◌, ◌+◌, ◌∷◌, [], ℕ, IfNone, IfOk, IfSome, IsSome, None, OnOk, Some, map, true};
 
 use crate::{BodyView, Zero};
-use som_model::{Block, ClassKey, List, MethodRef, NoMemory, Sig, Text, ValueType};
+use som_model::{Block, ClassKey, List, MethodRef, NoMemory, Sig, Text};
+use som_objects::Cell;
 use som_tables::{ClassNo, MToken, Steps};
 use som_trace::ClassKeys;
 use som_values::Classes;
@@ -140,12 +141,17 @@ pub trait Runtime: Classes + ClassKeys {
         requires class { IsNumbered (Self.keys self.now) class }
         ensures { result ≡ (linked self.now).variables object (key_of (Self.keys self.now) class) variable };
 
-    /// The types of the variables of a class's objects, by their places. A proxy has one cell more, its target.
-    fn variables(&self, class: ClassNo) -> &List<ValueType>
+    /// How many variables a class's objects have. A proxy has one cell more, its target.
+    fn variable_cells(&self, class: ClassNo) -> u32
         requires numbered { IsNumbered (Self.keys self.now) class }
         requires made { Self.made self.now (key_of (Self.keys self.now) class) ≡ true }
-        ensures types { AreTypes (Self.world self.now) (linked self.now) class result.now }
-        ensures target { (linked self.now).target class ≡ target_after (key_of (Self.keys self.now) class) (length result.now) };
+        ensures { (linked self.now).target class ≡ target_after (key_of (Self.keys self.now) class) result };
+
+    /// The cells of a new object of a class, each variable at the zero value of its type, but for a proxy's target.
+    fn zero_cells(&self, alloc: Global, class: ClassNo) -> Result<List<Cell>, NoMemory>
+        requires numbered { IsNumbered (Self.keys self.now) class }
+        requires made { Self.made self.now (key_of (Self.keys self.now) class) ≡ true }
+        ensures { IfOk result (AreNewCells (Self.keys self.now) (Self.world self.now) (linked self.now) class) };
 
     /// Whether a class is that of another's proxies.
     fn is_proxy(&self, class: ClassNo) -> bool

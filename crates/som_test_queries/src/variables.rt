@@ -21,7 +21,8 @@ pub fn tell_variables(
     out: &mut List<u8>,
 ) -> Result<(), Unasked> {
     let class = made_called(alloc, kernel, rest)?;
-    tell_types(kernel.variables(class).as_slice(), out)?;
+    let types = kernel.variables(class).list(alloc)?;
+    tell_types(types.as_slice(), out)?;
     Ok(())
 }
 

@@ -3,3 +3,4 @@ pub mod Operators
 pub mod Shown
 pub mod Stored
 pub mod Variables
+pub mod Zeros

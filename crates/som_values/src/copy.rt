@@ -2,12 +2,13 @@
 
 ghost use Rattle.som_semantics.specs.State.{zero_of};
 ghost use Rattle.som_objects.specs.Objects.{Objects};
-ghost use Rattle.som_values.specs.Shown.{IsSeen, Showing, all_shown, shown};
+ghost use Rattle.som_values.specs.Shown.{IsSeen, Showing, shown};
 ghost use Rattle.som_values.specs.Stored.{IsKept};
-ghost use Rattle.std.specs.List.{All};
-ghost use Rattle.std.specs.Prelude.{◌≡◌, IfOk, map};
+ghost use Rattle.som_values.specs.Zeros.{AreZeros, kinds_of};
+ghost use Rattle.som_model.specs.declared.key.ValueType.{ValueType as Kind};
+ghost use Rattle.std.specs.Prelude.{◌≡◌, ◌++◌, IfOk, List as Seq, OnOk};
 
-use som_model::{List, NoMemory, Text, ValueType};
+use som_model::{List, NoMemory, Text, ValueType, Variable};
 use som_objects::Cell;
 use std::alloc::Global;
 
@@ -41,15 +42,16 @@ pub fn zero(alloc: Global, kind: &ValueType) -> Cell
     }
 }
 
-/// The cells of a new object, by the types of its variables.
-pub fn zeros(alloc: Global, kinds: &[ValueType]) -> Result<List<Cell>, NoMemory>
-    ensures means { IfOk result (λ cells. (s : Showing) → all_shown s cells ≡ map zero_of kinds.now) }
-    ensures seen { IfOk result (λ cells. (s : Showing) → All (IsSeen s) cells) }
-    ensures kept { IfOk result (λ cells. (os : Objects) → All (IsKept os) cells) }
+/// Adds the zero values of variables, in their order.
+pub fn add_zeros(
+    alloc: Global,
+    variables: &[Variable],
+    cells: &mut List<Cell>,
+) -> Result<(), NoMemory>
+    ensures { (types : Seq Kind) → AreZeros types cells.old → OnOk result (AreZeros (types ++ kinds_of variables.now) cells.new) }
 {
-    let mut cells = List::new(alloc);
-    for kind in kinds {
-        cells.push(zero(alloc, kind))?;
+    for variable in variables {
+        cells.push(zero(alloc, &variable.kind))?;
     }
-    Ok(cells)
+    Ok(())
 }

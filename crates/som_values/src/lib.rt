@@ -16,7 +16,7 @@ mod stopped;
 mod tests;
 
 pub use classes::Classes;
-pub use copy::{copy_cell, zero, zeros};
+pub use copy::{add_zeros, copy_cell, zero};
 pub use equality::same;
 pub use objects::{class_of, is_live, live, receiver};
 pub use operators::{binary, unary};
