@@ -1,6 +1,6 @@
 -- Releases that are compared: their interfaces may be, and the client that shows what isn't kept has an image.
-use Rattle.std.proofs.Common.{◌≡◌, ◌≢◌, ℕ, ◌<◌, ◌≤◌, ◌^◌, ◌==◌, Bool, true, false, if◌then◌else◌, List, length, Option, Some, None, refl, sym, ap, subst, ◌∙◌, arith}
-use Rattle.std.specs.Prelude.{All}
+use Rattle.std.proofs.Common.{◌≡◌, ◌≢◌, ℕ, ◌<◌, ◌≤◌, ◌^◌, ◌==◌, Bool, true, false, if◌then◌else◌, List, length, Option, Some, None, Result, Ok, Err, refl, sym, ap, subst, ◌∙◌, arith}
+use Rattle.std.specs.Prelude.{All, IfOk}
 use Rattle.std.proofs.lemmas.Bool.{eqb-true}
 use Rattle.std.proofs.lemmas.List.{length-map}
 use Rattle.std.proofs.lemmas.List.Elements.{All-map}
@@ -60,6 +60,11 @@ may_be_compared i r e ok w = subst MayBeCompared (sym (faces_of i r e)) (compare
 pub answered_so : (i j : Interface) (rs : Releases) (v : Verdict) → i.classes ≡ (interface_of rs.older).classes → j.classes ≡ (interface_of rs.newer).classes → v ≡ verdict_of i j → v ≡ verdict_on rs
 answered_so i j rs v e f is =
     is ∙ ap (λ (x : Interface). verdict_of x j) (faces_of i rs.older e) ∙ ap (λ (x : Interface). verdict_of (interface_of rs.older) x) (faces_of j rs.newer f)
+
+pub witness_so : {E : Type 0} (i j : Interface) (rs : Releases) (result : Result Verdict E) → i.classes ≡ (interface_of rs.older).classes → j.classes ≡ (interface_of rs.newer).classes → IfOk result (λ v. v ≡ verdict_of i j)
+    → IfOk result (λ v. v ≡ verdict_on rs)
+witness_so i j rs (Ok v) e f is = answered_so i j rs v e f is
+witness_so i j rs (Err x) e f is = tt
 
 -- ---- the client
 

@@ -1,5 +1,6 @@
 mod Comparing
 mod Failing
+mod LineLaws
 mod Outcomes
 mod PutLaws
 mod Reading

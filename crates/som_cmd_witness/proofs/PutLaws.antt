@@ -6,7 +6,6 @@ use Rattle.som_io.proofs.ShownLaws.{rose_earlier}
 use Rattle.som_model.specs.Bytes.{AreBytes, Files}
 use Rattle.som_cmd_steps.specs.declared.output.Output.{Output}
 use Rattle.som_cmd_steps.specs.declared.stop.Refusal.{Refusal}
-use Rattle.som_cmd_steps.specs.declared.stop.CommandStop.{CommandStop}
 use Rattle.som_cmd_steps.specs.declared.stop.CommandStop.TheVariants as stops
 use Rattle.som_cmd_steps.specs.Cause.{HasCause}
 use Rattle.som_cmd_steps.specs.Lines.{store_failed}
@@ -26,8 +25,8 @@ not_put (Some before) out image line new_files s = s
 
 module _ (files : Option Files) (out image : List ℕ) (before now sink_before sink_now : ℕ) (new_files : Option Files) (old new : Option (List ℕ)) where
   -- it is done
-  pub ends_done : (o : Output) → new ≡ old → StoredTold files out image (Ok o) new_files → EndsPut files out image before now sink_before sink_now 0 new_files old new
-  ends_done o same s = done refl same (is_put files out image o new_files s)
+  pub ends_done : (o : Output) → StoredTold files out image (Ok o) new_files → EndsPut files out image before now sink_before sink_now 0 new_files old old
+  ends_done o s = done refl refl (is_put files out image o new_files s)
 
   module _ (line : List ℕ) (status : ℕ) (s : StoredTold files out image (Err (stops.StoreFailed line)) new_files) (rose : Rose before now) (is : line ≡ store_failed out)
       (all : status ≢ 8 → status ≢ 10 → ShowsAll old new line) (six : status ≢ 8 → status ≢ 10 → status ≡ 6) (sink : status ≡ 8 → Rose sink_before sink_now) (front : ShowsFront old new line) where
@@ -51,13 +50,16 @@ module _ (files : Option Files) (out image : List ℕ) (before now sink_before s
       → EndsPut files out image before now sink_before sink_now status new_files old new
   ends_failed line status s cause all six sink front = ends_by_status line status s cause.0 cause.1 all six sink front
 
--- nothing is refused, and the files are as they were where memory ran out
-pub ends_nowhere : (files : Option Files) (out image : List ℕ) (before now sink_before sink_now : ℕ) (new_files : Option Files) (written : Option (List ℕ)) (stop : CommandStop)
-    → ((line : List ℕ) → stop ≡ stops.StoreFailed line → ⊥) → IsSilent (Err stop) → StoredTold files out image (Err stop) new_files → EndsPut files out image before now sink_before sink_now 10 new_files written written
-ends_nowhere files out image before now sink_before sink_now new_files written (stops.Refused r) other silent s = absurd silent
-ends_nowhere files out image before now sink_before sink_now new_files written (stops.StoreFailed line) other silent s = absurd (other line refl)
-ends_nowhere None out image before now sink_before sink_now new_files written stops.NoMemory other silent s = no_memory refl refl tt
-ends_nowhere (Some told) out image before now sink_before sink_now new_files written stops.NoMemory other silent s = no_memory refl refl s
+-- nothing is refused
+pub ends_refused : (files : Option Files) (out image : List ℕ) (before now sink_before sink_now status : ℕ) (new_files : Option Files) (old new : Option (List ℕ)) (r : Refusal) → IsSilent (Err (stops.Refused r))
+    → EndsPut files out image before now sink_before sink_now status new_files old new
+ends_refused files out image before now sink_before sink_now status new_files old new r silent = absurd silent
+
+-- memory ran out before it
+pub ends_nowhere : (files : Option Files) (out image : List ℕ) (before now sink_before sink_now : ℕ) (new_files : Option Files) (written : Option (List ℕ)) → StoredTold files out image (Err stops.NoMemory) new_files
+    → EndsPut files out image before now sink_before sink_now 10 new_files written written
+ends_nowhere None out image before now sink_before sink_now new_files written s = no_memory refl refl tt
+ends_nowhere (Some told) out image before now sink_before sink_now new_files written s = no_memory refl refl s
 
 -- ---- the lines before it
 

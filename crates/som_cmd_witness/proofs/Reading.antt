@@ -2,7 +2,9 @@
 use Rattle.std.proofs.Common.{◌≡◌, ℕ, List, Option, Some, None, Result, Ok, Err, sym, ap, subst, ◌∙◌}
 use Rattle.som_model.specs.declared.program.Release.{Release}
 use Rattle.som_model.specs.Bytes.{Files}
+use Rattle.som_model.specs.Conforming.{ReleaseOk}
 use Rattle.som_model.specs.Steps.{◌>>=◌}
+use Rattle.som_libimage.specs.Limits.{IsWithinLimits}
 use Rattle.som_cmd_steps.specs.declared.stop.Refusal.{Refusal}
 use Rattle.som_cmd_steps.specs.declared.stop.CommandStop.{CommandStop}
 use Rattle.som_cmd_steps.specs.Fetching.{file_of}
@@ -10,7 +12,7 @@ use Rattle.som_cmd_steps.specs.ImageSteps.{release_in, rules_kept}
 use Rattle.som_cmd_steps.specs.Steps.{Stops, Follows, FollowsTold}
 use Rattle.som_cmd_steps.proofs.ImageLaws.{stops_first}
 use Rattle.som_cmd_witness.specs.declared.releases.Releases.{Releases}
-use Rattle.som_cmd_witness.specs.Releases.{releases_from, releases_in}
+use Rattle.som_cmd_witness.specs.Releases.{AreSound, releases_from, releases_in}
 
 abbrev Read : Type 0
 Read = Result Releases Refusal
@@ -62,6 +64,9 @@ module _ (old new ob nb : List ℕ) where
   pub both_sound : (o n : Release) (x y : Unit {0}) → Follows (Ok o) (release_in old ob) → Follows (Ok n) (release_in new nb) → Follows (Ok x) (rules_kept old o) → Follows (Ok y) (rules_kept new n)
       → Follows (Ok (both o n)) (releases_from old new ob nb)
   both_sound o n x y f g h i = sym (with_rules o n x f g h) ∙ ap (λ (z : Result (Unit {0}) Refusal). z >>= λ kept. Ok (both o n)) i
+
+pub are_sound : (o n : Release) → ReleaseOk o → IsWithinLimits o → ReleaseOk n → IsWithinLimits n → AreSound (both o n)
+are_sound o n ok within new_ok new_within = record { older = ok; older_within = within; newer = new_ok; newer_within = new_within }
 
 -- ---- files that are got
 

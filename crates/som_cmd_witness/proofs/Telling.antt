@@ -36,6 +36,10 @@ none_told (Some files) old new = tt
 pub both_told : (files : Option Files) (old new : List ℕ) (rs : Releases) (t : Told) → FollowsTold files (Ok rs) (releases_in old new) → IsToldOf (verdict_on rs) t → TellsOf files old new (Ok t)
 both_told files old new rs t f is = (rs, f, is)
 
+-- the image of a program
+pub image_there : (p : ClientProgram) (bytes : List ℕ) → client_image p ≡ Some bytes → IsImageOf (Some p) (Some bytes)
+image_there p bytes e = (bytes, refl, e)
+
 -- ---- what is told, by the first breach
 
 -- the text and the image of what is told: the newer release is accepted, or a class has another version, or a client shows the breach

@@ -53,14 +53,30 @@ fn add_file(alloc: Global, lines: &mut List<Text>, name: &[u8], text: &Text) -> 
     Ok(())
 }
 
-// Adds the lines of the files of a client's texts. The class of a client that shows a lost class has no bodies.
+// Adds the lines of the file of the bodies. The class of a client that shows a lost class has none.
+#[tactic(auto, using(crate::proofs::LineLaws::no_bodies, crate::proofs::LineLaws::some_bodies))]
+fn add_bodies(
+    alloc: Global,
+    lines: &mut List<Text>,
+    rule: u8,
+    bodies: &Text,
+) -> Result<(), NoMemory>
+    ensures { IfOk result (λ _. lines.new ≡ lines.old ++ bodies_lines rule bodies.now) }
+{
+    if rule == 1 {
+        Ok(())
+    } else {
+        add_file(alloc, lines, b"file w.bod", bodies)
+    }
+}
+
+// Adds the lines of the files of a client's texts.
+#[tactic(auto, using(crate::proofs::LineLaws::all_files))]
 fn add_files(alloc: Global, lines: &mut List<Text>, rule: u8, texts: &Texts) -> Result<(), NoMemory>
     ensures { IfOk result (λ _. lines.new ≡ lines.old ++ files_lines rule texts.now) }
 {
     add_file(alloc, lines, b"file w.idl", &texts.idl)?;
-    if rule != 1 {
-        add_file(alloc, lines, b"file w.bod", &texts.bodies)?;
-    }
+    add_bodies(alloc, lines, rule, &texts.bodies)?;
     add_file(alloc, lines, b"file w.main", &texts.main)
 }
 
@@ -79,14 +95,41 @@ fn add_texts(
     }
 }
 
+// One line.
+fn one(alloc: Global, line: Text) -> Result<List<Text>, NoMemory>
+    ensures { IfOk result (λ lines. lines ≡ line ∷ []) }
+{
+    let mut lines = List::new(alloc);
+    lines.push(line)?;
+    Ok(lines)
+}
+
+// The lines that tell a breach which a client shows, and its texts.
+fn shown_lines(
+    alloc: Global,
+    rule: u8,
+    class: &Text,
+    name: &Option<Text>,
+    place: u32,
+    texts: &Option<Texts>,
+) -> Result<List<Text>, NoMemory>
+    ensures { IfOk result (λ lines. lines ≡ breach_line rule class.now (or_dash name.now) place ∷ texts_lines rule texts.now) }
+{
+    let mut lines = one(
+        alloc,
+        breach_line(alloc, rule, class, or_dash(name), place)?,
+    )?;
+    add_texts(alloc, &mut lines, rule, texts)?;
+    Ok(lines)
+}
+
 /// The lines that tell a verdict.
 pub fn verdict_lines(alloc: Global, verdict: &Verdict) -> Result<List<Text>, NoMemory>
     ensures { IfOk result (λ lines. lines ≡ verdict_lines verdict.now) }
 {
-    let mut lines = List::new(alloc);
     match verdict {
-        Verdict::Accepted => lines.push(line_of(alloc, b"accepted")?)?,
-        Verdict::VersionOnly { class } => lines.push(breach_line(alloc, 2, class, b"-", 0)?)?,
+        Verdict::Accepted => one(alloc, line_of(alloc, b"accepted")?),
+        Verdict::VersionOnly { class } => one(alloc, breach_line(alloc, 2, class, b"-", 0)?),
         Verdict::Shown {
             rule,
             class,
@@ -94,10 +137,6 @@ pub fn verdict_lines(alloc: Global, verdict: &Verdict) -> Result<List<Text>, NoM
             place,
             program: _,
             texts,
-        } => {
-            lines.push(breach_line(alloc, *rule, class, or_dash(name), *place)?)?;
-            add_texts(alloc, &mut lines, *rule, texts)?;
-        }
+        } => shown_lines(alloc, *rule, class, name, *place, texts),
     }
-    Ok(lines)
 }

@@ -13,6 +13,7 @@ use som_model::{List, Text};
 use std::alloc::Global;
 
 // Puts the image under the name, and answers 0; or prints that the put failed, and answers 6; or answers that the sink failed or memory ran out.
+#[tactic(auto, using(crate::proofs::PutLaws::ends_done, crate::proofs::PutLaws::ends_failed, crate::proofs::PutLaws::ends_refused, crate::proofs::PutLaws::ends_nowhere))]
 fn put_after<S: Store, K: Sink>(
     alloc: Global,
     name: &Text,
@@ -28,11 +29,13 @@ fn put_after<S: Store, K: Sink>(
     match put_image(alloc, name, image, store) {
         Ok(_) => 0,
         Err(CommandStop::StoreFailed(line)) => say(out, &line, 6),
-        Err(_) => 10,
+        Err(CommandStop::Refused(_)) => 10,
+        Err(CommandStop::NoMemory) => 10,
     }
 }
 
 /// Prints the lines, and when all are printed, puts the image under the name, if there is one; answers the status.
+#[tactic(auto, using(crate::proofs::PutLaws::ends_unsaid, crate::proofs::PutLaws::ends_without, crate::proofs::PutLaws::ends_with))]
 pub fn tell_and_put<S: Store, K: Sink>(
     alloc: Global,
     name: &Text,

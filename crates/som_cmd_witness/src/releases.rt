@@ -21,7 +21,7 @@ pub struct Releases {
 }
 
 // The releases of the bytes under both names, where neither breaks a rule.
-#[tactic(auto, using(crate::proofs::Reading::older_unread, crate::proofs::Reading::newer_unread, crate::proofs::Reading::older_broken, crate::proofs::Reading::newer_broken, crate::proofs::Reading::both_sound))]
+#[tactic(auto, using(crate::proofs::Reading::older_unread, crate::proofs::Reading::newer_unread, crate::proofs::Reading::older_broken, crate::proofs::Reading::newer_broken, crate::proofs::Reading::both_sound, crate::proofs::Reading::are_sound))]
 fn read_releases(
     alloc: Global,
     old: &Text,
@@ -54,6 +54,7 @@ pub fn fetch_releases<S: Store>(
     ensures later { S.faults store.old ≤ S.faults store.new }
     ensures cause { HasCause (FailsGetting (S.files store.old) (old.now ∷ new.now ∷ [])) (S.faults store.old) (S.faults store.new) result }
     ensures quiet { S.calm store.old → IsQuiet result }
+    ensures calm { S.calm store.old → S.calm store.new }
     ensures refuses { RefusesAs (HasStatusIn witness_statuses) result }
 {
     let old_bytes = fetch(alloc, old, store)?;

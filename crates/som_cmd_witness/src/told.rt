@@ -14,7 +14,7 @@ use som_cliimage::encode;
 use som_cmd_steps::CommandStop;
 use som_image_fields::EncodeFault;
 use som_io::Store;
-use som_model::{List, NoMemory, Text};
+use som_model::{ClientProgram, List, NoMemory, Text};
 use som_witness::Verdict;
 use som_witness_programs::witness;
 use std::alloc::Global;
@@ -36,17 +36,34 @@ fn verdict_on(alloc: Global, releases: &Releases) -> Result<Verdict, NoMemory>
     witness(alloc, &old, &new)
 }
 
+// The image of a client program.
+#[tactic(auto, using(crate::proofs::Telling::image_there))]
+fn encoded(alloc: Global, program: &ClientProgram) -> Result<Option<List<u8>>, NoMemory>
+    requires { MayBePut (Some program.now) }
+    ensures { IfOk result (IsImageOf (Some program.now)) }
+{
+    match encode(alloc, program) {
+        Ok(image) => Ok(Some(image)),
+        Err(EncodeFault::NoMemory) => Err(NoMemory),
+    }
+}
+
 // The image of the client program that a verdict has.
 fn image_of(alloc: Global, verdict: &Verdict) -> Result<Option<List<u8>>, NoMemory>
     requires { MayBePut (program_in verdict.now) }
     ensures { IfOk result (IsImageOf (program_in verdict.now)) }
 {
     match verdict {
-        Verdict::Shown { program, .. } => match encode(alloc, program) {
-            Ok(image) => Ok(Some(image)),
-            Err(EncodeFault::NoMemory) => Err(NoMemory),
-        },
-        Verdict::Accepted | Verdict::VersionOnly { .. } => Ok(None),
+        Verdict::Accepted => Ok(None),
+        Verdict::VersionOnly { class: _ } => Ok(None),
+        Verdict::Shown {
+            rule: _,
+            class: _,
+            name: _,
+            place: _,
+            program,
+            texts: _,
+        } => encoded(alloc, program),
     }
 }
 
@@ -78,5 +95,6 @@ pub fn told_of<S: Store>(
     ensures refuses { RefusesAs (HasStatusIn witness_statuses) result }
 {
     let releases = fetch_releases(alloc, old, new, store)?;
-    Ok(tell_of(alloc, &releases)?)
+    let told = tell_of(alloc, &releases)?;
+    Ok(told)
 }

@@ -24,7 +24,7 @@ returns-in-Err-clause-front g c = λ _.
     stopped_fronts c.args.out_name.now c.args.old.now c.args.new.now (g.S.Store.files c.args.store.now) c.in-Err.stop c.in-Err.ensures.tells (g.S.Store.faults c.args.store.now) (g.S.Store.faults c.told_of.new.store) c.in-Err.ensures.cause (g.K.Sink.written c.args.out.now) (g.K.Sink.written c.refuse.new.out) c.refuse.ensures.front
 
 pub returns-in-Err-clause-files : goal.returns-in-Err-clause-files
-returns-in-Err-clause-files g c = 
+returns-in-Err-clause-files g c =
     stopped_files c.args.out_name.now c.args.old.now c.args.new.now (g.S.Store.files c.args.store.now) c.in-Err.stop c.refuse.result (g.S.Store.faults c.args.store.now) (g.S.Store.faults c.told_of.new.store) (g.S.Store.files c.told_of.new.store) c.told_of.ensures.files (g.K.Sink.written c.args.out.now) (g.K.Sink.written c.refuse.new.out) c.refuse.ensures.all
 
 pub returns-in-Err-clause-witnessed : goal.returns-in-Err-clause-witnessed
@@ -58,12 +58,12 @@ returns-in-Ok-clause-front g c = λ which.
     (over_same (concat c.in-Ok.told.lines) c.in-Ok.told.image (g.S.Store.files c.told_of.new.store) (g.S.Store.files c.args.store.now) c.args.out_name.now (g.S.Store.faults c.args.store.now) (g.S.Store.faults c.told_of.new.store) (g.S.Store.faults c.tell_and_put.new.store) (g.K.Sink.faults c.args.out.now) (g.K.Sink.faults c.tell_and_put.new.out) c.tell_and_put.result (g.S.Store.files c.tell_and_put.new.store) (g.K.Sink.written c.args.out.now) (g.K.Sink.written c.tell_and_put.new.out) c.told_of.ensures.files c.told_of.ensures.later c.tell_and_put.ensures.ends) which
 
 pub returns-in-Ok-clause-words : goal.returns-in-Ok-clause-words
-returns-in-Ok-clause-words g c = 
+returns-in-Ok-clause-words g c =
     told_words (concat c.in-Ok.told.lines) c.in-Ok.told.image (g.S.Store.files c.args.store.now) c.args.out_name.now (g.S.Store.faults c.args.store.now) (g.S.Store.faults c.tell_and_put.new.store) (g.K.Sink.faults c.args.out.now) (g.K.Sink.faults c.tell_and_put.new.out) c.tell_and_put.result (g.S.Store.files c.tell_and_put.new.store) (g.K.Sink.written c.args.out.now) (g.K.Sink.written c.tell_and_put.new.out)
     (over_same (concat c.in-Ok.told.lines) c.in-Ok.told.image (g.S.Store.files c.told_of.new.store) (g.S.Store.files c.args.store.now) c.args.out_name.now (g.S.Store.faults c.args.store.now) (g.S.Store.faults c.told_of.new.store) (g.S.Store.faults c.tell_and_put.new.store) (g.K.Sink.faults c.args.out.now) (g.K.Sink.faults c.tell_and_put.new.out) c.tell_and_put.result (g.S.Store.files c.tell_and_put.new.store) (g.K.Sink.written c.args.out.now) (g.K.Sink.written c.tell_and_put.new.out) c.told_of.ensures.files c.told_of.ensures.later c.tell_and_put.ensures.ends)
 
 pub returns-in-Ok-clause-files : goal.returns-in-Ok-clause-files
-returns-in-Ok-clause-files g c = 
+returns-in-Ok-clause-files g c =
     any_files (concat c.in-Ok.told.lines) c.in-Ok.told.image c.args.out_name.now (g.S.Store.faults c.args.store.now) (g.S.Store.faults c.tell_and_put.new.store) (g.K.Sink.faults c.args.out.now) (g.K.Sink.faults c.tell_and_put.new.out) c.tell_and_put.result (g.S.Store.files c.tell_and_put.new.store) (g.K.Sink.written c.args.out.now) (g.K.Sink.written c.tell_and_put.new.out) c.args.old.now c.args.new.now c.in-Ok.ensures.tells.0 (g.S.Store.files c.args.store.now) c.in-Ok.ensures.tells.1 (comes c.in-Ok.ensures.tells.0 c.in-Ok.told c.in-Ok.ensures.tells.2)
     (over_same (concat c.in-Ok.told.lines) c.in-Ok.told.image (g.S.Store.files c.told_of.new.store) (g.S.Store.files c.args.store.now) c.args.out_name.now (g.S.Store.faults c.args.store.now) (g.S.Store.faults c.told_of.new.store) (g.S.Store.faults c.tell_and_put.new.store) (g.K.Sink.faults c.args.out.now) (g.K.Sink.faults c.tell_and_put.new.out) c.tell_and_put.result (g.S.Store.files c.tell_and_put.new.store) (g.K.Sink.written c.args.out.now) (g.K.Sink.written c.tell_and_put.new.out) c.told_of.ensures.files c.told_of.ensures.later c.tell_and_put.ensures.ends)
 
