@@ -1,13 +1,9 @@
 -- Lines that are added to lines.
-use Rattle.std.proofs.Common.{◌≡◌, ◌≢◌, ℕ, ◌==◌, Bool, true, false, if◌then◌else◌, List, [], ◌∷◌, ◌++◌, Option, Some, None, Result, Ok, Err, refl, sym, ap, subst, ◌∙◌, append_assoc, codes}
+use Rattle.std.proofs.Common.{◌≡◌, ◌≢◌, ℕ, ◌==◌, Bool, true, false, if◌then◌else◌, List, [], ◌∷◌, ◌++◌, Result, Ok, Err, refl, sym, ap, ◌∙◌, append_assoc, codes}
 use Rattle.std.specs.Prelude.{IfOk}
 use Rattle.std.proofs.lemmas.Bool.{eqb-true}
-use Rattle.std.proofs.lemmas.List.{append-nil}
-use Rattle.som_cmd_steps.specs.Lines.{or_dash}
-use Rattle.som_cmd_steps.proofs.Statuses.{differs}
 use Rattle.som_witness.specs.declared.verdict.Texts.{Texts}
-use Rattle.som_witness.specs.declared.verdict.Verdict.{Verdict}
-use Rattle.som_cmd_witness.specs.Lines.{bodies_lines, files_lines, line, texts_lines}
+use Rattle.som_cmd_witness.specs.Lines.{bodies_lines, files_lines, line}
 
 abbrev Lines : Type 0
 Lines = List (List ℕ)
@@ -21,12 +17,16 @@ file_lines name text = line name ∷ line text ∷ []
 bodies_by : (c : Bool) (rule : ℕ) (bodies : List ℕ) → (rule == 1) ≡ c → bodies_lines rule bodies ≡ (if c then [] else file_lines (codes "file w.bod") bodies)
 bodies_by c rule bodies e = ap (λ (x : Bool). if x then [] else file_lines (codes "file w.bod") bodies) e
 
-pub no_bodies : (rule : ℕ) (lines : Lines) (bodies : List ℕ) → (rule == 1) ≡ true → lines ≡ lines ++ bodies_lines rule bodies
-no_bodies rule lines bodies one = sym (append-nil lines) ∙ ap (λ (x : Lines). lines ++ x) (sym (bodies_by true rule bodies one))
+apart_by : (m n : ℕ) (c : Bool) → (m == n) ≡ c → m ≢ n → c ≡ false
+apart_by m n true e other = absurd (other (eqb-true m n e))
+apart_by m n false e other = refl
 
-pub some_bodies : {E : Type 0} (rule : ℕ) (result : Result (Unit {0}) E) (old new : Lines) (bodies : List ℕ) → (rule == 1) ≡ false → IfOk result (λ _. new ≡ old ++ file_lines (codes "file w.bod") bodies)
+apart : (m n : ℕ) → m ≢ n → (m == n) ≡ false
+apart m n other = apart_by m n (m == n) refl other
+
+pub some_bodies : {E : Type 0} (rule : ℕ) (result : Result (Unit {0}) E) (old new : Lines) (bodies : List ℕ) → rule ≢ 1 → IfOk result (λ _. new ≡ old ++ file_lines (codes "file w.bod") bodies)
     → IfOk result (λ _. new ≡ old ++ bodies_lines rule bodies)
-some_bodies rule (Ok x) old new bodies other e = e ∙ ap (λ (y : Lines). old ++ y) (sym (bodies_by false rule bodies other))
+some_bodies rule (Ok x) old new bodies other e = e ∙ ap (λ (y : Lines). old ++ y) (sym (bodies_by false rule bodies (apart rule 1 other)))
 some_bodies rule (Err x) old new bodies other e = tt
 
 -- ---- all files

@@ -54,7 +54,6 @@ fn add_file(alloc: Global, lines: &mut List<Text>, name: &[u8], text: &Text) -> 
 }
 
 // Adds the lines of the file of the bodies. The class of a client that shows a lost class has none.
-#[tactic(auto, using(crate::proofs::LineLaws::no_bodies, crate::proofs::LineLaws::some_bodies))]
 fn add_bodies(
     alloc: Global,
     lines: &mut List<Text>,
@@ -71,7 +70,6 @@ fn add_bodies(
 }
 
 // Adds the lines of the files of a client's texts.
-#[tactic(auto, using(crate::proofs::LineLaws::all_files))]
 fn add_files(alloc: Global, lines: &mut List<Text>, rule: u8, texts: &Texts) -> Result<(), NoMemory>
     ensures { IfOk result (λ _. lines.new ≡ lines.old ++ files_lines rule texts.now) }
 {
