@@ -185,5 +185,4 @@ one_image image a b e f = let g : Some a ≡ Some b = sym e ∙ f in cc
 pub same_image : (files new_files later last : Option Files) (out older newer name : List ℕ) (o n : Release) (b : CompatBreach) (status : ℕ) (old new : Option (List ℕ)) → (call : WitnessPuts files out older newer o n b new_files)
     → (made : PutsProgram later name (witness_of o n b) status last old new) → (call.told.tells.shown b call.unkept call.other).image ≡ made.puts.image
 same_image files new_files later last out older newer name o n b status old new call made =
-    let put = put_of files new_files out older newer o n b call in
-    one_image (client_image (witness_of o n b)) put.image made.puts.image put.spelled made.puts.spelled
+    one_image (client_image (witness_of o n b)) (call.told.tells.shown b call.unkept call.other).image made.puts.image (call.told.tells.shown b call.unkept call.other).spelled made.puts.spelled
