@@ -17,6 +17,7 @@ const USAGE: &str = "usage: som library OUT FILE..
        som check IMAGE IMAGE..
        som run CLIENT LIBRARY [--fuel N] [--trace [CLASS]]
        som tasks LIBRARY PATTERN ROUNDS CLIENT..
+       som witness OUT OLD NEW
        som show IMAGE
        som generate N
 a FILE ends in .idl, .bod or .main; docs/COMMANDS.md tells the rest";

@@ -16,7 +16,7 @@ use Rattle.som_cmd.specs.Chain.{ClientPuts, LibraryPuts}
 use Rattle.som_cmd.specs.Ends.{AreChecked, AreNewest, IsImageOf, IsImageOfClient}
 use Rattle.som_cmd.specs.PutEnds.{PutsImage}
 
-same_told : (files : Option Files) (a b : Files) → files ≡ Some a → files ≡ Some b → a ≡ b
+pub same_told : (files : Option Files) (a b : Files) → files ≡ Some a → files ≡ Some b → a ≡ b
 same_told files a b e f = let g : Some a ≡ Some b = sym e ∙ f in cc
 
 same_shown : (a b : List ℕ) → Show a ≡ Show b → a ≡ b
@@ -49,11 +49,11 @@ programmed files new_files out library p call =
 
 -- ---- what is under a name
 
-under_name : (files : Option Files) (told : Files) (name : List ℕ) (r : Release) → files ≡ Some told → IsImageOf (Show name) files r → IsUnder told name r
+pub under_name : (files : Option Files) (told : Files) (name : List ℕ) (r : Release) → files ≡ Some told → IsImageOf (Show name) files r → IsUnder told name r
 under_name files told name r same i =
     subst (λ (n : List ℕ). IsUnder told n r) (sym (same_shown name i.name i.asked_is)) (subst (λ (f : Files). IsUnder f i.name r) (same_told files i.told told i.files_are same) i.under)
 
-client_under_name : (files : Option Files) (told : Files) (name : List ℕ) (p : ClientProgram) → files ≡ Some told → IsImageOfClient (Show name) files p → IsClientUnder told name p
+pub client_under_name : (files : Option Files) (told : Files) (name : List ℕ) (p : ClientProgram) → files ≡ Some told → IsImageOfClient (Show name) files p → IsClientUnder told name p
 client_under_name files told name p same i =
     subst (λ (n : List ℕ). IsClientUnder told n p) (sym (same_shown name i.name i.asked_is)) (subst (λ (f : Files). IsClientUnder f i.name p) (same_told files i.told told i.files_are same) i.under)
 

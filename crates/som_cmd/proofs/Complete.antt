@@ -5,7 +5,8 @@ use Rattle.som_model.specs.Bytes.{Files}
 use Rattle.som_io.specs.Outside.{Rose}
 use Rattle.som_cmd_steps.proofs.Statuses.{differs}
 use Rattle.som_cmd_build.specs.PutEnds.{LeavesFiles, as_they_were, with_image, put_failed}
-use Rattle.som_cmd.specs.Words.{Asked, Bad, Library, Run, Show, Check, Client, Tasks, Generate}
+use Rattle.som_cmd_witness.specs.WitnessEnds as witness
+use Rattle.som_cmd.specs.Words.{Asked, Bad, Library, Run, Show, Check, Client, Tasks, Witness, Generate}
 use Rattle.som_cmd.specs.Complete.{EndsOrWants, WantsMemory}
 use Rattle.som_cmd.specs.Ends.{EndsAsTold, ShowsSome, StoreFails}
 use Rattle.som_cmd.specs.PutEnds.{KeepsFiles}
@@ -21,6 +22,14 @@ module _ (count now : ℕ) (steady : Rose count now → ⊥) where
   unchanged IsImage files out status new_files old new ten (with_image image is bytes zero put) = absurd (ten_is_none (sym ten ∙ zero))
   unchanged IsImage files out status new_files old new ten (put_failed image is bytes rose says fails) = absurd (steady rose)
 
+  -- so does a witness
+  unwitnessed : (files : Files) (out older newer : List ℕ) (status : ℕ) (new_files : Option Files) (old new : Option (List ℕ)) → status ≡ 10
+      → witness.LeavesFiles files out older newer count now status new_files old new → new_files ≡ Some files
+  unwitnessed files out older newer status new_files old new ten (witness.as_they_were not0 same) = same
+  unwitnessed files out older newer status new_files old new ten (witness.nothing_to_put none zero same) = same
+  unwitnessed files out older newer status new_files old new ten (witness.with_image text image is zero all put) = absurd (ten_is_none (sym ten ∙ zero))
+  unwitnessed files out older newer status new_files old new ten (witness.put_failed text image is rose says fails) = absurd (steady rose)
+
   -- so does every command
   kept : (asked : Asked) (files : Files) (status : ℕ) (new_files : Option Files) (old new : Option (List ℕ)) → status ≡ 10
       → KeepsFiles asked (Some files) count now status new_files old new → new_files ≡ Some files
@@ -30,6 +39,7 @@ module _ (count now : ℕ) (steady : Rose count now → ⊥) where
   kept (Library out names) files status new_files old new ten k = unchanged _ files out status new_files old new ten k
   kept (Client out library names) files status new_files old new ten k = unchanged _ files out status new_files old new ten k
   kept (Tasks library turns clients) files status new_files old new ten k = k
+  kept (Witness out older newer) files status new_files old new ten k = unwitnessed files out older newer status new_files old new ten k
   kept (Generate count) files status new_files old new ten k = k
   kept Bad files status new_files old new ten k = k
 

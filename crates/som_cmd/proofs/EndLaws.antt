@@ -39,18 +39,21 @@ use Rattle.som_cmd_tasks.specs.Ends.{tasks_text}
 use Rattle.som_cmd_tasks.specs.Newest.{Compiled, TurnsOnNewest, programs_of}
 use Rattle.som_cmd_tasks.specs.TasksAnswer.{IsTasksAnswer, clients_on}
 use Rattle.som_cmd_tasks.specs.TasksEnds.{KeepsAll, PrintsAlone, TellsTurns}
+use Rattle.som_cmd_witness.proofs.WitnessEndLaws.{witnessed_by}
+use Rattle.som_cmd_witness.specs.WitnessAnswer.{IsWitnessAnswer}
 use Rattle.som_generator.specs.declared.made.Made.{Made}
 use Rattle.som_cmd_generate.proofs.AnswerLaws.{generated_by}
 use Rattle.som_cmd_generate.specs.GenerateAnswer.{IsGenerateAnswer}
 use Rattle.som_cmd_generate.specs.GenerateEnds.{TellsGenerated}
 use Rattle.som_cmd_generate.specs.Printing.{ShowsSomeOf}
 use Rattle.som_cmd.proofs.OneAnswer.{some_answer}
-use Rattle.som_cmd.specs.Words.{Asked, Bad, Library, Run, Show, Check, Client, Tasks, Generate}
-use Rattle.som_cmd.specs.Answer.{IsAnswer, bad_words, runs, shows, checks, bad_line, compiles, compiles_client, takes_turns, generates}
+use Rattle.som_cmd.specs.Words.{Asked, Bad, Library, Run, Show, Check, Client, Tasks, Witness, Generate}
+use Rattle.som_cmd.specs.Answer.{IsAnswer, bad_words, runs, shows, checks, bad_line, compiles, compiles_client, takes_turns, shows_breach, generates}
 use Rattle.som_cmd.specs.Cause.{FailsOn}
 use Rattle.som_cmd.specs.Ends.{EndsAsTold, StoreFails, ShowsSome, AreImagesOf, AreNewest, AreNewestTasks, AreTasksOf, IsImageOf, IsImageOfClient, AreChecked}
 use Rattle.som_cmd.specs.Generating.{Generates, GeneratesAsked, IsMadeFor}
 use Rattle.som_cmd.proofs.WordLaws.{IsAnswerable}
+use Rattle.som_cmd.specs.Witnessing.{AreWitnessed, TellsWitnessed}
 use Rattle.som_cmd.specs.Refused.{TellsBadWords, TellsOneLine, statuses_of}
 use Rattle.som_cmd.specs.PutEnds.{KeepsFiles, AreTextsOf, AreClientTextsOf, PutsProgram, PutsRelease}
 
@@ -169,6 +172,9 @@ client_alone files out library names e (compiles_client _ _ _ _ a) = a
 tasks_alone : (files : Files) (l ts : List ℕ) (cs : List (List ℕ)) (e : Ending) → IsAnswer files (Tasks l ts cs) e → IsTasksAnswer l ts cs files e
 tasks_alone files l ts cs e (takes_turns _ _ _ _ a) = a
 
+witness_alone : (files : Files) (out older newer : List ℕ) (e : Ending) → IsAnswer files (Witness out older newer) e → IsWitnessAnswer out older newer files e
+witness_alone files out older newer e (shows_breach _ _ _ _ a) = a
+
 -- each client program prints on any release what it prints alone, whatever the turns are
 abbrev pub PrintAlone : Type 0
 PrintAlone = (r : Release) (ps : List ClientProgram) (turns : List ℕ) (i : ℕ) (p : ClientProgram) → slice_get ps i ≡ Some p → PrintsAlone r p (clients_on r ps) turns i
@@ -259,6 +265,16 @@ module _ (asked : Asked) (files : Option Files) (status : ℕ) (new_files : Opti
       puts = puts_client_by out m.library m.names m.told status new_files old new p
           (ends_with (λ x. IsAnswer m.told (Client out m.library m.names) x) (IsClientAnswer out m.library m.names m.told) (client_alone m.told out m.library m.names) status new_files old new
           (ends_by asked (Client out m.library m.names) files m.told m.asked_is m.files_are status new_files old new e)) count now (left_by (Client out m.library m.names) m.told m.asked_is m.files_are) m.texts;
+    }
+
+    -- what becomes of two releases
+    pub witnessed : (out older newer : List ℕ) (o n : Release) → AreWitnessed asked files out older newer o n → TellsWitnessed o n files out status new_files old new
+    witnessed out older newer o n m = record {
+      told = m.told;
+      files_are = m.files_are;
+      tells = witnessed_by m.told out older newer status count now new_files old new
+          (ends_with (λ x. IsAnswer m.told (Witness out older newer) x) (IsWitnessAnswer out older newer m.told) (witness_alone m.told out older newer) status new_files old new
+          (ends_by asked (Witness out older newer) files m.told m.asked_is m.files_are status new_files old new e)) (left_by (Witness out older newer) m.told m.asked_is m.files_are) o n m.under;
     }
 
 -- ---- the newest of accepted releases

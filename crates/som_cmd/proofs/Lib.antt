@@ -6,3 +6,4 @@ mod EndLaws
 mod Complete
 mod CountLaws
 mod ChainLaws
+mod WitnessLaws

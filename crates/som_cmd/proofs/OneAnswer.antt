@@ -7,9 +7,10 @@ use Rattle.som_cmd_check.proofs.ShowLaws.{some_show_answer, one_show_answer}
 use Rattle.som_cmd_check.proofs.CheckLaws.{some_check_answer, one_check_answer}
 use Rattle.som_cmd_run.specs.RunAnswer.{run_ending}
 use Rattle.som_cmd_tasks.specs.TasksAnswer.{tasks_ending}
+use Rattle.som_cmd_witness.proofs.WitnessLaws.{one_witness_answer, some_witness_answer}
 use Rattle.som_cmd_generate.proofs.AnswerLaws.{one_generate_answer, some_generate_answer}
-use Rattle.som_cmd.specs.Answer.{runs, shows, IsAnswer, bad_words, checks, compiles, compiles_client, takes_turns, generates, bad_line}
-use Rattle.som_cmd.specs.Words.{Asked, Run, Show, Check, Library, Client, Tasks, Generate, Bad}
+use Rattle.som_cmd.specs.Answer.{runs, shows, IsAnswer, bad_words, checks, compiles, compiles_client, takes_turns, shows_breach, generates, bad_line}
+use Rattle.som_cmd.specs.Words.{Asked, Run, Show, Check, Library, Client, Tasks, Witness, Generate, Bad}
 use Rattle.som_cmd.proofs.WordLaws.{IsAnswerable}
 
 -- there is an answer to what has as many files with a main as it needs, or no more classes than can be generated
@@ -20,6 +21,7 @@ some_answer files (Check ns) mains = let a = some_check_answer files ns in (a.0,
 some_answer files (Library out names) mains = let a = library_answer files out names in (a.0, compiles out names a.0 a.1)
 some_answer files (Client out library names) mains = let a = client_answer files out library names mains in (a.0, compiles_client out library names a.0 a.1)
 some_answer files (Tasks l ts cs) are = (tasks_ending l ts cs files, takes_turns l ts cs (tasks_ending l ts cs files) refl)
+some_answer files (Witness out old new) mains = let a = some_witness_answer files out old new in (a.0, shows_breach out old new a.0 a.1)
 some_answer files (Generate n) few = let a = some_generate_answer n few files in (a.0, generates n a.0 a.1)
 some_answer files Bad mains = (record { text = bad_line; status = 2; files = files }, bad_words)
 
@@ -31,5 +33,6 @@ one_answer files (Check ns) a b (checks _ _ x) (checks _ _ y) = one_check_answer
 one_answer files (Library out names) a b (compiles _ _ _ x) (compiles _ _ _ y) = one_library_answer files out names a b x y
 one_answer files (Client out library names) a b (compiles_client _ _ _ _ x) (compiles_client _ _ _ _ y) = one_client_answer files out library names a b x y
 one_answer files (Tasks l ts cs) a b (takes_turns _ _ _ _ x) (takes_turns _ _ _ _ y) = x ∙ sym y
+one_answer files (Witness out old new) a b (shows_breach _ _ _ _ x) (shows_breach _ _ _ _ y) = one_witness_answer files out old new a b x y
 one_answer files (Generate n) a b (generates _ _ x) (generates _ _ y) = one_generate_answer n files a b x y
 one_answer files Bad a b bad_words bad_words = refl

@@ -11,7 +11,7 @@ use Rattle.som_cmd_tasks.specs.declared.limits.TheConstants.{MAX_PATTERN, MAX_RO
 use Rattle.som_cmd_tasks.specs.Patterns.{AreTurns, names_client, turns_given}
 use Rattle.som_cmd_tasks.proofs.Turning.{pattern_turns}
 use Rattle.som_generator.specs.declared.limits.TheConstants.{MAX_CLASSES}
-use Rattle.som_cmd.specs.Words.{Asked, Show, Check, Library, Client, Tasks, Generate, Bad, are_clients, are_files, asked, asked_of, client_asked, from_one_to, fuel_of, generate_asked, generate_with, is_file, is_name, is_pattern, library_asked, rounds_of, run_asked, run_with, tasks_asked, trace_in, turns_with}
+use Rattle.som_cmd.specs.Words.{Asked, Show, Check, Library, Client, Tasks, Witness, Generate, Bad, are_clients, are_files, asked, asked_of, client_asked, from_one_to, fuel_of, generate_asked, generate_with, is_file, is_name, is_pattern, library_asked, rounds_of, run_asked, run_with, tasks_asked, trace_in, turns_with, witness_asked}
 
 -- ---- one word after the other
 
@@ -128,6 +128,11 @@ tasks_few library pattern [] = tt
 tasks_few library pattern (word ∷ clients) =
     pattern_few library pattern word clients (is_name library) (are_clients clients) (nat_le 1 (length pattern)) (nat_le (length pattern) MAX_PATTERN) (every (names_client (length clients)) pattern) refl refl
 
+witness_any : (out old : List ℕ) (rest : List (List ℕ)) → IsAnswerable (witness_asked out old rest)
+witness_any out old [] = tt
+witness_any out old (new ∷ []) = if_mains (is_name out && is_name old && is_name new) (Witness out old new) Bad tt tt
+witness_any out old (new ∷ more ∷ rest) = tt
+
 pub asked_mains : (words : List (List ℕ)) → IsAnswerable (asked words)
 asked_mains [] = tt
 asked_mains (word ∷ []) = tt
@@ -136,8 +141,9 @@ asked_mains (word ∷ client ∷ library ∷ rest) =
     if_mains _ (run_asked client library rest) _ (runs_mains client library rest)
     (if_mains (bytes_eq word (codes "library")) (library_asked client (library ∷ rest)) _ (library_mains client (library ∷ rest) (is_name client) (are_files 0 (library ∷ rest)) refl)
     (if_mains (bytes_eq word (codes "client")) (client_asked client library rest) _ (client_mains client library rest (is_name client) (is_name library) (are_files 1 rest) refl)
-    (if_mains (bytes_eq word (codes "tasks")) (tasks_asked client library rest) (asked_of word (client ∷ library ∷ rest)) (tasks_few client library rest)
-    (if_mains _ (Check (client ∷ library ∷ rest)) Bad tt tt))))
+    (if_mains (bytes_eq word (codes "tasks")) (tasks_asked client library rest) _ (tasks_few client library rest)
+    (if_mains (bytes_eq word (codes "witness")) (witness_asked client library rest) (asked_of word (client ∷ library ∷ rest)) (witness_any client library rest)
+    (if_mains _ (Check (client ∷ library ∷ rest)) Bad tt tt)))))
 
 pub mains_by : (words : List (List ℕ)) (by : Asked) → by ≡ asked words → IsAnswerable by
 mains_by words by is = subst IsAnswerable (sym is) (asked_mains words)

@@ -8,8 +8,9 @@ use Rattle.som_cmd_check.specs.CheckAnswer.{IsCheckAnswer}
 use Rattle.som_cmd_check.specs.ShowAnswer.{IsShowAnswer}
 use Rattle.som_cmd_run.specs.RunAnswer.{IsRunAnswer}
 use Rattle.som_cmd_tasks.specs.TasksAnswer.{IsTasksAnswer}
+use Rattle.som_cmd_witness.specs.WitnessAnswer.{IsWitnessAnswer}
 use Rattle.som_cmd_generate.specs.GenerateAnswer.{IsGenerateAnswer}
-use Rattle.som_cmd.specs.Words.{Library, Asked, Run, Show, Check, Client, Tasks, Generate, Bad}
+use Rattle.som_cmd.specs.Words.{Library, Asked, Run, Show, Check, Client, Tasks, Witness, Generate, Bad}
 
 abbrev pub bad_line : List ℕ
 bad_line = codes "som: bad command line" ++ 10 ∷ []
@@ -23,4 +24,5 @@ pub data IsAnswer (files : Files) : Asked → Ending → Type 0 where
   compiles : (out : List ℕ) (names : List (List ℕ)) (e : Ending) → IsLibraryAnswer out names files e → IsAnswer files (Library out names) e
   compiles_client : (out library : List ℕ) (names : List (List ℕ)) (e : Ending) → IsClientAnswer out library names files e → IsAnswer files (Client out library names) e
   takes_turns : (library turns : List ℕ) (clients : List (List ℕ)) (e : Ending) → IsTasksAnswer library turns clients files e → IsAnswer files (Tasks library turns clients) e
+  shows_breach : (out old new : List ℕ) (e : Ending) → IsWitnessAnswer out old new files e → IsAnswer files (Witness out old new) e
   generates : (count : ℕ) (e : Ending) → IsGenerateAnswer count files e → IsAnswer files (Generate count) e

@@ -5,5 +5,6 @@ pub mod Ends
 pub mod PutEnds
 pub mod Generating
 pub mod Chain
+pub mod Witnessing
 pub mod Refused
 pub mod Complete

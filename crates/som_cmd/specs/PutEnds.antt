@@ -8,9 +8,10 @@ use Rattle.som_cmd_build.specs.LibraryAnswer.{AreCompiled}
 use Rattle.som_cmd_build.specs.ClientAnswer.{IsClientCompiled}
 use Rattle.som_cmd_build.specs.PutEnds.{HoldsClientTexts, HoldsTexts, LeavesFilesTold}
 use Rattle.som_cmd_build.specs.PutEnds as build
-use Rattle.som_cmd.specs.Words.{Asked, Run, Show, Check, Library, Client, Tasks, Generate, Bad}
+use Rattle.som_cmd_witness.specs.WitnessEnds as witness
+use Rattle.som_cmd.specs.Words.{Asked, Run, Show, Check, Library, Client, Tasks, Witness, Generate, Bad}
 
--- the files after a call: no command but `library` and `client` changes any
+-- the files after a call: no command but `library`, `client` and `witness` changes any
 abbrev pub KeepsFiles : Asked → Option Files → ℕ → ℕ → ℕ → Option Files → Option (List ℕ) → Option (List ℕ) → Type 0
 KeepsFiles (Run client library fuel shows) files before now status new_files old new = new_files ≡ files
 KeepsFiles (Show image) files before now status new_files old new = new_files ≡ files
@@ -20,6 +21,7 @@ KeepsFiles (Generate count) files before now status new_files old new = new_file
 KeepsFiles Bad files before now status new_files old new = new_files ≡ files
 KeepsFiles (Library out names) files before now status new_files old new = LeavesFilesTold (λ told. AreCompiled told names) files out before now status new_files old new
 KeepsFiles (Client out library names) files before now status new_files old new = LeavesFilesTold (λ told. IsClientCompiled told library names) files out before now status new_files old new
+KeepsFiles (Witness out older newer) files before now status new_files old new = witness.LeavesFilesTold files out older newer before now status new_files old new
 
 -- texts are to be compiled, and the store holds texts that stand for the release
 pub record AreTextsOf (asked : Asked) (files : Option Files) (out : List ℕ) (r : Release) : Type 0 where

@@ -9,9 +9,10 @@ use Rattle.som_cmd_link.specs.Refusals.{IsRunRefusal}
 use Rattle.som_cmd_run.specs.RunAnswer.{run_statuses}
 use Rattle.som_cmd_tasks.specs.Refusals.{IsTasksRefusal}
 use Rattle.som_cmd_tasks.specs.TasksAnswer.{tasks_statuses}
+use Rattle.som_cmd_witness.specs.WitnessAnswer.{witness_statuses}
 use Rattle.som_cmd_generate.specs.GenerateAnswer.{generate_statuses}
 use Rattle.som_cmd.specs.Answer.{bad_line}
-use Rattle.som_cmd.specs.Words.{Asked, Run, Show, Check, Library, Client, Tasks, Generate, Bad}
+use Rattle.som_cmd.specs.Words.{Asked, Run, Show, Check, Library, Client, Tasks, Witness, Generate, Bad}
 
 -- the statuses of what is asked for; words of no form are refused, or the sink fails or memory runs out meanwhile
 abbrev pub statuses_of : Asked → List ℕ
@@ -21,6 +22,7 @@ statuses_of (Check images) = check_statuses
 statuses_of (Library out names) = library_statuses
 statuses_of (Client out library names) = client_statuses
 statuses_of (Tasks library turns clients) = tasks_statuses
+statuses_of (Witness out old new) = witness_statuses
 statuses_of (Generate count) = generate_statuses
 statuses_of Bad = 2 ∷ 8 ∷ 10 ∷ []
 
@@ -32,6 +34,7 @@ TellsOneLine (Check images) status old new = Unit {0}
 TellsOneLine (Library out names) status old new = Unit {0}
 TellsOneLine (Client out library names) status old new = Unit {0}
 TellsOneLine (Tasks library turns clients) status old new = (status ≡ 4) ⊎ (status ≡ 5) ⊎ (status ≡ 7) → TellsRefusal (IsTasksRefusal library clients) status old new
+TellsOneLine (Witness out older newer) status old new = Unit {0}
 TellsOneLine (Generate count) status old new = Unit {0}
 TellsOneLine Bad status old new = Unit {0}
 

@@ -14,7 +14,8 @@ use Rattle.som_cmd.specs.declared.words.Command.{Command}
 use Rattle.som_cmd.specs.declared.words.Command.TheVariants as commands
 
 -- what words ask for: to run a client image on a library image with so much fuel, and to show these calls, by the name of the class whose body it is; to show an image;
--- to check images; to compile texts to a library image, or to a client image against a library image; to give client images on a library image these turns; to generate so many classes;
+-- to check images; to compile texts to a library image, or to a client image against a library image; to give client images on a library image these turns;
+-- to put under a name the image of the client that shows what one image doesn't keep of another; to generate so many classes;
 -- or they have no form
 pub data Asked : Type 0 where
   Run : (client library : List ℕ) (fuel : ℕ) (shows : List ℕ → Bool) → Asked
@@ -23,6 +24,7 @@ pub data Asked : Type 0 where
   Library : (out : List ℕ) (files : List (List ℕ)) → Asked
   Client : (out library : List ℕ) (files : List (List ℕ)) → Asked
   Tasks : (library turns : List ℕ) (clients : List (List ℕ)) → Asked
+  Witness : (out old new : List ℕ) → Asked
   Generate : (count : ℕ) → Asked
   Bad : Asked
 
@@ -34,6 +36,7 @@ asked_by (commands.Check images) = Check images.now
 asked_by (commands.Library out files) = Library out.now files.now
 asked_by (commands.Client out library files) = Client out.now library.now files.now
 asked_by (commands.Tasks library pattern rounds clients) = Tasks library.now (turns_given pattern.now rounds) clients.now
+asked_by (commands.Witness out old new) = Witness out.now old.now new.now
 asked_by (commands.Generate count) = Generate count
 asked_by commands.Bad = Bad
 
@@ -135,6 +138,11 @@ abbrev pub tasks_asked : List ℕ → List ℕ → List (List ℕ) → Asked
 tasks_asked library pattern [] = Bad
 tasks_asked library pattern (word ∷ clients) = if is_name library && are_clients clients && is_pattern (length clients) pattern then turns_with library pattern clients (rounds_of word) else Bad
 
+-- what `witness` asks for with two words, and the words after these: one name more, where none of the three is empty
+abbrev pub witness_asked : List ℕ → List ℕ → List (List ℕ) → Asked
+witness_asked out old (new ∷ []) = if is_name out && is_name old && is_name new then Witness out old new else Bad
+witness_asked out old _ = Bad
+
 -- so many classes are generated, if there is a count
 abbrev pub generate_with : Option ℕ → Asked
 generate_with (Some count) = Generate count
@@ -145,7 +153,7 @@ abbrev pub generate_asked : List ℕ → Asked
 generate_asked word = generate_with (count_of word)
 
 -- `show IMAGE`, `generate N`, `run CLIENT LIBRARY`, then `--fuel N` or not, then `--trace`, `--trace CLASS` or neither, `check IMAGE IMAGE ..`,
--- `library OUT FILE ..`, `client OUT LIBRARY FILE ..` or `tasks LIBRARY PATTERN ROUNDS CLIENT ..`, where no name is empty
+-- `library OUT FILE ..`, `client OUT LIBRARY FILE ..`, `tasks LIBRARY PATTERN ROUNDS CLIENT ..` or `witness OUT OLD NEW`, where no name is empty
 abbrev pub asked : List (List ℕ) → Asked
 asked (word ∷ image ∷ []) =
     if bytes_eq word (codes "show") && not (length image == 0) then Show image else (if bytes_eq word (codes "generate") then generate_asked image else Bad)
@@ -153,5 +161,6 @@ asked (word ∷ client ∷ library ∷ rest) =
     if bytes_eq word (codes "run") && not (length client == 0) && not (length library == 0) then run_asked client library rest else (
     if bytes_eq word (codes "library") then library_asked client (library ∷ rest) else (
     if bytes_eq word (codes "client") then client_asked client library rest else (
-    if bytes_eq word (codes "tasks") then tasks_asked client library rest else asked_of word (client ∷ library ∷ rest))))
+    if bytes_eq word (codes "tasks") then tasks_asked client library rest else (
+    if bytes_eq word (codes "witness") then witness_asked client library rest else asked_of word (client ∷ library ∷ rest)))))
 asked words = Bad

@@ -5,6 +5,6 @@ mod laws;
 mod top;
 mod words;
 
-pub use laws::{answer_law, chain_law, count_law, fuel_law};
+pub use laws::{answer_law, chain_law, count_law, fuel_law, witness_chain_law, witness_texts_law};
 pub use som_cmd_steps::fault_law;
 pub use top::run_som;

@@ -9,6 +9,7 @@ ghost use Rattle.som_cmd.specs.Ends.{AreChecked, AreImagesOf, AreNewest, AreNewe
 ghost use Rattle.som_cmd.specs.Generating.{GeneratesAsked, IsMadeFor};
 ghost use Rattle.som_cmd.specs.PutEnds.{AreClientTextsOf, AreTextsOf, KeepsFiles, PutsProgram, PutsRelease};
 ghost use Rattle.som_cmd.specs.Refused.{TellsBadWords, TellsOneLine, statuses_of};
+ghost use Rattle.som_cmd.specs.Witnessing.{AreWitnessed, TellsWitnessed};
 ghost use Rattle.som_cmd.specs.Words.{Bad, asked};
 ghost use Rattle.som_cmd_tasks.specs.Newest.{Compiled, TurnsOnNewest, programs_of};
 ghost use Rattle.som_cmd_tasks.specs.TasksEnds.{KeepsAll, TellsTurns};
@@ -33,6 +34,7 @@ use som_cmd_generate::generate;
 use som_cmd_run::run_client;
 use som_cmd_steps::{line_of, say};
 use som_cmd_tasks::{alone_law, run_tasks};
+use som_cmd_witness::witness_images;
 use som_host::HostTable;
 use som_io::{Sink, Store};
 use som_model::{List, Text};
@@ -81,6 +83,11 @@ fn do_command<S: Store, K: Sink>(
             rounds,
             clients,
         } => run_tasks(alloc, library, pattern, rounds, clients, store, out, host),
+        Command::Witness {
+            out: name,
+            old,
+            new,
+        } => witness_images(alloc, name, old, new, store, out),
         Command::Generate { count } => generate(alloc, count, host, out),
         Command::Bad => match line_of(alloc, b"som: bad command line") {
             Ok(line) => say(out, &line, 2),
@@ -160,6 +167,11 @@ pub fn run_som<S: Store, K: Sink>(
     ensures client_compiled { (name : Seq ℕ) (p : ClientProgram) → AreClientTextsOf (asked words.now) (S.files store.old) name p
         → result ≢ 6 → result ≢ 8 → result ≢ 10 → PutsProgram (S.files store.old) name p result (S.files store.new) (K.written out.old) (K.written out.new) }
 
+    // Of an older and a newer release that conform is told that the newer one is accepted, exactly where it keeps all; else that a class has another version, where that is broken first;
+    // else the breach and the texts of the client that shows it, or that it has none, and the client's image stands then under the name. No other file is changed.
+    ensures witnessed { (name older newer : Seq ℕ) (o n : Release) → AreWitnessed (asked words.now) (S.files store.old) name older newer o n
+        → result ≢ 6 → result ≢ 8 → result ≢ 10 → TellsWitnessed o n (S.files store.old) name result (S.files store.new) (K.written out.old) (K.written out.new) }
+
     // What the generator makes of so many classes, and its client comes to on the second release, is printed, with that run's status.
     ensures generated { (n : ℕ) (m : Made) → IsMadeFor (asked words.now) n m → result ≢ 8 → result ≢ 10 → TellsGenerated n m result (K.written out.old) (K.written out.new) }
 
@@ -169,7 +181,7 @@ pub fn run_som<S: Store, K: Sink>(
     // Each command ends with one of these statuses.
     ensures statuses { Mem result (statuses_of (asked words.now)) }
 
-    // The store failed in this call, and the line that says so is all that was written.
+    // The store failed in this call, and what was written says so: one line, before which `witness` has told its own where its put failed.
     ensures store_failed { result ≡ 6 → StoreFails (asked words.now) (S.files store.old) (S.faults store.old) (S.faults store.new) (K.written out.old) (K.written out.new) }
 
     // The sink failed in this call.
@@ -191,7 +203,7 @@ pub fn run_som<S: Store, K: Sink>(
     // Over a store and a sink of which nothing is set to fail, neither is said to fail.
     ensures calm { S.calm store.old → K.calm out.old → IsTrue (is_calm_status result) }
 
-    // No file is changed, but by `library` and `client`, which put an image at status 0; or the store failed in this call, what was written says that their put did,
+    // No file is changed, but by `library`, `client` and `witness`, which put an image at status 0; or the store failed in this call, what was written says that their put did,
     // and the files are as such a put may leave them.
     ensures files { KeepsFiles (asked words.now) (S.files store.old) (S.faults store.old) (S.faults store.new) result (S.files store.new) (K.written out.old) (K.written out.new) }
 {

@@ -1,6 +1,6 @@
 //! Parses the words of the command line to a command, with its names, fuel, trace, turns or count.
 
-ghost use Rattle.som_cmd.specs.Words.{are_clients, are_files, asked, asked_by, asked_of, client_asked, count_of, from_one_to, fuel_of, generate_asked, is_digit, is_file, is_name, is_pattern, leads_with_zero, library_asked, rounds_of, run_asked, run_with, tasks_asked, trace_in, turns_with};
+ghost use Rattle.som_cmd.specs.Words.{are_clients, are_files, asked, asked_by, asked_of, client_asked, count_of, from_one_to, fuel_of, generate_asked, is_digit, is_file, is_name, is_pattern, leads_with_zero, library_asked, rounds_of, run_asked, run_with, tasks_asked, trace_in, turns_with, witness_asked};
 ghost use Rattle.som_cmd_tasks.specs.Patterns.{names_client};
 ghost use Rattle.som_model.specs.Lists.{every};
 ghost use Rattle.som_cmd_main.specs.Traces.{shown_in};
@@ -44,6 +44,11 @@ pub enum Command<'a> {
         rounds: u32,
         clients: &'a [Text],
     },
+    Witness {
+        out: &'a Text,
+        old: &'a Text,
+        new: &'a Text,
+    },
     Generate {
         count: u32,
     },
@@ -85,6 +90,12 @@ fn is_tasks(word: &Text) -> bool
     ensures { result ≡ bytes_eq word.now (codes "tasks") }
 {
     word.is(b"tasks")
+}
+
+fn is_witness(word: &Text) -> bool
+    ensures { result ≡ bytes_eq word.now (codes "witness") }
+{
+    word.is(b"witness")
 }
 
 fn is_generate(word: &Text) -> bool
@@ -319,6 +330,22 @@ fn tasks_with<'a>(library: &'a Text, pattern: &'a Text, words: &'a [Text]) -> Co
     }
 }
 
+// What `witness` asks for with two words, and the words after these.
+fn witness_with<'a>(out: &'a Text, old: &'a Text, words: &'a [Text]) -> Command<'a>
+    ensures { asked_by result ≡ witness_asked out.now old.now words.now }
+{
+    match words {
+        [new] => {
+            if !out.is_empty() && !old.is_empty() && !new.is_empty() {
+                Command::Witness { out, old, new }
+            } else {
+                Command::Bad
+            }
+        }
+        _ => Command::Bad,
+    }
+}
+
 // What `generate` asks for with a word.
 fn generate_with(word: &Text) -> Command<'_>
     ensures { asked_by result ≡ generate_asked word.now }
@@ -415,6 +442,8 @@ pub fn command_of(words: &List<Text>) -> Command<'_>
                 client_with(client, library, rest)
             } else if is_tasks(word) {
                 tasks_with(client, library, rest)
+            } else if is_witness(word) {
+                witness_with(client, library, rest)
             } else {
                 command_with(word, &words.as_slice()[1..])
             }

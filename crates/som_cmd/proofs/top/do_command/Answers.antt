@@ -8,9 +8,10 @@ use Rattle.som_cmd_build.specs.LibraryAnswer.{IsLibraryAnswer}
 use Rattle.som_cmd_build.specs.ClientAnswer.{IsClientAnswer}
 use Rattle.som_cmd_tasks.specs.Patterns.{turns_given}
 use Rattle.som_cmd_tasks.specs.TasksAnswer.{IsTasksAnswer}
+use Rattle.som_cmd_witness.specs.WitnessAnswer.{IsWitnessAnswer}
 use Rattle.som_cmd_generate.specs.GenerateAnswer.{IsGenerateAnswer}
-use Rattle.som_cmd.specs.Words.{asked, Run, Show, Check, Library, Client, Tasks, Generate, Bad}
-use Rattle.som_cmd.specs.Answer.{runs, shows, checks, compiles, compiles_client, takes_turns, generates}
+use Rattle.som_cmd.specs.Words.{asked, Run, Show, Check, Library, Client, Tasks, Witness, Generate, Bad}
+use Rattle.som_cmd.specs.Answer.{runs, shows, checks, compiles, compiles_client, takes_turns, shows_breach, generates}
 use Rattle.som_cmd.proofs.EndLaws.{among, answered, bad_ends, bad_fronts, bad_status, bad_told, bad_untold, files_kept, front, generated_asked, generated_some, generated_told, none_written, one_line, store_failed}
 use Rattle.som_cmd.proofs.WordLaws.{asked_mains, mains_by}
 use Rattle.som_cmd.proofs.top.do_command.Goals as goal
@@ -167,6 +168,30 @@ returns-in-Tasks-clause-files g c = files_kept (asked c.args.words.now) (Tasks c
 
 pub run_tasks-requires : goal.run_tasks-requires
 run_tasks-requires g c = mains_by c.args.words.now (Tasks c.in-Tasks.library.now (turns_given c.in-Tasks.pattern.now c.in-Tasks.rounds) c.in-Tasks.clients.now) c.in-Tasks.ensures
+
+-- ---- a witness of a breach
+
+pub returns-in-Witness-clause-answered : goal.returns-in-Witness-clause-answered
+returns-in-Witness-clause-answered g c = λ not6 not8 not10.
+    answered (asked c.args.words.now) (Witness c.in-Witness.name.now c.in-Witness.old.now c.in-Witness.new.now) c.in-Witness.ensures (IsWitnessAnswer c.in-Witness.name.now c.in-Witness.old.now c.in-Witness.new.now) (λ files e a. shows_breach c.in-Witness.name.now c.in-Witness.old.now c.in-Witness.new.now e a) (g.S.Store.files c.args.store.now) c.witness_images.result (g.S.Store.files c.witness_images.new.store) (g.K.Sink.written c.args.out.now) (g.K.Sink.written c.witness_images.new.out) (c.witness_images.ensures.answered not6 not8 not10)
+
+pub returns-in-Witness-clause-statuses : goal.returns-in-Witness-clause-statuses
+returns-in-Witness-clause-statuses g c = among (asked c.args.words.now) (Witness c.in-Witness.name.now c.in-Witness.old.now c.in-Witness.new.now) c.in-Witness.ensures c.witness_images.result c.witness_images.ensures.statuses
+
+pub returns-in-Witness-clause-one_line : goal.returns-in-Witness-clause-one_line
+returns-in-Witness-clause-one_line g c = one_line (asked c.args.words.now) (Witness c.in-Witness.name.now c.in-Witness.old.now c.in-Witness.new.now) c.in-Witness.ensures c.witness_images.result (g.K.Sink.written c.args.out.now) (g.K.Sink.written c.witness_images.new.out) tt
+
+pub returns-in-Witness-clause-generates : goal.returns-in-Witness-clause-generates
+returns-in-Witness-clause-generates g c = generated_asked (asked c.args.words.now) (Witness c.in-Witness.name.now c.in-Witness.old.now c.in-Witness.new.now) c.in-Witness.ensures c.witness_images.result (g.K.Sink.written c.args.out.now) (g.K.Sink.written c.witness_images.new.out) tt
+
+pub returns-in-Witness-clause-store_failed : goal.returns-in-Witness-clause-store_failed
+returns-in-Witness-clause-store_failed g c = λ six. store_failed (asked c.args.words.now) (Witness c.in-Witness.name.now c.in-Witness.old.now c.in-Witness.new.now) c.in-Witness.ensures (g.S.Store.files c.args.store.now) (g.S.Store.faults c.args.store.now) (g.S.Store.faults c.witness_images.new.store) (g.K.Sink.written c.args.out.now) (g.K.Sink.written c.witness_images.new.out) (c.witness_images.ensures.store_failed six)
+
+pub returns-in-Witness-clause-front : goal.returns-in-Witness-clause-front
+returns-in-Witness-clause-front g c = λ either. front (asked c.args.words.now) (Witness c.in-Witness.name.now c.in-Witness.old.now c.in-Witness.new.now) c.in-Witness.ensures (IsWitnessAnswer c.in-Witness.name.now c.in-Witness.old.now c.in-Witness.new.now) (λ files e a. shows_breach c.in-Witness.name.now c.in-Witness.old.now c.in-Witness.new.now e a) (g.S.Store.files c.args.store.now) (g.S.Store.faults c.args.store.now) (g.S.Store.faults c.witness_images.new.store) (g.K.Sink.written c.args.out.now) (g.K.Sink.written c.witness_images.new.out) (c.witness_images.ensures.front either)
+
+pub returns-in-Witness-clause-files : goal.returns-in-Witness-clause-files
+returns-in-Witness-clause-files g c = files_kept (asked c.args.words.now) (Witness c.in-Witness.name.now c.in-Witness.old.now c.in-Witness.new.now) c.in-Witness.ensures (g.S.Store.files c.args.store.now) (g.S.Store.faults c.args.store.now) (g.S.Store.faults c.witness_images.new.store) c.witness_images.result (g.S.Store.files c.witness_images.new.store) (g.K.Sink.written c.args.out.now) (g.K.Sink.written c.witness_images.new.out) c.witness_images.ensures.files
 
 -- ---- what is generated
 

@@ -1,6 +1,6 @@
 use Rattle.som_cmd.specs.Words.{asked}
 use Rattle.som_cmd.proofs.Complete.{complete}
-use Rattle.som_cmd.proofs.EndLaws.{means, newest_runs, newest_turns, turns_told, unkept, shown, shown_client, accepted, breach, compiled, client_compiled, generated}
+use Rattle.som_cmd.proofs.EndLaws.{means, newest_runs, newest_turns, turns_told, unkept, shown, shown_client, accepted, breach, compiled, client_compiled, witnessed, generated}
 use Rattle.som_cmd.proofs.top.run_som.Goals as goal
 
 pub returns-clause-complete : goal.returns-clause-complete
@@ -44,6 +44,9 @@ returns-clause-compiled g c = λ name r texts not6 not8 not10. compiled (asked c
 
 pub returns-clause-client_compiled : goal.returns-clause-client_compiled
 returns-clause-client_compiled g c = λ name p texts not6 not8 not10. client_compiled (asked c.args.words.now) (g.S.Store.files c.args.store.now) c.do_command.result (g.S.Store.files c.do_command.new.store) (g.K.Sink.written c.args.out.now) (g.K.Sink.written c.do_command.new.out) (c.do_command.ensures.answered not6 not8 not10) (g.S.Store.faults c.args.store.now) (g.S.Store.faults c.do_command.new.store) c.do_command.ensures.files name p texts
+
+pub returns-clause-witnessed : goal.returns-clause-witnessed
+returns-clause-witnessed g c = λ name older newer o n images not6 not8 not10. witnessed (asked c.args.words.now) (g.S.Store.files c.args.store.now) c.do_command.result (g.S.Store.files c.do_command.new.store) (g.K.Sink.written c.args.out.now) (g.K.Sink.written c.do_command.new.out) (c.do_command.ensures.answered not6 not8 not10) (g.S.Store.faults c.args.store.now) (g.S.Store.faults c.do_command.new.store) c.do_command.ensures.files name older newer o n images
 
 pub returns-clause-generated : goal.returns-clause-generated
 returns-clause-generated g c = λ n m made not8 not10. generated (asked c.args.words.now) c.do_command.result (g.K.Sink.written c.args.out.now) (g.K.Sink.written c.do_command.new.out) c.do_command.ensures.generates n m made not8 not10
