@@ -7,14 +7,16 @@ PROGRAM is the built program (crates/som/out/som if none is given). It is run by
 those of `run`, the least and the peak of so many runs, which read both images, test them, and lay the rows.
 
   ladder  two classes a level, each under both of the level above, with so many variables each; an object of the last, or of each
-  proxy   a chain of classes with so many methods each, and a proxy of an object of the last
+  proxy   a chain of classes with so many attributes each, and so two methods for each, and so many operations, and a proxy of an object of the last
 """
 import argparse
+import itertools
 import os
 import pathlib
 import sys
 import tempfile
 
+import names
 import timing
 
 
@@ -38,10 +40,16 @@ def ladder(folder, count, variables, objects):
     write(folder, "a.main", "main {\n" + "".join(f"(new G{k}).somGetClass();\n" for k in range(count - objects, count)) + "}\n")
 
 
-def proxy(folder, count, methods):
-    write(folder, "a.idl", head() + "".join(
-        f"interface G{k} : {f'G{k - 1}' if k else 'SOMObject'} {{{''.join(f'void a{k}x{i}();' for i in range(methods))}}};\n" for k in range(count)))
-    write(folder, "a.bod", "".join(f"G{k}::a{k}x{i}(){{}}" for k in range(count) for i in range(methods)))
+def proxy(folder, count, attributes, operations):
+    given, classes, bodies = names.names(), [], []
+    for k in range(count):
+        own = [f"attribute long {','.join(itertools.islice(given, attributes))};"] if attributes else []
+        for name in itertools.islice(given, operations):
+            own.append(f"void {name}();")
+            bodies.append(f"G{k}::{name}(){{}}")
+        classes.append(f"interface G{k} : {f'G{k - 1}' if k else 'SOMObject'} {{{''.join(own)}}};\n")
+    write(folder, "a.idl", head() + "".join(classes))
+    write(folder, "a.bod", "".join(bodies))
     write(folder, "a.main", f"main {{ proxy(G{count - 1}, new G{count - 1}).somGetClass(); }}\n")
 
 
@@ -49,8 +57,8 @@ SHAPES = {
     "ladder of 4,096 with a variable each, an object of each": (ladder, (4096, 1, 4096)),
     "ladder of 1,024 with 64 variables each, an object of the last": (ladder, (1024, 64, 1)),
     "ladder of 4,096 with 64 variables each, an object of the last": (ladder, (4096, 64, 1)),
-    "a proxy of an object of the last of 740 classes with 256 methods each": (proxy, (740, 256)),
-    "the same without the proxy's methods: 740 classes with a method each": (proxy, (740, 1)),
+    "a proxy of an object of the last of 740 classes with 256 methods each": (proxy, (740, 64, 128)),
+    "a proxy of an object of the last of 740 classes with two methods each": (proxy, (740, 1, 0)),
 }
 
 

@@ -24,7 +24,7 @@ MEET = 10
 # The large hierarchies of which reports are made.
 SHAPES = ("beside one another", "one below each", "with parents near and far")
 
-# What a program would say that has the command witness, of pairs of releases, each with what check and witness say.
+# What the program would say of pairs of releases, each with what check and witness say.
 WITNESSES = {
     "Bell": (
         "class Bell 0.0 : SOMObject\n  0 void ring()\n  1 void stop()\n",
@@ -141,14 +141,14 @@ def asked_of(som, word=""):
 
 
 def kept(text, answers):
-    """Whether a record has these answers; that of witness, and of runs of its image, may be missing in it, since programs before had no such command."""
+    """Whether a record has these answers."""
     record = asking.Record(text)
-    return all(record.answers.get(it.words) == it for it in answers if it.words[0] != "witness" and it.words[:2] != ("run", "w"))
+    return all(record.answers.get(it.words) == it for it in answers)
 
 
 def record(som):
     """Writes what the program says of the examples."""
-    answers = {answer.words: answer for _, asked in asked_of(som) for answer in asked.answers if answer.words[0] != "witness" and answer.words[:2] != ("run", "w")}
+    answers = {answer.words: answer for _, asked in asked_of(som) for answer in asked.answers}
     RECORD.parent.mkdir(exist_ok=True)
     RECORD.write_text("What som says of the examples, as reports ask it; tools/report --record writes it.\n\n" + asking.recorded(answers.values()))
 
@@ -165,7 +165,7 @@ def recorded_pages():
 
 
 def witness_pages():
-    """Reports with what a program says that has the command witness."""
+    """Reports with what the program says of made up witnesses."""
     for name, (old, new, breach, witness) in WITNESSES.items():
         yield f"the witness of {name}", asking.asked(Double(library(old), library(new), breach, witness), "old", "new", ())
 
