@@ -13,6 +13,6 @@ mod methods;
 mod search;
 
 pub use body::BodyNo;
-pub use copies::{classes_of_pair, copy_classes};
+pub use copies::{classes_of_pair, copy_classes, own_classes_of_pair};
 pub use laws::names_law;
 pub use linked::{Linked, lay};

@@ -1,4 +1,5 @@
 pub mod Rows
 pub mod DataRows
+pub mod FirstParent
 pub mod Members
 pub mod Scheme

@@ -29,13 +29,16 @@ pub fn bodies_law<K>()
         (y : K) × (impl s.classes (s.method t).has_body (s.method t).chosen (s.method t).class (s.key n) ≡ Some y) × IsBody b c y t }
 {}
 
-/// Of rows of places what `laying_law` says of rows of bodies.
+/// Of rows of places, each less the shift of its row, what `laying_law` says of rows of bodies. Only the shifts of rows that are there
+/// count.
 pub fn placing_law<K, V>()
-    ensures none { (s : Scheme K) (own : K → Seq V) (rows : Seq (Option (Added ℕ))) → ((n : ℕ) → row_at rows n ≡ None) → IsPlaced s own rows }
-    ensures next { (s : Scheme K) → IsScheme s → (own : K → Seq V) (rows : Seq (Option (Added ℕ))) → IsPlaced s own rows → (n : ℕ) (a : Added ℕ) →
-        IsDataRow s own rows n a → IsDeclared rows n → IsPlaced s own (slice_set rows n (Some a)) }
-    ensures known { (s : Scheme K) → IsScheme s → (own : K → Seq V) (rows : Seq (Option (Added ℕ))) → IsPlaced s own rows → (n : ℕ) (a : Added ℕ) → IsDataRow s own rows n a →
+    ensures none { (s : Scheme K) (own : K → Seq V) (shift : ℕ → ℕ) (rows : Seq (Option (Added ℕ))) → ((n : ℕ) → row_at rows n ≡ None) → IsPlaced s own shift rows }
+    ensures next { (s : Scheme K) → IsScheme s → (own : K → Seq V) (shift : ℕ → ℕ) (rows : Seq (Option (Added ℕ))) → IsPlaced s own shift rows → (n : ℕ) (a : Added ℕ) →
+        IsDataRow s own shift rows n a → IsDeclared rows n → IsPlaced s own shift (slice_set rows n (Some a)) }
+    ensures known { (s : Scheme K) → IsScheme s → (own : K → Seq V) (shift : ℕ → ℕ) (rows : Seq (Option (Added ℕ))) → IsPlaced s own shift rows → (n : ℕ) (a : Added ℕ) → IsDataRow s own shift rows n a →
         (t : ℕ × ℕ) → IsToken s t → t.0 ≢ n → Descends s.classes (s.key n) (s.key t.0) → SomeHasToken rows a.parents t }
+    ensures others { (s : Scheme K) (own : K → Seq V) (shift other : ℕ → ℕ) (rows : Seq (Option (Added ℕ))) → IsPlaced s own shift rows →
+        ((n : ℕ) → HasRow rows n → other n ≡ shift n) → IsPlaced s own other rows }
 {}
 
 /// At the place of a variable in an object stands that variable, and two variables stand at two places; own ones come first.

@@ -5,7 +5,7 @@ use Rattle.std.proofs.lemmas.List.{take_all, take_more}
 use Rattle.std.specs.List.{AllByRecursion}
 use Rattle.som_model.specs.Lists.{Mem}
 use Rattle.som_model_laws.proofs.Members.{Apart}
-use Rattle.som_class_layout_laws.specs.Places.{before}
+use Rattle.som_class_layout_laws.specs.Places.{before, less}
 use Rattle.som_tables.specs.Rows.{AreDistinct, replaced_at, same_token}
 use Rattle.som_class_variables.specs.Variables.{cell_count}
 use Rattle.som_class_variables.specs.Placed.{base_of, bases_from}
@@ -46,25 +46,27 @@ own_base m place (suc count) rest lt =
 
 -- of all classes of a list
 
-pub none_over : (count : ℕ → ℕ) (place : ℕ) (ns : List ℕ) (t : ℕ × ℕ) → (Mem t.0 ns → ⊥) → replaced_at (bases_from count place ns) t ≡ None
-none_over count place [] t f = refl
-none_over count place (n ∷ ns) t f = other_base n place (count n) (bases_from count (place + count n) ns) t (λ e. f (inl e)) ∙ none_over count (place + count n) ns t (λ m. f (inr m))
+pub none_over : (count : ℕ → ℕ) (shift place : ℕ) (ns : List ℕ) (t : ℕ × ℕ) → (Mem t.0 ns → ⊥) → replaced_at (bases_from count shift place ns) t ≡ None
+none_over count shift place [] t f = refl
+none_over count shift place (n ∷ ns) t f = other_base n (less shift place) (count n) (bases_from count shift (place + count n) ns) t (λ e. f (inl e)) ∙ none_over count shift (place + count n) ns t (λ m. f (inr m))
 
 distinct_base : (m place count : ℕ) (rest : List ((ℕ × ℕ) × ℕ)) → replaced_at rest (m, 0) ≡ None → AreDistinct rest → AreDistinct (base_of m place count ++ rest)
 distinct_base m place zero rest none distinct = distinct
 distinct_base m place (suc count) rest none distinct = (subst (λ (o : Option ℕ). IsNone o) (sym none) refl, distinct)
 
-pub distinct_over : (count : ℕ → ℕ) (place : ℕ) (ns : List ℕ) → Apart ns → AreDistinct (bases_from count place ns)
-distinct_over count place [] apart = tt
-distinct_over count place (n ∷ ns) apart = distinct_base n place (count n) (bases_from count (place + count n) ns) (none_over count (place + count n) ns (n, 0) apart.0) (distinct_over count (place + count n) ns apart.1)
+pub distinct_over : (count : ℕ → ℕ) (shift place : ℕ) (ns : List ℕ) → Apart ns → AreDistinct (bases_from count shift place ns)
+distinct_over count shift place [] apart = tt
+distinct_over count shift place (n ∷ ns) apart =
+    distinct_base n (less shift place) (count n) (bases_from count shift (place + count n) ns) (none_over count shift (place + count n) ns (n, 0) apart.0) (distinct_over count shift (place + count n) ns apart.1)
 
 all_of_base : (P : (ℕ × ℕ) × ℕ → Type 0) (m place count : ℕ) (rest : List ((ℕ × ℕ) × ℕ)) → (0 < count → P ((m, 0), place)) → AllByRecursion P rest → AllByRecursion P (base_of m place count ++ rest)
 all_of_base P m place zero rest f all = all
 all_of_base P m place (suc count) rest f all = (f (omega arith), all)
 
-pub all_over : (P : (ℕ × ℕ) × ℕ → Type 0) (count : ℕ → ℕ) (place : ℕ) (ns : List ℕ) → ((n p : ℕ) → Mem n ns → 0 < count n → P ((n, 0), p)) → AllByRecursion P (bases_from count place ns)
-all_over P count place [] f = tt
-all_over P count place (n ∷ ns) f = all_of_base P n place (count n) (bases_from count (place + count n) ns) (λ lt. f n place (inl refl) lt) (all_over P count (place + count n) ns (λ m p k. f m p (inr k)))
+pub all_over : (P : (ℕ × ℕ) × ℕ → Type 0) (count : ℕ → ℕ) (shift place : ℕ) (ns : List ℕ) → ((n p : ℕ) → Mem n ns → 0 < count n → P ((n, 0), p)) → AllByRecursion P (bases_from count shift place ns)
+all_over P count shift place [] f = tt
+all_over P count shift place (n ∷ ns) f =
+    all_of_base P n (less shift place) (count n) (bases_from count shift (place + count n) ns) (λ lt. f n (less shift place) (inl refl) lt) (all_over P count shift (place + count n) ns (λ m p k. f m p (inr k)))
 
 -- a base is what stands before its class
 
@@ -73,21 +75,21 @@ module _ {K V : Type 0} (same : K → K → Bool) (own : K → List V) (key : �
   abbrev count : ℕ → ℕ
   count m = length (own (key m))
 
-  pub base_over : (place : ℕ) (ns : List ℕ) → ((m : ℕ) → Mem m ns → known m) → Mem n ns → replaced_at (bases_from count place ns) (n, 0) ≡ Some (place + before same own (key n) (map key ns))
-  base_over place [] all m = absurd m
-  base_over place (x ∷ ns) all m = elim (cases_eq n x) [
+  pub base_over : (shift place : ℕ) (ns : List ℕ) → ((m : ℕ) → Mem m ns → known m) → Mem n ns → replaced_at (bases_from count shift place ns) (n, 0) ≡ Some (less shift (place + before same own (key n) (map key ns)))
+  base_over shift place [] all m = absurd m
+  base_over shift place (x ∷ ns) all m = elim (cases_eq n x) [
     | inl is ↦ (
         let yes : same (key n) (key x) ≡ true = one x (all x (inl refl)) is in
         let sum : place ≡ place + 0 = omega arith in
-        ap (λ (z : ℕ). replaced_at (base_of x place (count x) ++ bases_from count (place + count x) ns) (z, 0)) is
-        ∙ own_base x place (count x) (bases_from count (place + count x) ns) (subst (λ (z : ℕ). 0 < count z) is some)
-        ∙ ap (λ z. Some z) sum ∙ sym (ap (λ (b : Bool). Some (place + (if b then 0 else count x + before same own (key n) (map key ns)))) yes))
+        ap (λ (z : ℕ). replaced_at (base_of x (less shift place) (count x) ++ bases_from count shift (place + count x) ns) (z, 0)) is
+        ∙ own_base x (less shift place) (count x) (bases_from count shift (place + count x) ns) (subst (λ (z : ℕ). 0 < count z) is some)
+        ∙ ap (λ z. Some (less shift z)) sum ∙ sym (ap (λ (b : Bool). Some (less shift (place + (if b then 0 else count x + before same own (key n) (map key ns))))) yes))
     | inr away ↦ (
         let no : same (key n) (key x) ≡ false = other x (all x (inl refl)) away in
         let sum : (place + count x) + before same own (key n) (map key ns) ≡ place + (count x + before same own (key n) (map key ns)) = omega arith in
-        other_base x place (count x) (bases_from count (place + count x) ns) (n, 0) away
-        ∙ base_over (place + count x) ns (λ z k. all z (inr k)) (later x ns m away)
-        ∙ ap (λ z. Some z) sum ∙ sym (ap (λ (b : Bool). Some (place + (if b then 0 else count x + before same own (key n) (map key ns)))) no))
+        other_base x (less shift place) (count x) (bases_from count shift (place + count x) ns) (n, 0) away
+        ∙ base_over shift (place + count x) ns (λ z k. all z (inr k)) (later x ns m away)
+        ∙ ap (λ z. Some (less shift z)) sum ∙ sym (ap (λ (b : Bool). Some (less shift (place + (if b then 0 else count x + before same own (key n) (map key ns))))) no))
   ]
     where
       later : (x : ℕ) (ns : List ℕ) → Mem n (x ∷ ns) → (n ≡ x → ⊥) → Mem n ns
@@ -105,17 +107,18 @@ after_end : (count : ℕ → ℕ) (place : ℕ) (ns : List ℕ) (n : ℕ) → af
 after_end count place [] n = refl
 after_end count place (x ∷ ns) n = after_end count (place + count x) ns n
 
-bases_end : (count : ℕ → ℕ) (place : ℕ) (ns : List ℕ) (n : ℕ) → bases_from count place (ns ++ n ∷ []) ≡ bases_from count place ns ++ base_of n (after_all count place ns) (count n)
-bases_end count place [] n = append-nil (base_of n place (count n))
-bases_end count place (x ∷ ns) n =
-    ap (λ l. base_of x place (count x) ++ l) (bases_end count (place + count x) ns n)
-    ∙ sym (append_assoc (base_of x place (count x)) (bases_from count (place + count x) ns) (base_of n (after_all count (place + count x) ns) (count n)))
+bases_end : (count : ℕ → ℕ) (shift place : ℕ) (ns : List ℕ) (n : ℕ) → bases_from count shift place (ns ++ n ∷ []) ≡ bases_from count shift place ns ++ base_of n (less shift (after_all count place ns)) (count n)
+bases_end count shift place [] n = append-nil (base_of n (less shift place) (count n))
+bases_end count shift place (x ∷ ns) n =
+    ap (λ l. base_of x (less shift place) (count x) ++ l) (bases_end count shift (place + count x) ns n)
+    ∙ sym (append_assoc (base_of x (less shift place) (count x)) (bases_from count shift (place + count x) ns) (base_of n (less shift (after_all count (place + count x) ns)) (count n)))
 
-pub bases_more : (count : ℕ → ℕ) (start : ℕ) (ns : List ℕ) (i n c place : ℕ) (bases : List ((ℕ × ℕ) × ℕ)) → i < length ns → n ≡ get_or ns i n → c ≡ count n → bases ≡ bases_from count start (take i ns)
-    → place ≡ after_all count start (take i ns) → bases ++ base_of n place c ≡ bases_from count start (take (i + 1) ns)
-bases_more count start ns i n c place bases lt is many so at =
-    ap (λ l. l ++ base_of n place c) so ∙ ap (λ z. bases_from count start (take i ns) ++ base_of n z c) at ∙ ap (λ z. bases_from count start (take i ns) ++ base_of n (after_all count start (take i ns)) z) many
-    ∙ sym (bases_end count start (take i ns) n) ∙ ap (bases_from count start) (ap (λ z. take i ns ++ z ∷ []) is ∙ sym (take_more ns i n lt))
+pub bases_more : (count : ℕ → ℕ) (shift start : ℕ) (ns : List ℕ) (i n c place : ℕ) (bases : List ((ℕ × ℕ) × ℕ)) → i < length ns → n ≡ get_or ns i n → c ≡ count n → bases ≡ bases_from count shift start (take i ns)
+    → place ≡ after_all count start (take i ns) → bases ++ base_of n (less shift place) c ≡ bases_from count shift start (take (i + 1) ns)
+bases_more count shift start ns i n c place bases lt is many so at =
+    ap (λ l. l ++ base_of n (less shift place) c) so ∙ ap (λ z. bases_from count shift start (take i ns) ++ base_of n (less shift z) c) at
+    ∙ ap (λ z. bases_from count shift start (take i ns) ++ base_of n (less shift (after_all count start (take i ns))) z) many
+    ∙ sym (bases_end count shift start (take i ns) n) ∙ ap (bases_from count shift start) (ap (λ z. take i ns ++ z ∷ []) is ∙ sym (take_more ns i n lt))
 
 pub next_more : (count : ℕ → ℕ) (start : ℕ) (ns : List ℕ) (i n c place next : ℕ) → i < length ns → n ≡ get_or ns i n → c ≡ count n → place ≡ after_all count start (take i ns) → next ≡ place + c → next ≡ after_all count start (take (i + 1) ns)
 next_more count start ns i n c place next lt is many at sum =

@@ -1,3 +1,4 @@
 pub mod Filling
 pub mod Placing
 pub mod Having
+pub mod Starting

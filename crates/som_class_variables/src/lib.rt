@@ -6,6 +6,7 @@ mod laws;
 mod object_variables;
 mod own;
 mod places;
+mod start;
 
 pub use laws::apart_law;
 pub use object_variables::ObjectVariables;

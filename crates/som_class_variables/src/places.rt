@@ -4,14 +4,15 @@ ghost use Rattle.som_class_layout_laws.specs.Places.{IsPlaced};
 ghost use Rattle.som_meta.specs.Numbering.{AreNumbered, IsNumbered, key_at};
 ghost use Rattle.som_model.specs.Ancestors.{Descends};
 ghost use Rattle.som_model.specs.Classes.{ancestors as ancestors_of, hierarchy};
-ghost use Rattle.som_class_variables.specs.Placed.{ArePlaces, HaveParentRows};
+ghost use Rattle.som_class_variables.specs.Placed.{AreCounted, ArePlaces, HaveParentRows, shift_in};
 ghost use Rattle.som_class_variables.specs.Variables.{IsVariable, base_scheme, object_variables, own_variables, place_in};
 ghost use Rattle.som_tables.specs.Rows.{HasRow, IsDeclared, row_at};
-ghost use Rattle.std.specs.Prelude.{◌≡◌, ◌≢◌, ◌<◌, ◌∷◌, ℕ, IfOk, None, OnErr, OnOk, Some, is_some, length, map, slice_get, slice_set};
+ghost use Rattle.std.specs.Prelude.{◌≡◌, ◌≢◌, ◌<◌, ◌∷◌, ℕ, IfOk, None, OnErr, OnOk, Some, drop, is_some, length, map, slice_get, slice_set};
 
 use crate::bases::{bases_above, own_base};
 use crate::object_variables::ObjectVariables;
 use crate::own::{know_loaded, own_count};
+use crate::start::{place_for, row_start};
 use som_class_table::Classes;
 use som_meta::Ancestry;
 use som_model::NoMemory;
@@ -19,17 +20,24 @@ use som_tables::{ClassNo, DToken, DataKind, Table, Token};
 use std::alloc::Global;
 use std::marker::Model;
 
-/// Rows of the places of variables, and of each class that has one how many variables its objects have.
+/// Rows of the places of variables, of each class that has one how many variables its objects have, and its row's shift. The cells of a row
+/// are places less that shift, so that what the row of the class's first parent has serves the class too.
 pub struct Places {
     table: Table<DataKind>,
     counts: Vec<u32>,
+    shifts: Vec<u32>,
 }
 
 impl Drop for Places {
     fn drop(self) {
-        let Places { table, counts } = self;
+        let Places {
+            table,
+            counts,
+            shifts,
+        } = self;
         drop(table);
         drop(counts);
+        drop(shifts);
     }
 }
 
@@ -38,7 +46,7 @@ impl Model for Places {
 
     ghost Value = { DataRows };
 
-    ghost view = { λ p. rows_with p.table p.counts.items };
+    ghost view = { λ p. rows_with p.table p.counts.items p.shifts.items };
 }
 
 /// The proper ancestors of a class, in order.
@@ -51,32 +59,50 @@ fn above(classes: &Classes, class: ClassNo) -> &[ClassNo]
     &classes.ancestors(class).as_slice()[1..]
 }
 
-/// Gives a class its row: its own variables have the first places, and its ancestors have other bases than in the rows of its parents. Answers how many
-/// variables its objects have.
+/// Gives a class its row: its own variables have the first places, its first parent's row serves for all that an object of that parent has, and the
+/// ancestors that are left have other bases than in the rows of its parents. Answers how many variables its objects have, and the row's shift.
 fn fill_row(
     alloc: Global,
     classes: &Classes,
     table: &mut Table<DataKind>,
+    counts: &[u32],
+    shifts: &[u32],
     class: ClassNo,
-) -> Result<u32, NoMemory>
-    requires placed { IsPlaced (base_scheme classes.now) (own_variables classes.now.classes) table.old }
+) -> Result<(u32, u32), NoMemory>
+    requires placed { IsPlaced (base_scheme classes.now) (own_variables classes.now.classes) (shift_in shifts.now) table.old }
+    requires counts { AreCounted classes.now table.old counts.now }
+    requires long { length counts.now ≡ length classes.now.keys }
+    requires shifted { length shifts.now ≡ length classes.now.keys }
     requires numbered { IsNumbered classes.now class }
     requires class { IsDeclared table.old class }
     requires parents { HaveParentRows classes.now table.old class }
-    ensures placed { OnOk result (IsPlaced (base_scheme classes.now) (own_variables classes.now.classes) table.new) }
+    ensures placed { IfOk result (λ r. IsPlaced (base_scheme classes.now) (own_variables classes.now.classes) (shift_in (slice_set shifts.now class r.1)) table.new) }
     ensures filled { OnOk result (HasRow table.new class) }
-    ensures count { IfOk result (λ count. count ≡ length (object_variables classes.now.classes (key_at classes.now class))) }
+    ensures count { IfOk result (λ r. r.0 ≡ length (object_variables classes.now.classes (key_at classes.now class))) }
     ensures others { (n : ℕ) → n ≢ class → row_at table.new n ≡ row_at table.old n }
     ensures long { length table.new ≡ length table.old }
     ensures err { OnErr result (table.new ≡ table.old) }
 {
     know_loaded(classes);
     let count = own_count(classes, class);
-    let own = own_base(alloc, count)?;
-    let (others, end) = bases_above(alloc, classes, count, above(classes, class))?;
+    let start = row_start(classes, counts, shifts, class, count)?;
+    let own = own_base(alloc, count, start.shift)?;
+    let left = left_after(above(classes, class), start.served);
+    let (others, end) = bases_above(alloc, classes, start.place, start.shift, left)?;
     let parents = classes.parents(class).as_slice();
     table.fill(alloc, class, parents, own.as_slice(), others.as_slice())?;
-    Ok(end)
+    Ok((end, start.shift))
+}
+
+/// The classes after so many.
+fn left_after(classes: &[ClassNo], count: usize) -> &[ClassNo]
+    ensures { result.now ≡ drop count classes.now }
+{
+    if count <= classes.len() {
+        &classes[count..]
+    } else {
+        &[]
+    }
 }
 
 /// Notes how many variables the objects of a class have.
@@ -119,7 +145,12 @@ impl Places {
         let count = classes.count();
         let table = without_rows(alloc, count)?;
         let counts = no_counts(alloc, count)?;
-        Ok(Places { table, counts })
+        let shifts = no_counts(alloc, count)?;
+        Ok(Places {
+            table,
+            counts,
+            shifts,
+        })
     }
 
     /// Gives a class its row, where its parents have theirs. Where memory runs out all is as it was.
@@ -132,8 +163,16 @@ impl Places {
         ensures others { (n : ℕ) → n ≢ class → row_at self.new.rows n ≡ row_at self.old.rows n }
         ensures err { OnErr result (self.new ≡ self.old) }
     {
-        let count = fill_row(alloc, classes, &mut self.table, class)?;
+        let (count, shift) = fill_row(
+            alloc,
+            classes,
+            &mut self.table,
+            self.counts.as_slice(),
+            self.shifts.as_slice(),
+            class,
+        )?;
         note_count(&mut self.counts, class, count);
+        note_count(&mut self.shifts, class, shift);
         Ok(())
     }
 
@@ -165,7 +204,8 @@ impl Places {
         ensures within { result < length (object_variables classes.now.classes (key_at classes.now class)) }
     {
         know_loaded(classes);
-        let base = self.table.cell(class, Token::new(variable.class(), 0));
+        let cell = self.table.cell(class, Token::new(variable.class(), 0));
+        let base = place_for(cell, self.shifts[class.number() as usize]);
         base + u32::from(variable.place())
     }
 

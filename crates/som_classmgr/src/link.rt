@@ -9,7 +9,7 @@ ghost use Rattle.som_model.specs.Classes.{classes as all_classes};
 ghost use Rattle.std.specs.Prelude.{◌≡◌, ◌↔◌, ◌<◌, [], ℕ, IfOk};
 
 use crate::kernel::{Kernel, Unlinked, kernel_of};
-use som_class_kernel::{Linked, classes_of_pair};
+use som_class_kernel::{Linked, classes_of_pair, own_classes_of_pair};
 use som_link_check::{LinkFault, look_at_pair};
 use som_model::{ClientProgram, Release};
 use std::alloc::Global;
@@ -35,6 +35,35 @@ impl Kernel<Unlinked> {
         look_at_pair(alloc, library, client)?;
         let main = client.main.copy(alloc)?;
         let classes = classes_of_pair(alloc, library, client)?;
+        Ok(kernel_of(alloc, classes, main)?)
+    }
+
+    /// As `link`, of a pair that is given away: no body is copied, and what the client was compiled against is dropped before the
+    /// kernel is made.
+    pub fn link_owned(
+        self,
+        alloc: Global,
+        library: Release,
+        client: ClientProgram,
+    ) -> Result<Kernel<Linked>, LinkFault>
+        requires library { ReleaseCounted library }
+        requires client { ProgramCounted client }
+        ensures tells { Tells (obstacle library client) result }
+        ensures binds { IfOk result (λ _. Binds client library) }
+        ensures classes { IfOk result (λ k. k.classes.classes ≡ all_classes library client) }
+        ensures main { IfOk result (λ k. k.main ≡ client.main) }
+        ensures made { IfOk result (λ k. (n : ℕ) → IsMadeIn k n ↔ (n < 4)) }
+        ensures all { IfOk result (IsMadeBy [] []) }
+    {
+        look_at_pair(alloc, &library, &client)?;
+        let Release { classes: declared } = library;
+        let ClientProgram {
+            base,
+            classes: own,
+            main,
+        } = client;
+        drop(base);
+        let classes = own_classes_of_pair(alloc, declared, own)?;
         Ok(kernel_of(alloc, classes, main)?)
     }
 }

@@ -25,15 +25,16 @@ fn link_pair(
     alloc: Global,
     client: &Text,
     library: &Text,
-    pair: &Pair,
+    pair: Pair,
 ) -> Result<Kernel<Linked>, CommandStop>
-    requires program { programs.IsWithinLimits pair.now.program }
-    requires release { releases.IsWithinLimits pair.now.release }
-    ensures links { Links (kept_pair client.now library.now pair.now) result }
+    requires program { programs.IsWithinLimits pair.program }
+    requires release { releases.IsWithinLimits pair.release }
+    ensures links { Links (kept_pair client.now library.now pair) result }
     ensures quiet { IsQuiet result }
 {
     counted_law();
-    match Kernel::new()?.link(alloc, &pair.release, &pair.program) {
+    let Pair { program, release } = pair;
+    match Kernel::new()?.link_owned(alloc, release, program) {
         Ok(kernel) => Ok(kernel),
         Err(fault) => Err(stop_of(alloc, client, library, &fault)),
     }
@@ -55,5 +56,5 @@ pub fn link_images<S: Store>(
     ensures refuses { RefusesAs (IsRunRefusal client.now library.now) result }
 {
     let pair = fetch_pair(alloc, client, library, store)?;
-    link_pair(alloc, client, library, &pair)
+    link_pair(alloc, client, library, pair)
 }

@@ -16,17 +16,10 @@ use som_model::{ClientProgram, Release, Text};
 use std::alloc::Global;
 
 /// A client program, and the release that it is to run on.
+#[derive(Drop)]
 pub struct Pair {
     pub program: ClientProgram,
     pub release: Release,
-}
-
-impl Drop for Pair {
-    fn drop(self) {
-        let Pair { program, release } = self;
-        drop(program);
-        drop(release);
-    }
 }
 
 /// The client program of the image under one name and the release of the image under another.

@@ -8,7 +8,7 @@ pub loop-class-preserved : goal.loop-class-preserved
 loop-class-preserved c =
     let k = c.args.classes.now in
     rw c.in_ok-note_base.ensures (record {
-      bases = bases_more (λ n. length (own_variables k.classes (key_at k n))) c.args.place c.args.all.now c.loop-class.class-index c.class-item.result c.own_count-count.result c.loop-class.place c.loop-class.bases
+      bases = bases_more (λ n. length (own_variables k.classes (key_at k n))) c.args.shift c.args.place c.args.all.now c.loop-class.class-index c.class-item.result c.own_count-count.result c.loop-class.place c.loop-class.bases
           c.loop-class-test.true c.class-item.is c.own_count-count.ensures c.loop-class.invariant.bases c.loop-class.invariant.place;
       place = next_more (λ n. length (own_variables k.classes (key_at k n))) c.args.place c.args.all.now c.loop-class.class-index c.class-item.result c.own_count-count.result c.loop-class.place c.in-Some.next
           c.loop-class-test.true c.class-item.is c.own_count-count.ensures c.loop-class.invariant.place c.in-Some.ensures;

@@ -10,6 +10,6 @@ counts k n = length (own_variables k.classes (key_at k n))
 
 abbrev pub invariant-loop-class : goal.invariant-loop-class
 invariant-loop-class l = record {
-  bases : l.bases ≡ bases_from (counts l.classes) l.fn.place (take l.class-index l.all);
+  bases : l.bases ≡ bases_from (counts l.classes) l.shift l.fn.place (take l.class-index l.all);
   place : l.place ≡ after_all (counts l.classes) l.fn.place (take l.class-index l.all);
 }
