@@ -1,0 +1,12 @@
+//! Copies of classes, bodies and keys under other modules: each named class gets the module that a change gives its name.
+#![tactic(auto)]
+
+mod classes;
+mod keys;
+mod modules;
+mod syntax;
+
+pub use classes::{rekey_class, rekey_face};
+pub use keys::{rekey_key, rekey_method, rekey_type};
+pub use modules::NewModules;
+pub use syntax::{rekey_block, rekey_expr};
