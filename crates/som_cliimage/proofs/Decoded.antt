@@ -40,7 +40,7 @@ spelled_image r bytes differ s =
     (λ h. program_forth s.wire s.fits h ∙ ap (λ (b : List ℕ). Some b) s.spelled) differ
 
 -- and it is within the limits
-spelled_within : (r : ClientProgram) (bytes : List ℕ) → SpellsProgram r bytes → IsWithinLimits r
+pub spelled_within : (r : ClientProgram) (bytes : List ℕ) → SpellsProgram r bytes → IsWithinLimits r
 spelled_within r bytes s = subst IsWithinLimits s.names (program_within s.wire s.fits)
 
 pub image_within : (r : ClientProgram) (bytes : List ℕ) → client_image r ≡ Some bytes → IsWithinLimits r
