@@ -1,5 +1,5 @@
 -- What writing a tower image answers.
-use Rattle.std.proofs.Common.{◌≡◌, ℕ, List, ◌++◌, Some, Ok, refl, sym, subst}
+use Rattle.std.proofs.Common.{◌≡◌, ℕ, List, ◌++◌, Some, Ok, refl, sym, ap, ◌∙◌}
 use Rattle.som_model.specs.Conforming.{ProgramOk}
 use Rattle.som_model.specs.Images.{client_image}
 use Rattle.som_cliimage.specs.Limits.{IsWithinLimits}
@@ -10,6 +10,10 @@ use Rattle.som_towerimage.specs.Reading.{level_at}
 use Rattle.som_towerimage.specs.Spelling.{FitsTower, tower_head, SpellsLevel, tower_image}
 use Rattle.som_towerimage.proofs.LevelFields.{level_again}
 use Rattle.som_towerimage.proofs.Decoded.{image_is}
+
+-- the head, and then the bytes of the program
+pub joined_are : (bytes image slice head program : List ℕ) → bytes ≡ image ++ slice → image ≡ head → slice ≡ program → bytes ≡ head ++ program
+joined_are bytes image slice head program is first second = is ∙ ap (λ (t : List ℕ). t ++ slice) first ∙ ap (λ (t : List ℕ). head ++ t) second
 
 module _ (l : Level) (fits : FitsTower l) (image : List ℕ) (e : client_image l.program ≡ Some image) (bytes : List ℕ) (whole : bytes ≡ tower_head l.sizes l.client ++ image) where
   pub image_of : tower_image l ≡ Some bytes
