@@ -1,0 +1,8 @@
+//! Laws of typing, of rules and of loading under other modules: the contracts of functions with no body, which proofs of other crates cite.
+#![tactic(auto)]
+
+mod classes;
+mod typing;
+
+pub use classes::{named_classes_law, rekeyed_typed_law};
+pub use typing::{rekeyed_block_law, rekeyed_expression_law};
