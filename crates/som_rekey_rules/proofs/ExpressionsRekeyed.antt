@@ -68,7 +68,7 @@ parent_kept : (f : ModuleChange) (o : Option Class) (n : ℕ) → parent_in (opt
 parent_kept f None n = refl
 parent_kept f (Some c) n = slice_get-map (rekey f) c.decl.face.parents n
 
-kind_there : (names : Names) (c : Class) → IsClassNamed names c → (n : ℕ) (t : ValueType) → slice_get (map (λ v. v.kind) c.decl.variables) n ≡ Some t → IsTypeNamed names t
+pub kind_there : (names : Names) (c : Class) → IsClassNamed names c → (n : ℕ) (t : ValueType) → slice_get (map (λ v. v.kind) c.decl.variables) n ≡ Some t → IsTypeNamed names t
 kind_there names c is n t e =
     let m = map_mem (λ (v : Variable). v.kind) t c.decl.variables (get_mem (map (λ v. v.kind) c.decl.variables) n t e) in
     subst (IsTypeNamed names) (sym m.2) (variable_named names c is m.0 m.1)

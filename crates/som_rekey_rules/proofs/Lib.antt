@@ -4,3 +4,6 @@ pub mod ExpressionsRekeyed
 pub mod StatementsRekeyed
 pub mod ClassesNamed
 pub mod ClassesTyped
+pub mod KernelNamed
+pub mod RulesRekeyed
+pub mod ConformingRekeyed
