@@ -25,13 +25,13 @@ use Rattle.som_rekey_laws.proofs.Places.{found_mem}
 use Rattle.som_rekey_laws.proofs.OwnersKept.{owner_named}
 use Rattle.som_rekey_laws.proofs.BodiesKept.{class_named}
 use Rattle.som_rekey_laws.proofs.MetasKept.{meta_named}
-use Rattle.som_rekey_rules.specs.Speaking.{AreOf, IsClassNamed, AreClassesNamed, AreAnswersNamed}
+use Rattle.som_rekey_rules.specs.Speaking.{AreOf, IsFaceNamed, AreFacesNamed, IsClassNamed, AreClassesNamed, AreAnswersNamed}
 use Rattle.som_rekey_rules.proofs.TypesRekeyed.{left_of, right_of, each_of}
-use Rattle.som_rekey_rules.proofs.ExpressionsRekeyed.{parent_named}
+use Rattle.som_rekey_rules.proofs.ExpressionsRekeyed.{face_of, parent_named}
 
 -- ---- the parts of a class
 
-module _ (names : Names) (c : Class) (is : IsClassNamed names c) where
+module _ (names : Names) (c : Class) (is : IsFaceNamed names c) where
   abbrev parents_named : List Named
   parents_named = map AClass c.decl.face.parents
 
@@ -41,6 +41,16 @@ module _ (names : Names) (c : Class) (is : IsClassNamed names c) where
   abbrev entries_named : List Named
   entries_named = flat_map entry_names c.decl.face.entries
 
+  after_parents : AreOf names (metaclass_named ++ entries_named)
+  after_parents = right_of names parents_named (metaclass_named ++ entries_named) is.named
+
+  pub metaclass_is_named : (k : ClassKey) → Mem k (option_list c.decl.face.metaclass) → is_named names k ≡ true
+  metaclass_is_named k m = after_parents (AClass k) (mem_left (AClass k) metaclass_named entries_named (mem_map AClass k (option_list c.decl.face.metaclass) m))
+
+  pub entry_is_named : (e : Entry) → Mem e c.decl.face.entries → AreOf names (entry_names e)
+  entry_is_named e m = each_of names entry_names c.decl.face.entries (right_of names metaclass_named entries_named after_parents) e m
+
+module _ (names : Names) (c : Class) (is : IsClassNamed names c) where
   abbrev variables_named : List Named
   variables_named = flat_map (λ v. type_names v.kind) c.decl.variables
 
@@ -53,26 +63,13 @@ module _ (names : Names) (c : Class) (is : IsClassNamed names c) where
   abbrev selects_named : List Named
   selects_named = flat_map select_names c.decl.selects
 
-  in_face : AreOf names (face_names c.decl.face)
-  in_face = left_of names (face_names c.decl.face) (variables_named ++ (bodies_named ++ (overrides_named ++ selects_named))) is.named
-
-  in_rest : AreOf names (variables_named ++ (bodies_named ++ (overrides_named ++ selects_named)))
-  in_rest = right_of names (face_names c.decl.face) (variables_named ++ (bodies_named ++ (overrides_named ++ selects_named))) is.named
-
   after_variables : AreOf names (bodies_named ++ (overrides_named ++ selects_named))
-  after_variables = right_of names variables_named (bodies_named ++ (overrides_named ++ selects_named)) in_rest
+  after_variables =
+      right_of names variables_named (bodies_named ++ (overrides_named ++ selects_named))
+      (right_of names (face_names c.decl.face) (variables_named ++ (bodies_named ++ (overrides_named ++ selects_named))) is.named)
 
   after_bodies : AreOf names (overrides_named ++ selects_named)
   after_bodies = right_of names bodies_named (overrides_named ++ selects_named) after_variables
-
-  after_parents : AreOf names (metaclass_named ++ entries_named)
-  after_parents = right_of names parents_named (metaclass_named ++ entries_named) in_face
-
-  pub metaclass_is_named : (k : ClassKey) → Mem k (option_list c.decl.face.metaclass) → is_named names k ≡ true
-  metaclass_is_named k m = after_parents (AClass k) (mem_left (AClass k) metaclass_named entries_named (mem_map AClass k (option_list c.decl.face.metaclass) m))
-
-  pub entry_is_named : (e : Entry) → Mem e c.decl.face.entries → AreOf names (entry_names e)
-  entry_is_named e m = each_of names entry_names c.decl.face.entries (right_of names metaclass_named entries_named after_parents) e m
 
   pub body_is_named : (b : Body) → Mem b c.decl.bodies → AreOf names (body_names b)
   body_is_named b m = each_of names body_names c.decl.bodies (left_of names bodies_named (overrides_named ++ selects_named) after_variables) b m
@@ -86,13 +83,22 @@ module _ (names : Names) (c : Class) (is : IsClassNamed names c) where
   pub selected_is_named : (s : Select) → Mem s c.decl.selects → is_named names s.method.class ≡ true
   selected_is_named s m = each_of names select_names c.decl.selects (right_of names overrides_named selects_named after_bodies) s m (AClass s.method.class) (inl refl)
 
+pub faces_of : (names : Names) (cs : List Class) → AreClassesNamed names cs → AreFacesNamed names cs
+faces_of names cs are c m = face_of names c (are c m)
+
+pub all_inherited : (names : Names) (cs : List Class) → AreClassesNamed names cs → AreInheritedNamed names cs
+all_inherited names cs are = record {
+  overrides = λ c o m i. overridden_is_named names c (are c m) o i;
+  selects = λ c s m i. selected_is_named names c (are c m) s i;
+}
+
 option_there : {A : Type 0} (o : Option A) (x : A) → o ≡ Some x → Mem x (option_list o)
 option_there None x e = absurd (true≢false (ap is_some (sym e)))
 option_there (Some y) x e = inl (ap (λ o. unwrap_or o x) (sym e))
 
 -- ---- lists of classes
 
-module _ (names : Names) (cs : List Class) (are : AreClassesNamed names cs) where
+module _ (names : Names) (cs : List Class) (are : AreFacesNamed names cs) where
   pub all_named : AreNamed names cs
   all_named = record {
     keys = λ c m. (are c m).key;
@@ -104,12 +110,6 @@ module _ (names : Names) (cs : List Class) (are : AreClassesNamed names cs) wher
 
   pub all_metaclasses : AreMetaclassesNamed names cs
   all_metaclasses c k m e = metaclass_is_named names c (are c m) k (option_there c.decl.face.metaclass k e)
-
-  pub all_inherited : AreInheritedNamed names cs
-  all_inherited = record {
-    overrides = λ c o m i. overridden_is_named names c (are c m) o i;
-    selects = λ c s m i. selected_is_named names c (are c m) s i;
-  }
 
   -- ---- signatures
 

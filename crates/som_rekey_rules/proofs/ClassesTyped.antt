@@ -19,9 +19,10 @@ use Rattle.som_rekey_laws.specs.Rekeying.{ModuleChange, rekey_type, rekey_sig, r
 use Rattle.som_rekey_laws.specs.Apart.{Names, IsApart, KeepsKernel}
 use Rattle.som_rekey_laws.specs.AlikeFacts.{AreFactsAlike}
 use Rattle.som_rekey_laws.proofs.OwnersKept.{owner_signature_kept}
-use Rattle.som_rekey_rules.specs.Speaking.{AreOf, IsClassNamed, AreClassesNamed, AreAnswersNamed, IsPlaceNamed}
+use Rattle.som_rekey_rules.specs.Speaking.{AreOf, IsClassNamed, AreFacesNamed, AreAnswersNamed, IsPlaceNamed}
 use Rattle.som_rekey_rules.specs.Retyped.{ruled_map}
 use Rattle.som_rekey_rules.proofs.TypesRekeyed.{right_of, none_of, params_of, result_of}
+use Rattle.som_rekey_rules.proofs.ExpressionsRekeyed.{face_of}
 use Rattle.som_rekey_rules.proofs.StatementsRekeyed.{block_kept}
 use Rattle.som_rekey_rules.proofs.ClassesNamed.{all_named, all_targets, entry_is_named, body_is_named, override_is_named, overridden_is_named, signature_named}
 
@@ -74,7 +75,7 @@ module _ (f : ModuleChange) (names : Names) (kk : KeepsKernel f names) (apart : 
     override_by o None n l = refl
     override_by o (Some s) n l = block_same o.method.name s o.block (n s refl) l
 
-    module _ (cs : List Class) (are : AreClassesNamed names cs) where
+    module _ (cs : List Class) (are : AreFacesNamed names cs) where
       override_same : (o : Override) → Mem o c.decl.overrides → override_typed_by new (rekey_classes f cs) later (rekey_override f o) ≡ override_typed_by old cs c o
       override_same o m =
           ap (override_breach_by new later (rekey_override f o)) (owner_signature_kept f names cs apart (all_named names cs are) (all_targets names cs are) o.method (overridden_is_named names c is o m))
@@ -84,6 +85,6 @@ module _ (f : ModuleChange) (names : Names) (kk : KeepsKernel f names) (apart : 
       pub class_typed_kept : class_typed_by new (rekey_classes f cs) later ≡ class_typed_by old cs c
       class_typed_kept =
           ap (λ z. z ++ flat_map (override_typed_by new (rekey_classes f cs) later) (map (rekey_override f) c.decl.overrides))
-          (bodies_same c.decl.face.entries c.decl.bodies (entry_is_named names c is) (body_is_named names c is))
+          (bodies_same c.decl.face.entries c.decl.bodies (entry_is_named names c (face_of names c is)) (body_is_named names c is))
           ∙ ap (λ z. bodies_typed_by old c c.decl.face.entries c.decl.bodies ++ z)
           (flat_same (override_typed_by old cs c) (override_typed_by new (rekey_classes f cs) later) (rekey_override f) c.decl.overrides override_same)

@@ -26,17 +26,18 @@ use Rattle.som_rekey_laws.specs.AlikeFacts.{AreFactsAlike}
 use Rattle.som_rekey_laws.proofs.KeysApart.{keys_kept}
 use Rattle.som_rekey_laws.proofs.Lists.{map_twice}
 use Rattle.som_rekey_laws.proofs.BodiesKept.{kernel_stays, kernel_is_named}
-use Rattle.som_rekey_rules.specs.Speaking.{AreOf, IsTypeNamed, AreTypesNamed, IsClassNamed, IsPlaceNamed, AreAnswersNamed}
+use Rattle.som_rekey_rules.specs.Speaking.{AreOf, IsTypeNamed, AreTypesNamed, IsFaceNamed, IsClassNamed, IsPlaceNamed, AreAnswersNamed}
 use Rattle.som_rekey_rules.specs.Retyped.{rekey_place, rekey_expr_type}
 use Rattle.som_rekey_rules.proofs.Stepping.{Kept, ok_kept, err_kept, needs_kept, if_kept, there_kept, step_kept}
 use Rattle.som_rekey_rules.proofs.TypesRekeyed.{left_of, right_of, each_of, none_of, class_of, params_of, result_of, IsAnswerNamed, AreAnswersOf, type_alike, descends_kept, fits_kept, all_fit_kept, kind_kept}
 
 -- ---- what a class of these names has
 
-pub parent_named : (names : Names) (c : Class) → IsClassNamed names c → (p : ClassKey) → Mem p c.decl.face.parents → is_named names p ≡ true
-parent_named names c is p m =
-    let face = left_of names (face_names c.decl.face) _ is.named in
-    face (AClass p) (mem_left (AClass p) (map AClass c.decl.face.parents) _ (mem_map AClass p c.decl.face.parents m))
+pub face_of : (names : Names) (c : Class) → IsClassNamed names c → IsFaceNamed names c
+face_of names c is = record { key = is.key; named = left_of names (face_names c.decl.face) _ is.named }
+
+pub parent_named : (names : Names) (c : Class) → IsFaceNamed names c → (p : ClassKey) → Mem p c.decl.face.parents → is_named names p ≡ true
+parent_named names c is p m = is.named (AClass p) (mem_left (AClass p) (map AClass c.decl.face.parents) _ (mem_map AClass p c.decl.face.parents m))
 
 pub variable_named : (names : Names) (c : Class) → IsClassNamed names c → (v : Variable) → Mem v c.decl.variables → IsTypeNamed names v.kind
 variable_named names c is v m =
@@ -79,7 +80,7 @@ variable_there names (Some c) is n t e = kind_there names c (is c refl) n t e
 
 parent_there : (names : Names) (o : Option Class) → ((c : Class) → o ≡ Some c → IsClassNamed names c) → (n : ℕ) (p : ClassKey) → parent_in o n ≡ Some p → is_named names p ≡ true
 parent_there names None is n p e = absurd (let z = e in cc)
-parent_there names (Some c) is n p e = parent_named names c (is c refl) p (get_mem c.decl.face.parents n p e)
+parent_there names (Some c) is n p e = parent_named names c (face_of names c (is c refl)) p (get_mem c.decl.face.parents n p e)
 
 module _ (f : ModuleChange) (names : Names) (kk : KeepsKernel f names) (apart : IsApart f names)
     (old new : ClassFacts) (like : AreFactsAlike f names old new) (told : AreAnswersNamed names old)

@@ -11,7 +11,11 @@ use Rattle.som_model_laws.proofs.Members.{mem_split}
 use Rattle.som_rekey_laws.specs.Rekeying.{ModuleChange}
 use Rattle.som_rekey_laws.specs.Apart.{Names, KeepsKernel}
 use Rattle.som_rekey_laws.proofs.BodiesKept.{kernel_is_named, object_named, class_named}
-use Rattle.som_rekey_rules.specs.Speaking.{is_of, AreOf, IsClassNamed, AreClassesNamed}
+use Rattle.som_rekey_rules.proofs.ClassesNamed.{faces_of}
+use Rattle.som_rekey_rules.specs.Speaking.{is_of, AreOf, IsClassNamed, AreFacesNamed, AreClassesNamed}
+
+pub both_faces : (names : Names) (cs ds : List Class) → AreFacesNamed names cs → AreFacesNamed names ds → AreFacesNamed names (cs ++ ds)
+both_faces names cs ds a b c m = elim (mem_split c cs ds m) [ inl k ↦ a c k | inr k ↦ b c k ]
 
 pub both_classes : (names : Names) (cs ds : List Class) → AreClassesNamed names cs → AreClassesNamed names ds → AreClassesNamed names (cs ++ ds)
 both_classes names cs ds a b c m = elim (mem_split c cs ds m) [ inl k ↦ a c k | inr k ↦ b c k ]
@@ -45,5 +49,5 @@ module _ (f : ModuleChange) (names : Names) (kk : KeepsKernel f names) where
       of_face before_after_face (inr (inr (inr (inl refl)))) (class_named f names kk, (o, (o, tt))) c e
   kernel_named c (inr (inr (inr (inr m)))) = absurd m
 
-  pub with_kernel_named : (cs : List Class) → AreClassesNamed names cs → AreClassesNamed names (kernel ++ cs)
-  with_kernel_named cs are = both_classes names kernel cs kernel_named are
+  pub with_kernel_named : (cs : List Class) → AreFacesNamed names cs → AreFacesNamed names (kernel ++ cs)
+  with_kernel_named cs are = both_faces names kernel cs (faces_of names kernel kernel_named) are

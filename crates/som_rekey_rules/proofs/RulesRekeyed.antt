@@ -34,9 +34,9 @@ use Rattle.som_rekey_laws.proofs.Places.{class_kept, ancestors_kept, descent_kep
 use Rattle.som_rekey_laws.proofs.OwnersKept.{name_kept, list_introduced, introduced_kept, introduces_kept, owner_kept, owner_named}
 use Rattle.som_rekey_laws.proofs.BodiesKept.{some_there, method_kept, above_named, class_stays, class_named}
 use Rattle.som_rekey_laws.proofs.MetasKept.{option_kept}
-use Rattle.som_rekey_rules.specs.Speaking.{AreOf, IsTypeNamed, AreTypesNamed, IsClassNamed, AreClassesNamed}
+use Rattle.som_rekey_rules.specs.Speaking.{AreOf, IsTypeNamed, AreTypesNamed, IsFaceNamed, IsClassNamed, AreFacesNamed}
 use Rattle.som_rekey_rules.proofs.TypesRekeyed.{key_of, params_of, result_of}
-use Rattle.som_rekey_rules.proofs.ExpressionsRekeyed.{parent_named, variable_named, get_kind, kind_there}
+use Rattle.som_rekey_rules.proofs.ExpressionsRekeyed.{face_of, parent_named, variable_named, get_kind, kind_there}
 use Rattle.som_rekey_rules.proofs.ClassesNamed.{all_named, all_targets, metaclass_is_named, entry_is_named, overridden_is_named, selected_is_named}
 use Rattle.som_rekey_rules.proofs.ClassesTyped.{flat_same}
 
@@ -117,6 +117,9 @@ module _ (f : ModuleChange) (names : Names) (apart : IsApart f names) (c : Class
   abbrev later : Class
   later = rekey_class f c
 
+  face : IsFaceNamed names c
+  face = face_of names c is
+
   -- the parents and the metaclass of a class
   abbrev above : Class → List ClassKey
   above d = d.decl.face.parents ++ option_list d.decl.face.metaclass
@@ -128,11 +131,11 @@ module _ (f : ModuleChange) (names : Names) (apart : IsApart f names) (c : Class
 
   above_is_named : (k : ClassKey) → Mem k (above c) → is_named names k ≡ true
   above_is_named k m = elim (mem_split k c.decl.face.parents (option_list c.decl.face.metaclass) m) [
-    | inl n ↦ parent_named names c is k n
-    | inr n ↦ metaclass_is_named names c is k n
+    | inl n ↦ parent_named names c face k n
+    | inr n ↦ metaclass_is_named names c face k n
   ]
 
-  pub s2_kept : (before : List Class) → AreClassesNamed names before → s2 (rekey_classes f before) later ≡ s2 before c
+  pub s2_kept : (before : List Class) → AreFacesNamed names before → s2 (rekey_classes f before) later ≡ s2 before c
   s2_kept before are =
       ap (λ l. demand 2 c (every (λ k. is_some (class_at (rekey_classes f before) k)) l)) above_kept
       ∙ ap (demand 2 c) (every_map (λ k. is_some (class_at before k)) (λ k. is_some (class_at (rekey_classes f before) k)) (rekey f) (above c) (λ k m.
@@ -140,12 +143,12 @@ module _ (f : ModuleChange) (names : Names) (apart : IsApart f names) (c : Class
 
   pub s3_kept : s3 later ≡ s3 c
   s3_kept =
-      ap (map (λ k. breach 3 c (codes "-"))) (doubles_map (λ k. is_named names k ≡ true) same_key same_key (rekey f) (keys_kept f names apart) [] c.decl.face.parents (λ k m. absurd m) (parent_named names c is))
+      ap (map (λ k. breach 3 c (codes "-"))) (doubles_map (λ k. is_named names k ≡ true) same_key same_key (rekey f) (keys_kept f names apart) [] c.decl.face.parents (λ k m. absurd m) (parent_named names c face))
       ∙ map_twice (λ k. breach 3 c (codes "-")) (rekey f) (doubles same_key [] c.decl.face.parents)
 
   -- ---- types
 
-  module _ (known : List Class) (are : AreClassesNamed names known) where
+  module _ (known : List Class) (are : AreFacesNamed names known) where
     abbrev known_later : List Class
     known_later = rekey_classes f known
 
@@ -169,7 +172,7 @@ module _ (f : ModuleChange) (names : Names) (apart : IsApart f names) (c : Class
     entry_types : (e : Entry) → Mem e c.decl.face.entries → s5_entry known_later later (rekey_entry f e) ≡ s5_entry known c e
     entry_types (entries.Moved name to) m = refl
     entry_types (entries.Introduced name sig way) m =
-        let n = entry_is_named names c is (entries.Introduced name sig way) m in
+        let n = entry_is_named names c face (entries.Introduced name sig way) m in
         ap (λ b. demand_of 5 c name (b && every (is_value_type known_later) (map (rekey_type f) sig.params))) (type_known sig.result (result_of names sig n))
         ∙ ap (λ b. demand_of 5 c name (is_known known sig.result && b)) (every_map (is_value_type known) (is_value_type known_later) (rekey_type f) sig.params (λ t k. value_type t (params_of names sig n t k)))
 
@@ -262,11 +265,11 @@ module _ (f : ModuleChange) (names : Names) (apart : IsApart f names) (c : Class
       let bs = c.decl.bodies in
       ap (λ n. demand 14 c (n == length (introduced (map (rekey_entry f) es))) ++ s14_from later (map (rekey_entry f) es) (map (rekey_body f) bs)) (as_long (rekey_body f) bs)
       ∙ ap (λ l. demand 14 c (length bs == length l) ++ s14_from later (map (rekey_entry f) es) (map (rekey_body f) bs)) (list_introduced f es)
-      ∙ ap (λ l. demand 14 c (length bs == length (introduced es)) ++ l) (bodies_fit es bs (entry_is_named names c is))
+      ∙ ap (λ l. demand 14 c (length bs == length (introduced es)) ++ l) (bodies_fit es bs (entry_is_named names c face))
 
   -- ---- rules among other classes
 
-  module _ (kk : KeepsKernel f names) (cs : List Class) (are : AreClassesNamed names cs) where
+  module _ (kk : KeepsKernel f names) (cs : List Class) (are : AreFacesNamed names cs) where
     abbrev new_classes : List Class
     new_classes = rekey_classes f cs
 
@@ -277,7 +280,7 @@ module _ (f : ModuleChange) (names : Names) (apart : IsApart f names) (c : Class
     s4_kept =
         ap (λ l. demand 4 c (every (λ k. is_a new_classes k som_class) l)) (option_kept (rekey f) c.decl.face.metaclass)
         ∙ ap (demand 4 c) (every_map (λ k. is_a cs k som_class) (λ k. is_a new_classes k som_class) (rekey f) (option_list c.decl.face.metaclass) (λ k m.
-        ap (is_a new_classes (rekey f k)) (sym (class_stays f names kk)) ∙ descent_kept f names cs apart named k som_class (metaclass_is_named names c is k m) (class_named f names kk)))
+        ap (is_a new_classes (rekey f k)) (sym (class_stays f names kk)) ∙ descent_kept f names cs apart named k som_class (metaclass_is_named names c face k m) (class_named f names kk)))
 
     pub s8_kept : s8 new_classes later ≡ s8 cs c
     s8_kept = ap (λ l. map (breach 8 c) (doubles bytes_eq [] l))
@@ -296,7 +299,7 @@ module _ (f : ModuleChange) (names : Names) (apart : IsApart f names) (c : Class
 
     entry_above : (e : Entry) → Mem e c.decl.face.entries → s9_entry new_classes later (rekey_entry f e) ≡ s9_entry cs c e
     entry_above (entries.Introduced name sig way) m = refl
-    entry_above (entries.Moved name to) m = ap (demand_of 9 c name) (proper_introduces name to (entry_is_named names c is (entries.Moved name to) m (AClass to) (inl refl)))
+    entry_above (entries.Moved name to) m = ap (demand_of 9 c name) (proper_introduces name to (entry_is_named names c face (entries.Moved name to) m (AClass to) (inl refl)))
 
     pub s9_kept : s9 new_classes later ≡ s9 cs c
     s9_kept = flat_same (s9_entry cs c) (s9_entry new_classes later) (rekey_entry f) c.decl.face.entries entry_above
@@ -337,7 +340,7 @@ module _ (f : ModuleChange) (names : Names) (apart : IsApart f names) (c : Class
     place_kept : (a : ClassKey) (i : ℕ) → is_named names a ≡ true → is_parent_below new_classes (rekey f a) (slice_get (map (rekey f) c.decl.face.parents) i) ≡ is_parent_below cs a (slice_get c.decl.face.parents i)
     place_kept a i n =
         ap (is_parent_below new_classes (rekey f a)) (slice_get-map (rekey f) c.decl.face.parents i)
-        ∙ below_kept a (slice_get c.decl.face.parents i) n (λ p e. parent_named names c is p (get_mem c.decl.face.parents i p e))
+        ∙ below_kept a (slice_get c.decl.face.parents i) n (λ p e. parent_named names c face p (get_mem c.decl.face.parents i p e))
 
     selects_kept : (before : List MethodRef) (ss : List Select) → AllNamed before → ((s : Select) → Mem s ss → is_named names s.method.class ≡ true)
         → s10_selects new_classes later (map (rekey_method f) before) (map (rekey_select f) ss) ≡ s10_selects cs c before ss

@@ -7,7 +7,7 @@ use Rattle.som_model.specs.declared.syntax.Block.{Block}
 use Rattle.som_model.specs.declared.class.Sig.{Sig}
 use Rattle.som_model.specs.Lists.{Mem}
 use Rattle.som_model.specs.Class.{Class}
-use Rattle.som_model.specs.Named.{Named, AClass, AMethod, AProxy, type_names, sig_names, block_names, decl_names}
+use Rattle.som_model.specs.Named.{Named, AClass, AMethod, AProxy, type_names, sig_names, block_names, face_names, decl_names}
 use Rattle.som_model.specs.Typing.{ClassFacts, CodePlace}
 use Rattle.som_rekey_laws.specs.Apart.{Names, is_named}
 
@@ -33,7 +33,16 @@ IsTypeNamed names t = AreOf names (type_names t)
 abbrev pub AreTypesNamed : Names → List ValueType → Type 0
 AreTypesNamed names ts = (t : ValueType) → Mem t ts → IsTypeNamed names t
 
--- a class has a key of these names, and its declaration names nothing else
+-- a class has a key of these names, and its face names nothing else
+pub record IsFaceNamed (names : Names) (c : Class) : Type 0 where
+  pub key : is_named names c.key ≡ true
+  pub named : AreOf names (face_names c.decl.face)
+
+-- so does each of these classes, whatever else they declare
+abbrev pub AreFacesNamed : Names → List Class → Type 0
+AreFacesNamed names cs = (c : Class) → Mem c cs → IsFaceNamed names c
+
+-- a class has a key of these names, and its whole declaration names nothing else
 pub record IsClassNamed (names : Names) (c : Class) : Type 0 where
   pub key : is_named names c.key ≡ true
   pub named : AreOf names (decl_names c.decl)
