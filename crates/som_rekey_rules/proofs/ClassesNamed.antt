@@ -45,7 +45,7 @@ module _ (names : Names) (c : Class) (is : IsFaceNamed names c) where
   after_parents = right_of names parents_named (metaclass_named ++ entries_named) is.named
 
   pub metaclass_is_named : (k : ClassKey) → Mem k (option_list c.decl.face.metaclass) → is_named names k ≡ true
-  metaclass_is_named k m = after_parents (AClass k) (mem_left (AClass k) metaclass_named entries_named (mem_map AClass k (option_list c.decl.face.metaclass) m))
+  metaclass_is_named k m = after_parents k (mem_left (AClass k) metaclass_named entries_named (mem_map AClass k (option_list c.decl.face.metaclass) m))
 
   pub entry_is_named : (e : Entry) → Mem e c.decl.face.entries → AreOf names (entry_names e)
   entry_is_named e m = each_of names entry_names c.decl.face.entries (right_of names metaclass_named entries_named after_parents) e m
@@ -78,10 +78,10 @@ module _ (names : Names) (c : Class) (is : IsClassNamed names c) where
   override_is_named o m = each_of names override_names c.decl.overrides (left_of names overrides_named selects_named after_bodies) o m
 
   pub overridden_is_named : (o : Override) → Mem o c.decl.overrides → is_named names o.method.class ≡ true
-  overridden_is_named o m = override_is_named o m (AClass o.method.class) (inl refl)
+  overridden_is_named o m = override_is_named o m o.method.class (inl refl)
 
   pub selected_is_named : (s : Select) → Mem s c.decl.selects → is_named names s.method.class ≡ true
-  selected_is_named s m = each_of names select_names c.decl.selects (right_of names overrides_named selects_named after_bodies) s m (AClass s.method.class) (inl refl)
+  selected_is_named s m = each_of names select_names c.decl.selects (right_of names overrides_named selects_named after_bodies) s m s.method.class (inl refl)
 
 pub faces_of : (names : Names) (cs : List Class) → AreClassesNamed names cs → AreFacesNamed names cs
 faces_of names cs are c m = face_of names c (are c m)
@@ -106,7 +106,7 @@ module _ (names : Names) (cs : List Class) (are : AreFacesNamed names cs) where
   }
 
   pub all_targets : AreTargetsNamed names cs
-  all_targets c name to m i = entry_is_named names c (are c m) (entries.Moved name to) i (AClass to) (inl refl)
+  all_targets c name to m i = entry_is_named names c (are c m) (entries.Moved name to) i to (inl refl)
 
   pub all_metaclasses : AreMetaclassesNamed names cs
   all_metaclasses c k m e = metaclass_is_named names c (are c m) k (option_there c.decl.face.metaclass k e)

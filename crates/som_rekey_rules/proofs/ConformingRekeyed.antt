@@ -12,7 +12,8 @@ use Rattle.som_rekey_laws.proofs.Lists.{map_append}
 use Rattle.som_rekey_laws.proofs.FactsKept.{facts_kept}
 use Rattle.som_rekey_laws.proofs.KernelKept.{kernel_classes_stay, with_kernel}
 use Rattle.som_rekey_rules.specs.Speaking.{IsClassNamed, AreFacesNamed, AreClassesNamed}
-use Rattle.som_rekey_rules.proofs.ClassesNamed.{faces_of, all_named, all_targets, declared_answers}
+use Rattle.som_rekey_rules.proofs.ExpressionsRekeyed.{face_of, variable_named}
+use Rattle.som_rekey_rules.proofs.ClassesNamed.{faces_of, overridden_is_named, selected_is_named, all_named, all_targets, declared_answers}
 use Rattle.som_rekey_rules.proofs.ClassesTyped.{flat_same, class_typed_kept}
 use Rattle.som_rekey_rules.proofs.KernelNamed.{both_faces, kernel_named, with_kernel_named}
 use Rattle.som_rekey_rules.proofs.RulesRekeyed.{s1_kept, s2_kept, s3_kept, s4_kept, s5_kept, s6_kept, s7_kept, s8_kept, s9_kept, s10_kept, s14_kept}
@@ -64,9 +65,9 @@ module _ (f : ModuleChange) (names : Names) (kk : KeepsKernel f names) (apart : 
   names_kept : (before cs : List Class) → Faced before → Named cs → first_of_names (R before) (R cs) ≡ first_of_names before cs
   names_kept before cs a b =
       let one = after_kept s1 (λ xs c p q. s1_kept f c xs) before cs a b in
-      let two = after_kept s2 (λ xs c p q. s2_kept f names apart c q xs p) before cs a b in
-      let three = each_kept s3 s3 cs b (s3_kept f names apart) in
-      let four = among_kept s4 (λ ds n c q. s4_kept f names apart c q kk ds n) before cs a b in
+      let two = after_kept s2 (λ xs c p q. s2_kept f names apart c (face_of names c q) xs p) before cs a b in
+      let three = each_kept s3 s3 cs b (λ c q. s3_kept f names apart c (face_of names c q)) in
+      let four = among_kept s4 (λ ds n c q. s4_kept f names apart c (face_of names c q) kk ds n) before cs a b in
       ap (λ l. first_or l (first_or (each_after s2 (R before) (R cs)) (first_or (flat_map s3 (R cs)) (first (flat_map (s4 (R before ++ R cs)) (R cs)))))) one
       ∙ ap (λ l. first_or (each_after s1 before cs) (first_or l (first_or (flat_map s3 (R cs)) (first (flat_map (s4 (R before ++ R cs)) (R cs)))))) two
       ∙ ap (λ l. first_or (each_after s1 before cs) (first_or (each_after s2 before cs) (first_or l (first (flat_map (s4 (R before ++ R cs)) (R cs)))))) three
@@ -76,9 +77,9 @@ module _ (f : ModuleChange) (names : Names) (kk : KeepsKernel f names) (apart : 
   members_kept before cs a b =
       let six = each_kept s6 s6 cs b (λ c q. s6_kept f c) in
       let seven = each_kept s7 s7 cs b (λ c q. s7_kept f c) in
-      let eight = among_kept s8 (λ ds n c q. s8_kept f names apart c q kk ds n) before cs a b in
-      let nine = among_kept s9 (λ ds n c q. s9_kept f names apart c q kk ds n) before cs a b in
-      let ten = among_kept s10 (λ ds n c q. s10_kept f names apart c q kk ds n) before cs a b in
+      let eight = among_kept s8 (λ ds n c q. s8_kept f names apart c (face_of names c q) kk ds n) before cs a b in
+      let nine = among_kept s9 (λ ds n c q. s9_kept f names apart c (face_of names c q) kk ds n) before cs a b in
+      let ten = among_kept s10 (λ ds n c q. s10_kept f names apart c (face_of names c q) kk ds n (overridden_is_named names c q) (selected_is_named names c q)) before cs a b in
       let n8 = flat_map (s8 (R before ++ R cs)) (R cs) in
       let n9 = flat_map (s9 (R before ++ R cs)) (R cs) in
       let n10 = first (flat_map (s10 (R before ++ R cs)) (R cs)) in
@@ -104,10 +105,10 @@ module _ (f : ModuleChange) (names : Names) (kk : KeepsKernel f names) (apart : 
       ∙ each_kept (rule (kernel ++ known)) (rule (R (kernel ++ known))) cs b (e (kernel ++ known) (with_kernel_named f names kk known a))
 
   pub types_kept : (known cs : List Class) → Faced known → Named cs → flat_map (s5 (kernel ++ R known)) (R cs) ≡ flat_map (s5 (kernel ++ known)) cs
-  types_kept = kernel_among s5 (λ ds n c q. s5_kept f names apart c q ds n)
+  types_kept = kernel_among s5 (λ ds n c q. s5_kept f names apart c (face_of names c q) ds n (variable_named names c q))
 
   pub bodies_kept : (cs : List Class) → Named cs → flat_map s14 (R cs) ≡ flat_map s14 cs
-  bodies_kept cs b = each_kept s14 s14 cs b (s14_kept f names apart)
+  bodies_kept cs b = each_kept s14 s14 cs b (λ c q. s14_kept f names apart c (face_of names c q) (variable_named names c q))
 
   pub blocks_kept : (known cs : List Class) → Faced known → Named cs → flat_map (class_typed (kernel ++ R known)) (R cs) ≡ flat_map (class_typed (kernel ++ known)) cs
   blocks_kept = kernel_among class_typed (λ ds n c q.

@@ -37,7 +37,7 @@ pub face_of : (names : Names) (c : Class) → IsClassNamed names c → IsFaceNam
 face_of names c is = record { key = is.key; named = left_of names (face_names c.decl.face) _ is.named }
 
 pub parent_named : (names : Names) (c : Class) → IsFaceNamed names c → (p : ClassKey) → Mem p c.decl.face.parents → is_named names p ≡ true
-parent_named names c is p m = is.named (AClass p) (mem_left (AClass p) (map AClass c.decl.face.parents) _ (mem_map AClass p c.decl.face.parents m))
+parent_named names c is p m = is.named p (mem_left (AClass p) (map AClass c.decl.face.parents) _ (mem_map AClass p c.decl.face.parents m))
 
 pub variable_named : (names : Names) (c : Class) → IsClassNamed names c → (v : Variable) → Mem v c.decl.variables → IsTypeNamed names v.kind
 variable_named names c is v m =
@@ -69,14 +69,14 @@ parent_kept : (f : ModuleChange) (o : Option Class) (n : ℕ) → parent_in (opt
 parent_kept f None n = refl
 parent_kept f (Some c) n = slice_get-map (rekey f) c.decl.face.parents n
 
-pub kind_there : (names : Names) (c : Class) → IsClassNamed names c → (n : ℕ) (t : ValueType) → slice_get (map (λ v. v.kind) c.decl.variables) n ≡ Some t → IsTypeNamed names t
-kind_there names c is n t e =
+pub kind_there : (names : Names) (c : Class) → ((v : Variable) → Mem v c.decl.variables → IsTypeNamed names v.kind) → (n : ℕ) (t : ValueType) → slice_get (map (λ v. v.kind) c.decl.variables) n ≡ Some t → IsTypeNamed names t
+kind_there names c are n t e =
     let m = map_mem (λ (v : Variable). v.kind) t c.decl.variables (get_mem (map (λ v. v.kind) c.decl.variables) n t e) in
-    subst (IsTypeNamed names) (sym m.2) (variable_named names c is m.0 m.1)
+    subst (IsTypeNamed names) (sym m.2) (are m.0 m.1)
 
 variable_there : (names : Names) (o : Option Class) → ((c : Class) → o ≡ Some c → IsClassNamed names c) → (n : ℕ) (t : ValueType) → variable_kind o n ≡ Some t → IsTypeNamed names t
 variable_there names None is n t e = absurd (let z = e in cc)
-variable_there names (Some c) is n t e = kind_there names c (is c refl) n t e
+variable_there names (Some c) is n t e = kind_there names c (variable_named names c (is c refl)) n t e
 
 parent_there : (names : Names) (o : Option Class) → ((c : Class) → o ≡ Some c → IsClassNamed names c) → (n : ℕ) (p : ClassKey) → parent_in o n ≡ Some p → is_named names p ≡ true
 parent_there names None is n p e = absurd (let z = e in cc)
@@ -322,17 +322,17 @@ module _ (f : ModuleChange) (names : Names) (kk : KeepsKernel f names) (apart : 
     layer (Expr-F.Binary op k l) n =
         of_part k (λ s. value (T l.0) >>= binary_type op s) (λ s. value (V (R l.0)) >>= binary_type op s) (left_of names (expr_names k.0) (expr_names l.0) n) (λ s p.
         of_part l (binary_type op s) (binary_type op (rk s)) (right_of names (expr_names k.0) (expr_names l.0) n) (λ t q. binary_kept op s t))
-    layer (Expr-F.New k) n = new_kept k (n (AClass k) (inl refl))
-    layer (Expr-F.Class k) n = class_kept k (n (AClass k) (inl refl))
+    layer (Expr-F.New k) n = new_kept k (n k (inl refl))
+    layer (Expr-F.Class k) n = class_kept k (n k (inl refl))
     layer Expr-F.Manager n = manager_kept
-    layer (Expr-F.Cast k e) n = of_part e (cast_type old k) (cast_type new (rekey f k)) (tail_of (AClass k) (expr_names e.0) n) (λ t p. cast_kept k t (n (AClass k) (inl refl)))
-    layer (Expr-F.Isa k e) n = of_part e (isa_type old k) (isa_type new (rekey f k)) (tail_of (AClass k) (expr_names e.0) n) (λ t p. isa_kept k t (n (AClass k) (inl refl)))
+    layer (Expr-F.Cast k e) n = of_part e (cast_type old k) (cast_type new (rekey f k)) (tail_of (AClass k) (expr_names e.0) n) (λ t p. cast_kept k t (n k (inl refl)))
+    layer (Expr-F.Isa k e) n = of_part e (isa_type old k) (isa_type new (rekey f k)) (tail_of (AClass k) (expr_names e.0) n) (λ t p. isa_kept k t (n k (inl refl)))
     layer (Expr-F.Proxy k e) n =
-        of_part e (proxy_type old k) (proxy_type new (rekey f k)) (tail_of (AProxy k) (expr_names e.0) (tail_of (AClass k) (AProxy k ∷ expr_names e.0) n)) (λ t p. proxy_kept k t (n (AClass k) (inl refl)) p)
+        of_part e (proxy_type old k) (proxy_type new (rekey f k)) (tail_of (AProxy k) (expr_names e.0) (tail_of (AClass k) (AProxy k ∷ expr_names e.0) n)) (λ t p. proxy_kept k t (n k (inl refl)) p)
     layer (Expr-F.OffsetCall r e es) n =
         let c = call_parts (method_names r) e es n in
         of_part e (λ t. values (map T (exprs es)) >>= offset_call_type old r t) (λ t. values (map V (map R (exprs es))) >>= offset_call_type new (rekey_method f r) t) c.1 (λ t p.
-        of_args es (offset_call_type old r t) (offset_call_type new (rekey_method f r) (rk t)) c.2 (λ ts ps. offset_kept r t ts (c.0 (AClass r.class) (inl refl)) p ps))
+        of_args es (offset_call_type old r t) (offset_call_type new (rekey_method f r) (rk t)) c.2 (λ ts ps. offset_kept r t ts (c.0 r.class (inl refl)) p ps))
     layer (Expr-F.Lookup kind name e es) n =
         let c = call_parts (type_names kind) e es n in
         of_part e (λ t. values (map T (exprs es)) >>= named_call_type old kind t) (λ t. values (map V (map R (exprs es))) >>= named_call_type new (rekey_type f kind) t) c.1 (λ t p.
@@ -342,9 +342,9 @@ module _ (f : ModuleChange) (names : Names) (kk : KeepsKernel f names) (apart : 
         of_part e (λ t. values (map T (exprs es)) >>= named_call_type old kind t) (λ t. values (map V (map R (exprs es))) >>= named_call_type new (rekey_type f kind) t) c.1 (λ t p.
         of_args es (named_call_type old kind t) (named_call_type new (rekey_type f kind) (rk t)) c.2 (λ ts ps. named_kept kind t ts c.0))
     layer (Expr-F.ParentCall i r es) n =
-        of_args es (parent_call_type old at i r) (parent_call_type new there_place i (rekey_method f r)) (right_of names (method_names r) (joined (map expr_names (exprs es))) n) (λ ts ps. parent_call_kept i r ts (n (AClass r.class) (inl refl)) ps)
+        of_args es (parent_call_type old at i r) (parent_call_type new there_place i (rekey_method f r)) (right_of names (method_names r) (joined (map expr_names (exprs es))) n) (λ ts ps. parent_call_kept i r ts (n r.class (inl refl)) ps)
     layer (Expr-F.ParentsCall r es) n =
-        of_args es (parents_call_type old at r) (parents_call_type new there_place (rekey_method f r)) (right_of names (method_names r) (joined (map expr_names (exprs es))) n) (λ ts ps. parents_call_kept r ts (n (AClass r.class) (inl refl)) ps)
+        of_args es (parents_call_type old at r) (parents_call_type new there_place (rekey_method f r)) (right_of names (method_names r) (joined (map expr_names (exprs es))) n) (λ ts ps. parents_call_kept r ts (n r.class (inl refl)) ps)
     layer (Expr-F.Host code k l) n =
         of_part k (λ s. value (T l.0) >>= host_type s) (λ s. value (V (R l.0)) >>= host_type s) (left_of names (expr_names k.0) (expr_names l.0) n) (λ s p.
         of_part l (host_type s) (host_type (rk s)) (right_of names (expr_names k.0) (expr_names l.0) n) (λ t q. host_kept s t))

@@ -6,13 +6,13 @@ use Rattle.som_model.specs.declared.class.ClassFace.{ClassFace}
 use Rattle.som_model.specs.Lists.{Mem}
 use Rattle.som_model.specs.Class.{Class, bare, class_in}
 use Rattle.som_model.specs.Kernel.{kernel, kernel_interface, object_face, class_face, class_mgr_face, before_after_face}
-use Rattle.som_model.specs.Named.{Named, decl_names}
+use Rattle.som_model.specs.Named.{Named, AClass, AMethod, AProxy, decl_names}
 use Rattle.som_model_laws.proofs.Members.{mem_split}
 use Rattle.som_rekey_laws.specs.Rekeying.{ModuleChange}
-use Rattle.som_rekey_laws.specs.Apart.{Names, KeepsKernel}
+use Rattle.som_rekey_laws.specs.Apart.{Names, is_named, KeepsKernel}
 use Rattle.som_rekey_laws.proofs.BodiesKept.{kernel_is_named, object_named, class_named}
 use Rattle.som_rekey_rules.proofs.ClassesNamed.{faces_of}
-use Rattle.som_rekey_rules.specs.Speaking.{is_of, AreOf, IsClassNamed, AreFacesNamed, AreClassesNamed}
+use Rattle.som_rekey_rules.specs.Speaking.{AreOf, IsClassNamed, AreFacesNamed, AreClassesNamed}
 
 pub both_faces : (names : Names) (cs ds : List Class) → AreFacesNamed names cs → AreFacesNamed names ds → AreFacesNamed names (cs ++ ds)
 both_faces names cs ds a b c m = elim (mem_split c cs ds m) [ inl k ↦ a c k | inr k ↦ b c k ]
@@ -23,12 +23,18 @@ both_classes names cs ds a b c m = elim (mem_split c cs ds m) [ inl k ↦ a c k 
 module _ (f : ModuleChange) (names : Names) (kk : KeepsKernel f names) where
   abbrev EachOf : List Named → Type 0
   EachOf [] = ⊤
-  EachOf (n ∷ ns) = (is_of names n ≡ true) × EachOf ns
+  EachOf (AClass k ∷ ns) = (is_named names k ≡ true) × EachOf ns
+  EachOf (AMethod r ∷ ns) = EachOf ns
+  EachOf (AProxy k ∷ ns) = EachOf ns
 
   each : (ns : List Named) → EachOf ns → AreOf names ns
-  each [] all n m = absurd m
-  each (x ∷ ns) all n (inl e) = ap (is_of names) e ∙ all.0
-  each (x ∷ ns) all n (inr m) = each ns all.1 n m
+  each [] all q m = absurd m
+  each (AClass k ∷ ns) all q (inl e) = let z : q ≡ k = cc in ap (is_named names) z ∙ all.0
+  each (AClass k ∷ ns) all q (inr m) = each ns all.1 q m
+  each (AMethod r ∷ ns) all q (inl e) = absurd (let z = e in cc)
+  each (AMethod r ∷ ns) all q (inr m) = each ns all q m
+  each (AProxy k ∷ ns) all q (inl e) = absurd (let z = e in cc)
+  each (AProxy k ∷ ns) all q (inr m) = each ns all q m
 
   of_face : (face : ClassFace) → Mem face kernel_interface.classes → EachOf (decl_names (bare face)) → (c : Class) → c ≡ class_in modules.Kernel (bare face) → IsClassNamed names c
   of_face face m all c is = subst (IsClassNamed names) (sym is) (record {

@@ -7,3 +7,5 @@ pub mod ClassesTyped
 pub mod KernelNamed
 pub mod RulesRekeyed
 pub mod ConformingRekeyed
+pub mod FacesRekeyed
+pub mod CountsRekeyed

@@ -42,7 +42,7 @@ use Rattle.som_rekey_rules.proofs.ClassesTyped.{flat_same}
 
 -- ---- lists
 
-every_map : {A B : Type 0} (p : A → Bool) (q : B → Bool) (g : A → B) (xs : List A) → ((x : A) → Mem x xs → q (g x) ≡ p x) → every q (map g xs) ≡ every p xs
+pub every_map : {A B : Type 0} (p : A → Bool) (q : B → Bool) (g : A → B) (xs : List A) → ((x : A) → Mem x xs → q (g x) ≡ p x) → every q (map g xs) ≡ every p xs
 every_map p q g [] e = refl
 every_map p q g (x ∷ xs) e =
     ap (λ b. if b then every q (map g xs) else false) (e x (inl refl))
@@ -54,7 +54,7 @@ one_more P [] x h p a (inr m) = absurd m
 one_more P (y ∷ ys) x h p a (inl e) = h a (inl e)
 one_more P (y ∷ ys) x h p a (inr m) = one_more P ys x (λ b n. h b (inr n)) p a m
 
-doubles_map : {A B : Type 0} (P : A → Type 0) (p : A → A → Bool) (q : B → B → Bool) (g : A → B) → ((x y : A) → P x → P y → q (g x) (g y) ≡ p x y)
+pub doubles_map : {A B : Type 0} (P : A → Type 0) (p : A → A → Bool) (q : B → B → Bool) (g : A → B) → ((x y : A) → P x → P y → q (g x) (g y) ≡ p x y)
     → (before xs : List A) → ((a : A) → Mem a before → P a) → ((a : A) → Mem a xs → P a) → doubles q (map g before) (map g xs) ≡ map g (doubles p before xs)
 doubles_map P p q g e before [] hb hx = refl
 doubles_map P p q g e before (x ∷ xs) hb hx =
@@ -65,7 +65,7 @@ doubles_map P p q g e before (x ∷ xs) hb hx =
     ∙ ap (λ l. if some (p x) before then map g (x ∷ doubles p before xs) else l) more
     ∙ if_map (map g) (some (p x) before) (x ∷ doubles p before xs) (doubles p (before ++ x ∷ []) xs)
 
-as_long : {A B : Type 0} (g : A → B) (xs : List A) → length (map g xs) ≡ length xs
+pub as_long : {A B : Type 0} (g : A → B) (xs : List A) → length (map g xs) ≡ length xs
 as_long g [] = refl
 as_long g (x ∷ xs) = ap suc (as_long g xs)
 
@@ -113,12 +113,19 @@ module _ (f : ModuleChange) (c : Class) where
   pub s7_kept : s7 (rekey_class f c) ≡ s7 c
   s7_kept = ap (λ l. map (breach 7 c) (doubles bytes_eq [] l)) (map_twice (λ (v : Variable). v.name) (rekey_variable f) c.decl.variables)
 
-module _ (f : ModuleChange) (names : Names) (apart : IsApart f names) (c : Class) (is : IsClassNamed names c) where
+module _ (f : ModuleChange) (names : Names) (apart : IsApart f names) (c : Class) (face : IsFaceNamed names c) where
   abbrev later : Class
   later = rekey_class f c
 
-  face : IsFaceNamed names c
-  face = face_of names c is
+  -- the types of the variables, and the methods of overrides and selects, are of these names
+  abbrev pub Variables : Type 0
+  Variables = (v : Variable) → Mem v c.decl.variables → IsTypeNamed names v.kind
+
+  abbrev pub Overrides : Type 0
+  Overrides = (o : Override) → Mem o c.decl.overrides → is_named names o.method.class ≡ true
+
+  abbrev pub Selects : Type 0
+  Selects = (s : Select) → Mem s c.decl.selects → is_named names s.method.class ≡ true
 
   -- the parents and the metaclass of a class
   abbrev above : Class → List ClassKey
@@ -176,13 +183,13 @@ module _ (f : ModuleChange) (names : Names) (apart : IsApart f names) (c : Class
         ap (λ b. demand_of 5 c name (b && every (is_value_type known_later) (map (rekey_type f) sig.params))) (type_known sig.result (result_of names sig n))
         ∙ ap (λ b. demand_of 5 c name (is_known known sig.result && b)) (every_map (is_value_type known) (is_value_type known_later) (rekey_type f) sig.params (λ t k. value_type t (params_of names sig n t k)))
 
-    pub s5_kept : s5 known_later later ≡ s5 known c
-    s5_kept =
+    pub s5_kept : Variables → s5 known_later later ≡ s5 known c
+    s5_kept vars =
         ap (λ l. l ++ flat_map (λ (v : Variable). demand_of 5 c v.name (is_value_type known_later v.kind)) (map (rekey_variable f) c.decl.variables))
         (flat_same (s5_entry known c) (s5_entry known_later later) (rekey_entry f) c.decl.face.entries entry_types)
         ∙ ap (λ l. flat_map (s5_entry known c) c.decl.face.entries ++ l)
         (flat_same (λ (v : Variable). demand_of 5 c v.name (is_value_type known v.kind)) (λ (v : Variable). demand_of 5 c v.name (is_value_type known_later v.kind)) (rekey_variable f) c.decl.variables
-        (λ v m. ap (demand_of 5 c v.name) (value_type v.kind (variable_named names c is v m))))
+        (λ v m. ap (demand_of 5 c v.name) (value_type v.kind (vars v m))))
 
   -- ---- bodies
 
@@ -240,32 +247,32 @@ module _ (f : ModuleChange) (names : Names) (apart : IsApart f names) (c : Class
   abbrev kind_at : Class → ℕ → Option ValueType
   kind_at d n = slice_get (map (λ v. v.kind) d.decl.variables) n
 
-  fits_same : (sig : Sig) (b : Body) → AreOf names (sig_names sig) → body_fits later.decl.variables (rekey_sig f sig) (rekey_body f b) ≡ body_fits c.decl.variables sig b
-  fits_same sig (bodies.User block) n = refl
-  fits_same sig (bodies.Get i) n =
+  fits_same : Variables → (sig : Sig) (b : Body) → AreOf names (sig_names sig) → body_fits later.decl.variables (rekey_sig f sig) (rekey_body f b) ≡ body_fits c.decl.variables sig b
+  fits_same vars sig (bodies.User block) n = refl
+  fits_same vars sig (bodies.Get i) n =
       ap (λ o. is_kind o (rekey_type f sig.result) && is_empty (map (rekey_type f) sig.params)) (get_kind f c i)
-      ∙ ap (λ b. b && is_empty (map (rekey_type f) sig.params)) (kind_same (kind_at c i) sig.result (kind_there names c is i) (result_of names sig n))
+      ∙ ap (λ b. b && is_empty (map (rekey_type f) sig.params)) (kind_same (kind_at c i) sig.result (kind_there names c vars i) (result_of names sig n))
       ∙ ap (λ b. is_kind (kind_at c i) sig.result && b) (empty_same sig.params)
-  fits_same sig (bodies.Set i) n =
+  fits_same vars sig (bodies.Set i) n =
       ap (λ o. is_void (rekey_type f sig.result) && writes (map (rekey_type f) sig.params) o) (get_kind f c i)
       ∙ ap (λ b. b && writes (map (rekey_type f) sig.params) (option_map (rekey_type f) (kind_at c i))) (void_type sig.result)
-      ∙ ap (λ b. is_void sig.result && b) (writes_same sig.params (kind_at c i) (params_of names sig n) (kind_there names c is i))
+      ∙ ap (λ b. is_void sig.result && b) (writes_same sig.params (kind_at c i) (params_of names sig n) (kind_there names c vars i))
 
-  bodies_fit : (es : List Entry) (bs : List Body) → ((e : Entry) → Mem e es → AreOf names (entry_names e)) → s14_from later (map (rekey_entry f) es) (map (rekey_body f) bs) ≡ s14_from c es bs
-  bodies_fit [] bs n = refl
-  bodies_fit (entries.Moved name to ∷ es) bs n = bodies_fit es bs (λ e m. n e (inr m))
-  bodies_fit (entries.Introduced name sig way ∷ es) [] n = refl
-  bodies_fit (entries.Introduced name sig way ∷ es) (b ∷ bs) n =
-      ap (λ z. demand_of 14 c name z ++ s14_from later (map (rekey_entry f) es) (map (rekey_body f) bs)) (fits_same sig b (n (entries.Introduced name sig way) (inl refl)))
-      ∙ ap (λ l. demand_of 14 c name (body_fits c.decl.variables sig b) ++ l) (bodies_fit es bs (λ e m. n e (inr m)))
+  bodies_fit : Variables → (es : List Entry) (bs : List Body) → ((e : Entry) → Mem e es → AreOf names (entry_names e)) → s14_from later (map (rekey_entry f) es) (map (rekey_body f) bs) ≡ s14_from c es bs
+  bodies_fit vars [] bs n = refl
+  bodies_fit vars (entries.Moved name to ∷ es) bs n = bodies_fit vars es bs (λ e m. n e (inr m))
+  bodies_fit vars (entries.Introduced name sig way ∷ es) [] n = refl
+  bodies_fit vars (entries.Introduced name sig way ∷ es) (b ∷ bs) n =
+      ap (λ z. demand_of 14 c name z ++ s14_from later (map (rekey_entry f) es) (map (rekey_body f) bs)) (fits_same vars sig b (n (entries.Introduced name sig way) (inl refl)))
+      ∙ ap (λ l. demand_of 14 c name (body_fits c.decl.variables sig b) ++ l) (bodies_fit vars es bs (λ e m. n e (inr m)))
 
-  pub s14_kept : s14 later ≡ s14 c
-  s14_kept =
+  pub s14_kept : Variables → s14 later ≡ s14 c
+  s14_kept vars =
       let es = c.decl.face.entries in
       let bs = c.decl.bodies in
       ap (λ n. demand 14 c (n == length (introduced (map (rekey_entry f) es))) ++ s14_from later (map (rekey_entry f) es) (map (rekey_body f) bs)) (as_long (rekey_body f) bs)
       ∙ ap (λ l. demand 14 c (length bs == length l) ++ s14_from later (map (rekey_entry f) es) (map (rekey_body f) bs)) (list_introduced f es)
-      ∙ ap (λ l. demand 14 c (length bs == length (introduced es)) ++ l) (bodies_fit es bs (entry_is_named names c face))
+      ∙ ap (λ l. demand 14 c (length bs == length (introduced es)) ++ l) (bodies_fit vars es bs (entry_is_named names c face))
 
   -- ---- rules among other classes
 
@@ -284,13 +291,13 @@ module _ (f : ModuleChange) (names : Names) (apart : IsApart f names) (c : Class
 
     pub s8_kept : s8 new_classes later ≡ s8 cs c
     s8_kept = ap (λ l. map (breach 8 c) (doubles bytes_eq [] l))
-        (ap (flat_map (introduced_by new_classes)) (ancestors_kept f names cs apart named c.key is.key)
-        ∙ flat_same (introduced_by cs) (introduced_by new_classes) (rekey f) (ancestors cs c.key) (λ k m. introduced_kept f names cs apart named k (above_named f names kk cs apart named c.key is.key k m)))
+        (ap (flat_map (introduced_by new_classes)) (ancestors_kept f names cs apart named c.key face.key)
+        ∙ flat_same (introduced_by cs) (introduced_by new_classes) (rekey f) (ancestors cs c.key) (λ k m. introduced_kept f names cs apart named k (above_named f names kk cs apart named c.key face.key k m)))
 
     pub proper_kept : (a : ClassKey) → is_named names a ≡ true → is_proper new_classes later (rekey f a) ≡ is_proper cs c a
     proper_kept a n =
-        ap (λ b. not b && is_a new_classes (rekey f c.key) (rekey f a)) (keys_kept f names apart a c.key n is.key)
-        ∙ ap (λ b. not (same_key a c.key) && b) (descent_kept f names cs apart named c.key a is.key n)
+        ap (λ b. not b && is_a new_classes (rekey f c.key) (rekey f a)) (keys_kept f names apart a c.key n face.key)
+        ∙ ap (λ b. not (same_key a c.key) && b) (descent_kept f names cs apart named c.key a face.key n)
 
     proper_introduces : (name : List ℕ) (a : ClassKey) → is_named names a ≡ true → (is_proper new_classes later (rekey f a) && introduces new_classes name (rekey f a)) ≡ (is_proper cs c a && introduces cs name a)
     proper_introduces name a n =
@@ -299,7 +306,7 @@ module _ (f : ModuleChange) (names : Names) (apart : IsApart f names) (c : Class
 
     entry_above : (e : Entry) → Mem e c.decl.face.entries → s9_entry new_classes later (rekey_entry f e) ≡ s9_entry cs c e
     entry_above (entries.Introduced name sig way) m = refl
-    entry_above (entries.Moved name to) m = ap (demand_of 9 c name) (proper_introduces name to (entry_is_named names c face (entries.Moved name to) m (AClass to) (inl refl)))
+    entry_above (entries.Moved name to) m = ap (demand_of 9 c name) (proper_introduces name to (entry_is_named names c face (entries.Moved name to) m to (inl refl)))
 
     pub s9_kept : s9 new_classes later ≡ s9 cs c
     s9_kept = flat_same (s9_entry cs c) (s9_entry new_classes later) (rekey_entry f) c.decl.face.entries entry_above
@@ -371,11 +378,10 @@ module _ (f : ModuleChange) (names : Names) (apart : IsApart f names) (c : Class
     replaced_named (o ∷ os) n r (inl e) = ap (λ (s : MethodRef). is_named names s.class) e ∙ owner_of o.method (n o (inl refl))
     replaced_named (o ∷ os) n r (inr m) = replaced_named os (λ p k. n p (inr k)) r m
 
-    pub s10_kept : s10 new_classes later ≡ s10 cs c
-    s10_kept =
+    pub s10_kept : Overrides → Selects → s10 new_classes later ≡ s10 cs c
+    s10_kept of_os of_ss =
         let os = c.decl.overrides in
         let ss = c.decl.selects in
-        let of_os = overridden_is_named names c is in
         ap (λ l. l ++ s10_selects new_classes later (map (λ (o : Override). owner new_classes o.method) (map (rekey_override f) os)) (map (rekey_select f) ss)) (overrides_kept [] os (λ r m. absurd m) of_os)
         ∙ ap (λ rs. s10_from cs c [] os ++ s10_selects new_classes later rs (map (rekey_select f) ss)) (replaced_kept os of_os)
-        ∙ ap (λ l. s10_from cs c [] os ++ l) (selects_kept (map (λ (o : Override). owner cs o.method) os) ss (replaced_named os of_os) (selected_is_named names c is))
+        ∙ ap (λ l. s10_from cs c [] os ++ l) (selects_kept (map (λ (o : Override). owner cs o.method) os) ss (replaced_named os of_os) of_ss)

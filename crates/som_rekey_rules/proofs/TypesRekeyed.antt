@@ -12,29 +12,29 @@ use Rattle.som_model_laws.proofs.Lists.{mem_flat}
 use Rattle.som_rekey_laws.specs.Rekeying.{ModuleChange, rekey, rekey_type}
 use Rattle.som_rekey_laws.specs.Apart.{Names, is_named}
 use Rattle.som_rekey_laws.specs.AlikeFacts.{AreFactsAlike}
-use Rattle.som_rekey_rules.specs.Speaking.{is_of, AreOf, IsTypeNamed, AreTypesNamed}
+use Rattle.som_rekey_rules.specs.Speaking.{AreOf, IsTypeNamed, AreTypesNamed}
 use Rattle.som_rekey_rules.specs.Retyped.{rekey_expr_type}
 
 -- ---- what is named, by its parts
 
 pub left_of : (names : Names) (ns ms : List Named) → AreOf names (ns ++ ms) → AreOf names ns
-left_of names ns ms h n m = h n (mem_left n ns ms m)
+left_of names ns ms h k m = h k (mem_left (AClass k) ns ms m)
 
 pub right_of : (names : Names) (ns ms : List Named) → AreOf names (ns ++ ms) → AreOf names ms
-right_of names ns ms h n m = h n (mem_right n ns ms m)
+right_of names ns ms h k m = h k (mem_right (AClass k) ns ms m)
 
 pub each_of : {A : Type 0} (names : Names) (g : A → List Named) (xs : List A) → AreOf names (flat_map g xs) → (x : A) → Mem x xs → AreOf names (g x)
-each_of names g xs h x m n k = h n (mem_flat g n x xs m k)
+each_of names g xs h x m k i = h k (mem_flat g (AClass k) x xs m i)
 
 pub none_of : (names : Names) → AreOf names []
-none_of names n m = absurd m
+none_of names k m = absurd m
 
 pub class_of : (names : Names) (k : ClassKey) → is_named names k ≡ true → IsTypeNamed names (types.Class k)
-class_of names k h n (inl e) = ap (is_of names) e ∙ h
-class_of names k h n (inr m) = absurd m
+class_of names k h q (inl e) = let z : q ≡ k = cc in ap (is_named names) z ∙ h
+class_of names k h q (inr m) = absurd m
 
 pub key_of : (names : Names) (k : ClassKey) → IsTypeNamed names (types.Class k) → is_named names k ≡ true
-key_of names k h = h (AClass k) (inl refl)
+key_of names k h = h k (inl refl)
 
 pub params_of : (names : Names) (s : Sig) → AreOf names (sig_names s) → AreTypesNamed names s.params
 params_of names s h t m = each_of names type_names s.params (right_of names (type_names s.result) (flat_map type_names s.params) h) t m

@@ -1,5 +1,5 @@
 -- What speaks of some names alone: blocks, types, classes, and the place where code stands.
-use Rattle.std.specs.Prelude.{◌≡◌, Bool, true, List, Some}
+use Rattle.std.specs.Prelude.{◌≡◌, true, List, Some}
 use Rattle.som_model.specs.declared.key.ClassKey.{ClassKey}
 use Rattle.som_model.specs.declared.key.MethodRef.{MethodRef}
 use Rattle.som_model.specs.declared.key.ValueType.{ValueType}
@@ -7,19 +7,13 @@ use Rattle.som_model.specs.declared.syntax.Block.{Block}
 use Rattle.som_model.specs.declared.class.Sig.{Sig}
 use Rattle.som_model.specs.Lists.{Mem}
 use Rattle.som_model.specs.Class.{Class}
-use Rattle.som_model.specs.Named.{Named, AClass, AMethod, AProxy, type_names, sig_names, block_names, face_names, decl_names}
+use Rattle.som_model.specs.Named.{Named, AClass, type_names, sig_names, block_names, face_names, decl_names}
 use Rattle.som_model.specs.Typing.{ClassFacts, CodePlace}
 use Rattle.som_rekey_laws.specs.Apart.{Names, is_named}
 
--- a class, a method or a proxy is of one of these names, or of a class that is made of them
-abbrev pub is_of : Names → Named → Bool
-is_of names (AClass k) = is_named names k
-is_of names (AMethod r) = is_named names r.class
-is_of names (AProxy k) = is_named names k
-
--- all that is named is of these names
+-- each class that is named is of these names, or made of them; a method and a proxy are named with their classes
 abbrev pub AreOf : Names → List Named → Type 0
-AreOf names ns = (n : Named) → Mem n ns → is_of names n ≡ true
+AreOf names ns = (k : ClassKey) → Mem (AClass k) ns → is_named names k ≡ true
 
 -- a block names nothing else
 abbrev pub IsBlockNamed : Names → Block → Type 0

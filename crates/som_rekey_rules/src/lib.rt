@@ -2,9 +2,11 @@
 #![tactic(auto)]
 
 mod classes;
+mod loading;
 mod rules;
 mod typing;
 
 pub use classes::{named_classes_law, rekeyed_typed_law};
+pub use loading::rekeyed_loads_law;
 pub use rules::rekeyed_rules_law;
 pub use typing::{rekeyed_block_law, rekeyed_expression_law};
