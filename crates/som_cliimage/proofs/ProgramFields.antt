@@ -1,5 +1,5 @@
 -- Reading a client image answers what the bytes spell, and nothing else.
-use Rattle.std.proofs.Common.{◌≡◌, ℕ, ◌+◌, ◌^◌, ◌<◌, ◌≤◌, false, List, [], ◌∷◌, ◌++◌, length, drop, Result, Ok, refl, sym, ap, subst, ◌∙◌, append_assoc, arith}
+use Rattle.std.proofs.Common.{◌≡◌, ℕ, ◌+◌, ◌^◌, ◌<◌, ◌≤◌, false, List, ◌++◌, length, drop, Result, Ok, refl, sym, ap, subst, ◌∙◌, append_assoc, arith}
 use Rattle.std.specs.Prelude.{nat_lt, codes, All}
 use Rattle.std.specs.List.{flat_map}
 use Rattle.std.specs.Int.{w16, w32}
@@ -172,6 +172,12 @@ rest_stands bytes place t le e = record {
   within = omega arith;
 }
 
+-- a program that came out
+image_came : (form : ClientForm) (rest : List ℕ) (version : ℕ) (w x : WireProgram) → rest ≡ head somc version ++ program w → FitsProgram w → version_with w.selects ≡ version → WireHasForm form w → answered w ≡ Ok x → (rest ≡ client x) × FitsProgram x × WireHasForm form x
+image_came form rest version w x is fits known has e =
+    subst (λ (y : WireProgram). (rest ≡ client y) × FitsProgram y × WireHasForm form y) (ok_same w x e)
+    (is ∙ ap (λ (n : ℕ). head somc n ++ program w) (sym known), fits, has)
+
 -- what is read from a place on is spelled so
 pub image_takes : (form : ClientForm) (bytes : List ℕ) → AreBytes bytes → (place : ℕ) → place ≤ length bytes → (w : WireProgram) → image_at form bytes place ≡ Ok w → (drop place bytes ≡ client w) × FitsProgram w × WireHasForm form w
 unfolding image_at
@@ -182,9 +188,7 @@ image_takes form bytes all place le w e =
     let g = guard_no (nat_lt c.0.next (length bytes)) (faults.Trailing c.0.next) (Ok c.0.value) w c.3 in
     let both = Stands-join bytes place (head somc version) v.0.next (program c.0.value) c.0.next v.1 c.1 in
     let is : drop place bytes ≡ head somc version ++ program c.0.value = rest_is bytes place (head somc version ++ program c.0.value) c.0.next both g.0 in
-    let whole : head somc version ++ program c.0.value ≡ client c.0.value = ap (λ (n : ℕ). head somc n ++ program c.0.value) (sym c.2.1) in
-    let same : c.0.value ≡ w = ok_same c.0.value w g.1 in
-    subst (λ (x : WireProgram). (drop place bytes ≡ client x) × FitsProgram x × WireHasForm form x) same (is ∙ whole, c.2.0, c.2.2)
+    image_came form (drop place bytes) version c.0.value w is c.2.0 c.2.1 c.2.2 g.1
 
 -- what is spelled so is read
 pub image_again : (form : ClientForm) (bytes : List ℕ) (place : ℕ) (w : WireProgram) → place ≤ length bytes → drop place bytes ≡ client w → FitsProgram w → WireHasForm form w → image_at form bytes place ≡ Ok w

@@ -1,11 +1,10 @@
 -- Reading the head of a tower image answers what the bytes spell, and nothing else.
-use Rattle.std.proofs.Common.{◌≡◌, ℕ, ◌+◌, ◌^◌, ◌<◌, ◌≤◌, inl, inr, Bool, true, false, cond, eqb, leb, List, [], ◌∷◌, length, Result, Ok, Err, refl, sym, ap, subst, arith}
+use Rattle.std.proofs.Common.{◌≡◌, ℕ, ◌^◌, ◌<◌, ◌≤◌, inl, inr, Bool, true, false, cond, eqb, leb, List, length, Result, Ok, Err, refl, subst, arith}
 use Rattle.std.specs.Prelude.{◌&&◌, All, IfOk}
 use Rattle.std.specs.List.{flat_map}
 use Rattle.std.specs.Int.{w8, w16}
 use Rattle.std.proofs.lemmas.Bool.{leb-true, le-leb, eqb-true}
 use Rattle.som_model.specs.Bytes.{AreBytes}
-use Rattle.som_model.specs.Steps.{◌>>=◌}
 use Rattle.som_model.proofs.KeyLaws.{both}
 use Rattle.som_image_fields.specs.declared.fault.ImageFault.{ImageFault}
 use Rattle.som_image_fields.specs.declared.fault.ImageFault.TheVariants as faults
@@ -13,7 +12,7 @@ use Rattle.som_image_fields.specs.declared.read.Read.{Read}
 use Rattle.som_image_fields.specs.Fields.{Stands, Gives, done}
 use Rattle.som_image_fields.specs.Spelling.{number}
 use Rattle.som_image_fields.specs.Reading.{number_at}
-use Rattle.som_image_fields.proofs.Parts.{IsField, chosen, guard_yes, same_read, came, took, found_of}
+use Rattle.som_image_fields.proofs.Parts.{IsField, chosen, guard_yes, same_read, came, took}
 use Rattle.som_image_fields.proofs.NumberFields.{byte_field, short_field}
 use Rattle.som_image_fields.proofs.ManyFields.{many_field}
 use Rattle.som_towerimage.specs.declared.level.TheConstants.{MAX_BELOW_CLIENT, MAX_BELOW_LIBRARY}

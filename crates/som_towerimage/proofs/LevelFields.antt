@@ -1,5 +1,5 @@
 -- Reading a tower image answers what the bytes spell, and nothing else.
-use Rattle.std.proofs.Common.{◌≡◌, ℕ, zero, suc, ◌+◌, ◌^◌, ◌<◌, ◌≤◌, Bool, true, false, true≢false, List, [], ◌∷◌, ◌++◌, length, drop, Result, Ok, Err, refl, sym, ap, subst, ◌∙◌, arith}
+use Rattle.std.proofs.Common.{◌≡◌, ℕ, ◌+◌, ◌^◌, ◌<◌, ◌≤◌, Bool, true, false, true≢false, List, [], ◌∷◌, ◌++◌, length, drop, Result, Ok, refl, sym, ap, subst, ◌∙◌, arith}
 use Rattle.std.specs.Prelude.{sum, codes, All}
 use Rattle.std.specs.List.{flat_map, AllByRecursion}
 use Rattle.std.specs.Int.{w8, w16}
@@ -18,7 +18,7 @@ use Rattle.som_image_fields.proofs.Parts.{Stands-join, bind_ok, took, went}
 use Rattle.som_image_classes.specs.ReadClasses.{head_at}
 use Rattle.som_image_classes.specs.SpelledClasses.{head}
 use Rattle.som_image_classes.proofs.ClassFields.{beginning, IsVersion, head_field}
-use Rattle.som_cliimage.specs.Forms.{IsAsked, HasForm}
+use Rattle.som_cliimage.specs.Forms.{IsAsked}
 use Rattle.som_cliimage.specs.Limits.{IsWithinLimits}
 use Rattle.som_cliimage.specs.Programs.{SpellsProgram, client_from}
 use Rattle.som_cliimage.proofs.Decoded.{ProgramHasForm, spelled_within, from_one, from_again}

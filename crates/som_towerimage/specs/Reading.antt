@@ -1,5 +1,5 @@
 -- How a tower image is read from left to right: each field at its place, and the first fault.
-use Rattle.std.specs.Prelude.{◌≡◌, ℕ, ◌==◌, ◌&&◌, nat_le, Bool, true, false, if◌then◌else◌, List, sum, codes, Option, Some, None, Result, Ok, Err}
+use Rattle.std.specs.Prelude.{ℕ, ◌==◌, ◌&&◌, nat_le, Bool, true, false, if◌then◌else◌, List, sum, codes, Option, Some, None, Result, Ok, Err}
 use Rattle.std.specs.Int.{w8, w16}
 use Rattle.som_model.specs.Steps.{◌>>=◌}
 use Rattle.som_image_fields.specs.declared.fault.ImageFault.{ImageFault}

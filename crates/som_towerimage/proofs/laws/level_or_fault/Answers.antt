@@ -1,8 +1,3 @@
-use Rattle.som_model.specs.Bytes.{AreBytes}
-use Rattle.std.proofs.Common.{◌≡◌, ℕ, List, Ok}
-use Rattle.som_towerimage.specs.declared.level.Level.{Level}
-use Rattle.som_towerimage.specs.Reading.{level_at}
-use Rattle.som_towerimage.specs.Spelling.{SpellsLevel}
 use Rattle.som_towerimage.proofs.LevelFields.{level_takes, level_again}
 use Rattle.som_towerimage.proofs.Decoded.{fault_spells_none}
 use Rattle.som_towerimage.proofs.laws.level_or_fault.Goals as goal
