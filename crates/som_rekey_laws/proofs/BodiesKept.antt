@@ -35,7 +35,7 @@ pub some_there : {A B : Type 0} (g : A → B) (o : Option A) → is_some (option
 some_there g None = refl
 some_there g (Some x) = refl
 
-flat_kept : {A B C D : Type 0} (old : A → List C) (new : B → List D) (g : A → B) (h : C → D) (xs : List A) → ((x : A) → Mem x xs → new (g x) ≡ map h (old x)) → flat_map new (map g xs) ≡ map h (flat_map old xs)
+pub flat_kept : {A B C D : Type 0} (old : A → List C) (new : B → List D) (g : A → B) (h : C → D) (xs : List A) → ((x : A) → Mem x xs → new (g x) ≡ map h (old x)) → flat_map new (map g xs) ≡ map h (flat_map old xs)
 flat_kept old new g h [] e = refl
 flat_kept old new g h (x ∷ xs) e =
     ap (λ l. l ++ flat_map new (map g xs)) (e x (inl refl))
@@ -135,7 +135,7 @@ module _ (f : ModuleChange) (names : Names) (kk : KeepsKernel f names) where
   pub kernel_stays : (name : List ℕ) → names modules.Kernel name ≡ true → rekey f (kernel_key name) ≡ kernel_key name
   kernel_stays name n = rekey_named f modules.Kernel name ∙ ap (λ m. keys.Named m name) (kk.stays name n)
 
-  kernel_is_named : (name : List ℕ) → names modules.Kernel name ≡ true → is_named names (kernel_key name) ≡ true
+  pub kernel_is_named : (name : List ℕ) → names modules.Kernel name ≡ true → is_named names (kernel_key name) ≡ true
   kernel_is_named name n = is_named_at names modules.Kernel name ∙ n
 
   pub object_stays : rekey f som_object ≡ som_object
@@ -177,7 +177,7 @@ module _ (f : ModuleChange) (names : Names) (kk : KeepsKernel f names) where
     abbrev later_classes : List Class
     later_classes = rekey_classes f cs
 
-    above_named : (c : ClassKey) → is_named names c ≡ true → (k : ClassKey) → Mem k (ancestors cs c) → is_named names k ≡ true
+    pub above_named : (c : ClassKey) → is_named names c ≡ true → (k : ClassKey) → Mem k (ancestors cs c) → is_named names k ≡ true
     above_named c n k m = known_ancestors (hierarchy cs) (hierarchy later_classes) (rekey f) (is_named names) (hierarchy_kept f names cs is are) c n k m
 
     abbrev methods_of : List Class → ClassKey → List MethodRef

@@ -1,10 +1,10 @@
-mod Lists
-mod Renaming
-mod KeysApart
-mod Places
-mod OwnersKept
-mod BodiesKept
-mod MetasKept
-mod FactsKept
-mod KernelKept
-mod OrderedNames
+pub mod Lists
+pub mod Renaming
+pub mod KeysApart
+pub mod Places
+pub mod OwnersKept
+pub mod BodiesKept
+pub mod MetasKept
+pub mod FactsKept
+pub mod KernelKept
+pub mod OrderedNames

@@ -54,7 +54,7 @@ abbrev metaclass_of : Option Class → List ClassKey
 metaclass_of None = []
 metaclass_of (Some c) = option_list c.decl.face.metaclass
 
-option_kept : {A B : Type 0} (g : A → B) (o : Option A) → option_list (option_map g o) ≡ map g (option_list o)
+pub option_kept : {A B : Type 0} (g : A → B) (o : Option A) → option_list (option_map g o) ≡ map g (option_list o)
 option_kept g None = refl
 option_kept g (Some x) = refl
 
@@ -62,7 +62,7 @@ metaclass_kept : (f : ModuleChange) (o : Option Class) → metaclass_of (option_
 metaclass_kept f None = refl
 metaclass_kept f (Some c) = option_kept (rekey f) c.decl.face.metaclass
 
-option_mem : {A : Type 0} (a : A) (o : Option A) → Mem a (option_list o) → o ≡ Some a
+pub option_mem : {A : Type 0} (a : A) (o : Option A) → Mem a (option_list o) → o ≡ Some a
 option_mem a None m = absurd m
 option_mem a (Some x) (inl e) = ap Some (sym e)
 option_mem a (Some x) (inr m) = absurd m

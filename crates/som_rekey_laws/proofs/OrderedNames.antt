@@ -21,7 +21,7 @@ module _ (cs : List Class) (o : IsOrdered cs) where
   abbrev all : List Class
   all = kernel ++ cs
 
-  class_named : (k : ClassKey) (c : Class) → class_at all k ≡ Some c → is_named (names_of all) k ≡ true
+  pub class_named : (k : ClassKey) (c : Class) → class_at all k ≡ Some c → is_named (names_of all) k ≡ true
   class_named k c e =
       let r = found_is cs o k c e in
       let n = keyed cs o c r.0 in

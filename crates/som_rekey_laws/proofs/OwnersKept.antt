@@ -19,7 +19,7 @@ use Rattle.som_rekey_laws.proofs.Lists.{find_map}
 use Rattle.som_rekey_laws.proofs.Renaming.{names_alike}
 use Rattle.som_rekey_laws.proofs.Places.{found_mem, class_kept, hierarchy_kept}
 
-name_kept : (f : ModuleChange) (e : Entry) → entry_name (rekey_entry f e) ≡ entry_name e
+pub name_kept : (f : ModuleChange) (e : Entry) → entry_name (rekey_entry f e) ≡ entry_name e
 name_kept f (entries.Introduced name sig way) = refl
 name_kept f (entries.Moved name to) = refl
 
@@ -49,7 +49,7 @@ there_kept : (f : ModuleChange) (o : Option Sig) → is_some (option_map (rekey_
 there_kept f None = refl
 there_kept f (Some s) = refl
 
-list_introduced : (f : ModuleChange) (es : List Entry) → introduced (map (rekey_entry f) es) ≡ introduced es
+pub list_introduced : (f : ModuleChange) (es : List Entry) → introduced (map (rekey_entry f) es) ≡ introduced es
 list_introduced f [] = refl
 list_introduced f (entries.Introduced name sig way ∷ es) = ap (λ l. name ∷ l) (list_introduced f es)
 list_introduced f (entries.Moved name to ∷ es) = list_introduced f es

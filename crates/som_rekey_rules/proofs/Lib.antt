@@ -1,0 +1,13 @@
+pub mod Stepping
+pub mod TypesRekeyed
+pub mod ExpressionsRekeyed
+pub mod StatementsRekeyed
+pub mod ClassesNamed
+pub mod ClassesTyped
+pub mod KernelNamed
+pub mod RulesRekeyed
+pub mod ConformingRekeyed
+pub mod FacesRekeyed
+pub mod CountsRekeyed
+pub mod LoadedNames
+pub mod LoadsRekeyed
