@@ -1,3 +1,4 @@
+pub mod AskedNumbers
 pub mod ProgramFields
 pub mod NamedPrograms
 pub mod Naming

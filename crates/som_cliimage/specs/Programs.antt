@@ -4,9 +4,10 @@ use Rattle.som_model.specs.declared.program.ClientProgram.{ClientProgram}
 use Rattle.som_model.specs.Steps.{◌>>=◌}
 use Rattle.som_image_fields.specs.declared.fault.ImageFault.{ImageFault}
 use Rattle.som_image_classes.specs.Interfaces.{NamesDiffer}
-use Rattle.som_cliimage.specs.Reading.{wire_at}
+use Rattle.som_cliimage.specs.Reading.{image_at, wire_at}
 use Rattle.som_cliimage.specs.Naming.{program_named}
 use Rattle.som_cliimage.specs.Spelling.{FitsProgram, client}
+use Rattle.som_cliimage.specs.declared.form.ClientForm.{ClientForm}
 use Rattle.som_cliimage.specs.declared.wire.WireProgram.{WireProgram}
 
 -- no two of the classes that a client was compiled against have one name, no two of its own, and no two entries of a class
@@ -24,3 +25,7 @@ pub record SpellsProgram (p : ClientProgram) (bytes : List ℕ) : Type 0 where
 -- what the bytes are read as, with names in the place of numbers
 abbrev pub client_at : List ℕ → Result ClientProgram ImageFault
 client_at bytes = wire_at bytes >>= λ w. Ok (program_named w)
+
+-- and what they are read as from a place on, with the numbers that a form asks for
+abbrev pub client_from : ClientForm → List ℕ → ℕ → Result ClientProgram ImageFault
+client_from form bytes place = image_at form bytes place >>= λ w. Ok (program_named w)

@@ -1,12 +1,14 @@
 //! The decoder and the encoder of client images, between bytes and a program with names.
 
-ghost use Rattle.som_cliimage.specs.Programs.{ProgramNamesDiffer, SpellsProgram, client_at};
+ghost use Rattle.som_cliimage.specs.Forms.{HasForm};
+ghost use Rattle.som_cliimage.specs.Programs.{ProgramNamesDiffer, SpellsProgram, client_at, client_from};
 ghost use Rattle.som_cliimage.specs.Limits.{IsWithinLimits};
 ghost use Rattle.som_model.specs.Conforming.{ProgramOk};
 ghost use Rattle.som_model.specs.Images.{client_image};
 ghost use Rattle.som_image_fields.specs.Fields.{Gives};
-ghost use Rattle.std.specs.Prelude.{◌≡◌, Some, Ok, IfOk};
+ghost use Rattle.std.specs.Prelude.{◌≡◌, ◌≤◌, drop, length, Some, Ok, IfOk};
 
+use crate::form::{ANY_FORM, ClientForm};
 use crate::named::name_program;
 use crate::numbered::number_program;
 use crate::program::{read_program, write_program};
@@ -14,10 +16,16 @@ use som_image_fields::{EncodeFault, ImageFault};
 use som_model::{ClientProgram, List};
 use std::alloc::Global;
 
-fn read_and_name(alloc: Global, bytes: &List<u8>) -> Result<ClientProgram, ImageFault>
-    ensures { Gives result (client_at bytes.now) }
+fn read_and_name(
+    alloc: Global,
+    bytes: &List<u8>,
+    place: usize,
+    form: &ClientForm,
+) -> Result<ClientProgram, ImageFault>
+    requires { place ≤ length bytes.now }
+    ensures { Gives result (client_from form.now bytes.now place) }
 {
-    let wire = read_program(alloc, bytes)?;
+    let wire = read_program(alloc, bytes, place, form)?;
     Ok(name_program(alloc, &wire)?)
 }
 
@@ -32,7 +40,27 @@ pub fn decode(alloc: Global, bytes: &List<u8>) -> Result<ClientProgram, ImageFau
     ensures exact { Gives result (client_at bytes.now) }
 {
     let _all = bytes.as_bytes();
-    read_and_name(alloc, bytes)
+    read_and_name(alloc, bytes, 0, &ANY_FORM)
+}
+
+/// Reads the client image that stands in bytes from a place to their end, as `decode` reads one that begins at the first byte.
+/// The places of faults count from the first byte too. A number other than the one that the form asks for is refused where it
+/// stands.
+pub fn decode_from(
+    alloc: Global,
+    bytes: &List<u8>,
+    place: usize,
+    form: &ClientForm,
+) -> Result<ClientProgram, ImageFault>
+    requires { place ≤ length bytes.now }
+    ensures spelled { IfOk result (λ p. SpellsProgram p (drop place bytes.now) ×
+        HasForm form.now (length p.base.classes) (length p.main.statements)) }
+    ensures only_spelled { (p : _) → SpellsProgram p (drop place bytes.now) →
+        HasForm form.now (length p.base.classes) (length p.main.statements) → Gives result (Ok p) }
+    ensures exact { Gives result (client_from form.now bytes.now place) }
+{
+    let _all = bytes.as_bytes();
+    read_and_name(alloc, bytes, place, form)
 }
 
 /// Writes the client image of a program. `decode` reads it back: it answers the program, unless memory runs out.

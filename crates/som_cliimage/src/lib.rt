@@ -9,13 +9,15 @@
 
 mod client;
 mod directory;
+mod form;
 mod laws;
 mod named;
 mod numbered;
 mod program;
 mod wire;
 
-pub use client::{decode, encode};
+pub use client::{decode, decode_from, encode};
+pub use form::ClientForm;
 pub use laws::{
     bytes_spell_one_program, image_exists, images_are_within_limits,
     names_of_a_conforming_program_differ, spelling_is_the_image,

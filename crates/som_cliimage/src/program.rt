@@ -1,11 +1,12 @@
 //! Decodes and encodes the sections of a client image: head, base, own classes, selects and main.
 
-ghost use Rattle.som_cliimage.specs.Reading.{client_ranges, program_at, wire_at};
+ghost use Rattle.som_cliimage.specs.Reading.{client_ranges, image_at, program_at};
 ghost use Rattle.som_cliimage.specs.Spelling.{FitsOwnFaces, FitsProgram, client};
 ghost use Rattle.som_image_classes.specs.SpelledClasses.{FitsFaces};
 ghost use Rattle.som_image_fields.specs.Fields.{Gives};
 ghost use Rattle.std.specs.Prelude.{◌≡◌, ◌≤◌, length, IfOk};
 
+use crate::form::{ClientForm, test_classes, test_statements};
 use crate::wire::WireProgram;
 use som_image_classes::{
     KERNEL_CLASSES, new_image, ranges_of, read_faces, read_faces_after, read_head, read_parts,
@@ -47,17 +48,20 @@ fn read_classes_and_main(
     bytes: &List<u8>,
     place: usize,
     version: u8,
+    form: &ClientForm,
 ) -> Result<Read<WireProgram>, ImageFault>
     requires { place ≤ length bytes.now }
-    ensures exact { Gives result (program_at version bytes.now place) }
+    ensures exact { Gives result (program_at form.now version bytes.now place) }
     ensures next { IfOk result (λ r. r.next ≤ length bytes.now) }
 {
+    test_classes(bytes, place, form.base_classes)?;
     let base = read_faces(alloc, bytes, place)?;
     let before = base.value.len() as u16 + KERNEL_CLASSES;
     let own = read_faces_after(alloc, bytes, base.next, before, MAX_CLIENT_CLASSES)?;
     let ranges = client_ranges(alloc, &base.value, &own.value)?;
     let parts = read_parts(alloc, bytes, own.next, &ranges, &own.value)?;
     let selects = read_section(alloc, bytes, parts.next, version, &ranges, before)?;
+    test_statements(bytes, selects.next, form.statements)?;
     let main = read_block(alloc, bytes, selects.next, &ranges, 1)?;
     Ok(Read {
         value: WireProgram {
@@ -71,12 +75,18 @@ fn read_classes_and_main(
     })
 }
 
-#[tactic(auto, unfolding(crate::specs::Reading::wire_at))]
-fn read_to_the_end(alloc: Global, bytes: &List<u8>) -> Result<WireProgram, ImageFault>
-    ensures { Gives result (wire_at bytes.now) }
+#[tactic(auto, unfolding(crate::specs::Reading::image_at))]
+fn read_to_the_end(
+    alloc: Global,
+    bytes: &List<u8>,
+    place: usize,
+    form: &ClientForm,
+) -> Result<WireProgram, ImageFault>
+    requires { place ≤ length bytes.now }
+    ensures { Gives result (image_at form.now bytes.now place) }
 {
-    let version = read_head(bytes, 0, MAGIC, NEWEST_VERSION)?;
-    let program = read_classes_and_main(alloc, bytes, version.next, version.value)?;
+    let version = read_head(bytes, place, MAGIC, NEWEST_VERSION)?;
+    let program = read_classes_and_main(alloc, bytes, version.next, version.value, form)?;
     if program.next < bytes.len() {
         return Err(ImageFault::Trailing {
             offset: program.next,
@@ -85,13 +95,19 @@ fn read_to_the_end(alloc: Global, bytes: &List<u8>) -> Result<WireProgram, Image
     Ok(program.value)
 }
 
-/// Reads a whole client image, as it has it.
-pub(crate) fn read_program(alloc: Global, bytes: &List<u8>) -> Result<WireProgram, ImageFault>
-    ensures exact { Gives result (wire_at bytes.now) }
+/// Reads the client image that stands in bytes from a place to their end, as it has it.
+pub(crate) fn read_program(
+    alloc: Global,
+    bytes: &List<u8>,
+    place: usize,
+    form: &ClientForm,
+) -> Result<WireProgram, ImageFault>
+    requires { place ≤ length bytes.now }
+    ensures exact { Gives result (image_at form.now bytes.now place) }
     ensures fits { IfOk result (λ wire. FitsProgram wire) }
 {
     let _all = bytes.as_bytes();
-    read_to_the_end(alloc, bytes)
+    read_to_the_end(alloc, bytes, place, form)
 }
 
 /// The client image of a program with numbers.

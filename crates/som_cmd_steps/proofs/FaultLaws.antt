@@ -17,7 +17,8 @@ use Rattle.som_wire.specs.Reading.{block_at, part_at, selects_at}
 use Rattle.som_image_classes.specs.ReadClasses.{each_at, faces_after_at, faces_at, parts_at, magic_at, head_at, section_at, ranges_of, introduced_count}
 use Rattle.som_libimage.specs.Reading.{classes_at, wire_at}
 use Rattle.som_libimage.specs.Libraries.{library_at}
-use Rattle.som_cliimage.specs.Reading.{client_ranges, own_faces_at, program_at, wire_at as client_wire_at}
+use Rattle.som_cliimage.specs.Forms.{any_form}
+use Rattle.som_cliimage.specs.Reading.{client_ranges, own_faces_at, program_at, image_at, wire_at as client_wire_at}
 use Rattle.som_cliimage.specs.Programs.{client_at}
 use Rattle.som_image_fields.specs.declared.fault.ImageFault.TheVariants as faults
 use Rattle.som_cmd_steps.proofs.FieldFaults.{Reads, then_reads, either_reads, number_reads, many_reads, face_reads}
@@ -72,7 +73,7 @@ no_want bytes e = let P : Result Release ImageFault → Type 0 = λ r. Reads r i
 
 -- ---- client images
 
-program_reads : (version : ℕ) (bytes : List ℕ) (place : ℕ) → Reads (program_at version bytes place)
+program_reads : (version : ℕ) (bytes : List ℕ) (place : ℕ) → Reads (program_at any_form version bytes place)
 unfolding program_at
 program_reads version bytes place = then_reads (faces_at bytes place) _ (faces_reads bytes place) (λ base.
     then_reads (own_faces_at base.value bytes base.next) _ (faces_after_read (length base.value + 4) MAX_CLIENT_CLASSES bytes base.next) (λ own.
@@ -81,8 +82,8 @@ program_reads version bytes place = then_reads (faces_at bytes place) _ (faces_r
     then_reads (block_at (levels_left 1) (client_ranges base.value own.value) bytes selects.next) _ (block_reads (levels_left 1) (client_ranges base.value own.value) bytes selects.next) (λ main. tt)))))
 
 client_wire_reads : (bytes : List ℕ) → Reads (client_wire_at bytes)
-unfolding client_wire_at
-client_wire_reads bytes = then_reads (head_at (codes "SOMC") 2 bytes 0) _ (head_reads (codes "SOMC") 2 bytes 0) (λ version. then_reads (program_at version.value bytes version.next) _ (program_reads version.value bytes version.next) (λ program. either_reads (nat_lt program.next (length bytes)) _ _ tt tt))
+unfolding image_at
+client_wire_reads bytes = then_reads (head_at (codes "SOMC") 2 bytes 0) _ (head_reads (codes "SOMC") 2 bytes 0) (λ version. then_reads (program_at any_form version.value bytes version.next) _ (program_reads version.value bytes version.next) (λ program. either_reads (nat_lt program.next (length bytes)) _ _ tt tt))
 
 client_reads : (bytes : List ℕ) → Reads (client_at bytes)
 client_reads bytes = then_reads (client_wire_at bytes) _ (client_wire_reads bytes) (λ w. tt)

@@ -27,6 +27,7 @@ use Rattle.som_libimage.proofs.Decoded as library_laws
 use Rattle.som_cliimage.specs.declared.wire.WireProgram.{WireProgram}
 use Rattle.som_cliimage.specs.Naming.{program_named}
 use Rattle.som_cliimage.specs.Programs.{SpellsProgram, client_at}
+use Rattle.som_cliimage.specs.Forms.{any_form}
 use Rattle.som_cliimage.specs.Reading.{client_ranges, own_faces_at, program_at}
 use Rattle.som_cliimage.specs.Reading as client
 use Rattle.som_cliimage.proofs.Decoded as client_laws
@@ -109,7 +110,7 @@ selects_behind version base own ps place bytes = section_at version (client_rang
 abbrev parts_behind : ℕ → List WireFace → List WireFace → ℕ → List ℕ → Result (Read WireProgram) ImageFault
 parts_behind version base own place bytes = parts_at (client_ranges base own) own bytes place >>= λ ps. selects_behind version base own ps.value ps.next bytes
 
-program_field : (version : ℕ) → IsLocalField (program_at version)
+program_field : (version : ℕ) → IsLocalField (program_at any_form version)
 unfolding program_at
 program_field version from place le =
     after_field faces_at (λ base bytes. own_faces_at base.value bytes base.next >>= λ own. parts_behind version base.value own.value own.next bytes) from place (faces_field 4 MAX_LIBRARY_CLASSES) le (λ base p1.
@@ -124,18 +125,18 @@ program_field version from place le =
     (omega (arith, l3, p4))))))
 
 abbrev client_read : List ℕ → Result (Read WireProgram) ImageFault
-client_read bytes = head_at (codes "SOMC") 2 bytes 0 >>= λ version. program_at version.value bytes version.next
+client_read bytes = head_at (codes "SOMC") 2 bytes 0 >>= λ version. program_at any_form version.value bytes version.next
 
 client_local : IsLocal client_read 0 0
 client_local =
-    bind_local (λ bytes. head_at (codes "SOMC") 2 bytes 0) (λ version bytes. program_at version.value bytes version.next) 0 0 (head_local (codes "SOMC") four_some four_few 2)
+    bind_local (λ bytes. head_at (codes "SOMC") 2 bytes 0) (λ version bytes. program_at any_form version.value bytes version.next) 0 0 (head_local (codes "SOMC") four_some four_few 2)
     (λ version bytes past is. program_field version.value 0 version.next (omega arith))
 
 client_is : (bytes : List ℕ) → client_at bytes ≡ told client_read client_local program_named bytes
-unfolding client.wire_at
+unfolding client.image_at
 client_is bytes =
     ap (λ (z : Result WireProgram ImageFault). z >>= λ w. Ok (program_named w))
-    (steps (head_at (codes "SOMC") 2 bytes 0) (λ version. program_at version.value bytes version.next) (at_end bytes))
+    (steps (head_at (codes "SOMC") 2 bytes 0) (λ version. program_at any_form version.value bytes version.next) (at_end bytes))
 
 pub client_stops : (bytes : List ℕ) (f : ImageFault) (p : ℕ) → client_at bytes ≡ Err f → field_of f ≡ Some p → StopsAt client_at SpellsProgram f bytes p
 client_stops bytes f p e at =

@@ -10,3 +10,4 @@ is_kind name =
     || bytes_eq name (codes "idl")
     || bytes_eq name (codes "bodies")
     || bytes_eq name (codes "main")
+    || bytes_eq name (codes "tower")

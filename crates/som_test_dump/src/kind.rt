@@ -6,7 +6,7 @@ ghost use Rattle.std.specs.Str.{bytes_eq};
 
 /// What is shown of a text.
 #[derive(Clone, Copy)]
-pub(crate) enum Kind {
+pub(crate) enum TextKind {
     /// The kinds and places of its tokens.
     Tokens,
     /// The bytes of its tokens.
@@ -17,6 +17,14 @@ pub(crate) enum Kind {
     Bodies,
     /// Its tree as a main.
     Main,
+}
+
+/// What is shown.
+#[derive(Clone, Copy)]
+pub(crate) enum Kind {
+    Text(TextKind),
+    /// What bytes hold as a tower image.
+    Tower,
 }
 
 fn is(name: &[u8], kind: &[u8]) -> bool
@@ -31,15 +39,17 @@ impl Kind {
         ensures { is_some result ≡ is_kind name.now }
     {
         if is(name, b"tokens") {
-            Some(Kind::Tokens)
+            Some(Kind::Text(TextKind::Tokens))
         } else if is(name, b"texts") {
-            Some(Kind::Texts)
+            Some(Kind::Text(TextKind::Texts))
         } else if is(name, b"idl") {
-            Some(Kind::Idl)
+            Some(Kind::Text(TextKind::Idl))
         } else if is(name, b"bodies") {
-            Some(Kind::Bodies)
+            Some(Kind::Text(TextKind::Bodies))
         } else if is(name, b"main") {
-            Some(Kind::Main)
+            Some(Kind::Text(TextKind::Main))
+        } else if is(name, b"tower") {
+            Some(Kind::Tower)
         } else {
             None
         }

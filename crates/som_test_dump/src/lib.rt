@@ -1,4 +1,4 @@
-//! Tokens and trees of texts as lines of text, for tables of cases. `README.md` says how each is written.
+//! Tokens and trees of texts, and tower images, as lines of text, for tables of cases. `README.md` says how each is written.
 #![tactic(auto)]
 
 mod expressions;
@@ -8,6 +8,7 @@ mod lines;
 mod show;
 mod statements;
 mod tokens;
+mod tower;
 mod words;
 
 pub use show::shown;

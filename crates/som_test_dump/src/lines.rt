@@ -1,6 +1,6 @@
 //! Lines that are written from left to right.
 
-use som_model::{List, NoMemory};
+use som_model::{List, NoMemory, Text};
 use std::alloc::Global;
 
 /// So many bytes of a text are shown; of a longer one only their number is.
@@ -37,6 +37,11 @@ impl Lines {
     /// Ends the line.
     pub(crate) fn end(&mut self) -> Result<(), NoMemory> {
         Ok(self.bytes.push(b'\n')?)
+    }
+
+    /// Adds a line that has its end.
+    pub(crate) fn add_line(&mut self, line: &Text) -> Result<(), NoMemory> {
+        Ok(self.bytes.extend_from_slice(line.as_slice())?)
     }
 
     /// Adds bytes as they are, but for those that can't be printed.

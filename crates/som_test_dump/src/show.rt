@@ -4,7 +4,7 @@ ghost use Rattle.som_lex.specs.Spans.{AreTokens, IsSpelled};
 ghost use Rattle.som_test_dump.specs.Kinds.{is_kind};
 ghost use Rattle.std.specs.Prelude.{◌≡◌, All, IfOk, is_some};
 
-use crate::kind::Kind;
+use crate::kind::{Kind, TextKind};
 use crate::lines::Lines;
 use som_body::{parse_bodies, parse_main};
 use som_idl::parse_idl;
@@ -14,7 +14,7 @@ use som_parse::SyntaxFault;
 use std::alloc::Global;
 
 impl Lines {
-    fn add_fault(&mut self, name: &str, place: usize) -> Result<(), NoMemory> {
+    pub(crate) fn add_fault(&mut self, name: &str, place: usize) -> Result<(), NoMemory> {
         self.add(name)?;
         self.add_number(place)?;
         self.end()
@@ -44,30 +44,43 @@ impl Lines {
     }
 
     // What is shown of the tokens of a text.
-    fn add_kind(&mut self, alloc: Global, kind: Kind, tokens: &Tokens) -> Result<(), NoMemory>
+    fn add_kind(&mut self, alloc: Global, kind: TextKind, tokens: &Tokens) -> Result<(), NoMemory>
         requires tokens { AreTokens tokens.now }
         requires spelled { All (IsSpelled tokens.now.source) tokens.now.list }
     {
         match kind {
-            Kind::Tokens => self.add_tokens(tokens),
-            Kind::Texts => self.add_texts(tokens),
-            Kind::Idl => match parse_idl(alloc, tokens) {
+            TextKind::Tokens => self.add_tokens(tokens),
+            TextKind::Texts => self.add_texts(tokens),
+            TextKind::Idl => match parse_idl(alloc, tokens) {
                 Ok(file) => self.add_interfaces(&file),
                 Err(fault) => self.add_syntax_fault(fault),
             },
-            Kind::Bodies => match parse_bodies(alloc, tokens) {
+            TextKind::Bodies => match parse_bodies(alloc, tokens) {
                 Ok(file) => self.add_bodies(&file),
                 Err(fault) => self.add_syntax_fault(fault),
             },
-            Kind::Main => match parse_main(alloc, tokens) {
+            TextKind::Main => match parse_main(alloc, tokens) {
                 Ok(file) => self.add_main(&file),
                 Err(fault) => self.add_syntax_fault(fault),
             },
         }
     }
+
+    // What is shown of a text, or the fault of its bytes.
+    fn add_text(
+        &mut self,
+        alloc: Global,
+        kind: TextKind,
+        bytes: &List<u8>,
+    ) -> Result<(), NoMemory> {
+        match lex(alloc, bytes) {
+            Ok(tokens) => self.add_kind(alloc, kind, &tokens),
+            Err(fault) => self.add_lex_fault(fault),
+        }
+    }
 }
 
-/// The lines that show a text's tokens or its tree, each ended by a line feed, or the line of its first fault; and none for a name
+/// The lines that show a text's tokens or its tree, or a tower image, each ended by a line feed, or the line of its first fault; and none for a name
 /// that isn't one of the kinds that `README.md` lists.
 pub fn shown(alloc: Global, kind: &[u8], bytes: &List<u8>) -> Result<Option<List<u8>>, NoMemory>
     ensures { IfOk result (λ lines. is_some lines ≡ is_kind kind.now) }
@@ -76,9 +89,9 @@ pub fn shown(alloc: Global, kind: &[u8], bytes: &List<u8>) -> Result<Option<List
         return Ok(None);
     };
     let mut lines = Lines::new(alloc);
-    match lex(alloc, bytes) {
-        Ok(tokens) => lines.add_kind(alloc, kind, &tokens)?,
-        Err(fault) => lines.add_lex_fault(fault)?,
+    match kind {
+        Kind::Text(kind) => lines.add_text(alloc, kind, bytes)?,
+        Kind::Tower => lines.add_tower(alloc, bytes)?,
     }
     Ok(Some(lines.into_bytes()))
 }

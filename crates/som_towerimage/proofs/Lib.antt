@@ -1,0 +1,4 @@
+pub mod HeadFields
+pub mod LevelFields
+pub mod Decoded
+pub mod Encoded

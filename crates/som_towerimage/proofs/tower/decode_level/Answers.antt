@@ -1,0 +1,20 @@
+use Rattle.som_towerimage.proofs.Decoded.{found, spelled, fits, within, only, only_spelled}
+use Rattle.som_towerimage.proofs.tower.decode_level.Goals as goal
+
+pub returns-clause-found : goal.returns-clause-found
+returns-clause-found c = found c.args.bytes.now c.as_bytes-all.ensures.bytes c.read_level.result c.read_level.ensures
+
+pub returns-clause-spelled : goal.returns-clause-spelled
+returns-clause-spelled c = spelled c.args.bytes.now c.as_bytes-all.ensures.bytes c.read_level.result c.read_level.ensures
+
+pub returns-clause-fits : goal.returns-clause-fits
+returns-clause-fits c = fits c.args.bytes.now c.as_bytes-all.ensures.bytes c.read_level.result c.read_level.ensures
+
+pub returns-clause-within : goal.returns-clause-within
+returns-clause-within c = within c.args.bytes.now c.as_bytes-all.ensures.bytes c.read_level.result c.read_level.ensures
+
+pub returns-clause-only : goal.returns-clause-only
+returns-clause-only c = only c.args.bytes.now c.read_level.result c.read_level.ensures
+
+pub returns-clause-only_spelled : goal.returns-clause-only_spelled
+returns-clause-only_spelled c = only_spelled c.args.bytes.now c.read_level.result c.read_level.ensures
