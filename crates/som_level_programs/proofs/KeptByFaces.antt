@@ -8,7 +8,6 @@ use Rattle.som_model.specs.Ancestors.{Descends}
 use Rattle.som_model.specs.Class.{Class}
 use Rattle.som_model.specs.Classes.{hierarchy}
 use Rattle.som_model.specs.Kernel.{kernel}
-use Rattle.som_model.specs.Loads.{keys_of}
 use Rattle.som_model.specs.Metaclass.{meta}
 use Rattle.som_model.specs.Owner.{entry_at, owner, owner_within}
 use Rattle.som_model_laws.specs.Keeping.{ClassesKeep, IsPair}

@@ -1,7 +1,6 @@
 -- Libraries that conform, each above levels compatible with those that it was compiled against, can be loaded together.
-use Rattle.std.proofs.Common.{◌≡◌, inl, inr, ℕ, zero, suc, ◌≤◌, Bool, true, false, List, [], ◌∷◌, ◌++◌, length, map, append_assoc, refl, sym, ap, ◌∙◌, subst, arith}
+use Rattle.std.proofs.Common.{◌≡◌, ℕ, zero, suc, ◌≤◌, true, false, List, [], ◌∷◌, ◌++◌, length, map, append_assoc, refl, sym, ap, ◌∙◌, subst, arith}
 use Rattle.std.proofs.lemmas.List.{append-nil, length-append}
-use Rattle.som_model.specs.declared.key.Module.{Module}
 use Rattle.som_model.specs.declared.key.Module.TheVariants as modules
 use Rattle.som_model.specs.declared.limits.TheConstants.{MAX_LAID_CLASSES}
 use Rattle.som_model.specs.declared.class.ClassFace.{ClassFace}
@@ -15,7 +14,7 @@ use Rattle.som_model.specs.Conforming.{ReleaseOk}
 use Rattle.som_model.specs.Counts.{ClassCounted, block_counted}
 use Rattle.som_model.specs.Loads.{Loads}
 use Rattle.som_model_laws.proofs.Lists.{mem_map}
-use Rattle.som_release_laws.specs.Releasing.{AreKept, AreLoadable, HaveOtherKeys, HaveParents, IsCompiled, IsTower, Level, stacked}
+use Rattle.som_release_laws.specs.Releasing.{AreKept, AreLoadable, HaveOtherKeys, HaveParents, IsCompiled, IsTower, stacked}
 use Rattle.som_release_laws.proofs.Along.{tower_loadable}
 use Rattle.som_release_laws.proofs.Clients.{loaded}
 use Rattle.som_release_laws.proofs.Loading.{released_loadable}
@@ -23,10 +22,10 @@ use Rattle.som_release_laws.proofs.Ruled.{released}
 use Rattle.som_rekey_laws.specs.Rekeying.{rekey_decl, rekey_face}
 use Rattle.som_rekey_laws.proofs.Lists.{map_append, map_twice}
 use Rattle.som_verify_classes.proofs.FacesOnly.{face_only}
-use Rattle.som_level_laws.specs.Levels.{classes_of_level, level_classes, level_module, levels_from}
+use Rattle.som_level_laws.specs.Levels.{classes_of_level, level_classes, level_module}
 use Rattle.som_level_laws.proofs.Levels.{levels_joined}
-use Rattle.som_level_programs.specs.ByLevels.{level_change, own_module, own_by_level}
-use Rattle.som_level_programs.specs.Stacked.{LevelProgram, by_level, own_interface, StandsOn, AreStacked}
+use Rattle.som_level_programs.specs.ByLevels.{level_change, own_module}
+use Rattle.som_level_programs.specs.Towers.{LevelProgram, by_level, own_interface, StandsOn, AreStacked}
 use Rattle.som_level_programs.proofs.KeptByFaces.{kept_by_faces}
 use Rattle.som_level_programs.proofs.LevelPrograms.{other_keys, program_compiled}
 

@@ -1,2 +1,2 @@
 pub mod ByLevels
-pub mod Stacked
+pub mod Towers

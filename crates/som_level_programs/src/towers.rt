@@ -1,6 +1,6 @@
 //! Which libraries one above the other can be loaded, and which clients above them.
 
-ghost use Rattle.som_level_programs.specs.Stacked.{AreStacked, LevelProgram, StandsOn, by_level, own_interface};
+ghost use Rattle.som_level_programs.specs.Towers.{AreStacked, LevelProgram, StandsOn, by_level, own_interface};
 ghost use Rattle.som_model.specs.Class.{Class, interface_of};
 ghost use Rattle.som_model.specs.Classes.{library_classes};
 ghost use Rattle.som_model.specs.Conforming.{ReleaseOk};
