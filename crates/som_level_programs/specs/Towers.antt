@@ -16,7 +16,7 @@ pub record LevelProgram : Type 0 where
   pub client : Bool
   pub program : ClientProgram
 
--- what it is by levels: the faces against which it was compiled, its own classes, and its main
+-- a program by levels: the faces against which it was compiled, its own classes, and its main
 abbrev pub by_level : LevelProgram → Level
 by_level l = record {
   olds = level_classes (levels_below l.sizes l.client l.program.base);
@@ -24,11 +24,11 @@ by_level l = record {
   main = main_by_level l.sizes l.client l.program;
 }
 
--- the interface of its own classes, which names classes by levels
+-- the interface of a program's own classes, which names classes by levels
 abbrev pub own_interface : LevelProgram → Interface
 own_interface l = record { classes = map (λ (d : ClassDecl). rekey_face (level_change l.sizes l.client l.program.base) d.face) l.program.classes }
 
--- it conforms, and stands above as many levels as it has sizes, of these interfaces, which are compatible with those that it was compiled against
+-- a program conforms, and stands above as many levels as it has sizes, of these interfaces, which are compatible with those that it was compiled against
 pub record StandsOn (is : List Interface) (l : LevelProgram) : Type 0 where
   pub conforms : ProgramOk l.program
   pub parents : HaveParents (interface_classes l.program.base ++ client_classes l.program)
