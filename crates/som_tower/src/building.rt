@@ -1,19 +1,21 @@
 //! A tower built level by level: each is compared with those below it, and its classes are added.
 
+ghost use Rattle.som_class_ids.specs.Classes.{classes_of};
+ghost use Rattle.som_compat_levels.specs.Conditions.{AreComparable};
 ghost use Rattle.som_compat_levels.specs.Told.{TellsLevels};
 ghost use Rattle.som_level_laws.specs.Levels.{first_level_break};
-ghost use Rattle.som_level_programs.specs.ByLevels.{level_change, levels_below as levels_of};
+ghost use Rattle.som_level_programs.specs.ByLevels.{levels_below as levels_of, own_by_level};
 ghost use Rattle.som_level_programs.specs.Towers.{own_interface as interface_by_level};
-ghost use Rattle.som_rekey_laws.specs.Rekeying.{rekey_face as new_face};
 ghost use Rattle.som_tower.specs.Standing.{AreBuilt};
-ghost use Rattle.som_tower.specs.Towers.{IsSound, IsTowerOf, IsUpper, TellsTower, interfaces_of, plain, programs_above, tower_break};
-ghost use Rattle.std.specs.Prelude.{◌≡◌, ◌+◌, ◌≤◌, ◌++◌, ◌∷◌, [], IfOk, OnOk, drop, length, map, take};
+ghost use Rattle.som_levels.specs.Flat.{IsFlat};
+ghost use Rattle.som_tower.specs.Towers.{plain};
+ghost use Rattle.std.specs.Prelude.{◌≡◌, ◌++◌, ◌∷◌, [], IfOk, OnOk};
 
 use crate::library::keyed_library;
 use som_class_ids::Keyed;
 use som_compat_levels::{LevelFault, compatible_levels};
 use som_levels::{LevelModules, levels_below, note_own};
-use som_model::{ClassFace, Interface, List, NoMemory, Release};
+use som_model::{Interface, List, NoMemory, Release};
 use som_rekey::rekey_face;
 use som_towerimage::Level;
 use std::alloc::Global;
@@ -86,5 +88,19 @@ fn add_level(
     built
         .interfaces
         .push(own_interface(alloc, modules, level)?)?;
+    Ok(())
+}
+
+/// A level stands above those that were built so far, if these keep what it was compiled against; else what they break first is answered.
+pub(crate) fn stand(alloc: Global, level: &Level, built: &mut Built) -> Result<(), LevelFault>
+    requires flat { IsFlat level.now.sizes level.now.program.base }
+    requires comparable { AreComparable (levels_of level.now.sizes level.now.client level.now.program.base) built.old.interfaces }
+    ensures tells { TellsLevels (first_level_break (levels_of level.now.sizes level.now.client level.now.program.base) built.old.interfaces) result }
+    ensures interfaces { OnOk result (built.new.interfaces ≡ built.old.interfaces ++ interface_by_level (plain level.now) ∷ []) }
+    ensures classes { OnOk result (classes_of built.new.classes ≡ classes_of built.old.classes ++ own_by_level level.now.sizes level.now.client level.now.program) }
+{
+    let modules = LevelModules::new(alloc, &level.sizes, level.client, &level.program.base)?;
+    compare(alloc, &modules, &built.interfaces)?;
+    add_level(alloc, &modules, level, built)?;
     Ok(())
 }
