@@ -1,5 +1,5 @@
 -- A library, levels of libraries above it, and a client on top: what is asked of them, what they break first, and their classes.
-use Rattle.std.specs.Prelude.{◌≡◌, ◌≤◌, ◌+◌, ◌×◌, ℕ, Bool, true, false, List, [], ◌∷◌, ◌++◌, length, map, slice_get, Option, Some, None, Result, Ok, Err}
+use Rattle.std.specs.Prelude.{◌≡◌, ◌≤◌, ◌+◌, ℕ, true, false, List, [], ◌∷◌, ◌++◌, length, map, slice_get, Option, Some, None, Result, Ok, Err}
 use Rattle.som_model.specs.declared.program.Interface.{Interface}
 use Rattle.som_model.specs.declared.program.Release.{Release}
 use Rattle.som_model.specs.Class.{Class, interface_of}
@@ -34,15 +34,19 @@ pub record IsUpper (below : ℕ) (l : Level) : Type 0 where
   pub levels : length l.sizes ≡ below
   pub library : l.client ≡ false
 
--- a library that conforms and that an image has room for, libraries above it, each above one level more, and a client above all, with at most eight levels below it
-pub record IsTowerOf (base : Release) (uppers : List Level) (client : Level) : Type 0 where
+-- a library that conforms and that an image has room for, and libraries above it, each above one level more; eight levels at most
+pub record AreLibraries (base : Release) (uppers : List Level) : Type 0 where
   pub base_ok : ReleaseOk base
   pub base_counted : ReleaseCounted base
   pub each : (i : ℕ) (l : Level) → slice_get uppers i ≡ Some l → IsUpper (i + 1) l
-  pub top : IsSound client
+  pub few : length uppers + 1 ≤ 8
+
+-- a client above all of these
+pub record IsTowerOf (base : Release) (uppers : List Level) (client : Level) : Type 0 where
+  pub libraries : AreLibraries base uppers
+  pub sound : IsSound client
   pub is_client : client.client ≡ true
   pub levels : length client.sizes ≡ length uppers + 1
-  pub few : length uppers + 1 ≤ 8
 
 -- what the levels below, from the lowest up, don't keep first of what the programs above them were compiled against: each is compared with those below it, the lowest first
 abbrev pub tower_break : List Interface → List LevelProgram → Option (ℕ × CompatBreach)
