@@ -3,7 +3,7 @@
 ghost use Rattle.som_class_ids.specs.Classes.{classes_of};
 ghost use Rattle.som_compat_levels.specs.Conditions.{AreComparable};
 ghost use Rattle.som_compat_levels.specs.Told.{TellsLevels};
-ghost use Rattle.som_level_laws.specs.Levels.{first_level_break};
+ghost use Rattle.som_level_laws.specs.Levels.{CompatibleLevels, first_level_break};
 ghost use Rattle.som_level_programs.specs.ByLevels.{levels_below as levels_of, own_by_level};
 ghost use Rattle.som_level_programs.specs.Towers.{own_interface as interface_by_level};
 ghost use Rattle.som_tower.specs.Standing.{AreBuilt};
@@ -47,7 +47,8 @@ pub(crate) fn compare(
     below: &List<Interface>,
 ) -> Result<(), LevelFault>
     requires { AreComparable (levels_of modules.now.sizes modules.now.client modules.now.base) below.now }
-    ensures { TellsLevels (first_level_break (levels_of modules.now.sizes modules.now.client modules.now.base) below.now) result }
+    ensures tells { TellsLevels (first_level_break (levels_of modules.now.sizes modules.now.client modules.now.base) below.now) result }
+    ensures kept { OnOk result (CompatibleLevels (levels_of modules.now.sizes modules.now.client modules.now.base) below.now) }
 {
     let compiled_against = levels_below(alloc, modules)?;
     compatible_levels(alloc, &compiled_against, below)
@@ -96,6 +97,7 @@ pub(crate) fn stand(alloc: Global, level: &Level, built: &mut Built) -> Result<(
     requires flat { IsFlat level.now.sizes level.now.program.base }
     requires comparable { AreComparable (levels_of level.now.sizes level.now.client level.now.program.base) built.old.interfaces }
     ensures tells { TellsLevels (first_level_break (levels_of level.now.sizes level.now.client level.now.program.base) built.old.interfaces) result }
+    ensures kept { OnOk result (CompatibleLevels (levels_of level.now.sizes level.now.client level.now.program.base) built.old.interfaces) }
     ensures interfaces { OnOk result (built.new.interfaces ≡ built.old.interfaces ++ interface_by_level (plain level.now) ∷ []) }
     ensures classes { OnOk result (classes_of built.new.classes ≡ classes_of built.old.classes ++ own_by_level level.now.sizes level.now.client level.now.program) }
 {
