@@ -82,7 +82,7 @@ module _ (p : ClientProgram) where
     ]
   ]
 
-  names_flat : (m : Module) (name : List ℕ) → names_of (kernel ++ (base ++ own)) m name ≡ true → flat_names m name ≡ true
+  pub names_flat : (m : Module) (name : List ℕ) → names_of (kernel ++ (base ++ own)) m name ≡ true → flat_names m name ≡ true
   names_flat m name e =
       let c = some_class (class_at (kernel ++ (base ++ own)) (keys.Named m name)) e in
       let i = found_mem (λ (z : Class). same_key z.key (keys.Named m name)) (kernel ++ (base ++ own)) c.0 c.1 in

@@ -30,10 +30,10 @@ use Rattle.som_level_programs.proofs.KeptByFaces.{kept_by_faces}
 use Rattle.som_level_programs.proofs.LevelPrograms.{other_keys, program_compiled}
 
 -- classes have these faces by levels
-abbrev HaveFaces : List Class → List Interface → Type 0
+abbrev pub HaveFaces : List Class → List Interface → Type 0
 HaveFaces news is = map face_only news ≡ level_classes is
 
-release_faces : (r : Release) → HaveFaces (library_classes r) (interface_of r ∷ [])
+pub release_faces : (r : Release) → HaveFaces (library_classes r) (interface_of r ∷ [])
 release_faces r =
     map_twice face_only (class_in modules.Library) r.classes
     ∙ sym (map_twice (λ (f : ClassFace). class_in modules.Library (bare f)) (λ (d : ClassDecl). d.face) r.classes)
@@ -85,7 +85,7 @@ tower_of news is (l ∷ ls) faces few st =
       tower_of (news ++ (by_level l).own) (is ++ own_interface l ∷ []) ls (level_faces news is faces l s few st.0.1) (more is (own_interface l)) st.1,
     )
 
-faces_of_all : (news : List Class) (is : List Interface) (ls : List LevelProgram) → HaveFaces news is → 1 ≤ length is → AreStacked is ls → HaveFaces (stacked news (map by_level ls)) (is ++ map own_interface ls)
+pub faces_of_all : (news : List Class) (is : List Interface) (ls : List LevelProgram) → HaveFaces news is → 1 ≤ length is → AreStacked is ls → HaveFaces (stacked news (map by_level ls)) (is ++ map own_interface ls)
 faces_of_all news is [] faces few st = faces ∙ ap level_classes (sym (append-nil is))
 faces_of_all news is (l ∷ ls) faces few st =
     faces_of_all (news ++ (by_level l).own) (is ++ own_interface l ∷ []) ls (level_faces news is faces l st.0.0 few st.0.1) (more is (own_interface l)) st.1
