@@ -4,7 +4,6 @@
 mod ancestors;
 mod breach;
 mod classes;
-mod classes;
 mod entries;
 mod finding;
 mod levels;
