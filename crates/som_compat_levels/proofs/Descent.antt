@@ -1,5 +1,5 @@
 -- Descent by places and marks, and K3.
-use Rattle.std.proofs.Common.{◌≡◌, ◌↔◌, ◌⊎◌, ◌==◌, ℕ, zero, suc, ◌+◌, ◌<◌, ◌≤◌, inl, inr, Bool, true, false, List, [], ◌∷◌, ◌++◌, map, length, replicate, take, Option, Some, None, slice_get, slice_index_or, slice_set, refl, sym, ap, ◌∙◌, subst, arith, true≢false}
+use Rattle.std.proofs.Common.{◌≡◌, ◌↔◌, ◌⊎◌, ◌==◌, ℕ, zero, suc, ◌+◌, ◌<◌, ◌≤◌, inl, inr, Bool, true, false, List, [], ◌∷◌, map, length, replicate, take, Option, Some, None, slice_get, slice_index_or, slice_set, refl, sym, ap, ◌∙◌, subst, arith}
 use Rattle.std.proofs.lemmas.Bool.{cases_lt, eqb-true}
 use Rattle.std.proofs.lemmas.List.{get_or-set_same, get_or-set_other, length-set}
 use Rattle.som_model.specs.declared.key.ClassKey.{ClassKey}
@@ -9,19 +9,18 @@ use Rattle.som_model.specs.Lists.{Mem, first, some}
 use Rattle.som_model.specs.Ancestors.{Descends, itself, by_parent}
 use Rattle.som_model.specs.Class.{Class}
 use Rattle.som_model.specs.Classes.{ancestors, hierarchy, is_a}
-use Rattle.som_model.specs.Compatible.{CompatBreach, declared_name, failing, incompatible, k3, layer_name}
+use Rattle.som_model.specs.Compatible.{CompatBreach, declared_name, incompatible, k3, layer_name}
 use Rattle.som_model.proofs.NamedLaws.{out_named}
 use Rattle.som_model_laws.proofs.Laws.{ancestors as ancestors_are, ancestors_apart}
 use Rattle.som_model_laws.proofs.Members.{Apart, both_or_none, mem_some, not_true, some_mem}
-use Rattle.som_verify_classes.specs.Places.{class_of_place, face_at, key_at}
+use Rattle.som_verify_classes.specs.Places.{key_at}
 use Rattle.som_verify_classes.specs.Walk.{AreLists}
 use Rattle.som_verify_classes.proofs.Descending.{is_a_place}
 use Rattle.som_verify_classes.proofs.PlainLists.{mem_map}
 use Rattle.som_compat.specs.Marks.{Marked, count}
 use Rattle.som_compat.proofs.Marking.{mem_at, take_more, marked_set, none_marked}
 use Rattle.som_compat.proofs.Lost.{counted}
-use Rattle.som_compat_levels.specs.Pairs.{AreAbove, ArePaired, IsPair}
-use Rattle.som_compat_levels.specs.Standing.{AreStanding, classes_of}
+use Rattle.som_compat_levels.specs.Pairs.{AreAbove, IsPair}
 use Rattle.som_compat_levels.proofs.Failing.{first_failing, first_mapped, get_map, map_get, none_failing, nothing_mapped}
 use Rattle.som_compat_levels.proofs.Known.{AreKnown}
 use Rattle.som_compat_levels.proofs.Lists.{less_next}

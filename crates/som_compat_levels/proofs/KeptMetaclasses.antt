@@ -1,5 +1,5 @@
 -- K6 by places and marks.
-use Rattle.std.proofs.Common.{◌≡◌, ◌↔◌, ◌⊎◌, ◌==◌, ◌||◌, ℕ, zero, suc, ◌+◌, ◌<◌, ◌≤◌, inl, inr, Bool, true, false, List, [], ◌∷◌, ◌++◌, map, length, Option, Some, None, slice_index_or, slice_set, refl, sym, ap, ◌∙◌, subst, arith, true≢false}
+use Rattle.std.proofs.Common.{◌≡◌, ◌↔◌, ◌⊎◌, ◌==◌, ◌||◌, ℕ, ◌+◌, ◌<◌, inl, inr, Bool, true, false, List, [], ◌++◌, map, length, Option, Some, None, slice_index_or, slice_set, refl, sym, ap, ◌∙◌, subst, arith, true≢false}
 use Rattle.std.proofs.lemmas.Bool.{eqb-true}
 use Rattle.std.proofs.lemmas.List.{get_or-set_same, get_or-set_other}
 use Rattle.som_model.specs.declared.key.ClassKey.{ClassKey}
@@ -9,7 +9,7 @@ use Rattle.som_model.specs.Lists.{Mem, some}
 use Rattle.som_model.specs.Ancestors.{Descends, anc, itself, by_parent}
 use Rattle.som_model.specs.Class.{Class}
 use Rattle.som_model.specs.Classes.{hierarchy, is_a}
-use Rattle.som_model.specs.Kernel.{kernel, som_class}
+use Rattle.som_model.specs.Kernel.{kernel}
 use Rattle.som_model.specs.Metaclass.{meta}
 use Rattle.som_model_laws.specs.Metaclasses.{Declares, IsDeclared}
 use Rattle.som_model_laws.specs.Rows.{AreLow, rows_of}
@@ -85,13 +85,16 @@ module _ (cs : List Class) (known : AreKnown cs) (rows : List (List ℕ)) (are :
       by_parent (key_at cs p) (subst (λ z. Mem (key_at cs p) z) (are.by x lt ∙ sym (known.parents x lt)) (mem_map (key_at cs) p (slice_index_or rows x []) m))
       (above_keys p a (omega (arith, low, lt)) d)
 
+  step_up : (p q a : ℕ) → Mem q (slice_index_or rows p []) → Descends (rows_of rows) q a → Descends (rows_of rows) p a
+  step_up p q a m d = by_parent q m d
+
   keys_above : (x y : ClassKey) (p : ℕ) → Descends (hierarchy cs) x y → p < length cs → key_at cs p ≡ x → (q : ℕ) × (q < length cs) × (key_at cs q ≡ y) × Descends (rows_of rows) p q
   keys_above x y p itself lt e = (p, lt, e, itself)
   keys_above x y p (by_parent k m d) lt e =
       let r = map_mem (key_at cs) k (slice_index_or rows p []) (subst (λ z. Mem k z) (ap (hierarchy cs).parents (sym e) ∙ known.parents p lt ∙ sym (are.by p lt)) m) in
       let low = are.low p r.0 r.1 in
       let t = keys_above k y r.0 d (omega (arith, low, lt)) (sym r.2) in
-      (t.0, t.1, t.2, by_parent r.0 r.1 t.3)
+      (t.0, t.1, t.2, step_up p r.0 t.0 r.1 t.3)
 
   pub places_descend : (p q : ℕ) → p < length cs → q < length cs → Descends (hierarchy cs) (key_at cs p) (key_at cs q) ↔ Descends (rows_of rows) p q
   places_descend p q lp lq = (

@@ -1,10 +1,7 @@
 -- K5 by the slots of owners.
-use Rattle.std.proofs.Common.{◌≡◌, ◌==◌, ◌&&◌, ℕ, zero, suc, ◌+◌, ◌<◌, ◌≤◌, inl, inr, Bool, true, false, List, [], ◌∷◌, map, length, Option, Some, None, slice_get, slice_index_or, refl, sym, ap, ◌∙◌, subst, arith}
+use Rattle.std.proofs.Common.{◌≡◌, ◌==◌, ◌&&◌, ℕ, zero, suc, ◌+◌, ◌<◌, ◌≤◌, inl, inr, Bool, true, false, List, [], ◌∷◌, map, length, Some, None, slice_get, slice_index_or, refl, sym, ap, ◌∙◌, subst, arith}
 use Rattle.std.specs.Str.{bytes_eq}
-use Rattle.som_model.specs.declared.key.ClassKey.{ClassKey}
-use Rattle.som_model.specs.declared.key.MethodRef.{MethodRef}
 use Rattle.som_model.specs.declared.class.Entry.{Entry}
-use Rattle.som_model.specs.declared.class.Sig.{Sig}
 use Rattle.som_model.specs.Lists.{first}
 use Rattle.som_model.specs.Keys.{same_key, same_method}
 use Rattle.som_model.specs.Same.{same_option, same_sig}
@@ -17,11 +14,11 @@ use Rattle.som_level_laws.specs.Levels.{keeps_method, level_k5}
 use Rattle.som_verify_classes.specs.Places.{class_of_place, face_at, key_at}
 use Rattle.som_verify_classes.proofs.KeyLists.{alike}
 use Rattle.som_compat_levels.specs.declared.owners.Slot.{Slot}
-use Rattle.som_compat_levels.specs.Owners.{AreOwners, HasOwners, IsEntryAt, IsOwner, IsSlot, method_at}
-use Rattle.som_compat_levels.specs.Pairs.{AreBegun, ArePaired, BeginsOrder, IsPair}
+use Rattle.som_compat_levels.specs.Owners.{AreOwners, IsOwner, IsSlot, method_at}
+use Rattle.som_compat_levels.specs.Pairs.{AreBegun, ArePaired, IsPair}
 use Rattle.som_compat_levels.specs.Standing.{AreStanding}
-use Rattle.som_compat_levels.proofs.Failing.{first_failing, first_mapped, get_map, none_failing, nothing_mapped}
-use Rattle.som_compat_levels.proofs.Known.{AreKnown, known}
+use Rattle.som_compat_levels.proofs.Failing.{first_failing, first_mapped, none_failing, nothing_mapped}
+use Rattle.som_compat_levels.proofs.Known.{known}
 use Rattle.som_compat_levels.proofs.Lists.{less_next}
 use Rattle.som_compat_levels.proofs.Owning.{entry_number, entry_there, number_entry}
 

@@ -1,8 +1,8 @@
 -- All levels, class by class.
-use Rattle.std.proofs.Common.{◌≡◌, ℕ, zero, suc, ◌+◌, ◌*◌, ◌<◌, ◌≤◌, inl, inr, List, [], ◌∷◌, ◌++◌, map, flat_map, drop, length, All, Option, Some, None, slice_index_or, refl, sym, ap, ◌∙◌, subst, arith, append_assoc}
+use Rattle.std.proofs.Common.{◌≡◌, ℕ, zero, suc, ◌+◌, ◌*◌, ◌<◌, ◌≤◌, inl, inr, List, [], ◌∷◌, ◌++◌, map, flat_map, drop, length, Some, None, slice_index_or, refl, sym, ap, ◌∙◌, subst, arith, append_assoc}
 use Rattle.std.specs.Prelude.{Result, Ok, Err, IfOk}
 use Rattle.std.proofs.lemmas.List.{map-append}
-use Rattle.som_model.specs.declared.limits.TheConstants.{MAX_ENTRIES, MAX_LIBRARY_CLASSES}
+use Rattle.som_model.specs.declared.limits.TheConstants.{MAX_ENTRIES}
 use Rattle.som_model.specs.declared.class.ClassFace.{ClassFace}
 use Rattle.som_model.specs.declared.program.Interface.{Interface}
 use Rattle.som_model.specs.Lists.{Mem, first}
@@ -15,11 +15,11 @@ use Rattle.som_compat.specs.Conditions.{IsCounted}
 use Rattle.som_level_laws.specs.Levels.{CompatibleLevels, all_levels, breaks_from, classes_of_level, first_level_break, level_class_breaks, level_classes, level_module, levels_from}
 use Rattle.som_level_laws.proofs.Breaks.{none_kept}
 use Rattle.som_verify_classes.specs.Modules.{module_of}
-use Rattle.som_verify_classes.specs.Places.{class_of_place, key_at, nobody}
+use Rattle.som_verify_classes.specs.Places.{class_of_place, nobody}
 use Rattle.som_verify_classes.proofs.DeclaredClasses.{long_map, module_there}
 use Rattle.som_compat_levels.specs.declared.breach.LevelFault.{LevelFault}
 use Rattle.som_compat_levels.specs.Conditions.{AreComparable, AreLoadableLevels, IsWithinCounts}
-use Rattle.som_compat_levels.specs.Pairs.{AreBegun, ArePaired, BeginsOrder, IsPair}
+use Rattle.som_compat_levels.specs.Pairs.{AreBegun, ArePaired}
 use Rattle.som_compat_levels.specs.Standing.{AreStanding}
 use Rattle.som_compat_levels.specs.Told.{TellsLevels, first_leveled, level_of, leveled_breaks}
 use Rattle.som_compat.proofs.Ending.{passes, stops}

@@ -1,5 +1,5 @@
 -- Rows of parents, lists of ancestors and places of metaclasses.
-use Rattle.std.proofs.Common.{◌≡◌, ◌↔◌, ◌⊎◌, ◌==◌, ℕ, zero, suc, ◌+◌, ◌<◌, ◌≤◌, inl, inr, Bool, true, false, List, [], ◌∷◌, ◌++◌, map, length, take, Option, Some, None, slice_get, slice_index_or, refl, sym, ap, ◌∙◌, subst, arith}
+use Rattle.std.proofs.Common.{◌≡◌, ◌==◌, ℕ, ◌+◌, ◌<◌, ◌≤◌, inl, inr, List, [], ◌∷◌, ◌++◌, map, length, take, Option, Some, None, slice_index_or, refl, sym, ap, ◌∙◌, subst, arith}
 use Rattle.std.proofs.lemmas.Bool.{cases_lt}
 use Rattle.std.proofs.lemmas.List.{get_or_past, map-append}
 use Rattle.som_model.specs.declared.key.ClassKey.{ClassKey}
@@ -8,7 +8,7 @@ use Rattle.som_model.specs.Keys.{same_key}
 use Rattle.som_model.specs.Class.{Class}
 use Rattle.som_model.specs.Classes.{hierarchy}
 use Rattle.som_model.proofs.NamedLaws.{hierarchy_same}
-use Rattle.som_model_laws.specs.Rows.{rows_of, AreAncestors, AreLow}
+use Rattle.som_model_laws.specs.Rows.{rows_of, AreAncestors}
 use Rattle.som_model_laws.proofs.Listed.{known_low}
 use Rattle.som_model_laws.proofs.Members.{mem_split}
 use Rattle.som_verify_classes.specs.Places.{class_of_place, face_at, key_at, IsRows}
@@ -19,7 +19,7 @@ use Rattle.som_verify_classes.proofs.KeyLists.{alike}
 use Rattle.som_verify_classes.proofs.Numbering.{numbered}
 use Rattle.som_verify_classes.proofs.PlainLists.{mem_map}
 use Rattle.som_compat.proofs.Filled.{next_take}
-use Rattle.som_compat_levels.specs.Tables.{AreMetaclasses, IsPlaceOf}
+use Rattle.som_compat_levels.specs.Tables.{IsPlaceOf}
 use Rattle.som_compat_levels.proofs.Known.{AreKnown}
 use Rattle.som_compat_levels.proofs.Lists.{each_last, long_last}
 

@@ -6,13 +6,13 @@ use Rattle.som_model.specs.Class.{Class, bare, class_in}
 use Rattle.som_model.specs.Kernel.{kernel}
 use Rattle.som_model.specs.Loads.{FacesLoad}
 use Rattle.som_release_laws.specs.Releasing.{HaveParents}
-use Rattle.som_compat_levels.specs.declared.placed.Placed.{Placed}
+use Rattle.som_compat_levels.specs.declared.classes.PlacedClass.{PlacedClass}
 
 -- the class of a face in its module
-abbrev pub class_of : Placed → Class
+abbrev pub class_of : PlacedClass → Class
 class_of p = class_in p.module (bare p.face.now)
 
-abbrev pub classes_of : List Placed → List Class
+abbrev pub classes_of : List PlacedClass → List Class
 classes_of ps = map class_of ps
 
 -- the kernel's classes, and others that can stand above them, each with a parent

@@ -1,5 +1,5 @@
 -- What is noted of classes, by their places.
-use Rattle.std.specs.Prelude.{◌≡◌, ◌<◌, ◌≤◌, ℕ, List, length, slice_index_or, Option, Some, None}
+use Rattle.std.specs.Prelude.{◌≡◌, ◌<◌, ℕ, List, length, slice_index_or, Option, Some, None}
 use Rattle.som_model.specs.declared.key.ClassKey.{ClassKey}
 use Rattle.som_model.specs.Class.{Class}
 use Rattle.som_verify_classes.specs.Places.{face_at, key_at, IsRows}

@@ -7,14 +7,14 @@ ghost use Rattle.som_verify_classes.specs.Places.{Finds, key_at};
 ghost use Rattle.som_verify_classes.specs.Plainly.{IsAmong};
 ghost use Rattle.std.specs.Prelude.{◌≡◌, ◌↔◌, ◌<◌, IfSome, IsTrue, length};
 
-use crate::placed::Placed;
+use crate::classes::PlacedClass;
 use som_model::{ClassKey, Module, NoMemory, Text};
 use std::alloc::Global;
 use std::cmp::Ordering;
 
 /// The places of classes in the order of their keys. That they are in order is no clause: it only makes
 /// finding fast.
-pub fn sorted_places(alloc: Global, classes: &[Placed]) -> Result<Vec<usize>, NoMemory> {
+pub fn sorted_places(alloc: Global, classes: &[PlacedClass]) -> Result<Vec<usize>, NoMemory> {
     let mut order = Vec::new(alloc);
     for place in 0..classes.len() {
         order.push(place)?;
@@ -23,7 +23,7 @@ pub fn sorted_places(alloc: Global, classes: &[Placed]) -> Result<Vec<usize>, No
     Ok(order)
 }
 
-fn by_places(classes: &[Placed], one: usize, other: usize) -> Ordering {
+fn by_places(classes: &[PlacedClass], one: usize, other: usize) -> Ordering {
     match classes.get(other) {
         Some(class) => by_key(classes, one, class.module, class.face.name.as_slice()),
         None => Ordering::Less,
@@ -31,7 +31,7 @@ fn by_places(classes: &[Placed], one: usize, other: usize) -> Ordering {
 }
 
 // How the key of the class at a place stands to another key.
-fn by_key(classes: &[Placed], place: usize, home: Module, name: &[u8]) -> Ordering {
+fn by_key(classes: &[PlacedClass], place: usize, home: Module, name: &[u8]) -> Ordering {
     match classes.get(place) {
         Some(class) => match height(class.module).cmp(&height(home)) {
             Ordering::Equal => class.face.name.as_slice().cmp(name),
@@ -53,7 +53,12 @@ fn height(module: Module) -> u16 {
 
 /// The place of the class of a module and name. Where the places are in order, only a key that no class has
 /// is sought among all.
-pub fn find_class(classes: &[Placed], order: &[usize], home: Module, name: &Text) -> Option<usize>
+pub fn find_class(
+    classes: &[PlacedClass],
+    order: &[usize],
+    home: Module,
+    name: &Text,
+) -> Option<usize>
     ensures finds { Finds (length (classes_of classes.now)) (classes_of classes.now) (keys.Named home name.now) result }
     ensures below { IfSome result (λ place. place < length classes.now) }
 {
@@ -71,7 +76,7 @@ pub fn find_class(classes: &[Placed], order: &[usize], home: Module, name: &Text
     }
 }
 
-fn find_among(classes: &[Placed], home: Module, name: &Text) -> Option<usize>
+fn find_among(classes: &[PlacedClass], home: Module, name: &Text) -> Option<usize>
     ensures finds { Finds (length (classes_of classes.now)) (classes_of classes.now) (keys.Named home name.now) result }
     ensures below { IfSome result (λ place. place < length classes.now) }
 {
@@ -84,7 +89,7 @@ fn find_among(classes: &[Placed], home: Module, name: &Text) -> Option<usize>
 }
 
 // Whether the class at a place has the module and the name.
-fn is_class(classes: &[Placed], place: usize, home: Module, name: &Text) -> bool
+fn is_class(classes: &[PlacedClass], place: usize, home: Module, name: &Text) -> bool
     requires { place < length classes.now }
     ensures { IsTrue result ↔ (key_at (classes_of classes.now) place ≡ keys.Named home name.now) }
 {
@@ -99,7 +104,7 @@ fn is_module(home: Module, other: Module) -> bool
 }
 
 /// The place of the class of a key.
-pub fn find_key(classes: &[Placed], order: &[usize], key: &ClassKey) -> Option<usize>
+pub fn find_key(classes: &[PlacedClass], order: &[usize], key: &ClassKey) -> Option<usize>
     ensures finds { Finds (length (classes_of classes.now)) (classes_of classes.now) key.now result }
     ensures below { IfSome result (λ place. place < length classes.now) }
 {
@@ -111,7 +116,7 @@ pub fn find_key(classes: &[Placed], order: &[usize], key: &ClassKey) -> Option<u
 }
 
 /// The place of a class that is known.
-pub fn known_place(classes: &[Placed], order: &[usize], key: &ClassKey) -> usize
+pub fn known_place(classes: &[PlacedClass], order: &[usize], key: &ClassKey) -> usize
     requires { IsAmong (classes_of classes.now) key.now }
     ensures below { result < length classes.now }
     ensures is { key_at (classes_of classes.now) result ≡ key.now }

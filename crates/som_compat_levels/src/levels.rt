@@ -11,9 +11,9 @@ ghost use Rattle.som_model.specs.Kernel.{kernel_interface};
 ghost use Rattle.std.specs.Prelude.{◌≡◌, ◌+◌, ◌<◌, ◌≤◌, ℕ, IfOk, false, length, replicate, slice_index_or};
 
 use crate::breach::{LevelFault, owned_breach};
+use crate::classes::{PlacedClass, all_classes};
 use crate::finding::sorted_places;
 use crate::pair::class_keeps;
-use crate::placed::{Placed, all_placed};
 use crate::tables::{Levels, tables_of};
 use som_builtins::kernel_faces;
 use som_compat::Breach;
@@ -47,12 +47,12 @@ fn compare_above(
     requires levels { AreComparable olds.now news.now }
     ensures { TellsLevels (first_level_break olds.now news.now) result }
 {
-    let old_classes = all_placed(alloc, kernel.classes.as_slice(), olds)?;
-    let new_classes = all_placed(alloc, kernel.classes.as_slice(), news)?;
+    let old_classes = all_classes(alloc, kernel.classes.as_slice(), olds)?;
+    let new_classes = all_classes(alloc, kernel.classes.as_slice(), news)?;
     compare(alloc, &old_classes, &new_classes)
 }
 
-fn compare(alloc: Global, olds: &[Placed], news: &[Placed]) -> Result<(), LevelFault>
+fn compare(alloc: Global, olds: &[PlacedClass], news: &[PlacedClass]) -> Result<(), LevelFault>
     requires old { AreStanding (classes_of olds.now) }
     requires new { AreStanding (classes_of news.now) }
     ensures { TellsLevels (first_leveled (classes_of olds.now) (classes_of news.now)) result }

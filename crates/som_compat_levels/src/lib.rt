@@ -3,6 +3,7 @@
 
 mod ancestors;
 mod breach;
+mod classes;
 mod entries;
 mod finding;
 mod levels;
@@ -11,7 +12,6 @@ mod methods;
 mod numbers;
 mod owners;
 mod pair;
-mod placed;
 mod rows;
 mod tables;
 mod versions;

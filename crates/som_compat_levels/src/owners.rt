@@ -7,9 +7,9 @@ ghost use Rattle.som_verify_classes.specs.Places.{face_at};
 ghost use Rattle.som_compat_levels.specs.declared.owners.Slot.{Slot as Slotted};
 ghost use Rattle.std.specs.Prelude.{◌≡◌, ◌<◌, [], IfOk, Some, length, slice_get, slice_index_or};
 
+use crate::classes::PlacedClass;
 use crate::entries::{known_entry, sorted_entries};
 use crate::finding::known_place;
-use crate::placed::Placed;
 use som_model::{ClassKey, Entry, List, NoMemory, Text};
 use std::alloc::Global;
 
@@ -23,8 +23,8 @@ pub struct Slot {
 /// Classes with their places in the order of their keys, and with the numbers of the entries of each in the
 /// order of their names.
 #[derive(Clone, Copy)]
-struct Sorted<'a> {
-    classes: &'a [Placed<'a>],
+struct SortedClasses<'a> {
+    classes: &'a [PlacedClass<'a>],
     places: &'a [usize],
     entries: &'a [List<usize>],
 }
@@ -32,14 +32,14 @@ struct Sorted<'a> {
 /// The owners of the entries of each class.
 pub fn entry_owners(
     alloc: Global,
-    classes: &[Placed],
+    classes: &[PlacedClass],
     places: &[usize],
 ) -> Result<Vec<List<Slot>>, NoMemory>
     requires { AreStanding (classes_of classes.now) }
     ensures { IfOk result (λ all. AreOwners (classes_of classes.now) (length (classes_of classes.now)) all.items) }
 {
     let orders = entry_orders(alloc, classes)?;
-    let sorted = Sorted {
+    let sorted = SortedClasses {
         classes,
         places,
         entries: &orders,
@@ -47,7 +47,7 @@ pub fn entry_owners(
     all_owners(alloc, &sorted)
 }
 
-fn entry_orders(alloc: Global, classes: &[Placed]) -> Result<Vec<List<usize>>, NoMemory>
+fn entry_orders(alloc: Global, classes: &[PlacedClass]) -> Result<Vec<List<usize>>, NoMemory>
     ensures { IfOk result (λ all. length all.items ≡ length classes.now) }
 {
     let mut all = Vec::new(alloc);
@@ -57,7 +57,7 @@ fn entry_orders(alloc: Global, classes: &[Placed]) -> Result<Vec<List<usize>>, N
     Ok(all)
 }
 
-fn all_owners(alloc: Global, sorted: &Sorted) -> Result<Vec<List<Slot>>, NoMemory>
+fn all_owners(alloc: Global, sorted: &SortedClasses) -> Result<Vec<List<Slot>>, NoMemory>
     requires stand { AreStanding (classes_of sorted.now.classes.now) }
     requires entries { length sorted.now.entries.now ≡ length sorted.now.classes.now }
     ensures { IfOk result (λ all. AreOwners (classes_of sorted.now.classes.now) (length (classes_of sorted.now.classes.now)) all.items) }
@@ -73,7 +73,7 @@ fn all_owners(alloc: Global, sorted: &Sorted) -> Result<Vec<List<Slot>>, NoMemor
 // The owners of the entries of one class, where those of the classes before it are known.
 fn class_owners(
     alloc: Global,
-    sorted: &Sorted,
+    sorted: &SortedClasses,
     known: &[List<Slot>],
     place: usize,
 ) -> Result<List<Slot>, NoMemory>
@@ -92,7 +92,7 @@ fn class_owners(
 }
 
 /// The entries of the class at a place.
-pub fn entries_at<'a>(classes: &[Placed<'a>], place: usize) -> &'a [Entry]
+pub fn entries_at<'a>(classes: &[PlacedClass<'a>], place: usize) -> &'a [Entry]
     requires { place < length classes.now }
     ensures { result.now ≡ (face_at (classes_of classes.now) place).entries }
 {
@@ -101,7 +101,7 @@ pub fn entries_at<'a>(classes: &[Placed<'a>], place: usize) -> &'a [Entry]
 }
 
 fn owner_slot(
-    sorted: &Sorted,
+    sorted: &SortedClasses,
     known: &[List<Slot>],
     place: usize,
     number: usize,
@@ -125,7 +125,7 @@ fn owner_slot(
 
 // Where the owner stands of an entry that was moved.
 fn moved_slot(
-    sorted: &Sorted,
+    sorted: &SortedClasses,
     known: &[List<Slot>],
     place: usize,
     name: &Text,

@@ -8,15 +8,15 @@ ghost use Rattle.som_verify_classes.specs.Places.{IsRows, key_at};
 ghost use Rattle.som_verify_classes.specs.Plainly.{IsAmong};
 ghost use Rattle.std.specs.Prelude.{◌≡◌, ◌<◌, ℕ, IfOk, Some, length, map};
 
+use crate::classes::PlacedClass;
 use crate::finding::known_place;
-use crate::placed::Placed;
 use som_model::{ClassKey, List, NoMemory};
 use std::alloc::Global;
 
 /// The places of the parents of each class, in their order.
 pub fn parent_rows(
     alloc: Global,
-    classes: &[Placed],
+    classes: &[PlacedClass],
     order: &[usize],
 ) -> Result<Vec<List<usize>>, NoMemory>
     requires { AreStanding (classes_of classes.now) }
@@ -32,7 +32,7 @@ pub fn parent_rows(
 
 fn row_of(
     alloc: Global,
-    classes: &[Placed],
+    classes: &[PlacedClass],
     order: &[usize],
     parents: &[ClassKey],
 ) -> Result<List<usize>, NoMemory>
@@ -50,7 +50,7 @@ fn row_of(
 /// The places of the metaclasses that the classes declare.
 pub fn metaclass_places(
     alloc: Global,
-    classes: &[Placed],
+    classes: &[PlacedClass],
     order: &[usize],
 ) -> Result<Vec<Option<usize>>, NoMemory>
     requires { AreStanding (classes_of classes.now) }
@@ -63,7 +63,11 @@ pub fn metaclass_places(
     Ok(places)
 }
 
-fn metaclass_place(classes: &[Placed], order: &[usize], key: &Option<ClassKey>) -> Option<usize>
+fn metaclass_place(
+    classes: &[PlacedClass],
+    order: &[usize],
+    key: &Option<ClassKey>,
+) -> Option<usize>
     requires { (k : Key) → key.now ≡ Some k → IsAmong (classes_of classes.now) k }
     ensures { IsPlaceOf (classes_of classes.now) key.now result }
 {

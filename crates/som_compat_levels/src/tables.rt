@@ -4,8 +4,8 @@ ghost use Rattle.som_compat_levels.specs.Standing.{AreStanding, classes_of};
 ghost use Rattle.som_compat_levels.specs.Tables.{AreTables};
 ghost use Rattle.std.specs.Prelude.{IfOk};
 
+use crate::classes::PlacedClass;
 use crate::owners::{Slot, entry_owners};
-use crate::placed::Placed;
 use crate::rows::{metaclass_places, parent_rows};
 use som_model::{List, NoMemory};
 use som_verify_parents::ancestors;
@@ -23,13 +23,17 @@ pub struct Tables {
 /// Classes of all levels, their places in the order of their keys, and what is noted of them.
 #[derive(Clone, Copy)]
 pub struct Levels<'a> {
-    pub classes: &'a [Placed<'a>],
+    pub classes: &'a [PlacedClass<'a>],
     pub places: &'a [usize],
     pub tables: &'a Tables,
 }
 
 /// Notes all of classes that can stand.
-pub fn tables_of(alloc: Global, classes: &[Placed], places: &[usize]) -> Result<Tables, NoMemory>
+pub fn tables_of(
+    alloc: Global,
+    classes: &[PlacedClass],
+    places: &[usize],
+) -> Result<Tables, NoMemory>
     requires { AreStanding (classes_of classes.now) }
     ensures { IfOk result (λ tables. AreTables (classes_of classes.now) tables) }
 {

@@ -1,4 +1,4 @@
-use Rattle.std.proofs.Common.{◌≡◌, ◌∙◌, ◌==◌, ◌<◌, ◌≤◌, inl, inr, Bool, true, false, List, [], ℕ, length, Some, slice_get, slice_index_or, ap, sym, subst, refl, arith}
+use Rattle.std.proofs.Common.{◌∙◌, List, [], ℕ, Some, slice_index_or, ap, sym, arith}
 use Rattle.som_verify_classes.specs.Places.{class_of_place, face_at, key_at}
 use Rattle.som_compat_levels.specs.Tables.{classes_in}
 use Rattle.som_compat_levels.proofs.Descent.{eq_false, eq_true, k3_kept, k3_lost, listed, listed_end, mark_here, name_declared, next_kept}

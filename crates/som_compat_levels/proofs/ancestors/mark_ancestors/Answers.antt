@@ -1,4 +1,4 @@
-use Rattle.std.proofs.Common.{◌∙◌, ◌<◌, List, [], ℕ, length, slice_index_or, ap, sym, subst, arith}
+use Rattle.std.proofs.Common.{◌∙◌, List, [], ℕ, slice_index_or, ap, subst, arith}
 use Rattle.som_model.specs.Lists.{Mem}
 use Rattle.som_compat_levels.specs.Tables.{classes_in}
 use Rattle.som_compat_levels.proofs.Descent.{are_above}

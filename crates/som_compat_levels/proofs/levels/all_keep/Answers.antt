@@ -1,5 +1,4 @@
-use Rattle.std.proofs.Common.{◌≡◌, ◌∙◌, ◌<◌, ℕ, length, ap, refl, sym, arith}
-use Rattle.som_model.specs.declared.key.Module.{Module}
+use Rattle.std.proofs.Common.{◌∙◌, ap, refl, arith}
 use Rattle.som_compat.specs.Told.{told}
 use Rattle.som_compat_levels.specs.Tables.{classes_in}
 use Rattle.som_compat_levels.specs.Told.{level_of}

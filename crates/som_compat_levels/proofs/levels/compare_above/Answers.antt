@@ -1,4 +1,4 @@
-use Rattle.std.proofs.Common.{◌≡◌, ◌∙◌, Option, ℕ, ap, subst}
+use Rattle.std.proofs.Common.{◌∙◌, Option, ℕ, ap, subst}
 use Rattle.som_model.specs.Compatible.{CompatBreach}
 use Rattle.som_compat_levels.specs.Standing.{classes_of}
 use Rattle.som_compat_levels.specs.Told.{TellsLevels}

@@ -1,4 +1,4 @@
-use Rattle.std.proofs.Common.{◌≡◌, ◌∙◌, ◌<◌, List, ℕ, Option, Some, None, length, slice_index_or, ap, sym, arith}
+use Rattle.std.proofs.Common.{◌∙◌, List, ℕ, Option, Some, None, slice_index_or, ap, sym, arith}
 use Rattle.som_model.specs.Classes.{is_a}
 use Rattle.som_model.specs.Metaclass.{meta}
 use Rattle.som_verify_classes.specs.Places.{class_of_place, face_at, key_at}

@@ -1,4 +1,4 @@
-use Rattle.std.proofs.Common.{◌∙◌, ap, sym, List, ℕ, ◌==◌, ◌||◌, arith}
+use Rattle.std.proofs.Common.{◌∙◌, ap, List, ℕ, ◌==◌, ◌||◌, arith}
 use Rattle.std.proofs.lemmas.List.{length-set}
 use Rattle.som_compat.specs.Marks.{some_marked}
 use Rattle.som_compat_levels.proofs.KeptMetaclasses.{below_more}

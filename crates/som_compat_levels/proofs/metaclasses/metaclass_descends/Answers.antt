@@ -1,4 +1,4 @@
-use Rattle.std.proofs.Common.{◌≡◌, ◌∙◌, ◌↔◌, ◌<◌, Bool, List, [], ℕ, Option, None, false, length, slice_index_or, ap, sym, subst, refl, arith}
+use Rattle.std.proofs.Common.{◌∙◌, ◌↔◌, ◌<◌, List, [], ℕ, Option, None, false, length, slice_index_or, ap, sym, subst, refl, arith}
 use Rattle.som_model.specs.Ancestors.{Descends}
 use Rattle.som_model.specs.Lists.{some}
 use Rattle.som_model_laws.specs.Rows.{rows_of}

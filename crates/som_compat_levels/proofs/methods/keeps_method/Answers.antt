@@ -1,9 +1,9 @@
-use Rattle.std.proofs.Common.{◌≡◌, ◌∙◌, ◌==◌, ◌&&◌, ◌<◌, Bool, true, false, List, [], ℕ, length, Some, option_copied, slice_get, slice_index_or, ap, sym, subst, refl, arith}
+use Rattle.std.proofs.Common.{◌∙◌, ◌==◌, ◌&&◌, List, [], ℕ, option_copied, slice_index_or, ap, sym}
 use Rattle.som_model.specs.Same.{same_option, same_sig}
 use Rattle.som_verify_classes.specs.Places.{face_at}
 use Rattle.som_compat_levels.specs.declared.owners.Slot.{Slot}
 use Rattle.som_compat_levels.specs.Tables.{classes_in}
-use Rattle.som_compat_levels.proofs.KeptMethods.{after_slot, after_there, before_there, entry_exists, is_slot, kept_there, keeps_is, old_owner, owner_low}
+use Rattle.som_compat_levels.proofs.KeptMethods.{after_slot, after_there, entry_exists, is_slot, kept_there, keeps_is, old_owner, owner_low}
 use Rattle.som_compat_levels.proofs.methods.keeps_method.Goals as goal
 
 pub slot_at-after-requires-clause-number : goal.slot_at-after-requires-clause-number

@@ -1,4 +1,4 @@
-use Rattle.std.proofs.Common.{◌≡◌, ◌∙◌, ◌<◌, ◌≤◌, List, ℕ, length, Some, slice_get, ap, sym, subst, arith}
+use Rattle.std.proofs.Common.{◌∙◌, ◌<◌, ◌≤◌, List, length, slice_get, ap, sym, subst}
 use Rattle.som_model.specs.declared.class.Entry.{Entry}
 use Rattle.som_verify_classes.specs.Places.{class_of_place, face_at}
 use Rattle.som_compat_levels.specs.Tables.{classes_in}

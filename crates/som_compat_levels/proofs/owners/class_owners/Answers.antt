@@ -1,4 +1,4 @@
-use Rattle.std.proofs.Common.{◌≡◌, ◌∙◌, ℕ, List, length, Some, slice_get, sym, ap, arith}
+use Rattle.std.proofs.Common.{◌≡◌, ◌∙◌, List, length, slice_get, sym, ap, arith}
 use Rattle.som_model.specs.declared.class.Entry.{Entry}
 use Rattle.som_verify_classes.specs.Places.{face_at}
 use Rattle.som_compat_levels.specs.Standing.{classes_of}

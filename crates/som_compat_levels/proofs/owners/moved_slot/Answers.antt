@@ -1,7 +1,6 @@
-use Rattle.std.proofs.Common.{◌∙◌, List, IsSome, ℕ, length, ap, subst, sym, arith}
+use Rattle.std.proofs.Common.{List, IsSome, subst, sym, arith}
 use Rattle.som_model.specs.declared.class.Entry.{Entry}
 use Rattle.som_model.specs.Class.{entry_of}
-use Rattle.som_verify_classes.specs.Places.{key_at}
 use Rattle.som_compat_levels.specs.Owners.{IsEntryAt}
 use Rattle.som_compat_levels.specs.Standing.{classes_of}
 use Rattle.som_compat_levels.proofs.Keyed.{long_classes}

@@ -1,9 +1,9 @@
-use Rattle.std.proofs.Common.{◌≡◌, ◌∙◌, ◌++◌, ◌+◌, ◌<◌, ◌≤◌, List, ℕ, Some, None, length, slice_index_or, slice_set, ap, sym, subst, arith}
+use Rattle.std.proofs.Common.{◌≡◌, ◌∙◌, ◌<◌, length, slice_index_or, slice_set, ap, sym, arith}
 use Rattle.som_model.specs.declared.class.ClassFace.{ClassFace}
 use Rattle.som_model.specs.declared.key.ClassKey.TheVariants as keys
 use Rattle.som_model.specs.Lists.{first}
-use Rattle.som_verify_classes.specs.Places.{class_of_place, face_at, key_at}
-use Rattle.som_compat_levels.specs.Pairs.{AreBegun, ArePaired, IsPair}
+use Rattle.som_verify_classes.specs.Places.{class_of_place, key_at}
+use Rattle.som_compat_levels.specs.Pairs.{IsPair}
 use Rattle.som_compat_levels.specs.Tables.{classes_in}
 use Rattle.som_compat_levels.proofs.Failing.{told_nameless}
 use Rattle.som_compat_levels.proofs.Keyed.{key_of, long_classes}

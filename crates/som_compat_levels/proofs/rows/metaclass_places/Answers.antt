@@ -1,4 +1,4 @@
-use Rattle.std.proofs.Common.{◌≡◌, ◌∙◌, ℕ, length, sym, ap, subst, arith}
+use Rattle.std.proofs.Common.{◌≡◌, ◌∙◌, length, sym, ap, subst, arith}
 use Rattle.som_model.specs.declared.class.ClassFace.{ClassFace}
 use Rattle.som_compat_levels.specs.Standing.{classes_of}
 use Rattle.som_compat_levels.specs.Tables.{IsPlaceOf}

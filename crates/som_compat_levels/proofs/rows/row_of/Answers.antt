@@ -1,5 +1,4 @@
 use Rattle.std.proofs.Common.{◌∙◌, length, arith}
-use Rattle.som_model_laws.proofs.Listed.{mem_at}
 use Rattle.som_verify_classes.proofs.Rows.{take_whole}
 use Rattle.som_compat.proofs.Placed.{mem_at as there}
 use Rattle.som_compat_levels.specs.Standing.{classes_of}

@@ -3,7 +3,7 @@ use Rattle.som_model.specs.declared.key.Module.TheVariants as modules
 use Rattle.som_level_laws.specs.Levels.{level_classes}
 use Rattle.som_compat_levels.specs.Standing.{classes_of}
 use Rattle.som_compat_levels.proofs.Placing.{in_module}
-use Rattle.som_compat_levels.proofs.placed.all_placed.Goals as goal
+use Rattle.som_compat_levels.proofs.classes.all_classes.Goals as goal
 
 pub returns : goal.returns
 returns c =

@@ -11,17 +11,17 @@ use std::alloc::Global;
 
 /// A class by its face, and the module that it stands in.
 #[derive(Drop)]
-pub struct Placed<'a> {
+pub struct PlacedClass<'a> {
     pub module: Module,
     pub face: &'a ClassFace,
 }
 
 /// The kernel's classes and those of all levels.
-pub fn all_placed<'a>(
+pub fn all_classes<'a>(
     alloc: Global,
     kernel: &'a [ClassFace],
     levels: &'a [Interface],
-) -> Result<Vec<Placed<'a>>, NoMemory>
+) -> Result<Vec<PlacedClass<'a>>, NoMemory>
     requires kernel { kernel.now ≡ kernel_interface.classes }
     requires few { length levels.now ≤ 8 }
     ensures { IfOk result (λ all. classes_of all.items ≡ all_levels levels.now) }
@@ -32,7 +32,7 @@ pub fn all_placed<'a>(
     Ok(all)
 }
 
-fn add_levels<'a>(all: &mut Vec<Placed<'a>>, levels: &'a [Interface]) -> Result<(), NoMemory>
+fn add_levels<'a>(all: &mut Vec<PlacedClass<'a>>, levels: &'a [Interface]) -> Result<(), NoMemory>
     requires { length levels.now ≤ 8 }
     ensures { OnOk result (classes_of all.new.items ≡ classes_of all.old.items ++ level_classes levels.now) }
 {
@@ -55,14 +55,14 @@ fn level_module(level: usize) -> Module
 }
 
 fn add_faces<'a>(
-    all: &mut Vec<Placed<'a>>,
+    all: &mut Vec<PlacedClass<'a>>,
     home: Module,
     faces: &'a [ClassFace],
 ) -> Result<(), NoMemory>
     ensures { OnOk result (classes_of all.new.items ≡ classes_of all.old.items ++ map (λ f. class_in home (bare f)) faces.now) }
 {
     for face in faces {
-        all.push(Placed { module: home, face })?;
+        all.push(PlacedClass { module: home, face })?;
     }
     Ok(())
 }

@@ -2,7 +2,7 @@ use Rattle.std.proofs.Common.{ap, sym, ◌∙◌, ◌++◌}
 use Rattle.som_model.specs.declared.program.Interface.{Interface}
 use Rattle.som_compat_levels.specs.Standing.{classes_of}
 use Rattle.som_compat_levels.proofs.Placing.{in_module, next_level, no_level}
-use Rattle.som_compat_levels.proofs.placed.add_levels.Goals as goal
+use Rattle.som_compat_levels.proofs.classes.add_levels.Goals as goal
 
 pub loop-level-preserved : goal.loop-level-preserved
 loop-level-preserved c = next_level c.loop-level.all.items c.add_faces.new.all.items c.level_module.result c.index-levels-level.result c.args.levels.now c.loop-level.level _ c.loop-level-test.true c.level_module.ensures c.index-levels-level.is
