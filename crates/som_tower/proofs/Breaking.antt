@@ -39,6 +39,6 @@ pub break_next : (is : List Interface) (xs : List LevelProgram) (l : Level) (ys 
 break_next is xs l ys none = break_append is xs (plain l ∷ ys) ∙ ap (λ o. or_else o (tower_break (is ++ map own_interface xs) (plain l ∷ ys))) none
 
 -- a level's answer is that of the whole tower, where it breaks something and those before it nothing
-pub told_whole : {A : Type 0} (breach whole : Option (ℕ × CompatBreach)) (rest : Option (ℕ × CompatBreach)) (e : LevelFault) → whole ≡ or_else breach rest → TellsLevels breach (Err e) → TellsTower {A = A} whole (Err e)
-told_whole breach whole rest (faults.Breach b) is t = (t.0, is ∙ ap (λ o. or_else o rest) t.1, t.2)
-told_whole breach whole rest faults.NoMemory is t = tt
+pub told_whole : (A : Type 0) (breach whole : Option (ℕ × CompatBreach)) (rest : Option (ℕ × CompatBreach)) (e : LevelFault) → whole ≡ or_else breach rest → TellsLevels breach (Err e) → TellsTower {A = A} whole (Err e)
+told_whole A breach whole rest (faults.Breach b) is t = (t.0, is ∙ ap (λ o. or_else o rest) t.1, t.2)
+told_whole A breach whole rest faults.NoMemory is t = tt
