@@ -90,6 +90,22 @@ impl Kernel<Unlinked> {
         let classes = copy_classes(alloc, classes.as_slice())?;
         kernel_of(alloc, classes, main)
     }
+
+    /// As `lay`, of classes and a main that are given away: nothing is copied.
+    pub fn lay_owned(
+        self,
+        alloc: Global,
+        classes: List<Keyed>,
+        main: Block,
+    ) -> Result<Kernel<Linked>, NoMemory>
+        requires { Loads (classes_of classes) main }
+        ensures classes { IfOk result (λ k. k.classes.classes ≡ kernel ++ classes_of classes) }
+        ensures main { IfOk result (λ k. k.main ≡ main) }
+        ensures made { IfOk result (λ k. (n : ℕ) → IsMadeIn k n ↔ (n < 4)) }
+        ensures all { IfOk result (IsMadeBy [] []) }
+    {
+        kernel_of(alloc, classes, main)
+    }
 }
 
 impl Kernel<Linked> {

@@ -50,21 +50,21 @@ section_field version ranges first from place le =
 -- ---- the head
 
 -- bytes with which an image begins
-record IsMagic (magic : List ℕ) : Type 0 where
-  some : 0 < length magic
-  few : length magic ≤ 4
+pub record IsMagic (magic : List ℕ) : Type 0 where
+  pub some : 0 < length magic
+  pub few : length magic ≤ 4
 
-abbrev starts : List ℕ → List ℕ → Bool
+abbrev pub starts : List ℕ → List ℕ → Bool
 starts magic bytes = starts_with nat_eq bytes magic
 
-abbrev begins_so : List ℕ → List ℕ → Bool
+abbrev pub begins_so : List ℕ → List ℕ → Bool
 begins_so magic bytes = starts_with nat_eq magic bytes
 
-abbrev after_magic : ℕ → Read ℕ
+abbrev pub after_magic : ℕ → Read ℕ
 after_magic n = record { value = 0; next = n }
 
 -- those bytes, as a field
-abbrev magic_read : List ℕ → List ℕ → Result (Read ℕ) ImageFault
+abbrev pub magic_read : List ℕ → List ℕ → Result (Read ℕ) ImageFault
 magic_read magic bytes = if starts magic bytes then Ok (after_magic (length magic)) else (if begins_so magic bytes then Err (faults.Cut (length bytes)) else Err (faults.Magic 0))
 
 same_self : (xs : List ℕ) → pointwise nat_eq xs xs ≡ true
@@ -72,11 +72,11 @@ same_self [] = refl
 same_self (x ∷ xs) = let one : nat_eq x x ≡ true = grind arith in rw (one, same_self xs) refl
 
 module _ (magic : List ℕ) (short : IsMagic magic) where
-  abbrev read : List ℕ → Result (Read ℕ) ImageFault
+  abbrev pub read : List ℕ → Result (Read ℕ) ImageFault
   read = magic_read magic
 
   -- what the two tests say
-  starts_is : (bytes : List ℕ) → starts magic bytes ≡ true → magic ≡ take (length magic) bytes
+  pub starts_is : (bytes : List ℕ) → starts magic bytes ≡ true → magic ≡ take (length magic) bytes
   starts_is bytes e = same_text magic (take (length magic) bytes) (sym e)
 
   begins_is : (bytes : List ℕ) → begins_so magic bytes ≡ true → bytes ≡ take (length bytes) magic
@@ -119,10 +119,10 @@ module _ (magic : List ℕ) (short : IsMagic magic) where
   some_bytes [] e = absurd (let z : true ≡ false = e in true≢false z)
   some_bytes (b ∷ bytes) e = omega arith
 
-  long_enough : (bytes : List ℕ) → magic ≡ take (length magic) bytes → length magic ≤ length bytes
+  pub long_enough : (bytes : List ℕ) → magic ≡ take (length magic) bytes → length magic ≤ length bytes
   long_enough bytes e = let n : length magic ≡ length (take (length magic) bytes) = ap (λ (t : List ℕ). length t) e in omega (arith, n, length-take (length magic) bytes)
 
-  magic_told : (bytes : List ℕ) → starts magic bytes ≡ false → begins_so magic bytes ≡ false → (b : Bool) → nat_lt (length bytes) (length magic) ≡ b → IsFirm read 0 0 bytes (faults.Magic 0) 0
+  pub magic_told : (bytes : List ℕ) → starts magic bytes ≡ false → begins_so magic bytes ≡ false → (b : Bool) → nat_lt (length bytes) (length magic) ≡ b → IsFirm read 0 0 bytes (faults.Magic 0) 0
   magic_told bytes e f false is =
       let le : length magic ≤ length bytes = ltb-false (length bytes) (length magic) is in
       record { ends = length magic; after = omega arith; past = short.some; near = short.few; seen_is = omega arith; within = le; stays = λ other b. long_stays bytes other e le b }

@@ -37,14 +37,14 @@ use Rattle.som_image_fault_laws.proofs.Syntax.{block_field}
 use Rattle.som_image_fault_laws.proofs.Classes.{faces_field, head_local, parts_field, section_field}
 use Rattle.som_image_fault_laws.proofs.Stopping.{cut_there, goes_on, stops, told}
 
-four_some : 0 < 4
+pub four_some : 0 < 4
 four_some = omega arith
 
-four_few : 4 ≤ 4
+pub four_few : 4 ≤ 4
 four_few = omega arith
 
 -- two steps, and a third
-steps : {A B C : Type 0} (r : Result A ImageFault) (f : A → Result B ImageFault) (g : B → Result C ImageFault) → (r >>= λ x. f x >>= g) ≡ ((r >>= f) >>= g)
+pub steps : {A B C : Type 0} (r : Result A ImageFault) (f : A → Result B ImageFault) (g : B → Result C ImageFault) → (r >>= λ x. f x >>= g) ≡ ((r >>= f) >>= g)
 steps (Ok x) f g = refl
 steps (Err e) f g = refl
 
@@ -77,10 +77,10 @@ library_is bytes =
     (steps (head_at (codes "SOML") 2 bytes 0) (λ version. library.classes_at version.value bytes version.next) (at_end bytes))
 
 -- what is told is told by any reading that is the same
-over : {B : Type 0} (f g : List ℕ → Result B ImageFault) (Spells : B → List ℕ → Type 0) (x : ImageFault) (bytes : List ℕ) (p : ℕ) → ((b : List ℕ) → f b ≡ g b) → StopsAt g Spells x bytes p → StopsAt f Spells x bytes p
+pub over : {B : Type 0} (f g : List ℕ → Result B ImageFault) (Spells : B → List ℕ → Type 0) (x : ImageFault) (bytes : List ℕ) (p : ℕ) → ((b : List ℕ) → f b ≡ g b) → StopsAt g Spells x bytes p → StopsAt f Spells x bytes p
 over f g Spells x bytes p same s = record { ends = s.ends; past = s.past; near = s.near; within = s.within; stays = λ more. same (take s.ends bytes ++ more) ∙ s.stays more; dead = s.dead; before = λ n le. same (take n bytes) ∙ s.before n le }
 
-bytes_front : (p : ℕ) (bytes : List ℕ) → AreBytes bytes → AreBytes (take p bytes)
+pub bytes_front : (p : ℕ) (bytes : List ℕ) → AreBytes bytes → AreBytes (take p bytes)
 bytes_front p bytes all i = elim (cases_lt i p) [
   | inl lt ↦ rw (get_or-take p bytes i 0 lt) (all i)
   | inr le ↦ rw (get_or_past (take p bytes) i 0 (omega (arith, length-take p bytes))) (omega arith)

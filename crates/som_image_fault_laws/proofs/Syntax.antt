@@ -146,10 +146,10 @@ call_field (suc left) ranges from place le =
 
 -- ---- statements
 
-abbrev a_block : List WireStmt → WireBlock
+abbrev pub a_block : List WireStmt → WireBlock
 a_block ss = record { statements = ss }
 
-statements_field : (one : Reads WireStmt) → IsLocalField one → IsLocalField (statements_at one)
+pub statements_field : (one : Reads WireStmt) → IsLocalField one → IsLocalField (statements_at one)
 statements_field one field from place le =
     after_four (λ count bytes. many_at (one bytes) count.value count.next >>= λ ss. done (a_block ss.value) ss.next) from place le
     (λ count is.
@@ -183,7 +183,7 @@ module _ (ranges : Ranges) (inner : Reads WireExpr) (field : IsLocalField inner)
       (pick (tag.value == 0x03) (of_two_field (number_at w8) inner stmts.SetVariable (number_field w8) field from tag.next behind)
       plain_local))
 
-stmt_field : (left : ℕ) (ranges : Ranges) → IsLocalField (stmt_at left ranges)
+pub stmt_field : (left : ℕ) (ranges : Ranges) → IsLocalField (stmt_at left ranges)
 unfolding stmt_at
 stmt_field zero ranges from place le = deep_field is_stmt_tag from place le
 stmt_field (suc left) ranges from place le =

@@ -3,4 +3,4 @@
 
 mod laws;
 
-pub use laws::{client_fault_law, library_fault_law};
+pub use laws::{client_fault_law, level_fault_law, library_fault_law};

@@ -1,0 +1,12 @@
+pub mod Lists
+pub mod Keyed
+pub mod Placing
+pub mod Known
+pub mod Listing
+pub mod Owning
+pub mod Failing
+pub mod Descent
+pub mod KeptMethods
+pub mod KeptMetaclasses
+pub mod Pairing
+pub mod Leveling

@@ -1,0 +1,20 @@
+//! Whether newer libraries, one above the other, are compatible with older ones, level by level.
+#![tactic(auto)]
+
+mod ancestors;
+mod breach;
+mod classes;
+mod entries;
+mod finding;
+mod levels;
+mod metaclasses;
+mod methods;
+mod numbers;
+mod owners;
+mod pair;
+mod rows;
+mod tables;
+mod versions;
+
+pub use breach::{LevelBreach, LevelFault};
+pub use levels::compatible_levels;

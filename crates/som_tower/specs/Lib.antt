@@ -1,0 +1,2 @@
+pub mod Towers
+pub mod Standing

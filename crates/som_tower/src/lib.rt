@@ -1,0 +1,8 @@
+//! Towers: a library, libraries above it, and a client on top become one linked kernel, or what is first in the way is answered.
+#![tactic(auto)]
+
+mod building;
+mod laying;
+mod library;
+
+pub use laying::lay_tower;
