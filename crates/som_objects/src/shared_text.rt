@@ -1,7 +1,6 @@
 //! `SharedText`, a text behind one pointer, which its copies share.
 
 ghost use Rattle.std.specs.Prelude.{◌≡◌, IfOk, length};
-ghost use Rattle.std.specs.Str.{bytes_eq};
 
 use som_model::{NoMemory, Text};
 use std::alloc::Global;

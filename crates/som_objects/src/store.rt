@@ -1,6 +1,6 @@
 //! The object store: objects are made, read, written and freed under keys that are used again.
 
-ghost use Rattle.som_objects.specs.Objects.{IsKnown, KeepsKnown, IsGone, HasClass, HasCell, InRange, Makes, Writes, Frees};
+ghost use Rattle.som_objects.specs.Objects.{IsKnown, KeepsKnown, IsGone, HasClass, HasCell, InRange, IsObject, Makes, Writes, Frees};
 ghost use Rattle.som_objects.specs.Slots.{HasPlace, Puts, live_slot, slot_at};
 ghost use Rattle.std.specs.Option.{option_copied, is_some};
 ghost use Rattle.std.specs.Prelude.{◌≡◌, ◌+◌, ◌<◌, [], length, slice_get, IfOk, None, OnOk, OnErr};
@@ -91,6 +91,18 @@ impl ObjectStore {
     {
         match live(&self.slots, object) {
             Some(slot) => Ok(slot.class),
+            None => Err(Gone),
+        }
+    }
+
+    /// The class of an object and its cells, or Gone where it was freed.
+    pub fn class_and_cells(&self, object: &ObjRef) -> Result<(ClassNo, &[Cell]), Gone>
+        requires { IsKnown self.now object.now }
+        ensures object { IfOk result (λ found. IsObject self.now object.now found.0 found.1.now) }
+        ensures gone { OnErr result (IsGone self.now object.now) }
+    {
+        match live(&self.slots, object) {
+            Some(slot) => Ok((slot.class, slot.cells.as_slice())),
             None => Err(Gone),
         }
     }

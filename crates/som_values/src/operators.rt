@@ -5,7 +5,7 @@ ghost use Rattle.som_semantics.specs.Values.{binary as binary_value, binary_op, 
 ghost use Rattle.som_semantics.specs.Values as ops;
 ghost use Rattle.som_objects.specs.Objects.{Objects};
 ghost use Rattle.som_values.specs.Answers.{Answers};
-ghost use Rattle.som_values.specs.Operators.{IsOnNumbers, binary_of, unary_of};
+ghost use Rattle.som_values.specs.Operators.{IsOnNumbers, binary_of};
 ghost use Rattle.som_values.specs.Shown.{AreApart, IsSeen, Showing, shown};
 ghost use Rattle.som_values.specs.Stored.{IsKept};
 ghost use Rattle.std.specs.Prelude.{◌≡◌, ◌++◌, IfOk};

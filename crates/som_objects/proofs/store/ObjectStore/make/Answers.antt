@@ -1,4 +1,4 @@
-use Rattle.std.proofs.Common.{◌≡◌, ◌∙◌, ◌+◌, length, sym, ap, arith, refl}
+use Rattle.std.proofs.Common.{◌≡◌, ◌∙◌, ◌+◌, length, sym, ap}
 use Rattle.som_objects.proofs.Found.{many}
 use Rattle.som_objects.proofs.Changing.{made_more}
 use Rattle.som_objects.proofs.Known.{keeps_made, known_made}

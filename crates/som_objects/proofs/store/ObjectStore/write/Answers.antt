@@ -1,6 +1,6 @@
 use Rattle.som_objects.specs.Slots.{as_live}
 use Rattle.som_objects.proofs.Found.{in_slot}
-use Rattle.som_objects.proofs.Putting.{all_known, gone_where_not, put_store, written_where_live}
+use Rattle.som_objects.proofs.Putting.{all_known, gone_where_not, written_where_live}
 use Rattle.som_objects.proofs.store.ObjectStore.write.Goals as goal
 
 pub put-requires : goal.put-requires
