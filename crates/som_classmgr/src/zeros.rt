@@ -15,19 +15,14 @@ use som_values::add_zeros;
 use std::alloc::Global;
 
 /// Adds the zero values of a class's own variables.
-fn add_own(
-    alloc: Global,
-    classes: &Classes,
-    class: ClassNo,
-    cells: &mut List<Cell>,
-) -> Result<(), NoMemory>
+fn add_own(classes: &Classes, class: ClassNo, cells: &mut List<Cell>) -> Result<(), NoMemory>
     requires { IsNumbered classes.now class }
     ensures { (types : Seq ValueType) → AreZeros types cells.old → OnOk result (AreZeros (types ++ own_variables classes.now.classes (key_at classes.now class)) cells.new) }
 {
     let _count = classes.count();
     if class.number() < classes.declared_count() {
         let variables = classes.declared(class).decl.variables.as_slice();
-        add_zeros(alloc, variables, cells)
+        add_zeros(variables, cells)
     } else {
         Ok(())
     }
@@ -40,7 +35,7 @@ fn zeros_over(alloc: Global, classes: &Classes, all: &[ClassNo]) -> Result<List<
 {
     let mut cells = List::new(alloc);
     for class in all {
-        add_own(alloc, classes, *class, &mut cells)?;
+        add_own(classes, *class, &mut cells)?;
     }
     Ok(cells)
 }
