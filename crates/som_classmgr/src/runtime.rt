@@ -157,7 +157,8 @@ impl Runtime for Kernel<Linked> {
     }
 
     fn zero_cells(&self, alloc: Global, class: ClassNo) -> Result<List<Cell>, NoMemory> {
-        zeros_of(alloc, self.classes(), class)
+        let classes = self.classes();
+        zeros_of(alloc, classes, class, self.variable_cells(class))
     }
 
     fn is_proxy(&self, class: ClassNo) -> bool {

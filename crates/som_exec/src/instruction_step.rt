@@ -90,6 +90,7 @@ fn obey_taken<R: Runtime, K: Sink>(
 }
 
 // The body that runs.
+#[inline(always)]
 pub(crate) fn running(frames: &Frames) -> &Body
     requires { IsBody frames.now.now }
     ensures { frames.entry.now.now ≡ nows.Running result.now }
@@ -101,6 +102,7 @@ pub(crate) fn running(frames: &Frames) -> &Body
 }
 
 // Takes the body that runs out of the frames.
+#[inline(always)]
 pub(crate) fn take_body(frames: &mut Frames) -> Body
     requires { IsBody frames.old.now }
     ensures body { frames.old.now ≡ nows.Running result }

@@ -41,7 +41,7 @@ pub fn make_next<R: Runtime>(
 }
 
 /// The next body of a call is invoked, or, where none is left, the call answers; where no unit is left, all is as it
-/// was. What is next then is answered. Where the store has given all serials that there are, memory is wanting.
+/// was. What is next then is answered.
 pub fn invoke_next<R: Runtime, K: Sink, L: Ledger>(
     alloc: Global,
     runtime: &mut R,
@@ -67,15 +67,13 @@ pub fn invoke_next<R: Runtime, K: Sink, L: Ledger>(
     ensures calm_count { K.calm out.old → K.faults out.new ≡ K.faults out.old }
     ensures calm_answer { K.calm out.old → result ≢ Err stops.SinkFailed }
 {
-    if objects.made() == u64::MAX {
-        return Err(Stop::NoMemory);
-    }
     invoke(
         alloc, runtime, task, objects, trace, prefix, fuel, out, steps,
     )
 }
 
 // Takes the call that is made next out of the frames, with the levels that it may go.
+#[inline(always)]
 fn take_call(frames: &mut Frames) -> (u32, Call)
     requires { IsCall frames.old.now }
     ensures call { frames.old.now ≡ nows.Calling result.0 result.1 }

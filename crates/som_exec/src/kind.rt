@@ -18,6 +18,7 @@ pub(crate) enum Kind {
 }
 
 /// What is next in a task; none where a value is answered and nothing waits for it, so that main is over.
+#[inline(always)]
 pub(crate) fn kind_of(task: &Task) -> Option<Kind>
     requires { HasCode task.now }
     ensures { IsKind task.now result }

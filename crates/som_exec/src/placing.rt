@@ -8,6 +8,7 @@ use som_interp_state::Now;
 use som_trace::Place;
 
 /// The answer of a step, of which a fault is in this place.
+#[inline(always)]
 pub(crate) fn placed(answer: Result<Now, Stop>, place: Place) -> Result<Now, Stop>
     ensures { result ≡ in_place place answer }
 {

@@ -63,6 +63,7 @@ fn place_of(waiting: &Waiting) -> Place
 }
 
 // Takes the value that is answered.
+#[inline(always)]
 fn take_value(now: &mut Now) -> Cell
     requires { IsValue now.old }
     ensures value { now.old ≡ nows.Answering result }

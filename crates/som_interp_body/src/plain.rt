@@ -84,7 +84,7 @@ fn plainly<R: Runtime>(
 {
     match instruction {
         Instruction::Push(constant) => push_constant(alloc, constant, body),
-        Instruction::Get(place) => get(alloc, *place, body),
+        Instruction::Get(place) => get(*place, body),
         Instruction::Set(place) => set(*place, body),
         Instruction::Cut(place) => cut(*place, body),
         Instruction::Me => push_me(body),

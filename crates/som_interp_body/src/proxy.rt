@@ -100,9 +100,6 @@ fn build<R: Runtime>(
     ensures keeps { Keeps (scene (R.linked runtime.old) (R.known runtime.old) (R.program runtime.old) (R.made runtime.old) objects.old task.old fuel.old)
         (scene (R.linked runtime.new) (R.known runtime.new) (R.program runtime.new) (R.made runtime.new) objects.new task.new fuel.new) }
 {
-    if objects.made() == u64::MAX {
-        return Err(Stop::NoMemory);
-    }
     runtime.reach(alloc, class)?;
     runtime.know();
     let target = pop(&mut body.operands);

@@ -56,16 +56,16 @@ pub fn obey_in_place<R: Runtime, K: Sink>(
     runtime.know();
     let code = task.codes.get(body.code);
     if body.at >= code.len() {
-        return Ok(Outcome::Answers(zero_cell(alloc, body.zero)));
+        return Ok(Outcome::Answers(zero_cell(body.zero)));
     }
     match code.at(body.at) {
-        Instruction::Return => Ok(Outcome::Answers(zero_cell(alloc, body.zero))),
+        Instruction::Return => Ok(Outcome::Answers(zero_cell(body.zero))),
         Instruction::ReturnValue => Ok(Outcome::Answers(pop(&mut body.operands))),
         Instruction::Turn => turn(fuel, body),
         Instruction::Class(class) => class_object(alloc, runtime, class, body),
         Instruction::Print => print(alloc, prefix, out, body),
         Instruction::GetVariable(variable) => {
-            get_variable(alloc, runtime, task, objects, *variable, body)
+            get_variable(runtime, task, objects, *variable, body)
         },
         Instruction::SetVariable(variable) => {
             let variable = *variable;

@@ -26,7 +26,6 @@ use std::alloc::Global;
 
 /// Self's variable of the class whose body runs comes to the top.
 pub(crate) fn get_variable<R: Runtime>(
-    alloc: Global,
     runtime: &R,
     task: &Task,
     objects: &ObjectStore,
@@ -43,15 +42,7 @@ pub(crate) fn get_variable<R: Runtime>(
     runtime.know();
     let class = class_at(runtime, &body.place);
     let at = body.place;
-    match read(
-        alloc,
-        runtime,
-        objects,
-        &task.statics,
-        body.me,
-        class,
-        variable,
-    ) {
+    match read(runtime, objects, &task.statics, body.me, class, variable) {
         Ok(cell) => {
             push(&mut body.operands, cell)?;
             body.at += 1;

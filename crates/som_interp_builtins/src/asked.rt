@@ -45,7 +45,7 @@ pub fn ask<R: Runtime, L: Ledger>(
         Asking::IsA => is_a(runtime, objects, me, args),
         Asking::IsInstanceOf => is_instance_of(runtime, objects, me, args),
         Asking::RespondsTo => responds_to(alloc, runtime, objects, me, args, steps),
-        Asking::DispatchName => dispatch_name(alloc, args),
+        Asking::DispatchName => dispatch_name(args),
         Asking::GetName => get_name(alloc, runtime, me),
         Asking::DescendedFrom => descended_from(runtime, objects, me, args),
         Asking::SupportsMethod => supports_method(alloc, runtime, me, args, steps),

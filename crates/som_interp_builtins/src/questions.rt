@@ -101,11 +101,11 @@ pub(crate) fn responds_to<R: Runtime, L: Ledger>(
 }
 
 /// somDispatchName: the name that was given.
-pub(crate) fn dispatch_name(alloc: Global, args: &[Cell]) -> Result<Cell, Stopped>
+pub(crate) fn dispatch_name(args: &[Cell]) -> Result<Cell, Stopped>
     ensures { (l : Linked) (made : Key → Bool) (keys : List Key) (w : World) (os : Objects) (me : To) → AnswersTo l made keys w os me args.now questions.DispatchName result }
 {
     match args.first() {
-        Some(cell) => Ok(copy_cell(alloc, cell)?),
+        Some(cell) => Ok(copy_cell(cell)?),
         None => Ok(Cell::Nil),
     }
 }

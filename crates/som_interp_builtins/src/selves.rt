@@ -15,8 +15,8 @@ ghost use Rattle.std.specs.Prelude.{◌≡◌, ◌≤◌, ◌+◌, [], ℕ, IfOk
 
 use crate::arguments::first_text;
 use som_interp_state::Runtime;
-use som_model::{Fault, MAX_TEXT, NoMemory, Text};
-use som_objects::{Cell, ObjectStore};
+use som_model::{Fault, MAX_TEXT, NoMemory};
+use som_objects::{Cell, ObjectStore, SharedText};
 use som_tables::{ClassNo, Steps};
 use som_trace::name_within;
 use som_values::{Reference, Stopped, class_of};
@@ -50,7 +50,7 @@ pub(crate) fn name_of<R: Runtime>(
 {
     runtime.know();
     match name_within(alloc, runtime, class, MAX_TEXT as usize)? {
-        Some(name) => Ok(Cell::Str(Text::from_slice(alloc, name.as_slice())?)),
+        Some(name) => Ok(Cell::Str(SharedText::from_text(alloc, name)?)),
         None => Err(Stopped::Fault(Fault::TextTooLong)),
     }
 }

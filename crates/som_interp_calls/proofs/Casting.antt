@@ -33,6 +33,7 @@ use Rattle.som_interp_calls.proofs.Going.{stays}
 pub cell_classed : (l : Linked) (made : ClassKey → Bool) (ks : List ClassKey) (xs : List ℕ) (os : Objects) (statics : List (Option (List Cell))) (h : Heap) (c : Cell) → Holding l made xs os statics h → l.keys ≡ ks → IsUsable l made xs os c → IsClassed ks made os c
 cell_classed l made ks xs os statics h (cells.Long z) holding e u = tt
 cell_classed l made ks xs os statics h (cells.Boolean b) holding e u = tt
+cell_classed l made ks xs os statics h cells.EmptyStr holding e u = tt
 cell_classed l made ks xs os statics h (cells.Str s) holding e u = tt
 cell_classed l made ks xs os statics h cells.Nil holding e u = tt
 cell_classed l made ks xs os statics h cells.Manager holding e u = tt

@@ -36,7 +36,7 @@ use som_interp_dispatch::dispatch_token;
 use som_interp_loop::Stop;
 use som_interp_state::{Body, Call, Frames, Now, Runtime, Task, Waiting};
 use som_model::{NoMemory, Text, ValueType};
-use som_objects::{Cell, ObjectStore};
+use som_objects::{Cell, ObjectStore, SharedText};
 use som_tables::Steps;
 use som_trace::{Manner, Place};
 use som_values::{copy_cell, text_of};
@@ -63,7 +63,7 @@ pub fn dispatch_call<R: Runtime>(
 {
     let at = body.at;
     let (on, args) = take_call(&mut body, count)?;
-    let receiver = copy_cell(alloc, &on)?;
+    let receiver = copy_cell(&on)?;
     let given = name_alone(alloc, name)?;
     let method = dispatch_token(runtime);
     let call = test_offset(runtime, objects, body.place, method, &receiver, given)?;
@@ -94,7 +94,7 @@ fn name_alone(alloc: Global, name: &Text) -> Result<Vec<Cell>, NoMemory>
 {
     let mut args = Vec::new(alloc);
     let name = name.copy(alloc)?;
-    args.push(Cell::Str(name))?;
+    args.push(Cell::Str(SharedText::from_text(alloc, name)?))?;
     Ok(args)
 }
 

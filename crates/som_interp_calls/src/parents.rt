@@ -167,7 +167,7 @@ fn copy_cells(alloc: Global, cells: &[Cell]) -> Result<Vec<Cell>, NoMemory>
 {
     let mut copies = Vec::new(alloc);
     for cell in cells {
-        let copy = copy_cell(alloc, cell)?;
+        let copy = copy_cell(cell)?;
         copies.push(copy)?;
     }
     Ok(copies)

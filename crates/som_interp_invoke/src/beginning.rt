@@ -5,7 +5,7 @@ ghost use Rattle.som_interp_invoke.specs.Begun.{LooksUpNone};
 ghost use Rattle.som_interp_loop.specs.Scene.{scene};
 ghost use Rattle.som_interp_loop.specs.declared.stop.Stop.TheVariants as stops;
 ghost use Rattle.som_interp_state.specs.Asked.{HaveAncestors};
-ghost use Rattle.std.specs.Prelude.{◌≡◌, ◌≢◌, ◌+◌, ◌<◌, ◌^◌, ◌≤◌, ℕ, Err, length};
+ghost use Rattle.std.specs.Prelude.{◌≡◌, ◌≢◌, ◌+◌, ◌<◌, ◌≤◌, ℕ, Err};
 
 use crate::coding::begin_code;
 use crate::forwarding::begin_forwarding;
@@ -35,7 +35,6 @@ pub fn begin<R: Runtime, L: Ledger>(
     steps: &mut Steps<L>,
 ) -> Result<Now, Stop>
     requires can { MayBegin (R.linked runtime.old) (R.known runtime.old) (R.program runtime.old) (R.made runtime.old) objects.old task.old begun me args.items }
-    requires room { length objects.old + 1 < 2 ^ 64 }
     ensures linked { R.linked runtime.new ≡ R.linked runtime.old }
     ensures known { R.known runtime.new ≡ R.known runtime.old }
     ensures program { R.program runtime.new ≡ R.program runtime.old }
@@ -64,7 +63,6 @@ fn begin_what<R: Runtime, L: Ledger>(
     steps: &mut Steps<L>,
 ) -> Result<Now, Stop>
     requires can { MayBegin (R.linked runtime.old) (R.known runtime.old) (R.program runtime.old) (R.made runtime.old) objects.old task.old begun me args.items }
-    requires room { length objects.old + 1 < 2 ^ 64 }
     ensures linked { R.linked runtime.new ≡ R.linked runtime.old }
     ensures known { R.known runtime.new ≡ R.known runtime.old }
     ensures program { R.program runtime.new ≡ R.program runtime.old }
@@ -75,9 +73,7 @@ fn begin_what<R: Runtime, L: Ledger>(
 {
     match begun.what {
         What::Code(code) => Ok(begin_code(alloc, &*runtime, levels, begun, code, me, args)),
-        What::Get(variable) => {
-            begin_reading(alloc, &*runtime, &*task, &*objects, begun, variable, me)
-        },
+        What::Get(variable) => { begin_reading(&*runtime, &*task, &*objects, begun, variable, me) },
         What::Set(variable) => {
             begin_writing(alloc, &*runtime, task, objects, begun, variable, me, args)
         },
@@ -95,7 +91,7 @@ fn begin_what<R: Runtime, L: Ledger>(
                 steps,
             )
         },
-        What::Forward => begin_forwarding(alloc, &*runtime, &*objects, levels, begun, me, args),
+        What::Forward => begin_forwarding(&*runtime, &*objects, levels, begun, me, args),
         What::Nothing => Ok(begin_nothing(begun)),
     }
 }

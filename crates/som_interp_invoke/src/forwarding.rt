@@ -16,11 +16,9 @@ use som_interp_state::{Now, Runtime};
 use som_objects::{Cell, ObjectStore};
 use som_trace::Manner;
 use som_values::Reference;
-use std::alloc::Global;
 
 /// A proxy's body: it makes the call that it got on its target.
 pub(crate) fn begin_forwarding<R: Runtime>(
-    alloc: Global,
     runtime: &R,
     objects: &ObjectStore,
     levels: u32,
@@ -36,7 +34,7 @@ pub(crate) fn begin_forwarding<R: Runtime>(
     runtime.know();
     let method = begun.method;
     let _signature = runtime.signature(method);
-    let on = match target(alloc, runtime, objects, me) {
+    let on = match target(runtime, objects, me) {
         Ok(on) => on,
         Err(stopped) => return Err(stop_at(place_of(&begun), stopped)),
     };

@@ -16,7 +16,7 @@ ghost use Rattle.som_interp_state.specs.declared.frames.Now.TheVariants as nows;
 ghost use Rattle.som_objects.specs.declared.cell.Cell.{Cell as Value};
 ghost use Rattle.som_trace.specs.Filters.{shows_of};
 ghost use Rattle.som_interp_state.specs.Asked.{HaveAncestors};
-ghost use Rattle.std.specs.Prelude.{◌≡◌, ◌≢◌, ◌≤◌, ◌<◌, ◌+◌, ◌^◌, Err, length, List, ℕ};
+ghost use Rattle.std.specs.Prelude.{◌≡◌, ◌≢◌, ◌≤◌, ◌<◌, ◌+◌, Err, List, ℕ};
 
 use crate::begin;
 use crate::planning::plan;
@@ -48,7 +48,6 @@ pub fn invoke<R: Runtime, K: Sink, L: Ledger>(
 ) -> Result<Now, Stop>
     requires invoking { IsInvoking task.old.frames.now }
     requires standing { IsStanding (scene (R.linked runtime.old) (R.known runtime.old) (R.program runtime.old) (R.made runtime.old) objects.old task.old fuel.old) task.old.frames.now }
-    requires room { length objects.old + 1 < 2 ^ 64 }
     ensures linked { R.linked runtime.new ≡ R.linked runtime.old }
     ensures known { R.known runtime.new ≡ R.known runtime.old }
     ensures program { R.program runtime.new ≡ R.program runtime.old }

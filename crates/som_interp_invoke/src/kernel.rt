@@ -5,7 +5,7 @@ ghost use Rattle.som_interp_invoke.specs.Begun.{LooksUpNone};
 ghost use Rattle.som_interp_invoke.specs.declared.begun.What.TheVariants as whats;
 ghost use Rattle.som_interp_loop.specs.Scene.{scene};
 ghost use Rattle.som_interp_state.specs.Asked.{HaveAncestors};
-ghost use Rattle.std.specs.Prelude.{◌≡◌, ◌+◌, ◌<◌, ◌^◌, ◌≤◌, ℕ, length};
+ghost use Rattle.std.specs.Prelude.{◌≡◌, ◌+◌, ◌<◌, ◌≤◌, ℕ};
 
 use crate::Begun;
 use crate::asking::begin_asking;
@@ -37,7 +37,6 @@ pub(crate) fn begin_kernel<R: Runtime, L: Ledger>(
 ) -> Result<Now, Stop>
     requires what { begun.what ≡ whats.Kernel kind }
     requires can { MayBegin (R.linked runtime.old) (R.known runtime.old) (R.program runtime.old) (R.made runtime.old) objects.old task.old begun me args.now }
-    requires room { length objects.old + 1 < 2 ^ 64 }
     ensures linked { R.linked runtime.new ≡ R.linked runtime.old }
     ensures known { R.known runtime.new ≡ R.known runtime.old }
     ensures program { R.program runtime.new ≡ R.program runtime.old }

@@ -5,7 +5,7 @@ ghost use Rattle.som_interp_invoke.specs.Beginning.{Began, MayBegin};
 ghost use Rattle.som_interp_invoke.specs.declared.begun.What.TheVariants as whats;
 ghost use Rattle.som_interp_loop.specs.Scene.{scene};
 ghost use Rattle.som_objects.specs.declared.cell.Cell.{Cell as Argument};
-ghost use Rattle.std.specs.Prelude.{◌≡◌, ◌+◌, ◌<◌, ◌^◌, ℕ, List, length};
+ghost use Rattle.std.specs.Prelude.{◌≡◌, ◌<◌, ℕ, List};
 
 use crate::Begun;
 use crate::answering::place_of;
@@ -31,7 +31,6 @@ pub(crate) fn begin_making<R: Runtime>(
 ) -> Result<Now, Stop>
     requires what { begun.what ≡ whats.Kernel kinds.NewNoInit }
     requires can { (args : List Argument) × MayBegin (R.linked runtime.now) (R.known runtime.now) (R.program runtime.now) (R.made runtime.now) objects.old task.old begun me args }
-    requires room { length objects.old + 1 < 2 ^ 64 }
     ensures { (f levels : ℕ) (args : List Argument) → Began (scene (R.linked runtime.now) (R.known runtime.now) (R.program runtime.now) (R.made runtime.now) objects.old task.old f)
         (scene (R.linked runtime.now) (R.known runtime.now) (R.program runtime.now) (R.made runtime.now) objects.new task.new f) begun levels me args result }
 {
@@ -57,7 +56,6 @@ pub(crate) fn begin_new<R: Runtime>(
 ) -> Result<Now, Stop>
     requires what { begun.what ≡ whats.Kernel kinds.New }
     requires can { (args : List Argument) × MayBegin (R.linked runtime.now) (R.known runtime.now) (R.program runtime.now) (R.made runtime.now) objects.old task.old begun me args }
-    requires room { length objects.old + 1 < 2 ^ 64 }
     ensures { (f : ℕ) (args : List Argument) → Began (scene (R.linked runtime.now) (R.known runtime.now) (R.program runtime.now) (R.made runtime.now) objects.old task.old f)
         (scene (R.linked runtime.now) (R.known runtime.now) (R.program runtime.now) (R.made runtime.now) objects.new task.new f) begun levels me args result }
 {

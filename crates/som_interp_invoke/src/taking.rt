@@ -16,7 +16,7 @@ use crate::planning::me;
 use som_interp_dispatch::Role;
 use som_interp_state::{Frames, Left, Now, Runtime, Stage, Waiting};
 use som_model::NoMemory;
-use som_objects::Cell;
+use som_objects::{Cell, SharedText};
 use som_values::{Reference, refer};
 use std::alloc::Global;
 use std::mem;
@@ -140,6 +140,6 @@ fn hook_args<R: Runtime>(alloc: Global, runtime: &R, left: &Left) -> Result<Vec<
     let name = runtime.method_name(left.call.method).copy(alloc)?;
     let mut args = Vec::new(alloc);
     args.push(refer(left.call.me))?;
-    args.push(Cell::Str(name))?;
+    args.push(Cell::Str(SharedText::from_text(alloc, name)?))?;
     Ok(args)
 }

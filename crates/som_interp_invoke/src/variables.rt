@@ -19,7 +19,6 @@ use std::alloc::Global;
 
 /// A body that reads a variable: the task goes on with its value, or has the fault in the body's place.
 pub(crate) fn begin_reading<R: Runtime>(
-    alloc: Global,
     runtime: &R,
     task: &Task,
     objects: &ObjectStore,
@@ -39,7 +38,6 @@ pub(crate) fn begin_reading<R: Runtime>(
     answered(
         at,
         read(
-            alloc,
             runtime,
             objects,
             &task.statics,

@@ -52,17 +52,12 @@ pub(crate) fn sure_place<R: Runtime>(
 }
 
 /// The cell of a variable's zero value.
-pub(crate) fn zero_variable<R: Runtime>(
-    alloc: Global,
-    runtime: &R,
-    class: ClassNo,
-    variable: u8,
-) -> Cell
+pub(crate) fn zero_variable<R: Runtime>(runtime: &R, class: ClassNo, variable: u8) -> Cell
     requires { IsNumbered (R.linked runtime.now).keys class }
     ensures { IsPlain result (zeros (R.linked runtime.now).world (key_of (R.linked runtime.now).keys class) variable) }
 {
     runtime.know();
-    zero_cell(alloc, runtime.zero(class, variable))
+    zero_cell(runtime.zero(class, variable))
 }
 
 /// The cells of a new object of a class, but for a proxy's target, as the kernel says them.

@@ -9,7 +9,7 @@ ghost use Rattle.som_interp_state.specs.Holding.{Holding, IsUsable};
 ghost use Rattle.som_interp_state.specs.Stored.{AreSerials, Spares};
 ghost use Rattle.som_values.specs.Shown.{IsNumbered, key_of};
 ghost use Rattle.som_interp_objects.specs.Statics.{Statics};
-ghost use Rattle.std.specs.Prelude.{◌≡◌, ◌+◌, ◌-◌, ◌<◌, ◌^◌, ◌++◌, ◌∷◌, [], ℕ, IfOk, List as Seq, OnErr, OnOk, false, length, take, true};
+ghost use Rattle.std.specs.Prelude.{◌≡◌, ◌+◌, ◌++◌, ◌∷◌, [], ℕ, IfOk, List as Seq, OnErr, OnOk, false, length, take, true};
 
 use crate::zero_cells;
 use som_interp_state::Runtime;
@@ -25,14 +25,13 @@ pub fn make<R: Runtime>(
     alloc: Global,
     runtime: &R,
     objects: &mut ObjectStore,
-    serials: &mut List<u64>,
+    serials: &mut List<u32>,
     class: ClassNo,
     target: Cell,
 ) -> Result<ObjRef, NoMemory>
     requires class { IsNumbered (R.linked runtime.now).keys class }
     requires made { R.made runtime.now (key_of (R.linked runtime.now).keys class) ≡ true }
     requires target { is_proxy_key (key_of (R.linked runtime.now).keys class) ≡ false → target ≡ held.Nil }
-    requires room { length objects.old < 2 ^ 64 - 1 }
     ensures next { (statics : Statics) (h : Heap) → Holding (R.linked runtime.now) (R.made runtime.now) serials.old objects.old statics h → IsUsable (R.linked runtime.now) (R.made runtime.now) serials.old objects.old target
         → IfOk result (IsNext (R.linked runtime.now) (R.made runtime.now) class target serials.old objects.new statics h) }
     ensures serial { IfOk result (λ r. r.serial ≡ length objects.old + 1) }
@@ -45,7 +44,7 @@ pub fn make<R: Runtime>(
 {
     let cells = new_cells(alloc, runtime, class, target)?;
     let count = serials.len();
-    serials.push(objects.made() + 1)?;
+    serials.push(objects.next_serial()?)?;
     match objects.make(class, cells) {
         Ok(object) => Ok(object),
         Err(error) => {
@@ -82,7 +81,7 @@ fn is_proxy<R: Runtime>(runtime: &R, class: ClassNo) -> bool
 }
 
 // Keeps the first serials alone.
-fn cut(alloc: Global, serials: &mut List<u64>, count: usize)
+fn cut(alloc: Global, serials: &mut List<u32>, count: usize)
     ensures { serials.new ≡ take count serials.old }
 {
     let mut items = mem::replace(serials, List::new(alloc)).into_vec();

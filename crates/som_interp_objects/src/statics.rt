@@ -21,7 +21,6 @@ use std::mem;
 /// A variable of a class object: what its cell holds, or the zero value where the class object wasn't written yet, or
 /// has no such variable.
 pub(crate) fn read_class_object<R: Runtime>(
-    alloc: Global,
     runtime: &R,
     statics: &Vec<Option<List<Cell>>>,
     of: ClassNo,
@@ -36,10 +35,10 @@ pub(crate) fn read_class_object<R: Runtime>(
 {
     match statics.get(of.number() as usize) {
         Some(Some(cells)) => match static_place(runtime, of, class, variable) {
-            Some(place) => copy_cell(alloc, &cells.as_slice()[place as usize]),
-            None => Ok(zero_variable(alloc, runtime, class, variable)),
+            Some(place) => copy_cell(&cells.as_slice()[place as usize]),
+            None => Ok(zero_variable(runtime, class, variable)),
         },
-        _ => Ok(zero_variable(alloc, runtime, class, variable)),
+        _ => Ok(zero_variable(runtime, class, variable)),
     }
 }
 

@@ -18,11 +18,9 @@ use som_model::Fault;
 use som_objects::{Cell, ObjRef, ObjectStore};
 use som_tables::ClassNo;
 use som_values::{Reference, Stopped};
-use std::alloc::Global;
 
 /// The target of a proxy; nil of what is no proxy. The fault is Freed.
 pub fn target<R: Runtime>(
-    alloc: Global,
     runtime: &R,
     objects: &ObjectStore,
     reference: Reference,
@@ -34,14 +32,13 @@ pub fn target<R: Runtime>(
         → IfOk result (IsUsable (R.linked runtime.now) (R.made runtime.now) xs objects.now) }
 {
     match reference {
-        Reference::Object(object) => object_target(alloc, runtime, objects, &object),
+        Reference::Object(object) => object_target(runtime, objects, &object),
         Reference::Class(_) | Reference::Manager => Ok(Cell::Nil),
     }
 }
 
 // The target that an object has, if it is a proxy.
 fn object_target<R: Runtime>(
-    alloc: Global,
     runtime: &R,
     objects: &ObjectStore,
     object: &ObjRef,
@@ -52,14 +49,13 @@ fn object_target<R: Runtime>(
     ensures { IsTarget (R.linked runtime.now) objects.now object.now result }
 {
     match objects.class(object) {
-        Ok(of) => live_target(alloc, runtime, objects, object, of),
+        Ok(of) => live_target(runtime, objects, object, of),
         Err(_) => Err(Stopped::Fault(Fault::Freed)),
     }
 }
 
 // The target that a live object of this class has, if it is a proxy.
 fn live_target<R: Runtime>(
-    alloc: Global,
     runtime: &R,
     objects: &ObjectStore,
     object: &ObjRef,
@@ -72,7 +68,7 @@ fn live_target<R: Runtime>(
     ensures { IsTarget (R.linked runtime.now) objects.now object.now result }
 {
     match target_place(runtime, of) {
-        Some(place) => read_cell(alloc, objects, object, place),
+        Some(place) => read_cell(objects, object, place),
         None => Ok(Cell::Nil),
     }
 }

@@ -23,7 +23,6 @@ use std::alloc::Global;
 /// Self's variable of a class: of an object what its cell holds, of a class object what its class has for it, and of
 /// the class manager object nil. The faults are Nil, where there is no self, and Freed.
 pub fn read<R: Runtime>(
-    alloc: Global,
     runtime: &R,
     objects: &ObjectStore,
     statics: &Vec<Option<List<Cell>>>,
@@ -39,16 +38,13 @@ pub fn read<R: Runtime>(
         → IfOk result (IsUsable (R.linked runtime.now) (R.made runtime.now) xs objects.now) }
 {
     match me {
-        Some(reference) => {
-            read_of(alloc, runtime, objects, statics, reference, class, variable)
-        },
+        Some(reference) => { read_of(runtime, objects, statics, reference, class, variable) },
         None => Err(Stopped::Fault(Fault::Nil)),
     }
 }
 
 // The variable of a self that isn't nil.
 fn read_of<R: Runtime>(
-    alloc: Global,
     runtime: &R,
     objects: &ObjectStore,
     statics: &Vec<Option<List<Cell>>>,
@@ -64,12 +60,8 @@ fn read_of<R: Runtime>(
         → IfOk result (IsUsable (R.linked runtime.now) (R.made runtime.now) xs objects.now) }
 {
     match me {
-        Reference::Object(object) => {
-            read_object(alloc, runtime, objects, &object, class, variable)
-        },
-        Reference::Class(of) => {
-            Ok(read_class_object(alloc, runtime, statics, of, class, variable)?)
-        },
+        Reference::Object(object) => { read_object(runtime, objects, &object, class, variable) },
+        Reference::Class(of) => { Ok(read_class_object(runtime, statics, of, class, variable)?) },
         Reference::Manager => Ok(Cell::Nil),
     }
 }

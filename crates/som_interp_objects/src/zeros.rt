@@ -10,13 +10,13 @@ ghost use Rattle.std.specs.Prelude.{◌≡◌, IfOk, true};
 
 use crate::kernel::new_cells;
 use som_interp_state::{Runtime, Zero};
-use som_model::{List, NoMemory, Text, ValueType};
+use som_model::{List, NoMemory, ValueType};
 use som_objects::Cell;
 use som_tables::ClassNo;
 use std::alloc::Global;
 
 /// The cell of a zero value, which takes no memory.
-pub fn zero_cell(alloc: Global, zero: Zero) -> Cell
+pub fn zero_cell(zero: Zero) -> Cell
     ensures means { (s : Showing) → shown s result ≡ zero_shown zero }
     ensures own { (s : Showing) (os : Objects) → IsOwn s os result }
 {
@@ -24,7 +24,7 @@ pub fn zero_cell(alloc: Global, zero: Zero) -> Cell
         Zero::Nil => Cell::Nil,
         Zero::Long => Cell::Long(0),
         Zero::Boolean => Cell::Boolean(false),
-        Zero::Text => Cell::Str(Text::from_vec(Vec::new(alloc))),
+        Zero::Text => Cell::EmptyStr,
     }
 }
 

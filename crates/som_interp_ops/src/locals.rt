@@ -14,25 +14,24 @@ use som_interp_state::Body;
 use som_model::NoMemory;
 use som_objects::Cell;
 use som_values::{Stopped, copy_cell};
-use std::alloc::Global;
 use std::mem;
 
 /// The local of a place comes to the top; nil where there is none.
-pub fn get(alloc: Global, place: usize, body: &mut Body) -> Result<(), Stopped>
+pub fn get(place: usize, body: &mut Body) -> Result<(), Stopped>
     requires { body.old.at + 1 < 2 ^ 64 }
     ensures did { (s : Setting) (h : Heap) → Did s h body.old result body.new (ops.Get place) }
     ensures own { (s : Setting) (os : Objects) → IsOwnBody s os body.old → OnOk result (IsOwnBody s os body.new) }
 {
-    push(&mut body.operands, local(alloc, &body.locals, place)?)?;
+    push(&mut body.operands, local(&body.locals, place)?)?;
     body.at += 1;
     Ok(())
 }
 
-fn local(alloc: Global, locals: &Vec<Cell>, place: usize) -> Result<Cell, NoMemory>
+fn local(locals: &Vec<Cell>, place: usize) -> Result<Cell, NoMemory>
     ensures { IfOk result (λ cell. cell ≡ local_cell locals.now.items place) }
 {
     if place < locals.len() {
-        copy_cell(alloc, &locals[place])
+        copy_cell(&locals[place])
     } else {
         Ok(Cell::Nil)
     }

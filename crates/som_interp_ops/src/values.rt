@@ -13,7 +13,7 @@ use crate::{pop, push};
 use som_code::Constant;
 use som_interp_state::Body;
 use som_model::NoMemory;
-use som_objects::Cell;
+use som_objects::{Cell, SharedText};
 use som_values::{Reference, Stopped, refer};
 use std::alloc::Global;
 
@@ -33,7 +33,7 @@ fn copy_constant(alloc: Global, constant: &Constant) -> Result<Cell, NoMemory>
 {
     match constant {
         Constant::Long(number) => Ok(Cell::Long(*number)),
-        Constant::Str(text) => Ok(Cell::Str(text.copy(alloc)?)),
+        Constant::Str(text) => Ok(Cell::Str(SharedText::from_text(alloc, text.copy(alloc)?)?)),
         Constant::Boolean(truth) => Ok(Cell::Boolean(*truth)),
         Constant::Nil => Ok(Cell::Nil),
     }

@@ -8,6 +8,7 @@ mod frames;
 mod held_body;
 mod laws;
 mod runtime;
+mod sizes;
 mod task;
 mod test_laws;
 

@@ -12,7 +12,7 @@ pub struct Task {
     pub frames: Frames,
     pub codes: Codes,
     pub statics: Vec<Option<List<Cell>>>,
-    pub serials: List<u64>,
+    pub serials: List<u32>,
     pub granted: u32,
     pub begun: bool,
 }

@@ -35,7 +35,7 @@ impl Task {
     }
 
     /// The serials of the objects that it made, in order.
-    pub fn serials(&self) -> &List<u64>
+    pub fn serials(&self) -> &List<u32>
         ensures { result.now ≡ self.now.task.serials }
     {
         &self.task.serials

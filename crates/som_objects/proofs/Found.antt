@@ -117,3 +117,6 @@ is_held (Some p) s o is e = held_by p s (p.serial == s) e ∙ is
 pub not_held : (q : Option Slot) → is_some q ≡ false → q ≡ None
 not_held None e = refl
 not_held (Some p) e = absurd (true≢false e)
+
+pub held_here : (p : Slot) (s : ℕ) → p.serial ≡ s → live_slot (Some p) s ≡ Some p
+held_here p s e = ap (λ (b : Bool). if b then Some p else None) (eq-eqb p.serial s e)

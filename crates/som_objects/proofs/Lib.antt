@@ -2,3 +2,4 @@ mod Found
 pub mod Known
 mod Lists
 mod Changing
+mod Putting

@@ -44,6 +44,10 @@ HasClass os r class = (o : Live) × (live_at os r.serial ≡ Some o) × (o.class
 abbrev pub HasCell : Objects → ObjRef → ℕ → Cell → Type 0
 HasCell os r place cell = (o : Live) × (live_at os r.serial ≡ Some o) × (slice_get o.cells place ≡ Some cell)
 
+-- the object is live, and has this class and these cells
+abbrev pub IsObject : Objects → ObjRef → ℕ → List Cell → Type 0
+IsObject os r class cells = (o : Live) × (live_at os r.serial ≡ Some o) × (o.class ≡ class) × (o.cells ≡ cells)
+
 -- the object, where it is live, has a cell at the place
 abbrev pub InRange : Objects → ObjRef → ℕ → Type 0
 InRange os r place = (o : Live) → live_at os r.serial ≡ Some o → place < length o.cells

@@ -1,6 +1,8 @@
 -- The objects that the slots of a slab stand for.
-use Rattle.std.specs.Prelude.{◌≡◌, ℕ, zero, suc, ◌<◌, ◌≤◌, ◌==◌, Bool, if◌then◌else◌, List, [], ◌∷◌, ◌++◌, Option, Some, None, slice_index_or}
+use Rattle.std.specs.Prelude.{◌≡◌, ◌≢◌, ℕ, zero, suc, ◌<◌, ◌≤◌, ◌==◌, Bool, if◌then◌else◌, List, [], ◌∷◌, ◌++◌, length, Option, Some, None, slice_index_or, slice_set}
 use Rattle.som_objects.specs.declared.slot.Slot.{Slot}
+use Rattle.som_objects.specs.declared.cell.Cell.{Cell}
+use Rattle.som_objects.specs.declared.object_ref.ObjRef.{ObjRef}
 use Rattle.som_objects.specs.Objects.{Live, Objects}
 
 -- what is kept under a key
@@ -9,7 +11,7 @@ slot_at slots k = slice_index_or slots k None
 
 -- the object in a slot
 abbrev pub as_live : ℕ → Slot → Live
-as_live k o = record { key = k; class = o.class; cells = o.cells }
+as_live k o = record { key = k; class = o.class; cells = o.cells.items }
 
 -- the object of this slot where it is asked for, and else that of another
 abbrev pub live_by : Bool → ℕ → Slot → Option Live → Option Live
@@ -39,3 +41,18 @@ pub record IsStore (slots : List (Option Slot)) (made : ℕ) : Type 0 where
 abbrev pub live_slot : Option Slot → ℕ → Option Slot
 live_slot None s = None
 live_slot (Some o) s = if o.serial == s then Some o else None
+
+-- the object's slot has a cell at the place
+abbrev pub HasPlace : List (Option Slot) → ObjRef → ℕ → Type 0
+HasPlace slots r place = (o : Slot) → live_slot (slot_at slots r.key) r.serial ≡ Some o → place < length o.cells.items
+
+-- the object's slot has a new cell at the place, and each other slot what it had
+pub record Puts (old new : List (Option Slot)) (r : ObjRef) (place : ℕ) (cell : Cell) : Type 0 where
+  pub was : Slot
+  pub is : Slot
+  pub found : live_slot (slot_at old r.key) r.serial ≡ Some was
+  pub at : slot_at new r.key ≡ Some is
+  pub serial : is.serial ≡ was.serial
+  pub class : is.class ≡ was.class
+  pub cells : is.cells.items ≡ slice_set was.cells.items place cell
+  pub others : (k : ℕ) → k ≢ r.key → slot_at new k ≡ slot_at old k

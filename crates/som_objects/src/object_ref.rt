@@ -4,8 +4,8 @@
 /// serials aren't, so two references are to one object where their serials are equal.
 #[derive(Clone, Copy)]
 pub struct ObjRef {
-    pub key: usize,
-    pub serial: u64,
+    pub key: u32,
+    pub serial: u32,
 }
 
 /// The answer for a reference to an object that was freed.

@@ -1,9 +1,9 @@
 //! The object store: objects are made, read, written and freed under keys that are used again.
 
-ghost use Rattle.som_objects.specs.Objects.{IsKnown, KeepsKnown, IsGone, HasClass, HasCell, InRange, Makes, Writes, Frees};
-ghost use Rattle.som_objects.specs.Slots.{live_slot, slot_at};
+ghost use Rattle.som_objects.specs.Objects.{IsKnown, KeepsKnown, IsGone, HasClass, HasCell, InRange, IsObject, Makes, Writes, Frees};
+ghost use Rattle.som_objects.specs.Slots.{HasPlace, Puts, live_slot, slot_at};
 ghost use Rattle.std.specs.Option.{option_copied, is_some};
-ghost use Rattle.std.specs.Prelude.{◌≡◌, ◌-◌, ◌<◌, ◌^◌, [], length, slice_get, slice_set, IfOk, OnOk, OnErr};
+ghost use Rattle.std.specs.Prelude.{◌≡◌, ◌+◌, ◌<◌, [], length, slice_get, IfOk, None, OnOk, OnErr};
 
 use crate::slot::Slot;
 use crate::{Cell, Gone, ObjRef};
@@ -16,7 +16,7 @@ use std::marker::Model;
 /// All objects that were made, by their serials. An object that was freed leaves its key to a later one.
 pub struct ObjectStore {
     slots: Slab<Slot>,
-    made: u64,
+    made: u32,
 }
 
 impl Drop for ObjectStore {
@@ -49,25 +49,35 @@ impl ObjectStore {
     }
 
     /// How many objects were made, freed ones included.
-    pub fn made(&self) -> u64
+    pub fn made(&self) -> u32
         ensures { result ≡ length self.now }
     {
         self.made
     }
 
-    /// Makes an object of a class, with these cells.
+    /// The serial of the next object. Where none is left, memory is wanting.
+    pub fn next_serial(&self) -> Result<u32, NoMemory>
+        ensures { IfOk result (λ serial. serial ≡ length self.now + 1) }
+    {
+        match self.made.checked_add(1) {
+            Some(serial) => Ok(serial),
+            None => Err(NoMemory),
+        }
+    }
+
+    /// Makes an object of a class, with these cells. Where no serial is left, or no key below 2^32, memory is wanting.
     pub fn make(&mut self, class: ClassNo, cells: List<Cell>) -> Result<ObjRef, NoMemory>
-        requires { length self.old < 2 ^ 64 - 1 }
         ensures made { IfOk result (λ r. Makes self.old self.new r class cells) }
         ensures known { IfOk result (IsKnown self.new) }
         ensures err { OnErr result (self.new ≡ self.old) }
         ensures keeps { KeepsKnown self.old self.new }
     {
-        let serial = self.made + 1;
-        let key = self.slots.insert(Slot {
+        let serial = self.next_serial()?;
+        let key = next_key(&self.slots)?;
+        let _place = self.slots.insert(Slot {
             serial,
             class,
-            cells,
+            cells: cells.into_vec(),
         })?;
         self.made = serial;
         Ok(ObjRef { key, serial })
@@ -81,6 +91,18 @@ impl ObjectStore {
     {
         match live(&self.slots, object) {
             Some(slot) => Ok(slot.class),
+            None => Err(Gone),
+        }
+    }
+
+    /// The class of an object and its cells, or Gone where it was freed.
+    pub fn class_and_cells(&self, object: &ObjRef) -> Result<(ClassNo, &[Cell]), Gone>
+        requires { IsKnown self.now object.now }
+        ensures object { IfOk result (λ found. IsObject self.now object.now found.0 found.1.now) }
+        ensures gone { OnErr result (IsGone self.now object.now) }
+    {
+        match live(&self.slots, object) {
+            Some(slot) => Ok((slot.class, slot.cells.as_slice())),
             None => Err(Gone),
         }
     }
@@ -107,21 +129,7 @@ impl ObjectStore {
         ensures err { OnErr result (self.new ≡ self.old) }
         ensures keeps { KeepsKnown self.old self.new }
     {
-        if !is_live(&self.slots, object) {
-            return Err(Gone);
-        }
-        let Slot {
-            serial,
-            class,
-            cells,
-        } = self.slots.remove(object.key);
-        let cells = with_cell(cells, place as usize, cell);
-        let _key = self.slots.insert_reserved(Slot {
-            serial,
-            class,
-            cells,
-        });
-        Ok(())
+        put(&mut self.slots, object, place as usize, cell)
     }
 
     /// Ends an object, which leaves its key to a later one; or answers Gone where it was freed before.
@@ -135,7 +143,7 @@ impl ObjectStore {
         if !is_live(&self.slots, object) {
             return Err(Gone);
         }
-        let _slot = self.slots.remove(object.key);
+        let _slot = self.slots.remove(object.key as usize);
         Ok(())
     }
 }
@@ -144,7 +152,7 @@ impl ObjectStore {
 fn live<'a>(slots: &'a Slab<Slot>, object: &ObjRef) -> Option<&'a Slot>
     ensures { option_copied result ≡ live_slot (slot_at slots.now.slots object.now.key) object.now.serial }
 {
-    match slots.get(object.key) {
+    match slots.get(object.key as usize) {
         Some(slot) => if slot.serial == object.serial {
             Some(slot)
         } else {
@@ -160,18 +168,36 @@ fn is_live(slots: &Slab<Slot>, object: &ObjRef) -> bool
     live(slots, object).is_some()
 }
 
-fn cell_at(cells: &List<Cell>, place: usize) -> &Cell
-    requires { place < length cells.now }
-    ensures { slice_get cells.now place ≡ Some result.now }
+fn cell_at(cells: &Vec<Cell>, place: usize) -> &Cell
+    requires { place < length cells.now.items }
+    ensures { slice_get cells.now.items place ≡ Some result.now }
 {
-    &cells.as_slice()[place]
+    &cells[place]
 }
 
-fn with_cell(cells: List<Cell>, place: usize, cell: Cell) -> List<Cell>
-    requires { place < length cells }
-    ensures { result ≡ slice_set cells place cell }
+// The key of the next object, if it is below 2^32.
+fn next_key(slots: &Slab<Slot>) -> Result<u32, NoMemory>
+    ensures { IfOk result (λ key. key ≡ slots.now.vacant_key) }
 {
-    let mut items = cells.into_vec();
-    items[place] = cell;
-    List::from_vec(items)
+    match u32::try_from(slots.vacant_key()) {
+        Ok(key) => Ok(key),
+        Err(_) => Err(NoMemory),
+    }
+}
+
+// Changes a cell in the slot of an object, where it is live.
+fn put(slots: &mut Slab<Slot>, object: &ObjRef, place: usize, cell: Cell) -> Result<(), Gone>
+    requires { HasPlace slots.old.slots object.now place }
+    ensures put { OnOk result (Puts slots.old.slots slots.new.slots object.now place cell) }
+    ensures gone { OnErr result (live_slot (slot_at slots.old.slots object.now.key) object.now.serial ≡ None) }
+    ensures err { OnErr result (slots.new ≡ slots.old) }
+{
+    let Some(slot) = slots.get_mut(object.key as usize) else {
+        return Err(Gone);
+    };
+    if slot.serial != object.serial {
+        return Err(Gone);
+    }
+    slot.cells[place] = cell;
+    Ok(())
 }

@@ -18,7 +18,7 @@ pub fn tell_text(rt: &HostRuntime, text: &MemSink) -> Result<(), NotTaken> {
 }
 
 // Prints the serials of the objects that a task made.
-fn tell_serials(rt: &HostRuntime, serials: &[u64]) -> Result<(), NotTaken> {
+fn tell_serials(rt: &HostRuntime, serials: &[u32]) -> Result<(), NotTaken> {
     if serials.is_empty() {
         print!(rt; " none")?;
     }

@@ -22,4 +22,5 @@ receiver_seen s h cells.Manager r answer e means seen = through s h answer refer
 receiver_seen s h (cells.Long z) r answer e means seen = absurd (let f : ⊥ = cc in f)
 receiver_seen s h (cells.Boolean b) r answer e means seen = absurd (let f : ⊥ = cc in f)
 receiver_seen s h (cells.Str t) r answer e means seen = absurd (let f : ⊥ = cc in f)
+receiver_seen s h cells.EmptyStr r answer e means seen = absurd (let f : ⊥ = cc in f)
 receiver_seen s h cells.Nil r answer e means seen = absurd (let f : ⊥ = cc in f)

@@ -63,6 +63,7 @@ pub seen_later : (keys : List ClassKey) (xs ys : List ℕ) (c : Cell) → IsSeen
 seen_later keys xs ys (cells.Long z) p = p
 seen_later keys xs ys (cells.Boolean b) p = p
 seen_later keys xs ys (cells.Str t) p = p
+seen_later keys xs ys cells.EmptyStr p = p
 seen_later keys xs ys cells.Nil p = p
 seen_later keys xs ys (cells.Object r) p = made_later xs ys r.serial p
 seen_later keys xs ys (cells.Class n) p = p
@@ -72,6 +73,7 @@ pub kept_later : (os os' : Objects) (c : Cell) → KeepsKnown os os' → IsKept 
 kept_later os os' (cells.Long z) k p = p
 kept_later os os' (cells.Boolean b) k p = p
 kept_later os os' (cells.Str t) k p = p
+kept_later os os' cells.EmptyStr k p = p
 kept_later os os' cells.Nil k p = p
 kept_later os os' (cells.Object r) k p = k r p
 kept_later os os' (cells.Class n) k p = p

@@ -60,6 +60,7 @@ pub shown_later : (keys : List ClassKey) (xs ys : List ℕ) (c : Cell) → IsSee
 shown_later keys xs ys (cells.Long z) p = refl
 shown_later keys xs ys (cells.Boolean b) p = refl
 shown_later keys xs ys (cells.Str t) p = refl
+shown_later keys xs ys cells.EmptyStr p = refl
 shown_later keys xs ys cells.Nil p = refl
 shown_later keys xs ys (cells.Object r) p = ap (λ i. To (Object i)) (place_later xs ys r.serial p)
 shown_later keys xs ys (cells.Class n) p = refl

@@ -33,6 +33,7 @@ abbrev pub shown : Showing → Cell → Value
 shown s (cells.Long z) = Long z
 shown s (cells.Boolean b) = Boolean b
 shown s (cells.Str t) = Str t
+shown s cells.EmptyStr = Str []
 shown s cells.Nil = Nil
 shown s (cells.Object r) = To (Object (place_of s.serials r.serial))
 shown s (cells.Class n) = To (ClassObject (key_of s.keys n))

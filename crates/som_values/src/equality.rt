@@ -13,7 +13,10 @@ pub fn same(a: &Cell, b: &Cell) -> bool
     match (a, b) {
         (Cell::Long(x), Cell::Long(y)) => x == y,
         (Cell::Boolean(x), Cell::Boolean(y)) => x == y,
-        (Cell::Str(x), Cell::Str(y)) => x == y,
+        (Cell::Str(x), Cell::Str(y)) => x.as_slice() == y.as_slice(),
+        (Cell::Str(x), Cell::EmptyStr) => x.as_slice().is_empty(),
+        (Cell::EmptyStr, Cell::Str(y)) => y.as_slice().is_empty(),
+        (Cell::EmptyStr, Cell::EmptyStr) => true,
         (Cell::Nil, Cell::Nil) => true,
         (Cell::Object(x), Cell::Object(y)) => x.serial == y.serial,
         (Cell::Class(x), Cell::Class(y)) => x == y,

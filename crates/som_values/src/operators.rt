@@ -5,7 +5,7 @@ ghost use Rattle.som_semantics.specs.Values.{binary as binary_value, binary_op, 
 ghost use Rattle.som_semantics.specs.Values as ops;
 ghost use Rattle.som_objects.specs.Objects.{Objects};
 ghost use Rattle.som_values.specs.Answers.{Answers};
-ghost use Rattle.som_values.specs.Operators.{IsOnNumbers, binary_of, unary_of};
+ghost use Rattle.som_values.specs.Operators.{IsOnNumbers, binary_of};
 ghost use Rattle.som_values.specs.Shown.{AreApart, IsSeen, Showing, shown};
 ghost use Rattle.som_values.specs.Stored.{IsKept};
 ghost use Rattle.std.specs.Prelude.{◌≡◌, ◌++◌, IfOk};
@@ -13,8 +13,8 @@ ghost use Rattle.std.specs.Prelude.{◌≡◌, ◌++◌, IfOk};
 use crate::arithmetic::{difference, negated, product, quotient, remainder, sum};
 use crate::operator::{Binary, Unary, binary_operator, unary_operator};
 use crate::{Stopped, copy_cell, same, text_of};
-use som_model::{Fault, MAX_TEXT, NoMemory, Text};
-use som_objects::Cell;
+use som_model::{Fault, MAX_TEXT, NoMemory};
+use som_objects::{Cell, SharedText};
 use std::alloc::Global;
 
 /// What an operator of one operand, by its number, makes of a value.
@@ -24,36 +24,36 @@ pub fn unary(alloc: Global, number: u8, cell: &Cell) -> Result<Cell, Stopped>
     ensures kept { (os : Objects) → IsKept os cell.now → IfOk result (IsKept os) }
 {
     match unary_operator(number) {
-        Unary::Minus => minus(alloc, cell),
-        Unary::Not => not(alloc, cell),
-        Unary::Length => length(alloc, cell),
-        Unary::TextOf => Ok(Cell::Str(text_of(alloc, cell)?)),
+        Unary::Minus => minus(cell),
+        Unary::Not => not(cell),
+        Unary::Length => length(cell),
+        Unary::TextOf => text(alloc, cell),
     }
 }
 
-fn minus(alloc: Global, cell: &Cell) -> Result<Cell, Stopped>
+fn minus(cell: &Cell) -> Result<Cell, Stopped>
     ensures means { (s : Showing) → Answers s result (unary_value ops.Minus (shown s cell.now)) }
     ensures seen { (s : Showing) → IsSeen s cell.now → IfOk result (IsSeen s) }
     ensures kept { (os : Objects) → IsKept os cell.now → IfOk result (IsKept os) }
 {
     match cell {
         Cell::Long(number) => Ok(Cell::Long(negated(*number)?)),
-        _ => Ok(copy_cell(alloc, cell)?),
+        _ => Ok(copy_cell(cell)?),
     }
 }
 
-fn not(alloc: Global, cell: &Cell) -> Result<Cell, Stopped>
+fn not(cell: &Cell) -> Result<Cell, Stopped>
     ensures means { (s : Showing) → Answers s result (unary_value ops.Not (shown s cell.now)) }
     ensures seen { (s : Showing) → IsSeen s cell.now → IfOk result (IsSeen s) }
     ensures kept { (os : Objects) → IsKept os cell.now → IfOk result (IsKept os) }
 {
     match cell {
         Cell::Boolean(truth) => Ok(Cell::Boolean(!*truth)),
-        _ => Ok(copy_cell(alloc, cell)?),
+        _ => Ok(copy_cell(cell)?),
     }
 }
 
-fn length(alloc: Global, cell: &Cell) -> Result<Cell, Stopped>
+fn length(cell: &Cell) -> Result<Cell, Stopped>
     ensures means { (s : Showing) → Answers s result (unary_value ops.Length (shown s cell.now)) }
     ensures seen { (s : Showing) → IsSeen s cell.now → IfOk result (IsSeen s) }
     ensures kept { (os : Objects) → IsKept os cell.now → IfOk result (IsKept os) }
@@ -63,7 +63,20 @@ fn length(alloc: Global, cell: &Cell) -> Result<Cell, Stopped>
             Ok(length) => Ok(Cell::Long(length)),
             Err(_) => Err(Stopped::NoMemory),
         },
-        _ => Ok(copy_cell(alloc, cell)?),
+        Cell::EmptyStr => Ok(Cell::Long(0)),
+        _ => Ok(copy_cell(cell)?),
+    }
+}
+
+// The text of a value. One that is a text itself is shared.
+fn text(alloc: Global, cell: &Cell) -> Result<Cell, Stopped>
+    ensures means { (s : Showing) → Answers s result (unary_value ops.TextOf (shown s cell.now)) }
+    ensures seen { (s : Showing) → IsSeen s cell.now → IfOk result (IsSeen s) }
+    ensures kept { (os : Objects) → IsKept os cell.now → IfOk result (IsKept os) }
+{
+    match cell {
+        Cell::Str(_) | Cell::EmptyStr => Ok(copy_cell(cell)?),
+        _ => Ok(Cell::Str(SharedText::from_text(alloc, text_of(alloc, cell)?)?)),
     }
 }
 
@@ -77,7 +90,7 @@ pub fn binary(alloc: Global, number: u8, a: &Cell, b: &Cell) -> Result<Cell, Sto
         Binary::Equal => Ok(Cell::Boolean(same(a, b))),
         Binary::Unequal => Ok(Cell::Boolean(!same(a, b))),
         Binary::Join => join(alloc, a, b),
-        operator => on_numbers(alloc, operator, a, b),
+        operator => on_numbers(operator, a, b),
     }
 }
 
@@ -87,13 +100,18 @@ fn join(alloc: Global, a: &Cell, b: &Cell) -> Result<Cell, Stopped>
     ensures kept { (os : Objects) → IsKept os a.now → IfOk result (IsKept os) }
 {
     match (a, b) {
-        (Cell::Str(first), Cell::Str(second)) => join_texts(alloc, first, second),
-        _ => Ok(copy_cell(alloc, a)?),
+        (Cell::Str(first), Cell::Str(second)) => {
+            join_texts(alloc, first.as_slice(), second.as_slice())
+        }
+        (Cell::Str(first), Cell::EmptyStr) => join_texts(alloc, first.as_slice(), b""),
+        (Cell::EmptyStr, Cell::Str(second)) => join_texts(alloc, b"", second.as_slice()),
+        (Cell::EmptyStr, Cell::EmptyStr) => Ok(Cell::EmptyStr),
+        _ => Ok(copy_cell(a)?),
     }
 }
 
 // A text and then another, where both together aren't too long.
-fn join_texts(alloc: Global, a: &Text, b: &Text) -> Result<Cell, Stopped>
+fn join_texts(alloc: Global, a: &[u8], b: &[u8]) -> Result<Cell, Stopped>
     ensures means { (s : Showing) → Answers s result (binary_value ops.Join (Str a.now) (Str b.now)) }
     ensures seen { (s : Showing) → IfOk result (IsSeen s) }
     ensures kept { (os : Objects) → IfOk result (IsKept os) }
@@ -105,16 +123,17 @@ fn join_texts(alloc: Global, a: &Text, b: &Text) -> Result<Cell, Stopped>
     Ok(Cell::Str(joined(alloc, a, b)?))
 }
 
-fn joined(alloc: Global, a: &Text, b: &Text) -> Result<Text, NoMemory>
+fn joined(alloc: Global, a: &[u8], b: &[u8]) -> Result<SharedText, NoMemory>
     ensures { IfOk result (λ text. text ≡ a.now ++ b.now) }
 {
-    let mut bytes = Vec::from_slice(alloc, a.as_slice())?;
-    bytes.extend_from_slice(b.as_slice())?;
-    Text::from_slice(alloc, bytes.as_slice())
+    let mut bytes = Vec::with_capacity(alloc, a.len() + b.len())?;
+    bytes.extend_from_slice(a)?;
+    bytes.extend_from_slice(b)?;
+    SharedText::from_vec(alloc, bytes)
 }
 
 // Every operator but equality and the joining of texts has an answer for two numbers alone.
-fn on_numbers(alloc: Global, operator: Binary, a: &Cell, b: &Cell) -> Result<Cell, Stopped>
+fn on_numbers(operator: Binary, a: &Cell, b: &Cell) -> Result<Cell, Stopped>
     requires { IsOnNumbers operator }
     ensures means { (s : Showing) → Answers s result (binary_value (binary_of operator) (shown s a.now) (shown s b.now)) }
     ensures seen { (s : Showing) → IsSeen s a.now → IfOk result (IsSeen s) }
@@ -122,7 +141,7 @@ fn on_numbers(alloc: Global, operator: Binary, a: &Cell, b: &Cell) -> Result<Cel
 {
     match (a, b) {
         (Cell::Long(x), Cell::Long(y)) => of_numbers(operator, x, y),
-        _ => Ok(copy_cell(alloc, a)?),
+        _ => Ok(copy_cell(a)?),
     }
 }
 

@@ -20,7 +20,7 @@ pub fn add_text(line: &mut Vec<u8>, cell: &Cell) -> Result<(), NoMemory>
         Cell::Boolean(true) => line.extend_from_slice(b"TRUE")?,
         Cell::Boolean(false) => line.extend_from_slice(b"FALSE")?,
         Cell::Str(text) => line.extend_from_slice(text.as_slice())?,
-        Cell::Nil | Cell::Object(_) | Cell::Class(_) | Cell::Manager => {}
+        Cell::EmptyStr | Cell::Nil | Cell::Object(_) | Cell::Class(_) | Cell::Manager => {}
     }
     Ok(())
 }
@@ -43,14 +43,11 @@ pub fn add_line(line: &mut Vec<u8>, cell: &Cell) -> Result<(), NoMemory>
     Ok(())
 }
 
-/// The text of a value, which its copies share.
+/// The text of a value.
 pub fn text_of(alloc: Global, cell: &Cell) -> Result<Text, NoMemory>
     ensures { IfOk result (λ text. (s : Showing) → text ≡ text_in (shown s cell.now)) }
 {
-    if let Cell::Str(text) = cell {
-        return text.copy(alloc);
-    }
-    let mut line = Vec::new(alloc);
-    add_text(&mut line, cell)?;
-    Text::from_slice(alloc, line.as_slice())
+    let mut text = Vec::new(alloc);
+    add_text(&mut text, cell)?;
+    Ok(Text::from_vec(text))
 }

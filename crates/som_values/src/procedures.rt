@@ -27,6 +27,7 @@ fn number(cell: &Cell) -> i32
         Cell::Long(number) => *number,
         Cell::Boolean(_)
         | Cell::Str(_)
+        | Cell::EmptyStr
         | Cell::Nil
         | Cell::Object(_)
         | Cell::Class(_)

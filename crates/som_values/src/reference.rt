@@ -22,7 +22,7 @@ pub fn referred(cell: &Cell) -> Option<Reference>
         Cell::Object(object) => Some(Reference::Object(*object)),
         Cell::Class(class) => Some(Reference::Class(*class)),
         Cell::Manager => Some(Reference::Manager),
-        Cell::Long(_) | Cell::Boolean(_) | Cell::Str(_) | Cell::Nil => None,
+        Cell::Long(_) | Cell::Boolean(_) | Cell::Str(_) | Cell::EmptyStr | Cell::Nil => None,
     }
 }
 

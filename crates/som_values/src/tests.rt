@@ -22,6 +22,7 @@ pub fn is_true(cell: &Cell) -> bool
         Cell::Boolean(truth) => *truth,
         Cell::Long(_)
         | Cell::Str(_)
+        | Cell::EmptyStr
         | Cell::Nil
         | Cell::Object(_)
         | Cell::Class(_)
@@ -82,7 +83,7 @@ pub fn fits<C: Classes>(classes: &C, objects: &ObjectStore, kind: &ValueType, ce
         ValueType::Void => false,
         ValueType::Long => matches!(cell, Cell::Long(_)),
         ValueType::Boolean => matches!(cell, Cell::Boolean(_)),
-        ValueType::Str => matches!(cell, Cell::Str(_)),
+        ValueType::Str => matches!(cell, Cell::Str(_) | Cell::EmptyStr),
         ValueType::Class(class) => fits_class(classes, objects, class, cell),
     }
 }

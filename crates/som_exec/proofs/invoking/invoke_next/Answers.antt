@@ -1,11 +1,8 @@
 use Rattle.som_code_cache.specs.Coded.{codes_of}
 use Rattle.som_interp_loop.specs.Scene.{scene}
-use Rattle.som_exec.proofs.StepCounting.{counted_same, invoked_counted}
-use Rattle.som_exec.proofs.Entering.{invoked_came, same_four, wanting_came}
+use Rattle.som_exec.proofs.StepCounting.{invoked_counted}
+use Rattle.som_exec.proofs.Entering.{invoked_came, same_four}
 use Rattle.som_exec.proofs.invoking.invoke_next.Goals as goal
-
-pub returns-then-made-eq18446744073709551615-clause-came : goal.returns-then-made-eq18446744073709551615-clause-came
-returns-then-made-eq18446744073709551615-clause-came g c = wanting_came _ _ _ _
 
 pub returns-clause-came : goal.returns-clause-came
 returns-clause-came g c =
@@ -17,9 +14,6 @@ returns-clause-came g c =
     (λ e. let x = c.invoke.ensures.spent e in
     same_four (λ a t os f. scene (g.R.Runtime.linked a) (g.R.ClassKeys.known a) (g.R.Runtime.program a) (g.R.Classes.made a) os t f) x.0 x.1 x.2 x.3)
     c.requires.somewhere c.invoke.ensures.invoked
-
-pub returns-then-made-eq18446744073709551615-clause-counted : goal.returns-then-made-eq18446744073709551615-clause-counted
-returns-then-made-eq18446744073709551615-clause-counted g c = counted_same _ _
 
 pub returns-clause-counted : goal.returns-clause-counted
 returns-clause-counted g c =

@@ -1,4 +1,4 @@
-use Rattle.std.proofs.Common.{◌≡◌, ◌⊎◌, inl, ◌-◌, suc, true, true≢false, [], ◌∷◌, ◌++◌, Ok, Err, refl, sym, ap, subst, ◌∙◌, arith}
+use Rattle.std.proofs.Common.{◌≡◌, ◌⊎◌, ◌-◌, suc, true, true≢false, [], ◌∷◌, ◌++◌, Ok, refl, sym, ap, subst, ◌∙◌, arith}
 use Rattle.std.proofs.lemmas.Result.{err_from_is_err_and}
 use Rattle.som_model.specs.declared.key.ClassKey.{ClassKey}
 use Rattle.som_model.specs.Made.{ComesOf}
@@ -21,38 +21,6 @@ use Rattle.som_interp_body.proofs.Special.{carried}
 use Rattle.som_interp_body.proofs.Whole.{short_obeyed, use_obeyed}
 use Rattle.som_interp_body.proofs.Building.{keeps_made, keeps_unmade, proxy_begins, proxy_comes, proxy_is}
 use Rattle.som_interp_body.proofs.proxy.build.Goals as goal
-
-pub returns-then-made-eq18446744073709551615-clause-obeyed : goal.returns-then-made-eq18446744073709551615-clause-obeyed
-returns-then-made-eq18446744073709551615-clause-obeyed g c prefix w =
-    let r = c.args.runtime.now in
-    let l = g.R.Runtime.linked r in
-    let kn = g.R.ClassKeys.known r in
-    let main = g.R.Runtime.program r in
-    let made = g.R.Classes.made r in
-    let os = c.args.objects.now in
-    let t = c.args.task.now in
-    let f = c.args.fuel.now in
-    let b = c.args.body.now in
-    let k = c.requires.is.0 in
-    let was = scene l kn main made os t f in
-    let unit : f ≡ suc (f - 1) = omega (arith, c.requires.unit) in
-    short_obeyed prefix w was was b b (Err stops.NoMemory) (made_of.Proxy k) (λ x e. e) (λ x e. inl e) (stops.NoMemory, refl, refl) (proxy_begins l kn main made os t f b k c.requires.is.2 (f - 1) unit c.requires.callable)
-
-pub returns-then-made-eq18446744073709551615-clause-keeps : goal.returns-then-made-eq18446744073709551615-clause-keeps
-returns-then-made-eq18446744073709551615-clause-keeps g c =
-    let r = c.args.runtime.now in
-    let l = g.R.Runtime.linked r in
-    let kn = g.R.ClassKeys.known r in
-    let main = g.R.Runtime.program r in
-    let made = g.R.Classes.made r in
-    let os = c.args.objects.now in
-    let t = c.args.task.now in
-    let f = c.args.fuel.now in
-    let b = c.args.body.now in
-    let k = c.requires.is.0 in
-    let was = scene l kn main made os t f in
-    let unit : f ≡ suc (f - 1) = omega (arith, c.requires.unit) in
-    keeps_unmade l l kn kn main main made made os os t t f f refl refl refl refl refl refl refl refl
 
 pub returns-in_err-reach-clause-obeyed : goal.returns-in_err-reach-clause-obeyed
 returns-in_err-reach-clause-obeyed g c prefix w =

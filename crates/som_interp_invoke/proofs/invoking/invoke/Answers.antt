@@ -95,8 +95,8 @@ returns-in_err-taken-clause-invoked g c =
     (invoked_wanting l (g.R.ClassKeys.known r) (g.R.Runtime.program r) (g.R.Classes.made r) os t i.0 i.1 i.2 shows prefix before c.args.fuel.now c.plan.new.fuel c.take.new.frames c.plan.new.codes c.plan.ensures.more.0 c.plan.ensures.more.1
     after p.0 (inr p.2) first planned.1 planned.2 planned.3 (all_front before after (line_of l shows prefix i.0 first) planned.4))
 
-pub begin-requires-clause-can : goal.begin-requires-clause-can
-begin-requires-clause-can g c =
+pub begin-requires : goal.begin-requires
+begin-requires g c =
     let r = c.args.runtime.now in
     let l = g.R.Runtime.linked r in
     let kn = g.R.ClassKeys.known r in
@@ -118,15 +118,18 @@ begin-requires-clause-can g c =
     let taken = c.in_ok-taken.ensures i.0 i.1 i.2 in
     let s = subst (λ y. Stands (scene l kn main made os t c.args.fuel.now) y x.0 x.1 x.2) i.2 x.3 in
     let ws = then_waits l kn main made os t i.0 i.1 c.args.fuel.now c.plan.new.fuel x.0 x.1 x.2 s fr cs c.plan.ensures.more.0 c.plan.ensures.more.1 c.plan.ensures.codes plan planned.0 planned.1 planned.2 planned.5 taken.waits in
-    let mid = scene l kn main made os (record t { frames = fr; codes = cs }) c.plan.new.fuel in (
-      c.plan.new.fuel,
-      x.0,
-      ws,
-      planned.0,
-      subst (λ me. Begins mid x.0 ws plan.begun planned.0 me c.in_ok-taken.taken.args.items) (sym taken.me)
-          (subst (λ args. Begins mid x.0 ws plan.begun planned.0 (self_of i.0 plan.role) args) (sym taken.args)
-          (begins_mid l kn main made os t i.0 i.1 c.args.fuel.now c.plan.new.fuel x.0 x.1 x.2 s fr cs c.plan.ensures.more.0 c.plan.ensures.more.1 c.plan.ensures.codes plan planned.0 planned.1 planned.2 planned.5 taken.waits)),
-    )
+    let mid = scene l kn main made os (record t { frames = fr; codes = cs }) c.plan.new.fuel in
+    record {
+      can = (
+        c.plan.new.fuel,
+        x.0,
+        ws,
+        planned.0,
+        subst (λ me. Begins mid x.0 ws plan.begun planned.0 me c.in_ok-taken.taken.args.items) (sym taken.me)
+            (subst (λ args. Begins mid x.0 ws plan.begun planned.0 (self_of i.0 plan.role) args) (sym taken.args)
+            (begins_mid l kn main made os t i.0 i.1 c.args.fuel.now c.plan.new.fuel x.0 x.1 x.2 s fr cs c.plan.ensures.more.0 c.plan.ensures.more.1 c.plan.ensures.codes plan planned.0 planned.1 planned.2 planned.5 taken.waits)),
+      );
+    }
 
 pub returns-clause-invoked : goal.returns-clause-invoked
 returns-clause-invoked g c =
