@@ -1,5 +1,5 @@
 -- The ancestors of a class are itself, those of its first parent in their order, and the others; so the variables of these stand as in the objects of the first parent, after the class's own.
-use Rattle.std.proofs.Common.{◌≡◌, ◌≢◌, ℕ, ◌+◌, ◌-◌, ◌<◌, ◌≤◌, inl, inr, Bool, true, false, if◌then◌else◌, List, [], ◌∷◌, ◌++◌, map, length, nat_lt, ◌^◌, length-append, refl, sym, ap, ◌∙◌, subst, arith, true≢false}
+use Rattle.std.proofs.Common.{◌≡◌, ℕ, ◌+◌, ◌-◌, ◌≤◌, inl, inr, Bool, true, false, if◌then◌else◌, List, [], ◌∷◌, ◌++◌, map, length, nat_lt, ◌^◌, length-append, refl, sym, ap, ◌∙◌, subst, arith}
 use Rattle.std.specs.Prelude.{flat_map}
 use Rattle.som_model.specs.Lists.{Mem, firsts, joined, without}
 use Rattle.som_model.specs.Hierarchy.{Hierarchy, Tells, Falls}
@@ -52,11 +52,12 @@ module _ {K : Type 0} (h : Hierarchy K) (tells : Tells h) where
         let all = joined (map (anc h) ps) in
         let r = firsts_append (anc h p) all (ancestors_apart h tells p) in
         let m : Mem p (h.parents x) = subst (λ l. Mem p l) (sym is) (inl refl) in
-        let kept : without (h.same x) (anc h p) ≡ anc h p = without_none (h.same x) (anc h p) (other_named x (anc h p) (not_above x p m)) in
-        (without (h.same x) r.0,
-         ancestors_step h falls x ∙ ap (λ l. firsts h.same (x ∷ joined (map (anc h) l))) is
-         ∙ ap (λ l. x ∷ without (h.same x) l) r.1
-         ∙ ap (λ l. x ∷ l) (without_append (h.same x) (anc h p) r.0 ∙ ap (λ l. l ++ without (h.same x) r.0) kept))
+        let kept : without (h.same x) (anc h p) ≡ anc h p = without_none (h.same x) (anc h p) (other_named x (anc h p) (not_above x p m)) in (
+          without (h.same x) r.0,
+          ancestors_step h falls x ∙ ap (λ l. firsts h.same (x ∷ joined (map (anc h) l))) is
+              ∙ ap (λ l. x ∷ without (h.same x) l) r.1
+              ∙ ap (λ l. x ∷ l) (without_append (h.same x) (anc h p) r.0 ∙ ap (λ l. l ++ without (h.same x) r.0) kept),
+        )
 
 -- ---- places
 

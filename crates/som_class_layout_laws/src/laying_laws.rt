@@ -1,12 +1,12 @@
 //! The laws of laid rows, for methods and for variables.
 
 ghost use Rattle.som_class_layout_laws.specs.Laying.{Bodies, IsBody, IsLaid, IsRow, IsScheme, IsToken, Scheme};
-ghost use Rattle.som_class_layout_laws.specs.Places.{IsDataRow, IsPlaced, data_place, variables};
-ghost use Rattle.som_model.specs.Ancestors.{Descends};
+ghost use Rattle.som_class_layout_laws.specs.Places.{IsDataRow, IsPlaced, data_place, less, variables};
+ghost use Rattle.som_model.specs.Ancestors.{Descends, anc};
 ghost use Rattle.som_model.specs.Hierarchy.{Falls, Hierarchy, Tells};
 ghost use Rattle.som_model.specs.Resolution.{impl};
 ghost use Rattle.som_tables.specs.Rows.{Added, HasRow, HasToken, IsDeclared, SomeHasToken, inherited, row_at};
-ghost use Rattle.std.specs.Prelude.{◌≡◌, ◌≢◌, ◌<◌, ℕ, List as Seq, Option, Some, None, length, slice_get, slice_set};
+ghost use Rattle.std.specs.Prelude.{◌≡◌, ◌≢◌, ◌<◌, ◌+◌, ◌∷◌, ◌++◌, ℕ, List as Seq, Option, Some, None, length, slice_get, slice_set};
 
 /// Where no class has a row, the rows are laid. Where the rows are laid, and a class without one gets a row that is made as it is to be,
 /// the rows are laid again, in whatever order classes get theirs: all that counts is that its parents have rows. Each token of a proper
@@ -48,4 +48,11 @@ pub fn places_law<K, V>()
     ensures apart { (h : Hierarchy K) → Tells h → Falls h → (own : K → Seq V) (x a b : K) (i j : ℕ) → Descends h x a → Descends h x b →
         i < length (own a) → j < length (own b) → data_place h own x a i ≡ data_place h own x b j → (a ≡ b) × (i ≡ j) }
     ensures own { (h : Hierarchy K) → Tells h → Falls h → (own : K → Seq V) (x : K) (i : ℕ) → data_place h own x x i ≡ i }
+{}
+
+/// The ancestors of a class with a parent are itself, those of its first parent in their order, and others. What stands so much later, in a
+/// row whose cells are less by so much more, has the same cell.
+pub fn first_parent_law<K>()
+    ensures ancestors { (h : Hierarchy K) → Tells h → Falls h → (x p : K) (ps : Seq K) → h.parents x ≡ p ∷ ps → (rest : Seq K) × (anc h x ≡ x ∷ (anc h p ++ rest)) }
+    ensures later { (n shift place : ℕ) → less (n + shift) (n + place) ≡ less shift place }
 {}

@@ -6,5 +6,5 @@
 mod laying_laws;
 mod scheme_laws;
 
-pub use laying_laws::{bodies_law, laying_law, places_law, placing_law};
+pub use laying_laws::{bodies_law, first_parent_law, laying_law, places_law, placing_law};
 pub use scheme_laws::{row_law, scheme_law};
