@@ -14,6 +14,6 @@ pub classes_more : (f : ClassDecl → Class) (start : List Class) (all : List Ke
     → classes_of all ≡ start ++ map f (take i decls) → classes_of (all ++ x ∷ []) ≡ start ++ map f (take (i + 1) decls)
 classes_more f start all decls i d x lt at is so =
     let next : map f (take i decls) ++ f d ∷ [] ≡ map f (take (i + 1) decls) =
-        sym (map_end f (take i decls) d) ∙ ap (λ z. map f (take i decls ++ z ∷ [])) at ∙ ap (map f) (sym (take_more decls i d lt)) in
+    sym (map_end f (take i decls) d) ∙ ap (λ z. map f (take i decls ++ z ∷ [])) at ∙ ap (map f) (sym (take_more decls i d lt)) in
     map_end class_of all x ∙ ap (λ z. z ++ class_of x ∷ []) so ∙ ap (λ z. (start ++ map f (take i decls)) ++ z ∷ []) is
     ∙ append_assoc start (map f (take i decls)) (f d ∷ []) ∙ ap (λ z. start ++ z) next

@@ -99,7 +99,7 @@ named_at k (size ∷ sizes) faces name place apart there is lt = by (nat_lt plac
 
     by : (b : Bool) → nat_lt place size ≡ b
         → (Apart (names_in (drop size faces)) → place - size < length (names_in (drop size faces)) → name_at (names_in (drop size faces)) (place - size) ≡ name → place - size < sum sizes
-          → level_named (suc k) (split sizes (drop size faces)) name ≡ level_module (suc k + level_at sizes (place - size)))
+        → level_named (suc k) (split sizes (drop size faces)) name ≡ level_module (suc k + level_at sizes (place - size)))
         → level_named k (split (size ∷ sizes) faces) name ≡ level_module (k + level_at (size ∷ sizes) place)
     by true e further_on =
         let low : place < size = grind (arith, e) in
@@ -110,8 +110,8 @@ named_at k (size ∷ sizes) faces name place apart there is lt = by (nat_lt plac
         let high : size ≤ place = grind (arith, e) in
         let all = sum_by-cons (λ (n : ℕ). n) size sizes in
         let later = further_on (subst (λ l. Apart l) (sym rest) (apart_drop size (names_in faces) apart))
-            (subst (λ l. place - size < length l) (sym rest) (long_drop size (names_in faces) place high there))
-            (ap (λ l. name_at l (place - size)) rest ∙ at_drop size (names_in faces) place [] high ∙ is) (omega (arith, lt, high, all)) in
+        (subst (λ l. place - size < length l) (sym rest) (long_drop size (names_in faces) place high there))
+        (ap (λ l. name_at l (place - size)) rest ∙ at_drop size (names_in faces) place [] high ∙ is) (omega (arith, lt, high, all)) in
         let moved : suc k + level_at sizes (place - size) ≡ k + suc (level_at sizes (place - size)) = omega arith in
         ap (λ (b : Bool). if b then level_module k else level_named (suc k) (split sizes (drop size faces)) name) (further high)
         ∙ later ∙ ap level_module (moved ∙ ap (λ (b : Bool). k + (if b then 0 else suc (level_at sizes (place - size)))) (sym e))

@@ -18,12 +18,23 @@ use std::marker::Model;
 
 /// Which module each flat name gets: a class of the base that of its level, and a class of the program's own that of what stands above the
 /// levels. Names of the base are found in a table.
-#[derive(Drop)]
 pub struct LevelModules<'a> {
     sizes: &'a List<u16>,
     client: bool,
     base: &'a Interface,
     names: IndexSet<&'a [u8]>,
+}
+
+impl<'a> Drop for LevelModules<'a> {
+    fn drop(self) {
+        let LevelModules {
+            sizes: _,
+            client: _,
+            base: _,
+            names,
+        } = self;
+        drop(names);
+    }
 }
 
 impl<'a> Model for LevelModules<'a> {

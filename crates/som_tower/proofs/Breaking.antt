@@ -42,3 +42,24 @@ break_next is xs l ys none = break_append is xs (plain l ∷ ys) ∙ ap (λ o. o
 pub told_whole : (A : Type 0) (breach whole : Option (ℕ × CompatBreach)) (rest : Option (ℕ × CompatBreach)) (e : LevelFault) → whole ≡ or_else breach rest → TellsLevels breach (Err e) → TellsTower {A = A} whole (Err e)
 told_whole A breach whole rest (faults.Breach b) is t = (t.0, is ∙ ap (λ o. or_else o rest) t.1, t.2)
 told_whole A breach whole rest faults.NoMemory is t = tt
+
+-- what levels break, told of more of them
+told_more : (A B : Type 0) (breach whole : Option (ℕ × CompatBreach)) (rest : Option (ℕ × CompatBreach)) (e : LevelFault) → whole ≡ or_else breach rest → TellsTower {A = A} breach (Err e) → TellsTower {A = B} whole (Err e)
+told_more A B breach whole rest (faults.Breach b) is t = (t.0, is ∙ ap (λ o. or_else o rest) t.1, t.2)
+told_more A B breach whole rest faults.NoMemory is t = tt
+
+-- and told by a result that is this one
+pub told_result : (A : Type 0) {B : Type 0} (breach whole : Option (ℕ × CompatBreach)) (rest : Option (ℕ × CompatBreach)) (r : Result B LevelFault) (e : LevelFault) → r ≡ Err e → whole ≡ or_else breach rest → TellsTower {A = A} breach (Err e) → TellsTower whole r
+told_result A {B} breach whole rest r e same is t = subst (TellsTower whole) (sym same) (told_more A B breach whole rest e is t)
+
+-- the last level is all that is left where those before it break nothing
+pub break_last : (is : List Interface) (xs : List LevelProgram) (l : Level) → tower_break is xs ≡ None → tower_break is (xs ++ plain l ∷ []) ≡ breaks_at (is ++ map own_interface xs) l
+break_last is xs l none = break_next is xs l [] none ∙ or_none (breaks_at (is ++ map own_interface xs) l)
+
+-- a level within a list is what is broken first, where those before it break nothing
+pub break_within : (is : List Interface) (levels : List Level) (i : ℕ) (l : Level) → i < length levels → l ≡ get_or levels i l → tower_break is (map plain (take i levels)) ≡ None
+    → tower_break is (map plain levels) ≡ or_else (breaks_at (is ++ map own_interface (map plain (take i levels))) l) (tower_break ((is ++ map own_interface (map plain (take i levels))) ++ own_interface (plain l) ∷ []) (map plain (drop (i + 1) levels)))
+break_within is levels i l lt at none =
+    let split : levels ≡ take i levels ++ l ∷ drop (i + 1) levels = sym (take-append-drop i levels) ∙ ap (λ z. take i levels ++ z) (drop_more levels i l lt) ∙ ap (λ z. take i levels ++ z ∷ drop (i + 1) levels) (sym at) in
+    let plains : map plain levels ≡ map plain (take i levels) ++ plain l ∷ map plain (drop (i + 1) levels) = ap (map plain) split ∙ map-append plain (take i levels) (l ∷ drop (i + 1) levels) in
+    ap (tower_break is) plains ∙ break_next is (map plain (take i levels)) l (map plain (drop (i + 1) levels)) none
