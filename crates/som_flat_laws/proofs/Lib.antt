@@ -1,0 +1,6 @@
+pub mod Lists
+pub mod ByOwners
+pub mod Rules
+pub mod Flattening
+pub mod Breaches
+pub mod MadeLevels

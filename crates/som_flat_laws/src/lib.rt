@@ -1,0 +1,6 @@
+//! The flat interface of levels of libraries: laws of which rules can break there, and of what it keeps.
+#![tactic(auto)]
+
+mod laws;
+
+pub use laws::{flat_breach_law, made_levels_law};
