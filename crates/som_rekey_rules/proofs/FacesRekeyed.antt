@@ -1,8 +1,7 @@
 -- Faces that can stand together can do so under new keys.
-use Rattle.std.proofs.Common.{◌≡◌, inl, inr, ℕ, zero, suc, true, List, [], ◌∷◌, ◌++◌, map, take, slice_get, Option, Some, None, IsSome, is_some, unwrap_or, refl, sym, ap, ◌∙◌, subst, true≢false}
+use Rattle.std.proofs.Common.{◌≡◌, inl, ℕ, zero, suc, true, List, [], ◌∷◌, ◌++◌, map, take, slice_get, Option, Some, None, IsSome, is_some, unwrap_or, refl, sym, ap, ◌∙◌, subst, true≢false}
 use Rattle.std.specs.Option.{option_map}
 use Rattle.std.proofs.lemmas.Option.{slice_get-map}
-use Rattle.som_model.specs.declared.key.Module.TheVariants as modules
 use Rattle.som_model.specs.declared.key.ClassKey.{ClassKey}
 use Rattle.som_model.specs.declared.class.Entry.{Entry}
 use Rattle.som_model.specs.declared.class.Entry.TheVariants as entries
@@ -13,17 +12,16 @@ use Rattle.som_model.specs.Kernel.{kernel}
 use Rattle.som_model.specs.Loads.{IsOrdered, FacesLoad, HasOwnKey, keys_of}
 use Rattle.som_model.specs.Owner.{entry_at}
 use Rattle.som_model.specs.Rules.{RuleBreach, is_proper, name_of, s3, s4, s5, s6, s7}
-use Rattle.som_model_laws.proofs.Members.{mem_right}
 use Rattle.som_model_laws.proofs.Lists.{map_mem, mem_map}
 use Rattle.som_rekey_laws.specs.Rekeying.{ModuleChange, rekey, rekey_entry, rekey_class, rekey_classes}
-use Rattle.som_rekey_laws.specs.Apart.{Names, is_named, IsApart, KeepsKernel, AreNamed}
+use Rattle.som_rekey_laws.specs.Apart.{Names, is_named, IsApart, KeepsKernel}
 use Rattle.som_rekey_laws.proofs.Lists.{map_twice}
 use Rattle.som_rekey_laws.proofs.KeysApart.{keys_kept}
 use Rattle.som_rekey_laws.proofs.Places.{rekey_named, is_named_at}
 use Rattle.som_rekey_laws.proofs.OwnersKept.{entry_kept}
 use Rattle.som_rekey_laws.proofs.BodiesKept.{some_there}
 use Rattle.som_rekey_laws.proofs.KernelKept.{with_kernel}
-use Rattle.som_rekey_rules.specs.Speaking.{IsFaceNamed, AreFacesNamed}
+use Rattle.som_rekey_rules.specs.Speaking.{AreFacesNamed}
 use Rattle.som_rekey_rules.proofs.ClassesNamed.{all_named, entry_is_named}
 use Rattle.som_rekey_rules.proofs.KernelNamed.{with_kernel_named}
 use Rattle.som_rekey_rules.proofs.RulesRekeyed.{Variables, doubles_map, proper_kept, s3_kept, s4_kept, s5_kept, s6_kept, s7_kept}

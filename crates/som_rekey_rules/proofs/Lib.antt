@@ -9,3 +9,5 @@ pub mod RulesRekeyed
 pub mod ConformingRekeyed
 pub mod FacesRekeyed
 pub mod CountsRekeyed
+pub mod LoadedNames
+pub mod LoadsRekeyed

@@ -21,7 +21,7 @@ use Rattle.som_model.specs.Same.{same_type}
 use Rattle.som_model.specs.Class.{Class, entry_name, introduced}
 use Rattle.som_model.specs.Kernel.{som_class}
 use Rattle.som_model.specs.Classes.{class_at, ancestors, is_a}
-use Rattle.som_model.specs.Named.{AClass, sig_names, entry_names}
+use Rattle.som_model.specs.Named.{sig_names, entry_names}
 use Rattle.som_model.specs.Owner.{owner, introduces, introduced_by}
 use Rattle.som_model.specs.Rules.{RuleBreach, name_of, breach, demand, demand_of, s1, s2, s3, s4, s5, s6, s7, s8, s9, s10, s10_from, s10_selects, s14, is_known, is_void, is_value_type, is_proper, is_replaced_once, is_parent_below, body_fits}
 use Rattle.som_model_laws.proofs.Members.{map_on, mem_split}
@@ -34,10 +34,10 @@ use Rattle.som_rekey_laws.proofs.Places.{class_kept, ancestors_kept, descent_kep
 use Rattle.som_rekey_laws.proofs.OwnersKept.{name_kept, list_introduced, introduced_kept, introduces_kept, owner_kept, owner_named}
 use Rattle.som_rekey_laws.proofs.BodiesKept.{some_there, method_kept, above_named, class_stays, class_named}
 use Rattle.som_rekey_laws.proofs.MetasKept.{option_kept}
-use Rattle.som_rekey_rules.specs.Speaking.{AreOf, IsTypeNamed, AreTypesNamed, IsFaceNamed, IsClassNamed, AreFacesNamed}
+use Rattle.som_rekey_rules.specs.Speaking.{AreOf, IsTypeNamed, AreTypesNamed, IsFaceNamed, AreFacesNamed}
 use Rattle.som_rekey_rules.proofs.TypesRekeyed.{key_of, params_of, result_of}
-use Rattle.som_rekey_rules.proofs.ExpressionsRekeyed.{face_of, parent_named, variable_named, get_kind, kind_there}
-use Rattle.som_rekey_rules.proofs.ClassesNamed.{all_named, all_targets, metaclass_is_named, entry_is_named, overridden_is_named, selected_is_named}
+use Rattle.som_rekey_rules.proofs.ExpressionsRekeyed.{parent_named, get_kind, kind_there}
+use Rattle.som_rekey_rules.proofs.ClassesNamed.{all_named, all_targets, metaclass_is_named, entry_is_named}
 use Rattle.som_rekey_rules.proofs.ClassesTyped.{flat_same}
 
 -- ---- lists
@@ -71,7 +71,7 @@ as_long g (x ∷ xs) = ap suc (as_long g xs)
 
 -- ---- parts of rules, as they are told of a class
 
-abbrev s5_entry : List Class → Class → Entry → List RuleBreach
+abbrev pub s5_entry : List Class → Class → Entry → List RuleBreach
 s5_entry known c (entries.Introduced name sig way) = demand_of 5 c name (is_known known sig.result && every (is_value_type known) sig.params)
 s5_entry known c (entries.Moved name to) = []
 

@@ -7,6 +7,6 @@ mod rules;
 mod typing;
 
 pub use classes::{named_classes_law, rekeyed_typed_law};
-pub use loading::rekeyed_loads_law;
+pub use loading::{loaded_names_law, rekeyed_compiled_law, rekeyed_loads_law};
 pub use rules::rekeyed_rules_law;
 pub use typing::{rekeyed_block_law, rekeyed_expression_law};

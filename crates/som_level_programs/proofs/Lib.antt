@@ -1,0 +1,3 @@
+pub mod ChangesApart
+pub mod LevelClasses
+pub mod LevelPrograms

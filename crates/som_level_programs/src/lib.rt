@@ -1,0 +1,6 @@
+//! Programs that stand above levels of libraries: the contracts of functions with no body, which proofs of other crates cite.
+#![tactic(auto)]
+
+mod laws;
+
+pub use laws::{level_change_law, level_names_law, level_program_law};
