@@ -4,3 +4,5 @@ pub mod Rules
 pub mod Flattening
 pub mod Breaches
 pub mod MadeLevels
+pub mod Kept
+pub mod FlatKeys

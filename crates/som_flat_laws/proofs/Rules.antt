@@ -81,7 +81,7 @@ module _ (cs : List Class) (f : FacesLoad cs) where
         metaclass = λ i c k at is. among_of (kernel ++ take i cs) k (f.ordered.metaclasses i c k at is);
       })
 
-  fourth : (c : Class) → Mem c cs → s4 new (S c) ≡ []
+  pub fourth : (c : Class) → Mem c cs → s4 new (S c) ≡ []
   fourth c m = says_s4 new (S c) (λ k is. descent_by_owners all all k som_class ∙ s4_says all c k (f.descend c m) is)
 
   own_types : (c : Class) (e : Entry) → types_of all c e ≡ [] → types_of all (S c) (entry_by_owner all c.key e) ≡ []
@@ -96,13 +96,13 @@ module _ (cs : List Class) (f : FacesLoad cs) where
       (λ x m. let r = map_mem (entry_by_owner all c.key) x c.decl.face.entries m in
       subst (λ z. types_of all (S c) z ≡ []) (sym r.2) (own_types c r.0 (flat_at (types_of all c) c.decl.face.entries r.0 p.0 r.1)))) refl
 
-  fifth : (c : Class) → Mem c cs → s5 new (S c) ≡ []
+  pub fifth : (c : Class) → Mem c cs → s5 new (S c) ≡ []
   fifth c m = s5_more all new (λ k e. known_by_owners all all k ∙ e) (S c) (types_by_owners c (f.types c m))
 
-  sixth : (c : Class) → Mem c cs → s6 (S c) ≡ []
+  pub sixth : (c : Class) → Mem c cs → s6 (S c) ≡ []
   sixth c m = ap (λ l. map (breach 6 c) (doubles bytes_eq [] l)) (names_by_owners all c.key c.decl.face.entries) ∙ f.names c m
 
-  proper : (c : Class) (name : List ℕ) (to : ClassKey) → Mem c cs → Mem (entries.Moved name to) c.decl.face.entries → is_proper new (S c) (owner all (ref cs f c.key name)).class ≡ true
+  pub proper : (c : Class) (name : List ℕ) (to : ClassKey) → Mem c cs → Mem (entries.Moved name to) c.decl.face.entries → is_proper new (S c) (owner all (ref cs f c.key name)).class ≡ true
   proper c name to m n =
       let o = (owner all (ref cs f c.key name)).class in
       both_true (not (same_key o c.key)) (is_a new c.key o)

@@ -1,14 +1,21 @@
-//! Laws of the flat interface of levels of libraries: which rules can break there.
+//! Laws of the flat interface of levels of libraries: which rules can break there, and that it says what the levels say.
 
-ghost use Rattle.som_flat_laws.specs.Flat.{flat_interface};
+ghost use Rattle.som_flat_laws.specs.Flat.{flat_interface, flat_module, levels_by_owners};
 ghost use Rattle.som_flat_laws.specs.Made.{AreMadeLevels};
-ghost use Rattle.som_level_laws.specs.Levels.{level_classes};
-ghost use Rattle.som_model.specs.Classes.{interface_classes};
+ghost use Rattle.som_level_laws.specs.Levels.{all_levels, level_classes};
+ghost use Rattle.som_model.specs.Class.{Class};
+ghost use Rattle.som_model.specs.Classes.{ancestors, interface_classes};
+ghost use Rattle.som_model.specs.Compatible.{release_of, signature};
 ghost use Rattle.som_model.specs.Conforming.{faces_breach};
+ghost use Rattle.som_model.specs.Lists.{Mem};
 ghost use Rattle.som_model.specs.Loads.{FacesLoad};
+ghost use Rattle.som_model.specs.Owner.{owner};
 ghost use Rattle.som_model.specs.Rules.{RuleBreach};
 ghost use Rattle.som_model.specs.declared.program.Interface.{Interface};
-ghost use Rattle.std.specs.Prelude.{◌≡◌, ◌⊎◌, List as Seq, Some};
+ghost use Rattle.som_rekey_laws.specs.Rekeying.{rekey, rekey_method, rekey_sig};
+ghost use Rattle.som_release_laws.specs.Releasing.{AreKept};
+ghost use Rattle.std.specs.Option.{option_map};
+ghost use Rattle.std.specs.Prelude.{◌≡◌, ◌⊎◌, ℕ, List as Seq, None, Some, map};
 
 /// Levels that were each made over older ones, which those below them keep, can be loaded together.
 pub fn made_levels_law()
@@ -22,4 +29,27 @@ pub fn flat_breach_law()
         faces_breach (interface_classes (flat_interface is)) ≡ Some b → (b.rule ≡ 1) ⊎ (b.rule ≡ 8) }
     ensures made { (is : Seq Interface) → AreMadeLevels is → (b : RuleBreach) →
         faces_breach (interface_classes (flat_interface is)) ≡ Some b → (b.rule ≡ 1) ⊎ (b.rule ≡ 8) }
+{}
+
+/// The classes of levels keep all that they promise where each moved entry names the class of its owner, and
+/// these keep all that the levels promise: so what is compatible with the one is with the other.
+pub fn owners_kept_law()
+    ensures kept { (is : Seq Interface) → FacesLoad (level_classes is) → AreKept (level_classes is) (levels_by_owners is) }
+    ensures keeps { (is : Seq Interface) → FacesLoad (level_classes is) → AreKept (levels_by_owners is) (level_classes is) }
+    ensures load { (is : Seq Interface) → FacesLoad (level_classes is) → FacesLoad (levels_by_owners is) }
+{}
+
+/// Where the flat interface breaks no rule, it says of the ancestors of each class, of the owners of its
+/// methods and of their signatures what the levels say, in flat keys.
+pub fn flat_kept_law()
+    ensures ancestors { (is : Seq Interface) → FacesLoad (level_classes is) → faces_breach (interface_classes (flat_interface is)) ≡ None →
+        (c : Class) → Mem c (all_levels is) →
+        ancestors (release_of (flat_interface is)) (rekey flat_module c.key) ≡ map (rekey flat_module) (ancestors (all_levels is) c.key) }
+    ensures owners { (is : Seq Interface) → FacesLoad (level_classes is) → faces_breach (interface_classes (flat_interface is)) ≡ None →
+        (c : Class) (name : Seq ℕ) → Mem c (all_levels is) →
+        owner (release_of (flat_interface is)) (rekey_method flat_module (record { class = c.key; name = name })) ≡
+        rekey_method flat_module (owner (all_levels is) (record { class = c.key; name = name })) }
+    ensures signatures { (is : Seq Interface) → FacesLoad (level_classes is) → faces_breach (interface_classes (flat_interface is)) ≡ None →
+        (c : Class) (name : Seq ℕ) → Mem c (all_levels is) →
+        signature (release_of (flat_interface is)) (rekey flat_module c.key) name ≡ option_map (rekey_sig flat_module) (signature (all_levels is) c.key name) }
 {}

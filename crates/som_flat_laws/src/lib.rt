@@ -3,4 +3,4 @@
 
 mod laws;
 
-pub use laws::{flat_breach_law, made_levels_law};
+pub use laws::{flat_breach_law, flat_kept_law, made_levels_law, owners_kept_law};
