@@ -11,7 +11,7 @@ use Rattle.som_model.specs.Class.{Class}
 use Rattle.som_model.specs.Classes.{ancestors, interface_classes}
 use Rattle.som_model.specs.Compatible.{release_of, signature}
 use Rattle.som_model.specs.Kernel.{kernel}
-use Rattle.som_model.specs.Owner.{owner, sig_of}
+use Rattle.som_model.specs.Owner.{owner}
 use Rattle.som_model.specs.Rules.{name_of, s5}
 use Rattle.som_model.specs.Conforming.{faces_breach, first_of_members, first_of_names}
 use Rattle.som_model.specs.Loads.{FacesLoad}

@@ -35,7 +35,7 @@ use Rattle.som_flat_laws.proofs.ByOwners.{here, owned, ref}
 
 -- ---- the change of modules
 
-kernel_or : (m : Module) → (m ≡ modules.Kernel) ⊎ (m ≡ modules.Kernel → ⊥)
+pub kernel_or : (m : Module) → (m ≡ modules.Kernel) ⊎ (m ≡ modules.Kernel → ⊥)
 kernel_or modules.Kernel = inl refl
 kernel_or modules.Library = inr (λ e. absurd (cc))
 kernel_or (modules.Upper k) = inr (λ e. absurd (cc))
@@ -47,7 +47,7 @@ outside modules.Library name e = absurd (cc)
 outside (modules.Upper k) name e = absurd (cc)
 outside modules.Client name e = absurd (cc)
 
-level_flat : (k : ℕ) (name : List ℕ) → flat_module (level_module k) name ≡ modules.Library
+pub level_flat : (k : ℕ) (name : List ℕ) → flat_module (level_module k) name ≡ modules.Library
 level_flat zero name = refl
 level_flat (suc k) name = refl
 
@@ -63,7 +63,7 @@ module _ (cs : List Class) (o : IsOrdered cs) where
   }
 
   -- a class outside the kernel with this key
-  own_class : (m : Module) (name : List ℕ) → (m ≡ modules.Kernel → ⊥) → names_of all m name ≡ true → (c : Class) × Mem c cs × (name_of c ≡ name) × (c.key ≡ keys.Named m name)
+  pub own_class : (m : Module) (name : List ℕ) → (m ≡ modules.Kernel → ⊥) → names_of all m name ≡ true → (c : Class) × Mem c cs × (name_of c ≡ name) × (c.key ≡ keys.Named m name)
   own_class m name other n =
       let r = known_mem all (keys.Named m name) n in
       elim (mem_split r.0 kernel cs r.1) [

@@ -1,5 +1,5 @@
 -- Classes by owners keep all that the classes promise, and the other way round.
-use Rattle.std.proofs.Common.{◌≡◌, ℕ, zero, suc, ◌+◌, ◌<◌, ◌≤◌, inl, inr, true, List, [], ◌∷◌, ◌++◌, map, take, Option, Some, None, IsSome, slice_get, refl, sym, ap, ◌∙◌, subst, arith}
+use Rattle.std.proofs.Common.{◌≡◌, ℕ, zero, suc, ◌<◌, ◌≤◌, inl, inr, true, List, [], ◌∷◌, ◌++◌, map, take, Option, Some, None, IsSome, slice_get, refl, sym, ap, ◌∙◌, subst, arith}
 use Rattle.std.specs.Prelude.{is_some}
 use Rattle.std.specs.Option.{option_map}
 use Rattle.std.proofs.lemmas.List.{take-map}
@@ -12,18 +12,18 @@ use Rattle.som_model.specs.Lists.{Mem, doubles}
 use Rattle.som_model.specs.Keys.{same_key}
 use Rattle.som_model.specs.Hierarchy.{Falls, Hierarchy}
 use Rattle.som_model.specs.Ancestors.{Descends, itself, by_parent}
-use Rattle.som_model.specs.Class.{Class, entry_name}
+use Rattle.som_model.specs.Class.{Class}
 use Rattle.som_model.specs.Classes.{class_at, hierarchy}
 use Rattle.som_model.specs.Compatible.{order_of, signature}
 use Rattle.som_model.specs.Kernel.{kernel}
 use Rattle.som_model.specs.Metaclass.{meta}
-use Rattle.som_model.specs.Owner.{entry_at, introduces, owner, owner_within, sig_of}
-use Rattle.som_model.specs.Rules.{is_proper, name_of, s3, s4, s5, s6, s7}
+use Rattle.som_model.specs.Owner.{entry_at, introduces, owner, sig_of}
+use Rattle.som_model.specs.Rules.{is_proper, s3, s4, s5, s6, s7}
 use Rattle.som_model.specs.Loads.{FacesLoad, HasOwnKey, IsOrdered, keys_of}
 use Rattle.som_model_laws.specs.Keeping.{ClassesKeep, IsPair}
 use Rattle.som_model_laws.proofs.Keeping.{keeps_itself}
-use Rattle.som_model_laws.proofs.Lists.{get_mem, map_mem, mem_get, mem_map}
-use Rattle.som_model_laws.proofs.Owners.{entry_class, entry_is, entry_mem, entry_unknown, moved_to, owner_moved, owner_name, owner_owns, stays}
+use Rattle.som_model_laws.proofs.Lists.{get_mem, map_mem, mem_map}
+use Rattle.som_model_laws.proofs.Owners.{entry_is, entry_mem, entry_unknown, moved_to, owner_moved, owner_owns, stays}
 use Rattle.som_model_laws.proofs.Members.{mem_right}
 use Rattle.som_model_laws.proofs.Standing.{falls, found, found_is, height_at, known_above, place}
 use Rattle.som_release_laws.specs.Releasing.{AreKept, OwnersAreKept}

@@ -6,3 +6,7 @@ pub mod Breaches
 pub mod MadeLevels
 pub mod Kept
 pub mod FlatKeys
+pub mod Back
+pub mod Placing
+pub mod FlatPrograms
+pub mod MadeOver

@@ -1,5 +1,5 @@
 -- The flat interface of levels of libraries: the classes of all of them as those of one library.
-use Rattle.std.specs.Prelude.{List, map}
+use Rattle.std.specs.Prelude.{ℕ, List, length, map}
 use Rattle.som_model.specs.declared.key.Module.TheVariants as modules
 use Rattle.som_model.specs.declared.key.ClassKey.{ClassKey}
 use Rattle.som_model.specs.declared.class.Entry.{Entry}
@@ -45,3 +45,7 @@ levels_by_owners is = map (class_by_owners (all_levels is)) (level_classes is)
 -- one interface with the classes of all levels in order, named as those of one library, where each moved entry names the class of its owner
 abbrev pub flat_interface : List Interface → Interface
 flat_interface is = record { classes = map (λ (c : Class). rekey_face flat_module c.decl.face) (levels_by_owners is) }
+
+-- how many classes each level has
+abbrev pub sizes_of : List Interface → List ℕ
+sizes_of is = map (λ (i : Interface). length i.classes) is

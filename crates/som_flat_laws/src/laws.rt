@@ -1,21 +1,34 @@
 //! Laws of the flat interface of levels of libraries: which rules can break there, and that it says what the levels say.
 
-ghost use Rattle.som_flat_laws.specs.Flat.{flat_interface, flat_module, levels_by_owners};
-ghost use Rattle.som_flat_laws.specs.Made.{AreMadeLevels};
-ghost use Rattle.som_level_laws.specs.Levels.{all_levels, level_classes};
+ghost use Rattle.som_flat_laws.specs.Flat.{flat_interface, flat_module, levels_by_owners, sizes_of};
+ghost use Rattle.som_flat_laws.specs.Made.{AreMadeLevels, IsMadeOver, own_interface};
+ghost use Rattle.som_level_laws.specs.Levels.{CompatibleLevels, all_levels, level_classes};
+ghost use Rattle.som_level_programs.specs.ByLevels.{levels_below, main_by_level, own_by_level};
 ghost use Rattle.som_model.specs.Class.{Class};
-ghost use Rattle.som_model.specs.Classes.{ancestors, interface_classes};
+ghost use Rattle.som_model.specs.Classes.{ancestors, client_classes, interface_classes};
 ghost use Rattle.som_model.specs.Compatible.{release_of, signature};
-ghost use Rattle.som_model.specs.Conforming.{faces_breach};
+ghost use Rattle.som_model.specs.Conforming.{ProgramOk, faces_breach};
 ghost use Rattle.som_model.specs.Lists.{Mem};
 ghost use Rattle.som_model.specs.Loads.{FacesLoad};
 ghost use Rattle.som_model.specs.Owner.{owner};
 ghost use Rattle.som_model.specs.Rules.{RuleBreach};
+ghost use Rattle.som_model.specs.declared.program.ClientProgram.{ClientProgram};
 ghost use Rattle.som_model.specs.declared.program.Interface.{Interface};
 ghost use Rattle.som_rekey_laws.specs.Rekeying.{rekey, rekey_method, rekey_sig};
-ghost use Rattle.som_release_laws.specs.Releasing.{AreKept};
+ghost use Rattle.som_release_laws.specs.Releasing.{AreKept, AreLoadable, HaveOtherKeys, HaveParents, IsCompiled};
 ghost use Rattle.std.specs.Option.{option_map};
-ghost use Rattle.std.specs.Prelude.{◌≡◌, ◌⊎◌, ℕ, List as Seq, None, Some, map};
+ghost use Rattle.std.specs.Prelude.{◌≡◌, ◌⊎◌, ◌≤◌, ℕ, Bool, [], ◌++◌, List as Seq, None, Some, false, length, map, sum};
+
+/// The lowest level is a release that breaks no rule by its faces. A level above was made over the levels
+/// against which its flat program was compiled, where that conforms and the levels below it are compatible
+/// with these; each class has a parent, which the counts of images ask.
+pub fn made_over_law()
+    ensures lowest { (i : Interface) → faces_breach (interface_classes i) ≡ None → IsMadeOver [] i }
+    ensures level { (below : Seq Interface) (p : ClientProgram) (sizes : Seq ℕ) → ProgramOk p →
+        HaveParents (interface_classes p.base ++ client_classes p) → sum sizes ≡ length p.base.classes →
+        1 ≤ length sizes → length sizes ≡ length below → CompatibleLevels (levels_below sizes false p.base) below →
+        IsMadeOver below (own_interface sizes p) }
+{}
 
 /// Levels that were each made over older ones, which those below them keep, can be loaded together.
 pub fn made_levels_law()
@@ -52,4 +65,22 @@ pub fn flat_kept_law()
     ensures signatures { (is : Seq Interface) → FacesLoad (level_classes is) → faces_breach (interface_classes (flat_interface is)) ≡ None →
         (c : Class) (name : Seq ℕ) → Mem c (all_levels is) →
         signature (release_of (flat_interface is)) (rekey flat_module c.key) name ≡ option_map (rekey_sig flat_module) (signature (all_levels is) c.key name) }
+{}
+
+/// A program that conforms and was compiled against the flat interface of levels was, by levels, compiled
+/// against these, where each moved entry names the class of its owner. What keeps all that the levels
+/// promise keeps what the program was compiled against.
+pub fn flat_program_law()
+    ensures compiled { (is : Seq Interface) (p : ClientProgram) (client : Bool) → FacesLoad (level_classes is) →
+        p.base ≡ flat_interface is → ProgramOk p → HaveParents (interface_classes p.base ++ client_classes p) →
+        IsCompiled (levels_by_owners is) (own_by_level (sizes_of is) client p) (main_by_level (sizes_of is) client p) }
+    ensures below { (is : Seq Interface) (p : ClientProgram) (client : Bool) → FacesLoad (level_classes is) →
+        p.base ≡ flat_interface is → ProgramOk p → HaveParents (interface_classes p.base ++ client_classes p) →
+        level_classes (levels_below (sizes_of is) client p.base) ≡ levels_by_owners is }
+    ensures kept { (is : Seq Interface) (news : Seq Class) → FacesLoad (level_classes is) → FacesLoad news →
+        AreKept (level_classes is) news → AreKept (levels_by_owners is) news }
+    ensures loadable { (is : Seq Interface) (p : ClientProgram) (client : Bool) (news : Seq Class) → FacesLoad (level_classes is) →
+        p.base ≡ flat_interface is → ProgramOk p → HaveParents (interface_classes p.base ++ client_classes p) →
+        AreLoadable news → AreKept (level_classes is) news → HaveOtherKeys news (own_by_level (sizes_of is) client p) →
+        AreLoadable (news ++ own_by_level (sizes_of is) client p) }
 {}

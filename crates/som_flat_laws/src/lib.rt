@@ -3,4 +3,7 @@
 
 mod laws;
 
-pub use laws::{flat_breach_law, flat_kept_law, made_levels_law, owners_kept_law};
+pub use laws::{
+    flat_breach_law, flat_kept_law, flat_program_law, made_levels_law, made_over_law,
+    owners_kept_law,
+};
