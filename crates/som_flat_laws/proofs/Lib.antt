@@ -10,3 +10,5 @@ pub mod Back
 pub mod Placing
 pub mod FlatPrograms
 pub mod MadeOver
+pub mod KeptAbove
+pub mod Lowest

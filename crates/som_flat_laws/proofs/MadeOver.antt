@@ -127,10 +127,14 @@ module _ (p : ClientProgram) (sizes : List ℕ) (few : 1 ≤ length sizes) where
       ∙ ap (λ (l : List Class). level_classes olds ++ l) own_faces
       ∙ sym (levels_joined 0 (length sizes) olds (own ∷ []) (omega (arith, many)))
 
+  -- own faces can be loaded with those of the levels against which they were compiled
+  pub level_loads : ProgramOk p → HaveParents (interface_classes p.base ++ client_classes p) → sum sizes ≡ length p.base.classes → FacesLoad (level_classes (olds ++ own ∷ []))
+  level_loads ok have fits = subst FacesLoad all_faces (faces_alone (level_classes olds ++ own_by_level sizes false p) (program_compiled p sizes false fits ok have).faces)
+
   pub level_made : (below : List Interface) → ProgramOk p → HaveParents (interface_classes p.base ++ client_classes p) → sum sizes ≡ length p.base.classes → length sizes ≡ length below → CompatibleLevels olds below → IsMadeOver below own
   level_made below ok have fits many k = record {
     olds = olds;
     as_many = olds_many ∙ many;
-    faces = subst FacesLoad all_faces (faces_alone (level_classes olds ++ own_by_level sizes false p) (program_compiled p sizes false fits ok have).faces);
+    faces = level_loads ok have fits;
     kept = k;
   }
