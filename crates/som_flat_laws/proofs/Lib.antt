@@ -12,3 +12,5 @@ pub mod FlatPrograms
 pub mod MadeOver
 pub mod KeptAbove
 pub mod Lowest
+pub mod Choices
+pub mod NewestTowers
