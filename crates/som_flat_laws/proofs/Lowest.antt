@@ -37,7 +37,7 @@ library_load r ok =
     faces_load cs (library_own r.classes) a.0 d.0 (λ c m. flat_at (s5 all) cs c (nothing (flat_map (s5 all) cs) b.0) m)
 
 -- the interface of a release has its faces alone
-shown_faces : (ds : List ClassDecl) → map face_only (map (class_in modules.Library) ds) ≡ map (λ (f : ClassFace). class_in modules.Library (bare f)) (map (λ (d : ClassDecl). d.face) ds)
+pub shown_faces : (ds : List ClassDecl) → map face_only (map (class_in modules.Library) ds) ≡ map (λ (f : ClassFace). class_in modules.Library (bare f)) (map (λ (d : ClassDecl). d.face) ds)
 shown_faces [] = refl
 shown_faces (d ∷ ds) = ap (λ l. class_in modules.Library (bare d.face) ∷ l) (shown_faces ds)
 

@@ -112,7 +112,7 @@ module _ (p : ClientProgram) (sizes : List ℕ) (few : 1 ≤ length sizes) where
   pub olds_many : length olds ≡ length sizes
   olds_many = length-map (split sizes p.base.classes) (λ (faces : List ClassFace). record { classes = map (rekey_face (level_change sizes false p.base)) faces }) ∙ as_many sizes p.base.classes
 
-  own_faces : map face_only (own_by_level sizes false p) ≡ levels_from (length sizes) (own ∷ [])
+  pub own_faces : map face_only (own_by_level sizes false p) ≡ levels_from (length sizes) (own ∷ [])
   own_faces =
       map_twice face_only (λ (d : ClassDecl). class_in (own_module (length sizes) false) (rekey_decl (level_change sizes false p.base) d)) p.classes
       ∙ ap (λ (m : Module). map (λ (d : ClassDecl). class_in m (bare (rekey_face (level_change sizes false p.base) d.face))) p.classes) (own_level (length sizes) few)

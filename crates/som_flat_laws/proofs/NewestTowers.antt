@@ -45,10 +45,10 @@ module _ (lowest : List Release) (uppers : List (List LevelRelease)) (news : Lis
       ap (λ z. level_classes (levels_below z client p.base)) m.sizes_are ∙ below_are is f p client m.base m.conforms m.parents in
       subst (λ (z : List Class). AreKept z (level_classes news)) (sym below) (flat_kept is f (level_classes news) s.load (s.kept m.choice))
 
-  sizes_many : (sizes : List ℕ) (p : ClientProgram) (m : IsMadeAgainst lowest uppers sizes p) → length sizes ≡ suc (length uppers)
+  pub sizes_many : (sizes : List ℕ) (p : ClientProgram) (m : IsMadeAgainst lowest uppers sizes p) → length sizes ≡ suc (length uppers)
   sizes_many sizes p m = ap length m.sizes_are ∙ length-map (chosen m.choice) (λ (i : Interface). length i.classes) ∙ s.chosen_many m.choice
 
-  fits : (sizes : List ℕ) (p : ClientProgram) (m : IsMadeAgainst lowest uppers sizes p) → sum sizes ≡ length p.base.classes
+  pub fits : (sizes : List ℕ) (p : ClientProgram) (m : IsMadeAgainst lowest uppers sizes p) → sum sizes ≡ length p.base.classes
   fits sizes p m = ap sum m.sizes_are ∙ flat_count (chosen m.choice) ∙ ap (λ (i : Interface). length i.classes) (sym m.base)
 
   -- ---- one level more
@@ -143,7 +143,7 @@ module _ (lowest : List Release) (uppers : List (List LevelRelease)) (news : Lis
 
 -- ---- all levels
 
-lowest_stands : (front : List Release) (last : Release) → Accepted (front ++ last ∷ []) → Stand (front ++ last ∷ []) [] (interface_of last ∷ [])
+pub lowest_stands : (front : List Release) (last : Release) → Accepted (front ++ last ∷ []) → Stand (front ++ last ∷ []) [] (interface_of last ∷ [])
 lowest_stands front last acc = record {
   load = shown_level last (acc.conform last (at_end front last));
   many = refl;

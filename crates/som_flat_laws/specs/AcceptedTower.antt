@@ -1,16 +1,16 @@
 -- Lists of releases of levels, each release accepted after the one before it, the upper ones made against releases of the lists below.
-use Rattle.std.specs.Prelude.{◌≡◌, ℕ, false, List, [], ◌∷◌, ◌++◌, map}
+use Rattle.std.specs.Prelude.{◌≡◌, ℕ, false, List, [], ◌∷◌, ◌++◌, flat_map, map}
 use Rattle.som_model.specs.declared.program.Interface.{Interface}
 use Rattle.som_model.specs.declared.program.Release.{Release}
 use Rattle.som_model.specs.declared.program.ClientProgram.{ClientProgram}
 use Rattle.som_model.specs.Lists.{Mem}
-use Rattle.som_model.specs.Class.{interface_of}
-use Rattle.som_model.specs.Classes.{client_classes, interface_classes}
+use Rattle.som_model.specs.Class.{Class, interface_of}
+use Rattle.som_model.specs.Classes.{client_classes, interface_classes, library_classes}
 use Rattle.som_model.specs.Compatible.{Accepted, EachNext}
 use Rattle.som_model.specs.Conforming.{ProgramOk}
 use Rattle.som_release_laws.specs.Releasing.{HaveParents}
 use Rattle.som_level_laws.specs.Levels.{CompatibleLevels}
-use Rattle.som_level_programs.specs.ByLevels.{levels_below}
+use Rattle.som_level_programs.specs.ByLevels.{levels_below, own_by_level}
 use Rattle.som_flat_laws.specs.Flat.{flat_interface, sizes_of}
 use Rattle.som_flat_laws.specs.Made.{own_interface}
 
@@ -87,3 +87,7 @@ AreNewest [] [] = Unit {0}
 AreNewest (m ∷ ms) (rs ∷ rss) = ((before : List LevelRelease) × (rs ≡ before ++ m ∷ [])) × AreNewest ms rss
 AreNewest [] (rs ∷ rss) = ⊥
 AreNewest (m ∷ ms) [] = ⊥
+
+-- the classes of these releases with all that they declare, by levels, the lowest level first
+abbrev pub tower_classes : Release → List LevelRelease → List Class
+tower_classes r ms = library_classes r ++ flat_map (λ (m : LevelRelease). own_by_level m.sizes false m.program) ms
