@@ -17,11 +17,11 @@ use Rattle.som_rekey_laws.specs.Apart.{Names, is_named, named_step}
 use Rattle.som_rekey_laws.specs.Rekeying.{ModuleChange, rekey, rekey_class, rekey_entry, rekey_face, rekey_layer, rekey_sig, rekey_type}
 use Rattle.som_rekey_laws.proofs.KeysApart.{every_first, every_rest, named_out, out_rekey}
 use Rattle.som_rekey_laws.proofs.Lists.{map_twice}
-use Rattle.som_rekey_rules.specs.Speaking.{AreOf, IsTypeNamed}
+use Rattle.som_rekey_rules.specs.NamesAlone.{AreOf, IsTypeNamed}
 use Rattle.som_rekey_rules.proofs.ClassesNamed.{metaclass_is_named, entry_is_named}
 use Rattle.som_rekey_rules.proofs.ExpressionsRekeyed.{parent_named}
 use Rattle.som_rekey_rules.proofs.TypesRekeyed.{each_of, key_of, left_of, right_of}
-use Rattle.som_rekey_rules.specs.Speaking.{IsFaceNamed}
+use Rattle.som_rekey_rules.specs.NamesAlone.{IsFaceNamed}
 
 -- a list of which each member stays
 all_back : {A : Type 0} (u : A → A) (xs : List A) → ((a : A) → Mem a xs → u a ≡ a) → map u xs ≡ xs

@@ -25,7 +25,7 @@ use Rattle.som_rekey_laws.proofs.KernelKept.{with_kernel}
 use Rattle.som_rekey_laws.proofs.OrderedNames.{class_named}
 use Rattle.som_rekey_laws.proofs.OwnersKept.{owner_kept, owner_signature_kept}
 use Rattle.som_rekey_laws.proofs.Places.{ancestors_kept}
-use Rattle.som_rekey_rules.specs.Speaking.{AreFacesNamed}
+use Rattle.som_rekey_rules.specs.NamesAlone.{AreFacesNamed}
 use Rattle.som_rekey_rules.proofs.ClassesNamed.{all_named, all_targets, faces_of}
 use Rattle.som_rekey_rules.proofs.KernelNamed.{with_kernel_named}
 use Rattle.som_level_laws.specs.Levels.{level_classes}

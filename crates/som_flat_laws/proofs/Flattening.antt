@@ -26,7 +26,7 @@ use Rattle.som_rekey_laws.specs.Rekeying.{rekey, rekey_class, rekey_classes, rek
 use Rattle.som_rekey_laws.proofs.Lists.{map_twice}
 use Rattle.som_rekey_laws.proofs.OrderedNames.{class_named, ordered_kernel}
 use Rattle.som_rekey_laws.proofs.Places.{rekey_named}
-use Rattle.som_rekey_rules.specs.Speaking.{AreClassesNamed, AreOf, IsClassNamed}
+use Rattle.som_rekey_rules.specs.NamesAlone.{AreClassesNamed, AreOf, IsClassNamed}
 use Rattle.som_level_laws.specs.Levels.{level_classes, level_module}
 use Rattle.som_level_laws.proofs.Levels.{stands_at}
 use Rattle.som_flat_laws.specs.Flat.{flat_interface, flat_module, class_by_owners, entry_by_owner, levels_by_owners}

@@ -1,3 +1,5 @@
 pub mod ChangesApart
 pub mod LevelClasses
 pub mod LevelPrograms
+pub mod KeptByFaces
+pub mod TowersLoad

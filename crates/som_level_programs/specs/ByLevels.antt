@@ -38,14 +38,14 @@ abbrev pub flat_names : Names
 flat_names (modules.Upper k) name = false
 flat_names m name = true
 
--- the interfaces of the levels below, which name classes by levels
+-- the interfaces of the levels below a program, as parts of its base that name classes by levels
 abbrev pub levels_below : List ℕ → Bool → Interface → List Interface
 levels_below sizes client base = map (λ faces. record { classes = map (rekey_face (level_change sizes client base)) faces }) (split sizes base.classes)
 
--- the classes of the program's own, by levels
+-- the classes of a program's own, by levels
 abbrev pub own_by_level : List ℕ → Bool → ClientProgram → List Class
 own_by_level sizes client p = map (λ d. class_in (own_module (length sizes) client) (rekey_decl (level_change sizes client p.base) d)) p.classes
 
--- its main, by levels
+-- the main of a program, by levels
 abbrev pub main_by_level : List ℕ → Bool → ClientProgram → Block
 main_by_level sizes client p = rekey_block (level_change sizes client p.base) p.main

@@ -2,5 +2,7 @@
 #![tactic(auto)]
 
 mod laws;
+mod towers;
 
 pub use laws::{level_change_law, level_names_law, level_program_law};
+pub use towers::tower_loads_law;

@@ -25,7 +25,7 @@ use Rattle.som_rekey_laws.proofs.Places.{found_mem}
 use Rattle.som_rekey_laws.proofs.OwnersKept.{owner_named}
 use Rattle.som_rekey_laws.proofs.BodiesKept.{class_named}
 use Rattle.som_rekey_laws.proofs.MetasKept.{meta_named}
-use Rattle.som_rekey_rules.specs.Speaking.{AreOf, IsFaceNamed, AreFacesNamed, IsClassNamed, AreClassesNamed, AreAnswersNamed}
+use Rattle.som_rekey_rules.specs.NamesAlone.{AreOf, IsFaceNamed, AreFacesNamed, IsClassNamed, AreClassesNamed, AreAnswersNamed}
 use Rattle.som_rekey_rules.proofs.TypesRekeyed.{left_of, right_of, each_of}
 use Rattle.som_rekey_rules.proofs.ExpressionsRekeyed.{face_of, parent_named}
 

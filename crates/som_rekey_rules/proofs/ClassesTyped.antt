@@ -19,8 +19,8 @@ use Rattle.som_rekey_laws.specs.Rekeying.{ModuleChange, rekey_type, rekey_sig, r
 use Rattle.som_rekey_laws.specs.Apart.{Names, IsApart, KeepsKernel}
 use Rattle.som_rekey_laws.specs.AlikeFacts.{AreFactsAlike}
 use Rattle.som_rekey_laws.proofs.OwnersKept.{owner_signature_kept}
-use Rattle.som_rekey_rules.specs.Speaking.{AreOf, IsClassNamed, AreFacesNamed, AreAnswersNamed, IsPlaceNamed}
-use Rattle.som_rekey_rules.specs.Retyped.{ruled_map}
+use Rattle.som_rekey_rules.specs.NamesAlone.{AreOf, IsClassNamed, AreFacesNamed, AreAnswersNamed, IsPlaceNamed}
+use Rattle.som_rekey_rules.specs.NewTypes.{ruled_map}
 use Rattle.som_rekey_rules.proofs.TypesRekeyed.{right_of, none_of, params_of, result_of}
 use Rattle.som_rekey_rules.proofs.ExpressionsRekeyed.{face_of}
 use Rattle.som_rekey_rules.proofs.StatementsRekeyed.{block_kept}

@@ -11,7 +11,7 @@ use Rattle.som_rekey_laws.specs.Apart.{Names, IsApart, KeepsKernel}
 use Rattle.som_rekey_laws.proofs.Lists.{map_append}
 use Rattle.som_rekey_laws.proofs.FactsKept.{facts_kept}
 use Rattle.som_rekey_laws.proofs.KernelKept.{kernel_classes_stay, with_kernel}
-use Rattle.som_rekey_rules.specs.Speaking.{IsClassNamed, AreFacesNamed, AreClassesNamed}
+use Rattle.som_rekey_rules.specs.NamesAlone.{IsClassNamed, AreFacesNamed, AreClassesNamed}
 use Rattle.som_rekey_rules.proofs.ExpressionsRekeyed.{face_of, variable_named}
 use Rattle.som_rekey_rules.proofs.ClassesNamed.{faces_of, overridden_is_named, selected_is_named, all_named, all_targets, declared_answers}
 use Rattle.som_rekey_rules.proofs.ClassesTyped.{flat_same, class_typed_kept}

@@ -26,9 +26,9 @@ use Rattle.som_rekey_laws.specs.AlikeFacts.{AreFactsAlike}
 use Rattle.som_rekey_laws.proofs.KeysApart.{keys_kept}
 use Rattle.som_rekey_laws.proofs.Lists.{map_twice}
 use Rattle.som_rekey_laws.proofs.BodiesKept.{kernel_stays, kernel_is_named}
-use Rattle.som_rekey_rules.specs.Speaking.{AreOf, IsTypeNamed, AreTypesNamed, IsFaceNamed, IsClassNamed, IsPlaceNamed, AreAnswersNamed}
-use Rattle.som_rekey_rules.specs.Retyped.{rekey_place, rekey_expr_type}
-use Rattle.som_rekey_rules.proofs.Stepping.{Kept, ok_kept, err_kept, needs_kept, if_kept, there_kept, step_kept}
+use Rattle.som_rekey_rules.specs.NamesAlone.{AreOf, IsTypeNamed, AreTypesNamed, IsFaceNamed, IsClassNamed, IsPlaceNamed, AreAnswersNamed}
+use Rattle.som_rekey_rules.specs.NewTypes.{rekey_place, rekey_expr_type}
+use Rattle.som_rekey_rules.proofs.Steps.{Kept, ok_kept, err_kept, needs_kept, if_kept, there_kept, step_kept}
 use Rattle.som_rekey_rules.proofs.TypesRekeyed.{left_of, right_of, each_of, none_of, class_of, params_of, result_of, IsAnswerNamed, AreAnswersOf, type_alike, descends_kept, fits_kept, all_fit_kept, kind_kept}
 
 -- ---- what a class of these names has

@@ -21,7 +21,7 @@ use Rattle.som_rekey_laws.proofs.Places.{rekey_named, is_named_at}
 use Rattle.som_rekey_laws.proofs.OwnersKept.{entry_kept}
 use Rattle.som_rekey_laws.proofs.BodiesKept.{some_there}
 use Rattle.som_rekey_laws.proofs.KernelKept.{with_kernel}
-use Rattle.som_rekey_rules.specs.Speaking.{AreFacesNamed}
+use Rattle.som_rekey_rules.specs.NamesAlone.{AreFacesNamed}
 use Rattle.som_rekey_rules.proofs.ClassesNamed.{all_named, entry_is_named}
 use Rattle.som_rekey_rules.proofs.KernelNamed.{with_kernel_named}
 use Rattle.som_rekey_rules.proofs.RulesRekeyed.{Variables, doubles_map, proper_kept, s3_kept, s4_kept, s5_kept, s6_kept, s7_kept}

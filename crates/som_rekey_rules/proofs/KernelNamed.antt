@@ -12,7 +12,7 @@ use Rattle.som_rekey_laws.specs.Rekeying.{ModuleChange}
 use Rattle.som_rekey_laws.specs.Apart.{Names, is_named, KeepsKernel}
 use Rattle.som_rekey_laws.proofs.BodiesKept.{kernel_is_named, object_named, class_named}
 use Rattle.som_rekey_rules.proofs.ClassesNamed.{faces_of}
-use Rattle.som_rekey_rules.specs.Speaking.{AreOf, IsClassNamed, AreFacesNamed, AreClassesNamed}
+use Rattle.som_rekey_rules.specs.NamesAlone.{AreOf, IsClassNamed, AreFacesNamed, AreClassesNamed}
 
 pub both_faces : (names : Names) (cs ds : List Class) → AreFacesNamed names cs → AreFacesNamed names ds → AreFacesNamed names (cs ++ ds)
 both_faces names cs ds a b c m = elim (mem_split c cs ds m) [ inl k ↦ a c k | inr k ↦ b c k ]

@@ -1,4 +1,4 @@
-pub mod Stepping
+pub mod Steps
 pub mod TypesRekeyed
 pub mod ExpressionsRekeyed
 pub mod StatementsRekeyed

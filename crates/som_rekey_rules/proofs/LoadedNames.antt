@@ -35,7 +35,7 @@ use Rattle.som_release_laws.proofs.TypedClasses.{class_carried, main_carried}
 use Rattle.som_release_laws.proofs.TypesBelow.{method_named}
 use Rattle.som_rekey_laws.specs.Apart.{Names, is_named, names_of}
 use Rattle.som_rekey_laws.proofs.OrderedNames.{class_named, ordered_named, ordered_targets, ordered_metaclasses}
-use Rattle.som_rekey_rules.specs.Speaking.{AreOf, IsTypeNamed, AreFacesNamed, IsClassNamed}
+use Rattle.som_rekey_rules.specs.NamesAlone.{AreOf, IsTypeNamed, AreFacesNamed, IsClassNamed}
 use Rattle.som_rekey_rules.proofs.TypesRekeyed.{none_of, class_of}
 use Rattle.som_rekey_rules.proofs.RulesRekeyed.{s5_entry}
 

@@ -28,7 +28,7 @@ use Rattle.som_rekey_laws.proofs.BodiesKept.{above_named}
 use Rattle.som_rekey_laws.proofs.FactsKept.{facts_kept, running_kept}
 use Rattle.som_rekey_laws.proofs.KernelKept.{with_kernel}
 use Rattle.som_rekey_laws.proofs.OrderedNames.{ordered_named}
-use Rattle.som_rekey_rules.specs.Speaking.{AreFacesNamed, IsClassNamed, AreClassesNamed, IsBlockNamed}
+use Rattle.som_rekey_rules.specs.NamesAlone.{AreFacesNamed, IsClassNamed, AreClassesNamed, IsBlockNamed}
 use Rattle.som_rekey_rules.proofs.ExpressionsRekeyed.{face_of, variable_named}
 use Rattle.som_rekey_rules.proofs.ClassesNamed.{all_named, all_targets, all_metaclasses, overridden_is_named, selected_is_named, declared_answers, running_answers}
 use Rattle.som_rekey_rules.proofs.ClassesTyped.{class_typed_kept, main_kept}

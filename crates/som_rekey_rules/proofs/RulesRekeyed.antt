@@ -34,7 +34,7 @@ use Rattle.som_rekey_laws.proofs.Places.{class_kept, ancestors_kept, descent_kep
 use Rattle.som_rekey_laws.proofs.OwnersKept.{name_kept, list_introduced, introduced_kept, introduces_kept, owner_kept, owner_named}
 use Rattle.som_rekey_laws.proofs.BodiesKept.{some_there, method_kept, above_named, class_stays, class_named}
 use Rattle.som_rekey_laws.proofs.MetasKept.{option_kept}
-use Rattle.som_rekey_rules.specs.Speaking.{AreOf, IsTypeNamed, AreTypesNamed, IsFaceNamed, AreFacesNamed}
+use Rattle.som_rekey_rules.specs.NamesAlone.{AreOf, IsTypeNamed, AreTypesNamed, IsFaceNamed, AreFacesNamed}
 use Rattle.som_rekey_rules.proofs.TypesRekeyed.{key_of, params_of, result_of}
 use Rattle.som_rekey_rules.proofs.ExpressionsRekeyed.{parent_named, get_kind, kind_there}
 use Rattle.som_rekey_rules.proofs.ClassesNamed.{all_named, all_targets, metaclass_is_named, entry_is_named}

@@ -18,9 +18,9 @@ use Rattle.som_rekey_laws.specs.Rekeying.{ModuleChange, rekey_type, rekey_expr, 
 use Rattle.som_rekey_laws.specs.Apart.{Names, IsApart, KeepsKernel}
 use Rattle.som_rekey_laws.specs.AlikeFacts.{AreFactsAlike}
 use Rattle.som_rekey_laws.proofs.Lists.{map_append}
-use Rattle.som_rekey_rules.specs.Speaking.{AreOf, IsTypeNamed, AreTypesNamed, IsPlaceNamed, AreAnswersNamed}
-use Rattle.som_rekey_rules.specs.Retyped.{rekey_place, rekey_expr_type}
-use Rattle.som_rekey_rules.proofs.Stepping.{Kept, ok_kept, needs_kept, there_kept, step_kept}
+use Rattle.som_rekey_rules.specs.NamesAlone.{AreOf, IsTypeNamed, AreTypesNamed, IsPlaceNamed, AreAnswersNamed}
+use Rattle.som_rekey_rules.specs.NewTypes.{rekey_place, rekey_expr_type}
+use Rattle.som_rekey_rules.proofs.Steps.{Kept, ok_kept, needs_kept, there_kept, step_kept}
 use Rattle.som_rekey_rules.proofs.TypesRekeyed.{left_of, right_of, IsAnswerNamed, type_alike, fits_kept, kind_kept}
 use Rattle.som_rekey_rules.proofs.ExpressionsRekeyed.{value_kept, own_kept, expr_kept}
 

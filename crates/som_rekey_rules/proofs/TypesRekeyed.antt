@@ -12,8 +12,8 @@ use Rattle.som_model_laws.proofs.Lists.{mem_flat}
 use Rattle.som_rekey_laws.specs.Rekeying.{ModuleChange, rekey, rekey_type}
 use Rattle.som_rekey_laws.specs.Apart.{Names, is_named}
 use Rattle.som_rekey_laws.specs.AlikeFacts.{AreFactsAlike}
-use Rattle.som_rekey_rules.specs.Speaking.{AreOf, IsTypeNamed, AreTypesNamed}
-use Rattle.som_rekey_rules.specs.Retyped.{rekey_expr_type}
+use Rattle.som_rekey_rules.specs.NamesAlone.{AreOf, IsTypeNamed, AreTypesNamed}
+use Rattle.som_rekey_rules.specs.NewTypes.{rekey_expr_type}
 
 -- ---- what is named, by its parts
 

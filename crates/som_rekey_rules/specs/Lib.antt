@@ -1,2 +1,2 @@
-pub mod Speaking
-pub mod Retyped
+pub mod NamesAlone
+pub mod NewTypes

@@ -6,7 +6,7 @@ ghost use Rattle.som_model.specs.Typing.{class_facts, running_facts};
 ghost use Rattle.som_model.specs.declared.syntax.Block.{Block};
 ghost use Rattle.som_rekey_laws.specs.Apart.{AreInheritedNamed, AreMetaclassesNamed, AreNamed, AreTargetsNamed, IsApart, KeepsKernel, Names};
 ghost use Rattle.som_rekey_laws.specs.Rekeying.{ModuleChange, rekey_block, rekey_class, rekey_classes};
-ghost use Rattle.som_rekey_rules.specs.Speaking.{AreAnswersNamed, AreClassesNamed, AreFacesNamed, IsBlockNamed, IsClassNamed};
+ghost use Rattle.som_rekey_rules.specs.NamesAlone.{AreAnswersNamed, AreClassesNamed, AreFacesNamed, IsBlockNamed, IsClassNamed};
 ghost use Rattle.std.specs.Prelude.{◌≡◌, List as Seq};
 
 /// Classes whose faces name no others have parents, targets of moves and metaclasses of these names, and what

@@ -6,7 +6,7 @@ ghost use Rattle.som_model.specs.Loads.{FacesLoad, IsOrdered, Loads};
 ghost use Rattle.som_model.specs.declared.syntax.Block.{Block};
 ghost use Rattle.som_rekey_laws.specs.Apart.{IsApart, KeepsKernel, names_of};
 ghost use Rattle.som_rekey_laws.specs.Rekeying.{ModuleChange, rekey_block, rekey_classes};
-ghost use Rattle.som_rekey_rules.specs.Speaking.{AreClassesNamed, AreFacesNamed, IsBlockNamed};
+ghost use Rattle.som_rekey_rules.specs.NamesAlone.{AreClassesNamed, AreFacesNamed, IsBlockNamed};
 ghost use Rattle.som_release_laws.specs.Releasing.{AreLoadable, IsCompiled};
 ghost use Rattle.std.specs.Prelude.{◌++◌, List as Seq};
 

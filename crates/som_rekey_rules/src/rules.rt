@@ -6,7 +6,7 @@ ghost use Rattle.som_model.specs.Kernel.{kernel};
 ghost use Rattle.som_model.specs.Rules.{s14, s5};
 ghost use Rattle.som_rekey_laws.specs.Apart.{IsApart, KeepsKernel, Names};
 ghost use Rattle.som_rekey_laws.specs.Rekeying.{ModuleChange, rekey_classes};
-ghost use Rattle.som_rekey_rules.specs.Speaking.{AreClassesNamed, AreFacesNamed};
+ghost use Rattle.som_rekey_rules.specs.NamesAlone.{AreClassesNamed, AreFacesNamed};
 ghost use Rattle.std.specs.Prelude.{◌≡◌, ◌++◌, List as Seq, flat_map};
 
 /// Classes that name no others break under new keys the rules that they broke, and the first breach is the

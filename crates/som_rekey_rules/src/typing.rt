@@ -8,8 +8,8 @@ ghost use Rattle.som_model.specs.declared.syntax.Expr.{Expr};
 ghost use Rattle.som_rekey_laws.specs.AlikeFacts.{AreFactsAlike};
 ghost use Rattle.som_rekey_laws.specs.Apart.{IsApart, KeepsKernel, Names};
 ghost use Rattle.som_rekey_laws.specs.Rekeying.{ModuleChange, rekey_block, rekey_expr, rekey_type};
-ghost use Rattle.som_rekey_rules.specs.Retyped.{rekey_expr_type, rekey_place, ruled_map};
-ghost use Rattle.som_rekey_rules.specs.Speaking.{AreAnswersNamed, AreOf, AreTypesNamed, IsBlockNamed, IsPlaceNamed};
+ghost use Rattle.som_rekey_rules.specs.NewTypes.{rekey_expr_type, rekey_place, ruled_map};
+ghost use Rattle.som_rekey_rules.specs.NamesAlone.{AreAnswersNamed, AreOf, AreTypesNamed, IsBlockNamed, IsPlaceNamed};
 ghost use Rattle.std.specs.Prelude.{◌≡◌, map};
 
 /// An expression that names no other classes has the new type under new keys, or breaks the same rule, by

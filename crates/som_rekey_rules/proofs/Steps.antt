@@ -4,7 +4,7 @@ use Rattle.std.specs.Option.{option_map}
 use Rattle.som_model.specs.Steps.{◌>>=◌}
 use Rattle.som_model.specs.Typing.{Ruled, needs, there}
 use Rattle.som_model.proofs.StepLaws.{same_answer}
-use Rattle.som_rekey_rules.specs.Retyped.{ruled_map}
+use Rattle.som_rekey_rules.specs.NewTypes.{ruled_map}
 
 -- a step comes to what the old one comes to, under new keys, and of the old value something is known
 pub record Kept {A B : Type 0} (g : A → B) (P : A → Type 0) (x : Ruled A) (y : Ruled B) : Type 0 where

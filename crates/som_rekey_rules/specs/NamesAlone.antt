@@ -15,33 +15,33 @@ use Rattle.som_rekey_laws.specs.Apart.{Names, is_named}
 abbrev pub AreOf : Names → List Named → Type 0
 AreOf names ns = (k : ClassKey) → Mem (AClass k) ns → is_named names k ≡ true
 
--- a block names nothing else
+-- a block names classes of these names alone
 abbrev pub IsBlockNamed : Names → Block → Type 0
 IsBlockNamed names b = AreOf names (block_names b)
 
--- a type is of one of these classes, or of none
+-- a type is of a class of these names, or of none
 abbrev pub IsTypeNamed : Names → ValueType → Type 0
 IsTypeNamed names t = AreOf names (type_names t)
 
--- so are all these types
+-- each of these types is of a class of these names, or of none
 abbrev pub AreTypesNamed : Names → List ValueType → Type 0
 AreTypesNamed names ts = (t : ValueType) → Mem t ts → IsTypeNamed names t
 
--- a class has a key of these names, and its face names nothing else
+-- a class has a key of these names, and its face names classes of them alone
 pub record IsFaceNamed (names : Names) (c : Class) : Type 0 where
   pub key : is_named names c.key ≡ true
   pub named : AreOf names (face_names c.decl.face)
 
--- so does each of these classes, whatever else they declare
+-- each of these classes has a key of these names, and a face that names classes of them alone, whatever else it declares
 abbrev pub AreFacesNamed : Names → List Class → Type 0
 AreFacesNamed names cs = (c : Class) → Mem c cs → IsFaceNamed names c
 
--- a class has a key of these names, and its whole declaration names nothing else
+-- a class has a key of these names, and its whole declaration names classes of them alone
 pub record IsClassNamed (names : Names) (c : Class) : Type 0 where
   pub key : is_named names c.key ≡ true
   pub named : AreOf names (decl_names c.decl)
 
--- so does each of these classes
+-- each of these classes has a key of these names, and a declaration that names classes of them alone
 abbrev pub AreClassesNamed : Names → List Class → Type 0
 AreClassesNamed names cs = (c : Class) → Mem c cs → IsClassNamed names c
 
