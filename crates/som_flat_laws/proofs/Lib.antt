@@ -14,5 +14,3 @@ pub mod KeptAbove
 pub mod Lowest
 pub mod Choices
 pub mod NewestTowers
-pub mod FacesFull
-pub mod NewestLoad

@@ -1,7 +1,7 @@
 -- A release that breaks no rule, and a level whose flat program conforms, were made over the levels against which they were compiled.
 use Rattle.std.proofs.Common.{◌≡◌, ℕ, zero, suc, ◌≤◌, true, false, not, ◌&&◌, List, [], ◌∷◌, ◌++◌, append-nil, length, map, flat_map, drop, None, IsSome, refl, sym, ap, ◌∙◌, subst, arith}
 use Rattle.std.specs.Prelude.{sum}
-use Rattle.std.proofs.lemmas.List.{length-map, map-append}
+use Rattle.std.proofs.lemmas.List.{length-append, length-map, map-append}
 use Rattle.som_model.specs.declared.key.Module.{Module}
 use Rattle.som_model.specs.declared.class.Entry.{Entry}
 use Rattle.som_model.specs.declared.class.Entry.TheVariants as entries
@@ -9,7 +9,6 @@ use Rattle.som_model.specs.declared.class.ClassDecl.{ClassDecl}
 use Rattle.som_model.specs.declared.class.ClassFace.{ClassFace}
 use Rattle.som_model.specs.declared.class.Variable.{Variable}
 use Rattle.som_model.specs.declared.program.Interface.{Interface}
-use Rattle.som_model.specs.declared.program.ClientProgram.{ClientProgram}
 use Rattle.som_model.specs.Lists.{Mem, every}
 use Rattle.som_model.specs.Keys.{same_key}
 use Rattle.som_model.specs.Class.{Class, bare, class_in}
@@ -27,13 +26,14 @@ use Rattle.som_release_laws.proofs.Along.{kept_itself}
 use Rattle.som_release_laws.proofs.FacesAlone.{entry_faces}
 use Rattle.som_release_laws.proofs.Facing.{s4_says, says_s4, s5_more}
 use Rattle.som_release_laws.proofs.Lists.{both_none, none_left}
-use Rattle.som_rekey_laws.specs.Rekeying.{rekey_decl, rekey_face}
+use Rattle.som_rekey_laws.specs.Rekeying.{ModuleChange, rekey_decl, rekey_face}
 use Rattle.som_rekey_laws.proofs.Lists.{map_twice}
-use Rattle.som_level_laws.specs.Levels.{CompatibleLevels, classes_of_level, level_classes, level_module, levels_from}
+use Rattle.som_level_laws.specs.Levels.{classes_of_level, level_classes, level_module, levels_from}
 use Rattle.som_level_laws.proofs.Levels.{levels_joined}
 use Rattle.som_level_programs.specs.ByLevels.{level_change, levels_below, own_by_level, own_module, split}
 use Rattle.som_level_programs.proofs.LevelPrograms.{program_compiled}
-use Rattle.som_flat_laws.specs.Made.{IsMadeOver, own_interface}
+use Rattle.som_level_programs.specs.Towers.{AreStacked, LevelProgram, StandsOn, own_interface}
+use Rattle.som_flat_laws.specs.Made.{AreMadeOver, IsMadeOver}
 use Rattle.som_flat_laws.proofs.MadeLevels.{unbroken_levels}
 
 -- ---- classes of which the faces alone are left
@@ -102,39 +102,56 @@ as_many : {A : Type 0} (sizes : List ℕ) (xs : List A) → length (split sizes 
 as_many [] xs = refl
 as_many (size ∷ sizes) xs = ap suc (as_many sizes (drop size xs))
 
-module _ (p : ClientProgram) (sizes : List ℕ) (few : 1 ≤ length sizes) where
+module _ (l : LevelProgram) where
+  abbrev change : ModuleChange
+  change = level_change l.sizes l.client l.program.base
+
   abbrev olds : List Interface
-  olds = levels_below sizes false p.base
+  olds = levels_below l.sizes l.client l.program.base
 
   abbrev own : Interface
-  own = own_interface sizes p
+  own = own_interface l
 
-  pub olds_many : length olds ≡ length sizes
-  olds_many = length-map (split sizes p.base.classes) (λ (faces : List ClassFace). record { classes = map (rekey_face (level_change sizes false p.base)) faces }) ∙ as_many sizes p.base.classes
+  abbrev own_classes : List Class
+  own_classes = own_by_level l.sizes l.client l.program
 
-  pub own_faces : map face_only (own_by_level sizes false p) ≡ levels_from (length sizes) (own ∷ [])
-  own_faces =
-      map_twice face_only (λ (d : ClassDecl). class_in (own_module (length sizes) false) (rekey_decl (level_change sizes false p.base) d)) p.classes
-      ∙ ap (λ (m : Module). map (λ (d : ClassDecl). class_in m (bare (rekey_face (level_change sizes false p.base) d.face))) p.classes) (own_level (length sizes) few)
-      ∙ sym (map_twice (λ (face : ClassFace). class_in (level_module (length sizes)) (bare face)) (λ (d : ClassDecl). rekey_face (level_change sizes false p.base) d.face) p.classes)
-      ∙ sym (append-nil (classes_of_level (length sizes) own))
+  pub olds_many : length olds ≡ length l.sizes
+  olds_many = length-map (split l.sizes l.program.base.classes) (λ (faces : List ClassFace). record { classes = map (rekey_face change) faces }) ∙ as_many l.sizes l.program.base.classes
 
-  all_faces : map face_only (level_classes olds ++ own_by_level sizes false p) ≡ level_classes (olds ++ own ∷ [])
-  all_faces =
-      let many = olds_many in
-      map-append face_only (level_classes olds) (own_by_level sizes false p)
-      ∙ ap (λ (l : List Class). l ++ map face_only (own_by_level sizes false p)) (level_faces 0 olds)
-      ∙ ap (λ (l : List Class). level_classes olds ++ l) own_faces
-      ∙ sym (levels_joined 0 (length sizes) olds (own ∷ []) (omega (arith, many)))
+  module _ (library : l.client ≡ false) (few : 1 ≤ length l.sizes) where
+    own_faces : map face_only own_classes ≡ levels_from (length l.sizes) (own ∷ [])
+    own_faces =
+        map_twice face_only (λ (d : ClassDecl). class_in (own_module (length l.sizes) l.client) (rekey_decl change d)) l.program.classes
+        ∙ ap (λ (m : Module). map (λ (d : ClassDecl). class_in m (bare (rekey_face change d.face))) l.program.classes) (ap (own_module (length l.sizes)) library ∙ own_level (length l.sizes) few)
+        ∙ sym (map_twice (λ (face : ClassFace). class_in (level_module (length l.sizes)) (bare face)) (λ (d : ClassDecl). rekey_face change d.face) l.program.classes)
+        ∙ sym (append-nil (classes_of_level (length l.sizes) own))
 
-  -- own faces can be loaded with those of the levels against which they were compiled
-  pub level_loads : ProgramOk p → HaveParents (interface_classes p.base ++ client_classes p) → sum sizes ≡ length p.base.classes → FacesLoad (level_classes (olds ++ own ∷ []))
-  level_loads ok have fits = subst FacesLoad all_faces (faces_alone (level_classes olds ++ own_by_level sizes false p) (program_compiled p sizes false fits ok have).faces)
+    all_faces : map face_only (level_classes olds ++ own_classes) ≡ level_classes (olds ++ own ∷ [])
+    all_faces =
+        let many = olds_many in
+        map-append face_only (level_classes olds) own_classes
+        ∙ ap (λ (z : List Class). z ++ map face_only own_classes) (level_faces 0 olds)
+        ∙ ap (λ (z : List Class). level_classes olds ++ z) own_faces
+        ∙ sym (levels_joined 0 (length l.sizes) olds (own ∷ []) (omega (arith, many)))
 
-  pub level_made : (below : List Interface) → ProgramOk p → HaveParents (interface_classes p.base ++ client_classes p) → sum sizes ≡ length p.base.classes → length sizes ≡ length below → CompatibleLevels olds below → IsMadeOver below own
-  level_made below ok have fits many k = record {
-    olds = olds;
-    as_many = olds_many ∙ many;
-    faces = level_loads ok have fits;
-    kept = k;
-  }
+    -- own faces can be loaded with those of the levels against which they were compiled
+    pub level_loads : ProgramOk l.program → HaveParents (interface_classes l.program.base ++ client_classes l.program) → sum l.sizes ≡ length l.program.base.classes → FacesLoad (level_classes (olds ++ own ∷ []))
+    level_loads ok have fits = subst FacesLoad all_faces (faces_alone (level_classes olds ++ own_classes) (program_compiled l.program l.sizes l.client fits ok have).faces)
+
+    pub level_made : (below : List Interface) → StandsOn below l → IsMadeOver below own
+    level_made below s = record {
+      olds = olds;
+      as_many = olds_many ∙ s.levels;
+      faces = level_loads s.conforms s.parents s.fits;
+      kept = s.compatible;
+    }
+
+pub some_levels : (below : List Interface) (l : LevelProgram) → StandsOn below l → 1 ≤ length below → 1 ≤ length l.sizes
+some_levels below l s few = let e = s.levels in omega (arith, e, few)
+
+-- libraries one above the other, above levels
+pub stacked_made : (below : List Interface) (ls : List LevelProgram) → 1 ≤ length below → AreStacked below ls → AreMadeOver below (map own_interface ls)
+stacked_made below [] few s = tt
+stacked_made below (l ∷ ls) few s =
+    let more = length-append below (own_interface l ∷ []) in
+    (level_made l s.0.1 (some_levels below l s.0.0 few) below s.0.0, stacked_made (below ++ own_interface l ∷ []) ls (omega (arith, more)) s.1)

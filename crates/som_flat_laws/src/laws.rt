@@ -1,9 +1,10 @@
 //! Laws of the flat interface of levels of libraries: which rules can break there, and that it says what the levels say.
 
 ghost use Rattle.som_flat_laws.specs.Flat.{flat_interface, flat_module, levels_by_owners, sizes_of};
-ghost use Rattle.som_flat_laws.specs.Made.{AreMadeLevels, IsMadeOver, own_interface};
-ghost use Rattle.som_level_laws.specs.Levels.{CompatibleLevels, all_levels, level_classes};
+ghost use Rattle.som_flat_laws.specs.Made.{AreMadeLevels, IsMadeOver};
+ghost use Rattle.som_level_laws.specs.Levels.{all_levels, level_classes};
 ghost use Rattle.som_level_programs.specs.ByLevels.{levels_below, main_by_level, own_by_level};
+ghost use Rattle.som_level_programs.specs.Towers.{AreStacked, LevelProgram, StandsOn, own_interface};
 ghost use Rattle.som_model.specs.Class.{Class};
 ghost use Rattle.som_model.specs.Classes.{ancestors, client_classes, interface_classes};
 ghost use Rattle.som_model.specs.Compatible.{release_of, signature};
@@ -17,17 +18,16 @@ ghost use Rattle.som_model.specs.declared.program.Interface.{Interface};
 ghost use Rattle.som_rekey_laws.specs.Rekeying.{rekey, rekey_method, rekey_sig};
 ghost use Rattle.som_release_laws.specs.Releasing.{AreKept, AreLoadable, HaveOtherKeys, HaveParents, IsCompiled};
 ghost use Rattle.std.specs.Option.{option_map};
-ghost use Rattle.std.specs.Prelude.{◌≡◌, ◌⊎◌, ◌≤◌, ℕ, Bool, [], ◌++◌, List as Seq, None, Some, false, length, map, sum};
+ghost use Rattle.std.specs.Prelude.{◌≡◌, ◌⊎◌, ◌≤◌, ℕ, Bool, [], ◌∷◌, ◌++◌, List as Seq, None, Some, false, length, map};
 
-/// The lowest level is a release that breaks no rule by its faces. A level above was made over the levels
-/// against which its flat program was compiled, where that conforms and the levels below it are compatible
-/// with these; each class has a parent, which the counts of images ask.
+/// The lowest level is a release that breaks no rule by its faces. A level above is a library whose flat
+/// program conforms, and that stands on levels which are compatible with those against which it was compiled.
 pub fn made_over_law()
     ensures lowest { (i : Interface) → faces_breach (interface_classes i) ≡ None → IsMadeOver [] i }
-    ensures level { (below : Seq Interface) (p : ClientProgram) (sizes : Seq ℕ) → ProgramOk p →
-        HaveParents (interface_classes p.base ++ client_classes p) → sum sizes ≡ length p.base.classes →
-        1 ≤ length sizes → length sizes ≡ length below → CompatibleLevels (levels_below sizes false p.base) below →
-        IsMadeOver below (own_interface sizes p) }
+    ensures level { (below : Seq Interface) (l : LevelProgram) → StandsOn below l → l.client ≡ false → 1 ≤ length below →
+        IsMadeOver below (own_interface l) }
+    ensures levels { (i : Interface) (ls : Seq LevelProgram) → faces_breach (interface_classes i) ≡ None →
+        AreStacked (i ∷ []) ls → AreMadeLevels (i ∷ map own_interface ls) }
 {}
 
 /// Levels that were each made over older ones, which those below them keep, can be loaded together.
