@@ -8,17 +8,18 @@ ghost use Rattle.som_level_programs.specs.Towers.{AreStacked, LevelProgram, Stan
 ghost use Rattle.som_model.specs.Class.{Class};
 ghost use Rattle.som_model.specs.Classes.{ancestors, client_classes, interface_classes};
 ghost use Rattle.som_model.specs.Compatible.{release_of, signature};
-ghost use Rattle.som_model.specs.Conforming.{ProgramOk, faces_breach};
-ghost use Rattle.som_model.specs.Lists.{Mem};
+ghost use Rattle.som_model.specs.Conforming.{ProgramOk, each_after, faces_breach};
+ghost use Rattle.som_model.specs.Kernel.{kernel};
+ghost use Rattle.som_model.specs.Lists.{Mem, first, or_else};
 ghost use Rattle.som_model.specs.Loads.{FacesLoad};
 ghost use Rattle.som_model.specs.Owner.{owner};
-ghost use Rattle.som_model.specs.Rules.{RuleBreach};
+ghost use Rattle.som_model.specs.Rules.{RuleBreach, s1, s8};
 ghost use Rattle.som_model.specs.declared.program.ClientProgram.{ClientProgram};
 ghost use Rattle.som_model.specs.declared.program.Interface.{Interface};
 ghost use Rattle.som_rekey_laws.specs.Rekeying.{rekey, rekey_method, rekey_sig};
 ghost use Rattle.som_release_laws.specs.Releasing.{AreKept, AreLoadable, HaveOtherKeys, HaveParents, IsCompiled};
 ghost use Rattle.std.specs.Option.{option_map};
-ghost use Rattle.std.specs.Prelude.{◌≡◌, ◌⊎◌, ◌≤◌, ℕ, Bool, [], ◌∷◌, ◌++◌, List as Seq, None, Some, false, length, map};
+ghost use Rattle.std.specs.Prelude.{◌≡◌, ◌⊎◌, ◌≤◌, ℕ, Bool, [], ◌∷◌, ◌++◌, List as Seq, None, Some, false, flat_map, length, map};
 
 /// The lowest level is a release that breaks no rule by its faces. A level above is a library whose flat
 /// program conforms, and that stands on levels which are compatible with those against which it was compiled.
@@ -35,9 +36,13 @@ pub fn made_levels_law()
     ensures { (is : Seq Interface) → AreMadeLevels is → FacesLoad (level_classes is) }
 {}
 
-/// What breaks a rule of the flat interface of levels whose faces can be loaded together breaks S1, as two
-/// classes of one name do, or S8, as two ancestors of a class that introduce one name.
+/// Of the flat interface of levels whose faces can be loaded together the first breach is that of S1, which
+/// two classes of one name break, or else that of S8, which two ancestors of a class break that introduce one
+/// name: no other rule can be broken there.
 pub fn flat_breach_law()
+    ensures first { (is : Seq Interface) → FacesLoad (level_classes is) → faces_breach (interface_classes (flat_interface is)) ≡
+        or_else (first (each_after s1 kernel (interface_classes (flat_interface is))))
+        (first (flat_map (s8 (release_of (flat_interface is))) (interface_classes (flat_interface is)))) }
     ensures loaded { (is : Seq Interface) → FacesLoad (level_classes is) → (b : RuleBreach) →
         faces_breach (interface_classes (flat_interface is)) ≡ Some b → (b.rule ≡ 1) ⊎ (b.rule ≡ 8) }
     ensures made { (is : Seq Interface) → AreMadeLevels is → (b : RuleBreach) →
