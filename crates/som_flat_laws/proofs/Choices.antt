@@ -6,7 +6,7 @@ use Rattle.som_model.specs.Lists.{Mem}
 use Rattle.som_model.specs.Compatible.{EachNext}
 use Rattle.som_level_laws.specs.Levels.{CompatibleLevels}
 use Rattle.som_level_programs.specs.Towers.{LevelProgram, own_interface}
-use Rattle.som_flat_laws.specs.AcceptedTower.{AreMembers, AreStanding, embedded}
+use Rattle.som_flat_laws.specs.AcceptedTower.{AreMembers, AreStanding, embedded_levels}
 
 -- members of lists, of which the last has the last
 pub record HasLast (members : List LevelProgram) (below : List (List LevelProgram)) (rs : List LevelProgram) : Type 0 where
@@ -29,11 +29,11 @@ pub no_members : (members : List LevelProgram) → AreMembers members [] → mem
 no_members [] a = refl
 no_members (m ∷ ms) a = absurd a
 
-pub last_stands : (base : List Interface) (ms : List LevelProgram) (x : LevelProgram) → AreStanding base (ms ++ x ∷ []) → AreStanding base ms × CompatibleLevels (embedded x) (base ++ map own_interface ms)
-last_stands base [] x s = (tt, subst (CompatibleLevels (embedded x)) (sym (append-nil base)) s.0)
+pub last_stands : (base : List Interface) (ms : List LevelProgram) (x : LevelProgram) → AreStanding base (ms ++ x ∷ []) → AreStanding base ms × CompatibleLevels (embedded_levels x) (base ++ map own_interface ms)
+last_stands base [] x s = (tt, subst (CompatibleLevels (embedded_levels x)) (sym (append-nil base)) s.0)
 last_stands base (m ∷ ms) x s =
     let r = last_stands (base ++ own_interface m ∷ []) ms x s.1 in
-    ((s.0, r.0), subst (CompatibleLevels (embedded x)) (append_assoc base (own_interface m ∷ []) (map own_interface ms)) r.1)
+    ((s.0, r.0), subst (CompatibleLevels (embedded_levels x)) (append_assoc base (own_interface m ∷ []) (map own_interface ms)) r.1)
 
 -- each with the next, after a change of all
 pub map_next : {A B : Type 0} (R : B → B → Type 0) (f : A → B) (xs : List A) → EachNext (λ a b. R (f a) (f b)) xs → EachNext R (map f xs)

@@ -37,7 +37,7 @@ unbroken_levels is e = unbroken_load (level_classes is) (level_own is) e
 
 -- one more level
 one_more : (below : List Interface) (own : Interface) → FacesLoad (level_classes below) → IsMadeOver below own → FacesLoad (level_classes (below ++ own ∷ []))
-one_more below own f m = levels_stand m.olds below (own ∷ []) m.as_many m.faces f m.kept
+one_more below own f m = levels_stand m.olds below (own ∷ []) m.as_many m.faces f m.compatible
 
 over_load : (below above : List Interface) → FacesLoad (level_classes below) → AreMadeOver below above → FacesLoad (level_classes (below ++ above))
 over_load below [] f m = subst (λ z. FacesLoad (level_classes z)) (sym (append-nil below)) f

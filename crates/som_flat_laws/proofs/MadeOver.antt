@@ -89,7 +89,7 @@ lowest_made i e = record {
   olds = [];
   as_many = refl;
   faces = unbroken_levels (i ∷ []) (ap faces_breach (append-nil (interface_classes i)) ∙ e);
-  kept = kept_itself [] (unbroken_levels [] refl);
+  compatible = kept_itself [] (unbroken_levels [] refl);
 }
 
 -- ---- a level above
@@ -143,7 +143,7 @@ module _ (l : LevelProgram) where
       olds = olds;
       as_many = olds_many ∙ s.levels;
       faces = level_loads s.conforms s.parents s.fits;
-      kept = s.compatible;
+      compatible = s.compatible;
     }
 
 pub some_levels : (below : List Interface) (l : LevelProgram) → StandsOn below l → 1 ≤ length below → 1 ≤ length l.sizes

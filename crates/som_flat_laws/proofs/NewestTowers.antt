@@ -17,7 +17,7 @@ use Rattle.som_level_laws.proofs.Stays.{levels_stand, newest_keep}
 use Rattle.som_level_programs.specs.ByLevels.{levels_below}
 use Rattle.som_flat_laws.specs.Flat.{levels_by_owners}
 use Rattle.som_level_programs.specs.Towers.{AreStacked, LevelProgram, StandsOn, own_interface}
-use Rattle.som_flat_laws.specs.AcceptedTower.{AcceptedTower, AreAcceptedAbove, AreNewest, AreStanding, Choice, IsAcceptedLevel, IsMadeAgainst, chosen, embedded, interfaces_of, with_own}
+use Rattle.som_flat_laws.specs.AcceptedTower.{AcceptedTower, AreAcceptedAbove, AreNewest, AreStanding, Choice, IsAcceptedLevel, IsMadeAgainst, chosen_interfaces, embedded_levels, interfaces_of, with_own}
 use Rattle.som_flat_laws.proofs.Choices.{HasLast, last_member, last_stands, map_next, no_members, one_longer}
 use Rattle.som_flat_laws.proofs.FlatPrograms.{below_are, flat_kept}
 use Rattle.som_flat_laws.proofs.KeptAbove.{levels_above}
@@ -29,27 +29,27 @@ use Rattle.som_flat_laws.proofs.Placing.{flat_count}
 pub record Stand (lowest : List Release) (uppers : List (List LevelProgram)) (news : List Interface) : Type 0 where
   pub load : FacesLoad (level_classes news)
   pub many : length news ≡ suc (length uppers)
-  pub chosen_load : (c : Choice lowest uppers) → FacesLoad (level_classes (chosen c))
-  pub chosen_many : (c : Choice lowest uppers) → length (chosen c) ≡ suc (length uppers)
-  pub kept : (c : Choice lowest uppers) → CompatibleLevels (chosen c) news
+  pub chosen_load : (c : Choice lowest uppers) → FacesLoad (level_classes (chosen_interfaces c))
+  pub chosen_many : (c : Choice lowest uppers) → length (chosen_interfaces c) ≡ suc (length uppers)
+  pub kept : (c : Choice lowest uppers) → CompatibleLevels (chosen_interfaces c) news
 
 -- ---- programs that were made against chosen releases
 
 module _ (lowest : List Release) (uppers : List (List LevelProgram)) (news : List Interface) (s : Stand lowest uppers news) where
   -- what any program was made against is kept
-  pub made_kept : (l : LevelProgram) → IsMadeAgainst lowest uppers l → CompatibleLevels (embedded l) news
+  pub made_kept : (l : LevelProgram) → IsMadeAgainst lowest uppers l → CompatibleLevels (embedded_levels l) news
   made_kept l m =
-      let is = chosen m.choice in
+      let is = chosen_interfaces m.choice in
       let f = s.chosen_load m.choice in
-      let below : level_classes (embedded l) ≡ levels_by_owners is =
+      let below : level_classes (embedded_levels l) ≡ levels_by_owners is =
       ap (λ z. level_classes (levels_below z l.client l.program.base)) m.sizes ∙ below_are is f l.program l.client m.base m.conforms m.parents in
       subst (λ (z : List Class). AreKept z (level_classes news)) (sym below) (flat_kept is f (level_classes news) s.load (s.kept m.choice))
 
   sizes_many : (l : LevelProgram) (m : IsMadeAgainst lowest uppers l) → length l.sizes ≡ suc (length uppers)
-  sizes_many l m = ap length m.sizes ∙ length-map (chosen m.choice) (λ (i : Interface). length i.classes) ∙ s.chosen_many m.choice
+  sizes_many l m = ap length m.sizes ∙ length-map (chosen_interfaces m.choice) (λ (i : Interface). length i.classes) ∙ s.chosen_many m.choice
 
   fits : (l : LevelProgram) (m : IsMadeAgainst lowest uppers l) → sum l.sizes ≡ length l.program.base.classes
-  fits l m = ap sum m.sizes ∙ flat_count (chosen m.choice) ∙ ap (λ (i : Interface). length i.classes) (sym m.base)
+  fits l m = ap sum m.sizes ∙ flat_count (chosen_interfaces m.choice) ∙ ap (λ (i : Interface). length i.classes) (sym m.base)
 
   -- so it stands on these
   pub made_stands : (l : LevelProgram) → IsMadeAgainst lowest uppers l → StandsOn news l
@@ -65,16 +65,16 @@ module _ (lowest : List Release) (uppers : List (List LevelProgram)) (news : Lis
 
   module _ (rs : List LevelProgram) (a : IsAcceptedLevel lowest uppers rs) where
     some_sizes : (x : LevelProgram) → Mem x rs → 1 ≤ length x.sizes
-    some_sizes x m = let e = sizes_many x (a.made x m) in omega (arith, e)
+    some_sizes x m = let e = sizes_many x (a.made_against x m) in omega (arith, e)
 
     own_load : (x : LevelProgram) → Mem x rs → FacesLoad (level_classes (with_own x))
-    own_load x m = let d = a.made x m in level_loads x (a.libraries x m) (some_sizes x m) d.conforms d.parents (fits x d)
+    own_load x m = let d = a.made_against x m in level_loads x (a.libraries x m) (some_sizes x m) d.conforms d.parents (fits x d)
 
-    embedded_many : (x : LevelProgram) → Mem x rs → length (embedded x) ≡ suc (length uppers)
-    embedded_many x m = olds_many x ∙ sizes_many x (a.made x m)
+    embedded_many : (x : LevelProgram) → Mem x rs → length (embedded_levels x) ≡ suc (length uppers)
+    embedded_many x m = olds_many x ∙ sizes_many x (a.made_against x m)
 
-    embedded_kept : (x : LevelProgram) → Mem x rs → CompatibleLevels (embedded x) news
-    embedded_kept x m = made_kept x (a.made x m)
+    embedded_kept : (x : LevelProgram) → Mem x rs → CompatibleLevels (embedded_levels x) news
+    embedded_kept x m = made_kept x (a.made_against x m)
 
     module _ (before : List LevelProgram) (last : LevelProgram) (parts : rs ≡ before ++ last ∷ []) where
       last_in : Mem last rs
@@ -83,11 +83,11 @@ module _ (lowest : List Release) (uppers : List (List LevelProgram)) (news : Lis
       abbrev more : List Interface
       more = news ++ own_interface last ∷ []
 
-      as_many : length (embedded last) ≡ length news
+      as_many : length (embedded_levels last) ≡ length news
       as_many = embedded_many last last_in ∙ sym s.many
 
       more_load : FacesLoad (level_classes more)
-      more_load = levels_stand (embedded last) news (own_interface last ∷ []) as_many (own_load last last_in) s.load (embedded_kept last last_in)
+      more_load = levels_stand (embedded_levels last) news (own_interface last ∷ []) as_many (own_load last last_in) s.load (embedded_kept last last_in)
 
       all_parts : map with_own rs ≡ map with_own before ++ with_own last ∷ []
       all_parts = ap (map with_own) parts ∙ map-append with_own before (last ∷ [])
@@ -99,7 +99,7 @@ module _ (lowest : List Release) (uppers : List (List LevelProgram)) (news : Lis
 
       -- the last of the list keeps what each promised above the levels against which that was compiled
       own_kept : (x : LevelProgram) → Mem x rs → CompatibleLevels (with_own x) more
-      own_kept x m = newest_keep (map with_own before) (embedded last) (own_interface last ∷ []) news (with_own x) each_load
+      own_kept x m = newest_keep (map with_own before) (embedded_levels last) (own_interface last ∷ []) news (with_own x) each_load
           (subst (EachNext CompatibleLevels) all_parts (map_next CompatibleLevels with_own rs a.next))
           as_many s.load (embedded_kept last last_in) (subst (Mem (with_own x)) all_parts (mem_map with_own x rs m))
 
@@ -112,31 +112,31 @@ module _ (lowest : List Release) (uppers : List (List LevelProgram)) (news : Lis
         split : HasLast c.members uppers rs
         split = last_member c.members uppers rs c.are
 
-        standing : AreStanding base split.before × CompatibleLevels (embedded split.last) (base ++ map own_interface split.before)
+        standing : AreStanding base split.before × CompatibleLevels (embedded_levels split.last) (base ++ map own_interface split.before)
         standing = last_stands base split.before split.last (subst (AreStanding base) split.parts c.stand)
 
         lower : Choice lowest uppers
         lower = record { release = c.release; among = c.among; members = split.before; are = split.are; stand = standing.0 }
 
-        chosen_parts : chosen c ≡ chosen lower ++ own_interface split.last ∷ []
+        chosen_parts : chosen_interfaces c ≡ chosen_interfaces lower ++ own_interface split.last ∷ []
         unfolding lower
         chosen_parts = ap (interfaces_of c.release) split.parts ∙ ap (λ l. interface_of c.release ∷ l) (map-append own_interface split.before (split.last ∷ []))
 
-        lower_many : length (embedded split.last) ≡ length (chosen lower)
+        lower_many : length (embedded_levels split.last) ≡ length (chosen_interfaces lower)
         lower_many = embedded_many split.last split.there ∙ sym (s.chosen_many lower)
 
-        more_chosen_load : FacesLoad (level_classes (chosen c))
+        more_chosen_load : FacesLoad (level_classes (chosen_interfaces c))
         unfolding lower
         more_chosen_load = subst (λ z. FacesLoad (level_classes z)) (sym chosen_parts)
-            (levels_stand (embedded split.last) (chosen lower) (own_interface split.last ∷ []) lower_many (own_load split.last split.there) (s.chosen_load lower) standing.1)
+            (levels_stand (embedded_levels split.last) (chosen_interfaces lower) (own_interface split.last ∷ []) lower_many (own_load split.last split.there) (s.chosen_load lower) standing.1)
 
-        more_chosen_many : length (chosen c) ≡ suc (length (uppers ++ rs ∷ []))
-        more_chosen_many = ap length chosen_parts ∙ one_longer (chosen lower) (own_interface split.last) ∙ ap (λ z. suc z) (s.chosen_many lower ∙ sym (one_longer uppers rs))
+        more_chosen_many : length (chosen_interfaces c) ≡ suc (length (uppers ++ rs ∷ []))
+        more_chosen_many = ap length chosen_parts ∙ one_longer (chosen_interfaces lower) (own_interface split.last) ∙ ap (λ z. suc z) (s.chosen_many lower ∙ sym (one_longer uppers rs))
 
-        more_kept : CompatibleLevels (chosen c) more
+        more_kept : CompatibleLevels (chosen_interfaces c) more
         unfolding lower
         more_kept = subst (λ z. CompatibleLevels z more) (sym chosen_parts)
-            (levels_above (embedded split.last) (chosen lower) news (own_interface split.last ∷ []) (own_interface last ∷ []) lower_many (s.chosen_many lower ∙ sym s.many)
+            (levels_above (embedded_levels split.last) (chosen_interfaces lower) news (own_interface split.last ∷ []) (own_interface last ∷ []) lower_many (s.chosen_many lower ∙ sym s.many)
             (own_load split.last split.there) (s.chosen_load lower) more_load standing.1 (own_kept split.last split.there) (s.kept lower))
 
       pub one_more : Stand lowest (uppers ++ rs ∷ []) more
@@ -172,7 +172,7 @@ above_stand lowest below (rs ∷ uppers) news (l ∷ ls) s a n =
     let all = above_stand lowest (below ++ rs ∷ []) uppers (news ++ own_interface l ∷ []) ls more a.1 n.1 in (
       subst (λ z. Stand lowest z (news ++ map own_interface (l ∷ ls))) (append_assoc below (rs ∷ []) uppers)
           (subst (Stand lowest ((below ++ rs ∷ []) ++ uppers)) (append_assoc news (own_interface l ∷ []) (map own_interface ls)) all.0),
-      ((made_stands lowest below news s l (a.0.made l there), a.0.libraries l there), all.1),
+      ((made_stands lowest below news s l (a.0.made_against l there), a.0.libraries l there), all.1),
     )
 
 pub tower_stands : (front : List Release) (last : Release) (uppers : List (List LevelProgram)) (ls : List LevelProgram) → AcceptedTower (front ++ last ∷ []) uppers → AreNewest ls uppers

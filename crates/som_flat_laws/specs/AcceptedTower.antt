@@ -14,12 +14,12 @@ use Rattle.som_level_programs.specs.Towers.{LevelProgram, own_interface}
 use Rattle.som_flat_laws.specs.Flat.{flat_interface, sizes_of}
 
 -- the levels against which a program was compiled
-abbrev pub embedded : LevelProgram → List Interface
-embedded l = levels_below l.sizes l.client l.program.base
+abbrev pub embedded_levels : LevelProgram → List Interface
+embedded_levels l = levels_below l.sizes l.client l.program.base
 
 -- these, and above them the interface of its own classes
 abbrev pub with_own : LevelProgram → List Interface
-with_own l = embedded l ++ own_interface l ∷ []
+with_own l = embedded_levels l ++ own_interface l ∷ []
 
 -- the interfaces of a release and of the libraries above it, the lowest level first
 abbrev pub interfaces_of : Release → List LevelProgram → List Interface
@@ -35,7 +35,7 @@ AreMembers (l ∷ ls) [] = ⊥
 -- the levels on which each of these stands are compatible with those against which it was compiled
 abbrev pub AreStanding : List Interface → List LevelProgram → Type 0
 AreStanding below [] = Unit {0}
-AreStanding below (l ∷ ls) = CompatibleLevels (embedded l) below × AreStanding (below ++ own_interface l ∷ []) ls
+AreStanding below (l ∷ ls) = CompatibleLevels (embedded_levels l) below × AreStanding (below ++ own_interface l ∷ []) ls
 
 -- one release of each list, the lowest first, where each can stand on those below it
 pub record Choice (lowest : List Release) (uppers : List (List LevelProgram)) : Type 0 where
@@ -46,14 +46,14 @@ pub record Choice (lowest : List Release) (uppers : List (List LevelProgram)) : 
   pub stand : AreStanding (interface_of release ∷ []) members
 
 -- the interfaces of the chosen ones
-abbrev pub chosen : {lowest : List Release} {uppers : List (List LevelProgram)} → Choice lowest uppers → List Interface
-chosen c = interfaces_of c.release c.members
+abbrev pub chosen_interfaces : {lowest : List Release} {uppers : List (List LevelProgram)} → Choice lowest uppers → List Interface
+chosen_interfaces c = interfaces_of c.release c.members
 
 -- a program was made against releases of these lists: it conforms, and its base is the flat interface of one of each
 pub record IsMadeAgainst (lowest : List Release) (uppers : List (List LevelProgram)) (l : LevelProgram) : Type 0 where
   pub choice : Choice lowest uppers
-  pub sizes : l.sizes ≡ sizes_of (chosen choice)
-  pub base : l.program.base ≡ flat_interface (chosen choice)
+  pub sizes : l.sizes ≡ sizes_of (chosen_interfaces choice)
+  pub base : l.program.base ≡ flat_interface (chosen_interfaces choice)
   pub conforms : ProgramOk l.program
   -- each of its classes has a parent, which the counts of images ask
   pub parents : HaveParents (interface_classes l.program.base ++ client_classes l.program)
@@ -62,7 +62,7 @@ pub record IsMadeAgainst (lowest : List Release) (uppers : List (List LevelProgr
 pub record IsAcceptedLevel (lowest : List Release) (uppers : List (List LevelProgram)) (list : List LevelProgram) : Type 0 where
   pub libraries : (l : LevelProgram) → Mem l list → l.client ≡ false
   pub no_main : (l : LevelProgram) → Mem l list → l.program.main.statements ≡ []
-  pub made : (l : LevelProgram) → Mem l list → IsMadeAgainst lowest uppers l
+  pub made_against : (l : LevelProgram) → Mem l list → IsMadeAgainst lowest uppers l
   pub next : EachNext (λ old new. CompatibleLevels (with_own old) (with_own new)) list
 
 -- so are the lists of each level above these

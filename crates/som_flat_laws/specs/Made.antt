@@ -12,7 +12,7 @@ pub record IsMadeOver (below : List Interface) (own : Interface) : Type 0 where
   -- its own classes can be loaded with these
   pub faces : FacesLoad (level_classes (olds ++ own ∷ []))
   -- the levels below it are compatible with these
-  pub kept : CompatibleLevels olds below
+  pub compatible : CompatibleLevels olds below
 
 -- each of the upper levels was made over levels that those below it keep
 abbrev pub AreMadeOver : List Interface → List Interface → Type 0

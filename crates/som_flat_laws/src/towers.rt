@@ -1,6 +1,6 @@
 //! Laws of accepted towers: the newest releases of all levels stand together, and keep what any releases promise.
 
-ghost use Rattle.som_flat_laws.specs.AcceptedTower.{AcceptedTower, AreNewest, Choice, IsMadeAgainst, chosen, interfaces_of};
+ghost use Rattle.som_flat_laws.specs.AcceptedTower.{AcceptedTower, AreNewest, Choice, IsMadeAgainst, chosen_interfaces, interfaces_of};
 ghost use Rattle.som_level_laws.specs.Levels.{CompatibleLevels, level_classes};
 ghost use Rattle.som_level_programs.specs.Towers.{AreStacked, LevelProgram, StandsOn, by_level};
 ghost use Rattle.som_model.specs.Class.{Class, interface_of};
@@ -34,7 +34,7 @@ pub fn newest_tower_law()
         AcceptedTower (before ++ last ∷ []) uppers → AreNewest newest uppers → FacesLoad (level_classes (interfaces_of last newest)) }
     ensures chosen { (before : Seq Release) (last : Release) (uppers : Seq (Seq LevelProgram)) (newest : Seq LevelProgram) →
         AcceptedTower (before ++ last ∷ []) uppers → AreNewest newest uppers →
-        (c : Choice (before ++ last ∷ []) uppers) → CompatibleLevels (chosen c) (interfaces_of last newest) }
+        (c : Choice (before ++ last ∷ []) uppers) → CompatibleLevels (chosen_interfaces c) (interfaces_of last newest) }
 {}
 
 /// Whatever was made against releases of an accepted tower stands on the last of each list: these are
