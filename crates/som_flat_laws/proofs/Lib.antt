@@ -1,0 +1,16 @@
+pub mod Lists
+pub mod ByOwners
+pub mod Rules
+pub mod Flattening
+pub mod Breaches
+pub mod MadeLevels
+pub mod Kept
+pub mod FlatKeys
+pub mod Back
+pub mod Placing
+pub mod FlatPrograms
+pub mod MadeOver
+pub mod KeptAbove
+pub mod Lowest
+pub mod Choices
+pub mod NewestTowers

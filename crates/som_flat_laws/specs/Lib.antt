@@ -1,0 +1,3 @@
+pub mod Flat
+pub mod Made
+pub mod AcceptedTower
