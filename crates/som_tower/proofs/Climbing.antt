@@ -1,21 +1,20 @@
 -- A tower that was built so far, and one level more.
-use Rattle.std.proofs.Common.{◌≡◌, ◌≢◌, ◌⊎◌, ℕ, zero, suc, ◌+◌, ◌*◌, ◌<◌, ◌≤◌, inl, inr, Bool, true, false, List, [], ◌∷◌, ◌++◌, Some, append_assoc, drop, get_or, length, map, slice_get, sum, take, refl, sym, ap, ◌∙◌, subst, arith}
+use Rattle.std.proofs.Common.{◌≡◌, ℕ, zero, suc, ◌+◌, ◌*◌, ◌<◌, ◌≤◌, inl, inr, Bool, true, false, List, [], ◌∷◌, ◌++◌, Some, drop, get_or, length, map, slice_get, sum, take, refl, sym, ap, ◌∙◌, subst, arith}
 use Rattle.std.specs.List.{All}
 use Rattle.std.proofs.lemmas.List.{length-append, length-map, map-append, take-append-drop}
-use Rattle.std.proofs.lemmas.List.Elements.{All-from_get_or}
 use Rattle.std.proofs.lemmas.List.Sums.{sum_by-cons}
 use Rattle.som_model.specs.declared.class.ClassDecl.{ClassDecl}
 use Rattle.som_model.specs.declared.class.ClassFace.{ClassFace}
 use Rattle.som_model.specs.declared.program.Interface.{Interface}
 use Rattle.som_model.specs.declared.program.Release.{Release}
 use Rattle.som_model.specs.declared.limits.TheConstants.{MAX_CLIENT_CLASSES, MAX_LAID_CLASSES, MAX_LIBRARY_CLASSES}
-use Rattle.som_model.specs.Class.{Class, interface_of}
+use Rattle.som_model.specs.Class.{interface_of}
 use Rattle.som_model.specs.Classes.{client_classes, interface_classes, library_classes}
-use Rattle.som_model.specs.Counts.{ClassCounted, FaceCounted, block_counted}
+use Rattle.som_model.specs.Counts.{FaceCounted}
 use Rattle.som_model.specs.Lists.{Mem}
 use Rattle.som_model.specs.Loads.{Loads}
-use Rattle.som_model_laws.proofs.Lists.{map_mem, mem_map}
-use Rattle.som_model_laws.proofs.Members.{mem_left, mem_right, mem_split}
+use Rattle.som_model_laws.proofs.Lists.{map_mem}
+use Rattle.som_model_laws.proofs.Members.{mem_left, mem_right}
 use Rattle.som_release_laws.specs.Releasing.{HaveParents, stacked}
 use Rattle.som_level_laws.specs.Levels.{CompatibleLevels}
 use Rattle.som_level_programs.specs.ByLevels.{level_change, levels_below, main_by_level, own_by_level, split}
@@ -32,7 +31,7 @@ use Rattle.som_class_ids.specs.declared.keyed.Keyed.{Keyed}
 use Rattle.som_towerimage.specs.declared.level.Level.{Level}
 use Rattle.som_towerimage.specs.Spelling.{most_below}
 use Rattle.som_tower.specs.Standing.{AreBuilt}
-use Rattle.som_tower.specs.Towers.{AreLibraries, IsSound, IsTowerOf, IsUpper, interfaces_of, library_levels, plain}
+use Rattle.som_tower.specs.Towers.{AreLibraries, IsSound, IsUpper, interfaces_of, plain}
 
 -- ---- lists
 

@@ -1,8 +1,6 @@
-use Rattle.std.proofs.Common.{◌≡◌, ◌<◌, ◌+◌, ◌++◌, ◌∷◌, [], ◌∙◌, List, None, Err, refl, ap, arith, drop, get_or, length, map, subst, sym, take}
+use Rattle.std.proofs.Common.{◌∷◌, [], ◌∙◌, Err, refl, ap, arith, map, subst, sym, take}
 use Rattle.std.proofs.lemmas.Result.{err_from_is_err_and}
 use Rattle.som_model.specs.Class.{interface_of}
-use Rattle.som_towerimage.specs.declared.level.Level.{Level}
-use Rattle.som_tower.specs.Standing.{AreBuilt}
 use Rattle.som_tower.specs.Towers.{TellsTower, plain, tower_break}
 use Rattle.som_tower.specs.declared.building.Built.{Built}
 use Rattle.som_tower.proofs.Climbing.{comparable, is_flat}

@@ -1,4 +1,4 @@
-use Rattle.std.proofs.Common.{◌≡◌, ◌++◌, ◌∙◌, ap, subst, sym}
+use Rattle.std.proofs.Common.{◌≡◌, ◌++◌, ◌∙◌, subst, sym}
 use Rattle.som_class_ids.specs.Classes.{classes_of}
 use Rattle.som_level_laws.specs.Levels.{CompatibleLevels}
 use Rattle.som_level_programs.specs.ByLevels.{levels_below, main_by_level, own_by_level}

@@ -1,7 +1,7 @@
-use Rattle.std.proofs.Common.{◌≡◌, ◌++◌, ◌∷◌, [], ◌∙◌, Err, ap, map, subst, sym}
+use Rattle.std.proofs.Common.{◌++◌, ◌∷◌, [], ◌∙◌, Err, ap, map, subst, sym}
 use Rattle.std.proofs.lemmas.Result.{err_from_is_err_and}
 use Rattle.som_model.specs.Class.{interface_of}
-use Rattle.som_tower.specs.Towers.{TellsTower, plain, programs_above, tower_break}
+use Rattle.som_tower.specs.Towers.{TellsTower, plain, tower_break}
 use Rattle.som_tower.specs.declared.building.Built.{Built}
 use Rattle.som_tower.proofs.Breaking.{break_append, break_last, told_result}
 use Rattle.som_level_programs.specs.Towers.{own_interface}
